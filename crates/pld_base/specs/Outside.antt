@@ -1,0 +1,18 @@
+-- Files by their names, and what a call leaves of them.
+use Rattle.std.specs.Prelude.{◌≡◌, ◌≢◌, ℕ, List, [], Option, unwrap_or}
+
+-- names to bytes; an absent name has None
+abbrev pub Map : Type 0
+Map = List ℕ → Option (List ℕ)
+
+-- the bytes under a name, none where it is absent
+abbrev pub bytes_at : Map → List ℕ → List ℕ
+bytes_at files name = unwrap_or (files name) []
+
+-- every name has what it had
+abbrev pub SameFiles : Map → Map → Type 0
+SameFiles old new = (name : List ℕ) → new name ≡ old name
+
+-- every name but one has what it had
+abbrev pub SameBut : List ℕ → Map → Map → Type 0
+SameBut but old new = (name : List ℕ) → name ≢ but → new name ≡ old name

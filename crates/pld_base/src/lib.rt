@@ -1,0 +1,28 @@
+//! What every crate of the project speaks of: files and sinks, device names, texts, places and points.
+#![tactic(auto)]
+
+mod device_name;
+mod files;
+mod host;
+mod levels;
+mod memory_files;
+mod memory_sink;
+mod name_text;
+mod out_of_memory;
+mod place;
+mod point;
+mod sink;
+mod sure_files;
+
+pub use device_name::DeviceName;
+pub use files::{Files, ReadFault, WriteFault};
+pub use host::{HostFiles, HostSink};
+pub use levels::{level_at, with_level, with_value};
+pub use memory_files::MemoryFiles;
+pub use memory_sink::MemorySink;
+pub use name_text::NameText;
+pub use out_of_memory::OutOfMemory;
+pub use place::Place;
+pub use point::{Point, Trace, Vector};
+pub use sink::{Sink, SinkFault};
+pub use sure_files::SureFiles;
