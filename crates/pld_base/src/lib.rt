@@ -14,6 +14,8 @@ mod place;
 mod point;
 mod sink;
 mod sure_files;
+#[cfg(test)]
+mod tests;
 
 pub use device_name::DeviceName;
 pub use files::{Files, ReadFault, WriteFault};
