@@ -50,8 +50,10 @@ pub trait Files {
     fn read(&mut self, alloc: Global, name: &str, limit: usize) -> Result<Vec<u8>, ReadFault>
         ensures bytes { Tells → IfOk result (λ v. v.items ≡ bytes_at (file self.old) name.now) }
         ensures within { IfOk result (λ v. length v.items ≤ limit) }
-        ensures too_long { Tells → IsErrOf result ReadFault.TooLong → limit < length (bytes_at (file self.old) name.now) }
-        ensures failed { IsErrOf result ReadFault.Failed → Rose (faults self.old) (faults self.new) }
+        ensures too_long { Tells → IsErrOf result ReadFault.TooLong
+            → limit < length (bytes_at (file self.old) name.now) }
+        ensures failed { IsErrOf result ReadFault.Failed
+            → Rose (faults self.old) (faults self.new) }
         ensures same { Tells → SameFiles (file self.old) (file self.new) }
         ensures later { faults self.old ≤ faults self.new }
         ensures no_write { write_faults self.new ≡ write_faults self.old };
@@ -59,9 +61,12 @@ pub trait Files {
     /// Puts the bytes under a name, in place of older ones. After `Failed` that name may hold anything.
     fn write(&mut self, name: &str, bytes: &[u8]) -> Result<(), WriteFault>
         ensures written { Tells → OnOk result (file self.new name.now ≡ Some bytes.now) }
-        ensures failed { IsErrOf result WriteFault.Failed → Rose (faults self.old) (faults self.new) }
-        ensures failed_write { IsErrOf result WriteFault.Failed → Rose (write_faults self.old) (write_faults self.new) }
-        ensures memory { Tells → IsErrOf result WriteFault.OutOfMemory → SameFiles (file self.old) (file self.new) }
+        ensures failed { IsErrOf result WriteFault.Failed
+            → Rose (faults self.old) (faults self.new) }
+        ensures failed_write { IsErrOf result WriteFault.Failed
+            → Rose (write_faults self.old) (write_faults self.new) }
+        ensures memory { Tells → IsErrOf result WriteFault.OutOfMemory
+            → SameFiles (file self.old) (file self.new) }
         ensures others { Tells → SameBut name.now (file self.old) (file self.new) }
         ensures later { faults self.old ≤ faults self.new }
         ensures later_write { write_faults self.old ≤ write_faults self.new };

@@ -28,7 +28,8 @@ impl MemoryFiles {
     pub fn new(alloc: Global) -> MemoryFiles
         ensures files { (name : List ℕ) → held result name ≡ None }
         ensures failing { failing_calls result ≡ [] }
-        ensures counts { (calls_made result ≡ 0) × (faults_of result ≡ 0) × (write_faults_of result ≡ 0) }
+        ensures counts { (calls_made result ≡ 0) × (faults_of result ≡ 0)
+            × (write_faults_of result ≡ 0) }
     {
         MemoryFiles {
             alloc,
@@ -78,7 +79,8 @@ impl MemoryFiles {
     /// Counts a call, and says whether it is on the list of those that fail.
     fn fails_now(&mut self) -> bool
         ensures fails { IsTrue result ↔ FailsNext self.old.failing.items self.old.calls }
-        ensures counted { self.new ≡ record self.old { calls = min (self.old.calls + 1) (2 ^ 64 - 1) } }
+        ensures counted { self.new
+            ≡ record self.old { calls = min (self.old.calls + 1) (2 ^ 64 - 1) } }
     {
         self.calls = self.calls.saturating_add(1);
         match u32::try_from(self.calls) {
@@ -91,8 +93,10 @@ impl MemoryFiles {
     fn read_now(&mut self, alloc: Global, name: &str, limit: usize) -> Result<Vec<u8>, ReadFault>
         ensures bytes { IfOk result (λ v. bytes_in self.old.files name.now ≡ Some v.items) }
         ensures within { IfOk result (λ v. length v.items ≤ limit) }
-        ensures too_long { IsErrOf result ReadFault.TooLong ↔ (limit < length (bytes_at (held self.old) name.now)) }
-        ensures absent { IsErrOf result ReadFault.Failed ↔ (bytes_in self.old.files name.now ≡ None) }
+        ensures too_long { IsErrOf result ReadFault.TooLong
+            ↔ (limit < length (bytes_at (held self.old) name.now)) }
+        ensures absent { IsErrOf result ReadFault.Failed ↔ (bytes_in self.old.files name.now
+            ≡ None) }
         ensures failed { IsErrOf result ReadFault.Failed → Rose self.old.faults self.new.faults }
         ensures later { self.old.faults ≤ self.new.faults }
         ensures rest { self.new ≡ record self.old { faults = self.new.faults } }
@@ -129,10 +133,14 @@ impl Files for MemoryFiles {
     fn read(&mut self, alloc: Global, name: &str, limit: usize) -> Result<Vec<u8>, ReadFault>
         ensures bytes { IfOk result (λ v. held self.old name.now ≡ Some v.items) }
         ensures within { IfOk result (λ v. length v.items ≤ limit) }
-        ensures failed_exactly { IsErrOf result ReadFault.Failed ↔ (FailsNow self.old ⊎ (held self.old name.now ≡ None)) }
-        ensures too_long_only { IsErrOf result ReadFault.TooLong → limit < length (bytes_at (held self.old) name.now) }
-        ensures too_long_where { limit < length (bytes_at (held self.old) name.now) → IsErrOf result ReadFault.TooLong ⊎ FailsNow self.old }
-        ensures failed { IsErrOf result ReadFault.Failed → Rose (faults_of self.old) (faults_of self.new) }
+        ensures failed_exactly { IsErrOf result ReadFault.Failed
+            ↔ (FailsNow self.old ⊎ (held self.old name.now ≡ None)) }
+        ensures too_long_only { IsErrOf result ReadFault.TooLong
+            → limit < length (bytes_at (held self.old) name.now) }
+        ensures too_long_where { limit < length (bytes_at (held self.old) name.now)
+            → IsErrOf result ReadFault.TooLong ⊎ FailsNow self.old }
+        ensures failed { IsErrOf result ReadFault.Failed
+            → Rose (faults_of self.old) (faults_of self.new) }
         ensures same { SameFiles (held self.old) (held self.new) }
         ensures failing { failing_calls self.new ≡ failing_calls self.old }
         ensures calls { calls_made self.new ≡ min (calls_made self.old + 1) (2 ^ 64 - 1) }
@@ -150,8 +158,10 @@ impl Files for MemoryFiles {
     fn write(&mut self, name: &str, bytes: &[u8]) -> Result<(), WriteFault>
         ensures written { OnOk result (held self.new name.now ≡ Some bytes.now) }
         ensures failed_exactly { IsErrOf result WriteFault.Failed ↔ FailsNow self.old }
-        ensures failed { IsErrOf result WriteFault.Failed → Rose (faults_of self.old) (faults_of self.new) }
-        ensures failed_write { IsErrOf result WriteFault.Failed → Rose (write_faults_of self.old) (write_faults_of self.new) }
+        ensures failed { IsErrOf result WriteFault.Failed
+            → Rose (faults_of self.old) (faults_of self.new) }
+        ensures failed_write { IsErrOf result WriteFault.Failed
+            → Rose (write_faults_of self.old) (write_faults_of self.new) }
         ensures memory { OnErr result (SameFiles (held self.old) (held self.new)) }
         ensures others { SameBut name.now (held self.old) (held self.new) }
         ensures failing { failing_calls self.new ≡ failing_calls self.old }

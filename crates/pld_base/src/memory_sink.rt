@@ -38,7 +38,8 @@ impl MemorySink {
         ensures ok { OnOk result (refused_calls self.new ≡ refused_calls self.old ++ call ∷ []) }
         ensures err { OnErr result (refused_calls self.new ≡ refused_calls self.old) }
         ensures taken { taken_by self.new ≡ taken_by self.old }
-        ensures counts { (puts_made self.new ≡ puts_made self.old) × (sink_faults self.new ≡ sink_faults self.old) }
+        ensures counts { (puts_made self.new ≡ puts_made self.old)
+            × (sink_faults self.new ≡ sink_faults self.old) }
     {
         self.failing.push(call)?;
         Ok(())
@@ -54,7 +55,8 @@ impl MemorySink {
     /// Counts a call, and says whether it is on the list of those that fail.
     fn fails_now(&mut self) -> bool
         ensures fails { IsTrue result ↔ FailsNext self.old.failing.items self.old.calls }
-        ensures counted { self.new ≡ record self.old { calls = min (self.old.calls + 1) (2 ^ 64 - 1) } }
+        ensures counted { self.new
+            ≡ record self.old { calls = min (self.old.calls + 1) (2 ^ 64 - 1) } }
     {
         self.calls = self.calls.saturating_add(1);
         match u32::try_from(self.calls) {
@@ -75,8 +77,10 @@ impl Sink for MemorySink {
     fn put(&mut self, bytes: &[u8]) -> Result<(), SinkFault>
         ensures whole { OnOk result (taken_by self.new ≡ taken_by self.old ++ bytes.now) }
         ensures failed_exactly { IsErrOf result SinkFault.Failed ↔ RefusesNow self.old }
-        ensures failed { IsErrOf result SinkFault.Failed → Rose (sink_faults self.old) (sink_faults self.new) }
-        ensures part { (front : List ℕ) × Begins bytes.now front × (taken_by self.new ≡ taken_by self.old ++ front) }
+        ensures failed { IsErrOf result SinkFault.Failed
+            → Rose (sink_faults self.old) (sink_faults self.new) }
+        ensures part { (front : List ℕ) × Begins bytes.now front
+            × (taken_by self.new ≡ taken_by self.old ++ front) }
         ensures none { OnErr result (taken_by self.new ≡ taken_by self.old) }
         ensures failing { refused_calls self.new ≡ refused_calls self.old }
         ensures calls { puts_made self.new ≡ min (puts_made self.old + 1) (2 ^ 64 - 1) }

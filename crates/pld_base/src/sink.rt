@@ -30,7 +30,9 @@ pub trait Sink {
     /// Appends a piece, or after a failure a front of it.
     fn put(&mut self, bytes: &[u8]) -> Result<(), SinkFault>
         ensures whole { Tells → OnOk result (taken self.new ≡ taken self.old ++ bytes.now) }
-        ensures failed { IsErrOf result SinkFault.Failed → Rose (faults self.old) (faults self.new) }
-        ensures part { Tells → (front : List ℕ) × Begins bytes.now front × (taken self.new ≡ taken self.old ++ front) }
+        ensures failed { IsErrOf result SinkFault.Failed
+            → Rose (faults self.old) (faults self.new) }
+        ensures part { Tells → (front : List ℕ) × Begins bytes.now front
+            × (taken self.new ≡ taken self.old ++ front) }
         ensures later { faults self.old ≤ faults self.new };
 }

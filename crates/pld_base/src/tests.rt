@@ -61,14 +61,12 @@ fn a_memory_sink_appends(rt: HostRuntime) -> Result<(), Fail> {
 fn the_real_files_and_standard_output_answer(rt: HostRuntime) -> Result<(), Fail> {
     let alloc = rt.alloc();
     let mut files = HostFiles::new(alloc, &rt);
-    assert!(rt; files.write("/tmp/abel_host_trial", b"four") == Ok(()));
-    let back = files
-        .read(alloc, "/tmp/abel_host_trial", 4)
-        .map_err(|_| "read")?;
+    assert!(rt; files.write("abel_host_trial", b"four") == Ok(()));
+    let back = files.read(alloc, "abel_host_trial", 4).map_err(|_| "read")?;
     assert_eq!(rt; back.as_slice(), b"four".as_slice());
-    assert!(rt; files.read(alloc, "/tmp/abel_host_trial", 3) == Err(ReadFault::TooLong));
-    assert!(rt; files.read(alloc, "/tmp/no/such/file", 4) == Err(ReadFault::Failed));
-    assert!(rt; files.write("/tmp/no/such/file", b"four") == Err(WriteFault::Failed));
+    assert!(rt; files.read(alloc, "abel_host_trial", 3) == Err(ReadFault::TooLong));
+    assert!(rt; files.read(alloc, "no/such/file", 4) == Err(ReadFault::Failed));
+    assert!(rt; files.write("no/such/file", b"four") == Err(WriteFault::Failed));
     let mut out = HostSink::new(alloc, rt.stdout());
     assert!(rt; out.put(b"taken\n") == Ok(()));
     Ok(())
