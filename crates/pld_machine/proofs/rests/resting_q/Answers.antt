@@ -1,0 +1,18 @@
+use Rattle.std.proofs.Common.{◌<◌, arith}
+use Rattle.pld_base.specs.Bits.{bits}
+use Rattle.pld_base.specs.Points.{levels_of}
+use Rattle.pld_machine.specs.Rest.{q_at_rest}
+use Rattle.pld_machine.specs.Lookups.{logic_of}
+use Rattle.pld_base.proofs.BitLemmas.{length-bits}
+use Rattle.pld_machine.proofs.Fills.{filled_none, filled_more}
+use Rattle.pld_machine.proofs.rests.resting_q.Goals as goal
+
+pub loop-cell-init : goal.loop-cell-init
+loop-cell-init g c = filled_none (q_at_rest (logic_of (g.L.Logic.meaning c.args.logic.now)) (bits 32 c.args.stored) (levels_of c.args.at.now))
+
+pub loop-cell-preserved : goal.loop-cell-preserved
+loop-cell-preserved g c =
+    let low : c.loop-cell.cell < 32 = omega (arith, c.requires.cells) in
+    rw c.with_level-q.ensures
+    (filled_more (bits 32 c.loop-cell.q) (q_at_rest (logic_of (g.L.Logic.meaning c.args.logic.now)) (bits 32 c.args.stored) (levels_of c.args.at.now)) c.loop-cell.cell c.resting_q_of-on.result
+    (length-bits 32 c.loop-cell.q) low c.resting_q_of-on.ensures c.loop-cell.invariant)

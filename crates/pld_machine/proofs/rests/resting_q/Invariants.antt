@@ -1,0 +1,9 @@
+use Rattle.pld_base.specs.Bits.{bits}
+use Rattle.pld_base.specs.Points.{levels_of}
+use Rattle.pld_machine.specs.Rest.{q_at_rest}
+use Rattle.pld_machine.specs.Lookups.{logic_of}
+use Rattle.pld_machine.proofs.Fills.{FilledBelow}
+use Rattle.pld_machine.proofs.rests.resting_q.Given as goal
+
+abbrev pub invariant-loop-cell : goal.invariant-loop-cell
+invariant-loop-cell g l = FilledBelow (bits 32 l.q) (q_at_rest (logic_of (g.L.Logic.meaning l.logic)) (bits 32 l.stored) (levels_of l.at)) l.cell

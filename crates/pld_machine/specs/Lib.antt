@@ -1,0 +1,10 @@
+pub mod Flat
+pub mod Lookups
+pub mod Once
+pub mod Order
+pub mod Refines
+pub mod Rest
+pub mod Settling
+pub mod Shifter
+pub mod Shows
+pub mod Steps

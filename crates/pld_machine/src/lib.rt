@@ -1,0 +1,17 @@
+//! The machine: points at rest, steps and traces of any logic.
+#![tactic(auto)]
+
+mod laws;
+mod logic;
+mod rests;
+mod settling;
+mod steps;
+#[cfg(test)]
+mod tests;
+mod traces;
+
+pub use laws::{flat_run, one_run, refined_run};
+pub use logic::{Logic, Slot};
+pub use rests::rest;
+pub use steps::step;
+pub use traces::trace;
