@@ -1,0 +1,7 @@
+pub mod CellOrder
+pub mod OneLayer
+pub mod Pal16L8Layout
+mod PinLists
+mod SmallFiles
+mod SmallRests
+mod SmallRows

@@ -1,0 +1,4 @@
+pub mod DeviceLookups
+pub mod DrivesOne
+pub mod Pal16L8Table
+pub mod SmallDesigns

@@ -1,0 +1,10 @@
+//! The PAL16 devices.
+#![tactic(auto)]
+
+mod laws;
+mod pal16l8;
+#[cfg(test)]
+mod tests;
+
+pub use laws::{layout, numbers, one_layer, small_files, small_rests};
+pub use pal16l8::Pal16L8;

@@ -1,0 +1,4 @@
+pub mod GivenTests
+pub mod PlainFile
+pub mod RowReads
+pub mod RowValues

@@ -1,0 +1,32 @@
+-- Where a row is true, column by column, and where its fuses stand.
+use Rattle.std.proofs.Common.{◌≡◌, ◌↔◌, ℕ, zero, suc, ◌+◌, ◌*◌, ◌-◌, ◌<◌, Bool, true, false, ◌||◌, List, [], ◌∷◌, drop, refl, ◌∙◌, arith}
+use Rattle.std.proofs.lemmas.Bool.{and_parts, true≢false}
+use Rattle.std.proofs.lemmas.List.{get_or-drop, get_or-take}
+use Rattle.pld_base.specs.Bits.{is_on}
+use Rattle.pld_device.specs.Table.{Table}
+use Rattle.pld_device.specs.Rows.{row_fuses, row_is_true}
+use Rattle.pld_device.specs.RowLaws.{CarriesAll}
+
+carries : (fuses columns : List Bool) → row_is_true fuses columns ≡ true → CarriesAll fuses columns
+carries [] columns holds k fuse column off = absurd (omega arith)
+carries (f ∷ fuses) [] holds k fuse column off = absurd (omega arith)
+carries (true ∷ fuses) (c ∷ columns) holds zero fuse column off = absurd (true≢false off)
+carries (false ∷ fuses) (c ∷ columns) holds zero fuse column off = (and_parts c (row_is_true fuses columns) holds).0
+carries (f ∷ fuses) (c ∷ columns) holds (suc k) fuse column off =
+    carries fuses columns ((and_parts (f || c) (row_is_true fuses columns) holds).1) k (omega arith) (omega arith) off
+
+holds_from : (fuses columns : List Bool) → CarriesAll fuses columns → row_is_true fuses columns ≡ true
+holds_from [] columns all = refl
+holds_from (f ∷ fuses) [] all = refl
+holds_from (true ∷ fuses) (c ∷ columns) all = holds_from fuses columns (λ k fuse column off. all (suc k) (omega arith) (omega arith) off)
+holds_from (false ∷ fuses) (c ∷ columns) all =
+    rw (all 0 (omega arith) (omega arith) refl, holds_from fuses columns (λ k fuse column off. all (suc k) (omega arith) (omega arith) off)) refl
+
+pub row_is_true-columns : (fuses columns : List Bool) → (row_is_true fuses columns ≡ true) ↔ CarriesAll fuses columns
+row_is_true-columns fuses columns = (carries fuses columns, holds_from fuses columns)
+
+-- a column's fuse in its row and among all fuses
+pub is_on-row_fuses : (t : Table) (fuses : List Bool) (row column : ℕ) → column < t.columns → is_on (row_fuses t fuses row) column ≡ is_on fuses (t.columns * row + column)
+is_on-row_fuses t fuses row column within =
+    get_or-take (t.columns * row + t.columns - t.columns * row) (drop (t.columns * row) fuses) column false (omega (arith, within))
+    ∙ get_or-drop (t.columns * row) fuses column false

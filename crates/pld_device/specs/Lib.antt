@@ -1,0 +1,12 @@
+pub mod CanonicalFile
+pub mod ControlFuses
+pub mod FileText
+pub mod FuseSums
+pub mod Given
+pub mod Macrocells
+pub mod Pins
+pub mod Reads
+pub mod Registers
+pub mod RowLaws
+pub mod Rows
+pub mod Table

@@ -1,0 +1,60 @@
+-- A device's table: everything that tells one device from another (this project's rule, over the
+-- logic diagrams and control fuses of the devices' datasheets).
+use Rattle.std.specs.Prelude.{ℕ, ◌+◌, ◌<◌, ◌≤◌, Option, List, None, get_or}
+use Rattle.pld_base.specs.declared.device_name.DeviceName.{DeviceName}
+use Rattle.pld_device.specs.declared.carry.Carry.{Carry}
+use Rattle.pld_device.specs.declared.cell.Cell.{Cell}
+use Rattle.pld_device.specs.declared.enable.Enable.TheVariants.{Row}
+use Rattle.pld_device.specs.declared.flip.Flip.{Flip}
+use Rattle.pld_device.specs.declared.fuse_bit.FuseBit.{FuseBit}
+use Rattle.pld_device.specs.declared.kinds.Kinds.TheVariants.{Combinational}
+
+-- pins count from 1; fuses, columns, rows, pairs and cells from 0
+pub record Table : Type 0 where
+  -- the name in fuse files and reports
+  pub name : DeviceName
+  -- how many pins there are, and which one is ground
+  pub pins : ℕ
+  pub ground_pin : ℕ
+  -- how many fuses there are, and the smaller number that a fuse file may name
+  pub fuses : ℕ
+  pub short : ℕ
+  -- the array: row r has its fuses from columns * r on
+  pub columns : ℕ
+  pub rows : ℕ
+  -- the clock's pin, 0 where there is none
+  pub clock : ℕ
+  -- the row that resets every register, and the one that presets it
+  pub reset : Option ℕ
+  pub preset : Option ℕ
+  -- where the device complements
+  pub flip : Flip
+  -- the cells, and what each pair of columns carries
+  pub cells : List Cell
+  pub pairs : List Carry
+  -- by cell, the fuse that says inverted and the one that says registered; none past the list's end
+  pub inverted : List (Option FuseBit)
+  pub registered : List (Option FuseBit)
+  -- by row, the fuse that switches the row on; none past the list's end
+  pub row_switches : List ℕ
+  -- the fuses whose level is the same in every design
+  pub fixed : List FuseBit
+
+-- what stands for a cell past the last one
+abbrev pub no_cell : Cell
+no_cell = record { pin = 0; enable = Row 0; first = 0; room = 0; kinds = Combinational }
+
+-- the cell of a number
+abbrev pub cell_at : Table → ℕ → Cell
+cell_at t c = get_or t.cells c no_cell
+
+-- the fuse and level that say that a cell is inverted, and that it is registered
+abbrev pub inverted_at : Table → ℕ → Option FuseBit
+inverted_at t c = get_or t.inverted c None
+
+abbrev pub registered_at : Table → ℕ → Option FuseBit
+registered_at t c = get_or t.registered c None
+
+-- the row is one of the cell's data rows
+abbrev pub IsDataRow : Table → (c row : ℕ) → Type 0
+IsDataRow t c row = ((cell_at t c).first ≤ row) × (row < (cell_at t c).first + (cell_at t c).room)

@@ -1,0 +1,14 @@
+//! A macrocell of a device.
+
+use crate::enable::Enable;
+use crate::kinds::Kinds;
+
+/// A cell: its pin, what enables it, its first data row and how many there are, and its kinds.
+#[derive(Clone, Copy, Debug, PartialEq, Eq)]
+pub struct Cell {
+    pub pin: u8,
+    pub enable: Enable,
+    pub first: u16,
+    pub room: u8,
+    pub kinds: Kinds,
+}

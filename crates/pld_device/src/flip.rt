@@ -1,0 +1,10 @@
+//! Where a device complements between its rows and its pins.
+
+/// Always at the pin, or where a control fuse says so: after the register, at the pin, or before
+/// it, at its data.
+#[derive(Clone, Copy, Debug, PartialEq, Eq)]
+pub enum Flip {
+    Always,
+    AfterRegister,
+    BeforeRegister,
+}

@@ -1,0 +1,9 @@
+//! What a cell may be.
+
+/// Combinational, registered, or either by a control fuse.
+#[derive(Clone, Copy, Debug, PartialEq, Eq)]
+pub enum Kinds {
+    Combinational,
+    Registered,
+    Either,
+}

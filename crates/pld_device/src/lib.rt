@@ -1,0 +1,22 @@
+//! A device by its table: what its column pairs carry, its cells, its rows and its fuses.
+#![tactic(auto)]
+
+mod carry;
+mod cell;
+mod enable;
+mod flip;
+mod fuse_bit;
+mod fuses;
+mod kinds;
+mod laws;
+#[cfg(test)]
+mod tests;
+
+pub use carry::Carry;
+pub use cell::Cell;
+pub use enable::Enable;
+pub use flip::Flip;
+pub use fuse_bit::FuseBit;
+pub use fuses::Fuses;
+pub use kinds::Kinds;
+pub use laws::rows;
