@@ -1,0 +1,5 @@
+pub mod Bytes
+pub mod Keywords
+pub mod Kinds
+pub mod Scans
+pub mod Lengths

@@ -1,6 +1,6 @@
 //! What a source of the first profile says.
 
-use pld_base::{ListOf, NameText};
+use pld_base::{ListOf, NameText, OutOfMemory};
 use std::alloc::{AllocError, AllocFailed};
 use thiserror::Error;
 
@@ -73,6 +73,17 @@ impl<T: Drop> From<AllocFailed<T>> for FirstFault {
     ghost from_gives = { λ _ e. e ≡ OutOfMemory };
 
     fn from(_error: AllocFailed<T>) -> FirstFault {
+        FirstFault::OutOfMemory
+    }
+}
+
+impl From<OutOfMemory> for FirstFault {
+    ghost use Rattle.std.specs.Prelude.{◌≡◌};
+    ghost use Rattle.abel_parser.specs.declared.first_module.FirstFault.TheVariants as fault;
+
+    ghost from_gives = { λ _ e. e ≡ fault.OutOfMemory };
+
+    fn from(_error: OutOfMemory) -> FirstFault {
         FirstFault::OutOfMemory
     }
 }

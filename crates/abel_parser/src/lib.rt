@@ -1,8 +1,23 @@
 //! The parser of ABEL-HDL sources.
 #![tactic(auto)]
 
+mod declaration_syntax;
+mod equation_syntax;
+mod equations;
 mod first_module;
+mod first_source;
+mod halt;
+mod names;
+mod pins;
+mod syntax;
+mod terminal;
+mod tree;
+mod words;
 
 pub use first_module::{
     FirstEquation, FirstFault, FirstLiteral, FirstModule, FirstPin, FirstProduct,
 };
+pub use first_source::first;
+
+#[cfg(test)]
+mod tests;

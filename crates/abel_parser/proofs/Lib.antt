@@ -1,0 +1,5 @@
+pub mod SourceLaws
+pub mod SourceVerdict
+pub mod FirstLists
+pub mod PinLists
+pub mod Targets

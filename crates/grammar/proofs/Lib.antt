@@ -1,0 +1,16 @@
+pub mod Laws
+pub mod TokenLaws
+pub mod EitherLaws
+pub mod OptionalLaws
+pub mod MadeLaws
+pub mod DepthLaws
+pub mod FollowedLaws
+pub mod RepeatedLaws
+pub mod ClassLaws
+pub mod LookLaws
+pub mod VerdictLaws
+pub mod FlatLaws
+pub mod RepeatedTurns
+pub mod ListTurns
+pub mod SeparatedTurns
+pub mod ChainTurns
