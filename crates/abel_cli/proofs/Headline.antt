@@ -1,0 +1,43 @@
+-- From the relation of a run to the main theorem: what stands under OUT does what the source says.
+use Rattle.std.proofs.Common.{◌≡◌, ℕ, ◌⊎◌, List, ◌++◌, Some, inl, inr}
+use Rattle.pld_base.specs.Outside.{Map, bytes_at, SameFiles}
+use Rattle.abel_cli.specs.Correct.{IsRightFile, IsRight, IsRightOrOld}
+use Rattle.abel_cli.specs.Run.{Runs}
+use Rattle.abel_cli.specs.Statuses.{OutputHolds, IsDone}
+use Rattle.abel_cli.specs.Translation.{Compiles}
+use Rattle.abel_cli.specs.Words.{IsCompile}
+use Rattle.abel_cli.proofs.Realised.{does_the_same}
+use Rattle.abel_cli.proofs.RunStatuses.{done_only, output}
+use Rattle.abel_cli.proofs.SoundModules.{sound_of_meaning}
+
+pub right_file : (text file summary : List ℕ) → Compiles text file summary → IsRightFile text file summary
+right_file text file summary c =
+    let sound = sound_of_meaning c.spells.spelled.tree c.source c.spells.spelled.means in
+    record {
+      source = c.source;
+      spelled = c.spells.spelled;
+      fuses = c.compiled.fuses;
+      canonical = c.compiled.file_is;
+      realises = does_the_same c.source c.compiled.fuses sound c.compiled.fitted;
+      told = c.compiled.summary_is;
+    }
+
+right_where_done : (words : List (List ℕ)) (old new : Map) (told : Type 0) (reported reports : List ℕ)
+    → IsDone words old new told reported reports → IsRight words old new told reported reports
+right_where_done words old new told reported reports (i, o, w, file, summary, c, holds, text) =
+    (i, o, w, file, summary, right_file (bytes_at old i) file summary c, holds, text)
+
+right_where_held : (words : List (List ℕ)) (old new : Map) (write_rose : Type 0)
+    → OutputHolds words old new write_rose → IsRightOrOld words old new write_rose
+right_where_held words old new write_rose (inl same) = inl same
+right_where_held words old new write_rose (inr (inl rose)) = inr (inl rose)
+right_where_held words old new write_rose (inr (inr (i, o, w, file, summary, c, holds))) =
+    inr (inr (i, o, w, file, summary, right_file (bytes_at old i) file summary c, holds))
+
+module _ (told : Type 0) (words : List (List ℕ)) (old new : Map) (rose write_rose : Type 0) (heard report_rose : Type 0) (reported reports : List ℕ) (status : ℕ)
+    (run : Runs told words old new rose write_rose heard report_rose reported reports status) (tells : told) where
+  pub right : status ≡ 0 → IsRight words old new heard reported reports
+  right is = right_where_done words old new heard reported reports (done_only told words old new rose write_rose heard report_rose reported reports status run tells is)
+
+  pub right_or_old : IsRightOrOld words old new write_rose
+  right_or_old = right_where_held words old new write_rose (output told words old new rose write_rose heard report_rose reported reports status run tells)
