@@ -12,12 +12,14 @@ pub mod PairPlaces
 pub mod ProductPoints
 pub mod Realised
 pub mod Report
+pub mod RightExamples
 pub mod RowLines
 pub mod RowLists
 pub mod RowValues
 pub mod RunStatuses
+pub mod SmallFits
+pub mod SmallModules
 pub mod SoundModules
 pub mod SourceRuns
 pub mod UsedRows
-pub mod SmallFits
-pub mod SmallModules
+pub mod WrongExamples

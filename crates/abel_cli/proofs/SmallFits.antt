@@ -33,7 +33,7 @@ y1_list : written_list pal16l8 y1_equation ≡ record { yes = 3; no = 0 } ∷ re
 y1_list = refl
 
 -- the rows of the first design's products are those of its fuses
-y1_rows : map (row_of pal16l8) (written_list pal16l8 y1_equation) ≡ rows_at pal16l8 y1_fuses 1 2
+pub y1_rows : map (row_of pal16l8) (written_list pal16l8 y1_equation) ≡ rows_at pal16l8 y1_fuses 1 2
 unfolding row_of rows_at
 y1_rows = refl
 

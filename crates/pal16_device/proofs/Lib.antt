@@ -4,4 +4,4 @@ pub mod Pal16L8Layout
 mod PinLists
 mod SmallFiles
 mod SmallRests
-mod SmallRows
+pub mod SmallRows
