@@ -1,11 +1,10 @@
 -- From the relation of a run to the main theorem: what stands under OUT does what the source says.
-use Rattle.std.proofs.Common.{◌≡◌, ℕ, ◌⊎◌, List, ◌++◌, Some, inl, inr}
-use Rattle.pld_base.specs.Outside.{Map, bytes_at, SameFiles}
+use Rattle.std.proofs.Common.{◌≡◌, ℕ, List, inl, inr}
+use Rattle.pld_base.specs.Outside.{Map, bytes_at}
 use Rattle.abel_cli.specs.Correct.{IsRightFile, IsRight, IsRightOrOld}
 use Rattle.abel_cli.specs.Run.{Runs}
 use Rattle.abel_cli.specs.Statuses.{OutputHolds, IsDone}
 use Rattle.abel_cli.specs.Translation.{Compiles}
-use Rattle.abel_cli.specs.Words.{IsCompile}
 use Rattle.abel_cli.proofs.Realised.{does_the_same}
 use Rattle.abel_cli.proofs.RunStatuses.{done_only, output}
 use Rattle.abel_cli.proofs.SoundModules.{sound_of_meaning}
@@ -17,6 +16,7 @@ right_file text file summary c =
       source = c.source;
       spelled = c.spells.spelled;
       fuses = c.compiled.fuses;
+      size = c.compiled.fitted.size;
       canonical = c.compiled.file_is;
       realises = does_the_same c.source c.compiled.fuses sound c.compiled.fitted;
       told = c.compiled.summary_is;

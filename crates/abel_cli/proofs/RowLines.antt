@@ -1,9 +1,7 @@
 -- The lines of the rows, one more at a time.
-use Rattle.std.proofs.Common.{◌≡◌, ℕ, ◌+◌, ◌*◌, Bool, List, ◌++◌, refl, sym, ap, ◌∙◌, add-one, append_assoc}
+use Rattle.std.proofs.Common.{◌≡◌, ℕ, ◌+◌, Bool, List, ◌++◌, refl, sym, ap, ◌∙◌, add-one, append_assoc}
 use Rattle.std.proofs.lemmas.List.{append-nil}
-use Rattle.pld_device.specs.CanonicalFile.{levels_line, row_line, row_lines}
-use Rattle.pld_device.specs.Rows.{row_fuses}
-use Rattle.pal16_device.specs.Pal16L8Table.{pal16l8}
+use Rattle.pld_device.specs.CanonicalFile.{row_line, row_lines}
 
 pub no_rows : (columns : ℕ) (levels : List Bool) (out : List ℕ) → out ≡ out ++ row_lines columns levels 0
 unfolding row_lines

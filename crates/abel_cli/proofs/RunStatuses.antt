@@ -1,11 +1,11 @@
 -- From the relation of a run to what each status means and leaves.
-use Rattle.std.proofs.Common.{◌≡◌, ◌≢◌, ℕ, ◌≤◌, ◌⊎◌, List, ◌++◌, Some, None, refl, sym, ◌∙◌, ap, subst, inl, inr, arith}
-use Rattle.std.specs.Prelude.{codes, Option, unwrap_or}
+use Rattle.std.proofs.Common.{◌≡◌, ℕ, ◌≤◌, ◌⊎◌, List, ◌++◌, Some, None, sym, ◌∙◌, ap, subst, inl, inr, arith}
+use Rattle.std.specs.Prelude.{Option, unwrap_or}
 use Rattle.pld_base.specs.Outside.{Map, bytes_at, SameFiles, SameBut}
 use Rattle.abel_cli.specs.Words.{IsCompile, compile_words}
 use Rattle.abel_cli.specs.Translation.{Compiles, IsNotBuilt, HasNoRoom, IsTooLong}
-use Rattle.abel_cli.specs.Ending.{Ending, Usage, Compiled, TooLong, NotBuilt, TooManyProducts, Unread, Unwritten, HasCause, Leaves, Tells, status_of, text_of, line}
-use Rattle.abel_cli.specs.Run.{Runs, Comes, Stops}
+use Rattle.abel_cli.specs.Ending.{Ending, Usage, Compiled, TooLong, NotBuilt, TooManyProducts, Unread, Unwritten, HasCause, Leaves, Tells, status_of, text_of}
+use Rattle.abel_cli.specs.Run.{Runs}
 use Rattle.abel_cli.specs.Statuses.{OfInput, IsRefused, IsUnfit, Fits, IsReplaced, IsInterrupted, IsStatus, OnlyOutput, OutputHolds, IsDone, IsToldInFull, NamesFile}
 use Rattle.abel_cli.proofs.Exclusive.{compiled_not_refused, unfit_not_refused, compiled_not_unfit, fits_not_refused, fits_not_unfit}
 

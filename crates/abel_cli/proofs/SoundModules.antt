@@ -1,8 +1,8 @@
 -- The module that a source means is sound: by the rules on its names.
-use Rattle.std.proofs.Common.{◌≡◌, ◌≢◌, ℕ, ◌<◌, ◌≤◌, Bool, true, false, not, ◌==◌, ◌&&◌, ◌||◌, ◌⊎◌, List, [], ◌∷◌, length, map, cond, nat_le, Option, Some, None, refl, sym, ap, ◌∙◌, subst, arith, inl, inr}
+use Rattle.std.proofs.Common.{◌≡◌, ◌≢◌, ℕ, ◌≤◌, Bool, true, false, not, ◌==◌, ◌&&◌, ◌||◌, ◌⊎◌, List, [], ◌∷◌, length, map, cond, nat_le, Option, Some, None, refl, sym, ap, ◌∙◌, subst, arith, inl, inr}
 use Rattle.std.specs.Prelude.{option_map, is_some}
 use Rattle.std.specs.Int.{is_in_range}
-use Rattle.std.specs.List.{list_all, list_any, find, All, AllPairs, range_with_len}
+use Rattle.std.specs.List.{list_all, list_any, find, All, AllPairs}
 use Rattle.std.specs.Option.{option_and_then}
 use Rattle.std.specs.Str.{bytes_eq}
 use Rattle.std.proofs.lemmas.Bool.{and_parts, eq-eqb, leb-true, true≢false, or_cases}
@@ -22,7 +22,6 @@ use Rattle.abel_parser.specs.FirstNames.{each_given, none_alike, only_if, is_sig
 use Rattle.pal16_device.specs.Pal16L8Table.{pal16l8}
 use Rattle.pld_device.proofs.GivenTests.{all_in_range}
 use Rattle.abel_cli.specs.WrittenProducts.{pair_of}
-use Rattle.abel_cli.specs.Meaning.{equation_for}
 use Rattle.abel_cli.specs.Soundness.{IsOperand, IsSound}
 
 -- ---- options

@@ -1,5 +1,5 @@
 -- The main theorem's statement: the device does what the source says.
-use Rattle.std.specs.Prelude.{◌≡◌, ℕ, ◌<◌, ◌⊎◌, Bool, List, [], ◌++◌, Some}
+use Rattle.std.specs.Prelude.{◌≡◌, ℕ, ◌<◌, ◌⊎◌, Bool, List, [], ◌++◌, length, Some}
 use Rattle.std.specs.List.{All}
 use Rattle.pld_base.specs.Points.{Levels}
 use Rattle.pld_base.specs.Logic.{Logic}
@@ -35,12 +35,13 @@ pub record DoesTheSame (device source : Logic) : Type 0 where
 abbrev pub Realises : List Bool → FirstModule → Type 0
 Realises fuses m = DoesTheSame (device_logic pal16l8 fuses) (source_logic m)
 
--- the file is the canonical one of the module's name and of fuses that do what the text says, and the
--- summary is that of these fuses
+-- the file is the canonical one of the module's name and of as many fuses as the device has, which do what
+-- the text says, and the summary is that of these fuses
 pub record IsRightFile (text file summary : List ℕ) : Type 0 where
   pub source : FirstModule
   pub spelled : IsFirstSource text source
   pub fuses : List Bool
+  pub size : length fuses ≡ pal16l8.fuses
   pub canonical : file ≡ canonical_file pal16l8 source.name fuses []
   pub realises : Realises fuses source
   pub told : summary ≡ summary_of pal16l8 fuses

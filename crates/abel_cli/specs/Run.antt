@@ -1,8 +1,7 @@
 -- A run of the program as a whole.
-use Rattle.std.specs.Prelude.{◌≡◌, ◌≢◌, ℕ, ◌≤◌, ◌<◌, ◌⊎◌, List, ◌++◌, Some, None}
-use Rattle.pld_base.specs.Outside.{Map, bytes_at, SameFiles}
-use Rattle.abel_cli.specs.Words.{IsCompile, compile_words}
-use Rattle.abel_cli.specs.Translation.{Compiles, IsNotBuilt, HasNoRoom, IsTooLong}
+use Rattle.std.specs.Prelude.{◌≡◌, ◌≢◌, ℕ, ◌⊎◌, List, None}
+use Rattle.pld_base.specs.Outside.{Map, SameFiles}
+use Rattle.abel_cli.specs.Words.{compile_words}
 use Rattle.abel_cli.specs.Ending.{Ending, HasCause, Leaves, Tells, TakesFront, memory_line}
 
 -- a run that came to an ending: the words; the files before and after, whether they are told, and

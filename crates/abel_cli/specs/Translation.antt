@@ -1,5 +1,5 @@
 -- What becomes of a source: a file and a summary, or a refusal.
-use Rattle.std.specs.Prelude.{◌≡◌, ℕ, ◌<◌, ◌≤◌, ◌⊎◌, List, length}
+use Rattle.std.specs.Prelude.{◌≡◌, ℕ, ◌<◌, ◌≤◌, List, length}
 use Rattle.abel_parser.specs.declared.first_module.FirstModule.{FirstModule}
 use Rattle.abel_parser.specs.FirstSource.{IsFirstSource}
 use Rattle.abel_cli.specs.Compiled.{IsCompiled, HasTooMany}

@@ -1,4 +1,4 @@
-use Rattle.std.proofs.Common.{ℕ, List, Bool, ◌*◌, ◌++◌, ◌∙◌, ap}
+use Rattle.std.proofs.Common.{List, Bool, ◌*◌, ◌++◌, ◌∙◌, ap}
 use Rattle.pld_device.specs.CanonicalFile.{levels_line}
 use Rattle.abel_cli.proofs.RowLines.{no_rows, one_row_more}
 use Rattle.abel_cli.proofs.canonical_file.put_rows.Goals as goal
