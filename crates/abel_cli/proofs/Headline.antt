@@ -14,7 +14,7 @@ right_file text file summary c =
     let sound = sound_of_meaning c.spells.spelled.tree c.source c.spells.spelled.means in
     record {
       source = c.source;
-      spelled = c.spells.spelled;
+      spells = c.spells;
       fuses = c.compiled.fuses;
       size = c.compiled.fitted.size;
       canonical = c.compiled.file_is;

@@ -4,9 +4,9 @@ use Rattle.std.specs.Prelude.{Option, unwrap_or}
 use Rattle.pld_base.specs.Outside.{Map, bytes_at, SameFiles, SameBut}
 use Rattle.abel_cli.specs.Words.{IsCompile, compile_words}
 use Rattle.abel_cli.specs.Translation.{Compiles, IsNotBuilt, HasNoRoom, IsTooLong}
-use Rattle.abel_cli.specs.Ending.{Ending, Usage, Compiled, TooLong, NotBuilt, TooManyProducts, Unread, Unwritten, HasCause, Leaves, Tells, status_of, text_of}
+use Rattle.abel_cli.specs.Ending.{Ending, Usage, Compiled, TooLong, NotBuilt, TooManyProducts, Unread, Unwritten, HasCause, Leaves, Tells, status_of, text_of, TakesFront, TakesFrontAndMemory, memory_line}
 use Rattle.abel_cli.specs.Run.{Runs}
-use Rattle.abel_cli.specs.Statuses.{OfInput, IsRefused, IsUnfit, Fits, IsReplaced, IsInterrupted, IsStatus, OnlyOutput, OutputHolds, IsDone, IsToldInFull, NamesFile}
+use Rattle.abel_cli.specs.Statuses.{OfInput, IsRefused, IsUnfit, Fits, IsReplaced, IsInterrupted, IsStatus, OnlyOutput, OutputHolds, IsDone, IsToldInFull, IsToldInPart, IsToldThenMemory, NamesFile}
 use Rattle.abel_cli.proofs.Exclusive.{compiled_not_refused, unfit_not_refused, compiled_not_unfit, fits_not_refused, fits_not_unfit}
 
 -- words are `compile IN OUT` in one way
@@ -22,6 +22,22 @@ no_words words i o none e = let both : ◌≡◌ None (Some (i, o)) = sym none �
 -- the same text under one name
 moved : (words : List (List ℕ)) (files : Map) (Holds : List ℕ → Type 0) (i o j p : List ℕ) → IsCompile words i o → IsCompile words j p → Holds (bytes_at files i) → Holds (bytes_at files j)
 moved words files Holds i o j p e h = subst (λ (name : List ℕ). Holds (bytes_at files name)) (same_input words i o j p e h)
+
+-- no ending has the status 7 or 8
+at_most_six : (e : Ending) → status_of e ≤ 6
+at_most_six Usage = omega arith
+at_most_six (Compiled file summary) = omega arith
+at_most_six TooLong = omega arith
+at_most_six NotBuilt = omega arith
+at_most_six (TooManyProducts name) = omega arith
+at_most_six (Unread name) = omega arith
+at_most_six (Unwritten name) = omega arith
+
+seven_is_none : (e : Ending) → 7 ≡ status_of e → ⊥
+seven_is_none e is = let low = at_most_six e in omega (arith, is, low)
+
+eight_is_none : (e : Ending) → 8 ≡ status_of e → ⊥
+eight_is_none e is = let low = at_most_six e in omega (arith, is, low)
 
 module _ (told : Type 0) (words : List (List ℕ)) (old new : Map) (rose write_rose : Type 0) (heard report_rose : Type 0) (reported reports : List ℕ) (status : ℕ) where
   abbrev R : Type 0
@@ -149,6 +165,24 @@ module _ (told : Type 0) (words : List (List ℕ)) (old new : Map) (rose write_r
 
   pub in_full_told : R → heard → status ≤ 6 → IsToldInFull told words old rose write_rose reported reports status
   in_full_told r hears low = let f = in_full r low in (f.0, f.1, f.3, f.4 hears)
+
+  pub in_part : R → heard → status ≡ 7 → IsToldInPart told words old rose write_rose reported reports
+  in_part (inr s) hears is = let eight = s.memory in absurd (omega arith)
+  in_part (inl c) hears is = of c.tells
+    where
+      of : Tells heard report_rose c.ending reported reports status → IsToldInPart told words old rose write_rose reported reports
+      of (inl t) = absurd (seven_is_none c.ending (sym is ∙ t.0))
+      of (inr (inl t)) = (c.ending, c.cause, t.2 hears)
+      of (inr (inr t)) = let eight = t.0 in absurd (omega arith)
+
+  pub then_memory : R → heard → status ≡ 8 → IsToldThenMemory told words old rose write_rose reported reports
+  then_memory (inr s) hears is = inr (s.tells hears)
+  then_memory (inl c) hears is = of c.tells
+    where
+      of : Tells heard report_rose c.ending reported reports status → IsToldThenMemory told words old rose write_rose reported reports
+      of (inl t) = absurd (eight_is_none c.ending (sym is ∙ t.0))
+      of (inr (inl t)) = let seven = t.0 in absurd (omega arith)
+      of (inr (inr t)) = inl (c.ending, c.cause, t.1 hears)
 
   -- ---- always where
 

@@ -183,7 +183,7 @@ pub file_without_rows_is_wrong : (text summary : List ℕ) → IsFirstSource tex
     → IsRightFile text (canonical_file pal16l8 (codes "y1") e3_fuses []) summary → ⊥
 unfolding row_lines
 file_without_rows_is_wrong text summary spelled only right =
-    let source : right.source ≡ y1_module = only right.source right.spelled in
+    let source : right.source ≡ y1_module = only right.source right.spells.spelled in
     let canonical : canonical_file pal16l8 (codes "y1") e3_fuses [] ≡ canonical_file pal16l8 (codes "y1") right.fuses [] = right.canonical ∙ ap (λ (m : FirstModule). canonical_file pal16l8 m.name right.fuses []) source in
     let none : length (row_lines 32 right.fuses 64) ≡ 0 = sym (same_rows (codes "y1") e3_fuses right.fuses canonical) ∙ e3_has_none in
     let dark : list_any (λ level. level) (row_fuses pal16l8 right.fuses 0) ≡ false = no_line 0 (row_fuses pal16l8 right.fuses 0) (row_has_none 32 right.fuses 64 0 (omega arith) none) in

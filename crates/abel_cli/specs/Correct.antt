@@ -11,9 +11,9 @@ use Rattle.pld_device.specs.Macrocells.{device_logic}
 use Rattle.pld_device.specs.CanonicalFile.{canonical_file}
 use Rattle.pal16_device.specs.Pal16L8Table.{pal16l8}
 use Rattle.abel_parser.specs.declared.first_module.FirstModule.{FirstModule}
-use Rattle.abel_parser.specs.FirstSource.{IsFirstSource}
 use Rattle.abel_cli.specs.Meaning.{source_logic}
 use Rattle.abel_cli.specs.Summary.{summary_of}
+use Rattle.abel_cli.specs.Translation.{Spells}
 use Rattle.abel_cli.specs.Words.{IsCompile}
 
 -- at the point the same cells are enabled in both logics
@@ -35,11 +35,11 @@ pub record DoesTheSame (device source : Logic) : Type 0 where
 abbrev pub Realises : List Bool → FirstModule → Type 0
 Realises fuses m = DoesTheSame (device_logic pal16l8 fuses) (source_logic m)
 
--- the file is the canonical one of the module's name and of as many fuses as the device has, which do what
--- the text says, and the summary is that of these fuses
+-- the text spells a module and no other; the file is the canonical one of its name and of as many fuses as
+-- the device has, which do what the module says; and the summary is that of these fuses
 pub record IsRightFile (text file summary : List ℕ) : Type 0 where
   pub source : FirstModule
-  pub spelled : IsFirstSource text source
+  pub spells : Spells text source
   pub fuses : List Bool
   pub size : length fuses ≡ pal16l8.fuses
   pub canonical : file ≡ canonical_file pal16l8 source.name fuses []

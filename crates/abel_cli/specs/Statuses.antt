@@ -9,7 +9,7 @@ use Rattle.pal16_device.specs.Pal16L8Table.{pal16l8}
 use Rattle.abel_cli.specs.Room.{room}
 use Rattle.abel_cli.specs.WrittenProducts.{written_list}
 use Rattle.abel_cli.specs.Translation.{Compiles, IsNotBuilt, HasNoRoom, IsTooLong, limit}
-use Rattle.abel_cli.specs.Ending.{Ending, HasCause, status_of, text_of, line}
+use Rattle.abel_cli.specs.Ending.{Ending, HasCause, TakesFront, TakesFrontAndMemory, memory_line, status_of, text_of, line}
 
 -- the words are `compile IN OUT`, and this holds of the bytes under IN
 abbrev pub OfInput : List (List ℕ) → Map → (List ℕ → Type 0) → Type 0
@@ -64,6 +64,20 @@ abbrev pub IsToldInFull : (told : Type 0) → List (List ℕ) → Map → (rose 
     → (reported reports : List ℕ) → (status : ℕ) → Type 0
 IsToldInFull told words files rose write_rose reported reports status = (ending : Ending)
     × HasCause told words files rose write_rose ending × (status ≡ status_of ending) × (reports ≡ reported ++ text_of ending)
+
+-- the report took a front of the text of an ending that has its cause
+abbrev pub IsToldInPart : (told : Type 0) → List (List ℕ) → Map → (rose write_rose : Type 0)
+    → (reported reports : List ℕ) → Type 0
+IsToldInPart told words files rose write_rose reported reports = (ending : Ending)
+    × HasCause told words files rose write_rose ending × TakesFront (text_of ending) reported reports
+
+-- the report took a front of the text of an ending that has its cause, or none where memory ran out before
+-- any ending came, and then a front of the line on memory
+abbrev pub IsToldThenMemory : (told : Type 0) → List (List ℕ) → Map → (rose write_rose : Type 0)
+    → (reported reports : List ℕ) → Type 0
+IsToldThenMemory told words files rose write_rose reported reports = ((ending : Ending)
+    × HasCause told words files rose write_rose ending × TakesFrontAndMemory (text_of ending) reported reports)
+    ⊎ TakesFront memory_line reported reports
 
 -- the line on a file's fault names the file that was read, or OUT where a write failed in this call
 abbrev pub NamesFile : List (List ℕ) → (write_rose : Type 0) → (reported reports : List ℕ) → Type 0

@@ -7,7 +7,7 @@ ghost use Rattle.abel_cli.specs.Words.{texts, compile_words};
 ghost use Rattle.abel_cli.specs.Correct.{IsRight, IsRightOrOld};
 ghost use Rattle.abel_cli.specs.Ending.{HasCause, Leaves, Tells, TakesFront, memory_line};
 ghost use Rattle.abel_cli.specs.Run.{Runs};
-ghost use Rattle.abel_cli.specs.Statuses.{OfInput, IsRefused, IsUnfit, Fits, IsReplaced, IsInterrupted, IsStatus, OnlyOutput, OutputHolds, IsDone, IsToldInFull, NamesFile};
+ghost use Rattle.abel_cli.specs.Statuses.{OfInput, IsRefused, IsUnfit, Fits, IsReplaced, IsInterrupted, IsStatus, OnlyOutput, OutputHolds, IsDone, IsToldInFull, IsToldInPart, IsToldThenMemory, NamesFile};
 ghost use Rattle.abel_cli.specs.View.{view};
 
 use crate::command::compile_words;
@@ -146,6 +146,16 @@ pub fn run<F: Files, K: Sink>(alloc: Global, words: &[String], files: &mut F, re
         (Rose (F.faults files.old) (F.faults files.new))
         (Rose (F.write_faults files.old) (F.write_faults files.new))
         (K.taken report.old) (K.taken report.new) result }
+    ensures told_in_part { K.Tells → result ≡ 7
+        → IsToldInPart F.Tells (texts words.now) (F.file files.old)
+        (Rose (F.faults files.old) (F.faults files.new))
+        (Rose (F.write_faults files.old) (F.write_faults files.new))
+        (K.taken report.old) (K.taken report.new) }
+    ensures told_then_memory { K.Tells → result ≡ 8
+        → IsToldThenMemory F.Tells (texts words.now) (F.file files.old)
+        (Rose (F.faults files.old) (F.faults files.new))
+        (Rose (F.write_faults files.old) (F.write_faults files.new))
+        (K.taken report.old) (K.taken report.new) }
     ensures file_named { K.Tells → result ≡ 6 → NamesFile (texts words.now)
         (Rose (F.write_faults files.old) (F.write_faults files.new))
         (K.taken report.old) (K.taken report.new) }

@@ -1,5 +1,5 @@
 -- Each clause on statuses, files and report follows from the relation of the run.
-use Rattle.abel_cli.proofs.RunStatuses.{statuses, done_only, done_where, usage_only, usage_where, refused_only, refused_where, unfit_only, unfit_where, file_fault_only, report_fault_only, unwritten, only_output, output, refused_leaves, unfit_leaves, in_full_told, file_fault_names}
+use Rattle.abel_cli.proofs.RunStatuses.{statuses, done_only, done_where, usage_only, usage_where, refused_only, refused_where, unfit_only, unfit_where, file_fault_only, report_fault_only, unwritten, only_output, output, refused_leaves, unfit_leaves, in_full_told, file_fault_names, in_part, then_memory}
 use Rattle.abel_cli.proofs.Headline.{right, right_or_old}
 use Rattle.abel_cli.proofs.run.run.Goals as goal
 
@@ -62,3 +62,9 @@ returns-clause-right g c = right _ _ _ _ _ _ _ _ _ _ _ c.perform.ensures
 
 pub returns-clause-right_or_old : goal.returns-clause-right_or_old
 returns-clause-right_or_old g c = right_or_old _ _ _ _ _ _ _ _ _ _ _ c.perform.ensures
+
+pub returns-clause-told_in_part : goal.returns-clause-told_in_part
+returns-clause-told_in_part g c = in_part _ _ _ _ _ _ _ _ _ _ _ c.perform.ensures
+
+pub returns-clause-told_then_memory : goal.returns-clause-told_then_memory
+returns-clause-told_then_memory g c = then_memory _ _ _ _ _ _ _ _ _ _ _ c.perform.ensures
