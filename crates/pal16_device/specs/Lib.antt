@@ -1,4 +1,5 @@
 pub mod DeviceLookups
 pub mod DrivesOne
+pub mod Pal16L8Laws
 pub mod Pal16L8Table
 pub mod SmallDesigns

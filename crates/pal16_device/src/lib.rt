@@ -1,6 +1,7 @@
 //! The PAL16 devices.
 #![tactic(auto)]
 
+mod device;
 mod laws;
 mod pal16l8;
 #[cfg(test)]

@@ -2,7 +2,7 @@
 
 use crate::Pal16L8;
 use pld_base::DeviceName;
-use pld_device::{Carry, Cell, Enable, Kinds};
+use pld_device::{Carry, Cell, Device, Enable, FuseBit, Kinds};
 
 /// The pin of each cell, and the rows of its enable and of its first product.
 const CELLS: [(u8, u16, u16); 8] = [
@@ -65,4 +65,21 @@ fn numbers_are_those_of_the_datasheet(rt: HostRuntime) {
     assert!(rt; (Pal16L8::PINS, Pal16L8::GROUND) == (20, 10));
     assert!(rt; (Pal16L8::COLUMNS, Pal16L8::ROWS, Pal16L8::FUSES) == (32, 64, 2048));
     assert!(rt; (Pal16L8::CELLS, Pal16L8::CLOCK) == (8, 0));
+}
+
+/// The control fuses that any device tells of its first cell and its first row, and a fixed one.
+fn control_fuses<D: Device>() -> [Option<FuseBit>; 3] {
+    if D::CELLS == 0 {
+        [None, None, D::fixed(0)]
+    } else {
+        [D::inverted_at(0), D::registered_at(0), D::fixed(0)]
+    }
+}
+
+#[test]
+fn there_are_no_control_fuses(rt: HostRuntime) {
+    assert!(rt; control_fuses::<Pal16L8>() == [None, None, None]);
+    for row in 0..64 {
+        assert!(rt; Pal16L8::row_switch(row) == None, "row {row}");
+    }
 }

@@ -1,4 +1,6 @@
 pub mod GivenTests
+pub mod OwnPins
 pub mod PlainFile
 pub mod RowReads
 pub mod RowValues
+pub mod RowsApart

@@ -3,20 +3,23 @@
 
 mod carry;
 mod cell;
+mod device;
 mod enable;
 mod flip;
 mod fuse_bit;
 mod fuses;
 mod kinds;
 mod laws;
+mod sample;
 #[cfg(test)]
 mod tests;
 
 pub use carry::Carry;
 pub use cell::Cell;
+pub use device::Device;
 pub use enable::Enable;
 pub use flip::Flip;
 pub use fuse_bit::FuseBit;
 pub use fuses::Fuses;
 pub use kinds::Kinds;
-pub use laws::rows;
+pub use laws::{rows, tables};

@@ -1,0 +1,5 @@
+pub mod Lists
+pub mod OneOfBoth
+pub mod Orders
+pub mod Turns
+pub mod Walks

@@ -1,0 +1,4 @@
+pub mod Causes
+pub mod Graphs
+pub mod Pairs
+pub mod Search
