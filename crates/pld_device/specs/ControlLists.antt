@@ -20,6 +20,7 @@ both_pass test (x ∷ xs) ys all =
 abbrev is_absent : ℕ → List ℕ → Bool
 is_absent n ns = list_all (λ m. not (n == m)) ns
 
+-- no two numbers of the list are the same
 abbrev pub are_apart : List ℕ → Bool
 are_apart ns = apart (λ a b. a == b) ns
 

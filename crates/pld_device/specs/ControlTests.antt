@@ -19,11 +19,13 @@ use Rattle.pld_device.specs.ControlLists.{are_apart, fixed_fuses, apart_parts, i
 abbrev pub control_test : Table → ℕ → Bool
 control_test t fuse = nat_le (t.columns * t.rows) fuse && nat_lt fuse t.fuses
 
+-- the device always complements
 abbrev pub is_always : Flip → Bool
 is_always Always = true
 is_always AfterRegister = false
 is_always BeforeRegister = false
 
+-- the cell may be either
 abbrev pub is_either : Kinds → Bool
 is_either Combinational = false
 is_either Registered = false
