@@ -1,7 +1,7 @@
 -- The canonical fuse file (fields and sums: JESD3-C; which lines there are, and in which order, is this
 -- project's rule).
-use Rattle.std.specs.Prelude.{ℕ, zero, suc, ◌+◌, ◌*◌, ◌%◌, ◌^◌, Bool, if◌then◌else◌, List, [], ◌∷◌, ◌++◌, map, length, sum, slice_range, codes}
-use Rattle.std.specs.List.{list_any}
+use Rattle.std.specs.Prelude.{◌≡◌, ◌==◌, ◌||◌, not, true, ℕ, zero, suc, ◌+◌, ◌*◌, ◌%◌, ◌^◌, Bool, if◌then◌else◌, List, [], ◌∷◌, ◌++◌, map, length, sum, slice_range, codes}
+use Rattle.std.specs.List.{list_all, list_any}
 use Rattle.std.specs.Fmt.{decimal}
 use Rattle.pld_base.specs.DeviceNames.{device_text}
 use Rattle.pld_device.specs.Table.{Table}
@@ -63,3 +63,7 @@ with_sum body = body ++ four_hex (sum body % 2 ^ 16)
 -- the whole file; each vector is the list of its characters, from pin 1 to the last pin
 abbrev pub canonical_file : Table → (name : List ℕ) → (fuses : List Bool) → (vectors : List (List ℕ)) → List ℕ
 canonical_file t name fuses vectors = with_sum (canonical_body t name fuses vectors)
+
+-- a name that ends neither its field nor the text
+abbrev pub IsPlainName : List ℕ → Type 0
+IsPlainName name = list_all (λ b. not (b == 42 || b == ETX)) name ≡ true

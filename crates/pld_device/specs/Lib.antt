@@ -3,7 +3,11 @@ pub mod CellTests
 pub mod ControlFuses
 pub mod ControlLists
 pub mod ControlTests
+pub mod FieldLists
+pub mod Fields
 pub mod FileText
+pub mod Frame
+pub mod FuseFile
 pub mod FuseSums
 pub mod Given
 pub mod Laws
@@ -11,6 +15,7 @@ pub mod ListTests
 pub mod Macrocells
 pub mod Pins
 pub mod Reads
+pub mod Refusals
 pub mod Registers
 pub mod RowLaws
 pub mod RowTests
@@ -18,4 +23,5 @@ pub mod RowUses
 pub mod Rows
 pub mod SampleTable
 pub mod Table
+pub mod TestVectors
 pub mod Tests

@@ -17,9 +17,6 @@ row_below None rows = true
 row_below (Some row) rows = nat_lt row rows
 
 -- rows past the array have no use
-use_if-false : (test : Bool) (purpose : Use) → test ≡ false → use_if test purpose ≡ []
-use_if-false test purpose off = rw off refl
-
 no_enable : (t : Table) (enable : Enable) (row : ℕ) → is_enable_of t enable ≡ true → t.rows ≤ row → is_enable_row enable row ≡ false
 no_enable t (Row other) row test past = grind (arith, nat_tests)
 no_enable t (PinLow pin) row test past = refl

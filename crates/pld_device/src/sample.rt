@@ -1,4 +1,4 @@
-//! A small device of no maker, with all that a table may say: the laws and the lookups are tried on it.
+//! A small device of no maker, with all that a table may say: what holds of all devices is tried on it.
 
 use crate::carry::Carry;
 use crate::cell::Cell;
@@ -9,7 +9,8 @@ use crate::fuse_bit::FuseBit;
 use crate::kinds::Kinds;
 use pld_base::DeviceName;
 
-/// The small device, as a type without values of its own.
+/// A small device of no maker, for tests of code for all devices: it has a reset, a preset and control
+/// fuses of every kind.
 #[derive(Clone, Copy, Debug, PartialEq, Eq)]
 pub struct Sample;
 

@@ -1,0 +1,13 @@
+mod EntryLemmas
+mod FieldLoop
+mod FileSteps
+mod Fits
+mod LastOf
+mod Levels
+mod NumberedVectors
+mod Numbers
+mod OrderFields
+mod PinOrders
+mod Positions
+mod Steps
+mod WordLemmas

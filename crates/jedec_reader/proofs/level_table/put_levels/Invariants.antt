@@ -1,0 +1,6 @@
+use Rattle.std.proofs.Common.{take}
+use Rattle.jedec_reader.specs.LevelTable.{HasPut}
+use Rattle.jedec_reader.proofs.level_table.put_levels.Given as goal
+
+abbrev pub invariant-loop-place : goal.invariant-loop-place
+invariant-loop-place l = HasPut l.first (take l.place l.levels) l.initial.table l.table

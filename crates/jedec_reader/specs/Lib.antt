@@ -1,0 +1,7 @@
+pub mod Contents
+pub mod FieldFits
+pub mod FieldTexts
+pub mod FieldsIn
+pub mod LevelTable
+pub mod SaidBy
+pub mod VectorTable

@@ -1,0 +1,36 @@
+//! The level of each fuse that stands in a list of levels.
+
+ghost use Rattle.std.specs.Prelude.{◌≡◌, ◌+◌, ◌≤◌, length, IfOk, All};
+ghost use Rattle.jedec_reader.specs.FieldFits.{FieldFits};
+ghost use Rattle.jedec_reader.specs.LevelTable.{HasPut, levels_said};
+
+use pld_device::{Device, Field};
+use std::alloc::{AllocError, Global};
+
+/// What the fields say of each fuse of the device: the last list counts, None where it stands in
+/// none.
+pub fn level_table<D: Device>(
+    alloc: Global,
+    fields: &[Field],
+) -> Result<Vec<Option<bool>>, AllocError>
+    requires { All (FieldFits D.table) fields.now }
+    ensures { IfOk result (λ table. table.items ≡ levels_said fields.now D.table.fuses) }
+{
+    let mut table = vec![in alloc; None; usize::from(D::FUSES)]?;
+    for field in fields {
+        if let Field::Levels(first, levels) = field {
+            put_levels(&mut table, usize::from(*first), levels.as_slice());
+        }
+    }
+    Ok(table)
+}
+
+/// Puts a list of levels from a first fuse on over what was said before.
+fn put_levels(table: &mut [Option<bool>], first: usize, levels: &[bool])
+    requires { first + length levels.now ≤ length table.old }
+    ensures { HasPut first levels.now table.old table.new }
+{
+    for (place, level) in levels.iter().enumerate() {
+        table[first + place] = Some(*level);
+    }
+}

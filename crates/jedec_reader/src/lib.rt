@@ -1,0 +1,22 @@
+//! The fuses and test vectors that the bytes of a fuse file say.
+#![tactic(auto)]
+
+mod contents;
+mod entries;
+mod field;
+mod fields;
+mod frame;
+mod fuse_file;
+mod fuse_levels;
+mod level_table;
+mod pin_order;
+mod reading;
+mod said;
+#[cfg(test)]
+mod tests;
+mod vectors;
+mod words;
+
+pub use fuse_file::FuseFile;
+pub use pld_device::JedecFault;
+pub use reading::read;

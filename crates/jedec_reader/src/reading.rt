@@ -1,0 +1,30 @@
+//! Reading a whole file.
+
+ghost use Rattle.std.specs.Prelude.{◌≡◌, ◌<◌, ◌^◌, length, IfOk, IfErr, Ok, All};
+ghost use Rattle.pld_device.specs.FuseFile.{file_of};
+ghost use Rattle.pld_device.specs.Refusals.{Refuses};
+ghost use Rattle.jedec_reader.specs.Contents.{IsPadded, contents};
+
+use crate::contents::contents;
+use crate::fields::fields;
+use crate::fuse_file::FuseFile;
+use pld_device::{Device, JedecFault};
+use std::alloc::Global;
+
+/// What the bytes of a fuse file say of a device, or why they are none (JESD3-C; which fields are
+/// refused, and in which order, is this project's rule).
+///
+/// The fault is the first one in this order: no start byte, no end byte with a sum, the sum of the
+/// bytes, the fields from the first to the last, the sizes, a fuse without a level, the fuse sum.
+/// Bytes before the start byte and behind the sum count for nothing. Takes memory for the fields
+/// and for what they say; `OutOfMemory` may come in place of any other answer.
+pub fn read<D: Device>(alloc: Global, bytes: &[u8]) -> Result<FuseFile, JedecFault>
+    requires { length bytes.now < 2 ^ 32 }
+    ensures file { IfOk result (λ file. file_of D.table bytes.now ≡ Ok (contents D.table file)) }
+    ensures refused { IfErr result (λ fault. Refuses fault (file_of D.table bytes.now)) }
+    ensures fuses { IfOk result (λ file. length file.fuses ≡ D.table.fuses) }
+    ensures padded { IfOk result (λ file. All (IsPadded D.table) file.vectors) }
+{
+    let fields = fields::<D>(alloc, bytes)?;
+    contents::<D>(alloc, &fields)
+}

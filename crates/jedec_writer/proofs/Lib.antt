@@ -1,0 +1,15 @@
+pub mod ControlEnds
+pub mod FieldsRead
+pub mod FrameRead
+pub mod LastSaid
+pub mod LevelsEnd
+pub mod LevelsTold
+pub mod LinesRead
+pub mod Numerals
+pub mod RoundTrip
+pub mod RowLines
+pub mod SaidBack
+pub mod TextRead
+pub mod VectorLines
+pub mod VectorsTold
+pub mod Words

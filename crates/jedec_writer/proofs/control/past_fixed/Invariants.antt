@@ -1,0 +1,10 @@
+use Rattle.std.proofs.Common.{◌≡◌, drop, map}
+use Rattle.std.specs.Prelude.{max}
+use Rattle.pld_device.specs.declared.fuse_bit.FuseBit.{FuseBit}
+use Rattle.pld_device.specs.ControlFuses.{past}
+use Rattle.jedec_writer.proofs.control.past_fixed.Given as goal
+
+abbrev pub invariant-loop-index : goal.invariant-loop-index
+invariant-loop-index g l =
+    max l.end (past (map (λ (bit : FuseBit). bit.fuse) (drop l.index g.D.Device.table.fixed)))
+    ≡ past (map (λ (bit : FuseBit). bit.fuse) g.D.Device.table.fixed)

@@ -1,0 +1,8 @@
+use Rattle.std.proofs.Common.{◌≡◌, drop}
+use Rattle.std.specs.Prelude.{max}
+use Rattle.pld_device.specs.ControlFuses.{fuses_named, past}
+use Rattle.jedec_writer.proofs.control.past_inverted.Given as goal
+
+abbrev pub invariant-loop-cell : goal.invariant-loop-cell
+invariant-loop-cell g l =
+    max l.end (past (fuses_named (drop l.cell g.D.Device.table.inverted))) ≡ past (fuses_named g.D.Device.table.inverted)

@@ -1,0 +1,7 @@
+use Rattle.std.proofs.Common.{◌≡◌, drop}
+use Rattle.std.specs.Prelude.{max}
+use Rattle.pld_device.specs.ControlFuses.{past}
+use Rattle.jedec_writer.proofs.control.past_switches.Given as goal
+
+abbrev pub invariant-loop-row : goal.invariant-loop-row
+invariant-loop-row g l = max l.end (past (drop l.row g.D.Device.table.row_switches)) ≡ past g.D.Device.table.row_switches

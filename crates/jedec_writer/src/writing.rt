@@ -1,0 +1,117 @@
+//! The whole file.
+
+ghost use Rattle.std.specs.Prelude.{◌≡◌, ◌≤◌, ◌∷◌, ◌++◌, length, false, IfOk, OnOk, Ok, All, codes};
+ghost use Rattle.pld_base.specs.DeviceNames.{device_text};
+ghost use Rattle.pld_device.specs.CanonicalFile.{IsPlainName, canonical_body, canonical_file};
+ghost use Rattle.pld_device.specs.ControlFuses.{IsIntactPastLines};
+ghost use Rattle.pld_device.specs.FileText.{STX, line, space};
+ghost use Rattle.pld_device.specs.FuseFile.{file_of};
+ghost use Rattle.pld_device.specs.TestVectors.{IsTestVector, all_chars};
+ghost use Rattle.jedec_writer.specs.Places.{HasPlaces};
+
+use crate::array::put_rows;
+use crate::control::put_control;
+use crate::digits::put_hex;
+use crate::lines::{put_counted, put_end, put_fuse_sum};
+use crate::sums::fuse_sum;
+use crate::vectors::{put_default_test, put_vector_count, put_vectors};
+use pld_base::{OutOfMemory, Vector};
+use pld_device::{Device, Fuses, byte_sum};
+use std::alloc::Global;
+
+/// The first byte of the text, and the last one before its sum.
+const STX: u8 = 2;
+
+const ETX: u8 = 3;
+
+/// The line with the names of the module and of the device.
+fn put_header<D: Device>(out: &mut Vec<u8>, name: &[u8]) -> Result<(), OutOfMemory>
+    ensures { OnOk result (out.new.items ≡ out.old.items
+        ++ line (STX ∷ codes "ABEL-HDL " ++ name.now ++ space ∷ device_text D.table.name)) }
+{
+    out.push(STX)?;
+    out.extend_from_slice(b"ABEL-HDL ")?;
+    out.extend_from_slice(name)?;
+    out.push(b' ')?;
+    let device = D::NAME;
+    out.extend_from_slice(device.text().as_bytes())?;
+    put_end(out)
+}
+
+/// The text from its first byte to the last one before its sum.
+fn body<D: Device>(
+    alloc: Global,
+    name: &[u8],
+    fuses: &Fuses,
+    vectors: &[Vector],
+) -> Result<Vec<u8>, OutOfMemory>
+    requires size { length fuses.now ≡ D.table.fuses }
+    requires few { length vectors.now ≤ 9999 }
+    ensures body { IfOk result (λ out. out.items
+        ≡ canonical_body D.table name.now fuses.now (all_chars D.table vectors.now)) }
+    ensures places { IfOk result (λ _. All HasPlaces vectors.now) }
+{
+    let mut out = Vec::new(alloc);
+    put_header::<D>(&mut out, name)?;
+    put_counted(alloc, &mut out, b"QP", usize::from(D::PINS))?;
+    put_counted(alloc, &mut out, b"QF", usize::from(D::FUSES))?;
+    put_vector_count::<D>(alloc, &mut out, vectors)?;
+    out.extend_from_slice(b"F0*\r\nG0*\r\n")?;
+    put_default_test::<D>(&mut out, vectors)?;
+    put_rows::<D>(&mut out, fuses.levels())?;
+    put_control::<D>(&mut out, fuses.levels())?;
+    put_fuse_sum(&mut out, fuse_sum(fuses))?;
+    put_vectors::<D>(&mut out, vectors)?;
+    out.push(ETX)?;
+    Ok(out)
+}
+
+/// The text with its transmission sum.
+fn written<D: Device>(
+    alloc: Global,
+    name: &[u8],
+    fuses: &Fuses,
+    vectors: &[Vector],
+) -> Result<Vec<u8>, OutOfMemory>
+    requires size { length fuses.now ≡ D.table.fuses }
+    requires few { length vectors.now ≤ 9999 }
+    ensures file { IfOk result (λ out. out.items
+        ≡ canonical_file D.table name.now fuses.now (all_chars D.table vectors.now)) }
+    ensures places { IfOk result (λ _. All HasPlaces vectors.now) }
+{
+    let mut out = body::<D>(alloc, name, fuses, vectors)?;
+    let sum = byte_sum(&out);
+    put_hex(&mut out, sum)?;
+    Ok(out)
+}
+
+/// The canonical fuse file of a module's name, a device's fuses and test vectors (the fields and sums:
+/// JESD3-C; which lines there are, and in which order, is this project's rule).
+///
+/// There are as many fuses as the device has, and those past its array and its last control fuse are 0,
+/// since no line names them. Of a vector the characters of pins 1 to `PINS` are written; vectors are
+/// numbered from 1. The name has no `*` and no end byte (3). Answers want of memory alone.
+pub fn write<D: Device>(
+    alloc: Global,
+    name: &[u8],
+    fuses: &Fuses,
+    vectors: &[Vector],
+) -> Result<Vec<u8>, OutOfMemory>
+    requires name { IsPlainName name.now }
+    requires size { length fuses.now ≡ D.table.fuses }
+    requires lines { IsIntactPastLines D.table fuses.now }
+    requires few { length vectors.now ≤ 9999 }
+    requires chars { All (IsTestVector D.table) vectors.now }
+    // The bytes.
+    ensures canonical { IfOk result (λ out. out.items
+        ≡ canonical_file D.table name.now fuses.now (all_chars D.table vectors.now)) }
+    // Read as a fuse file they say just what was given.
+    ensures reads_back { IfOk result (λ out. file_of D.table out.items ≡ Ok (record {
+      fuses = fuses.now;
+      listed = D.table.fuses;
+      vectors = all_chars D.table vectors.now;
+      default_level = false;
+    })) }
+{
+    written::<D>(alloc, name, fuses, vectors)
+}
