@@ -6,7 +6,7 @@ use Rattle.abel_cli.specs.Run.{Runs}
 use Rattle.abel_cli.specs.Statuses.{OutputHolds, IsDone}
 use Rattle.abel_cli.specs.Translation.{Compiles}
 use Rattle.abel_cli.proofs.Realised.{does_the_same}
-use Rattle.abel_cli.proofs.RunStatuses.{done_only, output}
+use Rattle.abel_cli.proofs.CompileStatuses.{done_only, output}
 use Rattle.abel_cli.proofs.SoundModules.{sound_of_meaning}
 
 pub right_file : (text file summary : List ℕ) → Compiles text file summary → IsRightFile text file summary
@@ -19,13 +19,14 @@ right_file text file summary c =
       size = c.compiled.fitted.size;
       canonical = c.compiled.file_is;
       realises = does_the_same c.source c.compiled.fuses sound c.compiled.fitted;
+      reads_back = c.compiled.reads_back;
       told = c.compiled.summary_is;
     }
 
 right_where_done : (words : List (List ℕ)) (old new : Map) (told : Type 0) (reported reports : List ℕ)
     → IsDone words old new told reported reports → IsRight words old new told reported reports
-right_where_done words old new told reported reports (i, o, w, file, summary, c, holds, text) =
-    (i, o, w, file, summary, right_file (bytes_at old i) file summary c, holds, text)
+right_where_done words old new told reported reports done i o w =
+    let d = done i o w in (d.0, d.1, right_file (bytes_at old i) d.0 d.1 d.2, d.3, d.4)
 
 right_where_held : (words : List (List ℕ)) (old new : Map) (write_rose : Type 0)
     → OutputHolds words old new write_rose → IsRightOrOld words old new write_rose

@@ -1,7 +1,7 @@
 -- A run of the program as a whole.
-use Rattle.std.specs.Prelude.{◌≡◌, ◌≢◌, ℕ, ◌⊎◌, List, None}
+use Rattle.std.specs.Prelude.{◌≡◌, ℕ, ◌⊎◌, List}
 use Rattle.pld_base.specs.Outside.{Map, SameFiles}
-use Rattle.abel_cli.specs.Words.{compile_words}
+use Rattle.abel_cli.specs.Words.{IsNoCommand}
 use Rattle.abel_cli.specs.Ending.{Ending, HasCause, Leaves, Tells, TakesFront, memory_line}
 
 -- a run that came to an ending: the words; the files before and after, whether they are told, and
@@ -17,7 +17,7 @@ pub record Comes (files_told : Type 0) (words : List (List ℕ)) (old new : Map)
 pub record Stops (files_told : Type 0) (words : List (List ℕ)) (old new : Map)
     (report_told : Type 0) (reported reports : List ℕ) (status : ℕ) : Type 0 where
   pub memory : status ≡ 8
-  pub no_usage : compile_words words ≢ None
+  pub no_usage : IsNoCommand words → ⊥
   pub leaves : files_told → SameFiles old new
   pub tells : report_told → TakesFront memory_line reported reports
 

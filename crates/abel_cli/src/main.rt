@@ -1,20 +1,31 @@
 //! `abel`: from ABEL-HDL sources to JEDEC fuse files.
 #![tactic(auto)]
 
-mod canonical_file;
+mod built_device;
+mod check;
+mod check_fault;
+#[cfg(test)]
+mod check_tests;
 mod command;
 mod compile;
 mod cube;
-mod digits;
 mod ending;
+mod execute;
+mod fault_line;
 mod fit;
 mod fit_fault;
+mod numbered;
 mod pin_rows;
 mod product_list;
 mod row;
 mod run;
+mod run_lines;
+mod sim_fault_line;
+mod simulate;
+#[cfg(test)]
+mod simulate_tests;
+mod simulation;
 mod summary;
-mod sums;
 #[cfg(test)]
 mod tests;
 mod translation;

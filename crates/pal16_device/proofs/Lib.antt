@@ -1,5 +1,3 @@
-pub mod CellOrder
-pub mod OneLayer
 pub mod Pal16L8Layout
 mod PinLists
 mod SmallFiles

@@ -2,12 +2,14 @@
 use Rattle.std.proofs.Common.{◌≡◌, ℕ, zero, suc, ◌+◌, ◌-◌, ◌*◌, ◌<◌, Bool, List, [], refl, ap, sym, subst, arith}
 use Rattle.pld_device.specs.declared.cell.Cell.{Cell}
 use Rattle.pld_device.specs.Table.{cell_at}
-use Rattle.pld_device.specs.Pins.{HasOwnPins, PairsApart, pair_pins}
+use Rattle.pld_device.specs.Pins.{PairsApart}
 use Rattle.pld_device.specs.CanonicalFile.{canonical_body}
+use Rattle.pld_device.proofs.OwnPins.{own_pins, pairs_apart as device_pairs_apart}
 use Rattle.pld_device.proofs.PlainFile.{plain_body, canonical_body-plain}
 use Rattle.pld_device.specs.Given.{ReadsGiven, EnableReadsGiven, IsOneLayer}
+use Rattle.device_logic.specs.CellReads.{IsCombinational}
 use Rattle.pal16_device.specs.Pal16L8Table.{combinational_cell, pal16l8}
-use Rattle.pal16_device.proofs.CellOrder.{Distinct, distinct_from_test, one_place}
+use Rattle.pal16_device.specs.Pal16L8Laws.{pal16l8_sound}
 
 -- each cell's pin and rows
 pub cell_is : (c : ℕ) → c < 8 → cell_at pal16l8 c ≡ combinational_cell (19 - c) (8 * c)
@@ -21,30 +23,21 @@ cell_is (suc (suc (suc (suc (suc (suc zero)))))) within = refl
 cell_is (suc (suc (suc (suc (suc (suc (suc zero))))))) within = refl
 cell_is (suc (suc (suc (suc (suc (suc (suc (suc c)))))))) within = absurd (omega arith)
 
--- each pair's pin is its own
-distinct_pairs : Distinct (pair_pins pal16l8)
-distinct_pairs = distinct_from_test (pair_pins pal16l8) refl
-
+-- no two pairs stand for one pin
 pub pairs_apart : PairsApart pal16l8
-pairs_apart pin p q here there = one_place (pair_pins pal16l8) distinct_pairs p q pin here there
+pairs_apart = device_pairs_apart pal16l8 pal16l8_sound
 
 pub pin_of : (c : ℕ) → c < 8 → (cell_at pal16l8 c).pin ≡ 19 - c
 pin_of c within = ap (λ (cell : Cell). cell.pin) (cell_is c within)
 
-own_pins : HasOwnPins pal16l8
-own_pins = record {
-  cells = omega arith;
-  first = λ c within. omega (arith, pin_of c within);
-  last = λ c within. omega (arith, pin_of c within);
-  no_clock = λ c within e. omega (arith, pin_of c within, e);
-  apart = λ c d c_in d_in e. omega (arith, pin_of c c_in, pin_of d d_in, e);
-  clock = omega arith;
-}
+-- no cell is a register
+pub combinational : IsCombinational pal16l8
+combinational c within = ap (λ (cell : Cell). cell.kinds) (cell_is c within)
 
 -- where each row reads given values alone, no cell waits for another
 pub one_layer : (fuses : List Bool) → ((row : ℕ) → row < 64 → ReadsGiven pal16l8 fuses row) → IsOneLayer pal16l8 fuses
 one_layer fuses rows = record {
-  pins = own_pins;
+  pins = own_pins pal16l8 pal16l8_sound;
   columns = omega arith;
   no_reset = refl;
   enables = λ c within. subst (EnableReadsGiven pal16l8 fuses) (sym (ap (λ (cell : Cell). cell.enable) (cell_is c within))) (rows (8 * c) (omega (arith, within)));

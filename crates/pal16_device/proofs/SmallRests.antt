@@ -12,7 +12,8 @@ use Rattle.pld_device.proofs.GivenTests.{all_in_range, row_test, reads_given}
 use Rattle.pal16_device.specs.Pal16L8Table.{pal16l8}
 use Rattle.pal16_device.specs.SmallDesigns.{a_and_b_or_c, b_without_a, complement_of, y1_fuses, y2_fuses, e3_fuses, one_cell_fuses}
 use Rattle.pal16_device.specs.DrivesOne.{DrivesOne, DrivesNone}
-use Rattle.pal16_device.proofs.OneLayer.{not_enabled, rests_once}
+use Rattle.device_logic.proofs.CellsOrdered.{not_enabled}
+use Rattle.device_logic.proofs.OneLayer.{layer_rests}
 use Rattle.pal16_device.proofs.Pal16L8Layout.{pin_of, one_layer}
 use Rattle.pal16_device.proofs.SmallRows.{y1_enabled, y1_level, y2_enabled, y2_level, one_cell_enabled, one_cell_level}
 
@@ -45,7 +46,7 @@ module _ (fuses : List Bool) (c : ℕ) (within : c < 8) (level : List Bool → B
 
   pub drives_one : ((at : Levels) → is_enabled pal16l8 fuses at c ≡ true) → ((at : Levels) → pin_level pal16l8 fuses at c ≡ level at.pins) → DrivesOne fuses c level
   drives_one enabled value = record {
-    rests = rests_once pal16l8 fuses (layer_of fuses rows);
+    rests = layer_rests pal16l8 fuses (layer_of fuses rows);
     drives = λ outside stored at rests. record {
       enabled = enabled at;
       driven = equal_levels (is_on at.pins (cell_at pal16l8 c).pin) (pin_level pal16l8 fuses at c) (rests.settled.driven c within (enabled at))
@@ -66,7 +67,7 @@ y2_drives = drives_one y2_fuses 0 (omega arith) a_and_b_or_c (y_inputs (λ a b c
 
 pub e3_drives : DrivesNone e3_fuses
 e3_drives = record {
-  rests = rests_once pal16l8 e3_fuses (layer_of e3_fuses refl);
+  rests = layer_rests pal16l8 e3_fuses (layer_of e3_fuses refl);
   others = λ outside stored at rests k low. outside_level e3_fuses outside stored at rests k low
       (λ d inside same. all_in_range (never_drives pal16l8 e3_fuses) 0 8 d refl (omega arith) (omega (arith, inside)));
 }

@@ -1,4 +1,3 @@
-pub mod DeviceLookups
 pub mod DrivesOne
 pub mod Pal16L8Laws
 pub mod Pal16L8Table

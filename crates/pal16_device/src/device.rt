@@ -2,7 +2,7 @@
 
 use crate::pal16l8::Pal16L8;
 use pld_base::DeviceName;
-use pld_device::{Carry, Cell, Device, Flip, FuseBit};
+use pld_device::{Carry, Cell, Device, Enable, Flip, FuseBit, Kinds};
 
 impl Device for Pal16L8 {
     ghost use Rattle.std.specs.Prelude.{None, refl};
@@ -11,23 +11,23 @@ impl Device for Pal16L8 {
     ghost use Rattle.pal16_device.specs.Pal16L8Laws.{pal16l8_sound};
     ghost use Rattle.pal16_device.specs.Pal16L8Table.{pal16l8};
 
-    const NAME: DeviceName = Pal16L8::NAME;
+    const NAME: DeviceName = DeviceName::P16L8;
 
-    const PINS: u8 = Pal16L8::PINS;
+    const PINS: u8 = 20;
 
-    const GROUND: u8 = Pal16L8::GROUND;
+    const GROUND: u8 = 10;
 
-    const FUSES: u16 = Pal16L8::FUSES;
+    const FUSES: u16 = 2048;
 
-    const SHORT: u16 = Pal16L8::FUSES;
+    const SHORT: u16 = 2048;
 
-    const COLUMNS: u16 = Pal16L8::COLUMNS;
+    const COLUMNS: u16 = 32;
 
-    const ROWS: u16 = Pal16L8::ROWS;
+    const ROWS: u16 = 64;
 
-    const CELLS: u8 = Pal16L8::CELLS;
+    const CELLS: u8 = 8;
 
-    const CLOCK: u8 = Pal16L8::CLOCK;
+    const CLOCK: u8 = 0;
 
     const RESET: Option<u16> = None;
 
@@ -87,12 +87,29 @@ impl Device for Pal16L8 {
 
     ghost sound = { pal16l8_sound };
 
+    #[rattlefmt::skip]
     fn carries(pair: u16) -> Carry {
-        Pal16L8::carries(pair)
+        match pair {
+            0  => Carry::Pin(2),  1 => Carry::Pin(1),
+            2  => Carry::Pin(3),  3 => Carry::Cell(1),
+            4  => Carry::Pin(4),  5 => Carry::Cell(2),
+            6  => Carry::Pin(5),  7 => Carry::Cell(3),
+            8  => Carry::Pin(6),  9 => Carry::Cell(4),
+            10 => Carry::Pin(7), 11 => Carry::Cell(5),
+            12 => Carry::Pin(8), 13 => Carry::Cell(6),
+            14 => Carry::Pin(9),  _ => Carry::Pin(11),
+        }
     }
 
     fn cell(index: u8) -> Cell {
-        Pal16L8::cell(index)
+        let row = u16::from(index) * 8;
+        Cell {
+            pin: 19 - index,
+            enable: Enable::Row(row),
+            first: row + 1,
+            room: 7,
+            kinds: Kinds::Combinational,
+        }
     }
 
     fn inverted_at(cell: u8) -> Option<FuseBit> {

@@ -7,5 +7,5 @@ mod pal16l8;
 #[cfg(test)]
 mod tests;
 
-pub use laws::{layout, numbers, one_layer, small_files, small_rests};
+pub use laws::{layout, small_files, small_rests};
 pub use pal16l8::Pal16L8;

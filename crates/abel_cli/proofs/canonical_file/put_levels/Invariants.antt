@@ -1,6 +1,0 @@
-use Rattle.std.proofs.Common.{◌≡◌, ◌++◌, take, map}
-use Rattle.pld_device.specs.FileText.{level_char}
-use Rattle.abel_cli.proofs.canonical_file.put_levels.Given as goal
-
-abbrev pub invariant-loop-level : goal.invariant-loop-level
-invariant-loop-level l = l.out.items ≡ l.initial.out.items ++ map level_char (take l.level-index l.levels)

@@ -1,0 +1,10 @@
+pub mod CellsOrdered
+pub mod FreeReads
+pub mod LiveRows
+pub mod Loads
+pub mod OneLayer
+pub mod OneRun
+pub mod PairWalks
+pub mod Ranges
+pub mod ReadCells
+pub mod Runs

@@ -1,0 +1,6 @@
+use Rattle.std.proofs.Common.{◌≡◌, map, take}
+use Rattle.pld_device.specs.Table.{cell_at}
+use Rattle.device_logic.proofs.loading.pins_of.Given as goal
+
+abbrev pub invariant-loop-cell : goal.invariant-loop-cell
+invariant-loop-cell g l = l.pins.items ≡ map (λ c. (cell_at g.D.Device.table c).pin) (take l.cell-index l.cells)

@@ -1,0 +1,52 @@
+-- Which cells a cell reads while it comes to rest, whether or not its value depends on them (this project's
+-- rule).
+use Rattle.std.specs.Prelude.{◌≡◌, ℕ, suc, ◌<◌, [], ◌∷◌, Bool, false, not, ◌&&◌, ◌||◌, ◌==◌, List, length}
+use Rattle.std.specs.List.{list_any}
+use Rattle.pld_device.specs.declared.carry.Carry.{Carry}
+use Rattle.pld_device.specs.declared.carry.Carry.TheVariants as carry
+use Rattle.pld_device.specs.declared.enable.Enable.{Enable}
+use Rattle.pld_device.specs.declared.enable.Enable.TheVariants.{Row, PinLow}
+use Rattle.pld_device.specs.declared.kinds.Kinds.TheVariants.{Combinational}
+use Rattle.pld_device.specs.Table.{Table, cell_at}
+use Rattle.pld_device.specs.Given.{never_drives}
+use Rattle.pld_device.specs.Macrocells.{data_rows}
+use Rattle.pld_device.specs.Reads.{row_reads}
+use Rattle.pld_order.specs.Graphs.{IsOrder}
+use Rattle.pld_device.specs.Registers.{stores}
+
+-- no cell of the device can be a register
+abbrev pub IsCombinational : Table → Type 0
+IsCombinational t = (c : ℕ) → c < length t.cells → (cell_at t c).kinds ≡ Combinational
+
+-- the pair carries the level of the cell's pin: the cell's own, which is no register's
+abbrev pub carries_level : Table → List Bool → ℕ → Carry → Bool
+carries_level t fuses d (carry.Pin pin) = false
+carries_level t fuses d (carry.Cell c) = c == d && not (stores t fuses d)
+
+-- some pair from this number on that the row reads carries the level
+abbrev pub pairs_read : Table → List Bool → (row d pair : ℕ) → List Carry → Bool
+pairs_read t fuses row d pair [] = false
+pairs_read t fuses row d pair (x ∷ xs) =
+    (row_reads t fuses row pair && carries_level t fuses d x) || pairs_read t fuses row d (suc pair) xs
+
+-- the row reads the level of the cell's pin
+abbrev pub row_reads_cell : Table → List Bool → (row d : ℕ) → Bool
+row_reads_cell t fuses row d = pairs_read t fuses row d 0 t.pairs
+
+-- what enables a cell reads it; a pin that enables is no cell's
+abbrev pub enable_reads : Table → List Bool → Enable → ℕ → Bool
+enable_reads t fuses (Row row) d = row_reads_cell t fuses row d
+enable_reads t fuses (PinLow pin) d = false
+
+-- the cell's data rows read it; those of a register are read at the clock's edge alone
+abbrev pub data_reads : Table → List Bool → (c d : ℕ) → Bool
+data_reads t fuses c d = not (stores t fuses c) && list_any (λ row. row_reads_cell t fuses row d) (data_rows t c)
+
+-- cell c reads cell d; a cell whose enable row is constantly 0 reads nothing
+abbrev pub cell_reads : Table → List Bool → (c d : ℕ) → Bool
+cell_reads t fuses c d =
+    not (never_drives t fuses c) && (enable_reads t fuses (cell_at t c).enable d || data_reads t fuses c d)
+
+-- all cells, each once, none of which reads itself or one that stands behind it
+abbrev pub IsCellOrder : Table → List Bool → List ℕ → Type 0
+IsCellOrder t fuses order = IsOrder (length t.cells) (cell_reads t fuses) order

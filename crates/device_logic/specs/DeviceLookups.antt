@@ -1,0 +1,29 @@
+-- A device with its fuses as what the machine asks of a logic (this project's rule).
+use Rattle.std.specs.Prelude.{ℕ, Bool, false, List, map, length}
+use Rattle.pld_device.specs.Table.{Table, cell_at}
+use Rattle.pld_device.specs.Registers.{stores}
+use Rattle.pld_device.specs.Macrocells.{is_enabled, pin_level, next_q, row_if_any}
+use Rattle.pld_machine.specs.declared.logic.Slot.TheVariants as slot
+use Rattle.pld_machine.specs.Lookups.{Lookups}
+
+-- fuses in a device, and the order in which its cells come to rest
+pub record Loaded : Type 0 where
+  pub fuses : List Bool
+  pub order : List ℕ
+
+-- what the machine asks of the device, a slot for each cell in this order
+abbrev pub device_lookups : Table → List Bool → (order : List ℕ) → Lookups
+device_lookups t fuses order =
+    record {
+      cells = length t.cells;
+      pin = λ c. (cell_at t c).pin;
+      stores = stores t fuses;
+      clock = t.clock;
+      slots = map (λ c. slot.Cell c) order;
+      enable = is_enabled t fuses;
+      level = pin_level t fuses;
+      node = λ at n. false;
+      reset = λ at c. row_if_any t fuses at t.reset;
+      preset = λ at c. row_if_any t fuses at t.preset;
+      next = next_q t fuses;
+    }

@@ -1,0 +1,21 @@
+//! A device with its fuses as a logic, its cells in an order in which each reads earlier ones.
+#![tactic(auto)]
+
+mod array;
+mod fault;
+mod laws;
+mod loading;
+mod logic;
+mod lookups;
+mod macrocells;
+mod reads;
+mod rows;
+#[cfg(test)]
+mod tests;
+#[cfg(test)]
+mod trio;
+
+pub use fault::SimFault;
+pub use laws::{no_loop, one_layer};
+pub use loading::load;
+pub use logic::DeviceLogic;

@@ -1,0 +1,6 @@
+pub mod FirstUnsupported
+pub mod FoundAt
+pub mod Loaded
+pub mod OneList
+pub mod Outsides
+pub mod Vectors

@@ -1,0 +1,10 @@
+use Rattle.std.proofs.Common.{◌≡◌, ◌+◌, ◌++◌, None, option_map, drop}
+use Rattle.pld_base.specs.Points.{levels_of}
+use Rattle.device_sim.specs.VectorSteps.{all_chars_at, mismatches_after}
+use Rattle.device_sim.proofs.running.run_vectors.Given as goal
+
+abbrev pub invariant-loop-index : goal.invariant-loop-index
+invariant-loop-index g l =
+    let m = g.L.Logic.meaning l.logic in
+    mismatches_after m l.default 1 None (all_chars_at l.pins l.vectors)
+    ≡ l.found.items ++ mismatches_after m l.default (l.index + 1) (option_map levels_of l.before) (all_chars_at l.pins (drop l.index l.vectors))

@@ -1,0 +1,35 @@
+use Rattle.std.proofs.Common.{length, sym, ◌∙◌, ap}
+use Rattle.std.proofs.lemmas.List.{length-map}
+use Rattle.std.proofs.lemmas.Result.{err_from_is_err_and}
+use Rattle.pld_device.specs.TestVectors.{chars_of}
+use Rattle.jedec_reader.specs.Contents.{contents}
+use Rattle.device_sim.proofs.Loaded.{is_device_run, only_device_run, none_unsupported, load_fault}
+use Rattle.device_sim.proofs.simulating.simulate.Goals as goal
+
+pub returns-in_err-logic-clause-refused : goal.returns-in_err-logic-clause-refused
+returns-in_err-logic-clause-refused g c =
+    let t = g.D.Device.table in
+    let p = err_from_is_err_and c.from_residual.result c.from_residual.ensures.1 in
+    let none = none_unsupported t c.PINS.result c.as_slice-vectors.result.now c.args.file.now.vectors c.first_unsupported.result (c.PINS.ensures ∙ g.met.D.Device.pins_is) c.as_slice-vectors.ensures c.first_unsupported.ensures c.in_default.is in
+    rw (p.1, p.2) (load_fault t (contents t c.args.file.now) c.in_err-logic.field-0.0 none c.in_err-logic.ensures.refused)
+
+pub returns-clause-simulated : goal.returns-clause-simulated
+returns-clause-simulated g c =
+    let t = g.D.Device.table in
+    record {
+      can = record {
+        supported = none_unsupported t c.PINS.result c.as_slice-vectors.result.now c.args.file.now.vectors c.first_unsupported.result (c.PINS.ensures ∙ g.met.D.Device.pins_is) c.as_slice-vectors.ensures c.first_unsupported.ensures c.in_default.is;
+        no_loop = c.in_ok-logic.ensures.no_loop;
+      };
+      vectors = ap length c.as_slice-vectors.ensures ∙ sym (length-map c.args.file.now.vectors (chars_of t));
+      run = is_device_run t c.args.file.now.default_level c.args.file.now.vectors g.met.D.Device.sound.sizes.pins_high c.args.file.now.fuses c.in_ok-logic.logic.fuses c.in_ok-logic.logic.order c.PINS-2.result c.as_slice-vectors.result.now
+          c.in_ok-list.list.items c.from_vec.result c.in_ok-logic.ensures.fuses (c.PINS-2.ensures ∙ g.met.D.Device.pins_is) c.as_slice-vectors.ensures c.in_ok-logic.ensures.ordered c.in_ok-list.ensures c.from_vec.ensures;
+    }
+
+pub returns-clause-only : goal.returns-clause-only
+returns-clause-only g c other other_is =
+    let t = g.D.Device.table in
+    only_device_run t c.args.file.now.default_level c.args.file.now.vectors g.met.D.Device.sound.sizes.pins_high c.args.file.now.fuses c.in_ok-logic.ensures.one_run c.from_vec.result other
+    (is_device_run t c.args.file.now.default_level c.args.file.now.vectors g.met.D.Device.sound.sizes.pins_high c.args.file.now.fuses c.in_ok-logic.logic.fuses c.in_ok-logic.logic.order c.PINS-2.result c.as_slice-vectors.result.now
+    c.in_ok-list.list.items c.from_vec.result c.in_ok-logic.ensures.fuses (c.PINS-2.ensures ∙ g.met.D.Device.pins_is) c.as_slice-vectors.ensures c.in_ok-logic.ensures.ordered c.in_ok-list.ensures c.from_vec.ensures)
+    other_is

@@ -1,0 +1,11 @@
+use Rattle.std.proofs.Common.{◌≡◌, ◌+◌, ◌++◌, drop}
+use Rattle.pld_base.specs.Points.{levels_of}
+use Rattle.pld_machine.specs.Lookups.{logic_of}
+use Rattle.device_sim.specs.VectorRun.{vector_mismatches}
+use Rattle.device_sim.proofs.testing.test_pins.Given as goal
+
+abbrev pub invariant-loop-index : goal.invariant-loop-index
+invariant-loop-index g l =
+    let m = logic_of (g.L.Logic.meaning l.logic) in
+    l.initial.list.items ++ vector_mismatches m (levels_of l.at) l.vector 1 l.chars
+    ≡ l.list.items ++ vector_mismatches m (levels_of l.at) l.vector (l.index + 1) (drop l.index l.chars)

@@ -1,0 +1,4 @@
+pub mod Bench
+pub mod Simulated
+pub mod VectorRun
+pub mod VectorSteps

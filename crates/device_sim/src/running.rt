@@ -1,0 +1,71 @@
+//! The run that test vectors drive, over any logic.
+
+ghost use Rattle.std.specs.Prelude.{◌≡◌, ◌<◌, ◌≤◌, ◌^◌, length, IfOk, Some, None, option_map};
+ghost use Rattle.pld_base.specs.Bits.{bits};
+ghost use Rattle.pld_base.specs.Points.{levels_of};
+ghost use Rattle.pld_machine.specs.Order.{IsOrdered};
+ghost use Rattle.device_sim.specs.VectorRun.{outsides_of};
+ghost use Rattle.device_sim.specs.VectorSteps.{all_chars_at, last_after};
+ghost use Rattle.device_sim.specs.VectorSteps.{mismatches_after, point_after};
+
+use crate::chars::{chars_of, has_clock};
+use crate::outside::outside_of;
+use crate::report::Mismatch;
+use crate::testing::test_pins;
+use pld_base::{OutOfMemory, Point, Vector};
+use pld_machine::{Logic, rest, step};
+use std::alloc::Global;
+
+/// The next point: after a step, or at rest from power-up where there is none before.
+fn point_after<L: Logic>(logic: &L, before: Option<Point>, outside: u32) -> Point
+    requires { IsOrdered (L.meaning logic.now) }
+    ensures { levels_of result
+        ≡ point_after (L.meaning logic.now) (option_map levels_of before) (bits 32 outside) }
+{
+    match before {
+        None => rest(logic, outside, 0),
+        Some(at) => step(logic, &at, outside),
+    }
+}
+
+/// The point at which a vector is tested: with a clock, after two further steps.
+fn point_of<L: Logic>(logic: &L, before: Option<Point>, chars: &[u8], default: bool) -> Point
+    requires ordered { IsOrdered (L.meaning logic.now) }
+    requires few { length chars.now ≤ 31 }
+    ensures { last_after (L.meaning logic.now) (option_map levels_of before)
+        (outsides_of default chars.now) ≡ Some (levels_of result) }
+{
+    let outside = outside_of(chars, false, default);
+    let at = point_after(logic, before, outside);
+    if has_clock(chars) {
+        let turned = point_after(logic, Some(at), outside_of(chars, true, default));
+        point_after(logic, Some(turned), outside)
+    } else {
+        at
+    }
+}
+
+/// Where the vectors' run disagrees with them, in order of vectors and then pins.
+pub fn run_vectors<L: Logic>(
+    alloc: Global,
+    logic: &L,
+    pins: u8,
+    default: bool,
+    vectors: &[Vector],
+) -> Result<Vec<Mismatch>, OutOfMemory>
+    requires ordered { IsOrdered (L.meaning logic.now) }
+    requires pins { pins ≤ 24 }
+    requires few { length vectors.now < 2 ^ 32 }
+    ensures { IfOk result (λ list. list.items
+        ≡ mismatches_after (L.meaning logic.now) default 1 None (all_chars_at pins vectors.now)) }
+{
+    let mut found = Vec::new(alloc);
+    let mut before = None;
+    for (index, vector) in vectors.iter().enumerate() {
+        let chars = chars_of(vector, pins);
+        let at = point_of(logic, before, chars, default);
+        test_pins(&mut found, logic, &at, index as u32 + 1, chars)?;
+        before = Some(at);
+    }
+    Ok(found)
+}

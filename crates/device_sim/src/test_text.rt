@@ -1,0 +1,38 @@
+//! Vectors and mismatches as text, for the tests.
+
+use crate::report::Mismatch;
+use pld_base::Vector;
+use std::alloc::Global;
+use std::test::Fail;
+
+/// A vector with these characters from pin 1 on, and `N` past them.
+fn vector_of(line: &[u8]) -> Vector {
+    let mut chars = [b'N'; 24];
+    for (place, char) in chars.iter_mut().zip(line.iter()) {
+        *place = *char;
+    }
+    Vector { chars }
+}
+
+/// The vectors of a text, one a line.
+pub fn vectors_of(alloc: Global, text: &[u8]) -> Result<Vec<Vector>, Fail> {
+    let mut vectors = Vec::new(alloc);
+    for line in text.split(|byte| *byte == b'\n') {
+        if !line.is_empty() {
+            vectors.push(vector_of(line))?;
+        }
+    }
+    Ok(vectors)
+}
+
+/// The mismatches, one a line: vector, pin, the character, and what is found.
+pub fn lines_of(alloc: Global, list: &[Mismatch]) -> Result<String, Fail> {
+    let mut lines = String::new(alloc);
+    for it in list {
+        let expects = char::from(it.expects);
+        let finds = char::from(it.finds);
+        let line = format!(in alloc; "{} {} {expects} {finds};", it.vector, it.pin)?;
+        lines.push_str(line.as_str())?;
+    }
+    Ok(lines)
+}
