@@ -1,11 +1,11 @@
 -- A text has one fate: it is too long, no source, unfit, or compiled.
 use Rattle.std.proofs.Common.{ℕ, ◌≤◌, List, length, inl, inr, subst, arith}
 use Rattle.std.specs.List.{All}
-use Rattle.abel_parser.specs.declared.first_module.FirstEquation.{FirstEquation}
+use Rattle.first_parser.specs.declared.first_module.FirstEquation.{FirstEquation}
 use Rattle.pal16_device.specs.Pal16L8Table.{pal16l8}
 use Rattle.abel_cli.specs.Room.{room}
 use Rattle.abel_cli.specs.WrittenProducts.{written_list}
-use Rattle.abel_parser.specs.declared.first_module.FirstModule.{FirstModule}
+use Rattle.first_parser.specs.declared.first_module.FirstModule.{FirstModule}
 use Rattle.abel_cli.specs.Compiled.{HasTooMany}
 use Rattle.abel_cli.specs.Translation.{Compiles, HasNoRoom}
 use Rattle.abel_cli.specs.Statuses.{IsRefused, Fits}

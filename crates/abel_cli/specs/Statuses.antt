@@ -1,9 +1,9 @@
 -- What each status of a run means, and what it leaves (this project's rule).
 use Rattle.std.specs.Prelude.{◌≡◌, ℕ, ◌≤◌, ◌⊎◌, List, ◌++◌, length, Some, Ok, Err, codes, All}
 use Rattle.pld_base.specs.Outside.{Map, bytes_at, SameFiles, SameBut}
-use Rattle.abel_parser.specs.declared.first_module.FirstModule.{FirstModule}
-use Rattle.abel_parser.specs.declared.first_module.FirstEquation.{FirstEquation}
-use Rattle.abel_parser.specs.FirstSource.{IsFirstSource}
+use Rattle.first_parser.specs.declared.first_module.FirstModule.{FirstModule}
+use Rattle.first_parser.specs.declared.first_module.FirstEquation.{FirstEquation}
+use Rattle.first_parser.specs.FirstSource.{IsFirstSource}
 use Rattle.pld_device.specs.declared.jedec_fault.JedecFault.{JedecFault}
 use Rattle.pld_device.specs.FuseFile.{FuseFile, file_of}
 use Rattle.pld_device.specs.Table.{Table}
