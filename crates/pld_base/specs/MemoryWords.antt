@@ -1,5 +1,5 @@
 -- The words in which the memory types' contracts speak.
-use Rattle.std.specs.Prelude.{◌≡◌, ℕ, List, Option, Some, None, ◌⊎◌}
+use Rattle.std.specs.Prelude.{◌≡◌, ℕ, List}
 use Rattle.pld_base.specs.declared.memory_files.MemoryFiles.{MemoryFiles}
 use Rattle.pld_base.specs.declared.memory_sink.MemorySink.{MemorySink}
 use Rattle.pld_base.specs.declared.sure_files.SureFiles.{SureFiles}

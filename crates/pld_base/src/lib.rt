@@ -1,6 +1,7 @@
 //! What every crate of the project speaks of: files and sinks, device names, texts, places and points.
 #![tactic(auto)]
 
+mod boxed;
 mod device_name;
 mod files;
 mod host;
@@ -16,7 +17,10 @@ mod sink;
 mod sure_files;
 #[cfg(test)]
 mod tests;
+#[cfg(test)]
+mod tree_tests;
 
+pub use boxed::Boxed;
 pub use device_name::DeviceName;
 pub use files::{Files, ReadFault, WriteFault};
 pub use host::{HostFiles, HostSink};

@@ -12,8 +12,11 @@ pub struct ListOf<T: Drop> {
 
 impl<T: Drop> Model for ListOf<T> {
     ghost use Rattle.std.specs.Prelude.{List};
+    ghost use Rattle.std.specs.Coded.{coded_list};
 
     ghost Value = { List T };
+
+    ghost coded = { coded_list T.code };
 
     ghost view = { λ l. l.entries.items };
 }

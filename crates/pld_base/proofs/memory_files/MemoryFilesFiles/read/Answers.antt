@@ -1,5 +1,5 @@
 -- A read answers `Failed` exactly where its call is on the list or the name is absent.
-use Rattle.std.proofs.Common.{◌≡◌, ◌⊎◌, inl, inr, ap, subst, sym}
+use Rattle.std.proofs.Common.{◌≡◌, inl, inr, ap, subst, sym}
 use Rattle.std.specs.Prelude.{None}
 use Rattle.std.proofs.lemmas.Bool.{iff_false}
 use Rattle.pld_base.specs.Memory.{bytes_in}
