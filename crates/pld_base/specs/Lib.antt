@@ -7,3 +7,4 @@ pub mod Memory
 pub mod MemoryWords
 pub mod Outside
 pub mod Points
+pub mod Texts
