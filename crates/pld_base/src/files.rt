@@ -1,6 +1,6 @@
 //! Files by their names.
 
-ghost use Rattle.std.specs.Prelude.{◌≡◌, ℕ, ◌≤◌, ◌<◌, List, length, Option, IfOk, OnOk, IsErrOf};
+ghost use Rattle.std.specs.Prelude.{◌≡◌, ℕ, ◌≤◌, ◌<◌, ◌⊎◌, List, length, Option, IfOk, OnOk, IsErrOf};
 ghost use Rattle.pld_base.specs.Causes.{Rose};
 ghost use Rattle.pld_base.specs.Outside.{bytes_at, SameFiles, SameBut};
 
@@ -54,6 +54,7 @@ pub trait Files {
             → limit < length (bytes_at (file self.old) name.now) }
         ensures failed { IsErrOf result ReadFault.Failed
             → Rose (faults self.old) (faults self.new) }
+        ensures still { IsErrOf result ReadFault.Failed ⊎ (faults self.new ≡ faults self.old) }
         ensures same { Tells → SameFiles (file self.old) (file self.new) }
         ensures later { faults self.old ≤ faults self.new }
         ensures no_write { write_faults self.new ≡ write_faults self.old };
@@ -65,6 +66,9 @@ pub trait Files {
             → Rose (faults self.old) (faults self.new) }
         ensures failed_write { IsErrOf result WriteFault.Failed
             → Rose (write_faults self.old) (write_faults self.new) }
+        ensures still { IsErrOf result WriteFault.Failed
+            ⊎ ((faults self.new ≡ faults self.old)
+            × (write_faults self.new ≡ write_faults self.old)) }
         ensures memory { Tells → IsErrOf result WriteFault.OutOfMemory
             → SameFiles (file self.old) (file self.new) }
         ensures others { Tells → SameBut name.now (file self.old) (file self.new) }

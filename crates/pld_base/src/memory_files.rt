@@ -97,7 +97,9 @@ impl MemoryFiles {
             ↔ (limit < length (bytes_at (held self.old) name.now)) }
         ensures absent { IsErrOf result ReadFault.Failed ↔ (bytes_in self.old.files name.now
             ≡ None) }
-        ensures failed { IsErrOf result ReadFault.Failed → Rose self.old.faults self.new.faults }
+        ensures failed { IsErrOf result ReadFault.Failed
+            → self.new.faults ≡ min (self.old.faults + 1) (2 ^ 64 - 1) }
+        ensures still { IsErrOf result ReadFault.Failed ⊎ (self.new.faults ≡ self.old.faults) }
         ensures later { self.old.faults ≤ self.new.faults }
         ensures rest { self.new ≡ record self.old { faults = self.new.faults } }
     {
@@ -140,7 +142,9 @@ impl Files for MemoryFiles {
         ensures too_long_where { limit < length (bytes_at (held self.old) name.now)
             → IsErrOf result ReadFault.TooLong ⊎ FailsNow self.old }
         ensures failed { IsErrOf result ReadFault.Failed
-            → Rose (faults_of self.old) (faults_of self.new) }
+            → faults_of self.new ≡ min (faults_of self.old + 1) (2 ^ 64 - 1) }
+        ensures still { IsErrOf result ReadFault.Failed
+            ⊎ (faults_of self.new ≡ faults_of self.old) }
         ensures same { SameFiles (held self.old) (held self.new) }
         ensures failing { failing_calls self.new ≡ failing_calls self.old }
         ensures calls { calls_made self.new ≡ min (calls_made self.old + 1) (2 ^ 64 - 1) }
@@ -159,9 +163,12 @@ impl Files for MemoryFiles {
         ensures written { OnOk result (held self.new name.now ≡ Some bytes.now) }
         ensures failed_exactly { IsErrOf result WriteFault.Failed ↔ FailsNow self.old }
         ensures failed { IsErrOf result WriteFault.Failed
-            → Rose (faults_of self.old) (faults_of self.new) }
+            → faults_of self.new ≡ min (faults_of self.old + 1) (2 ^ 64 - 1) }
         ensures failed_write { IsErrOf result WriteFault.Failed
-            → Rose (write_faults_of self.old) (write_faults_of self.new) }
+            → write_faults_of self.new ≡ min (write_faults_of self.old + 1) (2 ^ 64 - 1) }
+        ensures still { IsErrOf result WriteFault.Failed
+            ⊎ ((faults_of self.new ≡ faults_of self.old)
+            × (write_faults_of self.new ≡ write_faults_of self.old)) }
         ensures memory { OnErr result (SameFiles (held self.old) (held self.new)) }
         ensures others { SameBut name.now (held self.old) (held self.new) }
         ensures failing { failing_calls self.new ≡ failing_calls self.old }

@@ -1,6 +1,6 @@
 //! A sink in memory.
 
-ghost use Rattle.std.specs.Prelude.{⊤, ◌≡◌, ℕ, ◌≤◌, ◌<◌, ◌^◌, ◌-◌, ◌+◌, ◌↔◌, List, [], ◌∷◌, ◌++◌, min, OnOk, OnErr, IsErrOf, IsTrue};
+ghost use Rattle.std.specs.Prelude.{⊤, ◌≡◌, ℕ, ◌≤◌, ◌<◌, ◌^◌, ◌-◌, ◌+◌, ◌↔◌, ◌⊎◌, List, [], ◌∷◌, ◌++◌, min, OnOk, OnErr, IsErrOf, IsTrue};
 ghost use Rattle.pld_base.specs.Causes.{Rose, Begins};
 ghost use Rattle.pld_base.specs.Memory.{FailsNext};
 ghost use Rattle.pld_base.specs.MemoryWords.{taken_by, RefusesNow, refused_calls, puts_made, sink_faults};
@@ -78,7 +78,9 @@ impl Sink for MemorySink {
         ensures whole { OnOk result (taken_by self.new ≡ taken_by self.old ++ bytes.now) }
         ensures failed_exactly { IsErrOf result SinkFault.Failed ↔ RefusesNow self.old }
         ensures failed { IsErrOf result SinkFault.Failed
-            → Rose (sink_faults self.old) (sink_faults self.new) }
+            → sink_faults self.new ≡ min (sink_faults self.old + 1) (2 ^ 64 - 1) }
+        ensures still { IsErrOf result SinkFault.Failed
+            ⊎ (sink_faults self.new ≡ sink_faults self.old) }
         ensures part { (front : List ℕ) × Begins bytes.now front
             × (taken_by self.new ≡ taken_by self.old ++ front) }
         ensures none { OnErr result (taken_by self.new ≡ taken_by self.old) }

@@ -1,6 +1,6 @@
 //! A sink for bytes, such as a report.
 
-ghost use Rattle.std.specs.Prelude.{◌≡◌, ℕ, ◌≤◌, List, ◌++◌, OnOk, IsErrOf};
+ghost use Rattle.std.specs.Prelude.{◌≡◌, ℕ, ◌≤◌, ◌⊎◌, List, ◌++◌, OnOk, IsErrOf};
 ghost use Rattle.pld_base.specs.Causes.{Rose, Begins};
 
 use thiserror::Error;
@@ -32,6 +32,7 @@ pub trait Sink {
         ensures whole { Tells → OnOk result (taken self.new ≡ taken self.old ++ bytes.now) }
         ensures failed { IsErrOf result SinkFault.Failed
             → Rose (faults self.old) (faults self.new) }
+        ensures still { IsErrOf result SinkFault.Failed ⊎ (faults self.new ≡ faults self.old) }
         ensures part { Tells → (front : List ℕ) × Begins bytes.now front
             × (taken self.new ≡ taken self.old ++ front) }
         ensures later { faults self.old ≤ faults self.new };
