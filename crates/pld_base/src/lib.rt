@@ -2,9 +2,11 @@
 #![tactic(auto)]
 
 mod boxed;
+mod bytes;
 mod device_name;
 mod files;
-mod host;
+mod host_files;
+mod host_sink;
 mod levels;
 mod list_of;
 mod memory_files;
@@ -23,7 +25,8 @@ mod tree_tests;
 pub use boxed::Boxed;
 pub use device_name::DeviceName;
 pub use files::{Files, ReadFault, WriteFault};
-pub use host::{HostFiles, HostSink};
+pub use host_files::HostFiles;
+pub use host_sink::HostSink;
 pub use levels::{level_at, with_level, with_value};
 pub use list_of::ListOf;
 pub use memory_files::MemoryFiles;

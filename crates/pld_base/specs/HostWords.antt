@@ -1,0 +1,19 @@
+-- The words in which the contracts of the real files and standard output speak.
+use Rattle.std.specs.Prelude.{ℕ}
+use Rattle.pld_base.specs.declared.host_files.HostFiles.{HostFiles}
+use Rattle.pld_base.specs.declared.host_sink.HostSink.{HostSink}
+
+-- the writer behind a sink
+abbrev pub writer_of : {W : Type 0} → HostSink W → W
+writer_of s = s.out
+
+-- how many of its pieces failed
+abbrev pub put_faults : {W : Type 0} → HostSink W → ℕ
+put_faults s = s.faults
+
+-- how many reads and writes of the real files failed, and how many writes did
+abbrev pub host_faults : {R File Dir : Type 0} → HostFiles R File Dir → ℕ
+host_faults h = h.faults
+
+abbrev pub host_write_faults : {R File Dir : Type 0} → HostFiles R File Dir → ℕ
+host_write_faults h = h.write_faults

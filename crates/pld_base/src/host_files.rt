@@ -1,0 +1,67 @@
+//! The real files. Nothing is told of what they hold.
+
+ghost use Rattle.std.specs.Prelude.{◌≡◌, ℕ, ◌≤◌, ◌⊎◌, List, [], Option, None, IfOk, IsErrOf, OnErr};
+ghost use Rattle.pld_base.specs.HostWords.{host_faults, host_write_faults};
+
+use crate::bytes::{read_all, write_all};
+use crate::files::{Files, ReadFault, WriteFault};
+use std::alloc::Global;
+use std::{fs, rt};
+
+/// The real files. The counts rise at each failure.
+#[derive(Drop)]
+pub struct HostFiles<R: rt::Files + Drop> {
+    host: R,
+    alloc: Global,
+    faults: u64,
+    write_faults: u64,
+}
+
+impl<R: rt::Files + Drop> HostFiles<R> {
+    /// The files of a host, none of them asked for yet. Takes no memory.
+    pub fn new(alloc: Global, host: R) -> HostFiles<R>
+        ensures faults { host_faults result ≡ 0 }
+        ensures write_faults { host_write_faults result ≡ 0 }
+    {
+        HostFiles {
+            host,
+            alloc,
+            faults: 0,
+            write_faults: 0,
+        }
+    }
+}
+
+impl<R: rt::Files + Drop> Files for HostFiles<R> {
+    ghost Tells = { ⊥ };
+
+    ghost file = { λ _ _. None };
+
+    ghost faults = { λ h. h.faults };
+
+    ghost write_faults = { λ h. h.write_faults };
+
+    fn read(&mut self, alloc: Global, name: &str, limit: usize) -> Result<Vec<u8>, ReadFault> {
+        let result = match fs::open(&self.host, name) {
+            Ok(mut file) => read_all(&mut file, alloc, limit),
+            Err(_) => Err(ReadFault::Failed),
+        };
+        if matches!(&result, Err(ReadFault::Failed)) {
+            self.faults = self.faults.saturating_add(1);
+        }
+        result
+    }
+
+    fn write(&mut self, name: &str, bytes: &[u8]) -> Result<(), WriteFault> {
+        let written = match fs::create(&self.host, name) {
+            Ok(mut file) => write_all(&mut file, bytes),
+            Err(_) => false,
+        };
+        if written {
+            return Ok(());
+        }
+        self.faults = self.faults.saturating_add(1);
+        self.write_faults = self.write_faults.saturating_add(1);
+        Err(WriteFault::Failed)
+    }
+}
