@@ -2,6 +2,7 @@ pub mod formers
 pub mod Bits
 pub mod Causes
 pub mod DeviceNames
+pub mod Digits
 pub mod HostWords
 pub mod Logic
 pub mod Memory

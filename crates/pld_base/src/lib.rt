@@ -4,6 +4,7 @@
 mod boxed;
 mod bytes;
 mod device_name;
+mod digits;
 mod files;
 mod host_files;
 mod host_sink;
@@ -24,6 +25,7 @@ mod tree_tests;
 
 pub use boxed::Boxed;
 pub use device_name::DeviceName;
+pub use digits::{put_decimal, put_four_digits, put_hex};
 pub use files::{Files, ReadFault, WriteFault};
 pub use host_files::HostFiles;
 pub use host_sink::HostSink;

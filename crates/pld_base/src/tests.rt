@@ -2,7 +2,8 @@
 
 use crate::{
     DeviceName, Files, HostFiles, HostSink, ListOf, MemoryFiles, MemorySink, NameText, Point,
-    ReadFault, Sink, SinkFault, SureFiles, WriteFault, level_at, with_level, with_value,
+    ReadFault, Sink, SinkFault, SureFiles, WriteFault, level_at, put_decimal, put_four_digits,
+    put_hex, with_level, with_value,
 };
 use std::test::Fail;
 
@@ -73,10 +74,8 @@ fn the_real_files_and_standard_output_answer(rt: HostRuntime) -> Result<(), Fail
 }
 
 #[test]
-fn texts_lists_and_levels_are_what_they_were_made_of(rt: HostRuntime) -> Result<(), Fail> {
+fn lists_and_levels_are_what_they_were_made_of(rt: HostRuntime) -> Result<(), Fail> {
     let alloc = rt.alloc();
-    let text = NameText::new(alloc, b"y1").map_err(|_| "memory")?;
-    assert_eq!(rt; text.bytes(), b"y1".as_slice());
     let list = ListOf::from_vec(vec![in alloc; 3u8, 1]?);
     assert_eq!(rt; list.as_slice(), [3u8, 1].as_slice());
     assert_eq!(rt; list.into_vec().as_slice(), [3u8, 1].as_slice());
@@ -89,5 +88,32 @@ fn texts_lists_and_levels_are_what_they_were_made_of(rt: HostRuntime) -> Result<
     assert_eq!(rt; point.pins, 0x8_0000);
     assert_eq!(rt; point.nodes >> 127, 1);
     assert!(rt; level_at(point.pins, 19) && !level_at(point.pins, 18));
+    Ok(())
+}
+
+/// Texts on both sides of the length that lies within a text, and none.
+const TEXTS: [&[u8]; 4] = [b"", b"y1", b"fourteen_bytes", b"more_than_fourteen_bytes"];
+
+#[test]
+fn a_text_is_its_bytes_and_its_copy_too(rt: HostRuntime) -> Result<(), Fail> {
+    let alloc = rt.alloc();
+    for bytes in TEXTS {
+        let text = NameText::new(alloc, bytes).map_err(|_| "memory")?;
+        let copy = text.copy(alloc).map_err(|_| "memory")?;
+        assert_eq!(rt; text.bytes(), bytes);
+        assert_eq!(rt; copy.bytes(), bytes);
+    }
+    assert_eq!(rt; size_of::<NameText>(), 16);
+    Ok(())
+}
+
+#[test]
+fn numbers_are_written_as_digits(rt: HostRuntime) -> Result<(), Fail> {
+    let mut text = Vec::new(rt.alloc());
+    put_hex(&mut text, 0xBDF).map_err(|_| "memory")?;
+    put_decimal(rt.alloc(), &mut text, 93).map_err(|_| "memory")?;
+    put_decimal(rt.alloc(), &mut text, 0).map_err(|_| "memory")?;
+    put_four_digits(&mut text, 32).map_err(|_| "memory")?;
+    assert_eq!(rt; text.as_slice(), b"0BDF9300032".as_slice());
     Ok(())
 }
