@@ -3,8 +3,9 @@
 ghost use Rattle.std.specs.Prelude.{◌≡◌, ℕ, ◌≤◌, ◌⊎◌, List, [], Option, None, IfOk, IsErrOf, OnErr};
 ghost use Rattle.pld_base.specs.HostWords.{host_faults, host_write_faults};
 
-use crate::bytes::{read_all, write_all};
+use crate::bytes::read_all;
 use crate::files::{Files, ReadFault, WriteFault};
+use crate::replacing::replace;
 use std::alloc::Global;
 use std::{fs, rt};
 
@@ -52,16 +53,13 @@ impl<R: rt::Files + Drop> Files for HostFiles<R> {
         result
     }
 
+    /// A file that is there is replaced in one piece. `OutOfMemory` comes before a file is opened.
     fn write(&mut self, name: &str, bytes: &[u8]) -> Result<(), WriteFault> {
-        let written = match fs::create(&self.host, name) {
-            Ok(mut file) => write_all(&mut file, bytes),
-            Err(_) => false,
-        };
-        if written {
-            return Ok(());
+        let result = replace(&self.host, self.alloc, name, bytes);
+        if matches!(&result, Err(WriteFault::Failed)) {
+            self.faults = self.faults.saturating_add(1);
+            self.write_faults = self.write_faults.saturating_add(1);
         }
-        self.faults = self.faults.saturating_add(1);
-        self.write_faults = self.write_faults.saturating_add(1);
-        Err(WriteFault::Failed)
+        result
     }
 }

@@ -8,6 +8,8 @@ mod digits;
 mod files;
 mod host_files;
 mod host_sink;
+#[cfg(test)]
+mod host_tests;
 mod levels;
 mod list_of;
 mod memory_files;
@@ -16,6 +18,7 @@ mod name_text;
 mod out_of_memory;
 mod place;
 mod point;
+mod replacing;
 mod sink;
 mod sure_files;
 #[cfg(test)]

@@ -1,9 +1,9 @@
-//! That calls succeed with ample memory, and that the real files and standard output answer.
+//! That calls succeed with ample memory.
 
 use crate::{
-    DeviceName, Files, HostFiles, HostSink, ListOf, MemoryFiles, MemorySink, NameText, Point,
-    ReadFault, Sink, SinkFault, SureFiles, WriteFault, level_at, put_decimal, put_four_digits,
-    put_hex, with_level, with_value,
+    DeviceName, Files, ListOf, MemoryFiles, MemorySink, NameText, Point, ReadFault, Sink,
+    SinkFault, SureFiles, WriteFault, level_at, put_decimal, put_four_digits, put_hex, with_level,
+    with_value,
 };
 use std::test::Fail;
 
@@ -55,21 +55,6 @@ fn a_memory_sink_appends(rt: HostRuntime) -> Result<(), Fail> {
     assert!(rt; sink.put(b"lost") == Err(SinkFault::Failed));
     assert!(rt; sink.put(b"two") == Ok(()));
     assert_eq!(rt; sink.bytes(), b"one two".as_slice());
-    Ok(())
-}
-
-#[test]
-fn the_real_files_and_standard_output_answer(rt: HostRuntime) -> Result<(), Fail> {
-    let alloc = rt.alloc();
-    let mut files = HostFiles::new(alloc, &rt);
-    assert!(rt; files.write("abel_host_trial", b"four") == Ok(()));
-    let back = files.read(alloc, "abel_host_trial", 4).map_err(|_| "read")?;
-    assert_eq!(rt; back.as_slice(), b"four".as_slice());
-    assert!(rt; files.read(alloc, "abel_host_trial", 3) == Err(ReadFault::TooLong));
-    assert!(rt; files.read(alloc, "no/such/file", 4) == Err(ReadFault::Failed));
-    assert!(rt; files.write("no/such/file", b"four") == Err(WriteFault::Failed));
-    let mut out = HostSink::new(alloc, rt.stdout());
-    assert!(rt; out.put(b"taken\n") == Ok(()));
     Ok(())
 }
 
