@@ -3,10 +3,10 @@ pub mod Bits
 pub mod Causes
 pub mod DeviceNames
 pub mod Digits
-pub mod HostWords
+pub mod HostState
 pub mod Logic
 pub mod Memory
-pub mod MemoryWords
+pub mod MemoryState
 pub mod Outside
 pub mod Points
 pub mod Texts

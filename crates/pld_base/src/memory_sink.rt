@@ -3,7 +3,7 @@
 ghost use Rattle.std.specs.Prelude.{⊤, ◌≡◌, ℕ, ◌≤◌, ◌<◌, ◌^◌, ◌-◌, ◌+◌, ◌↔◌, ◌⊎◌, List, [], ◌∷◌, ◌++◌, min, OnOk, OnErr, IsErrOf, IsTrue};
 ghost use Rattle.pld_base.specs.Causes.{Rose, Begins};
 ghost use Rattle.pld_base.specs.Memory.{FailsNext};
-ghost use Rattle.pld_base.specs.MemoryWords.{taken_by, RefusesNow, refused_calls, puts_made, sink_faults};
+ghost use Rattle.pld_base.specs.MemoryState.{taken_by, RefusesNow, refused_calls, puts_made, sink_faults};
 
 use crate::out_of_memory::OutOfMemory;
 use crate::sink::{Sink, SinkFault};

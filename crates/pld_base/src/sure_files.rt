@@ -2,7 +2,7 @@
 
 ghost use Rattle.std.specs.Prelude.{⊤, ◌≡◌, ℕ, ◌≤◌, ◌<◌, ◌↔◌, List, length, Option, Some, None, IfOk, OnOk, OnErr, IsErrOf, option_copied};
 ghost use Rattle.pld_base.specs.Memory.{bytes_in};
-ghost use Rattle.pld_base.specs.MemoryWords.{sure_held};
+ghost use Rattle.pld_base.specs.MemoryState.{sure_held};
 ghost use Rattle.pld_base.specs.Outside.{bytes_at, SameFiles, SameBut};
 
 use crate::files::{Files, ReadFault, WriteFault};

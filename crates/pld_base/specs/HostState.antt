@@ -1,4 +1,4 @@
--- The words in which the contracts of the real files and standard output speak.
+-- What the contracts of the real files and standard output speak of: their counts, and a sink's writer.
 use Rattle.std.specs.Prelude.{ℕ}
 use Rattle.pld_base.specs.declared.host_files.HostFiles.{HostFiles}
 use Rattle.pld_base.specs.declared.host_sink.HostSink.{HostSink}

@@ -1,4 +1,4 @@
--- The words in which the memory types' contracts speak.
+-- What the contracts of the memory types speak of: what they hold, and their counts.
 use Rattle.std.specs.Prelude.{◌≡◌, ℕ, List}
 use Rattle.pld_base.specs.declared.memory_files.MemoryFiles.{MemoryFiles}
 use Rattle.pld_base.specs.declared.memory_sink.MemorySink.{MemorySink}
