@@ -125,18 +125,18 @@ impl<R: rt::Files + Drop> rt::Files for FullDisk<R> {
 #[test]
 fn the_real_files_and_standard_output_answer(rt: HostRuntime) -> Result<(), Fail> {
     let alloc = rt.alloc();
-    let _ = fs::remove_dir_all(&rt, "abel_host_trial");
-    fs::create_dir(&rt, "abel_host_trial")?;
+    let _ = fs::remove_dir_all(&rt, "abel_host_files");
+    fs::create_dir(&rt, "abel_host_files")?;
     let mut files = HostFiles::new(alloc, &rt);
-    assert!(rt; files.write("abel_host_trial/y1.jed", b"four") == Ok(()));
+    assert!(rt; files.write("abel_host_files/y1.jed", b"four") == Ok(()));
     let back = files
-        .read(alloc, "abel_host_trial/y1.jed", 4)
+        .read(alloc, "abel_host_files/y1.jed", 4)
         .map_err(|_| "read")?;
     assert_eq!(rt; back.as_slice(), b"four".as_slice());
-    assert!(rt; files.read(alloc, "abel_host_trial/y1.jed", 3) == Err(ReadFault::TooLong));
-    assert!(rt; files.read(alloc, "abel_host_trial/none", 4) == Err(ReadFault::Failed));
+    assert!(rt; files.read(alloc, "abel_host_files/y1.jed", 3) == Err(ReadFault::TooLong));
+    assert!(rt; files.read(alloc, "abel_host_files/none", 4) == Err(ReadFault::Failed));
     assert!(rt;
-        files.write("abel_host_trial", b"four") == Err(WriteFault::Failed),
+        files.write("abel_host_files", b"four") == Err(WriteFault::Failed),
         "a folder"
     );
     assert!(rt; files.write("no/such/file", b"four") == Err(WriteFault::Failed));
@@ -146,46 +146,40 @@ fn the_real_files_and_standard_output_answer(rt: HostRuntime) -> Result<(), Fail
     );
     let mut out = HostSink::new(alloc, rt.stdout());
     assert!(rt; out.put(b"taken\n") == Ok(()));
-    fs::remove_dir_all(&rt, "abel_host_trial")?;
+    fs::remove_dir_all(&rt, "abel_host_files")?;
     Ok(())
 }
 
 #[test]
 fn a_file_is_replaced_in_one_piece_or_stands(rt: HostRuntime) -> Result<(), Fail> {
     let alloc = rt.alloc();
-    let _ = fs::remove_dir_all(&rt, "abel_host_trial_replaced");
-    fs::create_dir(&rt, "abel_host_trial_replaced")?;
+    let _ = fs::remove_dir_all(&rt, "abel_host_replaced");
+    fs::create_dir(&rt, "abel_host_replaced")?;
     let mut files = HostFiles::new(alloc, &rt);
-    assert!(rt; files.write("abel_host_trial_replaced/old", b"old bytes") == Ok(()));
-    fs::set_permissions(
-        &rt,
-        "abel_host_trial_replaced/old",
-        Permissions::from_mode(0o640),
-    )?;
-    rt::Files::symlink(&rt, "old", "abel_host_trial_replaced/link")?;
+    assert!(rt; files.write("abel_host_replaced/old", b"old bytes") == Ok(()));
+    fs::set_permissions(&rt, "abel_host_replaced/old", Permissions::from_mode(0o640))?;
+    rt::Files::symlink(&rt, "old", "abel_host_replaced/link")?;
     let mut full = HostFiles::new(alloc, FullDisk { real: &rt });
-    assert!(rt;
-        full.write("abel_host_trial_replaced/link", b"new bytes") == Err(WriteFault::Failed)
-    );
+    assert!(rt; full.write("abel_host_replaced/link", b"new bytes") == Err(WriteFault::Failed));
     let left = files
-        .read(alloc, "abel_host_trial_replaced/link", 9)
+        .read(alloc, "abel_host_replaced/link", 9)
         .map_err(|_| "read")?;
     assert_eq!(rt; left.as_slice(), b"old bytes".as_slice());
     assert!(rt;
-        !fs::exists(&rt, "abel_host_trial_replaced/old.new0")?,
+        !fs::exists(&rt, "abel_host_replaced/old.new0")?,
         "the new file is removed"
     );
-    assert!(rt; files.write("abel_host_trial_replaced/link", b"new bytes") == Ok(()));
+    assert!(rt; files.write("abel_host_replaced/link", b"new bytes") == Ok(()));
     let left = files
-        .read(alloc, "abel_host_trial_replaced/old", 9)
+        .read(alloc, "abel_host_replaced/old", 9)
         .map_err(|_| "read")?;
     assert_eq!(rt; left.as_slice(), b"new bytes".as_slice());
-    let link = fs::symlink_metadata(&rt, "abel_host_trial_replaced/link")?;
+    let link = fs::symlink_metadata(&rt, "abel_host_replaced/link")?;
     assert!(rt; link.is_symlink(), "the link stays one");
-    let mode = fs::metadata(&rt, "abel_host_trial_replaced/old")?
+    let mode = fs::metadata(&rt, "abel_host_replaced/old")?
         .permissions()
         .mode();
     assert_eq!(rt; mode % 0o1000, 0o640);
-    fs::remove_dir_all(&rt, "abel_host_trial_replaced")?;
+    fs::remove_dir_all(&rt, "abel_host_replaced")?;
     Ok(())
 }
