@@ -2,7 +2,7 @@
 use Rattle.std.proofs.Common.{◌≡◌, ℕ, not, List, [], ◌∷◌, ◌++◌, filter, Option, Some, None, option_map, inl, inr, refl, sym, ◌∙◌, ap, append_assoc}
 use Rattle.std.specs.List.{concat, slice_split, onto_first}
 use Rattle.std.proofs.lemmas.Bool.{cases_Bool}
-use Rattle.pld_device.specs.Fields.{is_blank, is_empty, words, each_of, level_of}
+use Rattle.jedec_file.specs.Fields.{is_blank, has_bytes, words, each_of, level_of}
 
 -- ---- the bytes of all words
 
@@ -10,7 +10,7 @@ use Rattle.pld_device.specs.Fields.{is_blank, is_empty, words, each_of, level_of
 abbrev pub solid : List ℕ → List ℕ
 solid = filter (λ b. not (is_blank b))
 
-concat_real : (parts : List (List ℕ)) → concat (filter (λ word. not (is_empty word)) parts) ≡ concat parts
+concat_real : (parts : List (List ℕ)) → concat (filter has_bytes parts) ≡ concat parts
 concat_real [] = refl
 concat_real ([] ∷ parts) = concat_real parts
 concat_real ((b ∷ bs) ∷ parts) = ap (λ rest. (b ∷ bs) ++ rest) (concat_real parts)

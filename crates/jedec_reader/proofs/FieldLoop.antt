@@ -7,12 +7,12 @@ use Rattle.std.proofs.lemmas.Bool.Decides.{nat_tests}
 use Rattle.std.proofs.lemmas.List.{append-nil, length-take}
 use Rattle.std.proofs.lemmas.List.Splits.{slice_split_first, slice_split_none}
 use Rattle.std.proofs.lemmas.List.Sums.{fails_before_first}
-use Rattle.pld_device.specs.declared.field.Field.{Field}
-use Rattle.pld_device.specs.declared.jedec_fault.JedecFault.{JedecFault}
-use Rattle.pld_device.specs.declared.jedec_fault.JedecFault.TheVariants as fault
-use Rattle.pld_device.specs.Fields.{trimmed}
-use Rattle.pld_device.specs.FieldLists.{pieces, field_at, no_field, fields_from, behind_design}
-use Rattle.pld_device.specs.Refusals.{Read, Refuses, ◌>>=◌}
+use Rattle.jedec_file.specs.declared.field.Field.{Field}
+use Rattle.jedec_file.specs.declared.jedec_fault.JedecFault.{JedecFault}
+use Rattle.jedec_file.specs.declared.jedec_fault.JedecFault.TheVariants as fault
+use Rattle.jedec_file.specs.Fields.{trimmed}
+use Rattle.jedec_file.specs.FieldLists.{pieces, field_at, no_field, fields_from, behind_design}
+use Rattle.jedec_file.specs.Refusals.{Read, Refuses, ◌>>=◌}
 use Rattle.pld_device.specs.Table.{Table}
 
 -- ---- pieces
@@ -70,10 +70,6 @@ design_cut t at k text low cut =
 
 abbrev pub behind_fields : List Field → Read (List Field) → Read (List Field)
 behind_fields front said = said >>= λ fields. Ok (front ++ fields)
-
-pub behind_no_fields : (said : Read (List Field)) → behind_fields [] said ≡ said
-behind_no_fields (Ok fields) = refl
-behind_no_fields (Err e) = refl
 
 behind_more : (front : List Field) (field : Field) (said : Read (List Field)) → behind_fields front (said >>= λ fields. Ok (field ∷ fields)) ≡ behind_fields (front ++ field ∷ []) said
 behind_more front field (Ok fields) = ap (λ (all : List Field). Ok all) (sym (append_assoc front (field ∷ []) fields))

@@ -1,11 +1,11 @@
 -- A file is read in two halves: its fields, and what they say together.
 use Rattle.std.proofs.Common.{◌≡◌, ℕ, ◌∙◌, List, Ok, Err, refl, sym}
-use Rattle.pld_device.specs.declared.field.Field.{Field}
-use Rattle.pld_device.specs.declared.jedec_fault.JedecFault.{JedecFault}
-use Rattle.pld_device.specs.FieldLists.{fields_of}
-use Rattle.pld_device.specs.Frame.{frame_of}
-use Rattle.pld_device.specs.FuseFile.{contents_of, file_of}
-use Rattle.pld_device.specs.Refusals.{Read, ◌>>=◌}
+use Rattle.jedec_file.specs.declared.field.Field.{Field}
+use Rattle.jedec_file.specs.declared.jedec_fault.JedecFault.{JedecFault}
+use Rattle.jedec_file.specs.FieldLists.{fields_of}
+use Rattle.jedec_file.specs.Frame.{frame_of}
+use Rattle.jedec_file.specs.FuseFile.{contents_of, file_of}
+use Rattle.jedec_file.specs.Refusals.{Read, ◌>>=◌}
 use Rattle.pld_device.specs.Table.{Table}
 use Rattle.jedec_reader.specs.FieldsIn.{fields_in}
 

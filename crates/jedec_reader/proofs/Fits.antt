@@ -5,14 +5,14 @@ use Rattle.std.specs.List.{All, list_all, concat}
 use Rattle.std.proofs.lemmas.Bool.{cases_Bool}
 use Rattle.std.proofs.lemmas.Bool.Decides.{nat_tests}
 use Rattle.std.proofs.lemmas.List.Elements.{All-cons}
-use Rattle.pld_device.specs.declared.field.Field.{Field}
-use Rattle.pld_device.specs.declared.field.Field.TheVariants as field
-use Rattle.pld_device.specs.declared.jedec_fault.JedecFault.{JedecFault}
-use Rattle.pld_device.specs.declared.jedec_fault.JedecFault.TheVariants as fault
-use Rattle.pld_device.specs.Fields.{trimmed, words, only, short_number, number, one_level, level_of, each_of, counts, levels_from, levels_field, is_each_pin, is_test_char, vector_field, is_passed_over, is_field_letter, field_of}
-use Rattle.pld_device.specs.FieldLists.{field_at, no_field, fields_from, behind_design}
-use Rattle.pld_device.specs.Frame.{four_hex_value}
-use Rattle.pld_device.specs.Refusals.{Read, Gives, ◌>>=◌, some_or}
+use Rattle.jedec_file.specs.declared.field.Field.{Field}
+use Rattle.jedec_file.specs.declared.field.Field.TheVariants as field
+use Rattle.jedec_file.specs.declared.jedec_fault.JedecFault.{JedecFault}
+use Rattle.jedec_file.specs.declared.jedec_fault.JedecFault.TheVariants as fault
+use Rattle.jedec_file.specs.Fields.{trimmed, words, only, short_number, number, one_level, level_of, each_of, counts, levels_from, levels_field, is_each_pin, is_test_char, vector_field, is_passed_over, is_field_letter, field_of}
+use Rattle.jedec_file.specs.FieldLists.{field_at, no_field, fields_from, behind_design}
+use Rattle.jedec_file.specs.Frame.{four_hex_value}
+use Rattle.jedec_file.specs.Refusals.{Read, Gives, ◌>>=◌, some_or}
 use Rattle.pld_device.specs.Table.{Table}
 use Rattle.jedec_reader.specs.FieldFits.{FieldFits}
 

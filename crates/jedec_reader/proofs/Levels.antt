@@ -5,9 +5,9 @@ use Rattle.std.specs.Option.{option_or}
 use Rattle.std.proofs.lemmas.List.{get_or-replicate, length-replicate}
 use Rattle.std.proofs.lemmas.List.Elements.{All-get_or}
 use Rattle.std.proofs.lemmas.List.FromFn.{fill_by_all, get_or-map-range_with_len, length-map-range_with_len}
-use Rattle.pld_device.specs.declared.field.Field.{Field}
-use Rattle.pld_device.specs.declared.field.Field.TheVariants as field
-use Rattle.pld_device.specs.FuseFile.{last_of, level_at}
+use Rattle.jedec_file.specs.declared.field.Field.{Field}
+use Rattle.jedec_file.specs.declared.field.Field.TheVariants as field
+use Rattle.jedec_file.specs.FuseFile.{last_of, level_at}
 use Rattle.pld_device.specs.Table.{Table}
 use Rattle.jedec_reader.specs.FieldFits.{FieldFits}
 use Rattle.jedec_reader.specs.LevelTable.{levels_said, HasPut}

@@ -8,11 +8,11 @@ use Rattle.std.proofs.lemmas.List.{append-nil, ext_get_or, get_or_past, get_or-t
 use Rattle.std.proofs.lemmas.List.Elements.{All-cons, filter_map-append}
 use Rattle.std.proofs.lemmas.List.FromFn.{get_or-map-range_with_len, length-map-range_with_len}
 use Rattle.pld_base.specs.declared.point.Vector.{Vector}
-use Rattle.pld_device.specs.declared.field.Field.{Field}
-use Rattle.pld_device.specs.declared.field.Field.TheVariants as field
-use Rattle.pld_device.specs.FuseFile.{last_of, vector_at, order_of, by_pins, vectors_of}
+use Rattle.jedec_file.specs.declared.field.Field.{Field}
+use Rattle.jedec_file.specs.declared.field.Field.TheVariants as field
+use Rattle.jedec_file.specs.FuseFile.{last_of, vector_at, order_of, by_pins, vectors_of}
 use Rattle.pld_device.specs.Table.{Table}
-use Rattle.pld_device.specs.TestVectors.{chars_of, all_chars}
+use Rattle.jedec_file.specs.TestVectors.{chars_of, all_chars}
 use Rattle.jedec_reader.specs.Contents.{IsPadded}
 use Rattle.jedec_reader.specs.FieldFits.{FieldFits}
 use Rattle.jedec_reader.specs.VectorTable.{ArePlaces, AreWithin, HasPutVector, HasVectors, IsPlaced, place_of, present}

@@ -5,7 +5,7 @@ use Rattle.std.proofs.lemmas.Bool.Decides.{nat_tests}
 use Rattle.std.specs.Char.{is_ascii_digit, digit_value}
 use Rattle.std.specs.Str.{all_ascii_digits}
 use Rattle.std.specs.Str.Parse.{digits_value_after}
-use Rattle.pld_device.specs.Fields.{short_number}
+use Rattle.jedec_file.specs.Fields.{short_number}
 
 -- the number of the digits behind those of n
 abbrev pub short_after : ℕ → List ℕ → Option ℕ

@@ -5,9 +5,9 @@ use Rattle.std.proofs.lemmas.Bool.{cases_Bool, eqb-true}
 use Rattle.std.proofs.lemmas.Bool.Decides.{nat_tests}
 use Rattle.std.proofs.lemmas.List.Folds.{list_all_at}
 use Rattle.std.proofs.lemmas.List.FromFn.{length-range_with_len, get_or-range_with_len}
-use Rattle.pld_device.specs.declared.field.Field.{Field}
-use Rattle.pld_device.specs.declared.field.Field.TheVariants as field
-use Rattle.pld_device.specs.Fields.{is_among, is_each_pin, number, each_of, order_field}
+use Rattle.jedec_file.specs.declared.field.Field.{Field}
+use Rattle.jedec_file.specs.declared.field.Field.TheVariants as field
+use Rattle.jedec_file.specs.Fields.{is_among, is_each_pin, number, each_of, order_field}
 use Rattle.pld_device.specs.Table.{Table}
 use Rattle.jedec_reader.specs.FieldTexts.{pin_number}
 

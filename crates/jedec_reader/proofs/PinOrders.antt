@@ -6,10 +6,10 @@ use Rattle.std.proofs.lemmas.Bool.{eqb-true}
 use Rattle.std.proofs.lemmas.List.FromFn.{length-range_with_len}
 use Rattle.std.specs.List.{range_with_len}
 use Rattle.std.specs.Option.{option_or}
-use Rattle.pld_device.specs.declared.field.Field.{Field}
-use Rattle.pld_device.specs.declared.field.Field.TheVariants as field
-use Rattle.pld_device.specs.Fields.{is_among, is_each_pin}
-use Rattle.pld_device.specs.FuseFile.{last_of, pin_order, order_of}
+use Rattle.jedec_file.specs.declared.field.Field.{Field}
+use Rattle.jedec_file.specs.declared.field.Field.TheVariants as field
+use Rattle.jedec_file.specs.Fields.{is_among, is_each_pin}
+use Rattle.jedec_file.specs.FuseFile.{last_of, pin_order, order_of}
 use Rattle.pld_device.specs.Table.{Table}
 use Rattle.jedec_reader.specs.FieldFits.{FieldFits}
 use Rattle.jedec_reader.proofs.LastOf.{last_of_more}

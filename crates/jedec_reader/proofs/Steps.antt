@@ -5,12 +5,12 @@ use Rattle.std.specs.List.{position_or_len, range_with_len}
 use Rattle.std.proofs.lemmas.Bool.{eqb-true, cases_Bool}
 use Rattle.std.proofs.lemmas.List.{length-map}
 use Rattle.std.proofs.lemmas.List.FromFn.{fill_by_all, get_or-map-range_with_len, length-map-range_with_len, take-map-range_with_len}
-use Rattle.pld_device.specs.declared.field.Field.{Field}
-use Rattle.pld_device.specs.declared.jedec_fault.JedecFault.{JedecFault}
-use Rattle.pld_device.specs.declared.jedec_fault.JedecFault.TheVariants as fault
-use Rattle.pld_device.specs.FuseFile.{last_of, fuse_count, pin_count, default_fuse, level_at, sum_said, default_test, size_of, default_of, none_unlisted, levels_of, fuse_sum_read, sum_agrees, vectors_of, contents_of}
-use Rattle.pld_device.specs.FuseSums.{fuse_sum_of}
-use Rattle.pld_device.specs.Refusals.{Read, Refuses, Gives}
+use Rattle.jedec_file.specs.declared.field.Field.{Field}
+use Rattle.jedec_file.specs.declared.jedec_fault.JedecFault.{JedecFault}
+use Rattle.jedec_file.specs.declared.jedec_fault.JedecFault.TheVariants as fault
+use Rattle.jedec_file.specs.FuseFile.{last_of, fuse_count, pin_count, default_fuse, level_at, sum_said, default_test, size_of, default_of, none_unlisted, fuses_said, fuse_sum_read, sum_agrees, vectors_of, contents_of}
+use Rattle.jedec_file.specs.FuseSums.{fuse_sum_of}
+use Rattle.jedec_file.specs.Refusals.{Read, Refuses, Gives}
 use Rattle.pld_device.specs.Table.{Table}
 use Rattle.jedec_reader.specs.LevelTable.{levels_said, default_in, filled}
 use Rattle.jedec_reader.specs.SaidBy.{size_fits}
@@ -78,8 +78,8 @@ pub default_read : (t : Table) (fs : List Field) (listed : ℕ) (table : List (O
 default_read t fs listed table said front default is few said_is front_is found =
     sym (default_found fs t.fuses listed table said is few said_is) ∙ (ap (λ (f : List (Option Bool)). default_in f said) (sym front_is) ∙ found)
 
-filled_levels : (t : Table) (fs : List Field) (listed : ℕ) (default : Bool) (table : List (Option Bool)) → table ≡ levels_said fs t.fuses → filled table listed default ≡ levels_of t fs listed default
-unfolding levels_of
+filled_levels : (t : Table) (fs : List Field) (listed : ℕ) (default : Bool) (table : List (Option Bool)) → table ≡ levels_said fs t.fuses → filled table listed default ≡ fuses_said t fs listed default
+unfolding fuses_said
 filled_levels t fs listed default table is =
     fill_by_all level (filled table listed default) t.fuses false
     (length-map-range_with_len entry 0 (length table) ∙ count)
@@ -96,13 +96,13 @@ filled_levels t fs listed default table is =
     count = ap length is ∙ length-map-range_with_len (λ n. last_of (level_at n) fs) 0 t.fuses
 
 pub levels_read : (t : Table) (fs : List Field) (listed : ℕ) (default : Bool) (table lent : List (Option Bool)) (levels : List Bool) → table ≡ levels_said fs t.fuses → lent ≡ table
-    → levels ≡ filled lent listed default → levels ≡ levels_of t fs listed default
+    → levels ≡ filled lent listed default → levels ≡ fuses_said t fs listed default
 levels_read t fs listed default table lent levels is lent_is levels_are =
     levels_are ∙ (ap (λ (all : List (Option Bool)). filled all listed default) lent_is ∙ filled_levels t fs listed default table is)
 
-pub levels_of-length : (t : Table) (fs : List Field) (listed : ℕ) (default : Bool) → length (levels_of t fs listed default) ≡ t.fuses
-unfolding levels_of
-levels_of-length t fs listed default = length-map-range_with_len (λ n. if nat_lt n listed then unwrap_or (last_of (level_at n) fs) default else false) 0 t.fuses
+pub fuses_said-length : (t : Table) (fs : List Field) (listed : ℕ) (default : Bool) → length (fuses_said t fs listed default) ≡ t.fuses
+unfolding fuses_said
+fuses_said-length t fs listed default = length-map-range_with_len (λ n. if nat_lt n listed then unwrap_or (last_of (level_at n) fs) default else false) 0 t.fuses
 
 pub sum_found : (fs : List Field) (listed : ℕ) (levels : List Bool) (said : Option ℕ) → said ≡ last_of sum_said fs → sum_agrees said (fuse_sum_of (take listed levels)) ≡ fuse_sum_read fs listed levels
 unfolding fuse_sum_read
@@ -121,12 +121,12 @@ module _ (t : Table) (fs : List Field) where
     default_refused e is = rw (size, is) refl
 
     module _ (default : Bool) (default_is : default_of fs listed ≡ Ok default) where
-      pub sum_refused : (e : JedecFault) → fuse_sum_read fs listed (levels_of t fs listed default) ≡ Err e → contents_of t fs ≡ Err e
+      pub sum_refused : (e : JedecFault) → fuse_sum_read fs listed (fuses_said t fs listed default) ≡ Err e → contents_of t fs ≡ Err e
       unfolding contents_of
       sum_refused e is = rw (size, default_is, is) refl
 
-      pub all_read : (sum : ℕ) → fuse_sum_read fs listed (levels_of t fs listed default) ≡ Ok sum
-          → contents_of t fs ≡ Ok (record { fuses = levels_of t fs listed default; listed = listed; vectors = vectors_of t fs; default_level = unwrap_or (last_of default_test fs) false })
+      pub all_read : (sum : ℕ) → fuse_sum_read fs listed (fuses_said t fs listed default) ≡ Ok sum
+          → contents_of t fs ≡ Ok (record { fuses = fuses_said t fs listed default; listed = listed; vectors = vectors_of t fs; default_level = unwrap_or (last_of default_test fs) false })
       unfolding contents_of
       all_read sum is = rw (size, default_is, is) refl
 

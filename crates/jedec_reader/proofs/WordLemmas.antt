@@ -4,7 +4,7 @@ use Rattle.std.specs.List.{slice_split, position_or_len}
 use Rattle.std.proofs.lemmas.Bool.{cases_Bool}
 use Rattle.std.proofs.lemmas.List.Splits.{slice_split-cons_yes}
 use Rattle.std.proofs.lemmas.List.Sums.{position_or_len_is}
-use Rattle.pld_device.specs.Fields.{is_blank, is_empty, words, trimmed}
+use Rattle.jedec_file.specs.Fields.{is_blank, has_bytes, words, trimmed}
 
 -- ---- the first blank
 
@@ -18,7 +18,7 @@ no_blank xs i le before = sym (position_or_len_is is_blank xs (length xs) 0 (ome
 
 -- the parts that are words
 abbrev real : List (List ℕ) → List (List ℕ)
-real = filter (λ word. not (is_empty word))
+real = filter has_bytes
 
 words_blank : (b : ℕ) (bs : List ℕ) → is_blank b ≡ true → words (b ∷ bs) ≡ words bs
 words_blank b bs blank = rw (slice_split-cons_yes is_blank b bs blank) refl

@@ -2,8 +2,8 @@
 -- and characters they hold is this project's profile).
 use Rattle.std.specs.Prelude.{ℕ, ◌+◌, ◌-◌, ◌^◌, nat_lt, ◌==◌, ◌&&◌, not, if◌then◌else◌, Bool, Option, None, Some, option_and_then, List, length}
 use Rattle.std.specs.List.{list_all, concat}
-use Rattle.pld_device.specs.Fields.{words, number, each_of, level_of, trimmed, is_test_char}
-use Rattle.pld_device.specs.Frame.{Framed}
+use Rattle.jedec_file.specs.Fields.{words, number, each_of, level_of, trimmed, is_test_char}
+use Rattle.jedec_file.specs.Frame.{Framed}
 
 -- a text, and the place of its first byte
 abbrev pub framed : (at : ℕ) → List ℕ → Framed

@@ -2,9 +2,9 @@
 use Rattle.std.specs.Prelude.{◌≡◌, ℕ, ◌-◌, nat_lt, nat_le, if◌then◌else◌, Bool, false, Option, None, Some, is_none, unwrap_or, List, map, slice_get, get_or, length, position, Ok}
 use Rattle.std.specs.List.{range_with_len}
 use Rattle.std.specs.Option.{option_or}
-use Rattle.pld_device.specs.declared.field.Field.{Field}
-use Rattle.pld_device.specs.FuseFile.{last_of, level_at, none_unlisted}
-use Rattle.pld_device.specs.Refusals.{Read}
+use Rattle.jedec_file.specs.declared.field.Field.{Field}
+use Rattle.jedec_file.specs.FuseFile.{last_of, level_at, none_unlisted}
+use Rattle.jedec_file.specs.Refusals.{Read}
 
 -- what the fields say of the first fuses
 abbrev pub levels_said : List Field → (count : ℕ) → List (Option Bool)

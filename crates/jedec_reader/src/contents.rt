@@ -1,11 +1,11 @@
 //! What all fields of a fuse file say together.
 
 ghost use Rattle.std.specs.Prelude.{◌≡◌, ◌≤◌, length, IfOk, All};
-ghost use Rattle.pld_device.specs.FuseFile.{contents_of, size_of, sum_agrees};
-ghost use Rattle.pld_device.specs.FuseFile.{ends_by, is_pin_count};
+ghost use Rattle.jedec_file.specs.FuseFile.{contents_of, size_of, sum_agrees};
+ghost use Rattle.jedec_file.specs.FuseFile.{ends_by, is_pin_count};
 ghost use Rattle.std.specs.List.{list_all};
-ghost use Rattle.pld_device.specs.FuseSums.{fuse_sum_of};
-ghost use Rattle.pld_device.specs.Refusals.{Gives};
+ghost use Rattle.jedec_file.specs.FuseSums.{fuse_sum_of};
+ghost use Rattle.jedec_file.specs.Refusals.{Gives};
 ghost use Rattle.jedec_reader.specs.Contents.{IsPadded, contents};
 ghost use Rattle.jedec_reader.specs.FieldFits.{FieldFits};
 ghost use Rattle.jedec_reader.specs.SaidBy.{IsSaidBy, size_fits};
@@ -16,7 +16,8 @@ use crate::level_table::level_table;
 use crate::said::Said;
 use crate::vectors::vectors;
 use pld_base::ListOf;
-use pld_device::{Device, Field, Fuses, JedecFault, fuse_sum};
+use jedec_file::{Field, JedecFault, fuse_sum};
+use pld_device::{Device, Fuses};
 use std::alloc::Global;
 
 /// What these fields say, or why they are no fuse file's.

@@ -2,7 +2,7 @@
 
 ghost use Rattle.std.specs.Prelude.{◌≡◌, option_map, IfOk};
 ghost use Rattle.std.specs.List.{list_all, range_with_len};
-ghost use Rattle.pld_device.specs.Fields as fields;
+ghost use Rattle.jedec_file.specs.Fields as fields;
 ghost use Rattle.jedec_reader.specs.FieldTexts.{characters_in, levels_in, pin_number, pins_in};
 
 use crate::words::{first_word, is_blank, level_of, short_number};

@@ -4,9 +4,9 @@ ghost use Rattle.std.specs.Prelude.{◌≡◌, if◌then◌else◌, true, Some, 
 ghost use Rattle.std.specs.Prelude.{option_and_then};
 ghost use Rattle.std.specs.Str.{all_ascii_digits};
 ghost use Rattle.std.specs.Str.Parse.{digits_value};
-ghost use Rattle.pld_device.specs.Fields as fields;
-ghost use Rattle.pld_device.specs.Frame.{four_hex_value};
-ghost use Rattle.pld_device.specs.declared.field.Field.TheVariants as field;
+ghost use Rattle.jedec_file.specs.Fields as fields;
+ghost use Rattle.jedec_file.specs.Frame.{four_hex_value};
+ghost use Rattle.jedec_file.specs.declared.field.Field.TheVariants as field;
 ghost use Rattle.jedec_reader.specs.FieldTexts.{is_vector};
 
 use crate::entries::{are_test_characters, characters, is_among, is_each_pin, levels, pin_numbers};
@@ -14,11 +14,12 @@ use crate::words::{
     first_word, is_number, only_level, only_number, only_sum, short_number, trimmed,
 };
 use pld_base::ListOf;
-use pld_device::{Device, Field};
+use jedec_file::Field;
+use pld_device::Device;
 use std::alloc::{AllocError, Global};
 
 /// What the field of a letter and the text behind it says; `None` where it is no field.
-#[tactic(auto, unfolding(pld_device::specs::Fields::field_of))]
+#[tactic(auto, unfolding(jedec_file::specs::Fields::field_of))]
 pub fn field_of<D: Device>(
     alloc: Global,
     letter: u8,

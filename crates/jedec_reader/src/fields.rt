@@ -2,9 +2,9 @@
 
 ghost use Rattle.std.specs.Prelude.{◌≡◌, ◌+◌, ◌^◌, ◌<◌, ◌-◌, ◌∷◌, [], IfOk, IfSome, MatchOption};
 ghost use Rattle.std.specs.Prelude.{All, length, take, drop};
-ghost use Rattle.pld_device.specs.FieldLists as lists;
-ghost use Rattle.pld_device.specs.Fields.{trimmed};
-ghost use Rattle.pld_device.specs.Refusals.{Gives};
+ghost use Rattle.jedec_file.specs.FieldLists as lists;
+ghost use Rattle.jedec_file.specs.Fields.{trimmed};
+ghost use Rattle.jedec_file.specs.Refusals.{Gives};
 ghost use Rattle.jedec_reader.specs.FieldFits.{FieldFits};
 ghost use Rattle.jedec_reader.specs.FieldTexts.{letter_at};
 ghost use Rattle.jedec_reader.specs.FieldsIn.{fields_in};
@@ -13,7 +13,8 @@ use crate::entries::is_among;
 use crate::field::field_of;
 use crate::frame::{frame_of, place_of};
 use crate::words::trimmed;
-use pld_device::{Device, Field, JedecFault};
+use jedec_file::{Field, JedecFault};
+use pld_device::Device;
 use std::alloc::Global;
 
 /// The fields of a fuse file's bytes, in order.
@@ -29,7 +30,7 @@ pub fn fields<D: Device>(alloc: Global, bytes: &[u8]) -> Result<Vec<Field>, Jede
 }
 
 /// The fields behind the design text, which begins at the offset and has its asterisk.
-#[tactic(auto, unfolding(pld_device::specs::FieldLists::behind_design))]
+#[tactic(auto, unfolding(jedec_file::specs::FieldLists::behind_design))]
 fn behind_design<D: Device>(alloc: Global, at: usize, text: &[u8]) -> Result<Vec<Field>, JedecFault>
     requires { at + length text.now < 2 ^ 32 }
     ensures { Gives (λ v. v.items) result (lists.behind_design D.table at (lists.pieces text.now)) }
@@ -80,7 +81,7 @@ fn field_of_piece<D: Device>(alloc: Global, at: usize, piece: &[u8]) -> Result<F
 }
 
 /// The field whose letter stands at the offset.
-#[tactic(auto, unfolding(pld_device::specs::FieldLists::field_at))]
+#[tactic(auto, unfolding(jedec_file::specs::FieldLists::field_at))]
 fn field_at<D: Device>(alloc: Global, at: usize, text: &[u8]) -> Result<Field, JedecFault>
     ensures { Gives (λ field. field) result (lists.field_at D.table at text.now) }
 {
@@ -107,7 +108,7 @@ fn ends_blank(at: usize, piece: &[u8]) -> Result<(), JedecFault>
 }
 
 /// No field begins at the first offset, in the text up to the second one that has no asterisk.
-#[tactic(auto, unfolding(pld_device::specs::FieldLists::no_field))]
+#[tactic(auto, unfolding(jedec_file::specs::FieldLists::no_field))]
 fn no_field(at: usize, ends: usize, text: &[u8]) -> Result<(), JedecFault>
     ensures { Gives (λ done. []) result (lists.no_field at ends text.now) }
 {

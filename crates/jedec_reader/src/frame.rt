@@ -1,11 +1,11 @@
 //! The text of a fuse file between its start and end bytes, and its sum.
 
 ghost use Rattle.std.specs.Prelude.{◌≡◌, ◌+◌, ◌<◌, ◌≤◌, ◌==◌, IfOk, IfSome, length, position};
-ghost use Rattle.pld_device.specs.Frame as frame;
-ghost use Rattle.pld_device.specs.Refusals.{Gives};
+ghost use Rattle.jedec_file.specs.Frame as frame;
+ghost use Rattle.jedec_file.specs.Refusals.{Gives};
 ghost use Rattle.jedec_reader.specs.FieldTexts.{framed};
 
-use pld_device::{JedecFault, byte_sum};
+use jedec_file::{JedecFault, byte_sum};
 
 /// The byte that starts the text.
 const STX: u8 = 2;
@@ -16,7 +16,7 @@ const ETX: u8 = 3;
 /// The text between the two bytes, and the place of its first byte.
 ///
 /// The first end byte behind the first start byte counts. Takes no memory.
-#[tactic(auto, unfolding(pld_device::specs::Frame::frame_of))]
+#[tactic(auto, unfolding(jedec_file::specs::Frame::frame_of))]
 pub fn frame_of(bytes: &[u8]) -> Result<(usize, &[u8]), JedecFault>
     ensures gives { Gives (λ x. framed x.0 x.1.now) result (frame.frame_of bytes.now) }
     ensures within { IfOk result (λ x. x.0 + length x.1.now ≤ length bytes.now) }
@@ -29,7 +29,7 @@ pub fn frame_of(bytes: &[u8]) -> Result<(usize, &[u8]), JedecFault>
     Ok((start + 1, behind.split_at(length).0))
 }
 
-#[tactic(auto, unfolding(pld_device::specs::Frame::start_of))]
+#[tactic(auto, unfolding(jedec_file::specs::Frame::start_of))]
 fn start_of(bytes: &[u8]) -> Result<usize, JedecFault>
     ensures gives { Gives (λ start. start) result (frame.start_of bytes.now) }
     ensures within { IfOk result (λ start. start < length bytes.now) }
@@ -40,7 +40,7 @@ fn start_of(bytes: &[u8]) -> Result<usize, JedecFault>
     }
 }
 
-#[tactic(auto, unfolding(pld_device::specs::Frame::length_of))]
+#[tactic(auto, unfolding(jedec_file::specs::Frame::length_of))]
 fn length_of(behind: &[u8]) -> Result<usize, JedecFault>
     ensures gives { Gives (λ len. len) result (frame.length_of behind.now) }
     ensures within { IfOk result (λ len. len < length behind.now) }
@@ -51,7 +51,7 @@ fn length_of(behind: &[u8]) -> Result<usize, JedecFault>
     }
 }
 
-#[tactic(auto, unfolding(pld_device::specs::Frame::sum_at))]
+#[tactic(auto, unfolding(jedec_file::specs::Frame::sum_at))]
 fn sum_at(behind: &[u8]) -> Result<u16, JedecFault>
     ensures { Gives (λ read. read) result (frame.sum_at behind.now) }
 {
@@ -64,7 +64,7 @@ fn sum_at(behind: &[u8]) -> Result<u16, JedecFault>
     }
 }
 
-#[tactic(auto, unfolding(pld_device::specs::Frame::check_sum))]
+#[tactic(auto, unfolding(jedec_file::specs::Frame::check_sum))]
 fn check_sum(read: u16, bytes: &[u8]) -> Result<u16, JedecFault>
     ensures { Gives (λ checked. checked) result (frame.check_sum read bytes.now) }
 {

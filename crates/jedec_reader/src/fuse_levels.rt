@@ -2,10 +2,10 @@
 
 ghost use Rattle.std.specs.Prelude.{◌≡◌, ◌<◌, ◌^◌, false, nat_lt, if◌then◌else◌, unwrap_or};
 ghost use Rattle.std.specs.Prelude.{length, position, is_none, IfOk};
-ghost use Rattle.pld_device.specs.Refusals.{Gives};
+ghost use Rattle.jedec_file.specs.Refusals.{Gives};
 ghost use Rattle.jedec_reader.specs.LevelTable.{default_in, filled};
 
-use pld_device::JedecFault;
+use jedec_file::JedecFault;
 use std::alloc::{AllocError, Global};
 
 /// The level of fuses that stand in no list. Where none is said each fuse of the table must stand

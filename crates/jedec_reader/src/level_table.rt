@@ -4,7 +4,8 @@ ghost use Rattle.std.specs.Prelude.{◌≡◌, ◌+◌, ◌≤◌, length, IfOk,
 ghost use Rattle.jedec_reader.specs.FieldFits.{FieldFits};
 ghost use Rattle.jedec_reader.specs.LevelTable.{HasPut, levels_said};
 
-use pld_device::{Device, Field};
+use jedec_file::Field;
+use pld_device::Device;
 use std::alloc::{AllocError, Global};
 
 /// What the fields say of each fuse of the device: the last list counts, None where it stands in

@@ -18,5 +18,5 @@ mod vectors;
 mod words;
 
 pub use fuse_file::FuseFile;
-pub use pld_device::JedecFault;
+pub use jedec_file::JedecFault;
 pub use reading::read;

@@ -1,11 +1,12 @@
 //! The order of pins in test vectors.
 
 ghost use Rattle.std.specs.Prelude.{◌≡◌, ◌≤◌, length, All};
-ghost use Rattle.pld_device.specs.FuseFile.{order_of};
+ghost use Rattle.jedec_file.specs.FuseFile.{order_of};
 ghost use Rattle.jedec_reader.specs.FieldFits.{FieldFits};
 ghost use Rattle.jedec_reader.specs.VectorTable.{ArePlaces, place_of};
 
-use pld_device::{Device, Field};
+use jedec_file::Field;
+use pld_device::Device;
 
 /// The pins in rising order, of the device that has most.
 const RISING: [u8; 24] = [

@@ -1,14 +1,15 @@
 //! Reading a whole file.
 
 ghost use Rattle.std.specs.Prelude.{◌≡◌, ◌<◌, ◌^◌, length, IfOk, IfErr, Ok, All};
-ghost use Rattle.pld_device.specs.FuseFile.{file_of};
-ghost use Rattle.pld_device.specs.Refusals.{Refuses};
+ghost use Rattle.jedec_file.specs.FuseFile.{file_of};
+ghost use Rattle.jedec_file.specs.Refusals.{Refuses};
 ghost use Rattle.jedec_reader.specs.Contents.{IsPadded, contents};
 
 use crate::contents::contents;
 use crate::fields::fields;
 use crate::fuse_file::FuseFile;
-use pld_device::{Device, JedecFault};
+use jedec_file::JedecFault;
+use pld_device::Device;
 use std::alloc::Global;
 
 /// What the bytes of a fuse file say of a device, or why they are none (JESD3-C; which fields are

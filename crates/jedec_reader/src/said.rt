@@ -1,6 +1,6 @@
 //! The numbers and levels that single fields say, the last field of each kind.
 
-use pld_device::Field;
+use jedec_file::Field;
 
 /// What the last field of each kind says, None where there is none.
 #[derive(Clone, Copy)]
@@ -15,7 +15,7 @@ pub struct Said {
 impl Said {
     ghost use Rattle.std.specs.Prelude.{◌≡◌};
     ghost use Rattle.std.specs.Option.{option_or};
-    ghost use Rattle.pld_device.specs.FuseFile as says;
+    ghost use Rattle.jedec_file.specs.FuseFile as says;
     ghost use Rattle.jedec_reader.specs.SaidBy.{IsSaidBy};
 
     /// What these fields say.

@@ -1,8 +1,8 @@
 //! Test vectors in rising order of their numbers, with their characters at the pins.
 
 ghost use Rattle.std.specs.Prelude.{◌≡◌, ◌≤◌, ◌^◌, length, IfOk, OnOk, All};
-ghost use Rattle.pld_device.specs.FuseFile.{order_of, vectors_of};
-ghost use Rattle.pld_device.specs.TestVectors.{all_chars};
+ghost use Rattle.jedec_file.specs.FuseFile.{order_of, vectors_of};
+ghost use Rattle.jedec_file.specs.TestVectors.{all_chars};
 ghost use Rattle.jedec_reader.specs.Contents.{IsPadded};
 ghost use Rattle.jedec_reader.specs.FieldFits.{FieldFits};
 ghost use Rattle.jedec_reader.specs.VectorTable.{ArePlaces, AreWithin, IsPlaced};
@@ -10,7 +10,8 @@ ghost use Rattle.jedec_reader.specs.VectorTable.{HasPutVector, HasVectors, prese
 
 use crate::pin_order::places;
 use pld_base::Vector;
-use pld_device::{Device, Field};
+use jedec_file::Field;
+use pld_device::Device;
 use std::alloc::{AllocError, Global};
 
 /// The test vectors of the fields: of each number the last one, in rising order of the numbers.

@@ -4,8 +4,8 @@ ghost use Rattle.std.specs.Prelude.{◌≡◌, ◌+◌, ◌^◌, ◌<◌, ◌≤
 ghost use Rattle.std.specs.Prelude.{option_map, MatchOption};
 ghost use Rattle.std.specs.List.{position_or_len};
 ghost use Rattle.std.specs.Str.{all_ascii_digits};
-ghost use Rattle.pld_device.specs.Fields as fields;
-ghost use Rattle.pld_device.specs.Frame as frame;
+ghost use Rattle.jedec_file.specs.Fields as fields;
+ghost use Rattle.jedec_file.specs.Frame as frame;
 
 use crate::frame::four_hex_value;
 

@@ -7,7 +7,8 @@ use Rattle.std.proofs.lemmas.Bool.Decides.{nat_tests}
 use Rattle.pld_device.specs.declared.fuse_bit.FuseBit.{FuseBit}
 use Rattle.pld_device.specs.Table.{Table}
 use Rattle.pld_device.specs.Laws.{IsDevice}
-use Rattle.pld_device.specs.ControlFuses.{control_fuses, fuses_named, past}
+use Rattle.jedec_file.specs.ControlLines.{past}
+use Rattle.pld_device.specs.ControlFuses.{control_fuses, fuses_named}
 
 max_assoc : (a b c : ℕ) → max (max a b) c ≡ max a (max b c)
 max_assoc a b c = omega (arith)

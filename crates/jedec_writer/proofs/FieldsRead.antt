@@ -5,10 +5,10 @@ use Rattle.std.specs.Prelude.{◌==◌}
 use Rattle.std.specs.List.{list_all}
 use Rattle.std.specs.Fmt.{decimal}
 use Rattle.std.proofs.lemmas.Bool.{le-leb, eq-eqb, ne_eqb}
-use Rattle.pld_device.specs.declared.field.Field.TheVariants as field
+use Rattle.jedec_file.specs.declared.field.Field.TheVariants as field
 use Rattle.pld_device.specs.Table.{Table}
-use Rattle.pld_device.specs.FileText.{space, four_digits, four_hex, level_char}
-use Rattle.pld_device.specs.Fields.{is_test_char, each_of, level_of, field_of}
+use Rattle.jedec_file.specs.FileText.{space, four_digits, four_hex, level_char}
+use Rattle.jedec_file.specs.Fields.{is_test_char, each_of, level_of, field_of}
 use Rattle.jedec_writer.proofs.Words.{IsWord, one_word, two_words}
 use Rattle.jedec_writer.proofs.Numerals.{decimal_is_word, short_number-decimal, four_digits_are_word, number-four_digits, short_number-four_digits, four_hex_is_word, four_hex_value-four_hex, levels_are_word, each_of-levels, chars_are_word}
 

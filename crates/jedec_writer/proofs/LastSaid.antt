@@ -4,12 +4,12 @@ use Rattle.std.specs.Prelude.{slice_range, unwrap_or}
 use Rattle.std.specs.List.{list_any}
 use Rattle.std.specs.Option.{option_or}
 use Rattle.std.proofs.lemmas.Bool.{cases_Bool}
-use Rattle.pld_device.specs.declared.field.Field.{Field}
-use Rattle.pld_device.specs.declared.field.Field.TheVariants as field
+use Rattle.jedec_file.specs.declared.field.Field.{Field}
+use Rattle.jedec_file.specs.declared.field.Field.TheVariants as field
 use Rattle.pld_device.specs.Table.{Table}
-use Rattle.pld_device.specs.FuseSums.{fuse_sum_of}
-use Rattle.pld_device.specs.ControlFuses.{control_levels}
-use Rattle.pld_device.specs.FuseFile.{last_of, fuse_count, pin_count, default_fuse, sum_said, default_test, pin_order, vector_at}
+use Rattle.jedec_file.specs.FuseSums.{fuse_sum_of}
+use Rattle.jedec_file.specs.ControlLines.{control_levels}
+use Rattle.jedec_file.specs.FuseFile.{last_of, fuse_count, pin_count, default_fuse, sum_said, default_test, pin_order, vector_at}
 use Rattle.jedec_writer.proofs.LinesRead.{levels_fields, row_fields, vector_fields, fields_with}
 use Rattle.jedec_writer.proofs.TextRead.{written_fields}
 

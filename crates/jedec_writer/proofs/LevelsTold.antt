@@ -8,13 +8,14 @@ use Rattle.std.proofs.lemmas.List.{get_or-take, get_or-drop, length-take-le}
 use Rattle.std.proofs.lemmas.Option.{slice_get-get_or, slice_get_past}
 use Rattle.std.proofs.lemmas.List.Elements.{All-head, All-tail, All-weaker}
 use Rattle.std.proofs.lemmas.List.FromFn.{fill_by_all}
-use Rattle.pld_device.specs.declared.field.Field.{Field}
-use Rattle.pld_device.specs.declared.field.Field.TheVariants as field
+use Rattle.jedec_file.specs.declared.field.Field.{Field}
+use Rattle.jedec_file.specs.declared.field.Field.TheVariants as field
 use Rattle.pld_device.specs.Table.{Table}
 use Rattle.pld_device.specs.Laws.{IsDevice, IsControlFuse}
-use Rattle.pld_device.specs.ControlFuses.{control_fuses, control_levels, past, lines_end, IsIntactPastLines}
-use Rattle.pld_device.specs.FuseSums.{fuse_sum_of}
-use Rattle.pld_device.specs.FuseFile.{last_of, level_at, levels_of}
+use Rattle.jedec_file.specs.ControlLines.{control_levels, past, lines_end, IsIntactPastLines}
+use Rattle.pld_device.specs.ControlFuses.{control_fuses}
+use Rattle.jedec_file.specs.FuseSums.{fuse_sum_of}
+use Rattle.jedec_file.specs.FuseFile.{last_of, level_at, fuses_said}
 use Rattle.jedec_writer.proofs.LinesRead.{levels_fields, row_fields, vector_fields}
 use Rattle.jedec_writer.proofs.TextRead.{written_fields}
 use Rattle.jedec_writer.proofs.LastSaid.{last_of_first, last_of_second, vectors_passed, head_fields}
@@ -152,8 +153,8 @@ fuse_told t fuses fields intact told n = elim (cases_lt n (lines_end t)) [
       rw (told.above n there) (sym (get_or-drop (lines_end t) fuses (n - lines_end t) false ∙ ap (λ (m : ℕ). get_or fuses m false) place) ∙ zero_there)
 ]
 
-pub levels_told : (t : Table) → IsDevice t → (fuses : List Bool) → length fuses ≡ t.fuses → IsIntactPastLines t fuses → (vectors : List (List ℕ)) → levels_of t (written_fields t fuses vectors) t.fuses false ≡ fuses
-unfolding levels_of
+pub levels_told : (t : Table) → IsDevice t → (fuses : List Bool) → length fuses ≡ t.fuses → IsIntactPastLines t fuses → (vectors : List (List ℕ)) → fuses_said t (written_fields t fuses vectors) t.fuses false ≡ fuses
+unfolding fuses_said
 levels_told t is fuses long intact vectors =
     let fields = written_fields t fuses vectors in
     let told = all_told t is fuses long vectors in

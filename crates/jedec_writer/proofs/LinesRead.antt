@@ -6,13 +6,14 @@ use Rattle.std.specs.Fmt.{decimal}
 use Rattle.std.proofs.lemmas.Bool.{cases_Bool}
 use Rattle.std.proofs.lemmas.List.{length-take, length-drop}
 use Rattle.std.proofs.lemmas.List.Elements.{All-head, All-tail}
-use Rattle.pld_device.specs.declared.field.Field.{Field}
-use Rattle.pld_device.specs.declared.field.Field.TheVariants as field
+use Rattle.jedec_file.specs.declared.field.Field.{Field}
+use Rattle.jedec_file.specs.declared.field.Field.TheVariants as field
 use Rattle.pld_device.specs.Table.{Table}
-use Rattle.pld_device.specs.FileText.{space, four_digits, four_hex, level_char, line}
-use Rattle.pld_device.specs.Fields.{is_test_char}
-use Rattle.pld_device.specs.CanonicalFile.{levels_line, row_lines, control_line, line_with, vector_lines}
-use Rattle.pld_device.specs.ControlFuses.{control_levels, control_fuses, past}
+use Rattle.jedec_file.specs.FileText.{space, four_digits, four_hex, level_char, line}
+use Rattle.jedec_file.specs.Fields.{is_test_char}
+use Rattle.jedec_file.specs.CanonicalFile.{levels_line, row_lines, control_line, line_with, vector_lines}
+use Rattle.jedec_file.specs.ControlLines.{control_levels, past}
+use Rattle.pld_device.specs.ControlFuses.{control_fuses}
 use Rattle.jedec_writer.proofs.Words.{IsWord, is_plain, word_is_plain, both_pass}
 use Rattle.jedec_writer.proofs.Numerals.{decimal_is_word, four_digits_are_word, four_hex_is_word, levels_are_word, chars_are_word}
 use Rattle.jedec_writer.proofs.FieldsRead.{says_pins, says_fuses, says_vectors, says_default, says_security, says_test_level, says_levels, says_sum, says_vector}

@@ -9,12 +9,12 @@ use Rattle.std.proofs.lemmas.Bool.{and_parts, and_from, lt-ltb, agree_below_at, 
 use Rattle.std.proofs.lemmas.Bool.Decides.{nat_tests}
 use Rattle.std.proofs.lemmas.Fmt.{digits_decimal, digits_value-decimal, decimal_nonempty}
 use Rattle.std.proofs.lemmas.Str.Parse.{IsNumeralModel, numerals_by_value, tells_all_ascii_digits}
-use Rattle.pld_device.specs.FileText.{four_digits, hex_digit, four_hex, level_char}
-use Rattle.pld_device.specs.Frame.{hex_value, four_hex_value}
-use Rattle.pld_device.specs.Fields.{is_empty, number, short_number, level_of, each_of, is_test_char}
+use Rattle.jedec_file.specs.FileText.{four_digits, hex_digit, four_hex, level_char}
+use Rattle.jedec_file.specs.Frame.{hex_value, four_hex_value}
+use Rattle.jedec_file.specs.Fields.{has_bytes, number, short_number, level_of, each_of, is_test_char}
 use Rattle.jedec_writer.proofs.Words.{IsWord, is_word_byte}
 
-some_there : (bs : List ℕ) → 0 < length bs → is_empty bs ≡ false
+some_there : (bs : List ℕ) → 0 < length bs → has_bytes bs ≡ true
 some_there [] some = absurd (omega arith)
 some_there (b ∷ bs) some = refl
 

@@ -6,16 +6,16 @@ use Rattle.std.proofs.lemmas.Bool.{eq-eqb}
 use Rattle.std.proofs.lemmas.List.{take_all, length-take-le, length-map}
 use Rattle.std.proofs.lemmas.List.Elements.{All-map}
 use Rattle.pld_base.specs.declared.point.Vector.{Vector}
-use Rattle.pld_device.specs.declared.field.Field.{Field}
+use Rattle.jedec_file.specs.declared.field.Field.{Field}
 use Rattle.pld_device.specs.Table.{Table}
 use Rattle.pld_device.specs.Laws.{IsDevice}
-use Rattle.pld_device.specs.ControlFuses.{IsIntactPastLines}
-use Rattle.pld_device.specs.FuseSums.{fuse_sum_of}
-use Rattle.pld_device.specs.TestVectors.{IsTestVector, all_chars, chars_of}
-use Rattle.pld_device.specs.CanonicalFile.{IsPlainName, canonical_file}
-use Rattle.pld_device.specs.Frame.{Framed, frame_of}
-use Rattle.pld_device.specs.FieldLists.{fields_of}
-use Rattle.pld_device.specs.FuseFile.{FuseFile, last_of, default_test, size_of, default_of, levels_of, fuse_sum_read, vectors_of, contents_of, file_of}
+use Rattle.jedec_file.specs.ControlLines.{IsIntactPastLines}
+use Rattle.jedec_file.specs.FuseSums.{fuse_sum_of}
+use Rattle.jedec_file.specs.TestVectors.{IsTestVector, all_chars, chars_of}
+use Rattle.jedec_file.specs.CanonicalFile.{IsPlainName, canonical_file}
+use Rattle.jedec_file.specs.Frame.{Framed, frame_of}
+use Rattle.jedec_file.specs.FieldLists.{fields_of}
+use Rattle.jedec_file.specs.FuseFile.{FuseFile, last_of, default_test, size_of, default_of, fuses_said, fuse_sum_read, vectors_of, contents_of, file_of}
 use Rattle.jedec_writer.proofs.LinesRead.{IsVectorText}
 use Rattle.jedec_writer.proofs.TextRead.{written_fields, written_text, lines_say, text_found, fields_found}
 use Rattle.jedec_writer.proofs.LastSaid.{fuse_count_said, pin_count_said, default_fuse_said, fuse_sum_said, default_test_said}
@@ -41,7 +41,7 @@ sum_said_right t fuses vectors long =
     rw (fuse_sum_said t fuses vectors, all, eq-eqb (fuse_sum_of fuses) (fuse_sum_of fuses) refl) refl
 
 contents_by_steps : (t : Table) (fields : List Field) (listed sum : ℕ) (fuses : List Bool) (vectors : List (List ℕ)) → size_of t fields ≡ Ok listed → default_of fields listed ≡ Ok false
-    → levels_of t fields listed false ≡ fuses → fuse_sum_read fields listed fuses ≡ Ok sum → vectors_of t fields ≡ vectors → unwrap_or (last_of default_test fields) false ≡ false
+    → fuses_said t fields listed false ≡ fuses → fuse_sum_read fields listed fuses ≡ Ok sum → vectors_of t fields ≡ vectors → unwrap_or (last_of default_test fields) false ≡ false
     → contents_of t fields ≡ Ok (record { fuses = fuses; listed = listed; vectors = vectors; default_level = false })
 unfolding contents_of
 contents_by_steps t fields listed sum fuses vectors size default levels sums told level =

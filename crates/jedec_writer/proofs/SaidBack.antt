@@ -6,11 +6,11 @@ use Rattle.std.proofs.lemmas.Bool.{and_parts, not-true}
 use Rattle.std.proofs.lemmas.Bool.Decides.{nat_tests}
 use Rattle.std.proofs.lemmas.List.Splits.{slice_split_at}
 use Rattle.std.proofs.lemmas.List.Elements.{All-nil, All-cons}
-use Rattle.pld_device.specs.declared.field.Field.{Field}
+use Rattle.jedec_file.specs.declared.field.Field.{Field}
 use Rattle.pld_device.specs.Table.{Table}
-use Rattle.pld_device.specs.FileText.{line}
-use Rattle.pld_device.specs.Fields.{is_blank, field_of}
-use Rattle.pld_device.specs.FieldLists.{pieces, field_at, no_field, fields_from, behind_design, fields_of}
+use Rattle.jedec_file.specs.FileText.{line}
+use Rattle.jedec_file.specs.Fields.{is_blank, field_of}
+use Rattle.jedec_file.specs.FieldLists.{pieces, field_at, no_field, fields_from, behind_design, fields_of}
 use Rattle.jedec_writer.proofs.Words.{is_plain, both_pass}
 
 -- it doesn't end the text

@@ -6,16 +6,16 @@ use Rattle.std.specs.Fmt.{decimal}
 use Rattle.pld_base.specs.declared.device_name.DeviceName.{DeviceName}
 use Rattle.pld_base.specs.declared.device_name.DeviceName.TheVariants.{P16L8, P16R4, P16R6, P16R8, GAL22V10}
 use Rattle.pld_base.specs.DeviceNames.{device_text}
-use Rattle.pld_device.specs.declared.field.Field.{Field}
-use Rattle.pld_device.specs.declared.field.Field.TheVariants as field
+use Rattle.jedec_file.specs.declared.field.Field.{Field}
+use Rattle.jedec_file.specs.declared.field.Field.TheVariants as field
 use Rattle.pld_device.specs.Table.{Table}
-use Rattle.pld_device.specs.FileText.{STX, ETX, space, four_hex, line}
-use Rattle.pld_device.specs.FuseSums.{fuse_sum_of}
-use Rattle.pld_device.specs.ControlFuses.{control_levels}
-use Rattle.pld_device.specs.CanonicalFile.{row_lines, control_line, line_with, vector_lines, canonical_body, canonical_file, with_sum, IsPlainName}
+use Rattle.jedec_file.specs.FileText.{STX, ETX, space, four_hex, line}
+use Rattle.jedec_file.specs.FuseSums.{fuse_sum_of}
+use Rattle.jedec_file.specs.ControlLines.{control_levels}
+use Rattle.jedec_file.specs.CanonicalFile.{row_lines, control_line, line_with, vector_lines, canonical_body, canonical_file, with_sum, IsPlainName}
 use Rattle.pld_device.specs.Laws.{IsDevice}
-use Rattle.pld_device.specs.Frame.{frame_of}
-use Rattle.pld_device.specs.FieldLists.{fields_of}
+use Rattle.jedec_file.specs.Frame.{frame_of}
+use Rattle.jedec_file.specs.FieldLists.{fields_of}
 use Rattle.jedec_writer.proofs.FrameRead.{frame_read}
 use Rattle.jedec_writer.proofs.Words.{is_plain, both_pass}
 use Rattle.jedec_writer.proofs.SaidBack.{Says, says_both, is_inner, inner_plain, line_before, fields_read}

@@ -7,7 +7,7 @@ use Rattle.std.proofs.lemmas.List.{ext_get_or}
 use Rattle.std.proofs.lemmas.List.Elements.{All-head, All-tail}
 use Rattle.std.proofs.lemmas.List.FromFn.{length-range_with_len, length-map-range_with_len, get_or-map-range_with_len}
 use Rattle.pld_device.specs.Table.{Table}
-use Rattle.pld_device.specs.FuseFile.{last_of, vector_at, order_of, by_pins, vectors_of}
+use Rattle.jedec_file.specs.FuseFile.{last_of, vector_at, order_of, by_pins, vectors_of}
 use Rattle.jedec_writer.proofs.LinesRead.{IsVectorText, vector_fields}
 use Rattle.jedec_writer.proofs.TextRead.{written_fields}
 use Rattle.jedec_writer.proofs.LastSaid.{or_none, no_pin_order, vector_said}

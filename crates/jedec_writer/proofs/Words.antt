@@ -7,8 +7,8 @@ use Rattle.std.proofs.lemmas.Bool.Decides.{nat_tests}
 use Rattle.std.proofs.lemmas.List.Folds.{list_all-append}
 use Rattle.std.proofs.lemmas.List.Splits.{slice_split_none, slice_split_at}
 use Rattle.std.proofs.lemmas.List.Elements.{All-nil, All-cons}
-use Rattle.pld_device.specs.FileText.{ETX, space}
-use Rattle.pld_device.specs.Fields.{is_blank, is_empty, words}
+use Rattle.jedec_file.specs.FileText.{ETX, space}
+use Rattle.jedec_file.specs.Fields.{is_blank, has_bytes, words}
 
 -- a byte that parts no words, ends no field and ends no text: all of these come before the plus sign
 abbrev pub is_word_byte : ℕ → Bool
@@ -17,7 +17,7 @@ is_word_byte b = nat_lt 42 b
 -- there is a byte, and each is one of a word
 pub record IsWord (word : List ℕ) : Type 0 where
   pub bytes : list_all is_word_byte word ≡ true
-  pub some : is_empty word ≡ false
+  pub some : has_bytes word ≡ true
 
 -- it ends neither its field nor the text
 abbrev pub is_plain : ℕ → Bool
@@ -50,13 +50,13 @@ both_pass test xs ys first second =
 pub one_word : (word : List ℕ) → IsWord word → words word ≡ word ∷ []
 one_word word is =
     let parts : slice_split is_blank word ≡ word ∷ [] = slice_split_none is_blank word (none_blank word is.bytes) in
-    let some : is_empty word ≡ false = is.some in
+    let some : has_bytes word ≡ true = is.some in
     rw (parts, some) refl
 
 pub two_words : (first second : List ℕ) → IsWord first → IsWord second → words (first ++ space ∷ second) ≡ first ∷ second ∷ []
 two_words first second is also =
     let here : slice_split is_blank (first ++ space ∷ second) ≡ first ∷ slice_split is_blank second = slice_split_at is_blank first space second (none_blank first is.bytes) refl in
     let there : slice_split is_blank second ≡ second ∷ [] = slice_split_none is_blank second (none_blank second also.bytes) in
-    let some : is_empty first ≡ false = is.some in
-    let more : is_empty second ≡ false = also.some in
+    let some : has_bytes first ≡ true = is.some in
+    let more : has_bytes second ≡ true = also.some in
     rw (here, there, some, more) refl

@@ -1,7 +1,7 @@
 //! The lines of the array's rows.
 
 ghost use Rattle.std.specs.Prelude.{◌≡◌, ◌++◌, length, OnOk};
-ghost use Rattle.pld_device.specs.CanonicalFile.{row_lines};
+ghost use Rattle.jedec_file.specs.CanonicalFile.{row_lines};
 
 use crate::lines::put_levels_line;
 use pld_base::OutOfMemory;

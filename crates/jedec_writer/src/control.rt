@@ -1,8 +1,9 @@
 //! The line of the control fuses, which stand past the array.
 
 ghost use Rattle.std.specs.Prelude.{◌≡◌, ◌≤◌, ◌∷◌, [], ◌++◌, length, map, OnOk};
-ghost use Rattle.pld_device.specs.CanonicalFile.{control_line};
-ghost use Rattle.pld_device.specs.ControlFuses.{control_fuses, control_levels, fuses_named, past};
+ghost use Rattle.jedec_file.specs.CanonicalFile.{control_line};
+ghost use Rattle.jedec_file.specs.ControlLines.{control_levels, past};
+ghost use Rattle.pld_device.specs.ControlFuses.{control_fuses, fuses_named};
 ghost use Rattle.pld_device.specs.declared.fuse_bit.FuseBit.{FuseBit};
 
 use crate::lines::put_levels_line;

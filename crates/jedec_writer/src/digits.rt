@@ -2,7 +2,7 @@
 
 ghost use Rattle.std.specs.Prelude.{◌≡◌, ◌<◌, ◌++◌, OnOk};
 ghost use Rattle.std.specs.Fmt.{decimal};
-ghost use Rattle.pld_device.specs.FileText.{four_digits, four_hex, hex_digit};
+ghost use Rattle.jedec_file.specs.FileText.{four_digits, four_hex, hex_digit};
 
 use pld_base::OutOfMemory;
 use std::alloc::Global;

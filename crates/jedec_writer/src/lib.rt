@@ -12,5 +12,5 @@ mod vectors;
 mod writing;
 
 pub use digits::{put_decimal, put_hex};
-pub use sums::{fuse_sum, opened};
+pub use sums::fuse_sum;
 pub use writing::write;

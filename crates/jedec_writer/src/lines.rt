@@ -3,8 +3,8 @@
 ghost use Rattle.std.specs.Prelude.{◌≡◌, ◌∷◌, ◌++◌, map, OnOk, codes};
 ghost use Rattle.std.specs.List.{list_any};
 ghost use Rattle.std.specs.Fmt.{decimal};
-ghost use Rattle.pld_device.specs.CanonicalFile.{levels_line};
-ghost use Rattle.pld_device.specs.FileText.{four_hex, level_char, line};
+ghost use Rattle.jedec_file.specs.CanonicalFile.{levels_line};
+ghost use Rattle.jedec_file.specs.FileText.{four_hex, level_char, line};
 
 use crate::digits::{put_decimal, put_four, put_hex};
 use pld_base::OutOfMemory;

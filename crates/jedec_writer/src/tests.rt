@@ -1,6 +1,6 @@
 //! Files of a small device, held against texts that a separate script of a few lines made by the rules.
 
-use crate::{fuse_sum, opened, put_decimal, put_hex, write};
+use crate::{fuse_sum, put_decimal, put_hex, write};
 use pld_base::Vector;
 use pld_device::{Fuses, Sample};
 use std::test::Fail;
@@ -61,7 +61,7 @@ fn small_device_with_vectors(rt: HostRuntime) -> Result<(), Fail> {
     let file = write::<Sample>(alloc, b"s1", &fuses, &vectors).map_err(|_| "memory")?;
     assert_eq!(rt; file.as_slice(), FULL.as_bytes());
     assert_eq!(rt; fuse_sum(&fuses), 0x38A);
-    assert_eq!(rt; opened(&fuses), 26);
+    assert_eq!(rt; fuses.opened(), 26);
     Ok(())
 }
 

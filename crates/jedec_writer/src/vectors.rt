@@ -2,9 +2,9 @@
 
 ghost use Rattle.std.specs.Prelude.{◌≡◌, ◌≤◌, ◌<◌, ◌∷◌, ◌++◌, length, All, OnOk, codes};
 ghost use Rattle.std.specs.Fmt.{decimal};
-ghost use Rattle.pld_device.specs.CanonicalFile.{line_with, vector_lines};
-ghost use Rattle.pld_device.specs.FileText.{four_digits, line, space};
-ghost use Rattle.pld_device.specs.TestVectors.{all_chars, chars_of};
+ghost use Rattle.jedec_file.specs.CanonicalFile.{line_with, vector_lines};
+ghost use Rattle.jedec_file.specs.FileText.{four_digits, line, space};
+ghost use Rattle.jedec_file.specs.TestVectors.{all_chars, chars_of};
 ghost use Rattle.jedec_writer.specs.Places.{HasPlaces};
 
 use crate::digits::put_four;

@@ -2,11 +2,11 @@
 
 ghost use Rattle.std.specs.Prelude.{◌≡◌, ◌≤◌, ◌∷◌, ◌++◌, length, false, IfOk, OnOk, Ok, All, codes};
 ghost use Rattle.pld_base.specs.DeviceNames.{device_text};
-ghost use Rattle.pld_device.specs.CanonicalFile.{IsPlainName, canonical_body, canonical_file};
-ghost use Rattle.pld_device.specs.ControlFuses.{IsIntactPastLines};
-ghost use Rattle.pld_device.specs.FileText.{STX, line, space};
-ghost use Rattle.pld_device.specs.FuseFile.{file_of};
-ghost use Rattle.pld_device.specs.TestVectors.{IsTestVector, all_chars};
+ghost use Rattle.jedec_file.specs.CanonicalFile.{IsPlainName, canonical_body, canonical_file};
+ghost use Rattle.jedec_file.specs.ControlLines.{IsIntactPastLines};
+ghost use Rattle.jedec_file.specs.FileText.{STX, line, space};
+ghost use Rattle.jedec_file.specs.FuseFile.{file_of};
+ghost use Rattle.jedec_file.specs.TestVectors.{IsTestVector, all_chars};
 ghost use Rattle.jedec_writer.specs.Places.{HasPlaces};
 
 use crate::array::put_rows;
@@ -16,7 +16,8 @@ use crate::lines::{put_counted, put_end, put_fuse_sum};
 use crate::sums::fuse_sum;
 use crate::vectors::{put_default_test, put_vector_count, put_vectors};
 use pld_base::{OutOfMemory, Vector};
-use pld_device::{Device, Fuses, byte_sum};
+use jedec_file::byte_sum;
+use pld_device::{Device, Fuses};
 use std::alloc::Global;
 
 /// The first byte of the text, and the last one before its sum.

@@ -3,9 +3,9 @@ use Rattle.std.proofs.Common.{◌≡◌, ℕ, zero, suc, ◌+◌, ◌-◌, ◌*�
 use Rattle.pld_device.specs.declared.cell.Cell.{Cell}
 use Rattle.pld_device.specs.Table.{cell_at}
 use Rattle.pld_device.specs.Pins.{PairsApart}
-use Rattle.pld_device.specs.CanonicalFile.{canonical_body}
+use Rattle.jedec_file.specs.CanonicalFile.{canonical_body}
 use Rattle.pld_device.proofs.OwnPins.{own_pins, pairs_apart as device_pairs_apart}
-use Rattle.pld_device.proofs.PlainFile.{plain_body, canonical_body-plain}
+use Rattle.jedec_file.proofs.PlainFile.{plain_body, canonical_body-plain}
 use Rattle.pld_device.specs.Given.{ReadsGiven, EnableReadsGiven, IsOneLayer}
 use Rattle.device_logic.specs.CellReads.{IsCombinational}
 use Rattle.pal16_device.specs.Pal16L8Table.{combinational_cell, pal16l8}

@@ -2,8 +2,8 @@
 use Rattle.std.proofs.Common.{◌≡◌, [], length, refl}
 use Rattle.std.specs.Prelude.{codes}
 use Rattle.std.specs.Fmt.{digits}
-use Rattle.pld_device.specs.CanonicalFile.{canonical_file, row_lines}
-use Rattle.pld_device.specs.FuseSums.{opened_of}
+use Rattle.jedec_file.specs.CanonicalFile.{canonical_file, row_lines}
+use Rattle.pld_device.specs.OpenedFuses.{opened_of}
 use Rattle.pal16_device.specs.Pal16L8Table.{pal16l8}
 use Rattle.pal16_device.specs.SmallDesigns.{y1_fuses, y2_fuses, e3_fuses, y1_text, y2_text, e3_text}
 

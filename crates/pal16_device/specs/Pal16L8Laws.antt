@@ -1,7 +1,7 @@
 -- The PAL16L8's table keeps the laws of devices, by computation (this project's rule).
 use Rattle.std.proofs.Common.{refl}
 use Rattle.pld_device.specs.Laws.{IsDevice}
-use Rattle.pld_device.specs.Tests.{device_from_tests}
+use Rattle.pld_device.specs.LawTests.{device_from_tests}
 use Rattle.pal16_device.specs.Pal16L8Table.{pal16l8}
 
 pub pal16l8_sound : IsDevice pal16l8

@@ -1,8 +1,8 @@
 //! Laws of the PAL16 devices, as the contracts of calls that do nothing.
 
 ghost use Rattle.std.specs.Prelude.{◌≡◌, ◌<◌, ◌*◌, ◌-◌, ℕ, [], codes};
-ghost use Rattle.pld_device.specs.CanonicalFile.{canonical_file};
-ghost use Rattle.pld_device.specs.FuseSums.{opened_of};
+ghost use Rattle.jedec_file.specs.CanonicalFile.{canonical_file};
+ghost use Rattle.pld_device.specs.OpenedFuses.{opened_of};
 ghost use Rattle.pld_device.specs.Pins.{PairsApart};
 ghost use Rattle.pld_device.specs.Table.{cell_at};
 ghost use Rattle.device_logic.specs.CellReads.{IsCombinational};

@@ -1,6 +1,5 @@
 pub mod GivenTests
 pub mod OwnPins
-pub mod PlainFile
 pub mod RowReads
 pub mod RowValues
 pub mod RowsApart

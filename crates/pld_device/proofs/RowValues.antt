@@ -1,10 +1,7 @@
 -- Where a row is true, column by column, and where its fuses stand.
-use Rattle.std.proofs.Common.{◌≡◌, ◌↔◌, ℕ, zero, suc, ◌+◌, ◌*◌, ◌-◌, ◌<◌, Bool, true, false, ◌||◌, List, [], ◌∷◌, drop, refl, ◌∙◌, arith}
+use Rattle.std.proofs.Common.{◌≡◌, ◌↔◌, zero, suc, Bool, true, false, ◌||◌, List, [], ◌∷◌, refl, arith}
 use Rattle.std.proofs.lemmas.Bool.{and_parts, true≢false}
-use Rattle.std.proofs.lemmas.List.{get_or-drop, get_or-take}
-use Rattle.pld_base.specs.Bits.{is_on}
-use Rattle.pld_device.specs.Table.{Table}
-use Rattle.pld_device.specs.Rows.{row_fuses, row_is_true}
+use Rattle.pld_device.specs.Rows.{row_is_true}
 use Rattle.pld_device.specs.RowLaws.{CarriesAll}
 
 carries : (fuses columns : List Bool) → row_is_true fuses columns ≡ true → CarriesAll fuses columns
@@ -24,9 +21,3 @@ holds_from (false ∷ fuses) (c ∷ columns) all =
 
 pub row_is_true-columns : (fuses columns : List Bool) → (row_is_true fuses columns ≡ true) ↔ CarriesAll fuses columns
 row_is_true-columns fuses columns = (carries fuses columns, holds_from fuses columns)
-
--- a column's fuse in its row and among all fuses
-pub is_on-row_fuses : (t : Table) (fuses : List Bool) (row column : ℕ) → column < t.columns → is_on (row_fuses t fuses row) column ≡ is_on fuses (t.columns * row + column)
-is_on-row_fuses t fuses row column within =
-    get_or-take (t.columns * row + t.columns - t.columns * row) (drop (t.columns * row) fuses) column false (omega (arith, within))
-    ∙ get_or-drop (t.columns * row) fuses column false

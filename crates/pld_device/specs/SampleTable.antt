@@ -10,7 +10,7 @@ use Rattle.pld_device.specs.declared.fuse_bit.FuseBit.{FuseBit}
 use Rattle.pld_device.specs.declared.kinds.Kinds.TheVariants.{Registered, Either}
 use Rattle.pld_device.specs.Table.{Table}
 use Rattle.pld_device.specs.Laws.{IsDevice}
-use Rattle.pld_device.specs.Tests.{device_from_tests}
+use Rattle.pld_device.specs.LawTests.{device_from_tests}
 
 -- a cell of either kind with two data rows, and a register that pin 4 enables
 abbrev pub sample_cells : List Cell

@@ -18,6 +18,7 @@ impl Model for Fuses {
 
 impl Fuses {
     ghost use Rattle.std.specs.Prelude.{◌≡◌};
+    ghost use Rattle.pld_device.specs.OpenedFuses.{opened_of};
 
     /// The fuses with these levels. Takes no memory.
     pub fn from_levels(levels: Vec<bool>) -> Fuses
@@ -31,5 +32,12 @@ impl Fuses {
         ensures { result.now ≡ self.now }
     {
         &self.levels
+    }
+
+    /// How many fuses are opened, which are those of level 1. Takes no memory.
+    pub fn opened(&self) -> usize
+        ensures { result ≡ opened_of self.now }
+    {
+        self.levels.iter().filter(|level| **level).count()
     }
 }

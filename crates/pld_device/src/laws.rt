@@ -1,8 +1,8 @@
 //! Laws of all devices, as the contracts of calls that do nothing.
 
 ghost use Rattle.std.specs.Prelude.{◌≡◌, ◌↔◌, Bool, true, false, List};
-ghost use Rattle.pld_device.specs.ListTests.{apart};
-ghost use Rattle.pld_device.specs.CellTests.{is_same_carry};
+ghost use Rattle.pld_device.specs.LawTests.Lists.{apart};
+ghost use Rattle.pld_device.specs.LawTests.Cells.{is_same_carry};
 ghost use Rattle.pld_device.specs.Laws.{IsDevice};
 ghost use Rattle.pld_device.specs.Pins.{HasOwnPins, PairsApart};
 ghost use Rattle.pld_device.specs.RowLaws.{AreToldByReads, CarriesAll, HasPairs};
@@ -10,7 +10,7 @@ ghost use Rattle.pld_device.specs.RowUses.{HasRowsApart};
 ghost use Rattle.pld_device.specs.Rows.{row_is_true};
 ghost use Rattle.pld_device.specs.SampleTable.{twice_carried};
 ghost use Rattle.pld_device.specs.Table.{Table};
-ghost use Rattle.pld_device.specs.Tests.{Passes};
+ghost use Rattle.pld_device.specs.LawTests.{Passes};
 
 /// A row is true exactly where each of its connected columns carries 1, and what it reads tells its
 /// value. Does nothing.

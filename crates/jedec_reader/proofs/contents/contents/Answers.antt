@@ -1,8 +1,8 @@
 use Rattle.std.proofs.Common.{◌∙◌, refl}
 use Rattle.std.proofs.lemmas.Result.{err_from_is_err_and}
-use Rattle.pld_device.specs.FuseFile.{contents_of, size_of, default_of, levels_of, fuse_sum_read}
+use Rattle.jedec_file.specs.FuseFile.{contents_of, size_of, default_of, fuses_said, fuse_sum_read}
 use Rattle.jedec_reader.proofs.Levels.{said_length}
-use Rattle.jedec_reader.proofs.Steps.{refuses_with, default_found, default_read, levels_read, levels_of-length, sum_found, size_refused, default_refused, sum_refused, all_read}
+use Rattle.jedec_reader.proofs.Steps.{refuses_with, default_found, default_read, levels_read, fuses_said-length, sum_found, size_refused, default_refused, sum_refused, all_read}
 use Rattle.jedec_reader.proofs.contents.contents.Goals as goal
 
 pub returns-in_err-listed-clause-file : goal.returns-in_err-listed-clause-file
@@ -31,7 +31,7 @@ split_at-requires-2 g c =
     let t = g.D.Device.table in
     let fields = c.args.fields.now in
     let levels = levels_read t fields c.in_ok-listed.listed c.in_ok-default.default c.in_ok-table.table.items c.deref.result.now c.in_ok-levels.levels.items c.in_ok-table.ensures c.deref.ensures.value c.in_ok-levels.ensures in
-    rw (c.as_slice-2.ensures.value, levels, levels_of-length t fields c.in_ok-listed.listed c.in_ok-default.default, c.from-count.ensures) c.in_ok-listed.ensures.few
+    rw (c.as_slice-2.ensures.value, levels, fuses_said-length t fields c.in_ok-listed.listed c.in_ok-default.default, c.from-count.ensures) c.in_ok-listed.ensures.few
 
 pub returns-in_err-check_fuse_sum-clause-file : goal.returns-in_err-check_fuse_sum-clause-file
 returns-in_err-check_fuse_sum-clause-file g c =
@@ -41,9 +41,9 @@ returns-in_err-check_fuse_sum-clause-file g c =
     let default = default_read t fields c.in_ok-listed.listed c.in_ok-table.table.items c.by-said.result.default_fuse c.split_at.result.0.now c.in_ok-default.default c.in_ok-table.ensures c.in_ok-listed.ensures.few c.by-said.ensures.default_fuse
     (c.split_at.ensures.front ∙ rw (c.as_slice.ensures.value, c.from-count.ensures) refl) c.in_ok-default.ensures in
     let levels = levels_read t fields c.in_ok-listed.listed c.in_ok-default.default c.in_ok-table.table.items c.deref.result.now c.in_ok-levels.levels.items c.in_ok-table.ensures c.deref.ensures.value c.in_ok-levels.ensures in
-    let sum = sum_found fields c.in_ok-listed.listed (levels_of t fields c.in_ok-listed.listed c.in_ok-default.default) c.by-said.result.fuse_sum c.by-said.ensures.fuse_sum in
+    let sum = sum_found fields c.in_ok-listed.listed (fuses_said t fields c.in_ok-listed.listed c.in_ok-default.default) c.by-said.result.fuse_sum c.by-said.ensures.fuse_sum in
     let refused = rw (c.split_at-2.ensures.front, c.as_slice-2.ensures.value, c.from-count.ensures, levels, sum) at c.in_err-check_fuse_sum.ensures in
-    rw (p.1, p.2) (refuses_with c.in_err-check_fuse_sum.field-0.0 (fuse_sum_read fields c.in_ok-listed.listed (levels_of t fields c.in_ok-listed.listed c.in_ok-default.default)) (contents_of t fields)
+    rw (p.1, p.2) (refuses_with c.in_err-check_fuse_sum.field-0.0 (fuse_sum_read fields c.in_ok-listed.listed (fuses_said t fields c.in_ok-listed.listed c.in_ok-default.default)) (contents_of t fields)
     (sum_refused t fields c.in_ok-listed.listed c.in_ok-listed.ensures.size c.in_ok-default.default default) refused)
 
 pub returns-clause-file : goal.returns-clause-file
@@ -53,7 +53,7 @@ returns-clause-file g c =
     let default = default_read t fields c.in_ok-listed.listed c.in_ok-table.table.items c.by-said.result.default_fuse c.split_at.result.0.now c.in_ok-default.default c.in_ok-table.ensures c.in_ok-listed.ensures.few c.by-said.ensures.default_fuse
     (c.split_at.ensures.front ∙ rw (c.as_slice.ensures.value, c.from-count.ensures) refl) c.in_ok-default.ensures in
     let levels = levels_read t fields c.in_ok-listed.listed c.in_ok-default.default c.in_ok-table.table.items c.deref.result.now c.in_ok-levels.levels.items c.in_ok-table.ensures c.deref.ensures.value c.in_ok-levels.ensures in
-    let sum = sum_found fields c.in_ok-listed.listed (levels_of t fields c.in_ok-listed.listed c.in_ok-default.default) c.by-said.result.fuse_sum c.by-said.ensures.fuse_sum in
+    let sum = sum_found fields c.in_ok-listed.listed (fuses_said t fields c.in_ok-listed.listed c.in_ok-default.default) c.by-said.result.fuse_sum c.by-said.ensures.fuse_sum in
     let found = rw (c.split_at-2.ensures.front, c.as_slice-2.ensures.value, c.from-count.ensures, levels, sum) at c.in_ok-check_fuse_sum.ensures in
     let whole = all_read t fields c.in_ok-listed.listed c.in_ok-listed.ensures.size c.in_ok-default.default default c.in_ok-check_fuse_sum.field-0 found in
     rw (c.from_levels.ensures, levels, c.from_vec.ensures, c.in_ok-vectors.ensures.chars, c.unwrap_or.ensures, c.by-said.ensures.default_test) whole
@@ -63,4 +63,4 @@ returns-clause-fuses g c =
     let t = g.D.Device.table in
     let fields = c.args.fields.now in
     let levels = levels_read t fields c.in_ok-listed.listed c.in_ok-default.default c.in_ok-table.table.items c.deref.result.now c.in_ok-levels.levels.items c.in_ok-table.ensures c.deref.ensures.value c.in_ok-levels.ensures in
-    rw (c.from_levels.ensures, levels) (levels_of-length t fields c.in_ok-listed.listed c.in_ok-default.default)
+    rw (c.from_levels.ensures, levels) (fuses_said-length t fields c.in_ok-listed.listed c.in_ok-default.default)

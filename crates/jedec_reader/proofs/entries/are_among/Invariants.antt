@@ -1,6 +1,6 @@
 use Rattle.std.proofs.Common.{◌≡◌, drop}
 use Rattle.std.specs.List.{list_all}
-use Rattle.pld_device.specs.Fields.{is_among}
+use Rattle.jedec_file.specs.Fields.{is_among}
 use Rattle.jedec_reader.proofs.entries.are_among.Given as goal
 
 abbrev pub invariant-loop-byte : goal.invariant-loop-byte

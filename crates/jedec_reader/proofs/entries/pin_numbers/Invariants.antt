@@ -1,5 +1,5 @@
 use Rattle.std.proofs.Common.{◌≡◌, length}
-use Rattle.pld_device.specs.Fields.{each_of, words}
+use Rattle.jedec_file.specs.Fields.{each_of, words}
 use Rattle.jedec_reader.specs.FieldTexts.{pin_number}
 use Rattle.jedec_reader.proofs.EntryLemmas.{behind}
 use Rattle.jedec_reader.proofs.entries.pin_numbers.Given as goal

@@ -1,4 +1,4 @@
-use Rattle.pld_device.specs.FieldLists.{pieces}
+use Rattle.jedec_file.specs.FieldLists.{pieces}
 use Rattle.jedec_reader.proofs.Fits.{given_fit}
 use Rattle.jedec_reader.proofs.fields.fields.Goals as goal
 

@@ -1,5 +1,5 @@
 use Rattle.std.proofs.Common.{take}
-use Rattle.pld_device.specs.FuseFile.{order_of}
+use Rattle.jedec_file.specs.FuseFile.{order_of}
 use Rattle.jedec_reader.specs.VectorTable.{ArePlaces}
 use Rattle.jedec_reader.proofs.pin_order.places.Given as goal
 

@@ -1,5 +1,5 @@
 use Rattle.std.proofs.lemmas.Result.{err_from_is_err_and}
-use Rattle.pld_device.specs.FuseFile.{contents_of, file_of}
+use Rattle.jedec_file.specs.FuseFile.{contents_of, file_of}
 use Rattle.jedec_reader.specs.Contents.{contents}
 use Rattle.jedec_reader.specs.FieldsIn.{fields_in}
 use Rattle.jedec_reader.proofs.FileSteps.{fields_refused, fields_read}

@@ -1,6 +1,6 @@
 use Rattle.std.proofs.Common.{◌≡◌, length, arith, subst}
-use Rattle.pld_device.specs.FuseFile.{order_of}
-use Rattle.pld_device.specs.declared.field.Field.TheVariants as field
+use Rattle.jedec_file.specs.FuseFile.{order_of}
+use Rattle.jedec_file.specs.declared.field.Field.TheVariants as field
 use Rattle.jedec_reader.specs.FieldFits.{FieldFits}
 use Rattle.jedec_reader.proofs.Levels.{fits_at}
 use Rattle.jedec_reader.proofs.PinOrders.{order_of-length}

@@ -1,5 +1,5 @@
 use Rattle.std.proofs.Common.{◌≤◌, ◌^◌, take, length}
-use Rattle.pld_device.specs.FuseFile.{order_of}
+use Rattle.jedec_file.specs.FuseFile.{order_of}
 use Rattle.jedec_reader.specs.VectorTable.{HasVectors}
 use Rattle.jedec_reader.proofs.vectors.vector_table.Given as goal
 

@@ -1,5 +1,5 @@
 use Rattle.std.proofs.Common.{arith, not}
-use Rattle.pld_device.specs.Fields.{is_blank}
+use Rattle.jedec_file.specs.Fields.{is_blank}
 use Rattle.std.proofs.lemmas.Bool.Decides.{nat_tests}
 use Rattle.std.proofs.lemmas.List.Sums.{prefix_len-le-length}
 use Rattle.jedec_reader.proofs.WordLemmas.{no_words, words_cut, word_is_long}

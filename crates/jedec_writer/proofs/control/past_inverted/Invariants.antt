@@ -1,6 +1,7 @@
 use Rattle.std.proofs.Common.{◌≡◌, drop}
 use Rattle.std.specs.Prelude.{max}
-use Rattle.pld_device.specs.ControlFuses.{fuses_named, past}
+use Rattle.jedec_file.specs.ControlLines.{past}
+use Rattle.pld_device.specs.ControlFuses.{fuses_named}
 use Rattle.jedec_writer.proofs.control.past_inverted.Given as goal
 
 abbrev pub invariant-loop-cell : goal.invariant-loop-cell

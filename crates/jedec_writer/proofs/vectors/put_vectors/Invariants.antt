@@ -1,6 +1,6 @@
 use Rattle.std.proofs.Common.{◌≡◌, ◌+◌, ◌++◌, drop, take, All}
-use Rattle.pld_device.specs.CanonicalFile.{vector_lines}
-use Rattle.pld_device.specs.TestVectors.{all_chars}
+use Rattle.jedec_file.specs.CanonicalFile.{vector_lines}
+use Rattle.jedec_file.specs.TestVectors.{all_chars}
 use Rattle.jedec_writer.specs.Places.{HasPlaces}
 use Rattle.jedec_writer.proofs.vectors.put_vectors.Given as goal
 

@@ -1,4 +1,4 @@
-use Rattle.pld_device.specs.Tests.{device_from_tests}
+use Rattle.pld_device.specs.LawTests.{device_from_tests}
 use Rattle.pld_device.proofs.OwnPins.{own_pins, has_pairs, pairs_apart, none_carried_twice}
 use Rattle.pld_device.proofs.RowsApart.{rows_apart}
 use Rattle.pld_device.proofs.laws.tables.Goals as goal

@@ -1,0 +1,10 @@
+pub mod CanonicalFile
+pub mod ControlLines
+pub mod FieldLists
+pub mod Fields
+pub mod FileText
+pub mod Frame
+pub mod FuseFile
+pub mod FuseSums
+pub mod Refusals
+pub mod TestVectors
