@@ -1,7 +1,7 @@
 -- A fuse file has one fate with `simulate`: it is refused, or its run has no mismatch, or has some.
 use Rattle.std.proofs.Common.{◌≡◌, ◌≢◌, ℕ, ◌⊎◌, true, false, None, List, [], length, Ok, Err, sym, ◌∙◌, subst, ap, refl, inl, inr, arith}
 use Rattle.std.specs.Prelude.{Option, is_some}
-use Rattle.pld_device.specs.FuseFile.{FuseFile, file_of}
+use Rattle.jedec_file.specs.FuseFile.{FuseFile, file_of}
 use Rattle.pld_device.specs.Table.{Table}
 use Rattle.pld_order.specs.Graphs.{IsLoop}
 use Rattle.device_logic.specs.CellReads.{cell_reads}

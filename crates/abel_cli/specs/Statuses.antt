@@ -4,8 +4,8 @@ use Rattle.pld_base.specs.Outside.{Map, bytes_at, SameFiles, SameBut}
 use Rattle.first_parser.specs.declared.first_module.FirstModule.{FirstModule}
 use Rattle.first_parser.specs.declared.first_module.FirstEquation.{FirstEquation}
 use Rattle.first_parser.specs.FirstSource.{IsFirstSource}
-use Rattle.pld_device.specs.declared.jedec_fault.JedecFault.{JedecFault}
-use Rattle.pld_device.specs.FuseFile.{FuseFile, file_of}
+use Rattle.jedec_file.specs.declared.jedec_fault.JedecFault.{JedecFault}
+use Rattle.jedec_file.specs.FuseFile.{FuseFile, file_of}
 use Rattle.pld_device.specs.Table.{Table}
 use Rattle.pal16_device.specs.Pal16L8Table.{pal16l8}
 use Rattle.abel_cli.specs.declared.built_device.BuiltDevice.{BuiltDevice}

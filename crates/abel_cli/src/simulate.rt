@@ -7,7 +7,7 @@ ghost use Rattle.abel_cli.specs.Limit.{limit};
 ghost use Rattle.abel_cli.specs.View.{simulation_seen};
 ghost use Rattle.device_logic.specs.CellReads.{IsCombinational};
 ghost use Rattle.jedec_reader.specs.Contents.{contents};
-ghost use Rattle.pld_device.specs.FuseFile.{file_of};
+ghost use Rattle.jedec_file.specs.FuseFile.{file_of};
 
 use crate::built_device::BuiltDevice;
 use crate::fault_line::fault_line;

@@ -9,7 +9,7 @@ use Rattle.pld_device.specs.declared.flip.Flip.TheVariants.{Always}
 use Rattle.pld_device.specs.declared.kinds.Kinds.TheVariants.{Combinational}
 use Rattle.pld_device.specs.Table.{Table}
 use Rattle.pld_device.specs.Laws.{IsDevice}
-use Rattle.pld_device.specs.Tests.{device_from_tests}
+use Rattle.pld_device.specs.LawTests.{device_from_tests}
 use Rattle.device_logic.specs.CellReads.{IsCombinational}
 
 -- a cell on this pin, with an enable row and then two data rows

@@ -4,10 +4,10 @@ use Rattle.std.specs.List.{All}
 use Rattle.std.proofs.lemmas.List.{length-take}
 use Rattle.std.proofs.lemmas.List.Elements.{All-map}
 use Rattle.pld_base.specs.declared.point.Vector.{Vector}
-use Rattle.pld_device.specs.FuseFile.{FuseFile}
+use Rattle.jedec_file.specs.FuseFile.{FuseFile}
 use Rattle.pld_device.specs.Macrocells.{device_logic}
 use Rattle.pld_device.specs.Table.{Table}
-use Rattle.pld_device.specs.TestVectors.{all_chars}
+use Rattle.jedec_file.specs.TestVectors.{all_chars}
 use Rattle.pld_machine.specs.Once.{RunsOnce}
 use Rattle.pld_machine.specs.Order.{IsOrdered}
 use Rattle.device_logic.specs.DeviceLookups.{device_lookups}

@@ -1,8 +1,8 @@
 -- What simulating a fuse file gives, and why one isn't simulated (this project's rule).
 use Rattle.std.specs.Prelude.{◌≡◌, ℕ, suc, Bool, List, [], ◌∷◌, length, Option, None, Some, position, option_map, codes, ⊤}
 use Rattle.std.specs.Option.{option_or}
-use Rattle.pld_device.specs.Fields.{is_among}
-use Rattle.pld_device.specs.FuseFile.{FuseFile}
+use Rattle.jedec_file.specs.Fields.{is_among}
+use Rattle.jedec_file.specs.FuseFile.{FuseFile}
 use Rattle.pld_device.specs.Macrocells.{device_logic}
 use Rattle.pld_device.specs.Table.{Table}
 use Rattle.pld_order.specs.Graphs.{HasNoLoop}

@@ -5,7 +5,7 @@ use Rattle.std.specs.List.{list_any, range_with_len}
 use Rattle.pld_base.specs.Bits.{is_on}
 use Rattle.pld_base.specs.Points.{Levels}
 use Rattle.pld_base.specs.Logic.{Logic}
-use Rattle.pld_device.specs.Fields.{is_among}
+use Rattle.jedec_file.specs.Fields.{is_among}
 use Rattle.pld_machine.specs.Steps.{Run}
 use Rattle.device_sim.specs.declared.report.Mismatch.{Mismatch}
 

@@ -2,7 +2,7 @@
 
 ghost use Rattle.std.specs.Prelude.{◌≡◌, ◌<◌, ◌≤◌, ◌^◌, codes, length, position};
 ghost use Rattle.std.specs.List.{list_any};
-ghost use Rattle.pld_device.specs.Fields.{is_among};
+ghost use Rattle.jedec_file.specs.Fields.{is_among};
 ghost use Rattle.device_sim.specs.Simulated.{first_unsupported, is_unsupported};
 ghost use Rattle.device_sim.specs.VectorRun.{has_clock, is_tested};
 ghost use Rattle.device_sim.specs.VectorSteps.{all_chars_at, chars_at, level_for};

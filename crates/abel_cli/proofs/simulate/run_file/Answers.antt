@@ -2,7 +2,7 @@
 use Rattle.std.proofs.Common.{List, subst, arith}
 use Rattle.std.proofs.lemmas.List.{length-map}
 use Rattle.device_sim.specs.declared.report.Mismatch.{Mismatch}
-use Rattle.pld_device.specs.TestVectors.{chars_of}
+use Rattle.jedec_file.specs.TestVectors.{chars_of}
 use Rattle.jedec_reader.specs.Contents.{contents}
 use Rattle.abel_cli.specs.Simulating.{IsRun}
 use Rattle.abel_cli.proofs.FewVectors.{few_vectors}
