@@ -1,4 +1,5 @@
-pub mod DrivesOne
+pub mod Pal16Cells
 pub mod Pal16L8Laws
 pub mod Pal16L8Table
-pub mod SmallDesigns
+pub mod Pal16RLaws
+pub mod Pal16RTables

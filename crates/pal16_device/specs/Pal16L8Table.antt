@@ -1,17 +1,12 @@
 -- The table of the PAL16L8 (PAL16L8 datasheet, logic diagram and pinout).
-use Rattle.std.specs.Prelude.{ℕ, ◌+◌, List, [], ◌∷◌, None}
+use Rattle.std.specs.Prelude.{List, [], ◌∷◌}
 use Rattle.pld_base.specs.declared.device_name.DeviceName.TheVariants.{P16L8}
 use Rattle.pld_device.specs.declared.carry.Carry.{Carry}
 use Rattle.pld_device.specs.declared.carry.Carry.TheVariants as carry
 use Rattle.pld_device.specs.declared.cell.Cell.{Cell}
-use Rattle.pld_device.specs.declared.enable.Enable.TheVariants.{Row}
-use Rattle.pld_device.specs.declared.flip.Flip.TheVariants.{Always}
-use Rattle.pld_device.specs.declared.kinds.Kinds.TheVariants.{Combinational}
 use Rattle.pld_device.specs.Table.{Table}
-
--- a cell on a pin: its first row enables it, the seven rows after that are its data
-abbrev pub combinational_cell : (pin row : ℕ) → Cell
-combinational_cell pin row = record { pin = pin; enable = Row row; first = row + 1; room = 7; kinds = Combinational }
+pub use Rattle.pal16_device.specs.Pal16Cells.{combinational_cell}
+use Rattle.pal16_device.specs.Pal16Cells.{pal16}
 
 -- the cells, each with its pin and the first of its eight rows
 abbrev pub pal16l8_cells : List Cell
@@ -40,24 +35,6 @@ pal16l8_pairs =
     ∷ carry.Pin 9 ∷ carry.Pin 11
     ∷ []
 
--- the whole table: no clock, no reset or preset, no control fuses
+-- the whole table: no clock
 abbrev pub pal16l8 : Table
-pal16l8 = record {
-  name = P16L8;
-  pins = 20;
-  ground_pin = 10;
-  fuses = 2048;
-  short = 2048;
-  columns = 32;
-  rows = 64;
-  clock = 0;
-  reset = None;
-  preset = None;
-  flip = Always;
-  cells = pal16l8_cells;
-  pairs = pal16l8_pairs;
-  inverted = [];
-  registered = [];
-  row_switches = [];
-  fixed = [];
-}
+pal16l8 = pal16 P16L8 0 pal16l8_cells pal16l8_pairs

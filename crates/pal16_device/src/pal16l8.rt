@@ -4,6 +4,10 @@ ghost use Rattle.std.specs.Prelude.{◌≡◌, ◌↔◌, ℕ, IfSome, None};
 ghost use Rattle.pld_device.specs.Pins.{IsCellOf, IsPairOf};
 ghost use Rattle.pal16_device.specs.Pal16L8Table.{pal16l8};
 
+use crate::cells::combinational;
+use pld_base::DeviceName;
+use pld_device::{Carry, Cell, Device, Flip, FuseBit};
+
 /// The PAL16L8, as a type without values of its own.
 #[derive(Clone, Copy, Debug, PartialEq, Eq)]
 pub struct Pal16L8;
@@ -33,5 +37,123 @@ impl Pal16L8 {
             12..=19 => Some(19 - pin),
             _ => None,
         }
+    }
+}
+
+impl Device for Pal16L8 {
+    ghost use Rattle.std.specs.Prelude.{None, refl};
+    ghost use Rattle.pld_base.specs.declared.device_name.DeviceName.TheVariants.{P16L8};
+    ghost use Rattle.pld_device.specs.declared.flip.Flip.TheVariants.{Always};
+    ghost use Rattle.pal16_device.specs.Pal16L8Laws.{pal16l8_sound};
+    ghost use Rattle.pal16_device.specs.Pal16L8Table.{pal16l8};
+
+    const NAME: DeviceName = DeviceName::P16L8;
+
+    const PINS: u8 = 20;
+
+    const GROUND: u8 = 10;
+
+    const FUSES: u16 = 2048;
+
+    const SHORT: u16 = 2048;
+
+    const COLUMNS: u16 = 32;
+
+    const ROWS: u16 = 64;
+
+    const CELLS: u8 = 8;
+
+    const CLOCK: u8 = 0;
+
+    const RESET: Option<u16> = None;
+
+    const PRESET: Option<u16> = None;
+
+    const FLIP: Flip = Flip::Always;
+
+    ghost NAME = { P16L8 };
+
+    ghost PINS = { 20 };
+
+    ghost GROUND = { 10 };
+
+    ghost FUSES = { 2048 };
+
+    ghost SHORT = { 2048 };
+
+    ghost COLUMNS = { 32 };
+
+    ghost ROWS = { 64 };
+
+    ghost CELLS = { 8 };
+
+    ghost CLOCK = { 0 };
+
+    ghost RESET = { None };
+
+    ghost PRESET = { None };
+
+    ghost FLIP = { Always };
+
+    ghost table = { pal16l8 };
+
+    ghost name_is = { refl };
+
+    ghost pins_is = { refl };
+
+    ghost ground_is = { refl };
+
+    ghost fuses_is = { refl };
+
+    ghost short_is = { refl };
+
+    ghost columns_is = { refl };
+
+    ghost rows_is = { refl };
+
+    ghost cells_is = { refl };
+
+    ghost clock_is = { refl };
+
+    ghost reset_is = { refl };
+
+    ghost preset_is = { refl };
+
+    ghost flip_is = { refl };
+
+    ghost sound = { pal16l8_sound };
+
+    #[rattlefmt::skip]
+    fn carries(pair: u16) -> Carry {
+        match pair {
+            0  => Carry::Pin(2),  1 => Carry::Pin(1),
+            2  => Carry::Pin(3),  3 => Carry::Cell(1),
+            4  => Carry::Pin(4),  5 => Carry::Cell(2),
+            6  => Carry::Pin(5),  7 => Carry::Cell(3),
+            8  => Carry::Pin(6),  9 => Carry::Cell(4),
+            10 => Carry::Pin(7), 11 => Carry::Cell(5),
+            12 => Carry::Pin(8), 13 => Carry::Cell(6),
+            14 => Carry::Pin(9),  _ => Carry::Pin(11),
+        }
+    }
+
+    fn cell(index: u8) -> Cell {
+        combinational(index)
+    }
+
+    fn inverted_at(cell: u8) -> Option<FuseBit> {
+        None
+    }
+
+    fn registered_at(cell: u8) -> Option<FuseBit> {
+        None
+    }
+
+    fn row_switch(row: u16) -> Option<u16> {
+        None
+    }
+
+    fn fixed(index: u16) -> Option<FuseBit> {
+        None
     }
 }

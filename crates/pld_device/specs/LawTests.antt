@@ -5,10 +5,10 @@ pub mod Controls
 pub mod FuseLists
 pub mod Lists
 pub mod Rows
-use Rattle.std.proofs.Common.{◌≡◌, ℕ, true, not, length, get_or, refl, arith, eq-eqb}
+use Rattle.std.proofs.Common.{◌≡◌, ℕ, Bool, true, ◌&&◌, not, length, get_or, refl, arith, eq-eqb}
 use Rattle.std.specs.Prelude.{◌==◌, is_some}
 use Rattle.std.specs.List.{list_all}
-use Rattle.std.proofs.lemmas.Bool.{eqb-true}
+use Rattle.std.proofs.lemmas.Bool.{eqb-true, and_parts}
 use Rattle.std.proofs.lemmas.Bool.Decides.{nat_tests}
 use Rattle.pld_device.specs.declared.cell.Cell.{Cell}
 use Rattle.pld_base.specs.Bits.{same_level}
@@ -59,3 +59,57 @@ device_from_tests t p =
       inverted = λ c within. inverted_where (inverted_at t c) t.flip (at_below (length t.cells) (λ c. same_level (is_some (inverted_at t c)) (not (is_always t.flip))) p.inverted c within);
       registered = λ c within. registered_where (registered_at t c) (cell_at t c).kinds (at_below (length t.cells) (λ c. same_level (is_some (registered_at t c)) (is_either (cell_at t c).kinds)) p.registered c within);
     }
+
+-- the table passes every test, as one truth value
+abbrev pub passes_all : Table → Bool
+passes_all t =
+    low_sizes t
+    && high_sizes t
+    && all_below t.rows (λ row. length (uses_of t row) == 1)
+    && row_below t.reset t.rows
+    && row_below t.preset t.rows
+    && list_all (cell_test t) t.cells
+    && apart (λ (a b : Cell). a.pin == b.pin) t.cells
+    && list_all (pair_test t) t.pairs
+    && apart is_same_carry t.pairs
+    && list_all (control_test t) (control_fuses t)
+    && apart (λ (a b : ℕ). a == b) (control_fuses t)
+    && ends_test t
+    && all_below (length t.cells) (λ c. same_level (is_some (inverted_at t c)) (not (is_always t.flip)))
+    && all_below (length t.cells) (λ c. same_level (is_some (registered_at t c)) (is_either (cell_at t c).kinds))
+
+passes_each : (t : Table) → passes_all t ≡ true → Passes t
+passes_each t test =
+    let p13 = and_parts _ _ test in
+    let p12 = and_parts _ _ p13.0 in
+    let p11 = and_parts _ _ p12.0 in
+    let p10 = and_parts _ _ p11.0 in
+    let p9 = and_parts _ _ p10.0 in
+    let p8 = and_parts _ _ p9.0 in
+    let p7 = and_parts _ _ p8.0 in
+    let p6 = and_parts _ _ p7.0 in
+    let p5 = and_parts _ _ p6.0 in
+    let p4 = and_parts _ _ p5.0 in
+    let p3 = and_parts _ _ p4.0 in
+    let p2 = and_parts _ _ p3.0 in
+    let p1 = and_parts _ _ p2.0 in
+    record {
+      low = p1.0;
+      high = p1.1;
+      rows = p2.1;
+      reset = p3.1;
+      preset = p4.1;
+      cells = p5.1;
+      pins = p6.1;
+      pairs = p7.1;
+      carries = p8.1;
+      control = p9.1;
+      fuses = p10.1;
+      ends = p11.1;
+      inverted = p12.1;
+      registered = p13.1;
+    }
+
+-- a device's laws, by one computation
+pub device_by_computation : (t : Table) → passes_all t ≡ true → IsDevice t
+device_by_computation t test = device_from_tests t (passes_each t test)

@@ -1,4 +1,5 @@
 pub mod ControlFuses
+pub mod DrawnFuses
 pub mod Given
 pub mod LawTests
 pub mod Laws
@@ -11,4 +12,5 @@ pub mod RowLaws
 pub mod RowUses
 pub mod Rows
 pub mod SampleTable
+pub mod ShownCells
 pub mod Table

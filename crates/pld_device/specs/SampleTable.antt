@@ -10,7 +10,7 @@ use Rattle.pld_device.specs.declared.fuse_bit.FuseBit.{FuseBit}
 use Rattle.pld_device.specs.declared.kinds.Kinds.TheVariants.{Registered, Either}
 use Rattle.pld_device.specs.Table.{Table}
 use Rattle.pld_device.specs.Laws.{IsDevice}
-use Rattle.pld_device.specs.LawTests.{device_from_tests}
+use Rattle.pld_device.specs.LawTests.{device_by_computation}
 
 -- a cell of either kind with two data rows, and a register that pin 4 enables
 abbrev pub sample_cells : List Cell
@@ -47,24 +47,7 @@ sample = record {
 
 -- its laws, by computation
 pub sample_sound : IsDevice sample
-sample_sound =
-    device_from_tests sample
-    (record {
-      low = refl;
-      high = refl;
-      rows = refl;
-      reset = refl;
-      preset = refl;
-      cells = refl;
-      pins = refl;
-      pairs = refl;
-      carries = refl;
-      control = refl;
-      fuses = refl;
-      ends = refl;
-      inverted = refl;
-      registered = refl;
-    })
+sample_sound = device_by_computation sample refl
 
 -- the same with pin 2 on two pairs
 abbrev pub twice_carried : Table

@@ -1,17 +1,21 @@
-//! The PAL16L8 as a device.
+//! The PAL16R8: eight registers, over 64 rows of 32 columns.
 
-use crate::pal16l8::Pal16L8;
+use crate::cells::{registered, registered_pair};
 use pld_base::DeviceName;
-use pld_device::{Carry, Cell, Device, Enable, Flip, FuseBit, Kinds};
+use pld_device::{Carry, Cell, Device, Flip, FuseBit};
 
-impl Device for Pal16L8 {
+/// The PAL16R8, as a type without values of its own.
+#[derive(Clone, Copy, Debug, PartialEq, Eq)]
+pub struct Pal16R8;
+
+impl Device for Pal16R8 {
     ghost use Rattle.std.specs.Prelude.{None, refl};
-    ghost use Rattle.pld_base.specs.declared.device_name.DeviceName.TheVariants.{P16L8};
+    ghost use Rattle.pld_base.specs.declared.device_name.DeviceName.TheVariants.{P16R8};
     ghost use Rattle.pld_device.specs.declared.flip.Flip.TheVariants.{Always};
-    ghost use Rattle.pal16_device.specs.Pal16L8Laws.{pal16l8_sound};
-    ghost use Rattle.pal16_device.specs.Pal16L8Table.{pal16l8};
+    ghost use Rattle.pal16_device.specs.Pal16RLaws.{pal16r8_sound};
+    ghost use Rattle.pal16_device.specs.Pal16RTables.{pal16r8};
 
-    const NAME: DeviceName = DeviceName::P16L8;
+    const NAME: DeviceName = DeviceName::P16R8;
 
     const PINS: u8 = 20;
 
@@ -27,7 +31,7 @@ impl Device for Pal16L8 {
 
     const CELLS: u8 = 8;
 
-    const CLOCK: u8 = 0;
+    const CLOCK: u8 = 1;
 
     const RESET: Option<u16> = None;
 
@@ -35,7 +39,7 @@ impl Device for Pal16L8 {
 
     const FLIP: Flip = Flip::Always;
 
-    ghost NAME = { P16L8 };
+    ghost NAME = { P16R8 };
 
     ghost PINS = { 20 };
 
@@ -51,7 +55,7 @@ impl Device for Pal16L8 {
 
     ghost CELLS = { 8 };
 
-    ghost CLOCK = { 0 };
+    ghost CLOCK = { 1 };
 
     ghost RESET = { None };
 
@@ -59,7 +63,7 @@ impl Device for Pal16L8 {
 
     ghost FLIP = { Always };
 
-    ghost table = { pal16l8 };
+    ghost table = { pal16r8 };
 
     ghost name_is = { refl };
 
@@ -85,31 +89,14 @@ impl Device for Pal16L8 {
 
     ghost flip_is = { refl };
 
-    ghost sound = { pal16l8_sound };
+    ghost sound = { pal16r8_sound };
 
-    #[rattlefmt::skip]
     fn carries(pair: u16) -> Carry {
-        match pair {
-            0  => Carry::Pin(2),  1 => Carry::Pin(1),
-            2  => Carry::Pin(3),  3 => Carry::Cell(1),
-            4  => Carry::Pin(4),  5 => Carry::Cell(2),
-            6  => Carry::Pin(5),  7 => Carry::Cell(3),
-            8  => Carry::Pin(6),  9 => Carry::Cell(4),
-            10 => Carry::Pin(7), 11 => Carry::Cell(5),
-            12 => Carry::Pin(8), 13 => Carry::Cell(6),
-            14 => Carry::Pin(9),  _ => Carry::Pin(11),
-        }
+        registered_pair(pair)
     }
 
     fn cell(index: u8) -> Cell {
-        let row = u16::from(index) * 8;
-        Cell {
-            pin: 19 - index,
-            enable: Enable::Row(row),
-            first: row + 1,
-            room: 7,
-            kinds: Kinds::Combinational,
-        }
+        registered(index)
     }
 
     fn inverted_at(cell: u8) -> Option<FuseBit> {

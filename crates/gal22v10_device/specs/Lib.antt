@@ -1,0 +1,2 @@
+pub mod Gal22V10Laws
+pub mod Gal22V10Table
