@@ -1,3 +1,4 @@
+pub mod CounterCells
 pub mod Pal16Cells
 pub mod Pal16L8Laws
 pub mod Pal16L8Table

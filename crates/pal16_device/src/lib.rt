@@ -10,7 +10,7 @@ mod pal16r8;
 #[cfg(test)]
 mod tests;
 
-pub use laws::layout;
+pub use laws::{counters, layout};
 pub use pal16l8::Pal16L8;
 pub use pal16r4::Pal16R4;
 pub use pal16r6::Pal16R6;

@@ -1,6 +1,6 @@
-//! The lookups against the PAL16L8's logic diagram.
+//! The lookups against the logic diagrams of the PAL16 devices.
 
-use crate::Pal16L8;
+use crate::{Pal16L8, Pal16R4, Pal16R6, Pal16R8};
 use pld_base::DeviceName;
 use pld_device::{Carry, Cell, Device, Enable, FuseBit, Kinds};
 
@@ -82,4 +82,42 @@ fn there_are_no_control_fuses(rt: HostRuntime) {
     for row in 0..64 {
         assert!(rt; Pal16L8::row_switch(row) == None, "row {row}");
     }
+}
+
+/// The pin of each pair of columns of a device with registers.
+const REGISTERED_PAIRS: [u8; 16] = [2, 19, 3, 18, 4, 17, 5, 16, 6, 15, 7, 14, 8, 13, 9, 12];
+
+/// Whether each cell of a device with registers is one that pin 11 enables, and its clock.
+fn registers<D: Device>() -> [bool; 8] {
+    let mut registers = [false; 8];
+    for index in 0..D::CELLS.min(8) {
+        registers[usize::from(index)] = D::cell(index).enable == Enable::PinLow(11);
+    }
+    registers
+}
+
+/// The pin of each pair, 0 past the last one.
+fn pair_pins<D: Device>() -> [u8; 16] {
+    let mut pins = [0; 16];
+    for pair in 0..(D::COLUMNS / 2).min(16) {
+        pins[usize::from(pair)] = match D::carries(pair) {
+            Carry::Pin(pin) => pin,
+            Carry::Cell(cell) => CELLS[usize::from(cell % 8)].0,
+        };
+    }
+    pins
+}
+
+#[test]
+fn registers_stand_where_the_datasheets_have_them(rt: HostRuntime) {
+    const O: bool = false;
+    const I: bool = true;
+    assert!(rt; registers::<Pal16L8>() == [O; 8]);
+    assert!(rt; registers::<Pal16R4>() == [O, O, I, I, I, I, O, O]);
+    assert!(rt; registers::<Pal16R6>() == [O, I, I, I, I, I, I, O]);
+    assert!(rt; registers::<Pal16R8>() == [I; 8]);
+    assert!(rt; [Pal16R4::CLOCK, Pal16R6::CLOCK, Pal16R8::CLOCK] == [1, 1, 1]);
+    assert!(rt; pair_pins::<Pal16R4>() == REGISTERED_PAIRS);
+    assert!(rt; pair_pins::<Pal16R6>() == REGISTERED_PAIRS);
+    assert!(rt; pair_pins::<Pal16R8>() == REGISTERED_PAIRS);
 }

@@ -1,5 +1,5 @@
 -- What a cell shows at a point, for examples (this project's rule).
-use Rattle.std.specs.Prelude.{ℕ, ◌==◌, Bool, List, [], map}
+use Rattle.std.specs.Prelude.{◌≡◌, ℕ, ◌==◌, Bool, List, [], map}
 use Rattle.std.specs.List.{list_any, range_with_len}
 use Rattle.pld_base.specs.Points.{Levels}
 use Rattle.pld_device.specs.Macrocells.{is_enabled, or_value, pin_level, next_q}
@@ -25,7 +25,12 @@ pub record Shown : Type 0 where
   pub feedback : Bool
   pub next : Bool
 
--- the same of the cell of a device
+-- these six, in this order
+abbrev pub shown : (stores enabled any_row pin feedback next : Bool) → Shown
+shown stores enabled any_row pin feedback next =
+    record { stores = stores; enabled = enabled; any_row = any_row; pin = pin; feedback = feedback; next = next }
+
+-- what the cell of a device shows
 abbrev pub shown_cell : Table → List Bool → Levels → ℕ → Shown
 shown_cell t fuses at c = record {
   stores = stores t fuses c;
@@ -35,3 +40,19 @@ shown_cell t fuses at c = record {
   feedback = feedback t fuses at c;
   next = next_q t fuses at c;
 }
+
+-- a row of a table of examples: a point, a cell, and what it shows there
+abbrev pub ShownRow : Type 0
+ShownRow = Levels × ℕ × Shown
+
+-- what the device shows in the row's place
+abbrev pub found_in : Table → List Bool → ShownRow → Shown
+found_in t fuses (at, c, expected) = shown_cell t fuses at c
+
+-- what the row says
+abbrev pub said_in : ShownRow → Shown
+said_in (at, c, expected) = expected
+
+-- each row is so
+abbrev pub ShowsEach : Table → List Bool → List ShownRow → Type 0
+ShowsEach t fuses rows = map (found_in t fuses) rows ≡ map said_in rows
