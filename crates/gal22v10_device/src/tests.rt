@@ -62,7 +62,7 @@ fn pairs_are_those_of_the_diagram(rt: HostRuntime) {
     for pair in 0..22 {
         let carried = match Gal22V10::carries(pair as u16) {
             Carry::Pin(pin) => pin,
-            Carry::Cell(cell) => CELLS[usize::from(cell)].0,
+            Carry::Cell(cell) => CELLS[usize::from(cell % 10)].0,
         };
         assert!(rt; carried == PAIRS[pair], "pair {pair}");
     }

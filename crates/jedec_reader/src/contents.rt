@@ -15,8 +15,8 @@ use crate::fuse_levels::{default_level, fuse_levels};
 use crate::level_table::level_table;
 use crate::said::Said;
 use crate::vectors::vectors;
-use pld_base::ListOf;
 use jedec_file::{Field, JedecFault, fuse_sum};
+use pld_base::ListOf;
 use pld_device::{Device, Fuses};
 use std::alloc::Global;
 

@@ -13,8 +13,8 @@ use crate::entries::{are_test_characters, characters, is_among, is_each_pin, lev
 use crate::words::{
     first_word, is_number, only_level, only_number, only_sum, short_number, trimmed,
 };
-use pld_base::ListOf;
 use jedec_file::Field;
+use pld_base::ListOf;
 use pld_device::Device;
 use std::alloc::{AllocError, Global};
 

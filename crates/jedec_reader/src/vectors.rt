@@ -9,8 +9,8 @@ ghost use Rattle.jedec_reader.specs.VectorTable.{ArePlaces, AreWithin, IsPlaced}
 ghost use Rattle.jedec_reader.specs.VectorTable.{HasPutVector, HasVectors, present};
 
 use crate::pin_order::places;
-use pld_base::Vector;
 use jedec_file::Field;
+use pld_base::Vector;
 use pld_device::Device;
 use std::alloc::{AllocError, Global};
 

@@ -3,7 +3,6 @@
 
 mod array;
 mod control;
-mod digits;
 mod lines;
 mod sums;
 #[cfg(test)]
@@ -11,6 +10,5 @@ mod tests;
 mod vectors;
 mod writing;
 
-pub use digits::{put_decimal, put_hex};
 pub use sums::fuse_sum;
 pub use writing::write;

@@ -6,8 +6,7 @@ ghost use Rattle.std.specs.Fmt.{decimal};
 ghost use Rattle.jedec_file.specs.CanonicalFile.{levels_line};
 ghost use Rattle.jedec_file.specs.FileText.{four_hex, level_char, line};
 
-use crate::digits::{put_decimal, put_four, put_hex};
-use pld_base::OutOfMemory;
+use pld_base::{OutOfMemory, put_decimal, put_four_digits, put_hex};
 use std::alloc::Global;
 
 /// Ends a field and its line.
@@ -41,7 +40,7 @@ pub fn put_levels_line(out: &mut Vec<u8>, first: u16, levels: &[bool]) -> Result
 {
     if is_any_opened(levels) {
         out.push(b'L')?;
-        put_four(out, first)?;
+        put_four_digits(out, first)?;
         out.push(b' ')?;
         put_levels(out, levels)?;
         put_end(out)?;

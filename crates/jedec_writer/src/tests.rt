@@ -1,6 +1,6 @@
 //! Files of a small device, held against texts that a separate script of a few lines made by the rules.
 
-use crate::{fuse_sum, put_decimal, put_hex, write};
+use crate::{fuse_sum, write};
 use pld_base::Vector;
 use pld_device::{Fuses, Sample};
 use std::test::Fail;
@@ -71,15 +71,5 @@ fn small_device_without_vectors(rt: HostRuntime) -> Result<(), Fail> {
     let fuses = Fuses::from_levels(Vec::from_array(alloc, [O; 60]).map_err(|_| "memory")?);
     let file = write::<Sample>(alloc, b"s2", &fuses, &[]).map_err(|_| "memory")?;
     assert_eq!(rt; file.as_slice(), BARE.as_bytes());
-    Ok(())
-}
-
-#[test]
-fn numbers_as_digits(rt: HostRuntime) -> Result<(), Fail> {
-    let mut text = Vec::new(rt.alloc());
-    put_hex(&mut text, 0xBDF).map_err(|_| "memory")?;
-    put_decimal(rt.alloc(), &mut text, 93).map_err(|_| "memory")?;
-    put_decimal(rt.alloc(), &mut text, 0).map_err(|_| "memory")?;
-    assert_eq!(rt; text.as_slice(), b"0BDF930".as_slice());
     Ok(())
 }

@@ -7,9 +7,8 @@ ghost use Rattle.jedec_file.specs.FileText.{four_digits, line, space};
 ghost use Rattle.jedec_file.specs.TestVectors.{all_chars, chars_of};
 ghost use Rattle.jedec_writer.specs.Places.{HasPlaces};
 
-use crate::digits::put_four;
 use crate::lines::{put_counted, put_end};
-use pld_base::{OutOfMemory, Vector};
+use pld_base::{OutOfMemory, Vector, put_four_digits};
 use pld_device::Device;
 use std::alloc::Global;
 
@@ -48,7 +47,7 @@ fn put_vector<D: Device>(out: &mut Vec<u8>, number: u16, vector: &Vector) -> Res
     ensures places { HasPlaces vector.now }
 {
     out.push(b'V')?;
-    put_four(out, number)?;
+    put_four_digits(out, number)?;
     out.push(b' ')?;
     out.extend_from_slice(&vector.chars[..usize::from(D::PINS)])?;
     put_end(out)

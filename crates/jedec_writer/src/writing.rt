@@ -11,12 +11,11 @@ ghost use Rattle.jedec_writer.specs.Places.{HasPlaces};
 
 use crate::array::put_rows;
 use crate::control::put_control;
-use crate::digits::put_hex;
 use crate::lines::{put_counted, put_end, put_fuse_sum};
 use crate::sums::fuse_sum;
 use crate::vectors::{put_default_test, put_vector_count, put_vectors};
-use pld_base::{OutOfMemory, Vector};
 use jedec_file::byte_sum;
+use pld_base::{OutOfMemory, Vector, put_hex};
 use pld_device::{Device, Fuses};
 use std::alloc::Global;
 
