@@ -1,4 +1,4 @@
-pub mod Flat
+pub mod Comparison
 pub mod Lookups
 pub mod Once
 pub mod Order
@@ -8,3 +8,5 @@ pub mod Settling
 pub mod Shifter
 pub mod Shows
 pub mod Steps
+pub mod Through
+pub mod Valued

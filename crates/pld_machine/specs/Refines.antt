@@ -4,27 +4,16 @@ use Rattle.pld_base.specs.Points.{Levels, IsPoint}
 use Rattle.pld_base.specs.Logic.{Logic}
 use Rattle.pld_machine.specs.Rest.{AtRest}
 use Rattle.pld_machine.specs.Steps.{Step, Run}
+use Rattle.pld_machine.specs.Through.{SameCells, AllowsAt}
 
--- the same cells, pins, registers, clock, nodes and enables, and the same resets and presets of registers;
--- and at a point `s` allows an enabled cell's levels, a node's values and a register's next Qs that `d`
--- allows there
+-- the same cells, clock and nodes; and at each point `s` has the same enables, resets and presets, and allows the
+-- levels, values and next Qs that `d` allows
 pub record Refines (d s : Logic) : Type 0 where
-  pub cells : d.cells ≡ s.cells
-  pub pin : (c : ℕ) → c < s.cells → d.pin c ≡ s.pin c
-  pub stores : (c : ℕ) → c < s.cells → d.stores c ≡ s.stores c
-  pub clock : d.clock ≡ s.clock
+  pub same_cells : SameCells d s
   pub is_node : (n : ℕ) → n < 128 → d.is_node n ≡ s.is_node n
-  pub enabled : (at : Levels) → IsPoint at → (c : ℕ) → c < s.cells → d.enabled at c ≡ s.enabled at c
-  pub level : (at : Levels) → IsPoint at → (c : ℕ) → c < s.cells
-      → s.enabled at c ≡ true → (v : Bool) → d.allows_level at c v ≡ true → s.allows_level at c v ≡ true
+  pub allows : (at : Levels) → IsPoint at → AllowsAt d s at at
   pub node : (at : Levels) → IsPoint at → (n : ℕ) → n < 128
       → (v : Bool) → d.allows_node at n v ≡ true → s.allows_node at n v ≡ true
-  pub reset : (at : Levels) → IsPoint at → (c : ℕ) → c < s.cells
-      → s.stores c ≡ true → d.reset at c ≡ s.reset at c
-  pub preset : (at : Levels) → IsPoint at → (c : ℕ) → c < s.cells
-      → s.stores c ≡ true → d.preset at c ≡ s.preset at c
-  pub next : (at : Levels) → IsPoint at → (c : ℕ) → c < s.cells
-      → s.stores c ≡ true → (v : Bool) → d.allows_next at c v ≡ true → s.allows_next at c v ≡ true
 
 -- `s` has every point at rest of `d`
 abbrev pub HasRestsOf : Logic → Logic → Type 0

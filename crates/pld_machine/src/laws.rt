@@ -1,24 +1,18 @@
 //! Laws of all logics, as the contracts of calls that do nothing.
 
 ghost use Rattle.pld_base.specs.Logic.{Logic};
-ghost use Rattle.pld_machine.specs.Flat.{IsFlat};
+ghost use Rattle.pld_machine.specs.Comparison.{DoesTheSame, RefinesValued};
 ghost use Rattle.pld_machine.specs.Once.{RestsOnce, RunsOnce};
 ghost use Rattle.pld_machine.specs.Lookups.{Lookups, logic_of};
 ghost use Rattle.pld_machine.specs.Order.{IsOrdered};
 ghost use Rattle.pld_machine.specs.Refines.{Refines, HasRestsOf, HasStepsOf, HasRunsOf};
+ghost use Rattle.pld_machine.specs.Valued.{NodeValues, HasNoNodes, SameValues};
 
 /// A logic in order comes to rest in exactly one way from every state, and has exactly one run for
 /// every list of outside levels that isn't empty. Does nothing.
 pub fn one_run()
     ensures rests { (m : Lookups) → IsOrdered m → RestsOnce (logic_of m) }
     ensures runs { (m : Lookups) → IsOrdered m → RunsOnce (logic_of m) }
-{}
-
-/// A logic of one layer comes to rest in exactly one way, and has exactly one run for every list of
-/// outside levels that isn't empty. Does nothing.
-pub fn flat_run()
-    ensures rests { (m : Logic) → IsFlat m → RestsOnce m }
-    ensures runs { (m : Logic) → IsFlat m → RunsOnce m }
 {}
 
 /// What a logic does that allows no more than another, the other does too; where each allows no more
@@ -29,4 +23,16 @@ pub fn refined_run()
     ensures runs { (d s : Logic) → Refines d s → HasRunsOf s d }
     ensures one_rest { (d s : Logic) → Refines d s → Refines s d → RestsOnce s → RestsOnce d }
     ensures one_run { (d s : Logic) → Refines d s → Refines s d → RunsOnce s → RunsOnce d }
+{}
+
+/// A device does what a source says that allows at each point, with its nodes valued there, what the
+/// device does. Where neither has nodes, its runs are the source's as they are; and it does what any
+/// other source says that allows the same. Does nothing.
+pub fn valued_run()
+    ensures same { (d s : Logic) (values : NodeValues)
+        → RefinesValued d s values → RestsOnce d → RunsOnce d → DoesTheSame d s values }
+    ensures plain { (d s : Logic) (values : NodeValues)
+        → DoesTheSame d s values → HasNoNodes d → HasNoNodes s → HasRunsOf s d }
+    ensures other { (d s r : Logic) (values others : NodeValues) → Refines s r → Refines r s
+        → SameValues s values others → DoesTheSame d s values → DoesTheSame d r others }
 {}

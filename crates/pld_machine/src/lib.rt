@@ -10,7 +10,7 @@ mod steps;
 mod tests;
 mod traces;
 
-pub use laws::{flat_run, one_run, refined_run};
+pub use laws::{one_run, refined_run, valued_run};
 pub use logic::{Logic, Slot};
 pub use rests::rest;
 pub use steps::step;

@@ -1,0 +1,57 @@
+-- What it is for a device to do what a source says: a logic without nodes against one that may have nodes and
+-- don't-cares (the main statement of any compiler of sources for devices).
+use Rattle.std.specs.Prelude.{◌≡◌, ◌≢◌, ℕ, ◌<◌, Bool, true, false, List}
+use Rattle.pld_base.specs.Points.{Levels, IsPoint}
+use Rattle.pld_base.specs.Logic.{Logic}
+use Rattle.pld_machine.specs.Steps.{Run}
+use Rattle.pld_machine.specs.Once.{RestsOnce, RunsOnce}
+use Rattle.pld_machine.specs.Through.{SameCells, AllowsAt, AreSeen}
+use Rattle.pld_machine.specs.Valued.{NodeValues, IsValuedOf, ValuesOnce, AllowsValues, HasNoNodes}
+
+-- the same cells are enabled in the device at the first point and in the source at the second
+abbrev pub SameEnables : Logic → Logic → Levels → Levels → Type 0
+SameEnables device source at valued = (c : ℕ) → c < device.cells → device.enabled at c ≡ source.enabled valued c
+
+-- the source shows, drives and stores at the second point what the device does at the first: it is the first with
+-- the source's nodes valued, and the same cells are enabled there
+pub record IsShownAs (device source : Logic) (values : NodeValues) (at valued : Levels) : Type 0 where
+  pub is : IsValuedOf source values at valued
+  pub enables : SameEnables device source at valued
+
+-- each run of the device, with the nodes at each point valued, is a run of the source
+abbrev pub HasValuedRunsOf : Logic → Logic → NodeValues → Type 0
+HasValuedRunsOf source device values =
+    (outsides : List (List Bool)) (points : List Levels) → Run device outsides points
+    → (valued : List Levels) × AreSeen (IsShownAs device source values) points valued × Run source outsides valued
+
+-- exactly one of the two values is allowed
+abbrev pub AllowsOne : (Bool → Bool) → Type 0
+AllowsOne allows = allows true ≢ allows false
+
+-- at every point each enabled cell's level, each node's value and each register's next Q is one
+pub record HasNoDontCare (m : Logic) : Type 0 where
+  pub level : (at : Levels) → IsPoint at → (c : ℕ) → c < m.cells → m.enabled at c ≡ true → AllowsOne (m.allows_level at c)
+  pub node : (at : Levels) → IsPoint at → (n : ℕ) → n < 128 → m.is_node n ≡ true → AllowsOne (m.allows_node at n)
+  pub next : (at : Levels) → IsPoint at → (c : ℕ) → c < m.cells → m.stores c ≡ true → AllowsOne (m.allows_next at c)
+
+-- both have the same cells. From all outside levels and stored Qs the device comes to rest in exactly one way, and
+-- it has exactly one run for every list of outside levels that isn't empty; with the source's nodes valued, for
+-- which there is one way, that is a run of the source, with the same cells enabled at each point; and where the
+-- source has no don't-care, it has that run alone
+pub record DoesTheSame (device source : Logic) (values : NodeValues) : Type 0 where
+  pub same_cells : SameCells device source
+  pub one_rest : RestsOnce device
+  pub one_run : RunsOnce device
+  pub one_value : ValuesOnce source values
+  pub runs : HasValuedRunsOf source device values
+  pub source_run : HasNoDontCare source → RunsOnce source
+
+-- the device has no nodes and no don't-care; and at each point, with the source's nodes valued there, the source
+-- allows what the device does
+pub record RefinesValued (device source : Logic) (values : NodeValues) : Type 0 where
+  pub same_cells : SameCells device source
+  pub no_nodes : HasNoNodes device
+  pub one_each : HasNoDontCare device
+  pub one_value : ValuesOnce source values
+  pub allowed : AllowsValues source values
+  pub allows : (at valued : Levels) → IsPoint at → IsValuedOf source values at valued → AllowsAt device source at valued
