@@ -1,5 +1,10 @@
+pub mod DoneSets
+pub mod LeadLists
 pub mod Lists
+pub mod LoopPaths
 pub mod OneOfBoth
 pub mod Orders
+pub mod Ranks
 pub mod Turns
 pub mod Walks
+pub mod Words

@@ -53,7 +53,7 @@ not_both count reads order (c ∷ cs) ordered is =
     none_before count reads order (c ∷ cs) ordered is (length order) there.0 (omega arith) there.1 (subst (λ y. has (c ∷ cs) y ≡ true) (sym there.2) here)
 
 -- a number below n that passes a test, or there is none
-search_below : (test : ℕ → Bool) (n : ℕ) → ((v : ℕ) × (v < n) × (test v ≡ true)) ⊎ ((v : ℕ) → v < n → test v ≡ false)
+pub search_below : (test : ℕ → Bool) (n : ℕ) → ((v : ℕ) × (v < n) × (test v ≡ true)) ⊎ ((v : ℕ) → v < n → test v ≡ false)
 search_below test zero = inr (λ v low. absurd (omega (arith, low)))
 search_below test (suc n) =
     elim (cases_Bool (test n)) [
@@ -108,11 +108,22 @@ walk_returns (suc fuel) count reads done path v stuck walk enough =
           walk_returns fuel count reads done (path ++ v ∷ []) next.0 stuck (walk_more count reads done path v next.0 walk new next.1 next.2 next.3) (omega (arith, enough, length_push path v))
     ]
 
+-- where none is ready and one waits, there is a loop
+loop_of_waiting : (count : ℕ) (reads : ℕ → ℕ → Bool) (order : List ℕ) (v : ℕ) → IsStuck count reads order → v < count → not (has order v) ≡ true → HasLoop count reads
+loop_of_waiting count reads order v stuck low waits = walk_returns count count reads order [] v stuck (walk_none count reads order v low (not-true (has order v) waits)) (omega arith)
+
+pub stuck_loop : (count : ℕ) (reads : ℕ → ℕ → Bool) (order : List ℕ) → IsStuck count reads order → (((v : ℕ) → v < count → has order v ≡ true) → ⊥) → HasLoop count reads
+stuck_loop count reads order stuck some =
+    elim (search_below (λ v. not (has order v)) count) [
+      | inl there ↦ loop_of_waiting count reads order there.0 stuck there.1 there.2
+      | inr none ↦ absurd (some (λ v low. not-false (has order v) (none v low)))
+    ]
+
 -- where none is ready: the order of all, or a loop
 ended : (count : ℕ) (reads : ℕ → ℕ → Bool) (order : List ℕ) → IsOrderSoFar count reads order → IsStuck count reads order → HasOrder count reads ⊎ HasLoop count reads
 ended count reads order so_far stuck =
     elim (search_below (λ v. not (has order v)) count) [
-      | inl there ↦ inr (walk_returns count count reads order [] there.0 stuck (walk_none count reads order there.0 there.1 (not-true (has order there.0) there.2)) (omega arith))
+      | inl there ↦ inr (loop_of_waiting count reads order there.0 stuck there.1 there.2)
       | inr none ↦ inl (order, order_of_all count reads order so_far (λ v low. not-false (has order v) (none v low)))
     ]
 

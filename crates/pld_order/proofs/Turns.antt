@@ -1,12 +1,11 @@
--- A loop begun with another of its vertices, and with its least.
-use Rattle.std.proofs.Common.{◌≡◌, ℕ, ◌<◌, ◌≤◌, Bool, eqb, List, [], ◌∷◌, ◌++◌, length, take, drop, get_or, ap, sym, ◌∙◌, subst, arith, add-zero, get_or-drop, length-drop}
+-- A loop begun with another of its vertices.
+use Rattle.std.proofs.Common.{◌≡◌, ℕ, ◌<◌, Bool, eqb, List, [], ◌∷◌, ◌++◌, length, take, drop, get_or, ap, sym, ◌∙◌, subst, arith, length-drop}
 use Rattle.std.specs.List.Sorted.{IsPermutation}
-use Rattle.std.proofs.lemmas.List.{append-nil, length-append, take-append-drop, get_or_append_left}
+use Rattle.std.proofs.lemmas.List.{append-nil, length-append, take-append-drop}
 use Rattle.std.proofs.lemmas.List.Sorted.{IsPermutation-append_comm, list_any-IsPermutation}
 use Rattle.std.proofs.lemmas.Map.Keys.{IsDistinct-IsPermutation}
-use Rattle.pld_order.specs.Graphs.{has, IsChain, IsLoop, BeginsWithLeast}
-use Rattle.pld_order.specs.Search.{IsLeastPlace}
-use Rattle.pld_order.proofs.Lists.{place_of, eqb_flips}
+use Rattle.pld_order.specs.Graphs.{has, IsChain, IsLoop}
+use Rattle.pld_order.proofs.Lists.{eqb_flips}
 
 -- the two parts of a chain are chains, and two that meet are one
 chain_front : (reads : ℕ → ℕ → Bool) (xs ys : List ℕ) (end : ℕ) → IsChain reads (xs ++ ys) end → IsChain reads xs (get_or ys 0 end)
@@ -31,7 +30,7 @@ chain_turn reads (x ∷ xs) (y ∷ ys) chain = chain_append reads (y ∷ ys) (x 
 turn_moves : (xs : List ℕ) (from : ℕ) → IsPermutation xs (drop from xs ++ take from xs)
 turn_moves xs from = subst (λ zs. IsPermutation zs (drop from xs ++ take from xs)) (take-append-drop from xs) (IsPermutation-append_comm (take from xs) (drop from xs))
 
-has_turn : (xs : List ℕ) (from v : ℕ) → has xs v ≡ has (drop from xs ++ take from xs) v
+pub has_turn : (xs : List ℕ) (from v : ℕ) → has xs v ≡ has (drop from xs ++ take from xs) v
 has_turn xs from v = list_any-IsPermutation (λ x. eqb v x) xs (drop from xs ++ take from xs) (turn_moves xs from)
 
 pub loop_turn : (count : ℕ) (reads : ℕ → ℕ → Bool) (chain : List ℕ) (from : ℕ) → from < length chain → IsLoop count reads chain → IsLoop count reads (drop from chain ++ take from chain)
@@ -41,11 +40,3 @@ loop_turn count reads chain from within is = record {
   once = IsDistinct-IsPermutation eqb eqb_flips chain (drop from chain ++ take from chain) (turn_moves chain from) is.once;
   returns = chain_turn reads (take from chain) (drop from chain) (subst (λ zs. IsChain reads zs (get_or zs 0 0)) (sym (take-append-drop from chain)) is.returns);
 }
-
-pub least_turn : (chain : List ℕ) (from : ℕ) → IsLeastPlace chain from → BeginsWithLeast (drop from chain ++ take from chain)
-least_turn chain from is v found =
-    let there = place_of chain v (has_turn chain from v ∙ found) in
-    let some : 0 < length (drop from chain) = omega (arith, is.within, length-drop from chain) in
-    let first : get_or (drop from chain ++ take from chain) 0 0 ≡ get_or chain from 0 = get_or_append_left (drop from chain) (take from chain) 0 0 some ∙ (get_or-drop from chain 0 0 ∙ ap (λ k. get_or chain k 0) (add-zero from)) in
-    let least : get_or chain from 0 ≤ get_or chain there.0 0 = is.least there.0 there.1 in
-    omega (arith, first, least, there.2)

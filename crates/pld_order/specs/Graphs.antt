@@ -1,5 +1,6 @@
--- Orders of the vertices of a graph, and loops in it (graph theory: topological order, directed cycle).
-use Rattle.std.specs.Prelude.{◌≡◌, ◌≢◌, ℕ, ◌<◌, ◌≤◌, Bool, true, false, ◌==◌, eqb, List, [], ◌∷◌, length, get_or}
+-- Orders of the vertices of a graph, and loops and paths in it (graph theory: topological order, directed cycle,
+-- directed walk).
+use Rattle.std.specs.Prelude.{◌≡◌, ◌≢◌, ℕ, ◌<◌, ◌≤◌, Bool, true, false, ◌==◌, eqb, List, [], ◌∷◌, ◌++◌, length, get_or}
 use Rattle.std.specs.List.{list_any, IsDistinct}
 
 -- v is in the list
@@ -25,9 +26,11 @@ pub record IsLoop (count : ℕ) (reads : ℕ → ℕ → Bool) (chain : List ℕ
   pub once : IsDistinct eqb chain
   pub returns : IsChain reads chain (get_or chain 0 0)
 
--- the first of the list is its least (this project's rule)
-abbrev pub BeginsWithLeast : List ℕ → Type 0
-BeginsWithLeast chain = (v : ℕ) → has chain v ≡ true → get_or chain 0 0 ≤ v
+-- a loop whose first is the least of all vertices that lie on loops (this project's rule)
+pub record IsLeastLoop (count : ℕ) (reads : ℕ → ℕ → Bool) (chain : List ℕ) : Type 0 where
+  pub is_loop : IsLoop count reads chain
+  pub least : (other : List ℕ) → IsLoop count reads other
+      → (v : ℕ) → has other v ≡ true → get_or chain 0 0 ≤ v
 
 -- no list of vertices is a loop
 abbrev pub HasNoLoop : ℕ → (ℕ → ℕ → Bool) → Type 0
@@ -44,3 +47,17 @@ HasOrder count reads = (order : List ℕ) × IsOrder count reads order
 -- there is a loop
 abbrev pub HasLoop : ℕ → (ℕ → ℕ → Bool) → Type 0
 HasLoop count reads = (chain : List ℕ) × IsLoop count reads chain
+
+-- one or more vertices: the first is a start, each reads the next one, and the last is an end
+pub record IsPath (count : ℕ) (reads : ℕ → ℕ → Bool) (starts ends : ℕ → Bool) (path : List ℕ) : Type 0 where
+  pub before : List ℕ
+  pub last : ℕ
+  pub is : path ≡ before ++ last ∷ []
+  pub inside : (v : ℕ) → has path v ≡ true → v < count
+  pub begins : starts (get_or path 0 0) ≡ true
+  pub leads : IsChain reads before last
+  pub arrives : ends last ≡ true
+
+-- no list of vertices is a path
+abbrev pub HasNoPath : ℕ → (ℕ → ℕ → Bool) → (starts ends : ℕ → Bool) → Type 0
+HasNoPath count reads starts ends = (path : List ℕ) → IsPath count reads starts ends path → ⊥

@@ -1,4 +1,3 @@
-pub mod Causes
 pub mod Graphs
-pub mod Pairs
 pub mod Search
+pub mod Sets

@@ -1,17 +1,18 @@
-//! An order of the vertices of a graph in which none reads itself or a later one, or a loop.
+//! An order of the vertices of a graph in which none reads itself or a later one, or a loop; and paths.
 #![tactic(auto)]
 
-mod fault;
-mod graph;
 mod laws;
-mod list;
+mod leading;
+mod loops;
 mod ordering;
-mod search;
+mod paths;
 #[cfg(test)]
 mod tests;
-mod walk;
+mod vertex_set;
+mod vertices;
 
-pub use fault::OrderFault;
-pub use graph::Graph;
 pub use laws::order_or_loop;
+pub use loops::LoopFound;
 pub use ordering::order;
+pub use paths::path;
+pub use vertex_set::VertexSet;

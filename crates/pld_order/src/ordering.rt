@@ -1,47 +1,86 @@
-//! The order of a graph's vertices: again and again a vertex is put at its end that reads only
-//! vertices of it. Where none is left that does, each that waits reads another that waits, and a
-//! walk along such reads comes back to where it has been.
+//! The order of a graph's vertices: repeatedly append a vertex all of whose reads are in the list.
+//! Where none is left that can be appended and some vertex waits, each that waits reads another that
+//! waits, so that some lie on a loop.
+//!
+//! `order` is the list, `done` the set of its vertices and of all numbers that are none.
 
-ghost use Rattle.std.specs.Prelude.{IfOk, IfErr};
-ghost use Rattle.pld_order.specs.Graphs.{IsOrder, HasNoLoop};
-ghost use Rattle.pld_order.specs.Causes.{IsCause, ExcludesOrder};
-ghost use Rattle.pld_order.specs.Search.{IsOrderSoFar, IsStuck};
+ghost use Rattle.std.specs.Prelude.{◌≡◌, ◌↔◌, ◌≤◌, ◌<◌, ℕ, [], true, IfOk, IfErr, IfSome, IfNone, length};
+ghost use Rattle.pld_base.specs.Bits.{is_on};
+ghost use Rattle.pld_order.specs.Graphs.{HasNoLoop, HasNoOrder, IsLeastLoop, IsOrder};
+ghost use Rattle.pld_order.specs.Search.{IsDone, IsReadyBy, NoneIsReady};
+ghost use Rattle.pld_order.specs.Sets.{reads_of};
 
-use crate::search::{ready, waiting};
-use crate::walk::find_loop;
-use crate::{Graph, OrderFault};
-use std::alloc::Global;
+use crate::VertexSet;
+use crate::loops::{LoopFound, least_loop};
+use arrayvec::ArrayVec;
 
-/// The order, where none waits, or a loop.
-fn finished<G: Graph>(alloc: Global, graph: &G, order: Vec<u16>) -> Result<Vec<u16>, OrderFault>
-    requires so_far { IsOrderSoFar (G.size graph.now) (G.edge graph.now) order.items }
-    requires stuck { IsStuck (G.size graph.now) (G.edge graph.now) order.items }
-    ensures ok { IfOk result (λ order. IsOrder (G.size graph.now) (G.edge graph.now) order.items) }
-    ensures no_loop { IfOk result (λ _. HasNoLoop (G.size graph.now) (G.edge graph.now)) }
-    ensures refused { IfErr result (IsCause (G.size graph.now) (G.edge graph.now)) }
-    ensures no_order { IfErr result (ExcludesOrder (G.size graph.now) (G.edge graph.now)) }
+/// The numbers that are no vertices.
+fn no_vertices(count: usize) -> VertexSet
+    requires { count ≤ 256 }
+    ensures { IsDone count [] result }
 {
-    match waiting(graph, &order) {
-        None => Ok(order),
-        Some(start) => Err(OrderFault::Loop(find_loop(alloc, graph, &order, start)?)),
+    let mut others = VertexSet::new();
+    for v in count..256 {
+        others.insert(v as u8);
     }
+    others
 }
 
-/// All vertices in an order in which none reads itself or a later one, or a loop of reads.
-///
-/// Takes memory for the order, or for one walk and two copies of its loop beside it. The reads asked
-/// for are of the order of the cube of the number of vertices, and no call calls itself.
-pub fn order<G: Graph>(alloc: Global, graph: &G) -> Result<Vec<u16>, OrderFault>
-    ensures ok { IfOk result (λ order. IsOrder (G.size graph.now) (G.edge graph.now) order.items) }
-    ensures no_loop { IfOk result (λ _. HasNoLoop (G.size graph.now) (G.edge graph.now)) }
-    ensures refused { IfErr result (IsCause (G.size graph.now) (G.edge graph.now)) }
-    ensures no_order { IfErr result (ExcludesOrder (G.size graph.now) (G.edge graph.now)) }
+/// A vertex that isn't done, while all that it reads is.
+fn ready(reads: &[VertexSet], done: &VertexSet) -> Option<u8>
+    requires { length reads.now ≤ 256 }
+    ensures found { IfSome result (IsReadyBy reads.now done.now) }
+    ensures none { IfNone result (NoneIsReady reads.now done.now) }
 {
-    let mut order = Vec::new(alloc);
+    for v in 0..reads.len() {
+        if !done.contains(v as u8) && reads[v].is_within(done) {
+            return Some(v as u8);
+        }
+    }
+    None
+}
+
+/// Whether all vertices are done.
+fn all_done(count: usize, done: &VertexSet) -> bool
+    requires { count ≤ 256 }
+    ensures { (result ≡ true) ↔ ((v : ℕ) → v < count → is_on done.now v ≡ true) }
+{
+    for v in 0..count {
+        if !done.contains(v as u8) {
+            return false;
+        }
+    }
+    true
+}
+
+/// All vertices in an order in which none reads itself or a later one, or the loop that begins with
+/// the least vertex on any.
+///
+/// A vertex is the place of the set that it reads; other numbers count for nothing. Takes no memory.
+/// The time is of the square of the number of vertices where there is an order, and at most of its
+/// cube where there is a loop.
+pub fn order(reads: &[VertexSet]) -> Result<ArrayVec<u8, 256>, LoopFound>
+    requires { length reads.now ≤ 256 }
+    ensures ok { IfOk result (λ order. IsOrder (length reads.now) (reads_of reads.now) order.items) }
+    ensures no_loop { IfOk result (λ _. HasNoLoop (length reads.now) (reads_of reads.now)) }
+    ensures refused { IfErr result (λ found.
+        IsLeastLoop (length reads.now) (reads_of reads.now) found.vertices.items) }
+    ensures no_order { IfErr result (λ _. HasNoOrder (length reads.now) (reads_of reads.now)) }
+{
+    let mut order = ArrayVec::new();
+    let mut done = no_vertices(reads.len());
     loop {
-        match ready(graph, &order) {
-            Some(v) => order.push(v)?,
-            None => return finished(alloc, graph, order),
+        match ready(reads, &done) {
+            Some(v) => {
+                order.push(v);
+                done.insert(v);
+            }
+            None => {
+                if all_done(reads.len(), &done) {
+                    return Ok(order);
+                }
+                return Err(least_loop(reads));
+            }
         }
     }
 }

@@ -1,9 +1,10 @@
 use Rattle.std.proofs.Common.{◌-◌, length}
-use Rattle.pld_order.specs.Search.{IsOrderSoFar}
+use Rattle.pld_order.specs.Search.{IsOrderSoFar, IsDone}
+use Rattle.pld_order.specs.Sets.{reads_of}
 use Rattle.pld_order.proofs.ordering.order.Given as goal
 
 abbrev pub invariant-loop-v : goal.invariant-loop-v
-invariant-loop-v g l = IsOrderSoFar (g.G.Graph.size l.graph) (g.G.Graph.edge l.graph) l.order.items
+invariant-loop-v l = IsOrderSoFar (length l.reads) (reads_of l.reads) l.order.items × IsDone (length l.reads) l.order.items l.done
 
 abbrev pub decreases-loop-v : goal.decreases-loop-v
-decreases-loop-v g l = g.G.Graph.size l.graph - length l.order.items
+decreases-loop-v l = length l.reads - length l.order.items

@@ -1,0 +1,7 @@
+use Rattle.std.proofs.Common.{◌≡◌, ℕ, ◌<◌, false, [], get_or}
+use Rattle.pld_base.specs.Bits.{is_on}
+use Rattle.pld_order.specs.Sets.{AreApart}
+use Rattle.pld_order.proofs.leading.next_leading.Given as goal
+
+abbrev pub invariant-loop-v : goal.invariant-loop-v
+invariant-loop-v l = (w : ℕ) → w < l.v → is_on l.leading w ≡ false → (is_on l.ends w ≡ false) × AreApart (get_or l.reads w []) l.leading
