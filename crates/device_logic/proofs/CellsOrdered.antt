@@ -26,15 +26,16 @@ use Rattle.pld_machine.specs.declared.logic.Slot.{Slot}
 use Rattle.pld_machine.specs.declared.logic.Slot.TheVariants as slot
 use Rattle.pld_machine.specs.Lookups.{Lookups, sets_pin, sets_node, logic_of}
 use Rattle.pld_machine.specs.Order.{DifferOnlyIn, SameAt, InRange, HasPins, HasSlots, ResetsWithoutQ, IsOrdered}
-use Rattle.pld_machine.specs.Once.{RestsOnce, RunsOnce}
-use Rattle.pld_machine.proofs.OneRun.{has_one_rest, has_one_run}
+use Rattle.pld_machine.specs.Once.{IsDetermined}
+use Rattle.pld_machine.proofs.OneRun.{is_determined}
 use Rattle.pld_machine.proofs.Ordered.{setter_of_pin, get_behind}
 use Rattle.pld_order.specs.Graphs.{has, IsOrder}
 use Rattle.device_logic.specs.CellReads.{row_reads_cell, enable_reads, cell_reads}
 use Rattle.device_logic.specs.DeviceLookups.{device_lookups}
 use Rattle.device_logic.proofs.FreeReads.{RowReadsFree, EnableReadsFree, ReadsFreePins, free_pin}
 use Rattle.device_logic.proofs.Runs.{any_same}
-use Rattle.device_logic.proofs.ReadCells.{row_reads_cell-at, cell_reads-enable, cell_reads-data}
+use Rattle.device_logic.proofs.ReadCells.{cell_reads-rest}
+use Rattle.device_logic.proofs.SameCells.{cell_same}
 
 -- a list of cells sets no node
 no_nodes : (cells : List ℕ) (n : ℕ) → sets_node (map (λ c. slot.Cell c) cells) n ≡ false
@@ -50,27 +51,13 @@ pub same_logic : (t : Table) (fuses : List Bool) (order : List ℕ) → logic_of
 unfolding with_nodes
 same_logic t fuses order = ap (with_nodes t fuses) (fun_ext (λ n. no_nodes order n))
 
--- what the pairs carry, place by place
-values_same : (f g : Carry → Bool) (carries : List Carry) (pair : ℕ) → ((x : Carry) → slice_get carries pair ≡ Some x → f x ≡ g x) → is_on (map f carries) pair ≡ is_on (map g carries) pair
-values_same f g [] pair same = refl
-values_same f g (x ∷ carries) zero same = same x refl
-values_same f g (x ∷ carries) (suc pair) same = values_same f g carries pair same
-
--- cells that never drive are not enabled
-pub not_enabled : (t : Table) (fuses : List Bool) (at : Levels) (c : ℕ) → t.columns ≤ 2 * length t.pairs → never_drives t fuses c ≡ true → is_enabled t fuses at c ≡ false
-not_enabled t fuses at c wide never = by_enable (cell_at t c).enable never
-  where
-    by_enable : (e : Enable) → enables_never t fuses e ≡ true → enabled_by t fuses at e ≡ false
-    by_enable (Row row) off = never_true t fuses row at wide off
-    by_enable (PinLow pin) off = absurd (true≢false (sym off))
-
 -- the slots are cells
-cell_slot : (cells : List ℕ) (i : ℕ) (s : Slot) → slice_get (map (λ c. slot.Cell c) cells) i ≡ Some s → (c : ℕ) × (slice_get cells i ≡ Some c) × (s ≡ slot.Cell c)
+pub cell_slot : (cells : List ℕ) (i : ℕ) (s : Slot) → slice_get (map (λ c. slot.Cell c) cells) i ≡ Some s → (c : ℕ) × (slice_get cells i ≡ Some c) × (s ≡ slot.Cell c)
 cell_slot [] i s found = absurd cc
 cell_slot (c ∷ cells) zero s found = (c, refl, cc)
 cell_slot (c ∷ cells) (suc i) s found = cell_slot cells i s found
 
-same_cell : (c d : ℕ) → ◌≡◌ {A = Slot} (slot.Cell c) (slot.Cell d) → c ≡ d
+pub same_cell : (c d : ℕ) → ◌≡◌ {A = Slot} (slot.Cell c) (slot.Cell d) → c ≡ d
 same_cell c d e = cc
 
 pin_is_set : (m : Lookups) (cells : List ℕ) (c : ℕ) → has cells c ≡ true → sets_pin m (map (λ d. slot.Cell d) cells) (m.pin c) ≡ true
@@ -111,7 +98,7 @@ record SetLater (t : Table) (order : List ℕ) (i pin : ℕ) : Type 0 where
   same : (cell_at t cell).pin ≡ pin
 
 module _ (t : Table) (fuses : List Bool) (order : List ℕ) (free : ReadsFreePins t fuses) (ordered : IsOrder (length t.cells) (cell_reads t fuses) order) where
-  in_cells : (j d : ℕ) → slice_get order j ≡ Some d → d < length t.cells
+  pub in_cells : (j d : ℕ) → slice_get order j ≡ Some d → d < length t.cells
   in_cells j d there = ordered.inside d (has_at order j d there)
 
   set_later : (i pin : ℕ) → sets_pin (device_lookups t fuses order) (drop i (device_lookups t fuses order).slots) pin ≡ true → SetLater t order i pin
@@ -127,7 +114,7 @@ module _ (t : Table) (fuses : List Bool) (order : List ℕ) (free : ReadsFreePin
       }
 
   -- no slot sets a pin without a cell
-  unset_free : (i pin : ℕ) → is_free_pin t pin ≡ true → sets_pin (device_lookups t fuses order) (drop i (device_lookups t fuses order).slots) pin ≡ false
+  pub unset_free : (i pin : ℕ) → is_free_pin t pin ≡ true → sets_pin (device_lookups t fuses order) (drop i (device_lookups t fuses order).slots) pin ≡ false
   unset_free i pin no_cells = false_from_ne_true _ (λ sets.
       let setter = set_later i pin sets in
       free_pin t pin no_cells setter.cell (in_cells setter.at setter.cell setter.is) setter.same)
@@ -157,52 +144,17 @@ module _ (t : Table) (fuses : List Bool) (order : List ℕ) (free : ReadsFreePin
           ]
 
   -- one cell of the order, at two points that differ in the pins of its slot and later ones alone
-  module _ (i c : ℕ) (found : slice_get order i ≡ Some c) (a b : Levels) (differ : DifferOnlyIn (device_lookups t fuses order) (drop i (device_lookups t fuses order).slots) a b) where
-    cell_same : (d : ℕ) → (stores t fuses d ≡ false → cell_reads t fuses c d ≡ true) → carried t fuses a (carry.Cell d) ≡ carried t fuses b (carry.Cell d)
-    cell_same d reads =
-        elim (cases_Bool (stores t fuses d)) [
-          | inl kept ↦ rw kept (ap (λ q. not (is_on q d)) differ.q)
-          | inr plain ↦ rw plain (differ.pins (cell_at t d).pin (unset_read i c d found (reads plain)))
-        ]
+  same_at : (i c : ℕ) → slice_get order i ≡ Some c → (a b : Levels) → DifferOnlyIn (device_lookups t fuses order) (drop i (device_lookups t fuses order).slots) a b → SameAt (device_lookups t fuses order) (slot.Cell c) a b
+  same_at i c found a b differ =
+      cell_same t fuses free c a b (in_cells i c found)
+      (λ pin pin_free. differ.pins pin (unset_free i pin pin_free))
+      (λ d reads. elim (cases_Bool (stores t fuses d)) [
+        | inl kept ↦ rw kept (ap (λ q. not (is_on q d)) differ.q)
+        | inr plain ↦ rw plain (differ.pins (cell_at t d).pin (unset_read i c d found (cell_reads-rest t fuses c d plain reads)))
+      ])
+      (λ kept. ap (λ q. is_on q c) differ.q)
 
-    row_equal : (row : ℕ) → RowReadsFree t fuses row → ((d : ℕ) → row_reads_cell t fuses row d ≡ true → cell_reads t fuses c d ≡ true) → row_value t fuses a row ≡ row_value t fuses b row
-    row_equal row pins_free reads =
-        row_same t fuses row a b free.columns (λ pair read. values_same (carried t fuses a) (carried t fuses b) t.pairs pair (by_carry pair read))
-      where
-        by_carry : (pair : ℕ) → row_reads t fuses row pair ≡ true → (x : Carry) → slice_get t.pairs pair ≡ Some x → carried t fuses a x ≡ carried t fuses b x
-        by_carry pair read (carry.Pin pin) is = differ.pins pin (unset_free i pin (pins_free pair pin read is))
-        by_carry pair read (carry.Cell d) is = cell_same d (λ plain. reads d (row_reads_cell-at t fuses row pair d is read plain))
-
-    enable_same : (e : Enable) → EnableReadsFree t fuses e → ((d : ℕ) → enable_reads t fuses e d ≡ true → cell_reads t fuses c d ≡ true) → enabled_by t fuses a e ≡ enabled_by t fuses b e
-    enable_same (Row row) pins_free reads = row_equal row pins_free reads
-    enable_same (PinLow pin) pin_free reads = ap not (differ.pins pin (unset_free i pin pin_free))
-
-    output_same : c < length t.cells → never_drives t fuses c ≡ false → output_value t fuses a c ≡ output_value t fuses b c
-    output_same within drives =
-        elim (cases_Bool (stores t fuses c)) [
-          | inl kept ↦ rw kept (ap (λ q. is_on q c) differ.q)
-          | inr plain ↦ rw plain (
-              any_same (row_value t fuses a) (row_value t fuses b) (cell_at t c).first (cell_at t c).room
-              (λ row low high. row_equal row (free.data_rows c row within drives (low, high)) (λ d reads. cell_reads-data t fuses c row d drives plain (low, high) reads)))
-        ]
-
-    -- it has one enable there, and one level while enabled
-    same_at : SameAt (device_lookups t fuses order) (slot.Cell c) a b
-    same_at =
-        elim (cases_Bool (never_drives t fuses c)) [
-          | inl never ↦
-              let off : is_enabled t fuses a c ≡ false = not_enabled t fuses a c free.columns never in
-              (off ∙ sym (not_enabled t fuses b c free.columns never), λ on. absurd (true≢false (sym on ∙ off)))
-          | inr drives ↦ (
-            enable_same (cell_at t c).enable (free.enables c within) (λ d reads. cell_reads-enable t fuses c d drives reads),
-            λ on. ap (complement_if (pin_complements t.flip (stores t fuses c) (is_inverted t fuses c))) (output_same within drives),
-          )
-        ]
-      where
-        within : c < length t.cells
-        within = in_cells i c found
-
-  has_slots : HasSlots (device_lookups t fuses order)
+  pub has_slots : HasSlots (device_lookups t fuses order)
   has_slots = record {
     range = λ i s found.
         let here = cell_slot order i s found in
@@ -215,7 +167,7 @@ module _ (t : Table) (fuses : List Bool) (order : List ℕ) (free : ReadsFreePin
         one_place order i j first.0 ordered.once first.1 (second.1 ∙ ap (λ d. Some d) (sym same));
   }
 
-  has_pins : HasPins (device_lookups t fuses order)
+  pub has_pins : HasPins (device_lookups t fuses order)
   has_pins = record {
     cells = free.pins.cells;
     first = free.pins.first;
@@ -236,10 +188,6 @@ module _ (t : Table) (fuses : List Bool) (order : List ℕ) (free : ReadsFreePin
     resets = resets;
   }
 
--- from every state there is exactly one point at rest
-pub rests_once : (t : Table) (fuses : List Bool) (order : List ℕ) → IsOrdered (device_lookups t fuses order) → RestsOnce (device_logic t fuses)
-rests_once t fuses order ordered = subst RestsOnce (same_logic t fuses order) (has_one_rest (device_lookups t fuses order) ordered)
-
--- for every list of outside levels there is exactly one run
-pub runs_once : (t : Table) (fuses : List Bool) (order : List ℕ) → IsOrdered (device_lookups t fuses order) → RunsOnce (device_logic t fuses)
-runs_once t fuses order ordered = subst RunsOnce (same_logic t fuses order) (has_one_run (device_lookups t fuses order) ordered)
+-- it comes to rest, steps and runs in exactly one way
+pub determined : (t : Table) (fuses : List Bool) (order : List ℕ) → IsOrdered (device_lookups t fuses order) → IsDetermined (device_logic t fuses)
+determined t fuses order ordered = subst IsDetermined (same_logic t fuses order) (is_determined (device_lookups t fuses order) ordered)

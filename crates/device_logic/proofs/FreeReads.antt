@@ -56,7 +56,7 @@ free_from t pin none = ap not (none_listed t.cells pin none)
 
 -- a device's pairs and enables name pins without cells alone
 module _ (t : Table) (laws : IsDevice t) (fuses : List Bool) where
-  rows_free : (row : ℕ) → RowReadsFree t fuses row
+  pub rows_free : (row : ℕ) → RowReadsFree t fuses row
   rows_free row pair pin reads found =
       let law : IsPair t (carry.Pin pin) = subst (IsPair t) (get_or_from_slice_get t.pairs pair (carry.Pin pin) (carry.Pin 0) found) (laws.pairs pair (carry.Pin 0) (slice_get_within t.pairs pair (carry.Pin pin) found)) in
       free_from t pin (λ c within. law.1 c no_cell within)

@@ -7,4 +7,7 @@ pub mod OneRun
 pub mod PairWalks
 pub mod Ranges
 pub mod ReadCells
+pub mod ResetReads
 pub mod Runs
+pub mod SameCells
+pub mod SameOrders

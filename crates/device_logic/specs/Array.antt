@@ -8,7 +8,7 @@ use Rattle.pld_device.specs.declared.enable.Enable.{Enable}
 use Rattle.pld_device.specs.declared.enable.Enable.TheVariants.{Row, PinLow}
 use Rattle.pld_device.specs.Reads.{is_never_true, row_reads}
 use Rattle.pld_device.specs.Table.{Table}
-use Rattle.device_logic.specs.CellReads.{carries_level}
+use Rattle.device_logic.specs.CellReads.{carries_cell}
 
 -- the row can be true at some point, as far as its own fuses say
 abbrev pub is_live : Table → List Bool → ℕ → Bool
@@ -46,7 +46,7 @@ abbrev pub CarryInRange : Table → Carry → Type 0
 CarryInRange t (carry.Pin pin) = pin < 32
 CarryInRange t (carry.Cell c) = c < length t.cells
 
--- the row reads the pair, which carries the level of the cell's pin
+-- the row reads the pair, which carries what the cell feeds back
 abbrev pub pair_reads : Table → List Bool → (row d pair : ℕ) → Bool
 pair_reads t fuses row d pair =
-    row_reads t fuses row pair && carries_level t fuses d (get_or t.pairs pair (carry.Pin 0))
+    row_reads t fuses row pair && carries_cell d (get_or t.pairs pair (carry.Pin 0))

@@ -6,7 +6,6 @@ use Rattle.pld_device.specs.declared.carry.Carry.{Carry}
 use Rattle.pld_device.specs.declared.carry.Carry.TheVariants as carry
 use Rattle.pld_device.specs.declared.enable.Enable.{Enable}
 use Rattle.pld_device.specs.declared.enable.Enable.TheVariants.{Row, PinLow}
-use Rattle.pld_device.specs.declared.kinds.Kinds.TheVariants.{Combinational}
 use Rattle.pld_device.specs.Table.{Table, cell_at}
 use Rattle.pld_device.specs.Given.{never_drives}
 use Rattle.pld_device.specs.Macrocells.{data_rows}
@@ -14,22 +13,18 @@ use Rattle.pld_device.specs.Reads.{row_reads}
 use Rattle.pld_order.specs.Graphs.{IsOrder}
 use Rattle.pld_device.specs.Registers.{stores}
 
--- no cell of the device can be a register
-abbrev pub IsCombinational : Table → Type 0
-IsCombinational t = (c : ℕ) → c < length t.cells → (cell_at t c).kinds ≡ Combinational
+-- the pair carries what the cell feeds back: a register's Q, else the level of the cell's pin
+abbrev pub carries_cell : ℕ → Carry → Bool
+carries_cell d (carry.Pin pin) = false
+carries_cell d (carry.Cell c) = c == d
 
--- the pair carries the level of the cell's pin: the cell's own, which is no register's
-abbrev pub carries_level : Table → List Bool → ℕ → Carry → Bool
-carries_level t fuses d (carry.Pin pin) = false
-carries_level t fuses d (carry.Cell c) = c == d && not (stores t fuses d)
-
--- some pair from this number on that the row reads carries the level
+-- some pair from this number on that the row reads carries it
 abbrev pub pairs_read : Table → List Bool → (row d pair : ℕ) → List Carry → Bool
 pairs_read t fuses row d pair [] = false
 pairs_read t fuses row d pair (x ∷ xs) =
-    (row_reads t fuses row pair && carries_level t fuses d x) || pairs_read t fuses row d (suc pair) xs
+    (row_reads t fuses row pair && carries_cell d x) || pairs_read t fuses row d (suc pair) xs
 
--- the row reads the level of the cell's pin
+-- the row reads the cell
 abbrev pub row_reads_cell : Table → List Bool → (row d : ℕ) → Bool
 row_reads_cell t fuses row d = pairs_read t fuses row d 0 t.pairs
 
@@ -42,11 +37,15 @@ enable_reads t fuses (PinLow pin) d = false
 abbrev pub data_reads : Table → List Bool → (c d : ℕ) → Bool
 data_reads t fuses c d = not (stores t fuses c) && list_any (λ row. row_reads_cell t fuses row d) (data_rows t c)
 
--- cell c reads cell d; a cell whose enable row is constantly 0 reads nothing
-abbrev pub cell_reads : Table → List Bool → (c d : ℕ) → Bool
-cell_reads t fuses c d =
+-- cell c reads cell d, its level or its Q; a cell whose enable row is constantly 0 reads nothing
+abbrev pub rest_reads : Table → List Bool → (c d : ℕ) → Bool
+rest_reads t fuses c d =
     not (never_drives t fuses c) && (enable_reads t fuses (cell_at t c).enable d || data_reads t fuses c d)
 
--- all cells, each once, none of which reads itself or one that stands behind it
+-- cell c waits for cell d: it reads the level of its pin, since a register's Q stands still
+abbrev pub cell_reads : Table → List Bool → (c d : ℕ) → Bool
+cell_reads t fuses c d = not (stores t fuses d) && rest_reads t fuses c d
+
+-- all cells, each once, none of which waits for itself or one that stands behind it
 abbrev pub IsCellOrder : Table → List Bool → List ℕ → Type 0
 IsCellOrder t fuses order = IsOrder (length t.cells) (cell_reads t fuses) order

@@ -1,6 +1,6 @@
 -- A small combinational device of no maker, on which loading is tried (this project's example).
 use Rattle.std.specs.Prelude.{ℕ, ◌+◌, None, [], ◌∷◌}
-use Rattle.std.proofs.Common.{refl, zero, suc}
+use Rattle.std.proofs.Common.{refl}
 use Rattle.pld_base.specs.declared.device_name.DeviceName.TheVariants.{P16L8}
 use Rattle.pld_device.specs.declared.carry.Carry.TheVariants as carry
 use Rattle.pld_device.specs.declared.cell.Cell.{Cell}
@@ -9,8 +9,7 @@ use Rattle.pld_device.specs.declared.flip.Flip.TheVariants.{Always}
 use Rattle.pld_device.specs.declared.kinds.Kinds.TheVariants.{Combinational}
 use Rattle.pld_device.specs.Table.{Table}
 use Rattle.pld_device.specs.Laws.{IsDevice}
-use Rattle.pld_device.specs.LawTests.{device_from_tests}
-use Rattle.device_logic.specs.CellReads.{IsCombinational}
+use Rattle.pld_device.specs.LawTests.{device_by_computation}
 
 -- a cell on this pin, with an enable row and then two data rows
 abbrev pub trio_cell : (pin row : ℕ) → Cell
@@ -40,28 +39,4 @@ trio = record {
 
 -- its laws, by computation
 pub trio_sound : IsDevice trio
-trio_sound =
-    device_from_tests trio
-    (record {
-      low = refl;
-      high = refl;
-      rows = refl;
-      reset = refl;
-      preset = refl;
-      cells = refl;
-      pins = refl;
-      pairs = refl;
-      carries = refl;
-      control = refl;
-      fuses = refl;
-      ends = refl;
-      inverted = refl;
-      registered = refl;
-    })
-
--- none of its cells is a register
-pub trio_plain : IsCombinational trio
-trio_plain zero within = refl
-trio_plain (suc zero) within = refl
-trio_plain (suc (suc zero)) within = refl
-trio_plain (suc (suc (suc c))) within = refl
+trio_sound = device_by_computation trio refl

@@ -5,23 +5,21 @@ ghost use Rattle.pld_device.specs.Given.{IsOneLayer};
 ghost use Rattle.pld_device.specs.Laws.{IsDevice};
 ghost use Rattle.pld_device.specs.Macrocells.{device_logic};
 ghost use Rattle.pld_device.specs.Table.{Table};
-ghost use Rattle.pld_machine.specs.Once.{RestsOnce, RunsOnce};
+ghost use Rattle.pld_machine.specs.Once.{IsDetermined};
 ghost use Rattle.pld_order.specs.Graphs.{HasNoLoop};
-ghost use Rattle.device_logic.specs.CellReads.{IsCombinational, cell_reads};
+ghost use Rattle.device_logic.specs.CellReads.{cell_reads};
+ghost use Rattle.device_logic.specs.ResetPaths.{HasNoResetPath};
 
-/// A device without registers, none of whose cells reads itself through others, comes to rest in
-/// exactly one way from every state, and has exactly one run for every list of outside levels that
-/// isn't empty. Does nothing.
+/// A device none of whose cells reads itself through others, and whose reset depends on no register,
+/// comes to rest, steps and runs in exactly one way, from every state. Does nothing.
 pub fn no_loop()
-    ensures rests { (t : Table) (fs : List Bool) → IsDevice t → IsCombinational t
-        → HasNoLoop (length t.cells) (cell_reads t fs) → RestsOnce (device_logic t fs) }
-    ensures runs { (t : Table) (fs : List Bool) → IsDevice t → IsCombinational t
-        → HasNoLoop (length t.cells) (cell_reads t fs) → RunsOnce (device_logic t fs) }
+    ensures { (t : Table) (fs : List Bool) → IsDevice t
+        → HasNoLoop (length t.cells) (cell_reads t fs) → HasNoResetPath t fs
+        → IsDetermined (device_logic t fs) }
 {}
 
-/// A device whose cells wait for no other comes to rest in exactly one way from every state, and
-/// has exactly one run for every list of outside levels that isn't empty. Does nothing.
+/// A device whose cells wait for no other comes to rest, steps and runs in exactly one way, from every
+/// state. Does nothing.
 pub fn one_layer()
-    ensures rests { (t : Table) (fs : List Bool) → IsOneLayer t fs → RestsOnce (device_logic t fs) }
-    ensures runs { (t : Table) (fs : List Bool) → IsOneLayer t fs → RunsOnce (device_logic t fs) }
+    ensures { (t : Table) (fs : List Bool) → IsOneLayer t fs → IsDetermined (device_logic t fs) }
 {}

@@ -3,6 +3,7 @@
 
 mod array;
 mod fault;
+mod graphs;
 mod laws;
 mod loading;
 mod logic;

@@ -5,6 +5,7 @@ ghost use Rattle.device_logic.specs.CellReads.{IsCellOrder};
 
 use crate::array::FuseArray;
 use crate::lookups::cell_of;
+use arrayvec::ArrayVec;
 use pld_base::Point;
 use pld_device::Device;
 use pld_machine::{Logic, Slot};
@@ -17,7 +18,7 @@ use std::marker::Model;
 #[derive(Drop)]
 pub struct DeviceLogic<D: Device> {
     array: FuseArray<D>,
-    order: Vec<u8>,
+    order: ArrayVec<u8, 256>,
 }
 
 impl<D: Device> Model for DeviceLogic<D> {
@@ -33,7 +34,7 @@ impl<D: Device> Model for DeviceLogic<D> {
 
 impl<D: Device> DeviceLogic<D> {
     /// The logic of an array, its cells in this order.
-    pub(crate) fn new(array: FuseArray<D>, order: Vec<u8>) -> DeviceLogic<D>
+    pub(crate) fn new(array: FuseArray<D>, order: ArrayVec<u8, 256>) -> DeviceLogic<D>
         requires { IsCellOrder D.table array order.items }
         ensures fuses { result.fuses ≡ array }
         ensures order { result.order ≡ order.items }
@@ -68,7 +69,7 @@ impl<D: Device> Logic for DeviceLogic<D> {
     }
 
     fn slot(&self, index: u16) -> Slot {
-        Slot::Cell(self.order[usize::from(index)])
+        Slot::Cell(self.order.as_slice()[usize::from(index)])
     }
 
     fn enable(&self, at: &Point, cell: u8) -> bool {

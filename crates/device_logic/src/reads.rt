@@ -1,40 +1,39 @@
-//! Which cells a cell reads while it comes to rest, as a graph.
+//! Which cells a cell reads while it comes to rest.
 
-ghost use Rattle.std.specs.Prelude.{◌≡◌, ◌+◌, ◌<◌, ◌≤◌, length};
+ghost use Rattle.std.specs.Prelude.{◌≡◌, ◌+◌, ◌<◌, ◌≤◌, IfSome, length};
 ghost use Rattle.std.specs.List.{list_any, range_with_len};
 ghost use Rattle.pld_device.specs.Given.{enables_never};
 ghost use Rattle.device_logic.specs.Array.{EnableInRange, pair_reads};
-ghost use Rattle.device_logic.specs.CellReads.{carries_level, cell_reads, data_reads};
-ghost use Rattle.device_logic.specs.CellReads.{enable_reads, row_reads_cell};
+ghost use Rattle.device_logic.specs.CellReads.{carries_cell, cell_reads, data_reads};
+ghost use Rattle.device_logic.specs.CellReads.{enable_reads, rest_reads, row_reads_cell};
+ghost use Rattle.device_logic.specs.ResetPaths.{plain_reads, row_reads_if_any};
 
 use crate::array::FuseArray;
 use crate::lookups::{carry_of, cell_of};
 use pld_device::{Carry, Device, Enable};
-use pld_order::Graph;
+
+/// Whether the pair carries what the cell feeds back.
+fn carries_cell(carry: Carry, cell: u8) -> bool
+    ensures { result ≡ carries_cell cell carry }
+{
+    match carry {
+        Carry::Pin(_pin) => false,
+        Carry::Cell(other) => other == cell,
+    }
+}
 
 impl<D: Device> FuseArray<D> {
-    /// Whether the pair carries the level of the cell's pin.
-    fn carries_level(&self, carry: Carry, cell: u8) -> bool
-        requires { cell < length D.table.cells }
-        ensures { result ≡ carries_level D.table self.now cell carry }
-    {
-        match carry {
-            Carry::Pin(_pin) => false,
-            Carry::Cell(other) => other == cell && !self.stores(cell),
-        }
-    }
-
-    /// Whether the row reads the pair, and the pair carries the level of the cell's pin.
+    /// Whether the row reads the pair, and the pair carries what the cell feeds back.
     fn pair_reads(&self, row: u16, pair: u16, cell: u8) -> bool
         requires row { row < D.table.rows }
         requires pair { pair < length D.table.pairs }
         requires cell { cell < length D.table.cells }
         ensures { result ≡ pair_reads D.table self.now row cell pair }
     {
-        self.row_reads(row, pair) && self.carries_level(carry_of::<D>(pair), cell)
+        self.row_reads(row, pair) && carries_cell(carry_of::<D>(pair), cell)
     }
 
-    /// Whether the row reads the level of the cell's pin.
+    /// Whether the row reads the cell.
     fn row_reads_cell(&self, row: u16, cell: u8) -> bool
         requires row { row < D.table.rows }
         requires cell { cell < length D.table.cells }
@@ -48,7 +47,7 @@ impl<D: Device> FuseArray<D> {
         false
     }
 
-    /// Whether one of the rows from `first` on reads the level of the cell's pin.
+    /// Whether one of the rows from `first` on reads the cell.
     fn rows_read_cell(&self, first: u16, room: u8, cell: u8) -> bool
         requires rows { first + room ≤ D.table.rows }
         requires cell { cell < length D.table.cells }
@@ -74,7 +73,7 @@ impl<D: Device> FuseArray<D> {
         }
     }
 
-    /// Whether what enables a cell reads the level of the other cell's pin.
+    /// Whether what enables a cell reads the other cell.
     fn enable_reads(&self, enable: Enable, to: u8) -> bool
         requires range { EnableInRange D.table enable }
         requires to { to < length D.table.cells }
@@ -86,7 +85,7 @@ impl<D: Device> FuseArray<D> {
         }
     }
 
-    /// Whether the cell's data read the level of the other's pin while it comes to rest.
+    /// Whether the cell's data read the other one while it comes to rest.
     fn data_reads(&self, from: u8, to: u8) -> bool
         requires from { from < length D.table.cells }
         requires to { to < length D.table.cells }
@@ -96,27 +95,43 @@ impl<D: Device> FuseArray<D> {
         !self.stores(from) && self.rows_read_cell(cell.first, cell.room, to)
     }
 
-    /// Whether the cell reads the other one.
-    fn cell_reads(&self, from: u8, to: u8) -> bool
+    /// Whether the cell reads the other one while it comes to rest, its level or its Q.
+    fn rest_reads(&self, from: u8, to: u8) -> bool
         requires from { from < length D.table.cells }
         requires to { to < length D.table.cells }
-        ensures { result ≡ cell_reads D.table self.now from to }
+        ensures { result ≡ rest_reads D.table self.now from to }
     {
         let enable = cell_of::<D>(from).enable;
         !self.enables_never(enable) && (self.enable_reads(enable, to) || self.data_reads(from, to))
     }
-}
 
-impl<D: Device> Graph for FuseArray<D> {
-    ghost size = { λ _. length D.table.cells };
-
-    ghost edge = { λ self. cell_reads D.table self };
-
-    fn count(&self) -> u16 {
-        u16::from(D::CELLS)
+    /// Whether the cell waits for the other one.
+    pub fn cell_reads(&self, from: u8, to: u8) -> bool
+        requires from { from < length D.table.cells }
+        requires to { to < length D.table.cells }
+        ensures { result ≡ cell_reads D.table self.now from to }
+    {
+        !self.stores(to) && self.rest_reads(from, to)
     }
 
-    fn reads(&self, from: u16, to: u16) -> bool {
-        self.cell_reads(from as u8, to as u8)
+    /// Whether the cell, which is no register, reads the other one.
+    pub fn plain_reads(&self, from: u8, to: u8) -> bool
+        requires from { from < length D.table.cells }
+        requires to { to < length D.table.cells }
+        ensures { result ≡ plain_reads D.table self.now from to }
+    {
+        !self.stores(from) && self.rest_reads(from, to)
+    }
+
+    /// Whether the row, where there is one, reads the cell.
+    pub fn row_reads_if_any(&self, row: Option<u16>, cell: u8) -> bool
+        requires row { IfSome row (λ r. r < D.table.rows) }
+        requires cell { cell < length D.table.cells }
+        ensures { result ≡ row_reads_if_any D.table self.now row cell }
+    {
+        match row {
+            None => false,
+            Some(row) => self.row_reads_cell(row, cell),
+        }
     }
 }

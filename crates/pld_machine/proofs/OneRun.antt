@@ -8,7 +8,7 @@ use Rattle.pld_base.specs.Bits.{is_on}
 use Rattle.pld_base.specs.Points.{Levels, IsPoint}
 use Rattle.pld_machine.specs.Rest.{q_at_rest}
 use Rattle.pld_machine.specs.Steps.{rises, clock_held, Steps, Run, power_up}
-use Rattle.pld_machine.specs.Once.{IsTheRest, IsTheStep, IsTheRun, IsWide, RestsOnce, RunsOnce}
+use Rattle.pld_machine.specs.Once.{IsTheRest, IsTheStep, IsTheRun, IsWide, RestsOnce, RunsOnce, IsDetermined}
 use Rattle.pld_machine.specs.Lookups.{Lookups, logic_of}
 use Rattle.pld_machine.specs.Order.{IsOrdered}
 use Rattle.pld_machine.specs.Settling.{settled_of, filled, q_at_edge, rest_of, clocked_of, between_of, step_of, steps_of, run_of}
@@ -123,3 +123,10 @@ module _ (m : Lookups) (ordered : IsOrdered m) where
   pub has_one_run : RunsOnce (logic_of m)
   has_one_run [] some wide = absurd (some refl)
   has_one_run (first ∷ rest) some wide = (run_of m first rest, runs_once first rest (All-head IsWide first rest wide) (All-tail IsWide first rest wide))
+
+  pub is_determined : IsDetermined (logic_of m)
+  is_determined = record {
+    rests = has_one_rest;
+    steps = λ before outside q_wide outside_wide. (step_of m before outside, steps_once before outside q_wide outside_wide);
+    runs = has_one_run;
+  }

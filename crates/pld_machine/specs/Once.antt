@@ -31,8 +31,20 @@ RestsOnce m =
     (outside stored : List Bool) → IsWide outside → IsWide stored
     → (at : Levels) × IsTheRest m outside stored at
 
+-- from all Qs and all outside levels exactly one point follows a step to all others
+abbrev pub StepsOnce : Logic → Type 0
+StepsOnce m =
+    (before : Levels) (outside : List Bool) → IsWide before.q → IsWide outside
+    → (after : Levels) × IsTheStep m before outside after
+
 -- for every list of outside levels that isn't empty there is exactly one run
 abbrev pub RunsOnce : Logic → Type 0
 RunsOnce m =
     (outsides : List (List Bool)) → outsides ≢ [] → All IsWide outsides
     → (points : List Levels) × IsTheRun m outsides points
+
+-- it comes to rest, steps and runs in exactly one way, from every state
+pub record IsDetermined (m : Logic) : Type 0 where
+  pub rests : RestsOnce m
+  pub steps : StepsOnce m
+  pub runs : RunsOnce m

@@ -2,17 +2,15 @@
 
 ghost use Rattle.pld_base.specs.Logic.{Logic};
 ghost use Rattle.pld_machine.specs.Comparison.{DoesTheSame, RefinesValued};
-ghost use Rattle.pld_machine.specs.Once.{RestsOnce, RunsOnce};
+ghost use Rattle.pld_machine.specs.Once.{IsDetermined, RestsOnce, RunsOnce};
 ghost use Rattle.pld_machine.specs.Lookups.{Lookups, logic_of};
 ghost use Rattle.pld_machine.specs.Order.{IsOrdered};
 ghost use Rattle.pld_machine.specs.Refines.{Refines, HasRestsOf, HasStepsOf, HasRunsOf};
 ghost use Rattle.pld_machine.specs.Valued.{NodeValues, HasNoNodes, SameValues};
 
-/// A logic in order comes to rest in exactly one way from every state, and has exactly one run for
-/// every list of outside levels that isn't empty. Does nothing.
+/// A logic in order comes to rest, steps and runs in exactly one way, from every state. Does nothing.
 pub fn one_run()
-    ensures rests { (m : Lookups) → IsOrdered m → RestsOnce (logic_of m) }
-    ensures runs { (m : Lookups) → IsOrdered m → RunsOnce (logic_of m) }
+    ensures { (m : Lookups) → IsOrdered m → IsDetermined (logic_of m) }
 {}
 
 /// What a logic does that allows no more than another, the other does too; where each allows no more

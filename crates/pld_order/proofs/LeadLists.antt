@@ -183,15 +183,3 @@ module _ (count : ℕ) (reads : ℕ → ℕ → Bool) (ends : ℕ → Bool) (lis
   no_path starts closed none path is =
       let there = place_of list (get_or path 0 0) (subst (λ p. has list (get_or p 0 0) ≡ true) (sym is.is) (first_leads closed is.before is.last (subst (λ p. (v : ℕ) → has p v ≡ true → v < count) is.is is.inside) is.leads is.arrives)) in
       true≢false (sym is.begins ∙ (ap (is_on starts) (sym there.2) ∙ none there.0 there.1))
-
--- a path from a vertex that is a start
-pub path_from : (count : ℕ) (reads : ℕ → ℕ → Bool) (starts ends : ℕ → Bool) (v : ℕ) (path : List ℕ) → starts v ≡ true → IsPath count reads (eqb v) ends path → IsPath count reads starts ends path
-path_from count reads starts ends v path start is = record {
-  before = is.before;
-  last = is.last;
-  is = is.is;
-  inside = is.inside;
-  begins = subst (λ x. starts x ≡ true) (eqb-true v (get_or path 0 0) is.begins) start;
-  leads = is.leads;
-  arrives = is.arrives;
-}

@@ -4,7 +4,9 @@ pub mod Lists
 pub mod LoopPaths
 pub mod OneOfBoth
 pub mod Orders
+pub mod PathSteps
 pub mod Ranks
+pub mod SameGraphs
 pub mod Turns
 pub mod Walks
 pub mod Words

@@ -1,37 +1,31 @@
-use Rattle.std.proofs.Common.{subst}
-use Rattle.std.specs.Prelude.{length}
+use Rattle.std.proofs.Common.{length, sym, subst}
 use Rattle.pld_device.specs.Macrocells.{device_logic}
-use Rattle.pld_machine.specs.Once.{RestsOnce, RunsOnce}
-use Rattle.device_logic.proofs.CellsOrdered.{rests_once, runs_once}
-use Rattle.device_logic.proofs.Loads.{each_byte, each_in}
+use Rattle.pld_machine.specs.Once.{IsDetermined}
+use Rattle.device_logic.specs.ResetPaths.{HasNoResetPath}
+use Rattle.device_logic.proofs.CellsOrdered.{determined, same_logic}
+use Rattle.device_logic.proofs.Loads.{each_in}
 use Rattle.device_logic.proofs.OneRun.{device_ordered}
 use Rattle.device_logic.proofs.loading.load.Goals as goal
 
-pub cells_of-requires : goal.cells_of-requires
-cells_of-requires g c =
-    rw c.deref.ensures.value (each_byte (length g.D.Device.table.cells) c.in-Ok.vertices.items g.met.D.Device.sound.sizes.few_cells c.in-Ok.ensures.ok.inside)
-
-pub returns-in-Ok-clause-ordered : goal.returns-in-Ok-clause-ordered
-returns-in-Ok-clause-ordered g c =
-    rw (c.new-in-Ok.ensures.fuses, c.new-in-Ok.ensures.order, c.in_ok-cells-in-Ok.ensures, c.deref.ensures.value)
-    (device_ordered g.D.Device.table c.in_ok-array.array c.in-Ok.vertices.items g.met.D.Device.sound c.requires.combinational c.in-Ok.ensures.ok)
-
-pub returns-in-Ok-clause-one_rest : goal.returns-in-Ok-clause-one_rest
-returns-in-Ok-clause-one_rest g c =
-    subst (λ fuses. RestsOnce (device_logic g.D.Device.table fuses)) c.in_ok-array.ensures
-    (rests_once g.D.Device.table c.in_ok-array.array c.in-Ok.vertices.items (device_ordered g.D.Device.table c.in_ok-array.array c.in-Ok.vertices.items g.met.D.Device.sound c.requires.combinational c.in-Ok.ensures.ok))
-
-pub returns-in-Ok-clause-one_run : goal.returns-in-Ok-clause-one_run
-returns-in-Ok-clause-one_run g c =
-    subst (λ fuses. RunsOnce (device_logic g.D.Device.table fuses)) c.in_ok-array.ensures
-    (runs_once g.D.Device.table c.in_ok-array.array c.in-Ok.vertices.items (device_ordered g.D.Device.table c.in_ok-array.array c.in-Ok.vertices.items g.met.D.Device.sound c.requires.combinational c.in-Ok.ensures.ok))
-
-pub cells_of-requires-in-Err-Loop : goal.cells_of-requires-in-Err-Loop
-cells_of-requires-in-Err-Loop g c =
-    let chain = rw c.in-Err-Loop.field-0-is at c.in-Err-Loop.ensures.refused in
-    rw c.deref-in-Err-Loop.ensures.value (each_byte (length g.D.Device.table.cells) c.in-Err-Loop.chain.items g.met.D.Device.sound.sizes.few_cells chain.0.inside)
-
 pub pins_of-requires : goal.pins_of-requires
-pins_of-requires g c =
-    let chain = rw c.in-Err-Loop.field-0-is at c.in-Err-Loop.ensures.refused in
-    rw (c.deref-in-Err-Loop-2.ensures.value, c.in_ok-cells-in-Err-Loop.ensures, c.deref-in-Err-Loop.ensures.value) (each_in (length g.D.Device.table.cells) c.in-Err-Loop.chain.items chain.0.inside)
+pins_of-requires g c = rw c.as_slice.ensures.value (each_in (length g.D.Device.table.cells) c.in-Err.found.vertices.items c.in-Err.ensures.refused.is_loop.inside)
+
+pub pins_of-requires-in-Some : goal.pins_of-requires-in-Some
+pins_of-requires-in-Some g c = rw c.as_slice-in-Some.ensures.value (each_in (length g.D.Device.table.cells) c.in-Some.path.items c.in-Some.ensures.found.inside)
+
+pub returns-in-None-clause-logic : goal.returns-in-None-clause-logic
+returns-in-None-clause-logic g c = rw (c.new-in-None.ensures.fuses, c.in_ok-array.ensures) (same_logic g.D.Device.table c.args.fuses.now c.new-in-None.result.order)
+
+pub returns-in-None-clause-ordered : goal.returns-in-None-clause-ordered
+returns-in-None-clause-ordered g c =
+    rw (c.new-in-None.ensures.fuses, c.new-in-None.ensures.order)
+    (device_ordered g.D.Device.table c.in_ok-array.array c.in-Ok.order.items g.met.D.Device.sound c.in-Ok.ensures.ok c.in-None.ensures.none)
+
+pub returns-in-None-clause-no_path : goal.returns-in-None-clause-no_path
+returns-in-None-clause-no_path g c = subst (HasNoResetPath g.D.Device.table) c.in_ok-array.ensures c.in-None.ensures.none
+
+pub returns-in-None-clause-determined : goal.returns-in-None-clause-determined
+returns-in-None-clause-determined g c =
+    subst (λ fuses. IsDetermined (device_logic g.D.Device.table fuses)) c.in_ok-array.ensures
+    (determined g.D.Device.table c.in_ok-array.array c.in-Ok.order.items
+    (device_ordered g.D.Device.table c.in_ok-array.array c.in-Ok.order.items g.met.D.Device.sound c.in-Ok.ensures.ok c.in-None.ensures.none))

@@ -2,7 +2,8 @@ use Rattle.std.proofs.Common.{◌≡◌, true, length, get_or, subst}
 use Rattle.pld_base.specs.Bits.{is_on}
 use Rattle.pld_order.specs.Search.{HasNoneOf}
 use Rattle.pld_order.specs.Sets.{reads_of}
-use Rattle.pld_order.proofs.LeadLists.{no_path, path_from}
+use Rattle.pld_order.proofs.LeadLists.{no_path}
+use Rattle.pld_order.proofs.PathSteps.{path_from}
 use Rattle.pld_order.proofs.paths.path.Goals as goal
 
 pub returns-in-None-clause-none : goal.returns-in-None-clause-none

@@ -1,0 +1,97 @@
+//! A device's cells as graphs: the order in which they come to rest, or a loop; and the chain of reads
+//! from the reset row to a register.
+
+ghost use Rattle.std.specs.Prelude.{◌≡◌, ◌<◌, eqb, IfErr, IfNone, IfOk, IfSome, length};
+ghost use Rattle.std.specs.List.{IsDistinct};
+ghost use Rattle.pld_order.specs.Graphs.{HasNoLoop, IsLeastLoop};
+ghost use Rattle.device_logic.specs.CellReads.{IsCellOrder, cell_reads};
+ghost use Rattle.device_logic.specs.Graphs.{HasCells, IsGraph, QuestionInRange, holds, reads_as};
+ghost use Rattle.device_logic.specs.ResetPaths.{HasNoResetPath, IsResetPath};
+
+use crate::array::FuseArray;
+use arrayvec::ArrayVec;
+use pld_device::Device;
+use pld_order::{LoopFound, VertexSet, order, path};
+
+/// What it is for a cell to read another.
+#[derive(Clone, Copy)]
+pub enum Reading {
+    /// It waits for the other's level.
+    Waits,
+    /// It is no register, and reads the other's level or Q.
+    Plain,
+}
+
+/// A question about each cell of a device.
+#[derive(Clone, Copy)]
+enum Question {
+    /// Whether the cell of this number reads it.
+    ReadBy(Reading, u8),
+    /// Whether the reset row reads it.
+    ReadByReset,
+    /// Whether it is a register.
+    Register,
+}
+
+impl<D: Device> FuseArray<D> {
+    /// The answer for one cell.
+    fn holds(&self, question: Question, cell: u8) -> bool
+        requires question { QuestionInRange D.table question }
+        requires cell { cell < length D.table.cells }
+        ensures { result ≡ holds D.table self.now question cell }
+    {
+        match question {
+            Question::ReadBy(Reading::Waits, from) => self.cell_reads(from, cell),
+            Question::ReadBy(Reading::Plain, from) => self.plain_reads(from, cell),
+            Question::ReadByReset => self.row_reads_if_any(D::RESET, cell),
+            Question::Register => self.stores(cell),
+        }
+    }
+
+    /// The cells of which the answer is yes.
+    fn cells(&self, question: Question) -> VertexSet
+        requires { QuestionInRange D.table question }
+        ensures { HasCells D.table (holds D.table self.now question) result }
+    {
+        let mut cells = VertexSet::new();
+        for cell in 0..D::CELLS {
+            if self.holds(question, cell) {
+                cells.insert(cell);
+            }
+        }
+        cells
+    }
+
+    /// For each cell the cells that it reads.
+    fn graph(&self, reading: Reading) -> ArrayVec<VertexSet, 32>
+        ensures { IsGraph D.table (reads_as D.table self.now reading) result.items }
+    {
+        let mut sets = ArrayVec::new();
+        for cell in 0..D::CELLS {
+            sets.push(self.cells(Question::ReadBy(reading, cell)));
+        }
+        sets
+    }
+
+    /// The cells in an order in which none waits for itself or a later one, or a loop.
+    pub fn cell_order(&self) -> Result<ArrayVec<u8, 256>, LoopFound>
+        ensures ok { IfOk result (λ order. IsCellOrder D.table self.now order.items) }
+        ensures no_loop { IfOk result (λ _.
+            HasNoLoop (length D.table.cells) (cell_reads D.table self.now)) }
+        ensures refused { IfErr result (λ found.
+            IsLeastLoop (length D.table.cells) (cell_reads D.table self.now) found.vertices.items) }
+    {
+        order(self.graph(Reading::Waits).as_slice())
+    }
+
+    /// The cells of a chain from the reset row to a register.
+    pub fn reset_path(&self) -> Option<ArrayVec<u8, 256>>
+        ensures found { IfSome result (λ path. IsResetPath D.table self.now path.items) }
+        ensures once { IfSome result (λ path. IsDistinct eqb path.items) }
+        ensures none { IfNone result (HasNoResetPath D.table self.now) }
+    {
+        let starts = self.cells(Question::ReadByReset);
+        let ends = self.cells(Question::Register);
+        path(self.graph(Reading::Plain).as_slice(), &starts, &ends)
+    }
+}
