@@ -1,12 +1,13 @@
 -- A logic in order has one point at rest, one result of each step, and one run.
-use Rattle.std.proofs.Common.{◌≡◌, ◌≢◌, ℕ, ◌<◌, Bool, false, ◌==◌, List, [], ◌∷◌, length, refl, ap, sym, ◌∙◌, subst, inl, inr, zero-add, length-set}
+use Rattle.std.proofs.Common.{◌≡◌, ◌≢◌, ℕ, ◌<◌, Bool, true, false, not, ◌&&◌, ◌==◌, List, [], ◌∷◌, length, refl, ap, sym, ◌∙◌, subst, inl, inr, zero-add, length-set}
 use Rattle.std.specs.List.{All}
 use Rattle.std.proofs.lemmas.Bool.{cases_Bool, eqb-false}
 use Rattle.std.proofs.lemmas.List.Elements.{All-head, All-tail}
 use Rattle.std.proofs.lemmas.List.FromFn.{length-map-range_with_len, get_or-map-range_with_len}
 use Rattle.pld_base.specs.Bits.{is_on}
 use Rattle.pld_base.specs.Points.{Levels, IsPoint}
-use Rattle.pld_machine.specs.Rest.{q_at_rest}
+use Rattle.pld_base.specs.Logic.{is_register}
+use Rattle.pld_machine.specs.Rest.{AtRest, q_at_rest}
 use Rattle.pld_machine.specs.Steps.{rises, clock_held, Steps, Run, power_up}
 use Rattle.pld_machine.specs.Once.{IsTheRest, IsTheStep, IsTheRun, IsWide, RestsOnce, RunsOnce, IsDetermined}
 use Rattle.pld_machine.specs.Lookups.{Lookups, logic_of}
@@ -65,6 +66,28 @@ module _ (m : Lookups) (ordered : IsOrdered m) where
       (λ up c low. rw up (is_on-filled (q_at_edge m (between_of m before outside)) c low))
       (λ still. rw still refl)
       (rests_once outside (clocked_of m before outside (between_of m before outside)) outside_wide new_wide)
+
+  -- a point at rest is at rest for its own Qs as well
+  pub rest_stays : (outside stored : List Bool) (at : Levels) → IsWide outside → IsTheRest (logic_of m) outside stored at → IsTheRest (logic_of m) outside at.q at
+  rest_stays outside stored at outside_wide rest = record {
+    at_rest = again;
+    only = λ other rests. one.only other rests ∙ sym (one.only at again);
+  }
+    where
+      kept : (r n s q : Bool) → q ≡ (r && (n && s)) → q ≡ (r && (n && q))
+      kept true true s q e = refl
+      kept true false s q e = e
+      kept false n s q e = e
+
+      again : AtRest (logic_of m) outside at.q at
+      again = record {
+        is_point = rest.at_rest.is_point;
+        registers = λ c low. kept (is_register (logic_of m) c) (not (m.reset at c)) (is_on stored c) (is_on at.q c) (rest.at_rest.registers c low);
+        settled = rest.at_rest.settled;
+      }
+
+      one : IsTheRest (logic_of m) outside at.q (rest_of m outside at.q)
+      one = rests_once outside at.q outside_wide rest.at_rest.is_point.q
 
   -- the computed point is the one after a step
   pub steps_once : (before : Levels) (outside : List Bool) → IsWide before.q → IsWide outside → IsTheStep (logic_of m) before outside (step_of m before outside)

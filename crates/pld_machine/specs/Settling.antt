@@ -6,6 +6,8 @@ use Rattle.pld_base.specs.Bits.{bits}
 use Rattle.pld_base.specs.Points.{Levels}
 use Rattle.pld_machine.specs.declared.logic.Slot.{Slot}
 use Rattle.pld_machine.specs.declared.logic.Slot.TheVariants.{Cell, Node}
+use Rattle.pld_base.specs.Logic.{Logic}
+use Rattle.pld_machine.specs.Once.{IsTheRest}
 use Rattle.pld_machine.specs.Rest.{q_at_rest}
 use Rattle.pld_machine.specs.Steps.{rises, clock_held, power_up}
 use Rattle.pld_machine.specs.Lookups.{Lookups, logic_of}
@@ -74,3 +76,7 @@ steps_of m at (outside ∷ rest) = step_of m at outside ∷ steps_of m (step_of 
 -- the run from power-up
 abbrev pub run_of : Lookups → List Bool → List (List Bool) → List Levels
 run_of m first rest = rest_of m first power_up ∷ steps_of m (rest_of m first power_up) rest
+
+-- the point is the one at rest for these outside levels, whatever Qs were stored
+abbrev pub RestsFor : Logic → List Bool → Levels → Type 0
+RestsFor m outside at = (stored : List Bool) × IsTheRest m outside stored at

@@ -7,6 +7,7 @@ ghost use Rattle.pld_machine.specs.Rest.{q_at_rest};
 ghost use Rattle.pld_machine.specs.Once.{IsTheRest};
 ghost use Rattle.pld_machine.specs.Lookups.{logic_of};
 ghost use Rattle.pld_machine.specs.Order.{HasPins, IsOrdered};
+ghost use Rattle.pld_machine.specs.Settling.{settled_of};
 
 use crate::logic::Logic;
 use crate::settling::settled;
@@ -36,6 +37,20 @@ fn resting_q<L: Logic>(logic: &L, at: &Point, stored: u32) -> u32
     q
 }
 
+/// The point after all slots with these Qs, given the one with the stored Qs.
+fn settled_with<L: Logic>(logic: &L, first: Point, outside: u32, stored: u32, q: u32) -> Point
+    requires order { IsOrdered (L.meaning logic.now) }
+    requires first { levels_of first
+        ≡ settled_of (L.meaning logic.now) (bits 32 outside) (bits 32 stored) }
+    ensures { levels_of result ≡ settled_of (L.meaning logic.now) (bits 32 outside) (bits 32 q) }
+{
+    if q == stored {
+        first
+    } else {
+        settled(logic, outside, q)
+    }
+}
+
 /// The one point at rest for these outside levels, bit p for pin p, and stored Qs, bit c for cell c.
 ///
 /// Takes no memory.
@@ -47,5 +62,5 @@ pub fn rest<L: Logic>(logic: &L, outside: u32, stored: u32) -> Point
     // No reset depends on a Q, so the resets here are those of the point at rest.
     let first = settled(logic, outside, stored);
     let q = resting_q(logic, &first, stored);
-    settled(logic, outside, q)
+    settled_with(logic, first, outside, stored, q)
 }

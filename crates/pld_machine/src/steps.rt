@@ -3,10 +3,10 @@
 ghost use Rattle.std.specs.Prelude.{◌≢◌, true, false, ◌≡◌, ◌<◌, ℕ};
 ghost use Rattle.pld_base.specs.Bits.{bits, is_on};
 ghost use Rattle.pld_base.specs.Points.{levels_of};
-ghost use Rattle.pld_machine.specs.Once.{IsTheStep};
+ghost use Rattle.pld_machine.specs.Once.{IsTheRest, IsTheStep};
 ghost use Rattle.pld_machine.specs.Lookups.{logic_of};
 ghost use Rattle.pld_machine.specs.Order.{HasPins, IsOrdered};
-ghost use Rattle.pld_machine.specs.Settling.{q_at_edge};
+ghost use Rattle.pld_machine.specs.Settling.{RestsFor, q_at_edge};
 
 use crate::logic::Logic;
 use crate::rests::rest;
@@ -44,6 +44,20 @@ fn clocked_q<L: Logic>(logic: &L, at: &Point, edge: bool) -> u32
     if edge { edge_q(logic, at) } else { at.q }
 }
 
+/// The one point at rest for these outside levels and Qs, given one at rest for the held levels.
+fn rest_after<L: Logic>(logic: &L, at: Point, held: u32, outside: u32, q: u32) -> Point
+    requires order { IsOrdered (L.meaning logic.now) }
+    requires rests { RestsFor (logic_of (L.meaning logic.now)) (bits 32 held) (levels_of at) }
+    ensures { IsTheRest (logic_of (L.meaning logic.now))
+        (bits 32 outside) (bits 32 q) (levels_of result) }
+{
+    if held == outside && q == at.q {
+        at
+    } else {
+        rest(logic, outside, q)
+    }
+}
+
 /// The one point after a step of a logic with a clock.
 fn clocked_step<L: Logic>(logic: &L, before: &Point, outside: u32) -> Point
     requires order { IsOrdered (L.meaning logic.now) }
@@ -53,10 +67,11 @@ fn clocked_step<L: Logic>(logic: &L, before: &Point, outside: u32) -> Point
 {
     let clock = logic.clock();
     let was = pld_base::level_at(before.pins, clock);
-    let between = rest(logic, pld_base::with_level(outside, clock, was), before.q);
+    let held = pld_base::with_level(outside, clock, was);
+    let between = rest(logic, held, before.q);
     let edge = !was & pld_base::level_at(outside, clock);
     let q = clocked_q(logic, &between, edge);
-    rest(logic, outside, q)
+    rest_after(logic, between, held, outside, q)
 }
 
 /// The one point after a step to new outside levels, bit p for pin p.
