@@ -52,5 +52,5 @@ none_unsupported t pins slice vectors found pins_is same found_is none = rw (pin
 pub load_fault : (t : Table) (file : FuseFile) (fault : SimFault) → first_unsupported 1 file.vectors ≡ None → IsLoadFault t file.fuses fault → IsSimFault t file fault
 load_fault t file (UnsupportedCondition vector pin) none is = absurd is
 load_fault t file (DeviceLoop pins) none is = (none, is)
-load_fault t file (DeviceResetReadsRegister pins) none is = is
+load_fault t file (DeviceResetReadsRegister pins) none is = (none, is.0, is.1)
 load_fault t file OutOfMemory none is = tt

@@ -7,7 +7,8 @@ use Rattle.pld_device.specs.Macrocells.{device_logic}
 use Rattle.pld_device.specs.Table.{Table}
 use Rattle.pld_order.specs.Graphs.{HasNoLoop}
 use Rattle.device_logic.specs.CellReads.{cell_reads}
-use Rattle.device_logic.specs.LoadFaults.{IsPinLoop}
+use Rattle.device_logic.specs.LoadFaults.{IsPinLoop, IsPinPath}
+use Rattle.device_logic.specs.ResetPaths.{HasNoResetPath}
 use Rattle.device_logic.specs.declared.fault.SimFault.{SimFault}
 use Rattle.device_logic.specs.declared.fault.SimFault.TheVariants.{UnsupportedCondition, DeviceLoop, DeviceResetReadsRegister, OutOfMemory}
 use Rattle.device_sim.specs.declared.report.Mismatch.{Mismatch}
@@ -26,10 +27,11 @@ first_unsupported vector (chars ∷ vectors) =
     (option_map (λ place. (vector, suc place)) (position is_unsupported chars))
     (first_unsupported (suc vector) vectors)
 
--- no vector has such a character, and no cell reads itself through others
+-- no vector has such a character, no cell reads itself through others, and the reset depends on no register
 pub record CanBeSimulated (t : Table) (file : FuseFile) : Type 0 where
   pub supported : first_unsupported 1 file.vectors ≡ None
   pub no_loop : HasNoLoop (length t.cells) (cell_reads t file.fuses)
+  pub no_path : HasNoResetPath t file.fuses
 
 -- the report of the vectors' run on the device with the file's fuses
 pub record IsSimulated (t : Table) (file : FuseFile) (report : Report) : Type 0 where
@@ -43,9 +45,12 @@ IsTheOnlyList t file list =
     (other : List Mismatch)
     → IsVectorRun (device_logic t file.fuses) file.default_level file.vectors other → other ≡ list
 
--- the fault is the first character that isn't simulated; or there is none and some cells are a loop; or memory ran out
+-- the fault is the first character that isn't simulated; or there is none, and some cells are a loop; or there is
+-- no loop either, and the reset depends on a register; or memory ran out
 abbrev pub IsSimFault : Table → FuseFile → SimFault → Type 0
 IsSimFault t file (UnsupportedCondition vector pin) = first_unsupported 1 file.vectors ≡ Some (vector, pin)
 IsSimFault t file (DeviceLoop pins) = (first_unsupported 1 file.vectors ≡ None) × IsPinLoop t file.fuses pins.items
-IsSimFault t file (DeviceResetReadsRegister pins) = ⊥
+IsSimFault t file (DeviceResetReadsRegister pins) =
+    (first_unsupported 1 file.vectors ≡ None) × HasNoLoop (length t.cells) (cell_reads t file.fuses)
+    × IsPinPath t file.fuses pins.items
 IsSimFault t file OutOfMemory = ⊤

@@ -1,7 +1,6 @@
 //! The run of a fuse file's vectors.
 
 ghost use Rattle.std.specs.Prelude.{◌≡◌, ◌<◌, ◌^◌, length, IfOk, IfErr};
-ghost use Rattle.device_logic.specs.CellReads.{IsCombinational};
 ghost use Rattle.jedec_reader.specs.Contents.{contents};
 ghost use Rattle.device_sim.specs.Simulated.{IsSimulated, IsSimFault, IsTheOnlyList};
 
@@ -21,12 +20,12 @@ use std::alloc::Global;
 /// vector with clocks takes two further steps: they are turned, and turned back. Then each `H`, `L`
 /// and `Z` is held against what its pin shows. Characters past the device's pins count for nothing.
 ///
-/// `UnsupportedCondition` is the first character that is not simulated, and comes before
-/// `DeviceLoop`. The loaded device and the mismatches take memory, and nothing else does.
+/// `UnsupportedCondition` is the first character that is not simulated. It comes before `DeviceLoop`,
+/// and that before `DeviceResetReadsRegister`. The loaded device and the mismatches take memory, and
+/// nothing else does.
 pub fn simulate<D: Device>(alloc: Global, file: &FuseFile) -> Result<Report, SimFault>
     requires size { length file.now.fuses ≡ D.table.fuses }
     requires few { length file.now.vectors < 2 ^ 32 }
-    requires combinational { IsCombinational D.table }
     ensures simulated { IfOk result (λ r. IsSimulated D.table (contents D.table file.now) r) }
     ensures only { IfOk result (λ r. IsTheOnlyList D.table (contents D.table file.now) r.list) }
     ensures refused { IfErr result (IsSimFault D.table (contents D.table file.now)) }

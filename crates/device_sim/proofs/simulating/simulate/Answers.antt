@@ -20,6 +20,7 @@ returns-clause-simulated g c =
       can = record {
         supported = none_unsupported t c.PINS.result c.as_slice-vectors.result.now c.args.file.now.vectors c.first_unsupported.result (c.PINS.ensures ∙ g.met.D.Device.pins_is) c.as_slice-vectors.ensures c.first_unsupported.ensures c.in_default.is;
         no_loop = c.in_ok-logic.ensures.no_loop;
+        no_path = c.in_ok-logic.ensures.no_path;
       };
       vectors = ap length c.as_slice-vectors.ensures ∙ sym (length-map c.args.file.now.vectors (chars_of t));
       run = is_device_run t c.args.file.now.default_level c.args.file.now.vectors g.met.D.Device.sound.sizes.pins_high c.args.file.now.fuses c.in_ok-logic.logic.fuses c.in_ok-logic.logic.order c.PINS-2.result c.as_slice-vectors.result.now
@@ -29,7 +30,7 @@ returns-clause-simulated g c =
 pub returns-clause-only : goal.returns-clause-only
 returns-clause-only g c other other_is =
     let t = g.D.Device.table in
-    only_device_run t c.args.file.now.default_level c.args.file.now.vectors g.met.D.Device.sound.sizes.pins_high c.args.file.now.fuses c.in_ok-logic.ensures.one_run c.from_vec.result other
+    only_device_run t c.args.file.now.default_level c.args.file.now.vectors g.met.D.Device.sound.sizes.pins_high c.args.file.now.fuses c.in_ok-logic.ensures.determined.runs c.from_vec.result other
     (is_device_run t c.args.file.now.default_level c.args.file.now.vectors g.met.D.Device.sound.sizes.pins_high c.args.file.now.fuses c.in_ok-logic.logic.fuses c.in_ok-logic.logic.order c.PINS-2.result c.as_slice-vectors.result.now
     c.in_ok-list.list.items c.from_vec.result c.in_ok-logic.ensures.fuses (c.PINS-2.ensures ∙ g.met.D.Device.pins_is) c.as_slice-vectors.ensures c.in_ok-logic.ensures.ordered c.in_ok-list.ensures c.from_vec.ensures)
     other_is
