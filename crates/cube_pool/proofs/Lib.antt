@@ -1,0 +1,2 @@
+pub mod CubeBits
+pub mod CubePoints

@@ -1,0 +1,4 @@
+pub mod Cubes
+pub mod Covers
+pub mod Prime
+pub mod Pool

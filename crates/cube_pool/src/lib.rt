@@ -1,0 +1,10 @@
+//! Cubes, and a region of them that grows and shrinks like a stack.
+#![tactic(auto)]
+
+mod cube;
+mod pool;
+#[cfg(test)]
+mod tests;
+
+pub use cube::Cube;
+pub use pool::{CubePool, Mark, Range};
