@@ -1,8 +1,8 @@
 //! A product of literals as a set of points.
 
-ghost use Rattle.std.specs.Prelude.{◌≡◌, ◌<◌, ◌&&◌, Bool, List, IsTrue, true, length};
+ghost use Rattle.std.specs.Prelude.{◌≡◌, ◌<◌, ◌↔◌, ◌&&◌, Bool, List, IsTrue, true, length};
 ghost use Rattle.pld_base.specs.Bits.{is_on, same_level};
-ghost use Rattle.cube_pool.specs.Cubes.{asks, full_cube, has_point, is_empty, lies_in, literal_cube, meets, union, without};
+ghost use Rattle.cube_pool.specs.Cubes.{AsksBelow, asks, full_cube, has_point, is_empty, lies_in, literal_cube, meets, union, without};
 
 /// Bit v of `yes` asks variable v to be 1, bit v of `no` asks it to be 0.
 #[derive(Clone, Copy, Debug, PartialEq, Eq)]
@@ -41,6 +41,14 @@ impl Cube {
     {
         let asked = if level { self.yes } else { self.no };
         asked >> variable & 1 == 1
+    }
+
+    /// Whether no variable from `vars` on is asked. Takes no memory.
+    pub fn asks_below(self, vars: u8) -> bool
+        requires { vars < 32 }
+        ensures { IsTrue result ↔ AsksBelow vars self }
+    {
+        self.yes >> vars == 0 && self.no >> vars == 0
     }
 
     /// Whether some variable is asked to be both 1 and 0. Takes no memory.

@@ -79,6 +79,22 @@ impl CubePool {
         self.cubes.push_reserved(cube);
     }
 
+    /// Appends the cubes, and answers where they stand.
+    pub fn push_all(&mut self, cubes: &[Cube]) -> Range
+        requires { length cubes.now ≤ self.old.spare }
+        ensures from { result.from ≡ length self.old.cubes }
+        ensures to { result.to ≡ length self.new.cubes }
+        ensures cubes { self.new.cubes ≡ self.old.cubes ++ cubes.now }
+        ensures spare { self.new.spare + length cubes.now ≡ self.old.spare }
+    {
+        let from = self.len();
+        for cube in cubes {
+            self.push(*cube);
+        }
+        let to = self.len();
+        Range { from, to }
+    }
+
     /// Cuts the list at the mark's length.
     pub fn release(&mut self, mark: Mark)
         requires { mark.length ≤ length self.old.cubes }
