@@ -1,0 +1,5 @@
+pub mod CofactorLists
+pub mod ComplementLaws
+pub mod MovedPoints
+pub mod UnateLaws
+pub mod UnateRecursion

@@ -1,0 +1,3 @@
+pub mod Cofactors
+pub mod Unate
+pub mod Outside
