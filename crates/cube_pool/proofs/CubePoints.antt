@@ -8,7 +8,7 @@ use Rattle.std.proofs.lemmas.Bool.Decides.{nat_tests}
 use Rattle.std.proofs.lemmas.Nat.Bits.{bit_at-lt, bit_at-zero, bit_at_and, bit_at_or}
 use Rattle.pld_base.specs.Bits.{is_on, same_level}
 use Rattle.cube_pool.specs.declared.cube.Cube.{Cube}
-use Rattle.cube_pool.specs.Cubes.{fits, has_from, has_point, full_cube, is_empty, lies_in, literal_cube, meets, union, without, AsksBelow}
+use Rattle.cube_pool.specs.Cubes.{Grows, fits, has_from, has_point, full_cube, is_empty, lies_in, literal_cube, meets, union, without, AsksBelow}
 use Rattle.cube_pool.proofs.CubeBits.{bit_below, bit_at_without, literal_same, literal_other, meets_each, empty_at, apart_at}
 
 -- ---- a point of a cube, variable by variable
@@ -47,10 +47,6 @@ pub full_has_all : (p : List Bool) → has_point full_cube p ≡ true
 full_has_all p = has_point_each full_cube p (λ v lt. rw bit_at-zero (fits_none (is_on p v)))
 
 -- ---- fewer literals
-
--- each literal of d at the first variables is one of c
-abbrev pub Grows : ℕ → Cube → Cube → Type 0
-Grows vars c d = (v : ℕ) → v < vars → (bit_at d.yes v ≤ bit_at c.yes v) × (bit_at d.no v ≤ bit_at c.no v)
 
 pub has_point_grows : (c d : Cube) (p : List Bool) → Grows (length p) c d → has_point c p ≡ true → has_point d p ≡ true
 has_point_grows c d p grows is = has_point_each d p (λ v lt. fits-le (bit_at d.yes v) (bit_at d.no v) (bit_at c.yes v) (bit_at c.no v) (is_on p v) (grows v lt).0 (grows v lt).1 (fits_at c p v is lt))

@@ -1,6 +1,6 @@
 -- Cubes: products of literals as sets of points (sum-of-products form; which numbers stand for a cube is this
 -- project's rule). A point is a list of levels, variable 0 first.
-use Rattle.std.specs.Prelude.{ℕ, suc, ◌==◌, ◌<◌, ◌^◌, Bool, true, false, not, ◌&&◌, List, [], ◌∷◌, bit_and, bit_or, All}
+use Rattle.std.specs.Prelude.{ℕ, suc, ◌==◌, ◌<◌, ◌≤◌, ◌^◌, Bool, true, false, not, ◌&&◌, List, [], ◌∷◌, bit_and, bit_or, All}
 use Rattle.std.specs.Int.{bit_at, bit_not, w32}
 use Rattle.std.specs.List.{list_any}
 use Rattle.cube_pool.specs.declared.cube.Cube.{Cube}
@@ -60,6 +60,10 @@ union c d = record { yes = bit_or c.yes d.yes; no = bit_or c.no d.no }
 -- the second cube without the literals of the first
 abbrev pub without : Cube → Cube → Cube
 without c d = record { yes = bit_and d.yes (bit_not w32 c.yes); no = bit_and d.no (bit_not w32 c.no) }
+
+-- each literal of the second at the first variables is one of the first: the second has all points of the first
+abbrev pub Grows : ℕ → Cube → Cube → Type 0
+Grows vars c d = (v : ℕ) → v < vars → (bit_at d.yes v ≤ bit_at c.yes v) × (bit_at d.no v ≤ bit_at c.no v)
 
 -- the cube asks no variable at or past the number
 abbrev pub AsksBelow : ℕ → Cube → Type 0
