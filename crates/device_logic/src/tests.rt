@@ -1,5 +1,5 @@
-//! A device of three cells is loaded with small designs. Every expected order, loop and level is
-//! worked by hand from what a row reads and where it is true.
+//! Small devices are loaded with small designs. Every expected order, loop, chain and level is worked
+//! by hand from what a row reads and where it is true.
 
 ghost use Rattle.std.specs.Prelude.{◌≡◌, IfOk, length};
 ghost use Rattle.pld_machine.specs.Order.{IsOrdered};
@@ -8,7 +8,7 @@ ghost use Rattle.device_logic.specs.TrioTable.{trio};
 
 use crate::trio::Trio;
 use crate::{DeviceLogic, SimFault, load, no_loop, one_layer};
-use pld_device::Fuses;
+use pld_device::{Fuses, Sample};
 use pld_machine::{Logic, Slot, rest};
 use std::alloc::Global;
 use std::test::Fail;
@@ -100,18 +100,18 @@ const THREE: Rows = "
     11 11 11 11 11  11 11 11 01 11  00 00 00 00 00
 ";
 
-/// The fuses of these rows, in which only 0 and 1 count.
-fn fuses_of(alloc: Global, rows: Rows) -> Result<Fuses, Fail>
-    ensures { IfOk result (λ f. length f ≡ 90) }
+/// The fuses of a text, in which only 0 and 1 count.
+fn fuses_of(alloc: Global, text: &str, size: usize) -> Result<Fuses, Fail>
+    ensures { IfOk result (λ f. length f ≡ size) }
 {
     let mut levels = Vec::new(alloc);
-    for byte in rows.bytes() {
+    for byte in text.bytes() {
         if byte == b'0' || byte == b'1' {
             levels.push(byte == b'1').map_err(|_| "memory")?;
         }
     }
-    if levels.len() != 90 {
-        return Err(Fail::from("not 90 fuses"));
+    if levels.len() != size {
+        return Err(Fail::from("not as many fuses"));
     }
     Ok(Fuses::from_levels(levels))
 }
@@ -120,7 +120,7 @@ fn fuses_of(alloc: Global, rows: Rows) -> Result<Fuses, Fail>
 fn loaded(alloc: Global, rows: Rows) -> Result<DeviceLogic<Trio>, Fail>
     ensures { IfOk result (λ l. IsOrdered (device_lookups trio l.fuses l.order)) }
 {
-    let fuses = fuses_of(alloc, rows)?;
+    let fuses = fuses_of(alloc, rows, 90)?;
     match load::<Trio>(alloc, &fuses) {
         Ok(logic) => Ok(logic),
         Err(_fault) => Err(Fail::from("a fault")),
@@ -142,7 +142,7 @@ fn order_of(alloc: Global, rows: Rows) -> Result<Vec<u8>, Fail> {
 
 /// The pins of the loop, where there is one.
 fn loop_of(alloc: Global, rows: Rows) -> Result<Vec<u8>, Fail> {
-    let fuses = fuses_of(alloc, rows)?;
+    let fuses = fuses_of(alloc, rows, 90)?;
     match load::<Trio>(alloc, &fuses) {
         Err(SimFault::DeviceLoop(pins)) => Ok(pins),
         _ => Err(Fail::from("no loop")),
@@ -224,5 +224,59 @@ fn a_released_pin_has_its_outside_level(rt: HostRuntime) -> Result<(), Fail> {
     // Pin 2 is 1: pin 7 is the complement of pin 1, and pin 9 that of pin 7.
     assert_eq!(rt; at_rest(alloc, RELEASED, PIN_2)?, 0b001);
     assert_eq!(rt; at_rest(alloc, RELEASED, PIN_1 | PIN_2 | PIN_7)?, 0b100);
+    Ok(())
+}
+
+// What the sample device's reset depends on. Its rows are the reset row, the enable row of cell 0, its
+// two data rows, the data row of cell 1, and the preset row; the columns are those of pin 1, cell 0,
+// pin 2 and cell 1, two each. Then come the control fuses: not inverted, whether cell 0 is a register
+// (cell 1 always is one), a switch for each row, and three more. Cell 0 is on pin 9, cell 1 on pin 8.
+#[rattlefmt::skip]
+const RESETS: [(&str, &str, &str); 12] = [
+    ("the reset reads a pin", "loaded", "
+        11 11 01 11  11 11 11 11  11 11 11 01  00 00 00 00  11 11 11 11  00 00 00 00  11 0 111111 111"),
+    ("a register", "reset [8]", "
+        11 11 11 01  11 11 11 11  11 11 11 01  00 00 00 00  11 11 11 11  00 00 00 00  11 0 111111 111"),
+    ("the other register", "reset [9]", "
+        11 10 11 11  11 11 11 11  11 11 11 11  00 00 00 00  11 11 11 11  00 00 00 00  11 1 111111 111"),
+    ("a cell whose data read a register", "reset [9, 8]", "
+        11 01 11 11  11 11 11 11  00 00 00 00  11 11 11 10  11 11 11 11  00 00 00 00  11 0 111111 111"),
+    ("a cell whose enable reads a register", "reset [9, 8]", "
+        11 10 11 11  11 11 11 01  11 11 01 11  00 00 00 00  11 11 11 11  00 00 00 00  11 0 111111 111"),
+    ("a cell that reads pins, beside a register that reads it", "loaded", "
+        11 10 11 11  11 11 11 11  11 11 01 11  00 00 00 00  11 01 11 11  00 00 00 00  11 0 111111 111"),
+    ("a register's data read a register", "loaded", "
+        11 11 01 11  11 11 11 11  11 11 11 01  11 01 11 11  11 01 11 11  00 00 00 00  11 1 111111 111"),
+    ("the preset reads a register", "loaded", "
+        11 11 01 11  11 11 11 11  00 00 00 00  00 00 00 00  11 11 11 11  11 11 11 01  11 0 111111 111"),
+    ("the reset row is switched off", "loaded", "
+        11 01 11 01  11 11 11 11  11 11 11 10  00 00 00 00  11 11 11 11  00 00 00 00  11 0 011111 111"),
+    ("the reset row has a whole pair", "loaded", "
+        11 11 00 01  11 11 11 11  11 11 11 10  00 00 00 00  11 11 11 11  00 00 00 00  11 0 111111 111"),
+    ("a cell that never drives its pin", "loaded", "
+        11 01 11 11  00 11 11 11  11 11 11 10  00 00 00 00  11 11 11 11  00 00 00 00  11 0 111111 111"),
+    ("a loop comes first", "loop [9]", "
+        11 01 11 01  11 11 11 11  11 10 11 11  11 11 11 10  11 11 11 11  00 00 00 00  11 0 111111 111"),
+];
+
+/// What comes of loading the sample device.
+fn outcome(alloc: Global, text: &str) -> Result<String, Fail> {
+    let fuses = fuses_of(alloc, text, 60)?;
+    match load::<Sample>(alloc, &fuses) {
+        Ok(_logic) => Ok(format!(in alloc; "loaded")?),
+        Err(SimFault::DeviceLoop(pins)) => Ok(format!(in alloc; "loop {:?}", pins.as_slice())?),
+        Err(SimFault::DeviceResetReadsRegister(pins)) => {
+            Ok(format!(in alloc; "reset {:?}", pins.as_slice())?)
+        }
+        Err(_fault) => Err(Fail::from("another fault")),
+    }
+}
+
+#[test]
+fn a_reset_that_depends_on_a_register_is_told_by_its_pins(rt: HostRuntime) -> Result<(), Fail> {
+    for (what, wanted, text) in RESETS {
+        let found = outcome(rt.alloc(), text)?;
+        assert_eq!(rt; found.as_str(), wanted, "{what}");
+    }
     Ok(())
 }
