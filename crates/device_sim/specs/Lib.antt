@@ -1,4 +1,5 @@
 pub mod Bench
 pub mod Simulated
+pub mod TurnedTable
 pub mod VectorRun
 pub mod VectorSteps

@@ -13,6 +13,8 @@ mod test_text;
 mod testing;
 #[cfg(test)]
 mod tests;
+#[cfg(test)]
+mod turned;
 
 pub use device_logic::{DeviceLogic, SimFault, load};
 pub use report::{Mismatch, Report};
