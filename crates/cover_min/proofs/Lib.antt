@@ -1,0 +1,6 @@
+pub mod CommonPoints
+pub mod ExpandedRows
+pub mod LeftOut
+pub mod Literals
+pub mod Minimised
+pub mod RowsOthers

@@ -1,0 +1,139 @@
+//! Expansion: each needed cube is made as large as the allowed cover lets it be.
+//!
+//! The idea is that of espresso's expand. A literal can be left out of a cube where the allowed cover has all of the
+//! larger cube; what is left once each literal was tried is prime, since a literal that a cube needs a larger one needs
+//! too. Which prime it becomes depends on the order in which the literals are tried. The order is by votes: each needed
+//! cube votes for the variables at which it is opposite to the cube, since only without that literal can the cube reach
+//! it, and a cube that is opposite at one variable alone counts before all others. So the cube grows over its
+//! neighbours first, and many of their expansions become one row.
+//!
+//! Names: `cube` is the needed cube, `found` what it has become, `left` the variables whose literals are still to be
+//! tried, `votes` the votes by variable.
+
+ghost use Rattle.std.specs.Prelude.{◌≡◌, ◌+◌, ◌-◌, ◌*◌, ◌<◌, ◌≤◌, true, length, take, drop, slice_range};
+ghost use Rattle.std.specs.Int.{bit_at};
+ghost use Rattle.cube_pool.specs.Cubes.{AllAskBelow, AsksBelow, Grows, asks, literal_cube, without};
+ghost use Rattle.cube_pool.specs.Covers.{CoversCube, CoversList};
+ghost use Rattle.cube_pool.specs.Prime.{IsPrime};
+
+ghost use Rattle.cover_min.specs.Expanded.{IsExpanded};
+ghost use Rattle.cover_min.specs.Appended.{LiesIn};
+
+use cover_ops::covers_cube;
+use cube_pool::{Cube, CubePool, Range};
+
+/// One vote more; a neighbour's vote counts before all others.
+fn voted(votes: u32, alone: bool) -> u32 {
+    votes.saturating_add(if alone { 65_536 } else { 1 })
+}
+
+/// The votes of the needed cubes for the variables at which they are opposite to the cube.
+fn votes(pool: &CubePool, needed: Range, cube: Cube) -> [u32; 32]
+    requires { LiesIn needed pool.now.cubes }
+{
+    let mut votes = [0; 32];
+    for other in pool.slice(needed) {
+        let opposed = (cube.yes & other.no) | (cube.no & other.yes);
+        let alone = opposed & opposed.wrapping_sub(1) == 0;
+        for variable in 0..32u8 {
+            if opposed >> variable & 1 == 1 {
+                votes[variable as usize] = voted(votes[variable as usize], alone);
+            }
+        }
+    }
+    votes
+}
+
+/// Of the variables that are left, the first with the most votes.
+fn most_voted(votes: &[u32; 32], left: u32) -> u8
+    requires { 0 < left }
+    ensures low { result < 32 }
+    ensures is_left { bit_at left result ≡ 1 }
+{
+    let mut found = left.trailing_zeros() as u8;
+    for variable in 0..32u8 {
+        if left >> variable & 1 == 1 && votes[found as usize] < votes[variable as usize] {
+            found = variable;
+        }
+    }
+    found
+}
+
+/// The cube without the literal, where the allowed cover has all of that.
+fn expanded_at(
+    pool: &mut CubePool,
+    allowed: Range,
+    cube: Cube,
+    variable: u8,
+    level: bool,
+    vars: u8,
+) -> Cube
+    requires variable { variable < vars }
+    requires vars { vars ≤ 22 }
+    requires allowed { LiesIn allowed pool.old.cubes }
+    requires below { AllAskBelow vars (slice_range pool.old.cubes allowed.from allowed.to) }
+    requires cube { AsksBelow vars cube }
+    requires spare { 24 * (allowed.to - allowed.from) + 24 ≤ pool.old.spare }
+    requires inside { CoversCube (slice_range pool.old.cubes allowed.from allowed.to) cube vars }
+    ensures same { pool.new ≡ pool.old }
+    ensures below { AsksBelow vars result }
+    ensures inside { CoversCube (slice_range pool.old.cubes allowed.from allowed.to) result vars }
+    ensures grows { Grows vars cube result }
+    ensures tried { asks variable level result ≡ true → CoversCube (slice_range pool.old.cubes allowed.from allowed.to) (without (literal_cube variable level) result) vars → ⊥ }
+{
+    if !cube.asks(variable, level) {
+        return cube;
+    }
+    let larger = cube.without(Cube::literal(variable, level));
+    if covers_cube(pool, allowed, larger, vars) {
+        return larger;
+    }
+    cube
+}
+
+/// The cube without each literal that can be left out.
+fn expanded(pool: &mut CubePool, allowed: Range, needed: Range, cube: Cube, vars: u8) -> Cube
+    requires vars { vars ≤ 22 }
+    requires needed { LiesIn needed pool.old.cubes }
+    requires allowed { LiesIn allowed pool.old.cubes }
+    requires below { AllAskBelow vars (slice_range pool.old.cubes allowed.from allowed.to) }
+    requires cube { AsksBelow vars cube }
+    requires spare { 24 * (allowed.to - allowed.from) + 24 ≤ pool.old.spare }
+    requires inside { CoversCube (slice_range pool.old.cubes allowed.from allowed.to) cube vars }
+    ensures same { pool.new ≡ pool.old }
+    ensures below { AsksBelow vars result }
+    ensures inside { CoversCube (slice_range pool.old.cubes allowed.from allowed.to) result vars }
+    ensures grows { Grows vars cube result }
+    ensures prime { IsPrime (slice_range pool.old.cubes allowed.from allowed.to) vars result }
+{
+    let votes = votes(pool, needed, cube);
+    let mut found = cube;
+    let mut left = cube.yes | cube.no;
+    while left != 0 {
+        let variable = most_voted(&votes, left);
+        let first = expanded_at(pool, allowed, found, variable, true, vars);
+        found = expanded_at(pool, allowed, first, variable, false, vars);
+        left &= !(1 << variable);
+    }
+    found
+}
+
+/// Appends each needed cube, expanded.
+pub(crate) fn push_expanded(pool: &mut CubePool, needed: Range, allowed: Range, vars: u8)
+    requires vars { vars ≤ 22 }
+    requires needed { LiesIn needed pool.old.cubes }
+    requires allowed { LiesIn allowed pool.old.cubes }
+    requires needed_below { AllAskBelow vars (slice_range pool.old.cubes needed.from needed.to) }
+    requires allowed_below { AllAskBelow vars (slice_range pool.old.cubes allowed.from allowed.to) }
+    requires spare { 24 * (allowed.to - allowed.from) + (needed.to - needed.from) + 24 ≤ pool.old.spare }
+    requires inside { CoversList (slice_range pool.old.cubes allowed.from allowed.to) (slice_range pool.old.cubes needed.from needed.to) vars }
+    ensures kept { take (length pool.old.cubes) pool.new.cubes ≡ pool.old.cubes }
+    ensures spare { pool.new.spare + length pool.new.cubes ≡ pool.old.spare + length pool.old.cubes }
+    ensures rows { IsExpanded (slice_range pool.old.cubes allowed.from allowed.to) (slice_range pool.old.cubes needed.from needed.to) vars (drop (length pool.old.cubes) pool.new.cubes) }
+{
+    for place in needed.from..needed.to {
+        let cube = pool.cube_at(place);
+        let row = expanded(pool, allowed, needed, cube, vars);
+        pool.push(row);
+    }
+}

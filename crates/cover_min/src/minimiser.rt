@@ -1,0 +1,36 @@
+//! A prime and irredundant cover between a needed and an allowed one.
+//!
+//! The idea is espresso's, without its return from a local minimum: expand each needed cube to a prime one, then leave
+//! out the rows that the others make up for. The contract is its checker's: the rows have every needed point, and only
+//! allowed ones.
+
+ghost use Rattle.std.specs.Prelude.{◌≡◌, ◌+◌, ◌-◌, ◌*◌, ◌≤◌, length, max, slice_range};
+ghost use Rattle.cube_pool.specs.Cubes.{AllAskBelow};
+ghost use Rattle.cube_pool.specs.Covers.{CoversList};
+ghost use Rattle.cube_pool.specs.Prime.{IsPrimeIrredundant};
+ghost use Rattle.cover_min.specs.Appended.{Appends, LiesIn};
+
+use crate::expand::push_expanded;
+use crate::irredundant::leave_out;
+use cube_pool::{CubePool, Range};
+
+/// Appends a prime and irredundant list of rows that is true at every needed point and only at allowed ones, and no
+/// longer than `needed`. Takes no memory.
+pub fn minimise(pool: &mut CubePool, needed: Range, allowed: Range, vars: u8) -> Range
+    requires vars { vars ≤ 22 }
+    requires needed { LiesIn needed pool.old.cubes }
+    requires allowed { LiesIn allowed pool.old.cubes }
+    requires needed_below { AllAskBelow vars (slice_range pool.old.cubes needed.from needed.to) }
+    requires allowed_below { AllAskBelow vars (slice_range pool.old.cubes allowed.from allowed.to) }
+    requires spare { 24 * max (needed.to - needed.from) (allowed.to - allowed.from) + (needed.to - needed.from) + 24 ≤ pool.old.spare }
+    requires inside { CoversList (slice_range pool.old.cubes allowed.from allowed.to) (slice_range pool.old.cubes needed.from needed.to) vars }
+    ensures appends { Appends pool.old pool.new result }
+    ensures rows { IsPrimeIrredundant (slice_range pool.old.cubes needed.from needed.to) (slice_range pool.old.cubes allowed.from allowed.to) vars (slice_range pool.new.cubes result.from result.to) }
+    ensures few { result.to - result.from ≤ needed.to - needed.from }
+{
+    let from = pool.len();
+    push_expanded(pool, needed, allowed, vars);
+    leave_out(pool, from, needed, vars);
+    let to = pool.len();
+    Range { from, to }
+}
