@@ -1,0 +1,10 @@
+pub mod Booleans
+pub mod Munches
+pub mod Quotes
+pub mod Blanks
+pub mod Longest
+pub mod FirstBytes
+pub mod Values
+pub mod RadixForms
+pub mod Scanned
+pub mod Found
