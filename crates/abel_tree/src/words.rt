@@ -1,0 +1,91 @@
+//! The smallest parts of the tree: words, numbers, names and signs.
+
+use pld_base::{NameText, Place};
+
+/// The text and the place of a token. A string's text keeps its quotes.
+#[derive(Drop)]
+pub struct Word {
+    pub text: NameText,
+    pub place: Place,
+}
+
+/// A number with its place.
+#[derive(Clone, Copy, Debug, PartialEq, Eq)]
+pub struct Number {
+    pub value: u32,
+    pub place: Place,
+}
+
+/// A name of a declaration, or a range of names from `first` up or down to `last`; `negated` where a `!`
+/// stands before it.
+#[derive(Drop)]
+pub struct Item {
+    pub negated: bool,
+    pub first: Word,
+    pub last: Option<Word>,
+}
+
+/// A number of a declaration, or all numbers from `first` up or down to `last`.
+#[derive(Clone, Copy, Debug, PartialEq, Eq)]
+pub struct Span {
+    pub first: Number,
+    pub last: Option<Number>,
+}
+
+/// `@DCSET` (`on`) or `@ONSET`.
+#[derive(Clone, Copy, Debug, PartialEq, Eq)]
+pub struct DontCare {
+    pub on: bool,
+    pub place: Place,
+}
+
+/// What a name or a set is asked for behind its dot, as in `q.CLK`.
+#[derive(Clone, Copy, Debug, PartialEq, Eq)]
+pub enum Extension {
+    Clk,
+    Oe,
+    Ar,
+    Sp,
+    D,
+    Q,
+    Fb,
+    Pin,
+}
+
+/// The sign of an assignment: `=`, `:=`, `?=`, `?:=`.
+#[derive(Clone, Copy, Debug, PartialEq, Eq)]
+pub enum Sign {
+    Equal,
+    Clocked,
+    Any,
+    ClockedAny,
+}
+
+/// `!` and the `-` before an operand.
+#[derive(Clone, Copy, Debug, PartialEq, Eq)]
+pub enum Unary {
+    Not,
+    Minus,
+}
+
+/// `== != < <= > >=`, `+ - # $ !$`, `& << >> * / %`, in this order.
+#[derive(Clone, Copy, Debug, PartialEq, Eq)]
+pub enum Binary {
+    Equal,
+    Unequal,
+    Less,
+    LessEqual,
+    Greater,
+    GreaterEqual,
+    Plus,
+    Minus,
+    Or,
+    Xor,
+    Xnor,
+    And,
+    ShiftLeft,
+    ShiftRight,
+    Times,
+    Over,
+    Rest,
+}
