@@ -7,10 +7,14 @@ pub mod DepthLaws
 pub mod FollowedLaws
 pub mod RepeatedLaws
 pub mod ClassLaws
-pub mod LookLaws
 pub mod VerdictLaws
 pub mod FlatLaws
 pub mod RepeatedTurns
 pub mod ListTurns
 pub mod SeparatedTurns
 pub mod ChainTurns
+pub mod SameForms
+pub mod PickLaws
+pub mod FurtherLaws
+pub mod SharpLaws
+pub mod TimesTurns
