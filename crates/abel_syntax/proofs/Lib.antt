@@ -1,0 +1,12 @@
+pub mod Sets
+pub mod ExpressionLaws
+pub mod StatementLaws
+pub mod DeclarationForms
+pub mod DeclarationLaws
+pub mod TableLaws
+pub mod DiagramLaws
+pub mod DiagramForms
+pub mod ModuleLaws
+pub mod Shorter
+pub mod Verdict
+pub mod EndedForms

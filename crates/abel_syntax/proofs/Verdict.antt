@@ -1,0 +1,33 @@
+-- The verdict on the tokens of a source: the only tree, and the exact places of Syntax and TooDeep.
+use Rattle.std.proofs.Common.{◌≡◌, ◌-◌, Bool, false, List, [], ◌∷◌, length, Ok, Err}
+use Rattle.grammar.specs.Reading.{Syntax, TooDeep}
+use Rattle.grammar.specs.Verdict.{Spells, SyntaxAt, TooDeepAt}
+use Rattle.grammar.proofs.VerdictLaws.{tree_spelled, tree_only, stopped, left_over, too_deep_at}
+use Rattle.abel_lexer.specs.declared.token.Token.{Token}
+use Rattle.abel_tree.specs.Tree.{ModuleTree}
+use Rattle.abel_syntax.specs.declared.terminal.Terminal.TheVariants.{Module}
+use Rattle.abel_syntax.specs.Terminals.{among}
+use Rattle.abel_syntax.specs.Modules.{source}
+use Rattle.abel_syntax.specs.ModuleReaders.{read_source}
+use Rattle.abel_syntax.proofs.ModuleLaws.{source_laws, behind_end}
+
+abbrev first : Token → Bool
+first x = among (Module ∷ []) x
+
+abbrev behind : ModuleTree → Token → Bool
+behind t x = among behind_end x
+
+pub is_tree : (ts : List Token) (t : ModuleTree) → read_source 64 ts ≡ Ok (t, []) → Spells source ts t
+is_tree ts t e = tree_spelled source read_source first behind false source_laws 64 ts t e
+
+pub is_only_tree : (ts : List Token) (t : ModuleTree) → read_source 64 ts ≡ Ok (t, []) → (u : ModuleTree) → Spells source ts u → u ≡ t
+is_only_tree ts t e = tree_only source read_source first behind false source_laws 64 ts t e
+
+pub is_stopped : (ts left : List Token) → read_source 64 ts ≡ Err (Syntax left) → SyntaxAt source 64 ts (length ts - length left)
+is_stopped ts left e = stopped source read_source first behind false source_laws 64 ts left e
+
+pub is_left_over : (ts : List Token) (t : ModuleTree) (x : Token) (rest : List Token) → read_source 64 ts ≡ Ok (t, x ∷ rest) → SyntaxAt source 64 ts (length ts - length (x ∷ rest))
+is_left_over ts t x rest e = left_over source read_source first behind false source_laws 64 ts t x rest e
+
+pub is_too_deep : (ts left : List Token) → read_source 64 ts ≡ Err (TooDeep left) → TooDeepAt source 64 ts (length ts - length left)
+is_too_deep ts left e = too_deep_at source read_source first behind false source_laws 64 ts left e

@@ -1,0 +1,16 @@
+pub mod Terminals
+pub mod Gives
+pub mod Words
+pub mod WordReaders
+pub mod Expressions
+pub mod ExpressionReaders
+pub mod Statements
+pub mod StatementReaders
+pub mod Declarations
+pub mod DeclarationReaders
+pub mod Tables
+pub mod TableReaders
+pub mod Diagrams
+pub mod DiagramReaders
+pub mod Modules
+pub mod ModuleReaders

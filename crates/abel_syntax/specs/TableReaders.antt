@@ -1,0 +1,38 @@
+-- Truth tables and test vectors, read from left to right (a helper of the parser's own contracts).
+use Rattle.std.specs.Prelude.{ℕ, zero, suc, List, [], ◌∷◌}
+use Rattle.grammar.specs.Reading.{Reader, read_token, ◌then_read◌, read_optional, read_repeated, read_made, read_deep}
+use Rattle.grammar.specs.Further.{read_placed}
+use Rattle.abel_lexer.specs.declared.token.Token.{Token}
+use Rattle.abel_tree.specs.Tree.{RowTree, SectionTree}
+use Rattle.abel_syntax.specs.declared.terminal.Terminal.{Terminal}
+use Rattle.abel_syntax.specs.declared.terminal.Terminal.TheVariants as terminal
+use Rattle.abel_syntax.specs.Terminals.{among}
+use Rattle.abel_syntax.specs.WordReaders.{read_one, read_text}
+use Rattle.abel_syntax.specs.ExpressionReaders.{read_expr}
+use Rattle.abel_syntax.specs.Tables.{arrows, plain_arrow, row_of, header_of, table_of, vectors_of}
+
+abbrev pub expr_starts : List Terminal
+expr_starts = terminal.Not ∷ terminal.Minus ∷ terminal.Open ∷ terminal.Left ∷ terminal.Identifier ∷ terminal.Number ∷ terminal.Special ∷ []
+
+unfoldable pub read_row : List Terminal → ℕ → Reader Token RowTree
+read_row signs n =
+    read_made row_of
+    (read_placed (read_expr n then_read read_token (among signs) then_read read_expr n then_read read_one terminal.Semicolon))
+
+unfoldable pub read_header : List Terminal → ℕ → Reader Token RowTree
+read_header signs zero = read_deep (among (terminal.Open ∷ []))
+read_header signs (suc n) =
+    read_made header_of
+    (read_one terminal.Open then_read read_expr n then_read read_token (among signs) then_read read_expr n then_read read_one terminal.Close)
+
+abbrev pub read_rows : List Terminal → ℕ → Reader Token (List RowTree)
+read_rows signs n = read_repeated (among expr_starts) (read_row signs n)
+
+unfoldable pub read_table : ℕ → Reader Token SectionTree
+read_table n = read_made table_of (read_one terminal.TruthTable then_read read_header arrows n then_read read_rows arrows n)
+
+unfoldable pub read_vectors : ℕ → Reader Token SectionTree
+read_vectors n =
+    read_made vectors_of
+    (read_one terminal.TestVectors then_read read_optional (among (terminal.Text ∷ [])) read_text
+    then_read read_header plain_arrow n then_read read_rows plain_arrow n)

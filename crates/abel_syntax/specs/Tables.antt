@@ -1,0 +1,55 @@
+-- Truth tables and test vectors (ABEL-HDL Reference Manual, truth tables and test vectors), and how they are
+-- read.
+use Rattle.std.specs.Prelude.{ℕ, zero, suc, Bool, true, false, List, [], ◌∷◌, Option}
+use Rattle.grammar.specs.Form.{Form, token, ◌then◌, optional, repeated, made, nothing}
+use Rattle.grammar.specs.Further.{placed}
+use Rattle.abel_lexer.specs.declared.token.Token.{Token}
+use Rattle.abel_tree.specs.declared.words.Word.{Word}
+use Rattle.abel_tree.specs.Tree.{Tree, RowTree, SectionTree, ATable, SomeVectors}
+use Rattle.abel_syntax.specs.declared.terminal.Terminal.{Terminal}
+use Rattle.abel_syntax.specs.declared.terminal.Terminal.TheVariants as terminal
+use Rattle.abel_syntax.specs.Terminals.{among, terminal_of}
+use Rattle.abel_syntax.specs.Words.{one, text}
+use Rattle.abel_syntax.specs.Expressions.{expr}
+
+-- arrow = '->' | ':>'
+abbrev pub arrows : List Terminal
+arrows = terminal.Arrow ∷ terminal.ClockedArrow ∷ []
+
+abbrev pub plain_arrow : List Terminal
+plain_arrow = terminal.Arrow ∷ []
+
+abbrev pub is_clocked : Terminal → Bool
+is_clocked terminal.ClockedArrow = true
+is_clocked _ = false
+
+-- expr arrow expr ;
+abbrev pub row_of : Token × (Tree × (Token × (Tree × Token))) → RowTree
+row_of x = record { place = x.0.place; inputs = x.1.0; clocked = is_clocked (terminal_of x.1.1.0); outputs = x.1.1.1.0 }
+
+unfoldable pub row : List Terminal → ℕ → Form Token RowTree
+row signs n = made row_of (placed (expr n then token (among signs) then expr n then one terminal.Semicolon))
+
+-- ( expr arrow expr )        the `(` is a nesting
+abbrev pub header_of : Token × (Tree × (Token × (Tree × Token))) → RowTree
+header_of x = record { place = x.0.place; inputs = x.1.0; clocked = is_clocked (terminal_of x.1.1.0); outputs = x.1.1.1.0 }
+
+unfoldable pub header : List Terminal → ℕ → Form Token RowTree
+header signs zero = nothing
+header signs (suc n) = made header_of (one terminal.Open then expr n then token (among signs) then expr n then one terminal.Close)
+
+-- table = TRUTH_TABLE ( expr arrow expr ) {row}
+abbrev pub table_of : Token × (RowTree × List RowTree) → SectionTree
+table_of x = ATable x.0.place x.1.0.inputs x.1.0.clocked x.1.0.outputs x.1.1
+
+unfoldable pub table : ℕ → Form Token SectionTree
+table n = made table_of (one terminal.TruthTable then header arrows n then repeated (row arrows n))
+
+-- vectors = TEST_VECTORS [string] ( expr -> expr ) {expr -> expr ;}        their place is the `(`
+abbrev pub vectors_of : Token × (Option Word × (RowTree × List RowTree)) → SectionTree
+vectors_of x = SomeVectors x.1.0 x.1.1.0.place x.1.1.0.inputs x.1.1.0.outputs x.1.1.1
+
+unfoldable pub vectors : ℕ → Form Token SectionTree
+vectors n =
+    made vectors_of
+    (one terminal.TestVectors then optional text then header plain_arrow n then repeated (row plain_arrow n))
