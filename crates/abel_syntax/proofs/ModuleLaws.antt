@@ -3,7 +3,7 @@ use Rattle.std.proofs.Common.{◌≡◌, ℕ, suc, inl, inr, Bool, true, false, 
 use Rattle.std.specs.Prelude.{◌||◌, ◌&&◌, not}
 use Rattle.grammar.specs.Form.{◌then◌, followed, repeated, SpellsList}
 use Rattle.grammar.specs.Reading.{◌then_read◌, read_followed, read_repeated}
-use Rattle.grammar.specs.Further.{unless, read_unless}
+use Rattle.grammar.specs.Further.{flatten, unless, read_unless}
 use Rattle.grammar.proofs.Laws.{Lawful}
 use Rattle.grammar.proofs.SameForms.{same_laws}
 use Rattle.grammar.proofs.MadeLaws.{made_laws, relaxed_laws}
@@ -21,8 +21,8 @@ use Rattle.abel_syntax.specs.Declarations.{option_words}
 use Rattle.abel_syntax.specs.DeclarationReaders.{decl_starts, other_starts}
 use Rattle.abel_syntax.specs.Diagrams.{trans, state_of, state, diagram_of, diagram}
 use Rattle.abel_syntax.specs.DiagramReaders.{trans_starts, read_trans, read_state, read_diagram}
-use Rattle.abel_syntax.specs.Modules.{declarations_of, declarations, equations_of, equations, proper, dont_care_section, is_empty, last_is_bare, takes_dont_care, flatten, group_of, sections, decls_of, first_decls, title_of, title, module_of, source}
-use Rattle.abel_syntax.specs.ModuleReaders.{read_declarations, read_equations, read_proper, read_dont_care_section, proper_starts, read_sections, read_first_decls, read_title, read_source}
+use Rattle.abel_syntax.specs.Modules.{options, declarations_of, declarations, equations_of, equations, proper, dont_care_section, is_empty, last_is_bare, takes_dont_care, group_of, sections, decls_of, first_decls, title_of, title, module_of, source}
+use Rattle.abel_syntax.specs.ModuleReaders.{read_options, read_declarations, read_equations, read_proper, read_dont_care_section, proper_starts, read_sections, read_first_decls, read_title, read_source}
 use Rattle.abel_syntax.proofs.Sets.{Obeys, Keeps, one_laws, then_laws, perhaps, any_number, turned, led_by, led_by_less, or_trails, trails}
 use Rattle.abel_syntax.proofs.ExpressionLaws.{exprs, behind_expr, name_laws, text_laws, end_laws, dont_care_laws, expr_laws}
 use Rattle.abel_syntax.proofs.StatementLaws.{any_behind, stmt_laws, stmts_laws}
@@ -157,7 +157,7 @@ states_laws n = repeated_sharp _ _ _ _ (among state_word) (among gall) behind_st
 -- ---- sections
 
 -- what may go on behind any section, and a dc behind one that takes it
-abbrev behind_any_section : List Terminal
+abbrev pub behind_any_section : List Terminal
 behind_any_section = State ∷ Comma ∷ behind_any_state ++ behind_expr ++ exprs ++ option_words
 
 abbrev behind_section : SectionTree → Token → Bool
@@ -216,7 +216,7 @@ proper_laws n =
     (or_trails (StateDiagram ∷ []) (TestVectors ∷ []) (StateDiagram ∷ TestVectors ∷ []) behind_section (diagram_laws n) (trails (TestVectors ∷ []) exprs behind_section (vectors_laws n) exprs_false)
     refl refl refl) refl refl refl) refl refl refl) refl refl refl
 
-dont_care_section_laws : Keeps dont_care_section read_dont_care_section dc (Semicolon ∷ []) false
+pub dont_care_section_laws : Keeps dont_care_section read_dont_care_section dc (Semicolon ∷ []) false
 unfolding dont_care_section read_dont_care_section
 dont_care_section_laws = turned DontCareSection dc (Semicolon ∷ []) false dont_care_laws
 
@@ -224,10 +224,10 @@ dont_cares_laws : Keeps (repeated dont_care_section) (read_repeated (among dc) r
 dont_cares_laws = any_number dc (Semicolon ∷ []) dont_care_section_laws refl
 
 -- what may go on behind a section and its dc
-abbrev behind_group : List Terminal
+abbrev pub behind_group : List Terminal
 behind_group = DontCare ∷ Semicolon ∷ behind_any_section
 
-groups_laws : (n : ℕ) → Obeys (followed (proper n) (λ s. unless (takes_dont_care s) [] (repeated dont_care_section))) (followed (proper (suc n)) (λ s. unless (takes_dont_care s) [] (repeated dont_care_section)))
+pub groups_laws : (n : ℕ) → Obeys (followed (proper n) (λ s. unless (takes_dont_care s) [] (repeated dont_care_section))) (followed (proper (suc n)) (λ s. unless (takes_dont_care s) [] (repeated dont_care_section)))
     (read_followed (read_proper n) (λ s. read_unless (takes_dont_care s) [] (read_repeated (among dc) read_dont_care_section))) (read_followed (read_proper (suc n)) (λ s. read_unless (takes_dont_care s) [] (read_repeated (among dc) read_dont_care_section)))
     proper_starts behind_group false
 groups_laws n =
@@ -294,6 +294,10 @@ options_on = option_words ++ decls_on
 abbrev titles_on : List Terminal
 titles_on = Title ∷ options_on
 
+options_laws : Keeps options read_options option_words (option_words ++ Semicolon ∷ Comma ∷ []) true
+unfolding options read_options
+options_laws = turned flatten option_words (option_words ++ Semicolon ∷ Comma ∷ []) true (any_number option_words (Semicolon ∷ Comma ∷ []) option_laws refl)
+
 pub source_laws : (n : ℕ) → Obeys (source n) (source (suc n)) (read_source n) (read_source (suc n)) (Module ∷ []) behind_end false
 unfolding source read_source
 source_laws n =
@@ -302,7 +306,7 @@ source_laws n =
     (then_laws (Identifier ∷ []) [] (Semicolon ∷ titles_on) behind_end false false name_laws
     (then_laws (Semicolon ∷ []) (Semicolon ∷ []) titles_on behind_end true false end_laws
     (then_laws (Title ∷ []) (Title ∷ Semicolon ∷ []) options_on behind_end true false (perhaps (Title ∷ []) (Semicolon ∷ []) title_laws)
-    (then_laws option_words (option_words ++ Semicolon ∷ Comma ∷ []) decls_on behind_end true false (any_number option_words (Semicolon ∷ Comma ∷ []) option_laws refl)
+    (then_laws option_words (option_words ++ Semicolon ∷ Comma ∷ []) decls_on behind_end true false options_laws
     (then_laws other_starts (other_starts ++ ((decl_starts ++ Semicolon ∷ Comma ∷ []) ++ Semicolon ∷ [])) ends behind_end true false (first_decls_laws n)
     (then_laws proper_starts (proper_starts ++ behind_group) (End ∷ []) behind_end true false (sections_laws n)
     (then_laws (End ∷ []) [] (Identifier ∷ Semicolon ∷ []) behind_end false true (one_laws End)

@@ -8,15 +8,15 @@ use Rattle.abel_syntax.specs.Words.{one}
 use Rattle.abel_syntax.specs.WordReaders.{read_one}
 use Rattle.abel_syntax.specs.Expressions.{expr}
 use Rattle.abel_syntax.specs.ExpressionReaders.{read_expr}
-use Rattle.abel_syntax.specs.Tables.{arrows, plain_arrow, row_of, row, header_of, header, table_of, table, vectors_of, vectors}
-use Rattle.abel_syntax.specs.TableReaders.{read_row, read_header, read_rows, read_table, read_vectors}
+use Rattle.abel_syntax.specs.Tables.{arrows, plain_arrow, row_of, row_as, row, header_as, header, table_of, table, vector_row_of, vector_row, vector_header, vectors_of, vectors}
+use Rattle.abel_syntax.specs.TableReaders.{read_row_as, read_row, read_header_as, read_header, read_rows, read_table, read_vector_row, read_vector_header, read_vector_rows, read_vectors}
 use Rattle.abel_syntax.proofs.Sets.{Obeys, one_laws, some_laws, then_laws, perhaps, any_number, turned, placed_obeys, too_deep}
 use Rattle.abel_syntax.proofs.ExpressionLaws.{exprs, behind_expr, text_laws, expr_laws}
 
 -- ---- truth tables
 
-table_row_laws : (n : ℕ) → Obeys (row arrows n) (row arrows (suc n)) (read_row arrows n) (read_row arrows (suc n)) exprs [] false
-unfolding row read_row
+pub table_row_laws : (n : ℕ) → Obeys (row n) (row (suc n)) (read_row n) (read_row (suc n)) exprs [] false
+unfolding row_as read_row_as
 table_row_laws n =
     turned row_of exprs [] false
     (placed_obeys exprs []
@@ -24,17 +24,17 @@ table_row_laws n =
     (then_laws arrows [] exprs [] false false (some_laws arrows)
     (then_laws exprs behind_expr (Semicolon ∷ []) [] false false (expr_laws n) (one_laws Semicolon) refl) refl) refl))
 
-table_header_laws : (n : ℕ) → Obeys (header arrows n) (header arrows (suc n)) (read_header arrows n) (read_header arrows (suc n)) (Open ∷ []) [] false
-unfolding header read_header
-table_header_laws zero = too_deep header_of (Open ∷ []) (expr zero then token (among arrows) then expr zero then one Close) (read_expr zero then_read read_token (among arrows) then_read read_expr zero then_read read_one Close) []
+table_header_laws : (n : ℕ) → Obeys (header n) (header (suc n)) (read_header n) (read_header (suc n)) (Open ∷ []) [] false
+unfolding header_as read_header_as
+table_header_laws zero = too_deep row_of (Open ∷ []) (expr zero then token (among arrows) then expr zero then one Close) (read_expr zero then_read read_token (among arrows) then_read read_expr zero then_read read_one Close) []
 table_header_laws (suc n) =
-    turned header_of (Open ∷ []) [] false
+    turned row_of (Open ∷ []) [] false
     (then_laws (Open ∷ []) [] exprs [] false false (one_laws Open)
     (then_laws exprs behind_expr arrows [] false false (expr_laws n)
     (then_laws arrows [] exprs [] false false (some_laws arrows)
     (then_laws exprs behind_expr (Close ∷ []) [] false false (expr_laws n) (one_laws Close) refl) refl) refl) refl)
 
-table_rows_laws : (n : ℕ) → Obeys (repeated (row arrows n)) (repeated (row arrows (suc n))) (read_rows arrows n) (read_rows arrows (suc n)) exprs exprs true
+table_rows_laws : (n : ℕ) → Obeys (repeated (row n)) (repeated (row (suc n))) (read_rows n) (read_rows (suc n)) exprs exprs true
 table_rows_laws n = any_number exprs [] (table_row_laws n) refl
 
 pub table_laws : (n : ℕ) → Obeys (table n) (table (suc n)) (read_table n) (read_table (suc n)) (TruthTable ∷ []) exprs false
@@ -46,26 +46,26 @@ table_laws n =
 
 -- ---- test vectors
 
-vector_row_laws : (n : ℕ) → Obeys (row plain_arrow n) (row plain_arrow (suc n)) (read_row plain_arrow n) (read_row plain_arrow (suc n)) exprs [] false
-unfolding row read_row
+pub vector_row_laws : (n : ℕ) → Obeys (vector_row n) (vector_row (suc n)) (read_vector_row n) (read_vector_row (suc n)) exprs [] false
+unfolding row_as read_row_as
 vector_row_laws n =
-    turned row_of exprs [] false
+    turned vector_row_of exprs [] false
     (placed_obeys exprs []
     (then_laws exprs behind_expr plain_arrow [] false false (expr_laws n)
     (then_laws plain_arrow [] exprs [] false false (some_laws plain_arrow)
     (then_laws exprs behind_expr (Semicolon ∷ []) [] false false (expr_laws n) (one_laws Semicolon) refl) refl) refl))
 
-vector_header_laws : (n : ℕ) → Obeys (header plain_arrow n) (header plain_arrow (suc n)) (read_header plain_arrow n) (read_header plain_arrow (suc n)) (Open ∷ []) [] false
-unfolding header read_header
-vector_header_laws zero = too_deep header_of (Open ∷ []) (expr zero then token (among plain_arrow) then expr zero then one Close) (read_expr zero then_read read_token (among plain_arrow) then_read read_expr zero then_read read_one Close) []
+vector_header_laws : (n : ℕ) → Obeys (vector_header n) (vector_header (suc n)) (read_vector_header n) (read_vector_header (suc n)) (Open ∷ []) [] false
+unfolding header_as read_header_as
+vector_header_laws zero = too_deep vector_row_of (Open ∷ []) (expr zero then token (among plain_arrow) then expr zero then one Close) (read_expr zero then_read read_token (among plain_arrow) then_read read_expr zero then_read read_one Close) []
 vector_header_laws (suc n) =
-    turned header_of (Open ∷ []) [] false
+    turned vector_row_of (Open ∷ []) [] false
     (then_laws (Open ∷ []) [] exprs [] false false (one_laws Open)
     (then_laws exprs behind_expr plain_arrow [] false false (expr_laws n)
     (then_laws plain_arrow [] exprs [] false false (some_laws plain_arrow)
     (then_laws exprs behind_expr (Close ∷ []) [] false false (expr_laws n) (one_laws Close) refl) refl) refl) refl)
 
-vector_rows_laws : (n : ℕ) → Obeys (repeated (row plain_arrow n)) (repeated (row plain_arrow (suc n))) (read_rows plain_arrow n) (read_rows plain_arrow (suc n)) exprs exprs true
+vector_rows_laws : (n : ℕ) → Obeys (repeated (vector_row n)) (repeated (vector_row (suc n))) (read_vector_rows n) (read_vector_rows (suc n)) exprs exprs true
 vector_rows_laws n = any_number exprs [] (vector_row_laws n) refl
 
 pub vectors_laws : (n : ℕ) → Obeys (vectors n) (vectors (suc n)) (read_vectors n) (read_vectors (suc n)) (TestVectors ∷ []) exprs false

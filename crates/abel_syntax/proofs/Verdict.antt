@@ -1,6 +1,6 @@
 -- The verdict on the tokens of a source: the only tree, and the exact places of Syntax and TooDeep.
-use Rattle.std.proofs.Common.{◌≡◌, ◌-◌, Bool, false, List, [], ◌∷◌, length, Ok, Err}
-use Rattle.grammar.specs.Reading.{Syntax, TooDeep}
+use Rattle.std.proofs.Common.{◌≡◌, ◌-◌, Bool, false, List, [], ◌∷◌, ◌++◌, length, Ok, Err}
+use Rattle.grammar.specs.Reading.{Stop, Syntax, TooDeep, left_of}
 use Rattle.grammar.specs.Verdict.{Spells, SyntaxAt, TooDeepAt}
 use Rattle.grammar.proofs.VerdictLaws.{tree_spelled, tree_only, stopped, left_over, too_deep_at}
 use Rattle.abel_lexer.specs.declared.token.Token.{Token}
@@ -31,3 +31,10 @@ is_left_over ts t x rest e = left_over source read_source first behind false sou
 
 pub is_too_deep : (ts left : List Token) → read_source 64 ts ≡ Err (TooDeep left) → TooDeepAt source 64 ts (length ts - length left)
 is_too_deep ts left e = too_deep_at source read_source first behind false source_laws 64 ts left e
+
+-- the tokens that are left where reading stopped are those at the end
+pub is_end : (ts : List Token) (s : Stop Token) → read_source 64 ts ≡ Err s → (c : List Token) × (ts ≡ c ++ left_of s)
+is_end ts s e = let p = (source_laws 64).front ts s e in (p.0, p.1)
+
+pub is_rest : (ts : List Token) (x : ModuleTree × List Token) → read_source 64 ts ≡ Ok x → (c : List Token) × (ts ≡ c ++ x.1)
+is_rest ts x e = let p = (source_laws 64).place ts x.0 x.1 ((source_laws 64).sound ts x e) in (p.0, p.1)

@@ -1,7 +1,7 @@
 -- Sections and modules, read from left to right (a helper of the parser's own contracts).
-use Rattle.std.specs.Prelude.{ℕ, List, [], ◌∷◌}
+use Rattle.std.specs.Prelude.{ℕ, Bool, List, [], ◌∷◌, Option}
 use Rattle.grammar.specs.Reading.{Reader, read_followed, ◌then_read◌, read_either, read_optional, read_repeated, read_made}
-use Rattle.grammar.specs.Further.{read_unless}
+use Rattle.grammar.specs.Further.{flatten, read_unless}
 use Rattle.abel_lexer.specs.declared.token.Token.{Token}
 use Rattle.abel_tree.specs.declared.words.Word.{Word}
 use Rattle.abel_tree.specs.Tree.{Declaration, SectionTree, DontCareSection, ModuleTree}
@@ -14,7 +14,7 @@ use Rattle.abel_syntax.specs.Declarations.{option_words}
 use Rattle.abel_syntax.specs.DeclarationReaders.{read_option, read_decl, read_other_decl, decl_starts, other_starts}
 use Rattle.abel_syntax.specs.TableReaders.{read_table, read_vectors}
 use Rattle.abel_syntax.specs.DiagramReaders.{read_diagram}
-use Rattle.abel_syntax.specs.Modules.{flatten, declarations_of, equations_of, takes_dont_care, group_of, decls_of, title_of, module_of}
+use Rattle.abel_syntax.specs.Modules.{declarations_of, equations_of, takes_dont_care, group_of, decls_of, title_of, module_of}
 
 unfoldable pub read_declarations : ℕ → Reader Token SectionTree
 read_declarations n = read_made declarations_of (read_one terminal.Declarations then_read read_repeated (among decl_starts) (read_decl n))
@@ -35,11 +35,18 @@ read_dont_care_section = read_made DontCareSection read_dont_care
 abbrev pub proper_starts : List Terminal
 proper_starts = terminal.Declarations ∷ terminal.Equations ∷ terminal.TruthTable ∷ terminal.StateDiagram ∷ terminal.TestVectors ∷ []
 
+-- a section, and the dc behind it that are sections
+abbrev pub read_free : Bool → Reader Token (List SectionTree)
+read_free taken = read_unless taken [] (read_repeated (among (terminal.DontCare ∷ [])) read_dont_care_section)
+
+abbrev pub read_section_group : ℕ → Reader Token (List SectionTree)
+read_section_group n = read_made group_of (read_followed (read_proper n) (λ s. read_free (takes_dont_care s)))
+
 unfoldable pub read_sections : ℕ → Reader Token (List SectionTree)
-read_sections n =
-    read_made flatten
-    (read_repeated (among proper_starts)
-    (read_made group_of (read_followed (read_proper n) (λ s. read_unless (takes_dont_care s) [] (read_repeated (among (terminal.DontCare ∷ [])) read_dont_care_section)))))
+read_sections n = read_made flatten (read_repeated (among proper_starts) (read_section_group n))
+
+unfoldable pub read_options : Reader Token (List Word)
+read_options = read_made flatten (read_repeated (among option_words) read_option)
 
 unfoldable pub read_first_decls : ℕ → Reader Token (List Declaration)
 read_first_decls n =
@@ -49,11 +56,21 @@ read_first_decls n =
 unfoldable pub read_title : Reader Token Word
 read_title = read_made title_of (read_one terminal.Title then_read read_text then_read read_end)
 
+-- the sections, and what ends the module
+abbrev pub read_ending : ℕ → Reader Token (List SectionTree × (Token × (Option Token × Option Token)))
+read_ending n =
+    read_sections n then_read read_one terminal.End
+    then_read read_optional (among (terminal.Identifier ∷ [])) (read_one terminal.Identifier) then_read read_end
+
+-- what stands behind the module's name and title
+abbrev pub Body : Type 0
+Body = List Word × (List Declaration × (List SectionTree × (Token × (Option Token × Option Token))))
+
+abbrev pub read_body : ℕ → Reader Token Body
+read_body n = read_options then_read read_first_decls n then_read read_ending n
+
 unfoldable pub read_source : ℕ → Reader Token ModuleTree
 read_source n =
     read_made module_of
     (read_one terminal.Module then_read read_name then_read read_end
-    then_read read_optional (among (terminal.Title ∷ [])) read_title
-    then_read read_repeated (among option_words) read_option then_read read_first_decls n
-    then_read read_sections n then_read read_one terminal.End
-    then_read read_optional (among (terminal.Identifier ∷ [])) (read_one terminal.Identifier) then_read read_end)
+    then_read read_optional (among (terminal.Title ∷ [])) read_title then_read read_body n)

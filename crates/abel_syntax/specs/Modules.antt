@@ -1,7 +1,7 @@
 -- Sections and modules (ABEL-HDL Reference Manual, source file structure).
-use Rattle.std.specs.Prelude.{ℕ, Bool, true, false, List, [], ◌∷◌, ◌++◌, Option, None, Some}
+use Rattle.std.specs.Prelude.{ℕ, Bool, true, false, List, [], ◌∷◌, Option, None, Some}
 use Rattle.grammar.specs.Form.{Form, ◌then◌, followed, either, optional, repeated, made}
-use Rattle.grammar.specs.Further.{unless}
+use Rattle.grammar.specs.Further.{flatten, unless}
 use Rattle.abel_lexer.specs.declared.token.Token.{Token}
 use Rattle.abel_tree.specs.declared.words.Word.{Word}
 use Rattle.abel_tree.specs.Tree.{Statement, Declaration, StateTree, SectionTree, Declarations, Equations, ATable, ADiagram, SomeVectors, DontCareSection, ModuleTree}
@@ -11,11 +11,6 @@ use Rattle.abel_syntax.specs.Statements.{stmt}
 use Rattle.abel_syntax.specs.Declarations.{option, decl, other_decl}
 use Rattle.abel_syntax.specs.Tables.{table, vectors}
 use Rattle.abel_syntax.specs.Diagrams.{diagram}
-
--- lists, one behind the other
-abbrev pub flatten : {A : Type 0} → List (List A) → List A
-flatten [] = []
-flatten (l ∷ ls) = l ++ flatten ls
 
 -- DECLARATIONS {decl}        EQUATIONS {stmt}
 abbrev pub declarations_of : Token × List Declaration → SectionTree
@@ -64,6 +59,10 @@ sections n =
     made flatten
     (repeated (made group_of (followed (proper n) (λ s. unless (takes_dont_care s) [] (repeated dont_care_section)))))
 
+-- {option}
+unfoldable pub options : Form Token (List Word)
+options = made flatten (repeated option)
+
 -- {option} {decl}: an option that could stand in both stands in {option}
 abbrev pub decls_of : Option (Declaration × List Declaration) → List Declaration
 decls_of None = []
@@ -81,14 +80,14 @@ title = made title_of (one terminal.Title then text then end)
 
 -- module = MODULE id [;] [TITLE string [;]] {option} {decl} {section} END [id] [;]
 abbrev pub Parts : Type 0
-Parts = Token × (Word × (Option Token × (Option Word × (List (List Word) × (List Declaration × (List SectionTree × (Token × (Option Token × Option Token))))))))
+Parts = Token × (Word × (Option Token × (Option Word × (List Word × (List Declaration × (List SectionTree × (Token × (Option Token × Option Token))))))))
 
 abbrev pub module_of : Parts → ModuleTree
 module_of x = record {
   place = x.0.place;
   name = x.1.0;
   title = x.1.1.1.0;
-  options = flatten x.1.1.1.1.0;
+  options = x.1.1.1.1.0;
   decls = x.1.1.1.1.1.0;
   sections = x.1.1.1.1.1.1.0;
 }
@@ -96,5 +95,5 @@ module_of x = record {
 unfoldable pub source : ℕ → Form Token ModuleTree
 source n =
     made module_of
-    (one terminal.Module then name then end then optional title then repeated option then first_decls n
+    (one terminal.Module then name then end then optional title then options then first_decls n
     then sections n then one terminal.End then optional (one terminal.Identifier) then end)

@@ -23,27 +23,47 @@ abbrev pub is_clocked : Terminal → Bool
 is_clocked terminal.ClockedArrow = true
 is_clocked _ = false
 
--- expr arrow expr ;
-abbrev pub row_of : Token × (Tree × (Token × (Tree × Token))) → RowTree
+-- a row's or a header's first token, inputs, arrow, outputs and last token
+abbrev pub Sides : Type 0
+Sides = Token × (Tree × (Token × (Tree × Token)))
+
+abbrev pub row_of : Sides → RowTree
 row_of x = record { place = x.0.place; inputs = x.1.0; clocked = is_clocked (terminal_of x.1.1.0); outputs = x.1.1.1.0 }
 
-unfoldable pub row : List Terminal → ℕ → Form Token RowTree
-row signs n = made row_of (placed (expr n then token (among signs) then expr n then one terminal.Semicolon))
+-- vectors have one arrow alone, which says nothing of a clock
+abbrev pub vector_row_of : Sides → RowTree
+vector_row_of x = record { place = x.0.place; inputs = x.1.0; clocked = false; outputs = x.1.1.1.0 }
 
--- ( expr arrow expr )        the `(` is a nesting
-abbrev pub header_of : Token × (Tree × (Token × (Tree × Token))) → RowTree
-header_of x = record { place = x.0.place; inputs = x.1.0; clocked = is_clocked (terminal_of x.1.1.0); outputs = x.1.1.1.0 }
+-- expr sign expr ;
+unfoldable pub row_as : (Sides → RowTree) → List Terminal → ℕ → Form Token RowTree
+row_as of signs n = made of (placed (expr n then token (among signs) then expr n then one terminal.Semicolon))
 
-unfoldable pub header : List Terminal → ℕ → Form Token RowTree
-header signs zero = nothing
-header signs (suc n) = made header_of (one terminal.Open then expr n then token (among signs) then expr n then one terminal.Close)
+-- ( expr sign expr )        the `(` is a nesting
+unfoldable pub header_as : (Sides → RowTree) → List Terminal → ℕ → Form Token RowTree
+header_as of signs zero = nothing
+header_as of signs (suc n) =
+    made of (one terminal.Open then expr n then token (among signs) then expr n then one terminal.Close)
+
+-- row = expr arrow expr ;
+abbrev pub row : ℕ → Form Token RowTree
+row n = row_as row_of arrows n
+
+abbrev pub header : ℕ → Form Token RowTree
+header n = header_as row_of arrows n
 
 -- table = TRUTH_TABLE ( expr arrow expr ) {row}
 abbrev pub table_of : Token × (RowTree × List RowTree) → SectionTree
 table_of x = ATable x.0.place x.1.0.inputs x.1.0.clocked x.1.0.outputs x.1.1
 
 unfoldable pub table : ℕ → Form Token SectionTree
-table n = made table_of (one terminal.TruthTable then header arrows n then repeated (row arrows n))
+table n = made table_of (one terminal.TruthTable then header n then repeated (row n))
+
+-- expr -> expr ;
+abbrev pub vector_row : ℕ → Form Token RowTree
+vector_row n = row_as vector_row_of plain_arrow n
+
+abbrev pub vector_header : ℕ → Form Token RowTree
+vector_header n = header_as vector_row_of plain_arrow n
 
 -- vectors = TEST_VECTORS [string] ( expr -> expr ) {expr -> expr ;}        their place is the `(`
 abbrev pub vectors_of : Token × (Option Word × (RowTree × List RowTree)) → SectionTree
@@ -52,4 +72,4 @@ vectors_of x = SomeVectors x.1.0 x.1.1.0.place x.1.1.0.inputs x.1.1.0.outputs x.
 unfoldable pub vectors : ℕ → Form Token SectionTree
 vectors n =
     made vectors_of
-    (one terminal.TestVectors then optional text then header plain_arrow n then repeated (row plain_arrow n))
+    (one terminal.TestVectors then optional text then vector_header n then repeated (vector_row n))

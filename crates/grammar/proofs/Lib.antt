@@ -18,3 +18,4 @@ pub mod PickLaws
 pub mod FurtherLaws
 pub mod SharpLaws
 pub mod TimesTurns
+pub mod JoinedTurns

@@ -1,0 +1,50 @@
+//! The tree that tokens spell, all of them.
+
+ghost use Rattle.std.specs.Prelude.{◌≡◌, IfOk, IfErr};
+ghost use Rattle.grammar.specs.Verdict.{Spells};
+ghost use Rattle.abel_tree.specs.Tree.{ModuleTree};
+ghost use Rattle.abel_tree.specs.View.{view_module};
+ghost use Rattle.abel_syntax.specs.Modules as grammar;
+ghost use Rattle.abel_parser.specs.Refusals.{place_at, IsRefused};
+
+use crate::fault::ParseFault;
+use crate::module::source;
+use abel_lexer::Token;
+use abel_syntax::Halt;
+use abel_tree::Module;
+use pld_base::Place;
+use std::alloc::Global;
+
+/// How many constructs may be open round a token.
+const NESTINGS: u8 = 64;
+
+/// The place of the next token, or the end.
+fn place_of(tokens: &[Token], end: Place) -> Place
+    ensures { result ≡ place_at tokens.now end 0 }
+{
+    match tokens {
+        [first, ..] => first.place,
+        [] => end,
+    }
+}
+
+/// The one tree that the tokens spell, all of them. `end` is the place behind the last byte of the text.
+pub fn parse(alloc: Global, tokens: &[Token], end: Place) -> Result<Module, ParseFault>
+    ensures tree { IfOk result (λ m. Spells grammar.source tokens.now (view_module m)) }
+    ensures only { IfOk result (λ m. (t : ModuleTree) → Spells grammar.source tokens.now t
+        → t ≡ view_module m) }
+    ensures refused { IfErr result (IsRefused tokens.now end) }
+{
+    match source(alloc, tokens, NESTINGS) {
+        Ok((module, rest)) => {
+            if rest.is_empty() {
+                Ok(module)
+            } else {
+                Err(ParseFault::Syntax(place_of(rest, end)))
+            }
+        }
+        Err(Halt::Syntax(left)) => Err(ParseFault::Syntax(place_of(left, end))),
+        Err(Halt::TooDeep(left)) => Err(ParseFault::TooDeep(place_of(left, end))),
+        Err(Halt::Memory) => Err(ParseFault::OutOfMemory),
+    }
+}

@@ -1,0 +1,11 @@
+//! Words and expressions from tokens.
+#![tactic(auto)]
+
+mod expressions;
+mod operands;
+mod signs;
+mod words;
+
+pub use expressions::{expr, set_at};
+pub use operands::name_tree;
+pub use words::{dont_care, maybe, name, number, text};
