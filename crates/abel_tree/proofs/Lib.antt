@@ -1,1 +1,2 @@
 pub mod FirstRefusals
+mod Regrown

@@ -38,9 +38,40 @@ impl Member {
 }
 
 impl Expr {
-    /// An equal expression.
+    /// An equal expression. Calls go as deep as the nestings, however many operators stand in a row.
     #[cycle(copies)]
     pub fn copy(&self, alloc: Global) -> Result<Expr, OutOfMemory>
+        ensures { IfOk result (λ e. e ≡ self.now) }
+    {
+        let mut links = Vec::new(alloc);
+        let mut first = self;
+        'down: while let Expr::Binary {
+            sign,
+            place,
+            left,
+            right,
+        } = first
+        {
+            links.push((*sign, *place, right.get()))?;
+            first = left.get();
+        }
+        let mut whole = first.copy_level(alloc)?;
+        'up: while let Some((sign, place, right)) = links.pop() {
+            let left = Boxed::new(alloc, whole)?;
+            let right = Boxed::new(alloc, right.copy(alloc)?)?;
+            whole = Expr::Binary {
+                sign,
+                place,
+                left,
+                right,
+            };
+        }
+        Ok(whole)
+    }
+
+    /// An equal expression, by copies of its parts.
+    #[cycle(copies)]
+    fn copy_level(&self, alloc: Global) -> Result<Expr, OutOfMemory>
         ensures { IfOk result (λ e. e ≡ self.now) }
     {
         match self {
