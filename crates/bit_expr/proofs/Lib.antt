@@ -1,0 +1,5 @@
+pub mod ArenaLists
+pub mod FoldingCases
+pub mod FoldingValues
+pub mod KeptReads
+pub mod LeafBits

@@ -1,0 +1,22 @@
+use Rattle.std.proofs.Common.{◌+◌, Some, false, sym, ap, ◌∙◌, subst}
+use Rattle.bit_expr.specs.Formulas.{Formula}
+use Rattle.bit_expr.specs.Folding.{Made}
+use Rattle.bit_expr.specs.Arena.{Adds}
+use Rattle.bit_expr.proofs.ArenaLists.{adds_there, adds_level}
+use Rattle.bit_expr.proofs.FoldingCases.{and_one_left, and_zero_left, and_one_right, and_zero_right, and_makes}
+use Rattle.bit_expr.proofs.arena.Exprs.fold_and.Goals as goal
+
+pub returns-then-on : goal.returns-then-on
+returns-then-on c = adds_there _ _ c.args.b _ c.requires.b (and_one_left _ _ (ap Some (sym c.if-on.true) ∙ c.in-Some.ensures))
+
+pub returns-else-on : goal.returns-else-on
+returns-else-on c = adds_level _ _ c.constant.result false _ c.constant.ensures (and_zero_left _ _ (ap Some (sym c.if-on.false) ∙ c.in-Some.ensures))
+
+pub returns-then-on-2 : goal.returns-then-on-2
+returns-then-on-2 c = adds_there _ _ c.args.a _ c.requires.a (and_one_right _ _ (ap Some (sym c.if-on-2.true) ∙ c.in-Some-level.ensures))
+
+pub returns-else-on-2 : goal.returns-else-on-2
+returns-else-on-2 c = adds_level _ _ c.constant-else-on-2.result false _ c.constant-else-on-2.ensures (and_zero_right _ _ (ap Some (sym c.if-on-2.false) ∙ c.in-Some-level.ensures))
+
+pub returns-in-None-level : goal.returns-in-None-level
+returns-in-None-level c = subst (λ (m : Made Formula). Adds (c.args.most + 2) c.args.self.now c.store.new.self c.store.result m) (sym (and_makes _ _ c.in-None.ensures c.in-None-level.ensures)) c.store.ensures
