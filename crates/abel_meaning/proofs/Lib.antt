@@ -1,0 +1,10 @@
+pub mod Agreement
+pub mod DigitLaws
+pub mod FormulasFollow
+pub mod FunctionValues
+pub mod OperatorValues
+pub mod RelationValues
+pub mod RelationWords
+pub mod TermValues
+pub mod Walk
+pub mod WordValues

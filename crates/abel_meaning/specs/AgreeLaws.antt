@@ -1,0 +1,40 @@
+-- That formulas and values agree at every point: for expressions, contributions, functions and controls (this
+-- project's rule; laws.rt states them).
+use Rattle.std.specs.Prelude.{◌≡◌, ℕ, map}
+use Rattle.std.specs.Option.{option_map}
+use Rattle.pld_base.specs.Points.{Levels}
+use Rattle.bit_expr.specs.Formulas.{formula_value}
+use Rattle.abel_tree.specs.declared.words.Extension.{Extension}
+use Rattle.abel_meaning.specs.Terms.{Term}
+use Rattle.abel_meaning.specs.Designs.{Design}
+use Rattle.abel_meaning.specs.AtPoints.{truth_at, given_at}
+use Rattle.abel_meaning.specs.FormulaBits.{formulas}
+use Rattle.abel_meaning.specs.Functions.{function_of, function_seen}
+use Rattle.abel_meaning.specs.Controls.{control_of}
+use Rattle.abel_meaning.specs.SignalReads.{given_formulas}
+use Rattle.abel_meaning.specs.Follows.{seen}
+
+-- the bits that a target takes from an expression have the digits of its value
+abbrev pub ExpressionsAgree : Type 0
+ExpressionsAgree =
+    (d : Design) (at : Levels) (width : ℕ) (t : Term)
+    → map (formula_value at) ((formulas d).word width t) ≡ (truth_at d at).word width t
+
+-- the contributions by formulas hold where the contributions hold
+abbrev pub ContributionsAgree : Type 0
+ContributionsAgree =
+    (d : Design) (at : Levels) → map (seen (formula_value at)) (given_formulas d) ≡ given_at d at
+
+-- a signal's function by formulas is its function
+abbrev pub FunctionsAgree : Type 0
+FunctionsAgree =
+    (d : Design) (at : Levels) (signal : ℕ)
+    → function_seen (formula_value at) (function_of (formulas d) (given_formulas d) signal)
+    ≡ function_of (truth_at d at) (given_at d at) signal
+
+-- a signal's controls by formulas are its controls
+abbrev pub ControlsAgree : Type 0
+ControlsAgree =
+    (d : Design) (at : Levels) (signal : ℕ) (control : Extension)
+    → option_map (formula_value at) (control_of (formulas d) (given_formulas d) signal control)
+    ≡ control_of (truth_at d at) (given_at d at) signal control

@@ -1,0 +1,54 @@
+-- The design that a module describes for a device (ABEL-HDL Reference Manual, declarations and directives).
+use Rattle.std.specs.Prelude.{ℕ, ◌==◌, Bool, false, ◌&&◌, Option, List, [], ◌∷◌, get_or, position}
+use Rattle.pld_device.specs.declared.cell.Cell.{Cell}
+use Rattle.pld_device.specs.Table.{Table}
+use Rattle.abel_tree.specs.Entries.{ADeviceName, Entry}
+use Rattle.abel_tree.specs.Tree.{Declaration, DontCareFor, SectionTree, ModuleTree}
+use Rattle.abel_meaning.specs.Declarations.{no_words}
+use Rattle.abel_meaning.specs.Kinds.{names_of}
+use Rattle.abel_meaning.specs.Terms.{Known, known_of}
+
+-- a module for a device: its names, what they stand for, whether `@DCSET` is in force before its sections, and these
+pub record Design : Type 0 where
+  pub device : Table
+  pub names : List Entry
+  pub known : List Known
+  pub starts_dontcare : Bool
+  pub sections : List SectionTree
+
+-- whether `@DCSET` is in force after these declarations
+abbrev pub after_declarations : Bool → List Declaration → Bool
+after_declarations on [] = on
+after_declarations on (DontCareFor directive ∷ ds) = after_declarations directive.on ds
+after_declarations on (_ ∷ ds) = after_declarations on ds
+
+-- the design of a module whose names are these
+abbrev pub design_for : Table → List Entry → ModuleTree → Design
+design_for t names m =
+    record {
+      device = t;
+      names = names;
+      known = known_of names;
+      starts_dontcare = after_declarations false m.decls;
+      sections = m.sections;
+    }
+
+-- the design of a module
+abbrev pub design_of : Table → ModuleTree → Design
+design_of t m = design_for t (names_of t m) m
+
+-- what stands for a name past the last one
+abbrev pub no_name : Entry
+no_name = record { name = []; place = record { line = 0; column = 0 }; kind = ADeviceName; words = no_words; assigned = false }
+
+-- the name of a number
+abbrev pub name_at : Design → ℕ → Entry
+name_at d s = get_or d.names s no_name
+
+-- the signal is stored in a register; one that is assigned nothing counts as combinational
+abbrev pub is_stored : Entry → Bool
+is_stored x = x.words.registered && x.assigned
+
+-- the cell on a pin
+abbrev pub cell_on : Table → (pin : ℕ) → Option ℕ
+cell_on t pin = position (λ (c : Cell). c.pin == pin) t.cells

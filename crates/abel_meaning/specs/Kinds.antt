@@ -1,0 +1,52 @@
+-- The declared names with their kinds and polarities (ABEL-HDL Reference Manual, ISTYPE; the defaults are this
+-- project's rule).
+use Rattle.std.specs.Prelude.{ℕ, suc, Bool, true, false, not, ◌&&◌, ◌||◌, List, [], ◌∷◌, if◌then◌else◌}
+use Rattle.pld_device.specs.declared.flip.Flip.{Flip}
+use Rattle.pld_device.specs.declared.flip.Flip.TheVariants.{Always, AfterRegister, BeforeRegister}
+use Rattle.pld_device.specs.Table.{Table}
+use Rattle.abel_tree.specs.Assigned.{Assigned, named_of, sections_assign, is_assigned, is_clocked_target}
+use Rattle.abel_tree.specs.Entries.{Words, Entry, is_signal}
+use Rattle.abel_tree.specs.Tree.{SectionTree, ModuleTree}
+use Rattle.abel_meaning.specs.Declarations.{declared_names}
+
+-- a register's pin equals Q where neither word is said
+abbrev pub is_buffer_by_default : Flip → Bool
+is_buffer_by_default Always = false
+is_buffer_by_default AfterRegister = true
+is_buffer_by_default BeforeRegister = false
+
+-- the signal is registered: a word says so, or none does and some assignment to it is on the clock
+abbrev pub is_registered : Words → (clocked : Bool) → Bool
+is_registered words clocked = words.registered || (not words.combinational && clocked)
+
+-- its pin equals Q where it is a register
+abbrev pub is_buffer : Flip → Words → Bool
+is_buffer flip words = words.buffer || (not words.invert && is_buffer_by_default flip)
+
+-- the words as kind and polarity say them
+abbrev pub settled_words : Words → (registered buffer : Bool) → Words
+settled_words words registered buffer =
+    record { combinational = not registered; registered = registered; buffer = buffer; invert = not buffer; dc = words.dc }
+
+-- a name with its kind; s is its place in the list
+abbrev pub with_kind : Flip → List Assigned → ℕ → Entry → Entry
+with_kind flip found s e =
+    record e {
+      words = if is_signal e.kind
+          then settled_words e.words (is_registered e.words (is_clocked_target found s)) (is_buffer flip e.words)
+          else e.words;
+      assigned = is_assigned found s;
+    }
+
+-- all names with their kinds, of which the first has this place
+abbrev pub with_kinds : Flip → List Assigned → ℕ → List Entry → List Entry
+with_kinds flip found s [] = []
+with_kinds flip found s (e ∷ es) = with_kind flip found s e ∷ with_kinds flip found (suc s) es
+
+-- what the sections assign by these names
+abbrev pub with_assigned : Flip → List SectionTree → List Entry → List Entry
+with_assigned flip sections es = with_kinds flip (sections_assign (named_of es) sections) 0 es
+
+-- the names of a module for a device, in the order of their declarations
+abbrev pub names_of : Table → ModuleTree → List Entry
+names_of t m = with_assigned t.flip m.sections (declared_names m)

@@ -1,0 +1,59 @@
+-- What a signal's name reads, bare or with an extension (the devices' datasheets, macrocell diagrams; what has the
+-- value 0 is this project's rule).
+use Rattle.std.specs.Prelude.{ℕ, Bool, true, false, not, Option, None, Some}
+use Rattle.pld_base.specs.Points.{Levels}
+use Rattle.pld_device.specs.Macrocells.{complement_if}
+use Rattle.pld_device.specs.Table.{Table}
+use Rattle.bit_expr.specs.declared.node.Leaf.{Leaf}
+use Rattle.bit_expr.specs.declared.node.Leaf.TheVariants as leaf
+use Rattle.bit_expr.specs.Formulas.{leaf_value}
+use Rattle.abel_tree.specs.declared.words.Extension.{Extension}
+use Rattle.abel_tree.specs.declared.words.Extension.TheVariants as extension
+use Rattle.abel_tree.specs.Entries.{Kind, APin, ANode, AConstant, ADeviceName, Entry}
+use Rattle.abel_meaning.specs.Designs.{Design, name_at, is_stored, cell_on}
+
+-- what is read: 0, or what a leaf carries, or its complement
+pub data Source : Type 0 where
+  Zero : Source
+  Held : (complement : Bool) → Leaf → Source
+
+-- its value at a point
+abbrev pub source_value : Levels → Source → Bool
+source_value at Zero = false
+source_value at (Held complement leaf) = complement_if complement (leaf_value at leaf)
+
+-- a combinational signal on a pin: the pin's level
+abbrev pub pin_source : (pin : ℕ) → (negated : Bool) → Option Extension → Source
+pin_source pin negated None = Held negated (leaf.Pin pin)
+pin_source pin negated (Some extension.Pin) = Held negated (leaf.Pin pin)
+pin_source pin negated (Some _) = Zero
+
+-- a register: its pin polarity, or Q itself
+abbrev pub register_source : (negated buffer : Bool) → (cell : Option ℕ) → Option Extension → Source
+register_source negated buffer None e = Zero
+register_source negated buffer (Some c) None = Held (complement_if negated (not buffer)) (leaf.Q c)
+register_source negated buffer (Some c) (Some extension.Fb) = Held (complement_if negated (not buffer)) (leaf.Q c)
+register_source negated buffer (Some c) (Some extension.Q) = Held false (leaf.Q c)
+register_source negated buffer (Some c) (Some _) = Zero
+
+-- a node: its value
+abbrev pub node_source : (node : ℕ) → Option Extension → Source
+node_source n None = Held false (leaf.Node n)
+node_source n (Some e) = Zero
+
+-- a signal on a pin
+abbrev pub on_pin : Table → Entry → (pin : ℕ) → (negated : Bool) → (stored : Bool)
+    → Option Extension → Source
+on_pin t x pin negated true e = register_source negated x.words.buffer (cell_on t pin) e
+on_pin t x pin negated false e = pin_source pin negated e
+
+-- by what the name is declared as
+abbrev pub source_by : Table → Entry → Kind → Option Extension → Source
+source_by t x (APin pin negated) e = on_pin t x pin negated (is_stored x) e
+source_by t x (ANode n) e = node_source n e
+source_by t x (AConstant value) e = Zero
+source_by t x ADeviceName e = Zero
+
+-- what a signal reads
+abbrev pub source_of : Design → (signal : ℕ) → Option Extension → Source
+source_of d s e = source_by d.device (name_at d s) (name_at d s).kind e

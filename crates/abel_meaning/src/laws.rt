@@ -1,0 +1,13 @@
+//! Laws of all sources, as the contract of a call that does nothing.
+
+ghost use Rattle.abel_meaning.specs.AgreeLaws.{ExpressionsAgree, ContributionsAgree, FunctionsAgree, ControlsAgree};
+
+/// At every point the folded bit formulas of every expression have the value of its arithmetic, and the
+/// formulas of every contribution, function and control that of the contribution, function and control. Does
+/// nothing.
+pub fn formulas_agree()
+    ensures expressions { ExpressionsAgree }
+    ensures contributions { ContributionsAgree }
+    ensures functions { FunctionsAgree }
+    ensures controls { ControlsAgree }
+{}
