@@ -1,0 +1,6 @@
+//! What it is for fuses to be those of a netlist, and for a fuse file to be that of a source.
+#![tactic(auto)]
+
+mod laws;
+
+pub use laws::through_a_netlist;
