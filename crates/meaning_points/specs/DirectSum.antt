@@ -1,0 +1,72 @@
+-- Direct sum, and what a second implementation of the language says of it.
+-- module direct_sum
+-- u device 'P16L8';
+-- a,b,c pin 1,2,3;
+-- Y pin 19;
+-- equations
+-- Y = a & b # c;
+-- end
+use Rattle.std.specs.Prelude.{◌≡◌, [], ◌∷◌, codes}
+use Rattle.std.specs.Fmt.{digits}
+use Rattle.std.proofs.Common.{refl}
+use Rattle.bit_expr.specs.Folding.{make_not, make_and, make_or, make_xor}
+use Rattle.abel_tree.specs.Tree.{ModuleTree, Equations}
+use Rattle.abel_meaning.specs.Designs.{design_of}
+use Rattle.abel_meaning.specs.SourceLogic.{source_logic}
+use Rattle.abel_meaning.specs.CountedBlocks.{units_of}
+use Rattle.meaning_points.specs.Answers.{all_reads, all_trees, answers, logic_answers, name_codes, point}
+use Rattle.pal16_device.specs.Pal16L8Table.{pal16l8}
+use Rattle.meaning_points.specs.Constructs.{module_of, assign, device, item, pin, pins}
+use Rattle.meaning_points.specs.Trees.{both, either, name}
+
+-- the module as a tree
+abbrev source : ModuleTree
+source =
+    module_of (codes "direct_sum")
+    (device "u" "'P16L8'"
+    ∷ pins (item "a" ∷ item "b" ∷ item "c" ∷ []) (pin 1 ∷ pin 2 ∷ pin 3 ∷ []) []
+    ∷ pins (item "Y" ∷ []) (pin 19 ∷ []) []
+    ∷ [])
+    (Equations (assign (name "Y") (either (both (name "a") (name "b")) (name "c")) ∷ []) ∷ [])
+
+-- what each name is
+names : name_codes (design_of pal16l8 source)
+    ≡ (48000 ∷ 32 ∷ 64 ∷ 96 ∷ 616 ∷ [])
+unfolding digits
+names = refl
+
+-- at a point, by the logic itself
+at0 : logic_answers (source_logic pal16l8 source) (point 1359352 119 0) 0
+    ≡ (10 ∷ 0 ∷ 0 ∷ 0 ∷ 0 ∷ 0 ∷ 0 ∷ 0 ∷ [])
+unfolding digits
+at0 = refl
+
+-- at a second point
+at1 : answers (design_of pal16l8 source) (point 288296 69 0) 0
+    ≡ (10 ∷ 0 ∷ 0 ∷ 0 ∷ 0 ∷ 0 ∷ 0 ∷ 0 ∷ 2 ∷ 2 ∷ 2 ∷ 2 ∷ 1 ∷ [])
+unfolding digits
+at1 = refl
+
+-- at a third
+at2 : answers (design_of pal16l8 source) (point 272110 214 0) 0
+    ≡ (10 ∷ 0 ∷ 0 ∷ 0 ∷ 0 ∷ 0 ∷ 0 ∷ 0 ∷ 2 ∷ 2 ∷ 2 ∷ 2 ∷ 1 ∷ [])
+unfolding digits
+at2 = refl
+
+-- which signals each one reads, and which its reset reads
+reads : all_reads (design_of pal16l8 source)
+    ≡ (([]) ∷ ([]) ∷ ([]) ∷ ([]) ∷ ([]) ∷ ([]) ∷ ([]) ∷ ([]) ∷ ([]) ∷ ([]) ∷ [])
+unfolding digits make_not make_and make_or make_xor
+reads = refl
+
+-- the folded formulas, as numbers
+trees : all_trees (design_of pal16l8 source)
+    ≡ (([]) ∷ ([]) ∷ ([]) ∷ ([]) ∷ (10966 ∷ 0 ∷ 0 ∷ 0 ∷ 0 ∷ 0 ∷ []) ∷ [])
+unfolding digits make_not make_and make_or make_xor
+trees = refl
+
+-- the nodes of each unit
+units : units_of (design_of pal16l8 source)
+    ≡ (5 ∷ [])
+unfolding digits make_not make_and make_or make_xor
+units = refl

@@ -1,0 +1,79 @@
+-- Reset through pin, and what a second implementation of the language says of it.
+-- module reset_through_pin
+-- d device 'GAL22V10';
+-- rst,a pin 2,3; q0 pin 23 istype 'reg'; y pin 22;
+-- equations
+-- q0 := a; y = q0;
+-- q0.AR = y;
+-- end
+use Rattle.std.specs.Prelude.{◌≡◌, [], ◌∷◌, codes}
+use Rattle.std.specs.Fmt.{digits}
+use Rattle.std.proofs.Common.{refl}
+use Rattle.bit_expr.specs.Folding.{make_not, make_and, make_or, make_xor}
+use Rattle.abel_tree.specs.declared.words.Extension.TheVariants as extension
+use Rattle.abel_tree.specs.Tree.{ModuleTree, Equations}
+use Rattle.abel_meaning.specs.Designs.{design_of}
+use Rattle.abel_meaning.specs.SourceLogic.{source_logic}
+use Rattle.abel_meaning.specs.CountedBlocks.{units_of}
+use Rattle.meaning_points.specs.Answers.{all_reads, all_trees, answers, logic_answers, name_codes, point}
+use Rattle.gal22v10_device.specs.Gal22V10Table.{gal22v10}
+use Rattle.meaning_points.specs.Constructs.{module_of, assign, clocked, device, item, pin, pins}
+use Rattle.meaning_points.specs.Trees.{dotted, name, word}
+
+-- the module as a tree
+abbrev source : ModuleTree
+source =
+    module_of (codes "reset_through_pin")
+    (device "d" "'GAL22V10'"
+    ∷ pins (item "rst" ∷ item "a" ∷ []) (pin 2 ∷ pin 3 ∷ []) []
+    ∷ pins (item "q0" ∷ []) (pin 23 ∷ []) (word "'reg'" ∷ [])
+    ∷ pins (item "y" ∷ []) (pin 22 ∷ []) []
+    ∷ [])
+    (Equations
+    (clocked (name "q0") (name "a")
+    ∷ assign (name "y") (name "q0")
+    ∷ assign (dotted "q0" extension.Ar) (name "y")
+    ∷ [])
+    ∷ [])
+
+-- what each name is
+names : name_codes (design_of gal22v10 source)
+    ≡ (48000 ∷ 64 ∷ 96 ∷ 747 ∷ 712 ∷ [])
+unfolding digits
+names = refl
+
+-- at a point, by the logic itself
+at0 : logic_answers (source_logic gal22v10 source) (point 9009312 465 0) 0
+    ≡ (75 ∷ 10 ∷ 0 ∷ 0 ∷ 0 ∷ 0 ∷ 0 ∷ 0 ∷ 0 ∷ 0 ∷ [])
+unfolding digits
+at0 = refl
+
+-- at a second point
+at1 : answers (design_of gal22v10 source) (point 19674474 822 0) 0
+    ≡ (135 ∷ 6 ∷ 0 ∷ 0 ∷ 0 ∷ 0 ∷ 0 ∷ 0 ∷ 0 ∷ 0 ∷ 2 ∷ 2 ∷ 2 ∷ 1 ∷ 0 ∷ [])
+unfolding digits
+at1 = refl
+
+-- at a third
+at2 : answers (design_of gal22v10 source) (point 28767684 316 0) 0
+    ≡ (71 ∷ 6 ∷ 0 ∷ 0 ∷ 0 ∷ 0 ∷ 0 ∷ 0 ∷ 0 ∷ 0 ∷ 2 ∷ 2 ∷ 2 ∷ 0 ∷ 0 ∷ [])
+unfolding digits
+at2 = refl
+
+-- which signals each one reads, and which its reset reads
+reads : all_reads (design_of gal22v10 source)
+    ≡ (([]) ∷ ([]) ∷ ([]) ∷ ([]) ∷ (3 ∷ []) ∷ ([]) ∷ ([]) ∷ ([]) ∷ (4 ∷ []) ∷ ([]) ∷ [])
+unfolding digits make_not make_and make_or make_xor
+reads = refl
+
+-- the folded formulas, as numbers
+trees : all_trees (design_of gal22v10 source)
+    ≡ (([]) ∷ ([]) ∷ ([]) ∷ (19 ∷ 0 ∷ 0 ∷ 0 ∷ 77 ∷ 0 ∷ []) ∷ (11 ∷ 0 ∷ 0 ∷ 0 ∷ 0 ∷ 0 ∷ []) ∷ [])
+unfolding digits make_not make_and make_or make_xor
+trees = refl
+
+-- the nodes of each unit
+units : units_of (design_of gal22v10 source)
+    ≡ (1 ∷ 1 ∷ 1 ∷ [])
+unfolding digits make_not make_and make_or make_xor
+units = refl

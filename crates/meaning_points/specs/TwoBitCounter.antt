@@ -1,0 +1,78 @@
+-- Two bit counter, and what a second implementation of the language says of it.
+-- module two_bit_counter
+-- u device 'P16R4';
+-- clk,oe pin 1,11; q0,q1 pin 17,16 istype 'reg';
+-- equations
+-- q0 := !q0; q1 := q1 $ q0;
+-- test_vectors ([clk,oe] -> [q1,q0])
+-- [0,0] -> 3; [.C.,0] -> 0; [.C.,0] -> 1; [0,1] -> .Z.;
+-- end
+use Rattle.std.specs.Prelude.{◌≡◌, [], ◌∷◌, codes}
+use Rattle.std.specs.Fmt.{digits}
+use Rattle.std.proofs.Common.{refl}
+use Rattle.bit_expr.specs.Folding.{make_not, make_and, make_or, make_xor}
+use Rattle.abel_tree.specs.Tree.{ModuleTree, Equations}
+use Rattle.abel_meaning.specs.Designs.{design_of}
+use Rattle.abel_meaning.specs.SourceLogic.{source_logic}
+use Rattle.abel_meaning.specs.CountedBlocks.{units_of}
+use Rattle.meaning_points.specs.Answers.{all_reads, all_trees, answers, logic_answers, name_codes, point}
+use Rattle.pal16_device.specs.Pal16RTables.{pal16r4}
+use Rattle.meaning_points.specs.Constructs.{module_of, clocked, device, item, pin, pins, vectors}
+use Rattle.meaning_points.specs.Trees.{complement, differ, name, word}
+
+-- the module as a tree
+abbrev source : ModuleTree
+source =
+    module_of (codes "two_bit_counter")
+    (device "u" "'P16R4'"
+    ∷ pins (item "clk" ∷ item "oe" ∷ []) (pin 1 ∷ pin 11 ∷ []) []
+    ∷ pins (item "q0" ∷ item "q1" ∷ []) (pin 17 ∷ pin 16 ∷ []) (word "'reg'" ∷ [])
+    ∷ [])
+    (Equations
+    (clocked (name "q0") (complement (name "q0"))
+    ∷ clocked (name "q1") (differ (name "q1") (name "q0"))
+    ∷ [])
+    ∷ vectors
+    ∷ [])
+
+-- what each name is
+names : name_codes (design_of pal16r4 source)
+    ≡ (48000 ∷ 32 ∷ 352 ∷ 553 ∷ 521 ∷ [])
+unfolding digits
+names = refl
+
+-- at a point, by the logic itself
+at0 : logic_answers (source_logic pal16r4 source) (point 242548 48 0) 0
+    ≡ (0 ∷ 0 ∷ 139 ∷ 139 ∷ 71 ∷ 71 ∷ 0 ∷ 0 ∷ [])
+unfolding digits
+at0 = refl
+
+-- at a second point
+at1 : answers (design_of pal16r4 source) (point 685010 241 0) 0
+    ≡ (0 ∷ 0 ∷ 139 ∷ 139 ∷ 71 ∷ 71 ∷ 0 ∷ 0 ∷ 2 ∷ 2 ∷ 2 ∷ 0 ∷ 0 ∷ [])
+unfolding digits
+at1 = refl
+
+-- at a third
+at2 : answers (design_of pal16r4 source) (point 1869744 105 0) 0
+    ≡ (0 ∷ 0 ∷ 139 ∷ 71 ∷ 75 ∷ 71 ∷ 0 ∷ 0 ∷ 2 ∷ 2 ∷ 2 ∷ 0 ∷ 1 ∷ [])
+unfolding digits
+at2 = refl
+
+-- which signals each one reads, and which its reset reads
+reads : all_reads (design_of pal16r4 source)
+    ≡ (([]) ∷ ([]) ∷ ([]) ∷ ([]) ∷ ([]) ∷ ([]) ∷ ([]) ∷ ([]) ∷ ([]) ∷ ([]) ∷ [])
+unfolding digits make_not make_and make_or make_xor
+reads = refl
+
+-- the folded formulas, as numbers
+trees : all_trees (design_of pal16r4 source)
+    ≡ (([]) ∷ ([]) ∷ ([]) ∷ (17 ∷ 0 ∷ 0 ∷ 0 ∷ 0 ∷ 0 ∷ []) ∷ (10480 ∷ 0 ∷ 0 ∷ 0 ∷ 0 ∷ 0 ∷ []) ∷ [])
+unfolding digits make_not make_and make_or make_xor
+trees = refl
+
+-- the nodes of each unit
+units : units_of (design_of pal16r4 source)
+    ≡ (2 ∷ 5 ∷ [])
+unfolding digits make_not make_and make_or make_xor
+units = refl

@@ -1,0 +1,74 @@
+-- Two inverters, and what a second implementation of the language says of it.
+-- module two_inverters
+-- d device 'P16L8';
+-- A0,A1 pin 2,3; Y0,Y1 pin 19,18;
+-- inv MACRO (n) {Y?n = !A?n;};
+-- equations
+-- @IRP i (0,1) {inv(?i)}
+-- end
+use Rattle.std.specs.Prelude.{◌≡◌, [], ◌∷◌, codes}
+use Rattle.std.specs.Fmt.{digits}
+use Rattle.std.proofs.Common.{refl}
+use Rattle.bit_expr.specs.Folding.{make_not, make_and, make_or, make_xor}
+use Rattle.abel_tree.specs.Tree.{ModuleTree, Equations}
+use Rattle.abel_meaning.specs.Designs.{design_of}
+use Rattle.abel_meaning.specs.SourceLogic.{source_logic}
+use Rattle.abel_meaning.specs.CountedBlocks.{units_of}
+use Rattle.meaning_points.specs.Answers.{all_reads, all_trees, answers, logic_answers, name_codes, point}
+use Rattle.pal16_device.specs.Pal16L8Table.{pal16l8}
+use Rattle.meaning_points.specs.Constructs.{module_of, assign, device, item, pin, pins}
+use Rattle.meaning_points.specs.Trees.{complement, name}
+
+-- the module as a tree
+abbrev source : ModuleTree
+source =
+    module_of (codes "two_inverters")
+    (device "d" "'P16L8'"
+    ∷ pins (item "A0" ∷ item "A1" ∷ []) (pin 2 ∷ pin 3 ∷ []) []
+    ∷ pins (item "Y0" ∷ item "Y1" ∷ []) (pin 19 ∷ pin 18 ∷ []) []
+    ∷ [])
+    (Equations
+    (assign (name "Y0") (complement (name "A0")) ∷ assign (name "Y1") (complement (name "A1")) ∷ [])
+    ∷ [])
+
+-- what each name is
+names : name_codes (design_of pal16l8 source)
+    ≡ (48000 ∷ 64 ∷ 96 ∷ 616 ∷ 584 ∷ [])
+unfolding digits
+names = refl
+
+-- at a point, by the logic itself
+at0 : logic_answers (source_logic pal16l8 source) (point 585072 62 0) 0
+    ≡ (10 ∷ 10 ∷ 0 ∷ 0 ∷ 0 ∷ 0 ∷ 0 ∷ 0 ∷ [])
+unfolding digits
+at0 = refl
+
+-- at a second point
+at1 : answers (design_of pal16l8 source) (point 749500 32 0) 0
+    ≡ (6 ∷ 6 ∷ 0 ∷ 0 ∷ 0 ∷ 0 ∷ 0 ∷ 0 ∷ 2 ∷ 2 ∷ 2 ∷ 0 ∷ 0 ∷ [])
+unfolding digits
+at1 = refl
+
+-- at a third
+at2 : answers (design_of pal16l8 source) (point 1279614 159 0) 0
+    ≡ (6 ∷ 6 ∷ 0 ∷ 0 ∷ 0 ∷ 0 ∷ 0 ∷ 0 ∷ 2 ∷ 2 ∷ 2 ∷ 0 ∷ 0 ∷ [])
+unfolding digits
+at2 = refl
+
+-- which signals each one reads, and which its reset reads
+reads : all_reads (design_of pal16l8 source)
+    ≡ (([]) ∷ ([]) ∷ ([]) ∷ ([]) ∷ ([]) ∷ ([]) ∷ ([]) ∷ ([]) ∷ ([]) ∷ ([]) ∷ [])
+unfolding digits make_not make_and make_or make_xor
+reads = refl
+
+-- the folded formulas, as numbers
+trees : all_trees (design_of pal16l8 source)
+    ≡ (([]) ∷ ([]) ∷ ([]) ∷ (117 ∷ 0 ∷ 0 ∷ 0 ∷ 0 ∷ 0 ∷ []) ∷ (138 ∷ 0 ∷ 0 ∷ 0 ∷ 0 ∷ 0 ∷ []) ∷ [])
+unfolding digits make_not make_and make_or make_xor
+trees = refl
+
+-- the nodes of each unit
+units : units_of (design_of pal16l8 source)
+    ≡ (2 ∷ 2 ∷ [])
+unfolding digits make_not make_and make_or make_xor
+units = refl
