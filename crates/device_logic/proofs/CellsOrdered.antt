@@ -1,5 +1,5 @@
 -- A device's cells in an order in which each reads earlier ones alone are an order that the machine takes.
-use Rattle.std.proofs.Common.{◌≡◌, ℕ, zero, suc, ◌+◌, ◌*◌, ◌<◌, ◌≤◌, Bool, true, false, not, ◌==◌, eqb, List, [], ◌∷◌, map, length, drop, get_or, Some, slice_get, refl, ap, sym, ◌∙◌, subst, arith, inl, inr}
+use Rattle.std.proofs.Common.{◌≡◌, ℕ, zero, suc, ◌+◌, ◌<◌, ◌≤◌, Bool, true, false, not, ◌==◌, eqb, List, [], ◌∷◌, map, length, drop, get_or, Some, slice_get, refl, ap, sym, ◌∙◌, subst, arith, inl, inr}
 use Rattle.std.proofs.Math.Path.{fun_ext}
 use Rattle.std.specs.List.{IsDistinct}
 use Rattle.std.proofs.lemmas.Bool.{cases_Bool, cases_lt, eqb-true, eq-eqb, or_cases, or_left, or_right, true≢false, false_from_ne_true}
@@ -10,18 +10,11 @@ use Rattle.std.proofs.lemmas.Option.{get_or_from_slice_get, slice_get_within}
 use Rattle.pld_base.specs.Bits.{is_on}
 use Rattle.pld_base.specs.Points.{Levels}
 use Rattle.pld_base.specs.Logic.{Logic}
-use Rattle.pld_device.specs.declared.carry.Carry.{Carry}
-use Rattle.pld_device.specs.declared.carry.Carry.TheVariants as carry
 use Rattle.pld_device.specs.declared.cell.Cell.{Cell}
-use Rattle.pld_device.specs.declared.enable.Enable.{Enable}
-use Rattle.pld_device.specs.declared.enable.Enable.TheVariants.{Row, PinLow}
 use Rattle.pld_device.specs.Table.{Table, cell_at, no_cell}
-use Rattle.pld_device.specs.Registers.{stores, is_inverted}
-use Rattle.pld_device.specs.Rows.{carried, row_value}
-use Rattle.pld_device.specs.Macrocells.{complement_if, pin_complements, output_value, enabled_by, is_enabled, device_logic}
-use Rattle.pld_device.specs.Reads.{row_reads}
-use Rattle.pld_device.specs.Given.{enables_never, never_drives, is_free_pin}
-use Rattle.pld_device.proofs.RowReads.{row_same, never_true}
+use Rattle.pld_device.specs.Registers.{stores}
+use Rattle.pld_device.specs.Macrocells.{device_logic}
+use Rattle.pld_device.specs.Given.{is_free_pin}
 use Rattle.pld_machine.specs.declared.logic.Slot.{Slot}
 use Rattle.pld_machine.specs.declared.logic.Slot.TheVariants as slot
 use Rattle.pld_machine.specs.Lookups.{Lookups, sets_pin, sets_node, logic_of}
@@ -30,10 +23,9 @@ use Rattle.pld_machine.specs.Once.{IsDetermined}
 use Rattle.pld_machine.proofs.OneRun.{is_determined}
 use Rattle.pld_machine.proofs.Ordered.{setter_of_pin, get_behind}
 use Rattle.pld_order.specs.Graphs.{has, IsOrder}
-use Rattle.device_logic.specs.CellReads.{row_reads_cell, enable_reads, cell_reads}
+use Rattle.device_logic.specs.CellReads.{cell_reads}
 use Rattle.device_logic.specs.DeviceLookups.{device_lookups}
-use Rattle.device_logic.proofs.FreeReads.{RowReadsFree, EnableReadsFree, ReadsFreePins, free_pin}
-use Rattle.device_logic.proofs.Runs.{any_same}
+use Rattle.device_logic.proofs.FreeReads.{ReadsFreePins, free_pin}
 use Rattle.device_logic.proofs.ReadCells.{cell_reads-rest}
 use Rattle.device_logic.proofs.SameCells.{cell_same}
 

@@ -1,7 +1,7 @@
 -- A row's fuses and columns, walked pair by pair.
 use Rattle.std.proofs.Common.{◌≡◌, ℕ, zero, suc, ◌+◌, ◌*◌, ◌-◌, ◌<◌, ◌≤◌, Bool, true, false, not, ◌&&◌, ◌||◌, List, [], ◌∷◌, length, drop, refl, arith, add-one, length-drop}
 use Rattle.std.proofs.Math.Nat.{mul-le-mul_left}
-use Rattle.std.proofs.lemmas.Bool.{and_parts, true≢false}
+use Rattle.std.proofs.lemmas.Bool.{and_parts, or_right, true≢false}
 use Rattle.std.proofs.lemmas.List.{length-map, length-take}
 use Rattle.pld_base.specs.Bits.{is_on}
 use Rattle.pld_base.specs.Points.{Levels}
@@ -24,11 +24,7 @@ whole_at (x ∷ y ∷ xs) p zero twice low whole = rw whole refl
 whole_at (x ∷ y ∷ xs) p (suc zero) twice low whole = absurd (omega arith)
 whole_at (x ∷ y ∷ xs) zero (suc (suc k)) twice low whole = absurd (omega arith)
 whole_at (x ∷ y ∷ xs) (suc p) (suc (suc k)) twice low whole =
-    or_true (not x && not y) (whole_at xs p k (omega arith) (omega arith) whole)
-  where
-    or_true : (a : Bool) {b : Bool} → b ≡ true → (a || b) ≡ true
-    or_true true e = refl
-    or_true false e = e
+    or_right (not x && not y) (has_whole_pair xs) (whole_at xs p k (omega arith) (omega arith) whole)
 
 whole_none : (xs : List Bool) → ((p k : ℕ) → k ≡ 2 * p → suc k < length xs → whole_from xs k ≡ false) → has_whole_pair xs ≡ false
 whole_none [] none = refl

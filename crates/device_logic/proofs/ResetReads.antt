@@ -1,5 +1,5 @@
 -- Where no chain of reads leads from the reset row to a register, resets depend on no Q.
-use Rattle.std.proofs.Common.{◌≡◌, ℕ, zero, suc, ◌<◌, ◌≤◌, Bool, true, false, not, ◌&&◌, ◌||◌, ◌==◌, eqb, List, [], ◌∷◌, map, length, get_or, Option, Some, None, slice_get, refl, ap, sym, ◌∙◌, subst, arith, inl, inr}
+use Rattle.std.proofs.Common.{◌≡◌, ℕ, zero, suc, ◌<◌, Bool, true, false, not, ◌||◌, eqb, List, [], ◌∷◌, map, length, get_or, Option, Some, None, slice_get, refl, ap, sym, ◌∙◌, subst, inl, inr}
 use Rattle.std.proofs.lemmas.Bool.{cases_Bool, cases_lt, or_cases, and_parts, and_from, true≢false}
 use Rattle.std.specs.List.{list_any}
 use Rattle.std.proofs.lemmas.List.{length-map}
@@ -17,7 +17,6 @@ use Rattle.pld_device.specs.Table.{Table, cell_at}
 use Rattle.pld_device.specs.Given.{never_drives, is_free_pin}
 use Rattle.pld_machine.specs.declared.logic.Slot.{Slot}
 use Rattle.pld_machine.specs.declared.logic.Slot.TheVariants as slot
-use Rattle.pld_machine.specs.Lookups.{logic_of}
 use Rattle.pld_machine.specs.Order.{SameAt, ResetsWithoutQ}
 use Rattle.pld_machine.proofs.WithoutQ.{AgreeBefore, ReadNoQ, resets_without_q}
 use Rattle.pld_order.specs.Graphs.{IsOrder, HasNoPath}

@@ -1,38 +1,21 @@
 -- A cell asks the same at two points where all that it reads is the same.
-use Rattle.std.proofs.Common.{◌≡◌, ℕ, zero, suc, ◌+◌, ◌*◌, ◌<◌, ◌≤◌, Bool, true, false, not, ◌==◌, eqb, List, [], ◌∷◌, map, length, drop, get_or, Some, slice_get, refl, ap, sym, ◌∙◌, subst, arith, inl, inr}
-use Rattle.std.proofs.Math.Path.{fun_ext}
-use Rattle.std.specs.List.{IsDistinct}
-use Rattle.std.proofs.lemmas.Bool.{cases_Bool, cases_lt, eqb-true, eq-eqb, or_cases, or_left, or_right, true≢false, false_from_ne_true}
-use Rattle.std.proofs.lemmas.List.{get_or_past}
-use Rattle.std.proofs.lemmas.List.Folds.{list_any_at}
-use Rattle.std.proofs.lemmas.Map.Keys.{apart_from_distinct}
-use Rattle.std.proofs.lemmas.Option.{get_or_from_slice_get, slice_get_within}
+use Rattle.std.proofs.Common.{◌≡◌, ℕ, zero, suc, ◌*◌, ◌<◌, ◌≤◌, Bool, true, false, not, List, [], ◌∷◌, map, length, Some, slice_get, refl, ap, sym, ◌∙◌, subst, inl, inr}
+use Rattle.std.proofs.lemmas.Bool.{cases_Bool, true≢false}
 use Rattle.pld_base.specs.Bits.{is_on}
 use Rattle.pld_base.specs.Points.{Levels}
-use Rattle.pld_base.specs.Logic.{Logic}
 use Rattle.pld_device.specs.declared.carry.Carry.{Carry}
 use Rattle.pld_device.specs.declared.carry.Carry.TheVariants as carry
-use Rattle.pld_device.specs.declared.cell.Cell.{Cell}
 use Rattle.pld_device.specs.declared.enable.Enable.{Enable}
 use Rattle.pld_device.specs.declared.enable.Enable.TheVariants.{Row, PinLow}
-use Rattle.pld_device.specs.Table.{Table, cell_at, no_cell}
+use Rattle.pld_device.specs.Table.{Table, cell_at}
 use Rattle.pld_device.specs.Registers.{stores, is_inverted}
 use Rattle.pld_device.specs.Rows.{carried, row_value}
 use Rattle.pld_device.specs.Macrocells.{complement_if, pin_complements, output_value, enabled_by, is_enabled, pin_level}
 use Rattle.pld_device.specs.Reads.{row_reads}
 use Rattle.pld_device.specs.Given.{enables_never, never_drives, is_free_pin}
 use Rattle.pld_device.proofs.RowReads.{row_same, never_true}
-use Rattle.pld_machine.specs.declared.logic.Slot.{Slot}
-use Rattle.pld_machine.specs.declared.logic.Slot.TheVariants as slot
-use Rattle.pld_machine.specs.Lookups.{Lookups, sets_pin, sets_node, logic_of}
-use Rattle.pld_machine.specs.Order.{DifferOnlyIn, SameAt, InRange, HasPins, HasSlots, ResetsWithoutQ, IsOrdered}
-use Rattle.pld_machine.specs.Once.{IsDetermined}
-use Rattle.pld_machine.proofs.OneRun.{is_determined}
-use Rattle.pld_machine.proofs.Ordered.{setter_of_pin, get_behind}
-use Rattle.pld_order.specs.Graphs.{has, IsOrder}
 use Rattle.device_logic.specs.CellReads.{row_reads_cell, enable_reads, rest_reads}
-use Rattle.device_logic.specs.DeviceLookups.{device_lookups}
-use Rattle.device_logic.proofs.FreeReads.{RowReadsFree, EnableReadsFree, ReadsFreePins, free_pin}
+use Rattle.device_logic.proofs.FreeReads.{RowReadsFree, EnableReadsFree, ReadsFreePins}
 use Rattle.device_logic.proofs.Runs.{any_same}
 use Rattle.device_logic.proofs.ReadCells.{row_reads_cell-at, rest_reads-enable, rest_reads-data}
 

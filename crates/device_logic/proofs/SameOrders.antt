@@ -1,5 +1,5 @@
 -- What the searches answer of the graph of a device's cells, said of its cells.
-use Rattle.std.proofs.Common.{◌≡◌, ℕ, ◌<◌, Bool, List, length, subst, sym}
+use Rattle.std.proofs.Common.{ℕ, Bool, List, length, subst}
 use Rattle.pld_order.specs.Graphs.{IsOrder, IsLeastLoop, HasNoLoop, IsPath, HasNoPath}
 use Rattle.pld_order.specs.Sets.{reads_of}
 use Rattle.pld_base.specs.Bits.{is_on}

@@ -1,6 +1,6 @@
 -- Which cells a cell reads while it comes to rest, whether or not its value depends on them (this project's
 -- rule).
-use Rattle.std.specs.Prelude.{◌≡◌, ℕ, suc, ◌<◌, [], ◌∷◌, Bool, false, not, ◌&&◌, ◌||◌, ◌==◌, List, length}
+use Rattle.std.specs.Prelude.{ℕ, suc, [], ◌∷◌, Bool, false, not, ◌&&◌, ◌||◌, ◌==◌, List, length}
 use Rattle.std.specs.List.{list_any}
 use Rattle.pld_device.specs.declared.carry.Carry.{Carry}
 use Rattle.pld_device.specs.declared.carry.Carry.TheVariants as carry

@@ -1,4 +1,4 @@
-use Rattle.std.proofs.Common.{length, sym, subst}
+use Rattle.std.proofs.Common.{length, subst}
 use Rattle.pld_device.specs.Macrocells.{device_logic}
 use Rattle.pld_machine.specs.Once.{IsDetermined}
 use Rattle.device_logic.specs.ResetPaths.{HasNoResetPath}
