@@ -16,3 +16,8 @@ pub record IsFirstSource (text : List ℕ) (meant : FirstModule) : Type 0 where
   pub scans : IsTokensOf text tokens
   pub spells : SpellsWhole source tokens tree
   pub means : meaning_of tree ≡ Some meant
+
+-- the text spells this module, and no other
+pub record SpellsModule (text : List ℕ) (source : FirstModule) : Type 0 where
+  pub spelled : IsFirstSource text source
+  pub only : (other : FirstModule) → IsFirstSource text other → other ≡ source
