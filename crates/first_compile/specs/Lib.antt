@@ -1,0 +1,16 @@
+pub mod CompileFaults
+pub mod Compiled
+pub mod Correct
+pub mod Cubes
+pub mod DrivesOne
+pub mod FitFaults
+pub mod Fitting
+pub mod Flat
+pub mod Meaning
+pub mod PinRows
+pub mod Room
+pub mod SmallDesigns
+pub mod Soundness
+pub mod Summary
+pub mod Translation
+pub mod WrittenProducts
