@@ -1,28 +1,84 @@
--- A run of the program as a whole.
-use Rattle.std.specs.Prelude.{◌≡◌, ℕ, ◌⊎◌, List}
-use Rattle.pld_base.specs.Outside.{Map, SameFiles}
-use Rattle.abel_cli.specs.Words.{IsNoCommand}
-use Rattle.abel_cli.specs.Ending.{Ending, HasCause, Leaves, Tells, TakesFront, memory_line}
+-- A run of the program as a whole (this project's rule).
+use Rattle.std.specs.Prelude.{◌≡◌, ℕ, ◌⊎◌, List, Option, Some, None}
+use Rattle.pld_base.specs.Outside.{Map, SameFiles, SameBut}
+use Rattle.abel_cli.specs.Call.{Asked, Heard, HasRisen, HasStayed}
+use Rattle.abel_cli.specs.CheckCommand.{CheckEnds, CheckMeans}
+use Rattle.abel_cli.specs.CompileCommand.{CompileEnds, CompileMeans}
+use Rattle.abel_cli.specs.Devices.{table_of}
+use Rattle.abel_cli.specs.Ending.{Ending, Puts, Tells, TakesFront, memory_line, usage_ending, file_fault}
+use Rattle.abel_cli.specs.SimulateCommand.{SimulateEnds, SimulateMeans}
+use Rattle.abel_cli.specs.Sources.{sources_of, source_at}
+use Rattle.abel_cli.specs.Words.{Command, Task, Compile, Simulate, Check, command_of, IsInput, IsNoCommand}
 
--- a run that came to an ending: the words; the files before and after, whether they are told, and
--- whether their counts rose; the report before and after, whether it is told, and whether its count rose
-pub record Comes (files_told : Type 0) (words : List (List ℕ)) (old new : Map) (rose write_rose : Type 0)
-    (report_told report_rose : Type 0) (reported reports : List ℕ) (status : ℕ) : Type 0 where
-  pub ending : Ending
-  pub cause : HasCause files_told words old rose write_rose ending
-  pub leaves : files_told → Leaves words old new ending
-  pub tells : Tells report_told report_rose ending reported reports status
+-- ---- by task: the only definitions of a run that name tasks
 
--- a run for which memory ran out before it came to an ending
-pub record Stops (files_told : Type 0) (words : List (List ℕ)) (old new : Map)
-    (report_told : Type 0) (reported reports : List ℕ) (status : ℕ) : Type 0 where
-  pub memory : status ≡ 8
-  pub no_usage : IsNoCommand words → ⊥
-  pub leaves : files_told → SameFiles old new
-  pub tells : report_told → TakesFront memory_line reported reports
+-- a task ends so, with these sources
+abbrev pub Ends : Task → (sources : List (List ℕ)) → Ending → Type 0
+Ends (Compile output) sources e = CompileEnds (source_at sources 0) output e
+Ends (Simulate device) sources e = SimulateEnds (table_of device) (source_at sources 0) e
+Ends (Check device) sources e = CheckEnds (table_of device) (source_at sources 0) e
 
-abbrev pub Runs : (files_told : Type 0) → List (List ℕ) → (old new : Map) → (rose write_rose : Type 0)
-    → (report_told report_rose : Type 0) → (reported reports : List ℕ) → (status : ℕ) → Type 0
-Runs files_told words old new rose write_rose report_told report_rose reported reports status =
-    Comes files_told words old new rose write_rose report_told report_rose reported reports status
-    ⊎ Stops files_told words old new report_told reported reports status
+-- what that means
+abbrev pub Means : Task → (sources : List (List ℕ)) → Ending → Type 0
+Means (Compile output) sources e = CompileMeans (source_at sources 0) output e
+Means (Simulate device) sources e = SimulateMeans (table_of device) (source_at sources 0) e
+Means (Check device) sources e = CheckMeans (table_of device) (source_at sources 0) e
+
+-- ---- whatever the task
+
+-- a command ends so with some sources, which are its own where the files tell them
+pub record EndsOn (told : Type 0) (files : Map) (command : Command) (e : Ending) : Type 0 where
+  pub sources : List (List ℕ)
+  pub own : told → sources ≡ sources_of files command
+  pub ends : Ends command.task sources e
+
+-- the ending that a command, or none, calls for
+abbrev pub CallsFor : (told : Type 0) → Map → Option Command → Ending → Type 0
+CallsFor told files None e = e ≡ usage_ending
+CallsFor told files (Some command) e = EndsOn told files command e
+
+-- words and files call for this ending
+abbrev pub IsCalledFor : Asked → Ending → Type 0
+IsCalledFor a e = CallsFor a.told a.old (command_of a.words) e
+
+-- the ending that words and files call for came, with what it puts, and no call of the files failed
+pub record Ended (a : Asked) (e : Ending) : Type 0 where
+  pub called : IsCalledFor a e
+  pub stayed : HasStayed a.faults
+  pub stayed_write : HasStayed a.write_faults
+  pub files : a.told → Puts e.output a.old a.new
+
+-- a source was not read
+pub record Unread (a : Asked) (e : Ending) : Type 0 where
+  pub name : List ℕ
+  pub is : e ≡ file_fault name
+  pub reads : IsInput a.words name
+  pub rose : HasRisen a.faults
+  pub files : a.told → SameFiles a.old a.new
+
+-- the ending that words and files call for has an output, which was not written
+pub record Unwritten (a : Asked) (e : Ending) : Type 0 where
+  pub name : List ℕ
+  pub is : e ≡ file_fault name
+  pub wanted : Ending
+  pub called : IsCalledFor a wanted
+  pub bytes : List ℕ
+  pub output : wanted.output ≡ Some (record { name = name; bytes = bytes })
+  pub rose : HasRisen a.faults
+  pub rose_write : HasRisen a.write_faults
+  pub files : a.told → SameBut name a.old a.new
+
+-- the ending that came, before it is told
+abbrev pub Comes : Asked → Ending → Type 0
+Comes a e = Ended a e ⊎ (Unread a e ⊎ Unwritten a e)
+
+-- memory ran out before an ending came
+pub record Stops (a : Asked) (h : Heard) : Type 0 where
+  pub memory : h.status ≡ 8
+  pub no_usage : IsNoCommand a.words → ⊥
+  pub leaves : a.told → SameFiles a.old a.new
+  pub tells : h.told → TakesFront memory_line h.old h.new
+
+-- a run: an ending came and was told, or memory ran out before one came
+abbrev pub Runs : Asked → Heard → Type 0
+Runs a h = ((e : Ending) × Comes a e × Tells e h) ⊎ Stops a h

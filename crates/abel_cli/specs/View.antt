@@ -1,38 +1,41 @@
--- A command, a simulation and an ending as the code keeps them.
+-- A command, sources, an ending and an outcome as the code keeps them.
+use Rattle.std.specs.Prelude.{ℕ, List, map, option_map}
+use Rattle.std.specs.Global.{Vec}
 use Rattle.abel_cli.specs.declared.command.Command as code
-use Rattle.abel_cli.specs.declared.command.Command.TheVariants as asked
+use Rattle.abel_cli.specs.declared.command.Task as code_task
+use Rattle.abel_cli.specs.declared.command.Task.TheVariants as task
+use Rattle.abel_cli.specs.declared.ending.Ending as kept
+use Rattle.abel_cli.specs.declared.ending.Output as put
 use Rattle.abel_cli.specs.declared.ending.Outcome.{Outcome}
 use Rattle.abel_cli.specs.declared.ending.Outcome.TheVariants as outcome
-use Rattle.abel_cli.specs.declared.simulation.Simulation.{Simulation}
-use Rattle.abel_cli.specs.declared.simulation.Simulation.TheVariants as ran
-use Rattle.abel_cli.specs.Ending.{Ending, Usage, OfCompile, OfSimulate, OfCheck, Unread, Unwritten, SimulateEnding}
-use Rattle.abel_cli.specs.Ending.{Compiled, SourceTooLong, NotBuilt, TooManyProducts, Checked, FileTooLong, BadFile}
-use Rattle.abel_cli.specs.Ending.{Agreed, Disagreed, VectorsTooLong, NotRun}
-use Rattle.abel_cli.specs.Words.{Command, Compile, Simulate, Check}
+use Rattle.abel_cli.specs.Ending.{Ending, Output, usage_ending, file_fault}
+use Rattle.abel_cli.specs.Words.{Command, Task, Compile, Simulate, Check, texts}
+
+-- what is to be done
+abbrev pub task_seen : code_task.Task → Task
+task_seen (task.Compile output) = Compile output.now
+task_seen (task.Simulate device) = Simulate device
+task_seen (task.Check device) = Check device
 
 -- the command that is asked for
 abbrev pub command_seen : code.Command → Command
-command_seen (asked.Compile input output) = Compile input.now output.now
-command_seen (asked.Simulate device input) = Simulate device input.now
-command_seen (asked.Check device input) = Check device input.now
+command_seen c = record { task = task_seen c.task; inputs = texts c.inputs.now }
 
--- what a simulation came to
-abbrev pub simulation_seen : Simulation → SimulateEnding
-simulation_seen (ran.Agreed report) = Agreed report.items
-simulation_seen (ran.Disagreed report) = Disagreed report.items
-simulation_seen ran.TooLong = VectorsTooLong
-simulation_seen (ran.NotRun report) = NotRun report.items
+-- the bytes of each source
+abbrev pub sources_seen : List (Vec ℕ) → List (List ℕ)
+sources_seen sources = map (λ source. source.items) sources
 
--- the ending that an outcome is
+-- the bytes under a name
+abbrev pub output_seen : put.Output → Output
+output_seen o = record { name = o.name.now; bytes = o.bytes.items }
+
+-- the ending of a command
+abbrev pub ending_seen : kept.Ending → Ending
+ending_seen e = record { status = e.status; text = e.text.items; output = option_map output_seen e.output }
+
+-- the ending that an outcome is told as
 abbrev pub view : Outcome → Ending
-view outcome.Usage = Usage
-view (outcome.Compiled file summary) = OfCompile (Compiled file.items summary.items)
-view outcome.SourceTooLong = OfCompile SourceTooLong
-view outcome.NotBuilt = OfCompile NotBuilt
-view (outcome.TooManyProducts name) = OfCompile (TooManyProducts name)
-view (outcome.Simulated simulation) = OfSimulate (simulation_seen simulation)
-view (outcome.Checked report) = OfCheck (Checked report.items)
-view outcome.FileTooLong = OfCheck FileTooLong
-view (outcome.BadFile report) = OfCheck (BadFile report.items)
-view (outcome.Unread name) = Unread name.now
-view (outcome.Unwritten name) = Unwritten name.now
+view outcome.Usage = usage_ending
+view (outcome.Ended ending) = ending_seen ending
+view (outcome.Unread name) = file_fault name.now
+view (outcome.Unwritten name) = file_fault name.now

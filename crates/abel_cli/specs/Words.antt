@@ -1,26 +1,45 @@
 -- The words of the command line (this project's rule).
-use Rattle.std.specs.Prelude.{◌≡◌, ℕ, List, [], ◌∷◌, Option, Some, None, option_map, if◌then◌else◌, map, string_bytes, String, codes}
+use Rattle.std.specs.Prelude.{◌≡◌, ℕ, List, [], ◌∷◌, Option, Some, None, option_map, if◌then◌else◌, map, string_bytes, String, codes, Contains}
 use Rattle.std.specs.Str.{bytes_eq}
 use Rattle.std.specs.declared.alloc.Global.{Global}
-use Rattle.abel_cli.specs.declared.built_device.BuiltDevice.{BuiltDevice}
+use Rattle.pld_base.specs.declared.device_name.DeviceName.{DeviceName}
 use Rattle.abel_cli.specs.Devices.{device_named}
 
 -- the bytes of each word
 abbrev pub texts : List (String Global) → List (List ℕ)
 texts words = map string_bytes words
 
--- what words ask for: `compile IN OUT`, `simulate DEVICE IN`, or `check DEVICE IN`
-pub data Command : Type 0 where
-  Compile : (input output : List ℕ) → Command
-  Simulate : (device : BuiltDevice) → (input : List ℕ) → Command
-  Check : (device : BuiltDevice) → (input : List ℕ) → Command
+-- what is done with the sources of a command
+pub data Task : Type 0 where
+  Compile : (output : List ℕ) → Task
+  Simulate : (device : DeviceName) → Task
+  Check : (device : DeviceName) → Task
+
+-- how many sources a task works on
+abbrev pub source_count : Task → ℕ
+source_count (Compile output) = 1
+source_count (Simulate device) = 1
+source_count (Check device) = 1
+
+-- what words ask for: a task, and the names of the files that are its sources, in order
+pub record Command : Type 0 where
+  pub task : Task
+  pub inputs : List (List ℕ)
+
+-- the command of a task with one source
+abbrev pub on_file : Task → (input : List ℕ) → Command
+on_file task input = record { task = task; inputs = input ∷ [] }
+
+-- the command of a task on the device of this name, where there is one
+abbrev pub on_device : (DeviceName → Task) → (name input : List ℕ) → Option Command
+on_device task name input = option_map (λ device. on_file (task device) input) (device_named name)
 
 -- the first word is matched exactly, a device's name without regard to case
 abbrev pub command_by : (first second third : List ℕ) → Option Command
 command_by first second third =
-    if bytes_eq first (codes "compile") then Some (Compile second third)
-    else if bytes_eq first (codes "simulate") then option_map (λ device. Simulate device third) (device_named second)
-    else if bytes_eq first (codes "check") then option_map (λ device. Check device third) (device_named second)
+    if bytes_eq first (codes "compile") then Some (on_file (Compile third) second)
+    else if bytes_eq first (codes "simulate") then on_device Simulate second third
+    else if bytes_eq first (codes "check") then on_device Check second third
     else None
 
 -- the command that the words are
@@ -30,26 +49,12 @@ command_of _ = None
 
 -- the words are `compile IN OUT`
 abbrev pub IsCompile : List (List ℕ) → (input output : List ℕ) → Type 0
-IsCompile words input output = command_of words ≡ Some (Compile input output)
-
--- the words are `simulate DEVICE IN`
-abbrev pub IsSimulate : List (List ℕ) → (device : BuiltDevice) → (input : List ℕ) → Type 0
-IsSimulate words device input = command_of words ≡ Some (Simulate device input)
-
--- the words are `check DEVICE IN`
-abbrev pub IsCheck : List (List ℕ) → (device : BuiltDevice) → (input : List ℕ) → Type 0
-IsCheck words device input = command_of words ≡ Some (Check device input)
+IsCompile words input output = command_of words ≡ Some (on_file (Compile output) input)
 
 -- the words are no command
 abbrev pub IsNoCommand : List (List ℕ) → Type 0
 IsNoCommand words = command_of words ≡ None
 
--- the name of the file that a command reads
-abbrev pub input_of : Command → List ℕ
-input_of (Compile input output) = input
-input_of (Simulate device input) = input
-input_of (Check device input) = input
-
--- the words are a command that reads the file of this name
+-- the words are a command, of which the file of this name is a source
 abbrev pub IsInput : List (List ℕ) → List ℕ → Type 0
-IsInput words name = option_map input_of (command_of words) ≡ Some name
+IsInput words name = (command : Command) × (command_of words ≡ Some command) × Contains command.inputs name

@@ -1,109 +1,96 @@
 //! What the words ask for, up to the report.
 
-ghost use Rattle.std.specs.Prelude.{◌≡◌, ℕ, List, IfOk, OnErr};
-ghost use Rattle.pld_base.specs.Causes.{Rose};
+ghost use Rattle.std.specs.Prelude.{◌≡◌, ◌≤◌, ℕ, All, List, IfOk, OnErr, length};
 ghost use Rattle.pld_base.specs.Outside.{SameFiles};
-ghost use Rattle.abel_cli.specs.Ending.{HasCause, Leaves};
-ghost use Rattle.abel_cli.specs.View.{view};
-ghost use Rattle.abel_cli.specs.Words.{IsCheck, IsCompile, IsNoCommand, IsSimulate, texts};
+ghost use Rattle.abel_cli.specs.Call.{asked};
+ghost use Rattle.abel_cli.specs.Limit.{limit};
+ghost use Rattle.abel_cli.specs.Found.{IsFound};
+ghost use Rattle.abel_cli.specs.Reading.{count};
+ghost use Rattle.abel_cli.specs.Run.{Comes, Ends};
+ghost use Rattle.abel_cli.specs.Sources.{HasLongSource};
+ghost use Rattle.abel_cli.specs.View.{command_seen, ending_seen, sources_seen, task_seen, view};
+ghost use Rattle.abel_cli.specs.Words.{command_of, source_count, IsNoCommand, texts};
 
-use crate::built_device::BuiltDevice;
-use crate::check::check;
-use crate::check_fault::CheckFault;
-use crate::command::{Command, command_of};
-use crate::ending::Outcome;
-use crate::simulate::simulate;
-use crate::simulation::Simulation;
-use crate::translation::{LIMIT, Refusal, translate};
-use pld_base::{Files, OutOfMemory, ReadFault, WriteFault};
+use crate::check_command::check_ending;
+use crate::command::{Command, Task, command_of};
+use crate::compile_command::compile_ending;
+use crate::ending::{Ending, Outcome, line};
+use crate::simulate_command::simulate_ending;
+use crate::sources::{SourceFault, read_sources, source_at};
+use pld_base::{Files, OutOfMemory, WriteFault};
 use std::alloc::Global;
 
-/// Compiles the source under IN, and writes its fuse file under OUT.
-fn compile_file<'a, F: Files>(
-    alloc: Global,
-    input: &'a str,
-    output: &'a str,
-    files: &mut F,
-) -> Result<Outcome<'a>, OutOfMemory>
-    ensures cause { (words : List (List ℕ)) → IsCompile words input.now output.now → IfOk result
-        (λ o. HasCause F.Tells words (F.file files.old)
-        (Rose (F.faults files.old) (F.faults files.new))
-        (Rose (F.write_faults files.old) (F.write_faults files.new)) (view o)) }
-    ensures leaves { (words : List (List ℕ)) → IsCompile words input.now output.now → F.Tells
-        → IfOk result (λ o. Leaves words (F.file files.old) (F.file files.new) (view o)) }
-    ensures memory { F.Tells → OnErr result (SameFiles (F.file files.old) (F.file files.new)) }
+/// How a task ends with its sources.
+fn ending<'a>(alloc: Global, task: Task<'a>, sources: &[Vec<u8>]) -> Result<Ending<'a>, OutOfMemory>
+    requires { All (λ source. length source ≤ limit) (sources_seen sources.now) }
+    ensures { IfOk result
+        (λ e. Ends (task_seen task.entry) (sources_seen sources.now) (ending_seen e)) }
 {
-    let source = match files.read(alloc, input, LIMIT) {
-        Ok(source) => source,
-        Err(ReadFault::Failed) => return Ok(Outcome::Unread(input)),
-        Err(ReadFault::TooLong) => return Ok(Outcome::SourceTooLong),
-        Err(ReadFault::OutOfMemory) => return Err(OutOfMemory),
-    };
-    let translated = match translate(alloc, &source) {
-        Ok(translated) => translated,
-        Err(Refusal::NotBuilt) => return Ok(Outcome::NotBuilt),
-        Err(Refusal::TooManyProducts(name)) => return Ok(Outcome::TooManyProducts(name)),
-        Err(Refusal::OutOfMemory) => return Err(OutOfMemory),
-    };
-    match files.write(output, &translated.file) {
-        Ok(()) => Ok(Outcome::Compiled {
-            file: translated.file,
-            summary: translated.summary,
-        }),
-        Err(WriteFault::Failed) => Ok(Outcome::Unwritten(output)),
-        Err(WriteFault::OutOfMemory) => Err(OutOfMemory),
+    let source = source_at(sources, 0);
+    match task {
+        Task::Compile { output } => compile_ending(alloc, output, source),
+        Task::Simulate { device } => simulate_ending(alloc, device, source),
+        Task::Check { device } => check_ending(alloc, device, source),
     }
 }
 
-/// Runs the vectors of the fuse file under IN on a device.
-fn simulate_file<'a, F: Files>(
-    alloc: Global,
-    device: BuiltDevice,
-    input: &'a str,
-    files: &mut F,
-) -> Result<Outcome<'a>, OutOfMemory>
-    ensures cause { (words : List (List ℕ)) → IsSimulate words device input.now → IfOk result
-        (λ o. HasCause F.Tells words (F.file files.old)
-        (Rose (F.faults files.old) (F.faults files.new))
-        (Rose (F.write_faults files.old) (F.write_faults files.new)) (view o)) }
-    ensures leaves { (words : List (List ℕ)) → F.Tells
-        → IfOk result (λ o. Leaves words (F.file files.old) (F.file files.new) (view o)) }
-    ensures memory { F.Tells → OnErr result (SameFiles (F.file files.old) (F.file files.new)) }
+/// How a task ends where a source is over the limit.
+fn long_ending<'a>(alloc: Global, task: Task<'a>) -> Result<Ending<'a>, OutOfMemory>
+    ensures { (sources : List (List ℕ)) → HasLongSource (task_seen task.entry) sources
+        → IfOk result (λ e. Ends (task_seen task.entry) sources (ending_seen e)) }
 {
-    let file = match files.read(alloc, input, LIMIT) {
-        Ok(file) => file,
-        Err(ReadFault::Failed) => return Ok(Outcome::Unread(input)),
-        Err(ReadFault::TooLong) => return Ok(Outcome::Simulated(Simulation::TooLong)),
-        Err(ReadFault::OutOfMemory) => return Err(OutOfMemory),
+    let status = match task {
+        Task::Compile { .. } => 2,
+        Task::Simulate { .. } | Task::Check { .. } => 4,
     };
-    Ok(Outcome::Simulated(simulate(alloc, device, &file)?))
+    Ok(Ending::plain(status, line(alloc, b"error TooLong", b"")?))
 }
 
-/// Checks the fuse file under IN for a device.
-fn check_file<'a, F: Files>(
+/// What a command comes to with its own sources, before anything is written.
+fn found<'a, F: Files>(
     alloc: Global,
-    device: BuiltDevice,
-    input: &'a str,
+    command: Command<'a>,
     files: &mut F,
 ) -> Result<Outcome<'a>, OutOfMemory>
-    ensures cause { (words : List (List ℕ)) → IsCheck words device input.now → IfOk result
-        (λ o. HasCause F.Tells words (F.file files.old)
-        (Rose (F.faults files.old) (F.faults files.new))
-        (Rose (F.write_faults files.old) (F.write_faults files.new)) (view o)) }
-    ensures leaves { (words : List (List ℕ)) → F.Tells
-        → IfOk result (λ o. Leaves words (F.file files.old) (F.file files.new) (view o)) }
+    requires { length command.inputs.now ≡ source_count (task_seen command.task) }
+    ensures found { IfOk result (IsFound F.Tells (F.file files.old) (command_seen command.entry)
+        (count (F.faults files.old) (F.faults files.new))) }
+    ensures same { F.Tells → SameFiles (F.file files.old) (F.file files.new) }
+    ensures later { F.faults files.old ≤ F.faults files.new }
+    ensures no_write { F.write_faults files.new ≡ F.write_faults files.old }
+{
+    match read_sources(alloc, command.inputs, files) {
+        Ok(sources) => Ok(Outcome::Ended(ending(alloc, command.task, &sources)?)),
+        Err(SourceFault::Unread(name)) => Ok(Outcome::Unread(name)),
+        Err(SourceFault::TooLong) => Ok(Outcome::Ended(long_ending(alloc, command.task)?)),
+        Err(SourceFault::OutOfMemory) => Err(OutOfMemory),
+    }
+}
+
+/// Does what a command asks for, up to the report.
+fn obey<'a, F: Files>(
+    alloc: Global,
+    command: Command<'a>,
+    files: &mut F,
+) -> Result<Outcome<'a>, OutOfMemory>
+    requires { length command.inputs.now ≡ source_count (task_seen command.task) }
+    ensures comes { (words : List (List ℕ)) → command_of words ≡ Some (command_seen command.entry)
+        → IfOk result (λ o. Comes (asked words F.Tells (F.file files.old) (F.file files.new)
+        (F.faults files.old) (F.faults files.new)
+        (F.write_faults files.old) (F.write_faults files.new)) (view o)) }
     ensures memory { F.Tells → OnErr result (SameFiles (F.file files.old) (F.file files.new)) }
 {
-    let bytes = match files.read(alloc, input, LIMIT) {
-        Ok(bytes) => bytes,
-        Err(ReadFault::Failed) => return Ok(Outcome::Unread(input)),
-        Err(ReadFault::TooLong) => return Ok(Outcome::FileTooLong),
-        Err(ReadFault::OutOfMemory) => return Err(OutOfMemory),
+    let ending = match found(alloc, command, files)? {
+        Outcome::Ended(ending) => ending,
+        other => return Ok(other),
     };
-    match check(alloc, device, &bytes) {
-        Ok(line) => Ok(Outcome::Checked(line)),
-        Err(CheckFault::BadFile(line)) => Ok(Outcome::BadFile(line)),
-        Err(CheckFault::OutOfMemory) => Err(OutOfMemory),
+    let Some(output) = &ending.output else {
+        return Ok(Outcome::Ended(ending));
+    };
+    match files.write(output.name, &output.bytes) {
+        Ok(()) => Ok(Outcome::Ended(ending)),
+        Err(WriteFault::Failed) => Ok(Outcome::Unwritten(output.name)),
+        Err(WriteFault::OutOfMemory) => Err(OutOfMemory),
     }
 }
 
@@ -113,18 +100,14 @@ pub fn execute<'a, F: Files>(
     words: &'a [String],
     files: &mut F,
 ) -> Result<Outcome<'a>, OutOfMemory>
-    ensures cause { IfOk result (λ o. HasCause F.Tells (texts words.now) (F.file files.old)
-        (Rose (F.faults files.old) (F.faults files.new))
-        (Rose (F.write_faults files.old) (F.write_faults files.new)) (view o)) }
-    ensures leaves { F.Tells → IfOk result
-        (λ o. Leaves (texts words.now) (F.file files.old) (F.file files.new) (view o)) }
+    ensures comes { IfOk result (λ o. Comes (asked (texts words.now) F.Tells (F.file files.old)
+        (F.file files.new) (F.faults files.old) (F.faults files.new)
+        (F.write_faults files.old) (F.write_faults files.new)) (view o)) }
     ensures memory { F.Tells → OnErr result (SameFiles (F.file files.old) (F.file files.new)) }
     ensures memory_words { OnErr result (IsNoCommand (texts words.now) → ⊥) }
 {
     match command_of(words) {
         None => Ok(Outcome::Usage),
-        Some(Command::Compile { input, output }) => compile_file(alloc, input, output, files),
-        Some(Command::Simulate { device, input }) => simulate_file(alloc, device, input, files),
-        Some(Command::Check { device, input }) => check_file(alloc, device, input, files),
+        Some(command) => obey(alloc, command, files),
     }
 }

@@ -1,0 +1,18 @@
+-- A source over the limit is one where the files tell it.
+use Rattle.std.proofs.Common.{◌∙◌, ap}
+use Rattle.std.specs.Prelude.{string_bytes}
+use Rattle.std.proofs.lemmas.List.{length-map}
+use Rattle.abel_cli.specs.View.{command_seen, ending_seen}
+use Rattle.abel_cli.specs.declared.sources.SourceFault.{SourceFault}
+use Rattle.abel_cli.proofs.Called.{ends_long}
+use Rattle.abel_cli.proofs.execute.found.Goals as goal
+
+pub returns-in_ok-long_ending-in-Err-TooLong-clause-found : goal.returns-in_ok-long_ending-in-Err-TooLong-clause-found
+returns-in_ok-long_ending-in-Err-TooLong-clause-found g c =
+    let why = rw c.in-Err-TooLong.field-0-is at c.in-Err-TooLong.ensures.unread in (
+      ends_long g.F.Files.Tells (g.F.Files.file c.args.files.now) (command_seen c.args.command) (ending_seen c.in_ok-long_ending-in-Err-TooLong.field-0)
+          (length-map c.args.command.inputs.now string_bytes ∙ c.requires)
+          why.0
+          c.in_ok-long_ending-in-Err-TooLong.ensures,
+      why.1,
+    )
