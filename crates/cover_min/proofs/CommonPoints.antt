@@ -48,8 +48,8 @@ pub common_fails : (rows cubes : List Cube) (from to place vars : ℕ) (c cube :
 common_fails rows cubes from to place vars c cube r le lt within is answer fails = (
   λ never. absurd cc,
   λ all. sym fails ∙ answer.1 (λ p len first second.
-    let e = get_or-between cubes from to (place - from) full_cube (omega arith) in
-    let same : from + (place - from) ≡ place = omega arith in
-    let here : get_or (slice_range cubes from to) (place - from) full_cube ≡ c = e ∙ ap (λ n. get_or cubes n full_cube) same ∙ is in
-    all p len (list_any_at (λ d. has_point d p) (slice_range cubes from to) (place - from) full_cube (omega (arith, length-between cubes from to within)) (rw here first)) second),
+      let e = get_or-between cubes from to (place - from) full_cube (omega arith) in
+      let same : from + (place - from) ≡ place = omega arith in
+      let here : get_or (slice_range cubes from to) (place - from) full_cube ≡ c = e ∙ ap (λ n. get_or cubes n full_cube) same ∙ is in
+      all p len (list_any_at (λ d. has_point d p) (slice_range cubes from to) (place - from) full_cube (omega (arith, length-between cubes from to within)) (rw here first)) second),
 )

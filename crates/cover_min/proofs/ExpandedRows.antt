@@ -5,15 +5,15 @@ use Rattle.std.specs.List.{list_any}
 use Rattle.std.proofs.lemmas.Bool.{or_cases, or_left, or_right}
 use Rattle.std.proofs.lemmas.Option.{get_or_from_slice_get}
 use Rattle.std.proofs.lemmas.List.{take-take, take-append-le, drop-append-le, length-take, length-drop, drop_all, get_or-take, length-append}
-use Rattle.std.proofs.lemmas.Slice.{between_is}
+use Rattle.std.proofs.lemmas.Slice.{between_is, between_to_end}
 use Rattle.std.proofs.lemmas.List.Elements.{All-push, All-nil, All-get_or}
 use Rattle.std.proofs.lemmas.List.Edits.{between_none, between_more, length-between, get_or-between}
 use Rattle.std.proofs.lemmas.List.Folds.{list_any-append, list_any_at}
 use Rattle.cube_pool.specs.declared.cube.Cube.{Cube}
-use Rattle.cube_pool.specs.Cubes.{has_point, covers, full_cube, AsksBelow, AllAskBelow, Grows}
+use Rattle.cube_pool.specs.Cubes.{has_point, covers, full_cube, lies_in, AsksBelow, AllAskBelow, Grows}
 use Rattle.cube_pool.specs.Covers.{CoversCube, CoversList}
 use Rattle.cube_pool.specs.Prime.{IsPrime}
-use Rattle.cube_pool.proofs.CubePoints.{has_point_grows}
+use Rattle.cube_pool.proofs.CubePoints.{has_point_grows, lies_in_points}
 use Rattle.cover_min.specs.Expanded.{IsExpanded}
 
 -- ---- what stands below the rows
@@ -76,7 +76,7 @@ expanded_none allowed cubes old vars from =
       at_allowed = λ p len is. absurd cc;
       prime = All-nil (IsPrime allowed vars);
       below = All-nil (AsksBelow vars);
-      as_many = refl;
+      few = omega arith;
     })
 
 pub expanded_more : (allowed cubes rows : List Cube) (vars from place : ℕ) (c d : Cube) → from ≤ place → place < length cubes → get_or cubes place full_cube ≡ c
@@ -97,5 +97,36 @@ expanded_more allowed cubes rows vars from place c d le lt is so_far inside grow
       ];
       prime = All-push (IsPrime allowed vars) rows d so_far.prime prime;
       below = All-push (AsksBelow vars) rows d so_far.below below;
-      as_many = rw more (omega (arith, length-append rows (d ∷ []), length-append done (c ∷ []), so_far.as_many));
+      few = rw more (omega (arith, length-append rows (d ∷ []), length-append done (c ∷ []), so_far.few));
     }
+
+-- a needed cube that lies in a row
+
+lies_in_row : (c : Cube) (rows : List Cube) (p : List Bool) → list_any (lies_in c) rows ≡ true → has_point c p ≡ true → covers rows p ≡ true
+lies_in_row c [] p any has = absurd cc
+lies_in_row c (d ∷ rows) p any has =
+    elim (or_cases (lies_in c d) (list_any (lies_in c) rows) any) [
+      | inl here ↦ or_left (has_point d p) (covers rows p) (lies_in_points c d p here has)
+      | inr later ↦ or_right (has_point d p) (covers rows p) (lies_in_row c rows p later has)
+    ]
+
+pub expanded_skip : (allowed cubes rows : List Cube) (vars from place : ℕ) (c : Cube) → from ≤ place → place < length cubes → get_or cubes place full_cube ≡ c
+    → IsExpanded allowed (slice_range cubes from place) vars rows → list_any (lies_in c) rows ≡ true
+    → IsExpanded allowed (slice_range cubes from (place + 1)) vars rows
+expanded_skip allowed cubes rows vars from place c le lt is so_far inside =
+    let done = slice_range cubes from place in
+    let more : slice_range cubes from (place + 1) ≡ done ++ c ∷ [] = between_more cubes from place full_cube le lt ∙ ap (λ (e : Cube). done ++ e ∷ []) is in
+    record {
+      at_needed = λ p len has. elim (push_cases done c p (rw more at has)) [
+        | inl before ↦ so_far.at_needed p len before
+        | inr here ↦ lies_in_row c rows p inside here
+      ];
+      at_allowed = so_far.at_allowed;
+      prime = so_far.prime;
+      below = so_far.below;
+      few = rw more (omega (arith, length-append done (c ∷ []), so_far.few));
+    }
+
+-- the rows so far, as a range of the pool
+pub rows_so_far : (cubes : List Cube) (from to : ℕ) → to ≡ length cubes → slice_range cubes from to ≡ drop from cubes
+rows_so_far cubes from to is = rw is (between_to_end cubes from (length cubes) (omega arith))

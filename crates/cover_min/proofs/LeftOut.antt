@@ -82,7 +82,7 @@ tried_goes rows needed vars j m lj long tried = λ k le lt all.
     let lm : m < length rows = omega (arith, long) in
     let lk : k < m = omega (arith, lt, length-take m (swap rows j m)) in
     let there : (p : List Bool) → length p ≡ vars → covers needed p ≡ true → covers (remove rows (exchanged j m k)) p ≡ true =
-        λ p len has. swapped_others rows j m k p lj lm (omega (arith, lk, long)) (take_others (swap rows j m) m k p (omega (arith, long, same-length)) lk (all p len has)) in
+    λ p len has. swapped_others rows j m k p lj lm (omega (arith, lk, long)) (take_others (swap rows j m) m k p (omega (arith, long, same-length)) lk (all p len has)) in
     elim (exchange_case j m k) [
       | inl a ↦ tried m (omega (arith, a.0, lk)) lm (rw a.1 at there)
       | inr (inl b) ↦ absurd (omega (arith, b.1, lk))

@@ -1,7 +1,6 @@
 -- Expansion and irredundance together give a prime and irredundant list.
 use Rattle.std.proofs.Common.{◌≡◌, ℕ, ◌+◌, ◌-◌, ◌*◌, ◌<◌, ◌≤◌, max, Bool, true, List, length, get_or, take, drop, slice_range, refl, sym, ap, ◌∙◌, arith}
 use Rattle.std.specs.Prelude.{All, Contains}
-use Rattle.std.proofs.lemmas.Slice.{between_to_end}
 use Rattle.std.proofs.lemmas.List.Elements.{All-contains}
 use Rattle.std.proofs.lemmas.List.Folds.{list_any_at, Any-from_list_any}
 use Rattle.cube_pool.specs.declared.cube.Cube.{Cube}
@@ -27,7 +26,3 @@ minimised needed allowed first rows whole vars is expanded among all never = rw 
   prime = λ k d lt. All-contains (IsPrime allowed vars) first (get_or rows k d) expanded.prime (among k d lt);
   irredundant = never;
 })
-
--- the rows at the end of the pool as a range
-pub rows_range : (cubes : List Cube) (from to : ℕ) → to ≡ length cubes → slice_range cubes from to ≡ drop from cubes
-rows_range cubes from to is = rw is (between_to_end cubes from (length cubes) (omega arith))

@@ -64,9 +64,9 @@ pub exchange_case : (i j k : ℕ) → ExchangeCase i j k
 exchange_case i j k = elim (cases_eq k i) [
   | inl first ↦ inl (first, rw (eq-eqb k i first) refl)
   | inr other ↦ elim (cases_eq k j) [
-      | inl second ↦ inr (inl (other, second, rw (ne_eqb k i other, eq-eqb k j second) refl))
-      | inr none ↦ inr (inr (other, none, rw (ne_eqb k i other, ne_eqb k j none) refl))
-    ]
+    | inl second ↦ inr (inl (other, second, rw (ne_eqb k i other, eq-eqb k j second) refl))
+    | inr none ↦ inr (inr (other, none, rw (ne_eqb k i other, ne_eqb k j none) refl))
+  ]
 ]
 
 exchanged_within : (n i j k : ℕ) → i < n → j < n → k < n → exchanged i j k < n
@@ -79,26 +79,26 @@ exchanged_within n i j k li lj lk = elim (exchange_case i j k) [
 exchanged_apart : (i j k l : ℕ) → k ≢ l → exchanged i j k ≢ exchanged i j l
 exchanged_apart i j k l ne same = elim (exchange_case i j k) [
   | inl a ↦ elim (exchange_case i j l) [
-      | inl d ↦ ne (omega (arith, a.0, d.0))
-      | inr (inl e) ↦ ne (omega (arith, a.0, a.1, e.1, e.2, same))
-      | inr (inr f) ↦ absurd (f.1 (omega (arith, a.1, f.2, same)))
-    ]
+    | inl d ↦ ne (omega (arith, a.0, d.0))
+    | inr (inl e) ↦ ne (omega (arith, a.0, a.1, e.1, e.2, same))
+    | inr (inr f) ↦ absurd (f.1 (omega (arith, a.1, f.2, same)))
+  ]
   | inr (inl b) ↦ elim (exchange_case i j l) [
-      | inl d ↦ ne (omega (arith, b.1, b.2, d.0, d.1, same))
-      | inr (inl e) ↦ ne (omega (arith, b.1, e.1))
-      | inr (inr f) ↦ absurd (f.0 (omega (arith, b.2, f.2, same)))
-    ]
+    | inl d ↦ ne (omega (arith, b.1, b.2, d.0, d.1, same))
+    | inr (inl e) ↦ ne (omega (arith, b.1, e.1))
+    | inr (inr f) ↦ absurd (f.0 (omega (arith, b.2, f.2, same)))
+  ]
   | inr (inr c) ↦ elim (exchange_case i j l) [
-      | inl d ↦ absurd (c.1 (omega (arith, c.2, d.1, same)))
-      | inr (inl e) ↦ absurd (c.0 (omega (arith, c.2, e.2, same)))
-      | inr (inr f) ↦ ne (omega (arith, c.2, f.2, same))
-    ]
+    | inl d ↦ absurd (c.1 (omega (arith, c.2, d.1, same)))
+    | inr (inl e) ↦ absurd (c.0 (omega (arith, c.2, e.2, same)))
+    | inr (inr f) ↦ ne (omega (arith, c.2, f.2, same))
+  ]
 ]
 
 exchanged_back : (i j k : ℕ) → exchanged i j (exchanged i j k) ≡ k
 exchanged_back i j k = elim (exchange_case i j k) [
-  | inl a ↦ rw a.1 (elim (exchange_case i j j) [ | inl d ↦ omega (arith, a.0, d.0, d.1) | inr (inl e) ↦ omega (arith, a.0, e.2) | inr (inr f) ↦ absurd (f.1 refl) ])
-  | inr (inl b) ↦ rw b.2 (elim (exchange_case i j i) [ | inl d ↦ omega (arith, b.1, d.1) | inr (inl e) ↦ absurd (e.0 refl) | inr (inr f) ↦ absurd (f.0 refl) ])
+  | inl a ↦ rw a.1 (elim (exchange_case i j j) [ inl d ↦ omega (arith, a.0, d.0, d.1) | inr (inl e) ↦ omega (arith, a.0, e.2) | inr (inr f) ↦ absurd (f.1 refl) ])
+  | inr (inl b) ↦ rw b.2 (elim (exchange_case i j i) [ inl d ↦ omega (arith, b.1, d.1) | inr (inl e) ↦ absurd (e.0 refl) | inr (inr f) ↦ absurd (f.0 refl) ])
   | inr (inr c) ↦ rw c.2 c.2
 ]
 
@@ -108,9 +108,9 @@ get_or-swap rows i j k li lj lk =
     let is : get_or (swap rows i j) k full_cube ≡ get_or (set once j (get_or rows i full_cube)) k full_cube = ap (λ (xs : List Cube). get_or xs k full_cube) (sym (swap_is rows i j full_cube li lj)) in
     is ∙ elim (exchange_case i j k) [
       | inl a ↦ rw a.1 (elim (cases_eq k j) [
-          | inl both ↦ rw both (get_or-set_same once j (get_or rows i full_cube) full_cube (omega (arith, lj, length-set rows i (get_or rows j full_cube))) ∙ ap (λ n. get_or rows n full_cube) (sym a.0 ∙ both))
-          | inr other ↦ get_or-set_other once j k (get_or rows i full_cube) full_cube other ∙ rw a.0 (get_or-set_same rows i (get_or rows j full_cube) full_cube li)
-        ])
+        | inl both ↦ rw both (get_or-set_same once j (get_or rows i full_cube) full_cube (omega (arith, lj, length-set rows i (get_or rows j full_cube))) ∙ ap (λ n. get_or rows n full_cube) (sym a.0 ∙ both))
+        | inr other ↦ get_or-set_other once j k (get_or rows i full_cube) full_cube other ∙ rw a.0 (get_or-set_same rows i (get_or rows j full_cube) full_cube li)
+      ])
       | inr (inl b) ↦ rw b.2 (rw b.1 (get_or-set_same once j (get_or rows i full_cube) full_cube (omega (arith, lj, length-set rows i (get_or rows j full_cube)))))
       | inr (inr c) ↦ rw c.2 (get_or-set_other once j k (get_or rows i full_cube) full_cube c.1 ∙ get_or-set_other rows i k (get_or rows j full_cube) full_cube c.0)
     ]
@@ -144,7 +144,7 @@ put_last rows j m p lj last is =
     let lm : m < length rows = omega (arith, last) in
     let there = exchanged_within (length rows) j m found.0 lj lm found.1 in
     let apart = exchanged_apart j m found.0 j found.2 in
-    let own : exchanged j m j ≡ m = elim (exchange_case j m j) [ | inl a ↦ a.1 | inr (inl b) ↦ absurd (b.0 refl) | inr (inr c) ↦ absurd (c.0 refl) ] in
+    let own : exchanged j m j ≡ m = elim (exchange_case j m j) [ inl a ↦ a.1 | inr (inl b) ↦ absurd (b.0 refl) | inr (inr c) ↦ absurd (c.0 refl) ] in
     let ne : exchanged j m found.0 ≢ m = λ e. apart (e ∙ sym own) in
     some_take (swap rows j m) m (exchanged j m found.0) p (omega (arith, last, long)) (omega (arith, there, last, ne))
     (rw (get_or-swap rows j m (exchanged j m found.0) lj lm there, exchanged_back j m found.0) found.3)

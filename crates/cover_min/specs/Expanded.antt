@@ -1,18 +1,18 @@
 -- What expansion makes of a cover, and what a row that is left out must not take away (expand and irredundant of
 -- two-level minimisation).
-use Rattle.std.specs.Prelude.{ℕ, ◌≡◌, Bool, true, List, length, All}
+use Rattle.std.specs.Prelude.{ℕ, ◌≡◌, ◌≤◌, Bool, true, List, length, All}
 use Rattle.cube_pool.specs.declared.cube.Cube.{Cube}
 use Rattle.cube_pool.specs.Cubes.{AllAskBelow, covers, has_point}
 use Rattle.cube_pool.specs.Covers.{CoversList}
 use Rattle.cube_pool.specs.Prime.{IsPrime}
 
--- as many rows as needed cubes, each prime: together they are true at every needed point and only at allowed ones
+-- prime rows, no more than needed cubes: together they are true at every needed point and only at allowed ones
 pub record IsExpanded (allowed needed : List Cube) (vars : ℕ) (rows : List Cube) : Type 0 where
   pub at_needed : CoversList rows needed vars
   pub at_allowed : CoversList allowed rows vars
   pub prime : All (IsPrime allowed vars) rows
   pub below : AllAskBelow vars rows
-  pub as_many : length rows ≡ length needed
+  pub few : length rows ≤ length needed
 
 -- each point that two cubes have in common is in the cover
 abbrev pub CoversBoth : List Cube → Cube → Cube → ℕ → Type 0

@@ -2,20 +2,23 @@
 //!
 //! The idea is that of espresso's expand. A literal can be left out of a cube where the allowed cover has all of the
 //! larger cube; what is left once each literal was tried is prime, since a literal that a cube needs a larger one needs
-//! too. Which prime it becomes depends on the order in which the literals are tried. The order is by votes: each needed
-//! cube votes for the variables at which it is opposite to the cube, since only without that literal can the cube reach
-//! it, and a cube that is opposite at one variable alone counts before all others. So the cube grows over its
-//! neighbours first, and many of their expansions become one row.
+//! too. A needed cube that already lies in a row gets none of its own.
+//!
+//! Which prime a cube becomes depends on the order in which its literals are tried. The order is by votes: each needed
+//! cube that has no row yet votes for the variables at which it is opposite to the cube, since only without those
+//! literals the cube can reach it, and one that is opposite at one variable alone counts before all others. So a cube
+//! grows over the neighbours that still need a row, and away from those that have one. Of fourteen orders that were tried
+//! on random functions this one came nearest to the exact minimum (README.md has the figures).
 //!
 //! Names: `cube` is the needed cube, `found` what it has become, `left` the variables whose literals are still to be
-//! tried, `votes` the votes by variable.
+//! tried, `votes` the votes by variable, `rows` the rows so far, `later` the needed cubes from this one on.
 
 ghost use Rattle.std.specs.Prelude.{◌≡◌, ◌+◌, ◌-◌, ◌*◌, ◌<◌, ◌≤◌, true, length, take, drop, slice_range};
 ghost use Rattle.std.specs.Int.{bit_at};
-ghost use Rattle.cube_pool.specs.Cubes.{AllAskBelow, AsksBelow, Grows, asks, literal_cube, without};
+ghost use Rattle.std.specs.List.{list_any};
+ghost use Rattle.cube_pool.specs.Cubes.{AllAskBelow, AsksBelow, Grows, asks, lies_in, literal_cube, without};
 ghost use Rattle.cube_pool.specs.Covers.{CoversCube, CoversList};
 ghost use Rattle.cube_pool.specs.Prime.{IsPrime};
-
 ghost use Rattle.cover_min.specs.Expanded.{IsExpanded};
 ghost use Rattle.cover_min.specs.Appended.{LiesIn};
 
@@ -27,12 +30,24 @@ fn voted(votes: u32, alone: bool) -> u32 {
     votes.saturating_add(if alone { 65_536 } else { 1 })
 }
 
-/// The votes of the needed cubes for the variables at which they are opposite to the cube.
-fn votes(pool: &CubePool, needed: Range, cube: Cube) -> [u32; 32]
-    requires { LiesIn needed pool.now.cubes }
+/// Whether the cube lies in one of the rows.
+fn has_row(pool: &CubePool, rows: Range, cube: Cube) -> bool
+    requires { LiesIn rows pool.now.cubes }
+    ensures { result ≡ list_any (lies_in cube) (slice_range pool.now.cubes rows.from rows.to) }
+{
+    pool.slice(rows).iter().any(|row| cube.lies_in(*row))
+}
+
+/// The votes for the variables at which later needed cubes without a row are opposite to the cube.
+fn votes(pool: &CubePool, later: Range, rows: Range, cube: Cube) -> [u32; 32]
+    requires later { LiesIn later pool.now.cubes }
+    requires rows { LiesIn rows pool.now.cubes }
 {
     let mut votes = [0; 32];
-    for other in pool.slice(needed) {
+    for other in pool.slice(later) {
+        if has_row(pool, rows, *other) {
+            continue;
+        }
         let opposed = (cube.yes & other.no) | (cube.no & other.yes);
         let alone = opposed & opposed.wrapping_sub(1) == 0;
         for variable in 0..32u8 {
@@ -92,9 +107,17 @@ fn expanded_at(
 }
 
 /// The cube without each literal that can be left out.
-fn expanded(pool: &mut CubePool, allowed: Range, needed: Range, cube: Cube, vars: u8) -> Cube
+fn expanded(
+    pool: &mut CubePool,
+    allowed: Range,
+    later: Range,
+    rows: Range,
+    cube: Cube,
+    vars: u8,
+) -> Cube
     requires vars { vars ≤ 22 }
-    requires needed { LiesIn needed pool.old.cubes }
+    requires later { LiesIn later pool.old.cubes }
+    requires rows { LiesIn rows pool.old.cubes }
     requires allowed { LiesIn allowed pool.old.cubes }
     requires below { AllAskBelow vars (slice_range pool.old.cubes allowed.from allowed.to) }
     requires cube { AsksBelow vars cube }
@@ -106,7 +129,7 @@ fn expanded(pool: &mut CubePool, allowed: Range, needed: Range, cube: Cube, vars
     ensures grows { Grows vars cube result }
     ensures prime { IsPrime (slice_range pool.old.cubes allowed.from allowed.to) vars result }
 {
-    let votes = votes(pool, needed, cube);
+    let votes = votes(pool, later, rows, cube);
     let mut found = cube;
     let mut left = cube.yes | cube.no;
     while left != 0 {
@@ -118,7 +141,7 @@ fn expanded(pool: &mut CubePool, allowed: Range, needed: Range, cube: Cube, vars
     found
 }
 
-/// Appends each needed cube, expanded.
+/// Appends each needed cube, expanded, but for those that lie in a row.
 pub(crate) fn push_expanded(pool: &mut CubePool, needed: Range, allowed: Range, vars: u8)
     requires vars { vars ≤ 22 }
     requires needed { LiesIn needed pool.old.cubes }
@@ -131,9 +154,21 @@ pub(crate) fn push_expanded(pool: &mut CubePool, needed: Range, allowed: Range, 
     ensures spare { pool.new.spare + length pool.new.cubes ≡ pool.old.spare + length pool.old.cubes }
     ensures rows { IsExpanded (slice_range pool.old.cubes allowed.from allowed.to) (slice_range pool.old.cubes needed.from needed.to) vars (drop (length pool.old.cubes) pool.new.cubes) }
 {
+    let from = pool.len();
     for place in needed.from..needed.to {
         let cube = pool.cube_at(place);
-        let row = expanded(pool, allowed, needed, cube, vars);
+        let rows = Range {
+            from,
+            to: pool.len(),
+        };
+        if has_row(pool, rows, cube) {
+            continue;
+        }
+        let later = Range {
+            from: place,
+            to: needed.to,
+        };
+        let row = expanded(pool, allowed, later, rows, cube, vars);
         pool.push(row);
     }
 }

@@ -40,7 +40,7 @@ loop-left-preserved c =
       inside = rw two at found.ensures.inside;
       grows = grows-trans c.args.vars c.args.cube c.loop-left.found found.result before.grows more;
       tried = tried_more (slice_range c.args.pool.now.cubes c.args.allowed.from c.args.allowed.to) c.args.vars c.loop-left.left _ v c.loop-left.found first.result found.result (omega arith)
-        (bit_below c.loop-left.left c.args.vars v before.low c.most_voted-variable.ensures.is_left) first.ensures.grows found.ensures.grows refl before.tried (rw one at first.ensures.tried) (rw two at found.ensures.tried);
+          (bit_below c.loop-left.left c.args.vars v before.low c.most_voted-variable.ensures.is_left) first.ensures.grows found.ensures.grows refl before.tried (rw one at first.ensures.tried) (rw two at found.ensures.tried);
     }
 
 pub returns-clause-prime : goal.returns-clause-prime

@@ -1,7 +1,7 @@
 use Rattle.std.proofs.Common.{◌≡◌, ◌+◌, ◌++◌, [], ◌∷◌, length, take, drop, slice_range, ap, sym, ◌∙◌, arith}
 use Rattle.std.proofs.lemmas.List.{length_push}
 use Rattle.cube_pool.specs.Pool.{Pool}
-use Rattle.cover_min.proofs.ExpandedRows.{at_below, at_inside, cube_kept, expanded_more, push_kept, push_rows, slice_kept}
+use Rattle.cover_min.proofs.ExpandedRows.{at_below, at_inside, cube_kept, expanded_more, expanded_skip, push_kept, push_rows, rows_so_far, slice_kept}
 use Rattle.cover_min.proofs.expand.push_expanded.Goals as goal
 
 pub expanded-row-requires-clause-cube : goal.expanded-row-requires-clause-cube
@@ -31,6 +31,23 @@ loop-place-preserved c =
       spare = omega (arith, long, room, c.push.ensures.spare, before.spare);
       from = omega arith;
       rows = rw (grown, push_rows old now row.result before.kept)
-        (expanded_more (slice_range old c.args.allowed.from c.args.allowed.to) old (drop (length old) now) c.args.vars c.args.needed.from c.loop-place.place c.cube_at-cube.result row.result before.from (omega arith) there before.rows
-        (rw same at row.ensures.inside) row.ensures.grows (rw same at row.ensures.prime) row.ensures.below);
+          (expanded_more (slice_range old c.args.allowed.from c.args.allowed.to) old (drop (length old) now) c.args.vars c.args.needed.from c.loop-place.place c.cube_at-cube.result row.result before.from (omega arith) there before.rows
+          (rw same at row.ensures.inside) row.ensures.grows (rw same at row.ensures.prime) row.ensures.below);
     }
+
+pub loop-place-preserved-then-has_row : goal.loop-place-preserved-then-has_row
+loop-place-preserved-then-has_row c =
+    let before = c.loop-place.invariant in
+    let old = c.args.pool.now.cubes in
+    let now = c.loop-place.pool.cubes in
+    let there = cube_kept old now c.loop-place.place c.cube_at-cube.result before.kept (omega arith) c.cube_at-cube.ensures in
+    record {
+      kept = before.kept;
+      spare = before.spare;
+      from = omega arith;
+      rows = expanded_skip (slice_range old c.args.allowed.from c.args.allowed.to) old (drop (length old) now) c.args.vars c.args.needed.from c.loop-place.place c.cube_at-cube.result before.from (omega arith) there before.rows
+          (rw (rows_so_far now c.len-from.result c.len.result c.len.ensures, c.len-from.ensures) at (sym c.has_row.ensures ∙ c.if-has_row.true));
+    }
+
+pub expanded-row-requires-clause-below : goal.expanded-row-requires-clause-below
+expanded-row-requires-clause-below c = rw (slice_kept c.args.pool.now.cubes c.loop-place.pool.cubes c.args.allowed.from c.args.allowed.to c.loop-place.invariant.kept c.requires.allowed.1) c.requires.allowed_below

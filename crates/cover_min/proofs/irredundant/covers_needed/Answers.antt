@@ -35,5 +35,5 @@ loop-place-preserved c =
       same = c.covers_both.ensures.same ∙ before.same;
       from = omega arith;
       so_far = common_more (slice_range c.args.pool.now.cubes c.args.cover.from c.args.cover.to) c.args.pool.now.cubes c.args.needed.from c.loop-place.place c.args.vars c.cube_at-other.result c.args.cube
-        before.from (omega arith) there before.so_far ((rw same at c.covers_both.ensures.answer).0 c.if-not-covers_both.false);
+          before.from (omega arith) there before.so_far ((rw same at c.covers_both.ensures.answer).0 c.if-not-covers_both.false);
     }

@@ -31,7 +31,7 @@ covers_needed-requires-clause-cover_below c =
     let long = length-drop c.args.from cubes in
     rw (c.swap.ensures.cubes, others_swapped cubes c.args.from place last (omega arith) (omega arith) (omega arith))
     (All-take (AsksBelow c.args.vars) (last - c.args.from) (swap (drop c.args.from cubes) (place - c.args.from) (last - c.args.from))
-      (All-swap (AsksBelow c.args.vars) (drop c.args.from cubes) (place - c.args.from) (last - c.args.from) (omega (arith, long)) (omega (arith, long)) c.loop-place.invariant.left.below))
+    (All-swap (AsksBelow c.args.vars) (drop c.args.from cubes) (place - c.args.from) (last - c.args.from) (omega (arith, long)) (omega (arith, long)) c.loop-place.invariant.left.below))
 
 pub covers_needed-requires-clause-needed_below : goal.covers_needed-requires-clause-needed_below
 covers_needed-requires-clause-needed_below c =
