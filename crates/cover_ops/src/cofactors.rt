@@ -6,8 +6,9 @@
 //!
 //! Names: `by` is the cube, `cover` the range that is read, and the cofactor is appended to the pool.
 
-ghost use Rattle.std.specs.Prelude.{◌≡◌, ◌+◌, ◌-◌, ◌*◌, ◌<◌, ◌≤◌, [], ◌∷◌, ◌++◌, length, slice_range};
+ghost use Rattle.std.specs.Prelude.{◌≡◌, ◌+◌, ◌-◌, ◌*◌, ◌<◌, ◌≤◌, [], ◌∷◌, ◌++◌, length};
 ghost use Rattle.cube_pool.specs.Cubes.{literal_cube};
+ghost use Rattle.cube_pool.specs.Pool.{cubes_in};
 ghost use Rattle.cover_ops.specs.Cofactors.{IsCofactor, cofactor_of};
 
 use cube_pool::{Cube, CubePool, Range};
@@ -31,7 +32,7 @@ pub(crate) fn cube_cofactor(pool: &mut CubePool, cover: Range, by: Cube) -> Rang
     requires spare { cover.to ≤ cover.from + pool.old.spare }
     ensures from { result.from ≡ length pool.old.cubes }
     ensures to { result.to ≡ length pool.new.cubes }
-    ensures cubes { pool.new.cubes ≡ pool.old.cubes ++ cofactor_of by (slice_range pool.old.cubes cover.from cover.to) }
+    ensures cubes { pool.new.cubes ≡ pool.old.cubes ++ cofactor_of by (cubes_in pool.old cover) }
     ensures spare { pool.new.spare + length pool.new.cubes ≡ pool.old.spare + length pool.old.cubes }
     ensures order { result.from ≤ result.to }
     ensures few { length pool.new.cubes + cover.from ≤ length pool.old.cubes + cover.to }
@@ -54,9 +55,9 @@ pub fn cofactor(pool: &mut CubePool, cover: Range, variable: u8, level: bool, va
     requires spare { 24 * (cover.to - cover.from) + 24 ≤ pool.old.spare }
     ensures from { result.from ≡ length pool.old.cubes }
     ensures to { result.to ≡ length pool.new.cubes }
-    ensures cubes { pool.new.cubes ≡ pool.old.cubes ++ cofactor_of (literal_cube variable level) (slice_range pool.old.cubes cover.from cover.to) }
+    ensures cubes { pool.new.cubes ≡ pool.old.cubes ++ cofactor_of (literal_cube variable level) (cubes_in pool.old cover) }
     ensures spare { pool.new.spare + length pool.new.cubes ≡ pool.old.spare + length pool.old.cubes }
-    ensures points { IsCofactor (slice_range pool.old.cubes cover.from cover.to) variable level vars (slice_range pool.new.cubes result.from result.to) }
+    ensures points { IsCofactor (cubes_in pool.old cover) variable level vars (cubes_in pool.new result) }
 {
     cube_cofactor(pool, cover, Cube::literal(variable, level))
 }

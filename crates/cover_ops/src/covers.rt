@@ -4,9 +4,10 @@
 //! cube's variables. So the cover has every point of the cube where the cofactor has every point, and a point that the
 //! cofactor misses, moved into the cube, is one that the cover misses.
 
-ghost use Rattle.std.specs.Prelude.{◌≡◌, ◌+◌, ◌-◌, ◌*◌, ◌≤◌, ◌↔◌, IsTrue, length, slice_range};
+ghost use Rattle.std.specs.Prelude.{◌≡◌, ◌+◌, ◌-◌, ◌*◌, ◌≤◌, ◌↔◌, IsTrue, length};
 ghost use Rattle.cube_pool.specs.Cubes.{AllAskBelow, AsksBelow};
 ghost use Rattle.cube_pool.specs.Covers.{CoversCube};
+ghost use Rattle.cube_pool.specs.Pool.{cubes_in};
 ghost use Rattle.cover_ops.specs.Outside.{FindsOutside};
 
 use crate::cofactors::cube_cofactor;
@@ -19,10 +20,10 @@ pub fn point_outside(pool: &mut CubePool, cover: Range, cube: Cube, vars: u8) ->
     requires vars { vars ≤ 22 }
     requires order { cover.from ≤ cover.to }
     requires within { cover.to ≤ length pool.old.cubes }
-    requires below { AllAskBelow vars (slice_range pool.old.cubes cover.from cover.to) }
+    requires below { AllAskBelow vars (cubes_in pool.old cover) }
     requires cube { AsksBelow vars cube }
     requires spare { 24 * (cover.to - cover.from) + 24 ≤ pool.old.spare }
-    ensures answer { FindsOutside (slice_range pool.old.cubes cover.from cover.to) cube vars result }
+    ensures answer { FindsOutside (cubes_in pool.old cover) cube vars result }
     ensures same { pool.new ≡ pool.old }
 {
     if cube.is_empty() {
@@ -43,10 +44,10 @@ pub fn covers_cube(pool: &mut CubePool, cover: Range, cube: Cube, vars: u8) -> b
     requires vars { vars ≤ 22 }
     requires order { cover.from ≤ cover.to }
     requires within { cover.to ≤ length pool.old.cubes }
-    requires below { AllAskBelow vars (slice_range pool.old.cubes cover.from cover.to) }
+    requires below { AllAskBelow vars (cubes_in pool.old cover) }
     requires cube { AsksBelow vars cube }
     requires spare { 24 * (cover.to - cover.from) + 24 ≤ pool.old.spare }
-    ensures answer { IsTrue result ↔ CoversCube (slice_range pool.old.cubes cover.from cover.to) cube vars }
+    ensures answer { IsTrue result ↔ CoversCube (cubes_in pool.old cover) cube vars }
     ensures same { pool.new ≡ pool.old }
 {
     point_outside(pool, cover, cube, vars).is_none()

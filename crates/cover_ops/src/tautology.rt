@@ -9,10 +9,11 @@
 //! Names: `asked` has all literals of the cover, `opposite` each unate variable at the level that is not asked, and
 //! `branch` is that with one level of the variable that splits.
 
-ghost use Rattle.std.specs.Prelude.{◌≡◌, ◌+◌, ◌-◌, ◌*◌, ◌<◌, ◌≤◌, ◌↔◌, None, IfSome, IsTrue, length, slice_range};
+ghost use Rattle.std.specs.Prelude.{◌≡◌, ◌+◌, ◌-◌, ◌*◌, ◌<◌, ◌≤◌, ◌↔◌, None, IfSome, IsTrue, length};
 ghost use Rattle.std.specs.Int.{bit_at};
 ghost use Rattle.cube_pool.specs.Cubes.{AllAskBelow};
 ghost use Rattle.cube_pool.specs.Covers.{CoversAll};
+ghost use Rattle.cube_pool.specs.Pool.{cubes_in};
 ghost use Rattle.cover_ops.specs.Cofactors.{cofactor_of};
 ghost use Rattle.cover_ops.specs.Outside.{FindsMissed, Misses, moved_number};
 ghost use Rattle.cover_ops.specs.Unate.{asked_of, binate_of, branch_of, opposite_of, splits};
@@ -60,12 +61,12 @@ fn missed_in_branch(
     requires vars { vars ≤ 22 }
     requires order { cover.from ≤ cover.to }
     requires within { cover.to ≤ length pool.old.cubes }
-    requires below { AllAskBelow vars (slice_range pool.old.cubes cover.from cover.to) }
-    requires asked { asked ≡ asked_of (slice_range pool.old.cubes cover.from cover.to) }
+    requires below { AllAskBelow vars (cubes_in pool.old cover) }
+    requires asked { asked ≡ asked_of (cubes_in pool.old cover) }
     requires binate { bit_at (binate_of asked) variable ≡ 1 }
-    requires spare { splits vars (slice_range pool.old.cubes cover.from cover.to) * (cover.to - cover.from) ≤ pool.old.spare }
-    ensures all { result ≡ None → CoversAll (cofactor_of (branch_of asked variable level) (slice_range pool.old.cubes cover.from cover.to)) vars }
-    ensures missed { IfSome result (λ point. Misses (slice_range pool.old.cubes cover.from cover.to) vars point) }
+    requires spare { splits vars (cubes_in pool.old cover) * (cover.to - cover.from) ≤ pool.old.spare }
+    ensures all { result ≡ None → CoversAll (cofactor_of (branch_of asked variable level) (cubes_in pool.old cover)) vars }
+    ensures missed { IfSome result (λ point. Misses (cubes_in pool.old cover) vars point) }
     ensures same { pool.new ≡ pool.old }
 {
     let mark = pool.mark();
@@ -85,9 +86,9 @@ pub(crate) fn missed_point(pool: &mut CubePool, cover: Range, vars: u8) -> Optio
     requires vars { vars ≤ 22 }
     requires order { cover.from ≤ cover.to }
     requires within { cover.to ≤ length pool.old.cubes }
-    requires below { AllAskBelow vars (slice_range pool.old.cubes cover.from cover.to) }
-    requires spare { splits vars (slice_range pool.old.cubes cover.from cover.to) * (cover.to - cover.from) ≤ pool.old.spare }
-    ensures answer { FindsMissed (slice_range pool.old.cubes cover.from cover.to) vars result }
+    requires below { AllAskBelow vars (cubes_in pool.old cover) }
+    requires spare { splits vars (cubes_in pool.old cover) * (cover.to - cover.from) ≤ pool.old.spare }
+    ensures answer { FindsMissed (cubes_in pool.old cover) vars result }
     ensures same { pool.new ≡ pool.old }
 {
     if has_full(pool, cover) {
@@ -110,9 +111,9 @@ pub fn is_tautology(pool: &mut CubePool, cover: Range, vars: u8) -> bool
     requires vars { vars ≤ 22 }
     requires order { cover.from ≤ cover.to }
     requires within { cover.to ≤ length pool.old.cubes }
-    requires below { AllAskBelow vars (slice_range pool.old.cubes cover.from cover.to) }
+    requires below { AllAskBelow vars (cubes_in pool.old cover) }
     requires spare { 24 * (cover.to - cover.from) + 24 ≤ pool.old.spare }
-    ensures answer { IsTrue result ↔ CoversAll (slice_range pool.old.cubes cover.from cover.to) vars }
+    ensures answer { IsTrue result ↔ CoversAll (cubes_in pool.old cover) vars }
     ensures same { pool.new ≡ pool.old }
 {
     missed_point(pool, cover, vars).is_none()

@@ -1,7 +1,8 @@
 //! Small covers, with what follows for them by hand.
 
-ghost use Rattle.std.specs.Prelude.{◌+◌, ◌-◌, ◌*◌, ◌≤◌, IfSome, length, slice_range};
+ghost use Rattle.std.specs.Prelude.{◌+◌, ◌-◌, ◌*◌, ◌≤◌, IfSome, length};
 ghost use Rattle.cube_pool.specs.Cubes.{AllAskBelow};
+ghost use Rattle.cube_pool.specs.Pool.{cubes_in};
 
 use crate::{cofactor, complement_cube, covers_cube, is_tautology, point_outside};
 use cube_pool::{Cube, CubePool, Range};
@@ -29,7 +30,7 @@ fn pushed(pool: &mut CubePool, rows: &[&str], vars: u8) -> Option<Range>
     requires { vars ≤ 22 }
     ensures order { IfSome result (λ r. r.from ≤ r.to) }
     ensures within { IfSome result (λ r. r.to ≤ length pool.new.cubes) }
-    ensures below { IfSome result (λ r. AllAskBelow vars (slice_range pool.new.cubes r.from r.to)) }
+    ensures below { IfSome result (λ r. AllAskBelow vars (cubes_in pool.new r)) }
     ensures room { IfSome result (λ r. 24 * (r.to - r.from) + 24 ≤ pool.new.spare) }
 {
     let from = pool.len();

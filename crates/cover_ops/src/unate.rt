@@ -2,10 +2,11 @@
 //!
 //! A variable is binate where some cube asks it at 1 and some cube at 0, and unate where all that ask it ask one level.
 
-ghost use Rattle.std.specs.Prelude.{◌≡◌, ◌<◌, ◌≤◌, length, slice_range};
+ghost use Rattle.std.specs.Prelude.{◌≡◌, ◌<◌, ◌≤◌, length};
 ghost use Rattle.std.specs.Int.{bit_at};
 ghost use Rattle.std.specs.List.{list_any};
 ghost use Rattle.cube_pool.specs.Cubes.{AllAskBelow, is_full};
+ghost use Rattle.cube_pool.specs.Pool.{cubes_in};
 ghost use Rattle.cover_ops.specs.Unate.{asked_of};
 
 use cube_pool::{Cube, CubePool, Range};
@@ -14,7 +15,7 @@ use cube_pool::{Cube, CubePool, Range};
 pub(crate) fn has_full(pool: &CubePool, cover: Range) -> bool
     requires order { cover.from ≤ cover.to }
     requires within { cover.to ≤ length pool.now.cubes }
-    ensures { result ≡ list_any is_full (slice_range pool.now.cubes cover.from cover.to) }
+    ensures { result ≡ list_any is_full (cubes_in pool.now cover) }
 {
     pool.slice(cover)
         .iter()
@@ -25,7 +26,7 @@ pub(crate) fn has_full(pool: &CubePool, cover: Range) -> bool
 pub(crate) fn asked_literals(pool: &CubePool, cover: Range) -> Cube
     requires order { cover.from ≤ cover.to }
     requires within { cover.to ≤ length pool.now.cubes }
-    ensures { result ≡ asked_of (slice_range pool.now.cubes cover.from cover.to) }
+    ensures { result ≡ asked_of (cubes_in pool.now cover) }
 {
     let mut asked = Cube::full();
     for cube in pool.slice(cover) {
