@@ -13,14 +13,14 @@
 //! Names: `cube` is the needed cube, `found` what it has become, `left` the variables whose literals are still to be
 //! tried, `votes` the votes by variable, `rows` the rows so far, `later` the needed cubes from this one on.
 
-ghost use Rattle.std.specs.Prelude.{◌≡◌, ◌+◌, ◌-◌, ◌*◌, ◌<◌, ◌≤◌, true, length, take, drop, slice_range};
+ghost use Rattle.std.specs.Prelude.{◌≡◌, ◌+◌, ◌-◌, ◌*◌, ◌<◌, ◌≤◌, true, length, take, drop};
 ghost use Rattle.std.specs.Int.{bit_at};
 ghost use Rattle.std.specs.List.{list_any};
 ghost use Rattle.cube_pool.specs.Cubes.{AllAskBelow, AsksBelow, Grows, asks, lies_in, literal_cube, without};
 ghost use Rattle.cube_pool.specs.Covers.{CoversCube, CoversList};
 ghost use Rattle.cube_pool.specs.Prime.{IsPrime};
+ghost use Rattle.cube_pool.specs.Pool.{LiesIn, cubes_in};
 ghost use Rattle.cover_min.specs.Expanded.{IsExpanded};
-ghost use Rattle.cover_min.specs.Appended.{LiesIn};
 
 use cover_ops::covers_cube;
 use cube_pool::{Cube, CubePool, Range};
@@ -32,16 +32,16 @@ fn voted(votes: u32, alone: bool) -> u32 {
 
 /// Whether the cube lies in one of the rows.
 fn has_row(pool: &CubePool, rows: Range, cube: Cube) -> bool
-    requires { LiesIn rows pool.now.cubes }
-    ensures { result ≡ list_any (lies_in cube) (slice_range pool.now.cubes rows.from rows.to) }
+    requires { LiesIn pool.now rows }
+    ensures { result ≡ list_any (lies_in cube) (cubes_in pool.now rows) }
 {
     pool.slice(rows).iter().any(|row| cube.lies_in(*row))
 }
 
 /// The votes for the variables at which later needed cubes without a row are opposite to the cube.
 fn votes(pool: &CubePool, later: Range, rows: Range, cube: Cube) -> [u32; 32]
-    requires later { LiesIn later pool.now.cubes }
-    requires rows { LiesIn rows pool.now.cubes }
+    requires later { LiesIn pool.now later }
+    requires rows { LiesIn pool.now rows }
 {
     let mut votes = [0; 32];
     for other in pool.slice(later) {
@@ -85,16 +85,16 @@ fn expanded_at(
 ) -> Cube
     requires variable { variable < vars }
     requires vars { vars ≤ 22 }
-    requires allowed { LiesIn allowed pool.old.cubes }
-    requires below { AllAskBelow vars (slice_range pool.old.cubes allowed.from allowed.to) }
+    requires allowed { LiesIn pool.old allowed }
+    requires below { AllAskBelow vars (cubes_in pool.old allowed) }
     requires cube { AsksBelow vars cube }
     requires spare { 24 * (allowed.to - allowed.from) + 24 ≤ pool.old.spare }
-    requires inside { CoversCube (slice_range pool.old.cubes allowed.from allowed.to) cube vars }
+    requires inside { CoversCube (cubes_in pool.old allowed) cube vars }
     ensures same { pool.new ≡ pool.old }
     ensures below { AsksBelow vars result }
-    ensures inside { CoversCube (slice_range pool.old.cubes allowed.from allowed.to) result vars }
+    ensures inside { CoversCube (cubes_in pool.old allowed) result vars }
     ensures grows { Grows vars cube result }
-    ensures tried { asks variable level result ≡ true → CoversCube (slice_range pool.old.cubes allowed.from allowed.to) (without (literal_cube variable level) result) vars → ⊥ }
+    ensures tried { asks variable level result ≡ true → CoversCube (cubes_in pool.old allowed) (without (literal_cube variable level) result) vars → ⊥ }
 {
     if !cube.asks(variable, level) {
         return cube;
@@ -116,18 +116,18 @@ fn expanded(
     vars: u8,
 ) -> Cube
     requires vars { vars ≤ 22 }
-    requires later { LiesIn later pool.old.cubes }
-    requires rows { LiesIn rows pool.old.cubes }
-    requires allowed { LiesIn allowed pool.old.cubes }
-    requires below { AllAskBelow vars (slice_range pool.old.cubes allowed.from allowed.to) }
+    requires later { LiesIn pool.old later }
+    requires rows { LiesIn pool.old rows }
+    requires allowed { LiesIn pool.old allowed }
+    requires below { AllAskBelow vars (cubes_in pool.old allowed) }
     requires cube { AsksBelow vars cube }
     requires spare { 24 * (allowed.to - allowed.from) + 24 ≤ pool.old.spare }
-    requires inside { CoversCube (slice_range pool.old.cubes allowed.from allowed.to) cube vars }
+    requires inside { CoversCube (cubes_in pool.old allowed) cube vars }
     ensures same { pool.new ≡ pool.old }
     ensures below { AsksBelow vars result }
-    ensures inside { CoversCube (slice_range pool.old.cubes allowed.from allowed.to) result vars }
+    ensures inside { CoversCube (cubes_in pool.old allowed) result vars }
     ensures grows { Grows vars cube result }
-    ensures prime { IsPrime (slice_range pool.old.cubes allowed.from allowed.to) vars result }
+    ensures prime { IsPrime (cubes_in pool.old allowed) vars result }
 {
     let votes = votes(pool, later, rows, cube);
     let mut found = cube;
@@ -144,15 +144,15 @@ fn expanded(
 /// Appends each needed cube, expanded, but for those that lie in a row.
 pub(crate) fn push_expanded(pool: &mut CubePool, needed: Range, allowed: Range, vars: u8)
     requires vars { vars ≤ 22 }
-    requires needed { LiesIn needed pool.old.cubes }
-    requires allowed { LiesIn allowed pool.old.cubes }
-    requires needed_below { AllAskBelow vars (slice_range pool.old.cubes needed.from needed.to) }
-    requires allowed_below { AllAskBelow vars (slice_range pool.old.cubes allowed.from allowed.to) }
+    requires needed { LiesIn pool.old needed }
+    requires allowed { LiesIn pool.old allowed }
+    requires needed_below { AllAskBelow vars (cubes_in pool.old needed) }
+    requires allowed_below { AllAskBelow vars (cubes_in pool.old allowed) }
     requires spare { 24 * (allowed.to - allowed.from) + (needed.to - needed.from) + 24 ≤ pool.old.spare }
-    requires inside { CoversList (slice_range pool.old.cubes allowed.from allowed.to) (slice_range pool.old.cubes needed.from needed.to) vars }
+    requires inside { CoversList (cubes_in pool.old allowed) (cubes_in pool.old needed) vars }
     ensures kept { take (length pool.old.cubes) pool.new.cubes ≡ pool.old.cubes }
     ensures spare { pool.new.spare + length pool.new.cubes ≡ pool.old.spare + length pool.old.cubes }
-    ensures rows { IsExpanded (slice_range pool.old.cubes allowed.from allowed.to) (slice_range pool.old.cubes needed.from needed.to) vars (drop (length pool.old.cubes) pool.new.cubes) }
+    ensures rows { IsExpanded (cubes_in pool.old allowed) (cubes_in pool.old needed) vars (drop (length pool.old.cubes) pool.new.cubes) }
 {
     let from = pool.len();
     for place in needed.from..needed.to {

@@ -8,11 +8,11 @@
 //!
 //! Names: `from` is the place of the first row, `last` the row that is tried.
 
-ghost use Rattle.std.specs.Prelude.{◌≡◌, ◌+◌, ◌-◌, ◌*◌, ◌<◌, ◌≤◌, ◌↔◌, Contains, IsTrue, true, length, take, drop, slice_range, All};
+ghost use Rattle.std.specs.Prelude.{◌≡◌, ◌+◌, ◌-◌, ◌*◌, ◌<◌, ◌≤◌, ◌↔◌, Contains, IsTrue, true, length, take, drop, All};
 ghost use Rattle.cube_pool.specs.Cubes.{AllAskBelow, AsksBelow};
 ghost use Rattle.cube_pool.specs.Covers.{CoversList};
 ghost use Rattle.cube_pool.specs.Prime.{IsIrredundant};
-ghost use Rattle.cover_min.specs.Appended.{LiesIn};
+ghost use Rattle.cube_pool.specs.Pool.{LiesIn, cubes_in};
 ghost use Rattle.cover_min.specs.Expanded.{CoversBoth, CoversCommon};
 
 use cover_ops::covers_cube;
@@ -21,12 +21,12 @@ use cube_pool::{Cube, CubePool, Mark, Range};
 /// Whether the cover has every point that two cubes have in common.
 fn covers_both(pool: &mut CubePool, cover: Range, other: Cube, cube: Cube, vars: u8) -> bool
     requires vars { vars ≤ 22 }
-    requires cover { LiesIn cover pool.old.cubes }
-    requires below { AllAskBelow vars (slice_range pool.old.cubes cover.from cover.to) }
+    requires cover { LiesIn pool.old cover }
+    requires below { AllAskBelow vars (cubes_in pool.old cover) }
     requires other { AsksBelow vars other }
     requires cube { AsksBelow vars cube }
     requires spare { 24 * (cover.to - cover.from) + 24 ≤ pool.old.spare }
-    ensures answer { IsTrue result ↔ CoversBoth (slice_range pool.old.cubes cover.from cover.to) other cube vars }
+    ensures answer { IsTrue result ↔ CoversBoth (cubes_in pool.old cover) other cube vars }
     ensures same { pool.new ≡ pool.old }
 {
     if !other.meets(cube) {
@@ -38,13 +38,13 @@ fn covers_both(pool: &mut CubePool, cover: Range, other: Cube, cube: Cube, vars:
 /// Whether the cover has every needed point of the cube.
 fn covers_needed(pool: &mut CubePool, cover: Range, needed: Range, cube: Cube, vars: u8) -> bool
     requires vars { vars ≤ 22 }
-    requires cover { LiesIn cover pool.old.cubes }
-    requires needed { LiesIn needed pool.old.cubes }
-    requires cover_below { AllAskBelow vars (slice_range pool.old.cubes cover.from cover.to) }
-    requires needed_below { AllAskBelow vars (slice_range pool.old.cubes needed.from needed.to) }
+    requires cover { LiesIn pool.old cover }
+    requires needed { LiesIn pool.old needed }
+    requires cover_below { AllAskBelow vars (cubes_in pool.old cover) }
+    requires needed_below { AllAskBelow vars (cubes_in pool.old needed) }
     requires cube { AsksBelow vars cube }
     requires spare { 24 * (cover.to - cover.from) + 24 ≤ pool.old.spare }
-    ensures answer { IsTrue result ↔ CoversCommon (slice_range pool.old.cubes cover.from cover.to) (slice_range pool.old.cubes needed.from needed.to) cube vars }
+    ensures answer { IsTrue result ↔ CoversCommon (cubes_in pool.old cover) (cubes_in pool.old needed) cube vars }
     ensures same { pool.new ≡ pool.old }
 {
     for place in needed.from..needed.to {
@@ -63,15 +63,15 @@ pub(crate) fn leave_out(pool: &mut CubePool, from: usize, needed: Range, vars: u
     requires order { needed.from ≤ needed.to }
     requires within { needed.to ≤ from }
     requires rows_below { AllAskBelow vars (drop from pool.old.cubes) }
-    requires needed_below { AllAskBelow vars (slice_range pool.old.cubes needed.from needed.to) }
+    requires needed_below { AllAskBelow vars (cubes_in pool.old needed) }
     requires spare { 24 * (length pool.old.cubes - from) + 24 ≤ pool.old.spare }
-    requires at_needed { CoversList (drop from pool.old.cubes) (slice_range pool.old.cubes needed.from needed.to) vars }
+    requires at_needed { CoversList (drop from pool.old.cubes) (cubes_in pool.old needed) vars }
     ensures from { from ≤ length pool.new.cubes }
     ensures kept { take from pool.new.cubes ≡ take from pool.old.cubes }
     ensures few { length pool.new.cubes ≤ length pool.old.cubes }
     ensures spare { pool.new.spare + length pool.new.cubes ≡ pool.old.spare + length pool.old.cubes }
-    ensures at_needed { CoversList (drop from pool.new.cubes) (slice_range pool.old.cubes needed.from needed.to) vars }
-    ensures irredundant { IsIrredundant (slice_range pool.old.cubes needed.from needed.to) vars (drop from pool.new.cubes) }
+    ensures at_needed { CoversList (drop from pool.new.cubes) (cubes_in pool.old needed) vars }
+    ensures irredundant { IsIrredundant (cubes_in pool.old needed) vars (drop from pool.new.cubes) }
     ensures among { All (Contains (drop from pool.old.cubes)) (drop from pool.new.cubes) }
 {
     let mut place = pool.len();

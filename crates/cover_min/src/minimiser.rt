@@ -4,11 +4,12 @@
 //! out the rows that the others make up for. The contract is its checker's: the rows have every needed point, and only
 //! allowed ones.
 
-ghost use Rattle.std.specs.Prelude.{◌≡◌, ◌+◌, ◌-◌, ◌*◌, ◌≤◌, length, max, slice_range};
+ghost use Rattle.std.specs.Prelude.{◌≡◌, ◌+◌, ◌-◌, ◌*◌, ◌≤◌, length, max};
 ghost use Rattle.cube_pool.specs.Cubes.{AllAskBelow};
 ghost use Rattle.cube_pool.specs.Covers.{CoversList};
 ghost use Rattle.cube_pool.specs.Prime.{IsPrimeIrredundant};
-ghost use Rattle.cover_min.specs.Appended.{Appends, LiesIn};
+ghost use Rattle.cube_pool.specs.Pool.{LiesIn, cubes_in};
+ghost use Rattle.cover_min.specs.Appended.{Appends};
 
 use crate::expand::push_expanded;
 use crate::irredundant::leave_out;
@@ -18,14 +19,14 @@ use cube_pool::{CubePool, Range};
 /// longer than `needed`. Takes no memory.
 pub fn minimise(pool: &mut CubePool, needed: Range, allowed: Range, vars: u8) -> Range
     requires vars { vars ≤ 22 }
-    requires needed { LiesIn needed pool.old.cubes }
-    requires allowed { LiesIn allowed pool.old.cubes }
-    requires needed_below { AllAskBelow vars (slice_range pool.old.cubes needed.from needed.to) }
-    requires allowed_below { AllAskBelow vars (slice_range pool.old.cubes allowed.from allowed.to) }
+    requires needed { LiesIn pool.old needed }
+    requires allowed { LiesIn pool.old allowed }
+    requires needed_below { AllAskBelow vars (cubes_in pool.old needed) }
+    requires allowed_below { AllAskBelow vars (cubes_in pool.old allowed) }
     requires spare { 24 * max (needed.to - needed.from) (allowed.to - allowed.from) + (needed.to - needed.from) + 24 ≤ pool.old.spare }
-    requires inside { CoversList (slice_range pool.old.cubes allowed.from allowed.to) (slice_range pool.old.cubes needed.from needed.to) vars }
+    requires inside { CoversList (cubes_in pool.old allowed) (cubes_in pool.old needed) vars }
     ensures appends { Appends pool.old pool.new result }
-    ensures rows { IsPrimeIrredundant (slice_range pool.old.cubes needed.from needed.to) (slice_range pool.old.cubes allowed.from allowed.to) vars (slice_range pool.new.cubes result.from result.to) }
+    ensures rows { IsPrimeIrredundant (cubes_in pool.old needed) (cubes_in pool.old allowed) vars (cubes_in pool.new result) }
     ensures few { result.to - result.from ≤ needed.to - needed.from }
 {
     let from = pool.len();
