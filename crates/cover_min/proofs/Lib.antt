@@ -1,5 +1,6 @@
 pub mod CommonPoints
 pub mod ExpandedRows
+pub mod GrownPools
 pub mod LeftOut
 pub mod Literals
 pub mod Minimised

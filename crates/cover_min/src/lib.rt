@@ -4,5 +4,7 @@
 mod expand;
 mod irredundant;
 mod minimiser;
+#[cfg(test)]
+mod tests;
 
 pub use minimiser::minimise;
