@@ -2,7 +2,7 @@
 -- (this project's rule, over JESD3-C and the devices' datasheets).
 use Rattle.std.specs.Prelude.{◌≡◌, ℕ, Bool, false, List, length, Some, Ok}
 use Rattle.pld_base.specs.declared.device_name.DeviceName.{DeviceName}
-use Rattle.pld_machine.specs.Comparison.{DoesTheSame}
+use Rattle.pld_machine.specs.Comparison.{DoesTheSame, RefinesValued}
 use Rattle.pld_machine.specs.Refines.{Refines}
 use Rattle.pld_machine.specs.Valued.{SameValues}
 use Rattle.pld_device.specs.Laws.{IsDevice}
@@ -56,6 +56,12 @@ pub record MeansTheSame (t : Table) (m : ModuleTree) (net : PlainNetlist) : Type
   pub to : Refines (netlist_logic t net) (source_logic t m)
   pub from : Refines (source_logic t m) (netlist_logic t net)
   pub values : SameValues (netlist_logic t net) (netlist_values net) (source_values t m)
+
+-- at each point, with the netlist's nodes valued there, the netlist allows what a device with its fuses does
+abbrev pub FittedRefines : Type 0
+FittedRefines =
+    (t : Table) (net : PlainNetlist) (fuses : List Bool) → IsDevice t → IsSound t net → IsFitted t net fuses
+    → RefinesValued (device_logic t fuses) (netlist_logic t net) (netlist_values net)
 
 -- what fitting owes: a device with the fuses of a sound netlist does what the netlist says
 abbrev pub FittedDoesTheSame : Type 0

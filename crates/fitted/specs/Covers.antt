@@ -6,7 +6,7 @@ use Rattle.pld_base.specs.Bits.{is_on}
 use Rattle.pld_base.specs.Points.{Levels}
 use Rattle.pld_device.specs.Rows.{columns_of, pair_values, row_fuses, is_switched_on, row_is_true, row_value}
 use Rattle.pld_device.specs.Table.{Table}
-use Rattle.pld_machine.specs.Valued.{IsValued}
+use Rattle.pld_machine.specs.Valued.{IsValued, IsValuedOf}
 use Rattle.pld_order.specs.Graphs.{has}
 use Rattle.bit_expr.specs.Formulas.{Formula, formula_value}
 use Rattle.abel_meaning.specs.Netlists.{PlainNetlist}
@@ -15,6 +15,10 @@ use Rattle.abel_meaning.specs.NetlistLogic.{netlist_logic, netlist_values}
 -- a point whose nodes have their values with any as 0
 abbrev pub IsValuedFor : Table → PlainNetlist → Levels → Type 0
 IsValuedFor t net at = IsValued (netlist_logic t net) (netlist_values net) at
+
+-- the first point with its nodes so valued
+abbrev pub IsValuedOfFor : Table → PlainNetlist → (at valued : Levels) → Type 0
+IsValuedOfFor t net at valued = IsValuedOf (netlist_logic t net) (netlist_values net) at valued
 
 -- the row isn't all 0
 abbrev pub is_used : Table → List Bool → ℕ → Bool
