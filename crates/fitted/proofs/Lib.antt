@@ -1,8 +1,16 @@
 pub mod BoolLaws
+pub mod CellRanks
 pub mod CellValues
+pub mod CleanSignals
+pub mod CoverReads
+pub mod FittedPaths
 pub mod FormulaLeaves
 pub mod Refining
+pub mod RowLiterals
+pub mod Running
 pub mod SharedFunctions
+pub mod SignalLeaves
+pub mod ToldRows
 pub mod UnusedRows
 pub mod Valuing
 pub mod WantedCells

@@ -45,11 +45,11 @@ pub cell_named : (t : Table) (net : PlainNetlist) (c : ℕ) (l : Leaf) → c < l
 cell_named t net c l within = rw (lt-ltb c (length t.cells) within) refl
 
 -- a node is no register
-node_is_plain : (t : Table) (net : PlainNetlist) (n : ℕ) → is_register_signal t net (length t.cells + n) ≡ false
+pub node_is_plain : (t : Table) (net : PlainNetlist) (n : ℕ) → is_register_signal t net (length t.cells + n) ≡ false
 node_is_plain t net n = rw (not_below (length t.cells) n) refl
 
 -- a signal waits for a node that it names
-waits_for_node : (t : Table) (net : PlainNetlist) (v m : ℕ) → netlist_names t net v (leaf.Node m) ≡ true → netlist_waits t net v (length t.cells + m) ≡ true
+pub waits_for_node : (t : Table) (net : PlainNetlist) (v m : ℕ) → netlist_names t net v (leaf.Node m) ≡ true → netlist_waits t net v (length t.cells + m) ≡ true
 waits_for_node t net v m named =
     ap (λ b. not b && netlist_names t net v (signal_leaf t net (length t.cells + m))) (node_is_plain t net m)
     ∙ (ap (netlist_names t net v) (node_leaf t net m) ∙ named)

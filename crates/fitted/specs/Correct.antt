@@ -63,14 +63,14 @@ FittedRefines =
     (t : Table) (net : PlainNetlist) (fuses : List Bool) → IsDevice t → IsSound t net → IsFitted t net fuses
     → RefinesValued (device_logic t fuses) (netlist_logic t net) (netlist_values net)
 
--- what fitting owes: a device with the fuses of a sound netlist does what the netlist says
+-- so a device with the fuses of a sound netlist does what the netlist says
 abbrev pub FittedDoesTheSame : Type 0
 FittedDoesTheSame =
     (t : Table) (net : PlainNetlist) (fuses : List Bool) → IsDevice t → IsSound t net → IsFitted t net fuses
     → DoesTheSame (device_logic t fuses) (netlist_logic t net) (netlist_values net)
 
--- so a netlist of the module whose fuses these are is all that a file needs
+-- and what any module says whose netlist it is
 abbrev pub FittedDoesWhatItSays : Type 0
 FittedDoesWhatItSays =
-    (t : Table) (m : ModuleTree) (net : PlainNetlist) (fuses : List Bool) → MeansTheSame t m net
-    → DoesTheSame (device_logic t fuses) (netlist_logic t net) (netlist_values net) → DoesWhatItSays t m fuses
+    (t : Table) (m : ModuleTree) (net : PlainNetlist) (fuses : List Bool) → IsDevice t → MeansTheSame t m net
+    → IsSound t net → IsFitted t net fuses → DoesWhatItSays t m fuses
