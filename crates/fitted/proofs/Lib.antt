@@ -3,6 +3,8 @@ pub mod CellRanks
 pub mod CellValues
 pub mod CleanSignals
 pub mod CoverReads
+pub mod ExampleFits
+pub mod ExampleSound
 pub mod FittedPaths
 pub mod FormulaLeaves
 pub mod Refining

@@ -1,3 +1,4 @@
 pub mod Correct
 pub mod Covers
+pub mod Example
 pub mod Fitting

@@ -1,6 +1,7 @@
 //! Laws of fitted devices, and how the two halves of a compiler join, as the contracts of calls that do nothing.
 
 ghost use Rattle.fitted.specs.Correct.{FittedRefines, FittedDoesTheSame, FittedDoesWhatItSays};
+ghost use Rattle.fitted.specs.Example.{ExampleFits};
 
 /// At each point, with the nodes of a sound netlist valued there, the netlist allows what a device with its
 /// fuses does: the same enables, resets and presets, each level that is driven, and each next Q. Does nothing.
@@ -17,4 +18,9 @@ pub fn fitted_runs()
 /// A device with the fuses of a sound netlist does what any module says whose netlist it is. Does nothing.
 pub fn through_a_netlist()
     ensures { FittedDoesWhatItSays }
+{}
+
+/// There are such netlists and fuses: those of the example. Does nothing.
+pub fn example_fits()
+    ensures { ExampleFits }
 {}

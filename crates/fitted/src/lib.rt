@@ -3,4 +3,4 @@
 
 mod laws;
 
-pub use laws::{fitted_runs, fitted_values, through_a_netlist};
+pub use laws::{example_fits, fitted_runs, fitted_values, through_a_netlist};
