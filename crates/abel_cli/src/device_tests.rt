@@ -180,6 +180,7 @@ fn each_device_is_checked_and_simulated(rt: HostRuntime) -> Result<(), Fail> {
         let is_gal = command.ends_with("22V10") || command.ends_with("22v10");
         let (fuses, columns) = if is_gal { (5892, 44) } else { (2048, 32) };
         let mut text = format!(in alloc; "\x02*QF{fuses}*F0*")?;
+        assert!(rt; rows.len() <= 132);
         for (row, connected) in rows {
             put_row(alloc, &mut text, columns, *row, *connected)?;
         }
