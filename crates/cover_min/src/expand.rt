@@ -7,7 +7,7 @@
 //! Which prime a cube becomes depends on the order in which its literals are tried. The order is by votes: each needed
 //! cube that has no row yet votes for the variables at which it is opposite to the cube, since only without those
 //! literals the cube can reach it, and one that is opposite at one variable alone counts before all others. So a cube
-//! grows over the neighbours that still need a row, and away from those that have one. Of fourteen orders that were tried
+//! grows over the neighbours that still need a row, and away from those that have one. Of the orders that were tried
 //! on random functions this one came nearest to the exact minimum (README.md has the figures).
 //!
 //! Names: `cube` is the needed cube, `found` what it has become, `left` the variables whose literals are still to be
