@@ -1,0 +1,5 @@
+use Rattle.std.proofs.Common.{arith, ◌≤◌, length}
+use Rattle.text_pieces.proofs.ahead.Ahead.new.Goals as goal
+
+pub invariant_of-result : goal.invariant_of-result
+invariant_of-result c = (c.settled.ensures.text, omega arith, c.settled.ensures.first, omega arith, omega (arith, c.requires.bytes, c.requires.fits), c.requires.bytes)

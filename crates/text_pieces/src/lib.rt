@@ -1,0 +1,10 @@
+//! A text in pieces: what is still to be read of it, and a look ahead at it.
+#![tactic(auto)]
+
+mod ahead;
+mod rest;
+#[cfg(test)]
+mod tests;
+
+pub use ahead::Ahead;
+pub use rest::Rest;

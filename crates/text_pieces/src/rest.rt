@@ -1,0 +1,157 @@
+//! The rest of a text that is rewritten: a stack of pieces of texts that are there.
+
+ghost use Rattle.std.specs.Prelude.{◌≡◌, ◌++◌, ◌+◌, ◌<◌, ◌≤◌, ◌^◌, [], ◌∷◌, IfSome, IfNone, length, take, drop, OnOk, OnErr, IfOk};
+ghost use Rattle.text_pieces.specs.Stacks.{Look, joined, stacked};
+
+use crate::ahead::Ahead;
+use std::alloc::{AllocError, Global};
+use std::marker::Model;
+
+/// What is still to be read. The last piece of the stack stands right behind the top piece.
+#[derive(Drop)]
+pub struct Rest<'a> {
+    top: &'a [u8],
+    stack: Vec<&'a [u8]>,
+    bytes: usize,
+}
+
+impl<'a> Model for Rest<'a> {
+    ghost use Rattle.std.specs.Prelude.{◌≡◌, ◌<◌, ◌^◌, ◌++◌, List, ℕ, length};
+    ghost use Rattle.text_pieces.specs.Stacks.{stacked};
+
+    ghost Value = { List ℕ };
+
+    ghost view = { λ r. r.top.now ++ stacked r.stack.items };
+
+    ghost invariant = { λ r. (r.bytes ≡ length (r.top.now ++ stacked r.stack.items)) × (length (r.top.now ++ stacked r.stack.items) < 2 ^ 63) };
+}
+
+impl<'a> Rest<'a> {
+    /// A text in one piece.
+    pub fn new(alloc: Global, text: &'a [u8]) -> Rest<'a>
+        requires { length text.now < 2 ^ 63 }
+        ensures { result ≡ text.now }
+    {
+        Rest {
+            top: text,
+            stack: Vec::new(alloc),
+            bytes: text.len(),
+        }
+    }
+
+    pub fn len(&self) -> usize
+        ensures value { result ≡ length self.now }
+        ensures fits { result < 2 ^ 63 }
+    {
+        self.bytes
+    }
+
+    /// Its length fits a number: this does nothing, and tells it.
+    pub fn fits(&self)
+        ensures { length self.now < 2 ^ 63 }
+    {
+        let _bytes = self.bytes;
+    }
+
+    /// A look at the whole of it.
+    pub fn ahead<'r>(&'r self) -> Ahead<'r, 'a>
+        ensures { result ≡ record { whole = self.now; passed = 0 } }
+    {
+        Ahead::new(self.top, &self.stack, self.bytes)
+    }
+
+    /// Takes the first byte.
+    pub fn take_byte(&mut self) -> Option<u8>
+        ensures some { IfSome result (λ b. self.old ≡ b ∷ self.new) }
+        ensures none { IfNone result ((self.old ≡ []) × (self.new ≡ [])) }
+    {
+        'pieces: loop {
+            match self.top {
+                [first, rest @ ..] => {
+                    self.top = rest;
+                    self.bytes -= 1;
+                    return Some(*first);
+                }
+                [] => match self.stack.pop() {
+                    Some(piece) => self.top = piece,
+                    None => return None,
+                },
+            }
+        }
+    }
+
+    /// Leaves out the first bytes.
+    pub fn skip(&mut self, count: usize)
+        requires { count ≤ length self.old }
+        ensures { self.new ≡ drop count self.old }
+    {
+        let mut left = count;
+        'pieces: while self.top.len() < left {
+            left -= self.top.len();
+            self.bytes -= self.top.len();
+            match self.stack.pop() {
+                Some(piece) => self.top = piece,
+                None => return,
+            }
+        }
+        let (_passed, behind) = self.top.split_at(left);
+        self.bytes -= left;
+        self.top = behind;
+    }
+
+    /// Takes the first bytes out, as pieces.
+    pub fn cut(&mut self, alloc: Global, count: usize) -> Result<Vec<&'a [u8]>, AllocError>
+        requires { count ≤ length self.old }
+        ensures ok { OnOk result (self.new ≡ drop count self.old) }
+        ensures cut { IfOk result (λ w. joined w.items ≡ take count self.old) }
+    {
+        let mut pieces = Vec::new(alloc);
+        let mut left = count;
+        'pieces: while self.top.len() < left {
+            let top = self.top;
+            pieces.push(top)?;
+            left -= top.len();
+            self.bytes -= top.len();
+            match self.stack.pop() {
+                Some(piece) => self.top = piece,
+                None => return Ok(pieces),
+            }
+        }
+        let (passed, behind) = self.top.split_at(left);
+        pieces.push(passed)?;
+        self.bytes -= left;
+        self.top = behind;
+        Ok(pieces)
+    }
+
+    /// Puts a piece in front.
+    fn put(&mut self, piece: &'a [u8]) -> Result<(), AllocError>
+        requires { length self.old + length piece.now < 2 ^ 63 }
+        ensures ok { OnOk result (self.new ≡ piece.now ++ self.old) }
+        ensures err { OnErr result (self.new ≡ self.old) }
+    {
+        if self.top.is_empty() {
+            self.bytes += piece.len();
+            self.top = piece;
+            return Ok(());
+        }
+        self.stack.push(self.top)?;
+        self.bytes += piece.len();
+        self.top = piece;
+        Ok(())
+    }
+
+    /// Puts a text in pieces in front.
+    pub fn put_all(&mut self, pieces: &[&'a [u8]]) -> Result<(), AllocError>
+        requires bytes { length self.old + length (joined pieces.now) < 2 ^ 63 }
+        requires pieces { length pieces.now < 2 ^ 59 }
+        ensures ok { OnOk result (self.new ≡ joined pieces.now ++ self.old) }
+    {
+        let mut left = pieces;
+        'pieces: while let [more @ .., last] = left {
+            self.put(last)?;
+            left = more;
+        }
+        Ok(())
+    }
+}
