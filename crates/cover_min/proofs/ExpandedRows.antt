@@ -1,10 +1,9 @@
 -- Rows that are expanded one after another, at the end of a pool.
-use Rattle.std.proofs.Common.{◌≡◌, ℕ, zero, suc, ◌+◌, ◌-◌, ◌<◌, ◌≤◌, min, Bool, true, false, ◌||◌, ◌⊎◌, inl, inr, List, [], ◌∷◌, ◌++◌, length, get_or, take, drop, Some, slice_get, slice_range, refl, sym, ap, ◌∙◌, arith}
-use Rattle.std.specs.Prelude.{All}
+use Rattle.std.proofs.Common.{◌≡◌, ℕ, ◌+◌, ◌-◌, ◌<◌, ◌≤◌, Bool, true, false, ◌⊎◌, inl, inr, List, [], ◌∷◌, ◌++◌, length, get_or, take, drop, Some, slice_get, slice_range, sym, ap, ◌∙◌, arith}
 use Rattle.std.specs.List.{list_any}
 use Rattle.std.proofs.lemmas.Bool.{or_cases, or_left, or_right}
 use Rattle.std.proofs.lemmas.Option.{get_or_from_slice_get}
-use Rattle.std.proofs.lemmas.List.{take-take, take-append-le, drop-append-le, length-take, length-drop, drop_all, get_or-take, length-append}
+use Rattle.std.proofs.lemmas.List.{take-take, take-append-le, drop-append-le, length-take, drop_all, get_or-take, length-append}
 use Rattle.std.proofs.lemmas.Slice.{between_is, between_to_end}
 use Rattle.std.proofs.lemmas.List.Elements.{All-push, All-nil, All-get_or}
 use Rattle.std.proofs.lemmas.List.Edits.{between_none, between_more, length-between, get_or-between}

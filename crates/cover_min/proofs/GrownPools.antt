@@ -1,7 +1,7 @@
 -- A pool that grows twice (for the tests).
-use Rattle.std.proofs.Common.{◌≡◌, ℕ, ◌+◌, ◌-◌, ◌<◌, ◌≤◌, Bool, true, List, [], ◌∷◌, ◌++◌, length, take, drop, slice_range, refl, sym, ap, ◌∙◌, arith}
-use Rattle.std.proofs.lemmas.List.{take-take, take-append-drop, drop-append-le, length-drop, drop_at, take_at}
-use Rattle.std.proofs.lemmas.List.Elements.{All-append, All-nil, All-cons}
+use Rattle.std.proofs.Common.{◌≡◌, ℕ, ◌-◌, ◌≤◌, List, ◌++◌, length, take, drop, slice_range, sym, ap, ◌∙◌, arith}
+use Rattle.std.proofs.lemmas.List.{take-take, take-append-drop, drop-append-le, length-drop}
+use Rattle.std.proofs.lemmas.List.Elements.{All-append}
 use Rattle.cube_pool.specs.declared.cube.Cube.{Cube}
 use Rattle.cube_pool.specs.Cubes.{AsksBelow, AllAskBelow}
 use Rattle.cube_pool.specs.Covers.{CoversList}

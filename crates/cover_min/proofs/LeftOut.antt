@@ -1,19 +1,18 @@
 -- Rows at the end of a pool that are tried one after another, from the last to the first.
-use Rattle.std.proofs.Common.{◌≡◌, ◌≢◌, ℕ, zero, suc, ◌+◌, ◌-◌, ◌<◌, ◌≤◌, min, Bool, true, false, ◌&&◌, ◌⊎◌, inl, inr, List, [], ◌∷◌, ◌++◌, length, get_or, set, take, drop, Some, slice_get, slice_range, refl, sym, ap, ◌∙◌, arith}
+use Rattle.std.proofs.Common.{◌≡◌, ℕ, ◌+◌, ◌-◌, ◌<◌, ◌≤◌, Bool, true, false, inl, inr, List, length, get_or, set, take, drop, Some, slice_get, slice_range, sym, ap, ◌∙◌, arith}
 use Rattle.std.specs.Prelude.{All, Contains, IsTrue, ◌↔◌}
 use Rattle.std.specs.List.{remove, swap}
-use Rattle.std.proofs.lemmas.Bool.{cases_eq, cases_lt, cases_Bool, false≢true}
-use Rattle.std.proofs.lemmas.List.{drop-set-add, take-set-le, drop-take, length-drop, length-take, length-set, take-take, get_or-drop}
+use Rattle.std.proofs.lemmas.Bool.{cases_eq, false≢true}
+use Rattle.std.proofs.lemmas.List.{drop-set-add, take-set-le, drop-take, length-drop, length-take, take-take, get_or-drop}
 use Rattle.std.proofs.lemmas.Option.{get_or_from_slice_get}
 use Rattle.std.proofs.lemmas.Slice.{between_is}
 use Rattle.std.proofs.lemmas.List.Elements.{All-set, All-take, All-get_or}
 use Rattle.std.proofs.lemmas.List.Edits.{length-swap, swap_is}
 use Rattle.cube_pool.specs.declared.cube.Cube.{Cube}
-use Rattle.cube_pool.specs.Cubes.{has_point, covers, full_cube, AsksBelow, AllAskBelow}
+use Rattle.cube_pool.specs.Cubes.{covers, full_cube, AsksBelow, AllAskBelow}
 use Rattle.cube_pool.specs.Covers.{CoversList}
-use Rattle.cube_pool.specs.Prime.{IsIrredundant}
 use Rattle.cover_min.specs.Expanded.{CoversCommon}
-use Rattle.cover_min.proofs.RowsOthers.{exchanged, exchange_case, put_last, remove_last, swapped_covers, swapped_others, take_others, take_covers, some_of, some_take}
+use Rattle.cover_min.proofs.RowsOthers.{exchanged, exchange_case, remove_last, swapped_covers, swapped_others, take_others, some_of, some_take}
 
 -- no row from a place on can be left out
 abbrev pub IsIrredundantFrom : List Cube → ℕ → ℕ → List Cube → Type 0

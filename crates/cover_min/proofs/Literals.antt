@@ -1,15 +1,15 @@
 -- Literals that are left out: a literal that could not be left out of a cube can not be left out of a larger one.
-use Rattle.std.proofs.Common.{◌≡◌, ◌≢◌, ℕ, zero, suc, ◌+◌, ◌-◌, ◌*◌, ◌%◌, ◌^◌, ◌<◌, ◌≤◌, min, Bool, true, false, not, ◌==◌, if◌then◌else◌, inl, inr, ◌⊎◌, List, length, refl, sym, ap, ◌∙◌, arith}
+use Rattle.std.proofs.Common.{◌≡◌, ℕ, ◌-◌, ◌*◌, ◌%◌, ◌^◌, ◌<◌, ◌≤◌, min, Bool, true, false, inl, inr, List, sym, ◌∙◌, arith}
 use Rattle.std.specs.Prelude.{bit_and, bit_or}
 use Rattle.std.specs.Int.{bit_at, bit_not, w32}
 use Rattle.std.proofs.lemmas.Bool.{cases_eq, eqb-true, eq-eqb}
 use Rattle.std.proofs.lemmas.Nat.{and_le_l}
-use Rattle.std.proofs.lemmas.Nat.Bits.{bit_at-lt, bit_at-zero, bit_at_or, bit_at_above, bit_at_clear_same, bit_at_clear_other}
+use Rattle.std.proofs.lemmas.Nat.Bits.{bit_at-lt, bit_at-zero, bit_at_or, bit_at_clear_same, bit_at_clear_other}
 use Rattle.cube_pool.specs.declared.cube.Cube.{Cube}
-use Rattle.cube_pool.specs.Cubes.{has_point, asks, literal_cube, without, AsksBelow, Grows}
+use Rattle.cube_pool.specs.Cubes.{asks, literal_cube, without, AsksBelow, Grows}
 use Rattle.cube_pool.specs.Covers.{CoversCube}
 use Rattle.cube_pool.specs.Prime.{IsPrime}
-use Rattle.cube_pool.proofs.CubeBits.{bit_at_without, bit_below, literal_same, literal_other, literal_below, without_lt}
+use Rattle.cube_pool.proofs.CubeBits.{bit_at_without, literal_same, literal_below, without_lt}
 use Rattle.cube_pool.proofs.CubePoints.{has_point_grows, lt_32, without_grows}
 
 pub grows-refl : (vars : ℕ) (c : Cube) → Grows vars c c

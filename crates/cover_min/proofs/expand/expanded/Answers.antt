@@ -1,5 +1,5 @@
-use Rattle.std.proofs.Common.{◌+◌, ◌∙◌, ap, refl, slice_range, arith}
-use Rattle.std.proofs.lemmas.Nat.{and_le_l, or_lt}
+use Rattle.std.proofs.Common.{◌∙◌, ap, refl, slice_range, arith}
+use Rattle.std.proofs.lemmas.Nat.{or_lt}
 use Rattle.cube_pool.specs.Pool.{Pool}
 use Rattle.cube_pool.proofs.CubeBits.{bit_below}
 use Rattle.cover_min.proofs.Literals.{grows-refl, grows-trans, left_less, left_low, tried_first, tried_last, tried_more}

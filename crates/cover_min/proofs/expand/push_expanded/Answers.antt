@@ -1,4 +1,4 @@
-use Rattle.std.proofs.Common.{◌≡◌, ◌+◌, ◌++◌, [], ◌∷◌, length, take, drop, slice_range, ap, sym, ◌∙◌, arith}
+use Rattle.std.proofs.Common.{◌≡◌, ◌+◌, ◌++◌, [], ◌∷◌, length, drop, slice_range, ap, sym, ◌∙◌, arith}
 use Rattle.std.proofs.lemmas.List.{length_push}
 use Rattle.cube_pool.specs.Pool.{Pool}
 use Rattle.cover_min.proofs.ExpandedRows.{at_below, at_inside, cube_kept, expanded_more, expanded_skip, push_kept, push_rows, rows_so_far, slice_kept}

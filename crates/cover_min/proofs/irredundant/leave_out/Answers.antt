@@ -1,4 +1,4 @@
-use Rattle.std.proofs.Common.{◌≡◌, ◌+◌, ◌-◌, ◌≤◌, ◌∙◌, length, take, drop, slice_range, refl, sym, ap, arith}
+use Rattle.std.proofs.Common.{◌≡◌, ◌-◌, ◌∙◌, length, take, drop, refl, ap, arith}
 use Rattle.std.specs.List.{swap}
 use Rattle.std.proofs.lemmas.List.{length-drop, length-take, take-take}
 use Rattle.std.proofs.lemmas.List.Edits.{length-swap}

@@ -1,4 +1,4 @@
-use Rattle.std.proofs.Common.{◌≡◌, drop, slice_range}
+use Rattle.std.proofs.Common.{drop, slice_range}
 use Rattle.cover_min.proofs.ExpandedRows.{rows_so_far, slice_kept}
 use Rattle.cover_min.proofs.Minimised.{minimised}
 use Rattle.cover_min.proofs.minimiser.minimise.Goals as goal

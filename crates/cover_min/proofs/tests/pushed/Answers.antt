@@ -1,4 +1,4 @@
-use Rattle.std.proofs.Common.{◌≡◌, ◌∙◌, length, arith}
+use Rattle.std.proofs.Common.{arith}
 use Rattle.cover_min.proofs.ExpandedRows.{kept_long, rows_so_far}
 use Rattle.cover_min.proofs.GrownPools.{front_inside, grown_below}
 use Rattle.cover_min.proofs.tests.pushed.Goals as goal
