@@ -1,2 +1,3 @@
 mod LastState
 mod Refused
+mod Stops

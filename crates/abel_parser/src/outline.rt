@@ -1,7 +1,8 @@
 //! A tree as a short text, for the tables of the tests.
 
 use abel_tree::{
-    Arm, Binary, Decl, Expr, Extension, Item, Member, Module, Section, Sign, Span, Stmt, Unary, Word,
+    Arm, Binary, Decl, Expr, Extension, Item, Member, Module, Section, Sign, Span, Stmt, Unary,
+    Word,
 };
 use pld_base::{OutOfMemory, put_decimal};
 use std::alloc::Global;
@@ -106,7 +107,11 @@ impl Outline {
                 self.word(word)?;
                 self.extension(*extension)
             }
-            Expr::Set { members, extension, .. } => {
+            Expr::Set {
+                members,
+                extension,
+                ..
+            } => {
                 self.text("[")?;
                 for member in members.as_slice() {
                     self.member(member)?;
@@ -124,7 +129,12 @@ impl Outline {
                 self.text(if *sign == Unary::Not { "!" } else { "-" })?;
                 self.expr(inner.get())
             }
-            Expr::Binary { sign, left, right, .. } => {
+            Expr::Binary {
+                sign,
+                left,
+                right,
+                ..
+            } => {
                 self.text("{")?;
                 self.expr(left.get())?;
                 self.operator(*sign)?;
@@ -265,13 +275,21 @@ impl Outline {
                 self.word(text)?;
                 self.text("; ")
             }
-            Decl::Pins { names, numbers, attributes } => self.declared(
+            Decl::Pins {
+                names,
+                numbers,
+                attributes,
+            } => self.declared(
                 "pin ",
                 names.as_slice(),
                 numbers.as_slice(),
                 attributes.as_slice(),
             ),
-            Decl::Nodes { names, numbers, attributes } => self.declared(
+            Decl::Nodes {
+                names,
+                numbers,
+                attributes,
+            } => self.declared(
                 "node ",
                 names.as_slice(),
                 numbers.as_slice(),

@@ -306,7 +306,14 @@ const REFUSED: [&str; 96] = [
 
 // A source that nests again and again: what stands before, how many nestings that opens, what opens
 // one more with its first token, what stands inside, what closes one, and what stands behind.
-type Nest = (&'static str, u32, &'static str, &'static str, &'static str, &'static str);
+type Nest = (
+    &'static str,
+    u32,
+    &'static str,
+    &'static str,
+    &'static str,
+    &'static str,
+);
 
 #[rattlefmt::skip]
 const NESTS: [Nest; 14] = [
@@ -332,7 +339,7 @@ const LIMIT: u32 = 64;
 fn behind(bytes: usize) -> Place {
     Place {
         line: 1,
-        column: (bytes as u32).saturating_add(1),
+        column: u32::try_from(bytes).unwrap_or(0).saturating_add(1),
     }
 }
 
@@ -381,7 +388,11 @@ fn statements_are_read(rt: HostRuntime) -> Result<(), Fail> {
 fn declarations_are_read(rt: HostRuntime) -> Result<(), Fail> {
     for (text, tree) in DECLARATIONS {
         let source = between(rt.alloc(), "module m ", text, " end")?;
-        assert_eq!(rt; outline(rt.alloc(), source.as_slice())?.as_slice(), tree.as_bytes(), "{text}");
+        assert_eq!(rt;
+            outline(rt.alloc(), source.as_slice())?.as_slice(),
+            tree.as_bytes(),
+            "{text}"
+        );
     }
     Ok(())
 }
@@ -389,7 +400,12 @@ fn declarations_are_read(rt: HostRuntime) -> Result<(), Fail> {
 #[test]
 fn transitions_are_read(rt: HostRuntime) -> Result<(), Fail> {
     for (text, tree) in TRANSITIONS {
-        let source = between(rt.alloc(), "module m state_diagram s state 0: ", text, " end")?;
+        let source = between(
+            rt.alloc(),
+            "module m state_diagram s state 0: ",
+            text,
+            " end",
+        )?;
         let expected = between(rt.alloc(), "diagram: s state 0: ", tree, "")?;
         assert_eq!(rt; outline(rt.alloc(), source.as_slice())?, expected, "{text}");
     }
@@ -399,7 +415,11 @@ fn transitions_are_read(rt: HostRuntime) -> Result<(), Fail> {
 #[test]
 fn modules_are_read(rt: HostRuntime) -> Result<(), Fail> {
     for (text, tree) in MODULES {
-        assert_eq!(rt; outline(rt.alloc(), text.as_bytes())?.as_slice(), tree.as_bytes(), "{text}");
+        assert_eq!(rt;
+            outline(rt.alloc(), text.as_bytes())?.as_slice(),
+            tree.as_bytes(),
+            "{text}"
+        );
     }
     Ok(())
 }
@@ -411,7 +431,10 @@ fn a_token_that_cannot_stand_there_is_refused(rt: HostRuntime) -> Result<(), Fai
         let source = between(rt.alloc(), front, back, "")?;
         let found = parsed(rt.alloc(), source.as_slice())?;
         let expected = ParseFault::Syntax(behind(front.len()));
-        assert!(rt; matches!(found, Err(fault) if fault == expected), "{marked}");
+        assert!(rt;
+            matches!(found, Err(fault) if fault == expected),
+            "{marked}"
+        );
     }
     Ok(())
 }
@@ -438,12 +461,20 @@ fn the_65th_nesting_is_refused(rt: HostRuntime) -> Result<(), Fail> {
         let (before, opened, open, ..) = *nest;
         let count = LIMIT.saturating_sub(opened);
         let source = nested(rt.alloc(), nest, count)?;
-        assert!(rt; parsed(rt.alloc(), source.as_slice())?.is_ok(), "{before} {open}");
+        assert!(rt;
+            parsed(rt.alloc(), source.as_slice())?.is_ok(),
+            "{before} {open}"
+        );
         let deeper = nested(rt.alloc(), nest, count.saturating_add(1))?;
         let found = parsed(rt.alloc(), deeper.as_slice())?;
-        let front = before.len().saturating_add((count as usize).saturating_mul(open.len()));
+        let front = before
+            .len()
+            .saturating_add((count as usize).saturating_mul(open.len()));
         let expected = ParseFault::TooDeep(behind(front));
-        assert!(rt; matches!(found, Err(fault) if fault == expected), "{before} {open}");
+        assert!(rt;
+            matches!(found, Err(fault) if fault == expected),
+            "{before} {open}"
+        );
     }
     Ok(())
 }
