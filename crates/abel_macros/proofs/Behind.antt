@@ -1,0 +1,18 @@
+-- What was read stands before what stands behind it.
+use Rattle.std.proofs.Common.{◌++◌, ◌≡◌, ◌<◌, ◌≤◌, ◌-◌, ℕ, List, Option, Some, None, Bool, true, false, length, take, drop, sym, ap, ◌∙◌, arith, length-drop, inl, inr, ◌⊎◌, refl}
+use Rattle.std.specs.Prelude.{nat_lt, option_map}
+use Rattle.std.proofs.lemmas.Bool.{ltb-true, ltb-false, lt-ltb}
+use Rattle.abel_macros.specs.Gaps.{before, behind_some, given}
+
+pub before_drop : (w : List ℕ) (n : ℕ) → n ≤ length w → before w (drop n w) ≡ take n w
+before_drop w n h = let e : length w - length (drop n w) ≡ n = omega (arith, length-drop n w) in ap (λ (m : ℕ). take m w) e
+
+pub some_read : (w : List ℕ) (n : ℕ) → 0 < n → behind_some n w ≡ Some (drop n w)
+some_read w n h = ap (λ (b : Bool). given b (drop n w)) (lt-ltb 0 n h)
+
+pub none_read : (w : List ℕ) → behind_some 0 w ≡ None
+none_read w = refl
+
+-- texts before those that a reading gives
+abbrev pub behind_all : List (List ℕ) → Option (List (List ℕ) × List ℕ) → Option (List (List ℕ) × List ℕ)
+behind_all front o = option_map (λ r. (front ++ r.0, r.1)) o

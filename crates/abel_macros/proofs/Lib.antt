@@ -1,0 +1,9 @@
+pub mod Behind
+pub mod Tokens
+pub mod Trims
+pub mod Lists
+pub mod Looked
+pub mod Chains
+pub mod Operands
+pub mod Told
+pub mod Examples

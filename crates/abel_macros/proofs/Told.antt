@@ -1,0 +1,30 @@
+-- What a text expands to in at most so many turns, as numbers.
+use Rattle.std.specs.Prelude.{ℕ, zero, suc, ◌+◌, ◌==◌, List, [], ◌∷◌, Result, Ok, Err, if◌then◌else◌}
+use Rattle.abel_macros.specs.Rules.{Cause, TooLong, ExpansionLimit, BadDirective, Unsupported}
+use Rattle.abel_macros.specs.Turns.{Config, turn}
+
+-- a text expands to these bytes, or is refused behind these bytes
+pub data Outcome : Type 0 where
+  Whole : List ℕ → Outcome
+  Stopped : Cause → List ℕ → Outcome
+  Unfinished : Outcome
+
+-- at most so many turns
+abbrev pub outcome : ℕ → Config → Outcome
+outcome zero c = Unfinished
+outcome (suc n) c = elim c.rest [ [] ↦ Whole c.done | b ∷ bs ↦ elim (turn c) [ Ok d ↦ outcome n d | Err cause ↦ Stopped cause c.done ] ]
+
+abbrev place_behind : ℕ → ℕ → List ℕ → List ℕ
+place_behind line column [] = line ∷ column ∷ []
+place_behind line column (b ∷ bs) = if b == 10 then place_behind (line + 1) 1 bs else place_behind line (column + 1) bs
+
+abbrev code : Cause → ℕ
+code TooLong = 1
+code ExpansionLimit = 2
+code BadDirective = 3
+code Unsupported = 4
+
+abbrev pub told : Outcome → List ℕ
+told (Whole w) = 0 ∷ w
+told (Stopped cause w) = code cause ∷ place_behind 1 1 w
+told Unfinished = []

@@ -1,0 +1,22 @@
+-- What is ahead leads to where all leads.
+use Rattle.std.proofs.Common.{◌≡◌, ◌≤◌, ◌<◌, ◌+◌, ◌-◌, ◌*◌, ◌^◌, ◌++◌, length, take, drop, Bool, true, false}
+use Rattle.std.specs.List.{prefix_len}
+use Rattle.std.specs.Char.{is_ascii_alphanumeric}
+use Rattle.text_pieces.specs.Stacks.{ahead, joined}
+use Rattle.abel_lexer.specs.Bytes.{is_blank, is_name_later}
+use Rattle.abel_lexer.specs.Lengths.{quote_end, quoted_len}
+use Rattle.abel_macros.specs.declared.mode.Mode.TheVariants as mode
+use Rattle.abel_macros.specs.Gaps as gaps
+use Rattle.abel_macros.specs.Forms as forms
+use Rattle.abel_macros.proofs.forms.blank_len.Given as goal
+
+abbrev pub invariant-bytes : goal.invariant-bytes
+invariant-bytes l =
+    record {
+      value : l.blanks + prefix_len is_blank (take (l.fn.count - l.blanks) (ahead l.look)) ≡ prefix_len is_blank (take l.fn.count (ahead l.fn.at));
+      most : l.blanks ≤ l.fn.count;
+      some : l.fn.count - l.blanks ≤ length (ahead l.look);
+    }
+
+abbrev pub decreases-bytes : goal.decreases-bytes
+decreases-bytes l = l.fn.count - l.blanks

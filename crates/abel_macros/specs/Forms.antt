@@ -1,0 +1,114 @@
+-- Blocks, arguments, and what stands for a parameter (ABEL-HDL Reference Manual, macros, and the
+-- @IRP directive; how braces, strings and comments are passed is this project's rule).
+use Rattle.std.specs.Prelude.{ℕ, zero, suc, ◌+◌, ◌-◌, Bool, true, false, not, ◌==◌, ◌&&◌, ◌||◌, List, [], ◌∷◌, ◌++◌, length, take, drop, Option, Some, None, if◌then◌else◌}
+use Rattle.std.specs.List.{list_all, prefix_len}
+use Rattle.std.specs.Option.{option_and_then}
+use Rattle.std.specs.Str.{bytes_eq}
+use Rattle.abel_lexer.specs.Bytes.{is_blank, is_name_later, starts}
+use Rattle.abel_lexer.specs.Kinds.{word_head}
+use Rattle.abel_lexer.specs.Lengths.{shaped_len}
+use Rattle.abel_macros.specs.declared.mode.Mode.{Mode}
+use Rattle.abel_macros.specs.declared.mode.Mode.TheVariants as mode
+use Rattle.abel_macros.specs.Gaps.{◌>>=◌, given, starts_byte, rest_of, before, is_plain, quoting, passing, gap, name}
+
+-- ---- blocks
+
+-- how many of a pair of brackets are open behind a byte of the plain text
+abbrev pub nested : ℕ → ℕ → ℕ → ℕ → ℕ
+nested opening shutting inside b = if b == opening then inside + 1 else if b == shutting then inside - 1 else inside
+
+-- how many braces are open behind a byte that stands in such a mode
+abbrev pub braces : Mode → ℕ → ℕ → ℕ
+braces m inside b = if is_plain m then nested 123 125 inside b else inside
+
+-- whether this byte closes the block
+abbrev pub closes_block : Mode → ℕ → ℕ → Bool
+closes_block m inside b = is_plain m && b == 125 && inside == 0
+
+-- from the brace on that closes a block; so many are open within it, and the first byte stands in such a mode
+abbrev pub closing : ℕ → Mode → List ℕ → Option (List ℕ)
+closing inside m [] = None
+closing inside m (b ∷ bs) = if closes_block m inside b then Some (b ∷ bs) else closing (braces m inside b) (passing m b bs) bs
+
+-- a block's text behind its opening brace, and what stands behind its closing brace
+abbrev pub block_inside : List ℕ → Option (List ℕ × List ℕ)
+block_inside text = closing 0 mode.Plain text >>= λ end. Some (before text end, rest_of end)
+
+-- a block's text, blanks and comments before it passed over, and what stands behind it
+abbrev pub block : List ℕ → Option (List ℕ × List ℕ)
+block text = given (starts_byte 123 (gap text)) (rest_of (gap text)) >>= λ inside. block_inside inside
+
+-- ---- arguments
+
+-- a text without the blanks at its end
+abbrev pub trimmed_end : List ℕ → List ℕ
+trimmed_end [] = []
+trimmed_end (b ∷ bs) = if list_all is_blank (b ∷ bs) then [] else b ∷ trimmed_end bs
+
+-- a text without the blanks at both ends
+abbrev pub trimmed : List ℕ → List ℕ
+trimmed text = trimmed_end (drop (prefix_len is_blank text) text)
+
+-- how many parentheses, or brackets, are open behind a byte that stands in such a mode
+abbrev pub open_in : Mode → ℕ → ℕ → ℕ → ℕ → ℕ
+open_in m opening shutting inside b = if is_plain m then nested opening shutting inside b else inside
+
+-- whether this byte ends an argument: the closing parenthesis, or a comma
+abbrev pub ends_argument : ℕ → ℕ → Mode → ℕ → Bool
+ends_argument parens brackets m b = is_plain m && parens == 0 && (b == 41 || b == 44 && brackets == 0)
+
+-- from the byte on that ends the argument; so many parentheses and brackets are open in it
+abbrev pub argument_end : ℕ → ℕ → Mode → List ℕ → Option (List ℕ)
+argument_end parens brackets m [] = None
+argument_end parens brackets m (b ∷ bs) =
+    if ends_argument parens brackets m b then Some (b ∷ bs)
+    else argument_end (open_in m 40 41 parens b) (open_in m 91 93 brackets b) (quoting m b) bs
+
+-- an argument, and what stands behind it: a comma or the closing parenthesis
+abbrev pub argument : List ℕ → Option (List ℕ × List ℕ)
+argument text = argument_end 0 0 mode.Plain text >>= λ end. Some (trimmed (before text end), end)
+
+-- the arguments up to the closing parenthesis, and what stands behind it; at most so many
+abbrev pub arguments_in : ℕ → List ℕ → Option (List (List ℕ) × List ℕ)
+arguments_in zero text = None
+arguments_in (suc most) text =
+    argument text >>= λ a. if starts_byte 41 a.1 then Some (a.0 ∷ [], rest_of a.1) else (arguments_in most (rest_of a.1) >>= λ more. Some (a.0 ∷ more.0, more.1))
+
+-- the arguments in parentheses, blanks and comments before them passed over, and what stands behind
+abbrev pub arguments : List ℕ → Option (List (List ℕ) × List ℕ)
+arguments text = given (starts_byte 40 (gap text)) (rest_of (gap text)) >>= λ inside. arguments_in (length text) inside
+
+-- ---- parameters
+
+-- the names in front of a closing parenthesis, separated by commas, and what stands behind it; at most so many
+abbrev pub parameters_in : ℕ → List ℕ → Option (List (List ℕ) × List ℕ)
+parameters_in zero text = None
+parameters_in (suc most) text =
+    name text >>= λ p.
+    if starts_byte 41 (gap p.1) then Some (p.0 ∷ [], rest_of (gap p.1))
+    else (given (starts_byte 44 (gap p.1)) (rest_of (gap p.1)) >>= λ behind. parameters_in most behind >>= λ ps. Some (p.0 ∷ ps.0, ps.1))
+
+-- what stands for a name: the argument in the place of the first such parameter
+abbrev pub standing_for : List (List ℕ) → List (List ℕ) → List ℕ → Option (List ℕ)
+standing_for [] found p = None
+standing_for (q ∷ qs) [] p = None
+standing_for (q ∷ qs) (a ∷ found) p = if bytes_eq q p then Some a else standing_for qs found p
+
+-- the name behind a `?`; empty if there is none
+abbrev pub asked : List ℕ → List ℕ
+asked bs = take (shaped_len word_head is_name_later bs) bs
+
+-- a block's text where each `?p` is replaced by its argument and other bytes stay; so many bytes at
+-- the front are of a name that was replaced
+abbrev pub replaced : (List ℕ → Option (List ℕ)) → ℕ → List ℕ → List ℕ
+replaced argument left [] = []
+replaced argument (suc left) (b ∷ bs) = replaced argument left bs
+replaced argument zero (b ∷ bs) =
+    elim (b == 63) [
+      | false ↦ b ∷ replaced argument 0 bs
+      | true ↦
+          elim (argument (asked bs)) [
+            | None ↦ b ∷ replaced argument 0 bs
+            | Some a ↦ a ++ replaced argument (length (asked bs)) bs
+          ]
+    ]

@@ -1,0 +1,89 @@
+//! Where a byte stands: in the plain text, in a string or in a comment.
+
+ghost use Rattle.std.specs.Prelude.{◌≡◌};
+ghost use Rattle.text_pieces.specs.Stacks.{ahead};
+ghost use Rattle.abel_macros.specs.Gaps as spec;
+
+use crate::scan::is_next;
+use text_pieces::Ahead;
+
+/// Where a byte stands.
+#[derive(Clone, Copy, Debug, PartialEq, Eq)]
+pub enum Mode {
+    /// In the plain text.
+    Plain,
+    /// In a string.
+    Quoted,
+    /// In a string, behind a backslash.
+    Escaped,
+    /// In a comment that began with `"`.
+    Note,
+    /// In a comment that began with `//`.
+    Line,
+}
+
+impl Mode {
+    /// Whether a byte stands in the plain text.
+    pub fn is_plain(self) -> bool
+        ensures { result ≡ spec.is_plain self }
+    {
+        match self {
+            Mode::Plain => true,
+            Mode::Quoted | Mode::Escaped | Mode::Note | Mode::Line => false,
+        }
+    }
+
+    /// Where the byte behind this one stands, comments not counting in the plain text.
+    pub fn quoting(self, byte: u8) -> Mode
+        ensures { result ≡ spec.quoting self byte }
+    {
+        match self {
+            Mode::Plain => {
+                if byte == b'\'' {
+                    Mode::Quoted
+                } else {
+                    Mode::Plain
+                }
+            }
+            Mode::Quoted => {
+                if byte == b'\\' {
+                    Mode::Escaped
+                } else if byte == b'\'' {
+                    Mode::Plain
+                } else {
+                    Mode::Quoted
+                }
+            }
+            Mode::Escaped => Mode::Quoted,
+            Mode::Note => {
+                if byte == b'"' || byte == b'\n' {
+                    Mode::Plain
+                } else {
+                    Mode::Note
+                }
+            }
+            Mode::Line => {
+                if byte == b'\n' {
+                    Mode::Plain
+                } else {
+                    Mode::Line
+                }
+            }
+        }
+    }
+
+    /// Where the byte behind the passed one stands, comments counting too.
+    pub fn passing(self, byte: u8, at: &Ahead) -> Mode
+        ensures { result ≡ spec.passing self byte (ahead at.now) }
+    {
+        if !self.is_plain() {
+            self.quoting(byte)
+        } else if byte == b'"' {
+            Mode::Note
+        } else if byte == b'/' && is_next(at, b'/') {
+            Mode::Line
+        } else {
+            self.quoting(byte)
+        }
+    }
+}
