@@ -1,9 +1,7 @@
 //! A look ahead at a text in pieces, byte by byte.
 
-ghost use Rattle.std.specs.Prelude.{◌≡◌, ℕ, ◌+◌, ◌<◌, ◌≤◌, ◌^◌, List, [], ◌∷◌, length, take, drop, IfOk, IfSome, IfNone, true, false};
-ghost use Rattle.std.specs.Prelude.{◌++◌};
-ghost use Rattle.text_pieces.specs.Stacks.{ahead, joined, stacked};
-ghost use Rattle.text_pieces.specs.Stacks.{rest_of};
+ghost use Rattle.std.specs.Prelude.{◌≡◌, ℕ, ◌+◌, ◌<◌, ◌≤◌, ◌^◌, List, [], ◌∷◌, ◌++◌, length, take, drop, IfOk, IfSome, IfNone, true, false};
+ghost use Rattle.text_pieces.specs.Stacks.{ahead, joined, rest_of, stacked};
 
 use std::alloc::{AllocError, Global};
 use std::marker::Model;

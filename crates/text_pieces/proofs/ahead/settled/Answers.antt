@@ -1,3 +1,4 @@
+-- A piece that holds nothing is passed.
 use Rattle.std.proofs.Common.{◌-◌, length, arith, length-take}
 use Rattle.text_pieces.proofs.Stacked.{next_piece}
 use Rattle.text_pieces.proofs.ahead.settled.Goals as goal

@@ -1,3 +1,4 @@
+-- Pieces that hold nothing are passed: the text stays.
 use Rattle.std.proofs.Common.{◌≡◌, ◌≤◌, ◌++◌, length}
 use Rattle.text_pieces.specs.Stacks.{stacked}
 use Rattle.text_pieces.proofs.ahead.settled.Given as goal

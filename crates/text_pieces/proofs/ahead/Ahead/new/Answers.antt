@@ -1,3 +1,4 @@
+-- A look from the front of a text stands there.
 use Rattle.std.proofs.Common.{arith, ◌≤◌, length}
 use Rattle.text_pieces.proofs.ahead.Ahead.new.Goals as goal
 

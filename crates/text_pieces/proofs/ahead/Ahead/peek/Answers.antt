@@ -1,3 +1,4 @@
+-- The first byte of the piece is the next one.
 use Rattle.std.proofs.Common.{◌≡◌, List, ℕ, ap, ◌∙◌, sym, arith, drop, ◌+◌, ◌++◌}
 use Rattle.text_pieces.specs.Stacks.{ahead, stacked}
 use Rattle.text_pieces.proofs.Stacked.{passes}

@@ -1,3 +1,4 @@
+-- The second byte, in this piece or at the front of the next.
 use Rattle.std.proofs.Common.{◌≡◌, List, ℕ, ap, ◌∙◌, sym, subst, arith, drop, ◌∷◌, ◌+◌, ◌++◌, get_or}
 use Rattle.text_pieces.specs.Stacks.{ahead, stacked, Look}
 use Rattle.text_pieces.proofs.Stacked.{two_of, one_then}

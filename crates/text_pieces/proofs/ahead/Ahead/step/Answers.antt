@@ -1,3 +1,4 @@
+-- One byte is passed, and the pieces that hold nothing behind it.
 use Rattle.std.proofs.Common.{◌≡◌, ◌<◌, ◌≤◌, List, [], ℕ, ap, ◌∙◌, sym, arith, drop, ◌+◌, ◌-◌, ◌++◌, length, length-take}
 use Rattle.text_pieces.specs.Stacks.{ahead, stacked}
 use Rattle.text_pieces.proofs.Stacked.{passes, next_piece, emptied, is_nothing}

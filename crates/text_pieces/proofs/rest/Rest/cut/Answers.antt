@@ -1,3 +1,4 @@
+-- A piece more, and the last one.
 use Rattle.std.proofs.Common.{◌≡◌, ◌+◌, ◌++◌, ◌∙◌, ap, List, ℕ, length, take, sym, arith}
 use Rattle.std.proofs.lemmas.List.{take-append-le}
 use Rattle.text_pieces.specs.Stacks.{stacked, joined}

@@ -1,3 +1,4 @@
+-- The pieces taken, with what is left of the front, are the front.
 use Rattle.std.proofs.Common.{◌≡◌, ◌<◌, ◌≤◌, ◌^◌, ◌++◌, length, drop, take}
 use Rattle.text_pieces.specs.Stacks.{stacked, joined}
 use Rattle.text_pieces.proofs.rest.Rest.cut.Given as goal

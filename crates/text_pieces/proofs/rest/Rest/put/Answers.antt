@@ -1,3 +1,4 @@
+-- One piece more stands before the rest.
 use Rattle.std.proofs.Common.{◌≡◌, ◌+◌, ◌++◌, ◌∙◌, ap, List, ℕ, sym, length, arith, length-append}
 use Rattle.text_pieces.specs.Stacks.{stacked}
 use Rattle.text_pieces.proofs.Stacked.{stacked-push}

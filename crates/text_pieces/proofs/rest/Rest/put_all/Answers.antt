@@ -1,3 +1,4 @@
+-- The last of the pieces stands before the rest, and the others before it.
 use Rattle.std.proofs.Common.{◌≡◌, ◌+◌, ◌-◌, ◌++◌, ◌∙◌, ap, List, [], ℕ, sym, length, take, get_or, arith, length-append, length-take, append_assoc}
 use Rattle.text_pieces.specs.Stacks.{joined}
 use Rattle.text_pieces.proofs.Pieces.{joined_split, split_lengths}

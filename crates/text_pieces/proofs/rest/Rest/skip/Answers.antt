@@ -1,3 +1,4 @@
+-- What is left to pass lies behind the first piece.
 use Rattle.std.proofs.Common.{◌≡◌, ◌+◌, ◌++◌, length, arith}
 use Rattle.text_pieces.specs.Stacks.{stacked}
 use Rattle.text_pieces.proofs.Pieces.{skipped, lengths}

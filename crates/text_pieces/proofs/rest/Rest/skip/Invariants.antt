@@ -1,3 +1,4 @@
+-- The bytes that are left to pass lead to where all lead.
 use Rattle.std.proofs.Common.{◌≡◌, ◌<◌, ◌≤◌, ◌^◌, ◌++◌, length, drop}
 use Rattle.text_pieces.specs.Stacks.{stacked}
 use Rattle.text_pieces.proofs.rest.Rest.skip.Given as goal

@@ -1,3 +1,4 @@
+-- The first byte, from the first piece that holds one.
 use Rattle.std.proofs.Common.{◌∙◌, arith}
 use Rattle.text_pieces.specs.Stacks.{stacked}
 use Rattle.text_pieces.proofs.Stacked.{emptied}
