@@ -69,6 +69,7 @@ const VALUES: [(&[u8], Option<u32>, usize); 40] = [
 fn an_expression_says_its_value(rt: HostRuntime) -> Result<(), Fail> {
     let tables = defined(rt.alloc())?;
     for (text, value, behind) in VALUES {
+        assert!(rt; text.len() <= 1_048_576);
         let rest = Rest::new(rt.alloc(), text);
         let mut at = rest.ahead();
         let found = read_value(rt.alloc(), &mut at, &tables)?;
