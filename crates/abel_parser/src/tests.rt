@@ -335,6 +335,9 @@ const NESTS: [Nest; 14] = [
 
 const LIMIT: u32 = 64;
 
+// More bytes than any row has.
+const LONGEST: usize = 100_000;
+
 /// The place in the first line behind so many bytes.
 fn behind(bytes: usize) -> Place {
     Place {
@@ -344,6 +347,9 @@ fn behind(bytes: usize) -> Place {
 }
 
 fn parsed(alloc: Global, source: &[u8]) -> Result<Result<Module, ParseFault>, Fail> {
+    if source.len() > LONGEST {
+        return Err("the source is too long".into());
+    }
     let tokens = scan(alloc, source)?;
     Ok(parse(alloc, tokens.as_slice(), behind(source.len())))
 }
