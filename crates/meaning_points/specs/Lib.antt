@@ -21,11 +21,13 @@ pub mod EitherValue
 pub mod EnablePin
 pub mod Enables
 pub mod Extensions
+pub mod FirstRegisters
 pub mod FiveStates
 pub mod FiveStatesDontCare
 pub mod FoldedReads
 pub mod GuardedStatements
 pub mod InvertedReset
+pub mod LastRegisters
 pub mod LowNames
 pub mod NestedGuards
 pub mod NestedHeader
@@ -55,4 +57,5 @@ pub mod TwoBitCounter
 pub mod TwoInverters
 pub mod UnknownPositions
 pub mod WideSets
+pub mod WideSetsSource
 pub mod WrappingSums

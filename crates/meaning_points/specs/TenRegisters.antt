@@ -16,7 +16,7 @@
 -- q8 := !i8 & i5 & q8 # q8 & !i4 & !i4 # i1 & q3 & !i8 # i7 & !q5 & !q5 # q5 & !q3 & q8 # !i8 & q4 & !q1 # !q1 & i8 & !q7 # !i9 & !q0 & !i9;
 -- q9 := !q9 & !q1 & !i7 # !i6 & !i5 & !i7 # !i5 & !q6 & q6 # i8 & q9 & !i2 # i9 & !q8 & i1 # !q8 & i7 & q9 # !i6 & q1 & !q3 # q1 & !i6 & q6;
 -- end
-use Rattle.std.specs.Prelude.{◌≡◌, [], ◌∷◌, codes}
+use Rattle.std.specs.Prelude.{◌≡◌, [], ◌∷◌, ◌++◌, codes}
 use Rattle.std.specs.Fmt.{digits}
 use Rattle.std.proofs.Common.{refl}
 use Rattle.bit_expr.specs.Folding.{make_not, make_and, make_or, make_xor}
@@ -26,8 +26,10 @@ use Rattle.abel_meaning.specs.SourceLogic.{source_logic}
 use Rattle.abel_meaning.specs.CountedBlocks.{units_of}
 use Rattle.meaning_points.specs.Answers.{all_reads, all_trees, answers, logic_answers, name_codes, point}
 use Rattle.gal22v10_device.specs.Gal22V10Table.{gal22v10}
-use Rattle.meaning_points.specs.Constructs.{module_of, clocked, device, item, pin, pins}
-use Rattle.meaning_points.specs.Trees.{both, complement, either, name, word}
+use Rattle.meaning_points.specs.Constructs.{module_of, device, item, pin, pins}
+use Rattle.meaning_points.specs.FirstRegisters.{first_equations}
+use Rattle.meaning_points.specs.LastRegisters.{last_equations}
+use Rattle.meaning_points.specs.Trees.{word}
 
 -- the module as a tree
 abbrev source : ModuleTree
@@ -63,192 +65,7 @@ source =
     (pin 23 ∷ pin 22 ∷ pin 21 ∷ pin 20 ∷ pin 19 ∷ pin 18 ∷ pin 17 ∷ pin 16 ∷ pin 15 ∷ pin 14 ∷ [])
     (word "'reg,buffer'" ∷ [])
     ∷ [])
-    (Equations
-    (clocked (name "q0")
-    (either
-    (either
-    (either
-    (either
-    (either
-    (either
-    (either
-    (both (both (name "q8") (complement (name "q3")))
-    (complement (name "q1")))
-    (both (both (complement (name "q0")) (name "q2"))
-    (complement (name "i9"))))
-    (both (both (name "i4") (complement (name "i5")))
-    (complement (name "i9"))))
-    (both (both (name "q7") (name "i6")) (complement (name "q5"))))
-    (both (both (name "i7") (complement (name "q1"))) (name "i2")))
-    (both (both (complement (name "i4")) (name "q4")) (complement (name "q1"))))
-    (both (both (complement (name "q4")) (name "i1")) (name "i8")))
-    (both (both (complement (name "i5")) (name "i7")) (complement (name "i5"))))
-    ∷ clocked (name "q1")
-    (either
-    (either
-    (either
-    (either
-    (either
-    (either
-    (either
-    (both (both (name "i2") (name "q3")) (complement (name "i4")))
-    (both (both (name "i2") (complement (name "i2")))
-    (complement (name "q7"))))
-    (both (both (complement (name "q9")) (name "q1"))
-    (complement (name "q0"))))
-    (both (both (complement (name "i8")) (name "i9")) (name "i6")))
-    (both (both (name "q8") (name "q4")) (complement (name "q6"))))
-    (both (both (name "i1") (name "i3")) (name "q3")))
-    (both (both (complement (name "i0")) (complement (name "q1")))
-    (complement (name "q6"))))
-    (both (both (complement (name "i0")) (name "i9")) (complement (name "q5"))))
-    ∷ clocked (name "q2")
-    (either
-    (either
-    (either
-    (either
-    (either
-    (either
-    (either
-    (both (both (complement (name "q4")) (complement (name "i8")))
-    (complement (name "i2")))
-    (both (both (complement (name "q4")) (complement (name "i2")))
-    (complement (name "i6"))))
-    (both (both (name "i6") (name "q1")) (name "q3")))
-    (both (both (name "q3") (name "i8")) (complement (name "i0"))))
-    (both (both (name "q6") (complement (name "i6"))) (name "q3")))
-    (both (both (complement (name "q1")) (complement (name "i6"))) (name "i5")))
-    (both (both (name "q0") (complement (name "q2"))) (name "i0")))
-    (both (both (name "q9") (complement (name "i5"))) (complement (name "i5"))))
-    ∷ clocked (name "q3")
-    (either
-    (either
-    (either
-    (either
-    (either
-    (either
-    (either
-    (both (both (complement (name "q4")) (complement (name "q6")))
-    (complement (name "i3")))
-    (both (both (complement (name "q9")) (complement (name "i3")))
-    (name "i5")))
-    (both (both (complement (name "q3")) (complement (name "q3")))
-    (complement (name "q9"))))
-    (both (both (name "q3") (complement (name "i6"))) (name "i6")))
-    (both (both (name "q6") (name "q8")) (complement (name "q3"))))
-    (both (both (complement (name "q1")) (name "q2")) (complement (name "q1"))))
-    (both (both (name "i2") (complement (name "i8"))) (complement (name "i3"))))
-    (both (both (name "i1") (name "q5")) (complement (name "i3"))))
-    ∷ clocked (name "q4")
-    (either
-    (either
-    (either
-    (either
-    (either
-    (either
-    (either
-    (both (both (complement (name "i4")) (complement (name "q3")))
-    (name "i1"))
-    (both (both (name "i5") (name "i3")) (complement (name "q0"))))
-    (both (both (name "q9") (name "i7")) (complement (name "i5"))))
-    (both (both (name "i2") (name "q1")) (name "q2")))
-    (both (both (complement (name "q4")) (name "i7")) (complement (name "q8"))))
-    (both (both (name "i6") (complement (name "q2"))) (complement (name "i8"))))
-    (both (both (complement (name "q1")) (name "q2")) (name "q1")))
-    (both (both (name "i8") (name "i9")) (complement (name "q1"))))
-    ∷ clocked (name "q5")
-    (either
-    (either
-    (either
-    (either
-    (either
-    (either
-    (either
-    (both (both (complement (name "q5")) (name "i4"))
-    (complement (name "q2")))
-    (both (both (name "q9") (name "q0")) (name "q5")))
-    (both (both (complement (name "q1")) (name "i1")) (name "q0")))
-    (both (both (name "q1") (complement (name "i1"))) (name "i9")))
-    (both (both (complement (name "i6")) (complement (name "i8")))
-    (complement (name "i1"))))
-    (both (both (name "q9") (complement (name "q4"))) (complement (name "i2"))))
-    (both (both (name "i8") (name "i5")) (complement (name "i9"))))
-    (both (both (complement (name "i9")) (name "i8")) (complement (name "q3"))))
-    ∷ clocked (name "q6")
-    (either
-    (either
-    (either
-    (either
-    (either
-    (either
-    (either
-    (both (both (name "q9") (name "q4")) (complement (name "i9")))
-    (both (both (name "q7") (complement (name "q1")))
-    (complement (name "q4"))))
-    (both (both (complement (name "q0")) (name "i9")) (name "q2")))
-    (both (both (complement (name "i0")) (name "q5")) (name "i5")))
-    (both (both (complement (name "i3")) (complement (name "i8")))
-    (complement (name "q9"))))
-    (both (both (complement (name "q4")) (name "i0")) (complement (name "i9"))))
-    (both (both (complement (name "i9")) (name "q6")) (complement (name "q9"))))
-    (both (both (name "i9") (complement (name "q7"))) (name "q1")))
-    ∷ clocked (name "q7")
-    (either
-    (either
-    (either
-    (either
-    (either
-    (either
-    (either
-    (both (both (complement (name "i3")) (name "i9")) (name "q7"))
-    (both (both (complement (name "i4")) (complement (name "i2")))
-    (complement (name "i6"))))
-    (both (both (complement (name "i7")) (name "i3")) (name "i2")))
-    (both (both (name "q5") (name "i4")) (name "i5")))
-    (both (both (complement (name "i8")) (name "q8")) (complement (name "q6"))))
-    (both (both (complement (name "i6")) (complement (name "i1")))
-    (complement (name "q8"))))
-    (both (both (complement (name "i7")) (name "q0")) (complement (name "i0"))))
-    (both (both (name "i8") (complement (name "i4"))) (name "i5")))
-    ∷ clocked (name "q8")
-    (either
-    (either
-    (either
-    (either
-    (either
-    (either
-    (either
-    (both (both (complement (name "i8")) (name "i5")) (name "q8"))
-    (both (both (name "q8") (complement (name "i4")))
-    (complement (name "i4"))))
-    (both (both (name "i1") (name "q3")) (complement (name "i8"))))
-    (both (both (name "i7") (complement (name "q5")))
-    (complement (name "q5"))))
-    (both (both (name "q5") (complement (name "q3"))) (name "q8")))
-    (both (both (complement (name "i8")) (name "q4")) (complement (name "q1"))))
-    (both (both (complement (name "q1")) (name "i8")) (complement (name "q7"))))
-    (both (both (complement (name "i9")) (complement (name "q0"))) (complement (name "i9"))))
-    ∷ clocked (name "q9")
-    (either
-    (either
-    (either
-    (either
-    (either
-    (either
-    (either
-    (both (both (complement (name "q9")) (complement (name "q1")))
-    (complement (name "i7")))
-    (both (both (complement (name "i6")) (complement (name "i5")))
-    (complement (name "i7"))))
-    (both (both (complement (name "i5")) (complement (name "q6")))
-    (name "q6")))
-    (both (both (name "i8") (name "q9")) (complement (name "i2"))))
-    (both (both (name "i9") (complement (name "q8"))) (name "i1")))
-    (both (both (complement (name "q8")) (name "i7")) (name "q9")))
-    (both (both (complement (name "i6")) (name "q1")) (complement (name "q3"))))
-    (both (both (name "q1") (complement (name "i6"))) (name "q6")))
-    ∷ [])
-    ∷ [])
+    (Equations (first_equations ++ last_equations) ∷ [])
 
 -- what each name is
 names : name_codes (design_of gal22v10 source)

@@ -1,0 +1,102 @@
+-- The equations of the first five of ten registers, as trees (the source stands at the head of TenRegisters).
+use Rattle.std.specs.Prelude.{List, [], ◌∷◌}
+use Rattle.abel_tree.specs.Tree.{Statement}
+use Rattle.meaning_points.specs.Constructs.{clocked}
+use Rattle.meaning_points.specs.Trees.{both, complement, either, name}
+
+-- the equations of these registers
+abbrev pub first_equations : List Statement
+first_equations =
+    clocked (name "q0")
+    (either
+    (either
+    (either
+    (either
+    (either
+    (either
+    (either
+    (both (both (name "q8") (complement (name "q3")))
+    (complement (name "q1")))
+    (both (both (complement (name "q0")) (name "q2"))
+    (complement (name "i9"))))
+    (both (both (name "i4") (complement (name "i5")))
+    (complement (name "i9"))))
+    (both (both (name "q7") (name "i6")) (complement (name "q5"))))
+    (both (both (name "i7") (complement (name "q1"))) (name "i2")))
+    (both (both (complement (name "i4")) (name "q4")) (complement (name "q1"))))
+    (both (both (complement (name "q4")) (name "i1")) (name "i8")))
+    (both (both (complement (name "i5")) (name "i7")) (complement (name "i5"))))
+    ∷ clocked (name "q1")
+    (either
+    (either
+    (either
+    (either
+    (either
+    (either
+    (either
+    (both (both (name "i2") (name "q3")) (complement (name "i4")))
+    (both (both (name "i2") (complement (name "i2")))
+    (complement (name "q7"))))
+    (both (both (complement (name "q9")) (name "q1"))
+    (complement (name "q0"))))
+    (both (both (complement (name "i8")) (name "i9")) (name "i6")))
+    (both (both (name "q8") (name "q4")) (complement (name "q6"))))
+    (both (both (name "i1") (name "i3")) (name "q3")))
+    (both (both (complement (name "i0")) (complement (name "q1")))
+    (complement (name "q6"))))
+    (both (both (complement (name "i0")) (name "i9")) (complement (name "q5"))))
+    ∷ clocked (name "q2")
+    (either
+    (either
+    (either
+    (either
+    (either
+    (either
+    (either
+    (both (both (complement (name "q4")) (complement (name "i8")))
+    (complement (name "i2")))
+    (both (both (complement (name "q4")) (complement (name "i2")))
+    (complement (name "i6"))))
+    (both (both (name "i6") (name "q1")) (name "q3")))
+    (both (both (name "q3") (name "i8")) (complement (name "i0"))))
+    (both (both (name "q6") (complement (name "i6"))) (name "q3")))
+    (both (both (complement (name "q1")) (complement (name "i6"))) (name "i5")))
+    (both (both (name "q0") (complement (name "q2"))) (name "i0")))
+    (both (both (name "q9") (complement (name "i5"))) (complement (name "i5"))))
+    ∷ clocked (name "q3")
+    (either
+    (either
+    (either
+    (either
+    (either
+    (either
+    (either
+    (both (both (complement (name "q4")) (complement (name "q6")))
+    (complement (name "i3")))
+    (both (both (complement (name "q9")) (complement (name "i3")))
+    (name "i5")))
+    (both (both (complement (name "q3")) (complement (name "q3")))
+    (complement (name "q9"))))
+    (both (both (name "q3") (complement (name "i6"))) (name "i6")))
+    (both (both (name "q6") (name "q8")) (complement (name "q3"))))
+    (both (both (complement (name "q1")) (name "q2")) (complement (name "q1"))))
+    (both (both (name "i2") (complement (name "i8"))) (complement (name "i3"))))
+    (both (both (name "i1") (name "q5")) (complement (name "i3"))))
+    ∷ clocked (name "q4")
+    (either
+    (either
+    (either
+    (either
+    (either
+    (either
+    (either
+    (both (both (complement (name "i4")) (complement (name "q3")))
+    (name "i1"))
+    (both (both (name "i5") (name "i3")) (complement (name "q0"))))
+    (both (both (name "q9") (name "i7")) (complement (name "i5"))))
+    (both (both (name "i2") (name "q1")) (name "q2")))
+    (both (both (complement (name "q4")) (name "i7")) (complement (name "q8"))))
+    (both (both (name "i6") (complement (name "q2"))) (complement (name "i8"))))
+    (both (both (complement (name "q1")) (name "q2")) (name "q1")))
+    (both (both (name "i8") (name "i9")) (complement (name "q1"))))
+    ∷ []
