@@ -6,7 +6,7 @@ ghost use Rattle.grammar.specs.Further.{read_unless};
 ghost use Rattle.abel_tree.specs.View.{view_decl, view_state, view_section};
 ghost use Rattle.abel_syntax.specs.Gives.{Gives};
 ghost use Rattle.abel_syntax.specs.Terminals.{among};
-ghost use Rattle.abel_syntax.specs.Modules.{last_is_bare, takes_dont_care, group_of};
+ghost use Rattle.abel_syntax.specs.Modules.{last_is_bare, takes_dont_care, section_group_of};
 ghost use Rattle.abel_syntax.specs.ModuleReaders.{read_declarations, read_equations, read_proper, read_dont_care_section, read_sections};
 
 use crate::declarations::decls;
@@ -152,7 +152,7 @@ fn group<'a>(
     depth: u8,
 ) -> Result<(Vec<Section>, &'a [Token]), Halt<'a>>
     ensures { Gives (λ x. (map view_section x.0.items, x.1.now)) result
-        (read_made group_of (read_followed (read_proper depth) (λ s. read_unless (takes_dont_care s) []
+        (read_made section_group_of (read_followed (read_proper depth) (λ s. read_unless (takes_dont_care s) []
         (read_repeated (among (Terminal.DontCare ∷ [])) read_dont_care_section))) tokens.now) }
 {
     let (first, rest) = proper(alloc, tokens, depth)?;

@@ -14,7 +14,7 @@ use Rattle.abel_syntax.specs.declared.terminal.Terminal.TheVariants.{Identifier,
 use Rattle.abel_syntax.specs.Terminals.{number_of, terminal_of, among}
 use Rattle.abel_syntax.specs.Words.{one, each_apart_by, name, number, text, ext, word_of, numeral_of, end, dont_care, dont_care_of}
 use Rattle.abel_syntax.specs.WordReaders.{read_one, read_apart_by, read_name, read_number, read_text, read_ext, read_end, read_dont_care}
-use Rattle.abel_syntax.specs.Expressions.{name_tree_of, name_tree, number_tree, special_of, special, simple, relations, sums, products, joined, level, expr_over, paren_of, paren, span_of, span_member, member, set_of, set, negated_of, negations, negated, operand, expr, set_at}
+use Rattle.abel_syntax.specs.Expressions.{name_tree_of, name_tree, number_tree, special_of, special, simple, relations, sums, products, joined, level, expr_over, paren_of, paren, span_member_of, span_member, member, set_of, set, negated_of, negations, negated, operand, expr, set_at}
 use Rattle.abel_syntax.specs.ExpressionReaders.{read_name_tree, read_number_tree, read_special, read_simple, read_link, read_level, read_expr_over, read_paren, read_span_member, read_member, read_set, read_negated, read_operand, read_expr, read_set_at}
 use Rattle.abel_syntax.proofs.Sets.{Obeys, Keeps, disjoint, one_laws, some_laws, then_laws, or_laws, perhaps, turned, apart_laws, widened, too_deep}
 
@@ -125,7 +125,7 @@ module _ (e e' : Form Token Tree) (r r' : Reader Token Tree) (le : Obeys e e' r 
 pub span_member_laws : Keeps span_member read_span_member (Identifier ∷ []) [] false
 unfolding span_member read_span_member
 span_member_laws =
-    turned span_of (Identifier ∷ []) [] false
+    turned span_member_of (Identifier ∷ []) [] false
     (then_laws (Identifier ∷ []) [] (Range ∷ []) [] false false name_laws
     (then_laws (Range ∷ []) [] (Identifier ∷ []) [] false false (one_laws Range) name_laws refl) refl)
 

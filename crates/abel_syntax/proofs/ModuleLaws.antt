@@ -21,7 +21,7 @@ use Rattle.abel_syntax.specs.Declarations.{option_words}
 use Rattle.abel_syntax.specs.DeclarationReaders.{decl_starts, other_starts}
 use Rattle.abel_syntax.specs.Diagrams.{trans, state_of, state, diagram_of, diagram}
 use Rattle.abel_syntax.specs.DiagramReaders.{trans_starts, read_trans, read_state, read_diagram}
-use Rattle.abel_syntax.specs.Modules.{options, declarations_of, declarations, equations_of, equations, proper, dont_care_section, is_empty, last_is_bare, takes_dont_care, group_of, sections, decls_of, first_decls, title_of, title, module_of, source}
+use Rattle.abel_syntax.specs.Modules.{options, declarations_of, declarations, equations_of, equations, proper, dont_care_section, is_empty, last_is_bare, takes_dont_care, section_group_of, sections, decls_of, first_decls, title_of, title, module_of, source}
 use Rattle.abel_syntax.specs.ModuleReaders.{read_options, read_declarations, read_equations, read_proper, read_dont_care_section, proper_starts, read_sections, read_first_decls, read_title, read_source}
 use Rattle.abel_syntax.proofs.Sets.{Obeys, Keeps, one_laws, then_laws, perhaps, any_number, turned, led_by, led_by_less, or_trails, trails}
 use Rattle.abel_syntax.proofs.ExpressionLaws.{exprs, behind_expr, name_laws, text_laws, end_laws, dont_care_laws, expr_laws}
@@ -258,7 +258,7 @@ groups_laws n =
 
 sections_laws : (n : ℕ) → Obeys (sections n) (sections (suc n)) (read_sections n) (read_sections (suc n)) proper_starts (proper_starts ++ behind_group) true
 unfolding sections read_sections
-sections_laws n = turned flatten proper_starts (proper_starts ++ behind_group) true (any_number proper_starts behind_group (turned group_of proper_starts behind_group false (groups_laws n)) refl)
+sections_laws n = turned flatten proper_starts (proper_starts ++ behind_group) true (any_number proper_starts behind_group (turned section_group_of proper_starts behind_group false (groups_laws n)) refl)
 
 -- ---- the module
 

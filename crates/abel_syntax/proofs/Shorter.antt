@@ -13,7 +13,7 @@ use Rattle.abel_syntax.specs.StatementReaders.{read_stmt}
 use Rattle.abel_syntax.specs.DeclarationReaders.{read_item, read_num, read_option, read_decl}
 use Rattle.abel_syntax.specs.DiagramReaders.{read_arm, read_choice, read_trans, read_state}
 use Rattle.abel_syntax.specs.TableReaders.{read_row, read_vector_row}
-use Rattle.abel_syntax.specs.Modules.{group_of}
+use Rattle.abel_syntax.specs.Modules.{section_group_of}
 use Rattle.abel_syntax.specs.ModuleReaders.{read_dont_care_section, read_section_group, proper_starts}
 use Rattle.abel_syntax.proofs.Sets.{shorter_by, turned}
 use Rattle.abel_syntax.proofs.TableLaws.{table_row_laws, vector_row_laws}
@@ -72,4 +72,4 @@ pub dont_care_section_shorter : (ts : List Token) (x : SectionTree × List Token
 dont_care_section_shorter = shorter_by _ _ dont_care_section_laws
 
 pub section_group_shorter : (n : ℕ) (ts : List Token) (x : List SectionTree × List Token) → read_section_group n ts ≡ Ok x → length x.1 < length ts
-section_group_shorter n = shorter_by _ _ (turned group_of proper_starts behind_group false (groups_laws n))
+section_group_shorter n = shorter_by _ _ (turned section_group_of proper_starts behind_group false (groups_laws n))

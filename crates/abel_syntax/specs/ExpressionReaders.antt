@@ -8,7 +8,7 @@ use Rattle.abel_syntax.specs.declared.terminal.Terminal.{Terminal}
 use Rattle.abel_syntax.specs.declared.terminal.Terminal.TheVariants as terminal
 use Rattle.abel_syntax.specs.Terminals.{among}
 use Rattle.abel_syntax.specs.WordReaders.{read_one, read_apart_by, read_name, read_number, read_ext}
-use Rattle.abel_syntax.specs.Expressions.{name_tree_of, special_of, relations, sums, products, joined, paren_of, span_of, set_of, negated_of, negations}
+use Rattle.abel_syntax.specs.Expressions.{name_tree_of, special_of, relations, sums, products, joined, paren_of, span_member_of, set_of, negated_of, negations}
 
 unfoldable pub read_name_tree : Reader Token Tree
 read_name_tree = read_made name_tree_of (read_name then_read read_ext)
@@ -37,7 +37,7 @@ unfoldable pub read_paren : Reader Token Tree → Reader Token Tree
 read_paren expr = read_made paren_of (read_one terminal.Open then_read expr then_read read_one terminal.Close)
 
 unfoldable pub read_span_member : Reader Token SetMember
-read_span_member = read_made span_of (read_name then_read read_one terminal.Range then_read read_name)
+read_span_member = read_made span_member_of (read_name then_read read_one terminal.Range then_read read_name)
 
 -- a range where a name and `..` stand there
 unfoldable pub read_member : Reader Token Tree → Reader Token SetMember

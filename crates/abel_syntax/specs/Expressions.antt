@@ -98,11 +98,11 @@ unfoldable pub paren : Form Token Tree → Form Token Tree
 paren expr = made paren_of (one terminal.Open then expr then one terminal.Close)
 
 -- member = expr | id .. id
-abbrev pub span_of : Word × (Token × Word) → SetMember
-span_of x = SpanMember x.0 x.1.1
+abbrev pub span_member_of : Word × (Token × Word) → SetMember
+span_member_of x = SpanMember x.0 x.1.1
 
 unfoldable pub span_member : Form Token SetMember
-span_member = made span_of (name then one terminal.Range then name)
+span_member = made span_member_of (name then one terminal.Range then name)
 
 abbrev pub member : Form Token Tree → Form Token SetMember
 member expr = either span_member (made OneMember expr)

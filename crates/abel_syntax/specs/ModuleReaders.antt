@@ -14,7 +14,7 @@ use Rattle.abel_syntax.specs.Declarations.{option_words}
 use Rattle.abel_syntax.specs.DeclarationReaders.{read_option, read_decl, read_other_decl, decl_starts, other_starts}
 use Rattle.abel_syntax.specs.TableReaders.{read_table, read_vectors}
 use Rattle.abel_syntax.specs.DiagramReaders.{read_diagram}
-use Rattle.abel_syntax.specs.Modules.{declarations_of, equations_of, takes_dont_care, group_of, decls_of, title_of, module_of}
+use Rattle.abel_syntax.specs.Modules.{declarations_of, equations_of, takes_dont_care, section_group_of, decls_of, title_of, module_of}
 
 unfoldable pub read_declarations : ℕ → Reader Token SectionTree
 read_declarations n = read_made declarations_of (read_one terminal.Declarations then_read read_repeated (among decl_starts) (read_decl n))
@@ -40,7 +40,7 @@ abbrev pub read_free : Bool → Reader Token (List SectionTree)
 read_free taken = read_unless taken [] (read_repeated (among (terminal.DontCare ∷ [])) read_dont_care_section)
 
 abbrev pub read_section_group : ℕ → Reader Token (List SectionTree)
-read_section_group n = read_made group_of (read_followed (read_proper n) (λ s. read_free (takes_dont_care s)))
+read_section_group n = read_made section_group_of (read_followed (read_proper n) (λ s. read_free (takes_dont_care s)))
 
 unfoldable pub read_sections : ℕ → Reader Token (List SectionTree)
 read_sections n = read_made flatten (read_repeated (among proper_starts) (read_section_group n))

@@ -51,13 +51,13 @@ takes_dont_care (SomeVectors t p i o rows) = false
 takes_dont_care (DontCareSection d) = false
 
 -- a section, and the dc behind it that are sections; before the first section a dc is a declaration
-abbrev pub group_of : SectionTree × List SectionTree → List SectionTree
-group_of x = x.0 ∷ x.1
+abbrev pub section_group_of : SectionTree × List SectionTree → List SectionTree
+section_group_of x = x.0 ∷ x.1
 
 unfoldable pub sections : ℕ → Form Token (List SectionTree)
 sections n =
     made flatten
-    (repeated (made group_of (followed (proper n) (λ s. unless (takes_dont_care s) [] (repeated dont_care_section)))))
+    (repeated (made section_group_of (followed (proper n) (λ s. unless (takes_dont_care s) [] (repeated dont_care_section)))))
 
 -- {option}
 unfoldable pub options : Form Token (List Word)
