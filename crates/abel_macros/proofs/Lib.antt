@@ -6,4 +6,6 @@ pub mod Looked
 pub mod Chains
 pub mod Operands
 pub mod Told
-pub mod Examples
+pub mod MacroExamples
+pub mod ValueExamples
+pub mod DirectiveExamples
