@@ -11,7 +11,7 @@ use Rattle.first_parser.specs.declared.tree.Equation.{Equation}
 use Rattle.first_parser.specs.declared.tree.Product.{Product}
 use Rattle.first_parser.specs.declared.tree.Operand.{Operand}
 use Rattle.first_parser.specs.Terminals.{number_of, terminal_of}
-use Rattle.first_parser.specs.SourceGrammar.{one, each_apart_by, name, number, text, operand_of, operand, product_of, product, equation_of, equation, declaration_of, declaration, head_of, head, equations_in, section, source_of, source}
+use Rattle.first_parser.specs.SourceGrammar.{one, each_apart_by, name, number, text, operand_of, operand, product_made, product, equation_made, equation, declaration_of, declaration, head_of, head, equations_in, section, source_of, source}
 use Rattle.first_parser.specs.SourceReaders.{read_one, read_apart_by, read_name, read_number, read_text, read_operand, read_product, read_equation, read_declaration, read_head, read_declarations, read_equations, read_section, read_source}
 
 -- a form and its reader keep the laws, where nothing is nested
@@ -63,7 +63,7 @@ operand_laws =
 product_laws : Keeps product read_product operands (And ∷ []) false
 unfolding product read_product
 product_laws =
-    laws.turned number_of terminal_of product_of _ _ _ _ operands (And ∷ []) false
+    laws.turned number_of terminal_of product_made _ _ _ _ operands (And ∷ []) false
     (apart_laws And operand read_operand operands [] operand_laws refl refl)
 
 products_laws : Keeps (each_apart_by Or product) (read_apart_by Or read_product) operands (Or ∷ And ∷ []) false
@@ -72,7 +72,7 @@ products_laws = apart_laws Or product read_product operands (And ∷ []) product
 equation_laws : Keeps equation read_equation (Not ∷ []) [] false
 unfolding equation read_equation
 equation_laws =
-    laws.turned number_of terminal_of equation_of _ _ _ _ (Not ∷ []) [] false
+    laws.turned number_of terminal_of equation_made _ _ _ _ (Not ∷ []) [] false
     (laws.in_turn number_of terminal_of _ _ _ _ _ _ _ _ (Not ∷ []) [] (Identifier ∷ []) [] false false (one_laws Not)
     (λ _. laws.in_turn number_of terminal_of _ _ _ _ _ _ _ _ (Identifier ∷ []) [] (Equal ∷ []) [] false false name_laws
     (λ _. laws.in_turn number_of terminal_of _ _ _ _ _ _ _ _ (Equal ∷ []) [] operands [] false false (one_laws Equal)

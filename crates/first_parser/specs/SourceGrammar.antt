@@ -38,19 +38,19 @@ unfoldable pub operand : Form Token Operand
 operand = made operand_of (optional (one terminal.Not) then name)
 
 -- prod = lit {& lit}
-abbrev pub product_of : List Operand → Product
-product_of operands = record { operands = operands }
+abbrev pub product_made : List Operand → Product
+product_made operands = record { operands = operands }
 
 unfoldable pub product : Form Token Product
-product = made product_of (each_apart_by terminal.And operand)
+product = made product_made (each_apart_by terminal.And operand)
 
 -- equation = ! id = prod {# prod} ;
-abbrev pub equation_of : Token × (List ℕ × (Token × (List Product × Token))) → Equation
-equation_of x = record { target = x.1.0; products = x.1.1.1.0 }
+abbrev pub equation_made : Token × (List ℕ × (Token × (List Product × Token))) → Equation
+equation_made x = record { target = x.1.0; products = x.1.1.1.0 }
 
 unfoldable pub equation : Form Token Equation
 equation =
-    made equation_of
+    made equation_made
     (one terminal.Not then name then one terminal.Equal
     then each_apart_by terminal.Or product then one terminal.Semicolon)
 

@@ -12,7 +12,7 @@ use Rattle.first_parser.specs.declared.tree.Equation.{Equation}
 use Rattle.first_parser.specs.declared.tree.Product.{Product}
 use Rattle.first_parser.specs.declared.tree.Operand.{Operand}
 use Rattle.first_parser.specs.Terminals.{among}
-use Rattle.first_parser.specs.SourceGrammar.{operand_of, product_of, equation_of, declaration_of, head_of, equations_in, source_of}
+use Rattle.first_parser.specs.SourceGrammar.{operand_of, product_made, equation_made, declaration_of, head_of, equations_in, source_of}
 
 -- one terminal
 abbrev pub read_one : Terminal → Reader Token Token
@@ -42,12 +42,12 @@ read_operand =
 
 -- a product
 unfoldable pub read_product : Reader Token Product
-read_product = read_made product_of (read_apart_by terminal.And read_operand)
+read_product = read_made product_made (read_apart_by terminal.And read_operand)
 
 -- an equation
 unfoldable pub read_equation : Reader Token Equation
 read_equation =
-    read_made equation_of
+    read_made equation_made
     (read_one terminal.Not then_read read_name then_read read_one terminal.Equal
     then_read read_apart_by terminal.Or read_product then_read read_one terminal.Semicolon)
 
