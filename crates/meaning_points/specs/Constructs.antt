@@ -39,10 +39,6 @@ not_assign_any t u = AnAssign somewhere true t sign.Any somewhere u
 abbrev pub clocked_any : Tree → Tree → Statement
 clocked_any t u = AnAssign somewhere false t sign.ClockedAny somewhere u
 
--- !t ?:= u
-abbrev pub not_clocked_any : Tree → Tree → Statement
-not_clocked_any t u = AnAssign somewhere true t sign.ClockedAny somewhere u
-
 -- WHEN c THEN s
 abbrev pub when_then : Tree → Statement → Statement
 when_then c s = AWhen somewhere c s NoElse
