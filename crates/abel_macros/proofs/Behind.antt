@@ -1,5 +1,5 @@
 -- What was read stands before what stands behind it.
-use Rattle.std.proofs.Common.{◌++◌, ◌≡◌, ◌<◌, ◌≤◌, ◌-◌, ℕ, List, Option, Some, None, Bool, true, false, length, take, drop, sym, ap, ◌∙◌, arith, length-drop, inl, inr, ◌⊎◌, refl}
+use Rattle.std.proofs.Common.{◌++◌, ◌≡◌, ◌<◌, ◌≤◌, ◌-◌, ℕ, List, Option, Some, None, Bool, true, false, length, take, drop, sym, ap, ◌∙◌, arith, length-drop, length-take, inl, inr, ◌⊎◌, refl}
 use Rattle.std.specs.Prelude.{nat_lt, option_map}
 use Rattle.std.proofs.lemmas.Bool.{ltb-true, ltb-false, lt-ltb}
 use Rattle.abel_macros.specs.Gaps.{before, behind_some, given}
@@ -16,3 +16,7 @@ none_read w = refl
 -- texts before those that a reading gives
 abbrev pub behind_all : List (List ℕ) → Option (List (List ℕ) × List ℕ) → Option (List (List ℕ) × List ℕ)
 behind_all front o = option_map (λ r. (front ++ r.0, r.1)) o
+
+-- a part isn't longer than what it is of
+pub part_fits : (v w : List ℕ) (n m : ℕ) → v ≡ take n w → length w < m → length v < m
+part_fits v w n m e h = omega (arith, ap length e, length-take n w)

@@ -73,16 +73,19 @@ fn skip_inside(at: &mut Ahead) -> bool
 }
 
 /// Reads a block's text behind its opening brace, and passes its closing brace.
+#[tactic(auto, using(crate::proofs::Behind::part_fits))]
 fn read_inside<'a>(
     alloc: Global,
     at: &mut Ahead<'_, 'a>,
 ) -> Result<Option<Vec<&'a [u8]>>, AllocError>
     ensures some { IfOk result (λ o. IfSome o (λ w. spec.block_inside (ahead at.old) ≡ Some (joined w.items, ahead at.new))) }
     ensures none { IfOk result (λ o. IfNone o (spec.block_inside (ahead at.old) ≡ None)) }
+    ensures fits { IfOk result (λ o. IfSome o (λ w. length (joined w.items) < 2 ^ 63)) }
     ensures whole { at.new.whole ≡ at.old.whole }
     ensures further { at.old.passed ≤ at.new.passed }
 {
     let from = at.fork();
+    from.fits();
     if !skip_inside(at) {
         return Ok(None);
     }
@@ -98,6 +101,7 @@ pub fn read_block<'a>(
 ) -> Result<Option<Vec<&'a [u8]>>, AllocError>
     ensures some { IfOk result (λ o. IfSome o (λ w. spec.block (ahead at.old) ≡ Some (joined w.items, ahead at.new))) }
     ensures none { IfOk result (λ o. IfNone o (spec.block (ahead at.old) ≡ None)) }
+    ensures fits { IfOk result (λ o. IfSome o (λ w. length (joined w.items) < 2 ^ 63)) }
     ensures whole { at.new.whole ≡ at.old.whole }
     ensures further { at.old.passed ≤ at.new.passed }
 {

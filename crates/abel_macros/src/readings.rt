@@ -1,6 +1,6 @@
 //! The forms of definitions and directives, behind their words.
 
-ghost use Rattle.std.specs.Prelude.{◌≡◌, ◌≤◌, ◌++◌, option_map, true, false, Some, None, IfOk, IfSome, IfNone};
+ghost use Rattle.std.specs.Prelude.{◌≡◌, ◌<◌, ◌≤◌, ◌++◌, ◌^◌, length, option_map, true, false, Some, None, IfOk, IfSome, IfNone};
 ghost use Rattle.text_pieces.specs.Stacks.{ahead, joined};
 ghost use Rattle.abel_macros.specs.Gaps as gaps;
 ghost use Rattle.abel_macros.specs.Kept.{tables_of};
@@ -134,6 +134,7 @@ fn read_arguments_and_block<'a>(
 ) -> Result<Option<(Vec<Vec<&'a [u8]>>, Vec<&'a [u8]>)>, AllocError>
     ensures some { IfOk result (λ o. IfSome o (λ c. spec.arguments_and_block (ahead at.old) ≡ Some ((texts c.0.items, joined c.1.items), ahead at.new))) }
     ensures none { IfOk result (λ o. IfNone o (spec.arguments_and_block (ahead at.old) ≡ None)) }
+    ensures fits { IfOk result (λ o. IfSome o (λ c. length (joined c.1.items) < 2 ^ 63)) }
     ensures whole { at.new.whole ≡ at.old.whole }
     ensures further { at.old.passed ≤ at.new.passed }
 {
@@ -158,6 +159,7 @@ pub struct Each<'a> {
 pub fn read_each<'a>(alloc: Global, at: &mut Ahead<'_, 'a>) -> Result<Option<Each<'a>>, AllocError>
     ensures some { IfOk result (λ o. IfSome o (λ e. spec.each_form (ahead at.old) ≡ Some (spec.each_replaced e.parameter.items (texts e.arguments.items) (joined e.block.items), ahead at.new))) }
     ensures none { IfOk result (λ o. IfNone o (spec.each_form (ahead at.old) ≡ None)) }
+    ensures fits { IfOk result (λ o. IfSome o (λ e. length (joined e.block.items) < 2 ^ 63)) }
     ensures whole { at.new.whole ≡ at.old.whole }
     ensures further { at.old.passed ≤ at.new.passed }
 {

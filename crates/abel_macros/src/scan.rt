@@ -166,7 +166,7 @@ fn quoted_rest(at: &Ahead) -> usize
 }
 
 /// How many of the next bytes may follow in a name.
-fn later_len(at: &Ahead) -> usize
+pub fn later_len(at: &Ahead) -> usize
     ensures value { result ≡ prefix_len is_name_later (ahead at.now) }
     ensures within { result ≤ length (ahead at.now) }
 {

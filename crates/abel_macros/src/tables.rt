@@ -1,6 +1,6 @@
 //! What a text has defined so far.
 
-ghost use Rattle.std.specs.Prelude.{◌≡◌, ◌≤◌, Some, None, IfSome, IfNone, OnOk, option_map};
+ghost use Rattle.std.specs.Prelude.{◌≡◌, ◌<◌, ◌≤◌, ◌^◌, length, Some, None, IfSome, IfNone, OnOk, option_map};
 ghost use Rattle.text_pieces.specs.Stacks.{joined};
 ghost use Rattle.abel_macros.specs.Pieces.{names};
 ghost use Rattle.abel_macros.specs.Turns.{nothing_defined};
@@ -20,7 +20,7 @@ pub struct Macro<'a> {
 }
 
 impl<'a> Model for Macro<'a> {
-    ghost use Rattle.std.specs.Prelude.{option_map};
+    ghost use Rattle.std.specs.Prelude.{◌<◌, ◌^◌, length, option_map};
     ghost use Rattle.text_pieces.specs.Stacks.{joined};
     ghost use Rattle.abel_macros.specs.Pieces.{names};
     ghost use Rattle.abel_macros.specs.Rules as spec;
@@ -28,6 +28,8 @@ impl<'a> Model for Macro<'a> {
     ghost Value = { spec.Macro };
 
     ghost view = { λ m. record { parameters = option_map (λ ps. names ps.items) m.parameters; block = joined m.block.items } };
+
+    ghost invariant = { λ m. length (joined m.block.items) < 2 ^ 63 };
 }
 
 /// The macros, the values of names and the radix in force.
@@ -52,6 +54,7 @@ impl<'a> Model for Tables<'a> {
 impl<'a> Macro<'a> {
     /// A macro of these parameters and this block.
     pub fn new(parameters: Option<Vec<Vec<u8>>>, block: Vec<&'a [u8]>) -> Macro<'a>
+        requires { length (joined block.items) < 2 ^ 63 }
         ensures { result ≡ record { parameters = option_map (λ ps. names ps.items) parameters; block = joined block.entry.items } }
     {
         Macro { parameters, block }
@@ -70,7 +73,9 @@ impl<'a> Macro<'a> {
 
     /// Its block, in pieces.
     pub fn block(&self) -> &[&'a [u8]]
-        ensures { joined result.now ≡ self.now.block }
+        ensures text { joined result.now ≡ self.now.block }
+        ensures bytes { length (joined result.now) < 2 ^ 63 }
+        ensures pieces { length result.now < 2 ^ 59 }
     {
         self.block.as_slice()
     }
