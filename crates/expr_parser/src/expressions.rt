@@ -7,13 +7,14 @@ ghost use Rattle.abel_syntax.specs.Expressions.{products, sums, relations};
 ghost use Rattle.abel_syntax.specs.WordReaders.{read_apart_by};
 ghost use Rattle.abel_syntax.specs.ExpressionReaders.{read_link, read_level, read_paren, read_member, read_set, read_negated, read_operand, read_expr, read_set_at};
 
+use crate::lists::packed;
 use crate::operands::{at_range, simple, span_member};
 use crate::signs::{PRODUCTS, RELATIONS, SUMS, binary_of, join, unary_of};
 use crate::words::{extension_in, maybe};
 use abel_lexer::Token;
 use abel_syntax::{Halt, Terminal, behind, expect, starts, terminal_of};
 use abel_tree::{Expr, Member};
-use pld_base::{Boxed, ListOf};
+use pld_base::Boxed;
 use std::alloc::Global;
 
 /// Signs and the operand behind them.
@@ -104,7 +105,7 @@ fn set<'a>(alloc: Global, tokens: &'a [Token], depth: u8) -> Result<(Expr, &'a [
     Ok((
         Expr::Set {
             place,
-            members: ListOf::from_vec(members),
+            members: packed(members),
             extension,
         },
         rest,
