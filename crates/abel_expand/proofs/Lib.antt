@@ -1,0 +1,9 @@
+pub mod Gathers
+pub mod Replaces
+pub mod DigitSteps
+pub mod Moves
+pub mod SpokenSteps
+pub mod Fronts
+pub mod Turning
+pub mod Growth
+pub mod Giving

@@ -1,0 +1,184 @@
+-- A block in which arguments stand for parameters, part by part.
+use Rattle.std.proofs.Common.{◌≡◌, ◌+◌, ◌-◌, ◌<◌, ◌≤◌, ℕ, zero, suc, Bool, true, false, inl, inr, List, [], ◌∷◌, ◌++◌, Option, Some, None, length, take, drop, get_or, map, refl, sym, ap, ◌∙◌, arith, append-nil, append_assoc, add-one, length-append, length-drop, if◌then◌else◌}
+use Rattle.std.specs.Prelude.{◌==◌, not, Result, Ok, Err, IfErr}
+use Rattle.std.specs.List.{prefix_len, concat}
+use Rattle.std.specs.Str.{bytes_eq}
+use Rattle.std.specs.Borrow.{Bor}
+use Rattle.std.specs.Global.{Vec}
+use Rattle.text_pieces.specs.Stacks.{joined}
+use Rattle.abel_lexer.proofs.Booleans.{bool_cases}
+use Rattle.abel_macros.specs.Gaps.{starts_byte, rest_of}
+use Rattle.abel_macros.specs.Forms.{asked, replaced, standing_for}
+use Rattle.abel_macros.specs.Pieces.{names, texts}
+use Rattle.abel_macros.specs.Rules.{each_replaced}
+use Rattle.abel_expand.specs.Gathering.{is_unasked}
+
+-- ---- the argument that stands for a name
+
+module _ (ps : List (Vec ℕ)) (found : List (Vec (Bor (List ℕ)))) (name : List ℕ) where
+  abbrev from : ℕ → Option (List ℕ)
+  from i = standing_for (names (drop i ps)) (texts (drop i found)) name
+
+named_at : (ps : List (Vec ℕ)) (i : ℕ) (d : Vec ℕ) → i < length ps → names (drop i ps) ≡ (get_or ps i d).items ∷ names (drop (suc i) ps)
+named_at [] i d h = absurd (omega arith)
+named_at (p ∷ ps) zero d h = refl
+named_at (p ∷ ps) (suc i) d h = named_at ps i d (omega arith)
+
+text_at : (ws : List (Vec (Bor (List ℕ)))) (i : ℕ) (d : Vec (Bor (List ℕ))) → i < length ws → texts (drop i ws) ≡ joined (get_or ws i d).items ∷ texts (drop (suc i) ws)
+text_at [] i d h = absurd (omega arith)
+text_at (w ∷ ws) zero d h = refl
+text_at (w ∷ ws) (suc i) d h = text_at ws i d (omega arith)
+
+module _ (ps : List (Vec ℕ)) (found : List (Vec (Bor (List ℕ)))) (i : ℕ) (d : Vec ℕ) (e : Vec (Bor (List ℕ))) (name : List ℕ) (h : i < length ps) (k : i < length found) where
+  standing_at : from ps found name i ≡ (if bytes_eq (get_or ps i d).items name then Some (joined (get_or found i e).items) else from ps found name (suc i))
+  standing_at = ap (λ (ns : List (List ℕ)). standing_for ns (texts (drop i found)) name) (named_at ps i d h) ∙ ap (λ (ts : List (List ℕ)). standing_for ((get_or ps i d).items ∷ names (drop (suc i) ps)) ts name) (text_at found i e k)
+
+  pub standing_here : (r : Option (List ℕ)) → bytes_eq (get_or ps i d).items name ≡ true → standing_for (names (drop i ps)) (texts (drop i found)) name ≡ r → r ≡ Some (joined (get_or found i e).items)
+  standing_here r b s = sym s ∙ standing_at ∙ ap (λ (t : Bool). if t then Some (joined (get_or found i e).items) else from ps found name (suc i)) b
+
+  pub standing_next : (r : Option (List ℕ)) → bytes_eq (get_or ps i d).items name ≡ false → standing_for (names (drop i ps)) (texts (drop i found)) name ≡ r
+      → standing_for (names (drop (i + 1) ps)) (texts (drop (i + 1) found)) name ≡ r
+  standing_next r b s =
+      ap (from ps found name) (add-one i) ∙ sym (standing_at ∙ ap (λ (t : Bool). if t then Some (joined (get_or found i e).items) else from ps found name (suc i)) b) ∙ s
+
+past : {A : Type 0} (ws : List A) (i : ℕ) → length ws ≤ i → drop i ws ≡ []
+past [] zero h = refl
+past [] (suc i) h = refl
+past (w ∷ ws) zero h = absurd (omega arith)
+past (w ∷ ws) (suc i) h = past ws i (omega arith)
+
+pub no_parameter : (ps : List (Vec ℕ)) (ts : List (List ℕ)) (i : ℕ) (name : List ℕ) (r : Option (List ℕ)) → length ps ≤ i → standing_for (names (drop i ps)) ts name ≡ r → r ≡ None
+no_parameter ps ts i name r h s = sym s ∙ ap (λ (qs : List (Vec ℕ)). standing_for (names qs) ts name) (past ps i h)
+
+no_text : (ns : List (List ℕ)) (name : List ℕ) → standing_for ns [] name ≡ None
+no_text [] name = refl
+no_text (n ∷ ns) name = refl
+
+pub no_argument : (ns : List (List ℕ)) (found : List (Vec (Bor (List ℕ)))) (i : ℕ) (name : List ℕ) (r : Option (List ℕ)) → length found ≤ i → standing_for ns (texts (drop i found)) name ≡ r → r ≡ None
+no_argument ns found i name r h s = sym s ∙ ap (λ (ws : List (Vec (Bor (List ℕ)))). standing_for ns (texts ws) name) (past found i h) ∙ no_text ns name
+
+-- ---- a `?` and the name behind it
+
+module _ (f : List ℕ → Option (List ℕ)) where
+  -- bytes of a replaced name are left out
+  left_out : (n : ℕ) (v : List ℕ) → replaced f n v ≡ replaced f 0 (drop n v)
+  left_out zero [] = refl
+  left_out (suc n) [] = refl
+  left_out zero (b ∷ bs) = refl
+  left_out (suc n) (b ∷ bs) = left_out n bs
+
+  abbrev replaced_by : ℕ → List ℕ → Option (List ℕ) → List ℕ
+  replaced_by b bs o = elim o [ None ↦ b ∷ replaced f 0 bs | Some a ↦ a ++ replaced f (length (asked bs)) bs ]
+
+  abbrev replaced_at : ℕ → List ℕ → Bool → List ℕ
+  replaced_at b bs t = elim t [ false ↦ b ∷ replaced f 0 bs | true ↦ replaced_by b bs (f (asked bs)) ]
+
+  here : (w a : List ℕ) (n : ℕ) → starts_byte 63 w ≡ true → f (asked (rest_of w)) ≡ Some a → n ≡ suc (length (asked (rest_of w))) → replaced f 0 w ≡ a ++ replaced f 0 (drop n w)
+  here [] a n s e m = absurd cc
+  here (b ∷ bs) a n s e m =
+      ap (replaced_at b bs) s ∙ ap (replaced_by b bs) e ∙ ap (λ (v : List ℕ). a ++ v) (left_out (length (asked bs)) bs)
+      ∙ ap (λ (k : ℕ). a ++ replaced f 0 (drop k (b ∷ bs))) (sym m)
+
+  mark : (w : List ℕ) → starts_byte 63 w ≡ true → f (asked (rest_of w)) ≡ None → replaced f 0 w ≡ take 1 w ++ replaced f 0 (drop 1 w)
+  mark [] s e = absurd cc
+  mark (b ∷ bs) s e = ap (replaced_at b bs) s ∙ ap (replaced_by b bs) e
+
+  -- bytes that are no `?` stay
+  plain : (w : List ℕ) → replaced f 0 w ≡ take (prefix_len is_unasked w) w ++ replaced f 0 (drop (prefix_len is_unasked w) w)
+  plain [] = refl
+  plain (b ∷ bs) =
+      elim (bool_cases (b == 63)) [
+        | inl t ↦
+            let u : is_unasked b ≡ false = ap not t in
+            let n : prefix_len is_unasked (b ∷ bs) ≡ 0 = rw u refl in
+            sym (ap (λ (n : ℕ). take n (b ∷ bs) ++ replaced f 0 (drop n (b ∷ bs))) n)
+        | inr t ↦
+            let u : is_unasked b ≡ true = ap not t in
+            let m : prefix_len is_unasked (b ∷ bs) ≡ 1 + prefix_len is_unasked bs = rw u refl in
+            let n : prefix_len is_unasked (b ∷ bs) ≡ suc (prefix_len is_unasked bs) = omega (arith, m) in
+            ap (replaced_at b bs) t ∙ ap (λ (v : List ℕ). b ∷ v) (plain bs) ∙ sym (ap (λ (n : ℕ). take n (b ∷ bs) ++ replaced f 0 (drop n (b ∷ bs))) n)
+      ]
+
+  behind : (text new part w v : List ℕ) → new ≡ text ++ part → replaced f 0 w ≡ part ++ replaced f 0 v → new ++ replaced f 0 v ≡ text ++ replaced f 0 w
+  behind text new part w v n e = ap (λ (x : List ℕ). x ++ replaced f 0 v) n ∙ append_assoc text part (replaced f 0 v) ∙ ap (λ (x : List ℕ). text ++ x) (sym e)
+
+  longer : (text part w v : List ℕ) (most : ℕ) → most < length (text ++ part) → replaced f 0 w ≡ part ++ replaced f 0 v → most < length (text ++ replaced f 0 w)
+  longer text part w v most l e = omega (arith, ap length (behind text (text ++ part) part w v refl e), length-append (text ++ part) (replaced f 0 v))
+
+  module _ (w name text : List ℕ) (s : starts_byte 63 w ≡ true) (n : name ≡ asked (rest_of w)) where
+    count : 1 + length name ≡ suc (length (asked (rest_of w)))
+    count = omega (arith, ap length n)
+
+    pub asked_some : (v a new : List ℕ) → f name ≡ Some a → v ≡ drop (1 + length name) w → new ≡ text ++ a → new ++ replaced f 0 v ≡ text ++ replaced f 0 w
+    asked_some v a new e d t = behind text new a w v t (here w a (1 + length name) s (ap f (sym n) ∙ e) count ∙ ap (λ (x : List ℕ). a ++ replaced f 0 x) (sym d))
+
+    pub asked_long : (a : List ℕ) (most : ℕ) → f name ≡ Some a → most < length (text ++ a) → most < length (text ++ replaced f 0 w)
+    asked_long a most e l = longer text a w (drop (1 + length name) w) most l (here w a (1 + length name) s (ap f (sym n) ∙ e) count)
+
+    pub asked_none : (v new : List ℕ) → f name ≡ None → v ≡ drop 1 w → new ≡ text ++ take 1 w → new ++ replaced f 0 v ≡ text ++ replaced f 0 w
+    asked_none v new e d t = behind text new (take 1 w) w v t (mark w s (ap f (sym n) ∙ e) ∙ ap (λ (x : List ℕ). take 1 w ++ replaced f 0 x) (sym d))
+
+    pub none_long : (most : ℕ) → f name ≡ None → most < length (text ++ take 1 w) → most < length (text ++ replaced f 0 w)
+    none_long most e l = longer text (take 1 w) w (drop 1 w) most l (mark w s (ap f (sym n) ∙ e))
+
+  pub plain_run : (w v text new : List ℕ) (n : ℕ) → n ≡ prefix_len is_unasked w → v ≡ drop n w → new ≡ text ++ take n w → new ++ replaced f 0 v ≡ text ++ replaced f 0 w
+  plain_run w v text new n p d t =
+      behind text new (take n w) w v t (plain w ∙ ap (λ (k : ℕ). take k w ++ replaced f 0 (drop k w)) (sym p) ∙ ap (λ (x : List ℕ). take n w ++ replaced f 0 x) (sym d))
+
+  pub plain_long : (w text : List ℕ) (n most : ℕ) → n ≡ prefix_len is_unasked w → most < length (text ++ take n w) → most < length (text ++ replaced f 0 w)
+  plain_long w text n most p l = longer text (take n w) w (drop n w) most l (plain w ∙ ap (λ (k : ℕ). take k w ++ replaced f 0 (drop k w)) (sym p))
+
+  pub block_added : (rest text total : List ℕ) → length rest ≡ 0 → text ++ replaced f 0 rest ≡ total → text ≡ total
+  block_added [] text total h e = sym (append-nil text) ∙ e
+  block_added (b ∷ bs) text total h e = absurd (omega arith)
+
+pub block_long : (text rest total : List ℕ) (f : List ℕ → Option (List ℕ)) (most : ℕ) → most < length (text ++ replaced f 0 rest) → text ++ replaced f 0 rest ≡ total → most < length total
+block_long text rest total f most l e = omega (arith, l, ap length e)
+
+pub marked : (w : List ℕ) → starts_byte 63 w ≡ true → 0 < length w
+marked [] s = absurd cc
+marked (b ∷ bs) s = omega arith
+
+pub shorter : (w v : List ℕ) (n : ℕ) → v ≡ drop n w → 0 < n → 0 < length w → length v < length w
+shorter w v n e h k = omega (arith, ap length e, length-drop n w)
+
+pub is_asked : (w : List ℕ) (n : ℕ) → n ≡ 0 → n ≡ prefix_len is_unasked w → 0 < length w → starts_byte 63 w ≡ true
+is_asked [] n z p h = absurd (omega arith)
+is_asked (b ∷ bs) n z p h =
+    elim (bool_cases (b == 63)) [
+      | inl t ↦ t
+      | inr t ↦
+          let u : is_unasked b ≡ true = ap not t in
+          let m : prefix_len is_unasked (b ∷ bs) ≡ 1 + prefix_len is_unasked bs = rw u refl in
+          absurd (omega (arith, m, p))
+    ]
+
+-- ---- a block once for each argument
+
+module _ (n b : List ℕ) where
+  each_split : (found : List (Vec (Bor (List ℕ)))) (i : ℕ) → i < length found
+      → each_replaced n (texts (drop i found)) b ≡ replaced (standing_for (n ∷ []) (texts (take 1 (drop i found)))) 0 b ++ each_replaced n (texts (drop (suc i) found)) b
+  each_split [] i h = absurd (omega arith)
+  each_split (a ∷ found) zero h = refl
+  each_split (a ∷ found) (suc i) h = each_split found i (omega arith)
+
+  pub each_next : (found : List (Vec (Bor (List ℕ)))) (i : ℕ) (text new total : List ℕ) → i < length found → new ≡ text ++ replaced (standing_for (n ∷ []) (texts (take 1 (drop i found)))) 0 b
+      → text ++ each_replaced n (texts (drop i found)) b ≡ total → new ++ each_replaced n (texts (drop (i + 1) found)) b ≡ total
+  each_next found i text new total h t e =
+      ap (λ (k : ℕ). new ++ each_replaced n (texts (drop k found)) b) (add-one i) ∙ ap (λ (x : List ℕ). x ++ each_replaced n (texts (drop (suc i) found)) b) t
+      ∙ append_assoc text (replaced (standing_for (n ∷ []) (texts (take 1 (drop i found)))) 0 b) (each_replaced n (texts (drop (suc i) found)) b)
+      ∙ ap (λ (x : List ℕ). text ++ x) (sym (each_split found i h)) ∙ e
+
+  pub each_long : (found : List (Vec (Bor (List ℕ)))) (i : ℕ) (text total : List ℕ) (most : ℕ) → i < length found → most < length (text ++ replaced (standing_for (n ∷ []) (texts (take 1 (drop i found)))) 0 b)
+      → text ++ each_replaced n (texts (drop i found)) b ≡ total → most < length total
+  each_long found i text total most h l e =
+      let part : List ℕ = replaced (standing_for (n ∷ []) (texts (take 1 (drop i found)))) 0 b in
+      omega (arith, ap length (each_next found i text (text ++ part) total h refl e), length-append (text ++ part) (each_replaced n (texts (drop (i + 1) found)) b))
+
+  pub each_added : (found : List (Vec (Bor (List ℕ)))) (i : ℕ) (text total : List ℕ) → length found ≤ i → text ++ each_replaced n (texts (drop i found)) b ≡ total → text ≡ total
+  each_added found i text total h e = sym (append-nil text) ∙ ap (λ (ws : List (Vec (Bor (List ℕ)))). text ++ each_replaced n (texts ws) b) (sym (past found i h)) ∙ e
+
+-- what is too long makes more too long
+pub err_longer : {A E : Type 0} (r : Result A E) (f : E) (P Q : Type 0) → (P → Q) → IfErr r (λ e. e ≡ f → P) → IfErr r (λ e. e ≡ f → Q)
+err_longer (Ok x) f P Q g h = tt
+err_longer (Err e) f P Q g h = λ t. g (h t)

@@ -1,0 +1,17 @@
+-- A rewriting is one for all tables.
+use Rattle.std.proofs.Common.{◌≡◌, ◌-◌, ℕ, sym, ap, subst, length, drop}
+use Rattle.abel_macros.specs.Rules.{Tables}
+use Rattle.abel_expand.specs.declared.front.Front.{Front}
+use Rattle.abel_expand.specs.declared.rules.Rule.{Rule}
+use Rattle.abel_expand.specs.RuleMoves.{rewriting_text, rule_move}
+use Rattle.abel_expand.specs.Fronts.{IsFront, IsRewritten}
+use Rattle.abel_expand.proofs.Fronts.{if_ok_map, rewritten_front}
+use Rattle.abel_expand.proofs.front.front_of.Goals as goal
+
+pub returns-in-Rewrite : goal.returns-in-Rewrite
+returns-in-Rewrite c =
+    if_ok_map c.rewritten.result (λ (f : Front). IsRewritten (rewriting_text c.in-Rewrite.rewriting) (c.args.most - (c.len.result - c.args.end)) c.args.end f)
+    (λ (f : Front). (t : Tables) → IsFront t c.args.rest.now c.args.most (rule_move t c.args.rest.now (drop c.args.end c.args.rest.now) c.args.rule) f)
+    (λ f h t. subst (λ (r : Rule). IsFront t c.args.rest.now c.args.most (rule_move t c.args.rest.now (drop c.args.end c.args.rest.now) r) f) (sym c.in-Rewrite.is)
+    (rewritten_front t c.args.rest.now (rewriting_text c.in-Rewrite.rewriting) c.args.most (c.args.most - (c.len.result - c.args.end)) c.args.end f
+    (ap (λ (n : ℕ). c.args.most - (n - c.args.end)) c.len.ensures.value) c.requires.room c.requires.within h)) c.rewritten.ensures

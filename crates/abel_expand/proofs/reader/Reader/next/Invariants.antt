@@ -1,0 +1,18 @@
+-- Each turn leaves less to do, and gives nothing.
+use Rattle.std.proofs.Common.{◌≡◌, None}
+use Rattle.abel_expand.specs.Runs.{after, bytes_given}
+use Rattle.abel_expand.specs.Stands.{left_to_do}
+use Rattle.abel_expand.proofs.reader.Reader.next.Given as goal
+
+abbrev pub invariant-turns : goal.invariant-turns
+invariant-turns l =
+    record {
+      text : l.self.text ≡ l.fn.self.text;
+      given : l.self.given ≡ l.fn.self.given;
+      same : bytes_given l.self ≡ bytes_given l.fn.self;
+      going : l.self.refused ≡ None;
+      start : l.fn.self.refused ≡ None;
+    }
+
+abbrev pub decreases-turns : goal.decreases-turns
+decreases-turns l = left_to_do (after l.self.turns l.self.text)

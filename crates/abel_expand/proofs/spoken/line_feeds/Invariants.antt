@@ -1,0 +1,15 @@
+-- The line feeds so far stand before those of what is ahead.
+use Rattle.std.proofs.Common.{◌≡◌, ◌≤◌, ◌+◌, ◌++◌, length, take}
+use Rattle.text_pieces.specs.Stacks.{ahead}
+use Rattle.abel_macros.specs.Rules.{line_feeds}
+use Rattle.abel_expand.proofs.spoken.line_feeds.Given as goal
+
+abbrev pub invariant-bytes : goal.invariant-bytes
+invariant-bytes l =
+    record {
+      bytes : l.bytes.items ++ line_feeds (ahead l.at) ≡ line_feeds (take l.fn.count l.fn.rest);
+      few : length l.bytes.items + length (ahead l.at) ≤ l.fn.count;
+    }
+
+abbrev pub decreases-bytes : goal.decreases-bytes
+decreases-bytes l = length (ahead l.at)

@@ -1,0 +1,16 @@
+-- The bytes so far stand before those of what is ahead.
+use Rattle.std.proofs.Common.{◌≡◌, ◌≤◌, ◌+◌, ◌++◌, length, take}
+use Rattle.text_pieces.specs.Stacks.{ahead}
+use Rattle.abel_macros.specs.declared.mode.Mode.TheVariants as mode
+use Rattle.abel_macros.specs.Rules.{shown_in}
+use Rattle.abel_expand.proofs.spoken.shown.Given as goal
+
+abbrev pub invariant-bytes : goal.invariant-bytes
+invariant-bytes l =
+    record {
+      bytes : l.bytes.items ++ shown_in l.from (ahead l.at) ≡ shown_in mode.Plain (take l.fn.count l.fn.rest);
+      few : length l.bytes.items + length (ahead l.at) ≤ l.fn.count;
+    }
+
+abbrev pub decreases-bytes : goal.decreases-bytes
+decreases-bytes l = length (ahead l.at)

@@ -1,0 +1,6 @@
+pub mod Gathering
+pub mod RuleMoves
+pub mod Shown
+pub mod Fronts
+pub mod Runs
+pub mod Stands

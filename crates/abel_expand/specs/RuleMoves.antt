@@ -1,0 +1,64 @@
+-- The moves that the rules ask for, as the code tells them.
+use Rattle.std.specs.Prelude.{◌≡◌, ℕ, ◌<◌, ◌≤◌, ◌^◌, List, [], ◌++◌, length, take, drop, replicate, codes, Option, Some, None}
+use Rattle.std.specs.List.{concat}
+use Rattle.text_pieces.specs.Stacks.{joined}
+use Rattle.abel_macros.specs.declared.mode.Mode.TheVariants as mode
+use Rattle.abel_macros.specs.Gaps.{before, word}
+use Rattle.abel_macros.specs.Forms.{replaced, standing_for}
+use Rattle.abel_macros.specs.Pieces.{names, texts}
+use Rattle.abel_macros.specs.Values.{digits_in}
+use Rattle.abel_macros.specs.Rules.{Tables, Move, Done, Rewritten, Refused, BadDirective, Unsupported, with_name, line_feeds, shown_in, each_replaced, named, token_len}
+use Rattle.abel_expand.specs.declared.rules.Rewriting.{Rewriting}
+use Rattle.abel_expand.specs.declared.rules.Rewriting.TheVariants as rewriting
+use Rattle.abel_expand.specs.declared.rules.Rule.{Rule}
+use Rattle.abel_expand.specs.declared.rules.Rule.TheVariants as rule
+
+-- the digits of a value in a radix
+unfoldable pub digits : ℕ → ℕ → List ℕ
+digits radix value = digits_in 32 radix value
+
+-- the result of a rewriting
+abbrev pub rewriting_text : Rewriting → List ℕ
+rewriting_text rewriting.Nothing = []
+rewriting_text (rewriting.Block w) = joined w.items
+rewriting_text (rewriting.Repeated n w) = concat (replicate n (joined w.items))
+rewriting_text (rewriting.Each e) = each_replaced e.parameter.items (texts e.arguments.items) (joined e.block.items)
+rewriting_text (rewriting.Valued w v r) = joined w.items ++ digits r v
+rewriting_text (rewriting.Plain w) = joined w.now
+rewriting_text (rewriting.Called ps found w) = replaced (standing_for (names ps.now) (texts found.items)) 0 (joined w.now)
+
+-- its numbers are within bounds
+abbrev pub IsRewriting : Rewriting → Type 0
+IsRewriting rewriting.Nothing = Unit {0}
+IsRewriting (rewriting.Block w) = Unit {0}
+IsRewriting (rewriting.Repeated n w) = Unit {0}
+IsRewriting (rewriting.Each e) = length (joined e.block.items) < 2 ^ 63
+IsRewriting (rewriting.Valued w v r) = (2 ≤ r) × (r ≤ 16)
+IsRewriting (rewriting.Plain w) = Unit {0}
+IsRewriting (rewriting.Called ps found w) = (length (joined w.now) < 2 ^ 63) × (length w.now < 2 ^ 59)
+
+-- the move of a text by a rule, which leaves what stands behind
+abbrev pub rule_move : Tables → List ℕ → List ℕ → Rule → Move
+rule_move t text behind rule.Comment = Done t (codes " ") behind
+rule_move t text behind rule.Copy = Done t (before text behind) behind
+rule_move t text behind (rule.Define n m) = Done (record t { macros = with_name n.items m t.macros }) (line_feeds (before text behind)) behind
+rule_move t text behind (rule.Keep n v) = Done (record t { values = with_name n.items v t.values }) (line_feeds (before text behind)) behind
+rule_move t text behind (rule.Radix r) = Done (record t { radix = r }) (shown_in mode.Plain (before text behind)) behind
+rule_move t text behind (rule.Rewrite w) = Rewritten (rewriting_text w) behind
+rule_move t text behind rule.BadDirective = Refused BadDirective
+rule_move t text behind rule.Unsupported = Refused Unsupported
+
+-- the numbers of a rule are within bounds
+abbrev pub IsRule : Rule → Type 0
+IsRule rule.Comment = Unit {0}
+IsRule rule.Copy = Unit {0}
+IsRule (rule.Define n m) = Unit {0}
+IsRule (rule.Keep n v) = Unit {0}
+IsRule (rule.Radix r) = (2 ≤ r) × (r ≤ 16)
+IsRule (rule.Rewrite w) = IsRewriting w
+IsRule rule.BadDirective = Unit {0}
+IsRule rule.Unsupported = Unit {0}
+
+-- the move of a text that begins with a word or another token
+abbrev pub plain_move : Tables → List ℕ → Move
+plain_move t text = elim (word text) [ Some behind ↦ named t text behind | None ↦ Done t (take (token_len text) text) (drop (token_len text) text) ]

@@ -1,0 +1,54 @@
+-- Whole expansions, and what a reader stands for: a number of turns, and how much of the text done was
+-- given.
+use Rattle.std.specs.Prelude.{◌≡◌, ℕ, zero, suc, List, [], take, drop, Option, Result, Ok, Err}
+use Rattle.pld_base.specs.declared.place.Place.{Place}
+use Rattle.abel_lexer.specs.Scans.{place_past, first_place}
+use Rattle.abel_macros.specs.Rules.{Cause, TooLong, ExpansionLimit, BadDirective, Unsupported}
+use Rattle.abel_macros.specs.Turns.{Config, start, turn}
+use Rattle.abel_expand.specs.declared.fault.ExpandFault.{ExpandFault}
+use Rattle.abel_expand.specs.declared.fault.ExpandFault.TheVariants as fault
+
+-- ---- whole expansions
+
+-- the configuration behind a turn; a refused turn changes nothing
+abbrev pub turned : Config → Config
+turned c = elim (turn c) [ Ok d ↦ d | Err cause ↦ c ]
+
+-- the configuration behind so many turns of a text
+abbrev pub after : ℕ → List ℕ → Config
+after zero text = start text
+after (suc n) text = turned (after n text)
+
+-- a text expands to these bytes
+abbrev pub IsExpanded : List ℕ → List ℕ → Type 0
+IsExpanded text w = (n : ℕ) × ((after n text).rest ≡ []) × ((after n text).done ≡ w)
+
+-- the expansion of a text is refused, and these bytes are done before
+abbrev pub IsRefused : List ℕ → Cause → List ℕ → Type 0
+IsRefused text cause w = (n : ℕ) × ((after n text).rest ≡ [] → ⊥) × (turn (after n text) ≡ Err cause) × ((after n text).done ≡ w)
+
+-- a refusal of a text, behind these bytes: its cause, and the place behind them
+abbrev pub IsRefusal : List ℕ → List ℕ → ExpandFault → Type 0
+IsRefusal text w (fault.TooLong p) = (p ≡ place_past first_place w) × IsRefused text TooLong w
+IsRefusal text w (fault.ExpansionLimit p) = (p ≡ place_past first_place w) × IsRefused text ExpansionLimit w
+IsRefusal text w (fault.BadDirective p) = (p ≡ place_past first_place w) × IsRefused text BadDirective w
+IsRefusal text w (fault.Unsupported p) = (p ≡ place_past first_place w) × IsRefused text Unsupported w
+IsRefusal text w fault.OutOfMemory = Unit {0}
+
+-- ---- a reader
+
+-- how many turns of the text were taken, how many bytes of the text done were given, and the refusal
+-- that was answered
+pub record Reading : Type 0 where
+  pub text : List ℕ
+  pub turns : ℕ
+  pub given : ℕ
+  pub refused : Option ExpandFault
+
+-- the bytes that were given: a front of the text done behind these turns
+abbrev pub bytes_given : Reading → List ℕ
+bytes_given r = take r.given (after r.turns r.text).done
+
+-- the bytes of the text done that were not given
+abbrev pub bytes_waiting : Reading → List ℕ
+bytes_waiting r = drop r.given (after r.turns r.text).done

@@ -1,0 +1,25 @@
+//! The expanded text of a source.
+
+ghost use Rattle.std.specs.Prelude.{ℕ, ◌≤◌, List, length, IfOk, IfErr};
+ghost use Rattle.abel_expand.specs.Runs.{IsExpanded, IsRefusal};
+
+use crate::fault::ExpandFault;
+use crate::reader::Reader;
+use std::alloc::Global;
+
+/// The expanded text of a text of at most 1,048,576 bytes, or its refusal with the place behind the text
+/// done before it (ABEL-HDL Reference Manual, macros and directives).
+pub fn expand(alloc: Global, text: &[u8]) -> Result<Vec<u8>, ExpandFault>
+    requires { length text.now ≤ 1048576 }
+    ensures text { IfOk result (λ w. IsExpanded text.now w.items) }
+    ensures refused { IfErr result (λ e. (w : List ℕ) × IsRefusal text.now w e) }
+{
+    let mut reader = Reader::new(alloc, text);
+    let mut bytes = Vec::new(alloc);
+    'bytes: loop {
+        match reader.next()? {
+            Some(byte) => bytes.push(byte)?,
+            None => return Ok(bytes),
+        }
+    }
+}

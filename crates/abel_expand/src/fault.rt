@@ -1,0 +1,58 @@
+//! Why a text is not expanded.
+
+use pld_base::{OutOfMemory, Place};
+use std::alloc::{AllocError, AllocFailed};
+use thiserror::Error;
+
+/// The refusal of a text; the place is that behind the text done before it.
+#[derive(Clone, Copy, Debug, PartialEq, Eq, Error)]
+pub enum ExpandFault {
+    /// Behind a rewriting, the text done and the rest would have more than 1,048,576 bytes.
+    #[error("the expanded text is too long")]
+    TooLong(Place),
+    /// A rewriting would come behind 65,536 others.
+    #[error("more than 65,536 macros and directives are replaced")]
+    ExpansionLimit(Place),
+    /// A macro or a directive is broken.
+    #[error("a macro or a directive is broken")]
+    BadDirective(Place),
+    /// A directive that the project leaves out.
+    #[error("not in the language of this compiler")]
+    Unsupported(Place),
+    /// Memory ran out.
+    #[error("out of memory")]
+    OutOfMemory,
+}
+
+impl From<OutOfMemory> for ExpandFault {
+    ghost use Rattle.std.specs.Prelude.{◌≡◌};
+    ghost use Rattle.abel_expand.specs.declared.fault.ExpandFault.TheVariants as fault;
+
+    ghost from_gives = { λ _ e. e ≡ fault.OutOfMemory };
+
+    fn from(_error: OutOfMemory) -> ExpandFault {
+        ExpandFault::OutOfMemory
+    }
+}
+
+impl From<AllocError> for ExpandFault {
+    ghost use Rattle.std.specs.Prelude.{◌≡◌};
+    ghost use Rattle.abel_expand.specs.declared.fault.ExpandFault.TheVariants as fault;
+
+    ghost from_gives = { λ _ e. e ≡ fault.OutOfMemory };
+
+    fn from(_error: AllocError) -> ExpandFault {
+        ExpandFault::OutOfMemory
+    }
+}
+
+impl<T: Drop> From<AllocFailed<T>> for ExpandFault {
+    ghost use Rattle.std.specs.Prelude.{◌≡◌};
+    ghost use Rattle.abel_expand.specs.declared.fault.ExpandFault.TheVariants as fault;
+
+    ghost from_gives = { λ _ e. e ≡ fault.OutOfMemory };
+
+    fn from(_error: AllocFailed<T>) -> ExpandFault {
+        ExpandFault::OutOfMemory
+    }
+}

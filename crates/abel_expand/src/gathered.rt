@@ -1,0 +1,145 @@
+//! The result of a rewriting, gathered in pieces and counted, so that nothing too long is built.
+
+ghost use Rattle.std.specs.Prelude.{◌≡◌, ◌++◌, ◌<◌, ◌≤◌, ◌^◌, [], length, replicate, true, false, OnOk, IfErr};
+ghost use Rattle.std.specs.List.{concat};
+ghost use Rattle.text_pieces.specs.Stacks.{joined};
+ghost use Rattle.abel_expand.specs.declared.gathered.Shortage.TheVariants as shortage;
+
+use std::alloc::{AllocError, AllocFailed, Global};
+use std::marker::Model;
+
+/// Why a text isn't gathered.
+#[derive(Clone, Copy, Debug, PartialEq, Eq)]
+pub enum Shortage {
+    /// It would have too many bytes.
+    TooLong,
+    /// Memory ran out.
+    OutOfMemory,
+}
+
+/// A text in pieces that may have so many bytes more.
+#[derive(Drop)]
+pub struct Gathered<'a> {
+    pieces: Vec<&'a [u8]>,
+    room: usize,
+}
+
+impl<'a> Model for Gathered<'a> {
+    ghost use Rattle.std.specs.Prelude.{◌+◌, length};
+    ghost use Rattle.text_pieces.specs.Stacks.{joined};
+    ghost use Rattle.abel_expand.specs.Gathering.{Gathering};
+
+    ghost Value = { Gathering };
+
+    ghost view = { λ g. record { text = joined g.pieces.items; most = length (joined g.pieces.items) + g.room } };
+}
+
+/// Whether a text in pieces has no bytes.
+#[tactic(auto, using(crate::proofs::Gathers::nothing_next, crate::proofs::Gathers::something_at, crate::proofs::Gathers::nothing_left))]
+fn is_nothing(pieces: &[&[u8]]) -> bool
+    ensures yes { result ≡ true → joined pieces.now ≡ [] }
+    ensures no { result ≡ false → 0 < length (joined pieces.now) }
+{
+    for piece in pieces {
+        if !piece.is_empty() {
+            return false;
+        }
+    }
+    true
+}
+
+impl<'a> Gathered<'a> {
+    /// Nothing, that may get so many bytes.
+    pub fn new(alloc: Global, most: usize) -> Gathered<'a>
+        ensures { result ≡ record { text = []; most = most } }
+    {
+        Gathered {
+            pieces: Vec::new(alloc),
+            room: most,
+        }
+    }
+
+    /// The pieces that were gathered.
+    pub fn pieces(&self) -> &[&'a [u8]]
+        ensures text { joined result.now ≡ self.now.text }
+        ensures within { length (joined result.now) ≤ self.now.most }
+        ensures few { length result.now < 2 ^ 59 }
+    {
+        self.pieces.as_slice()
+    }
+
+    /// It has no more bytes than it may have: this does nothing, and tells it.
+    pub fn is_within(&self)
+        ensures { length self.now.text ≤ self.now.most }
+    {
+        let _room = self.room;
+    }
+
+    /// Adds a piece behind.
+    #[tactic(auto, using(crate::proofs::Gathers::added, crate::proofs::Gathers::added_nothing, crate::proofs::Gathers::over))]
+    pub fn add(&mut self, piece: &'a [u8]) -> Result<(), Shortage>
+        ensures ok { OnOk result (self.new ≡ record self.old { text = self.old.text ++ piece.now }) }
+        ensures long { IfErr result (λ e. e ≡ shortage.TooLong → self.old.most < length (self.old.text ++ piece.now)) }
+    {
+        if piece.len() == 0 {
+            return Ok(());
+        }
+        if piece.len() > self.room {
+            return Err(Shortage::TooLong);
+        }
+        self.pieces.push(piece)?;
+        self.room -= piece.len();
+        Ok(())
+    }
+
+    /// Adds a text in pieces behind.
+    #[tactic(auto, using(crate::proofs::Gathers::all_next, crate::proofs::Gathers::all_long, crate::proofs::Gathers::all_added))]
+    pub fn add_all(&mut self, pieces: &[&'a [u8]]) -> Result<(), Shortage>
+        ensures ok { OnOk result (self.new ≡ record self.old { text = self.old.text ++ joined pieces.now }) }
+        ensures long { IfErr result (λ e. e ≡ shortage.TooLong → self.old.most < length (self.old.text ++ joined pieces.now)) }
+    {
+        for piece in pieces {
+            self.add(piece)?;
+        }
+        Ok(())
+    }
+
+    /// Adds a text in pieces behind, so many times.
+    #[tactic(auto, using(crate::proofs::Gathers::no_times, crate::proofs::Gathers::times_next, crate::proofs::Gathers::times_long, crate::proofs::Gathers::times_added))]
+    pub fn repeat(&mut self, pieces: &[&'a [u8]], count: u32) -> Result<(), Shortage>
+        ensures ok { OnOk result (self.new ≡ record self.old { text = self.old.text ++ concat (replicate count (joined pieces.now)) }) }
+        ensures long { IfErr result (λ e. e ≡ shortage.TooLong → self.old.most < length (self.old.text ++ concat (replicate count (joined pieces.now)))) }
+    {
+        if is_nothing(pieces) {
+            return Ok(());
+        }
+        let mut left = count;
+        'times: while left > 0 {
+            self.add_all(pieces)?;
+            left -= 1;
+        }
+        Ok(())
+    }
+}
+
+impl<T: Drop> From<AllocFailed<T>> for Shortage {
+    ghost use Rattle.std.specs.Prelude.{◌≡◌};
+    ghost use Rattle.abel_expand.specs.declared.gathered.Shortage.TheVariants as shortage;
+
+    ghost from_gives = { λ _ e. e ≡ shortage.OutOfMemory };
+
+    fn from(_error: AllocFailed<T>) -> Shortage {
+        Shortage::OutOfMemory
+    }
+}
+
+impl From<AllocError> for Shortage {
+    ghost use Rattle.std.specs.Prelude.{◌≡◌};
+    ghost use Rattle.abel_expand.specs.declared.gathered.Shortage.TheVariants as shortage;
+
+    ghost from_gives = { λ _ e. e ≡ shortage.OutOfMemory };
+
+    fn from(_error: AllocError) -> Shortage {
+        Shortage::OutOfMemory
+    }
+}

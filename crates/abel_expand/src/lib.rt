@@ -1,0 +1,19 @@
+//! The expanded text of a source, byte by byte.
+#![tactic(auto)]
+
+mod digits;
+mod expanding;
+mod fault;
+mod front;
+mod gather;
+mod gathered;
+mod reader;
+mod replaced;
+mod rules;
+mod spoken;
+#[cfg(test)]
+mod tests;
+
+pub use expanding::expand;
+pub use fault::ExpandFault;
+pub use reader::Reader;

@@ -1,0 +1,210 @@
+//! The expanded text, byte by byte.
+
+ghost use Rattle.std.specs.Prelude.{◌≡◌, ℕ, ◌+◌, ◌<◌, ◌≤◌, ◌++◌, List, [], ◌∷◌, length, Some, None, Ok, Err, IfOk, IfErr, OnOk, IfSome, IfNone, true, false};
+ghost use Rattle.abel_macros.specs.Kept.{tables_of};
+ghost use Rattle.abel_expand.specs.declared.fault.ExpandFault.TheVariants as fault;
+ghost use Rattle.abel_expand.specs.Fronts.{changed, IsChange};
+ghost use Rattle.abel_expand.specs.Runs.{after, bytes_given, bytes_waiting, IsExpanded, IsRefusal};
+ghost use Rattle.abel_expand.specs.Stands.{left_to_do};
+
+use crate::fault::ExpandFault;
+use crate::front::{Change, Front, look};
+use abel_lexer::place_past;
+use abel_macros::Tables;
+use pld_base::{OutOfMemory, Place};
+use std::alloc::Global;
+use std::marker::Model;
+use text_pieces::Rest;
+
+/// Gives the expanded text of a text byte by byte. What is still to be read are pieces of the text.
+#[derive(Drop)]
+pub struct Reader<'a> {
+    alloc: Global,
+    text: &'a [u8],
+    rest: Rest<'a>,
+    tables: Tables<'a>,
+    said: Vec<u8>,
+    at: usize,
+    copied: usize,
+    place: Place,
+    turns: usize,
+    given: usize,
+    done: usize,
+    rewritings: usize,
+    refused: Option<ExpandFault>,
+}
+
+impl<'a> Model for Reader<'a> {
+    ghost use Rattle.std.specs.Prelude.{◌≡◌, ◌≤◌, None, length, drop};
+    ghost use Rattle.abel_expand.specs.Runs.{Reading};
+    ghost use Rattle.abel_expand.specs.Stands.{Stands};
+
+    ghost Value = { Reading };
+
+    ghost view = { λ r. record { text = r.text.now; turns = r.turns; given = r.given; refused = r.refused } };
+
+    ghost invariant = { λ r. (r.at ≤ length r.said.items) × (r.refused ≡ None → Stands r.text.now r.turns r.given r.done r.rewritings r.tables (drop r.at r.said.items) r.copied r.rest r.place) };
+}
+
+/// Defines something.
+fn change_tables<'a>(tables: &mut Tables<'a>, change: Change<'a>) -> Result<(), OutOfMemory>
+    requires { IsChange change }
+    ensures { OnOk result (tables_of tables.new ≡ changed change.entry (tables_of tables.old)) }
+{
+    match change {
+        Change::Nothing => Ok(()),
+        Change::Define(name, entry) => tables.define(name, entry),
+        Change::Keep(name, value) => tables.keep(name, value),
+        Change::Radix(radix) => {
+            tables.set_radix(radix);
+            Ok(())
+        }
+    }
+}
+
+impl<'a> Reader<'a> {
+    /// A reader that has given nothing. It takes no memory.
+    pub fn new(alloc: Global, text: &'a [u8]) -> Reader<'a>
+        requires { length text.now ≤ 1048576 }
+        ensures text { result.text ≡ text.now }
+        ensures given { bytes_given result ≡ [] }
+        ensures refused { result.refused ≡ None }
+    {
+        Reader {
+            alloc,
+            text,
+            rest: Rest::new(alloc, text),
+            tables: Tables::new(alloc),
+            said: Vec::new(alloc),
+            at: 0,
+            copied: 0,
+            place: Place { line: 1, column: 1 },
+            turns: 0,
+            given: 0,
+            done: 0,
+            rewritings: 0,
+            refused: None,
+        }
+    }
+
+    /// Gives the next byte that waits.
+    fn give(&mut self) -> Option<u8>
+        requires { self.old.refused ≡ None }
+        ensures some { IfSome result (λ b. bytes_waiting self.old ≡ b ∷ bytes_waiting self.new) }
+        ensures step { IfSome result (λ b. self.new ≡ record self.old { given = self.old.given + 1 }) }
+        ensures most { IfSome result (λ b. self.old.given < 1048576) }
+        ensures none { IfNone result ((bytes_waiting self.old ≡ []) × (self.new ≡ self.old)) }
+        ensures all { IfNone result (self.old.given ≡ length (after self.old.turns self.old.text).done) }
+    {
+        if self.at < self.said.len() {
+            let byte = self.said[self.at];
+            self.at += 1;
+            self.given += 1;
+            self.place = place_past(self.place, &[byte]);
+            return Some(byte);
+        }
+        if self.copied == 0 {
+            return None;
+        }
+        match self.rest.take_byte() {
+            Some(byte) => {
+                self.copied -= 1;
+                self.given += 1;
+                self.place = place_past(self.place, &[byte]);
+                Some(byte)
+            }
+            None => None,
+        }
+    }
+
+    /// Takes a turn of the text, where nothing waits and something is left of it.
+    fn turn(&mut self) -> Result<(), ExpandFault>
+        requires going { self.old.refused ≡ None }
+        requires given { bytes_waiting self.old ≡ [] }
+        requires some { (after self.old.turns self.old.text).rest ≡ [] → ⊥ }
+        ensures ok { OnOk result (self.new ≡ record self.old { turns = self.old.turns + 1 }) }
+        ensures falls { OnOk result (left_to_do (after self.new.turns self.new.text) < left_to_do (after self.old.turns self.old.text)) }
+        ensures err { IfErr result (λ e. (self.new.text ≡ self.old.text) × (self.new.turns ≡ self.old.turns) × (self.new.given ≡ self.old.given)) }
+        ensures refused { IfErr result (λ e. IsRefusal self.old.text (bytes_given self.old) e) }
+    {
+        match look(self.alloc, &self.rest, &self.tables, 1048576 - self.done)? {
+            Front::Copy(count) => {
+                self.copied = count;
+                self.done += count;
+                self.turns += 1;
+            }
+            Front::Said(change, bytes, end) => {
+                self.refused = Some(ExpandFault::OutOfMemory);
+                change_tables(&mut self.tables, change)?;
+                self.refused = None;
+                self.rest.skip(end);
+                self.done += bytes.len();
+                self.said = bytes;
+                self.at = 0;
+                self.copied = 0;
+                self.turns += 1;
+            }
+            Front::Rewritten(result, end) => {
+                if self.rewritings == 65536 {
+                    return Err(ExpandFault::ExpansionLimit(self.place));
+                }
+                self.refused = Some(ExpandFault::OutOfMemory);
+                self.rest.skip(end);
+                self.rest.put_all(result.pieces())?;
+                self.refused = None;
+                self.copied = 0;
+                self.rewritings += 1;
+                self.turns += 1;
+            }
+            Front::TooLong => {
+                if self.rewritings == 65536 {
+                    return Err(ExpandFault::ExpansionLimit(self.place));
+                }
+                return Err(ExpandFault::TooLong(self.place));
+            }
+            Front::BadDirective => return Err(ExpandFault::BadDirective(self.place)),
+            Front::Unsupported => return Err(ExpandFault::Unsupported(self.place)),
+        }
+        Ok(())
+    }
+
+    /// Whether nothing is left of the text, where nothing waits.
+    fn is_at_end(&self) -> bool
+        requires going { self.now.refused ≡ None }
+        requires given { bytes_waiting self.now ≡ [] }
+        ensures yes { result ≡ true → (after self.now.turns self.now.text).rest ≡ [] }
+        ensures no { result ≡ false → (after self.now.turns self.now.text).rest ≡ [] → ⊥ }
+    {
+        self.rest.len() == 0
+    }
+
+    /// The next byte of the expanded text.
+    #[tactic(auto, using(crate::proofs::Growth::one_more, crate::proofs::Growth::kept))]
+    pub fn next(&mut self) -> Result<Option<u8>, ExpandFault>
+        ensures text { self.new.text ≡ self.old.text }
+        ensures byte { IfOk result (λ o. IfSome o (λ b. bytes_given self.new ≡ bytes_given self.old ++ b ∷ [])) }
+        ensures count { IfOk result (λ o. IfSome o (λ b. (self.new.given ≡ self.old.given + 1) × (self.old.given < 1048576))) }
+        ensures whole { IfOk result (λ o. IfNone o (IsExpanded self.new.text (bytes_given self.new))) }
+        ensures none { IfOk result (λ o. IfNone o (bytes_given self.new ≡ bytes_given self.old)) }
+        ensures err { IfErr result (λ e. (self.new.refused ≡ Some e) × (bytes_given self.new ≡ bytes_given self.old)) }
+        ensures going { IfOk result (λ o. self.new.refused ≡ None) }
+        ensures cause { self.old.refused ≡ None → IfErr result (λ e. IsRefusal self.new.text (bytes_given self.new) e) }
+        ensures again { IfSome self.old.refused (λ e. result ≡ Err e) }
+    {
+        if let Some(fault) = self.refused {
+            return Err(fault);
+        }
+        'turns: loop {
+            if let Some(byte) = self.give() {
+                return Ok(Some(byte));
+            }
+            if self.is_at_end() {
+                return Ok(None);
+            }
+            if let Err(fault) = self.turn() {
+                self.refused = Some(fault);
+                return Err(fault);
+            }
+        }
+    }
+}
