@@ -1,0 +1,2 @@
+//! The places in a tree stand in the order of the source, each a token's.
+#![tactic(auto)]
