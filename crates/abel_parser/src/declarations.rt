@@ -16,7 +16,7 @@ use crate::items::{istype, names, option, some_istype, some_nums};
 use abel_lexer::Token;
 use abel_syntax::{Halt, Terminal, expect, starts};
 use abel_tree::{Decl, Expr, Item, Span, Word};
-use expr_parser::{dont_care, expr, text};
+use expr_parser::{dont_care, expr, packed, text};
 use pld_base::{ListOf, OutOfMemory};
 use std::alloc::Global;
 
@@ -271,8 +271,8 @@ fn constants<'a>(
     let (_end, rest) = expect(rest, &[Terminal::Semicolon])?;
     Ok((
         Decl::Constants {
-            names: ListOf::from_vec(names),
-            values: ListOf::from_vec(values),
+            names: packed(names),
+            values: packed(values),
         },
         rest,
     ))

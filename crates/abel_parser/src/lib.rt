@@ -8,14 +8,10 @@ mod fault;
 mod goals;
 mod items;
 mod module;
-#[cfg(test)]
-mod outline;
 mod parsing;
 mod sections;
 mod statements;
 mod tables;
-#[cfg(test)]
-mod tests;
 mod transitions;
 
 pub use fault::ParseFault;

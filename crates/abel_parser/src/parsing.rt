@@ -4,6 +4,8 @@ ghost use Rattle.std.specs.Prelude.{◌≡◌, IfOk, IfErr};
 ghost use Rattle.grammar.specs.Verdict.{Spells};
 ghost use Rattle.abel_tree.specs.Tree.{ModuleTree};
 ghost use Rattle.abel_tree.specs.View.{view_module};
+ghost use Rattle.source_order.specs.Places.{places_of_module};
+ghost use Rattle.source_order.specs.Order.{Along, TokensRise, SectionsRise};
 ghost use Rattle.abel_syntax.specs.Modules as grammar;
 ghost use Rattle.abel_parser.specs.Refusals.{place_at, IsRefused};
 
@@ -33,6 +35,8 @@ pub fn parse(alloc: Global, tokens: &[Token], end: Place) -> Result<Module, Pars
     ensures tree { IfOk result (λ m. Spells grammar.source tokens.now (view_module m)) }
     ensures only { IfOk result (λ m. (t : ModuleTree) → Spells grammar.source tokens.now t
         → t ≡ view_module m) }
+    ensures places { IfOk result (λ m. Along tokens.now (places_of_module (view_module m))) }
+    ensures rising { IfOk result (λ m. TokensRise tokens.now → SectionsRise (view_module m).sections) }
     ensures refused { IfErr result (IsRefused tokens.now end) }
 {
     match source(alloc, tokens, NESTINGS) {

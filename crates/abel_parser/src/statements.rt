@@ -16,8 +16,8 @@ use crate::assignments::{assign, dont_care_stmt};
 use abel_lexer::Token;
 use abel_syntax::{Halt, Terminal, expect, starts};
 use abel_tree::{Expr, Stmt, When};
-use expr_parser::{expr, maybe};
-use pld_base::{Boxed, ListOf, Place};
+use expr_parser::{expr, maybe, packed};
+use pld_base::{Boxed, Place};
 use std::alloc::Global;
 
 const ASSIGN_STARTS: [Terminal; 3] = [Terminal::Not, Terminal::Identifier, Terminal::Left];
@@ -148,7 +148,7 @@ fn group<'a>(alloc: Global, tokens: &'a [Token], depth: u8) -> Result<(Stmt, &'a
     let (list, rest) = stmts(alloc, rest, depth)?;
     let (_close, rest) = expect(rest, &[Terminal::BraceClose])?;
     let (_end, rest) = maybe(rest, Terminal::Semicolon);
-    Ok((Stmt::Group(ListOf::from_vec(list)), rest))
+    Ok((Stmt::Group(packed(list)), rest))
 }
 
 /// A statement that is no group, where no nesting may be opened.

@@ -2,6 +2,8 @@
 use Rattle.std.proofs.Common.{◌≡◌, [], ◌∷◌, true, false, length, List, sym, ap, subst, ◌∙◌}
 use Rattle.abel_tree.specs.View.{view_module}
 use Rattle.abel_syntax.proofs.Verdict.{is_tree, is_only_tree}
+use Rattle.source_order.proofs.Modules.{places_lie}
+use Rattle.source_order.proofs.Sections.{places_rise}
 use Rattle.abel_parser.proofs.Refused.{refused_syntax, refused_deep, refused_left, none_left}
 use Rattle.abel_parser.proofs.parsing.parse.Goals as goal
 
@@ -12,6 +14,16 @@ returns-then-is_empty-clause-tree c =
 pub returns-then-is_empty-clause-only : goal.returns-then-is_empty-clause-only
 returns-then-is_empty-clause-only c =
     is_only_tree c.args.tokens.now (view_module c.in-Ok.module) (none_left c.args.tokens.now (view_module c.in-Ok.module) c.in-Ok.rest.now c.in-Ok.ensures (sym c.is_empty.ensures ∙ c.if-is_empty.true))
+
+pub returns-then-is_empty-clause-places : goal.returns-then-is_empty-clause-places
+returns-then-is_empty-clause-places c =
+    places_lie c.args.tokens.now (view_module c.in-Ok.module)
+    (is_tree c.args.tokens.now (view_module c.in-Ok.module) (none_left c.args.tokens.now (view_module c.in-Ok.module) c.in-Ok.rest.now c.in-Ok.ensures (sym c.is_empty.ensures ∙ c.if-is_empty.true)))
+
+pub returns-then-is_empty-clause-rising : goal.returns-then-is_empty-clause-rising
+returns-then-is_empty-clause-rising c =
+    places_rise c.args.tokens.now (view_module c.in-Ok.module)
+    (is_tree c.args.tokens.now (view_module c.in-Ok.module) (none_left c.args.tokens.now (view_module c.in-Ok.module) c.in-Ok.rest.now c.in-Ok.ensures (sym c.is_empty.ensures ∙ c.if-is_empty.true)))
 
 pub returns-else-is_empty-clause-refused : goal.returns-else-is_empty-clause-refused
 returns-else-is_empty-clause-refused c =
