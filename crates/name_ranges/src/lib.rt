@@ -1,0 +1,8 @@
+//! The names that a range of names stands for.
+#![tactic(auto)]
+
+mod ranges;
+#[cfg(test)]
+mod tests;
+
+pub use ranges::{names_of_item, names_of_range, range_list};

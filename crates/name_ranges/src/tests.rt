@@ -1,0 +1,18 @@
+//! Ranges up and down, and ends that don't agree.
+
+use crate::range_list;
+use std::test::Fail;
+
+#[test]
+fn names_of_ranges(rt: HostRuntime) -> Result<(), Fail> {
+    let down = range_list(rt.alloc(), b"D10", b"D8")?;
+    assert_eq!(rt; down.len(), 3);
+    assert_eq!(rt; down[0].as_slice(), b"D10".as_slice());
+    assert_eq!(rt; down[2].as_slice(), b"D8".as_slice());
+    let up = range_list(rt.alloc(), b"q0", b"q9999")?;
+    assert_eq!(rt; up.len(), 10_000);
+    assert_eq!(rt; range_list(rt.alloc(), b"a1", b"b2")?.len(), 0);
+    assert_eq!(rt; range_list(rt.alloc(), b"a01", b"a2")?.len(), 0);
+    assert_eq!(rt; range_list(rt.alloc(), b"a", b"a2")?.len(), 0);
+    Ok(())
+}
