@@ -1,0 +1,8 @@
+-- What the strings so far say.
+use Rattle.std.proofs.Common.{◌≡◌, take}
+use Rattle.abel_meaning.specs.Declarations.{all_said}
+use Rattle.decls.specs.Shown.{view_said}
+use Rattle.decls.proofs.saying.all_in.Given as goal
+
+abbrev pub invariant-loop-string : goal.invariant-loop-string
+invariant-loop-string l = view_said l.said ≡ all_said (take l.string-index l.strings)

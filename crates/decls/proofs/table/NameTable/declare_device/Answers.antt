@@ -1,0 +1,12 @@
+-- A device is counted, and its name entered.
+use Rattle.std.proofs.Common.{subst, refl}
+use Rattle.abel_tree.specs.Entries.{ADeviceName}
+use Rattle.abel_meaning.specs.Declarations.{no_words}
+use Rattle.decls.specs.Steps.{entered, device_counted}
+use Rattle.decls.specs.Shown.{Shows}
+use Rattle.decls.proofs.table.NameTable.declare_device.Goals as goal
+
+pub returns : goal.returns
+returns c = λ m s sh.
+    subst (λ n. Shows m c.enter.new.self (entered n c.args.name.now.place ADeviceName no_words (device_counted c.args.name.now s))) c.bytes.ensures
+    (c.in_ok-enter.ensures m _ ADeviceName refl (c.in_ok-count_device.ensures m s sh))

@@ -1,0 +1,11 @@
+pub mod AllDeclarations
+pub mod Attributes
+pub mod Devices
+pub mod FaultOrder
+pub mod NameRefusals
+pub mod NamesBefore
+pub mod Pieces
+pub mod RangeParts
+pub mod Refused
+pub mod Shown
+pub mod Steps

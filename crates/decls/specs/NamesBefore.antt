@@ -1,0 +1,55 @@
+-- The names that stand before a declaration or a use (ABEL-HDL Reference Manual, declarations).
+use Rattle.std.specs.Prelude.{ℕ, ◌==◌, Bool, false, List, [], ◌∷◌, ◌++◌, if◌then◌else◌, is_some, map, fold, drop, length, bytes_eq}
+use Rattle.std.specs.List.{list_any}
+use Rattle.abel_tree.specs.Entries.{Kind, APin, ADeviceName, Words, Entry, kind_of}
+use Rattle.abel_tree.specs.Ranges.{numbers_of}
+use Rattle.abel_tree.specs.Tree.{Declaration, SomePins}
+use Rattle.abel_meaning.specs.Declarations.{GivenName, given_names, entry, no_words, declared}
+
+-- a name that gets no number is known, but is no signal
+abbrev pub without_number : GivenName → Entry
+without_number x = entry x.name x.place ADeviceName no_words
+
+-- the names of a pin declaration that get no number: it is refused elsewhere
+abbrev pub unnumbered : Declaration → List Entry
+unnumbered (SomePins names numbers attributes) =
+    map without_number (drop (length (numbers_of (length (given_names names)) numbers)) (given_names names))
+unnumbered _ = []
+
+-- the names with those of one more declaration
+abbrev pub with_declaration : List Entry → Declaration → List Entry
+with_declaration es d = declared es d ++ unnumbered d
+
+-- the names behind these declarations; a name that is declared twice stands twice
+abbrev pub names_behind : List Declaration → List Entry
+names_behind ds = fold with_declaration [] ds
+
+-- what one more declaration adds
+abbrev pub added : List Entry → Declaration → List Entry
+added es d = drop (length es) (with_declaration es d)
+
+-- one more name, if it is new
+abbrev pub enter : List Entry → Entry → List Entry
+enter es e = if is_some (kind_of es e.name) then es else es ++ e ∷ []
+
+-- each name as it is declared first
+abbrev pub first_entries : List Entry → List Entry
+first_entries es = fold enter [] es
+
+-- the words of a name, as it is declared first: none or one
+abbrev pub words_named : List Entry → List ℕ → List Words
+words_named [] name = []
+words_named (e ∷ es) name = if bytes_eq name e.name then e.words ∷ [] else words_named es name
+
+-- those of all names of a declaration
+abbrev pub words_of_names : List Entry → List GivenName → List Words
+words_of_names es [] = []
+words_of_names es (x ∷ xs) = words_named es x.name ++ words_of_names es xs
+
+-- some name has this pin
+abbrev pub is_on_pin : (pin : ℕ) → Kind → Bool
+is_on_pin n (APin pin negated) = pin == n
+is_on_pin n _ = false
+
+abbrev pub is_taken : List Entry → (pin : ℕ) → Bool
+is_taken es n = list_any (λ (e : Entry). is_on_pin n e.kind) es

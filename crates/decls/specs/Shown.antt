@@ -1,0 +1,90 @@
+-- What the table of the code shows of the declarations so far.
+use Rattle.std.specs.Prelude.{◌≡◌, ℕ, Bool, true, false, Option, Some, List, ◌++◌, if◌then◌else◌, map, nat_lt, min}
+use Rattle.std.specs.Global.{Vec}
+use Rattle.pld_base.specs.declared.place.Place.{Place}
+use Rattle.pld_device.specs.Table.{Table}
+use Rattle.abel_tree.specs.Entries.{Kind, APin, ANode, Words, Entry, view_meaning, is_signal, is_value, find}
+use Rattle.abel_tree.specs.FirstRefusal.{first_refusal}
+use Rattle.abel_tree.specs.declared.expressions.Member.{Member}
+use Rattle.abel_tree.specs.declared.statements.When.{When}
+use Rattle.abel_tree.specs.declared.statements.Stmt.TheFolds.{fold-When}
+use Rattle.abel_tree.specs.declared.diagrams.If.{If}
+use Rattle.abel_tree.specs.declared.diagrams.Arm.TheFolds.{fold-If}
+use Rattle.abel_tree.specs.Tree.{Tree, Statement, Branch, StateTree, members_of}
+use Rattle.abel_tree.specs.Uses.{Use, uses, member_uses, list_uses, branch_uses, branches_uses}
+use Rattle.abel_tree.specs.View.{view_member, stmt_layer, when_layer, arm_layer, case_layer, case_arm_layer, if_layer}
+use Rattle.abel_meaning.specs.Declarations.{GivenName, entry}
+use Rattle.decls.specs.declared.said.Said.{Said}
+use Rattle.decls.specs.declared.table.Known.{Known}
+use Rattle.decls.specs.declared.table.Waiting.{Waiting}
+use Rattle.decls.specs.declared.table.NameTable.{NameTable}
+use Rattle.decls.specs.FaultOrder.{name_order}
+use Rattle.decls.specs.Refused.{is_signal_pin}
+use Rattle.decls.specs.Steps.{Progress}
+
+-- a signal is wanted, or else a signal or constant
+abbrev pub wanted : Bool → Kind → Bool
+wanted true k = is_signal k
+wanted false k = is_value k
+
+abbrev pub view_said : Said → Words
+view_said w =
+    record { combinational = w.combinational; registered = w.registered; buffer = w.buffer; invert = w.invert; dc = w.dc }
+
+abbrev pub kept_node : ℕ → ℕ
+kept_node n = if nat_lt n 128 then n else 0
+
+-- a name of a declaration
+abbrev pub given : List ℕ → Place → Bool → GivenName
+given name place negated = record { name = name; place = place; negated = negated }
+
+-- the table keeps no number of a pin or node that is refused
+abbrev pub kept_kind : Table → Kind → Kind
+kept_kind t (APin n negated) = APin (if is_signal_pin t n then n else 0) negated
+kept_kind t (ANode n) = ANode (kept_node n)
+kept_kind t k = k
+
+abbrev pub kept : Table → Entry → Entry
+kept t e = record e { kind = kept_kind t e.kind }
+
+-- an entry of the table
+abbrev pub view_known : Vec ℕ × Known → Entry
+view_known x = entry x.0.items x.1.place (view_meaning x.1.meaning) (view_said x.1.said)
+
+-- a name that waits, by its number
+abbrev pub waits_for : List Entry → GivenName → Place × Option ℕ
+waits_for es x = (x.place, find es x.name)
+
+abbrev pub view_waiting : Waiting → Place × Option ℕ
+view_waiting w = (w.place, Some w.number)
+
+pub record Shows (t : Table) (d : NameTable) (s : Progress) : Type 0 where
+  pub pins : d.pins ≡ t.pins
+  pub ground : d.ground ≡ t.ground_pin
+  pub rows : map view_known d.names.entries ≡ map (kept t) s.entries
+  pub device : d.has_device ≡ s.device
+  pub nodes : d.nodes ≡ min s.nodes 128
+  pub taken : d.taken.items ≡ s.taken
+  pub waiting : map view_waiting d.waiting.items ≡ map (waits_for s.entries) s.waiting
+  pub first : d.fault ≡ first_refusal name_order s.faults
+
+-- ---- lists of the tree, as the code has them
+
+-- the uses of the members of a set
+abbrev pub members_in : List Member → List Use
+members_in ms = member_uses (members_of (map view_member ms))
+
+-- a WHEN and an IF
+abbrev pub view_when : When → Statement
+view_when = fold-When Statement Statement stmt_layer when_layer
+
+abbrev pub view_if : If → Branch
+view_if = fold-If Branch Branch (Tree × (Place × Branch)) Branch arm_layer case_layer case_arm_layer if_layer
+
+-- the uses of an arm of CASE
+abbrev pub choice_uses : Tree × (Place × Branch) → List Use
+choice_uses c = uses c.0 ++ branch_uses c.1.1
+
+-- those of a state
+abbrev pub state_uses : StateTree → List Use
+state_uses s = uses s.value ++ (list_uses s.statements ++ branches_uses s.transitions)
