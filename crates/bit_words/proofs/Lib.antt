@@ -1,0 +1,3 @@
+pub mod AlongWords
+pub mod Making
+pub mod Places
