@@ -1,0 +1,8 @@
+pub mod FaultOrder
+pub mod FoundMembers
+pub mod Looked
+pub mod NamesMore
+pub mod SetMembers
+pub mod Spine
+pub mod SummedUp
+pub mod WholeNumbers

@@ -1,0 +1,12 @@
+-- The names that were learnt.
+use Rattle.std.proofs.Common.{◌≡◌, map, take, length}
+use Rattle.abel_tree.specs.Entries.{view_declared}
+use Rattle.set_expr.specs.KnownNames.{IsKnown}
+use Rattle.set_expr.proofs.learning.known_names.Given as goal
+
+abbrev pub invariant-loop-declared : goal.invariant-loop-declared
+invariant-loop-declared l =
+    record {
+      known : IsKnown (map view_declared (take l.declared-index l.declared-items)) l.known;
+      number : l.number ≡ length (map view_declared (take l.declared-index l.declared-items));
+    }

@@ -1,0 +1,59 @@
+-- One operator down, one back up, and one member more.
+use Rattle.std.proofs.Common.{◌≡◌, ◌<◌, ◌+◌, [], ◌∷◌, ◌++◌, map, take, sym, ap, subst, ◌∙◌, arith}
+use Rattle.std.proofs.lemmas.List.{map_push}
+use Rattle.abel_tree.specs.Tree.{members_of}
+use Rattle.abel_tree.specs.View.{view, view_member}
+use Rattle.abel_tree.specs.declared.expressions.Expr.{size-Expr}
+use Rattle.abel_tree.specs.declared.expressions.Expr as expr
+use Rattle.set_expr.specs.FoundNames.{names_found, all_found, found_of}
+use Rattle.set_expr.specs.KnownNames.{SumsUp}
+use Rattle.set_expr.specs.Members.{AreSummedUp}
+use Rattle.set_expr.specs.Refusals.{found_set}
+use Rattle.set_expr.proofs.FoundMembers.{front_more, whole_front, members_more, view_set}
+use Rattle.set_expr.proofs.Spine.{seen, Down, Up, up_start, goes_down, goes_up, up_right}
+use Rattle.set_expr.proofs.walking.+checking.Goals as goal
+
+pub check_expr-down-preserved : goal.check_expr-down-preserved
+check_expr-down-preserved t c =
+    let e : map seen c.push.new.self.items ≡ map seen c.down.links.items ++ (c.in-Binary.sign, c.in-Binary.place, c.get.result.now) ∷ [] = rw c.in_ok-push.ensures.items (map_push seen c.down.links.items (c.in-Binary.sign, c.in-Binary.place, c.get.result)) in
+    let d : Down (expr.Binary c.in-Binary.sign c.in-Binary.place c.in-Binary.left c.in-Binary.right) (map seen c.down.links.items) c.args.expr.now = subst (λ x. Down x (map seen c.down.links.items) c.args.expr.now) c.in-Binary.is c.down.invariant in
+    rw (e, c.get-first.ensures, c.get.ensures) (goes_down c.in-Binary.sign c.in-Binary.place c.in-Binary.left c.in-Binary.right (map seen c.down.links.items) c.args.expr.now d)
+
+pub check_expr-check_expr-requires : goal.check_expr-check_expr-requires
+check_expr-check_expr-requires t c =
+    let e : map seen c.up.links.items ≡ map seen c.pop.new.self.items ++ (c.in-Some.sign, c.in-Some.place, c.in-Some.right.now) ∷ [] = rw c.in-Some.ensures.items (map_push seen c.pop.new.self.items (c.in-Some.sign, c.in-Some.place, c.in-Some.right)) in
+    let below : size-Expr c.in-Some.right.now < size-Expr c.args.expr.now = up_right c.args.known.now c.up.found (map seen c.pop.new.self.items) c.in-Some.sign c.in-Some.place c.in-Some.right.now c.args.expr.now (subst (λ xs. Up c.args.known.now c.up.found xs c.args.expr.now) e c.up.invariant) in
+    (omega (arith, below, c.decreases), tt)
+
+pub check_expr-up-preserved : goal.check_expr-up-preserved
+check_expr-up-preserved t c =
+    let e : map seen c.up.links.items ≡ map seen c.pop.new.self.items ++ (c.in-Some.sign, c.in-Some.place, c.in-Some.right.now) ∷ [] = rw c.in-Some.ensures.items (map_push seen c.pop.new.self.items (c.in-Some.sign, c.in-Some.place, c.in-Some.right)) in
+    goes_up c.args.known.now c.up.found c.in_ok-other.other c.check_both-found.result (map seen c.pop.new.self.items) c.in-Some.sign c.in-Some.place c.in-Some.right.now c.args.expr.now
+    (subst (λ xs. Up c.args.known.now c.up.found xs c.args.expr.now) e c.up.invariant)
+    c.in_ok-other.ensures
+    c.check_both-found.ensures
+
+pub check_expr-up-init : goal.check_expr-up-init
+check_expr-up-init t c = up_start c.args.known.now c.in_ok-found.found c.down.first.now (map seen c.down.links.items) c.args.expr.now c.down.invariant c.in_ok-found.ensures
+
+pub check_level-loop-member-init : goal.check_level-loop-member-init
+check_level-loop-member-init t c es k = c.new-parts.ensures c.in-Set.place
+
+pub check_level-loop-member-preserved : goal.check_level-loop-member-preserved
+check_level-loop-member-preserved t c es k =
+    let ns = names_found es in
+    let ms = c.as_slice-member-items.result.now in
+    let i = c.loop-member.member-index in
+    let here : map view_member (take (i + 1) ms) ≡ map view_member (take i ms) ++ view_member c.member-item.result ∷ [] = front_more view_member ms i c.member-item.result c.loop-member-test.true c.member-item.is in
+    subst (λ gs. AreSummedUp c.in-Set.place c.in_ok-parts-in-Set.parts gs)
+    (sym (members_more ns (map view_member (take i ms)) (view_member c.member-item.result)) ∙ ap (λ xs. all_found ns (members_of xs)) (sym here))
+    (c.in_ok-parts-in-Set.ensures es (all_found ns (members_of (map view_member (take i ms)))) k (c.loop-member.invariant es k))
+
+pub check_level-returns-after-loop-member : goal.check_level-returns-after-loop-member
+check_level-returns-after-loop-member t c es k =
+    let ns = names_found es in
+    let ms = c.as_slice-member-items.result.now in
+    let all : map view_member (take c.loop-member.member-index ms) ≡ map view_member c.in-Set.members = whole_front view_member ms c.loop-member.member-index c.loop-member-test.false ∙ ap (map view_member) c.as_slice-member-items.ensures in
+    subst (λ f. SumsUp c.whole.result f)
+    (ap (λ xs. found_set c.in-Set.place (all_found ns (members_of xs))) all ∙ (sym (view_set c.in-Set.place c.in-Set.members c.in-Set.extension ns) ∙ ap (λ e. found_of ns (view e)) (sym c.in-Set.is)))
+    (c.whole.ensures (all_found ns (members_of (map view_member (take c.loop-member.member-index ms)))) (c.loop-member.invariant es k))

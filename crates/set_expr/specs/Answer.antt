@@ -1,0 +1,120 @@
+-- What the bits of an expression are, and when which answer comes (ABEL-HDL Reference Manual, sets and operators; the
+-- limit is this project's rule).
+use Rattle.std.specs.Prelude.{◌≡◌, ℕ, ◌<◌, Bool, true, false, Option, None, Some, List, [], ◌∷◌, length, slice_get, Result, Ok, Err}
+use Rattle.pld_base.specs.declared.place.Place.{Place}
+use Rattle.pld_device.specs.Table.{Table}
+use Rattle.bit_expr.specs.declared.node.ExprId.{ExprId}
+use Rattle.bit_expr.specs.declared.node.Node.{Node}
+use Rattle.bit_expr.specs.Arena.{arena, formula_at, MOST, Grew, PassesLimit}
+use Rattle.bit_expr.specs.Formulas.{Formula, Const}
+use Rattle.abel_tree.specs.declared.names.Names.{Names}
+use Rattle.abel_tree.specs.Entries.{entries_of}
+use Rattle.abel_tree.specs.FirstRefusal.{first_refusal}
+use Rattle.abel_tree.specs.Tree.{Tree, ANumber, ASpecial, AName, ASet, AParen, AUnary, ABinary}
+use Rattle.abel_meaning.specs.Designs.{Design}
+use Rattle.abel_meaning.specs.Terms.{known_of, term_of}
+use Rattle.abel_meaning.specs.Numbers as number
+use Rattle.abel_meaning.specs.Values.{constant_of}
+use Rattle.abel_meaning.specs.BitWords.{Word}
+use Rattle.abel_meaning.specs.FormulaBits.{bits_of}
+use Rattle.set_expr.specs.declared.fault.SectionFault.{SectionFault}
+use Rattle.set_expr.specs.declared.fault.SectionFault.TheVariants as fault
+use Rattle.set_expr.specs.declared.shaped.Shape.{Shape}
+use Rattle.set_expr.specs.declared.shaped.Shape.TheVariants as shape
+use Rattle.set_expr.specs.declared.shaped.Shaped.{Shaped}
+use Rattle.set_expr.specs.FoundNames.{expression_found}
+use Rattle.set_expr.specs.SectionOrder.{section_order}
+use Rattle.set_expr.specs.Shapes.{HasShape}
+
+-- the names are those of the design, and its device has this table
+pub record IsDesignOf (t : Table) (n : Names) (d : Design) : Type 0 where
+  pub device : d.device ≡ t
+  pub names : d.names ≡ entries_of n
+  pub known : d.known ≡ known_of (entries_of n)
+
+-- ---- positions
+
+-- the formulas of positions, 0 at X
+abbrev pub bits_at : List Formula → List (Option ExprId) → Word
+bits_at fs [] = []
+bits_at fs (None ∷ ps) = Const false ∷ bits_at fs ps
+bits_at fs (Some id ∷ ps) = formula_at fs id ∷ bits_at fs ps
+
+-- which positions are X
+abbrev pub unknown_at : List (Option ExprId) → List Bool
+unknown_at [] = []
+unknown_at (None ∷ ps) = true ∷ unknown_at ps
+unknown_at (Some id ∷ ps) = false ∷ unknown_at ps
+
+-- each bit lies in an arena of so many formulas
+abbrev pub AreIn : ℕ → List (Option ExprId) → Type 0
+AreIn count [] = Unit {0}
+AreIn count (None ∷ ps) = AreIn count ps
+AreIn count (Some id ∷ ps) = (id.0 < count) × AreIn count ps
+
+-- ---- shapes
+
+-- how many positions a shape has; a number has none
+abbrev pub positions : Shape → ℕ
+positions (shape.Number n) = 0
+positions shape.Single = 1
+positions (shape.Set w) = w
+
+-- the X positions, of a shape that has positions
+abbrev pub HasUnknown : Shape → List Bool → List (Option ExprId) → Type 0
+HasUnknown (shape.Number n) xs ps = Unit {0}
+HasUnknown shape.Single xs ps = unknown_at ps ≡ xs
+HasUnknown (shape.Set w) xs ps = unknown_at ps ≡ xs
+
+-- the answer has the shape and the X positions of a value and the bits of a word, in an arena of these formulas
+pub record IsShaped (fs : List Formula) (s : Shaped) (v : number.Value) (w : Word) : Type 0 where
+  pub shape : HasShape s.shape v
+  pub unknown : HasUnknown s.shape v.unknown s.places
+  pub positions : length s.places ≡ positions s.shape
+  pub inside : AreIn (length fs) s.places
+  pub bits : bits_at fs s.places ≡ w
+
+-- ---- answers
+
+-- the place of an expression's first token
+abbrev pub first_place : Tree → Place
+first_place (ANumber n) = n.place
+first_place (ASpecial letter p) = p
+first_place (AName word e) = word.place
+first_place (ASet p ms e) = p
+first_place (AParen p t) = p
+first_place (AUnary sign p t) = p
+first_place (ABinary sign p t u) = first_place t
+
+-- what was there stands under its id
+abbrev pub Keeps : (old new : List Formula) → Type 0
+Keeps old new = (i : ℕ) (f : Formula) → slice_get old i ≡ Some f → slice_get new i ≡ Some f
+
+-- the first refusal of an expression, none where nothing is refused
+abbrev pub refusal_of : Names → Tree → Option SectionFault
+refusal_of n t = first_refusal section_order (expression_found (entries_of n) t).refusals
+
+-- making so many nodes in an arena of these formulas passes the limit
+abbrev pub IsPast : List Formula → ℕ → Type 0
+IsPast old nodes = PassesLimit MOST (length old) nodes
+
+-- an expression is accepted: nothing is refused, just its nodes were made, and these do not pass the limit
+pub record IsAccepted (n : Names) (d : Design) (t : Tree) (old new : List Formula) (s : Shaped) : Type 0 where
+  pub accepted : refusal_of n t ≡ None
+  pub shaped : IsShaped new s (constant_of d (term_of d.known t)) (bits_of d (term_of d.known t)).what
+  pub grew : Grew old new (bits_of d (term_of d.known t)).nodes
+  pub within : IsPast old (bits_of d (term_of d.known t)).nodes → ⊥
+
+-- its nodes pass the limit, and nothing else is refused
+pub record IsPastLimit (n : Names) (d : Design) (t : Tree) (old new : List Formula) (p : Place) : Type 0 where
+  pub accepted : refusal_of n t ≡ None
+  pub past : IsPast old (bits_of d (term_of d.known t)).nodes
+  pub place : p ≡ first_place t
+  pub keeps : Keeps old new
+
+-- the answer for an expression over the names of a design
+abbrev pub IsAnswer : Names → Design → Tree → (old new : List Node) → Result Shaped SectionFault → Type 0
+IsAnswer n d t old new (Ok s) = IsAccepted n d t (arena old) (arena new) s
+IsAnswer n d t old new (Err (fault.NodeLimit p)) = IsPastLimit n d t (arena old) (arena new) p
+IsAnswer n d t old new (Err fault.OutOfMemory) = Keeps (arena old) (arena new)
+IsAnswer n d t old new (Err f) = (refusal_of n t ≡ Some f) × (new ≡ old)

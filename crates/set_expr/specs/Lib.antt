@@ -1,0 +1,9 @@
+pub mod Answer
+pub mod FoundNames
+pub mod Given
+pub mod Kept
+pub mod KnownNames
+pub mod Members
+pub mod Refusals
+pub mod SectionOrder
+pub mod Shapes

@@ -1,0 +1,165 @@
+//! Shapes and refusals of expressions, without an arena.
+
+ghost use Rattle.std.specs.Prelude.{◌≡◌, List, [], ◌∷◌, ◌++◌, Option, Some, None};
+ghost use Rattle.pld_base.specs.declared.place.Place.{Place};
+ghost use Rattle.abel_tree.specs.FirstRefusal.{first_refusal};
+ghost use Rattle.abel_tree.specs.Entries.{Entry, entries_of};
+ghost use Rattle.abel_tree.specs.View.{view, view_member};
+ghost use Rattle.abel_meaning.specs.Numbers.{Value};
+ghost use Rattle.set_expr.specs.FoundNames.{NameFound, found_of, found_use, found_special, name_found, names_found, expression_found};
+ghost use Rattle.set_expr.specs.KnownNames.{IsKnown, IsKnownName, SumsUp, HasShapeIf};
+ghost use Rattle.set_expr.specs.Refusals.{Found, large_member, too_wide, width_with, found_set};
+ghost use Rattle.set_expr.specs.Members.{AreSummedUp};
+ghost use Rattle.set_expr.specs.SectionOrder.{section_order};
+
+use crate::checked::Checked;
+use crate::fault::{SectionFault, earlier};
+use crate::known::KnownNames;
+use crate::known_name::KnownName;
+use crate::rules::settled;
+use crate::shaped::Shape;
+use pld_base::Place;
+
+/// A value of a shape without X positions.
+pub(crate) fn plain(shape: Shape) -> Checked
+    ensures { result ≡ record { shape = Some shape; special = None; fault = None } }
+{
+    Checked {
+        shape: Some(shape),
+        special: None,
+        fault: None,
+    }
+}
+
+/// Refused.
+fn refused(fault: SectionFault) -> Checked
+    ensures { result ≡ record { shape = None; special = None; fault = Some fault } }
+{
+    Checked {
+        shape: None,
+        special: None,
+        fault: Some(fault),
+    }
+}
+
+/// `.X.`, and else `.C.` or `.Z.`.
+pub(crate) fn check_special(letter: u8, place: Place) -> Checked
+    ensures { SumsUp result (found_special letter place) }
+{
+    if letter == b'X' {
+        Checked {
+            shape: Some(Shape::Single),
+            special: Some(SectionFault::MisplacedSpecial(place)),
+            fault: None,
+        }
+    } else {
+        refused(SectionFault::MisplacedSpecial(place))
+    }
+}
+
+/// A name that is used at this place.
+fn check_use(place: Place, known: KnownName) -> Checked
+    ensures { (n : NameFound) → IsKnownName known n → SumsUp result (found_use place n) }
+{
+    if known.pulse {
+        return refused(SectionFault::MisplacedSpecial(place));
+    }
+    match known.checked.special {
+        None => known.checked,
+        Some(_) => Checked {
+            shape: known.checked.shape,
+            special: Some(SectionFault::MisplacedSpecial(place)),
+            fault: known.checked.fault,
+        },
+    }
+}
+
+/// The name with this text, used at this place.
+pub(crate) fn check_name(known: &KnownNames, text: &[u8], place: Place) -> Checked
+    ensures { (es : List Entry) → IsKnown es known.now → SumsUp result (found_use place (name_found (names_found es) text.now)) }
+{
+    match known.get(text) {
+        Some(name) => check_use(place, name),
+        None => plain(Shape::Number(0)),
+    }
+}
+
+/// A member that is a number is 0 or 1.
+fn large(place: Place, shape: Option<Shape>) -> Option<SectionFault>
+    ensures { (v : Option Value) → HasShapeIf shape v → result ≡ first_refusal section_order (large_member place v) }
+{
+    match shape {
+        Some(Shape::Number(n)) => {
+            if n < 2 {
+                None
+            } else {
+                Some(SectionFault::BadWidth(place))
+            }
+        }
+        _ => None,
+    }
+}
+
+/// How many positions a member gives.
+fn part_width(shape: Option<Shape>) -> u8
+    ensures { (v : Option Value) → HasShapeIf shape v → result ≡ width_with v }
+{
+    match shape {
+        None => 0,
+        Some(Shape::Number(_)) => 1,
+        Some(Shape::Single) => 1,
+        Some(Shape::Set(width)) => width,
+    }
+}
+
+/// A set has at most 32 positions.
+fn wide(place: Place, width: u8) -> Option<SectionFault>
+    ensures { result ≡ first_refusal section_order (too_wide place width) }
+{
+    if width > 32 {
+        Some(SectionFault::BadWidth(place))
+    } else {
+        None
+    }
+}
+
+/// What is found of the members of a set so far: their X positions, their refusals and how many positions they
+/// have, 255 where there are more.
+#[derive(Clone, Copy, Debug, PartialEq, Eq)]
+pub(crate) struct Members {
+    special: Option<SectionFault>,
+    fault: Option<SectionFault>,
+    width: u8,
+}
+
+impl Members {
+    pub(crate) fn new() -> Members
+        ensures { (place : Place) → AreSummedUp place result [] }
+    {
+        Members {
+            special: None,
+            fault: None,
+            width: 0,
+        }
+    }
+
+    /// One member more.
+    pub(crate) fn with(self, place: Place, part: Checked) -> Members
+        ensures { (fs : List Found) (f : Found) → AreSummedUp place self fs → SumsUp part f → AreSummedUp place result (fs ++ f ∷ []) }
+    {
+        let fault = earlier(part.fault, large(place, part.shape));
+        Members {
+            special: earlier(self.special, part.special),
+            fault: earlier(self.fault, fault),
+            width: self.width.saturating_add(part_width(part.shape)),
+        }
+    }
+
+    /// The set of these members.
+    pub(crate) fn whole(self, place: Place) -> Checked
+        ensures { (fs : List Found) → AreSummedUp place self fs → SumsUp result (found_set place fs) }
+    {
+        let fault = earlier(self.fault, wide(place, self.width));
+        settled(Some(Shape::Set(self.width)), self.special, fault)
+    }
+}

@@ -1,0 +1,27 @@
+//! Set expressions as bits, and what the sections of a source contribute.
+#![tactic(auto)]
+
+mod answering;
+mod checked;
+mod checking;
+mod contributions;
+mod fault;
+mod known;
+mod known_name;
+mod learning;
+mod numbers;
+mod rules;
+mod shaped;
+#[cfg(test)]
+mod tests;
+mod walking;
+
+pub use answering::check_constants;
+pub use checked::Checked;
+pub use contributions::{Contribution, Contributions, Gives, Guard, Target};
+pub use fault::{SectionFault, earlier};
+pub use known::KnownNames;
+pub use known_name::KnownName;
+pub use learning::known_names;
+pub use shaped::{Shape, Shaped};
+pub use walking::check;

@@ -1,0 +1,146 @@
+//! The check of whole expressions.
+
+ghost use Rattle.std.specs.Prelude.{◌≡◌, ℕ, List, [], ◌++◌, map, IfOk, OnOk};
+ghost use Rattle.pld_base.specs.declared.place.Place.{Place};
+ghost use Rattle.abel_tree.specs.Entries.{Entry, entries_of};
+ghost use Rattle.abel_tree.specs.Ranges.{range_names};
+ghost use Rattle.abel_tree.specs.Tree.{members_of};
+ghost use Rattle.abel_tree.specs.View.{view, view_member};
+ghost use Rattle.set_expr.specs.FoundNames.{found_of, found_before, range_found, names_found, expression_found};
+ghost use Rattle.set_expr.specs.KnownNames.{IsKnown, SumsUp};
+ghost use Rattle.set_expr.specs.Members.{AreSummedUp};
+ghost use Rattle.set_expr.specs.Refusals.{Found};
+
+use crate::checked::Checked;
+use crate::checking::{Members, check_name, check_special, plain};
+use crate::known::KnownNames;
+use crate::rules::{check_both, check_under};
+use crate::shaped::Shape;
+use abel_tree::{Expr, Member, Names, Word};
+use name_ranges::range_list;
+use pld_base::{OutOfMemory, Place};
+use std::alloc::Global;
+
+/// What is found of an expression: its first refusal, or its shape and the first of its X positions. Calls go as
+/// deep as the nestings, however many operators stand in a row, and constants are looked up.
+pub fn check(
+    alloc: Global,
+    names: &Names,
+    known: &KnownNames,
+    expr: &Expr,
+) -> Result<Checked, OutOfMemory>
+    requires known { IsKnown (entries_of names.now) known.now }
+    ensures { IfOk result (λ c. SumsUp c (expression_found (entries_of names.now) (view expr.now))) }
+{
+    check_expr(alloc, known, expr)
+}
+
+/// The names of a range as members of the set at this place.
+fn check_range(
+    alloc: Global,
+    known: &KnownNames,
+    first: &Word,
+    last: &Word,
+    place: Place,
+    before: Members,
+) -> Result<Members, OutOfMemory>
+    ensures { IfOk result (λ m. (es : List Entry) (fs : List Found) → IsKnown es known.now → AreSummedUp place before fs → AreSummedUp place m (fs ++ range_found (names_found es) first.now.place (range_names first.now.text last.now.text) [])) }
+{
+    let names = range_list(alloc, first.text.bytes(), last.text.bytes())?;
+    let mut members = before;
+    for name in &names {
+        members = members.with(place, check_name(known, name.as_slice(), first.place));
+    }
+    Ok(members)
+}
+
+/// One member more of the set at this place.
+#[cycle(checking)]
+fn check_member(
+    alloc: Global,
+    known: &KnownNames,
+    member: &Member,
+    place: Place,
+    before: Members,
+) -> Result<Members, OutOfMemory>
+    ensures { IfOk result (λ m. (es : List Entry) (fs : List Found) → IsKnown es known.now → AreSummedUp place before fs → AreSummedUp place m (fs ++ found_before (names_found es) (view_member member.now) [])) }
+{
+    match member {
+        Member::One(expr) => {
+            let part = check_expr(alloc, known, expr)?;
+            Ok(before.with(place, part))
+        }
+        Member::Span { first, last } => check_range(alloc, known, first, last, place, before),
+    }
+}
+
+/// An expression, by what is found of its parts.
+#[cycle(checking)]
+fn check_level(alloc: Global, known: &KnownNames, expr: &Expr) -> Result<Checked, OutOfMemory>
+    ensures { IfOk result (λ c. (es : List Entry) → IsKnown es known.now → SumsUp c (found_of (names_found es) (view expr.now))) }
+{
+    match expr {
+        Expr::Number(number) => Ok(plain(Shape::Number(number.value))),
+        Expr::Special { letter, place } => Ok(check_special(*letter, *place)),
+        Expr::Name { word, extension: _ } => Ok(check_name(known, word.text.bytes(), word.place)),
+        Expr::Set {
+            place,
+            members,
+            extension: _,
+        } => {
+            let mut parts = Members::new();
+            for member in members.as_slice() {
+                parts = check_member(alloc, known, member, *place, parts)?;
+            }
+            Ok(parts.whole(*place))
+        }
+        Expr::Paren { place: _, inner } => check_expr(alloc, known, inner.get()),
+        Expr::Unary {
+            sign,
+            place: _,
+            inner,
+        } => {
+            let inner = check_expr(alloc, known, inner.get())?;
+            Ok(check_under(*sign, inner))
+        }
+        Expr::Binary {
+            sign,
+            place,
+            left,
+            right,
+        } => {
+            let left = check_expr(alloc, known, left.get())?;
+            let right = check_expr(alloc, known, right.get())?;
+            Ok(check_both(*sign, *place, left, right))
+        }
+    }
+}
+
+/// An expression; goes down the left side of operators in a loop.
+#[cycle(checking)]
+pub(crate) fn check_expr(
+    alloc: Global,
+    known: &KnownNames,
+    expr: &Expr,
+) -> Result<Checked, OutOfMemory>
+    ensures { IfOk result (λ c. (es : List Entry) → IsKnown es known.now → SumsUp c (found_of (names_found es) (view expr.now))) }
+{
+    let mut links = Vec::new(alloc);
+    let mut first = expr;
+    'down: while let Expr::Binary {
+        sign,
+        place,
+        left,
+        right,
+    } = first
+    {
+        links.push((*sign, *place, right.get()))?;
+        first = left.get();
+    }
+    let mut found = check_level(alloc, known, first)?;
+    'up: while let Some((sign, place, right)) = links.pop() {
+        let other = check_expr(alloc, known, right)?;
+        found = check_both(sign, place, found, other);
+    }
+    Ok(found)
+}
