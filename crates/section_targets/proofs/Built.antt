@@ -1,0 +1,221 @@
+-- What units leave that are made one after another.
+use Rattle.std.proofs.Common.{◌≡◌, ℕ, suc, ◌+◌, ◌<◌, Bool, true, false, List, [], ◌∷◌, ◌++◌, All, Result, Ok, Err, map, length, get_or, refl, sym, ap, ap₂, ◌∙◌, subst, arith, append_assoc, append-nil}
+use Rattle.std.proofs.lemmas.List.{map-append}
+use Rattle.std.proofs.lemmas.List.Elements.{All-append}
+use Rattle.std.proofs.lemmas.Option.{slice_get-get_or, get_or_from_slice_get, slice_get_within}
+use Rattle.pld_base.specs.declared.place.Place.{Place}
+use Rattle.bit_expr.specs.declared.node.ExprId.{ExprId}
+use Rattle.bit_expr.specs.Arena.{arena, formula_at, Grew}
+use Rattle.bit_expr.specs.Formulas.{Formula, Const}
+use Rattle.abel_meaning.specs.Contributions as meant
+use Rattle.set_expr.specs.declared.contributions.Contribution.{Contribution}
+use Rattle.set_expr.specs.declared.contributions.Contributions.{Contributions}
+use Rattle.set_expr.specs.declared.fault.SectionFault.{SectionFault}
+use Rattle.set_expr.specs.declared.fault.SectionFault.TheVariants as fault
+use Rattle.set_expr.specs.Answer.{Keeps}
+use Rattle.set_expr.specs.Given.{view_contribution}
+use Rattle.section_targets.specs.Building.{Stop, AtLimit, NoMemory, AtRefusal, stop_of, Stops, StopsWith, IsBuilt, Builds}
+use Rattle.section_targets.specs.Appending.{Appends, Leaves, Contributed}
+use Rattle.section_targets.specs.Units.{CountedUnit, is_past, limit_at, limit_refused, units_refused, units_nodes}
+
+pub left_empty : {A : Type 0} (xs ys : List A) → xs ++ ys ≡ [] → xs ≡ []
+left_empty [] ys e = refl
+left_empty (x ∷ xs) ys e = absurd cc
+
+pub right_empty : {A : Type 0} (xs ys : List A) → xs ++ ys ≡ [] → ys ≡ []
+right_empty [] ys e = e
+right_empty (x ∷ xs) ys e = absurd cc
+
+pub both_empty : {A : Type 0} (xs ys : List A) → xs ≡ [] → ys ≡ [] → xs ++ ys ≡ []
+both_empty xs ys e f = rw (e, f) refl
+
+-- ---- units in order
+
+pub refused_append : (us vs : List CountedUnit) → units_refused (us ++ vs) ≡ units_refused us ++ units_refused vs
+refused_append [] vs = refl
+refused_append (u ∷ us) vs = ap (λ rs. u.refusals ++ rs) (refused_append us vs) ∙ sym (append_assoc u.refusals (units_refused us) (units_refused vs))
+
+pub nodes_append : (us vs : List CountedUnit) → units_nodes (us ++ vs) ≡ units_nodes us + units_nodes vs
+nodes_append [] vs = omega arith
+nodes_append (u ∷ us) vs = omega (arith, nodes_append us vs)
+
+-- a unit that isn't refused and doesn't pass the limit leaves it to those behind it
+limit_clear : (rs : List SectionFault) (p : Place) (past : Bool) (later more : List SectionFault) → rs ≡ [] → limit_at rs p past later ≡ [] → (later ≡ []) × (limit_at rs p past more ≡ more)
+limit_clear [] p true later more e h = absurd cc
+limit_clear [] p false later more e h = (h, refl)
+limit_clear (r ∷ rs) p past later more e h = absurd cc
+
+pub limit_append : (count : ℕ) (us vs : List CountedUnit) → units_refused us ≡ [] → limit_refused count us ≡ [] → limit_refused count (us ++ vs) ≡ limit_refused (count + units_nodes us) vs
+limit_append count [] vs e h = ap (λ n. limit_refused n vs) (omega arith)
+limit_append count (u ∷ us) vs e h =
+    let c = limit_clear u.refusals u.place (is_past count u.nodes) (limit_refused (count + u.nodes) us) (limit_refused (count + u.nodes) (us ++ vs)) (left_empty u.refusals (units_refused us) e) h in
+    c.1 ∙ limit_append (count + u.nodes) us vs (right_empty u.refusals (units_refused us) e) c.0
+    ∙ ap (λ n. limit_refused n vs) (omega arith)
+
+-- where the limit is passed, what follows changes nothing
+limit_passed : (rs : List SectionFault) (p q : Place) (past : Bool) (later more : List SectionFault) → limit_at rs p past later ≡ fault.NodeLimit q ∷ [] → (later ≡ fault.NodeLimit q ∷ [] → more ≡ fault.NodeLimit q ∷ []) → limit_at rs p past more ≡ fault.NodeLimit q ∷ []
+limit_passed [] p q true later more h k = h
+limit_passed [] p q false later more h k = k h
+limit_passed (r ∷ rs) p q past later more h k = absurd cc
+
+limit_stays : (count : ℕ) (us vs : List CountedUnit) (q : Place) → limit_refused count us ≡ fault.NodeLimit q ∷ [] → limit_refused count (us ++ vs) ≡ fault.NodeLimit q ∷ []
+limit_stays count [] vs q h = absurd cc
+limit_stays count (u ∷ us) vs q h = limit_passed u.refusals u.place q (is_past count u.nodes) (limit_refused (count + u.nodes) us) (limit_refused (count + u.nodes) (us ++ vs)) h (limit_stays (count + u.nodes) us vs q)
+
+-- behind a refused unit none is counted
+refused_first : (rs more later later1 : List SectionFault) (p : Place) (past : Bool) → (rs ++ more ≡ [] → ⊥) → limit_at rs p past later ≡ [] → ((more ≡ [] → ⊥) → later ≡ [] → later1 ≡ []) → limit_at rs p past later1 ≡ []
+refused_first [] more later later1 p true h e k = absurd cc
+refused_first [] more later later1 p false h e k = k h e
+refused_first (r ∷ rs) more later later1 p past h e k = refl
+
+refused_stays : (count : ℕ) (us vs : List CountedUnit) → (units_refused us ≡ [] → ⊥) → limit_refused count us ≡ [] → limit_refused count (us ++ vs) ≡ []
+refused_stays count [] vs h e = absurd (h refl)
+refused_stays count (u ∷ us) vs h e =
+    refused_first u.refusals (units_refused us) (limit_refused (count + u.nodes) us) (limit_refused (count + u.nodes) (us ++ vs)) u.place (is_past count u.nodes) h e (refused_stays (count + u.nodes) us vs)
+
+stops_stay : (stop : Stop) (count : ℕ) (us vs : List CountedUnit) → Stops stop count us → Stops stop count (us ++ vs)
+stops_stay (AtLimit p) count us vs h = limit_stays count us vs p h
+stops_stay NoMemory count us vs h = tt
+stops_stay AtRefusal count us vs h = (λ e. h.0 (left_empty (units_refused us) (units_refused vs) (sym (refused_append us vs) ∙ e)), refused_stays count us vs h.0 h.1)
+
+stops_later : (stop : Stop) (count : ℕ) (us vs : List CountedUnit) → units_refused us ≡ [] → limit_refused count us ≡ [] → Stops stop (count + units_nodes us) vs → Stops stop count (us ++ vs)
+stops_later (AtLimit p) count us vs e w h = limit_append count us vs e w ∙ h
+stops_later NoMemory count us vs e w h = tt
+stops_later AtRefusal count us vs e w h = (λ r. h.0 (right_empty (units_refused us) (units_refused vs) (sym (refused_append us vs) ∙ r)), limit_append count us vs e w ∙ h.1)
+
+-- ---- what stands
+
+pub keeps_on : (old mid new : List Formula) → Keeps old mid → Keeps mid new → Keeps old new
+keeps_on old mid new h k i f e = k i f (h i f e)
+
+pub kept_formula : (old new : List Formula) (id : ExprId) → Keeps old new → id.0 < length old → formula_at new id ≡ formula_at old id
+kept_formula old new id k h =
+    get_or_from_slice_get new id.0 (formula_at old id) (Const false) (k id.0 (formula_at old id) (slice_get-get_or old id.0 (Const false) h))
+
+pub kept_inside : (old new : List Formula) (id : ExprId) → Keeps old new → id.0 < length old → id.0 < length new
+kept_inside old new id k h = slice_get_within new id.0 (formula_at old id) (k id.0 (formula_at old id) (slice_get-get_or old id.0 (Const false) h))
+
+view_kept : (old new : List Formula) (c : Contribution) → formula_at new c.when ≡ formula_at old c.when → view_contribution new c ≡ view_contribution old c
+view_kept old new c e = rw e refl
+
+abbrev Inside : List Formula → List Contribution → Type 0
+Inside fs cs = All (λ (c : Contribution). c.when.0 < length fs) cs
+
+inside_head : (fs : List Formula) (c : Contribution) (cs : List Contribution) → Inside fs (c ∷ cs) → c.when.0 < length fs
+inside_head fs c cs h = h 0 c (omega arith)
+
+inside_tail : (fs : List Formula) (c : Contribution) (cs : List Contribution) → Inside fs (c ∷ cs) → Inside fs cs
+inside_tail fs c cs h = λ k d lt. h (suc k) d (omega arith)
+
+views_kept : (old new : List Formula) (cs : List Contribution) → Keeps old new → Inside old cs → map (view_contribution new) cs ≡ map (view_contribution old) cs
+views_kept old new [] k h = refl
+views_kept old new (c ∷ cs) k h =
+    ap₂ (λ x xs. x ∷ xs) (view_kept old new c (kept_formula old new c.when k (inside_head old c cs h)))
+    (views_kept old new cs k (inside_tail old c cs h))
+
+stays_inside : (old new : List Formula) (cs : List Contribution) → Keeps old new → Inside old cs → Inside new cs
+stays_inside old new cs k h = λ i d lt. kept_inside old new (get_or cs i d).when k (h i d lt)
+
+-- what was given, and then some of what is given after it
+appends_then : (old mid new : Contributions) (gs hs : List (meant.Contribution Formula)) (ps qs : List Place)
+    (more later : List Contribution) (rest : List (meant.Contribution Formula)) (rest_places : List Place)
+    → Keeps (arena mid.exprs) (arena new.exprs)
+    → Appends old mid gs ps more [] [] → Appends mid new hs qs later rest rest_places
+    → Appends old new (gs ++ hs) (ps ++ qs) (more ++ later) rest rest_places
+appends_then old mid new gs hs ps qs more later rest rest_places k a b =
+    let fs = arena mid.exprs in
+    let ns = arena new.exprs in
+    let v = views_kept fs ns more k a.inside in
+    record {
+      list = b.list ∙ ap (λ cs. cs ++ later) a.list ∙ append_assoc old.list more later;
+      inside = All-append (λ (c : Contribution). c.when.0 < length ns) more later (stays_inside fs ns more k a.inside) b.inside;
+      gives = ap₂ (λ xs ys. xs ++ ys) (a.gives ∙ append-nil (map (view_contribution fs) more) ∙ sym v) b.gives
+          ∙ sym (append_assoc (map (view_contribution ns) more) (map (view_contribution ns) later) rest)
+          ∙ ap (λ xs. xs ++ rest) (sym (map-append (view_contribution ns) more later));
+      stand = ap₂ (λ xs ys. xs ++ ys) (a.stand ∙ append-nil (places more)) b.stand
+          ∙ sym (append_assoc (places more) (places later) rest_places)
+          ∙ ap (λ xs. xs ++ rest_places) (sym (map-append (λ (c : Contribution). c.place) more later));
+    }
+  where
+    places : List Contribution → List Place
+    places cs = map (λ (c : Contribution). c.place) cs
+
+-- a front of what is given is one of more
+appends_less : (old new : Contributions) (gs hs : List (meant.Contribution Formula)) (ps qs : List Place)
+    (more : List Contribution) (rest : List (meant.Contribution Formula)) (rest_places : List Place)
+    → Appends old new gs ps more rest rest_places
+    → Appends old new (gs ++ hs) (ps ++ qs) more (rest ++ hs) (rest_places ++ qs)
+appends_less old new gs hs ps qs more rest rest_places a =
+    record {
+      list = a.list;
+      inside = a.inside;
+      gives = ap (λ xs. xs ++ hs) a.gives ∙ append_assoc (map (view_contribution (arena new.exprs)) more) rest hs;
+      stand = ap (λ xs. xs ++ qs) a.stand ∙ append_assoc (map (λ (c : Contribution). c.place) more) rest_places qs;
+    }
+
+leaves_less : (old new : Contributions) (gs hs : List (meant.Contribution Formula)) (ps qs : List Place) → Leaves old new gs ps → Leaves old new (gs ++ hs) (ps ++ qs)
+leaves_less old new gs hs ps qs l =
+    record {
+      keeps = l.keeps;
+      more = l.more;
+      later = l.later ++ hs;
+      later_places = l.later_places ++ qs;
+      front = appends_less old new gs hs ps qs l.more l.later l.later_places l.front;
+    }
+
+leaves_then : (old mid new : Contributions) (gs hs : List (meant.Contribution Formula)) (ps qs : List Place) (nodes : ℕ) → Contributed old mid gs ps nodes → Leaves mid new hs qs → Leaves old new (gs ++ hs) (ps ++ qs)
+leaves_then old mid new gs hs ps qs nodes c l =
+    record {
+      keeps = keeps_on (arena old.exprs) (arena mid.exprs) (arena new.exprs) c.grew.keeps l.keeps;
+      more = c.more ++ l.more;
+      later = l.later;
+      later_places = l.later_places;
+      front = appends_then old mid new gs hs ps qs c.more l.more l.later l.later_places l.keeps c.whole l.front;
+    }
+
+grew_then : (old mid new : List Formula) (m n : ℕ) → Grew old mid m → Grew mid new n → Grew old new (m + n)
+grew_then old mid new m n g h =
+    record { keeps = keeps_on old mid new g.keeps h.keeps; count = omega (arith, g.count, h.count) }
+
+made_then : (old mid new : Contributions) (gs hs : List (meant.Contribution Formula)) (ps qs : List Place) (m n : ℕ) → Contributed old mid gs ps m → Contributed mid new hs qs n → Contributed old new (gs ++ hs) (ps ++ qs) (m + n)
+made_then old mid new gs hs ps qs m n c e =
+    record {
+      grew = grew_then (arena old.exprs) (arena mid.exprs) (arena new.exprs) m n c.grew e.grew;
+      more = c.more ++ e.more;
+      whole = appends_then old mid new gs hs ps qs c.more e.more [] [] e.grew.keeps c.whole e.whole;
+    }
+
+-- ---- units one after another
+
+-- what is made after what was made
+pub builds_then : {R : Type 0} (us vs : List CountedUnit) (gs hs : List (meant.Contribution Formula)) (ps qs : List Place) (old mid new : Contributions) (r : Result R SectionFault) → IsBuilt us gs ps old mid → Builds vs hs qs mid new r → Builds (us ++ vs) (gs ++ hs) (ps ++ qs) old new r
+builds_then us vs gs hs ps qs old mid new (Ok r) b a =
+    record {
+      accepted = refused_append us vs ∙ both_empty (units_refused us) (units_refused vs) b.accepted a.accepted;
+      within = limit_append (length (arena old.exprs)) us vs b.accepted b.within
+          ∙ subst (λ n. limit_refused n vs ≡ []) b.made.grew.count a.within;
+      made = subst (Contributed old new (gs ++ hs) (ps ++ qs)) (sym (nodes_append us vs))
+          (made_then old mid new gs hs ps qs (units_nodes us) (units_nodes vs) b.made a.made);
+    }
+builds_then us vs gs hs ps qs old mid new (Err f) b a = (
+  stops_later (stop_of f) (length (arena old.exprs)) us vs b.accepted b.within (subst (λ n. Stops (stop_of f) n vs) b.made.grew.count a.0),
+  leaves_then old mid new gs hs ps qs (units_nodes us) b.made a.1,
+)
+
+-- where making stops, what would follow isn't made
+pub builds_stop : (us vs : List CountedUnit) (gs hs : List (meant.Contribution Formula)) (ps qs : List Place) (old new : Contributions) (f : SectionFault) → StopsWith us gs ps old new f → StopsWith (us ++ vs) (gs ++ hs) (ps ++ qs) old new f
+builds_stop us vs gs hs ps qs old new f b =
+    (stops_stay (stop_of f) (length (arena old.exprs)) us vs b.0, leaves_less old new gs hs ps qs b.1)
+
+-- nothing is made
+pub builds_none : (out : Contributions) → IsBuilt [] [] [] out out
+builds_none out =
+    record {
+      accepted = refl;
+      within = refl;
+      made = record {
+        grew = record { keeps = λ i f e. e; count = omega arith };
+        more = [];
+        whole = record { list = sym (append-nil out.list); inside = λ k d lt. absurd (omega (arith, lt)); gives = refl; stand = refl };
+      };
+    }

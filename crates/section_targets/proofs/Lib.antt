@@ -1,0 +1,6 @@
+pub mod Built
+pub mod Gives
+pub mod Looks
+pub mod Parts
+pub mod Refused
+pub mod MetWords

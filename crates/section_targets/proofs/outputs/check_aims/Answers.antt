@@ -1,0 +1,17 @@
+use Rattle.std.proofs.Common.{refl, ap₂, sym, ◌∙◌}
+use Rattle.abel_tree.specs.FirstRefusal.{earlier}
+use Rattle.set_expr.specs.SectionOrder.{section_order}
+use Rattle.section_targets.proofs.Refused.{refused_next, noted_next, noted_none, aim_refused_as}
+use Rattle.section_targets.proofs.outputs.check_aims.Goals as goal
+
+pub loop-aim-init : goal.loop-aim-init
+loop-aim-init g c = (λ all h. noted_none all c.args.before.now c.args.extension c.args.complement c.args.clocked c.args.aims.now h, λ d all e h. refl)
+
+pub loop-aim-preserved : goal.loop-aim-preserved
+loop-aim-preserved g c = (
+  λ all h. noted_next all c.note.new.self c.args.extension c.args.complement c.args.clocked c.args.aims.now c.loop-aim.aim-index _ c.loop-aim-test.true (c.in_ok-note.ensures _ (c.loop-aim.invariant.0 all h)),
+  λ d all e h. c.earlier-fault.ensures
+      ∙ ap₂ (earlier section_order) (c.loop-aim.invariant.1 d all e h)
+      (c.refuse_aim.ensures ∙ aim_refused_as c.args.names.now g.D.Device.table d c.as_slice.result.now c.index-as_slice-aim.result c.index-as_slice-aim.result c.loop-aim.before c.args.extension c.args.complement c.args.clocked _ e (c.requires c.loop-aim.aim-index _ c.loop-aim-test.true) c.as_slice.ensures c.index-as_slice-aim.is)
+      ∙ sym (refused_next d all c.loop-aim.before c.args.extension c.args.complement c.args.clocked c.args.aims.now c.loop-aim.aim-index _ c.loop-aim-test.true (c.loop-aim.invariant.0 all h)),
+)

@@ -1,0 +1,62 @@
+-- What making the units of statements leaves, and why it stops (this project's rule).
+use Rattle.std.specs.Prelude.{◌≡◌, ℕ, ◌<◌, List, [], ◌∷◌, All, length, map, Result, Ok, Err}
+use Rattle.pld_base.specs.declared.place.Place.{Place}
+use Rattle.bit_expr.specs.declared.node.ExprId.{ExprId}
+use Rattle.bit_expr.specs.declared.node.Node.{Node}
+use Rattle.bit_expr.specs.Arena.{arena, formula_at}
+use Rattle.bit_expr.specs.Formulas.{Formula}
+use Rattle.abel_meaning.specs.Contributions as meant
+use Rattle.set_expr.specs.declared.contributions.Contribution.{Contribution}
+use Rattle.set_expr.specs.declared.contributions.Contributions.{Contributions}
+use Rattle.set_expr.specs.declared.fault.SectionFault.{SectionFault}
+use Rattle.set_expr.specs.declared.fault.SectionFault.TheVariants as fault
+use Rattle.section_targets.specs.Appending.{Leaves, Contributed}
+use Rattle.section_targets.specs.Units.{CountedUnit, units_refused, units_nodes, limit_refused}
+
+-- why making stops: a unit passes the limit, memory is out, or a unit is refused
+pub data Stop : Type 0 where
+  AtLimit : Place → Stop
+  NoMemory AtRefusal : Stop
+
+abbrev pub stop_of : SectionFault → Stop
+stop_of (fault.NodeLimit p) = AtLimit p
+stop_of fault.OutOfMemory = NoMemory
+stop_of _ = AtRefusal
+
+-- making these units stops for this reason, in an arena of that many formulas
+abbrev pub Stops : Stop → (count : ℕ) → List CountedUnit → Type 0
+Stops (AtLimit p) count us = limit_refused count us ≡ fault.NodeLimit p ∷ []
+Stops NoMemory count us = Unit {0}
+Stops AtRefusal count us = (units_refused us ≡ [] → ⊥) × (limit_refused count us ≡ [])
+
+-- units are made: none is refused or passes the limit
+pub record IsBuilt (us : List CountedUnit) (gs : List (meant.Contribution Formula)) (ps : List Place)
+    (old new : Contributions) : Type 0 where
+  pub accepted : units_refused us ≡ []
+  pub within : limit_refused (length (arena old.exprs)) us ≡ []
+  pub made : Contributed old new gs ps (units_nodes us)
+
+-- making units in order stops with this refusal
+abbrev pub StopsWith : List CountedUnit → List (meant.Contribution Formula) → List Place → (old new : Contributions)
+    → SectionFault → Type 0
+StopsWith us gs ps old new f = Stops (stop_of f) (length (arena old.exprs)) us × Leaves old new gs ps
+
+-- what is left by making units in order, which give this at these places
+abbrev pub Builds : {R : Type 0} → List CountedUnit → List (meant.Contribution Formula) → List Place
+    → (old new : Contributions) → Result R SectionFault → Type 0
+Builds us gs ps old new (Ok r) = IsBuilt us gs ps old new
+Builds us gs ps old new (Err f) = StopsWith us gs ps old new f
+
+-- what is left by making nodes alone, in parts of one unit
+abbrev pub BuildsNodes : {R : Type 0} → List CountedUnit → (old new : List Node) → Result R SectionFault → Type 0
+BuildsNodes us old new r =
+    (list : List Contribution)
+    → Builds us [] [] (record { exprs = old; list = list }) (record { exprs = new; list = list }) r
+
+-- the bit of an id in the arena
+abbrev pub IsBit : List Formula → ExprId → Formula → Type 0
+IsBit fs id f = (id.0 < length fs) × (formula_at fs id ≡ f)
+
+-- the bits of ids in the arena
+abbrev pub AreBits : List Formula → List ExprId → List Formula → Type 0
+AreBits fs ids gs = All (λ (id : ExprId). id.0 < length fs) ids × (map (formula_at fs) ids ≡ gs)

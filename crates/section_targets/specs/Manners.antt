@@ -1,0 +1,113 @@
+-- How signals are assigned, and what may not differ (ABEL-HDL Reference Manual, equations; one polarity and one kind for
+-- each signal is this project's rule).
+use Rattle.std.specs.Prelude.{◌≡◌, ℕ, ◌==◌, Bool, true, false, ◌&&◌, ◌||◌, Option, None, Some, List, [], ◌∷◌, ◌++◌, if◌then◌else◌, map}
+use Rattle.pld_base.specs.declared.place.Place.{Place}
+use Rattle.std.specs.List.{list_any}
+use Rattle.pld_device.specs.declared.cell.Cell.{Cell}
+use Rattle.pld_device.specs.Table.{Table}
+use Rattle.bit_expr.specs.Formulas.{differ}
+use Rattle.abel_tree.specs.declared.words.Extension.{Extension}
+use Rattle.abel_tree.specs.declared.words.Extension.TheVariants as extension
+use Rattle.abel_tree.specs.Entries.{Kind, APin, ANode, AConstant, ADeviceName, Entry}
+use Rattle.abel_meaning.specs.Designs.{Design, name_at}
+use Rattle.abel_meaning.specs.Targets.{is_data, is_raw}
+use Rattle.set_expr.specs.declared.contributions.Contribution.{Contribution}
+use Rattle.set_expr.specs.declared.fault.SectionFault.{SectionFault}
+use Rattle.set_expr.specs.declared.fault.SectionFault.TheVariants.{NotAnOutput, MixedAssignment}
+use Rattle.section_targets.specs.declared.aim.Aim.{Aim}
+use Rattle.section_targets.specs.declared.manner.Manner.{Manner}
+
+-- on the clock: by its sign, or as the raw input of a register
+abbrev pub on_clock : Manner → Bool
+on_clock m = m.clocked || is_raw m.extension
+
+-- what an extension names of a signal as a target, by number: 0 is its data, the others are its controls
+abbrev pub part_of : Option Extension → ℕ
+part_of None = 0
+part_of (Some extension.D) = 0
+part_of (Some extension.Clk) = 1
+part_of (Some extension.Oe) = 2
+part_of (Some extension.Ar) = 3
+part_of (Some extension.Sp) = 4
+part_of (Some extension.Q) = 5
+part_of (Some extension.Fb) = 6
+part_of (Some extension.Pin) = 7
+
+-- how the same part of the signal is assigned first
+abbrev pub is_same_part : Manner → ℕ → (part : ℕ) → Bool
+is_same_part m s part = (m.signal == s) && (part_of m.extension == part)
+
+abbrev pub first_manner : List Manner → ℕ → (part : ℕ) → Option Manner
+first_manner [] s part = None
+first_manner (m ∷ ms) s part = if is_same_part m s part then Some m else first_manner ms s part
+
+-- these assign each part of each signal first as those do
+abbrev pub AreFirsts : (firsts all : List Manner) → Type 0
+AreFirsts firsts all = (s part : ℕ) → first_manner firsts s part ≡ first_manner all s part
+
+-- data on the clock and not, or to the name and to the raw input
+abbrev pub differs_as_data : Manner → Manner → Bool
+differs_as_data f m = differ (on_clock f) (on_clock m) || differ (is_raw f.extension) (is_raw m.extension)
+
+-- a later target differs from the first
+abbrev pub differs_from : Option Manner → Manner → Bool
+differs_from None m = false
+differs_from (Some f) m = differ f.complement m.complement || (is_data m.extension && differs_as_data f m)
+
+-- data are on the clock just where the signal is registered, and controls are not
+abbrev pub is_against_kind : Entry → Manner → Bool
+is_against_kind x m = if is_data m.extension then differ x.words.registered (on_clock m) else m.clocked
+
+-- refused as assigned in two ways, where these were assigned before
+abbrev pub mixed : List Manner → Entry → Place → Manner → List SectionFault
+mixed before x p m =
+    if differs_from (first_manner before m.signal (part_of m.extension)) m || is_against_kind x m
+    then MixedAssignment p m.signal ∷ [] else []
+
+-- some cell has this pin
+abbrev pub is_cell_pin : Table → ℕ → Bool
+is_cell_pin t pin = list_any (λ (c : Cell). c.pin == pin) t.cells
+
+-- a node, or the pin of a cell
+abbrev pub is_output_kind : Table → Kind → Bool
+is_output_kind t (APin pin negated) = is_cell_pin t pin
+is_output_kind t (ANode number) = true
+is_output_kind t (AConstant value) = false
+is_output_kind t ADeviceName = false
+
+-- `.Q`, `.FB` and `.PIN` are no targets
+abbrev pub may_be_assigned : Option Extension → Bool
+may_be_assigned (Some extension.Q) = false
+may_be_assigned (Some extension.Fb) = false
+may_be_assigned (Some extension.Pin) = false
+may_be_assigned _ = true
+
+-- a control stands beside data of its signal
+abbrev pub is_output : Table → Entry → Option Extension → Bool
+is_output t x e = is_output_kind t x.kind && (may_be_assigned e && (is_data e || x.assigned))
+
+-- refused as no output
+abbrev pub no_output : Table → Entry → Place → Manner → List SectionFault
+no_output t x p m = if is_output t x m.extension then [] else NotAnOutput p (Some m.signal) ∷ []
+
+-- how the signals of a target are assigned
+abbrev pub manner_of : Option Extension → (complement clocked : Bool) → Aim → Manner
+manner_of e complement clocked a =
+    record { signal = a.signal; extension = e; complement = complement; clocked = clocked }
+
+-- and how the signals of contributions were
+abbrev pub manner_of_contribution : Contribution → Manner
+manner_of_contribution c =
+    record { signal = c.target.signal; extension = c.target.extension; complement = c.complement; clocked = c.clocked }
+
+abbrev pub manners_of : List Contribution → List Manner
+manners_of cs = map manner_of_contribution cs
+
+-- what is refused of the signals of a target, one after another
+abbrev pub aims_refused : Design → List Manner → Option Extension → (complement clocked : Bool) → List Aim
+    → List SectionFault
+aims_refused d before e complement clocked [] = []
+aims_refused d before e complement clocked (a ∷ aims) =
+    (no_output d.device (name_at d a.signal) a.place (manner_of e complement clocked a)
+    ++ mixed before (name_at d a.signal) a.place (manner_of e complement clocked a))
+    ++ aims_refused d (before ++ manner_of e complement clocked a ∷ []) e complement clocked aims

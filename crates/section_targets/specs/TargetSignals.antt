@@ -1,0 +1,100 @@
+-- The signals of a target with their places, and what is no target (ABEL-HDL Reference Manual, equations and sets).
+use Rattle.std.specs.Prelude.{ℕ, Bool, true, false, ◌&&◌, Option, None, Some, List, [], ◌∷◌, ◌++◌, length, if◌then◌else◌}
+use Rattle.pld_base.specs.declared.place.Place.{Place}
+use Rattle.abel_tree.specs.Entries.{Entry, find}
+use Rattle.abel_tree.specs.Ranges.{range_names}
+use Rattle.abel_tree.specs.Tree.{Tree, ANumber, ASpecial, AName, ASet, AParen, AUnary, ABinary, SetMember, OneMember, SpanMember, Members, NoMember, MoreMembers}
+use Rattle.abel_meaning.specs.Designs.{Design}
+use Rattle.abel_meaning.specs.Targets.{targets_of, some_signals}
+use Rattle.abel_meaning.specs.Terms.{Term, Terms, term_named}
+use Rattle.abel_meaning.specs.Terms as term
+use Rattle.set_expr.specs.declared.fault.SectionFault.{SectionFault}
+use Rattle.set_expr.specs.declared.fault.SectionFault.TheVariants.{MisplacedSpecial, NotAnOutput}
+use Rattle.set_expr.specs.Answer.{first_place}
+use Rattle.set_expr.specs.FoundNames.{name_found, names_found, found_use}
+use Rattle.set_expr.specs.Refusals.{Found, too_wide}
+use Rattle.section_targets.specs.declared.aim.Aim.{Aim}
+
+-- what is found of a target: its refusals, and its signals from the left
+pub record TargetFound : Type 0 where
+  pub refusals : List SectionFault
+  pub aims : List Aim
+
+abbrev pub aims_at : Place → List ℕ → List Aim
+aims_at p [] = []
+aims_at p (s ∷ ss) = record { signal = s; place = p } ∷ aims_at p ss
+
+-- a term is a signal, or a set of such, with no extension
+abbrev mutual
+  pub names_signals : Term → Bool
+  names_signals (term.Read s None) = true
+  names_signals (term.Set ts) = all_name_signals ts
+  names_signals _ = false
+
+  pub all_name_signals : Terms → Bool
+  all_name_signals term.NoTerm = true
+  all_name_signals (term.Before t ts) = names_signals t && all_name_signals ts
+
+-- a name stands for no signals
+abbrev pub no_signals : Place → Option ℕ → Term → List SectionFault
+no_signals p name t = if names_signals t then [] else NotAnOutput p name ∷ []
+
+-- a name at its place p; q is where its signals stand
+abbrev pub target_use : (p q : Place) → (name : Option ℕ) → Found → Term → TargetFound
+target_use p q name f t =
+    record {
+      refusals = f.refusals ++ (f.specials ++ no_signals q name t);
+      aims = aims_at q (some_signals (targets_of t));
+    }
+
+abbrev pub target_name : Design → (p q : Place) → List ℕ → TargetFound
+target_name d p q text =
+    target_use p q (find d.names text) (found_use p (name_found (names_found d.names) text)) (term_named d.known text)
+
+-- the name that an expression begins with
+abbrev pub first_name : List Entry → Tree → Option ℕ
+first_name es (AName word e) = find es word.text
+first_name es (ABinary sign p t u) = first_name es t
+first_name es _ = None
+
+abbrev pub no_target : SectionFault → TargetFound
+no_target r = record { refusals = r ∷ []; aims = [] }
+
+abbrev pub targets_both : TargetFound → TargetFound → TargetFound
+targets_both x y = record { refusals = x.refusals ++ y.refusals; aims = x.aims ++ y.aims }
+
+-- a set of targets at its bracket
+abbrev pub target_set : Place → TargetFound → TargetFound
+target_set p x = record x { refusals = x.refusals ++ too_wide p (length x.aims) }
+
+-- the names of a range, all at the place of its first end
+abbrev pub target_range : Design → Place → List (List ℕ) → TargetFound
+target_range d p [] = record { refusals = []; aims = [] }
+target_range d p (name ∷ names) = targets_both (target_name d p p name) (target_range d p names)
+
+-- what is found of a member of a target
+abbrev mutual
+  pub target_member : Design → Tree → TargetFound
+  target_member d (ANumber n) = no_target (NotAnOutput n.place None)
+  target_member d (ASpecial letter p) = no_target (MisplacedSpecial p)
+  target_member d (AName word None) = target_name d word.place word.place word.text
+  target_member d (AName word (Some e)) = no_target (NotAnOutput word.place (find d.names word.text))
+  target_member d (ASet p ms None) = target_set p (target_members d ms)
+  target_member d (ASet p ms (Some e)) = no_target (NotAnOutput p None)
+  target_member d (AParen p t) = target_member d t
+  target_member d (AUnary sign p t) = no_target (NotAnOutput p None)
+  target_member d (ABinary sign p t u) = no_target (NotAnOutput (first_place t) (first_name d.names t))
+
+  pub target_members : Design → Members → TargetFound
+  target_members d NoMember = record { refusals = []; aims = [] }
+  target_members d (MoreMembers m ms) = targets_both (target_one d m) (target_members d ms)
+
+  pub target_one : Design → SetMember → TargetFound
+  target_one d (OneMember t) = target_member d t
+  target_one d (SpanMember first last) = target_range d first.place (range_names first.text last.text)
+
+-- what is found of the left side of an assignment, which has its extension outside; a name stands where the side begins
+abbrev pub left_side : Design → Place → Tree → TargetFound
+left_side d p (AName word e) = target_name d word.place p word.text
+left_side d p (ASet q ms e) = target_set q (target_members d ms)
+left_side d p t = target_member d t

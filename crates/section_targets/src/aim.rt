@@ -1,0 +1,10 @@
+//! The signals of targets.
+
+use pld_base::Place;
+
+/// A signal at the place where a target names it.
+#[derive(Clone, Copy, Debug, PartialEq, Eq)]
+pub struct Aim {
+    pub signal: u32,
+    pub place: Place,
+}

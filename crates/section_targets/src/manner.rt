@@ -1,0 +1,91 @@
+//! How signals are assigned.
+
+ghost use Rattle.std.specs.Prelude.{◌≡◌, Some};
+ghost use Rattle.abel_meaning.specs.Targets.{is_data, is_raw};
+ghost use Rattle.section_targets.specs.Manners as said;
+
+use abel_tree::Extension;
+
+/// How a signal, or what its extension names of it, is assigned.
+#[derive(Clone, Copy, Debug, PartialEq, Eq)]
+pub struct Manner {
+    pub signal: u32,
+    pub extension: Option<Extension>,
+    pub complement: bool,
+    pub clocked: bool,
+}
+
+/// What an extension names of a signal as a target: 0 is its data, the others are its controls.
+fn part(extension: Option<Extension>) -> u8
+    ensures { result ≡ said.part_of extension }
+{
+    match extension {
+        None => 0,
+        Some(Extension::D) => 0,
+        Some(Extension::Clk) => 1,
+        Some(Extension::Oe) => 2,
+        Some(Extension::Ar) => 3,
+        Some(Extension::Sp) => 4,
+        Some(Extension::Q) => 5,
+        Some(Extension::Fb) => 6,
+        Some(Extension::Pin) => 7,
+    }
+}
+
+/// The raw input of a register.
+fn names_raw(extension: Option<Extension>) -> bool
+    ensures { result ≡ is_raw extension }
+{
+    matches!(extension, Some(Extension::D))
+}
+
+/// The name itself, or the raw input of its register.
+pub(crate) fn names_data(extension: Option<Extension>) -> bool
+    ensures { result ≡ is_data extension }
+{
+    match extension {
+        None => true,
+        Some(Extension::D) => true,
+        Some(_) => false,
+    }
+}
+
+/// `.Q`, `.FB` and `.PIN` are no targets.
+pub(crate) fn takes_values(extension: Option<Extension>) -> bool
+    ensures { result ≡ said.may_be_assigned extension }
+{
+    match extension {
+        Some(Extension::Q) => false,
+        Some(Extension::Fb) => false,
+        Some(Extension::Pin) => false,
+        _ => true,
+    }
+}
+
+impl Manner {
+    /// On the clock: by its sign, or as the raw input of a register.
+    pub(crate) fn is_clocked(&self) -> bool
+        ensures { result ≡ said.on_clock self.now }
+    {
+        self.clocked || names_raw(self.extension)
+    }
+
+    /// Whether it is how the same part of the same signal is assigned.
+    pub(crate) fn is_of(&self, other: Manner) -> bool
+        ensures { result ≡ said.is_same_part self.now other.signal (said.part_of other.extension) }
+    {
+        self.signal == other.signal && part(self.extension) == part(other.extension)
+    }
+
+    /// Whether a later target differs from this first one.
+    pub(crate) fn differs(&self, later: &Manner) -> bool
+        ensures { result ≡ said.differs_from (Some self.now) later.now }
+    {
+        if self.complement != later.complement {
+            return true;
+        }
+        names_data(later.extension)
+            && (self.is_clocked() != later.is_clocked()
+                || names_raw(self.extension) != names_raw(later.extension))
+    }
+}

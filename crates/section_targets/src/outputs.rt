@@ -1,0 +1,157 @@
+//! What may be assigned, and how.
+
+ghost use Rattle.std.specs.Prelude.{◌≡◌, List, ◌++◌, length, map, IfOk, OnOk};
+ghost use Rattle.abel_tree.specs.Entries.{entries_of, has, view_meaning, view_declared};
+ghost use Rattle.abel_tree.specs.FirstRefusal.{first_refusal};
+ghost use Rattle.abel_meaning.specs.Designs.{Design};
+ghost use Rattle.set_expr.specs.Answer.{IsDesignOf};
+ghost use Rattle.set_expr.specs.SectionOrder.{section_order};
+ghost use Rattle.section_targets.specs.Manners.{is_cell_pin, is_output_kind, is_output, no_output, mixed, is_against_kind, differs_from, manner_of, aims_refused, AreFirsts};
+ghost use Rattle.section_targets.specs.declared.manner.Manner.{Manner};
+ghost use Rattle.section_targets.specs.Given.{AreNamed};
+
+use crate::aim::Aim;
+use crate::assigned::Assigned;
+use crate::manner::{Manner, names_data, takes_values};
+use abel_tree::{Attributes, Declared, Extension, Meaning, Names};
+use bitflags::Flags;
+use pld_base::{OutOfMemory, Place};
+use pld_device::Device;
+use set_expr::{SectionFault, earlier};
+
+/// Whether a cell of the device has this pin.
+fn has_cell<D: Device>(pin: u8) -> bool
+    ensures { result ≡ is_cell_pin D.table pin }
+{
+    for index in 0..D::CELLS {
+        if D::cell(index).pin == pin {
+            return true;
+        }
+    }
+    false
+}
+
+/// A node, or the pin of a cell.
+fn is_assignable<D: Device>(meaning: &Meaning) -> bool
+    ensures { result ≡ is_output_kind D.table (view_meaning meaning.now) }
+{
+    match meaning {
+        Meaning::Pin { pin, negated: _ } => has_cell::<D>(*pin),
+        Meaning::Node(_) => true,
+        Meaning::Constant(_) => false,
+        Meaning::DeviceName => false,
+    }
+}
+
+/// Whether the signal, or what the extension names of it, is an output.
+fn may_take<D: Device>(declared: &Declared, extension: Option<Extension>) -> bool
+    ensures { result ≡ is_output D.table (view_declared declared.now) extension }
+{
+    is_assignable::<D>(&declared.meaning)
+        && takes_values(extension)
+        && (names_data(extension) || declared.assigned)
+}
+
+/// Whether the attributes say registered.
+fn has_reg(attributes: Attributes) -> bool
+    ensures { result ≡ has 2 attributes }
+{
+    attributes.contains(Attributes::REG)
+}
+
+/// Data on the clock of a combinational signal and not of a registered one, or a control on the clock.
+fn opposes_kind(declared: &Declared, manner: Manner) -> bool
+    ensures { result ≡ is_against_kind (view_declared declared.now) manner }
+{
+    if names_data(manner.extension) {
+        has_reg(declared.attributes) != manner.is_clocked()
+    } else {
+        manner.clocked
+    }
+}
+
+/// Refused as no output.
+fn refuse_output<D: Device>(
+    declared: &Declared,
+    place: Place,
+    manner: Manner,
+) -> Option<SectionFault>
+    ensures { result ≡ first_refusal section_order (no_output D.table (view_declared declared.now) place manner) }
+{
+    if may_take::<D>(declared, manner.extension) {
+        None
+    } else {
+        Some(SectionFault::NotAnOutput(place, Some(manner.signal)))
+    }
+}
+
+/// Whether an assignment differs from the first of the same part.
+fn differs_from_first(first: Option<Manner>, manner: Manner) -> bool
+    ensures { result ≡ differs_from first manner }
+{
+    match first {
+        None => false,
+        Some(first) => first.differs(&manner),
+    }
+}
+
+/// Refused as assigned in two ways.
+fn refuse_mixed(
+    before: &Assigned,
+    declared: &Declared,
+    place: Place,
+    manner: Manner,
+) -> Option<SectionFault>
+    ensures { result ≡ first_refusal section_order (mixed before.now (view_declared declared.now) place manner) }
+{
+    if differs_from_first(before.first(manner), manner) || opposes_kind(declared, manner) {
+        Some(SectionFault::MixedAssignment(place, manner.signal))
+    } else {
+        None
+    }
+}
+
+/// What is refused of one signal of a target.
+#[tactic(auto, using(crate::proofs::Refused::first_of_both))]
+fn refuse_aim<D: Device>(
+    before: &Assigned,
+    declared: &Declared,
+    place: Place,
+    manner: Manner,
+) -> Option<SectionFault>
+    ensures { result ≡ first_refusal section_order (no_output D.table (view_declared declared.now) place manner ++ mixed before.now (view_declared declared.now) place manner) }
+{
+    earlier(
+        refuse_output::<D>(declared, place, manner),
+        refuse_mixed(before, declared, place, manner),
+    )
+}
+
+/// Checks the signals of a target, what an extension names of them or of their complement, on the clock or not,
+/// against what was assigned before, and notes how they are assigned. The first refusal by place comes.
+pub fn check_aims<D: Device>(
+    names: &Names,
+    extension: Option<Extension>,
+    complement: bool,
+    clocked: bool,
+    aims: &[Aim],
+    before: &mut Assigned,
+) -> Result<Option<SectionFault>, OutOfMemory>
+    requires { AreNamed (length (entries_of names.now)) aims.now }
+    ensures fault { IfOk result (λ f. (d : Design) (all : List Manner) → IsDesignOf D.table names.now d → AreFirsts before.old all → f ≡ first_refusal section_order (aims_refused d all extension complement clocked aims.now)) }
+    ensures before { OnOk result ((all : List Manner) → AreFirsts before.old all → AreFirsts before.new (all ++ map (manner_of extension complement clocked) aims.now)) }
+{
+    let mut fault = None;
+    for aim in aims {
+        let manner = Manner {
+            signal: aim.signal,
+            extension,
+            complement,
+            clocked,
+        };
+        let declared = &names.list.as_slice()[aim.signal as usize];
+        fault = earlier(fault, refuse_aim::<D>(before, declared, aim.place, manner));
+        before.note(manner)?;
+    }
+    Ok(fault)
+}
