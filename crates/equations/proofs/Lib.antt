@@ -1,0 +1,2 @@
+mod ExampleRefusals
+mod Written

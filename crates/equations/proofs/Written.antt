@@ -1,0 +1,142 @@
+-- Sources of one line written as trees, each token at its column.
+use Prim.Native.String.{String}
+use Rattle.std.specs.Prelude.{ℕ, ◌+◌, Bool, true, false, None, Some, List, [], ◌∷◌, codes}
+use Rattle.pld_base.specs.declared.device_name.DeviceName.TheVariants.{P16L8}
+use Rattle.pld_base.specs.declared.place.Place.{Place}
+use Rattle.pld_device.specs.declared.cell.Cell.{Cell}
+use Rattle.pld_device.specs.declared.enable.Enable.TheVariants.{Row}
+use Rattle.pld_device.specs.declared.flip.Flip.TheVariants.{Always}
+use Rattle.pld_device.specs.declared.kinds.Kinds.TheVariants.{Combinational}
+use Rattle.pld_device.specs.Table.{Table}
+use Rattle.abel_tree.specs.declared.words.Binary.TheVariants as binary
+use Rattle.abel_tree.specs.declared.words.Extension.{Extension}
+use Rattle.abel_tree.specs.declared.words.Extension.TheVariants as extension
+use Rattle.abel_tree.specs.declared.words.Sign.TheVariants as sign
+use Rattle.abel_tree.specs.declared.words.Unary.TheVariants as unary
+use Rattle.abel_tree.specs.declared.words.Word.{Word}
+use Rattle.abel_tree.specs.Entries.{Kind, APin, ANode, AConstant, Words, Entry}
+use Rattle.abel_tree.specs.Tree.{Tree, ANumber, ASpecial, AName, ASet, AParen, AUnary, ABinary, SetMember, OneMember, SpanMember, members_of, Statement, AnAssign, AWhen, AGroup, NoElse, AnElse, statements_of}
+use Rattle.abel_meaning.specs.Designs.{Design}
+use Rattle.abel_meaning.specs.Terms.{known_of}
+
+-- a column of the one line
+abbrev pub at : ℕ → Place
+at c = record { line = 1; column = c }
+
+abbrev pub word : ℕ → String → Word
+word c text = record { text = codes text; place = at c }
+
+-- ---- expressions
+
+abbrev pub number : ℕ → ℕ → Tree
+number c n = ANumber (record { value = n; place = at c })
+
+abbrev pub unknown : ℕ → Tree
+unknown c = ASpecial 88 (at c)
+
+abbrev pub pulse : ℕ → Tree
+pulse c = ASpecial 67 (at c)
+
+abbrev pub name : ℕ → String → Tree
+name c text = AName (word c text) None
+
+abbrev pub dotted : ℕ → String → Extension → Tree
+dotted c text e = AName (word c text) (Some e)
+
+abbrev pub set : ℕ → List Tree → Tree
+set c ts = ASet (at c) (members_of (ones ts)) None
+  where
+    ones : List Tree → List SetMember
+    ones [] = []
+    ones (t ∷ ts) = OneMember t ∷ ones ts
+
+abbrev pub span : ℕ → String → ℕ → String → Tree
+span c first k last = ASet (at c) (members_of (SpanMember (word (c + 1) first) (word k last) ∷ [])) None
+
+abbrev pub paren : ℕ → Tree → Tree
+paren c t = AParen (at c) t
+
+abbrev pub inverse : ℕ → Tree → Tree
+inverse c t = AUnary unary.Not (at c) t
+
+abbrev pub both : ℕ → Tree → Tree → Tree
+both c t u = ABinary binary.And (at c) t u
+
+-- ---- statements
+
+abbrev pub assign : ℕ → Tree → ℕ → Tree → Statement
+assign c t q u = AnAssign (at c) false t sign.Equal (at q) u
+
+abbrev pub not_assign : ℕ → Tree → ℕ → Tree → Statement
+not_assign c t q u = AnAssign (at c) true t sign.Equal (at q) u
+
+abbrev pub clocked : ℕ → Tree → ℕ → Tree → Statement
+clocked c t q u = AnAssign (at c) false t sign.Clocked (at q) u
+
+abbrev pub assign_any : ℕ → Tree → ℕ → Tree → Statement
+assign_any c t q u = AnAssign (at c) false t sign.Any (at q) u
+
+abbrev pub when_then : ℕ → Tree → Statement → Statement
+when_then c t s = AWhen (at c) t s NoElse
+
+abbrev pub when_else : ℕ → Tree → Statement → Statement → Statement
+when_else c t s u = AWhen (at c) t s (AnElse u)
+
+abbrev pub group : List Statement → Statement
+group ss = AGroup (statements_of ss)
+
+-- ---- names: a, b on pins that are no cell, Y, Z, W on those of cells, q a register on one, n a node, and constants
+
+abbrev words : (registered : Bool) → Words
+words r = record { combinational = false; registered = r; buffer = false; invert = true; dc = false }
+
+abbrev entry : String → Kind → (registered assigned : Bool) → Entry
+entry text k r y = record { name = codes text; place = at 1; kind = k; words = words r; assigned = y }
+
+abbrev cell : ℕ → Cell
+cell p = record { pin = p; enable = Row 0; first = 0; room = 7; kinds = Combinational }
+
+-- a device of four cells
+abbrev pub device : Table
+device =
+    record {
+      name = P16L8;
+      pins = 20;
+      ground_pin = 10;
+      fuses = 64;
+      short = 64;
+      columns = 32;
+      rows = 2;
+      clock = 0;
+      reset = None;
+      preset = None;
+      flip = Always;
+      cells = cell 19 ∷ cell 18 ∷ cell 17 ∷ cell 16 ∷ [];
+      pairs = [];
+      inverted = [];
+      registered = [];
+      row_switches = [];
+      fixed = [];
+    }
+
+-- W has no data of its own; c = [Y, Z], k = 5, e = Y.OE, x = [Y, .X.], p = .C., i = !Y
+abbrev pub entries : List Entry
+entries =
+    entry "a" (APin 2 false) false false
+    ∷ entry "b" (APin 3 false) false false
+    ∷ entry "Y" (APin 19 false) false true
+    ∷ entry "Z" (APin 18 false) false true
+    ∷ entry "W" (APin 17 false) false false
+    ∷ entry "q" (APin 16 false) true true
+    ∷ entry "n" (ANode 0) false true
+    ∷ entry "c" (AConstant (set 1 (name 2 "Y" ∷ name 4 "Z" ∷ []))) false false
+    ∷ entry "k" (AConstant (number 1 5)) false false
+    ∷ entry "e" (AConstant (dotted 1 "Y" extension.Oe)) false false
+    ∷ entry "x" (AConstant (set 1 (name 2 "Y" ∷ unknown 4 ∷ []))) false false
+    ∷ entry "p" (AConstant (pulse 1)) false false
+    ∷ entry "i" (AConstant (inverse 1 (name 2 "Y"))) false false
+    ∷ []
+
+abbrev pub design : Design
+design =
+    record { device = device; names = entries; known = known_of entries; starts_dontcare = false; sections = [] }

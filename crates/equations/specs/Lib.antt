@@ -1,0 +1,2 @@
+pub mod StatementAnswers
+pub mod StatementUnits

@@ -1,0 +1,122 @@
+-- The units of statements in order of their first tokens, with what is refused of each and the nodes that it makes
+-- (ABEL-HDL Reference Manual, equations and WHEN-THEN-ELSE; units are this project's rule).
+use Rattle.std.specs.Prelude.{ℕ, Bool, Option, List, [], ◌∷◌, ◌++◌, length, map}
+use Rattle.pld_base.specs.declared.place.Place.{Place}
+use Rattle.bit_expr.specs.Formulas.{Formula}
+use Rattle.abel_tree.specs.Assigned.{target_extension, is_clocked}
+use Rattle.abel_tree.specs.declared.words.Sign.{Sign}
+use Rattle.abel_tree.specs.Tree.{Tree, Statement, AnAssign, AWhen, AGroup, ADontCare, Otherwise, NoElse, AnElse, Statements, NoStatement, MoreStatements}
+use Rattle.abel_meaning.specs.Designs.{Design}
+use Rattle.abel_meaning.specs.Targets.{targets_of}
+use Rattle.abel_meaning.specs.Terms.{term_of}
+use Rattle.abel_tree.specs.declared.words.Extension.{Extension}
+use Rattle.abel_meaning.specs.CountedNodes.{value_nodes, choice_nodes, condition_of, guard_then, guard_else, has_else}
+use Rattle.set_expr.specs.declared.fault.SectionFault.{SectionFault}
+use Rattle.set_expr.specs.FoundNames.{expression_found}
+use Rattle.set_expr.specs.Refusals.{Found}
+use Rattle.section_targets.specs.declared.manner.Manner.{Manner}
+use Rattle.section_targets.specs.declared.aim.Aim.{Aim}
+use Rattle.section_targets.specs.Manners.{manner_of, aims_refused}
+use Rattle.section_targets.specs.Units.{CountedUnit}
+use Rattle.section_targets.specs.ValueWidths.{value_refused}
+use Rattle.section_targets.specs.TargetSignals.{TargetFound, left_side}
+
+-- ---- conditions and assignments
+
+-- a condition is one bit
+abbrev pub condition_refused : Design → Place → Tree → List SectionFault
+condition_refused d p c = value_refused p 1 (expression_found d.names c)
+
+-- a target that is refused assigns nothing
+abbrev pub unless_any : List SectionFault → List Aim → List Aim
+unless_any [] aims = aims
+unless_any (r ∷ rs) aims = []
+
+abbrev pub assigned_aims : TargetFound → List Aim
+assigned_aims t = unless_any t.refusals t.aims
+
+-- a value meets a target that isn't refused
+abbrev pub taken_refused : List SectionFault → Place → (n : ℕ) → Found → List SectionFault
+taken_refused [] q n f = value_refused q n f
+taken_refused (r ∷ rs) q n f = f.refusals ++ f.specials
+
+-- how an assignment's signals are assigned
+abbrev pub assigned_manners : Option Extension → (complement : Bool) → Sign → List Aim → List Manner
+assigned_manners e complement sign aims = map (manner_of e complement (is_clocked sign)) aims
+
+-- what is refused of an assignment: its target, its value, and how the signals are assigned
+abbrev pub assign_refused : Design → List Manner → Option Extension → (complement : Bool) → Sign → Place
+    → TargetFound → Found → List SectionFault
+assign_refused d before e complement sign q t f =
+    t.refusals
+    ++ (taken_refused t.refusals q (length t.aims) f
+    ++ aims_refused d before e complement (is_clocked sign) (assigned_aims t))
+
+-- ---- units
+
+-- how the statements assign signals, in order
+abbrev mutual
+  pub statement_manners : Design → Statement → List Manner
+  statement_manners d (AnAssign place complement target sign q value) =
+      assigned_manners (target_extension target) complement sign (assigned_aims (left_side d place target))
+  statement_manners d (AWhen place c s other) = statement_manners d s ++ else_manners d other
+  statement_manners d (AGroup ss) = statements_manners d ss
+  statement_manners d (ADontCare directive) = []
+
+  pub else_manners : Design → Otherwise → List Manner
+  else_manners d NoElse = []
+  else_manners d (AnElse s) = statement_manners d s
+
+  pub statements_manners : Design → Statements → List Manner
+  statements_manners d NoStatement = []
+  statements_manners d (MoreStatements s ss) = statement_manners d s ++ statements_manners d ss
+
+-- the places of the signals that statements assign, in order
+abbrev pub places_of : List Aim → List Place
+places_of aims = map (λ (a : Aim). a.place) aims
+
+abbrev mutual
+  pub statement_places : Design → Statement → List Place
+  statement_places d (AnAssign place complement target sign q value) =
+      places_of (assigned_aims (left_side d place target))
+  statement_places d (AWhen place c s other) = statement_places d s ++ else_places d other
+  statement_places d (AGroup ss) = statements_places d ss
+  statement_places d (ADontCare directive) = []
+
+  pub else_places : Design → Otherwise → List Place
+  else_places d NoElse = []
+  else_places d (AnElse s) = statement_places d s
+
+  pub statements_places : Design → Statements → List Place
+  statements_places d NoStatement = []
+  statements_places d (MoreStatements s ss) = statement_places d s ++ statements_places d ss
+
+-- the units of statements under a guard, behind what was assigned before
+abbrev mutual
+  pub units_of_statement : Design → (guard : Formula) → List Manner → Statement → List CountedUnit
+  units_of_statement d g before (AnAssign place complement target sign q value) =
+      record {
+        place = place;
+        refusals = assign_refused d before (target_extension target) complement sign q (left_side d place target)
+            (expression_found d.names value);
+        nodes = value_nodes d g (length (targets_of (term_of d.known target))) value;
+      } ∷ []
+  units_of_statement d g before (AWhen place c s other) =
+      record {
+        place = place;
+        refusals = condition_refused d place c;
+        nodes = choice_nodes d g c (has_else other);
+      }
+      ∷ units_of_statement d (guard_then g (condition_of d c)).what before s
+      ++ units_of_else d (guard_else g (condition_of d c)).what (before ++ statement_manners d s) other
+  units_of_statement d g before (AGroup ss) = units_of_statements d g before ss
+  units_of_statement d g before (ADontCare directive) = []
+
+  pub units_of_else : Design → (guard : Formula) → List Manner → Otherwise → List CountedUnit
+  units_of_else d g before NoElse = []
+  units_of_else d g before (AnElse s) = units_of_statement d g before s
+
+  pub units_of_statements : Design → (guard : Formula) → List Manner → Statements → List CountedUnit
+  units_of_statements d g before NoStatement = []
+  units_of_statements d g before (MoreStatements s ss) =
+      units_of_statement d g before s ++ units_of_statements d g (before ++ statement_manners d s) ss

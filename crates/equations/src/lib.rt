@@ -1,0 +1,2 @@
+//! What equations contribute to the signals of a source.
+#![tactic(auto)]
