@@ -1,0 +1,14 @@
+pub mod CellsFound
+pub mod KeptLeaves
+pub mod Meaning
+pub mod NamedLeaves
+pub mod NamedWords
+pub mod NodeNumbers
+pub mod NodesFound
+pub mod SharedControls
+pub mod SignalsAlike
+pub mod Sound
+pub mod SoundCells
+pub mod SoundGraphs
+pub mod SoundLeaves
+pub mod SourcedFormulas

@@ -1,0 +1,5 @@
+pub mod Correct
+pub mod Example
+pub mod Gathered
+pub mod SignalUses
+pub mod Takeable
