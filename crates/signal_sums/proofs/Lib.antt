@@ -1,0 +1,3 @@
+pub mod GivenAmounts
+pub mod GrowingSums
+pub mod LaterTotals

@@ -1,0 +1,52 @@
+-- Private: what the contributions to one signal amount to, as bits of an arena that has grown (this project's rule).
+use Rattle.std.specs.Prelude.{◌≡◌, ◌<◌, ◌&&◌, Option, None, Some, List, length, find}
+use Rattle.std.specs.List.{list_any}
+use Rattle.bit_expr.specs.declared.netlist.Control.{Control}
+use Rattle.bit_expr.specs.declared.netlist.Function.{Function}
+use Rattle.bit_expr.specs.Arena.{formula_at}
+use Rattle.bit_expr.specs.Formulas.{Formula}
+use Rattle.abel_tree.specs.declared.words.Extension.{Extension}
+use Rattle.abel_tree.specs.declared.words.Extension.TheVariants as extension
+use Rattle.abel_meaning.specs.Targets.{is_data, is_raw}
+use Rattle.set_expr.specs.declared.contributions.Contribution.{Contribution}
+use Rattle.set_expr.specs.declared.contributions.Gives.TheVariants as gives
+use Rattle.signal_sums.specs.declared.parts.Part.TheVariants as part
+use Rattle.signal_sums.specs.declared.signal.Controls.{Controls}
+use Rattle.signal_sums.specs.declared.signal.Totals.{Totals}
+use Rattle.signal_sums.specs.Parts.{is_for, part_sum, any_sum, complement_of}
+
+-- a function: the contributions' ids are of the first arena, its own of the second
+pub record IsFunctionOf (old new : List Formula) (own : List Contribution) (f : Function) : Type 0 where
+  pub one : formula_at new f.one ≡ part_sum old (part.Data gives.One) own
+  pub any : formula_at new f.any ≡ any_sum old own
+  pub complement : f.complement ≡ list_any (λ (c : Contribution). is_data c.target.extension && c.complement) own
+  pub one_inside : f.one.0 < length new
+  pub any_inside : f.any.0 < length new
+
+-- a control: the sum of all equations for it, or its complement, as the first says
+pub record IsControlBy (old new : List Formula) (own : List Contribution) (e : Extension) (first : Contribution) (control : Control) : Type 0 where
+  pub bit : formula_at new control.bit ≡ complement_of first.complement (part_sum old (part.Control e) own)
+  pub inside : control.bit.0 < length new
+  pub place : control.place ≡ first.place
+
+-- one that may be there: it is, just where there is a first equation
+abbrev pub IsControlFor : (old new : List Formula) → List Contribution → Extension → Option Contribution → Option Control → Type 0
+IsControlFor old new own e None None = Unit {0}
+IsControlFor old new own e None (Some control) = ⊥
+IsControlFor old new own e (Some first) None = ⊥
+IsControlFor old new own e (Some first) (Some control) = IsControlBy old new own e first control
+
+abbrev pub IsControlOf : (old new : List Formula) → List Contribution → Extension → Option Control → Type 0
+IsControlOf old new own e control = IsControlFor old new own e (find (is_for (part.Control e)) own) control
+
+-- all of them
+pub record AreControlsOf (old new : List Formula) (own : List Contribution) (controls : Controls) : Type 0 where
+  pub enable : IsControlOf old new own extension.Oe controls.enable
+  pub reset : IsControlOf old new own extension.Ar controls.reset
+  pub preset : IsControlOf old new own extension.Sp controls.preset
+
+-- function and controls
+pub record AreTotalsOf (old new : List Formula) (own : List Contribution) (totals : Totals) : Type 0 where
+  pub function : IsFunctionOf old new own totals.function
+  pub raw : totals.raw ≡ list_any (λ (c : Contribution). is_raw c.target.extension) own
+  pub controls : AreControlsOf old new own totals.controls

@@ -1,0 +1,11 @@
+//! What all contributions to a signal amount to, as bits.
+#![tactic(auto)]
+
+mod given;
+mod parts;
+mod signal;
+mod sums;
+#[cfg(test)]
+mod tests;
+
+pub use signal::{Controls, Totals, sum_up};
