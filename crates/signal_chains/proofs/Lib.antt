@@ -1,0 +1,2 @@
+pub mod LinkSets
+pub mod SameChains
