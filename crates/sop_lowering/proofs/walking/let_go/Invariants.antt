@@ -1,0 +1,7 @@
+use Rattle.sop_lowering.specs.Keeping.{AreRight}
+use Rattle.sop_lowering.proofs.walking.let_go.Given as goal
+
+abbrev pub invariant-loop-index : goal.invariant-loop-index
+invariant-loop-index l = record {
+  right : AreRight l.net l.kept;
+}

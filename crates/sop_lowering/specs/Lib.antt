@@ -1,0 +1,6 @@
+pub mod Keeping
+pub mod Lowering
+pub mod Products
+pub mod Through
+pub mod Values
+pub mod Written

@@ -1,0 +1,33 @@
+-- What lowering needs, and what its answers say (this project's rule).
+use Rattle.std.specs.Prelude.{◌≡◌, ◌<◌, Some, None, List, length, Result, Ok, Err}
+use Rattle.bit_expr.specs.declared.netlist.Netlist.{Netlist}
+use Rattle.bit_expr.specs.declared.node.ExprId.{ExprId}
+use Rattle.bit_expr.specs.declared.node.Leaf.{Leaf}
+use Rattle.bit_expr.specs.declared.node.Leaf.TheVariants as leaf
+use Rattle.bit_expr.specs.Arena.{arena, formula_at}
+use Rattle.cube_pool.specs.declared.cube.Cube.{Cube}
+use Rattle.sop_lowering.specs.declared.fault.LowerFault.{LowerFault}
+use Rattle.sop_lowering.specs.declared.fault.LowerFault.TheVariants as fault
+use Rattle.sop_lowering.specs.Products.{Products}
+use Rattle.sop_lowering.specs.Through.{Reaches}
+use Rattle.sop_lowering.specs.Written.{pair_of}
+
+-- the pin or the Q has a pair of columns, of which there are at most 22
+abbrev pub HasPair : Netlist → Leaf → Type 0
+HasPair net (leaf.Pin p) = (p < 25) × (pair_of net (leaf.Pin p) < 22)
+HasPair net (leaf.Q c) = (c < 25) × (pair_of net (leaf.Q c) < 22)
+HasPair net (leaf.Node n) = Unit {0}
+
+-- the id lies in the arena, and every pin and Q that its formula reaches has a pair; no chain of nodes returns
+abbrev pub CanLower : Netlist → ExprId → Type 0
+CanLower net id = (id.0 < length (arena net.exprs)) × Reaches net (HasPair net) (formula_at (arena net.exprs) id)
+
+-- TooWide comes just where a list on the way would pass 1,024 products; want of memory tells nothing
+abbrev pub Fails : LowerFault → Products → Type 0
+Fails fault.TooWide list = list ≡ None
+Fails fault.OutOfMemory list = Unit {0}
+
+-- an answer is the list, or says that there is none
+abbrev pub IsList : {A : Type 0} → (A → List Cube) → Result A LowerFault → Products → Type 0
+IsList rows (Ok r) list = list ≡ Some (rows r)
+IsList rows (Err e) list = Fails e list

@@ -1,0 +1,17 @@
+//! The written products of a bit in a polarity.
+#![tactic(auto)]
+
+mod fault;
+mod inserting;
+mod kept;
+mod laws;
+mod lowering;
+#[cfg(test)]
+mod tests;
+mod uses;
+mod walking;
+
+pub use fault::LowerFault;
+pub use inserting::{product_list, sum_list};
+pub use laws::written_values;
+pub use walking::lower;

@@ -1,0 +1,212 @@
+//! The list of a bit, made of kept lists and, where one is not kept, of lists made on the way.
+//!
+//! Names: `turns` is the number of nodes that a chain from here may still pass.
+
+ghost use Rattle.std.specs.Prelude.{◌≡◌, ◌<◌, ◌≤◌, ◌∷◌, [], vec_len, length, IfOk, Some};
+ghost use Rattle.pld_device.specs.Macrocells.{complement_if};
+ghost use Rattle.bit_expr.specs.Formulas.{Read};
+ghost use Rattle.bit_expr.specs.declared.node.Leaf.TheVariants as leaf;
+ghost use Rattle.cube_pool.specs.Cubes.{literal_cube};
+ghost use Rattle.sop_lowering.specs.Keeping.{AreRight, CanReach, signed_list};
+ghost use Rattle.sop_lowering.specs.Lowering.{CanLower, HasPair, IsList};
+ghost use Rattle.sop_lowering.specs.Products.{product_of, sum_of};
+ghost use Rattle.sop_lowering.specs.Through.{ReachesThrough};
+ghost use Rattle.sop_lowering.specs.Written.{bit_list, constant_list, written};
+
+use crate::fault::LowerFault;
+use crate::inserting::{product_list, sum_list};
+use crate::kept::{Kept, SignedBit, signed};
+use bit_expr::{ExprId, Leaf, Netlist, Node};
+use cube_pool::Cube;
+use std::alloc::Global;
+
+/// The list of a constant.
+fn constant(alloc: Global, level: bool) -> Result<Vec<Cube>, LowerFault>
+    ensures list { IsList (λ r. r.items) result (constant_list level) }
+    ensures few { IfOk result (λ r. vec_len r ≤ 1024) }
+{
+    let mut rows = Vec::new(alloc);
+    if level {
+        rows.push(Cube::full())?;
+    }
+    Ok(rows)
+}
+
+/// The list of a literal.
+fn literal(alloc: Global, variable: u8, positive: bool) -> Result<Vec<Cube>, LowerFault>
+    requires { variable < 22 }
+    ensures list { IsList (λ r. r.items) result (Some (literal_cube variable positive ∷ [])) }
+    ensures few { IfOk result (λ r. vec_len r ≤ 1024) }
+{
+    let mut rows = Vec::new(alloc);
+    rows.push(Cube::literal(variable, positive))?;
+    Ok(rows)
+}
+
+/// The polarity behind a complement that may be there.
+pub(crate) fn turned(complement: bool, positive: bool) -> bool
+    ensures { result ≡ complement_if complement positive }
+{
+    if complement { !positive } else { positive }
+}
+
+/// The list of a bit in a polarity, kept or made.
+#[cycle(lowering)]
+fn kept_or_made(
+    alloc: Global,
+    net: &Netlist,
+    kept: &Kept,
+    turns: usize,
+    bit: SignedBit,
+) -> Result<Vec<Cube>, LowerFault>
+    requires reach { CanReach net.now turns bit.id }
+    requires right { AreRight net.now kept.now }
+    ensures list { IsList (λ r. r.items) result (bit_list net.now bit.id bit.positive) }
+    ensures few { IfOk result (λ r. vec_len r ≤ 1024) }
+{
+    match kept.copy(bit)? {
+        Some(rows) => Ok(rows),
+        None => made(alloc, net, kept, turns, bit.id, bit.positive),
+    }
+}
+
+/// The list of a bit in a polarity, made of the lists of its operands.
+#[cycle(lowering)]
+fn made(
+    alloc: Global,
+    net: &Netlist,
+    kept: &Kept,
+    turns: usize,
+    id: ExprId,
+    positive: bool,
+) -> Result<Vec<Cube>, LowerFault>
+    requires reach { CanReach net.now turns id }
+    requires right { AreRight net.now kept.now }
+    ensures list { IsList (λ r. r.items) result (bit_list net.now id positive) }
+    ensures few { IfOk result (λ r. vec_len r ≤ 1024) }
+{
+    match net.exprs.get(id) {
+        Node::Const(level) => constant(alloc, level == positive),
+        Node::Leaf(Leaf::Pin(pin)) => literal(alloc, net.pair_of_pin[pin as usize], positive),
+        Node::Leaf(Leaf::Q(cell)) => literal(alloc, net.pair_of_cell[cell as usize], positive),
+        Node::Leaf(Leaf::Node(node)) => node_list(alloc, net, kept, turns, node, positive),
+        Node::Not(a) => { kept_or_made(alloc, net, kept, turns, signed(a, !positive)) }
+        Node::And(a, b) => {
+            if positive {
+                product(alloc, net, kept, turns, signed(a, true), signed(b, true))
+            } else {
+                sum(alloc, net, kept, turns, signed(a, false), signed(b, false))
+            }
+        }
+        Node::Or(a, b) => {
+            if positive {
+                sum(alloc, net, kept, turns, signed(a, true), signed(b, true))
+            } else {
+                product(alloc, net, kept, turns, signed(a, false), signed(b, false))
+            }
+        }
+        Node::Xor(a, b) => {
+            let first = product(
+                alloc,
+                net,
+                kept,
+                turns,
+                signed(a, true),
+                signed(b, !positive),
+            )?;
+            let second = product(
+                alloc,
+                net,
+                kept,
+                turns,
+                signed(a, false),
+                signed(b, positive),
+            )?;
+            sum_list(first, &second)
+        }
+    }
+}
+
+/// The list of the product of two bits, each in a polarity.
+#[cycle(lowering)]
+fn product(
+    alloc: Global,
+    net: &Netlist,
+    kept: &Kept,
+    turns: usize,
+    a: SignedBit,
+    b: SignedBit,
+) -> Result<Vec<Cube>, LowerFault>
+    requires a { CanReach net.now turns a.id }
+    requires b { CanReach net.now turns b.id }
+    requires right { AreRight net.now kept.now }
+    ensures list { IsList (λ r. r.items) result (product_of (signed_list net.now a) (signed_list net.now b)) }
+    ensures few { IfOk result (λ r. vec_len r ≤ 1024) }
+{
+    let first = kept_or_made(alloc, net, kept, turns, a)?;
+    let second = kept_or_made(alloc, net, kept, turns, b)?;
+    product_list(alloc, &first, &second)
+}
+
+/// The list of the sum of two bits, each in a polarity.
+#[cycle(lowering)]
+fn sum(
+    alloc: Global,
+    net: &Netlist,
+    kept: &Kept,
+    turns: usize,
+    a: SignedBit,
+    b: SignedBit,
+) -> Result<Vec<Cube>, LowerFault>
+    requires a { CanReach net.now turns a.id }
+    requires b { CanReach net.now turns b.id }
+    requires right { AreRight net.now kept.now }
+    ensures list { IsList (λ r. r.items) result (sum_of (signed_list net.now a) (signed_list net.now b)) }
+    ensures few { IfOk result (λ r. vec_len r ≤ 1024) }
+{
+    let first = kept_or_made(alloc, net, kept, turns, a)?;
+    let second = kept_or_made(alloc, net, kept, turns, b)?;
+    sum_list(first, &second)
+}
+
+/// The list of a node: that of its function with any as 0.
+#[cycle(lowering)]
+fn node_list(
+    alloc: Global,
+    net: &Netlist,
+    kept: &Kept,
+    turns: usize,
+    node: u8,
+    positive: bool,
+) -> Result<Vec<Cube>, LowerFault>
+    requires reach { ReachesThrough net.now (HasPair net.now) turns node }
+    requires turns { turns ≤ length net.now.nodes }
+    requires right { AreRight net.now kept.now }
+    ensures list { IsList (λ r. r.items) result (written net.now (Read (leaf.Node node)) positive) }
+    ensures few { IfOk result (λ r. vec_len r ≤ 1024) }
+{
+    if turns == 0 {
+        return Ok(Vec::new(alloc));
+    }
+    let function = net.nodes.as_slice()[node as usize];
+    let bit = SignedBit {
+        id: function.one,
+        positive: turned(function.complement, positive),
+    };
+    kept_or_made(alloc, net, kept, turns - 1, bit)
+}
+
+/// Makes the list of a bit in a polarity, of the lists that are kept.
+pub(crate) fn list_now(
+    alloc: Global,
+    net: &Netlist,
+    kept: &Kept,
+    bit: SignedBit,
+) -> Result<Vec<Cube>, LowerFault>
+    requires can { CanLower net.now bit.id }
+    requires right { AreRight net.now kept.now }
+    ensures list { IsList (λ r. r.items) result (bit_list net.now bit.id bit.positive) }
+    ensures few { IfOk result (λ r. vec_len r ≤ 1024) }
+{
+    kept_or_made(alloc, net, kept, net.nodes.as_slice().len(), bit)
+}
