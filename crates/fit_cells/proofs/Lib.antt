@@ -1,0 +1,3 @@
+pub mod InsideLists
+pub mod PoolLists
+pub mod TurnedCubes

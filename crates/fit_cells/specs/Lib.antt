@@ -1,0 +1,5 @@
+pub mod Choices
+pub mod Columns
+pub mod Covering
+pub mod Points
+pub mod Tries

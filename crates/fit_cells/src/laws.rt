@@ -1,0 +1,15 @@
+//! What joins the lists to what they stand for, as the contracts of calls that do nothing.
+
+ghost use Rattle.fit_cells.specs.Points.{ListsInside, TurnedPoints};
+
+/// A turned cube has a point just where the cube has the point with the levels of the mask's variables exchanged. Does
+/// nothing.
+pub fn turned_points()
+    ensures { TurnedPoints }
+{}
+
+/// Where each list of levels is carried from some point whose nodes are valued, the two lists of a function ask no
+/// variable past the levels, and each needed point is allowed. Does nothing.
+pub fn lists_inside()
+    ensures { ListsInside }
+{}
