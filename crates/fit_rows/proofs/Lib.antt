@@ -1,0 +1,4 @@
+pub mod FuseSteps
+pub mod HeldRows
+pub mod OwnedRows
+pub mod PlannedRows

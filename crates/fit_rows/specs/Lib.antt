@@ -1,0 +1,4 @@
+pub mod FuseLists
+pub mod Owners
+pub mod Planned
+pub mod RowCubes

@@ -1,0 +1,11 @@
+//! From the cubes that the rows of a device are to hold to its list of fuses. Knows no netlist.
+#![tactic(auto)]
+
+mod burning;
+mod laws;
+mod plan;
+#[cfg(test)]
+mod tests;
+
+pub use laws::owners;
+pub use plan::{CellPlan, Plan, planned_fuses};
