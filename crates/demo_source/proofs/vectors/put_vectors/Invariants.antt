@@ -1,0 +1,11 @@
+use Rattle.std.proofs.Common.{option_map}
+use Rattle.pld_base.specs.Points.{levels_of}
+use Rattle.pld_machine.specs.Lookups.{logic_of}
+use Rattle.demo_source.specs.Machine.{machine}
+use Rattle.demo_source.proofs.Lines.{HasLines}
+use Rattle.demo_source.proofs.vectors.put_vectors.Given as goal
+
+abbrev pub invariant-loop : goal.invariant-loop
+invariant-loop l =
+    HasLines (logic_of (machine l.of.equations.now)) 1000 l.fn.draws.state l.fn.out.items l.out.items
+    (option_map levels_of l.before) l.draws.state l.counter

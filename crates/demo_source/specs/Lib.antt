@@ -1,0 +1,4 @@
+pub mod Drawing
+pub mod Machine
+pub mod Pulses
+pub mod SourceText
