@@ -1,0 +1,9 @@
+use Rattle.std.proofs.Common.{◌≡◌, ◌++◌, flat_map}
+use Rattle.std.specs.List.{range_with_len}
+use Rattle.abel_tree.specs.Entries.{entries_of}
+use Rattle.fuse_listing.specs.Listing.{line_if_used}
+use Rattle.fuse_listing.proofs.cells.put_rows.Given as goal
+
+abbrev pub invariant-loop-offset : goal.invariant-loop-offset
+invariant-loop-offset g l =
+    l.out.items ≡ l.initial.out.items ++ flat_map (line_if_used g.D.Device.table l.fuses (entries_of l.names)) (range_with_len l.cell.first l.offset)

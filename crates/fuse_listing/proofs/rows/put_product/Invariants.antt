@@ -1,0 +1,10 @@
+use Rattle.std.proofs.Common.{not}
+use Rattle.abel_tree.specs.Entries.{entries_of}
+use Rattle.fuse_listing.specs.Listing.{column_literal, is_opened}
+use Rattle.fuse_listing.proofs.Joined.{HasJoined}
+use Rattle.fuse_listing.proofs.rows.put_product.Given as goal
+
+abbrev pub invariant-loop-column : goal.invariant-loop-column
+invariant-loop-column g l =
+    HasJoined (column_literal g.D.Device.table l.fuses (entries_of l.names)) (λ k. not (is_opened g.D.Device.table l.fuses l.row k))
+    l.initial.out.items l.out.items l.is_first l.column

@@ -1,0 +1,9 @@
+use Rattle.std.proofs.Common.{◌≡◌, ◌++◌, flat_map}
+use Rattle.std.specs.List.{range_with_len}
+use Rattle.abel_tree.specs.Entries.{entries_of}
+use Rattle.fuse_listing.specs.Listing.{assigned_text}
+use Rattle.fuse_listing.proofs.whole.put_cells.Given as goal
+
+abbrev pub invariant-loop-cell : goal.invariant-loop-cell
+invariant-loop-cell g l =
+    l.out.items ≡ l.initial.out.items ++ flat_map (assigned_text g.D.Device.table l.fuses (entries_of l.names)) (range_with_len 0 l.cell)

@@ -1,0 +1,218 @@
+//! The lines of cells.
+
+ghost use Rattle.std.specs.Prelude.{◌≡◌, ◌+◌, ◌<◌, ◌≤◌, ◌++◌, OnOk, length, filter, flat_map};
+ghost use Rattle.std.specs.List.{range_with_len};
+ghost use Rattle.std.specs.Fmt.{decimal};
+ghost use Rattle.abel_tree.specs.Entries.{entries_of};
+ghost use Rattle.fuse_listing.specs.Listing.{assigned_text, cell_text, enable_text, head_text, is_in_use, kind_text};
+ghost use Rattle.fuse_listing.specs.Listing.{line_if_used, pin_text, polarity_text, use_text};
+
+use crate::columns::{complements_output, stores};
+use crate::lookups::cell_of;
+use crate::pin_names::name_on;
+use crate::rows::{is_in_use, put_row, put_row_line};
+use abel_tree::Names;
+use pld_base::{OutOfMemory, put_decimal};
+use pld_device::{Cell, Device, Enable};
+use std::alloc::Global;
+
+/// How many of some rows are in use.
+fn count_in_use<D: Device>(fuses: &[bool], first: u16, room: u8) -> usize
+    requires { first + room ≤ 65535 }
+    ensures { result ≡ length (filter (is_in_use D.table fuses.now) (range_with_len first room)) }
+{
+    (first..first + u16::from(room))
+        .filter(|row| is_in_use::<D>(fuses, *row))
+        .count()
+}
+
+/// Appends what enables a cell.
+fn put_enable<D: Device>(
+    alloc: Global,
+    out: &mut Vec<u8>,
+    fuses: &[bool],
+    names: &Names,
+    enable: Enable,
+) -> Result<(), OutOfMemory>
+    ensures { OnOk result (out.new.items
+        ≡ out.old.items ++ enable_text D.table fuses.now (entries_of names.now) enable) }
+{
+    match enable {
+        Enable::Row(row) => put_row::<D>(alloc, out, fuses, names, row),
+        Enable::PinLow(pin) => {
+            out.extend_from_slice(b"!pin")?;
+            put_decimal(alloc, out, usize::from(pin))
+        }
+    }
+}
+
+/// Appends the line of a data row that is in use.
+fn put_if_used<D: Device>(
+    alloc: Global,
+    out: &mut Vec<u8>,
+    fuses: &[bool],
+    names: &Names,
+    row: u16,
+) -> Result<(), OutOfMemory>
+    ensures { OnOk result (out.new.items
+        ≡ out.old.items ++ line_if_used D.table fuses.now (entries_of names.now) row) }
+{
+    if is_in_use::<D>(fuses, row) {
+        put_row_line::<D>(alloc, out, fuses, names, b"  rows ", row)?;
+    }
+    Ok(())
+}
+
+/// Appends the lines of the data rows that are in use.
+fn put_rows<D: Device>(
+    alloc: Global,
+    out: &mut Vec<u8>,
+    fuses: &[bool],
+    names: &Names,
+    cell: &Cell,
+) -> Result<(), OutOfMemory>
+    requires { cell.now.first + cell.now.room ≤ 65535 }
+    ensures { OnOk result (out.new.items ≡ out.old.items
+        ++ flat_map (line_if_used D.table fuses.now (entries_of names.now)) (range_with_len cell.now.first cell.now.room)) }
+{
+    for offset in 0..cell.room {
+        put_if_used::<D>(alloc, out, fuses, names, cell.first + u16::from(offset))?;
+    }
+    Ok(())
+}
+
+/// Appends whether a cell is a register.
+fn put_kind<D: Device>(out: &mut Vec<u8>, fuses: &[bool], cell: u8) -> Result<(), OutOfMemory>
+    requires { cell < length D.table.cells }
+    ensures { OnOk result (out.new.items ≡ out.old.items ++ kind_text D.table fuses.now cell) }
+{
+    let text: &[u8] = if stores::<D>(fuses, cell) {
+        b" registered"
+    } else {
+        b" combinational"
+    };
+    out.extend_from_slice(text)?;
+    Ok(())
+}
+
+/// Appends how a cell's pin follows its output.
+fn put_polarity<D: Device>(out: &mut Vec<u8>, fuses: &[bool], cell: u8) -> Result<(), OutOfMemory>
+    requires { cell < length D.table.cells }
+    ensures { OnOk result (out.new.items ≡ out.old.items ++ polarity_text D.table fuses.now cell) }
+{
+    let text: &[u8] = if complements_output::<D>(fuses, cell) {
+        b" inverted "
+    } else {
+        b" direct "
+    };
+    out.extend_from_slice(text)?;
+    Ok(())
+}
+
+/// Appends a number behind a text.
+fn put_numbered(
+    alloc: Global,
+    out: &mut Vec<u8>,
+    text: &[u8],
+    number: usize,
+) -> Result<(), OutOfMemory>
+    ensures { OnOk result (out.new.items ≡ out.old.items ++ text.now ++ decimal number) }
+{
+    out.extend_from_slice(text)?;
+    put_decimal(alloc, out, number)
+}
+
+/// Appends a cell's pin and its name.
+fn put_pin<D: Device>(
+    alloc: Global,
+    out: &mut Vec<u8>,
+    cell: u8,
+    name: &[u8],
+) -> Result<(), OutOfMemory>
+    requires { cell < length D.table.cells }
+    ensures { OnOk result (out.new.items ≡ out.old.items ++ pin_text D.table cell name.now) }
+{
+    put_numbered(alloc, out, b"pin ", usize::from(cell_of::<D>(cell).pin))?;
+    out.push(b' ')?;
+    out.extend_from_slice(name)?;
+    Ok(())
+}
+
+/// Appends how many data rows of a cell are in use, of those that it has.
+fn put_use<D: Device>(
+    alloc: Global,
+    out: &mut Vec<u8>,
+    fuses: &[bool],
+    cell: u8,
+) -> Result<(), OutOfMemory>
+    requires { cell < length D.table.cells }
+    ensures { OnOk result (out.new.items ≡ out.old.items ++ use_text D.table fuses.now cell) }
+{
+    let found = cell_of::<D>(cell);
+    put_decimal(
+        alloc,
+        out,
+        count_in_use::<D>(fuses, found.first, found.room),
+    )?;
+    put_numbered(alloc, out, b" of ", usize::from(found.room))?;
+    out.push(b'\n')?;
+    Ok(())
+}
+
+/// Appends the first line of a cell.
+fn put_head<D: Device>(
+    alloc: Global,
+    out: &mut Vec<u8>,
+    fuses: &[bool],
+    cell: u8,
+    name: &[u8],
+) -> Result<(), OutOfMemory>
+    requires { cell < length D.table.cells }
+    ensures { OnOk result (out.new.items ≡ out.old.items ++ head_text D.table fuses.now cell name.now) }
+{
+    put_pin::<D>(alloc, out, cell, name)?;
+    put_kind::<D>(out, fuses, cell)?;
+    put_polarity::<D>(out, fuses, cell)?;
+    put_use::<D>(alloc, out, fuses, cell)
+}
+
+/// Appends the lines of a cell.
+fn put_cell<D: Device>(
+    alloc: Global,
+    out: &mut Vec<u8>,
+    fuses: &[bool],
+    names: &Names,
+    cell: u8,
+    name: &[u8],
+) -> Result<(), OutOfMemory>
+    requires { cell < length D.table.cells }
+    ensures { OnOk result (out.new.items
+        ≡ out.old.items ++ cell_text D.table fuses.now (entries_of names.now) cell name.now) }
+{
+    put_head::<D>(alloc, out, fuses, cell, name)?;
+    let found = cell_of::<D>(cell);
+    out.extend_from_slice(b"  enable ")?;
+    put_enable::<D>(alloc, out, fuses, names, found.enable)?;
+    out.push(b'\n')?;
+    put_rows::<D>(alloc, out, fuses, names, &found)
+}
+
+/// Appends the lines of a cell whose pin's name is assigned.
+pub fn put_if_assigned<D: Device>(
+    alloc: Global,
+    out: &mut Vec<u8>,
+    fuses: &[bool],
+    names: &Names,
+    cell: u8,
+) -> Result<(), OutOfMemory>
+    requires { cell < length D.table.cells }
+    ensures { OnOk result (out.new.items
+        ≡ out.old.items ++ assigned_text D.table fuses.now (entries_of names.now) cell) }
+{
+    if let Some(declared) = name_on(names, cell_of::<D>(cell).pin) {
+        if declared.assigned {
+            put_cell::<D>(alloc, out, fuses, names, cell, declared.name.bytes())?;
+        }
+    }
+    Ok(())
+}

@@ -1,0 +1,13 @@
+//! The equations of a device's fuses in the names of a source.
+#![tactic(auto)]
+
+mod cells;
+mod columns;
+mod lookups;
+mod pin_names;
+mod rows;
+#[cfg(test)]
+mod tests;
+mod whole;
+
+pub use whole::listing;

@@ -1,0 +1,70 @@
+//! The whole listing.
+
+ghost use Rattle.std.specs.Prelude.{◌≡◌, ◌++◌, IfOk, OnOk, flat_map, length};
+ghost use Rattle.std.specs.List.{range_with_len};
+ghost use Rattle.abel_tree.specs.Entries.{entries_of};
+ghost use Rattle.fuse_listing.specs.Listing.{assigned_text, common_line, listing_text};
+
+use crate::cells::put_if_assigned;
+use crate::rows::put_row_line;
+use abel_tree::Names;
+use pld_base::OutOfMemory;
+use pld_device::{Device, Fuses};
+use std::alloc::Global;
+
+/// Appends the lines of all cells whose pins' names are assigned, in the order of the cells.
+fn put_cells<D: Device>(
+    alloc: Global,
+    out: &mut Vec<u8>,
+    fuses: &[bool],
+    names: &Names,
+) -> Result<(), OutOfMemory>
+    ensures { OnOk result (out.new.items ≡ out.old.items
+        ++ flat_map (assigned_text D.table fuses.now (entries_of names.now)) (range_with_len 0 (length D.table.cells))) }
+{
+    for cell in 0..D::CELLS {
+        put_if_assigned::<D>(alloc, out, fuses, names, cell)?;
+    }
+    Ok(())
+}
+
+/// Appends the line of the row of all registers that there may be.
+fn put_common<D: Device>(
+    alloc: Global,
+    out: &mut Vec<u8>,
+    fuses: &[bool],
+    names: &Names,
+    word: &[u8],
+    row: Option<u16>,
+) -> Result<(), OutOfMemory>
+    ensures { OnOk result (out.new.items
+        ≡ out.old.items ++ common_line D.table fuses.now (entries_of names.now) word.now row) }
+{
+    match row {
+        None => Ok(()),
+        Some(row) => put_row_line::<D>(alloc, out, fuses, names, word, row),
+    }
+}
+
+/// The listing of a device's fuses: for each assigned cell its pin and name, whether it is a register, how its pin
+/// follows its output, its data rows in use of those that it has room for, what enables it, and these rows, as
+/// products of the names; then the reset and preset of all registers, where the device has such rows.
+///
+/// # Errors
+/// Only want of memory.
+pub fn listing<D: Device>(
+    alloc: Global,
+    names: &Names,
+    fuses: &Fuses,
+) -> Result<Vec<u8>, OutOfMemory>
+    ensures { IfOk result (λ text. text.items ≡ listing_text D.table fuses.now (entries_of names.now)) }
+{
+    let levels = fuses.levels();
+    let mut out = Vec::from_slice(alloc, b"device ")?;
+    out.extend_from_slice(D::NAME.text().as_bytes())?;
+    out.push(b'\n')?;
+    put_cells::<D>(alloc, &mut out, levels, names)?;
+    put_common::<D>(alloc, &mut out, levels, names, b"reset ", D::RESET)?;
+    put_common::<D>(alloc, &mut out, levels, names, b"preset ", D::PRESET)?;
+    Ok(out)
+}
