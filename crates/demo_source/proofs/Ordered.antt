@@ -8,7 +8,7 @@ use Rattle.pld_machine.specs.declared.logic.Slot.TheVariants.{Cell}
 use Rattle.pld_machine.specs.Lookups.{sets_pin}
 use Rattle.pld_machine.specs.Order.{InRange, HasPins, ReadsEarlier, ResetsWithoutQ, IsOrdered}
 use Rattle.demo_source.specs.declared.equations.Equation.{Equation}
-use Rattle.demo_source.specs.Machine.{machine}
+use Rattle.demo_source.specs.Machine.{register_slots, machine}
 
 -- the slots of cells in a row are these cells
 slot_at : (a n i : ℕ) (slot : Slot) → slice_get (map Cell (range_with_len a n)) i ≡ Some slot → (i < n) × (slot ≡ Cell (a + i))
@@ -32,7 +32,8 @@ slot_at a (suc n) (suc i) slot found =
     one_on a i = omega arith
 
 -- those of the machine
-its_slot : (i : ℕ) (slot : Slot) → slice_get (map Cell (range_with_len 0 10)) i ≡ Some slot → (i < 10) × (slot ≡ Cell i)
+its_slot : (i : ℕ) (slot : Slot) → slice_get register_slots i ≡ Some slot → (i < 10) × (slot ≡ Cell i)
+unfolding register_slots
 its_slot i slot found =
     let at = slot_at 0 10 i slot found in
     (at.0, at.1 ∙ ap Cell (zero-add i))
@@ -49,6 +50,7 @@ module _ (equations : List Equation) where
   }
 
   each : (c : ℕ) → c < 10 → sets_pin (machine equations) (machine equations).slots (23 - c) ≡ true
+  unfolding register_slots
   each zero within = refl
   each (suc zero) within = refl
   each (suc (suc zero)) within = refl

@@ -4,6 +4,7 @@ use Rattle.std.specs.Prelude.{ℕ, ◌+◌, ◌-◌, nat_lt, Bool, true, false, 
 use Rattle.std.specs.List.{list_all, list_any, range_with_len}
 use Rattle.pld_base.specs.Bits.{is_on, same_level}
 use Rattle.pld_base.specs.Points.{Levels}
+use Rattle.pld_machine.specs.declared.logic.Slot.{Slot}
 use Rattle.pld_machine.specs.declared.logic.Slot.TheVariants.{Cell}
 use Rattle.pld_machine.specs.Lookups.{Lookups}
 use Rattle.demo_source.specs.declared.literals.Literal.{Literal}
@@ -32,6 +33,10 @@ abbrev pub next_of : Levels → Option Equation → Bool
 next_of at (Some e) = equation_holds at e
 next_of at None = false
 
+-- one slot for each register, in their order
+unfoldable pub register_slots : List Slot
+register_slots = map Cell (range_with_len 0 10)
+
 -- the logic of these equations
 abbrev pub machine : List Equation → Lookups
 machine equations =
@@ -40,7 +45,7 @@ machine equations =
       pin = λ c. 23 - c;
       stores = λ c. true;
       clock = 1;
-      slots = map Cell (range_with_len 0 10);
+      slots = register_slots;
       enable = λ at c. true;
       level = λ at c. is_on at.q c;
       node = λ at n. false;

@@ -39,10 +39,12 @@ impl<'a> Logic for Machine<'a> {
         CLOCK
     }
 
+    #[tactic(auto, unfolding(crate::specs::Machine::register_slots))]
     fn slots(&self) -> u16 {
         u16::from(REGISTERS)
     }
 
+    #[tactic(auto, unfolding(crate::specs::Machine::register_slots))]
     fn slot(&self, index: u16) -> Slot {
         Slot::Cell(index as u8)
     }
