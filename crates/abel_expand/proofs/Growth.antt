@@ -2,6 +2,7 @@
 use Rattle.std.proofs.Common.{◌≡◌, ◌-◌, ◌+◌, ◌<◌, ◌≤◌, ℕ, zero, suc, Bool, true, false, List, [], ◌∷◌, ◌++◌, Option, Some, None, Result, Ok, Err, length, take, drop, refl, sym, ap, ◌∙◌, subst, arith, add-one, append-nil}
 use Rattle.std.specs.Prelude.{◌==◌, nat_lt}
 use Rattle.std.proofs.Math.Seq.{take-length, take-append_seam}
+use Rattle.std.proofs.lemmas.List.{length-take}
 use Rattle.abel_macros.specs.Rules.{Cause, Move, Done, Rewritten, Refused, move}
 use Rattle.abel_macros.specs.Turns.{Config, turn, moved, within_limits, limit, most_rewritings}
 use Rattle.abel_expand.specs.Runs.{after, turned, Reading, bytes_given, bytes_waiting}
@@ -48,3 +49,7 @@ take_next (y ∷ w) (suc p) x xs e = ap (λ (z : List ℕ). y ∷ z) (take_next 
 -- one byte more was given
 pub one_more : (r s : Reading) (b : ℕ) → bytes_waiting r ≡ b ∷ bytes_waiting s → s ≡ record r { given = r.given + 1 } → bytes_given s ≡ bytes_given r ++ b ∷ []
 one_more r s b h e = ap bytes_given e ∙ ap (λ (n : ℕ). take n (after r.turns r.text).done) (add-one r.given) ∙ take_next (after r.turns r.text).done r.given b (bytes_waiting s) h
+
+-- no more bytes were given than are counted
+pub given_below : (r : Reading) (n : ℕ) → r.given < n → length (bytes_given r) < n
+given_below r n below = omega (arith, length-take r.given (after r.turns r.text).done)

@@ -9,9 +9,11 @@ use std::alloc::Global;
 
 /// The expanded text of a text of at most 1,048,576 bytes, or its refusal with the place behind the text
 /// done before it (ABEL-HDL Reference Manual, macros and directives).
+#[tactic(auto, using(crate::proofs::Growth::given_below))]
 pub fn expand(alloc: Global, text: &[u8]) -> Result<Vec<u8>, ExpandFault>
     requires { length text.now ≤ 1048576 }
     ensures text { IfOk result (λ w. IsExpanded text.now w.items) }
+    ensures most { IfOk result (λ w. length w.items ≤ 1048576) }
     ensures refused { IfErr result (λ e. (w : List ℕ) × IsRefusal text.now w e) }
 {
     let mut reader = Reader::new(alloc, text);
