@@ -8,7 +8,8 @@ use Rattle.abel_tree.specs.Tree.{ModuleTree}
 use Rattle.abel_syntax.specs.ModuleReaders.{read_source}
 use Rattle.abel_syntax.proofs.Verdict.{is_stopped, is_left_over, is_too_deep, is_end, is_rest}
 use Rattle.abel_parser.specs.declared.fault.ParseFault.TheVariants as fault
-use Rattle.abel_parser.specs.Refusals.{place_at, IsRefused}
+use Rattle.abel_syntax.proofs.ModuleLaws.{source_laws}
+use Rattle.abel_parser.specs.Refusals.{place_at, IsAccepted, IsRefused}
 
 -- the token behind so many is the first of the others
 place_behind : (c left : List Token) (end : Place) → place_at (c ++ left) end (length c) ≡ place_at left end 0
@@ -44,3 +45,7 @@ none_left ts t (x ∷ rest) e none =
     let some : (length (x ∷ rest) == 0) ≡ false = grind (arith, nat_tests) in
     let both : true ≡ false = sym none ∙ some in
     absurd cc
+
+-- what is read to the end is accepted
+pub is_accepted : (ts : List Token) (t : ModuleTree) → read_source 64 ts ≡ Ok (t, []) → IsAccepted ts t
+is_accepted ts t e = (source_laws 64).sound ts (t, []) e

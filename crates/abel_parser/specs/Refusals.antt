@@ -1,8 +1,9 @@
--- Where the tokens of a source are refused (this project's rule).
+-- When the tokens of a source are accepted, and where they are refused (this project's rule).
 use Rattle.std.specs.Prelude.{◌≡◌, ℕ, zero, suc, List, [], ◌∷◌}
-use Rattle.grammar.specs.Verdict.{SyntaxAt, TooDeepAt}
+use Rattle.grammar.specs.Verdict.{SpellsWhole, SyntaxAt, TooDeepAt}
 use Rattle.pld_base.specs.declared.place.Place.{Place}
 use Rattle.abel_lexer.specs.declared.token.Token.{Token}
+use Rattle.abel_tree.specs.Tree.{ModuleTree}
 use Rattle.abel_syntax.specs.Modules.{source}
 use Rattle.abel_parser.specs.declared.fault.ParseFault.{ParseFault}
 use Rattle.abel_parser.specs.declared.fault.ParseFault.TheVariants as fault
@@ -10,6 +11,10 @@ use Rattle.abel_parser.specs.declared.fault.ParseFault.TheVariants as fault
 -- how many constructs may be open round a token
 abbrev pub nestings : ℕ
 nestings = 64
+
+-- the tokens, all of them, spell the module with at most so many nestings
+abbrev pub IsAccepted : List Token → ModuleTree → Type 0
+IsAccepted ts m = SpellsWhole (source nestings) ts m
 
 -- the place of a token by its number, or the place behind the last byte of the text
 abbrev pub place_at : List Token → Place → ℕ → Place

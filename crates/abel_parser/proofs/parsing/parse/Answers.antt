@@ -4,12 +4,12 @@ use Rattle.abel_tree.specs.View.{view_module}
 use Rattle.abel_syntax.proofs.Verdict.{is_tree, is_only_tree}
 use Rattle.source_order.proofs.Modules.{places_lie}
 use Rattle.source_order.proofs.Sections.{places_rise}
-use Rattle.abel_parser.proofs.Refused.{refused_syntax, refused_deep, refused_left, none_left}
+use Rattle.abel_parser.proofs.Refused.{is_accepted, refused_syntax, refused_deep, refused_left, none_left}
 use Rattle.abel_parser.proofs.parsing.parse.Goals as goal
 
 pub returns-then-is_empty-clause-tree : goal.returns-then-is_empty-clause-tree
 returns-then-is_empty-clause-tree c =
-    is_tree c.args.tokens.now (view_module c.in-Ok.module) (none_left c.args.tokens.now (view_module c.in-Ok.module) c.in-Ok.rest.now c.in-Ok.ensures (sym c.is_empty.ensures ∙ c.if-is_empty.true))
+    is_accepted c.args.tokens.now (view_module c.in-Ok.module) (none_left c.args.tokens.now (view_module c.in-Ok.module) c.in-Ok.rest.now c.in-Ok.ensures (sym c.is_empty.ensures ∙ c.if-is_empty.true))
 
 pub returns-then-is_empty-clause-only : goal.returns-then-is_empty-clause-only
 returns-then-is_empty-clause-only c =
