@@ -1,0 +1,10 @@
+//! From the text of a source to its module, or to the first refusal by place.
+#![tactic(auto)]
+
+mod fault;
+mod reading;
+#[cfg(test)]
+mod tests;
+
+pub use fault::ReadFault;
+pub use reading::read_module;
