@@ -1,0 +1,2 @@
+//! The test vectors of a source, as characters of pins.
+#![tactic(auto)]
