@@ -79,6 +79,9 @@ fn pieces_of<'a>(
         here = last;
         below = more;
     }
+    if left == 0 {
+        return Ok(pieces);
+    }
     let (front, _behind) = here.split_at(left);
     pieces.push(front)?;
     Ok(pieces)
