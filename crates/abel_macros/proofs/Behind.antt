@@ -1,7 +1,7 @@
 -- What was read stands before what stands behind it.
-use Rattle.std.proofs.Common.{◌++◌, ◌≡◌, ◌<◌, ◌≤◌, ◌-◌, ℕ, List, Option, Some, None, Bool, true, false, length, take, drop, sym, ap, ◌∙◌, arith, length-drop, length-take, inl, inr, ◌⊎◌, refl}
-use Rattle.std.specs.Prelude.{nat_lt, option_map}
-use Rattle.std.proofs.lemmas.Bool.{ltb-true, ltb-false, lt-ltb}
+use Rattle.std.proofs.Common.{◌++◌, ◌≡◌, ◌<◌, ◌≤◌, ◌-◌, ℕ, List, Option, Some, None, Bool, length, take, drop, ap, arith, length-drop, length-take, refl}
+use Rattle.std.specs.Prelude.{option_map}
+use Rattle.std.proofs.lemmas.Bool.{lt-ltb}
 use Rattle.abel_macros.specs.Gaps.{before, behind_some, given}
 
 pub before_drop : (w : List ℕ) (n : ℕ) → n ≤ length w → before w (drop n w) ≡ take n w

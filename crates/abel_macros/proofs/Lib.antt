@@ -1,5 +1,6 @@
 pub mod Behind
-pub mod Tokens
+pub mod Gapped
+pub mod Measured
 pub mod Trims
 pub mod Lists
 pub mod Looked

@@ -1,13 +1,12 @@
 -- The length of a token that is no name, string or directive, from the lengths of its kinds.
-use Rattle.std.proofs.Common.{◌≡◌, ℕ, suc, ◌+◌, ◌≤◌, ◌<◌, inl, inr, Bool, true, false, cond, ltb, List, [], ◌∷◌, take, drop, Option, None, Some, refl, sym, ap, subst, ◌∙◌, arith}
+use Rattle.std.proofs.Common.{◌≡◌, ℕ, suc, ◌+◌, inl, inr, Bool, true, false, ltb, List, [], ◌∷◌, take, drop, None, Some, refl, sym, ap, ◌∙◌, arith}
 use Rattle.std.specs.Prelude.{◌==◌, codes, nat_lt, if◌then◌else◌}
-use Rattle.std.specs.List.{prefix_len}
 use Rattle.std.specs.Char.{is_ascii_alphabetic, is_ascii_digit}
 use Rattle.std.specs.Str.{str_eq_ignore_ascii_case}
 use Rattle.std.proofs.lemmas.Bool.{ltb-true, ltb-false}
 use Rattle.abel_lexer.specs.declared.token.TokenKind.{TokenKind}
 use Rattle.abel_lexer.specs.declared.token.TokenKind.TheVariants as kind
-use Rattle.abel_lexer.specs.Bytes.{dot, quote, is_letter, is_name_later, starts}
+use Rattle.abel_lexer.specs.Bytes.{dot, is_letter, is_name_later, starts}
 use Rattle.abel_lexer.specs.Keywords.{is_listed}
 use Rattle.abel_lexer.specs.Signs.{signs}
 use Rattle.abel_lexer.specs.Kinds.{no_byte, word_head, extension_head, letter_special, voltage_special, directives}

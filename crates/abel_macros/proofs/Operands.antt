@@ -3,7 +3,7 @@ use Rattle.std.proofs.Common.{◌≡◌, ℕ, zero, suc, ◌-◌, ◌<◌, List,
 use Rattle.abel_macros.specs.declared.operator.Prefix.{Prefix}
 use Rattle.abel_macros.specs.declared.operator.Prefix.TheVariants as prefix
 use Rattle.abel_macros.specs.Gaps.{sign, gap}
-use Rattle.abel_macros.specs.Values.{Read, prefix_of, past_prefix, begun, primary, operand, prefixed}
+use Rattle.abel_macros.specs.Values.{prefix_of, past_prefix, begun, primary, operand, prefixed}
 
 pub operand_plain : (most radix : ℕ) (values : List ℕ → Option ℕ) (text at : List ℕ) → prefix.Plain ≡ prefix_of (sign (gap text)) → at ≡ past_prefix prefix.Plain text
     → operand most radix values text ≡ primary radix values at

@@ -1,5 +1,5 @@
 -- What a text expands to in at most so many turns, as numbers.
-use Rattle.std.specs.Prelude.{ℕ, zero, suc, ◌+◌, ◌==◌, List, [], ◌∷◌, Result, Ok, Err, if◌then◌else◌}
+use Rattle.std.specs.Prelude.{ℕ, zero, suc, ◌+◌, ◌==◌, List, [], ◌∷◌, Ok, Err, if◌then◌else◌}
 use Rattle.abel_macros.specs.Rules.{Cause, TooLong, ExpansionLimit, BadDirective, Unsupported}
 use Rattle.abel_macros.specs.Turns.{Config, turn}
 

@@ -1,9 +1,9 @@
 -- @CONST, @EXPR and @RADIX: texts, and what they expand to by the definition, or how they are refused, computed. The
 -- first number is 0 before the bytes of an expanded text, 3 before the line and column of a BadDirective
 -- and 4 before those of an Unsupported.
-use Rattle.std.proofs.Common.{◌≡◌, List, [], ◌∷◌, refl}
+use Rattle.std.proofs.Common.{◌≡◌, [], ◌∷◌, refl}
 use Rattle.abel_lexer.specs.Lengths.{longest_at, longest_word, known_radix}
-use Rattle.abel_macros.specs.Rules.{directive_of, further_directive, plain_directive}
+use Rattle.abel_macros.specs.Words.{directive_of, further_directive, plain_directive}
 use Rattle.abel_macros.specs.Turns.{start}
 use Rattle.abel_macros.proofs.Told.{outcome, told}
 

@@ -1,10 +1,9 @@
 -- Blocks, arguments, and what stands for a parameter (ABEL-HDL Reference Manual, macros, and the
 -- @IRP directive; how braces, strings and comments are passed is this project's rule).
-use Rattle.std.specs.Prelude.{ℕ, zero, suc, ◌+◌, ◌-◌, Bool, true, false, not, ◌==◌, ◌&&◌, ◌||◌, List, [], ◌∷◌, ◌++◌, length, take, drop, Option, Some, None, if◌then◌else◌}
+use Rattle.std.specs.Prelude.{ℕ, zero, suc, ◌+◌, ◌-◌, Bool, true, false, ◌==◌, ◌&&◌, ◌||◌, List, [], ◌∷◌, ◌++◌, length, take, drop, Option, Some, None, if◌then◌else◌}
 use Rattle.std.specs.List.{list_all, prefix_len}
-use Rattle.std.specs.Option.{option_and_then}
 use Rattle.std.specs.Str.{bytes_eq}
-use Rattle.abel_lexer.specs.Bytes.{is_blank, is_name_later, starts}
+use Rattle.abel_lexer.specs.Bytes.{is_blank, is_name_later}
 use Rattle.abel_lexer.specs.Kinds.{word_head}
 use Rattle.abel_lexer.specs.Lengths.{shaped_len}
 use Rattle.abel_macros.specs.declared.mode.Mode.{Mode}

@@ -1,6 +1,6 @@
 -- What stands at the front of a text, and what stands behind it (ABEL-HDL Reference Manual, comments,
 -- identifiers and numbers).
-use Rattle.std.specs.Prelude.{ℕ, zero, suc, ◌+◌, ◌-◌, Bool, true, false, not, ◌==◌, ◌&&◌, ◌||◌, nat_lt, List, [], ◌∷◌, length, take, drop, Option, Some, None, if◌then◌else◌}
+use Rattle.std.specs.Prelude.{ℕ, ◌-◌, Bool, true, false, not, ◌==◌, ◌&&◌, ◌||◌, nat_lt, List, [], ◌∷◌, length, take, drop, Option, Some, None, if◌then◌else◌}
 use Rattle.std.specs.Option.{option_and_then}
 use Rattle.abel_lexer.specs.Bytes.{line_feed, note_mark, quote, slash, backslash, is_blank, is_name_later, starts}
 use Rattle.abel_lexer.specs.Kinds.{word_head}

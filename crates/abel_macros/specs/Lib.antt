@@ -2,6 +2,9 @@ pub mod Gaps
 pub mod Forms
 pub mod Pieces
 pub mod Values
+pub mod Defined
+pub mod Words
+pub mod Readings
 pub mod Rules
 pub mod Kept
 pub mod Turns

@@ -1,6 +1,6 @@
 -- The expanded text of a source: configurations, and their turns (ABEL-HDL Reference Manual, macros
 -- and directives; the limits are this project's rule).
-use Rattle.std.specs.Prelude.{◌≡◌, ℕ, zero, suc, ◌+◌, Bool, true, false, ◌==◌, nat_lt, List, [], ◌∷◌, ◌++◌, length, Option, None, Result, Ok, Err}
+use Rattle.std.specs.Prelude.{ℕ, ◌+◌, Bool, true, false, ◌==◌, nat_lt, List, [], ◌++◌, length, None, Result, Ok, Err}
 use Rattle.abel_macros.specs.Rules.{Tables, Cause, TooLong, ExpansionLimit, Move, Done, Rewritten, Refused, move}
 
 -- the text done, what it has defined, how many rewritings there were, and the rest

@@ -69,7 +69,7 @@ fn is_dont_care(word: &[u8]) -> bool
 }
 
 /// The directive of a word that takes nothing behind it, or is refused.
-#[tactic(auto, unfolding(crate::specs::Rules::plain_directive))]
+#[tactic(auto, unfolding(crate::specs::Words::plain_directive))]
 fn plain_directive(word: &[u8]) -> Directive
     ensures { result ≡ spec.plain_directive word.now }
 {
@@ -83,7 +83,7 @@ fn plain_directive(word: &[u8]) -> Directive
 }
 
 /// The directive of a word that repeats, tells or sets something, or of a further one.
-#[tactic(auto, unfolding(crate::specs::Rules::further_directive))]
+#[tactic(auto, unfolding(crate::specs::Words::further_directive))]
 fn further_directive(word: &[u8]) -> Directive
     ensures { result ≡ spec.further_directive word.now }
 {
@@ -102,7 +102,7 @@ fn further_directive(word: &[u8]) -> Directive
 
 impl Directive {
     /// The directive of a word, without regard to case.
-    #[tactic(auto, unfolding(crate::specs::Rules::directive_of))]
+    #[tactic(auto, unfolding(crate::specs::Words::directive_of))]
     pub fn of(word: &[u8]) -> Directive
         ensures { result ≡ spec.directive_of word.now }
     {

@@ -1,25 +1,32 @@
 //! Macros and directives: what stands at the front of a source, and what its expanded text is.
 #![tactic(auto)]
 
+mod arguments;
+mod blocks;
+mod definitions;
 mod directive;
-mod forms;
+mod gaps;
+mod lengths;
 mod mode;
 mod operator;
 mod readings;
-mod scan;
 mod tables;
+mod tellings;
 #[cfg(test)]
 mod tests;
+mod tokens;
 mod values;
+mod words;
 
+pub use arguments::read_arguments;
+pub use blocks::read_block;
+pub use definitions::{read_macro, skip_macro_word};
 pub use directive::Directive;
-pub use forms::{read_arguments, read_block};
+pub use gaps::{is_next, skip_comment, skip_gap_to};
+pub use lengths::{later_len, word_len};
 pub use mode::Mode;
-pub use readings::{
-    Each, read_const, read_counted, read_defined, read_each, read_expression, read_macro,
-    read_radix, skip_macro_word,
-};
-pub use scan::{
-    is_next, later_len, read, read_word, skip_comment, string_len, token_len, word_len,
-};
+pub use readings::{Each, read_const, read_counted, read_defined, read_each};
 pub use tables::{Macro, Tables};
+pub use tellings::{read_expression, read_radix};
+pub use tokens::{string_len, token_len};
+pub use words::{read, read_word};

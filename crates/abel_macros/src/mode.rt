@@ -4,7 +4,7 @@ ghost use Rattle.std.specs.Prelude.{◌≡◌};
 ghost use Rattle.text_pieces.specs.Stacks.{ahead};
 ghost use Rattle.abel_macros.specs.Gaps as spec;
 
-use crate::scan::is_next;
+use crate::gaps::is_next;
 use text_pieces::Ahead;
 
 /// Where a byte stands.

@@ -1,9 +1,10 @@
+use crate::arguments::read_arguments;
+use crate::blocks::read_block;
+use crate::definitions::read_macro;
 use crate::directive::Directive;
-use crate::forms::{read_arguments, read_block};
-use crate::readings::{
-    read_const, read_counted, read_defined, read_each, read_expression, read_macro, read_radix,
-};
+use crate::readings::{read_const, read_counted, read_defined, read_each};
 use crate::tables::Tables;
+use crate::tellings::{read_expression, read_radix};
 use crate::values::read_value;
 use std::alloc::Global;
 use std::test::Fail;

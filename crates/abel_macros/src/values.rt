@@ -8,9 +8,10 @@ ghost use Rattle.abel_macros.specs.declared.operator.Prefix.TheVariants as prefi
 ghost use Rattle.abel_macros.specs.Kept.{tables_of};
 ghost use Rattle.abel_macros.specs.Rules.{value_at};
 
+use crate::gaps::skip_gap;
 use crate::operator::{Operator, Prefix, Priority};
-use crate::scan::{read_number, read_sign, read_word, skip_gap, skip_sign};
 use crate::tables::Tables;
+use crate::words::{read_number, read_sign, read_word, skip_sign};
 use abel_lexer::number_value;
 use std::alloc::{AllocError, Global};
 use text_pieces::Ahead;

@@ -1,5 +1,5 @@
 -- Each call reads what stands nearer to the operands, or is nested deeper.
-use Rattle.std.proofs.Common.{◌≡◌, ◌≤◌, ◌+◌, ◌*◌, ℕ, length}
+use Rattle.std.proofs.Common.{◌≡◌, ◌≤◌, ◌+◌, ◌*◌, ℕ}
 use Rattle.abel_macros.specs.declared.operator.Priority.{Priority}
 use Rattle.abel_macros.specs.declared.operator.Priority.TheVariants as priority
 use Rattle.text_pieces.specs.Stacks.{ahead}

@@ -1,5 +1,5 @@
 -- The entry of the name is what the tables say.
-use Rattle.std.proofs.Common.{◌≡◌, sym, ap, ◌∙◌}
+use Rattle.std.proofs.Common.{sym, ap, ◌∙◌}
 use Rattle.std.specs.Option.{option_copied}
 use Rattle.abel_macros.specs.Kept.{Kept, under}
 use Rattle.abel_macros.proofs.Looked.{looked_up}

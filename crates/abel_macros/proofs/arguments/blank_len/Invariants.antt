@@ -1,0 +1,17 @@
+-- What is ahead leads to where all leads.
+use Rattle.std.proofs.Common.{◌≡◌, ◌≤◌, ◌+◌, ◌-◌, length, take}
+use Rattle.std.specs.List.{prefix_len}
+use Rattle.text_pieces.specs.Stacks.{ahead}
+use Rattle.abel_lexer.specs.Bytes.{is_blank}
+use Rattle.abel_macros.proofs.arguments.blank_len.Given as goal
+
+abbrev pub invariant-bytes : goal.invariant-bytes
+invariant-bytes l =
+    record {
+      value : l.blanks + prefix_len is_blank (take (l.fn.count - l.blanks) (ahead l.look)) ≡ prefix_len is_blank (take l.fn.count (ahead l.fn.at));
+      most : l.blanks ≤ l.fn.count;
+      some : l.fn.count - l.blanks ≤ length (ahead l.look);
+    }
+
+abbrev pub decreases-bytes : goal.decreases-bytes
+decreases-bytes l = l.fn.count - l.blanks

@@ -1,0 +1,20 @@
+-- What is ahead leads to where all leads.
+use Rattle.std.proofs.Common.{◌≡◌, ◌≤◌, ◌<◌, ◌+◌, ◌^◌, length}
+use Rattle.text_pieces.specs.Stacks.{ahead}
+use Rattle.abel_macros.specs.declared.mode.Mode.TheVariants as mode
+use Rattle.abel_macros.specs.Forms as forms
+use Rattle.abel_macros.proofs.arguments.skip_argument.Given as goal
+
+abbrev pub invariant-bytes : goal.invariant-bytes
+invariant-bytes l =
+    record {
+      behind : forms.argument_end l.parens l.brackets l.mode (ahead l.at) ≡ forms.argument_end 0 0 mode.Plain (ahead l.fn.at);
+      few : l.parens + length (ahead l.at) ≤ length (ahead l.fn.at);
+      few_too : l.brackets + length (ahead l.at) ≤ length (ahead l.fn.at);
+      fits : length (ahead l.fn.at) < 2 ^ 63;
+      whole : l.at.whole ≡ l.fn.at.whole;
+      further : l.fn.at.passed ≤ l.at.passed;
+    }
+
+abbrev pub decreases-bytes : goal.decreases-bytes
+decreases-bytes l = length (ahead l.at)

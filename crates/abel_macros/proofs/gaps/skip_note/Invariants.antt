@@ -1,0 +1,16 @@
+-- What is ahead leads to where all leads.
+use Rattle.std.proofs.Common.{◌≡◌, ◌≤◌, length}
+use Rattle.text_pieces.specs.Stacks.{ahead}
+use Rattle.abel_macros.specs.Gaps as gaps
+use Rattle.abel_macros.proofs.gaps.skip_note.Given as goal
+
+abbrev pub invariant-bytes : goal.invariant-bytes
+invariant-bytes l =
+    record {
+      behind : gaps.behind_note (ahead l.at) ≡ gaps.behind_note (ahead l.fn.at);
+      whole : l.at.whole ≡ l.fn.at.whole;
+      further : l.fn.at.passed ≤ l.at.passed;
+    }
+
+abbrev pub decreases-bytes : goal.decreases-bytes
+decreases-bytes l = length (ahead l.at)

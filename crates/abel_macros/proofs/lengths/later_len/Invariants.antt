@@ -1,0 +1,17 @@
+-- What is ahead leads to where all leads.
+use Rattle.std.proofs.Common.{◌≡◌, ◌≤◌, ◌<◌, ◌+◌, ◌^◌, length}
+use Rattle.std.specs.List.{prefix_len}
+use Rattle.text_pieces.specs.Stacks.{ahead}
+use Rattle.abel_lexer.specs.Bytes.{is_name_later}
+use Rattle.abel_macros.proofs.lengths.later_len.Given as goal
+
+abbrev pub invariant-bytes : goal.invariant-bytes
+invariant-bytes l =
+    record {
+      value : l.count + prefix_len is_name_later (ahead l.look) ≡ prefix_len is_name_later (ahead l.fn.at);
+      few : l.count + length (ahead l.look) ≤ length (ahead l.fn.at);
+      fits : length (ahead l.fn.at) < 2 ^ 63;
+    }
+
+abbrev pub decreases-bytes : goal.decreases-bytes
+decreases-bytes l = length (ahead l.look)

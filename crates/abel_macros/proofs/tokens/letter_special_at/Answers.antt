@@ -1,0 +1,10 @@
+-- The bytes read are the first ones ahead.
+use Rattle.std.proofs.Common.{sym, ap, ◌∙◌}
+use Rattle.text_pieces.specs.Stacks.{ahead}
+use Rattle.abel_macros.proofs.Measured.{letter_seen}
+use Rattle.abel_macros.proofs.tokens.letter_special_at.Goals as goal
+
+pub returns-clause-value : goal.returns-clause-value
+returns-clause-value c =
+    c.letter_special_len.ensures
+    ∙ letter_seen c.in-Some.first c.in-Some-step.second c.in-Some-step-2.third (ahead c.args.at.now) (ahead c.step.new.self) (ahead c.step-2.new.self) (ahead c.step-3.new.self) (ap ahead (sym c.fork-look.ensures) ∙ c.in-Some.ensures.some) c.in-Some-step.ensures.some c.in-Some-step-2.ensures.some
