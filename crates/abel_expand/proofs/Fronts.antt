@@ -1,9 +1,9 @@
 -- What a front says of a move.
-use Rattle.std.proofs.Common.{◌≡◌, ◌+◌, ◌-◌, ◌<◌, ◌≤◌, ℕ, List, [], ◌∷◌, ◌++◌, length, take, drop, refl, sym, ap, ◌∙◌, subst, arith, length-drop}
+use Rattle.std.proofs.Common.{◌≡◌, ◌-◌, ◌<◌, ◌≤◌, ℕ, List, length, take, drop, refl, sym, ap, ◌∙◌, arith, length-drop}
 use Rattle.std.specs.Prelude.{Result, Ok, Err, IfOk}
 use Rattle.std.specs.Global.{Vec}
 use Rattle.abel_macros.specs.Gaps.{before}
-use Rattle.abel_macros.specs.Rules.{Tables, Move, Done, Rewritten}
+use Rattle.abel_macros.specs.Rules.{Tables, Done, Rewritten}
 use Rattle.abel_macros.proofs.Behind.{before_drop}
 use Rattle.abel_expand.specs.declared.front.Change.{Change}
 use Rattle.abel_expand.specs.declared.front.Front.{Front}

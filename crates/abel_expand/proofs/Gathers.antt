@@ -1,6 +1,8 @@
 -- Lengths of a text that is gathered.
-use Rattle.std.proofs.Common.{◌≡◌, ◌+◌, ◌-◌, ◌<◌, ◌≤◌, ℕ, zero, suc, List, [], ◌∷◌, ◌++◌, length, drop, get_or, replicate, refl, sym, ap, ◌∙◌, arith, append-nil, append_assoc, add-one, length-append}
+use Rattle.std.proofs.Common.{◌≡◌, ◌+◌, ◌-◌, ◌<◌, ◌≤◌, ◌*◌, ℕ, zero, suc, List, [], ◌∷◌, ◌++◌, length, drop, get_or, replicate, refl, sym, ap, ◌∙◌, subst, arith, append-nil, append_assoc, add-one, length-append}
+use Rattle.std.specs.Prelude.{◌/◌}
 use Rattle.std.specs.Borrow.{Bor}
+use Rattle.std.proofs.Math.Nat.{div-lt_iff_lt-mul, suc-mul}
 use Rattle.std.specs.List.{concat}
 use Rattle.text_pieces.specs.Stacks.{joined}
 use Rattle.text_pieces.proofs.Pieces.{joined-push}
@@ -85,6 +87,39 @@ times_long n w text total most h l e = omega (arith, ap length (times_next n w t
 
 pub times_added : (n : ℕ) (w text total : List ℕ) → n ≡ 0 → text ++ concat (replicate n w) ≡ total → text ≡ total
 times_added n w text total z e = sym (append-nil text) ∙ ap (λ (k : ℕ). text ++ concat (replicate k w)) (sym z) ∙ e
+
+pub zero_times : (g : Gathering) (n : ℕ) (w : List ℕ) → n ≡ 0 → g ≡ record g { text = g.text ++ concat (replicate n w) }
+zero_times g n w z = ap (λ (v : List ℕ). record g { text = v }) (sym (ap (λ (k : ℕ). g.text ++ concat (replicate k w)) z ∙ append-nil g.text))
+
+times_length : (n : ℕ) (w : List ℕ) → length (concat (replicate n w)) ≡ n * length w
+times_length zero w = omega arith
+times_length (suc n) w = omega (arith, length-append w (concat (replicate n w)), times_length n w, suc-mul n (length w))
+
+pub product_over : (count len room : ℕ) → 0 < len → room / len < count → room < count * len
+product_over count len room h l = (div-lt_iff_lt-mul {k = len} {x = room} {y = count} h).0 l
+
+-- once, and so many times more
+module _ (n : ℕ) (w text : List ℕ) (some : 0 < n) where
+  whole : (text ++ w) ++ concat (replicate (n - 1) w) ≡ text ++ concat (replicate n w)
+  whole = times_next n w text (text ++ w) (text ++ concat (replicate n w)) some refl refl
+
+  pub once_long : (most : ℕ) → most < length (text ++ w) → most < length (text ++ concat (replicate n w))
+  once_long most l = times_long n w text (text ++ concat (replicate n w)) most some l refl
+
+  pub rest_long : (most : ℕ) → most < length ((text ++ w) ++ concat (replicate (n - 1) w)) → most < length (text ++ concat (replicate n w))
+  rest_long most l = omega (arith, l, ap length whole)
+
+  pub times_over : (most before room : ℕ) → length text + before ≡ most → length (text ++ w) + room ≡ most → room < (n - 1) * (before - room) → most < length (text ++ concat (replicate n w))
+  times_over most before room b r l =
+      let one : before - room ≡ length w = omega (arith, b, r, length-append text w) in
+      let t : room < (n - 1) * length w = subst (λ (k : ℕ). room < (n - 1) * k) one l in
+      rest_long most (omega (arith, t, r, times_length (n - 1) w, length-append (text ++ w) (concat (replicate (n - 1) w))))
+
+pub rest_added : (g k : Gathering) (n : ℕ) (w : List ℕ) → 0 < n → k ≡ record g { text = (g.text ++ w) ++ concat (replicate (n - 1) w) } → k ≡ record g { text = g.text ++ concat (replicate n w) }
+rest_added g k n w h e = e ∙ ap (λ (v : List ℕ). record g { text = v }) (whole n w g.text h)
+
+pub less_room : (text w : List ℕ) (most before room : ℕ) → length text + before ≡ most → length (text ++ w) + room ≡ most → room ≤ before
+less_room text w most before room b r = omega (arith, b, r, length-append text w)
 
 -- ---- two texts, one behind the other
 

@@ -7,3 +7,4 @@ pub mod Fronts
 pub mod Turning
 pub mod Growth
 pub mod Giving
+pub mod Marks

@@ -1,17 +1,15 @@
 -- A block in which arguments stand for parameters, part by part.
-use Rattle.std.proofs.Common.{◌≡◌, ◌+◌, ◌-◌, ◌<◌, ◌≤◌, ℕ, zero, suc, Bool, true, false, inl, inr, List, [], ◌∷◌, ◌++◌, Option, Some, None, length, take, drop, get_or, map, refl, sym, ap, ◌∙◌, arith, append-nil, append_assoc, add-one, length-append, length-drop, if◌then◌else◌}
-use Rattle.std.specs.Prelude.{◌==◌, not, Result, Ok, Err, IfErr}
-use Rattle.std.specs.List.{prefix_len, concat}
+use Rattle.std.proofs.Common.{◌≡◌, ◌+◌, ◌<◌, ◌≤◌, ℕ, zero, suc, Bool, true, false, List, [], ◌∷◌, ◌++◌, Option, Some, None, length, take, drop, get_or, refl, sym, ap, ◌∙◌, arith, append-nil, append_assoc, add-one, length-append, length-drop, if◌then◌else◌}
+use Rattle.std.specs.Prelude.{Result, Ok, Err, IfErr, IfSome, IfNone}
 use Rattle.std.specs.Str.{bytes_eq}
 use Rattle.std.specs.Borrow.{Bor}
 use Rattle.std.specs.Global.{Vec}
 use Rattle.text_pieces.specs.Stacks.{joined}
-use Rattle.abel_lexer.proofs.Booleans.{bool_cases}
 use Rattle.abel_macros.specs.Gaps.{starts_byte, rest_of}
 use Rattle.abel_macros.specs.Forms.{asked, replaced, standing_for}
 use Rattle.abel_macros.specs.Pieces.{names, texts}
 use Rattle.abel_macros.specs.Rules.{each_replaced}
-use Rattle.abel_expand.specs.Gathering.{is_unasked}
+use Rattle.abel_expand.proofs.Growth.{take_next}
 
 -- ---- the argument that stands for a name
 
@@ -57,7 +55,18 @@ no_text (n ∷ ns) name = refl
 pub no_argument : (ns : List (List ℕ)) (found : List (Vec (Bor (List ℕ)))) (i : ℕ) (name : List ℕ) (r : Option (List ℕ)) → length found ≤ i → standing_for ns (texts (drop i found)) name ≡ r → r ≡ None
 no_argument ns found i name r h s = sym s ∙ ap (λ (ws : List (Vec (Bor (List ℕ)))). standing_for ns (texts ws) name) (past found i h) ∙ no_text ns name
 
+-- a step where something is ahead
+pub some_step : (r : Option ℕ) (w v : List ℕ) {n : ℕ} → IfSome r (λ b. w ≡ b ∷ v) → IfNone r (w ≡ []) → 0 < n → n ≡ length w → (b : ℕ) × (w ≡ b ∷ v)
+some_step (Some b) w v s z h l = (b, s)
+some_step None w v s z h l = absurd (omega (arith, h, l, ap length z))
+
 -- ---- a `?` and the name behind it
+
+pub drop_next : (w : List ℕ) (p x : ℕ) (xs : List ℕ) → drop p w ≡ x ∷ xs → drop (suc p) w ≡ xs
+drop_next [] zero x xs e = absurd cc
+drop_next [] (suc p) x xs e = absurd cc
+drop_next (y ∷ w) zero x xs e = ap (drop 1) e
+drop_next (y ∷ w) (suc p) x xs e = drop_next w p x xs e
 
 module _ (f : List ℕ → Option (List ℕ)) where
   -- bytes of a replaced name are left out
@@ -83,21 +92,22 @@ module _ (f : List ℕ → Option (List ℕ)) where
   mark [] s e = absurd cc
   mark (b ∷ bs) s e = ap (replaced_at b bs) s ∙ ap (replaced_by b bs) e
 
-  -- bytes that are no `?` stay
-  plain : (w : List ℕ) → replaced f 0 w ≡ take (prefix_len is_unasked w) w ++ replaced f 0 (drop (prefix_len is_unasked w) w)
-  plain [] = refl
-  plain (b ∷ bs) =
-      elim (bool_cases (b == 63)) [
-        | inl t ↦
-            let u : is_unasked b ≡ false = ap not t in
-            let n : prefix_len is_unasked (b ∷ bs) ≡ 0 = rw u refl in
-            sym (ap (λ (n : ℕ). take n (b ∷ bs) ++ replaced f 0 (drop n (b ∷ bs))) n)
-        | inr t ↦
-            let u : is_unasked b ≡ true = ap not t in
-            let m : prefix_len is_unasked (b ∷ bs) ≡ 1 + prefix_len is_unasked bs = rw u refl in
-            let n : prefix_len is_unasked (b ∷ bs) ≡ suc (prefix_len is_unasked bs) = omega (arith, m) in
-            ap (replaced_at b bs) t ∙ ap (λ (v : List ℕ). b ∷ v) (plain bs) ∙ sym (ap (λ (n : ℕ). take n (b ∷ bs) ++ replaced f 0 (drop n (b ∷ bs))) n)
-      ]
+  -- a byte stays that is no `?`, or has no parameter behind it
+  pub unmarked_stays : (w : List ℕ) → starts_byte 63 w ≡ false → replaced f 0 w ≡ take 1 w ++ replaced f 0 (drop 1 w)
+  unmarked_stays [] s = refl
+  unmarked_stays (b ∷ bs) s = ap (replaced_at b bs) s
+
+  pub unasked_stays : (w name : List ℕ) → starts_byte 63 w ≡ true → name ≡ asked (rest_of w) → f name ≡ None → replaced f 0 w ≡ take 1 w ++ replaced f 0 (drop 1 w)
+  unasked_stays w name s n e = mark w s (ap f (sym n) ∙ e)
+
+  -- one byte more that stays
+  pub stays_next : (w look next : List ℕ) (b n : ℕ) → look ≡ drop n w → look ≡ b ∷ next → replaced f 0 look ≡ take 1 look ++ replaced f 0 (drop 1 look) → take n w ++ replaced f 0 (drop n w) ≡ replaced f 0 w
+      → take (n + 1) w ++ replaced f 0 (drop (n + 1) w) ≡ replaced f 0 w
+  stays_next w look next b n d e s t =
+      let at : drop n w ≡ b ∷ next = sym d ∙ e in
+      let one : replaced f 0 (b ∷ next) ≡ b ∷ replaced f 0 next = ap (replaced f 0) (sym e) ∙ s ∙ ap (λ (v : List ℕ). take 1 v ++ replaced f 0 (drop 1 v)) e in
+      ap (λ (k : ℕ). take k w ++ replaced f 0 (drop k w)) (add-one n) ∙ ap (λ (v : List ℕ). v ++ replaced f 0 (drop (suc n) w)) (take_next w n b next at) ∙ ap (λ (v : List ℕ). (take n w ++ b ∷ []) ++ replaced f 0 v) (drop_next w n b next at)
+      ∙ append_assoc (take n w) (b ∷ []) (replaced f 0 next) ∙ ap (λ (v : List ℕ). take n w ++ v) (sym one ∙ ap (replaced f 0) (sym at)) ∙ t
 
   behind : (text new part w v : List ℕ) → new ≡ text ++ part → replaced f 0 w ≡ part ++ replaced f 0 v → new ++ replaced f 0 v ≡ text ++ replaced f 0 w
   behind text new part w v n e = ap (λ (x : List ℕ). x ++ replaced f 0 v) n ∙ append_assoc text part (replaced f 0 v) ∙ ap (λ (x : List ℕ). text ++ x) (sym e)
@@ -121,12 +131,12 @@ module _ (f : List ℕ → Option (List ℕ)) where
     pub none_long : (most : ℕ) → f name ≡ None → most < length (text ++ take 1 w) → most < length (text ++ replaced f 0 w)
     none_long most e l = longer text (take 1 w) w (drop 1 w) most l (mark w s (ap f (sym n) ∙ e))
 
-  pub plain_run : (w v text new : List ℕ) (n : ℕ) → n ≡ prefix_len is_unasked w → v ≡ drop n w → new ≡ text ++ take n w → new ++ replaced f 0 v ≡ text ++ replaced f 0 w
-  plain_run w v text new n p d t =
-      behind text new (take n w) w v t (plain w ∙ ap (λ (k : ℕ). take k w ++ replaced f 0 (drop k w)) (sym p) ∙ ap (λ (x : List ℕ). take n w ++ replaced f 0 x) (sym d))
+  -- bytes that stay
+  pub kept_run : (w v text new : List ℕ) (n : ℕ) → take n w ++ replaced f 0 (drop n w) ≡ replaced f 0 w → v ≡ drop n w → new ≡ text ++ take n w → new ++ replaced f 0 v ≡ text ++ replaced f 0 w
+  kept_run w v text new n k d t = behind text new (take n w) w v t (sym k ∙ ap (λ (x : List ℕ). take n w ++ replaced f 0 x) (sym d))
 
-  pub plain_long : (w text : List ℕ) (n most : ℕ) → n ≡ prefix_len is_unasked w → most < length (text ++ take n w) → most < length (text ++ replaced f 0 w)
-  plain_long w text n most p l = longer text (take n w) w (drop n w) most l (plain w ∙ ap (λ (k : ℕ). take k w ++ replaced f 0 (drop k w)) (sym p))
+  pub kept_long : (w text : List ℕ) (n most : ℕ) → take n w ++ replaced f 0 (drop n w) ≡ replaced f 0 w → most < length (text ++ take n w) → most < length (text ++ replaced f 0 w)
+  kept_long w text n most k l = longer text (take n w) w (drop n w) most l (sym k)
 
   pub block_added : (rest text total : List ℕ) → length rest ≡ 0 → text ++ replaced f 0 rest ≡ total → text ≡ total
   block_added [] text total h e = sym (append-nil text) ∙ e
@@ -141,17 +151,6 @@ marked (b ∷ bs) s = omega arith
 
 pub shorter : (w v : List ℕ) (n : ℕ) → v ≡ drop n w → 0 < n → 0 < length w → length v < length w
 shorter w v n e h k = omega (arith, ap length e, length-drop n w)
-
-pub is_asked : (w : List ℕ) (n : ℕ) → n ≡ 0 → n ≡ prefix_len is_unasked w → 0 < length w → starts_byte 63 w ≡ true
-is_asked [] n z p h = absurd (omega arith)
-is_asked (b ∷ bs) n z p h =
-    elim (bool_cases (b == 63)) [
-      | inl t ↦ t
-      | inr t ↦
-          let u : is_unasked b ≡ true = ap not t in
-          let m : prefix_len is_unasked (b ∷ bs) ≡ 1 + prefix_len is_unasked bs = rw u refl in
-          absurd (omega (arith, m, p))
-    ]
 
 -- ---- a block once for each argument
 

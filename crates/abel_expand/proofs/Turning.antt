@@ -1,5 +1,5 @@
 -- What a turn makes of the parts of a reader.
-use Rattle.std.proofs.Common.{◌≡◌, ◌-◌, ◌+◌, ◌*◌, ◌<◌, ◌≤◌, ℕ, zero, suc, Bool, true, false, List, [], ◌∷◌, ◌++◌, Option, Some, None, Result, Ok, Err, length, take, drop, refl, sym, ap, ◌∙◌, subst, arith, add-one, append-nil, append_assoc, length-drop, length-append, length-take, if◌then◌else◌}
+use Rattle.std.proofs.Common.{◌≡◌, ◌-◌, ◌+◌, ◌*◌, ◌<◌, ◌≤◌, ℕ, Bool, true, false, List, [], ◌∷◌, ◌++◌, Result, Ok, Err, length, take, drop, refl, sym, ap, ◌∙◌, subst, arith, add-one, append-nil, length-drop, length-append}
 use Rattle.std.specs.Prelude.{◌==◌, nat_lt}
 use Rattle.std.specs.Global.{Vec}
 use Rattle.std.proofs.Math.Seq.{take-length, take-append_seam, drop-append_seam}
@@ -8,12 +8,11 @@ use Rattle.std.proofs.lemmas.Bool.{eqb-true, eq-eqb, lt-ltb, le-ltb}
 use Rattle.pld_base.specs.declared.place.Place.{Place}
 use Rattle.abel_lexer.specs.Scans.{place_past, first_place}
 use Rattle.abel_macros.specs.Kept.{Kept, tables_of}
-use Rattle.abel_macros.specs.Rules.{Tables, Cause, TooLong, ExpansionLimit, Move, Done, Rewritten, Refused, move}
+use Rattle.abel_macros.specs.Rules.{Tables, Cause, TooLong, ExpansionLimit, Done, Rewritten, Refused, move}
 use Rattle.abel_macros.specs.Turns.{Config, turn, moved, within_limits, limit, most_rewritings}
 use Rattle.abel_expand.specs.declared.front.Change.{Change}
 use Rattle.abel_expand.specs.declared.front.Front.TheVariants as front
-use Rattle.abel_expand.specs.Gathering.{Gathering}
-use Rattle.abel_expand.specs.Fronts.{changed, IsChange, IsFront}
+use Rattle.abel_expand.specs.Fronts.{changed, IsFront}
 use Rattle.abel_expand.specs.Runs.{after, turned, IsRefused}
 use Rattle.abel_expand.specs.Stands.{Stands, left_to_do}
 

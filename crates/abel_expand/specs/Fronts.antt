@@ -1,5 +1,5 @@
 -- What the front of the rest asks for, as the code tells it.
-use Rattle.std.specs.Prelude.{◌≡◌, ℕ, ◌+◌, ◌<◌, ◌≤◌, List, [], ◌++◌, length, take, drop}
+use Rattle.std.specs.Prelude.{◌≡◌, ℕ, ◌+◌, ◌<◌, ◌≤◌, List, length, take, drop}
 use Rattle.abel_macros.specs.Rules.{Tables, Move, Done, Rewritten, Refused, BadDirective, Unsupported, with_name}
 use Rattle.abel_expand.specs.declared.front.Change.{Change}
 use Rattle.abel_expand.specs.declared.front.Change.TheVariants as change

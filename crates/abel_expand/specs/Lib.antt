@@ -1,3 +1,4 @@
+pub mod Marks
 pub mod Gathering
 pub mod RuleMoves
 pub mod Shown

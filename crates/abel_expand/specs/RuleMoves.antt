@@ -1,5 +1,5 @@
 -- The moves that the rules ask for, as the code tells them.
-use Rattle.std.specs.Prelude.{◌≡◌, ℕ, ◌<◌, ◌≤◌, ◌^◌, List, [], ◌++◌, length, take, drop, replicate, codes, Option, Some, None}
+use Rattle.std.specs.Prelude.{ℕ, ◌<◌, ◌≤◌, ◌^◌, List, [], ◌++◌, length, take, drop, replicate, codes, Some, None}
 use Rattle.std.specs.List.{concat}
 use Rattle.text_pieces.specs.Stacks.{joined}
 use Rattle.abel_macros.specs.declared.mode.Mode.TheVariants as mode

@@ -1,7 +1,6 @@
 -- Whole expansions, and what a reader stands for: a number of turns, and how much of the text done was
 -- given.
-use Rattle.std.specs.Prelude.{◌≡◌, ℕ, zero, suc, List, [], take, drop, Option, Result, Ok, Err}
-use Rattle.pld_base.specs.declared.place.Place.{Place}
+use Rattle.std.specs.Prelude.{◌≡◌, ℕ, zero, suc, List, [], ◌∷◌, take, drop, Option, Some, None, Result, Ok, Err}
 use Rattle.abel_lexer.specs.Scans.{place_past, first_place}
 use Rattle.abel_macros.specs.Rules.{Cause, TooLong, ExpansionLimit, BadDirective, Unsupported}
 use Rattle.abel_macros.specs.Turns.{Config, start, turn}
@@ -49,6 +48,21 @@ pub record Reading : Type 0 where
 abbrev pub bytes_given : Reading → List ℕ
 bytes_given r = take r.given (after r.turns r.text).done
 
+-- the byte that is answered, if one is
+abbrev pub byte_in : Result (Option ℕ) ExpandFault → List ℕ
+byte_in (Ok (Some b)) = b ∷ []
+byte_in (Ok None) = []
+byte_in (Err e) = []
+
+-- the refusal that is answered, if one is
+abbrev pub refusal_in : Result (Option ℕ) ExpandFault → Option ExpandFault
+refusal_in (Ok o) = None
+refusal_in (Err e) = Some e
+
 -- the bytes of the text done that were not given
 abbrev pub bytes_waiting : Reading → List ℕ
 bytes_waiting r = drop r.given (after r.turns r.text).done
+
+-- all of the expanded text was given
+abbrev pub HasEnded : Reading → Type 0
+HasEnded r = (r.refused ≡ None) × ((after r.turns r.text).rest ≡ []) × (bytes_waiting r ≡ [])

@@ -1,15 +1,17 @@
 //! What a turn does to the front of the rest.
 
-ghost use Rattle.std.specs.Prelude.{◌≡◌, [], ◌∷◌, ◌<◌, ◌≤◌, length, drop, IfOk};
+ghost use Rattle.std.specs.Prelude.{◌≡◌, [], ◌∷◌, ◌<◌, ◌≤◌, false, length, drop, IfOk};
 ghost use Rattle.abel_macros.specs.Kept.{tables_of};
 ghost use Rattle.abel_macros.specs.Rules as spec;
 ghost use Rattle.abel_expand.specs.RuleMoves.{rewriting_text, rule_move, IsRewriting, IsRule};
+ghost use Rattle.abel_expand.specs.Marks.{DefinesNone};
 ghost use Rattle.abel_expand.specs.Fronts.{IsFront, IsRewritten};
 
 use crate::gather::gather;
 use crate::gathered::{Gathered, Shortage};
 use crate::rules::{Rewriting, Rule, first_rule};
 use crate::spoken::{line_feeds, shown};
+use crate::unread::Unread;
 use abel_macros::{Macro, Tables};
 use pld_base::OutOfMemory;
 use std::alloc::{AllocError, Global};
@@ -110,17 +112,20 @@ fn front_of<'a>(
     }
 }
 
-/// What a turn does to the front of a rest, which may then have so many bytes.
+/// What a turn does to the front of a rest, which may then have so many bytes; whether a definition may
+/// begin there is known.
 pub fn look<'a>(
     alloc: Global,
-    rest: &Rest<'a>,
+    rest: &Unread<'a>,
     tables: &Tables<'a>,
+    may_define: bool,
     most: usize,
 ) -> Result<Front<'a>, OutOfMemory>
     requires some { 0 < length rest.now }
+    requires undefined { may_define ≡ false → DefinesNone rest.now }
     requires room { length rest.now ≤ most }
     ensures { IfOk result (λ f. IsFront (tables_of tables.now) rest.now most (spec.move (tables_of tables.now) rest.now) f) }
 {
-    let (rule, end) = first_rule(alloc, rest, tables)?;
-    front_of(alloc, rest, rule, end, most)
+    let (rule, end) = first_rule(alloc, rest.rest(), tables, may_define)?;
+    front_of(alloc, rest.rest(), rule, end, most)
 }

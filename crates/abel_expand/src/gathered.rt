@@ -1,6 +1,6 @@
 //! The result of a rewriting, gathered in pieces and counted, so that nothing too long is built.
 
-ghost use Rattle.std.specs.Prelude.{◌≡◌, ◌++◌, ◌<◌, ◌≤◌, ◌^◌, [], length, replicate, true, false, OnOk, IfErr};
+ghost use Rattle.std.specs.Prelude.{◌≡◌, ◌++◌, ◌+◌, ◌*◌, ◌<◌, ◌≤◌, ◌^◌, [], length, replicate, true, false, OnOk, IfErr};
 ghost use Rattle.std.specs.List.{concat};
 ghost use Rattle.text_pieces.specs.Stacks.{joined};
 ghost use Rattle.abel_expand.specs.declared.gathered.Shortage.TheVariants as shortage;
@@ -46,6 +46,14 @@ fn is_nothing(pieces: &[&[u8]]) -> bool
         }
     }
     true
+}
+
+/// Whether a length so many times is more than there is room.
+#[tactic(auto, using(crate::proofs::Gathers::product_over))]
+fn is_over(count: u32, length: usize, room: usize) -> bool
+    ensures { result ≡ true → room < count * length }
+{
+    length > 0 && room / length < count as usize
 }
 
 impl<'a> Gathered<'a> {
@@ -104,21 +112,56 @@ impl<'a> Gathered<'a> {
         Ok(())
     }
 
+    /// How many bytes more it may get.
+    fn room(&self) -> usize
+        ensures { length self.now.text + result ≡ self.now.most }
+    {
+        self.room
+    }
+
     /// Adds a text in pieces behind, so many times.
-    #[tactic(auto, using(crate::proofs::Gathers::no_times, crate::proofs::Gathers::times_next, crate::proofs::Gathers::times_long, crate::proofs::Gathers::times_added))]
-    pub fn repeat(&mut self, pieces: &[&'a [u8]], count: u32) -> Result<(), Shortage>
+    #[tactic(auto, using(crate::proofs::Gathers::times_next, crate::proofs::Gathers::times_long, crate::proofs::Gathers::times_added))]
+    fn add_times(&mut self, pieces: &[&'a [u8]], count: u32) -> Result<(), Shortage>
         ensures ok { OnOk result (self.new ≡ record self.old { text = self.old.text ++ concat (replicate count (joined pieces.now)) }) }
         ensures long { IfErr result (λ e. e ≡ shortage.TooLong → self.old.most < length (self.old.text ++ concat (replicate count (joined pieces.now)))) }
     {
-        if is_nothing(pieces) {
-            return Ok(());
-        }
         let mut left = count;
         'times: while left > 0 {
             self.add_all(pieces)?;
             left -= 1;
         }
         Ok(())
+    }
+
+    /// Adds a text in pieces behind, once and so many times more; if that would be too long, only once.
+    #[tactic(auto, using(crate::proofs::Gathers::once_long, crate::proofs::Gathers::times_over, crate::proofs::Gathers::rest_added, crate::proofs::Gathers::rest_long, crate::proofs::Gathers::less_room))]
+    fn add_some(&mut self, pieces: &[&'a [u8]], count: u32) -> Result<(), Shortage>
+        requires { 0 < count }
+        ensures ok { OnOk result (self.new ≡ record self.old { text = self.old.text ++ concat (replicate count (joined pieces.now)) }) }
+        ensures long { IfErr result (λ e. e ≡ shortage.TooLong → self.old.most < length (self.old.text ++ concat (replicate count (joined pieces.now)))) }
+    {
+        let before = self.room();
+        self.add_all(pieces)?;
+        let room = self.room();
+        if is_over(count - 1, before - room, room) {
+            return Err(Shortage::TooLong);
+        }
+        self.add_times(pieces, count - 1)
+    }
+
+    /// Adds a text in pieces behind, so many times.
+    #[tactic(auto, using(crate::proofs::Gathers::no_times, crate::proofs::Gathers::zero_times))]
+    pub fn repeat(&mut self, pieces: &[&'a [u8]], count: u32) -> Result<(), Shortage>
+        ensures ok { OnOk result (self.new ≡ record self.old { text = self.old.text ++ concat (replicate count (joined pieces.now)) }) }
+        ensures long { IfErr result (λ e. e ≡ shortage.TooLong → self.old.most < length (self.old.text ++ concat (replicate count (joined pieces.now)))) }
+    {
+        if count == 0 {
+            return Ok(());
+        }
+        if is_nothing(pieces) {
+            return Ok(());
+        }
+        self.add_some(pieces, count)
     }
 }
 

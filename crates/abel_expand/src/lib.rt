@@ -13,6 +13,7 @@ mod rules;
 mod spoken;
 #[cfg(test)]
 mod tests;
+mod unread;
 
 pub use expanding::expand;
 pub use fault::ExpandFault;

@@ -4,24 +4,25 @@ ghost use Rattle.std.specs.Prelude.{◌≡◌, ℕ, ◌+◌, ◌<◌, ◌≤◌,
 ghost use Rattle.abel_macros.specs.Kept.{tables_of};
 ghost use Rattle.abel_expand.specs.declared.fault.ExpandFault.TheVariants as fault;
 ghost use Rattle.abel_expand.specs.Fronts.{changed, IsChange};
-ghost use Rattle.abel_expand.specs.Runs.{after, bytes_given, bytes_waiting, IsExpanded, IsRefusal};
+ghost use Rattle.abel_expand.specs.Marks.{DefinesNone};
+ghost use Rattle.abel_expand.specs.Runs.{after, bytes_given, bytes_waiting, byte_in, refusal_in, HasEnded, IsExpanded, IsRefusal};
 ghost use Rattle.abel_expand.specs.Stands.{left_to_do};
 
 use crate::fault::ExpandFault;
 use crate::front::{Change, Front, look};
+use crate::unread::Unread;
 use abel_lexer::place_past;
 use abel_macros::Tables;
 use pld_base::{OutOfMemory, Place};
 use std::alloc::Global;
 use std::marker::Model;
-use text_pieces::Rest;
 
 /// Gives the expanded text of a text byte by byte. What is still to be read are pieces of the text.
 #[derive(Drop)]
 pub struct Reader<'a> {
     alloc: Global,
     text: &'a [u8],
-    rest: Rest<'a>,
+    rest: Unread<'a>,
     tables: Tables<'a>,
     said: Vec<u8>,
     at: usize,
@@ -73,7 +74,7 @@ impl<'a> Reader<'a> {
         Reader {
             alloc,
             text,
-            rest: Rest::new(alloc, text),
+            rest: Unread::new(alloc, text),
             tables: Tables::new(alloc),
             said: Vec::new(alloc),
             at: 0,
@@ -117,17 +118,20 @@ impl<'a> Reader<'a> {
         }
     }
 
-    /// Takes a turn of the text, where nothing waits and something is left of it.
-    fn turn(&mut self) -> Result<(), ExpandFault>
+    /// Takes a turn of the text, where nothing waits and something is left of it; it is known whether a
+    /// definition may begin there.
+    fn act(&mut self, may_define: bool) -> Result<(), ExpandFault>
         requires going { self.old.refused ≡ None }
         requires given { bytes_waiting self.old ≡ [] }
         requires some { (after self.old.turns self.old.text).rest ≡ [] → ⊥ }
+        requires undefined { may_define ≡ false → DefinesNone (after self.old.turns self.old.text).rest }
         ensures ok { OnOk result (self.new ≡ record self.old { turns = self.old.turns + 1 }) }
         ensures falls { OnOk result (left_to_do (after self.new.turns self.new.text) < left_to_do (after self.old.turns self.old.text)) }
         ensures err { IfErr result (λ e. (self.new.text ≡ self.old.text) × (self.new.turns ≡ self.old.turns) × (self.new.given ≡ self.old.given)) }
         ensures refused { IfErr result (λ e. IsRefusal self.old.text (bytes_given self.old) e) }
     {
-        match look(self.alloc, &self.rest, &self.tables, 1048576 - self.done)? {
+        let room = 1048576 - self.done;
+        match look(self.alloc, &self.rest, &self.tables, may_define, room)? {
             Front::Copy(count) => {
                 self.copied = count;
                 self.done += count;
@@ -168,6 +172,20 @@ impl<'a> Reader<'a> {
         Ok(())
     }
 
+    /// Takes a turn of the text, where nothing waits and something is left of it.
+    fn turn(&mut self) -> Result<(), ExpandFault>
+        requires going { self.old.refused ≡ None }
+        requires given { bytes_waiting self.old ≡ [] }
+        requires some { (after self.old.turns self.old.text).rest ≡ [] → ⊥ }
+        ensures ok { OnOk result (self.new ≡ record self.old { turns = self.old.turns + 1 }) }
+        ensures falls { OnOk result (left_to_do (after self.new.turns self.new.text) < left_to_do (after self.old.turns self.old.text)) }
+        ensures err { IfErr result (λ e. (self.new.text ≡ self.old.text) × (self.new.turns ≡ self.old.turns) × (self.new.given ≡ self.old.given)) }
+        ensures refused { IfErr result (λ e. IsRefusal self.old.text (bytes_given self.old) e) }
+    {
+        let may_define = self.rest.may_define(self.alloc)?;
+        self.act(may_define)
+    }
+
     /// Whether nothing is left of the text, where nothing waits.
     fn is_at_end(&self) -> bool
         requires going { self.now.refused ≡ None }
@@ -175,21 +193,22 @@ impl<'a> Reader<'a> {
         ensures yes { result ≡ true → (after self.now.turns self.now.text).rest ≡ [] }
         ensures no { result ≡ false → (after self.now.turns self.now.text).rest ≡ [] → ⊥ }
     {
-        self.rest.len() == 0
+        self.rest.rest().len() == 0
     }
 
-    /// The next byte of the expanded text.
+    /// The next byte of the expanded text; none at its end, and then for ever. After a refusal every later
+    /// call answers the same.
     #[tactic(auto, using(crate::proofs::Growth::one_more, crate::proofs::Growth::kept))]
     pub fn next(&mut self) -> Result<Option<u8>, ExpandFault>
         ensures text { self.new.text ≡ self.old.text }
-        ensures byte { IfOk result (λ o. IfSome o (λ b. bytes_given self.new ≡ bytes_given self.old ++ b ∷ [])) }
+        ensures bytes { bytes_given self.new ≡ bytes_given self.old ++ byte_in result }
+        ensures refused { self.new.refused ≡ refusal_in result }
         ensures count { IfOk result (λ o. IfSome o (λ b. (self.new.given ≡ self.old.given + 1) × (self.old.given < 1048576))) }
         ensures whole { IfOk result (λ o. IfNone o (IsExpanded self.new.text (bytes_given self.new))) }
-        ensures none { IfOk result (λ o. IfNone o (bytes_given self.new ≡ bytes_given self.old)) }
-        ensures err { IfErr result (λ e. (self.new.refused ≡ Some e) × (bytes_given self.new ≡ bytes_given self.old)) }
-        ensures going { IfOk result (λ o. self.new.refused ≡ None) }
         ensures cause { self.old.refused ≡ None → IfErr result (λ e. IsRefusal self.new.text (bytes_given self.new) e) }
         ensures again { IfSome self.old.refused (λ e. result ≡ Err e) }
+        ensures end { IfOk result (λ o. IfNone o (HasEnded self.new)) }
+        ensures ended { HasEnded self.old → result ≡ Ok None }
     {
         if let Some(fault) = self.refused {
             return Err(fault);

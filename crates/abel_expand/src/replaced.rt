@@ -1,55 +1,28 @@
 //! Blocks in which arguments stand for parameters.
 
-ghost use Rattle.std.specs.Prelude.{◌≡◌, ℕ, ◌+◌, ◌++◌, ◌<◌, ◌≤◌, ◌^◌, length, take, drop, true, Some, None, IfSome, IfNone, IfOk, OnOk, IfErr};
-ghost use Rattle.std.specs.List.{prefix_len};
+ghost use Rattle.std.specs.Prelude.{◌≡◌, ◌+◌, ◌++◌, ◌<◌, ◌≤◌, ◌^◌, length, take, drop, true, false, Some, None, IfSome, IfNone, IfOk, OnOk, IfErr};
 ghost use Rattle.text_pieces.specs.Stacks.{ahead, joined};
 ghost use Rattle.abel_macros.specs.Forms.{asked, replaced, standing_for};
 ghost use Rattle.abel_macros.specs.Gaps.{starts_byte, rest_of};
 ghost use Rattle.abel_macros.specs.Pieces.{names, texts};
 ghost use Rattle.abel_macros.specs.Rules.{each_replaced};
-ghost use Rattle.abel_expand.specs.Gathering.{is_unasked};
 ghost use Rattle.abel_expand.specs.declared.gathered.Shortage.TheVariants as shortage;
 
 use crate::gathered::{Gathered, Shortage};
-use abel_macros::{read, word_len};
+use abel_macros::{is_next, read, word_len};
 use std::alloc::{AllocError, Global};
 use text_pieces::{Ahead, Rest};
 
-/// Whether a byte is no `?`.
-fn is_unasked(byte: u8) -> bool
-    ensures { result ≡ is_unasked byte }
+/// The name behind the `?` ahead; empty if there is none.
+fn asked_name(alloc: Global, at: &Ahead) -> Result<Vec<u8>, AllocError>
+    requires { starts_byte 63 (ahead at.now) ≡ true }
+    ensures name { IfOk result (λ w. w.items ≡ asked (rest_of (ahead at.now))) }
+    ensures within { IfOk result (λ w. 1 + length w.items ≤ length (ahead at.now)) }
 {
-    byte != b'?'
-}
-
-/// How many of the next bytes are no `?`.
-fn unasked_len(at: &Ahead) -> usize
-    ensures value { result ≡ prefix_len is_unasked (ahead at.now) }
-    ensures within { result ≤ length (ahead at.now) }
-{
-    at.fits();
     let mut look = at.fork();
-    let mut count = 0;
-    'bytes: while let Some(byte) = look.peek() {
-        if !is_unasked(byte) {
-            return count;
-        }
-        let _byte = look.step();
-        count += 1;
-    }
-    count
-}
-
-/// The name behind the first byte; empty if there is none.
-fn asked_name(alloc: Global, rest: &Rest) -> Result<Vec<u8>, AllocError>
-    requires { starts_byte 63 rest.now ≡ true }
-    ensures name { IfOk result (λ w. w.items ≡ asked (rest_of rest.now)) }
-    ensures within { IfOk result (λ w. 1 + length w.items ≤ length rest.now) }
-{
-    let mut at = rest.ahead();
-    let _mark = at.step();
-    let count = word_len(&at);
-    read(alloc, &mut at, count)
+    let _mark = look.step();
+    let count = word_len(&look);
+    read(alloc, &mut look, count)
 }
 
 /// What stands for a name: the argument in the place of the first such parameter.
@@ -73,6 +46,52 @@ fn argument_of<'m, 'a>(
         at += 1;
     }
     None
+}
+
+/// Whether a `?` is ahead, and a parameter behind it. If not, the next byte stays.
+#[tactic(auto, using(crate::proofs::Replaces::unmarked_stays, crate::proofs::Replaces::unasked_stays))]
+fn is_replaced(
+    alloc: Global,
+    at: &Ahead,
+    parameters: &[Vec<u8>],
+    arguments: &[Vec<&[u8]>],
+) -> Result<bool, AllocError>
+    ensures yes { IfOk result (λ o. o ≡ true → starts_byte 63 (ahead at.now) ≡ true) }
+    ensures no { IfOk result (λ o. o ≡ false → replaced (standing_for (names parameters.now) (texts arguments.now)) 0 (ahead at.now) ≡ take 1 (ahead at.now) ++ replaced (standing_for (names parameters.now) (texts arguments.now)) 0 (drop 1 (ahead at.now))) }
+{
+    if !is_next(at, b'?') {
+        return Ok(false);
+    }
+    let name = asked_name(alloc, at)?;
+    match argument_of(parameters, arguments, &name) {
+        Some(_argument) => Ok(true),
+        None => Ok(false),
+    }
+}
+
+/// How many of the next bytes stay: those before the next `?` with a parameter behind it.
+#[tactic(auto, using(crate::proofs::Replaces::stays_next))]
+fn kept_len(
+    alloc: Global,
+    at: &Ahead,
+    parameters: &[Vec<u8>],
+    arguments: &[Vec<&[u8]>],
+) -> Result<usize, AllocError>
+    ensures value { IfOk result (λ n. take n (ahead at.now) ++ replaced (standing_for (names parameters.now) (texts arguments.now)) 0 (drop n (ahead at.now)) ≡ replaced (standing_for (names parameters.now) (texts arguments.now)) 0 (ahead at.now)) }
+    ensures within { IfOk result (λ n. n ≤ length (ahead at.now)) }
+    ensures asked { IfOk result (λ n. n ≡ 0 → 0 < length (ahead at.now) → starts_byte 63 (ahead at.now) ≡ true) }
+{
+    at.fits();
+    let mut look = at.fork();
+    let mut count = 0;
+    'bytes: while look.left() > 0 {
+        if is_replaced(alloc, &look, parameters, arguments)? {
+            return Ok(count);
+        }
+        let _byte = look.step();
+        count += 1;
+    }
+    Ok(count)
 }
 
 impl<'a> Gathered<'a> {
@@ -102,7 +121,7 @@ impl<'a> Gathered<'a> {
         ensures falls { OnOk result (length rest.new < length rest.old) }
         ensures long { IfErr result (λ e. e ≡ shortage.TooLong → self.old.most < length (self.old.text ++ replaced (standing_for (names parameters.now) (texts arguments.now)) 0 rest.old)) }
     {
-        let name = asked_name(alloc, rest)?;
+        let name = asked_name(alloc, &rest.ahead())?;
         match argument_of(parameters, arguments, &name) {
             Some(argument) => {
                 self.add_all(argument)?;
@@ -113,9 +132,9 @@ impl<'a> Gathered<'a> {
         }
     }
 
-    /// Takes the bytes before the next `?`, and adds them behind; or takes a `?`, and adds what stands
-    /// for it.
-    #[tactic(auto, using(crate::proofs::Replaces::plain_run, crate::proofs::Replaces::plain_long, crate::proofs::Replaces::shorter, crate::proofs::Replaces::is_asked))]
+    /// Takes the bytes that stay, and adds them behind; or takes a `?` and the name behind it, and adds what
+    /// stands for them.
+    #[tactic(auto, using(crate::proofs::Replaces::kept_run, crate::proofs::Replaces::kept_long, crate::proofs::Replaces::shorter))]
     fn add_part(
         &mut self,
         alloc: Global,
@@ -129,7 +148,7 @@ impl<'a> Gathered<'a> {
         ensures falls { OnOk result (length rest.new < length rest.old) }
         ensures long { IfErr result (λ e. e ≡ shortage.TooLong → self.old.most < length (self.old.text ++ replaced (standing_for (names parameters.now) (texts arguments.now)) 0 rest.old)) }
     {
-        let count = unasked_len(&rest.ahead());
+        let count = kept_len(alloc, &rest.ahead(), parameters, arguments)?;
         if count == 0 {
             self.add_asked(alloc, rest, parameters, arguments)
         } else {

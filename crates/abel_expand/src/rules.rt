@@ -6,6 +6,7 @@ ghost use Rattle.abel_macros.specs.Gaps as gaps;
 ghost use Rattle.abel_macros.specs.Kept.{tables_of};
 ghost use Rattle.abel_macros.specs.Rules as spec;
 ghost use Rattle.abel_macros.specs.declared.directive.Directive.TheVariants as directive;
+ghost use Rattle.abel_expand.specs.Marks.{DefinesNone};
 ghost use Rattle.abel_expand.specs.RuleMoves.{rewriting_text, IsRewriting, rule_move, IsRule, plain_move};
 
 use abel_macros::{
@@ -285,33 +286,57 @@ fn definition_rule<'t, 'a>(
     }
 }
 
-/// Reads what stands behind a name: a definition, a call, or nothing that belongs to it.
-#[tactic(auto, using(crate::proofs::Moves::named_definition, crate::proofs::Moves::named_call, crate::proofs::Moves::named_broken, crate::proofs::Moves::named_word))]
-fn named_rule<'t, 'a>(
+/// Reads what stands behind a name that begins no definition: a call, or nothing that belongs to it.
+#[tactic(auto, using(crate::proofs::Moves::named_call, crate::proofs::Moves::named_broken, crate::proofs::Moves::named_word))]
+fn called_rule<'t, 'a>(
     alloc: Global,
     at: &mut Ahead<'_, 'a>,
     tables: &'t Tables<'a>,
-    name: Vec<u8>,
+    name: &[u8],
 ) -> Result<Rule<'t, 'a>, AllocError>
-    requires { name.items ≡ gaps.before at.old.whole (ahead at.old) }
+    requires name { name.now ≡ gaps.before at.old.whole (ahead at.old) }
+    requires undefined { spec.macro_word (ahead at.old) ≡ None }
     ensures moves { IfOk result (λ r. spec.named (tables_of tables.now) at.old.whole (ahead at.old) ≡ rule_move (tables_of tables.now) at.old.whole (ahead at.new) r) }
     ensures fits { IfOk result (λ r. IsRule r) }
     ensures whole { at.new.whole ≡ at.old.whole }
     ensures further { at.old.passed ≤ at.new.passed }
 {
-    let behind = at.fork();
-    if skip_macro_word(alloc, at)? {
-        let rule = definition_rule(alloc, at, tables, name)?;
-        return Ok(rule);
-    }
-    *at = behind;
-    match tables.macro_of(&name) {
+    match tables.macro_of(name) {
         Some(entry) => match read_call(alloc, at, entry)? {
             Some(rewriting) => Ok(Rule::Rewrite(rewriting)),
             None => Ok(Rule::BadDirective),
         },
         None => Ok(Rule::Copy),
     }
+}
+
+/// Reads what stands behind a name: a definition, if there may be one, a call, or nothing that belongs
+/// to it.
+#[tactic(auto, using(crate::proofs::Moves::named_definition))]
+fn named_rule<'t, 'a>(
+    alloc: Global,
+    at: &mut Ahead<'_, 'a>,
+    tables: &'t Tables<'a>,
+    name: Vec<u8>,
+    may_define: bool,
+) -> Result<Rule<'t, 'a>, AllocError>
+    requires name { name.items ≡ gaps.before at.old.whole (ahead at.old) }
+    requires undefined { may_define ≡ false → spec.macro_word (ahead at.old) ≡ None }
+    ensures moves { IfOk result (λ r. spec.named (tables_of tables.now) at.old.whole (ahead at.old) ≡ rule_move (tables_of tables.now) at.old.whole (ahead at.new) r) }
+    ensures fits { IfOk result (λ r. IsRule r) }
+    ensures whole { at.new.whole ≡ at.old.whole }
+    ensures further { at.old.passed ≤ at.new.passed }
+{
+    if !may_define {
+        return called_rule(alloc, at, tables, &name);
+    }
+    let behind = at.fork();
+    if skip_macro_word(alloc, at)? {
+        let rule = definition_rule(alloc, at, tables, name)?;
+        return Ok(rule);
+    }
+    *at = behind;
+    called_rule(alloc, at, tables, &name)
 }
 
 /// Reads the word of a directive.
@@ -352,8 +377,10 @@ fn plain_rule<'t, 'a>(
     alloc: Global,
     rest: &Rest<'a>,
     tables: &'t Tables<'a>,
+    may_define: bool,
 ) -> Result<(Rule<'t, 'a>, usize), AllocError>
     requires some { 0 < length rest.now }
+    requires undefined { may_define ≡ false → DefinesNone rest.now }
     requires plain { (gaps.starts_byte 39 rest.now ≡ false) × (gaps.starts_byte 64 rest.now ≡ false) }
     ensures moves { IfOk result (λ r. plain_move (tables_of tables.now) rest.now ≡ rule_move (tables_of tables.now) rest.now (drop r.1 rest.now) r.0) }
     ensures fits { IfOk result (λ r. IsRule r.0) }
@@ -362,21 +389,24 @@ fn plain_rule<'t, 'a>(
     let mut at = rest.ahead();
     match read_word(alloc, &mut at)? {
         Some(name) => {
-            let rule = named_rule(alloc, &mut at, tables, name)?;
+            let rule = named_rule(alloc, &mut at, tables, name, may_define)?;
             Ok((rule, at.passed()))
         }
         None => Ok((Rule::Copy, token_len(&rest.ahead()))),
     }
 }
 
-/// The first rule that fits the front of a rest, and how many bytes it takes.
+/// The first rule that fits the front of a rest, and how many bytes it takes; whether a definition may
+/// begin there is known.
 #[tactic(auto, using(crate::proofs::Moves::comment_moves, crate::proofs::Moves::string_moves, crate::proofs::Moves::directive_moves, crate::proofs::Moves::plain_moves, crate::proofs::Moves::string_some))]
 pub fn first_rule<'t, 'a>(
     alloc: Global,
     rest: &Rest<'a>,
     tables: &'t Tables<'a>,
+    may_define: bool,
 ) -> Result<(Rule<'t, 'a>, usize), AllocError>
-    requires { 0 < length rest.now }
+    requires some { 0 < length rest.now }
+    requires undefined { may_define ≡ false → DefinesNone rest.now }
     ensures moves { IfOk result (λ r. spec.move (tables_of tables.now) rest.now ≡ rule_move (tables_of tables.now) rest.now (drop r.1 rest.now) r.0) }
     ensures fits { IfOk result (λ r. IsRule r.0) }
     ensures within { IfOk result (λ r. (0 < r.1) × (r.1 ≤ length rest.now)) }
@@ -392,5 +422,5 @@ pub fn first_rule<'t, 'a>(
     if is_next(&front, b'@') {
         return directive_rule(alloc, rest, tables);
     }
-    plain_rule(alloc, rest, tables)
+    plain_rule(alloc, rest, tables, may_define)
 }

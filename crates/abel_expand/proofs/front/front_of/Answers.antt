@@ -1,5 +1,5 @@
 -- A rewriting is one for all tables.
-use Rattle.std.proofs.Common.{◌≡◌, ◌-◌, ℕ, sym, ap, subst, length, drop}
+use Rattle.std.proofs.Common.{◌-◌, ℕ, sym, ap, subst, drop}
 use Rattle.abel_macros.specs.Rules.{Tables}
 use Rattle.abel_expand.specs.declared.front.Front.{Front}
 use Rattle.abel_expand.specs.declared.rules.Rule.{Rule}

@@ -1,5 +1,5 @@
 -- A piece more, no bytes more, and a piece too many.
-use Rattle.std.proofs.Common.{◌≡◌, ◌++◌, ◌<◌, ◌≤◌, ◌+◌, ◌-◌, ◌∙◌, ap, subst, arith, length}
+use Rattle.std.proofs.Common.{◌++◌, ◌<◌, ◌∙◌, ap, subst, arith, length}
 use Rattle.text_pieces.specs.Stacks.{joined}
 use Rattle.abel_expand.specs.Gathering.{Gathering}
 use Rattle.abel_expand.proofs.Gathers.{added, added_nothing, over}

@@ -1,5 +1,5 @@
 -- One byte more is given: a byte that waits, or one of the rest.
-use Rattle.std.proofs.Common.{◌≡◌, ◌-◌, ◌+◌, ◌++◌, ◌<◌, ◌≤◌, ◌∙◌, ap, sym, refl, ℕ, List, [], ◌∷◌, Option, None, take, drop, arith, length}
+use Rattle.std.proofs.Common.{◌≡◌, ◌-◌, ◌+◌, ◌++◌, ◌∙◌, ap, sym, refl, ℕ, List, ◌∷◌, None, take, drop, arith}
 use Rattle.abel_expand.specs.Runs.{Reading, bytes_waiting}
 use Rattle.abel_expand.proofs.Giving.{stands_given, said_next, copied_next, behind_copied}
 use Rattle.abel_expand.proofs.reader.Reader.give.Goals as goal

@@ -1,6 +1,6 @@
 -- Each turn leaves less to do, and gives nothing.
 use Rattle.std.proofs.Common.{◌≡◌, None}
-use Rattle.abel_expand.specs.Runs.{after, bytes_given}
+use Rattle.abel_expand.specs.Runs.{after, bytes_given, HasEnded}
 use Rattle.abel_expand.specs.Stands.{left_to_do}
 use Rattle.abel_expand.proofs.reader.Reader.next.Given as goal
 
@@ -12,6 +12,7 @@ invariant-turns l =
       same : bytes_given l.self ≡ bytes_given l.fn.self;
       going : l.self.refused ≡ None;
       start : l.fn.self.refused ≡ None;
+      ended : HasEnded l.fn.self → HasEnded l.self;
     }
 
 abbrev pub decreases-turns : goal.decreases-turns

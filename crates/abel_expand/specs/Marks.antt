@@ -1,0 +1,12 @@
+-- What is known of the end of a text: that no word MACRO stands behind its first blanks and comments.
+use Rattle.std.specs.Prelude.{◌≡◌, ℕ, ◌-◌, List, length, drop, Some, None}
+use Rattle.abel_macros.specs.Gaps.{word}
+use Rattle.abel_macros.specs.Rules.{macro_word}
+
+-- the last bytes of a text, so many
+abbrev pub last : ℕ → List ℕ → List ℕ
+last n w = drop (length w - n) w
+
+-- the word MACRO stands behind no name at the front
+abbrev pub DefinesNone : List ℕ → Type 0
+DefinesNone w = (behind : List ℕ) → word w ≡ Some behind → macro_word behind ≡ None
