@@ -1,0 +1,40 @@
+//! Texts with comments, strings and other tokens, and what they expand to.
+
+use crate::tests::Row;
+
+#[rattlefmt::skip]
+pub const COMMENTS: [Row; 33] = [
+    (b"", b""),
+    (b"a = b & c;\n", b"a = b & c;\n"),
+    (b"\"note\"", b" "),
+    (b"\"\"", b" "),
+    (b"\"\"\"", b"  "),
+    (b"a \"note\" b", b"a   b"),
+    (b"a\"note\nb", b"a \nb"),
+    (b"a\"note\r\nb", b"a \nb"),
+    (b"a// note\nb", b"a \nb"),
+    (b"a//note\r\nb", b"a \nb"),
+    (b"a//it\"s\nb\"c\"", b"a \nb "),
+    (b"a\"it//s\"b", b"a b"),
+    (b"a///b", b"a "),
+    (b"a/b", b"a/b"),
+    (b"a/ /b", b"a/ /b"),
+    (b"/\"note\"/b", b"/ /b"),
+    (b"'a\"b'", b"'a\"b'"),
+    (b"'a//b'", b"'a//b'"),
+    (b"'it\\'s'\"note\"", b"'it\\'s' "),
+    (b"'a\\\\'\"note\"", b"'a\\\\' "),
+    (b"'a\nb'//note", b"'a\nb' "),
+    (b"'no end \"x\" //y", b"'no end \"x\" //y"),
+    (b"'no end\\'\"x\"", b"'no end\\'\"x\""),
+    (b"a\x1ab", b"a\x1ab"),
+    (b"a \t\r\n\x0c\x1ab", b"a \t\r\n\x0c\x1ab"),
+    (b"\x80\xff", b"\x80\xff"),
+    (b"\"\x80\"a", b" a"),
+    (b"^hFFFFFFFF ^h100000000 16L8", b"^hFFFFFFFF ^h100000000 16L8"),
+    (b".X. .SV1. a.OE..b ...b", b".X. .SV1. a.OE..b ...b"),
+    (b"? ?x ??", b"? ?x ??"),
+    (b"abcdefghijklmnopqrstuvwxyz01234 abcdefghijklmnopqrstuvwxyz012345", b"abcdefghijklmnopqrstuvwxyz01234 abcdefghijklmnopqrstuvwxyz012345"),
+    (b"} { ) (", b"} { ) ("),
+    (b"~a _b", b"~a _b"),
+];

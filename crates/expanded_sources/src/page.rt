@@ -1,0 +1,41 @@
+//! The examples of docs/LANGUAGE.md, Expansion, in its order, each behind what it stands on.
+
+use crate::tests::Row;
+
+#[rattlefmt::skip]
+pub const PAGE: [Row; 34] = [
+    (b"a\"note\"b", b"a b"),
+    (b"a//note\nb", b"a \nb"),
+    (b"'a\"b'", b"'a\"b'"),
+    (b"m MACRO {x # y};m", b"x # y"),
+    (b"inv MACRO (n) {Y?n = !A?n;};inv(0)", b"Y0 = !A0;"),
+    (b"and MACRO (x,y) {(?x & ?y)};and(a # b, f(c,d))", b"(a # b & f(c,d))"),
+    (b"p MACRO (x) {Y?x};p(1)9", b"Y19"),
+    (b"twice MACRO (x) {?x?x};twice()", b""),
+    (b"m MACRO {'}' \"}\"};m", b"'}'  "),
+    (b"m MACRO {a};m MACRO {b};m", b"b"),
+    (b"p MACRO (x) {?x ?y};p(1)", b"1 ?y"),
+    (b"@CONST n = 2 + 3;@EXPR n;", b"5"),
+    (b"@CONST n = 5;@CONST n = n * n;@EXPR n;", b"25"),
+    (b"@CONST n = 5;@IF n > 4 {big}", b"big"),
+    (b"@CONST n = 4;@IF n > 4 {big}", b""),
+    (b"@CONST n = 5;@IFDEF n {known}", b"known"),
+    (b"@CONST n = 5;@IFNDEF n {new}", b""),
+    (b"@IRP i (0,1) {b?i,}", b"b0,b1,"),
+    (b"inv MACRO (n) {Y?n = !A?n;};@IRP i (0,1) {inv(?i)}", b"Y0 = !A0;Y1 = !A1;"),
+    (b"@REPEAT 3 {!}", b"!!!"),
+    (b"@REPEAT 0 {a}", b""),
+    (b"@EXPR {q} 2+3;", b"q5"),
+    (b"@EXPR 7 % 4;", b"3"),
+    (b"@EXPR 1 + 2 * 3;", b"7"),
+    (b"@EXPR 8 - 4 - 2;", b"2"),
+    (b"@EXPR -1;", b"4294967295"),
+    (b"@EXPR !0 >> 28;", b"15"),
+    (b"@EXPR 5 & 3 # 8;", b"9"),
+    (b"@EXPR 6 $ 3;", b"5"),
+    (b"@EXPR (2 < 3) + 1;", b"2"),
+    (b"@RADIX 16;@EXPR 0F + 1;", b"@RADIX 16;10"),
+    (b"@RADIX \"two\" 2;", b"@RADIX   2;"),
+    (b"@DCSET @ONSET", b"@DCSET @ONSET"),
+    (b"a.OE = ^hF;", b"a.OE = ^hF;"),
+];
