@@ -1,0 +1,180 @@
+-- The units of a state diagram, with what is refused of each and the nodes that it makes (ABEL-HDL Reference Manual, state
+-- diagrams; units are this project's rule).
+use Rattle.std.specs.Prelude.{ℕ, ◌^◌, ◌==◌, nat_lt, Bool, true, false, not, ◌&&◌, ◌||◌, None, List, [], ◌∷◌, ◌++◌, if◌then◌else◌, length, map}
+use Rattle.std.specs.List.{list_any}
+use Rattle.pld_base.specs.declared.place.Place.{Place}
+use Rattle.bit_expr.specs.Folding.{Made}
+use Rattle.bit_expr.specs.Formulas.{Formula, Const}
+use Rattle.abel_tree.specs.Tree.{Tree, statements_of, Branch, AGoal, AnIf, ACase, OtherBranch, NoBranch, ABranch, Choices, NoChoice, MoreChoices, StateTree}
+use Rattle.abel_meaning.specs.CountedBlocks.{register_literals, choices_nodes, has_other}
+use Rattle.abel_meaning.specs.CountedNodes.{value_nodes, choice_nodes, condition_of, guard_then, guard_else}
+use Rattle.abel_meaning.specs.Designs.{Design}
+use Rattle.abel_meaning.specs.Diagrams.{with_statements}
+use Rattle.abel_meaning.specs.Numbers.{digits}
+use Rattle.abel_meaning.specs.Terms.{Term, Terms, term_of}
+use Rattle.abel_meaning.specs.Terms as term
+use Rattle.abel_meaning.specs.Values.{constant_of}
+use Rattle.set_expr.specs.declared.fault.SectionFault.{SectionFault}
+use Rattle.set_expr.specs.declared.fault.SectionFault.TheVariants.{BadState}
+use Rattle.set_expr.specs.FoundNames.{expression_found}
+use Rattle.set_expr.specs.Refusals.{Found}
+use Rattle.section_targets.specs.declared.aim.Aim.{Aim}
+use Rattle.section_targets.specs.declared.manner.Manner.{Manner}
+use Rattle.section_targets.specs.Manners.{manner_of, aims_refused}
+use Rattle.section_targets.specs.TargetSignals.{TargetFound, target_member}
+use Rattle.section_targets.specs.Units.{CountedUnit}
+use Rattle.section_targets.specs.ValueWidths.{value_refused}
+use Rattle.equations.specs.StatementUnits.{condition_refused, statements_manners, units_of_statements}
+
+-- ---- the header
+
+abbrev pub if_none : List SectionFault → List SectionFault → List SectionFault
+if_none [] more = more
+if_none (x ∷ xs) more = x ∷ xs
+
+-- the registers are targets on the clock, behind what was assigned before
+abbrev pub registers_refused : Design → List Manner → TargetFound → List SectionFault
+registers_refused d before t = if_none t.refusals (aims_refused d before None false true t.aims)
+
+abbrev pub register_manners : TargetFound → List Manner
+register_manners t = map (manner_of None false true) t.aims
+
+abbrev pub signals_of : List Aim → List ℕ
+signals_of aims = map (λ (a : Aim). a.signal) aims
+
+-- ---- the value of a state
+
+-- some signal is read, whether or not the value depends on it
+abbrev mutual
+  pub reads_signal : Term → Bool
+  reads_signal (term.Number n) = false
+  reads_signal term.X = false
+  reads_signal term.Pulse = false
+  reads_signal term.Release = false
+  reads_signal (term.Read s e) = true
+  reads_signal (term.Set ts) = any_reads_signal ts
+  reads_signal (term.UnaryOf sign t) = reads_signal t
+  reads_signal (term.BinaryOf sign t u) = reads_signal t || reads_signal u
+
+  pub any_reads_signal : Terms → Bool
+  any_reads_signal term.NoTerm = false
+  any_reads_signal (term.Before t ts) = reads_signal t || any_reads_signal ts
+
+abbrev pub is_empty : List SectionFault → Bool
+is_empty [] = true
+is_empty (x ∷ xs) = false
+
+-- the number of a state
+abbrev pub state_number : Design → Tree → ℕ
+state_number d v = (constant_of d (term_of d.known v)).number
+
+-- a state of n registers that isn't listed before: a constant without X that n bits hold
+abbrev pub is_state_of : Design → (n : ℕ) → (listed : List ℕ) → (specials : List SectionFault) → Tree → Bool
+is_state_of d n listed specials v =
+    is_empty specials
+    && (not (reads_signal (term_of d.known v))
+    && (nat_lt (state_number d v) (2 ^ n) && not (list_any (λ m. m == state_number d v) listed)))
+
+abbrev pub state_value_refused : Design → Place → (n : ℕ) → (listed : List ℕ) → Found → Tree → List SectionFault
+state_value_refused d p n listed f v =
+    if_none f.refusals (if is_state_of d n listed f.specials v then [] else BadState p ∷ [])
+
+-- a state at its word
+abbrev pub state_refused : Design → (n : ℕ) → (listed : List ℕ) → StateTree → List SectionFault
+state_refused d n listed s = state_value_refused d s.place n listed (expression_found d.names s.value) s.value
+
+-- ---- transitions
+
+-- how the statements of transitions assign signals, in order
+abbrev mutual
+  pub branch_manners : Design → Branch → List Manner
+  branch_manners d (AGoal p value ss) = statements_manners d (with_statements ss)
+  branch_manners d (AnIf p c b other) = branch_manners d b ++ other_manners d other
+  branch_manners d (ACase p cs) = choices_manners d cs
+
+  pub other_manners : Design → OtherBranch → List Manner
+  other_manners d NoBranch = []
+  other_manners d (ABranch b) = branch_manners d b
+
+  pub choices_manners : Design → Choices → List Manner
+  choices_manners d NoChoice = []
+  choices_manners d (MoreChoices c colon b cs) = branch_manners d b ++ choices_manners d cs
+
+abbrev pub branches_manners : Design → List Branch → List Manner
+branches_manners d [] = []
+branches_manners d (b ∷ bs) = branch_manners d b ++ branches_manners d bs
+
+-- the conditions of a CASE, each at its colon
+abbrev pub choices_refused : Design → Choices → List SectionFault
+choices_refused d NoChoice = []
+choices_refused d (MoreChoices c colon b cs) = condition_refused d colon c ++ choices_refused d cs
+
+-- the units of transitions to n registers, under a guard and behind what was assigned before
+abbrev mutual
+  pub units_of_branch : Design → (guard : Formula) → (n : ℕ) → List Manner → Branch → List CountedUnit
+  units_of_branch d g n before (AGoal p value ss) =
+      record { place = p; refusals = value_refused p n (expression_found d.names value); nodes = value_nodes d g n value }
+      ∷ units_of_statements d g before (with_statements ss)
+  units_of_branch d g n before (AnIf p c b other) =
+      record { place = p; refusals = condition_refused d p c; nodes = choice_nodes d g c (has_other other) }
+      ∷ units_of_branch d (guard_then g (condition_of d c)).what n before b
+      ++ units_of_other d (guard_else g (condition_of d c)).what n (before ++ branch_manners d b) other
+  units_of_branch d g n before (ACase p cs) =
+      record { place = p; refusals = choices_refused d cs; nodes = choices_nodes d g cs } ∷ units_of_choices d g n before cs
+
+  pub units_of_other : Design → (guard : Formula) → (n : ℕ) → List Manner → OtherBranch → List CountedUnit
+  units_of_other d g n before NoBranch = []
+  units_of_other d g n before (ABranch b) = units_of_branch d g n before b
+
+  pub units_of_choices : Design → (guard : Formula) → (n : ℕ) → List Manner → Choices → List CountedUnit
+  units_of_choices d g n before NoChoice = []
+  units_of_choices d g n before (MoreChoices c colon b cs) =
+      units_of_branch d (guard_then g (condition_of d c)).what n before b
+      ++ units_of_choices d g n (before ++ branch_manners d b) cs
+
+abbrev pub units_of_branches : Design → (guard : Formula) → (n : ℕ) → List Manner → List Branch → List CountedUnit
+units_of_branches d g n before [] = []
+units_of_branches d g n before (b ∷ bs) =
+    units_of_branch d g n before b ++ units_of_branches d g n (before ++ branch_manners d b) bs
+
+-- ---- states and diagrams
+
+-- the guard of a state, with its nodes
+abbrev pub state_guard : Design → List ℕ → Tree → Made Formula
+state_guard d ss v = register_literals d (Const true) ss (digits (length ss) (state_number d v))
+
+-- how a state's statements and transitions assign signals
+abbrev pub state_manners : Design → StateTree → List Manner
+state_manners d s = statements_manners d (statements_of s.statements) ++ branches_manners d s.transitions
+
+-- what stands in a state, under its guard
+abbrev pub units_within : Design → (guard : Formula) → (n : ℕ) → List Manner → StateTree → List CountedUnit
+units_within d g n before s =
+    units_of_statements d g before (statements_of s.statements)
+    ++ units_of_branches d g n (before ++ statements_manners d (statements_of s.statements)) s.transitions
+
+abbrev pub units_of_state : Design → List ℕ → List Manner → (refusals : List SectionFault) → StateTree → Made Formula
+    → List CountedUnit
+units_of_state d ss before refusals s guard =
+    record { place = s.place; refusals = refusals; nodes = guard.nodes } ∷ units_within d guard.what (length ss) before s
+
+-- states behind those that are listed before
+abbrev pub units_of_states : Design → List ℕ → List Manner → (listed : List ℕ) → List StateTree → List CountedUnit
+units_of_states d ss before listed [] = []
+units_of_states d ss before listed (s ∷ states) =
+    units_of_state d ss before (state_refused d (length ss) listed s) s (state_guard d ss s.value)
+    ++ units_of_states d ss (before ++ state_manners d s) (state_number d s.value ∷ listed) states
+
+-- states stand for no registers that are refused
+abbrev pub units_behind : List SectionFault → Place → List CountedUnit → List CountedUnit
+units_behind [] p us = us
+units_behind (r ∷ rs) p us = record { place = p; refusals = r ∷ rs; nodes = 0 } ∷ []
+
+abbrev pub units_for : Design → List Manner → Place → TargetFound → List StateTree → List CountedUnit
+units_for d before p t states =
+    units_behind (registers_refused d before t) p
+    (units_of_states d (signals_of t.aims) (before ++ register_manners t) [] states)
+
+-- the units of a diagram at this place, behind what was assigned before
+abbrev pub units_of_diagram : Design → List Manner → Place → (registers : Tree) → List StateTree → List CountedUnit
+units_of_diagram d before p registers states = units_for d before p (target_member d registers) states

@@ -1,0 +1,2 @@
+//! What state diagrams contribute to the signals of a source.
+#![tactic(auto)]

@@ -1,0 +1,119 @@
+-- What is refused of truth tables, by computation. a and b are pins, Y and Z outputs, R a registered output, c is the
+-- constant [Y,Z], x is .X., k is .C.; the header stands on line 2, its outputs in its columns.
+use Prim.Native.String.{String}
+use Rattle.std.specs.Prelude.{◌≡◌, ℕ, Bool, true, false, None, Some, List, [], ◌∷◌, codes}
+use Rattle.std.proofs.Common.{refl}
+use Rattle.pld_base.specs.declared.place.Place.{Place}
+use Rattle.pld_device.specs.SampleTable.{sample}
+use Rattle.abel_tree.specs.declared.words.Extension.TheVariants as extension
+use Rattle.abel_tree.specs.Entries.{Kind, APin, AConstant, Words, Entry}
+use Rattle.abel_tree.specs.Tree.{Tree, ANumber, ASpecial, AName, ASet, SetMember, OneMember, members_of, RowTree}
+use Rattle.abel_meaning.specs.Designs.{Design}
+use Rattle.abel_meaning.specs.Terms.{known_of}
+use Rattle.set_expr.specs.declared.fault.SectionFault.{SectionFault}
+use Rattle.set_expr.specs.declared.fault.SectionFault.TheVariants.{MisplacedSpecial, NotAnOutput, MixedAssignment, BadRow}
+use Rattle.section_targets.specs.declared.manner.Manner.{Manner}
+use Rattle.section_targets.specs.Units.{units_refused}
+use Rattle.truth_tables.specs.TableUnits.{units_of_table}
+
+-- a line's first column, and a column of the header
+abbrev row_at : ℕ → Place
+row_at l = record { line = l; column = 1 }
+
+abbrev at : ℕ → Place
+at c = record { line = 2; column = c }
+
+abbrev number : ℕ → Tree
+number n = ANumber (record { value = n; place = at 1 })
+
+abbrev name : ℕ → String → Tree
+name c text = AName (record { text = codes text; place = at c }) None
+
+abbrev ones : List Tree → List SetMember
+ones [] = []
+ones (t ∷ ts) = OneMember t ∷ ones ts
+
+abbrev set : ℕ → List Tree → Tree
+set c ts = ASet (at c) (members_of (ones ts)) None
+
+abbrev unknown : Tree
+unknown = ASpecial 88 (at 9)
+
+abbrev pulse : Tree
+pulse = ASpecial 67 (at 9)
+
+abbrev words : (registered : Bool) → Words
+words true = record { combinational = false; registered = true; buffer = false; invert = true; dc = false }
+words false = record { combinational = true; registered = false; buffer = false; invert = true; dc = false }
+
+abbrev declared : String → Kind → (registered assigned : Bool) → Entry
+declared text kind registered assigned =
+    record { name = codes text; place = at 1; kind = kind; words = words registered; assigned = assigned }
+
+abbrev constant : String → Tree → Entry
+constant text t = declared text (AConstant t) false false
+
+abbrev names : List Entry
+names =
+    declared "a" (APin 1 false) false false ∷ declared "b" (APin 2 false) false false
+    ∷ declared "Y" (APin 8 false) false true ∷ declared "Z" (APin 9 false) false true
+    ∷ constant "c" (set 1 (name 1 "Y" ∷ name 1 "Z" ∷ [])) ∷ constant "x" unknown ∷ constant "k" pulse ∷ []
+
+abbrev design : Design
+design = record { device = sample; names = names; known = known_of names; starts_dontcare = false; sections = [] }
+
+abbrev row : ℕ → (inputs outputs : Tree) → RowTree
+row l inputs outputs = record { place = row_at l; inputs = inputs; clocked = false; outputs = outputs }
+
+abbrev refused_behind : List Manner → (inputs outputs : Tree) → List RowTree → List SectionFault
+refused_behind before inputs outputs rows = units_refused (units_of_table design before (at 1) inputs false outputs rows)
+
+abbrev refused : (inputs outputs : Tree) → List RowTree → List SectionFault
+refused inputs outputs rows = refused_behind [] inputs outputs rows
+
+abbrev inputs : Tree
+inputs = set 2 (name 3 "a" ∷ name 5 "b" ∷ [])
+
+-- ([a,b] -> Y) [0,x] -> 1; 3 -> .X.;
+accepted : refused inputs (name 11 "Y") (row 3 (set 1 (number 0 ∷ name 1 "x" ∷ [])) (number 1) ∷ row 4 (number 3) unknown ∷ []) ≡ []
+accepted = refl
+
+-- ([a,b] -> c) 0 -> 2; by a constant that names signals
+by_constant : refused inputs (name 11 "c") (row 3 (number 0) (number 2) ∷ []) ≡ []
+by_constant = refl
+
+-- ([a,.X.] -> [Y,.X.]) [0,1] -> [1,0]; positions that are X are dropped
+dropped : refused (set 2 (name 3 "a" ∷ unknown ∷ [])) (set 11 (name 12 "Y" ∷ unknown ∷ []))
+    (row 3 (set 1 (number 0 ∷ number 1 ∷ [])) (set 1 (number 1 ∷ number 0 ∷ [])) ∷ []) ≡ []
+dropped = refl
+
+-- a and b are pins without cells
+no_cell : refused (name 3 "Y") (name 11 "a") (row 3 (number 0) (number 0) ∷ []) ≡ NotAnOutput (at 11) (Some 0) ∷ []
+no_cell = refl
+
+-- Y.D is no output of a table, nor is 1, nor .C.
+extended : refused inputs (AName (record { text = codes "Y"; place = at 11 }) (Some extension.D)) [] ≡ NotAnOutput (at 11) (Some 2) ∷ []
+extended = refl
+
+number_out : refused inputs (set 11 (name 12 "Y" ∷ number 1 ∷ [])) [] ≡ NotAnOutput (at 1) None ∷ []
+number_out = refl
+
+pulse_out : refused inputs (set 11 (name 12 "Y" ∷ pulse ∷ [])) [] ≡ MisplacedSpecial (at 9) ∷ []
+pulse_out = refl
+
+-- `!Y = ..` stood before
+two_ways : refused_behind (record { signal = 2; extension = None; complement = true; clocked = false } ∷ []) inputs (name 11 "Y") []
+    ≡ MixedAssignment (at 11) 2 ∷ []
+two_ways = refl
+
+-- [0,k] -> 1; 0 -> .C.; no row of a table has .C.
+pulse_rows : refused inputs (name 11 "Y") (row 3 (set 1 (number 0 ∷ name 1 "k" ∷ [])) (number 1) ∷ row 4 (number 0) pulse ∷ [])
+    ≡ BadRow (row_at 3) ∷ BadRow (row_at 4) ∷ []
+pulse_rows = refl
+
+-- 0 :> 1; under ->, [0] -> 1;, 0 -> a;
+bad_rows : refused inputs (name 11 "Y")
+    (record { place = row_at 3; inputs = number 0; clocked = true; outputs = number 1 }
+    ∷ row 4 (set 1 (number 0 ∷ [])) (number 1) ∷ row 5 (number 0) (name 1 "a") ∷ [])
+    ≡ BadRow (row_at 3) ∷ BadRow (row_at 4) ∷ BadRow (row_at 5) ∷ []
+bad_rows = refl

@@ -1,0 +1,2 @@
+pub mod OutputHeaders
+pub mod TableUnits

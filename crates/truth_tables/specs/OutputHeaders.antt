@@ -1,0 +1,94 @@
+-- The outputs of a table's header with their places, and what is refused of it (ABEL-HDL Reference Manual, truth tables;
+-- a position that is X is no output: this project's rule).
+use Rattle.std.specs.Prelude.{ℕ, Bool, true, false, ◌&&◌, Option, None, Some, List, [], ◌∷◌, ◌++◌, length, map, if◌then◌else◌, bytes_eq, codes}
+use Rattle.std.specs.Option.{option_map}
+use Rattle.pld_base.specs.declared.place.Place.{Place}
+use Rattle.abel_tree.specs.Entries.{find}
+use Rattle.abel_tree.specs.Ranges.{range_names}
+use Rattle.abel_tree.specs.Tree.{Tree, ANumber, ASpecial, AName, ASet, AParen, AUnary, ABinary, SetMember, OneMember, SpanMember, Members, NoMember, MoreMembers}
+use Rattle.abel_meaning.specs.Designs.{Design}
+use Rattle.abel_meaning.specs.Targets.{targets_of}
+use Rattle.abel_meaning.specs.Terms.{Term, Terms, term_named}
+use Rattle.abel_meaning.specs.Terms as term
+use Rattle.set_expr.specs.declared.fault.SectionFault.{SectionFault}
+use Rattle.set_expr.specs.declared.fault.SectionFault.TheVariants.{MisplacedSpecial, NotAnOutput}
+use Rattle.set_expr.specs.Answer.{first_place}
+use Rattle.set_expr.specs.FoundNames.{name_found, names_found, found_use}
+use Rattle.set_expr.specs.Refusals.{too_wide}
+use Rattle.section_targets.specs.declared.aim.Aim.{Aim}
+use Rattle.section_targets.specs.TargetSignals.{first_name}
+
+-- what is found of an output header: its refusals, and its positions from the left, none at X
+pub record HeaderFound : Type 0 where
+  pub refusals : List SectionFault
+  pub outputs : List (Option Aim)
+
+-- a term is a signal without extension, X, or a set of such
+abbrev mutual
+  pub names_outputs : Term → Bool
+  names_outputs term.X = true
+  names_outputs (term.Read s None) = true
+  names_outputs (term.Set ts) = all_name_outputs ts
+  names_outputs _ = false
+
+  pub all_name_outputs : Terms → Bool
+  all_name_outputs term.NoTerm = true
+  all_name_outputs (term.Before t ts) = names_outputs t && all_name_outputs ts
+
+abbrev pub header_refused : SectionFault → HeaderFound
+header_refused r = record { refusals = r ∷ []; outputs = [] }
+
+-- the positions that a term has, all at this place
+abbrev pub outputs_at : Place → List (Option ℕ) → List (Option Aim)
+outputs_at p ss = map (λ (s : Option ℕ). option_map (λ k. record { signal = k; place = p }) s) ss
+
+abbrev pub no_outputs : Place → Option ℕ → Term → List SectionFault
+no_outputs p name t = if names_outputs t then [] else NotAnOutput p name ∷ []
+
+-- a name at its place
+abbrev pub header_name : Design → Place → List ℕ → HeaderFound
+header_name d p text =
+    record {
+      refusals = (found_use p (name_found (names_found d.names) text)).refusals
+          ++ no_outputs p (find d.names text) (term_named d.known text);
+      outputs = outputs_at p (targets_of (term_named d.known text));
+    }
+
+abbrev pub both_headers : HeaderFound → HeaderFound → HeaderFound
+both_headers x y = record { refusals = x.refusals ++ y.refusals; outputs = x.outputs ++ y.outputs }
+
+-- a set at its bracket
+abbrev pub header_set : Place → HeaderFound → HeaderFound
+header_set p x = record x { refusals = x.refusals ++ too_wide p (length x.outputs) }
+
+-- the names of a range, all at the place of its first end
+abbrev pub header_range : Design → Place → List (List ℕ) → HeaderFound
+header_range d p [] = record { refusals = []; outputs = [] }
+header_range d p (name ∷ names) = both_headers (header_name d p name) (header_range d p names)
+
+-- `.X.` is a position, `.C.` and `.Z.` are not
+abbrev pub header_special : (letter : ℕ) → Place → HeaderFound
+header_special letter p =
+    if bytes_eq (letter ∷ []) (codes "X") then record { refusals = []; outputs = None ∷ [] }
+    else header_refused (MisplacedSpecial p)
+
+-- what is found of an output header, and of each member of one
+abbrev mutual
+  pub output_header : Design → Tree → HeaderFound
+  output_header d (ANumber n) = header_refused (NotAnOutput n.place None)
+  output_header d (ASpecial letter p) = header_special letter p
+  output_header d (AName word None) = header_name d word.place word.text
+  output_header d (AName word (Some e)) = header_refused (NotAnOutput word.place (find d.names word.text))
+  output_header d (ASet p ms None) = header_set p (output_members d ms)
+  output_header d (ASet p ms (Some e)) = header_refused (NotAnOutput p None)
+  output_header d (AParen p t) = output_header d t
+  output_header d (AUnary sign p t) = header_refused (NotAnOutput p None)
+  output_header d (ABinary sign p t u) = header_refused (NotAnOutput (first_place t) (first_name d.names t))
+
+  pub output_members : Design → Members → HeaderFound
+  output_members d NoMember = record { refusals = []; outputs = [] }
+  output_members d (MoreMembers m ms) = both_headers (output_member d m) (output_members d ms)
+
+  pub output_member : Design → SetMember → HeaderFound
+  output_member d (OneMember t) = output_header d t
+  output_member d (SpanMember first last) = header_range d first.place (range_names first.text last.text)

@@ -1,0 +1,103 @@
+-- The units of a truth table, with what is refused of each and the nodes that it makes (ABEL-HDL Reference Manual, truth
+-- tables; units are this project's rule).
+use Rattle.std.specs.Prelude.{ℕ, Bool, false, Option, None, Some, List, [], ◌∷◌, ◌++◌, if◌then◌else◌}
+use Rattle.pld_base.specs.declared.place.Place.{Place}
+use Rattle.abel_tree.specs.Tree.{Tree, RowTree}
+use Rattle.bit_expr.specs.Formulas.{differ}
+use Rattle.abel_meaning.specs.CountedBlocks.{table_units}
+use Rattle.abel_meaning.specs.Designs.{Design}
+use Rattle.abel_meaning.specs.Rows.{entry_levels}
+use Rattle.abel_meaning.specs.Terms.{Term, term_of}
+use Rattle.set_expr.specs.declared.fault.SectionFault.{SectionFault}
+use Rattle.set_expr.specs.declared.fault.SectionFault.TheVariants.{BadRow}
+use Rattle.set_expr.specs.FoundNames.{names_found, expression_found}
+use Rattle.row_entries.specs.RowEntries.{holds_pulse, entry_refused}
+use Rattle.section_targets.specs.declared.aim.Aim.{Aim}
+use Rattle.section_targets.specs.declared.manner.Manner.{Manner}
+use Rattle.section_targets.specs.Manners.{aims_refused}
+use Rattle.section_targets.specs.Units.{CountedUnit}
+use Rattle.truth_tables.specs.OutputHeaders.{HeaderFound, output_header}
+
+-- the outputs alone
+abbrev pub some_aims : List (Option Aim) → List Aim
+some_aims [] = []
+some_aims (None ∷ xs) = some_aims xs
+some_aims (Some a ∷ xs) = a ∷ some_aims xs
+
+abbrev pub if_none : List SectionFault → List SectionFault → List SectionFault
+if_none [] more = more
+if_none (x ∷ xs) more = x ∷ xs
+
+-- ---- refusals
+
+-- the outputs are assigned by their names, on the clock or not, behind what was assigned before
+abbrev pub outputs_refused : Design → List Manner → (clocked : Bool) → HeaderFound → List SectionFault
+outputs_refused d before clocked h =
+    if_none h.refusals (aims_refused d before None false clocked (some_aims h.outputs))
+
+-- both sides of a header
+abbrev pub header_refused : Design → List Manner → (clocked : Bool) → (inputs outputs : Tree) → List SectionFault
+header_refused d before clocked inputs outputs =
+    (expression_found d.names inputs).refusals ++ outputs_refused d before clocked (output_header d outputs)
+
+-- `.C.` and `.Z.` stand in no row of a table
+abbrev pub level_refused : Design → (r : SectionFault) → (header : Term) → Tree → List SectionFault
+level_refused d r h t = if holds_pulse (names_found d.names) t then r ∷ [] else entry_refused d r h t
+
+-- a row has the arrow of its header
+abbrev pub arrow_refused : (r : SectionFault) → (clocked row_clocked : Bool) → List SectionFault
+arrow_refused r clocked row_clocked = if differ clocked row_clocked then r ∷ [] else []
+
+abbrev pub row_refused : Design → (clocked : Bool) → (inputs outputs : Term) → RowTree → List SectionFault
+row_refused d clocked inputs outputs row =
+    arrow_refused (BadRow row.place) clocked row.clocked
+    ++ (level_refused d (BadRow row.place) inputs row.inputs ++ level_refused d (BadRow row.place) outputs row.outputs)
+
+-- ---- units
+
+-- rows with the nodes of each
+abbrev pub row_units : Design → (clocked : Bool) → (inputs outputs : Term) → List RowTree → List ℕ → List CountedUnit
+row_units d clocked inputs outputs [] ns = []
+row_units d clocked inputs outputs (row ∷ rows) [] = []
+row_units d clocked inputs outputs (row ∷ rows) (n ∷ ns) =
+    record { place = row.place; refusals = row_refused d clocked inputs outputs row; nodes = n }
+    ∷ row_units d clocked inputs outputs rows ns
+
+-- rows meet no header that is refused
+abbrev pub units_behind : List SectionFault → Place → List CountedUnit → List CountedUnit
+units_behind [] p us = us
+units_behind (r ∷ rs) p us = record { place = p; refusals = r ∷ rs; nodes = 0 } ∷ []
+
+-- the units of a table at this place
+abbrev pub units_of_table : Design → List Manner → Place → (inputs : Tree) → (clocked : Bool) → (outputs : Tree)
+    → List RowTree → List CountedUnit
+units_of_table d before p inputs clocked outputs rows =
+    units_behind (header_refused d before clocked inputs outputs) p
+    (row_units d clocked (term_of d.known inputs) (term_of d.known outputs) rows (table_units d inputs rows))
+
+-- ---- where what a table gives stands: at the outputs of its header
+
+-- one or any, and the match
+abbrev pub places_for : Aim → Option Bool → List Place
+places_for a None = a.place ∷ a.place ∷ []
+places_for a (Some level) = if level then a.place ∷ a.place ∷ [] else a.place ∷ []
+
+abbrev pub row_places : List (Option Aim) → List (Option Bool) → List Place
+row_places [] ls = []
+row_places (x ∷ xs) [] = []
+row_places (None ∷ xs) (l ∷ ls) = row_places xs ls
+row_places (Some a ∷ xs) (l ∷ ls) = places_for a l ++ row_places xs ls
+
+abbrev pub rows_places : Design → List (Option Aim) → (outputs : Term) → List RowTree → List Place
+rows_places d xs outputs [] = []
+rows_places d xs outputs (row ∷ rows) =
+    row_places xs (entry_levels d outputs (term_of d.known row.outputs)) ++ rows_places d xs outputs rows
+
+abbrev pub places_of : List Aim → List Place
+places_of [] = []
+places_of (a ∷ aims) = a.place ∷ places_of aims
+
+abbrev pub table_places : Design → (outputs : Tree) → List RowTree → List Place
+table_places d outputs rows =
+    places_of (some_aims (output_header d outputs).outputs)
+    ++ rows_places d (output_header d outputs).outputs (term_of d.known outputs) rows

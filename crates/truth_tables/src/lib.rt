@@ -1,0 +1,2 @@
+//! What truth tables contribute to the signals of a source.
+#![tactic(auto)]
