@@ -215,4 +215,5 @@ totals_given fs new cs s totals are = record {
   enable = control_given fs new cs s extension.Oe totals.controls.enable are.controls.enable;
   reset = control_given fs new cs s extension.Ar totals.controls.reset are.controls.reset;
   preset = control_given fs new cs s extension.Sp totals.controls.preset are.controls.preset;
+  place = are.place ∙ ap (λ o. option_map (λ (c : Contribution). c.place) o) (found_in_turn (is_to s) (λ (c : Contribution). is_data c.target.extension) cs);
 }

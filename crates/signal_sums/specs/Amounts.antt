@@ -13,6 +13,7 @@ use Rattle.abel_meaning.specs.FormulaBits.{formulas}
 use Rattle.abel_meaning.specs.Functions.{function_of, is_raw_signal}
 use Rattle.abel_meaning.specs.Netlists.{plain_function, plain_control}
 use Rattle.abel_meaning.specs.SoundIds.{IsFunctionIn, IsControlIn}
+use Rattle.abel_meaning.specs.Targets.{is_data}
 use Rattle.set_expr.specs.Given.{view_contribution}
 use Rattle.set_expr.specs.declared.contributions.Contribution.{Contribution}
 use Rattle.signal_sums.specs.Parts.{is_to}
@@ -25,6 +26,10 @@ contributions_in fs cs = map (view_contribution fs) cs
 -- the first contribution to a control of the signal
 abbrev pub first_target : ℕ → Extension → List Contribution → Option Contribution
 first_target s e cs = find (λ (c : Contribution). is_to s c && is_the_control e c.target.extension) cs
+
+-- the first contribution of data to the signal
+abbrev pub first_data : ℕ → List Contribution → Option Contribution
+first_data s cs = find (λ (c : Contribution). is_to s c && is_data c.target.extension) cs
 
 -- the place of a control, and of a contribution
 abbrev pub control_place : Option Control → Option Place
@@ -39,7 +44,8 @@ pub record IsControlGiven (old new : List Formula) (cs : List Contribution) (s :
   pub inside : IsControlIn (length new) control
   pub place : control_place control ≡ target_place (first_target s e cs)
 
--- function and controls in the second arena are the signal's by contributions in the first
+-- function and controls in the second arena are the signal's by contributions in the first, with the place of the first
+-- data
 pub record AreGiven (old new : List Formula) (cs : List Contribution) (s : ℕ) (totals : Totals) : Type 0 where
   pub function : (d : Design) → plain_function new totals.function ≡ function_of (formulas d) (contributions_in old cs) s
   pub inside : IsFunctionIn (length new) totals.function
@@ -47,3 +53,4 @@ pub record AreGiven (old new : List Formula) (cs : List Contribution) (s : ℕ) 
   pub enable : IsControlGiven old new cs s extension.Oe totals.controls.enable
   pub reset : IsControlGiven old new cs s extension.Ar totals.controls.reset
   pub preset : IsControlGiven old new cs s extension.Sp totals.controls.preset
+  pub place : totals.place ≡ target_place (first_data s cs)

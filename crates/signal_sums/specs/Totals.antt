@@ -1,6 +1,7 @@
 -- Private: what the contributions to one signal amount to, as bits of an arena that has grown (this project's rule).
 use Rattle.std.specs.Prelude.{◌≡◌, ◌<◌, ◌&&◌, Option, None, Some, List, length, find}
 use Rattle.std.specs.List.{list_any}
+use Rattle.std.specs.Option.{option_map}
 use Rattle.bit_expr.specs.declared.netlist.Control.{Control}
 use Rattle.bit_expr.specs.declared.netlist.Function.{Function}
 use Rattle.bit_expr.specs.Arena.{formula_at}
@@ -45,8 +46,9 @@ pub record AreControlsOf (old new : List Formula) (own : List Contribution) (con
   pub reset : IsControlOf old new own extension.Ar controls.reset
   pub preset : IsControlOf old new own extension.Sp controls.preset
 
--- function and controls
+-- function and controls, and the place of the first data
 pub record AreTotalsOf (old new : List Formula) (own : List Contribution) (totals : Totals) : Type 0 where
   pub function : IsFunctionOf old new own totals.function
   pub raw : totals.raw ≡ list_any (λ (c : Contribution). is_raw c.target.extension) own
   pub controls : AreControlsOf old new own totals.controls
+  pub place : totals.place ≡ option_map (λ (c : Contribution). c.place) (find (λ (c : Contribution). is_data c.target.extension) own)

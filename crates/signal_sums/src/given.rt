@@ -1,13 +1,13 @@
 //! The contributions to one signal.
 
-ghost use Rattle.std.specs.Prelude.{◌≡◌, ◌&&◌, ◌||◌, not, is_some, IfOk, filter, find, take};
+ghost use Rattle.std.specs.Prelude.{◌≡◌, ◌&&◌, ◌||◌, not, is_some, IfOk, filter, find, take, option_map};
 ghost use Rattle.std.specs.List.{list_any, list_all};
 ghost use Rattle.abel_meaning.specs.Targets.{is_data, is_raw};
 ghost use Rattle.set_expr.specs.declared.contributions.Contribution.{Contribution};
 ghost use Rattle.signal_sums.specs.Parts.{is_to, is_for, is_free_one, is_free};
 
 use crate::parts::{Part, is_data, is_for, is_raw};
-use pld_base::OutOfMemory;
+use pld_base::{OutOfMemory, Place};
 use set_expr::Contribution;
 use std::alloc::Global;
 
@@ -75,4 +75,14 @@ pub(crate) fn has_raw(list: &[Contribution]) -> bool
     ensures { result ≡ list_any (λ (c : Contribution). is_raw c.target.extension) list.now }
 {
     list.iter().any(|given| is_raw(given.target.extension))
+}
+
+/// The place of the first data.
+pub(crate) fn first_place(list: &[Contribution]) -> Option<Place>
+    ensures { result ≡ option_map (λ (c : Contribution). c.place)
+        (find (λ (c : Contribution). is_data c.target.extension) list.now) }
+{
+    list.iter()
+        .find(|given| is_data(given.target.extension))
+        .map(|given| given.place)
 }

@@ -7,7 +7,7 @@ ghost use Rattle.signal_sums.specs.Amounts.{AreGiven};
 ghost use Rattle.signal_sums.specs.Parts.{AllLieIn, Stands};
 ghost use Rattle.signal_sums.specs.Totals.{IsFunctionOf, IsControlOf, AreControlsOf, AreTotalsOf};
 
-use crate::given::{first_for, given_to, has_raw, is_complement};
+use crate::given::{first_for, first_place, given_to, has_raw, is_complement};
 use crate::parts::{Part, is_data};
 use crate::sums::{any_bit, part_bit, part_sum};
 use abel_tree::Extension;
@@ -24,13 +24,14 @@ pub struct Controls {
     pub preset: Option<Control>,
 }
 
-/// All that is given to a signal: its function, whether this is of the raw input of its register, and its
-/// controls.
+/// All that is given to a signal: its function, whether this is of the raw input of its register, its
+/// controls, and the place of its first data target, if it has one.
 #[derive(Clone, Copy, Debug, PartialEq, Eq)]
 pub struct Totals {
     pub function: Function,
     pub raw: bool,
     pub controls: Controls,
+    pub place: Option<Place>,
 }
 
 /// The function by the contributions to one signal.
@@ -117,6 +118,7 @@ fn totals_of(exprs: &mut Exprs, own: &[Contribution]) -> Result<Totals, OutOfMem
         function,
         raw: has_raw(own),
         controls,
+        place: first_place(own),
     })
 }
 

@@ -82,6 +82,7 @@ fn equations_are_summed_by_what_they_are_for(rt: HostRuntime) -> Result<(), Fail
     assert_eq!(rt; totals.function.one, ZERO);
     assert_eq!(rt; totals.function.any, ONE);
     assert!(rt; !totals.function.complement && !totals.raw);
+    assert!(rt; totals.place == Some(Place { line: 1, column: 1 }));
     assert!(rt; totals.controls.reset.is_none() && totals.controls.preset.is_none());
     match totals.controls.enable {
         Some(enable) => {

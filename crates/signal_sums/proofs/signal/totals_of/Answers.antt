@@ -7,4 +7,5 @@ returns-clause-totals c = record {
   function = function_on c.args.own.now (arena c.args.exprs.now) (arena c.function_of.new.exprs) (arena c.controls_of.new.exprs) c.in_ok-function.function c.in_ok-controls.ensures.stands c.in_ok-function.ensures.function;
   raw = c.has_raw.ensures;
   controls = controls_from c.args.own.now (arena c.args.exprs.now) (arena c.function_of.new.exprs) (arena c.controls_of.new.exprs) c.in_ok-controls.controls c.in_ok-function.ensures.stands c.requires c.in_ok-controls.ensures.controls;
+  place = c.first_place.ensures;
 }
