@@ -1,0 +1,10 @@
+-- The pairs so far stand there.
+use Rattle.std.proofs.Common.{◌≡◌, ◌<◌, ℕ, get_or, length}
+use Rattle.abel_meaning.specs.SoundIds.{no_pair, pair_of_cell}
+use Rattle.gathering.proofs.pairs.pairs_of_cells.Given as goal
+
+abbrev pub invariant-loop-cell : goal.invariant-loop-cell
+invariant-loop-cell g l = record {
+  long : length l.pairs ≡ 25;
+  pairs : (n : ℕ) → n < l.cell → get_or l.pairs n no_pair ≡ pair_of_cell g.D.Device.table n;
+}

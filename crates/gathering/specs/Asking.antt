@@ -1,0 +1,59 @@
+-- Private: what names ask of nodes and cells, as ids of an arena that grows (this project's rule).
+use Rattle.std.specs.Prelude.{◌≡◌, ℕ, Bool, true, false, ◌&&◌, Option, None, List, All, length, map, unwrap_or}
+use Rattle.pld_device.specs.declared.enable.Enable.{Enable}
+use Rattle.pld_device.specs.declared.enable.Enable.TheVariants.{Row, PinLow}
+use Rattle.pld_device.specs.Table.{Table, cell_at}
+use Rattle.bit_expr.specs.declared.netlist.CellWanted.{CellWanted}
+use Rattle.bit_expr.specs.declared.netlist.Control.{Control}
+use Rattle.bit_expr.specs.Formulas.{Formula}
+use Rattle.abel_tree.specs.Entries.{Kind, ANode, Entry}
+use Rattle.abel_meaning.specs.Designs.{Design, is_stored}
+use Rattle.abel_meaning.specs.Netlists.{plain_function, plain_wanted}
+use Rattle.abel_meaning.specs.SoundIds.{IsFunctionIn, IsCellIn}
+use Rattle.abel_meaning.specs.SourceLogic.{is_negated}
+use Rattle.set_expr.specs.declared.contributions.Contribution.{Contribution}
+use Rattle.signal_sums.specs.declared.signal.Totals.{Totals}
+use Rattle.signal_sums.specs.Amounts.{contributions_in}
+use Rattle.gathered.specs.Gathered.{cells_from, nodes_from}
+use Rattle.gathering.specs.declared.asked.Asked.{Asked}
+use Rattle.gathering.specs.Placed.{IsPlaced}
+
+-- the name is a node
+abbrev pub is_node_kind : Kind → Bool
+is_node_kind (ANode n) = true
+is_node_kind _ = false
+
+-- an enable of its own, where the cell's enable is a row
+abbrev pub control_by_row : Enable → Option Control → Option Control
+control_by_row (Row row) control = control
+control_by_row (PinLow pin) control = None
+
+-- a control of a signal that is stored
+abbrev pub control_if : Bool → Option Control → Option Control
+control_if true control = control
+control_if false control = None
+
+-- what a signal asks of its cell, by all that is given to it
+abbrev pub asked_cell : Table → (cell name : ℕ) → Entry → Totals → CellWanted
+asked_cell t c s x totals =
+    record {
+      cell = c;
+      name = s;
+      place = unwrap_or totals.place x.place;
+      registered = is_stored x;
+      buffer = x.words.buffer;
+      negated = is_negated x.kind;
+      raw = is_stored x && totals.raw;
+      function = totals.function;
+      enable = control_by_row (cell_at t c).enable totals.controls.enable;
+      reset = control_if (is_stored x) totals.controls.reset;
+      preset = control_if (is_stored x) totals.controls.preset;
+    }
+
+-- what is asked, over the second arena, is the netlist of these names by contributions over the first
+pub record Asks (t : Table) (first now : List Formula) (cs : List Contribution) (xs : List Entry) (asked : Asked) : Type 0 where
+  pub nodes : (d : Design) → map (plain_function now) asked.nodes.items ≡ nodes_from d (contributions_in first cs) 0 xs
+  pub cells : (d : Design) → d.device ≡ t → map (plain_wanted now) asked.cells.items ≡ cells_from d (contributions_in first cs) 0 xs
+  pub nodes_in : All (IsFunctionIn (length now)) asked.nodes.items
+  pub cells_in : All (IsCellIn (length now)) asked.cells.items
+  pub places : All (IsPlaced cs) asked.cells.items

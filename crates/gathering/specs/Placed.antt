@@ -1,0 +1,28 @@
+-- Where the ids of a netlist lie, and where its cells and controls stand in the source (this project's rule).
+use Rattle.std.specs.Prelude.{◌≡◌, ℕ, Option, Some, List, All, length}
+use Rattle.pld_base.specs.declared.place.Place.{Place}
+use Rattle.bit_expr.specs.declared.netlist.CellWanted.{CellWanted}
+use Rattle.bit_expr.specs.declared.netlist.Control.{Control}
+use Rattle.bit_expr.specs.declared.netlist.Netlist.{Netlist}
+use Rattle.bit_expr.specs.Arena.{arena}
+use Rattle.abel_tree.specs.declared.words.Extension.{Extension}
+use Rattle.abel_tree.specs.declared.words.Extension.TheVariants as extension
+use Rattle.abel_meaning.specs.SoundIds.{IsFunctionIn, IsCellIn}
+use Rattle.set_expr.specs.declared.contributions.Contribution.{Contribution}
+use Rattle.signal_sums.specs.Amounts.{first_data, first_target, target_place}
+
+-- all ids of a netlist lie in its arena
+pub record AreIdsIn (net : Netlist) : Type 0 where
+  pub nodes : All (IsFunctionIn (length (arena net.exprs))) net.nodes
+  pub cells : All (IsCellIn (length (arena net.exprs))) net.cells
+
+-- a control that is there stands at its first target
+abbrev pub IsControlPlaced : List Contribution → ℕ → Extension → Option Control → Type 0
+IsControlPlaced cs s e control = (c : Control) → control ≡ Some c → target_place (first_target s e cs) ≡ Some c.place
+
+-- a cell stands at the first data target of its signal, its controls at theirs
+pub record IsPlaced (cs : List Contribution) (w : CellWanted) : Type 0 where
+  pub place : (p : Place) → target_place (first_data w.name cs) ≡ Some p → w.place ≡ p
+  pub enable : IsControlPlaced cs w.name extension.Oe w.enable
+  pub reset : IsControlPlaced cs w.name extension.Ar w.reset
+  pub preset : IsControlPlaced cs w.name extension.Sp w.preset

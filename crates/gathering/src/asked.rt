@@ -1,0 +1,90 @@
+//! What signals ask of nodes and cells.
+
+ghost use Rattle.std.specs.Prelude.{◌≡◌, ◌<◌, ◌++◌, ◌∷◌, [], List, length, OnOk, if◌then◌else◌, None};
+ghost use Rattle.bit_expr.specs.Arena.{arena};
+ghost use Rattle.bit_expr.specs.Formulas.{Formula};
+ghost use Rattle.abel_tree.specs.Entries.{Entry, view_declared};
+ghost use Rattle.signal_sums.specs.Parts.{AllLieIn, Stands};
+ghost use Rattle.gathering.specs.Asking.{Asks, asked_cell, control_by_row, control_if};
+
+use crate::names::{cell_of, has_buffer, is_negated, is_node, is_stored};
+use abel_tree::Declared;
+use bit_expr::{CellWanted, Control, Exprs, Function};
+use pld_base::OutOfMemory;
+use pld_device::{Device, Enable};
+use set_expr::Contribution;
+use signal_sums::{Totals, sum_up};
+use std::alloc::Global;
+
+/// What the names that were passed ask of nodes and cells.
+#[derive(Drop)]
+pub(crate) struct Asked {
+    pub(crate) nodes: Vec<Function>,
+    pub(crate) cells: Vec<CellWanted>,
+}
+
+/// The enable of a cell that a row enables.
+fn by_row(enable: Enable, control: Option<Control>) -> Option<Control>
+    ensures { result ≡ control_by_row enable control }
+{
+    match enable {
+        Enable::Row(_) => control,
+        Enable::PinLow(_) => None,
+    }
+}
+
+/// The control of a signal that is stored.
+fn control_if(stored: bool, control: Option<Control>) -> Option<Control>
+    ensures { result ≡ control_if stored control }
+{
+    if stored { control } else { None }
+}
+
+/// What a signal asks of its cell.
+fn asked_cell<D: Device>(cell: u8, name: u32, declared: &Declared, totals: &Totals) -> CellWanted
+    requires { cell < length D.table.cells }
+    ensures { result ≡ asked_cell D.table cell name (view_declared declared.now) totals.now }
+{
+    let stored = is_stored(declared);
+    CellWanted {
+        cell,
+        name,
+        place: totals.place.unwrap_or(declared.place),
+        registered: stored,
+        buffer: has_buffer(declared.attributes),
+        negated: is_negated(&declared.meaning),
+        raw: stored && totals.raw,
+        function: totals.function,
+        enable: by_row(D::cell(cell).enable, totals.controls.enable),
+        reset: control_if(stored, totals.controls.reset),
+        preset: control_if(stored, totals.controls.preset),
+    }
+}
+
+/// Adds what one name more asks, by all that is contributed. A name that is no node and has no cell takes no time.
+pub(crate) fn ask<D: Device>(
+    alloc: Global,
+    exprs: &mut Exprs,
+    list: &[Contribution],
+    name: u32,
+    declared: &Declared,
+    asked: &mut Asked,
+) -> Result<(), OutOfMemory>
+    requires { AllLieIn (length (arena exprs.old)) list.now }
+    ensures asks { OnOk result ((first : List Formula) (xs : List Entry) → Stands first (arena exprs.old)
+        → AllLieIn (length first) list.now → name ≡ length xs
+        → Asks D.table first (arena exprs.old) list.now xs asked.old
+        → Asks D.table first (arena exprs.new) list.now (xs ++ view_declared declared.now ∷ []) asked.new) }
+    ensures stands { OnOk result (Stands (arena exprs.old) (arena exprs.new)) }
+{
+    if is_node(&declared.meaning) {
+        let totals = sum_up(alloc, exprs, list, name)?;
+        asked.nodes.push(totals.function)?;
+    } else if let Some(cell) = cell_of::<D>(declared) {
+        let totals = sum_up(alloc, exprs, list, name)?;
+        asked
+            .cells
+            .push(asked_cell::<D>(cell, name, declared, &totals))?;
+    }
+    Ok(())
+}

@@ -1,0 +1,86 @@
+//! The netlist of all names.
+
+ghost use Rattle.std.specs.Prelude.{◌≡◌, ◌<◌, ◌+◌, All, [], ℕ, length, IfOk, OnOk, get_or};
+ghost use Rattle.bit_expr.specs.Arena.{arena};
+ghost use Rattle.abel_tree.specs.Entries.{entries_of};
+ghost use Rattle.abel_meaning.specs.Designs.{Design};
+ghost use Rattle.abel_meaning.specs.Netlists.{plain_netlist};
+ghost use Rattle.abel_meaning.specs.SoundIds.{no_pair, pair_of_cell, pair_of_pin};
+ghost use Rattle.set_expr.specs.Answer.{IsDesignOf};
+ghost use Rattle.set_expr.specs.Given.{given};
+ghost use Rattle.signal_sums.specs.Parts.{AllLieIn, Stands};
+ghost use Rattle.gathered.specs.Gathered.{gathered_from};
+ghost use Rattle.gathering.specs.Asking.{Asks};
+ghost use Rattle.gathering.specs.Placed.{AreIdsIn, IsPlaced};
+
+use crate::asked::{Asked, ask};
+use crate::pairs::{pairs_of_cells, pairs_of_pins};
+use abel_tree::Names;
+use bit_expr::{Exprs, Netlist};
+use pld_base::{ListOf, OutOfMemory};
+use pld_device::Device;
+use set_expr::{Contribution, Contributions};
+use std::alloc::Global;
+
+/// The next number of a name; so many names that there is none are more than memory holds.
+fn next(number: u32) -> Result<u32, OutOfMemory>
+    ensures { IfOk result (λ n. n ≡ number + 1) }
+{
+    match number.checked_add(1) {
+        Some(next) => Ok(next),
+        None => Err(OutOfMemory),
+    }
+}
+
+/// What all names ask.
+fn ask_all<D: Device>(
+    alloc: Global,
+    exprs: &mut Exprs,
+    list: &[Contribution],
+    names: &Names,
+) -> Result<Asked, OutOfMemory>
+    requires { AllLieIn (length (arena exprs.old)) list.now }
+    ensures { IfOk result (λ asked.
+        Asks D.table (arena exprs.old) (arena exprs.new) list.now (entries_of names.now) asked) }
+{
+    let mut asked = Asked {
+        nodes: Vec::new(alloc),
+        cells: Vec::new(alloc),
+    };
+    let mut number = 0u32;
+    for declared in names.list.as_slice() {
+        ask::<D>(alloc, exprs, list, number, declared, &mut asked)?;
+        number = next(number)?;
+    }
+    Ok(asked)
+}
+
+/// The netlist of a module's names for a device, by all that the sections contribute: the functions of the nodes,
+/// and what each assigned signal asks of its cell, over the arena of the contributions. Only nodes and assigned
+/// pins of cells are summed up, each in the time of the list.
+pub fn gather_up<D: Device>(
+    alloc: Global,
+    names: &Names,
+    found: Contributions,
+) -> Result<Netlist, OutOfMemory>
+    requires { AllLieIn (length (arena found.exprs)) found.list }
+    ensures netlist { IfOk result (λ net. (d : Design) → IsDesignOf D.table names.now d
+        → plain_netlist net ≡ gathered_from d (given found)) }
+    ensures ids { IfOk result (λ net. AreIdsIn net) }
+    ensures places { IfOk result (λ net. All (IsPlaced found.list) net.cells) }
+    ensures pins { IfOk result (λ net.
+        (p : ℕ) → p < 25 → get_or net.pair_of_pin p no_pair ≡ pair_of_pin D.table p) }
+    ensures registers { IfOk result (λ net.
+        (c : ℕ) → c < 25 → get_or net.pair_of_cell c no_pair ≡ pair_of_cell D.table c) }
+{
+    let mut exprs = found.exprs;
+    let list = found.list;
+    let asked = ask_all::<D>(alloc, &mut exprs, list.as_slice(), names)?;
+    Ok(Netlist {
+        exprs,
+        nodes: ListOf::from_vec(asked.nodes),
+        cells: ListOf::from_vec(asked.cells),
+        pair_of_pin: pairs_of_pins::<D>(),
+        pair_of_cell: pairs_of_cells::<D>(),
+    })
+}
