@@ -1,2 +1,3 @@
-mod Pushed
+mod LinkedEnds
 mod Places
+mod Pushed

@@ -28,7 +28,11 @@ use Rattle.signal_sums.specs.Parts.{AllLieIn, Stands}
 use Rattle.signal_sums.proofs.GrowingSums.{same_formula}
 use Rattle.gathered.specs.Gathered.{by_row, wanted_for, cell_of, cell_by, and_cell, cells_from, and_node, nodes_from}
 use Rattle.gathering.specs.declared.asked.Asked.{Asked}
-use Rattle.gathering.specs.Asking.{is_node_kind, control_by_row, control_if, asked_cell, Asks}
+use Rattle.signal_chains.specs.declared.link.Link.{Link}
+use Rattle.gathering.specs.Linked.{is_node_kind, is_linked, IsLinkOf, AreLinksFrom}
+use Rattle.gathering.specs.Linking.{IsNodeLink, IsCellLink}
+use Rattle.gathering.proofs.LinkedEnds.{links_kept, links_more, node_linked, cell_linked, linked_node, linked_cell, not_linked}
+use Rattle.gathering.specs.Asking.{control_by_row, control_if, asked_cell, Asks}
 use Rattle.gathering.specs.Placed.{IsControlPlaced, IsPlaced}
 
 -- ---- one name behind others
@@ -207,6 +211,7 @@ module _ (t : Table) (first old : List Formula) (cs : List Contribution) (xs : L
     nodes_in = asks.nodes_in;
     cells_in = asks.cells_in;
     places = asks.places;
+    links = λ d e. links_kept d (contributions_in first cs) x 0 xs asked.signals.items asked.links.items (ap (λ y. is_linked y x) e ∙ not_linked t x other none) (asks.links d e);
   }
 
   module _ (new : List Formula) (totals : Totals) (standing : Stands first old) (inside : AllLieIn (length first) cs) (stands : Stands old new) (given : AreGiven old new cs s totals) where
@@ -219,9 +224,16 @@ module _ (t : Table) (first old : List Formula) (cs : List Contribution) (xs : L
     cells_same : (d : Design) → d.device ≡ t → map (plain_wanted new) asked.cells.items ≡ cells_from d (contributions_in first cs) 0 xs
     cells_same d e = same_cells old new stands asked.cells.items asks.cells_in ∙ asks.cells d e
 
+    linked_more : (d : Design) (more : Asked) (link : Link) → d.device ≡ t → more.signals.items ≡ asked.signals.items ++ s ∷ [] → more.links.items ≡ asked.links.items ++ link ∷ [] → is_linked t x ≡ true → IsLinkOf d (contributions_in old cs) s x link
+        → AreLinksFrom d (contributions_in first cs) 0 (xs ++ x ∷ []) more.signals.items more.links.items
+    linked_more d more link e signals links linked of =
+        subst (λ ns. AreLinksFrom d (contributions_in first cs) 0 (xs ++ x ∷ []) ns more.links.items) (sym signals)
+        (subst (λ ls. AreLinksFrom d (contributions_in first cs) 0 (xs ++ x ∷ []) (asked.signals.items ++ s ∷ []) ls) (sym links)
+        (links_more d (contributions_in first cs) x 0 s link xs asked.signals.items asked.links.items name_place (ap (λ y. is_linked y x) e ∙ linked) (subst (λ ys. IsLinkOf d ys s x link) same of) (asks.links d e)))
+
     -- a node asks for its function
-    pub asks_node : (more : Asked) → more.nodes.items ≡ asked.nodes.items ++ totals.function ∷ [] → more.cells.items ≡ asked.cells.items → is_node_kind x.kind ≡ true → Asks t first new cs (xs ++ x ∷ []) more
-    asks_node more pushed kept node = record {
+    pub asks_node : (more : Asked) (link : Link) → more.signals.items ≡ asked.signals.items ++ s ∷ [] → more.links.items ≡ asked.links.items ++ link ∷ [] → IsNodeLink new x totals link → more.nodes.items ≡ asked.nodes.items ++ totals.function ∷ [] → more.cells.items ≡ asked.cells.items → is_node_kind x.kind ≡ true → Asks t first new cs (xs ++ x ∷ []) more
+    asks_node more link signals links of pushed kept node = record {
       nodes = λ d. ap (λ ws. map (plain_function new) ws) pushed
           ∙ map-append (plain_function new) asked.nodes.items (totals.function ∷ [])
           ∙ ap₂ (λ vs v. vs ++ v ∷ []) (nodes_still d) (given.function d ∙ ap (λ ys. function_of (formulas d) ys s) same)
@@ -232,11 +244,12 @@ module _ (t : Table) (first old : List Formula) (cs : List Contribution) (xs : L
       nodes_in = subst (λ ws. All (IsFunctionIn (length new)) ws) (sym pushed) (All-append (IsFunctionIn (length new)) asked.nodes.items (totals.function ∷ []) (functions_still old new stands asked.nodes.items asks.nodes_in) (All-cons (IsFunctionIn (length new)) totals.function [] given.inside (All-nil (IsFunctionIn (length new)))));
       cells_in = subst (λ ws. All (IsCellIn (length new)) ws) (sym kept) (cells_still old new stands asked.cells.items asks.cells_in);
       places = subst (λ ws. All (IsPlaced cs) ws) (sym kept) asks.places;
+      links = λ d e. linked_more d more link e signals links (linked_node t x node) (node_linked d old new cs s totals given x link node of);
     }
 
     -- an assigned signal asks its cell
-    pub asks_cell : (more : Asked) (c : ℕ) → more.nodes.items ≡ asked.nodes.items → more.cells.items ≡ asked.cells.items ++ asked_cell t c s x totals ∷ [] → is_node_kind x.kind ≡ false → cell_of t x ≡ Some c → Asks t first new cs (xs ++ x ∷ []) more
-    asks_cell more c kept pushed other on = record {
+    pub asks_cell : (more : Asked) (c : ℕ) (link : Link) → more.signals.items ≡ asked.signals.items ++ s ∷ [] → more.links.items ≡ asked.links.items ++ link ∷ [] → IsCellLink new c x totals link → more.nodes.items ≡ asked.nodes.items → more.cells.items ≡ asked.cells.items ++ asked_cell t c s x totals ∷ [] → is_node_kind x.kind ≡ false → cell_of t x ≡ Some c → Asks t first new cs (xs ++ x ∷ []) more
+    asks_cell more c link signals links of kept pushed other on = record {
       nodes = λ d. ap (λ ws. map (plain_function new) ws) kept
           ∙ nodes_still d
           ∙ sym (nodes_end d (contributions_in first cs) 0 s xs x name_place ∙ rw (no_node x.kind (function_of (formulas d) (contributions_in first cs) s) other) (append-nil (nodes_from d (contributions_in first cs) 0 xs)));
@@ -247,4 +260,5 @@ module _ (t : Table) (first old : List Formula) (cs : List Contribution) (xs : L
       nodes_in = subst (λ ws. All (IsFunctionIn (length new)) ws) (sym kept) (functions_still old new stands asked.nodes.items asks.nodes_in);
       cells_in = subst (λ ws. All (IsCellIn (length new)) ws) (sym pushed) (All-append (IsCellIn (length new)) asked.cells.items (asked_cell t c s x totals ∷ []) (cells_still old new stands asked.cells.items asks.cells_in) (All-cons (IsCellIn (length new)) (asked_cell t c s x totals) [] (cell_inside t old new cs c s x totals given) (All-nil (IsCellIn (length new)))));
       places = subst (λ ws. All (IsPlaced cs) ws) (sym pushed) (All-append (IsPlaced cs) asked.cells.items (asked_cell t c s x totals ∷ []) asks.places (All-cons (IsPlaced cs) (asked_cell t c s x totals) [] (cell_placed t old new cs c s x totals given) (All-nil (IsPlaced cs))));
+      links = λ d e. linked_more d more link e signals links (linked_cell t x c other on) (cell_linked d old new cs s totals given x link c (ap (λ y. cell_of y x) e ∙ on) of);
     }

@@ -6,7 +6,7 @@ use Rattle.pld_device.specs.Table.{Table, cell_at}
 use Rattle.bit_expr.specs.declared.netlist.CellWanted.{CellWanted}
 use Rattle.bit_expr.specs.declared.netlist.Control.{Control}
 use Rattle.bit_expr.specs.Formulas.{Formula}
-use Rattle.abel_tree.specs.Entries.{Kind, ANode, Entry}
+use Rattle.abel_tree.specs.Entries.{Entry}
 use Rattle.abel_meaning.specs.Designs.{Design, is_stored}
 use Rattle.abel_meaning.specs.Netlists.{plain_function, plain_wanted}
 use Rattle.abel_meaning.specs.SoundIds.{IsFunctionIn, IsCellIn}
@@ -16,12 +16,8 @@ use Rattle.signal_sums.specs.declared.signal.Totals.{Totals}
 use Rattle.signal_sums.specs.Amounts.{contributions_in}
 use Rattle.gathered.specs.Gathered.{cells_from, nodes_from}
 use Rattle.gathering.specs.declared.asked.Asked.{Asked}
+use Rattle.gathering.specs.Linked.{AreLinksFrom}
 use Rattle.gathering.specs.Placed.{IsPlaced}
-
--- the name is a node
-abbrev pub is_node_kind : Kind → Bool
-is_node_kind (ANode n) = true
-is_node_kind _ = false
 
 -- an enable of its own, where the cell's enable is a row
 abbrev pub control_by_row : Enable → Option Control → Option Control
@@ -57,3 +53,4 @@ pub record Asks (t : Table) (first now : List Formula) (cs : List Contribution) 
   pub nodes_in : All (IsFunctionIn (length now)) asked.nodes.items
   pub cells_in : All (IsCellIn (length now)) asked.cells.items
   pub places : All (IsPlaced cs) asked.cells.items
+  pub links : (d : Design) → d.device ≡ t → AreLinksFrom d (contributions_in first cs) 0 xs asked.signals.items asked.links.items

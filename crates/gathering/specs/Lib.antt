@@ -1,2 +1,4 @@
 pub mod Asking
+pub mod Linked
+pub mod Linking
 pub mod Placed

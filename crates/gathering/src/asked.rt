@@ -7,20 +7,25 @@ ghost use Rattle.abel_tree.specs.Entries.{Entry, view_declared};
 ghost use Rattle.signal_sums.specs.Parts.{AllLieIn, Stands};
 ghost use Rattle.gathering.specs.Asking.{Asks, asked_cell, control_by_row, control_if};
 
+use crate::links::{cell_link, node_link};
 use crate::names::{cell_of, has_buffer, is_negated, is_node, is_stored};
 use abel_tree::Declared;
 use bit_expr::{CellWanted, Control, Exprs, Function};
 use pld_base::OutOfMemory;
 use pld_device::{Device, Enable};
 use set_expr::Contribution;
+use signal_chains::Link;
 use signal_sums::{Totals, sum_up};
 use std::alloc::Global;
 
-/// What the names that were passed ask of nodes and cells.
+/// What the names that were passed ask of nodes and cells, and these signals by their numbers, each with what it
+/// reads.
 #[derive(Drop)]
 pub(crate) struct Asked {
     pub(crate) nodes: Vec<Function>,
     pub(crate) cells: Vec<CellWanted>,
+    pub(crate) signals: Vec<u32>,
+    pub(crate) links: Vec<Link>,
 }
 
 /// The enable of a cell that a row enables.
@@ -79,9 +84,13 @@ pub(crate) fn ask<D: Device>(
 {
     if is_node(&declared.meaning) {
         let totals = sum_up(alloc, exprs, list, name)?;
+        asked.links.push(node_link(exprs, declared, &totals))?;
+        asked.signals.push(name)?;
         asked.nodes.push(totals.function)?;
     } else if let Some(cell) = cell_of::<D>(declared) {
         let totals = sum_up(alloc, exprs, list, name)?;
+        asked.links.push(cell_link(exprs, cell, declared, &totals))?;
+        asked.signals.push(name)?;
         asked
             .cells
             .push(asked_cell::<D>(cell, name, declared, &totals))?;

@@ -2,10 +2,11 @@
 #![tactic(auto)]
 
 mod asked;
+mod links;
 mod names;
 mod netlist;
 mod pairs;
 #[cfg(test)]
 mod tests;
 
-pub use netlist::gather_up;
+pub use netlist::{Gathered, gather_up};

@@ -11,6 +11,7 @@ ghost use Rattle.set_expr.specs.Given.{given};
 ghost use Rattle.signal_sums.specs.Parts.{AllLieIn, Stands};
 ghost use Rattle.gathered.specs.Gathered.{gathered_from};
 ghost use Rattle.gathering.specs.Asking.{Asks};
+ghost use Rattle.gathering.specs.Linked.{AreLinks};
 ghost use Rattle.gathering.specs.Placed.{AreIdsIn, IsPlaced};
 
 use crate::asked::{Asked, ask};
@@ -20,6 +21,7 @@ use bit_expr::{Exprs, Netlist};
 use pld_base::{ListOf, OutOfMemory};
 use pld_device::Device;
 use set_expr::{Contribution, Contributions};
+use signal_chains::Link;
 use std::alloc::Global;
 
 /// The next number of a name; so many names that there is none are more than memory holds.
@@ -46,6 +48,8 @@ fn ask_all<D: Device>(
     let mut asked = Asked {
         nodes: Vec::new(alloc),
         cells: Vec::new(alloc),
+        signals: Vec::new(alloc),
+        links: Vec::new(alloc),
     };
     let mut number = 0u32;
     for declared in names.list.as_slice() {
@@ -55,6 +59,14 @@ fn ask_all<D: Device>(
     Ok(asked)
 }
 
+/// A netlist, and the signals of its nodes and cells in order of declaration: their numbers, and how they are read.
+#[derive(Drop)]
+pub struct Gathered {
+    pub net: Netlist,
+    pub signals: ListOf<u32>,
+    pub links: ListOf<Link>,
+}
+
 /// The netlist of a module's names for a device, by all that the sections contribute: the functions of the nodes,
 /// and what each assigned signal asks of its cell, over the arena of the contributions. Only nodes and assigned
 /// pins of cells are summed up, each in the time of the list.
@@ -62,25 +74,31 @@ pub fn gather_up<D: Device>(
     alloc: Global,
     names: &Names,
     found: Contributions,
-) -> Result<Netlist, OutOfMemory>
+) -> Result<Gathered, OutOfMemory>
     requires { AllLieIn (length (arena found.exprs)) found.list }
-    ensures netlist { IfOk result (λ net. (d : Design) → IsDesignOf D.table names.now d
-        → plain_netlist net ≡ gathered_from d (given found)) }
-    ensures ids { IfOk result (λ net. AreIdsIn net) }
-    ensures places { IfOk result (λ net. All (IsPlaced found.list) net.cells) }
-    ensures pins { IfOk result (λ net.
-        (p : ℕ) → p < 25 → get_or net.pair_of_pin p no_pair ≡ pair_of_pin D.table p) }
-    ensures registers { IfOk result (λ net.
-        (c : ℕ) → c < 25 → get_or net.pair_of_cell c no_pair ≡ pair_of_cell D.table c) }
+    ensures netlist { IfOk result (λ r. (d : Design) → IsDesignOf D.table names.now d
+        → plain_netlist r.net ≡ gathered_from d (given found)) }
+    ensures links { IfOk result (λ r. (d : Design) → IsDesignOf D.table names.now d
+        → AreLinks d (given found) r.signals r.links) }
+    ensures ids { IfOk result (λ r. AreIdsIn r.net) }
+    ensures places { IfOk result (λ r. All (IsPlaced found.list) r.net.cells) }
+    ensures pins { IfOk result (λ r.
+        (p : ℕ) → p < 25 → get_or r.net.pair_of_pin p no_pair ≡ pair_of_pin D.table p) }
+    ensures registers { IfOk result (λ r.
+        (c : ℕ) → c < 25 → get_or r.net.pair_of_cell c no_pair ≡ pair_of_cell D.table c) }
 {
     let mut exprs = found.exprs;
     let list = found.list;
     let asked = ask_all::<D>(alloc, &mut exprs, list.as_slice(), names)?;
-    Ok(Netlist {
-        exprs,
-        nodes: ListOf::from_vec(asked.nodes),
-        cells: ListOf::from_vec(asked.cells),
-        pair_of_pin: pairs_of_pins::<D>(),
-        pair_of_cell: pairs_of_cells::<D>(),
+    Ok(Gathered {
+        net: Netlist {
+            exprs,
+            nodes: ListOf::from_vec(asked.nodes),
+            cells: ListOf::from_vec(asked.cells),
+            pair_of_pin: pairs_of_pins::<D>(),
+            pair_of_cell: pairs_of_cells::<D>(),
+        },
+        signals: ListOf::from_vec(asked.signals),
+        links: ListOf::from_vec(asked.links),
     })
 }

@@ -2,7 +2,7 @@
 
 use crate::gather_up;
 use abel_tree::{Attributes, Declared, Extension, Meaning, Names};
-use bit_expr::{ExprId, Exprs};
+use bit_expr::{ExprId, Exprs, Leaf};
 use bitflags::Flags;
 use pld_base::{DeviceName, ListOf, NameText, OutOfMemory, Place};
 use pld_device::Sample;
@@ -113,7 +113,8 @@ fn nodes_and_cells_are_gathered(rt: HostRuntime) -> Result<(), Fail> {
         exprs: Exprs::new(rt.alloc()),
         list: ListOf::from_vec(Vec::from_slice(rt.alloc(), &EQUATIONS)?),
     };
-    let net = gather_up::<Sample>(rt.alloc(), &names, found)?;
+    let gathered = gather_up::<Sample>(rt.alloc(), &names, found)?;
+    let net = &gathered.net;
     assert_eq!(rt; net.nodes.as_slice().len(), 1);
     assert!(rt; net.nodes.as_slice()[0].complement);
     assert_eq!(rt; net.cells.as_slice().len(), 2);
@@ -130,6 +131,12 @@ fn nodes_and_cells_are_gathered(rt: HostRuntime) -> Result<(), Fail> {
         Some(enable) => assert_eq!(rt; enable.place.line, 11),
         None => return Err(Fail::from("an enable")),
     }
+    assert_eq!(rt; gathered.signals.as_slice().len(), 3);
+    assert_eq!(rt; gathered.signals.as_slice()[1], 2);
+    assert_eq!(rt; gathered.links.as_slice().len(), 3);
+    assert!(rt; gathered.links.as_slice()[0].leaf == Some(Leaf::Node(0)));
+    assert!(rt; gathered.links.as_slice()[1].leaf == Some(Leaf::Q(1)));
+    assert!(rt; gathered.links.as_slice()[2].leaf == Some(Leaf::Pin(9)));
     assert_eq!(rt; net.pair_of_pin[2], 2);
     assert_eq!(rt; net.pair_of_pin[3], 255);
     assert_eq!(rt; net.pair_of_cell[1], 3);
