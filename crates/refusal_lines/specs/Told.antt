@@ -1,0 +1,30 @@
+-- How a refusal of a source is told (this project's report).
+use Rattle.std.specs.Prelude.{ℕ, Option, None, Some, List, [], ◌∷◌, ◌++◌, codes}
+use Rattle.std.specs.Fmt.{decimal}
+use Rattle.pld_base.specs.declared.place.Place.{Place}
+
+-- the word of a refusal, its place, and the name that is told with it
+pub record Telling : Type 0 where
+  pub word : List ℕ
+  pub place : Place
+  pub name : Option (List ℕ)
+
+abbrev pub tail_text : Option (List ℕ) → List ℕ
+tail_text None = []
+tail_text (Some name) = codes " " ++ name
+
+-- the line of the report
+abbrev pub told_line : Telling → List ℕ
+told_line t =
+    codes "error " ++ (t.word ++ (codes " at " ++ (decimal t.place.line
+    ++ (codes ":" ++ (decimal t.place.column ++ (tail_text t.name ++ codes "\n"))))))
+
+-- a refusal without a name, and with one
+abbrev pub plain : List ℕ → Place → Option Telling
+plain word p = Some (record { word = word; place = p; name = None })
+
+abbrev pub with_name : List ℕ → Place → List ℕ → Option Telling
+with_name word p name = Some (record { word = word; place = p; name = Some name })
+
+abbrev pub with_name_if : List ℕ → Place → Option (List ℕ) → Option Telling
+with_name_if word p name = Some (record { word = word; place = p; name = name })

@@ -1,0 +1,10 @@
+//! The line of the report on a refused source.
+#![tactic(auto)]
+
+mod lines;
+mod telling;
+#[cfg(test)]
+mod tests;
+mod words;
+
+pub use lines::{name_line, read_line, section_line};
