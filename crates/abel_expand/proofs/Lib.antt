@@ -1,5 +1,6 @@
 pub mod Gathers
 pub mod Replaces
+pub mod Bounds
 pub mod DigitSteps
 pub mod Moves
 pub mod SpokenSteps

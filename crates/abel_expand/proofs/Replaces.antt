@@ -11,49 +11,11 @@ use Rattle.abel_macros.specs.Pieces.{names, texts}
 use Rattle.abel_macros.specs.Rules.{each_replaced}
 use Rattle.abel_expand.proofs.Growth.{take_next}
 
--- ---- the argument that stands for a name
-
-module _ (ps : List (Vec ℕ)) (found : List (Vec (Bor (List ℕ)))) (name : List ℕ) where
-  abbrev from : ℕ → Option (List ℕ)
-  from i = standing_for (names (drop i ps)) (texts (drop i found)) name
-
-named_at : (ps : List (Vec ℕ)) (i : ℕ) (d : Vec ℕ) → i < length ps → names (drop i ps) ≡ (get_or ps i d).items ∷ names (drop (suc i) ps)
-named_at [] i d h = absurd (omega arith)
-named_at (p ∷ ps) zero d h = refl
-named_at (p ∷ ps) (suc i) d h = named_at ps i d (omega arith)
-
-text_at : (ws : List (Vec (Bor (List ℕ)))) (i : ℕ) (d : Vec (Bor (List ℕ))) → i < length ws → texts (drop i ws) ≡ joined (get_or ws i d).items ∷ texts (drop (suc i) ws)
-text_at [] i d h = absurd (omega arith)
-text_at (w ∷ ws) zero d h = refl
-text_at (w ∷ ws) (suc i) d h = text_at ws i d (omega arith)
-
-module _ (ps : List (Vec ℕ)) (found : List (Vec (Bor (List ℕ)))) (i : ℕ) (d : Vec ℕ) (e : Vec (Bor (List ℕ))) (name : List ℕ) (h : i < length ps) (k : i < length found) where
-  standing_at : from ps found name i ≡ (if bytes_eq (get_or ps i d).items name then Some (joined (get_or found i e).items) else from ps found name (suc i))
-  standing_at = ap (λ (ns : List (List ℕ)). standing_for ns (texts (drop i found)) name) (named_at ps i d h) ∙ ap (λ (ts : List (List ℕ)). standing_for ((get_or ps i d).items ∷ names (drop (suc i) ps)) ts name) (text_at found i e k)
-
-  pub standing_here : (r : Option (List ℕ)) → bytes_eq (get_or ps i d).items name ≡ true → standing_for (names (drop i ps)) (texts (drop i found)) name ≡ r → r ≡ Some (joined (get_or found i e).items)
-  standing_here r b s = sym s ∙ standing_at ∙ ap (λ (t : Bool). if t then Some (joined (get_or found i e).items) else from ps found name (suc i)) b
-
-  pub standing_next : (r : Option (List ℕ)) → bytes_eq (get_or ps i d).items name ≡ false → standing_for (names (drop i ps)) (texts (drop i found)) name ≡ r
-      → standing_for (names (drop (i + 1) ps)) (texts (drop (i + 1) found)) name ≡ r
-  standing_next r b s =
-      ap (from ps found name) (add-one i) ∙ sym (standing_at ∙ ap (λ (t : Bool). if t then Some (joined (get_or found i e).items) else from ps found name (suc i)) b) ∙ s
-
 past : {A : Type 0} (ws : List A) (i : ℕ) → length ws ≤ i → drop i ws ≡ []
 past [] zero h = refl
 past [] (suc i) h = refl
 past (w ∷ ws) zero h = absurd (omega arith)
 past (w ∷ ws) (suc i) h = past ws i (omega arith)
-
-pub no_parameter : (ps : List (Vec ℕ)) (ts : List (List ℕ)) (i : ℕ) (name : List ℕ) (r : Option (List ℕ)) → length ps ≤ i → standing_for (names (drop i ps)) ts name ≡ r → r ≡ None
-no_parameter ps ts i name r h s = sym s ∙ ap (λ (qs : List (Vec ℕ)). standing_for (names qs) ts name) (past ps i h)
-
-no_text : (ns : List (List ℕ)) (name : List ℕ) → standing_for ns [] name ≡ None
-no_text [] name = refl
-no_text (n ∷ ns) name = refl
-
-pub no_argument : (ns : List (List ℕ)) (found : List (Vec (Bor (List ℕ)))) (i : ℕ) (name : List ℕ) (r : Option (List ℕ)) → length found ≤ i → standing_for ns (texts (drop i found)) name ≡ r → r ≡ None
-no_argument ns found i name r h s = sym s ∙ ap (λ (ws : List (Vec (Bor (List ℕ)))). standing_for ns (texts ws) name) (past found i h) ∙ no_text ns name
 
 -- a step where something is ahead
 pub some_step : (r : Option ℕ) (w v : List ℕ) {n : ℕ} → IfSome r (λ b. w ≡ b ∷ v) → IfNone r (w ≡ []) → 0 < n → n ≡ length w → (b : ℕ) × (w ≡ b ∷ v)

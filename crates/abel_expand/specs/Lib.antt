@@ -1,3 +1,4 @@
+pub mod Bound
 pub mod Marks
 pub mod Gathering
 pub mod RuleMoves

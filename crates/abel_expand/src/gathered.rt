@@ -5,6 +5,7 @@ ghost use Rattle.std.specs.List.{concat};
 ghost use Rattle.text_pieces.specs.Stacks.{joined};
 ghost use Rattle.abel_expand.specs.declared.gathered.Shortage.TheVariants as shortage;
 
+use pld_base::OutOfMemory;
 use std::alloc::{AllocError, AllocFailed, Global};
 use std::marker::Model;
 
@@ -183,6 +184,17 @@ impl From<AllocError> for Shortage {
     ghost from_gives = { λ _ e. e ≡ shortage.OutOfMemory };
 
     fn from(_error: AllocError) -> Shortage {
+        Shortage::OutOfMemory
+    }
+}
+
+impl From<OutOfMemory> for Shortage {
+    ghost use Rattle.std.specs.Prelude.{◌≡◌};
+    ghost use Rattle.abel_expand.specs.declared.gathered.Shortage.TheVariants as shortage;
+
+    ghost from_gives = { λ _ e. e ≡ shortage.OutOfMemory };
+
+    fn from(_error: OutOfMemory) -> Shortage {
         Shortage::OutOfMemory
     }
 }

@@ -1,6 +1,7 @@
 //! The expanded text of a source, byte by byte.
 #![tactic(auto)]
 
+mod bound;
 mod digits;
 mod expanding;
 mod fault;

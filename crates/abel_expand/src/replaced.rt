@@ -6,8 +6,10 @@ ghost use Rattle.abel_macros.specs.Forms.{asked, replaced, standing_for};
 ghost use Rattle.abel_macros.specs.Gaps.{starts_byte, rest_of};
 ghost use Rattle.abel_macros.specs.Pieces.{names, texts};
 ghost use Rattle.abel_macros.specs.Rules.{each_replaced};
+ghost use Rattle.abel_expand.specs.Bound.{bound};
 ghost use Rattle.abel_expand.specs.declared.gathered.Shortage.TheVariants as shortage;
 
+use crate::bound::Arguments;
 use crate::gathered::{Gathered, Shortage};
 use abel_macros::{is_next, read, word_len};
 use std::alloc::{AllocError, Global};
@@ -25,45 +27,17 @@ fn asked_name(alloc: Global, at: &Ahead) -> Result<Vec<u8>, AllocError>
     read(alloc, &mut look, count)
 }
 
-/// What stands for a name: the argument in the place of the first such parameter.
-#[tactic(auto, using(crate::proofs::Replaces::standing_here, crate::proofs::Replaces::standing_next, crate::proofs::Replaces::no_parameter, crate::proofs::Replaces::no_argument))]
-fn argument_of<'m, 'a>(
-    parameters: &[Vec<u8>],
-    arguments: &'m [Vec<&'a [u8]>],
-    name: &[u8],
-) -> Option<&'m [&'a [u8]]>
-    ensures some { IfSome result (λ w. standing_for (names parameters.now) (texts arguments.now) name.now ≡ Some (joined w.now)) }
-    ensures none { IfNone result (standing_for (names parameters.now) (texts arguments.now) name.now ≡ None) }
-{
-    let mut at = 0;
-    'parameters: while at < parameters.len() {
-        if at >= arguments.len() {
-            return None;
-        }
-        if parameters[at].as_slice() == name {
-            return Some(arguments[at].as_slice());
-        }
-        at += 1;
-    }
-    None
-}
-
 /// Whether a `?` is ahead, and a parameter behind it. If not, the next byte stays.
 #[tactic(auto, using(crate::proofs::Replaces::unmarked_stays, crate::proofs::Replaces::unasked_stays))]
-fn is_replaced(
-    alloc: Global,
-    at: &Ahead,
-    parameters: &[Vec<u8>],
-    arguments: &[Vec<&[u8]>],
-) -> Result<bool, AllocError>
+fn is_replaced(alloc: Global, at: &Ahead, arguments: &Arguments) -> Result<bool, AllocError>
     ensures yes { IfOk result (λ o. o ≡ true → starts_byte 63 (ahead at.now) ≡ true) }
-    ensures no { IfOk result (λ o. o ≡ false → replaced (standing_for (names parameters.now) (texts arguments.now)) 0 (ahead at.now) ≡ take 1 (ahead at.now) ++ replaced (standing_for (names parameters.now) (texts arguments.now)) 0 (drop 1 (ahead at.now))) }
+    ensures no { IfOk result (λ o. o ≡ false → replaced (bound arguments.now.by_name.entries) 0 (ahead at.now) ≡ take 1 (ahead at.now) ++ replaced (bound arguments.now.by_name.entries) 0 (drop 1 (ahead at.now))) }
 {
     if !is_next(at, b'?') {
         return Ok(false);
     }
     let name = asked_name(alloc, at)?;
-    match argument_of(parameters, arguments, &name) {
+    match arguments.of(&name) {
         Some(_argument) => Ok(true),
         None => Ok(false),
     }
@@ -71,13 +45,8 @@ fn is_replaced(
 
 /// How many of the next bytes stay: those before the next `?` with a parameter behind it.
 #[tactic(auto, using(crate::proofs::Replaces::stays_next))]
-fn kept_len(
-    alloc: Global,
-    at: &Ahead,
-    parameters: &[Vec<u8>],
-    arguments: &[Vec<&[u8]>],
-) -> Result<usize, AllocError>
-    ensures value { IfOk result (λ n. take n (ahead at.now) ++ replaced (standing_for (names parameters.now) (texts arguments.now)) 0 (drop n (ahead at.now)) ≡ replaced (standing_for (names parameters.now) (texts arguments.now)) 0 (ahead at.now)) }
+fn kept_len(alloc: Global, at: &Ahead, arguments: &Arguments) -> Result<usize, AllocError>
+    ensures value { IfOk result (λ n. take n (ahead at.now) ++ replaced (bound arguments.now.by_name.entries) 0 (drop n (ahead at.now)) ≡ replaced (bound arguments.now.by_name.entries) 0 (ahead at.now)) }
     ensures within { IfOk result (λ n. n ≤ length (ahead at.now)) }
     ensures asked { IfOk result (λ n. n ≡ 0 → 0 < length (ahead at.now) → starts_byte 63 (ahead at.now) ≡ true) }
 {
@@ -85,7 +54,7 @@ fn kept_len(
     let mut look = at.fork();
     let mut count = 0;
     'bytes: while look.left() > 0 {
-        if is_replaced(alloc, &look, parameters, arguments)? {
+        if is_replaced(alloc, &look, arguments)? {
             return Ok(count);
         }
         let _byte = look.step();
@@ -112,17 +81,16 @@ impl<'a> Gathered<'a> {
         &mut self,
         alloc: Global,
         rest: &mut Rest<'a>,
-        parameters: &[Vec<u8>],
-        arguments: &[Vec<&'a [u8]>],
+        arguments: &Arguments<'_, 'a>,
     ) -> Result<(), Shortage>
         requires { starts_byte 63 rest.old ≡ true }
-        ensures text { OnOk result (self.new.text ++ replaced (standing_for (names parameters.now) (texts arguments.now)) 0 rest.new ≡ self.old.text ++ replaced (standing_for (names parameters.now) (texts arguments.now)) 0 rest.old) }
+        ensures text { OnOk result (self.new.text ++ replaced (bound arguments.now.by_name.entries) 0 rest.new ≡ self.old.text ++ replaced (bound arguments.now.by_name.entries) 0 rest.old) }
         ensures most { OnOk result (self.new.most ≡ self.old.most) }
         ensures falls { OnOk result (length rest.new < length rest.old) }
-        ensures long { IfErr result (λ e. e ≡ shortage.TooLong → self.old.most < length (self.old.text ++ replaced (standing_for (names parameters.now) (texts arguments.now)) 0 rest.old)) }
+        ensures long { IfErr result (λ e. e ≡ shortage.TooLong → self.old.most < length (self.old.text ++ replaced (bound arguments.now.by_name.entries) 0 rest.old)) }
     {
         let name = asked_name(alloc, &rest.ahead())?;
-        match argument_of(parameters, arguments, &name) {
+        match arguments.of(&name) {
             Some(argument) => {
                 self.add_all(argument)?;
                 rest.skip(1 + name.len());
@@ -139,18 +107,17 @@ impl<'a> Gathered<'a> {
         &mut self,
         alloc: Global,
         rest: &mut Rest<'a>,
-        parameters: &[Vec<u8>],
-        arguments: &[Vec<&'a [u8]>],
+        arguments: &Arguments<'_, 'a>,
     ) -> Result<(), Shortage>
         requires { 0 < length rest.old }
-        ensures text { OnOk result (self.new.text ++ replaced (standing_for (names parameters.now) (texts arguments.now)) 0 rest.new ≡ self.old.text ++ replaced (standing_for (names parameters.now) (texts arguments.now)) 0 rest.old) }
+        ensures text { OnOk result (self.new.text ++ replaced (bound arguments.now.by_name.entries) 0 rest.new ≡ self.old.text ++ replaced (bound arguments.now.by_name.entries) 0 rest.old) }
         ensures most { OnOk result (self.new.most ≡ self.old.most) }
         ensures falls { OnOk result (length rest.new < length rest.old) }
-        ensures long { IfErr result (λ e. e ≡ shortage.TooLong → self.old.most < length (self.old.text ++ replaced (standing_for (names parameters.now) (texts arguments.now)) 0 rest.old)) }
+        ensures long { IfErr result (λ e. e ≡ shortage.TooLong → self.old.most < length (self.old.text ++ replaced (bound arguments.now.by_name.entries) 0 rest.old)) }
     {
-        let count = kept_len(alloc, &rest.ahead(), parameters, arguments)?;
+        let count = kept_len(alloc, &rest.ahead(), arguments)?;
         if count == 0 {
-            self.add_asked(alloc, rest, parameters, arguments)
+            self.add_asked(alloc, rest, arguments)
         } else {
             self.add_cut(alloc, rest, count)
         }
@@ -158,6 +125,26 @@ impl<'a> Gathered<'a> {
 
     /// Adds a block in which each parameter behind a `?` is replaced by its argument.
     #[tactic(auto, using(crate::proofs::Replaces::block_added, crate::proofs::Replaces::block_long))]
+    fn add_bound(
+        &mut self,
+        alloc: Global,
+        block: &[&'a [u8]],
+        arguments: &Arguments<'_, 'a>,
+    ) -> Result<(), Shortage>
+        requires bytes { length (joined block.now) < 2 ^ 63 }
+        requires pieces { length block.now < 2 ^ 59 }
+        ensures ok { OnOk result (self.new ≡ record self.old { text = self.old.text ++ replaced (bound arguments.now.by_name.entries) 0 (joined block.now) }) }
+        ensures long { IfErr result (λ e. e ≡ shortage.TooLong → self.old.most < length (self.old.text ++ replaced (bound arguments.now.by_name.entries) 0 (joined block.now))) }
+    {
+        let mut rest = Rest::new(alloc, &[]);
+        rest.put_all(block)?;
+        'parts: while rest.len() > 0 {
+            self.add_part(alloc, &mut rest, arguments)?;
+        }
+        Ok(())
+    }
+
+    /// Adds a block in which each of these parameters behind a `?` is replaced by its argument.
     pub fn add_replaced(
         &mut self,
         alloc: Global,
@@ -170,12 +157,8 @@ impl<'a> Gathered<'a> {
         ensures ok { OnOk result (self.new ≡ record self.old { text = self.old.text ++ replaced (standing_for (names parameters.now) (texts arguments.now)) 0 (joined block.now) }) }
         ensures long { IfErr result (λ e. e ≡ shortage.TooLong → self.old.most < length (self.old.text ++ replaced (standing_for (names parameters.now) (texts arguments.now)) 0 (joined block.now))) }
     {
-        let mut rest = Rest::new(alloc, &[]);
-        rest.put_all(block)?;
-        'parts: while rest.len() > 0 {
-            self.add_part(alloc, &mut rest, parameters, arguments)?;
-        }
-        Ok(())
+        let bound = Arguments::new(alloc, parameters, arguments)?;
+        self.add_bound(alloc, block, &bound)
     }
 
     /// Adds a block once for each argument, which stands for the parameter.

@@ -1,8 +1,8 @@
 -- The bytes that were passed stay.
 use Rattle.std.proofs.Common.{◌≡◌, ◌≤◌, ◌<◌, ◌+◌, ◌^◌, ◌++◌, length, take, drop}
 use Rattle.text_pieces.specs.Stacks.{ahead}
-use Rattle.abel_macros.specs.Forms.{replaced, standing_for}
-use Rattle.abel_macros.specs.Pieces.{names, texts}
+use Rattle.abel_macros.specs.Forms.{replaced}
+use Rattle.abel_expand.specs.Bound.{bound}
 use Rattle.abel_expand.proofs.replaced.kept_len.Given as goal
 
 abbrev pub invariant-bytes : goal.invariant-bytes
@@ -10,7 +10,7 @@ invariant-bytes l =
     record {
       place : ahead l.look ≡ drop l.count (ahead l.fn.at);
       stay :
-          take l.count (ahead l.fn.at) ++ replaced (standing_for (names l.fn.parameters) (texts l.fn.arguments)) 0 (drop l.count (ahead l.fn.at)) ≡ replaced (standing_for (names l.fn.parameters) (texts l.fn.arguments)) 0 (ahead l.fn.at);
+          take l.count (ahead l.fn.at) ++ replaced (bound l.fn.arguments.by_name.entries) 0 (drop l.count (ahead l.fn.at)) ≡ replaced (bound l.fn.arguments.by_name.entries) 0 (ahead l.fn.at);
       few : l.count + length (ahead l.look) ≤ length (ahead l.fn.at);
       fits : length (ahead l.fn.at) < 2 ^ 63;
     }

@@ -1,0 +1,17 @@
+-- The pairs that were kept stand for their parameters.
+use Rattle.std.proofs.Common.{◌≡◌, ◌≤◌, length, drop}
+use Rattle.abel_macros.specs.Forms.{standing_for}
+use Rattle.abel_macros.specs.Pieces.{names, texts}
+use Rattle.abel_expand.specs.Bound.{bound}
+use Rattle.abel_expand.proofs.bound.Arguments.new.Given as goal
+
+abbrev pub invariant-pairs : goal.invariant-pairs
+invariant-pairs l =
+    record {
+      pairs : bound l.by_name.entries ≡ standing_for (names (drop l.left l.parameters)) (texts (drop l.left l.arguments));
+      few : l.left ≤ length l.parameters;
+      fewer : l.left ≤ length l.arguments;
+    }
+
+abbrev pub decreases-pairs : goal.decreases-pairs
+decreases-pairs l = l.left

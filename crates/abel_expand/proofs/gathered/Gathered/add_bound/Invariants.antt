@@ -1,0 +1,17 @@
+-- What was gathered and what stands for the rest are the whole.
+use Rattle.std.proofs.Common.{◌≡◌, ◌++◌, length}
+use Rattle.text_pieces.specs.Stacks.{joined}
+use Rattle.abel_macros.specs.Forms.{replaced}
+use Rattle.abel_expand.specs.Bound.{bound}
+use Rattle.abel_expand.proofs.gathered.Gathered.add_bound.Given as goal
+
+abbrev pub invariant-parts : goal.invariant-parts
+invariant-parts l =
+    record {
+      text :
+          l.self.text ++ replaced (bound l.fn.arguments.by_name.entries) 0 l.rest ≡ l.fn.self.text ++ replaced (bound l.fn.arguments.by_name.entries) 0 (joined l.fn.block);
+      most : l.self.most ≡ l.fn.self.most;
+    }
+
+abbrev pub decreases-parts : goal.decreases-parts
+decreases-parts l = length l.rest
