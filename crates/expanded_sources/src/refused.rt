@@ -106,7 +106,7 @@ pub const BROKEN: [&[u8]; 77] = [
 
 /// Other refusals, each at its place.
 #[rattlefmt::skip]
-pub fn refusals() -> [Refused; 39] {
+pub fn refusals() -> [Refused; 41] {
     [
         (b"a\n@", bad(2, 1)),
         (b"ab\n c @IF x {a}", bad(2, 4)),
@@ -147,5 +147,7 @@ pub fn refusals() -> [Refused; 39] {
         (b"m MACRO {m};m @REPEAT 4294967295 {a}", limit(1, 1)),
         (b"m MACRO {};@REPEAT 65535 {m }@REPEAT 2000000 {a}", limit(1, 65536)),
         (b"m MACRO {};@REPEAT 65535 {m }@IF x {a}", bad(1, 65536)),
+        (b"@REPEAT!0{a}", long(1, 1)),
+        (b"m MACRO{m}m", limit(1, 1)),
     ]
 }
