@@ -1,13 +1,15 @@
 -- The moves that the rules ask for, as the code tells them.
-use Rattle.std.specs.Prelude.{ℕ, ◌<◌, ◌≤◌, ◌^◌, List, [], ◌++◌, length, take, drop, replicate, codes, Some, None}
+use Rattle.std.specs.Prelude.{◌≡◌, ℕ, ◌<◌, ◌≤◌, ◌^◌, List, [], ◌++◌, length, take, drop, replicate, codes, Some, None}
 use Rattle.std.specs.List.{concat}
-use Rattle.text_pieces.specs.Stacks.{joined}
+use Rattle.text_pieces.specs.Stacks.{Look, ahead, joined}
+use Rattle.abel_macros.specs.declared.directive.Directive.{Directive}
+use Rattle.abel_macros.specs.Kept.{Kept, tables_of}
 use Rattle.abel_macros.specs.declared.mode.Mode.TheVariants as mode
 use Rattle.abel_macros.specs.Gaps.{before, word}
 use Rattle.abel_macros.specs.Forms.{replaced, standing_for}
 use Rattle.abel_macros.specs.Pieces.{names, texts}
 use Rattle.abel_macros.specs.Values.{digits_in}
-use Rattle.abel_macros.specs.Rules.{Tables, Move, Done, Rewritten, Refused, BadDirective, Unsupported, with_name, line_feeds, shown_in, each_replaced, named, token_len}
+use Rattle.abel_macros.specs.Rules.{Tables, Move, Done, Rewritten, Refused, BadDirective, Unsupported, with_name, line_feeds, shown_in, each_replaced, named, token_len, directed}
 use Rattle.abel_expand.specs.declared.rules.Rewriting.{Rewriting}
 use Rattle.abel_expand.specs.declared.rules.Rewriting.TheVariants as rewriting
 use Rattle.abel_expand.specs.declared.rules.Rule.{Rule}
@@ -62,3 +64,11 @@ IsRule rule.Unsupported = Unit {0}
 -- the move of a text that begins with a word or another token
 abbrev pub plain_move : Tables → List ℕ → Move
 plain_move t text = elim (word text) [ Some behind ↦ named t text behind | None ↦ Done t (take (token_len text) text) (drop (token_len text) text) ]
+
+-- a directive, whose word was passed, asks for this rule, which leaves what is ahead then
+abbrev pub IsDirected : Directive → Kept → Look → Look → Rule → Type 0
+IsDirected d k old new r = directed d (tables_of k) old.whole (ahead old) ≡ rule_move (tables_of k) old.whole (ahead new) r
+
+-- so does a name that was passed
+abbrev pub IsNamed : Kept → Look → Look → Rule → Type 0
+IsNamed k old new r = named (tables_of k) old.whole (ahead old) ≡ rule_move (tables_of k) old.whole (ahead new) r

@@ -2,7 +2,9 @@
 #![tactic(auto)]
 
 mod bound;
+mod called;
 mod digits;
+mod directives;
 mod expanding;
 mod fault;
 mod front;

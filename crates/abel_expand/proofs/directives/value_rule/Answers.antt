@@ -5,7 +5,7 @@ use Rattle.abel_macros.specs.Kept.{tables_of}
 use Rattle.abel_macros.specs.Rules.{value_form}
 use Rattle.abel_macros.specs.Values.{digits_in}
 use Rattle.abel_expand.proofs.Moves.{value_moves}
-use Rattle.abel_expand.proofs.rules.value_rule.Goals as goal
+use Rattle.abel_expand.proofs.directives.value_rule.Goals as goal
 
 pub returns-in-Some-clause-moves : goal.returns-in-Some-clause-moves
 returns-in-Some-clause-moves c =
