@@ -1,0 +1,3 @@
+mod Graphed
+mod LinkFacts
+mod Renamed
