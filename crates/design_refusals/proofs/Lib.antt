@@ -1,0 +1,2 @@
+pub mod FaultsInOrder
+mod Pushed

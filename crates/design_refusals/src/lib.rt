@@ -1,0 +1,12 @@
+//! What of a design is refused by its names and its targets, each kind of refusal for itself.
+#![tactic(auto)]
+
+mod fault;
+mod names;
+mod rules;
+#[cfg(test)]
+mod tests;
+mod walks;
+
+pub use fault::SignalFault;
+pub use walks::{dont_care_control, missing_control, registered_node, wrong_kind};
