@@ -1,0 +1,5 @@
+pub mod Correct
+pub mod Example
+pub mod LocatedUses
+pub mod RefusedUses
+pub mod SectionUses

@@ -1,0 +1,13 @@
+//! Laws of uses, as the contracts of calls that do nothing.
+
+ghost use Rattle.design_uses.specs.Correct.{ExampleIsRefused, UsesAreRead};
+
+/// The uses of an expression, each at its place, are what its term reads. Does nothing.
+pub fn uses_are_read()
+    ensures { UsesAreRead }
+{}
+
+/// The uses of the example that are refused are those worked by hand. Does nothing.
+pub fn example_is_refused()
+    ensures { ExampleIsRefused }
+{}
