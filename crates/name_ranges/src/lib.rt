@@ -5,4 +5,4 @@ mod ranges;
 #[cfg(test)]
 mod tests;
 
-pub use ranges::{names_of_item, names_of_range, range_list};
+pub use ranges::{is_bad_item, item_list, names_of_item, names_of_range, range_list};

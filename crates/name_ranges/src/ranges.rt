@@ -162,6 +162,40 @@ pub fn names_of_item(alloc: Global, item: &Item) -> Result<Option<Vec<Vec<u8>>>,
     }
 }
 
+/// Whether an item of a declaration is a range whose ends don't agree. Takes no memory.
+pub fn is_bad_item(item: &Item) -> bool
+    ensures { result ≡ is_bad item.now }
+{
+    match &item.last {
+        Some(last) => !do_agree(item.first.text.bytes(), last.text.bytes()),
+        None => false,
+    }
+}
+
+/// Whether the ends of a range agree.
+fn do_agree(first: &[u8], last: &[u8]) -> bool
+    ensures { result ≡ ends_agree first.now last.now }
+{
+    ends_in_run(first) && (ends_in_run(last) && is_same(stem_of(first), stem_of(last)))
+}
+
+/// Whether the digits at the end of a name are one to four without a needless zero.
+fn ends_in_run(name: &[u8]) -> bool
+    ensures { result ≡ is_run (last_digits name.now) }
+{
+    end_value(name).is_some()
+}
+
+/// The names of an item of a declaration, none where it is a range whose ends don't agree.
+pub fn item_list(alloc: Global, item: &Item) -> Result<Vec<Vec<u8>>, OutOfMemory>
+    ensures { IfOk result (λ names. map name_items names.items ≡ item_names item.now) }
+{
+    match &item.last {
+        Some(last) => range_list(alloc, item.first.text.bytes(), last.text.bytes()),
+        None => one_name(alloc, item.first.text.bytes()),
+    }
+}
+
 /// A list of one name.
 fn one_name(alloc: Global, name: &[u8]) -> Result<Vec<Vec<u8>>, OutOfMemory>
     ensures { IfOk result (λ ns. map name_items ns.items ≡ name.now ∷ []) }
