@@ -1,0 +1,9 @@
+pub mod Alike
+pub mod Bits
+pub mod Direct
+pub mod Hits
+pub mod Numbering
+pub mod Pushes
+pub mod Related
+pub mod Settling
+pub mod Spreading

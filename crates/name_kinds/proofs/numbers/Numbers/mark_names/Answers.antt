@@ -1,0 +1,17 @@
+-- One item more.
+use Rattle.std.proofs.Common.{map, ap, ◌∙◌}
+use Rattle.abel_tree.specs.Assigned.{signals_of_name, signals_of_names}
+use Rattle.name_ranges.specs.RangeParts.{name_items}
+use Rattle.name_kinds.proofs.Pushes.{names_push}
+use Rattle.name_kinds.specs.Marking.{hits}
+use Rattle.name_kinds.specs.Numbered.{numbered}
+use Rattle.name_kinds.proofs.Hits.{hits_more}
+use Rattle.name_kinds.proofs.numbers.Numbers.mark_names.Goals as goal
+
+pub loop-name-preserved : goal.loop-name-preserved
+loop-name-preserved c = λ es num.
+    let l = c.loop-name in
+    c.mark_name.ensures es num
+    ∙ (ap (λ w. hits c.args.clocked l.marks.items (signals_of_name (numbered c.args.limit es) w)) c.as_slice.ensures.value
+    ∙ (ap (λ ms. hits c.args.clocked ms (signals_of_name (numbered c.args.limit es) (name_items c.name-item.result))) (l.invariant es num)
+    ∙ hits_more c.args.clocked (signals_of_names (numbered c.args.limit es)) (signals_of_name (numbered c.args.limit es)) (names_push (numbered c.args.limit es)) name_items c.args.marks.now.items c.args.names.now l.name-index c.name-item.result c.loop-name-test.true c.name-item.is))

@@ -1,0 +1,157 @@
+//! Names with their kinds.
+
+ghost use Rattle.std.specs.Prelude.{◌≡◌, OnOk, IfOk, List, ℕ, map, replicate};
+ghost use Rattle.abel_meaning.specs.Kinds.{with_assigned, is_buffer, is_registered, settled_words};
+ghost use Rattle.abel_tree.specs.Entries.{is_signal, view_attributes, view_declared, view_meaning};
+ghost use Rattle.abel_tree.specs.View.{view_section};
+ghost use Rattle.name_kinds.specs.declared.marks.Mark.TheVariants.{Free};
+ghost use Rattle.name_kinds.specs.Settled.{attribute_words, kind_by, kinds_by};
+ghost use Rattle.name_kinds.specs.Marking.{is_on_clock};
+
+use crate::marks::Mark;
+use crate::numbers::numbers_of;
+use crate::sweep::mark_of;
+use abel_tree::{Attributes, Declared, Meaning, Section};
+use bitflags::Flags;
+use pld_base::OutOfMemory;
+use pld_device::Flip;
+use std::alloc::Global;
+
+/// The names with their kinds, by what the sections assign. A signal's attributes become COM or REG, BUFFER or
+/// INVERT, and DC; what was said of it before decides where it said something.
+pub fn settle(
+    alloc: Global,
+    flip: Flip,
+    names: Vec<Declared>,
+    sections: &[Section],
+) -> Result<Vec<Declared>, OutOfMemory>
+    ensures { IfOk result (λ list. map view_declared list.items ≡ with_assigned flip (map view_section sections.now) (map view_declared names.items)) }
+{
+    let count = names.len();
+    let numbers = numbers_of(alloc, names.as_slice())?;
+    let mut marks = free_marks(alloc, count)?;
+    numbers.mark_sections(alloc, &mut marks, count, sections)?;
+    numbers.sweep(alloc, &mut marks, names.as_slice())?;
+    settle_all(alloc, flip, names, marks.as_slice())
+}
+
+/// No name is marked.
+fn free_marks(alloc: Global, count: usize) -> Result<Vec<Mark>, OutOfMemory>
+    ensures { IfOk result (λ ms. ms.items ≡ replicate count Free) }
+{
+    let mut marks = Vec::new(alloc);
+    for _ in 0..count {
+        marks.push(Mark::Free)?;
+    }
+    Ok(marks)
+}
+
+/// The names with their kinds, by their marks.
+fn settle_all(
+    alloc: Global,
+    flip: Flip,
+    names: Vec<Declared>,
+    marks: &[Mark],
+) -> Result<Vec<Declared>, OutOfMemory>
+    ensures { IfOk result (λ list. map view_declared list.items ≡ kinds_by flip marks.now 0 (map view_declared names.items)) }
+{
+    let mut settled = Vec::new(alloc);
+    for declared in names {
+        let mark = mark_of(marks, settled.len());
+        settled.push(settled_by(flip, declared, mark))?;
+    }
+    Ok(settled)
+}
+
+/// A name with its kind, by its mark.
+fn settled_by(flip: Flip, declared: Declared, mark: Mark) -> Declared
+    ensures { view_declared result ≡ kind_by flip mark (view_declared declared) }
+{
+    let Declared {
+        name,
+        place,
+        meaning,
+        attributes,
+        assigned: _,
+    } = declared;
+    if is_signal(&meaning) {
+        let attributes = settled_attributes(flip, attributes, mark);
+        let assigned = mark != Mark::Free;
+        return Declared {
+            name,
+            place,
+            meaning,
+            attributes,
+            assigned,
+        };
+    }
+    Declared {
+        name,
+        place,
+        meaning,
+        attributes,
+        assigned: false,
+    }
+}
+
+/// Whether a name is a signal.
+fn is_signal(meaning: &Meaning) -> bool
+    ensures { result ≡ is_signal (view_meaning meaning.now) }
+{
+    match meaning {
+        Meaning::Pin { pin: _, negated: _ } => true,
+        Meaning::Node(_) => true,
+        Meaning::Constant(_) => false,
+        Meaning::DeviceName => false,
+    }
+}
+
+/// The attributes of a signal: its kind, its polarity and DC.
+fn settled_attributes(flip: Flip, said: Attributes, mark: Mark) -> Attributes
+    ensures { view_attributes result ≡ settled_words (view_attributes said) (is_registered (view_attributes said) (is_on_clock mark)) (is_buffer flip (view_attributes said)) }
+{
+    let registered = is_registered(said, mark.is_on_clock());
+    let buffer = is_buffer(flip, said);
+    attributes_of(registered, buffer, said.contains(Attributes::DC))
+}
+
+/// Whether a signal is a register.
+fn is_registered(said: Attributes, clocked: bool) -> bool
+    ensures { result ≡ is_registered (view_attributes said) clocked }
+{
+    said.contains(Attributes::REG) || (!said.contains(Attributes::COM) && clocked)
+}
+
+/// Whether a register's pin equals Q.
+fn is_buffer(flip: Flip, said: Attributes) -> bool
+    ensures { result ≡ is_buffer flip (view_attributes said) }
+{
+    let default = match flip {
+        Flip::Always => false,
+        Flip::AfterRegister => true,
+        Flip::BeforeRegister => false,
+    };
+    said.contains(Attributes::BUFFER) || (!said.contains(Attributes::INVERT) && default)
+}
+
+/// The set of one kind, one polarity and perhaps DC.
+fn attributes_of(registered: bool, buffer: bool, dc: bool) -> Attributes
+    ensures { view_attributes result ≡ attribute_words registered buffer dc }
+{
+    let kind = if registered {
+        Attributes::REG
+    } else {
+        Attributes::COM
+    };
+    let polarity = if buffer {
+        Attributes::BUFFER
+    } else {
+        Attributes::INVERT
+    };
+    let settled = kind.union(polarity);
+    if dc {
+        settled.union(Attributes::DC)
+    } else {
+        settled
+    }
+}

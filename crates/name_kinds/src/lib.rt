@@ -1,0 +1,15 @@
+//! The kinds of declared names: what the sections of a module assign, and whether on the clock.
+#![tactic(auto)]
+
+mod kinds;
+mod marks;
+mod numbers;
+mod sections;
+mod statements;
+mod sweep;
+mod targets;
+#[cfg(test)]
+mod tests;
+mod transitions;
+
+pub use kinds::settle;
