@@ -18,6 +18,7 @@ mod walking;
 
 pub use answering::check_constants;
 pub use checked::Checked;
+pub use checking::check_name;
 pub use contributions::{Contribution, Contributions, Gives, Guard, Target};
 pub use fault::{SectionFault, earlier};
 pub use known::KnownNames;
