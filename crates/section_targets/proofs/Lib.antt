@@ -4,3 +4,6 @@ pub mod Looks
 pub mod Parts
 pub mod Refused
 pub mod MetWords
+pub mod NameTerms
+pub mod SignalLists
+pub mod Views

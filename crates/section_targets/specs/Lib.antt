@@ -3,6 +3,7 @@ pub mod Building
 pub mod Given
 pub mod Gives
 pub mod Manners
+pub mod NamedTargets
 pub mod TargetSignals
 pub mod Units
 pub mod ValueWidths

@@ -1,0 +1,7 @@
+-- So many signals are listed.
+use Rattle.std.proofs.Common.{◌≡◌, take}
+use Rattle.section_targets.specs.TargetSignals.{aims_at}
+use Rattle.section_targets.proofs.sides.list_aims.Given as goal
+
+abbrev pub invariant-loop-index : goal.invariant-loop-index
+invariant-loop-index l = l.aims.items ≡ aims_at l.place (take l.index l.signals)

@@ -1,0 +1,52 @@
+-- The signals that names stand for as targets, and those of a target (ABEL-HDL Reference Manual, equations, sets and
+-- constants).
+use Rattle.std.specs.Prelude.{◌≡◌, ℕ, ◌<◌, ◌≤◌, ◌&&◌, Bool, Option, None, Some, List, [], ◌∷◌, ◌++◌, All, length, map, min, slice_get}
+use Rattle.abel_tree.specs.Entries.{Entry}
+use Rattle.abel_tree.specs.FirstRefusal.{first_refusal}
+use Rattle.abel_meaning.specs.Designs.{Design}
+use Rattle.abel_meaning.specs.Targets.{targets_of, some_signals}
+use Rattle.abel_meaning.specs.Terms.{Term, Number, Known, known_of}
+use Rattle.set_expr.specs.SectionOrder.{section_order}
+use Rattle.section_targets.specs.declared.named.NamedSignals.{NamedSignals}
+use Rattle.section_targets.specs.declared.sides.Side.{Side}
+use Rattle.section_targets.specs.Given.{AreNamed}
+use Rattle.section_targets.specs.TargetSignals.{TargetFound, names_signals}
+
+-- these signals, of so many names; a set has at most 32 positions, and more are only counted
+pub record AreSignals (count : ℕ) (n : NamedSignals) (xs : List ℕ) (b : Bool) : Type 0 where
+  pub width : n.width ≡ min (length xs) 255
+  pub alone : n.alone ≡ b
+  pub signals : length xs ≤ 32 → n.signals ≡ xs
+  pub inside : All (λ (s : ℕ). s < count) n.signals
+
+-- those of a term
+abbrev pub IsOfTerm : (count : ℕ) → NamedSignals → Term → Type 0
+IsOfTerm count n t = AreSignals count n (some_signals (targets_of t)) (names_signals t)
+
+-- what is at a place of the names, or a number where there is none
+abbrev pub IsAt : (count : ℕ) → Option NamedSignals → Term → Type 0
+IsAt count None t = t ≡ Number 0
+IsAt count (Some n) t = IsOfTerm count n t
+
+-- each of what the names stand for, in order
+abbrev pub AreOfTerms : (count : ℕ) → List NamedSignals → List Known → Type 0
+AreOfTerms count [] [] = Unit {0}
+AreOfTerms count (n ∷ ns) (k ∷ ks) = IsOfTerm count n k.term × AreOfTerms count ns ks
+AreOfTerms count _ _ = ⊥
+
+-- what the first of these names stand for
+pub record StandFor (count : ℕ) (es : List Entry) (ns : List NamedSignals) (ks : List Known) : Type 0 where
+  pub later : List (List ℕ)
+  pub names : map (λ (e : Entry). e.name) es ≡ map (λ (k : Known). k.name) ks ++ later
+  pub terms : AreOfTerms count ns ks
+
+-- what all names of a design stand for
+abbrev pub AreTargets : Design → List NamedSignals → Type 0
+AreTargets d ns = StandFor (length d.names) d.names ns d.known
+
+-- what is found of a target; a set has at most 32 positions, and more are only counted
+pub record IsSide (count : ℕ) (s : Side) (x : TargetFound) : Type 0 where
+  pub fault : s.fault ≡ first_refusal section_order x.refusals
+  pub width : s.width ≡ min (length x.aims) 255
+  pub aims : length x.aims ≤ 32 → s.aims ≡ x.aims
+  pub inside : AreNamed count s.aims

@@ -1,0 +1,123 @@
+//! The signals that names stand for as targets.
+
+ghost use Rattle.std.specs.Prelude.{◌≡◌, ◌==◌, ◌<◌, ℕ, Bool, List, [], ◌∷◌, ◌++◌, ◌&&◌, true, false, IfOk, slice_get};
+ghost use Rattle.abel_tree.specs.Entries.{Entry};
+ghost use Rattle.abel_meaning.specs.Targets.{targets_of, some_signals};
+ghost use Rattle.abel_meaning.specs.Terms.{Term, Known, term_named, extended_if};
+ghost use Rattle.set_expr.specs.KnownNames.{IsKnown};
+ghost use Rattle.section_targets.specs.NamedTargets.{AreSignals, IsOfTerm, IsAt, StandFor};
+ghost use Rattle.section_targets.specs.TargetSignals.{names_signals};
+
+use abel_tree::Extension;
+use pld_base::{ListOf, OutOfMemory};
+use set_expr::KnownNames;
+use std::alloc::Global;
+
+/// The signals that a name stands for, from the left, and whether it stands for nothing else. `width` counts them,
+/// 255 where there are more; where there are more than 32 the list isn't whole.
+#[derive(Drop)]
+pub struct NamedSignals {
+    pub signals: ListOf<u32>,
+    pub width: u8,
+    pub alone: bool,
+}
+
+/// Nothing else, and no signal.
+fn is_only(alone: bool, width: u8) -> bool
+    ensures { result ≡ alone && (width == 0) }
+{
+    alone && width == 0
+}
+
+impl NamedSignals {
+    /// No signal.
+    pub(crate) fn none(alloc: Global, alone: bool) -> NamedSignals
+        ensures { (count : ℕ) → AreSignals count result [] alone }
+    {
+        NamedSignals {
+            signals: ListOf::from_vec(Vec::new(alloc)),
+            width: 0,
+            alone,
+        }
+    }
+
+    /// One signal.
+    pub(crate) fn one(alloc: Global, signal: u32) -> Result<NamedSignals, OutOfMemory>
+        ensures { IfOk result (λ n. (count : ℕ) → signal < count → AreSignals count n (signal ∷ []) true) }
+    {
+        let mut signals = Vec::new(alloc);
+        signals.push(signal)?;
+        Ok(NamedSignals {
+            signals: ListOf::from_vec(signals),
+            width: 1,
+            alone: true,
+        })
+    }
+
+    /// With what is no signal.
+    fn mixed(self) -> NamedSignals
+        ensures { (count : ℕ) (xs : List ℕ) (alone : Bool) → AreSignals count self xs alone → AreSignals count result xs false }
+    {
+        NamedSignals {
+            signals: self.signals,
+            width: self.width,
+            alone: false,
+        }
+    }
+
+    /// With those of another name behind them.
+    pub(crate) fn with(self, other: &NamedSignals) -> Result<NamedSignals, OutOfMemory>
+        ensures { IfOk result (λ n. (count : ℕ) (xs ys : List ℕ) (b c : Bool) → AreSignals count self xs b → AreSignals count other.now ys c → AreSignals count n (xs ++ ys) (b && c)) }
+    {
+        let mut signals = self.signals.into_vec();
+        let width = self.width.saturating_add(other.width);
+        if width <= 32 {
+            signals.extend_from_slice(other.signals.as_slice())?;
+        }
+        Ok(NamedSignals {
+            signals: ListOf::from_vec(signals),
+            width,
+            alone: self.alone && other.alone,
+        })
+    }
+
+    /// With those of the name with this text, of these names; what isn't one of them is a number.
+    pub(crate) fn with_name(
+        self,
+        known: &KnownNames,
+        named: &[NamedSignals],
+        text: &[u8],
+    ) -> Result<NamedSignals, OutOfMemory>
+        ensures { IfOk result (λ n. (count : ℕ) (es : List Entry) (ks : List Known) (xs : List ℕ) (b : Bool) → IsKnown es known.now → StandFor count es named.now ks → AreSignals count self xs b → AreSignals count n (xs ++ some_signals (targets_of (term_named ks text.now))) (b && names_signals (term_named ks text.now))) }
+    {
+        match known.get(text) {
+            None => Ok(self.mixed()),
+            Some(name) => self.with_number(named, name.number as usize),
+        }
+    }
+
+    /// With those of the name of this number, where it is one of these.
+    fn with_number(self, named: &[NamedSignals], number: usize) -> Result<NamedSignals, OutOfMemory>
+        ensures { IfOk result (λ n. (count : ℕ) (t : Term) (xs : List ℕ) (b : Bool) → IsAt count (slice_get named.now number) t → AreSignals count self xs b → AreSignals count n (xs ++ some_signals (targets_of t)) (b && names_signals t)) }
+    {
+        if number < named.len() {
+            self.with(&named[number])
+        } else {
+            Ok(self.mixed())
+        }
+    }
+
+    /// With an extension at each, if there is one: a name stands for no signal then.
+    pub(crate) fn extended(self, extension: Option<Extension>) -> NamedSignals
+        ensures { (count : ℕ) (t : Term) → IsOfTerm count self t → IsOfTerm count result (extended_if extension t) }
+    {
+        match extension {
+            None => self,
+            Some(_) => NamedSignals {
+                signals: self.signals,
+                width: self.width,
+                alone: is_only(self.alone, self.width),
+            },
+        }
+    }
+}

@@ -1,0 +1,160 @@
+//! The signals of targets with their places, and what is no target.
+
+ghost use Rattle.std.specs.Prelude.{◌≡◌, ℕ, Bool, min, if◌then◌else◌, List, [], ◌∷◌, IfOk, length};
+ghost use Rattle.abel_tree.specs.Entries.{Entry, find};
+ghost use Rattle.abel_tree.specs.FirstRefusal.{first_refusal};
+ghost use Rattle.abel_meaning.specs.Designs.{Design};
+ghost use Rattle.set_expr.specs.declared.fault.SectionFault.TheVariants.{NotAnOutput};
+ghost use Rattle.set_expr.specs.Refusals.{too_wide};
+ghost use Rattle.set_expr.specs.KnownNames.{IsKnown};
+ghost use Rattle.set_expr.specs.SectionOrder.{section_order};
+ghost use Rattle.section_targets.specs.NamedTargets.{AreSignals, IsSide, AreTargets};
+ghost use Rattle.section_targets.specs.TargetSignals.{TargetFound, aims_at, no_target, targets_both, target_set, target_name};
+
+use crate::aim::Aim;
+use crate::named::NamedSignals;
+use pld_base::{ListOf, OutOfMemory, Place};
+use set_expr::{KnownNames, SectionFault, check_name, earlier};
+use std::alloc::Global;
+
+/// What is found of a target: its first refusal, and its signals from the left. `width` counts them, 255 where there
+/// are more; where there are more than 32, which is refused, the list isn't whole.
+#[derive(Drop)]
+pub struct Side {
+    pub aims: ListOf<Aim>,
+    pub width: u8,
+    pub fault: Option<SectionFault>,
+}
+
+/// The number of the name with this text.
+pub(crate) fn number_of(known: &KnownNames, text: &[u8]) -> Option<u32>
+    ensures { (es : List Entry) → IsKnown es known.now → result ≡ find es text.now }
+{
+    match known.get(text) {
+        None => None,
+        Some(name) => Some(name.number),
+    }
+}
+
+/// Signals that are all named at one place.
+fn list_aims(alloc: Global, signals: &[u32], place: Place) -> Result<Vec<Aim>, OutOfMemory>
+    ensures { IfOk result (λ aims. aims.items ≡ aims_at place signals.now) }
+{
+    let mut aims = Vec::new(alloc);
+    for index in 0..signals.len() {
+        let signal = signals[index];
+        aims.push(Aim { signal, place })?;
+    }
+    Ok(aims)
+}
+
+/// Refused where a name stands for what is no signal.
+fn refuse_mixed(alone: bool, place: Place, name: Option<u32>) -> Option<SectionFault>
+    ensures { result ≡ first_refusal section_order (if alone then [] else NotAnOutput place name ∷ []) }
+{
+    if alone {
+        None
+    } else {
+        Some(SectionFault::NotAnOutput(place, name))
+    }
+}
+
+/// Refused where a set has more than 32 positions.
+fn refuse_wide(place: Place, width: u8) -> Option<SectionFault>
+    ensures { (n : ℕ) → width ≡ min n 255 → result ≡ first_refusal section_order (too_wide place n) }
+{
+    if width > 32 {
+        Some(SectionFault::BadWidth(place))
+    } else {
+        None
+    }
+}
+
+impl Side {
+    /// No signal.
+    pub(crate) fn none(alloc: Global) -> Side
+        ensures { (count : ℕ) → IsSide count result (record { refusals = []; aims = [] }) }
+    {
+        Side {
+            aims: ListOf::from_vec(Vec::new(alloc)),
+            width: 0,
+            fault: None,
+        }
+    }
+
+    /// Refused as no target.
+    pub(crate) fn refused(alloc: Global, fault: SectionFault) -> Side
+        ensures { (count : ℕ) → IsSide count result (no_target fault) }
+    {
+        Side {
+            aims: ListOf::from_vec(Vec::new(alloc)),
+            width: 0,
+            fault: Some(fault),
+        }
+    }
+
+    /// The signals of a name that is used at this place, with what is refused of it.
+    fn named(
+        alloc: Global,
+        signals: &NamedSignals,
+        fault: Option<SectionFault>,
+        place: Place,
+    ) -> Result<Side, OutOfMemory>
+        ensures { IfOk result (λ s. (count : ℕ) (x : TargetFound) (xs : List ℕ) (alone : Bool) → fault ≡ first_refusal section_order x.refusals → x.aims ≡ aims_at place xs → AreSignals count signals.now xs alone → IsSide count s x) }
+    {
+        let aims = list_aims(alloc, signals.signals.as_slice(), place)?;
+        Ok(Side {
+            aims: ListOf::from_vec(aims),
+            width: signals.width,
+            fault,
+        })
+    }
+
+    /// The name with this text, used at a place, where its signals stand at another.
+    pub(crate) fn of_name(
+        alloc: Global,
+        known: &KnownNames,
+        named: &[NamedSignals],
+        text: &[u8],
+        place: Place,
+        signal_place: Place,
+    ) -> Result<Side, OutOfMemory>
+        ensures { IfOk result (λ s. (d : Design) → IsKnown d.names known.now → AreTargets d named.now → IsSide (length d.names) s (target_name d place signal_place text.now)) }
+    {
+        let found = check_name(known, text, place);
+        let none = NamedSignals::none(alloc, true);
+        let signals = none.with_name(known, named, text)?;
+        let mixed = refuse_mixed(signals.alone, signal_place, number_of(known, text));
+        let fault = earlier(found.fault, earlier(found.special, mixed));
+        Side::named(alloc, &signals, fault, signal_place)
+    }
+
+    /// With what is found of a member behind it.
+    #[tactic(auto, using(crate::proofs::Refused::first_of_both))]
+    pub(crate) fn with(self, other: &Side) -> Result<Side, OutOfMemory>
+        ensures { IfOk result (λ s. (count : ℕ) (x y : TargetFound) → IsSide count self x → IsSide count other.now y → IsSide count s (targets_both x y)) }
+    {
+        let mut aims = self.aims.into_vec();
+        let width = self.width.saturating_add(other.width);
+        if width <= 32 {
+            aims.extend_from_slice(other.aims.as_slice())?;
+        }
+        Ok(Side {
+            aims: ListOf::from_vec(aims),
+            width,
+            fault: earlier(self.fault, other.fault),
+        })
+    }
+
+    /// The set at this bracket of what is found of its members.
+    pub(crate) fn as_set(self, place: Place) -> Side
+        ensures { (count : ℕ) (x : TargetFound) → IsSide count self x → IsSide count result (target_set place x) }
+    {
+        let fault = earlier(self.fault, refuse_wide(place, self.width));
+        Side {
+            aims: self.aims,
+            width: self.width,
+            fault,
+        }
+    }
+}

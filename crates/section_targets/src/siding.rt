@@ -1,0 +1,199 @@
+//! The walk of a target.
+
+ghost use Rattle.std.specs.Prelude.{◌≡◌, List, IfOk, length, map};
+ghost use Rattle.abel_tree.specs.Entries.{Entry};
+ghost use Rattle.abel_tree.specs.Ranges.{range_names};
+ghost use Rattle.abel_tree.specs.Tree.{AName, members_of};
+ghost use Rattle.abel_tree.specs.View.{view, view_member};
+ghost use Rattle.abel_meaning.specs.Designs.{Design};
+ghost use Rattle.set_expr.specs.declared.fault.SectionFault.TheVariants.{NotAnOutput};
+ghost use Rattle.set_expr.specs.Answer.{first_place};
+ghost use Rattle.set_expr.specs.KnownNames.{IsKnown};
+ghost use Rattle.section_targets.specs.NamedTargets.{IsSide, AreTargets};
+ghost use Rattle.section_targets.specs.TargetSignals.{TargetFound, targets_both, target_range, target_one, target_member, target_members, target_set, left_side, first_name};
+
+use crate::named::NamedSignals;
+use crate::sides::{Side, number_of};
+use abel_tree::{Expr, Extension, Member, Word};
+use name_ranges::range_list;
+use pld_base::{OutOfMemory, Place};
+use set_expr::{KnownNames, SectionFault};
+use std::alloc::Global;
+
+/// The left side of an assignment that begins at this place, whose extension counts outside: its signals, or its first
+/// refusal. Calls go as deep as the nestings of sets and parentheses.
+pub fn left_side(
+    alloc: Global,
+    known: &KnownNames,
+    named: &[NamedSignals],
+    place: Place,
+    target: &Expr,
+) -> Result<Side, OutOfMemory>
+    ensures { IfOk result (λ s. (d : Design) → IsKnown d.names known.now → AreTargets d named.now → IsSide (length d.names) s (left_side d place (view target.now))) }
+{
+    match target {
+        Expr::Name { word, extension: _ } => {
+            Side::of_name(alloc, known, named, word.text.bytes(), word.place, place)
+        }
+        Expr::Set {
+            place: bracket,
+            members,
+            extension: _,
+        } => set_side(alloc, known, named, members.as_slice(), *bracket),
+        _ => member_side(alloc, known, named, target),
+    }
+}
+
+/// An operator in a target is refused where it begins.
+fn refuse_operator(known: &KnownNames, expr: &Expr) -> SectionFault
+    ensures { (es : List Entry) → IsKnown es known.now → result ≡ NotAnOutput (first_place (view expr.now)) (first_name es (view expr.now)) }
+{
+    let mut first = expr;
+    loop {
+        match first {
+            Expr::Binary {
+                sign: _,
+                place: _,
+                left,
+                right: _,
+            } => first = left.get(),
+            Expr::Name { word, extension: _ } => {
+                return SectionFault::NotAnOutput(word.place, number_of(known, word.text.bytes()));
+            }
+            Expr::Number(number) => return SectionFault::NotAnOutput(number.place, None),
+            Expr::Special { letter: _, place } => return SectionFault::NotAnOutput(*place, None),
+            Expr::Set {
+                place,
+                members: _,
+                extension: _,
+            } => return SectionFault::NotAnOutput(*place, None),
+            Expr::Paren { place, inner: _ } => return SectionFault::NotAnOutput(*place, None),
+            Expr::Unary {
+                sign: _,
+                place,
+                inner: _,
+            } => return SectionFault::NotAnOutput(*place, None),
+        }
+    }
+}
+
+/// A name in a set, which has no extension.
+fn name_side(
+    alloc: Global,
+    known: &KnownNames,
+    named: &[NamedSignals],
+    word: &Word,
+    extension: Option<Extension>,
+) -> Result<Side, OutOfMemory>
+    ensures { IfOk result (λ s. (d : Design) → IsKnown d.names known.now → AreTargets d named.now → IsSide (length d.names) s (target_member d (AName word.now extension))) }
+{
+    let text = word.text.bytes();
+    match extension {
+        None => Side::of_name(alloc, known, named, text, word.place, word.place),
+        Some(_) => {
+            let fault = SectionFault::NotAnOutput(word.place, number_of(known, text));
+            Ok(Side::refused(alloc, fault))
+        }
+    }
+}
+
+/// The set of these members at this bracket.
+#[cycle(siding)]
+fn set_side(
+    alloc: Global,
+    known: &KnownNames,
+    named: &[NamedSignals],
+    members: &[Member],
+    place: Place,
+) -> Result<Side, OutOfMemory>
+    ensures { IfOk result (λ s. (d : Design) → IsKnown d.names known.now → AreTargets d named.now → IsSide (length d.names) s (target_set place (target_members d (members_of (map view_member members.now))))) }
+{
+    let mut side = Side::none(alloc);
+    for member in members {
+        side = with_member(alloc, known, named, member, side)?;
+    }
+    Ok(side.as_set(place))
+}
+
+/// One member more.
+#[cycle(siding)]
+fn with_member(
+    alloc: Global,
+    known: &KnownNames,
+    named: &[NamedSignals],
+    member: &Member,
+    before: Side,
+) -> Result<Side, OutOfMemory>
+    ensures { IfOk result (λ s. (d : Design) (x : TargetFound) → IsKnown d.names known.now → AreTargets d named.now → IsSide (length d.names) before x → IsSide (length d.names) s (targets_both x (target_one d (view_member member.now)))) }
+{
+    match member {
+        Member::One(expr) => {
+            let side = member_side(alloc, known, named, expr)?;
+            before.with(&side)
+        }
+        Member::Span { first, last } => with_range(alloc, known, named, first, last, before),
+    }
+}
+
+/// The names of a range more, which all stand at its first end.
+fn with_range(
+    alloc: Global,
+    known: &KnownNames,
+    named: &[NamedSignals],
+    first: &Word,
+    last: &Word,
+    before: Side,
+) -> Result<Side, OutOfMemory>
+    ensures { IfOk result (λ s. (d : Design) (x : TargetFound) → IsKnown d.names known.now → AreTargets d named.now → IsSide (length d.names) before x → IsSide (length d.names) s (targets_both x (target_range d first.now.place (range_names first.now.text last.now.text)))) }
+{
+    let names = range_list(alloc, first.text.bytes(), last.text.bytes())?;
+    let mut side = before;
+    for name in &names {
+        let place = first.place;
+        let one = Side::of_name(alloc, known, named, name.as_slice(), place, place)?;
+        side = side.with(&one)?;
+    }
+    Ok(side)
+}
+
+/// A member of a target.
+#[cycle(siding)]
+fn member_side(
+    alloc: Global,
+    known: &KnownNames,
+    named: &[NamedSignals],
+    expr: &Expr,
+) -> Result<Side, OutOfMemory>
+    ensures { IfOk result (λ s. (d : Design) → IsKnown d.names known.now → AreTargets d named.now → IsSide (length d.names) s (target_member d (view expr.now))) }
+{
+    match expr {
+        Expr::Number(number) => Ok(Side::refused(
+            alloc,
+            SectionFault::NotAnOutput(number.place, None),
+        )),
+        Expr::Special { letter: _, place } => {
+            Ok(Side::refused(alloc, SectionFault::MisplacedSpecial(*place)))
+        }
+        Expr::Name { word, extension } => name_side(alloc, known, named, word, *extension),
+        Expr::Set {
+            place,
+            members,
+            extension,
+        } => match extension {
+            Some(_) => Ok(Side::refused(alloc, SectionFault::NotAnOutput(*place, None))),
+            None => set_side(alloc, known, named, members.as_slice(), *place),
+        },
+        Expr::Paren { place: _, inner } => member_side(alloc, known, named, inner.get()),
+        Expr::Unary {
+            sign: _,
+            place,
+            inner: _,
+        } => Ok(Side::refused(alloc, SectionFault::NotAnOutput(*place, None))),
+        Expr::Binary {
+            sign: _,
+            place: _,
+            left: _,
+            right: _,
+        } => Ok(Side::refused(alloc, refuse_operator(known, expr))),
+    }
+}
