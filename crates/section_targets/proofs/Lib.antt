@@ -7,3 +7,4 @@ pub mod MetWords
 pub mod NameTerms
 pub mod SignalLists
 pub mod Views
+pub mod SmallTargets

@@ -128,7 +128,7 @@ pub aims_push : (p : Place) (ss : List ℕ) (s : ℕ) → aims_at p (ss ++ s ∷
 aims_push p [] s = refl
 aims_push p (x ∷ ss) s = ap (λ zs. record { signal = x; place = p } ∷ zs) (aims_push p ss s)
 
-aims_length : (p : Place) (ss : List ℕ) → length (aims_at p ss) ≡ length ss
+pub aims_length : (p : Place) (ss : List ℕ) → length (aims_at p ss) ≡ length ss
 aims_length p [] = refl
 aims_length p (s ∷ ss) = omega (arith, aims_length p ss)
 
