@@ -1,3 +1,4 @@
+pub mod ControlFuses
 pub mod FuseSteps
 pub mod HeldRows
 pub mod OwnedRows

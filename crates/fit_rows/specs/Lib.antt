@@ -1,3 +1,4 @@
+pub mod Controls
 pub mod FuseLists
 pub mod Owners
 pub mod Planned

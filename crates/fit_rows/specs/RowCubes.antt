@@ -1,5 +1,5 @@
 -- Rows of a device's array that hold cubes (the devices' datasheets: a fuse of 0 connects its column to the row).
-use Rattle.std.specs.Prelude.{◌≡◌, ℕ, ◌+◌, ◌/◌, ◌%◌, ◌<◌, ◌≤◌, ◌==◌, Bool, true, if◌then◌else◌, List, map, length, replicate, get_or, false}
+use Rattle.std.specs.Prelude.{◌≡◌, ℕ, ◌+◌, ◌/◌, ◌%◌, ◌<◌, ◌≤◌, ◌==◌, Bool, if◌then◌else◌, List, map, length, replicate, get_or, false}
 use Rattle.std.specs.Int.{bit_at}
 use Rattle.std.specs.List.{range_with_len}
 use Rattle.pld_device.specs.Rows.{row_fuses}

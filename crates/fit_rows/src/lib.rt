@@ -2,10 +2,12 @@
 #![tactic(auto)]
 
 mod burning;
+mod controls;
 mod laws;
 mod plan;
 #[cfg(test)]
 mod tests;
 
+pub use controls::{CellForm, device_fuses};
 pub use laws::owners;
 pub use plan::{CellPlan, Plan, planned_fuses};

@@ -93,13 +93,20 @@ fn cube_for(plan: &Plan, owner: Owner) -> Option<Cube>
     }
 }
 
+/// What a row is to hold. Takes no memory.
+pub(crate) fn planned<D: Device>(plan: &Plan, row: u16) -> Option<Cube>
+    ensures { result ≡ planned D.table plan.now row }
+{
+    cube_for(plan, owner_of::<D>(row))
+}
+
 /// What each row is to hold.
 fn plan_rows<D: Device>(alloc: Global, plan: &Plan) -> Result<Vec<Option<Cube>>, AllocError>
     ensures { IfOk result (λ rows. rows.items ≡ map (planned D.table plan.now) (range_with_len 0 D.table.rows)) }
 {
     let mut rows = Vec::new(alloc);
     for row in 0..D::ROWS {
-        rows.push(cube_for(plan, owner_of::<D>(row)))?;
+        rows.push(planned::<D>(plan, row))?;
     }
     Ok(rows)
 }

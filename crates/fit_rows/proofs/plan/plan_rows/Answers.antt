@@ -1,12 +1,12 @@
 use Rattle.std.proofs.Common.{◌∙◌, ap, map, arith}
 use Rattle.std.specs.List.{range_with_len}
-use Rattle.fit_rows.specs.Owners.{planned, cube_for}
+use Rattle.fit_rows.specs.Owners.{planned}
 use Rattle.fit_rows.proofs.FuseSteps.{one_fuse}
 use Rattle.fit_rows.proofs.plan.plan_rows.Goals as goal
 
 pub loop-row-preserved : goal.loop-row-preserved
 loop-row-preserved g c =
-    record { rows = one_fuse (planned g.D.Device.table c.args.plan.now) c.loop-row.row c.loop-row.rows.items c.push.new.self.items c.cube_for.result c.loop-row.invariant.rows (c.cube_for.ensures ∙ ap (cube_for c.args.plan.now) c.owner_of.ensures) c.in_ok-push.ensures.items }
+    record { rows = one_fuse (planned g.D.Device.table c.args.plan.now) c.loop-row.row c.loop-row.rows.items c.push.new.self.items c.planned.result c.loop-row.invariant.rows c.planned.ensures c.in_ok-push.ensures.items }
 
 pub returns : goal.returns
 returns g c =
