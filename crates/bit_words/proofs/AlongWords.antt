@@ -1,5 +1,5 @@
 -- The operators of the language are those that go along two words.
-use Rattle.std.proofs.Common.{◌≡◌, suc, ◌<◌, Bool, List, [], ◌∷◌, length, true, false, refl, sym, ap, ◌∙◌, arith}
+use Rattle.std.proofs.Common.{◌≡◌, suc, ◌<◌, Bool, List, [], ◌∷◌, length, map, true, false, refl, sym, ap, ◌∙◌, arith}
 use Rattle.bit_expr.specs.Arena.{arena, formula_at}
 use Rattle.bit_expr.specs.Folding.{Made, free, ◌>>=◌, make_not, make_and, make_or, make_xor}
 use Rattle.bit_expr.specs.Formulas.{Formula, Const}
@@ -7,10 +7,10 @@ use Rattle.bit_expr.specs.declared.node.Node.{Node}
 use Rattle.bit_expr.proofs.ArenaLists.{arena_count, low_formula}
 use Rattle.abel_tree.specs.declared.words.Binary.{Binary}
 use Rattle.abel_tree.specs.declared.words.Binary.TheVariants as binary
-use Rattle.abel_meaning.specs.BitWords.{Word, word_by_position, each_not, sum_bit, next_carry, sum_bits, relation_bit}
+use Rattle.abel_meaning.specs.BitWords.{Word, word_by_position, each_not, sum_bit, next_carry, sum_bits, relation_bit, operator_bits}
 use Rattle.bit_words.specs.declared.steps.Step.{Step}
 use Rattle.bit_words.specs.declared.steps.Step.TheVariants as step
-use Rattle.bit_words.specs.Along.{step_by, along, KeepsWords}
+use Rattle.bit_words.specs.Along.{step_by, along}
 use Rattle.bit_words.proofs.Making.{made_is}
 
 -- a step that carries nothing on
@@ -77,15 +77,15 @@ pub length_not : (w : Word) → length (each_not w).what ≡ length w
 length_not [] = refl
 length_not (x ∷ w) = ap suc (length_not w)
 
--- what is none of the operators that keep words keeps none
-pub no_other : (s : Binary) → KeepsWords s → (s ≡ binary.And → ⊥) → (s ≡ binary.Or → ⊥) → (s ≡ binary.Xor → ⊥) → (s ≡ binary.Xnor → ⊥) → (s ≡ binary.Minus → ⊥) → (s ≡ binary.Plus → ⊥) → ⊥
-no_other binary.And k a o x n m p = a refl
-no_other binary.Or k a o x n m p = o refl
-no_other binary.Xor k a o x n m p = x refl
-no_other binary.Xnor k a o x n m p = n refl
-no_other binary.Minus k a o x n m p = m refl
-no_other binary.Plus k a o x n m p = p refl
-no_other _ k a o x n m p = k
+-- what is none of the operators that go along words makes zeros
+pub no_operator : (s : Binary) (xs ys : Word) → (s ≡ binary.And → ⊥) → (s ≡ binary.Or → ⊥) → (s ≡ binary.Xor → ⊥) → (s ≡ binary.Xnor → ⊥) → (s ≡ binary.Minus → ⊥) → (s ≡ binary.Plus → ⊥) → operator_bits s xs ys ≡ free (map (λ x. Const false) xs)
+no_operator binary.And xs ys a o x n m p = absurd (a refl)
+no_operator binary.Or xs ys a o x n m p = absurd (o refl)
+no_operator binary.Xor xs ys a o x n m p = absurd (x refl)
+no_operator binary.Xnor xs ys a o x n m p = absurd (n refl)
+no_operator binary.Minus xs ys a o x n m p = absurd (m refl)
+no_operator binary.Plus xs ys a o x n m p = absurd (p refl)
+no_operator _ xs ys a o x n m p = refl
 
 pub no_relation : (s : Binary) (xs ys : Word) → (s ≡ binary.Equal → ⊥) → (s ≡ binary.Unequal → ⊥) → (s ≡ binary.Less → ⊥) → (s ≡ binary.LessEqual → ⊥) → (s ≡ binary.Greater → ⊥) → (s ≡ binary.GreaterEqual → ⊥) → relation_bit s xs ys ≡ free (Const false)
 no_relation binary.Equal xs ys a b c d e f = absurd (a refl)

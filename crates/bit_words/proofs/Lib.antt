@@ -1,3 +1,4 @@
 pub mod AlongWords
 pub mod Making
 pub mod Places
+pub mod PositionWords

@@ -2,8 +2,6 @@
 use Rattle.std.specs.Prelude.{Bool, true, false, [], ◌∷◌}
 use Rattle.bit_expr.specs.Folding.{Made, free, ◌>>=◌, make_not, make_and, make_or, make_xor}
 use Rattle.bit_expr.specs.Formulas.{Formula}
-use Rattle.abel_tree.specs.declared.words.Binary.{Binary}
-use Rattle.abel_tree.specs.declared.words.Binary.TheVariants as binary
 use Rattle.abel_meaning.specs.BitWords.{Word, sum_bit, next_carry}
 use Rattle.bit_words.specs.declared.steps.Step.{Step}
 use Rattle.bit_words.specs.declared.steps.Step.TheVariants as step
@@ -32,13 +30,3 @@ abbrev pub along : Step → (carry : Formula) → Word → Word → Made Word
 along g c [] ys = free []
 along g c (x ∷ xs) [] = free []
 along g c (x ∷ xs) (y ∷ ys) = step_by g (is_last xs) x y c >>= λ p. along g p.1 xs ys >>= λ us. free (p.0 ∷ us)
-
--- the operator makes a word of the width of its operands
-abbrev pub KeepsWords : Binary → Type 0
-KeepsWords binary.And = Unit {0}
-KeepsWords binary.Or = Unit {0}
-KeepsWords binary.Xor = Unit {0}
-KeepsWords binary.Xnor = Unit {0}
-KeepsWords binary.Plus = Unit {0}
-KeepsWords binary.Minus = Unit {0}
-KeepsWords _ = ⊥

@@ -1,3 +1,4 @@
 pub mod Along
 pub mod Making
 pub mod Pieces
+pub mod Positions

@@ -2,11 +2,15 @@
 #![tactic(auto)]
 
 mod compare;
+mod dropping;
 mod operators;
 mod pieces;
+mod positions;
 mod steps;
 #[cfg(test)]
 mod tests;
 
 pub use compare::relation_word;
-pub use operators::{complement_word, difference_word, operator_word};
+pub use dropping::kept_relation;
+pub use operators::{complement_word, difference_word, operator_word, unary_word};
+pub use positions::{digit_word, kept_word, resized_word, spread_word};

@@ -3,9 +3,12 @@
 ghost use Rattle.std.specs.Prelude.{◌<◌, length};
 ghost use Rattle.bit_expr.specs.Arena.{arena};
 
-use crate::{complement_word, difference_word, operator_word, relation_word};
-use abel_tree::Binary;
-use bit_expr::{Exprs, Leaf, Node};
+use crate::{
+    complement_word, difference_word, digit_word, kept_relation, kept_word, operator_word,
+    relation_word, resized_word, spread_word, unary_word,
+};
+use abel_tree::{Binary, Unary};
+use bit_expr::{ExprId, Exprs, Leaf, Node};
 use pld_base::Point;
 use std::test::Fail;
 
@@ -57,5 +60,65 @@ fn differences_keep_their_width(rt: HostRuntime) -> Result<(), Fail> {
     let b = more.add(Node::Leaf(Leaf::Q(3)))?;
     let not = complement_word(rt.alloc(), &mut more, &[b, b, b])?;
     assert_eq!(rt; not.len(), 3);
+    Ok(())
+}
+
+#[test]
+fn words_of_positions(rt: HostRuntime) -> Result<(), Fail> {
+    let alloc = rt.alloc();
+    let mut exprs = Exprs::new(alloc);
+    let a = exprs.add(Node::Leaf(Leaf::Pin(0)))?;
+    let digits = digit_word(alloc, 5, 4)?;
+    assert_eq!(rt;
+        digits.as_slice(),
+        &[ExprId(1), ExprId(0), ExprId(1), ExprId(0)]
+    );
+    let filled = resized_word(alloc, &[a], 2)?;
+    assert_eq!(rt; filled.as_slice(), &[a, ExprId(0)]);
+    let cut = resized_word(alloc, digits.as_slice(), 1)?;
+    assert_eq!(rt; cut.as_slice(), &[ExprId(1)]);
+    let spread = spread_word(alloc, a, 3)?;
+    assert_eq!(rt; spread.as_slice(), &[a, a, a]);
+    let kept = kept_word(alloc, &[true, false], &[ExprId(1), a])?;
+    assert_eq!(rt; kept.as_slice(), &[a]);
+    Ok(())
+}
+
+#[test]
+fn dropped_positions(rt: HostRuntime) -> Result<(), Fail> {
+    let alloc = rt.alloc();
+    let mut exprs = Exprs::new(alloc);
+    let a = exprs.add(Node::Leaf(Leaf::Pin(0)))?;
+    let first = [ExprId(0), a];
+    let second = [ExprId(1), a];
+    let equal = kept_relation(
+        alloc,
+        &mut exprs,
+        Binary::Equal,
+        &[true, true],
+        &first,
+        &second,
+    )?;
+    assert_eq!(rt; equal, ExprId(1));
+    let less = kept_relation(
+        alloc,
+        &mut exprs,
+        Binary::Less,
+        &[true, true],
+        &first,
+        &second,
+    )?;
+    assert_eq!(rt; less, ExprId(0));
+    Ok(())
+}
+
+#[test]
+fn negative_of_one(rt: HostRuntime) -> Result<(), Fail> {
+    let alloc = rt.alloc();
+    let mut exprs = Exprs::new(alloc);
+    let negative = unary_word(alloc, &mut exprs, Unary::Minus, &[ExprId(1), ExprId(0)])?;
+    assert_eq!(rt; negative.as_slice(), &[ExprId(1), ExprId(1)]);
+    let complement = unary_word(alloc, &mut exprs, Unary::Not, &[ExprId(1), ExprId(0)])?;
+    assert_eq!(rt; complement.as_slice(), &[ExprId(0), ExprId(1)]);
     Ok(())
 }

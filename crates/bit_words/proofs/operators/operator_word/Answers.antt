@@ -1,9 +1,10 @@
 -- Each operator goes along both words.
-use Rattle.std.proofs.Common.{false, subst}
+use Rattle.std.proofs.Common.{false, sym, subst}
 use Rattle.bit_expr.specs.Arena.{arena, formula_at}
 use Rattle.bit_expr.specs.Formulas.{Const}
 use Rattle.bit_words.specs.Making.{Makes, ShowsItems, word_at}
-use Rattle.bit_words.proofs.AlongWords.{zero_there, zero_is, and_along, or_along, xor_along, xnor_along, sum_along, no_other}
+use Rattle.bit_words.proofs.AlongWords.{zero_there, zero_is, and_along, or_along, xor_along, xnor_along, sum_along, no_operator}
+use Rattle.bit_words.proofs.PositionWords.{zeros_made}
 use Rattle.bit_words.proofs.operators.operator_word.Goals as goal
 
 pub along-requires-clause-carry : goal.along-requires-clause-carry
@@ -52,4 +53,10 @@ returns-in-Plus c =
     (sum_along (Const false) (word_at (arena c.args.exprs.now) c.args.first.now) (word_at (arena c.args.exprs.now) c.args.second.now)) (rw (zero_is c.args.exprs.now) at c.along-in-Plus.ensures))
 
 pub returns-in_default : goal.returns-in_default
-returns-in_default c = absurd (no_other c.args.sign c.requires.sign c.in_default.not-And c.in_default.not-Or c.in_default.not-Xor c.in_default.not-Xnor c.in_default.not-Minus c.in_default.not-Plus)
+returns-in_default c =
+    let fs = arena c.args.exprs.now in
+    let xs = word_at fs c.args.first.now in
+    let ys = word_at fs c.args.second.now in
+    subst (λ m. Makes ShowsItems c.args.exprs.now c.args.exprs.now c.zeros.result m)
+    (sym (no_operator c.args.sign xs ys c.in_default.not-And c.in_default.not-Or c.in_default.not-Xor c.in_default.not-Xnor c.in_default.not-Minus c.in_default.not-Plus))
+    (zeros_made c.args.exprs.now c.args.first.now c.zeros.result c.zeros.ensures.unless c.zeros.ensures.zeros)
