@@ -3,4 +3,4 @@
 
 mod laws;
 
-pub use laws::{example_is_refused, uses_are_read};
+pub use laws::{example_is_refused, uses_are_read, uses_have_columns};
