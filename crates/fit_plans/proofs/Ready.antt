@@ -1,0 +1,12 @@
+-- What can be covered meets what a cover asks for.
+use Rattle.std.proofs.Common.{ℕ, ◌≤◌, ◌<◌, ◌^◌, Bool, arith}
+use Rattle.bit_expr.specs.declared.netlist.Function.{Function}
+use Rattle.bit_expr.specs.declared.netlist.Netlist.{Netlist}
+use Rattle.fit_cells.specs.Covering.{AreInside}
+use Rattle.fit_cells.specs.Tries.{allowed_of, needed_of}
+use Rattle.fit_cells.proofs.InsideLists.{lists_inside}
+use Rattle.fit_plans.specs.Covered.{CanCover}
+
+pub are_inside : (vars mask : ℕ) (net : Netlist) (f : Function) (positive : Bool) → vars ≤ 22 → mask < 2 ^ 32 → CanCover vars net f
+    → AreInside vars mask (needed_of net f positive) (allowed_of net f positive)
+are_inside vars mask net f positive few low can = lists_inside net f vars mask positive (omega (arith, few)) low can.carried

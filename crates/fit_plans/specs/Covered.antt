@@ -1,0 +1,40 @@
+-- The covers of the cells and controls of a netlist, over the pairs' columns (this project's rule).
+use Rattle.std.specs.Prelude.{◌≡◌, ℕ, Bool, true, false, if◌then◌else◌, Option, None, Some, List, length}
+use Rattle.std.specs.Global.{Vec}
+use Rattle.bit_expr.specs.declared.netlist.CellWanted.{CellWanted}
+use Rattle.bit_expr.specs.declared.netlist.Function.{Function}
+use Rattle.bit_expr.specs.declared.netlist.Netlist.{Netlist}
+use Rattle.bit_expr.specs.declared.node.ExprId.{ExprId}
+use Rattle.cube_pool.specs.declared.cube.Cube.{Cube}
+use Rattle.pld_device.specs.declared.flip.Flip.{Flip}
+use Rattle.sop_lowering.specs.Lowering.{CanLower}
+use Rattle.fit_cells.specs.Covering.{IsTried}
+use Rattle.fit_cells.specs.Points.{IsCarried}
+use Rattle.fit_cells.specs.Tries.{allowed_of, needed_of}
+use Rattle.fit_cells.specs.declared.choosing.Tried.{Tried}
+use Rattle.fit_plans.specs.Forms.{may_be_inverted_as, rows_are_positive}
+
+-- what covering a function needs: it can be lowered, and all levels of the pairs are carried to it from some point
+pub record CanCover (vars : ℕ) (net : Netlist) (f : Function) : Type 0 where
+  pub one : CanLower net f.one
+  pub any : CanLower net f.any
+  pub carried : (pairs : List Bool) → length pairs ≡ vars → IsCarried net f pairs
+
+-- the cover of a function by rows that have what its `one` has, or the complement; none where it is too wide
+abbrev pub IsCoverOf : (vars mask : ℕ) → Netlist → Function → (positive : Bool) → Option (Vec Cube) → Type 0
+IsCoverOf vars mask net f positive rows = IsTried vars mask (needed_of net f positive) (allowed_of net f positive) rows
+
+-- the cover of a cell in one form where it may have the form, else none
+abbrev pub IsTriedAs : Flip → (vars mask : ℕ) → Netlist → CellWanted → (inverted : Bool) → Option (Vec Cube) → Type 0
+IsTriedAs flip vars mask net w inverted rows =
+    (may_be_inverted_as flip w inverted ≡ true → IsCoverOf vars mask net w.function (rows_are_positive flip w inverted) rows)
+    × (may_be_inverted_as flip w inverted ≡ false → rows ≡ None)
+
+-- both forms of a cell
+pub record IsTriedCell (flip : Flip) (vars mask : ℕ) (net : Netlist) (w : CellWanted) (tried : Tried) : Type 0 where
+  pub direct : IsTriedAs flip vars mask net w false tried.direct
+  pub inverted : IsTriedAs flip vars mask net w true tried.inverted
+
+-- a control as a function: never any
+abbrev pub control_function : ExprId → Function
+control_function bit = record { one = bit; any = record { 0 = 0 }; complement = false }

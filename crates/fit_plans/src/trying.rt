@@ -1,0 +1,58 @@
+//! The covers of a cell in the forms that it may have.
+
+ghost use Rattle.std.specs.Prelude.{◌≡◌, ◌≤◌, ◌<◌, ◌^◌, IfOk};
+ghost use Rattle.fit_plans.specs.Covered.{CanCover, IsTriedAs, IsTriedCell};
+
+use crate::forms::{may_be_inverted_as, rows_are_positive};
+use bit_expr::{CellWanted, Netlist};
+use cube_pool::{Cube, CubePool};
+use fit_cells::{Tried, cover};
+use pld_device::Flip;
+use std::alloc::{AllocError, Global};
+
+/// The cover of a cell in one form, over the pairs' columns; None where it may not have the form, or where a list on the
+/// way would pass 1,024 products. Bit v of `turned` says that pair v carries the complement of its variable.
+pub fn try_form(
+    alloc: Global,
+    pool: &mut CubePool,
+    net: &Netlist,
+    wanted: &CellWanted,
+    flip: Flip,
+    inverted: bool,
+    turned: u32,
+    vars: u8,
+) -> Result<Option<Vec<Cube>>, AllocError>
+    requires vars { vars ≤ 22 }
+    requires spare { 27672 ≤ pool.old.spare }
+    requires can { CanCover vars net.now wanted.now.function }
+    ensures same { pool.new ≡ pool.old }
+    ensures tried { IfOk result (IsTriedAs flip vars turned net.now wanted.now inverted) }
+{
+    if may_be_inverted_as(flip, wanted, inverted) {
+        let positive = rows_are_positive(flip, wanted, inverted);
+        cover(alloc, pool, net, wanted.function, positive, turned, vars)
+    } else {
+        Ok(None)
+    }
+}
+
+/// The covers of a cell in both forms.
+pub fn try_cell(
+    alloc: Global,
+    pool: &mut CubePool,
+    net: &Netlist,
+    wanted: &CellWanted,
+    flip: Flip,
+    turned: u32,
+    vars: u8,
+) -> Result<Tried, AllocError>
+    requires vars { vars ≤ 22 }
+    requires spare { 27672 ≤ pool.old.spare }
+    requires can { CanCover vars net.now wanted.now.function }
+    ensures same { pool.new ≡ pool.old }
+    ensures tried { IfOk result (IsTriedCell flip vars turned net.now wanted.now) }
+{
+    let direct = try_form(alloc, pool, net, wanted, flip, false, turned, vars)?;
+    let inverted = try_form(alloc, pool, net, wanted, flip, true, turned, vars)?;
+    Ok(Tried { direct, inverted })
+}
