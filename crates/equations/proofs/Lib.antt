@@ -1,2 +1,3 @@
+pub mod CheckedUnits
 mod ExampleRefusals
 mod Written

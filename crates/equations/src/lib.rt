@@ -1,2 +1,7 @@
-//! What equations contribute to the signals of a source.
+//! What equations contribute to the signals of a source, and what is refused of them.
 #![tactic(auto)]
+
+mod checking;
+mod conditions;
+
+pub use checking::check_statements;

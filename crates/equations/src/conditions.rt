@@ -1,0 +1,85 @@
+//! What is refused of values and conditions.
+
+ghost use Rattle.std.specs.Prelude.{◌≡◌, Option, IfOk};
+ghost use Rattle.abel_tree.specs.Assigned as assigned;
+ghost use Rattle.abel_tree.specs.Entries.{entries_of};
+ghost use Rattle.abel_tree.specs.FirstRefusal.{first_refusal};
+ghost use Rattle.abel_tree.specs.View.{view};
+ghost use Rattle.abel_meaning.specs.Designs.{Design};
+ghost use Rattle.abel_meaning.specs.Numbers.{Value};
+ghost use Rattle.set_expr.specs.KnownNames.{IsKnown, HasShapeIf, SumsUp};
+ghost use Rattle.set_expr.specs.Refusals.{Found};
+ghost use Rattle.set_expr.specs.SectionOrder.{section_order};
+ghost use Rattle.section_targets.specs.ValueWidths.{value_width, value_refused};
+ghost use Rattle.equations.specs.StatementUnits.{condition_refused};
+
+use abel_tree::{Expr, Extension, Names, Sign};
+use pld_base::{OutOfMemory, Place};
+use set_expr::{Checked, KnownNames, SectionFault, Shape, check, earlier};
+use std::alloc::Global;
+
+/// The extension of a target, which stands outside.
+pub(crate) fn target_extension(target: &Expr) -> Option<Extension>
+    ensures { result ≡ assigned.target_extension (view target.now) }
+{
+    match target {
+        Expr::Name { word: _, extension } => *extension,
+        Expr::Set {
+            place: _,
+            members: _,
+            extension,
+        } => *extension,
+        _ => None,
+    }
+}
+
+/// Whether the sign assigns on the clock.
+pub(crate) fn is_clocked(sign: Sign) -> bool
+    ensures { result ≡ assigned.is_clocked sign }
+{
+    match sign {
+        Sign::Equal => false,
+        Sign::Clocked => true,
+        Sign::Any => false,
+        Sign::ClockedAny => true,
+    }
+}
+
+/// Refused where a set meets another number of signals.
+fn refuse_width(place: Place, width: usize, shape: Option<Shape>) -> Option<SectionFault>
+    ensures { (v : Option Value) → HasShapeIf shape v → result ≡ first_refusal section_order (value_width place width v) }
+{
+    match shape {
+        Some(Shape::Set(found)) => {
+            if found as usize == width {
+                None
+            } else {
+                Some(SectionFault::BadWidth(place))
+            }
+        }
+        _ => None,
+    }
+}
+
+/// What is refused of a value that meets so many signals.
+pub(crate) fn refuse_value(place: Place, width: usize, value: Checked) -> Option<SectionFault>
+    ensures { (f : Found) → SumsUp value f → result ≡ first_refusal section_order (value_refused place width f) }
+{
+    let width = refuse_width(place, width, value.shape);
+    earlier(value.fault, earlier(value.special, width))
+}
+
+/// What is refused of a condition at the place of its WHEN.
+pub(crate) fn check_condition(
+    alloc: Global,
+    names: &Names,
+    known: &KnownNames,
+    place: Place,
+    condition: &Expr,
+) -> Result<Option<SectionFault>, OutOfMemory>
+    requires known { IsKnown (entries_of names.now) known.now }
+    ensures { IfOk result (λ f. (d : Design) → d.names ≡ entries_of names.now → f ≡ first_refusal section_order (condition_refused d place (view condition.now))) }
+{
+    let value = check(alloc, names, known, condition)?;
+    Ok(refuse_value(place, 1, value))
+}
