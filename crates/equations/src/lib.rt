@@ -3,5 +3,7 @@
 
 mod checking;
 mod conditions;
+#[cfg(test)]
+mod tests;
 
 pub use checking::check_statements;
