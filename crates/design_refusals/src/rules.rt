@@ -65,7 +65,8 @@ pub(crate) fn refused_by<D: Device>(
     declared: &Declared,
     given: &Contribution,
 ) -> Option<SignalFault>
-    ensures { result ≡ first_refusal signal_order (rule_refused D.table rule (view_declared declared.now) given.now) }
+    ensures { result ≡ first_refusal signal_order
+        (rule_refused D.table rule (view_declared declared.now) given.now) }
 {
     let (place, name) = (given.place, given.target.signal);
     match rule {

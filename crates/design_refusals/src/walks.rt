@@ -18,7 +18,8 @@ use set_expr::Contribution;
 /// The first that a rule refuses of the contributions.
 fn first_by<D: Device>(names: &Names, list: &[Contribution], rule: Rule) -> Option<SignalFault>
     requires { AreToNames (length (entries_of names.now)) list.now }
-    ensures { result ≡ first_refusal signal_order (all_refused D.table (entries_of names.now) rule list.now) }
+    ensures { result ≡ first_refusal signal_order
+        (all_refused D.table (entries_of names.now) rule list.now) }
 {
     let mut fault = None;
     for given in list {
@@ -32,7 +33,8 @@ fn first_by<D: Device>(names: &Names, list: &[Contribution], rule: Rule) -> Opti
 /// that must. Takes no memory.
 pub fn wrong_kind<D: Device>(names: &Names, list: &[Contribution]) -> Option<SignalFault>
     requires { AreToNames (length (entries_of names.now)) list.now }
-    ensures { result ≡ first_refusal signal_order (all_refused D.table (entries_of names.now) rule.Kinds list.now) }
+    ensures { result ≡ first_refusal signal_order
+        (all_refused D.table (entries_of names.now) rule.Kinds list.now) }
 {
     first_by::<D>(names, list, Rule::Kinds)
 }
@@ -40,7 +42,8 @@ pub fn wrong_kind<D: Device>(names: &Names, list: &[Contribution]) -> Option<Sig
 /// The first target that is a control which its signal does not have. Takes no memory.
 pub fn missing_control<D: Device>(names: &Names, list: &[Contribution]) -> Option<SignalFault>
     requires { AreToNames (length (entries_of names.now)) list.now }
-    ensures { result ≡ first_refusal signal_order (all_refused D.table (entries_of names.now) rule.Controls list.now) }
+    ensures { result ≡ first_refusal signal_order
+        (all_refused D.table (entries_of names.now) rule.Controls list.now) }
 {
     first_by::<D>(names, list, Rule::Controls)
 }
@@ -48,7 +51,8 @@ pub fn missing_control<D: Device>(names: &Names, list: &[Contribution]) -> Optio
 /// The first control that is assigned by `?=`. Takes no memory.
 pub fn dont_care_control<D: Device>(names: &Names, list: &[Contribution]) -> Option<SignalFault>
     requires { AreToNames (length (entries_of names.now)) list.now }
-    ensures { result ≡ first_refusal signal_order (all_refused D.table (entries_of names.now) rule.DontCares list.now) }
+    ensures { result ≡ first_refusal signal_order
+        (all_refused D.table (entries_of names.now) rule.DontCares list.now) }
 {
     first_by::<D>(names, list, Rule::DontCares)
 }
@@ -76,7 +80,8 @@ fn node_refused(declared: &Declared, number: u32) -> Option<SignalFault>
 
 /// The first declaration of a node that is registered: by its attribute, or by an assignment on the clock.
 pub fn registered_node(names: &Names) -> Result<Option<SignalFault>, OutOfMemory>
-    ensures { IfOk result (λ f. f ≡ first_refusal signal_order (registered_nodes 0 (entries_of names.now))) }
+    ensures { IfOk result (λ f. f ≡ first_refusal signal_order
+        (registered_nodes 0 (entries_of names.now))) }
 {
     let mut fault = None;
     let mut number = 0u32;

@@ -26,7 +26,8 @@ const NOTHING: Reads = Reads {
 
 /// The leaves of either.
 fn both(a: Reads, b: Reads) -> Reads
-    ensures { (f g : Leaf → Bool) → AreReads f a → AreReads g b → AreReads (λ leaf. f leaf || g leaf) result }
+    ensures { (f g : Leaf → Bool) → AreReads f a → AreReads g b
+        → AreReads (λ leaf. f leaf || g leaf) result }
 {
     Reads {
         pins: a.pins | b.pins,
