@@ -19,3 +19,5 @@ mod repeats;
 mod sizes;
 #[cfg(test)]
 mod tests;
+#[cfg(test)]
+mod tokens;

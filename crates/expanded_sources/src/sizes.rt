@@ -125,3 +125,18 @@ fn the_longest_result_is_taken(rt: HostRuntime) -> Result<(), Fail> {
     );
     Ok(())
 }
+
+// One rewriting for `@REPEAT`, one for each `m`, and three for what stands behind them.
+#[test]
+fn a_repeat_over_two_calls_is_three_rewritings(rt: HostRuntime) -> Result<(), Fail> {
+    let last = b"m MACRO {};inv MACRO (n) {Y?n = !A?n;};@REPEAT 65532 {m }@IRP i (0,1) {inv(?i)}";
+    assert_eq!(rt; ending(rt.alloc(), last)?, (65_550, None));
+    let over = b"m MACRO {};inv MACRO (n) {Y?n = !A?n;};@REPEAT 65533 {m }@IRP i (0,1) {inv(?i)}";
+    let place = Place {
+        line: 1,
+        column: 65_543,
+    };
+    let fault = ExpandFault::ExpansionLimit(place);
+    assert_eq!(rt; ending(rt.alloc(), over)?, (65_542, Some(fault)));
+    Ok(())
+}
