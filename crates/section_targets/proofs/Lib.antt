@@ -8,3 +8,5 @@ pub mod NameTerms
 pub mod SignalLists
 pub mod Views
 pub mod SmallTargets
+pub mod Settled
+pub mod OneUnit

@@ -9,6 +9,7 @@ mod named;
 mod naming;
 mod nodes;
 mod outputs;
+mod settling;
 mod sides;
 mod siding;
 #[cfg(test)]
@@ -23,6 +24,7 @@ pub use named::NamedSignals;
 pub use naming::target_names;
 pub use nodes::add_node;
 pub use outputs::check_aims;
+pub use settling::settle;
 pub use sides::Side;
 pub use siding::left_side;
 pub use words::meet;
