@@ -2,6 +2,7 @@
 #![tactic(auto)]
 
 mod aim;
+mod answers;
 mod assigned;
 mod giving;
 mod manner;
@@ -9,7 +10,6 @@ mod named;
 mod naming;
 mod nodes;
 mod outputs;
-mod settling;
 mod sides;
 mod siding;
 #[cfg(test)]
@@ -17,6 +17,7 @@ mod tests;
 mod words;
 
 pub use aim::Aim;
+pub use answers::answer_units;
 pub use assigned::Assigned;
 pub use giving::{Giving, give, give_all};
 pub use manner::Manner;
@@ -24,7 +25,6 @@ pub use named::NamedSignals;
 pub use naming::target_names;
 pub use nodes::add_node;
 pub use outputs::check_aims;
-pub use settling::settle;
 pub use sides::Side;
 pub use siding::left_side;
 pub use words::meet;

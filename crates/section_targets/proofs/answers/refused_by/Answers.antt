@@ -3,7 +3,7 @@ use Rattle.abel_tree.specs.FirstRefusal.{earlier}
 use Rattle.set_expr.specs.SectionOrder.{section_order}
 use Rattle.section_targets.specs.Building.{StopsWith}
 use Rattle.section_targets.proofs.Settled.{settled_limit, settled_alone}
-use Rattle.section_targets.proofs.settling.settled.Goals as goal
+use Rattle.section_targets.proofs.answers.refused_by.Goals as goal
 
 pub returns-in-NodeLimit : goal.returns-in-NodeLimit
 returns-in-NodeLimit c us gs ps old new e b =

@@ -25,7 +25,7 @@ fn sooner(fault: Option<SectionFault>, limit: SectionFault) -> SectionFault
 }
 
 /// Why units were not all built, or what is refused before that.
-fn settled(fault: Option<SectionFault>, stop: SectionFault) -> SectionFault
+fn refused_by(fault: Option<SectionFault>, stop: SectionFault) -> SectionFault
     ensures { (us : List CountedUnit) (gs : List (meant.Contribution Formula)) (ps : List Place) (old new : Contributions) → fault ≡ first_refusal section_order (units_refused us) → StopsWith us gs ps old new stop → AnswersUnits us gs ps old new (Err result) }
 {
     match stop {
@@ -40,7 +40,7 @@ fn settled(fault: Option<SectionFault>, stop: SectionFault) -> SectionFault
 
 /// The answer for units whose first refusal this is, and which were built in order up to the first that is refused
 /// or passes the limit: the first by place of the refusal and the limit.
-pub fn settle(
+pub fn answer_units(
     fault: Option<SectionFault>,
     built: Result<(), SectionFault>,
 ) -> Result<(), SectionFault>
@@ -48,6 +48,6 @@ pub fn settle(
 {
     match built {
         Ok(()) => Ok(()),
-        Err(stop) => Err(settled(fault, stop)),
+        Err(stop) => Err(refused_by(fault, stop)),
     }
 }
