@@ -10,3 +10,4 @@ pub mod Views
 pub mod SmallTargets
 pub mod Settled
 pub mod OneUnit
+pub mod SideTerms

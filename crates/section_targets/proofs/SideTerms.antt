@@ -1,0 +1,111 @@
+-- The signals of a target that isn't refused are those of its term, position by position.
+use Rattle.std.proofs.Common.{◌≡◌, ℕ, Bool, true, false, ◌&&◌, Option, None, Some, List, [], ◌∷◌, ◌++◌, if◌then◌else◌, length, map, append_assoc, refl, sym, ap, ap₂, ◌∙◌}
+use Rattle.std.proofs.lemmas.List.{map-append}
+use Rattle.pld_base.specs.declared.place.Place.{Place}
+use Rattle.abel_tree.specs.declared.words.Extension.{Extension}
+use Rattle.abel_tree.specs.Entries.{find}
+use Rattle.abel_tree.specs.Ranges.{range_names}
+use Rattle.abel_tree.specs.Tree.{Tree, ANumber, ASpecial, AName, ASet, AParen, AUnary, ABinary, OneMember, SpanMember, Members, NoMember, MoreMembers}
+use Rattle.abel_meaning.specs.Designs.{Design}
+use Rattle.abel_meaning.specs.Targets.{targets_of, all_targets, some_signals}
+use Rattle.abel_meaning.specs.Terms.{Term, Terms, Number, X, Pulse, Release, Read, Set, UnaryOf, BinaryOf, NoTerm, Before, extended_if, term_named, term_of, terms_of, named_before}
+use Rattle.set_expr.specs.declared.fault.SectionFault.{SectionFault}
+use Rattle.set_expr.specs.declared.fault.SectionFault.TheVariants.{NotAnOutput}
+use Rattle.set_expr.specs.FoundNames.{found_use, name_found, names_found}
+use Rattle.set_expr.specs.Refusals.{too_wide}
+use Rattle.section_targets.specs.declared.aim.Aim.{Aim}
+use Rattle.section_targets.specs.TargetSignals.{TargetFound, aims_at, names_signals, all_name_signals, no_signals, target_name, target_range, target_member, target_members, left_side}
+use Rattle.section_targets.proofs.Built.{left_empty, right_empty}
+use Rattle.section_targets.proofs.SignalLists.{some_append, extended_targets}
+
+-- each aim's signal, as a position of a target
+abbrev pub positions_of : List Aim → List (Option ℕ)
+positions_of aims = map (λ (a : Aim). Some a.signal) aims
+
+left_true : (a b : Bool) → (a && b) ≡ true → a ≡ true
+left_true true b e = refl
+left_true false b e = absurd cc
+
+right_true : (a b : Bool) → (a && b) ≡ true → b ≡ true
+right_true true b e = e
+right_true false b e = absurd cc
+
+mutual
+  signals_alone : (t : Term) → names_signals t ≡ true → targets_of t ≡ map Some (some_signals (targets_of t))
+  signals_alone (Number n) e = absurd cc
+  signals_alone X e = absurd cc
+  signals_alone Pulse e = absurd cc
+  signals_alone Release e = absurd cc
+  signals_alone (Read s None) e = refl
+  signals_alone (Read s (Some f)) e = absurd cc
+  signals_alone (Set ts) e = all_alone ts e
+  signals_alone (UnaryOf sign t) e = absurd cc
+  signals_alone (BinaryOf sign t u) e = absurd cc
+
+  all_alone : (ts : Terms) → all_name_signals ts ≡ true → all_targets ts ≡ map Some (some_signals (all_targets ts))
+  all_alone NoTerm e = refl
+  all_alone (Before t ts) e =
+      ap₂ (λ xs ys. xs ++ ys) (signals_alone t (left_true (names_signals t) (all_name_signals ts) e)) (all_alone ts (right_true (names_signals t) (all_name_signals ts) e))
+      ∙ sym (ap (map Some) (some_append (targets_of t) (all_targets ts)) ∙ map-append Some (some_signals (targets_of t)) (some_signals (all_targets ts)))
+
+aims_positions : (q : Place) (ss : List ℕ) → positions_of (aims_at q ss) ≡ map Some ss
+aims_positions q [] = refl
+aims_positions q (s ∷ ss) = ap (λ xs. Some s ∷ xs) (aims_positions q ss)
+
+name_positions : (d : Design) (p q : Place) (w : List ℕ) → (target_name d p q w).refusals ≡ [] → targets_of (term_named d.known w) ≡ positions_of (target_name d p q w).aims
+name_positions d p q w e =
+    let f = found_use p (name_found (names_found d.names) w) in
+    let t = term_named d.known w in
+    signals_alone t (alone (names_signals t) (right_empty f.specials (no_signals q (find d.names w) t) (right_empty f.refusals (f.specials ++ no_signals q (find d.names w) t) e)))
+    ∙ sym (aims_positions q (some_signals (targets_of t)))
+  where
+    alone : (b : Bool) → (if b then [] else NotAnOutput q (find d.names w) ∷ []) ≡ [] → b ≡ true
+    alone true e = refl
+    alone false e = absurd cc
+
+range_positions : (d : Design) (p : Place) (names : List (List ℕ)) (ts : Terms) (x : TargetFound) → all_targets ts ≡ positions_of x.aims → (target_range d p names).refusals ≡ []
+    → all_targets (named_before d.known names ts) ≡ positions_of ((target_range d p names).aims ++ x.aims)
+range_positions d p [] ts x h e = h
+range_positions d p (n ∷ names) ts x h e =
+    let a = target_name d p p n in
+    let b = target_range d p names in
+    ap₂ (λ xs ys. xs ++ ys) (name_positions d p p n (left_empty a.refusals b.refusals e)) (range_positions d p names ts x h (right_empty a.refusals b.refusals e))
+    ∙ sym (map-append (λ (a : Aim). Some a.signal) a.aims (b.aims ++ x.aims))
+    ∙ ap positions_of (sym (append_assoc a.aims b.aims x.aims))
+
+mutual
+  member_positions : (d : Design) (t : Tree) → (target_member d t).refusals ≡ [] → targets_of (term_of d.known t) ≡ positions_of (target_member d t).aims
+  member_positions d (ANumber n) e = absurd cc
+  member_positions d (ASpecial letter p) e = absurd cc
+  member_positions d (AName word None) e = name_positions d word.place word.place word.text e
+  member_positions d (AName word (Some x)) e = absurd cc
+  member_positions d (ASet p ms None) e = members_positions d ms (left_empty (target_members d ms).refusals (too_wide p (length (target_members d ms).aims)) e)
+  member_positions d (ASet p ms (Some x)) e = absurd cc
+  member_positions d (AParen p t) e = member_positions d t e
+  member_positions d (AUnary sign p t) e = absurd cc
+  member_positions d (ABinary sign p t u) e = absurd cc
+
+  members_positions : (d : Design) (ms : Members) → (target_members d ms).refusals ≡ [] → all_targets (terms_of d.known ms) ≡ positions_of (target_members d ms).aims
+  members_positions d NoMember e = refl
+  members_positions d (MoreMembers (OneMember t) ms) e =
+      let a = target_member d t in
+      let b = target_members d ms in
+      ap₂ (λ xs ys. xs ++ ys) (member_positions d t (left_empty a.refusals b.refusals e)) (members_positions d ms (right_empty a.refusals b.refusals e))
+      ∙ sym (map-append (λ (a : Aim). Some a.signal) a.aims b.aims)
+  members_positions d (MoreMembers (SpanMember first last) ms) e =
+      let a = target_range d first.place (range_names first.text last.text) in
+      let b = target_members d ms in
+      range_positions d first.place (range_names first.text last.text) (terms_of d.known ms) b (members_positions d ms (right_empty a.refusals b.refusals e)) (left_empty a.refusals b.refusals e)
+
+extended_positions : (e : Option Extension) (t : Term) → targets_of (extended_if e t) ≡ targets_of t
+extended_positions None t = refl
+extended_positions (Some e) t = extended_targets e t
+
+pub side_positions : (d : Design) (p : Place) (t : Tree) → (left_side d p t).refusals ≡ [] → targets_of (term_of d.known t) ≡ positions_of (left_side d p t).aims
+side_positions d p (AName word x) e = extended_positions x (term_named d.known word.text) ∙ name_positions d word.place p word.text e
+side_positions d p (ASet q ms x) e = extended_positions x (Set (terms_of d.known ms)) ∙ members_positions d ms (left_empty (target_members d ms).refusals (too_wide q (length (target_members d ms).aims)) e)
+side_positions d p (ANumber n) e = member_positions d (ANumber n) e
+side_positions d p (ASpecial letter q) e = member_positions d (ASpecial letter q) e
+side_positions d p (AParen q t) e = member_positions d (AParen q t) e
+side_positions d p (AUnary sign q t) e = member_positions d (AUnary sign q t) e
+side_positions d p (ABinary sign q t u) e = member_positions d (ABinary sign q t u) e
