@@ -9,7 +9,8 @@ use Rattle.set_expr.specs.declared.contributions.Contributions.{Contributions}
 use Rattle.set_expr.specs.declared.fault.SectionFault.{SectionFault}
 use Rattle.set_expr.specs.declared.fault.SectionFault.TheVariants as fault
 use Rattle.section_targets.specs.Appending.{Contributed}
-use Rattle.section_targets.specs.Building.{Stop, AtLimit, NoMemory, AtRefusal, stop_of, Stops, Builds}
+use Rattle.section_targets.specs.Building.{Stop, AtLimit, NoMemory, AtRefusal, stop_of, Stops, IsBuilt, Builds}
+use Rattle.section_targets.proofs.Built.{builds_then}
 use Rattle.section_targets.specs.Units.{CountedUnit, part, is_past, limit_at, limit_refused, units_refused, units_nodes}
 
 -- parts of a unit at this place
@@ -53,3 +54,9 @@ one_unit p us gs ps old new (Ok r) h b =
       made = subst (Contributed old new gs ps) (omega arith) b.made;
     }
 one_unit p us gs ps old new (Err f) h b = (unit_stops p (length (arena old.exprs)) us (stop_of f) h b.0, b.1)
+
+-- two parts of nodes alone
+pub two_parts : {R : Type 0} (p : Place) (m n : ℕ) (old mid new : Contributions) (r : Result R SectionFault) → IsBuilt (part p m ∷ []) [] [] old mid → Builds (part p n ∷ []) [] [] mid new r → Builds (part p (m + n) ∷ []) [] [] old new r
+two_parts p m n old mid new r a b =
+    subst (λ k. Builds (part p k ∷ []) [] [] old new r) (omega arith)
+    (one_unit p (part p m ∷ part p n ∷ []) [] [] old new r (refl, (refl, tt)) (builds_then (part p m ∷ []) (part p n ∷ []) [] [] [] [] old mid new r a b))
