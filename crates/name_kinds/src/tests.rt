@@ -70,6 +70,14 @@ fn equations(alloc: Global, statement: Stmt) -> Result<Vec<Section>, OutOfMemory
     Ok(sections)
 }
 
+/// The name of this number.
+fn entry(settled: &[Declared], number: usize) -> Result<&Declared, Fail> {
+    match settled.get(number) {
+        Some(declared) => Ok(declared),
+        None => Err("there are too few names".into()),
+    }
+}
+
 #[test]
 fn constants_that_double_are_followed_once(rt: HostRuntime) -> Result<(), Fail> {
     let alloc = rt.alloc();
@@ -91,12 +99,24 @@ fn constants_that_double_are_followed_once(rt: HostRuntime) -> Result<(), Fail> 
     let target = name(alloc, before.as_str(), None)?;
     let sections = equations(alloc, assign(target, Sign::Clocked))?;
     let settled = settle(alloc, Flip::AfterRegister, names, sections.as_slice())?;
-    assert!(rt; settled[0].assigned);
-    assert!(rt; settled[0].attributes.contains(Attributes::REG));
-    assert!(rt; settled[0].attributes.contains(Attributes::BUFFER));
-    assert!(rt; !settled[1].assigned);
-    assert!(rt; settled[1].attributes.contains(Attributes::COM));
-    assert!(rt; !settled[41].assigned);
+    assert!(rt; entry(settled.as_slice(), 0)?.assigned);
+    assert!(rt;
+        entry(settled.as_slice(), 0)?
+            .attributes
+            .contains(Attributes::REG)
+    );
+    assert!(rt;
+        entry(settled.as_slice(), 0)?
+            .attributes
+            .contains(Attributes::BUFFER)
+    );
+    assert!(rt; !entry(settled.as_slice(), 1)?.assigned);
+    assert!(rt;
+        entry(settled.as_slice(), 1)?
+            .attributes
+            .contains(Attributes::COM)
+    );
+    assert!(rt; !entry(settled.as_slice(), 41)?.assigned);
     Ok(())
 }
 
