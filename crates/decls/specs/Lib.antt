@@ -5,7 +5,8 @@ pub mod FaultOrder
 pub mod NameRefusals
 pub mod NamesBefore
 pub mod Pieces
-pub mod RangeParts
 pub mod Refused
 pub mod Shown
+pub mod Spans
 pub mod Steps
+pub mod Walked

@@ -79,10 +79,13 @@ module_buffers_refused t m =
     then buffers_refused (sections_assign (named_of (names_once m)) m.sections) (names_once m) (all_buffered [] (all_declarations m))
     else []
 
+-- what is refused where it is read
+abbrev pub read_refusals : Table → ModuleTree → List NameFault
+read_refusals t m = declarations_refused t [] m.decls ++ sections_refused t m.decls m.sections
+
 -- all that is refused
 abbrev pub name_refusals : Table → ModuleTree → List NameFault
-name_refusals t m =
-    declarations_refused t [] m.decls ++ (sections_refused t m.decls m.sections ++ module_buffers_refused t m)
+name_refusals t m = read_refusals t m ++ module_buffers_refused t m
 
 -- the first of it
 abbrev pub first_name_refusal : Table → ModuleTree → Option NameFault

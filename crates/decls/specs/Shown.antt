@@ -1,9 +1,10 @@
 -- What the table of the code shows of the declarations so far.
-use Rattle.std.specs.Prelude.{◌≡◌, ℕ, Bool, true, false, Option, Some, List, ◌++◌, if◌then◌else◌, map, nat_lt, min}
+use Rattle.std.specs.Prelude.{◌≡◌, ℕ, Bool, true, false, Option, None, Some, List, [], ◌∷◌, ◌++◌, if◌then◌else◌, bytes_eq, map, nat_lt, min}
 use Rattle.std.specs.Global.{Vec}
 use Rattle.pld_base.specs.declared.place.Place.{Place}
 use Rattle.pld_device.specs.Table.{Table}
-use Rattle.abel_tree.specs.Entries.{Kind, APin, ANode, Words, Entry, view_meaning, is_signal, is_value, find}
+use Rattle.abel_tree.specs.Entries.{Kind, APin, ANode, Words, Entry, view_meaning, is_signal, is_value}
+use Rattle.abel_tree.specs.declared.words.Item.{Item}
 use Rattle.abel_tree.specs.FirstRefusal.{first_refusal}
 use Rattle.abel_tree.specs.declared.expressions.Member.{Member}
 use Rattle.abel_tree.specs.declared.statements.When.{When}
@@ -14,9 +15,9 @@ use Rattle.abel_tree.specs.Tree.{Tree, Statement, Branch, StateTree, members_of}
 use Rattle.abel_tree.specs.Uses.{Use, uses, member_uses, list_uses, branch_uses, branches_uses}
 use Rattle.abel_tree.specs.View.{view_member, stmt_layer, when_layer, arm_layer, case_layer, case_arm_layer, if_layer}
 use Rattle.abel_meaning.specs.Declarations.{GivenName, entry}
+use Rattle.decls.specs.declared.items.Given.{Given}
 use Rattle.decls.specs.declared.said.Said.{Said}
 use Rattle.decls.specs.declared.table.Known.{Known}
-use Rattle.decls.specs.declared.table.Waiting.{Waiting}
 use Rattle.decls.specs.declared.table.NameTable.{NameTable}
 use Rattle.decls.specs.FaultOrder.{name_order}
 use Rattle.decls.specs.Refused.{is_signal_pin}
@@ -51,12 +52,18 @@ kept t e = record e { kind = kept_kind t e.kind }
 abbrev pub view_known : Vec ℕ × Known → Entry
 view_known x = entry x.0.items x.1.place (view_meaning x.1.meaning) (view_said x.1.said)
 
--- a name that waits, by its number
-abbrev pub waits_for : List Entry → GivenName → Place × Option ℕ
-waits_for es x = (x.place, find es x.name)
+-- a name of a declaration, as the code has it
+abbrev pub view_given : Given → GivenName
+view_given g = given g.name.items g.place g.negated
 
-abbrev pub view_waiting : Waiting → Place × Option ℕ
-view_waiting w = (w.place, Some w.number)
+-- a name of an item
+abbrev pub given_by : Item → List ℕ → GivenName
+given_by i name = given name i.first.place i.negated
+
+-- what was said of a name, as it is declared first
+abbrev pub said_before : List Entry → List ℕ → Option Words
+said_before [] name = None
+said_before (e ∷ es) name = if bytes_eq name e.name then Some e.words else said_before es name
 
 pub record Shows (t : Table) (d : NameTable) (s : Progress) : Type 0 where
   pub pins : d.pins ≡ t.pins
@@ -65,7 +72,7 @@ pub record Shows (t : Table) (d : NameTable) (s : Progress) : Type 0 where
   pub device : d.has_device ≡ s.device
   pub nodes : d.nodes ≡ min s.nodes 128
   pub taken : d.taken.items ≡ s.taken
-  pub waiting : map view_waiting d.waiting.items ≡ map (waits_for s.entries) s.waiting
+  pub waiting : map view_given d.waiting.items ≡ s.waiting
   pub first : d.fault ≡ first_refusal name_order s.faults
 
 -- ---- lists of the tree, as the code has them

@@ -2,20 +2,24 @@
 #![tactic(auto)]
 
 mod branches;
+mod checks;
 mod constants;
 mod device;
+mod entering;
 mod fault;
+mod items;
 mod numbers;
-mod ranges;
 mod said;
 mod saying;
 mod sections;
+mod spans;
 mod statements;
 mod strings;
 mod table;
 #[cfg(test)]
 mod tests;
 mod uses;
+mod walk;
 
 pub use device::device_of;
 pub use fault::NameFault;

@@ -7,6 +7,7 @@ ghost use Rattle.decls.specs.Steps.{Progress, refuse, entered, undeclared};
 ghost use Rattle.decls.specs.Shown.{Shows, kept_kind, view_said, wanted};
 
 use crate::fault::{NameFault, first_of};
+use crate::items::Given;
 use crate::said::Said;
 use abel_tree::Meaning;
 use indexmap::IndexMap;
@@ -21,13 +22,6 @@ pub(crate) struct Known {
     pub(crate) said: Said,
 }
 
-/// A name that a string with the word `buffer` is for, by its number.
-#[derive(Clone, Copy, Debug, PartialEq, Eq)]
-pub(crate) struct Waiting {
-    pub(crate) place: Place,
-    pub(crate) number: usize,
-}
-
 /// The names so far in the order of their declarations, and the first refusal so far.
 #[derive(Drop)]
 pub(crate) struct NameTable {
@@ -37,7 +31,7 @@ pub(crate) struct NameTable {
     pub(crate) has_device: bool,
     pub(crate) nodes: u32,
     pub(crate) taken: Vec<u32>,
-    pub(crate) waiting: Vec<Waiting>,
+    pub(crate) waiting: Vec<Given>,
     pub(crate) fault: Option<NameFault>,
 }
 

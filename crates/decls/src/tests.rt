@@ -1,9 +1,9 @@
 use super::*;
-use crate::ranges::names_of_range;
 use crate::said::NOTHING;
 use crate::table::NameTable;
 use abel_tree::{Binary, Decl, Expr, Module, Number, Section, Word};
 use indexmap::IndexMap;
+use name_ranges::names_of_range;
 use pld_base::{Boxed, DeviceName, ListOf, NameText, OutOfMemory, Place};
 use std::alloc::Global;
 use std::test::Fail;
@@ -106,40 +106,6 @@ fn a_source_without_a_device_is_refused_at_its_beginning(rt: HostRuntime) -> Res
         return Err("no refusal".into());
     };
     assert_eq!(rt; place, Place { line: 1, column: 1 });
-    Ok(())
-}
-
-/// The ends of ranges, and how many names they have with the second one, or none.
-const RANGES: [(&str, &str, Option<(usize, &str)>); 12] = [
-    ("D7", "D0", Some((8, "D6"))),
-    ("D0", "D7", Some((8, "D1"))),
-    ("a8", "a11", Some((4, "a9"))),
-    ("x0y9", "x0y10", Some((2, "x0y10"))),
-    ("q0", "q9999", Some((10000, "q1"))),
-    ("a1", "b2", None),
-    ("a1", "A2", None),
-    ("a1", "a02", None),
-    ("a00", "a1", None),
-    ("a", "a1", None),
-    ("a1", "a", None),
-    ("a0", "a10000", None),
-];
-
-#[test]
-fn a_range_has_its_names(rt: HostRuntime) -> Result<(), Fail> {
-    let alloc = rt.alloc();
-    for (first, last, expected) in RANGES {
-        let names = names_of_range(alloc, first.as_bytes(), last.as_bytes())?;
-        let Some((count, second)) = expected else {
-            assert!(rt; names.is_none(), "{first}..{last}");
-            continue;
-        };
-        let Some(names) = names else {
-            return Err("no names".into());
-        };
-        assert_eq!(rt; names.len(), count);
-        assert_eq!(rt; names[1].as_slice(), second.as_bytes());
-    }
     Ok(())
 }
 

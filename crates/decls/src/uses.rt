@@ -6,13 +6,13 @@ ghost use Rattle.abel_tree.specs.View.{view, view_member};
 ghost use Rattle.abel_tree.specs.Ranges.{ends_agree};
 ghost use Rattle.abel_tree.specs.Uses.{uses, one_member_uses};
 ghost use Rattle.decls.specs.Steps.{Progress, used, range_used, all_known};
-ghost use Rattle.decls.specs.RangeParts.{name_items};
+ghost use Rattle.name_ranges.specs.RangeParts.{name_items};
 ghost use Rattle.decls.specs.Shown.{Shows, members_in, wanted};
 
 use crate::fault::NameFault;
-use crate::ranges::names_of_range;
 use crate::table::NameTable;
 use abel_tree::{Expr, Member, Word};
+use name_ranges::names_of_range;
 use pld_base::{NameText, OutOfMemory, Place};
 use std::alloc::Global;
 

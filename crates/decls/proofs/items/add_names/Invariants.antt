@@ -1,0 +1,8 @@
+-- The names so far.
+use Rattle.std.proofs.Common.{◌≡◌, ◌++◌, map}
+use Rattle.decls.specs.Shown.{view_given, given_by}
+use Rattle.name_ranges.specs.RangeParts.{name_items}
+use Rattle.decls.proofs.items.add_names.Given as goal
+
+abbrev pub invariant-loop-name : goal.invariant-loop-name
+invariant-loop-name l = map view_given l.list.items ≡ map view_given l.fn.list.items ++ map (given_by l.item) (map name_items l.yielded)

@@ -1,9 +1,0 @@
--- The names at the places so far.
-use Rattle.std.proofs.Common.{◌≡◌, ◌++◌, map}
-use Rattle.std.specs.Fmt.{decimal}
-use Rattle.std.specs.List.{range_with_len}
-use Rattle.decls.specs.RangeParts.{number_at, name_items}
-use Rattle.decls.proofs.ranges.names_with.Given as goal
-
-abbrev pub invariant-loop-place : goal.invariant-loop-place
-invariant-loop-place l = map name_items l.names.items ≡ map (λ k. l.stem ++ decimal (number_at l.first l.last k)) (range_with_len 0 l.place)

@@ -1,0 +1,8 @@
+-- The numbers so far.
+use Rattle.std.proofs.Common.{◌≡◌, ◌++◌, map}
+use Rattle.std.specs.List.{range_with_len}
+use Rattle.name_ranges.specs.RangeParts.{number_at}
+use Rattle.decls.proofs.spans.put_range.Given as goal
+
+abbrev pub invariant-loop-step : goal.invariant-loop-step
+invariant-loop-step l = l.numbers.items ≡ l.fn.numbers.items ++ map (λ k. number_at l.first l.last k) (range_with_len 0 l.step)

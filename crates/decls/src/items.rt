@@ -1,0 +1,66 @@
+//! The names and numbers of a declaration.
+
+ghost use Rattle.std.specs.Prelude.{◌≡◌, IfOk, OnOk, List, ℕ, map, ◌++◌, length};
+ghost use Rattle.std.specs.List.{list_any};
+ghost use Rattle.abel_tree.specs.Ranges.{is_bad, item_names};
+ghost use Rattle.abel_meaning.specs.Declarations.{given_names};
+ghost use Rattle.decls.specs.Shown.{view_given, given_by};
+ghost use Rattle.name_ranges.specs.RangeParts.{name_items};
+
+use abel_tree::Item;
+use name_ranges::{is_bad_item, item_list};
+use pld_base::{OutOfMemory, Place};
+use std::alloc::Global;
+
+/// A name of a declaration.
+#[derive(Drop)]
+pub(crate) struct Given {
+    pub(crate) name: Vec<u8>,
+    pub(crate) place: Place,
+    pub(crate) negated: bool,
+}
+
+/// The names of a declaration, ranges written out.
+pub(crate) fn given_in(alloc: Global, items: &[Item]) -> Result<Vec<Given>, OutOfMemory>
+    ensures { IfOk result (λ gs. map view_given gs.items ≡ given_names items.now) }
+{
+    let mut list = Vec::new(alloc);
+    for item in items {
+        add_item(alloc, &mut list, item)?;
+    }
+    Ok(list)
+}
+
+/// The names of one item.
+fn add_item(alloc: Global, list: &mut Vec<Given>, item: &Item) -> Result<(), OutOfMemory>
+    ensures { OnOk result (map view_given list.new.items ≡ map view_given list.old.items ++ map (given_by item.now) (item_names item.now)) }
+{
+    let names = item_list(alloc, item)?;
+    add_names(list, item, names)
+}
+
+/// Names of one item.
+fn add_names(list: &mut Vec<Given>, item: &Item, names: Vec<Vec<u8>>) -> Result<(), OutOfMemory>
+    ensures { OnOk result (map view_given list.new.items ≡ map view_given list.old.items ++ map (given_by item.now) (map name_items names.items)) }
+{
+    for name in names {
+        list.push(Given {
+            name,
+            place: item.first.place,
+            negated: item.negated,
+        })?;
+    }
+    Ok(())
+}
+
+/// Whether some range is bad.
+pub(crate) fn has_bad(items: &[Item]) -> bool
+    ensures { result ≡ list_any is_bad items.now }
+{
+    for item in items {
+        if is_bad_item(item) {
+            return true;
+        }
+    }
+    false
+}
