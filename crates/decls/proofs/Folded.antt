@@ -1,17 +1,15 @@
 -- One item more of a list that is gone through.
-use Rattle.std.proofs.Common.{◌≡◌, ℕ, zero, suc, ◌+◌, ◌-◌, ◌<◌, ◌≤◌, ◌==◌, nat_le, nat_lt, Bool, true, false, ◌||◌, List, [], ◌∷◌, ◌++◌, map, fold, take, drop, length, zip, get_or, if◌then◌else◌, Option, Some, None, refl, sym, ap, ap₂, ◌∙◌, append_assoc, arith}
-use Rattle.std.specs.Prelude.{slice_get, filter, min}
+use Rattle.std.proofs.Common.{◌≡◌, ℕ, zero, suc, ◌+◌, ◌-◌, ◌<◌, ◌≤◌, ◌==◌, nat_le, Bool, true, false, ◌||◌, List, [], ◌∷◌, ◌++◌, map, fold, take, drop, length, get_or, if◌then◌else◌, Some, None, refl, sym, ap, ◌∙◌, append_assoc, arith}
+use Rattle.std.specs.Prelude.{slice_get, min}
 use Rattle.std.specs.List.{list_any, range_with_len}
 use Rattle.std.proofs.lemmas.Bool.Decides.{nat_tests}
-use Rattle.std.proofs.lemmas.List.{append-nil, get_or_default, map-append, take_more, length-append, length-map, length-take-le, take-append-drop}
+use Rattle.std.proofs.lemmas.List.{append-nil, get_or_default, take_more, length-map, length-take-le, take-append-drop}
 use Rattle.std.proofs.lemmas.List.Sums.{fold-append}
 use Rattle.abel_tree.specs.declared.words.Item.{Item}
 use Rattle.abel_tree.specs.declared.words.Number.{Number}
 use Rattle.abel_tree.specs.declared.words.Span.{Span}
-use Rattle.abel_tree.specs.declared.words.Word.{Word}
 use Rattle.abel_tree.specs.Entries.{Words, Entry}
 use Rattle.abel_tree.specs.Ranges.{is_bad, item_names, span_count, count_numbers, span_numbers, numbers_of}
-use Rattle.abel_tree.specs.Tree.{Tree}
 use Rattle.abel_meaning.specs.Declarations.{GivenName, given_names}
 use Rattle.decls.specs.declared.fault.NameFault.{NameFault}
 use Rattle.decls.specs.declared.fault.NameFault.TheVariants as fault

@@ -1,3 +1,4 @@
+pub mod Attributed
 pub mod BadAttributeExamplesA
 pub mod BadAttributeExamplesB
 pub mod BadPinExamples
@@ -13,6 +14,7 @@ pub mod ManyGo
 pub mod NamesExamplesA
 pub mod NamesExamplesB
 pub mod NoRefusals
+pub mod Numbering
 pub mod PinTakenExamples
 pub mod RedeclaredExamples
 pub mod Required

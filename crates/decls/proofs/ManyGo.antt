@@ -1,12 +1,11 @@
 -- Names one after the other.
-use Rattle.std.proofs.Common.{◌≡◌, ℕ, suc, ◌+◌, Bool, true, false, Option, Some, None, List, [], ◌∷◌, ◌++◌, fold, map, zip, drop, length, refl, sym, ap, ap₂, subst, ◌∙◌, append_assoc, arith}
+use Rattle.std.proofs.Common.{◌≡◌, ℕ, suc, ◌+◌, Some, None, List, [], ◌∷◌, ◌++◌, fold, map, drop, length, refl, sym, ap, subst, ◌∙◌, append_assoc, arith}
 use Rattle.std.proofs.lemmas.List.{append-nil}
 use Rattle.pld_device.specs.Table.{Table}
 use Rattle.abel_tree.specs.declared.words.Word.{Word}
-use Rattle.abel_tree.specs.Entries.{Kind, APin, ANode, AConstant, Words, Entry}
+use Rattle.abel_tree.specs.Entries.{APin, ANode, AConstant, Words, Entry}
 use Rattle.abel_tree.specs.Tree.{Tree}
 use Rattle.abel_meaning.specs.Declarations.{GivenName, entry, pin_entries, node_entries, constant_entries, no_words, node_count}
-use Rattle.decls.specs.declared.fault.NameFault.{NameFault}
 use Rattle.decls.specs.NamesBefore.{without_number}
 use Rattle.decls.specs.Refused.{name_refused, names_refused}
 use Rattle.decls.specs.Steps.{Progress}

@@ -1,5 +1,5 @@
 -- Where nothing is refused, each name is declared once, and the table keeps it as it is.
-use Rattle.std.proofs.Common.{◌≡◌, ℕ, zero, suc, ◌+◌, ◌-◌, ◌≤◌, ◌<◌, ◌==◌, nat_le, nat_lt, Bool, true, false, not, ◌||◌, ◌&&◌, Option, Some, None, List, [], ◌∷◌, ◌++◌, fold, map, zip, drop, length, if◌then◌else◌, refl, sym, ap, ap₂, subst, ◌∙◌, append_assoc, arith}
+use Rattle.std.proofs.Common.{◌≡◌, ℕ, zero, suc, ◌+◌, ◌-◌, ◌≤◌, ◌==◌, nat_le, nat_lt, Bool, true, false, not, ◌||◌, ◌&&◌, Option, Some, None, List, [], ◌∷◌, ◌++◌, fold, map, zip, drop, length, if◌then◌else◌, refl, sym, ap, ap₂, subst, ◌∙◌, append_assoc, arith}
 use Rattle.std.specs.Prelude.{is_some, min}
 use Rattle.std.specs.List.{list_any, range_with_len}
 use Rattle.std.proofs.lemmas.Bool.Decides.{nat_tests}
@@ -10,31 +10,30 @@ use Rattle.pld_device.specs.Table.{Table}
 use Rattle.abel_tree.specs.declared.words.Item.{Item}
 use Rattle.abel_tree.specs.declared.words.Number.{Number}
 use Rattle.abel_tree.specs.declared.words.Span.{Span}
-use Rattle.abel_tree.specs.declared.words.Word.{Word}
 use Rattle.abel_tree.specs.Entries.{Kind, APin, ANode, AConstant, ADeviceName, Words, Entry, kind_of}
 use Rattle.abel_tree.specs.Ranges.{is_bad, numbers_of, span_numbers, span_count, count_numbers}
-use Rattle.abel_tree.specs.Tree.{Tree, Declaration, ADevice, SomePins, SomeNodes, SomeAttributes, SomeConstants, SomeOptions, DontCareFor}
-use Rattle.abel_meaning.specs.Declarations.{GivenName, given_names, entry, no_words, all_said, pin_entries, node_entries, constant_entries, node_count, with_words, declared}
+use Rattle.abel_tree.specs.Tree.{Declaration, ADevice, SomePins, SomeNodes, SomeAttributes, SomeConstants, SomeOptions, DontCareFor}
+use Rattle.abel_meaning.specs.Declarations.{GivenName, given_names, all_said, pin_entries, node_entries, constant_entries, node_count, with_words, declared}
 use Rattle.decls.specs.declared.fault.NameFault.{NameFault}
 use Rattle.decls.specs.declared.fault.NameFault.TheVariants as fault
-use Rattle.decls.specs.NamesBefore.{enter, first_entries, is_taken, names_behind, with_declaration, unnumbered, added, without_number}
+use Rattle.decls.specs.NamesBefore.{first_entries, is_taken, names_behind, with_declaration, unnumbered, added, without_number}
 use Rattle.decls.specs.Refused.{refused_if, is_signal_pin, number_refused, name_refused, names_refused, ranges_refused, counts_refused, counts_differ, parts_refused, declaration_refused, declarations_refused}
-use Rattle.decls.specs.Shown.{kept, kept_kind, kept_node}
+use Rattle.decls.specs.Shown.{kept, kept_kind}
 use Rattle.decls.proofs.FirstNames.{first_push, kind_first}
 use Rattle.decls.proofs.ManyGo.{pins_list, pins_same}
 use Rattle.decls.proofs.Telling.{first_told}
 
 -- ---- empty lists
 
-none_left : {A : Type 0} (xs ys : List A) → xs ++ ys ≡ [] → xs ≡ []
+pub none_left : {A : Type 0} (xs ys : List A) → xs ++ ys ≡ [] → xs ≡ []
 none_left [] ys e = refl
 none_left (x ∷ xs) ys e = absurd cc
 
-none_right : {A : Type 0} (xs ys : List A) → xs ++ ys ≡ [] → ys ≡ []
+pub none_right : {A : Type 0} (xs ys : List A) → xs ++ ys ≡ [] → ys ≡ []
 none_right [] ys e = e
 none_right (x ∷ xs) ys e = absurd cc
 
-not_refused : (b : Bool) (f : NameFault) → refused_if b f ≡ [] → b ≡ false
+pub not_refused : (b : Bool) (f : NameFault) → refused_if b f ≡ [] → b ≡ false
 not_refused true f e = absurd cc
 not_refused false f e = refl
 

@@ -4,6 +4,7 @@ pub mod Devices
 pub mod FaultOrder
 pub mod NameRefusals
 pub mod NamesBefore
+pub mod Numbers
 pub mod Pieces
 pub mod Refused
 pub mod Shown

@@ -1,8 +1,7 @@
 -- The steps that declarations and sections take, one after the other.
-use Rattle.std.specs.Prelude.{ℕ, Bool, Option, None, Some, List, [], ◌∷◌, ◌++◌, if◌then◌else◌, filter, fold, map, zip, length, bytes_eq}
+use Rattle.std.specs.Prelude.{ℕ, Bool, Option, None, Some, List, [], ◌∷◌, ◌++◌, if◌then◌else◌, filter, fold, zip, length, bytes_eq}
 use Rattle.pld_device.specs.Table.{Table}
 use Rattle.abel_tree.specs.declared.words.Item.{Item}
-use Rattle.abel_tree.specs.declared.words.Span.{Span}
 use Rattle.abel_tree.specs.declared.words.Word.{Word}
 use Rattle.abel_tree.specs.Entries.{ADeviceName, Words, Entry, is_signal, names_any}
 use Rattle.abel_tree.specs.Ranges.{numbers_of}

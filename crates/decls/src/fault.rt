@@ -96,8 +96,9 @@ impl NameFault {
     }
 }
 
-/// The first of two, of which the first may be none.
-pub(crate) fn first_of(before: Option<NameFault>, fault: NameFault) -> Option<NameFault>
+/// The first of two refusals by place, at one place by kind; `before` is None where there is none
+/// yet. Takes no memory.
+pub fn first_of(before: Option<NameFault>, fault: NameFault) -> Option<NameFault>
     ensures { result ≡ earlier name_order before (Some fault) }
 {
     match before {

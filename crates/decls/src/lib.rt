@@ -9,6 +9,7 @@ mod entering;
 mod fault;
 mod items;
 mod numbers;
+mod reading;
 mod said;
 mod saying;
 mod sections;
@@ -22,4 +23,5 @@ mod uses;
 mod walk;
 
 pub use device::device_of;
-pub use fault::NameFault;
+pub use fault::{NameFault, first_of};
+pub use reading::{Buffered, NamesRead, read_names};

@@ -1,6 +1,5 @@
 -- Equal words are found.
-use Rattle.std.proofs.Common.{sym, ap, ◌∙◌}
-use Rattle.decls.specs.Shown.{view_said}
+use Rattle.std.proofs.Common.{sym, ◌∙◌}
 use Rattle.decls.proofs.SaidWords.{found_same}
 use Rattle.decls.proofs.checks.has_said.Goals as goal
 

@@ -1,5 +1,5 @@
 -- A bad range, and then the first name that is no signal.
-use Rattle.std.proofs.Common.{map, subst, ap, ap₂, ◌∙◌}
+use Rattle.std.proofs.Common.{map, subst, ap, ◌∙◌}
 use Rattle.std.proofs.lemmas.Result.{on_ok_weaker}
 use Rattle.abel_tree.specs.Entries.{is_signal}
 use Rattle.decls.specs.Shown.{Shows}

@@ -1,5 +1,5 @@
 -- The items so far.
-use Rattle.std.proofs.Common.{fold, map, take}
+use Rattle.std.proofs.Common.{take}
 use Rattle.pld_device.specs.Table.{Table}
 use Rattle.decls.specs.Refused.{items_refused}
 use Rattle.decls.specs.Steps.{refuse_all}

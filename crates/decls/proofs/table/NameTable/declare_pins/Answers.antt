@@ -1,5 +1,5 @@
 -- Checks, and then the names with their numbers.
-use Rattle.std.proofs.Common.{◌≡◌, fold, map, length, subst, sym, ap, ap₂, ◌∙◌}
+use Rattle.std.proofs.Common.{◌≡◌, fold, length, subst, sym, ap, ap₂, ◌∙◌}
 use Rattle.std.proofs.lemmas.List.{length-map}
 use Rattle.std.proofs.lemmas.Result.{on_ok_weaker}
 use Rattle.abel_tree.specs.Ranges.{numbers_of}

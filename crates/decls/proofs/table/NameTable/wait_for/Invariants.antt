@@ -1,5 +1,5 @@
 -- The items so far.
-use Rattle.std.proofs.Common.{fold, map, take}
+use Rattle.std.proofs.Common.{map}
 use Rattle.pld_device.specs.Table.{Table}
 use Rattle.std.proofs.Common.{◌++◌}
 use Rattle.decls.specs.Shown.{view_given}
