@@ -1,0 +1,112 @@
+-- Names that are sound by the names before them.
+use Rattle.std.proofs.Common.{◌≡◌, ℕ, zero, suc, ◌<◌, ◌≤◌, ◌==◌, nat_le, nat_lt, Bool, true, false, not, ◌&&◌, if◌then◌else◌, Some, List, [], ◌∷◌, ◌++◌, zip, take, refl, sym, subst, ◌∙◌, append_assoc, arith}
+use Rattle.std.specs.Prelude.{slice_get}
+use Rattle.std.proofs.lemmas.Bool.Decides.{nat_tests}
+use Rattle.std.proofs.lemmas.List.{append-nil}
+use Rattle.std.proofs.lemmas.List.Folds.{list_all-append}
+use Rattle.pld_device.specs.Table.{Table}
+use Rattle.abel_tree.specs.declared.words.Word.{Word}
+use Rattle.abel_tree.specs.Entries.{Kind, APin, ANode, AConstant, ADeviceName, Words, Entry}
+use Rattle.abel_tree.specs.SoundNames.{IsSoundKind, is_named, are_named}
+use Rattle.abel_tree.specs.Tree.{Tree}
+use Rattle.abel_tree.specs.Uses.{uses, all_uses}
+use Rattle.abel_meaning.specs.Declarations.{GivenName, node_entries, constant_entries}
+use Rattle.decls.specs.declared.fault.NameFault.TheVariants as fault
+use Rattle.decls.specs.NamesBefore.{is_taken}
+use Rattle.decls.specs.Refused.{refused_if, is_signal_pin, number_refused, name_refused, names_refused}
+use Rattle.decls.proofs.ManyGo.{pins_list}
+use Rattle.decls.proofs.NoRefusals.{none_left, none_right, not_refused}
+use Rattle.declared_names.proofs.Alike.{Alike, alike_push, Extends, extends_alike, extends_append, extends_then, named_more, both_true}
+
+-- each name is sound by these and by those before it
+abbrev pub AreSound : (pins : ℕ) → (earlier : List Entry) → List Entry → Type 0
+AreSound pins earlier [] = Unit {0}
+AreSound pins earlier (e ∷ es) = IsSoundKind pins earlier e.kind × AreSound pins (earlier ++ e ∷ []) es
+
+pub sound_append : (pins : ℕ) (earlier xs ys : List Entry) → AreSound pins earlier xs → AreSound pins (earlier ++ xs) ys → AreSound pins earlier (xs ++ ys)
+sound_append pins earlier [] ys s t = subst (λ l. AreSound pins l ys) (append-nil earlier) t
+sound_append pins earlier (x ∷ xs) ys s t =
+    (s.0, sound_append pins (earlier ++ x ∷ []) xs ys s.1 (subst (λ l. AreSound pins l ys) (sym (append_assoc earlier (x ∷ []) xs)) t))
+
+pub sound_at : (pins : ℕ) (earlier es : List Entry) → AreSound pins earlier es → (k : ℕ) (e : Entry) → slice_get es k ≡ Some e → IsSoundKind pins (earlier ++ take k es) e.kind
+sound_at pins earlier [] s k e h = absurd cc
+sound_at pins earlier (x ∷ es) s zero e h =
+    let same : x ≡ e = cc in
+    subst (λ (y : Entry). IsSoundKind pins (earlier ++ []) y.kind) same (subst (λ l. IsSoundKind pins l x.kind) (sym (append-nil earlier)) s.0)
+sound_at pins earlier (x ∷ es) s (suc k) e h =
+    subst (λ l. IsSoundKind pins l e.kind) (append_assoc earlier (x ∷ []) (take k es)) (sound_at pins (earlier ++ x ∷ []) es s.1 k e h)
+
+-- ---- names of the same kinds are as sound
+
+kind_more : (pins : ℕ) (es fs : List Entry) (k : Kind) → Extends es fs → IsSoundKind pins es k → IsSoundKind pins fs k
+kind_more pins es fs (APin pin negated) f s = s
+kind_more pins es fs (ANode number) f s = s
+kind_more pins es fs (AConstant value) f s = named_more es fs (uses value) f s
+kind_more pins es fs ADeviceName f s = tt
+
+pub sound_alike : (pins : ℕ) (earlier others xs ys : List Entry) → Alike earlier others → Alike xs ys → AreSound pins earlier xs → AreSound pins others ys
+sound_alike pins earlier others [] [] a b s = tt
+sound_alike pins earlier others [] (y ∷ ys) a b s = absurd b
+sound_alike pins earlier others (x ∷ xs) [] a b s = absurd b
+sound_alike pins earlier others (x ∷ xs) (y ∷ ys) a b s = (
+  subst (IsSoundKind pins others) b.1.0 (kind_more pins earlier others x.kind (extends_alike earlier others a) s.0),
+  sound_alike pins (earlier ++ x ∷ []) (others ++ y ∷ []) xs ys (alike_push earlier others x y a b.0 b.1.0) b.1.1 s.1,
+)
+
+-- ---- names whose numbers are not refused
+
+-- what a constant uses is known before
+abbrev pub IsNamedKind : List Entry → Kind → Type 0
+IsNamedKind es (APin pin negated) = Unit {0}
+IsNamedKind es (ANode number) = Unit {0}
+IsNamedKind es (AConstant value) = are_named es (uses value) ≡ true
+IsNamedKind es ADeviceName = Unit {0}
+
+abbrev pub AreNamedKinds : List Entry → List Entry → Type 0
+AreNamedKinds es [] = Unit {0}
+AreNamedKinds es (x ∷ xs) = IsNamedKind es x.kind × AreNamedKinds es xs
+
+good_pin : (t : Table) (n : ℕ) → is_signal_pin t n ≡ true → (0 < n) × (n ≤ t.pins)
+good_pin t n h = pins n t.ground_pin t.pins h
+  where
+    pins : (m g p : ℕ) → (not (m == 0) && not (m == g) && nat_lt m p) ≡ true → (0 < m) × (m ≤ p)
+    pins m g p i = (grind (arith, nat_tests), grind (arith, nat_tests))
+
+good_node : (n : ℕ) → nat_le 128 n ≡ false → n < 128
+good_node n h = grind (arith, nat_tests)
+
+one_sound : (t : Table) (base es : List Entry) (e : Entry) (k : Kind) → Extends base es → IsNamedKind base k → number_refused t es e k ≡ [] → IsSoundKind t.pins es k
+one_sound t base es e (APin n negated) f named h = by (is_signal_pin t n) refl h
+  where
+    by : (b : Bool) → is_signal_pin t n ≡ b → (if b then refused_if (is_taken es n) (fault.PinTaken e.place e.name) else fault.BadPin e.place e.name ∷ []) ≡ [] → (0 < n) × (n ≤ t.pins)
+    by true g i = good_pin t n g
+    by false g i = absurd cc
+one_sound t base es e (ANode n) f named h = good_node n (not_refused (nat_le 128 n) (fault.TooManyNodes e.place e.name) h)
+one_sound t base es e (AConstant v) f named h = named_more base es (uses v) f named
+one_sound t base es e ADeviceName f named h = tt
+
+pub new_sound : (t : Table) (base es new : List Entry) → Extends base es → AreNamedKinds base new → names_refused t es new ≡ [] → AreSound t.pins es new
+new_sound t base es [] f named h = tt
+new_sound t base es (e ∷ new) f named h =
+    let here = none_left (name_refused t es e) _ h in (
+      one_sound t base es e e.kind f named.0 (none_left (number_refused t es e e.kind) _ here),
+      new_sound t base (es ++ e ∷ []) new (extends_then base es (es ++ e ∷ []) f (extends_append es (e ∷ []))) named.1 (none_right (name_refused t es e) _ h),
+    )
+
+-- ---- what declarations make
+
+pub pins_named : (es : List Entry) (w : Words) (xs : List GivenName) (ns : List ℕ) → AreNamedKinds es (pins_list w xs ns)
+pins_named es w [] ns = tt
+pins_named es w (x ∷ xs) [] = (tt, pins_named es w xs [])
+pins_named es w (x ∷ xs) (n ∷ ns) = (tt, pins_named es w xs ns)
+
+pub nodes_named : (es : List Entry) (w : Words) (n : ℕ) (xs : List GivenName) → AreNamedKinds es (node_entries w n xs)
+nodes_named es w n [] = tt
+nodes_named es w n (x ∷ xs) = (tt, nodes_named es w (suc n) xs)
+
+pub constants_named : (es : List Entry) (names : List Word) (values : List Tree) → are_named es (all_uses values) ≡ true → AreNamedKinds es (constant_entries (zip names values))
+constants_named es [] values h = tt
+constants_named es (name ∷ names) [] h = tt
+constants_named es (name ∷ names) (v ∷ values) h =
+    let b = both_true (are_named es (uses v)) (are_named es (all_uses values)) (sym (list_all-append (is_named es) (uses v) (all_uses values)) ∙ h) in
+    (b.0, constants_named es names values b.1)

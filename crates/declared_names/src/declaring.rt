@@ -1,0 +1,44 @@
+//! The call that declares a module's names.
+
+ghost use Rattle.std.specs.Prelude.{◌≡◌, ◌⊎◌, [], Some, IfOk, IfErr};
+ghost use Rattle.abel_tree.specs.Entries.{entries_of};
+ghost use Rattle.abel_tree.specs.SoundNames.{IsNamed, SoundNames};
+ghost use Rattle.abel_tree.specs.View.{view_module};
+ghost use Rattle.abel_meaning.specs.Kinds.{names_of};
+ghost use Rattle.decls.specs.declared.fault.NameFault.TheVariants.{OutOfMemory};
+ghost use Rattle.decls.specs.NameRefusals.{first_name_refusal, name_refusals};
+
+use crate::registers::first_refused;
+use abel_tree::{Module, Names};
+use decls::{NameFault, NamesRead, read_names};
+use name_kinds::settle;
+use pld_base::ListOf;
+use pld_device::Device;
+use std::alloc::Global;
+
+/// The names that a module declares for a device, with their kinds and polarities. Which device the module
+/// itself names is not looked at.
+pub fn declare<D: Device>(alloc: Global, source: &Module) -> Result<Names, NameFault>
+    ensures names { IfOk result (λ n. entries_of n ≡ names_of D.table (view_module source.now)) }
+    ensures accepted { IfOk result (λ n. name_refusals D.table (view_module source.now) ≡ []) }
+    ensures sound { IfOk result (λ n. SoundNames D.table.name D.table.pins n) }
+    ensures named { IfOk result (λ n. IsNamed n (view_module source.now)) }
+
+    // Only want of memory comes before a refusal.
+    ensures refused { IfErr result (λ f. (f ≡ OutOfMemory)
+        ⊎ (first_name_refusal D.table (view_module source.now) ≡ Some f)) }
+{
+    let NamesRead {
+        list,
+        buffered,
+        fault,
+    } = read_names::<D>(alloc, source)?;
+    let list = settle(alloc, D::FLIP, list, source.sections.as_slice())?;
+    match first_refused::<D>(fault, list.as_slice(), buffered.as_slice()) {
+        Some(fault) => Err(fault),
+        None => Ok(Names {
+            list: ListOf::from_vec(list),
+            device: D::NAME,
+        }),
+    }
+}

@@ -1,0 +1,89 @@
+//! Registers that a device can't buffer.
+
+ghost use Rattle.std.specs.Prelude.{◌≡◌, ◌++◌, List, map, slice_get, if◌then◌else◌};
+ghost use Rattle.abel_tree.specs.Entries.{view_declared, view_meaning, is_signal};
+ghost use Rattle.abel_tree.specs.FirstRefusal.{first_refusal};
+ghost use Rattle.decls.specs.declared.fault.NameFault.{NameFault};
+ghost use Rattle.decls.specs.FaultOrder.{name_order};
+ghost use Rattle.decls.specs.NameRefusals.{always_inverts};
+ghost use Rattle.declared_names.specs.Registers.{is_register, register_refused, registers_refused, refused_for};
+
+use abel_tree::{Attributes, Declared, Meaning};
+use bitflags::Flags;
+use decls::{Buffered, NameFault, first_of};
+use pld_device::{Device, Flip};
+
+/// Whether a name is a signal.
+fn is_signal(meaning: &Meaning) -> bool
+    ensures { result ≡ is_signal (view_meaning meaning.now) }
+{
+    match meaning {
+        Meaning::Pin { pin: _, negated: _ } => true,
+        Meaning::Node(_) => true,
+        Meaning::Constant(_) => false,
+        Meaning::DeviceName => false,
+    }
+}
+
+/// Whether the name of a number is a register.
+fn is_register(list: &[Declared], number: usize) -> bool
+    ensures { result ≡ is_register (slice_get (map view_declared list.now) number) }
+{
+    match list.get(number) {
+        Some(declared) => {
+            is_signal(&declared.meaning) && declared.attributes.contains(Attributes::REG)
+        }
+        None => false,
+    }
+}
+
+/// The first refusal, this name counted too.
+fn with_register(fault: Option<NameFault>, list: &[Declared], name: Buffered) -> Option<NameFault>
+    ensures { (fs : List NameFault) → fault ≡ first_refusal name_order fs → result ≡ first_refusal name_order (fs ++ register_refused (map view_declared list.now) name) }
+{
+    if is_register(list, name.number) {
+        return first_of(fault, NameFault::BadAttribute(name.place));
+    }
+    fault
+}
+
+/// The first refusal, these names counted too.
+fn with_registers(
+    fault: Option<NameFault>,
+    list: &[Declared],
+    names: &[Buffered],
+) -> Option<NameFault>
+    ensures { (fs : List NameFault) → fault ≡ first_refusal name_order fs → result ≡ first_refusal name_order (fs ++ registers_refused (map view_declared list.now) names.now) }
+{
+    let mut first = fault;
+    for name in names {
+        first = with_register(first, list, *name);
+    }
+    first
+}
+
+/// Whether the device has registers and complements each at its pin.
+fn always_inverts<D: Device>() -> bool
+    ensures { result ≡ always_inverts D.table }
+{
+    let always = match D::FLIP {
+        Flip::Always => true,
+        Flip::AfterRegister => false,
+        Flip::BeforeRegister => false,
+    };
+    D::CLOCK != 0 && always
+}
+
+/// The first refusal, counting the registers among these names that the device can't buffer.
+pub(crate) fn first_refused<D: Device>(
+    fault: Option<NameFault>,
+    list: &[Declared],
+    names: &[Buffered],
+) -> Option<NameFault>
+    ensures { (fs : List NameFault) → fault ≡ first_refusal name_order fs → result ≡ first_refusal name_order (fs ++ refused_for D.table (map view_declared list.now) names.now) }
+{
+    if always_inverts::<D>() {
+        return with_registers(fault, list, names);
+    }
+    fault
+}
