@@ -1,0 +1,16 @@
+pub mod BurnedControls
+pub mod CarriedPoints
+pub mod Coverable
+pub mod CubeRows
+pub mod CubeWitness
+pub mod LeafPairs
+pub mod ListPoints
+pub mod NodeRanks
+pub mod PairLevels
+pub mod PairPoints
+pub mod PlannedRows
+pub mod PlansFit
+pub mod Polarity
+pub mod Reached
+pub mod SeenPairs
+pub mod WantedIds

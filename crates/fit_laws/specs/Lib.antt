@@ -1,0 +1,2 @@
+pub mod Coverable
+pub mod Plans

@@ -1,0 +1,120 @@
+-- What a plan of a device's rows owes a netlist: the covers of its functions, in forms that its cells may have (this
+-- project's rule).
+use Rattle.std.specs.Prelude.{◌≡◌, ℕ, ◌<◌, ◌≤◌, ◌^◌, ◌==◌, Bool, true, false, Option, None, Some, List, [], find, get_or, length, slice_get}
+use Rattle.std.specs.Int.{bit_at}
+use Rattle.std.specs.Option.{option_to_list}
+use Rattle.pld_base.specs.Points.{Levels}
+use Rattle.pld_device.specs.declared.carry.Carry.{Carry}
+use Rattle.pld_device.specs.declared.carry.Carry.TheVariants as carry
+use Rattle.pld_device.specs.Laws.{IsDevice}
+use Rattle.pld_device.specs.Rows.{pair_values}
+use Rattle.pld_device.specs.Table.{Table, cell_at}
+use Rattle.bit_expr.specs.declared.netlist.CellWanted.{CellWanted}
+use Rattle.bit_expr.specs.declared.netlist.Control.{Control}
+use Rattle.bit_expr.specs.declared.netlist.Function.{Function}
+use Rattle.bit_expr.specs.declared.netlist.Netlist.{Netlist}
+use Rattle.bit_expr.specs.declared.node.ExprId.{ExprId}
+use Rattle.bit_expr.specs.Arena.{arena, formula_at}
+use Rattle.bit_expr.specs.Formulas.{Formula}
+use Rattle.abel_meaning.specs.Netlists.{PlainNetlist, Wanted, plain_netlist, shared_function}
+use Rattle.abel_meaning.specs.NetlistLogic.{netlist_stores}
+use Rattle.abel_meaning.specs.SoundIds.{IsSoundNetlist}
+use Rattle.cube_pool.specs.declared.cube.Cube.{Cube}
+use Rattle.cube_pool.specs.Cubes.{covers}
+use Rattle.fit_cells.specs.Covering.{IsCoverBetween}
+use Rattle.fit_cells.specs.Tries.{allowed_of, needed_of}
+use Rattle.fit_plans.specs.Covered.{control_function}
+use Rattle.fit_plans.specs.Forms.{may_be_inverted_as, rows_are_positive}
+use Rattle.fit_rows.specs.declared.controls.CellForm.{CellForm}
+use Rattle.fit_rows.specs.declared.plan.CellPlan.{CellPlan}
+use Rattle.fit_rows.specs.declared.plan.Plan.{Plan}
+use Rattle.fit_rows.specs.Controls.{IsBurned, form_at}
+use Rattle.fitted.specs.Covers.{IsValuedFor}
+use Rattle.fitted.specs.Fitting.{AreShared, IsFitted}
+
+-- ---- what the columns carry
+
+-- a pair carries the complement of what its leaf has, as that of a register does
+abbrev pub carries_complement : Table → PlainNetlist → Carry → Bool
+carries_complement t net (carry.Pin p) = false
+carries_complement t net (carry.Cell c) = netlist_stores t net c
+
+-- bit v of the mask says so of pair v
+pub record IsTurnMask (t : Table) (net : PlainNetlist) (mask : ℕ) : Type 0 where
+  pub low : mask < 2 ^ 32
+  pub bits : (v : ℕ) → v < length t.pairs → (bit_at mask v == 1) ≡ carries_complement t net (get_or t.pairs v (carry.Pin 0))
+
+-- wherever the nodes are valued, the function is the OR of the cubes at what the pairs carry
+abbrev pub IsFunctionOf : Table → PlainNetlist → (fuses : List Bool) → List Cube → (Levels → Bool) → Type 0
+IsFunctionOf t net fuses cubes f = (at : Levels) → IsValuedFor t net at → f at ≡ covers cubes (pair_values t fuses at)
+
+-- ---- plans
+
+-- rows that cover a function, having what its `one` has or the complement
+abbrev pub PlansRows : (vars mask : ℕ) → Netlist → Function → (positive : Bool) → List Cube → Type 0
+PlansRows vars mask net f positive rows = IsCoverBetween vars mask (needed_of net f positive) (allowed_of net f positive) rows
+
+-- one row, or none, that covers a control
+abbrev pub PlansControl : (vars mask : ℕ) → Netlist → ExprId → Option Cube → Type 0
+PlansControl vars mask net bit row = PlansRows vars mask net (control_function bit) true (option_to_list row)
+
+-- the bit of a control that may be there
+abbrev pub bit_or : ExprId → Option Control → ExprId
+bit_or none None = none
+bit_or none (Some control) = control.bit
+
+-- an enable that isn't there is always 1
+abbrev pub enable_bit : CellWanted → ExprId
+enable_bit w = bit_or (record { 0 = 1 }) w.enable
+
+-- what is asked of a cell; none where it is assigned nothing
+abbrev pub cell_wanted : Netlist → ℕ → Option CellWanted
+cell_wanted net c = find (λ (w : CellWanted). w.cell == c) net.cells
+
+-- the plan of an assigned cell: it has a form that it may have, and in this its rows fit its room and cover its function
+pub record PlansCell (t : Table) (mask : ℕ) (net : Netlist) (c : ℕ) (w : CellWanted) (x : CellPlan) (form : CellForm) : Type 0 where
+  pub registered : form.registered ≡ w.registered
+  pub may : may_be_inverted_as t.flip w form.inverted ≡ true
+  pub enable : PlansControl (length t.pairs) mask net (enable_bit w) x.enable
+  pub rows : PlansRows (length t.pairs) mask net w.function (rows_are_positive t.flip w form.inverted) x.rows
+  pub fit : length x.rows ≤ (cell_at t c).room
+
+-- that of a cell which is assigned nothing: combinational where it may be, inverted, and no row
+pub record PlansSpare (x : CellPlan) (form : CellForm) : Type 0 where
+  pub registered : form.registered ≡ false
+  pub inverted : form.inverted ≡ true
+  pub enable : x.enable ≡ None
+  pub rows : x.rows ≡ []
+
+abbrev pub PlansAs : Table → (mask : ℕ) → Netlist → ℕ → Option CellWanted → CellPlan → CellForm → Type 0
+PlansAs t mask net c None x form = PlansSpare x form
+PlansAs t mask net c (Some w) x form = PlansCell t mask net c w x form
+
+-- that of the cell of a number
+pub record HasCellPlan (t : Table) (mask : ℕ) (net : Netlist) (plan : Plan) (forms : List CellForm) (c : ℕ) : Type 0 where
+  pub cell : CellPlan
+  pub there : slice_get plan.cells c ≡ Some cell
+  pub planned : PlansAs t mask net c (cell_wanted net c) cell (form_at forms c)
+
+-- the row of a control that all registers share
+pub record PlansShared (t : Table) (mask : ℕ) (net : Netlist) (own : Wanted → Option Formula) (row : Option Cube) : Type 0 where
+  pub bit : ExprId
+  pub within : bit.0 < length (arena net.exprs)
+  pub shared : formula_at (arena net.exprs) bit ≡ shared_function own (plain_netlist net)
+  pub covers_it : PlansControl (length t.pairs) mask net bit row
+
+-- a plan for the whole netlist
+pub record PlansNetlist (t : Table) (mask : ℕ) (net : Netlist) (plan : Plan) (forms : List CellForm) : Type 0 where
+  pub mask_is : IsTurnMask t (plain_netlist net) mask
+  pub count : length plan.cells ≡ length t.cells
+  pub cells : (c : ℕ) → c < length t.cells → HasCellPlan t mask net plan forms c
+  pub reset : PlansShared t mask net (λ (w : Wanted). w.reset) plan.reset
+  pub preset : PlansShared t mask net (λ (w : Wanted). w.preset) plan.preset
+  pub resets_shared : AreShared t (plain_netlist net) (λ (w : Wanted). w.reset)
+  pub presets_shared : AreShared t (plain_netlist net) (λ (w : Wanted). w.preset)
+
+-- fuses that hold such a plan are those of the netlist
+abbrev pub PlansFit : Type 0
+PlansFit =
+    (t : Table) (net : Netlist) (mask : ℕ) (plan : Plan) (forms : List CellForm) (fuses : List Bool) → IsDevice t → IsSoundNetlist t net
+    → PlansNetlist t mask net plan forms → IsBurned t plan forms fuses → IsFitted t (plain_netlist net) fuses
