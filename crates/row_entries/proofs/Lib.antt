@@ -1,1 +1,2 @@
 mod RowExamples
+pub mod EntryParts
