@@ -1,1 +1,4 @@
 pub mod MetWords
+pub mod OperatedBits
+pub mod TwoValues
+pub mod WordLengths

@@ -2,9 +2,15 @@
 #![tactic(auto)]
 
 mod bits;
+mod leaves;
 mod meeting;
+mod operators;
+mod sets;
 #[cfg(test)]
 mod tests;
 
 pub use bits::{Bits, Form};
+pub use leaves::{number_bits, one_bit};
 pub use meeting::{dropped, meet_word, width_of_both};
+pub use operators::{both, under};
+pub use sets::{empty_set, with_member};

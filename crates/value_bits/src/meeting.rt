@@ -68,7 +68,11 @@ pub fn meet_word(alloc: Global, value: &Bits, width: usize) -> Result<Vec<ExprId
 }
 
 /// One flag for so many positions.
-fn spread_flag(alloc: Global, unknown: bool, width: usize) -> Result<Vec<bool>, OutOfMemory>
+pub(crate) fn spread_flag(
+    alloc: Global,
+    unknown: bool,
+    width: usize,
+) -> Result<Vec<bool>, OutOfMemory>
     ensures { IfOk result (λ xs. xs.items ≡ replicate width unknown) }
 {
     let flags = vec![in alloc; unknown; width]?;
@@ -76,7 +80,11 @@ fn spread_flag(alloc: Global, unknown: bool, width: usize) -> Result<Vec<bool>, 
 }
 
 /// The X positions of a value in so many positions.
-fn meet_unknown(alloc: Global, value: &Bits, width: usize) -> Result<Vec<bool>, OutOfMemory>
+pub(crate) fn meet_unknown(
+    alloc: Global,
+    value: &Bits,
+    width: usize,
+) -> Result<Vec<bool>, OutOfMemory>
     ensures { IfOk result (λ xs. (v : Value) → HasForm value.now.form v (length value.now.word) → HasUnknown value.now.form v value.now.unknown → xs.items ≡ met_unknown width v) }
 {
     let unknown = value.unknown.as_slice();
