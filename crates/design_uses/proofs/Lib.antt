@@ -1,3 +1,3 @@
 mod Carried
 mod Columns
-mod UsesRead
+pub mod UsesRead

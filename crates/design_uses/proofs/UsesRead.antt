@@ -13,7 +13,7 @@ use Rattle.gathered.specs.SignalUses.{SignalUse, term_uses, all_term_uses}
 use Rattle.design_uses.specs.Correct.{UsesAreRead}
 use Rattle.design_uses.specs.LocatedUses.{PlacedUse, all_at, own_or_outer, range_located, located, members_located, member_located}
 
-abbrev plain : List PlacedUse → List SignalUse
+abbrev pub plain : List PlacedUse → List SignalUse
 plain us = map (λ (u : PlacedUse). u.read) us
 
 plain_at : (p : Place) (us : List SignalUse) → plain (all_at p us) ≡ us
@@ -28,7 +28,7 @@ each_if (Some e) ts = extended_each e ts
 
 -- where each signal has an extension, no outer one counts
 mutual
-  twice : (e f : Extension) (t : Term) → extended f (extended e t) ≡ extended e t
+  pub twice : (e f : Extension) (t : Term) → extended f (extended e t) ≡ extended e t
   twice e f (Number n) = refl
   twice e f X = refl
   twice e f Pulse = refl
@@ -94,7 +94,7 @@ module _ (known : List Known) where
       ∙ sym (before_reads o (term_named known name) (named_before known names ts))
 
   mutual
-    reads : (o : Option Extension) (t : Tree) → plain (located known o t) ≡ term_uses (extended_if o (term_of known t))
+    pub reads : (o : Option Extension) (t : Tree) → plain (located known o t) ≡ term_uses (extended_if o (term_of known t))
     reads o (ANumber n) = sym (number_reads o n.value)
     reads o (ASpecial letter p) = sym (special_reads o letter)
     reads o (AName word e) = plain_at word.place (term_uses (extended_if o (extended_if e (term_named known word.text))))

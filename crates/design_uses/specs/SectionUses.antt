@@ -1,7 +1,7 @@
 -- Where the sections of a design read signals. Targets and the headers of vectors read nothing, a diagram reads its
 -- registers; what is compared with the level of the clock, or of a pin that enables, is no use (this project's rule).
 use Rattle.std.specs.Prelude.{ℕ, Bool, true, false, Option, None, Some, List, [], ◌∷◌, ◌++◌, if◌then◌else◌}
-use Rattle.std.specs.List.{list_any}
+use Rattle.std.specs.List.{list_all}
 use Rattle.pld_device.specs.declared.enable.Enable.{Enable}
 use Rattle.pld_device.specs.declared.enable.Enable.TheVariants.{Row, PinLow}
 use Rattle.pld_device.specs.Table.{Table, cell_at}
@@ -29,10 +29,11 @@ is_cell_by_pin t (Some c) = is_by_pin (cell_at t c).enable
 abbrev pub is_enabled_by_pin : Design → ℕ → Bool
 is_enabled_by_pin d s = is_cell_by_pin d.device (cell_of d.device (name_at d s))
 
--- an assignment only says what the device does anyway: a clock, or the enable of a signal that a pin enables
+-- an assignment only says what the device does anyway: a clock, or the enable of signals each of which a pin enables;
+-- a value that another signal takes too is used
 abbrev pub is_compared_by : Design → Option Extension → List ℕ → Bool
 is_compared_by d (Some extension.Clk) ss = true
-is_compared_by d (Some extension.Oe) ss = list_any (is_enabled_by_pin d) ss
+is_compared_by d (Some extension.Oe) ss = list_all (is_enabled_by_pin d) ss
 is_compared_by d _ ss = false
 
 abbrev pub is_compared : Design → (target : Tree) → Bool
