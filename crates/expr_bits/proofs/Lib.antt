@@ -1,0 +1,17 @@
+pub mod Accepted
+pub mod Blank
+pub mod Coming
+pub mod Extensions
+pub mod Joining
+pub mod Linked
+pub mod Links
+pub mod NamedWork
+pub mod NamesBefore
+pub mod NumberTerms
+pub mod OfExpressions
+pub mod Places
+pub mod Shaped
+pub mod StackLaws
+pub mod StepLaws
+pub mod Turns
+pub mod Views

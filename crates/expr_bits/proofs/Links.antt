@@ -1,0 +1,173 @@
+-- What is found of an expression and what its term comes to: the same shape, and X only where nothing is made of it.
+use Rattle.std.proofs.Common.{◌≡◌, ℕ, zero, suc, ◌+◌, Bool, true, false, Option, None, Some, List, [], ◌∷◌, ◌++◌, if◌then◌else◌, length, replicate, refl, sym, ap, ap₂, ◌∙◌, subst}
+use Rattle.abel_tree.specs.declared.words.Binary.{Binary}
+use Rattle.abel_tree.specs.declared.words.Extension.{Extension}
+use Rattle.abel_tree.specs.declared.words.Unary.{Unary}
+use Rattle.abel_meaning.specs.Designs.{Design}
+use Rattle.abel_meaning.specs.Numbers.{Shape, Number, Single, Set, Value, width_of, member_width, meeting, met_number, met_unknown_by}
+use Rattle.abel_meaning.specs.Terms.{Term, Terms, extended, extended_each, extended_if}
+use Rattle.abel_meaning.specs.Terms as term
+use Rattle.abel_meaning.specs.Values.{constant_of, set_value, nowhere, is_relation, binary_by, binary_value, unary_value, operator_number, unary_number}
+
+-- ---- values of one kind
+
+pub record SameKind (v c : Value) : Type 0 where
+  pub shape : c.shape ≡ v.shape
+  pub number : v.shape ≡ Number → c.number ≡ v.number
+
+pub same_kind : (v : Value) → SameKind v v
+same_kind v = record { shape = refl; number = λ e. refl }
+
+pub kind_then : (v u w : Value) → SameKind v u → SameKind u w → SameKind v w
+kind_then v u w a b = record { shape = b.shape ∙ a.shape; number = λ e. b.number (a.shape ∙ e) ∙ a.number e }
+
+pub unary_kind : (sign : Unary) (v c : Value) → SameKind v c → SameKind (unary_value sign v) (unary_value sign c)
+unary_kind sign v c k =
+    record {
+      shape = k.shape;
+      number = λ e. ap₂ (λ s n. unary_by s n) k.shape (k.number e);
+    }
+  where
+    unary_by : Shape → ℕ → ℕ
+    unary_by s n = unary_number sign (width_of s) n
+
+pub left_number : (s t : Shape) → meeting s t ≡ Number → s ≡ Number
+left_number Number t e = refl
+left_number Single Number e = absurd cc
+left_number Single Single e = absurd cc
+left_number Single (Set w) e = absurd cc
+left_number (Set v) t e = absurd cc
+
+pub right_number : (s t : Shape) → meeting s t ≡ Number → t ≡ Number
+right_number Number t e = e
+right_number Single Number e = absurd cc
+right_number Single Single e = absurd cc
+right_number Single (Set w) e = absurd cc
+right_number (Set v) t e = absurd cc
+
+-- the number of an operator on two values, by their shapes
+abbrev number_by : Binary → (s t : Shape) → ℕ → ℕ → ℕ
+number_by sign s t m n = operator_number sign (meeting s t) (met_number (width_of (meeting s t)) s m) (met_number (width_of (meeting s t)) t n)
+
+two_numbers : (sign : Binary) (s t s1 t1 : Shape) (m n m1 n1 : ℕ) → s1 ≡ s → t1 ≡ t → m1 ≡ m → n1 ≡ n → number_by sign s1 t1 m1 n1 ≡ number_by sign s t m n
+two_numbers sign s t s1 t1 m n m1 n1 e f g h =
+    ap₂ (λ x y. number_by sign x y m1 n1) e f ∙ ap₂ (λ x y. number_by sign s t x y) g h
+
+by_kind : (relation : Bool) (sign : Binary) (v c u e : Value) → SameKind v c → SameKind u e → SameKind (binary_by relation sign v u) (binary_by relation sign c e)
+by_kind true sign v c u e k l = record { shape = refl; number = λ p. absurd cc }
+by_kind false sign v c u e k l =
+    record {
+      shape = ap₂ meeting k.shape l.shape;
+      number = λ p.
+          two_numbers sign v.shape u.shape c.shape e.shape v.number u.number c.number e.number k.shape l.shape
+          (k.number (left_number v.shape u.shape p)) (l.number (right_number v.shape u.shape p));
+    }
+
+pub binary_kind : (sign : Binary) (v c u e : Value) → SameKind v c → SameKind u e → SameKind (binary_value sign v u) (binary_value sign c e)
+binary_kind sign v c u e k l = by_kind (is_relation sign) sign v c u e k l
+
+-- ---- no position is X
+
+abbrev pub AllKnown : List Bool → Type 0
+AllKnown [] = Unit {0}
+AllKnown (b ∷ bs) = (b ≡ false) × AllKnown bs
+
+pub known_append : (xs ys : List Bool) → AllKnown xs → AllKnown ys → AllKnown (xs ++ ys)
+known_append [] ys a b = b
+known_append (x ∷ xs) ys a b = (a.0, known_append xs ys a.1 b)
+
+pub known_spread : (w : ℕ) (x : Bool) → x ≡ false → AllKnown (replicate w x)
+known_spread zero x e = tt
+known_spread (suc w) x e = (e, known_spread w x e)
+
+pub known_met : (w : ℕ) (s : Shape) (xs : List Bool) → AllKnown xs → AllKnown (met_unknown_by w s xs)
+known_met w Number xs a = known_spread w false refl
+known_met w Single [] a = known_spread w false refl
+known_met w Single (x ∷ xs) a = known_spread w x a.0
+known_met w (Set v) xs a = a
+
+known_by : (relation : Bool) (sign : Binary) (v u : Value) → AllKnown (binary_by relation sign v u).unknown
+known_by true sign v u = (refl, tt)
+known_by false sign v u = known_spread (width_of (meeting v.shape u.shape)) false refl
+
+pub known_binary : (sign : Binary) (v u : Value) → AllKnown (binary_value sign v u).unknown
+known_binary sign v u = known_by (is_relation sign) sign v u
+
+-- ---- nothing is made of X
+
+abbrev mutual
+  pub Sound : Design → Term → Type 0
+  Sound d (term.Number n) = Unit {0}
+  Sound d term.X = Unit {0}
+  Sound d term.Pulse = Unit {0}
+  Sound d term.Release = Unit {0}
+  Sound d (term.Read s e) = Unit {0}
+  Sound d (term.Set ts) = AllSound d ts
+  Sound d (term.UnaryOf sign t) = AllKnown (constant_of d t).unknown
+  Sound d (term.BinaryOf sign t u) = Unit {0}
+
+  pub AllSound : Design → Terms → Type 0
+  AllSound d term.NoTerm = Unit {0}
+  AllSound d (term.Before t ts) = Sound d t × AllSound d ts
+
+-- ---- an extension changes no shape
+
+unary_flags : (sign : Unary) (v c : Value) → c.unknown ≡ v.unknown → (unary_value sign c).unknown ≡ (unary_value sign v).unknown
+unary_flags sign v c e = e
+
+flags_by : (relation : Bool) (sign : Binary) (v c u e : Value) → SameKind v c → SameKind u e → (binary_by relation sign c e).unknown ≡ (binary_by relation sign v u).unknown
+flags_by true sign v c u e k l = refl
+flags_by false sign v c u e k l = ap (λ s. replicate (width_of s) false) (ap₂ meeting k.shape l.shape)
+
+pub record Alike (v c : Value) : Type 0 where
+  pub kind : SameKind v c
+  pub unknown : c.unknown ≡ v.unknown
+
+mutual
+  pub extended_alike : (d : Design) (e : Extension) (t : Term) → Alike (constant_of d t) (constant_of d (extended e t))
+  extended_alike d e (term.Number n) = record { kind = same_kind _; unknown = refl }
+  extended_alike d e term.X = record { kind = same_kind _; unknown = refl }
+  extended_alike d e term.Pulse = record { kind = same_kind _; unknown = refl }
+  extended_alike d e term.Release = record { kind = same_kind _; unknown = refl }
+  extended_alike d e (term.Read s None) = record { kind = record { shape = refl; number = λ p. absurd cc }; unknown = refl }
+  extended_alike d e (term.Read s (Some f)) = record { kind = same_kind _; unknown = refl }
+  extended_alike d e (term.Set ts) = set_alike d e ts
+  extended_alike d e (term.UnaryOf sign t) =
+      let a = extended_alike d e t in
+      record { kind = unary_kind sign (constant_of d t) (constant_of d (extended e t)) a.kind; unknown = a.unknown }
+  extended_alike d e (term.BinaryOf sign t u) =
+      let a = extended_alike d e t in
+      let b = extended_alike d e u in
+      record {
+        kind = binary_kind sign (constant_of d t) (constant_of d (extended e t)) (constant_of d u) (constant_of d (extended e u)) a.kind b.kind;
+        unknown = flags_by (is_relation sign) sign (constant_of d t) (constant_of d (extended e t)) (constant_of d u) (constant_of d (extended e u)) a.kind b.kind;
+      }
+
+  set_alike : (d : Design) (e : Extension) (ts : Terms) → Alike (set_value d nowhere ts) (set_value d nowhere (extended_each e ts))
+  set_alike d e term.NoTerm = record { kind = same_kind _; unknown = refl }
+  set_alike d e (term.Before t ts) =
+      let a = extended_alike d e t in
+      let b = set_alike d e ts in
+      record {
+        kind = record {
+          shape = ap₂ (λ s r. Set (member_width s + width_of r)) a.kind.shape b.kind.shape;
+          number = λ p. absurd cc;
+        };
+        unknown = ap₂ (λ xs ys. xs ++ ys) b.unknown (ap₂ (λ s xs. met_unknown_by (member_width s) s xs) a.kind.shape a.unknown);
+      }
+
+mutual
+  pub extended_sound : (d : Design) (e : Extension) (t : Term) → Sound d t → Sound d (extended e t)
+  extended_sound d e (term.Number n) s = tt
+  extended_sound d e term.X s = tt
+  extended_sound d e term.Pulse s = tt
+  extended_sound d e term.Release s = tt
+  extended_sound d e (term.Read s None) h = tt
+  extended_sound d e (term.Read s (Some f)) h = tt
+  extended_sound d e (term.Set ts) s = all_sound d e ts s
+  extended_sound d e (term.UnaryOf sign t) s = subst AllKnown (sym (extended_alike d e t).unknown) s
+  extended_sound d e (term.BinaryOf sign t u) s = tt
+
+  all_sound : (d : Design) (e : Extension) (ts : Terms) → AllSound d ts → AllSound d (extended_each e ts)
+  all_sound d e term.NoTerm s = tt
+  all_sound d e (term.Before t ts) s = (extended_sound d e t s.0, all_sound d e ts s.1)

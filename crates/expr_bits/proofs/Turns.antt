@@ -1,0 +1,92 @@
+-- The walk, turn by turn: what was built, and what is left comes to the whole.
+use Rattle.std.proofs.Common.{◌≡◌, ℕ, ◌+◌, ◌≤◌, false, Option, None, List, [], ◌∷◌, ◌++◌, length, map, reverse, take, Result, Ok, Err, refl, sym, ap, ◌∙◌, subst, arith}
+use Rattle.std.proofs.lemmas.List.{reverse-append, map-append}
+use Rattle.std.proofs.Math.Seq.{take-length}
+use Rattle.std.specs.Global.{Vec}
+use Rattle.bit_expr.specs.declared.fault.ExprFault.{ExprFault}
+use Rattle.bit_expr.specs.declared.fault.ExprFault.TheVariants as fault
+use Rattle.bit_expr.specs.declared.node.Node.{Node}
+use Rattle.bit_expr.specs.Arena.{arena}
+use Rattle.bit_expr.specs.Folding.{Made, free, ◌>>=◌}
+use Rattle.bit_expr.specs.Formulas.{Formula}
+use Rattle.pld_device.specs.Table.{Table}
+use Rattle.abel_tree.specs.declared.expressions.Expr.{Expr}
+use Rattle.abel_tree.specs.declared.names.Names.{Names}
+use Rattle.abel_tree.specs.Entries.{Entry, entries_of}
+use Rattle.abel_tree.specs.View.{view}
+use Rattle.abel_meaning.specs.Designs.{Design}
+use Rattle.abel_meaning.specs.Terms.{Term, known_of, term_of}
+use Rattle.bit_words.specs.Making.{IsMade, Makes}
+use Rattle.bit_words.proofs.Making.{made_is, Going, going_start, going_on, going_stop, going_done}
+use Rattle.set_expr.specs.Answer.{IsDesignOf}
+use Rattle.value_bits.specs.declared.bits.Bits.{Bits}
+use Rattle.value_bits.specs.Parts.{Part, IsPart}
+use Rattle.expr_bits.specs.declared.step.Step.{Step}
+use Rattle.expr_bits.specs.declared.work.Work.{Work}
+use Rattle.expr_bits.specs.Stacks.{AreStacked, ShowsStack, Standing, task_of, tasks_of, after_work, then_all}
+use Rattle.expr_bits.specs.Steps.{Task, Push, Do, term_part, top, pushed, after_step, after_task, after_all}
+
+pub tasks_last : (es : List Entry) (ws : List Work) (w : Work) → tasks_of es (ws ++ w ∷ []) ≡ task_of es w ∷ tasks_of es ws
+tasks_last es ws w = ap (map (task_of es)) (reverse-append ws (w ∷ []))
+
+-- the values so far, and these tasks
+abbrev pub Walking : Design → (old now : List Node) → Vec Bits → List Task → Term → Type 0
+Walking d old now vs ts t = Going ShowsStack old now vs (after_all d ts) (pushed (term_part d t) [])
+
+pub walking_start : (d : Design) (old : List Node) (vs : Vec Bits) (t : Term) → vs.items ≡ [] → Walking d old old vs (Push t ∷ []) t
+walking_start d old vs t e =
+    going_start ShowsStack old vs (after_all d (Push t ∷ [])) (pushed (term_part d t) []) []
+    (subst (λ bs. AreStacked (arena old) bs []) (sym e) tt) refl (omega arith)
+
+pub walking_standing : (d : Design) (old now : List Node) (vs : Vec Bits) (ts : List Task) (t : Term) → Walking d old now vs ts t → Standing (arena now) vs.items
+walking_standing d old now vs ts t g = record { parts = g.made; are = g.shows }
+
+-- an expression in parts
+pub whole_turn : (d : Design) (us ts : List Task) (ps : List Part) → after_all d us ps ≡ after_all d ts ps → after_all d ts ps ≡ then_all d (free ps) us
+whole_turn d us ts ps e =
+    made_is _ _ (ap (λ (m : Made (List Part)). m.what) (sym e)) (omega (arith, ap (λ (m : Made (List Part)). m.nodes) e))
+
+-- a turn
+pub walking_turn : (d : Design) (old now new : List Node) (vs ws : Vec Bits) (next : Work) (ts us : List Task) (t : Term) → (g : Walking d old now vs ts t) → ((ps : List Part) → after_all d ts ps ≡ then_all d (after_work d next ps) us) → Makes ShowsStack now new (Ok ws) (after_work d next g.made) → Walking d old new ws us t
+walking_turn d old now new vs ws next ts us t g law m =
+    going_on ShowsStack ShowsStack ShowsStack old now new vs ws ws (after_all d ts) (pushed (term_part d t) []) (after_work d next g.made) (after_all d us) (after_work d next g.made).what
+    g m m.shows (ap (λ (x : Made (List Part)). x.what) (law g.made)) (ap (λ (x : Made (List Part)). x.nodes) (law g.made))
+
+pub walking_stops : (d : Design) (old now new : List Node) (vs : Vec Bits) (e : ExprFault) (next : Work) (ts us : List Task) (t : Term) → (g : Walking d old now vs ts t) → ((ps : List Part) → after_all d ts ps ≡ then_all d (after_work d next ps) us) → Makes {R = Vec Bits} ShowsStack now new (Err e) (after_work d next g.made) → Makes {R = Bits} IsPart old new (Err e) (term_part d t)
+walking_stops d old now new vs e next ts us t g law m =
+    as_part e (going_stop ShowsStack ShowsStack ShowsStack old now new vs e (after_all d ts) (pushed (term_part d t) []) (after_work d next g.made) g m (omega (arith, ap (λ (x : Made (List Part)). x.nodes) (law g.made))))
+  where
+    as_part : (e : ExprFault) → Makes {R = Vec Bits} ShowsStack old new (Err e) (pushed (term_part d t) []) → Makes {R = Bits} IsPart old new (Err e) (term_part d t)
+    as_part fault.NodeLimit h = h
+    as_part fault.OutOfMemory h = h
+
+-- the end
+abbrev ShowsTop : List Formula → Bits → List Part → Type 0
+ShowsTop fs b ps = IsPart fs b (top ps)
+
+pub walking_done : (d : Design) (old now : List Node) (vs : Vec Bits) (b : Bits) (ts : List Task) (t : Term) → ts ≡ [] → (g : Walking d old now vs ts t) → IsPart (arena now) b (top g.made) → Makes IsPart old now (Ok b) (term_part d t)
+walking_done d old now vs b ts t e g is =
+    let none : after_all d ts g.made ≡ free g.made = ap (λ us. after_all d us g.made) e in
+    let whole : IsMade ShowsTop (arena old) (arena now) b (pushed (term_part d t) []) =
+    going_done ShowsStack ShowsTop old now vs b (after_all d ts) (pushed (term_part d t) []) g (ap (λ (m : Made (List Part)). m.nodes) none)
+    (subst (λ (m : Made (List Part)). IsPart (arena now) b (top m.what)) (sym none) is) in
+    record { shows = whole.shows; grew = whole.grew; within = whole.within }
+
+pub all_names : (es : List Entry) (n : ℕ) → n ≡ length es → take n es ≡ es
+all_names es n e = ap (λ k. take k es) e ∙ take-length es
+
+-- ---- a design of these names
+
+pub plain_design : Table → Names → Design
+plain_design t n = record { device = t; names = entries_of n; known = known_of (entries_of n); starts_dontcare = false; sections = [] }
+
+pub is_plain : (t : Table) (n : Names) → IsDesignOf t n (plain_design t n)
+unfolding plain_design
+is_plain t n = record { device = refl; names = refl; known = refl }
+
+-- the first task is the whole
+pub whole_task : (t : Table) (n : Names) (d : Design) (e : Expr) (work : List Work) (w : Work) (count : ℕ) → IsDesignOf t n d → work ≡ w ∷ [] → task_of (entries_of n) w ≡ Push (term_of (known_of (take count (entries_of n))) (view e)) → count ≡ length (entries_of n) → tasks_of (entries_of n) work ≡ Push (term_of d.known (view e)) ∷ []
+whole_task t n d e work w count is one task all =
+    ap (tasks_of (entries_of n)) one ∙ ap (λ x. x ∷ []) task
+    ∙ ap (λ es. Push (term_of (known_of es) (view e)) ∷ []) (all_names (entries_of n) count all)
+    ∙ ap (λ ks. Push (term_of ks (view e)) ∷ []) (sym is.known)

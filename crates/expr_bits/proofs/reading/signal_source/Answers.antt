@@ -1,0 +1,11 @@
+-- The name is one of those that are placed.
+use Rattle.abel_tree.specs.Entries.{view_declared}
+use Rattle.expr_bits.proofs.NamesBefore.{entry_at}
+use Rattle.expr_bits.proofs.reading.signal_source.Goals as goal
+
+pub returns-in-Some-clause-leaf : goal.returns-in-Some-clause-leaf
+returns-in-Some-clause-leaf g c =
+    let lookup = c.in-Some.ensures.lookup in
+    c.source_of.ensures.leaf
+    (c.requires c.args.signal (view_declared c.in-Some.declared.now)
+    (entry_at c.args.names.now c.as_slice.result.now c.args.signal c.in-Some.declared.now c.as_slice.ensures lookup.3.0 lookup.1))

@@ -1,0 +1,10 @@
+-- The constant 0 is there.
+use Rattle.std.proofs.Common.{false}
+use Rattle.bit_expr.specs.Formulas.{Const}
+use Rattle.bit_words.specs.Making.{ShowsOne}
+use Rattle.bit_words.proofs.AlongWords.{zero_there, zero_is}
+use Rattle.bit_words.proofs.Making.{nothing_made}
+use Rattle.expr_bits.proofs.reading.source_bit.Goals as goal
+
+pub returns-in-None : goal.returns-in-None
+returns-in-None c = rw c.in-None.is (nothing_made ShowsOne c.args.exprs.now (record { 0 = 0 }) (Const false) (zero_there c.args.exprs.now, zero_is c.args.exprs.now))

@@ -1,0 +1,136 @@
+//! Steps over a stack of values.
+
+ghost use Rattle.std.specs.Prelude.{◌≡◌, List, ◌∷◌, IfOk};
+ghost use Rattle.bit_expr.specs.declared.node.Node.{Node as ANode};
+ghost use Rattle.bit_expr.specs.Arena.{arena};
+ghost use Rattle.bit_expr.specs.Formulas.{Formula};
+ghost use Rattle.abel_tree.specs.Entries.{entries_of};
+ghost use Rattle.abel_meaning.specs.Designs.{Design};
+ghost use Rattle.bit_words.specs.Making.{Makes};
+ghost use Rattle.set_expr.specs.Answer.{IsDesignOf};
+ghost use Rattle.value_bits.specs.Parts.{Part, IsPart, under_part, both_part, no_part};
+ghost use Rattle.expr_bits.specs.Placed.{ArePlaced};
+ghost use Rattle.expr_bits.specs.Stacks.{AreStacked, ShowsStack, Standing};
+ghost use Rattle.expr_bits.specs.Steps.{top, below, pushed, made_normal, joins, after_step, read_part};
+
+use crate::reading::read;
+use crate::step::Step;
+use abel_tree::{Binary, Extension, Names, Unary};
+use bit_expr::{ExprFault, ExprId, Exprs};
+use pld_base::OutOfMemory;
+use pld_device::Device;
+use std::alloc::Global;
+use value_bits::{Bits, both, empty_set, number_bits, one_bit, under, with_member};
+
+/// Takes the value on top; the number 0 where there is none.
+pub(crate) fn taken(alloc: Global, values: &mut Vec<Bits>) -> Bits
+    ensures top { (fs : List Formula) (ps : List Part) → AreStacked fs values.old.items ps → IsPart fs result (top ps) }
+    ensures below { (fs : List Formula) (ps : List Part) → AreStacked fs values.old.items ps → AreStacked fs values.new.items (below ps) }
+{
+    match values.pop() {
+        Some(bits) => bits,
+        None => number_bits(alloc, 0),
+    }
+}
+
+/// One value more, on top.
+fn put(values: Vec<Bits>, value: Bits) -> Result<Vec<Bits>, OutOfMemory>
+    ensures { IfOk result (λ new. (fs : List Formula) (ps : List Part) (p : Part) → AreStacked fs values.items ps → IsPart fs value p → ShowsStack fs new (p ∷ ps)) }
+{
+    let mut values = values;
+    values.push(value)?;
+    Ok(values)
+}
+
+/// An operator on the value on top.
+fn build_under(
+    alloc: Global,
+    exprs: &mut Exprs,
+    sign: Unary,
+    values: Vec<Bits>,
+) -> Result<Vec<Bits>, ExprFault>
+    requires { Standing (arena exprs.old) values.items }
+    ensures { (ps : List Part) → AreStacked (arena exprs.old) values.items ps → Makes ShowsStack exprs.old exprs.new result (pushed (made_normal (under_part sign (top ps))) (below ps)) }
+{
+    let mut values = values;
+    let inner = taken(alloc, &mut values);
+    let bits = under(alloc, exprs, sign, inner)?;
+    let values = put(values, bits)?;
+    Ok(values)
+}
+
+/// An operator on the two values on top, the right one the last.
+fn build_both(
+    alloc: Global,
+    exprs: &mut Exprs,
+    sign: Binary,
+    values: Vec<Bits>,
+) -> Result<Vec<Bits>, ExprFault>
+    requires { Standing (arena exprs.old) values.items }
+    ensures { (ps : List Part) → AreStacked (arena exprs.old) values.items ps → Makes ShowsStack exprs.old exprs.new result (pushed (made_normal (both_part sign (top (below ps)) (top ps))) (below (below ps))) }
+{
+    let mut values = values;
+    let right = taken(alloc, &mut values);
+    let left = taken(alloc, &mut values);
+    let bits = both(alloc, exprs, sign, &left, &right)?;
+    let values = put(values, bits)?;
+    Ok(values)
+}
+
+/// The set of so many values on top, the last of them its last member.
+fn build_set(alloc: Global, count: usize, values: Vec<Bits>) -> Result<Vec<Bits>, OutOfMemory>
+    ensures { IfOk result (λ new. (ns : List ANode) (ps : List Part) → AreStacked (arena ns) values.items ps → ShowsStack (arena ns) new (joins count no_part ps)) }
+{
+    let mut values = values;
+    let mut whole = empty_set(alloc);
+    for index in 0..count {
+        let member = taken(alloc, &mut values);
+        whole = with_member(alloc, &member, whole)?;
+    }
+    put(values, whole)
+}
+
+/// What a name reads, on top.
+fn build_read<D: Device>(
+    alloc: Global,
+    names: &Names,
+    exprs: &mut Exprs,
+    signal: u32,
+    extension: Option<Extension>,
+    values: Vec<Bits>,
+) -> Result<Vec<Bits>, ExprFault>
+    requires placed { ArePlaced names.now }
+    requires values { Standing (arena exprs.old) values.items }
+    ensures { (d : Design) (ps : List Part) → IsDesignOf D.table names.now d → AreStacked (arena exprs.old) values.items ps → Makes ShowsStack exprs.old exprs.new result (pushed (read_part d signal extension) ps) }
+{
+    let bits = read::<D>(alloc, names, exprs, signal, extension)?;
+    let values = put(values, bits)?;
+    Ok(values)
+}
+
+/// The values after a step.
+pub(crate) fn build<D: Device>(
+    alloc: Global,
+    names: &Names,
+    exprs: &mut Exprs,
+    step: Step,
+    values: Vec<Bits>,
+) -> Result<Vec<Bits>, ExprFault>
+    requires placed { ArePlaced names.now }
+    requires values { Standing (arena exprs.old) values.items }
+    ensures { (d : Design) (ps : List Part) → IsDesignOf D.table names.now d → AreStacked (arena exprs.old) values.items ps → Makes ShowsStack exprs.old exprs.new result (after_step d step ps) }
+{
+    match step {
+        Step::Number(number) => Ok(put(values, number_bits(alloc, number))?),
+        Step::Unknown => {
+            let bits = one_bit(alloc, ExprId(0), true)?;
+            Ok(put(values, bits)?)
+        }
+        Step::Read(signal, extension) => {
+            build_read::<D>(alloc, names, exprs, signal, extension, values)
+        }
+        Step::Under(sign) => build_under(alloc, exprs, sign, values),
+        Step::Both(sign) => build_both(alloc, exprs, sign, values),
+        Step::Joins(count) => Ok(build_set(alloc, count, values)?),
+    }
+}

@@ -1,0 +1,104 @@
+//! The bits of an expression.
+
+ghost use Rattle.std.specs.Prelude.{◌≡◌, [], None, Some, List, IfOk, IfErr};
+ghost use Rattle.bit_expr.specs.Arena.{arena};
+ghost use Rattle.abel_tree.specs.Entries.{entries_of};
+ghost use Rattle.abel_tree.specs.View.{view};
+ghost use Rattle.abel_meaning.specs.Designs.{Design};
+ghost use Rattle.set_expr.specs.Answer.{IsDesignOf, IsAnswer, first_place, refusal_of};
+ghost use Rattle.set_expr.specs.FoundNames.{expression_found};
+ghost use Rattle.set_expr.specs.KnownNames.{IsKnown};
+ghost use Rattle.expr_bits.specs.Placed.{ArePlaced};
+
+use crate::shaping::shaped;
+use crate::walking::walk;
+use abel_tree::{Expr, Names};
+use bit_expr::{ExprFault, Exprs};
+use pld_base::Place;
+use pld_device::Device;
+use set_expr::{KnownNames, SectionFault, Shaped, check};
+use std::alloc::Global;
+
+/// The place of an expression's first token.
+fn first_place(expr: &Expr) -> Place
+    ensures { result ≡ first_place (view expr.now) }
+{
+    let mut first = expr;
+    'down: while let Expr::Binary {
+        sign: _,
+        place: _,
+        left,
+        right: _,
+    } = first
+    {
+        first = left.get();
+    }
+    match first {
+        Expr::Number(number) => number.place,
+        Expr::Special { letter: _, place } => *place,
+        Expr::Name { word, extension: _ } => word.place,
+        Expr::Set {
+            place,
+            members: _,
+            extension: _,
+        } => *place,
+        Expr::Paren { place, inner: _ } => *place,
+        Expr::Unary {
+            sign: _,
+            place,
+            inner: _,
+        } => *place,
+        Expr::Binary {
+            sign: _,
+            place,
+            left: _,
+            right: _,
+        } => *place,
+    }
+}
+
+/// The answer for an expression of which nothing is refused.
+fn built<D: Device>(
+    alloc: Global,
+    names: &Names,
+    known: &KnownNames,
+    expr: &Expr,
+    exprs: &mut Exprs,
+) -> Result<Shaped, SectionFault>
+    requires known { IsKnown (entries_of names.now) known.now }
+    requires placed { ArePlaced names.now }
+    requires accepted { refusal_of names.now (view expr.now) ≡ None }
+    ensures { (d : Design) → IsDesignOf D.table names.now d → IsAnswer names.now d (view expr.now) exprs.old exprs.new result }
+{
+    match walk::<D>(alloc, names, known, expr, exprs) {
+        Ok(bits) => {
+            let shaped = shaped(alloc, &bits)?;
+            Ok(shaped)
+        }
+        Err(ExprFault::NodeLimit) => Err(SectionFault::NodeLimit(first_place(expr))),
+        Err(ExprFault::OutOfMemory) => Err(SectionFault::OutOfMemory),
+    }
+}
+
+/// The bits of an expression over the names of a source, and what is known of them.
+///
+/// The expression is checked first: its first refusal is the answer, and nothing is built. Else only `NodeLimit`, at
+/// the expression's first token, or want of memory can come. Each read of a signal and each operator makes its nodes
+/// anew, also of equal operands.
+pub fn bits<D: Device>(
+    alloc: Global,
+    names: &Names,
+    known: &KnownNames,
+    expr: &Expr,
+    exprs: &mut Exprs,
+) -> Result<Shaped, SectionFault>
+    requires known { IsKnown (entries_of names.now) known.now }
+    requires placed { ArePlaced names.now }
+    ensures answer { (d : Design) → IsDesignOf D.table names.now d → IsAnswer names.now d (view expr.now) exprs.old exprs.new result }
+{
+    let checked = check(alloc, names, known, expr)?;
+    match checked.fault {
+        Some(fault) => Err(fault),
+        None => built::<D>(alloc, names, known, expr, exprs),
+    }
+}

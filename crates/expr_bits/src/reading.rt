@@ -1,0 +1,78 @@
+//! The bits of what signals read.
+
+ghost use Rattle.std.specs.Prelude.{◌≡◌, length};
+ghost use Rattle.bit_expr.specs.Arena.{arena, IsLeaf};
+ghost use Rattle.abel_tree.specs.Entries.{entries_of};
+ghost use Rattle.abel_meaning.specs.Designs.{Design};
+ghost use Rattle.abel_meaning.specs.FormulaBits.{make_held, make_source};
+ghost use Rattle.abel_meaning.specs.Sources.{source_of};
+ghost use Rattle.bit_words.specs.Making.{Makes, ShowsOne};
+ghost use Rattle.set_expr.specs.Answer.{IsDesignOf};
+ghost use Rattle.value_bits.specs.Parts.{IsPart};
+ghost use Rattle.expr_bits.specs.Held.{HasLeaf, view_reading};
+ghost use Rattle.expr_bits.specs.Placed.{ArePlaced};
+ghost use Rattle.expr_bits.specs.Steps.{read_part};
+
+use crate::sources::{Reading, source_of};
+use abel_tree::{Extension, Names};
+use bit_expr::{ExprFault, ExprId, Exprs, Node};
+use pld_device::Device;
+use std::alloc::Global;
+use value_bits::{Bits, one_bit};
+
+/// A leaf, with a Not where it reads the complement.
+fn held_bit(exprs: &mut Exprs, reading: Reading) -> Result<ExprId, ExprFault>
+    requires { IsLeaf reading.leaf }
+    ensures { Makes ShowsOne exprs.old exprs.new result (make_held reading.complement reading.leaf) }
+{
+    let leaf = exprs.add(Node::Leaf(reading.leaf))?;
+    if reading.complement {
+        exprs.add(Node::Not(leaf))
+    } else {
+        Ok(leaf)
+    }
+}
+
+/// The bit of what is read; 0 makes nothing.
+fn source_bit(exprs: &mut Exprs, reading: Option<Reading>) -> Result<ExprId, ExprFault>
+    requires { HasLeaf reading }
+    ensures { Makes ShowsOne exprs.old exprs.new result (make_source (view_reading reading)) }
+{
+    match reading {
+        Some(reading) => held_bit(exprs, reading),
+        None => Ok(ExprId(0)),
+    }
+}
+
+/// What the name of a number reads; 0 where there is no such name.
+fn signal_source<D: Device>(
+    names: &Names,
+    signal: u32,
+    extension: Option<Extension>,
+) -> Option<Reading>
+    requires { ArePlaced names.now }
+    ensures source { (d : Design) → IsDesignOf D.table names.now d → view_reading result ≡ source_of d signal extension }
+    ensures leaf { HasLeaf result }
+{
+    match names.list.as_slice().get(signal as usize) {
+        Some(declared) => source_of::<D>(declared, extension),
+        None => None,
+    }
+}
+
+/// The bits of what a signal reads.
+pub(crate) fn read<D: Device>(
+    alloc: Global,
+    names: &Names,
+    exprs: &mut Exprs,
+    signal: u32,
+    extension: Option<Extension>,
+) -> Result<Bits, ExprFault>
+    requires { ArePlaced names.now }
+    ensures { (d : Design) → IsDesignOf D.table names.now d → Makes IsPart exprs.old exprs.new result (read_part d signal extension) }
+{
+    let reading = signal_source::<D>(names, signal, extension);
+    let bit = source_bit(exprs, reading)?;
+    let bits = one_bit(alloc, bit, false)?;
+    Ok(bits)
+}

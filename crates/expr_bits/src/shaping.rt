@@ -1,0 +1,64 @@
+//! What an expression comes to, from its bits.
+
+ghost use Rattle.std.specs.Prelude.{◌≡◌, ◌<◌, List, length, IfOk};
+ghost use Rattle.bit_expr.specs.Formulas.{Formula};
+ghost use Rattle.abel_meaning.specs.BitWords.{Word};
+ghost use Rattle.abel_meaning.specs.Numbers.{Value};
+ghost use Rattle.set_expr.specs.Answer.{IsShaped};
+ghost use Rattle.value_bits.specs.Showing.{IsBits};
+ghost use Rattle.expr_bits.specs.Shaping.{IsBlank, place_of, places_of, shape_of};
+
+use bit_expr::ExprId;
+use pld_base::{ListOf, OutOfMemory};
+use set_expr::{Shape, Shaped};
+use std::alloc::Global;
+use value_bits::{Bits, Form};
+
+/// The shape of bits, of which there are few.
+fn shape_of(bits: &Bits) -> Shape
+    requires { length bits.now.word < 256 }
+    ensures { result ≡ shape_of bits.now.form (length bits.now.word) }
+{
+    match bits.form {
+        Form::Number(number) => Shape::Number(number),
+        Form::Single => Shape::Single,
+        Form::Set => Shape::Set(bits.word.as_slice().len() as u8),
+    }
+}
+
+/// A position, None where it is X.
+fn place_of(bit: ExprId, unknown: bool) -> Option<ExprId>
+    ensures { result ≡ place_of bit unknown }
+{
+    if unknown { None } else { Some(bit) }
+}
+
+/// The positions of bits.
+fn places_of(
+    alloc: Global,
+    word: &[ExprId],
+    unknown: &[bool],
+) -> Result<Vec<Option<ExprId>>, OutOfMemory>
+    requires { length unknown.now ≡ length word.now }
+    ensures { IfOk result (λ ps. ps.items ≡ places_of word.now unknown.now) }
+{
+    let mut places = Vec::new(alloc);
+    for index in 0..word.len() {
+        places.push(place_of(word[index], unknown[index]))?;
+    }
+    Ok(places)
+}
+
+/// The shape and the positions of bits, of which there are few, and which are 0 where they are X.
+pub(crate) fn shaped(alloc: Global, bits: &Bits) -> Result<Shaped, OutOfMemory>
+    requires few { length bits.now.word < 256 }
+    requires positions { length bits.now.unknown ≡ length bits.now.word }
+    ensures { IfOk result (λ s. (fs : List Formula) (v : Value) (w : Word) → IsBits fs bits.now v w → IsBlank v.unknown w → IsShaped fs s v w) }
+{
+    let shape = shape_of(bits);
+    let places = places_of(alloc, bits.word.as_slice(), bits.unknown.as_slice())?;
+    Ok(Shaped {
+        shape,
+        places: ListOf::from_vec(places),
+    })
+}

@@ -1,0 +1,164 @@
+//! What signals read.
+
+ghost use Rattle.std.specs.Prelude.{◌≡◌, ◌<◌, Some, not, IfSome};
+ghost use Rattle.abel_tree.specs.Entries.{has, view_declared};
+ghost use Rattle.abel_meaning.specs.Designs.{cell_on, is_stored};
+ghost use Rattle.abel_meaning.specs.Sources.{node_source, on_pin, pin_source, register_source, source_by};
+ghost use Rattle.pld_device.specs.Macrocells.{complement_if};
+ghost use Rattle.expr_bits.specs.Held.{HasLeaf, view_reading};
+ghost use Rattle.expr_bits.specs.Placed.{IsPlacedKind};
+
+use abel_tree::{Attributes, Declared, Extension, Meaning};
+use bit_expr::Leaf;
+use bitflags::Flags;
+use pld_device::Device;
+
+/// A leaf, or the complement of what it carries.
+#[derive(Clone, Copy, Debug, PartialEq, Eq)]
+pub(crate) struct Reading {
+    pub complement: bool,
+    pub leaf: Leaf,
+}
+
+/// The cell on a pin.
+fn cell_on<D: Device>(pin: u8) -> Option<u8>
+    ensures cell { result ≡ cell_on D.table pin }
+    ensures below { IfSome result (λ c. c < 32) }
+{
+    for index in 0..D::CELLS {
+        if D::cell(index).pin == pin {
+            return Some(index);
+        }
+    }
+    None
+}
+
+/// A combinational signal on a pin: its level.
+fn pin_source(pin: u8, negated: bool, extension: Option<Extension>) -> Option<Reading>
+    ensures source { view_reading result ≡ pin_source pin negated extension }
+    ensures leaf { pin < 32 → HasLeaf result }
+{
+    let level = Reading {
+        complement: negated,
+        leaf: Leaf::Pin(pin),
+    };
+    match extension {
+        None => Some(level),
+        Some(Extension::Pin) => Some(level),
+        Some(_) => None,
+    }
+}
+
+/// What a register's pin polarity makes of Q, seen from its name.
+fn is_complement(negated: bool, buffer: bool) -> bool
+    ensures { result ≡ complement_if negated (not buffer) }
+{
+    negated == buffer
+}
+
+/// A register in a cell: its pin polarity, or Q itself.
+fn cell_source(
+    negated: bool,
+    buffer: bool,
+    cell: u8,
+    extension: Option<Extension>,
+) -> Option<Reading>
+    ensures source { view_reading result ≡ register_source negated buffer (Some cell) extension }
+    ensures leaf { cell < 32 → HasLeaf result }
+{
+    let leaf = Leaf::Q(cell);
+    let complement = is_complement(negated, buffer);
+    match extension {
+        None => Some(Reading { complement, leaf }),
+        Some(Extension::Fb) => Some(Reading { complement, leaf }),
+        Some(Extension::Q) => Some(Reading {
+            complement: false,
+            leaf,
+        }),
+        Some(_) => None,
+    }
+}
+
+/// A register on a pin.
+fn register_source<D: Device>(
+    pin: u8,
+    negated: bool,
+    buffer: bool,
+    extension: Option<Extension>,
+) -> Option<Reading>
+    ensures source { view_reading result ≡ register_source negated buffer (cell_on D.table pin) extension }
+    ensures leaf { HasLeaf result }
+{
+    match cell_on::<D>(pin) {
+        Some(cell) => cell_source(negated, buffer, cell, extension),
+        None => None,
+    }
+}
+
+/// A node: its value.
+fn node_source(node: u8, extension: Option<Extension>) -> Option<Reading>
+    ensures source { view_reading result ≡ node_source node extension }
+    ensures leaf { node < 128 → HasLeaf result }
+{
+    match extension {
+        None => Some(Reading {
+            complement: false,
+            leaf: Leaf::Node(node),
+        }),
+        Some(_) => None,
+    }
+}
+
+/// Whether the pin follows Q.
+fn has_buffer(attributes: Attributes) -> bool
+    ensures { result ≡ has 4 attributes }
+{
+    attributes.contains(Attributes::BUFFER)
+}
+
+/// Whether the attributes say registered.
+fn has_reg(attributes: Attributes) -> bool
+    ensures { result ≡ has 2 attributes }
+{
+    attributes.contains(Attributes::REG)
+}
+
+/// Whether the signal is stored in a register.
+fn is_stored(declared: &Declared) -> bool
+    ensures { result ≡ is_stored (view_declared declared.now) }
+{
+    has_reg(declared.attributes) && declared.assigned
+}
+
+/// A signal on a pin.
+fn on_pin<D: Device>(
+    declared: &Declared,
+    pin: u8,
+    negated: bool,
+    extension: Option<Extension>,
+) -> Option<Reading>
+    ensures source { view_reading result ≡ on_pin D.table (view_declared declared.now) pin negated (is_stored (view_declared declared.now)) extension }
+    ensures leaf { pin < 32 → HasLeaf result }
+{
+    if is_stored(declared) {
+        register_source::<D>(pin, negated, has_buffer(declared.attributes), extension)
+    } else {
+        pin_source(pin, negated, extension)
+    }
+}
+
+/// What a declared name reads, bare or with an extension; nothing where it is 0. Takes no memory.
+pub(crate) fn source_of<D: Device>(
+    declared: &Declared,
+    extension: Option<Extension>,
+) -> Option<Reading>
+    ensures source { view_reading result ≡ source_by D.table (view_declared declared.now) (view_declared declared.now).kind extension }
+    ensures leaf { IsPlacedKind (view_declared declared.now).kind → HasLeaf result }
+{
+    match &declared.meaning {
+        Meaning::Pin { pin, negated } => on_pin::<D>(declared, *pin, *negated, extension),
+        Meaning::Node(number) => node_source(*number, extension),
+        Meaning::Constant(_) => None,
+        Meaning::DeviceName => None,
+    }
+}
