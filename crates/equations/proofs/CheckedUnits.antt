@@ -1,11 +1,13 @@
 -- The first refusal of units of statements, part by part.
-use Rattle.std.proofs.Common.{◌≡◌, Bool, Option, Some, List, [], ◌∷◌, ◌++◌, length, refl, sym, ap, ap₂, ◌∙◌, subst, append_assoc, append-nil, rules}
+use Rattle.std.proofs.Common.{◌≡◌, Bool, Option, None, Some, List, [], ◌∷◌, ◌++◌, length, refl, sym, ap, ap₂, ◌∙◌, subst, append_assoc, append-nil, rules}
 use Rattle.std.specs.Prelude.{option_map}
 use Rattle.pld_base.specs.declared.place.Place.{Place}
 use Rattle.pld_device.specs.Table.{Table}
 use Rattle.bit_expr.specs.Formulas.{Formula}
 use Rattle.abel_tree.specs.declared.names.Names.{Names}
-use Rattle.abel_tree.specs.declared.statements.Stmt.{the_lemmas}
+use Rattle.abel_tree.specs.declared.statements.Assign.{Assign}
+use Rattle.abel_tree.specs.declared.statements.Stmt.{Stmt, the_lemmas}
+use Rattle.abel_tree.specs.declared.statements.Stmt.TheVariants as stmt
 use Rattle.abel_tree.specs.declared.statements.When.{When}
 use Rattle.abel_tree.specs.declared.words.Extension.{Extension}
 use Rattle.abel_tree.specs.declared.words.Sign.{Sign}
@@ -13,7 +15,7 @@ use Rattle.abel_tree.specs.Assigned.{is_clocked}
 use Rattle.abel_tree.specs.Entries.{entries_of}
 use Rattle.abel_tree.specs.FirstRefusal.{earlier, first_refusal}
 use Rattle.abel_tree.proofs.FirstRefusals.{first_append, earlier_assoc}
-use Rattle.abel_tree.specs.Tree.{Tree, Statement, AWhen, NoElse, AnElse, statements_of, otherwise_of}
+use Rattle.abel_tree.specs.Tree.{Tree, Statement, AGroup, AWhen, NoElse, AnElse, statements_of, otherwise_of}
 use Rattle.abel_tree.specs.View.{view, view_stmt}
 use Rattle.abel_meaning.specs.CountedNodes.{guard_then, guard_else, condition_of}
 use Rattle.abel_meaning.specs.Designs.{Design}
@@ -33,7 +35,7 @@ use Rattle.section_targets.specs.TargetSignals.{TargetFound}
 use Rattle.section_targets.specs.Units.{CountedUnit, units_refused}
 use Rattle.section_targets.specs.ValueWidths.{value_refused}
 use Rattle.section_targets.proofs.Built.{refused_append}
-use Rattle.equations.specs.Checks.{AreNames, view_when}
+use Rattle.equations.specs.Checks.{AreNames, view_assign, view_list, view_when}
 use Rattle.equations.specs.StatementUnits.{assign_refused, assigned_aims, assigned_manners, taken_refused, unless_any, condition_refused, units_of_statement, units_of_statements, statement_manners, statements_manners}
 
 abbrev first : List SectionFault → Option SectionFault
@@ -99,14 +101,14 @@ when_else d g all p c s u =
 
 -- ---- lists
 
-units_more : (d : Design) (g : Formula) (all : List Manner) (ss : List Statement) (s : Statement) → units_of_statements d g all (statements_of (ss ++ s ∷ [])) ≡ units_of_statements d g all (statements_of ss) ++ units_of_statement d g (all ++ statements_manners d (statements_of ss)) s
+pub units_more : (d : Design) (g : Formula) (all : List Manner) (ss : List Statement) (s : Statement) → units_of_statements d g all (statements_of (ss ++ s ∷ [])) ≡ units_of_statements d g all (statements_of ss) ++ units_of_statement d g (all ++ statements_manners d (statements_of ss)) s
 units_more d g all [] s = append-nil (units_of_statement d g all s) ∙ ap (λ ms. units_of_statement d g ms s) (sym (append-nil all))
 units_more d g all (x ∷ ss) s =
     ap (λ us. units_of_statement d g all x ++ us) (units_more d g (all ++ statement_manners d x) ss s)
     ∙ sym (append_assoc (units_of_statement d g all x) (units_of_statements d g (all ++ statement_manners d x) (statements_of ss)) (units_of_statement d g ((all ++ statement_manners d x) ++ statements_manners d (statements_of ss)) s))
     ∙ ap (λ ms. units_of_statements d g all (statements_of (x ∷ ss)) ++ units_of_statement d g ms s) (append_assoc all (statement_manners d x) (statements_manners d (statements_of ss)))
 
-manners_more : (d : Design) (ss : List Statement) (s : Statement) → statements_manners d (statements_of (ss ++ s ∷ [])) ≡ statements_manners d (statements_of ss) ++ statement_manners d s
+pub manners_more : (d : Design) (ss : List Statement) (s : Statement) → statements_manners d (statements_of (ss ++ s ∷ [])) ≡ statements_manners d (statements_of ss) ++ statement_manners d s
 manners_more d [] s = append-nil (statement_manners d s)
 manners_more d (x ∷ ss) s = ap (λ ms. statement_manners d x ++ ms) (manners_more d ss s) ∙ sym (append_assoc (statement_manners d x) (statements_manners d (statements_of ss)) (statement_manners d s))
 
@@ -121,3 +123,20 @@ refused_more d g all ss ts s e =
 pub noted_more : (d : Design) (all : List Manner) (ss ts : List Statement) (s : Statement) → ts ≡ ss ++ s ∷ [] → (all ++ statements_manners d (statements_of ss)) ++ statement_manners d s ≡ all ++ statements_manners d (statements_of ts)
 noted_more d all ss ts s e =
     append_assoc all (statements_manners d (statements_of ss)) (statement_manners d s) ∙ ap (λ ms. all ++ ms) (sym (ap (λ xs. statements_manners d (statements_of xs)) e ∙ manners_more d ss s))
+
+-- ---- statements by their kinds
+
+pub view_assigned : (a : Assign) → view_stmt (stmt.Assign a) ≡ view_assign a
+view_assigned a = search (rules, the_lemmas)
+
+pub view_whened : (w : When) → view_stmt (stmt.When w) ≡ view_when w
+view_whened w = search (rules, the_lemmas)
+
+pub view_grouped : (list slice : List Stmt) → list ≡ slice → view_stmt (stmt.Group list) ≡ AGroup (view_list slice)
+view_grouped list slice e = subst (λ (xs : List Stmt). view_stmt (stmt.Group list) ≡ AGroup (view_list xs)) e (search (rules, the_lemmas))
+
+pub view_alone : (w : When) → w.otherwise ≡ None → view_when w ≡ AWhen w.place (view w.condition) (view_stmt w.then) NoElse
+view_alone w e = view_parts w ∙ ap (λ o. AWhen w.place (view w.condition) (view_stmt w.then) (otherwise_of (option_map view_stmt o))) e
+
+pub view_both : (w : When) (s : Stmt) → w.otherwise ≡ Some s → view_when w ≡ AWhen w.place (view w.condition) (view_stmt w.then) (AnElse (view_stmt s))
+view_both w s e = view_parts w ∙ ap (λ o. AWhen w.place (view w.condition) (view_stmt w.then) (otherwise_of (option_map view_stmt o))) e

@@ -1,3 +1,5 @@
+pub mod BuiltParts
+pub mod BuiltUnits
 pub mod CheckedUnits
 mod ExampleRefusals
 mod Written

@@ -1,3 +1,4 @@
+pub mod Builds
 pub mod Checks
 pub mod StatementAnswers
 pub mod StatementUnits

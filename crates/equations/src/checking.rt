@@ -78,7 +78,7 @@ fn check_side<D: Device>(
 }
 
 /// An assignment.
-fn check_assign<D: Device>(
+pub(crate) fn check_assign<D: Device>(
     alloc: Global,
     names: &Names,
     known: &KnownNames,

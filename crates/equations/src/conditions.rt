@@ -7,6 +7,8 @@ ghost use Rattle.abel_tree.specs.FirstRefusal.{first_refusal};
 ghost use Rattle.abel_tree.specs.View.{view};
 ghost use Rattle.abel_meaning.specs.Designs.{Design};
 ghost use Rattle.abel_meaning.specs.Numbers.{Value};
+ghost use Rattle.abel_meaning.specs.Statements as given;
+ghost use Rattle.set_expr.specs.Given.{view_gives};
 ghost use Rattle.set_expr.specs.KnownNames.{IsKnown, HasShapeIf, SumsUp};
 ghost use Rattle.set_expr.specs.Refusals.{Found};
 ghost use Rattle.set_expr.specs.SectionOrder.{section_order};
@@ -15,7 +17,7 @@ ghost use Rattle.equations.specs.StatementUnits.{condition_refused};
 
 use abel_tree::{Expr, Extension, Names, Sign};
 use pld_base::{OutOfMemory, Place};
-use set_expr::{Checked, KnownNames, SectionFault, Shape, check, earlier};
+use set_expr::{Checked, Gives, KnownNames, SectionFault, Shape, check, earlier};
 use std::alloc::Global;
 
 /// The extension of a target, which stands outside.
@@ -42,6 +44,18 @@ pub(crate) fn is_clocked(sign: Sign) -> bool
         Sign::Clocked => true,
         Sign::Any => false,
         Sign::ClockedAny => true,
+    }
+}
+
+/// What the sign gives where the value is 1.
+pub(crate) fn sign_gives(sign: Sign) -> Gives
+    ensures { view_gives result ≡ given.sign_gives sign }
+{
+    match sign {
+        Sign::Equal => Gives::One,
+        Sign::Clocked => Gives::One,
+        Sign::Any => Gives::Any,
+        Sign::ClockedAny => Gives::Any,
     }
 }
 

@@ -1,0 +1,195 @@
+-- The parts of units that statements make.
+use Rattle.std.proofs.Common.{◌≡◌, ℕ, zero, suc, ◌+◌, ◌<◌, ◌≤◌, Bool, true, false, Option, None, Some, List, [], ◌∷◌, ◌++◌, All, Result, Ok, Err, length, map, reverse, replicate, get_or, refl, sym, ap, ap₂, ◌∙◌, subst, subst₂, arith}
+use Rattle.std.proofs.lemmas.List.{length-map, length-replicate, length-reverse}
+use Rattle.std.proofs.lemmas.Option.{none-some, slice_get-get_or, slice_get_within}
+use Rattle.std.proofs.lemmas.List.Sorted.{IsPermutation-reverse, All-permutation}
+use Rattle.pld_base.specs.declared.place.Place.{Place}
+use Rattle.pld_device.specs.Table.{Table}
+use Rattle.abel_tree.proofs.FirstRefusals.{none_refused}
+use Rattle.bit_expr.specs.declared.node.ExprId.{ExprId}
+use Rattle.bit_expr.specs.declared.node.Node.{Node}
+use Rattle.bit_expr.specs.Arena.{arena, formula_at}
+use Rattle.bit_expr.specs.Formulas.{Formula, Const}
+use Rattle.abel_tree.specs.declared.names.Names.{Names}
+use Rattle.abel_tree.specs.Entries.{entries_of}
+use Rattle.abel_tree.specs.FirstRefusal.{first_refusal}
+use Rattle.abel_tree.specs.Tree.{Tree}
+use Rattle.abel_meaning.specs.Contributions as meant
+use Rattle.abel_meaning.specs.CountedNodes.{term_nodes}
+use Rattle.abel_meaning.specs.Designs.{Design}
+use Rattle.abel_meaning.specs.Terms.{known_of}
+use Rattle.abel_meaning.specs.BitWords.{Word}
+use Rattle.abel_meaning.specs.FormulaBits.{resized, met_by, met_word}
+use Rattle.abel_meaning.specs.Numbers.{Value, Single, digits_low_first}
+use Rattle.abel_meaning.proofs.DigitLaws.{length_digits}
+use Rattle.abel_meaning.proofs.RelationWords.{map_reverse}
+use Rattle.set_expr.specs.declared.contributions.Contribution.{Contribution}
+use Rattle.set_expr.specs.declared.contributions.Contributions.{Contributions}
+use Rattle.set_expr.specs.declared.fault.SectionFault.{SectionFault}
+use Rattle.set_expr.specs.declared.fault.SectionFault.TheVariants as fault
+use Rattle.set_expr.specs.declared.shaped.Shape.{Shape}
+use Rattle.set_expr.specs.declared.shaped.Shape.TheVariants as shape
+use Rattle.set_expr.specs.declared.shaped.Shaped.{Shaped}
+use Rattle.set_expr.specs.FoundNames.{expression_found}
+use Rattle.set_expr.specs.SectionOrder.{section_order}
+use Rattle.set_expr.specs.Shapes.{HasShape}
+use Rattle.set_expr.specs.Answer.{IsDesignOf, IsAnswer, IsShaped, Keeps, refusal_of, bits_at, positions}
+use Rattle.section_targets.specs.Building.{Stop, AtLimit, NoMemory, AtRefusal, stop_of, Stops, StopsWith, IsBuilt, Builds, IsBit, AreBits}
+use Rattle.section_targets.specs.Units.{CountedUnit, part}
+use Rattle.section_targets.specs.ValueWidths.{value_width}
+use Rattle.section_targets.proofs.Built.{left_empty, builds_stop, kept_inside, kept_formula}
+use Rattle.section_targets.proofs.OneUnit.{one_unit, two_parts}
+use Rattle.section_targets.proofs.Parts.{built_nodes, leaves_nodes, limit_here}
+use Rattle.equations.specs.Builds.{at_unit, condition_unit}
+use Rattle.equations.specs.StatementUnits.{condition_refused}
+
+-- some design of these names, since what stands doesn't depend on it
+abbrev pub some_design : Table → Names → Design
+some_design t n =
+    record { device = t; names = entries_of n; known = known_of (entries_of n); starts_dontcare = false; sections = [] }
+
+pub is_some_design : (t : Table) (n : Names) → IsDesignOf t n (some_design t n)
+is_some_design t n = record { device = refl; names = refl; known = refl }
+
+-- ---- expressions
+
+refused_not : {A : Type 0} (n : Names) (t : Tree) (f : SectionFault) → refusal_of n t ≡ None → refusal_of n t ≡ Some f → A
+refused_not n t f e h = absurd (none-some f (sym e ∙ h))
+
+pub answer_keeps : (n : Names) (d : Design) (t : Tree) (old new : List Node) (r : Result Shaped SectionFault) → refusal_of n t ≡ None → IsAnswer n d t old new r → Keeps (arena old) (arena new)
+answer_keeps n d t old new (Ok s) e a = a.grew.keeps
+answer_keeps n d t old new (Err (fault.NodeLimit p)) e a = a.keeps
+answer_keeps n d t old new (Err fault.OutOfMemory) e a = a
+answer_keeps n d t old new (Err (fault.MisplacedSpecial p)) e a = refused_not n t (fault.MisplacedSpecial p) e a.0
+answer_keeps n d t old new (Err (fault.NotConstant p)) e a = refused_not n t (fault.NotConstant p) e a.0
+answer_keeps n d t old new (Err (fault.ZeroDivisor p)) e a = refused_not n t (fault.ZeroDivisor p) e a.0
+answer_keeps n d t old new (Err (fault.BadWidth p)) e a = refused_not n t (fault.BadWidth p) e a.0
+answer_keeps n d t old new (Err (fault.NotAnOutput p s)) e a = refused_not n t (fault.NotAnOutput p s) e a.0
+answer_keeps n d t old new (Err (fault.MixedAssignment p s)) e a = refused_not n t (fault.MixedAssignment p s) e a.0
+answer_keeps n d t old new (Err (fault.BadRow p)) e a = refused_not n t (fault.BadRow p) e a.0
+answer_keeps n d t old new (Err (fault.BadState p)) e a = refused_not n t (fault.BadState p) e a.0
+answer_keeps n d t old new (Err (fault.BadVector p)) e a = refused_not n t (fault.BadVector p) e a.0
+
+pub answer_stops : (n : Names) (d : Design) (t : Tree) (p : Place) (old new : List Node) (f : SectionFault) → refusal_of n t ≡ None → IsAnswer n d t old new (Err f)
+    → (list : List Contribution) → StopsWith (part p (term_nodes d t) ∷ []) [] [] (record { exprs = old; list = list }) (record { exprs = new; list = list }) (at_unit p f)
+answer_stops n d t p old new (fault.NodeLimit q) e a = λ list. (limit_here p (term_nodes d t) (length (arena old)) a.past, leaves_nodes old new list a.keeps)
+answer_stops n d t p old new fault.OutOfMemory e a = λ list. (tt, leaves_nodes old new list a)
+answer_stops n d t p old new (fault.MisplacedSpecial q) e a = refused_not n t (fault.MisplacedSpecial q) e a.0
+answer_stops n d t p old new (fault.NotConstant q) e a = refused_not n t (fault.NotConstant q) e a.0
+answer_stops n d t p old new (fault.ZeroDivisor q) e a = refused_not n t (fault.ZeroDivisor q) e a.0
+answer_stops n d t p old new (fault.BadWidth q) e a = refused_not n t (fault.BadWidth q) e a.0
+answer_stops n d t p old new (fault.NotAnOutput q s) e a = refused_not n t (fault.NotAnOutput q s) e a.0
+answer_stops n d t p old new (fault.MixedAssignment q s) e a = refused_not n t (fault.MixedAssignment q s) e a.0
+answer_stops n d t p old new (fault.BadRow q) e a = refused_not n t (fault.BadRow q) e a.0
+answer_stops n d t p old new (fault.BadState q) e a = refused_not n t (fault.BadState q) e a.0
+answer_stops n d t p old new (fault.BadVector q) e a = refused_not n t (fault.BadVector q) e a.0
+
+-- ---- bits
+
+-- memory is out behind nodes of a unit
+pub memory_behind : (us : List CountedUnit) (old new : List Node) (list : List Contribution) → Keeps (arena old) (arena new) → StopsWith us [] [] (record { exprs = old; list = list }) (record { exprs = new; list = list }) fault.OutOfMemory
+memory_behind us old new list k = (tt, leaves_nodes old new list k)
+
+reverse_all : (P : ExprId → Type 0) (ids : List ExprId) → All P ids → All P (reverse ids)
+reverse_all P ids h = All-permutation P ids (reverse ids) (IsPermutation-reverse ids) h
+
+pub bits_reversed : (fs : List Formula) (ids : List ExprId) (gs : List Formula) → AreBits fs ids gs → AreBits fs (reverse ids) (reverse gs)
+bits_reversed fs ids gs h = (reverse_all (λ (id : ExprId). id.0 < length fs) ids h.0, map_reverse (formula_at fs) ids ∙ ap reverse h.1)
+
+-- ---- how many bits
+
+length_at : (fs : List Formula) (ps : List (Option ExprId)) → length (bits_at fs ps) ≡ length ps
+length_at fs [] = refl
+length_at fs (None ∷ ps) = ap suc (length_at fs ps)
+length_at fs (Some id ∷ ps) = ap suc (length_at fs ps)
+
+length_resized : (n : ℕ) (w : Word) → length (resized n w) ≡ n
+length_resized zero w = refl
+length_resized (suc n) [] = ap suc (length_resized n [])
+length_resized (suc n) (x ∷ w) = ap suc (length_resized n w)
+
+length_single : (n : ℕ) (w : Word) → length w ≡ 1 → length (met_by n Single 0 w) ≡ n
+length_single n [] e = absurd (omega (arith, e))
+length_single n (x ∷ w) e = length-replicate n x
+
+-- a value meets as many signals as it is to
+pub met_length : (n : ℕ) (fs : List Formula) (s : Shaped) (v : Value) (w : Word) → IsShaped fs s v w → length (met_word n v w) ≡ n
+met_length n fs s v w h = by_shape s.shape h.shape (ap length (sym h.bits) ∙ length_at fs s.places ∙ h.positions)
+  where
+    by_shape : (x : Shape) → HasShape x v → length w ≡ positions x → length (met_word n v w) ≡ n
+    by_shape (shape.Number k) q e = ap (λ y. length (met_by n y v.number w)) q.0 ∙ length-map (digits_low_first n v.number) Const ∙ length_digits n v.number
+    by_shape shape.Single q e = ap (λ y. length (met_by n y v.number w)) q ∙ length_single n w e
+    by_shape (shape.Set k) q e = ap (λ y. length (met_by n y v.number w)) q ∙ length_resized n w
+
+pub bits_length : (fs : List Formula) (ids : List ExprId) (gs : List Formula) → AreBits fs ids gs → length ids ≡ length gs
+bits_length fs ids gs h = sym (length-map ids (formula_at fs)) ∙ ap length h.1
+
+-- ---- one unit, part by part
+
+-- a unit by its place, refusals and nodes
+abbrev pub whole : Place → List SectionFault → ℕ → CountedUnit
+whole p rs n = record { place = p; refusals = rs; nodes = n }
+
+-- what stops a front of a unit stops the unit
+pub stops_longer : (p : Place) (rs : List SectionFault) (m k : ℕ) (old new : Contributions) (f : SectionFault) → StopsWith (whole p rs m ∷ []) [] [] old new f → StopsWith (whole p rs (m + k) ∷ []) [] [] old new f
+stops_longer p [] m k old new f s =
+    subst (λ n. StopsWith (part p n ∷ []) [] [] old new f) (omega arith)
+    (one_unit {R = Unit} p (part p m ∷ part p k ∷ []) [] [] old new (Err f) (refl, (refl, tt)) (builds_stop (part p m ∷ []) (part p k ∷ []) [] [] [] [] old new f s))
+stops_longer p (r ∷ rs) m k old new f s = (by_stop (stop_of f) s.0, s.1)
+  where
+    by_stop : (stop : Stop) → Stops stop (length (arena old.exprs)) (whole p (r ∷ rs) m ∷ []) → Stops stop (length (arena old.exprs)) (whole p (r ∷ rs) (m + k) ∷ [])
+    by_stop (AtLimit q) h = absurd cc
+    by_stop NoMemory h = tt
+    by_stop AtRefusal h = h
+
+-- a part behind a front that was made
+pub parts_longer : {R : Type 0} (p : Place) (rs : List SectionFault) (m k : ℕ) (old mid new : Contributions) (r : Result R SectionFault) → IsBuilt (whole p rs m ∷ []) [] [] old mid → Builds (part p k ∷ []) [] [] mid new r → Builds (whole p rs (m + k) ∷ []) [] [] old new r
+parts_longer p rs m k old mid new r b a =
+    let e = left_empty rs [] b.accepted in
+    subst (λ xs. Builds (whole p xs (m + k) ∷ []) [] [] old new r) (sym e)
+    (two_parts p m k old mid new r (subst (λ xs. IsBuilt (whole p xs m ∷ []) [] [] old mid) e b) a)
+
+-- a unit of which something is refused
+pub refused_whole : (p : Place) (rs : List SectionFault) (m count : ℕ) (stop : Stop) → stop ≡ AtRefusal → (rs ≡ [] → ⊥) → Stops stop count (whole p rs m ∷ [])
+refused_whole p rs m count stop e h = subst (λ s. Stops s count (whole p rs m ∷ [])) (sym e) (by_refusals rs h)
+  where
+    by_refusals : (xs : List SectionFault) → (xs ≡ [] → ⊥) → Stops AtRefusal count (whole p xs m ∷ [])
+    by_refusals [] k = absurd (k refl)
+    by_refusals (x ∷ xs) k = (λ z. absurd cc, refl)
+
+-- the first bit of a word
+pub first_bit : (fs : List Formula) (ids : List ExprId) (id : ExprId) (gs : List Formula) → 0 < length ids → AreBits fs ids gs → IsBit fs (get_or ids 0 id) (get_or gs 0 (Const false))
+first_bit fs [] id gs lt h = absurd (omega (arith, lt))
+first_bit fs (x ∷ ids) id gs lt h = (h.0 0 x (omega arith), ap (λ xs. get_or xs 0 (Const false)) h.1)
+
+-- ---- conditions
+
+-- a condition of which nothing is refused is an expression of which nothing is refused
+pub accepted_condition : (d : Design) (n : Names) (p : Place) (c : Tree) → d.names ≡ entries_of n → None ≡ first_refusal section_order (condition_refused d p c) → (condition_refused d p c ≡ []) × (refusal_of n c ≡ None)
+accepted_condition d n p c e h =
+    let rs = none_refused section_order (condition_refused d p c) h in
+    let f = expression_found d.names c in
+    (rs, ap (λ es. first_refusal section_order (expression_found es c).refusals) (sym e) ∙ ap (first_refusal section_order) (left_empty f.refusals (f.specials ++ value_width p 1 f.value) rs))
+
+-- so its unit is that of its nodes
+pub accepted_unit : {R : Type 0} (d : Design) (p : Place) (c : Tree) (m : ℕ) (old new : Contributions) (r : Result R SectionFault) → condition_refused d p c ≡ [] → Builds (part p m ∷ []) [] [] old new r → Builds (condition_unit d p c m ∷ []) [] [] old new r
+accepted_unit d p c m old new r e b = subst (λ rs. Builds (whole p rs m ∷ []) [] [] old new r) (sym e) b
+
+-- a bit stays where its node stands
+pub kept_bit : (old new : List Formula) (id : ExprId) (f : Formula) → Keeps old new → IsBit old id f → IsBit new id f
+kept_bit old new id f k h = (kept_inside old new id k h.0, kept_formula old new id k h.0 ∙ h.1)
+
+pub value_accepted : (n : Names) (t : Tree) → (expression_found (entries_of n) t).refusals ≡ [] → refusal_of n t ≡ None
+value_accepted n t e = ap (first_refusal section_order) e
+
+-- a unit of which nothing is refused
+pub accepted_whole : {R : Type 0} (p : Place) (rs : List SectionFault) (n : ℕ) (gs : List (meant.Contribution Formula)) (ps : List Place) (old new : Contributions) (r : Result R SectionFault) → rs ≡ [] → Builds (part p n ∷ []) gs ps old new r → Builds (whole p rs n ∷ []) gs ps old new r
+accepted_whole p rs n gs ps old new r e b = subst (λ xs. Builds (whole p xs n ∷ []) gs ps old new r) (sym e) b
+
+-- an arena in which what was there stands is no shorter
+pub keeps_longer : (old new : List Formula) → Keeps old new → length old ≤ length new
+keeps_longer old new k = by_count (length old) refl
+  where
+    by_count : (n : ℕ) → length old ≡ n → length old ≤ length new
+    by_count zero e = omega (arith, e)
+    by_count (suc n) e = omega (arith, e, slice_get_within new n _ (k n _ (slice_get-get_or old n (Const false) (omega (arith, e)))))
