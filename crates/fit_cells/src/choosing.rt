@@ -12,7 +12,7 @@ pub struct Chosen {
 }
 
 /// The covers that a cell was tried with: None where a polarity is not allowed, or its lists are too wide.
-#[derive(Drop)]
+#[derive(Debug, Drop)]
 pub struct Tried {
     pub direct: Option<Vec<Cube>>,
     pub inverted: Option<Vec<Cube>>,
