@@ -1,0 +1,5 @@
+pub mod Alike
+pub mod FirstNames
+pub mod MissedPoints
+pub mod Stepping
+pub mod Turns

@@ -1,0 +1,154 @@
+//! The reset, or the preset, that all registers share.
+
+ghost use Rattle.std.specs.Prelude.{◌≡◌, ◌≤◌, Contains, IfOk, IfSome, None, true, length};
+ghost use Rattle.abel_meaning.specs.SoundIds.{IsSoundNetlist};
+ghost use Rattle.sop_lowering.specs.Written.{bit_list};
+ghost use Rattle.fit_laws.specs.Coverable.{IsSoundId};
+ghost use Rattle.fit_shared.specs.Sharing.{AllListed, FindsApartAt, IsFirstOf, IsFirstWith, IsListedBit, Shares, better_of};
+
+use crate::apart::point_apart;
+use crate::evaluating::valued_point;
+use crate::shared::{SharedControl, cell_wanted, own_control, pair_count};
+use bit_expr::{CellWanted, ExprId, Netlist};
+use cube_pool::{Cube, CubePool};
+use pld_base::Point;
+use pld_device::Device;
+use sop_lowering::{LowerFault, lower};
+use std::alloc::{AllocError, Global};
+
+/// Why no shared bit was answered.
+#[derive(Clone, Copy, Debug, PartialEq, Eq)]
+pub enum ShareFault {
+    /// The equation of the second cell differs from that of the first at the point.
+    NotShared(u8, u8, Point),
+    /// Memory ran out.
+    OutOfMemory,
+}
+
+impl From<AllocError> for ShareFault {
+    ghost use Rattle.std.specs.Prelude.{◌≡◌};
+    ghost use Rattle.fit_shared.specs.declared.sharing.ShareFault.TheVariants.{OutOfMemory};
+
+    ghost from_gives = { λ _ e. e ≡ OutOfMemory };
+
+    fn from(_error: AllocError) -> ShareFault {
+        ShareFault::OutOfMemory
+    }
+}
+
+/// The best so far, once a cell more was seen: one with such an equation of its own, of the least name.
+fn better(which: SharedControl, best: Option<CellWanted>, wanted: &CellWanted) -> Option<CellWanted>
+    ensures { result ≡ better_of which best wanted.now }
+{
+    let earlier = match best {
+        None => true,
+        Some(found) => wanted.name < found.name,
+    };
+    if own_control(which, wanted).is_some() && earlier {
+        Some(*wanted)
+    } else {
+        best
+    }
+}
+
+/// The cell of the least name that has such an equation of its own.
+fn first_with(net: &Netlist, which: SharedControl) -> Option<CellWanted>
+    ensures first { IsFirstWith net.now which result }
+    ensures among { IfSome result (Contains net.now.cells) }
+{
+    let mut best = None;
+    for wanted in net.cells.as_slice() {
+        best = better(which, best, wanted);
+    }
+    best
+}
+
+/// The written list of a bit that has one.
+fn listed<D: Device>(alloc: Global, net: &Netlist, bit: ExprId) -> Result<Vec<Cube>, AllocError>
+    requires sound { IsSoundNetlist D.table net.now }
+    requires id { IsSoundId D.table net.now bit }
+    requires some { bit_list net.now bit true ≡ None → ⊥ }
+    ensures { IfOk result (λ rows. IsListedBit D.table net.now bit rows.items) }
+{
+    match lower(alloc, net, bit, true) {
+        Ok(rows) => Ok(rows),
+        Err(LowerFault::OutOfMemory) => Err(AllocError),
+        Err(LowerFault::TooWide) => unreachable!(),
+    }
+}
+
+/// A point at which a cell's own equation, where it has one, differs from a written list.
+fn apart_at<D: Device>(
+    alloc: Global,
+    pool: &mut CubePool,
+    net: &Netlist,
+    which: SharedControl,
+    cell: u8,
+    bit: ExprId,
+    rows: &[Cube],
+) -> Result<Option<u32>, AllocError>
+    requires sound { IsSoundNetlist D.table net.now }
+    requires listed { AllListed net.now which }
+    requires rows { IsListedBit D.table net.now bit rows.now }
+    requires spare { 27672 ≤ pool.old.spare }
+    ensures same { pool.new ≡ pool.old }
+    ensures answer { IfOk result (FindsApartAt net.now which cell (length D.table.pairs) rows.now) }
+{
+    let Some(wanted) = cell_wanted(net, cell) else {
+        return Ok(None);
+    };
+    let Some(control) = own_control(which, &wanted) else {
+        return Ok(None);
+    };
+    let own = listed::<D>(alloc, net, control.bit)?;
+    Ok(point_apart(pool, rows, &own, pair_count::<D>()))
+}
+
+/// The bit of the first cell's equation, where that of each cell has its value.
+fn same_for_all<D: Device>(
+    alloc: Global,
+    pool: &mut CubePool,
+    net: &Netlist,
+    which: SharedControl,
+    first: CellWanted,
+    bit: ExprId,
+) -> Result<ExprId, ShareFault>
+    requires sound { IsSoundNetlist D.table net.now }
+    requires listed { AllListed net.now which }
+    requires first { IsFirstOf D.table net.now which first bit }
+    requires spare { 27672 ≤ pool.old.spare }
+    ensures same { pool.new ≡ pool.old }
+    ensures answer { Shares D.table net.now which result }
+{
+    let rows = listed::<D>(alloc, net, bit)?;
+    for cell in 0..D::CELLS {
+        if let Some(levels) = apart_at::<D>(alloc, pool, net, which, cell, bit, &rows)? {
+            let point = valued_point::<D>(alloc, net, levels)?;
+            return Err(ShareFault::NotShared(first.cell, cell, point));
+        }
+    }
+    Ok(bit)
+}
+
+/// The bit of the reset, or the preset, that all registers share: that of the cell of the least name that has one, else 0.
+/// Of cells whose own equations differ from it the first in the device's order is answered, with a point.
+pub fn shared_bit<D: Device>(
+    alloc: Global,
+    pool: &mut CubePool,
+    net: &Netlist,
+    which: SharedControl,
+) -> Result<ExprId, ShareFault>
+    requires sound { IsSoundNetlist D.table net.now }
+    requires listed { AllListed net.now which }
+    requires spare { 27672 ≤ pool.old.spare }
+    ensures same { pool.new ≡ pool.old }
+    ensures answer { Shares D.table net.now which result }
+{
+    let Some(first) = first_with(net, which) else {
+        return Ok(ExprId(0));
+    };
+    match own_control(which, &first) {
+        Some(control) => same_for_all::<D>(alloc, pool, net, which, first, control.bit),
+        None => unreachable!(),
+    }
+}
