@@ -1,6 +1,6 @@
 -- The parts of units that statements make.
-use Rattle.std.proofs.Common.{◌≡◌, ℕ, zero, suc, ◌+◌, ◌<◌, ◌≤◌, Bool, true, false, Option, None, Some, List, [], ◌∷◌, ◌++◌, All, Result, Ok, Err, length, map, reverse, replicate, get_or, refl, sym, ap, ap₂, ◌∙◌, subst, subst₂, arith}
-use Rattle.std.proofs.lemmas.List.{length-map, length-replicate, length-reverse}
+use Rattle.std.proofs.Common.{◌≡◌, ℕ, zero, suc, ◌+◌, ◌<◌, ◌≤◌, false, Option, None, Some, List, [], ◌∷◌, ◌++◌, All, Result, Ok, Err, length, reverse, get_or, refl, sym, ap, ◌∙◌, subst, arith}
+use Rattle.std.proofs.lemmas.List.{length-map, length-replicate}
 use Rattle.std.proofs.lemmas.Option.{none-some, slice_get-get_or, slice_get_within}
 use Rattle.std.proofs.lemmas.List.Sorted.{IsPermutation-reverse, All-permutation}
 use Rattle.pld_base.specs.declared.place.Place.{Place}
@@ -39,7 +39,7 @@ use Rattle.section_targets.specs.Units.{CountedUnit, part}
 use Rattle.section_targets.specs.ValueWidths.{value_width}
 use Rattle.section_targets.proofs.Built.{left_empty, builds_stop, kept_inside, kept_formula}
 use Rattle.section_targets.proofs.OneUnit.{one_unit, two_parts}
-use Rattle.section_targets.proofs.Parts.{built_nodes, leaves_nodes, limit_here}
+use Rattle.section_targets.proofs.Parts.{leaves_nodes, limit_here}
 use Rattle.equations.specs.Builds.{at_unit, condition_unit}
 use Rattle.equations.specs.StatementUnits.{condition_refused}
 

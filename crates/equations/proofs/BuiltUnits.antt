@@ -1,5 +1,5 @@
 -- Units of statements that were built one after another.
-use Rattle.std.proofs.Common.{◌≡◌, ℕ, ◌+◌, ◌<◌, Bool, true, false, Option, None, Some, List, [], ◌∷◌, ◌++◌, Result, Ok, Err, length, map, refl, sym, ap, ap₂, ◌∙◌, subst, arith, append_assoc, append-nil}
+use Rattle.std.proofs.Common.{◌≡◌, ◌+◌, Bool, true, false, Option, None, Some, List, [], ◌∷◌, ◌++◌, Result, Ok, Err, length, map, refl, sym, ap, ◌∙◌, subst, arith, append_assoc, append-nil}
 use Rattle.std.proofs.lemmas.List.{length-map}
 use Rattle.pld_base.specs.declared.place.Place.{Place}
 use Rattle.bit_expr.specs.declared.node.ExprId.{ExprId}
@@ -35,7 +35,7 @@ use Rattle.section_targets.specs.Given.{one_given, each_given, each_part, guard_
 use Rattle.section_targets.specs.Manners.{aims_refused}
 use Rattle.section_targets.specs.TargetSignals.{TargetFound}
 use Rattle.section_targets.specs.ValueWidths.{value_width}
-use Rattle.section_targets.specs.Units.{CountedUnit, part, units_nodes}
+use Rattle.section_targets.specs.Units.{part, units_nodes}
 use Rattle.section_targets.proofs.Built.{left_empty, right_empty, builds_then, builds_stop}
 use Rattle.section_targets.proofs.OneUnit.{AreParts, one_unit}
 use Rattle.section_targets.proofs.SideTerms.{positions_of}

@@ -1,10 +1,10 @@
 -- Statements part by part, and one statement more.
-use Rattle.std.proofs.Common.{◌≡◌, ◌+◌, ◌++◌, [], ◌∷◌, Ok, Err, List, map, take, drop, refl, ap, sym, ◌∙◌, subst, append_assoc, length, arith}
+use Rattle.std.proofs.Common.{◌≡◌, ◌+◌, ◌++◌, [], ◌∷◌, Ok, Err, List, map, take, drop, refl, ap, sym, ◌∙◌, subst, append_assoc, arith}
 use Rattle.std.specs.Prelude.{OnOk}
 use Rattle.std.proofs.lemmas.List.{map-append, take-append-drop}
 use Rattle.std.proofs.lemmas.Result.{err_from_is_err_and, on_ok_weaker}
 use Rattle.std.proofs.Math.Seq.{take-length}
-use Rattle.bit_expr.specs.Arena.{arena, formula_at}
+use Rattle.bit_expr.specs.Arena.{arena}
 use Rattle.abel_tree.specs.declared.statements.Stmt.{Stmt}
 use Rattle.abel_tree.specs.Tree.{Statement, NoElse, AnElse}
 use Rattle.abel_tree.specs.View.{view, view_stmt}

@@ -1,12 +1,10 @@
 -- An assignment of which something is refused, and one of which nothing is.
-use Rattle.std.proofs.Common.{◌≡◌, false, None, Some, [], ◌∷◌, ◌++◌, refl, sym, ◌∙◌, subst}
+use Rattle.std.proofs.Common.{◌≡◌, false, None, [], ◌++◌, refl, sym, ◌∙◌, subst}
 use Rattle.std.proofs.lemmas.Option.{none-some}
-use Rattle.bit_expr.specs.Arena.{formula_at, arena}
 use Rattle.bit_expr.specs.Formulas.{Const}
 use Rattle.abel_tree.specs.Assigned.{target_extension}
 use Rattle.abel_tree.specs.FirstRefusal.{first_refusal}
 use Rattle.abel_tree.specs.View.{view}
-use Rattle.bit_expr.specs.Formulas.{Formula}
 use Rattle.set_expr.specs.FoundNames.{expression_found}
 use Rattle.set_expr.specs.SectionOrder.{section_order}
 use Rattle.section_targets.specs.TargetSignals.{left_side}

@@ -1,5 +1,5 @@
 -- The signals of an assignment are given its value.
-use Rattle.std.proofs.Common.{◌≡◌, ◌<◌, List, [], ◌∷◌, All, Ok, Err, refl, sym, ◌∙◌, subst, length, map}
+use Rattle.std.proofs.Common.{◌<◌, List, [], All, sym, ◌∙◌, subst, length}
 use Rattle.std.proofs.lemmas.Result.{err_from_is_err_and}
 use Rattle.bit_expr.specs.declared.node.ExprId.{ExprId}
 use Rattle.bit_expr.specs.Arena.{arena, formula_at}

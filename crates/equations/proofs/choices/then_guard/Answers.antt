@@ -1,12 +1,10 @@
 -- The guard as a part of the condition's unit.
-use Rattle.std.proofs.Common.{false, [], ◌∷◌, Ok, Err, ap₂, sym, ◌∙◌, subst, subst₂, length}
+use Rattle.std.proofs.Common.{[], ◌∷◌, Ok, Err, ap₂, ◌∙◌, subst₂}
 use Rattle.std.proofs.lemmas.Result.{err_from_is_err_and}
 use Rattle.bit_expr.specs.declared.node.ExprId.{ExprId}
-use Rattle.bit_expr.specs.Arena.{arena, formula_at}
 use Rattle.bit_expr.specs.Folding.{make_and}
 use Rattle.abel_tree.specs.View.{view}
-use Rattle.abel_meaning.specs.CountedNodes.{condition_of}
-use Rattle.section_targets.specs.Building.{IsBit, IsBuilt, Builds}
+use Rattle.section_targets.specs.Building.{IsBuilt, Builds}
 use Rattle.section_targets.specs.Units.{part}
 use Rattle.section_targets.proofs.Built.{kept_formula, kept_inside, keeps_on}
 use Rattle.equations.specs.StatementUnits.{condition_refused}

@@ -1,4 +1,4 @@
-use Rattle.std.proofs.Common.{get_or, ap, sym, ◌∙◌, subst, arith}
+use Rattle.std.proofs.Common.{sym, subst, arith}
 use Rattle.bit_expr.specs.Arena.{arena}
 use Rattle.abel_tree.specs.View.{view}
 use Rattle.abel_meaning.specs.CountedNodes.{condition_of}
