@@ -191,7 +191,7 @@ module _ (t : Table) (laws : IsDevice t) (net : Netlist) (sound : IsSoundNetlist
 
     pub is_shared : (c : ℕ) → length t.cells ≤ c → AreSharedBelow t (plain_netlist net) (own_formula which) c → IsSharedBit t net which bit
     is_shared c done below = record {
-      within = is_first.id.within;
+      id = is_first.id;
       formula = sym shared_is;
       listed = is_first.listed;
       shared = λ d w f is own at valued.
@@ -245,7 +245,7 @@ module _ (t : Table) (laws : IsDevice t) (net : Netlist) (sound : IsSoundNetlist
 pub none_shared : (t : Table) (net : Netlist) (which : SharedControl) → IsFirstWith net which None → IsSoundId t net (record { 0 = 0 })
     → formula_at (arena net.exprs) (record { 0 = 0 }) ≡ Const false → (bit_list net (record { 0 = 0 }) true ≡ None → ⊥) → IsSharedBit t net which (record { 0 = 0 })
 none_shared t net which none id zero_formula listed = record {
-  within = id.within;
+  id = id;
   formula = zero_formula ∙ sym (ap (λ o. unwrap_or (own_of (own_formula which) o) (Const false)) none);
   listed = listed;
   shared = λ c w f is own at valued. absurd (no_own c w f is own);

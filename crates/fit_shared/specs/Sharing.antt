@@ -42,7 +42,7 @@ AllListed net which =
 
 -- the bit is that of the function which all share, and each cell's own has its value
 pub record IsSharedBit (t : Table) (net : Netlist) (which : SharedControl) (bit : ExprId) : Type 0 where
-  pub within : bit.0 < length (arena net.exprs)
+  pub id : IsSoundId t net bit
   pub formula : formula_at (arena net.exprs) bit ≡ shared_function (own_formula which) (plain_netlist net)
   pub listed : bit_list net bit true ≡ None → ⊥
   pub shared : AreShared t (plain_netlist net) (own_formula which)
