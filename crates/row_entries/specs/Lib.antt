@@ -1,1 +1,7 @@
+pub mod EntryMarks
+pub mod EntryTerms
+pub mod HeaderSignals
+pub mod PairTerms
+pub mod PartTerms
 pub mod RowEntries
+pub mod SignalTerms

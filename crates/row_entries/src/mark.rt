@@ -1,0 +1,10 @@
+//! What an entry says of a position of its header.
+
+/// A level, `.X.`, `.C.` or `.Z.`.
+#[derive(Clone, Copy, Debug, PartialEq, Eq)]
+pub enum Mark {
+    Level(bool),
+    Unknown,
+    Pulsed,
+    Released,
+}
