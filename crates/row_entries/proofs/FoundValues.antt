@@ -1,21 +1,20 @@
 -- Where nothing is refused of an expression, what is found of it has the shape of its value, and of a number the number.
-use Rattle.std.proofs.Common.{◌≡◌, ℕ, suc, ◌+◌, Bool, true, false, ◌||◌, Option, None, Some, List, [], ◌∷◌, ◌++◌, if◌then◌else◌, unwrap_or, bytes_eq, codes, refl, sym, ap, ap₂, ◌∙◌, subst}
+use Rattle.std.proofs.Common.{◌≡◌, ℕ, suc, ◌+◌, Bool, true, false, Option, None, Some, List, [], ◌∷◌, ◌++◌, if◌then◌else◌, unwrap_or, bytes_eq, codes, refl, sym, ap, ap₂, subst}
 use Rattle.pld_base.specs.declared.place.Place.{Place}
 use Rattle.abel_tree.specs.declared.words.Binary.{Binary}
 use Rattle.abel_tree.specs.declared.words.Extension.{Extension}
 use Rattle.abel_tree.specs.declared.words.Unary.{Unary}
 use Rattle.abel_tree.specs.Entries.{Entry, Kind, APin, ANode, AConstant, ADeviceName}
-use Rattle.abel_tree.specs.FirstRefusal.{first_refusal}
 use Rattle.abel_tree.specs.Ranges.{range_names}
 use Rattle.abel_tree.specs.Tree.{Tree, ANumber, ASpecial, AName, ASet, AParen, AUnary, ABinary, OneMember, SpanMember, Members, NoMember, MoreMembers}
 use Rattle.abel_meaning.specs.Designs.{Design}
-use Rattle.abel_meaning.specs.Numbers.{Number, Single, Set, Value, width_of, member_width}
+use Rattle.abel_meaning.specs.Numbers.{Number, Set, Value, width_of, member_width}
 use Rattle.abel_meaning.specs.Terms.{Term, Terms, Known, term_named, named_before, term_of, terms_of, special_term, term_meant, known_after, known_of, extended_if}
 use Rattle.abel_meaning.specs.Terms as term
 use Rattle.abel_meaning.specs.Values.{constant_of, set_value, nowhere, plain_value, is_relation, unary_value, binary_value}
 use Rattle.set_expr.specs.declared.fault.SectionFault.{SectionFault}
 use Rattle.set_expr.specs.declared.fault.SectionFault.TheVariants.{MisplacedSpecial}
-use Rattle.set_expr.specs.FoundNames.{NameFound, found_value, found_use, refused_there, one_position, found_special, at_name, nothing_found, named, name_found, range_found, found_of, all_found, is_pulse, found_constant, found_kind, is_pulse_kind, found_entry, found_after, names_found}
+use Rattle.set_expr.specs.FoundNames.{NameFound, found_use, refused_there, one_position, found_special, at_name, nothing_found, named, name_found, range_found, found_of, all_found, is_pulse, found_constant, found_kind, is_pulse_kind, found_entry, found_after, names_found}
 use Rattle.set_expr.specs.Refusals.{Found, unless_refused, specials_refused, operands_refused, value_of_both, found_both, found_under, value_or_none, large_member, members_refused, members_specials, members_width, members_value, too_wide, found_set}
 use Rattle.row_entries.proofs.ConstantShapes.{Same, same_itself, unary_same, binary_same, extended_if_same, same_then, same_back}
 

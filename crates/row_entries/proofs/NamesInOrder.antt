@@ -1,18 +1,18 @@
 -- What names stand for where each constant names earlier names alone: the term of its expression over all names.
-use Rattle.std.proofs.Common.{◌≡◌, ℕ, zero, suc, ◌+◌, ◌<◌, ◌≤◌, Bool, true, false, ◌&&◌, Option, None, Some, List, [], ◌∷◌, ◌++◌, if◌then◌else◌, length, map, take, drop, get_or, slice_get, cond, bytes_eq, refl, sym, ap, ap₂, ◌∙◌, subst, arith, append_assoc, length-append}
+use Rattle.std.proofs.Common.{◌≡◌, ℕ, zero, suc, ◌+◌, ◌<◌, Bool, true, false, ◌&&◌, None, Some, List, [], ◌∷◌, ◌++◌, if◌then◌else◌, length, map, take, drop, get_or, slice_get, cond, bytes_eq, refl, sym, ap, ap₂, ◌∙◌, arith, append_assoc, length-append}
 use Rattle.std.specs.List.{list_all, position_from}
 use Rattle.std.proofs.lemmas.Iterator.Adapters.{position_from-zero}
 use Rattle.std.proofs.lemmas.List.Folds.{list_all-append}
-use Rattle.std.proofs.lemmas.List.{take-append-drop, length-take-le}
+use Rattle.std.proofs.lemmas.List.{take-append-drop}
 use Rattle.std.proofs.lemmas.List.Quantifiers.{position-Some}
 use Rattle.std.proofs.lemmas.Option.{slice_get_past, slice_get-get_or}
 use Rattle.std.proofs.Math.Seq.{get_or-append_seam}
 use Rattle.abel_tree.specs.Entries.{Entry, Kind, APin, ANode, AConstant, ADeviceName, find, kind_of, passes, is_value, names_any}
 use Rattle.abel_tree.specs.Ranges.{range_names}
-use Rattle.abel_tree.specs.SoundNames.{used_names, is_named, are_named}
-use Rattle.abel_tree.specs.Tree.{Tree, ANumber, ASpecial, AName, ASet, AParen, AUnary, ABinary, SetMember, OneMember, SpanMember, Members, NoMember, MoreMembers}
-use Rattle.abel_tree.specs.Uses.{Use, OneName, Range, uses, member_uses, one_member_uses}
-use Rattle.abel_meaning.specs.Terms.{Term, Terms, Number, Before, UnaryOf, BinaryOf, Set, Known, extended_if, term_named, named_before, term_of, terms_of, member_before, term_meant, known_after, known_of}
+use Rattle.abel_tree.specs.SoundNames.{is_named, are_named}
+use Rattle.abel_tree.specs.Tree.{Tree, ANumber, ASpecial, AName, ASet, AParen, AUnary, ABinary, OneMember, SpanMember, Members, NoMember, MoreMembers}
+use Rattle.abel_tree.specs.Uses.{uses, member_uses}
+use Rattle.abel_meaning.specs.Terms.{Terms, Number, Before, UnaryOf, BinaryOf, Set, Known, extended_if, term_named, named_before, term_of, terms_of, term_meant, known_after, known_of}
 use Rattle.row_entries.specs.EntryTerms.{NamesEarlier, AreInOrder}
 
 -- ---- lists of names

@@ -1,11 +1,11 @@
 -- Headers and entries met pair by pair.
-use Rattle.std.proofs.Common.{◌≡◌, ℕ, zero, suc, ◌+◌, ◌-◌, ◌/◌, ◌%◌, ◌==◌, ◌<◌, ◌≤◌, Bool, true, false, ◌&&◌, Option, None, Some, List, [], ◌∷◌, ◌++◌, length, map, reverse, replicate, take, refl, sym, ap, ap₂, ◌∙◌, subst, arith, append_assoc, append-nil, Bor}
+use Rattle.std.proofs.Common.{◌≡◌, ℕ, zero, suc, ◌+◌, ◌-◌, ◌/◌, ◌%◌, ◌==◌, ◌<◌, ◌≤◌, Bool, true, false, ◌&&◌, Option, List, [], ◌∷◌, ◌++◌, length, map, reverse, replicate, refl, sym, ap, ap₂, ◌∙◌, subst, arith, append_assoc, append-nil, Bor}
 use Rattle.std.proofs.lemmas.List.{map-append, reverse-append, replicate-append-replicate}
 use Rattle.abel_tree.specs.declared.expressions.Member.{Member}
 use Rattle.abel_tree.specs.declared.words.Extension.{Extension}
 use Rattle.abel_meaning.proofs.RelationWords.{map_reverse}
 use Rattle.abel_meaning.specs.Designs.{Design}
-use Rattle.abel_meaning.specs.Numbers.{digits, digits_low_first, member_width}
+use Rattle.abel_meaning.specs.Numbers.{digits, digits_low_first}
 use Rattle.abel_meaning.specs.Rows.{part_marks, part_width, marks_of, all_marks}
 use Rattle.abel_meaning.specs.Rows as meant
 use Rattle.abel_meaning.specs.Terms.{Term, Terms, extended_if}

@@ -19,8 +19,7 @@ use Rattle.abel_tree.specs.Tree.{Tree, ANumber, ASpecial, AName, ASet, AParen, A
 use Rattle.abel_tree.specs.View.{view, view_member}
 use Rattle.abel_meaning.specs.Designs.{Design}
 use Rattle.abel_meaning.specs.Numbers.{Value, member_width}
-use Rattle.abel_meaning.specs.Numbers as number
-use Rattle.abel_meaning.specs.Terms.{Term, term_of, term_named, known_of, extended_if}
+use Rattle.abel_meaning.specs.Terms.{Term, term_of, term_named, extended_if}
 use Rattle.abel_meaning.specs.Values.{constant_of}
 use Rattle.set_expr.specs.declared.fault.SectionFault.{SectionFault}
 use Rattle.set_expr.specs.declared.shaped.Shape.{Shape}

@@ -1,5 +1,5 @@
 -- What is refused of an entry, by what is inside and by whether it meets its header.
-use Rattle.std.proofs.Common.{◌≡◌, ℕ, Bool, true, false, Option, None, Some, List, [], ◌∷◌, map, refl, sym, ap, ◌∙◌, subst}
+use Rattle.std.proofs.Common.{◌≡◌, Bool, true, false, Option, None, Some, List, [], ◌∷◌, refl, sym, ap, ◌∙◌, subst}
 use Rattle.abel_tree.specs.declared.names.Names.{Names}
 use Rattle.abel_tree.specs.Entries.{entries_of}
 use Rattle.abel_tree.specs.FirstRefusal.{first_refusal}

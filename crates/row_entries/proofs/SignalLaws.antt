@@ -1,5 +1,5 @@
 -- The signals of headers, part by part.
-use Rattle.std.proofs.Common.{◌≡◌, ℕ, Bool, true, false, ◌&&◌, Option, None, Some, List, [], ◌∷◌, ◌++◌, reverse, refl, sym, ap, ap₂, ◌∙◌, subst, append_assoc, append-nil}
+use Rattle.std.proofs.Common.{◌≡◌, ℕ, Bool, true, false, ◌&&◌, Option, None, Some, List, [], ◌∷◌, ◌++◌, reverse, refl, sym, ap, ◌∙◌, subst, append_assoc, append-nil}
 use Rattle.std.proofs.lemmas.List.{reverse-append}
 use Rattle.abel_tree.specs.declared.words.Extension.{Extension}
 use Rattle.abel_meaning.specs.Designs.{Design}
@@ -10,7 +10,7 @@ use Rattle.row_entries.specs.declared.part.Part.{Part}
 use Rattle.row_entries.specs.EntryTerms.{listed, extended_list}
 use Rattle.row_entries.specs.HeaderSignals.{names_positions, all_name_positions}
 use Rattle.row_entries.specs.PartTerms.{IsPart, AreParts, is_operand}
-use Rattle.row_entries.specs.SignalTerms.{all_named, all_signals, Put, IsPut, Listing}
+use Rattle.row_entries.specs.SignalTerms.{all_named, all_signals, Put, Listing}
 use Rattle.row_entries.proofs.PartLists.{each_if, set_members, each_listed}
 
 -- ---- what one part is

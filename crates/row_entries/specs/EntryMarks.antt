@@ -1,5 +1,5 @@
 -- The marks of an entry, or that it doesn't meet its header (ABEL-HDL Reference Manual, truth tables and test vectors).
-use Rattle.std.specs.Prelude.{◌≡◌, Bool, true, false, Option, None, Some, List, [], map}
+use Rattle.std.specs.Prelude.{◌≡◌, true, false, Option, None, Some, [], map}
 use Rattle.std.specs.Global.{Vec}
 use Rattle.abel_tree.specs.FirstRefusal.{first_refusal}
 use Rattle.abel_tree.specs.Tree.{Tree}

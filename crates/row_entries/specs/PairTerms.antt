@@ -1,6 +1,5 @@
 -- Private: parts of headers beside what stands for them in entries, as pairs of terms.
-use Rattle.std.specs.Prelude.{◌≡◌, ℕ, Bool, true, false, ◌&&◌, Option, None, Some, List, [], ◌∷◌, ◌++◌, map, reverse}
-use Rattle.std.specs.Global.{Vec}
+use Rattle.std.specs.Prelude.{◌≡◌, Bool, true, false, ◌&&◌, List, [], ◌∷◌, ◌++◌, map, reverse}
 use Rattle.abel_meaning.specs.Designs.{Design}
 use Rattle.abel_meaning.specs.Rows.{marks_of}
 use Rattle.abel_meaning.specs.Rows as meant

@@ -1,5 +1,5 @@
 -- One bit more.
-use Rattle.std.proofs.Common.{◌≡◌, ◌+◌, ◌-◌, ◌/◌, ◌%◌, ◌==◌, ◌++◌, [], ◌∷◌, map, sym, ap, ◌∙◌, append_assoc}
+use Rattle.std.proofs.Common.{◌+◌, ◌-◌, ◌/◌, ◌%◌, ◌==◌, ◌++◌, [], ◌∷◌, map, sym, ap, ◌∙◌, append_assoc}
 use Rattle.std.proofs.lemmas.List.{map-append}
 use Rattle.abel_meaning.specs.Numbers.{digits_low_first}
 use Rattle.abel_meaning.specs.Rows as meant

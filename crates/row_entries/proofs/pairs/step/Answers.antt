@@ -1,5 +1,5 @@
 -- A set beside a set, and what is met as a whole.
-use Rattle.std.proofs.Common.{sym, ap, ◌∙◌, subst, subst₂, refl}
+use Rattle.std.proofs.Common.{sym, subst, subst₂, refl}
 use Rattle.std.proofs.lemmas.Result.{IfOk-weaker}
 use Rattle.row_entries.specs.PairTerms.{IsPush}
 use Rattle.row_entries.specs.PartTerms.{IsContent}

@@ -1,7 +1,7 @@
 -- What is no name, and a name by its number.
-use Rattle.std.proofs.Common.{◌≡◌, Some, get_or, refl, sym, ap, ◌∙◌, subst}
+use Rattle.std.proofs.Common.{◌≡◌, get_or, refl, sym, ap, ◌∙◌, subst}
 use Rattle.abel_tree.specs.Entries.{find, entries_of, view_declared}
-use Rattle.abel_meaning.specs.Terms.{Number, known_of, term_named, term_meant, extended_if}
+use Rattle.abel_meaning.specs.Terms.{known_of, term_named, term_meant, extended_if}
 use Rattle.set_expr.specs.KnownNames.{IsPlaced}
 use Rattle.row_entries.specs.PartTerms.{IsStand, IsNumeral}
 use Rattle.row_entries.proofs.ConstantShapes.{number_extended}

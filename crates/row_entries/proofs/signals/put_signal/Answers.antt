@@ -1,6 +1,5 @@
-use Rattle.std.proofs.Common.{ap, subst, sym}
+use Rattle.std.proofs.Common.{ap}
 use Rattle.abel_meaning.specs.Terms as term
-use Rattle.row_entries.specs.SignalTerms.{Put}
 use Rattle.row_entries.proofs.SignalLaws.{put_read}
 use Rattle.row_entries.proofs.signals.put_signal.Goals as goal
 
