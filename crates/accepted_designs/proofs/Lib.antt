@@ -1,0 +1,4 @@
+mod GivenReads
+mod KnownTargets
+mod Takes
+mod Unlisted

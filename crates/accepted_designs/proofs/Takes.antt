@@ -1,0 +1,265 @@
+-- A device can take the netlist of a design of which nothing is refused.
+use Rattle.std.proofs.Common.{◌≡◌, ℕ, ◌==◌, Bool, true, false, not, ◌&&◌, ◌||◌, cond, Option, None, Some, List, [], ◌∷◌, map, refl, sym, ap, subst, ◌∙◌, if◌then◌else◌, inl, inr}
+use Rattle.std.specs.Prelude.{filter, slice_get, IsSome, is_none}
+use Rattle.std.specs.List.{list_any}
+use Rattle.std.proofs.lemmas.Bool.{cases_Bool, and_parts, eqb-true, true≢false}
+use Rattle.std.proofs.lemmas.List.Folds.{list_any_at}
+use Rattle.std.proofs.lemmas.List.Quantifiers.{position-Some}
+use Rattle.std.proofs.lemmas.Option.{get_or_from_slice_get}
+use Rattle.bit_expr.specs.declared.node.Leaf.{Leaf}
+use Rattle.bit_expr.specs.Formulas.{Formula}
+use Rattle.pld_device.specs.declared.cell.Cell.{Cell}
+use Rattle.pld_device.specs.declared.kinds.Kinds.{Kinds}
+use Rattle.pld_device.specs.declared.kinds.Kinds.TheVariants.{Combinational, Registered, Either}
+use Rattle.pld_device.specs.Table.{Table, cell_at, no_cell}
+use Rattle.abel_tree.specs.declared.words.Extension.{Extension}
+use Rattle.abel_tree.specs.declared.words.Extension.TheVariants as extension
+use Rattle.abel_tree.specs.Entries.{Kind, APin, ANode, AConstant, ADeviceName, Entry, is_signal}
+use Rattle.abel_tree.specs.Tree.{Tree}
+use Rattle.abel_meaning.specs.Contributions.{Contribution, Evaluator}
+use Rattle.abel_meaning.specs.Controls.{is_control, is_the_control, control_by, control_of}
+use Rattle.abel_meaning.specs.Designs.{Design, name_at, no_name, is_stored, cell_on}
+use Rattle.abel_meaning.specs.Follows.{seen}
+use Rattle.abel_meaning.specs.FormulaBits.{formulas}
+use Rattle.abel_meaning.specs.Functions.{is_data_to}
+use Rattle.abel_meaning.specs.SignalReads.{given_formulas}
+use Rattle.abel_meaning.specs.Soundness.{MayRegister}
+use Rattle.abel_meaning.specs.Targets.{targets_of, is_data}
+use Rattle.abel_meaning.specs.Terms.{term_of}
+use Rattle.set_expr.specs.declared.contributions.Contribution as code
+use Rattle.set_expr.specs.Given.{view_contribution}
+use Rattle.design_refusals.specs.Refused.{is_wrong_kind, is_wrong_cell, has_wrong_kind, has_wrong_kind_by, has_wrong_kind_on, lacks_control, lacks_by, is_registered_by}
+use Rattle.gathered.specs.Gathered.{cell_by}
+use Rattle.gathered.specs.SignalUses.{SignalUse, use_reads, uses_read, given_uses}
+use Rattle.gathered.specs.Takeable.{HasColumns, IsAllowedOn, ControlIsThere, IsTakeable}
+use Rattle.gathered.proofs.SourcedFormulas.{Sourced, sourced_contributions, formulas_are, uses_are}
+use Rattle.design_uses.specs.LocatedUses.{PlacedUse}
+use Rattle.design_uses.specs.RefusedUses.{is_missing, is_unread}
+use Rattle.design_uses.specs.SectionUses.{design_uses}
+use Rattle.design_uses.specs.Correct.{UsesHaveColumns}
+use Rattle.accepted_designs.specs.Accepted.{IsAccepted}
+use Rattle.accepted_designs.specs.Correct.{UnrefusedIsTakeable}
+use Rattle.accepted_designs.specs.Unrefused.{IsUnrefused}
+use Rattle.accepted_designs.proofs.GivenReads.{Each, EachUse, EachGood, sections_good, good_at}
+use Rattle.accepted_designs.proofs.KnownTargets.{EachTarget, IsSignalOf, signal_targets}
+use Rattle.accepted_designs.proofs.Unlisted.{EachOf, FitsKind, HasControl, kinds_fit, controls_there, some_of, no_registered, AllUses, none_passes}
+
+-- ---- kinds
+
+may_be : (kinds : Kinds) (stored : Bool) → is_wrong_kind kinds stored ≡ false → MayRegister kinds stored
+may_be Combinational stored right = right
+may_be Registered true right = refl
+may_be Registered false right = absurd cc
+may_be Either stored right = tt
+
+-- ---- signals of contributions
+
+module _ (Q : ℕ → Type 0) where
+  abbrev EachSignal : {W : Type 0} → List (Contribution W) → Type 0
+  EachSignal [] = Unit {0}
+  EachSignal (c ∷ cs) = Q c.signal × EachSignal cs
+
+  same_signals : {U V W : Type 0} (h : U → V) (k : U → W) (cs : List (Contribution U)) → EachSignal (map (seen h) cs) → EachSignal (map (seen k) cs)
+  same_signals h k [] e = tt
+  same_signals h k (c ∷ cs) e = (e.0, same_signals h k cs e.1)
+
+  with_signals : (P : Contribution Formula → Type 0) (cs : List (Contribution Formula)) → EachOf P cs → EachSignal cs → EachOf (λ c. P c × Q c.signal) cs
+  with_signals P [] h e = tt
+  with_signals P (c ∷ cs) h e = ((h.0, e.0), with_signals P cs h.1 e.1)
+
+-- a control that is there is given by some contribution
+control_given : (ev : Evaluator Formula) (test : Contribution Formula → Bool) (cs : List (Contribution Formula)) (f : Formula) → control_by ev (filter test cs) ≡ Some f → list_any test cs ≡ true
+control_given ev test [] f e = absurd cc
+control_given ev test (c ∷ cs) f e = by (test c) (λ g. control_given ev test cs f g) e
+  where
+    by : (b : Bool) → (control_by ev (filter test cs) ≡ Some f → list_any test cs ≡ true) → control_by ev (cond b (c ∷ filter test cs) (filter test cs)) ≡ Some f → (b || list_any test cs) ≡ true
+    by true more e = refl
+    by false more e = more e
+
+reset_extension : (o : Option Extension) → is_the_control extension.Ar o ≡ true → o ≡ Some extension.Ar
+reset_extension (Some extension.Ar) is = refl
+reset_extension None is = absurd cc
+reset_extension (Some extension.Clk) is = absurd cc
+reset_extension (Some extension.Oe) is = absurd cc
+reset_extension (Some extension.Sp) is = absurd cc
+reset_extension (Some extension.D) is = absurd cc
+reset_extension (Some extension.Q) is = absurd cc
+reset_extension (Some extension.Fb) is = absurd cc
+reset_extension (Some extension.Pin) is = absurd cc
+
+preset_extension : (o : Option Extension) → is_the_control extension.Sp o ≡ true → o ≡ Some extension.Sp
+preset_extension (Some extension.Sp) is = refl
+preset_extension None is = absurd cc
+preset_extension (Some extension.Clk) is = absurd cc
+preset_extension (Some extension.Oe) is = absurd cc
+preset_extension (Some extension.Ar) is = absurd cc
+preset_extension (Some extension.D) is = absurd cc
+preset_extension (Some extension.Q) is = absurd cc
+preset_extension (Some extension.Fb) is = absurd cc
+preset_extension (Some extension.Pin) is = absurd cc
+
+row_there : (stored : Bool) (row : Option ℕ) → (not stored || is_none row) ≡ false → IsSome row
+row_there true None is = absurd cc
+row_there true (Some r) is = refl
+row_there false row is = absurd cc
+
+reset_there : (t : Table) (x : Entry) (kind : Kind) → is_signal kind ≡ true → lacks_by t (is_stored x) kind (Some extension.Ar) ≡ false → IsSome t.reset
+reset_there t x (APin pin negated) signal has = row_there (is_stored x) t.reset has
+reset_there t x (ANode n) signal has = absurd cc
+reset_there t x (AConstant value) signal has = absurd cc
+reset_there t x ADeviceName signal has = absurd cc
+
+preset_there : (t : Table) (x : Entry) (kind : Kind) → is_signal kind ≡ true → lacks_by t (is_stored x) kind (Some extension.Sp) ≡ false → IsSome t.preset
+preset_there t x (APin pin negated) signal has = row_there (is_stored x) t.preset has
+preset_there t x (ANode n) signal has = absurd cc
+preset_there t x (AConstant value) signal has = absurd cc
+preset_there t x ADeviceName signal has = absurd cc
+
+module _ (uses_have_columns : UsesHaveColumns) (d : Design) (fs : List Formula) (cs : List code.Contribution) (accepted : IsAccepted d) (same : map (view_contribution fs) cs ≡ given_formulas d) (unrefused : IsUnrefused d cs) where
+  -- ---- names
+
+  stored_on_cell : (s : ℕ) (x : Entry) (kind : Kind) → slice_get d.names s ≡ Some x → x.kind ≡ kind → is_stored x ≡ true → IsSome (cell_by d.device x kind)
+  stored_on_cell s x (APin pin negated) is kind stored =
+      let here : name_at d s ≡ x = get_or_from_slice_get d.names s x no_name is in
+      let parts = and_parts x.words.registered x.assigned stored in
+      on_cell x.assigned (cell_on d.device pin) parts.1 (accepted.names.cells s pin negated (ap (λ (y : Entry). y.kind) here ∙ kind) (ap (λ (y : Entry). y.assigned) here ∙ parts.1))
+    where
+      on_cell : (b : Bool) (o : Option ℕ) → b ≡ true → IsSome o → IsSome (if b then o else None)
+      on_cell true o e some = some
+      on_cell false o e some = absurd cc
+  stored_on_cell s x (ANode n) is kind stored =
+      let parts = and_parts x.words.registered x.assigned stored in
+      absurd (true≢false (sym parts.0 ∙ sym (ap (is_registered_by x.words.registered) kind) ∙ no_registered 0 d.names unrefused.nodes s x is))
+  stored_on_cell s x (AConstant value) is kind stored = absurd (not_signal (AConstant value) s x is kind stored refl)
+    where
+      not_signal : (kind : Kind) (s : ℕ) (x : Entry) → slice_get d.names s ≡ Some x → x.kind ≡ kind → is_stored x ≡ true → is_signal kind ≡ false → ⊥
+      not_signal kind s x is said stored no_signal =
+          let here : name_at d s ≡ x = get_or_from_slice_get d.names s x no_name is in
+          true≢false (sym (accepted.names.signals s (ap (λ (y : Entry). y.assigned) here ∙ (and_parts x.words.registered x.assigned stored).1)) ∙ ap (λ (y : Entry). is_signal y.kind) here ∙ ap is_signal said ∙ no_signal)
+  stored_on_cell s x ADeviceName is kind stored = absurd (not_signal ADeviceName s x is kind stored refl)
+    where
+      not_signal : (kind : Kind) (s : ℕ) (x : Entry) → slice_get d.names s ≡ Some x → x.kind ≡ kind → is_stored x ≡ true → is_signal kind ≡ false → ⊥
+      not_signal kind s x is said stored no_signal =
+          let here : name_at d s ≡ x = get_or_from_slice_get d.names s x no_name is in
+          true≢false (sym (accepted.names.signals s (ap (λ (y : Entry). y.assigned) here ∙ (and_parts x.words.registered x.assigned stored).1)) ∙ ap (λ (y : Entry). is_signal y.kind) here ∙ ap is_signal said ∙ no_signal)
+
+  -- ---- cells
+
+  kinds_here : EachOf (FitsKind d fs) (given_formulas d)
+  kinds_here = subst (EachOf (FitsKind d fs)) same (kinds_fit d fs cs unrefused.kinds)
+
+  right_kind : (s : ℕ) → (name_at d s).assigned ≡ true → has_wrong_kind d.device (name_at d s) ≡ false
+  right_kind s assigned =
+      let some = some_of (FitsKind d fs) (is_data_to s) (given_formulas d) kinds_here (accepted.data_given s assigned) in
+      let parts = and_parts (some.0.signal == s) (is_data some.0.extension) some.2 in
+      let fits : has_wrong_kind d.device (name_at d some.0.signal) ≡ false = and_right (is_data some.0.extension) (has_wrong_kind d.device (name_at d some.0.signal)) parts.1 some.1 in
+      sym (ap (λ n. has_wrong_kind d.device (name_at d n)) (eqb-true some.0.signal s parts.0)) ∙ fits
+    where
+      and_right : (a b : Bool) → a ≡ true → (a && b) ≡ false → b ≡ false
+      and_right true b e f = f
+      and_right false b e f = absurd cc
+
+  cell_kind : (pin c : ℕ) (stored : Bool) → cell_on d.device pin ≡ Some c → has_wrong_kind_on d.device pin stored ≡ false → is_wrong_kind (cell_at d.device c).kinds stored ≡ false
+  cell_kind pin c stored on right =
+      let at = position-Some (λ (x : Cell). x.pin == pin) d.device.cells c no_cell on in
+      elim (cases_Bool (is_wrong_kind (cell_at d.device c).kinds stored)) [
+        | inl wrong ↦ absurd (true≢false (sym (list_any_at (is_wrong_cell pin stored) d.device.cells c no_cell at.0 (both ((cell_at d.device c).pin == pin) (is_wrong_kind (cell_at d.device c).kinds stored) at.1 wrong)) ∙ right))
+        | inr fits ↦ fits
+      ]
+    where
+      both : (a b : Bool) → a ≡ true → b ≡ true → (a && b) ≡ true
+      both true b e f = f
+      both false b e f = absurd cc
+
+  allowed : (s c : ℕ) (kind : Kind) → (name_at d s).kind ≡ kind → cell_by d.device (name_at d s) kind ≡ Some c → IsAllowedOn d s c
+  allowed s c (APin pin negated) kind on =
+      let parts = on_cell (name_at d s).assigned (cell_on d.device pin) on in
+      record {
+        kind = may_be (cell_at d.device c).kinds (is_stored (name_at d s)) (cell_kind pin c (is_stored (name_at d s)) parts.1 (sym (ap (has_wrong_kind_by d.device (is_stored (name_at d s))) kind) ∙ right_kind s parts.0));
+        buffer = accepted.names.buffers s;
+      }
+    where
+      on_cell : (b : Bool) (o : Option ℕ) → (if b then o else None) ≡ Some c → (b ≡ true) × (o ≡ Some c)
+      on_cell true o e = (refl, e)
+      on_cell false o e = absurd cc
+  allowed s c (ANode n) kind on = absurd cc
+  allowed s c (AConstant value) kind on = absurd cc
+  allowed s c ADeviceName kind on = absurd cc
+
+  -- ---- reads
+
+  abbrev Carried : SignalUse → Type 0
+  Carried u = (l : Leaf) → use_reads d l u ≡ true → HasColumns d l
+
+  targets : (t : Tree) → EachTarget (IsSignalOf d) (targets_of (term_of d.known t))
+  targets = signal_targets d accepted.names.known
+
+  carried : (us : List PlacedUse) → AllUses (λ u. is_missing d u ≡ false) us → AllUses (λ u. is_unread d u ≡ false) us → EachUse d Carried (IsSignalOf d) targets us
+  carried [] missing unread = tt
+  carried (u ∷ us) missing unread = (λ l is. uses_have_columns d u l accepted.names.pins missing.0 unread.0 is, carried us missing.1 unread.1)
+
+  given_good : EachGood d Carried (IsSignalOf d) targets (given_uses d)
+  given_good =
+      sections_good d Carried (IsSignalOf d) targets d.starts_dontcare 0 d.sections accepted.headers
+      (carried (design_uses d) (none_passes (is_missing d) (design_uses d) unrefused.missing) (none_passes (is_unread d) (design_uses d) unrefused.unread))
+
+  some_carried : (us : List SignalUse) (l : Leaf) → Each d Carried (IsSignalOf d) targets us → uses_read d us l ≡ true → HasColumns d l
+  some_carried [] l h is = absurd cc
+  some_carried (u ∷ us) l h is = by (use_reads d l u) refl (λ g. some_carried us l h.1 g) is
+    where
+      by : (b : Bool) → use_reads d l u ≡ b → (uses_read d us l ≡ true → HasColumns d l) → (b || uses_read d us l) ≡ true → HasColumns d l
+      by true e more is = h.0 l e
+      by false e more is = more is
+
+  -- ---- controls
+
+  good_signals : (es : List (Contribution (List SignalUse))) → EachGood d Carried (IsSignalOf d) targets es → EachSignal (IsSignalOf d) es
+  good_signals [] h = tt
+  good_signals (c ∷ es) h = (h.0.signal, good_signals es h.1)
+
+  given_signals : EachSignal (IsSignalOf d) (given_formulas d)
+  given_signals =
+      subst (EachSignal (IsSignalOf d)) (formulas_are d)
+      (same_signals (IsSignalOf d) (λ (x : Sourced d). x.uses) (λ (x : Sourced d). x.formula) (sourced_contributions d)
+      (subst (EachSignal (IsSignalOf d)) (sym (uses_are d)) (good_signals (given_uses d) given_good)))
+
+  controls_here : EachOf (λ c. HasControl d fs c × IsSignalOf d c.signal) (given_formulas d)
+  controls_here =
+      with_signals (IsSignalOf d) (HasControl d fs) (given_formulas d) (subst (EachOf (HasControl d fs)) same (controls_there d fs cs unrefused.controls)) given_signals
+
+  control_had : (e : Extension) (s : ℕ) (f : Formula) → control_of (formulas d) (given_formulas d) s e ≡ Some f
+      → (c : Contribution Formula) × (HasControl d fs c × IsSignalOf d c.signal) × (is_control s e c ≡ true)
+  control_had e s f is =
+      some_of (λ c. HasControl d fs c × IsSignalOf d c.signal) (is_control s e) (given_formulas d) controls_here
+      (control_given (formulas d) (is_control s e) (given_formulas d) f is)
+
+  resets : ControlIsThere d extension.Ar d.device.reset
+  resets s f is =
+      let c = control_had extension.Ar s f is in
+      let x = name_at d c.0.signal in
+      let ar = reset_extension c.0.extension (and_parts (c.0.signal == s) (is_the_control extension.Ar c.0.extension) c.2).1 in
+      reset_there d.device x x.kind c.1.1 (sym (ap (lacks_control d.device x) ar) ∙ c.1.0)
+
+  presets : ControlIsThere d extension.Sp d.device.preset
+  presets s f is =
+      let c = control_had extension.Sp s f is in
+      let x = name_at d c.0.signal in
+      let sp = preset_extension c.0.extension (and_parts (c.0.signal == s) (is_the_control extension.Sp c.0.extension) c.2).1 in
+      preset_there d.device x x.kind c.1.1 (sym (ap (lacks_control d.device x) sp) ∙ c.1.0)
+
+  takes : IsTakeable d
+  takes =
+      record {
+        registers = λ s x is stored. stored_on_cell s x x.kind is refl stored;
+        pins = accepted.names.pins;
+        nodes = accepted.names.nodes;
+        cells = λ s c on. allowed s c (name_at d s).kind refl on;
+        resets = resets;
+        presets = presets;
+        reads = λ k c is kept l read. some_carried c.holds l ((good_at d Carried (IsSignalOf d) targets (given_uses d) k c given_good is).reads kept) read;
+        no_loop = unrefused.no_loop;
+        no_path = unrefused.no_path;
+      }
+
+pub unrefused_takes : UsesHaveColumns → UnrefusedIsTakeable
+unrefused_takes columns d fs cs accepted same unrefused = takes columns d fs cs accepted same unrefused

@@ -1,0 +1,69 @@
+-- What the names and the sections of a design are accepted for (this project's rule).
+use Rattle.std.specs.Prelude.{◌≡◌, ℕ, Bool, true, false, ◌&&◌, None, Some, IsSome, List, [], ◌∷◌}
+use Rattle.std.specs.List.{list_any}
+use Rattle.pld_device.specs.declared.flip.Flip.TheVariants.{AfterRegister}
+use Rattle.abel_tree.specs.Entries.{APin, is_signal}
+use Rattle.abel_tree.specs.Tree.{SectionTree, ADiagram}
+use Rattle.abel_meaning.specs.Designs.{Design, name_at, is_stored, cell_on}
+use Rattle.abel_meaning.specs.Functions.{is_data_to}
+use Rattle.abel_meaning.specs.SignalReads.{given_formulas}
+use Rattle.abel_meaning.specs.Terms.{Term, Terms, Read, Set, NoTerm, Before, known_of, term_of}
+use Rattle.gathered.specs.Takeable.{PinsApart, NodesAreFew}
+
+-- ---- names
+
+-- only signals are assigned
+abbrev pub SignalsAreAssigned : Design → Type 0
+SignalsAreAssigned d = (s : ℕ) → (name_at d s).assigned ≡ true → is_signal (name_at d s).kind ≡ true
+
+-- no register follows Q where the device can't complement behind it
+abbrev pub BuffersAreBehind : Design → Type 0
+BuffersAreBehind d = (s : ℕ) → is_stored (name_at d s) ≡ true → (name_at d s).words.buffer ≡ true → d.device.flip ≡ AfterRegister
+
+-- each pin that is assigned is that of a cell
+abbrev pub AssignedAreOnCells : Design → Type 0
+AssignedAreOnCells d =
+    (s pin : ℕ) (negated : Bool) → (name_at d s).kind ≡ APin pin negated → (name_at d s).assigned ≡ true
+    → IsSome (cell_on d.device pin)
+
+-- what the phase of names accepts, and that of sections of targets
+pub record HasSoundNames (d : Design) : Type 0 where
+  pub known : d.known ≡ known_of d.names
+  pub pins : PinsApart d
+  pub nodes : NodesAreFew d
+  pub signals : SignalsAreAssigned d
+  pub buffers : BuffersAreBehind d
+  pub cells : AssignedAreOnCells d
+
+-- ---- sections
+
+-- each signal that is assigned has data
+abbrev pub AssignedHaveData : Design → Type 0
+AssignedHaveData d = (s : ℕ) → (name_at d s).assigned ≡ true → list_any (is_data_to s) (given_formulas d) ≡ true
+
+-- the signals of a target are bare names
+abbrev mutual
+  pub is_bare : Term → Bool
+  is_bare (Read s None) = true
+  is_bare (Read s (Some e)) = false
+  is_bare (Set ts) = are_bare ts
+  is_bare _ = true
+
+  pub are_bare : Terms → Bool
+  are_bare NoTerm = true
+  are_bare (Before t ts) = is_bare t && are_bare ts
+
+-- the registers of diagrams are bare names
+abbrev pub HasBareHeader : Design → SectionTree → Type 0
+HasBareHeader d (ADiagram place registers states) = is_bare (term_of d.known registers) ≡ true
+HasBareHeader d _ = Unit {0}
+
+abbrev pub HaveBareHeaders : Design → List SectionTree → Type 0
+HaveBareHeaders d [] = Unit {0}
+HaveBareHeaders d (s ∷ ss) = HasBareHeader d s × HaveBareHeaders d ss
+
+-- what the phases before accept
+pub record IsAccepted (d : Design) : Type 0 where
+  pub names : HasSoundNames d
+  pub data_given : AssignedHaveData d
+  pub headers : HaveBareHeaders d d.sections

@@ -1,0 +1,3 @@
+pub mod Accepted
+pub mod Correct
+pub mod Unrefused

@@ -1,0 +1,18 @@
+-- A design of which nothing is refused, by its targets as the code has them (this project's rule).
+use Rattle.std.specs.Prelude.{◌≡◌, ℕ, List, []}
+use Rattle.abel_meaning.specs.Designs.{Design}
+use Rattle.abel_meaning.specs.SignalReads.{HasNoSignalLoop, HasNoSignalPath}
+use Rattle.set_expr.specs.declared.contributions.Contribution.{Contribution}
+use Rattle.design_refusals.specs.declared.rules.Rule.TheVariants as rule
+use Rattle.design_refusals.specs.Refused.{all_refused, registered_nodes}
+use Rattle.design_uses.specs.RefusedUses.{missing_uses, unread_uses}
+
+-- nothing is refused of the design, to whose targets this is contributed
+pub record IsUnrefused (d : Design) (cs : List Contribution) : Type 0 where
+  pub kinds : all_refused d.device d.names rule.Kinds cs ≡ []
+  pub nodes : registered_nodes 0 d.names ≡ []
+  pub controls : all_refused d.device d.names rule.Controls cs ≡ []
+  pub missing : missing_uses d ≡ []
+  pub unread : unread_uses d ≡ []
+  pub no_loop : HasNoSignalLoop d
+  pub no_path : (s : ℕ) → HasNoSignalPath d s
