@@ -3,5 +3,7 @@
 
 mod declaring;
 mod registers;
+#[cfg(test)]
+mod tests;
 
 pub use declaring::declare;
