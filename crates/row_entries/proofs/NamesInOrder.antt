@@ -7,9 +7,11 @@ use Rattle.std.proofs.lemmas.List.{take-append-drop}
 use Rattle.std.proofs.lemmas.List.Quantifiers.{position-Some}
 use Rattle.std.proofs.lemmas.Option.{slice_get_past, slice_get-get_or}
 use Rattle.std.proofs.Math.Seq.{get_or-append_seam}
-use Rattle.abel_tree.specs.Entries.{Entry, Kind, APin, ANode, AConstant, ADeviceName, find, kind_of, passes, is_value, names_any}
+use Rattle.pld_base.specs.declared.device_name.DeviceName.{DeviceName}
+use Rattle.abel_tree.specs.declared.names.Names.{Names}
+use Rattle.abel_tree.specs.Entries.{Entry, Kind, APin, ANode, AConstant, ADeviceName, find, kind_of, passes, is_value, names_any, entries_of}
 use Rattle.abel_tree.specs.Ranges.{range_names}
-use Rattle.abel_tree.specs.SoundNames.{is_named, are_named}
+use Rattle.abel_tree.specs.SoundNames.{SoundNames, IsSoundKind, is_named, are_named}
 use Rattle.abel_tree.specs.Tree.{Tree, ANumber, ASpecial, AName, ASet, AParen, AUnary, ABinary, OneMember, SpanMember, Members, NoMember, MoreMembers}
 use Rattle.abel_tree.specs.Uses.{uses, member_uses}
 use Rattle.abel_meaning.specs.Terms.{Terms, Number, Before, UnaryOf, BinaryOf, Set, Known, extended_if, term_named, named_before, term_of, terms_of, term_meant, known_after, known_of}
@@ -206,3 +208,14 @@ none_in_order [] e = λ k x h. absurd (none k x h)
         let p : slice_get [] k ≡ None = slice_get_past {X = Entry} [] k (omega arith) in
         cc
 none_in_order (y ∷ es) e = absurd cc
+
+-- ---- sound names are in order
+
+sound_kind : (es : List Entry) (pins : ℕ) (kind : Kind) → IsSoundKind pins es kind → NamesEarlier es kind
+sound_kind es pins (APin pin negated) h = tt
+sound_kind es pins (ANode number) h = tt
+sound_kind es pins (AConstant value) h = h
+sound_kind es pins ADeviceName h = tt
+
+pub sound_in_order : (name : DeviceName) (pins : ℕ) (n : Names) → SoundNames name pins n → AreInOrder (entries_of n)
+sound_in_order name pins n h k e s = sound_kind (take k (entries_of n)) pins e.kind (h.kinds k e s)

@@ -13,16 +13,16 @@ use Rattle.row_entries.specs.EntryTerms.{IsOver}
 use Rattle.row_entries.specs.RowEntries.{refused_inside, meets, unless_met, entry_refused}
 use Rattle.row_entries.proofs.PartLaws.{none_refused}
 
-inside_first : (rs : List SectionFault) (r f : SectionFault) (b : Bool) → Some f ≡ first_refusal section_order rs → first_refusal section_order (unless_met rs r b) ≡ Some f
+pub inside_first : (rs : List SectionFault) (r f : SectionFault) (b : Bool) → Some f ≡ first_refusal section_order rs → first_refusal section_order (unless_met rs r b) ≡ Some f
 inside_first [] r f b e = absurd cc
 inside_first (x ∷ xs) r f b e = sym e
 
-none_unmet : (rs : List SectionFault) (r : SectionFault) (b : Bool) → rs ≡ [] → b ≡ false → unless_met rs r b ≡ r ∷ []
+pub none_unmet : (rs : List SectionFault) (r : SectionFault) (b : Bool) → rs ≡ [] → b ≡ false → unless_met rs r b ≡ r ∷ []
 none_unmet [] r true e h = absurd cc
 none_unmet [] r false e h = refl
 none_unmet (x ∷ xs) r b e h = absurd cc
 
-none_met : (rs : List SectionFault) (r : SectionFault) (b : Bool) → rs ≡ [] → b ≡ true → unless_met rs r b ≡ []
+pub none_met : (rs : List SectionFault) (r : SectionFault) (b : Bool) → rs ≡ [] → b ≡ true → unless_met rs r b ≡ []
 none_met [] r true e h = refl
 none_met [] r false e h = absurd cc
 none_met (x ∷ xs) r b e h = absurd cc
