@@ -1,1 +1,2 @@
 mod VectorExamples
+pub mod SideLaws

@@ -1,1 +1,2 @@
+pub mod HeaderSides
 pub mod VectorRefusals

@@ -1,2 +1,6 @@
-//! The test vectors of a source, as characters of pins.
+//! Test vectors as the characters of pins.
 #![tactic(auto)]
+
+mod headers;
+
+pub use headers::{Side, read_side};

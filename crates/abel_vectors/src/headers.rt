@@ -1,0 +1,121 @@
+//! The sides of headers of vectors.
+
+ghost use Rattle.std.specs.Prelude.{◌≡◌, ◌&&◌, [], IfOk};
+ghost use Rattle.std.specs.List.{list_all};
+ghost use Rattle.abel_tree.specs.Entries.{entries_of, view_meaning};
+ghost use Rattle.abel_tree.specs.View.{view};
+ghost use Rattle.abel_meaning.specs.Designs.{Design, name_at};
+ghost use Rattle.set_expr.specs.FoundNames.{expression_found};
+ghost use Rattle.set_expr.specs.KnownNames.{IsKnown};
+ghost use Rattle.row_entries.specs.EntryTerms.{IsOver, AreInOrder};
+ghost use Rattle.abel_vectors.specs.HeaderSides.{IsSide, is_pin_or_unknown};
+ghost use Rattle.abel_vectors.specs.VectorRefusals.{is_pin};
+
+use abel_tree::{Expr, Meaning, Names};
+use pld_base::{OutOfMemory, Place};
+use row_entries::header_signals;
+use set_expr::{KnownNames, SectionFault, check};
+use std::alloc::Global;
+
+/// What is found of a side of a header: its first refusal, or its pins from the left as numbers of names, None at X.
+#[derive(Drop)]
+pub enum Side {
+    Refused(SectionFault),
+    Pins(Vec<Option<u32>>),
+}
+
+/// Whether a name is that of a pin.
+fn names_pin(meaning: &Meaning) -> bool
+    ensures { result ≡ is_pin (view_meaning meaning.now) }
+{
+    match meaning {
+        Meaning::Pin { pin: _, negated: _ } => true,
+        Meaning::Node(_) => false,
+        Meaning::Constant(_) => false,
+        Meaning::DeviceName => false,
+    }
+}
+
+/// Whether the name with this number is that of a pin.
+fn numbers_pin(names: &Names, number: usize) -> bool
+    ensures { (d : Design) → d.names ≡ entries_of names.now → result ≡ is_pin (name_at d number).kind }
+{
+    let list = names.list.as_slice();
+    if number < list.len() {
+        names_pin(&list[number].meaning)
+    } else {
+        false
+    }
+}
+
+/// Whether a position is X or a pin.
+fn may_stand(names: &Names, signal: Option<u32>) -> bool
+    ensures { (d : Design) → d.names ≡ entries_of names.now → result ≡ is_pin_or_unknown d signal }
+{
+    match signal {
+        None => true,
+        Some(number) => numbers_pin(names, number as usize),
+    }
+}
+
+/// Whether two facts hold.
+fn both(first: bool, second: bool) -> bool
+    ensures { result ≡ (first && second) }
+{
+    first && second
+}
+
+/// Whether all positions are.
+fn all_may_stand(names: &Names, signals: &[Option<u32>]) -> bool
+    ensures { (d : Design) → d.names ≡ entries_of names.now → result ≡ list_all (is_pin_or_unknown d) signals.now }
+{
+    let mut all = true;
+    for index in 0..signals.len() {
+        all = both(all, may_stand(names, signals[index]));
+    }
+    all
+}
+
+/// A side in which nothing is refused as an expression.
+fn named_side(
+    alloc: Global,
+    names: &Names,
+    known: &KnownNames,
+    place: Place,
+    side: &Expr,
+) -> Result<Side, OutOfMemory>
+    requires known { IsKnown (entries_of names.now) known.now }
+    requires order { AreInOrder (entries_of names.now) }
+    ensures { IfOk result (λ s. (d : Design) → IsOver names.now d → (expression_found d.names (view side.now)).refusals ≡ [] → IsSide d place (view side.now) s) }
+{
+    let found = header_signals(alloc, names, known, side)?;
+    match found {
+        None => Ok(Side::Refused(SectionFault::BadVector(place))),
+        Some(signals) => {
+            if all_may_stand(names, signals.as_slice()) {
+                Ok(Side::Pins(signals))
+            } else {
+                Ok(Side::Refused(SectionFault::BadVector(place)))
+            }
+        }
+    }
+}
+
+/// The side of a header that stands at this place: its first refusal, or the pins that it names.
+pub fn read_side(
+    alloc: Global,
+    names: &Names,
+    known: &KnownNames,
+    place: Place,
+    side: &Expr,
+) -> Result<Side, OutOfMemory>
+    requires known { IsKnown (entries_of names.now) known.now }
+    requires order { AreInOrder (entries_of names.now) }
+    ensures { IfOk result (λ s. (d : Design) → IsOver names.now d → IsSide d place (view side.now) s) }
+{
+    let found = check(alloc, names, known, side)?;
+    match found.fault {
+        Some(fault) => Ok(Side::Refused(fault)),
+        None => named_side(alloc, names, known, place, side),
+    }
+}
