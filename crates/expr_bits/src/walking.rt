@@ -77,6 +77,7 @@ pub(crate) fn walk<D: Device>(
     let mut work = Vec::new(alloc);
     let mut values = Vec::new(alloc);
     work.push(Work::Whole(expr, None, names.list.as_slice().len()))?;
+    // An expression of so many turns is none that a run could live to build.
     'turns: for _ in 0..u64::MAX {
         let Some(next) = work.pop() else {
             return Ok(taken(alloc, &mut values));
