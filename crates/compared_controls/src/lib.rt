@@ -1,0 +1,9 @@
+//! What an equation for a clock, or for the enable of a cell that a pin enables, must say.
+#![tactic(auto)]
+
+mod compared;
+mod levels;
+#[cfg(test)]
+mod tests;
+
+pub use compared::other_level;
