@@ -1,0 +1,174 @@
+-- The answers of fitting, by what the steps on the way answered.
+use Rattle.std.proofs.Common.{◌≡◌, ◌≢◌, ◌⊎◌, ℕ, ◌+◌, ◌<◌, ◌≤◌, ◌^◌, Bool, true, false, List, length, get_or, slice_get, Option, Some, None, refl, sym, ap, ◌∙◌, subst, arith, inl, inr}
+use Rattle.std.specs.Option.{option_to_list}
+use Rattle.std.proofs.lemmas.List.Sorted.{length_permutation}
+use Rattle.std.proofs.lemmas.Option.{slice_get_within}
+use Rattle.pld_device.specs.declared.flip.Flip.{Flip}
+use Rattle.pld_device.specs.declared.flip.Flip.TheVariants.{AfterRegister, Always, BeforeRegister}
+use Rattle.pld_device.specs.Laws.{IsDevice}
+use Rattle.pld_device.specs.Macrocells.{pin_complements}
+use Rattle.pld_device.specs.Registers.{is_inverted}
+use Rattle.pld_device.specs.Table.{Table, cell_at}
+use Rattle.bit_expr.specs.declared.netlist.CellWanted.{CellWanted}
+use Rattle.bit_expr.specs.declared.netlist.Netlist.{Netlist}
+use Rattle.bit_expr.specs.declared.node.ExprId.{ExprId}
+use Rattle.abel_meaning.specs.Netlists.{Wanted, plain_netlist}
+use Rattle.abel_meaning.specs.SoundIds.{IsSoundNetlist}
+use Rattle.cube_pool.specs.declared.cube.Cube.{Cube}
+use Rattle.fit_cells.specs.declared.choosing.Tried.{Tried}
+use Rattle.fit_laws.specs.Plans.{HasCellPlan, IsTurnMask, PlansNetlist, PlansRows, PlansShared, cell_wanted, enable_bit}
+use Rattle.fit_laws.proofs.BurnedControls.{says_inverted}
+use Rattle.fit_laws.proofs.PlansFit.{plans_fit}
+use Rattle.fit_plans.specs.Covered.{control_function}
+use Rattle.fit_rows.specs.declared.controls.CellForm.{CellForm}
+use Rattle.fit_rows.specs.declared.plan.CellPlan.{CellPlan}
+use Rattle.fit_rows.specs.Controls.{IsBurned, form_at}
+use Rattle.fit_rows.specs.RowCubes.{HoldsCubes}
+use Rattle.fit_shared.specs.declared.shared.SharedControl.{SharedControl}
+use Rattle.fit_shared.specs.declared.shared.SharedControl.TheVariants.{Preset, Reset}
+use Rattle.fitter.specs.declared.covering.CellCovers.{CellCovers}
+use Rattle.fitter.specs.declared.answer.Fitted.{Fitted}
+use Rattle.fitter.specs.declared.answer.FittedCell.{FittedCell}
+use Rattle.fitter.specs.declared.planning.AllRows.{AllRows}
+use Rattle.fitter.specs.declared.planning.CellRows.{CellRows}
+use Rattle.fitter.specs.declared.sharing.SharedRows.{SharedRows}
+use Rattle.fitter.specs.Answers.{HasControls, IsFitOf, IsTooMany}
+use Rattle.fitter.specs.Covered.{CoversBelow, HasCovers, HasCoversAs}
+use Rattle.fitter.specs.Fitting.{IsBurnedPlan, plan_of}
+use Rattle.fitter.specs.Planned.{AreRowsOf, HasSharedRow, IsEntryOf, IsManyRows, IsOverAt, IsSingleRow, RowsBelow, SingleBelow}
+use Rattle.fitter.specs.Products.{EnablesBelow, IsFirstSum, IsProduct, IsSharedProduct}
+use Rattle.fitter.specs.Rows.{AreFittedCells, IsFittedEntry, Rises}
+use Rattle.fitter.specs.Width.{NoneWide}
+use Rattle.fitter.proofs.Controls.{first_of_one, is_no_product, is_product}
+use Rattle.fitter.proofs.CellPlans.{over_at, plan_as}
+use Rattle.fitter.proofs.Widths.{none_wide}
+
+-- ---- controls
+
+module _ (t : Table) (laws : IsDevice t) (net : Netlist) (sound : IsSoundNetlist t net) (mask : ℕ) (mask_is : IsTurnMask t (plain_netlist net) mask) where
+  few_pairs : length t.pairs ≤ 32
+  few_pairs = omega (arith, laws.sizes.columns_even, laws.sizes.columns_high)
+
+  pub shared_product : (which : SharedControl) (row : Option Cube) → HasSharedRow t mask net which row → IsSharedProduct t net which
+  shared_product which row has = record { bit = has.bit; shared = has.shared; product = is_product (length t.pairs) mask net has.bit few_pairs mask_is.low row has.covers_it }
+
+  -- the enable of a cell with one row at most
+  enable_product : (wanted : Option CellWanted) (w : CellWanted) (found : Option CellCovers) → wanted ≡ Some w → HasCoversAs t mask net wanted found → IsSingleRow found
+      → IsProduct (length t.pairs) net (enable_bit w)
+  enable_product None w found is has one = absurd cc
+  enable_product (Some v) w None is has one = absurd has
+  enable_product (Some v) w (Some x) is has one =
+      let same : v ≡ w = same_some is in
+      subst (λ u. IsProduct (length t.pairs) net (enable_bit u)) same
+      (is_product (length t.pairs) mask net (enable_bit v) few_pairs mask_is.low (slice_get x.enable.items 0)
+      (subst (PlansRows (length t.pairs) mask net (control_function (enable_bit v)) true) (first_of_one x.enable.items one) has.enable))
+    where
+      same_some : Some v ≡ Some w → v ≡ w
+      same_some e = cc
+
+  pub enables_below : (covers : List (Option CellCovers)) (c : ℕ) → CoversBelow t mask net (length t.cells) covers → c ≤ length t.cells → SingleBelow covers c → EnablesBelow t net c
+  enables_below covers c below few single d w low is =
+      enable_product (cell_wanted net d) w (get_or covers d None) is (below.each d (omega (arith, low, few))) (single d low)
+
+  first_sum_of : (wanted : Option CellWanted) (c : ℕ) (found : Option CellCovers) → cell_wanted net c ≡ wanted → HasCoversAs t mask net wanted found → IsManyRows found → EnablesBelow t net c
+      → IsFirstSum t net c
+  first_sum_of None c None is has many before = absurd many
+  first_sum_of None c (Some x) is has many before = absurd has
+  first_sum_of (Some w) c None is has many before = absurd has
+  first_sum_of (Some w) c (Some x) is has many before = record {
+    cell = w;
+    wanted = is;
+    many = is_no_product (length t.pairs) mask net (enable_bit w) few_pairs mask_is.low x.enable.items has.enable many;
+    before = before;
+  }
+
+  pub first_sum : (covers : List (Option CellCovers)) (c : ℕ) → CoversBelow t mask net (length t.cells) covers → c < length t.cells → IsManyRows (get_or covers c None) → SingleBelow covers c
+      → IsFirstSum t net c
+  first_sum covers c below low many single =
+      first_sum_of (cell_wanted net c) c (get_or covers c None) refl (below.each c low) many (enables_below covers c below (omega (arith, low)) single)
+
+  -- ---- all controls
+
+  module _ (covers : List (Option CellCovers)) (shared : SharedRows) (below : CoversBelow t mask net (length t.cells) covers)
+      (reset : HasSharedRow t mask net Reset shared.reset) (preset : HasSharedRow t mask net Preset shared.preset) (single : SingleBelow covers (length t.cells)) where
+    controls : HasControls t net
+    controls = record {
+      wide = none_wide t mask net sound covers below;
+      reset = shared_product Reset shared.reset reset;
+      preset = shared_product Preset shared.preset preset;
+      enables = enables_below covers (length t.cells) below (omega arith) single;
+    }
+
+    pub too_many : (c : ℕ) (tried : Tried) → c < length t.cells → IsOverAt t c (get_or covers c None) tried → IsTooMany t net c tried
+    too_many c tried low over = record {
+      controls = controls;
+      mask = mask;
+      mask_is = mask_is;
+      over = over_at t mask net c (cell_wanted net c) (get_or covers c None) tried refl (below.each c low) over;
+    }
+
+    -- ---- fuses
+
+    module _ (rows : AllRows) (are : RowsBelow t covers (length t.cells) rows.plans.items rows.forms.items) (fitted : Fitted) (is : IsBurnedPlan t net shared rows fitted) where
+      cell_plans : (c : ℕ) → c < length t.cells → HasCellPlan t mask net (plan_of shared rows) rows.forms.items c
+      cell_plans c low =
+          let has = are.each c low in
+          record {
+            cell = has.plan;
+            there = has.there;
+            planned = plan_as t mask net c (cell_wanted net c) (get_or covers c None) (record { plan = has.plan; form = form_at rows.forms.items c }) (below.each c low) has.rows (single c low);
+          }
+
+      plans : PlansNetlist t mask net (plan_of shared rows) rows.forms.items
+      plans = record {
+        mask_is = mask_is;
+        count = are.plans_count;
+        cells = cell_plans;
+        reset = record { bit = reset.bit; within = reset.shared.id.within; shared = reset.shared.formula; covers_it = reset.covers_it };
+        preset = record { bit = preset.bit; within = preset.shared.id.within; shared = preset.shared.formula; covers_it = preset.covers_it };
+        resets_shared = reset.shared.shared;
+        presets_shared = preset.shared.shared;
+      }
+
+      pin_as : (flip : Flip) (registered a b : Bool) → (flip ≢ Always → a ≡ b) → pin_complements flip registered b ≡ pin_complements flip registered a
+      pin_as Always registered a b same = refl
+      pin_as AfterRegister registered a b same = sym (same (λ e. absurd cc))
+      pin_as BeforeRegister registered a b same = ap (pin_complements BeforeRegister registered) (sym (same (λ e. absurd cc)))
+
+      -- the rows of an assigned cell are in rising order, and fit
+      rows_rise : (c : ℕ) (wanted : Option CellWanted) (w : CellWanted) (found : Option CellCovers) (r : CellRows) → wanted ≡ Some w → HasCoversAs t mask net wanted found → AreRowsOf t c found r
+          → (Rises t.columns r.plan.rows) × (length r.plan.rows ≤ (cell_at t c).room)
+      rows_rise c None w found r e has of = absurd cc
+      rows_rise c (Some v) w None r e has of = absurd has
+      rows_rise c (Some v) w (Some x) r e has of = (of.rise, let fit = of.fit in omega (arith, fit, length_permutation of.list.items r.plan.rows of.same))
+
+      same_plan : (a b : CellPlan) → Some a ≡ Some b → a ≡ b
+      same_plan a b e = cc
+
+      entry : (x : FittedCell) → IsEntryOf t net rows.plans.items rows.forms.items x → IsFittedEntry t net fitted.fuses x
+      entry x of =
+          let there = slice_get_within rows.plans.items x.cell of.plan of.there in
+          let low : x.cell < length t.cells = omega (arith, there, are.plans_count) in
+          let has = are.each x.cell low in
+          let same : has.plan ≡ of.plan = same_plan has.plan of.plan (sym has.there ∙ of.there) in
+          let good = rows_rise x.cell (cell_wanted net x.cell) of.cell (get_or covers x.cell None) (record { plan = has.plan; form = form_at rows.forms.items x.cell }) of.wanted (below.each x.cell low) has.rows in
+          let rows_are : has.plan.rows ≡ x.rows = ap (λ (p : CellPlan). p.rows) same ∙ sym of.rows in
+          record {
+            cell = of.cell;
+            wanted = of.wanted;
+            inverted = of.inverted ∙ pin_as t.flip of.cell.registered (is_inverted t fitted.fuses x.cell) (form_at rows.forms.items x.cell).inverted
+                (says_inverted t laws (plan_of shared rows) rows.forms.items fitted.fuses is.burned x.cell low);
+            rows = subst (HoldsCubes t fitted.fuses (cell_at t x.cell).first (cell_at t x.cell).room) rows_are (is.burned.cells x.cell has.plan low has.there good.1);
+            rise = subst (Rises t.columns) rows_are good.0;
+          }
+
+      pub fit_of : IsFitOf t net fitted
+      fit_of = record {
+        controls = controls;
+        fits = plans_fit t net mask (plan_of shared rows) rows.forms.items fitted.fuses laws sound plans is.burned;
+        cells = record {
+          entries = λ k d within. entry (get_or fitted.cells k d) (is.entries.entries k d within);
+          order = is.entries.order;
+          each = is.entries.each;
+        };
+      }

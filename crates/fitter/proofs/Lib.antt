@@ -1,0 +1,10 @@
+pub mod Answering
+pub mod CellPlans
+pub mod Controls
+pub mod Entries
+pub mod OneProduct
+pub mod RisenCovers
+pub mod RowNumbers
+pub mod Stops
+pub mod TurnBits
+pub mod Widths

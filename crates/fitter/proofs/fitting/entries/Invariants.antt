@@ -1,0 +1,8 @@
+-- The cells so far have their entries.
+use Rattle.fitter.specs.Planned.{EntriesBelow}
+use Rattle.fitter.proofs.fitting.entries.Given as goal
+
+abbrev pub invariant-loop-cell : goal.invariant-loop-cell
+invariant-loop-cell g l = record {
+  below : EntriesBelow g.D.Device.table l.net l.plans l.forms l.cell l.list.items;
+}

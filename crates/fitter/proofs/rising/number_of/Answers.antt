@@ -1,0 +1,6 @@
+use Rattle.std.proofs.Common.{subst, sym, arith}
+use Rattle.fitter.specs.Rows.{row_number}
+use Rattle.fitter.proofs.rising.number_of.Goals as goal
+
+pub row_number-requires : goal.row_number-requires
+row_number-requires g c = omega (arith, g.met.D.Device.columns_is, g.met.D.Device.sound.sizes.columns_high)

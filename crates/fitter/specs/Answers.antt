@@ -1,0 +1,57 @@
+-- What fitting a netlist answers, and when: the first refusal of these, in this order (this project's rule).
+use Rattle.std.specs.Prelude.{◌⊎◌, ℕ, length, Result, Ok, Err}
+use Rattle.pld_base.specs.declared.point.Point.{Point}
+use Rattle.pld_device.specs.Table.{Table}
+use Rattle.bit_expr.specs.declared.netlist.Netlist.{Netlist}
+use Rattle.abel_meaning.specs.Netlists.{plain_netlist}
+use Rattle.fitted.specs.Fitting.{AreShared, IsFitted}
+use Rattle.fit_laws.specs.Plans.{IsTurnMask}
+use Rattle.fit_shared.specs.declared.shared.SharedControl.TheVariants.{Preset, Reset}
+use Rattle.fit_shared.specs.Sharing.{AreNotShared, own_formula}
+use Rattle.fit_cells.specs.declared.choosing.Tried.{Tried}
+use Rattle.fitter.specs.declared.fault.FitFault.{FitFault}
+use Rattle.fitter.specs.declared.fault.FitFault.TheVariants.{EnableTooWide, NotShared, OutOfMemory, PresetTooWide, ResetTooWide, TooManyProducts, TooWide}
+use Rattle.fitter.specs.declared.answer.Fitted.{Fitted}
+use Rattle.fitter.specs.Products.{EnablesBelow, IsFirstSum, IsSharedProduct, IsSharedSum}
+use Rattle.fitter.specs.Rows.{AreFittedCells, IsOverRoom}
+use Rattle.fitter.specs.Width.{IsFirstWide, NoneWide}
+
+-- the controls are shared, and each is one product or 0
+pub record HasControls (t : Table) (net : Netlist) : Type 0 where
+  pub wide : NoneWide t net
+  pub reset : IsSharedProduct t net Reset
+  pub preset : IsSharedProduct t net Preset
+  pub enables : EnablesBelow t net (length t.cells)
+
+-- the answer has the fuses of the netlist and its cells' rows
+pub record IsFitOf (t : Table) (net : Netlist) (fitted : Fitted) : Type 0 where
+  pub controls : HasControls t net
+  pub fits : IsFitted t (plain_netlist net) fitted.fuses
+  pub cells : AreFittedCells t net fitted.fuses fitted.cells
+
+-- the cell is too wide for its room in every form, by these covers over the columns, and the controls are not
+pub record IsTooMany (t : Table) (net : Netlist) (c : ℕ) (tried : Tried) : Type 0 where
+  pub controls : HasControls t net
+  pub mask : ℕ
+  pub mask_is : IsTurnMask t (plain_netlist net) mask
+  pub over : IsOverRoom t mask net c tried
+
+-- two resets differ, or two presets do and no resets
+abbrev pub IsNotShared : Table → Netlist → (a b : ℕ) → Point → Type 0
+IsNotShared t net a b point =
+    NoneWide t net
+    × (AreNotShared t (plain_netlist net) (own_formula Reset) a b point
+    ⊎ (AreShared t (plain_netlist net) (own_formula Reset) × AreNotShared t (plain_netlist net) (own_formula Preset) a b point))
+
+-- each answer with its cause; want of memory tells nothing
+abbrev pub FitAnswers : Table → Netlist → Result Fitted FitFault → Type 0
+FitAnswers t net (Ok fitted) = IsFitOf t net fitted
+FitAnswers t net (Err (TooWide c)) = IsFirstWide t net c
+FitAnswers t net (Err (NotShared a b point)) = IsNotShared t net a b point
+FitAnswers t net (Err ResetTooWide) =
+    NoneWide t net × AreShared t (plain_netlist net) (own_formula Preset) × IsSharedSum t net Reset
+FitAnswers t net (Err PresetTooWide) = NoneWide t net × IsSharedProduct t net Reset × IsSharedSum t net Preset
+FitAnswers t net (Err (EnableTooWide c)) =
+    NoneWide t net × IsSharedProduct t net Reset × IsSharedProduct t net Preset × IsFirstSum t net c
+FitAnswers t net (Err (TooManyProducts c tried)) = IsTooMany t net c tried
+FitAnswers t net (Err OutOfMemory) = Unit {0}

@@ -1,0 +1,62 @@
+-- The data rows of cells, and the order in which they are written (this project's rule).
+use Rattle.std.specs.Prelude.{◌≡◌, ◌≢◌, ℕ, zero, suc, ◌+◌, ◌*◌, ◌<◌, ◌≤◌, ◌<◌, Bool, true, if◌then◌else◌, Option, Some, None, List, length, slice_get, All, AllPairs}
+use Rattle.std.specs.List.Sorted.{IsNonDecreasingBy}
+use Rattle.pld_device.specs.Macrocells.{pin_complements}
+use Rattle.pld_device.specs.Registers.{is_inverted}
+use Rattle.pld_device.specs.Table.{Table, cell_at}
+use Rattle.bit_expr.specs.declared.netlist.CellWanted.{CellWanted}
+use Rattle.bit_expr.specs.declared.netlist.Netlist.{Netlist}
+use Rattle.cube_pool.specs.declared.cube.Cube.{Cube}
+use Rattle.fit_cells.specs.declared.choosing.Tried.{Tried}
+use Rattle.fit_cells.specs.Choices.{FitsRoom}
+use Rattle.fit_cells.specs.Tries.{allowed_of, needed_of}
+use Rattle.sop_lowering.specs.Products.{Products}
+use Rattle.fit_laws.specs.Plans.{cell_wanted}
+use Rattle.fit_plans.specs.Covered.{IsTriedCell}
+use Rattle.fit_plans.specs.Forms.{may_be_inverted_as, rows_are_positive}
+use Rattle.fit_rows.specs.RowCubes.{HoldsCubes, fuse_at}
+use Rattle.fitter.specs.declared.answer.FittedCell.{FittedCell}
+
+-- the first fuses of the cube's row, read as a binary number: rows that rise as text rise by it
+unfoldable pub row_number : (columns : ℕ) → Cube → ℕ
+row_number zero c = 0
+row_number (suc n) c = 2 * row_number n c + (if fuse_at c n then 1 else 0)
+
+-- rows in rising order of their fuses as text
+abbrev pub Rises : (columns : ℕ) → List Cube → Type 0
+Rises columns rows = IsNonDecreasingBy (row_number columns) rows
+
+-- no written list of rows that the form may have is within the room, by the longer of the two
+abbrev pub IsHeavierAs : Products → Products → (room : ℕ) → Type 0
+IsHeavierAs needed allowed room =
+    (needs allows : List Cube) → needed ≡ Some needs → allowed ≡ Some allows → length needs ≤ room → length allows ≤ room → ⊥
+
+-- the cell doesn't fit as written
+abbrev pub IsHeavier : Table → Netlist → ℕ → CellWanted → Type 0
+IsHeavier t net c w =
+    (inverted : Bool) → may_be_inverted_as t.flip w inverted ≡ true
+    → IsHeavierAs (needed_of net w.function (rows_are_positive t.flip w inverted)) (allowed_of net w.function (rows_are_positive t.flip w inverted))
+    (cell_at t c).room
+
+-- the cell's covers in the forms that it may have have more rows than its room
+pub record IsOverRoom (t : Table) (mask : ℕ) (net : Netlist) (c : ℕ) (tried : Tried) : Type 0 where
+  pub cell : CellWanted
+  pub wanted : cell_wanted net c ≡ Some cell
+  pub covers_it : IsTriedCell t.flip (length t.pairs) mask net cell tried
+  pub direct : FitsRoom (cell_at t c).room tried.direct → ⊥
+  pub inverted : FitsRoom (cell_at t c).room tried.inverted → ⊥
+  pub heavier : IsHeavier t net c cell
+
+-- an entry says of an assigned cell whether its pin is the complement of what it makes, and the rows that it has
+pub record IsFittedEntry (t : Table) (net : Netlist) (fuses : List Bool) (x : FittedCell) : Type 0 where
+  pub cell : CellWanted
+  pub wanted : cell_wanted net x.cell ≡ Some cell
+  pub inverted : x.inverted ≡ pin_complements t.flip cell.registered (is_inverted t fuses x.cell)
+  pub rows : HoldsCubes t fuses (cell_at t x.cell).first (cell_at t x.cell).room x.rows
+  pub rise : Rises t.columns x.rows
+
+-- one entry for each assigned cell, in the order of cells
+pub record AreFittedCells (t : Table) (net : Netlist) (fuses : List Bool) (cells : List FittedCell) : Type 0 where
+  pub entries : All (IsFittedEntry t net fuses) cells
+  pub order : AllPairs (λ (a b : FittedCell). a.cell < b.cell) cells
+  pub each : (c : ℕ) (w : CellWanted) → c < length t.cells → cell_wanted net c ≡ Some w → (k : ℕ) × (x : FittedCell) × (slice_get cells k ≡ Some x) × (x.cell ≡ c)

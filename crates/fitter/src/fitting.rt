@@ -1,0 +1,122 @@
+//! The whole fit: covers, shared controls, rows, fuses.
+
+ghost use Rattle.std.specs.Prelude.{◌≡◌, ◌+◌, ◌<◌, IfOk, length};
+ghost use Rattle.pld_device.specs.Macrocells.{pin_complements};
+ghost use Rattle.abel_meaning.specs.SoundIds.{IsSoundNetlist};
+ghost use Rattle.fit_rows.specs.Controls.{IsBurned};
+ghost use Rattle.fitter.specs.Answers.{FitAnswers};
+ghost use Rattle.fitter.specs.Fitting.{IsBurnedPlan};
+ghost use Rattle.fitter.specs.Planned.{EntriesBelow};
+
+use crate::answer::{Fitted, FittedCell};
+use crate::covering::cover_cells;
+use crate::fault::FitFault;
+use crate::masks::turn_mask;
+use crate::planning::{AllRows, check_enables, plan_cells};
+use crate::sharing::{SharedRows, shared_rows};
+use bit_expr::Netlist;
+use cube_pool::CubePool;
+use fit_rows::{CellForm, CellPlan, Plan, device_fuses};
+use fit_shared::cell_wanted;
+use pld_base::ListOf;
+use pld_device::{Device, Flip, Fuses};
+use std::alloc::{AllocError, Global};
+
+/// The cubes of the pool in which all covers are made.
+const POOL: usize = 49_152;
+
+/// Whether a pin is the complement of what the rows, or the register, give.
+fn pin_complements(flip: Flip, registered: bool, inverted: bool) -> bool
+    ensures { result ≡ pin_complements flip registered inverted }
+{
+    match flip {
+        Flip::Always => true,
+        Flip::AfterRegister => inverted,
+        Flip::BeforeRegister => registered || inverted,
+    }
+}
+
+/// Adds the entry of a cell, if it is assigned.
+fn add_entry<D: Device>(
+    alloc: Global,
+    net: &Netlist,
+    plans: &[CellPlan],
+    forms: &[CellForm],
+    cell: u8,
+    list: &mut Vec<FittedCell>,
+) -> Result<(), AllocError>
+    requires plans { cell < length plans.now }
+    requires forms { cell < length forms.now }
+    requires before { EntriesBelow D.table net.now plans.now forms.now cell list.old.items }
+    ensures { IfOk result (λ done. EntriesBelow D.table net.now plans.now forms.now (cell + 1) list.new.items) }
+{
+    let Some(wanted) = cell_wanted(net, cell) else {
+        return Ok(());
+    };
+    let inverted = forms[cell as usize].inverted;
+    let rows = Vec::from_slice(alloc, plans[cell as usize].rows.as_slice())?;
+    list.push(FittedCell {
+        cell,
+        inverted: pin_complements(D::FLIP, wanted.registered, inverted),
+        rows: ListOf::from_vec(rows),
+    })?;
+    Ok(())
+}
+
+/// An entry for each assigned cell.
+fn entries<D: Device>(
+    alloc: Global,
+    net: &Netlist,
+    plans: &[CellPlan],
+    forms: &[CellForm],
+) -> Result<Vec<FittedCell>, AllocError>
+    requires plans { length plans.now ≡ length D.table.cells }
+    requires forms { length forms.now ≡ length D.table.cells }
+    ensures { IfOk result (λ list. EntriesBelow D.table net.now plans.now forms.now (length D.table.cells) list.items) }
+{
+    let mut list = Vec::new(alloc);
+    for cell in 0..D::CELLS {
+        add_entry::<D>(alloc, net, plans, forms, cell, &mut list)?;
+    }
+    Ok(list)
+}
+
+/// The fuses of the rows.
+fn burned<D: Device>(
+    alloc: Global,
+    net: &Netlist,
+    shared: SharedRows,
+    rows: AllRows,
+) -> Result<Fitted, AllocError>
+    requires plans { length rows.plans.items ≡ length D.table.cells }
+    requires forms { length rows.forms.items ≡ length D.table.cells }
+    ensures { IfOk result (IsBurnedPlan D.table net.now shared rows) }
+{
+    let cells = entries::<D>(alloc, net, &rows.plans, &rows.forms)?;
+    let plan = Plan {
+        cells: ListOf::from_vec(rows.plans),
+        reset: shared.reset,
+        preset: shared.preset,
+    };
+    let fuses = device_fuses::<D>(alloc, &plan, &rows.forms)?;
+    Ok(Fitted {
+        fuses: Fuses::from_levels(fuses),
+        cells: ListOf::from_vec(cells),
+    })
+}
+
+/// The fuses of a netlist in a device, and the rows of its cells: of each cell a prime and irredundant cover, in its direct
+/// form where that may be and fits, else in its inverted one. It makes one pool for all covers.
+pub fn fit<D: Device>(alloc: Global, net: &Netlist) -> Result<Fitted, FitFault>
+    requires sound { IsSoundNetlist D.table net.now }
+    ensures answer { FitAnswers D.table net.now result }
+{
+    let mut pool = CubePool::with_room(alloc, POOL)?;
+    let turned = turn_mask::<D>(net);
+    let covers = cover_cells::<D>(alloc, &mut pool, net, turned)?;
+    let shared = shared_rows::<D>(alloc, &mut pool, net, turned)?;
+    check_enables(&covers)?;
+    let rows = plan_cells::<D>(alloc, covers)?;
+    let fitted = burned::<D>(alloc, net, shared, rows)?;
+    Ok(fitted)
+}

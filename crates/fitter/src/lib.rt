@@ -1,0 +1,15 @@
+//! From the netlist of a design to the fuses of any device.
+#![tactic(auto)]
+
+mod answer;
+mod covering;
+mod fault;
+mod fitting;
+mod masks;
+mod planning;
+mod rising;
+mod sharing;
+
+pub use answer::{Fitted, FittedCell};
+pub use fault::FitFault;
+pub use fitting::fit;
