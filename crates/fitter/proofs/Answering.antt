@@ -1,6 +1,5 @@
 -- The answers of fitting, by what the steps on the way answered.
-use Rattle.std.proofs.Common.{◌≡◌, ◌≢◌, ◌⊎◌, ℕ, ◌+◌, ◌<◌, ◌≤◌, ◌^◌, Bool, true, false, List, length, get_or, slice_get, Option, Some, None, refl, sym, ap, ◌∙◌, subst, arith, inl, inr}
-use Rattle.std.specs.Option.{option_to_list}
+use Rattle.std.proofs.Common.{◌≡◌, ◌≢◌, ℕ, ◌<◌, ◌≤◌, Bool, true, List, length, get_or, slice_get, Option, Some, None, refl, sym, ap, ◌∙◌, subst, arith}
 use Rattle.std.proofs.lemmas.List.Sorted.{length_permutation}
 use Rattle.std.proofs.lemmas.Option.{slice_get_within}
 use Rattle.pld_device.specs.declared.flip.Flip.{Flip}
@@ -11,18 +10,16 @@ use Rattle.pld_device.specs.Registers.{is_inverted}
 use Rattle.pld_device.specs.Table.{Table, cell_at}
 use Rattle.bit_expr.specs.declared.netlist.CellWanted.{CellWanted}
 use Rattle.bit_expr.specs.declared.netlist.Netlist.{Netlist}
-use Rattle.bit_expr.specs.declared.node.ExprId.{ExprId}
-use Rattle.abel_meaning.specs.Netlists.{Wanted, plain_netlist}
+use Rattle.abel_meaning.specs.Netlists.{plain_netlist}
 use Rattle.abel_meaning.specs.SoundIds.{IsSoundNetlist}
 use Rattle.cube_pool.specs.declared.cube.Cube.{Cube}
 use Rattle.fit_cells.specs.declared.choosing.Tried.{Tried}
-use Rattle.fit_laws.specs.Plans.{HasCellPlan, IsTurnMask, PlansNetlist, PlansRows, PlansShared, cell_wanted, enable_bit}
+use Rattle.fit_laws.specs.Plans.{HasCellPlan, IsTurnMask, PlansNetlist, PlansRows, cell_wanted, enable_bit}
 use Rattle.fit_laws.proofs.BurnedControls.{says_inverted}
 use Rattle.fit_laws.proofs.PlansFit.{plans_fit}
 use Rattle.fit_plans.specs.Covered.{control_function}
-use Rattle.fit_rows.specs.declared.controls.CellForm.{CellForm}
 use Rattle.fit_rows.specs.declared.plan.CellPlan.{CellPlan}
-use Rattle.fit_rows.specs.Controls.{IsBurned, form_at}
+use Rattle.fit_rows.specs.Controls.{form_at}
 use Rattle.fit_rows.specs.RowCubes.{HoldsCubes}
 use Rattle.fit_shared.specs.declared.shared.SharedControl.{SharedControl}
 use Rattle.fit_shared.specs.declared.shared.SharedControl.TheVariants.{Preset, Reset}
@@ -33,12 +30,11 @@ use Rattle.fitter.specs.declared.planning.AllRows.{AllRows}
 use Rattle.fitter.specs.declared.planning.CellRows.{CellRows}
 use Rattle.fitter.specs.declared.sharing.SharedRows.{SharedRows}
 use Rattle.fitter.specs.Answers.{HasControls, IsFitOf, IsTooMany}
-use Rattle.fitter.specs.Covered.{CoversBelow, HasCovers, HasCoversAs}
+use Rattle.fitter.specs.Covered.{CoversBelow, HasCoversAs}
 use Rattle.fitter.specs.Fitting.{IsBurnedPlan, plan_of}
 use Rattle.fitter.specs.Planned.{AreRowsOf, HasSharedRow, IsEntryOf, IsManyRows, IsOverAt, IsSingleRow, RowsBelow, SingleBelow}
 use Rattle.fitter.specs.Products.{EnablesBelow, IsFirstSum, IsProduct, IsSharedProduct}
-use Rattle.fitter.specs.Rows.{AreFittedCells, IsFittedEntry, Rises}
-use Rattle.fitter.specs.Width.{NoneWide}
+use Rattle.fitter.specs.Rows.{IsFittedEntry, Rises}
 use Rattle.fitter.proofs.Controls.{first_of_one, is_no_product, is_product}
 use Rattle.fitter.proofs.CellPlans.{over_at, plan_as}
 use Rattle.fitter.proofs.Widths.{none_wide}

@@ -1,11 +1,11 @@
 -- Plans of cells by their covers.
-use Rattle.std.proofs.Common.{◌≡◌, ◌⊎◌, ℕ, zero, suc, ◌+◌, ◌<◌, ◌≤◌, Bool, true, false, List, [], ◌∷◌, ◌++◌, length, get_or, slice_get, Option, Some, None, Err, refl, sym, ap, ◌∙◌, subst, arith, inl, inr}
+use Rattle.std.proofs.Common.{◌≡◌, ◌⊎◌, ℕ, ◌+◌, ◌<◌, ◌≤◌, Bool, true, false, List, [], ◌∷◌, ◌++◌, length, get_or, slice_get, Option, Some, None, Err, refl, sym, ap, ◌∙◌, subst, arith, inl, inr}
 use Rattle.std.specs.Global.{Vec}
 use Rattle.std.specs.Option.{option_to_list}
 use Rattle.std.proofs.lemmas.Bool.{cases_Bool, cases_lt}
 use Rattle.std.proofs.lemmas.List.{get_or_append_left, length-append}
 use Rattle.std.proofs.Math.Seq.{get_or-append_seam}
-use Rattle.std.proofs.lemmas.Option.{get_or_from_slice_get, slice_get-get_or, slice_get_within}
+use Rattle.std.proofs.lemmas.Option.{slice_get-get_or}
 use Rattle.std.proofs.lemmas.List.Sorted.{length_permutation}
 use Rattle.pld_device.specs.Table.{Table, cell_at}
 use Rattle.bit_expr.specs.declared.netlist.CellWanted.{CellWanted}
@@ -15,7 +15,7 @@ use Rattle.cube_pool.specs.declared.cube.Cube.{Cube}
 use Rattle.fit_cells.specs.declared.choosing.Tried.{Tried}
 use Rattle.fit_cells.specs.Choices.{FitsRoom}
 use Rattle.fit_cells.specs.Tries.{allowed_of, needed_of}
-use Rattle.fit_laws.specs.Plans.{PlansAs, PlansCell, PlansControl, PlansRows, cell_wanted, enable_bit}
+use Rattle.fit_laws.specs.Plans.{PlansAs, PlansCell, PlansRows, cell_wanted, enable_bit}
 use Rattle.fit_plans.specs.Covered.{IsTriedAs, IsTriedCell, control_function}
 use Rattle.fit_plans.specs.Forms.{may_be_inverted_as, rows_are_positive}
 use Rattle.fit_rows.specs.declared.controls.CellForm.{CellForm}

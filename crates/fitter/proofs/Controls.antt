@@ -1,12 +1,12 @@
 -- The covers of controls, and of cells, by their written lists.
-use Rattle.std.proofs.Common.{◌≡◌, ◌⊎◌, ℕ, ◌<◌, ◌≤◌, ◌^◌, Bool, true, false, List, [], ◌∷◌, length, slice_get, Option, Some, None, refl, sym, ap, ◌∙◌, subst, arith, inl, inr}
+use Rattle.std.proofs.Common.{◌≡◌, ◌⊎◌, ℕ, ◌<◌, ◌≤◌, ◌^◌, true, List, [], ◌∷◌, length, slice_get, Option, Some, None, refl, sym, ap, ◌∙◌, subst, arith, inl, inr}
 use Rattle.std.specs.Option.{option_to_list}
 use Rattle.cube_pool.specs.declared.cube.Cube.{Cube}
 use Rattle.cube_pool.specs.Prime.{IsPrimeIrredundant}
 use Rattle.bit_expr.specs.declared.netlist.Netlist.{Netlist}
 use Rattle.bit_expr.specs.declared.node.ExprId.{ExprId}
 use Rattle.bit_expr.specs.Arena.{arena, formula_at}
-use Rattle.bit_expr.specs.Formulas.{Const, Or}
+use Rattle.bit_expr.specs.Formulas.{Or}
 use Rattle.sop_lowering.specs.Products.{Products, sum_of}
 use Rattle.sop_lowering.specs.Written.{bit_list, written}
 use Rattle.fit_cells.specs.Columns.{all_turned}

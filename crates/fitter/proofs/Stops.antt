@@ -1,5 +1,5 @@
 -- Faults that are handed on: what they say of the whole.
-use Rattle.std.proofs.Common.{◌≡◌, ◌⊎◌, ℕ, ◌<◌, ◌≤◌, ◌^◌, true, List, length, get_or, slice_get, Option, Some, None, Result, Ok, Err, refl, sym, ap, ◌∙◌, subst, arith, inl, inr}
+use Rattle.std.proofs.Common.{◌≡◌, ℕ, ◌≤◌, true, List, length, slice_get, Option, Result, Err, sym, ap, ◌∙◌, subst, arith, inl, inr}
 use Rattle.std.specs.Option.{option_to_list}
 use Rattle.pld_device.specs.Laws.{IsDevice}
 use Rattle.pld_device.specs.Table.{Table}
@@ -19,10 +19,9 @@ use Rattle.fitter.specs.declared.sharing.SharedRows.{SharedRows}
 use Rattle.fitter.specs.Answers.{FitAnswers}
 use Rattle.fitter.specs.Covered.{AreCovered, CoversBelow}
 use Rattle.fitter.specs.Planned.{ArePlanned, AreSharedRows, AreSingle, HasSharedRow, IsRowOf, IsSharedBitOf, SingleBelow}
-use Rattle.fitter.specs.Products.{IsNoProduct, IsSharedSum}
 use Rattle.fitter.specs.Width.{NoneWide}
 use Rattle.fitter.proofs.Answering.{first_sum, shared_product, too_many}
-use Rattle.fitter.proofs.Controls.{first_of_one, is_no_product}
+use Rattle.fitter.proofs.Controls.{first_of_one}
 use Rattle.fitter.proofs.Widths.{none_wide}
 
 -- what holds of a fault holds of the answer that hands it on

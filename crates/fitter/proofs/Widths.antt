@@ -1,7 +1,7 @@
 -- Cells whose functions or controls have no written lists, and cells that have their covers.
-use Rattle.std.proofs.Common.{◌≡◌, ◌⊎◌, ℕ, ◌+◌, ◌<◌, ◌≤◌, Bool, true, false, List, [], ◌∷◌, ◌++◌, length, get_or, Option, Some, None, Result, Ok, Err, refl, sym, ap, ◌∙◌, subst, arith, inl, inr}
+use Rattle.std.proofs.Common.{◌≡◌, ◌⊎◌, ℕ, ◌+◌, ◌<◌, ◌≤◌, Bool, true, false, List, [], ◌∷◌, ◌++◌, length, get_or, Option, Some, None, Result, Err, refl, sym, ap, ◌∙◌, subst, arith, inl, inr}
 use Rattle.std.specs.Global.{Vec}
-use Rattle.std.proofs.lemmas.Bool.{cases_Bool, cases_lt, true≢false}
+use Rattle.std.proofs.lemmas.Bool.{cases_Bool, cases_lt}
 use Rattle.std.proofs.lemmas.List.{get_or_append_left, length-append}
 use Rattle.std.proofs.Math.Seq.{get_or-append_seam}
 use Rattle.pld_device.specs.declared.flip.Flip.{Flip}
@@ -20,7 +20,6 @@ use Rattle.sop_lowering.specs.Lowering.{Fails}
 use Rattle.sop_lowering.specs.Products.{Products}
 use Rattle.sop_lowering.specs.Written.{bit_list}
 use Rattle.fit_cells.specs.declared.choosing.Tried.{Tried}
-use Rattle.fit_cells.specs.Tries.{allowed_of, needed_of}
 use Rattle.fit_laws.specs.Coverable.{IsSoundId}
 use Rattle.fit_laws.specs.Plans.{PlansRows, cell_wanted, enable_bit}
 use Rattle.fit_laws.proofs.Coverable.{sound_cover}

@@ -1,5 +1,5 @@
 -- Private: the rows and forms of cells, as they are chosen from their covers (this project's rule).
-use Rattle.std.specs.Prelude.{◌≡◌, ◌⊎◌, ℕ, ◌<◌, ◌≤◌, Bool, true, false, Option, Some, None, List, [], length, get_or, slice_get, All, AllPairs, Result, Ok, Err}
+use Rattle.std.specs.Prelude.{◌≡◌, ◌⊎◌, ℕ, ◌<◌, ◌≤◌, true, false, Option, Some, None, List, [], length, get_or, slice_get, All, AllPairs, Result, Ok, Err}
 use Rattle.std.specs.Global.{Vec}
 use Rattle.std.specs.List.Sorted.{IsPermutation}
 use Rattle.pld_device.specs.Macrocells.{pin_complements}

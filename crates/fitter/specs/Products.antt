@@ -1,5 +1,5 @@
 -- Controls that one product makes, or none (sum-of-products form; that a control has one row is the devices').
-use Rattle.std.specs.Prelude.{◌≡◌, ℕ, ◌<◌, ◌≤◌, true, Bool, Option, Some, List, length}
+use Rattle.std.specs.Prelude.{◌≡◌, ℕ, ◌<◌, true, Bool, Option, Some, List, length}
 use Rattle.std.specs.Option.{option_to_list}
 use Rattle.pld_device.specs.Table.{Table}
 use Rattle.bit_expr.specs.declared.netlist.CellWanted.{CellWanted}

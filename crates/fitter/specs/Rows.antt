@@ -1,5 +1,5 @@
 -- The data rows of cells, and the order in which they are written (this project's rule).
-use Rattle.std.specs.Prelude.{◌≡◌, ◌≢◌, ℕ, zero, suc, ◌+◌, ◌*◌, ◌<◌, ◌≤◌, ◌<◌, Bool, true, if◌then◌else◌, Option, Some, None, List, length, slice_get, All, AllPairs}
+use Rattle.std.specs.Prelude.{◌≡◌, ℕ, zero, suc, ◌+◌, ◌*◌, ◌<◌, ◌≤◌, ◌<◌, Bool, true, if◌then◌else◌, Some, List, length, slice_get, All, AllPairs}
 use Rattle.std.specs.List.Sorted.{IsNonDecreasingBy}
 use Rattle.pld_device.specs.Macrocells.{pin_complements}
 use Rattle.pld_device.specs.Registers.{is_inverted}

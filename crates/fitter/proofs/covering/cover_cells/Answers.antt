@@ -1,4 +1,4 @@
-use Rattle.std.proofs.Common.{◌+◌, List, get_or, length, refl, sym, ◌∙◌, subst, arith, Option}
+use Rattle.std.proofs.Common.{◌+◌, List, refl, sym, ◌∙◌, subst, arith, Option}
 use Rattle.std.proofs.lemmas.Result.{err_from_is_err_and}
 use Rattle.fitter.specs.declared.covering.CellCovers.{CellCovers}
 use Rattle.fitter.specs.Covered.{AreCovered, CoversBelow}

@@ -1,5 +1,4 @@
 use Rattle.fit_laws.proofs.Coverable.{can_lower}
-use Rattle.fitter.proofs.Widths.{listed_err, listed_none, listed_ok}
 use Rattle.fitter.proofs.covering.listed.Goals as goal
 
 pub lower-requires : goal.lower-requires

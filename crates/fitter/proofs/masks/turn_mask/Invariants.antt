@@ -1,5 +1,5 @@
 -- The pairs so far have their bits.
-use Rattle.std.proofs.Common.{◌<◌, ◌^◌, ℕ, get_or}
+use Rattle.std.proofs.Common.{◌<◌, ◌^◌, get_or}
 use Rattle.pld_base.specs.Bits.{bits}
 use Rattle.pld_device.specs.declared.carry.Carry.TheVariants as carry
 use Rattle.abel_meaning.specs.Netlists.{plain_netlist}

@@ -1,4 +1,4 @@
-use Rattle.std.proofs.Common.{◌≡◌, ◌+◌, ◌<◌, Option, get_or, length, None, refl, sym, ◌∙◌, subst, arith}
+use Rattle.std.proofs.Common.{◌≡◌, Option, get_or, None, refl, ◌∙◌, subst, arith}
 use Rattle.std.proofs.lemmas.Result.{err_from_is_err_and}
 use Rattle.fitter.specs.declared.covering.CellCovers.{CellCovers}
 use Rattle.fitter.specs.Planned.{ArePlanned, AreRowsOf, RowsBelow}

@@ -1,5 +1,4 @@
-use Rattle.std.proofs.Common.{subst, sym, arith}
-use Rattle.fitter.specs.Rows.{row_number}
+use Rattle.std.proofs.Common.{arith}
 use Rattle.fitter.proofs.rising.number_of.Goals as goal
 
 pub row_number-requires : goal.row_number-requires

@@ -1,4 +1,4 @@
-use Rattle.std.proofs.Common.{◌≤◌, ◌<◌, ◌^◌, subst, sym, arith}
+use Rattle.std.proofs.Common.{◌≤◌, arith}
 use Rattle.fitter.proofs.RowNumbers.{digit_low, number_first, number_fits, number_low, number_more}
 use Rattle.fitter.proofs.rising.row_number.Goals as goal
 
