@@ -100,13 +100,24 @@ fn is_refused(alloc: Global, row: &rejected::Row) -> Result<bool, Fail> {
     }
 }
 
+/// The first row whose source isn't refused as the row says.
+fn first_wrong(
+    alloc: Global,
+    rows: &'static [rejected::Row],
+) -> Result<Option<&'static str>, Fail> {
+    for row in rows {
+        if !is_refused(alloc, row)? {
+            return Ok(Some(row.1));
+        }
+    }
+    Ok(None)
+}
+
 #[test]
 fn names_are_refused(rt: HostRuntime) -> Result<(), Fail> {
     for rows in rejected::rows() {
-        for row in rows {
-            let refused = is_refused(rt.alloc(), row)?;
-            assert!(rt; refused, "{} {}", row.0, row.1);
-        }
+        let wrong = first_wrong(rt.alloc(), rows)?;
+        assert!(rt; wrong.is_none(), "{}", wrong.unwrap_or(""));
     }
     Ok(())
 }
