@@ -14,8 +14,6 @@ mod reader;
 mod replaced;
 mod rules;
 mod spoken;
-#[cfg(test)]
-mod tests;
 mod unread;
 
 pub use expanding::expand;
