@@ -12,8 +12,6 @@ mod operator;
 mod readings;
 mod tables;
 mod tellings;
-#[cfg(test)]
-mod tests;
 mod tokens;
 mod values;
 mod words;
