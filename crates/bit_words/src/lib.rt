@@ -7,8 +7,6 @@ mod operators;
 mod pieces;
 mod positions;
 mod steps;
-#[cfg(test)]
-mod tests;
 
 pub use compare::relation_word;
 pub use dropping::kept_relation;
