@@ -5,8 +5,6 @@ mod cofactors;
 mod complement;
 mod covers;
 mod tautology;
-#[cfg(test)]
-mod tests;
 mod unate;
 
 pub use cofactors::cofactor;
