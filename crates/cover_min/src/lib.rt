@@ -4,7 +4,5 @@
 mod expand;
 mod irredundant;
 mod minimiser;
-#[cfg(test)]
-mod tests;
 
 pub use minimiser::minimise;
