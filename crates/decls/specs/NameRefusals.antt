@@ -1,7 +1,6 @@
 -- All that is refused of the names of a module, and the first of it (this project's rule).
-use Rattle.std.specs.Prelude.{ℕ, Bool, false, not, ◌&&◌, ◌==◌, Option, None, Some, List, [], ◌∷◌, ◌++◌, if◌then◌else◌, filter, slice_get}
-use Rattle.pld_device.specs.declared.flip.Flip.{Flip}
-use Rattle.pld_device.specs.declared.flip.Flip.TheVariants.{Always, AfterRegister, BeforeRegister}
+use Rattle.std.specs.Prelude.{ℕ, Bool, true, false, not, ◌&&◌, ◌==◌, Option, None, Some, List, [], ◌∷◌, ◌++◌, if◌then◌else◌, filter, slice_get}
+use Rattle.pld_device.specs.Macrocells.{pin_complements}
 use Rattle.pld_device.specs.Table.{Table}
 use Rattle.abel_tree.specs.Assigned.{Assigned, named_of, sections_assign, is_clocked_target}
 use Rattle.abel_tree.specs.Entries.{Entry, find, is_signal, names_any}
@@ -29,14 +28,10 @@ sections_refused t before (x ∷ xs) =
 
 -- ---- registers that the device can't buffer
 
--- each register's pin is the complement of Q: the device has registers, and complements at every pin
+-- each register's pin is the complement of Q: the device has registers, and complements at their pins with no fuse that
+-- says so
 abbrev pub always_inverts : Table → Bool
-always_inverts t = not (t.clock == 0) && is_always t.flip
-  where
-    is_always : Flip → Bool
-    is_always Always = not false
-    is_always AfterRegister = false
-    is_always BeforeRegister = false
+always_inverts t = not (t.clock == 0) && pin_complements t.flip true false
 
 -- the names of a declaration whose strings say `buffer`, of those that stand behind these names
 abbrev pub buffered : List Entry → Declaration → List GivenName

@@ -17,8 +17,6 @@ mod spans;
 mod statements;
 mod strings;
 mod table;
-#[cfg(test)]
-mod tests;
 mod uses;
 mod walk;
 
