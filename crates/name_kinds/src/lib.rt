@@ -8,8 +8,6 @@ mod sections;
 mod statements;
 mod sweep;
 mod targets;
-#[cfg(test)]
-mod tests;
 mod transitions;
 
 pub use kinds::settle;
