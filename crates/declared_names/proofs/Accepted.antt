@@ -1,5 +1,5 @@
 -- Where nothing is refused of a module, its names are sound, and each name that is used is known.
-use Rattle.std.proofs.Common.{◌≡◌, true, List, [], ◌∷◌, ◌++◌, map, zip, drop, length, refl, sym, ap, subst, ◌∙◌, append_assoc}
+use Rattle.std.proofs.Common.{◌≡◌, true, List, [], ◌∷◌, ◌++◌, map, zip, drop, length, refl, sym, ap, ap₂, subst, ◌∙◌, append_assoc}
 use Rattle.std.proofs.lemmas.List.{append-nil}
 use Rattle.std.proofs.lemmas.List.Sums.{fold-append}
 use Rattle.std.proofs.Math.Seq.{drop-append_seam}
@@ -25,7 +25,7 @@ use Rattle.declared_names.proofs.SoundEntries.{AreSound, AreNamedKinds, sound_ap
 
 -- ---- one declaration
 
-pins_added : (es : List Entry) (names : List Item) (numbers : List Span) (attributes : List Word) → with_declaration es (SomePins names numbers attributes) ≡ es ++ pins_list (all_said attributes) (given_names names) (numbers_of (length (given_names names)) numbers)
+pub pins_added : (es : List Entry) (names : List Item) (numbers : List Span) (attributes : List Word) → with_declaration es (SomePins names numbers attributes) ≡ es ++ pins_list (all_said attributes) (given_names names) (numbers_of (length (given_names names)) numbers)
 pins_added es names numbers attributes =
     let w = all_said attributes in
     let xs = given_names names in
@@ -37,7 +37,7 @@ sound_rest t es d new e named s h =
     subst (AreSound t.pins []) (sym e)
     (sound_append t.pins [] es new s (new_sound t es es new (extends_same es) named (sym (ap (names_refused t es) (ap (drop (length es)) e ∙ drop-append_seam es new)) ∙ h)))
 
-sound_declaration : (t : Table) (before : List Declaration) (es : List Entry) (d : Declaration) → AreSound t.pins [] es → parts_refused before es d ≡ [] → names_refused t es (added es d) ≡ [] → AreSound t.pins [] (with_declaration es d)
+pub sound_declaration : (t : Table) (before : List Declaration) (es : List Entry) (d : Declaration) → AreSound t.pins [] es → parts_refused before es d ≡ [] → names_refused t es (added es d) ≡ [] → AreSound t.pins [] (with_declaration es d)
 sound_declaration t before es (ADevice name text) s p h = sound_rest t es (ADevice name text) (entry name.text name.place ADeviceName no_words ∷ []) (append-nil (declared es (ADevice name text))) (tt, tt) s h
 sound_declaration t before es (SomePins names numbers attributes) s p h =
     let ns = numbers_of (length (given_names names)) numbers in
@@ -81,7 +81,7 @@ declaration_known before es (DontCareFor directive) p = refl
 
 -- ---- declarations
 
-behind_push : (ds : List Declaration) (d : Declaration) → names_behind (ds ++ d ∷ []) ≡ with_declaration (names_behind ds) d
+pub behind_push : (ds : List Declaration) (d : Declaration) → names_behind (ds ++ d ∷ []) ≡ with_declaration (names_behind ds) d
 behind_push ds d = fold-append with_declaration [] ds (d ∷ [])
 
 extends_behind : (before rest : List Declaration) → Extends (names_behind before) (names_behind (before ++ rest))
@@ -109,6 +109,14 @@ declarations_known t before (d ∷ rest) h =
     (named_more (names_behind before) whole (declaration_uses d) (extends_behind before (d ∷ rest)) (declaration_known before (names_behind before) d (none_left (parts_refused before (names_behind before) d) _ here)))
     (subst (λ l. are_named (names_behind l) (declarations_uses rest) ≡ true) (append_assoc before (d ∷ []) rest) (declarations_known t (before ++ d ∷ []) rest (none_right (declaration_refused t before d) _ h)))
 
+refused_append : (t : Table) (before ds es : List Declaration) → declarations_refused t before (ds ++ es) ≡ declarations_refused t before ds ++ declarations_refused t (before ++ ds) es
+refused_append t before [] es = ap (λ l. declarations_refused t l es) (sym (append-nil before))
+refused_append t before (d ∷ ds) es =
+    let here = declaration_refused t before d in
+    let rest = declarations_refused t (before ++ d ∷ []) ds in
+    ap (λ l. here ++ l) (refused_append t (before ++ d ∷ []) ds es ∙ ap (λ l. rest ++ declarations_refused t l es) (append_assoc before (d ∷ []) ds))
+    ∙ sym (append_assoc here rest (declarations_refused t (before ++ d ∷ ds) es))
+
 -- ---- sections
 
 -- behind these declarations the others and these uses are accepted
@@ -116,6 +124,7 @@ pub record Accepted (t : Table) (before ds : List Declaration) (us : List Use) :
   pub settled : Settled t (before ++ ds)
   pub sound : AreSound t.pins [] (names_behind (before ++ ds))
   pub known : are_named (names_behind (before ++ ds)) us ≡ true
+  pub unrefused : declarations_refused t before ds ≡ []
 
 other_accepted : (t : Table) (before ds : List Declaration) (us vs : List Use) → uses_refused (names_behind before) us ≡ [] → Accepted t before ds vs → Accepted t before ds (us ++ vs)
 other_accepted t before ds us vs h a = record {
@@ -124,6 +133,7 @@ other_accepted t before ds us vs h a = record {
   known =
       named_append (names_behind (before ++ ds)) us vs
       (named_more (names_behind before) (names_behind (before ++ ds)) us (extends_behind before ds) (uses_known (names_behind before) us h)) a.known;
+  unrefused = a.unrefused;
 }
 
 more_accepted : (t : Table) (before ds es : List Declaration) (us : List Use) → declarations_refused t before ds ≡ [] → Accepted t (before ++ ds) es us → Accepted t before (ds ++ es) (declarations_uses ds ++ us)
@@ -137,6 +147,7 @@ more_accepted t before ds es us h a =
           subst (λ l. are_named (names_behind l) (declarations_uses ds ++ us) ≡ true) whole
           (named_append all (declarations_uses ds) us
           (named_more (names_behind (before ++ ds)) all (declarations_uses ds) (extends_behind (before ++ ds) es) (declarations_known t before ds h)) a.known);
+      unrefused = refused_append t before ds es ∙ ap₂ (λ l r. l ++ r) h a.unrefused;
     }
 
 uses_then : (t : Table) (before : List Declaration) (xs : List SectionTree) (us : List Use) → (sections_refused t before xs ≡ [] → Accepted t before (section_declarations xs) (sections_uses xs)) → uses_refused (names_behind before) us ++ sections_refused t before xs ≡ [] → Accepted t before (section_declarations xs) (us ++ sections_uses xs)
@@ -148,6 +159,7 @@ sections_accepted t before [] s a h = record {
   settled = subst (Settled t) (sym (append-nil before)) s;
   sound = subst (λ l. AreSound t.pins [] (names_behind l)) (sym (append-nil before)) a;
   known = refl;
+  unrefused = refl;
 }
 sections_accepted t before (Declarations ds ∷ xs) s a h =
     let one = none_left (declarations_refused t before ds) _ h in
@@ -173,4 +185,5 @@ module_accepted t m h =
       known =
           named_append all (declarations_uses m.decls) (sections_uses m.sections)
           (named_more (names_behind m.decls) all (declarations_uses m.decls) (extends_behind m.decls (section_declarations m.sections)) (declarations_known t [] m.decls one)) a.known;
+      unrefused = refused_append t [] m.decls (section_declarations m.sections) ∙ ap₂ (λ l r. l ++ r) one a.unrefused;
     }

@@ -35,7 +35,7 @@ after_kept t ks s (e ∷ es) =
 
 -- ---- one name
 
-abbrev registered_by : List Assigned → ℕ → Option Entry → Bool
+abbrev pub registered_by : List Assigned → ℕ → Option Entry → Bool
 registered_by found s None = false
 registered_by found s (Some e) = is_signal e.kind && is_registered e.words (is_clocked_target found s)
 
@@ -60,10 +60,10 @@ settled_at t flip found s (e ∷ es) zero =
 settled_at t flip found s (e ∷ es) (suc n) =
     settled_at t flip found (suc s) es n ∙ ap (λ k. registered_by found k (slice_get es n)) (plus_suc s n)
 
-no_plus : (n : ℕ) → 0 + n ≡ n
+pub no_plus : (n : ℕ) → 0 + n ≡ n
 no_plus n = omega arith
 
-declared_at : (found : List Assigned) (es : List Entry) (n : ℕ) → registered_by found n (slice_get es n) ≡ is_register_at found es (Some n)
+pub declared_at : (found : List Assigned) (es : List Entry) (n : ℕ) → registered_by found n (slice_get es n) ≡ is_register_at found es (Some n)
 declared_at found es n = by (slice_get es n) refl
   where
     by : (o : Option Entry) → slice_get es n ≡ o → registered_by found n o ≡ is_register_at found es (Some n)

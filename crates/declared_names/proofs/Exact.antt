@@ -19,10 +19,13 @@ use Rattle.decls.specs.NameRefusals.{first_name_refusal, name_refusals, module_b
 use Rattle.decls.specs.Numbers.{buffered_names}
 use Rattle.decls.specs.Shown.{kept}
 use Rattle.decls.proofs.NoRefusals.{none_left}
+use Rattle.declared_names.specs.AcceptedNames.{PinsAreApart, BuffersAreAllowed}
 use Rattle.declared_names.specs.Registers.{refused_for}
 use Rattle.declared_names.proofs.Buffers.{refused_same}
 use Rattle.declared_names.proofs.Accepted.{Accepted, module_accepted}
 use Rattle.declared_names.proofs.Alike.{alike_settled, extends_alike, named_more}
+use Rattle.declared_names.proofs.Behind.{module_buffers}
+use Rattle.declared_names.proofs.Placed.{pins_apart}
 use Rattle.declared_names.proofs.SoundEntries.{AreSound, sound_alike, sound_at}
 
 -- the first refusal of all, by what was read, settled and refused of registers
@@ -66,8 +69,14 @@ module _ (t : Table) (m : ModuleTree) (h : name_refusals t m ≡ []) where
     pub names_sound : n.device ≡ t.name → SoundNames t.name t.pins n
     names_sound d = record {
       device = d;
-      kinds = sound_at t.pins [] (entries_of n) (subst (AreSound t.pins []) (sym same) entries_sound);
+      kinds = λ k e is. (sound_at t.pins [] (entries_of n) (subst (AreSound t.pins []) (sym same) entries_sound) k e is).kind;
     }
+
+    pub names_apart : PinsAreApart (entries_of n)
+    names_apart = subst PinsAreApart (sym same) (pins_apart t.pins (names_of t m) entries_sound)
+
+    pub names_allowed : BuffersAreAllowed t (entries_of n)
+    names_allowed = subst (BuffersAreAllowed t) (sym same) (module_buffers t m h)
 
     pub names_known : IsNamed n m
     names_known = subst (λ es. are_named es (module_uses m) ≡ true) (sym same) entries_known

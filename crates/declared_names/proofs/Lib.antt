@@ -1,6 +1,10 @@
 pub mod Accepted
 pub mod Alike
+pub mod Among
+pub mod Behind
 pub mod Buffers
 pub mod Exact
 pub mod Named
+pub mod Placed
+pub mod SaidBuffers
 pub mod SoundEntries

@@ -11,7 +11,7 @@ use Rattle.decls.specs.declared.fault.NameFault.TheVariants as fault
 use Rattle.decls.specs.Refused.{first_undeclared, use_refused, uses_refused}
 use Rattle.decls.proofs.NoRefusals.{none_left, none_right}
 
-names_known : (test : Kind → Bool) (es : List Entry) (p : Place) (names : List (List ℕ)) → first_undeclared test es p names ≡ [] → list_all (names_any test es) names ≡ true
+pub names_known : (test : Kind → Bool) (es : List Entry) (p : Place) (names : List (List ℕ)) → first_undeclared test es p names ≡ [] → list_all (names_any test es) names ≡ true
 names_known test es p [] h = refl
 names_known test es p (name ∷ names) h = by (names_any test es name) h (names_known test es p names)
   where

@@ -1,40 +1,53 @@
 -- Names that are sound by the names before them.
-use Rattle.std.proofs.Common.{◌≡◌, ℕ, zero, suc, ◌<◌, ◌≤◌, ◌==◌, nat_le, nat_lt, Bool, true, false, not, ◌&&◌, if◌then◌else◌, Some, List, [], ◌∷◌, ◌++◌, zip, take, refl, sym, subst, ◌∙◌, append_assoc, arith}
-use Rattle.std.specs.Prelude.{slice_get}
+use Rattle.std.proofs.Common.{◌≡◌, ℕ, zero, suc, ◌<◌, ◌≤◌, ◌==◌, nat_le, nat_lt, Bool, true, false, not, ◌&&◌, ◌||◌, if◌then◌else◌, Some, List, [], ◌∷◌, ◌++◌, zip, take, refl, sym, ap, ap₂, subst, ◌∙◌, append_assoc, arith}
+use Rattle.std.specs.Prelude.{is_some, slice_get}
 use Rattle.std.proofs.lemmas.Bool.Decides.{nat_tests}
 use Rattle.std.proofs.lemmas.List.{append-nil}
 use Rattle.std.proofs.lemmas.List.Folds.{list_all-append}
 use Rattle.pld_device.specs.Table.{Table}
 use Rattle.abel_tree.specs.declared.words.Word.{Word}
-use Rattle.abel_tree.specs.Entries.{Kind, APin, ANode, AConstant, ADeviceName, Words, Entry}
+use Rattle.abel_tree.specs.Entries.{Kind, APin, ANode, AConstant, ADeviceName, Words, Entry, kind_of}
 use Rattle.abel_tree.specs.SoundNames.{IsSoundKind, is_named, are_named}
 use Rattle.abel_tree.specs.Tree.{Tree}
 use Rattle.abel_tree.specs.Uses.{uses, all_uses}
 use Rattle.abel_meaning.specs.Declarations.{GivenName, node_entries, constant_entries}
 use Rattle.decls.specs.declared.fault.NameFault.TheVariants as fault
-use Rattle.decls.specs.NamesBefore.{is_taken}
+use Rattle.decls.specs.NamesBefore.{is_on_pin, is_taken}
 use Rattle.decls.specs.Refused.{refused_if, is_signal_pin, number_refused, name_refused, names_refused}
 use Rattle.decls.proofs.ManyGo.{pins_list}
 use Rattle.decls.proofs.NoRefusals.{none_left, none_right, not_refused}
-use Rattle.declared_names.proofs.Alike.{Alike, alike_push, Extends, extends_alike, extends_append, extends_then, named_more, both_true}
+use Rattle.declared_names.proofs.Alike.{Alike, alike_kinds, alike_push, Extends, extends_alike, extends_append, extends_then, named_more, both_true}
 
--- each name is sound by these and by those before it
+-- no earlier name has the pin
+abbrev pub IsNewPin : (earlier : List Entry) → Kind → Type 0
+IsNewPin earlier (APin pin negated) = is_taken earlier pin ≡ false
+IsNewPin earlier (ANode number) = Unit {0}
+IsNewPin earlier (AConstant value) = Unit {0}
+IsNewPin earlier ADeviceName = Unit {0}
+
+-- a name is sound behind these: what it is declared as, its pin, and that none of them is the same
+pub record IsSoundEntry (pins : ℕ) (earlier : List Entry) (e : Entry) : Type 0 where
+  pub kind : IsSoundKind pins earlier e.kind
+  pub pin : IsNewPin earlier e.kind
+  pub name : is_some (kind_of earlier e.name) ≡ false
+
+-- each name is sound behind these and those before it
 abbrev pub AreSound : (pins : ℕ) → (earlier : List Entry) → List Entry → Type 0
 AreSound pins earlier [] = Unit {0}
-AreSound pins earlier (e ∷ es) = IsSoundKind pins earlier e.kind × AreSound pins (earlier ++ e ∷ []) es
+AreSound pins earlier (e ∷ es) = IsSoundEntry pins earlier e × AreSound pins (earlier ++ e ∷ []) es
 
 pub sound_append : (pins : ℕ) (earlier xs ys : List Entry) → AreSound pins earlier xs → AreSound pins (earlier ++ xs) ys → AreSound pins earlier (xs ++ ys)
 sound_append pins earlier [] ys s t = subst (λ l. AreSound pins l ys) (append-nil earlier) t
 sound_append pins earlier (x ∷ xs) ys s t =
     (s.0, sound_append pins (earlier ++ x ∷ []) xs ys s.1 (subst (λ l. AreSound pins l ys) (sym (append_assoc earlier (x ∷ []) xs)) t))
 
-pub sound_at : (pins : ℕ) (earlier es : List Entry) → AreSound pins earlier es → (k : ℕ) (e : Entry) → slice_get es k ≡ Some e → IsSoundKind pins (earlier ++ take k es) e.kind
+pub sound_at : (pins : ℕ) (earlier es : List Entry) → AreSound pins earlier es → (k : ℕ) (e : Entry) → slice_get es k ≡ Some e → IsSoundEntry pins (earlier ++ take k es) e
 sound_at pins earlier [] s k e h = absurd cc
 sound_at pins earlier (x ∷ es) s zero e h =
     let same : x ≡ e = cc in
-    subst (λ (y : Entry). IsSoundKind pins (earlier ++ []) y.kind) same (subst (λ l. IsSoundKind pins l x.kind) (sym (append-nil earlier)) s.0)
+    subst (IsSoundEntry pins (earlier ++ [])) same (subst (λ l. IsSoundEntry pins l x) (sym (append-nil earlier)) s.0)
 sound_at pins earlier (x ∷ es) s (suc k) e h =
-    subst (λ l. IsSoundKind pins l e.kind) (append_assoc earlier (x ∷ []) (take k es)) (sound_at pins (earlier ++ x ∷ []) es s.1 k e h)
+    subst (λ l. IsSoundEntry pins l e) (append_assoc earlier (x ∷ []) (take k es)) (sound_at pins (earlier ++ x ∷ []) es s.1 k e h)
 
 -- ---- names of the same kinds are as sound
 
@@ -44,12 +57,31 @@ kind_more pins es fs (ANode number) f s = s
 kind_more pins es fs (AConstant value) f s = named_more es fs (uses value) f s
 kind_more pins es fs ADeviceName f s = tt
 
+taken_alike : (xs ys : List Entry) (n : ℕ) → Alike xs ys → is_taken xs n ≡ is_taken ys n
+taken_alike [] [] n a = refl
+taken_alike [] (y ∷ ys) n a = absurd a
+taken_alike (x ∷ xs) [] n a = absurd a
+taken_alike (x ∷ xs) (y ∷ ys) n a = ap₂ (λ b c. b || c) (ap (is_on_pin n) a.1.0) (taken_alike xs ys n a.1.1)
+
+pin_alike : (es fs : List Entry) (k : Kind) → Alike es fs → IsNewPin es k → IsNewPin fs k
+pin_alike es fs (APin pin negated) a s = sym (taken_alike es fs pin a) ∙ s
+pin_alike es fs (ANode number) a s = tt
+pin_alike es fs (AConstant value) a s = tt
+pin_alike es fs ADeviceName a s = tt
+
+entry_alike : (pins : ℕ) (es fs : List Entry) (x y : Entry) → Alike es fs → x.name ≡ y.name → x.kind ≡ y.kind → IsSoundEntry pins es x → IsSoundEntry pins fs y
+entry_alike pins es fs x y a n k s = record {
+  kind = subst (IsSoundKind pins fs) k (kind_more pins es fs x.kind (extends_alike es fs a) s.kind);
+  pin = subst (IsNewPin fs) k (pin_alike es fs x.kind a s.pin);
+  name = sym (ap is_some (alike_kinds es fs a x.name ∙ ap (kind_of fs) n)) ∙ s.name;
+}
+
 pub sound_alike : (pins : ℕ) (earlier others xs ys : List Entry) → Alike earlier others → Alike xs ys → AreSound pins earlier xs → AreSound pins others ys
 sound_alike pins earlier others [] [] a b s = tt
 sound_alike pins earlier others [] (y ∷ ys) a b s = absurd b
 sound_alike pins earlier others (x ∷ xs) [] a b s = absurd b
 sound_alike pins earlier others (x ∷ xs) (y ∷ ys) a b s = (
-  subst (IsSoundKind pins others) b.1.0 (kind_more pins earlier others x.kind (extends_alike earlier others a) s.0),
+  entry_alike pins earlier others x y a b.0 b.1.0 s.0,
   sound_alike pins (earlier ++ x ∷ []) (others ++ y ∷ []) xs ys (alike_push earlier others x y a b.0 b.1.0) b.1.1 s.1,
 )
 
@@ -85,11 +117,26 @@ one_sound t base es e (ANode n) f named h = good_node n (not_refused (nat_le 128
 one_sound t base es e (AConstant v) f named h = named_more base es (uses v) f named
 one_sound t base es e ADeviceName f named h = tt
 
+one_new : (t : Table) (es : List Entry) (e : Entry) (k : Kind) → number_refused t es e k ≡ [] → IsNewPin es k
+one_new t es e (APin n negated) h = by (is_signal_pin t n) h
+  where
+    by : (b : Bool) → (if b then refused_if (is_taken es n) (fault.PinTaken e.place e.name) else fault.BadPin e.place e.name ∷ []) ≡ [] → is_taken es n ≡ false
+    by true g = not_refused (is_taken es n) (fault.PinTaken e.place e.name) g
+    by false g = absurd cc
+one_new t es e (ANode n) h = tt
+one_new t es e (AConstant v) h = tt
+one_new t es e ADeviceName h = tt
+
 pub new_sound : (t : Table) (base es new : List Entry) → Extends base es → AreNamedKinds base new → names_refused t es new ≡ [] → AreSound t.pins es new
 new_sound t base es [] f named h = tt
 new_sound t base es (e ∷ new) f named h =
-    let here = none_left (name_refused t es e) _ h in (
-      one_sound t base es e e.kind f named.0 (none_left (number_refused t es e e.kind) _ here),
+    let here = none_left (name_refused t es e) _ h in
+    let number = none_left (number_refused t es e e.kind) _ here in (
+      record {
+        kind = one_sound t base es e e.kind f named.0 number;
+        pin = one_new t es e e.kind number;
+        name = not_refused (is_some (kind_of es e.name)) (fault.Redeclared e.place e.name) (none_right (number_refused t es e e.kind) _ here);
+      },
       new_sound t base (es ++ e ∷ []) new (extends_then base es (es ++ e ∷ []) f (extends_append es (e ∷ []))) named.1 (none_right (name_refused t es e) _ h),
     )
 

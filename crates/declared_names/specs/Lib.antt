@@ -1,1 +1,2 @@
+pub mod AcceptedNames
 pub mod Registers

@@ -7,6 +7,7 @@ ghost use Rattle.abel_tree.specs.View.{view_module};
 ghost use Rattle.abel_meaning.specs.Kinds.{names_of};
 ghost use Rattle.decls.specs.declared.fault.NameFault.TheVariants.{OutOfMemory};
 ghost use Rattle.decls.specs.NameRefusals.{first_name_refusal, name_refusals};
+ghost use Rattle.declared_names.specs.AcceptedNames.{BuffersAreAllowed, PinsAreApart};
 
 use crate::registers::first_refused;
 use abel_tree::{Module, Names};
@@ -22,6 +23,8 @@ pub fn declare<D: Device>(alloc: Global, source: &Module) -> Result<Names, NameF
     ensures names { IfOk result (λ n. entries_of n ≡ names_of D.table (view_module source.now)) }
     ensures accepted { IfOk result (λ n. name_refusals D.table (view_module source.now) ≡ []) }
     ensures sound { IfOk result (λ n. SoundNames D.table.name D.table.pins n) }
+    ensures apart { IfOk result (λ n. PinsAreApart (entries_of n)) }
+    ensures buffers { IfOk result (λ n. BuffersAreAllowed D.table (entries_of n)) }
     ensures named { IfOk result (λ n. IsNamed n (view_module source.now)) }
 
     // Only want of memory comes before a refusal.

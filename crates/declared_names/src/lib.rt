@@ -3,7 +3,5 @@
 
 mod declaring;
 mod registers;
-#[cfg(test)]
-mod tests;
 
 pub use declaring::declare;

@@ -62,14 +62,14 @@ fn with_registers(
     first
 }
 
-/// Whether the device has registers and complements each at its pin.
+/// Whether the device has registers and always complements them at their pins.
 fn always_inverts<D: Device>() -> bool
     ensures { result ≡ always_inverts D.table }
 {
     let always = match D::FLIP {
         Flip::Always => true,
         Flip::AfterRegister => false,
-        Flip::BeforeRegister => false,
+        Flip::BeforeRegister => true,
     };
     D::CLOCK != 0 && always
 }

@@ -7,7 +7,7 @@ use Rattle.abel_meaning.specs.Kinds.{with_assigned}
 use Rattle.decls.specs.FaultOrder.{name_order}
 use Rattle.decls.specs.NameRefusals.{first_name_refusal}
 use Rattle.declared_names.specs.Registers.{refused_for}
-use Rattle.declared_names.proofs.Exact.{first_same, nothing_refused, settled_same, names_sound, names_known}
+use Rattle.declared_names.proofs.Exact.{first_same, nothing_refused, settled_same, names_sound, names_apart, names_allowed, names_known}
 use Rattle.declared_names.proofs.declaring.declare.Goals as goal
 
 pub returns : goal.returns
@@ -26,6 +26,8 @@ returns g c =
       names = names;
       accepted = none;
       sound = names_sound t m none (record { list = c.from_vec.result; device = c.NAME.result }) names (c.NAME.ensures ∙ g.met.D.Device.name_is);
+      apart = names_apart t m none (record { list = c.from_vec.result; device = c.NAME.result }) names;
+      buffers = names_allowed t m none (record { list = c.from_vec.result; device = c.NAME.result }) names;
       named = names_known t m none (record { list = c.from_vec.result; device = c.NAME.result }) names;
       refused = tt;
     }

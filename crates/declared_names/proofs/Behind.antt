@@ -1,0 +1,124 @@
+-- Where nothing is refused, a register follows Q only where the device complements behind it.
+use Rattle.std.proofs.Common.{◌≡◌, ◌≢◌, ℕ, zero, suc, ◌+◌, ◌==◌, Bool, true, false, not, ◌&&◌, ◌||◌, if◌then◌else◌, Option, Some, None, List, [], ◌∷◌, ◌++◌, get_or, option_map, refl, sym, ap, ap₂, subst, ◌∙◌, arith}
+use Rattle.std.specs.Prelude.{slice_get, unwrap_or}
+use Rattle.std.specs.List.{All, list_all}
+use Rattle.std.proofs.lemmas.Bool.{and_parts, true≢false}
+use Rattle.std.proofs.lemmas.Bool.Decides.{nat_tests}
+use Rattle.std.proofs.lemmas.List.Elements.{All-nil, All-get_or}
+use Rattle.std.proofs.lemmas.Option.{get_or_from_slice_get, slice_get_within, unwrap_or-slice_get}
+use Rattle.pld_device.specs.declared.flip.Flip.{Flip}
+use Rattle.pld_device.specs.declared.flip.Flip.TheVariants.{Always, AfterRegister, BeforeRegister}
+use Rattle.pld_device.specs.Macrocells.{pin_complements}
+use Rattle.pld_device.specs.Table.{Table}
+use Rattle.abel_tree.specs.Assigned.{Assigned, named_of, sections_assign, is_assigned, is_clocked_target}
+use Rattle.abel_tree.specs.Entries.{Entry, find, is_signal}
+use Rattle.abel_tree.specs.Tree.{ModuleTree}
+use Rattle.abel_meaning.specs.Declarations.{GivenName, declared_names}
+use Rattle.abel_meaning.specs.Designs.{no_name, is_stored}
+use Rattle.abel_meaning.specs.Kinds.{is_buffer_by_default, is_registered, is_buffer, settled_words, with_kind, with_kinds, names_of}
+use Rattle.decls.specs.declared.fault.NameFault.TheVariants as fault
+use Rattle.decls.specs.AllDeclarations.{all_declarations}
+use Rattle.decls.specs.NameRefusals.{always_inverts, all_buffered, is_register_at, buffers_refused, module_buffers_refused, names_once, read_refusals, name_refusals}
+use Rattle.decls.proofs.NoRefusals.{none_left, none_right}
+use Rattle.declared_names.specs.AcceptedNames.{BuffersAreAllowed}
+use Rattle.declared_names.proofs.Accepted.{module_accepted}
+use Rattle.declared_names.proofs.Among.{of_among}
+use Rattle.declared_names.proofs.Buffers.{no_plus, registered_by, declared_at}
+use Rattle.declared_names.proofs.Placed.{found_at}
+use Rattle.declared_names.proofs.SaidBuffers.{IsTold, declarations_told}
+use Rattle.declared_names.proofs.SoundEntries.{AreSound}
+
+-- none of these names is a register's
+none_registered : (found : List Assigned) (es : List Entry) (xs : List GivenName) → buffers_refused found es xs ≡ [] → list_all (λ (x : GivenName). not (is_register_at found es (find es x.name))) xs ≡ true
+none_registered found es [] h = refl
+none_registered found es (x ∷ xs) h = by (is_register_at found es (find es x.name)) h (none_registered found es xs)
+  where
+    rest : Bool
+    rest = list_all (λ (y : GivenName). not (is_register_at found es (find es y.name))) xs
+
+    by : (b : Bool) → (if b then fault.BadAttribute x.place ∷ [] else []) ++ buffers_refused found es xs ≡ [] → (buffers_refused found es xs ≡ [] → rest ≡ true) → (not b && rest) ≡ true
+    by true g more = absurd cc
+    by false g more = more g
+
+kinds_at : (flip : Flip) (found : List Assigned) (k : ℕ) (es : List Entry) (s : ℕ) → slice_get (with_kinds flip found k es) s ≡ option_map (with_kind flip found (k + s)) (slice_get es s)
+kinds_at flip found k [] zero = refl
+kinds_at flip found k [] (suc s) = refl
+kinds_at flip found k (e ∷ es) zero = ap (λ n. Some (with_kind flip found n e)) (start k)
+  where
+    start : (n : ℕ) → n ≡ n + 0
+    start n = omega arith
+kinds_at flip found k (e ∷ es) (suc s) = kinds_at flip found (suc k) es s ∙ ap (λ n. option_map (with_kind flip found n) (slice_get es s)) (step k s)
+  where
+    step : (n j : ℕ) → suc n + j ≡ n + suc j
+    step n j = omega arith
+
+-- a settled name, or what stands past the end
+pub name_at_or : (flip : Flip) (found : List Assigned) (es : List Entry) (s : ℕ) (o : Option Entry) → slice_get es s ≡ o → get_or (with_kinds flip found 0 es) s no_name ≡ unwrap_or (option_map (with_kind flip found s) o) no_name
+name_at_or flip found es s o is =
+    sym (unwrap_or-slice_get (with_kinds flip found 0 es) s no_name)
+    ∙ ap (λ (x : Option Entry). unwrap_or x no_name) (kinds_at flip found 0 es s ∙ ap₂ (λ n (x : Option Entry). option_map (with_kind flip found n) x) (no_plus s) is)
+
+inverts : (t : Table) → t.clock ≢ 0 → pin_complements t.flip true false ≡ true → always_inverts t ≡ true
+inverts t clock complements = ap₂ (λ a b. not a && b) (other t.clock clock) complements
+  where
+    other : (n : ℕ) → n ≢ 0 → (n == 0) ≡ false
+    other n apart = grind (arith, nat_tests)
+
+-- what is buffer, but not by default, was said to be
+was_said : (said other default : Bool) → default ≡ false → (said || (other && default)) ≡ true → said ≡ true
+was_said true other default none is = refl
+was_said false true default none is = absurd (true≢false (sym is ∙ none))
+was_said false false default none is = absurd cc
+
+module _ (t : Table) (found : List Assigned) (es : List Entry) (xs : List GivenName) (sound : AreSound t.pins [] es) (told : All (IsTold xs) es) (none : always_inverts t ≡ true → buffers_refused found es xs ≡ []) where
+  told_at : (s : ℕ) (e : Entry) → slice_get es s ≡ Some e → IsTold xs e
+  told_at s e is = subst (IsTold xs) (get_or_from_slice_get es s e e is) (All-get_or (IsTold xs) es s e (slice_get_within es s e is) told)
+
+  -- a name of which `buffer` is said is no register
+  no_register : always_inverts t ≡ true → (s : ℕ) (e : Entry) → slice_get es s ≡ Some e → e.words.buffer ≡ true → is_registered e.words (is_clocked_target found s) ≡ true → ⊥
+  no_register inverted s e is said registered =
+      let both = told_at s e is said in
+      let quiet = of_among (λ name. not (is_register_at found es (find es name))) xs e.name (none_registered found es xs (none inverted)) both.1 in
+      let here : registered_by found s (Some e) ≡ true = ap₂ (λ a b. a && b) both.0 registered in
+      let at : is_register_at found es (find es e.name) ≡ true =
+      ap (is_register_at found es) (found_at t.pins es sound s e is)
+      ∙ (sym (declared_at found es s) ∙ (ap (registered_by found s) is ∙ here)) in
+      true≢false (sym quiet ∙ ap not at)
+
+  not_behind : (flip : Flip) → always_inverts t ≡ true → is_buffer_by_default flip ≡ false → (s : ℕ) (e : Entry) → slice_get es s ≡ Some e → is_stored (with_kind flip found s e) ≡ true → (with_kind flip found s e).words.buffer ≡ true → ⊥
+  not_behind flip inverted default s e is = by (is_signal e.kind) refl
+    where
+      by : (b : Bool) → is_signal e.kind ≡ b
+          → ((if b then settled_words e.words (is_registered e.words (is_clocked_target found s)) (is_buffer flip e.words) else e.words).registered && is_assigned found s) ≡ true
+          → (if b then settled_words e.words (is_registered e.words (is_clocked_target found s)) (is_buffer flip e.words) else e.words).buffer ≡ true → ⊥
+      by true signal stored follows =
+          no_register inverted s e is (was_said e.words.buffer (not e.words.invert) (is_buffer_by_default flip) default follows)
+          (and_parts (is_registered e.words (is_clocked_target found s)) (is_assigned found s) stored).0
+      by false other stored follows = true≢false (sym (told_at s e is follows).0 ∙ other)
+
+  behind : (flip : Flip) → t.flip ≡ flip → t.clock ≢ 0 → (s : ℕ) (e : Entry) → slice_get es s ≡ Some e → is_stored (with_kind flip found s e) ≡ true → (with_kind flip found s e).words.buffer ≡ true → flip ≡ AfterRegister
+  behind Always same clock s e is stored follows = absurd (not_behind Always (inverts t clock (ap (λ f. pin_complements f true false) same)) refl s e is stored follows)
+  behind AfterRegister same clock s e is stored follows = refl
+  behind BeforeRegister same clock s e is stored follows = absurd (not_behind BeforeRegister (inverts t clock (ap (λ f. pin_complements f true false) same)) refl s e is stored follows)
+
+  pub allowed : BuffersAreAllowed t (with_kinds t.flip found 0 es)
+  allowed s stored follows clock = by (slice_get es s) refl
+    where
+      by : (o : Option Entry) → slice_get es s ≡ o → t.flip ≡ AfterRegister
+      by None is = absurd (true≢false (sym stored ∙ ap is_stored (name_at_or t.flip found es s None is)))
+      by (Some e) is =
+          let here = name_at_or t.flip found es s (Some e) is in
+          behind t.flip refl clock s e is (sym (ap is_stored here) ∙ stored) (sym (ap (λ (x : Entry). x.words.buffer) here) ∙ follows)
+
+-- ---- the module
+
+pub module_buffers : (t : Table) (m : ModuleTree) → name_refusals t m ≡ [] → BuffersAreAllowed t (names_of t m)
+module_buffers t m h =
+    let xs = all_buffered [] (all_declarations m) in
+    let all = module_accepted t m (none_left (read_refusals t m) (module_buffers_refused t m) h) in
+    let told = declarations_told t [] (all_declarations m) [] tt all.unrefused (All-nil (IsTold [])) in
+    let refused = λ (es : List Entry). buffers_refused (sections_assign (named_of es) m.sections) es xs in
+    allowed t (sections_assign (named_of (declared_names m)) m.sections) (declared_names m) xs
+    (subst (AreSound t.pins []) all.settled.names all.sound)
+    (subst (All (IsTold xs)) all.settled.names told)
+    (λ inverted. subst (λ es. refused es ≡ []) (all.settled.sure.once ∙ all.settled.names) (sym (ap (λ b. if b then refused (names_once m) else []) inverted) ∙ none_right (read_refusals t m) (module_buffers_refused t m) h))
