@@ -4,6 +4,8 @@
 #[cfg(test)]
 mod accepted;
 #[cfg(test)]
+mod devices;
+#[cfg(test)]
 mod outline;
 #[cfg(test)]
 mod rejected;

@@ -1,5 +1,5 @@
 use crate::outline::{fault_text, names_text};
-use crate::{accepted, rejected};
+use crate::{accepted, devices, rejected};
 use abel_lexer::scan;
 use abel_parser::parse;
 use abel_tree::{Module, Names};
@@ -42,6 +42,81 @@ fn declared(alloc: Global, module: &Module) -> Result<Names, NameFault> {
         DeviceName::P16R8 => declare::<Pal16R8>(alloc, module),
         DeviceName::GAL22V10 => declare::<Gal22V10>(alloc, module),
     }
+}
+
+#[test]
+fn devices_are_named_without_regard_to_case(rt: HostRuntime) -> Result<(), Fail> {
+    let alloc = rt.alloc();
+    for (declarations, expected) in devices::NAMED {
+        let source = format!(in alloc; "module m {declarations} end")?;
+        let module = parsed(alloc, source.as_bytes())?;
+        assert_eq!(rt; device_of(&module).ok(), Some(expected), "{declarations}");
+    }
+    Ok(())
+}
+
+#[test]
+fn sources_without_a_device_are_refused(rt: HostRuntime) -> Result<(), Fail> {
+    let alloc = rt.alloc();
+    for marked in devices::UNKNOWN {
+        let (before, back) = marked.split_once('|').ok_or("no mark")?;
+        let source = format!(in alloc; "{before}{back}")?;
+        let module = parsed(alloc, source.as_bytes())?;
+        let Err(NameFault::UnknownDevice(place)) = device_of(&module) else {
+            return Err("no refusal".into());
+        };
+        assert_eq!(rt; place, behind(before.len()), "{marked}");
+    }
+    Ok(())
+}
+
+/// A constant with a row of 20,000 operators, the last of them before a name that isn't declared.
+fn long_row(alloc: Global) -> Result<String, Fail> {
+    let mut source = front(alloc, "P16R8")?;
+    source.push_str("a pin 2; k = ")?;
+    for _ in 0..20_000 {
+        source.push_str("a # ")?;
+    }
+    source.push_str("b; end")?;
+    Ok(source)
+}
+
+#[test]
+fn a_long_row_of_operators_needs_no_stack(rt: HostRuntime) -> Result<(), Fail> {
+    let alloc = rt.alloc();
+    let source = long_row(alloc)?;
+    let module = parsed(alloc, source.as_bytes())?;
+    let Err(NameFault::Undeclared(place, name)) = declared(alloc, &module) else {
+        return Err("no refusal".into());
+    };
+    assert_eq!(rt; name.bytes(), b"b".as_slice());
+    assert_eq!(rt; place, behind(source.len().saturating_sub("b; end".len())));
+    Ok(())
+}
+
+/// Two pins, and constants that are each a set of the one before it, twice; the last of them is assigned.
+fn doubling_constants(alloc: Global) -> Result<String, Fail> {
+    let mut source = front(alloc, "P16R8")?;
+    source.push_str("a pin 19; b pin 18; c0 = [a,a]; ")?;
+    for number in 1..40u32 {
+        let before = number.saturating_sub(1);
+        source.push_str(format!(in alloc; "c{number} = [c{before},c{before}]; ")?.as_str())?;
+    }
+    source.push_str("equations c39 := 1; end")?;
+    Ok(source)
+}
+
+#[test]
+fn constants_that_double_are_followed_once(rt: HostRuntime) -> Result<(), Fail> {
+    let alloc = rt.alloc();
+    let module = parsed(alloc, doubling_constants(alloc)?.as_bytes())?;
+    let Ok(names) = declared(alloc, &module) else {
+        return Err("a refusal".into());
+    };
+    let text = names_text(alloc, &names)?;
+    let expected = "u device; a pin 19 reg invert assigned; b pin 18 com invert; c0 constant; ";
+    assert!(rt; text.as_str().starts_with(expected), "{text}");
+    Ok(())
 }
 
 /// What stands before a row.
