@@ -6,7 +6,7 @@ use Rattle.abel_macros.specs.Turns.{Config, moved}
 use Rattle.abel_expand.specs.Runs.{turned, after, IsExpanded}
 
 -- nothing is left, and this is done
-record Ended (c : Config) (w : List ℕ) : Type 0 where
+pub record Ended (c : Config) (w : List ℕ) : Type 0 where
   pub rest : c.rest ≡ []
   pub done : c.done ≡ w
 
@@ -23,7 +23,7 @@ turned_still c w e =
     (record { rest = refl; done = append-nil c.done ∙ e.done }))
 
 -- and no number of turns does anything
-still : (text w : List ℕ) (n k : ℕ) → Ended (after n text) w → Ended (after (k + n) text) w
+pub still : (text w : List ℕ) (n k : ℕ) → Ended (after n text) w → Ended (after (k + n) text) w
 still text w n zero e =
     let none : n ≡ 0 + n = omega arith in
     subst (λ (i : ℕ). Ended (after i text) w) none e
