@@ -13,11 +13,13 @@ abbrev pub tail_text : Option (List ℕ) → List ℕ
 tail_text None = []
 tail_text (Some name) = codes " " ++ name
 
+-- what a line begins with
+abbrev pub line_head : List ℕ → Place → List ℕ
+line_head word p = codes "error " ++ (word ++ (codes " at " ++ (decimal p.line ++ (codes ":" ++ decimal p.column))))
+
 -- the line of the report
 abbrev pub told_line : Telling → List ℕ
-told_line t =
-    codes "error " ++ (t.word ++ (codes " at " ++ (decimal t.place.line
-    ++ (codes ":" ++ (decimal t.place.column ++ (tail_text t.name ++ codes "\n"))))))
+told_line t = line_head t.word t.place ++ (tail_text t.name ++ codes "\n")
 
 -- a refusal without a name, and with one
 abbrev pub plain : List ℕ → Place → Option Telling

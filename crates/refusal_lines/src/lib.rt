@@ -8,3 +8,5 @@ mod tests;
 mod words;
 
 pub use lines::{name_line, read_line, section_line};
+pub use telling::{begin_line, put_tail};
+pub use words::name_of;

@@ -3,7 +3,7 @@
 ghost use Rattle.std.specs.Prelude.{◌≡◌, ◌++◌, Some, IfOk, OnOk};
 ghost use Rattle.std.specs.Option.{option_map};
 ghost use Rattle.std.specs.Fmt.{decimal};
-ghost use Rattle.refusal_lines.specs.Told.{tail_text, told_line, plain, with_name_if};
+ghost use Rattle.refusal_lines.specs.Told.{line_head, tail_text, told_line, plain, with_name_if};
 
 use pld_base::{OutOfMemory, Place, put_decimal};
 use std::alloc::Global;
@@ -41,7 +41,7 @@ fn put_numbered(
 }
 
 /// Appends a blank and a name, where there is one.
-fn put_tail(text: &mut Vec<u8>, name: Option<&[u8]>) -> Result<(), OutOfMemory>
+pub fn put_tail(text: &mut Vec<u8>, name: Option<&[u8]>) -> Result<(), OutOfMemory>
     ensures { OnOk result (text.new.items ≡ text.old.items ++ tail_text (option_map (λ n. n.now) name.entry)) }
 {
     if let Some(name) = name {
@@ -49,6 +49,18 @@ fn put_tail(text: &mut Vec<u8>, name: Option<&[u8]>) -> Result<(), OutOfMemory>
         text.extend_from_slice(name)?;
     }
     Ok(())
+}
+
+/// `error WORD at LINE:COLUMN`, with which each line begins.
+pub fn begin_line(alloc: Global, word: &[u8], place: Place) -> Result<Vec<u8>, OutOfMemory>
+    ensures { IfOk result (λ line. line.items ≡ line_head word.now place) }
+{
+    let mut line = Vec::from_slice(alloc, b"error ")?;
+    line.extend_from_slice(word)?;
+    line.extend_from_slice(b" at ")?;
+    put_numbered(alloc, &mut line, place.line, b":")?;
+    put_numbered(alloc, &mut line, place.column, b"")?;
+    Ok(line)
 }
 
 impl<'a> Telling<'a> {
@@ -74,11 +86,7 @@ impl<'a> Telling<'a> {
     pub fn line(&self, alloc: Global) -> Result<Vec<u8>, OutOfMemory>
         ensures { IfOk result (λ line. line.items ≡ told_line self.now) }
     {
-        let mut line = Vec::from_slice(alloc, b"error ")?;
-        line.extend_from_slice(self.word)?;
-        line.extend_from_slice(b" at ")?;
-        put_numbered(alloc, &mut line, self.place.line, b":")?;
-        put_numbered(alloc, &mut line, self.place.column, b"")?;
+        let mut line = begin_line(alloc, self.word, self.place)?;
         put_tail(&mut line, self.name)?;
         line.push(b'\n')?;
         Ok(line)

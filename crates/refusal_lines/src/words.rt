@@ -98,7 +98,7 @@ pub(crate) fn of_names(fault: &NameFault) -> Option<Telling<'_>>
 }
 
 /// The name of a number.
-fn name_of(names: &Names, number: u32) -> Option<&[u8]>
+pub fn name_of(names: &Names, number: u32) -> Option<&[u8]>
     ensures { option_map (λ n. n.now) result ≡ name_of (entries_of names.now) number }
 {
     match names.list.as_slice().get(number as usize) {
