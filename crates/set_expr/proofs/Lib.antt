@@ -5,4 +5,3 @@ pub mod NamesMore
 pub mod SetMembers
 pub mod Spine
 pub mod SummedUp
-pub mod WholeNumbers

@@ -9,11 +9,8 @@ mod fault;
 mod known;
 mod known_name;
 mod learning;
-mod numbers;
 mod rules;
 mod shaped;
-#[cfg(test)]
-mod tests;
 mod walking;
 
 pub use answering::check_constants;

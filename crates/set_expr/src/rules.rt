@@ -12,25 +12,10 @@ ghost use Rattle.set_expr.specs.SectionOrder.{section_order};
 
 use crate::checked::Checked;
 use crate::fault::{SectionFault, earlier};
-use crate::numbers::{number_of, number_under};
 use crate::shaped::Shape;
 use abel_tree::{Binary, Unary};
 use pld_base::Place;
-
-/// Whether the sign is a relation's.
-pub(crate) fn is_relation(sign: Binary) -> bool
-    ensures { result ≡ is_relation sign }
-{
-    match sign {
-        Binary::Equal
-        | Binary::Unequal
-        | Binary::Less
-        | Binary::LessEqual
-        | Binary::Greater
-        | Binary::GreaterEqual => true,
-        _ => false,
-    }
-}
+use whole_numbers::{is_relation, number_of, number_under};
 
 /// The shape of what an operator gives.
 pub(crate) fn shape_of_both(sign: Binary, left: Shape, right: Shape) -> Shape
