@@ -7,14 +7,14 @@ use Rattle.bit_expr.specs.Arena.{arena}
 use Rattle.bit_expr.specs.Formulas.{Formula}
 use Rattle.abel_meaning.specs.BitWords.{Word}
 use Rattle.abel_meaning.specs.FormulaBits.{met_by, met_word}
-use Rattle.abel_meaning.specs.Numbers.{Value, either_unknown, met_unknown, met_unknown_by, digits_low_first}
+use Rattle.abel_meaning.specs.Numbers.{Value, either_unknown}
 use Rattle.abel_meaning.specs.Numbers as number
 use Rattle.bit_words.specs.Making.{AllIn, word_at, ShowsAll}
 use Rattle.bit_words.specs.Positions.{digit_ids, resized_ids}
 use Rattle.bit_words.proofs.PositionWords.{digits_in, digits_at, resized_in, resized_at, spread_in, spread_at}
 use Rattle.value_bits.specs.declared.bits.Bits.{Bits}
 use Rattle.value_bits.specs.declared.bits.Form.TheVariants as form
-use Rattle.value_bits.specs.Showing.{HasForm, HasUnknown, IsBits}
+use Rattle.value_bits.specs.Showing.{HasForm, IsBits}
 
 -- ---- loops: what is there, and what is left
 
@@ -60,29 +60,6 @@ met_set ns b v w k e is =
 pub if_ok_map : {T E : Type 0} {P Q : T → Type 0} (r : Result T E) → ((x : T) → P x → Q x) → IfOk r P → IfOk r Q
 if_ok_map (Ok x) f h = f x h
 if_ok_map (Err e) f h = tt
-
--- ---- X positions by form
-
-pub unknown_number : (b : Bits) (v : Value) (k n : ℕ) → b.form ≡ form.Number n → HasForm b.form v (length b.word) → replicate k false ≡ met_unknown k v
-unknown_number b v k n e is =
-    let h = subst (λ f. HasForm f v (length b.word)) e is in
-    ap (λ s. met_unknown_by k s v.unknown) (sym h.0.0)
-
-spread_flags : (k : ℕ) (xs : List Bool) → replicate k (get_or xs 0 false) ≡ met_unknown_by k number.Single xs
-spread_flags k [] = refl
-spread_flags k (x ∷ xs) = refl
-
-pub unknown_single : (b : Bits) (v : Value) (k : ℕ) → b.form ≡ form.Single → HasForm b.form v (length b.word) → HasUnknown b.form v b.unknown → replicate k (get_or b.unknown 0 false) ≡ met_unknown k v
-unknown_single b v k e is x =
-    let h = subst (λ f. HasForm f v (length b.word)) e is in
-    let u = subst (λ f. HasUnknown f v b.unknown) e x in
-    spread_flags k b.unknown ∙ ap₂ (λ s xs. met_unknown_by k s xs) (sym h.0) u
-
-pub unknown_set : (b : Bits) (v : Value) (k : ℕ) → b.form ≡ form.Set → HasForm b.form v (length b.word) → HasUnknown b.form v b.unknown → b.unknown ≡ met_unknown k v
-unknown_set b v k e is x =
-    let h = subst (λ f. HasForm f v (length b.word)) e is in
-    let u = subst (λ f. HasUnknown f v b.unknown) e x in
-    u ∙ ap (λ s. met_unknown_by k s v.unknown) (sym h)
 
 -- ---- X on either side
 

@@ -6,8 +6,6 @@ mod leaves;
 mod meeting;
 mod operators;
 mod sets;
-#[cfg(test)]
-mod tests;
 
 pub use bits::{Bits, Form};
 pub use leaves::{number_bits, one_bit};
