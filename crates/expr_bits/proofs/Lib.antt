@@ -1,6 +1,7 @@
 pub mod Accepted
 pub mod Blank
 pub mod Coming
+pub mod ConstantWords
 pub mod Extensions
 pub mod Joining
 pub mod Linked
@@ -13,5 +14,6 @@ pub mod Places
 pub mod Shaped
 pub mod StackLaws
 pub mod StepLaws
+pub mod StillTurns
 pub mod Turns
 pub mod Views

@@ -1,43 +1,27 @@
 -- Work on names comes to what the names stand for.
-use Rattle.std.proofs.Common.{◌≡◌, ℕ, ◌<◌, ◌≤◌, Bool, true, false, Option, None, Some, List, [], ◌∷◌, length, take, slice_get, unwrap_or, refl, sym, ap, ap₂, ◌∙◌, subst, arith}
-use Rattle.std.proofs.Math.Seq.{take-length}
+use Rattle.std.proofs.Common.{◌≡◌, ℕ, Option, None, Some, List, unwrap_or, refl, ◌∙◌, subst}
 use Rattle.bit_expr.specs.Folding.{free}
 use Rattle.abel_tree.specs.declared.words.Extension.{Extension}
 use Rattle.abel_tree.specs.Entries.{Entry, find}
 use Rattle.abel_meaning.specs.Designs.{Design}
-use Rattle.abel_meaning.specs.Numbers.{Value, Number}
-use Rattle.abel_meaning.specs.Terms.{Term, extended_if, known_of, term_meant, term_named}
+use Rattle.abel_meaning.specs.Numbers.{Value}
+use Rattle.abel_meaning.specs.Terms.{Term, extended_if, known_of, term_named}
 use Rattle.abel_meaning.specs.Terms as term
-use Rattle.abel_meaning.specs.Values.{constant_of}
 use Rattle.set_expr.specs.declared.fault.SectionFault.{SectionFault}
 use Rattle.set_expr.specs.declared.known_name.KnownName.{KnownName}
-use Rattle.set_expr.specs.declared.shaped.Shape.{Shape}
 use Rattle.set_expr.specs.declared.shaped.Shape.TheVariants as shape
 use Rattle.set_expr.specs.FoundNames.{NameFound, named, names_found, name_found, nothing_found}
 use Rattle.set_expr.specs.KnownNames.{Table, IsKnown, IsKnownIf, IsKnownName, HasShapeIf, IsPlaced, under}
 use Rattle.value_bits.specs.Parts.{Part, number_part}
 use Rattle.expr_bits.specs.declared.step.Step.TheVariants as step
 use Rattle.expr_bits.specs.Named.{KnowsNumber}
-use Rattle.expr_bits.specs.Steps.{after_task, after_step, pushed, read_part, term_part, Push, Do}
-use Rattle.expr_bits.proofs.Linked.{IsLinked, IsLinkedIf, linked_if, name_linked}
-use Rattle.expr_bits.proofs.NamesBefore.{named_here}
+use Rattle.expr_bits.specs.Steps.{after_task, term_part, Push, Do}
+use Rattle.expr_bits.proofs.Linked.{IsLinkedIf, linked_if, name_linked}
 use Rattle.expr_bits.proofs.NumberTerms.{number_term}
-
-pub read_comes : (d : Design) (s : ℕ) (e : Option Extension) (ps : List Part) → after_task d (Do (step.Read s e)) ps ≡ after_task d (Push (extended_if e (term.Read s None))) ps
-read_comes d s None ps = refl
-read_comes d s (Some e) ps = refl
 
 pub zero_comes : (d : Design) (e : Option Extension) (t : Term) (ps : List Part) → t ≡ term.Number 0 → after_task d (Do (step.Number 0)) ps ≡ after_task d (Push (extended_if e t)) ps
 zero_comes d None t ps h = rw h refl
 zero_comes d (Some e) t ps h = rw h refl
-
--- what is known over all names is known over those before
-pub knows_before : (es : List Entry) (w : List ℕ) (k : KnownName) (x : Entry) (e : Option Extension) → find es w ≡ Some k.number → k.number < length es → slice_get es k.number ≡ Some x
-    → KnowsNumber k (extended_if e (term_named (known_of es) w)) → KnowsNumber k (extended_if e (term_meant (known_of (take k.number es)) k.number x.kind))
-knows_before es w k x e f h g knows =
-    subst (λ t. KnowsNumber k (extended_if e t))
-    (ap (λ xs. term_named (known_of xs) w) (sym (take-length es)) ∙ named_here (length es) k.number es w x f h g)
-    knows
 
 -- ---- what the table of names knows
 

@@ -1,14 +1,15 @@
 -- What a name stands for among the first names, by its place.
-use Rattle.std.proofs.Common.{◌≡◌, ℕ, zero, suc, ◌+◌, ◌<◌, ◌≤◌, Bool, true, false, Option, None, Some, List, [], ◌∷◌, ◌++◌, if◌then◌else◌, length, map, take, get_or, slice_get, option_map, cond, bytes_eq, refl, sym, ap, ap₂, ◌∙◌, subst, arith, append_assoc, append-nil, length-append}
+use Rattle.std.proofs.Common.{◌≡◌, ℕ, zero, suc, ◌+◌, ◌<◌, ◌≤◌, Bool, true, false, Option, None, Some, List, [], ◌∷◌, ◌++◌, if◌then◌else◌, length, map, take, get_or, slice_get, option_map, cond, bytes_eq, refl, sym, ap, ◌∙◌, subst, arith, append_assoc, append-nil, length-append}
 use Rattle.std.specs.List.{position_from}
 use Rattle.std.proofs.lemmas.Iterator.Adapters.{position_from-zero}
 use Rattle.std.proofs.lemmas.List.{map-append, length-map}
-use Rattle.std.proofs.lemmas.Option.{slice_get_past, slice_get-get_or, slice_get-map}
-use Rattle.std.proofs.Math.Seq.{get_or-append_seam}
+use Rattle.std.proofs.lemmas.Option.{slice_get_within, slice_get_past, slice_get-get_or, slice_get-map}
+use Rattle.std.proofs.Math.Seq.{get_or-append_seam, take-length}
 use Rattle.abel_tree.specs.declared.names.Declared.{Declared}
 use Rattle.abel_tree.specs.declared.names.Names.{Names}
 use Rattle.abel_tree.specs.Entries.{Entry, entries_of, find, view_declared}
 use Rattle.abel_meaning.specs.Terms.{Term, Number, Known, term_named, term_meant, known_after, known_of}
+use Rattle.expr_bits.specs.Stacks.{here_term}
 
 abbrev pub name_of : Known → List ℕ
 name_of k = k.name
@@ -165,6 +166,21 @@ pub placed_none : (n k : ℕ) (es : List Entry) (w : List ℕ) → find es w ≡
 placed_none n k es w e g =
     named_among n es w ∙ ap (term_at (known_of (take n es))) e
     ∙ ap term_or (slice_get_past (known_of (take n es)) k (omega (arith, known_length [] 0 (take n es), take_long n es, none_past es k g)))
+
+-- what a name of a place stands for, among the first names and among all
+pub here_is : (n k : ℕ) (es : List Entry) (w : List ℕ) → find es w ≡ Some k → k < n → term_named (known_of (take n es)) w ≡ here_term es k (slice_get es k)
+here_is n k es w f h = by (slice_get es k) refl
+  where
+    by : (o : Option Entry) → slice_get es k ≡ o → term_named (known_of (take n es)) w ≡ here_term es k o
+    by None g = placed_none n k es w f g
+    by (Some x) g = named_here n k es w x f h g
+
+pub whole_is : (k : ℕ) (es : List Entry) (w : List ℕ) → find es w ≡ Some k → term_named (known_of es) w ≡ here_term es k (slice_get es k)
+whole_is k es w f = ap (λ xs. term_named (known_of xs) w) (sym (take-length es)) ∙ by (slice_get es k) refl
+  where
+    by : (o : Option Entry) → slice_get es k ≡ o → term_named (known_of (take (length es) es)) w ≡ here_term es k o
+    by None g = placed_none (length es) k es w f g
+    by (Some x) g = named_here (length es) k es w x f (slice_get_within es k x g) g
 
 -- the entry of a declared name
 pub entry_at : (names : Names) (list : List Declared) (k : ℕ) (x : Declared) → list ≡ names.list → k < length list → x ≡ get_or list k x → slice_get (entries_of names) k ≡ Some (view_declared x)

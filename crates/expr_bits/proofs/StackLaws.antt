@@ -1,12 +1,11 @@
 -- A stack of values in the arena: one more, one taken, and all of them while the arena grows.
-use Rattle.std.proofs.Common.{◌≡◌, ℕ, ◌+◌, ◌-◌, ◌≤◌, List, [], ◌∷◌, ◌++◌, length, reverse, Result, Ok, Err, refl, sym, ap, ◌∙◌, subst, arith, take, append-nil}
-use Rattle.std.proofs.lemmas.List.{reverse-append}
+use Rattle.std.proofs.Common.{◌≡◌, ℕ, ◌+◌, ◌-◌, List, [], ◌∷◌, ◌++◌, reverse, refl, sym, ap, ◌∙◌, subst, take, append-nil}
 use Rattle.std.specs.Global.{Vec}
 use Rattle.bit_expr.specs.declared.node.Node.{Node}
 use Rattle.bit_expr.specs.Arena.{arena, Grew}
 use Rattle.bit_expr.specs.Folding.{Made}
 use Rattle.bit_expr.specs.Formulas.{Formula}
-use Rattle.abel_meaning.specs.Numbers.{Shape, Number, Single, Set, Value}
+use Rattle.abel_meaning.specs.Numbers.{Shape, Number, Single, Set}
 use Rattle.bit_words.specs.Making.{IsMade}
 use Rattle.bit_words.proofs.Making.{in_kept, word_kept}
 use Rattle.value_bits.specs.declared.bits.Bits.{Bits}
@@ -14,7 +13,7 @@ use Rattle.value_bits.specs.Parts.{Part, IsPart}
 use Rattle.value_bits.specs.Showing.{IsBits}
 use Rattle.value_bits.proofs.TwoValues.{number_shown}
 use Rattle.expr_bits.specs.Stacks.{AreParts, AreStacked, ShowsStack}
-use Rattle.expr_bits.specs.Steps.{normal, normal_by, made_normal, top, below, pushed}
+use Rattle.expr_bits.specs.Steps.{normal, normal_by, made_normal, top, pushed}
 
 pub part_kept : (old new : List Formula) (n : ℕ) (b : Bits) (p : Part) → Grew old new n → IsPart old b p → IsPart new b p
 part_kept old new n b p g is =
@@ -30,26 +29,6 @@ parts_kept old new n [] [] g a = tt
 parts_kept old new n [] (p ∷ ps) g a = absurd a
 parts_kept old new n (b ∷ bs) [] g a = absurd a
 parts_kept old new n (b ∷ bs) (p ∷ ps) g a = (part_kept old new n b p g a.0, parts_kept old new n bs ps g a.1)
-
-turned : (bs : List Bits) (b : Bits) → reverse (bs ++ b ∷ []) ≡ b ∷ reverse bs
-turned bs b = reverse-append bs (b ∷ [])
-
-pub stack_put : (fs : List Formula) (bs new : List Bits) (b : Bits) (p : Part) (ps : List Part) → new ≡ bs ++ b ∷ [] → AreStacked fs bs ps → IsPart fs b p → AreStacked fs new (p ∷ ps)
-stack_put fs bs new b p ps e a is = subst (λ xs. AreParts fs xs (p ∷ ps)) (sym (ap reverse e ∙ turned bs b)) (is, a)
-
-first_part : (fs : List Formula) (b : Bits) (bs : List Bits) (ps : List Part) → AreParts fs (b ∷ bs) ps → IsPart fs b (top ps)
-first_part fs b bs [] a = absurd a
-first_part fs b bs (p ∷ ps) a = a.0
-
-later_parts : (fs : List Formula) (b : Bits) (bs : List Bits) (ps : List Part) → AreParts fs (b ∷ bs) ps → AreParts fs bs (below ps)
-later_parts fs b bs [] a = absurd a
-later_parts fs b bs (p ∷ ps) a = a.1
-
-pub stack_top : (fs : List Formula) (old bs : List Bits) (b : Bits) (ps : List Part) → old ≡ bs ++ b ∷ [] → AreStacked fs old ps → IsPart fs b (top ps)
-stack_top fs old bs b ps e a = first_part fs b (reverse bs) ps (subst (λ xs. AreParts fs xs ps) (ap reverse e ∙ turned bs b) a)
-
-pub stack_below : (fs : List Formula) (old bs : List Bits) (b : Bits) (ps : List Part) → old ≡ bs ++ b ∷ [] → AreStacked fs old ps → AreStacked fs bs (below ps)
-stack_below fs old bs b ps e a = later_parts fs b (reverse bs) ps (subst (λ xs. AreParts fs xs ps) (ap reverse e ∙ turned bs b) a)
 
 none_parts : (fs : List Formula) (ps : List Part) → AreParts fs [] ps → ps ≡ []
 none_parts fs [] a = refl

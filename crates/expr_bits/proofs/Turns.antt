@@ -1,6 +1,6 @@
 -- The walk, turn by turn: what was built, and what is left comes to the whole.
-use Rattle.std.proofs.Common.{◌≡◌, ℕ, ◌+◌, ◌≤◌, false, Option, None, List, [], ◌∷◌, ◌++◌, length, map, reverse, take, Result, Ok, Err, refl, sym, ap, ◌∙◌, subst, arith}
-use Rattle.std.proofs.lemmas.List.{reverse-append, map-append}
+use Rattle.std.proofs.Common.{◌≡◌, ℕ, ◌+◌, false, List, [], ◌∷◌, ◌++◌, length, map, reverse, take, Ok, Err, refl, sym, ap, ◌∙◌, subst, arith}
+use Rattle.std.proofs.lemmas.List.{reverse-append}
 use Rattle.std.proofs.Math.Seq.{take-length}
 use Rattle.std.specs.Global.{Vec}
 use Rattle.bit_expr.specs.declared.fault.ExprFault.{ExprFault}
@@ -21,10 +21,10 @@ use Rattle.bit_words.proofs.Making.{made_is, Going, going_start, going_on, going
 use Rattle.set_expr.specs.Answer.{IsDesignOf}
 use Rattle.value_bits.specs.declared.bits.Bits.{Bits}
 use Rattle.value_bits.specs.Parts.{Part, IsPart}
-use Rattle.expr_bits.specs.declared.step.Step.{Step}
+use Rattle.expr_bits.specs.declared.turn.Turn.{Turn}
 use Rattle.expr_bits.specs.declared.work.Work.{Work}
-use Rattle.expr_bits.specs.Stacks.{AreStacked, ShowsStack, Standing, task_of, tasks_of, after_work, then_all}
-use Rattle.expr_bits.specs.Steps.{Task, Push, Do, term_part, top, pushed, after_step, after_task, after_all}
+use Rattle.expr_bits.specs.Stacks.{AreStacked, ShowsStack, Standing, task_of, tasks_of, after_turn, then_all}
+use Rattle.expr_bits.specs.Steps.{Task, Push, term_part, top, pushed, after_task, after_all}
 
 pub tasks_last : (es : List Entry) (ws : List Work) (w : Work) → tasks_of es (ws ++ w ∷ []) ≡ task_of es w ∷ tasks_of es ws
 tasks_last es ws w = ap (map (task_of es)) (reverse-append ws (w ∷ []))
@@ -46,15 +46,29 @@ pub whole_turn : (d : Design) (us ts : List Task) (ps : List Part) → after_all
 whole_turn d us ts ps e =
     made_is _ _ (ap (λ (m : Made (List Part)). m.what) (sym e)) (omega (arith, ap (λ (m : Made (List Part)). m.nodes) e))
 
+-- the first task as another one that comes to the same
+pub walking_as : (d : Design) (old now : List Node) (vs : Vec Bits) (a b : Task) (ts : List Task) (t : Term) → ((ps : List Part) → after_task d a ps ≡ after_task d b ps) → Walking d old now vs (b ∷ ts) t → Walking d old now vs (a ∷ ts) t
+walking_as d old now vs a b ts t same g =
+    let here : after_all d (b ∷ ts) g.made ≡ after_all d (a ∷ ts) g.made = ap (λ m. m >>= after_all d ts) (sym (same g.made)) in
+    record {
+      made = g.made;
+      nodes = g.nodes;
+      shows = g.shows;
+      grew = g.grew;
+      within = g.within;
+      what = g.what ∙ ap (λ (m : Made (List Part)). m.what) here;
+      total = g.total ∙ ap (λ (m : Made (List Part)). g.nodes + m.nodes) here;
+    }
+
 -- a turn
-pub walking_turn : (d : Design) (old now new : List Node) (vs ws : Vec Bits) (next : Work) (ts us : List Task) (t : Term) → (g : Walking d old now vs ts t) → ((ps : List Part) → after_all d ts ps ≡ then_all d (after_work d next ps) us) → Makes ShowsStack now new (Ok ws) (after_work d next g.made) → Walking d old new ws us t
-walking_turn d old now new vs ws next ts us t g law m =
-    going_on ShowsStack ShowsStack ShowsStack old now new vs ws ws (after_all d ts) (pushed (term_part d t) []) (after_work d next g.made) (after_all d us) (after_work d next g.made).what
+pub walking_turn : (d : Design) (old now new : List Node) (vs ws : Vec Bits) (es : List Entry) (next : Turn) (ts us : List Task) (t : Term) → (g : Walking d old now vs ts t) → ((ps : List Part) → after_all d ts ps ≡ then_all d (after_turn d es next ps) us) → Makes ShowsStack now new (Ok ws) (after_turn d es next g.made) → Walking d old new ws us t
+walking_turn d old now new vs ws es next ts us t g law m =
+    going_on ShowsStack ShowsStack ShowsStack old now new vs ws ws (after_all d ts) (pushed (term_part d t) []) (after_turn d es next g.made) (after_all d us) (after_turn d es next g.made).what
     g m m.shows (ap (λ (x : Made (List Part)). x.what) (law g.made)) (ap (λ (x : Made (List Part)). x.nodes) (law g.made))
 
-pub walking_stops : (d : Design) (old now new : List Node) (vs : Vec Bits) (e : ExprFault) (next : Work) (ts us : List Task) (t : Term) → (g : Walking d old now vs ts t) → ((ps : List Part) → after_all d ts ps ≡ then_all d (after_work d next ps) us) → Makes {R = Vec Bits} ShowsStack now new (Err e) (after_work d next g.made) → Makes {R = Bits} IsPart old new (Err e) (term_part d t)
-walking_stops d old now new vs e next ts us t g law m =
-    as_part e (going_stop ShowsStack ShowsStack ShowsStack old now new vs e (after_all d ts) (pushed (term_part d t) []) (after_work d next g.made) g m (omega (arith, ap (λ (x : Made (List Part)). x.nodes) (law g.made))))
+pub walking_stops : (d : Design) (old now new : List Node) (vs : Vec Bits) (e : ExprFault) (es : List Entry) (next : Turn) (ts us : List Task) (t : Term) → (g : Walking d old now vs ts t) → ((ps : List Part) → after_all d ts ps ≡ then_all d (after_turn d es next ps) us) → Makes {R = Vec Bits} ShowsStack now new (Err e) (after_turn d es next g.made) → Makes {R = Bits} IsPart old new (Err e) (term_part d t)
+walking_stops d old now new vs e es next ts us t g law m =
+    as_part e (going_stop ShowsStack ShowsStack ShowsStack old now new vs e (after_all d ts) (pushed (term_part d t) []) (after_turn d es next g.made) g m (omega (arith, ap (λ (x : Made (List Part)). x.nodes) (law g.made))))
   where
     as_part : (e : ExprFault) → Makes {R = Vec Bits} ShowsStack old new (Err e) (pushed (term_part d t) []) → Makes {R = Bits} IsPart old new (Err e) (term_part d t)
     as_part fault.NodeLimit h = h
@@ -84,9 +98,7 @@ pub is_plain : (t : Table) (n : Names) → IsDesignOf t n (plain_design t n)
 unfolding plain_design
 is_plain t n = record { device = refl; names = refl; known = refl }
 
--- the first task is the whole
-pub whole_task : (t : Table) (n : Names) (d : Design) (e : Expr) (work : List Work) (w : Work) (count : ℕ) → IsDesignOf t n d → work ≡ w ∷ [] → task_of (entries_of n) w ≡ Push (term_of (known_of (take count (entries_of n))) (view e)) → count ≡ length (entries_of n) → tasks_of (entries_of n) work ≡ Push (term_of d.known (view e)) ∷ []
-whole_task t n d e work w count is one task all =
-    ap (tasks_of (entries_of n)) one ∙ ap (λ x. x ∷ []) task
-    ∙ ap (λ es. Push (term_of (known_of es) (view e)) ∷ []) (all_names (entries_of n) count all)
-    ∙ ap (λ ks. Push (term_of ks (view e)) ∷ []) (sym is.known)
+-- what an expression over all names stands for
+pub whole_term : (t : Table) (n : Names) (d : Design) (e : Expr) (count : ℕ) → IsDesignOf t n d → count ≡ length (entries_of n) → term_of (known_of (take count (entries_of n))) (view e) ≡ term_of d.known (view e)
+whole_term t n d e count is all =
+    ap (λ es. term_of (known_of es) (view e)) (all_names (entries_of n) count all) ∙ ap (λ ks. term_of ks (view e)) (sym is.known)

@@ -4,4 +4,5 @@ pub mod Named
 pub mod Placed
 pub mod Shaping
 pub mod Stacks
+pub mod Still
 pub mod Steps

@@ -1,17 +1,21 @@
 -- Private: a stack of values in the arena, and what is left to build (this project's rule).
-use Rattle.std.specs.Prelude.{ℕ, Option, List, [], ◌∷◌, map, reverse, take}
+use Rattle.std.specs.Prelude.{ℕ, Option, None, Some, List, [], ◌∷◌, map, reverse, slice_get, take}
 use Rattle.std.specs.Global.{Vec}
 use Rattle.bit_expr.specs.Folding.{Made, free, ◌>>=◌}
 use Rattle.bit_expr.specs.Formulas.{Formula}
+use Rattle.abel_tree.specs.declared.words.Extension.{Extension}
 use Rattle.abel_tree.specs.Entries.{Entry}
 use Rattle.abel_tree.specs.View.{view}
 use Rattle.abel_meaning.specs.Designs.{Design}
-use Rattle.abel_meaning.specs.Terms.{known_of, term_of, extended_if}
+use Rattle.abel_meaning.specs.Terms.{Term, known_of, term_of, term_meant, extended_if}
+use Rattle.abel_meaning.specs.Terms as term
 use Rattle.value_bits.specs.declared.bits.Bits.{Bits}
 use Rattle.value_bits.specs.Parts.{Part, IsPart}
 use Rattle.expr_bits.specs.declared.work.Work.{Work}
 use Rattle.expr_bits.specs.declared.work.Work.TheVariants as work
-use Rattle.expr_bits.specs.Steps.{Task, Push, Do, after_step, after_all}
+use Rattle.expr_bits.specs.declared.turn.Turn.{Turn}
+use Rattle.expr_bits.specs.declared.turn.Turn.TheVariants as turn
+use Rattle.expr_bits.specs.Steps.{Task, Push, Do, pushed, term_part, after_step, after_all}
 
 -- each of the bits is that of a value
 abbrev pub AreParts : List Formula → List Bits → List Part → Type 0
@@ -31,19 +35,36 @@ pub record Standing (fs : List Formula) (bs : List Bits) : Type 0 where
   pub parts : List Part
   pub are : AreStacked fs bs parts
 
+-- what the name of a number stands for over those before it, a number where there is none
+abbrev pub here_term : List Entry → ℕ → Option Entry → Term
+here_term es k None = term.Number 0
+here_term es k (Some x) = term_meant (known_of (take k es)) k x.kind
+
+-- and with an extension at its signals
+abbrev pub named_term : List Entry → ℕ → Option Extension → Term
+named_term es k e = extended_if e (here_term es k (slice_get es k))
+
 -- what work over these names is
 abbrev pub task_of : List Entry → Work → Task
 task_of es (work.Whole expr extension count) = Push (extended_if extension (term_of (known_of (take count es)) (view expr.now)))
+task_of es (work.Named k e) = Push (named_term es k e)
 task_of es (work.Do s) = Do s
+
+-- and what a turn is
+abbrev pub task_of_turn : List Entry → Turn → Task
+task_of_turn es (turn.Expands expr extension count) = Push (extended_if extension (term_of (known_of (take count es)) (view expr.now)))
+task_of_turn es (turn.Does s) = Do s
+task_of_turn es (turn.Keeps b k e) = Push (named_term es k e)
 
 -- a stack of work, the last on top
 abbrev pub tasks_of : List Entry → List Work → List Task
 tasks_of es ws = map (task_of es) (reverse ws)
 
--- the values after work: an expression alone adds none
-abbrev pub after_work : Design → Work → List Part → Made (List Part)
-after_work d (work.Whole expr extension count) ps = free ps
-after_work d (work.Do s) ps = after_step d s ps
+-- the values after a turn: an expression alone adds none
+abbrev pub after_turn : Design → List Entry → Turn → List Part → Made (List Part)
+after_turn d es (turn.Expands expr extension count) ps = free ps
+after_turn d es (turn.Does s) ps = after_step d s ps
+after_turn d es (turn.Keeps b k e) ps = pushed (term_part d (named_term es k e)) ps
 
 -- and then all these tasks
 abbrev pub then_all : Design → Made (List Part) → List Task → Made (List Part)

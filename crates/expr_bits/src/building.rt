@@ -17,7 +17,7 @@ use crate::reading::read;
 use crate::step::Step;
 use abel_tree::{Binary, Extension, Names, Unary};
 use bit_expr::{ExprFault, ExprId, Exprs};
-use pld_base::OutOfMemory;
+use pld_base::{ListOf, OutOfMemory};
 use pld_device::Device;
 use std::alloc::Global;
 use value_bits::{Bits, both, empty_set, number_bits, one_bit, under, with_member};
@@ -40,6 +40,31 @@ fn put(values: Vec<Bits>, value: Bits) -> Result<Vec<Bits>, OutOfMemory>
     let mut values = values;
     values.push(value)?;
     Ok(values)
+}
+
+/// The same bits again.
+fn copied(alloc: Global, bits: &Bits) -> Result<Bits, OutOfMemory>
+    ensures { IfOk result (λ new. (fs : List Formula) (p : Part) → IsPart fs bits.now p → IsPart fs new p) }
+{
+    let word = Vec::from_slice(alloc, bits.word.as_slice())?;
+    let unknown = Vec::from_slice(alloc, bits.unknown.as_slice())?;
+    Ok(Bits {
+        form: bits.form,
+        word: ListOf::from_vec(word),
+        unknown: ListOf::from_vec(unknown),
+    })
+}
+
+/// And on top.
+pub(crate) fn put_copy(
+    alloc: Global,
+    bits: &Bits,
+    values: Vec<Bits>,
+) -> Result<Vec<Bits>, OutOfMemory>
+    ensures { IfOk result (λ new. (fs : List Formula) (ps : List Part) (p : Part) → AreStacked fs values.items ps → IsPart fs bits.now p → ShowsStack fs new (p ∷ ps)) }
+{
+    let copy = copied(alloc, bits)?;
+    put(values, copy)
 }
 
 /// An operator on the value on top.

@@ -8,8 +8,13 @@ ghost use Rattle.abel_meaning.specs.Designs.{Design};
 ghost use Rattle.set_expr.specs.Answer.{IsDesignOf, IsAnswer, first_place, refusal_of};
 ghost use Rattle.set_expr.specs.FoundNames.{expression_found};
 ghost use Rattle.set_expr.specs.KnownNames.{IsKnown};
+ghost use Rattle.abel_meaning.specs.Terms.{term_of};
+ghost use Rattle.bit_words.specs.Making.{Makes};
+ghost use Rattle.value_bits.specs.Parts.{IsPart};
 ghost use Rattle.expr_bits.specs.Placed.{ArePlaced};
+ghost use Rattle.expr_bits.specs.Steps.{term_part};
 
+use crate::keeping::kept_of;
 use crate::shaping::shaped;
 use crate::walking::walk;
 use abel_tree::{Expr, Names};
@@ -18,6 +23,7 @@ use pld_base::Place;
 use pld_device::Device;
 use set_expr::{KnownNames, SectionFault, Shaped, check};
 use std::alloc::Global;
+use value_bits::Bits;
 
 /// The place of an expression's first token.
 fn first_place(expr: &Expr) -> Place
@@ -57,6 +63,23 @@ fn first_place(expr: &Expr) -> Place
     }
 }
 
+/// The bits of an expression over all names, in just the counted nodes.
+fn whole<D: Device>(
+    alloc: Global,
+    names: &Names,
+    known: &KnownNames,
+    expr: &Expr,
+    exprs: &mut Exprs,
+) -> Result<Bits, ExprFault>
+    requires known { IsKnown (entries_of names.now) known.now }
+    requires placed { ArePlaced names.now }
+    ensures { (d : Design) → IsDesignOf D.table names.now d → Makes IsPart exprs.old exprs.new result (term_part d (term_of d.known (view expr.now))) }
+{
+    let kept = kept_of::<D>(alloc, names, known)?;
+    let count = names.list.as_slice().len();
+    walk::<D>(alloc, names, known, &kept, expr, None, count, exprs)
+}
+
 /// The answer for an expression of which nothing is refused.
 fn built<D: Device>(
     alloc: Global,
@@ -70,7 +93,7 @@ fn built<D: Device>(
     requires accepted { refusal_of names.now (view expr.now) ≡ None }
     ensures { (d : Design) → IsDesignOf D.table names.now d → IsAnswer names.now d (view expr.now) exprs.old exprs.new result }
 {
-    match walk::<D>(alloc, names, known, expr, exprs) {
+    match whole::<D>(alloc, names, known, expr, exprs) {
         Ok(bits) => {
             let shaped = shaped(alloc, &bits)?;
             Ok(shaped)

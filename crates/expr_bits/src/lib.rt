@@ -4,12 +4,16 @@
 mod building;
 mod expanding;
 mod expression;
+mod keeping;
+mod kept;
 mod naming;
 mod reading;
 mod shaping;
 mod sources;
 mod step;
+mod turn;
 mod walking;
 mod work;
 
 pub use expression::bits;
+pub use reading::read_signal;

@@ -45,7 +45,7 @@ fn source_bit(exprs: &mut Exprs, reading: Option<Reading>) -> Result<ExprId, Exp
 }
 
 /// What the name of a number reads; 0 where there is no such name.
-fn signal_source<D: Device>(
+pub(crate) fn signal_source<D: Device>(
     names: &Names,
     signal: u32,
     extension: Option<Extension>,
@@ -60,6 +60,21 @@ fn signal_source<D: Device>(
     }
 }
 
+/// The bit that a signal of this number reads under its extension: the source's leaf, with a Not where it reads the complement.
+/// A number that no name has reads 0, and so does a signal without a source.
+pub fn read_signal<D: Device>(
+    names: &Names,
+    exprs: &mut Exprs,
+    signal: u32,
+    extension: Option<Extension>,
+) -> Result<ExprId, ExprFault>
+    requires { ArePlaced names.now }
+    ensures { (d : Design) → IsDesignOf D.table names.now d → Makes ShowsOne exprs.old exprs.new result (make_source (source_of d signal extension)) }
+{
+    let reading = signal_source::<D>(names, signal, extension);
+    source_bit(exprs, reading)
+}
+
 /// The bits of what a signal reads.
 pub(crate) fn read<D: Device>(
     alloc: Global,
@@ -71,8 +86,7 @@ pub(crate) fn read<D: Device>(
     requires { ArePlaced names.now }
     ensures { (d : Design) → IsDesignOf D.table names.now d → Makes IsPart exprs.old exprs.new result (read_part d signal extension) }
 {
-    let reading = signal_source::<D>(names, signal, extension);
-    let bit = source_bit(exprs, reading)?;
+    let bit = read_signal::<D>(names, exprs, signal, extension)?;
     let bits = one_bit(alloc, bit, false)?;
     Ok(bits)
 }

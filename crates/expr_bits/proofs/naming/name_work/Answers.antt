@@ -11,7 +11,7 @@ returns-in-Some c =
     let t = c.args.known.now in
     let w = c.args.text.now in
     let u = sym c.in-Some.ensures in
-    c.known_work.ensures w (place_known es t w c.in-Some.name c.requires u) (knows es t w c.in-Some.name c.args.extension c.requires u)
+    c.known_work.ensures es w (place_known es t w c.in-Some.name c.requires u) (knows es t w c.in-Some.name c.args.extension c.requires u)
 
 pub returns-in-None : goal.returns-in-None
 returns-in-None c d ps =

@@ -1,68 +1,75 @@
 -- One turn more, and the end.
-use Rattle.std.proofs.Common.{◌≡◌, None, [], ◌∷◌, ◌++◌, length, Result, Ok, Err, refl, sym, ap, ◌∙◌, subst}
+use Rattle.std.proofs.Common.{◌≡◌, [], ◌∷◌, ◌++◌, take, Result, sym, ap, ◌∙◌, subst}
 use Rattle.std.proofs.lemmas.Result.{err_from_is_err_and}
 use Rattle.bit_expr.specs.declared.fault.ExprFault.{ExprFault}
 use Rattle.bit_expr.specs.Arena.{arena}
 use Rattle.abel_tree.specs.Entries.{entries_of}
 use Rattle.abel_tree.specs.View.{view}
-use Rattle.abel_meaning.specs.Terms.{term_of}
+use Rattle.abel_meaning.specs.Terms.{extended_if, known_of, term_of}
 use Rattle.bit_words.specs.Making.{Makes}
 use Rattle.value_bits.specs.declared.bits.Bits.{Bits}
 use Rattle.value_bits.specs.Parts.{IsPart}
 use Rattle.expr_bits.specs.declared.work.Work.TheVariants as work
-use Rattle.expr_bits.specs.Stacks.{task_of, tasks_of}
-use Rattle.expr_bits.specs.Steps.{term_part}
-use Rattle.expr_bits.proofs.NamesBefore.{entries_long}
+use Rattle.expr_bits.specs.Stacks.{task_of, task_of_turn, tasks_of}
+use Rattle.expr_bits.specs.Steps.{Push, term_part}
 use Rattle.expr_bits.proofs.StackLaws.{none_left}
-use Rattle.expr_bits.proofs.Turns.{Walking, tasks_last, walking_start, walking_standing, walking_turn, walking_stops, walking_done, whole_task, plain_design, is_plain}
+use Rattle.expr_bits.proofs.Turns.{Walking, tasks_last, walking_start, walking_standing, walking_as, walking_turn, walking_stops, walking_done, plain_design, is_plain}
 use Rattle.expr_bits.proofs.walking.walk.Goals as goal
 
 pub turns-init : goal.turns-init
 turns-init g c d is =
+    let es = entries_of c.args.names.now in
     let old = c.args.exprs.now in
-    let n = length c.as_slice.result.now in
-    let w = work.Whole c.args.expr None n in
-    let tasks = whole_task g.D.Device.table c.args.names.now d c.args.expr.now c.push.new.self.items w n is
-    (c.in_ok-push.ensures.items ∙ ap (λ ws. ws ++ w ∷ []) c.new-work.ensures.items) refl (sym (entries_long c.args.names.now c.as_slice.result.now c.as_slice.ensures)) in
-    subst (λ ts. Walking d old old c.new-values.result ts (term_of d.known (view c.args.expr.now))) (sym tasks)
-    (walking_start d old c.new-values.result (term_of d.known (view c.args.expr.now)) c.new-values.ensures.items)
+    let t = extended_if c.args.extension (term_of (known_of (take c.args.count es)) (view c.args.expr.now)) in
+    let w = work.Whole c.args.expr c.args.extension c.args.count in
+    let tasks : tasks_of es c.push.new.self.items ≡ Push t ∷ [] = ap (tasks_of es) (c.in_ok-push.ensures.items ∙ ap (λ ws. ws ++ w ∷ []) c.new-work.ensures.items) in
+    subst (λ ts. Walking d old old c.new-values.result ts t) (sym tasks) (walking_start d old c.new-values.result t c.new-values.ensures.items)
 
 pub done-requires-clause-values : goal.done-requires-clause-values
 done-requires-clause-values g c =
+    let es = entries_of c.args.names.now in
+    let t = extended_if c.args.extension (term_of (known_of (take c.args.count es)) (view c.args.expr.now)) in
     let d = plain_design g.D.Device.table c.args.names.now in
-    walking_standing d c.args.exprs.now c.turns.exprs c.turns.values (tasks_of (entries_of c.args.names.now) c.turns.work.items) (term_of d.known (view c.args.expr.now)) (c.turns.invariant d (is_plain g.D.Device.table c.args.names.now))
+    walking_standing d c.args.exprs.now c.turns.exprs c.turns.values (tasks_of es c.turns.work.items) t (c.turns.invariant d (is_plain g.D.Device.table c.args.names.now))
 
 pub returns-in_err-values : goal.returns-in_err-values
 returns-in_err-values g c d is =
     let es = entries_of c.args.names.now in
-    let t = term_of d.known (view c.args.expr.now) in
+    let t = extended_if c.args.extension (term_of (known_of (take c.args.count es)) (view c.args.expr.now)) in
     let old = c.args.exprs.now in
     let now = c.turns.exprs in
     let left = c.pop.new.self.items in
     let next = c.in-Some.next in
-    let here : Walking d old now c.turns.values (task_of es next ∷ tasks_of es left) t = subst (λ ts. Walking d old now c.turns.values ts t) (ap (tasks_of es) c.in-Some.ensures.items ∙ tasks_last es left next) (c.turns.invariant d is) in
+    let turn = c.turn_of-turn.result in
+    let first : Walking d old now c.turns.values (task_of es next ∷ tasks_of es left) t = subst (λ ts. Walking d old now c.turns.values ts t) (ap (tasks_of es) c.in-Some.ensures.items ∙ tasks_last es left next) (c.turns.invariant d is) in
+    let here = walking_as d old now c.turns.values (task_of_turn es turn) (task_of es next) (tasks_of es left) t (c.turn_of-turn.ensures.task d) first in
     let p = err_from_is_err_and c.from_residual-in_err-values.result c.from_residual-in_err-values.ensures.1 in
     subst (λ (r : Result Bits ExprFault). Makes IsPart old c.done.new.exprs r (term_part d t)) (sym p.1)
-    (walking_stops d old now c.done.new.exprs c.turns.values p.0 next (task_of es next ∷ tasks_of es left) (tasks_of es c.in_ok-work.work.items) t here (c.in_ok-work.ensures d) (rw p.2 (c.in_err-values.ensures d here.made is here.shows)))
+    (walking_stops d old now c.done.new.exprs c.turns.values p.0 es turn (task_of_turn es turn ∷ tasks_of es left) (tasks_of es c.in_ok-work.work.items) t here (c.in_ok-work.ensures d)
+    (rw p.2 (c.in_err-values.ensures d here.made is (c.turn_of-turn.ensures.held d (c.requires.kept d is)) here.shows)))
 
 pub returns-in_default : goal.returns-in_default
 returns-in_default g c d is =
     let es = entries_of c.args.names.now in
+    let t = extended_if c.args.extension (term_of (known_of (take c.args.count es)) (view c.args.expr.now)) in
     let here = c.turns.invariant d is in
     let p = c.in_default.ensures in
-    walking_done d c.args.exprs.now c.turns.exprs c.turns.values c.taken.result (tasks_of es c.turns.work.items) (term_of d.known (view c.args.expr.now))
+    walking_done d c.args.exprs.now c.turns.exprs c.turns.values c.taken.result (tasks_of es c.turns.work.items) t
     (ap (tasks_of es) (none_left c.turns.work.items c.pop.new.self.items _ p.items p.rest p.cases.0)) here (c.taken.ensures.top (arena c.turns.exprs) here.made here.shows)
 
 pub turns-preserved : goal.turns-preserved
 turns-preserved g c d is =
     let es = entries_of c.args.names.now in
-    let t = term_of d.known (view c.args.expr.now) in
+    let t = extended_if c.args.extension (term_of (known_of (take c.args.count es)) (view c.args.expr.now)) in
     let old = c.args.exprs.now in
     let now = c.turns.exprs in
     let left = c.pop.new.self.items in
     let next = c.in-Some.next in
-    let here : Walking d old now c.turns.values (task_of es next ∷ tasks_of es left) t = subst (λ ts. Walking d old now c.turns.values ts t) (ap (tasks_of es) c.in-Some.ensures.items ∙ tasks_last es left next) (c.turns.invariant d is) in
-    walking_turn d old now c.done.new.exprs c.turns.values c.in_ok-values.values next (task_of es next ∷ tasks_of es left) (tasks_of es c.in_ok-work.work.items) t here (c.in_ok-work.ensures d) (c.in_ok-values.ensures d here.made is here.shows)
+    let turn = c.turn_of-turn.result in
+    let first : Walking d old now c.turns.values (task_of es next ∷ tasks_of es left) t = subst (λ ts. Walking d old now c.turns.values ts t) (ap (tasks_of es) c.in-Some.ensures.items ∙ tasks_last es left next) (c.turns.invariant d is) in
+    let here = walking_as d old now c.turns.values (task_of_turn es turn) (task_of es next) (tasks_of es left) t (c.turn_of-turn.ensures.task d) first in
+    walking_turn d old now c.done.new.exprs c.turns.values c.in_ok-values.values es turn (task_of_turn es turn ∷ tasks_of es left) (tasks_of es c.in_ok-work.work.items) t here (c.in_ok-work.ensures d)
+    (c.in_ok-values.ensures d here.made is (c.turn_of-turn.ensures.held d (c.requires.kept d is)) here.shows)
 
 pub returns : goal.returns
 returns g c d is i f e = (c.turns.invariant d is).grew.keeps i f e

@@ -1,8 +1,9 @@
 -- What was built, and what is left comes to the whole.
+use Rattle.std.proofs.Common.{take}
 use Rattle.abel_tree.specs.Entries.{entries_of}
 use Rattle.abel_tree.specs.View.{view}
 use Rattle.abel_meaning.specs.Designs.{Design}
-use Rattle.abel_meaning.specs.Terms.{term_of}
+use Rattle.abel_meaning.specs.Terms.{extended_if, known_of, term_of}
 use Rattle.set_expr.specs.Answer.{IsDesignOf}
 use Rattle.expr_bits.specs.Stacks.{tasks_of}
 use Rattle.expr_bits.proofs.Turns.{Walking}
@@ -11,4 +12,4 @@ use Rattle.expr_bits.proofs.walking.walk.Given as goal
 abbrev pub invariant-turns : goal.invariant-turns
 invariant-turns g l =
     (d : Design) → IsDesignOf g.D.Device.table l.names d
-    → Walking d l.fn.exprs l.exprs l.values (tasks_of (entries_of l.names) l.work.items) (term_of d.known (view l.expr))
+    → Walking d l.fn.exprs l.exprs l.values (tasks_of (entries_of l.names) l.work.items) (extended_if l.fn.extension (term_of (known_of (take l.count (entries_of l.names))) (view l.expr)))

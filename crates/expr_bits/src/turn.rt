@@ -1,0 +1,76 @@
+//! What is done at one turn of the walk.
+
+ghost use Rattle.std.specs.Prelude.{◌≡◌, List, take};
+ghost use Rattle.abel_tree.specs.Entries.{Entry, entries_of, view_meaning};
+ghost use Rattle.abel_meaning.specs.Designs.{Design};
+ghost use Rattle.abel_meaning.specs.Terms.{extended_if, known_of, term_meant};
+ghost use Rattle.value_bits.specs.Parts.{Part};
+ghost use Rattle.expr_bits.specs.Stacks.{named_term, task_of, task_of_turn};
+ghost use Rattle.expr_bits.specs.Steps.{Push, after_task};
+ghost use Rattle.expr_bits.specs.Still.{AreKept, IsHeld};
+
+use crate::kept::Kept;
+use crate::step::Step;
+use crate::work::Work;
+use abel_tree::{Expr, Extension, Meaning, Names};
+use value_bits::Bits;
+
+/// An expression comes to its parts, a step is done, or the bits that are kept of a name are taken.
+#[derive(Clone, Copy)]
+pub(crate) enum Turn<'a> {
+    Expands(&'a Expr, Option<Extension>, usize),
+    Does(Step),
+    Keeps(&'a Bits, u32, Option<Extension>),
+}
+
+/// A declared name of this number.
+fn declared_turn<'a>(meaning: &'a Meaning, number: u32, extension: Option<Extension>) -> Turn<'a>
+    ensures task { (es : List Entry) (d : Design) (ps : List Part) → after_task d (task_of_turn es result) ps ≡ after_task d (Push (extended_if extension (term_meant (known_of (take number es)) number (view_meaning meaning.now)))) ps }
+    ensures held { (es : List Entry) (d : Design) → IsHeld es d result }
+{
+    match meaning {
+        Meaning::Pin { pin: _, negated: _ } => Turn::Does(Step::Read(number, extension)),
+        Meaning::Node(_) => Turn::Does(Step::Read(number, extension)),
+        Meaning::Constant(expr) => Turn::Expands(expr, extension, number as usize),
+        Meaning::DeviceName => Turn::Does(Step::Number(0)),
+    }
+}
+
+/// The name of this number.
+fn named_turn<'a>(names: &'a Names, number: u32, extension: Option<Extension>) -> Turn<'a>
+    ensures task { (d : Design) (ps : List Part) → after_task d (task_of_turn (entries_of names.now) result) ps ≡ after_task d (Push (named_term (entries_of names.now) number extension)) ps }
+    ensures held { (d : Design) → IsHeld (entries_of names.now) d result }
+{
+    match names.list.as_slice().get(number as usize) {
+        Some(declared) => declared_turn(&declared.meaning, number, extension),
+        None => Turn::Does(Step::Number(0)),
+    }
+}
+
+/// The name of this number, by the bits that are kept of it where there are some.
+fn kept_turn<'a>(
+    names: &'a Names,
+    kept: &'a Kept,
+    number: u32,
+    extension: Option<Extension>,
+) -> Turn<'a>
+    ensures task { (d : Design) (ps : List Part) → after_task d (task_of_turn (entries_of names.now) result) ps ≡ after_task d (Push (named_term (entries_of names.now) number extension)) ps }
+    ensures held { (d : Design) → AreKept (entries_of names.now) d kept.now.rows.items → IsHeld (entries_of names.now) d result }
+{
+    match kept.get(number, extension) {
+        Some(bits) => Turn::Keeps(bits, number, extension),
+        None => named_turn(names, number, extension),
+    }
+}
+
+/// What is done of the work.
+pub(crate) fn turn_of<'a>(names: &'a Names, kept: &'a Kept, next: Work<'a>) -> Turn<'a>
+    ensures task { (d : Design) (ps : List Part) → after_task d (task_of_turn (entries_of names.now) result) ps ≡ after_task d (task_of (entries_of names.now) next.entry) ps }
+    ensures held { (d : Design) → AreKept (entries_of names.now) d kept.now.rows.items → IsHeld (entries_of names.now) d result }
+{
+    match next {
+        Work::Whole(expr, extension, count) => Turn::Expands(expr, extension, count),
+        Work::Named(number, extension) => kept_turn(names, kept, number, extension),
+        Work::Do(step) => Turn::Does(step),
+    }
+}
