@@ -11,3 +11,4 @@ pub mod SmallTargets
 pub mod Settled
 pub mod OneUnit
 pub mod SideTerms
+pub mod KnownTargets

@@ -23,7 +23,7 @@ abbrev pub IsPlacedAt : ℕ → List NamedSignals → Option ℕ → Term → Ty
 IsPlacedAt count ns None t = t ≡ Number 0
 IsPlacedAt count ns (Some i) t = IsAt count (slice_get ns i) t
 
-position_past : (test : Entry → Bool) (i : ℕ) (es : List Entry) (j : ℕ) → position_from test i es ≡ Some j → i ≤ j
+pub position_past : (test : Entry → Bool) (i : ℕ) (es : List Entry) (j : ℕ) → position_from test i es ≡ Some j → i ≤ j
 position_past test i [] j e = absurd cc
 position_past test i (x ∷ es) j e = by_test (test x) e (position_past test (i + 1) es j)
   where
@@ -159,7 +159,7 @@ known_more ks s (x ∷ es) e =
     known_more (ks ++ record { name = x.name; term = term_meant ks s x.kind } ∷ []) (suc s) es e
     ∙ ap (λ n. known_after ks s (x ∷ es) ++ record { name = e.name; term = term_meant (known_after ks s (x ∷ es)) n e.kind } ∷ []) (omega arith)
 
-known_names : (ks : List Known) (s : ℕ) (es : List Entry) → map (λ (k : Known). k.name) (known_after ks s es) ≡ map (λ (k : Known). k.name) ks ++ map (λ (e : Entry). e.name) es
+pub known_names : (ks : List Known) (s : ℕ) (es : List Entry) → map (λ (k : Known). k.name) (known_after ks s es) ≡ map (λ (k : Known). k.name) ks ++ map (λ (e : Entry). e.name) es
 known_names ks s [] = sym (append-nil (map (λ (k : Known). k.name) ks))
 known_names ks s (e ∷ es) =
     known_names (ks ++ record { name = e.name; term = term_meant ks s e.kind } ∷ []) (suc s) es

@@ -74,7 +74,7 @@ range_positions d p (n ∷ names) ts x h e =
     ∙ ap positions_of (sym (append_assoc a.aims b.aims x.aims))
 
 mutual
-  member_positions : (d : Design) (t : Tree) → (target_member d t).refusals ≡ [] → targets_of (term_of d.known t) ≡ positions_of (target_member d t).aims
+  pub member_positions : (d : Design) (t : Tree) → (target_member d t).refusals ≡ [] → targets_of (term_of d.known t) ≡ positions_of (target_member d t).aims
   member_positions d (ANumber n) e = absurd cc
   member_positions d (ASpecial letter p) e = absurd cc
   member_positions d (AName word None) e = name_positions d word.place word.place word.text e

@@ -194,7 +194,7 @@ wide_none p x e = ltb-false 32 (length x.aims) (narrow (nat_lt 32 (length x.aims
     narrow true e = absurd cc
     narrow false e = refl
 
-member_few : (d : Design) (t : Tree) → d.known ≡ known_of d.names → (target_member d t).refusals ≡ [] → length (target_member d t).aims ≤ 32
+pub member_few : (d : Design) (t : Tree) → d.known ≡ known_of d.names → (target_member d t).refusals ≡ [] → length (target_member d t).aims ≤ 32
 member_few d (ANumber n) k e = omega arith
 member_few d (ASpecial letter p) k e = omega arith
 member_few d (AName word None) k e = name_few d word.place word.place word.text k e

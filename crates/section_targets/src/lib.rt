@@ -13,8 +13,6 @@ mod nodes;
 mod outputs;
 mod sides;
 mod siding;
-#[cfg(test)]
-mod tests;
 mod words;
 
 pub use aim::Aim;
@@ -27,6 +25,6 @@ pub use named::NamedSignals;
 pub use naming::target_names;
 pub use nodes::add_node;
 pub use outputs::check_aims;
-pub use sides::Side;
-pub use siding::left_side;
+pub use sides::{Side, number_of};
+pub use siding::{left_side, member_side, refuse_operator};
 pub use words::meet;

@@ -26,8 +26,8 @@ pub struct Side {
     pub fault: Option<SectionFault>,
 }
 
-/// The number of the name with this text.
-pub(crate) fn number_of(known: &KnownNames, text: &[u8]) -> Option<u32>
+/// The number of the name with this text, None where it is not declared. Takes no memory.
+pub fn number_of(known: &KnownNames, text: &[u8]) -> Option<u32>
     ensures { (es : List Entry) → IsKnown es known.now → result ≡ find es text.now }
 {
     match known.get(text) {

@@ -44,8 +44,8 @@ pub fn left_side(
     }
 }
 
-/// An operator in a target is refused where it begins.
-fn refuse_operator(known: &KnownNames, expr: &Expr) -> SectionFault
+/// What is no name, in a target or header: refused as no output where it begins. Takes no memory.
+pub fn refuse_operator(known: &KnownNames, expr: &Expr) -> SectionFault
     ensures { (es : List Entry) → IsKnown es known.now → result ≡ NotAnOutput (first_place (view expr.now)) (first_name es (view expr.now)) }
 {
     let mut first = expr;
@@ -156,9 +156,10 @@ fn with_range(
     Ok(side)
 }
 
-/// A member of a target.
+/// A member of a target, or a header of registers, which takes no extension. Calls go as deep as the nestings of sets and
+/// parentheses.
 #[cycle(siding)]
-fn member_side(
+pub fn member_side(
     alloc: Global,
     known: &KnownNames,
     named: &[NamedSignals],
