@@ -86,10 +86,6 @@ answer_stops n d t p old new (fault.BadVector q) e a = refused_not n t (fault.Ba
 
 -- ---- bits
 
--- memory is out behind nodes of a unit
-pub memory_behind : (us : List CountedUnit) (old new : List Node) (list : List Contribution) → Keeps (arena old) (arena new) → StopsWith us [] [] (record { exprs = old; list = list }) (record { exprs = new; list = list }) fault.OutOfMemory
-memory_behind us old new list k = (tt, leaves_nodes old new list k)
-
 reverse_all : (P : ExprId → Type 0) (ids : List ExprId) → All P ids → All P (reverse ids)
 reverse_all P ids h = All-permutation P ids (reverse ids) (IsPermutation-reverse ids) h
 

@@ -208,7 +208,7 @@ fn build_statement<D: Device>(
 /// Statements one after another under a guard, up to the first unit that is refused or passes the limit; how they
 /// assign signals is noted. Calls go as deep as the nestings of statements.
 #[cycle(builds)]
-pub(crate) fn build_statements<D: Device>(
+pub fn build_statements<D: Device>(
     alloc: Global,
     names: &Names,
     known: &KnownNames,

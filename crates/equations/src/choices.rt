@@ -24,7 +24,7 @@ use set_expr::{KnownNames, SectionFault};
 use std::alloc::Global;
 
 /// That something of the unit at this place is refused; what it is, the check says.
-pub(crate) fn refused_unit(unit: Place) -> SectionFault
+pub fn refused_unit(unit: Place) -> SectionFault
     ensures { stop_of result ≡ AtRefusal }
 {
     SectionFault::BadWidth(unit)
@@ -53,13 +53,13 @@ fn accepted_bit<D: Device>(
 
 /// A condition, and the guard of what counts where it is 1.
 #[derive(Clone, Copy, Debug, PartialEq, Eq)]
-pub(crate) struct Chosen {
+pub struct Chosen {
     pub condition: ExprId,
     pub then: ExprId,
 }
 
 /// The condition of a WHEN and the guard of its statement, in the unit of the condition.
-pub(crate) fn then_guard<D: Device>(
+pub fn then_guard<D: Device>(
     alloc: Global,
     names: &Names,
     known: &KnownNames,
@@ -87,13 +87,13 @@ pub(crate) fn then_guard<D: Device>(
 
 /// The guards of both statements of a WHEN.
 #[derive(Clone, Copy, Debug, PartialEq, Eq)]
-pub(crate) struct BothGuards {
+pub struct BothGuards {
     pub then: ExprId,
     pub otherwise: ExprId,
 }
 
 /// The guards of both statements of a WHEN, in the unit of its condition.
-pub(crate) fn both_guards<D: Device>(
+pub fn both_guards<D: Device>(
     alloc: Global,
     names: &Names,
     known: &KnownNames,

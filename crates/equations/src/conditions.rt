@@ -76,7 +76,7 @@ fn refuse_width(place: Place, width: usize, shape: Option<Shape>) -> Option<Sect
 }
 
 /// What is refused of a value that meets so many signals.
-pub(crate) fn refuse_value(place: Place, width: usize, value: Checked) -> Option<SectionFault>
+pub fn refuse_value(place: Place, width: usize, value: Checked) -> Option<SectionFault>
     ensures { (f : Found) → SumsUp value f → result ≡ first_refusal section_order (value_refused place width f) }
 {
     let width = refuse_width(place, width, value.shape);
@@ -84,7 +84,7 @@ pub(crate) fn refuse_value(place: Place, width: usize, value: Checked) -> Option
 }
 
 /// What is refused of a condition at the place of its WHEN.
-pub(crate) fn check_condition(
+pub fn check_condition(
     alloc: Global,
     names: &Names,
     known: &KnownNames,

@@ -35,8 +35,8 @@ fn at_unit(unit: Place, fault: SectionFault) -> SectionFault
     }
 }
 
-/// The bits of an expression that isn't refused, as nodes of the unit at this place.
-fn unit_bits<D: Device>(
+/// The bits of an expression of which nothing is refused, as nodes of the unit at this place; `NodeLimit` stands there.
+pub fn unit_bits<D: Device>(
     alloc: Global,
     names: &Names,
     known: &KnownNames,
@@ -58,7 +58,7 @@ fn unit_bits<D: Device>(
 }
 
 /// The bits of a value that meets so many signals, from the left.
-pub(crate) fn value_bits<D: Device>(
+pub fn value_bits<D: Device>(
     alloc: Global,
     names: &Names,
     known: &KnownNames,
@@ -82,7 +82,7 @@ pub(crate) fn value_bits<D: Device>(
 }
 
 /// The one bit of a condition.
-pub(crate) fn condition_bit<D: Device>(
+pub fn condition_bit<D: Device>(
     alloc: Global,
     names: &Names,
     known: &KnownNames,
