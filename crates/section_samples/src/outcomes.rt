@@ -1,0 +1,103 @@
+//! What `bits` answers for an expression, at one point.
+
+ghost use Rattle.std.specs.Prelude.{length};
+ghost use Rattle.bit_expr.specs.Arena.{arena};
+ghost use Rattle.abel_tree.specs.Entries.{entries_of};
+ghost use Rattle.set_expr.specs.Answer.{AreIn};
+ghost use Rattle.set_expr.specs.KnownNames.{IsKnown};
+ghost use Rattle.expr_bits.specs.Placed.{ArePlaced};
+
+use crate::expressions::expression;
+use abel_tree::Names;
+use bit_expr::{ExprId, Exprs};
+use expr_bits::bits;
+use pld_base::{OutOfMemory, Point};
+use pld_device::Sample;
+use set_expr::{KnownNames, SectionFault, Shape, known_names};
+use std::alloc::Global;
+
+/// Pins 1 and 3 are high, and node 5 is 1.
+const HERE: Point = Point {
+    pins: 10,
+    q: 0,
+    nodes: 32,
+};
+
+/// The answer for an expression: its shape, its number at that point with 0 at X, and a bit for each X position.
+#[derive(Clone, Copy, Debug, PartialEq, Eq)]
+pub(crate) enum Outcome {
+    Is(Shape, u32, u32),
+    Refused(SectionFault),
+}
+
+fn number_at(exprs: &Exprs, places: &[Option<ExprId>]) -> u32
+    requires { AreIn (length (arena exprs.now)) places.now }
+{
+    let mut number = 0u32;
+    for index in 0..places.len().min(32) {
+        if let Some(id) = places[index] {
+            if exprs.eval(id, &HERE) {
+                number |= 1 << index;
+            }
+        }
+    }
+    number
+}
+
+fn unknown_at(places: &[Option<ExprId>]) -> u32 {
+    let mut unknown = 0u32;
+    for index in 0..places.len().min(32) {
+        if places[index].is_none() {
+            unknown |= 1 << index;
+        }
+    }
+    unknown
+}
+
+pub(crate) fn told(
+    alloc: Global,
+    names: &Names,
+    known: &KnownNames,
+    text: &[u8],
+) -> Result<Outcome, OutOfMemory>
+    requires known { IsKnown (entries_of names.now) known.now }
+    requires placed { ArePlaced names.now }
+{
+    let expr = expression(alloc, 9, text)?;
+    let mut exprs = Exprs::new(alloc);
+    match bits::<Sample>(alloc, names, known, &expr, &mut exprs) {
+        Ok(shaped) => {
+            let number = number_at(&exprs, shaped.places.as_slice());
+            let unknown = unknown_at(shaped.places.as_slice());
+            Ok(Outcome::Is(shaped.shape, number, unknown))
+        }
+        Err(SectionFault::OutOfMemory) => Err(OutOfMemory),
+        Err(fault) => Ok(Outcome::Refused(fault)),
+    }
+}
+
+/// What one expression is found to be.
+pub(crate) fn found(alloc: Global, names: &Names, text: &[u8]) -> Result<Outcome, OutOfMemory>
+    requires { ArePlaced names.now }
+{
+    let known = known_names(alloc, names)?;
+    told(alloc, names, &known, text)
+}
+
+/// The shape of an expression that isn't refused. Its bits are made and not valued, since they share their nodes.
+pub(crate) fn shape_of(
+    alloc: Global,
+    names: &Names,
+    text: &[u8],
+) -> Result<Option<Shape>, OutOfMemory>
+    requires { ArePlaced names.now }
+{
+    let known = known_names(alloc, names)?;
+    let expr = expression(alloc, 9, text)?;
+    let mut exprs = Exprs::new(alloc);
+    match bits::<Sample>(alloc, names, &known, &expr, &mut exprs) {
+        Ok(shaped) => Ok(Some(shaped.shape)),
+        Err(SectionFault::OutOfMemory) => Err(OutOfMemory),
+        Err(_) => Ok(None),
+    }
+}
