@@ -8,7 +8,6 @@ use Rattle.pld_base.specs.declared.place.Place.{Place}
 use Rattle.abel_tree.specs.declared.expressions.Expr.{Expr, size-Expr, the_lemmas}
 use Rattle.abel_tree.specs.declared.expressions.Expr as expr
 use Rattle.abel_tree.specs.declared.expressions.Member.{Member}
-use Rattle.abel_tree.specs.declared.words.Binary.{Binary}
 use Rattle.abel_tree.specs.declared.words.Extension.{Extension}
 use Rattle.abel_tree.specs.Tree.{SetMember, members_of}
 use Rattle.abel_tree.specs.View.{view, view_member}
@@ -55,9 +54,6 @@ inside_more ns r (x ∷ ms) m =
 -- trees of the code at sets and operators
 pub holds_set : (p : Place) (ms : List Member) (e : Option Extension) (ns : List NameFound) → holds_pulse ns (view (expr.Set p ms e)) ≡ any_holds_pulse ns (members_of (map view_member ms))
 holds_set p ms e ns = search (rules, the_lemmas)
-
-pub holds_both : (s : Binary) (p : Place) (l r : Expr) (ns : List NameFound) → holds_pulse ns (view (expr.Binary s p l r)) ≡ (holds_pulse ns (view l) || holds_pulse ns (view r))
-holds_both s p l r ns = search (rules, the_lemmas)
 
 pub inside_set : (p : Place) (ms : List Member) (e : Option Extension) (ns : List NameFound) (r : SectionFault) → refused_inside ns r (view (expr.Set p ms e)) ≡ all_refused_inside ns r (members_of (map view_member ms))
 inside_set p ms e ns r = search (rules, the_lemmas)

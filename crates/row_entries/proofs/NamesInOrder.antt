@@ -172,9 +172,6 @@ named_meant es w k d o h =
     ∙ meant_kept front (known_of front) more k (get_or es k d).kind (known_names front) (o k (get_or es k d) (slice_get-get_or es k d p.0))
     ∙ ap (λ ks. term_meant ks k (get_or es k d).kind) (sym all)
 
-pub find_below : (es : List Entry) (w : List ℕ) (k : ℕ) (d : Entry) → find es w ≡ Some k → k < length es
-find_below es w k d h = (position-Some (λ (e : Entry). bytes_eq w e.name) es k d h).0
-
 -- ---- what is no name
 
 unnamed_from : (i : ℕ) (es : List Entry) (ks : List Known) (w : List ℕ) → map (λ (e : Entry). e.name) es ≡ map (λ (k : Known). k.name) ks → position_from (λ (e : Entry). bytes_eq w e.name) i es ≡ None → term_named ks w ≡ Number 0

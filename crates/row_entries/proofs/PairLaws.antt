@@ -1,5 +1,5 @@
 -- Headers and entries met pair by pair.
-use Rattle.std.proofs.Common.{◌≡◌, ℕ, zero, suc, ◌+◌, ◌-◌, ◌/◌, ◌%◌, ◌==◌, ◌<◌, ◌≤◌, Bool, true, false, ◌&&◌, Option, List, [], ◌∷◌, ◌++◌, length, map, reverse, replicate, refl, sym, ap, ap₂, ◌∙◌, subst, arith, append_assoc, append-nil, Bor}
+use Rattle.std.proofs.Common.{◌≡◌, ℕ, zero, suc, ◌+◌, ◌-◌, ◌/◌, ◌%◌, ◌==◌, ◌<◌, Bool, true, false, ◌&&◌, Option, List, [], ◌∷◌, ◌++◌, length, map, reverse, replicate, refl, sym, ap, ap₂, ◌∙◌, subst, arith, append_assoc, append-nil, Bor}
 use Rattle.std.proofs.lemmas.List.{map-append, reverse-append, replicate-append-replicate}
 use Rattle.abel_tree.specs.declared.expressions.Member.{Member}
 use Rattle.abel_tree.specs.declared.words.Extension.{Extension}
@@ -19,7 +19,7 @@ use Rattle.row_entries.specs.declared.part.Part.{Part}
 use Rattle.row_entries.specs.EntryMarks.{view_mark}
 use Rattle.row_entries.specs.EntryTerms.{listed, extended_list}
 use Rattle.row_entries.specs.PairTerms.{seen, both_sets, pairs_meet, pairs_marks, ArePairs, paired, Met, Whole, Stepped, IsStep, IsPush, Walked}
-use Rattle.row_entries.specs.PartTerms.{IsContent, IsNumeral, IsBits, IsPart, AreParts, is_operand}
+use Rattle.row_entries.specs.PartTerms.{IsContent, IsNumeral, IsPart, AreParts, is_operand}
 use Rattle.row_entries.specs.RowEntries.{is_number, meets, all_meet, meets_whole}
 use Rattle.row_entries.proofs.PartLists.{parts_length, each_if, set_members, each_listed}
 
@@ -45,11 +45,6 @@ map_same f (suc n) x = ap (λ xs. f x ∷ xs) (map_same f n x)
 pub digits_left : (w i n : ℕ) → i < w → digits_low_first (w - i) n ≡ (n % 2 == 1) ∷ digits_low_first (w - (i + 1)) (n / 2)
 digits_left w i n h =
     let e : w - i ≡ suc (w - (i + 1)) = omega arith in
-    ap (λ k. digits_low_first k n) e
-
-pub digits_none : (w i n : ℕ) → w ≤ i → digits_low_first (w - i) n ≡ []
-digits_none w i n h =
-    let e : w - i ≡ 0 = omega arith in
     ap (λ k. digits_low_first k n) e
 
 -- ---- as a whole
@@ -140,15 +135,9 @@ put_pulsed d h e w m old new t q k p s = put_same d h e w m old new (ap (meets_w
 pub put_released : (d : Design) (h e : Term) (w : ℕ) (m : Mark) (old new : List Mark) → e ≡ term.Release → view_mark m ≡ meant.Released → both_sets h e ≡ false → w ≡ part_width d h → new ≡ old ++ replicate w m → Met d h e [] old new
 put_released d h e w m old new t q k p s = put_same d h e w m old new (ap (meets_whole d) t) (ap (part_marks d w) t ∙ ap (replicate w) (sym q)) k p s
 
--- a set, a signal and bits meet nothing as a whole
-pub no_set : (d : Design) (h e : Term) (x : Option Extension) (ts : Terms) → e ≡ extended_if x (term.Set ts) → both_sets h e ≡ false → meets d h e ≡ false
-no_set d h e x ts t k = whole_meets d h e k ∙ ap (meets_whole d) (t ∙ set_members x ts)
-
+-- a signal meets nothing as a whole
 pub no_signal : (d : Design) (h e : Term) (s : ℕ) (x : Option Extension) → e ≡ term.Read s x → both_sets h e ≡ false → meets d h e ≡ false
 no_signal d h e s x t k = whole_meets d h e k ∙ ap (meets_whole d) t
-
-pub no_bits : (d : Design) (h e : Term) → IsBits d e → both_sets h e ≡ false → meets d h e ≡ false
-no_bits d h e i k = whole_meets d h e k ∙ operand_whole d e i.operand ∙ i.shape
 
 -- ---- a set beside a set
 

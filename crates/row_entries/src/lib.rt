@@ -16,6 +16,5 @@ mod tests;
 pub use entries::{Entry, read_entry};
 pub use inside::refuse_inside;
 pub use mark::Mark;
-pub use marks::entry_marks;
 pub use pulses::holds_pulse;
 pub use signals::header_signals;

@@ -52,7 +52,7 @@ fn turned(marks: Vec<Mark>) -> Vec<Mark>
 /// What an entry says of each position of its header, from the left; None where it doesn't meet the header. It is
 /// asked only of headers and entries in which nothing is refused. Sets and names of constants are followed by a
 /// stack, so that no call goes as deep as constants nest.
-pub fn entry_marks(
+pub(crate) fn entry_marks(
     alloc: Global,
     names: &Names,
     known: &KnownNames,
