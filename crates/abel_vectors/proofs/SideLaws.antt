@@ -1,14 +1,11 @@
 -- A side of a header names pins where it names signals that are pins.
-use Rattle.std.proofs.Common.{◌≡◌, ℕ, ◌<◌, ◌≤◌, Bool, true, false, ◌&&◌, Option, None, Some, List, [], ◌∷◌, ◌++◌, length, map, get_or, refl, sym, ap, ap₂, ◌∙◌, subst, arith}
+use Rattle.std.proofs.Common.{◌≡◌, ℕ, Bool, true, false, ◌&&◌, Option, None, Some, List, [], refl, sym, ap, ap₂, ◌∙◌}
 use Rattle.std.specs.List.{list_all}
 use Rattle.std.proofs.lemmas.List.Folds.{list_all-append}
-use Rattle.std.proofs.lemmas.List.{get_or-map, get_or_past, length-map}
 use Rattle.pld_base.specs.declared.place.Place.{Place}
-use Rattle.abel_tree.specs.declared.names.Declared.{Declared}
-use Rattle.abel_tree.specs.Entries.{view_declared}
 use Rattle.abel_tree.specs.FirstRefusal.{first_refusal}
 use Rattle.abel_tree.specs.Tree.{Tree}
-use Rattle.abel_meaning.specs.Designs.{Design, no_name}
+use Rattle.abel_meaning.specs.Designs.{Design}
 use Rattle.abel_meaning.specs.Targets.{targets_of, all_targets}
 use Rattle.abel_meaning.specs.Terms.{Term, Terms, term_of}
 use Rattle.abel_meaning.specs.Terms as term
@@ -19,7 +16,7 @@ use Rattle.set_expr.specs.SectionOrder.{section_order}
 use Rattle.row_entries.specs.HeaderSignals.{names_positions, all_name_positions}
 use Rattle.row_entries.proofs.ReadLaws.{inside_first, none_unmet, none_met}
 use Rattle.abel_vectors.specs.HeaderSides.{is_pin_or_unknown}
-use Rattle.abel_vectors.specs.VectorRefusals.{is_pin, names_pins, all_name_pins, side_refused}
+use Rattle.abel_vectors.specs.VectorRefusals.{names_pins, all_name_pins, side_refused}
 
 and_true : (a : Bool) → a ≡ (a && true)
 and_true true = refl
@@ -71,13 +68,3 @@ pub side_pins : (d : Design) (p : Place) (t : Tree) (ss : List (Option ℕ)) →
 side_pins d p t ss e k s a =
     none_met (expression_found d.names t).refusals (BadVector p) (names_pins d (term_of d.known t)) e
     (pins_all d (term_of d.known t) ∙ ap₂ (λ b c. b && c) k (ap (list_all (is_pin_or_unknown d)) (sym s) ∙ a))
-
--- ---- names by their numbers
-
-pub name_here : (ds : List Declared) (k : ℕ) (x : Declared) → k < length ds → x ≡ get_or ds k x → get_or (map view_declared ds) k no_name ≡ view_declared x
-name_here ds k x h e = get_or-map view_declared ds k x no_name h ∙ ap view_declared (sym e)
-
-pub name_past : (ds : List Declared) (k : ℕ) → length ds ≤ k → get_or (map view_declared ds) k no_name ≡ no_name
-name_past ds k h =
-    let n : length (map view_declared ds) ≤ k = omega (arith, length-map ds view_declared) in
-    get_or_past (map view_declared ds) k no_name n

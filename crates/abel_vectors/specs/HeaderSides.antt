@@ -7,6 +7,7 @@ use Rattle.abel_meaning.specs.Designs.{Design, name_at}
 use Rattle.abel_meaning.specs.Targets.{targets_of}
 use Rattle.abel_meaning.specs.Terms.{term_of}
 use Rattle.set_expr.specs.SectionOrder.{section_order}
+use Rattle.set_expr.specs.declared.fault.SectionFault.{SectionFault}
 use Rattle.abel_vectors.specs.declared.headers.Side.{Side}
 use Rattle.abel_vectors.specs.declared.headers.Side.TheVariants as side
 use Rattle.abel_vectors.specs.VectorRefusals.{is_pin, side_refused}
@@ -20,3 +21,8 @@ is_pin_or_unknown d (Some s) = is_pin (name_at d s).kind
 abbrev pub IsSide : Design → Place → Tree → Side → Type 0
 IsSide d p t (side.Refused f) = first_refusal section_order (side_refused d p t) ≡ Some f
 IsSide d p t (side.Pins ss) = (side_refused d p t ≡ []) × (ss.items ≡ targets_of (term_of d.known t))
+
+-- the refusal of a side, if there is one
+abbrev pub side_fault : Side → Option SectionFault
+side_fault (side.Refused f) = Some f
+side_fault (side.Pins ss) = None

@@ -1,2 +1,5 @@
+pub mod GivenChars
 pub mod HeaderSides
+pub mod ReadRows
+pub mod VectorAnswers
 pub mod VectorRefusals

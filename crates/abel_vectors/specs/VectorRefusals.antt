@@ -46,13 +46,14 @@ header_refused d p inputs outputs = side_refused d p inputs ++ side_refused d p 
 
 -- ---- rows
 
+-- a character of a pin, if there is one
+abbrev pub char_if : (pin : ℕ) → Option ℕ → List (ℕ × ℕ)
+char_if pin None = []
+char_if pin (Some c) = (pin, c) ∷ []
+
 -- the characters that the positions of a side give to pins
 abbrev pub char_for : Kind → (Bool → Mark → Option ℕ) → Mark → List (ℕ × ℕ)
-char_for (APin pin negated) char mark = given (char negated mark)
-  where
-    given : Option ℕ → List (ℕ × ℕ)
-    given None = []
-    given (Some c) = (pin, c) ∷ []
+char_for (APin pin negated) char mark = char_if pin (char negated mark)
 char_for _ char mark = []
 
 abbrev pub chars_for : Design → (Bool → Mark → Option ℕ) → List (Option ℕ) → List Mark → List (ℕ × ℕ)

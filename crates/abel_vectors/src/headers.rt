@@ -59,7 +59,7 @@ fn may_stand(names: &Names, signal: Option<u32>) -> bool
 }
 
 /// Whether two facts hold.
-fn both(first: bool, second: bool) -> bool
+pub(crate) fn both(first: bool, second: bool) -> bool
     ensures { result ≡ (first && second) }
 {
     first && second

@@ -1,5 +1,5 @@
 -- An expression that is refused, and one that isn't.
-use Rattle.std.proofs.Common.{sym, ap, ◌∙◌, subst}
+use Rattle.std.proofs.Common.{sym, ◌∙◌, subst}
 use Rattle.std.proofs.lemmas.Result.{IfOk-weaker}
 use Rattle.abel_tree.specs.View.{view}
 use Rattle.set_expr.specs.FoundNames.{expression_found}

@@ -1,0 +1,13 @@
+-- The positions so far.
+use Rattle.std.proofs.Common.{◌≡◌, map, take}
+use Rattle.abel_tree.specs.Entries.{entries_of}
+use Rattle.abel_meaning.specs.Designs.{Design}
+use Rattle.row_entries.specs.EntryMarks.{view_mark}
+use Rattle.abel_vectors.specs.GivenChars.{Adds, char_in}
+use Rattle.abel_vectors.specs.VectorRefusals.{chars_for}
+use Rattle.abel_vectors.proofs.given.put_side.Given as goal
+
+abbrev pub invariant-loop-index : goal.invariant-loop-index
+invariant-loop-index l =
+    (d : Design) → d.names ≡ entries_of l.names
+    → Adds (chars_for d (char_in l.role) (take l.index l.signals) (map view_mark l.marks)) l.initial.list.items l.list.items l.agree

@@ -1,0 +1,24 @@
+-- A row that is no vector's, and one that is.
+use Rattle.std.proofs.Common.{not, ◌||◌, [], map, ap, ◌∙◌, subst}
+use Rattle.row_entries.specs.EntryMarks.{view_mark}
+use Rattle.abel_vectors.specs.declared.chars.Role.TheVariants as role
+use Rattle.abel_vectors.specs.GivenChars.{Adds, char_in}
+use Rattle.abel_vectors.specs.VectorRefusals.{chars_for}
+use Rattle.abel_vectors.proofs.PositionLaws.{row_firsts, row_refuses}
+use Rattle.abel_vectors.proofs.given.row_chars.Goals as goal
+
+pub returns-then-either : goal.returns-then-either
+returns-then-either c d e =
+    let first : Adds (chars_for d (char_in role.Driven) c.args.inputs.now (map view_mark c.args.given.now)) [] c.put_side.new.list.items c.in_ok-driven.driven =
+    subst (λ gs. Adds (chars_for d (char_in role.Driven) c.args.inputs.now (map view_mark c.args.given.now)) gs c.put_side.new.list.items c.in_ok-driven.driven) c.new-list.ensures.items (c.in_ok-driven.ensures d e) in
+    row_refuses d c.args.inputs.now (map view_mark c.args.given.now) c.args.outputs.now (map view_mark c.args.tested.now) _ _ _ _ _ _ first (c.in_ok-agree.ensures d e) c.tests_pulse.ensures (c.either.ensures ∙ ap (λ b. c.tests_pulse.result || not b) c.both.ensures)
+    ∙ c.if-either.true
+
+pub returns-else-either : goal.returns-else-either
+returns-else-either c d e =
+    let first : Adds (chars_for d (char_in role.Driven) c.args.inputs.now (map view_mark c.args.given.now)) [] c.put_side.new.list.items c.in_ok-driven.driven =
+    subst (λ gs. Adds (chars_for d (char_in role.Driven) c.args.inputs.now (map view_mark c.args.given.now)) gs c.put_side.new.list.items c.in_ok-driven.driven) c.new-list.ensures.items (c.in_ok-driven.ensures d e) in (
+      row_refuses d c.args.inputs.now (map view_mark c.args.given.now) c.args.outputs.now (map view_mark c.args.tested.now) _ _ _ _ _ _ first (c.in_ok-agree.ensures d e) c.tests_pulse.ensures (c.either.ensures ∙ ap (λ b. c.tests_pulse.result || not b) c.both.ensures)
+          ∙ c.if-either.false,
+      row_firsts d c.args.inputs.now (map view_mark c.args.given.now) c.args.outputs.now (map view_mark c.args.tested.now) _ _ _ _ first (c.in_ok-agree.ensures d e),
+    )

@@ -1,0 +1,145 @@
+//! The characters that the entries of a row give to pins.
+
+ghost use Rattle.std.specs.Prelude.{◌≡◌, ◌∷◌, ℕ, Option, IfOk, [], map, option_map};
+ghost use Rattle.abel_tree.specs.Entries.{entries_of, view_meaning};
+ghost use Rattle.abel_meaning.specs.Designs.{Design, name_at};
+ghost use Rattle.row_entries.specs.EntryMarks.{view_mark};
+ghost use Rattle.abel_vectors.specs.GivenChars.{Adds, IsGiven, char_in, found_at, pair_of, pairs_of, position_gives};
+ghost use Rattle.abel_vectors.specs.VectorRefusals.{char_for, char_if, chars_for};
+
+use crate::chars::{Role, role_char};
+use crate::headers::both;
+use crate::pulses::{either, mark_at, tests_pulse};
+use abel_tree::{Meaning, Names};
+use pld_base::OutOfMemory;
+use row_entries::Mark;
+use std::alloc::Global;
+
+/// A pin with the character that is given to it.
+#[derive(Clone, Copy, Debug, PartialEq, Eq)]
+pub(crate) struct Given {
+    pub pin: u8,
+    pub char: u8,
+}
+
+/// A character for a pin, where there is one.
+fn given_if(pin: u8, char: Option<u8>) -> Option<Given>
+    ensures { pairs_of result ≡ char_if pin char }
+{
+    match char {
+        Some(char) => Some(Given { pin, char }),
+        None => None,
+    }
+}
+
+/// What a mark gives at a position of a name that means this.
+fn given_by(meaning: &Meaning, role: Role, mark: Mark) -> Option<Given>
+    ensures { pairs_of result ≡ char_for (view_meaning meaning.now) (char_in role) (view_mark mark) }
+{
+    match meaning {
+        Meaning::Pin { pin, negated } => given_if(*pin, role_char(role, *negated, mark)),
+        Meaning::Node(_) => None,
+        Meaning::Constant(_) => None,
+        Meaning::DeviceName => None,
+    }
+}
+
+/// What a mark gives at a position of the name with this number.
+fn given_under(names: &Names, role: Role, number: usize, mark: Mark) -> Option<Given>
+    ensures { (d : Design) → d.names ≡ entries_of names.now → pairs_of result ≡ char_for (name_at d number).kind (char_in role) (view_mark mark) }
+{
+    let list = names.list.as_slice();
+    if number < list.len() {
+        given_by(&list[number].meaning, role, mark)
+    } else {
+        None
+    }
+}
+
+/// What a mark gives at a position, if both are there.
+fn given_at(names: &Names, role: Role, signal: Option<u32>, mark: Option<Mark>) -> Option<Given>
+    ensures { (d : Design) → d.names ≡ entries_of names.now → pairs_of result ≡ position_gives d (char_in role) signal (option_map view_mark mark) }
+{
+    match signal {
+        None => None,
+        Some(number) => match mark {
+            None => None,
+            Some(mark) => given_under(names, role, number as usize, mark),
+        },
+    }
+}
+
+/// The first character that is given to a pin.
+pub(crate) fn first_at(list: &[Given], pin: u8) -> Option<u8>
+    ensures { result ≡ found_at (map pair_of list.now) pin }
+{
+    for index in 0..list.len() {
+        if list[index].pin == pin {
+            return Some(list[index].char);
+        }
+    }
+    None
+}
+
+/// One character more, which is kept where its pin has none yet; whether its pin has no other one.
+fn put(list: &mut Vec<Given>, given: Given) -> Result<bool, OutOfMemory>
+    ensures { IfOk result (λ same. Adds (pair_of given ∷ []) list.old.items list.new.items same) }
+{
+    match first_at(list.as_slice(), given.pin) {
+        Some(char) => Ok(char == given.char),
+        None => {
+            list.push(given)?;
+            Ok(true)
+        }
+    }
+}
+
+/// A character more, if there is one.
+fn put_if(list: &mut Vec<Given>, given: Option<Given>) -> Result<bool, OutOfMemory>
+    ensures { IfOk result (λ same. Adds (pairs_of given) list.old.items list.new.items same) }
+{
+    match given {
+        Some(given) => put(list, given),
+        None => Ok(true),
+    }
+}
+
+/// The characters of a side of a row; whether no pin gets another one than it has.
+fn put_side(
+    names: &Names,
+    role: Role,
+    signals: &[Option<u32>],
+    marks: &[Mark],
+    list: &mut Vec<Given>,
+) -> Result<bool, OutOfMemory>
+    ensures { IfOk result (λ agree. (d : Design) → d.names ≡ entries_of names.now → Adds (chars_for d (char_in role) signals.now (map view_mark marks.now)) list.old.items list.new.items agree) }
+{
+    let mut agree = true;
+    for index in 0..signals.len() {
+        let given = given_at(names, role, signals[index], mark_at(marks, index));
+        let same = put_if(list, given)?;
+        agree = both(agree, same);
+    }
+    Ok(agree)
+}
+
+/// The characters that the marks of a row give to pins; None where they are no vector's.
+pub(crate) fn row_chars(
+    alloc: Global,
+    names: &Names,
+    inputs: &[Option<u32>],
+    given: &[Mark],
+    outputs: &[Option<u32>],
+    tested: &[Mark],
+) -> Result<Option<Vec<Given>>, OutOfMemory>
+    ensures { IfOk result (λ found. (d : Design) → d.names ≡ entries_of names.now → IsGiven d inputs.now (map view_mark given.now) outputs.now (map view_mark tested.now) found) }
+{
+    let mut list = Vec::new(alloc);
+    let driven = put_side(names, Role::Driven, inputs, given, &mut list)?;
+    let agree = put_side(names, Role::Tested, outputs, tested, &mut list)?;
+    if either(tests_pulse(outputs, tested), !both(driven, agree)) {
+        Ok(None)
+    } else {
+        Ok(Some(list))
+    }
+}

@@ -1,0 +1,174 @@
+//! Rows of vectors under a header in which nothing is refused.
+
+ghost use Rattle.std.specs.Prelude.{◌≡◌, ◌+◌, Some, IfOk, OnOk, map};
+ghost use Rattle.abel_tree.specs.Entries.{entries_of};
+ghost use Rattle.abel_tree.specs.FirstRefusal as refusal;
+ghost use Rattle.abel_tree.specs.View.{view_vector_row};
+ghost use Rattle.abel_meaning.specs.Designs.{Design};
+ghost use Rattle.abel_meaning.specs.Targets.{targets_of};
+ghost use Rattle.set_expr.specs.Answer.{IsDesignOf};
+ghost use Rattle.set_expr.specs.KnownNames.{IsKnown};
+ghost use Rattle.set_expr.specs.SectionOrder.{section_order};
+ghost use Rattle.row_entries.specs.EntryMarks.{view_mark};
+ghost use Rattle.row_entries.specs.EntryTerms.{AreInOrder};
+ghost use Rattle.abel_vectors.specs.ReadRows.{AddsRow, AreRead, IsMarkedRow, IsReadRow, entry_fault, header_term, room_fault};
+
+use crate::given::row_chars;
+use crate::pins::vector_of;
+use abel_tree::{Names, VectorRow, Vectors};
+use pld_base::{OutOfMemory, Place, Vector};
+use pld_device::Device;
+use row_entries::{Entry, Mark, read_entry};
+use set_expr::{KnownNames, SectionFault, earlier};
+use std::alloc::Global;
+
+/// The most vectors of a source.
+const MOST: u32 = 9_999;
+
+/// What is found of a row: its first refusal, or its vector.
+#[derive(Drop)]
+pub(crate) enum Row {
+    Refused(SectionFault),
+    Read(Vector),
+}
+
+/// The first refusal of rows, and their vectors where there is none.
+#[derive(Drop)]
+pub(crate) struct Rows {
+    pub fault: Option<SectionFault>,
+    pub list: Vec<Vector>,
+}
+
+/// The first of two refusals of which one is there.
+pub(crate) fn first_of(first: SectionFault, other: Option<SectionFault>) -> SectionFault
+    ensures { Some result ≡ refusal.earlier section_order (Some first) other }
+{
+    match other {
+        None => first,
+        Some(other) => {
+            if other.is_before(&first) {
+                other
+            } else {
+                first
+            }
+        }
+    }
+}
+
+/// The refusal of an entry, if there is one.
+fn fault_of(entry: &Entry) -> Option<SectionFault>
+    ensures { result ≡ entry_fault entry.now }
+{
+    match entry {
+        Entry::Refused(fault) => Some(*fault),
+        Entry::Marks(_) => None,
+    }
+}
+
+/// A row whose entries meet the header.
+fn marked_row<D: Device>(
+    alloc: Global,
+    names: &Names,
+    place: Place,
+    inputs: &[Option<u32>],
+    given: &[Mark],
+    outputs: &[Option<u32>],
+    tested: &[Mark],
+) -> Result<Row, OutOfMemory>
+    ensures { IfOk result (λ row. (d : Design) → IsDesignOf D.table names.now d → IsMarkedRow d place inputs.now (map view_mark given.now) outputs.now (map view_mark tested.now) row) }
+{
+    match row_chars(alloc, names, inputs, given, outputs, tested)? {
+        Some(list) => Ok(Row::Read(vector_of::<D>(list.as_slice()))),
+        None => Ok(Row::Refused(SectionFault::BadVector(place))),
+    }
+}
+
+/// A row under a header whose sides name these positions.
+fn read_row<D: Device>(
+    alloc: Global,
+    names: &Names,
+    known: &KnownNames,
+    section: &Vectors,
+    inputs: &[Option<u32>],
+    outputs: &[Option<u32>],
+    row: &VectorRow,
+) -> Result<Row, OutOfMemory>
+    requires known { IsKnown (entries_of names.now) known.now }
+    requires order { AreInOrder (entries_of names.now) }
+    ensures { IfOk result (λ found. (d : Design) → IsDesignOf D.table names.now d → inputs.now ≡ targets_of (header_term d section.now.inputs) → outputs.now ≡ targets_of (header_term d section.now.outputs) → IsReadRow d (header_term d section.now.inputs) (header_term d section.now.outputs) (view_vector_row row.now) found) }
+{
+    let fault = SectionFault::BadVector(row.place);
+    let given = read_entry(alloc, names, known, fault, &section.inputs, &row.inputs)?;
+    let tested = read_entry(alloc, names, known, fault, &section.outputs, &row.outputs)?;
+    match given {
+        Entry::Refused(first) => Ok(Row::Refused(first_of(first, fault_of(&tested)))),
+        Entry::Marks(given) => match tested {
+            Entry::Refused(second) => Ok(Row::Refused(second)),
+            Entry::Marks(tested) => marked_row::<D>(
+                alloc,
+                names,
+                row.place,
+                inputs,
+                given.as_slice(),
+                outputs,
+                tested.as_slice(),
+            ),
+        },
+    }
+}
+
+/// What is refused of a row behind so many vectors of the sections before it and of its own.
+fn refuse_room(before: u32, index: usize, place: Place) -> Option<SectionFault>
+    ensures { result ≡ room_fault (before + index) place }
+{
+    if before < MOST && index < (MOST - before) as usize {
+        None
+    } else {
+        Some(SectionFault::BadVector(place))
+    }
+}
+
+/// A row more.
+fn add_row(rows: &mut Rows, room: Option<SectionFault>, row: Row) -> Result<(), OutOfMemory>
+    ensures { OnOk result (AddsRow rows.old rows.new room row) }
+{
+    match row {
+        Row::Refused(fault) => {
+            rows.fault = earlier(rows.fault, earlier(room, Some(fault)));
+        }
+        Row::Read(vector) => {
+            rows.fault = earlier(rows.fault, room);
+            rows.list.push(vector)?;
+        }
+    }
+    Ok(())
+}
+
+/// The rows of a section behind so many vectors, under a header whose sides name these positions. All are gone over,
+/// since the first refusal by place may stand in any of them.
+pub(crate) fn read_rows<D: Device>(
+    alloc: Global,
+    names: &Names,
+    known: &KnownNames,
+    section: &Vectors,
+    inputs: &[Option<u32>],
+    outputs: &[Option<u32>],
+    before: u32,
+) -> Result<Rows, OutOfMemory>
+    requires known { IsKnown (entries_of names.now) known.now }
+    requires order { AreInOrder (entries_of names.now) }
+    ensures { IfOk result (λ found. (d : Design) → IsDesignOf D.table names.now d → inputs.now ≡ targets_of (header_term d section.now.inputs) → outputs.now ≡ targets_of (header_term d section.now.outputs) → AreRead d before (header_term d section.now.inputs) (header_term d section.now.outputs) (map view_vector_row section.now.rows) found) }
+{
+    let rows = section.rows.as_slice();
+    let mut found = Rows {
+        fault: None,
+        list: Vec::new(alloc),
+    };
+    for index in 0..rows.len() {
+        let row = &rows[index];
+        let room = refuse_room(before, index, row.place);
+        let read = read_row::<D>(alloc, names, known, section, inputs, outputs, row)?;
+        add_row(&mut found, room, read)?;
+    }
+    Ok(found)
+}
