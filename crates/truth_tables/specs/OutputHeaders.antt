@@ -1,6 +1,6 @@
 -- The outputs of a table's header with their places, and what is refused of it (ABEL-HDL Reference Manual, truth tables;
 -- a position that is X is no output: this project's rule).
-use Rattle.std.specs.Prelude.{ℕ, Bool, true, false, ◌&&◌, Option, None, Some, List, [], ◌∷◌, ◌++◌, length, map, if◌then◌else◌, bytes_eq, codes}
+use Rattle.std.specs.Prelude.{ℕ, Option, None, Some, List, [], ◌∷◌, ◌++◌, length, map, if◌then◌else◌, bytes_eq, codes}
 use Rattle.std.specs.Option.{option_map}
 use Rattle.pld_base.specs.declared.place.Place.{Place}
 use Rattle.abel_tree.specs.Entries.{find}
@@ -8,8 +8,7 @@ use Rattle.abel_tree.specs.Ranges.{range_names}
 use Rattle.abel_tree.specs.Tree.{Tree, ANumber, ASpecial, AName, ASet, AParen, AUnary, ABinary, SetMember, OneMember, SpanMember, Members, NoMember, MoreMembers}
 use Rattle.abel_meaning.specs.Designs.{Design}
 use Rattle.abel_meaning.specs.Targets.{targets_of}
-use Rattle.abel_meaning.specs.Terms.{Term, Terms, term_named}
-use Rattle.abel_meaning.specs.Terms as term
+use Rattle.abel_meaning.specs.Terms.{Term, term_named}
 use Rattle.set_expr.specs.declared.fault.SectionFault.{SectionFault}
 use Rattle.set_expr.specs.declared.fault.SectionFault.TheVariants.{MisplacedSpecial, NotAnOutput}
 use Rattle.set_expr.specs.Answer.{first_place}
@@ -17,42 +16,35 @@ use Rattle.set_expr.specs.FoundNames.{name_found, names_found, found_use}
 use Rattle.set_expr.specs.Refusals.{too_wide}
 use Rattle.section_targets.specs.declared.aim.Aim.{Aim}
 use Rattle.section_targets.specs.TargetSignals.{first_name}
+use Rattle.row_entries.specs.HeaderSignals.{names_positions}
 
 -- what is found of an output header: its refusals, and its positions from the left, none at X
 pub record HeaderFound : Type 0 where
   pub refusals : List SectionFault
   pub outputs : List (Option Aim)
 
--- a term is a signal without extension, X, or a set of such
-abbrev mutual
-  pub names_outputs : Term → Bool
-  names_outputs term.X = true
-  names_outputs (term.Read s None) = true
-  names_outputs (term.Set ts) = all_name_outputs ts
-  names_outputs _ = false
-
-  pub all_name_outputs : Terms → Bool
-  all_name_outputs term.NoTerm = true
-  all_name_outputs (term.Before t ts) = names_outputs t && all_name_outputs ts
-
 abbrev pub header_refused : SectionFault → HeaderFound
 header_refused r = record { refusals = r ∷ []; outputs = [] }
+
+abbrev pub header_of : List (Option Aim) → HeaderFound
+header_of xs = record { refusals = []; outputs = xs }
 
 -- the positions that a term has, all at this place
 abbrev pub outputs_at : Place → List (Option ℕ) → List (Option Aim)
 outputs_at p ss = map (λ (s : Option ℕ). option_map (λ k. record { signal = k; place = p }) s) ss
 
-abbrev pub no_outputs : Place → Option ℕ → Term → List SectionFault
-no_outputs p name t = if names_outputs t then [] else NotAnOutput p name ∷ []
+-- a name with what is refused of it and what it stands for: signals without extension, X, and sets of these; a name that
+-- is refused has no position
+abbrev pub named_outputs : List SectionFault → Place → Option ℕ → Term → HeaderFound
+named_outputs [] p name t =
+    if names_positions t then header_of (outputs_at p (targets_of t)) else header_refused (NotAnOutput p name)
+named_outputs (r ∷ rs) p name t = record { refusals = r ∷ rs; outputs = [] }
 
 -- a name at its place
 abbrev pub header_name : Design → Place → List ℕ → HeaderFound
 header_name d p text =
-    record {
-      refusals = (found_use p (name_found (names_found d.names) text)).refusals
-          ++ no_outputs p (find d.names text) (term_named d.known text);
-      outputs = outputs_at p (targets_of (term_named d.known text));
-    }
+    named_outputs (found_use p (name_found (names_found d.names) text)).refusals p (find d.names text)
+    (term_named d.known text)
 
 abbrev pub both_headers : HeaderFound → HeaderFound → HeaderFound
 both_headers x y = record { refusals = x.refusals ++ y.refusals; outputs = x.outputs ++ y.outputs }
@@ -63,13 +55,13 @@ header_set p x = record x { refusals = x.refusals ++ too_wide p (length x.output
 
 -- the names of a range, all at the place of its first end
 abbrev pub header_range : Design → Place → List (List ℕ) → HeaderFound
-header_range d p [] = record { refusals = []; outputs = [] }
+header_range d p [] = header_of []
 header_range d p (name ∷ names) = both_headers (header_name d p name) (header_range d p names)
 
 -- `.X.` is a position, `.C.` and `.Z.` are not
 abbrev pub header_special : (letter : ℕ) → Place → HeaderFound
 header_special letter p =
-    if bytes_eq (letter ∷ []) (codes "X") then record { refusals = []; outputs = None ∷ [] }
+    if bytes_eq (letter ∷ []) (codes "X") then header_of (None ∷ [])
     else header_refused (MisplacedSpecial p)
 
 -- what is found of an output header, and of each member of one
@@ -86,7 +78,7 @@ abbrev mutual
   output_header d (ABinary sign p t u) = header_refused (NotAnOutput (first_place t) (first_name d.names t))
 
   pub output_members : Design → Members → HeaderFound
-  output_members d NoMember = record { refusals = []; outputs = [] }
+  output_members d NoMember = header_of []
   output_members d (MoreMembers m ms) = both_headers (output_member d m) (output_members d ms)
 
   pub output_member : Design → SetMember → HeaderFound

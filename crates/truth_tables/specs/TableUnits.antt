@@ -1,6 +1,6 @@
 -- The units of a truth table, with what is refused of each and the nodes that it makes (ABEL-HDL Reference Manual, truth
 -- tables; units are this project's rule).
-use Rattle.std.specs.Prelude.{ℕ, Bool, false, Option, None, Some, List, [], ◌∷◌, ◌++◌, if◌then◌else◌}
+use Rattle.std.specs.Prelude.{ℕ, Bool, false, Option, None, Some, List, [], ◌∷◌, ◌++◌, map, if◌then◌else◌}
 use Rattle.pld_base.specs.declared.place.Place.{Place}
 use Rattle.abel_tree.specs.Tree.{Tree, RowTree}
 use Rattle.bit_expr.specs.Formulas.{differ}
@@ -14,7 +14,7 @@ use Rattle.set_expr.specs.FoundNames.{names_found, expression_found}
 use Rattle.row_entries.specs.RowEntries.{holds_pulse, entry_refused}
 use Rattle.section_targets.specs.declared.aim.Aim.{Aim}
 use Rattle.section_targets.specs.declared.manner.Manner.{Manner}
-use Rattle.section_targets.specs.Manners.{aims_refused}
+use Rattle.section_targets.specs.Manners.{manner_of, aims_refused}
 use Rattle.section_targets.specs.Units.{CountedUnit}
 use Rattle.truth_tables.specs.OutputHeaders.{HeaderFound, output_header}
 
@@ -28,12 +28,20 @@ abbrev pub if_none : List SectionFault → List SectionFault → List SectionFau
 if_none [] more = more
 if_none (x ∷ xs) more = x ∷ xs
 
+abbrev pub unless_refused : List SectionFault → List Aim → List Aim
+unless_refused [] aims = aims
+unless_refused (r ∷ rs) aims = []
+
 -- ---- refusals
 
 -- the outputs are assigned by their names, on the clock or not, behind what was assigned before
 abbrev pub outputs_refused : Design → List Manner → (clocked : Bool) → HeaderFound → List SectionFault
 outputs_refused d before clocked h =
     if_none h.refusals (aims_refused d before None false clocked (some_aims h.outputs))
+
+-- how a table assigns its outputs; an output header that is refused assigns nothing
+abbrev pub assigned_by : (clocked : Bool) → HeaderFound → List Manner
+assigned_by clocked h = map (manner_of None false clocked) (unless_refused h.refusals (some_aims h.outputs))
 
 -- both sides of a header
 abbrev pub header_refused : Design → List Manner → (clocked : Bool) → (inputs outputs : Tree) → List SectionFault
