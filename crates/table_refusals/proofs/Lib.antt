@@ -1,0 +1,3 @@
+pub mod HeaderLaws
+pub mod Inside
+pub mod RowLaws

@@ -1,0 +1,106 @@
+//! The levels of a row's entries.
+
+ghost use Rattle.std.specs.Prelude.{◌≡◌, false, Some, IfOk};
+ghost use Rattle.abel_tree.specs.Entries.{entries_of};
+ghost use Rattle.abel_tree.specs.View.{view};
+ghost use Rattle.abel_meaning.specs.Designs.{Design};
+ghost use Rattle.abel_meaning.specs.Rows as meant;
+ghost use Rattle.abel_meaning.specs.Terms.{term_of};
+ghost use Rattle.set_expr.specs.FoundNames.{names_found};
+ghost use Rattle.set_expr.specs.KnownNames.{IsKnown};
+ghost use Rattle.row_entries.specs.EntryMarks.{view_mark};
+ghost use Rattle.row_entries.specs.EntryTerms.{IsOver, AreInOrder};
+ghost use Rattle.row_entries.specs.RowEntries as found;
+ghost use Rattle.table_refusals.specs.RowLevels.{IsLevels, levels_of};
+
+use abel_tree::{Expr, Names};
+use pld_base::{ListOf, OutOfMemory};
+use row_entries::{Entry, Mark, holds_pulse, read_entry};
+use set_expr::{KnownNames, SectionFault};
+use std::alloc::Global;
+
+/// What is found of an entry of a table: its first refusal, and where nothing is refused its level at each position of the
+/// header from the left, None at X.
+#[derive(Drop)]
+pub struct Levels {
+    pub levels: ListOf<Option<bool>>,
+    pub fault: Option<SectionFault>,
+}
+
+/// The level of a mark.
+fn level_of(mark: Mark) -> Option<bool>
+    ensures { result ≡ meant.level_of_mark (view_mark mark) }
+{
+    match mark {
+        Mark::Level(on) => Some(on),
+        Mark::Unknown => None,
+        Mark::Pulsed => None,
+        Mark::Released => None,
+    }
+}
+
+/// The levels of marks.
+fn list_levels(alloc: Global, marks: &[Mark]) -> Result<Vec<Option<bool>>, OutOfMemory>
+    ensures { IfOk result (λ ls. ls.items ≡ levels_of marks.now) }
+{
+    let mut levels = Vec::new(alloc);
+    for index in 0..marks.len() {
+        levels.push(level_of(marks[index]))?;
+    }
+    Ok(levels)
+}
+
+/// A refused entry.
+fn refused(alloc: Global, fault: SectionFault) -> Levels
+    ensures { result.fault ≡ Some fault }
+{
+    Levels {
+        levels: ListOf::from_vec(Vec::new(alloc)),
+        fault: Some(fault),
+    }
+}
+
+/// An entry in which neither `.C.` nor `.Z.` stands.
+fn level_entry(
+    alloc: Global,
+    names: &Names,
+    known: &KnownNames,
+    row: SectionFault,
+    header: &Expr,
+    entry: &Expr,
+) -> Result<Levels, OutOfMemory>
+    requires known { IsKnown (entries_of names.now) known.now }
+    requires order { AreInOrder (entries_of names.now) }
+    ensures { IfOk result (λ r. (d : Design) → IsOver names.now d → found.holds_pulse (names_found d.names) (view entry.now) ≡ false → IsLevels d row (term_of d.known (view header.now)) (view entry.now) r) }
+{
+    match read_entry(alloc, names, known, row, header, entry)? {
+        Entry::Refused(fault) => Ok(refused(alloc, fault)),
+        Entry::Marks(marks) => {
+            let levels = list_levels(alloc, marks.as_slice())?;
+            Ok(Levels {
+                levels: ListOf::from_vec(levels),
+                fault: None,
+            })
+        }
+    }
+}
+
+/// An entry under its header, in a row of a table that is refused so: `.C.` and `.Z.` stand in none.
+pub(crate) fn read_levels(
+    alloc: Global,
+    names: &Names,
+    known: &KnownNames,
+    row: SectionFault,
+    header: &Expr,
+    entry: &Expr,
+) -> Result<Levels, OutOfMemory>
+    requires known { IsKnown (entries_of names.now) known.now }
+    requires order { AreInOrder (entries_of names.now) }
+    ensures { IfOk result (λ r. (d : Design) → IsOver names.now d → IsLevels d row (term_of d.known (view header.now)) (view entry.now) r) }
+{
+    if holds_pulse(alloc, known, entry)? {
+        Ok(refused(alloc, row))
+    } else {
+        level_entry(alloc, names, known, row, header, entry)
+    }
+}
