@@ -1,0 +1,5 @@
+pub mod Gives
+pub mod Products
+pub mod Rows
+pub mod TableAnswers
+pub mod Works

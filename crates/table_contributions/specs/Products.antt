@@ -1,0 +1,76 @@
+-- Private: the product of a row, position by position (ABEL-HDL Reference Manual, truth tables).
+use Rattle.std.specs.Prelude.{◌≡◌, ◌+◌, ℕ, Bool, true, false, length, Option, None, Some, List, [], ◌∷◌, reverse}
+use Rattle.std.specs.Borrow.{Bor}
+use Rattle.pld_base.specs.declared.place.Place.{Place}
+use Rattle.bit_expr.specs.declared.node.ExprId.{ExprId}
+use Rattle.bit_expr.specs.declared.node.Node.{Node}
+use Rattle.bit_expr.specs.Arena.{arena, formula_at}
+use Rattle.bit_expr.specs.Folding.{Made, free}
+use Rattle.bit_expr.specs.Formulas.{Formula, Const}
+use Rattle.abel_tree.specs.declared.expressions.Expr.{Expr}
+use Rattle.abel_tree.specs.View.{view}
+use Rattle.abel_meaning.specs.CountedBlocks.{make_literal, row_literals}
+use Rattle.abel_meaning.specs.Designs.{Design}
+use Rattle.abel_meaning.specs.FormulaBits.{bits_of, formulas}
+use Rattle.abel_meaning.specs.Numbers.{Number, width_of}
+use Rattle.abel_meaning.specs.Terms.{Term, term_of}
+use Rattle.abel_meaning.specs.Terms as term
+use Rattle.abel_meaning.specs.Values.{constant_of}
+use Rattle.set_expr.specs.declared.contributions.Contribution.{Contribution}
+use Rattle.set_expr.specs.declared.shaped.Shaped.{Shaped}
+use Rattle.set_expr.specs.Answer.{AreIn, IsShaped, bits_at, unknown_at}
+use Rattle.section_targets.specs.Building.{IsBit, IsBuilt}
+use Rattle.section_targets.specs.Units.{part}
+
+-- a position beside its level
+abbrev pub position_literal : List Formula → (found : Formula) → Option ExprId → Option Bool → Made Formula
+position_literal fs found None l = free found
+position_literal fs found (Some id) None = free found
+position_literal fs found (Some id) (Some level) = make_literal found level (formula_at fs id)
+
+-- the literals of positions, behind what was found
+abbrev pub literals : List Formula → (found : Formula) → List (Option ExprId) → List (Option Bool) → Made Formula
+literals fs found ps ls = row_literals found (unknown_at ps) (bits_at fs ps) ls
+
+-- all literals but those of these positions and levels are joined
+pub record IsJoined (old now : List Node) (unit : Place) (found : ExprId) (all : Made Formula)
+    (ps : List (Option ExprId)) (ls : List (Option Bool)) : Type 0 where
+  pub made : Formula
+  pub nodes : ℕ
+  pub bit : IsBit (arena now) found made
+  pub built : (list : List Contribution)
+      → IsBuilt (part unit nodes ∷ []) [] [] (record { exprs = old; list = list }) (record { exprs = now; list = list })
+  pub what : all.what ≡ (literals (arena old) made ps ls).what
+  pub total : all.nodes ≡ nodes + (literals (arena old) made ps ls).nodes
+
+-- the literals of a header's positions
+abbrev pub header_literals : Design → (header : Term) → List (Option Bool) → Made Formula
+header_literals d h ls =
+    row_literals (Const true) (reverse (constant_of d h).unknown)
+    ((formulas d).word (width_of (constant_of d h).shape) h) ls
+
+-- positions that stand for those of a header
+pub record StandForInputs (d : Design) (h : Term) (fs : List Formula) (ps : List (Option ExprId)) : Type 0 where
+  pub inside : AreIn (length fs) ps
+  pub same : (ls : List (Option Bool)) → header_literals d h ls ≡ literals fs (Const true) ps ls
+
+-- ---- headers
+
+-- an operator of two operands, behind signs
+abbrev pub is_computed : Term → Bool
+is_computed (term.UnaryOf sign t) = is_computed t
+is_computed (term.BinaryOf sign t u) = true
+is_computed _ = false
+
+-- what a name stands for is a constant's expression, or no operator
+abbrev pub IsConstantIf : Design → Option (Bor Expr) → Term → Type 0
+IsConstantIf d None t = is_computed t ≡ false
+IsConstantIf d (Some x) t = t ≡ term_of d.known (view x.now)
+
+-- the bits of a term in an arena
+abbrev pub IsShapedTerm : Design → List Formula → Term → Shaped → Type 0
+IsShapedTerm d fs t s = IsShaped fs s (constant_of d t) (bits_of d t).what
+
+-- those of a number
+abbrev pub IsShapedNumber : Design → List Formula → Term → Shaped → Type 0
+IsShapedNumber d fs t s = IsShapedTerm d fs t s × ((constant_of d t).shape ≡ Number)

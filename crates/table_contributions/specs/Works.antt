@@ -1,0 +1,34 @@
+-- Private: units with what they give, and how far their building is (this project's rule).
+use Rattle.std.specs.Prelude.{◌≡◌, List, [], ◌∷◌, ◌++◌}
+use Rattle.pld_base.specs.declared.place.Place.{Place}
+use Rattle.bit_expr.specs.Formulas.{Formula}
+use Rattle.abel_meaning.specs.Contributions as meant
+use Rattle.set_expr.specs.declared.contributions.Contributions.{Contributions}
+use Rattle.section_targets.specs.Building.{IsBuilt}
+use Rattle.section_targets.specs.Units.{CountedUnit}
+
+-- units, with what they give at which places
+pub record Work : Type 0 where
+  pub units : List CountedUnit
+  pub gives : List (meant.Contribution Formula)
+  pub places : List Place
+
+-- one work before another
+abbrev pub before : Work → Work → Work
+before v w = record { units = v.units ++ w.units; gives = v.gives ++ w.gives; places = v.places ++ w.places }
+
+abbrev pub nothing : Work
+nothing = record { units = []; gives = []; places = [] }
+
+-- what is given without nodes
+abbrev pub given_freely : List (meant.Contribution Formula) → List Place → Work
+given_freely gs ps = record { units = []; gives = gs; places = ps }
+
+abbrev pub IsDone : Work → (old new : Contributions) → Type 0
+IsDone w old new = IsBuilt w.units w.gives w.places old new
+
+-- all but the rest is built
+pub record IsBegun (all rest : Work) (old now : Contributions) : Type 0 where
+  pub front : Work
+  pub whole : all ≡ before front rest
+  pub done : IsDone front old now

@@ -1,0 +1,13 @@
+//! What truth tables contribute to the signals of a source.
+#![tactic(auto)]
+
+mod building;
+mod giving;
+mod inputs;
+mod positions;
+mod products;
+mod rows;
+
+pub use building::build_table;
+pub use giving::{Assigning, give_output};
+pub use positions::give_no_matches;
