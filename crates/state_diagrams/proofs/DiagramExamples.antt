@@ -108,6 +108,10 @@ inside = refl
 twice : refused registers (state 2 (number 2) [] ∷ state 3 (name 3 "s") [] ∷ []) ≡ BadState (at 3) ∷ []
 twice = refl
 
+-- state a & 0 is refused, and so lists no number: state 0 is the first one
+refused_unlisted : refused registers (state 2 (both 2 (name 2 "a") (number 0)) [] ∷ state 3 (number 0) [] ∷ []) ≡ BadState (at 2) ∷ []
+refused_unlisted = refl
+
 -- goto [0,0,1]; a set of three for two registers
 goal_width : refused registers (state 2 (number 0) (goal 3 (set 3 (number 0 ∷ number 0 ∷ number 1 ∷ [])) ∷ []) ∷ []) ≡ BadWidth (at 3) ∷ []
 goal_width = refl

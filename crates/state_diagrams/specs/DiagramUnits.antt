@@ -1,7 +1,6 @@
 -- The units of a state diagram, with what is refused of each and the nodes that it makes (ABEL-HDL Reference Manual, state
 -- diagrams; units are this project's rule).
-use Rattle.std.specs.Prelude.{ℕ, ◌^◌, ◌==◌, nat_lt, Bool, true, false, not, ◌&&◌, ◌||◌, None, List, [], ◌∷◌, ◌++◌, if◌then◌else◌, length, map}
-use Rattle.std.specs.List.{list_any}
+use Rattle.std.specs.Prelude.{ℕ, true, false, None, List, [], ◌∷◌, ◌++◌, length, map}
 use Rattle.pld_base.specs.declared.place.Place.{Place}
 use Rattle.bit_expr.specs.Folding.{Made}
 use Rattle.bit_expr.specs.Formulas.{Formula, Const}
@@ -11,77 +10,29 @@ use Rattle.abel_meaning.specs.CountedNodes.{value_nodes, choice_nodes, condition
 use Rattle.abel_meaning.specs.Designs.{Design}
 use Rattle.abel_meaning.specs.Diagrams.{with_statements}
 use Rattle.abel_meaning.specs.Numbers.{digits}
-use Rattle.abel_meaning.specs.Terms.{Term, Terms, term_of}
-use Rattle.abel_meaning.specs.Terms as term
-use Rattle.abel_meaning.specs.Values.{constant_of}
 use Rattle.set_expr.specs.declared.fault.SectionFault.{SectionFault}
-use Rattle.set_expr.specs.declared.fault.SectionFault.TheVariants.{BadState}
 use Rattle.set_expr.specs.FoundNames.{expression_found}
-use Rattle.set_expr.specs.Refusals.{Found}
 use Rattle.section_targets.specs.declared.aim.Aim.{Aim}
 use Rattle.section_targets.specs.declared.manner.Manner.{Manner}
 use Rattle.section_targets.specs.Manners.{manner_of, aims_refused}
 use Rattle.section_targets.specs.TargetSignals.{TargetFound, target_member}
 use Rattle.section_targets.specs.Units.{CountedUnit}
 use Rattle.section_targets.specs.ValueWidths.{value_refused}
-use Rattle.equations.specs.StatementUnits.{condition_refused, statements_manners, units_of_statements}
+use Rattle.equations.specs.StatementUnits.{assigned_aims, condition_refused, statements_manners, units_of_statements}
+use Rattle.state_diagrams.specs.StateValues.{if_none, listed_after, state_number, state_refused}
 
 -- ---- the header
-
-abbrev pub if_none : List SectionFault → List SectionFault → List SectionFault
-if_none [] more = more
-if_none (x ∷ xs) more = x ∷ xs
 
 -- the registers are targets on the clock, behind what was assigned before
 abbrev pub registers_refused : Design → List Manner → TargetFound → List SectionFault
 registers_refused d before t = if_none t.refusals (aims_refused d before None false true t.aims)
 
+-- registers that are no targets are assigned nothing
 abbrev pub register_manners : TargetFound → List Manner
-register_manners t = map (manner_of None false true) t.aims
+register_manners t = map (manner_of None false true) (assigned_aims t)
 
 abbrev pub signals_of : List Aim → List ℕ
 signals_of aims = map (λ (a : Aim). a.signal) aims
-
--- ---- the value of a state
-
--- some signal is read, whether or not the value depends on it
-abbrev mutual
-  pub reads_signal : Term → Bool
-  reads_signal (term.Number n) = false
-  reads_signal term.X = false
-  reads_signal term.Pulse = false
-  reads_signal term.Release = false
-  reads_signal (term.Read s e) = true
-  reads_signal (term.Set ts) = any_reads_signal ts
-  reads_signal (term.UnaryOf sign t) = reads_signal t
-  reads_signal (term.BinaryOf sign t u) = reads_signal t || reads_signal u
-
-  pub any_reads_signal : Terms → Bool
-  any_reads_signal term.NoTerm = false
-  any_reads_signal (term.Before t ts) = reads_signal t || any_reads_signal ts
-
-abbrev pub is_empty : List SectionFault → Bool
-is_empty [] = true
-is_empty (x ∷ xs) = false
-
--- the number of a state
-abbrev pub state_number : Design → Tree → ℕ
-state_number d v = (constant_of d (term_of d.known v)).number
-
--- a state of n registers that isn't listed before: a constant without X that n bits hold
-abbrev pub is_state_of : Design → (n : ℕ) → (listed : List ℕ) → (specials : List SectionFault) → Tree → Bool
-is_state_of d n listed specials v =
-    is_empty specials
-    && (not (reads_signal (term_of d.known v))
-    && (nat_lt (state_number d v) (2 ^ n) && not (list_any (λ m. m == state_number d v) listed)))
-
-abbrev pub state_value_refused : Design → Place → (n : ℕ) → (listed : List ℕ) → Found → Tree → List SectionFault
-state_value_refused d p n listed f v =
-    if_none f.refusals (if is_state_of d n listed f.specials v then [] else BadState p ∷ [])
-
--- a state at its word
-abbrev pub state_refused : Design → (n : ℕ) → (listed : List ℕ) → StateTree → List SectionFault
-state_refused d n listed s = state_value_refused d s.place n listed (expression_found d.names s.value) s.value
 
 -- ---- transitions
 
@@ -163,7 +114,12 @@ abbrev pub units_of_states : Design → List ℕ → List Manner → (listed : L
 units_of_states d ss before listed [] = []
 units_of_states d ss before listed (s ∷ states) =
     units_of_state d ss before (state_refused d (length ss) listed s) s (state_guard d ss s.value)
-    ++ units_of_states d ss (before ++ state_manners d s) (state_number d s.value ∷ listed) states
+    ++ units_of_states d ss (before ++ state_manners d s) (listed_after d (length ss) listed s) states
+
+-- how states assign signals
+abbrev pub states_manners : Design → List StateTree → List Manner
+states_manners d [] = []
+states_manners d (s ∷ states) = state_manners d s ++ states_manners d states
 
 -- states stand for no registers that are refused
 abbrev pub units_behind : List SectionFault → Place → List CountedUnit → List CountedUnit
@@ -178,3 +134,12 @@ units_for d before p t states =
 -- the units of a diagram at this place, behind what was assigned before
 abbrev pub units_of_diagram : Design → List Manner → Place → (registers : Tree) → List StateTree → List CountedUnit
 units_of_diagram d before p registers states = units_for d before p (target_member d registers) states
+
+-- how a diagram of these registers assigns signals, behind what was assigned before
+abbrev pub manners_behind : List SectionFault → List Manner → List Manner
+manners_behind [] ms = ms
+manners_behind (r ∷ rs) ms = []
+
+abbrev pub diagram_manners : Design → List Manner → TargetFound → List StateTree → List Manner
+diagram_manners d before t states =
+    register_manners t ++ manners_behind (registers_refused d before t) (states_manners d states)

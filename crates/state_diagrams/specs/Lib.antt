@@ -1,1 +1,2 @@
 pub mod DiagramUnits
+pub mod StateValues
