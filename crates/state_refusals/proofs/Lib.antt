@@ -1,0 +1,4 @@
+pub mod ArmLaws
+pub mod ArmViews
+pub mod RegisterLaws
+pub mod StateLaws

@@ -1,0 +1,4 @@
+pub mod Arms
+pub mod Checks
+pub mod Registers
+pub mod States
