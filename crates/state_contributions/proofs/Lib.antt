@@ -1,0 +1,3 @@
+pub mod BranchWorks
+pub mod GoalWorks
+pub mod GuardLaws

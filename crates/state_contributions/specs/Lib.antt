@@ -1,0 +1,3 @@
+pub mod Branches
+pub mod Goals
+pub mod Places
