@@ -1,0 +1,40 @@
+-- Private: the literals of registers, one after another (ABEL-HDL Reference Manual, state diagrams).
+use Rattle.std.specs.Prelude.{◌≡◌, ℕ, Bool, None, List, [], ◌∷◌, Result, Ok, IfOk}
+use Rattle.pld_base.specs.declared.place.Place.{Place}
+use Rattle.bit_expr.specs.declared.node.ExprId.{ExprId}
+use Rattle.bit_expr.specs.declared.node.Node.{Node}
+use Rattle.bit_expr.specs.Arena.{arena}
+use Rattle.bit_expr.specs.Folding.{Made, ◌>>=◌}
+use Rattle.bit_expr.specs.Formulas.{Formula}
+use Rattle.abel_meaning.specs.CountedBlocks.{make_literal, register_literals}
+use Rattle.abel_meaning.specs.Designs.{Design}
+use Rattle.abel_meaning.specs.FormulaBits.{make_source}
+use Rattle.abel_meaning.specs.Sources.{source_of}
+use Rattle.set_expr.specs.declared.fault.SectionFault.{SectionFault}
+use Rattle.section_targets.specs.declared.aim.Aim.{Aim}
+use Rattle.section_targets.specs.Building.{BuildsNodes, IsBit}
+use Rattle.section_targets.specs.Units.{part}
+use Rattle.state_diagrams.specs.DiagramUnits.{signals_of}
+
+-- a bit is made as a part of the unit at a place
+abbrev pub MakesBit : Place → Made Formula → (old new : List Node) → Result ExprId SectionFault → Type 0
+MakesBit p m old new r = BuildsNodes (part p m.nodes ∷ []) old new r × IfOk r (λ id. IsBit (arena new) id m.what)
+
+-- what the bare name of a signal reads
+abbrev pub bare_read : Design → (signal : ℕ) → Made Formula
+bare_read d s = make_source (source_of d s None)
+
+-- the literal of one register, behind what was found
+abbrev pub register_literal : Design → (found : Formula) → (signal : ℕ) → (digit : Bool) → Made Formula
+register_literal d found s b = bare_read d s >>= λ f. make_literal found b f
+
+-- the literals of several
+abbrev pub literals : Design → (found : Formula) → (registers : List Aim) → (digits : List Bool) → Made Formula
+literals d found xs bs = register_literals d found (signals_of xs) bs
+
+-- all literals but those of these registers and digits are joined
+pub record IsJoined (d : Design) (old now : List Node) (unit : Place) (found : ExprId) (all : Made Formula)
+    (registers : List Aim) (digits : List Bool) : Type 0 where
+  pub made : Made Formula
+  pub bit : MakesBit unit made old now (Ok found)
+  pub whole : all ≡ (made >>= λ f. literals d f registers digits)
