@@ -1,0 +1,3 @@
+pub mod GuardsOfStates
+pub mod MatchLaws
+pub mod PushedLaws
