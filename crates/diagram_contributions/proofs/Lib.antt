@@ -1,0 +1,5 @@
+pub mod DiagramBuilt
+pub mod StateBits
+pub mod StateLists
+pub mod StateWorks
+pub mod WholeDiagrams

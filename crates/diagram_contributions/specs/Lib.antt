@@ -1,0 +1,3 @@
+pub mod DiagramAnswers
+pub mod DiagramPlaces
+pub mod DiagramWorks
