@@ -1,0 +1,5 @@
+mod DirectiveLists
+pub mod SectionLists
+pub mod SectionsAnswered
+mod SectionsBuilt
+pub mod SourceAnswers
