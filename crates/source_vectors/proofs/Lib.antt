@@ -1,0 +1,3 @@
+mod AllAnswers
+mod SectionCounts
+pub mod VectorLists

@@ -1,0 +1,10 @@
+-- The sections are refused.
+use Rattle.std.proofs.Common.{subst}
+use Rattle.source_sections.specs.SectionAnswers.{AnswersSections}
+use Rattle.source_sections.proofs.SourceAnswers.{designed}
+use Rattle.source_vectors.proofs.joining.all_sections.Goals as goal
+
+pub returns-in-Err-clause-answers : goal.returns-in-Err-clause-answers
+returns-in-Err-clause-answers g c =
+    let d = designed g.D.Device.table c.args.names.now c.args.source.now in
+    c.first_with.ensures d (subst (AnswersSections d) c.in-Err.is c.contributions-given.ensures) c.all_vectors-tested.ensures.answers

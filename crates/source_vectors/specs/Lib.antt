@@ -1,0 +1,3 @@
+pub mod AllSections
+pub mod FoundVectors
+pub mod SourceVectors

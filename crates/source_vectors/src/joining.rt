@@ -1,0 +1,94 @@
+//! All that the sections of a source say.
+
+ghost use Rattle.std.specs.Prelude.{◌≡◌, ◌≤◌, ◌++◌, All, IfOk, List, Some, length};
+ghost use Rattle.jedec_file.specs.TestVectors.{IsTestVector};
+ghost use Rattle.abel_tree.specs.Entries.{entries_of};
+ghost use Rattle.abel_tree.specs.FirstRefusal as first;
+ghost use Rattle.abel_tree.specs.View.{view_module};
+ghost use Rattle.abel_meaning.specs.Designs.{Design, design_for};
+ghost use Rattle.set_expr.specs.declared.fault.SectionFault.{SectionFault};
+ghost use Rattle.set_expr.specs.KnownNames.{IsKnown};
+ghost use Rattle.set_expr.specs.SectionOrder.{section_order};
+ghost use Rattle.row_entries.specs.EntryTerms.{AreInOrder};
+ghost use Rattle.expr_bits.specs.Placed.{ArePlaced};
+ghost use Rattle.source_sections.specs.SectionAnswers.{IsTold, sections_refused};
+ghost use Rattle.source_vectors.specs.AllSections.{AnswersAll, all_sections_refused};
+ghost use Rattle.source_vectors.specs.SourceVectors.{AnswersVectors};
+
+use crate::reading::all_vectors;
+use abel_tree::{Module, Names};
+use pld_base::Vector;
+use pld_device::Device;
+use set_expr::{Contributions, KnownNames, SectionFault, earlier};
+use source_sections::contributions;
+use std::alloc::Global;
+
+/// What the sections of a source say: its contributions, and its test vectors.
+#[derive(Drop)]
+pub struct SourceSections {
+    pub contributions: Contributions,
+    pub vectors: Vec<Vector>,
+}
+
+/// The first of two refusals.
+fn sooner(section: SectionFault, vector: SectionFault) -> SectionFault
+    ensures { first.earlier section_order (Some section) (Some vector) ≡ Some result }
+{
+    match earlier(Some(section), Some(vector)) {
+        Some(fault) => fault,
+        None => section,
+    }
+}
+
+/// The first of a refusal of the sections and of one of the vectors; want of memory comes before both.
+fn first_of(section: SectionFault, vector: SectionFault) -> SectionFault
+    ensures { (rs ss : List SectionFault) → IsTold rs section → IsTold ss vector → IsTold (rs ++ ss) result }
+{
+    match section {
+        SectionFault::OutOfMemory => section,
+        _ => match vector {
+            SectionFault::OutOfMemory => vector,
+            _ => sooner(section, vector),
+        },
+    }
+}
+
+/// The same, where the vectors may not be refused.
+fn first_with(section: SectionFault, tested: &Result<Vec<Vector>, SectionFault>) -> SectionFault
+    ensures { (d : Design) → IsTold (sections_refused d) section → AnswersVectors d tested.now → IsTold (all_sections_refused d) result }
+{
+    match tested {
+        Ok(_) => section,
+        Err(vector) => first_of(section, *vector),
+    }
+}
+
+/// What the sections of a module contribute and its test vectors, where nothing is refused of its constants, its sections
+/// and its vectors. Else the first refusal by place.
+pub fn all_sections<D: Device>(
+    alloc: Global,
+    names: &Names,
+    known: &KnownNames,
+    source: &Module,
+) -> Result<SourceSections, SectionFault>
+    requires known { IsKnown (entries_of names.now) known.now }
+    requires order { AreInOrder (entries_of names.now) }
+    requires placed { ArePlaced names.now }
+    ensures answers { AnswersAll (design_for D.table (entries_of names.now) (view_module source.now)) result }
+    // A fuse file has room for the vectors, and may have each.
+    ensures few { IfOk result (λ found. length found.vectors.items ≤ 9999) }
+    ensures chars { IfOk result (λ found. All (IsTestVector D.table) found.vectors.items) }
+{
+    let given = contributions::<D>(alloc, names, known, source);
+    let tested = all_vectors::<D>(alloc, names, known, source);
+    match given {
+        Ok(contributions) => match tested {
+            Ok(vectors) => Ok(SourceSections {
+                contributions,
+                vectors,
+            }),
+            Err(fault) => Err(fault),
+        },
+        Err(section) => Err(first_with(section, &tested)),
+    }
+}

@@ -1,0 +1,70 @@
+//! The vectors of all sections of a source.
+
+ghost use Rattle.std.specs.Prelude.{◌≡◌, ◌≤◌, All, IfOk, length};
+ghost use Rattle.jedec_file.specs.TestVectors.{IsTestVector};
+ghost use Rattle.abel_tree.specs.Entries.{entries_of};
+ghost use Rattle.abel_tree.specs.View.{view_module};
+ghost use Rattle.abel_meaning.specs.Designs.{Design, design_for};
+ghost use Rattle.set_expr.specs.Answer.{IsDesignOf};
+ghost use Rattle.set_expr.specs.KnownNames.{IsKnown};
+ghost use Rattle.row_entries.specs.EntryTerms.{AreInOrder};
+ghost use Rattle.source_sections.specs.Reading.{view_sections};
+ghost use Rattle.source_vectors.specs.FoundVectors.{AreFound};
+ghost use Rattle.source_vectors.specs.SourceVectors.{AnswersVectors};
+
+use crate::counting::count_after;
+use crate::finding::{Found, add_section};
+use abel_tree::{Module, Names, Section};
+use abel_vectors::vectors;
+use pld_base::{OutOfMemory, Vector};
+use pld_device::Device;
+use set_expr::{KnownNames, SectionFault};
+use std::alloc::Global;
+
+/// The first refusal, by place, of the vectors of sections, and the vectors where there is none. All sections are gone
+/// over, since any may have the first refusal.
+fn read_vectors<D: Device>(
+    alloc: Global,
+    names: &Names,
+    known: &KnownNames,
+    sections: &[Section],
+) -> Result<Found, OutOfMemory>
+    requires known { IsKnown (entries_of names.now) known.now }
+    requires order { AreInOrder (entries_of names.now) }
+    ensures found { IfOk result (λ found. (d : Design) → IsDesignOf D.table names.now d → AreFound d (view_sections sections.now) found) }
+    ensures chars { IfOk result (λ found. All (IsTestVector D.table) found.list.items) }
+{
+    let mut found = Found {
+        fault: None,
+        list: Vec::new(alloc),
+    };
+    let mut before = 0u32;
+    for section in sections {
+        let read = vectors::<D>(alloc, names, known, section, before);
+        add_section(&mut found, read)?;
+        before = count_after(before, section);
+    }
+    Ok(found)
+}
+
+/// The test vectors of a module as the characters of the device's pins, in order of the source, where nothing of them is
+/// refused; else the first refusal by place.
+pub fn all_vectors<D: Device>(
+    alloc: Global,
+    names: &Names,
+    known: &KnownNames,
+    source: &Module,
+) -> Result<Vec<Vector>, SectionFault>
+    requires known { IsKnown (entries_of names.now) known.now }
+    requires order { AreInOrder (entries_of names.now) }
+    ensures answers { AnswersVectors (design_for D.table (entries_of names.now) (view_module source.now)) result }
+    // A fuse file has room for them, and may have each.
+    ensures few { IfOk result (λ list. length list.items ≤ 9999) }
+    ensures chars { IfOk result (λ list. All (IsTestVector D.table) list.items) }
+{
+    let found = read_vectors::<D>(alloc, names, known, source.sections.as_slice())?;
+    match found.fault {
+        None => Ok(found.list),
+        Some(fault) => Err(fault),
+    }
+}
