@@ -1,0 +1,2 @@
+pub mod FittedReads
+pub mod PastLines
