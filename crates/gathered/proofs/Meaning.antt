@@ -71,7 +71,7 @@ q_complements_by false x = refl
 -- ---- cells
 
 module _ (d : Design) (laws : IsDevice d.device) (at : Levels) (c : ℕ) (within : c < length d.device.cells) where
-  abbrev here : ℕ → Wanted
+  abbrev pub here : ℕ → Wanted
   here s = wanted_for d (given_formulas d) c s (name_at d s)
 
   function_is : (s : ℕ) → function_at at (here s).function ≡ function_of (truth_at d at) (given_at d at) s
@@ -100,18 +100,22 @@ module _ (d : Design) (laws : IsDevice d.device) (at : Levels) (c : ℕ) (within
   alone (Row row) is enabled = absurd cc
   alone (PinLow pin) is enabled = rw ((laws.cells c no_cell within).pin_registers pin is) refl
 
-  level_as : (found : Option ℕ) (v : Bool) → signal_on d c ≡ found → cell_enabled_by (truth_at d at) at (given_at d at) found (cell_at d.device c).enable ≡ true
-      → may_drive at c (option_map here found) v ≡ pin_allows allows d at (given_at d at) c found v
-  level_as None v is enabled =
-      let stores : cell_stores d c ≡ true = rw is (alone (cell_at d.device c).enable refl enabled) in
-      rw stores refl
-  level_as (Some s) v is enabled =
+  -- whether or not it is enabled
+  pub level_of : (s : ℕ) (v : Bool) → signal_on d c ≡ Some s → may_drive at c (Some (here s)) v ≡ pin_allows allows d at (given_at d at) c (Some s) v
+  level_of s v is =
       elim (cases_Bool (is_stored (name_at d s))) [
         | inl stored ↦ rw stored refl
         | inr combinational ↦ rw combinational (ap (λ f. allows f (complement_if (is_negated (name_at d s).kind) v)) (function_is s))
       ]
 
-  next_as : (found : Option ℕ) (v : Bool) → cell_stores_for d c found ≡ true → may_store at (option_map here found) v ≡ next_allows allows d at (given_at d at) found v
+  level_as : (found : Option ℕ) (v : Bool) → signal_on d c ≡ found → cell_enabled_by (truth_at d at) at (given_at d at) found (cell_at d.device c).enable ≡ true
+      → may_drive at c (option_map here found) v ≡ pin_allows allows d at (given_at d at) c found v
+  level_as None v is enabled =
+      let stores : cell_stores d c ≡ true = rw is (alone (cell_at d.device c).enable refl enabled) in
+      rw stores refl
+  level_as (Some s) v is enabled = level_of s v is
+
+  pub next_as : (found : Option ℕ) (v : Bool) → cell_stores_for d c found ≡ true → may_store at (option_map here found) v ≡ next_allows allows d at (given_at d at) found v
   next_as None v stores = refl
   next_as (Some s) v stores =
       ap (λ f. allows f (as_named (here s) v)) (function_is s)

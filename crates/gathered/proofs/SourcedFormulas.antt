@@ -101,7 +101,7 @@ module _ (d : Design) where
   word_sourced w t = each_sourced (term_uses t) ((formulas d).word w t) (word_named w t)
 
   -- a target of w signals takes w bits
-  word_length : (w : ℕ) (t : Term) → length ((formulas d).word w t) ≡ w
+  pub word_length : (w : ℕ) (t : Term) → length ((formulas d).word w t) ≡ w
   word_length w t =
       let at : Levels = record { pins = []; q = []; nodes = [] } in
       let n = met w (term_value d at t) in
