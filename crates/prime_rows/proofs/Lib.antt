@@ -1,0 +1,3 @@
+pub mod ExampleRows
+pub mod ModulePoints
+pub mod PrimeRows

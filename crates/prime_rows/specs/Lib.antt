@@ -1,0 +1,3 @@
+pub mod Correct
+pub mod Covers
+pub mod Example

@@ -1,0 +1,6 @@
+//! The rows of a device's cells as prime and irredundant covers of what a module says.
+#![tactic(auto)]
+
+mod laws;
+
+pub use laws::{example_rows_are_prime, fitted_rows_are_prime};
