@@ -6,8 +6,6 @@ mod inserting;
 mod kept;
 mod laws;
 mod lowering;
-#[cfg(test)]
-mod tests;
 mod uses;
 mod walking;
 
