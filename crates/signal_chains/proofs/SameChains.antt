@@ -1,8 +1,8 @@
 -- What is found in the sets that signals read is so of the signals.
 use Rattle.std.proofs.Common.{◌≡◌, ℕ, ◌<◌, Bool, List, length, sym, subst}
-use Rattle.pld_order.specs.Graphs.{IsLeastLoop, HasNoLoop, IsPath, HasNoPath}
+use Rattle.pld_order.specs.Graphs.{IsOrder, IsLeastLoop, HasNoLoop, IsPath, HasNoPath}
 use Rattle.pld_order.specs.Sets.{reads_of}
-use Rattle.pld_order.proofs.SameGraphs.{no_loop_same, least_same, path_same, no_path_same}
+use Rattle.pld_order.proofs.SameGraphs.{order_same, no_loop_same, least_same, path_same, no_path_same}
 
 module _ (n : ℕ) (r : ℕ → ℕ → Bool) (items sets : List (List Bool)) (is : sets ≡ items) (count : length items ≡ n) (same : (v w : ℕ) → v < n → w < n → reads_of items v w ≡ r v w) where
   counted : length sets ≡ n
@@ -10,6 +10,9 @@ module _ (n : ℕ) (r : ℕ → ℕ → Bool) (items sets : List (List Bool)) (i
 
   alike : (v w : ℕ) → v < n → w < n → reads_of sets v w ≡ r v w
   alike = subst (λ xs. (v w : ℕ) → v < n → w < n → reads_of xs v w ≡ r v w) (sym is) same
+
+  pub order_of_sets : (order : List ℕ) → IsOrder (length sets) (reads_of sets) order → IsOrder n r order
+  order_of_sets order found = order_same n (reads_of sets) r alike order (subst (λ k. IsOrder k (reads_of sets) order) counted found)
 
   pub loop_of_sets : (chain : List ℕ) → IsLeastLoop (length sets) (reads_of sets) chain → IsLeastLoop n r chain
   loop_of_sets chain found = least_same n (reads_of sets) r alike chain (subst (λ k. IsLeastLoop k (reads_of sets) chain) counted found)

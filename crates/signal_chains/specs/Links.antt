@@ -1,7 +1,7 @@
 -- Signals that read one another, as a graph (this project's rule).
 use Rattle.std.specs.Prelude.{ℕ, Bool, false, Option, None, Some, List, slice_get, length, ◌≡◌}
 use Rattle.pld_base.specs.Bits.{bits, is_on}
-use Rattle.pld_order.specs.Graphs.{IsLeastLoop, HasNoLoop, IsPath, HasNoPath}
+use Rattle.pld_order.specs.Graphs.{IsOrder, IsLeastLoop, HasNoLoop, IsPath, HasNoPath}
 use Rattle.bit_expr.specs.declared.node.Leaf.{Leaf}
 use Rattle.bit_expr.specs.declared.node.Leaf.TheVariants as leaf
 use Rattle.bit_expr.specs.declared.reads.Reads.{Reads}
@@ -58,6 +58,10 @@ AreLeaves rs = (v : ℕ) (l : Leaf) → leaf_in rs v ≡ Some l → IsLeaf l
 -- no signal reads itself through others
 abbrev pub HasNoChain : List Link → Type 0
 HasNoChain rs = HasNoLoop (length rs) (link_reads rs)
+
+-- all signals, each once, none of which reads itself or one that stands behind it
+abbrev pub IsReadOrder : List Link → List ℕ → Type 0
+IsReadOrder rs order = IsOrder (length rs) (link_reads rs) order
 
 -- some signals, each of which reads the next, and the last the first, which is the earliest of all that lie on such a loop
 abbrev pub IsFirstChain : List Link → List ℕ → Type 0

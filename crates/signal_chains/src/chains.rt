@@ -1,7 +1,7 @@
-//! Loops, and paths to registers.
+//! Orders, loops, and paths to registers.
 
 ghost use Rattle.std.specs.Prelude.{◌≤◌, IfOk, IfSome, IfNone, length};
-ghost use Rattle.signal_chains.specs.Links.{AreLeaves, HasNoChain, IsFirstChain, IsRegisterPath, HasNoRegisterPath};
+ghost use Rattle.signal_chains.specs.Links.{AreLeaves, HasNoChain, IsReadOrder, IsFirstChain, IsRegisterPath, HasNoRegisterPath};
 
 use crate::graph::{read_by, read_sets, registers};
 use crate::link::Link;
@@ -9,6 +9,20 @@ use arrayvec::ArrayVec;
 use bit_expr::Reads;
 use pld_base::OutOfMemory;
 use std::alloc::Global;
+
+/// All signals by their places, none of which reads itself or one behind it.
+pub fn read_order(alloc: Global, links: &[Link]) -> Result<ArrayVec<u8, 256>, OutOfMemory>
+    requires few { length links.now ≤ 256 }
+    requires leaves { AreLeaves links.now }
+    requires no_loop { HasNoChain links.now }
+    ensures { IfOk result (λ order. IsReadOrder links.now order.items) }
+{
+    let sets = read_sets(alloc, links)?;
+    match pld_order::order(&sets) {
+        Ok(order) => Ok(order),
+        Err(_found) => unreachable!(),
+    }
+}
 
 /// Signals by their places, each of which reads the next, and the last the first; the first is the earliest of all
 /// that lie on such a loop. None where there is none.
