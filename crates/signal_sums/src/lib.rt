@@ -5,7 +5,5 @@ mod given;
 mod parts;
 mod signal;
 mod sums;
-#[cfg(test)]
-mod tests;
 
 pub use signal::{Controls, Totals, sum_up};
