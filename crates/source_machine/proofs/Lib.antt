@@ -1,0 +1,9 @@
+pub mod CleanSlots
+pub mod FirstControls
+pub mod LinkReads
+pub mod NetlistOrdered
+pub mod OneValue
+pub mod SameSignals
+pub mod SignalPlaces
+pub mod SignalSlots
+pub mod SourceAs0

@@ -1,0 +1,110 @@
+-- A netlist with any as 0 allows nothing that the netlist doesn't allow; in an order of its signals it is a logic that
+-- the machine takes.
+use Rattle.std.proofs.Common.{◌≡◌, ℕ, Bool, true, false, not, ◌&&◌, if◌then◌else◌, List, Option, Some, None, refl, ap, ◌∙◌, subst}
+use Rattle.pld_base.specs.Bits.{is_on, same_level}
+use Rattle.pld_base.specs.Points.{Levels}
+use Rattle.pld_machine.specs.Once.{IsDetermined}
+use Rattle.pld_machine.specs.Order.{IsOrdered}
+use Rattle.pld_machine.specs.Refines.{HasRunsOf, Refines}
+use Rattle.pld_machine.proofs.OneRun.{is_determined}
+use Rattle.pld_machine.proofs.Refined.{run_refines}
+use Rattle.pld_device.specs.Laws.{IsDevice}
+use Rattle.pld_device.specs.Macrocells.{complement_if}
+use Rattle.pld_device.specs.Table.{Table}
+use Rattle.abel_tree.specs.Tree.{ModuleTree}
+use Rattle.abel_meaning.specs.Functions.{Function, allows, allows_plain, value_with_any_0}
+use Rattle.abel_meaning.specs.Netlists.{Wanted, PlainNetlist, as_named, function_at, node_at, wanted_at}
+use Rattle.abel_meaning.specs.NetlistLogic.{may_drive, may_store, netlist_logic, netlist_values}
+use Rattle.abel_meaning.specs.Soundness.{IsSound}
+use Rattle.abel_meaning.specs.SourceLogic.{source_logic}
+use Rattle.fitted.specs.Correct.{MeansTheSame}
+use Rattle.fitted.proofs.BoolLaws.{level_is}
+use Rattle.source_machine.specs.AnyAs0.{data_with_any_0, level_with_any_0, next_with_any_0, netlist_with_any_0}
+use Rattle.source_machine.specs.NetlistLookups.{IsSignalOrder, netlist_lookups}
+use Rattle.source_machine.proofs.CleanSlots.{resets_free}
+use Rattle.source_machine.proofs.NetlistOrdered.{reads_earlier}
+use Rattle.source_machine.proofs.SignalPlaces.{has_pins, has_slots, same_logic}
+
+module _ (t : Table) (laws : IsDevice t) (net : PlainNetlist) (sound : IsSound t net) (order : List ℕ) (ordered : IsSignalOrder t net order) where
+  pub is_ordered : IsOrdered (netlist_lookups t net order)
+  is_ordered = record {
+    has_pins = has_pins t laws net order ordered;
+    has_slots = has_slots t laws net order ordered sound.few_nodes;
+    reads = reads_earlier t laws net order ordered sound;
+    resets = resets_free t laws net sound order ordered;
+  }
+
+  pub determined : IsDetermined (netlist_with_any_0 t net)
+  determined = subst IsDetermined (same_logic t laws net order ordered) (is_determined (netlist_lookups t net order) is_ordered)
+
+-- ---- what it allows
+
+allows_own : (one any complement : Bool) → allows_plain one any (complement_if complement (complement_if complement one)) ≡ true
+allows_own true true true = refl
+allows_own true true false = refl
+allows_own true false true = refl
+allows_own true false false = refl
+allows_own false true true = refl
+allows_own false true false = refl
+allows_own false false true = refl
+allows_own false false false = refl
+
+-- the value with any as 0 is one that is allowed
+allows_value : (f : Function Bool) → allows f (value_with_any_0 f) ≡ true
+allows_value f = allows_own f.one f.any f.complement
+
+twice : (raw negated turned x : Bool) → (if raw then (if raw then x else complement_if negated (complement_if turned x)) else complement_if negated (complement_if turned (if raw then x else complement_if negated (complement_if turned x)))) ≡ x
+twice true negated turned x = refl
+twice false true true true = refl
+twice false true true false = refl
+twice false true false true = refl
+twice false true false false = refl
+twice false false true true = refl
+twice false false true false = refl
+twice false false false true = refl
+twice false false false false = refl
+
+-- so is the level, or next Q, that makes it
+allows_data : (at : Levels) (w : Wanted) (v : Bool) → same_level v (data_with_any_0 at w) ≡ true → allows (function_at at w.function) (as_named w v) ≡ true
+allows_data at w v same =
+    ap (λ x. allows (function_at at w.function) (as_named w x)) (level_is v (data_with_any_0 at w) same)
+    ∙ ap (allows (function_at at w.function)) (twice w.raw w.negated (w.registered && not w.buffer) (value_with_any_0 (function_at at w.function)))
+    ∙ allows_value (function_at at w.function)
+
+level_allowed : (at : Levels) (c : ℕ) (found : Option Wanted) (v : Bool) → same_level v (level_with_any_0 at c found) ≡ true → may_drive at c found v ≡ true
+level_allowed at c None v same = same
+level_allowed at c (Some w) v same =
+    by_kind w.registered (same_level v (complement_if (not w.buffer) (is_on at.q c))) (same_level v (data_with_any_0 at w)) (allows (function_at at w.function) (as_named w v))
+    (allows_data at w v) (chosen w.registered ∙ same)
+  where
+    by_kind : (r x y z : Bool) → (y ≡ true → z ≡ true) → (if r then x else y) ≡ true → (if r then x else z) ≡ true
+    by_kind true x y z more is = is
+    by_kind false x y z more is = more is
+
+    chosen : (r : Bool) → (if r then same_level v (complement_if (not w.buffer) (is_on at.q c)) else same_level v (data_with_any_0 at w)) ≡ same_level v (if r then complement_if (not w.buffer) (is_on at.q c) else data_with_any_0 at w)
+    chosen true = refl
+    chosen false = refl
+
+next_allowed : (at : Levels) (found : Option Wanted) (v : Bool) → same_level v (next_with_any_0 at found) ≡ true → may_store at found v ≡ true
+next_allowed at None v same = ap not (level_is v false same)
+next_allowed at (Some w) v same = allows_data at w v same
+
+pub refines : (t : Table) (net : PlainNetlist) → Refines (netlist_with_any_0 t net) (netlist_logic t net)
+refines t net = record {
+  same_cells = record { cells = refl; pin = λ c within. refl; stores = λ c within. refl; clock = refl };
+  is_node = λ n low. refl;
+  allows = λ at is. record {
+    enabled = λ c within. refl;
+    level = λ c within on v same. level_allowed at c (wanted_at net c) v same;
+    reset = λ c within stores. refl;
+    preset = λ c within stores. refl;
+    next = λ c within stores v same. next_allowed at (wanted_at net c) v same;
+  };
+  node = λ at is n low v same. ap (allows (function_at at (node_at net n))) (level_is v (netlist_values net at n) same) ∙ allows_value (function_at at (node_at net n));
+}
+
+-- its runs are runs of every module that means the same
+pub runs_of_module : (t : Table) (m : ModuleTree) (net : PlainNetlist) → MeansTheSame t m net → HasRunsOf (source_logic t m) (netlist_with_any_0 t net)
+runs_of_module t m net means outsides points run =
+    run_refines (netlist_logic t net) (source_logic t m) means.to outsides points
+    (run_refines (netlist_with_any_0 t net) (netlist_logic t net) (refines t net) outsides points run)

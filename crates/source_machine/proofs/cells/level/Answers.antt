@@ -1,0 +1,17 @@
+use Rattle.std.proofs.Common.{not, if◌then◌else◌, sym, ap, ◌∙◌}
+use Rattle.pld_base.specs.Bits.{is_on}
+use Rattle.pld_base.specs.Points.{levels_of}
+use Rattle.pld_device.specs.Macrocells.{complement_if}
+use Rattle.bit_expr.specs.Arena.{arena}
+use Rattle.abel_meaning.specs.Netlists.{as_named, plain_wanted}
+use Rattle.source_machine.specs.AnyAs0.{data_with_any_0, level_with_any_0}
+use Rattle.source_machine.proofs.cells.level.Goals as goal
+
+pub returns-else-wanted : goal.returns-else-wanted
+returns-else-wanted c =
+    let at = levels_of c.args.at.now in
+    let fs = arena c.args.net.now.exprs in
+    let w = plain_wanted fs c.in-Some.wanted in
+    c.as_named.ensures fs ∙ ap (as_named w) c.value.ensures
+    ∙ ap (λ r. if r then complement_if (not w.buffer) (is_on at.q c.args.cell) else data_with_any_0 at w) (sym c.if-wanted.false)
+    ∙ ap (level_with_any_0 at c.args.cell) c.in-Some.ensures.found

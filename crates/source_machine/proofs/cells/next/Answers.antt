@@ -1,0 +1,11 @@
+use Rattle.std.proofs.Common.{ap, ◌∙◌}
+use Rattle.pld_base.specs.Points.{levels_of}
+use Rattle.bit_expr.specs.Arena.{arena}
+use Rattle.abel_meaning.specs.Netlists.{as_named, plain_wanted}
+use Rattle.source_machine.specs.AnyAs0.{next_with_any_0}
+use Rattle.source_machine.proofs.cells.next.Goals as goal
+
+pub returns-in-Some : goal.returns-in-Some
+returns-in-Some c =
+    let fs = arena c.args.net.now.exprs in
+    c.as_named.ensures fs ∙ ap (as_named (plain_wanted fs c.in-Some.wanted)) c.value.ensures ∙ ap (next_with_any_0 (levels_of c.args.at.now)) c.in-Some.ensures.found

@@ -1,0 +1,17 @@
+use Rattle.std.proofs.Common.{◌<◌, sym, subst}
+use Rattle.std.specs.Prelude.{IsTrue}
+use Rattle.std.proofs.lemmas.List.{length-map}
+use Rattle.pld_machine.specs.Lookups.{sets_node}
+use Rattle.bit_expr.specs.Arena.{arena}
+use Rattle.abel_meaning.specs.Netlists.{plain_function, plain_netlist}
+use Rattle.source_machine.specs.NetlistLookups.{netlist_lookups}
+use Rattle.source_machine.proofs.SignalPlaces.{node_within}
+use Rattle.source_machine.proofs.logic.SourceLogicLogic.node.Goals as goal
+
+pub node_function-requires-clause-node : goal.node_function-requires-clause-node
+node_function-requires-clause-node g c =
+    let t = g.D.Device.table in
+    let net = c.self.inside.net.now in
+    subst (λ n. c.args.node < n) (length-map net.nodes (plain_function (arena net.exprs)))
+    (node_within t g.met.D.Device.sound (plain_netlist net) c.self.inside.order.items c.self.invariant.in_order c.args.node
+    (subst (λ s. IsTrue (sets_node (netlist_lookups t (plain_netlist s.net) s.order).slots c.args.node)) (sym c.self.view_is) c.requires))

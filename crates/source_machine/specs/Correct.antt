@@ -1,0 +1,18 @@
+-- What the netlist of a module with any as 0 is to the module (this project's rule).
+use Rattle.pld_machine.specs.Refines.{Refines}
+use Rattle.pld_device.specs.Laws.{IsDevice}
+use Rattle.pld_device.specs.Table.{Table}
+use Rattle.abel_tree.specs.Tree.{ModuleTree}
+use Rattle.abel_meaning.specs.Designs.{design_of}
+use Rattle.abel_meaning.specs.SourceLogic.{logic_with_any_0}
+use Rattle.gathered.specs.Gathered.{netlist_of}
+use Rattle.gathered.specs.Takeable.{RegistersHaveCells}
+use Rattle.source_machine.specs.AnyAs0.{netlist_with_any_0}
+
+-- where each register is on a cell, the netlist of a module and the module, both with any as 0, allow the same at every
+-- point
+abbrev pub GatheredAs0 : Type 0
+GatheredAs0 =
+    (t : Table) (m : ModuleTree) → IsDevice t → RegistersHaveCells (design_of t m)
+    → Refines (netlist_with_any_0 t (netlist_of t m)) (logic_with_any_0 (design_of t m))
+    × Refines (logic_with_any_0 (design_of t m)) (netlist_with_any_0 t (netlist_of t m))

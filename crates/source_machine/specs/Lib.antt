@@ -1,0 +1,5 @@
+pub mod AnyAs0
+pub mod Correct
+pub mod Finding
+pub mod NetlistLookups
+pub mod SignalLinks

@@ -1,0 +1,108 @@
+//! The cells of a device as a netlist asks of them.
+
+ghost use Rattle.std.specs.Prelude.{◌≡◌, ◌<◌, All, IfSome, length};
+ghost use Rattle.std.specs.Option.{option_map};
+ghost use Rattle.pld_base.specs.Points.{levels_of};
+ghost use Rattle.pld_device.specs.Table.{cell_at};
+ghost use Rattle.bit_expr.specs.Arena.{arena};
+ghost use Rattle.abel_meaning.specs.Netlists.{node_at, plain_function, plain_netlist, plain_wanted, wanted_at};
+ghost use Rattle.abel_meaning.specs.NetlistLogic.{drives, netlist_stores};
+ghost use Rattle.abel_meaning.specs.SoundIds.{IsCellIn, IsFunctionIn};
+ghost use Rattle.device_logic.specs.Array.{EnableInRange};
+ghost use Rattle.source_machine.specs.AnyAs0.{level_with_any_0, next_with_any_0};
+
+use crate::values::{as_named, control_value, value};
+use bit_expr::{CellWanted, Function, Netlist};
+use pld_base::{Point, level_at};
+use pld_device::{Cell, Device, Enable, Kinds};
+
+/// The cell of a number.
+pub(crate) fn cell_of<D: Device>(index: u8) -> Cell
+    requires { index < length D.table.cells }
+    ensures found { result ≡ cell_at D.table index }
+    ensures pin { result.pin < 32 }
+    ensures enable { EnableInRange D.table result.enable }
+{
+    D::cell(index)
+}
+
+/// What is asked of a cell; None where it is assigned nothing.
+pub(crate) fn cell_wanted(net: &Netlist, cell: u8) -> Option<CellWanted>
+    requires { All (IsCellIn (length (arena net.now.exprs))) net.now.cells }
+    ensures found { option_map (plain_wanted (arena net.now.exprs)) result
+        ≡ wanted_at (plain_netlist net.now) cell }
+    ensures inside { IfSome result (IsCellIn (length (arena net.now.exprs))) }
+{
+    for wanted in net.cells.as_slice() {
+        if wanted.cell == cell {
+            return Some(*wanted);
+        }
+    }
+    None
+}
+
+/// The function of a node.
+pub(crate) fn node_function(net: &Netlist, node: u8) -> Function
+    requires inside { All (IsFunctionIn (length (arena net.now.exprs))) net.now.nodes }
+    requires node { node < length net.now.nodes }
+    ensures function { plain_function (arena net.now.exprs) result ≡ node_at (plain_netlist net.now) node }
+    ensures inside { IsFunctionIn (length (arena net.now.exprs)) result }
+{
+    net.nodes.as_slice()[usize::from(node)]
+}
+
+/// Whether the cell is a register.
+pub(crate) fn stores<D: Device>(net: &Netlist, cell: u8) -> bool
+    requires inside { All (IsCellIn (length (arena net.now.exprs))) net.now.cells }
+    requires cell { cell < length D.table.cells }
+    ensures { result ≡ netlist_stores D.table (plain_netlist net.now) cell }
+{
+    match cell_wanted(net, cell) {
+        None => cell_of::<D>(cell).kinds == Kinds::Registered,
+        Some(wanted) => wanted.registered,
+    }
+}
+
+/// Whether the cell drives its pin.
+pub(crate) fn enable<D: Device>(net: &Netlist, cell: u8, at: &Point) -> bool
+    requires inside { All (IsCellIn (length (arena net.now.exprs))) net.now.cells }
+    requires cell { cell < length D.table.cells }
+    ensures { result ≡ drives (levels_of at.now) (wanted_at (plain_netlist net.now) cell) (cell_at D.table cell).enable }
+{
+    match cell_of::<D>(cell).enable {
+        Enable::PinLow(pin) => !level_at(at.pins, pin),
+        Enable::Row(_) => match cell_wanted(net, cell) {
+            None => false,
+            Some(wanted) => control_value(&net.exprs, wanted.enable, true, at),
+        },
+    }
+}
+
+/// The level with which the cell drives its pin while it is enabled.
+pub(crate) fn level(net: &Netlist, cell: u8, at: &Point) -> bool
+    requires inside { All (IsCellIn (length (arena net.now.exprs))) net.now.cells }
+    requires cell { cell < 32 }
+    ensures { result ≡ level_with_any_0 (levels_of at.now) cell (wanted_at (plain_netlist net.now) cell) }
+{
+    match cell_wanted(net, cell) {
+        None => !level_at(at.q, cell),
+        Some(wanted) => {
+            if wanted.registered {
+                level_at(at.q, cell) == wanted.buffer
+            } else {
+                as_named(&wanted, value(&net.exprs, wanted.function, at))
+            }
+        }
+    }
+}
+
+/// The next Q for which the cell's data ask.
+pub(crate) fn next(net: &Netlist, cell: u8, at: &Point) -> bool
+    requires { All (IsCellIn (length (arena net.now.exprs))) net.now.cells }
+    ensures { result ≡ next_with_any_0 (levels_of at.now) (wanted_at (plain_netlist net.now) cell) }
+{
+    match cell_wanted(net, cell) {
+        None => false,
+        Some(wanted) => as_named(&wanted, value(&net.exprs, wanted.function, at)),
+    }
+}

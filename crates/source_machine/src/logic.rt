@@ -1,0 +1,126 @@
+//! A netlist with any as 0 as a logic.
+
+ghost use Rattle.std.specs.Prelude.{◌≡◌, IfOk};
+ghost use Rattle.pld_machine.specs.Lookups.{logic_of};
+ghost use Rattle.pld_machine.specs.Once.{IsDetermined};
+ghost use Rattle.pld_machine.specs.Order.{IsOrdered};
+ghost use Rattle.abel_meaning.specs.Netlists.{plain_netlist};
+ghost use Rattle.abel_meaning.specs.SoundIds.{IsSoundNetlist};
+ghost use Rattle.source_machine.specs.AnyAs0.{netlist_with_any_0};
+ghost use Rattle.source_machine.specs.NetlistLookups.{netlist_lookups};
+
+use crate::cells;
+use crate::controls::{RegisterControl, holds};
+use crate::links::signal_order;
+use crate::values::value;
+use arrayvec::ArrayVec;
+use bit_expr::Netlist;
+use pld_base::{OutOfMemory, Point};
+use pld_device::Device;
+use pld_machine::{Logic, Slot};
+use std::alloc::Global;
+use std::marker::{Model, PhantomData};
+
+/// A netlist with any as 0, as a logic; contracts see the netlist and the order of its signals.
+///
+/// Its look-ups take no memory. Each goes down the formulas that it asks as trees.
+#[derive(Drop)]
+pub struct SourceLogic<'a, D: Device> {
+    net: &'a Netlist,
+    order: ArrayVec<u8, 256>,
+    device: PhantomData<D>,
+}
+
+impl<'a, D: Device> Model for SourceLogic<'a, D> {
+    ghost use Rattle.source_machine.specs.NetlistLookups.{Ordered, IsSoundOrdered};
+
+    ghost Value = { Ordered };
+
+    ghost view = { λ l. record { net = l.net.now; order = l.order.items } };
+
+    ghost invariant = { λ l. IsSoundOrdered D.table l.net.now l.order.items };
+}
+
+impl<'a, D: Device> SourceLogic<'a, D> {
+    /// The logic of a netlist that the device can take. Takes memory for a link of each signal.
+    pub fn new(alloc: Global, net: &'a Netlist) -> Result<SourceLogic<'a, D>, OutOfMemory>
+        requires { IsSoundNetlist D.table net.now }
+        ensures net { IfOk result (λ l. l.net ≡ net.now) }
+
+        // it is the netlist's logic with any as 0, with slots in an order that `rest` and `step` take
+        ensures logic { IfOk result (λ l. logic_of (netlist_lookups D.table (plain_netlist l.net) l.order)
+            ≡ netlist_with_any_0 D.table (plain_netlist net.now)) }
+        ensures ordered { IfOk result (λ l.
+            IsOrdered (netlist_lookups D.table (plain_netlist l.net) l.order)) }
+
+        // so that comes to rest, steps and runs in exactly one way
+        ensures determined { IfOk result (λ _.
+            IsDetermined (netlist_with_any_0 D.table (plain_netlist net.now))) }
+    {
+        let order = signal_order::<D>(alloc, net)?;
+        Ok(SourceLogic {
+            net,
+            order,
+            device: PhantomData,
+        })
+    }
+}
+
+impl<'a, D: Device> Logic for SourceLogic<'a, D> {
+    ghost use Rattle.source_machine.specs.NetlistLookups.{netlist_lookups};
+
+    ghost meaning = { λ l. netlist_lookups D.table (plain_netlist l.net) l.order };
+
+    fn cells(&self) -> u8 {
+        D::CELLS
+    }
+
+    fn pin(&self, cell: u8) -> u8 {
+        cells::cell_of::<D>(cell).pin
+    }
+
+    fn stores(&self, cell: u8) -> bool {
+        cells::stores::<D>(self.net, cell)
+    }
+
+    fn clock(&self) -> u8 {
+        D::CLOCK
+    }
+
+    fn slots(&self) -> u16 {
+        self.order.len() as u16
+    }
+
+    fn slot(&self, index: u16) -> Slot {
+        let signal = self.order.as_slice()[usize::from(index)];
+        if signal < D::CELLS {
+            Slot::Cell(signal)
+        } else {
+            Slot::Node(signal - D::CELLS)
+        }
+    }
+
+    fn enable(&self, at: &Point, cell: u8) -> bool {
+        cells::enable::<D>(self.net, cell, at)
+    }
+
+    fn level(&self, at: &Point, cell: u8) -> bool {
+        cells::level(self.net, cell, at)
+    }
+
+    fn node(&self, at: &Point, node: u8) -> bool {
+        value(&self.net.exprs, cells::node_function(self.net, node), at)
+    }
+
+    fn reset(&self, at: &Point, cell: u8) -> bool {
+        holds(self.net, RegisterControl::Reset, cell, at)
+    }
+
+    fn preset(&self, at: &Point, cell: u8) -> bool {
+        holds(self.net, RegisterControl::Preset, cell, at)
+    }
+
+    fn next(&self, at: &Point, cell: u8) -> bool {
+        cells::next(self.net, cell, at)
+    }
+}
