@@ -6,7 +6,5 @@ mod links;
 mod names;
 mod netlist;
 mod pairs;
-#[cfg(test)]
-mod tests;
 
 pub use netlist::{Gathered, gather_up};

@@ -1,59 +1,17 @@
 //! Signals as others read them, and what they read.
 
-ghost use Rattle.std.specs.Prelude.{◌≡◌, ◌<◌, ◌||◌, Bool, Some, length};
-ghost use Rattle.bit_expr.specs.declared.node.Leaf.{Leaf};
+ghost use Rattle.std.specs.Prelude.{◌≡◌, ◌<◌, Some, length};
 ghost use Rattle.bit_expr.specs.Arena.{arena};
 ghost use Rattle.bit_expr.specs.Reading.{AreReads};
 ghost use Rattle.abel_tree.specs.Entries.{view_declared, view_meaning};
-ghost use Rattle.abel_meaning.specs.Netlists.{plain_control, plain_function};
-ghost use Rattle.abel_meaning.specs.SignalReads.{function_names, names_if_any};
-ghost use Rattle.abel_meaning.specs.SoundIds.{IsControlIn, IsFunctionIn};
 ghost use Rattle.signal_sums.specs.declared.signal.Totals.{Totals};
 ghost use Rattle.gathering.specs.Linking.{IsCellLink, IsNodeLink, node_leaf, cell_leaf, totals_name, AreTotalsIn};
 
 use crate::names::is_stored;
 use abel_tree::{Declared, Meaning};
-use bit_expr::{Control, Exprs, Function, Leaf, Reads};
-use signal_chains::Link;
+use bit_expr::{Exprs, Leaf, Reads};
+use signal_chains::{Link, both, control_reads, function_reads, nothing};
 use signal_sums::Totals;
-
-/// No leaf.
-const NOTHING: Reads = Reads {
-    pins: 0,
-    q: 0,
-    nodes: 0,
-};
-
-/// The leaves of either.
-fn both(a: Reads, b: Reads) -> Reads
-    ensures { (f g : Leaf → Bool) → AreReads f a → AreReads g b
-        → AreReads (λ leaf. f leaf || g leaf) result }
-{
-    Reads {
-        pins: a.pins | b.pins,
-        q: a.q | b.q,
-        nodes: a.nodes | b.nodes,
-    }
-}
-
-/// What a function reads.
-fn function_reads(exprs: &Exprs, function: Function) -> Reads
-    requires { IsFunctionIn (length (arena exprs.now)) function }
-    ensures { AreReads (λ leaf. function_names (plain_function (arena exprs.now) function) leaf) result }
-{
-    both(exprs.reads(function.one), exprs.reads(function.any))
-}
-
-/// What a control reads that may be there.
-fn control_reads(exprs: &Exprs, control: Option<Control>) -> Reads
-    requires { IsControlIn (length (arena exprs.now)) control }
-    ensures { AreReads (λ leaf. names_if_any (plain_control (arena exprs.now) control) leaf) result }
-{
-    match control {
-        None => NOTHING,
-        Some(control) => exprs.reads(control.bit),
-    }
-}
 
 /// What a signal reads in its function and its enable.
 fn totals_read(exprs: &Exprs, totals: &Totals) -> Reads
@@ -111,7 +69,7 @@ pub(crate) fn cell_link(exprs: &Exprs, cell: u8, declared: &Declared, totals: &T
     Link {
         leaf: cell_leaf(cell, stored, &declared.meaning),
         reads: if stored {
-            NOTHING
+            nothing()
         } else {
             totals_read(exprs, totals)
         },
