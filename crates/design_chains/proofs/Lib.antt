@@ -1,3 +1,3 @@
-mod Graphed
-mod LinkFacts
+pub mod Graphed
+pub mod LinkFacts
 mod Renamed

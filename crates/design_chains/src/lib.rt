@@ -2,7 +2,5 @@
 #![tactic(auto)]
 
 mod chains;
-#[cfg(test)]
-mod tests;
 
 pub use chains::{reset_path, signal_loop};
