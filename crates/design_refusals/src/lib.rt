@@ -4,8 +4,6 @@
 mod fault;
 mod names;
 mod rules;
-#[cfg(test)]
-mod tests;
 mod walks;
 
 pub use fault::SignalFault;
