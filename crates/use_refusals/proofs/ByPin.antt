@@ -1,13 +1,12 @@
 -- Whether a pin enables the signals of several targets.
-use Rattle.std.proofs.Common.{◌≡◌, ℕ, Bool, true, false, ◌&&◌, Option, None, Some, List, [], ◌∷◌, ◌++◌, refl, sym, ap, ◌∙◌, if◌then◌else◌, bytes_eq}
-use Rattle.std.specs.Prelude.{codes}
+use Rattle.std.proofs.Common.{◌≡◌, ℕ, Bool, true, false, ◌&&◌, Option, None, Some, List, [], ◌∷◌, ◌++◌, refl, sym, ap, ◌∙◌}
 use Rattle.std.specs.List.{list_all}
 use Rattle.abel_tree.specs.declared.words.Extension.{Extension}
 use Rattle.abel_tree.specs.declared.words.Extension.TheVariants as extension
 use Rattle.abel_tree.specs.Tree.{SetMember, members_of}
 use Rattle.abel_meaning.specs.Designs.{Design}
 use Rattle.abel_meaning.specs.Targets.{targets_of, all_targets, some_signals}
-use Rattle.abel_meaning.specs.Terms.{Known, Term, NoTerm, X, Pulse, Release, extended_if, named_before, member_before, special_term, term_named, terms_of}
+use Rattle.abel_meaning.specs.Terms.{Known, Term, NoTerm, extended_if, named_before, member_before, term_named, terms_of}
 use Rattle.design_uses.specs.SectionUses.{is_compared_by, is_enabled_by_pin}
 use Rattle.section_targets.proofs.NameTerms.{targets_more, range_targets}
 use Rattle.section_targets.proofs.SignalLists.{some_append, extended_targets}
@@ -37,19 +36,6 @@ members_by_pin d ks ms m = ap (are_by_pin d) (targets_more ks ms m) ∙ by_pin_a
 pub range_by_pin : (d : Design) (ks : List Known) (names : List (List ℕ)) (n : List ℕ)
     → are_by_pin d (all_targets (named_before ks (names ++ n ∷ []) NoTerm)) ≡ are_by_pin d (all_targets (named_before ks names NoTerm)) && are_by_pin d (targets_of (term_named ks n))
 range_by_pin d ks names n = ap (are_by_pin d) (range_targets ks names n) ∙ by_pin_append d (all_targets (named_before ks names NoTerm)) (targets_of (term_named ks n))
-
--- a member that is an expression
-pub one_by_pin : (d : Design) (ss : List (Option ℕ)) → are_by_pin d (ss ++ []) ≡ are_by_pin d ss
-one_by_pin d ss = by_pin_append d ss [] ∙ and_true (are_by_pin d ss)
-
--- a special has no signal
-pub special_by_pin : (d : Design) (letter : ℕ) → are_by_pin d (targets_of (special_term letter)) ≡ true
-special_by_pin d letter = by (bytes_eq (letter ∷ []) (codes "X")) (bytes_eq (letter ∷ []) (codes "C"))
-  where
-    by : (x c : Bool) → are_by_pin d (targets_of (if x then X else if c then Pulse else Release)) ≡ true
-    by true c = refl
-    by false true = refl
-    by false false = refl
 
 -- an extension names no other signals
 pub extended_by_pin : (d : Design) (e : Option Extension) (t : Term) → are_by_pin d (targets_of (extended_if e t)) ≡ are_by_pin d (targets_of t)

@@ -11,8 +11,6 @@ mod refused;
 mod rule;
 mod sections;
 mod statements;
-#[cfg(test)]
-mod tests;
 mod walk;
 
 pub use calls::{missing_use, unread_use};
