@@ -3,7 +3,5 @@
 
 mod compared;
 mod levels;
-#[cfg(test)]
-mod tests;
 
 pub use compared::other_level;
