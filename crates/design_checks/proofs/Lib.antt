@@ -1,0 +1,2 @@
+mod PlainOnes
+mod Stages

@@ -1,0 +1,22 @@
+use Rattle.std.proofs.Common.{◌≡◌, ◌++◌, map, sym, ap, ap₂, ◌∙◌}
+use Rattle.bit_expr.specs.Arena.{arena}
+use Rattle.abel_tree.specs.Entries.{entries_of}
+use Rattle.abel_tree.specs.FirstRefusal.{earlier, first_refusal}
+use Rattle.abel_tree.specs.View.{view_section}
+use Rattle.abel_tree.proofs.FirstRefusals.{first_append}
+use Rattle.design_uses.specs.RefusedUses.{missing_uses}
+use Rattle.use_refusals.specs.Refused.{told, use_order}
+use Rattle.design_checks.specs.Refused.{target_controls}
+use Rattle.design_checks.proofs.signals.controls.Goals as goal
+
+pub returns : goal.returns
+returns g c d of =
+    let t = g.D.Device.table in
+    let xs = entries_of c.args.names.now in
+    let fs = arena c.args.found.now.exprs in
+    let cs = c.args.found.now.list in
+    let used = map told (missing_uses d) in
+    c.earlier.ensures
+    ∙ ap₂ (earlier use_order) c.target_controls.ensures (c.in_ok-used.ensures d of.design (of.sections ∙ ap (map view_section) (sym c.as_slice.ensures)))
+    ∙ sym (first_append use_order (target_controls t fs xs cs) used)
+    ∙ ap (λ rs. first_refusal use_order (rs ++ used)) (ap₂ (λ u ys. target_controls u fs ys cs) (sym of.design.device) (sym of.design.names))

@@ -1,0 +1,87 @@
+-- When a design is refused for its signals, and for what (this project's rule).
+use Rattle.std.specs.Prelude.{◌≡◌, ℕ, Some, List, [], map}
+use Rattle.pld_base.specs.declared.place.Place.{Place}
+use Rattle.pld_device.specs.Table.{Table}
+use Rattle.bit_expr.specs.Formulas.{Formula}
+use Rattle.abel_tree.specs.declared.names.Names.{Names}
+use Rattle.abel_tree.specs.declared.sections.Module.{Module}
+use Rattle.abel_tree.specs.Entries.{Entry}
+use Rattle.abel_tree.specs.FirstRefusal.{first_refusal}
+use Rattle.abel_tree.specs.View.{view_section}
+use Rattle.abel_meaning.specs.Designs.{Design}
+use Rattle.abel_meaning.specs.SignalReads.{given_formulas}
+use Rattle.set_expr.specs.declared.contributions.Contribution.{Contribution}
+use Rattle.set_expr.specs.declared.contributions.Contributions.{Contributions}
+use Rattle.set_expr.specs.Answer.{IsDesignOf}
+use Rattle.set_expr.specs.Given.{given}
+use Rattle.use_refusals.specs.declared.refused.RefusedUse.{RefusedUse}
+use Rattle.use_refusals.specs.Refused.{use_order}
+use Rattle.design_checks.specs.declared.fault.DesignFault.{DesignFault}
+use Rattle.design_checks.specs.declared.fault.DesignFault.TheVariants as fault
+use Rattle.design_checks.specs.Refused.{wrong_kinds, stored_nodes, no_controls, any_controls, no_paths}
+
+-- the design of a module's names and sections, to which this is contributed
+pub record IsDesignFor (t : Table) (n : Names) (m : Module) (found : Contributions) (d : Design) : Type 0 where
+  pub design : IsDesignOf t n d
+  pub sections : d.sections ≡ map view_section m.sections
+  pub gives : given found ≡ given_formulas d
+
+-- the first of a list of refusals is this one
+abbrev pub IsFirst : List RefusedUse → Place → ℕ → Type 0
+IsFirst rs p s = first_refusal use_order rs ≡ Some (record { place = p; name = s })
+
+-- the first two of these, the next two, and the last three
+pub record KindsPass (t : Table) (xs : List Entry) (cs : List Contribution) : Type 0 where
+  pub kinds : wrong_kinds t xs cs ≡ []
+  pub nodes : stored_nodes xs ≡ []
+
+pub record ControlsPass (d : Design) (fs : List Formula) (cs : List Contribution) : Type 0 where
+  pub controls : no_controls d fs cs ≡ []
+  pub any : any_controls d.device d.names cs ≡ []
+
+pub record UsesPass (d : Design) (fs : List Formula) (cs : List Contribution) : Type 0 where
+  pub controls : ControlsPass d fs cs
+  pub paths : no_paths d ≡ []
+
+-- ---- one kind of refusal
+
+abbrev pub IsCellRefused : Table → List Entry → List Contribution → DesignFault → Type 0
+IsCellRefused t xs cs (fault.WrongKind p s) = IsFirst (wrong_kinds t xs cs) p s
+IsCellRefused t xs cs _ = ⊥
+
+abbrev pub IsNodeRefused : List Entry → DesignFault → Type 0
+IsNodeRefused xs (fault.RegisteredNode p s) = IsFirst (stored_nodes xs) p s
+IsNodeRefused xs fault.OutOfMemory = Unit {0}
+IsNodeRefused xs _ = ⊥
+
+abbrev pub IsControlRefused : Design → List Formula → List Contribution → DesignFault → Type 0
+IsControlRefused d fs cs (fault.NoSuchControl p s) = IsFirst (no_controls d fs cs) p s
+IsControlRefused d fs cs fault.OutOfMemory = Unit {0}
+IsControlRefused d fs cs _ = ⊥
+
+abbrev pub IsAnyRefused : Table → List Entry → List Contribution → DesignFault → Type 0
+IsAnyRefused t xs cs (fault.DontCareControl p s) = IsFirst (any_controls t xs cs) p s
+IsAnyRefused t xs cs _ = ⊥
+
+abbrev pub IsPathRefused : Design → DesignFault → Type 0
+IsPathRefused d (fault.NoReadPath p s) = IsFirst (no_paths d) p s
+IsPathRefused d fault.OutOfMemory = Unit {0}
+IsPathRefused d _ = ⊥
+
+-- ---- all kinds
+
+-- what is refused of signals: kinds of refusals come in this order, and those of one kind by place
+abbrev pub IsSignalRefused : Design → List Formula → List Contribution → DesignFault → Type 0
+IsSignalRefused d fs cs (fault.WrongKind p s) = IsFirst (wrong_kinds d.device d.names cs) p s
+IsSignalRefused d fs cs (fault.RegisteredNode p s) = (wrong_kinds d.device d.names cs ≡ []) × IsFirst (stored_nodes d.names) p s
+IsSignalRefused d fs cs (fault.NoSuchControl p s) = KindsPass d.device d.names cs × IsFirst (no_controls d fs cs) p s
+IsSignalRefused d fs cs (fault.DontCareControl p s) =
+    KindsPass d.device d.names cs × (no_controls d fs cs ≡ []) × IsFirst (any_controls d.device d.names cs) p s
+IsSignalRefused d fs cs (fault.NoReadPath p s) = KindsPass d.device d.names cs × ControlsPass d fs cs × IsFirst (no_paths d) p s
+IsSignalRefused d fs cs fault.OutOfMemory = Unit {0}
+IsSignalRefused d fs cs _ = ⊥
+
+-- nothing is refused of a design's kinds, nodes, controls and uses
+pub record HasSoundSignals (d : Design) (fs : List Formula) (cs : List Contribution) : Type 0 where
+  pub kinds : KindsPass d.device d.names cs
+  pub uses : UsesPass d fs cs
