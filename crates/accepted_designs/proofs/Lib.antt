@@ -1,4 +1,4 @@
 mod GivenReads
-mod KnownTargets
+pub mod GivenSignals
 mod Takes
-mod Unlisted
+pub mod Unlisted

@@ -1,8 +1,8 @@
 -- A device can take the netlist of a design of which nothing is refused.
-use Rattle.std.proofs.Common.{◌≡◌, ℕ, ◌==◌, Bool, true, false, not, ◌&&◌, ◌||◌, cond, Option, None, Some, List, [], ◌∷◌, map, refl, sym, ap, subst, ◌∙◌, if◌then◌else◌, inl, inr}
-use Rattle.std.specs.Prelude.{filter, slice_get, IsSome, is_none}
-use Rattle.std.specs.List.{list_any}
+use Rattle.std.proofs.Common.{◌≡◌, ◌≢◌, ℕ, ◌==◌, Bool, true, false, not, ◌&&◌, ◌||◌, Option, None, Some, List, [], ◌∷◌, map, refl, sym, ap, subst, ◌∙◌, if◌then◌else◌, inl, inr}
+use Rattle.std.specs.Prelude.{slice_get, IsSome, is_none}
 use Rattle.std.proofs.lemmas.Bool.{cases_Bool, and_parts, eqb-true, true≢false}
+use Rattle.std.proofs.lemmas.List.Elements.{All-get_or}
 use Rattle.std.proofs.lemmas.List.Folds.{list_any_at}
 use Rattle.std.proofs.lemmas.List.Quantifiers.{position-Some}
 use Rattle.std.proofs.lemmas.Option.{get_or_from_slice_get}
@@ -11,16 +11,12 @@ use Rattle.bit_expr.specs.Formulas.{Formula}
 use Rattle.pld_device.specs.declared.cell.Cell.{Cell}
 use Rattle.pld_device.specs.declared.kinds.Kinds.{Kinds}
 use Rattle.pld_device.specs.declared.kinds.Kinds.TheVariants.{Combinational, Registered, Either}
+use Rattle.pld_device.specs.Laws.{IsCell, IsDevice}
 use Rattle.pld_device.specs.Table.{Table, cell_at, no_cell}
-use Rattle.abel_tree.specs.declared.words.Extension.{Extension}
 use Rattle.abel_tree.specs.declared.words.Extension.TheVariants as extension
 use Rattle.abel_tree.specs.Entries.{Kind, APin, ANode, AConstant, ADeviceName, Entry, is_signal}
 use Rattle.abel_tree.specs.Tree.{Tree}
-use Rattle.abel_meaning.specs.Contributions.{Contribution, Evaluator}
-use Rattle.abel_meaning.specs.Controls.{is_control, is_the_control, control_by, control_of}
 use Rattle.abel_meaning.specs.Designs.{Design, name_at, no_name, is_stored, cell_on}
-use Rattle.abel_meaning.specs.Follows.{seen}
-use Rattle.abel_meaning.specs.FormulaBits.{formulas}
 use Rattle.abel_meaning.specs.Functions.{is_data_to}
 use Rattle.abel_meaning.specs.SignalReads.{given_formulas}
 use Rattle.abel_meaning.specs.Soundness.{MayRegister}
@@ -28,11 +24,10 @@ use Rattle.abel_meaning.specs.Targets.{targets_of, is_data}
 use Rattle.abel_meaning.specs.Terms.{term_of}
 use Rattle.set_expr.specs.declared.contributions.Contribution as code
 use Rattle.set_expr.specs.Given.{view_contribution}
-use Rattle.design_refusals.specs.Refused.{is_wrong_kind, is_wrong_cell, has_wrong_kind, has_wrong_kind_by, has_wrong_kind_on, lacks_control, lacks_by, is_registered_by}
+use Rattle.design_refusals.specs.Refused.{is_wrong_kind, is_wrong_cell, has_wrong_kind, has_wrong_kind_by, has_wrong_kind_on, lacks_by, is_registered_by}
 use Rattle.gathered.specs.Gathered.{cell_by}
 use Rattle.gathered.specs.SignalUses.{SignalUse, use_reads, uses_read, given_uses}
 use Rattle.gathered.specs.Takeable.{HasColumns, IsAllowedOn, ControlIsThere, IsTakeable}
-use Rattle.gathered.proofs.SourcedFormulas.{Sourced, sourced_contributions, formulas_are, uses_are}
 use Rattle.design_uses.specs.LocatedUses.{PlacedUse}
 use Rattle.design_uses.specs.RefusedUses.{is_missing, is_unread}
 use Rattle.design_uses.specs.SectionUses.{design_uses}
@@ -41,8 +36,9 @@ use Rattle.accepted_designs.specs.Accepted.{IsAccepted}
 use Rattle.accepted_designs.specs.Correct.{UnrefusedIsTakeable}
 use Rattle.accepted_designs.specs.Unrefused.{IsUnrefused}
 use Rattle.accepted_designs.proofs.GivenReads.{Each, EachUse, EachGood, sections_good, good_at}
-use Rattle.accepted_designs.proofs.KnownTargets.{EachTarget, IsSignalOf, signal_targets}
-use Rattle.accepted_designs.proofs.Unlisted.{EachOf, FitsKind, HasControl, kinds_fit, controls_there, some_of, no_registered, AllUses, none_passes}
+use Rattle.accepted_designs.proofs.GivenSignals.{reset_had, preset_had}
+use Rattle.section_targets.proofs.KnownTargets.{EachTarget, IsSignalOf, signal_targets}
+use Rattle.accepted_designs.proofs.Unlisted.{EachOf, FitsKind, kinds_fit, some_of, no_registered, AllUses, none_passes}
 
 -- ---- kinds
 
@@ -52,51 +48,12 @@ may_be Registered true right = refl
 may_be Registered false right = absurd cc
 may_be Either stored right = tt
 
--- ---- signals of contributions
+may_register : (kinds : Kinds) (stored : Bool) → stored ≡ true → MayRegister kinds stored → kinds ≢ Combinational
+may_register Combinational stored is may same = true≢false (sym is ∙ may)
+may_register Registered stored is may same = absurd cc
+may_register Either stored is may same = absurd cc
 
-module _ (Q : ℕ → Type 0) where
-  abbrev EachSignal : {W : Type 0} → List (Contribution W) → Type 0
-  EachSignal [] = Unit {0}
-  EachSignal (c ∷ cs) = Q c.signal × EachSignal cs
-
-  same_signals : {U V W : Type 0} (h : U → V) (k : U → W) (cs : List (Contribution U)) → EachSignal (map (seen h) cs) → EachSignal (map (seen k) cs)
-  same_signals h k [] e = tt
-  same_signals h k (c ∷ cs) e = (e.0, same_signals h k cs e.1)
-
-  with_signals : (P : Contribution Formula → Type 0) (cs : List (Contribution Formula)) → EachOf P cs → EachSignal cs → EachOf (λ c. P c × Q c.signal) cs
-  with_signals P [] h e = tt
-  with_signals P (c ∷ cs) h e = ((h.0, e.0), with_signals P cs h.1 e.1)
-
--- a control that is there is given by some contribution
-control_given : (ev : Evaluator Formula) (test : Contribution Formula → Bool) (cs : List (Contribution Formula)) (f : Formula) → control_by ev (filter test cs) ≡ Some f → list_any test cs ≡ true
-control_given ev test [] f e = absurd cc
-control_given ev test (c ∷ cs) f e = by (test c) (λ g. control_given ev test cs f g) e
-  where
-    by : (b : Bool) → (control_by ev (filter test cs) ≡ Some f → list_any test cs ≡ true) → control_by ev (cond b (c ∷ filter test cs) (filter test cs)) ≡ Some f → (b || list_any test cs) ≡ true
-    by true more e = refl
-    by false more e = more e
-
-reset_extension : (o : Option Extension) → is_the_control extension.Ar o ≡ true → o ≡ Some extension.Ar
-reset_extension (Some extension.Ar) is = refl
-reset_extension None is = absurd cc
-reset_extension (Some extension.Clk) is = absurd cc
-reset_extension (Some extension.Oe) is = absurd cc
-reset_extension (Some extension.Sp) is = absurd cc
-reset_extension (Some extension.D) is = absurd cc
-reset_extension (Some extension.Q) is = absurd cc
-reset_extension (Some extension.Fb) is = absurd cc
-reset_extension (Some extension.Pin) is = absurd cc
-
-preset_extension : (o : Option Extension) → is_the_control extension.Sp o ≡ true → o ≡ Some extension.Sp
-preset_extension (Some extension.Sp) is = refl
-preset_extension None is = absurd cc
-preset_extension (Some extension.Clk) is = absurd cc
-preset_extension (Some extension.Oe) is = absurd cc
-preset_extension (Some extension.Ar) is = absurd cc
-preset_extension (Some extension.D) is = absurd cc
-preset_extension (Some extension.Q) is = absurd cc
-preset_extension (Some extension.Fb) is = absurd cc
-preset_extension (Some extension.Pin) is = absurd cc
+-- ---- rows of the device
 
 row_there : (stored : Bool) (row : Option ℕ) → (not stored || is_none row) ≡ false → IsSome row
 row_there true None is = absurd cc
@@ -115,7 +72,7 @@ preset_there t x (ANode n) signal has = absurd cc
 preset_there t x (AConstant value) signal has = absurd cc
 preset_there t x ADeviceName signal has = absurd cc
 
-module _ (uses_have_columns : UsesHaveColumns) (d : Design) (fs : List Formula) (cs : List code.Contribution) (accepted : IsAccepted d) (same : map (view_contribution fs) cs ≡ given_formulas d) (unrefused : IsUnrefused d cs) where
+module _ (uses_have_columns : UsesHaveColumns) (d : Design) (fs : List Formula) (cs : List code.Contribution) (laws : IsDevice d.device) (accepted : IsAccepted d) (same : map (view_contribution fs) cs ≡ given_formulas d) (unrefused : IsUnrefused d cs) where
   -- ---- names
 
   stored_on_cell : (s : ℕ) (x : Entry) (kind : Kind) → slice_get d.names s ≡ Some x → x.kind ≡ kind → is_stored x ≡ true → IsSome (cell_by d.device x kind)
@@ -171,12 +128,19 @@ module _ (uses_have_columns : UsesHaveColumns) (d : Design) (fs : List Formula) 
       both true b e f = f
       both false b e f = absurd cc
 
+  -- a device on which a cell may be a register has a clock
+  clocked : (pin c : ℕ) → cell_on d.device pin ≡ Some c → (cell_at d.device c).kinds ≢ Combinational → d.device.clock ≢ 0
+  clocked pin c on =
+      let at = position-Some (λ (x : Cell). x.pin == pin) d.device.cells c no_cell on in
+      (All-get_or (IsCell d.device) d.device.cells c no_cell at.0 laws.cells).clocked
+
   allowed : (s c : ℕ) (kind : Kind) → (name_at d s).kind ≡ kind → cell_by d.device (name_at d s) kind ≡ Some c → IsAllowedOn d s c
   allowed s c (APin pin negated) kind on =
       let parts = on_cell (name_at d s).assigned (cell_on d.device pin) on in
+      let may = may_be (cell_at d.device c).kinds (is_stored (name_at d s)) (cell_kind pin c (is_stored (name_at d s)) parts.1 (sym (ap (has_wrong_kind_by d.device (is_stored (name_at d s))) kind) ∙ right_kind s parts.0)) in
       record {
-        kind = may_be (cell_at d.device c).kinds (is_stored (name_at d s)) (cell_kind pin c (is_stored (name_at d s)) parts.1 (sym (ap (has_wrong_kind_by d.device (is_stored (name_at d s))) kind) ∙ right_kind s parts.0));
-        buffer = accepted.names.buffers s;
+        kind = may;
+        buffer = λ stored follows. accepted.names.buffers s stored follows (clocked pin c parts.1 (may_register (cell_at d.device c).kinds (is_stored (name_at d s)) stored may));
       }
     where
       on_cell : (b : Bool) (o : Option ℕ) → (if b then o else None) ≡ Some c → (b ≡ true) × (o ≡ Some c)
@@ -213,39 +177,15 @@ module _ (uses_have_columns : UsesHaveColumns) (d : Design) (fs : List Formula) 
 
   -- ---- controls
 
-  good_signals : (es : List (Contribution (List SignalUse))) → EachGood d Carried (IsSignalOf d) targets es → EachSignal (IsSignalOf d) es
-  good_signals [] h = tt
-  good_signals (c ∷ es) h = (h.0.signal, good_signals es h.1)
-
-  given_signals : EachSignal (IsSignalOf d) (given_formulas d)
-  given_signals =
-      subst (EachSignal (IsSignalOf d)) (formulas_are d)
-      (same_signals (IsSignalOf d) (λ (x : Sourced d). x.uses) (λ (x : Sourced d). x.formula) (sourced_contributions d)
-      (subst (EachSignal (IsSignalOf d)) (sym (uses_are d)) (good_signals (given_uses d) given_good)))
-
-  controls_here : EachOf (λ c. HasControl d fs c × IsSignalOf d c.signal) (given_formulas d)
-  controls_here =
-      with_signals (IsSignalOf d) (HasControl d fs) (given_formulas d) (subst (EachOf (HasControl d fs)) same (controls_there d fs cs unrefused.controls)) given_signals
-
-  control_had : (e : Extension) (s : ℕ) (f : Formula) → control_of (formulas d) (given_formulas d) s e ≡ Some f
-      → (c : Contribution Formula) × (HasControl d fs c × IsSignalOf d c.signal) × (is_control s e c ≡ true)
-  control_had e s f is =
-      some_of (λ c. HasControl d fs c × IsSignalOf d c.signal) (is_control s e) (given_formulas d) controls_here
-      (control_given (formulas d) (is_control s e) (given_formulas d) f is)
-
   resets : ControlIsThere d extension.Ar d.device.reset
   resets s f is =
-      let c = control_had extension.Ar s f is in
-      let x = name_at d c.0.signal in
-      let ar = reset_extension c.0.extension (and_parts (c.0.signal == s) (is_the_control extension.Ar c.0.extension) c.2).1 in
-      reset_there d.device x x.kind c.1.1 (sym (ap (lacks_control d.device x) ar) ∙ c.1.0)
+      let has = reset_had d accepted.names.known accepted.headers fs cs same unrefused.controls s f is in
+      reset_there d.device (name_at d s) (name_at d s).kind has.1 has.0
 
   presets : ControlIsThere d extension.Sp d.device.preset
   presets s f is =
-      let c = control_had extension.Sp s f is in
-      let x = name_at d c.0.signal in
-      let sp = preset_extension c.0.extension (and_parts (c.0.signal == s) (is_the_control extension.Sp c.0.extension) c.2).1 in
-      preset_there d.device x x.kind c.1.1 (sym (ap (lacks_control d.device x) sp) ∙ c.1.0)
+      let has = preset_had d accepted.names.known accepted.headers fs cs same unrefused.controls s f is in
+      preset_there d.device (name_at d s) (name_at d s).kind has.1 has.0
 
   takes : IsTakeable d
   takes =
@@ -262,4 +202,4 @@ module _ (uses_have_columns : UsesHaveColumns) (d : Design) (fs : List Formula) 
       }
 
 pub unrefused_takes : UsesHaveColumns → UnrefusedIsTakeable
-unrefused_takes columns d fs cs accepted same unrefused = takes columns d fs cs accepted same unrefused
+unrefused_takes columns d fs cs laws accepted same unrefused = takes columns d fs cs laws accepted same unrefused

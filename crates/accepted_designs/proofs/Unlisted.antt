@@ -15,11 +15,11 @@ use Rattle.design_refusals.specs.declared.rules.Rule.TheVariants as rule
 use Rattle.design_refusals.specs.Refused.{refused_if, has_wrong_kind, is_registered_node, registered_nodes, lacks_control, rule_refused, all_refused}
 use Rattle.design_uses.specs.LocatedUses.{PlacedUse}
 
-front_empty : {A : Type 0} (xs ys : List A) → xs ++ ys ≡ [] → xs ≡ []
+pub front_empty : {A : Type 0} (xs ys : List A) → xs ++ ys ≡ [] → xs ≡ []
 front_empty [] ys e = refl
 front_empty (x ∷ xs) ys e = absurd cc
 
-back_empty : {A : Type 0} (xs ys : List A) → xs ++ ys ≡ [] → ys ≡ []
+pub back_empty : {A : Type 0} (xs ys : List A) → xs ++ ys ≡ [] → ys ≡ []
 back_empty [] ys e = e
 back_empty (x ∷ xs) ys e = absurd cc
 

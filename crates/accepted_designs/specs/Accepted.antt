@@ -1,5 +1,5 @@
 -- What the names and the sections of a design are accepted for (this project's rule).
-use Rattle.std.specs.Prelude.{◌≡◌, ℕ, Bool, true, false, ◌&&◌, None, Some, IsSome, List, [], ◌∷◌}
+use Rattle.std.specs.Prelude.{◌≡◌, ◌≢◌, ℕ, Bool, true, false, ◌&&◌, None, Some, IsSome, List, [], ◌∷◌}
 use Rattle.std.specs.List.{list_any}
 use Rattle.pld_device.specs.declared.flip.Flip.TheVariants.{AfterRegister}
 use Rattle.abel_tree.specs.Entries.{APin, is_signal}
@@ -16,9 +16,11 @@ use Rattle.gathered.specs.Takeable.{PinsApart, NodesAreFew}
 abbrev pub SignalsAreAssigned : Design → Type 0
 SignalsAreAssigned d = (s : ℕ) → (name_at d s).assigned ≡ true → is_signal (name_at d s).kind ≡ true
 
--- no register follows Q where the device can't complement behind it
+-- on a device that has registers, none follows Q where the device can't complement behind it
 abbrev pub BuffersAreBehind : Design → Type 0
-BuffersAreBehind d = (s : ℕ) → is_stored (name_at d s) ≡ true → (name_at d s).words.buffer ≡ true → d.device.flip ≡ AfterRegister
+BuffersAreBehind d =
+    (s : ℕ) → is_stored (name_at d s) ≡ true → (name_at d s).words.buffer ≡ true → d.device.clock ≢ 0
+    → d.device.flip ≡ AfterRegister
 
 -- each pin that is assigned is that of a cell
 abbrev pub AssignedAreOnCells : Design → Type 0

@@ -1,5 +1,6 @@
 -- What holds of a design of which nothing is refused (this project's rule).
 use Rattle.std.specs.Prelude.{◌≡◌, List, map}
+use Rattle.pld_device.specs.Laws.{IsDevice}
 use Rattle.bit_expr.specs.Formulas.{Formula}
 use Rattle.abel_meaning.specs.Designs.{Design}
 use Rattle.abel_meaning.specs.SignalReads.{given_formulas}
@@ -12,5 +13,5 @@ use Rattle.accepted_designs.specs.Unrefused.{IsUnrefused}
 -- the device can take its netlist
 abbrev pub UnrefusedIsTakeable : Type 0
 UnrefusedIsTakeable =
-    (d : Design) (fs : List Formula) (cs : List Contribution) → IsAccepted d → map (view_contribution fs) cs ≡ given_formulas d
-    → IsUnrefused d cs → IsTakeable d
+    (d : Design) (fs : List Formula) (cs : List Contribution) → IsDevice d.device → IsAccepted d
+    → map (view_contribution fs) cs ≡ given_formulas d → IsUnrefused d cs → IsTakeable d
