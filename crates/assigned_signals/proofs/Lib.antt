@@ -1,0 +1,12 @@
+pub mod AimedOutputs
+pub mod AssignedData
+pub mod AssignedNames
+pub mod AssignedSections
+pub mod BareRegisters
+pub mod DiagramHeaders
+pub mod DiagramOutputs
+pub mod NamedTerms
+pub mod SectionOutputs
+pub mod SoundModules
+pub mod StatementOutputs
+pub mod TableOutputs
