@@ -1,0 +1,169 @@
+-- The resets of a netlist's cells are those of a design's signals.
+use Rattle.std.proofs.Common.{◌≡◌, ℕ, zero, suc, ◌+◌, ◌<◌, Bool, true, false, not, ◌||◌, List, [], ◌∷◌, length, map, get_or, Option, Some, None, refl, sym, ap, ◌∙◌, subst, inl, inr, arith}
+use Rattle.std.specs.Prelude.{All, is_none, IsSome}
+use Rattle.std.specs.Option.{option_map}
+use Rattle.std.proofs.lemmas.Bool.{cases_Bool, and_parts}
+use Rattle.std.proofs.lemmas.List.{get_or-map, length-map}
+use Rattle.std.proofs.lemmas.List.Elements.{All-map}
+use Rattle.pld_base.specs.declared.place.Place.{Place}
+use Rattle.pld_device.specs.Table.{Table}
+use Rattle.bit_expr.specs.declared.netlist.CellWanted.{CellWanted}
+use Rattle.bit_expr.specs.declared.netlist.Control.{Control}
+use Rattle.bit_expr.specs.declared.node.Leaf.{Leaf}
+use Rattle.bit_expr.specs.Formulas.{Formula}
+use Rattle.abel_tree.specs.declared.words.Extension.TheVariants as extension
+use Rattle.abel_tree.specs.Entries.{Kind, APin, ANode, AConstant, ADeviceName, Entry, is_signal}
+use Rattle.abel_meaning.specs.Contributions as meant
+use Rattle.abel_meaning.specs.Controls.{control_of, control_if_stored}
+use Rattle.abel_meaning.specs.Designs.{Design, name_at, no_name, is_stored, cell_on}
+use Rattle.abel_meaning.specs.FormulaBits.{formulas}
+use Rattle.abel_meaning.specs.Netlists.{Wanted, plain_control, plain_wanted}
+use Rattle.abel_meaning.specs.SignalReads.{given_formulas, leaf_of, names_if_any, is_one_of, HasNoSignalPath}
+use Rattle.set_expr.specs.declared.contributions.Contribution.{Contribution}
+use Rattle.signal_chains.specs.declared.link.Link.{Link}
+use Rattle.gathered.specs.Gathered.{wanted_for, cell_of, and_cell, cells_from}
+use Rattle.gathered.proofs.SoundCells.{IsFor, each_for}
+use Rattle.gathered.proofs.SoundLeaves.{inside}
+use Rattle.gathering.specs.Linked.{AreLinks}
+use Rattle.gathering.specs.Placed.{IsPlaced}
+use Rattle.design_refusals.specs.Refused.{lacks_by, lacks_control}
+use Rattle.design_chains.specs.Resets.{AssignedHaveCells}
+use Rattle.section_targets.proofs.KnownTargets.{IsSignalOf}
+use Rattle.design.specs.Answers.{is_sooner, IsResetAt, IsFirstPath}
+use Rattle.design.specs.Resets.{IsResetOf, LeadsNowhereAt, AnyPlace, Before, IsFirstOf, AllLeadNowhere}
+
+-- ---- what is asked of each cell
+
+module _ (d : Design) (cs : List (meant.Contribution Formula)) where
+  -- what holds of all that is asked holds of what a signal asks
+  asked_by : (P : Wanted → Type 0) (s i c : ℕ) (xs : List Entry) → All P (cells_from d cs s xs) → i < length xs → cell_of d.device (get_or xs i no_name) ≡ Some c → P (wanted_for d cs c (s + i) (get_or xs i no_name))
+  asked_by P s i c [] all within on = absurd (omega (arith, within))
+  asked_by P s zero c (x ∷ xs) all within on =
+      let e : s ≡ s + 0 = omega arith in
+      let all_here : All P (wanted_for d cs c s x ∷ cells_from d cs (suc s) xs) = rw on at all in
+      subst (λ n. P (wanted_for d cs c n x)) e (all_here 0 (wanted_for d cs c s x) (omega arith))
+  asked_by P s (suc i) c (x ∷ xs) all within on =
+      let e : suc s + i ≡ s + suc i = omega arith in
+      subst (λ n. P (wanted_for d cs c n (get_or xs i no_name))) e
+      (asked_by P (suc s) i c xs (rest (option_map (λ k. wanted_for d cs k s x) (cell_of d.device x)) (cells_from d cs (suc s) xs) all) (omega (arith, within)) on)
+    where
+      rest : (o : Option Wanted) (ws : List Wanted) → All P (and_cell o ws) → All P ws
+      rest None ws all = all
+      rest (Some w) ws all = λ k v less. all (suc k) v (omega (arith, less))
+
+-- ---- stored signals
+
+stored_row : (stored : Bool) (row : Option ℕ) → (not stored || is_none row) ≡ false → stored ≡ true
+stored_row true row is = refl
+stored_row false row is = absurd cc
+
+-- a register on a pin
+pub record IsStoredPin (x : Entry) : Type 0 where
+  pub pin : ℕ
+  pub negated : Bool
+  pub kind : x.kind ≡ APin pin negated
+  pub stored : is_stored x ≡ true
+
+stored_by : (t : Table) (x : Entry) (kind : Kind) → x.kind ≡ kind → is_signal kind ≡ true → lacks_by t (is_stored x) kind (Some extension.Ar) ≡ false → IsStoredPin x
+stored_by t x (APin pin negated) is signal has = record { pin = pin; negated = negated; kind = is; stored = stored_row (is_stored x) t.reset has }
+stored_by t x (ANode n) is signal has = absurd cc
+stored_by t x (AConstant value) is signal has = absurd cc
+stored_by t x ADeviceName is signal has = absurd cc
+
+-- no reset without an equation reads anything
+no_equation : (d : Design) (s : ℕ) → control_of (formulas d) (given_formulas d) s extension.Ar ≡ None → HasNoSignalPath d s
+no_equation d s none path is =
+    nothing (leaf_of d (get_or path 0 0)) (subst (λ o. is_one_of (names_if_any o) (leaf_of d (get_or path 0 0)) ≡ true) none is.begins)
+  where
+    nothing : (o : Option Leaf) → is_one_of (names_if_any None) o ≡ true → ⊥
+    nothing None e = absurd cc
+    nothing (Some l) e = absurd cc
+
+-- ---- cells and signals
+
+module _ (d : Design) (fs : List Formula) (ns : List ℕ) (ls : List Link) (cs : List Contribution) (ws : List CellWanted) (cells : AssignedHaveCells d) (links : AreLinks d (given_formulas d) ns ls)
+    (asked : map (plain_wanted fs) ws ≡ cells_from d (given_formulas d) 0 d.names) (placed : All (IsPlaced cs) ws)
+    (had : (s : ℕ) (f : Formula) → control_of (formulas d) (given_formulas d) s extension.Ar ≡ Some f → (lacks_control d.device (name_at d s) (Some extension.Ar) ≡ false) × IsSignalOf d s) where
+  for_cell : (k : ℕ) (w : CellWanted) → k < length ws → IsFor d 0 (plain_wanted fs (get_or ws k w))
+  for_cell k w less =
+      subst (IsFor d 0) (get_or-map (plain_wanted fs) ws k w (plain_wanted fs w) less)
+      (subst (All (IsFor d 0)) (sym asked) (each_for d 0 d.names (λ i within. ap (λ n. name_at d n) (omega arith))) k (plain_wanted fs w) (omega (arith, length-map ws (plain_wanted fs), less)))
+
+  reset_is : (w : CellWanted) (c : Control) → IsFor d 0 (plain_wanted fs w) → w.reset ≡ Some c → plain_control fs w.reset ≡ control_of (formulas d) (given_formulas d) w.name extension.Ar
+  reset_is w c for is =
+      let named : w.name ≡ for.signal = ap (λ (v : Wanted). v.name) for.is in
+      let own : plain_control fs w.reset ≡ control_if_stored (formulas d) (given_formulas d) extension.Ar for.signal (name_at d for.signal) = ap (λ (v : Wanted). v.reset) for.is in
+      elim (cases_Bool (is_stored (name_at d for.signal))) [
+        | inl stored ↦ (rw stored at own) ∙ ap (λ n. control_of (formulas d) (given_formulas d) n extension.Ar) (sym named)
+        | inr other ↦ absurd (none (sym (ap (plain_control fs) is) ∙ (rw other at own)))
+      ]
+    where
+      none : plain_control fs (Some c) ≡ None → ⊥
+      none e = absurd cc
+
+  reset_of : (w : CellWanted) (c : Control) → IsFor d 0 (plain_wanted fs w) → w.reset ≡ Some c → IsResetOf fs ns ls w d
+  reset_of w c for is = record { cells = cells; links = links; reset = reset_is w c for is }
+
+  module _ (P : Place → Type 0) (nowhere : All (LeadsNowhereAt fs ns ls P) ws) where
+    -- the reset of the signal stands at such a place
+    abbrev StandsAt : ℕ → Type 0
+    StandsAt s = (p : Place) → IsResetAt cs s p → P p
+
+    abbrev Goes : Wanted → Type 0
+    Goes v = (f : Formula) → v.reset ≡ Some f → StandsAt v.name → HasNoSignalPath d v.name
+
+    goes_by : (w : CellWanted) → IsFor d 0 (plain_wanted fs w) → LeadsNowhereAt fs ns ls P w → IsPlaced cs w → Goes (plain_wanted fs w)
+    goes_by w for none place f is stands = by w.reset refl is
+      where
+        by : (o : Option Control) → w.reset ≡ o → plain_control fs o ≡ Some f → HasNoSignalPath d w.name
+        by None e is = absurd cc
+        by (Some c) e is = none c e (stands c.place (place.reset c e)) d (reset_of w c for e)
+
+    goes_asked : All Goes (cells_from d (given_formulas d) 0 d.names)
+    goes_asked = subst (All Goes) asked (All-map Goes (plain_wanted fs) ws (λ k w less. goes_by (get_or ws k w) (for_cell k w less) (nowhere k w less) (placed k w less)))
+
+    on_cell : (s pin : ℕ) (negated : Bool) → (name_at d s).kind ≡ APin pin negated → (name_at d s).assigned ≡ true → (c : ℕ) × (cell_of d.device (name_at d s) ≡ Some c)
+    on_cell s pin negated kind assigned =
+        let found = some_cell (cell_on d.device pin) (cells s pin negated kind assigned) in
+        (found.0, rw (kind, assigned) found.1)
+      where
+        some_cell : (o : Option ℕ) → IsSome o → (c : ℕ) × (o ≡ Some c)
+        some_cell None some = absurd cc
+        some_cell (Some c) some = (c, refl)
+
+    stored_goes : (s : ℕ) (f : Formula) → control_of (formulas d) (given_formulas d) s extension.Ar ≡ Some f → IsStoredPin (name_at d s) → StandsAt s → HasNoSignalPath d s
+    stored_goes s f is at stands =
+        let on = on_cell s at.pin at.negated at.kind (and_parts (name_at d s).words.registered (name_at d s).assigned at.stored).1 in
+        let within = inside d s (λ e. absurd (pin_name at.pin at.negated (sym at.kind ∙ e))) in
+        let e : 0 + s ≡ s = omega arith in
+        let goes : Goes (wanted_for d (given_formulas d) on.0 s (name_at d s)) = subst (λ n. Goes (wanted_for d (given_formulas d) on.0 n (name_at d s))) e (asked_by d (given_formulas d) Goes 0 s on.0 d.names goes_asked within on.1) in
+        goes f (rw at.stored is) stands
+      where
+        pin_name : (pin : ℕ) (negated : Bool) → APin pin negated ≡ ADeviceName → ⊥
+        pin_name pin negated e = absurd cc
+
+    pub no_path : (s : ℕ) → StandsAt s → HasNoSignalPath d s
+    no_path s stands = by (control_of (formulas d) (given_formulas d) s extension.Ar) refl
+      where
+        by : (o : Option Formula) → control_of (formulas d) (given_formulas d) s extension.Ar ≡ o → HasNoSignalPath d s
+        by None e = no_equation d s e
+        by (Some f) e = let has = had s f e in stored_goes s f e (stored_by d.device (name_at d s) (name_at d s).kind refl has.1 has.0) stands
+
+  -- where no reset of a cell leads to a register, none of a signal does
+  pub none_leads : AllLeadNowhere fs ns ls ws → (s : ℕ) → HasNoSignalPath d s
+  none_leads nowhere s = no_path AnyPlace nowhere s (λ p at. tt)
+
+  -- the path from the first reset of a cell is that from the first reset of a signal
+  pub first_leads : (p : Place) (path : List ℕ) → IsFirstOf fs ns ls ws (record { place = p; path = path }) → IsFirstPath d cs p path
+  first_leads p path is =
+      let for : IsFor d 0 (plain_wanted fs is.cell) = subst (λ w. IsFor d 0 (plain_wanted fs w)) is.there (for_cell is.at is.cell is.within) in
+      let place : IsPlaced cs is.cell = subst (IsPlaced cs) is.there (placed is.at is.cell is.within) in
+      record {
+        reset = is.cell.name;
+        stands = place.reset is.path.reset is.path.is ∙ ap (λ q. Some q) (sym is.path.place);
+        leads = is.path.path d (reset_of is.cell is.path.reset for is.path.is);
+        first = λ r q at sooner. no_path (Before p) is.first r (λ k here. subst (λ x. is_sooner x p ≡ true) (same q k (sym at ∙ here)) sooner);
+      }
+    where
+      same : (q k : Place) → Some q ≡ Some k → q ≡ k
+      same q k e = cc

@@ -1,0 +1,76 @@
+-- The first path of several cells.
+use Rattle.std.proofs.Common.{◌≡◌, ℕ, ◌<◌, ◌+◌, Bool, true, false, if◌then◌else◌, Option, None, Some, List, [], ◌∷◌, ◌++◌, length, take, get_or, refl, sym, ap, subst, ◌∙◌, arith, length-append}
+use Rattle.std.specs.Prelude.{All}
+use Rattle.std.proofs.Math.Seq.{get_or-append_seam}
+use Rattle.std.proofs.lemmas.Bool.{true≢false}
+use Rattle.std.proofs.lemmas.List.{take_more, get_or_append_left}
+use Rattle.std.proofs.lemmas.List.Elements.{All-append, All-cons, All-nil, All-weaker}
+use Rattle.pld_base.specs.declared.place.Place.{Place}
+use Rattle.bit_expr.specs.declared.netlist.CellWanted.{CellWanted}
+use Rattle.bit_expr.specs.declared.netlist.Control.{Control}
+use Rattle.bit_expr.specs.Formulas.{Formula}
+use Rattle.signal_chains.specs.declared.link.Link.{Link}
+use Rattle.design.specs.declared.resets.ResetPath.{ResetPath}
+use Rattle.design.specs.Answers.{is_sooner}
+use Rattle.design.specs.Resets.{LeadsNowhereAt, AnyPlace, Before, IsPathOf, IsFoundOf, IsFirstOf, IsFirstFound, first_of}
+use Rattle.design.proofs.Sooner.{not_itself, sooner_trans}
+
+module _ (fs : List Formula) (ns : List ℕ) (ls : List Link) where
+  abbrev NowhereAt : (Place → Type 0) → CellWanted → Type 0
+  NowhereAt P w = LeadsNowhereAt fs ns ls P w
+
+  -- the reset of a cell with a path stands where the path does
+  same_place : (w : CellWanted) (p : ResetPath) (c : Control) → IsPathOf fs ns ls w p → w.reset ≡ Some c → c.place ≡ p.place
+  same_place w p c path is = ap (λ (k : Control). k.place) (some_same (sym is ∙ path.is)) ∙ sym path.place
+    where
+      some_same : Some c ≡ Some path.reset → c ≡ path.reset
+      some_same e = cc
+
+  one : (P : CellWanted → Type 0) (ws : List CellWanted) (w : CellWanted) → All P ws → P w → All P (ws ++ w ∷ [])
+  one P ws w h p = All-append P ws (w ∷ []) h (All-cons P w [] p (All-nil P))
+
+  last_path : (ws : List CellWanted) (w : CellWanted) (p : ResetPath) → IsPathOf fs ns ls w p → All (NowhereAt (Before p.place)) ws → IsFirstOf fs ns ls (ws ++ w ∷ []) p
+  last_path ws w p path before =
+      record {
+        at = length ws;
+        within = omega (arith, length-append ws (w ∷ []));
+        cell = w;
+        there = get_or-append_seam ws w [] w;
+        path = path;
+        first = one (NowhereAt (Before p.place)) ws w before
+            (λ c is sooner. absurd (true≢false (sym sooner ∙ ap (λ q. is_sooner q p.place) (same_place w p c path is) ∙ not_itself p.place)));
+      }
+
+  still_first : (ws : List CellWanted) (w : CellWanted) (p : ResetPath) → IsFirstOf fs ns ls ws p → NowhereAt (Before p.place) w → IsFirstOf fs ns ls (ws ++ w ∷ []) p
+  still_first ws w p is none =
+      record {
+        at = is.at;
+        within = omega (arith, length-append ws (w ∷ []), is.within);
+        cell = is.cell;
+        there = get_or_append_left ws (w ∷ []) is.cell is.at is.within ∙ is.there;
+        path = is.path;
+        first = one (NowhereAt (Before p.place)) ws w is.first none;
+      }
+
+  by_place : (ws : List CellWanted) (w : CellWanted) (p q : ResetPath) (b : Bool) → is_sooner q.place p.place ≡ b → IsFirstOf fs ns ls ws p → IsPathOf fs ns ls w q → IsFirstFound fs ns ls (ws ++ w ∷ []) (if b then Some q else Some p)
+  by_place ws w p q true sooner first path =
+      last_path ws w q path
+      (All-weaker (NowhereAt (Before p.place)) (NowhereAt (Before q.place)) (λ v none c is before. none c is (sooner_trans c.place q.place p.place before sooner)) ws first.first)
+  by_place ws w p q false later first path =
+      still_first ws w p first
+      (λ c is sooner. absurd (true≢false (sym sooner ∙ ap (λ r. is_sooner r p.place) (same_place w q c path is) ∙ later)))
+
+  pushed : (ws : List CellWanted) (w : CellWanted) (first found : Option ResetPath) → IsFirstFound fs ns ls ws first → IsFoundOf fs ns ls w found → IsFirstFound fs ns ls (ws ++ w ∷ []) (first_of first found)
+  pushed ws w None None first found = one (NowhereAt AnyPlace) ws w first found
+  pushed ws w None (Some q) first found = last_path ws w q found (All-weaker (NowhereAt AnyPlace) (NowhereAt (Before q.place)) (λ v none c is before. none c is tt) ws first)
+  pushed ws w (Some p) None first found = still_first ws w p first (λ c is sooner. found c is tt)
+  pushed ws w (Some p) (Some q) first found = by_place ws w p q (is_sooner q.place p.place) refl first found
+
+  -- one cell more
+  pub first_more : (ws : List CellWanted) (k : ℕ) (d : CellWanted) (first found : Option ResetPath) → k < length ws → IsFirstFound fs ns ls (take k ws) first → IsFoundOf fs ns ls (get_or ws k d) found
+      → IsFirstFound fs ns ls (take (k + 1) ws) (first_of first found)
+  first_more ws k d first found low before here =
+      subst (λ xs. IsFirstFound fs ns ls xs (first_of first found)) (sym (take_more ws k d low)) (pushed (take k ws) (get_or ws k d) first found before here)
+
+  pub none_yet : IsFirstFound fs ns ls [] None
+  none_yet = All-nil (NowhereAt AnyPlace)

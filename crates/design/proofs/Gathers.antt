@@ -1,0 +1,151 @@
+-- The netlist of a module, once its signals are checked.
+use Rattle.std.proofs.Common.{◌≡◌, ℕ, ◌<◌, ◌≤◌, List, [], ◌∷◌, map, length, get_or, refl, sym, ap, subst, ◌∙◌}
+use Rattle.std.specs.Prelude.{All}
+use Rattle.std.proofs.lemmas.Bool.{true≢false}
+use Rattle.std.proofs.lemmas.List.Elements.{All-cons, All-nil}
+use Rattle.pld_device.specs.Laws.{IsDevice}
+use Rattle.pld_device.specs.Table.{Table}
+use Rattle.bit_expr.specs.declared.netlist.Netlist.{Netlist}
+use Rattle.bit_expr.specs.Arena.{arena}
+use Rattle.abel_tree.specs.declared.names.Names.{Names}
+use Rattle.abel_tree.specs.declared.sections.Module.{Module}
+use Rattle.abel_tree.specs.Entries.{entries_of, is_signal}
+use Rattle.abel_tree.specs.View.{view_module}
+use Rattle.abel_meaning.specs.Designs.{Design, design_of}
+use Rattle.abel_meaning.specs.Kinds.{names_of}
+use Rattle.abel_meaning.specs.Netlists.{PlainNetlist, plain_netlist, plain_wanted}
+use Rattle.abel_meaning.specs.SignalReads.{given_formulas, HasNoSignalLoop, HasNoSignalPath}
+use Rattle.abel_meaning.specs.SoundIds.{no_pair, pair_of_pin, pair_of_cell, IsSoundNetlist}
+use Rattle.abel_meaning.specs.Soundness.{IsSound}
+use Rattle.abel_meaning.specs.Terms.{known_of}
+use Rattle.fitted.specs.Correct.{MeansTheSame}
+use Rattle.set_expr.specs.declared.contributions.Contribution.{Contribution}
+use Rattle.set_expr.specs.declared.contributions.Contributions.{Contributions}
+use Rattle.set_expr.specs.Answer.{IsDesignOf}
+use Rattle.set_expr.specs.Given.{given, view_contribution}
+use Rattle.signal_chains.specs.declared.link.Link.{Link}
+use Rattle.signal_chains.specs.Links.{AreLeaves}
+use Rattle.gathered.specs.Gathered.{cells_from, gathered_from, netlist_of}
+use Rattle.gathered.proofs.NodeNumbers.{names_numbered}
+use Rattle.gathered.proofs.SoundLeaves.{inside}
+use Rattle.gathering.specs.declared.netlist.Gathered.{Gathered}
+use Rattle.gathering.specs.Linked.{AreLinks}
+use Rattle.gathering.specs.Placed.{AreIdsIn, IsPlaced}
+use Rattle.accepted_designs.specs.Accepted.{IsAccepted}
+use Rattle.accepted_designs.proofs.GivenSignals.{EachSignal, given_signals, reset_had}
+use Rattle.section_targets.proofs.KnownTargets.{IsSignalOf}
+use Rattle.design_refusals.specs.Refused.{AreToNames}
+use Rattle.design_checks.specs.declared.fault.DesignFault.{DesignFault}
+use Rattle.design_checks.specs.declared.fault.DesignFault.TheVariants as fault
+use Rattle.design_checks.specs.Verdict.{IsDesignFor, HasSoundSignals, IsSignalRefused}
+use Rattle.design.specs.Answers.{HasNoRefusal, IsDesignRefused}
+use Rattle.design.specs.Correct.{UnrefusedIsSound}
+use Rattle.design.specs.Resets.{AllLeadNowhere}
+use Rattle.design.specs.Told.{IsLinkedDesign, IsChainTold}
+use Rattle.design.proofs.CellResets.{none_leads, first_leads}
+use Rattle.design.proofs.LinkSizes.{as_many, are_leaves, are_few}
+use Rattle.design.proofs.Unrefused.{had, unrefused}
+
+module _ (t : Table) (laws : IsDevice t) (source : Module) (n : Names) (found : Contributions) (names : entries_of n ≡ names_of t (view_module source))
+    (accepted : IsAccepted (design_of t (view_module source))) (gives : given found ≡ given_formulas (design_of t (view_module source))) where
+  abbrev d : Design
+  d = design_of t (view_module source)
+
+  -- it is that of the names, the sections and the contributions
+  pub is_design : IsDesignFor t n source found d
+  is_design = record { design = record { device = refl; names = sym names; known = ap known_of (sym names) }; sections = refl; gives = gives }
+
+  -- ---- targets
+
+  signal_inside : (s : ℕ) → IsSignalOf d s → s < length d.names
+  signal_inside s signal = inside d s (λ device. true≢false (sym signal ∙ ap is_signal device))
+
+  each_inside : (cs : List Contribution) → EachSignal (IsSignalOf d) (map (view_contribution (arena found.exprs)) cs) → AreToNames (length d.names) cs
+  each_inside [] each = All-nil (λ (c : Contribution). c.target.signal < length d.names)
+  each_inside (c ∷ cs) each = All-cons (λ (c : Contribution). c.target.signal < length d.names) c cs (signal_inside c.target.signal each.0) (each_inside cs each.1)
+
+  -- each contribution is to a name
+  pub to_names : AreToNames (length (entries_of n)) found.list
+  to_names =
+      subst (λ xs. AreToNames (length xs) found.list) (sym names)
+      (each_inside found.list (subst (EachSignal (IsSignalOf d)) (sym gives) (given_signals d accepted.names.known accepted.headers)))
+
+  -- ---- refusals
+
+  -- a refusal of signals is one of the design
+  pub by_signals : (f : DesignFault) → IsSignalRefused d (arena found.exprs) found.list f → IsDesignRefused d (arena found.exprs) found.list f
+  by_signals (fault.WrongKind p s) is = is
+  by_signals (fault.RegisteredNode p s) is = is
+  by_signals (fault.NoSuchControl p s) is = is
+  by_signals (fault.DontCareControl p s) is = is
+  by_signals (fault.NoReadPath p s) is = is
+  by_signals (fault.Loop p chain) is = absurd is
+  by_signals (fault.ResetReadsRegister p path) is = absurd is
+  by_signals fault.OutOfMemory is = tt
+
+  -- what is gathered, with its signals and links as slices have them
+  module _ (r : Gathered) (ns : List ℕ) (ls : List Link) (plain : (e : Design) → IsDesignOf t n e → plain_netlist r.net ≡ gathered_from e (given found))
+      (links : (e : Design) → IsDesignOf t n e → AreLinks e (given found) r.signals r.links) (signals_same : r.signals ≡ ns) (links_same : r.links ≡ ls) where
+    abbrev net : Netlist
+    net = r.net
+
+    links_here : AreLinks d (given_formulas d) ns ls
+    links_here =
+        subst (λ cs. AreLinks d cs ns ls) gives
+        (subst (λ ks. AreLinks d (given found) ns ks) links_same (subst (λ xs. AreLinks d (given found) xs r.links) signals_same (links d is_design.design)))
+
+    pub is_linked : IsLinkedDesign (entries_of n) ns ls d
+    is_linked = record { names = sym names; cells = accepted.names.cells; links = links_here }
+
+    pub links_few : length ls ≤ 256
+    links_few = are_few d laws accepted.names.nodes (names_numbered t (view_module source)) accepted.names.pins ns ls links_here
+
+    pub links_leaves : AreLeaves ls
+    links_leaves = are_leaves d laws accepted.names.nodes (names_numbered t (view_module source)) accepted.names.pins ns ls links_here
+
+    pub links_count : length ns ≡ length ls
+    links_count = as_many d laws accepted.names.nodes (names_numbered t (view_module source)) accepted.names.pins ns ls links_here
+
+    pub netlist_is : plain_netlist net ≡ netlist_of t (view_module source)
+    netlist_is = plain d is_design.design ∙ ap (gathered_from d) gives
+
+    asked : map (plain_wanted (arena net.exprs)) net.cells ≡ cells_from d (given_formulas d) 0 d.names
+    asked = ap (λ (p : PlainNetlist). p.cells) netlist_is
+
+    module _ (sound : HasSoundSignals d (arena found.exprs) found.list) (placed : All (IsPlaced found.list) net.cells) where
+      no_paths : AllLeadNowhere (arena net.exprs) ns ls net.cells → (s : ℕ) → HasNoSignalPath d s
+      no_paths = none_leads d (arena net.exprs) ns ls found.list net.cells accepted.names.cells links_here asked placed
+          (reset_had d accepted.names.known accepted.headers (arena found.exprs) found.list gives (had d (arena found.exprs) found.list sound))
+
+      pub nothing_refused : HasNoSignalLoop d → AllLeadNowhere (arena net.exprs) ns ls net.cells → HasNoRefusal d (arena found.exprs) found.list
+      nothing_refused no_loop nowhere = record { signals = sound; no_loop = no_loop; no_path = no_paths nowhere }
+
+      pub by_chains : (f : DesignFault) → IsChainTold d (arena net.exprs) ns ls net.cells f → IsDesignRefused d (arena found.exprs) found.list f
+      by_chains (fault.Loop p chain) is = (sound, is)
+      by_chains (fault.ResetReadsRegister p path) is = (
+        sound,
+        is.0,
+        first_leads d (arena net.exprs) ns ls found.list net.cells accepted.names.cells links_here asked placed
+            (reset_had d accepted.names.known accepted.headers (arena found.exprs) found.list gives (had d (arena found.exprs) found.list sound)) p path is.1,
+      )
+      by_chains fault.OutOfMemory is = tt
+      by_chains (fault.WrongKind p s) is = absurd is
+      by_chains (fault.RegisteredNode p s) is = absurd is
+      by_chains (fault.NoSuchControl p s) is = absurd is
+      by_chains (fault.DontCareControl p s) is = absurd is
+      by_chains (fault.NoReadPath p s) is = absurd is
+
+    module _ (law : UnrefusedIsSound) (none : HasNoRefusal d (arena found.exprs) found.list) where
+      pub means : MeansTheSame t (view_module source) (plain_netlist net)
+      means =
+          subst (MeansTheSame t (view_module source)) (sym netlist_is)
+          (law t (view_module source) (arena found.exprs) found.list laws accepted gives (unrefused d (arena found.exprs) found.list none)).1
+
+      pub sound_netlist : AreIdsIn net → ((p : ℕ) → p < 25 → get_or net.pair_of_pin p no_pair ≡ pair_of_pin t p) → ((c : ℕ) → c < 25 → get_or net.pair_of_cell c no_pair ≡ pair_of_cell t c) → IsSoundNetlist t net
+      sound_netlist ids pins registers = record {
+        nodes = ids.nodes;
+        cells = ids.cells;
+        pins = pins;
+        registers = registers;
+        sound = subst (IsSound t) (sym netlist_is) (law t (view_module source) (arena found.exprs) found.list laws accepted gives (unrefused d (arena found.exprs) found.list none)).0;
+      }

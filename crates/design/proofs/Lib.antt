@@ -1,0 +1,8 @@
+mod CellPaths
+mod CellResets
+mod Firsts
+mod Gathers
+mod LinkSizes
+mod LoopPlaces
+mod Sooner
+mod Unrefused

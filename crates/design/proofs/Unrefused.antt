@@ -1,0 +1,48 @@
+-- A design of whose signals nothing is refused, and that has no chains, is unrefused, and its netlist sound.
+use Rattle.std.proofs.Common.{◌≡◌, List, [], ◌∷◌, map, refl}
+use Rattle.bit_expr.specs.Formulas.{Formula}
+use Rattle.abel_meaning.specs.Designs.{Design, design_of}
+use Rattle.set_expr.specs.declared.contributions.Contribution.{Contribution}
+use Rattle.design_refusals.specs.declared.rules.Rule.TheVariants as rule
+use Rattle.design_refusals.specs.Refused.{all_refused, registered_nodes}
+use Rattle.design_uses.specs.RefusedUses.{missing_uses, unread_uses}
+use Rattle.compared_controls.specs.Compared.{other_levels}
+use Rattle.use_refusals.specs.Refused.{told}
+use Rattle.gathered.specs.Correct.{GatheredIsSound, GatheredMeansTheSame}
+use Rattle.accepted_designs.specs.Correct.{UnrefusedIsTakeable}
+use Rattle.accepted_designs.specs.Unrefused.{IsUnrefused}
+use Rattle.accepted_designs.proofs.Unlisted.{front_empty, back_empty}
+use Rattle.design_checks.specs.Refused.{plain, targets_refused, target_controls}
+use Rattle.design_checks.specs.Verdict.{HasSoundSignals}
+use Rattle.design.specs.Answers.{HasNoRefusal}
+use Rattle.design.specs.Correct.{UnrefusedIsSound}
+
+mapped_empty : {X Y : Type 0} (f : X → Y) (xs : List X) → map f xs ≡ [] → xs ≡ []
+mapped_empty f [] e = refl
+mapped_empty f (x ∷ xs) e = absurd cc
+
+module _ (d : Design) (fs : List Formula) (cs : List Contribution) where
+  controls_empty : HasSoundSignals d fs cs → target_controls d.device fs d.names cs ≡ []
+  controls_empty sound = front_empty (target_controls d.device fs d.names cs) (map told (missing_uses d)) sound.uses.controls.controls
+
+  -- no target names what its signal doesn't have
+  pub had : HasSoundSignals d fs cs → all_refused d.device d.names rule.Controls cs ≡ []
+  had sound =
+      mapped_empty plain (all_refused d.device d.names rule.Controls cs)
+      (front_empty (targets_refused d.device d.names rule.Controls cs) (other_levels d.device fs d.names cs) (controls_empty sound))
+
+  pub unrefused : HasNoRefusal d fs cs → IsUnrefused d cs
+  unrefused none = record {
+    kinds = mapped_empty plain (all_refused d.device d.names rule.Kinds cs) none.signals.kinds.kinds;
+    nodes = mapped_empty plain (registered_nodes 0 d.names) none.signals.kinds.nodes;
+    controls = had none.signals;
+    missing = mapped_empty told (missing_uses d) (back_empty (target_controls d.device fs d.names cs) (map told (missing_uses d)) none.signals.uses.controls.controls);
+    unread = mapped_empty told (unread_uses d) none.signals.uses.paths;
+    no_loop = none.no_loop;
+    no_path = none.no_path;
+  }
+
+pub sound_by : UnrefusedIsTakeable → GatheredIsSound → GatheredMeansTheSame → UnrefusedIsSound
+sound_by takeable sound means t m fs cs laws accepted same unrefused =
+    let take = takeable (design_of t m) fs cs laws accepted same unrefused in
+    (sound t m laws take, means t m laws take.registers)

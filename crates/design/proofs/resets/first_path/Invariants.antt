@@ -1,0 +1,8 @@
+-- The first of the cells so far.
+use Rattle.std.proofs.Common.{take}
+use Rattle.bit_expr.specs.Arena.{arena}
+use Rattle.design.specs.Resets.{IsFirstFound}
+use Rattle.design.proofs.resets.first_path.Given as goal
+
+abbrev pub invariant-loop-wanted : goal.invariant-loop-wanted
+invariant-loop-wanted l = IsFirstFound (arena l.exprs) l.signals l.links (take l.wanted-index l.cells) l.first

@@ -1,0 +1,22 @@
+use Rattle.std.proofs.Common.{ℕ, Some, length}
+use Rattle.bit_expr.specs.Arena.{arena}
+use Rattle.bit_expr.specs.Reading.{AreReads}
+use Rattle.abel_meaning.specs.Designs.{Design}
+use Rattle.abel_meaning.specs.SignalReads.{given_formulas, HasNoSignalPath}
+use Rattle.abel_meaning.specs.SoundIds.{IsControlIn}
+use Rattle.gathering.specs.Linked.{AreLinks}
+use Rattle.design_chains.specs.Resets.{AssignedHaveCells, reset_names}
+use Rattle.design.proofs.CellPaths.{leads_nowhere}
+use Rattle.design.proofs.resets.path_of.Goals as goal
+
+pub reads-requires : goal.reads-requires
+reads-requires c =
+    let within : IsControlIn (length (arena c.args.exprs.now)) (Some c.in-Some.reset) = rw c.in-Some.is at c.requires.inside.reset in
+    within
+
+pub returns-in-None-2 : goal.returns-in-None-2
+returns-in-None-2 c =
+    let ns = c.args.signals.now in
+    let ls = c.args.links.now in
+    let none : (d : Design) (s : ℕ) → AssignedHaveCells d → AreLinks d (given_formulas d) ns ls → AreReads (reset_names d s) c.reads.result → HasNoSignalPath d s = rw c.in-None-2.is at c.in_ok-reset_path-in-Some.ensures.none in
+    leads_nowhere (arena c.args.exprs.now) ns ls c.args.wanted.now c.in-Some.reset c.in-Some.is c.reads.result c.reads.ensures none

@@ -1,0 +1,56 @@
+-- When a design is refused, and for what (this project's rule).
+use Rattle.std.specs.Prelude.{◌≡◌, ℕ, Bool, true, Some, List, get_or}
+use Rattle.pld_base.specs.declared.place.Place.{Place}
+use Rattle.bit_expr.specs.Formulas.{Formula}
+use Rattle.abel_tree.specs.declared.words.Extension.TheVariants as extension
+use Rattle.abel_tree.specs.FirstRefusal.{Ranks, is_before}
+use Rattle.abel_meaning.specs.Designs.{Design, name_at}
+use Rattle.abel_meaning.specs.SignalReads.{IsSignalLoop, HasNoSignalLoop, IsSignalPath, HasNoSignalPath}
+use Rattle.set_expr.specs.declared.contributions.Contribution.{Contribution}
+use Rattle.signal_sums.specs.Amounts.{first_target, target_place}
+use Rattle.design_checks.specs.declared.fault.DesignFault.{DesignFault}
+use Rattle.design_checks.specs.declared.fault.DesignFault.TheVariants as fault
+use Rattle.design_checks.specs.Verdict.{HasSoundSignals, IsSignalRefused}
+
+-- nothing is refused of a design: neither its signals, nor does one wait for itself, nor a reset read a register
+pub record HasNoRefusal (d : Design) (fs : List Formula) (cs : List Contribution) : Type 0 where
+  pub signals : HasSoundSignals d fs cs
+  pub no_loop : HasNoSignalLoop d
+  pub no_path : (s : ℕ) → HasNoSignalPath d s
+
+-- ---- chains
+
+-- signals, each of which reads the next, and the last the first, which is the earliest declared on any such loop; it
+-- is declared here
+pub record IsFirstLoop (d : Design) (p : Place) (chain : List ℕ) : Type 0 where
+  pub loop : IsSignalLoop d chain
+  pub place : p ≡ (name_at d (get_or chain 0 0)).place
+
+-- the first target of the reset of s stands here
+abbrev pub IsResetAt : List Contribution → (s : ℕ) → Place → Type 0
+IsResetAt cs s p = target_place (first_target s extension.Ar cs) ≡ Some p
+
+-- places in order
+abbrev pub place_order : Ranks Place
+place_order = record { place = λ p. p; rank = λ p. 0 }
+
+-- one place stands before another
+abbrev pub is_sooner : Place → Place → Bool
+is_sooner p q = is_before place_order p q
+
+-- signals from a reset at this place to a register; from no reset that stands before it there is such a path
+pub record IsFirstPath (d : Design) (cs : List Contribution) (p : Place) (path : List ℕ) : Type 0 where
+  pub reset : ℕ
+  pub stands : IsResetAt cs reset p
+  pub leads : IsSignalPath d reset path
+  pub first : (r : ℕ) (q : Place) → IsResetAt cs r q → is_sooner q p ≡ true → HasNoSignalPath d r
+
+-- ---- all kinds
+
+-- the design is refused so: for its signals; where nothing of them is refused, for a loop; and where there is none, for a
+-- path from a reset to a register
+abbrev pub IsDesignRefused : Design → List Formula → List Contribution → DesignFault → Type 0
+IsDesignRefused d fs cs (fault.Loop p chain) = HasSoundSignals d fs cs × IsFirstLoop d p chain
+IsDesignRefused d fs cs (fault.ResetReadsRegister p path) =
+    HasSoundSignals d fs cs × HasNoSignalLoop d × IsFirstPath d cs p path
+IsDesignRefused d fs cs f = IsSignalRefused d fs cs f

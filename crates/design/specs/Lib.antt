@@ -1,0 +1,4 @@
+pub mod Answers
+pub mod Correct
+pub mod Resets
+pub mod Told

@@ -1,0 +1,83 @@
+-- Private: paths from the resets of a netlist's cells to registers (this project's rule).
+use Rattle.std.specs.Prelude.{◌≡◌, ℕ, ◌<◌, true, Option, None, Some, List, All, length, get_or, if◌then◌else◌}
+use Rattle.pld_base.specs.declared.place.Place.{Place}
+use Rattle.bit_expr.specs.declared.netlist.CellWanted.{CellWanted}
+use Rattle.bit_expr.specs.declared.netlist.Control.{Control}
+use Rattle.bit_expr.specs.Formulas.{Formula}
+use Rattle.abel_tree.specs.declared.words.Extension.TheVariants as extension
+use Rattle.abel_meaning.specs.Controls.{control_of}
+use Rattle.abel_meaning.specs.Designs.{Design}
+use Rattle.abel_meaning.specs.FormulaBits.{formulas}
+use Rattle.abel_meaning.specs.Netlists.{plain_control}
+use Rattle.abel_meaning.specs.SignalReads.{given_formulas, IsSignalPath, HasNoSignalPath}
+use Rattle.signal_chains.specs.declared.link.Link.{Link}
+use Rattle.gathering.specs.Linked.{AreLinks}
+use Rattle.design_chains.specs.Resets.{AssignedHaveCells}
+use Rattle.design_checks.specs.declared.fault.DesignFault.{DesignFault}
+use Rattle.design_checks.specs.declared.fault.DesignFault.TheVariants as fault
+use Rattle.design.specs.declared.resets.ResetPath.{ResetPath}
+use Rattle.design.specs.Answers.{is_sooner}
+
+-- wherever it stands
+abbrev pub AnyPlace : Place → Type 0
+AnyPlace p = Unit {0}
+
+-- before this place
+abbrev pub Before : Place → Place → Type 0
+Before p q = is_sooner q p ≡ true
+
+module _ (fs : List Formula) (ns : List ℕ) (ls : List Link) where
+  -- a design of these links, in which the signal of the cell has this reset
+  pub record IsResetOf (w : CellWanted) (d : Design) : Type 0 where
+    pub cells : AssignedHaveCells d
+    pub links : AreLinks d (given_formulas d) ns ls
+    pub reset : plain_control fs w.reset ≡ control_of (formulas d) (given_formulas d) w.name extension.Ar
+
+  -- no path leads from the reset of the cell to a register
+  abbrev pub LeadsNowhere : CellWanted → Type 0
+  LeadsNowhere w = (d : Design) → IsResetOf w d → HasNoSignalPath d w.name
+
+  -- so where there is one, and it stands at such a place
+  abbrev pub LeadsNowhereAt : (Place → Type 0) → CellWanted → Type 0
+  LeadsNowhereAt P w = (c : Control) → w.reset ≡ Some c → P c.place → LeadsNowhere w
+
+  -- the path is one from the reset of the cell
+  pub record IsPathOf (w : CellWanted) (p : ResetPath) : Type 0 where
+    pub reset : Control
+    pub is : w.reset ≡ Some reset
+    pub place : p.place ≡ reset.place
+    pub path : (d : Design) → IsResetOf w d → IsSignalPath d w.name p.path
+
+  -- what is found of one cell
+  abbrev pub IsFoundOf : CellWanted → Option ResetPath → Type 0
+  IsFoundOf w None = LeadsNowhereAt AnyPlace w
+  IsFoundOf w (Some p) = IsPathOf w p
+
+  -- the path is that of a cell, and from no reset of a cell that stands before it there is one
+  pub record IsFirstOf (ws : List CellWanted) (p : ResetPath) : Type 0 where
+    pub at : ℕ
+    pub within : at < length ws
+    pub cell : CellWanted
+    pub there : get_or ws at cell ≡ cell
+    pub path : IsPathOf cell p
+    pub first : All (LeadsNowhereAt (Before p.place)) ws
+
+  abbrev pub AllLeadNowhere : List CellWanted → Type 0
+  AllLeadNowhere ws = All (LeadsNowhereAt AnyPlace) ws
+
+  -- what is found of several cells
+  abbrev pub IsFirstFound : List CellWanted → Option ResetPath → Type 0
+  IsFirstFound ws None = AllLeadNowhere ws
+  IsFirstFound ws (Some p) = IsFirstOf ws p
+
+  -- what is told of them
+  abbrev pub IsPathTold : List CellWanted → DesignFault → Type 0
+  IsPathTold ws (fault.ResetReadsRegister p path) = IsFirstOf ws (record { place = p; path = path })
+  IsPathTold ws fault.OutOfMemory = Unit {0}
+  IsPathTold ws _ = ⊥
+
+-- the first of two that may be none
+abbrev pub first_of : Option ResetPath → Option ResetPath → Option ResetPath
+first_of None q = q
+first_of (Some p) None = Some p
+first_of (Some p) (Some q) = if is_sooner q.place p.place then Some q else Some p

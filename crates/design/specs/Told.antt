@@ -1,0 +1,34 @@
+-- Private: what is told of a design's chains (this project's rule).
+use Rattle.std.specs.Prelude.{◌≡◌, ℕ, List}
+use Rattle.bit_expr.specs.declared.netlist.CellWanted.{CellWanted}
+use Rattle.bit_expr.specs.Formulas.{Formula}
+use Rattle.abel_tree.specs.Entries.{Entry}
+use Rattle.abel_meaning.specs.Designs.{Design}
+use Rattle.abel_meaning.specs.SignalReads.{given_formulas, HasNoSignalLoop}
+use Rattle.signal_chains.specs.declared.link.Link.{Link}
+use Rattle.gathering.specs.Linked.{AreLinks}
+use Rattle.design_chains.specs.Resets.{AssignedHaveCells}
+use Rattle.design_checks.specs.declared.fault.DesignFault.{DesignFault}
+use Rattle.design_checks.specs.declared.fault.DesignFault.TheVariants as fault
+use Rattle.design.specs.Answers.{IsFirstLoop}
+use Rattle.design.specs.Resets.{IsFirstOf}
+
+-- a design of these names and links, each of whose assigned pins is that of a cell
+pub record IsLinkedDesign (xs : List Entry) (ns : List ℕ) (ls : List Link) (d : Design) : Type 0 where
+  pub names : d.names ≡ xs
+  pub cells : AssignedHaveCells d
+  pub links : AreLinks d (given_formulas d) ns ls
+
+-- what is told of a loop
+abbrev pub IsLoopTold : Design → DesignFault → Type 0
+IsLoopTold d (fault.Loop p chain) = IsFirstLoop d p chain
+IsLoopTold d fault.OutOfMemory = Unit {0}
+IsLoopTold d _ = ⊥
+
+-- and where there is none, of the path from the reset that stands first
+abbrev pub IsChainTold : Design → List Formula → List ℕ → List Link → List CellWanted → DesignFault → Type 0
+IsChainTold d fs ns ls ws (fault.Loop p chain) = IsFirstLoop d p chain
+IsChainTold d fs ns ls ws (fault.ResetReadsRegister p path) =
+    HasNoSignalLoop d × IsFirstOf fs ns ls ws (record { place = p; path = path })
+IsChainTold d fs ns ls ws fault.OutOfMemory = Unit {0}
+IsChainTold d fs ns ls ws _ = ⊥

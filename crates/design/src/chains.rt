@@ -1,0 +1,49 @@
+//! Loops of a design's signals, as refusals.
+
+ghost use Rattle.std.specs.Prelude.{◌≡◌, ◌<◌, ◌≤◌, IfOk, IfErr, length, get_or};
+ghost use Rattle.abel_tree.specs.Entries.{entries_of};
+ghost use Rattle.abel_meaning.specs.Designs.{Design, no_name};
+ghost use Rattle.abel_meaning.specs.SignalReads.{HasNoSignalLoop};
+ghost use Rattle.signal_chains.specs.Links.{AreLeaves};
+ghost use Rattle.design.specs.Told.{IsLinkedDesign, IsLoopTold};
+
+use abel_tree::Names;
+use design_chains::signal_loop;
+use design_checks::DesignFault;
+use pld_base::{ListOf, Place};
+use signal_chains::Link;
+use std::alloc::Global;
+
+/// Where the first name of a chain is declared.
+fn declared_at(names: &Names, chain: &[u32]) -> Place
+    requires some { 0 < length chain.now }
+    requires inside { get_or chain.now 0 0 < length (entries_of names.now) }
+    ensures { result ≡ (get_or (entries_of names.now) (get_or chain.now 0 0) no_name).place }
+{
+    names.list.as_slice()[chain[0] as usize].place
+}
+
+/// Refused for a loop of signals that begins with the earliest declared on any, at its declaration.
+pub(crate) fn check_loop(
+    alloc: Global,
+    names: &Names,
+    signals: &[u32],
+    links: &[Link],
+) -> Result<(), DesignFault>
+    requires few { length links.now ≤ 256 }
+    requires leaves { AreLeaves links.now }
+    requires count { length signals.now ≡ length links.now }
+    requires linked { (d : Design) × IsLinkedDesign (entries_of names.now) signals.now links.now d }
+    ensures ok { IfOk result (λ _. (d : Design)
+        → IsLinkedDesign (entries_of names.now) signals.now links.now d → HasNoSignalLoop d) }
+    ensures err { IfErr result (λ f. (d : Design)
+        → IsLinkedDesign (entries_of names.now) signals.now links.now d → IsLoopTold d f) }
+{
+    match signal_loop(alloc, signals, links)? {
+        None => Ok(()),
+        Some(chain) => {
+            let place = declared_at(names, chain.as_slice());
+            Err(DesignFault::Loop(place, ListOf::from_vec(chain)))
+        }
+    }
+}

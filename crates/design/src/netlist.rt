@@ -1,0 +1,106 @@
+//! The netlist of a module, or the first refusal of its design.
+
+ghost use Rattle.std.specs.Prelude.{◌≡◌, ◌≤◌, All, IfOk, IfErr, length};
+ghost use Rattle.bit_expr.specs.Arena.{arena};
+ghost use Rattle.abel_tree.specs.Entries.{entries_of};
+ghost use Rattle.abel_tree.specs.View.{view_module};
+ghost use Rattle.abel_meaning.specs.Designs.{Design, design_of};
+ghost use Rattle.abel_meaning.specs.Kinds.{names_of};
+ghost use Rattle.abel_meaning.specs.Netlists.{plain_netlist};
+ghost use Rattle.abel_meaning.specs.SignalReads.{HasNoSignalLoop, given_formulas};
+ghost use Rattle.abel_meaning.specs.SoundIds.{IsCellIn, IsSoundNetlist};
+ghost use Rattle.fitted.specs.Correct.{MeansTheSame};
+ghost use Rattle.set_expr.specs.Given.{given};
+ghost use Rattle.gathered.specs.Gathered.{netlist_of};
+ghost use Rattle.signal_chains.specs.Links.{AreLeaves};
+ghost use Rattle.signal_sums.specs.Parts.{AllLieIn};
+ghost use Rattle.gathering.specs.Placed.{IsPlaced};
+ghost use Rattle.accepted_designs.specs.Accepted.{IsAccepted};
+ghost use Rattle.design.specs.Answers.{HasNoRefusal, IsDesignRefused};
+ghost use Rattle.design.specs.Resets.{AllLeadNowhere};
+ghost use Rattle.design.specs.Told.{IsLinkedDesign, IsChainTold};
+
+use crate::chains::check_loop;
+use crate::laws::unrefused_is_sound;
+use crate::resets::check_resets;
+use abel_tree::{Module, Names};
+use bit_expr::Netlist;
+use design_checks::{DesignFault, check_signals};
+use gathering::{Gathered, gather_up};
+use pld_device::Device;
+use set_expr::Contributions;
+use signal_chains::Link;
+use std::alloc::Global;
+
+/// Refused for a loop of signals, else for a path from a reset to a register.
+fn check_chains(
+    alloc: Global,
+    names: &Names,
+    net: &Netlist,
+    signals: &[u32],
+    links: &[Link],
+) -> Result<(), DesignFault>
+    requires few { length links.now ≤ 256 }
+    requires leaves { AreLeaves links.now }
+    requires count { length signals.now ≡ length links.now }
+    requires linked { (d : Design) × IsLinkedDesign (entries_of names.now) signals.now links.now d }
+    requires inside { All (IsCellIn (length (arena net.now.exprs))) net.now.cells }
+    ensures no_loop { IfOk result (λ _. (d : Design)
+        → IsLinkedDesign (entries_of names.now) signals.now links.now d → HasNoSignalLoop d) }
+    ensures no_path { IfOk result (λ _.
+        AllLeadNowhere (arena net.now.exprs) signals.now links.now net.now.cells) }
+    ensures err { IfErr result (λ f. (d : Design)
+        → IsLinkedDesign (entries_of names.now) signals.now links.now d
+        → IsChainTold d (arena net.now.exprs) signals.now links.now net.now.cells f) }
+{
+    match check_loop(alloc, names, signals, links) {
+        Err(fault) => Err(fault),
+        Ok(()) => check_resets(alloc, &net.exprs, signals, links, net.cells.as_slice()),
+    }
+}
+
+/// The netlist of a module for a device, by what its sections contribute, or the first refusal of the design. Kinds of
+/// refusals come in the order of `DesignFault`, those of one kind by place; nothing of the contributions comes back.
+///
+/// The names are those that `declare` answers for the module, and the contributions those that its sections append.
+pub fn gather<D: Device>(
+    alloc: Global,
+    source: &Module,
+    names: &Names,
+    found: Contributions,
+) -> Result<Netlist, DesignFault>
+    requires names { entries_of names.now ≡ names_of D.table (view_module source.now) }
+    requires accepted { IsAccepted (design_of D.table (view_module source.now)) }
+    requires gives { given found ≡ given_formulas (design_of D.table (view_module source.now)) }
+    requires inside { AllLieIn (length (arena found.exprs)) found.list }
+    ensures unrefused { IfOk result (λ _.
+        HasNoRefusal (design_of D.table (view_module source.now)) (arena found.exprs) found.list) }
+    ensures netlist { IfOk result (λ net.
+        plain_netlist net ≡ netlist_of D.table (view_module source.now)) }
+
+    // what `fit` demands
+    ensures sound { IfOk result (λ net. IsSoundNetlist D.table net) }
+    ensures same { IfOk result (λ net.
+        MeansTheSame D.table (view_module source.now) (plain_netlist net)) }
+    ensures places { IfOk result (λ net. All (IsPlaced found.list) net.cells) }
+
+    // only want of memory comes before a refusal
+    ensures refused { IfErr result (λ f. IsDesignRefused
+        (design_of D.table (view_module source.now)) (arena found.exprs) found.list f) }
+{
+    unrefused_is_sound();
+    match check_signals::<D>(alloc, source, names, &found) {
+        Err(fault) => Err(fault),
+        Ok(()) => {
+            let Gathered {
+                net,
+                signals,
+                links,
+            } = gather_up::<D>(alloc, names, found)?;
+            match check_chains(alloc, names, &net, signals.as_slice(), links.as_slice()) {
+                Err(fault) => Err(fault),
+                Ok(()) => Ok(net),
+            }
+        }
+    }
+}

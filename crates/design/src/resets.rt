@@ -1,0 +1,123 @@
+//! Paths from a design's resets to its registers, as refusals.
+
+ghost use Rattle.std.specs.Prelude.{◌≡◌, ◌≤◌, All, IfOk, IfErr, length};
+ghost use Rattle.bit_expr.specs.Arena.{arena};
+ghost use Rattle.abel_meaning.specs.SoundIds.{IsCellIn};
+ghost use Rattle.signal_chains.specs.Links.{AreLeaves};
+ghost use Rattle.design.specs.Answers.{is_sooner};
+ghost use Rattle.design.specs.Resets.{AllLeadNowhere, IsFirstFound, IsFoundOf, IsPathTold, first_of};
+
+use bit_expr::{CellWanted, Exprs};
+use design_chains::reset_path;
+use design_checks::DesignFault;
+use pld_base::{ListOf, OutOfMemory, Place};
+use signal_chains::Link;
+use std::alloc::Global;
+
+/// Signals from a reset to a register, with the reset's first target.
+#[derive(Drop)]
+pub(crate) struct ResetPath {
+    pub(crate) place: Place,
+    pub(crate) path: ListOf<u32>,
+}
+
+/// Whether one place stands before another.
+#[tactic(auto, using(crate::proofs::Sooner::sooner_by))]
+fn is_sooner(here: Place, there: Place) -> bool
+    ensures { result ≡ is_sooner here there }
+{
+    if here.line != there.line {
+        here.line < there.line
+    } else {
+        here.column < there.column
+    }
+}
+
+/// The first of two that may be none.
+fn first_of(left: Option<ResetPath>, right: Option<ResetPath>) -> Option<ResetPath>
+    ensures { result ≡ first_of left right }
+{
+    match (left, right) {
+        (Some(here), Some(there)) => {
+            if is_sooner(there.place, here.place) {
+                Some(there)
+            } else {
+                Some(here)
+            }
+        }
+        (Some(here), None) => Some(here),
+        (None, right) => right,
+    }
+}
+
+/// A path from the reset of a cell to a register, if the cell has a reset and there is one.
+fn path_of(
+    alloc: Global,
+    exprs: &Exprs,
+    signals: &[u32],
+    links: &[Link],
+    wanted: &CellWanted,
+) -> Result<Option<ResetPath>, OutOfMemory>
+    requires few { length links.now ≤ 256 }
+    requires leaves { AreLeaves links.now }
+    requires count { length signals.now ≡ length links.now }
+    requires inside { IsCellIn (length (arena exprs.now)) wanted.now }
+    ensures { IfOk result (λ r. IsFoundOf (arena exprs.now) signals.now links.now wanted.now r) }
+{
+    match wanted.reset {
+        None => Ok(None),
+        Some(reset) => match reset_path(alloc, signals, links, &exprs.reads(reset.bit))? {
+            None => Ok(None),
+            Some(path) => Ok(Some(ResetPath {
+                place: reset.place,
+                path: ListOf::from_vec(path),
+            })),
+        },
+    }
+}
+
+/// The path from the reset that stands first, of those from which there is one.
+fn first_path(
+    alloc: Global,
+    exprs: &Exprs,
+    signals: &[u32],
+    links: &[Link],
+    cells: &[CellWanted],
+) -> Result<Option<ResetPath>, OutOfMemory>
+    requires few { length links.now ≤ 256 }
+    requires leaves { AreLeaves links.now }
+    requires count { length signals.now ≡ length links.now }
+    requires inside { All (IsCellIn (length (arena exprs.now))) cells.now }
+    ensures { IfOk result (λ r.
+        IsFirstFound (arena exprs.now) signals.now links.now cells.now r) }
+{
+    let mut first = None;
+    for wanted in cells {
+        let found = path_of(alloc, exprs, signals, links, wanted)?;
+        first = first_of(first, found);
+    }
+    Ok(first)
+}
+
+/// Refused for the reset that stands first, of those from which a path leads to a register.
+pub(crate) fn check_resets(
+    alloc: Global,
+    exprs: &Exprs,
+    signals: &[u32],
+    links: &[Link],
+    cells: &[CellWanted],
+) -> Result<(), DesignFault>
+    requires few { length links.now ≤ 256 }
+    requires leaves { AreLeaves links.now }
+    requires count { length signals.now ≡ length links.now }
+    requires inside { All (IsCellIn (length (arena exprs.now))) cells.now }
+    ensures ok { IfOk result (λ _.
+        AllLeadNowhere (arena exprs.now) signals.now links.now cells.now) }
+    ensures err { IfErr result (λ f.
+        IsPathTold (arena exprs.now) signals.now links.now cells.now f) }
+{
+    match first_path(alloc, exprs, signals, links, cells)? {
+        None => Ok(()),
+        Some(ResetPath { place, path }) => Err(DesignFault::ResetReadsRegister(place, path)),
+    }
+}
