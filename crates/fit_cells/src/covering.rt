@@ -1,6 +1,6 @@
 //! The cover of a function in a polarity, made in the pool.
 
-ghost use Rattle.std.specs.Prelude.{◌≡◌, ◌≤◌, IfOk, length, vec_len};
+ghost use Rattle.std.specs.Prelude.{◌≡◌, ◌+◌, ◌≤◌, ◌++◌, IfOk, length, vec_capacity, vec_len};
 ghost use Rattle.cube_pool.specs.Prime.{IsPrimeIrredundant};
 ghost use Rattle.sop_lowering.specs.Lowering.{CanLower};
 ghost use Rattle.fit_cells.specs.Covering.{AreInside, IsInside, IsTried};
@@ -14,7 +14,19 @@ use cube_pool::{Cube, CubePool};
 use sop_lowering::LowerFault;
 use std::alloc::{AllocError, Global};
 
-/// The prime and irredundant rows between two lists of cubes. The pool is as it was.
+/// Appends the cubes to a list that has room for them. Takes no memory.
+fn append(list: &mut Vec<Cube>, cubes: &[Cube])
+    requires { vec_len list.old + length cubes.now ≤ vec_capacity list.old }
+    ensures cubes { list.new.items ≡ list.old.items ++ cubes.now }
+    ensures len { vec_len list.new ≡ vec_len list.old + length cubes.now }
+{
+    for cube in cubes {
+        list.push_reserved(*cube);
+    }
+}
+
+/// The prime and irredundant rows between two lists of cubes. The pool is as it was. Room for the rows is taken first, and
+/// nothing once the minimiser begins.
 fn minimised(
     alloc: Global,
     pool: &mut CubePool,
@@ -31,19 +43,20 @@ fn minimised(
     ensures rows { IfOk result (λ r. IsPrimeIrredundant needed.now allowed.now vars r.items) }
     ensures few { IfOk result (λ r. vec_len r ≤ length needed.now) }
 {
+    let mut found = Vec::with_capacity(alloc, needed.len())?;
     let mark = pool.mark();
     let needs = pool.push_all(needed);
     let allows = pool.push_all(allowed);
     let rows = minimise(pool, needs, allows, vars);
-    let found = Vec::from_slice(alloc, pool.slice(rows));
+    append(&mut found, pool.slice(rows));
     pool.release(mark);
-    found
+    Ok(found)
 }
 
 /// The cover of a function by rows that have what its `one` has, or else the complement, over the pairs' columns: prime
 /// and irredundant between the written lists. None where a list on the way to them would pass 1,024 products. Bit v of
-/// `turned` says that pair v carries the complement of its variable. The pool is as it was: once the lists are written,
-/// no memory is taken but for a copy of the rows.
+/// `turned` says that pair v carries the complement of its variable. The pool is as it was: the lists over the columns and
+/// room for the rows are taken first, and no memory once the minimiser begins.
 pub fn cover(
     alloc: Global,
     pool: &mut CubePool,
