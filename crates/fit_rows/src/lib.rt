@@ -5,8 +5,6 @@ mod burning;
 mod controls;
 mod laws;
 mod plan;
-#[cfg(test)]
-mod tests;
 
 pub use controls::{CellForm, device_fuses};
 pub use laws::owners;
