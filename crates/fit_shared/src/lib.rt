@@ -6,5 +6,5 @@ mod evaluating;
 mod shared;
 mod sharing;
 
-pub use shared::{SharedControl, cell_wanted, pair_count};
+pub use shared::{SharedControl, cell_wanted, own_control, pair_count};
 pub use sharing::{ShareFault, shared_bit};

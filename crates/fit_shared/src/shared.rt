@@ -27,7 +27,7 @@ pub fn cell_wanted(net: &Netlist, cell: u8) -> Option<CellWanted>
 }
 
 /// The cell's own reset or preset.
-pub(crate) fn own_control(which: SharedControl, wanted: &CellWanted) -> Option<Control>
+pub fn own_control(which: SharedControl, wanted: &CellWanted) -> Option<Control>
     ensures { result ≡ own_control which wanted.now }
 {
     match which {
