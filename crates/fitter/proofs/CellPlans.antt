@@ -175,7 +175,7 @@ over_at t mask net c (Some w) (Some x) tried is has over = over_cell t mask net 
 pub plans_stop : (t : Table) (covers : List (Option CellCovers)) (c : ℕ) (found : Option CellCovers) (x : FitFault) → c < length t.cells → found ≡ get_or covers c None
     → ArePlannedAt t c found (Err x) → ArePlanned t covers (Err x)
 plans_stop t covers c found (fault.TooWide d) low same is = absurd is
-plans_stop t covers c found (fault.NotShared a b point) low same is = absurd is
+plans_stop t covers c found (fault.NotShared which a b point) low same is = absurd is
 plans_stop t covers c found fault.ResetTooWide low same is = absurd is
 plans_stop t covers c found fault.PresetTooWide low same is = absurd is
 plans_stop t covers c found (fault.EnableTooWide d) low same is = absurd is

@@ -7,4 +7,5 @@ pub mod RisenCovers
 pub mod RowNumbers
 pub mod Stops
 pub mod TurnBits
+pub mod WidthOrder
 pub mod Widths

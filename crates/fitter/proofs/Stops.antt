@@ -10,6 +10,7 @@ use Rattle.abel_meaning.specs.SoundIds.{IsSoundNetlist}
 use Rattle.cube_pool.specs.declared.cube.Cube.{Cube}
 use Rattle.fit_laws.specs.Plans.{IsTurnMask, PlansControl, PlansRows}
 use Rattle.fit_plans.specs.Covered.{control_function}
+use Rattle.fit_shared.specs.declared.shared.SharedControl.{SharedControl}
 use Rattle.fit_shared.specs.declared.shared.SharedControl.TheVariants.{Preset, Reset}
 use Rattle.fit_shared.specs.Sharing.{IsSharedBit}
 use Rattle.fitter.specs.declared.covering.CellCovers.{CellCovers}
@@ -19,6 +20,7 @@ use Rattle.fitter.specs.declared.sharing.SharedRows.{SharedRows}
 use Rattle.fitter.specs.Answers.{FitAnswers}
 use Rattle.fitter.specs.Covered.{AreCovered, CoversBelow}
 use Rattle.fitter.specs.Planned.{ArePlanned, AreSharedRows, AreSingle, HasSharedRow, IsRowOf, IsSharedBitOf, SingleBelow}
+use Rattle.fitter.specs.Products.{DifferIn}
 use Rattle.fitter.specs.Width.{NoneWide}
 use Rattle.fitter.proofs.Answering.{first_sum, shared_product, too_many}
 use Rattle.fitter.proofs.Controls.{first_of_one}
@@ -32,7 +34,7 @@ handed P result x is holds = subst P (sym (is.1 ∙ ap (λ (e : FitFault). Err e
 
 pub reset_stops : (t : Table) (mask : ℕ) (net : Netlist) (x : FitFault) → IsSharedBitOf t net Reset (Err x) → AreSharedRows t mask net (Err x)
 reset_stops t mask net (TooWide c) is = absurd is
-reset_stops t mask net (NotShared a b point) is = inl is
+reset_stops t mask net (NotShared which a b point) is = subst (λ (w : SharedControl). DifferIn t net w a b point) (sym is.0) is.1
 reset_stops t mask net ResetTooWide is = absurd is
 reset_stops t mask net PresetTooWide is = absurd is
 reset_stops t mask net (EnableTooWide c) is = absurd is
@@ -41,7 +43,7 @@ reset_stops t mask net OutOfMemory is = tt
 
 pub preset_stops : (t : Table) (mask : ℕ) (net : Netlist) (reset : ExprId) (x : FitFault) → IsSharedBit t net Reset reset → IsSharedBitOf t net Preset (Err x) → AreSharedRows t mask net (Err x)
 preset_stops t mask net reset (TooWide c) shared is = absurd is
-preset_stops t mask net reset (NotShared a b point) shared is = inr (shared.shared, is)
+preset_stops t mask net reset (NotShared which a b point) shared is = subst (λ (w : SharedControl). DifferIn t net w a b point) (sym is.0) (shared.shared, is.1)
 preset_stops t mask net reset ResetTooWide shared is = absurd is
 preset_stops t mask net reset PresetTooWide shared is = absurd is
 preset_stops t mask net reset (EnableTooWide c) shared is = absurd is
@@ -71,7 +73,7 @@ row_is vars mask net bit rows o one is cover =
 
 pub cover_stops : (t : Table) (mask : ℕ) (net : Netlist) (x : FitFault) → AreCovered t mask net (Err x) → FitAnswers t net (Err x)
 cover_stops t mask net (TooWide c) is = is
-cover_stops t mask net (NotShared a b point) is = absurd is
+cover_stops t mask net (NotShared which a b point) is = absurd is
 cover_stops t mask net ResetTooWide is = absurd is
 cover_stops t mask net PresetTooWide is = absurd is
 cover_stops t mask net (EnableTooWide c) is = absurd is
@@ -85,7 +87,7 @@ module _ (t : Table) (laws : IsDevice t) (net : Netlist) (sound : IsSoundNetlist
 
   pub shared_stops : (x : FitFault) → AreSharedRows t mask net (Err x) → FitAnswers t net (Err x)
   shared_stops (TooWide c) is = absurd is
-  shared_stops (NotShared a b point) is = (wide, is)
+  shared_stops (NotShared which a b point) is = (wide, is)
   shared_stops ResetTooWide is = (wide, is.0, is.1)
   shared_stops PresetTooWide is = (wide, shared_product t laws net sound mask mask_is Reset is.0.0 is.0.1, is.1)
   shared_stops (EnableTooWide c) is = absurd is
@@ -95,7 +97,7 @@ module _ (t : Table) (laws : IsDevice t) (net : Netlist) (sound : IsSoundNetlist
   module _ (shared : SharedRows) (reset : HasSharedRow t mask net Reset shared.reset) (preset : HasSharedRow t mask net Preset shared.preset) where
     pub enable_stops : (x : FitFault) → AreSingle covers (Err x) → FitAnswers t net (Err x)
     enable_stops (TooWide c) is = absurd is
-    enable_stops (NotShared a b point) is = absurd is
+    enable_stops (NotShared which a b point) is = absurd is
     enable_stops ResetTooWide is = absurd is
     enable_stops PresetTooWide is = absurd is
     enable_stops (EnableTooWide c) is = (
@@ -109,7 +111,7 @@ module _ (t : Table) (laws : IsDevice t) (net : Netlist) (sound : IsSoundNetlist
 
     pub plan_stops : (x : FitFault) → SingleBelow covers (length covers) → ArePlanned t covers (Err x) → FitAnswers t net (Err x)
     plan_stops (TooWide c) single is = absurd is
-    plan_stops (NotShared a b point) single is = absurd is
+    plan_stops (NotShared which a b point) single is = absurd is
     plan_stops ResetTooWide single is = absurd is
     plan_stops PresetTooWide single is = absurd is
     plan_stops (EnableTooWide c) single is = absurd is

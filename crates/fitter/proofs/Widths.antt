@@ -30,11 +30,9 @@ use Rattle.fit_shared.specs.declared.shared.SharedControl.{SharedControl}
 use Rattle.fit_shared.specs.declared.shared.SharedControl.TheVariants.{Preset, Reset}
 use Rattle.fit_shared.specs.Sharing.{AllListed}
 use Rattle.fitter.specs.declared.covering.CellCovers.{CellCovers}
-use Rattle.fitter.specs.declared.fault.FitFault.{FitFault}
-use Rattle.fitter.specs.declared.fault.FitFault.TheVariants as fault
-use Rattle.fitter.specs.Covered.{AreCovered, CanCoverCell, CoversBelow, HasCovers, HasCoversAs, HasRows, IsCovered, IsCoveredAt, IsListed, IsWideAt}
+use Rattle.fitter.specs.Covered.{CanCoverCell, CoversBelow, HasCovers, HasCoversAs, HasRows, IsCovered, IsCoveredAt, IsFirstNumber, IsListed, IsWideAt}
 use Rattle.fitter.proofs.Controls.{no_list}
-use Rattle.fitter.specs.Width.{HasNoWeight, IsControlTooWide, IsFirstWide, IsFunctionTooWide, IsTooWide, NoneWide, NoneWideBelow}
+use Rattle.fitter.specs.Width.{HasNoWeight, IsControlTooWide, IsFunctionTooWide, IsTooWide, NoneWide}
 
 pub can_cover_cell : (t : Table) (net : Netlist) → IsSoundNetlist t net → (c : ℕ) (w : CellWanted) → cell_wanted net c ≡ Some w → CanCoverCell t net w
 can_cover_cell t net sound c w is =
@@ -136,11 +134,12 @@ below_more t mask net c list found before here = record {
   ];
 }
 
-wide_below : (t : Table) (mask : ℕ) (net : Netlist) (c : ℕ) (list : List (Option CellCovers)) → CoversBelow t mask net c list → NoneWideBelow t net c
+wide_below : (t : Table) (mask : ℕ) (net : Netlist) (c : ℕ) (list : List (Option CellCovers)) → CoversBelow t mask net c list
+    → (d : ℕ) (w : CellWanted) → d < c → cell_wanted net d ≡ Some w → IsTooWide t net w → ⊥
 wide_below t mask net c list before d w low is wide = as_not_wide t mask net (cell_wanted net d) w (get_or list d None) (before.each d low) is wide
 
-pub first_wide : (t : Table) (mask : ℕ) (net : Netlist) (c : ℕ) (list : List (Option CellCovers)) → CoversBelow t mask net c list → IsWideAt t net c → IsFirstWide t net c
-first_wide t mask net c list before at = record { cell = at.cell; wanted = at.wanted; wide = at.wide; before = wide_below t mask net c list before }
+pub first_number : (t : Table) (mask : ℕ) (net : Netlist) (c : ℕ) (list : List (Option CellCovers)) → CoversBelow t mask net c list → IsWideAt t net c → IsFirstNumber t net c
+first_number t mask net c list before at = record { at = at; below = wide_below t mask net c list before }
 
 pub none_wide : (t : Table) (mask : ℕ) (net : Netlist) → IsSoundNetlist t net → (list : List (Option CellCovers)) → CoversBelow t mask net (length t.cells) list → NoneWide t net
 none_wide t mask net sound list all d w is wide = wide_below t mask net (length t.cells) list all d w (cell_low t net sound d w is) is wide
@@ -219,25 +218,21 @@ preset_fails t mask net w lower.OutOfMemory none = tt
 
 -- ---- one cell that may be assigned
 
+-- a cell's fault, handed on
+pub at_fails : (t : Table) (mask : ℕ) (net : Netlist) (c : ℕ) (wanted : Option CellWanted) (w : CellWanted) (result : Result (Option CellCovers) LowerFault) (x : LowerFault)
+    → (e : LowerFault) × (result ≡ Err e) × (e ≡ x) → wanted ≡ cell_wanted net c → wanted ≡ Some w → IsCovered t mask net w (Err x) → IsCoveredAt t mask net c result
+at_fails t mask net c wanted w result x handed same is holds = subst (IsCoveredAt t mask net c) (sym (handed.1 ∙ ap (λ (e : LowerFault). Err e) handed.2)) (by x holds)
+  where
+    by : (x : LowerFault) → IsCovered t mask net w (Err x) → IsCoveredAt t mask net c (Err x)
+    by lower.TooWide wide = record { cell = w; wanted = sym same ∙ is; wide = wide }
+    by lower.OutOfMemory none = tt
+
 pub at_none : (t : Table) (mask : ℕ) (net : Netlist) (wanted own : Option CellWanted) → wanted ≡ own → wanted ≡ None → HasCoversAs t mask net own None
 at_none t mask net wanted own same is = subst (λ (o : Option CellWanted). HasCoversAs t mask net o None) (sym is ∙ same) tt
 
 pub at_some : (t : Table) (mask : ℕ) (net : Netlist) (wanted own : Option CellWanted) (w : CellWanted) (x : CellCovers) → wanted ≡ own → wanted ≡ Some w → HasCovers t mask net w x
     → HasCoversAs t mask net own (Some x)
 at_some t mask net wanted own w x same is has = subst (λ (o : Option CellWanted). HasCoversAs t mask net o (Some x)) (sym is ∙ same) has
-
-pub wide_at : (t : Table) (net : Netlist) (c : ℕ) (wanted : Option CellWanted) (w : CellWanted) → wanted ≡ cell_wanted net c → wanted ≡ Some w → IsTooWide t net w → IsWideAt t net c
-wide_at t net c wanted w same is wide = record { cell = w; wanted = sym same ∙ is; wide = wide }
-
-pub cells_stop : (t : Table) (mask : ℕ) (net : Netlist) (c : ℕ) (list : List (Option CellCovers)) (x : FitFault) → CoversBelow t mask net c list → IsCoveredAt t mask net c (Err x)
-    → AreCovered t mask net (Err x)
-cells_stop t mask net c list (fault.TooWide d) before is = subst (IsFirstWide t net) (sym is.0) (first_wide t mask net c list before is.1)
-cells_stop t mask net c list (fault.NotShared a b point) before is = absurd is
-cells_stop t mask net c list fault.ResetTooWide before is = absurd is
-cells_stop t mask net c list fault.PresetTooWide before is = absurd is
-cells_stop t mask net c list (fault.EnableTooWide d) before is = absurd is
-cells_stop t mask net c list (fault.TooManyProducts d tried) before is = absurd is
-cells_stop t mask net c list fault.OutOfMemory before is = tt
 
 -- what was tried, by the device's table
 pub tried_over : (t : Table) (mask : ℕ) (net : Netlist) (w : CellWanted) (tried : Tried) (flip : Flip) (vars : ℕ) → flip ≡ t.flip → vars ≡ length t.pairs → IsTriedCell flip vars mask net w tried

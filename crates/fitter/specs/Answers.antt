@@ -1,18 +1,17 @@
 -- What fitting a netlist answers, and when: the first refusal of these, in this order (this project's rule).
-use Rattle.std.specs.Prelude.{◌⊎◌, ℕ, length, Result, Ok, Err}
-use Rattle.pld_base.specs.declared.point.Point.{Point}
+use Rattle.std.specs.Prelude.{ℕ, length, Result, Ok, Err}
 use Rattle.pld_device.specs.Table.{Table}
 use Rattle.bit_expr.specs.declared.netlist.Netlist.{Netlist}
 use Rattle.abel_meaning.specs.Netlists.{plain_netlist}
 use Rattle.fitted.specs.Fitting.{AreShared, IsFitted}
 use Rattle.fit_laws.specs.Plans.{IsTurnMask}
 use Rattle.fit_shared.specs.declared.shared.SharedControl.TheVariants.{Preset, Reset}
-use Rattle.fit_shared.specs.Sharing.{AreNotShared, own_formula}
+use Rattle.fit_shared.specs.Sharing.{own_formula}
 use Rattle.fit_cells.specs.declared.choosing.Tried.{Tried}
 use Rattle.fitter.specs.declared.fault.FitFault.{FitFault}
 use Rattle.fitter.specs.declared.fault.FitFault.TheVariants.{EnableTooWide, NotShared, OutOfMemory, PresetTooWide, ResetTooWide, TooManyProducts, TooWide}
 use Rattle.fitter.specs.declared.answer.Fitted.{Fitted}
-use Rattle.fitter.specs.Products.{EnablesBelow, IsFirstSum, IsSharedProduct, IsSharedSum}
+use Rattle.fitter.specs.Products.{DifferIn, EnablesBelow, IsFirstSum, IsSharedProduct, IsSharedSum}
 use Rattle.fitter.specs.Rows.{AreFittedCells, IsOverRoom}
 use Rattle.fitter.specs.Width.{IsFirstWide, NoneWide}
 
@@ -36,18 +35,11 @@ pub record IsTooMany (t : Table) (net : Netlist) (c : ℕ) (tried : Tried) : Typ
   pub mask_is : IsTurnMask t (plain_netlist net) mask
   pub over : IsOverRoom t mask net c tried
 
--- two resets differ, or two presets do and no resets
-abbrev pub IsNotShared : Table → Netlist → (a b : ℕ) → Point → Type 0
-IsNotShared t net a b point =
-    NoneWide t net
-    × (AreNotShared t (plain_netlist net) (own_formula Reset) a b point
-    ⊎ (AreShared t (plain_netlist net) (own_formula Reset) × AreNotShared t (plain_netlist net) (own_formula Preset) a b point))
-
 -- each answer with its cause; want of memory tells nothing
 abbrev pub FitAnswers : Table → Netlist → Result Fitted FitFault → Type 0
 FitAnswers t net (Ok fitted) = IsFitOf t net fitted
 FitAnswers t net (Err (TooWide c)) = IsFirstWide t net c
-FitAnswers t net (Err (NotShared a b point)) = IsNotShared t net a b point
+FitAnswers t net (Err (NotShared which a b point)) = NoneWide t net × DifferIn t net which a b point
 FitAnswers t net (Err ResetTooWide) =
     NoneWide t net × AreShared t (plain_netlist net) (own_formula Preset) × IsSharedSum t net Reset
 FitAnswers t net (Err PresetTooWide) = NoneWide t net × IsSharedProduct t net Reset × IsSharedSum t net Preset

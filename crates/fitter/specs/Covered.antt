@@ -2,6 +2,7 @@
 use Rattle.std.specs.Prelude.{◌≡◌, ℕ, ◌<◌, true, Option, Some, None, List, length, get_or, Result, Ok, Err}
 use Rattle.std.specs.Global.{Vec}
 use Rattle.pld_device.specs.Table.{Table}
+use Rattle.abel_tree.specs.FirstRefusal.{is_before}
 use Rattle.bit_expr.specs.declared.netlist.CellWanted.{CellWanted}
 use Rattle.bit_expr.specs.declared.netlist.Control.{Control}
 use Rattle.bit_expr.specs.declared.netlist.Netlist.{Netlist}
@@ -16,7 +17,7 @@ use Rattle.fit_plans.specs.Covered.{IsTriedCell, control_function}
 use Rattle.fitter.specs.declared.covering.CellCovers.{CellCovers}
 use Rattle.fitter.specs.declared.fault.FitFault.{FitFault}
 use Rattle.fitter.specs.declared.fault.FitFault.TheVariants as fault
-use Rattle.fitter.specs.Width.{IsControlTooWide, IsFirstWide, IsTooWide}
+use Rattle.fitter.specs.Width.{IsControlTooWide, IsFirstWide, IsTooWide, width_order}
 
 -- all ids of an assigned cell are sound
 pub record CanCoverCell (t : Table) (net : Netlist) (w : CellWanted) : Type 0 where
@@ -65,11 +66,21 @@ pub record IsWideAt (t : Table) (net : Netlist) (c : ℕ) : Type 0 where
   pub wanted : cell_wanted net c ≡ Some cell
   pub wide : IsTooWide t net cell
 
-abbrev pub IsCoveredAt : Table → (mask : ℕ) → Netlist → ℕ → Result (Option CellCovers) FitFault → Type 0
+abbrev pub IsCoveredAt : Table → (mask : ℕ) → Netlist → ℕ → Result (Option CellCovers) LowerFault → Type 0
 IsCoveredAt t mask net c (Ok found) = HasCoversAs t mask net (cell_wanted net c) found
-IsCoveredAt t mask net c (Err (fault.TooWide d)) = (d ≡ c) × IsWideAt t net c
-IsCoveredAt t mask net c (Err fault.OutOfMemory) = Unit {0}
-IsCoveredAt t mask net c (Err _) = ⊥
+IsCoveredAt t mask net c (Err lower.TooWide) = IsWideAt t net c
+IsCoveredAt t mask net c (Err lower.OutOfMemory) = Unit {0}
+
+-- the first by number
+pub record IsFirstNumber (t : Table) (net : Netlist) (c : ℕ) : Type 0 where
+  pub at : IsWideAt t net c
+  pub below : (d : ℕ) (w : CellWanted) → d < c → cell_wanted net d ≡ Some w → IsTooWide t net w → ⊥
+
+-- a cell that is too wide, before all others below a number that are
+pub record IsFirstBelow (t : Table) (net : Netlist) (n : ℕ) (w : CellWanted) : Type 0 where
+  pub wanted : cell_wanted net w.cell ≡ Some w
+  pub wide : IsTooWide t net w
+  pub before : (d : ℕ) (v : CellWanted) → d < n → cell_wanted net d ≡ Some v → is_before width_order v w ≡ true → IsTooWide t net v → ⊥
 
 -- the covers of the cells below a number
 pub record CoversBelow (t : Table) (mask : ℕ) (net : Netlist) (c : ℕ) (list : List (Option CellCovers)) : Type 0 where

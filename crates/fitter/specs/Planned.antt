@@ -26,7 +26,7 @@ use Rattle.fitter.specs.declared.answer.FittedCell.{FittedCell}
 use Rattle.fitter.specs.declared.planning.AllRows.{AllRows}
 use Rattle.fitter.specs.declared.planning.CellRows.{CellRows}
 use Rattle.fitter.specs.declared.sharing.SharedRows.{SharedRows}
-use Rattle.fitter.specs.Products.{IsNoProduct, IsSharedSum}
+use Rattle.fitter.specs.Products.{DifferIn, IsNoProduct, IsSharedSum}
 use Rattle.fitter.specs.Rows.{Rises}
 
 -- ---- one cell
@@ -126,15 +126,13 @@ IsRowOf t mask net bit many (Err e) = ((e ≡ many) × IsNoProduct (length t.pai
 -- the bit that all registers share, or two cells that don't
 abbrev pub IsSharedBitOf : Table → Netlist → SharedControl → Result ExprId FitFault → Type 0
 IsSharedBitOf t net which (Ok bit) = IsSharedBit t net which bit
-IsSharedBitOf t net which (Err (fault.NotShared a b point)) = AreNotShared t (plain_netlist net) (own_formula which) a b point
+IsSharedBitOf t net which (Err (fault.NotShared told a b point)) = (told ≡ which) × AreNotShared t (plain_netlist net) (own_formula which) a b point
 IsSharedBitOf t net which (Err fault.OutOfMemory) = Unit {0}
 IsSharedBitOf t net which (Err _) = ⊥
 
 abbrev pub AreSharedRows : Table → (mask : ℕ) → Netlist → Result SharedRows FitFault → Type 0
 AreSharedRows t mask net (Ok rows) = HasSharedRow t mask net Reset rows.reset × HasSharedRow t mask net Preset rows.preset
-AreSharedRows t mask net (Err (fault.NotShared a b point)) =
-    AreNotShared t (plain_netlist net) (own_formula Reset) a b point
-    ⊎ (AreShared t (plain_netlist net) (own_formula Reset) × AreNotShared t (plain_netlist net) (own_formula Preset) a b point)
+AreSharedRows t mask net (Err (fault.NotShared which a b point)) = DifferIn t net which a b point
 AreSharedRows t mask net (Err fault.ResetTooWide) = AreShared t (plain_netlist net) (own_formula Preset) × IsSharedSum t net Reset
 AreSharedRows t mask net (Err fault.PresetTooWide) = ((row : Option Cube) × HasSharedRow t mask net Reset row) × IsSharedSum t net Preset
 AreSharedRows t mask net (Err fault.OutOfMemory) = Unit {0}

@@ -1,7 +1,9 @@
 -- Controls that one product makes, or none (sum-of-products form; that a control has one row is the devices').
 use Rattle.std.specs.Prelude.{◌≡◌, ℕ, ◌<◌, true, Bool, Option, Some, List, length}
 use Rattle.std.specs.Option.{option_to_list}
+use Rattle.pld_base.specs.declared.point.Point.{Point}
 use Rattle.pld_device.specs.Table.{Table}
+use Rattle.abel_meaning.specs.Netlists.{plain_netlist}
 use Rattle.bit_expr.specs.declared.netlist.CellWanted.{CellWanted}
 use Rattle.bit_expr.specs.declared.netlist.Netlist.{Netlist}
 use Rattle.bit_expr.specs.declared.node.ExprId.{ExprId}
@@ -10,7 +12,9 @@ use Rattle.cube_pool.specs.Cubes.{covers}
 use Rattle.sop_lowering.specs.Written.{bit_list}
 use Rattle.fit_laws.specs.Plans.{cell_wanted, enable_bit}
 use Rattle.fit_shared.specs.declared.shared.SharedControl.{SharedControl}
-use Rattle.fit_shared.specs.Sharing.{IsSharedBit}
+use Rattle.fit_shared.specs.declared.shared.SharedControl.TheVariants.{Preset, Reset}
+use Rattle.fit_shared.specs.Sharing.{AreNotShared, IsSharedBit, own_formula}
+use Rattle.fitted.specs.Fitting.{AreShared}
 
 -- the written products have the points of one product, or none
 abbrev pub IsOneProduct : (vars : ℕ) → List Cube → Type 0
@@ -40,6 +44,12 @@ pub record IsSharedSum (t : Table) (net : Netlist) (which : SharedControl) : Typ
   pub bit : ExprId
   pub shared : IsSharedBit t net which bit
   pub many : IsNoProduct (length t.pairs) net bit
+
+-- the resets of two registers differ at a point; or their presets do, and no resets
+abbrev pub DifferIn : Table → Netlist → SharedControl → (a b : ℕ) → Point → Type 0
+DifferIn t net Reset a b point = AreNotShared t (plain_netlist net) (own_formula Reset) a b point
+DifferIn t net Preset a b point =
+    AreShared t (plain_netlist net) (own_formula Reset) × AreNotShared t (plain_netlist net) (own_formula Preset) a b point
 
 -- the enables of the assigned cells below a number are one product each, or 0
 abbrev pub EnablesBelow : Table → Netlist → ℕ → Type 0

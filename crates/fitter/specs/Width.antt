@@ -1,5 +1,6 @@
 -- Functions and controls whose written lists would pass 1,024 products (this project's rule).
-use Rattle.std.specs.Prelude.{◌≡◌, ◌⊎◌, ℕ, ◌<◌, Bool, true, Option, Some, None}
+use Rattle.std.specs.Prelude.{◌≡◌, ◌⊎◌, ℕ, Bool, true, Option, Some, None}
+use Rattle.abel_tree.specs.FirstRefusal.{Ranks, is_before}
 use Rattle.pld_device.specs.Table.{Table}
 use Rattle.bit_expr.specs.declared.netlist.CellWanted.{CellWanted}
 use Rattle.bit_expr.specs.declared.netlist.Control.{Control}
@@ -30,17 +31,17 @@ IsTooWide t net w =
     IsFunctionTooWide t net w
     ⊎ ((bit_list net (enable_bit w) true ≡ None) ⊎ (IsControlTooWide net w.reset ⊎ IsControlTooWide net w.preset))
 
--- no assigned cell below a number is
-abbrev pub NoneWideBelow : Table → Netlist → ℕ → Type 0
-NoneWideBelow t net c = (d : ℕ) (w : CellWanted) → d < c → cell_wanted net d ≡ Some w → IsTooWide t net w → ⊥
-
 -- no assigned cell is
 abbrev pub NoneWide : Table → Netlist → Type 0
 NoneWide t net = (d : ℕ) (w : CellWanted) → cell_wanted net d ≡ Some w → IsTooWide t net w → ⊥
 
--- the cell is the first that is too wide
+-- the order in which cells are told: by the first data target in the source, and at one place by number
+abbrev pub width_order : Ranks CellWanted
+width_order = record { place = λ (w : CellWanted). w.place; rank = λ (w : CellWanted). w.cell }
+
+-- the cell is too wide, and no assigned cell that comes before it in that order is
 pub record IsFirstWide (t : Table) (net : Netlist) (c : ℕ) : Type 0 where
   pub cell : CellWanted
   pub wanted : cell_wanted net c ≡ Some cell
   pub wide : IsTooWide t net cell
-  pub before : NoneWideBelow t net c
+  pub before : (d : ℕ) (w : CellWanted) → cell_wanted net d ≡ Some w → is_before width_order w cell ≡ true → IsTooWide t net w → ⊥

@@ -8,6 +8,7 @@ ghost use Rattle.fit_laws.specs.Plans.{enable_bit};
 ghost use Rattle.fitter.specs.Covered.{AreCovered, CanCoverCell, HasRows, IsCovered, IsCoveredAt, IsListed};
 
 use crate::fault::FitFault;
+use crate::widest::first_wide;
 use bit_expr::{CellWanted, Control, ExprId, Netlist};
 use cube_pool::{Cube, CubePool};
 use fit_cells::Tried;
@@ -85,7 +86,7 @@ fn has_none(tried: &Tried) -> bool
 }
 
 /// The covers of a cell; TooWide where its function has none in any form, or a control of it none.
-fn cover_cell<D: Device>(
+pub(crate) fn cover_cell<D: Device>(
     alloc: Global,
     pool: &mut CubePool,
     net: &Netlist,
@@ -120,7 +121,7 @@ fn cover_at<D: Device>(
     net: &Netlist,
     cell: u8,
     turned: u32,
-) -> Result<Option<CellCovers>, FitFault>
+) -> Result<Option<CellCovers>, LowerFault>
     requires sound { IsSoundNetlist D.table net.now }
     requires spare { 27672 ≤ pool.old.spare }
     ensures same { pool.new ≡ pool.old }
@@ -129,14 +130,12 @@ fn cover_at<D: Device>(
     let Some(wanted) = cell_wanted(net, cell) else {
         return Ok(None);
     };
-    match cover_cell::<D>(alloc, pool, net, wanted, turned) {
-        Ok(covers) => Ok(Some(covers)),
-        Err(LowerFault::TooWide) => Err(FitFault::TooWide(cell)),
-        Err(LowerFault::OutOfMemory) => Err(FitFault::OutOfMemory),
-    }
+    let covers = cover_cell::<D>(alloc, pool, net, wanted, turned)?;
+    Ok(Some(covers))
 }
 
-/// The covers of all assigned cells, one entry a cell of the device; or the first cell that is too wide.
+/// The covers of all assigned cells, one entry a cell of the device; or, of the cells that are too wide, the first in the
+/// source.
 pub(crate) fn cover_cells<D: Device>(
     alloc: Global,
     pool: &mut CubePool,
@@ -150,8 +149,14 @@ pub(crate) fn cover_cells<D: Device>(
 {
     let mut list = Vec::new(alloc);
     for cell in 0..D::CELLS {
-        let covers = cover_at::<D>(alloc, pool, net, cell, turned)?;
-        list.push(covers)?;
+        match cover_at::<D>(alloc, pool, net, cell, turned) {
+            Ok(covers) => list.push(covers)?,
+            Err(LowerFault::TooWide) => {
+                let first = first_wide::<D>(alloc, pool, net, cell, turned)?;
+                return Err(FitFault::TooWide(first));
+            }
+            Err(LowerFault::OutOfMemory) => return Err(FitFault::OutOfMemory),
+        }
     }
     Ok(list)
 }

@@ -1,12 +1,13 @@
 //! Why a netlist does not fit.
 
 use fit_cells::Tried;
+use fit_shared::SharedControl;
 use pld_base::{OutOfMemory, Point};
 use std::alloc::{AllocError, AllocFailed};
 use thiserror::Error;
 
-/// Why a netlist does not fit a device: the first of these in this order, and of one kind the first by cell. A number is a
-/// cell's, in the order of the device.
+/// Why a netlist does not fit a device: the first of these in this order; TooWide the first by the cells' places in the
+/// source, of another kind the first by cell. A number is a cell's, in the order of the device.
 #[derive(Debug, Drop, Error)]
 pub enum FitFault {
     /// A written list of the cell's function, in each form that it may have, or of a control of it, would pass 1,024
@@ -14,8 +15,8 @@ pub enum FitFault {
     #[error("cell {0} is wider than 1,024 products")]
     TooWide(u8),
     /// The resets, or else the presets, of two cells differ at the point.
-    #[error("cells {0} and {1} differ in what all registers share")]
-    NotShared(u8, u8, Point),
+    #[error("cells {1} and {2} differ in what all registers share")]
+    NotShared(SharedControl, u8, u8, Point),
     /// The reset is neither 0 nor one product.
     #[error("the reset is no product")]
     ResetTooWide,

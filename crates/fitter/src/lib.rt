@@ -9,6 +9,7 @@ mod masks;
 mod planning;
 mod rising;
 mod sharing;
+mod widest;
 
 pub use answer::{Fitted, FittedCell};
 pub use fault::FitFault;

@@ -40,7 +40,7 @@ fn bit_of<D: Device>(
     match shared_bit::<D>(alloc, pool, net, which) {
         Ok(bit) => Ok(bit),
         Err(ShareFault::NotShared(first, second, at)) => {
-            Err(FitFault::NotShared(first, second, at))
+            Err(FitFault::NotShared(which, first, second, at))
         }
         Err(ShareFault::OutOfMemory) => Err(FitFault::OutOfMemory),
     }
