@@ -1,0 +1,2 @@
+pub mod MixedTable
+pub mod Named
