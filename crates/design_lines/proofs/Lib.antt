@@ -1,0 +1,2 @@
+pub mod ControlOrder
+pub mod NamedCells
