@@ -6,8 +6,6 @@ mod columns;
 mod lookups;
 mod pin_names;
 mod rows;
-#[cfg(test)]
-mod tests;
 mod whole;
 
 pub use whole::listing;
