@@ -12,8 +12,6 @@ mod level_table;
 mod pin_order;
 mod reading;
 mod said;
-#[cfg(test)]
-mod tests;
 mod vectors;
 mod words;
 
