@@ -5,8 +5,6 @@ mod array;
 mod control;
 mod lines;
 mod sums;
-#[cfg(test)]
-mod tests;
 mod vectors;
 mod writing;
 
