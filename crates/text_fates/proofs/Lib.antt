@@ -1,0 +1,10 @@
+pub mod Forms
+pub mod Expressions
+pub mod Statements
+pub mod Declarations
+pub mod Tables
+pub mod Diagrams
+pub mod Modules
+pub mod Stops
+pub mod Expansions
+pub mod Fates
