@@ -21,3 +21,5 @@ mod sizes;
 mod tests;
 #[cfg(test)]
 mod tokens;
+#[cfg(test)]
+mod values;

@@ -5,6 +5,7 @@ use crate::macros::MACROS;
 use crate::page::PAGE;
 use crate::refused::{BROKEN, refusals};
 use crate::repeats::REPEATS;
+use crate::values::{VALUES, WITHOUT_VALUE};
 use abel_expand::{ExpandFault, Reader, expand};
 use pld_base::Place;
 use std::alloc::Global;
@@ -129,6 +130,50 @@ fn broken_forms_are_refused(rt: HostRuntime) -> Result<(), Fail> {
 fn refusals_have_their_places(rt: HostRuntime) -> Result<(), Fail> {
     for (text, fault) in refusals() {
         assert!(rt; is_refused(rt.alloc(), text, fault)?, "{text:?}");
+    }
+    Ok(())
+}
+
+#[test]
+fn a_reader_answers_a_refusal_for_ever(rt: HostRuntime) -> Result<(), Fail> {
+    let fault = ExpandFault::BadDirective(Place { line: 2, column: 1 });
+    let mut reader = Reader::new(rt.alloc(), b"a\n@");
+    assert!(rt; reader.next() == Ok(Some(b'a')));
+    assert!(rt; reader.next() == Ok(Some(b'\n')));
+    for _ in 0..3 {
+        assert!(rt; reader.next() == Err(fault));
+    }
+    Ok(())
+}
+
+/// A text that puts the value of an expression.
+fn value_text(alloc: Global, expression: &str) -> Result<String, Fail> {
+    Ok(format!(in alloc; "@CONST n = 5;m MACRO (x, y) {{?y?x}};@EXPR {expression};")?)
+}
+
+#[test]
+fn expressions_have_their_values(rt: HostRuntime) -> Result<(), Fail> {
+    let alloc = rt.alloc();
+    for (expression, value) in VALUES {
+        let text = value_text(alloc, expression)?;
+        let Ok(found) = expanded(alloc, text.as_bytes())? else {
+            return Err("a refusal".into());
+        };
+        assert!(rt; found.as_slice() == value.as_bytes(), "{expression}");
+    }
+    Ok(())
+}
+
+#[test]
+fn other_expressions_are_refused(rt: HostRuntime) -> Result<(), Fail> {
+    let alloc = rt.alloc();
+    for expression in WITHOUT_VALUE {
+        let text = value_text(alloc, expression)?;
+        let found = expanded(alloc, text.as_bytes())?;
+        assert!(rt;
+            matches!(found, Err(ExpandFault::BadDirective(_))),
+            "{expression}"
+        );
     }
     Ok(())
 }
