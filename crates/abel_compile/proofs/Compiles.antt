@@ -1,0 +1,91 @@
+-- What the phases answer for the module of a text, as an answer for the text.
+use Rattle.std.proofs.Common.{◌≡◌, ℕ, Some, List, Result, Ok, Err, sym, subst, inl, inr}
+use Rattle.std.specs.Prelude.{IfOk, IfErr}
+use Rattle.pld_base.specs.declared.device_name.DeviceName.{DeviceName}
+use Rattle.abel_tree.specs.Tree.{ModuleTree}
+use Rattle.abel_meaning.specs.DeviceStrings.{device_named}
+use Rattle.module_reader.specs.Texts.{IsRead}
+use Rattle.abel_compile.specs.declared.compiled.Compiled.{Compiled}
+use Rattle.abel_compile.specs.declared.fault.CompileFault.{CompileFault}
+use Rattle.abel_compile.specs.declared.fault.CompileFault.TheVariants.{Source, Fit, OutOfMemory}
+use Rattle.abel_compile.specs.declared.fault.SourceFault.{SourceFault}
+use Rattle.abel_compile.specs.declared.fault.SourceFault.TheVariants.{Expand, Scan, Parse, Names, Sections, Design, Width}
+use Rattle.abel_compile.specs.Answers.{CompileAnswers}
+use Rattle.abel_compile.specs.Devices.{table_of}
+use Rattle.abel_compile.specs.Phases.{IsOfSource, IsTextFault, IsNameFault, IsUnnamed, IsReadAlone, IsCompiledFor, IsCompiledOn, IsRefusedFor}
+use Rattle.abel_compile.specs.SourceRefusals.{IsRefusedSo, IsSourceRefused}
+
+-- ---- the text
+
+text_refused : (text : List ℕ) (f : SourceFault) (line : List ℕ) → IsTextFault text f line → IsSourceRefused text f line
+text_refused text (Expand f) line h = h
+text_refused text (Scan f) line h = h
+text_refused text (Parse f) line h = h
+text_refused text (Names f) line h = absurd h
+text_refused text (Sections f) line h = absurd h
+text_refused text (Design f) line h = absurd h
+text_refused text (Width f) line h = absurd h
+
+pub of_text : (text : List ℕ) (e : CompileFault) → IsOfSource (IsTextFault text) e → CompileAnswers text (Err e)
+of_text text (Source f line) h = text_refused text f line.items h
+of_text text (Fit f line) h = absurd h
+of_text text OutOfMemory h = tt
+
+-- ---- its device
+
+device_refused : (text : List ℕ) (m : ModuleTree) (f : SourceFault) (line : List ℕ) → IsRead text m → IsNameFault (IsUnnamed m) f line
+    → IsSourceRefused text f line
+device_refused text m (Names f) line read h = inl (record { source = m; read = read; unnamed = h.0.0; fault = h.0.1 }, h.1)
+device_refused text m (Expand f) line read h = absurd h
+device_refused text m (Scan f) line read h = absurd h
+device_refused text m (Parse f) line read h = absurd h
+device_refused text m (Sections f) line read h = absurd h
+device_refused text m (Design f) line read h = absurd h
+device_refused text m (Width f) line read h = absurd h
+
+pub of_device : (text : List ℕ) (m : ModuleTree) (e : CompileFault) → IsRead text m → IsOfSource (IsNameFault (IsUnnamed m)) e
+    → CompileAnswers text (Err e)
+of_device text m (Source f line) read h = device_refused text m f line.items read h
+of_device text m (Fit f line) read h = absurd h
+of_device text m OutOfMemory read h = tt
+
+-- ---- its module for the device
+
+module _ (text : List ℕ) (m : ModuleTree) (device : DeviceName) (read : IsRead text m) (named : device_named m ≡ Some device) where
+  source_refused : (f : SourceFault) (line : List ℕ) → IsRefusedSo f line (table_of device) m → IsSourceRefused text f line
+  source_refused (Names f) line h = inr (record { source = m; read = read; device = device; named = named; so = h })
+  source_refused (Sections f) line h = record { source = m; read = read; device = device; named = named; so = h }
+  source_refused (Design f) line h = record { source = m; read = read; device = device; named = named; so = h }
+  source_refused (Width f) line h = record { source = m; read = read; device = device; named = named; so = h }
+  source_refused (Expand f) line h = absurd h
+  source_refused (Scan f) line h = absurd h
+  source_refused (Parse f) line h = absurd h
+
+  pub of_refused : (e : CompileFault) → IsRefusedFor (table_of device) m e → CompileAnswers text (Err e)
+  of_refused (Source f line) h = source_refused f line.items h
+  of_refused (Fit f line) h = (h.0, record { source = m; read = read; device = device; named = named; so = h.1 })
+  of_refused OutOfMemory h = tt
+
+-- the module is compiled for the device that it names
+pub of_compiled : (text : List ℕ) (m : ModuleTree) (device : DeviceName) (c : Compiled) → IsReadAlone text m → device_named m ≡ Some device
+    → IsCompiledOn (table_of device) device m c → CompileAnswers text (Ok c)
+of_compiled text m device c alone named is =
+    let here : IsCompiledFor (table_of c.device) m c =
+    subst (λ (d : DeviceName). IsCompiledFor (table_of d) m c) (sym is.device_is) is.compiled in
+    record {
+      source = m;
+      read = alone.read;
+      only = alone.only;
+      named = subst (λ (d : DeviceName). device_named m ≡ Some d) (sym is.device_is) named;
+      accepted = here.accepted;
+      fuses = here.fuses;
+      right = here.right;
+      told = here.told;
+    }
+
+-- either answer of the module's device
+pub answers_of : (text : List ℕ) (m : ModuleTree) (device : DeviceName) (r : Result Compiled CompileFault) → IsReadAlone text m
+    → device_named m ≡ Some device → IfOk r (λ c. IsCompiledOn (table_of device) device m c) → IfErr r (IsRefusedFor (table_of device) m)
+    → CompileAnswers text r
+answers_of text m device (Ok c) alone named ok err = of_compiled text m device c alone named ok
+answers_of text m device (Err e) alone named ok err = of_refused text m device alone.read named e err

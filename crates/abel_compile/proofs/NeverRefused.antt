@@ -1,0 +1,140 @@
+-- A module that is accepted and fits as it is written is refused for nothing but want of memory.
+use Rattle.std.proofs.Common.{◌≡◌, ◌≢◌, ℕ, Some, None, List, [], Result, Ok, Err, refl, sym, ap, ◌∙◌, subst}
+use Rattle.std.specs.Prelude.{IfErr}
+use Rattle.pld_base.specs.declared.device_name.DeviceName.{DeviceName}
+use Rattle.pld_device.specs.Laws.{IsDevice}
+use Rattle.pld_device.specs.Table.{Table}
+use Rattle.bit_expr.specs.Arena.{arena}
+use Rattle.abel_tree.specs.FirstRefusal.{Ranks, first_refusal}
+use Rattle.abel_tree.specs.Tree.{ModuleTree}
+use Rattle.abel_meaning.specs.Designs.{design_of}
+use Rattle.abel_meaning.specs.DeviceStrings.{device_named}
+use Rattle.abel_meaning.specs.Kinds.{names_of}
+use Rattle.decls.specs.FaultOrder.{name_order}
+use Rattle.design_checks.specs.declared.fault.DesignFault.{DesignFault}
+use Rattle.design_checks.specs.declared.fault.DesignFault.TheVariants as designing
+use Rattle.design_lines.specs.Designs.{design_text}
+use Rattle.set_expr.specs.SectionOrder.{section_order}
+use Rattle.fitter.specs.declared.fault.FitFault.{FitFault}
+use Rattle.fitter.specs.declared.fault.FitFault.TheVariants as fit
+use Rattle.module_reader.specs.declared.fault.ReadFault.TheVariants as reading
+use Rattle.module_reader.specs.Texts.{SpellsModule, IsRead}
+use Rattle.text_fates.proofs.Fates.{read_or_not}
+use Rattle.abel_compile.specs.declared.compiled.Compiled.{Compiled}
+use Rattle.abel_compile.specs.declared.fault.CompileFault.{CompileFault}
+use Rattle.abel_compile.specs.declared.fault.CompileFault.TheVariants.{Source, Fit, OutOfMemory}
+use Rattle.abel_compile.specs.declared.fault.SourceFault.{SourceFault}
+use Rattle.abel_compile.specs.declared.fault.SourceFault.TheVariants.{Expand, Scan, Parse, Names, Sections, Design, Width}
+use Rattle.abel_compile.specs.Answers.{FitsAsWritten, IsNeverRefused, IsOfFit, IsUnfitFor}
+use Rattle.abel_compile.specs.Devices.{table_of}
+use Rattle.abel_compile.specs.Phases.{IsOfSource, IsTextFault, IsNameFault, IsUnnamed, IsReadAlone, IsRefusedFor}
+use Rattle.abel_compile.specs.SourceRefusals.{HasDesign, IsAcceptedFor, IsDesignRefusedFor, IsRefusedSo}
+use Rattle.abel_compile.proofs.SameCells.{not_wide, not_unfit}
+use Rattle.abel_compile.proofs.SameContributions.{not_refused}
+
+-- nothing of none is the first
+no_first : {F : Type 0} (o : Ranks F) (fs : List F) (f : F) → fs ≡ [] → first_refusal o fs ≡ Some f → ⊥
+no_first o fs f none first = let gone : None ≡ Some f = sym (ap (first_refusal o) none) ∙ first in absurd (cc)
+
+-- a design of which nothing is refused is not refused by other contributions of its sections
+not_refused_for : (t : Table) (m : ModuleTree) (f : DesignFault) → f ≢ designing.OutOfMemory → HasDesign t m → IsDesignRefusedFor t m f → ⊥
+not_refused_for t m f memory has refused =
+    not_refused (design_of t m) (arena has.found.exprs) (arena refused.found.exprs) has.found.list refused.found.list
+    (has.contributed.gives ∙ sym refused.contributed.gives) (has.contributed.places ∙ sym refused.contributed.places) f memory has.unrefused refused.refused
+
+module _ (t : Table) (m : ModuleTree) (laws : IsDevice t) (accepted : IsAcceptedFor t m) where
+  pub not_source : (f : SourceFault) (line : List ℕ) → IsRefusedSo f line t m → ⊥
+  not_source (Names f) line h = no_first name_order _ f accepted.before.before.names h.0
+  not_source (Sections f) line h = no_first section_order _ f accepted.before.before.sections h.1
+  not_source (Design f) line h =
+      not_refused_for t m f
+      (λ memory. absurd (untold (sym (ap (design_text (names_of t m)) memory) ∙ h.2))) accepted.before h.1
+    where
+      untold : None ≡ Some line → ⊥
+      untold e = absurd (cc)
+  not_source (Width (fit.TooWide c)) line h =
+      not_wide t laws accepted.net h.net accepted.netlist.sound h.netlist.sound (accepted.netlist.plain ∙ sym h.netlist.plain) accepted.width c h.first
+  not_source (Width (fit.NotShared which a b point)) line h = h
+  not_source (Width fit.ResetTooWide) line h = h
+  not_source (Width fit.PresetTooWide) line h = h
+  not_source (Width (fit.EnableTooWide c)) line h = h
+  not_source (Width (fit.TooManyProducts c tried)) line h = h
+  not_source (Width fit.OutOfMemory) line h = h
+  not_source (Expand f) line h = h
+  not_source (Scan f) line h = h
+  not_source (Parse f) line h = h
+
+  module _ (fits : FitsAsWritten t m) where
+    pub not_fit : (f : FitFault) (line : List ℕ) → IsOfFit f → IsUnfitFor f line t m → ⊥
+    not_fit f line of_fit h =
+        not_unfit t laws fits.net h.net fits.netlist.sound h.netlist.sound (fits.netlist.plain ∙ sym h.netlist.plain) fits.controls fits.rooms f of_fit
+        h.unfit
+
+    not_for : (e : CompileFault) → e ≢ OutOfMemory → IsRefusedFor t m e → ⊥
+    not_for (Source f line) memory h = not_source f line.items h
+    not_for (Fit f line) memory h = not_fit f line.items h.0 h.1
+    not_for OutOfMemory memory h = memory refl
+
+-- ---- of the text
+
+abbrev refused : CompileFault → Result Compiled CompileFault
+refused e = Err e
+
+same_fault : (e f : CompileFault) → refused e ≡ refused f → e ≡ f
+same_fault e f is = cc
+
+unread : (text : List ℕ) (m : ModuleTree) (f : SourceFault) (line : List ℕ) → IsRead text m → IsTextFault text f line → ⊥
+unread text m (Expand f) line read h = read_or_not text m (reading.Expand f) (λ e. cc) read h.0
+unread text m (Scan f) line read h = read_or_not text m (reading.Scan f) (λ e. cc) read h.0
+unread text m (Parse f) line read h = read_or_not text m (reading.Parse f) (λ e. cc) read h.0
+unread text m (Names f) line read h = h
+unread text m (Sections f) line read h = h
+unread text m (Design f) line read h = h
+unread text m (Width f) line read h = h
+
+unread_fault : (text : List ℕ) (m : ModuleTree) (e : CompileFault) → e ≢ OutOfMemory → IsRead text m → IsOfSource (IsTextFault text) e → ⊥
+unread_fault text m (Source f line) memory read h = unread text m f line.items read h
+unread_fault text m (Fit f line) memory read h = h
+unread_fault text m OutOfMemory memory read h = memory refl
+
+pub never_text : (text : List ℕ) (e : CompileFault) → IsOfSource (IsTextFault text) e → IsNeverRefused text (Err e)
+never_text text e h = λ p f memory is. unread_fault text p.source e (λ out. memory (sym (same_fault e f is) ∙ out)) p.read h
+
+-- what is read is spelled
+pub spelled : (text : List ℕ) (m : ModuleTree) → IsRead text m → SpellsModule text m
+spelled text m read =
+    record { expanded = read.expanded; expands = read.expands; tokens = read.tokens; scanned = read.scanned; so = (64, read.so) }
+
+not_unnamed : (m : ModuleTree) (device : DeviceName) (e : CompileFault) → device_named m ≡ Some device → e ≢ OutOfMemory
+    → IsOfSource (IsNameFault (IsUnnamed m)) e → ⊥
+not_unnamed m device (Source (Names f) line) named memory h = let gone : None ≡ Some device = sym h.0.0 ∙ named in absurd (cc)
+not_unnamed m device (Source (Expand f) line) named memory h = h
+not_unnamed m device (Source (Scan f) line) named memory h = h
+not_unnamed m device (Source (Parse f) line) named memory h = h
+not_unnamed m device (Source (Sections f) line) named memory h = h
+not_unnamed m device (Source (Design f) line) named memory h = h
+not_unnamed m device (Source (Width f) line) named memory h = h
+not_unnamed m device (Fit f line) named memory h = h
+not_unnamed m device OutOfMemory named memory h = memory refl
+
+pub never_device : (text : List ℕ) (m : ModuleTree) (e : CompileFault) → IsReadAlone text m → IsOfSource (IsNameFault (IsUnnamed m)) e
+    → IsNeverRefused text (Err e)
+never_device text m e alone h = λ p f memory is.
+    let same : p.source ≡ m = alone.only p.source (spelled text p.source p.read) in
+    not_unnamed m p.device e (sym (ap device_named same) ∙ p.named) (λ out. memory (sym (same_fault e f is) ∙ out)) h
+
+-- ---- of its module
+
+same_device : (a b : DeviceName) → Some a ≡ Some b → a ≡ b
+same_device a b e = cc
+
+pub never_on : (text : List ℕ) (m : ModuleTree) (device : DeviceName) (r : Result Compiled CompileFault) → IsDevice (table_of device) → IsReadAlone text m
+    → device_named m ≡ Some device → IfErr r (IsRefusedFor (table_of device) m) → IsNeverRefused text r
+never_on text m device (Ok c) laws alone named h = λ p f memory is. absurd cc
+never_on text m device (Err e) laws alone named h = λ p f memory is.
+    let same : p.source ≡ m = alone.only p.source (spelled text p.source p.read) in
+    let here : p.device ≡ device = same_device p.device device (sym p.named ∙ ap device_named same ∙ named) in
+    let so : IsAcceptedFor (table_of device) m × FitsAsWritten (table_of device) m =
+    subst (λ (d : DeviceName). IsAcceptedFor (table_of d) m × FitsAsWritten (table_of d) m) here
+    (subst (λ (x : ModuleTree). IsAcceptedFor (table_of p.device) x × FitsAsWritten (table_of p.device) x) same p.so) in
+    not_for (table_of device) m laws so.0 so.1 e (λ out. memory (sym (same_fault e f is) ∙ out)) h

@@ -1,0 +1,9 @@
+-- The fault is told with its line.
+use Rattle.abel_tree.specs.Entries.{entries_of}
+use Rattle.abel_compile.proofs.Refusals.{told_fit}
+use Rattle.abel_compile.proofs.refusing.unfit.Goals as goal
+
+pub returns-in-Ok : goal.returns-in-Ok
+returns-in-Ok g c =
+    told_fit g.D.Device.table (entries_of c.args.names.now) c.args.net.now c.args.fault c.in-Ok.line c.fit_refused.result c.requires.unfit c.in-Ok.ensures.line
+    c.fit_refused.ensures

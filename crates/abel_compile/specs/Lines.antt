@@ -1,0 +1,21 @@
+-- The line of the report on a source that is refused (this project's report).
+use Rattle.std.specs.Prelude.{ℕ, Option, List}
+use Rattle.std.specs.Option.{option_map}
+use Rattle.abel_tree.specs.Entries.{Entry}
+use Rattle.decls.specs.declared.fault.NameFault.{NameFault}
+use Rattle.set_expr.specs.declared.fault.SectionFault.{SectionFault}
+use Rattle.module_reader.specs.declared.fault.ReadFault.{ReadFault}
+use Rattle.refusal_lines.specs.SourceLines.{read_telling, name_telling, section_telling}
+use Rattle.refusal_lines.specs.Told.{told_line}
+
+-- on a text that is no module
+abbrev pub read_text : ReadFault → Option (List ℕ)
+read_text f = option_map told_line (read_telling f)
+
+-- on its names
+abbrev pub name_text : NameFault → Option (List ℕ)
+name_text f = option_map told_line (name_telling f)
+
+-- on its sections, over its names
+abbrev pub section_text : List Entry → SectionFault → Option (List ℕ)
+section_text es f = option_map told_line (section_telling es f)

@@ -1,0 +1,167 @@
+-- Private: what each phase of compiling answers (this project's rule).
+use Rattle.std.specs.Prelude.{◌≡◌, ℕ, Bool, None, Some, List, [], Result, Ok, Err}
+use Rattle.std.specs.Global.{Vec}
+use Rattle.pld_base.specs.declared.device_name.DeviceName.{DeviceName}
+use Rattle.pld_base.specs.declared.out_of_memory.OutOfMemory.{OutOfMemory as NoMemory}
+use Rattle.pld_device.specs.Laws.{IsDevice}
+use Rattle.pld_device.specs.Table.{Table}
+use Rattle.jedec_file.specs.CanonicalFile.{IsPlainName}
+use Rattle.jedec_file.specs.ControlLines.{IsIntactPastLines}
+use Rattle.bit_expr.specs.declared.netlist.Netlist.{Netlist}
+use Rattle.abel_tree.specs.declared.names.Names.{Names}
+use Rattle.abel_tree.specs.Entries.{Entry, entries_of}
+use Rattle.abel_tree.specs.SoundNames.{SoundNames}
+use Rattle.abel_tree.specs.Tree.{ModuleTree}
+use Rattle.abel_meaning.specs.Designs.{design_of}
+use Rattle.abel_meaning.specs.DeviceStrings.{device_named}
+use Rattle.abel_meaning.specs.Kinds.{names_of}
+use Rattle.abel_meaning.specs.Netlists.{plain_netlist}
+use Rattle.decls.specs.declared.fault.NameFault.{NameFault}
+use Rattle.decls.specs.declared.fault.NameFault.TheVariants as naming
+use Rattle.decls.specs.Devices.{device_place}
+use Rattle.decls.specs.NameRefusals.{name_refusals}
+use Rattle.declared_names.specs.AcceptedNames.{PinsAreApart, BuffersAreAllowed}
+use Rattle.set_expr.specs.declared.fault.SectionFault.{SectionFault}
+use Rattle.source_sections.specs.SectionAnswers.{sections_refused}
+use Rattle.accepted_designs.specs.Accepted.{IsAccepted}
+use Rattle.design_checks.specs.declared.fault.DesignFault.{DesignFault}
+use Rattle.design_lines.specs.Designs.{design_text}
+use Rattle.design_lines.specs.Fits.{fit_text}
+use Rattle.fitted.specs.Correct.{MeansTheSame}
+use Rattle.fitter.specs.declared.answer.Fitted.{Fitted}
+use Rattle.fitter.specs.declared.fault.FitFault.{FitFault}
+use Rattle.fitter.specs.declared.fault.FitFault.TheVariants as fit
+use Rattle.fitter.specs.Answers.{FitAnswers, IsFitOf}
+use Rattle.fitter.specs.Width.{IsFirstWide}
+use Rattle.module_reader.specs.declared.fault.ReadFault.TheVariants as reading
+use Rattle.module_reader.specs.Texts.{SpellsModule, IsRead, IsUnread}
+use Rattle.summary_line.specs.Summary.{assigned_cells, design_cells}
+use Rattle.abel_compile.specs.declared.compiled.Compiled.{Compiled}
+use Rattle.abel_compile.specs.declared.fault.CompileFault.{CompileFault}
+use Rattle.abel_compile.specs.declared.fault.CompileFault.TheVariants.{Source, Fit, OutOfMemory}
+use Rattle.abel_compile.specs.declared.fault.SourceFault.{SourceFault}
+use Rattle.abel_compile.specs.declared.fault.SourceFault.TheVariants.{Expand, Scan, Parse, Names as NamesRefused, Sections, Design, Width}
+use Rattle.abel_compile.specs.Answers.{IsOfFit, IsUnfitFor}
+use Rattle.abel_compile.specs.Correct.{AreFusesOf, IsToldOf}
+use Rattle.abel_compile.specs.Lines.{read_text, name_text, section_text}
+use Rattle.abel_compile.specs.SourceRefusals.{HasDesign, IsAcceptedFor, IsNetlistOf, IsRefusedSo}
+
+-- ---- refusals
+
+-- the source is refused so that this holds with its line, or memory is out
+abbrev pub IsOfSource : (SourceFault → (line : List ℕ) → Type 0) → CompileFault → Type 0
+IsOfSource P (Source f line) = P f line.items
+IsOfSource P (Fit f line) = ⊥
+IsOfSource P OutOfMemory = Unit {0}
+
+-- there was memory for the line
+abbrev pub IsMade : Result (Vec ℕ) NoMemory → List ℕ → Type 0
+IsMade (Ok line) text = line.items ≡ text
+IsMade (Err memory) text = ⊥
+
+-- that a function is too wide is told of the source, another fault of the fit
+abbrev pub IsTold : FitFault → Vec ℕ → CompileFault → Type 0
+IsTold (fit.TooWide c) line e = e ≡ Source (Width (fit.TooWide c)) line
+IsTold f line e = e ≡ Fit f line
+
+-- the text is no module
+abbrev pub IsTextFault : List ℕ → SourceFault → (line : List ℕ) → Type 0
+IsTextFault text (Expand f) line = IsUnread text (reading.Expand f) × (read_text (reading.Expand f) ≡ Some line)
+IsTextFault text (Scan f) line = IsUnread text (reading.Scan f) × (read_text (reading.Scan f) ≡ Some line)
+IsTextFault text (Parse f) line = IsUnread text (reading.Parse f) × (read_text (reading.Parse f) ≡ Some line)
+IsTextFault text _ line = ⊥
+
+-- a name is refused so that this holds
+abbrev pub IsNameFault : (NameFault → Type 0) → SourceFault → (line : List ℕ) → Type 0
+IsNameFault P (NamesRefused f) line = P f × (name_text f ≡ Some line)
+IsNameFault P _ line = ⊥
+
+-- the module names no device
+abbrev pub IsUnnamed : ModuleTree → NameFault → Type 0
+IsUnnamed m f = (device_named m ≡ None) × (f ≡ naming.UnknownDevice (device_place m))
+
+-- a section or a constant is refused, and the design is
+abbrev pub IsSectionFault : List Entry → (SectionFault → Type 0) → SourceFault → (line : List ℕ) → Type 0
+IsSectionFault es P (Sections f) line = P f × (section_text es f ≡ Some line)
+IsSectionFault es P _ line = ⊥
+
+abbrev pub IsDesignFault : List Entry → (DesignFault → Type 0) → SourceFault → (line : List ℕ) → Type 0
+IsDesignFault es P (Design f) line = P f × (design_text es f ≡ Some line)
+IsDesignFault es P _ line = ⊥
+
+-- the netlist is too wide, or does not fit
+abbrev pub IsWidthFault : Table → List Entry → Netlist → SourceFault → (line : List ℕ) → Type 0
+IsWidthFault t es net (Width (fit.TooWide c)) line = IsFirstWide t net c × (fit_text t es net (fit.TooWide c) ≡ Some line)
+IsWidthFault t es net _ line = ⊥
+
+abbrev pub IsFitRefused : Table → List Entry → Netlist → CompileFault → Type 0
+IsFitRefused t es net (Source f line) = IsWidthFault t es net f line.items
+IsFitRefused t es net (Fit f line) = IsOfFit f × FitAnswers t net (Err f) × (fit_text t es net f ≡ Some line.items)
+IsFitRefused t es net OutOfMemory = Unit {0}
+
+-- ---- answers
+
+-- the text spells the module and no other
+pub record IsReadAlone (text : List ℕ) (m : ModuleTree) : Type 0 where
+  pub read : IsRead text m
+  pub only : (other : ModuleTree) → SpellsModule text other → other ≡ m
+
+-- the names of the module, of which nothing is refused
+pub record AreNamesFor (t : Table) (m : ModuleTree) (n : Names) : Type 0 where
+  pub entries : entries_of n ≡ names_of t m
+  pub accepted : name_refusals t m ≡ []
+  pub sound : SoundNames t.name t.pins n
+  pub apart : PinsAreApart (entries_of n)
+  pub buffers : BuffersAreAllowed t (entries_of n)
+
+-- the netlist of the module, of which nothing is refused
+pub record IsNetlistFor (t : Table) (m : ModuleTree) (net : Netlist) : Type 0 where
+  pub design : HasDesign t m
+  pub netlist : IsNetlistOf t m net
+  pub same : MeansTheSame t m (plain_netlist net)
+
+-- the module is compiled
+pub record IsCompiledFor (t : Table) (m : ModuleTree) (c : Compiled) : Type 0 where
+  pub accepted : IsAcceptedFor t m
+  pub fuses : List Bool
+  pub right : AreFusesOf t m fuses
+  pub told : IsToldOf t m fuses c
+
+-- and for this device
+pub record IsCompiledOn (t : Table) (device : DeviceName) (m : ModuleTree) (c : Compiled) : Type 0 where
+  pub device_is : c.device ≡ device
+  pub compiled : IsCompiledFor t m c
+
+-- it is refused
+abbrev pub IsRefusedFor : Table → ModuleTree → CompileFault → Type 0
+IsRefusedFor t m (Source f line) = IsRefusedSo f line.items t m
+IsRefusedFor t m (Fit f line) = IsOfFit f × IsUnfitFor f line.items t m
+IsRefusedFor t m OutOfMemory = Unit {0}
+
+-- ---- laws
+
+-- a module whose names and sections are accepted has an accepted design
+abbrev pub SectionsAreAccepted : Type 0
+SectionsAreAccepted =
+    (t : Table) (m : ModuleTree) (n : Names) → IsDevice t → AreNamesFor t m n
+    → sections_refused (design_of t m) ≡ [] → IsAccepted (design_of t m)
+
+-- the fuses of a module's netlist are those of the module
+abbrev pub FitsAreRight : Type 0
+FitsAreRight =
+    (t : Table) (m : ModuleTree) (net : Netlist) (fitted : Fitted) → IsDevice t → IsNetlistFor t m net → IsFitOf t net fitted
+    → AreFusesOf t m fitted.fuses
+
+-- a fuse file can say them, and the netlist has as many cells as the design
+pub record CanBeTold (t : Table) (m : ModuleTree) (net : Netlist) (fitted : Fitted) : Type 0 where
+  pub intact : IsIntactPastLines t fitted.fuses
+  pub cells : assigned_cells t (plain_netlist net) ≡ design_cells (design_of t m)
+
+abbrev pub FitsCanBeTold : Type 0
+FitsCanBeTold =
+    (t : Table) (m : ModuleTree) (net : Netlist) (fitted : Fitted) → IsDevice t → IsNetlistFor t m net → IsFitOf t net fitted
+    → CanBeTold t m net fitted
+
+-- the name of a module that is read can stand in a fuse file
+abbrev pub ReadNamesArePlain : Type 0
+ReadNamesArePlain = (text : List ℕ) (m : ModuleTree) → IsRead text m → IsPlainName m.name.text

@@ -1,0 +1,91 @@
+//! From the bytes of a source to its fuse file.
+
+ghost use Rattle.std.specs.Prelude.{◌≤◌, IfOk, IfErr, length, All};
+ghost use Rattle.pld_device.specs.Laws.{IsDevice};
+ghost use Rattle.jedec_file.specs.CanonicalFile.{IsPlainName};
+ghost use Rattle.jedec_file.specs.TestVectors.{IsTestVector};
+ghost use Rattle.abel_tree.specs.View.{view_module};
+ghost use Rattle.abel_meaning.specs.Designs.{design_of};
+ghost use Rattle.source_vectors.specs.AllSections.{AreSections};
+ghost use Rattle.abel_compile.specs.Answers.{CompileAnswers, IsNeverRefused};
+ghost use Rattle.abel_compile.specs.Devices.{table_of};
+ghost use Rattle.abel_compile.specs.Phases.{AreNamesFor, IsCompiledOn, IsNetlistFor, IsRefusedFor};
+
+use crate::compiled::Compiled;
+use crate::fault::CompileFault;
+use crate::laws::{fits_are_right, read_names_are_plain};
+use crate::phases::{device_named, fitted_of, module_of, names_of, netlist_of, sections_of};
+use crate::telling::compiled_of;
+use abel_tree::{Module, Names};
+use gal22v10_device::Gal22V10;
+use pal16_device::{Pal16L8, Pal16R4, Pal16R6, Pal16R8};
+use pld_base::DeviceName;
+use pld_device::Device;
+use source_vectors::SourceSections;
+use std::alloc::Global;
+
+/// The fuse file of a module for a device, with its names.
+fn compile_named<D: Device>(
+    alloc: Global,
+    source: &Module,
+    names: &Names,
+) -> Result<Compiled, CompileFault>
+    requires name { IsPlainName (view_module source.now).name.text }
+    requires names { AreNamesFor D.table (view_module source.now) names.now }
+    ensures ok { IfOk result (λ c. IsCompiledOn D.table D.NAME (view_module source.now) c) }
+    ensures err { IfErr result (IsRefusedFor D.table (view_module source.now)) }
+{
+    fits_are_right();
+    let SourceSections {
+        contributions,
+        vectors,
+    } = sections_of::<D>(alloc, source, names)?;
+    let net = netlist_of::<D>(alloc, source, names, contributions)?;
+    let fitted = fitted_of::<D>(alloc, names, &net)?;
+    let compiled = compiled_of::<D>(alloc, source, names, &net, &fitted, vectors.as_slice())?;
+    Ok(compiled)
+}
+
+/// The fuse file of a module for a device.
+fn compile_for<D: Device>(alloc: Global, source: &Module) -> Result<Compiled, CompileFault>
+    requires { IsPlainName (view_module source.now).name.text }
+    ensures ok { IfOk result (λ c. IsCompiledOn D.table D.NAME (view_module source.now) c) }
+    ensures err { IfErr result (IsRefusedFor D.table (view_module source.now)) }
+    ensures device { IsDevice D.table }
+{
+    let names = names_of::<D>(alloc, source)?;
+    compile_named::<D>(alloc, source, &names)
+}
+
+/// The fuse file of a module for the device of this name.
+fn compile_on(alloc: Global, device: DeviceName, source: &Module) -> Result<Compiled, CompileFault>
+    requires { IsPlainName (view_module source.now).name.text }
+    ensures ok { IfOk result (λ c. IsCompiledOn (table_of device) device (view_module source.now) c) }
+    ensures err { IfErr result (IsRefusedFor (table_of device) (view_module source.now)) }
+    ensures device { IsDevice (table_of device) }
+{
+    match device {
+        DeviceName::P16L8 => compile_for::<Pal16L8>(alloc, source),
+        DeviceName::P16R4 => compile_for::<Pal16R4>(alloc, source),
+        DeviceName::P16R6 => compile_for::<Pal16R6>(alloc, source),
+        DeviceName::P16R8 => compile_for::<Pal16R8>(alloc, source),
+        DeviceName::GAL22V10 => compile_for::<Gal22V10>(alloc, source),
+    }
+}
+
+/// The fuse file of a source for the device that it names, with its listing and its summary; or the first refusal, with the
+/// report on it.
+///
+/// The text has at most 1,048,576 bytes.
+pub fn compile(alloc: Global, bytes: &[u8]) -> Result<Compiled, CompileFault>
+    requires { length bytes.now ≤ 1048576 }
+    // The fuses do what the source says; each refusal has its cause.
+    ensures answers { CompileAnswers bytes.now result }
+    // A source that is accepted and fits as it is written is never refused.
+    ensures complete { IsNeverRefused bytes.now result }
+{
+    read_names_are_plain();
+    let module = module_of(alloc, bytes)?;
+    let device = device_named(alloc, &module)?;
+    compile_on(alloc, device, &module)
+}

@@ -1,0 +1,125 @@
+//! The phases of compiling, each with what it is refused for.
+
+ghost use Rattle.std.specs.Prelude.{◌≡◌, ◌≤◌, [], Some, IfOk, IfErr, length, All};
+ghost use Rattle.jedec_file.specs.TestVectors.{IsTestVector};
+ghost use Rattle.abel_tree.specs.Entries.{entries_of};
+ghost use Rattle.abel_tree.specs.FirstRefusal.{first_refusal};
+ghost use Rattle.abel_tree.specs.View.{view_module};
+ghost use Rattle.abel_meaning.specs.Designs.{design_of};
+ghost use Rattle.abel_meaning.specs.DeviceStrings as strings;
+ghost use Rattle.abel_meaning.specs.SoundIds.{IsSoundNetlist};
+ghost use Rattle.decls.specs.NameRefusals.{first_name_refusal};
+ghost use Rattle.set_expr.specs.SectionOrder.{section_order};
+ghost use Rattle.source_sections.specs.SectionAnswers.{AreContributed};
+ghost use Rattle.source_vectors.specs.AllSections.{AreSections, all_sections_refused};
+ghost use Rattle.fitter.specs.Answers.{IsFitOf};
+ghost use Rattle.abel_compile.specs.Phases.{AreNamesFor, IsDesignFault, IsFitRefused, IsNameFault, IsNetlistFor, IsOfSource, IsReadAlone, IsSectionFault, IsTextFault, IsUnnamed};
+ghost use Rattle.abel_compile.specs.SourceRefusals.{IsDesignRefusedFor};
+
+use crate::fault::CompileFault;
+use crate::laws::sections_are_accepted;
+use crate::refusing::{uncontributed, undesigned, unfit, unnamed, unread};
+use abel_tree::{Module, Names};
+use bit_expr::Netlist;
+use declared_names::declare;
+use decls::device_of;
+use design::gather;
+use fitter::{Fitted, fit};
+use module_reader::read_module;
+use pld_base::DeviceName;
+use pld_device::Device;
+use set_expr::{Contributions, known_names};
+use source_vectors::{SourceSections, all_sections};
+use std::alloc::Global;
+
+/// The module of a text.
+pub(crate) fn module_of(alloc: Global, text: &[u8]) -> Result<Module, CompileFault>
+    requires { length text.now ≤ 1048576 }
+    ensures ok { IfOk result (λ m. IsReadAlone text.now (view_module m)) }
+    ensures err { IfErr result (IsOfSource (IsTextFault text.now)) }
+{
+    match read_module(alloc, text) {
+        Ok(source) => Ok(source),
+        Err(fault) => Err(unread(alloc, fault)),
+    }
+}
+
+/// The device that a module names.
+pub(crate) fn device_named(alloc: Global, source: &Module) -> Result<DeviceName, CompileFault>
+    ensures ok { IfOk result (λ d. strings.device_named (view_module source.now) ≡ Some d) }
+    ensures err { IfErr result (IsOfSource (IsNameFault (IsUnnamed (view_module source.now)))) }
+{
+    match device_of(source) {
+        Ok(device) => Ok(device),
+        Err(fault) => Err(unnamed(alloc, fault)),
+    }
+}
+
+/// The names of a source.
+pub(crate) fn names_of<D: Device>(alloc: Global, source: &Module) -> Result<Names, CompileFault>
+    ensures ok { IfOk result (λ n. AreNamesFor D.table (view_module source.now) n) }
+    ensures err { IfErr result (IsOfSource (IsNameFault (λ f.
+        first_name_refusal D.table (view_module source.now) ≡ Some f))) }
+{
+    match declare::<D>(alloc, source) {
+        Ok(names) => Ok(names),
+        Err(fault) => Err(unnamed(alloc, fault)),
+    }
+}
+
+/// What the sections of a module say.
+pub(crate) fn sections_of<D: Device>(
+    alloc: Global,
+    source: &Module,
+    names: &Names,
+) -> Result<SourceSections, CompileFault>
+    requires { AreNamesFor D.table (view_module source.now) names.now }
+    ensures ok { IfOk result (λ found. AreSections (design_of D.table (view_module source.now)) found) }
+    ensures few { IfOk result (λ found. length found.vectors.items ≤ 9999) }
+    ensures chars { IfOk result (λ found. All (IsTestVector D.table) found.vectors.items) }
+    ensures err { IfErr result (IsOfSource (IsSectionFault (entries_of names.now) (λ f. first_refusal section_order
+        (all_sections_refused (design_of D.table (view_module source.now))) ≡ Some f))) }
+{
+    let known = known_names(alloc, names)?;
+    match all_sections::<D>(alloc, names, &known, source) {
+        Ok(found) => Ok(found),
+        Err(fault) => Err(uncontributed(alloc, names, fault)),
+    }
+}
+
+/// The netlist of a source.
+pub(crate) fn netlist_of<D: Device>(
+    alloc: Global,
+    source: &Module,
+    names: &Names,
+    found: Contributions,
+) -> Result<Netlist, CompileFault>
+    requires names { AreNamesFor D.table (view_module source.now) names.now }
+    requires sections { all_sections_refused (design_of D.table (view_module source.now)) ≡ [] }
+    requires found { AreContributed (design_of D.table (view_module source.now)) found }
+    ensures ok { IfOk result (λ net. IsNetlistFor D.table (view_module source.now) net) }
+    ensures err { IfErr result (IsOfSource (IsDesignFault (entries_of names.now)
+        (IsDesignRefusedFor D.table (view_module source.now)))) }
+{
+    sections_are_accepted();
+    match gather::<D>(alloc, source, names, found) {
+        Ok(net) => Ok(net),
+        Err(fault) => Err(undesigned(alloc, names, fault)),
+    }
+}
+
+/// The fuses of a netlist.
+pub(crate) fn fitted_of<D: Device>(
+    alloc: Global,
+    names: &Names,
+    net: &Netlist,
+) -> Result<Fitted, CompileFault>
+    requires { IsSoundNetlist D.table net.now }
+    ensures ok { IfOk result (λ fitted. IsFitOf D.table net.now fitted) }
+    ensures err { IfErr result (IsFitRefused D.table (entries_of names.now) net.now) }
+{
+    match fit::<D>(alloc, net) {
+        Ok(fitted) => Ok(fitted),
+        Err(fault) => Err(unfit::<D>(alloc, names, net, fault)),
+    }
+}

@@ -1,0 +1,102 @@
+//! Refusals with their lines.
+
+ghost use Rattle.std.specs.Prelude.{◌≡◌, ℕ, List, Some, Err};
+ghost use Rattle.abel_tree.specs.Entries.{entries_of};
+ghost use Rattle.abel_meaning.specs.SoundIds.{IsSoundNetlist};
+ghost use Rattle.design_lines.specs.Designs.{design_text};
+ghost use Rattle.design_lines.specs.Fits.{fit_text};
+ghost use Rattle.fitter.specs.Answers.{FitAnswers};
+ghost use Rattle.module_reader.specs.Texts.{IsUnread};
+ghost use Rattle.abel_compile.specs.declared.fault.SourceFault.TheVariants as source;
+ghost use Rattle.abel_compile.specs.Lines.{name_text, section_text};
+ghost use Rattle.abel_compile.specs.Phases.{IsFitRefused, IsMade, IsOfSource, IsTextFault, IsTold};
+
+use crate::fault::{CompileFault, SourceFault};
+use abel_tree::Names;
+use bit_expr::Netlist;
+use decls::NameFault;
+use design::DesignFault;
+use design_lines::{design_line, fit_line};
+use fitter::FitFault;
+use module_reader::ReadFault;
+use pld_base::OutOfMemory;
+use pld_device::Device;
+use refusal_lines::{name_line, read_line, section_line};
+use set_expr::SectionFault;
+use std::alloc::Global;
+
+/// A refusal of the source with its line, if there was memory for that.
+fn source_refused(fault: SourceFault, line: Result<Vec<u8>, OutOfMemory>) -> CompileFault
+    ensures { IsOfSource (λ f text. (f ≡ fault) × IsMade line text) result }
+{
+    match line {
+        Ok(line) => CompileFault::Source(fault, line),
+        Err(_) => CompileFault::OutOfMemory,
+    }
+}
+
+/// Why a text is no source.
+pub(crate) fn unread(alloc: Global, fault: ReadFault) -> CompileFault
+    ensures { (text : List ℕ) → IsUnread text fault → IsOfSource (IsTextFault text) result }
+{
+    let line = read_line(alloc, fault);
+    match fault {
+        ReadFault::Expand(fault) => source_refused(SourceFault::Expand(fault), line),
+        ReadFault::Scan(fault) => source_refused(SourceFault::Scan(fault), line),
+        ReadFault::Parse(fault) => source_refused(SourceFault::Parse(fault), line),
+        ReadFault::OutOfMemory => CompileFault::OutOfMemory,
+    }
+}
+
+/// Why names are refused.
+pub(crate) fn unnamed(alloc: Global, fault: NameFault) -> CompileFault
+    ensures { IsOfSource (λ f text. (f ≡ source.Names fault) × (name_text fault ≡ Some text)) result }
+{
+    let line = name_line(alloc, &fault);
+    source_refused(SourceFault::Names(fault), line)
+}
+
+/// Why sections are refused.
+pub(crate) fn uncontributed(alloc: Global, names: &Names, fault: SectionFault) -> CompileFault
+    ensures { IsOfSource (λ f text. (f ≡ source.Sections fault)
+        × (section_text (entries_of names.now) fault ≡ Some text)) result }
+{
+    let line = section_line(alloc, names, &fault);
+    source_refused(SourceFault::Sections(fault), line)
+}
+
+/// Why a design is refused.
+pub(crate) fn undesigned(alloc: Global, names: &Names, fault: DesignFault) -> CompileFault
+    ensures { IsOfSource (λ f text. (f ≡ source.Design fault)
+        × (design_text (entries_of names.now) fault ≡ Some text)) result }
+{
+    let line = design_line(alloc, names, &fault);
+    source_refused(SourceFault::Design(fault), line)
+}
+
+/// A refusal of the fit with its line; that a function is too wide is one of the source.
+fn fit_refused(fault: FitFault, line: Vec<u8>) -> CompileFault
+    ensures { IsTold fault line result }
+{
+    match fault {
+        FitFault::TooWide(_) => CompileFault::Source(SourceFault::Width(fault), line),
+        _ => CompileFault::Fit(fault, line),
+    }
+}
+
+/// Why a netlist does not fit.
+pub(crate) fn unfit<D: Device>(
+    alloc: Global,
+    names: &Names,
+    net: &Netlist,
+    fault: FitFault,
+) -> CompileFault
+    requires sound { IsSoundNetlist D.table net.now }
+    requires unfit { FitAnswers D.table net.now (Err fault) }
+    ensures { IsFitRefused D.table (entries_of names.now) net.now result }
+{
+    match fit_line::<D>(alloc, names, net, &fault) {
+        Ok(line) => fit_refused(fault, line),
+        Err(_) => CompileFault::OutOfMemory,
+    }
+}

@@ -1,0 +1,50 @@
+//! What is answered of the fuses of a source.
+
+ghost use Rattle.std.specs.Prelude.{◌≡◌, ◌≤◌, All, IfOk, length};
+ghost use Rattle.jedec_file.specs.CanonicalFile.{IsPlainName};
+ghost use Rattle.jedec_file.specs.TestVectors.{IsTestVector, all_chars};
+ghost use Rattle.abel_tree.specs.View.{view_module};
+ghost use Rattle.abel_meaning.specs.Vectors.{source_vectors};
+ghost use Rattle.fitter.specs.Answers.{IsFitOf};
+ghost use Rattle.abel_compile.specs.Correct.{IsToldOf};
+ghost use Rattle.abel_compile.specs.Phases.{AreNamesFor, IsNetlistFor};
+
+use crate::compiled::Compiled;
+use crate::laws::fits_can_be_told;
+use abel_tree::{Module, Names};
+use bit_expr::Netlist;
+use fitter::Fitted;
+use fuse_listing::listing;
+use jedec_writer::write;
+use pld_base::{OutOfMemory, Vector};
+use pld_device::Device;
+use std::alloc::Global;
+use summary_line::summary;
+
+/// The file, the listing and the summary of the fuses of a source.
+pub(crate) fn compiled_of<D: Device>(
+    alloc: Global,
+    source: &Module,
+    names: &Names,
+    net: &Netlist,
+    fitted: &Fitted,
+    vectors: &[Vector],
+) -> Result<Compiled, OutOfMemory>
+    requires name { IsPlainName (view_module source.now).name.text }
+    requires names { AreNamesFor D.table (view_module source.now) names.now }
+    requires netlist { IsNetlistFor D.table (view_module source.now) net.now }
+    requires fits { IsFitOf D.table net.now fitted.now }
+    requires vectors { all_chars D.table vectors.now ≡ source_vectors D.table (view_module source.now) }
+    requires few { length vectors.now ≤ 9999 }
+    requires chars { All (IsTestVector D.table) vectors.now }
+    ensures device { IfOk result (λ c. c.device ≡ D.NAME) }
+    ensures told { IfOk result (λ c. IsToldOf D.table (view_module source.now) fitted.now.fuses c) }
+{
+    fits_can_be_told();
+    Ok(Compiled {
+        device: D::NAME,
+        file: write::<D>(alloc, source.name.text.bytes(), &fitted.fuses, vectors)?,
+        listing: listing::<D>(alloc, names, &fitted.fuses)?,
+        summary: summary::<D>(alloc, net, &fitted.fuses)?,
+    })
+}
