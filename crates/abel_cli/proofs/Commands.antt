@@ -4,7 +4,7 @@ use Rattle.std.specs.Prelude.{codes, option_map}
 use Rattle.std.specs.Str.{bytes_eq}
 use Rattle.pld_base.specs.declared.device_name.DeviceName.{DeviceName}
 use Rattle.abel_cli.specs.Devices.{device_named}
-use Rattle.abel_cli.specs.Words.{Command, Task, Compile, Simulate, Check, command_by, command_of, on_device, on_file, source_count}
+use Rattle.abel_cli.specs.Words.{Command, Task, Compile, ListSource, Simulate, Check, Demo, command_by, command_of, on_device, on_file, on_nothing, seed_of, source_count}
 
 abbrev IsCounted : Option Command → Type 0
 IsCounted None = Unit {0}
@@ -19,10 +19,16 @@ counted_device : (task : DeviceName → Task) → ((device : DeviceName) → sou
 counted_device task one input None = tt
 counted_device task one input (Some d) = sym (one d)
 
+counted_seed : (seed : Option ℕ) → IsCounted (option_map (λ n. on_nothing (Demo n)) seed)
+counted_seed None = tt
+counted_seed (Some n) = refl
+
 counted : (words : List (List ℕ)) → IsCounted (command_of words)
 counted [] = tt
 counted (first ∷ []) = tt
-counted (first ∷ second ∷ []) = tt
+counted (first ∷ second ∷ []) =
+    counted_if (bytes_eq first (codes "list")) _ _ refl
+    (counted_if (bytes_eq first (codes "demo")) _ _ (counted_seed (seed_of second)) tt)
 counted (first ∷ second ∷ third ∷ []) =
     counted_if (bytes_eq first (codes "compile")) _ _ refl
     (counted_if (bytes_eq first (codes "simulate")) _ _ (counted_device Simulate (λ d. refl) third (device_named second))

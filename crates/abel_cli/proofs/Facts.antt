@@ -4,14 +4,14 @@ use Rattle.std.proofs.lemmas.Option.{none-some}
 use Rattle.pld_base.specs.Outside.{bytes_at, SameFiles}
 use Rattle.pld_base.specs.declared.device_name.DeviceName.{DeviceName}
 use Rattle.abel_cli.specs.Call.{Asked, Heard, HasStayed}
-use Rattle.abel_cli.specs.CompileCommand.{IsRefused}
-use Rattle.abel_cli.specs.Devices.{table_of}
+use Rattle.abel_compile.specs.Devices.{table_of}
 use Rattle.abel_cli.specs.Ending.{Ending}
 use Rattle.abel_cli.specs.Promises.{MeansOn, Promises}
 use Rattle.abel_cli.specs.Run.{Means}
 use Rattle.abel_cli.specs.Simulating.{Disagrees}
+use Rattle.abel_cli.specs.SourceCommands.{IsRefused}
 use Rattle.abel_cli.specs.Sources.{source_at}
-use Rattle.abel_cli.specs.Words.{Command, Task, Compile, Simulate, Check, IsCompile, IsNoCommand, command_of, on_file}
+use Rattle.abel_cli.specs.Words.{Command, Task, Compile, ListSource, Simulate, Check, Demo, IsCompile, IsNoCommand, command_of, on_file}
 
 module _ (a : Asked) (h : Heard) (p : Promises a h) where
   abbrev On : (e : Ending) → Option Command → Type 0
@@ -52,18 +52,24 @@ module _ (a : Asked) (h : Heard) (p : Promises a h) where
       let m = subst (On k.ending) w k.meant in
       (k.ending.text, subst (λ (s : List (List ℕ)). Disagrees (table_of d) (source_at s 0) k.ending.text) (m.1 tells) (m.2.disagrees (sym k.status ∙ is)))
 
-  -- and comes with `simulate` alone, whether the files tell or not
-  pub simulate_only : h.status ≡ 5 → (c : Command) × (command_of a.words ≡ Some c) × (d : DeviceName) × (c.task ≡ Simulate d)
-  simulate_only is = let k = p.ended (omega (arith, is)) in of k.ending (command_of a.words) refl k.meant (sym k.status ∙ is)
+  -- a task that runs vectors
+  abbrev RunsVectors : Task → Type 0
+  RunsVectors t = ((d : DeviceName) × (t ≡ Simulate d)) ⊎ ((n : ℕ) × (t ≡ Demo n))
+
+  -- and comes with `simulate` and `demo` alone, whether the files tell or not
+  pub runs_only : h.status ≡ 5 → (c : Command) × (command_of a.words ≡ Some c) × RunsVectors c.task
+  runs_only is = let k = p.ended (omega (arith, is)) in of k.ending (command_of a.words) refl k.meant (sym k.status ∙ is)
     where
-      by_task : (e : Ending) (c : Command) (t : Task) → c.task ≡ t → On e (Some c) → e.status ≡ 5 → (d : DeviceName) × (c.task ≡ Simulate d)
-      by_task e c (Simulate d) w m n = (d, w)
+      by_task : (e : Ending) (c : Command) (t : Task) → c.task ≡ t → On e (Some c) → e.status ≡ 5 → RunsVectors c.task
+      by_task e c (Simulate d) w m n = inl (d, w)
+      by_task e c (Demo seed) w m n = inr (seed, w)
       by_task e c (Compile o) w m n = absurd (let l = (subst (λ (t : Task). Means t m.0 e) w m.2).statuses in omega (arith, l, n))
+      by_task e c ListSource w m n = absurd (let l = (subst (λ (t : Task). Means t m.0 e) w m.2).statuses in omega (arith, l, n))
       by_task e c (Check d) w m n = absurd (let l = (subst (λ (t : Task). Means t m.0 e) w m.2).statuses in omega (arith, l, n))
 
-      of : (e : Ending) (c : Option Command) → command_of a.words ≡ c → On e c → e.status ≡ 5 → (c : Command) × (command_of a.words ≡ Some c) × (d : DeviceName) × (c.task ≡ Simulate d)
+      of : (e : Ending) (c : Option Command) → command_of a.words ≡ c → On e c → e.status ≡ 5 → (c : Command) × (command_of a.words ≡ Some c) × RunsVectors c.task
       of e None w m n = let one = ap (λ (x : Ending). x.status) m in absurd (omega (arith, one, n))
-      of e (Some c) w m n = let by = by_task e c c.task refl m n in (c, w, by.0, by.1)
+      of e (Some c) w m n = (c, w, by_task e c c.task refl m n)
 
   -- where a call of the files failed, the status is 6, 7 or 8
   pub no_fault_is_swallowed : (HasStayed a.faults → ⊥) → h.status ≤ 5 → ⊥

@@ -3,37 +3,46 @@ use Rattle.std.proofs.Common.{◌≡◌, ℕ, ◌≤◌, ◌⊎◌, List, [], �
 use Rattle.std.specs.Prelude.{unwrap_or}
 use Rattle.std.proofs.lemmas.Option.{none-some}
 use Rattle.pld_base.specs.Outside.{Map, bytes_at, SameFiles, SameBut}
-use Rattle.first_compile.specs.Correct.{IsRightFile}
+use Rattle.abel_compile.specs.declared.compiled.Compiled.{Compiled}
+use Rattle.abel_compile.specs.Correct.{IsCompiled}
 use Rattle.abel_cli.specs.Call.{Asked, Heard, HasRisen, HasStayed}
-use Rattle.abel_cli.specs.Devices.{table_of}
+use Rattle.abel_compile.specs.Devices.{table_of}
 use Rattle.abel_cli.specs.Ending.{Ending, Output, Puts, TakesFront, TakesFrontAndMemory, memory_line, file_fault}
 use Rattle.abel_cli.specs.Promises.{MeansOn, IsMeant, IsOutput, EndsAsCalled, EndsInFileFault, LeavesFiles, Promises}
 use Rattle.abel_cli.specs.Right.{IsRight, IsRightOrOld}
 use Rattle.abel_cli.specs.Run.{Ends, Means, CallsFor, IsCalledFor, Comes, Runs}
+use Rattle.abel_cli.specs.SourceCommands.{written, listed}
 use Rattle.abel_cli.specs.Sources.{source_at, sources_of}
-use Rattle.abel_cli.specs.Words.{Command, Task, Compile, Simulate, Check, IsCompile, IsInput, command_of}
+use Rattle.abel_cli.specs.Words.{Command, Task, Compile, ListSource, Simulate, Check, Demo, IsCompile, IsInput, command_of}
 use Rattle.abel_cli.proofs.CheckMeaning.{check_means}
 use Rattle.abel_cli.proofs.Commands.{inputs_counted, one_only}
-use Rattle.abel_cli.proofs.CompileMeaning.{compile_means}
+use Rattle.abel_cli.proofs.DemoMeaning.{demo_means}
 use Rattle.abel_cli.proofs.SimulateMeaning.{simulate_means}
+use Rattle.abel_cli.proofs.SourceMeaning.{source_means}
 
 -- ---- by task, a line each
 
 means : (task : Task) (sources : List (List ℕ)) (e : Ending) → Ends task sources e → Means task sources e
-means (Compile o) sources e ends = compile_means (source_at sources 0) o e ends
+means (Compile o) sources e ends = source_means (source_at sources 0) (written o) (λ c. refl) e ends
+means ListSource sources e ends = source_means (source_at sources 0) listed (λ c. refl) e ends
 means (Simulate d) sources e ends = simulate_means (table_of d) (source_at sources 0) e ends
 means (Check d) sources e ends = check_means (table_of d) (source_at sources 0) e ends
+means (Demo n) sources e ends = demo_means n e ends
 
 low : (task : Task) (sources : List (List ℕ)) (e : Ending) → Means task sources e → e.status ≤ 5
 low (Compile o) sources e m = let is = m.statuses in omega (arith, is)
+low ListSource sources e m = let is = m.statuses in omega (arith, is)
 low (Simulate d) sources e m = let is = m.statuses in omega (arith, is)
 low (Check d) sources e m = let is = m.statuses in omega (arith, is)
+low (Demo n) sources e m = let is = m.statuses in omega (arith, is)
 
--- what an output is of: of `compile`, the right file
+-- what an output is of: of `compile`, the file of a compiled source
 abbrev PutBy : Task → (sources : List (List ℕ)) → Output → Type 0
-PutBy (Compile o) sources out = (file summary : List ℕ) × IsRightFile (source_at sources 0) file summary × (out ≡ record { name = o; bytes = file })
+PutBy (Compile o) sources out = (c : Compiled) × IsCompiled (source_at sources 0) c × (out ≡ record { name = o; bytes = c.file.items })
+PutBy ListSource sources out = ⊥
 PutBy (Simulate d) sources out = ⊥
 PutBy (Check d) sources out = ⊥
+PutBy (Demo n) sources out = ⊥
 
 put_by : (task : Task) (sources : List (List ℕ)) (e : Ending) (out : Output) → Means task sources e → e.output ≡ Some out → PutBy task sources out
 put_by (Compile o) sources e out m is = of m.statuses
@@ -42,11 +51,18 @@ put_by (Compile o) sources e out m is = of m.statuses
     none some = none-some out (sym (m.unwritten some) ∙ is)
 
     of : (e.status ≡ 0) ⊎ ((e.status ≡ 2) ⊎ (e.status ≡ 3)) → PutBy (Compile o) sources out
-    of (inl n) = let r = m.right n in (r.0, e.text, r.2, ap (λ (x : Option Output). unwrap_or x out) (sym is ∙ r.3))
+    of (inl n) = let r = m.compiled n in (r.0, r.1, ap (λ (x : Option Output). unwrap_or x out) (sym is ∙ ap (λ (x : Ending). x.output) r.2))
     of (inr (inl n)) = absurd (none (omega (arith, n)))
     of (inr (inr n)) = absurd (none (omega (arith, n)))
+put_by ListSource sources e out m is = none-some out (sym (never m.statuses) ∙ is)
+  where
+    never : (e.status ≡ 0) ⊎ ((e.status ≡ 2) ⊎ (e.status ≡ 3)) → e.output ≡ None
+    never (inl n) = let r = m.compiled n in ap (λ (x : Ending). x.output) r.2
+    never (inr (inl n)) = m.unwritten (omega (arith, n))
+    never (inr (inr n)) = m.unwritten (omega (arith, n))
 put_by (Simulate d) sources e out m is = none-some out (sym m.unwritten ∙ is)
 put_by (Check d) sources e out m is = none-some out (sym m.unwritten ∙ is)
+put_by (Demo n) sources e out m is = none-some out (sym m.unwritten ∙ is)
 
 -- ---- whatever the task
 
@@ -164,30 +180,35 @@ module _ (a : Asked) (h : Heard) where
   right p tells is i o w =
       let k = p.ended (omega (arith, is)) in
       let m = subst (λ (c : Option Command). MeansOn a.told a.old c k.ending) w k.meant in
-      let r = m.2.right (sym k.status ∙ is) in
-      let puts = subst (λ (out : Option Output). Puts out a.old a.new) r.3 (k.files tells) in
-      (r.0, k.ending.text, subst (λ (s : List (List ℕ)). IsRightFile (source_at s 0) r.0 k.ending.text) (m.1 tells) r.2, puts.1, k.text)
+      let r = m.2.compiled (sym k.status ∙ is) in
+      let puts = subst (λ (x : Ending). Puts x.output a.old a.new) r.2 (k.files tells) in (
+        r.0,
+        subst (λ (s : List (List ℕ)). IsCompiled (source_at s 0) r.0) (m.1 tells) r.1,
+        puts.1,
+        λ reports. k.text reports ∙ ap (λ (x : Ending). h.old ++ x.text) r.2,
+      )
 
   abbrev Held : Type 0
   Held = (input output : List ℕ) × IsCompile a.words input output
-      × (file summary : List ℕ) × IsRightFile (bytes_at a.old input) file summary × (a.new output ≡ Some file)
+      × (c : Compiled) × IsCompiled (bytes_at a.old input) c × (a.new output ≡ Some c.file.items)
 
   held : (o : Output) (task : Task) (inputs sources : List (List ℕ)) → sources ≡ map (bytes_at a.old) inputs → command_of a.words ≡ Some (record { task = task; inputs = inputs })
       → PutBy task sources o → a.new o.name ≡ Some o.bytes → Held
-  held o (Compile p) inputs sources own w (file, summary, r, is) new =
+  held o (Compile p) inputs sources own w (c, r, is) new =
       let input : List ℕ = get_or inputs 0 [] in
       let one : inputs ≡ input ∷ [] = one_only inputs (inputs_counted a.words (record { task = Compile p; inputs = inputs }) w) in
       let source : source_at sources 0 ≡ bytes_at a.old input = ap (λ (s : List (List ℕ)). source_at s 0) (own ∙ ap (map (bytes_at a.old)) one) in (
         input,
         p,
         subst (λ (names : List (List ℕ)). command_of a.words ≡ Some (record { task = Compile p; inputs = names })) one w,
-        file,
-        summary,
-        subst (λ (s : List ℕ). IsRightFile s file summary) source r,
+        c,
+        subst (λ (s : List ℕ). IsCompiled s c) source r,
         subst (λ (x : Output). a.new x.name ≡ Some x.bytes) is new,
       )
+  held o ListSource inputs sources own w never new = absurd never
   held o (Simulate d) inputs sources own w never new = absurd never
   held o (Check d) inputs sources own w never new = absurd never
+  held o (Demo n) inputs sources own w never new = absurd never
 
   held_by : a.told → (e : Ending) (o : Output) (c : Option Command) → command_of a.words ≡ c → MeansOn a.told a.old c e → e.output ≡ Some o → a.new o.name ≡ Some o.bytes → Held
   held_by tells e o None w is out new = absurd (none-some o (sym (ap (λ (x : Ending). x.output) is) ∙ out))

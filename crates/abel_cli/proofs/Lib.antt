@@ -1,7 +1,11 @@
 pub mod Called
 pub mod CheckMeaning
 pub mod Commands
-pub mod CompileMeaning
+pub mod DemoCells
+pub mod DemoMeaning
+pub mod DemoRuns
+pub mod Seeds
+pub mod SourceMeaning
 pub mod Facts
 pub mod FewVectors
 pub mod FileRefusals

@@ -1,7 +1,7 @@
 pub mod Call
 pub mod CheckCommand
 pub mod Checking
-pub mod CompileCommand
+pub mod DemoCommand
 pub mod Devices
 pub mod Ending
 pub mod Found
@@ -12,6 +12,7 @@ pub mod Right
 pub mod Run
 pub mod SimulateCommand
 pub mod Simulating
+pub mod SourceCommands
 pub mod Sources
 pub mod Start
 pub mod View

@@ -3,26 +3,31 @@ use Rattle.std.specs.Prelude.{◌≡◌, ℕ, ◌⊎◌, List, Option, Some, Non
 use Rattle.pld_base.specs.Outside.{Map, SameFiles, SameBut}
 use Rattle.abel_cli.specs.Call.{Asked, Heard, HasRisen, HasStayed}
 use Rattle.abel_cli.specs.CheckCommand.{CheckEnds, CheckMeans}
-use Rattle.abel_cli.specs.CompileCommand.{CompileEnds, CompileMeans}
-use Rattle.abel_cli.specs.Devices.{table_of}
+use Rattle.abel_cli.specs.DemoCommand.{DemoEnds, DemoMeans}
+use Rattle.abel_compile.specs.Devices.{table_of}
 use Rattle.abel_cli.specs.Ending.{Ending, Puts, Tells, TakesFront, memory_line, usage_ending, file_fault}
 use Rattle.abel_cli.specs.SimulateCommand.{SimulateEnds, SimulateMeans}
+use Rattle.abel_cli.specs.SourceCommands.{SourceEnds, SourceMeans, written, listed}
 use Rattle.abel_cli.specs.Sources.{sources_of, source_at}
-use Rattle.abel_cli.specs.Words.{Command, Task, Compile, Simulate, Check, command_of, IsInput, IsNoCommand}
+use Rattle.abel_cli.specs.Words.{Command, Task, Compile, ListSource, Simulate, Check, Demo, command_of, IsInput, IsNoCommand}
 
 -- ---- by task: the only definitions of a run that name tasks
 
 -- a task ends so, with these sources
 abbrev pub Ends : Task → (sources : List (List ℕ)) → Ending → Type 0
-Ends (Compile output) sources e = CompileEnds (source_at sources 0) output e
+Ends (Compile output) sources e = SourceEnds (source_at sources 0) (written output) e
+Ends ListSource sources e = SourceEnds (source_at sources 0) listed e
 Ends (Simulate device) sources e = SimulateEnds (table_of device) (source_at sources 0) e
 Ends (Check device) sources e = CheckEnds (table_of device) (source_at sources 0) e
+Ends (Demo seed) sources e = DemoEnds seed e
 
 -- what that means
 abbrev pub Means : Task → (sources : List (List ℕ)) → Ending → Type 0
-Means (Compile output) sources e = CompileMeans (source_at sources 0) output e
+Means (Compile output) sources e = SourceMeans (source_at sources 0) (written output) e
+Means ListSource sources e = SourceMeans (source_at sources 0) listed e
 Means (Simulate device) sources e = SimulateMeans (table_of device) (source_at sources 0) e
 Means (Check device) sources e = CheckMeans (table_of device) (source_at sources 0) e
+Means (Demo seed) sources e = DemoMeans seed e
 
 -- ---- whatever the task
 

@@ -9,13 +9,15 @@ use Rattle.abel_cli.specs.declared.ending.Output as put
 use Rattle.abel_cli.specs.declared.ending.Outcome.{Outcome}
 use Rattle.abel_cli.specs.declared.ending.Outcome.TheVariants as outcome
 use Rattle.abel_cli.specs.Ending.{Ending, Output, usage_ending, file_fault}
-use Rattle.abel_cli.specs.Words.{Command, Task, Compile, Simulate, Check, texts}
+use Rattle.abel_cli.specs.Words.{Command, Task, Compile, ListSource, Simulate, Check, Demo, texts}
 
 -- what is to be done
 abbrev pub task_seen : code_task.Task → Task
 task_seen (task.Compile output) = Compile output.now
+task_seen task.List = ListSource
 task_seen (task.Simulate device) = Simulate device
 task_seen (task.Check device) = Check device
+task_seen (task.Demo seed) = Demo seed
 
 -- the command that is asked for
 abbrev pub command_seen : code.Command → Command

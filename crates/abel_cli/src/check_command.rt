@@ -2,7 +2,7 @@
 
 ghost use Rattle.std.specs.Prelude.{◌≤◌, IfOk, length};
 ghost use Rattle.abel_cli.specs.CheckCommand.{CheckEnds};
-ghost use Rattle.abel_cli.specs.Devices.{table_of};
+ghost use Rattle.abel_compile.specs.Devices.{table_of};
 ghost use Rattle.abel_cli.specs.Limit.{limit};
 ghost use Rattle.abel_cli.specs.View.{ending_seen};
 

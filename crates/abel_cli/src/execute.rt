@@ -13,9 +13,10 @@ ghost use Rattle.abel_cli.specs.Words.{command_of, source_count, IsNoCommand, te
 
 use crate::check_command::check_ending;
 use crate::command::{Command, Task, command_of};
-use crate::compile_command::compile_ending;
+use crate::demo_command::demo_ending;
 use crate::ending::{Ending, Outcome, line};
 use crate::simulate_command::simulate_ending;
+use crate::source_commands::{compile_ending, list_ending};
 use crate::sources::{SourceFault, read_sources, source_at};
 use pld_base::{Files, OutOfMemory, WriteFault};
 use std::alloc::Global;
@@ -29,8 +30,10 @@ fn ending<'a>(alloc: Global, task: Task<'a>, sources: &[Vec<u8>]) -> Result<Endi
     let source = source_at(sources, 0);
     match task {
         Task::Compile { output } => compile_ending(alloc, output, source),
+        Task::List => list_ending(alloc, source),
         Task::Simulate { device } => simulate_ending(alloc, device, source),
         Task::Check { device } => check_ending(alloc, device, source),
+        Task::Demo { seed } => demo_ending(alloc, seed),
     }
 }
 
@@ -40,7 +43,7 @@ fn long_ending<'a>(alloc: Global, task: Task<'a>) -> Result<Ending<'a>, OutOfMem
         → IfOk result (λ e. Ends (task_seen task.entry) sources (ending_seen e)) }
 {
     let status = match task {
-        Task::Compile { .. } => 2,
+        Task::Compile { .. } | Task::List | Task::Demo { .. } => 2,
         Task::Simulate { .. } | Task::Check { .. } => 4,
     };
     Ok(Ending::plain(status, line(alloc, b"error TooLong", b"")?))

@@ -4,10 +4,14 @@
 mod check_command;
 mod checked_line;
 mod command;
-mod compile_command;
+mod demo_command;
+mod demo_line;
+#[cfg(test)]
+mod demo_tests;
 #[cfg(test)]
 mod device_tests;
 mod devices;
+mod digits;
 mod ending;
 mod execute;
 mod fault_line;
@@ -18,6 +22,7 @@ mod run;
 mod run_lines;
 mod sim_fault_line;
 mod simulate_command;
+mod source_commands;
 mod sources;
 mod start;
 #[cfg(test)]

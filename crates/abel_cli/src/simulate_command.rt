@@ -1,7 +1,7 @@
 //! `simulate DEVICE IN`.
 
 ghost use Rattle.std.specs.Prelude.{◌≡◌, ◌≤◌, IfOk, Ok, length};
-ghost use Rattle.abel_cli.specs.Devices.{table_of};
+ghost use Rattle.abel_compile.specs.Devices.{table_of};
 ghost use Rattle.abel_cli.specs.Limit.{limit};
 ghost use Rattle.abel_cli.specs.SimulateCommand.{SimulateEnds};
 ghost use Rattle.abel_cli.specs.View.{ending_seen};

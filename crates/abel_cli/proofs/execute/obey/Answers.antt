@@ -1,5 +1,5 @@
 -- The endings of a command are called for by its words.
-use Rattle.std.proofs.Common.{◌≡◌, ℕ, List, Option, Some, Err, ap, subst, sym, ◌∙◌}
+use Rattle.std.proofs.Common.{ℕ, List, Option, Some, Err, ap, subst, sym, ◌∙◌}
 use Rattle.std.specs.Prelude.{option_map}
 use Rattle.pld_base.specs.Causes.{Rose}
 use Rattle.pld_base.specs.declared.files.WriteFault.{WriteFault}

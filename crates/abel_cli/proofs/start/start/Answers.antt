@@ -1,0 +1,14 @@
+-- The words that were given are those of the run.
+use Rattle.std.proofs.Common.{◌≡◌, ℕ, List, [], Option, Some, sym, ◌∙◌, ap, subst}
+use Rattle.std.specs.Prelude.{unwrap_or}
+use Rattle.abel_cli.specs.Right.{IsRight}
+use Rattle.abel_cli.specs.Start.{words_of}
+use Rattle.abel_cli.specs.Words.{texts}
+use Rattle.abel_cli.proofs.start.start.Goals as goal
+
+pub returns-in-Words-clause-right : goal.returns-in-Words-clause-right
+returns-in-Words-clause-right g c words is tells zero =
+    let given : Some (texts c.in-Words.words.items) ≡ Some words = sym (ap words_of c.in-Words.is) ∙ is in
+    subst (λ (ws : List (List ℕ)). IsRight ws (g.F.Files.file c.args.files.now) (g.F.Files.file c.run.new.files) g.K.Sink.Tells (g.K.Sink.taken c.args.report.now) (g.K.Sink.taken c.run.new.report))
+    (ap texts c.deref.ensures.value ∙ ap (λ (o : Option (List (List ℕ))). unwrap_or o []) given)
+    (c.run.ensures.right tells zero)
