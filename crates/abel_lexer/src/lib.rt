@@ -8,8 +8,6 @@ mod length;
 mod number;
 mod radix_form;
 mod scanning;
-#[cfg(test)]
-mod tests;
 mod token;
 
 pub use bytes::{is_blank, is_name_first, is_name_later, is_radix_letter};

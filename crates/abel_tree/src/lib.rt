@@ -10,8 +10,6 @@ mod names;
 mod sections;
 mod statements;
 mod tables;
-#[cfg(test)]
-mod tests;
 mod words;
 
 pub use attributes::Attributes;

@@ -6,8 +6,6 @@ mod fault;
 mod netlist;
 mod node;
 mod reads;
-#[cfg(test)]
-mod tests;
 
 pub use arena::Exprs;
 pub use fault::ExprFault;

@@ -3,8 +3,6 @@
 
 mod cube;
 mod pool;
-#[cfg(test)]
-mod tests;
 
 pub use cube::Cube;
 pub use pool::{CubePool, Mark, Range};

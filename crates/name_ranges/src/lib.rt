@@ -2,7 +2,5 @@
 #![tactic(auto)]
 
 mod ranges;
-#[cfg(test)]
-mod tests;
 
 pub use ranges::{is_bad_item, item_list, names_of_item, names_of_range, range_list};

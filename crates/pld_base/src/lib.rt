@@ -8,8 +8,6 @@ mod digits;
 mod files;
 mod host_files;
 mod host_sink;
-#[cfg(test)]
-mod host_tests;
 mod levels;
 mod list_of;
 mod memory_files;
@@ -21,10 +19,6 @@ mod point;
 mod replacing;
 mod sink;
 mod sure_files;
-#[cfg(test)]
-mod tests;
-#[cfg(test)]
-mod tree_tests;
 
 pub use boxed::Boxed;
 pub use device_name::DeviceName;

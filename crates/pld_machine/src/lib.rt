@@ -6,8 +6,6 @@ mod logic;
 mod rests;
 mod settling;
 mod steps;
-#[cfg(test)]
-mod tests;
 mod traces;
 
 pub use laws::{one_run, refined_run, valued_run};

@@ -6,8 +6,6 @@ mod leading;
 mod loops;
 mod ordering;
 mod paths;
-#[cfg(test)]
-mod tests;
 mod vertex_set;
 mod vertices;
 

@@ -3,8 +3,6 @@
 
 mod ahead;
 mod rest;
-#[cfg(test)]
-mod tests;
 
 pub use ahead::Ahead;
 pub use rest::Rest;

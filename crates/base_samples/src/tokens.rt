@@ -1,4 +1,6 @@
-use crate::{ScanFault, TokenKind, scan};
+//! Texts with their tokens or their first fault, each at its place.
+
+use abel_lexer::{ScanFault, TokenKind, scan};
 use pld_base::Place;
 use std::test::Fail;
 

@@ -1,5 +1,7 @@
-use crate::Rest;
+//! Texts in pieces, with what is left of them behind a skip or ahead of a look.
+
 use std::test::Fail;
+use text_pieces::Rest;
 
 // Pieces that are put before a text, how many bytes are left out, and what is left.
 const LEFT: [(&[&[u8]], &[u8], usize, &[u8]); 6] = [

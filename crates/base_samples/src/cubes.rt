@@ -1,6 +1,6 @@
 //! Small cubes and a small pool, with what follows for them by hand.
 
-use crate::{Cube, CubePool, Range};
+use cube_pool::{Cube, CubePool, Range};
 use std::test::Fail;
 
 /// What a cube asks to be 1, and what to be 0.

@@ -3,7 +3,7 @@
 ghost use Rattle.std.specs.Prelude.{◌<◌, length};
 ghost use Rattle.bit_expr.specs.Arena.{arena};
 
-use crate::{ExprFault, Exprs, Leaf, Node, Reads};
+use bit_expr::{ExprFault, Exprs, Leaf, Node, Reads};
 use pld_base::Point;
 use std::test::Fail;
 

@@ -1,6 +1,6 @@
 //! That the real files and standard output answer, in a folder of the test's own.
 
-use crate::{Files, HostFiles, HostSink, ReadFault, Sink, WriteFault};
+use pld_base::{Files, HostFiles, HostSink, ReadFault, Sink, WriteFault};
 use std::alloc::Allocator;
 use std::fs::{Metadata, OpenFile, OpenOptions, Permissions};
 use std::io::{ErrorKind, Read, Seek, SeekFrom, Write};
@@ -129,9 +129,7 @@ fn the_real_files_and_standard_output_answer(rt: HostRuntime) -> Result<(), Fail
     fs::create_dir(&rt, "abel_host_files")?;
     let mut files = HostFiles::new(alloc, &rt);
     assert!(rt; files.write("abel_host_files/y1.jed", b"four") == Ok(()));
-    let back = files
-        .read(alloc, "abel_host_files/y1.jed", 4)
-        .map_err(|_| "read")?;
+    let back = files.read(alloc, "abel_host_files/y1.jed", 4)?;
     assert_eq!(rt; back.as_slice(), b"four".as_slice());
     assert!(rt; files.read(alloc, "abel_host_files/y1.jed", 3) == Err(ReadFault::TooLong));
     assert!(rt; files.read(alloc, "abel_host_files/none", 4) == Err(ReadFault::Failed));
@@ -161,18 +159,14 @@ fn a_file_is_replaced_in_one_piece_or_stands(rt: HostRuntime) -> Result<(), Fail
     rt::Files::symlink(&rt, "old", "abel_host_replaced/link")?;
     let mut full = HostFiles::new(alloc, FullDisk { real: &rt });
     assert!(rt; full.write("abel_host_replaced/link", b"new bytes") == Err(WriteFault::Failed));
-    let left = files
-        .read(alloc, "abel_host_replaced/link", 9)
-        .map_err(|_| "read")?;
+    let left = files.read(alloc, "abel_host_replaced/link", 9)?;
     assert_eq!(rt; left.as_slice(), b"old bytes".as_slice());
     assert!(rt;
         !fs::exists(&rt, "abel_host_replaced/old.new0")?,
         "the new file is removed"
     );
     assert!(rt; files.write("abel_host_replaced/link", b"new bytes") == Ok(()));
-    let left = files
-        .read(alloc, "abel_host_replaced/old", 9)
-        .map_err(|_| "read")?;
+    let left = files.read(alloc, "abel_host_replaced/old", 9)?;
     assert_eq!(rt; left.as_slice(), b"new bytes".as_slice());
     let link = fs::symlink_metadata(&rt, "abel_host_replaced/link")?;
     assert!(rt; link.is_symlink(), "the link stays one");

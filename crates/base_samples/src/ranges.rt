@@ -1,6 +1,6 @@
 //! Ranges up and down, and ends that don't agree.
 
-use crate::range_list;
+use name_ranges::range_list;
 use std::test::Fail;
 
 #[test]

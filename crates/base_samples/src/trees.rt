@@ -1,4 +1,6 @@
-use super::*;
+//! A tree and its copy, and a set of attributes.
+
+use abel_tree::{Attributes, Binary, Expr, Extension, Member, Unary, Word};
 use bitflags::Flags;
 use pld_base::{Boxed, ListOf, NameText, OutOfMemory, Place};
 use std::alloc::Global;
@@ -71,14 +73,16 @@ fn a_tree_is_copied(rt: HostRuntime) -> Result<(), Fail> {
         return Err("no operator".into());
     };
     assert_eq!(rt; *sign, Binary::And);
+    let Expr::Unary {
+        sign: Unary::Not,
+        inner: negated,
+        ..
+    } = left.get()
+    else {
+        return Err("no sign".into());
+    };
     assert!(rt;
-        matches!(
-            left.get(),
-            Expr::Unary {
-                sign: Unary::Not,
-                ..
-            }
-        )
+        matches!(negated.get(), Expr::Name { word, .. } if word.text.bytes() == b"left".as_slice())
     );
     let Expr::Set {
         members,

@@ -5,8 +5,8 @@ ghost use Rattle.std.specs.Prelude.{◌≡◌, ◌<◌};
 ghost use Rattle.pld_base.specs.Bits.{bits, is_on};
 ghost use Rattle.pld_machine.specs.Shifter.{shifter};
 
-use super::*;
 use pld_base::{Point, Trace, level_at};
+use pld_machine::{Logic, Slot, rest, step, trace};
 
 const CLOCK: u32 = 1 << 1;
 

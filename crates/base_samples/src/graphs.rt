@@ -3,7 +3,7 @@
 
 ghost use Rattle.std.specs.Prelude.{IfOk, ◌≤◌, length};
 
-use crate::{VertexSet, order, order_or_loop, path};
+use pld_order::{VertexSet, order, order_or_loop, path};
 use std::alloc::Global;
 use std::test::Fail;
 
