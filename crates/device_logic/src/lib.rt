@@ -11,10 +11,6 @@ mod lookups;
 mod macrocells;
 mod reads;
 mod rows;
-#[cfg(test)]
-mod tests;
-#[cfg(test)]
-mod trio;
 
 pub use fault::SimFault;
 pub use laws::{no_loop, one_layer};

@@ -3,8 +3,6 @@
 
 mod gal22v10;
 mod laws;
-#[cfg(test)]
-mod tests;
 
 pub use gal22v10::Gal22V10;
 pub use laws::{both_kinds, counters};

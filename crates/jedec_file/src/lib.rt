@@ -4,8 +4,6 @@
 mod field;
 mod jedec_fault;
 mod sums;
-#[cfg(test)]
-mod tests;
 
 pub use field::Field;
 pub use jedec_fault::JedecFault;

@@ -7,8 +7,6 @@ mod pal16l8;
 mod pal16r4;
 mod pal16r6;
 mod pal16r8;
-#[cfg(test)]
-mod tests;
 
 pub use laws::{counters, layout};
 pub use pal16l8::Pal16L8;

@@ -11,8 +11,6 @@ mod fuses;
 mod kinds;
 mod laws;
 mod sample;
-#[cfg(test)]
-mod tests;
 
 pub use carry::Carry;
 pub use cell::Cell;

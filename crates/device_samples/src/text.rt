@@ -1,9 +1,28 @@
-//! Vectors and mismatches as text, for the tests.
+//! Fuses, vectors and mismatches as text.
 
-use crate::report::Mismatch;
+ghost use Rattle.std.specs.Prelude.{◌≡◌, IfOk, length};
+
+use device_sim::Mismatch;
 use pld_base::Vector;
+use pld_device::Fuses;
 use std::alloc::Global;
 use std::test::Fail;
+
+/// The fuses of a text, in which only 0 and 1 count.
+pub fn fuses_of(alloc: Global, text: &str, size: usize) -> Result<Fuses, Fail>
+    ensures { IfOk result (λ f. length f ≡ size) }
+{
+    let mut levels = Vec::new(alloc);
+    for byte in text.bytes() {
+        if byte == b'0' || byte == b'1' {
+            levels.push(byte == b'1').map_err(|_| "memory")?;
+        }
+    }
+    if levels.len() != size {
+        return Err(Fail::from("not as many fuses"));
+    }
+    Ok(Fuses::from_levels(levels))
+}
 
 /// A vector with these characters from pin 1 on, and `N` past them.
 fn vector_of(line: &[u8]) -> Vector {

@@ -1,6 +1,6 @@
 //! The lookups against the logic diagrams of the PAL16 devices.
 
-use crate::{Pal16L8, Pal16R4, Pal16R6, Pal16R8};
+use pal16_device::{Pal16L8, Pal16R4, Pal16R6, Pal16R8};
 use pld_base::DeviceName;
 use pld_device::{Carry, Cell, Device, Enable, FuseBit, Kinds};
 

@@ -1,7 +1,6 @@
 //! That fuses are the levels that they were made of, and what a device tells through its bound.
 
-use crate::sample::Sample;
-use crate::{Carry, Cell, Device, Enable, FuseBit, Fuses, Kinds};
+use pld_device::{Carry, Cell, Device, Enable, FuseBit, Fuses, Kinds, Sample};
 use std::test::Fail;
 
 #[test]

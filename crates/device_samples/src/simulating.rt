@@ -1,15 +1,15 @@
 //! Vectors are run on the small sample device, and on one whose registers take the complement of
 //! their data. What the pins do is worked by hand from the rows and the control fuses.
 
-ghost use Rattle.std.specs.Prelude.{◌≡◌, IfOk, length};
+ghost use Rattle.std.specs.Prelude.{◌≡◌};
 ghost use Rattle.pld_device.specs.Table.{Table};
 
-use super::test_text::{lines_of, vectors_of};
-use super::turned::Turned;
-use super::{SimFault, simulate};
+use crate::text::{fuses_of, lines_of, vectors_of};
+use crate::turned::Turned;
+use device_sim::{SimFault, simulate};
 use jedec_reader::FuseFile;
 use pld_base::ListOf;
-use pld_device::{Device, Fuses, Sample};
+use pld_device::{Device, Sample};
 use std::alloc::Global;
 use std::test::Fail;
 
@@ -60,22 +60,6 @@ const RESET_READS: Rows =
     "11 01 11 11  11 11 11 11  11 11 11 01  00 00 00 00  00 00 00 00  00 00 00 00
     11 0 111111 111";
 
-/// The fuses of a text, in which only 0 and 1 count.
-fn fuses_of(alloc: Global, rows: Rows) -> Result<Fuses, Fail>
-    ensures { IfOk result (λ f. length f ≡ 60) }
-{
-    let mut levels = Vec::new(alloc);
-    for byte in rows.bytes() {
-        if byte == b'0' || byte == b'1' {
-            levels.push(byte == b'1').map_err(|_| "memory")?;
-        }
-    }
-    if levels.len() != 60 {
-        return Err(Fail::from("not 60 fuses"));
-    }
-    Ok(Fuses::from_levels(levels))
-}
-
 /// What came of the vectors: how many they are and their mismatches, or why they were not run.
 fn outcome<D: Device>(
     alloc: Global,
@@ -90,7 +74,7 @@ fn outcome<D: Device>(
         return Err(Fail::from("too many vectors"));
     }
     let file = FuseFile {
-        fuses: fuses_of(alloc, rows)?,
+        fuses: fuses_of(alloc, rows, 60)?,
         listed: 60,
         vectors: ListOf::from_vec(vectors),
         default_level,

@@ -1,6 +1,6 @@
 //! Sums of a few fuses and bytes, added up by hand.
 
-use crate::{byte_sum, fuse_sum};
+use jedec_file::{byte_sum, fuse_sum};
 
 /// Fuses, and their sum: the first of eight is worth 1, the last 128, the ninth 1 again.
 const FUSES: [(&[bool], u16); 4] = [

@@ -1,6 +1,6 @@
 //! The lookups against the GAL22V10's logic diagram.
 
-use crate::Gal22V10;
+use gal22v10_device::Gal22V10;
 use pld_base::DeviceName;
 use pld_device::{Carry, Device, Enable, FuseBit, Kinds};
 

@@ -1,100 +1,40 @@
-//! Vectors are run on a small logic with a register. Every expected mismatch is worked by hand from
+//! Vectors are run on a small device with a register. Every expected mismatch is worked by hand from
 //! what the characters of a test vector mean.
 
-ghost use Rattle.std.specs.Prelude.{◌∷◌, []};
-ghost use Rattle.pld_base.specs.Bits.{is_on};
-ghost use Rattle.pld_machine.specs.declared.logic.Slot.TheVariants.{Cell, Node};
-ghost use Rattle.device_sim.specs.Bench.{bench};
-
-use super::running::run_vectors;
-use super::test_text::{lines_of, vectors_of};
-use pld_base::{Point, Vector, level_at};
-use pld_machine::{Logic, Slot};
+use crate::bench::Bench;
+use crate::text::{fuses_of, lines_of, vectors_of};
+use device_sim::simulate;
+use jedec_reader::FuseFile;
+use pld_base::ListOf;
 use std::alloc::Global;
 use std::test::Fail;
 
-/// Pin 1 is the clock. Pin 5 has the Q of a register that takes pin 2's level, pin 6 has pin 2's
-/// level while pin 3 is 1, and pin 7 the complement of pin 6's. A node, which nothing reads, has
-/// pin 2's level.
-struct Bench;
+/// Pin 5 has the Q of a register that takes pin 2's level, pin 6 has pin 2's level while pin 3 is 1, and
+/// pin 7 the complement of pin 6's. For each cell its enable row and its data row, with the columns of
+/// pin 2, pin 3 and pin 6, two each; then the three polarities.
+const FUSES: &str = "
+    11 11 11  01 11 11
+    11 01 11  01 11 11
+    11 11 11  11 11 10
+    111
+";
 
-impl Logic for Bench {
-    ghost meaning = { λ _. record bench {
-      slots = Cell 0 ∷ Cell 1 ∷ Cell 2 ∷ Node 0 ∷ [];
-      node = λ at n. is_on at.pins 2;
-    } };
-
-    fn cells(&self) -> u8 {
-        3
-    }
-
-    fn pin(&self, cell: u8) -> u8 {
-        5 + cell
-    }
-
-    fn stores(&self, cell: u8) -> bool {
-        cell == 0
-    }
-
-    fn clock(&self) -> u8 {
-        1
-    }
-
-    fn slots(&self) -> u16 {
-        4
-    }
-
-    fn slot(&self, index: u16) -> Slot {
-        match index {
-            0 => Slot::Cell(0),
-            1 => Slot::Cell(1),
-            2 => Slot::Cell(2),
-            _ => Slot::Node(0),
-        }
-    }
-
-    fn enable(&self, at: &Point, cell: u8) -> bool {
-        if cell == 1 {
-            level_at(at.pins, 3)
-        } else {
-            true
-        }
-    }
-
-    fn level(&self, at: &Point, cell: u8) -> bool {
-        match cell {
-            0 => level_at(at.q, 0),
-            1 => level_at(at.pins, 2),
-            _ => !level_at(at.pins, 6),
-        }
-    }
-
-    fn node(&self, at: &Point, _node: u8) -> bool {
-        level_at(at.pins, 2)
-    }
-
-    fn reset(&self, _at: &Point, _cell: u8) -> bool {
-        false
-    }
-
-    fn preset(&self, _at: &Point, _cell: u8) -> bool {
-        false
-    }
-
-    fn next(&self, at: &Point, _cell: u8) -> bool {
-        level_at(at.pins, 2)
-    }
-}
-
-const PINS: u8 = 8;
-
-/// The mismatches of vectors that are run on the small logic.
-fn disagreements(alloc: Global, default: bool, vectors: &[Vector]) -> Result<String, Fail> {
+/// The mismatches of vectors that are run on the small device.
+fn disagreements(alloc: Global, default_level: bool, text: &[u8]) -> Result<String, Fail> {
+    let vectors = vectors_of(alloc, text)?;
     if vectors.len() > 100 {
         return Err(Fail::from("too many vectors"));
     }
-    let list = run_vectors(alloc, &Bench, PINS, default, vectors)?;
-    lines_of(alloc, list.as_slice())
+    let file = FuseFile {
+        fuses: fuses_of(alloc, FUSES, 39)?,
+        listed: 39,
+        vectors: ListOf::from_vec(vectors),
+        default_level,
+    };
+    match simulate::<Bench>(alloc, &file) {
+        Ok(report) => lines_of(alloc, report.list.as_slice()),
+        Err(_fault) => Err(Fail::from("a fault")),
+    }
 }
 
 /// What is tried, the default level, the vectors, and the mismatches.
@@ -126,14 +66,13 @@ const ROWS: [Row; 20] = [
         b"11XXLXXX\n01XXLXXX\n11XXHXXX", ""),
     ("mismatches of several vectors come in order", false,
         b"010XHHHX\n011XLHLX\n001XXHLX", "1 5 H L;1 6 H Z;3 6 H L;3 7 L H;"),
-    ("characters past the last pin count for nothing", false, b"010XLZHXHLZCK012", ""),
+    ("characters past the last pin count for nothing", false, b"010XLZHXXXHLZCK012", ""),
 ];
 
 #[test]
 fn vectors_are_run_and_tested(rt: HostRuntime) -> Result<(), Fail> {
     for (what, default, text, wanted) in ROWS {
-        let vectors = vectors_of(rt.alloc(), text)?;
-        let found = disagreements(rt.alloc(), default, vectors.as_slice())?;
+        let found = disagreements(rt.alloc(), default, text)?;
         assert_eq!(rt; found.as_str(), wanted, "{what}");
     }
     Ok(())

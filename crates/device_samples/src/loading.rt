@@ -1,14 +1,15 @@
 //! Small devices are loaded with small designs. Every expected order, loop, chain and level is worked
 //! by hand from what a row reads and where it is true.
 
-ghost use Rattle.std.specs.Prelude.{◌≡◌, IfOk, length};
+ghost use Rattle.std.specs.Prelude.{IfOk};
 ghost use Rattle.pld_machine.specs.Order.{IsOrdered};
 ghost use Rattle.device_logic.specs.DeviceLookups.{device_lookups};
 ghost use Rattle.device_logic.specs.TrioTable.{trio};
 
+use crate::text::fuses_of;
 use crate::trio::Trio;
-use crate::{DeviceLogic, SimFault, load, no_loop, one_layer};
-use pld_device::{Fuses, Sample};
+use device_logic::{DeviceLogic, SimFault, load, no_loop, one_layer};
+use pld_device::Sample;
 use pld_machine::{Logic, Slot, rest};
 use std::alloc::Global;
 use std::test::Fail;
@@ -99,22 +100,6 @@ const THREE: Rows = "
     11 11 11 11 11  11 11 01 11 11  00 00 00 00 00
     11 11 11 11 11  11 11 11 01 11  00 00 00 00 00
 ";
-
-/// The fuses of a text, in which only 0 and 1 count.
-fn fuses_of(alloc: Global, text: &str, size: usize) -> Result<Fuses, Fail>
-    ensures { IfOk result (λ f. length f ≡ size) }
-{
-    let mut levels = Vec::new(alloc);
-    for byte in text.bytes() {
-        if byte == b'0' || byte == b'1' {
-            levels.push(byte == b'1').map_err(|_| "memory")?;
-        }
-    }
-    if levels.len() != size {
-        return Err(Fail::from("not as many fuses"));
-    }
-    Ok(Fuses::from_levels(levels))
-}
 
 /// The device with these rows.
 fn loaded(alloc: Global, rows: Rows) -> Result<DeviceLogic<Trio>, Fail>

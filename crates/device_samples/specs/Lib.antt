@@ -1,0 +1,2 @@
+pub mod BenchTable
+pub mod TurnedTable
