@@ -3,8 +3,6 @@
 
 mod fault;
 mod reading;
-#[cfg(test)]
-mod tests;
 
 pub use fault::ReadFault;
 pub use reading::read_module;

@@ -3,8 +3,6 @@
 
 mod lines;
 mod telling;
-#[cfg(test)]
-mod tests;
 mod words;
 
 pub use lines::{name_line, read_line, section_line};

@@ -1,9 +1,9 @@
 //! A text is read to the module that it spells, or refused by the first of the three that refuses it.
 
-use crate::{ReadFault, read_module};
 use abel_expand::ExpandFault;
 use abel_lexer::ScanFault;
 use abel_parser::ParseFault;
+use module_reader::{ReadFault, read_module};
 use pld_base::Place;
 use std::test::Fail;
 

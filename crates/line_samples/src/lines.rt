@@ -1,11 +1,11 @@
 //! The lines of some refusals, by hand from the shape of a report's lines.
 
-use crate::{name_line, read_line, section_line};
 use abel_lexer::ScanFault;
 use abel_tree::{Attributes, Declared, Meaning, Names};
 use decls::NameFault;
 use module_reader::ReadFault;
 use pld_base::{DeviceName, ListOf, NameText, Place};
+use refusal_lines::{name_line, read_line, section_line};
 use set_expr::SectionFault;
 use std::alloc::Global;
 use std::test::Fail;
