@@ -10,8 +10,6 @@ mod part;
 mod parts;
 mod pulses;
 mod signals;
-#[cfg(test)]
-mod tests;
 
 pub use entries::{Entry, read_entry};
 pub use inside::refuse_inside;

@@ -2,8 +2,10 @@
 #![tactic(auto)]
 
 #[cfg(test)]
+mod entries;
+#[cfg(test)]
 mod names;
 #[cfg(test)]
-mod tests;
+mod sections;
 #[cfg(test)]
 mod trees;

@@ -3,10 +3,10 @@
 ghost use Rattle.std.specs.Prelude.{◌≡◌, []};
 ghost use Rattle.abel_tree.specs.Entries.{entries_of};
 
-use crate::entries::{Entry, read_entry};
-use crate::mark::Mark;
-use abel_tree::{Binary, Expr, Member, Names, Number, Unary};
+use crate::trees::{AT, number, pair, special};
+use abel_tree::{Binary, Expr, Names, Unary};
 use pld_base::{Boxed, DeviceName, ListOf, OutOfMemory, Place};
+use row_entries::{Entry, Mark, read_entry};
 use set_expr::{SectionFault, known_names};
 use std::alloc::Global;
 use std::test::Fail;
@@ -21,31 +21,10 @@ fn no_names(alloc: Global) -> Names
     }
 }
 
-const AT: Place = Place { line: 1, column: 1 };
-
 const ROW: SectionFault = SectionFault::BadRow(AT);
 
-fn number(value: u32) -> Expr {
-    Expr::Number(Number { value, place: AT })
-}
-
-fn special(letter: u8) -> Expr {
-    Expr::Special { letter, place: AT }
-}
-
-fn pair(alloc: Global, left: Expr, right: Expr) -> Result<Expr, OutOfMemory> {
-    let mut members = Vec::new(alloc);
-    members.push(Member::One(left))?;
-    members.push(Member::One(right))?;
-    Ok(Expr::Set {
-        place: AT,
-        members: ListOf::from_vec(members),
-        extension: None,
-    })
-}
-
 /// What is found of an entry under the header `[.X.,[.X.,.X.]]`.
-#[tactic(auto, using(crate::proofs::NamesInOrder::none_in_order))]
+#[tactic(auto, using(row_entries::proofs::NamesInOrder::none_in_order))]
 fn read(alloc: Global, entry: &Expr) -> Result<Entry, OutOfMemory> {
     let names = no_names(alloc);
     let known = known_names(alloc, &names)?;
