@@ -6,8 +6,6 @@ mod draws;
 mod equations;
 mod literals;
 mod machine;
-#[cfg(test)]
-mod tests;
 mod text;
 mod vectors;
 

@@ -1,6 +1,8 @@
-//! Fuse files and fuses of the sample device, with what is read, written and listed of them.
+//! Fuse files and fuses of the sample device, with what is read, written and listed of them; and two sources that are drawn.
 #![tactic(auto)]
 
+#[cfg(test)]
+mod drawn;
 #[cfg(test)]
 mod listings;
 #[cfg(test)]

@@ -1,7 +1,7 @@
-//! Two texts, held against those of a separate script of forty lines: their lengths, a sum that every byte and
+//! Two drawn sources, held against those of a separate script of forty lines: their lengths, a sum that every byte and
 //! its place change, an equation, and the last vector.
 
-use crate::demo_text;
+use demo_source::demo_text;
 use std::test::Fail;
 
 /// Of a seed: the length, the sum, the first equation and the end.
