@@ -1,7 +1,7 @@
 -- The words that a program was given (this project's rule).
 use Rattle.std.specs.Prelude.{ℕ, List, [], Option, Some, None}
-use Rattle.abel_cli.specs.declared.start.Given.{Given}
-use Rattle.abel_cli.specs.declared.start.Given.TheVariants.{Words, NotText, Unknown}
+use Rattle.abel_cli.specs.declared.starting.Given.{Given}
+use Rattle.abel_cli.specs.declared.starting.Given.TheVariants.{Words, NotText, Unknown}
 use Rattle.abel_cli.specs.Words.{texts}
 
 -- the words, where they are known; where one of them is no text it is as if there were none

@@ -4,7 +4,7 @@ use Rattle.std.specs.Prelude.{unwrap_or}
 use Rattle.abel_cli.specs.Right.{IsRight}
 use Rattle.abel_cli.specs.Start.{words_of}
 use Rattle.abel_cli.specs.Words.{texts}
-use Rattle.abel_cli.proofs.start.start.Goals as goal
+use Rattle.abel_cli.proofs.starting.start.Goals as goal
 
 pub returns-in-Words-clause-right : goal.returns-in-Words-clause-right
 returns-in-Words-clause-right g c words is tells zero =

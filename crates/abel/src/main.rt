@@ -1,36 +1,8 @@
 //! `abel`: from ABEL-HDL sources to JEDEC fuse files.
 #![tactic(auto)]
 
-mod check_command;
-mod checked_line;
-mod command;
-mod demo_command;
-mod demo_line;
-#[cfg(test)]
-mod demo_tests;
-#[cfg(test)]
-mod device_tests;
-mod devices;
-mod digits;
-mod ending;
-mod execute;
-mod fault_line;
-#[cfg(test)]
-mod fuse_file_tests;
-mod numbered;
-mod run;
-mod run_lines;
-mod sim_fault_line;
-mod simulate_command;
-mod source_commands;
-mod sources;
-mod start;
-#[cfg(test)]
-mod tests;
-
+use abel_cli::{Given, start};
 use pld_base::{HostFiles, HostSink};
-pub use run::run;
-use start::{Given, start};
 use std::io::ErrorKind;
 use std::process::ExitCode;
 use std::{env, io};

@@ -7,7 +7,7 @@ ghost use Rattle.abel_cli.specs.Promises.{Promises};
 ghost use Rattle.abel_cli.specs.Right.{IsRight};
 ghost use Rattle.abel_cli.specs.Start.{words_of};
 
-use crate::run::run;
+use crate::running::run;
 use pld_base::{Files, Sink};
 use std::alloc::Global;
 
