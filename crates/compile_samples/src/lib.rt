@@ -1,28 +1,33 @@
-//! Sources with the fuse files that `compile` makes of them, or with the lines on why it makes none.
+//! Sources with the fuse files that `compile` makes of them, or with the lines on why it makes none; and runs of the program's
+//! top call over files in memory.
 #![tactic(auto)]
 
 #[cfg(test)]
 mod accepted;
 #[cfg(test)]
+mod cases;
+#[cfg(test)]
 mod columns;
 #[cfg(test)]
-mod control_tests;
+mod command_lines;
 #[cfg(test)]
 mod controls;
 #[cfg(test)]
+mod demos;
+#[cfg(test)]
+mod devices;
+#[cfg(test)]
 mod diagrams;
 #[cfg(test)]
-mod order_tests;
+mod fuse_files;
+#[cfg(test)]
+mod hostile;
 #[cfg(test)]
 mod orders;
-#[cfg(test)]
-mod read_tests;
 #[cfg(test)]
 mod reads;
 #[cfg(test)]
 mod rejected;
-#[cfg(test)]
-mod tests;
 #[cfg(test)]
 mod uncontrolled;
 #[cfg(test)]

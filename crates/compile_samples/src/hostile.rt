@@ -1,0 +1,111 @@
+//! Calls of the files and of the report that fail, one number after another, and a fuse file that is cut or changed at each of
+//! its bytes.
+
+use crate::command_lines::{Finished, Y1, Y1_FILE, run_line};
+use std::test::Fail;
+
+/// A command line, what the file f holds, and the names that its calls of the files are about.
+const COMMANDS: [(&str, &str, &[&str]); 5] = [
+    ("compile f out", Y1, &["f", "out"]),
+    ("list f", Y1, &["f"]),
+    ("check P16L8 f", Y1_FILE, &["f"]),
+    ("simulate P16L8 f", Y1_FILE, &["f"]),
+    ("demo 1", "", &[]),
+];
+
+/// How many calls of each kind are made to fail, each in a run of its own: more than any command makes.
+const CALLS: u32 = 5;
+
+/// Whether two runs ended with the same status, report and OUT.
+fn is_same(one: &Finished, other: &Finished) -> bool {
+    one.status == other.status
+        && one.report.bytes() == other.report.bytes()
+        && one.files.get("out") == other.files.get("out")
+}
+
+#[test]
+fn a_call_of_the_files_that_fails_is_told(rt: HostRuntime) -> Result<(), Fail> {
+    let alloc = rt.alloc();
+    for (line, text, names) in COMMANDS {
+        let input = ("f", text.as_bytes());
+        let whole = run_line(alloc, line, input, (0, 0))?;
+        for call in 1..=CALLS {
+            let done = run_line(alloc, line, input, (call, 0))?;
+            match names.get(call as usize - 1) {
+                Some(name) => {
+                    let told = format!(in alloc; "error file {name}\n")?;
+                    assert_eq!(rt; done.status, 6, "{line} {call}");
+                    assert_eq!(rt; done.report.bytes(), told.as_bytes(), "{line} {call}");
+                    assert!(rt; done.files.get("out") == None, "{line} {call}");
+                }
+                None => assert!(rt; is_same(&done, &whole), "{line} {call}"),
+            }
+            assert!(rt;
+                done.files.get("f") == Some(text.as_bytes()),
+                "{line} {call}"
+            );
+        }
+    }
+    Ok(())
+}
+
+#[test]
+fn a_call_of_the_report_that_fails_takes_nothing_else(rt: HostRuntime) -> Result<(), Fail> {
+    let alloc = rt.alloc();
+    for (line, text, names) in COMMANDS {
+        let input = ("f", text.as_bytes());
+        let whole = run_line(alloc, line, input, (0, 0))?;
+        for call in 1..=CALLS {
+            let done = run_line(alloc, line, input, (0, call))?;
+            if call == 1 {
+                assert_eq!(rt; done.status, 7, "{line}");
+                assert_eq!(rt; done.report.bytes(), b"".as_slice(), "{line}");
+                assert!(rt; done.files.get("out") == whole.files.get("out"), "{line}");
+            } else {
+                assert!(rt; is_same(&done, &whole), "{line} {call}");
+            }
+        }
+        // The report of a fault of the files fails too.
+        let done = run_line(alloc, line, input, (1, 1))?;
+        assert_eq!(rt; done.status, 7, "{line}");
+        assert!(rt; names.is_empty() || done.files.get("out") == None, "{line}");
+    }
+    Ok(())
+}
+
+#[test]
+fn a_front_of_a_fuse_file_is_none(rt: HostRuntime) -> Result<(), Fail> {
+    let alloc = rt.alloc();
+    let file = Y1_FILE.as_bytes();
+    for length in 0..file.len() {
+        let told = if length == 0 {
+            "error NoStart\n"
+        } else {
+            "error NoEnd\n"
+        };
+        let done = run_line(alloc, "check P16L8 f", ("f", &file[..length]), (0, 0))?;
+        assert_eq!(rt; done.status, 4, "{length}");
+        assert_eq!(rt; done.report.bytes(), told.as_bytes(), "{length}");
+    }
+    Ok(())
+}
+
+/// Every change of one byte changes the sum of the file. It is accepted nowhere but where an end of the text takes the place of
+/// the L of L0000: the four digits behind stand for a sum that was not computed, and no fuse needs to be listed behind F0.
+#[test]
+fn a_changed_byte_is_found(rt: HostRuntime) -> Result<(), Fail> {
+    let alloc = rt.alloc();
+    let mut file = Vec::from_slice(alloc, Y1_FILE.as_bytes())?;
+    for place in 0..file.len() {
+        let own = file[place];
+        for byte in 0..=u8::MAX {
+            file[place] = byte;
+            let done = run_line(alloc, "check P16L8 f", ("f", &file), (0, 0))?;
+            let is_early_end = byte == 3 && Y1_FILE.as_bytes()[place..].starts_with(b"L0000");
+            let status = if byte == own || is_early_end { 0 } else { 4 };
+            assert_eq!(rt; done.status, status, "{place} {byte}");
+        }
+        file[place] = own;
+    }
+    Ok(())
+}
