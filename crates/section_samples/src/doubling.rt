@@ -1,107 +1,93 @@
 //! The limit of nodes, and constants that double.
 
-use crate::outcomes::{Outcome, found, shape_of};
+use crate::outcomes::{each_row_is_told, shape_of};
 use crate::placed::are_placed;
 use crate::sample_names::names;
-use pld_base::Place;
-use set_expr::{SectionFault, Shape};
+use set_expr::Shape;
 use std::test::Fail;
 
 // s makes 19 nodes, t 199, u 1,999, v 19,999 and w 199,999; each operator between two of them one more.
+const TENS: &str = "\
+s aaaaaaaaaa&&&&&&&&&
+t ssssssssss&&&&&&&&&
+u tttttttttt&&&&&&&&&
+v uuuuuuuuuu&&&&&&&&&
+w vvvvvvvvvv&&&&&&&&&
+";
+
+const AT_THE_LIMIT: &str = "\
+wv&v&v&u&s&s&s&s&s&s&s&a&a&!|Is(Single, 0, 0)
+wv&v&v&u&s&s&s&s&s&s&s&a&a&a&|Refused(NodeLimit(Place { line: 9, column: 1 }))
+";
+
 #[test]
 fn the_limit_at_its_unit(rt: HostRuntime) -> Result<(), Fail> {
-    let names = names(
-        rt.alloc(),
-        &[
-            (b's', b"aaaaaaaaaa&&&&&&&&&"),
-            (b't', b"ssssssssss&&&&&&&&&"),
-            (b'u', b"tttttttttt&&&&&&&&&"),
-            (b'v', b"uuuuuuuuuu&&&&&&&&&"),
-            (b'w', b"vvvvvvvvvv&&&&&&&&&"),
-        ],
-    )?;
-    if !are_placed(&names) {
-        return Err("a name without a leaf".into());
-    }
-    let most = found(rt.alloc(), &names, b"wv&v&v&u&s&s&s&s&s&s&s&a&a&!")?;
-    assert!(rt; most == Outcome::Is(Shape::Single, 0, 0));
-    let more = found(rt.alloc(), &names, b"wv&v&v&u&s&s&s&s&s&s&s&a&a&a&")?;
-    let limit = SectionFault::NodeLimit(Place { line: 9, column: 1 });
-    assert!(rt; more == Outcome::Refused(limit));
-    Ok(())
+    each_row_is_told(rt.alloc(), TENS, AT_THE_LIMIT)
 }
 
 // As a tree the last number has 10 to the power of 7 leaves.
+const NUMBERS: &str = "\
+s 1
+t ssssssssss+++++++++
+u tttttttttt+++++++++
+v uuuuuuuuuu+++++++++
+w vvvvvvvvvv+++++++++
+x wwwwwwwwww+++++++++
+y xxxxxxxxxx+++++++++
+z yyyyyyyyyy+++++++++
+";
+
 #[test]
 fn numbers_that_double_are_known(rt: HostRuntime) -> Result<(), Fail> {
-    let names = names(
-        rt.alloc(),
-        &[
-            (b's', b"1"),
-            (b't', b"ssssssssss+++++++++"),
-            (b'u', b"tttttttttt+++++++++"),
-            (b'v', b"uuuuuuuuuu+++++++++"),
-            (b'w', b"vvvvvvvvvv+++++++++"),
-            (b'x', b"wwwwwwwwww+++++++++"),
-            (b'y', b"xxxxxxxxxx+++++++++"),
-            (b'z', b"yyyyyyyyyy+++++++++"),
-        ],
-    )?;
-    if !are_placed(&names) {
-        return Err("a name without a leaf".into());
+    each_row_is_told(rt.alloc(), NUMBERS, "zz+|Is(Number(20000000), 0, 0)")
+}
+
+// Behind the constant s. As a tree the last constant has 20 to the power of 7 leaves.
+const TWENTIES: &str = "\
+t ssssssssssssssssssss&&&&&&&&&&&&&&&&&&&
+u tttttttttttttttttttt&&&&&&&&&&&&&&&&&&&
+v uuuuuuuuuuuuuuuuuuuu&&&&&&&&&&&&&&&&&&&
+w vvvvvvvvvvvvvvvvvvvv&&&&&&&&&&&&&&&&&&&
+x wwwwwwwwwwwwwwwwwwww&&&&&&&&&&&&&&&&&&&
+y xxxxxxxxxxxxxxxxxxxx&&&&&&&&&&&&&&&&&&&
+z yyyyyyyyyyyyyyyyyyyy&&&&&&&&&&&&&&&&&&&
+";
+
+/// What s stands for, and what z is.
+const FIRST: &str = "\
+s 11=;z|Is(Single, 1, 0)
+s 10[;z|Is(Set(2), 2, 0)
+s X1[2=;z|Is(Single, 0, 0)
+";
+
+#[test]
+fn constants_that_double_are_known(rt: HostRuntime) -> Result<(), Fail> {
+    for case in FIRST.lines() {
+        let Some((first, row)) = case.split_once(';') else {
+            return Err(Fail::new(case));
+        };
+        let constants = format!(in rt.alloc(); "{first}\n{TWENTIES}")?;
+        each_row_is_told(rt.alloc(), constants.as_str(), row)?;
     }
-    let sum = found(rt.alloc(), &names, b"zz+")?;
-    assert!(rt; sum == Outcome::Is(Shape::Number(20_000_000), 0, 0));
     Ok(())
 }
 
-// As a tree the last constant has 20 to the power of 7 leaves.
-#[test]
-fn constants_that_double_are_known(rt: HostRuntime) -> Result<(), Fail> {
-    let rows: [(&[u8], Outcome); 3] = [
-        (b"11=", Outcome::Is(Shape::Single, 1, 0)),
-        (b"10[", Outcome::Is(Shape::Set(2), 2, 0)),
-        (b"X1[2=", Outcome::Is(Shape::Single, 0, 0)),
-    ];
-    for row in rows.as_slice() {
-        let names = names(
-            rt.alloc(),
-            &[
-                (b's', row.0),
-                (b't', b"ssssssssssssssssssss&&&&&&&&&&&&&&&&&&&"),
-                (b'u', b"tttttttttttttttttttt&&&&&&&&&&&&&&&&&&&"),
-                (b'v', b"uuuuuuuuuuuuuuuuuuuu&&&&&&&&&&&&&&&&&&&"),
-                (b'w', b"vvvvvvvvvvvvvvvvvvvv&&&&&&&&&&&&&&&&&&&"),
-                (b'x', b"wwwwwwwwwwwwwwwwwwww&&&&&&&&&&&&&&&&&&&"),
-                (b'y', b"xxxxxxxxxxxxxxxxxxxx&&&&&&&&&&&&&&&&&&&"),
-                (b'z', b"yyyyyyyyyyyyyyyyyyyy&&&&&&&&&&&&&&&&&&&"),
-            ],
-        )?;
-        if !are_placed(&names) {
-            return Err("a name without a leaf".into());
-        }
-        assert!(rt; found(rt.alloc(), &names, b"z")? == row.1);
-    }
-    Ok(())
-}
+const PAIRS: &str = "\
+s ab[
+t ss[
+u tt[
+v uu[
+w vv[
+";
 
 // As a tree the leftmost bit has more than 3 to the power of 30 leaves.
 #[test]
 fn nested_sums_of_32_bits(rt: HostRuntime) -> Result<(), Fail> {
-    let names = names(
-        rt.alloc(),
-        &[
-            (b's', b"ab["),
-            (b't', b"ss["),
-            (b'u', b"tt["),
-            (b'v', b"uu["),
-            (b'w', b"vv["),
-        ],
-    )?;
+    let names = names(rt.alloc(), PAIRS)?;
     if !are_placed(&names) {
         return Err("a name without a leaf".into());
     }
-    let text = b"wwwwwwwwwwwwwwwwwwwwwwwwwwwwwww++++++++++++++++++++++++++++++";
+    let text = "wwwwwwwwwwwwwwwwwwwwwwwwwwwwwww++++++++++++++++++++++++++++++";
     assert!(rt; shape_of(rt.alloc(), &names, text)? == Some(Shape::Set(32)));
     Ok(())
 }

@@ -48,20 +48,20 @@ fn sign_of(token: u8) -> Binary {
 }
 
 /// The expression of a text, on this line.
-pub(crate) fn expression(alloc: Global, line: u32, text: &[u8]) -> Result<Expr, OutOfMemory> {
+pub(crate) fn expression(alloc: Global, line: u32, text: &str) -> Result<Expr, OutOfMemory> {
     let mut made: Vec<Expr> = Vec::new(alloc);
     let mut column = 0u32;
-    for token in text {
+    for token in text.bytes() {
         column = column.saturating_add(1);
         let place = Place { line, column };
-        let next = match *token {
-            b'a'..=b'f' | b's'..=b'z' => name(alloc, *token, place)?,
+        let next = match token {
+            b'a'..=b'f' | b's'..=b'z' => name(alloc, token, place)?,
             b'0'..=b'9' => Expr::Number(Number {
-                value: u32::from(*token) - 48,
+                value: u32::from(token) - 48,
                 place,
             }),
             b'X' | b'C' | b'Z' => Expr::Special {
-                letter: *token,
+                letter: token,
                 place,
             },
             b'!' | b'~' => {
@@ -69,7 +69,7 @@ pub(crate) fn expression(alloc: Global, line: u32, text: &[u8]) -> Result<Expr, 
                     return Err(OutOfMemory);
                 };
                 Expr::Unary {
-                    sign: if *token == b'!' {
+                    sign: if token == b'!' {
                         Unary::Not
                     } else {
                         Unary::Minus
@@ -94,11 +94,11 @@ pub(crate) fn expression(alloc: Global, line: u32, text: &[u8]) -> Result<Expr, 
                 let Some(left) = made.pop() else {
                     return Err(OutOfMemory);
                 };
-                if *token == b'[' {
+                if token == b'[' {
                     pair(alloc, place, left, right)?
                 } else {
                     Expr::Binary {
-                        sign: sign_of(*token),
+                        sign: sign_of(token),
                         place,
                         left: Boxed::new(alloc, left)?,
                         right: Boxed::new(alloc, right)?,

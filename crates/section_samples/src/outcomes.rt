@@ -8,6 +8,8 @@ ghost use Rattle.set_expr.specs.KnownNames.{IsKnown};
 ghost use Rattle.expr_bits.specs.Placed.{ArePlaced};
 
 use crate::expressions::expression;
+use crate::placed::are_placed;
+use crate::sample_names::names;
 use abel_tree::Names;
 use bit_expr::{ExprId, Exprs};
 use expr_bits::bits;
@@ -15,6 +17,7 @@ use pld_base::{OutOfMemory, Point};
 use pld_device::Sample;
 use set_expr::{KnownNames, SectionFault, Shape, known_names};
 use std::alloc::Global;
+use std::test::Fail;
 
 /// Pins 1 and 3 are high, and node 5 is 1.
 const HERE: Point = Point {
@@ -25,7 +28,7 @@ const HERE: Point = Point {
 
 /// The answer for an expression: its shape, its number at that point with 0 at X, and a bit for each X position.
 #[derive(Clone, Copy, Debug, PartialEq, Eq)]
-pub(crate) enum Outcome {
+enum Outcome {
     Is(Shape, u32, u32),
     Refused(SectionFault),
 }
@@ -54,11 +57,11 @@ fn unknown_at(places: &[Option<ExprId>]) -> u32 {
     unknown
 }
 
-pub(crate) fn told(
+fn told(
     alloc: Global,
     names: &Names,
     known: &KnownNames,
-    text: &[u8],
+    text: &str,
 ) -> Result<Outcome, OutOfMemory>
     requires known { IsKnown (entries_of names.now) known.now }
     requires placed { ArePlaced names.now }
@@ -76,19 +79,44 @@ pub(crate) fn told(
     }
 }
 
-/// What one expression is found to be.
-pub(crate) fn found(alloc: Global, names: &Names, text: &[u8]) -> Result<Outcome, OutOfMemory>
-    requires { ArePlaced names.now }
+/// Whether the expression of a row is found to be what stands behind its bar.
+fn is_row_told(
+    alloc: Global,
+    names: &Names,
+    known: &KnownNames,
+    row: &str,
+) -> Result<bool, OutOfMemory>
+    requires known { IsKnown (entries_of names.now) known.now }
+    requires placed { ArePlaced names.now }
 {
-    let known = known_names(alloc, names)?;
-    told(alloc, names, &known, text)
+    let Some((text, wanted)) = row.split_once('|') else {
+        return Ok(false);
+    };
+    let outcome = told(alloc, names, known, text)?;
+    let found = format!(in alloc; "{outcome:?}")?;
+    Ok(found.as_str() == wanted)
+}
+
+/// Each row begins with an expression over these constants, and tells its outcome.
+pub(crate) fn each_row_is_told(alloc: Global, constants: &str, rows: &str) -> Result<(), Fail> {
+    let names = names(alloc, constants)?;
+    if !are_placed(&names) {
+        return Err("a name without a leaf".into());
+    }
+    let known = known_names(alloc, &names)?;
+    for row in rows.lines() {
+        if !is_row_told(alloc, &names, &known, row)? {
+            return Err(Fail::new(row));
+        }
+    }
+    Ok(())
 }
 
 /// The shape of an expression that isn't refused. Its bits are made and not valued, since they share their nodes.
 pub(crate) fn shape_of(
     alloc: Global,
     names: &Names,
-    text: &[u8],
+    text: &str,
 ) -> Result<Option<Shape>, OutOfMemory>
     requires { ArePlaced names.now }
 {
