@@ -15,7 +15,7 @@ pub fn fuses_of(alloc: Global, text: &str, size: usize) -> Result<Fuses, Fail>
     let mut levels = Vec::new(alloc);
     for byte in text.bytes() {
         if byte == b'0' || byte == b'1' {
-            levels.push(byte == b'1').map_err(|_| "memory")?;
+            levels.push(byte == b'1')?;
         }
     }
     if levels.len() != size {
@@ -33,12 +33,12 @@ fn vector_of(line: &[u8]) -> Vector {
     Vector { chars }
 }
 
-/// The vectors of a text, one a line.
-pub fn vectors_of(alloc: Global, text: &[u8]) -> Result<Vec<Vector>, Fail> {
+/// The vectors of a text, with blanks between them.
+pub fn vectors_of(alloc: Global, text: &str) -> Result<Vec<Vector>, Fail> {
     let mut vectors = Vec::new(alloc);
-    for line in text.split(|byte| *byte == b'\n') {
-        if !line.is_empty() {
-            vectors.push(vector_of(line))?;
+    for word in text.split(' ') {
+        if !word.is_empty() {
+            vectors.push(vector_of(word.as_bytes()))?;
         }
     }
     Ok(vectors)
