@@ -7,18 +7,33 @@ use pld_device::Sample;
 use std::alloc::{AllocError, Global};
 use std::test::Fail;
 
-/// Rows of eight columns: reset by pin 2, enable of cell 0 always, its data rows pin 1 and nothing, the row of cell 1
-/// not its own Q and not pin 1, no preset. Past the array stands what is given.
-#[rattlefmt::skip]
-const DRAWN: [bool; 60] = [
-    true, true, true, true, false, true, true, true,
-    true, true, true, true, true, true, true, true,
-    false, true, true, true, true, true, true, true,
-    false, false, false, false, false, false, false, false,
-    true, false, true, true, true, true, true, false,
-    false, false, false, false, false, false, false, false,
-    true, true, true, true, true, true, true, true, true, true, true, true,
-];
+// Rows of eight columns: reset by pin 2, enable of cell 0 always, its data rows pin 1 and nothing, the row of cell 1
+// not its own Q and not pin 1, no preset. Past the array stands what is given.
+const DRAWN: &str = "\
+11110111
+11111111
+01111111
+00000000
+10111110
+00000000
+";
+
+const GIVEN: &str = "111111111111";
+
+/// Whether the fuses are drawn so.
+fn are_drawn(fuses: &[bool], drawn: &str) -> bool {
+    let mut left = fuses.iter();
+    for byte in drawn.as_bytes() {
+        if *byte == b'\n' {
+            continue;
+        }
+        match left.next() {
+            Some(fuse) if *fuse == (*byte == b'1') => {}
+            _ => return false,
+        }
+    }
+    left.next().is_none()
+}
 
 /// The plan that is drawn.
 fn plan(alloc: Global) -> Result<Plan, AllocError> {
@@ -43,15 +58,14 @@ fn a_plan_is_burned_row_by_row(rt: HostRuntime) -> Result<(), Fail> {
     let alloc = rt.alloc();
     let control = vec![in alloc; true; 60]?;
     let fuses = planned_fuses::<Sample>(alloc, &plan(alloc)?, &control)?;
-    assert_eq!(rt; fuses.as_slice(), DRAWN.as_slice());
+    assert!(rt; fuses.len() == 60);
+    let (array, controls) = fuses.as_slice().split_at(48);
+    assert!(rt; are_drawn(array, DRAWN) && are_drawn(controls, GIVEN));
     Ok(())
 }
 
-/// A direct register and an inverted cell: polarities 1 and 0, kind 1, rows 0, 1, 2 and 4 switched on, the fixed fuse 1.
-#[rattlefmt::skip]
-const CONTROLS: [bool; 12] = [
-    true, false, true, true, true, true, false, true, false, true, false, false,
-];
+// A direct register and an inverted cell: polarities 1 and 0, kind 1, rows 0, 1, 2 and 4 switched on, the fixed fuse 1.
+const CONTROLS: &str = "101111010100";
 
 #[test]
 fn control_fuses_say_what_is_asked(rt: HostRuntime) -> Result<(), Fail> {
@@ -69,8 +83,6 @@ fn control_fuses_say_what_is_asked(rt: HostRuntime) -> Result<(), Fail> {
     let fuses = device_fuses::<Sample>(alloc, &plan(alloc)?, &forms)?;
     assert!(rt; fuses.len() == 60);
     let (array, controls) = fuses.as_slice().split_at(48);
-    let (drawn, _past) = DRAWN.as_slice().split_at(48);
-    assert_eq!(rt; array, drawn);
-    assert_eq!(rt; controls, CONTROLS.as_slice());
+    assert!(rt; are_drawn(array, DRAWN) && are_drawn(controls, CONTROLS));
     Ok(())
 }

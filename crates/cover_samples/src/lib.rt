@@ -9,3 +9,5 @@ mod lowered;
 mod minimised;
 #[cfg(test)]
 mod operations;
+#[cfg(test)]
+mod rows;

@@ -11,6 +11,7 @@ use std::alloc::Global;
 use std::test::Fail;
 
 /// A function of some inputs, told by number: input v is bit v of a point.
+#[derive(Drop)]
 enum Function {
     /// 1 where the mask has a bit for the number of inputs that are 1.
     Count(u32),
@@ -119,65 +120,80 @@ fn pushed(pool: &mut CubePool, function: &Function, vars: u8) -> Option<(Range, 
     Some((Range { from, to: middle }, Range { from, to }))
 }
 
-/// What a function is, how many inputs it has, the function, and the least number of rows of a cover of it.
-type Known = (&'static str, u8, Function, usize);
-
+// What a function is, how many inputs it has, its kind, what is told of it, and the least number of rows of a cover of it.
 // The minima were found by an exact minimiser (all primes, exact covering) that is none of ours.
-#[rattlefmt::skip]
-const KNOWN: [Known; 52] = [
-    ("odd parity of 2", 2, Function::Count(0b10), 2),
-    ("odd parity of 3", 3, Function::Count(0b1010), 4),
-    ("odd parity of 4", 4, Function::Count(0b1010), 8),
-    ("odd parity of 5", 5, Function::Count(0b101010), 16),
-    ("odd parity of 6", 6, Function::Count(0b101010), 32),
-    ("odd parity of 7", 7, Function::Count(0b10101010), 64),
-    ("odd parity of 8", 8, Function::Count(0b10101010), 128),
-    ("majority of 3", 3, Function::Count(0b1100), 3),
-    ("majority of 5", 5, Function::Count(0b111000), 10),
-    ("majority of 7", 7, Function::Count(0b11110000), 35),
-    ("at least two of four", 4, Function::Count(0b11100), 6),
-    ("exactly two of four", 4, Function::Count(0b100), 6),
-    ("none or all of five", 5, Function::Count(0b100001), 2),
-    ("one to four of five", 5, Function::Count(0b11110), 5),
-    ("two or three of five", 5, Function::Count(0b1100), 10),
-    ("three or four of six", 6, Function::Count(0b11000), 20),
-    ("at least three of six", 6, Function::Count(0b1111000), 20),
-    ("bit 0 of a sum, 4 inputs", 4, Function::Sum(0), 2),
-    ("bit 1 of a sum, 4 inputs", 4, Function::Sum(1), 6),
-    ("bit 2 of a sum, 4 inputs", 4, Function::Sum(2), 3),
-    ("bit 1 of a sum, 5 inputs", 5, Function::Sum(1), 12),
-    ("bit 2 of a sum, 5 inputs", 5, Function::Sum(2), 7),
-    ("bit 1 of a sum, 6 inputs", 6, Function::Sum(1), 6),
-    ("bit 2 of a sum, 6 inputs", 6, Function::Sum(2), 16),
-    ("bit 3 of a sum, 6 inputs", 6, Function::Sum(3), 7),
-    ("bit 3 of a sum, 7 inputs", 7, Function::Sum(3), 15),
-    ("bit 2 of a sum, 8 inputs", 8, Function::Sum(2), 16),
-    ("bit 4 of a sum, 8 inputs", 8, Function::Sum(4), 15),
-    ("less, 4 inputs", 4, Function::Less, 3),
-    ("less, 6 inputs", 6, Function::Less, 7),
-    ("less, 8 inputs", 8, Function::Less, 15),
-    ("equal, 4 inputs", 4, Function::Equal, 4),
-    ("equal, 6 inputs", 6, Function::Equal, 8),
-    ("equal, 8 inputs", 8, Function::Equal, 16),
-    ("at most, 6 inputs", 6, Function::AtMost, 11),
-    ("bit 1 of a product, 4 inputs", 4, Function::Product(1), 4),
-    ("bit 2 of a product, 4 inputs", 4, Function::Product(2), 2),
-    ("bit 3 of a product, 4 inputs", 4, Function::Product(3), 1),
-    ("bit 2 of a product, 6 inputs", 6, Function::Product(2), 9),
-    ("bit 3 of a product, 6 inputs", 6, Function::Product(3), 10),
-    ("segment a of a digit", 4, Function::Numbers(0x3ed, 0xfc00), 4),
-    ("segment b of a digit", 4, Function::Numbers(0x39f, 0xfc00), 3),
-    ("segment c of a digit", 4, Function::Numbers(0x3fb, 0xfc00), 3),
-    ("segment d of a digit", 4, Function::Numbers(0x36d, 0xfc00), 5),
-    ("segment e of a digit", 4, Function::Numbers(0x145, 0xfc00), 2),
-    ("segment f of a digit", 4, Function::Numbers(0x371, 0xfc00), 4),
-    ("segment g of a digit", 4, Function::Numbers(0x37c, 0xfc00), 4),
-    ("primes below 16", 4, Function::Numbers(0x28ac, 0), 4),
-    ("primes below 64", 6, Function::Numbers(0x28208a20a08a28ac, 0), 11),
-    ("primes of decimal digits", 4, Function::Numbers(0xac, 0xfc00), 2),
-    ("squares below 64", 6, Function::Numbers(0x2001002010213, 0), 5),
-    ("multiples of three below 20", 5, Function::Numbers(0x49249, 0xfff00000), 7),
-];
+const KNOWN: &str = "\
+odd parity of 2|2|count|10|2
+odd parity of 3|3|count|1010|4
+odd parity of 4|4|count|1010|8
+odd parity of 5|5|count|101010|16
+odd parity of 6|6|count|101010|32
+odd parity of 7|7|count|10101010|64
+odd parity of 8|8|count|10101010|128
+majority of 3|3|count|1100|3
+majority of 5|5|count|111000|10
+majority of 7|7|count|11110000|35
+at least two of four|4|count|11100|6
+exactly two of four|4|count|100|6
+none or all of five|5|count|100001|2
+one to four of five|5|count|11110|5
+two or three of five|5|count|1100|10
+three or four of six|6|count|11000|20
+at least three of six|6|count|1111000|20
+bit 0 of a sum, 4 inputs|4|sum|0|2
+bit 1 of a sum, 4 inputs|4|sum|1|6
+bit 2 of a sum, 4 inputs|4|sum|2|3
+bit 1 of a sum, 5 inputs|5|sum|1|12
+bit 2 of a sum, 5 inputs|5|sum|2|7
+bit 1 of a sum, 6 inputs|6|sum|1|6
+bit 2 of a sum, 6 inputs|6|sum|2|16
+bit 3 of a sum, 6 inputs|6|sum|3|7
+bit 3 of a sum, 7 inputs|7|sum|3|15
+bit 2 of a sum, 8 inputs|8|sum|2|16
+bit 4 of a sum, 8 inputs|8|sum|4|15
+less, 4 inputs|4|less||3
+less, 6 inputs|6|less||7
+less, 8 inputs|8|less||15
+equal, 4 inputs|4|equal||4
+equal, 6 inputs|6|equal||8
+equal, 8 inputs|8|equal||16
+at most, 6 inputs|6|at most||11
+bit 1 of a product, 4 inputs|4|product|1|4
+bit 2 of a product, 4 inputs|4|product|2|2
+bit 3 of a product, 4 inputs|4|product|3|1
+bit 2 of a product, 6 inputs|6|product|2|9
+bit 3 of a product, 6 inputs|6|product|3|10
+segment a of a digit|4|numbers|3ed fc00|4
+segment b of a digit|4|numbers|39f fc00|3
+segment c of a digit|4|numbers|3fb fc00|3
+segment d of a digit|4|numbers|36d fc00|5
+segment e of a digit|4|numbers|145 fc00|2
+segment f of a digit|4|numbers|371 fc00|4
+segment g of a digit|4|numbers|37c fc00|4
+primes below 16|4|numbers|28ac 0|4
+primes below 64|6|numbers|28208a20a08a28ac 0|11
+primes of decimal digits|4|numbers|ac fc00|2
+squares below 64|6|numbers|2001002010213 0|5
+multiples of three below 20|5|numbers|49249 fff00000|7
+";
+
+/// A function of a kind: a count's mask is told in binary, a bit in decimal, the two masks of points in hexadecimal.
+fn function_of(kind: &str, told: &str) -> Option<Function> {
+    match kind {
+        "count" => Some(Function::Count(u32::from_str_radix(told, 2).ok()?)),
+        "sum" => Some(Function::Sum(told.parse::<u8>().ok()?)),
+        "product" => Some(Function::Product(told.parse::<u8>().ok()?)),
+        "less" => Some(Function::Less),
+        "at most" => Some(Function::AtMost),
+        "equal" => Some(Function::Equal),
+        "numbers" => {
+            let (ones, either) = told.split_once(' ')?;
+            let ones = u64::from_str_radix(ones, 16).ok()?;
+            Some(Function::Numbers(ones, u64::from_str_radix(either, 16).ok()?))
+        }
+        _ => None,
+    }
+}
 
 /// The rows of a minimised function; None where there is no room for the call.
 fn rows_of(alloc: Global, function: &Function, vars: u8) -> Option<usize>
@@ -193,17 +209,29 @@ fn rows_of(alloc: Global, function: &Function, vars: u8) -> Option<usize>
     Some(rows.to - rows.from)
 }
 
+/// How many rows a function's cover has past the least number; None where it has fewer, or its row can't be read.
+fn rows_past(alloc: Global, known: &str) -> Option<usize> {
+    let (_what, known) = known.split_once('|')?;
+    let (vars, known) = known.split_once('|')?;
+    let (kind, known) = known.split_once('|')?;
+    let (told, least) = known.split_once('|')?;
+    let vars = vars.parse::<u8>().ok()?;
+    if vars > 8 {
+        return None;
+    }
+    let function = function_of(kind, told)?;
+    let rows = rows_of(alloc, &function, vars)?;
+    rows.checked_sub(least.parse::<usize>().ok()?)
+}
+
 #[test]
 fn covers_of_known_functions_are_near_their_minima(rt: HostRuntime) -> Result<(), Fail> {
     let mut over = 0;
-    for (name, vars, function, least) in &KNOWN {
-        if *vars > 8 {
-            return Err("too many inputs".into());
-        }
-        let rows = rows_of(rt.alloc(), function, *vars).ok_or("the room")?;
-        assert!(rt; rows >= *least && rows - *least <= 1, "{name}: {rows} rows");
-        if rows > *least {
-            over = 1u32.saturating_add(over);
+    for known in KNOWN.lines() {
+        match rows_past(rt.alloc(), known) {
+            Some(0) => {}
+            Some(1) => over = 1u32.saturating_add(over),
+            _ => return Err(Fail::new(known)),
         }
     }
     assert!(rt; over <= 2, "{over} covers are past their minima");
@@ -229,7 +257,7 @@ fn push_equal(pool: &mut CubePool) -> bool
 
 #[test]
 fn products_of_ten_comparisons_are_all_kept(rt: HostRuntime) -> Result<(), Fail> {
-    let mut pool = CubePool::with_room(rt.alloc(), 49_152).map_err(|_| "memory")?;
+    let mut pool = CubePool::with_room(rt.alloc(), 49_152)?;
     let from = pool.len();
     if !push_equal(&mut pool) {
         return Err("the room".into());
