@@ -1,41 +1,39 @@
 //! Texts with macros without parameters, and what they expand to.
 
-use crate::tests::Row;
-
-#[rattlefmt::skip]
-pub const MACROS: [Row; 34] = [
-    (b"m MACRO {a b};m m", b"a b a b"),
-    (b"m MACRO {a} m", b" a"),
-    (b"m MACRO {a}\n;m", b"\na"),
-    (b"m MACRO {a} \n ;m", b"\na"),
-    (b"m MACRO {a}\nm", b"\na"),
-    (b"m\nMACRO\n{\n}\n;m", b"\n\n\n\n\n"),
-    (b"m \"x\" MACRO \"y\" {a} \"z\" ; m", b" a"),
-    (b"m//x\nMACRO {a};m", b"\na"),
-    (b"m MACRO {{a}};m", b"{a}"),
-    (b"m MACRO {{{}}};m", b"{{}}"),
-    (b"m MACRO {'}'};m", b"'}'"),
-    (b"m MACRO {a\"}\"b};m", b"a b"),
-    (b"m MACRO {a//}\n};m", b"\na \n"),
-    (b"m MACRO {'\\'}'};m", b"'\\'}'"),
-    (b"m MACRO {'no};x'};m", b"'no};x'"),
-    (b"m macro {a};M m", b"M a"),
-    (b"m MACRO {a};m MACRO {b};m", b"b"),
-    (b"m MACRO {n};n MACRO {1};m", b"1"),
-    (b"q MACRO {r MACRO {2};};q r", b" 2"),
-    (b"m MACRO {@IF 1};m {a}", b"a"),
-    (b"m MACRO {@IF};m 1 {a}", b"a"),
-    (b"d MACRO {k MACRO};d {v};k", b"v"),
-    (b"MACRO MACRO {a};MACRO", b"a"),
-    (b"end MACRO {x};end", b"x"),
-    (b"; MACRO {a}", b"; MACRO {a}"),
-    (b"m MACRO {F};a.m", b"a.m"),
-    (b"m MACRO {F};1m ^hm", b"1m ^hm"),
-    (b"m MACRO {F};?m", b"?F"),
-    (b"m MACRO {F};a~m m~", b"a~m m~"),
-    (b"m MACRO {F};'m' \"m\" m", b"'m'   F"),
-    (b"abcdefghijklmnopqrstuvwxyz012345 MACRO {a};abcdefghijklmnopqrstuvwxyz012345", b"a"),
-    (b"m MACRO {};a m b", b"a  b"),
-    (b"m MACRO {a};m\x1am", b"a\x1aa"),
-    (b"m MACRO {a\r\n};m", b"\na\r\n"),
-];
+/// A text in each line, and behind a bar what it expands to; a backtick stands for a line feed.
+pub const MACROS: &str = "\
+m MACRO {a b};m m|a b a b
+m MACRO {a} m| a
+m MACRO {a}`;m|`a
+m MACRO {a} ` ;m|`a
+m MACRO {a}`m|`a
+m`MACRO`{`}`;m|`````
+m \"x\" MACRO \"y\" {a} \"z\" ; m| a
+m//x`MACRO {a};m|`a
+m MACRO {{a}};m|{a}
+m MACRO {{{}}};m|{{}}
+m MACRO {'}'};m|'}'
+m MACRO {a\"}\"b};m|a b
+m MACRO {a//}`};m|`a `
+m MACRO {'\\'}'};m|'\\'}'
+m MACRO {'no};x'};m|'no};x'
+m macro {a};M m|M a
+m MACRO {a};m MACRO {b};m|b
+m MACRO {n};n MACRO {1};m|1
+q MACRO {r MACRO {2};};q r| 2
+m MACRO {@IF 1};m {a}|a
+m MACRO {@IF};m 1 {a}|a
+d MACRO {k MACRO};d {v};k|v
+MACRO MACRO {a};MACRO|a
+end MACRO {x};end|x
+; MACRO {a}|; MACRO {a}
+m MACRO {F};a.m|a.m
+m MACRO {F};1m ^hm|1m ^hm
+m MACRO {F};?m|?F
+m MACRO {F};a~m m~|a~m m~
+m MACRO {F};'m' \"m\" m|'m'   F
+abcdefghijklmnopqrstuvwxyz012345 MACRO {a};abcdefghijklmnopqrstuvwxyz012345|a
+m MACRO {};a m b|a  b
+m MACRO {a};m\x1am|a\x1aa
+m MACRO {a\r`};m|`a\r`
+";

@@ -1,51 +1,49 @@
 //! The examples of docs/LANGUAGE.md, Expansion, in its order.
 
-use crate::tests::Row;
-
-#[rattlefmt::skip]
-pub const PAGE: [Row; 44] = [
-    (b"a\"note\"b", b"a b"),
-    (b"a//note\nb", b"a \nb"),
-    (b"'a\"b'", b"'a\"b'"),
-    (b"a.OE = ^hF;", b"a.OE = ^hF;"),
-    (b"m MACRO {{a}};m", b"{a}"),
-    (b"m MACRO {'}' \"}\"};m", b"'}'  "),
-    (b"m MACRO {x # y};m", b"x # y"),
-    (b"m MACRO {a};m MACRO {b};m", b"b"),
-    (b"inv MACRO (n) {Y?n = !A?n;};inv(0)", b"Y0 = !A0;"),
-    (b"p MACRO (x) {Y?x};p(1)9", b"Y19"),
-    (b"p MACRO (x) {?x ?y};p(1)", b"1 ?y"),
-    (b"both MACRO (x,y) {(?x & ?y)};both(a # b, f(c,d))", b"(a # b & f(c,d))"),
-    (b"twice MACRO (x) {?x?x};twice()", b""),
-    (b"m MACRO {1,2};p MACRO (x) {[?x]};p(m)", b"[1,2]"),
-    (b"@CONST n = 2 + 3;@EXPR n;", b"5"),
-    (b"@CONST n = 5;@CONST n = n * n;@EXPR n;", b"25"),
-    (b"@CONST n = 5;n", b"n"),
-    (b"@DCSET @ONSET", b"@DCSET @ONSET"),
-    (b"@EXPR {q} 2+3;", b"q5"),
-    (b"@EXPR {q} 2+3;1", b"q51"),
-    (b"@RADIX 16;@EXPR 0F + 0F;", b"@RADIX 16;1E"),
-    (b"@CONST n = 5;@IF n > 4 {big}", b"big"),
-    (b"@CONST n = 4;@IF n > 4 {big}", b""),
-    (b"@CONST n = 5;@IFDEF n {known}", b"known"),
-    (b"@CONST n = 5;@IFNDEF n {new}", b""),
-    (b"@IRP i (0,1) {b?i,}", b"b0,b1,"),
-    (b"inv MACRO (n) {Y?n = !A?n;};@IRP i (0,1) {inv(?i)}", b"Y0 = !A0;Y1 = !A1;"),
-    (b"@RADIX 16;@EXPR 0F + 1;", b"@RADIX 16;10"),
-    (b"@RADIX \"two\" 2;", b"@RADIX   2;"),
-    (b"@REPEAT 3 {!}", b"!!!"),
-    (b"@REPEAT 0 {a}", b""),
-    (b"@EXPR -1;", b"4294967295"),
-    (b"@EXPR !0 >> 28;", b"15"),
-    (b"@EXPR 5 & 3 # 8;", b"9"),
-    (b"@EXPR 1 << 4;", b"16"),
-    (b"@EXPR 3 * 4;", b"12"),
-    (b"@EXPR 7 / 2;", b"3"),
-    (b"@EXPR 7 % 4;", b"3"),
-    (b"@EXPR 1 + 2 * 3;", b"7"),
-    (b"@EXPR 8 - 4 - 2;", b"2"),
-    (b"@EXPR 6 $ 3;", b"5"),
-    (b"@EXPR 6 !$ 3 & 7;", b"4294967290"),
-    (b"@EXPR (2 < 3) + 1;", b"2"),
-    (b"@EXPR 2 == 3;", b"0"),
-];
+/// A text in each line, and behind a bar what it expands to; a backtick stands for a line feed.
+pub const PAGE: &str = "\
+a\"note\"b|a b
+a//note`b|a `b
+'a\"b'|'a\"b'
+a.OE = ^hF;|a.OE = ^hF;
+m MACRO {{a}};m|{a}
+m MACRO {'}' \"}\"};m|'}' \x20
+m MACRO {x # y};m|x # y
+m MACRO {a};m MACRO {b};m|b
+inv MACRO (n) {Y?n = !A?n;};inv(0)|Y0 = !A0;
+p MACRO (x) {Y?x};p(1)9|Y19
+p MACRO (x) {?x ?y};p(1)|1 ?y
+both MACRO (x,y) {(?x & ?y)};both(a # b, f(c,d))|(a # b & f(c,d))
+twice MACRO (x) {?x?x};twice()|
+m MACRO {1,2};p MACRO (x) {[?x]};p(m)|[1,2]
+@CONST n = 2 + 3;@EXPR n;|5
+@CONST n = 5;@CONST n = n * n;@EXPR n;|25
+@CONST n = 5;n|n
+@DCSET @ONSET|@DCSET @ONSET
+@EXPR {q} 2+3;|q5
+@EXPR {q} 2+3;1|q51
+@RADIX 16;@EXPR 0F + 0F;|@RADIX 16;1E
+@CONST n = 5;@IF n > 4 {big}|big
+@CONST n = 4;@IF n > 4 {big}|
+@CONST n = 5;@IFDEF n {known}|known
+@CONST n = 5;@IFNDEF n {new}|
+@IRP i (0,1) {b?i,}|b0,b1,
+inv MACRO (n) {Y?n = !A?n;};@IRP i (0,1) {inv(?i)}|Y0 = !A0;Y1 = !A1;
+@RADIX 16;@EXPR 0F + 1;|@RADIX 16;10
+@RADIX \"two\" 2;|@RADIX   2;
+@REPEAT 3 {!}|!!!
+@REPEAT 0 {a}|
+@EXPR -1;|4294967295
+@EXPR !0 >> 28;|15
+@EXPR 5 & 3 # 8;|9
+@EXPR 1 << 4;|16
+@EXPR 3 * 4;|12
+@EXPR 7 / 2;|3
+@EXPR 7 % 4;|3
+@EXPR 1 + 2 * 3;|7
+@EXPR 8 - 4 - 2;|2
+@EXPR 6 $ 3;|5
+@EXPR 6 !$ 3 & 7;|4294967290
+@EXPR (2 < 3) + 1;|2
+@EXPR 2 == 3;|0
+";

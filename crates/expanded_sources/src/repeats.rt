@@ -1,55 +1,53 @@
 //! Texts with repeats, values, radices and don't-care sets, and what they expand to.
 
-use crate::tests::Row;
-
-#[rattlefmt::skip]
-pub const REPEATS: [Row; 48] = [
-    (b"@IRP i (0,1) {a?i;}", b"a0;a1;"),
-    (b"@IRP i () {a?i;}", b"a;"),
-    (b"@IRP i (,) {x?i}", b"xx"),
-    (b"@IRP i ((1,2),[3,4]) {?i;}", b"(1,2);[3,4];"),
-    (b"@IRP i ('a,b',\"note\"c) {?i;}", b"'a,b'; c;"),
-    (b"@IRP i (0,1) {@IRP j (a,b) {?j-?i }}", b"a-0 b-0 a-1 b-1 "),
-    (b"@IRP i (0,1) {@IRP j (a,b) {?j?i }}", b"?j0 ?j0 ?j1 ?j1 "),
-    (b"@IRP i (1) {?i}9", b"19"),
-    (b"@irp i ( a , b ) {?i}", b"ab"),
-    (b"@IRP i (1,2) {?x}", b"?x?x"),
-    (b"inv MACRO (n) {Y?n = !A?n;};@IRP i (0,1) {inv(?i)}", b"Y0 = !A0;Y1 = !A1;"),
-    (b"@REPEAT 3 {ab}", b"ababab"),
-    (b"@REPEAT 0 {a}", b""),
-    (b"@REPEAT 4294967295 {}", b""),
-    (b"@REPEAT 2 {@REPEAT 2 {a}b}", b"aabaab"),
-    (b"@REPEAT 1+1 {a}", b"aa"),
-    (b"@REPEAT 2 {m MACRO {1};}m", b"1"),
-    (b"@REPEAT 1 {a}b", b"ab"),
-    (b"@REPEAT 2 {a\"note\"}", b"a a "),
-    (b"@EXPR {q} 2+3;", b"q5"),
-    (b"@EXPR {q} 2+3;1", b"q51"),
-    (b"@EXPR 0;", b"0"),
-    (b"@EXPR 4294967295;", b"4294967295"),
-    (b"@EXPR 4294967295+1;", b"0"),
-    (b"@EXPR 0-1;", b"4294967295"),
-    (b"@EXPR ^hff; @EXPR ^B101; @EXPR ^o17; @EXPR ^d9;", b"255 5 15 9"),
-    (b"@EXPR {} 1;", b"1"),
-    (b"@EXPR {{a}} 1;", b"{a}1"),
-    (b"m MACRO {n};@EXPR {m} 1;", b"m1"),
-    (b"m MACRO {n};@EXPR {m } 1;", b"n 1"),
-    (b"@EXPR 2+3*4;", b"14"),
-    (b"@EXPR 1<2;", b"1"),
-    (b"@EXPR 2<1;", b"0"),
-    (b"@RADIX 16;@EXPR 0FF;", b"@RADIX 16;FF"),
-    (b"@RADIX 16;@EXPR 2F+1;", b"@RADIX 16;30"),
-    (b"@RADIX 2;@EXPR 101+1;", b"@RADIX 2;110"),
-    (b"@RADIX 8;@EXPR 7+1;", b"@RADIX 8;10"),
-    (b"@RADIX \"two\" 2; 101", b"@RADIX   2; 101"),
-    (b"@radix//x\n2;@EXPR 1+1;", b"@radix \n2;10"),
-    (b"@RADIX 16;@RADIX 0A;@EXPR 12;", b"@RADIX 16;@RADIX 0A;12"),
-    (b"@RADIX ^h10;@EXPR 10;", b"@RADIX ^h10;10"),
-    (b"h MACRO {@RADIX 16;};@EXPR 8+8; h@EXPR 8+8;", b"16 @RADIX 16;10"),
-    (b"@RADIX 2;@IF 10==^d2 {a}", b"@RADIX 2;a"),
-    (b"@RADIX 16;@CONST n=0a;@RADIX 0a;@EXPR n;", b"@RADIX 16;@RADIX 0a;10"),
-    (b"@RADIX 16;@REPEAT 0A {b}", b"@RADIX 16;bbbbbbbbbb"),
-    (b"@DCSET @ONSET @dcset;", b"@DCSET @ONSET @dcset;"),
-    (b"@IRP i ([1) {?i}", b"[1"),
-    (b"@EXPR ((((((((((((((((((((((((((((((((((((((((((((((((((((((((((((((((1))))))))))))))))))))))))))))))))))))))))))))))))))))))))))))))));", b"1"),
-];
+/// A text in each line, and behind a bar what it expands to; a backtick stands for a line feed.
+pub const REPEATS: &str = "\
+@IRP i (0,1) {a?i;}|a0;a1;
+@IRP i () {a?i;}|a;
+@IRP i (,) {x?i}|xx
+@IRP i ((1,2),[3,4]) {?i;}|(1,2);[3,4];
+@IRP i ('a,b',\"note\"c) {?i;}|'a,b'; c;
+@IRP i (0,1) {@IRP j (a,b) {?j-?i }}|a-0 b-0 a-1 b-1\x20
+@IRP i (0,1) {@IRP j (a,b) {?j?i }}|?j0 ?j0 ?j1 ?j1\x20
+@IRP i (1) {?i}9|19
+@irp i ( a , b ) {?i}|ab
+@IRP i (1,2) {?x}|?x?x
+inv MACRO (n) {Y?n = !A?n;};@IRP i (0,1) {inv(?i)}|Y0 = !A0;Y1 = !A1;
+@REPEAT 3 {ab}|ababab
+@REPEAT 0 {a}|
+@REPEAT 4294967295 {}|
+@REPEAT 2 {@REPEAT 2 {a}b}|aabaab
+@REPEAT 1+1 {a}|aa
+@REPEAT 2 {m MACRO {1};}m|1
+@REPEAT 1 {a}b|ab
+@REPEAT 2 {a\"note\"}|a a\x20
+@EXPR {q} 2+3;|q5
+@EXPR {q} 2+3;1|q51
+@EXPR 0;|0
+@EXPR 4294967295;|4294967295
+@EXPR 4294967295+1;|0
+@EXPR 0-1;|4294967295
+@EXPR ^hff; @EXPR ^B101; @EXPR ^o17; @EXPR ^d9;|255 5 15 9
+@EXPR {} 1;|1
+@EXPR {{a}} 1;|{a}1
+m MACRO {n};@EXPR {m} 1;|m1
+m MACRO {n};@EXPR {m } 1;|n 1
+@EXPR 2+3*4;|14
+@EXPR 1<2;|1
+@EXPR 2<1;|0
+@RADIX 16;@EXPR 0FF;|@RADIX 16;FF
+@RADIX 16;@EXPR 2F+1;|@RADIX 16;30
+@RADIX 2;@EXPR 101+1;|@RADIX 2;110
+@RADIX 8;@EXPR 7+1;|@RADIX 8;10
+@RADIX \"two\" 2; 101|@RADIX   2; 101
+@radix//x`2;@EXPR 1+1;|@radix `2;10
+@RADIX 16;@RADIX 0A;@EXPR 12;|@RADIX 16;@RADIX 0A;12
+@RADIX ^h10;@EXPR 10;|@RADIX ^h10;10
+h MACRO {@RADIX 16;};@EXPR 8+8; h@EXPR 8+8;|16 @RADIX 16;10
+@RADIX 2;@IF 10==^d2 {a}|@RADIX 2;a
+@RADIX 16;@CONST n=0a;@RADIX 0a;@EXPR n;|@RADIX 16;@RADIX 0a;10
+@RADIX 16;@REPEAT 0A {b}|@RADIX 16;bbbbbbbbbb
+@DCSET @ONSET @dcset;|@DCSET @ONSET @dcset;
+@IRP i ([1) {?i}|[1
+@EXPR ((((((((((((((((((((((((((((((((((((((((((((((((((((((((((((((((1))))))))))))))))))))))))))))))))))))))))))))))))))))))))))))))));|1
+";

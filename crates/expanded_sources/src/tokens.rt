@@ -1,57 +1,84 @@
-use abel_lexer::{ScanFault, TokenKind, scan};
-use pld_base::Place;
+use crate::tests::place_text;
+use abel_lexer::{ScanFault, Token, scan};
+use std::alloc::Global;
 use std::test::Fail;
 
-/// A token: its kind, its text and its value.
-type Told = (TokenKind, &'static [u8], u32);
+// The examples of docs/LANGUAGE.md, Tokens, in its order, and the tokens that they are cut into: the kind, the
+// text and the value of each.
+const CUT: &str = "\
+nROM_1|Identifier nROM_1 0;
+Truth_Table|Keyword Truth_Table 0;
+16|Number 16 16;
+@RADIX 16; 16|Number 16 22;
+^hFFFFFFFF|Number ^hFFFFFFFF 4294967295;
+.c.|Special .c. 0;
+q.clk|Identifier q 0;Extension .clk 0;
+'it\\'s'|Text 'it\\'s' 0;
+a..b|Identifier a 0;Sign .. 0;Identifier b 0;
+@dcset|Directive @dcset 0;
+@RADIX 16; 1F @RADIX 0A; 12|Number 1F 31;Number 12 12;
+a.OE..|Identifier a 0;Extension .OE 0;Sign .. 0;
+..~b|Sign .. 0;Identifier ~b 0;
+";
 
-// The examples of docs/LANGUAGE.md, Tokens, in its order, and the tokens that they are cut into.
-#[rattlefmt::skip]
-const CUT: [(&[u8], &[Told]); 13] = [
-    (b"nROM_1", &[(TokenKind::Identifier, b"nROM_1", 0)]),
-    (b"Truth_Table", &[(TokenKind::Keyword, b"Truth_Table", 0)]),
-    (b"16", &[(TokenKind::Number, b"16", 16)]),
-    (b"@RADIX 16; 16", &[(TokenKind::Number, b"16", 22)]),
-    (b"^hFFFFFFFF", &[(TokenKind::Number, b"^hFFFFFFFF", 4_294_967_295)]),
-    (b".c.", &[(TokenKind::Special, b".c.", 0)]),
-    (b"q.clk", &[(TokenKind::Identifier, b"q", 0), (TokenKind::Extension, b".clk", 0)]),
-    (b"'it\\'s'", &[(TokenKind::Text, b"'it\\'s'", 0)]),
-    (b"a..b", &[(TokenKind::Identifier, b"a", 0), (TokenKind::Sign, b"..", 0), (TokenKind::Identifier, b"b", 0)]),
-    (b"@dcset", &[(TokenKind::Directive, b"@dcset", 0)]),
-    (b"@RADIX 16; 1F @RADIX 0A; 12", &[(TokenKind::Number, b"1F", 31), (TokenKind::Number, b"12", 12)]),
-    (b"a.OE..", &[(TokenKind::Identifier, b"a", 0), (TokenKind::Extension, b".OE", 0), (TokenKind::Sign, b"..", 0)]),
-    (b"..~b", &[(TokenKind::Sign, b"..", 0), (TokenKind::Identifier, b"~b", 0)]),
-];
+/// The tokens as a text.
+fn tokens_text(alloc: Global, tokens: &[Token]) -> Result<String, Fail> {
+    let mut text = String::new(alloc);
+    for token in tokens {
+        text.push_str(format!(in alloc; "{:?} ", token.kind)?.as_str())?;
+        for byte in token.text.bytes() {
+            text.push(char::from(*byte))?;
+        }
+        text.push_str(format!(in alloc; " {};", token.value)?.as_str())?;
+    }
+    Ok(text)
+}
+
+/// Whether the text of a row is cut into its tokens.
+fn is_cut(alloc: Global, row: &str) -> Result<bool, Fail> {
+    let (text, wanted) = row.split_once('|').ok_or("no bar")?;
+    if text.len() > 1_000 {
+        return Ok(false);
+    }
+    let tokens = scan(alloc, text.as_bytes())?;
+    let found = tokens_text(alloc, tokens.as_slice())?;
+    Ok(found.as_str() == wanted)
+}
 
 #[test]
 fn the_tokens_of_the_language_page(rt: HostRuntime) -> Result<(), Fail> {
-    for (text, row) in CUT {
-        assert!(rt; text.len() <= 1_048_576);
-        let tokens = scan(rt.alloc(), text)?;
-        assert_eq!(rt; tokens.len(), row.len(), "{text:?}");
-        for (token, told) in tokens.iter().zip(row.iter()) {
-            let (kind, bytes, value) = *told;
-            assert_eq!(rt; token.kind, kind, "{text:?}");
-            assert!(rt; token.text.bytes() == bytes, "{text:?}");
-            assert_eq!(rt; token.value, value, "{text:?}");
+    for row in CUT.lines() {
+        if !is_cut(rt.alloc(), row)? {
+            return Err(Fail::new(row));
         }
     }
     Ok(())
 }
 
-// The examples of refused tokens, and the column where each begins.
-const REFUSED: [(&[u8], u32); 3] = [(b".SV1.", 1), (b"a.Q..b", 2), (b"...b", 3)];
+// The examples of refused tokens, and the place where each begins.
+const REFUSED: &str = "\
+.SV1.|1:1
+a.Q..b|1:2
+...b|1:3
+";
+
+/// Whether the text of a row is refused at its place.
+fn is_unsupported(alloc: Global, row: &str) -> Result<bool, Fail> {
+    let (text, wanted) = row.split_once('|').ok_or("no bar")?;
+    if text.len() > 1_000 {
+        return Ok(false);
+    }
+    match scan(alloc, text.as_bytes()) {
+        Err(ScanFault::Unsupported(place)) => Ok(place_text(alloc, place)?.as_str() == wanted),
+        _ => Ok(false),
+    }
+}
 
 #[test]
 fn the_longest_token_may_be_refused(rt: HostRuntime) -> Result<(), Fail> {
-    for (text, column) in REFUSED {
-        assert!(rt; text.len() <= 1_048_576);
-        match scan(rt.alloc(), text) {
-            Ok(_tokens) => assert!(rt; false, "{text:?}"),
-            Err(found) => {
-                let fault = ScanFault::Unsupported(Place { line: 1, column });
-                assert!(rt; found == fault, "{text:?}");
-            }
+    for row in REFUSED.lines() {
+        if !is_unsupported(rt.alloc(), row)? {
+            return Err(Fail::new(row));
         }
     }
     Ok(())
