@@ -44,28 +44,44 @@ fn declared(alloc: Global, module: &Module) -> Result<Names, NameFault> {
     }
 }
 
+/// Whether the declarations of a row name its device.
+fn is_named(alloc: Global, row: &str) -> Result<bool, Fail> {
+    let (declarations, wanted) = row.split_once(" => ").ok_or("no arrow")?;
+    let source = format!(in alloc; "module m {declarations} end")?;
+    let module = parsed(alloc, source.as_bytes())?;
+    match device_of(&module) {
+        Ok(name) => Ok(format!(in alloc; "{name:?}")?.as_str() == wanted),
+        Err(_) => Ok(false),
+    }
+}
+
 #[test]
 fn devices_are_named_without_regard_to_case(rt: HostRuntime) -> Result<(), Fail> {
-    let alloc = rt.alloc();
-    for (declarations, expected) in devices::NAMED {
-        let source = format!(in alloc; "module m {declarations} end")?;
-        let module = parsed(alloc, source.as_bytes())?;
-        assert_eq!(rt; device_of(&module).ok(), Some(expected), "{declarations}");
+    for row in devices::NAMED.lines() {
+        if !is_named(rt.alloc(), row)? {
+            return Err(Fail::new(row));
+        }
     }
     Ok(())
 }
 
+/// Whether a source has at its mark no device that is built.
+fn is_unknown(alloc: Global, marked: &str) -> Result<bool, Fail> {
+    let (before, back) = marked.split_once('|').ok_or("no mark")?;
+    let source = format!(in alloc; "{before}{back}")?;
+    let module = parsed(alloc, source.as_bytes())?;
+    match device_of(&module) {
+        Err(NameFault::UnknownDevice(place)) => Ok(place == behind(before.len())),
+        _ => Ok(false),
+    }
+}
+
 #[test]
 fn sources_without_a_device_are_refused(rt: HostRuntime) -> Result<(), Fail> {
-    let alloc = rt.alloc();
-    for marked in devices::UNKNOWN {
-        let (before, back) = marked.split_once('|').ok_or("no mark")?;
-        let source = format!(in alloc; "{before}{back}")?;
-        let module = parsed(alloc, source.as_bytes())?;
-        let Err(NameFault::UnknownDevice(place)) = device_of(&module) else {
-            return Err("no refusal".into());
-        };
-        assert_eq!(rt; place, behind(before.len()), "{marked}");
+    for marked in devices::UNKNOWN.lines() {
+        if !is_unknown(rt.alloc(), marked)? {
+            return Err(Fail::new(marked));
+        }
     }
     Ok(())
 }
@@ -125,10 +141,12 @@ fn front(alloc: Global, device: &str) -> Result<String, Fail> {
 }
 
 /// Whether the source of a row declares its names.
-fn is_declared(alloc: Global, row: &accepted::Row) -> Result<bool, Fail> {
-    let front = front(alloc, row.0)?;
-    let source = format!(in alloc; "{front}{} end", row.1)?;
-    let expected = format!(in alloc; "u device; {}", row.2)?;
+fn is_declared(alloc: Global, row: &str) -> Result<bool, Fail> {
+    let (device, row) = row.split_once(' ').ok_or("no device")?;
+    let (declarations, names) = row.split_once(" =>").ok_or("no arrow")?;
+    let front = front(alloc, device)?;
+    let source = format!(in alloc; "{front}{declarations} end")?;
+    let expected = format!(in alloc; "u device;{names} ")?;
     let module = parsed(alloc, source.as_bytes())?;
     match declared(alloc, &module) {
         Ok(names) => Ok(names_text(alloc, &names)?.as_str() == expected.as_str()),
@@ -136,15 +154,22 @@ fn is_declared(alloc: Global, row: &accepted::Row) -> Result<bool, Fail> {
     }
 }
 
-#[test]
-fn names_are_declared(rt: HostRuntime) -> Result<(), Fail> {
-    for rows in accepted::rows() {
-        for row in rows {
-            let declared = is_declared(rt.alloc(), row)?;
-            assert!(rt; declared, "{} {}", row.0, row.1);
+/// Each row declares its names.
+fn each_is_declared(alloc: Global, rows: &str) -> Result<(), Fail> {
+    for row in rows.lines() {
+        if !is_declared(alloc, row)? {
+            return Err(Fail::new(row));
         }
     }
     Ok(())
+}
+
+#[test]
+fn names_are_declared(rt: HostRuntime) -> Result<(), Fail> {
+    let alloc = rt.alloc();
+    each_is_declared(alloc, accepted::DECLARED)?;
+    each_is_declared(alloc, accepted::ASSIGNED)?;
+    each_is_declared(alloc, accepted::DESIGNS)
 }
 
 /// Whether a fault is the one that a row says, at this place.
@@ -163,36 +188,39 @@ fn is_expected(fault: &NameFault, expected: &str, place: Place) -> bool {
 }
 
 /// Whether the source of a row is refused as the row says, at its mark.
-fn is_refused(alloc: Global, row: &rejected::Row) -> Result<bool, Fail> {
-    let front = front(alloc, row.0)?;
-    let (before, back) = row.1.split_once('|').ok_or("no mark")?;
+fn is_refused(alloc: Global, row: &str) -> Result<bool, Fail> {
+    let (device, row) = row.split_once(' ').ok_or("no device")?;
+    let (marked, wanted) = row.split_once(" => ").ok_or("no arrow")?;
+    let (before, back) = marked.split_once('|').ok_or("no mark")?;
+    let front = front(alloc, device)?;
     let source = format!(in alloc; "{front}{before}{back} end")?;
     let place = behind(front.len().saturating_add(before.len()));
     let module = parsed(alloc, source.as_bytes())?;
     match declared(alloc, &module) {
         Ok(_) => Ok(false),
-        Err(fault) => Ok(is_expected(&fault, row.2, place)),
+        Err(fault) => Ok(is_expected(&fault, wanted, place)),
     }
 }
 
-/// The first row whose source isn't refused as the row says.
-fn first_wrong(
-    alloc: Global,
-    rows: &'static [rejected::Row],
-) -> Result<Option<&'static str>, Fail> {
-    for row in rows {
+/// Each row is refused so.
+fn each_is_refused(alloc: Global, rows: &str) -> Result<(), Fail> {
+    for row in rows.lines() {
         if !is_refused(alloc, row)? {
-            return Ok(Some(row.1));
+            return Err(Fail::new(row));
         }
     }
-    Ok(None)
+    Ok(())
 }
 
 #[test]
 fn names_are_refused(rt: HostRuntime) -> Result<(), Fail> {
-    for rows in rejected::rows() {
-        let wrong = first_wrong(rt.alloc(), rows)?;
-        assert!(rt; wrong.is_none(), "{}", wrong.unwrap_or(""));
-    }
-    Ok(())
+    let alloc = rt.alloc();
+    each_is_refused(alloc, rejected::REDECLARED)?;
+    each_is_refused(alloc, rejected::BAD_RANGES)?;
+    each_is_refused(alloc, rejected::BAD_PINS)?;
+    each_is_refused(alloc, rejected::PINS_TAKEN)?;
+    each_is_refused(alloc, rejected::BAD_ATTRIBUTES)?;
+    each_is_refused(alloc, rejected::TOO_MANY_NODES)?;
+    each_is_refused(alloc, rejected::UNDECLARED)?;
+    each_is_refused(alloc, rejected::TWO)
 }
