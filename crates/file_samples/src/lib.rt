@@ -4,6 +4,8 @@
 #[cfg(test)]
 mod drawn;
 #[cfg(test)]
+mod levels;
+#[cfg(test)]
 mod listings;
 #[cfg(test)]
 mod reading;

@@ -1,15 +1,12 @@
 //! Listings of a small device, written by hand from its table.
 
+use crate::levels::fuses_of;
 use abel_tree::{Attributes, Declared, Meaning, Names};
 use fuse_listing::listing;
 use pld_base::{DeviceName, ListOf, NameText, OutOfMemory, Place};
-use pld_device::{Fuses, Sample};
+use pld_device::Sample;
 use std::alloc::Global;
 use std::test::Fail;
-
-const I: bool = true;
-
-const O: bool = false;
 
 /// A pin's name.
 fn named(
@@ -53,17 +50,16 @@ fn two_names(alloc: Global) -> Result<Names, OutOfMemory> {
 }
 
 /// Row 3 is switched off, the first cell inverted and combinational, the second direct.
-#[rattlefmt::skip]
-const LEVELS: [bool; 60] = [
-    O, O, O, O, O, O, O, O,
-    I, I, I, I, I, I, I, I,
-    O, I, I, I, I, O, I, I,
-    I, I, I, I, I, I, I, I,
-    I, O, I, O, I, I, O, I,
-    I, I, I, I, O, I, I, O,
-    O, I, O, I, I, I, O, I, I, I,
-    O, O,
-];
+const LEVELS: &str = "\
+00000000
+11111111
+01111011
+11111111
+10101101
+11110110
+0101110111
+00
+";
 
 const FOUR: &str = "device GAL22V10\n\
     pin 9 Y combinational inverted 1 of 2\n  enable 1\n  rows a & b\n\
@@ -76,13 +72,20 @@ const TWO: &str = "device GAL22V10\n\
     reset 0\n\
     preset pin2 & !R\n";
 
+/// The fuses have this listing in these names.
+fn is_listed(alloc: Global, names: &Names, wanted: &str) -> Result<(), Fail> {
+    let fuses = fuses_of(alloc, LEVELS)?;
+    let list = listing::<Sample>(alloc, names, &fuses)?;
+    if list.as_slice() == wanted.as_bytes() {
+        Ok(())
+    } else {
+        Err(Fail::new(wanted))
+    }
+}
+
 #[test]
 fn a_listing_is_in_the_names_of_the_source(rt: HostRuntime) -> Result<(), Fail> {
     let alloc = rt.alloc();
-    let fuses = Fuses::from_levels(Vec::from_array(alloc, LEVELS).map_err(|_| "memory")?);
-    let four = listing::<Sample>(alloc, &four_names(alloc)?, &fuses)?;
-    assert_eq!(rt; four.as_slice(), FOUR.as_bytes());
-    let two = listing::<Sample>(alloc, &two_names(alloc)?, &fuses)?;
-    assert_eq!(rt; two.as_slice(), TWO.as_bytes());
-    Ok(())
+    is_listed(alloc, &four_names(alloc)?, FOUR)?;
+    is_listed(alloc, &two_names(alloc)?, TWO)
 }
