@@ -18,14 +18,14 @@ equations !Y = a; W = a; !X = a; n = a; q := a; r := a;
 
 pub const R6_FRONT: &str = "\
 u device 'P16R6';
-clk,a,oe pin 1,2,11; Z,!W pin 19,12; q,!r,s pin 18,13,15 istype 'reg';
-equations W = a; q := a; r := a;
+clk,a,oe pin 1,2,11; Z,!W pin 19,12; q,!r,s pin 18,13,15 istype 'reg'; n node;
+equations W = a; q := a; r := a; n = a;
 ";
 
 pub const R8_FRONT: &str = "\
 u device 'P16R8';
-clk,a,oe pin 1,2,11; z,q,!r,s pin 19,18,12,15 istype 'reg';
-equations q := a; r := a;
+clk,a,oe pin 1,2,11; z,q,!r,s pin 19,18,12,15 istype 'reg'; n node;
+equations q := a; r := a; n = a;
 ";
 
 pub const GAL_FRONT: &str = "\
@@ -81,6 +81,8 @@ const R4: &str = "\
 // Pin 12 has column 30, the registers on 18, 13 have their complements on 6, 26.
 const R6: &str = "\
 !Z = a;|L0032 01111111111111111111111111111111*|C17E3*
+!Z = a.PIN;|L0032 01111111111111111111111111111111*|C17E3*
+!Z = n;|L0032 01111111111111111111111111111111*|C17E3*
 !Z = W;|L0032 11111111111111111111111111111110*|C1764*
 !Z = W.PIN;|L0032 11111111111111111111111111111110*|C1764*
 !Z = q;|L0032 11111101111111111111111111111111*|C17A4*
@@ -94,6 +96,8 @@ const R6: &str = "\
 // z is on pin 19, its row on fuse 0 is what Q becomes. The registers on 19, 18, 12 have their complements on 2, 6, 30.
 const R8: &str = "\
 !z := a;|L0000 01111111111111111111111111111111*|C0BF0*
+!z := a.PIN;|L0000 01111111111111111111111111111111*|C0BF0*
+!z := n;|L0000 01111111111111111111111111111111*|C0BF0*
 !z := q;|L0000 11111101111111111111111111111111*|C0BB1*
 !z := q.FB;|L0000 11111101111111111111111111111111*|C0BB1*
 !z := q.Q;|L0000 11111110111111111111111111111111*|C0B71*
