@@ -23,6 +23,8 @@ mod fuse_files;
 #[cfg(test)]
 mod hostile;
 #[cfg(test)]
+mod loops;
+#[cfg(test)]
 mod orders;
 #[cfg(test)]
 mod reads;
