@@ -31,6 +31,8 @@ mod reads;
 #[cfg(test)]
 mod rejected;
 #[cfg(test)]
+mod simulated;
+#[cfg(test)]
 mod uncontrolled;
 #[cfg(test)]
 mod unread;
