@@ -11,7 +11,7 @@ pub struct Chosen {
     pub rows: Vec<Cube>,
 }
 
-/// The covers that a cell was tried with: None where a polarity is not allowed, or its lists are too wide.
+/// The covers that a cell was tried with: None where a polarity is not allowed, its lists are too wide, or it was not tried.
 #[derive(Debug, Drop)]
 pub struct Tried {
     pub direct: Option<Vec<Cube>>,
