@@ -8,6 +8,7 @@ use Rattle.bit_expr.specs.declared.node.ExprId.{ExprId}
 use Rattle.cube_pool.specs.declared.cube.Cube.{Cube}
 use Rattle.pld_device.specs.declared.flip.Flip.{Flip}
 use Rattle.sop_lowering.specs.Lowering.{CanLower}
+use Rattle.fit_cells.specs.Choices.{FitsRoom}
 use Rattle.fit_cells.specs.Covering.{IsTried}
 use Rattle.fit_cells.specs.Points.{IsCarried}
 use Rattle.fit_cells.specs.Tries.{allowed_of, needed_of}
@@ -30,10 +31,11 @@ IsTriedAs flip vars mask net w inverted rows =
     (may_be_inverted_as flip w inverted ≡ true → IsCoverOf vars mask net w.function (rows_are_positive flip w inverted) rows)
     × (may_be_inverted_as flip w inverted ≡ false → rows ≡ None)
 
--- both forms of a cell
-pub record IsTriedCell (flip : Flip) (vars mask : ℕ) (net : Netlist) (w : CellWanted) (tried : Tried) : Type 0 where
+-- the direct form of a cell, and the inverted one where the direct one doesn't fit the room; else that isn't tried
+pub record IsTriedCell (flip : Flip) (room vars mask : ℕ) (net : Netlist) (w : CellWanted) (tried : Tried) : Type 0 where
   pub direct : IsTriedAs flip vars mask net w false tried.direct
-  pub inverted : IsTriedAs flip vars mask net w true tried.inverted
+  pub inverted : (FitsRoom room tried.direct → ⊥) → IsTriedAs flip vars mask net w true tried.inverted
+  pub untried : FitsRoom room tried.direct → tried.inverted ≡ None
 
 -- a control as a function: never any
 abbrev pub control_function : ExprId → Function

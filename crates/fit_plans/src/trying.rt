@@ -1,6 +1,7 @@
 //! The covers of a cell in the forms that it may have.
 
-ghost use Rattle.std.specs.Prelude.{◌≡◌, ◌≤◌, ◌<◌, ◌^◌, IfOk};
+ghost use Rattle.std.specs.Prelude.{◌≡◌, ◌≤◌, ◌<◌, ◌^◌, IfOk, false, true};
+ghost use Rattle.fit_cells.specs.Choices.{FitsRoom};
 ghost use Rattle.fit_plans.specs.Covered.{CanCover, IsTriedAs, IsTriedCell};
 
 use crate::forms::{may_be_inverted_as, rows_are_positive};
@@ -36,13 +37,26 @@ pub fn try_form(
     }
 }
 
-/// The covers of a cell in both forms.
+/// Whether there is a cover that fits the room.
+fn fits(cover: &Option<Vec<Cube>>, room: usize) -> bool
+    ensures fits { result ≡ true → FitsRoom room cover.now }
+    ensures over { result ≡ false → FitsRoom room cover.now → ⊥ }
+{
+    match cover {
+        Some(rows) => rows.len() <= room,
+        None => false,
+    }
+}
+
+/// The cover of a cell in its direct form, and in its inverted one only where the direct one doesn't fit the room, a number
+/// of rows: the inverted one of what fits directly may take a second.
 pub fn try_cell(
     alloc: Global,
     pool: &mut CubePool,
     net: &Netlist,
     wanted: &CellWanted,
     flip: Flip,
+    room: usize,
     turned: u32,
     vars: u8,
 ) -> Result<Tried, AllocError>
@@ -50,9 +64,15 @@ pub fn try_cell(
     requires spare { 27672 ≤ pool.old.spare }
     requires can { CanCover vars net.now wanted.now.function }
     ensures same { pool.new ≡ pool.old }
-    ensures tried { IfOk result (IsTriedCell flip vars turned net.now wanted.now) }
+    ensures tried { IfOk result (IsTriedCell flip room vars turned net.now wanted.now) }
 {
     let direct = try_form(alloc, pool, net, wanted, flip, false, turned, vars)?;
+    if fits(&direct, room) {
+        return Ok(Tried {
+            direct,
+            inverted: None,
+        });
+    }
     let inverted = try_form(alloc, pool, net, wanted, flip, true, turned, vars)?;
     Ok(Tried { direct, inverted })
 }
