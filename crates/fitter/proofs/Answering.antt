@@ -34,7 +34,7 @@ use Rattle.fitter.specs.Covered.{CoversBelow, HasCoversAs}
 use Rattle.fitter.specs.Fitting.{IsBurnedPlan, plan_of}
 use Rattle.fitter.specs.Planned.{AreRowsOf, HasSharedRow, IsEntryOf, IsManyRows, IsOverAt, IsSingleRow, RowsBelow, SingleBelow}
 use Rattle.fitter.specs.Products.{EnablesBelow, IsFirstSum, IsProduct, IsSharedProduct}
-use Rattle.fitter.specs.Rows.{IsFittedEntry, Rises}
+use Rattle.fitter.specs.Rows.{IsDirectOver, IsFittedEntry, Rises}
 use Rattle.fitter.proofs.Controls.{first_of_one, is_no_product, is_product}
 use Rattle.fitter.proofs.CellPlans.{over_at, plan_as}
 use Rattle.fitter.proofs.Widths.{none_wide}
@@ -112,7 +112,7 @@ module _ (t : Table) (laws : IsDevice t) (net : Netlist) (sound : IsSoundNetlist
           record {
             cell = has.plan;
             there = has.there;
-            planned = plan_as t mask net c (cell_wanted net c) (get_or covers c None) (record { plan = has.plan; form = form_at rows.forms.items c }) (below.each c low) has.rows (single c low);
+            planned = plan_as t mask net c (cell_wanted net c) (get_or covers c None) (record { plan = has.plan; form = form_at rows.forms.items c }) refl (below.each c low) has.rows (single c low);
           }
 
       plans : PlansNetlist t mask net (plan_of shared rows) rows.forms.items
@@ -138,6 +138,17 @@ module _ (t : Table) (laws : IsDevice t) (net : Netlist) (sound : IsSoundNetlist
       rows_rise c (Some v) w None r e has of = absurd has
       rows_rise c (Some v) w (Some x) r e has of = (of.rise, let fit = of.fit in omega (arith, fit, length_permutation of.list.items r.plan.rows of.same))
 
+      -- an assigned cell is inverted only where its direct form doesn't fit
+      direct_over : (c : ℕ) (wanted : Option CellWanted) (w : CellWanted) (found : Option CellCovers) (r : CellRows) → wanted ≡ Some w → HasCoversAs t mask net wanted found → AreRowsOf t c found r
+          → r.form.inverted ≡ true → IsDirectOver t net c w
+      direct_over c None w found r e has of on = absurd cc
+      direct_over c (Some v) w None r e has of on = absurd has
+      direct_over c (Some v) w (Some x) r e has of on =
+          subst (IsDirectOver t net c) (same_wanted v w e) (record { mask = mask; mask_is = mask_is; cover = x.tried.direct; tried = has.tried.direct; over = of.over on })
+        where
+          same_wanted : (a b : CellWanted) → Some a ≡ Some b → a ≡ b
+          same_wanted a b same = cc
+
       same_plan : (a b : CellPlan) → Some a ≡ Some b → a ≡ b
       same_plan a b e = cc
 
@@ -156,6 +167,9 @@ module _ (t : Table) (laws : IsDevice t) (net : Netlist) (sound : IsSoundNetlist
                 (says_inverted t laws (plan_of shared rows) rows.forms.items fitted.fuses is.burned x.cell low);
             rows = subst (HoldsCubes t fitted.fuses (cell_at t x.cell).first (cell_at t x.cell).room) rows_are (is.burned.cells x.cell has.plan low has.there good.1);
             rise = subst (Rises t.columns) rows_are good.0;
+            direct_first = λ free on.
+                direct_over x.cell (cell_wanted net x.cell) of.cell (get_or covers x.cell None) (record { plan = has.plan; form = form_at rows.forms.items x.cell }) of.wanted (below.each x.cell low) has.rows
+                (sym (says_inverted t laws (plan_of shared rows) rows.forms.items fitted.fuses is.burned x.cell low free) ∙ on);
           }
 
       pub fit_of : IsFitOf t net fitted

@@ -16,6 +16,7 @@ use Rattle.fit_cells.specs.declared.choosing.Tried.{Tried}
 use Rattle.fit_cells.specs.Choices.{FitsRoom}
 use Rattle.fit_cells.specs.Tries.{allowed_of, needed_of}
 use Rattle.fit_laws.specs.Plans.{PlansAs, PlansCell, PlansRows, cell_wanted, enable_bit}
+use Rattle.fit_laws.proofs.WantedIds.{found_id}
 use Rattle.fit_plans.specs.Covered.{IsTriedAs, IsTriedCell, control_function}
 use Rattle.fit_plans.specs.Forms.{may_be_inverted_as, rows_are_positive}
 use Rattle.fit_rows.specs.declared.controls.CellForm.{CellForm}
@@ -95,15 +96,25 @@ form_of t mask net w inverted (Some other) rows tried is =
     same : (a b : Vec Cube) → Some a ≡ Some b → a ≡ b
     same a b e = cc
 
-chosen_form : (t : Table) (mask : ℕ) (net : Netlist) (c : ℕ) (w : CellWanted) (x : CellCovers) (rows : CellRows) → HasCovers t mask net w x → (chosen : AreChosen t c x rows)
-    → (inverted : Bool) → rows.form.inverted ≡ inverted → IsFormOf t mask net w inverted chosen.list.items
-chosen_form t mask net c w x rows has chosen true is = form_of t mask net w true x.tried.inverted chosen.list has.tried.inverted (chosen.inverted is)
-chosen_form t mask net c w x rows has chosen false is = form_of t mask net w false x.tried.direct chosen.list has.tried.direct (chosen.direct is)
+-- the number of an assigned cell
+number_is : (net : Netlist) (c : ℕ) (w : CellWanted) → cell_wanted net c ≡ Some w → w.cell ≡ c
+number_is net c w is = (found_id (λ (v : CellWanted). Unit {0}) net.cells c w (λ k v within. tt) is).cell
 
-cell_plan : (t : Table) (mask : ℕ) (net : Netlist) (c : ℕ) (w : CellWanted) (x : CellCovers) (rows : CellRows) → HasCovers t mask net w x → AreChosen t c x rows → length x.enable.items ≤ 1
-    → PlansCell t mask net c w rows.plan rows.form
-cell_plan t mask net c w x rows has chosen one =
-    let form = chosen_form t mask net c w x rows has chosen rows.form.inverted refl in
+-- what was tried, by the room of the cell's number
+tried_at : (t : Table) (mask : ℕ) (net : Netlist) (c : ℕ) (w : CellWanted) (x : CellCovers) → w.cell ≡ c → HasCovers t mask net w x
+    → IsTriedCell t.flip (cell_at t c).room (length t.pairs) mask net w x.tried
+tried_at t mask net c w x own has = subst (λ n. IsTriedCell t.flip (cell_at t n).room (length t.pairs) mask net w x.tried) own has.tried
+
+chosen_form : (t : Table) (mask : ℕ) (net : Netlist) (c : ℕ) (w : CellWanted) (x : CellCovers) (rows : CellRows) → w.cell ≡ c → HasCovers t mask net w x → (chosen : AreChosen t c x rows)
+    → (inverted : Bool) → rows.form.inverted ≡ inverted → IsFormOf t mask net w inverted chosen.list.items
+chosen_form t mask net c w x rows own has chosen true is =
+    form_of t mask net w true x.tried.inverted chosen.list ((tried_at t mask net c w x own has).inverted (chosen.over is)) (chosen.inverted is)
+chosen_form t mask net c w x rows own has chosen false is = form_of t mask net w false x.tried.direct chosen.list has.tried.direct (chosen.direct is)
+
+cell_plan : (t : Table) (mask : ℕ) (net : Netlist) (c : ℕ) (w : CellWanted) (x : CellCovers) (rows : CellRows) → w.cell ≡ c → HasCovers t mask net w x → AreChosen t c x rows
+    → length x.enable.items ≤ 1 → PlansCell t mask net c w rows.plan rows.form
+cell_plan t mask net c w x rows own has chosen one =
+    let form = chosen_form t mask net c w x rows own has chosen rows.form.inverted refl in
     record {
       registered = chosen.registered ∙ ap (λ (v : CellWanted). v.registered) has.wanted;
       may = form.may;
@@ -113,12 +124,12 @@ cell_plan t mask net c w x rows has chosen one =
       fit = let fit = chosen.fit in omega (arith, fit, length_permutation chosen.list.items rows.plan.rows chosen.same);
     }
 
-pub plan_as : (t : Table) (mask : ℕ) (net : Netlist) (c : ℕ) (wanted : Option CellWanted) (found : Option CellCovers) (rows : CellRows) → HasCoversAs t mask net wanted found
-    → AreRowsOf t c found rows → IsSingleRow found → PlansAs t mask net c wanted rows.plan rows.form
-plan_as t mask net c None None rows has are one = record { registered = are.registered; inverted = are.inverted; enable = are.enable; rows = are.rows_none }
-plan_as t mask net c None (Some x) rows has are one = absurd has
-plan_as t mask net c (Some w) None rows has are one = absurd has
-plan_as t mask net c (Some w) (Some x) rows has are one = cell_plan t mask net c w x rows has are one
+pub plan_as : (t : Table) (mask : ℕ) (net : Netlist) (c : ℕ) (wanted : Option CellWanted) (found : Option CellCovers) (rows : CellRows) → cell_wanted net c ≡ wanted
+    → HasCoversAs t mask net wanted found → AreRowsOf t c found rows → IsSingleRow found → PlansAs t mask net c wanted rows.plan rows.form
+plan_as t mask net c None None rows is has are one = record { registered = are.registered; inverted = are.inverted; enable = are.enable; rows = are.rows_none }
+plan_as t mask net c None (Some x) rows is has are one = absurd has
+plan_as t mask net c (Some w) None rows is has are one = absurd has
+plan_as t mask net c (Some w) (Some x) rows is has are one = cell_plan t mask net c w x rows (number_is net c w is) has are one
 
 -- ---- covers that fit no room
 
@@ -140,19 +151,21 @@ heavier_as t mask net c w inverted (Some rows) tried over may needs allows n a l
     same_list : (xs ys : List Cube) → Some xs ≡ Some ys → xs ≡ ys
     same_list xs ys e = cc
 
-heavier : (t : Table) (mask : ℕ) (net : Netlist) (c : ℕ) (w : CellWanted) (tried : Tried) → IsTriedCell t.flip (length t.pairs) mask net w tried
+heavier : (t : Table) (mask : ℕ) (net : Netlist) (c : ℕ) (w : CellWanted) (tried : Tried) → IsTriedCell t.flip (cell_at t c).room (length t.pairs) mask net w tried
     → (FitsRoom (cell_at t c).room tried.direct → ⊥) → (FitsRoom (cell_at t c).room tried.inverted → ⊥) → IsHeavier t net c w
-heavier t mask net c w tried is direct inverted true may needs allows n a needs_low allows_low = heavier_as t mask net c w true tried.inverted is.inverted inverted may needs allows n a needs_low
+heavier t mask net c w tried is direct inverted true may needs allows n a needs_low allows_low = heavier_as t mask net c w true tried.inverted (is.inverted direct) inverted may needs allows n a needs_low
 heavier t mask net c w tried is direct inverted false may needs allows n a needs_low allows_low = heavier_as t mask net c w false tried.direct is.direct direct may needs allows n a needs_low
 
 over_cell : (t : Table) (mask : ℕ) (net : Netlist) (c : ℕ) (w : CellWanted) (x : CellCovers) (tried : Tried) → cell_wanted net c ≡ Some w → HasCovers t mask net w x → IsOver t c x tried
     → IsOverRoom t mask net c tried
 over_cell t mask net c w x tried is has over =
-    let covers : IsTriedCell t.flip (length t.pairs) mask net w tried = record {
-      direct = subst (IsTriedAs t.flip (length t.pairs) mask net w false) (sym over.direct_is) has.tried.direct;
-      inverted = subst (IsTriedAs t.flip (length t.pairs) mask net w true) (sym over.inverted_is) has.tried.inverted;
-    } in
+    let own = tried_at t mask net c w x (number_is net c w is) has in
     let direct : FitsRoom (cell_at t c).room tried.direct → ⊥ = λ fits. over.direct (subst (FitsRoom (cell_at t c).room) over.direct_is fits) in
+    let covers : IsTriedCell t.flip (cell_at t c).room (length t.pairs) mask net w tried = record {
+      direct = subst (IsTriedAs t.flip (length t.pairs) mask net w false) (sym over.direct_is) own.direct;
+      inverted = λ never. subst (IsTriedAs t.flip (length t.pairs) mask net w true) (sym over.inverted_is) (own.inverted over.direct);
+      untried = λ fits. absurd (direct fits);
+    } in
     let inverted : FitsRoom (cell_at t c).room tried.inverted → ⊥ = λ fits. over.inverted (subst (FitsRoom (cell_at t c).room) over.inverted_is fits) in
     record {
       cell = w;

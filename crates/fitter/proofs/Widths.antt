@@ -1,12 +1,14 @@
 -- Cells whose functions or controls have no written lists, and cells that have their covers.
-use Rattle.std.proofs.Common.{◌≡◌, ◌⊎◌, ℕ, ◌+◌, ◌<◌, ◌≤◌, Bool, true, false, List, [], ◌∷◌, ◌++◌, length, get_or, Option, Some, None, Result, Err, refl, sym, ap, ◌∙◌, subst, arith, inl, inr}
+use Rattle.std.proofs.Common.{◌≡◌, ◌⊎◌, ℕ, ◌+◌, ◌<◌, ◌≤◌, Bool, true, false, List, [], ◌∷◌, ◌++◌, length, get_or, slice_get, Option, Some, None, Result, Err, refl, sym, ap, ◌∙◌, subst, arith, inl, inr}
 use Rattle.std.specs.Global.{Vec}
 use Rattle.std.proofs.lemmas.Bool.{cases_Bool, cases_lt}
 use Rattle.std.proofs.lemmas.List.{get_or_append_left, length-append}
+use Rattle.std.proofs.lemmas.Option.{get_or_from_slice_get}
 use Rattle.std.proofs.Math.Seq.{get_or-append_seam}
+use Rattle.pld_device.specs.declared.cell.Cell.{Cell}
 use Rattle.pld_device.specs.declared.flip.Flip.{Flip}
 use Rattle.pld_device.specs.Laws.{IsDevice}
-use Rattle.pld_device.specs.Table.{Table}
+use Rattle.pld_device.specs.Table.{Table, cell_at, no_cell}
 use Rattle.bit_expr.specs.declared.netlist.CellWanted.{CellWanted}
 use Rattle.bit_expr.specs.declared.netlist.Control.{Control}
 use Rattle.bit_expr.specs.declared.netlist.Function.{Function}
@@ -20,6 +22,7 @@ use Rattle.sop_lowering.specs.Lowering.{Fails}
 use Rattle.sop_lowering.specs.Products.{Products}
 use Rattle.sop_lowering.specs.Written.{bit_list}
 use Rattle.fit_cells.specs.declared.choosing.Tried.{Tried}
+use Rattle.fit_cells.specs.Choices.{FitsRoom}
 use Rattle.fit_laws.specs.Coverable.{IsSoundId}
 use Rattle.fit_laws.specs.Plans.{PlansRows, cell_wanted, enable_bit}
 use Rattle.fit_laws.proofs.Coverable.{sound_cover}
@@ -39,6 +42,7 @@ can_cover_cell t net sound c w is =
     let cell = sound_id_at t net sound c w is in
     let both = function_ids t net sound c w cell in
     record {
+      low = omega (arith, cell.at.law.within, cell.cell);
       one = both.0;
       any = both.1;
       enable = enable_id t net sound c w cell;
@@ -59,10 +63,10 @@ none_tried t mask net w inverted (Some rows) tried none may = absurd (some_none 
     some_none : Some rows ≡ None → ⊥
     some_none e = absurd cc
 
-pub function_wide : (t : Table) (mask : ℕ) (net : Netlist) (w : CellWanted) (direct inverted : Option (Vec Cube)) → IsTriedAs t.flip (length t.pairs) mask net w false direct
-    → IsTriedAs t.flip (length t.pairs) mask net w true inverted → direct ≡ None → inverted ≡ None → IsFunctionTooWide t net w
-function_wide t mask net w direct inverted d i d_none i_none true may = none_tried t mask net w true inverted i i_none may
-function_wide t mask net w direct inverted d i d_none i_none false may = none_tried t mask net w false direct d d_none may
+pub function_wide : (t : Table) (room mask : ℕ) (net : Netlist) (w : CellWanted) (direct inverted : Option (Vec Cube)) → IsTriedAs t.flip (length t.pairs) mask net w false direct
+    → ((FitsRoom room direct → ⊥) → IsTriedAs t.flip (length t.pairs) mask net w true inverted) → direct ≡ None → inverted ≡ None → IsFunctionTooWide t net w
+function_wide t room mask net w direct inverted d i d_none i_none true may = none_tried t mask net w true inverted (i (λ fits. subst (FitsRoom room) d_none fits)) i_none may
+function_wide t room mask net w direct inverted d i d_none i_none false may = none_tried t mask net w false direct d d_none may
 
 both_lists : (needed allowed : Products) (needs allows : List Cube) → needed ≡ Some needs → allowed ≡ Some allows → (needed ≡ None) ⊎ (allowed ≡ None) → ⊥
 both_lists needed allowed needs allows n a (inl none) = some_none (sym n ∙ none)
@@ -87,11 +91,11 @@ some_tried t mask net w inverted rows tried wide =
     some_none : Some rows ≡ None → ⊥
     some_none e = absurd cc
 
-function_fits : (t : Table) (mask : ℕ) (net : Netlist) (w : CellWanted) (direct inverted : Option (Vec Cube)) → IsTriedAs t.flip (length t.pairs) mask net w false direct
-    → IsTriedAs t.flip (length t.pairs) mask net w true inverted → (direct ≡ None → inverted ≡ None → ⊥) → IsFunctionTooWide t net w → ⊥
-function_fits t mask net w None None d i some wide = some refl refl
-function_fits t mask net w None (Some rows) d i some wide = some_tried t mask net w true rows i wide
-function_fits t mask net w (Some rows) inverted d i some wide = some_tried t mask net w false rows d wide
+function_fits : (t : Table) (room mask : ℕ) (net : Netlist) (w : CellWanted) (direct inverted : Option (Vec Cube)) → IsTriedAs t.flip (length t.pairs) mask net w false direct
+    → ((FitsRoom room direct → ⊥) → IsTriedAs t.flip (length t.pairs) mask net w true inverted) → (direct ≡ None → inverted ≡ None → ⊥) → IsFunctionTooWide t net w → ⊥
+function_fits t room mask net w None None d i some wide = some refl refl
+function_fits t room mask net w None (Some rows) d i some wide = some_tried t mask net w true rows (i (λ fits. fits)) wide
+function_fits t room mask net w (Some rows) inverted d i some wide = some_tried t mask net w false rows d wide
 
 pub rows_listed : (vars mask : ℕ) (net : Netlist) (bit : ExprId) (rows : List Cube) → PlansRows vars mask net (control_function bit) true rows → bit_list net bit true ≡ None → ⊥
 rows_listed vars mask net bit rows cover none = some_none (sym cover.needs_is ∙ none)
@@ -100,7 +104,7 @@ rows_listed vars mask net bit rows cover none = some_none (sym cover.needs_is �
     some_none e = absurd cc
 
 pub not_wide : (t : Table) (mask : ℕ) (net : Netlist) (w : CellWanted) (x : CellCovers) → HasCovers t mask net w x → IsTooWide t net w → ⊥
-not_wide t mask net w x has (inl wide) = function_fits t mask net w x.tried.direct x.tried.inverted has.tried.direct has.tried.inverted has.some wide
+not_wide t mask net w x has (inl wide) = function_fits t (cell_at t w.cell).room mask net w x.tried.direct x.tried.inverted has.tried.direct has.tried.inverted has.some wide
 not_wide t mask net w x has (inr (inl none)) = rows_listed (length t.pairs) mask net (enable_bit w) x.enable.items has.enable none
 not_wide t mask net w x has (inr (inr (inl reset))) = has.reset reset
 not_wide t mask net w x has (inr (inr (inr preset))) = has.preset preset
@@ -234,8 +238,13 @@ pub at_some : (t : Table) (mask : ℕ) (net : Netlist) (wanted own : Option Cell
     → HasCoversAs t mask net own (Some x)
 at_some t mask net wanted own w x same is has = subst (λ (o : Option CellWanted). HasCoversAs t mask net o (Some x)) (sym is ∙ same) has
 
+-- a cell's room, by the device's table
+pub own_room : (cells : List Cell) (c : ℕ) (x : Cell) → slice_get cells c ≡ Some x → x.room ≡ (get_or cells c no_cell).room
+own_room cells c x is = ap (λ (y : Cell). y.room) (sym (get_or_from_slice_get cells c x no_cell is))
+
 -- what was tried, by the device's table
-pub tried_over : (t : Table) (mask : ℕ) (net : Netlist) (w : CellWanted) (tried : Tried) (flip : Flip) (vars : ℕ) → flip ≡ t.flip → vars ≡ length t.pairs → IsTriedCell flip vars mask net w tried
-    → IsTriedCell t.flip (length t.pairs) mask net w tried
-tried_over t mask net w tried flip vars same few has =
-    subst (λ (f : Flip). IsTriedCell f (length t.pairs) mask net w tried) same (subst (λ n. IsTriedCell flip n mask net w tried) few has)
+pub tried_over : (t : Table) (mask : ℕ) (net : Netlist) (w : CellWanted) (tried : Tried) (flip : Flip) (room vars : ℕ) → flip ≡ t.flip → room ≡ (cell_at t w.cell).room → vars ≡ length t.pairs
+    → IsTriedCell flip room vars mask net w tried → IsTriedCell t.flip (cell_at t w.cell).room (length t.pairs) mask net w tried
+tried_over t mask net w tried flip room vars same room_is few has =
+    subst (λ (f : Flip). IsTriedCell f (cell_at t w.cell).room (length t.pairs) mask net w tried) same
+    (subst (λ n. IsTriedCell flip n (length t.pairs) mask net w tried) room_is (subst (λ n. IsTriedCell flip room n mask net w tried) few has))

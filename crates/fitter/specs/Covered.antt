@@ -1,7 +1,7 @@
 -- Private: the covers of a netlist's cells and controls, and those that are too wide (this project's rule).
 use Rattle.std.specs.Prelude.{◌≡◌, ℕ, ◌<◌, true, Option, Some, None, List, length, get_or, Result, Ok, Err}
 use Rattle.std.specs.Global.{Vec}
-use Rattle.pld_device.specs.Table.{Table}
+use Rattle.pld_device.specs.Table.{Table, cell_at}
 use Rattle.abel_tree.specs.FirstRefusal.{is_before}
 use Rattle.bit_expr.specs.declared.netlist.CellWanted.{CellWanted}
 use Rattle.bit_expr.specs.declared.netlist.Control.{Control}
@@ -19,8 +19,9 @@ use Rattle.fitter.specs.declared.fault.FitFault.{FitFault}
 use Rattle.fitter.specs.declared.fault.FitFault.TheVariants as fault
 use Rattle.fitter.specs.Width.{IsControlTooWide, IsFirstWide, IsTooWide, width_order}
 
--- all ids of an assigned cell are sound
+-- the cell is the device's, and all its ids are sound
 pub record CanCoverCell (t : Table) (net : Netlist) (w : CellWanted) : Type 0 where
+  pub low : w.cell < length t.cells
   pub one : IsSoundId t net w.function.one
   pub any : IsSoundId t net w.function.any
   pub enable : IsSoundId t net (enable_bit w)
@@ -42,7 +43,7 @@ IsListed net control (Err lower.OutOfMemory) = Unit {0}
 -- the covers of a cell
 pub record HasCovers (t : Table) (mask : ℕ) (net : Netlist) (w : CellWanted) (x : CellCovers) : Type 0 where
   pub wanted : x.wanted ≡ w
-  pub tried : IsTriedCell t.flip (length t.pairs) mask net w x.tried
+  pub tried : IsTriedCell t.flip (cell_at t w.cell).room (length t.pairs) mask net w x.tried
   pub some : x.tried.direct ≡ None → x.tried.inverted ≡ None → ⊥
   pub enable : PlansRows (length t.pairs) mask net (control_function (enable_bit w)) true x.enable.items
   pub reset : IsControlTooWide net w.reset → ⊥

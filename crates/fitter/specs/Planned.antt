@@ -38,6 +38,7 @@ pub record AreChosen (t : Table) (c : ℕ) (x : CellCovers) (rows : CellRows) : 
   pub list : Vec Cube
   pub direct : rows.form.inverted ≡ false → x.tried.direct ≡ Some list
   pub inverted : rows.form.inverted ≡ true → x.tried.inverted ≡ Some list
+  pub over : rows.form.inverted ≡ true → FitsRoom (cell_at t c).room x.tried.direct → ⊥
   pub fit : length list.items ≤ (cell_at t c).room
   pub same : IsPermutation list.items rows.plan.rows
   pub rise : Rises t.columns rows.plan.rows

@@ -1,6 +1,8 @@
 -- The data rows of cells, and the order in which they are written (this project's rule).
-use Rattle.std.specs.Prelude.{◌≡◌, ℕ, zero, suc, ◌+◌, ◌*◌, ◌<◌, ◌≤◌, ◌<◌, Bool, true, if◌then◌else◌, Some, List, length, slice_get, All, AllPairs}
+use Rattle.std.specs.Prelude.{◌≡◌, ◌≢◌, ℕ, zero, suc, ◌+◌, ◌*◌, ◌<◌, ◌≤◌, Bool, true, false, if◌then◌else◌, Option, Some, List, length, slice_get, All, AllPairs}
+use Rattle.std.specs.Global.{Vec}
 use Rattle.std.specs.List.Sorted.{IsNonDecreasingBy}
+use Rattle.pld_device.specs.declared.flip.Flip.TheVariants.{Always}
 use Rattle.pld_device.specs.Macrocells.{pin_complements}
 use Rattle.pld_device.specs.Registers.{is_inverted}
 use Rattle.pld_device.specs.Table.{Table, cell_at}
@@ -11,8 +13,9 @@ use Rattle.fit_cells.specs.declared.choosing.Tried.{Tried}
 use Rattle.fit_cells.specs.Choices.{FitsRoom}
 use Rattle.fit_cells.specs.Tries.{allowed_of, needed_of}
 use Rattle.sop_lowering.specs.Products.{Products}
-use Rattle.fit_laws.specs.Plans.{cell_wanted}
-use Rattle.fit_plans.specs.Covered.{IsTriedCell}
+use Rattle.abel_meaning.specs.Netlists.{plain_netlist}
+use Rattle.fit_laws.specs.Plans.{IsTurnMask, cell_wanted}
+use Rattle.fit_plans.specs.Covered.{IsTriedAs, IsTriedCell}
 use Rattle.fit_plans.specs.Forms.{may_be_inverted_as, rows_are_positive}
 use Rattle.fit_rows.specs.RowCubes.{HoldsCubes, fuse_at}
 use Rattle.fitter.specs.declared.answer.FittedCell.{FittedCell}
@@ -42,18 +45,28 @@ IsHeavier t net c w =
 pub record IsOverRoom (t : Table) (mask : ℕ) (net : Netlist) (c : ℕ) (tried : Tried) : Type 0 where
   pub cell : CellWanted
   pub wanted : cell_wanted net c ≡ Some cell
-  pub covers_it : IsTriedCell t.flip (length t.pairs) mask net cell tried
+  pub covers_it : IsTriedCell t.flip (cell_at t c).room (length t.pairs) mask net cell tried
   pub direct : FitsRoom (cell_at t c).room tried.direct → ⊥
   pub inverted : FitsRoom (cell_at t c).room tried.inverted → ⊥
   pub heavier : IsHeavier t net c cell
 
--- an entry says of an assigned cell whether its pin is the complement of what it makes, and the rows that it has
+-- the direct form of a cell has a cover with more rows than its room, or none
+pub record IsDirectOver (t : Table) (net : Netlist) (c : ℕ) (w : CellWanted) : Type 0 where
+  pub mask : ℕ
+  pub mask_is : IsTurnMask t (plain_netlist net) mask
+  pub cover : Option (Vec Cube)
+  pub tried : IsTriedAs t.flip (length t.pairs) mask net w false cover
+  pub over : FitsRoom (cell_at t c).room cover → ⊥
+
+-- an entry says of an assigned cell whether its pin is the complement of what it makes, and the rows that it has; it is inverted
+-- only where its direct form doesn't fit
 pub record IsFittedEntry (t : Table) (net : Netlist) (fuses : List Bool) (x : FittedCell) : Type 0 where
   pub cell : CellWanted
   pub wanted : cell_wanted net x.cell ≡ Some cell
   pub inverted : x.inverted ≡ pin_complements t.flip cell.registered (is_inverted t fuses x.cell)
   pub rows : HoldsCubes t fuses (cell_at t x.cell).first (cell_at t x.cell).room x.rows
   pub rise : Rises t.columns x.rows
+  pub direct_first : t.flip ≢ Always → is_inverted t fuses x.cell ≡ true → IsDirectOver t net x.cell cell
 
 -- one entry for each assigned cell, in the order of cells
 pub record AreFittedCells (t : Table) (net : Netlist) (fuses : List Bool) (cells : List FittedCell) : Type 0 where

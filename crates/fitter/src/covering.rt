@@ -100,7 +100,8 @@ pub(crate) fn cover_cell<D: Device>(
     ensures covered { IsCovered D.table turned net.now wanted result }
 {
     let pairs = pair_count::<D>();
-    let tried = try_cell(alloc, pool, net, &wanted, D::FLIP, turned, pairs)?;
+    let room = D::cell(wanted.cell).room as usize;
+    let tried = try_cell(alloc, pool, net, &wanted, D::FLIP, room, turned, pairs)?;
     if has_none(&tried) {
         return Err(LowerFault::TooWide);
     }
