@@ -13,30 +13,50 @@ fn cube(asks: Asks) -> Cube {
     }
 }
 
-/// What two cubes are, the two, whether they meet, whether the first lies in the second, whether it is empty, all
-/// literals of both, and those of the first alone.
-type Row = (&'static str, Asks, Asks, bool, bool, bool, Asks, Asks);
+// What two cubes are, the two, whether they meet, whether the first lies in the second, whether it is empty, all
+// literals of both, and those of the first alone; each cube as two numbers in hexadecimal.
+const PAIRS: &str = "\
+a full cube with itself|0 0|0 0|yes|yes|no|0 0|0 0
+a & !b in a|1 2|1 0|yes|yes|no|1 2|0 2
+a and a & !b|1 0|1 2|yes|no|no|1 2|0 0
+a and !a|1 0|0 1|no|no|no|1 1|1 0
+a & !a and b|1 1|2 0|yes|no|yes|3 1|1 1
+the last variable|80000000 0|0 80000000|no|no|no|80000000 80000000|80000000 0
+";
 
-#[rattlefmt::skip]
-const PAIRS: [Row; 6] = [
-    ("a full cube with itself", (0, 0), (0, 0), true, true, false, (0, 0), (0, 0)),
-    ("a & !b in a", (1, 2), (1, 0), true, true, false, (1, 2), (0, 2)),
-    ("a and a & !b", (1, 0), (1, 2), true, false, false, (1, 2), (0, 0)),
-    ("a and !a", (1, 0), (0, 1), false, false, false, (1, 1), (1, 0)),
-    ("a & !a and b", (1, 1), (2, 0), true, false, true, (3, 1), (1, 1)),
-    ("the last variable", (1 << 31, 0), (0, 1 << 31), false, false, false, (1 << 31, 1 << 31), (1 << 31, 0)),
-];
+/// The cube of two numbers.
+fn told_cube(told: &str) -> Option<Cube> {
+    let (yes, no) = told.split_once(' ')?;
+    let yes = u32::from_str_radix(yes, 16).ok()?;
+    Some(cube((yes, u32::from_str_radix(no, 16).ok()?)))
+}
+
+/// Whether two cubes are what a row says of them; None for a row that can't be read.
+fn are_told(row: &str) -> Option<bool> {
+    let (_what, row) = row.split_once('|')?;
+    let (one, row) = row.split_once('|')?;
+    let (other, row) = row.split_once('|')?;
+    let (meet, row) = row.split_once('|')?;
+    let (inside, row) = row.split_once('|')?;
+    let (empty, row) = row.split_once('|')?;
+    let (all, alone) = row.split_once('|')?;
+    let first = told_cube(one)?;
+    let second = told_cube(other)?;
+    if first.union(second) != told_cube(all)? || first.without(second) != told_cube(alone)? {
+        return Some(false);
+    }
+    if first.meets(second) != (meet == "yes") || first.lies_in(second) != (inside == "yes") {
+        return Some(false);
+    }
+    Some(first.is_empty() == (empty == "yes"))
+}
 
 #[test]
 fn cubes_meet_and_lie_in_each_other(rt: HostRuntime) -> Result<(), Fail> {
-    for (name, one, other, meet, inside, empty, all, alone) in &PAIRS {
-        let first = cube(*one);
-        let second = cube(*other);
-        assert!(rt; first.meets(second) == *meet, "{name}: meets");
-        assert!(rt; first.lies_in(second) == *inside, "{name}: lies in");
-        assert!(rt; first.is_empty() == *empty, "{name}: is empty");
-        assert_eq!(rt; first.union(second), cube(*all), "{name}: union");
-        assert_eq!(rt; first.without(second), cube(*alone), "{name}: without");
+    for row in PAIRS.lines() {
+        if are_told(row) != Some(true) {
+            return Err(Fail::new(row));
+        }
     }
     Ok(())
 }
@@ -67,7 +87,7 @@ fn a_literal_is_asked_by_its_cube_alone(rt: HostRuntime) -> Result<(), Fail> {
 
 #[test]
 fn a_pool_grows_and_shrinks_at_its_end(rt: HostRuntime) -> Result<(), Fail> {
-    let mut pool = CubePool::with_room(rt.alloc(), 3).map_err(|_| "memory")?;
+    let mut pool = CubePool::with_room(rt.alloc(), 3)?;
     let room = pool.spare();
     assert!(rt; pool.len() == 0 && room >= 3);
     pool.push(cube((1, 0)));
