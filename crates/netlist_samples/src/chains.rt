@@ -1,7 +1,10 @@
 //! Chains among a few signals, worked by hand.
 
+use arrayvec::ArrayVec;
 use bit_expr::{Leaf, Reads};
+use pld_base::OutOfMemory;
 use signal_chains::{Link, first_loop, path_to_register};
+use std::alloc::Global;
 use std::test::Fail;
 
 const NOTHING: Reads = Reads {
@@ -74,15 +77,25 @@ const PATH: [Link; 4] = [
     },
 ];
 
+/// The numbers of a chain as a text, or `none`.
+fn told(alloc: Global, chain: Option<ArrayVec<u8, 256>>) -> Result<String, OutOfMemory> {
+    match chain {
+        Some(numbers) => Ok(format!(in alloc; "{:?}", numbers.as_slice())?),
+        None => Ok(format!(in alloc; "none")?),
+    }
+}
+
 #[test]
 fn a_loop_begins_with_the_earliest_signal_on_any(rt: HostRuntime) -> Result<(), Fail> {
-    match first_loop(rt.alloc(), &LOOP).map_err(|_| "memory")? {
-        Some(chain) => assert_eq!(rt; chain.as_slice(), [1, 2].as_slice()),
-        None => return Err(Fail::from("a loop")),
-    }
-    let none = first_loop(rt.alloc(), &PATH).map_err(|_| "memory")?;
-    assert!(rt; none.is_none());
+    let chain = told(rt.alloc(), first_loop(rt.alloc(), &LOOP)?)?;
+    assert!(rt; chain.as_str() == "[1, 2]");
+    let none = told(rt.alloc(), first_loop(rt.alloc(), &PATH)?)?;
+    assert!(rt; none.as_str() == "none");
     Ok(())
+}
+
+fn path_from(alloc: Global, from: Reads) -> Result<String, OutOfMemory> {
+    told(alloc, path_to_register(alloc, &PATH, &from)?)
 }
 
 #[test]
@@ -91,15 +104,13 @@ fn a_path_goes_through_signals_to_a_register(rt: HostRuntime) -> Result<(), Fail
         pins: 1 << 12,
         ..NOTHING
     };
-    match path_to_register(rt.alloc(), &PATH, &from).map_err(|_| "memory")? {
-        Some(path) => assert_eq!(rt; path.as_slice(), [2, 3].as_slice()),
-        None => return Err(Fail::from("a path")),
-    }
+    let path = path_from(rt.alloc(), from)?;
+    assert!(rt; path.as_str() == "[2, 3]");
     let from = Reads {
         nodes: 1,
         ..NOTHING
     };
-    let none = path_to_register(rt.alloc(), &PATH, &from).map_err(|_| "memory")?;
-    assert!(rt; none.is_none());
+    let none = path_from(rt.alloc(), from)?;
+    assert!(rt; none.as_str() == "none");
     Ok(())
 }

@@ -56,14 +56,12 @@ fn refused(
     extension: Extension,
     complement: bool,
     pin: u8,
-) -> Result<Option<RefusedUse>, Fail>
+) -> Result<Option<RefusedUse>, OutOfMemory>
     requires { pin < 32 }
 {
-    let names = names(alloc).map_err(|_| "memory")?;
+    let names = names(alloc)?;
     let mut exprs = Exprs::new(alloc);
-    let when = exprs
-        .add_more(Node::Leaf(Leaf::Pin(pin)))
-        .map_err(|_| "memory")?;
+    let when = exprs.add_more(Node::Leaf(Leaf::Pin(pin)))?;
     let given = [Contribution {
         target: Target {
             signal: 0,
@@ -76,18 +74,43 @@ fn refused(
     Ok(other_level::<Sample>(&names, &exprs, &given))
 }
 
+/// Equations, and whether they are refused.
+const LEVELS: &str = "\
+R.CLK = clk|taken
+!R.CLK = clk|refused
+R.CLK = oe|refused
+R.OE = oe|refused
+!R.OE = oe|taken
+R.AR = oe|taken
+";
+
+/// Whether the equation of a row is refused at its place, or taken, as is told behind its bar.
+fn is_row_told(alloc: Global, row: &str) -> Result<bool, OutOfMemory> {
+    let Some((equation, wanted)) = row.split_once('|') else {
+        return Ok(false);
+    };
+    let complement = equation.starts_with('!');
+    let (extension, pin) = match equation.trim_start_matches('!') {
+        "R.CLK = clk" => (Extension::Clk, 1),
+        "R.CLK = oe" => (Extension::Clk, 4),
+        "R.OE = oe" => (Extension::Oe, 4),
+        "R.AR = oe" => (Extension::Ar, 4),
+        _ => return Ok(false),
+    };
+    match refused(alloc, extension, complement, pin)? {
+        Some(fault) => Ok(
+            wanted == "refused" && fault.place == Place { line: 7, column: 1 } && fault.name == 0,
+        ),
+        None => Ok(wanted == "taken"),
+    }
+}
+
 #[test]
 fn levels_are_compared(rt: HostRuntime) -> Result<(), Fail> {
-    let alloc = rt.alloc();
-    let place = Place { line: 7, column: 1 };
-    let here = Some(RefusedUse { place, name: 0 });
-    // R.CLK = clk; !R.CLK = clk; R.CLK = oe;
-    assert!(rt; refused(alloc, Extension::Clk, false, 1)?.is_none());
-    assert!(rt; refused(alloc, Extension::Clk, true, 1)? == here);
-    assert!(rt; refused(alloc, Extension::Clk, false, 4)? == here);
-    // R.OE = oe; !R.OE = oe; R.AR = oe;
-    assert!(rt; refused(alloc, Extension::Oe, false, 4)? == here);
-    assert!(rt; refused(alloc, Extension::Oe, true, 4)?.is_none());
-    assert!(rt; refused(alloc, Extension::Ar, false, 4)?.is_none());
+    for row in LEVELS.lines() {
+        if !is_row_told(rt.alloc(), row)? {
+            return Err(Fail::new(row));
+        }
+    }
     Ok(())
 }

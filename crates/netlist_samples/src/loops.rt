@@ -2,7 +2,9 @@
 
 use bit_expr::{Leaf, Reads};
 use design_chains::{reset_path, signal_loop};
+use pld_base::OutOfMemory;
 use signal_chains::Link;
+use std::alloc::Global;
 use std::test::Fail;
 
 const NOTHING: Reads = Reads {
@@ -56,18 +58,20 @@ const PATH: [Link; 3] = [
     REGISTER,
 ];
 
+/// The signals of a chain as a text, or `none`.
+fn told(alloc: Global, chain: Option<Vec<u32>>) -> Result<String, OutOfMemory> {
+    match chain {
+        Some(numbers) => Ok(format!(in alloc; "{:?}", numbers.as_slice())?),
+        None => Ok(format!(in alloc; "none")?),
+    }
+}
+
 #[test]
 fn a_loop_is_told_by_names(rt: HostRuntime) -> Result<(), Fail> {
-    match signal_loop(rt.alloc(), &SIGNALS, &LOOP).map_err(|_| "memory")? {
-        Some(chain) => {
-            assert_eq!(rt; chain.len(), 2);
-            assert_eq!(rt; chain[0], 3);
-            assert_eq!(rt; chain[1], 8);
-        }
-        None => return Err(Fail::from("a loop")),
-    }
-    let none = signal_loop(rt.alloc(), &SIGNALS, &PATH).map_err(|_| "memory")?;
-    assert!(rt; none.is_none());
+    let chain = told(rt.alloc(), signal_loop(rt.alloc(), &SIGNALS, &LOOP)?)?;
+    assert!(rt; chain.as_str() == "[3, 8]");
+    let none = told(rt.alloc(), signal_loop(rt.alloc(), &SIGNALS, &PATH)?)?;
+    assert!(rt; none.as_str() == "none");
     Ok(())
 }
 
@@ -77,13 +81,7 @@ fn a_path_ends_at_its_register(rt: HostRuntime) -> Result<(), Fail> {
         nodes: 1,
         ..NOTHING
     };
-    match reset_path(rt.alloc(), &SIGNALS, &PATH, &reset).map_err(|_| "memory")? {
-        Some(path) => {
-            assert_eq!(rt; path.len(), 3);
-            assert_eq!(rt; path[0], 3);
-            assert_eq!(rt; path[2], 9);
-        }
-        None => return Err(Fail::from("a path")),
-    }
+    let path = told(rt.alloc(), reset_path(rt.alloc(), &SIGNALS, &PATH, &reset)?)?;
+    assert!(rt; path.as_str() == "[3, 8, 9]");
     Ok(())
 }

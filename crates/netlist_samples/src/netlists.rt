@@ -1,12 +1,13 @@
 //! The netlist of a few names of the sample device, worked by hand over the two constants.
 
 use abel_tree::{Attributes, Declared, Extension, Meaning, Names};
-use bit_expr::{ExprId, Exprs, Leaf};
+use bit_expr::{CellWanted, ExprId, Exprs, Leaf, Netlist};
 use bitflags::Flags;
 use gathering::gather_up;
 use pld_base::{DeviceName, ListOf, NameText, OutOfMemory, Place};
 use pld_device::Sample;
 use set_expr::{Contribution, Contributions, Gives, Target};
+use signal_chains::Link;
 use std::alloc::Global;
 use std::test::Fail;
 
@@ -92,17 +93,70 @@ fn pin(pin: u8, negated: bool) -> Meaning {
     Meaning::Pin { pin, negated }
 }
 
+fn declared_signal(alloc: Global, text: &str) -> Result<Declared, OutOfMemory> {
+    match text {
+        "a" => declared(alloc, text, pin(2, false), Attributes::COM, false),
+        "n" => declared(alloc, text, Meaning::Node(0), Attributes::COM, true),
+        "R" => declared(alloc, text, pin(8, true), Attributes::REG, true),
+        _ => declared(alloc, text, pin(9, false), Attributes::COM, true),
+    }
+}
+
 /// `a` on pin 2, the node `n`, the register `!R` on the cell that pin 4 enables, and `Y` on the other.
 fn names(alloc: Global) -> Result<Names, OutOfMemory> {
     let mut list = Vec::new(alloc);
-    list.push(declared(alloc, "a", pin(2, false), Attributes::COM, false)?)?;
-    list.push(declared(alloc, "n", Meaning::Node(0), Attributes::COM, true)?)?;
-    list.push(declared(alloc, "R", pin(8, true), Attributes::REG, true)?)?;
-    list.push(declared(alloc, "Y", pin(9, false), Attributes::COM, true)?)?;
+    for text in "a n R Y".split(' ') {
+        list.push(declared_signal(alloc, text)?)?;
+    }
     Ok(Names {
         list: ListOf::from_vec(list),
         device: DeviceName::GAL22V10,
     })
+}
+
+fn is_register(wanted: &CellWanted) -> bool {
+    wanted.cell == 1
+        && wanted.name == 2
+        && wanted.place.line == 8
+        && wanted.registered
+        && wanted.negated
+        && wanted.raw
+        && !wanted.buffer
+        && wanted.enable.is_none()
+}
+
+fn is_output(wanted: &CellWanted) -> bool {
+    match wanted.enable {
+        Some(enable) => wanted.cell == 0 && wanted.function.one == ZERO && enable.place.line == 11,
+        None => false,
+    }
+}
+
+fn is_netlist(net: &Netlist) -> bool {
+    let nodes = match net.nodes.as_slice() {
+        [node] => node.complement,
+        _ => false,
+    };
+    let cells = match net.cells.as_slice() {
+        [register, output] => is_register(register) && is_output(output),
+        _ => false,
+    };
+    nodes
+        && cells
+        && net.pair_of_pin[2] == 2
+        && net.pair_of_pin[3] == 255
+        && net.pair_of_cell[1] == 3
+}
+
+fn are_links(links: &[Link]) -> bool {
+    match links {
+        [node, register, output] => {
+            node.leaf == Some(Leaf::Node(0))
+                && register.leaf == Some(Leaf::Q(1))
+                && output.leaf == Some(Leaf::Pin(9))
+        }
+        _ => false,
+    }
 }
 
 #[tactic(auto, using(bit_expr::proofs::ArenaLists::arena_count))]
@@ -114,31 +168,9 @@ fn nodes_and_cells_are_gathered(rt: HostRuntime) -> Result<(), Fail> {
         list: ListOf::from_vec(Vec::from_slice(rt.alloc(), &EQUATIONS)?),
     };
     let gathered = gather_up::<Sample>(rt.alloc(), &names, found)?;
-    let net = &gathered.net;
-    assert_eq!(rt; net.nodes.as_slice().len(), 1);
-    assert!(rt; net.nodes.as_slice()[0].complement);
-    assert_eq!(rt; net.cells.as_slice().len(), 2);
-    let register = net.cells.as_slice()[0];
-    assert_eq!(rt; register.cell, 1);
-    assert_eq!(rt; register.name, 2);
-    assert_eq!(rt; register.place.line, 8);
-    assert!(rt; register.registered && register.negated && register.raw && !register.buffer);
-    assert!(rt; register.enable.is_none());
-    let output = net.cells.as_slice()[1];
-    assert_eq!(rt; output.cell, 0);
-    assert_eq!(rt; output.function.one, ZERO);
-    match output.enable {
-        Some(enable) => assert_eq!(rt; enable.place.line, 11),
-        None => return Err(Fail::from("an enable")),
-    }
-    assert_eq!(rt; gathered.signals.as_slice().len(), 3);
-    assert_eq!(rt; gathered.signals.as_slice()[1], 2);
-    assert_eq!(rt; gathered.links.as_slice().len(), 3);
-    assert!(rt; gathered.links.as_slice()[0].leaf == Some(Leaf::Node(0)));
-    assert!(rt; gathered.links.as_slice()[1].leaf == Some(Leaf::Q(1)));
-    assert!(rt; gathered.links.as_slice()[2].leaf == Some(Leaf::Pin(9)));
-    assert_eq!(rt; net.pair_of_pin[2], 2);
-    assert_eq!(rt; net.pair_of_pin[3], 255);
-    assert_eq!(rt; net.pair_of_cell[1], 3);
+    assert!(rt; is_netlist(&gathered.net));
+    assert!(rt; are_links(gathered.links.as_slice()));
+    let signals = format!(in rt.alloc(); "{:?}", gathered.signals.as_slice())?;
+    assert!(rt; signals.as_str() == "[1, 2, 3]");
     Ok(())
 }

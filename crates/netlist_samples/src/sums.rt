@@ -4,7 +4,7 @@ use abel_tree::Extension;
 use bit_expr::{ExprId, Exprs};
 use pld_base::Place;
 use set_expr::{Contribution, Gives, Target};
-use signal_sums::sum_up;
+use signal_sums::{Controls, Totals, sum_up};
 use std::test::Fail;
 
 const ZERO: ExprId = ExprId(0);
@@ -56,14 +56,19 @@ const EQUATIONS: [Contribution; 4] = [
     },
 ];
 
-// A table that is don't-care for Y gives it nothing and never matches; Y.D = 1.
-const TABLE: [Contribution; 2] = [
-    Contribution {
-        block: Some(0),
-        dontcare: true,
-        what: Gives::Match,
-        ..GIVEN
-    },
+// A table that is don't-care for Y gives it nothing and never matches.
+const UNMATCHED: Contribution = Contribution {
+    block: Some(0),
+    dontcare: true,
+    what: Gives::Match,
+    ..GIVEN
+};
+
+const FREE: [Contribution; 1] = [UNMATCHED];
+
+// Behind the table, Y.D = 1.
+const FIXED: [Contribution; 2] = [
+    UNMATCHED,
     Contribution {
         target: Target {
             signal: 5,
@@ -74,23 +79,30 @@ const TABLE: [Contribution; 2] = [
     },
 ];
 
+fn has_function(totals: &Totals, one: ExprId, any: ExprId, raw: bool) -> bool {
+    totals.function.one == one && totals.function.any == any && totals.raw == raw
+}
+
+fn has_enable_alone(controls: &Controls) -> bool {
+    match controls.enable {
+        Some(enable) => {
+            enable.bit == ONE
+                && enable.place.column == 30
+                && controls.reset.is_none()
+                && controls.preset.is_none()
+        }
+        None => false,
+    }
+}
+
 #[tactic(auto, using(bit_expr::proofs::ArenaLists::arena_count))]
 #[test]
 fn equations_are_summed_by_what_they_are_for(rt: HostRuntime) -> Result<(), Fail> {
     let mut exprs = Exprs::new(rt.alloc());
-    let totals = sum_up(rt.alloc(), &mut exprs, &EQUATIONS, 5).map_err(|_| "memory")?;
-    assert_eq!(rt; totals.function.one, ZERO);
-    assert_eq!(rt; totals.function.any, ONE);
-    assert!(rt; !totals.function.complement && !totals.raw);
+    let totals = sum_up(rt.alloc(), &mut exprs, &EQUATIONS, 5)?;
+    assert!(rt; has_function(&totals, ZERO, ONE, false) && !totals.function.complement);
     assert!(rt; totals.place == Some(Place { line: 1, column: 1 }));
-    assert!(rt; totals.controls.reset.is_none() && totals.controls.preset.is_none());
-    match totals.controls.enable {
-        Some(enable) => {
-            assert_eq!(rt; enable.bit, ONE);
-            assert_eq!(rt; enable.place.column, 30);
-        }
-        None => return Err(Fail::from("an enable")),
-    }
+    assert!(rt; has_enable_alone(&totals.controls));
     Ok(())
 }
 
@@ -98,12 +110,9 @@ fn equations_are_summed_by_what_they_are_for(rt: HostRuntime) -> Result<(), Fail
 #[test]
 fn where_no_table_matches_a_signal_may_be_anything(rt: HostRuntime) -> Result<(), Fail> {
     let mut exprs = Exprs::new(rt.alloc());
-    let free = sum_up(rt.alloc(), &mut exprs, &TABLE[..1], 5).map_err(|_| "memory")?;
-    assert_eq!(rt; free.function.one, ZERO);
-    assert_eq!(rt; free.function.any, ONE);
-    let fixed = sum_up(rt.alloc(), &mut exprs, &TABLE, 5).map_err(|_| "memory")?;
-    assert_eq!(rt; fixed.function.one, ONE);
-    assert_eq!(rt; fixed.function.any, ZERO);
-    assert!(rt; fixed.raw && !free.raw);
+    let free = sum_up(rt.alloc(), &mut exprs, &FREE, 5)?;
+    assert!(rt; has_function(&free, ZERO, ONE, false));
+    let fixed = sum_up(rt.alloc(), &mut exprs, &FIXED, 5)?;
+    assert!(rt; has_function(&fixed, ONE, ZERO, true));
     Ok(())
 }

@@ -12,7 +12,7 @@ use pld_base::{Boxed, DeviceName, ListOf, NameText, OutOfMemory, Place};
 use pld_device::Sample;
 use std::alloc::Global;
 use std::test::Fail;
-use use_refusals::{RefusedUse, missing_use, unread_use};
+use use_refusals::{missing_use, unread_use};
 
 /// A place on the one line.
 fn at(column: u32) -> Place {
@@ -57,14 +57,22 @@ fn pin(pin: u8) -> Meaning {
     }
 }
 
+fn declared_signal(alloc: Global, text: &str) -> Result<Declared, OutOfMemory> {
+    match text {
+        "e" => declared(alloc, text, pin(4), Attributes::COM, false),
+        "n" => declared(alloc, text, Meaning::Node(0), Attributes::COM, true),
+        "R" => declared(alloc, text, pin(8), Attributes::REG, true),
+        _ => declared(alloc, text, pin(9), Attributes::COM, true),
+    }
+}
+
 /// `e`, which enables and is on no column, the node `n`, the register `R` that `e` enables, the combinational `Y`, and
 /// `k`, which stands for `n.Q`.
 fn names(alloc: Global) -> Result<Names, OutOfMemory> {
     let mut list = Vec::new(alloc);
-    list.push(declared(alloc, "e", pin(4), Attributes::COM, false)?)?;
-    list.push(declared(alloc, "n", Meaning::Node(0), Attributes::COM, true)?)?;
-    list.push(declared(alloc, "R", pin(8), Attributes::REG, true)?)?;
-    list.push(declared(alloc, "Y", pin(9), Attributes::COM, true)?)?;
+    for text in "e n R Y".split(' ') {
+        list.push(declared_signal(alloc, text)?)?;
+    }
     let value = name(alloc, "n", 1, Some(Extension::Q))?;
     let constant = Meaning::Constant(value);
     list.push(declared(alloc, "k", constant, Attributes::COM, false)?)?;
@@ -130,39 +138,44 @@ fn one_equation(alloc: Global, value: Expr) -> Result<Vec<Section>, OutOfMemory>
     Ok(sections)
 }
 
-/// What is refused of an equation for `Y` with this value, first as missing and then as unread.
-fn refused(
-    alloc: Global,
-    value: Expr,
-) -> Result<(Option<RefusedUse>, Option<RefusedUse>), OutOfMemory> {
-    let names = names(alloc)?;
-    let sections = one_equation(alloc, value)?;
-    let missing = missing_use::<Sample>(alloc, &names, sections.as_slice())?;
-    let unread = unread_use::<Sample>(alloc, &names, sections.as_slice())?;
-    Ok((missing, unread))
+fn value(alloc: Global, text: &str) -> Result<Expr, OutOfMemory> {
+    match text {
+        "R.PIN & e" => read_of_pins(alloc),
+        "k" => name(alloc, "k", 30, None),
+        "[R, Y.FB].Q" => read_of_set(alloc),
+        _ => name(alloc, "Y", 50, Some(Extension::Oe)),
+    }
 }
 
-fn used(column: u32, name: u32) -> Option<RefusedUse> {
-    Some(RefusedUse {
-        place: at(column),
-        name,
-    })
+/// Values of an equation for `Y`, and what is refused of it, first as missing and then as unread: the pin of a register
+/// is on no column, and what only enables is no use; a node has no Q, and a constant stands where it is named; an
+/// extension of its own comes before that of the set; an enable can't be read.
+const REFUSED: &str = "\
+R.PIN & e|None|Some(RefusedUse { place: Place { line: 1, column: 10 }, name: 2 })
+k|Some(RefusedUse { place: Place { line: 1, column: 30 }, name: 1 })|None
+[R, Y.FB].Q|Some(RefusedUse { place: Place { line: 1, column: 42 }, name: 3 })|None
+Y.OE|None|Some(RefusedUse { place: Place { line: 1, column: 50 }, name: 3 })
+";
+
+/// Whether an equation for `Y` with the value of a row is refused so.
+fn is_row_told(alloc: Global, row: &str) -> Result<bool, OutOfMemory> {
+    let Some((text, wanted)) = row.split_once('|') else {
+        return Ok(false);
+    };
+    let names = names(alloc)?;
+    let sections = one_equation(alloc, value(alloc, text)?)?;
+    let missing = missing_use::<Sample>(alloc, &names, sections.as_slice())?;
+    let unread = unread_use::<Sample>(alloc, &names, sections.as_slice())?;
+    let told = format!(in alloc; "{missing:?}|{unread:?}")?;
+    Ok(told.as_str() == wanted)
 }
 
 #[test]
 fn uses_are_refused_at_their_places(rt: HostRuntime) -> Result<(), Fail> {
-    let alloc = rt.alloc();
-    // the pin of a register is on no column; what only enables is no use
-    let pins = refused(alloc, read_of_pins(alloc)?)?;
-    assert!(rt; pins.0.is_none() && pins.1 == used(10, 2));
-    // a node has no Q, and a constant stands where it is named
-    let constant = refused(alloc, name(alloc, "k", 30, None)?)?;
-    assert!(rt; constant.0 == used(30, 1) && constant.1.is_none());
-    // an extension of its own comes before that of the set
-    let set = refused(alloc, read_of_set(alloc)?)?;
-    assert!(rt; set.0 == used(42, 3) && set.1.is_none());
-    // an enable can't be read
-    let control = refused(alloc, name(alloc, "Y", 50, Some(Extension::Oe))?)?;
-    assert!(rt; control.0.is_none() && control.1 == used(50, 3));
+    for row in REFUSED.lines() {
+        if !is_row_told(rt.alloc(), row)? {
+            return Err(Fail::new(row));
+        }
+    }
     Ok(())
 }
