@@ -6,7 +6,7 @@ ghost use Rattle.set_expr.specs.KnownNames.{IsKnown};
 
 use abel_tree::{Attributes, Binary, Declared, Expr, Meaning, Member, Names, Number, Unary, Word};
 use pld_base::{Boxed, DeviceName, ListOf, NameText, OutOfMemory, Place};
-use set_expr::{KnownNames, SectionFault, Shape, check, check_constants, known_names};
+use set_expr::{Checked, KnownNames, SectionFault, check, check_constants, known_names};
 use std::alloc::Global;
 use std::test::Fail;
 
@@ -49,20 +49,20 @@ fn sign_of(token: u8) -> Binary {
 }
 
 /// The expression of a text, on this line.
-fn expression(alloc: Global, line: u32, text: &[u8]) -> Result<Expr, OutOfMemory> {
+fn expression(alloc: Global, line: u32, text: &str) -> Result<Expr, OutOfMemory> {
     let mut made: Vec<Expr> = Vec::new(alloc);
     let mut column = 0u32;
-    for token in text {
+    for token in text.bytes() {
         column = column.saturating_add(1);
         let place = Place { line, column };
-        let next = match *token {
-            b'a'..=b'f' | b's'..=b'z' => name(alloc, *token, place)?,
+        let next = match token {
+            b'a'..=b'f' | b's'..=b'z' => name(alloc, token, place)?,
             b'0'..=b'9' => Expr::Number(Number {
-                value: u32::from(*token) - 48,
+                value: u32::from(token) - 48,
                 place,
             }),
             b'X' | b'C' | b'Z' => Expr::Special {
-                letter: *token,
+                letter: token,
                 place,
             },
             b'!' | b'~' => {
@@ -70,7 +70,7 @@ fn expression(alloc: Global, line: u32, text: &[u8]) -> Result<Expr, OutOfMemory
                     return Err(OutOfMemory);
                 };
                 Expr::Unary {
-                    sign: if *token == b'!' {
+                    sign: if token == b'!' {
                         Unary::Not
                     } else {
                         Unary::Minus
@@ -95,11 +95,11 @@ fn expression(alloc: Global, line: u32, text: &[u8]) -> Result<Expr, OutOfMemory
                 let Some(left) = made.pop() else {
                     return Err(OutOfMemory);
                 };
-                if *token == b'[' {
+                if token == b'[' {
                     pair(alloc, place, left, right)?
                 } else {
                     Expr::Binary {
-                        sign: sign_of(*token),
+                        sign: sign_of(token),
                         place,
                         left: Boxed::new(alloc, left)?,
                         right: Boxed::new(alloc, right)?,
@@ -115,9 +115,9 @@ fn expression(alloc: Global, line: u32, text: &[u8]) -> Result<Expr, OutOfMemory
     }
 }
 
-fn declared(alloc: Global, letter: u8, meaning: Meaning) -> Result<Declared, OutOfMemory> {
+fn declared(alloc: Global, letter: &str, meaning: Meaning) -> Result<Declared, OutOfMemory> {
     Ok(Declared {
-        name: NameText::new(alloc, &[letter])?,
+        name: NameText::new(alloc, letter.as_bytes())?,
         place: Place { line: 1, column: 1 },
         meaning,
         attributes: Attributes(0),
@@ -125,21 +125,32 @@ fn declared(alloc: Global, letter: u8, meaning: Meaning) -> Result<Declared, Out
     })
 }
 
-/// Pins a, b and c, and constants, one a line from line 2 on.
-fn names(alloc: Global, constants: &[(u8, &[u8])]) -> Result<Names, OutOfMemory> {
+fn pin(letter: &str) -> Meaning {
+    let pin = match letter {
+        "a" => 1,
+        "b" => 2,
+        _ => 3,
+    };
+    Meaning::Pin {
+        pin,
+        negated: false,
+    }
+}
+
+/// Pins a, b and c, and constants, one a line from line 2 on: its letter, and what it is.
+fn names(alloc: Global, constants: &str) -> Result<Names, OutOfMemory> {
     let mut list = Vec::new(alloc);
-    for pin in 1..4u8 {
-        let meaning = Meaning::Pin {
-            pin,
-            negated: false,
-        };
-        list.push(declared(alloc, b'`' + pin, meaning)?)?;
+    for letter in "a b c".split(' ') {
+        list.push(declared(alloc, letter, pin(letter))?)?;
     }
     let mut line = 1u32;
-    for constant in constants {
+    for constant in constants.lines() {
+        let Some((letter, text)) = constant.split_once(' ') else {
+            return Err(OutOfMemory);
+        };
         line = line.saturating_add(1);
-        let value = expression(alloc, line, constant.1)?;
-        list.push(declared(alloc, constant.0, Meaning::Constant(value))?)?;
+        let value = expression(alloc, line, text)?;
+        list.push(declared(alloc, letter, Meaning::Constant(value))?)?;
     }
     Ok(Names {
         list: ListOf::from_vec(list),
@@ -147,210 +158,182 @@ fn names(alloc: Global, constants: &[(u8, &[u8])]) -> Result<Names, OutOfMemory>
     })
 }
 
-/// The constants of the rows: s and t of two and three positions, u with an X, x and p that are special.
-fn usual(alloc: Global) -> Result<Names, OutOfMemory> {
-    names(
-        alloc,
-        &[
-            (b's', b"ab["),
-            (b't', b"abc[["),
-            (b'u', b"aX["),
-            (b'x', b"X("),
-            (b'w', b"C("),
-            (b'v', b"3"),
-        ],
-    )
-}
+/// The constants of the rows: s and t of two and three positions, u with an X, x and w that are special.
+const USUAL: &str = "\
+s ab[
+t abc[[
+u aX[
+x X(
+w C(
+v 3
+";
 
 /// Rows with a shape and no refusal.
-const ACCEPTED: [(&[u8], Shape); 36] = [
-    (b"5", Shape::Number(5)),
-    (b"v", Shape::Number(3)),
-    (b"a", Shape::Single),
-    (b"a(", Shape::Single),
-    (b"s", Shape::Set(2)),
-    (b"ab[", Shape::Set(2)),
-    (b"as[", Shape::Set(3)),
-    (b"a1[", Shape::Set(2)),
-    (b"aX[", Shape::Set(2)),
-    (b"X", Shape::Single),
-    (b"x", Shape::Single),
-    (b"u", Shape::Set(2)),
-    (b"a!", Shape::Single),
-    (b"s~", Shape::Set(2)),
-    (b"0!", Shape::Number(4_294_967_295)),
-    (b"1~", Shape::Number(4_294_967_295)),
-    (b"ab&", Shape::Single),
-    (b"as&", Shape::Set(2)),
-    (b"s9#", Shape::Set(2)),
-    (b"9a$", Shape::Single),
-    (b"65&", Shape::Number(4)),
-    (b"63#", Shape::Number(7)),
-    (b"65$", Shape::Number(3)),
-    (b"ab+", Shape::Single),
-    (b"s9+", Shape::Set(2)),
-    (b"12-", Shape::Number(4_294_967_295)),
-    (b"67*", Shape::Number(42)),
-    (b"92/", Shape::Number(4)),
-    (b"92%", Shape::Number(1)),
-    (b"14l", Shape::Number(16)),
-    (b"92r", Shape::Number(2)),
-    (b"188*8*l", Shape::Number(0)),
-    (b"ss=", Shape::Single),
-    (b"s9=", Shape::Single),
-    (b"us<", Shape::Single),
-    (b"12<", Shape::Single),
-];
+const ACCEPTED: &str = "\
+5|Number(5)
+v|Number(3)
+a|Single
+a(|Single
+s|Set(2)
+ab[|Set(2)
+as[|Set(3)
+a1[|Set(2)
+aX[|Set(2)
+X|Single
+x|Single
+u|Set(2)
+a!|Single
+s~|Set(2)
+0!|Number(4294967295)
+1~|Number(4294967295)
+ab&|Single
+as&|Set(2)
+s9#|Set(2)
+9a$|Single
+65&|Number(4)
+63#|Number(7)
+65$|Number(3)
+ab+|Single
+s9+|Set(2)
+12-|Number(4294967295)
+67*|Number(42)
+92/|Number(4)
+92%|Number(1)
+14l|Number(16)
+92r|Number(2)
+188*8*l|Number(0)
+ss=|Single
+s9=|Single
+us<|Single
+12<|Single
+";
 
-/// Rows that are refused on line 9, at this column.
-const MISPLACED: [(&[u8], u32); 10] = [
-    (b"C", 1),
-    (b"w", 1),
-    (b"aC[", 2),
-    (b"X!", 1),
-    (b"aX&", 2),
-    (b"Xx#", 1),
-    (b"ux+", 1),
-    (b"aX[b&", 2),
-    (b"us&", 1),
-    (b"w1=", 1),
-];
+/// Rows that are refused.
+const REFUSED: &str = "\
+C|Some(MisplacedSpecial(Place { line: 9, column: 1 }))
+w|Some(MisplacedSpecial(Place { line: 9, column: 1 }))
+aC[|Some(MisplacedSpecial(Place { line: 9, column: 2 }))
+X!|Some(MisplacedSpecial(Place { line: 9, column: 1 }))
+aX&|Some(MisplacedSpecial(Place { line: 9, column: 2 }))
+Xx#|Some(MisplacedSpecial(Place { line: 9, column: 1 }))
+ux+|Some(MisplacedSpecial(Place { line: 9, column: 1 }))
+aX[b&|Some(MisplacedSpecial(Place { line: 9, column: 2 }))
+us&|Some(MisplacedSpecial(Place { line: 9, column: 1 }))
+w1=|Some(MisplacedSpecial(Place { line: 9, column: 1 }))
+st&|Some(BadWidth(Place { line: 9, column: 3 }))
+st+|Some(BadWidth(Place { line: 9, column: 3 }))
+st=|Some(BadWidth(Place { line: 9, column: 3 }))
+as+|Some(BadWidth(Place { line: 9, column: 3 }))
+sa<|Some(BadWidth(Place { line: 9, column: 3 }))
+a2[|Some(BadWidth(Place { line: 9, column: 3 }))
+av[|Some(BadWidth(Place { line: 9, column: 3 }))
+st&t+|Some(BadWidth(Place { line: 9, column: 3 }))
+st=a#|Some(BadWidth(Place { line: 9, column: 3 }))
+ab*|Some(NotConstant(Place { line: 9, column: 3 }))
+sa/|Some(NotConstant(Place { line: 9, column: 3 }))
+5sl|Some(NotConstant(Place { line: 9, column: 3 }))
+a0/|Some(NotConstant(Place { line: 9, column: 3 }))
+3ab*/|Some(NotConstant(Place { line: 9, column: 4 }))
+50/ab*+|Some(ZeroDivisor(Place { line: 9, column: 3 }))
+";
 
-const WIDTHS: [(&[u8], u32); 9] = [
-    (b"st&", 3),
-    (b"st+", 3),
-    (b"st=", 3),
-    (b"as+", 3),
-    (b"sa<", 3),
-    (b"a2[", 3),
-    (b"av[", 3),
-    (b"st&t+", 3),
-    (b"st=a#", 3),
-];
+fn checked(
+    alloc: Global,
+    names: &Names,
+    known: &KnownNames,
+    text: &str,
+) -> Result<Checked, OutOfMemory>
+    requires { IsKnown (entries_of names.now) known.now }
+{
+    check(alloc, names, known, &expression(alloc, 9, text)?)
+}
 
-const CONSTANTS: [(&[u8], u32); 5] = [
-    (b"ab*", 3),
-    (b"sa/", 3),
-    (b"5sl", 3),
-    (b"a0/", 3),
-    (b"3ab*/", 4),
-];
+/// Whether the expression of a row has the shape or the refusal that stands behind its bar.
+fn is_row_told(
+    alloc: Global,
+    names: &Names,
+    known: &KnownNames,
+    row: &str,
+) -> Result<bool, OutOfMemory>
+    requires { IsKnown (entries_of names.now) known.now }
+{
+    let Some((text, wanted)) = row.split_once('|') else {
+        return Ok(false);
+    };
+    let found = checked(alloc, names, known, text)?;
+    let told = match (found.fault, found.shape) {
+        (None, Some(shape)) => format!(in alloc; "{shape:?}")?,
+        (fault, _) => format!(in alloc; "{fault:?}")?,
+    };
+    Ok(told.as_str() == wanted)
+}
 
-#[test]
-fn shapes_by_hand(rt: HostRuntime) -> Result<(), Fail> {
-    let names = usual(rt.alloc())?;
-    let known = known_names(rt.alloc(), &names)?;
-    for row in ACCEPTED.as_slice() {
-        let found = check(
-            rt.alloc(),
-            &names,
-            &known,
-            &expression(rt.alloc(), 9, row.0)?,
-        )?;
-        assert_eq!(rt; found.fault, None);
-        assert_eq!(rt; found.shape, Some(row.1));
+/// Each row begins with an expression over these constants, and tells its shape or its refusal.
+fn each_row_is_told(alloc: Global, constants: &str, rows: &str) -> Result<(), Fail> {
+    let names = names(alloc, constants)?;
+    let known = known_names(alloc, &names)?;
+    for row in rows.lines() {
+        if !is_row_told(alloc, &names, &known, row)? {
+            return Err(Fail::new(row));
+        }
     }
     Ok(())
 }
 
-fn refusal(
-    alloc: Global,
-    names: &Names,
-    known: &KnownNames,
-    text: &[u8],
-) -> Result<Option<SectionFault>, OutOfMemory>
-    requires { IsKnown (entries_of names.now) known.now }
-{
-    let found = check(alloc, names, known, &expression(alloc, 9, text)?)?;
-    Ok(found.fault)
+#[test]
+fn shapes_by_hand(rt: HostRuntime) -> Result<(), Fail> {
+    each_row_is_told(rt.alloc(), USUAL, ACCEPTED)
 }
 
 #[test]
 fn refusals_by_hand(rt: HostRuntime) -> Result<(), Fail> {
-    let names = usual(rt.alloc())?;
-    let known = known_names(rt.alloc(), &names)?;
-    for row in MISPLACED.as_slice() {
-        let place = Place {
-            line: 9,
-            column: row.1,
-        };
-        let found = refusal(rt.alloc(), &names, &known, row.0)?;
-        assert_eq!(rt; found, Some(SectionFault::MisplacedSpecial(place)));
-    }
-    for row in WIDTHS.as_slice() {
-        let place = Place {
-            line: 9,
-            column: row.1,
-        };
-        let found = refusal(rt.alloc(), &names, &known, row.0)?;
-        assert_eq!(rt; found, Some(SectionFault::BadWidth(place)));
-    }
-    for row in CONSTANTS.as_slice() {
-        let place = Place {
-            line: 9,
-            column: row.1,
-        };
-        let found = refusal(rt.alloc(), &names, &known, row.0)?;
-        assert_eq!(rt; found, Some(SectionFault::NotConstant(place)));
-    }
-    let place = Place { line: 9, column: 3 };
-    let found = refusal(rt.alloc(), &names, &known, b"50/ab*+")?;
-    assert_eq!(rt; found, Some(SectionFault::ZeroDivisor(place)));
-    Ok(())
+    each_row_is_told(rt.alloc(), USUAL, REFUSED)
+}
+
+/// What is refused of constants in their order.
+fn constant_fault(alloc: Global, constants: &str) -> Result<Option<SectionFault>, OutOfMemory> {
+    let names = names(alloc, constants)?;
+    let known = known_names(alloc, &names)?;
+    Ok(check_constants(&names, &known).err())
 }
 
 #[test]
 fn constants_by_hand(rt: HostRuntime) -> Result<(), Fail> {
-    let names = usual(rt.alloc())?;
-    let known = known_names(rt.alloc(), &names)?;
-    assert_eq!(rt; check_constants(&names, &known), Ok(()));
-    let found = check(
-        rt.alloc(),
-        &names,
-        &known,
-        &expression(rt.alloc(), 9, b"u")?,
-    )?;
-    let place = Place { line: 9, column: 1 };
-    assert_eq!(rt; found.special, Some(SectionFault::MisplacedSpecial(place)));
-    let refused = self::names(
-        rt.alloc(),
-        &[(b's', b"ab["), (b't', b"sX&"), (b'u', b"st[t/")],
-    )?;
-    let known = known_names(rt.alloc(), &refused)?;
+    assert_eq!(rt; constant_fault(rt.alloc(), USUAL)?, None);
     let place = Place { line: 3, column: 2 };
     assert_eq!(rt;
-        check_constants(&refused, &known),
-        Err(SectionFault::MisplacedSpecial(place))
+        constant_fault(rt.alloc(), "s ab[\nt sX&\nu st[t/")?,
+        Some(SectionFault::MisplacedSpecial(place))
     );
     Ok(())
 }
 
+#[test]
+fn a_constant_that_is_special_by_hand(rt: HostRuntime) -> Result<(), Fail> {
+    let names = names(rt.alloc(), USUAL)?;
+    let known = known_names(rt.alloc(), &names)?;
+    let found = checked(rt.alloc(), &names, &known, "u")?;
+    let place = Place { line: 9, column: 1 };
+    assert_eq!(rt; found.special, Some(SectionFault::MisplacedSpecial(place)));
+    Ok(())
+}
+
 // Each constant is a sum of the one before it, mostly ten times: as a tree the last has 10 to the power of 9 leaves.
+const SUMS: &str = "\
+s ab[
+t ss+ss++
+u tttttttttt+++++++++
+v uuuuuuuuuu+++++++++
+w vvvvvvvvvv+++++++++
+x wwwwwwwwww+++++++++
+y xxxxxxxxxx+++++++++
+z yyyyyyyyyy+++++++++
+d zzzzzzzzzz+++++++++
+e dddddddddd+++++++++
+f eeeeeeeeee+++++++++
+";
+
 #[test]
 fn constants_that_double_are_checked_at_once(rt: HostRuntime) -> Result<(), Fail> {
-    let names = names(
-        rt.alloc(),
-        &[
-            (b's', b"ab["),
-            (b't', b"ss+ss++"),
-            (b'u', b"tttttttttt+++++++++"),
-            (b'v', b"uuuuuuuuuu+++++++++"),
-            (b'w', b"vvvvvvvvvv+++++++++"),
-            (b'x', b"wwwwwwwwww+++++++++"),
-            (b'y', b"xxxxxxxxxx+++++++++"),
-            (b'z', b"yyyyyyyyyy+++++++++"),
-            (b'd', b"zzzzzzzzzz+++++++++"),
-            (b'e', b"dddddddddd+++++++++"),
-            (b'f', b"eeeeeeeeee+++++++++"),
-        ],
-    )?;
-    let known = known_names(rt.alloc(), &names)?;
-    let found = check(
-        rt.alloc(),
-        &names,
-        &known,
-        &expression(rt.alloc(), 9, b"ff+f+")?,
-    )?;
-    assert_eq!(rt; found.shape, Some(Shape::Set(2)));
-    Ok(())
+    each_row_is_told(rt.alloc(), SUMS, "ff+f+|Set(2)")
 }

@@ -67,6 +67,13 @@ fn giving(guard: Guard) -> Giving
     }
 }
 
+fn is_one_and(list: &[Contribution]) -> bool {
+    match list {
+        [made] => made.when == ExprId(3) && made.dontcare && made.place.column == 8,
+        _ => false,
+    }
+}
+
 #[test]
 fn an_and_with_the_guard_is_made(rt: HostRuntime) -> Result<(), Fail> {
     let names = names(rt.alloc())?;
@@ -79,10 +86,7 @@ fn an_and_with_the_guard_is_made(rt: HostRuntime) -> Result<(), Fail> {
     };
     let mut list: Vec<Contribution> = Vec::new(rt.alloc());
     give(&names, giving(guard), aim(2, 8), bit, &mut exprs, &mut list)?;
-    assert_eq!(rt; list.len(), 1);
-    assert_eq!(rt; list.as_slice()[0].when, ExprId(3));
-    assert_eq!(rt; list.as_slice()[0].dontcare, true);
-    assert_eq!(rt; list.as_slice()[0].place.column, 8);
+    assert!(rt; is_one_and(list.as_slice()));
     Ok(())
 }
 
@@ -129,17 +133,20 @@ fn single(alloc: Global) -> Result<Shaped, OutOfMemory> {
     })
 }
 
+/// Whether a value meets so many signals as these bits.
+fn is_met(alloc: Global, value: Shaped, width: usize, wanted: &str) -> Result<bool, OutOfMemory> {
+    let word = meet(alloc, &value, width)?;
+    let told = format!(in alloc; "{:?}", word.as_slice())?;
+    Ok(told.as_str() == wanted)
+}
+
 #[test]
 fn a_value_meets_signals(rt: HostRuntime) -> Result<(), Fail> {
     let alloc = rt.alloc();
-    let (low, high, bit) = (ExprId(0), ExprId(1), ExprId(2));
-    let digits = meet(alloc, &number(alloc, 6), 3)?;
-    assert_eq!(rt; digits.as_slice(), [low, high, high].as_slice());
-    let cut = meet(alloc, &number(alloc, 5), 2)?;
-    assert_eq!(rt; cut.as_slice(), [high, low].as_slice());
-    let spread = meet(alloc, &single(alloc)?, 2)?;
-    assert_eq!(rt; spread.as_slice(), [bit, bit].as_slice());
-    let set = meet(alloc, &pair(alloc)?, 3)?;
-    assert_eq!(rt; set.as_slice(), [bit, low, low].as_slice());
+    let digits = "[ExprId(0), ExprId(1), ExprId(1)]";
+    assert!(rt; is_met(alloc, number(alloc, 6), 3, digits)?);
+    assert!(rt; is_met(alloc, number(alloc, 5), 2, "[ExprId(1), ExprId(0)]")?);
+    assert!(rt; is_met(alloc, single(alloc)?, 2, "[ExprId(2), ExprId(2)]")?);
+    assert!(rt; is_met(alloc, pair(alloc)?, 3, "[ExprId(2), ExprId(0), ExprId(0)]")?);
     Ok(())
 }

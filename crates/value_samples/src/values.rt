@@ -26,8 +26,8 @@ fn a_number_meets_a_bit(rt: HostRuntime) -> Result<(), Fail> {
     assert_eq!(rt; width_of_both(&bit, &number), 1);
     assert_eq!(rt; width_of_both(&number, &number), 32);
     let flags = dropped(alloc, &bit, &number, 1)?;
-    assert!(rt; *flags.as_slice() == *[true].as_slice());
     let word = meet_word(alloc, &number, 2)?;
-    assert!(rt; *word.as_slice() == *[ExprId(0), ExprId(1)].as_slice());
+    let told = format!(in alloc; "{:?} {:?}", flags.as_slice(), word.as_slice())?;
+    assert!(rt; told.as_str() == "[true] [ExprId(0), ExprId(1)]");
     Ok(())
 }

@@ -9,7 +9,8 @@ use bit_words::{
     complement_word, difference_word, digit_word, kept_relation, kept_word, operator_word,
     relation_word, resized_word, spread_word, unary_word,
 };
-use pld_base::Point;
+use pld_base::{OutOfMemory, Point};
+use std::alloc::Global;
 use std::test::Fail;
 
 #[test]
@@ -63,21 +64,28 @@ fn differences_keep_their_width(rt: HostRuntime) -> Result<(), Fail> {
     Ok(())
 }
 
+/// Whether a word has these ids.
+fn is_word(alloc: Global, word: Vec<ExprId>, wanted: &str) -> Result<bool, OutOfMemory> {
+    let told = format!(in alloc; "{:?}", word.as_slice())?;
+    Ok(told.as_str() == wanted)
+}
+
+/// The id of a bit that is no constant.
+const BIT: ExprId = ExprId(2);
+
 #[test]
 fn words_of_positions(rt: HostRuntime) -> Result<(), Fail> {
     let alloc = rt.alloc();
-    let mut exprs = Exprs::new(alloc);
-    let a = exprs.add(Node::Leaf(Leaf::Pin(0)))?;
-    let digits = digit_word(alloc, 5, 4)?;
-    assert!(rt; *digits.as_slice() == *[ExprId(1), ExprId(0), ExprId(1), ExprId(0)].as_slice());
-    let filled = resized_word(alloc, &[a], 2)?;
-    assert!(rt; *filled.as_slice() == *[a, ExprId(0)].as_slice());
-    let cut = resized_word(alloc, digits.as_slice(), 1)?;
-    assert!(rt; *cut.as_slice() == *[ExprId(1)].as_slice());
-    let spread = spread_word(alloc, a, 3)?;
-    assert!(rt; *spread.as_slice() == *[a, a, a].as_slice());
-    let kept = kept_word(alloc, &[true, false], &[ExprId(1), a])?;
-    assert!(rt; *kept.as_slice() == *[a].as_slice());
+    let digits = "[ExprId(1), ExprId(0), ExprId(1), ExprId(0)]";
+    assert!(rt; is_word(alloc, digit_word(alloc, 5, 4)?, digits)?);
+    let filled = resized_word(alloc, &[BIT], 2)?;
+    assert!(rt; is_word(alloc, filled, "[ExprId(2), ExprId(0)]")?);
+    let cut = resized_word(alloc, digit_word(alloc, 5, 4)?.as_slice(), 1)?;
+    assert!(rt; is_word(alloc, cut, "[ExprId(1)]")?);
+    let spread = spread_word(alloc, BIT, 3)?;
+    assert!(rt; is_word(alloc, spread, "[ExprId(2), ExprId(2), ExprId(2)]")?);
+    let kept = kept_word(alloc, &[true, false], &[ExprId(1), BIT])?;
+    assert!(rt; is_word(alloc, kept, "[ExprId(2)]")?);
     Ok(())
 }
 
