@@ -1,5 +1,6 @@
 //! How the sources of a table are tried. A table is one text: rows of one line, or cases that begin with what is told of them.
 
+use crate::command_lines::run_line;
 use abel_compile::{CompileFault, Compiled, compile};
 use std::alloc::{AllocError, Global};
 use std::test::Fail;
@@ -47,8 +48,15 @@ fn has_lines(text: &[u8], lines: &str, between: char) -> bool {
     next.is_none()
 }
 
-/// Whether a case's source has the summary and the lines of a file that stand before it.
-fn is_case_compiled(alloc: Global, case: &str) -> Result<bool, AllocError> {
+/// Whether the vectors of a file agree on the device with its fuses.
+fn agrees(alloc: Global, made: &Compiled) -> Result<bool, Fail> {
+    let line = format!(in alloc; "simulate {} f", made.device.text())?;
+    let done = run_line(alloc, line.as_str(), ("f", &made.file), (0, 0))?;
+    Ok(done.status == 0)
+}
+
+/// Whether a case's source has the summary and the lines of a file that stand before it, and vectors that agree.
+fn is_case_compiled(alloc: Global, case: &str) -> Result<bool, Fail> {
     let Some((told, source)) = case.split_once("\nmodule ") else {
         return Ok(false);
     };
@@ -59,7 +67,9 @@ fn is_case_compiled(alloc: Global, case: &str) -> Result<bool, AllocError> {
     let summary = format!(in alloc; "compiled {summary}\n")?;
     match compiled(alloc, source.as_str()) {
         Ok(made) => Ok(
-            made.summary.as_slice() == summary.as_bytes() && has_lines(&made.file, lines, '\n'),
+            made.summary.as_slice() == summary.as_bytes()
+                && has_lines(&made.file, lines, '\n')
+                && agrees(alloc, &made)?,
         ),
         Err(_) => Ok(false),
     }

@@ -237,10 +237,11 @@ fn in_and_out_may_be_one_name(rt: HostRuntime) -> Result<(), Fail> {
     Ok(())
 }
 
+// A lone `@` is no directive, and no fuse file begins with one; but the length is told first.
 #[test]
 fn long_files_are_refused(rt: HostRuntime) -> Result<(), Fail> {
     let alloc = rt.alloc();
-    let long = vec![in alloc; b' '; 1_048_577]?;
+    let long = vec![in alloc; b'@'; 1_048_577]?;
     for (line, status) in [
         ("compile long out", 2),
         ("list long", 2),

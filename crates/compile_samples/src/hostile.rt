@@ -90,8 +90,28 @@ fn a_front_of_a_fuse_file_is_none(rt: HostRuntime) -> Result<(), Fail> {
     Ok(())
 }
 
+/// Where the end of the text stands in the first design's fuse file; its sum stands behind.
+const END: usize = 178;
+
+/// How the report begins on the file with another byte at a place, before what stood behind it.
+///
 /// Every change of one byte changes the sum of the file. It is accepted nowhere but where an end of the text takes the place of
 /// the L of L0000: the four digits behind stand for a sum that was not computed, and no fuse needs to be listed behind F0.
+fn told_of(place: usize, byte: u8, behind: &[u8]) -> &'static str {
+    let has_sum = behind.len() >= 4 && behind.iter().take(4).all(|digit| digit.is_ascii_hexdigit());
+    if place == 0 {
+        "error NoStart\n"
+    } else if byte == 3 && behind.starts_with(b"0000") {
+        "checked P16L8 "
+    } else if byte == 3 && !has_sum {
+        "error NoEnd\n"
+    } else if place == END || place > END && !byte.is_ascii_hexdigit() {
+        "error NoEnd\n"
+    } else {
+        "error FileSum read "
+    }
+}
+
 #[test]
 fn a_changed_byte_is_found(rt: HostRuntime) -> Result<(), Fail> {
     let alloc = rt.alloc();
@@ -99,11 +119,21 @@ fn a_changed_byte_is_found(rt: HostRuntime) -> Result<(), Fail> {
     for place in 0..file.len() {
         let own = file[place];
         for byte in 0..=u8::MAX {
+            if byte == own {
+                continue;
+            }
             file[place] = byte;
             let done = run_line(alloc, "check P16L8 f", ("f", &file), (0, 0))?;
-            let is_early_end = byte == 3 && Y1_FILE.as_bytes()[place..].starts_with(b"L0000");
-            let status = if byte == own || is_early_end { 0 } else { 4 };
-            assert_eq!(rt; done.status, status, "{place} {byte}");
+            let told = told_of(place, byte, &file[place + 1..]);
+            assert!(rt;
+                done.report.bytes().starts_with(told.as_bytes()),
+                "{place} {byte}"
+            );
+            assert_eq!(rt;
+                done.status == 0,
+                told.starts_with("checked"),
+                "{place} {byte}"
+            );
         }
         file[place] = own;
     }

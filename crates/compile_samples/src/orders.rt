@@ -229,6 +229,26 @@ Y = a; !Y = b;
 error BadRow at 5:1
 truth_table (a -> Y)
 [0,1] -> 1;
+state_diagram Z
+state 2: goto 0;
+error BadState at 5:1
+state_diagram Z
+state 2: goto 0;
+truth_table (a -> Y)
+[0,1] -> 1;
+error BadState at 5:1
+state_diagram Z
+state 2: goto 0;
+test_vectors (a -> Y)
+0 -> .C.;
+error BadVector at 5:1
+test_vectors (a -> Y)
+0 -> .C.;
+state_diagram Z
+state 2: goto 0;
+error BadRow at 5:1
+truth_table (a -> Y)
+[0,1] -> 1;
 test_vectors (a -> Y)
 0 -> .C.;
 error BadVector at 5:1
@@ -266,7 +286,7 @@ equations
 a := b; a = b;
 ";
 
-// The limit of nodes is the last kind of its phase; it comes only where its unit, and those before it, have no other.
+// The limit of nodes is the last kind of its phase; it comes by place, but only where its unit, and those before it, have no other.
 const LIMITS: &str = "\
 error NodeLimit at 7:9
 t MACRO (x) {?x + ?x + ?x + ?x + ?x + ?x + ?x + ?x};
@@ -275,6 +295,13 @@ equations
 Z := a; Y = k3 + k3 + k3 == 0;
 test_vectors (a -> Y)
 0 -> .C.;
+error BadVector at 7:1
+t MACRO (x) {?x + ?x + ?x + ?x + ?x + ?x + ?x + ?x};
+w = [a,b,c,a,b,c,a,b]; k0 = [w,w,w,w]; k1 = t(k0); k2 = t(k1); k3 = t(k2);
+test_vectors (a -> Y)
+0 -> .C.;
+equations
+Y = k3 + k3 + k3 == 0;
 error MixedAssignment at 7:8 Y
 t MACRO (x) {?x + ?x + ?x + ?x + ?x + ?x + ?x + ?x};
 w = [a,b,c,a,b,c,a,b]; k0 = [w,w,w,w]; k1 = t(k0); k2 = t(k1); k3 = t(k2);

@@ -3,8 +3,10 @@
 use crate::cases::{has_file, has_listing};
 
 const SOURCE: &str = "module y1
+\" x \"
 u device 'P16L8';
 a,b,c pin 1,2,3;
+// y
 Y pin 19;
 equations
 !Y = a & b # c;
