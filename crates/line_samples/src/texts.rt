@@ -32,9 +32,10 @@ fn the_first_of_three_refusals_comes(rt: HostRuntime) -> Result<(), Fail> {
             b"module m module \\",
             ReadFault::Scan(ScanFault::NotText(at(1, 17))),
         ),
+        // The end of the text, behind its last line feed.
         (
-            b"module m module",
-            ReadFault::Parse(ParseFault::Syntax(at(1, 10))),
+            b"module m\nequations y = a;\n",
+            ReadFault::Parse(ParseFault::Syntax(at(3, 1))),
         ),
     ];
     for (text, fault) in rows {
