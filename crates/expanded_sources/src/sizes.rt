@@ -76,7 +76,8 @@ fn one_rewriting_more_is_refused(rt: HostRuntime) -> Result<(), Fail> {
 }
 
 #[test]
-fn a_macro_that_calls_itself_before_a_long_comment(rt: HostRuntime) -> Result<(), Fail> {
+fn a_macro_that_calls_itself(rt: HostRuntime) -> Result<(), Fail> {
+    ends(rt.alloc(), b"loop MACRO {loop};\nloop", "1 ExpansionLimit 2:1")?;
     let note = text(rt.alloc(), "a MACRO {a};a \"", "0123456789", 104_800, "")?;
     ends(rt.alloc(), note.as_bytes(), "0 ExpansionLimit 1:1")?;
     let blanks = text(rt.alloc(), "a MACRO {a };a ", "          ", 90_000, "")?;
@@ -103,8 +104,10 @@ fn a_block_in_many_braces(rt: HostRuntime) -> Result<(), Fail> {
 }
 
 #[test]
-fn the_longest_result_is_taken(rt: HostRuntime) -> Result<(), Fail> {
+fn the_longest_result_is_taken_and_no_longer_one(rt: HostRuntime) -> Result<(), Fail> {
     ends(rt.alloc(), b"xy@REPEAT 1048574 {a}", "1048576")?;
+    ends(rt.alloc(), b"xy@REPEAT 1048575 {a}", "2 TooLong 1:3")?;
+    ends(rt.alloc(), b"@REPEAT 2000000 {a}", "0 TooLong 1:1")?;
     ends(rt.alloc(), b"@REPEAT 1024 {@REPEAT 2 {a}}", "2048")
 }
 

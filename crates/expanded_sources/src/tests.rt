@@ -143,14 +143,20 @@ fn the_rows_of_the_language_page(rt: HostRuntime) -> Result<(), Fail> {
     each_is_expanded(rt.alloc(), PAGE)
 }
 
-#[test]
-fn a_reader_gives_the_same(rt: HostRuntime) -> Result<(), Fail> {
-    for row in CALLS.lines() {
-        if !is_given(rt.alloc(), row)? {
+/// A reader gives the bytes of each row.
+fn each_is_given(alloc: Global, rows: &str) -> Result<(), Fail> {
+    for row in rows.lines() {
+        if !is_given(alloc, row)? {
             return Err(Fail::new(row));
         }
     }
     Ok(())
+}
+
+#[test]
+fn a_reader_gives_the_same(rt: HostRuntime) -> Result<(), Fail> {
+    each_is_given(rt.alloc(), CALLS)?;
+    each_is_given(rt.alloc(), REPEATS)
 }
 
 #[test]
