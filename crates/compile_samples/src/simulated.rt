@@ -1,14 +1,13 @@
 //! Sources with test vectors, compiled and then simulated over files in memory.
 
-use crate::command_lines::run_line;
-use std::alloc::Global;
+use crate::cases::each_case_is_compiled;
 use std::test::Fail;
 
-// The summary, the report of the simulation, and the source. The rows and sums were worked by hand from the devices' diagrams, and
+// The summary, the sum as the file has it, and the source. The rows and sums were worked by hand from the devices' diagrams, and
 // the levels of the vectors from what each source says.
 const SIMULATED: &str = "\
 compiled P16L8 cells 1 products 2 opened 93 sum 0BDF
-simulated P16L8 vectors 4 mismatches 0
+C0BDF*
 module y1
 u device 'P16L8';
 a,b,c pin 1,2,3;
@@ -19,7 +18,7 @@ test_vectors ([a,b,c] -> Y)
 [0,0,0] -> 1; [1,1,0] -> 0; [1,0,0] -> 1; [0,0,1] -> 0;
 end
 compiled P16L8 cells 1 products 2 opened 92 sum 0BAA
-simulated P16L8 vectors 4 mismatches 0
+C0BAA*
 module y2
 u device 'P16L8';
 a,b,c pin 1,2,3;
@@ -30,7 +29,7 @@ test_vectors ([a,b,c] -> Y)
 [0,0,0] -> 0; [1,1,0] -> 1; [1,0,0] -> 0; [0,0,1] -> 1;
 end
 compiled GAL22V10 cells 2 products 1 opened 144 sum 1162
-simulated GAL22V10 vectors 2 mismatches 0
+C1162*
 module k4
 d device 'GAL22V10';
 a pin 2; Y pin 23; Z pin 22;
@@ -40,7 +39,7 @@ test_vectors (a -> [Y,Z])
 0 -> [1,0]; 1 -> [1,0];
 end
 compiled P16R4 cells 2 products 3 opened 91 sum 0B24
-simulated P16R4 vectors 6 mismatches 0
+C0B24*
 module cnt
 u device 'P16R4';
 clk,oe pin 1,11; q0,q1 pin 17,16 istype 'reg';
@@ -50,7 +49,7 @@ test_vectors ([clk,oe] -> [q1,q0])
 [0,0] -> 3; [.C.,0] -> 0; [.C.,0] -> 1; [0,1] -> .Z.; [.C.,1] -> .Z.; [0,0] -> 2;
 end
 compiled GAL22V10 cells 3 products 6 opened 394 sum 3077
-simulated GAL22V10 vectors 10 mismatches 0
+C3077*
 module cnt
 d device 'GAL22V10';
 clk pin 1; q0,q1,q2 pin 23,22,21 istype 'reg,buffer';
@@ -61,7 +60,7 @@ test_vectors (clk -> count)
 0 -> 0; .C. -> 1; .C. -> 2; .C. -> 3; .C. -> 4; .C. -> 5; .C. -> 6; .C. -> 7; .C. -> 0; 0 -> 0;
 end
 compiled GAL22V10 cells 1 products 1 opened 139 sum 113A
-simulated GAL22V10 vectors 5 mismatches 0
+C113A*
 module rst
 u device 'GAL22V10';
 clk,d,rst pin 1,2,3; q pin 23 istype 'reg,invert';
@@ -71,7 +70,7 @@ test_vectors ([clk,d,rst] -> q)
 [0,0,0] -> 1; [.C.,0,0] -> 0; [0,0,1] -> 1; [0,0,0] -> 1; [.C.,0,1] -> 1;
 end
 compiled GAL22V10 cells 2 products 2 opened 185 sum 16F5
-simulated GAL22V10 vectors 6 mismatches 0
+C16F5*
 module tab
 u device 'GAL22V10';
 clk,a,b pin 1,2,3; y pin 23; q pin 22 istype 'reg,buffer';
@@ -83,7 +82,7 @@ test_vectors ([clk,a,b] -> [y,q])
 [0,1,1] -> [1,0]; [.C.,1,1] -> [1,1]; [0,0,1] -> [0,1]; [.C.,0,1] -> [0,0]; [.C.,1,0] -> [1,1]; [0,0,0] -> [.X.,1];
 end
 compiled GAL22V10 cells 3 products 4 opened 307 sum 25CA
-simulated GAL22V10 vectors 7 mismatches 0
+C25CA*
 module m
 d device 'GAL22V10';
 clk pin 1; q2,q1,q0 pin 21,22,23 istype 'reg,buffer';
@@ -97,7 +96,7 @@ test_vectors (clk -> [q2..q0])
 0 -> 0; .C. -> 1; .C. -> 2; .C. -> 3; .C. -> 4; .C. -> 0; .C. -> 1;
 end
 compiled GAL22V10 cells 3 products 4 opened 310 sum 2612
-simulated GAL22V10 vectors 7 mismatches 0
+C2612*
 module m
 d device 'GAL22V10';
 clk pin 1; q2,q1,q0 pin 21,22,23 istype 'reg,buffer,dc';
@@ -111,7 +110,7 @@ test_vectors (clk -> [q2..q0])
 0 -> 0; .C. -> 1; .C. -> 2; .C. -> 3; .C. -> 4; .C. -> 0; .C. -> 1;
 end
 compiled GAL22V10 cells 1 products 8 opened 375 sum 31A4
-simulated GAL22V10 vectors 6 mismatches 0
+C31A4*
 module odd
 d device 'GAL22V10';
 a,b,c,e,f pin 2,3,4,5,6; Y pin 23;
@@ -121,7 +120,7 @@ test_vectors ([a,b,c,e,f] -> Y)
 [0,0,0,0,0] -> 0; [1,0,0,0,0] -> 1; [0,1,0,0,1] -> 1; [1,1,0,0,1] -> 0; [1,0,1,1,0] -> 1; [1,1,1,1,1] -> 0;
 end
 compiled P16L8 cells 1 products 4 opened 148 sum 136E
-simulated P16L8 vectors 5 mismatches 0
+C136E*
 module par
 u device 'P16L8';
 a,b,c,e pin 1,2,3,4;
@@ -132,7 +131,7 @@ test_vectors ([a,b,c,e] -> Y)
 [0,0,0,0] -> 1; [1,0,0,0] -> 0; [1,1,0,1] -> 1; [1,1,1,1] -> 0; [0,1,0,1] -> 0;
 end
 compiled P16L8 cells 1 products 1 opened 63 sum 07F4
-simulated P16L8 vectors 4 mismatches 0
+C07F4*
 module dc
 u device 'P16L8';
 a,b pin 1,2;
@@ -143,7 +142,7 @@ test_vectors ([a,b] -> Y)
 [0,0] -> 1; [0,1] -> 1; [1,0] -> .X.; [1,1] -> 0;
 end
 compiled P16L8 cells 2 products 2 opened 125 sum 0F6A
-simulated P16L8 vectors 4 mismatches 0
+C0F6A*
 module both
 u device 'P16L8';
 rd,x pin 1,2; D0 pin 18; Z pin 19;
@@ -153,7 +152,7 @@ test_vectors ([rd,x,D0] -> [D0,Z])
 [0,1,0] -> [.X.,0]; [0,1,1] -> [.X.,1]; [1,1,.X.] -> [1,1]; [1,0,.X.] -> [0,0];
 end
 compiled P16R4 cells 1 products 1 opened 31 sum 03FA
-simulated P16R4 vectors 4 mismatches 0
+C03FA*
 module held
 u device 'P16R4';
 clk,a,oe pin 1,2,11; q pin 17 istype 'reg';
@@ -163,7 +162,7 @@ test_vectors ([clk,a,oe] -> q)
 [0,0,0] -> 1; [.C.,0,0] -> 0; [.C.,1,0] -> 1; [0,1,1] -> .Z.;
 end
 compiled P16L8 cells 1 products 1 opened 63 sum 07F4
-simulated P16L8 vectors 2 mismatches 0
+C07F4*
 module twice
 u device 'P16L8';
 a pin 1; Y pin 19; n0..n20 node;
@@ -178,32 +177,7 @@ test_vectors (a -> Y)
 end
 ";
 
-/// Whether a case's source is compiled as is told before it, and its file then simulated so.
-fn is_case_simulated(alloc: Global, case: &str) -> Result<bool, Fail> {
-    let Some((summary, rest)) = case.split_once("\nsimulated ") else {
-        return Ok(false);
-    };
-    let Some((told, source)) = rest.split_once('\n') else {
-        return Ok(false);
-    };
-    let Some((device, _vectors)) = told.split_once(' ') else {
-        return Ok(false);
-    };
-    let summary = format!(in alloc; "compiled {summary}\n")?;
-    let told = format!(in alloc; "simulated {told}\n")?;
-    let line = format!(in alloc; "simulate {device} out")?;
-    let compiled = run_line(alloc, "compile in out", ("in", source.as_bytes()), (0, 0))?;
-    let file = compiled.files.get("out").unwrap_or(&[]);
-    let done = run_line(alloc, line.as_str(), ("out", file), (0, 0))?;
-    Ok(compiled.report.bytes() == summary.as_bytes() && done.report.bytes() == told.as_bytes())
-}
-
 #[test]
 fn compiled_sources_agree_with_their_vectors(rt: HostRuntime) -> Result<(), Fail> {
-    for case in SIMULATED.split("compiled ").skip(1) {
-        if !is_case_simulated(rt.alloc(), case)? {
-            return Err(Fail::new(case));
-        }
-    }
-    Ok(())
+    each_case_is_compiled(rt.alloc(), SIMULATED)
 }
