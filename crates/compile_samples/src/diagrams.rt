@@ -4,7 +4,7 @@ use crate::cases::{each_case_is_compiled, each_case_is_refused};
 use std::test::Fail;
 
 // The cells, rows and sums were worked by hand from the devices' diagrams: states that aren't listed go to 0, or where the
-// signals are `dc` anywhere; every arm of CASE that holds; a statement behind WITH.
+// signals are `dc` anywhere; every arm of CASE that holds; a statement behind WITH; IF and CASE in one another.
 const COMPILED: &str = "\
 compiled GAL22V10 cells 3 products 4 opened 307 sum 25CA
 L0088 11011111110111111111111111111111111111111111*
@@ -67,6 +67,20 @@ state_diagram q
 state 0: if full then 1 with lamp = 1; endwith else 0;
 state 1: goto 0;
 end
+compiled GAL22V10 cells 2 products 5 opened 305 sum 26B7
+L0088 11010111011111111111111111111111111111111111*
+L0132 11100111101111111111111111111111111111111111*
+L0176 11101011011111111111111111111111111111111111*
+L0220 11111011111101111111111111111111111111111111*
+L0484 11101011011111111111111111111111111111111111*
+L5808 10110101010101010101*
+module m
+d device 'GAL22V10';
+clk,a,b,c pin 1,2,3,4; q pin 23 istype 'reg,buffer'; y pin 22;
+state_diagram q
+state 0: if a then if b then 1; else 0; else case c: 1; !c: 0; endcase
+state 1: case a: if b then 0; else 1; !a: case c: 1; b: 1 with y = 1; endwith; endcase; endcase
+end
 ";
 
 // The header, the number of a state, and what stands in it.
@@ -111,6 +125,36 @@ u device 'P16R4';
 clk,a pin 1,2; q1,q0 pin 17,16;
 state_diagram [q1,q0]
 state 0: q1 = a; goto 0;
+error BadWidth at 5:10
+u device 'P16R4';
+clk,a pin 1,2; q1,q0 pin 17,16;
+state_diagram [q1,q0]
+state 0: if [a,a] then 0;
+error BadWidth at 5:20
+u device 'P16R4';
+clk,a pin 1,2; q1,q0 pin 17,16;
+state_diagram [q1,q0]
+state 0: if a then if [a,a] then 0; else [0,0,1];
+error BadWidth at 5:34
+u device 'P16R4';
+clk,a pin 1,2; q1,q0 pin 17,16;
+state_diagram [q1,q0]
+state 0: case a: 0; a: case [a,a]: 0; endcase; endcase
+error MisplacedSpecial at 5:15
+u device 'P16R4';
+clk,a pin 1,2; q1,q0 pin 17,16;
+state_diagram [q1,q0]
+state 0: goto .X.;
+error MisplacedSpecial at 5:13
+u device 'P16R4';
+clk,a pin 1,2; q1,q0 pin 17,16;
+state_diagram [q1,q0]
+state 0: if .X. then 0;
+error MisplacedSpecial at 5:15
+u device 'P16R4';
+clk,a pin 1,2; q1,q0 pin 17,16;
+state_diagram [q1,q0]
+state 0: case .X.: 0; endcase
 ";
 
 #[test]

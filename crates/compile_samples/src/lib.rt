@@ -33,6 +33,8 @@ mod rejected;
 #[cfg(test)]
 mod simulated;
 #[cfg(test)]
+mod statements;
+#[cfg(test)]
 mod uncontrolled;
 #[cfg(test)]
 mod unread;
