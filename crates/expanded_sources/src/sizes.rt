@@ -77,7 +77,11 @@ fn one_rewriting_more_is_refused(rt: HostRuntime) -> Result<(), Fail> {
 
 #[test]
 fn a_macro_that_calls_itself(rt: HostRuntime) -> Result<(), Fail> {
-    ends(rt.alloc(), b"loop MACRO {loop};\nloop", "1 ExpansionLimit 2:1")?;
+    ends(
+        rt.alloc(),
+        b"loop MACRO {loop};\nloop",
+        "1 ExpansionLimit 2:1",
+    )?;
     let note = text(rt.alloc(), "a MACRO {a};a \"", "0123456789", 104_800, "")?;
     ends(rt.alloc(), note.as_bytes(), "0 ExpansionLimit 1:1")?;
     let blanks = text(rt.alloc(), "a MACRO {a };a ", "          ", 90_000, "")?;
