@@ -28,6 +28,16 @@ truth_table ([a,b] -> [y,z]) [0,1] -> 2; 3 -> [.X.,0];|None
 truth_table ([a,b] -> a) 0 -> 1;|Some(NotAnOutput(Place { line: 1, column: 78 }, Some(1)))
 truth_table ([a,b] -> y) 0 -> 1; 1 :> 0;|Some(BadRow(Place { line: 1, column: 89 }))
 truth_table ([a,b] -> y) [0,.C.] -> 1;|Some(BadRow(Place { line: 1, column: 81 }))
+truth_table ([a,[b]] -> [y,z]) [0,[1]] -> [1,0]; [0,1] -> .X.;|None
+truth_table ([a,[b]] -> y) [[0],1] -> 1;|Some(BadRow(Place { line: 1, column: 83 }))
+truth_table ([a,b] -> [y,.X.,y]) 0 -> [1,0,1];|None
+truth_table ([a,b] -> [y,1]) 0 -> 1;|Some(NotAnOutput(Place { line: 1, column: 81 }, None))
+truth_table (a & .X. -> y) 0 -> 1;|Some(MisplacedSpecial(Place { line: 1, column: 73 }))
+truth_table ([a,b] -> y) [.X. & 1,0] -> 1;|Some(MisplacedSpecial(Place { line: 1, column: 82 }))
+truth_table ([a,b] -> y) a -> 1;|Some(BadRow(Place { line: 1, column: 81 }))
+X,C = .X.,.C.; truth_table ([a,b] -> [y,z]) [X,0] -> [X,1]; X -> X;|None
+C = .C.; truth_table ([a,b] -> y) [0,C] -> 1;|Some(BadRow(Place { line: 1, column: 90 }))
+C = .C.; truth_table ([a,b] -> y) 0 -> C;|Some(BadRow(Place { line: 1, column: 90 }))
 ";
 
 /// Whether the table of a row has its refusal.
@@ -72,6 +82,17 @@ const GIVEN: &str = "\
 4 Match 7 81
 ";
 
+// `[a,[b]]` has the bits 2 and 3. The first row matches where 2 is 1, the second where 3 is; the last where Not(2), which is 4, and
+// Not(3), which is 5, are 1, which is 6. y stands at column 25 of the table.
+const OVERLAPPING: &str = "\
+3 Match 0 80
+3 One 2 80
+3 Match 2 80
+3 Match 3 80
+3 Any 6 80
+3 Match 6 80
+";
+
 /// What the table of a text contributes.
 fn contributed(alloc: Global, text: &str) -> Result<Vec<Contribution>, Fail> {
     let source = format!(in alloc; "{NAMES}{text} end")?;
@@ -98,6 +119,18 @@ fn contributed(alloc: Global, text: &str) -> Result<Vec<Contribution>, Fail> {
         &mut list,
     )?;
     Ok(list)
+}
+
+#[test]
+fn rows_that_overlap_contribute(rt: HostRuntime) -> Result<(), Fail> {
+    let alloc = rt.alloc();
+    let list = contributed(
+        alloc,
+        "truth_table ([a,[b]] -> y) [1,.X.] -> 1; [.X.,[1]] -> 0; [0,0] -> .X.;",
+    )?;
+    let text = contributions_text(alloc, &list)?;
+    assert_eq!(rt; text.as_str(), OVERLAPPING);
+    Ok(())
 }
 
 #[test]
