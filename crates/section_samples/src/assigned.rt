@@ -20,6 +20,18 @@ Y = [a,b]|Some(BadWidth(Place { line: 1, column: 3 }))
 c = a; !Y = a|Some(MixedAssignment(Place { line: 1, column: 8 }, 2))
 Y = .X.; a = b|Some(MisplacedSpecial(Place { line: 1, column: 5 }))
 WHEN a THEN Y = b; ELSE q = b|Some(MixedAssignment(Place { line: 1, column: 25 }, 3))
+Y = .X.|Some(MisplacedSpecial(Place { line: 1, column: 5 }))
+[Y,n] = [a,.X.]|Some(MisplacedSpecial(Place { line: 1, column: 12 }))
+[Y,.X.] = a|Some(MisplacedSpecial(Place { line: 1, column: 4 }))
+[Y,Y] = [a,b]|None
+![Y,n] = a|None
+![Y,a] = b|Some(NotAnOutput(Place { line: 1, column: 5 }, Some(0)))
+[Y,n] = a; !c = b|Some(MixedAssignment(Place { line: 1, column: 12 }, 2))
+c = 5|None
+Y = c|Some(BadWidth(Place { line: 1, column: 3 }))
+WHEN .X. THEN Y = b; ELSE Y = b|Some(MisplacedSpecial(Place { line: 1, column: 6 }))
+WHEN c THEN Y = b; ELSE Y = b|Some(BadWidth(Place { line: 1, column: 1 }))
+WHEN 2 THEN Y = b; ELSE Y = b|None
 ";
 
 fn refusal(alloc: Global, text: &str) -> Result<Option<SectionFault>, OutOfMemory> {
@@ -94,6 +106,9 @@ fn contributions_by_hand(rt: HostRuntime) -> Result<(), Fail> {
     assert!(rt; first.target.signal == 2 && second.target.signal == 4);
     assert!(rt; first.complement && first.place == at(1));
     assert!(rt; first.when == second.when);
+    let (first, second) = both(rt.alloc(), "[Y,Y] = [a,b]")?;
+    assert!(rt; first.target.signal == 2 && second.target.signal == 2);
+    assert!(rt; first.when != second.when);
     let (first, second) = both(rt.alloc(), "WHEN a THEN Y = b; ELSE Y = b")?;
     assert!(rt; first.place == at(13) && second.place == at(25));
     assert!(rt; first.when != second.when);
