@@ -146,22 +146,6 @@ pub fn names_of_range(
     Ok(None)
 }
 
-/// The names of an item of a declaration, unless it is a range whose ends don't agree.
-pub fn names_of_item(alloc: Global, item: &Item) -> Result<Option<Vec<Vec<u8>>>, OutOfMemory>
-    ensures { IfOk result (λ o. option_map (λ ns. map name_items ns.items) o ≡ (if is_bad item.now then None else Some (item_names item.now))) }
-{
-    match &item.last {
-        Some(last) => {
-            let names = names_of_range(alloc, item.first.text.bytes(), last.text.bytes())?;
-            Ok(names)
-        }
-        None => {
-            let names = one_name(alloc, item.first.text.bytes())?;
-            Ok(Some(names))
-        }
-    }
-}
-
 /// Whether an item of a declaration is a range whose ends don't agree. Takes no memory.
 pub fn is_bad_item(item: &Item) -> bool
     ensures { result ≡ is_bad item.now }
