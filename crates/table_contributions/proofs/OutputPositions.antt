@@ -17,7 +17,7 @@ use Rattle.set_expr.specs.Refusals.{too_wide}
 use Rattle.section_targets.specs.declared.aim.Aim.{Aim}
 use Rattle.section_targets.proofs.Built.{left_empty, right_empty}
 use Rattle.row_entries.specs.HeaderSignals.{names_positions}
-use Rattle.truth_tables.specs.OutputHeaders.{header_of, header_refused, outputs_at, named_outputs, header_name, header_range, header_special, output_header, output_members}
+use Rattle.truth_tables.specs.OutputHeaders.{header_of, refused_header, outputs_at, named_outputs, header_name, header_range, header_special, output_header, output_members}
 use Rattle.table_contributions.specs.Gives.{signals_of}
 
 signals_append : (xs ys : List (Option Aim)) → signals_of (xs ++ ys) ≡ signals_of xs ++ signals_of ys
@@ -34,8 +34,8 @@ name_signals d p w e = by_refusals (found_use p (name_found (names_found d.names
     t : Term
     t = term_named d.known w
 
-    by_names : (b : Bool) → (if b then header_of (outputs_at p (targets_of t)) else header_refused (NotAnOutput p (find d.names w))).refusals ≡ []
-        → targets_of t ≡ signals_of (if b then header_of (outputs_at p (targets_of t)) else header_refused (NotAnOutput p (find d.names w))).outputs
+    by_names : (b : Bool) → (if b then header_of (outputs_at p (targets_of t)) else refused_header (NotAnOutput p (find d.names w))).refusals ≡ []
+        → targets_of t ≡ signals_of (if b then header_of (outputs_at p (targets_of t)) else refused_header (NotAnOutput p (find d.names w))).outputs
     by_names true e = listed_signals p (targets_of t)
     by_names false e = absurd cc
 
@@ -56,8 +56,8 @@ range_signals d p (n ∷ names) ts xs h e =
 special_signals : (d : Design) (letter : ℕ) (p : Place) → (header_special letter p).refusals ≡ [] → targets_of (special_term letter) ≡ signals_of (header_special letter p).outputs
 special_signals d letter p e = by_letter (bytes_eq (letter ∷ []) (codes "X")) (bytes_eq (letter ∷ []) (codes "C")) e
   where
-    by_letter : (a b : Bool) → (if a then header_of (None ∷ []) else header_refused (MisplacedSpecial p)).refusals ≡ []
-        → targets_of (if a then X else if b then Pulse else Release) ≡ signals_of (if a then header_of (None ∷ []) else header_refused (MisplacedSpecial p)).outputs
+    by_letter : (a b : Bool) → (if a then header_of (None ∷ []) else refused_header (MisplacedSpecial p)).refusals ≡ []
+        → targets_of (if a then X else if b then Pulse else Release) ≡ signals_of (if a then header_of (None ∷ []) else refused_header (MisplacedSpecial p)).outputs
     by_letter true b e = refl
     by_letter false b e = absurd cc
 

@@ -14,7 +14,7 @@ use Rattle.set_expr.specs.Refusals.{too_wide}
 use Rattle.set_expr.specs.SectionOrder.{section_order}
 use Rattle.section_targets.specs.declared.aim.Aim.{Aim}
 use Rattle.row_entries.specs.HeaderSignals.{names_positions}
-use Rattle.truth_tables.specs.OutputHeaders.{HeaderFound, header_of, header_refused, outputs_at, named_outputs, header_name, both_headers, header_set, header_range, output_member, output_members}
+use Rattle.truth_tables.specs.OutputHeaders.{HeaderFound, header_of, refused_header, outputs_at, named_outputs, header_name, both_headers, header_set, header_range, output_member, output_members}
 use Rattle.truth_tables.specs.TableUnits.{some_aims, if_none, unless_refused}
 use Rattle.table_refusals.specs.declared.header.Header.{Header}
 use Rattle.table_refusals.specs.Headers.{IsHeader}
@@ -78,7 +78,7 @@ named_refused (r ∷ rs) p name t f e = (sym e, refl)
 pub named_free : (rs : List SectionFault) (p : Place) (name : Option ℕ) (t : Term) → None ≡ first rs → named_outputs [] p name t ≡ named_outputs rs p name t
 named_free rs p name t e = ap (λ xs. named_outputs xs p name t) (sym (none_refused section_order rs e))
 
-pub named_other : (p : Place) (name : Option ℕ) (t : Term) → names_positions t ≡ false → named_outputs [] p name t ≡ header_refused (NotAnOutput p name)
+pub named_other : (p : Place) (name : Option ℕ) (t : Term) → names_positions t ≡ false → named_outputs [] p name t ≡ refused_header (NotAnOutput p name)
 named_other p name t e = rw e refl
 
 pub named_listed : (p : Place) (name : Option ℕ) (t : Term) (ss : List (Option ℕ)) → names_positions t ≡ true → ss ≡ targets_of t → named_outputs [] p name t ≡ header_of (outputs_at p ss)

@@ -18,7 +18,7 @@ use Rattle.section_targets.specs.declared.aim.Aim.{Aim}
 use Rattle.section_targets.specs.Given.{AreNamed}
 use Rattle.section_targets.proofs.KnownTargets.{EachTarget, IsSignalOf, signal_targets}
 use Rattle.row_entries.specs.HeaderSignals.{names_positions}
-use Rattle.truth_tables.specs.OutputHeaders.{header_of, header_refused, outputs_at, named_outputs, header_name, header_range, header_special, output_header, output_member, output_members}
+use Rattle.truth_tables.specs.OutputHeaders.{header_of, refused_header, outputs_at, named_outputs, header_name, header_range, header_special, output_header, output_member, output_members}
 use Rattle.truth_tables.specs.TableUnits.{some_aims}
 use Rattle.table_refusals.proofs.HeaderLaws.{aims_append}
 
@@ -63,7 +63,7 @@ name_inside d k p w =
     by_refusals (r ∷ rs) b h = none_inside d
     by_refusals [] b h = by_names (names_positions (term_named d.known w))
       where
-        by_names : (b : Bool) → AreInside d (if b then header_of (outputs_at p (targets_of (term_named d.known w))) else header_refused (NotAnOutput p (find d.names w))).outputs
+        by_names : (b : Bool) → AreInside d (if b then header_of (outputs_at p (targets_of (term_named d.known w))) else refused_header (NotAnOutput p (find d.names w))).outputs
         by_names true = listed_inside d p (targets_of (term_named d.known w)) h
         by_names false = none_inside d
 
@@ -74,7 +74,7 @@ range_inside d k p (w ∷ names) = both_inside d (header_name d p w).outputs (he
 special_inside : (d : Design) (letter : ℕ) (p : Place) → AreInside d (header_special letter p).outputs
 special_inside d letter p = by_letter (bytes_eq (letter ∷ []) (codes "X"))
   where
-    by_letter : (b : Bool) → AreInside d (if b then header_of (None ∷ []) else header_refused (MisplacedSpecial p)).outputs
+    by_letter : (b : Bool) → AreInside d (if b then header_of (None ∷ []) else refused_header (MisplacedSpecial p)).outputs
     by_letter true = none_inside d
     by_letter false = none_inside d
 

@@ -9,7 +9,7 @@ ghost use Rattle.set_expr.specs.Refusals.{too_wide};
 ghost use Rattle.set_expr.specs.KnownNames.{IsKnown};
 ghost use Rattle.set_expr.specs.SectionOrder.{section_order};
 ghost use Rattle.row_entries.specs.EntryTerms.{IsOver, AreInOrder};
-ghost use Rattle.truth_tables.specs.OutputHeaders.{HeaderFound, header_of, header_refused, header_name, header_set, both_headers, named_outputs, outputs_at};
+ghost use Rattle.truth_tables.specs.OutputHeaders.{HeaderFound, header_of, refused_header, header_name, header_set, both_headers, named_outputs, outputs_at};
 ghost use Rattle.truth_tables.specs.TableUnits.{some_aims};
 ghost use Rattle.table_refusals.specs.Headers.{IsHeader};
 
@@ -100,7 +100,7 @@ impl Header {
 
     /// Refused as no output.
     pub(crate) fn refused(alloc: Global, fault: SectionFault) -> Header
-        ensures { IsHeader result (header_refused fault) }
+        ensures { IsHeader result (refused_header fault) }
     {
         Header {
             outputs: ListOf::from_vec(Vec::new(alloc)),

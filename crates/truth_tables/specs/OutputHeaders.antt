@@ -23,8 +23,8 @@ pub record HeaderFound : Type 0 where
   pub refusals : List SectionFault
   pub outputs : List (Option Aim)
 
-abbrev pub header_refused : SectionFault → HeaderFound
-header_refused r = record { refusals = r ∷ []; outputs = [] }
+abbrev pub refused_header : SectionFault → HeaderFound
+refused_header r = record { refusals = r ∷ []; outputs = [] }
 
 abbrev pub header_of : List (Option Aim) → HeaderFound
 header_of xs = record { refusals = []; outputs = xs }
@@ -37,7 +37,7 @@ outputs_at p ss = map (λ (s : Option ℕ). option_map (λ k. record { signal = 
 -- is refused has no position
 abbrev pub named_outputs : List SectionFault → Place → Option ℕ → Term → HeaderFound
 named_outputs [] p name t =
-    if names_positions t then header_of (outputs_at p (targets_of t)) else header_refused (NotAnOutput p name)
+    if names_positions t then header_of (outputs_at p (targets_of t)) else refused_header (NotAnOutput p name)
 named_outputs (r ∷ rs) p name t = record { refusals = r ∷ rs; outputs = [] }
 
 -- a name at its place
@@ -62,20 +62,20 @@ header_range d p (name ∷ names) = both_headers (header_name d p name) (header_
 abbrev pub header_special : (letter : ℕ) → Place → HeaderFound
 header_special letter p =
     if bytes_eq (letter ∷ []) (codes "X") then header_of (None ∷ [])
-    else header_refused (MisplacedSpecial p)
+    else refused_header (MisplacedSpecial p)
 
 -- what is found of an output header, and of each member of one
 abbrev mutual
   pub output_header : Design → Tree → HeaderFound
-  output_header d (ANumber n) = header_refused (NotAnOutput n.place None)
+  output_header d (ANumber n) = refused_header (NotAnOutput n.place None)
   output_header d (ASpecial letter p) = header_special letter p
   output_header d (AName word None) = header_name d word.place word.text
-  output_header d (AName word (Some e)) = header_refused (NotAnOutput word.place (find d.names word.text))
+  output_header d (AName word (Some e)) = refused_header (NotAnOutput word.place (find d.names word.text))
   output_header d (ASet p ms None) = header_set p (output_members d ms)
-  output_header d (ASet p ms (Some e)) = header_refused (NotAnOutput p None)
+  output_header d (ASet p ms (Some e)) = refused_header (NotAnOutput p None)
   output_header d (AParen p t) = output_header d t
-  output_header d (AUnary sign p t) = header_refused (NotAnOutput p None)
-  output_header d (ABinary sign p t u) = header_refused (NotAnOutput (first_place t) (first_name d.names t))
+  output_header d (AUnary sign p t) = refused_header (NotAnOutput p None)
+  output_header d (ABinary sign p t u) = refused_header (NotAnOutput (first_place t) (first_name d.names t))
 
   pub output_members : Design → Members → HeaderFound
   output_members d NoMember = header_of []

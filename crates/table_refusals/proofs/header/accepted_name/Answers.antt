@@ -10,7 +10,7 @@ use Rattle.set_expr.specs.declared.fault.SectionFault.TheVariants.{NotAnOutput}
 use Rattle.set_expr.specs.KnownNames.{IsKnown}
 use Rattle.section_targets.proofs.Views.{view_name}
 use Rattle.row_entries.specs.HeaderSignals.{AreSignals}
-use Rattle.truth_tables.specs.OutputHeaders.{header_refused}
+use Rattle.truth_tables.specs.OutputHeaders.{refused_header}
 use Rattle.table_refusals.specs.Headers.{IsHeader}
 use Rattle.table_refusals.proofs.HeaderLaws.{named_other, named_listed}
 use Rattle.table_refusals.proofs.header.accepted_name.Goals as goal
@@ -24,7 +24,7 @@ returns-in-None c d is =
     let e = ap (term_of d.known) (view_name word None) ∙ ap (term_named d.known) c.in_ok-new.ensures in
     let s = subst (λ u. AreSignals u None) e (subst (AreSignals (term_of d.known (view (expr.Name word None)))) c.in-None.is (c.in_ok-found.ensures d is)) in
     subst (IsHeader c.refused.result) (sym (named_other c.args.place (find d.names w) t s))
-    (subst (λ n. IsHeader c.refused.result (header_refused (NotAnOutput c.args.place n))) (c.number_of.ensures d.names known) c.refused.ensures)
+    (subst (λ n. IsHeader c.refused.result (refused_header (NotAnOutput c.args.place n))) (c.number_of.ensures d.names known) c.refused.ensures)
 
 pub returns : goal.returns
 returns c =

@@ -9,7 +9,7 @@ use Rattle.set_expr.specs.KnownNames.{IsKnown}
 use Rattle.set_expr.proofs.FoundMembers.{front_more, whole_front}
 use Rattle.section_targets.specs.TargetSignals.{first_name}
 use Rattle.section_targets.proofs.Views.{view_number, view_special, view_set, view_unary, view_binary, view_name, view_paren, view_one, view_span}
-use Rattle.truth_tables.specs.OutputHeaders.{header_refused, header_set, both_headers, output_header, output_member, output_members}
+use Rattle.truth_tables.specs.OutputHeaders.{refused_header, header_set, both_headers, output_header, output_member, output_members}
 use Rattle.table_refusals.specs.Headers.{IsHeader}
 use Rattle.table_refusals.proofs.HeaderLaws.{members_more}
 use Rattle.table_refusals.proofs.headings.+headings.Goals as goal
@@ -35,7 +35,7 @@ expr_header-returns-in-Binary t c d is =
     let v = ap view c.in-Binary.is ∙ view_binary c.in-Binary.sign c.in-Binary.place c.in-Binary.left c.in-Binary.right in
     let known = subst (λ es. IsKnown es c.args.known.now) (sym is.names) c.requires.known in
     subst (λ e. IsHeader c.refused-in-Binary.result (output_header d e)) (sym v)
-    (subst (λ f. IsHeader c.refused-in-Binary.result (header_refused f))
+    (subst (λ f. IsHeader c.refused-in-Binary.result (refused_header f))
     (c.refuse_operator.ensures d.names known ∙ ap (λ e. NotAnOutput (first_place e) (first_name d.names e)) v)
     c.refused-in-Binary.ensures)
 
