@@ -4,6 +4,7 @@ use Rattle.std.specs.Prelude.{All, find, unwrap_or}
 use Rattle.std.specs.Option.{option_map}
 use Rattle.std.proofs.lemmas.Bool.{cases_Bool, eqb-true, true≢false}
 use Rattle.std.proofs.lemmas.List.Elements.{All-head, All-tail}
+use Rattle.std.proofs.lemmas.Option.{same_Some}
 use Rattle.pld_device.specs.Table.{Table}
 use Rattle.bit_expr.specs.declared.netlist.CellWanted.{CellWanted}
 use Rattle.bit_expr.specs.declared.netlist.Control.{Control}
@@ -34,9 +35,6 @@ found_map fs (w ∷ ws) c =
 pub wanted_is : (net : Netlist) (c : ℕ) → wanted_at (plain_netlist net) c ≡ option_map (plain_wanted (arena net.exprs)) (cell_wanted net c)
 wanted_is net c = found_map (arena net.exprs) net.cells c
 
-same_some : (a b : CellWanted) → Some a ≡ Some b → a ≡ b
-same_some a b e = cc
-
 -- what is found has what all have, and is of the cell
 pub record IsFoundId (P : CellWanted → Type 0) (c : ℕ) (w : CellWanted) : Type 0 where
   pub has : P w
@@ -46,7 +44,7 @@ pub found_id : (P : CellWanted → Type 0) (ws : List CellWanted) (c : ℕ) (w :
 found_id P [] c w all is = absurd cc
 found_id P (x ∷ ws) c w all is =
     elim (cases_Bool (x.cell == c)) [
-      | inl hit ↦ subst (IsFoundId P c) (same_some x w (rw hit at is)) (record { has = All-head P x ws all; cell = eqb-true x.cell c hit })
+      | inl hit ↦ subst (IsFoundId P c) (same_Some x w (rw hit at is)) (record { has = All-head P x ws all; cell = eqb-true x.cell c hit })
       | inr miss ↦ found_id P ws c w (All-tail P x ws all) (rw miss at is)
     ]
 

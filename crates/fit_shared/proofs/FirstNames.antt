@@ -5,7 +5,7 @@ use Rattle.std.specs.Option.{option_map}
 use Rattle.std.proofs.lemmas.Bool.{cases_Bool}
 use Rattle.std.proofs.lemmas.Bool.Decides.{nat_tests}
 use Rattle.std.proofs.lemmas.List.{drop_more, drop_all}
-use Rattle.std.proofs.lemmas.Option.{get_or_from_slice_get, slice_get-get_or}
+use Rattle.std.proofs.lemmas.Option.{get_or_from_slice_get, slice_get-get_or, same_Some}
 use Rattle.bit_expr.specs.declared.netlist.CellWanted.{CellWanted}
 use Rattle.bit_expr.specs.declared.netlist.Control.{Control}
 use Rattle.bit_expr.specs.Formulas.{Const, Formula}
@@ -127,15 +127,12 @@ earlier_has : (which : SharedControl) (w : Wanted) (rest : Option Wanted) → is
 earlier_has which w None here there = here
 earlier_has which w (Some v) here there = elim (cases_Bool (nat_lt v.name w.name)) [ inl less ↦ rw less (there v refl) | inr more ↦ rw more here ]
 
-same_some : (a b : Wanted) → Some a ≡ Some b → a ≡ b
-same_some a b h = cc
-
 first_has : (which : SharedControl) (ws : List Wanted) (x : Wanted) → first_with (own_formula which) ws ≡ Some x → is_some (own_formula which x) ≡ true
 first_has which [] x e = absurd cc
 first_has which (w ∷ ws) x e =
     elim (cases_Bool (is_some (own_formula which w))) [
       | inl some ↦
-          let same : earlier_name w (first_with (own_formula which) ws) ≡ x = same_some _ x (rw some at e) in
+          let same : earlier_name w (first_with (own_formula which) ws) ≡ x = same_Some _ x (rw some at e) in
           subst (λ (y : Wanted). is_some (own_formula which y) ≡ true) same
           (earlier_has which w (first_with (own_formula which) ws) some (λ v there. first_has which ws v there))
       | inr none ↦ first_has which ws x (rw none at e)

@@ -4,6 +4,7 @@ use Rattle.std.specs.Prelude.{find}
 use Rattle.std.specs.List.{All}
 use Rattle.std.proofs.lemmas.Bool.{cases_Bool, eqb-true}
 use Rattle.std.proofs.lemmas.List.Elements.{All-head, All-tail}
+use Rattle.std.proofs.lemmas.Option.{same_Some}
 use Rattle.pld_device.specs.declared.kinds.Kinds.{Kinds}
 use Rattle.pld_device.specs.declared.kinds.Kinds.TheVariants.{Combinational, Registered, Either}
 use Rattle.pld_device.specs.Registers.{says, stores_by, stores}
@@ -18,14 +19,11 @@ pub record IsFound (P : Wanted → Type 0) (c : ℕ) (w : Wanted) : Type 0 where
   pub has : P w
   pub cell : w.cell ≡ c
 
-same_some : (a b : Wanted) → Some a ≡ Some b → a ≡ b
-same_some a b e = cc
-
 pub found : (P : Wanted → Type 0) (ws : List Wanted) (c : ℕ) (w : Wanted) → All P ws → find (λ (x : Wanted). x.cell == c) ws ≡ Some w → IsFound P c w
 found P [] c w all is = absurd cc
 found P (x ∷ ws) c w all is =
     elim (cases_Bool (x.cell == c)) [
-      | inl hit ↦ subst (IsFound P c) (same_some x w (rw hit at is)) (record { has = All-head P x ws all; cell = eqb-true x.cell c hit })
+      | inl hit ↦ subst (IsFound P c) (same_Some x w (rw hit at is)) (record { has = All-head P x ws all; cell = eqb-true x.cell c hit })
       | inr miss ↦ found P ws c w (All-tail P x ws all) (rw miss at is)
     ]
 

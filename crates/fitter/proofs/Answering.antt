@@ -1,7 +1,7 @@
 -- The answers of fitting, by what the steps on the way answered.
 use Rattle.std.proofs.Common.{◌≡◌, ◌≢◌, ℕ, ◌<◌, ◌≤◌, Bool, true, List, length, get_or, slice_get, Option, Some, None, refl, sym, ap, ◌∙◌, subst, arith}
 use Rattle.std.proofs.lemmas.List.Sorted.{length_permutation}
-use Rattle.std.proofs.lemmas.Option.{slice_get_within}
+use Rattle.std.proofs.lemmas.Option.{same_Some, slice_get_within}
 use Rattle.pld_device.specs.declared.flip.Flip.{Flip}
 use Rattle.pld_device.specs.declared.flip.Flip.TheVariants.{AfterRegister, Always, BeforeRegister}
 use Rattle.pld_device.specs.Laws.{IsDevice}
@@ -144,20 +144,14 @@ module _ (t : Table) (laws : IsDevice t) (net : Netlist) (sound : IsSoundNetlist
       direct_over c None w found r e has of on = absurd cc
       direct_over c (Some v) w None r e has of on = absurd has
       direct_over c (Some v) w (Some x) r e has of on =
-          subst (IsDirectOver t net c) (same_wanted v w e) (record { mask = mask; mask_is = mask_is; cover = x.tried.direct; tried = has.tried.direct; over = of.over on })
-        where
-          same_wanted : (a b : CellWanted) → Some a ≡ Some b → a ≡ b
-          same_wanted a b same = cc
-
-      same_plan : (a b : CellPlan) → Some a ≡ Some b → a ≡ b
-      same_plan a b e = cc
+          subst (IsDirectOver t net c) (same_Some v w e) (record { mask = mask; mask_is = mask_is; cover = x.tried.direct; tried = has.tried.direct; over = of.over on })
 
       entry : (x : FittedCell) → IsEntryOf t net rows.plans.items rows.forms.items x → IsFittedEntry t net fitted.fuses x
       entry x of =
           let there = slice_get_within rows.plans.items x.cell of.plan of.there in
           let low : x.cell < length t.cells = omega (arith, there, are.plans_count) in
           let has = are.each x.cell low in
-          let same : has.plan ≡ of.plan = same_plan has.plan of.plan (sym has.there ∙ of.there) in
+          let same : has.plan ≡ of.plan = same_Some has.plan of.plan (sym has.there ∙ of.there) in
           let good = rows_rise x.cell (cell_wanted net x.cell) of.cell (get_or covers x.cell None) (record { plan = has.plan; form = form_at rows.forms.items x.cell }) of.wanted (below.each x.cell low) has.rows in
           let rows_are : has.plan.rows ≡ x.rows = ap (λ (p : CellPlan). p.rows) same ∙ sym of.rows in
           record {

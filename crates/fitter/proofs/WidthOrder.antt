@@ -2,6 +2,7 @@
 use Rattle.std.proofs.Common.{◌≡◌, ℕ, ◌+◌, true, false, None, Some, length, refl, sym, ap, ◌∙◌, subst, arith, inl, inr}
 use Rattle.std.proofs.lemmas.Bool.{cases_lt, true≢false}
 use Rattle.std.proofs.lemmas.Bool.Decides.{nat_tests}
+use Rattle.std.proofs.lemmas.Option.{none-some, same_Some}
 use Rattle.abel_tree.specs.FirstRefusal.{is_before, sooner}
 use Rattle.abel_tree.proofs.FirstRefusals.{before_trans}
 use Rattle.pld_device.specs.Table.{Table}
@@ -17,9 +18,6 @@ use Rattle.fitter.proofs.Widths.{cell_low}
 pub before_by : (v w : CellWanted) → is_before width_order v w ≡ sooner v.place.line v.place.column v.cell w.place.line w.place.column w.cell
 unfolding is_before
 before_by v w = refl
-
-same_some : (a b : CellWanted) → Some a ≡ Some b → a ≡ b
-same_some a b e = cc
 
 not_sooner : (a b c : ℕ) → sooner a b c a b c ≡ false
 not_sooner a b c = grind (arith, nat_tests)
@@ -43,18 +41,15 @@ module _ (t : Table) (net : Netlist) where
   }
 
   pub first_alone : (n : ℕ) (first : CellWanted) → IsFirstBelow t net n first → cell_wanted net n ≡ None → IsFirstBelow t net (n + 1) first
-  first_alone n first is none = first_kept n first is (λ v at early wide. none_some v (sym none ∙ at))
-    where
-      none_some : (v : CellWanted) → None ≡ Some v → ⊥
-      none_some v e = absurd cc
+  first_alone n first is none = first_kept n first is (λ v at early wide. none-some v (sym none ∙ at))
 
   pub first_later : (n : ℕ) (first w : CellWanted) → IsFirstBelow t net n first → cell_wanted net n ≡ Some w → is_before width_order w first ≡ false → IsFirstBelow t net (n + 1) first
   first_later n first w is at later =
       first_kept n first is
-      (λ v there early wide. true≢false (sym early ∙ (ap (λ (u : CellWanted). is_before width_order u first) (same_some v w (sym there ∙ at)) ∙ later)))
+      (λ v there early wide. true≢false (sym early ∙ (ap (λ (u : CellWanted). is_before width_order u first) (same_Some v w (sym there ∙ at)) ∙ later)))
 
   pub first_fits : (n : ℕ) (first w : CellWanted) → IsFirstBelow t net n first → cell_wanted net n ≡ Some w → (IsTooWide t net w → ⊥) → IsFirstBelow t net (n + 1) first
-  first_fits n first w is at fits = first_kept n first is (λ v there early wide. fits (subst (IsTooWide t net) (same_some v w (sym there ∙ at)) wide))
+  first_fits n first w is at fits = first_kept n first is (λ v there early wide. fits (subst (IsTooWide t net) (same_Some v w (sym there ∙ at)) wide))
 
   -- one cell more, which is the first now
   pub first_taken : IsSoundNetlist t net → (n : ℕ) (first w : CellWanted) → IsFirstBelow t net n first → cell_wanted net n ≡ Some w → is_before width_order w first ≡ true → IsTooWide t net w
@@ -66,7 +61,7 @@ module _ (t : Table) (net : Netlist) where
       | inl less ↦ is.before d v less there (before_trans width_order v w first before early) over
       | inr more ↦
           let same : d ≡ n = omega (arith, low, more) in
-          let own : v ≡ w = same_some v w (sym there ∙ (subst (λ m. cell_wanted net m ≡ Some w) (sym same) at)) in
+          let own : v ≡ w = same_Some v w (sym there ∙ (subst (λ m. cell_wanted net m ≡ Some w) (sym same) at)) in
           not_itself w (subst (λ (u : CellWanted). is_before width_order u w ≡ true) own before)
     ];
   }
@@ -75,7 +70,7 @@ module _ (t : Table) (net : Netlist) where
   pub first_begins : IsSoundNetlist t net → (c : ℕ) (w : CellWanted) → IsFirstNumber t net c → cell_wanted net c ≡ Some w → IsFirstBelow t net c w
   first_begins sound c w is at = record {
     wanted = subst (λ m. cell_wanted net m ≡ Some w) (sym (sound_id_at t net sound c w at).cell) at;
-    wide = subst (IsTooWide t net) (same_some is.at.cell w (sym is.at.wanted ∙ at)) is.at.wide;
+    wide = subst (IsTooWide t net) (same_Some is.at.cell w (sym is.at.wanted ∙ at)) is.at.wide;
     before = λ d v low there before wide. is.below d v low there wide;
   }
 
