@@ -1,3 +1,4 @@
+pub mod Compared
 pub mod FirstUnsupported
 pub mod FoundAt
 pub mod Loaded

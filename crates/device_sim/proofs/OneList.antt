@@ -32,7 +32,7 @@ vector_wide default chars narrow =
       | inr none ↦ rw none (All-nil IsWide)
     ])
 
-outsides_wide : (default : Bool) (vectors : List (List ℕ)) → All IsNarrow vectors → All IsWide (flat_map (outsides_of default) vectors)
+pub outsides_wide : (default : Bool) (vectors : List (List ℕ)) → All IsNarrow vectors → All IsWide (flat_map (outsides_of default) vectors)
 outsides_wide default [] narrow = All-nil IsWide
 outsides_wide default (chars ∷ vectors) narrow =
     All-append IsWide (outsides_of default chars) (flat_map (outsides_of default) vectors)
@@ -40,7 +40,7 @@ outsides_wide default (chars ∷ vectors) narrow =
     (outsides_wide default vectors (All-tail IsNarrow chars vectors narrow))
 
 -- some vectors have some outside levels
-some_outsides : (default : Bool) (chars : List ℕ) (vectors : List (List ℕ)) → flat_map (outsides_of default) (chars ∷ vectors) ≢ []
+pub some_outsides : (default : Bool) (chars : List ℕ) (vectors : List (List ℕ)) → flat_map (outsides_of default) (chars ∷ vectors) ≢ []
 unfolding outsides_of
 some_outsides default chars vectors none = cc
 

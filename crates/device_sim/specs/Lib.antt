@@ -1,3 +1,4 @@
+pub mod Compared
 pub mod Simulated
 pub mod VectorRun
 pub mod VectorSteps

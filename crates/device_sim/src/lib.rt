@@ -2,6 +2,7 @@
 #![tactic(auto)]
 
 mod chars;
+mod laws;
 mod outside;
 mod report;
 mod running;
@@ -9,5 +10,6 @@ mod simulating;
 mod testing;
 
 pub use device_logic::{DeviceLogic, SimFault, load};
+pub use laws::vectors_disagree_alike;
 pub use report::{Mismatch, Report};
 pub use simulating::simulate;
