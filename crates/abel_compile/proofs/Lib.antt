@@ -1,5 +1,6 @@
 pub mod Compiles
 pub mod Exclusive
+pub mod NarrowVectors
 pub mod NeverRefused
 pub mod NothingRefused
 pub mod PhaseFaults

@@ -1,16 +1,19 @@
 -- The main theorem's statement: what a compiled file is to the bytes of its source (this project's rule, over JESD3-C and
 -- the devices' datasheets).
 use Rattle.std.specs.Prelude.{◌≡◌, ℕ, ◌<◌, Bool, List, length, Some, Ok}
+use Rattle.pld_device.specs.Macrocells.{device_logic}
 use Rattle.pld_device.specs.Table.{Table}
 use Rattle.pld_order.specs.Graphs.{HasNoLoop}
 use Rattle.jedec_file.specs.CanonicalFile.{canonical_file}
 use Rattle.jedec_file.specs.FuseFile.{file_of}
 use Rattle.device_logic.specs.CellReads.{cell_reads}
 use Rattle.device_logic.specs.ResetPaths.{HasNoResetPath}
+use Rattle.device_sim.specs.Compared.{DisagreeAlike}
 use Rattle.abel_tree.specs.Tree.{ModuleTree}
 use Rattle.abel_meaning.specs.Designs.{design_of}
 use Rattle.abel_meaning.specs.DeviceStrings.{device_named}
 use Rattle.abel_meaning.specs.Kinds.{names_of}
+use Rattle.abel_meaning.specs.SourceLogic.{source_logic}
 use Rattle.abel_meaning.specs.Vectors.{source_vectors}
 use Rattle.module_reader.specs.Texts.{SpellsModule, IsRead}
 use Rattle.fitted.specs.Correct.{DoesWhatItSays, fuses_and_vectors}
@@ -25,13 +28,15 @@ use Rattle.abel_compile.specs.SourceRefusals.{IsAcceptedFor}
 -- the fuses of a module in a device: as many as it has; it comes to rest in exactly one way from every state, and runs
 -- from power-up for every list of outside levels as a run of the module, with the same cells enabled and, where the module
 -- has no don't-care, in the one way that it runs; no chain of reads returns or leads from the reset to a register; and the
--- rows of each assigned cell are prime and irredundant
+-- rows of each assigned cell are prime and irredundant. Where the module's test vectors disagree with the device, they disagree with
+-- the module
 pub record AreFusesOf (t : Table) (m : ModuleTree) (fuses : List Bool) : Type 0 where
   pub size : length fuses ≡ t.fuses
   pub does : DoesWhatItSays t m fuses
   pub no_loop : HasNoLoop (length t.cells) (cell_reads t fuses)
   pub no_path : HasNoResetPath t fuses
   pub rows : (c : ℕ) → c < length t.cells → IsAssignedCell (design_of t m) c → HasPrimeRows t m fuses c
+  pub vectors : DisagreeAlike (device_logic t fuses) (source_logic t m) (source_vectors t m)
 
 -- what is answered of these fuses: the canonical file of the module's name and test vectors, which reads back as just
 -- these; the listing; and the summary

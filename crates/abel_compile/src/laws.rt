@@ -3,6 +3,7 @@
 ghost use Rattle.abel_compile.specs.Phases.{FitsAreRight, FitsCanBeTold, ReadNamesArePlain, SectionsAreAccepted};
 
 use assigned_signals::sound_modules_are_accepted;
+use device_sim::vectors_disagree_alike;
 use fitted::through_a_netlist;
 use fitted_files::{fitted_has_no_loop, fitted_has_no_reset_path, fitted_is_intact};
 use module_names::module_names_are_plain;
@@ -33,6 +34,7 @@ pub(crate) fn fits_are_right()
     fitted_has_no_loop();
     fitted_has_no_reset_path();
     fitted_rows_are_prime();
+    vectors_disagree_alike();
 }
 
 /// A fuse file can say the fuses of a module's netlist, and the netlist has as many cells as the design. Does nothing.
