@@ -80,20 +80,22 @@ IsNameFault P _ line = ⊥
 abbrev pub IsUnnamed : ModuleTree → NameFault → Type 0
 IsUnnamed m f = (device_named m ≡ None) × (f ≡ naming.UnknownDevice (device_place m))
 
--- a section or a constant is refused, and the design is
+-- a section or a constant is refused so that this holds
 abbrev pub IsSectionFault : List Entry → (SectionFault → Type 0) → SourceFault → (line : List ℕ) → Type 0
 IsSectionFault es P (Sections f) line = P f × (section_text es f ≡ Some line)
 IsSectionFault es P _ line = ⊥
 
+-- the design is refused so that this holds
 abbrev pub IsDesignFault : List Entry → (DesignFault → Type 0) → SourceFault → (line : List ℕ) → Type 0
 IsDesignFault es P (Design f) line = P f × (design_text es f ≡ Some line)
 IsDesignFault es P _ line = ⊥
 
--- the netlist is too wide, or does not fit
+-- the netlist is too wide
 abbrev pub IsWidthFault : Table → List Entry → Netlist → SourceFault → (line : List ℕ) → Type 0
 IsWidthFault t es net (Width (fit.TooWide c)) line = IsFirstWide t net c × (fit_text t es net (fit.TooWide c) ≡ Some line)
 IsWidthFault t es net _ line = ⊥
 
+-- a refusal of the fit, with its line: of the width before that of the rest
 abbrev pub IsFitRefused : Table → List Entry → Netlist → CompileFault → Type 0
 IsFitRefused t es net (Source f line) = IsWidthFault t es net f line.items
 IsFitRefused t es net (Fit f line) = IsOfFit f × FitAnswers t net (Err f) × (fit_text t es net f ≡ Some line.items)
@@ -157,6 +159,7 @@ pub record CanBeTold (t : Table) (m : ModuleTree) (net : Netlist) (fitted : Fitt
   pub intact : IsIntactPastLines t fitted.fuses
   pub cells : assigned_cells t (plain_netlist net) ≡ design_cells (design_of t m)
 
+-- so it is of each fit of a module's netlist
 abbrev pub FitsCanBeTold : Type 0
 FitsCanBeTold =
     (t : Table) (m : ModuleTree) (net : Netlist) (fitted : Fitted) → IsDevice t → IsNetlistFor t m net → IsFitOf t net fitted

@@ -74,6 +74,7 @@ room_text t es tried None = None
 room_text t es tried (Some w) =
     Some (line_head (codes "TooManyProducts") w.place ++ (names_text es (w.name ∷ []) ++ tried_text (cell_at t w.cell).room tried))
 
+-- the line of a refusal of the fit; none for want of memory
 abbrev pub fit_text : Table → List Entry → Netlist → FitFault → Option (List ℕ)
 fit_text t es net (fault.TooWide c) = wide_text es (cell_wanted net c)
 fit_text t es net (fault.NotShared which a b point) = unshared_text es which (cell_wanted net a) (cell_wanted net b)
