@@ -35,34 +35,41 @@ pub record KindsPass (t : Table) (xs : List Entry) (cs : List Contribution) : Ty
   pub kinds : wrong_kinds t xs cs ≡ []
   pub nodes : stored_nodes xs ≡ []
 
+-- no control is refused: each signal has those that are assigned and read, and none is assigned by `?=`
 pub record ControlsPass (d : Design) (fs : List Formula) (cs : List Contribution) : Type 0 where
   pub controls : no_controls d fs cs ≡ []
   pub any : any_controls d.device d.names cs ≡ []
 
+-- nor is a use of what no column carries
 pub record UsesPass (d : Design) (fs : List Formula) (cs : List Contribution) : Type 0 where
   pub controls : ControlsPass d fs cs
   pub paths : no_paths d ≡ []
 
 -- ---- one kind of refusal
 
+-- WrongKind of the first signal on a cell that can't be what it is
 abbrev pub IsCellRefused : Table → List Entry → List Contribution → DesignFault → Type 0
 IsCellRefused t xs cs (fault.WrongKind p s) = IsFirst (wrong_kinds t xs cs) p s
 IsCellRefused t xs cs _ = ⊥
 
+-- RegisteredNode of the first node that is a register
 abbrev pub IsNodeRefused : List Entry → DesignFault → Type 0
 IsNodeRefused xs (fault.RegisteredNode p s) = IsFirst (stored_nodes xs) p s
 IsNodeRefused xs fault.OutOfMemory = Unit {0}
 IsNodeRefused xs _ = ⊥
 
+-- NoSuchControl of the first extension that a signal does not have
 abbrev pub IsControlRefused : Design → List Formula → List Contribution → DesignFault → Type 0
 IsControlRefused d fs cs (fault.NoSuchControl p s) = IsFirst (no_controls d fs cs) p s
 IsControlRefused d fs cs fault.OutOfMemory = Unit {0}
 IsControlRefused d fs cs _ = ⊥
 
+-- DontCareControl of the first control that is assigned by `?=`
 abbrev pub IsAnyRefused : Table → List Entry → List Contribution → DesignFault → Type 0
 IsAnyRefused t xs cs (fault.DontCareControl p s) = IsFirst (any_controls t xs cs) p s
 IsAnyRefused t xs cs _ = ⊥
 
+-- NoReadPath of the first use of what no column carries
 abbrev pub IsPathRefused : Design → DesignFault → Type 0
 IsPathRefused d (fault.NoReadPath p s) = IsFirst (no_paths d) p s
 IsPathRefused d fault.OutOfMemory = Unit {0}

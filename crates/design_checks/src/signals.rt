@@ -79,17 +79,17 @@ fn target_controls<D: Device>(names: &Names, found: &Contributions) -> Option<Re
 /// The first extension that a signal does not have, as a target or where it is used.
 fn controls<D: Device>(
     alloc: Global,
-    module: &Module,
+    source: &Module,
     names: &Names,
     found: &Contributions,
 ) -> Result<Option<RefusedUse>, OutOfMemory>
     requires names { AreToNames (length (entries_of names.now)) found.now.list }
     requires inside { All (λ (c : code.Contribution). c.when.0 < length
         (arena found.now.exprs)) found.now.list }
-    ensures { IfOk result (λ r. (d : Design) → IsDesignFor D.table names.now module.now found.now d
+    ensures { IfOk result (λ r. (d : Design) → IsDesignFor D.table names.now source.now found.now d
         → r ≡ first_refusal use_order (no_controls d (arena found.now.exprs) found.now.list)) }
 {
-    let used = missing_use::<D>(alloc, names, module.sections.as_slice())?;
+    let used = missing_use::<D>(alloc, names, source.sections.as_slice())?;
     Ok(earlier(target_controls::<D>(names, found), used))
 }
 
@@ -105,14 +105,14 @@ fn any_controls<D: Device>(names: &Names, list: &[Contribution]) -> Option<Refus
 /// The first use of what no column carries.
 fn paths<D: Device>(
     alloc: Global,
-    module: &Module,
+    source: &Module,
     names: &Names,
     found: &Contributions,
 ) -> Result<Option<RefusedUse>, OutOfMemory>
-    ensures { IfOk result (λ r. (d : Design) → IsDesignFor D.table names.now module.now found.now d
+    ensures { IfOk result (λ r. (d : Design) → IsDesignFor D.table names.now source.now found.now d
         → r ≡ first_refusal use_order (no_paths d)) }
 {
-    unread_use::<D>(alloc, names, module.sections.as_slice())
+    unread_use::<D>(alloc, names, source.sections.as_slice())
 }
 
 /// Refused for the first signal on a cell that can't be what it is.
@@ -144,7 +144,7 @@ fn check_nodes(names: &Names) -> Result<(), DesignFault>
 #[tactic(auto, using(abel_tree::proofs::FirstRefusals::none_refused))]
 fn check_there<D: Device>(
     alloc: Global,
-    module: &Module,
+    source: &Module,
     names: &Names,
     found: &Contributions,
 ) -> Result<(), DesignFault>
@@ -152,13 +152,13 @@ fn check_there<D: Device>(
     requires inside { All (λ (c : code.Contribution). c.when.0 < length
         (arena found.now.exprs)) found.now.list }
     ensures ok { IfOk result (λ _. (d : Design)
-        → IsDesignFor D.table names.now module.now found.now d
+        → IsDesignFor D.table names.now source.now found.now d
         → no_controls d (arena found.now.exprs) found.now.list ≡ []) }
     ensures err { IfErr result (λ f. (d : Design)
-        → IsDesignFor D.table names.now module.now found.now d
+        → IsDesignFor D.table names.now source.now found.now d
         → IsControlRefused d (arena found.now.exprs) found.now.list f) }
 {
-    match controls::<D>(alloc, module, names, found)? {
+    match controls::<D>(alloc, source, names, found)? {
         None => Ok(()),
         Some(refused) => Err(DesignFault::NoSuchControl(refused.place, refused.name)),
     }
@@ -181,17 +181,17 @@ fn check_any<D: Device>(names: &Names, list: &[Contribution]) -> Result<(), Desi
 #[tactic(auto, using(abel_tree::proofs::FirstRefusals::none_refused))]
 fn check_paths<D: Device>(
     alloc: Global,
-    module: &Module,
+    source: &Module,
     names: &Names,
     found: &Contributions,
 ) -> Result<(), DesignFault>
     ensures ok { IfOk result (λ _. (d : Design)
-        → IsDesignFor D.table names.now module.now found.now d → no_paths d ≡ []) }
+        → IsDesignFor D.table names.now source.now found.now d → no_paths d ≡ []) }
     ensures err { IfErr result (λ f. (d : Design)
-        → IsDesignFor D.table names.now module.now found.now d
+        → IsDesignFor D.table names.now source.now found.now d
         → IsPathRefused d f) }
 {
-    match paths::<D>(alloc, module, names, found)? {
+    match paths::<D>(alloc, source, names, found)? {
         None => Ok(()),
         Some(refused) => Err(DesignFault::NoReadPath(refused.place, refused.name)),
     }
@@ -214,7 +214,7 @@ fn check_kinds<D: Device>(names: &Names, list: &[Contribution]) -> Result<(), De
 /// The first refusal of controls.
 fn check_controls<D: Device>(
     alloc: Global,
-    module: &Module,
+    source: &Module,
     names: &Names,
     found: &Contributions,
 ) -> Result<(), DesignFault>
@@ -222,14 +222,14 @@ fn check_controls<D: Device>(
     requires inside { All (λ (c : code.Contribution). c.when.0 < length
         (arena found.now.exprs)) found.now.list }
     ensures ok { IfOk result (λ _. (d : Design)
-        → IsDesignFor D.table names.now module.now found.now d
+        → IsDesignFor D.table names.now source.now found.now d
         → ControlsPass d (arena found.now.exprs) found.now.list) }
     ensures err { IfErr result (λ f. (d : Design)
-        → IsDesignFor D.table names.now module.now found.now d
+        → IsDesignFor D.table names.now source.now found.now d
         → KindsPass d.device d.names found.now.list
         → IsSignalRefused d (arena found.now.exprs) found.now.list f) }
 {
-    match check_there::<D>(alloc, module, names, found) {
+    match check_there::<D>(alloc, source, names, found) {
         Err(fault) => Err(fault),
         Ok(()) => check_any::<D>(names, found.list.as_slice()),
     }
@@ -238,7 +238,7 @@ fn check_controls<D: Device>(
 /// The first refusal of controls and uses.
 fn check_uses<D: Device>(
     alloc: Global,
-    module: &Module,
+    source: &Module,
     names: &Names,
     found: &Contributions,
 ) -> Result<(), DesignFault>
@@ -246,23 +246,23 @@ fn check_uses<D: Device>(
     requires inside { All (λ (c : code.Contribution). c.when.0 < length
         (arena found.now.exprs)) found.now.list }
     ensures ok { IfOk result (λ _. (d : Design)
-        → IsDesignFor D.table names.now module.now found.now d
+        → IsDesignFor D.table names.now source.now found.now d
         → UsesPass d (arena found.now.exprs) found.now.list) }
     ensures err { IfErr result (λ f. (d : Design)
-        → IsDesignFor D.table names.now module.now found.now d
+        → IsDesignFor D.table names.now source.now found.now d
         → KindsPass d.device d.names found.now.list
         → IsSignalRefused d (arena found.now.exprs) found.now.list f) }
 {
-    match check_controls::<D>(alloc, module, names, found) {
+    match check_controls::<D>(alloc, source, names, found) {
         Err(fault) => Err(fault),
-        Ok(()) => check_paths::<D>(alloc, module, names, found),
+        Ok(()) => check_paths::<D>(alloc, source, names, found),
     }
 }
 
 /// The first refusal of a design's kinds, nodes, controls and uses, for a device and what the sections contribute.
 pub fn check_signals<D: Device>(
     alloc: Global,
-    module: &Module,
+    source: &Module,
     names: &Names,
     found: &Contributions,
 ) -> Result<(), DesignFault>
@@ -270,14 +270,14 @@ pub fn check_signals<D: Device>(
     requires inside { All (λ (c : code.Contribution). c.when.0 < length
         (arena found.now.exprs)) found.now.list }
     ensures ok { IfOk result (λ _. (d : Design)
-        → IsDesignFor D.table names.now module.now found.now d
+        → IsDesignFor D.table names.now source.now found.now d
         → HasSoundSignals d (arena found.now.exprs) found.now.list) }
     ensures err { IfErr result (λ f. (d : Design)
-        → IsDesignFor D.table names.now module.now found.now d
+        → IsDesignFor D.table names.now source.now found.now d
         → IsSignalRefused d (arena found.now.exprs) found.now.list f) }
 {
     match check_kinds::<D>(names, found.list.as_slice()) {
         Err(fault) => Err(fault),
-        Ok(()) => check_uses::<D>(alloc, module, names, found),
+        Ok(()) => check_uses::<D>(alloc, source, names, found),
     }
 }
