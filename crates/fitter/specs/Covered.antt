@@ -49,6 +49,7 @@ pub record HasCovers (t : Table) (mask : ℕ) (net : Netlist) (w : CellWanted) (
   pub reset : IsControlTooWide net w.reset → ⊥
   pub preset : IsControlTooWide net w.preset → ⊥
 
+-- the covers of one assigned cell; TooWide where a list of it would be too long
 abbrev pub IsCovered : Table → (mask : ℕ) → Netlist → CellWanted → Result CellCovers LowerFault → Type 0
 IsCovered t mask net w (Ok x) = HasCovers t mask net w x
 IsCovered t mask net w (Err lower.TooWide) = IsTooWide t net w
@@ -67,6 +68,7 @@ pub record IsWideAt (t : Table) (net : Netlist) (c : ℕ) : Type 0 where
   pub wanted : cell_wanted net c ≡ Some cell
   pub wide : IsTooWide t net cell
 
+-- those of the cell of a number, which may be assigned
 abbrev pub IsCoveredAt : Table → (mask : ℕ) → Netlist → ℕ → Result (Option CellCovers) LowerFault → Type 0
 IsCoveredAt t mask net c (Ok found) = HasCoversAs t mask net (cell_wanted net c) found
 IsCoveredAt t mask net c (Err lower.TooWide) = IsWideAt t net c
@@ -88,6 +90,7 @@ pub record CoversBelow (t : Table) (mask : ℕ) (net : Netlist) (c : ℕ) (list 
   pub count : length list ≡ c
   pub each : (d : ℕ) → d < c → HasCoversAs t mask net (cell_wanted net d) (get_or list d None)
 
+-- those of all cells; TooWide with the first cell that is, by the place of its target
 abbrev pub AreCovered : Table → (mask : ℕ) → Netlist → Result (Vec (Option CellCovers)) FitFault → Type 0
 AreCovered t mask net (Ok list) = CoversBelow t mask net (length t.cells) list.items
 AreCovered t mask net (Err (fault.TooWide c)) = IsFirstWide t net c

@@ -62,10 +62,12 @@ abbrev pub AreRowsOf : Table → ℕ → Option CellCovers → CellRows → Type
 AreRowsOf t c None rows = AreNoRows rows
 AreRowsOf t c (Some x) rows = AreChosen t c x rows
 
+-- a cell that is assigned, no form of which fits, with the covers that were tried
 abbrev pub IsOverAt : Table → ℕ → Option CellCovers → Tried → Type 0
 IsOverAt t c None tried = ⊥
 IsOverAt t c (Some x) tried = IsOver t c x tried
 
+-- the rows of one cell; TooManyProducts with its number where no form fits
 abbrev pub ArePlannedAt : Table → ℕ → Option CellCovers → Result CellRows FitFault → Type 0
 ArePlannedAt t c found (Ok rows) = AreRowsOf t c found rows
 ArePlannedAt t c found (Err (fault.TooManyProducts d tried)) = (d ≡ c) × IsOverAt t c found tried
@@ -80,11 +82,13 @@ pub record HasRowsAt (t : Table) (covers : List (Option CellCovers)) (plans : Li
   pub there : slice_get plans c ≡ Some plan
   pub rows : AreRowsOf t c (get_or covers c None) (record { plan = plan; form = form_at forms c })
 
+-- the rows and forms of the cells below a number
 pub record RowsBelow (t : Table) (covers : List (Option CellCovers)) (c : ℕ) (plans : List CellPlan) (forms : List CellForm) : Type 0 where
   pub plans_count : length plans ≡ c
   pub forms_count : length forms ≡ c
   pub each : (d : ℕ) → d < c → HasRowsAt t covers plans forms d
 
+-- the rows of all cells; TooManyProducts with the number of one that no form fits
 abbrev pub ArePlanned : Table → List (Option CellCovers) → Result AllRows FitFault → Type 0
 ArePlanned t covers (Ok all) = RowsBelow t covers (length t.cells) all.plans.items all.forms.items
 ArePlanned t covers (Err (fault.TooManyProducts c tried)) = (c < length t.cells) × IsOverAt t c (get_or covers c None) tried
@@ -103,9 +107,11 @@ abbrev pub IsManyRows : Option CellCovers → Type 0
 IsManyRows None = ⊥
 IsManyRows (Some x) = 1 < length x.enable.items
 
+-- the enables of the cells below a number have at most one row each
 abbrev pub SingleBelow : List (Option CellCovers) → ℕ → Type 0
 SingleBelow covers c = (d : ℕ) → d < c → IsSingleRow (get_or covers d None)
 
+-- those of all cells; EnableTooWide with the number of the first that has more
 abbrev pub AreSingle : List (Option CellCovers) → Result (Unit {0}) FitFault → Type 0
 AreSingle covers (Ok done) = SingleBelow covers (length covers)
 AreSingle covers (Err (fault.EnableTooWide c)) = (c < length covers) × IsManyRows (get_or covers c None) × SingleBelow covers c
@@ -131,6 +137,7 @@ IsSharedBitOf t net which (Err (fault.NotShared told a b point)) = (told ≡ whi
 IsSharedBitOf t net which (Err fault.OutOfMemory) = Unit {0}
 IsSharedBitOf t net which (Err _) = ⊥
 
+-- the rows of reset and preset; NotShared with two registers that differ, else the one that is no product
 abbrev pub AreSharedRows : Table → (mask : ℕ) → Netlist → Result SharedRows FitFault → Type 0
 AreSharedRows t mask net (Ok rows) = HasSharedRow t mask net Reset rows.reset × HasSharedRow t mask net Preset rows.preset
 AreSharedRows t mask net (Err (fault.NotShared which a b point)) = DifferIn t net which a b point
