@@ -156,8 +156,8 @@ fn file_of(alloc: Global, command: &str, rows: &str, rest: &str) -> Option<Strin
     Some(text)
 }
 
-/// Whether a report has these lines, with `|` between them.
-fn has_lines(report: &[u8], told: &str) -> bool {
+/// Whether a report is these lines, with `|` between them.
+fn is_report(report: &[u8], told: &str) -> bool {
     let Ok(report) = std::str::from_utf8(report) else {
         return false;
     };
@@ -180,7 +180,7 @@ fn is_run_so(alloc: Global, run: &str) -> Result<bool, Fail> {
     let text = file_of(alloc, command, rows, rest).ok_or(rows)?;
     let line = format!(in alloc; "{command} in")?;
     let done = run_line(alloc, &line, ("in", text.as_bytes()), (0, 0))?;
-    Ok(status.parse::<u8>().ok() == Some(done.status) && has_lines(done.report.bytes(), report))
+    Ok(status.parse::<u8>().ok() == Some(done.status) && is_report(done.report.bytes(), report))
 }
 
 #[test]

@@ -15,6 +15,8 @@ mod controls;
 #[cfg(test)]
 mod demos;
 #[cfg(test)]
+mod design_orders;
+#[cfg(test)]
 mod devices;
 #[cfg(test)]
 mod diagrams;
