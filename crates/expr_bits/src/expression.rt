@@ -14,7 +14,7 @@ ghost use Rattle.value_bits.specs.Parts.{IsPart};
 ghost use Rattle.expr_bits.specs.Placed.{ArePlaced};
 ghost use Rattle.expr_bits.specs.Steps.{term_part};
 
-use crate::keeping::kept_of;
+use crate::needed::kept_for;
 use crate::shaping::shaped;
 use crate::walking::walk;
 use abel_tree::{Expr, Names};
@@ -75,7 +75,7 @@ fn whole<D: Device>(
     requires placed { ArePlaced names.now }
     ensures { (d : Design) → IsDesignOf D.table names.now d → Makes IsPart exprs.old exprs.new result (term_part d (term_of d.known (view expr.now))) }
 {
-    let kept = kept_of::<D>(alloc, names, known)?;
+    let kept = kept_for::<D>(alloc, names, known, expr)?;
     let count = names.list.as_slice().len();
     walk::<D>(alloc, names, known, &kept, expr, None, count, exprs)
 }

@@ -7,6 +7,7 @@ mod expression;
 mod keeping;
 mod kept;
 mod naming;
+mod needed;
 mod reading;
 mod shaping;
 mod sources;
