@@ -8,7 +8,7 @@ use thiserror::Error;
 #[derive(Debug, Drop, Error)]
 pub enum SimFault {
     /// The vector, counted from 1 in their order, has at the pin a character that is not simulated.
-    #[error("vector {vector} has at pin {pin} a condition that is not simulated")]
+    #[error("a vector has a condition that is not simulated")]
     UnsupportedCondition { vector: u32, pin: u8 },
     /// The cell on each of these pins reads the next one, and the last reads the first.
     #[error("a chain of reads returns to where it began")]

@@ -12,10 +12,10 @@ use thiserror::Error;
 pub enum FitFault {
     /// A written list of the cell's function, in each form that it may have, or of a control of it, would pass 1,024
     /// products.
-    #[error("cell {0} is wider than 1,024 products")]
+    #[error("a cell is wider than 1,024 products")]
     TooWide(u8),
     /// The resets, or else the presets, of two cells differ at the point.
-    #[error("cells {1} and {2} differ in what all registers share")]
+    #[error("two cells differ in what all registers share")]
     NotShared(SharedControl, u8, u8, Point),
     /// The reset is neither 0 nor one product.
     #[error("the reset is no product")]
@@ -24,10 +24,10 @@ pub enum FitFault {
     #[error("the preset is no product")]
     PresetTooWide,
     /// The enable of the cell is neither 0 nor one product.
-    #[error("the enable of cell {0} is no product")]
+    #[error("the enable of a cell is no product")]
     EnableTooWide(u8),
     /// The cell has too few rows for its covers, which are over the columns.
-    #[error("cell {0} has too few rows")]
+    #[error("a cell has too few rows")]
     TooManyProducts(u8, Tried),
     /// Memory ran out.
     #[error("out of memory")]

@@ -15,23 +15,23 @@ pub enum JedecFault {
     #[error("no end byte with a sum")]
     NoEnd,
     /// The transmission sum that was read is neither 0000 nor that of the bytes.
-    #[error("the file's sum is {read:04X}, that of its bytes {found:04X}")]
+    #[error("the file's sum is not that of its bytes")]
     FileSum { read: u16, found: u16 },
     /// The field whose letter stands at the offset is none, or no asterisk ends the last field before
     /// the end byte at the offset.
-    #[error("no field at {0}")]
+    #[error("no field")]
     BadField(usize),
     /// The field whose letter stands at the offset is not read.
-    #[error("a field that is not read at {0}")]
+    #[error("a field that is not read")]
     UnsupportedField(usize),
     /// The numbers of fuses or pins are not the device's, or a level stands past the fuses.
     #[error("the sizes are not the device's")]
     WrongSize,
     /// This is the first fuse that has no level.
-    #[error("fuse {0} has no level")]
+    #[error("a fuse has no level")]
     Unlisted(u16),
     /// The fuse sum that was read is not that of the fuses.
-    #[error("the fuse sum is {read:04X}, that of the fuses {found:04X}")]
+    #[error("the fuse sum is not that of the fuses")]
     FuseSum { read: u16, found: u16 },
     /// Memory ran out.
     #[error("out of memory")]
