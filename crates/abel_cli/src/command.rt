@@ -9,7 +9,7 @@ use crate::digits::are_few_digits;
 use pld_base::DeviceName;
 
 /// What is done with the sources of a command.
-#[derive(Clone, Copy, Debug, PartialEq, Eq)]
+#[derive(Clone, Copy, PartialEq, Eq)]
 pub enum Task<'a> {
     /// `compile IN OUT`
     Compile { output: &'a str },

@@ -3,7 +3,7 @@
 use pld_base::{NameText, Place};
 
 /// What a token is (ABEL-HDL Reference Manual, language elements).
-#[derive(Clone, Copy, Debug, PartialEq, Eq)]
+#[derive(Clone, Copy, PartialEq, Eq)]
 pub enum TokenKind {
     /// A name: a letter, `_` or `~`, then letters, digits, `_` and `~`.
     Identifier,

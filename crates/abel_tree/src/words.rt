@@ -10,7 +10,7 @@ pub struct Word {
 }
 
 /// A number with its place.
-#[derive(Clone, Copy, Debug, PartialEq, Eq)]
+#[derive(Clone, Copy, PartialEq, Eq)]
 pub struct Number {
     pub value: u32,
     pub place: Place,
@@ -26,21 +26,21 @@ pub struct Item {
 }
 
 /// A number of a declaration, or all numbers from `first` up or down to `last`.
-#[derive(Clone, Copy, Debug, PartialEq, Eq)]
+#[derive(Clone, Copy, PartialEq, Eq)]
 pub struct Span {
     pub first: Number,
     pub last: Option<Number>,
 }
 
 /// `@DCSET` (`on`) or `@ONSET`.
-#[derive(Clone, Copy, Debug, PartialEq, Eq)]
+#[derive(Clone, Copy, PartialEq, Eq)]
 pub struct DontCare {
     pub on: bool,
     pub place: Place,
 }
 
 /// What a name or a set is asked for behind its dot, as in `q.CLK`.
-#[derive(Clone, Copy, Debug, PartialEq, Eq)]
+#[derive(Clone, Copy, PartialEq, Eq)]
 pub enum Extension {
     Clk,
     Oe,
@@ -53,7 +53,7 @@ pub enum Extension {
 }
 
 /// The sign of an assignment: `=`, `:=`, `?=`, `?:=`.
-#[derive(Clone, Copy, Debug, PartialEq, Eq)]
+#[derive(Clone, Copy, PartialEq, Eq)]
 pub enum Sign {
     Equal,
     Clocked,
@@ -62,14 +62,14 @@ pub enum Sign {
 }
 
 /// `!` and the `-` before an operand.
-#[derive(Clone, Copy, Debug, PartialEq, Eq)]
+#[derive(Clone, Copy, PartialEq, Eq)]
 pub enum Unary {
     Not,
     Minus,
 }
 
 /// `== != < <= > >=`, `+ - # $ !$`, `& << >> * / %`, in this order.
-#[derive(Clone, Copy, Debug, PartialEq, Eq)]
+#[derive(Clone, Copy, PartialEq, Eq)]
 pub enum Binary {
     Equal,
     Unequal,

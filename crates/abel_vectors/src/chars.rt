@@ -9,7 +9,7 @@ ghost use Rattle.abel_vectors.specs.GivenChars.{char_in};
 use row_entries::Mark;
 
 /// Whether positions are driven, as inputs, or tested, as outputs.
-#[derive(Clone, Copy, Debug, PartialEq, Eq)]
+#[derive(Clone, Copy, PartialEq, Eq)]
 pub(crate) enum Role {
     Driven,
     Tested,

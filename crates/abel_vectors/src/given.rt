@@ -16,7 +16,7 @@ use row_entries::Mark;
 use std::alloc::Global;
 
 /// A pin with the character that is given to it.
-#[derive(Clone, Copy, Debug, PartialEq, Eq)]
+#[derive(Clone, Copy, PartialEq, Eq)]
 pub(crate) struct Given {
     pub pin: u8,
     pub char: u8,

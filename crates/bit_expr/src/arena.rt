@@ -21,7 +21,7 @@ const NODES: usize = 262_144;
 const CONSTANTS: usize = 2;
 
 /// A node beside the leaves that its formula names.
-#[derive(Clone, Copy, Debug, PartialEq, Eq)]
+#[derive(Clone, Copy, PartialEq, Eq)]
 struct Kept {
     node: Node,
     reads: Reads,

@@ -5,7 +5,7 @@ use crate::node::ExprId;
 use pld_base::{ListOf, Place};
 
 /// Where a signal is 1, and where it may be either; of its complement, where `complement` says so.
-#[derive(Clone, Copy, Debug, PartialEq, Eq)]
+#[derive(Clone, Copy, PartialEq, Eq)]
 pub struct Function {
     pub one: ExprId,
     pub any: ExprId,
@@ -13,7 +13,7 @@ pub struct Function {
 }
 
 /// An enable, a reset or a preset, with the place of its first target in the expanded text.
-#[derive(Clone, Copy, Debug, PartialEq, Eq)]
+#[derive(Clone, Copy, PartialEq, Eq)]
 pub struct Control {
     pub bit: ExprId,
     pub place: Place,
@@ -23,7 +23,7 @@ pub struct Control {
 /// first data target. `negated` says that the name is the complement of the pin, `buffer` that the pin equals
 /// Q, and `raw` that the function is of the register's input itself. A register without a reset or preset of
 /// its own has that of the register of least `name` that has one, else 0.
-#[derive(Clone, Copy, Debug, PartialEq, Eq)]
+#[derive(Clone, Copy, PartialEq, Eq)]
 pub struct CellWanted {
     pub cell: u8,
     pub name: u32,

@@ -11,7 +11,7 @@ use pld_base::{with_level, with_value};
 
 /// The leaves that a bit names: bit p of `pins` is pin p, bit c of `q` is the Q of cell c, bit n of `nodes`
 /// is node n.
-#[derive(Clone, Copy, Debug, PartialEq, Eq)]
+#[derive(Clone, Copy, PartialEq, Eq)]
 pub struct Reads {
     pub pins: u32,
     pub q: u32,

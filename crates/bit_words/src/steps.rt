@@ -10,7 +10,7 @@ use bit_expr::{ExprFault, ExprId, Exprs, Node};
 use std::alloc::Global;
 
 /// What is made at each position.
-#[derive(Clone, Copy, Debug, PartialEq, Eq)]
+#[derive(Clone, Copy, PartialEq, Eq)]
 pub(crate) enum Step {
     Not,
     And,

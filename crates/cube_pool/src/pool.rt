@@ -8,13 +8,13 @@ use std::alloc::Global;
 use std::marker::Model;
 
 /// A length of the pool to go back to.
-#[derive(Clone, Copy, Debug, PartialEq, Eq)]
+#[derive(Clone, Copy, PartialEq, Eq)]
 pub struct Mark {
     pub length: usize,
 }
 
 /// The places from `from` up to `to`, which is not in it.
-#[derive(Clone, Copy, Debug, PartialEq, Eq)]
+#[derive(Clone, Copy, PartialEq, Eq)]
 pub struct Range {
     pub from: usize,
     pub to: usize,

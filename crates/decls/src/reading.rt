@@ -37,7 +37,7 @@ pub struct NamesRead {
 
 /// A name that a string with `buffer` is for: its place in the string's declaration, and its number
 /// in the list of names, from 0.
-#[derive(Clone, Copy, Debug, PartialEq, Eq)]
+#[derive(Clone, Copy, PartialEq, Eq)]
 pub struct Buffered {
     pub place: Place,
     pub number: usize,

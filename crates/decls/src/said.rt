@@ -1,7 +1,7 @@
 //! What the strings of ISTYPE say of a name.
 
 /// The attributes that have an effect, each said or not.
-#[derive(Clone, Copy, Debug, PartialEq, Eq)]
+#[derive(Clone, Copy, PartialEq, Eq)]
 pub(crate) struct Said {
     pub(crate) combinational: bool,
     pub(crate) registered: bool,

@@ -72,7 +72,7 @@ fn is_known_word(word: &[u8]) -> bool
 }
 
 /// What the words of a string say, and whether one of them is unknown.
-#[derive(Clone, Copy, Debug, PartialEq, Eq)]
+#[derive(Clone, Copy, PartialEq, Eq)]
 pub(crate) struct StringWords {
     pub(crate) said: Said,
     pub(crate) unknown: bool,

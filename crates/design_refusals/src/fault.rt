@@ -9,7 +9,7 @@ use pld_base::Place;
 
 /// A refusal of a design with its place in the expanded text, and the number of the name that is told, from 0 in
 /// the order of declaration.
-#[derive(Clone, Copy, Debug, PartialEq, Eq)]
+#[derive(Clone, Copy, PartialEq, Eq)]
 pub enum SignalFault {
     /// A registered signal on a cell that can't register, or a combinational one on a cell that must; its first
     /// target.

@@ -14,7 +14,7 @@ use pld_device::Device;
 use set_expr::{Contribution, Gives};
 
 /// What is asked of each target.
-#[derive(Clone, Copy, Debug, PartialEq, Eq)]
+#[derive(Clone, Copy, PartialEq, Eq)]
 pub enum Rule {
     Kinds,
     Controls,

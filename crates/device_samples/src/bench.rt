@@ -6,7 +6,7 @@ use pld_device::{Carry, Cell, Device, Enable, Flip, FuseBit, Kinds};
 /// The small device, as a type without values of its own: cell 0, a register, on pin 5, and cells 1 and
 /// 2 on pins 6 and 7, each with an enable row and a data row, and columns for pins 2 and 3 and for cell
 /// 1. Pin 1 is the clock, and each cell has a fuse that inverts it while it is 0.
-#[derive(Clone, Copy, Debug, PartialEq, Eq)]
+#[derive(Clone, Copy, PartialEq, Eq)]
 pub struct Bench;
 
 impl Device for Bench {

@@ -12,7 +12,7 @@ fn fuses_have_their_levels(rt: HostRuntime) -> Result<(), Fail> {
 }
 
 /// A cell and the control fuses of its polarity and its kind.
-#[derive(Clone, Copy, Debug, PartialEq, Eq)]
+#[derive(Clone, Copy, PartialEq, Eq)]
 struct Told {
     cell: Cell,
     inverted: Option<FuseBit>,

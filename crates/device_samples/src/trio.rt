@@ -5,7 +5,7 @@ use pld_device::{Carry, Cell, Device, Enable, Flip, FuseBit, Kinds};
 
 /// The small device, as a type without values of its own: cells 0, 1 and 2 on pins 9, 8 and 7, each
 /// with an enable row and two data rows, and columns for pins 1 and 2 and for each cell.
-#[derive(Clone, Copy, Debug, PartialEq, Eq)]
+#[derive(Clone, Copy, PartialEq, Eq)]
 pub struct Trio;
 
 impl Device for Trio {

@@ -4,7 +4,7 @@ use pld_base::DeviceName;
 use pld_device::{Carry, Cell, Device, Flip, FuseBit, Sample};
 
 /// The sample device with its complement before the register.
-#[derive(Clone, Copy, Debug, PartialEq, Eq)]
+#[derive(Clone, Copy, PartialEq, Eq)]
 pub struct Turned;
 
 impl Device for Turned {

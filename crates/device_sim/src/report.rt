@@ -5,7 +5,7 @@ use pld_base::ListOf;
 /// A tested character with which a pin disagrees: the vector, counted from 1 in the order of the
 /// vectors' numbers, the pin, the character (`H`, `L` or `Z`), and what is found there (`H` driven
 /// with 1, `L` driven with 0, `Z` released).
-#[derive(Clone, Copy, Debug, PartialEq, Eq)]
+#[derive(Clone, Copy, PartialEq, Eq)]
 pub struct Mismatch {
     pub vector: u32,
     pub pin: u8,

@@ -52,7 +52,7 @@ fn accepted_bit<D: Device>(
 }
 
 /// A condition, and the guard of what counts where it is 1.
-#[derive(Clone, Copy, Debug, PartialEq, Eq)]
+#[derive(Clone, Copy, PartialEq, Eq)]
 pub struct Chosen {
     pub condition: ExprId,
     pub then: ExprId,
@@ -86,7 +86,7 @@ pub fn then_guard<D: Device>(
 }
 
 /// The guards of both statements of a WHEN.
-#[derive(Clone, Copy, Debug, PartialEq, Eq)]
+#[derive(Clone, Copy, PartialEq, Eq)]
 pub struct BothGuards {
     pub then: ExprId,
     pub otherwise: ExprId,

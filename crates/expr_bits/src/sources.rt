@@ -14,7 +14,7 @@ use bitflags::Flags;
 use pld_device::Device;
 
 /// A leaf, or the complement of what it carries.
-#[derive(Clone, Copy, Debug, PartialEq, Eq)]
+#[derive(Clone, Copy, PartialEq, Eq)]
 pub(crate) struct Reading {
     pub complement: bool,
     pub leaf: Leaf,

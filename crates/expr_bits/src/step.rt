@@ -3,7 +3,7 @@
 use abel_tree::{Binary, Extension, Unary};
 
 /// A step over a stack of values: what it puts on top, of the values that it takes from there.
-#[derive(Clone, Copy, Debug, PartialEq, Eq)]
+#[derive(Clone, Copy, PartialEq, Eq)]
 pub(crate) enum Step {
     /// A number.
     Number(u32),

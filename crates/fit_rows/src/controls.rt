@@ -11,7 +11,7 @@ use pld_device::{Device, FuseBit};
 use std::alloc::{AllocError, Global};
 
 /// What the control fuses of a cell are to say.
-#[derive(Clone, Copy, Debug, PartialEq, Eq)]
+#[derive(Clone, Copy, PartialEq, Eq)]
 pub struct CellForm {
     pub inverted: bool,
     pub registered: bool,

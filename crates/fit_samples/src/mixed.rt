@@ -5,7 +5,7 @@ use pld_device::{Carry, Cell, Device, Enable, Flip, FuseBit, Kinds};
 
 /// The small device, as a type without values of its own. It complements before its registers, has switches for its first
 /// rows alone, and fixed fuses of both levels.
-#[derive(Clone, Copy, Debug, PartialEq, Eq)]
+#[derive(Clone, Copy, PartialEq, Eq)]
 pub struct Mixed;
 
 impl Device for Mixed {

@@ -17,7 +17,7 @@ use sop_lowering::{LowerFault, lower};
 use std::alloc::{AllocError, Global};
 
 /// Why no shared bit was answered.
-#[derive(Clone, Copy, Debug, PartialEq, Eq)]
+#[derive(Clone, Copy, PartialEq, Eq)]
 pub enum ShareFault {
     /// The equation of the second cell differs from that of the first at the point.
     NotShared(u8, u8, Point),

@@ -7,7 +7,7 @@ use pld_base::DeviceName;
 use pld_device::{Carry, Cell, Device, Enable, Flip, FuseBit, Kinds};
 
 /// The GAL22V10, as a type without values of its own.
-#[derive(Clone, Copy, Debug, PartialEq, Eq)]
+#[derive(Clone, Copy, PartialEq, Eq)]
 pub struct Gal22V10;
 
 /// A cell: its pin, the row that enables it, and how many data rows stand behind that one.

@@ -4,7 +4,7 @@ ghost use Rattle.std.specs.Prelude.{◌≡◌};
 ghost use Rattle.name_kinds.specs.Marking.{hit, raised, is_on_clock};
 
 /// Whether some target names a name, and whether one on the clock does.
-#[derive(Clone, Copy, Debug, PartialEq, Eq)]
+#[derive(Clone, Copy, PartialEq, Eq)]
 pub(crate) enum Mark {
     Free,
     Assigned,

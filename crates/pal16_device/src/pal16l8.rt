@@ -9,7 +9,7 @@ use pld_base::DeviceName;
 use pld_device::{Carry, Cell, Device, Flip, FuseBit};
 
 /// The PAL16L8, as a type without values of its own.
-#[derive(Clone, Copy, Debug, PartialEq, Eq)]
+#[derive(Clone, Copy, PartialEq, Eq)]
 pub struct Pal16L8;
 
 impl Pal16L8 {

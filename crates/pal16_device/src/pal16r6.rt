@@ -5,7 +5,7 @@ use pld_base::DeviceName;
 use pld_device::{Carry, Cell, Device, Flip, FuseBit};
 
 /// The PAL16R6, as a type without values of its own.
-#[derive(Clone, Copy, Debug, PartialEq, Eq)]
+#[derive(Clone, Copy, PartialEq, Eq)]
 pub struct Pal16R6;
 
 impl Device for Pal16R6 {

@@ -11,14 +11,14 @@ pub struct Point {
 
 /// What a point shows: bit p of `driven` says whether pin p is driven, bit p of `level` with which
 /// level; a released pin has level 0 here.
-#[derive(Clone, Copy, Debug, PartialEq, Eq)]
+#[derive(Clone, Copy, PartialEq, Eq)]
 pub struct Trace {
     pub driven: u32,
     pub level: u32,
 }
 
 /// A test vector: the character of pin p stands at p - 1 (JESD3-C, test vector field).
-#[derive(Clone, Copy, Debug, PartialEq, Eq)]
+#[derive(Clone, Copy, PartialEq, Eq)]
 pub struct Vector {
     pub chars: [u8; 24],
 }

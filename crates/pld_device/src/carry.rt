@@ -4,7 +4,7 @@
 ///
 /// Of a pair the lower column carries the value, the higher one its complement. Pins count from 1,
 /// cells from 0.
-#[derive(Clone, Copy, Debug, PartialEq, Eq)]
+#[derive(Clone, Copy, PartialEq, Eq)]
 pub enum Carry {
     Pin(u8),
     Cell(u8),

@@ -4,7 +4,7 @@ use crate::enable::Enable;
 use crate::kinds::Kinds;
 
 /// A cell: its pin, what enables it, its first data row and how many there are, and its kinds.
-#[derive(Clone, Copy, Debug, PartialEq, Eq)]
+#[derive(Clone, Copy, PartialEq, Eq)]
 pub struct Cell {
     pub pin: u8,
     pub enable: Enable,

@@ -2,7 +2,7 @@
 
 /// Always at the pin, or where a control fuse says so: after the register, at the pin, or before
 /// it, at its data.
-#[derive(Clone, Copy, Debug, PartialEq, Eq)]
+#[derive(Clone, Copy, PartialEq, Eq)]
 pub enum Flip {
     Always,
     AfterRegister,

@@ -3,7 +3,7 @@
 use std::marker::Model;
 
 /// The levels of a device's fuses, from fuse 0: 0 is an intact connection, 1 an opened one.
-#[derive(Debug, Drop)]
+#[derive(Drop)]
 pub struct Fuses {
     levels: Vec<bool>,
 }

@@ -1,7 +1,7 @@
 //! What a cell may be.
 
 /// Combinational, registered, or either by a control fuse.
-#[derive(Clone, Copy, Debug, PartialEq, Eq)]
+#[derive(Clone, Copy, PartialEq, Eq)]
 pub enum Kinds {
     Combinational,
     Registered,

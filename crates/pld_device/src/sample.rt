@@ -11,7 +11,7 @@ use pld_base::DeviceName;
 
 /// A small device of no maker, for tests of code for all devices: it has a reset, a preset and control
 /// fuses of every kind.
-#[derive(Clone, Copy, Debug, PartialEq, Eq)]
+#[derive(Clone, Copy, PartialEq, Eq)]
 pub struct Sample;
 
 impl Device for Sample {

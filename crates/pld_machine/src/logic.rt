@@ -7,7 +7,7 @@ ghost use Rattle.pld_machine.specs.Lookups.{Lookups, sets_node};
 use pld_base::Point;
 
 /// What comes to rest in one turn: a cell's pin, or a node.
-#[derive(Clone, Copy, Debug, PartialEq, Eq)]
+#[derive(Clone, Copy, PartialEq, Eq)]
 pub enum Slot {
     Cell(u8),
     Node(u8),

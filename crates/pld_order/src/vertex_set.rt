@@ -7,7 +7,7 @@ ghost use Rattle.pld_order.specs.Sets.{AreApart, IsWith, IsWithin};
 use std::marker::Model;
 
 /// A set of vertices, which have numbers below 256; contracts see 256 truth values, one for each.
-#[derive(Debug, Drop)]
+#[derive(Drop)]
 pub struct VertexSet {
     low: u128,
     high: u128,

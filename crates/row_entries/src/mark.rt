@@ -1,7 +1,7 @@
 //! What an entry says of a position of its header.
 
 /// A level, `.X.`, `.C.` or `.Z.`.
-#[derive(Clone, Copy, Debug, PartialEq, Eq)]
+#[derive(Clone, Copy, PartialEq, Eq)]
 pub enum Mark {
     Level(bool),
     Unknown,

@@ -27,7 +27,7 @@ const HERE: Point = Point {
 };
 
 /// The answer for an expression: its shape, its number at that point with 0 at X, and a bit for each X position.
-#[derive(Clone, Copy, Debug, PartialEq, Eq)]
+#[derive(Clone, Copy, PartialEq, Eq)]
 enum Outcome {
     Is(Shape, u32, u32),
     Refused(SectionFault),

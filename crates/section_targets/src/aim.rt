@@ -3,7 +3,7 @@
 use pld_base::Place;
 
 /// A signal at the place where a target names it.
-#[derive(Clone, Copy, Debug, PartialEq, Eq)]
+#[derive(Clone, Copy, PartialEq, Eq)]
 pub struct Aim {
     pub signal: u32,
     pub place: Place,

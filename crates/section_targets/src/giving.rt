@@ -21,7 +21,7 @@ use set_expr::{Contribution, Gives, Guard, SectionFault, Target};
 
 /// How the unit at a place gives values to signals: under a guard, to what an extension names of them or to the
 /// complement, on the clock or not.
-#[derive(Clone, Copy, Debug, PartialEq, Eq)]
+#[derive(Clone, Copy, PartialEq, Eq)]
 pub struct Giving {
     pub unit: Place,
     pub guard: Guard,

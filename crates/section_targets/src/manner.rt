@@ -7,7 +7,7 @@ ghost use Rattle.section_targets.specs.Manners as said;
 use abel_tree::Extension;
 
 /// How a signal, or what its extension names of it, is assigned.
-#[derive(Clone, Copy, Debug, PartialEq, Eq)]
+#[derive(Clone, Copy, PartialEq, Eq)]
 pub struct Manner {
     pub signal: u32,
     pub extension: Option<Extension>,

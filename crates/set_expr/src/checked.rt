@@ -5,7 +5,7 @@ use crate::shaped::Shape;
 
 /// The first refusal of an expression, and where nothing is refused its shape and the first of its X positions,
 /// as what it is refused as.
-#[derive(Clone, Copy, Debug, PartialEq, Eq)]
+#[derive(Clone, Copy, PartialEq, Eq)]
 pub struct Checked {
     pub shape: Option<Shape>,
     pub special: Option<SectionFault>,

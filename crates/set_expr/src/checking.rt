@@ -125,7 +125,7 @@ fn wide(place: Place, width: u8) -> Option<SectionFault>
 
 /// What is found of the members of a set so far: their X positions, their refusals and how many positions they
 /// have, 255 where there are more.
-#[derive(Clone, Copy, Debug, PartialEq, Eq)]
+#[derive(Clone, Copy, PartialEq, Eq)]
 pub(crate) struct Members {
     special: Option<SectionFault>,
     fault: Option<SectionFault>,

@@ -5,7 +5,7 @@ use bit_expr::{ExprId, Exprs};
 use pld_base::{ListOf, Place};
 
 /// A signal, by its number in the order of declaration, or what its extension names of it.
-#[derive(Clone, Copy, Debug, PartialEq, Eq)]
+#[derive(Clone, Copy, PartialEq, Eq)]
 pub struct Target {
     pub signal: u32,
     pub extension: Option<Extension>,
@@ -13,7 +13,7 @@ pub struct Target {
 
 /// Where its bit is 1, a contribution says that the signal is 1, that it may be either, or that its table or
 /// diagram matches.
-#[derive(Clone, Copy, Debug, PartialEq, Eq)]
+#[derive(Clone, Copy, PartialEq, Eq)]
 pub enum Gives {
     One,
     Any,
@@ -23,7 +23,7 @@ pub enum Gives {
 /// What is given to a target, or to its complement, where the bit `when` is 1. Tables and diagrams are blocks,
 /// numbered from 0 through the source; an equation has the block of the diagram that it stands in, and else
 /// none. `dontcare` says that the block is don't-care for the signal. The place is the target's.
-#[derive(Clone, Copy, Debug, PartialEq, Eq)]
+#[derive(Clone, Copy, PartialEq, Eq)]
 pub struct Contribution {
     pub target: Target,
     pub complement: bool,
@@ -44,7 +44,7 @@ pub struct Contributions {
 
 /// What stands round a statement: the conditions as one bit, whether `@DCSET` is in force for the block, and the
 /// block.
-#[derive(Clone, Copy, Debug, PartialEq, Eq)]
+#[derive(Clone, Copy, PartialEq, Eq)]
 pub struct Guard {
     pub when: ExprId,
     pub dontcare: bool,

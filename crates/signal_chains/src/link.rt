@@ -10,7 +10,7 @@ use pld_base::level_at;
 
 /// A signal: the leaf by which it is read, if it can be; the leaves that it reads while it comes to rest, which a
 /// register does not; and whether it is a register.
-#[derive(Clone, Copy, Debug, PartialEq, Eq)]
+#[derive(Clone, Copy, PartialEq, Eq)]
 pub struct Link {
     pub leaf: Option<Leaf>,
     pub reads: Reads,

@@ -11,7 +11,7 @@ use abel_tree::Extension;
 use set_expr::{Contribution, Gives};
 
 /// The data of a signal that give one of the three, or a control by its extension.
-#[derive(Clone, Copy, Debug, PartialEq, Eq)]
+#[derive(Clone, Copy, PartialEq, Eq)]
 pub enum Part {
     Data(Gives),
     Control(Extension),

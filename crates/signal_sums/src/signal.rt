@@ -17,7 +17,7 @@ use set_expr::{Contribution, Gives};
 use std::alloc::Global;
 
 /// The controls of a signal that have equations, each with the place of its first target.
-#[derive(Clone, Copy, Debug, PartialEq, Eq)]
+#[derive(Clone, Copy, PartialEq, Eq)]
 pub struct Controls {
     pub enable: Option<Control>,
     pub reset: Option<Control>,
@@ -26,7 +26,7 @@ pub struct Controls {
 
 /// All that is given to a signal: its function, whether this is of the raw input of its register, its
 /// controls, and the place of its first data target, if it has one.
-#[derive(Clone, Copy, Debug, PartialEq, Eq)]
+#[derive(Clone, Copy, PartialEq, Eq)]
 pub struct Totals {
     pub function: Function,
     pub raw: bool,

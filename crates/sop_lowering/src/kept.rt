@@ -9,7 +9,7 @@ use cube_pool::Cube;
 use std::alloc::{AllocError, Global};
 
 /// A bit of the arena in a polarity.
-#[derive(Clone, Copy, Debug, PartialEq, Eq)]
+#[derive(Clone, Copy, PartialEq, Eq)]
 pub(crate) struct SignedBit {
     pub(crate) id: ExprId,
     pub(crate) positive: bool,

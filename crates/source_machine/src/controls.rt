@@ -15,7 +15,7 @@ use bit_expr::{CellWanted, Control, Netlist};
 use pld_base::Point;
 
 /// A control of registers.
-#[derive(Clone, Copy, Debug, PartialEq, Eq)]
+#[derive(Clone, Copy, PartialEq, Eq)]
 pub(crate) enum RegisterControl {
     Reset,
     Preset,

@@ -19,7 +19,7 @@ use state_values::{reads_signal, state_number};
 use std::alloc::Global;
 
 /// What is found of the value of a state: its refusal, or its number.
-#[derive(Clone, Copy, Debug, PartialEq, Eq)]
+#[derive(Clone, Copy, PartialEq, Eq)]
 pub struct StateFound {
     pub number: u32,
     pub fault: Option<SectionFault>,

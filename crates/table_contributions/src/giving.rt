@@ -15,7 +15,7 @@ use section_targets::{Aim, Giving, give};
 use set_expr::{Contribution, Gives, Guard, SectionFault};
 
 /// How the unit at a place gives values to outputs, on the clock or not. The guard's bit doesn't count.
-#[derive(Clone, Copy, Debug, PartialEq, Eq)]
+#[derive(Clone, Copy, PartialEq, Eq)]
 pub struct Assigning {
     pub unit: Place,
     pub guard: Guard,

@@ -10,7 +10,7 @@ use std::alloc::Global;
 use std::marker::Model;
 
 /// Signals by their numbers: the first whose use is refused where the name stands so, none where none is.
-#[derive(Clone, Copy, Debug, PartialEq, Eq)]
+#[derive(Clone, Copy, PartialEq, Eq)]
 pub(crate) struct ReadUses {
     pub(crate) bare: Option<u32>,
     pub(crate) q: Option<u32>,
@@ -19,7 +19,7 @@ pub(crate) struct ReadUses {
 }
 
 /// The same where the name stands as a control.
-#[derive(Clone, Copy, Debug, PartialEq, Eq)]
+#[derive(Clone, Copy, PartialEq, Eq)]
 pub(crate) struct ControlUses {
     pub(crate) clk: Option<u32>,
     pub(crate) oe: Option<u32>,
@@ -29,7 +29,7 @@ pub(crate) struct ControlUses {
 }
 
 /// What is kept of a name; `by_pin` says that a pin enables each signal that it stands for as a target.
-#[derive(Clone, Copy, Debug, PartialEq, Eq)]
+#[derive(Clone, Copy, PartialEq, Eq)]
 pub(crate) struct NameUses {
     pub(crate) read: ReadUses,
     pub(crate) control: ControlUses,

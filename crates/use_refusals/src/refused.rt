@@ -9,7 +9,7 @@ use pld_base::Place;
 
 /// A use that is refused: its place in the expanded text, and the number of the name that is told, from 0 in the
 /// order of declaration.
-#[derive(Clone, Copy, Debug, PartialEq, Eq)]
+#[derive(Clone, Copy, PartialEq, Eq)]
 pub struct RefusedUse {
     pub place: Place,
     pub name: u32,

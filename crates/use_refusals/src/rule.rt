@@ -14,7 +14,7 @@ use bitflags::Flags;
 use pld_device::{Device, Enable};
 
 /// What is asked of each use.
-#[derive(Clone, Copy, Debug, PartialEq, Eq)]
+#[derive(Clone, Copy, PartialEq, Eq)]
 pub enum Rule {
     /// The signal doesn't have the extension.
     Missing,

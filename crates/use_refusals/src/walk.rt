@@ -18,7 +18,7 @@ use pld_base::{OutOfMemory, Place};
 use std::alloc::Global;
 
 /// The first refused use so far. All uses stand at one place, if there is one here.
-#[derive(Clone, Copy, Debug, PartialEq, Eq)]
+#[derive(Clone, Copy, PartialEq, Eq)]
 pub(crate) struct UseWalk {
     pub(crate) at: Option<Place>,
     pub(crate) first: Option<RefusedUse>,

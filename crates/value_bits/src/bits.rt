@@ -4,7 +4,7 @@ use bit_expr::ExprId;
 use pld_base::ListOf;
 
 /// A number without a width, one bit, or a set of bits.
-#[derive(Clone, Copy, Debug, PartialEq, Eq)]
+#[derive(Clone, Copy, PartialEq, Eq)]
 pub enum Form {
     Number(u32),
     Single,
