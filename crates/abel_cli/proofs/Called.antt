@@ -3,10 +3,10 @@ use Rattle.std.proofs.Common.{◌≡◌, ℕ, suc, ◌<◌, ◌≤◌, Bool, tru
 use Rattle.std.specs.Prelude.{nat_lt, replicate, Contains, IsErrOf, Result, ◌⊎◌}
 use Rattle.std.proofs.lemmas.Bool.{ltb-true, ltb-false}
 use Rattle.std.proofs.lemmas.List.{length-replicate, get_or-map, get_or-replicate}
-use Rattle.pld_base.specs.declared.files.ReadFault.{ReadFault}
-use Rattle.pld_base.specs.declared.files.ReadFault.TheVariants as read
-use Rattle.pld_base.specs.Causes.{Rose}
-use Rattle.pld_base.specs.Outside.{Map, SameFiles, SameBut, bytes_at}
+use Rattle.outside.specs.declared.files.ReadFault.{ReadFault}
+use Rattle.outside.specs.declared.files.ReadFault.TheVariants as read
+use Rattle.outside.specs.Causes.{Rose}
+use Rattle.outside.specs.Outside.{Map, SameFiles, SameBut, bytes_at}
 use Rattle.abel_cli.specs.Call.{Asked, HasRisen, HasStayed}
 use Rattle.abel_cli.specs.Ending.{Ending, Puts, file_fault}
 use Rattle.abel_cli.specs.Limit.{limit, IsTooLong}

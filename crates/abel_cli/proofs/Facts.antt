@@ -1,7 +1,7 @@
 -- Facts of single statuses and commands, drawn from what a run promises.
 use Rattle.std.proofs.Common.{◌≡◌, ℕ, ◌≤◌, ◌⊎◌, List, Option, Some, None, refl, sym, ◌∙◌, ap, subst, inl, inr, arith}
 use Rattle.std.proofs.lemmas.Option.{none-some}
-use Rattle.pld_base.specs.Outside.{bytes_at, SameFiles}
+use Rattle.outside.specs.Outside.{bytes_at, SameFiles}
 use Rattle.pld_base.specs.declared.device_name.DeviceName.{DeviceName}
 use Rattle.abel_cli.specs.Call.{Asked, Heard, HasStayed}
 use Rattle.abel_compile.specs.Devices.{table_of}

@@ -2,7 +2,7 @@
 use Rattle.std.proofs.Common.{◌≡◌, ℕ, ◌≤◌, ◌⊎◌, List, [], ◌∷◌, ◌++◌, get_or, map, Option, Some, None, refl, sym, ◌∙◌, ap, subst, inl, inr, arith}
 use Rattle.std.specs.Prelude.{unwrap_or}
 use Rattle.std.proofs.lemmas.Option.{none-some}
-use Rattle.pld_base.specs.Outside.{Map, bytes_at, SameFiles, SameBut}
+use Rattle.outside.specs.Outside.{Map, bytes_at, SameFiles, SameBut}
 use Rattle.abel_compile.specs.declared.compiled.Compiled.{Compiled}
 use Rattle.abel_compile.specs.Correct.{IsCompiled}
 use Rattle.abel_cli.specs.Call.{Asked, Heard, HasRisen, HasStayed}

@@ -6,7 +6,7 @@ use Rattle.std.specs.declared.alloc.Global.{Global}
 use Rattle.std.proofs.lemmas.List.{get_or-map, map-append, map_more}
 use Rattle.std.proofs.lemmas.List.Elements.{All-append, All-cons, All-nil}
 use Rattle.std.proofs.lemmas.Option.{slice_get-map, slice_get_within, get_or_from_slice_get}
-use Rattle.pld_base.specs.Outside.{Map, SameFiles, bytes_at}
+use Rattle.outside.specs.Outside.{Map, SameFiles, bytes_at}
 use Rattle.abel_cli.specs.Limit.{limit}
 use Rattle.abel_cli.specs.View.{sources_seen}
 use Rattle.abel_cli.specs.Words.{texts}

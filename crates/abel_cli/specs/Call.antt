@@ -1,7 +1,7 @@
 -- A call of the program: what every clause of it speaks of.
 use Rattle.std.specs.Prelude.{◌≡◌, ℕ, List}
-use Rattle.pld_base.specs.Causes.{Rose}
-use Rattle.pld_base.specs.Outside.{Map}
+use Rattle.outside.specs.Causes.{Rose}
+use Rattle.outside.specs.Outside.{Map}
 
 -- a count of faults before the call and after it
 pub record Count : Type 0 where

@@ -1,8 +1,8 @@
 -- How a run ends, whatever the command: a status, the text of its report, and what it puts under OUT (this
 -- project's rule).
 use Rattle.std.specs.Prelude.{◌≡◌, ℕ, ◌⊎◌, List, ◌++◌, Option, Some, None, codes}
-use Rattle.pld_base.specs.Causes.{Begins}
-use Rattle.pld_base.specs.Outside.{Map, SameFiles, SameBut}
+use Rattle.outside.specs.Causes.{Begins}
+use Rattle.outside.specs.Outside.{Map, SameFiles, SameBut}
 use Rattle.abel_cli.specs.Call.{Heard, HasRisen, HasStayed}
 
 -- the bytes that are put under a name

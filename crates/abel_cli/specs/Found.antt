@@ -1,6 +1,6 @@
 -- What a command comes to with its own sources, before anything is written (used inside this crate alone).
 use Rattle.std.specs.Prelude.{ℕ, List, Contains}
-use Rattle.pld_base.specs.Outside.{Map}
+use Rattle.outside.specs.Outside.{Map}
 use Rattle.abel_cli.specs.declared.ending.Outcome.{Outcome}
 use Rattle.abel_cli.specs.declared.ending.Outcome.TheVariants as outcome
 use Rattle.abel_cli.specs.Call.{Count, HasRisen, HasStayed}

@@ -1,6 +1,6 @@
 -- What a run promises, whatever the command (this project's rule).
 use Rattle.std.specs.Prelude.{◌≡◌, ℕ, ◌≤◌, ◌⊎◌, List, ◌++◌, Option, Some, None}
-use Rattle.pld_base.specs.Outside.{Map, SameFiles, SameBut}
+use Rattle.outside.specs.Outside.{Map, SameFiles, SameBut}
 use Rattle.abel_cli.specs.Call.{Asked, Heard, HasRisen, HasStayed}
 use Rattle.abel_cli.specs.Ending.{Ending, Output, Puts, TakesFront, TakesFrontAndMemory, memory_line, usage_ending, file_fault}
 use Rattle.abel_cli.specs.Run.{Comes, IsCalledFor, Means}

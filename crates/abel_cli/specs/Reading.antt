@@ -1,6 +1,6 @@
 -- What reading the sources of a command comes to (used inside this crate alone).
 use Rattle.std.specs.Prelude.{◌≡◌, ℕ, ◌<◌, ◌≤◌, List, [], map, length, get_or, All, Contains}
-use Rattle.pld_base.specs.Outside.{Map, bytes_at}
+use Rattle.outside.specs.Outside.{Map, bytes_at}
 use Rattle.abel_cli.specs.declared.sources.SourceFault.{SourceFault}
 use Rattle.abel_cli.specs.declared.sources.SourceFault.TheVariants.{Unread, TooLong, OutOfMemory}
 use Rattle.abel_cli.specs.Call.{Count, HasRisen, HasStayed}

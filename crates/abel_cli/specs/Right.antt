@@ -1,6 +1,6 @@
 -- The main theorem at the top call: what stands under OUT does what the source under IN says.
 use Rattle.std.specs.Prelude.{◌≡◌, ℕ, ◌⊎◌, List, ◌++◌, Some}
-use Rattle.pld_base.specs.Outside.{Map, bytes_at, SameFiles}
+use Rattle.outside.specs.Outside.{Map, bytes_at, SameFiles}
 use Rattle.abel_compile.specs.declared.compiled.Compiled.{Compiled}
 use Rattle.abel_compile.specs.Correct.{IsCompiled}
 use Rattle.abel_cli.specs.Words.{IsCompile}

@@ -1,6 +1,6 @@
 -- A run of the program as a whole (this project's rule).
 use Rattle.std.specs.Prelude.{◌≡◌, ℕ, ◌⊎◌, List, Option, Some, None}
-use Rattle.pld_base.specs.Outside.{Map, SameFiles, SameBut}
+use Rattle.outside.specs.Outside.{Map, SameFiles, SameBut}
 use Rattle.abel_cli.specs.Call.{Asked, Heard, HasRisen, HasStayed}
 use Rattle.abel_cli.specs.CheckCommand.{CheckEnds, CheckMeans}
 use Rattle.abel_cli.specs.DemoCommand.{DemoEnds, DemoMeans}

@@ -1,6 +1,6 @@
 -- The sources of a command: the bytes of the files that it names (this project's rule).
 use Rattle.std.specs.Prelude.{ℕ, ◌<◌, List, [], map, get_or}
-use Rattle.pld_base.specs.Outside.{Map, bytes_at}
+use Rattle.outside.specs.Outside.{Map, bytes_at}
 use Rattle.abel_cli.specs.Call.{Count, HasRisen, HasStayed}
 use Rattle.abel_cli.specs.Limit.{limit, IsTooLong}
 use Rattle.abel_cli.specs.Words.{Command, Task, source_count}

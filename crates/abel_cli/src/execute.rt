@@ -1,7 +1,7 @@
 //! What the words ask for, up to the report.
 
 ghost use Rattle.std.specs.Prelude.{◌≡◌, ◌≤◌, ℕ, All, List, IfOk, OnErr, length};
-ghost use Rattle.pld_base.specs.Outside.{SameFiles};
+ghost use Rattle.outside.specs.Outside.{SameFiles};
 ghost use Rattle.abel_cli.specs.Call.{asked};
 ghost use Rattle.abel_cli.specs.Limit.{limit};
 ghost use Rattle.abel_cli.specs.Found.{IsFound};
@@ -18,7 +18,8 @@ use crate::ending::{Ending, Outcome, line};
 use crate::simulate_command::simulate_ending;
 use crate::source_commands::{compile_ending, list_ending};
 use crate::sources::{SourceFault, read_sources, source_at};
-use pld_base::{Files, OutOfMemory, WriteFault};
+use outside::{Files, WriteFault};
+use pld_base::OutOfMemory;
 use std::alloc::Global;
 
 /// How a task ends with its sources.

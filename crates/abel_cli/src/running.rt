@@ -1,7 +1,7 @@
 //! The top call.
 
 ghost use Rattle.std.specs.Prelude.{◌≡◌};
-ghost use Rattle.pld_base.specs.Causes.{Rose};
+ghost use Rattle.outside.specs.Causes.{Rose};
 ghost use Rattle.abel_cli.specs.Call.{asked, heard};
 ghost use Rattle.abel_cli.specs.Ending.{Tells, TakesFront, memory_line};
 ghost use Rattle.abel_cli.specs.Promises.{Promises};
@@ -12,7 +12,7 @@ ghost use Rattle.abel_cli.specs.Words.{texts};
 
 use crate::ending::{Outcome, status, text};
 use crate::execute::execute;
-use pld_base::{Files, Sink, SinkFault};
+use outside::{Files, Sink, SinkFault};
 use std::alloc::Global;
 
 /// Reports want of memory, as far as the sink takes it.

@@ -1,14 +1,14 @@
 //! The sources of a command: the bytes of the files that it names.
 
 ghost use Rattle.std.specs.Prelude.{◌≡◌, ◌≤◌, IfOk, IfErr, All, length};
-ghost use Rattle.pld_base.specs.Outside.{SameFiles};
+ghost use Rattle.outside.specs.Outside.{SameFiles};
 ghost use Rattle.abel_cli.specs.Limit.{limit};
 ghost use Rattle.abel_cli.specs.Reading.{AreSources, IsWhyUnread, count};
 ghost use Rattle.abel_cli.specs.Sources.{source_at};
 ghost use Rattle.abel_cli.specs.View.{sources_seen};
 ghost use Rattle.abel_cli.specs.Words.{texts};
 
-use pld_base::{Files, ReadFault};
+use outside::{Files, ReadFault};
 use std::alloc::{AllocFailed, Global};
 use thiserror::Error;
 

@@ -1,14 +1,14 @@
 //! What the program does once it knows its words.
 
 ghost use Rattle.std.specs.Prelude.{◌≡◌, ℕ, List, Option, Some, None};
-ghost use Rattle.pld_base.specs.Outside.{SameFiles};
+ghost use Rattle.outside.specs.Outside.{SameFiles};
 ghost use Rattle.abel_cli.specs.Call.{asked, heard};
 ghost use Rattle.abel_cli.specs.Promises.{Promises};
 ghost use Rattle.abel_cli.specs.Right.{IsRight};
 ghost use Rattle.abel_cli.specs.Start.{words_of};
 
 use crate::running::run;
-use pld_base::{Files, Sink};
+use outside::{Files, Sink};
 use std::alloc::Global;
 
 /// The words of the command line, behind the program's name.

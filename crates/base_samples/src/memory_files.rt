@@ -1,6 +1,6 @@
 //! Files and a sink in memory: what they hold, and that they fail where they are told to.
 
-use pld_base::{Files, MemoryFiles, MemorySink, ReadFault, Sink, SinkFault, SureFiles};
+use outside::{Files, MemoryFiles, MemorySink, ReadFault, Sink, SinkFault, SureFiles};
 use std::test::Fail;
 
 #[test]

@@ -1,6 +1,6 @@
 //! That the real files and standard output answer, in a folder of the test's own.
 
-use pld_base::{Files, HostFiles, HostSink, ReadFault, Sink, WriteFault};
+use outside::{Files, HostFiles, HostSink, ReadFault, Sink, WriteFault};
 use std::alloc::Allocator;
 use std::fs::{Metadata, OpenFile, OpenOptions, Permissions};
 use std::io::{ErrorKind, Read, Seek, SeekFrom, Write};

@@ -2,7 +2,7 @@
 //! project's worked examples, checked by hand and with an outside program.
 
 use abel_cli::run;
-use pld_base::{MemoryFiles, MemorySink};
+use outside::{MemoryFiles, MemorySink};
 use std::alloc::Global;
 use std::test::Fail;
 

@@ -1,12 +1,7 @@
 pub mod formers
 pub mod Bits
-pub mod Causes
 pub mod DeviceNames
 pub mod Digits
-pub mod HostState
 pub mod Logic
-pub mod Memory
-pub mod MemoryState
-pub mod Outside
 pub mod Points
 pub mod Texts

@@ -1,8 +1,8 @@
 -- The endings of a command are called for by its words.
 use Rattle.std.proofs.Common.{ℕ, List, Option, Some, Err, ap, subst, sym, ◌∙◌}
 use Rattle.std.specs.Prelude.{option_map}
-use Rattle.pld_base.specs.Causes.{Rose}
-use Rattle.pld_base.specs.declared.files.WriteFault.{WriteFault}
+use Rattle.outside.specs.Causes.{Rose}
+use Rattle.outside.specs.declared.files.WriteFault.{WriteFault}
 use Rattle.abel_cli.specs.declared.ending.Output as put
 use Rattle.abel_cli.specs.Call.{asked}
 use Rattle.abel_cli.specs.Ending.{Puts}

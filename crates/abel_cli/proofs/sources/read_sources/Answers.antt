@@ -3,8 +3,8 @@ use Rattle.std.proofs.Common.{◌∙◌, ℕ, ◌<◌, List, length, Err, ap, sy
 use Rattle.std.specs.Global.{Vec}
 use Rattle.std.specs.Prelude.{string_bytes}
 use Rattle.std.proofs.lemmas.List.{length-map}
-use Rattle.pld_base.specs.declared.files.ReadFault.{ReadFault}
-use Rattle.pld_base.specs.Outside.{bytes_at}
+use Rattle.outside.specs.declared.files.ReadFault.{ReadFault}
+use Rattle.outside.specs.Outside.{bytes_at}
 use Rattle.abel_cli.specs.Limit.{limit}
 use Rattle.abel_cli.proofs.Called.{settled, too_long_settled}
 use Rattle.abel_cli.proofs.SourceLists.{at_name, bytes_same, own_more, within_more}

@@ -1,5 +1,5 @@
 use Rattle.std.proofs.Common.{◌≡◌, ◌≤◌, All, length, map, take}
-use Rattle.pld_base.specs.Outside.{SameFiles, bytes_at}
+use Rattle.outside.specs.Outside.{SameFiles, bytes_at}
 use Rattle.abel_cli.specs.Limit.{limit}
 use Rattle.abel_cli.specs.View.{sources_seen}
 use Rattle.abel_cli.specs.Words.{texts}

@@ -1,13 +1,13 @@
 //! Files in memory.
 
 ghost use Rattle.std.specs.Prelude.{⊤, ◌≡◌, ◌≢◌, ℕ, ◌≤◌, ◌<◌, ◌+◌, ◌-◌, ◌^◌, ◌↔◌, ◌⊎◌, min, List, [], ◌∷◌, ◌++◌, length, IfOk, OnOk, OnErr, IsErrOf, IsTrue, Option, Some, None, option_copied};
-ghost use Rattle.pld_base.specs.Causes.{Rose};
-ghost use Rattle.pld_base.specs.Memory.{bytes_in, FailsNext};
-ghost use Rattle.pld_base.specs.MemoryState.{held, FailsNow, failing_calls, calls_made, faults_of, write_faults_of, SameCounts, SameMemory};
-ghost use Rattle.pld_base.specs.Outside.{bytes_at, SameFiles, SameBut};
+ghost use Rattle.outside.specs.Causes.{Rose};
+ghost use Rattle.outside.specs.Memory.{bytes_in, FailsNext};
+ghost use Rattle.outside.specs.MemoryState.{held, FailsNow, failing_calls, calls_made, faults_of, write_faults_of, SameCounts, SameMemory};
+ghost use Rattle.outside.specs.Outside.{bytes_at, SameFiles, SameBut};
 
 use crate::files::{Files, ReadFault, WriteFault};
-use crate::out_of_memory::OutOfMemory;
+use pld_base::OutOfMemory;
 use std::alloc::Global;
 use std::collections::BTreeMap;
 

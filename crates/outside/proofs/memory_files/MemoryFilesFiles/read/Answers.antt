@@ -2,8 +2,8 @@
 use Rattle.std.proofs.Common.{◌≡◌, inl, inr, ap, subst, sym}
 use Rattle.std.specs.Prelude.{None}
 use Rattle.std.proofs.lemmas.Bool.{iff_false}
-use Rattle.pld_base.specs.Memory.{bytes_in}
-use Rattle.pld_base.proofs.memory_files.MemoryFilesFiles.read.Goals as goal
+use Rattle.outside.specs.Memory.{bytes_in}
+use Rattle.outside.proofs.memory_files.MemoryFilesFiles.read.Goals as goal
 
 pub returns-clause-failed_exactly : goal.returns-clause-failed_exactly
 returns-clause-failed_exactly c =

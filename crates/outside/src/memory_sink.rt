@@ -1,12 +1,12 @@
 //! A sink in memory.
 
 ghost use Rattle.std.specs.Prelude.{⊤, ◌≡◌, ℕ, ◌≤◌, ◌<◌, ◌^◌, ◌-◌, ◌+◌, ◌↔◌, ◌⊎◌, List, [], ◌∷◌, ◌++◌, min, OnOk, OnErr, IsErrOf, IsTrue};
-ghost use Rattle.pld_base.specs.Causes.{Rose, Begins};
-ghost use Rattle.pld_base.specs.Memory.{FailsNext};
-ghost use Rattle.pld_base.specs.MemoryState.{taken_by, RefusesNow, refused_calls, puts_made, sink_faults};
+ghost use Rattle.outside.specs.Causes.{Rose, Begins};
+ghost use Rattle.outside.specs.Memory.{FailsNext};
+ghost use Rattle.outside.specs.MemoryState.{taken_by, RefusesNow, refused_calls, puts_made, sink_faults};
 
-use crate::out_of_memory::OutOfMemory;
 use crate::sink::{Sink, SinkFault};
+use pld_base::OutOfMemory;
 use std::alloc::Global;
 
 /// Bytes in memory. A call whose number, from 1, is on the list of those that fail answers `Failed`.

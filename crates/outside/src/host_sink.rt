@@ -2,8 +2,8 @@
 
 ghost use Rattle.std.specs.Io.KnownBytes.{Appends};
 ghost use Rattle.std.specs.Prelude.{◌≡◌, ℕ, ◌≤◌, ◌⊎◌, List, [], OnOk, IsErrOf};
-ghost use Rattle.pld_base.specs.Causes.{Rose};
-ghost use Rattle.pld_base.specs.HostState.{writer_of, put_faults};
+ghost use Rattle.outside.specs.Causes.{Rose};
+ghost use Rattle.outside.specs.HostState.{writer_of, put_faults};
 
 use crate::bytes::write_all;
 use crate::sink::{Sink, SinkFault};

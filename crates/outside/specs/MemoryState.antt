@@ -1,10 +1,10 @@
 -- What the contracts of the memory types speak of: what they hold, and their counts.
 use Rattle.std.specs.Prelude.{◌≡◌, ℕ, List}
-use Rattle.pld_base.specs.declared.memory_files.MemoryFiles.{MemoryFiles}
-use Rattle.pld_base.specs.declared.memory_sink.MemorySink.{MemorySink}
-use Rattle.pld_base.specs.declared.sure_files.SureFiles.{SureFiles}
-use Rattle.pld_base.specs.Outside.{Map, SameFiles}
-use Rattle.pld_base.specs.Memory.{bytes_in, FailsNext}
+use Rattle.outside.specs.declared.memory_files.MemoryFiles.{MemoryFiles}
+use Rattle.outside.specs.declared.memory_sink.MemorySink.{MemorySink}
+use Rattle.outside.specs.declared.sure_files.SureFiles.{SureFiles}
+use Rattle.outside.specs.Outside.{Map, SameFiles}
+use Rattle.outside.specs.Memory.{bytes_in, FailsNext}
 
 -- the files held, by their names
 abbrev pub held : MemoryFiles → Map

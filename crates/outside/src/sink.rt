@@ -1,7 +1,7 @@
 //! A sink for bytes, such as a report.
 
 ghost use Rattle.std.specs.Prelude.{◌≡◌, ℕ, ◌≤◌, ◌⊎◌, List, ◌++◌, OnOk, IsErrOf};
-ghost use Rattle.pld_base.specs.Causes.{Rose, Begins};
+ghost use Rattle.outside.specs.Causes.{Rose, Begins};
 
 use thiserror::Error;
 

@@ -1,7 +1,7 @@
 //! The real files. Nothing is told of what they hold.
 
 ghost use Rattle.std.specs.Prelude.{◌≡◌, ℕ, ◌≤◌, ◌⊎◌, List, [], Option, None, IfOk, IsErrOf, OnErr};
-ghost use Rattle.pld_base.specs.HostState.{host_faults, host_write_faults};
+ghost use Rattle.outside.specs.HostState.{host_faults, host_write_faults};
 
 use crate::bytes::read_all;
 use crate::files::{Files, ReadFault, WriteFault};

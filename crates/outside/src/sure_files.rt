@@ -1,13 +1,13 @@
 //! Files in memory that never fail.
 
 ghost use Rattle.std.specs.Prelude.{⊤, ◌≡◌, ℕ, ◌≤◌, ◌<◌, ◌↔◌, List, length, Option, Some, None, IfOk, OnOk, OnErr, IsErrOf, option_copied};
-ghost use Rattle.pld_base.specs.Memory.{bytes_in};
-ghost use Rattle.pld_base.specs.MemoryState.{sure_held};
-ghost use Rattle.pld_base.specs.Outside.{bytes_at, SameFiles, SameBut};
+ghost use Rattle.outside.specs.Memory.{bytes_in};
+ghost use Rattle.outside.specs.MemoryState.{sure_held};
+ghost use Rattle.outside.specs.Outside.{bytes_at, SameFiles, SameBut};
 
 use crate::files::{Files, ReadFault, WriteFault};
 use crate::memory_files::MemoryFiles;
-use crate::out_of_memory::OutOfMemory;
+use pld_base::OutOfMemory;
 use std::alloc::Global;
 
 /// Files in memory that never fail; both counts are always 0. An absent name reads as no bytes.

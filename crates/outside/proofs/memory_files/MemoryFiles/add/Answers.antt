@@ -1,6 +1,6 @@
 use Rattle.std.proofs.Common.{arith}
 use Rattle.std.proofs.lemmas.Map.Text.{text_keys}
-use Rattle.pld_base.proofs.memory_files.MemoryFiles.add.Goals as goal
+use Rattle.outside.proofs.memory_files.MemoryFiles.add.Goals as goal
 
 pub returns-clause-others : goal.returns-clause-others
 returns-clause-others c = λ other apart. grind (arith, text_keys)

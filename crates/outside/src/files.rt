@@ -1,8 +1,8 @@
 //! Files by their names.
 
 ghost use Rattle.std.specs.Prelude.{◌≡◌, ℕ, ◌≤◌, ◌<◌, ◌⊎◌, List, length, Option, IfOk, OnOk, IsErrOf};
-ghost use Rattle.pld_base.specs.Causes.{Rose};
-ghost use Rattle.pld_base.specs.Outside.{bytes_at, SameFiles, SameBut};
+ghost use Rattle.outside.specs.Causes.{Rose};
+ghost use Rattle.outside.specs.Outside.{bytes_at, SameFiles, SameBut};
 
 use std::alloc::Global;
 use thiserror::Error;
