@@ -35,7 +35,7 @@ use Rattle.section_targets.specs.declared.aim.Aim.{Aim}
 use Rattle.section_targets.specs.Building.{AtRefusal, stop_of, StopsWith, IsBuilt, Builds}
 use Rattle.section_targets.specs.Units.{part}
 use Rattle.section_targets.proofs.Built.{builds_then, kept_formula}
-use Rattle.section_targets.proofs.Gives.{stops_nodes}
+use Rattle.guarded_values.proofs.Gives.{stops_nodes}
 use Rattle.section_targets.proofs.OneUnit.{one_unit}
 use Rattle.section_targets.proofs.Parts.{leaves_nodes}
 use Rattle.equations.proofs.BuiltParts.{refused_whole}
@@ -45,10 +45,10 @@ use Rattle.table_refusals.specs.declared.rows.RowFound.{RowFound}
 use Rattle.table_refusals.specs.RowLevels.{IsRow}
 use Rattle.table_contributions.specs.declared.giving.Assigning.{Assigning}
 use Rattle.table_contributions.specs.Gives.{matched_guard, signals_of}
-use Rattle.table_contributions.specs.Products.{StandForInputs, header_literals, literals}
+use Rattle.row_products.specs.Products.{StandForInputs, header_literals, literals}
 use Rattle.table_contributions.specs.Rows.{found_work, product_work, row_work, rows_work, NamesOutputs}
 use Rattle.table_contributions.specs.Works.{Work, before, nothing}
-use Rattle.table_contributions.proofs.ProductLaws.{in_longer}
+use Rattle.row_products.proofs.ProductLaws.{in_longer}
 use Rattle.table_contributions.proofs.WorkLaws.{DoesWork}
 
 -- ---- products

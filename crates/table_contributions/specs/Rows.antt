@@ -35,7 +35,7 @@ use Rattle.truth_tables.specs.TableUnits.{places_of, row_places, row_refused, so
 use Rattle.table_refusals.specs.declared.rows.RowFound.{RowFound}
 use Rattle.table_contributions.specs.declared.giving.Assigning.{Assigning}
 use Rattle.table_contributions.specs.Gives.{signals_of}
-use Rattle.table_contributions.specs.Products.{StandForInputs, header_literals, literals}
+use Rattle.row_products.specs.Products.{StandForInputs, header_literals, literals}
 use Rattle.table_contributions.specs.Works.{Work, before, given_freely, nothing}
 
 -- what is left by building a work

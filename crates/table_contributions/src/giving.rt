@@ -10,8 +10,9 @@ ghost use Rattle.table_contributions.specs.Gives.{GivesOutput, GivesValue, Gives
 
 use abel_tree::Names;
 use bit_expr::{ExprId, Exprs};
+use guarded_values::{Giving, give};
 use pld_base::Place;
-use section_targets::{Aim, Giving, give};
+use section_targets::Aim;
 use set_expr::{Contribution, Gives, Guard, SectionFault};
 
 /// How the unit at a place gives values to outputs, on the clock or not. The guard's bit doesn't count.

@@ -3,9 +3,7 @@
 
 mod building;
 mod giving;
-mod inputs;
 mod positions;
-mod products;
 mod rows;
 
 pub use building::build_table;

@@ -12,16 +12,15 @@ ghost use Rattle.expr_bits.specs.Placed.{ArePlaced};
 ghost use Rattle.row_entries.specs.EntryTerms.{AreInOrder};
 ghost use Rattle.section_targets.specs.Given.{AreNamed};
 ghost use Rattle.truth_tables.specs.TableUnits.{some_aims};
-ghost use Rattle.table_contributions.specs.Products.{StandForInputs};
+ghost use Rattle.row_products.specs.Products.{StandForInputs};
 ghost use Rattle.table_contributions.specs.Rows.{BuildsFirst, BuildsListed, BuildsRow, BuildsRows, GivesFirst, GivesFound};
 
 use crate::giving::Assigning;
-use crate::inputs::header_bits;
 use crate::positions::give_positions;
-use crate::products::row_product;
 use abel_tree::{Expr, Names, Row, Table};
 use bit_expr::{ExprId, Exprs};
 use pld_device::Device;
+use row_products::{header_bits, row_product};
 use section_targets::Aim;
 use set_expr::{Contribution, Guard, KnownNames, SectionFault};
 use std::alloc::Global;

@@ -7,11 +7,11 @@ use Rattle.set_expr.specs.Given.{view_guard}
 use Rattle.section_targets.specs.Building.{BuildsNodes, IsBit}
 use Rattle.section_targets.specs.Units.{part}
 use Rattle.section_targets.proofs.Built.{keeps_on}
-use Rattle.section_targets.proofs.Gives.{stops_nodes}
+use Rattle.guarded_values.proofs.Gives.{stops_nodes}
 use Rattle.bit_expr.specs.declared.node.ExprId.{ExprId}
 use Rattle.equations.proofs.BuiltUnits.{at}
 use Rattle.table_contributions.specs.Gives.{GivesPositions}
-use Rattle.table_contributions.specs.Products.{literals}
+use Rattle.row_products.specs.Products.{literals}
 use Rattle.table_contributions.specs.Rows.{found_work}
 use Rattle.table_contributions.proofs.RowWorks.{found_built}
 use Rattle.table_contributions.proofs.rows.give_found.Goals as goal

@@ -10,7 +10,7 @@ use Rattle.equations.proofs.BuiltParts.{keeps_longer}
 use Rattle.equations.proofs.BuiltUnits.{at}
 use Rattle.table_contributions.specs.Rows.{row_work, rows_work}
 use Rattle.table_contributions.specs.Works.{IsBegun}
-use Rattle.table_contributions.proofs.ProductLaws.{in_longer}
+use Rattle.row_products.proofs.ProductLaws.{in_longer}
 use Rattle.table_contributions.proofs.RowWorks.{inputs_kept, rows_left, rows_next}
 use Rattle.table_contributions.proofs.WorkLaws.{begun_all, begun_done, begun_next, begun_stops}
 use Rattle.table_contributions.proofs.rows.later_rows.Goals as goal

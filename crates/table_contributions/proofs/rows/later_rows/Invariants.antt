@@ -7,7 +7,7 @@ use Rattle.abel_meaning.specs.Terms.{term_of}
 use Rattle.set_expr.specs.Answer.{Keeps}
 use Rattle.set_expr.specs.Given.{view_guard}
 use Rattle.row_entries.specs.EntryTerms.{IsOver}
-use Rattle.table_contributions.specs.Products.{StandForInputs}
+use Rattle.row_products.specs.Products.{StandForInputs}
 use Rattle.table_contributions.specs.Rows.{NamesOutputs, rows_work}
 use Rattle.table_contributions.specs.Works.{IsBegun}
 use Rattle.table_contributions.proofs.rows.later_rows.Given as goal

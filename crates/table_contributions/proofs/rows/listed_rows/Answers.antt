@@ -12,7 +12,7 @@ use Rattle.section_targets.proofs.Built.{keeps_on}
 use Rattle.row_entries.specs.EntryTerms.{IsOver}
 use Rattle.equations.proofs.BuiltParts.{some_design, is_some_design}
 use Rattle.equations.proofs.BuiltUnits.{at}
-use Rattle.table_contributions.specs.Products.{StandForInputs}
+use Rattle.row_products.specs.Products.{StandForInputs}
 use Rattle.table_contributions.specs.Rows.{row_work, rows_work}
 use Rattle.table_contributions.specs.Works.{Work}
 use Rattle.table_contributions.proofs.TableWorks.{rows_any}

@@ -6,10 +6,10 @@ use Rattle.abel_tree.specs.Tree.{members_of}
 use Rattle.abel_tree.specs.View.{view, view_member}
 use Rattle.abel_meaning.specs.Terms.{Set, term_named, term_of, terms_of}
 use Rattle.section_targets.proofs.Views.{view_binary, view_name, view_number, view_paren, view_set, view_special, view_unary}
-use Rattle.table_contributions.specs.Products.{IsConstantIf, is_computed}
-use Rattle.table_contributions.proofs.InputLaws.{computed_extended, special_plain}
-use Rattle.table_contributions.proofs.inputs.has_operator.Goals.{in-Name+in-Some, in-Paren, in-Unary}
-use Rattle.table_contributions.proofs.inputs.has_operator.Goals as goal
+use Rattle.row_products.specs.Products.{IsConstantIf, is_computed}
+use Rattle.row_products.proofs.InputLaws.{computed_extended, special_plain}
+use Rattle.row_products.proofs.inputs.has_operator.Goals.{in-Name+in-Some, in-Paren, in-Unary}
+use Rattle.row_products.proofs.inputs.has_operator.Goals as goal
 
 pub returns-in-None : goal.returns-in-None
 returns-in-None c d is =

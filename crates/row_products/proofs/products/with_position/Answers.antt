@@ -5,9 +5,9 @@ use Rattle.bit_expr.specs.Arena.{arena, formula_at}
 use Rattle.set_expr.specs.Answer.{AreIn}
 use Rattle.section_targets.specs.Building.{BuildsNodes, IsBit}
 use Rattle.section_targets.specs.Units.{part}
-use Rattle.table_contributions.specs.Products.{position_literal}
-use Rattle.table_contributions.proofs.ProductLaws.{free_nodes}
-use Rattle.table_contributions.proofs.products.with_position.Goals as goal
+use Rattle.row_products.specs.Products.{position_literal}
+use Rattle.row_products.proofs.ProductLaws.{free_nodes}
+use Rattle.row_products.proofs.products.with_position.Goals as goal
 
 pub returns-in-None-clause-builds : goal.returns-in-None-clause-builds
 returns-in-None-clause-builds c =

@@ -1,7 +1,7 @@
 use Rattle.std.proofs.Common.{◌≡◌, ◌++◌, [], ◌∷◌, Some, map, reverse, take, get_or, ap, sym, ◌∙◌, arith}
 use Rattle.std.proofs.lemmas.List.{map-append, take_all, take_more}
 use Rattle.bit_expr.specs.declared.node.ExprId.{ExprId}
-use Rattle.table_contributions.proofs.inputs.list_positions.Goals as goal
+use Rattle.row_products.proofs.inputs.list_positions.Goals as goal
 
 pub loop-index-preserved : goal.loop-index-preserved
 loop-index-preserved c =

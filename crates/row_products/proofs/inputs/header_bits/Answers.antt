@@ -1,7 +1,7 @@
 -- The bits of the header in the other order.
 use Rattle.std.proofs.lemmas.Result.{err_from_is_err_and}
 use Rattle.row_entries.specs.EntryTerms.{IsOver}
-use Rattle.table_contributions.proofs.inputs.header_bits.Goals as goal
+use Rattle.row_products.proofs.inputs.header_bits.Goals as goal
 
 pub returns-clause-inputs : goal.returns-clause-inputs
 returns-clause-inputs g c = λ d is.

@@ -5,8 +5,8 @@ use Rattle.abel_meaning.specs.Terms.{known_of, term_named, term_meant}
 use Rattle.set_expr.specs.KnownNames.{IsPlaced}
 use Rattle.row_entries.proofs.NamesInOrder.{named_meant, unnamed}
 use Rattle.row_entries.proofs.PartLaws.{entry_at}
-use Rattle.table_contributions.specs.Products.{IsConstantIf, is_computed}
-use Rattle.table_contributions.proofs.inputs.constant_named.Goals as goal
+use Rattle.row_products.specs.Products.{IsConstantIf, is_computed}
+use Rattle.row_products.proofs.inputs.constant_named.Goals as goal
 
 pub returns-in-None : goal.returns-in-None
 returns-in-None c d is =

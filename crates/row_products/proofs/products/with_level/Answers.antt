@@ -3,8 +3,8 @@ use Rattle.std.proofs.Common.{[], ◌∷◌, Some, ap, sym, ◌∙◌, subst}
 use Rattle.bit_expr.specs.Arena.{arena, formula_at}
 use Rattle.section_targets.specs.Building.{BuildsNodes}
 use Rattle.section_targets.specs.Units.{part}
-use Rattle.table_contributions.specs.Products.{position_literal}
-use Rattle.table_contributions.proofs.products.with_level.Goals as goal
+use Rattle.row_products.specs.Products.{position_literal}
+use Rattle.row_products.proofs.products.with_level.Goals as goal
 
 pub returns-then-on-clause-builds : goal.returns-then-on-clause-builds
 returns-then-on-clause-builds c =

@@ -14,7 +14,7 @@ ghost use Rattle.expr_bits.specs.Placed.{ArePlaced};
 ghost use Rattle.row_entries.specs.EntryTerms.{IsOver, AreInOrder};
 ghost use Rattle.section_targets.specs.Building.{BuildsNodes};
 ghost use Rattle.section_targets.specs.Units.{part};
-ghost use Rattle.table_contributions.specs.Products.{StandForInputs, IsConstantIf, IsShapedTerm, IsShapedNumber, is_computed};
+ghost use Rattle.row_products.specs.Products.{StandForInputs, IsConstantIf, IsShapedTerm, IsShapedNumber, is_computed};
 
 use abel_tree::{Expr, Meaning, Names};
 use bit_expr::{ExprId, Exprs};
@@ -159,7 +159,7 @@ fn shaped_positions(
 }
 
 /// The positions of an input header from the left, None at X, as nodes of the unit at this place.
-pub(crate) fn header_bits<D: Device>(
+pub fn header_bits<D: Device>(
     alloc: Global,
     names: &Names,
     known: &KnownNames,

@@ -7,7 +7,7 @@ ghost use Rattle.abel_meaning.specs.CountedBlocks.{row_literals};
 ghost use Rattle.set_expr.specs.Answer.{AreIn, bits_at, unknown_at};
 ghost use Rattle.section_targets.specs.Building.{BuildsNodes, IsBit};
 ghost use Rattle.section_targets.specs.Units.{part};
-ghost use Rattle.table_contributions.specs.Products.{position_literal};
+ghost use Rattle.row_products.specs.Products.{position_literal};
 
 use bit_expr::{ExprId, Exprs, Node};
 use pld_base::Place;
@@ -59,7 +59,7 @@ fn with_position(
 }
 
 /// The product of the literals of a row's levels at the positions of the input header, both from the left.
-pub(crate) fn row_product(
+pub fn row_product(
     exprs: &mut Exprs,
     header: &[Option<ExprId>],
     levels: &[Option<bool>],

@@ -2,8 +2,8 @@
 use Rattle.std.proofs.Common.{true, drop}
 use Rattle.bit_expr.specs.Arena.{arena}
 use Rattle.bit_expr.specs.Formulas.{Const}
-use Rattle.table_contributions.specs.Products.{IsJoined, literals}
-use Rattle.table_contributions.proofs.products.row_product.Given as goal
+use Rattle.row_products.specs.Products.{IsJoined, literals}
+use Rattle.row_products.proofs.products.row_product.Given as goal
 
 abbrev pub invariant-loop-index : goal.invariant-loop-index
 invariant-loop-index l =

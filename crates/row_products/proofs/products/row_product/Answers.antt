@@ -3,8 +3,8 @@ use Rattle.std.proofs.Common.{◌≡◌, ◌<◌, ◌≤◌, [], ◌∷◌, get_
 use Rattle.std.proofs.lemmas.Result.{err_from_is_err_and}
 use Rattle.bit_expr.specs.Arena.{arena}
 use Rattle.equations.proofs.BuiltParts.{keeps_longer}
-use Rattle.table_contributions.proofs.ProductLaws.{in_at, in_longer, joined_start, joined_index, joined_done, stops_index}
-use Rattle.table_contributions.proofs.products.row_product.Goals as goal
+use Rattle.row_products.proofs.ProductLaws.{in_at, in_longer, joined_start, joined_index, joined_done, stops_index}
+use Rattle.row_products.proofs.products.row_product.Goals as goal
 
 pub loop-index-init : goal.loop-index-init
 loop-index-init c = joined_start c.args.exprs.now c.args.unit _ c.args.header.now c.args.levels.now refl

@@ -8,9 +8,9 @@ use Rattle.abel_meaning.specs.Numbers.{Value}
 use Rattle.abel_meaning.specs.Terms.{term_of}
 use Rattle.abel_meaning.specs.Values.{constant_of}
 use Rattle.set_expr.specs.Shapes.{HasShape}
-use Rattle.table_contributions.specs.Products.{StandForInputs}
-use Rattle.table_contributions.proofs.InputLaws.{stand_set, stand_single}
-use Rattle.table_contributions.proofs.inputs.shaped_positions.Goals as goal
+use Rattle.row_products.specs.Products.{StandForInputs}
+use Rattle.row_products.proofs.InputLaws.{stand_set, stand_single}
+use Rattle.row_products.proofs.inputs.shaped_positions.Goals as goal
 
 pub returns-in-Number : goal.returns-in-Number
 returns-in-Number c =

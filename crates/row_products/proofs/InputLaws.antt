@@ -23,7 +23,7 @@ use Rattle.set_expr.specs.Answer.{AreIn, HasUnknown, bits_at, positions, unknown
 use Rattle.set_expr.specs.Shapes.{HasShape}
 use Rattle.section_targets.specs.Building.{AreBits}
 use Rattle.equations.proofs.BuiltParts.{met_length, bits_length}
-use Rattle.table_contributions.specs.Products.{IsShapedTerm, IsShapedNumber, StandForInputs, header_literals, is_computed, literals}
+use Rattle.row_products.specs.Products.{IsShapedTerm, IsShapedNumber, StandForInputs, header_literals, is_computed, literals}
 
 -- ---- positions in the other order
 

@@ -7,9 +7,9 @@ use Rattle.abel_tree.specs.View.{view}
 use Rattle.abel_meaning.specs.FormulaBits.{bits_of}
 use Rattle.abel_meaning.specs.Terms.{term_of}
 use Rattle.abel_meaning.specs.Values.{constant_of}
-use Rattle.table_contributions.specs.Products.{StandForInputs, is_computed}
-use Rattle.table_contributions.proofs.InputLaws.{stand_all, stand_none}
-use Rattle.table_contributions.proofs.inputs.number_positions.Goals as goal
+use Rattle.row_products.specs.Products.{StandForInputs, is_computed}
+use Rattle.row_products.proofs.InputLaws.{stand_all, stand_none}
+use Rattle.row_products.proofs.inputs.number_positions.Goals as goal
 
 pub returns-in_ok-bits : goal.returns-in_ok-bits
 returns-in_ok-bits c =

@@ -18,7 +18,7 @@ use Rattle.section_targets.proofs.Built.{builds_none, kept_formula}
 use Rattle.section_targets.proofs.OneUnit.{two_parts}
 use Rattle.section_targets.proofs.MetWords.{high_bit}
 use Rattle.equations.proofs.BuiltParts.{stops_longer}
-use Rattle.table_contributions.specs.Products.{position_literal, literals, IsJoined}
+use Rattle.row_products.specs.Products.{position_literal, literals, IsJoined}
 
 -- ---- positions in an arena
 

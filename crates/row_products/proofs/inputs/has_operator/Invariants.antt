@@ -4,8 +4,8 @@ use Rattle.abel_tree.specs.View.{view}
 use Rattle.abel_meaning.specs.Designs.{Design}
 use Rattle.abel_meaning.specs.Terms.{term_of}
 use Rattle.row_entries.specs.EntryTerms.{IsOver}
-use Rattle.table_contributions.specs.Products.{is_computed}
-use Rattle.table_contributions.proofs.inputs.has_operator.Given as goal
+use Rattle.row_products.specs.Products.{is_computed}
+use Rattle.row_products.proofs.inputs.has_operator.Given as goal
 
 abbrev pub invariant-loop-step : goal.invariant-loop-step
 invariant-loop-step l =
