@@ -1,5 +1,4 @@
 pub mod Built
-pub mod Gives
 pub mod Looks
 pub mod Parts
 pub mod Refused

@@ -1,7 +1,6 @@
 pub mod Appending
 pub mod Building
 pub mod Given
-pub mod Gives
 pub mod Manners
 pub mod NamedTargets
 pub mod TargetSignals

@@ -1,10 +1,9 @@
-//! The signals of targets, how they are assigned, and what is appended for them.
+//! The signals of targets, how they are assigned, and the nodes and units that sections share.
 #![tactic(auto)]
 
 mod aim;
 mod answers;
 mod assigned;
-mod giving;
 mod guards;
 mod manner;
 mod named;
@@ -18,7 +17,6 @@ mod words;
 pub use aim::Aim;
 pub use answers::answer_units;
 pub use assigned::Assigned;
-pub use giving::{Giving, give, give_all};
 pub use guards::guard_else;
 pub use manner::Manner;
 pub use named::NamedSignals;

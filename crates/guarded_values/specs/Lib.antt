@@ -1,0 +1,2 @@
+pub mod GivenUnits
+pub mod Gives
