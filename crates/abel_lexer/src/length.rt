@@ -1,6 +1,6 @@
 //! How long the token at the front is: the longest of the kinds.
 
-ghost use Rattle.std.specs.Prelude.{◌≡◌, ◌≤◌, ◌==◌, ◌&&◌, not, false, length, take};
+ghost use Rattle.std.specs.Prelude.{◌≡◌, ◌≤◌, ◌==◌, ◌&&◌, not, false, map, length, take};
 ghost use Rattle.std.specs.List.{prefix_len};
 ghost use Rattle.std.specs.Char.{is_ascii_digit, is_ascii_alphanumeric};
 ghost use Rattle.abel_lexer.specs.Bytes.{quote, backslash, is_blank, is_name_first, is_name_later, is_letter, is_radix_letter};
@@ -180,28 +180,30 @@ fn quoted_len(bytes: &[u8]) -> usize
     }
 }
 
+/// The signs, none behind a shorter one.
+const SIGNS: [&[u8]; 34] = [
+    b"?:=", b":=", b"?=", b"!$", b"<<", b">>", b"==", b"!=", b"<=", b">=", b"->", b":>", b"..",
+    b"(", b")", b"[", b"]", b"{", b"}", b",", b";", b":", b"=", b"!", b"&", b"#", b"$", b"+", b"-",
+    b"*", b"/", b"%", b"<", b">",
+];
+
+/// How long the first of these words that stands at the front is; 0 if none does.
+fn listed_len(words: &[&[u8]], bytes: &[u8]) -> usize
+    ensures { result ≡ spec.listed_len (map (λ w. w.now) words.now) bytes.now }
+{
+    for word in words {
+        if bytes.starts_with(word) {
+            return word.len();
+        }
+    }
+    0
+}
+
 /// How long the sign at the front is; 0 if there is none.
 pub fn sign_len(bytes: &[u8]) -> usize
     ensures { result ≡ spec.listed_len signs bytes.now }
 {
-    match bytes {
-        [b'?', b':', b'=', ..] => 3,
-        [b':' | b'?' | b'=' | b'!' | b'<' | b'>', b'=', ..]
-        | [b'!', b'$', ..]
-        | [b'<', b'<', ..]
-        | [b'>', b'>', ..]
-        | [b'-' | b':', b'>', ..]
-        | [b'.', b'.', ..] => 2,
-        [
-            b'(' | b')' | b'[' | b']' | b'{' | b'}' | b',' | b';' | b':' | b'=' | b'!',
-            ..
-        ]
-        | [
-            b'&' | b'#' | b'$' | b'+' | b'-' | b'*' | b'/' | b'%' | b'<' | b'>',
-            ..
-        ] => 1,
-        _ => 0,
-    }
+    listed_len(&SIGNS, bytes)
 }
 
 /// The first six bytes, or all where there are fewer.
