@@ -1,5 +1,5 @@
 -- The length of a token that is no name, string or directive, from the lengths of its kinds.
-use Rattle.std.proofs.Common.{◌≡◌, ℕ, suc, ◌+◌, inl, inr, Bool, true, false, ltb, List, [], ◌∷◌, take, drop, None, Some, refl, sym, ap, ◌∙◌, arith}
+use Rattle.std.proofs.Common.{◌≡◌, ◌≤◌, ℕ, suc, ◌+◌, inl, inr, Bool, true, false, ltb, List, [], ◌∷◌, length, take, drop, None, Some, refl, sym, ap, ◌∙◌, arith}
 use Rattle.std.specs.Prelude.{◌==◌, codes, nat_lt, if◌then◌else◌}
 use Rattle.std.specs.Char.{is_ascii_alphabetic, is_ascii_digit}
 use Rattle.std.specs.Str.{str_eq_ignore_ascii_case}
@@ -13,7 +13,7 @@ use Rattle.abel_lexer.specs.Kinds.{no_byte, word_head, extension_head, letter_sp
 use Rattle.abel_lexer.specs.Lengths.{shaped_len, larger, longer, number_len, special_len, quoted_len, listed_len, directive_len, word_at, longest_word, longest_at}
 use Rattle.abel_lexer.proofs.Booleans.{bool_cases, or_cases}
 use Rattle.abel_lexer.proofs.FirstBytes.{at_begins}
-use Rattle.abel_lexer.proofs.Munches.{none_passes}
+use Rattle.abel_lexer.proofs.Munches.{none_passes, listed_munches}
 use Rattle.abel_macros.specs.Gaps.{starts_byte, word, behind_some, given}
 use Rattle.abel_macros.specs.Rules.{token_len}
 
@@ -33,6 +33,21 @@ voltage_seen a b c d e w x y z v u p q r s t =
     let shape : ℕ → ℕ = λ n.
     if a == dot then (if is_letter 115 b then (if is_letter 118 c then (if is_ascii_digit d then (if e == dot then 0 + 1 + 1 + 1 + 1 + 1 + n else 0) else 0) else 0) else 0) else 0 in
     sym (ap (shaped_len voltage_special no_byte) parts ∙ ap shape (none_passes u))
+
+-- ---- signs
+
+pub sign_fits : (w : List ℕ) → listed_len signs w ≤ length w
+sign_fits w = (listed_munches 3 signs refl).fits w
+
+pub one_seen : (a : ℕ) (w x : List ℕ) → w ≡ a ∷ x → x ≡ [] → listed_len signs (a ∷ []) ≡ listed_len signs w
+one_seen a w x e f = sym (ap (listed_len signs) (e ∙ ap (λ (v : List ℕ). a ∷ v) f))
+
+pub two_seen : (a b : ℕ) (w x y : List ℕ) → w ≡ a ∷ x → x ≡ b ∷ y → y ≡ [] → listed_len signs (a ∷ b ∷ []) ≡ listed_len signs w
+two_seen a b w x y e f g = sym (ap (listed_len signs) (e ∙ ap (λ (v : List ℕ). a ∷ v) f ∙ ap (λ (v : List ℕ). a ∷ b ∷ v) g))
+
+-- a sign has at most three bytes
+pub three_seen : (a b c : ℕ) (w x y z : List ℕ) → w ≡ a ∷ x → x ≡ b ∷ y → y ≡ c ∷ z → listed_len signs (a ∷ b ∷ c ∷ []) ≡ listed_len signs w
+three_seen a b c w x y z e f g = sym (ap (listed_len signs) (e ∙ ap (λ (v : List ℕ). a ∷ v) f ∙ ap (λ (v : List ℕ). a ∷ b ∷ v) g))
 
 -- ---- the longest
 

@@ -7,7 +7,7 @@ ghost use Rattle.abel_macros.specs.Rules as spec;
 ghost use Rattle.abel_lexer.specs.Keywords.{is_listed};
 
 /// A directive.
-#[derive(Clone, Copy, PartialEq, Eq)]
+#[derive(Clone, Copy)]
 pub enum Directive {
     /// `@CONST`
     Const,

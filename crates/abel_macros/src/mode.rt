@@ -8,7 +8,7 @@ use crate::gaps::is_next;
 use text_pieces::Ahead;
 
 /// Where a byte stands.
-#[derive(Clone, Copy, PartialEq, Eq)]
+#[derive(Clone, Copy)]
 pub enum Mode {
     /// In the plain text.
     Plain,

@@ -4,7 +4,7 @@ ghost use Rattle.std.specs.Prelude.{◌≡◌, ◌<◌, ◌^◌};
 ghost use Rattle.abel_macros.specs.Values as spec;
 
 /// An operator between two numbers.
-#[derive(Clone, Copy, PartialEq, Eq)]
+#[derive(Clone, Copy)]
 pub enum Operator {
     Equal,
     Unequal,
@@ -26,7 +26,7 @@ pub enum Operator {
 }
 
 /// Operators of one priority, the weakest first.
-#[derive(Clone, Copy, PartialEq, Eq)]
+#[derive(Clone, Copy)]
 pub enum Priority {
     Relation,
     Sum,
@@ -34,7 +34,7 @@ pub enum Priority {
 }
 
 /// What may stand before an operand.
-#[derive(Clone, Copy, PartialEq, Eq)]
+#[derive(Clone, Copy)]
 pub enum Prefix {
     Not,
     Minus,

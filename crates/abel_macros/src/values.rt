@@ -41,28 +41,22 @@ fn sign_ahead(alloc: Global, at: &Ahead) -> Result<Vec<u8>, AllocError>
 }
 
 /// Reads what stands before an operand; a sign that is none of the three stays ahead.
+#[tactic(auto, using(crate::proofs::Operands::sign_taken))]
 fn read_prefix(alloc: Global, at: &mut Ahead) -> Result<Prefix, AllocError>
     ensures prefix { IfOk result (λ p. p ≡ spec.prefix_of (gaps.sign (gaps.gap (ahead at.old)))) }
     ensures ahead { IfOk result (λ p. ahead at.new ≡ spec.past_prefix p (ahead at.old)) }
     ensures whole { at.new.whole ≡ at.old.whole }
     ensures further { at.old.passed ≤ at.new.passed }
 {
-    match Prefix::of(&sign_ahead(alloc, at)?) {
+    let prefix = Prefix::of(&sign_ahead(alloc, at)?);
+    match prefix {
         Prefix::Plain => {
             skip_gap(at);
             Ok(Prefix::Plain)
         }
-        Prefix::Not => {
+        _ => {
             let _sign = read_sign(alloc, at)?;
-            Ok(Prefix::Not)
-        }
-        Prefix::Minus => {
-            let _sign = read_sign(alloc, at)?;
-            Ok(Prefix::Minus)
-        }
-        Prefix::Open => {
-            let _sign = read_sign(alloc, at)?;
-            Ok(Prefix::Open)
+            Ok(prefix)
         }
     }
 }
