@@ -5,7 +5,7 @@ use Rattle.abel_lexer.specs.Scans.{place_past, first_place}
 use Rattle.abel_macros.specs.Kept.{Kept}
 use Rattle.abel_expand.specs.Runs.{after}
 use Rattle.abel_expand.specs.Stands.{Stands}
-use Rattle.abel_expand.proofs.Growth.{take_next}
+use Rattle.text_rewriting.proofs.Replaces.{take_next}
 use Rattle.abel_expand.proofs.Turning.{all_given}
 
 drop_next : (w : List ℕ) (p x : ℕ) (xs : List ℕ) → drop p w ≡ x ∷ xs → drop (suc p) w ≡ xs

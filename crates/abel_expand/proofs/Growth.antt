@@ -5,6 +5,7 @@ use Rattle.std.proofs.Math.Seq.{take-length, take-append_seam}
 use Rattle.std.proofs.lemmas.List.{length-take}
 use Rattle.abel_macros.specs.Rules.{Cause, Move, Done, Rewritten, Refused, move}
 use Rattle.abel_macros.specs.Turns.{Config, turn, moved, within_limits, limit, most_rewritings}
+use Rattle.text_rewriting.proofs.Replaces.{take_next}
 use Rattle.abel_expand.specs.Runs.{after, turned, Reading, bytes_given, bytes_waiting}
 
 abbrev After : Config → Config → Type 0
@@ -39,12 +40,6 @@ kept text turns given e =
     let g = turned_grows c in
     let d : (after (turns + 1) text).done ≡ c.done ++ g.0 = ap (λ (n : ℕ). (after n text).done) (add-one turns) ∙ g.1 in
     ap (λ (n : ℕ). take n (after (turns + 1) text).done) e ∙ ap (take (length c.done)) d ∙ take-append_seam c.done g.0 ∙ sym (take-length c.done) ∙ ap (λ (n : ℕ). take n c.done) (sym e)
-
-pub take_next : (w : List ℕ) (p x : ℕ) (xs : List ℕ) → drop p w ≡ x ∷ xs → take (suc p) w ≡ take p w ++ x ∷ []
-take_next [] zero x xs e = absurd (cc)
-take_next [] (suc p) x xs e = absurd (cc)
-take_next (y ∷ w) zero x xs e = ap (λ (z : List ℕ). take 1 z) e
-take_next (y ∷ w) (suc p) x xs e = ap (λ (z : List ℕ). y ∷ z) (take_next w p x xs e)
 
 -- one byte more was given
 pub one_more : (r s : Reading) (b : ℕ) → bytes_waiting r ≡ b ∷ bytes_waiting s → s ≡ record r { given = r.given + 1 } → bytes_given s ≡ bytes_given r ++ b ∷ []

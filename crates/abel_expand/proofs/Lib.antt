@@ -1,11 +1,3 @@
-pub mod Gathers
-pub mod Replaces
-pub mod Bounds
-pub mod DigitSteps
-pub mod Moves
-pub mod SpokenSteps
-pub mod Fronts
 pub mod Turning
 pub mod Growth
 pub mod Giving
-pub mod Marks

@@ -10,9 +10,9 @@ use Rattle.abel_lexer.specs.Scans.{place_past, first_place}
 use Rattle.abel_macros.specs.Kept.{Kept, tables_of}
 use Rattle.abel_macros.specs.Rules.{Tables, Cause, TooLong, ExpansionLimit, Done, Rewritten, Refused, move}
 use Rattle.abel_macros.specs.Turns.{Config, turn, moved, within_limits, limit, most_rewritings}
-use Rattle.abel_expand.specs.declared.front.Change.{Change}
-use Rattle.abel_expand.specs.declared.front.Front.TheVariants as front
-use Rattle.abel_expand.specs.Fronts.{changed, IsFront}
+use Rattle.text_rewriting.specs.declared.front.Change.{Change}
+use Rattle.text_rewriting.specs.declared.front.Front.TheVariants as front
+use Rattle.text_rewriting.specs.Fronts.{changed, IsFront}
 use Rattle.abel_expand.specs.Runs.{after, turned, IsRefused}
 use Rattle.abel_expand.specs.Stands.{Stands, left_to_do}
 

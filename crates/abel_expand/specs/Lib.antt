@@ -1,8 +1,2 @@
-pub mod Bound
-pub mod Marks
-pub mod Gathering
-pub mod RuleMoves
-pub mod Shown
-pub mod Fronts
 pub mod Runs
 pub mod Stands

@@ -2,10 +2,11 @@
 
 use pld_base::{OutOfMemory, Place};
 use std::alloc::{AllocError, AllocFailed};
+use std::fmt::{self, Debug, Formatter};
 use thiserror::Error;
 
 /// The refusal of a text; the place is that behind the text done before it.
-#[derive(Clone, Copy, Debug, PartialEq, Eq, Error)]
+#[derive(Clone, Copy, PartialEq, Eq, Error)]
 pub enum ExpandFault {
     /// Behind a rewriting, the text done and the rest would have more than 1,048,576 bytes.
     #[error("the expanded text is too long")]
@@ -22,6 +23,12 @@ pub enum ExpandFault {
     /// Memory ran out.
     #[error("out of memory")]
     OutOfMemory,
+}
+
+impl Debug for ExpandFault {
+    fn fmt<W: fmt::Write>(&self, f: &mut Formatter<W>) -> fmt::Result {
+        write!(f, "{self}")
+    }
 }
 
 impl From<OutOfMemory> for ExpandFault {

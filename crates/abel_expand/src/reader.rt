@@ -3,19 +3,18 @@
 ghost use Rattle.std.specs.Prelude.{◌≡◌, ℕ, ◌+◌, ◌<◌, ◌≤◌, ◌++◌, List, [], ◌∷◌, length, Some, None, Ok, Err, IfOk, IfErr, OnOk, IfSome, IfNone, true, false};
 ghost use Rattle.abel_macros.specs.Kept.{tables_of};
 ghost use Rattle.abel_expand.specs.declared.fault.ExpandFault.TheVariants as fault;
-ghost use Rattle.abel_expand.specs.Fronts.{changed, IsChange};
-ghost use Rattle.abel_expand.specs.Marks.{DefinesNone};
+ghost use Rattle.text_rewriting.specs.Fronts.{changed, IsChange};
+ghost use Rattle.text_rewriting.specs.Marks.{DefinesNone};
 ghost use Rattle.abel_expand.specs.Runs.{after, bytes_given, bytes_waiting, byte_in, refusal_in, HasEnded, IsExpanded, IsRefusal};
 ghost use Rattle.abel_expand.specs.Stands.{left_to_do};
 
 use crate::fault::ExpandFault;
-use crate::front::{Change, Front, look};
-use crate::unread::Unread;
 use abel_lexer::place_past;
 use abel_macros::Tables;
 use pld_base::{OutOfMemory, Place};
 use std::alloc::Global;
 use std::marker::Model;
+use text_rewriting::{Change, Front, Unread, look};
 
 /// Gives the expanded text of a text byte by byte. What is still to be read are pieces of the text.
 #[derive(Drop)]

@@ -17,7 +17,7 @@ use Rattle.abel_macros.specs.Pieces.{names, texts}
 use Rattle.abel_macros.specs.Kept.{under, by_bytes}
 use Rattle.abel_macros.specs.Rules.{with_name}
 use Rattle.abel_macros.proofs.Looked.{inserted, looked_up}
-use Rattle.abel_expand.specs.Bound.{bound}
+use Rattle.text_rewriting.specs.Bound.{bound}
 
 abbrev Pieces : Type 0
 Pieces = List (Bor (List ℕ))

@@ -3,7 +3,7 @@ use Rattle.std.proofs.Common.{◌≡◌, ◌-◌, ◌<◌, ◌≤◌, ℕ, zero,
 use Rattle.std.specs.Prelude.{◌/◌, ◌%◌, slice_index, nat_lt}
 use Rattle.std.proofs.lemmas.Bool.{lt-ltb, le-ltb}
 use Rattle.abel_macros.specs.Values.{digits_in}
-use Rattle.abel_expand.specs.Gathering.{Gathering}
+use Rattle.text_rewriting.specs.Gathering.{Gathering}
 
 pub digit_at : (w : List ℕ) (i : ℕ) → i < length w → take 1 (drop i w) ≡ slice_index w i ∷ []
 digit_at [] i h = absurd (omega arith)

@@ -5,10 +5,10 @@ use Rattle.std.specs.Global.{Vec}
 use Rattle.abel_macros.specs.Gaps.{before}
 use Rattle.abel_macros.specs.Rules.{Tables, Done, Rewritten}
 use Rattle.abel_macros.proofs.Behind.{before_drop}
-use Rattle.abel_expand.specs.declared.front.Change.{Change}
-use Rattle.abel_expand.specs.declared.front.Front.{Front}
-use Rattle.abel_expand.specs.declared.front.Front.TheVariants as front
-use Rattle.abel_expand.specs.Fronts.{changed, IsChange, IsFront, IsRewritten}
+use Rattle.text_rewriting.specs.declared.front.Change.{Change}
+use Rattle.text_rewriting.specs.declared.front.Front.{Front}
+use Rattle.text_rewriting.specs.declared.front.Front.TheVariants as front
+use Rattle.text_rewriting.specs.Fronts.{changed, IsChange, IsFront, IsRewritten}
 
 -- bytes that are done unchanged
 pub copy_front : (t : Tables) (text : List ℕ) (most n : ℕ) → 0 < n → n ≤ length text → IsFront t text most (Done t (before text (drop n text)) (drop n text)) (front.Copy n)

@@ -6,7 +6,7 @@ use Rattle.std.proofs.Math.Nat.{div-lt_iff_lt-mul, suc-mul}
 use Rattle.std.specs.List.{concat}
 use Rattle.text_pieces.specs.Stacks.{joined}
 use Rattle.text_pieces.proofs.Pieces.{joined-push}
-use Rattle.abel_expand.specs.Gathering.{Gathering}
+use Rattle.text_rewriting.specs.Gathering.{Gathering}
 
 empty : (w : List ℕ) → length w ≡ 0 → w ≡ []
 empty [] h = refl

@@ -6,7 +6,7 @@ use Rattle.std.proofs.Math.Seq.{drop-length, drop-nil, drop-append-add}
 use Rattle.std.proofs.lemmas.List.{drop-drop}
 use Rattle.abel_macros.specs.Gaps.{◌>>=◌, given, before, gap, word}
 use Rattle.abel_macros.specs.Rules.{macro_word}
-use Rattle.abel_expand.specs.Marks.{last}
+use Rattle.text_rewriting.specs.Marks.{last}
 
 pub none_at_end : (w : List ℕ) (n : ℕ) → n ≡ 0 → macro_word (last n w) ≡ None
 none_at_end w n z =

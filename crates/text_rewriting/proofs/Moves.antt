@@ -14,7 +14,7 @@ use Rattle.abel_macros.specs.Pieces.{names, texts}
 use Rattle.abel_macros.specs.Rules.{Tables, Macro, Move, Done, Rewritten, Refused, BadDirective, or_bad, macro_word, definition, called, named, directed, directive_of, behind_directive, token_len, move}
 use Rattle.abel_macros.proofs.Behind.{before_drop}
 use Rattle.abel_macros.specs.Values.{digits_in}
-use Rattle.abel_expand.specs.RuleMoves.{plain_move, digits}
+use Rattle.text_rewriting.specs.RuleMoves.{plain_move, digits}
 
 pub zero_takes_none : (v : ℕ) (w : List ℕ) → v ≡ 0 → (if v == 0 then [] else w) ≡ []
 zero_takes_none v w e = ap (λ (b : Bool). if b then [] else w) (eq-eqb v 0 e)

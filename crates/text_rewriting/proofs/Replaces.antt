@@ -9,7 +9,6 @@ use Rattle.abel_macros.specs.Gaps.{starts_byte, rest_of}
 use Rattle.abel_macros.specs.Forms.{asked, replaced, standing_for}
 use Rattle.abel_macros.specs.Pieces.{names, texts}
 use Rattle.abel_macros.specs.Rules.{each_replaced}
-use Rattle.abel_expand.proofs.Growth.{take_next}
 
 past : {A : Type 0} (ws : List A) (i : ℕ) → length ws ≤ i → drop i ws ≡ []
 past [] zero h = refl
@@ -29,6 +28,12 @@ drop_next [] zero x xs e = absurd cc
 drop_next [] (suc p) x xs e = absurd cc
 drop_next (y ∷ w) zero x xs e = ap (drop 1) e
 drop_next (y ∷ w) (suc p) x xs e = drop_next w p x xs e
+
+pub take_next : (w : List ℕ) (p x : ℕ) (xs : List ℕ) → drop p w ≡ x ∷ xs → take (suc p) w ≡ take p w ++ x ∷ []
+take_next [] zero x xs e = absurd cc
+take_next [] (suc p) x xs e = absurd cc
+take_next (y ∷ w) zero x xs e = ap (λ (z : List ℕ). take 1 z) e
+take_next (y ∷ w) (suc p) x xs e = ap (λ (z : List ℕ). y ∷ z) (take_next w p x xs e)
 
 module _ (f : List ℕ → Option (List ℕ)) where
   -- bytes of a replaced name are left out

@@ -6,7 +6,7 @@ use Rattle.abel_macros.specs.declared.mode.Mode.{Mode}
 use Rattle.abel_macros.specs.declared.mode.Mode.TheVariants as mode
 use Rattle.abel_macros.specs.Gaps.{passing}
 use Rattle.abel_macros.specs.Rules.{line_feeds, shown_in}
-use Rattle.abel_expand.specs.Shown.{shown_of}
+use Rattle.text_rewriting.specs.Shown.{shown_of}
 
 pub part_fits : (v w : List ℕ) (n m : ℕ) → v ≡ take n w → length w < m → 0 + length v < m
 part_fits v w n m e h = omega (arith, ap length e, length-take n w)

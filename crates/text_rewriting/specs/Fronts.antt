@@ -1,10 +1,10 @@
 -- What the front of the rest asks for, as the code tells it.
 use Rattle.std.specs.Prelude.{◌≡◌, ℕ, ◌+◌, ◌<◌, ◌≤◌, List, length, take, drop}
 use Rattle.abel_macros.specs.Rules.{Tables, Move, Done, Rewritten, Refused, BadDirective, Unsupported, with_name}
-use Rattle.abel_expand.specs.declared.front.Change.{Change}
-use Rattle.abel_expand.specs.declared.front.Change.TheVariants as change
-use Rattle.abel_expand.specs.declared.front.Front.{Front}
-use Rattle.abel_expand.specs.declared.front.Front.TheVariants as front
+use Rattle.text_rewriting.specs.declared.front.Change.{Change}
+use Rattle.text_rewriting.specs.declared.front.Change.TheVariants as change
+use Rattle.text_rewriting.specs.declared.front.Front.{Front}
+use Rattle.text_rewriting.specs.declared.front.Front.TheVariants as front
 
 -- the tables behind a change
 abbrev pub changed : Change → Tables → Tables

@@ -10,10 +10,10 @@ use Rattle.abel_macros.specs.Forms.{replaced, standing_for}
 use Rattle.abel_macros.specs.Pieces.{names, texts}
 use Rattle.abel_macros.specs.Values.{digits_in}
 use Rattle.abel_macros.specs.Rules.{Tables, Move, Done, Rewritten, Refused, BadDirective, Unsupported, with_name, line_feeds, shown_in, each_replaced, named, token_len, directed}
-use Rattle.abel_expand.specs.declared.rules.Rewriting.{Rewriting}
-use Rattle.abel_expand.specs.declared.rules.Rewriting.TheVariants as rewriting
-use Rattle.abel_expand.specs.declared.rules.Rule.{Rule}
-use Rattle.abel_expand.specs.declared.rules.Rule.TheVariants as rule
+use Rattle.text_rewriting.specs.declared.rules.Rewriting.{Rewriting}
+use Rattle.text_rewriting.specs.declared.rules.Rewriting.TheVariants as rewriting
+use Rattle.text_rewriting.specs.declared.rules.Rule.{Rule}
+use Rattle.text_rewriting.specs.declared.rules.Rule.TheVariants as rule
 
 -- the digits of a value in a radix
 unfoldable pub digits : ℕ → ℕ → List ℕ

@@ -4,7 +4,7 @@ ghost use Rattle.std.specs.Prelude.{◌≡◌, Some, None, IfOk, IfSome, IfNone}
 ghost use Rattle.text_pieces.specs.Stacks.{joined};
 ghost use Rattle.abel_macros.specs.Forms.{standing_for};
 ghost use Rattle.abel_macros.specs.Pieces.{names, texts};
-ghost use Rattle.abel_expand.specs.Bound.{bound};
+ghost use Rattle.text_rewriting.specs.Bound.{bound};
 
 use indexmap::IndexMap;
 use pld_base::OutOfMemory;

@@ -5,7 +5,7 @@ ghost use Rattle.text_pieces.specs.Stacks.{ahead};
 ghost use Rattle.abel_macros.specs.Gaps as gaps;
 ghost use Rattle.abel_macros.specs.Kept.{tables_of};
 ghost use Rattle.abel_macros.specs.Rules as spec;
-ghost use Rattle.abel_expand.specs.RuleMoves.{rewriting_text, rule_move, IsNamed, IsRewriting, IsRule};
+ghost use Rattle.text_rewriting.specs.RuleMoves.{rewriting_text, rule_move, IsNamed, IsRewriting, IsRule};
 
 use crate::rules::{Rewriting, Rule};
 use abel_macros::{Macro, Tables, read_arguments, read_macro, skip_macro_word};

@@ -2,8 +2,8 @@
 
 ghost use Rattle.std.specs.Prelude.{◌≡◌, [], ◌∷◌, ◌++◌, ◌<◌, ◌≤◌, codes, length, slice_index, OnOk, IfErr};
 ghost use Rattle.abel_macros.specs.Values.{digits_in};
-ghost use Rattle.abel_expand.specs.RuleMoves.{digits};
-ghost use Rattle.abel_expand.specs.declared.gathered.Shortage.TheVariants as shortage;
+ghost use Rattle.text_rewriting.specs.RuleMoves.{digits};
+ghost use Rattle.text_rewriting.specs.declared.gathered.Shortage.TheVariants as shortage;
 
 use crate::gathered::{Gathered, Shortage};
 

@@ -2,7 +2,7 @@
 
 ghost use Rattle.std.specs.Prelude.{◌≡◌, ◌≤◌, IfOk};
 ghost use Rattle.abel_macros.specs.declared.directive.Directive.TheVariants as directive;
-ghost use Rattle.abel_expand.specs.RuleMoves.{IsDirected, IsRule};
+ghost use Rattle.text_rewriting.specs.RuleMoves.{IsDirected, IsRule};
 
 use crate::rules::{Rewriting, Rule};
 use abel_macros::{

@@ -3,9 +3,9 @@
 ghost use Rattle.std.specs.Prelude.{◌≡◌, [], ◌∷◌, ◌<◌, ◌≤◌, false, length, drop, IfOk};
 ghost use Rattle.abel_macros.specs.Kept.{tables_of};
 ghost use Rattle.abel_macros.specs.Rules as spec;
-ghost use Rattle.abel_expand.specs.RuleMoves.{rewriting_text, rule_move, IsRewriting, IsRule};
-ghost use Rattle.abel_expand.specs.Marks.{DefinesNone};
-ghost use Rattle.abel_expand.specs.Fronts.{IsFront, IsRewritten};
+ghost use Rattle.text_rewriting.specs.RuleMoves.{rewriting_text, rule_move, IsRewriting, IsRule};
+ghost use Rattle.text_rewriting.specs.Marks.{DefinesNone};
+ghost use Rattle.text_rewriting.specs.Fronts.{IsFront, IsRewritten};
 
 use crate::gather::gather;
 use crate::gathered::{Gathered, Shortage};

@@ -2,8 +2,8 @@
 
 ghost use Rattle.std.specs.Prelude.{◌≡◌, ◌++◌, ◌<◌, ◌≤◌, length, OnOk, IfOk, IfErr};
 ghost use Rattle.text_pieces.specs.Stacks.{joined};
-ghost use Rattle.abel_expand.specs.RuleMoves.{digits, rewriting_text, IsRewriting};
-ghost use Rattle.abel_expand.specs.declared.gathered.Shortage.TheVariants as shortage;
+ghost use Rattle.text_rewriting.specs.RuleMoves.{digits, rewriting_text, IsRewriting};
+ghost use Rattle.text_rewriting.specs.declared.gathered.Shortage.TheVariants as shortage;
 
 use crate::gathered::{Gathered, Shortage};
 use crate::rules::Rewriting;

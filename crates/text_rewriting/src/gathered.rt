@@ -3,14 +3,14 @@
 ghost use Rattle.std.specs.Prelude.{◌≡◌, ◌++◌, ◌+◌, ◌*◌, ◌<◌, ◌≤◌, ◌^◌, [], length, replicate, true, false, OnOk, IfErr};
 ghost use Rattle.std.specs.List.{concat};
 ghost use Rattle.text_pieces.specs.Stacks.{joined};
-ghost use Rattle.abel_expand.specs.declared.gathered.Shortage.TheVariants as shortage;
+ghost use Rattle.text_rewriting.specs.declared.gathered.Shortage.TheVariants as shortage;
 
 use pld_base::OutOfMemory;
 use std::alloc::{AllocError, AllocFailed, Global};
 use std::marker::Model;
 
 /// Why a text isn't gathered.
-#[derive(Clone, Copy, PartialEq, Eq)]
+#[derive(Clone, Copy)]
 pub enum Shortage {
     /// It would have too many bytes.
     TooLong,
@@ -28,7 +28,7 @@ pub struct Gathered<'a> {
 impl<'a> Model for Gathered<'a> {
     ghost use Rattle.std.specs.Prelude.{◌+◌, length};
     ghost use Rattle.text_pieces.specs.Stacks.{joined};
-    ghost use Rattle.abel_expand.specs.Gathering.{Gathering};
+    ghost use Rattle.text_rewriting.specs.Gathering.{Gathering};
 
     ghost Value = { Gathering };
 
@@ -168,7 +168,7 @@ impl<'a> Gathered<'a> {
 
 impl<T: Drop> From<AllocFailed<T>> for Shortage {
     ghost use Rattle.std.specs.Prelude.{◌≡◌};
-    ghost use Rattle.abel_expand.specs.declared.gathered.Shortage.TheVariants as shortage;
+    ghost use Rattle.text_rewriting.specs.declared.gathered.Shortage.TheVariants as shortage;
 
     ghost from_gives = { λ _ e. e ≡ shortage.OutOfMemory };
 
@@ -179,7 +179,7 @@ impl<T: Drop> From<AllocFailed<T>> for Shortage {
 
 impl From<AllocError> for Shortage {
     ghost use Rattle.std.specs.Prelude.{◌≡◌};
-    ghost use Rattle.abel_expand.specs.declared.gathered.Shortage.TheVariants as shortage;
+    ghost use Rattle.text_rewriting.specs.declared.gathered.Shortage.TheVariants as shortage;
 
     ghost from_gives = { λ _ e. e ≡ shortage.OutOfMemory };
 
@@ -190,7 +190,7 @@ impl From<AllocError> for Shortage {
 
 impl From<OutOfMemory> for Shortage {
     ghost use Rattle.std.specs.Prelude.{◌≡◌};
-    ghost use Rattle.abel_expand.specs.declared.gathered.Shortage.TheVariants as shortage;
+    ghost use Rattle.text_rewriting.specs.declared.gathered.Shortage.TheVariants as shortage;
 
     ghost from_gives = { λ _ e. e ≡ shortage.OutOfMemory };
 

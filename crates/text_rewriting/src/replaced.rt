@@ -6,8 +6,8 @@ ghost use Rattle.abel_macros.specs.Forms.{asked, replaced, standing_for};
 ghost use Rattle.abel_macros.specs.Gaps.{starts_byte, rest_of};
 ghost use Rattle.abel_macros.specs.Pieces.{names, texts};
 ghost use Rattle.abel_macros.specs.Rules.{each_replaced};
-ghost use Rattle.abel_expand.specs.Bound.{bound};
-ghost use Rattle.abel_expand.specs.declared.gathered.Shortage.TheVariants as shortage;
+ghost use Rattle.text_rewriting.specs.Bound.{bound};
+ghost use Rattle.text_rewriting.specs.declared.gathered.Shortage.TheVariants as shortage;
 
 use crate::bound::Arguments;
 use crate::gathered::{Gathered, Shortage};

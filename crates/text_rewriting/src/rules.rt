@@ -5,8 +5,8 @@ ghost use Rattle.text_pieces.specs.Stacks.{ahead};
 ghost use Rattle.abel_macros.specs.Gaps as gaps;
 ghost use Rattle.abel_macros.specs.Kept.{tables_of};
 ghost use Rattle.abel_macros.specs.Rules as spec;
-ghost use Rattle.abel_expand.specs.Marks.{DefinesNone};
-ghost use Rattle.abel_expand.specs.RuleMoves.{rule_move, IsRule, plain_move};
+ghost use Rattle.text_rewriting.specs.Marks.{DefinesNone};
+ghost use Rattle.text_rewriting.specs.RuleMoves.{rule_move, IsRule, plain_move};
 
 use crate::called::named_rule;
 use crate::directives::directed_rule;

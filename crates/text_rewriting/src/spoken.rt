@@ -4,7 +4,7 @@ ghost use Rattle.std.specs.Prelude.{◌≡◌, ◌+◌, ◌++◌, ◌<◌, ◌�
 ghost use Rattle.text_pieces.specs.Stacks.{ahead};
 ghost use Rattle.abel_macros.specs.Rules as spec;
 ghost use Rattle.abel_macros.specs.declared.mode.Mode.TheVariants as mode;
-ghost use Rattle.abel_expand.specs.Shown.{shown_of};
+ghost use Rattle.text_rewriting.specs.Shown.{shown_of};
 
 use abel_macros::Mode;
 use std::alloc::{AllocError, Global};

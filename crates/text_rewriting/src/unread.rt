@@ -4,7 +4,7 @@ ghost use Rattle.std.specs.Prelude.{◌≡◌, ◌++◌, ◌+◌, ◌<◌, ◌�
 ghost use Rattle.text_pieces.specs.Stacks.{ahead, joined};
 ghost use Rattle.abel_macros.specs.Gaps.{word};
 ghost use Rattle.abel_macros.specs.Rules.{macro_word};
-ghost use Rattle.abel_expand.specs.Marks.{last, DefinesNone};
+ghost use Rattle.text_rewriting.specs.Marks.{last, DefinesNone};
 
 use abel_macros::{skip_gap_to, skip_macro_word, word_len};
 use std::alloc::{AllocError, Global};
@@ -23,7 +23,7 @@ pub struct Unread<'a> {
 impl<'a> Model for Unread<'a> {
     ghost use Rattle.std.specs.Prelude.{◌≡◌, ◌≤◌, List, ℕ, None, length};
     ghost use Rattle.abel_macros.specs.Rules.{macro_word};
-    ghost use Rattle.abel_expand.specs.Marks.{last};
+    ghost use Rattle.text_rewriting.specs.Marks.{last};
 
     ghost Value = { List ℕ };
 

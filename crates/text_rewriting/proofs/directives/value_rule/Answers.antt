@@ -4,8 +4,8 @@ use Rattle.text_pieces.specs.Stacks.{ahead, joined}
 use Rattle.abel_macros.specs.Kept.{tables_of}
 use Rattle.abel_macros.specs.Rules.{value_form}
 use Rattle.abel_macros.specs.Values.{digits_in}
-use Rattle.abel_expand.proofs.Moves.{value_moves}
-use Rattle.abel_expand.proofs.directives.value_rule.Goals as goal
+use Rattle.text_rewriting.proofs.Moves.{value_moves}
+use Rattle.text_rewriting.proofs.directives.value_rule.Goals as goal
 
 pub returns-in-Some-clause-moves : goal.returns-in-Some-clause-moves
 returns-in-Some-clause-moves c =

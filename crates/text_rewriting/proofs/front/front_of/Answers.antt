@@ -1,12 +1,12 @@
 -- A rewriting is one for all tables.
 use Rattle.std.proofs.Common.{◌-◌, ℕ, sym, ap, subst, drop}
 use Rattle.abel_macros.specs.Rules.{Tables}
-use Rattle.abel_expand.specs.declared.front.Front.{Front}
-use Rattle.abel_expand.specs.declared.rules.Rule.{Rule}
-use Rattle.abel_expand.specs.RuleMoves.{rewriting_text, rule_move}
-use Rattle.abel_expand.specs.Fronts.{IsFront, IsRewritten}
-use Rattle.abel_expand.proofs.Fronts.{if_ok_map, rewritten_front}
-use Rattle.abel_expand.proofs.front.front_of.Goals as goal
+use Rattle.text_rewriting.specs.declared.front.Front.{Front}
+use Rattle.text_rewriting.specs.declared.rules.Rule.{Rule}
+use Rattle.text_rewriting.specs.RuleMoves.{rewriting_text, rule_move}
+use Rattle.text_rewriting.specs.Fronts.{IsFront, IsRewritten}
+use Rattle.text_rewriting.proofs.Fronts.{if_ok_map, rewritten_front}
+use Rattle.text_rewriting.proofs.front.front_of.Goals as goal
 
 pub returns-in-Rewrite : goal.returns-in-Rewrite
 returns-in-Rewrite c =

@@ -1,9 +1,9 @@
 -- One byte more stays.
 use Rattle.std.proofs.Common.{◌≡◌, ◌∷◌, ◌∙◌, ap, sym, arith, ℕ, length, drop, add-one}
 use Rattle.text_pieces.specs.Stacks.{ahead}
-use Rattle.abel_expand.specs.Bound.{bound}
-use Rattle.abel_expand.proofs.Replaces.{some_step, stays_next, drop_next}
-use Rattle.abel_expand.proofs.replaced.kept_len.Goals as goal
+use Rattle.text_rewriting.specs.Bound.{bound}
+use Rattle.text_rewriting.proofs.Replaces.{some_step, stays_next, drop_next}
+use Rattle.text_rewriting.proofs.replaced.kept_len.Goals as goal
 
 pub bytes-preserved : goal.bytes-preserved
 bytes-preserved c =

@@ -2,8 +2,8 @@
 use Rattle.std.proofs.Common.{◌≡◌, ◌≤◌, ◌<◌, ◌+◌, ◌^◌, ◌++◌, length, take, drop}
 use Rattle.text_pieces.specs.Stacks.{ahead}
 use Rattle.abel_macros.specs.Forms.{replaced}
-use Rattle.abel_expand.specs.Bound.{bound}
-use Rattle.abel_expand.proofs.replaced.kept_len.Given as goal
+use Rattle.text_rewriting.specs.Bound.{bound}
+use Rattle.text_rewriting.proofs.replaced.kept_len.Given as goal
 
 abbrev pub invariant-bytes : goal.invariant-bytes
 invariant-bytes l =

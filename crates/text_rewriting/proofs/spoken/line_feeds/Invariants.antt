@@ -2,7 +2,7 @@
 use Rattle.std.proofs.Common.{◌≡◌, ◌≤◌, ◌+◌, ◌++◌, length, take}
 use Rattle.text_pieces.specs.Stacks.{ahead}
 use Rattle.abel_macros.specs.Rules.{line_feeds}
-use Rattle.abel_expand.proofs.spoken.line_feeds.Given as goal
+use Rattle.text_rewriting.proofs.spoken.line_feeds.Given as goal
 
 abbrev pub invariant-bytes : goal.invariant-bytes
 invariant-bytes l =

@@ -3,7 +3,7 @@ use Rattle.std.proofs.Common.{◌≡◌, ◌≤◌, ◌+◌, ◌++◌, length, t
 use Rattle.text_pieces.specs.Stacks.{ahead}
 use Rattle.abel_macros.specs.declared.mode.Mode.TheVariants as mode
 use Rattle.abel_macros.specs.Rules.{shown_in}
-use Rattle.abel_expand.proofs.spoken.shown.Given as goal
+use Rattle.text_rewriting.proofs.spoken.shown.Given as goal
 
 abbrev pub invariant-bytes : goal.invariant-bytes
 invariant-bytes l =

@@ -3,9 +3,9 @@ use Rattle.std.proofs.Common.{◌≡◌, ◌-◌, ◌+◌, ◌<◌, ◌++◌, �
 use Rattle.abel_macros.specs.Kept.{tables_of}
 use Rattle.abel_macros.specs.Rules.{move, BadDirective, Unsupported, TooLong, ExpansionLimit}
 use Rattle.abel_expand.specs.declared.fault.ExpandFault.TheVariants as fault
-use Rattle.abel_expand.specs.declared.front.Front.{Front}
-use Rattle.abel_expand.specs.Fronts.{IsFront}
-use Rattle.abel_expand.specs.Marks.{DefinesNone}
+use Rattle.text_rewriting.specs.declared.front.Front.{Front}
+use Rattle.text_rewriting.specs.Fronts.{IsFront}
+use Rattle.text_rewriting.specs.Marks.{DefinesNone}
 use Rattle.abel_expand.specs.Runs.{Reading, bytes_given, bytes_waiting, after, IsRefusal}
 use Rattle.abel_expand.specs.Stands.{Stands, left_to_do}
 use Rattle.abel_expand.proofs.Turning.{rest_is, copy_turn, said_turn, rewriting_turn, limit_refused, too_long, refused_as, is_refused, room}

@@ -1,6 +1,6 @@
 -- What is known of the front of the rest is known of the configuration's.
 use Rattle.std.proofs.Common.{◌≡◌, ◌∙◌, ap, sym, subst, [], None, drop}
-use Rattle.abel_expand.specs.Marks.{DefinesNone}
+use Rattle.text_rewriting.specs.Marks.{DefinesNone}
 use Rattle.abel_expand.specs.Runs.{Reading, bytes_waiting, after}
 use Rattle.abel_expand.proofs.Turning.{rest_is}
 use Rattle.abel_expand.proofs.reader.Reader.turn.Goals as goal

@@ -4,9 +4,9 @@ use Rattle.std.specs.Borrow.{Bor}
 use Rattle.std.specs.Global.{Vec}
 use Rattle.abel_macros.specs.Forms.{standing_for}
 use Rattle.abel_macros.specs.Pieces.{names, texts}
-use Rattle.abel_expand.specs.Bound.{bound}
-use Rattle.abel_expand.proofs.Bounds.{next_bound}
-use Rattle.abel_expand.proofs.bound.Arguments.new.Goals as goal
+use Rattle.text_rewriting.specs.Bound.{bound}
+use Rattle.text_rewriting.proofs.Bounds.{next_bound}
+use Rattle.text_rewriting.proofs.bound.Arguments.new.Goals as goal
 
 pub pairs-preserved : goal.pairs-preserved
 pairs-preserved c =

@@ -2,8 +2,8 @@
 use Rattle.std.proofs.Common.{◌≡◌, ◌≤◌, length, drop}
 use Rattle.abel_macros.specs.Forms.{standing_for}
 use Rattle.abel_macros.specs.Pieces.{names, texts}
-use Rattle.abel_expand.specs.Bound.{bound}
-use Rattle.abel_expand.proofs.bound.Arguments.new.Given as goal
+use Rattle.text_rewriting.specs.Bound.{bound}
+use Rattle.text_rewriting.proofs.bound.Arguments.new.Given as goal
 
 abbrev pub invariant-pairs : goal.invariant-pairs
 invariant-pairs l =

@@ -1,9 +1,9 @@
 -- A piece more, no bytes more, and a piece too many.
 use Rattle.std.proofs.Common.{◌++◌, ◌<◌, ◌∙◌, ap, subst, arith, length}
 use Rattle.text_pieces.specs.Stacks.{joined}
-use Rattle.abel_expand.specs.Gathering.{Gathering}
-use Rattle.abel_expand.proofs.Gathers.{added, added_nothing, over}
-use Rattle.abel_expand.proofs.gathered.Gathered.add.Goals as goal
+use Rattle.text_rewriting.specs.Gathering.{Gathering}
+use Rattle.text_rewriting.proofs.Gathers.{added, added_nothing, over}
+use Rattle.text_rewriting.proofs.gathered.Gathered.add.Goals as goal
 
 pub returns-then-piece-eq0-clause-ok : goal.returns-then-piece-eq0-clause-ok
 returns-then-piece-eq0-clause-ok c = added_nothing c.args.self.now c.args.piece.now (omega arith)

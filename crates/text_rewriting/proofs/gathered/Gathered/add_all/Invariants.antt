@@ -1,7 +1,7 @@
 -- What was gathered and the pieces that are left are the whole.
 use Rattle.std.proofs.Common.{◌≡◌, ◌++◌, drop}
 use Rattle.text_pieces.specs.Stacks.{joined}
-use Rattle.abel_expand.proofs.gathered.Gathered.add_all.Given as goal
+use Rattle.text_rewriting.proofs.gathered.Gathered.add_all.Given as goal
 
 abbrev pub invariant-loop-piece : goal.invariant-loop-piece
 invariant-loop-piece l = record { text : l.self.text ++ joined (drop l.piece-index l.pieces) ≡ l.fn.self.text ++ joined l.pieces; most : l.self.most ≡ l.fn.self.most }

@@ -2,8 +2,8 @@
 use Rattle.std.proofs.Common.{◌≡◌, ◌++◌, length}
 use Rattle.text_pieces.specs.Stacks.{joined}
 use Rattle.abel_macros.specs.Forms.{replaced}
-use Rattle.abel_expand.specs.Bound.{bound}
-use Rattle.abel_expand.proofs.gathered.Gathered.add_bound.Given as goal
+use Rattle.text_rewriting.specs.Bound.{bound}
+use Rattle.text_rewriting.proofs.gathered.Gathered.add_bound.Given as goal
 
 abbrev pub invariant-parts : goal.invariant-parts
 invariant-parts l =

@@ -7,9 +7,9 @@ use Rattle.text_pieces.specs.Stacks.{joined}
 use Rattle.abel_macros.specs.Forms.{replaced, standing_for}
 use Rattle.abel_macros.specs.Pieces.{texts}
 use Rattle.abel_macros.specs.Rules.{each_replaced}
-use Rattle.abel_expand.specs.Gathering.{Gathering}
-use Rattle.abel_expand.proofs.Replaces.{each_next}
-use Rattle.abel_expand.proofs.gathered.Gathered.add_each.Goals as goal
+use Rattle.text_rewriting.specs.Gathering.{Gathering}
+use Rattle.text_rewriting.proofs.Replaces.{each_next}
+use Rattle.text_rewriting.proofs.gathered.Gathered.add_each.Goals as goal
 
 pub arguments-preserved : goal.arguments-preserved
 arguments-preserved c =

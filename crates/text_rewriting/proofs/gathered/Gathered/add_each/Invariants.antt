@@ -3,7 +3,7 @@ use Rattle.std.proofs.Common.{◌≡◌, ◌++◌, ◌-◌, length, drop}
 use Rattle.text_pieces.specs.Stacks.{joined}
 use Rattle.abel_macros.specs.Pieces.{texts}
 use Rattle.abel_macros.specs.Rules.{each_replaced}
-use Rattle.abel_expand.proofs.gathered.Gathered.add_each.Given as goal
+use Rattle.text_rewriting.proofs.gathered.Gathered.add_each.Given as goal
 
 abbrev pub invariant-arguments : goal.invariant-arguments
 invariant-arguments l =

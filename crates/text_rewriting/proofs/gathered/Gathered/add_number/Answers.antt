@@ -1,9 +1,9 @@
 -- The digits of a value are at most 32.
 use Rattle.std.proofs.Common.{◌≡◌, ◌++◌, ◌<◌, OnOk, IfErr, List, ℕ, sym, subst, length}
-use Rattle.abel_expand.specs.declared.gathered.Shortage.{Shortage}
-use Rattle.abel_expand.specs.declared.gathered.Shortage.TheVariants as shortage
-use Rattle.abel_expand.proofs.Moves.{digits_are}
-use Rattle.abel_expand.proofs.gathered.Gathered.add_number.Goals as goal
+use Rattle.text_rewriting.specs.declared.gathered.Shortage.{Shortage}
+use Rattle.text_rewriting.specs.declared.gathered.Shortage.TheVariants as shortage
+use Rattle.text_rewriting.proofs.Moves.{digits_are}
+use Rattle.text_rewriting.proofs.gathered.Gathered.add_number.Goals as goal
 
 pub returns-clause-ok : goal.returns-clause-ok
 returns-clause-ok c =

@@ -2,10 +2,10 @@
 use Rattle.std.proofs.Common.{◌≡◌, ◌++◌, ◌<◌, subst, length, take, drop}
 use Rattle.text_pieces.specs.Stacks.{Look, ahead}
 use Rattle.abel_macros.specs.Forms.{replaced}
-use Rattle.abel_expand.specs.Bound.{bound}
-use Rattle.abel_expand.specs.declared.gathered.Shortage.TheVariants as shortage
-use Rattle.abel_expand.proofs.Replaces.{kept_long, err_longer}
-use Rattle.abel_expand.proofs.gathered.Gathered.add_part.Goals as goal
+use Rattle.text_rewriting.specs.Bound.{bound}
+use Rattle.text_rewriting.specs.declared.gathered.Shortage.TheVariants as shortage
+use Rattle.text_rewriting.proofs.Replaces.{kept_long, err_longer}
+use Rattle.text_rewriting.proofs.gathered.Gathered.add_part.Goals as goal
 
 pub returns-else-count-eq0-clause-long : goal.returns-else-count-eq0-clause-long
 returns-else-count-eq0-clause-long c =

@@ -2,9 +2,9 @@
 use Rattle.std.proofs.Common.{◌≡◌, ◌++◌, ◌<◌, OnOk, IfErr, List, ℕ, Option, subst, length}
 use Rattle.text_pieces.specs.Stacks.{joined}
 use Rattle.abel_macros.specs.Forms.{replaced}
-use Rattle.abel_expand.specs.declared.gathered.Shortage.{Shortage}
-use Rattle.abel_expand.specs.declared.gathered.Shortage.TheVariants as shortage
-use Rattle.abel_expand.proofs.gathered.Gathered.add_replaced.Goals as goal
+use Rattle.text_rewriting.specs.declared.gathered.Shortage.{Shortage}
+use Rattle.text_rewriting.specs.declared.gathered.Shortage.TheVariants as shortage
+use Rattle.text_rewriting.proofs.gathered.Gathered.add_replaced.Goals as goal
 
 pub returns-clause-ok : goal.returns-clause-ok
 returns-clause-ok c =

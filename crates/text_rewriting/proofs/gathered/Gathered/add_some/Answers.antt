@@ -2,9 +2,9 @@
 use Rattle.std.proofs.Common.{rules, ◌≡◌, ◌<◌, ◌++◌, length, replicate}
 use Rattle.std.specs.List.{concat}
 use Rattle.text_pieces.specs.Stacks.{joined}
-use Rattle.abel_expand.specs.declared.gathered.Shortage.TheVariants as shortage
-use Rattle.abel_expand.proofs.Gathers.{once_long}
-use Rattle.abel_expand.proofs.gathered.Gathered.add_some.Goals as goal
+use Rattle.text_rewriting.specs.declared.gathered.Shortage.TheVariants as shortage
+use Rattle.text_rewriting.proofs.Gathers.{once_long}
+use Rattle.text_rewriting.proofs.gathered.Gathered.add_some.Goals as goal
 
 pub returns-in_err-add_all-clause-long : goal.returns-in_err-add_all-clause-long
 returns-in_err-add_all-clause-long c =

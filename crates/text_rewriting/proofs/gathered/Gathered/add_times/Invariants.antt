@@ -2,7 +2,7 @@
 use Rattle.std.proofs.Common.{◌≡◌, ◌++◌, replicate}
 use Rattle.std.specs.List.{concat}
 use Rattle.text_pieces.specs.Stacks.{joined}
-use Rattle.abel_expand.proofs.gathered.Gathered.add_times.Given as goal
+use Rattle.text_rewriting.proofs.gathered.Gathered.add_times.Given as goal
 
 abbrev pub invariant-times : goal.invariant-times
 invariant-times l =

@@ -1,7 +1,7 @@
 -- What is known of the end stays, where bytes are put in front.
 use Rattle.text_pieces.specs.Stacks.{joined}
-use Rattle.abel_expand.proofs.Marks.{none_before, more_before}
-use Rattle.abel_expand.proofs.unread.Unread.put_all.Goals as goal
+use Rattle.text_rewriting.proofs.Marks.{none_before, more_before}
+use Rattle.text_rewriting.proofs.unread.Unread.put_all.Goals as goal
 
 pub invariant_of-self-2 : goal.invariant_of-self-2
 invariant_of-self-2 c = (

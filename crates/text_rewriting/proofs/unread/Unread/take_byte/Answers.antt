@@ -1,7 +1,7 @@
 -- What is known of the end stays, where a byte is taken that stands before it.
 use Rattle.std.proofs.Common.{arith}
-use Rattle.abel_expand.proofs.Marks.{none_next}
-use Rattle.abel_expand.proofs.unread.Unread.take_byte.Goals as goal
+use Rattle.text_rewriting.proofs.Marks.{none_next}
+use Rattle.text_rewriting.proofs.unread.Unread.take_byte.Goals as goal
 
 pub invariant_of-self-else-self-len : goal.invariant_of-self-else-self-len
 invariant_of-self-else-self-len c =
