@@ -9,7 +9,7 @@ use Rattle.jedec_file.specs.declared.field.Field.{Field}
 use Rattle.jedec_file.specs.declared.field.Field.TheVariants as field
 use Rattle.jedec_file.specs.FuseFile.{last_of, level_at}
 use Rattle.pld_device.specs.Table.{Table}
-use Rattle.jedec_reader.specs.FieldFits.{FieldFits}
+use Rattle.jedec_fields.specs.FieldFits.{FieldFits}
 use Rattle.jedec_reader.specs.LevelTable.{levels_said, HasPut}
 use Rattle.jedec_reader.proofs.LastOf.{more_said}
 

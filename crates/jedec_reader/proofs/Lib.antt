@@ -1,13 +1,6 @@
-mod EntryLemmas
-mod FieldLoop
 mod FileSteps
-mod Fits
 mod LastOf
 mod Levels
 mod NumberedVectors
-mod Numbers
-mod OrderFields
 mod PinOrders
-mod Positions
 mod Steps
-mod WordLemmas

@@ -1,7 +1,4 @@
 pub mod Contents
-pub mod FieldFits
-pub mod FieldTexts
-pub mod FieldsIn
 pub mod LevelTable
 pub mod SaidBy
 pub mod VectorTable

@@ -2,10 +2,6 @@
 #![tactic(auto)]
 
 mod contents;
-mod entries;
-mod field;
-mod fields;
-mod frame;
 mod fuse_file;
 mod fuse_levels;
 mod level_table;
@@ -13,7 +9,6 @@ mod pin_order;
 mod reading;
 mod said;
 mod vectors;
-mod words;
 
 pub use fuse_file::FuseFile;
 pub use jedec_file::JedecFault;

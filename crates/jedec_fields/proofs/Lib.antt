@@ -1,0 +1,3 @@
+mod FieldLoop
+mod Fits
+mod OrderFields

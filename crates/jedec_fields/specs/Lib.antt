@@ -1,0 +1,3 @@
+pub mod FieldFits
+pub mod FieldsIn
+pub mod Letters

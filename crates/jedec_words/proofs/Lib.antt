@@ -1,0 +1,5 @@
+mod EntryLemmas
+mod Numbers
+pub mod Positions
+pub mod Ranges
+mod WordLemmas
