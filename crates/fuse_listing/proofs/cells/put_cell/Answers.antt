@@ -1,0 +1,30 @@
+-- Five pieces were appended, one behind the other.
+use Rattle.std.proofs.Common.{◌≡◌, ℕ, List, ◌++◌, ◌∙◌, ap, append_assoc}
+use Rattle.std.proofs.lemmas.Result.{on_ok_weaker}
+use Rattle.std.specs.Prelude.{codes, flat_map}
+use Rattle.abel_tree.specs.Entries.{entries_of}
+use Rattle.pld_device.specs.Macrocells.{data_rows}
+use Rattle.pld_device.specs.Table.{cell_at}
+use Rattle.fuse_listing.specs.Listing.{enable_text, head_text, line_if_used}
+use Rattle.fuse_listing.proofs.cells.put_cell.Goals as goal
+
+-- a piece more behind what was appended
+one_more : (old sofar piece before new : List ℕ) → before ≡ old ++ sofar → new ≡ before ++ piece → new ≡ old ++ (sofar ++ piece)
+one_more old sofar piece before new before_is new_is =
+    new_is ∙ ap (λ (text : List ℕ). text ++ piece) before_is ∙ append_assoc old sofar piece
+
+pub returns : goal.returns
+returns g c =
+    let t = g.D.Device.table in
+    let fuses = c.args.fuses.now in
+    let es = entries_of c.args.names.now in
+    let old = c.args.out.now.items in
+    let head = head_text t fuses c.args.cell c.args.name.now in
+    let enable = enable_text t fuses es (cell_at t c.args.cell).enable in
+    let worded = one_more old head (codes "  enable ") _ _ c.in_ok-put_head.ensures c.in_ok-extend_from_slice.ensures.items in
+    let enabled = one_more old (head ++ codes "  enable ") enable _ _ worded (rw (← c.cell_of-found.ensures.found) c.in_ok-put_enable.ensures) in
+    let ended = one_more old (head ++ codes "  enable " ++ enable) (codes "\n") _ _ enabled c.in_ok-push.ensures.items in
+    on_ok_weaker c.put_rows.result
+    (λ rows. one_more old (head ++ codes "  enable " ++ enable ++ codes "\n") (flat_map (line_if_used t fuses es) (data_rows t c.args.cell)) _ _ ended
+    (rw (← c.cell_of-found.ensures.found) rows))
+    c.put_rows.ensures
