@@ -1,13 +1,9 @@
 pub mod CellsOrdered
 pub mod FreeReads
-pub mod LiveRows
 pub mod Loads
 pub mod OneLayer
 pub mod OneRun
-pub mod PairWalks
-pub mod Ranges
 pub mod ReadCells
 pub mod ResetReads
-pub mod Runs
 pub mod SameCells
 pub mod SameOrders

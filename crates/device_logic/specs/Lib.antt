@@ -1,7 +1,7 @@
-pub mod Array
 pub mod CellReads
 pub mod DeviceLookups
 pub mod Graphs
 pub mod LoadFaults
+pub mod PairReads
 pub mod ResetPaths
 pub mod TrioTable

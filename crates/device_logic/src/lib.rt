@@ -1,16 +1,12 @@
 //! A device with its fuses as a logic, its cells in an order in which each reads earlier ones.
 #![tactic(auto)]
 
-mod array;
 mod fault;
 mod graphs;
 mod laws;
 mod loading;
 mod logic;
-mod lookups;
-mod macrocells;
 mod reads;
-mod rows;
 
 pub use fault::SimFault;
 pub use laws::{no_loop, one_layer};

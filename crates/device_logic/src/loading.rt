@@ -11,10 +11,10 @@ ghost use Rattle.device_logic.specs.DeviceLookups.{device_lookups};
 ghost use Rattle.device_logic.specs.LoadFaults.{IsLoadFault, pins_of};
 ghost use Rattle.device_logic.specs.ResetPaths.{HasNoResetPath};
 
-use crate::array::FuseArray;
 use crate::fault::SimFault;
+use crate::graphs::{cell_order, reset_path};
 use crate::logic::DeviceLogic;
-use crate::lookups::cell_of;
+use device_array::{FuseArray, cell_of};
 use pld_base::OutOfMemory;
 use pld_device::{Device, Fuses};
 use std::alloc::Global;
@@ -49,12 +49,12 @@ pub fn load<D: Device>(alloc: Global, fuses: &Fuses) -> Result<DeviceLogic<D>, S
     ensures refused { IfErr result (IsLoadFault D.table fuses.now) }
 {
     let array = FuseArray::<D>::new(alloc, fuses)?;
-    match array.cell_order() {
+    match cell_order(&array) {
         Err(found) => {
             let pins = pins_of::<D>(alloc, found.vertices.as_slice())?;
             Err(SimFault::DeviceLoop(pins))
         }
-        Ok(order) => match array.reset_path() {
+        Ok(order) => match reset_path(&array) {
             Some(path) => {
                 let pins = pins_of::<D>(alloc, path.as_slice())?;
                 Err(SimFault::DeviceResetReadsRegister(pins))

@@ -3,9 +3,8 @@
 ghost use Rattle.std.specs.Prelude.{◌≡◌};
 ghost use Rattle.device_logic.specs.CellReads.{IsCellOrder};
 
-use crate::array::FuseArray;
-use crate::lookups::cell_of;
 use arrayvec::ArrayVec;
+use device_array::{FuseArray, cell_of};
 use pld_base::Point;
 use pld_device::Device;
 use pld_machine::{Logic, Slot};

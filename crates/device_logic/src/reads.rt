@@ -3,13 +3,13 @@
 ghost use Rattle.std.specs.Prelude.{◌≡◌, ◌+◌, ◌<◌, ◌≤◌, IfSome, length};
 ghost use Rattle.std.specs.List.{list_any, range_with_len};
 ghost use Rattle.pld_device.specs.Given.{enables_never};
-ghost use Rattle.device_logic.specs.Array.{EnableInRange, pair_reads};
+ghost use Rattle.device_array.specs.Array.{EnableInRange};
 ghost use Rattle.device_logic.specs.CellReads.{carries_cell, cell_reads, data_reads};
 ghost use Rattle.device_logic.specs.CellReads.{enable_reads, rest_reads, row_reads_cell};
+ghost use Rattle.device_logic.specs.PairReads.{pair_reads};
 ghost use Rattle.device_logic.specs.ResetPaths.{plain_reads, row_reads_if_any};
 
-use crate::array::FuseArray;
-use crate::lookups::{carry_of, cell_of};
+use device_array::{FuseArray, carry_of, cell_of};
 use pld_device::{Carry, Device, Enable};
 
 /// Whether the pair carries what the cell feeds back.
@@ -22,116 +22,115 @@ fn carries_cell(carry: Carry, cell: u8) -> bool
     }
 }
 
-impl<D: Device> FuseArray<D> {
-    /// Whether the row reads the pair, and the pair carries what the cell feeds back.
-    fn pair_reads(&self, row: u16, pair: u16, cell: u8) -> bool
-        requires row { row < D.table.rows }
-        requires pair { pair < length D.table.pairs }
-        requires cell { cell < length D.table.cells }
-        ensures { result ≡ pair_reads D.table self.now row cell pair }
-    {
-        self.row_reads(row, pair) && carries_cell(carry_of::<D>(pair), cell)
-    }
+/// Whether the row reads the pair, and the pair carries what the cell feeds back.
+fn pair_reads<D: Device>(array: &FuseArray<D>, row: u16, pair: u16, cell: u8) -> bool
+    requires row { row < D.table.rows }
+    requires pair { pair < length D.table.pairs }
+    requires cell { cell < length D.table.cells }
+    ensures { result ≡ pair_reads D.table array.now row cell pair }
+{
+    array.row_reads(row, pair) && carries_cell(carry_of::<D>(pair), cell)
+}
 
-    /// Whether the row reads the cell.
-    fn row_reads_cell(&self, row: u16, cell: u8) -> bool
-        requires row { row < D.table.rows }
-        requires cell { cell < length D.table.cells }
-        ensures { result ≡ row_reads_cell D.table self.now row cell }
-    {
-        for pair in 0..D::COLUMNS / 2 {
-            if self.pair_reads(row, pair, cell) {
-                return true;
-            }
-        }
-        false
-    }
-
-    /// Whether one of the rows from `first` on reads the cell.
-    fn rows_read_cell(&self, first: u16, room: u8, cell: u8) -> bool
-        requires rows { first + room ≤ D.table.rows }
-        requires cell { cell < length D.table.cells }
-        ensures { result ≡ list_any (λ row. row_reads_cell D.table self.now row cell)
-            (range_with_len first room) }
-    {
-        for row in first..first + u16::from(room) {
-            if self.row_reads_cell(row, cell) {
-                return true;
-            }
-        }
-        false
-    }
-
-    /// Whether what enables a cell can never do so.
-    fn enables_never(&self, enable: Enable) -> bool
-        requires { EnableInRange D.table enable }
-        ensures { result ≡ enables_never D.table self.now enable }
-    {
-        match enable {
-            Enable::Row(row) => !self.is_live(row),
-            Enable::PinLow(_pin) => false,
+/// Whether the row reads the cell.
+fn row_reads_cell<D: Device>(array: &FuseArray<D>, row: u16, cell: u8) -> bool
+    requires row { row < D.table.rows }
+    requires cell { cell < length D.table.cells }
+    ensures { result ≡ row_reads_cell D.table array.now row cell }
+{
+    for pair in 0..D::COLUMNS / 2 {
+        if pair_reads(array, row, pair, cell) {
+            return true;
         }
     }
+    false
+}
 
-    /// Whether what enables a cell reads the other cell.
-    fn enable_reads(&self, enable: Enable, to: u8) -> bool
-        requires range { EnableInRange D.table enable }
-        requires to { to < length D.table.cells }
-        ensures { result ≡ enable_reads D.table self.now enable to }
-    {
-        match enable {
-            Enable::Row(row) => self.row_reads_cell(row, to),
-            Enable::PinLow(_pin) => false,
+/// Whether one of the rows from `first` on reads the cell.
+fn rows_read_cell<D: Device>(array: &FuseArray<D>, first: u16, room: u8, cell: u8) -> bool
+    requires rows { first + room ≤ D.table.rows }
+    requires cell { cell < length D.table.cells }
+    ensures { result ≡ list_any (λ row. row_reads_cell D.table array.now row cell)
+        (range_with_len first room) }
+{
+    for row in first..first + u16::from(room) {
+        if row_reads_cell(array, row, cell) {
+            return true;
         }
     }
+    false
+}
 
-    /// Whether the cell's data read the other one while it comes to rest.
-    fn data_reads(&self, from: u8, to: u8) -> bool
-        requires from { from < length D.table.cells }
-        requires to { to < length D.table.cells }
-        ensures { result ≡ data_reads D.table self.now from to }
-    {
-        let cell = cell_of::<D>(from);
-        !self.stores(from) && self.rows_read_cell(cell.first, cell.room, to)
+/// Whether what enables a cell can never do so.
+fn enables_never<D: Device>(array: &FuseArray<D>, enable: Enable) -> bool
+    requires { EnableInRange D.table enable }
+    ensures { result ≡ enables_never D.table array.now enable }
+{
+    match enable {
+        Enable::Row(row) => !array.is_live(row),
+        Enable::PinLow(_pin) => false,
     }
+}
 
-    /// Whether the cell reads the other one while it comes to rest, its level or its Q.
-    fn rest_reads(&self, from: u8, to: u8) -> bool
-        requires from { from < length D.table.cells }
-        requires to { to < length D.table.cells }
-        ensures { result ≡ rest_reads D.table self.now from to }
-    {
-        let enable = cell_of::<D>(from).enable;
-        !self.enables_never(enable) && (self.enable_reads(enable, to) || self.data_reads(from, to))
+/// Whether what enables a cell reads the other cell.
+fn enable_reads<D: Device>(array: &FuseArray<D>, enable: Enable, to: u8) -> bool
+    requires range { EnableInRange D.table enable }
+    requires to { to < length D.table.cells }
+    ensures { result ≡ enable_reads D.table array.now enable to }
+{
+    match enable {
+        Enable::Row(row) => row_reads_cell(array, row, to),
+        Enable::PinLow(_pin) => false,
     }
+}
 
-    /// Whether the cell waits for the other one.
-    pub fn cell_reads(&self, from: u8, to: u8) -> bool
-        requires from { from < length D.table.cells }
-        requires to { to < length D.table.cells }
-        ensures { result ≡ cell_reads D.table self.now from to }
-    {
-        !self.stores(to) && self.rest_reads(from, to)
-    }
+/// Whether the cell's data read the other one while it comes to rest.
+fn data_reads<D: Device>(array: &FuseArray<D>, from: u8, to: u8) -> bool
+    requires from { from < length D.table.cells }
+    requires to { to < length D.table.cells }
+    ensures { result ≡ data_reads D.table array.now from to }
+{
+    let cell = cell_of::<D>(from);
+    !array.stores(from) && rows_read_cell(array, cell.first, cell.room, to)
+}
 
-    /// Whether the cell, which is no register, reads the other one.
-    pub fn plain_reads(&self, from: u8, to: u8) -> bool
-        requires from { from < length D.table.cells }
-        requires to { to < length D.table.cells }
-        ensures { result ≡ plain_reads D.table self.now from to }
-    {
-        !self.stores(from) && self.rest_reads(from, to)
-    }
+/// Whether the cell reads the other one while it comes to rest, its level or its Q.
+fn rest_reads<D: Device>(array: &FuseArray<D>, from: u8, to: u8) -> bool
+    requires from { from < length D.table.cells }
+    requires to { to < length D.table.cells }
+    ensures { result ≡ rest_reads D.table array.now from to }
+{
+    let enable = cell_of::<D>(from).enable;
+    !enables_never(array, enable)
+        && (enable_reads(array, enable, to) || data_reads(array, from, to))
+}
 
-    /// Whether the row, where there is one, reads the cell.
-    pub fn row_reads_if_any(&self, row: Option<u16>, cell: u8) -> bool
-        requires row { IfSome row (λ r. r < D.table.rows) }
-        requires cell { cell < length D.table.cells }
-        ensures { result ≡ row_reads_if_any D.table self.now row cell }
-    {
-        match row {
-            None => false,
-            Some(row) => self.row_reads_cell(row, cell),
-        }
+/// Whether the cell waits for the other one.
+pub fn cell_reads<D: Device>(array: &FuseArray<D>, from: u8, to: u8) -> bool
+    requires from { from < length D.table.cells }
+    requires to { to < length D.table.cells }
+    ensures { result ≡ cell_reads D.table array.now from to }
+{
+    !array.stores(to) && rest_reads(array, from, to)
+}
+
+/// Whether the cell, which is no register, reads the other one.
+pub fn plain_reads<D: Device>(array: &FuseArray<D>, from: u8, to: u8) -> bool
+    requires from { from < length D.table.cells }
+    requires to { to < length D.table.cells }
+    ensures { result ≡ plain_reads D.table array.now from to }
+{
+    !array.stores(from) && rest_reads(array, from, to)
+}
+
+/// Whether the row, where there is one, reads the cell.
+pub fn row_reads_if_any<D: Device>(array: &FuseArray<D>, row: Option<u16>, cell: u8) -> bool
+    requires row { IfSome row (λ r. r < D.table.rows) }
+    requires cell { cell < length D.table.cells }
+    ensures { result ≡ row_reads_if_any D.table array.now row cell }
+{
+    match row {
+        None => false,
+        Some(row) => row_reads_cell(array, row, cell),
     }
 }

@@ -1,0 +1,4 @@
+pub mod LiveRows
+pub mod PairWalks
+pub mod Ranges
+pub mod Runs

@@ -1,8 +1,0 @@
-use Rattle.std.proofs.Common.{◌≡◌, ℕ, ◌&&◌}
-use Rattle.std.specs.Prelude.{nat_lt}
-use Rattle.pld_base.specs.Bits.{is_on}
-use Rattle.device_logic.specs.Graphs.{holds}
-use Rattle.device_logic.proofs.array.FuseArray.cells.Given as goal
-
-abbrev pub invariant-loop-cell : goal.invariant-loop-cell
-invariant-loop-cell g l = (d : ℕ) → is_on l.cells d ≡ (nat_lt d l.cell && holds g.D.Device.table l.self l.question d)

@@ -1,6 +1,0 @@
-use Rattle.std.proofs.Common.{◌≡◌, ℕ, ◌<◌, ◌≤◌, false}
-use Rattle.device_logic.specs.CellReads.{row_reads_cell}
-use Rattle.device_logic.proofs.array.FuseArray.rows_read_cell.Given as goal
-
-abbrev pub invariant-loop-row : goal.invariant-loop-row
-invariant-loop-row g l = (k : ℕ) → l.first ≤ k → k < l.row → row_reads_cell g.D.Device.table l.self k l.cell ≡ false
