@@ -19,23 +19,27 @@ use pld_base::{OutOfMemory, Vector, put_hex};
 use pld_device::{Device, Fuses};
 use std::alloc::Global;
 
-/// The first byte of the text, and the last one before its sum.
-const STX: u8 = 2;
-
+/// The last byte of the text before its sum.
 const ETX: u8 = 3;
 
-/// The line with the names of the module and of the device.
-fn put_header<D: Device>(out: &mut Vec<u8>, name: &[u8]) -> Result<(), OutOfMemory>
-    ensures { OnOk result (out.new.items ≡ out.old.items
-        ++ line (STX ∷ codes "ABEL-HDL " ++ name.now ++ space ∷ device_text D.table.name)) }
+/// The blank before the device's name, the name, and the end of its line.
+fn put_device<D: Device>(out: &mut Vec<u8>) -> Result<(), OutOfMemory>
+    ensures { OnOk result (out.new.items ≡ out.old.items ++ line (space ∷ device_text D.table.name)) }
 {
-    out.push(STX)?;
-    out.extend_from_slice(b"ABEL-HDL ")?;
-    out.extend_from_slice(name)?;
     out.push(b' ')?;
     let device = D::NAME;
     out.extend_from_slice(device.text().as_bytes())?;
     put_end(out)
+}
+
+/// The line with the names of the module and of the device, behind the start byte.
+fn put_header<D: Device>(out: &mut Vec<u8>, name: &[u8]) -> Result<(), OutOfMemory>
+    ensures { OnOk result (out.new.items ≡ out.old.items
+        ++ line (STX ∷ codes "ABEL-HDL " ++ name.now ++ space ∷ device_text D.table.name)) }
+{
+    out.extend_from_slice(b"\x02ABEL-HDL ")?;
+    out.extend_from_slice(name)?;
+    put_device::<D>(out)
 }
 
 /// The text from its first byte to the last one before its sum.
