@@ -6,14 +6,15 @@ use Rattle.abel_tree.specs.Tree.{ModuleTree}
 use Rattle.abel_meaning.specs.DeviceStrings.{device_named}
 use Rattle.module_reader.specs.Texts.{IsRead}
 use Rattle.abel_compile.specs.declared.compiled.Compiled.{Compiled}
-use Rattle.abel_compile.specs.declared.fault.CompileFault.{CompileFault}
-use Rattle.abel_compile.specs.declared.fault.CompileFault.TheVariants.{Source, Fit, OutOfMemory}
-use Rattle.abel_compile.specs.declared.fault.SourceFault.{SourceFault}
-use Rattle.abel_compile.specs.declared.fault.SourceFault.TheVariants.{Expand, Scan, Parse, Names, Sections, Design, Width}
+use Rattle.compile_phases.specs.declared.fault.CompileFault.{CompileFault}
+use Rattle.compile_phases.specs.declared.fault.CompileFault.TheVariants.{Source, Fit, OutOfMemory}
+use Rattle.compile_phases.specs.declared.fault.SourceFault.{SourceFault}
+use Rattle.compile_phases.specs.declared.fault.SourceFault.TheVariants.{Expand, Scan, Parse, Names, Sections, Design, Width}
 use Rattle.abel_compile.specs.Answers.{CompileAnswers}
-use Rattle.abel_compile.specs.Devices.{table_of}
-use Rattle.abel_compile.specs.Phases.{IsOfSource, IsTextFault, IsNameFault, IsUnnamed, IsReadAlone, IsCompiledFor, IsCompiledOn, IsRefusedFor}
-use Rattle.abel_compile.specs.SourceRefusals.{IsRefusedSo, IsSourceRefused}
+use Rattle.compile_phases.specs.Devices.{table_of}
+use Rattle.compile_phases.specs.Phases.{IsOfSource, IsTextFault, IsNameFault, IsUnnamed, IsReadAlone, IsRefusedFor}
+use Rattle.abel_compile.specs.Compiling.{IsCompiledFor, IsCompiledOn}
+use Rattle.compile_phases.specs.SourceRefusals.{IsRefusedSo, IsSourceRefused}
 
 -- ---- the text
 

@@ -13,13 +13,14 @@ use Rattle.pal16_device.specs.Pal16RLaws.{pal16r4_sound, pal16r6_sound, pal16r8_
 use Rattle.gal22v10_device.specs.Gal22V10Laws.{gal22v10_sound}
 use Rattle.text_fates.proofs.Fates.{read_or_not, one_module}
 use Rattle.abel_compile.specs.declared.compiled.Compiled.{Compiled}
-use Rattle.abel_compile.specs.declared.fault.SourceFault.{SourceFault}
-use Rattle.abel_compile.specs.declared.fault.SourceFault.TheVariants.{Expand, Scan, Parse, Names, Sections, Design, Width}
-use Rattle.abel_compile.specs.Answers.{FitsAsWritten, IsOfFit, IsUnfitFor}
+use Rattle.compile_phases.specs.declared.fault.SourceFault.{SourceFault}
+use Rattle.compile_phases.specs.declared.fault.SourceFault.TheVariants.{Expand, Scan, Parse, Names, Sections, Design, Width}
+use Rattle.compile_phases.specs.Fits.{FitsAsWritten, IsOfFit, IsUnfitFor}
 use Rattle.abel_compile.specs.Correct.{IsCompiled}
-use Rattle.abel_compile.specs.Devices.{table_of}
-use Rattle.abel_compile.specs.SourceRefusals.{IsAcceptedFor, IsReadFor, IsRefusedSo, IsSourceRefused}
-use Rattle.abel_compile.proofs.NeverRefused.{not_source, not_fit, spelled}
+use Rattle.compile_phases.specs.Devices.{table_of}
+use Rattle.compile_phases.specs.SourceRefusals.{IsAcceptedFor, IsReadFor, IsRefusedSo, IsSourceRefused}
+use Rattle.compile_phases.proofs.NotRefused.{not_source, not_fit}
+use Rattle.abel_compile.proofs.NeverRefused.{spelled}
 
 same_device : (a b : DeviceName) → Some a ≡ Some b → a ≡ b
 same_device a b e = cc

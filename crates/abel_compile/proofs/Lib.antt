@@ -1,12 +1,7 @@
+pub mod CompiledModules
 pub mod Compiles
 pub mod Exclusive
-pub mod NarrowVectors
 pub mod NeverRefused
 pub mod NothingRefused
-pub mod PhaseFaults
-pub mod PlacedNames
 pub mod Refusals
-pub mod SameCells
-pub mod SameContributions
-pub mod SameNetlists
 pub mod ToldFuses

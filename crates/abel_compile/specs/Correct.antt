@@ -22,8 +22,8 @@ use Rattle.prime_rows.specs.Correct.{IsAssignedCell}
 use Rattle.prime_rows.specs.Covers.{HasPrimeRows}
 use Rattle.summary_line.specs.Summary.{design_cells, summary_of}
 use Rattle.abel_compile.specs.declared.compiled.Compiled.{Compiled}
-use Rattle.abel_compile.specs.Devices.{table_of}
-use Rattle.abel_compile.specs.SourceRefusals.{IsAcceptedFor}
+use Rattle.compile_phases.specs.Devices.{table_of}
+use Rattle.compile_phases.specs.SourceRefusals.{IsAcceptedFor}
 
 -- the fuses of a module in a device: as many as it has; it comes to rest in exactly one way from every state, and runs
 -- from power-up for every list of outside levels as a run of the module, with the same cells enabled and, where the module

@@ -1,6 +1,3 @@
 pub mod Answers
+pub mod Compiling
 pub mod Correct
-pub mod Devices
-pub mod Lines
-pub mod Phases
-pub mod SourceRefusals

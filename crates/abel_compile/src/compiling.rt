@@ -8,15 +8,18 @@ ghost use Rattle.abel_tree.specs.View.{view_module};
 ghost use Rattle.abel_meaning.specs.Designs.{design_of};
 ghost use Rattle.source_vectors.specs.AllSections.{AreSections};
 ghost use Rattle.abel_compile.specs.Answers.{CompileAnswers, IsNeverRefused};
-ghost use Rattle.abel_compile.specs.Devices.{table_of};
-ghost use Rattle.abel_compile.specs.Phases.{AreNamesFor, IsCompiledOn, IsNetlistFor, IsRefusedFor};
+ghost use Rattle.compile_phases.specs.Devices.{table_of};
+ghost use Rattle.compile_phases.specs.Phases.{AreNamesFor, IsNetlistFor, IsRefusedFor};
+ghost use Rattle.abel_compile.specs.Compiling.{IsCompiledOn};
 
 use crate::compiled::Compiled;
-use crate::fault::CompileFault;
-use crate::laws::{fits_are_right, read_names_are_plain};
-use crate::phases::{device_named, fitted_of, module_of, names_of, netlist_of, sections_of};
+use crate::laws::fits_are_right;
 use crate::telling::compiled_of;
 use abel_tree::{Module, Names};
+use compile_phases::{
+    CompileFault, device_named, fitted_of, module_of, names_of, netlist_of, read_names_are_plain,
+    sections_of,
+};
 use gal22v10_device::Gal22V10;
 use pal16_device::{Pal16L8, Pal16R4, Pal16R6, Pal16R8};
 use pld_base::DeviceName;

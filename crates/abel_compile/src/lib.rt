@@ -3,12 +3,9 @@
 
 mod compiled;
 mod compiling;
-mod fault;
 mod laws;
-mod phases;
-mod refusing;
 mod telling;
 
+pub use compile_phases::{CompileFault, SourceFault};
 pub use compiled::Compiled;
 pub use compiling::compile;
-pub use fault::{CompileFault, SourceFault};

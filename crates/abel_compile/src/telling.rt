@@ -7,12 +7,12 @@ ghost use Rattle.abel_tree.specs.View.{view_module};
 ghost use Rattle.abel_meaning.specs.Vectors.{source_vectors};
 ghost use Rattle.fitter.specs.Answers.{IsFitOf};
 ghost use Rattle.abel_compile.specs.Correct.{IsToldOf};
-ghost use Rattle.abel_compile.specs.Phases.{AreNamesFor, IsNetlistFor};
+ghost use Rattle.compile_phases.specs.Phases.{AreNamesFor, IsNetlistFor};
 
 use crate::compiled::Compiled;
-use crate::laws::fits_can_be_told;
 use abel_tree::{Module, Names};
 use bit_expr::Netlist;
+use compile_phases::fits_can_be_told;
 use fitter::Fitted;
 use fuse_listing::listing;
 use jedec_writer::write;

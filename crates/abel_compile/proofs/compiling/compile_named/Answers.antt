@@ -3,8 +3,9 @@ use Rattle.std.specs.Prelude.{IfErr}
 use Rattle.std.proofs.lemmas.Result.{err_from_is_err_and}
 use Rattle.abel_tree.specs.Entries.{entries_of}
 use Rattle.abel_tree.specs.View.{view_module}
-use Rattle.abel_compile.specs.Phases.{IsRefusedFor}
-use Rattle.abel_compile.proofs.PhaseFaults.{by_fit, compiled_on}
+use Rattle.compile_phases.specs.Phases.{IsRefusedFor}
+use Rattle.compile_phases.proofs.PhaseFaults.{by_fit}
+use Rattle.abel_compile.proofs.CompiledModules.{compiled_on}
 use Rattle.abel_compile.proofs.Refusals.{handed}
 use Rattle.abel_compile.proofs.compiling.compile_named.Goals as goal
 

@@ -3,7 +3,7 @@ use Rattle.pld_device.specs.Macrocells.{device_logic}
 use Rattle.abel_meaning.specs.Netlists.{plain_netlist}
 use Rattle.abel_meaning.specs.SourceLogic.{source_logic, source_values}
 use Rattle.abel_meaning.specs.Vectors.{source_vectors}
-use Rattle.abel_compile.proofs.NarrowVectors.{vectors_narrow}
+use Rattle.compile_phases.proofs.NarrowVectors.{vectors_narrow}
 use Rattle.abel_compile.proofs.laws.fits_are_right.Goals as goal
 
 pub returns : goal.returns

@@ -30,10 +30,10 @@ use Rattle.source_sections.specs.SectionAnswers.{AreContributed}
 use Rattle.source_vectors.specs.AllSections.{all_sections_refused}
 use Rattle.fitter.specs.declared.fault.FitFault.TheVariants as fit
 use Rattle.fitter.specs.Width.{IsFirstWide, NoneWide}
-use Rattle.abel_compile.specs.declared.fault.SourceFault.{SourceFault}
-use Rattle.abel_compile.specs.declared.fault.SourceFault.TheVariants.{Expand, Scan, Parse, Names, Sections, Design, Width}
-use Rattle.abel_compile.specs.Devices.{table_of}
-use Rattle.abel_compile.specs.Lines.{read_text, name_text, section_text}
+use Rattle.compile_phases.specs.declared.fault.SourceFault.{SourceFault}
+use Rattle.compile_phases.specs.declared.fault.SourceFault.TheVariants.{Expand, Scan, Parse, Names, Sections, Design, Width}
+use Rattle.compile_phases.specs.Devices.{table_of}
+use Rattle.compile_phases.specs.Lines.{read_text, name_text, section_text}
 
 -- ---- a module for a device, phase by phase
 

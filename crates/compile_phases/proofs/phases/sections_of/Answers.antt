@@ -1,7 +1,7 @@
 -- Names that are sound are placed and in order.
 use Rattle.row_entries.proofs.NamesInOrder.{sound_in_order}
-use Rattle.abel_compile.proofs.PlacedNames.{sound_placed}
-use Rattle.abel_compile.proofs.phases.sections_of.Goals as goal
+use Rattle.compile_phases.proofs.PlacedNames.{sound_placed}
+use Rattle.compile_phases.proofs.phases.sections_of.Goals as goal
 
 pub all_sections-requires-clause-placed : goal.all_sections-requires-clause-placed
 all_sections-requires-clause-placed g c =

@@ -36,8 +36,8 @@ use Rattle.fitter.specs.declared.fault.FitFault.TheVariants as fit
 use Rattle.fitter.specs.Answers.{FitAnswers, HasControls}
 use Rattle.fitter.specs.Products.{IsProduct, IsNoProduct, IsOneProduct, IsSharedProduct, IsSharedSum}
 use Rattle.fitter.specs.Width.{IsControlTooWide, IsTooWide, NoneWide, IsFirstWide}
-use Rattle.abel_compile.specs.Answers.{IsOfFit, HasRoom}
-use Rattle.abel_compile.proofs.SameNetlists.{written_same, bit_same}
+use Rattle.compile_phases.specs.Fits.{IsOfFit, HasRoom}
+use Rattle.compile_phases.proofs.SameNetlists.{written_same, bit_same}
 
 -- ---- the forms of a cell, by its plain one
 

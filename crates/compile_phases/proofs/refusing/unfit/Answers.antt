@@ -1,7 +1,7 @@
 -- The fault is told with its line.
 use Rattle.abel_tree.specs.Entries.{entries_of}
-use Rattle.abel_compile.proofs.Refusals.{told_fit}
-use Rattle.abel_compile.proofs.refusing.unfit.Goals as goal
+use Rattle.compile_phases.proofs.Refusals.{told_fit}
+use Rattle.compile_phases.proofs.refusing.unfit.Goals as goal
 
 pub returns-in-Ok : goal.returns-in-Ok
 returns-in-Ok g c =

@@ -1,5 +1,5 @@
 -- What is known of accepted names and of accepted sections, put together.
-use Rattle.abel_compile.proofs.laws.sections_are_accepted.Goals as goal
+use Rattle.compile_phases.proofs.laws.sections_are_accepted.Goals as goal
 
 pub returns : goal.returns
 returns c = λ t m n device names unrefused.

@@ -67,7 +67,7 @@ impl Debug for CompileFault {
 
 impl From<OutOfMemory> for CompileFault {
     ghost use Rattle.std.specs.Prelude.{◌≡◌};
-    ghost use Rattle.abel_compile.specs.declared.fault.CompileFault.TheVariants as fault;
+    ghost use Rattle.compile_phases.specs.declared.fault.CompileFault.TheVariants as fault;
 
     ghost from_gives = { λ _ e. e ≡ fault.OutOfMemory };
 
@@ -78,7 +78,7 @@ impl From<OutOfMemory> for CompileFault {
 
 impl From<AllocError> for CompileFault {
     ghost use Rattle.std.specs.Prelude.{◌≡◌};
-    ghost use Rattle.abel_compile.specs.declared.fault.CompileFault.TheVariants as fault;
+    ghost use Rattle.compile_phases.specs.declared.fault.CompileFault.TheVariants as fault;
 
     ghost from_gives = { λ _ e. e ≡ fault.OutOfMemory };
 

@@ -7,9 +7,9 @@ ghost use Rattle.design_lines.specs.Designs.{design_text};
 ghost use Rattle.design_lines.specs.Fits.{fit_text};
 ghost use Rattle.fitter.specs.Answers.{FitAnswers};
 ghost use Rattle.module_reader.specs.Texts.{IsUnread};
-ghost use Rattle.abel_compile.specs.declared.fault.SourceFault.TheVariants as source;
-ghost use Rattle.abel_compile.specs.Lines.{name_text, section_text};
-ghost use Rattle.abel_compile.specs.Phases.{IsFitRefused, IsMade, IsOfSource, IsTextFault, IsTold};
+ghost use Rattle.compile_phases.specs.declared.fault.SourceFault.TheVariants as source;
+ghost use Rattle.compile_phases.specs.Lines.{name_text, section_text};
+ghost use Rattle.compile_phases.specs.Phases.{IsFitRefused, IsMade, IsOfSource, IsTextFault, IsTold};
 
 use crate::fault::{CompileFault, SourceFault};
 use abel_tree::Names;

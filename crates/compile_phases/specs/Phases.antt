@@ -1,7 +1,6 @@
--- Private: what each phase of compiling answers (this project's rule).
-use Rattle.std.specs.Prelude.{◌≡◌, ℕ, Bool, None, Some, List, [], Result, Ok, Err}
+-- What each phase of compiling answers, and the laws that join them (this project's rule).
+use Rattle.std.specs.Prelude.{◌≡◌, ℕ, None, Some, List, [], Result, Ok, Err}
 use Rattle.std.specs.Global.{Vec}
-use Rattle.pld_base.specs.declared.device_name.DeviceName.{DeviceName}
 use Rattle.pld_base.specs.declared.out_of_memory.OutOfMemory.{OutOfMemory as NoMemory}
 use Rattle.pld_device.specs.Laws.{IsDevice}
 use Rattle.pld_device.specs.Table.{Table}
@@ -36,15 +35,13 @@ use Rattle.fitter.specs.Width.{IsFirstWide}
 use Rattle.module_reader.specs.declared.fault.ReadFault.TheVariants as reading
 use Rattle.module_reader.specs.Texts.{SpellsModule, IsRead, IsUnread}
 use Rattle.summary_line.specs.Summary.{assigned_cells, design_cells}
-use Rattle.abel_compile.specs.declared.compiled.Compiled.{Compiled}
-use Rattle.abel_compile.specs.declared.fault.CompileFault.{CompileFault}
-use Rattle.abel_compile.specs.declared.fault.CompileFault.TheVariants.{Source, Fit, OutOfMemory}
-use Rattle.abel_compile.specs.declared.fault.SourceFault.{SourceFault}
-use Rattle.abel_compile.specs.declared.fault.SourceFault.TheVariants.{Expand, Scan, Parse, Names as NamesRefused, Sections, Design, Width}
-use Rattle.abel_compile.specs.Answers.{IsOfFit, IsUnfitFor}
-use Rattle.abel_compile.specs.Correct.{AreFusesOf, IsToldOf}
-use Rattle.abel_compile.specs.Lines.{read_text, name_text, section_text}
-use Rattle.abel_compile.specs.SourceRefusals.{HasDesign, IsAcceptedFor, IsNetlistOf, IsRefusedSo}
+use Rattle.compile_phases.specs.declared.fault.CompileFault.{CompileFault}
+use Rattle.compile_phases.specs.declared.fault.CompileFault.TheVariants.{Source, Fit, OutOfMemory}
+use Rattle.compile_phases.specs.declared.fault.SourceFault.{SourceFault}
+use Rattle.compile_phases.specs.declared.fault.SourceFault.TheVariants.{Expand, Scan, Parse, Names as NamesRefused, Sections, Design, Width}
+use Rattle.compile_phases.specs.Fits.{IsOfFit, IsUnfitFor}
+use Rattle.compile_phases.specs.Lines.{read_text, name_text, section_text}
+use Rattle.compile_phases.specs.SourceRefusals.{HasDesign, IsNetlistOf, IsRefusedSo}
 
 -- ---- refusals
 
@@ -122,18 +119,6 @@ pub record IsNetlistFor (t : Table) (m : ModuleTree) (net : Netlist) : Type 0 wh
   pub netlist : IsNetlistOf t m net
   pub same : MeansTheSame t m (plain_netlist net)
 
--- the module is compiled
-pub record IsCompiledFor (t : Table) (m : ModuleTree) (c : Compiled) : Type 0 where
-  pub accepted : IsAcceptedFor t m
-  pub fuses : List Bool
-  pub right : AreFusesOf t m fuses
-  pub told : IsToldOf t m fuses c
-
--- and for this device
-pub record IsCompiledOn (t : Table) (device : DeviceName) (m : ModuleTree) (c : Compiled) : Type 0 where
-  pub device_is : c.device ≡ device
-  pub compiled : IsCompiledFor t m c
-
 -- it is refused
 abbrev pub IsRefusedFor : Table → ModuleTree → CompileFault → Type 0
 IsRefusedFor t m (Source f line) = IsRefusedSo f line.items t m
@@ -148,13 +133,7 @@ SectionsAreAccepted =
     (t : Table) (m : ModuleTree) (n : Names) → IsDevice t → AreNamesFor t m n
     → sections_refused (design_of t m) ≡ [] → IsAccepted (design_of t m)
 
--- the fuses of a module's netlist are those of the module
-abbrev pub FitsAreRight : Type 0
-FitsAreRight =
-    (t : Table) (m : ModuleTree) (net : Netlist) (fitted : Fitted) → IsDevice t → IsNetlistFor t m net → IsFitOf t net fitted
-    → AreFusesOf t m fitted.fuses
-
--- a fuse file can say them, and the netlist has as many cells as the design
+-- a fuse file can say the fuses of a module's netlist, and the netlist has as many cells as the design
 pub record CanBeTold (t : Table) (m : ModuleTree) (net : Netlist) (fitted : Fitted) : Type 0 where
   pub intact : IsIntactPastLines t fitted.fuses
   pub cells : assigned_cells t (plain_netlist net) ≡ design_cells (design_of t m)

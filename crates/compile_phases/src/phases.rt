@@ -13,8 +13,8 @@ ghost use Rattle.set_expr.specs.SectionOrder.{section_order};
 ghost use Rattle.source_sections.specs.SectionAnswers.{AreContributed};
 ghost use Rattle.source_vectors.specs.AllSections.{AreSections, all_sections_refused};
 ghost use Rattle.fitter.specs.Answers.{IsFitOf};
-ghost use Rattle.abel_compile.specs.Phases.{AreNamesFor, IsDesignFault, IsFitRefused, IsNameFault, IsNetlistFor, IsOfSource, IsReadAlone, IsSectionFault, IsTextFault, IsUnnamed};
-ghost use Rattle.abel_compile.specs.SourceRefusals.{IsDesignRefusedFor};
+ghost use Rattle.compile_phases.specs.Phases.{AreNamesFor, IsDesignFault, IsFitRefused, IsNameFault, IsNetlistFor, IsOfSource, IsReadAlone, IsSectionFault, IsTextFault, IsUnnamed};
+ghost use Rattle.compile_phases.specs.SourceRefusals.{IsDesignRefusedFor};
 
 use crate::fault::CompileFault;
 use crate::laws::sections_are_accepted;
@@ -33,7 +33,7 @@ use source_vectors::{SourceSections, all_sections};
 use std::alloc::Global;
 
 /// The module of a text.
-pub(crate) fn module_of(alloc: Global, text: &[u8]) -> Result<Module, CompileFault>
+pub fn module_of(alloc: Global, text: &[u8]) -> Result<Module, CompileFault>
     requires { length text.now ≤ 1048576 }
     ensures ok { IfOk result (λ m. IsReadAlone text.now (view_module m)) }
     ensures err { IfErr result (IsOfSource (IsTextFault text.now)) }
@@ -45,7 +45,7 @@ pub(crate) fn module_of(alloc: Global, text: &[u8]) -> Result<Module, CompileFau
 }
 
 /// The device that a module names.
-pub(crate) fn device_named(alloc: Global, source: &Module) -> Result<DeviceName, CompileFault>
+pub fn device_named(alloc: Global, source: &Module) -> Result<DeviceName, CompileFault>
     ensures ok { IfOk result (λ d. strings.device_named (view_module source.now) ≡ Some d) }
     ensures err { IfErr result (IsOfSource (IsNameFault (IsUnnamed (view_module source.now)))) }
 {
@@ -56,7 +56,7 @@ pub(crate) fn device_named(alloc: Global, source: &Module) -> Result<DeviceName,
 }
 
 /// The names of a source.
-pub(crate) fn names_of<D: Device>(alloc: Global, source: &Module) -> Result<Names, CompileFault>
+pub fn names_of<D: Device>(alloc: Global, source: &Module) -> Result<Names, CompileFault>
     ensures ok { IfOk result (λ n. AreNamesFor D.table (view_module source.now) n) }
     ensures err { IfErr result (IsOfSource (IsNameFault (λ f.
         first_name_refusal D.table (view_module source.now) ≡ Some f))) }
@@ -68,7 +68,7 @@ pub(crate) fn names_of<D: Device>(alloc: Global, source: &Module) -> Result<Name
 }
 
 /// What the sections of a module say.
-pub(crate) fn sections_of<D: Device>(
+pub fn sections_of<D: Device>(
     alloc: Global,
     source: &Module,
     names: &Names,
@@ -88,7 +88,7 @@ pub(crate) fn sections_of<D: Device>(
 }
 
 /// The netlist of a source.
-pub(crate) fn netlist_of<D: Device>(
+pub fn netlist_of<D: Device>(
     alloc: Global,
     source: &Module,
     names: &Names,
@@ -109,7 +109,7 @@ pub(crate) fn netlist_of<D: Device>(
 }
 
 /// The fuses of a netlist.
-pub(crate) fn fitted_of<D: Device>(
+pub fn fitted_of<D: Device>(
     alloc: Global,
     names: &Names,
     net: &Netlist,

@@ -1,6 +1,6 @@
 -- The design of accepted names and sections is accepted.
 use Rattle.abel_tree.specs.View.{view_module}
-use Rattle.abel_compile.proofs.phases.netlist_of.Goals as goal
+use Rattle.compile_phases.proofs.phases.netlist_of.Goals as goal
 
 pub gather-requires-clause-accepted : goal.gather-requires-clause-accepted
 gather-requires-clause-accepted g c =

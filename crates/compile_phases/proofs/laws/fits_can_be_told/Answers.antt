@@ -1,6 +1,6 @@
 -- What is known of fitted netlists, put together.
 use Rattle.abel_meaning.specs.Netlists.{plain_netlist}
-use Rattle.abel_compile.proofs.laws.fits_can_be_told.Goals as goal
+use Rattle.compile_phases.proofs.laws.fits_can_be_told.Goals as goal
 
 pub returns : goal.returns
 returns c = λ t m net fitted device is fits. record {

@@ -1,26 +1,22 @@
 -- What each phase refuses, as a refusal of the module for a device, and what a compiled module is.
 use Rattle.std.proofs.Common.{◌≡◌, ℕ, Some, List, Err, subst}
-use Rattle.pld_base.specs.declared.device_name.DeviceName.{DeviceName}
 use Rattle.pld_device.specs.Table.{Table}
 use Rattle.bit_expr.specs.declared.netlist.Netlist.{Netlist}
 use Rattle.abel_tree.specs.Entries.{Entry}
 use Rattle.abel_tree.specs.Tree.{ModuleTree}
 use Rattle.abel_meaning.specs.Kinds.{names_of}
 use Rattle.design_lines.specs.Fits.{fit_text}
-use Rattle.fitter.specs.declared.answer.Fitted.{Fitted}
 use Rattle.fitter.specs.declared.fault.FitFault.{FitFault}
 use Rattle.fitter.specs.declared.fault.FitFault.TheVariants as fit
-use Rattle.fitter.specs.Answers.{FitAnswers, IsFitOf}
+use Rattle.fitter.specs.Answers.{FitAnswers}
 use Rattle.fitter.specs.Width.{NoneWide}
-use Rattle.abel_compile.specs.declared.compiled.Compiled.{Compiled}
-use Rattle.abel_compile.specs.declared.fault.CompileFault.{CompileFault}
-use Rattle.abel_compile.specs.declared.fault.CompileFault.TheVariants.{Source, Fit, OutOfMemory}
-use Rattle.abel_compile.specs.declared.fault.SourceFault.{SourceFault}
-use Rattle.abel_compile.specs.declared.fault.SourceFault.TheVariants.{Expand, Scan, Parse, Names, Sections, Design, Width}
-use Rattle.abel_compile.specs.Answers.{IsOfFit}
-use Rattle.abel_compile.specs.Correct.{AreFusesOf, IsToldOf}
-use Rattle.abel_compile.specs.Phases.{IsWidthFault, IsFitRefused, IsNetlistFor, IsCompiledOn, IsRefusedFor}
-use Rattle.abel_compile.specs.SourceRefusals.{IsAcceptedFor, IsRefusedSo}
+use Rattle.compile_phases.specs.declared.fault.CompileFault.{CompileFault}
+use Rattle.compile_phases.specs.declared.fault.CompileFault.TheVariants.{Source, Fit, OutOfMemory}
+use Rattle.compile_phases.specs.declared.fault.SourceFault.{SourceFault}
+use Rattle.compile_phases.specs.declared.fault.SourceFault.TheVariants.{Expand, Scan, Parse, Names, Sections, Design, Width}
+use Rattle.compile_phases.specs.Fits.{IsOfFit}
+use Rattle.compile_phases.specs.Phases.{IsWidthFault, IsFitRefused, IsNetlistFor, IsRefusedFor}
+use Rattle.compile_phases.specs.SourceRefusals.{IsAcceptedFor, IsRefusedSo}
 
 -- ---- the fit
 
@@ -35,7 +31,7 @@ none_wide t net (fit.TooManyProducts c tried) is h = h.controls.wide
 none_wide t net fit.OutOfMemory is h = absurd is
 
 -- the module is accepted where none is
-accepted_for : (t : Table) (m : ModuleTree) (net : Netlist) → IsNetlistFor t m net → NoneWide t net → IsAcceptedFor t m
+pub accepted_for : (t : Table) (m : ModuleTree) (net : Netlist) → IsNetlistFor t m net → NoneWide t net → IsAcceptedFor t m
 accepted_for t m net is none = record { before = is.design; net = net; netlist = is.netlist; width = none }
 
 by_width : (t : Table) (m : ModuleTree) (es : List Entry) (net : Netlist) (f : SourceFault) (line : List ℕ) → es ≡ names_of t m → IsNetlistFor t m net
@@ -75,13 +71,3 @@ by_fit t m es net (Fit f line) names is h = (
   },
 )
 by_fit t m es net OutOfMemory names is h = tt
-
--- ---- a compiled module
-
-pub compiled_on : (t : Table) (device : DeviceName) (m : ModuleTree) (net : Netlist) (fitted : Fitted) (c : Compiled) → IsNetlistFor t m net
-    → IsFitOf t net fitted → AreFusesOf t m fitted.fuses → c.device ≡ device → IsToldOf t m fitted.fuses c → IsCompiledOn t device m c
-compiled_on t device m net fitted c is fits right device_is told =
-    record {
-      device_is = device_is;
-      compiled = record { accepted = accepted_for t m net is fits.controls.wide; fuses = fitted.fuses; right = right; told = told };
-    }

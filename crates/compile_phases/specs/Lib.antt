@@ -1,0 +1,5 @@
+pub mod Devices
+pub mod Fits
+pub mod Lines
+pub mod Phases
+pub mod SourceRefusals

@@ -1,0 +1,11 @@
+//! The phases of compiling a source, each with what it is refused for and the report on that.
+#![tactic(auto)]
+
+mod fault;
+mod laws;
+mod phases;
+mod refusing;
+
+pub use fault::{CompileFault, SourceFault};
+pub use laws::{fits_can_be_told, read_names_are_plain};
+pub use phases::{device_named, fitted_of, module_of, names_of, netlist_of, sections_of};
