@@ -1,19 +1,20 @@
 -- From what a command's own sources come to, to what words and files call for.
-use Rattle.std.proofs.Common.{◌≡◌, ℕ, suc, ◌<◌, ◌≤◌, Bool, true, false, List, [], length, Option, Some, Ok, Err, get_or, map, refl, sym, ◌∙◌, ap, subst, inl, inr, arith}
-use Rattle.std.specs.Prelude.{nat_lt, replicate, Contains, IsErrOf, Result, ◌⊎◌}
+use Rattle.std.proofs.Common.{◌≡◌, ℕ, suc, ◌<◌, ◌≤◌, Bool, true, false, List, [], length, Option, Some, get_or, refl, sym, subst, inl, inr, arith}
+use Rattle.std.specs.Prelude.{nat_lt, replicate, Contains}
 use Rattle.std.proofs.lemmas.Bool.{ltb-true, ltb-false}
 use Rattle.std.proofs.lemmas.List.{length-replicate, get_or-map, get_or-replicate}
-use Rattle.outside.specs.declared.files.ReadFault.{ReadFault}
-use Rattle.outside.specs.declared.files.ReadFault.TheVariants as read
 use Rattle.outside.specs.Causes.{Rose}
 use Rattle.outside.specs.Outside.{Map, SameFiles, SameBut, bytes_at}
-use Rattle.abel_cli.specs.Call.{Asked, HasRisen, HasStayed}
-use Rattle.abel_cli.specs.Ending.{Ending, Puts, file_fault}
-use Rattle.abel_cli.specs.Limit.{limit, IsTooLong}
-use Rattle.abel_cli.specs.Reading.{HasLongName}
+use Rattle.abel_cli.specs.Call.{Asked}
+use Rattle.source_files.specs.Counts.{HasRisen, HasStayed}
+use Rattle.abel_commands.specs.Ending.{Ending, file_fault}
+use Rattle.abel_cli.specs.Telling.{Puts}
+use Rattle.source_files.specs.Limit.{limit}
+use Rattle.source_files.specs.Reading.{HasLongName}
 use Rattle.abel_cli.specs.Run.{Comes, CallsFor, Ends, EndsOn}
-use Rattle.abel_cli.specs.Sources.{HasLongSource, sources_of, source_at}
-use Rattle.abel_cli.specs.Words.{Command, command_of, source_count}
+use Rattle.abel_cli.specs.Sources.{HasLongSource, sources_of}
+use Rattle.source_files.specs.Sources.{source_at}
+use Rattle.abel_commands.specs.Words.{Command, command_of, source_count}
 
 -- ---- some sources are too long, and they are a command's own where the files tell them
 
@@ -47,18 +48,6 @@ ends_long told files command e size (place, low, long) ends =
     record { sources = s.0; own = s.1; ends = ends s.0 (place, omega (arith, low, size), s.2) }
 
 -- ---- what comes
-
--- where a call is not refused so, the other side holds
-pub settled : {X E P : Type 0} {x : X} {e : E} → IsErrOf (Ok x) e ⊎ P → P
-settled (inl is) = absurd cc
-settled (inr p) = p
-
-abbrev unread_by : (X : Type 0) → ReadFault → Result X ReadFault
-unread_by X fault = Err fault
-
-pub too_long_settled : (X : Type 0) {P : Type 0} (fault : ReadFault) → fault ≡ read.TooLong → IsErrOf (unread_by X fault) read.Failed ⊎ P → P
-too_long_settled X fault is (inl failed) = absurd cc
-too_long_settled X fault is (inr p) = p
 
 pub rose_later : (a b c : ℕ) → a ≤ b → Rose b c → Rose a c
 rose_later a b c later rose = omega (arith, later, rose)

@@ -3,15 +3,16 @@ use Rattle.std.proofs.Common.{◌≡◌, ℕ, ◌≤◌, ◌⊎◌, List, Option
 use Rattle.std.proofs.lemmas.Option.{none-some}
 use Rattle.outside.specs.Outside.{bytes_at, SameFiles}
 use Rattle.pld_base.specs.declared.device_name.DeviceName.{DeviceName}
-use Rattle.abel_cli.specs.Call.{Asked, Heard, HasStayed}
-use Rattle.abel_compile.specs.Devices.{table_of}
-use Rattle.abel_cli.specs.Ending.{Ending}
+use Rattle.abel_cli.specs.Call.{Asked, Heard}
+use Rattle.source_files.specs.Counts.{HasStayed}
+use Rattle.compile_phases.specs.Devices.{table_of}
+use Rattle.abel_commands.specs.Ending.{Ending}
 use Rattle.abel_cli.specs.Promises.{MeansOn, Promises}
 use Rattle.abel_cli.specs.Run.{Means}
-use Rattle.abel_cli.specs.Simulating.{Disagrees}
-use Rattle.abel_cli.specs.SourceCommands.{IsRefused}
-use Rattle.abel_cli.specs.Sources.{source_at}
-use Rattle.abel_cli.specs.Words.{Command, Task, Compile, ListSource, Simulate, Check, Demo, IsCompile, IsNoCommand, command_of, on_file}
+use Rattle.abel_commands.specs.Simulating.{Disagrees}
+use Rattle.abel_commands.specs.SourceCommands.{IsRefused}
+use Rattle.source_files.specs.Sources.{source_at}
+use Rattle.abel_commands.specs.Words.{Command, Task, Compile, ListSource, Simulate, Check, Demo, IsCompile, IsNoCommand, command_of, on_file}
 
 module _ (a : Asked) (h : Heard) (p : Promises a h) where
   abbrev On : (e : Ending) → Option Command → Type 0

@@ -5,20 +5,23 @@ use Rattle.std.proofs.lemmas.Option.{none-some}
 use Rattle.outside.specs.Outside.{Map, bytes_at, SameFiles, SameBut}
 use Rattle.abel_compile.specs.declared.compiled.Compiled.{Compiled}
 use Rattle.abel_compile.specs.Correct.{IsCompiled}
-use Rattle.abel_cli.specs.Call.{Asked, Heard, HasRisen, HasStayed}
-use Rattle.abel_compile.specs.Devices.{table_of}
-use Rattle.abel_cli.specs.Ending.{Ending, Output, Puts, TakesFront, TakesFrontAndMemory, memory_line, file_fault}
+use Rattle.abel_cli.specs.Call.{Asked, Heard}
+use Rattle.source_files.specs.Counts.{HasRisen, HasStayed}
+use Rattle.compile_phases.specs.Devices.{table_of}
+use Rattle.abel_commands.specs.Ending.{Ending, Output, memory_line, file_fault}
+use Rattle.abel_cli.specs.Telling.{Puts, TakesFront, TakesFrontAndMemory}
 use Rattle.abel_cli.specs.Promises.{MeansOn, IsMeant, IsOutput, EndsAsCalled, EndsInFileFault, LeavesFiles, Promises}
 use Rattle.abel_cli.specs.Right.{IsRight, IsRightOrOld}
 use Rattle.abel_cli.specs.Run.{Ends, Means, CallsFor, IsCalledFor, Comes, Runs}
-use Rattle.abel_cli.specs.SourceCommands.{written, listed}
-use Rattle.abel_cli.specs.Sources.{source_at, sources_of}
-use Rattle.abel_cli.specs.Words.{Command, Task, Compile, ListSource, Simulate, Check, Demo, IsCompile, IsInput, command_of}
-use Rattle.abel_cli.proofs.CheckMeaning.{check_means}
-use Rattle.abel_cli.proofs.Commands.{inputs_counted, one_only}
-use Rattle.abel_cli.proofs.DemoMeaning.{demo_means}
-use Rattle.abel_cli.proofs.SimulateMeaning.{simulate_means}
-use Rattle.abel_cli.proofs.SourceMeaning.{source_means}
+use Rattle.abel_commands.specs.SourceCommands.{written, listed}
+use Rattle.source_files.specs.Sources.{source_at}
+use Rattle.abel_cli.specs.Sources.{sources_of}
+use Rattle.abel_commands.specs.Words.{Command, Task, Compile, ListSource, Simulate, Check, Demo, IsCompile, IsInput, command_of}
+use Rattle.abel_commands.proofs.CheckMeaning.{check_means}
+use Rattle.abel_commands.proofs.Commands.{inputs_counted, one_only}
+use Rattle.demo_command.proofs.DemoMeaning.{demo_means}
+use Rattle.abel_commands.proofs.SimulateMeaning.{simulate_means}
+use Rattle.abel_commands.proofs.SourceMeaning.{source_means}
 
 -- ---- by task, a line each
 

@@ -1,16 +1,4 @@
 pub mod Called
-pub mod CheckMeaning
-pub mod Commands
-pub mod DemoCells
-pub mod DemoMeaning
-pub mod DemoRuns
-pub mod Seeds
-pub mod SourceMeaning
 pub mod Facts
-pub mod FewVectors
-pub mod FileRefusals
 pub mod Kept
 pub mod Report
-pub mod SimulateMeaning
-pub mod SimulatedFiles
-pub mod SourceLists

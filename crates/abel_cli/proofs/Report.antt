@@ -2,7 +2,8 @@
 use Rattle.std.proofs.Common.{◌≡◌, ℕ, List, [], refl, sym, inr}
 use Rattle.std.proofs.lemmas.List.{append-nil}
 use Rattle.abel_cli.specs.Call.{Heard}
-use Rattle.abel_cli.specs.Ending.{Ending, Tells, TakesFront, memory_line}
+use Rattle.abel_commands.specs.Ending.{Ending, memory_line}
+use Rattle.abel_cli.specs.Telling.{Tells, TakesFront}
 
 pub memory_first : (ending : Ending) (h : Heard) → h.status ≡ 8 → (h.told → TakesFront memory_line h.old h.new) → Tells ending h
 memory_first ending h is taken = inr (inr (is, λ tells. (h.old, ([], (_, refl), sym (append-nil h.old)), taken tells)))

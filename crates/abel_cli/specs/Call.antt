@@ -1,20 +1,7 @@
 -- A call of the program: what every clause of it speaks of.
-use Rattle.std.specs.Prelude.{◌≡◌, ℕ, List}
-use Rattle.outside.specs.Causes.{Rose}
+use Rattle.std.specs.Prelude.{ℕ, List}
 use Rattle.outside.specs.Outside.{Map}
-
--- a count of faults before the call and after it
-pub record Count : Type 0 where
-  pub before : ℕ
-  pub after : ℕ
-
--- some call failed
-abbrev pub HasRisen : Count → Type 0
-HasRisen count = Rose count.before count.after
-
--- no call failed
-abbrev pub HasStayed : Count → Type 0
-HasStayed count = count.after ≡ count.before
+use Rattle.source_files.specs.Counts.{Count}
 
 -- the words; whether the files tell what they hold, what they held before the call and after it, and their
 -- counts of faults and of failed writes

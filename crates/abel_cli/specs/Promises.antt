@@ -1,11 +1,13 @@
 -- What a run promises, whatever the command (this project's rule).
 use Rattle.std.specs.Prelude.{◌≡◌, ℕ, ◌≤◌, ◌⊎◌, List, ◌++◌, Option, Some, None}
 use Rattle.outside.specs.Outside.{Map, SameFiles, SameBut}
-use Rattle.abel_cli.specs.Call.{Asked, Heard, HasRisen, HasStayed}
-use Rattle.abel_cli.specs.Ending.{Ending, Output, Puts, TakesFront, TakesFrontAndMemory, memory_line, usage_ending, file_fault}
+use Rattle.abel_cli.specs.Call.{Asked, Heard}
+use Rattle.source_files.specs.Counts.{HasRisen, HasStayed}
+use Rattle.abel_commands.specs.Ending.{Ending, Output, memory_line, usage_ending, file_fault}
+use Rattle.abel_cli.specs.Telling.{Puts, TakesFront, TakesFrontAndMemory}
 use Rattle.abel_cli.specs.Run.{Comes, IsCalledFor, Means}
 use Rattle.abel_cli.specs.Sources.{sources_of}
-use Rattle.abel_cli.specs.Words.{Command, command_of, IsInput}
+use Rattle.abel_commands.specs.Words.{Command, command_of, IsInput}
 
 -- what a command, or none, means by an ending: it is one of some sources, which are its own where the files
 -- tell them

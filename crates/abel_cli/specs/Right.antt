@@ -3,7 +3,7 @@ use Rattle.std.specs.Prelude.{◌≡◌, ℕ, ◌⊎◌, List, ◌++◌, Some}
 use Rattle.outside.specs.Outside.{Map, bytes_at, SameFiles}
 use Rattle.abel_compile.specs.declared.compiled.Compiled.{Compiled}
 use Rattle.abel_compile.specs.Correct.{IsCompiled}
-use Rattle.abel_cli.specs.Words.{IsCompile}
+use Rattle.abel_commands.specs.Words.{IsCompile}
 
 -- with `compile`, OUT holds the file of the source that the bytes under IN spelled before the call, compiled, and the
 -- report took the summary of that file's fuses

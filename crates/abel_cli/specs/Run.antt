@@ -1,15 +1,18 @@
 -- A run of the program as a whole (this project's rule).
 use Rattle.std.specs.Prelude.{◌≡◌, ℕ, ◌⊎◌, List, Option, Some, None}
 use Rattle.outside.specs.Outside.{Map, SameFiles, SameBut}
-use Rattle.abel_cli.specs.Call.{Asked, Heard, HasRisen, HasStayed}
-use Rattle.abel_cli.specs.CheckCommand.{CheckEnds, CheckMeans}
-use Rattle.abel_cli.specs.DemoCommand.{DemoEnds, DemoMeans}
-use Rattle.abel_compile.specs.Devices.{table_of}
-use Rattle.abel_cli.specs.Ending.{Ending, Puts, Tells, TakesFront, memory_line, usage_ending, file_fault}
-use Rattle.abel_cli.specs.SimulateCommand.{SimulateEnds, SimulateMeans}
-use Rattle.abel_cli.specs.SourceCommands.{SourceEnds, SourceMeans, written, listed}
-use Rattle.abel_cli.specs.Sources.{sources_of, source_at}
-use Rattle.abel_cli.specs.Words.{Command, Task, Compile, ListSource, Simulate, Check, Demo, command_of, IsInput, IsNoCommand}
+use Rattle.abel_cli.specs.Call.{Asked, Heard}
+use Rattle.source_files.specs.Counts.{HasRisen, HasStayed}
+use Rattle.abel_commands.specs.CheckCommand.{CheckEnds, CheckMeans}
+use Rattle.demo_command.specs.DemoCommand.{DemoEnds, DemoMeans}
+use Rattle.compile_phases.specs.Devices.{table_of}
+use Rattle.abel_commands.specs.Ending.{Ending, memory_line, usage_ending, file_fault}
+use Rattle.abel_cli.specs.Telling.{Puts, Tells, TakesFront}
+use Rattle.abel_commands.specs.SimulateCommand.{SimulateEnds, SimulateMeans}
+use Rattle.abel_commands.specs.SourceCommands.{SourceEnds, SourceMeans, written, listed}
+use Rattle.abel_cli.specs.Sources.{sources_of}
+use Rattle.source_files.specs.Sources.{source_at}
+use Rattle.abel_commands.specs.Words.{Command, Task, Compile, ListSource, Simulate, Check, Demo, command_of, IsInput, IsNoCommand}
 
 -- ---- by task: the only definitions of a run that name tasks
 

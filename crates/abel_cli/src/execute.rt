@@ -3,23 +3,23 @@
 ghost use Rattle.std.specs.Prelude.{◌≡◌, ◌≤◌, ℕ, All, List, IfOk, OnErr, length};
 ghost use Rattle.outside.specs.Outside.{SameFiles};
 ghost use Rattle.abel_cli.specs.Call.{asked};
-ghost use Rattle.abel_cli.specs.Limit.{limit};
+ghost use Rattle.source_files.specs.Limit.{limit};
 ghost use Rattle.abel_cli.specs.Found.{IsFound};
-ghost use Rattle.abel_cli.specs.Reading.{count};
+ghost use Rattle.source_files.specs.Counts.{count};
 ghost use Rattle.abel_cli.specs.Run.{Comes, Ends};
 ghost use Rattle.abel_cli.specs.Sources.{HasLongSource};
-ghost use Rattle.abel_cli.specs.View.{command_seen, ending_seen, sources_seen, task_seen, view};
-ghost use Rattle.abel_cli.specs.Words.{command_of, source_count, IsNoCommand, texts};
+ghost use Rattle.abel_commands.specs.View.{command_seen, ending_seen, task_seen, view};
+ghost use Rattle.source_files.specs.Sources.{sources_seen, texts};
+ghost use Rattle.abel_commands.specs.Words.{command_of, source_count, IsNoCommand};
 
-use crate::check_command::check_ending;
-use crate::command::{Command, Task, command_of};
-use crate::demo_command::demo_ending;
-use crate::ending::{Ending, Outcome, line};
-use crate::simulate_command::simulate_ending;
-use crate::source_commands::{compile_ending, list_ending};
-use crate::sources::{SourceFault, read_sources, source_at};
+use abel_commands::ending::{Ending, Outcome, line};
+use abel_commands::{
+    Command, Task, check_ending, command_of, compile_ending, list_ending, simulate_ending,
+};
+use demo_command::demo_ending;
 use outside::{Files, WriteFault};
 use pld_base::OutOfMemory;
+use source_files::{SourceFault, read_sources, source_at};
 use std::alloc::Global;
 
 /// How a task ends with its sources.

@@ -3,15 +3,16 @@
 ghost use Rattle.std.specs.Prelude.{◌≡◌};
 ghost use Rattle.outside.specs.Causes.{Rose};
 ghost use Rattle.abel_cli.specs.Call.{asked, heard};
-ghost use Rattle.abel_cli.specs.Ending.{Tells, TakesFront, memory_line};
+ghost use Rattle.abel_cli.specs.Telling.{Tells, TakesFront};
+ghost use Rattle.abel_commands.specs.Ending.{memory_line};
 ghost use Rattle.abel_cli.specs.Promises.{Promises};
 ghost use Rattle.abel_cli.specs.Right.{IsRight, IsRightOrOld};
 ghost use Rattle.abel_cli.specs.Run.{Runs};
-ghost use Rattle.abel_cli.specs.View.{view};
-ghost use Rattle.abel_cli.specs.Words.{texts};
+ghost use Rattle.abel_commands.specs.View.{view};
+ghost use Rattle.source_files.specs.Sources.{texts};
 
-use crate::ending::{Outcome, status, text};
 use crate::execute::execute;
+use abel_commands::ending::{Outcome, status, text};
 use outside::{Files, Sink, SinkFault};
 use std::alloc::Global;
 

@@ -3,11 +3,12 @@ use Rattle.std.proofs.Common.{ℕ, List, Option, Some, Err, ap, subst, sym, ◌�
 use Rattle.std.specs.Prelude.{option_map}
 use Rattle.outside.specs.Causes.{Rose}
 use Rattle.outside.specs.declared.files.WriteFault.{WriteFault}
-use Rattle.abel_cli.specs.declared.ending.Output as put
+use Rattle.abel_commands.specs.declared.ending.Output as put
 use Rattle.abel_cli.specs.Call.{asked}
-use Rattle.abel_cli.specs.Ending.{Puts}
-use Rattle.abel_cli.specs.View.{command_seen, ending_seen, output_seen}
-use Rattle.abel_cli.proofs.Called.{ended, unwritten, rose_later, settled}
+use Rattle.abel_cli.specs.Telling.{Puts}
+use Rattle.abel_commands.specs.View.{command_seen, ending_seen, output_seen}
+use Rattle.abel_cli.proofs.Called.{ended, unwritten, rose_later}
+use Rattle.source_files.proofs.Settled.{settled}
 use Rattle.abel_cli.proofs.execute.obey.Goals as goal
 
 pub returns-in-Ok-clause-comes : goal.returns-in-Ok-clause-comes

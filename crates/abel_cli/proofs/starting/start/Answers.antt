@@ -3,7 +3,7 @@ use Rattle.std.proofs.Common.{◌≡◌, ℕ, List, [], Option, Some, sym, ◌�
 use Rattle.std.specs.Prelude.{unwrap_or}
 use Rattle.abel_cli.specs.Right.{IsRight}
 use Rattle.abel_cli.specs.Start.{words_of}
-use Rattle.abel_cli.specs.Words.{texts}
+use Rattle.source_files.specs.Sources.{texts}
 use Rattle.abel_cli.proofs.starting.start.Goals as goal
 
 pub returns-in-Words-clause-right : goal.returns-in-Words-clause-right

@@ -1,0 +1,45 @@
+-- A command has as many inputs as its task works on.
+use Rattle.std.proofs.Common.{◌≡◌, ℕ, Bool, true, false, cond, List, [], ◌∷◌, length, Option, Some, None, get_or, refl, sym, ap, subst, arith}
+use Rattle.std.specs.Prelude.{codes, option_map}
+use Rattle.std.specs.Str.{bytes_eq}
+use Rattle.pld_base.specs.declared.device_name.DeviceName.{DeviceName}
+use Rattle.abel_commands.specs.Devices.{device_named}
+use Rattle.abel_commands.specs.Words.{Command, Task, Compile, ListSource, Simulate, Check, Demo, command_by, command_of, on_device, on_file, on_nothing, seed_of, source_count}
+
+abbrev IsCounted : Option Command → Type 0
+IsCounted None = Unit {0}
+IsCounted (Some c) = length c.inputs ≡ source_count c.task
+
+counted_if : (b : Bool) (x y : Option Command) → IsCounted x → IsCounted y → IsCounted (cond b x y)
+counted_if true x y one other = one
+counted_if false x y one other = other
+
+counted_device : (task : DeviceName → Task) → ((device : DeviceName) → source_count (task device) ≡ 1) → (input : List ℕ) (device : Option DeviceName)
+    → IsCounted (option_map (λ d. on_file (task d) input) device)
+counted_device task one input None = tt
+counted_device task one input (Some d) = sym (one d)
+
+counted_seed : (seed : Option ℕ) → IsCounted (option_map (λ n. on_nothing (Demo n)) seed)
+counted_seed None = tt
+counted_seed (Some n) = refl
+
+counted : (words : List (List ℕ)) → IsCounted (command_of words)
+counted [] = tt
+counted (first ∷ []) = tt
+counted (first ∷ second ∷ []) =
+    counted_if (bytes_eq first (codes "list")) _ _ refl
+    (counted_if (bytes_eq first (codes "demo")) _ _ (counted_seed (seed_of second)) tt)
+counted (first ∷ second ∷ third ∷ []) =
+    counted_if (bytes_eq first (codes "compile")) _ _ refl
+    (counted_if (bytes_eq first (codes "simulate")) _ _ (counted_device Simulate (λ d. refl) third (device_named second))
+    (counted_if (bytes_eq first (codes "check")) _ _ (counted_device Check (λ d. refl) third (device_named second)) tt))
+counted (first ∷ second ∷ third ∷ fourth ∷ more) = tt
+
+pub inputs_counted : (words : List (List ℕ)) (c : Command) → command_of words ≡ Some c → length c.inputs ≡ source_count c.task
+inputs_counted words c is = subst IsCounted is (counted words)
+
+-- a list of one element
+pub one_only : (xs : List (List ℕ)) → length xs ≡ 1 → xs ≡ get_or xs 0 [] ∷ []
+one_only [] size = absurd (omega (arith, size))
+one_only (x ∷ []) size = refl
+one_only (x ∷ y ∷ more) size = absurd (omega (arith, size))

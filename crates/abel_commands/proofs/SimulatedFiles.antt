@@ -1,0 +1,30 @@
+-- What is told of a file that was simulated, or wasn't.
+use Rattle.std.proofs.Common.{◌≡◌, ◌≢◌, ℕ, ◌≤◌, ◌==◌, Bool, true, false, List, [], Ok, sym, ◌∙◌, ap, length}
+use Rattle.std.proofs.lemmas.Bool.{eqb-true, true≢false}
+use Rattle.std.proofs.lemmas.List.{nil_from_length}
+use Rattle.jedec_file.specs.FuseFile.{FuseFile, file_of}
+use Rattle.pld_device.specs.Table.{Table}
+use Rattle.device_sim.specs.declared.report.Mismatch.{Mismatch}
+use Rattle.device_sim.specs.declared.report.Report.{Report}
+use Rattle.device_sim.specs.Simulated.{IsSimulated, IsTheOnlyList}
+use Rattle.source_files.specs.Limit.{limit}
+use Rattle.abel_commands.specs.Simulating.{IsReportedRun, run_lines}
+
+pub told_run : (t : Table) (bytes : List ℕ) (file : FuseFile) (report : Report) (lines : List ℕ)
+    → length bytes ≤ limit → file_of t bytes ≡ Ok file → IsSimulated t file report → IsTheOnlyList t file report.list
+    → lines ≡ run_lines t report.vectors report.list → IsReportedRun t bytes report.list lines
+told_run t bytes file report lines within read it only told =
+    record {
+      of = record { within = within; file = file; read = read; can = it.can };
+      run = it.run;
+      only = only;
+      told = told ∙ ap (λ (n : ℕ). run_lines t n report.list) it.vectors;
+    }
+
+-- ---- the test of its list
+
+pub none_where_empty : (empty : Bool) (list : List Mismatch) → empty ≡ (length list == 0) → empty ≡ true → list ≡ []
+none_where_empty empty list is on = nil_from_length list (eqb-true (length list) 0 (sym is ∙ on))
+
+pub some_where_not : (empty : Bool) (list : List Mismatch) → empty ≡ (length list == 0) → empty ≡ false → list ≢ []
+some_where_not empty list is off none = true≢false (sym (is ∙ ap (λ (xs : List Mismatch). length xs == 0) none) ∙ off)

@@ -1,0 +1,9 @@
+pub mod CheckCommand
+pub mod Checking
+pub mod Devices
+pub mod Ending
+pub mod SimulateCommand
+pub mod Simulating
+pub mod SourceCommands
+pub mod View
+pub mod Words

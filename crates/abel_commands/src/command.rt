@@ -1,0 +1,99 @@
+//! The words of the command line.
+
+ghost use Rattle.std.specs.Prelude.{◌≡◌, IfSome, length, option_map};
+ghost use Rattle.abel_commands.specs.View.{command_seen, task_seen};
+ghost use Rattle.abel_commands.specs.Words.{command_of, seed_of, source_count};
+ghost use Rattle.source_files.specs.Sources.{texts};
+
+use crate::devices::device_named;
+use crate::digits::are_few_digits;
+use pld_base::DeviceName;
+
+/// What is done with the sources of a command.
+#[derive(Clone, Copy)]
+pub enum Task<'a> {
+    /// `compile IN OUT`
+    Compile { output: &'a str },
+    /// `list IN`
+    List,
+    /// `simulate DEVICE IN`
+    Simulate { device: DeviceName },
+    /// `check DEVICE IN`
+    Check { device: DeviceName },
+    /// `demo N`
+    Demo { seed: u16 },
+}
+
+/// What the words ask for: a task, and the words that name its sources, in order.
+#[derive(Clone, Copy)]
+pub struct Command<'a> {
+    pub task: Task<'a>,
+    pub inputs: &'a [String],
+}
+
+/// The number that a word of one to five digits is, where it is at most 65,535. Takes no memory.
+fn seed_of(word: &str) -> Option<u16>
+    ensures { result ≡ seed_of word.now }
+{
+    if !are_few_digits(word.as_bytes()) {
+        return None;
+    }
+    word.parse::<u16>().ok()
+}
+
+/// The command that two words are. Takes no memory.
+fn command_of_two<'a>(words: &'a [String]) -> Option<Command<'a>>
+    requires { length words.now ≡ 2 }
+    ensures command { option_map command_seen result ≡ command_of (texts words.now) }
+    ensures inputs { IfSome result (λ c. length c.inputs.now ≡ source_count (task_seen c.task)) }
+{
+    if words[0].as_str() == "list" {
+        Some(Command {
+            task: Task::List,
+            inputs: &words[1..],
+        })
+    } else if words[0].as_str() == "demo" {
+        let seed = seed_of(words[1].as_str())?;
+        Some(Command {
+            task: Task::Demo { seed },
+            inputs: &words[2..],
+        })
+    } else {
+        None
+    }
+}
+
+/// The command that the words are. Takes no memory.
+pub fn command_of(words: &[String]) -> Option<Command<'_>>
+    ensures command { option_map command_seen result ≡ command_of (texts words.now) }
+    ensures inputs { IfSome result (λ c. length c.inputs.now ≡ source_count (task_seen c.task)) }
+{
+    if words.len() == 2 {
+        return command_of_two(words);
+    }
+    let [first, second, third] = words else {
+        return None;
+    };
+    if first.as_str() == "compile" {
+        Some(Command {
+            task: Task::Compile {
+                output: third.as_str(),
+            },
+            inputs: &words[1..2],
+        })
+    } else if first.as_str() == "simulate" {
+        let device = device_named(second.as_str())?;
+        Some(Command {
+            task: Task::Simulate { device },
+            inputs: &words[2..],
+        })
+    } else if first.as_str() == "check" {
+        let device = device_named(second.as_str())?;
+        Some(Command {
+            task: Task::Check { device },
+            inputs: &words[2..],
+        })
+    } else {
+        None
+    }
+}

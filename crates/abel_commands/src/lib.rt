@@ -1,0 +1,21 @@
+//! The commands: the words that name them, and how each ends with its sources, but for `demo`.
+#![tactic(auto)]
+
+mod check_command;
+mod checked_line;
+mod command;
+mod devices;
+mod digits;
+pub mod ending;
+mod fault_line;
+mod numbered;
+mod run_lines;
+mod sim_fault_line;
+mod simulate_command;
+mod source_commands;
+
+pub use check_command::check_ending;
+pub use command::{Command, Task, command_of};
+pub use numbered::put_numbered;
+pub use simulate_command::simulate_ending;
+pub use source_commands::{compile_ending, list_ending, refused_ending};

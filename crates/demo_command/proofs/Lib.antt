@@ -1,0 +1,3 @@
+pub mod DemoCells
+pub mod DemoMeaning
+pub mod DemoRuns

@@ -1,0 +1,4 @@
+pub mod Counts
+pub mod Limit
+pub mod Reading
+pub mod Sources
