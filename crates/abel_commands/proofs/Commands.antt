@@ -1,10 +1,10 @@
 -- A command has as many inputs as its task works on.
-use Rattle.std.proofs.Common.{◌≡◌, ℕ, Bool, true, false, cond, List, [], ◌∷◌, length, Option, Some, None, get_or, refl, sym, ap, subst, arith}
+use Rattle.std.proofs.Common.{◌≡◌, ℕ, Bool, true, false, cond, List, [], ◌∷◌, length, Option, Some, None, get_or, refl, sym, subst, arith}
 use Rattle.std.specs.Prelude.{codes, option_map}
 use Rattle.std.specs.Str.{bytes_eq}
 use Rattle.pld_base.specs.declared.device_name.DeviceName.{DeviceName}
 use Rattle.abel_commands.specs.Devices.{device_named}
-use Rattle.abel_commands.specs.Words.{Command, Task, Compile, ListSource, Simulate, Check, Demo, command_by, command_of, on_device, on_file, on_nothing, seed_of, source_count}
+use Rattle.abel_commands.specs.Words.{Command, Task, Simulate, Check, Demo, command_of, on_file, on_nothing, seed_of, source_count}
 
 abbrev IsCounted : Option Command → Type 0
 IsCounted None = Unit {0}

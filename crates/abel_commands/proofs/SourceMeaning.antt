@@ -3,7 +3,7 @@ use Rattle.std.proofs.Common.{◌≡◌, ℕ, ◌≤◌, List, length, refl, sym
 use Rattle.abel_compile.specs.declared.compiled.Compiled.{Compiled}
 use Rattle.abel_compile.specs.Correct.{IsCompiled}
 use Rattle.abel_compile.proofs.Exclusive as one
-use Rattle.abel_commands.specs.SourceCommands.{SourceEnds, SourceMeans, Fits, IsRefused, IsUnfit, IsRefusedWith, IsUnfitWith}
+use Rattle.abel_commands.specs.SourceCommands.{SourceEnds, SourceMeans, Fits, IsRefused, IsUnfit}
 use Rattle.abel_commands.specs.Ending.{Ending, ends}
 use Rattle.source_files.specs.Limit.{limit}
 

@@ -1,5 +1,5 @@
 -- A command, an ending and an outcome as the code keeps them.
-use Rattle.std.specs.Prelude.{List, option_map}
+use Rattle.std.specs.Prelude.{option_map}
 use Rattle.abel_commands.specs.declared.command.Command as code
 use Rattle.abel_commands.specs.declared.command.Task as code_task
 use Rattle.abel_commands.specs.declared.command.Task.TheVariants as task
