@@ -10,16 +10,8 @@ mod graphs;
 #[cfg(test)]
 mod memory_files;
 #[cfg(test)]
-mod pieces;
-#[cfg(test)]
-mod ranges;
-#[cfg(test)]
 mod real_files;
 #[cfg(test)]
 mod shift_register;
-#[cfg(test)]
-mod tokens;
-#[cfg(test)]
-mod trees;
 #[cfg(test)]
 mod values;
