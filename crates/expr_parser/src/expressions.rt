@@ -9,11 +9,14 @@ ghost use Rattle.abel_syntax.specs.ExpressionReaders.{read_link, read_level, rea
 
 use crate::lists::packed;
 use crate::operands::{at_range, simple, span_member};
-use crate::signs::{PRODUCTS, RELATIONS, SUMS, binary_of, join, unary_of};
 use crate::words::{extension_in, maybe};
 use abel_lexer::Token;
 use abel_syntax::{Halt, Terminal, behind, expect, starts, terminal_of};
 use abel_tree::{Expr, Member};
+use operator_signs::{
+    begins_product, begins_relation, begins_sum, binary_of, join, product_sign, relation_sign,
+    sum_sign, unary_of,
+};
 use pld_base::Boxed;
 use std::alloc::Global;
 
@@ -162,7 +165,7 @@ fn product_link<'a>(
     ensures { Gives (λ x. ((x.0.0.now, view x.0.1), x.1.now)) result
         (read_link products (read_operand depth) tokens.now) }
 {
-    let (sign, rest) = expect(tokens, &PRODUCTS)?;
+    let (sign, rest) = product_sign(tokens)?;
     let (right, rest) = operand(alloc, rest, depth)?;
     Ok(((sign, right), rest))
 }
@@ -180,7 +183,7 @@ fn product<'a>(
     let (first, after) = operand(alloc, tokens, depth)?;
     let mut left = first;
     let mut rest = after;
-    'links: while starts(rest, &PRODUCTS) {
+    'links: while begins_product(rest) {
         let ((sign, right), after) = product_link(alloc, rest, depth)?;
         left = join(alloc, binary_of(terminal_of(sign)), sign.place, left, right)?;
         rest = after;
@@ -198,7 +201,7 @@ fn sum_link<'a>(
     ensures { Gives (λ x. ((x.0.0.now, view x.0.1), x.1.now)) result
         (read_link sums (read_level products (read_operand depth)) tokens.now) }
 {
-    let (sign, rest) = expect(tokens, &SUMS)?;
+    let (sign, rest) = sum_sign(tokens)?;
     let (right, rest) = product(alloc, rest, depth)?;
     Ok(((sign, right), rest))
 }
@@ -212,7 +215,7 @@ fn sum<'a>(alloc: Global, tokens: &'a [Token], depth: u8) -> Result<(Expr, &'a [
     let (first, after) = product(alloc, tokens, depth)?;
     let mut left = first;
     let mut rest = after;
-    'links: while starts(rest, &SUMS) {
+    'links: while begins_sum(rest) {
         let ((sign, right), after) = sum_link(alloc, rest, depth)?;
         left = join(alloc, binary_of(terminal_of(sign)), sign.place, left, right)?;
         rest = after;
@@ -230,7 +233,7 @@ fn relation_link<'a>(
     ensures { Gives (λ x. ((x.0.0.now, view x.0.1), x.1.now)) result
         (read_link relations (read_level sums (read_level products (read_operand depth))) tokens.now) }
 {
-    let (sign, rest) = expect(tokens, &RELATIONS)?;
+    let (sign, rest) = relation_sign(tokens)?;
     let (right, rest) = sum(alloc, rest, depth)?;
     Ok(((sign, right), rest))
 }
@@ -248,7 +251,7 @@ pub fn expr<'a>(
     let (first, after) = sum(alloc, tokens, depth)?;
     let mut left = first;
     let mut rest = after;
-    'links: while starts(rest, &RELATIONS) {
+    'links: while begins_relation(rest) {
         let ((sign, right), after) = relation_link(alloc, rest, depth)?;
         left = join(alloc, binary_of(terminal_of(sign)), sign.place, left, right)?;
         rest = after;

@@ -4,7 +4,6 @@
 mod expressions;
 mod lists;
 mod operands;
-mod signs;
 mod words;
 
 pub use expressions::{expr, set_at};

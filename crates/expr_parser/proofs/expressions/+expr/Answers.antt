@@ -18,7 +18,7 @@ product-links-smaller t c = product_link_shorter c.args.depth c.links.rest.now (
 pub product-links-preserved : goal.product-links-preserved
 product-links-preserved t c =
     rw (c.in_ok-left.ensures, c.binary_of.ensures, c.terminal_of.ensures) (chain_turn joined (among products) (read_operand c.args.depth) (read_link products (read_operand c.args.depth)) (product_link_shorter c.args.depth) (view c.links.left) c.links.rest.now ((c.in_ok-sign.sign.now, view c.in_ok-sign.right), c.in_ok-sign.after.now)
-    (read_level products (read_operand c.args.depth) c.args.tokens.now) (sym c.starts.ensures ∙ c.links-test.true) c.in_ok-sign.ensures c.links.invariant)
+    (read_level products (read_operand c.args.depth) c.args.tokens.now) (sym c.begins_product.ensures ∙ c.links-test.true) c.in_ok-sign.ensures c.links.invariant)
 
 pub sum-links-smaller : goal.sum-links-smaller
 sum-links-smaller t c = sum_link_shorter c.args.depth c.links.rest.now ((c.in_ok-sign.sign.now, view c.in_ok-sign.right), c.in_ok-sign.after.now) c.in_ok-sign.ensures
@@ -26,7 +26,7 @@ sum-links-smaller t c = sum_link_shorter c.args.depth c.links.rest.now ((c.in_ok
 pub sum-links-preserved : goal.sum-links-preserved
 sum-links-preserved t c =
     rw (c.in_ok-left.ensures, c.binary_of.ensures, c.terminal_of.ensures) (chain_turn joined (among sums) (read_level products (read_operand c.args.depth)) (read_link sums (read_level products (read_operand c.args.depth))) (sum_link_shorter c.args.depth) (view c.links.left) c.links.rest.now ((c.in_ok-sign.sign.now, view c.in_ok-sign.right), c.in_ok-sign.after.now)
-    (read_level sums (read_level products (read_operand c.args.depth)) c.args.tokens.now) (sym c.starts.ensures ∙ c.links-test.true) c.in_ok-sign.ensures c.links.invariant)
+    (read_level sums (read_level products (read_operand c.args.depth)) c.args.tokens.now) (sym c.begins_sum.ensures ∙ c.links-test.true) c.in_ok-sign.ensures c.links.invariant)
 
 pub expr-links-smaller : goal.expr-links-smaller
 expr-links-smaller t c = relation_link_shorter c.args.depth c.links.rest.now ((c.in_ok-sign.sign.now, view c.in_ok-sign.right), c.in_ok-sign.after.now) c.in_ok-sign.ensures
@@ -34,7 +34,7 @@ expr-links-smaller t c = relation_link_shorter c.args.depth c.links.rest.now ((c
 pub expr-links-preserved : goal.expr-links-preserved
 expr-links-preserved t c =
     rw (c.in_ok-left.ensures, c.binary_of.ensures, c.terminal_of.ensures) (chain_turn joined (among relations) (read_level sums (read_level products (read_operand c.args.depth))) (read_link relations (read_level sums (read_level products (read_operand c.args.depth)))) (relation_link_shorter c.args.depth) (view c.links.left) c.links.rest.now ((c.in_ok-sign.sign.now, view c.in_ok-sign.right), c.in_ok-sign.after.now)
-    (read_expr c.args.depth c.args.tokens.now) (sym c.starts.ensures ∙ c.links-test.true) c.in_ok-sign.ensures c.links.invariant)
+    (read_expr c.args.depth c.args.tokens.now) (sym c.begins_relation.ensures ∙ c.links-test.true) c.in_ok-sign.ensures c.links.invariant)
 
 pub members-list-smaller : goal.members-list-smaller
 members-list-smaller t c =

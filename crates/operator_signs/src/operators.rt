@@ -1,4 +1,4 @@
-//! The signs of operators.
+//! The operators that signs are.
 
 ghost use Rattle.std.specs.Prelude.{◌≡◌, IfOk};
 ghost use Rattle.abel_tree.specs.Tree.{ABinary};
@@ -9,32 +9,6 @@ use abel_syntax::Terminal;
 use abel_tree::{Binary, Expr, Unary};
 use pld_base::{Boxed, OutOfMemory, Place};
 use std::alloc::Global;
-
-pub const PRODUCTS: [Terminal; 6] = [
-    Terminal::And,
-    Terminal::ShiftLeft,
-    Terminal::ShiftRight,
-    Terminal::Times,
-    Terminal::Over,
-    Terminal::Rest,
-];
-
-pub const SUMS: [Terminal; 5] = [
-    Terminal::Plus,
-    Terminal::Minus,
-    Terminal::Or,
-    Terminal::Xor,
-    Terminal::Xnor,
-];
-
-pub const RELATIONS: [Terminal; 6] = [
-    Terminal::IsEqual,
-    Terminal::Unequal,
-    Terminal::Less,
-    Terminal::LessEqual,
-    Terminal::Greater,
-    Terminal::GreaterEqual,
-];
 
 /// The operator that a terminal is.
 pub fn binary_of(sign: Terminal) -> Binary
