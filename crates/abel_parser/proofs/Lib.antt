@@ -1,3 +1,1 @@
-mod LastState
 mod Refused
-mod Stops

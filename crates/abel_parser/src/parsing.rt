@@ -10,10 +10,10 @@ ghost use Rattle.abel_syntax.specs.Modules as grammar;
 ghost use Rattle.abel_parser.specs.Refusals.{place_at, IsAccepted, IsRefused};
 
 use crate::fault::ParseFault;
-use crate::module::source;
 use abel_lexer::Token;
 use abel_syntax::Halt;
 use abel_tree::Module;
+use module_parser::source;
 use pld_base::Place;
 use std::alloc::Global;
 

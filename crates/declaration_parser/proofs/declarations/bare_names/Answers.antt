@@ -1,0 +1,1 @@
+use Rattle.declaration_parser.proofs.declarations.bare_names.Goals as goal

@@ -1,0 +1,7 @@
+//! Statements from tokens.
+#![tactic(auto)]
+
+mod assignments;
+mod statements;
+
+pub use statements::{plain, stmts};
