@@ -2,7 +2,7 @@
 use Rattle.std.proofs.Common.{◌≡◌, ℕ, ◌≤◌, ◌⊎◌, List, [], ◌∷◌, ◌++◌, get_or, map, Option, Some, None, refl, sym, ◌∙◌, ap, subst, inl, inr, arith}
 use Rattle.std.specs.Prelude.{unwrap_or}
 use Rattle.std.proofs.lemmas.Option.{none-some}
-use Rattle.outside.specs.Outside.{Map, bytes_at, SameFiles, SameBut}
+use Rattle.outside.specs.Outside.{Map, bytes_at}
 use Rattle.abel_compile.specs.declared.compiled.Compiled.{Compiled}
 use Rattle.abel_compile.specs.Correct.{IsCompiled}
 use Rattle.abel_cli.specs.Call.{Asked, Heard}
@@ -10,13 +10,12 @@ use Rattle.source_files.specs.Counts.{HasRisen, HasStayed}
 use Rattle.compile_phases.specs.Devices.{table_of}
 use Rattle.abel_commands.specs.Ending.{Ending, Output, memory_line, file_fault}
 use Rattle.abel_cli.specs.Telling.{Puts, TakesFront, TakesFrontAndMemory}
-use Rattle.abel_cli.specs.Promises.{MeansOn, IsMeant, IsOutput, EndsAsCalled, EndsInFileFault, LeavesFiles, Promises}
+use Rattle.abel_cli.specs.Promises.{MeansOn, IsMeant, EndsAsCalled, EndsInFileFault, LeavesFiles, Promises}
 use Rattle.abel_cli.specs.Right.{IsRight, IsRightOrOld}
 use Rattle.abel_cli.specs.Run.{Ends, Means, CallsFor, IsCalledFor, Comes, Runs}
 use Rattle.abel_commands.specs.SourceCommands.{written, listed}
 use Rattle.source_files.specs.Sources.{source_at}
-use Rattle.abel_cli.specs.Sources.{sources_of}
-use Rattle.abel_commands.specs.Words.{Command, Task, Compile, ListSource, Simulate, Check, Demo, IsCompile, IsInput, command_of}
+use Rattle.abel_commands.specs.Words.{Command, Task, Compile, ListSource, Simulate, Check, Demo, IsCompile, command_of}
 use Rattle.abel_commands.proofs.CheckMeaning.{check_means}
 use Rattle.abel_commands.proofs.Commands.{inputs_counted, one_only}
 use Rattle.demo_command.proofs.DemoMeaning.{demo_means}

@@ -1,5 +1,5 @@
 -- What a report took where memory ran out before any of its text was put.
-use Rattle.std.proofs.Common.{◌≡◌, ℕ, List, [], refl, sym, inr}
+use Rattle.std.proofs.Common.{◌≡◌, [], refl, sym, inr}
 use Rattle.std.proofs.lemmas.List.{append-nil}
 use Rattle.abel_cli.specs.Call.{Heard}
 use Rattle.abel_commands.specs.Ending.{Ending, memory_line}

@@ -1,5 +1,5 @@
 -- What a command comes to with its own sources, before anything is written (used inside this crate alone).
-use Rattle.std.specs.Prelude.{ℕ, List, Contains}
+use Rattle.std.specs.Prelude.{Contains}
 use Rattle.outside.specs.Outside.{Map}
 use Rattle.abel_commands.specs.declared.ending.Outcome.{Outcome}
 use Rattle.abel_commands.specs.declared.ending.Outcome.TheVariants as outcome
