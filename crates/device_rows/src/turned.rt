@@ -11,7 +11,7 @@ impl Device for Turned {
     ghost use Rattle.std.specs.Prelude.{Some, refl};
     ghost use Rattle.pld_base.specs.declared.device_name.DeviceName.TheVariants.{GAL22V10};
     ghost use Rattle.pld_device.specs.declared.flip.Flip.TheVariants.{BeforeRegister};
-    ghost use Rattle.device_samples.specs.TurnedTable.{turned, turned_sound};
+    ghost use Rattle.device_rows.specs.TurnedTable.{turned, turned_sound};
 
     const NAME: DeviceName = DeviceName::GAL22V10;
 

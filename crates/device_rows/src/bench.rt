@@ -13,7 +13,7 @@ impl Device for Bench {
     ghost use Rattle.std.specs.Prelude.{None, refl};
     ghost use Rattle.pld_base.specs.declared.device_name.DeviceName.TheVariants.{GAL22V10};
     ghost use Rattle.pld_device.specs.declared.flip.Flip.TheVariants.{AfterRegister};
-    ghost use Rattle.device_samples.specs.BenchTable.{bench, bench_sound};
+    ghost use Rattle.device_rows.specs.BenchTable.{bench, bench_sound};
 
     const NAME: DeviceName = DeviceName::GAL22V10;
 
