@@ -4,15 +4,20 @@
 mod asked;
 mod bench;
 mod cells;
+mod drawn;
+mod file_texts;
+mod listings;
 mod loading;
 mod lookups;
 mod numbers;
 mod pins;
+mod reading;
 mod simulating;
 mod sums;
 mod texts;
 mod trio;
 mod turned;
+mod writing;
 
 use std::alloc::Global;
 use std::io;
@@ -26,6 +31,10 @@ fn ask_section(alloc: Global, section: &Section<'_>, report: &mut Report<'_>) ->
         || sums::ask_sums(alloc, section, report)
         || loading::ask_loading(alloc, section, report)
         || simulating::ask_vectors(alloc, section, report)
+        || reading::ask_reading(alloc, section, report)
+        || writing::ask_writing(alloc, section, report)
+        || listings::ask_listings(alloc, section, report)
+        || drawn::ask_drawn(alloc, section, report)
 }
 
 /// What is found of a section.
