@@ -2,16 +2,6 @@
 #![tactic(auto)]
 
 #[cfg(test)]
-mod bits;
-#[cfg(test)]
 mod cubes;
-#[cfg(test)]
-mod graphs;
-#[cfg(test)]
-mod memory_files;
-#[cfg(test)]
-mod real_files;
-#[cfg(test)]
-mod shift_register;
 #[cfg(test)]
 mod values;

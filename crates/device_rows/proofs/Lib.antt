@@ -1,1 +1,2 @@
+mod ShifterOrdered
 mod TestVectors

@@ -3,15 +3,23 @@
 
 mod asked;
 mod bench;
+mod bits;
+mod calls;
 mod cells;
 mod drawn;
 mod file_texts;
+mod full_disk;
+mod graphs;
 mod listings;
 mod loading;
 mod lookups;
+mod memory_files;
 mod numbers;
 mod pins;
 mod reading;
+mod real_files;
+mod shift_register;
+mod shifting;
 mod simulating;
 mod sums;
 mod texts;
@@ -35,6 +43,8 @@ fn ask_section(alloc: Global, section: &Section<'_>, report: &mut Report<'_>) ->
         || writing::ask_writing(alloc, section, report)
         || listings::ask_listings(alloc, section, report)
         || drawn::ask_drawn(alloc, section, report)
+        || graphs::ask_graphs(alloc, section, report)
+        || shifting::ask_shifting(alloc, section, report)
 }
 
 /// What is found of a section.
@@ -46,7 +56,7 @@ fn found_of(alloc: Global, section: &Section<'_>) -> Found {
     report.end()
 }
 
-/// Runs the sections of standard input.
+/// Runs the sections of standard input, and then the tests that are no rows.
 fn main(rt: HostRuntime) -> io::Result<()> {
     let alloc = rt.alloc();
     let text = io::read_to_string(alloc, rt.stdin())?;
@@ -55,5 +65,5 @@ fn main(rt: HostRuntime) -> io::Result<()> {
         let found = found_of(alloc, section);
         out.write_all(found.bytes())?;
     }
-    Ok(())
+    calls::run_tests(&rt, &mut out)
 }

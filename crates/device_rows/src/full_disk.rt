@@ -1,22 +1,20 @@
-//! That the real files and standard output answer, in a folder of the test's own.
+//! Real files on a disk that is full.
 
-use outside::{Files, HostFiles, HostSink, ReadFault, Sink, WriteFault};
 use std::alloc::Allocator;
 use std::fs::{Metadata, OpenFile, OpenOptions, Permissions};
 use std::io::{ErrorKind, Read, Seek, SeekFrom, Write};
-use std::os::unix::fs::PermissionsExt;
 use std::path::PathBuf;
-use std::test::Fail;
-use std::{fs, io, rt};
+use std::{io, rt};
 
 /// The real files on a disk that has room for two bytes more in each file.
 #[derive(Drop)]
-struct FullDisk<R: rt::Files + Drop> {
-    real: R,
+pub struct FullDisk<R: rt::Files + Drop> {
+    pub real: R,
 }
 
+/// A file with room for so many bytes.
 #[derive(Drop)]
-struct FullFile<F: Drop> {
+pub struct FullFile<F: Drop> {
     real: F,
     room: usize,
 }
@@ -120,60 +118,4 @@ impl<R: rt::Files + Drop> rt::Files for FullDisk<R> {
     fn canonicalize<B: Allocator>(&self, alloc: B, path: &str) -> io::Result<PathBuf<B>> {
         self.real.canonicalize(alloc, path)
     }
-}
-
-#[test]
-fn the_real_files_and_standard_output_answer(rt: HostRuntime) -> Result<(), Fail> {
-    let alloc = rt.alloc();
-    let _ = fs::remove_dir_all(&rt, "abel_host_files");
-    fs::create_dir(&rt, "abel_host_files")?;
-    let mut files = HostFiles::new(alloc, &rt);
-    assert!(rt; files.write("abel_host_files/y1.jed", b"four") == Ok(()));
-    let back = files.read(alloc, "abel_host_files/y1.jed", 4)?;
-    assert_eq!(rt; back.as_slice(), b"four".as_slice());
-    assert!(rt; files.read(alloc, "abel_host_files/y1.jed", 3) == Err(ReadFault::TooLong));
-    assert!(rt; files.read(alloc, "abel_host_files/none", 4) == Err(ReadFault::Failed));
-    assert!(rt;
-        files.write("abel_host_files", b"four") == Err(WriteFault::Failed),
-        "a folder"
-    );
-    assert!(rt; files.write("no/such/file", b"four") == Err(WriteFault::Failed));
-    assert!(rt;
-        files.write("/dev/null", b"four") == Ok(()),
-        "no regular file"
-    );
-    let mut out = HostSink::new(alloc, rt.stdout());
-    assert!(rt; out.put(b"taken\n") == Ok(()));
-    fs::remove_dir_all(&rt, "abel_host_files")?;
-    Ok(())
-}
-
-#[test]
-fn a_file_is_replaced_in_one_piece_or_stands(rt: HostRuntime) -> Result<(), Fail> {
-    let alloc = rt.alloc();
-    let _ = fs::remove_dir_all(&rt, "abel_host_replaced");
-    fs::create_dir(&rt, "abel_host_replaced")?;
-    let mut files = HostFiles::new(alloc, &rt);
-    assert!(rt; files.write("abel_host_replaced/old", b"old bytes") == Ok(()));
-    fs::set_permissions(&rt, "abel_host_replaced/old", Permissions::from_mode(0o640))?;
-    rt::Files::symlink(&rt, "old", "abel_host_replaced/link")?;
-    let mut full = HostFiles::new(alloc, FullDisk { real: &rt });
-    assert!(rt; full.write("abel_host_replaced/link", b"new bytes") == Err(WriteFault::Failed));
-    let left = files.read(alloc, "abel_host_replaced/link", 9)?;
-    assert_eq!(rt; left.as_slice(), b"old bytes".as_slice());
-    assert!(rt;
-        !fs::exists(&rt, "abel_host_replaced/old.new0")?,
-        "the new file is removed"
-    );
-    assert!(rt; files.write("abel_host_replaced/link", b"new bytes") == Ok(()));
-    let left = files.read(alloc, "abel_host_replaced/old", 9)?;
-    assert_eq!(rt; left.as_slice(), b"new bytes".as_slice());
-    let link = fs::symlink_metadata(&rt, "abel_host_replaced/link")?;
-    assert!(rt; link.is_symlink(), "the link stays one");
-    let mode = fs::metadata(&rt, "abel_host_replaced/old")?
-        .permissions()
-        .mode();
-    assert_eq!(rt; mode % 0o1000, 0o640);
-    fs::remove_dir_all(&rt, "abel_host_replaced")?;
-    Ok(())
 }

@@ -1,5 +1,0 @@
-use Rattle.base_samples.proofs.ShifterOrdered.{shifter_ordered}
-use Rattle.base_samples.proofs.shift_register.at_rest.Goals as goal
-
-pub rest-requires : goal.rest-requires
-rest-requires c = shifter_ordered

@@ -1,5 +1,0 @@
-use Rattle.base_samples.proofs.ShifterOrdered.{shifter_ordered}
-use Rattle.base_samples.proofs.shift_register.shown.Goals as goal
-
-pub trace-requires : goal.trace-requires
-trace-requires c = shifter_ordered.has_pins
