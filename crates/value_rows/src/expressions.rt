@@ -1,0 +1,189 @@
+//! Expressions: their shapes, their bits at a point, and their refusals.
+
+ghost use Rattle.std.specs.Prelude.{length};
+ghost use Rattle.bit_expr.specs.Arena.{arena};
+ghost use Rattle.set_expr.specs.Answer.{AreIn};
+ghost use Rattle.abel_tree.specs.Entries.{entries_of};
+ghost use Rattle.set_expr.specs.KnownNames.{IsKnown};
+ghost use Rattle.expr_bits.specs.Placed.{ArePlaced};
+
+use crate::places::{put_blank, put_fault, put_shape};
+use crate::sources::{Source, source_of};
+use abel_tree::{Expr, Module, Section, Stmt};
+use bit_expr::{ExprId, Exprs};
+use expr_bits::bits;
+use pld_base::Point;
+use pld_device::Sample;
+use section_targets::meet;
+use set_expr::{Shaped, check, check_constants};
+use std::alloc::Global;
+use test_rows::Found;
+
+/// What stands before the text of a row, which is the value of the one equation.
+const FRONT: &str = "it pin 9; equations it =";
+
+/// Pins 1 and 3 are high, and node 5 is 1.
+const HERE: Point = Point {
+    pins: 10,
+    q: 0,
+    nodes: 32,
+};
+
+/// The value of the one equation.
+fn value_of(module: &Module) -> Option<&Expr> {
+    match module.sections.as_slice() {
+        [Section::Equations(list)] => match list.as_slice() {
+            [Stmt::Assign(assign)] => Some(&assign.value),
+            _ => None,
+        },
+        _ => None,
+    }
+}
+
+/// The shape of an expression, or its first refusal.
+fn put_checked(alloc: Global, source: &Source, found: &mut Found) -> Option<()>
+    requires known { IsKnown (entries_of source.now.names) source.now.known }
+{
+    let expr = value_of(&source.module)?;
+    match check(alloc, &source.names, &source.known, expr) {
+        Ok(checked) => match (checked.fault, checked.shape) {
+            (None, Some(shape)) => put_shape(shape, found),
+            (fault, _) => put_fault(fault, found),
+        },
+        Err(_) => return None,
+    }
+    Some(())
+}
+
+/// The first X of an expression, as what it is refused as where it may not stand.
+fn put_special(alloc: Global, source: &Source, found: &mut Found) -> Option<()>
+    requires known { IsKnown (entries_of source.now.names) source.now.known }
+{
+    let expr = value_of(&source.module)?;
+    match check(alloc, &source.names, &source.known, expr) {
+        Ok(checked) => put_fault(checked.special, found),
+        Err(_) => return None,
+    }
+    Some(())
+}
+
+/// The number at the point, with 0 at X.
+fn number_at(exprs: &Exprs, places: &[Option<ExprId>]) -> u32
+    requires { AreIn (length (arena exprs.now)) places.now }
+{
+    let mut number = 0u32;
+    for index in 0..places.len().min(32) {
+        if let Some(id) = places[index] {
+            if exprs.eval(id, &HERE) {
+                number |= 1 << index;
+            }
+        }
+    }
+    number
+}
+
+/// A bit for each position that is X.
+fn unknown_at(places: &[Option<ExprId>]) -> u32 {
+    let mut unknown = 0u32;
+    for index in 0..places.len().min(32) {
+        if places[index].is_none() {
+            unknown |= 1 << index;
+        }
+    }
+    unknown
+}
+
+/// The shape of an expression, its number at the point, and its X positions; or its first refusal.
+fn put_value(alloc: Global, source: &Source, found: &mut Found) -> Option<()>
+    requires known { IsKnown (entries_of source.now.names) source.now.known }
+    requires placed { ArePlaced source.now.names }
+{
+    let expr = value_of(&source.module)?;
+    let mut exprs = Exprs::new(alloc);
+    match bits::<Sample>(alloc, &source.names, &source.known, expr, &mut exprs) {
+        Ok(shaped) => {
+            let number = number_at(&exprs, shaped.places.as_slice());
+            let unknown = unknown_at(shaped.places.as_slice());
+            put_shape(shaped.shape, found);
+            found.text(", ");
+            found.number(number as usize);
+            found.text(", ");
+            found.number(unknown as usize)
+        }
+        Err(fault) => put_fault(Some(fault), found),
+    }
+    Some(())
+}
+
+/// The bits of an expression that isn't refused.
+fn shaped_of(alloc: Global, source: &Source) -> Option<Shaped>
+    requires known { IsKnown (entries_of source.now.names) source.now.known }
+    requires placed { ArePlaced source.now.names }
+{
+    let expr = value_of(&source.module)?;
+    let mut exprs = Exprs::new(alloc);
+    match bits::<Sample>(alloc, &source.names, &source.known, expr, &mut exprs) {
+        Ok(shaped) => Some(shaped),
+        Err(_) => None,
+    }
+}
+
+/// The shape of the bits of an expression. They are made and not valued, since they may share their nodes.
+fn put_width(alloc: Global, source: &Source, found: &mut Found) -> Option<()>
+    requires known { IsKnown (entries_of source.now.names) source.now.known }
+    requires placed { ArePlaced source.now.names }
+{
+    let shaped = shaped_of(alloc, source)?;
+    put_shape(shaped.shape, found);
+    Some(())
+}
+
+/// The ids of an expression in so many positions, the rightmost first.
+fn put_met(alloc: Global, source: &Source, width: usize, found: &mut Found) -> Option<()>
+    requires known { IsKnown (entries_of source.now.names) source.now.known }
+    requires placed { ArePlaced source.now.names }
+{
+    let shaped = shaped_of(alloc, source)?;
+    match meet(alloc, &shaped, width) {
+        Ok(ids) => {
+            for id in ids.as_slice() {
+                put_blank(found);
+                found.number(id.0);
+            }
+            Some(())
+        }
+        Err(_) => None,
+    }
+}
+
+/// The first refusal of the constants of a row.
+fn put_constants(alloc: Global, names: &Found, text: &str, found: &mut Found) -> Option<()> {
+    let source = source_of::<Sample>(alloc, names, "", text, "")?;
+    put_fault(check_constants(&source.names, &source.known).err(), found);
+    Some(())
+}
+
+/// Puts what is asked of an expression.
+pub(crate) fn ask(
+    alloc: Global,
+    question: &str,
+    names: &Found,
+    text: &str,
+    found: &mut Found,
+) -> Option<()> {
+    if question == "constants" {
+        return put_constants(alloc, names, text, found);
+    }
+    let source = source_of::<Sample>(alloc, names, FRONT, text, ";")?;
+    if let Some(width) = question.strip_prefix("ids in positions, ") {
+        return put_met(alloc, &source, width.parse::<usize>().ok()?, found);
+    }
+    match question {
+        "shapes" => put_checked(alloc, &source, found),
+        "refusals" => put_checked(alloc, &source, found),
+        "sums that double" => put_checked(alloc, &source, found),
+        "first X" => put_special(alloc, &source, found),
+        "widths of bits" => put_width(alloc, &source, found),
+        _ => put_value(alloc, &source, found),
+    }
+}

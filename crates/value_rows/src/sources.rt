@@ -1,0 +1,83 @@
+//! From the text of a row to a module and its names.
+
+ghost use Rattle.std.specs.Prelude.{IfSome};
+ghost use Rattle.abel_tree.specs.Entries.{entries_of};
+ghost use Rattle.expr_bits.specs.Placed.{ArePlaced};
+ghost use Rattle.row_entries.specs.EntryTerms.{AreInOrder};
+ghost use Rattle.set_expr.specs.KnownNames.{IsKnown};
+
+use abel_tree::{Module, Names};
+use declared_names::declare;
+use module_reader::read_module;
+use pld_device::Device;
+use set_expr::{KnownNames, known_names};
+use std::alloc::Global;
+use test_rows::Found;
+
+/// The line of a source on which the text of a row stands, from its first column on.
+pub(crate) const ROW: u32 = 4;
+
+/// More bytes than any source of a row has.
+const LONGEST: usize = 100_000;
+
+/// A module with its names, and what is known of them.
+#[derive(Drop)]
+pub(crate) struct Source {
+    pub(crate) module: Module,
+    pub(crate) names: Names,
+    pub(crate) known: KnownNames,
+}
+
+/// The module that declares these names, and goes on with the row's text between two others.
+fn module_of(alloc: Global, names: &Found, front: &str, text: &str, back: &str) -> Option<Module> {
+    let mut source = Found::new(alloc);
+    source.text("module m\n");
+    source.put(names.bytes());
+    source.text("\n");
+    source.text(front);
+    source.text("\n");
+    source.text(text);
+    source.text(back);
+    source.text("\nend\n");
+    let bytes = source.bytes();
+    if bytes.len() > LONGEST {
+        return None;
+    }
+    read_module(alloc, bytes).ok()
+}
+
+/// The names of a module for a device.
+fn names_of<D: Device>(alloc: Global, module: &Module) -> Option<Names>
+    ensures order { IfSome result (λ n. AreInOrder (entries_of n)) }
+    ensures placed { IfSome result (λ n. ArePlaced n) }
+{
+    match declare::<D>(alloc, module) {
+        Ok(names) => Some(names),
+        Err(_) => None,
+    }
+}
+
+/// The source of a row for a device.
+pub(crate) fn source_of<D: Device>(
+    alloc: Global,
+    names: &Found,
+    front: &str,
+    text: &str,
+    back: &str,
+) -> Option<Source>
+    ensures known { IfSome result (λ s. IsKnown (entries_of s.names) s.known) }
+    ensures order { IfSome result (λ s. AreInOrder (entries_of s.names)) }
+    ensures placed { IfSome result (λ s. ArePlaced s.names) }
+{
+    let module = module_of(alloc, names, front, text, back)?;
+    let names = names_of::<D>(alloc, &module)?;
+    let known = match known_names(alloc, &names) {
+        Ok(known) => known,
+        Err(_) => return None,
+    };
+    Some(Source {
+        module,
+        names,
+        known,
+    })
+}

@@ -1,0 +1,108 @@
+//! Truth tables: their first refusals, and what they contribute.
+
+ghost use Rattle.abel_tree.specs.Entries.{entries_of};
+ghost use Rattle.set_expr.specs.KnownNames.{IsKnown};
+ghost use Rattle.row_entries.specs.EntryTerms.{AreInOrder};
+ghost use Rattle.expr_bits.specs.Placed.{ArePlaced};
+
+use crate::places::{put_blank, put_fault, put_place};
+use crate::sources::{Source, source_of};
+use abel_tree::{Module, Section, Table};
+use bit_expr::{ExprId, Exprs};
+use pal16_device::Pal16L8;
+use section_targets::Assigned;
+use set_expr::{Contribution, Gives, Guard};
+use std::alloc::Global;
+use table_contributions::build_table;
+use table_refusals::check_table;
+use test_rows::Found;
+
+/// The table is the first block.
+const FIRST: Guard = Guard {
+    when: ExprId(1),
+    dontcare: false,
+    block: Some(0),
+};
+
+/// The table that is the one section.
+fn table_of(module: &Module) -> Option<&Table> {
+    match module.sections.as_slice() {
+        [Section::Table(table)] => Some(table),
+        _ => None,
+    }
+}
+
+/// The first refusal of the table.
+fn put_refusal(alloc: Global, source: &Source, found: &mut Found) -> Option<()>
+    requires known { IsKnown (entries_of source.now.names) source.now.known }
+    requires order { AreInOrder (entries_of source.now.names) }
+{
+    let table = table_of(&source.module)?;
+    let mut before = Assigned::new(alloc);
+    match check_table::<Pal16L8>(alloc, &source.names, &source.known, table, &mut before) {
+        Ok(fault) => put_fault(fault, found),
+        Err(_) => return None,
+    }
+    Some(())
+}
+
+/// What a contribution says: its signal, its kind, its bit and its place.
+fn put_contribution(given: &Contribution, found: &mut Found) {
+    put_blank(found);
+    found.number(given.target.signal as usize);
+    found.text(match given.what {
+        Gives::One => " One ",
+        Gives::Any => " Any ",
+        Gives::Match => " Match ",
+    });
+    found.number(given.when.0);
+    found.text(" ");
+    put_place(given.place, found);
+    found.text(";")
+}
+
+/// What the table contributes.
+fn put_given(alloc: Global, source: &Source, found: &mut Found) -> Option<()>
+    requires known { IsKnown (entries_of source.now.names) source.now.known }
+    requires order { AreInOrder (entries_of source.now.names) }
+    requires placed { ArePlaced source.now.names }
+{
+    let (names, known) = (&source.names, &source.known);
+    let table = table_of(&source.module)?;
+    let mut exprs = Exprs::new(alloc);
+    let mut list: Vec<Contribution> = Vec::new(alloc);
+    let mut before = Assigned::new(alloc);
+    match build_table::<Pal16L8>(
+        alloc,
+        names,
+        known,
+        FIRST,
+        table,
+        &mut before,
+        &mut exprs,
+        &mut list,
+    ) {
+        Ok(()) => {
+            for given in list.as_slice() {
+                put_contribution(given, found);
+            }
+            Some(())
+        }
+        Err(_) => None,
+    }
+}
+
+/// Puts what is asked of a table.
+pub(crate) fn ask(
+    alloc: Global,
+    question: &str,
+    names: &Found,
+    text: &str,
+    found: &mut Found,
+) -> Option<()> {
+    let source = source_of::<Pal16L8>(alloc, names, "", text, "")?;
+    match question {
+        "refusals" => put_refusal(alloc, &source, found),
+        _ => put_given(alloc, &source, found),
+    }
+}

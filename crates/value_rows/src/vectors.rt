@@ -1,0 +1,146 @@
+//! Test vectors: their characters, and their refusals; headers and entries by themselves.
+
+ghost use Rattle.abel_tree.specs.Entries.{entries_of};
+ghost use Rattle.set_expr.specs.KnownNames.{IsKnown};
+ghost use Rattle.row_entries.specs.EntryTerms.{AreInOrder};
+
+use crate::places::{put_blank, put_fault};
+use crate::sources::{ROW, Source, source_of};
+use abel_tree::{Expr, Module, Section, Vectors};
+use abel_vectors::{Side, read_side, vectors};
+use pld_base::Place;
+use pld_device::Sample;
+use row_entries::{Entry, Mark, read_entry};
+use set_expr::SectionFault;
+use std::alloc::Global;
+use test_rows::Found;
+
+/// Where the text of a row begins.
+const HERE: Place = Place {
+    line: ROW,
+    column: 1,
+};
+
+/// The characters of the vectors of the one section, behind so many, or its first refusal.
+fn put_chars(alloc: Global, source: &Source, before: u32, found: &mut Found) -> Option<()>
+    requires known { IsKnown (entries_of source.now.names) source.now.known }
+    requires order { AreInOrder (entries_of source.now.names) }
+{
+    let (names, known) = (&source.names, &source.known);
+    let [section] = source.module.sections.as_slice() else {
+        return None;
+    };
+    if before > 9999 {
+        return None;
+    }
+    match vectors::<Sample>(alloc, names, known, section, before) {
+        Ok(list) => {
+            for vector in list.as_slice() {
+                put_blank(found);
+                found.put(vector.chars.split_at(10).0);
+            }
+        }
+        Err(fault) => put_fault(Some(fault), found),
+    }
+    Some(())
+}
+
+/// The vectors that are the one section.
+fn vectors_of(module: &Module) -> Option<&Vectors> {
+    match module.sections.as_slice() {
+        [Section::Vectors(vectors)] => Some(vectors),
+        _ => None,
+    }
+}
+
+/// The pins of a side of a header by their numbers as names.
+fn put_pins(pins: &[Option<u32>], found: &mut Found) {
+    for pin in pins {
+        put_blank(found);
+        match *pin {
+            Some(name) => found.number(name as usize),
+            None => found.text("X"),
+        }
+    }
+}
+
+/// The inputs of the header, or their refusal.
+fn put_side(alloc: Global, source: &Source, found: &mut Found) -> Option<()>
+    requires known { IsKnown (entries_of source.now.names) source.now.known }
+    requires order { AreInOrder (entries_of source.now.names) }
+{
+    let header = &vectors_of(&source.module)?.inputs;
+    match read_side(alloc, &source.names, &source.known, HERE, header) {
+        Ok(Side::Pins(pins)) => put_pins(pins.as_slice(), found),
+        Ok(Side::Refused(fault)) => put_fault(Some(fault), found),
+        Err(_) => return None,
+    }
+    Some(())
+}
+
+fn mark_text(mark: Mark) -> &'static str {
+    match mark {
+        Mark::Level(false) => "0",
+        Mark::Level(true) => "1",
+        Mark::Unknown => "X",
+        Mark::Pulsed => "C",
+        Mark::Released => "Z",
+    }
+}
+
+/// The inputs of the header and of the one row.
+fn entry_of(vectors: &Vectors) -> Option<(&Expr, &Expr)> {
+    match vectors.rows.as_slice() {
+        [row] => Some((&vectors.inputs, &row.inputs)),
+        _ => None,
+    }
+}
+
+/// What the entry of the one row says of each position of the header, or its refusal.
+fn put_entry(alloc: Global, source: &Source, found: &mut Found) -> Option<()>
+    requires known { IsKnown (entries_of source.now.names) source.now.known }
+    requires order { AreInOrder (entries_of source.now.names) }
+{
+    let (header, entry) = entry_of(vectors_of(&source.module)?)?;
+    let row = SectionFault::BadRow(HERE);
+    match read_entry(alloc, &source.names, &source.known, row, header, entry) {
+        Ok(Entry::Marks(marks)) => {
+            for mark in marks.as_slice() {
+                put_blank(found);
+                found.text(mark_text(*mark));
+            }
+        }
+        Ok(Entry::Refused(fault)) => put_fault(Some(fault), found),
+        Err(_) => return None,
+    }
+    Some(())
+}
+
+/// What stands before and behind the text of a row.
+fn around(question: &str) -> (&'static str, &'static str) {
+    match question {
+        "entries" => ("test_vectors ([.X.,[.X.,.X.]] -> a)", " -> 0;"),
+        "headers" => ("test_vectors (", " -> a) 0 -> 0;"),
+        _ => ("", ""),
+    }
+}
+
+/// Puts what is asked of vectors.
+pub(crate) fn ask(
+    alloc: Global,
+    question: &str,
+    names: &Found,
+    text: &str,
+    found: &mut Found,
+) -> Option<()> {
+    let (front, back) = around(question);
+    let source = source_of::<Sample>(alloc, names, front, text, back)?;
+    if let Some(count) = question.strip_prefix("behind ") {
+        return put_chars(alloc, &source, count.parse::<u32>().ok()?, found);
+    }
+    match question {
+        "entries" => put_entry(alloc, &source, found),
+        "headers" => put_side(alloc, &source, found),
+        _ => put_chars(alloc, &source, 0, found),
+    }
+}
