@@ -1,2 +1,0 @@
-pub mod MixedTable
-pub mod Named

@@ -1,0 +1,3 @@
+mod DrawnNames
+mod LinkLeaves
+mod PlacedNames

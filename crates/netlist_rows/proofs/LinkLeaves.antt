@@ -1,0 +1,13 @@
+-- Links that each have a leaf that may be there.
+use Rattle.std.proofs.Common.{zero, suc, List, [], ◌∷◌, subst}
+use Rattle.std.specs.Prelude.{All, IfSome}
+use Rattle.std.proofs.lemmas.List.Elements.{All-head, All-tail}
+use Rattle.bit_expr.specs.Arena.{IsLeaf}
+use Rattle.signal_chains.specs.declared.link.Link.{Link}
+use Rattle.signal_chains.specs.Links.{AreLeaves}
+use Rattle.netlist_rows.specs.Leaves.{HasLeaf}
+
+pub are_leaves : (rs : List Link) → All HasLeaf rs → AreLeaves rs
+are_leaves [] all v l is = absurd cc
+are_leaves (r ∷ rs) all zero l is = subst (λ o. IfSome o IsLeaf) is (All-head HasLeaf r rs all)
+are_leaves (r ∷ rs) all (suc v) l is = are_leaves rs (All-tail HasLeaf r rs all) v l is

@@ -1,0 +1,16 @@
+-- The design of sound names and accepted sections is accepted.
+use Rattle.abel_tree.specs.View.{view_module}
+use Rattle.netlist_rows.proofs.drawing.draw.Goals as goal
+
+pub returns-clause-drawn : goal.returns-clause-drawn
+returns-clause-drawn g c =
+    let names = c.in_ok-names.ensures in
+    let m = view_module c.args.module in
+    let accepted = c.names_are_accepted.ensures g.D.Device.table m c.in_ok-names.names names.entries names.sound names.apart names.buffers in
+    let found = c.in_ok-contributions.ensures.found.contributed in
+    record {
+      names = names.entries;
+      accepted = c.sound_modules_are_accepted.ensures g.D.Device.table m (record { pins = accepted.pins; nodes = accepted.nodes; buffers = accepted.buffers }) found.accepted;
+      gives = found.gives;
+      inside = found.inside;
+    }

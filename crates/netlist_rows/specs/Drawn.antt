@@ -1,0 +1,20 @@
+-- What is known of a source whose sections are read (this project's rule).
+use Rattle.std.specs.Prelude.{◌≡◌, length}
+use Rattle.pld_device.specs.Table.{Table}
+use Rattle.bit_expr.specs.Arena.{arena}
+use Rattle.abel_tree.specs.Entries.{entries_of}
+use Rattle.abel_tree.specs.View.{view_module}
+use Rattle.accepted_designs.specs.Accepted.{IsAccepted}
+use Rattle.abel_meaning.specs.Designs.{design_of}
+use Rattle.abel_meaning.specs.Kinds.{names_of}
+use Rattle.abel_meaning.specs.SignalReads.{given_formulas}
+use Rattle.set_expr.specs.Given.{given}
+use Rattle.signal_sums.specs.Parts.{AllLieIn}
+use Rattle.netlist_rows.specs.declared.drawing.Drawn.{Drawn}
+
+-- its names are those of its module, which is accepted, and its contributions those of the module's sections
+pub record IsDrawn (t : Table) (d : Drawn) : Type 0 where
+  pub names : entries_of d.names ≡ names_of t (view_module d.module)
+  pub accepted : IsAccepted (design_of t (view_module d.module))
+  pub gives : given d.contributions ≡ given_formulas (design_of t (view_module d.module))
+  pub inside : AllLieIn (length (arena d.contributions.exprs)) d.contributions.list

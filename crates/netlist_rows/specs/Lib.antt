@@ -1,0 +1,4 @@
+pub mod Drawn
+pub mod Leaves
+pub mod MixedTable
+pub mod Named

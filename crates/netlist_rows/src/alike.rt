@@ -1,0 +1,56 @@
+//! Whether a device with its fuses does what its netlist says.
+
+ghost use Rattle.std.specs.Prelude.{◌≡◌, length};
+ghost use Rattle.pld_machine.specs.Order.{IsOrdered};
+ghost use Rattle.abel_meaning.specs.SoundIds.{IsSoundNetlist};
+
+use bit_expr::Netlist;
+use device_sim::load;
+use pld_base::Point;
+use pld_device::{Device, Fuses};
+use pld_machine::{Logic, rest, step};
+use source_machine::SourceLogic;
+use std::alloc::Global;
+
+/// No device of the tests has more cells, nor more pins.
+const STATES: u32 = 1 << 3;
+
+const LEVELS: u32 = 1 << 11;
+
+/// The clock is pin 1.
+const CLOCK: u32 = 1 << 1;
+
+/// The same pins and the same Qs.
+fn are_same(here: &Point, there: &Point) -> bool {
+    here.pins == there.pins && here.q == there.q
+}
+
+/// Whether both come to rest alike, and step alike as the clock's pin changes.
+fn turn_alike<A: Logic, B: Logic>(left: &A, right: &B, outside: u32, stored: u32) -> bool
+    requires left { IsOrdered (A.meaning left.now) }
+    requires right { IsOrdered (B.meaning right.now) }
+{
+    let here = rest(left, outside, stored);
+    let there = rest(right, outside, stored);
+    let turned = outside ^ CLOCK;
+    are_same(&here, &there) && are_same(&step(left, &here, turned), &step(right, &there, turned))
+}
+
+/// Whether the device does as the netlist, from each state and at all outside levels.
+pub(crate) fn runs_alike<D: Device>(alloc: Global, net: &Netlist, fuses: &Fuses) -> Option<bool>
+    requires sound { IsSoundNetlist D.table net.now }
+    requires size { length fuses.now ≡ D.table.fuses }
+{
+    let Ok(device) = load::<D>(alloc, fuses) else {
+        return None;
+    };
+    let source = SourceLogic::<D>::new(alloc, net).ok()?;
+    for stored in 0..STATES {
+        for levels in 0..LEVELS {
+            if !turn_alike(&device, &source, levels << 1, stored) {
+                return Some(false);
+            }
+        }
+    }
+    Some(true)
+}

@@ -1,0 +1,91 @@
+//! From a module to its netlist for a device.
+
+ghost use Rattle.std.specs.Prelude.{◌≤◌, IfSome, length};
+ghost use Rattle.abel_tree.specs.View.{view_module};
+ghost use Rattle.abel_meaning.specs.Designs.{design_of};
+ghost use Rattle.abel_meaning.specs.SoundIds.{IsSoundNetlist};
+ghost use Rattle.source_vectors.specs.AllSections.{AreSections};
+ghost use Rattle.netlist_rows.specs.Drawn.{IsDrawn};
+ghost use Rattle.netlist_rows.specs.Named.{AreNamesFor};
+
+use abel_tree::{Module, Names};
+use assigned_signals::sound_modules_are_accepted;
+use bit_expr::Netlist;
+use declared_names::declare;
+use design::gather;
+use named_designs::names_are_accepted;
+use pld_base::Vector;
+use pld_device::Device;
+use set_expr::{Contributions, known_names};
+use source_vectors::{SourceSections, all_sections};
+use std::alloc::Global;
+
+/// A module with its names, what its sections contribute, and its test vectors.
+#[derive(Drop)]
+pub(crate) struct Drawn {
+    pub(crate) module: Module,
+    pub(crate) names: Names,
+    pub(crate) contributions: Contributions,
+    pub(crate) vectors: Vec<Vector>,
+}
+
+/// The names of a module for a device.
+pub(crate) fn names_of<D: Device>(alloc: Global, source: &Module) -> Option<Names>
+    ensures { IfSome result (AreNamesFor D.table (view_module source.now)) }
+{
+    match declare::<D>(alloc, source) {
+        Ok(names) => Some(names),
+        Err(_) => None,
+    }
+}
+
+fn sections_of<D: Device>(alloc: Global, source: &Module, names: &Names) -> Option<SourceSections>
+    requires { AreNamesFor D.table (view_module source.now) names.now }
+    ensures found { IfSome result (AreSections (design_of D.table (view_module source.now))) }
+    ensures few { IfSome result (λ found. length found.vectors.items ≤ 9999) }
+{
+    let known = known_names(alloc, names).ok()?;
+    match all_sections::<D>(alloc, names, &known, source) {
+        Ok(found) => Some(found),
+        Err(_) => None,
+    }
+}
+
+/// A module with what is found of it, where nothing is refused of its names and its sections.
+pub(crate) fn draw<D: Device>(alloc: Global, module: Module) -> Option<Drawn>
+    ensures drawn { IfSome result (IsDrawn D.table) }
+    ensures few { IfSome result (λ d. length d.vectors.items ≤ 9999) }
+{
+    let names = names_of::<D>(alloc, &module)?;
+    let SourceSections {
+        contributions,
+        vectors,
+    } = sections_of::<D>(alloc, &module, &names)?;
+    names_are_accepted();
+    sound_modules_are_accepted();
+    Some(Drawn {
+        module,
+        names,
+        contributions,
+        vectors,
+    })
+}
+
+/// A netlist that the device can take, and the test vectors, where nothing is refused of the design.
+pub(crate) fn gathered<D: Device>(alloc: Global, drawn: Drawn) -> Option<(Netlist, Vec<Vector>)>
+    requires drawn { IsDrawn D.table drawn }
+    requires few { length drawn.vectors.items ≤ 9999 }
+    ensures sound { IfSome result (λ d. IsSoundNetlist D.table d.0) }
+    ensures few { IfSome result (λ d. length d.1.items ≤ 9999) }
+{
+    let Drawn {
+        module,
+        names,
+        contributions,
+        vectors,
+    } = drawn;
+    match gather::<D>(alloc, &module, &names, contributions) {
+        Ok(net) => Some((net, vectors)),
+        Err(_) => None,
+    }
+}

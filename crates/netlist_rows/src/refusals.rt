@@ -1,0 +1,135 @@
+//! What is refused of a few names of the sample device.
+
+ghost use Rattle.std.specs.Prelude.{length};
+ghost use Rattle.pld_device.specs.SampleTable.{sample};
+ghost use Rattle.abel_tree.specs.Entries.{entries_of};
+ghost use Rattle.netlist_rows.specs.Drawn.{IsDrawn};
+
+use crate::drawing::{Drawn, draw, names_of};
+use crate::places::{put_refusal, put_word};
+use crate::sources::row_module;
+use compared_controls::other_level;
+use design_checks::{DesignFault, check_signals};
+use design_refusals::{
+    SignalFault, dont_care_control, missing_control, registered_node, wrong_kind,
+};
+use pld_device::Sample;
+use std::alloc::Global;
+use test_rows::Found;
+use use_refusals::{RefusedUse, missing_use, unread_use};
+
+/// The refusal of a signal, or `none`.
+fn put_fault(fault: Option<SignalFault>, found: &mut Found) {
+    match fault {
+        Some(SignalFault::WrongKind(place, name)) => put_refusal("WrongKind", place, name, found),
+        Some(SignalFault::RegisteredNode(place, name)) => {
+            put_refusal("RegisteredNode", place, name, found)
+        }
+        Some(SignalFault::NoSuchControl(place, name)) => {
+            put_refusal("NoSuchControl", place, name, found)
+        }
+        Some(SignalFault::DontCareControl(place, name)) => {
+            put_refusal("DontCareControl", place, name, found)
+        }
+        None => put_word("none", found),
+    }
+    found.text(";")
+}
+
+/// What is refused of the signals of a source, one of each kind: a kind, a control that is missing, one that is
+/// don't-care, and a node.
+fn put_faults(drawn: &Drawn, found: &mut Found) -> Option<()>
+    requires { IsDrawn sample drawn.now }
+{
+    let names = &drawn.names;
+    let list = drawn.contributions.list.as_slice();
+    put_fault(wrong_kind::<Sample>(names, list), found);
+    put_fault(missing_control::<Sample>(names, list), found);
+    put_fault(dont_care_control::<Sample>(names, list), found);
+    put_fault(registered_node(names).ok()?, found);
+    Some(())
+}
+
+/// What is refused of the signals of equations.
+pub(crate) fn put_signals(
+    alloc: Global,
+    names: &Found,
+    text: &str,
+    found: &mut Found,
+) -> Option<()> {
+    let module = row_module(alloc, names, "equations", text, "")?;
+    put_faults(&draw::<Sample>(alloc, module)?, found)
+}
+
+/// A refused use, or `none`.
+fn put_use(refused: Option<RefusedUse>, found: &mut Found) {
+    match refused {
+        Some(it) => put_refusal("refused", it.place, it.name, found),
+        None => put_word("none", found),
+    }
+}
+
+/// The first use of a value that is missing, and the first that can't be read.
+pub(crate) fn put_uses(alloc: Global, names: &Found, text: &str, found: &mut Found) -> Option<()> {
+    let front = "equations n = 1; R := 0; R.OE = !e; Y =";
+    let module = row_module(alloc, names, front, text, ";")?;
+    let names = names_of::<Sample>(alloc, &module)?;
+    let sections = module.sections.as_slice();
+    put_use(missing_use::<Sample>(alloc, &names, sections).ok()?, found);
+    found.text(";");
+    put_use(unread_use::<Sample>(alloc, &names, sections).ok()?, found);
+    Some(())
+}
+
+/// What an equation gives a clock or an enable that is another level than the device's.
+fn put_level(drawn: &Drawn, found: &mut Found)
+    requires { IsDrawn sample drawn.now }
+{
+    let contributions = &drawn.contributions;
+    let list = contributions.list.as_slice();
+    put_use(
+        other_level::<Sample>(&drawn.names, &contributions.exprs, list),
+        found,
+    )
+}
+
+/// Whether an equation gives another level.
+pub(crate) fn put_levels(
+    alloc: Global,
+    names: &Found,
+    text: &str,
+    found: &mut Found,
+) -> Option<()> {
+    let module = row_module(alloc, names, "equations", text, "")?;
+    put_level(&draw::<Sample>(alloc, module)?, found);
+    Some(())
+}
+
+/// The first refusal of a source's signals.
+fn check(alloc: Global, drawn: &Drawn) -> Result<(), DesignFault>
+    requires { IsDrawn sample drawn.now }
+{
+    check_signals::<Sample>(alloc, &drawn.module, &drawn.names, &drawn.contributions)
+}
+
+/// The first refusal of the signals of equations.
+pub(crate) fn put_design(
+    alloc: Global,
+    names: &Found,
+    text: &str,
+    found: &mut Found,
+) -> Option<()> {
+    let module = row_module(alloc, names, "equations", text, "")?;
+    match check(alloc, &draw::<Sample>(alloc, module)?) {
+        Ok(()) => put_word("none", found),
+        Err(DesignFault::WrongKind(place, name)) => put_refusal("WrongKind", place, name, found),
+        Err(DesignFault::NoSuchControl(place, name)) => {
+            put_refusal("NoSuchControl", place, name, found)
+        }
+        Err(DesignFault::DontCareControl(place, name)) => {
+            put_refusal("DontCareControl", place, name, found)
+        }
+        Err(_) => put_word("another", found),
+    }
+    Some(())
+}
