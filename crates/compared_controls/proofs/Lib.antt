@@ -1,1 +1,4 @@
+mod FrontNames
 mod Listed
+mod Statements
+mod WrittenTerms

@@ -1,5 +1,5 @@
 -- What an equation for a clock, or for the enable of a cell that a pin enables, must say: what the device does anyway
--- (the devices' datasheets, macrocell diagrams; that it is told by the folded formula is this project's rule).
+-- (the devices' datasheets, macrocell diagrams); how it must be written is said in Written.
 use Rattle.std.specs.Prelude.{ℕ, ◌==◌, Bool, true, false, not, Option, None, Some, List, [], ◌∷◌, ◌++◌, get_or}
 use Rattle.pld_device.specs.declared.enable.Enable.{Enable}
 use Rattle.pld_device.specs.declared.enable.Enable.TheVariants.{Row, PinLow}
@@ -13,6 +13,7 @@ use Rattle.abel_tree.specs.declared.words.Extension.TheVariants as extension
 use Rattle.abel_tree.specs.Entries.{Entry}
 use Rattle.abel_meaning.specs.Designs.{no_name}
 use Rattle.gathered.specs.Gathered.{cell_of}
+use Rattle.design_uses.specs.SectionUses.{is_cell_by_pin}
 use Rattle.set_expr.specs.declared.contributions.Contribution.{Contribution}
 use Rattle.use_refusals.specs.declared.refused.RefusedUse.{RefusedUse}
 
@@ -46,6 +47,14 @@ abbrev pub is_level_if : (complement : Bool) → (pin : ℕ) → Formula → Boo
 is_level_if false pin f = is_level pin f
 is_level_if true pin f = is_other_level pin f
 
+-- ---- what is compared
+
+-- an equation for this signal is compared: one for a clock, or for the enable of a cell that a pin enables
+abbrev pub is_compared_of : Table → Option Extension → Entry → Bool
+is_compared_of t (Some extension.Clk) x = true
+is_compared_of t (Some extension.Oe) x = is_cell_by_pin t (cell_of t x)
+is_compared_of t _ x = false
+
 -- ---- what is said
 
 -- an equation for an enable, of the control or of its complement: a pin enables at 0
@@ -63,6 +72,11 @@ says_so t x (Some extension.Clk) complement f = is_level_if complement t.clock f
 says_so t x (Some extension.Oe) complement f = cell_enables_so t (cell_of t x) complement f
 says_so t x _ complement f = true
 
+-- it says so wherever it counts: in a diagram it counts in a state alone, and is under a guard
+abbrev pub says_always : Table → Entry → Option Extension → (block : Option ℕ) → (complement : Bool) → Formula → Bool
+says_always t x e None complement f = says_so t x e complement f
+says_always t x e (Some block) complement f = not (is_compared_of t e x)
+
 -- ---- what is refused
 
 abbrev pub told_if : Bool → RefusedUse → List RefusedUse
@@ -72,7 +86,7 @@ told_if false r = []
 -- one contribution to this name, at its target
 abbrev pub other_level : Table → List Formula → Entry → Contribution → List RefusedUse
 other_level t fs x c =
-    told_if (not (says_so t x c.target.extension c.complement (formula_at fs c.when)))
+    told_if (not (says_always t x c.target.extension c.block c.complement (formula_at fs c.when)))
     (record { place = c.place; name = c.target.signal })
 
 -- all contributions to names, in order of the source

@@ -9,8 +9,9 @@ ghost use Rattle.abel_meaning.specs.Designs.{cell_on};
 ghost use Rattle.design_refusals.specs.Refused.{AreToNames};
 ghost use Rattle.set_expr.specs.declared.contributions.Contribution as code;
 ghost use Rattle.use_refusals.specs.Refused.{use_order};
-ghost use Rattle.compared_controls.specs.Compared.{cell_enables_so, enables_so, other_level, other_levels, says_so};
+ghost use Rattle.compared_controls.specs.Compared.{cell_enables_so, enables_so, other_level, other_levels, says_always, says_so};
 
+use crate::by_pin::is_compared;
 use crate::levels::is_level_if;
 use abel_tree::{Declared, Extension, Meaning, Names};
 use bit_expr::{ExprId, Exprs};
@@ -82,6 +83,19 @@ fn says_so<D: Device>(exprs: &Exprs, declared: &Declared, given: &Contribution) 
     }
 }
 
+/// Whether it says so wherever it counts: an equation in a diagram counts in a state alone.
+fn says_always<D: Device>(exprs: &Exprs, declared: &Declared, given: &Contribution) -> bool
+    requires { given.now.when.0 < length (arena exprs.now) }
+    ensures { result ≡ says_always D.table
+        (view_declared declared.now) given.now.target.extension given.now.block given.now.complement (formula_at
+        (arena exprs.now) given.now.when) }
+{
+    match given.block {
+        None => says_so::<D>(exprs, declared, given),
+        Some(_) => !is_compared::<D>(declared, given.target.extension),
+    }
+}
+
 /// What is refused of one contribution to this name.
 fn refused_of<D: Device>(
     exprs: &Exprs,
@@ -92,7 +106,7 @@ fn refused_of<D: Device>(
     ensures { result ≡ first_refusal use_order (other_level D.table (arena exprs.now)
         (view_declared declared.now) given.now) }
 {
-    if says_so::<D>(exprs, declared, given) {
+    if says_always::<D>(exprs, declared, given) {
         None
     } else {
         Some(RefusedUse {
@@ -103,8 +117,9 @@ fn refused_of<D: Device>(
 }
 
 /// The first equation for a clock that isn't the level of the device's clock, or for the enable of a cell that a pin
-/// enables which isn't the complement of that pin's level, of what the sections contribute. Parentheses, constants and
-/// pairs of complements have no bit of their own, nor has what folds. None where there is none. Takes no memory.
+/// enables which isn't the complement of that pin's level, or that stands in a diagram, of what the sections contribute.
+/// Parentheses, constants and pairs of complements have no bit of their own; nor has what folds, which `other_spelling`
+/// refuses. None where there is none. Takes no memory.
 pub fn other_level<D: Device>(
     names: &Names,
     exprs: &Exprs,
