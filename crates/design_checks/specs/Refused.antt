@@ -13,6 +13,7 @@ use Rattle.design_refusals.specs.declared.rules.Rule.TheVariants as rule
 use Rattle.design_refusals.specs.Refused.{all_refused, registered_nodes}
 use Rattle.design_uses.specs.RefusedUses.{missing_uses, unread_uses}
 use Rattle.compared_controls.specs.Compared.{other_levels}
+use Rattle.compared_controls.specs.Written.{unwritten}
 use Rattle.use_refusals.specs.declared.refused.RefusedUse.{RefusedUse}
 use Rattle.use_refusals.specs.Refused.{told}
 
@@ -39,9 +40,9 @@ stored_nodes xs = map plain (registered_nodes 0 xs)
 abbrev pub target_controls : Table → List Formula → List Entry → List Contribution → List RefusedUse
 target_controls t fs xs cs = targets_refused t xs rule.Controls cs ++ other_levels t fs xs cs
 
--- these, and uses of what the signal doesn't have
+-- these, equations that are compared and not written as a level is, and uses of what the signal doesn't have
 abbrev pub no_controls : Design → List Formula → List Contribution → List RefusedUse
-no_controls d fs cs = target_controls d.device fs d.names cs ++ map told (missing_uses d)
+no_controls d fs cs = target_controls d.device fs d.names cs ++ (unwritten d ++ map told (missing_uses d))
 
 -- controls that are assigned by `?=`
 abbrev pub any_controls : Table → List Entry → List Contribution → List RefusedUse

@@ -14,7 +14,7 @@ ghost use Rattle.design_checks.specs.Verdict.{ControlsPass, HasSoundSignals, IsA
 
 use crate::fault::DesignFault;
 use abel_tree::{Module, Names};
-use compared_controls::other_level;
+use compared_controls::{other_level, other_spelling};
 use design_refusals::{
     SignalFault, dont_care_control, missing_control, registered_node, wrong_kind,
 };
@@ -76,7 +76,8 @@ fn target_controls<D: Device>(names: &Names, found: &Contributions) -> Option<Re
     earlier(missing, other_level::<D>(names, &found.exprs, list))
 }
 
-/// The first extension that a signal does not have, as a target or where it is used.
+/// The first extension that a signal does not have, as a target or where it is used, or equation that says otherwise
+/// than the device does, or is written otherwise.
 fn controls<D: Device>(
     alloc: Global,
     source: &Module,
@@ -89,8 +90,11 @@ fn controls<D: Device>(
     ensures { IfOk result (λ r. (d : Design) → IsDesignFor D.table names.now source.now found.now d
         → r ≡ first_refusal use_order (no_controls d (arena found.now.exprs) found.now.list)) }
 {
-    let used = missing_use::<D>(alloc, names, source.sections.as_slice())?;
-    Ok(earlier(target_controls::<D>(names, found), used))
+    let sections = source.sections.as_slice();
+    let used = missing_use::<D>(alloc, names, sections)?;
+    let unwritten = other_spelling::<D>(alloc, names, sections)?;
+    let both = earlier(unwritten, used);
+    Ok(earlier(target_controls::<D>(names, found), both))
 }
 
 /// The first control that is assigned by `?=`.

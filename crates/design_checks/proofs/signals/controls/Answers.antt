@@ -6,6 +6,7 @@ use Rattle.abel_tree.specs.View.{view_section}
 use Rattle.abel_tree.proofs.FirstRefusals.{first_append}
 use Rattle.design_uses.specs.RefusedUses.{missing_uses}
 use Rattle.use_refusals.specs.Refused.{told, use_order}
+use Rattle.compared_controls.specs.Written.{unwritten}
 use Rattle.design_checks.specs.Refused.{target_controls}
 use Rattle.design_checks.proofs.signals.controls.Goals as goal
 
@@ -16,7 +17,9 @@ returns g c d of =
     let fs = arena c.args.found.now.exprs in
     let cs = c.args.found.now.list in
     let used = map told (missing_uses d) in
+    let same = of.sections ∙ ap (map view_section) (sym c.as_slice-sections.ensures) in
     c.earlier.ensures
-    ∙ ap₂ (earlier use_order) c.target_controls.ensures (c.in_ok-used.ensures d of.design (of.sections ∙ ap (map view_section) (sym c.as_slice.ensures)))
-    ∙ sym (first_append use_order (target_controls t fs xs cs) used)
-    ∙ ap (λ rs. first_refusal use_order (rs ++ used)) (ap₂ (λ u ys. target_controls u fs ys cs) (sym of.design.device) (sym of.design.names))
+    ∙ ap₂ (earlier use_order) c.target_controls.ensures
+    (c.earlier-both.ensures ∙ ap₂ (earlier use_order) (c.in_ok-unwritten.ensures d of.design same) (c.in_ok-used.ensures d of.design same) ∙ sym (first_append use_order (unwritten d) used))
+    ∙ sym (first_append use_order (target_controls t fs xs cs) (unwritten d ++ used))
+    ∙ ap (λ rs. first_refusal use_order (rs ++ (unwritten d ++ used))) (ap₂ (λ u ys. target_controls u fs ys cs) (sym of.design.device) (sym of.design.names))
