@@ -1,5 +1,5 @@
 -- A design of whose signals nothing is refused, and that has no chains, is unrefused, and its netlist sound.
-use Rattle.std.proofs.Common.{◌≡◌, List, [], ◌∷◌, map, refl}
+use Rattle.std.proofs.Common.{◌≡◌, List, [], ◌∷◌, ◌++◌, map, refl}
 use Rattle.bit_expr.specs.Formulas.{Formula}
 use Rattle.abel_meaning.specs.Designs.{Design, design_of}
 use Rattle.set_expr.specs.declared.contributions.Contribution.{Contribution}
@@ -7,6 +7,7 @@ use Rattle.design_refusals.specs.declared.rules.Rule.TheVariants as rule
 use Rattle.design_refusals.specs.Refused.{all_refused, registered_nodes}
 use Rattle.design_uses.specs.RefusedUses.{missing_uses, unread_uses}
 use Rattle.compared_controls.specs.Compared.{other_levels}
+use Rattle.compared_controls.specs.Written.{unwritten}
 use Rattle.use_refusals.specs.Refused.{told}
 use Rattle.gathered.specs.Correct.{GatheredIsSound, GatheredMeansTheSame}
 use Rattle.accepted_designs.specs.Correct.{UnrefusedIsTakeable}
@@ -23,7 +24,7 @@ mapped_empty f (x ∷ xs) e = absurd cc
 
 module _ (d : Design) (fs : List Formula) (cs : List Contribution) where
   controls_empty : HasSoundSignals d fs cs → target_controls d.device fs d.names cs ≡ []
-  controls_empty sound = front_empty (target_controls d.device fs d.names cs) (map told (missing_uses d)) sound.uses.controls.controls
+  controls_empty sound = front_empty (target_controls d.device fs d.names cs) (unwritten d ++ map told (missing_uses d)) sound.uses.controls.controls
 
   -- no target names what its signal doesn't have
   pub had : HasSoundSignals d fs cs → all_refused d.device d.names rule.Controls cs ≡ []
@@ -36,7 +37,7 @@ module _ (d : Design) (fs : List Formula) (cs : List Contribution) where
     kinds = mapped_empty plain (all_refused d.device d.names rule.Kinds cs) none.signals.kinds.kinds;
     nodes = mapped_empty plain (registered_nodes 0 d.names) none.signals.kinds.nodes;
     controls = had none.signals;
-    missing = mapped_empty told (missing_uses d) (back_empty (target_controls d.device fs d.names cs) (map told (missing_uses d)) none.signals.uses.controls.controls);
+    missing = mapped_empty told (missing_uses d) (back_empty (unwritten d) (map told (missing_uses d)) (back_empty (target_controls d.device fs d.names cs) (unwritten d ++ map told (missing_uses d)) none.signals.uses.controls.controls));
     unread = mapped_empty told (unread_uses d) none.signals.uses.paths;
     no_loop = none.no_loop;
     no_path = none.no_path;
