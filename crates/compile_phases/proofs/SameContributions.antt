@@ -11,7 +11,8 @@ use Rattle.set_expr.specs.declared.contributions.Contribution.{Contribution}
 use Rattle.set_expr.specs.declared.contributions.Gives.{Gives}
 use Rattle.set_expr.specs.declared.contributions.Gives.TheVariants as gives
 use Rattle.set_expr.specs.Given.{view_contribution, view_gives}
-use Rattle.compared_controls.specs.Compared.{says_so, told_if, other_level, other_levels}
+use Rattle.compared_controls.specs.Compared.{says_always, told_if, other_level, other_levels}
+use Rattle.compared_controls.specs.Written.{unwritten}
 use Rattle.design.specs.Answers.{HasNoRefusal, IsDesignRefused}
 use Rattle.design_checks.specs.declared.fault.DesignFault.{DesignFault}
 use Rattle.design_checks.specs.declared.fault.DesignFault.TheVariants as designing
@@ -68,7 +69,7 @@ all_is t xs r fs (c ∷ cs) =
     ∙ ap (λ (ys : List SignalFault). rule_seen t r (get_or xs c.target.signal no_name) (view_contribution fs c) c.place ++ ys) more
 
 abbrev level_seen : Table → Entry → meant.Contribution Formula → Place → List RefusedUse
-level_seen t x v p = told_if (not (says_so t x v.extension v.complement v.holds)) (record { place = p; name = v.signal })
+level_seen t x v p = told_if (not (says_always t x v.extension v.block v.complement v.holds)) (record { place = p; name = v.signal })
 
 levels_seen : Table → List Entry → List (meant.Contribution Formula) → List Place → List RefusedUse
 levels_seen t xs (v ∷ vs) (p ∷ ps) = level_seen t (get_or xs v.signal no_name) v p ++ levels_seen t xs vs ps
@@ -113,8 +114,8 @@ module _ (d : Design) (fs gs : List Formula) (cs ds : List Contribution)
 
   controls_same : no_controls d gs ds ≡ no_controls d fs cs
   controls_same =
-      ap (λ (ys : List SignalFault). (map plain ys ++ other_levels d.device gs d.names ds) ++ map told (missing_uses d)) (sym (refused_same rule.Controls))
-      ∙ ap (λ (ys : List RefusedUse). (map plain (all_refused d.device d.names rule.Controls cs) ++ ys) ++ map told (missing_uses d)) (sym levels_same)
+      ap (λ (ys : List SignalFault). (map plain ys ++ other_levels d.device gs d.names ds) ++ (unwritten d ++ map told (missing_uses d))) (sym (refused_same rule.Controls))
+      ∙ ap (λ (ys : List RefusedUse). (map plain (all_refused d.device d.names rule.Controls cs) ++ ys) ++ (unwritten d ++ map told (missing_uses d))) (sym levels_same)
 
   -- where nothing is refused of the one, no refusal of the other holds
   pub not_refused : (f : DesignFault) → f ≢ designing.OutOfMemory → HasNoRefusal d fs cs → IsDesignRefused d gs ds f → ⊥
