@@ -71,9 +71,18 @@ unknown_member = refl
 no_signal : refused (assign 1 (name 1 "k") 3 (name 5 "b") ∷ []) ≡ NotAnOutput (at 1) (Some 8) ∷ []
 no_signal = refl
 
--- !k = b;
-not_no_signal : refused (not_assign 1 (name 2 "k") 4 (name 6 "b") ∷ []) ≡ NotAnOutput (at 1) (Some 8) ∷ []
+-- !k = b;    at the constant's name
+not_no_signal : refused (not_assign 1 (name 2 "k") 4 (name 6 "b") ∷ []) ≡ NotAnOutput (at 2) (Some 8) ∷ []
 not_no_signal = refl
+
+-- !a = b;    a signal stands where the target begins
+not_input : refused (not_assign 1 (name 2 "a") 4 (name 6 "b") ∷ []) ≡ NotAnOutput (at 1) (Some 0) ∷ []
+not_input = refl
+
+-- !x = b;    both stand at the constant's name
+not_unknown_constant :
+    refused (not_assign 1 (name 2 "x") 4 (name 6 "b") ∷ []) ≡ MisplacedSpecial (at 2) ∷ NotAnOutput (at 2) (Some 10) ∷ []
+not_unknown_constant = refl
 
 -- e = b;    a signal with an extension of its own, behind a constant
 dotted_constant : refused (assign 1 (name 1 "e") 3 (name 5 "b") ∷ []) ≡ NotAnOutput (at 1) (Some 9) ∷ []

@@ -14,7 +14,7 @@ use Rattle.set_expr.specs.declared.fault.SectionFault.TheVariants.{NotAnOutput}
 use Rattle.set_expr.specs.FoundNames.{found_use, name_found, names_found}
 use Rattle.set_expr.specs.Refusals.{too_wide}
 use Rattle.section_targets.specs.declared.aim.Aim.{Aim}
-use Rattle.section_targets.specs.TargetSignals.{TargetFound, aims_at, names_signals, all_name_signals, no_signals, target_name, target_range, target_member, target_members, left_side}
+use Rattle.section_targets.specs.TargetSignals.{TargetFound, aims_at, names_signals, all_name_signals, no_signals, target_name, target_range, target_member, target_members, left_side, start_of}
 use Rattle.section_targets.proofs.Built.{left_empty, right_empty}
 use Rattle.section_targets.proofs.SignalLists.{some_append, extended_targets}
 
@@ -102,7 +102,7 @@ extended_positions None t = refl
 extended_positions (Some e) t = extended_targets e t
 
 pub side_positions : (d : Design) (p : Place) (t : Tree) → (left_side d p t).refusals ≡ [] → targets_of (term_of d.known t) ≡ positions_of (left_side d p t).aims
-side_positions d p (AName word x) e = extended_positions x (term_named d.known word.text) ∙ name_positions d word.place p word.text e
+side_positions d p (AName word x) e = extended_positions x (term_named d.known word.text) ∙ name_positions d word.place (start_of d p word) word.text e
 side_positions d p (ASet q ms x) e = extended_positions x (Set (terms_of d.known ms)) ∙ members_positions d ms (left_empty (target_members d ms).refusals (too_wide q (length (target_members d ms).aims)) e)
 side_positions d p (ANumber n) e = member_positions d (ANumber n) e
 side_positions d p (ASpecial letter q) e = member_positions d (ASpecial letter q) e

@@ -17,7 +17,7 @@ use Rattle.section_targets.specs.declared.named.NamedSignals.{NamedSignals}
 use Rattle.section_targets.specs.declared.sides.Side.{Side}
 use Rattle.section_targets.specs.Given.{AreNamed}
 use Rattle.section_targets.specs.NamedTargets.{AreSignals, IsOfTerm, IsSide}
-use Rattle.section_targets.specs.TargetSignals.{TargetFound, aims_at, names_signals, all_name_signals, targets_both, target_set}
+use Rattle.section_targets.specs.TargetSignals.{TargetFound, aims_at, names_signals, all_name_signals, is_only, targets_both, target_set}
 
 -- ---- signals
 
@@ -46,6 +46,21 @@ pub some_append : (xs ys : List (Option ℕ)) → some_signals (xs ++ ys) ≡ so
 some_append [] ys = refl
 some_append (None ∷ xs) ys = some_append xs ys
 some_append (Some s ∷ xs) ys = ap (λ ss. s ∷ ss) (some_append xs ys)
+
+-- one signal, by how many there are
+pub only_is : (n : ℕ) (ss : List ℕ) → ((length ss == 1) && (get_or ss 0 0 == n)) ≡ is_only n ss
+only_is n [] = refl
+only_is n (s ∷ []) = refl
+only_is n (s ∷ t ∷ ss) = let e : (length (s ∷ t ∷ ss) == 1) ≡ false = grind (arith, nat_tests) in rw e refl
+
+-- a list that is whole where it is short is of that signal alone just where so are the signals
+pub only_by : (count n : ℕ) (a : NamedSignals) (xs : List ℕ) (b : Bool) → AreSignals count a xs b → a.width ≡ 1 → is_only n a.signals ≡ is_only n xs
+only_by count n a xs b h e = ap (is_only n) (h.signals (omega (arith, e, h.width)))
+
+pub not_only : (count n : ℕ) (a : NamedSignals) (xs : List ℕ) (b : Bool) → AreSignals count a xs b → (a.width ≡ 1 → ⊥) → is_only n xs ≡ false
+not_only count n a [] b h e = refl
+not_only count n a (x ∷ []) b h e = absurd (e (omega (arith, h.width)))
+not_only count n a (x ∷ y ∷ xs) b h e = refl
 
 -- ---- extensions
 

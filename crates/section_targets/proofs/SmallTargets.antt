@@ -22,7 +22,7 @@ use Rattle.set_expr.specs.SectionOrder.{section_order}
 use Rattle.section_targets.specs.declared.aim.Aim.{Aim}
 use Rattle.section_targets.specs.declared.sides.Side.{Side}
 use Rattle.section_targets.specs.NamedTargets.{IsSide}
-use Rattle.section_targets.specs.TargetSignals.{TargetFound, target_name, target_set, target_member, target_members, left_side, no_signals}
+use Rattle.section_targets.specs.TargetSignals.{TargetFound, target_name, target_set, target_member, target_members, left_side, no_signals, start_of}
 use Rattle.section_targets.proofs.Built.{left_empty, right_empty}
 use Rattle.section_targets.proofs.SignalLists.{some_append, extended_targets, aims_length}
 
@@ -206,7 +206,7 @@ member_few d (AUnary sign p t) k e = omega arith
 member_few d (ABinary sign p t u) k e = omega arith
 
 pub side_few : (d : Design) (p : Place) (t : Tree) → d.known ≡ known_of d.names → (left_side d p t).refusals ≡ [] → length (left_side d p t).aims ≤ 32
-side_few d p (AName word x) k e = name_few d word.place p word.text k e
+side_few d p (AName word x) k e = name_few d word.place (start_of d p word) word.text k e
 side_few d p (ASet q ms x) k e = wide_none q (target_members d ms) e
 side_few d p (ANumber n) k e = member_few d (ANumber n) k e
 side_few d p (ASpecial letter q) k e = member_few d (ASpecial letter q) k e

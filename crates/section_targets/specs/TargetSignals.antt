@@ -1,6 +1,7 @@
 -- The signals of a target with their places, and what is no target (ABEL-HDL Reference Manual, equations and sets).
-use Rattle.std.specs.Prelude.{ℕ, Bool, true, false, ◌&&◌, Option, None, Some, List, [], ◌∷◌, ◌++◌, length, if◌then◌else◌}
+use Rattle.std.specs.Prelude.{ℕ, ◌==◌, Bool, true, false, ◌&&◌, Option, None, Some, List, [], ◌∷◌, ◌++◌, length, if◌then◌else◌}
 use Rattle.pld_base.specs.declared.place.Place.{Place}
+use Rattle.abel_tree.specs.declared.words.Word.{Word}
 use Rattle.abel_tree.specs.Entries.{Entry, find}
 use Rattle.abel_tree.specs.Ranges.{range_names}
 use Rattle.abel_tree.specs.Tree.{Tree, ANumber, ASpecial, AName, ASet, AParen, AUnary, ABinary, SetMember, OneMember, SpanMember, Members, NoMember, MoreMembers}
@@ -93,8 +94,23 @@ abbrev mutual
   target_one d (OneMember t) = target_member d t
   target_one d (SpanMember first last) = target_range d first.place (range_names first.text last.text)
 
--- what is found of the left side of an assignment, which has its extension outside; a name stands where the side begins
+-- these signals are that one alone
+abbrev pub is_only : ℕ → List ℕ → Bool
+is_only n (s ∷ []) = s == n
+is_only n _ = false
+
+-- the name of this number stands for itself: it is a signal's, as a constant stands for names before it
+abbrev pub is_itself : Option ℕ → Term → Bool
+is_itself None t = false
+is_itself (Some n) t = is_only n (some_signals (targets_of t))
+
+-- where the signals of a side stand that is a name, with or without `!`: a signal where the side begins, and what a
+-- constant brings at the constant's name
+abbrev pub start_of : Design → (begin : Place) → Word → Place
+start_of d p word = if is_itself (find d.names word.text) (term_named d.known word.text) then p else word.place
+
+-- what is found of the left side of an assignment, which begins at this place and has its extension outside
 abbrev pub left_side : Design → Place → Tree → TargetFound
-left_side d p (AName word e) = target_name d word.place p word.text
+left_side d p (AName word e) = target_name d word.place (start_of d p word) word.text
 left_side d p (ASet q ms e) = target_set q (target_members d ms)
 left_side d p t = target_member d t

@@ -6,7 +6,7 @@ ghost use Rattle.abel_meaning.specs.Targets.{targets_of, some_signals};
 ghost use Rattle.abel_meaning.specs.Terms.{Term, Known, term_named, extended_if};
 ghost use Rattle.set_expr.specs.KnownNames.{IsKnown};
 ghost use Rattle.section_targets.specs.NamedTargets.{AreSignals, IsOfTerm, IsAt, StandFor};
-ghost use Rattle.section_targets.specs.TargetSignals.{names_signals};
+ghost use Rattle.section_targets.specs.TargetSignals.{is_only, names_signals};
 
 use abel_tree::Extension;
 use pld_base::{ListOf, OutOfMemory};
@@ -27,6 +27,26 @@ fn is_only(alone: bool, width: u8) -> bool
     ensures { result ≡ alone && (width == 0) }
 {
     alone && width == 0
+}
+
+/// Whether these are that signal alone.
+#[tactic(auto, using(crate::proofs::SignalLists::only_is))]
+fn holds_only(signals: &[u32], number: u32) -> bool
+    ensures { result ≡ is_only number signals.now }
+{
+    signals.len() == 1 && signals[0] == number
+}
+
+/// Whether the name with this number stands for itself alone, of these names.
+pub(crate) fn is_itself(named: &[NamedSignals], number: u32) -> bool
+    ensures { (count : ℕ) (t : Term) → IsAt count (slice_get named.now number) t → result ≡ is_only number (some_signals (targets_of t)) }
+{
+    let index = number as usize;
+    if index < named.len() {
+        named[index].is_signal(number)
+    } else {
+        false
+    }
 }
 
 impl NamedSignals {
@@ -118,6 +138,17 @@ impl NamedSignals {
                 width: self.width,
                 alone: is_only(self.alone, self.width),
             },
+        }
+    }
+
+    /// Whether the signals are that one alone.
+    fn is_signal(&self, number: u32) -> bool
+        ensures { (count : ℕ) (t : Term) → IsOfTerm count self.now t → result ≡ is_only number (some_signals (targets_of t)) }
+    {
+        if self.width == 1 {
+            holds_only(self.signals.as_slice(), number)
+        } else {
+            false
         }
     }
 }

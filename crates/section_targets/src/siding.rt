@@ -1,7 +1,8 @@
 //! The walk of a target.
 
 ghost use Rattle.std.specs.Prelude.{◌≡◌, List, IfOk, length, map};
-ghost use Rattle.abel_tree.specs.Entries.{Entry};
+ghost use Rattle.abel_tree.specs.Entries.{Entry, find};
+ghost use Rattle.abel_meaning.specs.Terms.{term_named};
 ghost use Rattle.abel_tree.specs.Ranges.{range_names};
 ghost use Rattle.abel_tree.specs.Tree.{AName, members_of};
 ghost use Rattle.abel_tree.specs.View.{view, view_member};
@@ -10,15 +11,37 @@ ghost use Rattle.set_expr.specs.declared.fault.SectionFault.TheVariants.{NotAnOu
 ghost use Rattle.set_expr.specs.Answer.{first_place};
 ghost use Rattle.set_expr.specs.KnownNames.{IsKnown};
 ghost use Rattle.section_targets.specs.NamedTargets.{IsSide, AreTargets};
-ghost use Rattle.section_targets.specs.TargetSignals.{TargetFound, targets_both, target_range, target_one, target_member, target_members, target_set, left_side, first_name};
+ghost use Rattle.section_targets.specs.TargetSignals.{TargetFound, targets_both, target_range, target_one, target_member, target_members, target_set, left_side, first_name, is_itself, start_of};
 
-use crate::named::NamedSignals;
+use crate::named::{NamedSignals, is_itself};
 use crate::sides::{Side, number_of};
 use abel_tree::{Expr, Extension, Member, Word};
 use name_ranges::range_list;
 use pld_base::{OutOfMemory, Place};
 use set_expr::{KnownNames, SectionFault};
 use std::alloc::Global;
+
+/// Whether the name with this text stands for itself, as a signal's does, and no constant's.
+fn names_itself(known: &KnownNames, named: &[NamedSignals], text: &[u8]) -> bool
+    ensures { (d : Design) → IsKnown d.names known.now → AreTargets d named.now → result ≡ is_itself (find d.names text.now) (term_named d.known text.now) }
+{
+    match number_of(known, text) {
+        None => false,
+        Some(number) => is_itself(named, number),
+    }
+}
+
+/// Where the signals of a side stand that is a name, with or without `!` before it: a signal where the side begins, and
+/// what a constant brings at the constant's name.
+fn start_of(known: &KnownNames, named: &[NamedSignals], word: &Word, begin: Place) -> Place
+    ensures { (d : Design) → IsKnown d.names known.now → AreTargets d named.now → result ≡ start_of d begin word.now }
+{
+    if names_itself(known, named, word.text.bytes()) {
+        begin
+    } else {
+        word.place
+    }
+}
 
 /// The left side of an assignment that begins at this place, whose extension counts outside: its signals, or its first
 /// refusal. Calls go as deep as the nestings of sets and parentheses.
@@ -33,7 +56,8 @@ pub fn left_side(
 {
     match target {
         Expr::Name { word, extension: _ } => {
-            Side::of_name(alloc, known, named, word.text.bytes(), word.place, place)
+            let at = start_of(known, named, word, place);
+            Side::of_name(alloc, known, named, word.text.bytes(), word.place, at)
         }
         Expr::Set {
             place: bracket,
