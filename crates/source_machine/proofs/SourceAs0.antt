@@ -1,5 +1,5 @@
 -- The netlist of a module and the module have the same one values with any as 0.
-use Rattle.std.proofs.Common.{◌≡◌, ℕ, ◌<◌, Bool, true, false, not, List, [], ◌∷◌, map, length, Option, Some, None, refl, sym, ap, ◌∙◌, inl, inr}
+use Rattle.std.proofs.Common.{◌≡◌, ℕ, ◌<◌, Bool, true, false, not, List, [], ◌∷◌, map, length, Option, Some, None, refl, sym, subst, ap, ◌∙◌, inl, inr}
 use Rattle.std.specs.Option.{option_map}
 use Rattle.std.proofs.lemmas.Bool.{cases_Bool}
 use Rattle.pld_base.specs.Bits.{same_level}
@@ -25,11 +25,10 @@ use Rattle.abel_meaning.proofs.FormulasFollow.{formulas_have_values}
 use Rattle.abel_meaning.proofs.FunctionValues.{formula_function}
 use Rattle.fitted.specs.Correct.{MeansTheSame}
 use Rattle.gathered.specs.Gathered.{netlist_of, wanted_for}
-use Rattle.gathered.specs.Takeable.{RegistersHaveCells}
 use Rattle.gathered.proofs.CellsFound.{wanted_found}
 use Rattle.gathered.proofs.Meaning.{gathered_means_the_same, value_as}
 use Rattle.source_machine.specs.AnyAs0.{data_with_any_0, level_with_any_0, next_with_any_0, netlist_with_any_0}
-use Rattle.source_machine.specs.Correct.{GatheredAs0}
+use Rattle.source_machine.specs.Correct.{AllowTheSame, GatheredAs0}
 use Rattle.source_machine.proofs.SameSignals.{alone}
 
 -- ---- truth values
@@ -60,15 +59,12 @@ raw_of : {V W : Type 0} (h : V → W) (s : ℕ) (cs : List (Contribution V)) →
 raw_of h s [] = refl
 raw_of h s (c ∷ cs) = rw (raw_of h s cs) refl
 
-module _ (t : Table) (m : ModuleTree) (laws : IsDevice t) (has : RegistersHaveCells (design_of t m)) where
+module _ (t : Table) (m : ModuleTree) (laws : IsDevice t) (means : MeansTheSame t m (netlist_of t m)) where
   abbrev d : Design
   d = design_of t m
 
   abbrev net : PlainNetlist
   net = netlist_of t m
-
-  means : MeansTheSame t m net
-  means = gathered_means_the_same t m laws has
 
   abbrev here : (c s : ℕ) → Wanted
   here c s = wanted_for d (given_formulas d) c s (name_at d s)
@@ -165,5 +161,13 @@ module _ (t : Table) (m : ModuleTree) (laws : IsDevice t) (has : RegistersHaveCe
     node = λ at is n low v allowed. node_same at n v ∙ allowed;
   }
 
+-- a netlist that is the module's and means the same
+pub netlist_as_0 : (t : Table) (m : ModuleTree) (net : PlainNetlist) → IsDevice t → net ≡ netlist_of t m → MeansTheSame t m net
+    → AllowTheSame (netlist_with_any_0 t net) (logic_with_any_0 (design_of t m))
+netlist_as_0 t m net laws is means =
+    let same : MeansTheSame t m (netlist_of t m) = subst (MeansTheSame t m) is means in
+    subst (λ n. AllowTheSame (netlist_with_any_0 t n) (logic_with_any_0 (design_of t m))) (sym is)
+    (record { to = to_source t m laws same; from = from_source t m laws same })
+
 pub gathered_as_0 : GatheredAs0
-gathered_as_0 t m laws has = (to_source t m laws has, from_source t m laws has)
+gathered_as_0 t m laws has = netlist_as_0 t m (netlist_of t m) laws refl (gathered_means_the_same t m laws has)

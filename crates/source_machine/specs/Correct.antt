@@ -1,4 +1,5 @@
 -- What the netlist of a module with any as 0 is to the module (this project's rule).
+use Rattle.pld_base.specs.Logic.{Logic}
 use Rattle.pld_machine.specs.Refines.{Refines}
 use Rattle.pld_device.specs.Laws.{IsDevice}
 use Rattle.pld_device.specs.Table.{Table}
@@ -9,10 +10,14 @@ use Rattle.gathered.specs.Gathered.{netlist_of}
 use Rattle.gathered.specs.Takeable.{RegistersHaveCells}
 use Rattle.source_machine.specs.AnyAs0.{netlist_with_any_0}
 
+-- each of the two allows no more than the other
+pub record AllowTheSame (a b : Logic) : Type 0 where
+  pub to : Refines a b
+  pub from : Refines b a
+
 -- where each register is on a cell, the netlist of a module and the module, both with any as 0, allow the same at every
 -- point
 abbrev pub GatheredAs0 : Type 0
 GatheredAs0 =
     (t : Table) (m : ModuleTree) → IsDevice t → RegistersHaveCells (design_of t m)
-    → Refines (netlist_with_any_0 t (netlist_of t m)) (logic_with_any_0 (design_of t m))
-    × Refines (logic_with_any_0 (design_of t m)) (netlist_with_any_0 t (netlist_of t m))
+    → AllowTheSame (netlist_with_any_0 t (netlist_of t m)) (logic_with_any_0 (design_of t m))

@@ -4,9 +4,15 @@ ghost use Rattle.std.specs.Prelude.{◌≡◌, IfOk};
 ghost use Rattle.pld_machine.specs.Lookups.{logic_of};
 ghost use Rattle.pld_machine.specs.Once.{IsDetermined};
 ghost use Rattle.pld_machine.specs.Order.{IsOrdered};
+ghost use Rattle.abel_tree.specs.Tree.{ModuleTree};
+ghost use Rattle.abel_meaning.specs.Designs.{design_of};
 ghost use Rattle.abel_meaning.specs.Netlists.{plain_netlist};
 ghost use Rattle.abel_meaning.specs.SoundIds.{IsSoundNetlist};
+ghost use Rattle.abel_meaning.specs.SourceLogic.{logic_with_any_0};
+ghost use Rattle.fitted.specs.Correct.{MeansTheSame};
+ghost use Rattle.gathered.specs.Gathered.{netlist_of};
 ghost use Rattle.source_machine.specs.AnyAs0.{netlist_with_any_0};
+ghost use Rattle.source_machine.specs.Correct.{AllowTheSame};
 ghost use Rattle.source_machine.specs.NetlistLookups.{netlist_lookups};
 
 use crate::cells;
@@ -42,9 +48,14 @@ impl<'a, D: Device> Model for SourceLogic<'a, D> {
 }
 
 impl<'a, D: Device> SourceLogic<'a, D> {
-    /// The logic of a netlist that the device can take. Takes memory for a link of each signal.
+    /// The logic of a module, by its netlist, which the device can take. Takes memory for a link of each signal.
     pub fn new(alloc: Global, net: &'a Netlist) -> Result<SourceLogic<'a, D>, OutOfMemory>
-        requires { IsSoundNetlist D.table net.now }
+        ghost source: { ModuleTree }
+        requires sound { IsSoundNetlist D.table net.now }
+
+        // the netlist is that of the module, as `gather` answers it
+        requires module { plain_netlist net.now ≡ netlist_of D.table source }
+        requires same { MeansTheSame D.table source (plain_netlist net.now) }
         ensures net { IfOk result (λ l. l.net ≡ net.now) }
 
         // it is the netlist's logic with any as 0, with slots in an order that `rest` and `step` take
@@ -53,7 +64,12 @@ impl<'a, D: Device> SourceLogic<'a, D> {
         ensures ordered { IfOk result (λ l.
             IsOrdered (netlist_lookups D.table (plain_netlist l.net) l.order)) }
 
-        // so that comes to rest, steps and runs in exactly one way
+        // at every point it allows what the module does with any as 0, and no more
+        ensures module { IfOk result (λ l. AllowTheSame
+            (logic_of (netlist_lookups D.table (plain_netlist l.net) l.order))
+            (logic_with_any_0 (design_of D.table source))) }
+
+        // so it comes to rest, steps and runs in exactly one way
         ensures determined { IfOk result (λ _.
             IsDetermined (netlist_with_any_0 D.table (plain_netlist net.now))) }
     {
