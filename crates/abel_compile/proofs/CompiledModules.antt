@@ -7,13 +7,12 @@ use Rattle.abel_tree.specs.Tree.{ModuleTree}
 use Rattle.fitter.specs.declared.answer.Fitted.{Fitted}
 use Rattle.fitter.specs.Answers.{IsFitOf}
 use Rattle.abel_compile.specs.declared.compiled.Compiled.{Compiled}
-use Rattle.abel_compile.specs.Correct.{AreFusesOf, IsToldOf}
 use Rattle.compile_phases.specs.Phases.{IsNetlistFor}
 use Rattle.compile_phases.proofs.PhaseFaults.{accepted_for}
-use Rattle.abel_compile.specs.Compiling.{IsCompiledOn}
+use Rattle.abel_compile.specs.Compiling.{AreRightFuses, IsCompiledOn, IsToldOf}
 
 pub compiled_on : (t : Table) (device : DeviceName) (m : ModuleTree) (net : Netlist) (fitted : Fitted) (c : Compiled) → IsNetlistFor t m net
-    → IsFitOf t net fitted → AreFusesOf t m fitted.fuses → c.device ≡ device → IsToldOf t m fitted.fuses c → IsCompiledOn t device m c
+    → IsFitOf t net fitted → AreRightFuses t m fitted.fuses → c.device ≡ device → IsToldOf t m fitted.fuses c → IsCompiledOn t device m c
 compiled_on t device m net fitted c is fits right device_is told =
     record {
       device_is = device_is;

@@ -4,17 +4,19 @@ use Rattle.std.specs.Prelude.{IfOk, IfErr}
 use Rattle.pld_base.specs.declared.device_name.DeviceName.{DeviceName}
 use Rattle.abel_tree.specs.Tree.{ModuleTree}
 use Rattle.abel_meaning.specs.DeviceStrings.{device_named}
-use Rattle.module_reader.specs.Texts.{IsRead}
+use Rattle.module_reader.specs.Texts.{SpellsModule, IsRead}
 use Rattle.abel_compile.specs.declared.compiled.Compiled.{Compiled}
 use Rattle.compile_phases.specs.declared.fault.CompileFault.{CompileFault}
 use Rattle.compile_phases.specs.declared.fault.CompileFault.TheVariants.{Source, Fit, OutOfMemory}
 use Rattle.compile_phases.specs.declared.fault.SourceFault.{SourceFault}
 use Rattle.compile_phases.specs.declared.fault.SourceFault.TheVariants.{Expand, Scan, Parse, Names, Sections, Design, Width}
 use Rattle.abel_compile.specs.Answers.{CompileAnswers}
+use Rattle.abel_compile.specs.Statement.{IsRightFile}
 use Rattle.compile_phases.specs.Devices.{table_of}
 use Rattle.compile_phases.specs.Phases.{IsOfSource, IsTextFault, IsNameFault, IsUnnamed, IsReadAlone, IsRefusedFor}
 use Rattle.abel_compile.specs.Compiling.{IsCompiledFor, IsCompiledOn}
 use Rattle.compile_phases.specs.SourceRefusals.{IsRefusedSo, IsSourceRefused}
+use Rattle.abel_compile.proofs.NeverRefused.{spelled}
 
 -- ---- the text
 
@@ -74,14 +76,23 @@ of_compiled text m device c alone named is =
     let here : IsCompiledFor (table_of c.device) m c =
     subst (λ (d : DeviceName). IsCompiledFor (table_of d) m c) (sym is.device_is) is.compiled in
     record {
-      source = m;
+      right = record {
+        source = m;
+        read = spelled text m alone.read;
+        only = alone.only;
+        named = subst (λ (d : DeviceName). device_named m ≡ Some d) (sym is.device_is) named;
+        fuses = here.fuses;
+        size = here.right.size;
+        one_rest = here.right.does.one_rest;
+        does = here.right.does;
+        canonical = here.told.canonical;
+        reads_back = here.told.reads_back;
+      };
       read = alone.read;
-      only = alone.only;
-      named = subst (λ (d : DeviceName). device_named m ≡ Some d) (sym is.device_is) named;
       accepted = here.accepted;
-      fuses = here.fuses;
-      right = here.right;
-      told = here.told;
+      fuses = here.right.so;
+      listing = here.told.listing;
+      summary = here.told.summary;
     }
 
 -- either answer of the module's device
@@ -90,3 +101,11 @@ pub answers_of : (text : List ℕ) (m : ModuleTree) (device : DeviceName) (r : R
     → CompileAnswers text r
 answers_of text m device (Ok c) alone named ok err = of_compiled text m device c alone named ok
 answers_of text m device (Err e) alone named ok err = of_refused text m device alone.read named e err
+
+-- the file that there may be is right for the text
+abbrev pub HasRightFile : List ℕ → Result Compiled CompileFault → Type 0
+HasRightFile text r = IfOk r (λ c. IsRightFile SpellsModule table_of text c.device c.file.items)
+
+pub file_is_right : (text : List ℕ) (r : Result Compiled CompileFault) → CompileAnswers text r → HasRightFile text r
+file_is_right text (Ok c) is = is.right
+file_is_right text (Err e) is = tt

@@ -59,7 +59,7 @@ module _ (text : List ℕ) where
 
   pub compiled_not_refused : (c : Compiled) (f : SourceFault) (line : List ℕ) → IsCompiled text c → IsSourceRefused text f line → ⊥
   compiled_not_refused c f line is =
-      accepted_not_refused f line (record { source = is.source; read = is.read; device = c.device; named = is.named; so = is.accepted })
+      accepted_not_refused f line (record { source = is.right.source; read = is.read; device = c.device; named = is.right.named; so = is.accepted })
 
   pub unfit_not_refused : (u : FitFault) (told : List ℕ) (f : SourceFault) (line : List ℕ) → IsReadFor text (IsUnfitFor u told) → IsSourceRefused text f line → ⊥
   unfit_not_refused u told f line is =

@@ -8,11 +8,11 @@ use Rattle.abel_tree.specs.Tree.{ModuleTree}
 use Rattle.abel_meaning.specs.Designs.{design_of}
 use Rattle.abel_meaning.specs.Kinds.{names_of}
 use Rattle.abel_meaning.specs.Vectors.{source_vectors}
-use Rattle.fitted.specs.Correct.{fuses_and_vectors}
 use Rattle.fuse_listing.specs.Listing.{listing_text}
 use Rattle.summary_line.specs.Summary.{design_cells, summary_of}
 use Rattle.abel_compile.specs.declared.compiled.Compiled.{Compiled}
-use Rattle.abel_compile.specs.Correct.{IsToldOf}
+use Rattle.abel_compile.specs.Compiling.{IsToldOf}
+use Rattle.abel_compile.specs.Statement.{fuses_and_vectors}
 
 pub told_of : (t : Table) (m : ModuleTree) (fuses : List Bool) (name : List ℕ) (es : List Entry) (count : ℕ) (vectors : List (List ℕ)) (c : Compiled) → vectors ≡ source_vectors t m
     → name ≡ m.name.text → es ≡ names_of t m → count ≡ design_cells (design_of t m)

@@ -1,22 +1,45 @@
 -- Private: what compiling a module answers, and the law of its fuses (this project's rule).
-use Rattle.std.specs.Prelude.{◌≡◌, Bool, List}
+use Rattle.std.specs.Prelude.{◌≡◌, Bool, List, length, Ok}
 use Rattle.pld_base.specs.declared.device_name.DeviceName.{DeviceName}
 use Rattle.pld_device.specs.Laws.{IsDevice}
 use Rattle.pld_device.specs.Table.{Table}
+use Rattle.jedec_file.specs.CanonicalFile.{canonical_file}
+use Rattle.jedec_file.specs.FuseFile.{file_of}
 use Rattle.bit_expr.specs.declared.netlist.Netlist.{Netlist}
 use Rattle.abel_tree.specs.Tree.{ModuleTree}
+use Rattle.abel_meaning.specs.Designs.{design_of}
+use Rattle.abel_meaning.specs.Kinds.{names_of}
+use Rattle.abel_meaning.specs.Vectors.{source_vectors}
+use Rattle.fitted.specs.Correct.{DoesWhatItSays}
+use Rattle.fuse_listing.specs.Listing.{listing_text}
+use Rattle.summary_line.specs.Summary.{design_cells, summary_of}
 use Rattle.fitter.specs.declared.answer.Fitted.{Fitted}
 use Rattle.fitter.specs.Answers.{IsFitOf}
 use Rattle.abel_compile.specs.declared.compiled.Compiled.{Compiled}
-use Rattle.abel_compile.specs.Correct.{AreFusesOf, IsToldOf}
+use Rattle.abel_compile.specs.Correct.{AreFusesOf}
+use Rattle.abel_compile.specs.Statement.{fuses_and_vectors}
 use Rattle.compile_phases.specs.Phases.{IsNetlistFor}
 use Rattle.compile_phases.specs.SourceRefusals.{IsAcceptedFor}
+
+-- the fuses of a module in a device: as many as it has, with which it does what the module says, and the rest
+pub record AreRightFuses (t : Table) (m : ModuleTree) (fuses : List Bool) : Type 0 where
+  pub size : length fuses ≡ t.fuses
+  pub does : DoesWhatItSays t m fuses
+  pub so : AreFusesOf t m fuses
+
+-- what is answered of these fuses: the canonical file of the module's name and test vectors, which reads back as just
+-- these; the listing; and the summary
+pub record IsToldOf (t : Table) (m : ModuleTree) (fuses : List Bool) (c : Compiled) : Type 0 where
+  pub canonical : c.file.items ≡ canonical_file t m.name.text fuses (source_vectors t m)
+  pub reads_back : file_of t c.file.items ≡ Ok (fuses_and_vectors t fuses (source_vectors t m))
+  pub listing : c.listing.items ≡ listing_text t fuses (names_of t m)
+  pub summary : c.summary.items ≡ summary_of t (design_cells (design_of t m)) fuses
 
 -- the module is compiled
 pub record IsCompiledFor (t : Table) (m : ModuleTree) (c : Compiled) : Type 0 where
   pub accepted : IsAcceptedFor t m
   pub fuses : List Bool
-  pub right : AreFusesOf t m fuses
+  pub right : AreRightFuses t m fuses
   pub told : IsToldOf t m fuses c
 
 -- and for this device
@@ -28,4 +51,4 @@ pub record IsCompiledOn (t : Table) (device : DeviceName) (m : ModuleTree) (c : 
 abbrev pub FitsAreRight : Type 0
 FitsAreRight =
     (t : Table) (m : ModuleTree) (net : Netlist) (fitted : Fitted) → IsDevice t → IsNetlistFor t m net → IsFitOf t net fitted
-    → AreFusesOf t m fitted.fuses
+    → AreRightFuses t m fitted.fuses

@@ -1,3 +1,4 @@
 pub mod Answers
 pub mod Compiling
 pub mod Correct
+pub mod Statement

@@ -6,8 +6,10 @@ ghost use Rattle.jedec_file.specs.CanonicalFile.{IsPlainName};
 ghost use Rattle.jedec_file.specs.TestVectors.{IsTestVector};
 ghost use Rattle.abel_tree.specs.View.{view_module};
 ghost use Rattle.abel_meaning.specs.Designs.{design_of};
+ghost use Rattle.module_reader.specs.Texts.{SpellsModule};
 ghost use Rattle.source_vectors.specs.AllSections.{AreSections};
 ghost use Rattle.abel_compile.specs.Answers.{CompileAnswers, IsNeverRefused};
+ghost use Rattle.abel_compile.specs.Statement.{IsRightFile};
 ghost use Rattle.compile_phases.specs.Devices.{table_of};
 ghost use Rattle.compile_phases.specs.Phases.{AreNamesFor, IsNetlistFor, IsRefusedFor};
 ghost use Rattle.abel_compile.specs.Compiling.{IsCompiledOn};
@@ -82,7 +84,10 @@ fn compile_on(alloc: Global, device: DeviceName, source: &Module) -> Result<Comp
 /// The text has at most 1,048,576 bytes.
 pub fn compile(alloc: Global, bytes: &[u8]) -> Result<Compiled, CompileFault>
     requires { length bytes.now ≤ 1048576 }
-    // The fuses do what the source says; each refusal has its cause.
+    // The main theorem: the file is right for the source, with fuses that do what it says.
+    ensures right { IfOk result (λ c.
+        IsRightFile SpellsModule table_of bytes.now c.device c.file.items) }
+    // What else holds of it; each refusal has its cause.
     ensures answers { CompileAnswers bytes.now result }
     // A source that is accepted and fits as it is written is never refused.
     ensures complete { IsNeverRefused bytes.now result }

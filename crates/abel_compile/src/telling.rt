@@ -6,7 +6,7 @@ ghost use Rattle.jedec_file.specs.TestVectors.{IsTestVector, all_chars};
 ghost use Rattle.abel_tree.specs.View.{view_module};
 ghost use Rattle.abel_meaning.specs.Vectors.{source_vectors};
 ghost use Rattle.fitter.specs.Answers.{IsFitOf};
-ghost use Rattle.abel_compile.specs.Correct.{IsToldOf};
+ghost use Rattle.abel_compile.specs.Compiling.{IsToldOf};
 ghost use Rattle.compile_phases.specs.Phases.{AreNamesFor, IsNetlistFor};
 
 use crate::compiled::Compiled;

@@ -2,13 +2,14 @@
 use Rattle.std.proofs.lemmas.Result.{err_from_is_err_and}
 use Rattle.abel_tree.specs.View.{view_module}
 use Rattle.abel_compile.specs.Answers.{CompileAnswers, IsNeverRefused}
-use Rattle.abel_compile.proofs.Compiles.{of_text, of_device, answers_of}
+use Rattle.abel_compile.proofs.Compiles.{HasRightFile, of_text, of_device, answers_of, file_is_right}
 use Rattle.abel_compile.proofs.NeverRefused.{never_text, never_device, never_on}
 use Rattle.abel_compile.proofs.Refusals.{handed}
 use Rattle.abel_compile.proofs.compiling.compile.Goals as goal
 
 pub returns-in_err-module : goal.returns-in_err-module
 returns-in_err-module c = record {
+  right = handed (HasRightFile c.args.bytes.now) c.from_residual.result _ (err_from_is_err_and c.from_residual.result c.from_residual.ensures.1) tt;
   answers =
       handed (CompileAnswers c.args.bytes.now) c.from_residual.result _
       (err_from_is_err_and c.from_residual.result c.from_residual.ensures.1)
@@ -21,6 +22,7 @@ returns-in_err-module c = record {
 
 pub returns-in_err-device : goal.returns-in_err-device
 returns-in_err-device c = record {
+  right = handed (HasRightFile c.args.bytes.now) c.from_residual-in_err-device.result _ (err_from_is_err_and c.from_residual-in_err-device.result c.from_residual-in_err-device.ensures.1) tt;
   answers =
       handed (CompileAnswers c.args.bytes.now) c.from_residual-in_err-device.result _
       (err_from_is_err_and c.from_residual-in_err-device.result c.from_residual-in_err-device.ensures.1)
@@ -35,11 +37,14 @@ pub compile_on-requires : goal.compile_on-requires
 compile_on-requires c = c.read_names_are_plain.ensures c.args.bytes.now (view_module c.in_ok-module.module) c.in_ok-module.ensures.ok.read
 
 pub returns : goal.returns
-returns c = record {
-  answers =
-      answers_of c.args.bytes.now (view_module c.in_ok-module.module) c.in_ok-device.device c.compile_on.result c.in_ok-module.ensures.ok
-      c.in_ok-device.ensures.ok c.compile_on.ensures.ok c.compile_on.ensures.err;
-  complete =
-      never_on c.args.bytes.now (view_module c.in_ok-module.module) c.in_ok-device.device c.compile_on.result c.compile_on.ensures.device
-      c.in_ok-module.ensures.ok c.in_ok-device.ensures.ok c.compile_on.ensures.err;
-}
+returns c =
+    let answers =
+    answers_of c.args.bytes.now (view_module c.in_ok-module.module) c.in_ok-device.device c.compile_on.result c.in_ok-module.ensures.ok
+    c.in_ok-device.ensures.ok c.compile_on.ensures.ok c.compile_on.ensures.err in
+    record {
+      right = file_is_right c.args.bytes.now c.compile_on.result answers;
+      answers = answers;
+      complete =
+          never_on c.args.bytes.now (view_module c.in_ok-module.module) c.in_ok-device.device c.compile_on.result c.compile_on.ensures.device
+          c.in_ok-module.ensures.ok c.in_ok-device.ensures.ok c.compile_on.ensures.err;
+    }

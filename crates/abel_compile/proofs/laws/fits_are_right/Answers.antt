@@ -10,8 +10,10 @@ pub returns : goal.returns
 returns c = λ t m net fitted device is fits. let does = c.through_a_netlist.ensures t m (plain_netlist net) fitted.fuses device is.same is.netlist.sound.sound fits.fits in record {
   size = fits.fits.size;
   does = does;
-  no_loop = c.fitted_has_no_loop.ensures t (plain_netlist net) fitted.fuses device is.netlist.sound.sound fits.fits;
-  no_path = c.fitted_has_no_reset_path.ensures t (plain_netlist net) fitted.fuses device is.netlist.sound.sound fits.fits;
-  rows = c.fitted_rows_are_prime.ensures t m (plain_netlist net) fitted.fuses device is.netlist.plain is.netlist.sound.sound fits.fits;
-  vectors = c.vectors_disagree_alike.ensures (device_logic t fitted.fuses) (source_logic t m) (source_values t m) does (source_vectors t m) (vectors_narrow t device m);
+  so = record {
+    no_loop = c.fitted_has_no_loop.ensures t (plain_netlist net) fitted.fuses device is.netlist.sound.sound fits.fits;
+    no_path = c.fitted_has_no_reset_path.ensures t (plain_netlist net) fitted.fuses device is.netlist.sound.sound fits.fits;
+    rows = c.fitted_rows_are_prime.ensures t m (plain_netlist net) fitted.fuses device is.netlist.plain is.netlist.sound.sound fits.fits;
+    vectors = c.vectors_disagree_alike.ensures (device_logic t fitted.fuses) (source_logic t m) (source_values t m) does (source_vectors t m) (vectors_narrow t device m);
+  };
 }
