@@ -1,10 +1,14 @@
-//! Whether a device with its fuses does what its netlist says.
+//! Whether a device with its fuses does what its module says.
 
 ghost use Rattle.std.specs.Prelude.{◌≡◌, length};
 ghost use Rattle.pld_machine.specs.Order.{IsOrdered};
+ghost use Rattle.abel_tree.specs.Tree.{ModuleTree};
+ghost use Rattle.abel_meaning.specs.Netlists.{plain_netlist};
 ghost use Rattle.abel_meaning.specs.SoundIds.{IsSoundNetlist};
+ghost use Rattle.fitted.specs.Correct.{MeansTheSame};
+ghost use Rattle.gathered.specs.Gathered.{netlist_of};
 
-use bit_expr::Netlist;
+use crate::drawing::ModuleNet;
 use device_sim::load;
 use pld_base::Point;
 use pld_device::{Device, Fuses};
@@ -36,15 +40,18 @@ fn turn_alike<A: Logic, B: Logic>(left: &A, right: &B, outside: u32, stored: u32
     are_same(&here, &there) && are_same(&step(left, &here, turned), &step(right, &there, turned))
 }
 
-/// Whether the device does as the netlist, from each state and at all outside levels.
-pub(crate) fn runs_alike<D: Device>(alloc: Global, net: &Netlist, fuses: &Fuses) -> Option<bool>
-    requires sound { IsSoundNetlist D.table net.now }
+/// Whether the device does as the module, with any as 0, from each state and at all outside levels.
+pub(crate) fn runs_alike<D: Device>(alloc: Global, made: &ModuleNet, fuses: &Fuses) -> Option<bool>
+    ghost source: { ModuleTree }
+    requires sound { IsSoundNetlist D.table made.now.net }
+    requires module { plain_netlist made.now.net ≡ netlist_of D.table source }
+    requires same { MeansTheSame D.table source (plain_netlist made.now.net) }
     requires size { length fuses.now ≡ D.table.fuses }
 {
     let Ok(device) = load::<D>(alloc, fuses) else {
         return None;
     };
-    let source = SourceLogic::<D>::new(alloc, net).ok()?;
+    let source = SourceLogic::<D>::new(alloc, &made.net).ok()?;
     for stored in 0..STATES {
         for levels in 0..LEVELS {
             if !turn_alike(&device, &source, levels << 1, stored) {

@@ -1,9 +1,12 @@
 //! From a module to its netlist for a device.
 
-ghost use Rattle.std.specs.Prelude.{◌≤◌, IfSome, length};
+ghost use Rattle.std.specs.Prelude.{◌≡◌, ◌≤◌, IfSome, length};
 ghost use Rattle.abel_tree.specs.View.{view_module};
 ghost use Rattle.abel_meaning.specs.Designs.{design_of};
+ghost use Rattle.abel_meaning.specs.Netlists.{plain_netlist};
 ghost use Rattle.abel_meaning.specs.SoundIds.{IsSoundNetlist};
+ghost use Rattle.fitted.specs.Correct.{MeansTheSame};
+ghost use Rattle.gathered.specs.Gathered.{netlist_of};
 ghost use Rattle.source_vectors.specs.AllSections.{AreSections};
 ghost use Rattle.netlist_rows.specs.Drawn.{IsDrawn};
 ghost use Rattle.netlist_rows.specs.Named.{AreNamesFor};
@@ -52,30 +55,41 @@ fn sections_of<D: Device>(alloc: Global, source: &Module, names: &Names) -> Opti
 }
 
 /// A module with what is found of it, where nothing is refused of its names and its sections.
-pub(crate) fn draw<D: Device>(alloc: Global, module: Module) -> Option<Drawn>
+pub(crate) fn draw<D: Device>(alloc: Global, source: Module) -> Option<Drawn>
     ensures drawn { IfSome result (IsDrawn D.table) }
     ensures few { IfSome result (λ d. length d.vectors.items ≤ 9999) }
 {
-    let names = names_of::<D>(alloc, &module)?;
+    let names = names_of::<D>(alloc, &source)?;
     let SourceSections {
         contributions,
         vectors,
-    } = sections_of::<D>(alloc, &module, &names)?;
+    } = sections_of::<D>(alloc, &source, &names)?;
     names_are_accepted();
     sound_modules_are_accepted();
     Some(Drawn {
-        module,
+        module: source,
         names,
         contributions,
         vectors,
     })
 }
 
-/// A netlist that the device can take, and the test vectors, where nothing is refused of the design.
-pub(crate) fn gathered<D: Device>(alloc: Global, drawn: Drawn) -> Option<(Netlist, Vec<Vector>)>
+/// A module with its netlist.
+#[derive(Drop)]
+pub(crate) struct ModuleNet {
+    pub(crate) module: Module,
+    pub(crate) net: Netlist,
+}
+
+/// A module with its netlist, which the device can take, and the test vectors, where nothing is refused of the design.
+pub(crate) fn gathered<D: Device>(alloc: Global, drawn: Drawn) -> Option<(ModuleNet, Vec<Vector>)>
     requires drawn { IsDrawn D.table drawn }
     requires few { length drawn.vectors.items ≤ 9999 }
-    ensures sound { IfSome result (λ d. IsSoundNetlist D.table d.0) }
+    ensures sound { IfSome result (λ d. IsSoundNetlist D.table d.0.net) }
+    ensures module { IfSome result (λ d.
+        plain_netlist d.0.net ≡ netlist_of D.table (view_module d.0.module)) }
+    ensures same { IfSome result (λ d.
+        MeansTheSame D.table (view_module d.0.module) (plain_netlist d.0.net)) }
     ensures few { IfSome result (λ d. length d.1.items ≤ 9999) }
 {
     let Drawn {
@@ -85,7 +99,7 @@ pub(crate) fn gathered<D: Device>(alloc: Global, drawn: Drawn) -> Option<(Netlis
         vectors,
     } = drawn;
     match gather::<D>(alloc, &module, &names, contributions) {
-        Ok(net) => Some((net, vectors)),
+        Ok(net) => Some((ModuleNet { module, net }, vectors)),
         Err(_) => None,
     }
 }

@@ -46,7 +46,7 @@ fn put_mismatches<D: Device>(alloc: Global, file: &FuseFile, found: &mut Found) 
     Some(())
 }
 
-/// The cells and the fuses of a source that fits; whether the device does as its netlist, where that is asked; and how
+/// The cells and the fuses of a source that fits; whether the device does as its module, where that is asked; and how
 /// often it disagrees with the vectors.
 fn put_fit<D: Device>(
     alloc: Global,
@@ -55,14 +55,14 @@ fn put_fit<D: Device>(
     found: &mut Found,
 ) -> Option<()> {
     let module = module_of(alloc, source.bytes())?;
-    let (net, vectors) = gathered::<D>(alloc, draw::<D>(alloc, module)?)?;
-    let Ok(fitted) = fit::<D>(alloc, &net) else {
+    let (made, vectors) = gathered::<D>(alloc, draw::<D>(alloc, module)?)?;
+    let Ok(fitted) = fit::<D>(alloc, &made.net) else {
         return None;
     };
     put_cells(fitted.cells.as_slice(), found);
     put_fuses(fitted.fuses.levels(), found);
-    if is_alike && !runs_alike::<D>(alloc, &net, &fitted.fuses)? {
-        found.text(", not as its netlist");
+    if is_alike && !runs_alike::<D>(alloc, &made, &fitted.fuses)? {
+        found.text(", not as its module");
     }
     let file = FuseFile {
         fuses: fitted.fuses,

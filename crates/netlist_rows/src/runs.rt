@@ -1,6 +1,14 @@
-//! How a netlist of the sample device comes to rest and steps.
+//! How a module of the sample device comes to rest and steps, with any as 0.
 
-use crate::drawing::{draw, gathered};
+ghost use Rattle.std.specs.Prelude.{◌≡◌};
+ghost use Rattle.pld_device.specs.SampleTable.{sample};
+ghost use Rattle.abel_tree.specs.Tree.{ModuleTree};
+ghost use Rattle.abel_meaning.specs.Netlists.{plain_netlist};
+ghost use Rattle.abel_meaning.specs.SoundIds.{IsSoundNetlist};
+ghost use Rattle.fitted.specs.Correct.{MeansTheSame};
+ghost use Rattle.gathered.specs.Gathered.{netlist_of};
+
+use crate::drawing::{ModuleNet, draw, gathered};
 use crate::places::{put_number, put_word};
 use crate::sources::row_module;
 use pld_base::{Point, level_at};
@@ -45,19 +53,38 @@ fn levels_of(text: &str) -> Option<u32> {
     Some(levels)
 }
 
-/// The points of the one netlist of the names: at rest with low pins and stored Qs that are 1, and then behind steps to the
-/// levels of a text, which are parted by commas.
-pub(crate) fn put_run(alloc: Global, names: &Found, text: &str, found: &mut Found) -> Option<()> {
-    let module = row_module(alloc, names, "", "", "")?;
-    let (net, _vectors) = gathered::<Sample>(alloc, draw::<Sample>(alloc, module)?)?;
-    let Ok(logic) = SourceLogic::<Sample>::new(alloc, &net) else {
+/// The levels of each step: the words of a text, which are parted by commas.
+fn steps_of(alloc: Global, text: &str) -> Option<Vec<u32>> {
+    let mut steps = Vec::new(alloc);
+    for levels in text.split(',') {
+        steps.push(levels_of(levels)?).ok()?;
+    }
+    Some(steps)
+}
+
+/// The points of a module: at rest with low pins and stored Qs that are 1, and then behind each step.
+fn put_steps(alloc: Global, made: &ModuleNet, steps: &[u32], found: &mut Found) -> Option<()>
+    ghost source: { ModuleTree }
+    requires sound { IsSoundNetlist sample made.now.net }
+    requires module { plain_netlist made.now.net ≡ netlist_of sample source }
+    requires same { MeansTheSame sample source (plain_netlist made.now.net) }
+{
+    let Ok(logic) = SourceLogic::<Sample>::new(alloc, &made.net) else {
         return None;
     };
     let mut at = rest(&logic, 0, 0b11);
     put_point(&at, trace(&logic, &at).driven, found);
-    for levels in text.split(',') {
-        at = step(&logic, &at, levels_of(levels)?);
+    for levels in steps {
+        at = step(&logic, &at, *levels);
         put_point(&at, trace(&logic, &at).driven, found);
     }
     Some(())
+}
+
+/// The points of the one module of the names, at rest and behind steps to the levels of a text.
+pub(crate) fn put_run(alloc: Global, names: &Found, text: &str, found: &mut Found) -> Option<()> {
+    let module = row_module(alloc, names, "", "", "")?;
+    let (made, _vectors) = gathered::<Sample>(alloc, draw::<Sample>(alloc, module)?)?;
+    let steps = steps_of(alloc, text)?;
+    put_steps(alloc, &made, steps.as_slice(), found)
 }

@@ -56,8 +56,8 @@ fn put_fit_fault(fault: FitFault, found: &mut Found) {
 /// Why a source doesn't fit.
 pub(crate) fn put_fault<D: Device>(alloc: Global, text: &str, found: &mut Found) -> Option<()> {
     let module = module_of(alloc, text.as_bytes())?;
-    let (net, _vectors) = gathered::<D>(alloc, draw::<D>(alloc, module)?)?;
-    match fit::<D>(alloc, &net) {
+    let (made, _vectors) = gathered::<D>(alloc, draw::<D>(alloc, module)?)?;
+    match fit::<D>(alloc, &made.net) {
         Ok(_) => put_word("it fits", found),
         Err(fault) => put_fit_fault(fault, found),
     }

@@ -5,7 +5,7 @@ use Rattle.netlist_rows.proofs.drawing.draw.Goals as goal
 pub returns-clause-drawn : goal.returns-clause-drawn
 returns-clause-drawn g c =
     let names = c.in_ok-names.ensures in
-    let m = view_module c.args.module in
+    let m = view_module c.args.source in
     let accepted = c.names_are_accepted.ensures g.D.Device.table m c.in_ok-names.names names.entries names.sound names.apart names.buffers in
     let found = c.in_ok-contributions.ensures.found.contributed in
     record {
