@@ -11,7 +11,8 @@ use Rattle.compile_phases.specs.Devices.{table_of}
 use Rattle.abel_commands.specs.Ending.{Ending, Output, memory_line, file_fault}
 use Rattle.abel_cli.specs.Telling.{Puts, TakesFront, TakesFrontAndMemory}
 use Rattle.abel_cli.specs.Promises.{MeansOn, IsMeant, EndsAsCalled, EndsInFileFault, LeavesFiles, Promises}
-use Rattle.abel_cli.specs.Right.{IsRight, IsRightOrOld}
+use Rattle.abel_cli.specs.Further.{HasCompiled, IsRightOrOld}
+use Rattle.abel_cli.specs.Right.{IsRight}
 use Rattle.abel_cli.specs.Run.{Ends, Means, CallsFor, IsCalledFor, Comes, Runs}
 use Rattle.abel_commands.specs.SourceCommands.{written, listed}
 use Rattle.source_files.specs.Sources.{source_at}
@@ -178,8 +179,8 @@ module _ (a : Asked) (h : Heard) where
 
   -- ---- the main theorem: of `compile` alone
 
-  pub right : Promises a h → a.told → h.status ≡ 0 → IsRight a.words a.old a.new h.told h.old h.new
-  right p tells is i o w =
+  pub compiled : Promises a h → a.told → h.status ≡ 0 → HasCompiled a.words a.old a.new h.told h.old h.new
+  compiled p tells is i o w =
       let k = p.ended (omega (arith, is)) in
       let m = subst (λ (c : Option Command). MeansOn a.told a.old c k.ending) w k.meant in
       let r = m.2.compiled (sym k.status ∙ is) in
@@ -189,6 +190,9 @@ module _ (a : Asked) (h : Heard) where
         puts.1,
         λ reports. k.text reports ∙ ap (λ (x : Ending). h.old ++ x.text) r.2,
       )
+
+  pub right : Promises a h → a.told → h.status ≡ 0 → IsRight a.words a.old a.new
+  right p tells is i o w = let r = compiled p tells is i o w in (r.0.device, r.0.file.items, r.2, r.1.right)
 
   abbrev Held : Type 0
   Held = (input output : List ℕ) × IsCompile a.words input output

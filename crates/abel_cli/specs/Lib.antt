@@ -1,5 +1,6 @@
 pub mod Call
 pub mod Found
+pub mod Further
 pub mod Promises
 pub mod Right
 pub mod Run

@@ -1,18 +1,14 @@
--- The main theorem at the top call: what stands under OUT does what the source under IN says.
-use Rattle.std.specs.Prelude.{◌≡◌, ℕ, ◌⊎◌, List, ◌++◌, Some}
-use Rattle.outside.specs.Outside.{Map, bytes_at, SameFiles}
-use Rattle.abel_compile.specs.declared.compiled.Compiled.{Compiled}
-use Rattle.abel_compile.specs.Correct.{IsCompiled}
+-- The main theorem at the top call: what stands under OUT is right for the source under IN.
+use Rattle.std.specs.Prelude.{◌≡◌, ℕ, List, Some}
+use Rattle.outside.specs.Outside.{Map, bytes_at}
+use Rattle.pld_base.specs.declared.device_name.DeviceName.{DeviceName}
+use Rattle.module_reader.specs.Texts.{SpellsModule}
+use Rattle.compile_phases.specs.Devices.{table_of}
+use Rattle.abel_compile.specs.Statement.{IsRightFile}
 use Rattle.abel_commands.specs.Words.{IsCompile}
 
--- with `compile`, OUT holds the file of the source that the bytes under IN spelled before the call, compiled, and the
--- report took the summary of that file's fuses
-abbrev pub IsRight : List (List ℕ) → Map → Map → (told : Type 0) → (reported reports : List ℕ) → Type 0
-IsRight words old new told reported reports = (input output : List ℕ) → IsCompile words input output
-    → (c : Compiled) × IsCompiled (bytes_at old input) c × (new output ≡ Some c.file.items)
-    × (told → reports ≡ reported ++ c.summary.items)
-
--- OUT is as before, or a write failed in this call, or OUT holds such a file
-abbrev pub IsRightOrOld : List (List ℕ) → Map → Map → (write_rose : Type 0) → Type 0
-IsRightOrOld words old new write_rose = SameFiles old new ⊎ (write_rose ⊎ ((input output : List ℕ) × IsCompile words input output
-    × (c : Compiled) × IsCompiled (bytes_at old input) c × (new output ≡ Some c.file.items)))
+-- with `compile`, OUT holds a file that is right for the text under IN before the call, in the device that the text names
+abbrev pub IsRight : List (List ℕ) → Map → Map → Type 0
+IsRight words old new = (input output : List ℕ) → IsCompile words input output
+    → (device : DeviceName) × (file : List ℕ) × (new output ≡ Some file)
+    × IsRightFile SpellsModule table_of (bytes_at old input) device file

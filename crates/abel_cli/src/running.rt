@@ -5,8 +5,9 @@ ghost use Rattle.outside.specs.Causes.{Rose};
 ghost use Rattle.abel_cli.specs.Call.{asked, heard};
 ghost use Rattle.abel_cli.specs.Telling.{Tells, TakesFront};
 ghost use Rattle.abel_commands.specs.Ending.{memory_line};
+ghost use Rattle.abel_cli.specs.Further.{HasCompiled, IsRightOrOld};
 ghost use Rattle.abel_cli.specs.Promises.{Promises};
-ghost use Rattle.abel_cli.specs.Right.{IsRight, IsRightOrOld};
+ghost use Rattle.abel_cli.specs.Right.{IsRight};
 ghost use Rattle.abel_cli.specs.Run.{Runs};
 ghost use Rattle.abel_commands.specs.View.{view};
 ghost use Rattle.source_files.specs.Sources.{texts};
@@ -62,6 +63,9 @@ pub fn run<F: Files, K: Sink>(alloc: Global, words: &[String], files: &mut F, re
     // The main theorem: with `compile` under 0 OUT holds a file whose fuses do what the source under
     // IN says.
     ensures right { F.Tells → result ≡ 0 → IsRight (texts words.now) (F.file files.old)
+        (F.file files.new) }
+    // What else holds of that source, and the summary in the report.
+    ensures compiled { F.Tells → result ≡ 0 → HasCompiled (texts words.now) (F.file files.old)
         (F.file files.new) K.Tells (K.taken report.old) (K.taken report.new) }
     // Under every status OUT is as it was, holds such a file, or a write failed.
     ensures right_or_old { F.Tells → IsRightOrOld (texts words.now) (F.file files.old)
