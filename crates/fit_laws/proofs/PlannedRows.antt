@@ -56,7 +56,7 @@ some_on t c column low on =
     list_any_at (λ (b : Bool). b) (row_of t c) column false (let long = length-map-range_with_len (fuse_at c) 0 t.columns in omega (arith, long, low))
     (get_or-map-range_with_len (fuse_at c) 0 t.columns column column false low (omega arith) ∙ on)
 
-row_used : (t : Table) (c : Cube) → 2 ≤ t.columns → IsSingle c → list_any (λ (b : Bool). b) (row_of t c) ≡ true
+pub row_used : (t : Table) (c : Cube) → 2 ≤ t.columns → IsSingle c → list_any (λ (b : Bool). b) (row_of t c) ≡ true
 row_used t c some single =
     elim (cases_Bool (bit_at c.yes 0 == 0)) [
       | inl off ↦ some_on t c 0 (omega (arith, some)) off
@@ -66,7 +66,7 @@ row_used t c some single =
       ]
     ]
 
-zeros_unused : (t : Table) → list_any (λ (b : Bool). b) (zeros t) ≡ false
+pub zeros_unused : (t : Table) → list_any (λ (b : Bool). b) (zeros t) ≡ false
 unfolding zeros
 zeros_unused t = none_of t.columns
 
@@ -87,7 +87,7 @@ module _ (t : Table) (laws : IsDevice t) (net : Netlist) (mask : ℕ) (plan : Pl
   control_single : (needed allowed : Products) (row : Option Cube) → IsCoverBetween (length t.pairs) mask needed allowed (option_to_list row) → (c : Cube) → row ≡ Some c → IsSingle c
   control_single needed allowed row cover c is = cover_single needed allowed (option_to_list row) cover 0 c (rw is refl)
 
-  cell_single : (c : ℕ) (wanted : Option CellWanted) (x : CellPlan) (form : CellForm) → PlansAs t mask net c wanted x form → (i : ℕ) (d : Cube) → slice_get x.rows i ≡ Some d → IsSingle d
+  pub cell_single : (c : ℕ) (wanted : Option CellWanted) (x : CellPlan) (form : CellForm) → PlansAs t mask net c wanted x form → (i : ℕ) (d : Cube) → slice_get x.rows i ≡ Some d → IsSingle d
   cell_single c None x form is i d there = absurd (let none : slice_get x.rows i ≡ None = rw is.rows refl in none_some d (sym none ∙ there))
     where
       none_some : (e : Cube) → None ≡ Some e → ⊥
