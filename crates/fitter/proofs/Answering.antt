@@ -32,11 +32,12 @@ use Rattle.fitter.specs.declared.sharing.SharedRows.{SharedRows}
 use Rattle.fitter.specs.Answers.{HasControls, IsFitOf, IsTooMany}
 use Rattle.fitter.specs.Covered.{CoversBelow, HasCoversAs}
 use Rattle.fitter.specs.Fitting.{IsBurnedPlan, plan_of}
-use Rattle.fitter.specs.Planned.{AreRowsOf, HasSharedRow, IsEntryOf, IsManyRows, IsOverAt, IsSingleRow, RowsBelow, SingleBelow}
+use Rattle.fitter.specs.Planned.{AreRowsOf, EachFitsBelow, HasSharedRow, IsEntryOf, IsManyRows, IsOverAt, IsSingleRow, RowsBelow, SingleBelow}
 use Rattle.fitter.specs.Products.{EnablesBelow, IsFirstSum, IsProduct, IsSharedProduct}
 use Rattle.fitter.specs.Rows.{IsDirectOver, IsFittedEntry, Rises}
 use Rattle.fitter.proofs.Controls.{first_of_one, is_no_product, is_product}
 use Rattle.fitter.proofs.CellPlans.{over_at, plan_as}
+use Rattle.fitter.proofs.FittingCovers.{fitting_cover}
 use Rattle.fitter.proofs.Widths.{none_wide}
 
 -- ---- controls
@@ -95,12 +96,13 @@ module _ (t : Table) (laws : IsDevice t) (net : Netlist) (sound : IsSoundNetlist
       enables = enables_below covers (length t.cells) below (omega arith) single;
     }
 
-    pub too_many : (c : ℕ) (tried : Tried) → c < length t.cells → IsOverAt t c (get_or covers c None) tried → IsTooMany t net c tried
-    too_many c tried low over = record {
+    pub too_many : (c : ℕ) (tried : Tried) → c < length t.cells → IsOverAt t c (get_or covers c None) tried → EachFitsBelow t covers c → IsTooMany t net c tried
+    too_many c tried low over fit = record {
       controls = controls;
       mask = mask;
       mask_is = mask_is;
       over = over_at t mask net c (cell_wanted net c) (get_or covers c None) tried refl (below.each c low) over;
+      before = λ d w less is. fitting_cover t mask net d (cell_wanted net d) w (get_or covers d None) refl is (below.each d (omega (arith, less, low))) (fit d less);
     }
 
     -- ---- fuses

@@ -27,7 +27,7 @@ use Rattle.fitter.specs.declared.planning.CellRows.{CellRows}
 use Rattle.fitter.specs.Covered.{HasCovers, HasCoversAs}
 use Rattle.fitter.specs.declared.fault.FitFault.{FitFault}
 use Rattle.fitter.specs.declared.fault.FitFault.TheVariants as fault
-use Rattle.fitter.specs.Planned.{AreChosen, ArePlanned, ArePlannedAt, AreRowsOf, HasRowsAt, IsOver, IsOverAt, IsSingleRow, RowsBelow, SingleBelow}
+use Rattle.fitter.specs.Planned.{AreChosen, ArePlanned, ArePlannedAt, AreRowsOf, EachFitsBelow, HasRowsAt, IsOver, IsOverAt, IsSingleRow, RowsBelow, SingleBelow}
 use Rattle.fitter.specs.Rows.{IsHeavier, IsOverRoom}
 use Rattle.fitter.proofs.Controls.{first_of_one}
 use Rattle.fitter.proofs.RisenCovers.{risen_cover}
@@ -97,11 +97,11 @@ form_of t mask net w inverted (Some other) rows tried is =
     same a b e = cc
 
 -- the number of an assigned cell
-number_is : (net : Netlist) (c : ℕ) (w : CellWanted) → cell_wanted net c ≡ Some w → w.cell ≡ c
+pub number_is : (net : Netlist) (c : ℕ) (w : CellWanted) → cell_wanted net c ≡ Some w → w.cell ≡ c
 number_is net c w is = (found_id (λ (v : CellWanted). Unit {0}) net.cells c w (λ k v within. tt) is).cell
 
 -- what was tried, by the room of the cell's number
-tried_at : (t : Table) (mask : ℕ) (net : Netlist) (c : ℕ) (w : CellWanted) (x : CellCovers) → w.cell ≡ c → HasCovers t mask net w x
+pub tried_at : (t : Table) (mask : ℕ) (net : Netlist) (c : ℕ) (w : CellWanted) (x : CellCovers) → w.cell ≡ c → HasCovers t mask net w x
     → IsTriedCell t.flip (cell_at t c).room (length t.pairs) mask net w x.tried
 tried_at t mask net c w x own has = subst (λ n. IsTriedCell t.flip (cell_at t n).room (length t.pairs) mask net w x.tried) own has.tried
 
@@ -186,17 +186,18 @@ over_at t mask net c (Some w) (Some x) tried is has over = over_cell t mask net 
 -- ---- the cells in turn
 
 pub plans_stop : (t : Table) (covers : List (Option CellCovers)) (c : ℕ) (found : Option CellCovers) (x : FitFault) → c < length t.cells → found ≡ get_or covers c None
-    → ArePlannedAt t c found (Err x) → ArePlanned t covers (Err x)
-plans_stop t covers c found (fault.TooWide d) low same is = absurd is
-plans_stop t covers c found (fault.NotShared which a b point) low same is = absurd is
-plans_stop t covers c found fault.ResetTooWide low same is = absurd is
-plans_stop t covers c found fault.PresetTooWide low same is = absurd is
-plans_stop t covers c found (fault.EnableTooWide d) low same is = absurd is
-plans_stop t covers c found (fault.TooManyProducts d tried) low same is = let own = is.0 in (
+    → EachFitsBelow t covers c → ArePlannedAt t c found (Err x) → ArePlanned t covers (Err x)
+plans_stop t covers c found (fault.TooWide d) low same before is = absurd is
+plans_stop t covers c found (fault.NotShared which a b point) low same before is = absurd is
+plans_stop t covers c found fault.ResetTooWide low same before is = absurd is
+plans_stop t covers c found fault.PresetTooWide low same before is = absurd is
+plans_stop t covers c found (fault.EnableTooWide d) low same before is = absurd is
+plans_stop t covers c found (fault.TooManyProducts d tried) low same before is = let own = is.0 in (
   omega (arith, low, own),
   subst (λ n. IsOverAt t n (get_or covers n None) tried) (sym own) (subst (λ (o : Option CellCovers). IsOverAt t c o tried) same is.1),
+  subst (EachFitsBelow t covers) (sym own) before,
 )
-plans_stop t covers c found fault.OutOfMemory low same is = tt
+plans_stop t covers c found fault.OutOfMemory low same before is = tt
 
 -- ---- enables
 

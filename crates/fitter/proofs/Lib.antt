@@ -2,6 +2,7 @@ pub mod Answering
 pub mod CellPlans
 pub mod Controls
 pub mod Entries
+pub mod FittingCovers
 pub mod OneProduct
 pub mod RisenCovers
 pub mod RowNumbers

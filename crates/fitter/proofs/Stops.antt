@@ -116,5 +116,5 @@ module _ (t : Table) (laws : IsDevice t) (net : Netlist) (sound : IsSoundNetlist
     plan_stops PresetTooWide single is = absurd is
     plan_stops (EnableTooWide c) single is = absurd is
     plan_stops (TooManyProducts c tried) single is =
-        too_many t laws net sound mask mask_is covers shared below reset preset (subst (SingleBelow covers) below.count single) c tried is.0 is.1
+        too_many t laws net sound mask mask_is covers shared below reset preset (subst (SingleBelow covers) below.count single) c tried is.0 is.1 is.2
     plan_stops OutOfMemory single is = tt

@@ -12,7 +12,7 @@ use Rattle.fitter.specs.declared.fault.FitFault.{FitFault}
 use Rattle.fitter.specs.declared.fault.FitFault.TheVariants.{EnableTooWide, NotShared, OutOfMemory, PresetTooWide, ResetTooWide, TooManyProducts, TooWide}
 use Rattle.fitter.specs.declared.answer.Fitted.{Fitted}
 use Rattle.fitter.specs.Products.{DifferIn, EnablesBelow, IsFirstSum, IsSharedProduct, IsSharedSum}
-use Rattle.fitter.specs.Rows.{AreFittedCells, IsOverRoom}
+use Rattle.fitter.specs.Rows.{AreFittedCells, CoversFitBelow, IsOverRoom}
 use Rattle.fitter.specs.Width.{IsFirstWide, NoneWide}
 
 -- the controls are shared, and each is one product or 0
@@ -28,12 +28,14 @@ pub record IsFitOf (t : Table) (net : Netlist) (fitted : Fitted) : Type 0 where
   pub fits : IsFitted t (plain_netlist net) fitted.fuses
   pub cells : AreFittedCells t net fitted.fuses fitted.cells
 
--- the cell is too wide for its room in every form, by these covers over the columns, and the controls are not
+-- the cell is too wide for its room in every form, by these covers over the columns, and the controls are not; and of each
+-- cell before it a cover that was tried fits
 pub record IsTooMany (t : Table) (net : Netlist) (c : ℕ) (tried : Tried) : Type 0 where
   pub controls : HasControls t net
   pub mask : ℕ
   pub mask_is : IsTurnMask t (plain_netlist net) mask
   pub over : IsOverRoom t mask net c tried
+  pub before : CoversFitBelow t mask net c
 
 -- each answer with its cause; want of memory tells nothing
 abbrev pub FitAnswers : Table → Netlist → Result Fitted FitFault → Type 0

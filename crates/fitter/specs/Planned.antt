@@ -88,10 +88,20 @@ pub record RowsBelow (t : Table) (covers : List (Option CellCovers)) (c : ℕ) (
   pub forms_count : length forms ≡ c
   pub each : (d : ℕ) → d < c → HasRowsAt t covers plans forms d
 
--- the rows of all cells; TooManyProducts with the number of one that no form fits
+-- of the covers that were found of a cell that may be assigned one fits its room
+abbrev pub OneFitsAt : Table → ℕ → Option CellCovers → Type 0
+OneFitsAt t c None = Unit {0}
+OneFitsAt t c (Some x) = FitsRoom (cell_at t c).room x.tried.direct ⊎ FitsRoom (cell_at t c).room x.tried.inverted
+
+-- so it is of the cells below a number
+abbrev pub EachFitsBelow : Table → List (Option CellCovers) → ℕ → Type 0
+EachFitsBelow t covers c = (d : ℕ) → d < c → OneFitsAt t d (get_or covers d None)
+
+-- the rows of all cells; TooManyProducts with the number of the first that no form fits
 abbrev pub ArePlanned : Table → List (Option CellCovers) → Result AllRows FitFault → Type 0
 ArePlanned t covers (Ok all) = RowsBelow t covers (length t.cells) all.plans.items all.forms.items
-ArePlanned t covers (Err (fault.TooManyProducts c tried)) = (c < length t.cells) × IsOverAt t c (get_or covers c None) tried
+ArePlanned t covers (Err (fault.TooManyProducts c tried)) =
+    (c < length t.cells) × IsOverAt t c (get_or covers c None) tried × EachFitsBelow t covers c
 ArePlanned t covers (Err fault.OutOfMemory) = Unit {0}
 ArePlanned t covers (Err _) = ⊥
 

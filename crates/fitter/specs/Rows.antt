@@ -1,5 +1,5 @@
 -- The data rows of cells, and the order in which they are written (this project's rule).
-use Rattle.std.specs.Prelude.{◌≡◌, ◌≢◌, ℕ, zero, suc, ◌+◌, ◌*◌, ◌<◌, ◌≤◌, Bool, true, false, if◌then◌else◌, Option, Some, List, length, slice_get, All, AllPairs}
+use Rattle.std.specs.Prelude.{◌≡◌, ◌≢◌, ◌⊎◌, ℕ, zero, suc, ◌+◌, ◌*◌, ◌<◌, ◌≤◌, Bool, true, false, if◌then◌else◌, Option, Some, List, length, slice_get, All, AllPairs}
 use Rattle.std.specs.Global.{Vec}
 use Rattle.std.specs.List.Sorted.{IsNonDecreasingBy}
 use Rattle.pld_device.specs.declared.flip.Flip.TheVariants.{Always}
@@ -49,6 +49,16 @@ pub record IsOverRoom (t : Table) (mask : ℕ) (net : Netlist) (c : ℕ) (tried 
   pub direct : FitsRoom (cell_at t c).room tried.direct → ⊥
   pub inverted : FitsRoom (cell_at t c).room tried.inverted → ⊥
   pub heavier : IsHeavier t net c cell
+
+-- of the covers of a cell that are tried in the forms that it may have one fits its room
+pub record HasFittingCover (t : Table) (mask : ℕ) (net : Netlist) (c : ℕ) (w : CellWanted) : Type 0 where
+  pub tried : Tried
+  pub covers_it : IsTriedCell t.flip (cell_at t c).room (length t.pairs) mask net w tried
+  pub fits : FitsRoom (cell_at t c).room tried.direct ⊎ FitsRoom (cell_at t c).room tried.inverted
+
+-- so it is of each assigned cell below a number
+abbrev pub CoversFitBelow : Table → (mask : ℕ) → Netlist → ℕ → Type 0
+CoversFitBelow t mask net c = (d : ℕ) (w : CellWanted) → d < c → cell_wanted net d ≡ Some w → HasFittingCover t mask net d w
 
 -- the direct form of a cell has a cover with more rows than its room, or none
 pub record IsDirectOver (t : Table) (net : Netlist) (c : ℕ) (w : CellWanted) : Type 0 where

@@ -3,6 +3,7 @@ use Rattle.std.proofs.lemmas.Result.{err_from_is_err_and}
 use Rattle.fitter.specs.declared.covering.CellCovers.{CellCovers}
 use Rattle.fitter.specs.Planned.{ArePlanned, AreRowsOf, RowsBelow}
 use Rattle.fitter.proofs.CellPlans.{plans_stop, rows_more, rows_none}
+use Rattle.fitter.proofs.FittingCovers.{each_fits_below}
 use Rattle.fitter.proofs.Stops.{handed}
 use Rattle.fitter.proofs.planning.plan_cells.Goals as goal
 
@@ -31,7 +32,8 @@ pub returns-in_err-rows : goal.returns-in_err-rows
 returns-in_err-rows g c =
     handed (ArePlanned g.D.Device.table c.args.covers.items) c.from_residual.result _ (err_from_is_err_and c.from_residual.result c.from_residual.ensures.1)
     (plans_stop g.D.Device.table c.args.covers.items c.loop-cell.cell c.taken-found.result _ (omega (arith, c.loop-cell-test.true, c.CELLS-cell-end.ensures, g.met.D.Device.cells_is))
-    (c.taken-found.ensures.value ∙ c.loop-cell.invariant.left c.loop-cell.cell (omega arith)) c.in_err-rows.ensures)
+    (c.taken-found.ensures.value ∙ c.loop-cell.invariant.left c.loop-cell.cell (omega arith))
+    (each_fits_below g.D.Device.table c.args.covers.items c.loop-cell.cell c.loop-cell.plans.items c.loop-cell.forms.items c.loop-cell.invariant.rows) c.in_err-rows.ensures)
 
 pub returns : goal.returns
 returns g c =
