@@ -16,6 +16,7 @@ use Rattle.cube_pool.specs.declared.cube.Cube.{Cube}
 use Rattle.fit_cells.specs.declared.choosing.Tried.{Tried}
 use Rattle.fit_laws.specs.Plans.{HasCellPlan, IsTurnMask, PlansNetlist, PlansRows, cell_wanted, enable_bit}
 use Rattle.fit_laws.proofs.BurnedControls.{says_inverted}
+use Rattle.fit_laws.proofs.PlannedRows.{cell_single}
 use Rattle.fit_laws.proofs.PlansFit.{plans_fit}
 use Rattle.fit_plans.specs.Covered.{control_function}
 use Rattle.fit_rows.specs.declared.plan.CellPlan.{CellPlan}
@@ -32,12 +33,14 @@ use Rattle.fitter.specs.declared.sharing.SharedRows.{SharedRows}
 use Rattle.fitter.specs.Answers.{HasControls, IsFitOf, IsTooMany}
 use Rattle.fitter.specs.Covered.{CoversBelow, HasCoversAs}
 use Rattle.fitter.specs.Fitting.{IsBurnedPlan, plan_of}
+use Rattle.fitter.specs.Order.{AreRowsInOrder}
 use Rattle.fitter.specs.Planned.{AreRowsOf, EachFitsBelow, HasSharedRow, IsEntryOf, IsManyRows, IsOverAt, IsSingleRow, RowsBelow, SingleBelow}
 use Rattle.fitter.specs.Products.{EnablesBelow, IsFirstSum, IsProduct, IsSharedProduct}
 use Rattle.fitter.specs.Rows.{IsDirectOver, IsFittedEntry, Rises}
 use Rattle.fitter.proofs.Controls.{first_of_one, is_no_product, is_product}
 use Rattle.fitter.proofs.CellPlans.{over_at, plan_as}
 use Rattle.fitter.proofs.FittingCovers.{fitting_cover}
+use Rattle.fitter.proofs.RowOrder.{rows_in_order}
 use Rattle.fitter.proofs.Widths.{none_wide}
 
 -- ---- controls
@@ -168,6 +171,15 @@ module _ (t : Table) (laws : IsDevice t) (net : Netlist) (sound : IsSoundNetlist
                 (sym (says_inverted t laws (plan_of shared rows) rows.forms.items fitted.fuses is.burned x.cell low free) ∙ on);
           }
 
+      in_order : (c : ℕ) (w : CellWanted) → c < length t.cells → cell_wanted net c ≡ Some w → AreRowsInOrder t fitted.fuses c
+      unfolding cell_plans
+      in_order c w low asked =
+          let has = are.each c low in
+          let good = rows_rise c (cell_wanted net c) w (get_or covers c None) (record { plan = has.plan; form = form_at rows.forms.items c }) asked (below.each c low) has.rows in
+          rows_in_order t fitted.fuses c has.plan.rows laws.sizes.columns_low (is.burned.cells c has.plan low has.there good.1)
+          (cell_single t laws net mask (plan_of shared rows) rows.forms.items fitted.fuses plans is.burned c (cell_wanted net c) has.plan (form_at rows.forms.items c) (cell_plans c low).planned)
+          good.0
+
       pub fit_of : IsFitOf t net fitted
       fit_of = record {
         controls = controls;
@@ -177,4 +189,5 @@ module _ (t : Table) (laws : IsDevice t) (net : Netlist) (sound : IsSoundNetlist
           order = is.entries.order;
           each = is.entries.each;
         };
+        order = in_order;
       }

@@ -6,6 +6,7 @@ pub mod FittingCovers
 pub mod OneProduct
 pub mod RisenCovers
 pub mod RowNumbers
+pub mod RowOrder
 pub mod Stops
 pub mod TurnBits
 pub mod WidthOrder

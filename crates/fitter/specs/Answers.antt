@@ -1,16 +1,18 @@
 -- What fitting a netlist answers, and when: the first refusal of these, in this order (this project's rule).
-use Rattle.std.specs.Prelude.{ℕ, length, Result, Ok, Err}
+use Rattle.std.specs.Prelude.{◌≡◌, ℕ, ◌<◌, Some, length, Result, Ok, Err}
 use Rattle.pld_device.specs.Table.{Table}
+use Rattle.bit_expr.specs.declared.netlist.CellWanted.{CellWanted}
 use Rattle.bit_expr.specs.declared.netlist.Netlist.{Netlist}
 use Rattle.abel_meaning.specs.Netlists.{plain_netlist}
 use Rattle.fitted.specs.Fitting.{AreShared, IsFitted}
-use Rattle.fit_laws.specs.Plans.{IsTurnMask}
+use Rattle.fit_laws.specs.Plans.{IsTurnMask, cell_wanted}
 use Rattle.fit_shared.specs.declared.shared.SharedControl.TheVariants.{Preset, Reset}
 use Rattle.fit_shared.specs.Sharing.{own_formula}
 use Rattle.fit_cells.specs.declared.choosing.Tried.{Tried}
 use Rattle.fitter.specs.declared.fault.FitFault.{FitFault}
 use Rattle.fitter.specs.declared.fault.FitFault.TheVariants.{EnableTooWide, NotShared, OutOfMemory, PresetTooWide, ResetTooWide, TooManyProducts, TooWide}
 use Rattle.fitter.specs.declared.answer.Fitted.{Fitted}
+use Rattle.fitter.specs.Order.{AreRowsInOrder}
 use Rattle.fitter.specs.Products.{DifferIn, EnablesBelow, IsFirstSum, IsSharedProduct, IsSharedSum}
 use Rattle.fitter.specs.Rows.{AreFittedCells, CoversFitBelow, IsOverRoom}
 use Rattle.fitter.specs.Width.{IsFirstWide, NoneWide}
@@ -22,11 +24,12 @@ pub record HasControls (t : Table) (net : Netlist) : Type 0 where
   pub preset : IsSharedProduct t net Preset
   pub enables : EnablesBelow t net (length t.cells)
 
--- the answer has the fuses of the netlist and its cells' rows
+-- the answer has the fuses of the netlist and its cells' rows, which are written in order
 pub record IsFitOf (t : Table) (net : Netlist) (fitted : Fitted) : Type 0 where
   pub controls : HasControls t net
   pub fits : IsFitted t (plain_netlist net) fitted.fuses
   pub cells : AreFittedCells t net fitted.fuses fitted.cells
+  pub order : (c : ℕ) (w : CellWanted) → c < length t.cells → cell_wanted net c ≡ Some w → AreRowsInOrder t fitted.fuses c
 
 -- the cell is too wide for its room in every form, by these covers over the columns, and the controls are not; and of each
 -- cell before it a cover that was tried fits

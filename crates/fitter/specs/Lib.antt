@@ -1,6 +1,7 @@
 pub mod Answers
 pub mod Covered
 pub mod Fitting
+pub mod Order
 pub mod Planned
 pub mod Products
 pub mod Rows
