@@ -1,7 +1,10 @@
 //! The whole fit: covers, shared controls, rows, fuses.
 
 ghost use Rattle.std.specs.Prelude.{◌≡◌, ◌+◌, ◌<◌, IfOk, length};
-ghost use Rattle.pld_device.specs.Macrocells.{pin_complements};
+ghost use Rattle.pld_machine.specs.Comparison.{DoesTheSame};
+ghost use Rattle.pld_device.specs.Macrocells.{device_logic, pin_complements};
+ghost use Rattle.abel_meaning.specs.Netlists.{plain_netlist};
+ghost use Rattle.abel_meaning.specs.NetlistLogic.{netlist_logic, netlist_values};
 ghost use Rattle.abel_meaning.specs.SoundIds.{IsSoundNetlist};
 ghost use Rattle.fit_rows.specs.Controls.{IsBurned};
 ghost use Rattle.fitter.specs.Answers.{FitAnswers};
@@ -18,6 +21,7 @@ use bit_expr::Netlist;
 use cube_pool::CubePool;
 use fit_rows::{CellForm, CellPlan, Plan, device_fuses};
 use fit_shared::cell_wanted;
+use fitted::fitted_runs;
 use pld_base::ListOf;
 use pld_device::{Device, Flip, Fuses};
 use std::alloc::{AllocError, Global};
@@ -110,7 +114,10 @@ fn burned<D: Device>(
 pub fn fit<D: Device>(alloc: Global, net: &Netlist) -> Result<Fitted, FitFault>
     requires sound { IsSoundNetlist D.table net.now }
     ensures answer { FitAnswers D.table net.now result }
+    ensures does { IfOk result (λ fitted. DoesTheSame (device_logic D.table fitted.fuses)
+        (netlist_logic D.table (plain_netlist net.now)) (netlist_values (plain_netlist net.now))) }
 {
+    fitted_runs();
     let mut pool = CubePool::with_room(alloc, POOL)?;
     let turned = turn_mask::<D>(net);
     let covers = cover_cells::<D>(alloc, &mut pool, net, turned)?;
