@@ -1,3 +1,4 @@
+pub mod Controls
 pub mod Correct
 pub mod Covers
 pub mod Example

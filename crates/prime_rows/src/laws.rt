@@ -1,6 +1,6 @@
 //! Laws of the rows of cells, as the contracts of calls that do nothing.
 
-ghost use Rattle.prime_rows.specs.Correct.{FittedRowsArePrime};
+ghost use Rattle.prime_rows.specs.Correct.{FittedControlsAreOwn, FittedRowsArePrime, FittedSparesAreUnused};
 ghost use Rattle.prime_rows.specs.Example.{ExampleHasPrimeRows};
 
 use fitted::example_fits;
@@ -9,6 +9,17 @@ use fitted::example_fits;
 /// module allows. Does nothing.
 pub fn fitted_rows_are_prime()
     ensures { FittedRowsArePrime }
+{}
+
+/// The cells that a module assigns nothing are not used in the fuses of its netlist. Does nothing.
+pub fn fitted_spares_are_unused()
+    ensures { FittedSparesAreUnused }
+{}
+
+/// In the fuses of a module's netlist the rows of the controls are those of the module's own, all 0 where these are. Does
+/// nothing.
+pub fn fitted_controls_are_own()
+    ensures { FittedControlsAreOwn }
 {}
 
 /// There are such fuses: those of the example. Does nothing.

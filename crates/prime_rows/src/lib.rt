@@ -3,4 +3,7 @@
 
 mod laws;
 
-pub use laws::{example_rows_are_prime, fitted_rows_are_prime};
+pub use laws::{
+    example_rows_are_prime, fitted_controls_are_own, fitted_rows_are_prime,
+    fitted_spares_are_unused,
+};
