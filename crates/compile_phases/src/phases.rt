@@ -12,6 +12,7 @@ ghost use Rattle.decls.specs.NameRefusals.{first_name_refusal};
 ghost use Rattle.set_expr.specs.SectionOrder.{section_order};
 ghost use Rattle.source_sections.specs.SectionAnswers.{AreContributed};
 ghost use Rattle.source_vectors.specs.AllSections.{AreSections, all_sections_refused};
+ghost use Rattle.gathered.specs.Takeable.{RegistersHaveCells};
 ghost use Rattle.fitter.specs.Answers.{IsFitOf};
 ghost use Rattle.compile_phases.specs.Phases.{AreNamesFor, IsDesignFault, IsFitRefused, IsNameFault, IsNetlistFor, IsOfSource, IsReadAlone, IsSectionFault, IsTextFault, IsUnnamed};
 ghost use Rattle.compile_phases.specs.SourceRefusals.{IsDesignRefusedFor};
@@ -20,6 +21,7 @@ use crate::fault::CompileFault;
 use crate::laws::sections_are_accepted;
 use crate::refusing::{uncontributed, undesigned, unfit, unnamed, unread};
 use abel_tree::{Module, Names};
+use accepted_designs::unrefused_is_takeable;
 use bit_expr::Netlist;
 use declared_names::declare;
 use decls::device_of;
@@ -98,10 +100,12 @@ pub fn netlist_of<D: Device>(
     requires sections { all_sections_refused (design_of D.table (view_module source.now)) ≡ [] }
     requires found { AreContributed (design_of D.table (view_module source.now)) found }
     ensures ok { IfOk result (λ net. IsNetlistFor D.table (view_module source.now) net) }
+    ensures registers { IfOk result (λ _. RegistersHaveCells (design_of D.table (view_module source.now))) }
     ensures err { IfErr result (IsOfSource (IsDesignFault (entries_of names.now)
         (IsDesignRefusedFor D.table (view_module source.now)))) }
 {
     sections_are_accepted();
+    unrefused_is_takeable();
     match gather::<D>(alloc, source, names, found) {
         Ok(net) => Ok(net),
         Err(fault) => Err(undesigned(alloc, names, fault)),

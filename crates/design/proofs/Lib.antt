@@ -5,4 +5,4 @@ mod Gathers
 mod LinkSizes
 mod LoopPlaces
 mod Sooner
-mod Unrefused
+pub mod Unrefused

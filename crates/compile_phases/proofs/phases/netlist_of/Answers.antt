@@ -1,8 +1,18 @@
 -- The design of accepted names and sections is accepted.
+use Rattle.bit_expr.specs.Arena.{arena}
 use Rattle.abel_tree.specs.View.{view_module}
+use Rattle.abel_meaning.specs.Designs.{design_of}
+use Rattle.design.proofs.Unrefused.{unrefused}
 use Rattle.compile_phases.proofs.phases.netlist_of.Goals as goal
 
 pub gather-requires-clause-accepted : goal.gather-requires-clause-accepted
 gather-requires-clause-accepted g c =
     c.sections_are_accepted.ensures g.D.Device.table (view_module c.args.source.now) c.args.names.now g.met.D.Device.sound c.requires.names
     c.requires.found.accepted
+
+pub returns-in-Ok-clause-registers : goal.returns-in-Ok-clause-registers
+returns-in-Ok-clause-registers g c =
+    let d = design_of g.D.Device.table (view_module c.args.source.now) in
+    (c.unrefused_is_takeable.ensures d (arena c.args.found.exprs) c.args.found.list g.met.D.Device.sound
+    (c.sections_are_accepted.ensures g.D.Device.table (view_module c.args.source.now) c.args.names.now g.met.D.Device.sound c.requires.names c.requires.found.accepted)
+    c.requires.found.gives (unrefused d (arena c.args.found.exprs) c.args.found.list c.in-Ok.ensures.unrefused)).registers
