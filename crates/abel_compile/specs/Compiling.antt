@@ -15,6 +15,7 @@ use Rattle.fuse_listing.specs.Listing.{listing_text}
 use Rattle.summary_line.specs.Summary.{design_cells, summary_of}
 use Rattle.fitter.specs.declared.answer.Fitted.{Fitted}
 use Rattle.fitter.specs.Answers.{IsFitOf}
+use Rattle.gathered.specs.Takeable.{RegistersHaveCells}
 use Rattle.abel_compile.specs.declared.compiled.Compiled.{Compiled}
 use Rattle.abel_compile.specs.Correct.{AreFusesOf}
 use Rattle.abel_compile.specs.Statement.{fuses_and_vectors}
@@ -47,8 +48,8 @@ pub record IsCompiledOn (t : Table) (device : DeviceName) (m : ModuleTree) (c : 
   pub device_is : c.device ≡ device
   pub compiled : IsCompiledFor t m c
 
--- the fuses of a module's netlist are those of the module
+-- where each register is on a cell, the fuses of a module's netlist are those of the module
 abbrev pub FitsAreRight : Type 0
 FitsAreRight =
-    (t : Table) (m : ModuleTree) (net : Netlist) (fitted : Fitted) → IsDevice t → IsNetlistFor t m net → IsFitOf t net fitted
-    → AreRightFuses t m fitted.fuses
+    (t : Table) (m : ModuleTree) (net : Netlist) (fitted : Fitted) → IsDevice t → RegistersHaveCells (design_of t m) → IsNetlistFor t m net
+    → IsFitOf t net fitted → AreRightFuses t m fitted.fuses

@@ -13,8 +13,11 @@ use Rattle.abel_meaning.specs.Kinds.{names_of}
 use Rattle.abel_meaning.specs.SourceLogic.{source_logic}
 use Rattle.abel_meaning.specs.Vectors.{source_vectors}
 use Rattle.module_reader.specs.Texts.{SpellsModule, IsRead}
+use Rattle.fitted.specs.Fitting.{IsSpareCell}
+use Rattle.fitter.specs.Order.{AreRowsInOrder}
 use Rattle.fuse_listing.specs.Listing.{listing_text}
-use Rattle.prime_rows.specs.Correct.{IsAssignedCell}
+use Rattle.prime_rows.specs.Controls.{HasControlRows}
+use Rattle.prime_rows.specs.Correct.{IsAssignedCell, IsUnassignedCell}
 use Rattle.prime_rows.specs.Covers.{HasPrimeRows}
 use Rattle.summary_line.specs.Summary.{design_cells, summary_of}
 use Rattle.abel_compile.specs.declared.compiled.Compiled.{Compiled}
@@ -23,12 +26,16 @@ use Rattle.compile_phases.specs.Devices.{table_of}
 use Rattle.compile_phases.specs.SourceRefusals.{IsAcceptedFor}
 
 -- of a module's fuses in a device: no chain of reads returns or leads from the reset to a register; the rows of each
--- assigned cell are prime and irredundant; and where the module's test vectors disagree with the device, they disagree with
--- the module
+-- assigned cell are prime and irredundant, and stand in order; a cell that nothing assigns has no row; each enable, reset and
+-- preset row is that of the module's own control; and where the module's test vectors disagree with the device, they disagree
+-- with the module
 pub record AreFusesOf (t : Table) (m : ModuleTree) (fuses : List Bool) : Type 0 where
   pub no_loop : HasNoLoop (length t.cells) (cell_reads t fuses)
   pub no_path : HasNoResetPath t fuses
   pub rows : (c : ℕ) → c < length t.cells → IsAssignedCell (design_of t m) c → HasPrimeRows t m fuses c
+  pub order : (c : ℕ) → c < length t.cells → IsAssignedCell (design_of t m) c → AreRowsInOrder t fuses c
+  pub spare : (c : ℕ) → c < length t.cells → IsUnassignedCell (design_of t m) c → IsSpareCell t fuses c
+  pub controls : HasControlRows t m fuses
   pub vectors : DisagreeAlike (device_logic t fuses) (source_logic t m) (source_vectors t m)
 
 -- the file is right for the text; no construct of the text nests too deep, and nothing is refused of its module for the
