@@ -3,7 +3,7 @@
 use Rattle.std.specs.Prelude.{◌≡◌, ℕ, Bool, false, List, length, Some, Ok}
 use Rattle.pld_base.specs.declared.device_name.DeviceName.{DeviceName}
 use Rattle.pld_machine.specs.Comparison.{DoesTheSame}
-use Rattle.pld_machine.specs.Once.{RestsOnce}
+use Rattle.pld_machine.specs.Steps.{RestsOnce}
 use Rattle.pld_device.specs.Macrocells.{device_logic}
 use Rattle.pld_device.specs.Table.{Table}
 use Rattle.jedec_file.specs.CanonicalFile.{canonical_file}

@@ -19,7 +19,7 @@ use Rattle.pld_machine.specs.declared.logic.Slot.{Slot}
 use Rattle.pld_machine.specs.declared.logic.Slot.TheVariants as slot
 use Rattle.pld_machine.specs.Lookups.{Lookups, sets_pin, sets_node, logic_of}
 use Rattle.pld_machine.specs.Order.{DifferOnlyIn, SameAt, InRange, HasPins, HasSlots, ResetsWithoutQ, IsOrdered}
-use Rattle.pld_machine.specs.Once.{IsDetermined}
+use Rattle.pld_machine.specs.Steps.{IsDetermined}
 use Rattle.pld_machine.proofs.OneRun.{is_determined}
 use Rattle.pld_machine.proofs.Ordered.{setter_of_pin, get_behind}
 use Rattle.pld_order.specs.Graphs.{has, IsOrder}

@@ -9,7 +9,7 @@ use Rattle.pld_device.specs.Table.{Table, cell_at}
 use Rattle.pld_device.specs.Registers.{stores}
 use Rattle.pld_device.specs.Given.{never_drives, ReadsGiven, EnableReadsGiven, IsOneLayer}
 use Rattle.pld_device.specs.Macrocells.{data_rows, device_logic}
-use Rattle.pld_machine.specs.Once.{IsDetermined}
+use Rattle.pld_machine.specs.Steps.{IsDetermined}
 use Rattle.pld_order.specs.Graphs.{has, HasNoLoop}
 use Rattle.device_logic.specs.CellReads.{row_reads_cell, enable_reads, data_reads, rest_reads, cell_reads}
 use Rattle.device_logic.proofs.FreeReads.{layer_reads_free}

@@ -5,7 +5,7 @@ use Rattle.pld_device.specs.Table.{Table}
 use Rattle.pld_device.specs.Laws.{IsDevice}
 use Rattle.pld_device.specs.Macrocells.{row_if_any, device_logic}
 use Rattle.pld_machine.specs.Order.{ResetsWithoutQ, IsOrdered}
-use Rattle.pld_machine.specs.Once.{IsDetermined}
+use Rattle.pld_machine.specs.Steps.{IsDetermined}
 use Rattle.pld_order.specs.Graphs.{IsOrder, HasOrder, HasLoop, HasNoLoop}
 use Rattle.pld_order.proofs.OneOfBoth.{one_or_other}
 use Rattle.device_logic.specs.CellReads.{cell_reads}

@@ -3,8 +3,8 @@
 ghost use Rattle.std.specs.Prelude.{◌≡◌, ◌<◌, length, All, IfOk, IfErr};
 ghost use Rattle.pld_device.specs.Macrocells.{device_logic};
 ghost use Rattle.pld_machine.specs.Lookups.{logic_of};
-ghost use Rattle.pld_machine.specs.Once.{IsDetermined};
 ghost use Rattle.pld_machine.specs.Order.{IsOrdered};
+ghost use Rattle.pld_machine.specs.Steps.{IsDetermined};
 ghost use Rattle.pld_order.specs.Graphs.{HasNoLoop};
 ghost use Rattle.device_logic.specs.CellReads.{cell_reads};
 ghost use Rattle.device_logic.specs.DeviceLookups.{device_lookups};

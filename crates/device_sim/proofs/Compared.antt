@@ -4,10 +4,9 @@ use Rattle.std.specs.List.{All, list_any, range_with_len}
 use Rattle.pld_base.specs.Bits.{is_on}
 use Rattle.pld_base.specs.Points.{Levels}
 use Rattle.pld_base.specs.Logic.{Logic}
-use Rattle.pld_machine.specs.Comparison.{DoesTheSame, HasNoDontCare, IsShownAs}
+use Rattle.pld_machine.specs.Comparison.{DoesTheSame, HasNoDontCare, IsShownAs, NodeValues}
 use Rattle.pld_machine.specs.Steps.{Run}
 use Rattle.pld_machine.specs.Through.{AreSeen, SameCells}
-use Rattle.pld_machine.specs.Valued.{NodeValues}
 use Rattle.device_sim.specs.Compared.{DisagreeAlike, VectorsDisagreeAlike}
 use Rattle.device_sim.specs.declared.report.Mismatch.{Mismatch}
 use Rattle.device_sim.specs.VectorRun.{IsVectorRun, found, found_at, if_mismatch, is_driven, mismatch_at, mismatches_of, mismatches_where, outsides_of, vector_mismatches}

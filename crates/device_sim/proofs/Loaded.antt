@@ -8,8 +8,8 @@ use Rattle.jedec_file.specs.FuseFile.{FuseFile}
 use Rattle.pld_device.specs.Macrocells.{device_logic}
 use Rattle.pld_device.specs.Table.{Table}
 use Rattle.jedec_file.specs.TestVectors.{all_chars}
-use Rattle.pld_machine.specs.Once.{RunsOnce}
 use Rattle.pld_machine.specs.Order.{IsOrdered}
+use Rattle.pld_machine.specs.Steps.{RunsOnce}
 use Rattle.device_logic.specs.DeviceLookups.{device_lookups}
 use Rattle.device_logic.specs.LoadFaults.{IsLoadFault}
 use Rattle.device_logic.specs.declared.fault.SimFault.{SimFault}

@@ -5,11 +5,10 @@ use Rattle.std.proofs.lemmas.Bool.{cases_Bool}
 use Rattle.std.proofs.lemmas.List.Elements.{All-nil, All-cons, All-append, All-head, All-tail}
 use Rattle.pld_base.specs.Points.{Levels}
 use Rattle.pld_base.specs.Logic.{Logic}
-use Rattle.pld_machine.specs.Settling.{rest_of, step_of, steps_of}
-use Rattle.pld_machine.specs.Steps.{Run, power_up}
-use Rattle.pld_machine.specs.Once.{IsWide, RunsOnce}
 use Rattle.pld_machine.specs.Lookups.{Lookups, logic_of}
 use Rattle.pld_machine.specs.Order.{IsOrdered}
+use Rattle.pld_machine.specs.Settling.{rest_of, step_of, steps_of}
+use Rattle.pld_machine.specs.Steps.{Run, power_up, IsWide, RunsOnce}
 use Rattle.pld_machine.proofs.OneRun.{runs_once}
 use Rattle.device_sim.specs.declared.report.Mismatch.{Mismatch}
 use Rattle.device_sim.specs.VectorRun.{at_pins, level_before, level_turned, has_clock, outsides_of, mismatches_of, IsVectorRun}

@@ -2,7 +2,7 @@
 use Rattle.std.proofs.Common.{◌≡◌, ℕ, suc, ◌+◌, ◌-◌, ◌<◌, ◌≤◌, Bool, false, List, [], ◌∷◌, ◌++◌, length, map, take, set, get_or, replicate, refl, ap, sym, ◌∙◌, arith, add-one, length-append, append_assoc, length-take-le}
 use Rattle.std.proofs.lemmas.List.{take_more, map-append, set_at, length-map, length-replicate}
 use Rattle.pld_base.specs.Bits.{bits}
-use Rattle.pld_machine.specs.Once.{IsWide}
+use Rattle.pld_machine.specs.Steps.{IsWide}
 use Rattle.device_sim.specs.VectorRun.{at_pins}
 
 -- no pin has a level yet

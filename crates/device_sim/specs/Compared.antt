@@ -2,8 +2,7 @@
 use Rattle.std.specs.Prelude.{ℕ, ◌≤◌, Bool, List, length}
 use Rattle.std.specs.List.{All}
 use Rattle.pld_base.specs.Logic.{Logic}
-use Rattle.pld_machine.specs.Comparison.{DoesTheSame, HasNoDontCare}
-use Rattle.pld_machine.specs.Valued.{NodeValues}
+use Rattle.pld_machine.specs.Comparison.{DoesTheSame, HasNoDontCare, NodeValues}
 use Rattle.device_sim.specs.declared.report.Mismatch.{Mismatch}
 use Rattle.device_sim.specs.VectorRun.{IsVectorRun}
 

@@ -3,7 +3,7 @@ use Rattle.std.proofs.Common.{List, Bool}
 use Rattle.pld_device.specs.Laws.{IsDevice}
 use Rattle.pld_device.specs.Macrocells.{device_logic}
 use Rattle.pld_device.specs.Table.{Table}
-use Rattle.pld_machine.specs.Once.{IsDetermined}
+use Rattle.pld_machine.specs.Steps.{IsDetermined}
 use Rattle.pld_machine.proofs.Compared.{does_the_same}
 use Rattle.pld_order.proofs.Ranks.{Ranked, ranked}
 use Rattle.device_logic.proofs.OneRun.{device_determined}

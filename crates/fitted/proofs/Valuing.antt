@@ -10,7 +10,7 @@ use Rattle.pld_base.proofs.BitLemmas.{same_levels}
 use Rattle.pld_device.specs.Macrocells.{complement_if}
 use Rattle.pld_device.specs.Table.{Table}
 use Rattle.pld_machine.proofs.OneRest.{levels_equal}
-use Rattle.pld_machine.specs.Valued.{IsTheValuedOf}
+use Rattle.pld_machine.specs.Comparison.{IsTheValuedOf}
 use Rattle.abel_meaning.specs.NetlistLogic.{netlist_logic, netlist_values}
 use Rattle.bit_expr.specs.declared.node.Leaf.TheVariants as leaf
 use Rattle.bit_expr.specs.declared.node.Leaf.{Leaf}

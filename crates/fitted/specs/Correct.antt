@@ -1,9 +1,8 @@
 -- What it is for fuses to do what a module says, for every device, and the two halves of its proof (this project's rule, over
 -- the devices' datasheets).
 use Rattle.std.specs.Prelude.{Bool, List}
-use Rattle.pld_machine.specs.Comparison.{DoesTheSame, RefinesValued}
+use Rattle.pld_machine.specs.Comparison.{DoesTheSame, RefinesValued, SameValues}
 use Rattle.pld_machine.specs.Refines.{Refines}
-use Rattle.pld_machine.specs.Valued.{SameValues}
 use Rattle.pld_device.specs.Laws.{IsDevice}
 use Rattle.pld_device.specs.Macrocells.{device_logic}
 use Rattle.pld_device.specs.Table.{Table}

@@ -6,7 +6,7 @@ use Rattle.pld_base.specs.Bits.{is_on}
 use Rattle.pld_base.specs.Points.{Levels}
 use Rattle.pld_device.specs.Rows.{columns_of, pair_values, row_fuses, is_switched_on, row_is_true, row_value}
 use Rattle.pld_device.specs.Table.{Table}
-use Rattle.pld_machine.specs.Valued.{IsValued, IsValuedOf}
+use Rattle.pld_machine.specs.Comparison.{IsValued, IsValuedOf}
 use Rattle.pld_order.specs.Graphs.{has}
 use Rattle.bit_expr.specs.Formulas.{Formula, formula_value}
 use Rattle.abel_meaning.specs.Netlists.{PlainNetlist}

@@ -5,11 +5,10 @@ use Rattle.pld_base.specs.Bits.{bits, is_on}
 use Rattle.pld_base.specs.Points.{Levels, IsPoint}
 use Rattle.pld_base.specs.Logic.{Logic}
 use Rattle.pld_base.proofs.BitLemmas.{length-bits, is_on-zero}
+use Rattle.pld_machine.specs.Comparison.{NodeValues, IsValuedOf, SameEnables, IsShownAs, HasValuedRunsOf, AllowsOne, HasNoDontCare, DoesTheSame, RefinesValued}
 use Rattle.pld_machine.specs.Rest.{AtRest}
-use Rattle.pld_machine.specs.Once.{RestsOnce, RunsOnce}
+use Rattle.pld_machine.specs.Steps.{RestsOnce, RunsOnce}
 use Rattle.pld_machine.specs.Through.{AllowsAt, RefinesThrough, AreSeen}
-use Rattle.pld_machine.specs.Valued.{NodeValues, IsValuedOf}
-use Rattle.pld_machine.specs.Comparison.{SameEnables, IsShownAs, HasValuedRunsOf, AllowsOne, HasNoDontCare, DoesTheSame, RefinesValued}
 use Rattle.pld_machine.proofs.ThroughRuns.{run_through}
 
 -- ---- one of two values

@@ -4,11 +4,11 @@ use Rattle.std.proofs.lemmas.Bool.{cases_Bool, cond-true, cond-false}
 use Rattle.pld_base.specs.Bits.{is_on, same_level}
 use Rattle.pld_base.specs.Points.{Levels, IsPoint}
 use Rattle.pld_base.specs.Logic.{is_register}
-use Rattle.pld_machine.specs.Rest.{IsSettled, q_at_rest}
-use Rattle.pld_machine.specs.Once.{IsTheRest}
 use Rattle.pld_machine.specs.Lookups.{Lookups, sets_pin, sets_node, logic_of}
 use Rattle.pld_machine.specs.Order.{IsOrdered}
+use Rattle.pld_machine.specs.Rest.{IsSettled, q_at_rest}
 use Rattle.pld_machine.specs.Settling.{settle_slot, settle, start, settled_of}
+use Rattle.pld_machine.specs.Steps.{IsTheRest}
 use Rattle.pld_base.proofs.BitLemmas.{length-bits, is_on-zero, same_levels}
 use Rattle.pld_machine.specs.declared.logic.Slot.{Slot}
 use Rattle.pld_machine.specs.declared.logic.Slot.TheVariants.{Cell, Node}

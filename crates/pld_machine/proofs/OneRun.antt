@@ -7,12 +7,11 @@ use Rattle.std.proofs.lemmas.List.FromFn.{length-map-range_with_len, get_or-map-
 use Rattle.pld_base.specs.Bits.{is_on}
 use Rattle.pld_base.specs.Points.{Levels, IsPoint}
 use Rattle.pld_base.specs.Logic.{is_register}
-use Rattle.pld_machine.specs.Rest.{AtRest, q_at_rest}
-use Rattle.pld_machine.specs.Steps.{rises, clock_held, Steps, Run, power_up}
-use Rattle.pld_machine.specs.Once.{IsTheRest, IsTheStep, IsTheRun, IsWide, RestsOnce, RunsOnce, IsDetermined}
 use Rattle.pld_machine.specs.Lookups.{Lookups, logic_of}
 use Rattle.pld_machine.specs.Order.{IsOrdered}
+use Rattle.pld_machine.specs.Rest.{AtRest, q_at_rest}
 use Rattle.pld_machine.specs.Settling.{settled_of, filled, q_at_edge, rest_of, clocked_of, between_of, step_of, steps_of, run_of}
+use Rattle.pld_machine.specs.Steps.{rises, clock_held, Steps, Run, power_up, IsTheRest, IsTheStep, IsTheRun, IsWide, RestsOnce, RunsOnce, IsDetermined}
 use Rattle.pld_machine.proofs.OneRest.{is_the_rest, settled_is_point}
 use Rattle.pld_machine.proofs.OneStep.{one_step}
 

@@ -4,11 +4,10 @@ use Rattle.std.proofs.lemmas.Bool.{cases_Bool}
 use Rattle.pld_base.specs.Bits.{is_on, same_level}
 use Rattle.pld_base.specs.Points.{Levels}
 use Rattle.pld_base.specs.Logic.{is_register}
-use Rattle.pld_machine.specs.Rest.{AtRest}
-use Rattle.pld_machine.specs.Steps.{clock_held, allows_q, rises, ClockedStep}
-use Rattle.pld_machine.specs.Once.{IsTheRest, IsTheStep}
 use Rattle.pld_machine.specs.Lookups.{Lookups, logic_of}
+use Rattle.pld_machine.specs.Rest.{AtRest}
 use Rattle.pld_machine.specs.Settling.{q_at_edge}
+use Rattle.pld_machine.specs.Steps.{clock_held, allows_q, rises, ClockedStep, IsTheRest, IsTheStep}
 use Rattle.pld_base.proofs.BitLemmas.{same_levels}
 
 -- a register's new Q is the only one that is allowed, by the tests that decide it

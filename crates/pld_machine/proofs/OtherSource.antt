@@ -2,10 +2,9 @@
 use Rattle.std.proofs.Common.{◌≡◌, ◌<◌, Bool, true, false, List, [], ◌∷◌, refl, sym, ◌∙◌, subst}
 use Rattle.pld_base.specs.Points.{Levels}
 use Rattle.pld_base.specs.Logic.{Logic}
-use Rattle.pld_machine.specs.Through.{SameCells, AreSeen}
+use Rattle.pld_machine.specs.Comparison.{NodeValues, IsValuedOf, ValuesOnce, SameValues, IsShownAs, AllowsOne, HasNoDontCare, DoesTheSame}
 use Rattle.pld_machine.specs.Refines.{Refines}
-use Rattle.pld_machine.specs.Valued.{NodeValues, IsValuedOf, ValuesOnce, SameValues}
-use Rattle.pld_machine.specs.Comparison.{IsShownAs, AllowsOne, HasNoDontCare, DoesTheSame}
+use Rattle.pld_machine.specs.Through.{SameCells, AreSeen}
 use Rattle.pld_machine.proofs.Refined.{run_refines}
 use Rattle.pld_machine.proofs.SameRuns.{same_run}
 

@@ -1,6 +1,5 @@
 pub mod Comparison
 pub mod Lookups
-pub mod Once
 pub mod Order
 pub mod Refines
 pub mod Rest
@@ -9,4 +8,3 @@ pub mod Shifter
 pub mod Shows
 pub mod Steps
 pub mod Through
-pub mod Valued

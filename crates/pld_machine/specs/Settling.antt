@@ -7,10 +7,9 @@ use Rattle.pld_base.specs.Points.{Levels}
 use Rattle.pld_machine.specs.declared.logic.Slot.{Slot}
 use Rattle.pld_machine.specs.declared.logic.Slot.TheVariants.{Cell, Node}
 use Rattle.pld_base.specs.Logic.{Logic}
-use Rattle.pld_machine.specs.Once.{IsTheRest}
-use Rattle.pld_machine.specs.Rest.{q_at_rest}
-use Rattle.pld_machine.specs.Steps.{rises, clock_held, power_up}
 use Rattle.pld_machine.specs.Lookups.{Lookups, logic_of}
+use Rattle.pld_machine.specs.Rest.{q_at_rest}
+use Rattle.pld_machine.specs.Steps.{IsTheRest, rises, clock_held, power_up}
 
 -- the point with this level at a pin
 abbrev pub with_pin : Levels → ℕ → Bool → Levels

@@ -1,12 +1,11 @@
 //! Laws of all logics, as the contracts of calls that do nothing.
 
 ghost use Rattle.pld_base.specs.Logic.{Logic};
-ghost use Rattle.pld_machine.specs.Comparison.{DoesTheSame, RefinesValued};
-ghost use Rattle.pld_machine.specs.Once.{IsDetermined, RestsOnce, RunsOnce};
+ghost use Rattle.pld_machine.specs.Comparison.{DoesTheSame, RefinesValued, NodeValues, HasNoNodes, SameValues};
 ghost use Rattle.pld_machine.specs.Lookups.{Lookups, logic_of};
 ghost use Rattle.pld_machine.specs.Order.{IsOrdered};
 ghost use Rattle.pld_machine.specs.Refines.{Refines, HasRestsOf, HasStepsOf, HasRunsOf};
-ghost use Rattle.pld_machine.specs.Valued.{NodeValues, HasNoNodes, SameValues};
+ghost use Rattle.pld_machine.specs.Steps.{IsDetermined, RestsOnce, RunsOnce};
 
 /// A logic in order comes to rest, steps and runs in exactly one way, from every state. Does nothing.
 pub fn one_run()

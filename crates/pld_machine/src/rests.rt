@@ -3,11 +3,11 @@
 ghost use Rattle.std.specs.Prelude.{◌≡◌, ◌<◌, ℕ};
 ghost use Rattle.pld_base.specs.Bits.{bits, is_on};
 ghost use Rattle.pld_base.specs.Points.{levels_of};
-ghost use Rattle.pld_machine.specs.Rest.{q_at_rest};
-ghost use Rattle.pld_machine.specs.Once.{IsTheRest};
 ghost use Rattle.pld_machine.specs.Lookups.{logic_of};
 ghost use Rattle.pld_machine.specs.Order.{HasPins, IsOrdered};
+ghost use Rattle.pld_machine.specs.Rest.{q_at_rest};
 ghost use Rattle.pld_machine.specs.Settling.{settled_of};
+ghost use Rattle.pld_machine.specs.Steps.{IsTheRest};
 
 use crate::logic::Logic;
 use crate::settling::settled;

@@ -3,10 +3,10 @@
 ghost use Rattle.std.specs.Prelude.{◌≢◌, true, false, ◌≡◌, ◌<◌, ℕ};
 ghost use Rattle.pld_base.specs.Bits.{bits, is_on};
 ghost use Rattle.pld_base.specs.Points.{levels_of};
-ghost use Rattle.pld_machine.specs.Once.{IsTheRest, IsTheStep};
 ghost use Rattle.pld_machine.specs.Lookups.{logic_of};
 ghost use Rattle.pld_machine.specs.Order.{HasPins, IsOrdered};
 ghost use Rattle.pld_machine.specs.Settling.{RestsFor, q_at_edge};
+ghost use Rattle.pld_machine.specs.Steps.{IsTheRest, IsTheStep};
 
 use crate::logic::Logic;
 use crate::rests::rest;

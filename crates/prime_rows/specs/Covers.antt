@@ -4,7 +4,7 @@ use Rattle.std.specs.Prelude.{◌≡◌, ℕ, ◌<◌, Bool, true, false, not, i
 use Rattle.std.specs.List.{list_any}
 use Rattle.pld_base.specs.Bits.{is_on}
 use Rattle.pld_base.specs.Points.{Levels}
-use Rattle.pld_machine.specs.Valued.{IsValued}
+use Rattle.pld_machine.specs.Comparison.{IsValued}
 use Rattle.pld_device.specs.Macrocells.{complement_if, data_complements, pin_complements, data_rows}
 use Rattle.pld_device.specs.Registers.{stores, is_inverted}
 use Rattle.pld_device.specs.Rows.{row_fuses, row_value}

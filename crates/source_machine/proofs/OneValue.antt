@@ -3,9 +3,9 @@
 use Rattle.std.proofs.Common.{◌≡◌, ℕ, Bool, true, false, not, ◌&&◌, if◌then◌else◌, List, Option, Some, None, refl, ap, ◌∙◌, subst}
 use Rattle.pld_base.specs.Bits.{is_on, same_level}
 use Rattle.pld_base.specs.Points.{Levels}
-use Rattle.pld_machine.specs.Once.{IsDetermined}
 use Rattle.pld_machine.specs.Order.{IsOrdered}
 use Rattle.pld_machine.specs.Refines.{HasRunsOf, Refines}
+use Rattle.pld_machine.specs.Steps.{IsDetermined}
 use Rattle.pld_machine.proofs.OneRun.{is_determined}
 use Rattle.pld_machine.proofs.Refined.{run_refines}
 use Rattle.pld_device.specs.Laws.{IsDevice}

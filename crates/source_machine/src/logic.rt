@@ -2,8 +2,8 @@
 
 ghost use Rattle.std.specs.Prelude.{◌≡◌, IfOk};
 ghost use Rattle.pld_machine.specs.Lookups.{logic_of};
-ghost use Rattle.pld_machine.specs.Once.{IsDetermined};
 ghost use Rattle.pld_machine.specs.Order.{IsOrdered};
+ghost use Rattle.pld_machine.specs.Steps.{IsDetermined};
 ghost use Rattle.abel_tree.specs.Tree.{ModuleTree};
 ghost use Rattle.abel_meaning.specs.Designs.{design_of};
 ghost use Rattle.abel_meaning.specs.Netlists.{plain_netlist};

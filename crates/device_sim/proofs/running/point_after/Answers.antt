@@ -2,9 +2,8 @@ use Rattle.std.proofs.Common.{◌≡◌, refl}
 use Rattle.pld_base.specs.Bits.{bits}
 use Rattle.pld_base.specs.Points.{levels_of}
 use Rattle.pld_base.proofs.BitLemmas.{length-bits}
-use Rattle.pld_machine.specs.Steps.{power_up}
-use Rattle.pld_machine.specs.Once.{IsTheRest}
 use Rattle.pld_machine.specs.Lookups.{logic_of}
+use Rattle.pld_machine.specs.Steps.{power_up, IsTheRest}
 use Rattle.pld_machine.proofs.OneRun.{rests_once, steps_once}
 use Rattle.device_sim.specs.VectorSteps.{point_after}
 use Rattle.device_sim.proofs.running.point_after.Goals as goal
