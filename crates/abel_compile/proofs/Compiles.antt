@@ -90,6 +90,7 @@ of_compiled text m device c alone named is =
       };
       read = alone.read;
       accepted = here.accepted;
+      takeable = here.right.takeable;
       fuses = here.right.so;
       listing = here.told.listing;
       summary = here.told.summary;

@@ -15,15 +15,16 @@ use Rattle.fuse_listing.specs.Listing.{listing_text}
 use Rattle.summary_line.specs.Summary.{design_cells, summary_of}
 use Rattle.fitter.specs.declared.answer.Fitted.{Fitted}
 use Rattle.fitter.specs.Answers.{IsFitOf}
-use Rattle.gathered.specs.Takeable.{RegistersHaveCells}
+use Rattle.gathered.specs.Takeable.{IsTakeable}
 use Rattle.abel_compile.specs.declared.compiled.Compiled.{Compiled}
 use Rattle.abel_compile.specs.Correct.{AreFusesOf}
 use Rattle.abel_compile.specs.Statement.{fuses_and_vectors}
 use Rattle.compile_phases.specs.Phases.{IsNetlistFor}
 use Rattle.compile_phases.specs.SourceRefusals.{IsAcceptedFor}
 
--- the fuses of a module in a device: as many as it has, with which it does what the module says, and the rest
+-- the fuses of a module that a device can take: as many as it has, with which it does what the module says, and the rest
 pub record AreRightFuses (t : Table) (m : ModuleTree) (fuses : List Bool) : Type 0 where
+  pub takeable : IsTakeable (design_of t m)
   pub size : length fuses ≡ t.fuses
   pub does : DoesWhatItSays t m fuses
   pub so : AreFusesOf t m fuses
@@ -48,8 +49,8 @@ pub record IsCompiledOn (t : Table) (device : DeviceName) (m : ModuleTree) (c : 
   pub device_is : c.device ≡ device
   pub compiled : IsCompiledFor t m c
 
--- where each register is on a cell, the fuses of a module's netlist are those of the module
+-- where the device can take a module, the fuses of its netlist are those of the module
 abbrev pub FitsAreRight : Type 0
 FitsAreRight =
-    (t : Table) (m : ModuleTree) (net : Netlist) (fitted : Fitted) → IsDevice t → RegistersHaveCells (design_of t m) → IsNetlistFor t m net
+    (t : Table) (m : ModuleTree) (net : Netlist) (fitted : Fitted) → IsDevice t → IsTakeable (design_of t m) → IsNetlistFor t m net
     → IsFitOf t net fitted → AreRightFuses t m fitted.fuses

@@ -12,7 +12,7 @@ ghost use Rattle.decls.specs.NameRefusals.{first_name_refusal};
 ghost use Rattle.set_expr.specs.SectionOrder.{section_order};
 ghost use Rattle.source_sections.specs.SectionAnswers.{AreContributed};
 ghost use Rattle.source_vectors.specs.AllSections.{AreSections, all_sections_refused};
-ghost use Rattle.gathered.specs.Takeable.{RegistersHaveCells};
+ghost use Rattle.gathered.specs.Takeable.{IsTakeable};
 ghost use Rattle.fitter.specs.Answers.{IsFitOf};
 ghost use Rattle.compile_phases.specs.Phases.{AreNamesFor, IsDesignFault, IsFitRefused, IsNameFault, IsNetlistFor, IsOfSource, IsReadAlone, IsSectionFault, IsTextFault, IsUnnamed};
 ghost use Rattle.compile_phases.specs.SourceRefusals.{IsDesignRefusedFor};
@@ -100,7 +100,7 @@ pub fn netlist_of<D: Device>(
     requires sections { all_sections_refused (design_of D.table (view_module source.now)) ≡ [] }
     requires found { AreContributed (design_of D.table (view_module source.now)) found }
     ensures ok { IfOk result (λ net. IsNetlistFor D.table (view_module source.now) net) }
-    ensures registers { IfOk result (λ _. RegistersHaveCells (design_of D.table (view_module source.now))) }
+    ensures takeable { IfOk result (λ _. IsTakeable (design_of D.table (view_module source.now))) }
     ensures err { IfErr result (IsOfSource (IsDesignFault (entries_of names.now)
         (IsDesignRefusedFor D.table (view_module source.now)))) }
 {

@@ -20,5 +20,5 @@ returns-clause-ok g c =
     compiled_on g.D.Device.table g.D.Device.NAME (view_module c.args.source.now) c.in_ok-net.net c.in_ok-fitted.fitted c.in_ok-compiled.compiled
     c.in_ok-net.ensures.ok c.in_ok-fitted.ensures.ok
     (c.fits_are_right.ensures g.D.Device.table (view_module c.args.source.now) c.in_ok-net.net c.in_ok-fitted.fitted g.met.D.Device.sound
-    c.in_ok-net.ensures.registers c.in_ok-net.ensures.ok c.in_ok-fitted.ensures.ok)
+    c.in_ok-net.ensures.takeable c.in_ok-net.ensures.ok c.in_ok-fitted.ensures.ok)
     c.in_ok-compiled.ensures.device c.in_ok-compiled.ensures.told

@@ -10,9 +10,9 @@ gather-requires-clause-accepted g c =
     c.sections_are_accepted.ensures g.D.Device.table (view_module c.args.source.now) c.args.names.now g.met.D.Device.sound c.requires.names
     c.requires.found.accepted
 
-pub returns-in-Ok-clause-registers : goal.returns-in-Ok-clause-registers
-returns-in-Ok-clause-registers g c =
+pub returns-in-Ok-clause-takeable : goal.returns-in-Ok-clause-takeable
+returns-in-Ok-clause-takeable g c =
     let d = design_of g.D.Device.table (view_module c.args.source.now) in
-    (c.unrefused_is_takeable.ensures d (arena c.args.found.exprs) c.args.found.list g.met.D.Device.sound
+    c.unrefused_is_takeable.ensures d (arena c.args.found.exprs) c.args.found.list g.met.D.Device.sound
     (c.sections_are_accepted.ensures g.D.Device.table (view_module c.args.source.now) c.args.names.now g.met.D.Device.sound c.requires.names c.requires.found.accepted)
-    c.requires.found.gives (unrefused d (arena c.args.found.exprs) c.args.found.list c.in-Ok.ensures.unrefused)).registers
+    c.requires.found.gives (unrefused d (arena c.args.found.exprs) c.args.found.list c.in-Ok.ensures.unrefused)
