@@ -1,4 +1,1 @@
-mod FrontNames
 mod Listed
-mod Statements
-mod WrittenTerms

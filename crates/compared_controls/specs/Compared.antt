@@ -1,5 +1,5 @@
 -- What an equation for a clock, or for the enable of a cell that a pin enables, must say: what the device does anyway
--- (the devices' datasheets, macrocell diagrams); how it must be written is said in Written.
+-- (the devices' datasheets, macrocell diagrams); how it must be written is said in `written_controls`.
 use Rattle.std.specs.Prelude.{ℕ, ◌==◌, Bool, true, false, not, Option, None, Some, List, [], ◌∷◌, ◌++◌, get_or}
 use Rattle.pld_device.specs.declared.enable.Enable.{Enable}
 use Rattle.pld_device.specs.declared.enable.Enable.TheVariants.{Row, PinLow}

@@ -1,3 +1,1 @@
 pub mod Compared
-pub mod Fronts
-pub mod Written

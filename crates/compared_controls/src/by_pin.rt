@@ -41,7 +41,7 @@ fn is_enabled_by_pin<D: Device>(declared: &Declared) -> bool
 }
 
 /// Whether an equation for this signal is compared: one for a clock, or for the enable of a cell that a pin enables.
-pub(crate) fn is_compared<D: Device>(declared: &Declared, extension: Option<Extension>) -> bool
+pub fn is_compared<D: Device>(declared: &Declared, extension: Option<Extension>) -> bool
     ensures { result ≡ is_compared_of D.table extension (view_declared declared.now) }
 {
     match extension {

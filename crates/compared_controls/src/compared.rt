@@ -118,8 +118,8 @@ fn refused_of<D: Device>(
 
 /// The first equation for a clock that isn't the level of the device's clock, or for the enable of a cell that a pin
 /// enables which isn't the complement of that pin's level, or that stands in a diagram, of what the sections contribute.
-/// Parentheses, constants and pairs of complements have no bit of their own; nor has what folds, which `other_spelling`
-/// refuses. None where there is none. Takes no memory.
+/// Parentheses, constants and pairs of complements have no bit of their own; nor has what folds, which
+/// `written_controls` refuses. None where there is none. Takes no memory.
 pub fn other_level<D: Device>(
     names: &Names,
     exprs: &Exprs,

@@ -3,10 +3,7 @@
 
 mod by_pin;
 mod compared;
-mod front;
-mod fronts;
 mod levels;
-mod written;
 
+pub use by_pin::is_compared;
 pub use compared::other_level;
-pub use written::other_spelling;

@@ -12,7 +12,7 @@ use Rattle.set_expr.specs.declared.contributions.Gives.{Gives}
 use Rattle.set_expr.specs.declared.contributions.Gives.TheVariants as gives
 use Rattle.set_expr.specs.Given.{view_contribution, view_gives}
 use Rattle.compared_controls.specs.Compared.{says_always, told_if, other_level, other_levels}
-use Rattle.compared_controls.specs.Written.{unwritten}
+use Rattle.written_controls.specs.Written.{unwritten}
 use Rattle.design.specs.Answers.{HasNoRefusal, IsDesignRefused}
 use Rattle.design_checks.specs.declared.fault.DesignFault.{DesignFault}
 use Rattle.design_checks.specs.declared.fault.DesignFault.TheVariants as designing

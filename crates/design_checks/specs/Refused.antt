@@ -13,7 +13,7 @@ use Rattle.design_refusals.specs.declared.rules.Rule.TheVariants as rule
 use Rattle.design_refusals.specs.Refused.{all_refused, registered_nodes}
 use Rattle.design_uses.specs.RefusedUses.{missing_uses, unread_uses}
 use Rattle.compared_controls.specs.Compared.{other_levels}
-use Rattle.compared_controls.specs.Written.{unwritten}
+use Rattle.written_controls.specs.Written.{unwritten}
 use Rattle.use_refusals.specs.declared.refused.RefusedUse.{RefusedUse}
 use Rattle.use_refusals.specs.Refused.{told}
 

@@ -14,7 +14,7 @@ ghost use Rattle.design_checks.specs.Verdict.{ControlsPass, HasSoundSignals, IsA
 
 use crate::fault::DesignFault;
 use abel_tree::{Module, Names};
-use compared_controls::{other_level, other_spelling};
+use compared_controls::other_level;
 use design_refusals::{
     SignalFault, dont_care_control, missing_control, registered_node, wrong_kind,
 };
@@ -23,6 +23,7 @@ use pld_device::Device;
 use set_expr::{Contribution, Contributions};
 use std::alloc::Global;
 use use_refusals::{RefusedUse, earlier, missing_use, unread_use};
+use written_controls::other_spelling;
 
 /// A refusal without its kind.
 fn plain(fault: SignalFault) -> RefusedUse

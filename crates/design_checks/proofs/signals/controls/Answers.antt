@@ -6,7 +6,7 @@ use Rattle.abel_tree.specs.View.{view_section}
 use Rattle.abel_tree.proofs.FirstRefusals.{first_append}
 use Rattle.design_uses.specs.RefusedUses.{missing_uses}
 use Rattle.use_refusals.specs.Refused.{told, use_order}
-use Rattle.compared_controls.specs.Written.{unwritten}
+use Rattle.written_controls.specs.Written.{unwritten}
 use Rattle.design_checks.specs.Refused.{target_controls}
 use Rattle.design_checks.proofs.signals.controls.Goals as goal
 

@@ -1,0 +1,3 @@
+mod FrontNames
+mod Statements
+mod WrittenTerms
