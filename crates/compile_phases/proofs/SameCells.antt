@@ -31,11 +31,11 @@ use Rattle.fit_plans.specs.Forms.{may_be_inverted_as, or_is_complement, rows_are
 use Rattle.fit_shared.specs.declared.shared.SharedControl.{SharedControl}
 use Rattle.fit_shared.specs.declared.shared.SharedControl.TheVariants.{Preset, Reset}
 use Rattle.fit_shared.specs.Sharing.{AreNotShared, own_formula}
+use Rattle.cell_covers.specs.Width.{IsControlTooWide, IsTooWide, NoneWide, IsFirstWide}
 use Rattle.fitter.specs.declared.fault.FitFault.{FitFault}
 use Rattle.fitter.specs.declared.fault.FitFault.TheVariants as fit
 use Rattle.fitter.specs.Answers.{FitAnswers, HasControls}
 use Rattle.fitter.specs.Products.{IsProduct, IsNoProduct, IsOneProduct, IsSharedProduct, IsSharedSum}
-use Rattle.fitter.specs.Width.{IsControlTooWide, IsTooWide, NoneWide, IsFirstWide}
 use Rattle.compile_phases.specs.Fits.{IsOfFit, HasRoom}
 use Rattle.compile_phases.proofs.SameNetlists.{written_same, bit_same}
 

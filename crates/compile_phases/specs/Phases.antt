@@ -27,11 +27,11 @@ use Rattle.design_checks.specs.declared.fault.DesignFault.{DesignFault}
 use Rattle.design_lines.specs.Designs.{design_text}
 use Rattle.design_lines.specs.Fits.{fit_text}
 use Rattle.fitted.specs.Correct.{MeansTheSame}
+use Rattle.cell_covers.specs.Width.{IsFirstWide}
 use Rattle.fitter.specs.declared.answer.Fitted.{Fitted}
 use Rattle.fitter.specs.declared.fault.FitFault.{FitFault}
 use Rattle.fitter.specs.declared.fault.FitFault.TheVariants as fit
 use Rattle.fitter.specs.Answers.{FitAnswers, IsFitOf}
-use Rattle.fitter.specs.Width.{IsFirstWide}
 use Rattle.module_reader.specs.declared.fault.ReadFault.TheVariants as reading
 use Rattle.module_reader.specs.Texts.{SpellsModule, IsRead, IsUnread}
 use Rattle.summary_line.specs.Summary.{assigned_cells, design_cells}

@@ -24,14 +24,15 @@ use Rattle.fit_rows.specs.Controls.{form_at}
 use Rattle.fit_rows.specs.RowCubes.{HoldsCubes}
 use Rattle.fit_shared.specs.declared.shared.SharedControl.{SharedControl}
 use Rattle.fit_shared.specs.declared.shared.SharedControl.TheVariants.{Preset, Reset}
-use Rattle.fitter.specs.declared.covering.CellCovers.{CellCovers}
+use Rattle.cell_covers.specs.declared.covering.CellCovers.{CellCovers}
+use Rattle.cell_covers.specs.Covered.{HasCoversAs}
 use Rattle.fitter.specs.declared.answer.Fitted.{Fitted}
 use Rattle.fitter.specs.declared.answer.FittedCell.{FittedCell}
 use Rattle.fitter.specs.declared.planning.AllRows.{AllRows}
 use Rattle.fitter.specs.declared.planning.CellRows.{CellRows}
 use Rattle.fitter.specs.declared.sharing.SharedRows.{SharedRows}
 use Rattle.fitter.specs.Answers.{HasControls, IsFitOf, IsTooMany}
-use Rattle.fitter.specs.Covered.{CoversBelow, HasCoversAs}
+use Rattle.fitter.specs.Covered.{CoversBelow}
 use Rattle.fitter.specs.Fitting.{IsBurnedPlan, plan_of}
 use Rattle.fitter.specs.Order.{AreRowsInOrder}
 use Rattle.fitter.specs.Planned.{AreRowsOf, EachFitsBelow, HasSharedRow, IsEntryOf, IsManyRows, IsOverAt, IsSingleRow, RowsBelow, SingleBelow}
@@ -41,7 +42,7 @@ use Rattle.fitter.proofs.Controls.{first_of_one, is_no_product, is_product}
 use Rattle.fitter.proofs.CellPlans.{over_at, plan_as}
 use Rattle.fitter.proofs.FittingCovers.{fitting_cover}
 use Rattle.fitter.proofs.RowOrder.{rows_in_order}
-use Rattle.fitter.proofs.Widths.{none_wide}
+use Rattle.fitter.proofs.CoversInTurn.{none_wide}
 
 -- ---- controls
 

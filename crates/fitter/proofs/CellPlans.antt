@@ -22,9 +22,9 @@ use Rattle.fit_plans.specs.Forms.{may_be_inverted_as, rows_are_positive}
 use Rattle.fit_rows.specs.declared.controls.CellForm.{CellForm}
 use Rattle.fit_rows.specs.declared.plan.CellPlan.{CellPlan}
 use Rattle.fit_rows.specs.Controls.{form_at}
-use Rattle.fitter.specs.declared.covering.CellCovers.{CellCovers}
+use Rattle.cell_covers.specs.declared.covering.CellCovers.{CellCovers}
+use Rattle.cell_covers.specs.Covered.{HasCovers, HasCoversAs}
 use Rattle.fitter.specs.declared.planning.CellRows.{CellRows}
-use Rattle.fitter.specs.Covered.{HasCovers, HasCoversAs}
 use Rattle.fitter.specs.declared.fault.FitFault.{FitFault}
 use Rattle.fitter.specs.declared.fault.FitFault.TheVariants as fault
 use Rattle.fitter.specs.Planned.{AreChosen, ArePlanned, ArePlannedAt, AreRowsOf, EachFitsBelow, HasRowsAt, IsOver, IsOverAt, IsSingleRow, RowsBelow, SingleBelow}

@@ -8,9 +8,9 @@ use Rattle.fit_laws.specs.Plans.{cell_wanted}
 use Rattle.fit_rows.specs.declared.controls.CellForm.{CellForm}
 use Rattle.fit_rows.specs.declared.plan.CellPlan.{CellPlan}
 use Rattle.fit_rows.specs.Controls.{form_at}
-use Rattle.fitter.specs.declared.covering.CellCovers.{CellCovers}
+use Rattle.cell_covers.specs.declared.covering.CellCovers.{CellCovers}
+use Rattle.cell_covers.specs.Covered.{HasCoversAs}
 use Rattle.fitter.specs.declared.planning.CellRows.{CellRows}
-use Rattle.fitter.specs.Covered.{HasCoversAs}
 use Rattle.fitter.specs.Planned.{AreChosen, AreRowsOf, EachFitsBelow, OneFitsAt, RowsBelow}
 use Rattle.fitter.specs.Rows.{HasFittingCover}
 use Rattle.fitter.proofs.CellPlans.{number_is, tried_at}

@@ -1,6 +1,7 @@
 pub mod Answering
 pub mod CellPlans
 pub mod Controls
+pub mod CoversInTurn
 pub mod Entries
 pub mod FittingCovers
 pub mod OneProduct
@@ -8,6 +9,3 @@ pub mod RisenCovers
 pub mod RowNumbers
 pub mod RowOrder
 pub mod Stops
-pub mod TurnBits
-pub mod WidthOrder
-pub mod Widths

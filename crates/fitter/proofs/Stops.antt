@@ -13,7 +13,8 @@ use Rattle.fit_plans.specs.Covered.{control_function}
 use Rattle.fit_shared.specs.declared.shared.SharedControl.{SharedControl}
 use Rattle.fit_shared.specs.declared.shared.SharedControl.TheVariants.{Preset, Reset}
 use Rattle.fit_shared.specs.Sharing.{IsSharedBit}
-use Rattle.fitter.specs.declared.covering.CellCovers.{CellCovers}
+use Rattle.cell_covers.specs.declared.covering.CellCovers.{CellCovers}
+use Rattle.cell_covers.specs.Width.{NoneWide}
 use Rattle.fitter.specs.declared.fault.FitFault.{FitFault}
 use Rattle.fitter.specs.declared.fault.FitFault.TheVariants.{EnableTooWide, NotShared, OutOfMemory, PresetTooWide, ResetTooWide, TooManyProducts, TooWide}
 use Rattle.fitter.specs.declared.sharing.SharedRows.{SharedRows}
@@ -21,10 +22,9 @@ use Rattle.fitter.specs.Answers.{FitAnswers}
 use Rattle.fitter.specs.Covered.{AreCovered, CoversBelow}
 use Rattle.fitter.specs.Planned.{ArePlanned, AreSharedRows, AreSingle, HasSharedRow, IsRowOf, IsSharedBitOf, SingleBelow}
 use Rattle.fitter.specs.Products.{DifferIn}
-use Rattle.fitter.specs.Width.{NoneWide}
 use Rattle.fitter.proofs.Answering.{first_sum, shared_product, too_many}
 use Rattle.fitter.proofs.Controls.{first_of_one}
-use Rattle.fitter.proofs.Widths.{none_wide}
+use Rattle.fitter.proofs.CoversInTurn.{none_wide}
 
 -- what holds of a fault holds of the answer that hands it on
 pub handed : {X : Type 0} (P : Result X FitFault → Type 0) (result : Result X FitFault) (x : FitFault) → (e : FitFault) × (result ≡ Err e) × (e ≡ x) → P (Err x) → P result

@@ -9,13 +9,13 @@ use Rattle.fit_laws.specs.Plans.{IsTurnMask, cell_wanted}
 use Rattle.fit_shared.specs.declared.shared.SharedControl.TheVariants.{Preset, Reset}
 use Rattle.fit_shared.specs.Sharing.{own_formula}
 use Rattle.fit_cells.specs.declared.choosing.Tried.{Tried}
+use Rattle.cell_covers.specs.Width.{IsFirstWide, NoneWide}
 use Rattle.fitter.specs.declared.fault.FitFault.{FitFault}
 use Rattle.fitter.specs.declared.fault.FitFault.TheVariants.{EnableTooWide, NotShared, OutOfMemory, PresetTooWide, ResetTooWide, TooManyProducts, TooWide}
 use Rattle.fitter.specs.declared.answer.Fitted.{Fitted}
 use Rattle.fitter.specs.Order.{AreRowsInOrder}
 use Rattle.fitter.specs.Products.{DifferIn, EnablesBelow, IsFirstSum, IsSharedProduct, IsSharedSum}
 use Rattle.fitter.specs.Rows.{AreFittedCells, CoversFitBelow, IsOverRoom}
-use Rattle.fitter.specs.Width.{IsFirstWide, NoneWide}
 
 -- the controls are shared, and each is one product or 0
 pub record HasControls (t : Table) (net : Netlist) : Type 0 where

@@ -5,4 +5,3 @@ pub mod Order
 pub mod Planned
 pub mod Products
 pub mod Rows
-pub mod Width

@@ -19,7 +19,7 @@ use Rattle.abel_meaning.specs.Netlists.{plain_netlist}
 use Rattle.fit_shared.specs.declared.shared.SharedControl.{SharedControl}
 use Rattle.fit_shared.specs.declared.shared.SharedControl.TheVariants.{Preset, Reset}
 use Rattle.fit_shared.specs.Sharing.{AreNotShared, IsSharedBit, own_formula}
-use Rattle.fitter.specs.declared.covering.CellCovers.{CellCovers}
+use Rattle.cell_covers.specs.declared.covering.CellCovers.{CellCovers}
 use Rattle.fitter.specs.declared.fault.FitFault.{FitFault}
 use Rattle.fitter.specs.declared.fault.FitFault.TheVariants as fault
 use Rattle.fitter.specs.declared.answer.FittedCell.{FittedCell}

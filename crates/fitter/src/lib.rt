@@ -5,11 +5,9 @@ mod answer;
 mod covering;
 mod fault;
 mod fitting;
-mod masks;
 mod planning;
 mod rising;
 mod sharing;
-mod widest;
 
 pub use answer::{Fitted, FittedCell};
 pub use fault::FitFault;

@@ -3,9 +3,9 @@
 ghost use Rattle.std.specs.Prelude.{ℕ, ◌≡◌, ◌<◌, ◌≤◌, None, Some, get_or, length};
 ghost use Rattle.fitter.specs.Planned.{AreNoRows, ArePlanned, ArePlannedAt, AreSingle};
 
-use crate::covering::CellCovers;
 use crate::fault::FitFault;
 use crate::rising::risen;
+use cell_covers::CellCovers;
 use fit_cells::choose;
 use fit_rows::{CellForm, CellPlan};
 use pld_base::ListOf;

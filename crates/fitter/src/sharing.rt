@@ -4,13 +4,13 @@ ghost use Rattle.std.specs.Prelude.{◌≡◌, ◌≤◌, None, true};
 ghost use Rattle.abel_meaning.specs.SoundIds.{IsSoundNetlist};
 ghost use Rattle.fit_laws.specs.Coverable.{IsSoundId};
 ghost use Rattle.sop_lowering.specs.Written.{bit_list};
+ghost use Rattle.cell_covers.specs.Width.{NoneWide};
 ghost use Rattle.fitter.specs.Planned.{AreSharedRows, IsRowOf, IsSharedBitOf};
-ghost use Rattle.fitter.specs.Width.{NoneWide};
 ghost use Rattle.fit_shared.specs.Sharing.{AllListed};
 
-use crate::covering::control_rows;
 use crate::fault::FitFault;
 use bit_expr::{ExprId, Netlist};
+use cell_covers::control_rows;
 use cube_pool::{Cube, CubePool};
 use fit_shared::{ShareFault, SharedControl, shared_bit};
 use pld_device::Device;

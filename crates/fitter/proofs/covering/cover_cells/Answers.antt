@@ -1,7 +1,7 @@
 use Rattle.std.proofs.Common.{◌+◌, List, refl, subst, sym, ◌∙◌, arith, Option}
-use Rattle.fitter.specs.declared.covering.CellCovers.{CellCovers}
+use Rattle.cell_covers.specs.declared.covering.CellCovers.{CellCovers}
 use Rattle.fitter.specs.Covered.{CoversBelow}
-use Rattle.fitter.proofs.Widths.{below_more, below_none, first_number}
+use Rattle.fitter.proofs.CoversInTurn.{below_more, below_none, first_number}
 use Rattle.fitter.proofs.covering.cover_cells.Goals as goal
 
 pub loop-cell-init : goal.loop-cell-init

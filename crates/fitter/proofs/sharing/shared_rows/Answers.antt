@@ -2,7 +2,7 @@ use Rattle.std.proofs.lemmas.Result.{err_from_is_err_and}
 use Rattle.fit_shared.specs.declared.shared.SharedControl.TheVariants.{Preset, Reset}
 use Rattle.fitter.specs.Planned.{AreSharedRows}
 use Rattle.fitter.proofs.Stops.{handed, preset_row_stops, preset_stops, reset_row_stops, reset_stops}
-use Rattle.fitter.proofs.Widths.{all_listed}
+use Rattle.fitter.proofs.CoversInTurn.{all_listed}
 use Rattle.fitter.proofs.sharing.shared_rows.Goals as goal
 
 pub bit_of-requires-clause-listed : goal.bit_of-requires-clause-listed

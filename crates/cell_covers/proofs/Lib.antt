@@ -1,0 +1,4 @@
+pub mod ControlLists
+mod TurnBits
+mod WidthOrder
+pub mod Widths

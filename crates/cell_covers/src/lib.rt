@@ -1,0 +1,10 @@
+//! The covers of one assigned cell of a netlist, or that it is too wide.
+#![tactic(auto)]
+
+mod covering;
+mod masks;
+mod widest;
+
+pub use covering::{CellCovers, control_rows, cover_at};
+pub use masks::turn_mask;
+pub use widest::first_wide;
