@@ -1,9 +1,9 @@
 //! All bytes of a reader, and all bytes to a writer.
 
 ghost use Rattle.std.specs.Io.KnownBytes.{Appends, Consumes, IsAtEnd};
-ghost use Rattle.std.specs.Prelude.{true, IfSome, IfOk, OnOk, OnErr, IsErrOf, ◌≡◌, ◌≤◌, ◌<◌, ◌-◌, length};
+ghost use Rattle.std.specs.Prelude.{true, IfSome, IfOk, OnOk, IsErrOf, ◌≡◌, ◌≤◌, ◌<◌, ◌-◌, length};
 
-use crate::files::ReadFault;
+use outside::ReadFault;
 use std::alloc::Global;
 use std::io::{ErrorKind, Read, Write};
 

@@ -1,12 +1,12 @@
 //! A writer as a sink. Nothing is told of what it holds.
 
 ghost use Rattle.std.specs.Io.KnownBytes.{Appends};
-ghost use Rattle.std.specs.Prelude.{◌≡◌, ℕ, ◌≤◌, ◌⊎◌, List, [], OnOk, IsErrOf};
+ghost use Rattle.std.specs.Prelude.{◌≡◌, ◌≤◌, ◌⊎◌, [], OnOk, IsErrOf};
 ghost use Rattle.outside.specs.Causes.{Rose};
-ghost use Rattle.outside.specs.HostState.{writer_of, put_faults};
+ghost use Rattle.host_files.specs.HostState.{writer_of, put_faults};
 
 use crate::bytes::write_all;
-use crate::sink::{Sink, SinkFault};
+use outside::{Sink, SinkFault};
 use std::alloc::Global;
 use std::io::Write;
 
