@@ -271,21 +271,10 @@ special_pulse true c e = absurd cc
 special_pulse false true e = tt
 special_pulse false false e = tt
 
-pulse_extended : (e : Option Extension) (t : Term) → IsPulseTerm t → IsPulseTerm (extended_if e t)
-pulse_extended None t h = h
-pulse_extended (Some e) term.Pulse h = tt
-pulse_extended (Some e) term.Release h = tt
-pulse_extended (Some e) (term.Number n) h = absurd h
-pulse_extended (Some e) term.X h = absurd h
-pulse_extended (Some e) (term.Read s f) h = absurd h
-pulse_extended (Some e) (term.Set ts) h = absurd h
-pulse_extended (Some e) (term.UnaryOf sign t) h = absurd h
-pulse_extended (Some e) (term.BinaryOf sign t u) h = absurd h
-
-pulse_tree : (d : Design) (ns : List NameFound) (ks : List Known) → NamesLinked d ns ks → (t : Tree) → is_pulse ns t ≡ true → IsPulseTerm (term_of ks t)
+pulse_tree : (d : Design) (ns : List NameFound) (ks : List Known) → NamesLinked d ns ks → (t : Tree) → is_pulse t ≡ true → IsPulseTerm (term_of ks t)
 pulse_tree d ns ks l (ANumber n) e = absurd cc
 pulse_tree d ns ks l (ASpecial letter p) e = special_pulse (bytes_eq (letter ∷ []) (codes "X")) (bytes_eq (letter ∷ []) (codes "C")) e
-pulse_tree d ns ks l (AName word e) h = pulse_extended e (term_named ks word.text) ((looked d ns ks word.text l).pulse h)
+pulse_tree d ns ks l (AName word e) h = absurd cc
 pulse_tree d ns ks l (ASet p ms e) h = absurd cc
 pulse_tree d ns ks l (AParen p t) h = pulse_tree d ns ks l t h
 pulse_tree d ns ks l (AUnary sign p t) h = absurd cc
@@ -311,10 +300,10 @@ signal_linked d s = linked_value d (one_position false) (term.Read s None) (reco
 kind_linked : (d : Design) (ns : List NameFound) (ks : List Known) (s : ℕ) → NamesLinked d ns ks → (k : Kind) → IsLinked d (found_kind ns k) (term_meant ks s k)
 kind_linked d ns ks s l (APin pin negated) = signal_linked d s
 kind_linked d ns ks s l (ANode number) = signal_linked d s
-kind_linked d ns ks s l (AConstant t) = constant_linked d (is_pulse ns t) (found_of ns t) (term_of ks t) (pulse_tree d ns ks l t) (tree_linked d ns ks l t)
+kind_linked d ns ks s l (AConstant t) = constant_linked d (is_pulse t) (found_of ns t) (term_of ks t) (pulse_tree d ns ks l t) (tree_linked d ns ks l t)
 kind_linked d ns ks s l ADeviceName = linked_value d (plain_value 0) (term.Number 0) (same_kind (plain_value 0)) tt tt (omega arith)
 
-kind_pulse : (d : Design) (ns : List NameFound) (ks : List Known) (s : ℕ) → NamesLinked d ns ks → (k : Kind) → is_pulse_kind ns k ≡ true → IsPulseTerm (term_meant ks s k)
+kind_pulse : (d : Design) (ns : List NameFound) (ks : List Known) (s : ℕ) → NamesLinked d ns ks → (k : Kind) → is_pulse_kind k ≡ true → IsPulseTerm (term_meant ks s k)
 kind_pulse d ns ks s l (APin pin negated) e = absurd cc
 kind_pulse d ns ks s l (ANode number) e = absurd cc
 kind_pulse d ns ks s l (AConstant t) e = pulse_tree d ns ks l t e

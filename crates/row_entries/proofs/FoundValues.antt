@@ -104,17 +104,6 @@ pulse_same d (term.Set ts) h = absurd h
 pulse_same d (term.UnaryOf sign t) h = absurd h
 pulse_same d (term.BinaryOf sign t u) h = absurd h
 
-pulse_extended : (e : Option Extension) (t : Term) → IsPulseTerm t → IsPulseTerm (extended_if e t)
-pulse_extended None t h = h
-pulse_extended (Some e) term.Pulse h = h
-pulse_extended (Some e) term.Release h = h
-pulse_extended (Some e) term.X h = absurd h
-pulse_extended (Some e) (term.Number n) h = absurd h
-pulse_extended (Some e) (term.Read s f) h = absurd h
-pulse_extended (Some e) (term.Set ts) h = absurd h
-pulse_extended (Some e) (term.UnaryOf sign t) h = absurd h
-pulse_extended (Some e) (term.BinaryOf sign t u) h = absurd h
-
 -- what is found of a name and what it stands for
 record NameAgrees (d : Design) (n : NameFound) (t : Term) : Type 0 where
   pub valued : IsValued n.found (constant_of d t)
@@ -203,26 +192,26 @@ module _ (d : Design) (ns : List NameFound) (ks : List Known) (agree : AllAgree 
     members_shape p (MoreMembers (SpanMember first last) ms) e =
         range_shape p first.place (range_names first.text last.text) (all_found ns ms) (terms_of ks ms) (members_shape p ms) e
 
-  pulse_term : (t : Tree) → is_pulse ns t ≡ true → IsPulseTerm (term_of ks t)
+  pulse_term : (t : Tree) → is_pulse t ≡ true → IsPulseTerm (term_of ks t)
   pulse_term (ASpecial letter p) e = special_pulse letter e
-  pulse_term (AName word x) e = pulse_extended x (term_named ks word.text) ((named_agrees d ns ks agree word.text).pulse e)
+  pulse_term (AName word x) e = absurd cc
   pulse_term (AParen p t) e = pulse_term t e
   pulse_term (ANumber n) e = absurd cc
   pulse_term (ASet p ms x) e = absurd cc
   pulse_term (AUnary sign p t) e = absurd cc
   pulse_term (ABinary sign p t u) e = absurd cc
 
-  constant_valued : (b : Bool) (t : Tree) → is_pulse ns t ≡ b → IsValued (found_constant b (found_of ns t)) (constant_of d (term_of ks t))
+  constant_valued : (b : Bool) (t : Tree) → is_pulse t ≡ b → IsValued (found_constant b (found_of ns t)) (constant_of d (term_of ks t))
   constant_valued true t e r = pulse_same d (term_of ks t) (pulse_term t e)
   constant_valued false t e r = found_valued t r
 
   kind_agrees : (s : ℕ) (x : Entry) → NameAgrees d (found_entry ns x) (term_meant ks s x.kind)
   kind_agrees s x = by_kind x.kind
     where
-      by_kind : (kind : Kind) → NameAgrees d (record { name = x.name; found = found_kind ns kind; is_pulse = is_pulse_kind ns kind }) (term_meant ks s kind)
+      by_kind : (kind : Kind) → NameAgrees d (record { name = x.name; found = found_kind ns kind; is_pulse = is_pulse_kind kind }) (term_meant ks s kind)
       by_kind (APin pin negated) = record { valued = λ e. record { shape = refl; number = λ h. absurd cc }; pulse = λ e. absurd cc }
       by_kind (ANode number) = record { valued = λ e. record { shape = refl; number = λ h. absurd cc }; pulse = λ e. absurd cc }
-      by_kind (AConstant t) = record { valued = constant_valued (is_pulse ns t) t refl; pulse = pulse_term t }
+      by_kind (AConstant t) = record { valued = constant_valued (is_pulse t) t refl; pulse = pulse_term t }
       by_kind ADeviceName = record { valued = λ e. same_itself (plain_value 0); pulse = λ e. absurd cc }
 
 all_agree : (d : Design) (ns : List NameFound) (ks : List Known) (s : ℕ) (es : List Entry) → AllAgree d ns ks → AllAgree d (found_after ns es) (known_after ks s es)

@@ -163,7 +163,7 @@ pushed_few (x ∷ ns) [] n k h e f = absurd h
 pushed_few [] (y ∷ ks) n k h e f = absurd h
 pushed_few (x ∷ ns) (y ∷ ks) n k h e f = (h.0, (h.1.0, pushed_few ns ks n k h.1.1 e f))
 
-kind_few : (ns : List NameFound) (ks : List Known) (s : ℕ) (kind : Kind) → AreFewOf ns ks → is_pulse_kind ns kind ≡ false → AreFew (found_kind ns kind) (many (term_meant ks s kind))
+kind_few : (ns : List NameFound) (ks : List Known) (s : ℕ) (kind : Kind) → AreFewOf ns ks → is_pulse_kind kind ≡ false → AreFew (found_kind ns kind) (many (term_meant ks s kind))
 kind_few ns ks s (APin pin negated) h e = record { positions = λ r. omega arith; few = λ r. omega arith }
 kind_few ns ks s (ANode number) h e = record { positions = λ r. omega arith; few = λ r. omega arith }
 kind_few ns ks s (AConstant t) h e = subst (λ b. AreFew (found_constant b (found_of ns t)) (many (term_of ks t))) (sym e) (expression_few ns ks h t)

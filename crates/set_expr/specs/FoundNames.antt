@@ -83,13 +83,12 @@ abbrev mutual
   found_before ns (OneMember t) fs = found_of ns t ∷ fs
   found_before ns (SpanMember first last) fs = range_found ns first.place (range_names first.text last.text) fs
 
--- the expression is `.C.` or `.Z.`, up to parentheses and constants' names
-abbrev mutual
-  pub is_pulse : List NameFound → Tree → Bool
-  is_pulse ns (ASpecial letter p) = if bytes_eq (letter ∷ []) (codes "X") then false else true
-  is_pulse ns (AName word e) = (name_found ns word.text).is_pulse
-  is_pulse ns (AParen p t) = is_pulse ns t
-  is_pulse ns _ = false
+-- the expression is `.C.` or `.Z.` itself, up to parentheses: the name of a constant that is may stand in a row of
+-- vectors alone
+abbrev pub is_pulse : Tree → Bool
+is_pulse (ASpecial letter p) = if bytes_eq (letter ∷ []) (codes "X") then false else true
+is_pulse (AParen p t) = is_pulse t
+is_pulse _ = false
 
 -- a constant's expression is refused nothing where it is `.C.` or `.Z.`
 abbrev pub found_constant : (pulse : Bool) → Found → Found
@@ -100,16 +99,16 @@ found_constant false f = f
 abbrev pub found_kind : List NameFound → Kind → Found
 found_kind ns (APin pin negated) = found_value (one_position false)
 found_kind ns (ANode number) = found_value (one_position false)
-found_kind ns (AConstant t) = found_constant (is_pulse ns t) (found_of ns t)
+found_kind ns (AConstant t) = found_constant (is_pulse t) (found_of ns t)
 found_kind ns ADeviceName = found_value (plain_value 0)
 
-abbrev pub is_pulse_kind : List NameFound → Kind → Bool
-is_pulse_kind ns (AConstant t) = is_pulse ns t
-is_pulse_kind ns _ = false
+abbrev pub is_pulse_kind : Kind → Bool
+is_pulse_kind (AConstant t) = is_pulse t
+is_pulse_kind _ = false
 
 -- what is known of an entry behind these names
 abbrev pub found_entry : List NameFound → Entry → NameFound
-found_entry ns e = record { name = e.name; found = found_kind ns e.kind; is_pulse = is_pulse_kind ns e.kind }
+found_entry ns e = record { name = e.name; found = found_kind ns e.kind; is_pulse = is_pulse_kind e.kind }
 
 -- what is known after more entries
 abbrev pub found_after : List NameFound → List Entry → List NameFound

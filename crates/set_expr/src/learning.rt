@@ -3,7 +3,7 @@
 ghost use Rattle.std.specs.Prelude.{◌≡◌, ◌+◌, List, Some, None, false, IfOk};
 ghost use Rattle.abel_tree.specs.Entries.{Entry, entries_of, view_declared};
 ghost use Rattle.abel_tree.specs.View.{view};
-ghost use Rattle.set_expr.specs.FoundNames.{found_entry, found_kind, is_pulse, is_pulse_kind, name_found, names_found};
+ghost use Rattle.set_expr.specs.FoundNames.{found_entry, found_kind, is_pulse, is_pulse_kind, names_found};
 ghost use Rattle.set_expr.specs.KnownNames.{IsKnown, IsKnownName, SumsUp};
 
 use crate::checking::plain;
@@ -54,7 +54,7 @@ fn learn(
         Meaning::Node(_) => Ok(plain_name(number, Shape::Single)),
         Meaning::DeviceName => Ok(plain_name(number, Shape::Number(0))),
         Meaning::Constant(expr) => {
-            if is_pulse(known, expr) {
+            if is_pulse(expr) {
                 Ok(KnownName {
                     number,
                     checked: plain(Shape::Number(0)),
@@ -83,24 +83,13 @@ fn plain_name(number: u32, shape: Shape) -> KnownName
     }
 }
 
-/// Whether an expression is `.C.` or `.Z.`, up to parentheses and constants.
-fn is_pulse(known: &KnownNames, expr: &Expr) -> bool
-    ensures { (es : List Entry) → IsKnown es known.now → result ≡ is_pulse (names_found es) (view expr.now) }
+/// Whether an expression is `.C.` or `.Z.` itself, up to parentheses.
+fn is_pulse(expr: &Expr) -> bool
+    ensures { result ≡ is_pulse (view expr.now) }
 {
     match expr {
         Expr::Special { letter, place: _ } => *letter != b'X',
-        Expr::Name { word, extension: _ } => is_pulse_name(known, word.text.bytes()),
-        Expr::Paren { place: _, inner } => is_pulse(known, inner.get()),
+        Expr::Paren { place: _, inner } => is_pulse(inner.get()),
         _ => false,
-    }
-}
-
-/// Whether a name stands for `.C.` or `.Z.`.
-fn is_pulse_name(known: &KnownNames, text: &[u8]) -> bool
-    ensures { (es : List Entry) → IsKnown es known.now → result ≡ (name_found (names_found es) text.now).is_pulse }
-{
-    match known.get(text) {
-        Some(name) => name.pulse,
-        None => false,
     }
 }
