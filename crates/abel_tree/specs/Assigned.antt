@@ -22,13 +22,16 @@ abbrev pub signals_of_names : List Named → List (List ℕ) → List ℕ
 signals_of_names ks [] = []
 signals_of_names ks (name ∷ names) = signals_of_name ks name ++ signals_of_names ks names
 
--- the signals of a target: up to parentheses, ranges, constants and sets within sets
+-- the signals that an expression names up to parentheses, ranges, constants and sets within sets: what has an extension of
+-- its own is no target and names none
 abbrev mutual
   pub signals_of : List Named → Tree → List ℕ
   signals_of ks (ANumber n) = []
   signals_of ks (ASpecial letter p) = []
-  signals_of ks (AName word e) = signals_of_name ks word.text
-  signals_of ks (ASet p ms e) = signals_of_members ks ms
+  signals_of ks (AName word None) = signals_of_name ks word.text
+  signals_of ks (AName word (Some e)) = []
+  signals_of ks (ASet p ms None) = signals_of_members ks ms
+  signals_of ks (ASet p ms (Some e)) = []
   signals_of ks (AParen p t) = signals_of ks t
   signals_of ks (AUnary sign p t) = []
   signals_of ks (ABinary sign p t u) = []
@@ -63,10 +66,16 @@ abbrev pub assigned_each : (clocked : Bool) → List ℕ → List Assigned
 assigned_each clocked [] = []
 assigned_each clocked (s ∷ ss) = record { signal = s; clocked = clocked } ∷ assigned_each clocked ss
 
+-- an equation's target: its extension, which counts for all that it names, and the target alone
 abbrev pub target_extension : Tree → Option Extension
 target_extension (AName word e) = e
 target_extension (ASet p ms e) = e
 target_extension _ = None
+
+abbrev pub without_extension : Tree → Tree
+without_extension (AName word e) = AName word None
+without_extension (ASet p ms e) = ASet p ms None
+without_extension t = t
 
 abbrev pub is_clocked : Sign → Bool
 is_clocked Equal = false
@@ -82,7 +91,8 @@ assigned_by (Some _) clocked ss = []
 
 abbrev mutual
   pub statement_assigns : List Named → Statement → List Assigned
-  statement_assigns ks (AnAssign p complement target sign q value) = assigned_by (target_extension target) (is_clocked sign) (signals_of ks target)
+  statement_assigns ks (AnAssign p complement target sign q value) =
+      assigned_by (target_extension target) (is_clocked sign) (signals_of ks (without_extension target))
   statement_assigns ks (AWhen p c s other) = statement_assigns ks s ++ else_assigns ks other
   statement_assigns ks (AGroup ss) = statements_assign ks ss
   statement_assigns ks (ADontCare d) = []

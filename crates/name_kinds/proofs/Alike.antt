@@ -3,7 +3,7 @@ use Rattle.std.proofs.Common.{◌≡◌, ℕ, Bool, true, false, ◌||◌, Optio
 use Rattle.std.specs.List.{list_any}
 use Rattle.abel_tree.specs.declared.words.Extension.{Extension}
 use Rattle.abel_tree.specs.declared.words.Extension.TheVariants as ext
-use Rattle.abel_tree.specs.Assigned.{Named, Assigned, signals_of_name, signals_of_names, signals_of, signals_of_member, signals_of_members, target_extension, is_clocked, assigned_each, assigned_by, statement_assigns, else_assigns, statements_assign, list_assigns, with_assigns, branch_assigns, other_assigns, choices_assign, branches_assign, states_assign, section_assigns, sections_assign}
+use Rattle.abel_tree.specs.Assigned.{Named, Assigned, signals_of_name, signals_of_names, signals_of, signals_of_member, signals_of_members, target_extension, without_extension, is_clocked, assigned_each, assigned_by, statement_assigns, else_assigns, statements_assign, list_assigns, with_assigns, branch_assigns, other_assigns, choices_assign, branches_assign, states_assign, section_assigns, sections_assign}
 use Rattle.abel_tree.specs.Ranges.{range_names}
 use Rattle.abel_tree.specs.Tree.{Tree, ANumber, ASpecial, AName, ASet, AParen, AUnary, ABinary, SetMember, OneMember, SpanMember, Members, NoMember, MoreMembers, Statement, AnAssign, AWhen, AGroup, ADontCare, Otherwise, NoElse, AnElse, Statements, NoStatement, MoreStatements, Branch, AGoal, AnIf, ACase, OtherBranch, NoBranch, ABranch, Choices, NoChoice, MoreChoices, StateTree, SectionTree, Declarations, Equations, ATable, ADiagram, SomeVectors, DontCareSection}
 
@@ -31,8 +31,10 @@ module _ (p q : ℕ → Bool) (ks ls : List Named) (alike : NamesAlike p q ks ls
     pub targets_alike : (t : Tree) → list_any p (signals_of ks t) ≡ list_any q (signals_of ls t)
     targets_alike (ANumber n) = refl
     targets_alike (ASpecial letter pl) = refl
-    targets_alike (AName word e) = alike word.text
-    targets_alike (ASet pl ms e) = members_alike ms
+    targets_alike (AName word None) = alike word.text
+    targets_alike (AName word (Some e)) = refl
+    targets_alike (ASet pl ms None) = members_alike ms
+    targets_alike (ASet pl ms (Some e)) = refl
     targets_alike (AParen pl t) = targets_alike t
     targets_alike (AUnary sign pl t) = refl
     targets_alike (ABinary sign pl t u) = refl
@@ -70,7 +72,7 @@ module _ (p q : Bool → ℕ → Bool) (ks ls : List Named) (alike : (c : Bool) 
 
   mutual
     statement_alike : (x : Statement) → list_any (tells p) (statement_assigns ks x) ≡ list_any (tells q) (statement_assigns ls x)
-    statement_alike (AnAssign pl complement target sign r value) = by_alike (target_extension target) (is_clocked sign) target
+    statement_alike (AnAssign pl complement target sign r value) = by_alike (target_extension target) (is_clocked sign) (without_extension target)
     statement_alike (AWhen pl c s other) = joined (tells p) (tells q) (statement_assigns ks s) (else_assigns ks other) (statement_assigns ls s) (else_assigns ls other) (statement_alike s) (else_alike other)
     statement_alike (AGroup ss) = statements_alike ss
     statement_alike (ADontCare d) = refl

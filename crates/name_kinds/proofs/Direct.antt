@@ -1,6 +1,6 @@
 -- What a name names itself.
-use Rattle.std.proofs.Common.{◌≡◌, ℕ, zero, suc, ◌+◌, ◌-◌, ◌<◌, ◌≤◌, Bool, Some, None, List, [], ◌∷◌, ◌++◌, arith, map, length, get_or, sym, ap, ◌∙◌}
-use Rattle.std.specs.Prelude.{option_map, replicate, slice_get}
+use Rattle.std.proofs.Common.{◌≡◌, ℕ, zero, suc, ◌+◌, ◌-◌, ◌<◌, ◌≤◌, Bool, Some, List, [], ◌∷◌, ◌++◌, arith, map, length, get_or, sym, ap, ◌∙◌}
+use Rattle.std.specs.Prelude.{option_map, replicate}
 use Rattle.std.proofs.lemmas.List.{length-map, map-append}
 use Rattle.std.proofs.lemmas.Option.{slice_get-map, slice_get-get_or, slice_get_past}
 use Rattle.abel_tree.specs.declared.expressions.Expr.{Expr}

@@ -1,13 +1,12 @@
 -- One more item of a list whose targets are marked.
-use Rattle.std.proofs.Common.{◌≡◌, ℕ, ◌+◌, ◌<◌, Bool, true, false, Option, Some, None, List, [], ◌∷◌, ◌++◌, map, fold, take, length, get_or, set, refl, sym, ap, ◌∙◌, append_assoc}
-use Rattle.std.proofs.lemmas.List.{take_more, map-append, set_past}
+use Rattle.std.proofs.Common.{◌≡◌, ℕ, ◌+◌, ◌<◌, Bool, true, Option, Some, None, List, [], ◌∷◌, ◌++◌, map, take, length, get_or, refl, sym, ap, ◌∙◌}
+use Rattle.std.proofs.lemmas.List.{take_more, map-append}
 use Rattle.std.proofs.lemmas.List.Sums.{fold-append}
 use Rattle.abel_tree.specs.Assigned.{Assigned, assigned_each, assigned_by}
 use Rattle.abel_tree.specs.declared.words.Extension.{Extension}
 use Rattle.abel_tree.specs.declared.words.Extension.TheVariants as ext
 use Rattle.name_kinds.specs.declared.marks.Mark.{Mark}
-use Rattle.name_kinds.specs.declared.marks.Mark.TheVariants as mark
-use Rattle.name_kinds.specs.Marking.{hit, hits, raised, marked, all_marked, clocked_by}
+use Rattle.name_kinds.specs.Marking.{hit, hits, marked, all_marked, clocked_by}
 
 -- the first k + 1 items, seen through a function
 pub mapped_more : {A B : Type 0} (f : A → B) (es : List A) (k : ℕ) (e : A) → k < length es → e ≡ get_or es k e → map f (take (k + 1) es) ≡ map f (take k es) ++ f e ∷ []

@@ -1,9 +1,8 @@
 -- The names' numbers: in a map, and in a list in which each name stands for its own.
 use Rattle.std.proofs.Common.{◌≡◌, ℕ, zero, suc, ◌+◌, ◌<◌, ◌≤◌, Bool, true, false, Option, Some, None, List, [], ◌∷◌, ◌++◌, map, take, length, get_or, if◌then◌else◌, refl, sym, ap, ◌∙◌, arith, cond}
-use Rattle.std.specs.Prelude.{is_some, min, nat_lt, option_copied}
+use Rattle.std.specs.Prelude.{is_some, min, option_copied}
 use Rattle.std.specs.Global.{Vec}
-use Rattle.std.specs.List.{position, position_from}
-use Rattle.std.specs.Map.{lookup}
+use Rattle.std.specs.List.{position_from}
 use denote.Ref.{Bor}
 use Rattle.std.specs.Str.{bytes_eq}
 use Rattle.std.proofs.lemmas.Bool.{lt-ltb, le-ltb}

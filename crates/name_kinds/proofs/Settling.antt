@@ -1,5 +1,5 @@
 -- Two passes find what the sections assign, and whether on the clock.
-use Rattle.std.proofs.Common.{◌≡◌, ℕ, zero, suc, ◌+◌, ◌==◌, ◌<◌, ◌≤◌, nat_le, Bool, true, false, ◌||◌, ◌&&◌, if◌then◌else◌, Option, Some, None, List, [], ◌∷◌, ◌++◌, map, take, length, get_or, refl, sym, ap, ap₂, subst, ◌∙◌, arith}
+use Rattle.std.proofs.Common.{◌≡◌, ℕ, zero, suc, ◌+◌, ◌==◌, ◌<◌, ◌≤◌, nat_le, Bool, true, false, ◌||◌, ◌&&◌, Option, Some, List, [], ◌∷◌, take, length, refl, sym, ap, ap₂, subst, ◌∙◌, arith}
 use Rattle.std.specs.Prelude.{slice_get, replicate}
 use Rattle.std.specs.List.{list_any}
 use Rattle.std.proofs.lemmas.Bool.Decides.{nat_tests}
@@ -7,7 +7,7 @@ use Rattle.std.proofs.lemmas.List.{get_or-replicate, length-replicate}
 use Rattle.std.proofs.Math.Seq.{take-length}
 use Rattle.std.proofs.lemmas.Option.{slice_get_within}
 use Rattle.pld_device.specs.declared.flip.Flip.{Flip}
-use Rattle.abel_tree.specs.Assigned.{Assigned, Named, signals_of_name, named_of, sections_assign, is_assigned, is_clocked_target}
+use Rattle.abel_tree.specs.Assigned.{Assigned, signals_of_name, named_of, sections_assign, is_assigned, is_clocked_target}
 use Rattle.abel_tree.specs.Entries.{Entry, is_signal}
 use Rattle.abel_tree.specs.Tree.{SectionTree}
 use Rattle.abel_meaning.specs.Kinds.{is_registered, is_buffer, settled_words, with_kind, with_kinds, with_assigned}
@@ -19,7 +19,7 @@ use Rattle.name_kinds.specs.Settled.{kind_by, kinds_by}
 use Rattle.name_kinds.proofs.Alike.{NamesAlike, tells, sections_alike}
 use Rattle.name_kinds.proofs.Bits.{at, all_marked_at, all_clocked_at, swept_marked, swept_clock, length_all_marked}
 use Rattle.name_kinds.proofs.Related.{stands, stands_alike, no_signal_alike, low_alike, direct_low, stands_by, stands_self}
-use Rattle.name_kinds.proofs.Spreading.{among, sweep, below, below_none, below_or, below_one, swept, or_false, same_number}
+use Rattle.name_kinds.proofs.Spreading.{sweep, below, below_none, below_or, below_one, swept, same_number}
 
 -- ---- what stands below
 

@@ -1,9 +1,9 @@
 -- Marks of what targets name (ABEL-HDL Reference Manual, equations).
-use Rattle.std.specs.Prelude.{ℕ, Bool, true, false, Option, None, Some, List, [], ◌∷◌, fold, set, get_or}
+use Rattle.std.specs.Prelude.{ℕ, Bool, true, false, Option, None, Some, List, fold, set, get_or}
 use Rattle.abel_tree.specs.declared.words.Extension.{Extension}
 use Rattle.abel_tree.specs.declared.words.Extension.TheVariants.{D}
 use Rattle.abel_tree.specs.Assigned.{Assigned, Named, branch_assigns}
-use Rattle.abel_tree.specs.Tree.{Tree, Statement, Branch, StateTree, members_of}
+use Rattle.abel_tree.specs.Tree.{Tree, Statement, Branch}
 use Rattle.abel_tree.specs.declared.statements.When.{When}
 use Rattle.abel_tree.specs.declared.statements.Stmt.TheFolds.{fold-When}
 use Rattle.abel_tree.specs.declared.diagrams.If.{If}

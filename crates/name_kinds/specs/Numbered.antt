@@ -1,5 +1,5 @@
 -- The names with their own numbers, and from the last constant to the first what it names.
-use Rattle.std.specs.Prelude.{◌≡◌, ℕ, zero, suc, Bool, Option, None, Some, List, [], ◌∷◌, if◌then◌else◌, nat_lt, take, bytes_eq, get_or, slice_get}
+use Rattle.std.specs.Prelude.{◌≡◌, ℕ, zero, suc, Option, None, Some, List, [], ◌∷◌, if◌then◌else◌, nat_lt, take, bytes_eq, get_or, slice_get}
 use Rattle.std.specs.Global.{Vec}
 use Rattle.std.specs.Map.{lookup}
 use Rattle.abel_tree.specs.Assigned.{Named, signals_of}

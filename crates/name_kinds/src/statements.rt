@@ -2,7 +2,7 @@
 
 ghost use Rattle.std.specs.Prelude.{◌≡◌, OnOk, List, ℕ, map, option_map, ◌++◌};
 ghost use Rattle.abel_tree.specs.Entries.{Entry};
-ghost use Rattle.abel_tree.specs.Assigned.{statement_assigns, list_assigns, target_extension, is_clocked, assigned_by, signals_of};
+ghost use Rattle.abel_tree.specs.Assigned.{statement_assigns, list_assigns, target_extension, is_clocked, assigned_by, signals_of, without_extension};
 ghost use Rattle.abel_tree.specs.View.{view, view_stmt};
 ghost use Rattle.name_kinds.specs.Marking.{all_marked, when_tree, clocked_by};
 ghost use Rattle.name_kinds.specs.Numbered.{numbered, IsNumbering};
@@ -82,11 +82,11 @@ impl Numbers {
         limit: usize,
         assign: &Assign,
     ) -> Result<(), OutOfMemory>
-        ensures { OnOk result ((es : List Entry) → IsNumbering self.now es → marks.new.items ≡ all_marked marks.old.items (assigned_by (target_extension (view assign.now.target)) (is_clocked assign.now.sign) (signals_of (numbered limit es) (view assign.now.target)))) }
+        ensures { OnOk result ((es : List Entry) → IsNumbering self.now es → marks.new.items ≡ all_marked marks.old.items (assigned_by (target_extension (view assign.now.target)) (is_clocked assign.now.sign) (signals_of (numbered limit es) (without_extension (view assign.now.target))))) }
     {
         let clocked = is_clocked(assign.sign);
         match clocked_by(extension_of(&assign.target), clocked) {
-            Some(clocked) => self.mark_expr(alloc, marks, limit, clocked, &assign.target),
+            Some(clocked) => self.mark_left_side(alloc, marks, limit, clocked, &assign.target),
             None => Ok(()),
         }
     }

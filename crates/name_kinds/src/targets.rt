@@ -1,7 +1,7 @@
 //! The names of targets.
 
 ghost use Rattle.std.specs.Prelude.{◌≡◌, OnOk, List, ℕ, map};
-ghost use Rattle.abel_tree.specs.Assigned.{signals_of, signals_of_name, signals_of_member, signals_of_members, signals_of_names};
+ghost use Rattle.abel_tree.specs.Assigned.{signals_of, signals_of_name, signals_of_member, signals_of_members, signals_of_names, without_extension};
 ghost use Rattle.abel_tree.specs.Entries.{Entry};
 ghost use Rattle.abel_tree.specs.Ranges.{range_names};
 ghost use Rattle.abel_tree.specs.Tree.{members_of};
@@ -38,7 +38,32 @@ impl Numbers {
         }
     }
 
-    /// Marks what a target names itself.
+    /// Marks what the target of an equation names, whose own extension counts for all of it.
+    pub(crate) fn mark_left_side(
+        &self,
+        alloc: Global,
+        marks: &mut Vec<Mark>,
+        limit: usize,
+        clocked: bool,
+        target: &Expr,
+    ) -> Result<(), OutOfMemory>
+        ensures { OnOk result ((es : List Entry) → IsNumbering self.now es → marks.new.items ≡ hits clocked marks.old.items (signals_of (numbered limit es) (without_extension (view target.now)))) }
+    {
+        match target {
+            Expr::Name { word, extension: _ } => {
+                self.mark_name(marks, limit, clocked, word.text.bytes());
+                Ok(())
+            }
+            Expr::Set {
+                place: _,
+                members,
+                extension: _,
+            } => self.mark_members(alloc, marks, limit, clocked, members.as_slice()),
+            _ => self.mark_expr(alloc, marks, limit, clocked, target),
+        }
+    }
+
+    /// Marks what an expression names itself: nothing by what has an extension.
     #[cycle(targets)]
     pub(crate) fn mark_expr(
         &self,
@@ -51,34 +76,22 @@ impl Numbers {
         ensures { OnOk result ((es : List Entry) → IsNumbering self.now es → marks.new.items ≡ hits clocked marks.old.items (signals_of (numbered limit es) (view expr.now))) }
     {
         match expr {
-            Expr::Name { word, extension: _ } => {
+            Expr::Name {
+                word,
+                extension: None,
+            } => {
                 self.mark_name(marks, limit, clocked, word.text.bytes());
                 Ok(())
             }
             Expr::Set {
                 place: _,
                 members,
-                extension: _,
+                extension: None,
             } => self.mark_members(alloc, marks, limit, clocked, members.as_slice()),
             Expr::Paren { place: _, inner } => {
                 self.mark_expr(alloc, marks, limit, clocked, inner.get())
             }
-            Expr::Number(_) => Ok(()),
-            Expr::Special {
-                letter: _,
-                place: _,
-            } => Ok(()),
-            Expr::Unary {
-                sign: _,
-                place: _,
-                inner: _,
-            } => Ok(()),
-            Expr::Binary {
-                sign: _,
-                place: _,
-                left: _,
-                right: _,
-            } => Ok(()),
+            _ => Ok(()),
         }
     }
 

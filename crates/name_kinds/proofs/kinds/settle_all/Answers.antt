@@ -1,5 +1,5 @@
 -- One name more.
-use Rattle.std.proofs.Common.{[], ◌∷◌, ◌++◌, map, length, sym, ap, ap₂, ◌∙◌, arith, rules}
+use Rattle.std.proofs.Common.{[], ◌∷◌, ◌++◌, map, sym, ap, ap₂, ◌∙◌, arith, rules}
 use Rattle.std.proofs.lemmas.List.{map-append, map-id, length-append}
 use Rattle.std.proofs.lemmas.Iterator.Consumers.{YieldsList-end}
 use Rattle.std.proofs.lemmas.Iterator.Adapters.{YieldsList-from_vec}

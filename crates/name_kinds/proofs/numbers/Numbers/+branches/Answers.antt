@@ -1,5 +1,5 @@
 -- One item more.
-use Rattle.std.proofs.Common.{map, ap, ◌∙◌}
+use Rattle.std.proofs.Common.{ap, ◌∙◌}
 use Rattle.abel_tree.specs.View.{view_choice}
 use Rattle.name_kinds.proofs.Pushes.{listed_choices, choices_push}
 use Rattle.name_kinds.specs.Marking.{all_marked, choice_assigns}

@@ -1,5 +1,5 @@
 -- One item more.
-use Rattle.std.proofs.Common.{map, ap, ◌∙◌}
+use Rattle.std.proofs.Common.{ap, ◌∙◌}
 use Rattle.abel_tree.specs.Assigned.{signals_of_member}
 use Rattle.abel_tree.specs.View.{view_member}
 use Rattle.name_kinds.proofs.Pushes.{listed_members, members_push}

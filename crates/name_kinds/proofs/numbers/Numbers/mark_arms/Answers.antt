@@ -1,5 +1,5 @@
 -- One item more.
-use Rattle.std.proofs.Common.{map, ap, ◌∙◌}
+use Rattle.std.proofs.Common.{ap, ◌∙◌}
 use Rattle.abel_tree.specs.Assigned.{branch_assigns, branches_assign}
 use Rattle.abel_tree.specs.View.{view_arm}
 use Rattle.name_kinds.proofs.Pushes.{branches_push}

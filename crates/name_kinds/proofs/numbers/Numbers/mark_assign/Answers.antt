@@ -1,7 +1,7 @@
 -- A target of data is marked.
-use Rattle.std.proofs.Common.{sym, ap, ap₂, ◌∙◌}
+use Rattle.std.proofs.Common.{sym, ap₂, ◌∙◌}
 use Rattle.std.proofs.lemmas.Result.{on_ok_weaker}
-use Rattle.abel_tree.specs.Assigned.{signals_of, target_extension, is_clocked}
+use Rattle.abel_tree.specs.Assigned.{signals_of, target_extension, is_clocked, without_extension}
 use Rattle.abel_tree.specs.View.{view}
 use Rattle.name_kinds.specs.Marking.{clocked_by}
 use Rattle.name_kinds.specs.Numbered.{numbered}
@@ -10,9 +10,9 @@ use Rattle.name_kinds.proofs.numbers.Numbers.mark_assign.Goals as goal
 
 pub returns-in-Some : goal.returns-in-Some
 returns-in-Some c =
-    on_ok_weaker c.mark_expr.result
+    on_ok_weaker c.mark_left_side.result
     (λ h es num.
-    some_marked (target_extension (view c.args.assign.now.target)) (is_clocked c.args.assign.now.sign) c.in-Some.clocked c.args.marks.now.items c.mark_expr.new.marks.items (signals_of (numbered c.args.limit es) (view c.args.assign.now.target))
+    some_marked (target_extension (view c.args.assign.now.target)) (is_clocked c.args.assign.now.sign) c.in-Some.clocked c.args.marks.now.items c.mark_left_side.new.marks.items (signals_of (numbered c.args.limit es) (without_extension (view c.args.assign.now.target)))
     (sym (ap₂ clocked_by c.extension_of.ensures c.is_clocked-clocked.ensures) ∙ (sym c.clocked_by.ensures ∙ c.in-Some.is))
     (h es num))
-    c.mark_expr.ensures
+    c.mark_left_side.ensures

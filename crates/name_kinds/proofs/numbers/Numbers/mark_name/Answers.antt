@@ -1,5 +1,5 @@
 -- A name is marked where its number is below the limit.
-use Rattle.std.proofs.Common.{Some, sym, ap, ◌∙◌, arith}
+use Rattle.std.proofs.Common.{sym, ap, ◌∙◌, arith}
 use Rattle.std.specs.Prelude.{option_copied}
 use Rattle.name_kinds.proofs.Numbering.{hit_name, no_hit, none_hit}
 use Rattle.name_kinds.proofs.numbers.Numbers.mark_name.Goals as goal

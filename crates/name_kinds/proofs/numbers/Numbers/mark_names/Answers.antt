@@ -1,5 +1,5 @@
 -- One item more.
-use Rattle.std.proofs.Common.{map, ap, ◌∙◌}
+use Rattle.std.proofs.Common.{ap, ◌∙◌}
 use Rattle.abel_tree.specs.Assigned.{signals_of_name, signals_of_names}
 use Rattle.name_ranges.specs.RangeParts.{name_items}
 use Rattle.name_kinds.proofs.Pushes.{names_push}

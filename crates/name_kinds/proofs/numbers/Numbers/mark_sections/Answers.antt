@@ -1,5 +1,5 @@
 -- One item more.
-use Rattle.std.proofs.Common.{map, ap, ◌∙◌}
+use Rattle.std.proofs.Common.{ap, ◌∙◌}
 use Rattle.abel_tree.specs.Assigned.{section_assigns, sections_assign}
 use Rattle.abel_tree.specs.View.{view_section}
 use Rattle.name_kinds.proofs.Pushes.{sections_push}

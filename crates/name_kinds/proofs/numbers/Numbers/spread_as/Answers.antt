@@ -1,10 +1,9 @@
 -- A constant names what its expression names; other names name nothing.
-use Rattle.std.proofs.Common.{map, sym, ap, ap₂, ◌∙◌, arith}
+use Rattle.std.proofs.Common.{map, ap, ◌∙◌, arith}
 use Rattle.std.proofs.lemmas.Result.{on_ok_weaker}
 use Rattle.abel_tree.specs.declared.names.Declared.{Declared}
-use Rattle.abel_tree.specs.Entries.{view_declared, view_meaning}
+use Rattle.abel_tree.specs.Entries.{view_declared}
 use Rattle.name_kinds.specs.Marking.{hits}
-use Rattle.name_kinds.specs.Numbered.{numbered}
 use Rattle.name_kinds.proofs.Direct.{constant_names, pin_names, node_names, device_names, none_names}
 use Rattle.name_kinds.proofs.numbers.Numbers.spread_as.Goals as goal
 
