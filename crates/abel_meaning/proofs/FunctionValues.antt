@@ -1,12 +1,13 @@
 -- Where one way to read terms follows another, the functions and controls of signals do.
-use Rattle.std.proofs.Common.{◌≡◌, ℕ, Bool, true, false, not, ◌&&◌, ◌||◌, cond, List, [], ◌∷◌, map, Some, refl, sym, ap, ap₂, ◌∙◌}
+use Rattle.std.proofs.Common.{◌≡◌, ℕ, Bool, true, false, not, ◌&&◌, ◌||◌, cond, List, [], ◌∷◌, map, Some, refl, sym, ap, ap₂, ◌∙◌, inl, inr}
+use Rattle.std.proofs.lemmas.Bool.{cases_Bool}
 use Rattle.std.specs.Prelude.{filter, fold, option_map, if◌then◌else◌, is_some}
 use Rattle.std.specs.List.{list_any, list_all}
 use Rattle.pld_base.specs.Points.{Levels}
 use Rattle.abel_tree.specs.declared.words.Extension.{Extension}
 use Rattle.abel_meaning.specs.Designs.{Design}
 use Rattle.abel_meaning.specs.Contributions.{Evaluator, Gives, One, Any, Match, Contribution}
-use Rattle.abel_meaning.specs.Functions.{is_data_to, same_gives, some_holds, gives_some, is_free_elsewhere, any_of, is_complement, function_of, Function, function_seen}
+use Rattle.abel_meaning.specs.Functions.{is_data_to, same_gives, some_holds, gives_some, is_free_elsewhere, any_of, is_complement, single_function, is_data_in, is_both, gives_in, both_function, function_of, Function, function_seen}
 use Rattle.abel_meaning.specs.Controls.{is_control, control_by, control_of}
 use Rattle.bit_expr.specs.Formulas.{formula_value}
 use Rattle.abel_meaning.specs.FormulaBits.{formulas}
@@ -38,10 +39,16 @@ module _ {V W : Type 0} (h : V → W) (ev : Evaluator V) (fv : Evaluator W) (l :
       folded (ev.constant false) cs
       ∙ ap (λ w. fold (λ (x : W) (b : Contribution W). fv.either x b.holds) w (map (seen h) cs)) (l.constant false)
 
+  -- the sum of those that pass such a test
+  sum_seen : (p : Contribution V → Bool) (q : Contribution W → Bool) → ((c : Contribution V) → q (seen h c) ≡ p c) → (cs : List (Contribution V)) → h (some_holds ev (filter p cs)) ≡ some_holds fv (filter q (map (seen h) cs))
+  sum_seen p q alike cs = some_seen (filter p cs) ∙ ap (λ xs. some_holds fv xs) (sym (filtered p q alike cs))
+
   gives_seen : (cs : List (Contribution V)) (gives : Gives) (s : ℕ) → h (gives_some ev cs gives s) ≡ gives_some fv (map (seen h) cs) gives s
-  gives_seen cs gives s =
-      some_seen (filter (λ (c : Contribution V). is_data_to s c && same_gives gives c.gives) cs)
-      ∙ ap (λ xs. some_holds fv xs) (sym (filtered (λ (c : Contribution V). is_data_to s c && same_gives gives c.gives) (λ (c : Contribution W). is_data_to s c && same_gives gives c.gives) (λ c. refl) cs))
+  gives_seen cs gives s = sum_seen (λ (c : Contribution V). is_data_to s c && same_gives gives c.gives) (λ (c : Contribution W). is_data_to s c && same_gives gives c.gives) (λ c. refl) cs
+
+  gives_in_seen : (cs : List (Contribution V)) (complement : Bool) (gives : Gives) (s : ℕ) → h (gives_in ev cs complement gives s) ≡ gives_in fv (map (seen h) cs) complement gives s
+  gives_in_seen cs complement gives s =
+      sum_seen (λ (c : Contribution V). is_data_in complement s c && same_gives gives c.gives) (λ (c : Contribution W). is_data_in complement s c && same_gives gives c.gives) (λ c. refl) cs
 
   any_seen : (p : Contribution V → Bool) (q : Contribution W → Bool) → ((c : Contribution V) → q (seen h c) ≡ p c) → (cs : List (Contribution V)) → list_any q (map (seen h) cs) ≡ list_any p cs
   any_seen p q alike [] = refl
@@ -60,16 +67,35 @@ module _ {V W : Type 0} (h : V → W) (ev : Evaluator V) (fv : Evaluator W) (l :
   either_seen : (v w : V) (x y : W) → h v ≡ x → h w ≡ y → h (ev.either v w) ≡ fv.either x y
   either_seen v w x y p q = l.either v w ∙ ap₂ (λ a b. fv.either a b) p q
 
+  not_seen : (v : V) (w : W) → h v ≡ w → h (ev.not v) ≡ fv.not w
+  not_seen v w p = l.negates v ∙ ap (λ x. fv.not x) p
+
   chosen : (b : Bool) (v w : V) (x y : W) → h v ≡ x → h w ≡ y → h (if b then v else w) ≡ if b then x else y
   chosen true v w x y p q = p
   chosen false v w x y p q = q
 
+  -- what may be anything, also where no don't-care block matches
+  or_no_match_seen : (cs : List (Contribution V)) (s : ℕ) (v : V) (w : W) → h v ≡ w
+      → h (if is_free_elsewhere cs s then ev.either v (ev.not (gives_some ev cs Match s)) else v) ≡ if is_free_elsewhere (map (seen h) cs) s then fv.either w (fv.not (gives_some fv (map (seen h) cs) Match s)) else w
+  or_no_match_seen cs s v w p =
+      chosen (is_free_elsewhere cs s) _ _ _ _ (either_seen _ _ _ _ p (not_seen _ _ (gives_seen cs Match s))) p
+      ∙ ap (λ b. if b then fv.either w (fv.not (gives_some fv (map (seen h) cs) Match s)) else w) (sym (free_seen cs s))
+
   any_of_seen : (cs : List (Contribution V)) (s : ℕ) → h (any_of ev cs s) ≡ any_of fv (map (seen h) cs) s
-  any_of_seen cs s =
-      chosen (is_free_elsewhere cs s) _ _ _ _
-      (either_seen _ _ _ _ (gives_seen cs Any s) (l.negates (gives_some ev cs Match s) ∙ ap (λ w. fv.not w) (gives_seen cs Match s)))
-      (gives_seen cs Any s)
-      ∙ ap (λ b. if b then fv.either (gives_some fv (map (seen h) cs) Any s) (fv.not (gives_some fv (map (seen h) cs) Match s)) else gives_some fv (map (seen h) cs) Any s) (sym (free_seen cs s))
+  any_of_seen cs s = or_no_match_seen cs s _ _ (gives_seen cs Any s)
+
+  -- the same signals are assigned in both polarities
+  pub both_seen : (cs : List (Contribution V)) (s : ℕ) → is_both (map (seen h) cs) s ≡ is_both cs s
+  both_seen cs s =
+      ap₂ (λ a b. a && b) (any_seen (is_data_in false s) (is_data_in false s) (λ c. refl) cs) (any_seen (is_data_in true s) (is_data_in true s) (λ c. refl) cs)
+
+  pub both_one_seen : (cs : List (Contribution V)) (s : ℕ) → h (both_function ev cs s).one ≡ (both_function fv (map (seen h) cs) s).one
+  both_one_seen cs s =
+      either_seen _ _ _ _ (gives_in_seen cs false One s)
+      (not_seen _ _ (either_seen _ _ _ _ (gives_in_seen cs true One s) (or_no_match_seen cs s _ _ (gives_in_seen cs true Any s))))
+
+  pub both_any_seen : (cs : List (Contribution V)) (s : ℕ) → h (both_function ev cs s).any ≡ (both_function fv (map (seen h) cs) s).any
+  both_any_seen cs s = either_seen _ _ _ _ (gives_in_seen cs false Any s) (not_seen _ _ (gives_in_seen cs true One s))
 
   -- the polarity is the same
   pub complement_seen : (cs : List (Contribution V)) (s : ℕ) → is_complement (map (seen h) cs) s ≡ is_complement cs s
@@ -93,9 +119,9 @@ with_parts one any complement = record { one = one; any = any; complement = comp
 same_parts : (a b c x y z : Bool) → a ≡ x → b ≡ y → c ≡ z → with_parts a b c ≡ with_parts x y z
 same_parts a b c x y z p q r = ap₂ (λ one any. with_parts one any c) p q ∙ ap (λ complement. with_parts x y complement) r
 
--- at every point the folded formulas of a signal have the values of its function there
-pub formula_function : (d : Design) (at : Levels) (s : ℕ) → function_seen (formula_value at) (function_of (formulas d) (given_formulas d) s) ≡ function_of (truth_at d at) (given_at d at) s
-formula_function d at s =
+-- what contributions of one polarity amount to
+single_formulas : (d : Design) (at : Levels) (s : ℕ) → function_seen (formula_value at) (single_function (formulas d) (given_formulas d) s) ≡ single_function (truth_at d at) (given_at d at) s
+single_formulas d at s =
     same_parts _ _ _ _ _ _
     (gives_seen (formula_value at) (formulas d) (truth_at d at) (formulas_follow d at) (given_formulas d) One s
     ∙ ap (λ cs. gives_some (truth_at d at) cs One s) (formulas_have_values d at))
@@ -103,6 +129,28 @@ formula_function d at s =
     ∙ ap (λ cs. any_of (truth_at d at) cs s) (formulas_have_values d at))
     (sym (complement_seen (formula_value at) (formulas d) (truth_at d at) (formulas_follow d at) (given_formulas d) s)
     ∙ ap (λ cs. is_complement cs s) (formulas_have_values d at))
+
+-- what those of both amount to
+both_formulas : (d : Design) (at : Levels) (s : ℕ) → function_seen (formula_value at) (both_function (formulas d) (given_formulas d) s) ≡ both_function (truth_at d at) (given_at d at) s
+both_formulas d at s =
+    same_parts _ _ _ _ _ _
+    (both_one_seen (formula_value at) (formulas d) (truth_at d at) (formulas_follow d at) (given_formulas d) s
+    ∙ ap (λ cs. (both_function (truth_at d at) cs s).one) (formulas_have_values d at))
+    (both_any_seen (formula_value at) (formulas d) (truth_at d at) (formulas_follow d at) (given_formulas d) s
+    ∙ ap (λ cs. (both_function (truth_at d at) cs s).any) (formulas_have_values d at))
+    refl
+
+both_same : (d : Design) (at : Levels) (s : ℕ) → is_both (given_formulas d) s ≡ is_both (given_at d at) s
+both_same d at s =
+    sym (both_seen (formula_value at) (formulas d) (truth_at d at) (formulas_follow d at) (given_formulas d) s) ∙ ap (λ cs. is_both cs s) (formulas_have_values d at)
+
+-- at every point the folded formulas of a signal have the values of its function there
+pub formula_function : (d : Design) (at : Levels) (s : ℕ) → function_seen (formula_value at) (function_of (formulas d) (given_formulas d) s) ≡ function_of (truth_at d at) (given_at d at) s
+formula_function d at s =
+    elim (cases_Bool (is_both (given_formulas d) s)) [
+      | inl both ↦ rw (both, sym (both_same d at s) ∙ both) (both_formulas d at s)
+      | inr single ↦ rw (single, sym (both_same d at s) ∙ single) (single_formulas d at s)
+    ]
 
 -- and those of its controls
 pub formula_control : (d : Design) (at : Levels) (s : ℕ) (e : Extension) → option_map (formula_value at) (control_of (formulas d) (given_formulas d) s e) ≡ control_of (truth_at d at) (given_at d at) s e

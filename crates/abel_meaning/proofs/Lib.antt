@@ -2,6 +2,7 @@ pub mod Agreement
 pub mod DigitLaws
 pub mod FormulasFollow
 pub mod FunctionValues
+pub mod JoinedSets
 pub mod OperatorValues
 pub mod RelationValues
 pub mod RelationWords

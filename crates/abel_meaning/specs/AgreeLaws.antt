@@ -1,15 +1,16 @@
--- That formulas and values agree at every point: for expressions, contributions, functions and controls (this
--- project's rule; laws.rt states them).
-use Rattle.std.specs.Prelude.{◌≡◌, ℕ, map}
+-- That formulas and values agree at every point: for expressions, contributions, functions and controls; and that what a
+-- function allows are the values of its signal (this project's rule; laws.rt states them).
+use Rattle.std.specs.Prelude.{◌≡◌, ℕ, Bool, map}
 use Rattle.std.specs.Option.{option_map}
 use Rattle.pld_base.specs.Points.{Levels}
 use Rattle.bit_expr.specs.Formulas.{formula_value}
 use Rattle.abel_tree.specs.declared.words.Extension.{Extension}
 use Rattle.abel_meaning.specs.Terms.{Term}
 use Rattle.abel_meaning.specs.Designs.{Design}
+use Rattle.abel_meaning.specs.AllowedValues.{allowed_values}
 use Rattle.abel_meaning.specs.AtPoints.{truth_at, given_at}
 use Rattle.abel_meaning.specs.FormulaBits.{formulas}
-use Rattle.abel_meaning.specs.Functions.{function_of, function_seen}
+use Rattle.abel_meaning.specs.Functions.{allows, function_of, function_seen}
 use Rattle.abel_meaning.specs.Controls.{control_of}
 use Rattle.abel_meaning.specs.SignalReads.{given_formulas}
 use Rattle.abel_meaning.specs.Follows.{seen}
@@ -31,6 +32,12 @@ FunctionsAgree =
     (d : Design) (at : Levels) (signal : ℕ)
     → function_seen (formula_value at) (function_of (formulas d) (given_formulas d) signal)
     ≡ function_of (truth_at d at) (given_at d at) signal
+
+-- a signal's function allows just the values that the signal may have
+abbrev pub ValuesAgree : Type 0
+ValuesAgree =
+    (d : Design) (at : Levels) (signal : ℕ) (value : Bool)
+    → allows (function_of (truth_at d at) (given_at d at) signal) value ≡ allowed_values d at signal value
 
 -- a signal's controls by formulas are its controls
 abbrev pub ControlsAgree : Type 0

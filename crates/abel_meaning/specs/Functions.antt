@@ -1,6 +1,8 @@
--- What all contributions to a signal amount to (ABEL-HDL Reference Manual, equations and don't-care).
+-- What all contributions to a signal amount to (ABEL-HDL Reference Manual, equations and don't-care; how contributions to
+-- a name are joined with those to its complement is this project's rule).
 use Rattle.std.specs.Prelude.{ℕ, ◌==◌, Bool, true, false, not, ◌&&◌, ◌||◌, is_some, if◌then◌else◌, List, fold, filter}
 use Rattle.std.specs.List.{list_any, list_all}
+use Rattle.pld_base.specs.Bits.{same_level}
 use Rattle.pld_device.specs.Macrocells.{complement_if}
 use Rattle.abel_meaning.specs.Targets.{is_data, is_raw}
 use Rattle.abel_meaning.specs.Contributions.{Evaluator, Gives, One, Any, Match, Contribution}
@@ -43,7 +45,7 @@ any_of ev cs s =
     if is_free_elsewhere cs s then ev.either (gives_some ev cs Any s) (ev.not (gives_some ev cs Match s))
     else gives_some ev cs Any s
 
--- all data assignments to one signal have one polarity
+-- data are to the complement; all are, where the signal is assigned in one polarity
 abbrev pub is_complement : {W : Type 0} → List (Contribution W) → ℕ → Bool
 is_complement {W} cs s = list_any (λ (c : Contribution W). is_data_to s c && c.complement) cs
 
@@ -51,10 +53,47 @@ is_complement {W} cs s = list_any (λ (c : Contribution W). is_data_to s c && c.
 abbrev pub is_raw_signal : {W : Type 0} → List (Contribution W) → ℕ → Bool
 is_raw_signal {W} cs s = list_any (λ (c : Contribution W). is_data_to s c && is_raw c.extension) cs
 
+-- what they amount to where all data are of one polarity, or there are none
+abbrev pub single_function : {W : Type 0} → Evaluator W → List (Contribution W) → ℕ → Function W
+single_function ev cs s =
+    record { one = gives_some ev cs One s; any = any_of ev cs s; complement = is_complement cs s }
+
+-- ---- both polarities
+
+-- the contribution is data to the signal's complement, or to its name
+abbrev pub is_data_in : {W : Type 0} → (complement : Bool) → ℕ → Contribution W → Bool
+is_data_in complement s c = is_data_to s c && same_level c.complement complement
+
+-- the signal is assigned in both polarities
+abbrev pub is_both : {W : Type 0} → List (Contribution W) → ℕ → Bool
+is_both cs s = list_any (is_data_in false s) cs && list_any (is_data_in true s) cs
+
+-- some contribution of this kind and polarity holds
+abbrev pub gives_in : {W : Type 0} → Evaluator W → List (Contribution W) → (complement : Bool) → Gives → ℕ → W
+gives_in {W} ev cs complement gives s =
+    some_holds ev (filter (λ (c : Contribution W). is_data_in complement s c && same_gives gives c.gives) cs)
+
+-- the complement may be anything, also where none of the tables and diagrams matches that are don't-care for the signal
+abbrev pub any_against : {W : Type 0} → Evaluator W → List (Contribution W) → ℕ → W
+any_against ev cs s =
+    if is_free_elsewhere cs s then ev.either (gives_in ev cs true Any s) (ev.not (gives_some ev cs Match s))
+    else gives_in ev cs true Any s
+
+-- what they amount to, said of the name: it is 1 where a contribution to it is, and where the complement is 0; it may be
+-- anything where a contribution to it may, and where the complement isn't 1
+abbrev pub both_function : {W : Type 0} → Evaluator W → List (Contribution W) → ℕ → Function W
+both_function ev cs s =
+    record {
+      one = ev.either (gives_in ev cs false One s) (ev.not (ev.either (gives_in ev cs true One s) (any_against ev cs s)));
+      any = ev.either (gives_in ev cs false Any s) (ev.not (gives_in ev cs true One s));
+      complement = false;
+    }
+
+-- ---- what they allow
+
 -- what the contributions to a signal amount to
 abbrev pub function_of : {W : Type 0} → Evaluator W → List (Contribution W) → ℕ → Function W
-function_of ev cs s =
-    record { one = gives_some ev cs One s; any = any_of ev cs s; complement = is_complement cs s }
+function_of ev cs s = if is_both cs s then both_function ev cs s else single_function ev cs s
 
 -- the values {1}, {0, 1} or {0}
 abbrev pub allows_plain : (one any value : Bool) → Bool

@@ -1,4 +1,5 @@
 pub mod AgreeLaws
+pub mod AllowedValues
 pub mod AtPoints
 pub mod BitWords
 pub mod Contributions
