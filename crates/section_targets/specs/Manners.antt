@@ -1,5 +1,5 @@
--- How signals are assigned, and what may not differ (ABEL-HDL Reference Manual, equations; one polarity and one kind for
--- each signal is this project's rule).
+-- How signals are assigned, and what may not differ (ABEL-HDL Reference Manual, equations; one kind for each signal and one
+-- polarity for each control are this project's rule).
 use Rattle.std.specs.Prelude.{◌≡◌, ℕ, ◌==◌, Bool, true, false, ◌&&◌, ◌||◌, Option, None, Some, List, [], ◌∷◌, ◌++◌, if◌then◌else◌, map}
 use Rattle.pld_base.specs.declared.place.Place.{Place}
 use Rattle.std.specs.List.{list_any}
@@ -49,10 +49,10 @@ AreFirsts firsts all = (s part : ℕ) → first_manner firsts s part ≡ first_m
 abbrev pub differs_as_data : Manner → Manner → Bool
 differs_as_data f m = differ (on_clock f) (on_clock m) || differ (is_raw f.extension) (is_raw m.extension)
 
--- a later target differs from the first
+-- a later target differs from the first of the same part; data may be of either polarity
 abbrev pub differs_from : Option Manner → Manner → Bool
 differs_from None m = false
-differs_from (Some f) m = differ f.complement m.complement || (is_data m.extension && differs_as_data f m)
+differs_from (Some f) m = if is_data m.extension then differs_as_data f m else differ f.complement m.complement
 
 -- data are on the clock just where the signal is registered, and controls are not
 abbrev pub is_against_kind : Entry → Manner → Bool

@@ -77,15 +77,23 @@ impl Manner {
         self.signal == other.signal && part(self.extension) == part(other.extension)
     }
 
-    /// Whether a later target differs from this first one.
+    /// Whether later data are on the clock and these aren't, or to the name and these to the raw input, or the
+    /// other way about.
+    fn differs_as_data(&self, later: &Manner) -> bool
+        ensures { result ≡ said.differs_as_data self.now later.now }
+    {
+        self.is_clocked() != later.is_clocked()
+            || names_raw(self.extension) != names_raw(later.extension)
+    }
+
+    /// Whether a later target differs from this first one. Data may be of either polarity.
     pub(crate) fn differs(&self, later: &Manner) -> bool
         ensures { result ≡ said.differs_from (Some self.now) later.now }
     {
-        if self.complement != later.complement {
-            return true;
+        if names_data(later.extension) {
+            self.differs_as_data(later)
+        } else {
+            self.complement != later.complement
         }
-        names_data(later.extension)
-            && (self.is_clocked() != later.is_clocked()
-                || names_raw(self.extension) != names_raw(later.extension))
     }
 }
