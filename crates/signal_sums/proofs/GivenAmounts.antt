@@ -1,11 +1,13 @@
 -- The sums over the contributions to one signal are what the language says of all contributions.
-use Rattle.std.proofs.Common.{◌≡◌, ℕ, Bool, true, false, not, ◌&&◌, ◌||◌, cond, List, [], ◌∷◌, map, length, Option, Some, None, refl, sym, ap, ap₂, ◌∙◌, inl, inr}
+use Rattle.std.proofs.Common.{◌≡◌, ℕ, Bool, true, false, not, ◌&&◌, ◌||◌, List, [], ◌∷◌, map, length, Option, Some, None, refl, sym, ap, ap₂, subst, ◌∙◌, inl, inr}
 use Rattle.std.specs.Prelude.{filter, find, fold, is_some, if◌then◌else◌}
-use Rattle.std.specs.List.{list_any, list_all}
+use Rattle.std.specs.List.{list_any}
 use Rattle.std.specs.Option.{option_map}
 use Rattle.std.proofs.lemmas.Bool.{cases_Bool}
+use Rattle.pld_base.specs.Bits.{same_level}
 use Rattle.bit_expr.specs.declared.netlist.Control.{Control}
 use Rattle.bit_expr.specs.declared.netlist.Function.{Function}
+use Rattle.bit_expr.specs.Folding.{make_not, make_or}
 use Rattle.bit_expr.specs.Formulas.{Formula, Const}
 use Rattle.abel_tree.specs.declared.words.Extension.{Extension}
 use Rattle.abel_tree.specs.declared.words.Extension.TheVariants as extension
@@ -13,7 +15,7 @@ use Rattle.abel_meaning.specs.Contributions as meant
 use Rattle.abel_meaning.specs.Controls.{is_control, control_by, control_of}
 use Rattle.abel_meaning.specs.Designs.{Design}
 use Rattle.abel_meaning.specs.FormulaBits.{formulas}
-use Rattle.abel_meaning.specs.Functions.{is_data_to, same_gives, some_holds, gives_some, is_free_elsewhere, any_of, is_complement, is_raw_signal, function_of}
+use Rattle.abel_meaning.specs.Functions.{is_data_to, same_gives, some_holds, gives_some, gives_in, is_free_elsewhere, any_of, any_against, is_complement, is_raw_signal, single_function, both_function, function_of}
 use Rattle.abel_meaning.specs.Functions as meant_function
 use Rattle.abel_meaning.specs.Netlists.{plain_function, plain_control}
 use Rattle.abel_meaning.specs.SoundIds.{IsControlIn}
@@ -25,66 +27,9 @@ use Rattle.set_expr.specs.declared.contributions.Gives.TheVariants as gives
 use Rattle.signal_sums.specs.declared.parts.Part.TheVariants as part
 use Rattle.signal_sums.specs.declared.signal.Totals.{Totals}
 use Rattle.signal_sums.specs.Amounts.{IsControlGiven, AreGiven}
-use Rattle.signal_sums.specs.Parts.{is_to, is_for, is_free, and_one, part_sum, any_sum, complement_of}
-use Rattle.signal_sums.specs.Totals.{IsFunctionOf, IsControlFor, IsControlOf, AreTotalsOf}
-
--- ---- lists
-
-and_grouped : (a b c : Bool) → ((a && b) && c) ≡ (a && (b && c))
-and_grouped true b c = refl
-and_grouped false b c = refl
-
-module _ {X Y : Type 0} (f : X → Y) where
-  -- a test of what is seen
-  filtered : (p : Y → Bool) (q : X → Bool) → ((x : X) → p (f x) ≡ q x) → (xs : List X) → filter p (map f xs) ≡ map f (filter q xs)
-  filtered p q alike [] = refl
-  filtered p q alike (x ∷ xs) =
-      elim (cases_Bool (q x)) [
-        | inl hit ↦ rw (alike x, hit) (ap (λ ys. f x ∷ ys) (filtered p q alike xs))
-        | inr miss ↦ rw (alike x, miss) (filtered p q alike xs)
-      ]
-
-  any_seen : (p : Y → Bool) (q : X → Bool) → ((x : X) → p (f x) ≡ q x) → (xs : List X) → list_any p (map f xs) ≡ list_any q xs
-  any_seen p q alike [] = refl
-  any_seen p q alike (x ∷ xs) = ap₂ (λ a b. a || b) (alike x) (any_seen p q alike xs)
-
-  all_seen : (p : Y → Bool) (q : X → Bool) → ((x : X) → p (f x) ≡ q x) → (xs : List X) → list_all p (map f xs) ≡ list_all q xs
-  all_seen p q alike [] = refl
-  all_seen p q alike (x ∷ xs) = ap₂ (λ a b. a && b) (alike x) (all_seen p q alike xs)
-
-module _ {X : Type 0} (p q : X → Bool) where
-  -- both tests, one after another
-  in_turn : (xs : List X) → filter (λ x. p x && q x) xs ≡ filter q (filter p xs)
-  in_turn [] = refl
-  in_turn (x ∷ xs) =
-      elim (cases_Bool (p x)) [
-        | inl hit ↦ rw hit (ap (λ ys. cond (q x) (x ∷ ys) ys) (in_turn xs))
-        | inr miss ↦ rw miss (in_turn xs)
-      ]
-
-  any_in_turn : (xs : List X) → list_any (λ x. p x && q x) xs ≡ list_any q (filter p xs)
-  any_in_turn [] = refl
-  any_in_turn (x ∷ xs) =
-      elim (cases_Bool (p x)) [
-        | inl hit ↦ rw hit (ap (λ b. q x || b) (any_in_turn xs))
-        | inr miss ↦ rw miss (any_in_turn xs)
-      ]
-
-  all_in_turn : (r : X → Bool) (xs : List X) → list_all (λ x. not (p x && q x) || r x) xs ≡ list_all (λ x. not (q x) || r x) (filter p xs)
-  all_in_turn r [] = refl
-  all_in_turn r (x ∷ xs) =
-      elim (cases_Bool (p x)) [
-        | inl hit ↦ rw hit (ap (λ b. (not (q x) || r x) && b) (all_in_turn r xs))
-        | inr miss ↦ rw miss (all_in_turn r xs)
-      ]
-
-  found_in_turn : (xs : List X) → find q (filter p xs) ≡ find (λ x. p x && q x) xs
-  found_in_turn [] = refl
-  found_in_turn (x ∷ xs) =
-      elim (cases_Bool (p x)) [
-        | inl hit ↦ rw hit (ap (λ o. cond (q x) (Some x) o) (found_in_turn xs))
-        | inr miss ↦ rw miss (found_in_turn xs)
-      ]
+use Rattle.signal_sums.specs.Parts.{is_to, is_for, is_data_in, is_both, is_free, has_complement, and_one, part_sum, any_sum, both_one, both_any, complement_of}
+use Rattle.signal_sums.specs.Totals.{IsFunctionBy, IsFunctionOf, IsControlFor, IsControlOf, AreTotalsOf}
+use Rattle.signal_sums.proofs.SeenLists.{and_grouped, filtered, any_seen, all_seen, in_turn, any_in_turn, all_in_turn, found_in_turn}
 
 -- ---- sums
 
@@ -96,12 +41,25 @@ module _ (d : Design) (fs : List Formula) where
   fold_seen f [] = refl
   fold_seen f (c ∷ cs) = fold_seen (and_one fs f c) cs
 
+  -- the sum of those that pass a test, of which the signal's own are asked the rest
+  own_sum : (s : ℕ) (p : meant.Contribution Formula → Bool) (q : Contribution → Bool) → ((c : Contribution) → p (seen c) ≡ (is_to s c && q c)) → (cs : List Contribution)
+      → some_holds (formulas d) (filter p (map seen cs)) ≡ fold (and_one fs) (Const false) (filter q (filter (is_to s) cs))
+  own_sum s p q alike cs =
+      ap (λ xs. some_holds (formulas d) xs) (filtered seen p (λ c. is_to s c && q c) alike cs)
+      ∙ fold_seen (Const false) (filter (λ c. is_to s c && q c) cs)
+      ∙ ap (λ xs. fold (and_one fs) (Const false) xs) (in_turn (is_to s) q cs)
+
   sum_seen : (s : ℕ) (g : Gives) (cs : List Contribution) → gives_some (formulas d) (map seen cs) (view_gives g) s ≡ part_sum fs (part.Data g) (filter (is_to s) cs)
   sum_seen s g cs =
-      ap (λ xs. some_holds (formulas d) xs)
-      (filtered seen (λ c. is_data_to s c && same_gives (view_gives g) c.gives) (λ c. is_to s c && is_for (part.Data g) c) (λ c. and_grouped (is_to s c) (is_data c.target.extension) (same_gives (view_gives g) (view_gives c.what))) cs)
-      ∙ fold_seen (Const false) (filter (λ c. is_to s c && is_for (part.Data g) c) cs)
-      ∙ ap (λ xs. fold (and_one fs) (Const false) xs) (in_turn (is_to s) (is_for (part.Data g)) cs)
+      own_sum s (λ c. is_data_to s c && same_gives (view_gives g) c.gives) (is_for (part.Data g))
+      (λ c. and_grouped (is_to s c) (is_data c.target.extension) (same_gives (view_gives g) (view_gives c.what))) cs
+
+  sum_in : (s : ℕ) (complement : Bool) (g : Gives) (cs : List Contribution) → gives_in (formulas d) (map seen cs) complement (view_gives g) s ≡ part_sum fs (part.DataIn complement g) (filter (is_to s) cs)
+  sum_in s complement g cs =
+      own_sum s (λ c. meant_function.is_data_in complement s c && same_gives (view_gives g) c.gives) (is_for (part.DataIn complement g))
+      (λ c.
+      ap (λ b. b && same_gives (view_gives g) (view_gives c.what)) (and_grouped (is_to s c) (is_data c.target.extension) (same_level c.complement complement))
+      ∙ and_grouped (is_to s c) (is_data_in complement c) (same_gives (view_gives g) (view_gives c.what))) cs
 
   free_seen : (s : ℕ) (cs : List Contribution) → is_free_elsewhere (map seen cs) s ≡ is_free (filter (is_to s) cs)
   free_seen s cs =
@@ -111,13 +69,34 @@ module _ (d : Design) (fs : List Formula) where
       (all_seen seen (λ c. not (is_data_to s c) || (is_some c.block && c.dontcare)) (λ c. not (is_to s c && is_data c.target.extension) || (is_some c.block && c.dontcare)) (λ c. refl) cs
       ∙ all_in_turn (is_to s) (λ (c : Contribution). is_data c.target.extension) (λ (c : Contribution). is_some c.block && c.dontcare) cs)
 
-  any_is : (s : ℕ) (cs : List Contribution) → any_of (formulas d) (map seen cs) s ≡ any_sum fs (filter (is_to s) cs)
+  any_is : (s : ℕ) (cs : List Contribution) → any_of (formulas d) (map seen cs) s ≡ any_sum fs (part.Data gives.Any) (filter (is_to s) cs)
   any_is s cs = rw (free_seen s cs, sum_seen s gives.Any cs, sum_seen s gives.Match cs) refl
 
-  complement_is : (s : ℕ) (cs : List Contribution) → is_complement (map seen cs) s ≡ list_any (λ (c : Contribution). is_data c.target.extension && c.complement) (filter (is_to s) cs)
+  complement_is : (s : ℕ) (cs : List Contribution) → is_complement (map seen cs) s ≡ has_complement (filter (is_to s) cs)
   complement_is s cs =
       any_seen seen (λ c. is_data_to s c && c.complement) (λ c. is_to s c && (is_data c.target.extension && c.complement)) (λ c. and_grouped (is_to s c) (is_data c.target.extension) c.complement) cs
       ∙ any_in_turn (is_to s) (λ (c : Contribution). is_data c.target.extension && c.complement) cs
+
+  -- ---- both polarities
+
+  any_against_is : (s : ℕ) (cs : List Contribution) → any_against (formulas d) (map seen cs) s ≡ any_sum fs (part.DataIn true gives.Any) (filter (is_to s) cs)
+  any_against_is s cs = rw (free_seen s cs, sum_in s true gives.Any cs, sum_seen s gives.Match cs) refl
+
+  both_one_is : (s : ℕ) (cs : List Contribution) → (both_function (formulas d) (map seen cs) s).one ≡ both_one fs (filter (is_to s) cs)
+  both_one_is s cs =
+      ap₂ (λ f g. (make_or f (make_not g).what).what) (sum_in s false gives.One cs)
+      (ap₂ (λ f g. (make_or f g).what) (sum_in s true gives.One cs) (any_against_is s cs))
+
+  both_any_is : (s : ℕ) (cs : List Contribution) → (both_function (formulas d) (map seen cs) s).any ≡ both_any fs (filter (is_to s) cs)
+  both_any_is s cs = ap₂ (λ f g. (make_or f (make_not g).what).what) (sum_in s false gives.Any cs) (sum_in s true gives.One cs)
+
+  has_data_in : (s : ℕ) (complement : Bool) (cs : List Contribution) → list_any (meant_function.is_data_in complement s) (map seen cs) ≡ list_any (is_data_in complement) (filter (is_to s) cs)
+  has_data_in s complement cs =
+      any_seen seen (meant_function.is_data_in complement s) (λ c. is_to s c && is_data_in complement c) (λ c. and_grouped (is_to s c) (is_data c.target.extension) (same_level c.complement complement)) cs
+      ∙ any_in_turn (is_to s) (is_data_in complement) cs
+
+  both_seen : (s : ℕ) (cs : List Contribution) → meant_function.is_both (map seen cs) s ≡ is_both (filter (is_to s) cs)
+  both_seen s cs = ap₂ (λ a b. a && b) (has_data_in s false cs) (has_data_in s true cs)
 
   -- ---- controls
 
@@ -163,9 +142,18 @@ module _ (d : Design) (fs : List Formula) where
   same_parts : (a b x y : Formula) (c z : Bool) → a ≡ x → b ≡ y → c ≡ z → with_parts a b c ≡ with_parts x y z
   same_parts a b x y c z p q r = ap₂ (λ one any. with_parts one any c) p q ∙ ap (λ complement. with_parts x y complement) r
 
+  function_by : (both : Bool) (new : List Formula) (s : ℕ) (cs own : List Contribution) (f : Function) → own ≡ filter (is_to s) cs
+      → IsFunctionBy new (if both then both_one fs own else part_sum fs (part.Data gives.One) own) (if both then both_any fs own else any_sum fs (part.Data gives.Any) own) (if both then false else has_complement own) f
+      → plain_function new f ≡ (if both then both_function (formulas d) (map seen cs) s else single_function (formulas d) (map seen cs) s)
+  function_by true new s cs own f same is =
+      same_parts _ _ _ _ _ _ (is.one ∙ ap (both_one fs) same ∙ sym (both_one_is s cs)) (is.any ∙ ap (both_any fs) same ∙ sym (both_any_is s cs)) is.complement
+  function_by false new s cs own f same is =
+      same_parts _ _ _ _ _ _ (is.one ∙ ap (part_sum fs (part.Data gives.One)) same ∙ sym (sum_seen s gives.One cs)) (is.any ∙ ap (any_sum fs (part.Data gives.Any)) same ∙ sym (any_is s cs)) (is.complement ∙ ap has_complement same ∙ sym (complement_is s cs))
+
   pub function_is : (new : List Formula) (s : ℕ) (cs : List Contribution) (f : Function) → IsFunctionOf fs new (filter (is_to s) cs) f → plain_function new f ≡ function_of (formulas d) (map seen cs) s
   function_is new s cs f is =
-      same_parts _ _ _ _ _ _ (is.one ∙ sym (sum_seen s gives.One cs)) (is.any ∙ sym (any_is s cs)) (is.complement ∙ sym (complement_is s cs))
+      subst (λ b. plain_function new f ≡ (if b then both_function (formulas d) (map seen cs) s else single_function (formulas d) (map seen cs) s)) (sym (both_seen s cs))
+      (function_by (is_both (filter (is_to s) cs)) new s cs (filter (is_to s) cs) f refl is)
 
 -- ---- raw data
 

@@ -1,5 +1,5 @@
 -- Sums of bits, one more at a time, in an arena that grows.
-use Rattle.std.proofs.Common.{◌≡◌, ℕ, zero, suc, ◌<◌, Bool, true, false, List, [], ◌∷◌, ◌++◌, length, get_or, slice_get, Some, refl, sym, ap, ◌∙◌, arith, inl, inr}
+use Rattle.std.proofs.Common.{◌≡◌, ℕ, zero, suc, ◌<◌, Bool, true, false, List, [], ◌∷◌, ◌++◌, length, get_or, slice_get, Some, refl, sym, ap, ap₂, ◌∙◌, arith, inl, inr}
 use Rattle.std.specs.Prelude.{filter, fold, if◌then◌else◌}
 use Rattle.std.proofs.lemmas.Bool.{cases_Bool}
 use Rattle.std.proofs.lemmas.List.Elements.{filter-append, All-head, All-tail}
@@ -12,7 +12,7 @@ use Rattle.set_expr.specs.declared.contributions.Contribution.{Contribution}
 use Rattle.signal_sums.specs.declared.parts.Part.{Part}
 use Rattle.set_expr.specs.declared.contributions.Gives.TheVariants as gives
 use Rattle.signal_sums.specs.declared.parts.Part.TheVariants as part
-use Rattle.signal_sums.specs.Parts.{is_for, is_free, AllLieIn, Stands, and_one, part_sum, complement_of, any_sum}
+use Rattle.signal_sums.specs.Parts.{is_for, is_free, AllLieIn, Stands, and_one, part_sum, complement_of, any_sum, sum_against, both_any}
 
 -- a list with one more
 pub sum_more : (fs : List Formula) (part : Part) (cs : List Contribution) (c : Contribution) → part_sum fs part (cs ++ c ∷ []) ≡ (if is_for part c then and_one fs (part_sum fs part cs) c else part_sum fs part cs)
@@ -71,15 +71,32 @@ fold_same fs gs p (c ∷ cs) f stands inside =
 pub sum_same : (fs gs : List Formula) (part : Part) (cs : List Contribution) → Stands fs gs → AllLieIn (length fs) cs → part_sum gs part cs ≡ part_sum fs part cs
 sum_same fs gs part cs stands inside = fold_same fs gs (is_for part) cs (Const false) stands inside
 
--- and so is all that gives any
-pub any_same : (fs gs : List Formula) (cs : List Contribution) → Stands fs gs → AllLieIn (length fs) cs → any_sum gs cs ≡ any_sum fs cs
-any_same fs gs cs stands inside =
-    rw (sum_same fs gs (part.Data gives.Any) cs stands inside, sum_same fs gs (part.Data gives.Match) cs stands inside) refl
+-- either of two sums, the second of which is later
+pub either_on : (gs hs : List Formula) (a b : ExprId) (f g : Formula) → Stands gs hs → a.0 < length gs → formula_at gs a ≡ f → formula_at hs b ≡ g → (make_or (formula_at hs a) (formula_at hs b)).what ≡ (make_or f g).what
+either_on gs hs a b f g stands within first second = ap₂ (λ x y. (make_or x y).what) (same_formula gs hs a stands within ∙ first) second
 
--- what gives any, where no equation speaks
-pub any_free : (fs gs : List Formula) (cs : List Contribution) (any : Formula) → Stands fs gs → AllLieIn (length fs) cs → is_free cs ≡ true → any ≡ part_sum fs (part.Data gives.Any) cs
-    → (make_or any (complement_of true (part_sum gs (part.Data gives.Match) cs))).what ≡ any_sum fs cs
-any_free fs gs cs any stands inside free is = rw (is, sum_same fs gs (part.Data gives.Match) cs stands inside, free) refl
+-- a sum, or where nothing for a part holds
+pub none_same : (fs gs : List Formula) (part : Part) (cs : List Contribution) (f g : Formula) → Stands fs gs → AllLieIn (length fs) cs → f ≡ g → (make_or f (complement_of true (part_sum gs part cs))).what ≡ (make_or g (complement_of true (part_sum fs part cs))).what
+none_same fs gs part cs f g stands inside is = ap₂ (λ x y. (make_or x (complement_of true y)).what) is (sum_same fs gs part cs stands inside)
+
+-- what may be anything is the same, too
+pub any_same : (fs gs : List Formula) (free : Part) (cs : List Contribution) → Stands fs gs → AllLieIn (length fs) cs → any_sum gs free cs ≡ any_sum fs free cs
+any_same fs gs free cs stands inside =
+    rw (sum_same fs gs free cs stands inside, sum_same fs gs (part.Data gives.Match) cs stands inside) refl
+
+-- what may be anything, where no equation speaks
+pub any_free : (fs gs : List Formula) (free : Part) (cs : List Contribution) (any : Formula) → Stands fs gs → AllLieIn (length fs) cs → is_free cs ≡ true → any ≡ part_sum fs free cs
+    → (make_or any (complement_of true (part_sum gs (part.Data gives.Match) cs))).what ≡ any_sum fs free cs
+any_free fs gs free cs any stands inside alone is = rw (is, sum_same fs gs (part.Data gives.Match) cs stands inside, alone) refl
+
+-- the sums of both polarities are the same
+pub against_same : (fs gs : List Formula) (cs : List Contribution) → Stands fs gs → AllLieIn (length fs) cs → sum_against gs cs ≡ sum_against fs cs
+against_same fs gs cs stands inside =
+    ap₂ (λ f g. (make_or f g).what) (sum_same fs gs (part.DataIn true gives.One) cs stands inside) (any_same fs gs (part.DataIn true gives.Any) cs stands inside)
+
+pub both_any_same : (fs gs : List Formula) (cs : List Contribution) → Stands fs gs → AllLieIn (length fs) cs → both_any gs cs ≡ both_any fs cs
+both_any_same fs gs cs stands inside =
+    none_same fs gs (part.DataIn true gives.One) cs _ _ stands inside (sum_same fs gs (part.DataIn false gives.Any) cs stands inside)
 
 -- ids stay in an arena that grows
 pub lie_on : (fs gs : List Formula) (cs : List Contribution) → Stands fs gs → AllLieIn (length fs) cs → AllLieIn (length gs) cs

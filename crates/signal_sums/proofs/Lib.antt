@@ -1,3 +1,4 @@
 pub mod GivenAmounts
 pub mod GrowingSums
 pub mod LaterTotals
+pub mod SeenLists

@@ -1,6 +1,7 @@
 -- The contributions to a signal, sorted by what they are for (ABEL-HDL Reference Manual, equations).
 use Rattle.std.specs.Prelude.{◌≡◌, ℕ, ◌<◌, ◌≤◌, Bool, true, false, not, if◌then◌else◌, ◌&&◌, ◌||◌, ◌==◌, Some, is_some, List, fold, filter, length, All, slice_get}
 use Rattle.std.specs.List.{list_any, list_all}
+use Rattle.pld_base.specs.Bits.{same_level}
 use Rattle.bit_expr.specs.Arena.{formula_at}
 use Rattle.bit_expr.specs.Folding.{make_not, make_or}
 use Rattle.bit_expr.specs.Formulas.{Formula, Const}
@@ -13,9 +14,14 @@ use Rattle.set_expr.specs.declared.contributions.Gives.TheVariants as gives
 use Rattle.signal_sums.specs.declared.parts.Part.{Part}
 use Rattle.signal_sums.specs.declared.parts.Part.TheVariants as part
 
+-- the contribution is data to the complement of its signal, or to the name
+abbrev pub is_data_in : (complement : Bool) → Contribution → Bool
+is_data_in complement c = is_data c.target.extension && same_level c.complement complement
+
 -- the contribution is for this part of its signal
 abbrev pub is_for : Part → Contribution → Bool
 is_for (part.Data gives) c = is_data c.target.extension && same_gives (view_gives gives) (view_gives c.what)
+is_for (part.DataIn complement gives) c = is_data_in complement c && same_gives (view_gives gives) (view_gives c.what)
 is_for (part.Control control) c = is_the_control control c.target.extension
 
 -- the ids of all of them lie in an arena of that many formulas
@@ -52,9 +58,43 @@ abbrev pub complement_of : Bool → Formula → Formula
 complement_of true f = (make_not f).what
 complement_of false f = f
 
--- where the signal may be anything: by what gives any, and where nothing else says so, where no table or diagram matches
-abbrev pub any_sum : List Formula → List Contribution → Formula
-any_sum fs cs =
+-- where anything may be: where what is for the part is, and where nothing else says so, where no table or diagram matches
+abbrev pub any_sum : List Formula → Part → List Contribution → Formula
+any_sum fs free cs =
     if is_free cs
-    then (make_or (part_sum fs (part.Data gives.Any) cs) (complement_of true (part_sum fs (part.Data gives.Match) cs))).what
-    else part_sum fs (part.Data gives.Any) cs
+    then (make_or (part_sum fs free cs) (complement_of true (part_sum fs (part.Data gives.Match) cs))).what
+    else part_sum fs free cs
+
+-- ---- both polarities
+
+-- some are data to the name, and some to the complement
+abbrev pub is_both : List Contribution → Bool
+is_both cs = list_any (is_data_in false) cs && list_any (is_data_in true) cs
+
+-- where the complement is one, or may be anything
+abbrev pub sum_against : List Formula → List Contribution → Formula
+sum_against fs cs = (make_or (part_sum fs (part.DataIn true gives.One) cs) (any_sum fs (part.DataIn true gives.Any) cs)).what
+
+-- where the name is one: where a contribution to it is, and where the complement is 0
+abbrev pub both_one : List Formula → List Contribution → Formula
+both_one fs cs = (make_or (part_sum fs (part.DataIn false gives.One) cs) (complement_of true (sum_against fs cs))).what
+
+-- where the name may be anything: where a contribution to it may, and where the complement isn't one
+abbrev pub both_any : List Formula → List Contribution → Formula
+both_any fs cs =
+    (make_or (part_sum fs (part.DataIn false gives.Any) cs) (complement_of true (part_sum fs (part.DataIn true gives.One) cs))).what
+
+-- ---- either
+
+abbrev pub has_complement : List Contribution → Bool
+has_complement cs = list_any (λ (c : Contribution). is_data c.target.extension && c.complement) cs
+
+-- where the signal is one, where it may be anything, and whether this is of its complement
+abbrev pub one_given : List Formula → List Contribution → Formula
+one_given fs cs = if is_both cs then both_one fs cs else part_sum fs (part.Data gives.One) cs
+
+abbrev pub any_given : List Formula → List Contribution → Formula
+any_given fs cs = if is_both cs then both_any fs cs else any_sum fs (part.Data gives.Any) cs
+
+abbrev pub complement_given : List Contribution → Bool
+complement_given cs = if is_both cs then false else has_complement cs

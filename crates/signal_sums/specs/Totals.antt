@@ -1,5 +1,5 @@
 -- Private: what the contributions to one signal amount to, as bits of an arena that has grown (this project's rule).
-use Rattle.std.specs.Prelude.{◌≡◌, ◌<◌, ◌&&◌, Option, None, Some, List, length, find}
+use Rattle.std.specs.Prelude.{◌≡◌, ◌<◌, Bool, false, Option, None, Some, List, length, find}
 use Rattle.std.specs.List.{list_any}
 use Rattle.std.specs.Option.{option_map}
 use Rattle.bit_expr.specs.declared.netlist.Control.{Control}
@@ -14,15 +14,27 @@ use Rattle.set_expr.specs.declared.contributions.Gives.TheVariants as gives
 use Rattle.signal_sums.specs.declared.parts.Part.TheVariants as part
 use Rattle.signal_sums.specs.declared.signal.Controls.{Controls}
 use Rattle.signal_sums.specs.declared.signal.Totals.{Totals}
-use Rattle.signal_sums.specs.Parts.{is_for, part_sum, any_sum, complement_of}
+use Rattle.signal_sums.specs.Parts.{is_for, part_sum, any_sum, both_one, both_any, has_complement, one_given, any_given, complement_given, complement_of}
 
--- a function: the contributions' ids are of the first arena, its own of the second
-pub record IsFunctionOf (old new : List Formula) (own : List Contribution) (f : Function) : Type 0 where
-  pub one : formula_at new f.one ≡ part_sum old (part.Data gives.One) own
-  pub any : formula_at new f.any ≡ any_sum old own
-  pub complement : f.complement ≡ list_any (λ (c : Contribution). is_data c.target.extension && c.complement) own
+-- a function with these formulas in an arena
+pub record IsFunctionBy (new : List Formula) (where_one where_any : Formula) (of_complement : Bool) (f : Function) : Type 0 where
+  pub one : formula_at new f.one ≡ where_one
+  pub any : formula_at new f.any ≡ where_any
+  pub complement : f.complement ≡ of_complement
   pub one_inside : f.one.0 < length new
   pub any_inside : f.any.0 < length new
+
+-- that by contributions of one polarity, and that of both: their ids are of the first arena, its own of the second
+abbrev pub IsSingleFunction : (old new : List Formula) → List Contribution → Function → Type 0
+IsSingleFunction old new own f =
+    IsFunctionBy new (part_sum old (part.Data gives.One) own) (any_sum old (part.Data gives.Any) own) (has_complement own) f
+
+abbrev pub IsBothFunction : (old new : List Formula) → List Contribution → Function → Type 0
+IsBothFunction old new own f = IsFunctionBy new (both_one old own) (both_any old own) false f
+
+-- whichever it is
+abbrev pub IsFunctionOf : (old new : List Formula) → List Contribution → Function → Type 0
+IsFunctionOf old new own f = IsFunctionBy new (one_given old own) (any_given old own) (complement_given own) f
 
 -- a control: the sum of all equations for it, or its complement, as the first says
 pub record IsControlBy (old new : List Formula) (own : List Contribution) (e : Extension) (first : Contribution) (control : Control) : Type 0 where

@@ -4,9 +4,9 @@ ghost use Rattle.std.specs.Prelude.{◌≡◌, ◌&&◌, ◌||◌, not, is_some,
 ghost use Rattle.std.specs.List.{list_any, list_all};
 ghost use Rattle.abel_meaning.specs.Targets.{is_data, is_raw};
 ghost use Rattle.set_expr.specs.declared.contributions.Contribution.{Contribution};
-ghost use Rattle.signal_sums.specs.Parts.{is_to, is_for, is_free_one, is_free};
+ghost use Rattle.signal_sums.specs.Parts.{is_to, is_for, is_data_in, is_both, is_free_one, is_free, has_complement};
 
-use crate::parts::{Part, is_data, is_for, is_raw};
+use crate::parts::{Part, is_data, is_data_in, is_for, is_raw};
 use pld_base::{OutOfMemory, Place};
 use set_expr::Contribution;
 use std::alloc::Global;
@@ -62,12 +62,25 @@ pub(crate) fn is_free(list: &[Contribution]) -> bool
     has_data(list) && all_free(list)
 }
 
-/// Whether some data are for the complement.
+/// Whether some data are to the complement.
 pub(crate) fn is_complement(list: &[Contribution]) -> bool
-    ensures { result
-        ≡ list_any (λ (c : Contribution). is_data c.target.extension && c.complement) list.now }
+    ensures { result ≡ has_complement list.now }
 {
     list.iter().any(|given| is_data(given.target.extension) && given.complement)
+}
+
+/// Whether some data are to the complement, or to the name.
+fn has_data_in(complement: bool, list: &[Contribution]) -> bool
+    ensures { result ≡ list_any (is_data_in complement) list.now }
+{
+    list.iter().any(|given| is_data_in(complement, given))
+}
+
+/// Whether some data are to the name, and some to the complement.
+pub(crate) fn is_both(list: &[Contribution]) -> bool
+    ensures { result ≡ is_both list.now }
+{
+    has_data_in(false, list) && has_data_in(true, list)
 }
 
 /// Whether some data are for the raw input of the signal's register.

@@ -1,6 +1,7 @@
 //! What all contributions to a signal amount to, as bits.
 #![tactic(auto)]
 
+mod both;
 mod given;
 mod parts;
 mod signal;

@@ -5,15 +5,17 @@ ghost use Rattle.abel_meaning.specs.Targets.{is_data, is_raw};
 ghost use Rattle.abel_meaning.specs.Controls.{is_the_control};
 ghost use Rattle.abel_meaning.specs.Functions.{same_gives};
 ghost use Rattle.set_expr.specs.Given.{view_gives};
-ghost use Rattle.signal_sums.specs.Parts.{is_for};
+ghost use Rattle.signal_sums.specs.Parts.{is_data_in, is_for};
 
 use abel_tree::Extension;
 use set_expr::{Contribution, Gives};
 
-/// The data of a signal that give one of the three, or a control by its extension.
+/// The data of a signal that give one of the three, those of them to its complement (true) or its name (false),
+/// or a control by its extension.
 #[derive(Clone, Copy, PartialEq, Eq)]
 pub enum Part {
     Data(Gives),
+    DataIn(bool, Gives),
     Control(Extension),
 }
 
@@ -29,6 +31,13 @@ pub(crate) fn is_raw(extension: Option<Extension>) -> bool
     ensures { result ≡ is_raw extension }
 {
     matches!(extension, Some(Extension::D))
+}
+
+/// Whether it is data to the complement of its signal, or to the name.
+pub(crate) fn is_data_in(complement: bool, given: &Contribution) -> bool
+    ensures { result ≡ is_data_in complement given.now }
+{
+    is_data(given.target.extension) && given.complement == complement
 }
 
 /// Whether both give the same.
@@ -61,6 +70,9 @@ pub(crate) fn is_for(part: Part, given: &Contribution) -> bool
 {
     match part {
         Part::Data(gives) => is_data(given.target.extension) && same_gives(gives, given.what),
+        Part::DataIn(complement, gives) => {
+            is_data_in(complement, given) && same_gives(gives, given.what)
+        }
         Part::Control(control) => is_control(control, given.target.extension),
     }
 }

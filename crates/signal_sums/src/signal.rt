@@ -5,9 +5,10 @@ ghost use Rattle.bit_expr.specs.Arena.{arena};
 ghost use Rattle.abel_tree.specs.declared.words.Extension.TheVariants as extension;
 ghost use Rattle.signal_sums.specs.Amounts.{AreGiven};
 ghost use Rattle.signal_sums.specs.Parts.{AllLieIn, Stands};
-ghost use Rattle.signal_sums.specs.Totals.{IsFunctionOf, IsControlOf, AreControlsOf, AreTotalsOf};
+ghost use Rattle.signal_sums.specs.Totals.{IsSingleFunction, IsBothFunction, IsFunctionOf, IsControlOf, AreControlsOf, AreTotalsOf};
 
-use crate::given::{first_for, first_place, given_to, has_raw, is_complement};
+use crate::both::{both_any, both_one};
+use crate::given::{first_for, first_place, given_to, has_raw, is_both, is_complement};
 use crate::parts::{Part, is_data};
 use crate::sums::{any_bit, part_bit, part_sum};
 use abel_tree::Extension;
@@ -34,19 +35,49 @@ pub struct Totals {
     pub place: Option<Place>,
 }
 
+/// The function by contributions of one polarity, or by none.
+fn single_function(exprs: &mut Exprs, own: &[Contribution]) -> Result<Function, OutOfMemory>
+    requires { AllLieIn (length (arena exprs.old)) own.now }
+    ensures function { IfOk result (λ f.
+        IsSingleFunction (arena exprs.old) (arena exprs.new) own.now f) }
+    ensures stands { OnOk result (Stands (arena exprs.old) (arena exprs.new)) }
+{
+    let one = part_sum(exprs, own, Part::Data(Gives::One))?;
+    let any = any_bit(exprs, own, Part::Data(Gives::Any))?;
+    Ok(Function {
+        one,
+        any,
+        complement: is_complement(own),
+    })
+}
+
+/// The function by contributions of both polarities, which is said of the name.
+fn both_function(exprs: &mut Exprs, own: &[Contribution]) -> Result<Function, OutOfMemory>
+    requires { AllLieIn (length (arena exprs.old)) own.now }
+    ensures function { IfOk result (λ f.
+        IsBothFunction (arena exprs.old) (arena exprs.new) own.now f) }
+    ensures stands { OnOk result (Stands (arena exprs.old) (arena exprs.new)) }
+{
+    let one = both_one(exprs, own)?;
+    let any = both_any(exprs, own)?;
+    Ok(Function {
+        one,
+        any,
+        complement: false,
+    })
+}
+
 /// The function by the contributions to one signal.
 fn function_of(exprs: &mut Exprs, own: &[Contribution]) -> Result<Function, OutOfMemory>
     requires { AllLieIn (length (arena exprs.old)) own.now }
     ensures function { IfOk result (λ f. IsFunctionOf (arena exprs.old) (arena exprs.new) own.now f) }
     ensures stands { OnOk result (Stands (arena exprs.old) (arena exprs.new)) }
 {
-    let one = part_sum(exprs, own, Part::Data(Gives::One))?;
-    let any = any_bit(exprs, own)?;
-    Ok(Function {
-        one,
-        any,
-        complement: is_complement(own),
-    })
+    if is_both(own) {
+        both_function(exprs, own)
+    } else {
+        single_function(exprs, own)
+    }
 }
 
 /// A control by the contributions to one signal.

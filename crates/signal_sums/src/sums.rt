@@ -3,8 +3,6 @@
 ghost use Rattle.std.specs.Prelude.{◌≡◌, ◌<◌, true, length, IfOk, OnOk, if◌then◌else◌};
 ghost use Rattle.bit_expr.specs.Arena.{arena, formula_at};
 ghost use Rattle.bit_expr.specs.Folding.{make_or};
-ghost use Rattle.set_expr.specs.declared.contributions.Gives.TheVariants as gives;
-ghost use Rattle.signal_sums.specs.declared.parts.Part.TheVariants as part;
 ghost use Rattle.signal_sums.specs.Parts.{is_for, AllLieIn, Stands, and_one, part_sum, complement_of, any_sum};
 
 use crate::given::is_free;
@@ -56,7 +54,11 @@ pub(crate) fn part_sum(
 }
 
 /// The complement of a bit, if `complement` says so.
-fn complemented(exprs: &mut Exprs, bit: ExprId, complement: bool) -> Result<ExprId, OutOfMemory>
+pub(crate) fn complemented(
+    exprs: &mut Exprs,
+    bit: ExprId,
+    complement: bool,
+) -> Result<ExprId, OutOfMemory>
     requires { bit.0 < length (arena exprs.old) }
     ensures bit { IfOk result (λ id. formula_at (arena exprs.new) id
         ≡ complement_of complement (formula_at (arena exprs.old) bit)) }
@@ -88,7 +90,7 @@ pub(crate) fn part_bit(
 }
 
 /// Either of two bits.
-fn either(exprs: &mut Exprs, a: ExprId, b: ExprId) -> Result<ExprId, OutOfMemory>
+pub(crate) fn either(exprs: &mut Exprs, a: ExprId, b: ExprId) -> Result<ExprId, OutOfMemory>
     requires a { a.0 < length (arena exprs.old) }
     requires b { b.0 < length (arena exprs.old) }
     ensures bit { IfOk result (λ id. formula_at (arena exprs.new) id
@@ -99,31 +101,41 @@ fn either(exprs: &mut Exprs, a: ExprId, b: ExprId) -> Result<ExprId, OutOfMemory
     exprs.add_more(Node::Or(a, b))
 }
 
-/// The bit, or where no contribution matches.
-fn or_no_match(exprs: &mut Exprs, list: &[Contribution], any: ExprId) -> Result<ExprId, OutOfMemory>
+/// The bit, or where no contribution for the part holds.
+pub(crate) fn or_none(
+    exprs: &mut Exprs,
+    list: &[Contribution],
+    bit: ExprId,
+    part: Part,
+) -> Result<ExprId, OutOfMemory>
     requires list { AllLieIn (length (arena exprs.old)) list.now }
-    requires any { any.0 < length (arena exprs.old) }
+    requires bit { bit.0 < length (arena exprs.old) }
     ensures bit { IfOk result (λ id. formula_at (arena exprs.new) id
-        ≡ (make_or (formula_at (arena exprs.old) any)
-        (complement_of true (part_sum (arena exprs.old) (part.Data gives.Match) list.now))).what) }
+        ≡ (make_or (formula_at (arena exprs.old) bit)
+        (complement_of true (part_sum (arena exprs.old) part list.now))).what) }
     ensures inside { IfOk result (λ id. id.0 < length (arena exprs.new)) }
     ensures stands { OnOk result (Stands (arena exprs.old) (arena exprs.new)) }
 {
-    let none = part_bit(exprs, list, Part::Data(Gives::Match), true)?;
-    either(exprs, any, none)
+    let none = part_bit(exprs, list, part, true)?;
+    either(exprs, bit, none)
 }
 
-/// Where the signal may be anything.
-pub(crate) fn any_bit(exprs: &mut Exprs, list: &[Contribution]) -> Result<ExprId, OutOfMemory>
+/// Where anything may be: where what is for the part holds, and where don't-care tables and diagrams alone assign
+/// the signal and none matches.
+pub(crate) fn any_bit(
+    exprs: &mut Exprs,
+    list: &[Contribution],
+    part: Part,
+) -> Result<ExprId, OutOfMemory>
     requires { AllLieIn (length (arena exprs.old)) list.now }
     ensures bit { IfOk result (λ id.
-        formula_at (arena exprs.new) id ≡ any_sum (arena exprs.old) list.now) }
+        formula_at (arena exprs.new) id ≡ any_sum (arena exprs.old) part list.now) }
     ensures inside { IfOk result (λ id. id.0 < length (arena exprs.new)) }
     ensures stands { OnOk result (Stands (arena exprs.old) (arena exprs.new)) }
 {
-    let any = part_sum(exprs, list, Part::Data(Gives::Any))?;
+    let any = part_sum(exprs, list, part)?;
     if is_free(list) {
-        or_no_match(exprs, list, any)
+        or_none(exprs, list, any, Part::Data(Gives::Match))
     } else {
         Ok(any)
     }

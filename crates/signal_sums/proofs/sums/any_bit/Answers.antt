@@ -6,6 +6,6 @@ use Rattle.signal_sums.proofs.sums.any_bit.Goals as goal
 
 pub returns-then-is_free-clause-bit : goal.returns-then-is_free-clause-bit
 returns-then-is_free-clause-bit c =
-    subst (λ f. IfOk c.or_no_match.result (λ id. formula_at (arena c.or_no_match.new.exprs) id ≡ f))
-    (any_free (arena c.args.exprs.now) (arena c.part_sum.new.exprs) c.args.list.now (formula_at (arena c.part_sum.new.exprs) c.in_ok-any.any) c.in_ok-any.ensures.stands c.requires (sym c.is_free.ensures ∙ c.if-is_free.true) c.in_ok-any.ensures.sum)
-    c.or_no_match.ensures.bit
+    subst (λ f. IfOk c.or_none.result (λ id. formula_at (arena c.or_none.new.exprs) id ≡ f))
+    (any_free (arena c.args.exprs.now) (arena c.part_sum.new.exprs) c.args.part c.args.list.now (formula_at (arena c.part_sum.new.exprs) c.in_ok-any.any) c.in_ok-any.ensures.stands c.requires (sym c.is_free.ensures ∙ c.if-is_free.true) c.in_ok-any.ensures.sum)
+    c.or_none.ensures.bit
