@@ -2,6 +2,7 @@
 use Rattle.std.proofs.Common.{◌≡◌, ℕ, suc, Bool, true, false, ◌==◌, ◌&&◌, List, [], ◌∷◌, map, slice_get, Option, Some, None, refl, sym, subst, inl, inr}
 use Rattle.std.specs.Prelude.{filter, fold, if◌then◌else◌}
 use Rattle.std.proofs.lemmas.Bool.{cases_Bool, and_parts}
+use Rattle.pld_base.specs.Bits.{same_level}
 use Rattle.bit_expr.specs.declared.node.Leaf.{Leaf}
 use Rattle.bit_expr.specs.Folding.{make_not, make_or}
 use Rattle.bit_expr.specs.Formulas.{Formula, Const}
@@ -12,7 +13,7 @@ use Rattle.abel_meaning.specs.Controls.{is_the_control, is_control, control_by, 
 use Rattle.abel_meaning.specs.Designs.{Design}
 use Rattle.abel_meaning.specs.Follows.{seen}
 use Rattle.abel_meaning.specs.FormulaBits.{formulas}
-use Rattle.abel_meaning.specs.Functions.{is_data_to, same_gives, some_holds, gives_some, is_free_elsewhere, function_of}
+use Rattle.abel_meaning.specs.Functions.{is_data_to, same_gives, some_holds, gives_some, is_free_elsewhere, is_data_in, is_both, gives_in, any_against, both_function, single_function, function_of}
 use Rattle.abel_meaning.specs.SignalReads.{given_formulas}
 use Rattle.abel_meaning.specs.Targets.{is_data}
 use Rattle.gathered.specs.SignalUses.{SignalUse, given_uses, uses_read}
@@ -71,17 +72,51 @@ module _ (d : Design) (P : Leaf → Type 0) where
       (λ c hit. data_kept c.signal c.extension (and_parts (c.signal == s) (is_data c.extension) (and_parts (is_data_to s c) (same_gives gives c.gives) hit).0).1)
       cs all (Const false) (of_constant P false)
 
+  -- those of one polarity
+  of_gives_in : (cs : List (Contribution Formula)) → EachKept cs → (complement : Bool) (gives : Gives) (s : ℕ) → NamesOnly P (gives_in (formulas d) cs complement gives s)
+  of_gives_in cs all complement gives s =
+      of_some (λ c. is_data_in complement s c && same_gives gives c.gives)
+      (λ c hit. let to_it = and_parts (is_data_to s c) (same_level c.complement complement) (and_parts (is_data_in complement s c) (same_gives gives c.gives) hit).0 in
+      data_kept c.signal c.extension (and_parts (c.signal == s) (is_data c.extension) to_it.0).1)
+      cs all (Const false) (of_constant P false)
+
+  -- what may be anything, also where no don't-care block matches
+  of_or_no_match : (cs : List (Contribution Formula)) → EachKept cs → (s : ℕ) (any : Formula) → NamesOnly P any
+      → NamesOnly P (if is_free_elsewhere cs s then (formulas d).either any ((formulas d).not (gives_some (formulas d) cs Match s)) else any)
+  of_or_no_match cs all s any here = by (is_free_elsewhere cs s)
+    where
+      by : (b : Bool) → NamesOnly P (if b then (formulas d).either any ((formulas d).not (gives_some (formulas d) cs Match s)) else any)
+      by true =
+          of_or P any (make_not (gives_some (formulas d) cs Match s)).what here
+          (of_not P (gives_some (formulas d) cs Match s) (of_gives cs all Match s))
+      by false = here
+
+  of_both_one : (cs : List (Contribution Formula)) → EachKept cs → (s : ℕ) → NamesOnly P (both_function (formulas d) cs s).one
+  of_both_one cs all s =
+      let against = (make_or (gives_in (formulas d) cs true One s) (any_against (formulas d) cs s)).what in
+      of_or P (gives_in (formulas d) cs false One s) (make_not against).what (of_gives_in cs all false One s)
+      (of_not P against
+      (of_or P (gives_in (formulas d) cs true One s) (any_against (formulas d) cs s) (of_gives_in cs all true One s)
+      (of_or_no_match cs all s (gives_in (formulas d) cs true Any s) (of_gives_in cs all true Any s))))
+
+  of_both_any : (cs : List (Contribution Formula)) → EachKept cs → (s : ℕ) → NamesOnly P (both_function (formulas d) cs s).any
+  of_both_any cs all s =
+      of_or P (gives_in (formulas d) cs false Any s) (make_not (gives_in (formulas d) cs true One s)).what (of_gives_in cs all false Any s)
+      (of_not P (gives_in (formulas d) cs true One s) (of_gives_in cs all true One s))
+
   pub of_one : (cs : List (Contribution Formula)) → EachKept cs → (s : ℕ) → NamesOnly P (function_of (formulas d) cs s).one
-  of_one cs all s = of_gives cs all One s
+  of_one cs all s = by (is_both cs s)
+    where
+      by : (b : Bool) → NamesOnly P (if b then both_function (formulas d) cs s else single_function (formulas d) cs s).one
+      by true = of_both_one cs all s
+      by false = of_gives cs all One s
 
   pub of_any : (cs : List (Contribution Formula)) → EachKept cs → (s : ℕ) → NamesOnly P (function_of (formulas d) cs s).any
-  of_any cs all s = by (is_free_elsewhere cs s)
+  of_any cs all s = by (is_both cs s)
     where
-      by : (b : Bool) → NamesOnly P (if b then (formulas d).either (gives_some (formulas d) cs Any s) ((formulas d).not (gives_some (formulas d) cs Match s)) else gives_some (formulas d) cs Any s)
-      by true =
-          of_or P (gives_some (formulas d) cs Any s) (make_not (gives_some (formulas d) cs Match s)).what (of_gives cs all Any s)
-          (of_not P (gives_some (formulas d) cs Match s) (of_gives cs all Match s))
-      by false = of_gives cs all Any s
+      by : (b : Bool) → NamesOnly P (if b then both_function (formulas d) cs s else single_function (formulas d) cs s).any
+      by true = of_both_any cs all s
+      by false = of_or_no_match cs all s (gives_some (formulas d) cs Any s) (of_gives cs all Any s)
 
   -- ---- controls
 
