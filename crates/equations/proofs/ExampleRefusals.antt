@@ -131,9 +131,8 @@ name_and_raw : refused (clocked 1 (name 1 "q") 3 (name 6 "a") ∷ clocked 9 (dot
     ≡ MixedAssignment (at 9) 5 ∷ []
 name_and_raw = refl
 
--- Y = a; !Y = b;    at the later target, which begins with the !
-two_polarities : refused (assign 1 (name 1 "Y") 3 (name 5 "a") ∷ not_assign 8 (name 9 "Y") 11 (name 13 "b") ∷ [])
-    ≡ MixedAssignment (at 8) 2 ∷ []
+-- Y = a; !Y = b;    data of both polarities
+two_polarities : refused (assign 1 (name 1 "Y") 3 (name 5 "a") ∷ not_assign 8 (name 9 "Y") 11 (name 13 "b") ∷ []) ≡ []
 two_polarities = refl
 
 -- Y.OE = a; !Y.OE = b; Y = a;    a control is compared with the same control
@@ -163,12 +162,12 @@ wide_condition = refl
 number_condition : refused (when_then 1 (number 6 2) (assign 13 (name 13 "Y") 15 (name 17 "a")) ∷ []) ≡ []
 number_condition = refl
 
--- WHEN a THEN WHEN b THEN WHEN a THEN Y = a; ELSE !Y = b; ELSE a = b;    three deep: the inner refusals in order
+-- WHEN a THEN WHEN b THEN WHEN a THEN Y = a; ELSE Y := b; ELSE a = b;    three deep: the inner refusals in order
 three_deep :
     refused
     (when_else 1 (name 6 "a")
     (when_then 13 (name 18 "b")
-    (when_else 25 (name 30 "a") (assign 37 (name 37 "Y") 39 (name 41 "a")) (not_assign 49 (name 50 "Y") 52 (name 54 "b"))))
+    (when_else 25 (name 30 "a") (assign 37 (name 37 "Y") 39 (name 41 "a")) (clocked 49 (name 49 "Y") 51 (name 54 "b"))))
     (assign 62 (name 62 "a") 64 (name 66 "b")) ∷ [])
     ≡ MixedAssignment (at 49) 2 ∷ NotAnOutput (at 62) (Some 0) ∷ []
 three_deep = refl

@@ -101,10 +101,14 @@ number_out = refl
 pulse_out : refused inputs (set 11 (name 12 "Y" ∷ pulse ∷ [])) [] ≡ MisplacedSpecial (at 9) ∷ []
 pulse_out = refl
 
--- `!Y = ..` stood before
-two_ways : refused_behind (record { signal = 2; extension = None; complement = true; clocked = false } ∷ []) inputs (name 11 "Y") []
+-- `Y := ..` stood before
+two_ways : refused_behind (record { signal = 2; extension = None; complement = false; clocked = true } ∷ []) inputs (name 11 "Y") []
     ≡ MixedAssignment (at 11) 2 ∷ []
 two_ways = refl
+
+-- `!Y = ..` did
+two_polarities : refused_behind (record { signal = 2; extension = None; complement = true; clocked = false } ∷ []) inputs (name 11 "Y") [] ≡ []
+two_polarities = refl
 
 -- [0,k] -> 1; 0 -> .C.; no row of a table has .C.
 pulse_rows : refused inputs (name 11 "Y") (row 3 (set 1 (number 0 ∷ name 1 "k" ∷ [])) (number 1) ∷ row 4 (number 0) pulse ∷ [])
