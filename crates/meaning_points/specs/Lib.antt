@@ -3,6 +3,7 @@ pub mod AddressDecoderLowBits
 pub mod Answers
 pub mod Attributes
 pub mod BidirectionalPin
+pub mod BothPolarities
 pub mod BusVectors
 pub mod ByHand
 pub mod CasesAndWith
