@@ -85,6 +85,37 @@ const FIXED: [Contribution; 2] = [
     },
 ];
 
+// Y = 1; !Y = 1;
+const BOTH: [Contribution; 2] = [
+    Contribution { when: ONE, ..GIVEN },
+    Contribution {
+        complement: true,
+        when: ONE,
+        ..GIVEN
+    },
+];
+
+// Y = 0; !Y ?= 1;
+const LOOSE: [Contribution; 2] = [
+    GIVEN,
+    Contribution {
+        complement: true,
+        what: Gives::Any,
+        when: ONE,
+        ..GIVEN
+    },
+];
+
+// Behind the table, a diagram that is don't-care for Y has !Y in it, and never matches.
+const BOTH_FREE: [Contribution; 2] = [
+    UNMATCHED,
+    Contribution {
+        complement: true,
+        block: Some(1),
+        ..UNMATCHED
+    },
+];
+
 fn put_control(kind: &str, control: Option<Control>, found: &mut Found) {
     if let Some(control) = control {
         put_word(kind, found);
@@ -126,6 +157,9 @@ fn totals_of(alloc: Global, text: &str) -> Option<Totals> {
     let totals = match text {
         "equations" => sum_up(alloc, &mut exprs, &EQUATIONS, 5),
         "a table that never matches" => sum_up(alloc, &mut exprs, &FREE, 5),
+        "both polarities" => sum_up(alloc, &mut exprs, &BOTH, 5),
+        "a complement that may be 1" => sum_up(alloc, &mut exprs, &LOOSE, 5),
+        "the table, then a diagram" => sum_up(alloc, &mut exprs, &BOTH_FREE, 5),
         _ => sum_up(alloc, &mut exprs, &FIXED, 5),
     };
     totals.ok()

@@ -92,24 +92,40 @@ fn put_given(alloc: Global, names: &Names, found: &mut Found) -> Option<()> {
     Some(())
 }
 
-/// What is refused of the second name, and then of its complement.
-fn put_refused(alloc: Global, names: &Names, found: &mut Found) -> Option<()> {
+/// What is refused of the second name as data, or of its complement, on the clock or not.
+fn put_data(
+    names: &Names,
+    complement: bool,
+    clocked: bool,
+    before: &mut Assigned,
+    found: &mut Found,
+) -> Option<()> {
     if !are_three(names) {
         return None;
     }
+    let aims = [SECOND];
+    put_blank(found);
+    match check_aims::<Sample>(names, None, complement, clocked, &aims, before) {
+        Ok(fault) => put_fault(fault, found),
+        Err(_) => return None,
+    }
+    found.text(";");
+    Some(())
+}
+
+/// What is refused of the second name, and then of it or its complement, on the clock or not.
+fn put_refused(
+    alloc: Global,
+    names: &Names,
+    complement: bool,
+    clocked: bool,
+    found: &mut Found,
+) -> Option<()> {
     let Ok(mut before) = Assigned::by(alloc, &[]) else {
         return None;
     };
-    for complement in [false, true] {
-        let aims = [SECOND];
-        put_blank(found);
-        match check_aims::<Sample>(names, None, complement, false, &aims, &mut before) {
-            Ok(fault) => put_fault(fault, found),
-            Err(_) => return None,
-        }
-        found.text(";")
-    }
-    Some(())
+    put_data(names, false, false, &mut before, found)?;
+    put_data(names, complement, clocked, &mut before, found)
 }
 
 /// Puts what comes of a case.
@@ -121,7 +137,8 @@ pub(crate) fn ask(alloc: Global, names: &Found, text: &str, found: &mut Found) -
     } = source_of::<Sample>(alloc, names, "", "", "")?;
     match text {
         "an and with the guard" => put_given(alloc, &names, found),
-        "the name and its complement" => put_refused(alloc, &names, found),
+        "the name and its complement" => put_refused(alloc, &names, true, false, found),
+        "the name, then on the clock" => put_refused(alloc, &names, false, true, found),
         _ => None,
     }
 }
