@@ -1,5 +1,6 @@
 pub mod ControlFuses
 pub mod DrawnFuses
+pub mod FixedFuses
 pub mod Given
 pub mod LawTests
 pub mod Laws
