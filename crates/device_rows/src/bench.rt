@@ -1,7 +1,7 @@
 //! A small device of no maker with a register and two gates, on which vectors are run.
 
 use pld_base::DeviceName;
-use pld_device::{Carry, Cell, Device, Enable, Flip, FuseBit, Kinds};
+use pld_device::{Carry, Cell, Chip, Enable, Flip, FuseBit, Kinds, Part};
 
 /// The small device, as a type without values of its own: cell 0, a register, on pin 5, and cells 1 and
 /// 2 on pins 6 and 7, each with an enable row and a data row, and columns for pins 2 and 3 and for cell
@@ -9,85 +9,31 @@ use pld_device::{Carry, Cell, Device, Enable, Flip, FuseBit, Kinds};
 #[derive(Clone, Copy, PartialEq, Eq)]
 pub struct Bench;
 
-impl Device for Bench {
-    ghost use Rattle.std.specs.Prelude.{None, refl};
-    ghost use Rattle.pld_base.specs.declared.device_name.DeviceName.TheVariants.{GAL22V10};
-    ghost use Rattle.pld_device.specs.declared.flip.Flip.TheVariants.{AfterRegister};
+impl Part for Bench {
+    ghost use Rattle.std.specs.Prelude.{refl};
+    ghost use Rattle.pld_device.specs.Table.{chip_of};
     ghost use Rattle.device_rows.specs.BenchTable.{bench, bench_sound};
 
-    const NAME: DeviceName = DeviceName::GAL22V10;
+    const CHIP: Chip = Chip {
+        name: DeviceName::GAL22V10,
+        pins: 10,
+        ground: 9,
+        fuses: 39,
+        short: 39,
+        columns: 6,
+        rows: 6,
+        cells: 3,
+        clock: 1,
+        reset: None,
+        preset: None,
+        flip: Flip::AfterRegister,
+    };
 
-    const PINS: u8 = 10;
-
-    const GROUND: u8 = 9;
-
-    const FUSES: u16 = 39;
-
-    const SHORT: u16 = 39;
-
-    const COLUMNS: u16 = 6;
-
-    const ROWS: u16 = 6;
-
-    const CELLS: u8 = 3;
-
-    const CLOCK: u8 = 1;
-
-    const RESET: Option<u16> = None;
-
-    const PRESET: Option<u16> = None;
-
-    const FLIP: Flip = Flip::AfterRegister;
-
-    ghost NAME = { GAL22V10 };
-
-    ghost PINS = { 10 };
-
-    ghost GROUND = { 9 };
-
-    ghost FUSES = { 39 };
-
-    ghost SHORT = { 39 };
-
-    ghost COLUMNS = { 6 };
-
-    ghost ROWS = { 6 };
-
-    ghost CELLS = { 3 };
-
-    ghost CLOCK = { 1 };
-
-    ghost RESET = { None };
-
-    ghost PRESET = { None };
-
-    ghost FLIP = { AfterRegister };
+    ghost CHIP = { chip_of bench };
 
     ghost table = { bench };
 
-    ghost name_is = { refl };
-
-    ghost pins_is = { refl };
-
-    ghost ground_is = { refl };
-
-    ghost fuses_is = { refl };
-
-    ghost short_is = { refl };
-
-    ghost columns_is = { refl };
-
-    ghost rows_is = { refl };
-
-    ghost cells_is = { refl };
-
-    ghost clock_is = { refl };
-
-    ghost reset_is = { refl };
-
-    ghost preset_is = { refl };
-
-    ghost flip_is = { refl };
+    ghost chip_is = { refl };
 
     ghost sound = { bench_sound };
 

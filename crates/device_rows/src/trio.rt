@@ -1,92 +1,38 @@
 //! A small combinational device of no maker, on which loading is tried.
 
 use pld_base::DeviceName;
-use pld_device::{Carry, Cell, Device, Enable, Flip, FuseBit, Kinds};
+use pld_device::{Carry, Cell, Chip, Enable, Flip, FuseBit, Kinds, Part};
 
 /// The small device, as a type without values of its own: cells 0, 1 and 2 on pins 9, 8 and 7, each
 /// with an enable row and two data rows, and columns for pins 1 and 2 and for each cell.
 #[derive(Clone, Copy, PartialEq, Eq)]
 pub struct Trio;
 
-impl Device for Trio {
-    ghost use Rattle.std.specs.Prelude.{None, refl};
-    ghost use Rattle.pld_base.specs.declared.device_name.DeviceName.TheVariants.{P16L8};
-    ghost use Rattle.pld_device.specs.declared.flip.Flip.TheVariants.{Always};
+impl Part for Trio {
+    ghost use Rattle.std.specs.Prelude.{refl};
+    ghost use Rattle.pld_device.specs.Table.{chip_of};
     ghost use Rattle.device_logic.specs.TrioTable.{trio, trio_sound};
 
-    const NAME: DeviceName = DeviceName::P16L8;
+    const CHIP: Chip = Chip {
+        name: DeviceName::P16L8,
+        pins: 10,
+        ground: 5,
+        fuses: 90,
+        short: 90,
+        columns: 10,
+        rows: 9,
+        cells: 3,
+        clock: 0,
+        reset: None,
+        preset: None,
+        flip: Flip::Always,
+    };
 
-    const PINS: u8 = 10;
-
-    const GROUND: u8 = 5;
-
-    const FUSES: u16 = 90;
-
-    const SHORT: u16 = 90;
-
-    const COLUMNS: u16 = 10;
-
-    const ROWS: u16 = 9;
-
-    const CELLS: u8 = 3;
-
-    const CLOCK: u8 = 0;
-
-    const RESET: Option<u16> = None;
-
-    const PRESET: Option<u16> = None;
-
-    const FLIP: Flip = Flip::Always;
-
-    ghost NAME = { P16L8 };
-
-    ghost PINS = { 10 };
-
-    ghost GROUND = { 5 };
-
-    ghost FUSES = { 90 };
-
-    ghost SHORT = { 90 };
-
-    ghost COLUMNS = { 10 };
-
-    ghost ROWS = { 9 };
-
-    ghost CELLS = { 3 };
-
-    ghost CLOCK = { 0 };
-
-    ghost RESET = { None };
-
-    ghost PRESET = { None };
-
-    ghost FLIP = { Always };
+    ghost CHIP = { chip_of trio };
 
     ghost table = { trio };
 
-    ghost name_is = { refl };
-
-    ghost pins_is = { refl };
-
-    ghost ground_is = { refl };
-
-    ghost fuses_is = { refl };
-
-    ghost short_is = { refl };
-
-    ghost columns_is = { refl };
-
-    ghost rows_is = { refl };
-
-    ghost cells_is = { refl };
-
-    ghost clock_is = { refl };
-
-    ghost reset_is = { refl };
-
-    ghost preset_is = { refl };
-
-    ghost flip_is = { refl };
+    ghost chip_is = { refl };
 
     ghost sound = { trio_sound };
 

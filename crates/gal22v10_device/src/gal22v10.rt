@@ -4,7 +4,7 @@ ghost use Rattle.std.specs.Prelude.{◌≡◌, ◌<◌};
 ghost use Rattle.gal22v10_device.specs.Gal22V10Table.{either_cell};
 
 use pld_base::DeviceName;
-use pld_device::{Carry, Cell, Device, Enable, Flip, FuseBit, Kinds};
+use pld_device::{Carry, Cell, Chip, Enable, Flip, FuseBit, Kinds, Part};
 
 /// The GAL22V10, as a type without values of its own.
 #[derive(Clone, Copy, PartialEq, Eq)]
@@ -24,86 +24,32 @@ fn either(pin: u8, enable: u16, room: u8) -> Cell
     }
 }
 
-impl Device for Gal22V10 {
-    ghost use Rattle.std.specs.Prelude.{Some, refl};
-    ghost use Rattle.pld_base.specs.declared.device_name.DeviceName.TheVariants.{GAL22V10};
-    ghost use Rattle.pld_device.specs.declared.flip.Flip.TheVariants.{AfterRegister};
+impl Part for Gal22V10 {
+    ghost use Rattle.std.specs.Prelude.{refl};
+    ghost use Rattle.pld_device.specs.Table.{chip_of};
     ghost use Rattle.gal22v10_device.specs.Gal22V10Laws.{gal22v10_sound};
     ghost use Rattle.gal22v10_device.specs.Gal22V10Table.{gal22v10};
 
-    const NAME: DeviceName = DeviceName::GAL22V10;
+    const CHIP: Chip = Chip {
+        name: DeviceName::GAL22V10,
+        pins: 24,
+        ground: 12,
+        fuses: 5892,
+        short: 5828,
+        columns: 44,
+        rows: 132,
+        cells: 10,
+        clock: 1,
+        reset: Some(0),
+        preset: Some(131),
+        flip: Flip::AfterRegister,
+    };
 
-    const PINS: u8 = 24;
-
-    const GROUND: u8 = 12;
-
-    const FUSES: u16 = 5892;
-
-    const SHORT: u16 = 5828;
-
-    const COLUMNS: u16 = 44;
-
-    const ROWS: u16 = 132;
-
-    const CELLS: u8 = 10;
-
-    const CLOCK: u8 = 1;
-
-    const RESET: Option<u16> = Some(0);
-
-    const PRESET: Option<u16> = Some(131);
-
-    const FLIP: Flip = Flip::AfterRegister;
-
-    ghost NAME = { GAL22V10 };
-
-    ghost PINS = { 24 };
-
-    ghost GROUND = { 12 };
-
-    ghost FUSES = { 5892 };
-
-    ghost SHORT = { 5828 };
-
-    ghost COLUMNS = { 44 };
-
-    ghost ROWS = { 132 };
-
-    ghost CELLS = { 10 };
-
-    ghost CLOCK = { 1 };
-
-    ghost RESET = { Some 0 };
-
-    ghost PRESET = { Some 131 };
-
-    ghost FLIP = { AfterRegister };
+    ghost CHIP = { chip_of gal22v10 };
 
     ghost table = { gal22v10 };
 
-    ghost name_is = { refl };
-
-    ghost pins_is = { refl };
-
-    ghost ground_is = { refl };
-
-    ghost fuses_is = { refl };
-
-    ghost short_is = { refl };
-
-    ghost columns_is = { refl };
-
-    ghost rows_is = { refl };
-
-    ghost cells_is = { refl };
-
-    ghost clock_is = { refl };
-
-    ghost reset_is = { refl };
-
-    ghost preset_is = { refl };
-
-    ghost flip_is = { refl };
+    ghost chip_is = { refl };
 
     ghost sound = { gal22v10_sound };
 

@@ -1,92 +1,38 @@
 //! A small device of no maker with what no device of a maker has.
 
 use pld_base::DeviceName;
-use pld_device::{Carry, Cell, Device, Enable, Flip, FuseBit, Kinds};
+use pld_device::{Carry, Cell, Chip, Enable, Flip, FuseBit, Kinds, Part};
 
 /// The small device, as a type without values of its own. It complements before its registers, has switches for its first
 /// rows alone, and fixed fuses of both levels.
 #[derive(Clone, Copy, PartialEq, Eq)]
 pub(crate) struct Mixed;
 
-impl Device for Mixed {
-    ghost use Rattle.std.specs.Prelude.{Some, refl};
-    ghost use Rattle.pld_base.specs.declared.device_name.DeviceName.TheVariants.{GAL22V10};
-    ghost use Rattle.pld_device.specs.declared.flip.Flip.TheVariants.{BeforeRegister};
+impl Part for Mixed {
+    ghost use Rattle.std.specs.Prelude.{refl};
+    ghost use Rattle.pld_device.specs.Table.{chip_of};
     ghost use Rattle.netlist_rows.specs.MixedTable.{mixed, mixed_sound};
 
-    const NAME: DeviceName = DeviceName::GAL22V10;
+    const CHIP: Chip = Chip {
+        name: DeviceName::GAL22V10,
+        pins: 12,
+        ground: 6,
+        fuses: 168,
+        short: 163,
+        columns: 14,
+        rows: 11,
+        cells: 3,
+        clock: 1,
+        reset: Some(0),
+        preset: Some(10),
+        flip: Flip::BeforeRegister,
+    };
 
-    const PINS: u8 = 12;
-
-    const GROUND: u8 = 6;
-
-    const FUSES: u16 = 168;
-
-    const SHORT: u16 = 163;
-
-    const COLUMNS: u16 = 14;
-
-    const ROWS: u16 = 11;
-
-    const CELLS: u8 = 3;
-
-    const CLOCK: u8 = 1;
-
-    const RESET: Option<u16> = Some(0);
-
-    const PRESET: Option<u16> = Some(10);
-
-    const FLIP: Flip = Flip::BeforeRegister;
-
-    ghost NAME = { GAL22V10 };
-
-    ghost PINS = { 12 };
-
-    ghost GROUND = { 6 };
-
-    ghost FUSES = { 168 };
-
-    ghost SHORT = { 163 };
-
-    ghost COLUMNS = { 14 };
-
-    ghost ROWS = { 11 };
-
-    ghost CELLS = { 3 };
-
-    ghost CLOCK = { 1 };
-
-    ghost RESET = { Some 0 };
-
-    ghost PRESET = { Some 10 };
-
-    ghost FLIP = { BeforeRegister };
+    ghost CHIP = { chip_of mixed };
 
     ghost table = { mixed };
 
-    ghost name_is = { refl };
-
-    ghost pins_is = { refl };
-
-    ghost ground_is = { refl };
-
-    ghost fuses_is = { refl };
-
-    ghost short_is = { refl };
-
-    ghost columns_is = { refl };
-
-    ghost rows_is = { refl };
-
-    ghost cells_is = { refl };
-
-    ghost clock_is = { refl };
-
-    ghost reset_is = { refl };
-
-    ghost preset_is = { refl };
-
-    ghost flip_is = { refl };
+    ghost chip_is = { refl };
 
     ghost sound = { mixed_sound };
 

@@ -6,7 +6,7 @@ ghost use Rattle.pal16_device.specs.Pal16L8Table.{pal16l8};
 
 use crate::cells::combinational;
 use pld_base::DeviceName;
-use pld_device::{Carry, Cell, Device, Flip, FuseBit};
+use pld_device::{Carry, Cell, Chip, Flip, FuseBit, Part};
 
 /// The PAL16L8, as a type without values of its own.
 #[derive(Clone, Copy, PartialEq, Eq)]
@@ -40,86 +40,32 @@ impl Pal16L8 {
     }
 }
 
-impl Device for Pal16L8 {
-    ghost use Rattle.std.specs.Prelude.{None, refl};
-    ghost use Rattle.pld_base.specs.declared.device_name.DeviceName.TheVariants.{P16L8};
-    ghost use Rattle.pld_device.specs.declared.flip.Flip.TheVariants.{Always};
+impl Part for Pal16L8 {
+    ghost use Rattle.std.specs.Prelude.{refl};
+    ghost use Rattle.pld_device.specs.Table.{chip_of};
     ghost use Rattle.pal16_device.specs.Pal16L8Laws.{pal16l8_sound};
     ghost use Rattle.pal16_device.specs.Pal16L8Table.{pal16l8};
 
-    const NAME: DeviceName = DeviceName::P16L8;
+    const CHIP: Chip = Chip {
+        name: DeviceName::P16L8,
+        pins: 20,
+        ground: 10,
+        fuses: 2048,
+        short: 2048,
+        columns: 32,
+        rows: 64,
+        cells: 8,
+        clock: 0,
+        reset: None,
+        preset: None,
+        flip: Flip::Always,
+    };
 
-    const PINS: u8 = 20;
-
-    const GROUND: u8 = 10;
-
-    const FUSES: u16 = 2048;
-
-    const SHORT: u16 = 2048;
-
-    const COLUMNS: u16 = 32;
-
-    const ROWS: u16 = 64;
-
-    const CELLS: u8 = 8;
-
-    const CLOCK: u8 = 0;
-
-    const RESET: Option<u16> = None;
-
-    const PRESET: Option<u16> = None;
-
-    const FLIP: Flip = Flip::Always;
-
-    ghost NAME = { P16L8 };
-
-    ghost PINS = { 20 };
-
-    ghost GROUND = { 10 };
-
-    ghost FUSES = { 2048 };
-
-    ghost SHORT = { 2048 };
-
-    ghost COLUMNS = { 32 };
-
-    ghost ROWS = { 64 };
-
-    ghost CELLS = { 8 };
-
-    ghost CLOCK = { 0 };
-
-    ghost RESET = { None };
-
-    ghost PRESET = { None };
-
-    ghost FLIP = { Always };
+    ghost CHIP = { chip_of pal16l8 };
 
     ghost table = { pal16l8 };
 
-    ghost name_is = { refl };
-
-    ghost pins_is = { refl };
-
-    ghost ground_is = { refl };
-
-    ghost fuses_is = { refl };
-
-    ghost short_is = { refl };
-
-    ghost columns_is = { refl };
-
-    ghost rows_is = { refl };
-
-    ghost cells_is = { refl };
-
-    ghost clock_is = { refl };
-
-    ghost reset_is = { refl };
-
-    ghost preset_is = { refl };
-
-    ghost flip_is = { refl };
+    ghost chip_is = { refl };
 
     ghost sound = { pal16l8_sound };
 

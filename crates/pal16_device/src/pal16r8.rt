@@ -2,92 +2,38 @@
 
 use crate::cells::{registered, registered_pair};
 use pld_base::DeviceName;
-use pld_device::{Carry, Cell, Device, Flip, FuseBit};
+use pld_device::{Carry, Cell, Chip, Flip, FuseBit, Part};
 
 /// The PAL16R8, as a type without values of its own.
 #[derive(Clone, Copy, PartialEq, Eq)]
 pub struct Pal16R8;
 
-impl Device for Pal16R8 {
-    ghost use Rattle.std.specs.Prelude.{None, refl};
-    ghost use Rattle.pld_base.specs.declared.device_name.DeviceName.TheVariants.{P16R8};
-    ghost use Rattle.pld_device.specs.declared.flip.Flip.TheVariants.{Always};
+impl Part for Pal16R8 {
+    ghost use Rattle.std.specs.Prelude.{refl};
+    ghost use Rattle.pld_device.specs.Table.{chip_of};
     ghost use Rattle.pal16_device.specs.Pal16RLaws.{pal16r8_sound};
     ghost use Rattle.pal16_device.specs.Pal16RTables.{pal16r8};
 
-    const NAME: DeviceName = DeviceName::P16R8;
+    const CHIP: Chip = Chip {
+        name: DeviceName::P16R8,
+        pins: 20,
+        ground: 10,
+        fuses: 2048,
+        short: 2048,
+        columns: 32,
+        rows: 64,
+        cells: 8,
+        clock: 1,
+        reset: None,
+        preset: None,
+        flip: Flip::Always,
+    };
 
-    const PINS: u8 = 20;
-
-    const GROUND: u8 = 10;
-
-    const FUSES: u16 = 2048;
-
-    const SHORT: u16 = 2048;
-
-    const COLUMNS: u16 = 32;
-
-    const ROWS: u16 = 64;
-
-    const CELLS: u8 = 8;
-
-    const CLOCK: u8 = 1;
-
-    const RESET: Option<u16> = None;
-
-    const PRESET: Option<u16> = None;
-
-    const FLIP: Flip = Flip::Always;
-
-    ghost NAME = { P16R8 };
-
-    ghost PINS = { 20 };
-
-    ghost GROUND = { 10 };
-
-    ghost FUSES = { 2048 };
-
-    ghost SHORT = { 2048 };
-
-    ghost COLUMNS = { 32 };
-
-    ghost ROWS = { 64 };
-
-    ghost CELLS = { 8 };
-
-    ghost CLOCK = { 1 };
-
-    ghost RESET = { None };
-
-    ghost PRESET = { None };
-
-    ghost FLIP = { Always };
+    ghost CHIP = { chip_of pal16r8 };
 
     ghost table = { pal16r8 };
 
-    ghost name_is = { refl };
-
-    ghost pins_is = { refl };
-
-    ghost ground_is = { refl };
-
-    ghost fuses_is = { refl };
-
-    ghost short_is = { refl };
-
-    ghost columns_is = { refl };
-
-    ghost rows_is = { refl };
-
-    ghost cells_is = { refl };
-
-    ghost clock_is = { refl };
-
-    ghost reset_is = { refl };
-
-    ghost preset_is = { refl };
-
-    ghost flip_is = { refl };
+    ghost chip_is = { refl };
 
     ghost sound = { pal16r8_sound };
 

@@ -1,9 +1,10 @@
 -- A device's table: everything that tells one device from another (this project's rule, over the
 -- logic diagrams and control fuses of the devices' datasheets).
-use Rattle.std.specs.Prelude.{ℕ, ◌+◌, ◌<◌, ◌≤◌, Option, List, None, get_or}
+use Rattle.std.specs.Prelude.{ℕ, ◌+◌, ◌<◌, ◌≤◌, Option, List, None, get_or, length}
 use Rattle.pld_base.specs.declared.device_name.DeviceName.{DeviceName}
 use Rattle.pld_device.specs.declared.carry.Carry.{Carry}
 use Rattle.pld_device.specs.declared.cell.Cell.{Cell}
+use Rattle.pld_device.specs.declared.chip.Chip.{Chip}
 use Rattle.pld_device.specs.declared.enable.Enable.TheVariants.{Row}
 use Rattle.pld_device.specs.declared.flip.Flip.{Flip}
 use Rattle.pld_device.specs.declared.fuse_bit.FuseBit.{FuseBit}
@@ -39,6 +40,23 @@ pub record Table : Type 0 where
   pub row_switches : List ℕ
   -- the fuses whose level is the same in every design
   pub fixed : List FuseBit
+
+-- its numbers, as a device's type tells them
+abbrev pub chip_of : Table → Chip
+chip_of t = record {
+  name = t.name;
+  pins = t.pins;
+  ground = t.ground_pin;
+  fuses = t.fuses;
+  short = t.short;
+  columns = t.columns;
+  rows = t.rows;
+  cells = length t.cells;
+  clock = t.clock;
+  reset = t.reset;
+  preset = t.preset;
+  flip = t.flip;
+}
 
 -- what stands for a cell past the last one
 abbrev pub no_cell : Cell

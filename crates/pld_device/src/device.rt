@@ -6,7 +6,7 @@ use crate::flip::Flip;
 use crate::fuse_bit::FuseBit;
 use pld_base::DeviceName;
 
-/// A device, as a type. Code for all devices knows of one only what stands here.
+/// A device, as a type. Code for all devices knows of one only what stands here; what its crate writes of it is `Part`.
 pub trait Device {
     ghost use Rattle.std.specs.Prelude.{◌≡◌, ◌<◌, ℕ, Option, Some, slice_get, length};
     ghost use Rattle.pld_base.specs.declared.device_name.DeviceName.{DeviceName};

@@ -3,6 +3,7 @@
 
 mod carry;
 mod cell;
+mod chip;
 mod device;
 mod enable;
 mod fixed;
@@ -11,10 +12,12 @@ mod fuse_bit;
 mod fuses;
 mod kinds;
 mod laws;
+mod part;
 mod sample;
 
 pub use carry::Carry;
 pub use cell::Cell;
+pub use chip::Chip;
 pub use device::Device;
 pub use enable::Enable;
 pub use fixed::wrong_fuse;
@@ -23,4 +26,5 @@ pub use fuse_bit::FuseBit;
 pub use fuses::Fuses;
 pub use kinds::Kinds;
 pub use laws::{rows, tables};
+pub use part::Part;
 pub use sample::Sample;

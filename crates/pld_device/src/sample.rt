@@ -2,11 +2,12 @@
 
 use crate::carry::Carry;
 use crate::cell::Cell;
-use crate::device::Device;
+use crate::chip::Chip;
 use crate::enable::Enable;
 use crate::flip::Flip;
 use crate::fuse_bit::FuseBit;
 use crate::kinds::Kinds;
+use crate::part::Part;
 use pld_base::DeviceName;
 
 /// A small device of no maker, for tests of code for all devices: it has a reset, a preset and control
@@ -14,85 +15,31 @@ use pld_base::DeviceName;
 #[derive(Clone, Copy, PartialEq, Eq)]
 pub struct Sample;
 
-impl Device for Sample {
-    ghost use Rattle.std.specs.Prelude.{Some, refl};
-    ghost use Rattle.pld_base.specs.declared.device_name.DeviceName.TheVariants.{GAL22V10};
-    ghost use Rattle.pld_device.specs.declared.flip.Flip.TheVariants.{AfterRegister};
+impl Part for Sample {
+    ghost use Rattle.std.specs.Prelude.{refl};
+    ghost use Rattle.pld_device.specs.Table.{chip_of};
     ghost use Rattle.pld_device.specs.SampleTable.{sample, sample_sound};
 
-    const NAME: DeviceName = DeviceName::GAL22V10;
+    const CHIP: Chip = Chip {
+        name: DeviceName::GAL22V10,
+        pins: 10,
+        ground: 5,
+        fuses: 60,
+        short: 57,
+        columns: 8,
+        rows: 6,
+        cells: 2,
+        clock: 1,
+        reset: Some(0),
+        preset: Some(5),
+        flip: Flip::AfterRegister,
+    };
 
-    const PINS: u8 = 10;
-
-    const GROUND: u8 = 5;
-
-    const FUSES: u16 = 60;
-
-    const SHORT: u16 = 57;
-
-    const COLUMNS: u16 = 8;
-
-    const ROWS: u16 = 6;
-
-    const CELLS: u8 = 2;
-
-    const CLOCK: u8 = 1;
-
-    const RESET: Option<u16> = Some(0);
-
-    const PRESET: Option<u16> = Some(5);
-
-    const FLIP: Flip = Flip::AfterRegister;
-
-    ghost NAME = { GAL22V10 };
-
-    ghost PINS = { 10 };
-
-    ghost GROUND = { 5 };
-
-    ghost FUSES = { 60 };
-
-    ghost SHORT = { 57 };
-
-    ghost COLUMNS = { 8 };
-
-    ghost ROWS = { 6 };
-
-    ghost CELLS = { 2 };
-
-    ghost CLOCK = { 1 };
-
-    ghost RESET = { Some 0 };
-
-    ghost PRESET = { Some 5 };
-
-    ghost FLIP = { AfterRegister };
+    ghost CHIP = { chip_of sample };
 
     ghost table = { sample };
 
-    ghost name_is = { refl };
-
-    ghost pins_is = { refl };
-
-    ghost ground_is = { refl };
-
-    ghost fuses_is = { refl };
-
-    ghost short_is = { refl };
-
-    ghost columns_is = { refl };
-
-    ghost rows_is = { refl };
-
-    ghost cells_is = { refl };
-
-    ghost clock_is = { refl };
-
-    ghost reset_is = { refl };
-
-    ghost preset_is = { refl };
-
-    ghost flip_is = { refl };
+    ghost chip_is = { refl };
 
     ghost sound = { sample_sound };
 
