@@ -1,0 +1,3 @@
+pub mod Gal16V8Laws
+pub mod Gal16V8Tables
+pub mod MixedCells
