@@ -17,7 +17,7 @@ impl Part for Bench {
     const CHIP: Chip = Chip {
         name: DeviceName::GAL22V10,
         pins: 10,
-        ground: 9,
+        ground_pin: 9,
         fuses: 39,
         short: 39,
         columns: 6,

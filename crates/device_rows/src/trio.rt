@@ -16,7 +16,7 @@ impl Part for Trio {
     const CHIP: Chip = Chip {
         name: DeviceName::P16L8,
         pins: 10,
-        ground: 5,
+        ground_pin: 5,
         fuses: 90,
         short: 90,
         columns: 10,

@@ -18,7 +18,7 @@ impl Part for Gal16V8R6 {
     const CHIP: Chip = Chip {
         name: DeviceName::GAL16V8R6,
         pins: 20,
-        ground: 10,
+        ground_pin: 10,
         fuses: 2194,
         short: 2194,
         columns: 32,

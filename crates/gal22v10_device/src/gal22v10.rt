@@ -33,7 +33,7 @@ impl Part for Gal22V10 {
     const CHIP: Chip = Chip {
         name: DeviceName::GAL22V10,
         pins: 24,
-        ground: 12,
+        ground_pin: 12,
         fuses: 5892,
         short: 5828,
         columns: 44,

@@ -16,7 +16,7 @@ impl Part for Mixed {
     const CHIP: Chip = Chip {
         name: DeviceName::GAL22V10,
         pins: 12,
-        ground: 6,
+        ground_pin: 6,
         fuses: 168,
         short: 163,
         columns: 14,

@@ -49,7 +49,7 @@ impl Part for Pal16L8 {
     const CHIP: Chip = Chip {
         name: DeviceName::P16L8,
         pins: 20,
-        ground: 10,
+        ground_pin: 10,
         fuses: 2048,
         short: 2048,
         columns: 32,

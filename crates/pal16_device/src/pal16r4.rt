@@ -17,7 +17,7 @@ impl Part for Pal16R4 {
     const CHIP: Chip = Chip {
         name: DeviceName::P16R4,
         pins: 20,
-        ground: 10,
+        ground_pin: 10,
         fuses: 2048,
         short: 2048,
         columns: 32,

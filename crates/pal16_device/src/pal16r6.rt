@@ -17,7 +17,7 @@ impl Part for Pal16R6 {
     const CHIP: Chip = Chip {
         name: DeviceName::P16R6,
         pins: 20,
-        ground: 10,
+        ground_pin: 10,
         fuses: 2048,
         short: 2048,
         columns: 32,

@@ -46,7 +46,7 @@ abbrev pub chip_of : Table → Chip
 chip_of t = record {
   name = t.name;
   pins = t.pins;
-  ground = t.ground_pin;
+  ground_pin = t.ground_pin;
   fuses = t.fuses;
   short = t.short;
   columns = t.columns;

@@ -11,7 +11,7 @@ pub struct Chip {
     /// The number of pins; the last one is the supply.
     pub pins: u8,
     /// The ground pin.
-    pub ground: u8,
+    pub ground_pin: u8,
     /// The number of fuses.
     pub fuses: u16,
     /// The smaller number of fuses that a fuse file may name, else `fuses`.

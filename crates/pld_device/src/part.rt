@@ -64,7 +64,7 @@ impl<P: Part> Device for P {
 
     const PINS: u8 = P::CHIP.pins;
 
-    const GROUND: u8 = P::CHIP.ground;
+    const GROUND: u8 = P::CHIP.ground_pin;
 
     const FUSES: u16 = P::CHIP.fuses;
 
@@ -88,7 +88,7 @@ impl<P: Part> Device for P {
 
     ghost PINS = { P.CHIP.pins };
 
-    ghost GROUND = { P.CHIP.ground };
+    ghost GROUND = { P.CHIP.ground_pin };
 
     ghost FUSES = { P.CHIP.fuses };
 
@@ -114,7 +114,7 @@ impl<P: Part> Device for P {
 
     ghost pins_is = { ap (λ (c : Chip). c.pins) P.chip_is };
 
-    ghost ground_is = { ap (λ (c : Chip). c.ground) P.chip_is };
+    ghost ground_is = { ap (λ (c : Chip). c.ground_pin) P.chip_is };
 
     ghost fuses_is = { ap (λ (c : Chip). c.fuses) P.chip_is };
 

@@ -23,7 +23,7 @@ impl Part for Sample {
     const CHIP: Chip = Chip {
         name: DeviceName::GAL22V10,
         pins: 10,
-        ground: 5,
+        ground_pin: 5,
         fuses: 60,
         short: 57,
         columns: 8,
