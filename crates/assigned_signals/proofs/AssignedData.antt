@@ -6,8 +6,8 @@ use Rattle.std.proofs.lemmas.List.Folds.{list_any-append}
 use Rattle.bit_expr.specs.Formulas.{Formula}
 use Rattle.abel_tree.specs.declared.words.Extension.{Extension}
 use Rattle.abel_tree.specs.declared.words.Extension.TheVariants as extension
-use Rattle.abel_tree.specs.Assigned.{Named, Assigned, signals_of, target_extension, is_clocked, assigned_each, assigned_by, statement_assigns, else_assigns, statements_assign, list_assigns, is_assigned}
-use Rattle.abel_tree.specs.Tree.{Tree, Statement, AnAssign, AWhen, AGroup, ADontCare, Otherwise, NoElse, AnElse, Statements, NoStatement, MoreStatements, statements_of}
+use Rattle.abel_tree.specs.Assigned.{Named, Assigned, signals_of, target_extension, without_extension, is_clocked, assigned_each, assigned_by, statement_assigns, else_assigns, statements_assign, list_assigns, is_assigned}
+use Rattle.abel_tree.specs.Tree.{Statement, AnAssign, AWhen, AGroup, ADontCare, Otherwise, NoElse, AnElse, Statements, NoStatement, MoreStatements, statements_of}
 use Rattle.abel_meaning.specs.Contributions.{condition, Contribution, Gives, Guard, guarded}
 use Rattle.abel_meaning.specs.Designs.{Design}
 use Rattle.abel_meaning.specs.FormulaBits.{formulas}
@@ -18,7 +18,7 @@ use Rattle.abel_meaning.specs.Targets.{targets_of, some_signals, is_data}
 use Rattle.abel_meaning.specs.Terms.{term_of}
 use Rattle.gathered.proofs.SourcedFormulas.{word_length}
 use Rattle.name_kinds.proofs.Spreading.{among}
-use Rattle.assigned_signals.proofs.NamedTerms.{signals_in}
+use Rattle.assigned_signals.proofs.NamedTerms.{IsWithin, without_within}
 
 -- one of what is assigned to the signal
 pub assigned_among : (s : ℕ) (c : Bool) (ss : List ℕ) → is_assigned (assigned_each c ss) s ≡ among s ss
@@ -76,15 +76,15 @@ module _ (d : Design) (s : ℕ) where
 
   -- ---- statements
 
-  module _ (ks : List Named) (same : (t : Tree) → signals_of ks t ≡ signals_in (term_of d.known t)) where
+  module _ (ks : List Named) (within : IsWithin s ks d.known) where
     mutual
       statement_data : (g : Guard Formula) (x : Statement) → is_assigned (statement_assigns ks x) s ≡ true → has_data (statement_gives (formulas d) d g x) ≡ true
       statement_data g (AnAssign place complement target sign q value) h =
           let e = target_extension target in
           let ts = targets_of (term_of d.known target) in
-          let found = assigned_data s e (is_clocked sign) (signals_of ks target) h in
+          let found = assigned_data s e (is_clocked sign) (signals_of ks (without_extension target)) h in
           each_given g e complement (is_clocked sign) (sign_gives sign) ts ((formulas d).word (length ts) (term_of d.known value)) (word_length d (length ts) (term_of d.known value)) found.0
-          ∙ ap (among s) (sym (same target)) ∙ found.1
+          ∙ without_within s ks d.known within target found.1
       statement_data g (AWhen place c x other) h =
           let bit = condition (formulas d) (term_of d.known c) in
           let g1 = guarded (formulas d) g bit in

@@ -11,7 +11,9 @@ use Rattle.abel_meaning.specs.Designs.{Design, design_of, name_at, no_name}
 use Rattle.abel_meaning.specs.Kinds.{with_kinds, names_of}
 use Rattle.abel_meaning.specs.Terms.{term_of}
 use Rattle.name_kinds.proofs.Settling.{is_no_target}
-use Rattle.assigned_signals.proofs.NamedTerms.{signals_in, same_signals}
+use Rattle.name_kinds.proofs.Spreading.{among}
+use Rattle.assigned_signals.specs.Correct.{bare_signals}
+use Rattle.assigned_signals.proofs.NamedTerms.{IsWithin, same_signals, bare_among}
 
 -- kinds change neither names nor what they stand for
 named_kept : (flip : Flip) (found : List Assigned) (ks : List Named) (s k : ℕ) (es : List Entry) → named_after ks s (with_kinds flip found k es) ≡ named_after ks s es
@@ -44,8 +46,11 @@ module _ (t : Table) (m : ModuleTree) where
   abbrev d : Design
   d = design_of t m
 
-  pub same_targets : (x : Tree) → signals_of own_names x ≡ signals_in (term_of d.known x)
+  same_targets : (x : Tree) → signals_of own_names x ≡ bare_signals (term_of d.known x)
   same_targets x = ap (λ ks. signals_of ks x) (sym (named_kept t.flip (sections_assign own_names m.sections) [] 0 0 (declared_names m))) ∙ same_signals (names_of t m) x
+
+  pub names_within : (s : ℕ) → IsWithin s own_names d.known
+  names_within s x h = bare_among s (term_of d.known x) (sym (ap (among s) (same_targets x)) ∙ h)
 
   pub by_sections : (s : ℕ) → (name_at d s).assigned ≡ true → is_assigned (sections_assign own_names m.sections) s ≡ true
   by_sections s h = subst (λ n. is_assigned (sections_assign own_names m.sections) n ≡ true) (no_more s) (assigned_told t.flip (sections_assign own_names m.sections) 0 s (declared_names m) h)

@@ -16,20 +16,20 @@ use Rattle.abel_meaning.specs.Targets.{targets_of, some_signals}
 use Rattle.abel_meaning.specs.Terms.{term_of}
 use Rattle.name_kinds.proofs.Spreading.{among}
 use Rattle.assigned_signals.proofs.AssignedData.{assigned_among, has_data, in_front, behind, joined, each_matched, list_data}
-use Rattle.assigned_signals.proofs.NamedTerms.{signals_in}
+use Rattle.assigned_signals.proofs.NamedTerms.{signals_in, IsWithin}
 
 bare_signals : (ss : List ℕ) → some_signals (map Some ss) ≡ ss
 bare_signals [] = refl
 bare_signals (j ∷ ss) = ap (λ js. j ∷ js) (bare_signals ss)
 
-module _ (d : Design) (s : ℕ) (ks : List Named) (same : (t : Tree) → signals_of ks t ≡ signals_in (term_of d.known t)) where
+module _ (d : Design) (s : ℕ) (ks : List Named) (within : IsWithin s ks d.known) where
   -- the signals of a header
   header_data : (k : Bool) (t : Tree) → is_assigned (assigned_each k (signals_of ks t)) s ≡ true → among s (signals_in (term_of d.known t)) ≡ true
-  header_data k t h = ap (among s) (sym (same t)) ∙ sym (assigned_among s k (signals_of ks t)) ∙ h
+  header_data k t h = within t (sym (assigned_among s k (signals_of ks t)) ∙ h)
 
   with_data : (g : Guard Formula) (o : Option (List Statement)) → is_assigned (with_assigns ks o) s ≡ true → has_data d s (statements_give (formulas d) d g (with_statements o)) ≡ true
   with_data g None h = absurd cc
-  with_data g (Some xs) h = list_data d s ks same g xs h
+  with_data g (Some xs) h = list_data d s ks within g xs h
 
   module _ (ss : List ℕ) where
     mutual
@@ -65,7 +65,7 @@ module _ (d : Design) (s : ℕ) (ks : List Named) (same : (t : Tree) → signals
         let next = branches_give (formulas d) d g1 ss x.transitions in
         let rest = states_give (formulas d) d g ss xs in
         ap (has_data d s) (append_assoc own next rest)
-        ∙ joined d s (list_assigns ks x.statements) (branches_assign ks x.transitions ++ states_assign ks xs) own (next ++ rest) (list_data d s ks same g1 x.statements)
+        ∙ joined d s (list_assigns ks x.statements) (branches_assign ks x.transitions ++ states_assign ks xs) own (next ++ rest) (list_data d s ks within g1 x.statements)
         (joined d s (branches_assign ks x.transitions) (states_assign ks xs) next rest (branches_data g1 x.transitions) (states_data g xs)) h
 
   diagram_data : (g : Guard Formula) (registers : Tree) (xs : List StateTree) → is_assigned (assigned_each true (signals_of ks registers) ++ states_assign ks xs) s ≡ true
@@ -89,7 +89,7 @@ module _ (d : Design) (s : ℕ) (ks : List Named) (same : (t : Tree) → signals
 
   section_data : (on : Bool) (block : ℕ) (x : SectionTree) → is_assigned (section_assigns ks x) s ≡ true → has_data d s (section_gives (formulas d) d on block x) ≡ true
   section_data on block (Declarations ds) h = absurd cc
-  section_data on block (Equations xs) h = list_data d s ks same (unguarded (formulas d) on None) xs h
+  section_data on block (Equations xs) h = list_data d s ks within (unguarded (formulas d) on None) xs h
   section_data on block (ATable place inputs k outputs rows) h = table_data (unguarded (formulas d) on (Some block)) k inputs outputs rows h
   section_data on block (ADiagram place registers xs) h = diagram_data (unguarded (formulas d) on (Some block)) registers xs h
   section_data on block (SomeVectors _ place inputs outputs rows) h = absurd cc

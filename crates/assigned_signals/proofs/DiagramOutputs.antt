@@ -8,7 +8,6 @@ use Rattle.abel_meaning.specs.CountedNodes.{condition_of, guard_then, guard_else
 use Rattle.abel_meaning.specs.Designs.{Design}
 use Rattle.abel_meaning.specs.Diagrams.{with_statements}
 use Rattle.abel_meaning.specs.Targets.{some_signals}
-use Rattle.abel_meaning.specs.Terms.{term_of}
 use Rattle.set_expr.specs.FoundNames.{expression_found}
 use Rattle.section_targets.specs.declared.manner.Manner.{Manner}
 use Rattle.section_targets.specs.TargetSignals.{target_member}
@@ -24,13 +23,13 @@ use Rattle.name_kinds.proofs.Spreading.{among}
 use Rattle.assigned_signals.proofs.AimedOutputs.{IsOutput, aimed_among, aimed_output}
 use Rattle.assigned_signals.proofs.AssignedData.{assigned_among}
 use Rattle.assigned_signals.proofs.DiagramHeaders.{diagram_clear}
-use Rattle.assigned_signals.proofs.NamedTerms.{signals_in}
+use Rattle.assigned_signals.proofs.NamedTerms.{IsWithin}
 use Rattle.assigned_signals.proofs.StatementOutputs.{first_units, last_units, one_of_two, list_output}
 
-module _ (d : Design) (s : ℕ) (ks : List Named) (same : (t : Tree) → signals_of ks t ≡ signals_in (term_of d.known t)) where
+module _ (d : Design) (s : ℕ) (ks : List Named) (within : IsWithin s ks d.known) where
   with_output : (g : Formula) (before : List Manner) (o : Option (List Statement)) → units_refused (units_of_statements d g before (with_statements o)) ≡ [] → is_assigned (with_assigns ks o) s ≡ true → IsOutput d s
   with_output g before None h a = absurd cc
-  with_output g before (Some xs) h a = list_output d s ks same g before xs h a
+  with_output g before (Some xs) h a = list_output d s ks within g before xs h a
 
   module _ (n : ℕ) where
     mutual
@@ -76,7 +75,7 @@ module _ (d : Design) (s : ℕ) (ks : List Named) (same : (t : Tree) → signals
       let us = units_of_statements d g before (statements_of x.statements) in
       let vs = units_of_branches d g n more x.transitions in
       one_of_two (IsOutput d s) s (list_assigns ks x.statements) (branches_assign ks x.transitions) a
-      (list_output d s ks same g before x.statements (first_units us vs h))
+      (list_output d s ks within g before x.statements (first_units us vs h))
       (branches_output n g more x.transitions (last_units us vs h))
 
   states_output : (ss : List ℕ) (before : List Manner) (listed : List ℕ) (xs : List StateTree) → units_refused (units_of_states d ss before listed xs) ≡ [] → is_assigned (states_assign ks xs) s ≡ true → IsOutput d s
@@ -100,5 +99,5 @@ module _ (d : Design) (s : ℕ) (ks : List Named) (same : (t : Tree) → signals
       let clear = diagram_clear d before p registers xs h in
       one_of_two (IsOutput d s) s (assigned_each true (signals_of ks registers)) (states_assign ks xs) a
       (λ e. aimed_output d s before None false true x.aims clear.1
-      (sym (aimed_among s x.aims) ∙ ap (λ ts. among s (some_signals ts)) (sym (side_positions d p (AParen p registers) clear.0)) ∙ ap (among s) (sym (same registers)) ∙ sym (assigned_among s true (signals_of ks registers)) ∙ e))
+      (sym (aimed_among s x.aims) ∙ ap (λ ts. among s (some_signals ts)) (sym (side_positions d p (AParen p registers) clear.0)) ∙ within registers (sym (assigned_among s true (signals_of ks registers)) ∙ e)))
       (states_output (diagram.signals_of x.aims) (before ++ register_manners x) [] xs clear.2)

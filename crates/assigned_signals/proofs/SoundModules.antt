@@ -18,7 +18,7 @@ use Rattle.source_sections.specs.SectionUnits.{section_manners, units_of_section
 use Rattle.accepted_designs.specs.Accepted.{AssignedAreOnCells, AssignedHaveData, HasBareHeader, HaveBareHeaders, IsAccepted}
 use Rattle.assigned_signals.specs.Correct.{AreGiven, HasSoundSections, HasSoundDeclarations}
 use Rattle.assigned_signals.proofs.AssignedSections.{sections_data}
-use Rattle.assigned_signals.proofs.AssignedNames.{own_names, same_targets, by_sections, signal_there}
+use Rattle.assigned_signals.proofs.AssignedNames.{own_names, names_within, by_sections, signal_there}
 use Rattle.assigned_signals.proofs.BareRegisters.{registers_bare}
 use Rattle.assigned_signals.proofs.SectionOutputs.{sections_output}
 use Rattle.assigned_signals.proofs.StatementOutputs.{first_units, last_units}
@@ -65,13 +65,13 @@ module _ (t : Table) (m : ModuleTree) where
   d = design_of t m
 
   data_there : AssignedHaveData d
-  data_there s h = sections_data d s (own_names t m) (same_targets t m) d.starts_dontcare 0 m.sections (by_sections t m s h)
+  data_there s h = sections_data d s (own_names t m) (names_within t m s) d.starts_dontcare 0 m.sections (by_sections t m s h)
 
   on_cells : HasSoundSections d → AssignedAreOnCells d
   on_cells r s pin negated kind h =
       cell_there t pin
       (subst (λ k. is_output_kind t k ≡ true) kind
-      (sections_output d s (own_names t m) (same_targets t m) [] m.sections (units_clear d r) (by_sections t m s h)))
+      (sections_output d s (own_names t m) (names_within t m s) [] m.sections (units_clear d r) (by_sections t m s h)))
 
 pub all_given : (t : Table) (m : ModuleTree) → AreGiven (design_of t m)
 all_given t m = record { signals = signal_there t m; data_given = data_there t m }

@@ -6,12 +6,11 @@ use Rattle.pld_base.specs.declared.place.Place.{Place}
 use Rattle.bit_expr.specs.Formulas.{Formula}
 use Rattle.abel_tree.specs.declared.words.Extension.{Extension}
 use Rattle.abel_tree.specs.declared.words.Sign.{Sign}
-use Rattle.abel_tree.specs.Assigned.{Named, Assigned, signals_of, target_extension, is_clocked, statement_assigns, else_assigns, statements_assign, list_assigns, is_assigned}
+use Rattle.abel_tree.specs.Assigned.{Named, Assigned, signals_of, target_extension, without_extension, is_clocked, statement_assigns, else_assigns, statements_assign, list_assigns, is_assigned}
 use Rattle.abel_tree.specs.Tree.{Tree, Statement, AnAssign, AWhen, AGroup, ADontCare, Otherwise, NoElse, AnElse, Statements, NoStatement, MoreStatements, statements_of}
 use Rattle.abel_meaning.specs.CountedNodes.{condition_of, guard_then, guard_else}
 use Rattle.abel_meaning.specs.Designs.{Design}
 use Rattle.abel_meaning.specs.Targets.{some_signals}
-use Rattle.abel_meaning.specs.Terms.{term_of}
 use Rattle.set_expr.specs.FoundNames.{expression_found}
 use Rattle.set_expr.specs.Refusals.{Found}
 use Rattle.section_targets.specs.declared.manner.Manner.{Manner}
@@ -23,7 +22,7 @@ use Rattle.section_targets.proofs.SideTerms.{side_positions}
 use Rattle.equations.specs.StatementUnits.{condition_refused, unless_any, assigned_aims, taken_refused, assign_refused, statement_manners, units_of_statement, units_of_else, units_of_statements}
 use Rattle.name_kinds.proofs.Spreading.{among}
 use Rattle.assigned_signals.proofs.AssignedData.{assigned_data}
-use Rattle.assigned_signals.proofs.NamedTerms.{signals_in}
+use Rattle.assigned_signals.proofs.NamedTerms.{IsWithin, without_within}
 use Rattle.assigned_signals.proofs.AimedOutputs.{IsOutput, aimed_among, aimed_output}
 
 -- what is refused of an assignment, part by part
@@ -45,21 +44,21 @@ last_units us vs h = right_empty (units_refused us) (units_refused vs) (sym (ref
 pub one_of_two : (P : Type 0) (s : ℕ) (xs ys : List Assigned) → is_assigned (xs ++ ys) s ≡ true → (is_assigned xs s ≡ true → P) → (is_assigned ys s ≡ true → P) → P
 one_of_two P s xs ys h f g = elim (or_cases (is_assigned xs s) (is_assigned ys s) (sym (list_any-append (λ (a : Assigned). a.signal == s) xs ys) ∙ h)) [ inl e ↦ f e | inr e ↦ g e ]
 
-module _ (d : Design) (s : ℕ) (ks : List Named) (same : (t : Tree) → signals_of ks t ≡ signals_in (term_of d.known t)) where
+module _ (d : Design) (s : ℕ) (ks : List Named) (within : IsWithin s ks d.known) where
   assign_output : (before : List Manner) (e : Option Extension) (c : Bool) (sign : Sign) (p q : Place) (target : Tree) (f : Found) → assign_refused d before e c sign q (left_side d p target) f ≡ []
-      → among s (signals_of ks target) ≡ true → IsOutput d s
+      → among s (signals_of ks (without_extension target)) ≡ true → IsOutput d s
   assign_output before e c sign p q target f h a =
       let x = left_side d p target in
       let parts = unrefused_assign d before e c sign q x f h in
       aimed_output d s before e c (is_clocked sign) x.aims parts.1
-      (sym (aimed_among s x.aims) ∙ ap (λ ts. among s (some_signals ts)) (sym (side_positions d p target parts.0)) ∙ ap (among s) (sym (same target)) ∙ a)
+      (sym (aimed_among s x.aims) ∙ ap (λ ts. among s (some_signals ts)) (sym (side_positions d p target parts.0)) ∙ without_within s ks d.known within target a)
 
   mutual
     statement_output : (g : Formula) (before : List Manner) (x : Statement) → units_refused (units_of_statement d g before x) ≡ [] → is_assigned (statement_assigns ks x) s ≡ true → IsOutput d s
     statement_output g before (AnAssign place c target sign q value) h a =
         let refused = assign_refused d before (target_extension target) c sign q (left_side d place target) (expression_found d.names value) in
         assign_output before (target_extension target) c sign place q target (expression_found d.names value) (left_empty refused [] h)
-        (assigned_data s (target_extension target) (is_clocked sign) (signals_of ks target) a).1
+        (assigned_data s (target_extension target) (is_clocked sign) (signals_of ks (without_extension target)) a).1
     statement_output g before (AWhen place c x other) h a =
         let g1 = (guard_then g (condition_of d c)).what in
         let g2 = (guard_else g (condition_of d c)).what in

@@ -21,7 +21,7 @@ use Rattle.table_contributions.proofs.OutputPositions.{header_signals}
 use Rattle.name_kinds.proofs.Spreading.{among}
 use Rattle.assigned_signals.proofs.AimedOutputs.{is_aimed, IsOutput, aimed_output}
 use Rattle.assigned_signals.proofs.AssignedData.{assigned_among}
-use Rattle.assigned_signals.proofs.NamedTerms.{signals_in}
+use Rattle.assigned_signals.proofs.NamedTerms.{IsWithin}
 
 header_aimed : (s : ℕ) (xs : List (Option Aim)) → among s (some_signals (gives.signals_of xs)) ≡ is_aimed s (some_aims xs)
 header_aimed s [] = refl
@@ -36,7 +36,7 @@ header_clear : (rs : List SectionFault) (p : Place) (us : List CountedUnit) → 
 header_clear [] p us h = refl
 header_clear (r ∷ rs) p us h = absurd cc
 
-module _ (d : Design) (s : ℕ) (ks : List Named) (same : (t : Tree) → signals_of ks t ≡ signals_in (term_of d.known t)) where
+module _ (d : Design) (s : ℕ) (ks : List Named) (within : IsWithin s ks d.known) where
   pub table_output : (before : List Manner) (p : Place) (inputs : Tree) (k : Bool) (outputs : Tree) (rows : List RowTree) → units_refused (units_of_table d before p inputs k outputs rows) ≡ []
       → is_assigned (assigned_each k (signals_of ks outputs)) s ≡ true → IsOutput d s
   table_output before p inputs k outputs rows h a =
@@ -45,4 +45,4 @@ module _ (d : Design) (s : ℕ) (ks : List Named) (same : (t : Tree) → signals
       let parts = both_clear x.refusals (aims_refused d before None false k (some_aims x.outputs))
       (right_empty (expression_found d.names inputs).refusals (outputs_refused d before k x) (header_clear (header_refused d before k inputs outputs) p us h)) in
       aimed_output d s before None false k (some_aims x.outputs) parts.1
-      (sym (header_aimed s x.outputs) ∙ ap (λ ts. among s (some_signals ts)) (sym (header_signals d outputs parts.0)) ∙ ap (among s) (sym (same outputs)) ∙ sym (assigned_among s k (signals_of ks outputs)) ∙ a)
+      (sym (header_aimed s x.outputs) ∙ ap (λ ts. among s (some_signals ts)) (sym (header_signals d outputs parts.0)) ∙ within outputs (sym (assigned_among s k (signals_of ks outputs)) ∙ a))

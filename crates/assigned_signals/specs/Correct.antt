@@ -1,22 +1,32 @@
 -- What is assigned by a module, by its names and by what it contributes (ABEL-HDL Reference Manual, equations; what is
 -- refused is this project's rule).
-use Rattle.std.specs.Prelude.{◌≡◌, List, []}
+use Rattle.std.specs.Prelude.{◌≡◌, ℕ, None, List, [], ◌∷◌, ◌++◌}
 use Rattle.pld_device.specs.Table.{Table}
 use Rattle.abel_tree.specs.Assigned.{named_of, signals_of}
 use Rattle.abel_tree.specs.Entries.{Entry}
 use Rattle.abel_tree.specs.Tree.{Tree, ModuleTree}
 use Rattle.abel_meaning.specs.Designs.{Design, design_of}
-use Rattle.abel_meaning.specs.Targets.{targets_of, some_signals}
-use Rattle.abel_meaning.specs.Terms.{known_of, term_of}
+use Rattle.abel_meaning.specs.Terms.{Term, Terms, Read, Set, NoTerm, Before, known_of, term_of}
 use Rattle.gathered.specs.Takeable.{PinsApart, NodesAreFew}
 use Rattle.source_sections.specs.SectionAnswers.{sections_refused}
 use Rattle.accepted_designs.specs.Accepted.{SignalsAreAssigned, BuffersAreBehind, AssignedAreOnCells, AssignedHaveData, IsAccepted}
 
 -- ---- for every module
 
--- a target names the same signals by its names alone as by its term
+-- the signals of a term, and of sets within it, that have no extension
+abbrev mutual
+  pub bare_signals : Term → List ℕ
+  bare_signals (Read s None) = s ∷ []
+  bare_signals (Set ts) = all_bare_signals ts
+  bare_signals _ = []
+
+  pub all_bare_signals : Terms → List ℕ
+  all_bare_signals NoTerm = []
+  all_bare_signals (Before t ts) = bare_signals t ++ all_bare_signals ts
+
+-- a target names by its names alone the signals of its term that have no extension
 abbrev pub TargetsNameAlike : Type 0
-TargetsNameAlike = (es : List Entry) (t : Tree) → signals_of (named_of es) t ≡ some_signals (targets_of (term_of (known_of es) t))
+TargetsNameAlike = (es : List Entry) (t : Tree) → signals_of (named_of es) t ≡ bare_signals (term_of (known_of es) t)
 
 -- what a module assigns is a signal that some contribution is data to
 pub record AreGiven (d : Design) : Type 0 where

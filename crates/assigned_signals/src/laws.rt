@@ -2,7 +2,7 @@
 
 ghost use Rattle.assigned_signals.specs.Correct.{TargetsNameAlike, AssignedAreGiven, AssignedHaveCells, SoundModulesAreAccepted};
 
-/// The signals that a target names by its names alone are those of its term. Does nothing.
+/// The signals that a target names by its names alone are those of its term that have no extension. Does nothing.
 pub fn targets_name_alike()
     ensures { TargetsNameAlike }
 {}
