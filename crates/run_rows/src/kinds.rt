@@ -4,7 +4,7 @@ use crate::calls::try_failing_calls;
 use crate::cases::{try_cases, try_listings, try_whole_files};
 use crate::commands::{try_long_files, try_usage};
 use crate::demos::{try_demo_files, try_demos};
-use crate::devices::try_devices;
+use crate::each_device::try_devices;
 use crate::faults::try_faults;
 use crate::fronts::{try_changed_bytes, try_fronts};
 use crate::fuse_files::try_fuse_files;

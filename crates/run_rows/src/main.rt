@@ -7,7 +7,7 @@ mod calls;
 mod cases;
 mod commands;
 mod demos;
-mod devices;
+mod each_device;
 mod faults;
 mod fronts;
 mod fuse_files;
