@@ -4,8 +4,8 @@ use Rattle.std.specs.Prelude.{codes}
 use Rattle.std.specs.List.{list_all, All}
 use Rattle.std.specs.Fmt.{decimal}
 use Rattle.pld_base.specs.declared.device_name.DeviceName.{DeviceName}
-use Rattle.pld_base.specs.declared.device_name.DeviceName.TheVariants.{P16L8, P16R4, P16R6, P16R8, GAL22V10}
 use Rattle.pld_base.specs.DeviceNames.{device_text}
+use Rattle.pld_base.proofs.EachDevice.{each_device}
 use Rattle.jedec_file.specs.declared.field.Field.{Field}
 use Rattle.jedec_file.specs.declared.field.Field.TheVariants as field
 use Rattle.pld_device.specs.Table.{Table}
@@ -24,11 +24,7 @@ use Rattle.jedec_writer.proofs.LinesRead.{IsVectorText, levels_fields, row_field
 -- ---- the design text
 
 device_text_is_plain : (name : DeviceName) → list_all is_plain (device_text name) ≡ true
-device_text_is_plain P16L8 = refl
-device_text_is_plain P16R4 = refl
-device_text_is_plain P16R6 = refl
-device_text_is_plain P16R8 = refl
-device_text_is_plain GAL22V10 = refl
+device_text_is_plain = each_device (λ name. list_all is_plain (device_text name)) refl
 
 -- the design text of the canonical file
 abbrev pub design_text : Table → List ℕ → List ℕ
