@@ -8,7 +8,8 @@ use Rattle.pld_base.specs.declared.device_name.DeviceName.{DeviceName}
 use Rattle.abel_tree.specs.declared.words.Word.{Word}
 use Rattle.abel_tree.specs.Tree.{Declaration, ADevice, SomePins, SomeNodes, SomeAttributes, SomeConstants, SomeOptions, DontCareFor, SectionTree, Declarations, Equations, ATable, ADiagram, SomeVectors, DontCareSection}
 use Rattle.abel_meaning.specs.Declarations.{section_declarations}
-use Rattle.abel_meaning.specs.DeviceStrings.{first_device, device_in, device_strings, unquoted}
+use Rattle.abel_meaning.specs.DeviceStrings.{first_device, unquoted}
+use Rattle.pld_base.specs.DeviceNames.{named_device}
 use Rattle.decls.specs.Devices.{first_string}
 
 abbrev pub or_string : Option Word → Option Word → Option Word
@@ -36,7 +37,7 @@ sections_append (DontCareSection a ∷ xs) ys = sections_append xs ys
 
 abbrev pub device_by : Option Word → Option DeviceName
 device_by None = None
-device_by (Some w) = device_in device_strings (unquoted w.text)
+device_by (Some w) = named_device (unquoted w.text)
 
 -- the first device is that of the first string
 pub device_of_string : (ds : List Declaration) → first_device ds ≡ device_by (first_string ds)
@@ -84,10 +85,10 @@ second_part xs ys o n e = sym (string_append xs ys ∙ (ap (λ p. or_string p (f
 
 -- ---- what the string says
 
-pub known : (ds : List Declaration) (w : Word) (d : DeviceName) → Some w ≡ first_string ds → Some d ≡ device_in device_strings (unquoted w.text) → first_device ds ≡ Some d
+pub known : (ds : List Declaration) (w : Word) (d : DeviceName) → Some w ≡ first_string ds → Some d ≡ named_device (unquoted w.text) → first_device ds ≡ Some d
 known ds w d e f = device_of_string ds ∙ (ap device_by (sym e) ∙ sym f)
 
-pub unknown : (ds : List Declaration) (w : Word) → Some w ≡ first_string ds → None ≡ device_in device_strings (unquoted w.text) → first_device ds ≡ None
+pub unknown : (ds : List Declaration) (w : Word) → Some w ≡ first_string ds → None ≡ named_device (unquoted w.text) → first_device ds ≡ None
 unknown ds w e f = device_of_string ds ∙ (ap device_by (sym e) ∙ sym f)
 
 pub unsaid : (ds : List Declaration) → None ≡ first_string ds → first_device ds ≡ None

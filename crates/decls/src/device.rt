@@ -1,8 +1,9 @@
 //! The device of a source.
 
 ghost use Rattle.std.specs.Prelude.{◌≡◌, Option, Some, None, IfOk, IfErr, option_copied, map, [], ◌∷◌};
-ghost use Rattle.abel_meaning.specs.DeviceStrings.{device_named, device_in, device_strings, unquoted};
+ghost use Rattle.abel_meaning.specs.DeviceStrings.{device_named, unquoted};
 ghost use Rattle.abel_tree.specs.View.{view_decl, view_section, view_module};
+ghost use Rattle.pld_base.specs.DeviceNames.{named_device};
 ghost use Rattle.decls.specs.declared.fault.NameFault.TheVariants.{UnknownDevice};
 ghost use Rattle.abel_meaning.specs.Declarations.{section_declarations};
 ghost use Rattle.decls.specs.AllDeclarations.{all_declarations};
@@ -84,23 +85,7 @@ fn string_in_sections(sections: &[Section]) -> Option<&Word>
 
 /// The device that a string with its quotes names, without regard to case.
 fn device_with(text: &[u8]) -> Option<DeviceName>
-    ensures { result ≡ device_in device_strings (unquoted text.now) }
+    ensures { result ≡ named_device (unquoted text.now) }
 {
-    let name = without_quotes(text);
-    if name.eq_ignore_ascii_case(b"p16l8") {
-        return Some(DeviceName::P16L8);
-    }
-    if name.eq_ignore_ascii_case(b"p16r4") {
-        return Some(DeviceName::P16R4);
-    }
-    if name.eq_ignore_ascii_case(b"p16r6") {
-        return Some(DeviceName::P16R6);
-    }
-    if name.eq_ignore_ascii_case(b"p16r8") {
-        return Some(DeviceName::P16R8);
-    }
-    if name.eq_ignore_ascii_case(b"p22v10") || name.eq_ignore_ascii_case(b"gal22v10") {
-        return Some(DeviceName::GAL22V10);
-    }
-    None
+    DeviceName::named(without_quotes(text))
 }

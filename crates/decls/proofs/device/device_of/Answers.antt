@@ -2,7 +2,8 @@
 use Rattle.std.proofs.Common.{sym, ap, ◌∙◌}
 use Rattle.std.specs.Prelude.{option_copied}
 use Rattle.abel_tree.specs.View.{view_module}
-use Rattle.abel_meaning.specs.DeviceStrings.{device_in, device_strings, unquoted}
+use Rattle.pld_base.specs.DeviceNames.{named_device}
+use Rattle.abel_meaning.specs.DeviceStrings.{unquoted}
 use Rattle.decls.specs.AllDeclarations.{all_declarations}
 use Rattle.decls.proofs.FirstStrings.{known, unknown, unsaid}
 use Rattle.decls.proofs.device.device_of.Goals as goal
@@ -13,8 +14,8 @@ returns-in_default-clause-unnamed c =
 
 pub returns-in-Some-device_with-clause-named : goal.returns-in-Some-device_with-clause-named
 returns-in-Some-device_with-clause-named c =
-    known (all_declarations (view_module c.args.source.now)) c.in-Some.string.now c.in-Some-device_with.name (sym (ap option_copied c.in-Some.is) ∙ c.device_string.ensures) (sym c.in-Some-device_with.is ∙ (c.device_with.ensures ∙ ap (λ t. device_in device_strings (unquoted t)) c.bytes.ensures))
+    known (all_declarations (view_module c.args.source.now)) c.in-Some.string.now c.in-Some-device_with.name (sym (ap option_copied c.in-Some.is) ∙ c.device_string.ensures) (sym c.in-Some-device_with.is ∙ (c.device_with.ensures ∙ ap (λ t. named_device (unquoted t)) c.bytes.ensures))
 
 pub returns-in-None-clause-unnamed : goal.returns-in-None-clause-unnamed
 returns-in-None-clause-unnamed c =
-    unknown (all_declarations (view_module c.args.source.now)) c.in-Some.string.now (sym (ap option_copied c.in-Some.is) ∙ c.device_string.ensures) (sym c.in-None.is ∙ (c.device_with.ensures ∙ ap (λ t. device_in device_strings (unquoted t)) c.bytes.ensures))
+    unknown (all_declarations (view_module c.args.source.now)) c.in-Some.string.now (sym (ap option_copied c.in-Some.is) ∙ c.device_string.ensures) (sym c.in-None.is ∙ (c.device_with.ensures ∙ ap (λ t. named_device (unquoted t)) c.bytes.ensures))
