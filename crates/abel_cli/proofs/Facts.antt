@@ -5,7 +5,7 @@ use Rattle.outside.specs.Outside.{bytes_at, SameFiles}
 use Rattle.pld_base.specs.declared.device_name.DeviceName.{DeviceName}
 use Rattle.abel_cli.specs.Call.{Asked, Heard}
 use Rattle.source_files.specs.Counts.{HasStayed}
-use Rattle.compile_phases.specs.Devices.{table_of}
+use Rattle.devices.specs.Devices.{table_of}
 use Rattle.abel_commands.specs.Ending.{Ending}
 use Rattle.abel_cli.specs.Promises.{MeansOn, Promises}
 use Rattle.abel_cli.specs.Run.{Means}

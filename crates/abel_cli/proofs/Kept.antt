@@ -7,7 +7,7 @@ use Rattle.abel_compile.specs.declared.compiled.Compiled.{Compiled}
 use Rattle.abel_compile.specs.Correct.{IsCompiled}
 use Rattle.abel_cli.specs.Call.{Asked, Heard}
 use Rattle.source_files.specs.Counts.{HasRisen, HasStayed}
-use Rattle.compile_phases.specs.Devices.{table_of}
+use Rattle.devices.specs.Devices.{table_of}
 use Rattle.abel_commands.specs.Ending.{Ending, Output, memory_line, file_fault}
 use Rattle.abel_cli.specs.Telling.{Puts, TakesFront, TakesFrontAndMemory}
 use Rattle.abel_cli.specs.Promises.{MeansOn, IsMeant, EndsAsCalled, EndsInFileFault, LeavesFiles, Promises}

@@ -3,7 +3,7 @@ use Rattle.std.specs.Prelude.{◌≡◌, ℕ, List, Some}
 use Rattle.outside.specs.Outside.{Map, bytes_at}
 use Rattle.pld_base.specs.declared.device_name.DeviceName.{DeviceName}
 use Rattle.module_reader.specs.Texts.{SpellsModule}
-use Rattle.compile_phases.specs.Devices.{table_of}
+use Rattle.devices.specs.Devices.{table_of}
 use Rattle.abel_compile.specs.Statement.{IsRightFile}
 use Rattle.abel_commands.specs.Words.{IsCompile}
 

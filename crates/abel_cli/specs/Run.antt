@@ -5,7 +5,7 @@ use Rattle.abel_cli.specs.Call.{Asked, Heard}
 use Rattle.source_files.specs.Counts.{HasRisen, HasStayed}
 use Rattle.abel_commands.specs.CheckCommand.{CheckEnds, CheckMeans}
 use Rattle.demo_command.specs.DemoCommand.{DemoEnds, DemoMeans}
-use Rattle.compile_phases.specs.Devices.{table_of}
+use Rattle.devices.specs.Devices.{table_of}
 use Rattle.abel_commands.specs.Ending.{Ending, memory_line, usage_ending, file_fault}
 use Rattle.abel_cli.specs.Telling.{Puts, Tells, TakesFront}
 use Rattle.abel_commands.specs.SimulateCommand.{SimulateEnds, SimulateMeans}

@@ -12,7 +12,7 @@ use Rattle.compile_phases.specs.declared.fault.SourceFault.{SourceFault}
 use Rattle.compile_phases.specs.declared.fault.SourceFault.TheVariants.{Expand, Scan, Parse, Names, Sections, Design, Width}
 use Rattle.abel_compile.specs.Answers.{CompileAnswers}
 use Rattle.abel_compile.specs.Statement.{IsRightFile}
-use Rattle.compile_phases.specs.Devices.{table_of}
+use Rattle.devices.specs.Devices.{table_of}
 use Rattle.compile_phases.specs.Phases.{IsOfSource, IsTextFault, IsNameFault, IsUnnamed, IsReadAlone, IsRefusedFor}
 use Rattle.abel_compile.specs.Compiling.{IsCompiledFor, IsCompiledOn}
 use Rattle.compile_phases.specs.SourceRefusals.{IsRefusedSo, IsSourceRefused}

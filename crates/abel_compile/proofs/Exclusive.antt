@@ -1,36 +1,25 @@
 -- A text has one fate: it is compiled, or refused, or it does not fit; and what fits as it is written is neither.
 use Rattle.std.proofs.Common.{◌≡◌, ℕ, Some, None, List, sym, ap, ◌∙◌, subst, inl, inr}
 use Rattle.pld_base.specs.declared.device_name.DeviceName.{DeviceName}
-use Rattle.pld_base.specs.declared.device_name.DeviceName.TheVariants.{P16L8, P16R4, P16R6, P16R8, GAL22V10}
-use Rattle.pld_device.specs.Laws.{IsDevice}
 use Rattle.pld_device.specs.Table.{Table}
 use Rattle.abel_tree.specs.Tree.{ModuleTree}
 use Rattle.abel_meaning.specs.DeviceStrings.{device_named}
 use Rattle.fitter.specs.declared.fault.FitFault.{FitFault}
 use Rattle.module_reader.specs.declared.fault.ReadFault.TheVariants as reading
-use Rattle.pal16_device.specs.Pal16L8Laws.{pal16l8_sound}
-use Rattle.pal16_device.specs.Pal16RLaws.{pal16r4_sound, pal16r6_sound, pal16r8_sound}
-use Rattle.gal22v10_device.specs.Gal22V10Laws.{gal22v10_sound}
 use Rattle.text_fates.proofs.Fates.{read_or_not, one_module}
 use Rattle.abel_compile.specs.declared.compiled.Compiled.{Compiled}
 use Rattle.compile_phases.specs.declared.fault.SourceFault.{SourceFault}
 use Rattle.compile_phases.specs.declared.fault.SourceFault.TheVariants.{Expand, Scan, Parse, Names, Sections, Design, Width}
 use Rattle.compile_phases.specs.Fits.{FitsAsWritten, IsOfFit, IsUnfitFor}
 use Rattle.abel_compile.specs.Correct.{IsCompiled}
-use Rattle.compile_phases.specs.Devices.{table_of}
+use Rattle.devices.specs.DeviceLaws.{table_sound}
+use Rattle.devices.specs.Devices.{table_of}
 use Rattle.compile_phases.specs.SourceRefusals.{IsAcceptedFor, IsReadFor, IsRefusedSo, IsSourceRefused}
 use Rattle.compile_phases.proofs.NotRefused.{not_source, not_fit}
 use Rattle.abel_compile.proofs.NeverRefused.{spelled}
 
 same_device : (a b : DeviceName) → Some a ≡ Some b → a ≡ b
 same_device a b e = cc
-
-laws : (d : DeviceName) → IsDevice (table_of d)
-laws P16L8 = pal16l8_sound
-laws P16R4 = pal16r4_sound
-laws P16R6 = pal16r6_sound
-laws P16R8 = pal16r8_sound
-laws GAL22V10 = gal22v10_sound
 
 module _ (text : List ℕ) where
   module _ {P Q : Table → ModuleTree → Type 0} (p : IsReadFor text P) (q : IsReadFor text Q) where
@@ -52,10 +41,10 @@ module _ (text : List ℕ) where
       let same : h.source ≡ p.source = one_module text h.source p.source (spelled text h.source h.read) (spelled text p.source p.read) in
       let gone : None ≡ Some p.device = sym h.unnamed ∙ ap device_named same ∙ p.named in
       absurd (cc)
-  accepted_not_refused (Names f) line p (inr h) = not_source (table_of p.device) p.source (laws p.device) p.so (Names f) line (brought p h)
-  accepted_not_refused (Sections f) line p h = not_source (table_of p.device) p.source (laws p.device) p.so (Sections f) line (brought p h)
-  accepted_not_refused (Design f) line p h = not_source (table_of p.device) p.source (laws p.device) p.so (Design f) line (brought p h)
-  accepted_not_refused (Width f) line p h = not_source (table_of p.device) p.source (laws p.device) p.so (Width f) line (brought p h)
+  accepted_not_refused (Names f) line p (inr h) = not_source (table_of p.device) p.source (table_sound p.device) p.so (Names f) line (brought p h)
+  accepted_not_refused (Sections f) line p h = not_source (table_of p.device) p.source (table_sound p.device) p.so (Sections f) line (brought p h)
+  accepted_not_refused (Design f) line p h = not_source (table_of p.device) p.source (table_sound p.device) p.so (Design f) line (brought p h)
+  accepted_not_refused (Width f) line p h = not_source (table_of p.device) p.source (table_sound p.device) p.so (Width f) line (brought p h)
 
   pub compiled_not_refused : (c : Compiled) (f : SourceFault) (line : List ℕ) → IsCompiled text c → IsSourceRefused text f line → ⊥
   compiled_not_refused c f line is =
@@ -70,4 +59,4 @@ module _ (text : List ℕ) where
       accepted_not_refused f line (record { source = is.source; read = is.read; device = is.device; named = is.named; so = is.so.0 })
 
   pub fits_not_unfit : (u : FitFault) (told : List ℕ) → IsReadFor text (λ t m. IsAcceptedFor t m × FitsAsWritten t m) → IsOfFit u → IsReadFor text (IsUnfitFor u told) → ⊥
-  fits_not_unfit u told p of_fit q = not_fit (table_of p.device) p.source (laws p.device) p.so.0 p.so.1 u told of_fit (brought p q)
+  fits_not_unfit u told p of_fit q = not_fit (table_of p.device) p.source (table_sound p.device) p.so.0 p.so.1 u told of_fit (brought p q)

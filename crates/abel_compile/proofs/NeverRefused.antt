@@ -15,7 +15,7 @@ use Rattle.compile_phases.specs.declared.fault.SourceFault.{SourceFault}
 use Rattle.compile_phases.specs.declared.fault.SourceFault.TheVariants.{Expand, Scan, Parse, Names, Sections, Design, Width}
 use Rattle.compile_phases.specs.Fits.{FitsAsWritten}
 use Rattle.abel_compile.specs.Answers.{IsNeverRefused}
-use Rattle.compile_phases.specs.Devices.{table_of}
+use Rattle.devices.specs.Devices.{table_of}
 use Rattle.compile_phases.specs.Phases.{IsOfSource, IsTextFault, IsNameFault, IsUnnamed, IsReadAlone, IsRefusedFor}
 use Rattle.compile_phases.specs.SourceRefusals.{IsAcceptedFor}
 use Rattle.compile_phases.proofs.NotRefused.{not_for}

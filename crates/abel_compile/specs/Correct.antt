@@ -23,7 +23,7 @@ use Rattle.prime_rows.specs.Covers.{HasPrimeRows}
 use Rattle.summary_line.specs.Summary.{design_cells, summary_of}
 use Rattle.abel_compile.specs.declared.compiled.Compiled.{Compiled}
 use Rattle.abel_compile.specs.Statement.{IsRightFile}
-use Rattle.compile_phases.specs.Devices.{table_of}
+use Rattle.devices.specs.Devices.{table_of}
 use Rattle.compile_phases.specs.SourceRefusals.{IsAcceptedFor}
 
 -- of a module's fuses in a device: no chain of reads returns or leads from the reset to a register; the rows of each

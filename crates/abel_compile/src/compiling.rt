@@ -10,7 +10,7 @@ ghost use Rattle.module_reader.specs.Texts.{SpellsModule};
 ghost use Rattle.source_vectors.specs.AllSections.{AreSections};
 ghost use Rattle.abel_compile.specs.Answers.{CompileAnswers, IsNeverRefused};
 ghost use Rattle.abel_compile.specs.Statement.{IsRightFile};
-ghost use Rattle.compile_phases.specs.Devices.{table_of};
+ghost use Rattle.devices.specs.Devices.{table_of};
 ghost use Rattle.compile_phases.specs.Phases.{AreNamesFor, IsNetlistFor, IsRefusedFor};
 ghost use Rattle.abel_compile.specs.Compiling.{IsCompiledOn};
 
@@ -22,8 +22,7 @@ use compile_phases::{
     CompileFault, device_named, fitted_of, module_of, names_of, netlist_of, read_names_are_plain,
     sections_of,
 };
-use gal22v10_device::Gal22V10;
-use pal16_device::{Pal16L8, Pal16R4, Pal16R6, Pal16R8};
+use devices::on_device;
 use pld_base::DeviceName;
 use pld_device::Device;
 use source_vectors::SourceSections;
@@ -69,13 +68,7 @@ fn compile_on(alloc: Global, device: DeviceName, source: &Module) -> Result<Comp
     ensures err { IfErr result (IsRefusedFor (table_of device) (view_module source.now)) }
     ensures device { IsDevice (table_of device) }
 {
-    match device {
-        DeviceName::P16L8 => compile_for::<Pal16L8>(alloc, source),
-        DeviceName::P16R4 => compile_for::<Pal16R4>(alloc, source),
-        DeviceName::P16R6 => compile_for::<Pal16R6>(alloc, source),
-        DeviceName::P16R8 => compile_for::<Pal16R8>(alloc, source),
-        DeviceName::GAL22V10 => compile_for::<Gal22V10>(alloc, source),
-    }
+    on_device!(device, compile_for(alloc, source))
 }
 
 /// The fuse file of a source for the device that it names, with its listing and its summary; or the first refusal, with the

@@ -1,4 +1,3 @@
-pub mod Devices
 pub mod Fits
 pub mod Lines
 pub mod Phases

@@ -10,7 +10,6 @@ use Rattle.std.proofs.lemmas.List.FromFn.{length-range_with_len}
 use Rattle.std.proofs.lemmas.List.Sums.{count_by-le-length}
 use Rattle.std.proofs.Math.Seq.{drop-append_seam, take-append_seam}
 use Rattle.pld_base.specs.declared.device_name.DeviceName.{DeviceName}
-use Rattle.pld_base.specs.declared.device_name.DeviceName.TheVariants.{P16L8, P16R4, P16R6, P16R8, GAL22V10}
 use Rattle.pld_base.specs.DeviceNames.{device_text}
 use Rattle.pld_device.specs.OpenedFuses.{opened_of}
 use Rattle.pld_device.specs.Table.{Table}
@@ -20,7 +19,8 @@ use Rattle.abel_tree.specs.Tree.{ModuleTree}
 use Rattle.abel_meaning.specs.Controls.{signal_on}
 use Rattle.abel_meaning.specs.Designs.{design_of}
 use Rattle.summary_line.specs.Summary.{design_cells, products_used, summary_of}
-use Rattle.compile_phases.specs.Devices.{table_of}
+use Rattle.devices.specs.DeviceLaws.{table_sound}
+use Rattle.devices.specs.Devices.{table_of}
 use Rattle.abel_commands.proofs.Seeds.{digits_are}
 
 -- ---- digits behind a front, and then a blank
@@ -75,11 +75,7 @@ module _ (t : Table) (cells : ℕ) (fuses : List Bool) (low : cells < 2 ^ 64) wh
 -- ---- a module assigns few cells
 
 few_of : (device : DeviceName) → length (table_of device).cells < 2 ^ 64
-few_of P16L8 = omega arith
-few_of P16R4 = omega arith
-few_of P16R6 = omega arith
-few_of P16R8 = omega arith
-few_of GAL22V10 = omega arith
+few_of device = let few = (table_sound device).sizes.few_cells in omega (arith, few)
 
 pub few_cells : (device : DeviceName) (m : ModuleTree) → design_cells (design_of (table_of device) m) < 2 ^ 64
 few_cells device m =

@@ -4,7 +4,7 @@ use Rattle.device_sim.specs.declared.report.Mismatch.{Mismatch}
 use Rattle.demo_source.specs.SourceText.{IsDemoSource}
 use Rattle.abel_compile.specs.declared.compiled.Compiled.{Compiled}
 use Rattle.abel_compile.specs.Correct.{IsCompiled}
-use Rattle.compile_phases.specs.Devices.{table_of}
+use Rattle.devices.specs.Devices.{table_of}
 use Rattle.demo_command.specs.DemoCommand.{DemoEnds, DemoMeans, IsFileRun, cells_of}
 use Rattle.abel_commands.specs.Ending.{Ending, ends}
 use Rattle.source_files.specs.Limit.{limit}

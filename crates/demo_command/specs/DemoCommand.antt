@@ -12,7 +12,7 @@ use Rattle.device_sim.specs.Simulated.{CanBeSimulated, IsTheOnlyList}
 use Rattle.demo_source.specs.SourceText.{IsDemoSource}
 use Rattle.abel_compile.specs.declared.compiled.Compiled.{Compiled}
 use Rattle.abel_compile.specs.Correct.{IsCompiled}
-use Rattle.compile_phases.specs.Devices.{table_of}
+use Rattle.devices.specs.Devices.{table_of}
 use Rattle.abel_commands.specs.Ending.{Ending, ends, too_long_line}
 use Rattle.source_files.specs.Limit.{limit, IsTooLong}
 use Rattle.abel_commands.specs.Simulating.{RunHas}

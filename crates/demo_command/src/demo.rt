@@ -5,7 +5,7 @@ ghost use Rattle.device_sim.specs.Simulated.{IsSimulated, IsTheOnlyList};
 ghost use Rattle.jedec_file.specs.FuseFile.{file_of};
 ghost use Rattle.jedec_reader.specs.Contents.{contents};
 ghost use Rattle.summary_line.specs.Summary.{summary_of};
-ghost use Rattle.compile_phases.specs.Devices.{table_of};
+ghost use Rattle.devices.specs.Devices.{table_of};
 ghost use Rattle.demo_command.specs.DemoCommand.{DemoEnds, DemoEndsWithin, FileEnds};
 ghost use Rattle.source_files.specs.Limit.{limit};
 ghost use Rattle.abel_commands.specs.View.{ending_seen};
@@ -16,10 +16,9 @@ use abel_commands::refused_ending;
 use abel_compile::compile;
 use demo_source::demo_text;
 use device_sim::{Report, simulate};
-use gal22v10_device::Gal22V10;
+use devices::on_device;
 use jedec_file::fuse_sum;
 use jedec_reader::{FuseFile, read};
-use pal16_device::{Pal16L8, Pal16R4, Pal16R6, Pal16R8};
 use pld_base::{DeviceName, OutOfMemory};
 use pld_device::Device;
 use source_files::LIMIT;
@@ -86,13 +85,7 @@ fn file_ending<'a>(
     ensures { (cells : ℕ) (fuses : List Bool) → cells < 2 ^ 64 → summary.now ≡ summary_of (table_of device) cells fuses
         → IfOk result (λ e. FileEnds seed cells (table_of device) bytes.now (ending_seen e)) }
 {
-    match device {
-        DeviceName::P16L8 => ending_for::<Pal16L8>(alloc, seed, bytes, summary),
-        DeviceName::P16R4 => ending_for::<Pal16R4>(alloc, seed, bytes, summary),
-        DeviceName::P16R6 => ending_for::<Pal16R6>(alloc, seed, bytes, summary),
-        DeviceName::P16R8 => ending_for::<Pal16R8>(alloc, seed, bytes, summary),
-        DeviceName::GAL22V10 => ending_for::<Gal22V10>(alloc, seed, bytes, summary),
-    }
+    on_device!(device, ending_for(alloc, seed, bytes, summary))
 }
 
 /// How a demo ends with its source: it is compiled, and the fuse file is run.

@@ -7,21 +7,14 @@ use crate::sources::{framed, marked, module_of};
 use abel_tree::{Declared, Meaning, Module, Names};
 use declared_names::declare;
 use decls::{NameFault, device_of};
-use gal22v10_device::Gal22V10;
-use pal16_device::{Pal16L8, Pal16R4, Pal16R6, Pal16R8};
-use pld_base::{DeviceName, NameText, Place};
+use devices::on_device;
+use pld_base::{NameText, Place};
 use std::alloc::Global;
 use test_rows::{Found, halves, unescaped};
 
 /// The names for the device that a module names.
 fn declared(alloc: Global, module: &Module) -> Result<Names, NameFault> {
-    match device_of(module)? {
-        DeviceName::P16L8 => declare::<Pal16L8>(alloc, module),
-        DeviceName::P16R4 => declare::<Pal16R4>(alloc, module),
-        DeviceName::P16R6 => declare::<Pal16R6>(alloc, module),
-        DeviceName::P16R8 => declare::<Pal16R8>(alloc, module),
-        DeviceName::GAL22V10 => declare::<Gal22V10>(alloc, module),
-    }
+    on_device!(device_of(module)?, declare(alloc, module))
 }
 
 /// Puts a refusal with its name and its place.

@@ -1,7 +1,7 @@
 -- A compiled source is run, and refusals are told.
 use Rattle.std.proofs.Common.{ℕ, List, ◌∙◌, subst, inl, inr}
 use Rattle.std.proofs.lemmas.Result.{IfOk-weaker}
-use Rattle.compile_phases.specs.Devices.{table_of}
+use Rattle.devices.specs.Devices.{table_of}
 use Rattle.demo_command.specs.DemoCommand.{FileEnds, cells_of}
 use Rattle.abel_commands.specs.View.{ending_seen}
 use Rattle.demo_command.proofs.DemoCells.{few_cells}
