@@ -1,22 +1,20 @@
 -- What the endings of `check` mean.
-use Rattle.std.proofs.Common.{◌≡◌, ℕ, List, Ok, Err, refl, sym, ◌∙◌, subst, inl, inr, arith}
+use Rattle.std.proofs.Common.{ℕ, List, refl, sym, subst, inl, inr, arith}
 use Rattle.pld_device.specs.Table.{Table}
-use Rattle.abel_commands.specs.CheckCommand.{CheckEnds, CheckMeans, IsBadFile, IsGoodFile}
+use Rattle.abel_commands.specs.CheckCommand.{CheckEnds, CheckMeans}
 use Rattle.abel_commands.specs.Checking.{IsChecked}
 use Rattle.abel_commands.specs.Ending.{Ending, ends}
+use Rattle.abel_commands.specs.FuseFiles.{IsBadFile}
+use Rattle.abel_commands.proofs.GoodFiles.{good_not_bad}
 
 module _ (t : Table) (bytes : List ℕ) where
-  good_not_bad : IsGoodFile t bytes → IsBadFile t bytes → ⊥
-  good_not_bad good (inl long) = let within = good.within in omega (arith, within, long)
-  good_not_bad good (inr (fault, refused)) = let both : ◌≡◌ (Ok good.file) (Err fault) = sym good.read ∙ refused in absurd cc
-
   good : (report : List ℕ) → IsChecked t bytes report → CheckMeans t bytes (ends 0 report)
   good report c = record {
     statuses = inl refl;
     checked = λ n. c;
     checked_where = λ g. refl;
     bad = λ n. absurd (omega (arith, n));
-    bad_where = λ b. absurd (good_not_bad (record { within = c.within; file = c.file; read = c.read }) b);
+    bad_where = λ b. absurd (good_not_bad t bytes (c.file, c.of) b);
     unwritten = refl;
   }
 
@@ -24,7 +22,7 @@ module _ (t : Table) (bytes : List ℕ) where
   bad report b = record {
     statuses = inr refl;
     checked = λ n. absurd (omega (arith, n));
-    checked_where = λ g. absurd (good_not_bad g b);
+    checked_where = λ g. absurd (good_not_bad t bytes g b);
     bad = λ n. b;
     bad_where = λ also. refl;
     unwritten = refl;
@@ -32,5 +30,4 @@ module _ (t : Table) (bytes : List ℕ) where
 
   pub check_means : (e : Ending) → CheckEnds t bytes e → CheckMeans t bytes e
   check_means e (inl (report, c, is)) = subst (λ (x : Ending). CheckMeans t bytes x) (sym is) (good report c)
-  check_means e (inr (inl (long, is))) = subst (λ (x : Ending). CheckMeans t bytes x) (sym is) (bad _ (inl long))
-  check_means e (inr (inr (report, r, is))) = subst (λ (x : Ending). CheckMeans t bytes x) (sym is) (bad report (inr (r.refusal, r.read)))
+  check_means e (inr (report, r, is)) = subst (λ (x : Ending). CheckMeans t bytes x) (sym is) (bad report (r.0, r.1))

@@ -3,7 +3,7 @@ use Rattle.std.proofs.Common.{◌≡◌, ℕ, Bool, true, false, cond, List, [],
 use Rattle.std.specs.Prelude.{codes, option_map}
 use Rattle.std.specs.Str.{bytes_eq}
 use Rattle.pld_base.specs.declared.device_name.DeviceName.{DeviceName}
-use Rattle.abel_commands.specs.Devices.{device_named}
+use Rattle.pld_base.specs.DeviceNames.{named_device}
 use Rattle.abel_commands.specs.Words.{Command, Task, Simulate, Check, Demo, command_of, on_file, on_nothing, seed_of, source_count}
 
 abbrev IsCounted : Option Command → Type 0
@@ -31,8 +31,8 @@ counted (first ∷ second ∷ []) =
     (counted_if (bytes_eq first (codes "demo")) _ _ (counted_seed (seed_of second)) tt)
 counted (first ∷ second ∷ third ∷ []) =
     counted_if (bytes_eq first (codes "compile")) _ _ refl
-    (counted_if (bytes_eq first (codes "simulate")) _ _ (counted_device Simulate (λ d. refl) third (device_named second))
-    (counted_if (bytes_eq first (codes "check")) _ _ (counted_device Check (λ d. refl) third (device_named second)) tt))
+    (counted_if (bytes_eq first (codes "simulate")) _ _ (counted_device Simulate (λ d. refl) third (named_device second))
+    (counted_if (bytes_eq first (codes "check")) _ _ (counted_device Check (λ d. refl) third (named_device second)) tt))
 counted (first ∷ second ∷ third ∷ fourth ∷ more) = tt
 
 pub inputs_counted : (words : List (List ℕ)) (c : Command) → command_of words ≡ Some c → length c.inputs ≡ source_count c.task

@@ -2,6 +2,7 @@ pub mod CheckMeaning
 pub mod Commands
 pub mod FewVectors
 pub mod FileRefusals
+pub mod GoodFiles
 pub mod Seeds
 pub mod SimulateMeaning
 pub mod SimulatedFiles

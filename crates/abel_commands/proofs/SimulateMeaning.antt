@@ -1,5 +1,5 @@
 -- What the endings of `simulate` mean.
-use Rattle.std.proofs.Common.{◌≡◌, ◌≢◌, ℕ, true, false, None, List, [], length, Ok, Err, sym, ◌∙◌, subst, ap, refl, inl, inr, arith}
+use Rattle.std.proofs.Common.{◌≡◌, ◌≢◌, ℕ, true, false, None, List, [], length, Ok, sym, ◌∙◌, subst, ap, refl, inl, inr, arith}
 use Rattle.std.specs.Prelude.{Option, is_some}
 use Rattle.jedec_file.specs.FuseFile.{FuseFile, file_of}
 use Rattle.pld_device.specs.Table.{Table}
@@ -12,15 +12,13 @@ use Rattle.device_sim.specs.declared.report.Mismatch.{Mismatch}
 use Rattle.device_sim.specs.Simulated.{IsSimFault, first_unsupported}
 use Rattle.abel_commands.specs.Ending.{Ending, ends}
 use Rattle.abel_commands.specs.SimulateCommand.{SimulateEnds, SimulateMeans, IsBadRun}
+use Rattle.abel_commands.proofs.GoodFiles.{good_not_bad, same_file}
 use Rattle.abel_commands.specs.Simulating.{Agrees, Disagrees, CanRun, RunHas, HasNoRun, IsReportedRun}
 
 module _ (t : Table) (bytes : List ℕ) where
-  same_file : (f g : FuseFile) → file_of t bytes ≡ Ok f → file_of t bytes ≡ Ok g → f ≡ g
-  same_file f g is also = let both : ◌≡◌ (Ok f) (Ok g) = sym is ∙ also in cc
-
   -- what holds of the file that the bytes are read as holds of it, however it is come by
   of_file : (Holds : FuseFile → Type 0) (f g : FuseFile) → file_of t bytes ≡ Ok f → file_of t bytes ≡ Ok g → Holds f → Holds g
-  of_file Holds f g is also = subst Holds (same_file f g is also)
+  of_file Holds f g is also = subst Holds (same_file t bytes f g is also)
 
   -- ---- refused, or run
 
@@ -34,18 +32,17 @@ module _ (t : Table) (bytes : List ℕ) where
   none_or_some found none some = let both : ◌≡◌ false true = sym (ap is_some none) ∙ some in absurd cc
 
   can_or_bad : CanRun t bytes → IsBadRun t bytes → ⊥
-  can_or_bad it (inl (inl long)) = let within = it.within in omega (arith, within, long)
-  can_or_bad it (inl (inr (fault, refused))) = let both : ◌≡◌ (Ok it.file) (Err fault) = sym it.read ∙ refused in absurd cc
+  can_or_bad it (inl bad) = good_not_bad t bytes (it.file, it.of) bad
   can_or_bad it (inr (file, read, inl some)) =
-      none_or_some (first_unsupported 1 file.vectors) (of_file (λ f. first_unsupported 1 f.vectors ≡ None) it.file file it.read read it.can.supported) some
+      none_or_some (first_unsupported 1 file.vectors) (of_file (λ f. first_unsupported 1 f.vectors ≡ None) it.file file it.of.read read it.can.supported) some
   can_or_bad it (inr (file, read, inr (inl (chain, loop)))) =
-      it.can.no_loop chain (of_file (λ f. IsLoop (length t.cells) (cell_reads t f.fuses) chain) file it.file read it.read loop)
+      it.can.no_loop chain (of_file (λ f. IsLoop (length t.cells) (cell_reads t f.fuses) chain) file it.file read it.of.read loop)
   can_or_bad it (inr (file, read, inr (inr (path, leads)))) =
-      it.can.no_path path (of_file (λ f. IsResetPath t f.fuses path) file it.file read it.read leads)
+      it.can.no_path path (of_file (λ f. IsResetPath t f.fuses path) file it.file read it.of.read leads)
 
   -- the mismatches of a run are those of its report
   same_list : (list other : List Mismatch) (report : List ℕ) → IsReportedRun t bytes list report → (it : CanRun t bytes) → RunHas t it.file other → other ≡ list
-  same_list list other report run it also = run.only other (of_file (λ f. RunHas t f other) it.file run.of.file it.read run.of.read also)
+  same_list list other report run it also = run.only other (of_file (λ f. RunHas t f other) it.file run.of.file it.of.read run.of.of.read also)
 
   agreed : (report : List ℕ) → Agrees t bytes report → SimulateMeans t bytes (ends 0 report)
   agreed report run = record {
@@ -89,6 +86,5 @@ module _ (t : Table) (bytes : List ℕ) where
   pub simulate_means : (e : Ending) → SimulateEnds t bytes e → SimulateMeans t bytes e
   simulate_means e (inl (report, run, is)) = subst (λ (x : Ending). SimulateMeans t bytes x) (sym is) (agreed report run)
   simulate_means e (inr (inl (report, run, is))) = subst (λ (x : Ending). SimulateMeans t bytes x) (sym is) (disagreed report run)
-  simulate_means e (inr (inr (inl (long, is)))) = subst (λ (x : Ending). SimulateMeans t bytes x) (sym is) (bad_run _ (inl (inl long)))
-  simulate_means e (inr (inr (inr (report, inl r, is)))) = subst (λ (x : Ending). SimulateMeans t bytes x) (sym is) (bad_run report (inl (inr (r.refusal, r.read))))
-  simulate_means e (inr (inr (inr (report, inr r, is)))) = subst (λ (x : Ending). SimulateMeans t bytes x) (sym is) (bad_run report (inr (no_run_by r.fault r.file r.read r.found r.refuses)))
+  simulate_means e (inr (inr (report, inl r, is))) = subst (λ (x : Ending). SimulateMeans t bytes x) (sym is) (bad_run report (inl (r.0, r.1)))
+  simulate_means e (inr (inr (report, inr r, is))) = subst (λ (x : Ending). SimulateMeans t bytes x) (sym is) (bad_run report (inr (no_run_by r.fault r.file r.of.read r.found r.refuses)))

@@ -1,21 +1,21 @@
 -- What is told of a file that was simulated, or wasn't.
-use Rattle.std.proofs.Common.{◌≡◌, ◌≢◌, ℕ, ◌≤◌, ◌==◌, Bool, true, false, List, [], Ok, sym, ◌∙◌, ap, length}
+use Rattle.std.proofs.Common.{◌≡◌, ◌≢◌, ℕ, ◌==◌, Bool, true, false, List, [], sym, ◌∙◌, ap, length}
 use Rattle.std.proofs.lemmas.Bool.{eqb-true, true≢false}
 use Rattle.std.proofs.lemmas.List.{nil_from_length}
-use Rattle.jedec_file.specs.FuseFile.{FuseFile, file_of}
+use Rattle.jedec_file.specs.FuseFile.{FuseFile}
 use Rattle.pld_device.specs.Table.{Table}
 use Rattle.device_sim.specs.declared.report.Mismatch.{Mismatch}
 use Rattle.device_sim.specs.declared.report.Report.{Report}
 use Rattle.device_sim.specs.Simulated.{IsSimulated, IsTheOnlyList}
-use Rattle.source_files.specs.Limit.{limit}
+use Rattle.abel_commands.specs.FuseFiles.{IsFileOf}
 use Rattle.abel_commands.specs.Simulating.{IsReportedRun, run_lines}
 
 pub told_run : (t : Table) (bytes : List ℕ) (file : FuseFile) (report : Report) (lines : List ℕ)
-    → length bytes ≤ limit → file_of t bytes ≡ Ok file → IsSimulated t file report → IsTheOnlyList t file report.list
+    → IsFileOf t bytes file → IsSimulated t file report → IsTheOnlyList t file report.list
     → lines ≡ run_lines t report.vectors report.list → IsReportedRun t bytes report.list lines
-told_run t bytes file report lines within read it only told =
+told_run t bytes file report lines is it only told =
     record {
-      of = record { within = within; file = file; read = read; can = it.can };
+      of = record { file = file; of = is; can = it.can };
       run = it.run;
       only = only;
       told = told ∙ ap (λ (n : ℕ). run_lines t n report.list) it.vectors;

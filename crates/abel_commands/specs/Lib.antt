@@ -1,7 +1,8 @@
 pub mod CheckCommand
 pub mod Checking
-pub mod Devices
 pub mod Ending
+pub mod FaultText
+pub mod FuseFiles
 pub mod SimulateCommand
 pub mod Simulating
 pub mod SourceCommands

@@ -1,13 +1,11 @@
 -- `simulate DEVICE IN`: how it ends, and what that means (this project's rule).
 use Rattle.std.specs.Prelude.{◌≡◌, ℕ, ◌⊎◌, List, None}
 use Rattle.pld_device.specs.Table.{Table}
-use Rattle.abel_commands.specs.CheckCommand.{IsBadFile}
-use Rattle.abel_commands.specs.Checking.{IsRefusedFile}
-use Rattle.abel_commands.specs.Ending.{Ending, ends, too_long_line}
-use Rattle.source_files.specs.Limit.{IsTooLong}
+use Rattle.abel_commands.specs.Ending.{Ending, ends}
+use Rattle.abel_commands.specs.FuseFiles.{IsBadFile, IsRefusedFile}
 use Rattle.abel_commands.specs.Simulating.{Agrees, Disagrees, CanRun, HasMismatch, HasNoMismatch, HasNoRun, IsRefusedRun}
 
--- the bytes are too long, no fuse file of the device, or one that isn't simulated
+-- the bytes are no fuse file of the device, or one that isn't simulated
 abbrev pub IsBadRun : Table → List ℕ → Type 0
 IsBadRun t bytes = IsBadFile t bytes ⊎ HasNoRun t bytes
 
@@ -16,8 +14,7 @@ abbrev pub SimulateEnds : Table → (bytes : List ℕ) → Ending → Type 0
 SimulateEnds t bytes e =
     ((report : List ℕ) × Agrees t bytes report × (e ≡ ends 0 report))
     ⊎ (((report : List ℕ) × Disagrees t bytes report × (e ≡ ends 5 report))
-    ⊎ ((IsTooLong bytes × (e ≡ ends 4 too_long_line))
-    ⊎ ((report : List ℕ) × (IsRefusedFile t bytes report ⊎ IsRefusedRun t bytes report) × (e ≡ ends 4 report))))
+    ⊎ ((report : List ℕ) × (IsRefusedFile t bytes report ⊎ IsRefusedRun t bytes report) × (e ≡ ends 4 report)))
 
 -- what such an ending means
 pub record SimulateMeans (t : Table) (bytes : List ℕ) (e : Ending) : Type 0 where
@@ -31,7 +28,7 @@ pub record SimulateMeans (t : Table) (bytes : List ℕ) (e : Ending) : Type 0 wh
   pub disagrees_where : HasMismatch t bytes → e.status ≡ 5
   -- what can be run is
   pub runs_where : CanRun t bytes → (e.status ≡ 0) ⊎ (e.status ≡ 5)
-  -- 4 comes exactly for bytes that are too long, no fuse file of the device, or not simulated
+  -- 4 comes exactly for bytes that are no fuse file of the device, or are not simulated
   pub bad : e.status ≡ 4 → IsBadRun t bytes
   pub bad_where : IsBadRun t bytes → e.status ≡ 4
   -- nothing is written

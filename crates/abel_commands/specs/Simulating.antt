@@ -1,6 +1,6 @@
 -- What simulating a fuse file tells: where its vectors' run disagrees with them, or why there is no run (this
 -- project's rule).
-use Rattle.std.specs.Prelude.{◌≡◌, ◌≢◌, ℕ, ◌≤◌, ◌⊎◌, IsSome, List, [], ◌∷◌, ◌++◌, length, flat_map, codes, Ok}
+use Rattle.std.specs.Prelude.{◌≡◌, ◌≢◌, ℕ, ◌⊎◌, IsSome, List, [], ◌∷◌, ◌++◌, length, flat_map, codes, Ok}
 use Rattle.std.specs.Fmt.{decimal}
 use Rattle.pld_base.specs.DeviceNames.{device_text}
 use Rattle.jedec_file.specs.FuseFile.{FuseFile, file_of}
@@ -14,7 +14,7 @@ use Rattle.device_logic.specs.ResetPaths.{IsResetPath}
 use Rattle.device_sim.specs.declared.report.Mismatch.{Mismatch}
 use Rattle.device_sim.specs.Simulated.{CanBeSimulated, IsSimFault, IsTheOnlyList, first_unsupported}
 use Rattle.device_sim.specs.VectorRun.{IsVectorRun}
-use Rattle.source_files.specs.Limit.{limit}
+use Rattle.abel_commands.specs.FuseFiles.{IsFileOf}
 
 -- ---- texts
 
@@ -55,11 +55,10 @@ sim_fault_line fault = codes "error " ++ sim_fault_text fault ++ codes "\n"
 
 -- ---- runs
 
--- the bytes are within the limit, and a fuse file of the device that can be simulated
+-- the bytes are a fuse file of the device that can be simulated
 pub record CanRun (t : Table) (bytes : List ℕ) : Type 0 where
-  pub within : length bytes ≤ limit
   pub file : FuseFile
-  pub read : file_of t bytes ≡ Ok file
+  pub of : IsFileOf t bytes file
   pub can : CanBeSimulated t file
 
 -- the run of the file's vectors on the device with its fuses has these mismatches
@@ -96,16 +95,15 @@ abbrev pub IsNotRun : Table → FuseFile → Type 0
 IsNotRun t file = IsSome (first_unsupported 1 file.vectors)
     ⊎ (HasLoop (length t.cells) (cell_reads t file.fuses) ⊎ ((path : List ℕ) × IsResetPath t file.fuses path))
 
--- the bytes are a fuse file of the device, for which that holds
+-- the bytes spell a fuse file of the device, in whatever mode, for which that holds
 abbrev pub HasNoRun : Table → (bytes : List ℕ) → Type 0
 HasNoRun t bytes = (file : FuseFile) × (file_of t bytes ≡ Ok file) × IsNotRun t file
 
 -- the bytes are a fuse file of the device that isn't simulated, and this is the line on why; want of memory is no
 -- reason
 pub record IsRefusedRun (t : Table) (bytes report : List ℕ) : Type 0 where
-  pub within : length bytes ≤ limit
   pub file : FuseFile
-  pub read : file_of t bytes ≡ Ok file
+  pub of : IsFileOf t bytes file
   pub fault : SimFault
   pub found : IsSimFault t file fault
   pub refuses : fault ≢ refusal.OutOfMemory

@@ -5,7 +5,7 @@ use Rattle.std.specs.List.{list_all}
 use Rattle.std.specs.Str.{bytes_eq}
 use Rattle.std.specs.Str.Parse.{digits_value}
 use Rattle.pld_base.specs.declared.device_name.DeviceName.{DeviceName}
-use Rattle.abel_commands.specs.Devices.{device_named}
+use Rattle.pld_base.specs.DeviceNames.{named_device}
 
 -- what is done with the sources of a command
 pub data Task : Type 0 where
@@ -34,7 +34,7 @@ on_file task input = record { task = task; inputs = input ∷ [] }
 
 -- the command of a task on the device of this name, where there is one
 abbrev pub on_device : (DeviceName → Task) → (name input : List ℕ) → Option Command
-on_device task name input = option_map (λ device. on_file (task device) input) (device_named name)
+on_device task name input = option_map (λ device. on_file (task device) input) (named_device name)
 
 -- the command of a task without sources
 abbrev pub on_nothing : Task → Command

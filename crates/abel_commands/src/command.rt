@@ -5,7 +5,6 @@ ghost use Rattle.abel_commands.specs.View.{command_seen, task_seen};
 ghost use Rattle.abel_commands.specs.Words.{command_of, seed_of, source_count};
 ghost use Rattle.source_files.specs.Sources.{texts};
 
-use crate::devices::device_named;
 use crate::digits::are_few_digits;
 use pld_base::DeviceName;
 
@@ -82,13 +81,13 @@ pub fn command_of(words: &[String]) -> Option<Command<'_>>
             inputs: &words[1..2],
         })
     } else if first.as_str() == "simulate" {
-        let device = device_named(second.as_str())?;
+        let device = DeviceName::named(second.as_bytes())?;
         Some(Command {
             task: Task::Simulate { device },
             inputs: &words[2..],
         })
     } else if first.as_str() == "check" {
-        let device = device_named(second.as_str())?;
+        let device = DeviceName::named(second.as_bytes())?;
         Some(Command {
             task: Task::Check { device },
             inputs: &words[2..],

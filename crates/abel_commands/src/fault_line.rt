@@ -1,9 +1,10 @@
-//! The line of the report on bytes that are no fuse file.
+//! The lines of the report on bytes that are no fuse file of a device.
 
 ghost use Rattle.std.specs.Prelude.{◌≡◌, ◌++◌, IsErr, IfOk, OnOk, get_or};
 ghost use Rattle.jedec_file.specs.declared.jedec_fault.JedecFault.TheVariants as refusal;
 ghost use Rattle.jedec_file.specs.FileText.{four_hex};
-ghost use Rattle.abel_commands.specs.Checking.{fault_line, fault_text, two_sums};
+ghost use Rattle.abel_commands.specs.FaultText.{fault_line, fault_text, two_sums};
+ghost use Rattle.abel_commands.specs.FuseFiles.{wrong_mode_line};
 
 use crate::numbered::put_numbered;
 use jedec_file::JedecFault;
@@ -86,6 +87,16 @@ pub fn fault_line(alloc: Global, bytes: &[u8], fault: &JedecFault) -> Result<Vec
 {
     let mut text = Vec::from_slice(alloc, b"error ")?;
     put_fault(alloc, &mut text, bytes, fault)?;
+    text.push(b'\n')?;
+    Ok(text)
+}
+
+/// The line on a fuse that has another level than the one that the device fixes.
+pub fn wrong_mode_line(alloc: Global, fuse: u16) -> Result<Vec<u8>, OutOfMemory>
+    ensures { IfOk result (λ text. text.items ≡ wrong_mode_line fuse) }
+{
+    let mut text = Vec::new(alloc);
+    put_numbered(alloc, &mut text, b"error WrongMode ", usize::from(fuse))?;
     text.push(b'\n')?;
     Ok(text)
 }

@@ -4,7 +4,6 @@
 mod check_command;
 mod checked_line;
 mod command;
-mod devices;
 mod digits;
 pub mod ending;
 mod fault_line;
@@ -13,9 +12,11 @@ mod run_lines;
 mod sim_fault_line;
 mod simulate_command;
 mod source_commands;
+mod taken;
 
 pub use check_command::check_ending;
 pub use command::{Command, Task, command_of};
 pub use numbered::put_numbered;
 pub use simulate_command::simulate_ending;
 pub use source_commands::{compile_ending, list_ending, refused_ending};
+pub use taken::{Taken, take_file};

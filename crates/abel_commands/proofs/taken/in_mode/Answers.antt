@@ -1,0 +1,17 @@
+-- The first fuse with another level is told.
+use Rattle.std.proofs.Common.{sym, ◌∙◌}
+use Rattle.jedec_reader.specs.Contents.{contents}
+use Rattle.abel_commands.specs.FuseFiles.{WrongMode}
+use Rattle.abel_commands.proofs.taken.in_mode.Goals as goal
+
+pub returns-in_ok-wrong_mode_line-in-Some : goal.returns-in_ok-wrong_mode_line-in-Some
+returns-in_ok-wrong_mode_line-in-Some g c = (
+  WrongMode c.in-Some.fuse,
+  record {
+    within = c.requires.within;
+    file = contents g.D.Device.table c.args.file;
+    read = c.requires.read;
+    first = sym c.wrong_fuse.ensures.first ∙ c.in-Some.is;
+  },
+  c.in_ok-wrong_mode_line-in-Some.ensures,
+)

@@ -1,0 +1,44 @@
+//! What bytes come to as a fuse file of a device: where each command on fuse files begins.
+
+ghost use Rattle.std.specs.Prelude.{◌≡◌, ◌≤◌, IfOk, Ok, length};
+ghost use Rattle.abel_commands.specs.FuseFiles.{IsTaken};
+ghost use Rattle.jedec_file.specs.FuseFile.{file_of};
+ghost use Rattle.jedec_reader.specs.Contents.{contents};
+ghost use Rattle.source_files.specs.Limit.{limit};
+
+use crate::fault_line::{fault_line, wrong_mode_line};
+use jedec_reader::{FuseFile, read};
+use pld_base::OutOfMemory;
+use pld_device::{Device, wrong_fuse};
+use std::alloc::Global;
+
+/// What bytes come to: the file, or the line on why they are none.
+#[derive(Drop)]
+pub enum Taken {
+    File(FuseFile),
+    Refused(Vec<u8>),
+}
+
+/// A file that was read from bytes, unless a fuse has another level than the one that the device fixes.
+fn in_mode<D: Device>(alloc: Global, bytes: &[u8], file: FuseFile) -> Result<Taken, OutOfMemory>
+    requires within { length bytes.now ≤ limit }
+    requires read { file_of D.table bytes.now ≡ Ok (contents D.table file) }
+    requires fuses { length file.fuses ≡ D.table.fuses }
+    ensures { IfOk result (IsTaken D.table bytes.now) }
+{
+    match wrong_fuse::<D>(&file.fuses) {
+        None => Ok(Taken::File(file)),
+        Some(fuse) => Ok(Taken::Refused(wrong_mode_line(alloc, fuse)?)),
+    }
+}
+
+/// The fuse file that bytes within the limit are, or the line on why they are none.
+pub fn take_file<D: Device>(alloc: Global, bytes: &[u8]) -> Result<Taken, OutOfMemory>
+    requires { length bytes.now ≤ limit }
+    ensures { IfOk result (IsTaken D.table bytes.now) }
+{
+    match read::<D>(alloc, bytes) {
+        Ok(file) => in_mode::<D>(alloc, bytes, file),
+        Err(fault) => Ok(Taken::Refused(fault_line(alloc, bytes, &fault)?)),
+    }
+}
