@@ -1,5 +1,5 @@
--- A small device of no maker with what no device of a maker has: a complement before the register, rows with switches
--- beside rows without, and fixed fuses of both levels (this project's example).
+-- A small device of no maker that mixes what devices have: a complement before the register, rows with switches beside rows
+-- without, and fixed fuses of both levels (this project's example).
 use Rattle.std.specs.Prelude.{ℕ, Bool, true, false, Some, List, [], ◌∷◌}
 use Rattle.std.proofs.Common.{refl}
 use Rattle.pld_base.specs.declared.device_name.DeviceName.TheVariants.{GAL22V10}

@@ -1,4 +1,4 @@
-//! A small device of no maker with what no device of a maker has.
+//! A small device of no maker that mixes what devices have: rows with and without switches, fixed fuses of both levels.
 
 use pld_base::DeviceName;
 use pld_device::{Carry, Cell, Chip, Enable, Flip, FuseBit, Kinds, Part};
