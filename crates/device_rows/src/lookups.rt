@@ -3,8 +3,8 @@
 use crate::asked::{Ask, ask_rows};
 use crate::cells::{put_cell, put_fixed, put_low_pin, put_pair, put_pair_pin, put_switch};
 use crate::numbers::Numbers;
-use gal22v10_device::Gal22V10;
-use pal16_device::{Pal16L8, Pal16R4, Pal16R6, Pal16R8};
+use devices::on_device;
+use pld_base::DeviceName;
 use pld_device::{Device, Sample};
 use std::alloc::Global;
 use std::marker::PhantomData;
@@ -102,18 +102,10 @@ pub fn ask_devices(alloc: Global, section: &Section<'_>, report: &mut Report<'_>
         return false;
     };
     if device == "sample device" {
-        ask_device::<Sample>(alloc, name, section, report)
-    } else if device == "PAL16L8" {
-        ask_device::<Pal16L8>(alloc, name, section, report)
-    } else if device == "PAL16R4" {
-        ask_device::<Pal16R4>(alloc, name, section, report)
-    } else if device == "PAL16R6" {
-        ask_device::<Pal16R6>(alloc, name, section, report)
-    } else if device == "PAL16R8" {
-        ask_device::<Pal16R8>(alloc, name, section, report)
-    } else if device == "GAL22V10" {
-        ask_device::<Gal22V10>(alloc, name, section, report)
-    } else {
-        false
+        return ask_device::<Sample>(alloc, name, section, report);
+    }
+    match DeviceName::named(device.as_bytes()) {
+        Some(device) => on_device!(device, ask_device(alloc, name, section, report)),
+        None => false,
     }
 }

@@ -25,9 +25,9 @@ impl Ask for OfPin {
 
 /// Asks the PAL16L8 what a section's name says of its pins.
 pub fn ask_pins(alloc: Global, section: &Section<'_>, report: &mut Report<'_>) -> bool {
-    let mut asked = if section.name == "cells on the pins of the PAL16L8" {
+    let mut asked = if section.name == "cells on the pins of the P16L8" {
         OfPin::Cell
-    } else if section.name == "pairs of the pins of the PAL16L8" {
+    } else if section.name == "pairs of the pins of the P16L8" {
         OfPin::Pair
     } else {
         return false;
