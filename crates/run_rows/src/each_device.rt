@@ -31,10 +31,20 @@ fn put_row(text: &mut Found, columns: usize, row: &str) {
     text.text("*")
 }
 
+/// The fuses and the columns of the device that a command names.
+fn size_of(command: &str) -> (&'static str, usize) {
+    if command.ends_with("22V10") || command.ends_with("22v10") {
+        ("5892", 44)
+    } else if command.split_once("16V8").is_some() {
+        ("2194", 32)
+    } else {
+        ("2048", 32)
+    }
+}
+
 /// The fuse file of a command, with its rows and what stands behind them.
 fn file_of(alloc: Global, command: &str, rows: &str, rest: &str) -> Found {
-    let is_gal = command.ends_with("22V10") || command.ends_with("22v10");
-    let (fuses, columns) = if is_gal { ("5892", 44) } else { ("2048", 32) };
+    let (fuses, columns) = size_of(command);
     let mut text = Found::new(alloc);
     text.text("\x02*QF");
     text.text(fuses);
