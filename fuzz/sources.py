@@ -10,6 +10,9 @@ PINS = {
 }
 REGISTERS = {"P16L8": [], "P16R4": [14, 15, 16, 17], "P16R6": [13, 14, 15, 16, 17, 18],
              "P16R8": PINS["P16R8"][1], "GAL22V10": PINS["GAL22V10"][1]}
+# The modes of the GAL16V8 have the pins and the registers of a PAL16 each.
+for pal, gal in (("P16L8", "GAL16V8C"), ("P16R4", "GAL16V8R4"), ("P16R6", "GAL16V8R6"), ("P16R8", "GAL16V8R8")):
+    PINS[gal], REGISTERS[gal] = PINS[pal], REGISTERS[pal]
 OPERATORS = ["&", "&", "#", "#", "$", "!$", "+", "-", "==", "!=", "<", "<=", ">", ">="]
 SCRAPS = ["(", ")", "[", "]", "{", "}", ";", "=", ":=", "?=", "..", ".D", ".OE", "'", '"', "//", "@IF", "@REPEAT 3",
           "MACRO", "?a", "^h", "^b1", ".X.", "65536", "0", "end", "equations", "truth_table", "state_diagram",
@@ -35,7 +38,7 @@ class Source:
 
     def is_read(self, name):
         """Whether the name may be read where no loop is wanted: a register, or one that is assigned before."""
-        if self.device == "P16L8" and name in ("o12", "o19"):
+        if self.device in ("P16L8", "GAL16V8C") and name in ("o12", "o19"):
             return False
         return self.is_register(name) or name in self.before
 
