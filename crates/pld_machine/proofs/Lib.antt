@@ -1,4 +1,9 @@
 pub mod Compared
+pub mod ExchangedLogics
+pub mod ExchangedLookups
+pub mod ExchangedPoints
+pub mod ExchangedRests
+pub mod ExchangedRuns
 pub mod Fills
 pub mod OneRest
 pub mod OneRun

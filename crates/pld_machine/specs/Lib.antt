@@ -1,4 +1,6 @@
 pub mod Comparison
+pub mod Exchanged
+pub mod ExchangeLaws
 pub mod Lookups
 pub mod Order
 pub mod Refines

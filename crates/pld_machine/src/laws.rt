@@ -2,6 +2,8 @@
 
 ghost use Rattle.pld_base.specs.Logic.{Logic};
 ghost use Rattle.pld_machine.specs.Comparison.{DoesTheSame, RefinesValued, NodeValues, HasNoNodes, SameValues};
+ghost use Rattle.pld_machine.specs.ExchangeLaws.{ExchangedLookups, ExchangedRefines, ExchangedValues};
+ghost use Rattle.pld_machine.specs.ExchangeLaws.{ExchangedRests, ExchangedRuns, ExchangedSteps};
 ghost use Rattle.pld_machine.specs.Lookups.{Lookups, logic_of};
 ghost use Rattle.pld_machine.specs.Order.{IsOrdered};
 ghost use Rattle.pld_machine.specs.Refines.{Refines, HasRestsOf, HasStepsOf, HasRunsOf};
@@ -32,4 +34,20 @@ pub fn valued_run()
         → DoesTheSame d s values → HasNoNodes d → HasNoNodes s → HasRunsOf s d }
     ensures other { (d s r : Logic) (values others : NodeValues) → Refines s r → Refines r s
         → SameValues s values others → DoesTheSame d s values → DoesTheSame d r others }
+{}
+
+/// What allows no more than another still does so where the same registers of both store the complement; look-ups in
+/// order stay so. Does nothing.
+pub fn exchanged_logics()
+    ensures refines { ExchangedRefines }
+    ensures values { ExchangedValues }
+    ensures lookups { ExchangedLookups }
+{}
+
+/// The rests, steps and runs of a logic some of whose registers store the complement are those of the logic itself, with
+/// these Qs complemented. Does nothing.
+pub fn exchanged_runs()
+    ensures rests { ExchangedRests }
+    ensures steps { ExchangedSteps }
+    ensures runs { ExchangedRuns }
 {}

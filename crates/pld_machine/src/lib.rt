@@ -8,7 +8,7 @@ mod settling;
 mod steps;
 mod traces;
 
-pub use laws::{one_run, refined_run, valued_run};
+pub use laws::{exchanged_logics, exchanged_runs, one_run, refined_run, valued_run};
 pub use logic::{Logic, Slot};
 pub use rests::rest;
 pub use steps::step;
