@@ -21,8 +21,9 @@ pub struct Control {
 
 /// What is asked of an assigned cell. `name` is the signal's number in the order of declaration, `place` its
 /// first data target. `negated` says that the name is the complement of the pin, `buffer` that the pin equals
-/// Q, and `raw` that the function is of the register's input itself. A register without a reset or preset of
-/// its own has that of the register of least `name` that has one, else 0.
+/// Q, and `raw` that the function is of the register's input itself. Where a register is `free`, its pin may as well
+/// equal the complement of a Q that is stored so; its `buffer` is true. A register without a reset or preset of its own
+/// has that of the register of least `name` that has one, else 0.
 #[derive(Clone, Copy, PartialEq, Eq)]
 pub struct CellWanted {
     pub cell: u8,
@@ -32,6 +33,7 @@ pub struct CellWanted {
     pub buffer: bool,
     pub negated: bool,
     pub raw: bool,
+    pub free: bool,
     pub function: Function,
     pub enable: Option<Control>,
     pub reset: Option<Control>,
