@@ -1,5 +1,5 @@
 -- The design that a module describes for a device (ABEL-HDL Reference Manual, declarations and directives).
-use Rattle.std.specs.Prelude.{ℕ, ◌==◌, Bool, false, ◌&&◌, Option, List, [], ◌∷◌, get_or, position}
+use Rattle.std.specs.Prelude.{ℕ, ◌==◌, Bool, false, not, ◌&&◌, Option, List, [], ◌∷◌, get_or, position}
 use Rattle.pld_device.specs.declared.cell.Cell.{Cell}
 use Rattle.pld_device.specs.Table.{Table}
 use Rattle.abel_tree.specs.Entries.{ADeviceName, Entry}
@@ -48,6 +48,10 @@ name_at d s = get_or d.names s no_name
 -- the signal is stored in a register; one that is assigned nothing counts as combinational
 abbrev pub is_stored : Entry → Bool
 is_stored x = x.words.registered && x.assigned
+
+-- the pin of a register follows Q: so it is of one that doesn't invert, a free one too, until it is chosen
+abbrev pub follows_q : Entry → Bool
+follows_q x = not x.words.invert
 
 -- the cell on a pin
 abbrev pub cell_on : Table → (pin : ℕ) → Option ℕ

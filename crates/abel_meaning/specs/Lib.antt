@@ -2,6 +2,7 @@ pub mod AgreeLaws
 pub mod AllowedValues
 pub mod AtPoints
 pub mod BitWords
+pub mod Choices
 pub mod Contributions
 pub mod Controls
 pub mod CountedBlocks
@@ -14,6 +15,7 @@ pub mod Directives
 pub mod Follows
 pub mod FormulaBits
 pub mod Functions
+pub mod Held
 pub mod Kinds
 pub mod NetlistLogic
 pub mod NetlistReads

@@ -12,7 +12,8 @@ use Rattle.bit_expr.specs.Formulas.{Formula, Const, formula_value}
 use Rattle.abel_meaning.specs.Functions.{Function, function_seen}
 
 -- an assigned cell. `name` is its signal's number in the order of declaration; `negated` says that the name is the
--- pin's complement, `buffer` that the pin equals Q, `raw` that the function is of the register's input itself
+-- pin's complement, `buffer` that the pin equals Q, `raw` that the function is of the register's input itself, and `free`
+-- that the pin may as well equal the complement of a Q that is stored so
 pub record Wanted : Type 0 where
   pub cell : ℕ
   pub name : ℕ
@@ -20,6 +21,7 @@ pub record Wanted : Type 0 where
   pub buffer : Bool
   pub negated : Bool
   pub raw : Bool
+  pub free : Bool
   pub function : Function Formula
   pub enable : Option Formula
   pub reset : Option Formula
@@ -50,6 +52,7 @@ plain_wanted fs w =
       buffer = w.buffer;
       negated = w.negated;
       raw = w.raw;
+      free = w.free;
       function = plain_function fs w.function;
       enable = plain_control fs w.enable;
       reset = plain_control fs w.reset;

@@ -62,12 +62,26 @@ pub record IsSoundCell (t : Table) (net : PlainNetlist) (w : Wanted) : Type 0 wh
   pub reset : (f : Formula) → w.reset ≡ Some f → IsSoundShared t net w t.reset f
   pub preset : (f : Formula) → w.preset ≡ Some f → IsSoundShared t net w t.preset f
 
+-- no cell has a reset or a preset
+abbrev pub HasNoControls : PlainNetlist → Type 0
+HasNoControls net = All (λ (v : Wanted). (v.reset ≡ None) × (v.preset ≡ None)) net.cells
+
+-- a free cell: a register whose data are its name's, and whose pin follows Q until it is chosen, in a device that complements
+-- behind the register; and no register is reset or preset, since that would show which is chosen
+pub record IsSoundFree (t : Table) (net : PlainNetlist) (w : Wanted) : Type 0 where
+  pub registered : w.registered ≡ true
+  pub buffer : w.buffer ≡ true
+  pub named : w.raw ≡ false
+  pub behind : t.flip ≡ AfterRegister
+  pub no_controls : HasNoControls net
+
 -- the netlist is one for the device: each cell stands once, no signal waits for itself, and no reset reads a
 -- register, through others or not
 pub record IsSound (t : Table) (net : PlainNetlist) : Type 0 where
   pub few_nodes : length net.nodes ≤ 128
   pub nodes : All (IsSoundFunction t net) net.nodes
   pub cells : All (IsSoundCell t net) net.cells
+  pub free : All (λ (w : Wanted). w.free ≡ true → IsSoundFree t net w) net.cells
   pub once : AllPairs (λ (a b : Wanted). a.cell ≢ b.cell) net.cells
   pub no_loop : HasNoNetlistLoop t net
   pub no_path : HasNoNetlistPath t net

@@ -9,7 +9,7 @@ use Rattle.pld_device.specs.Table.{Table, cell_at}
 use Rattle.abel_tree.specs.declared.words.Extension.TheVariants as extension
 use Rattle.abel_tree.specs.Entries.{Kind, APin, ANode, Entry}
 use Rattle.abel_tree.specs.Tree.{ModuleTree}
-use Rattle.abel_meaning.specs.Designs.{Design, design_of, name_at, is_stored}
+use Rattle.abel_meaning.specs.Designs.{Design, design_of, name_at, is_stored, follows_q}
 use Rattle.abel_meaning.specs.Contributions.{Contribution}
 use Rattle.abel_meaning.specs.AtPoints.{truth_at, given_at}
 use Rattle.abel_meaning.specs.Functions.{Function, function_of, allows, value_with_any_0, is_raw_signal}
@@ -36,7 +36,7 @@ signal_allows choice d at cs s value = choice (function_of (truth_at d at) cs s)
 abbrev pub assigned_level : Choice → Design → Levels → List (Contribution Bool) → (cell signal : ℕ)
     → Entry → Bool → Bool
 assigned_level choice d at cs c s x level =
-    if is_stored x then same_level level (complement_if (not x.words.buffer) (is_on at.q c))
+    if is_stored x then same_level level (complement_if (not (follows_q x)) (is_on at.q c))
     else signal_allows choice d at cs s (complement_if (is_negated x.kind) level)
 
 -- the levels of a cell's pin: a register that nothing assigns inverts, and any other such cell is never enabled
@@ -48,7 +48,7 @@ pin_allows choice d at cs c (Some s) level = assigned_level choice d at cs c s (
 -- the next Q: for raw data the value itself, else the one with which the name has the value; 0 where nothing is assigned
 abbrev pub q_complements : (raw : Bool) → Entry → Bool
 q_complements true x = false
-q_complements false x = complement_if (is_negated x.kind) (not x.words.buffer)
+q_complements false x = complement_if (is_negated x.kind) (not (follows_q x))
 
 -- the next Qs of a register
 abbrev pub next_allows : Choice → Design → Levels → List (Contribution Bool) → Option ℕ → Bool → Bool

@@ -10,7 +10,7 @@ use Rattle.bit_expr.specs.Formulas.{leaf_value}
 use Rattle.abel_tree.specs.declared.words.Extension.{Extension}
 use Rattle.abel_tree.specs.declared.words.Extension.TheVariants as extension
 use Rattle.abel_tree.specs.Entries.{Kind, APin, ANode, AConstant, ADeviceName, Entry}
-use Rattle.abel_meaning.specs.Designs.{Design, name_at, is_stored, cell_on}
+use Rattle.abel_meaning.specs.Designs.{Design, name_at, is_stored, follows_q, cell_on}
 
 -- what is read: 0, or what a leaf carries, or its complement
 pub data Source : Type 0 where
@@ -44,7 +44,7 @@ node_source n (Some e) = Zero
 -- a signal on a pin
 abbrev pub on_pin : Table → Entry → (pin : ℕ) → (negated : Bool) → (stored : Bool)
     → Option Extension → Source
-on_pin t x pin negated true e = register_source negated x.words.buffer (cell_on t pin) e
+on_pin t x pin negated true e = register_source negated (follows_q x) (cell_on t pin) e
 on_pin t x pin negated false e = pin_source pin negated e
 
 -- by what the name is declared as
