@@ -8,9 +8,10 @@ use Rattle.pld_order.proofs.Ranks.{no_loop_by_rank}
 use Rattle.bit_expr.specs.declared.node.Leaf.{Leaf}
 use Rattle.bit_expr.specs.declared.node.Leaf.TheVariants as leaf
 use Rattle.bit_expr.specs.Formulas.{Formula, Read, names}
+use Rattle.abel_meaning.specs.Netlists.{Wanted}
 use Rattle.abel_meaning.specs.NetlistReads.{netlist_waits, netlist_reset_reads}
 use Rattle.abel_meaning.specs.SignalReads.{names_if_any}
-use Rattle.abel_meaning.specs.Soundness.{IsReadable, IsSoundFormula, IsSoundFunction, IsSoundShared, IsSoundCell, IsSound}
+use Rattle.abel_meaning.specs.Soundness.{IsReadable, IsSoundFormula, IsSoundFunction, IsSoundShared, IsSoundCell, IsSoundFree, IsSound}
 use Rattle.fitted.proofs.Valuing.{node_leaf}
 use Rattle.fitted.specs.Example.{example_cell, example}
 
@@ -72,6 +73,7 @@ example_sound = record {
   few_nodes = omega arith;
   nodes = All-nil (IsSoundFunction sample example);
   cells = All-cons (IsSoundCell sample example) example_cell [] sound_cell (All-nil (IsSoundCell sample example));
+  free = All-cons (λ (w : Wanted). w.free ≡ true → IsSoundFree sample example w) example_cell [] (λ chosen. absurd (true≢false (sym chosen))) (All-nil (λ (w : Wanted). w.free ≡ true → IsSoundFree sample example w));
   once = λ i j d less within. absurd (omega (arith, less, within));
   no_loop = no_loop_by_rank 2 (netlist_waits sample example) (λ v. v) (λ v w v_in w_in reads. absurd (none_waits v w w_in reads));
   no_path = λ path is. true≢false (sym is.begins ∙ none_reset (get_or path 0 0));

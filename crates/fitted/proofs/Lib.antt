@@ -1,6 +1,7 @@
 pub mod BoolLaws
 pub mod CellRanks
 pub mod CellValues
+pub mod Chosen
 pub mod CleanSignals
 pub mod CoverReads
 pub mod ExampleFits

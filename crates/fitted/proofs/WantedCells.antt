@@ -12,20 +12,8 @@ use Rattle.pld_device.specs.Table.{Table, cell_at, registered_at}
 use Rattle.abel_meaning.specs.Netlists.{Wanted, PlainNetlist, wanted_at}
 use Rattle.abel_meaning.specs.NetlistLogic.{registers_as, netlist_stores}
 use Rattle.abel_meaning.specs.Soundness.{MayRegister, IsSoundCell, IsSound}
+pub use Rattle.free_netlists.proofs.FoundCells.{found}
 use Rattle.fitted.specs.Fitting.{IsFittedCell, IsFittedAs, IsFitted}
-
--- what is found passes the test, and has what all have
-pub record IsFound (P : Wanted → Type 0) (c : ℕ) (w : Wanted) : Type 0 where
-  pub has : P w
-  pub cell : w.cell ≡ c
-
-pub found : (P : Wanted → Type 0) (ws : List Wanted) (c : ℕ) (w : Wanted) → All P ws → find (λ (x : Wanted). x.cell == c) ws ≡ Some w → IsFound P c w
-found P [] c w all is = absurd cc
-found P (x ∷ ws) c w all is =
-    elim (cases_Bool (x.cell == c)) [
-      | inl hit ↦ subst (IsFound P c) (same_Some x w (rw hit at is)) (record { has = All-head P x ws all; cell = eqb-true x.cell c hit })
-      | inr miss ↦ found P ws c w (All-tail P x ws all) (rw miss at is)
-    ]
 
 -- what holds of what is asked of a cell
 pub record IsSoundAt (t : Table) (net : PlainNetlist) (c : ℕ) (w : Wanted) : Type 0 where

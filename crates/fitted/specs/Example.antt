@@ -16,6 +16,7 @@ example_cell = record {
   buffer = false;
   negated = false;
   raw = false;
+  free = false;
   function = record { one = Read (leaf.Pin 1); any = Const false; complement = false };
   enable = None;
   reset = Some (Read (leaf.Pin 2));

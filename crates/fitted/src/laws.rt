@@ -1,6 +1,6 @@
 //! Laws of fitted devices, and how the two halves of a compiler join, as the contracts of calls that do nothing.
 
-ghost use Rattle.fitted.specs.Correct.{FittedRefines, FittedDoesTheSame, FittedDoesWhatItSays};
+ghost use Rattle.fitted.specs.Correct.{FittedDoesTheChosen, FittedDoesTheSame, FittedDoesWhatItSays, FittedRefines};
 ghost use Rattle.fitted.specs.Example.{ExampleFits};
 
 /// At each point, with the nodes of a sound netlist valued there, the netlist allows what a device with its
@@ -10,12 +10,15 @@ pub fn fitted_values()
 {}
 
 /// A device with the fuses of a sound netlist does what the netlist says: it comes to rest and runs in exactly one
-/// way, and each of its runs is one of the netlist's. Does nothing.
+/// way, and each of its runs is one of the netlist's. One with the fuses of the netlist under the choice that they show
+/// does so under this choice. Does nothing.
 pub fn fitted_runs()
-    ensures { FittedDoesTheSame }
+    ensures same { FittedDoesTheSame }
+    ensures chosen { FittedDoesTheChosen }
 {}
 
-/// A device with the fuses of a sound netlist does what any module says whose netlist it is. Does nothing.
+/// A device with the fuses of a sound netlist under the choice that they show does what any module says whose netlist it
+/// is, under this choice. Does nothing.
 pub fn through_a_netlist()
     ensures { FittedDoesWhatItSays }
 {}
