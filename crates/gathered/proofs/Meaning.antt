@@ -22,17 +22,19 @@ use Rattle.abel_tree.specs.Tree.{ModuleTree}
 use Rattle.abel_meaning.specs.AtPoints.{truth_at, given_at}
 use Rattle.abel_meaning.specs.Contributions.{Contribution}
 use Rattle.abel_meaning.specs.Controls.{signal_on, must_register, cell_stores_for, cell_stores, cell_enabled_by, control_of, control_if_stored, shared_control, register_control}
-use Rattle.abel_meaning.specs.Designs.{Design, design_of, name_at, is_stored}
+use Rattle.abel_meaning.specs.Choices.{is_free_signal}
+use Rattle.abel_meaning.specs.Designs.{Design, design_of, name_at, is_stored, follows_q}
 use Rattle.abel_meaning.specs.Follows.{seen}
 use Rattle.abel_meaning.specs.FormulaBits.{formulas}
 use Rattle.abel_meaning.specs.Functions.{Function, function_of, is_raw_signal, allows, value_with_any_0}
-use Rattle.abel_meaning.specs.Netlists.{Wanted, node_at, no_function, function_at, as_named, own_of, shared_function, own_or_shared}
+use Rattle.abel_meaning.specs.Netlists.{Wanted, node_at, wanted_at, no_function, function_at, as_named, own_of, shared_function, own_or_shared}
 use Rattle.abel_meaning.specs.NetlistLogic.{registers_as, netlist_stores, drives, may_drive, may_store, netlist_logic, netlist_values}
 use Rattle.abel_meaning.specs.SignalReads.{given_formulas}
 use Rattle.abel_meaning.specs.SourceLogic.{is_negated, pin_allows, next_allows, q_complements, node_signal, node_allows, node_value_by, source_logic, source_values}
 use Rattle.abel_meaning.proofs.FormulasFollow.{formulas_have_values}
 use Rattle.abel_meaning.proofs.FunctionValues.{formula_function, formula_control}
 use Rattle.fitted.specs.Correct.{MeansTheSame}
+use Rattle.free_netlists.specs.ExchangedNets.{is_free_wanted}
 use Rattle.gathered.specs.Correct.{GatheredMeansTheSame}
 use Rattle.gathered.specs.Gathered.{by_row, wanted_for, gathered, netlist_of}
 use Rattle.gathered.specs.Takeable.{RegistersHaveCells}
@@ -64,7 +66,7 @@ q_named false false true false = refl
 q_named false false false true = refl
 q_named false false false false = refl
 
-q_complements_by : (raw : Bool) (x : Entry) → q_complements raw x ≡ (if raw then false else complement_if (is_negated x.kind) (not x.words.buffer))
+q_complements_by : (raw : Bool) (x : Entry) → q_complements raw x ≡ (if raw then false else complement_if (is_negated x.kind) (not (follows_q x)))
 q_complements_by true x = refl
 q_complements_by false x = refl
 
@@ -85,6 +87,10 @@ module _ (d : Design) (laws : IsDevice d.device) (at : Levels) (c : ℕ) (within
   pub stores_as : (found : Option ℕ) → registers_as (cell_at d.device c).kinds (option_map here found) ≡ cell_stores_for d c found
   stores_as None = kind_without (cell_at d.device c).kinds
   stores_as (Some s) = refl
+
+  pub free_as : (found : Option ℕ) → is_free_wanted (option_map here found) ≡ is_free_signal d found
+  free_as None = refl
+  free_as (Some s) = refl
 
   enabled_as : (found : Option ℕ) (enable : Enable) → (cell_at d.device c).enable ≡ enable → drives at (option_map here found) enable ≡ cell_enabled_by (truth_at d at) at (given_at d at) found enable
   enabled_as None (Row row) is = refl
@@ -124,8 +130,8 @@ module _ (d : Design) (laws : IsDevice d.device) (at : Levels) (c : ℕ) (within
       named : as_named (here s) v ≡ complement_if (q_complements (is_raw_signal (given_at d at) s) (name_at d s)) v
       named =
           rw stores
-          (q_named (is_raw_signal (given_formulas d) s) (is_negated (name_at d s).kind) (name_at d s).words.buffer v
-          ∙ ap (λ r. complement_if (if r then false else complement_if (is_negated (name_at d s).kind) (not (name_at d s).words.buffer)) v) (raw_value d at s)
+          (q_named (is_raw_signal (given_formulas d) s) (is_negated (name_at d s).kind) (follows_q (name_at d s)) v
+          ∙ ap (λ r. complement_if (if r then false else complement_if (is_negated (name_at d s).kind) (not (follows_q (name_at d s)))) v) (raw_value d at s)
           ∙ ap (λ b. complement_if b v) (sym (q_complements_by (is_raw_signal (given_at d at) s) (name_at d s))))
 
 -- ---- resets and presets
@@ -189,6 +195,15 @@ module _ (t : Table) (m : ModuleTree) where
 
   pub value_as : (at : Levels) (n : ℕ) → netlist_values (gathered d) at n ≡ source_values t m at n
   value_as at n = ap (λ f. value_with_any_0 (function_at at f)) (node_is n) ∙ value_by at (node_signal d n)
+
+-- ---- what is free
+
+-- the netlist leaves the registers free that the module does
+pub free_agree : (t : Table) (m : ModuleTree) → IsDevice t → (c : ℕ) → c < length t.cells → is_free_wanted (wanted_at (netlist_of t m) c) ≡ is_free_signal (design_of t m) (signal_on (design_of t m) c)
+free_agree t m laws c within =
+    let d = design_of t m in
+    ap (λ w. is_free_wanted w) (wanted_found d (given_formulas d) laws c within)
+    ∙ free_as d laws (record { pins = []; q = []; nodes = [] }) c within (signal_on d c)
 
 -- ---- the whole
 
@@ -263,7 +278,7 @@ module _ (t : Table) (m : ModuleTree) (laws : IsDevice t) (has : RegistersHaveCe
   }
 
   pub means : MeansTheSame t m (netlist_of t m)
-  means = record { to = to; from = from; values = λ at is n less node. value_as t m at n }
+  means = record { to = to; from = from; values = λ at is n less node. value_as t m at n; free = free_agree t m laws }
 
 pub gathered_means_the_same : GatheredMeansTheSame
 gathered_means_the_same t m laws has = means t m laws has

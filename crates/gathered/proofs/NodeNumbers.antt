@@ -8,6 +8,7 @@ use Rattle.abel_tree.specs.Tree.{Tree, Declaration, ADevice, SomePins, SomeNodes
 use Rattle.pld_device.specs.declared.flip.Flip.{Flip}
 use Rattle.pld_device.specs.Table.{Table}
 use Rattle.abel_meaning.specs.Declarations.{GivenName, entry, node_entries, constant_entries, node_count, with_words, declared, given_names, all_said, section_declarations, declared_names}
+use Rattle.abel_meaning.specs.Held.{Holds, holds_of}
 use Rattle.abel_meaning.specs.Kinds.{with_kinds, names_of}
 use Rattle.gathered.proofs.NodesFound.{next_number, AreNumbered}
 
@@ -72,11 +73,11 @@ after_all es (d ∷ ds) all = after_all (declared es d) ds (after_one es d all)
 
 -- ---- the names of a module
 
-kinds_numbered : (flip : Flip) (found : List Assigned) (n s : ℕ) (es : List Entry) → AreNumbered n es → AreNumbered n (with_kinds flip found s es)
-kinds_numbered flip found n s [] all = tt
-kinds_numbered flip found n s (e ∷ es) all = (all.0, kinds_numbered flip found (next_number n e.kind) (suc s) es all.1)
+kinds_numbered : (flip : Flip) (held : Holds) (found : List Assigned) (n s : ℕ) (es : List Entry) → AreNumbered n es → AreNumbered n (with_kinds flip held found s es)
+kinds_numbered flip held found n s [] all = tt
+kinds_numbered flip held found n s (e ∷ es) all = (all.0, kinds_numbered flip held found (next_number n e.kind) (suc s) es all.1)
 
 pub names_numbered : (t : Table) (m : ModuleTree) → AreNumbered 0 (names_of t m)
 names_numbered t m =
-    kinds_numbered t.flip (sections_assign (named_of (declared_names m)) m.sections) 0 0 (declared_names m)
+    kinds_numbered t.flip (holds_of (declared_names m) m.sections) (sections_assign (named_of (declared_names m)) m.sections) 0 0 (declared_names m)
     (after_all [] (m.decls ++ section_declarations m.sections) tt)

@@ -12,7 +12,7 @@ use Rattle.gathered.specs.Takeable.{IsTakeable}
 use Rattle.gathered.proofs.NodeNumbers.{names_numbered}
 use Rattle.gathered.proofs.NodesFound.{AreNumbered, function_here, node_found}
 use Rattle.gathered.proofs.SignalsAlike.{node_kind}
-use Rattle.gathered.proofs.SoundCells.{sound_nodes, sound_cells, each_once}
+use Rattle.gathered.proofs.SoundCells.{sound_nodes, sound_cells, sound_free, each_once}
 use Rattle.gathered.proofs.SoundGraphs.{no_netlist_loop, no_netlist_path}
 
 short : {X : Type 0} (xs : List X) (k : ℕ) → slice_get xs k ≡ None → length xs ≤ k
@@ -31,6 +31,7 @@ module _ (d : Design) (laws : IsDevice d.device) (numbered : AreNumbered 0 d.nam
     few_nodes = found_past (node_signal d 128) refl;
     nodes = sound_nodes d laws numbered take;
     cells = sound_cells d laws numbered take;
+    free = sound_free d laws numbered take;
     once = each_once d take.pins 0 d.names (λ k less. ap (λ j. name_at d j) (omega arith));
     no_loop = no_netlist_loop d laws numbered take.pins take.no_loop;
     no_path = no_netlist_path d laws numbered take.pins take.no_path;

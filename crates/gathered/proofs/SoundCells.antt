@@ -1,5 +1,5 @@
 -- Each cell of the netlist of a design that a device can take is one that it can have, and stands once.
-use Rattle.std.proofs.Common.{◌≡◌, ◌≢◌, ℕ, suc, ◌+◌, ◌<◌, ◌≤◌, true, List, [], ◌∷◌, length, get_or, Option, Some, None, refl, sym, ap, ◌∙◌, subst, inl, inr, arith}
+use Rattle.std.proofs.Common.{◌≡◌, ◌≢◌, ℕ, suc, ◌+◌, ◌<◌, ◌≤◌, Bool, true, false, not, ◌&&◌, List, [], ◌∷◌, length, get_or, Option, Some, None, refl, sym, ap, ◌∙◌, subst, inl, inr, arith}
 use Rattle.std.specs.List.{All, AllPairs}
 use Rattle.std.specs.Option.{option_map}
 use Rattle.std.proofs.lemmas.Bool.{cases_Bool, eqb-true, eq-eqb}
@@ -15,15 +15,16 @@ use Rattle.bit_expr.specs.Formulas.{Formula}
 use Rattle.abel_tree.specs.declared.words.Extension.{Extension}
 use Rattle.abel_tree.specs.declared.words.Extension.TheVariants as extension
 use Rattle.abel_tree.specs.Entries.{Kind, APin, ANode, AConstant, ADeviceName, Entry}
+use Rattle.abel_meaning.specs.Choices.{is_free}
 use Rattle.abel_meaning.specs.Controls.{is_pin, control_of, control_if_stored}
 use Rattle.abel_meaning.specs.Designs.{Design, name_at, no_name, is_stored, cell_on}
 use Rattle.abel_meaning.specs.FormulaBits.{formulas}
 use Rattle.abel_meaning.specs.Functions.{Function, function_of}
 use Rattle.abel_meaning.specs.Netlists.{Wanted}
 use Rattle.abel_meaning.specs.SignalReads.{given_formulas}
-use Rattle.abel_meaning.specs.Soundness.{IsReadable, IsSoundFormula, IsSoundFunction, IsSoundShared, IsSoundCell}
+use Rattle.abel_meaning.specs.Soundness.{IsReadable, IsSoundFormula, IsSoundFunction, IsSoundShared, IsSoundCell, IsSoundFree, HasNoControls}
 use Rattle.gathered.specs.Gathered.{by_row, wanted_for, cell_by, cell_of, and_cell, cells_from, and_node, nodes_from, gathered}
-use Rattle.gathered.specs.Takeable.{PinsApart, is_row, is_enabled_by_row, is_kept, ControlIsThere, IsTakeable}
+use Rattle.gathered.specs.Takeable.{PinsApart, is_row, is_enabled_by_row, is_kept, ControlIsThere, HasNoEquation, MayChoose, IsTakeable}
 use Rattle.gathered.proofs.CellsFound.{has_pin}
 use Rattle.gathered.proofs.KeptLeaves.{EachKept, each_kept, of_one, of_any, of_control, control_kept}
 use Rattle.gathered.proofs.NodesFound.{AreNumbered}
@@ -155,6 +156,46 @@ module _ (d : Design) (laws : IsDevice d.device) (numbered : AreNumbered 0 d.nam
   sound_cells k w less =
       let this = each_for d 0 d.names (λ i in_list. ap (λ j. name_at d j) (omega arith)) k w less in
       subst (λ v. IsSoundCell d.device (gathered d) v) (sym this.is) (sound_cell this.signal _ this.on)
+
+  -- ---- free cells
+
+  own : All (λ (w : Wanted). IsFor d 0 w) (gathered d).cells
+  own = each_for d 0 d.names (λ i in_list. ap (λ j. name_at d j) (omega arith))
+
+  no_control : (e : Extension) → HasNoEquation d e → (s : ℕ) → control_if_stored (formulas d) (given_formulas d) e s (name_at d s) ≡ None
+  no_control e none s =
+      elim (cases_Bool (is_stored (name_at d s))) [
+        | inl stored ↦ rw stored (none s)
+        | inr other ↦ rw other refl
+      ]
+
+  no_controls : (s : ℕ) → MayChoose d s → HasNoControls (gathered d)
+  no_controls s may k w less =
+      let this = own k w less in
+      subst (λ (v : Wanted). (v.reset ≡ None) × (v.preset ≡ None)) (sym this.is) (no_control extension.Ar may.no_reset this.signal, no_control extension.Sp may.no_preset this.signal)
+
+  free_parts : (stored buffer invert : Bool) → (stored && (not buffer && not invert)) ≡ true → (stored ≡ true) × (not invert ≡ true)
+  free_parts true false false is = (refl, refl)
+  free_parts true false true is = absurd cc
+  free_parts true true invert is = absurd cc
+  free_parts false buffer invert is = absurd cc
+
+  free_cell : (s c : ℕ) → is_free (name_at d s) ≡ true → IsSoundFree d.device (gathered d) (wanted_for d (given_formulas d) c s (name_at d s))
+  free_cell s c chosen =
+      let parts = free_parts (is_stored (name_at d s)) (name_at d s).words.buffer (name_at d s).words.invert chosen in
+      let may = take.free s chosen in
+      record {
+        registered = parts.0;
+        buffer = parts.1;
+        named = rw (parts.0, may.named) refl;
+        behind = may.behind;
+        no_controls = no_controls s may;
+      }
+
+  pub sound_free : All (λ (w : Wanted). w.free ≡ true → IsSoundFree d.device (gathered d) w) (gathered d).cells
+  sound_free k w less =
+      let this = own k w less in
+      subst (λ (v : Wanted). v.free ≡ true → IsSoundFree d.device (gathered d) v) (sym this.is) (free_cell this.signal _)
 
   -- ---- nodes
 

@@ -15,7 +15,7 @@ use Rattle.abel_tree.specs.declared.words.Extension.{Extension}
 use Rattle.abel_tree.specs.declared.words.Extension.TheVariants as extension
 use Rattle.abel_tree.specs.Entries.{Kind, APin, ANode, AConstant, ADeviceName, Entry}
 use Rattle.abel_meaning.specs.Controls.{is_pin, signal_on, cell_stores}
-use Rattle.abel_meaning.specs.Designs.{Design, name_at, no_name, is_stored, cell_on}
+use Rattle.abel_meaning.specs.Designs.{Design, name_at, no_name, is_stored, cell_on, follows_q}
 use Rattle.abel_meaning.specs.Netlists.{wanted_at}
 use Rattle.abel_meaning.specs.NetlistLogic.{registers_as, netlist_stores}
 use Rattle.abel_meaning.specs.SignalReads.{given_formulas}
@@ -105,7 +105,7 @@ module _ (d : Design) where
   register_declared s pin negated buffer (Some c) (Some extension.D) l kind stored on is = absurd cc
 
   by_stored : (s pin : ℕ) (negated : Bool) (stored : Bool) (e : Option Extension) (l : Leaf) → (name_at d s).kind ≡ APin pin negated → is_stored (name_at d s) ≡ stored → holds_leaf (on_pin d.device (name_at d s) pin negated stored e) l ≡ true → IsDeclared l
-  by_stored s pin negated true e l kind stored is = register_declared s pin negated (name_at d s).words.buffer (cell_on d.device pin) e l kind stored refl is
+  by_stored s pin negated true e l kind stored is = register_declared s pin negated (follows_q (name_at d s)) (cell_on d.device pin) e l kind stored refl is
   by_stored s pin negated false e l kind stored is = pin_declared pin negated e l is
 
   node_declared : (s n : ℕ) (e : Option Extension) (l : Leaf) → (name_at d s).kind ≡ ANode n → holds_leaf (node_source n e) l ≡ true → IsDeclared l

@@ -9,9 +9,10 @@ use Rattle.bit_expr.specs.Formulas.{Formula}
 use Rattle.abel_tree.specs.declared.words.Extension.TheVariants as extension
 use Rattle.abel_tree.specs.Entries.{Kind, APin, ANode, Entry}
 use Rattle.abel_tree.specs.Tree.{ModuleTree}
+use Rattle.abel_meaning.specs.Choices.{is_free}
 use Rattle.abel_meaning.specs.Contributions.{Contribution}
 use Rattle.abel_meaning.specs.Controls.{control_of, control_if_stored}
-use Rattle.abel_meaning.specs.Designs.{Design, design_of, is_stored, cell_on}
+use Rattle.abel_meaning.specs.Designs.{Design, design_of, is_stored, follows_q, cell_on}
 use Rattle.abel_meaning.specs.FormulaBits.{formulas}
 use Rattle.abel_meaning.specs.Functions.{Function, function_of, is_raw_signal}
 use Rattle.abel_meaning.specs.Netlists.{Wanted, PlainNetlist}
@@ -32,9 +33,10 @@ wanted_for d cs c s x =
       cell = c;
       name = s;
       registered = is_stored x;
-      buffer = x.words.buffer;
+      buffer = follows_q x;
       negated = is_negated x.kind;
       raw = is_stored x && is_raw_signal cs s;
+      free = is_free x;
       function = function_of (formulas d) cs s;
       enable = by_row (cell_at d.device c).enable (control_of (formulas d) cs s extension.Oe);
       reset = control_if_stored (formulas d) cs extension.Ar s x;

@@ -13,10 +13,12 @@ use Rattle.bit_expr.specs.Formulas.{Formula}
 use Rattle.abel_tree.specs.declared.words.Extension.{Extension}
 use Rattle.abel_tree.specs.declared.words.Extension.TheVariants as extension
 use Rattle.abel_tree.specs.Entries.{ANode, Entry}
+use Rattle.abel_meaning.specs.Choices.{is_free}
 use Rattle.abel_meaning.specs.Contributions.{Contribution}
 use Rattle.abel_meaning.specs.Controls.{is_pin, cell_stores, control_of}
-use Rattle.abel_meaning.specs.Designs.{Design, name_at, is_stored}
+use Rattle.abel_meaning.specs.Designs.{Design, name_at, is_stored, follows_q}
 use Rattle.abel_meaning.specs.FormulaBits.{formulas}
+use Rattle.abel_meaning.specs.Functions.{is_raw_signal}
 use Rattle.abel_meaning.specs.SignalReads.{given_formulas, HasNoSignalLoop, HasNoSignalPath}
 use Rattle.abel_meaning.specs.Soundness.{MayRegister}
 use Rattle.gathered.specs.Gathered.{cell_of}
@@ -83,12 +85,23 @@ ReadsHaveColumns d =
 -- each assigned cell may have its signal's kind, and no register follows Q where the device can't complement behind it
 pub record IsAllowedOn (d : Design) (s c : ℕ) : Type 0 where
   pub kind : MayRegister (cell_at d.device c).kinds (is_stored (name_at d s))
-  pub buffer : is_stored (name_at d s) ≡ true → (name_at d s).words.buffer ≡ true → d.device.flip ≡ AfterRegister
+  pub buffer : is_stored (name_at d s) ≡ true → follows_q (name_at d s) ≡ true → d.device.flip ≡ AfterRegister
 
 -- an equation for this control is there only where the device has such a row
 abbrev pub ControlIsThere : Design → Extension → (row : Option ℕ) → Type 0
 ControlIsThere d e row =
     (s : ℕ) (f : Formula) → control_of (formulas d) (given_formulas d) s e ≡ Some f → IsSome row
+
+-- no signal has an equation for this control
+abbrev pub HasNoEquation : Design → Extension → Type 0
+HasNoEquation d e = (s : ℕ) → control_of (formulas d) (given_formulas d) s e ≡ None
+
+-- a free register has data that are its name's, the device complements behind the register, and none is reset or preset
+pub record MayChoose (d : Design) (s : ℕ) : Type 0 where
+  pub named : is_raw_signal (given_formulas d) s ≡ false
+  pub behind : d.device.flip ≡ AfterRegister
+  pub no_reset : HasNoEquation d extension.Ar
+  pub no_preset : HasNoEquation d extension.Sp
 
 -- ---- all of it
 
@@ -98,6 +111,7 @@ pub record IsTakeable (d : Design) : Type 0 where
   pub pins : PinsApart d
   pub nodes : NodesAreFew d
   pub cells : (s c : ℕ) → cell_of d.device (name_at d s) ≡ Some c → IsAllowedOn d s c
+  pub free : (s : ℕ) → is_free (name_at d s) ≡ true → MayChoose d s
   pub resets : ControlIsThere d extension.Ar d.device.reset
   pub presets : ControlIsThere d extension.Sp d.device.preset
   pub reads : ReadsHaveColumns d
