@@ -1,3 +1,4 @@
+pub mod Choosing
 pub mod ControlRows
 pub mod ExampleRows
 pub mod ModulePoints
