@@ -46,12 +46,12 @@ same_is k s e = grind (arith, nat_tests)
 different : (k s : ℕ) → (k == s) ≡ false → s ≢ k
 different k s e = λ i. (let bad : false ≡ true = sym e ∙ same_is k s i in cc)
 
-here : (c : Bool) (ms : List Mark) (k s : ℕ) → s < length ms → (k == s) ≡ true → at (hit c ms k) s ≡ raised c (at ms s)
+pub here : (c : Bool) (ms : List Mark) (k s : ℕ) → s < length ms → (k == s) ≡ true → at (hit c ms k) s ≡ raised c (at ms s)
 here c ms k s h e =
     let same : k ≡ s = same_number k s e in
     get_or-set_at ms k s (raised c (at ms k)) mark.Free (sym same) (omega (arith, h, same)) ∙ ap (λ j. raised c (at ms j)) same
 
-there : (c : Bool) (ms : List Mark) (k s : ℕ) → (k == s) ≡ false → at (hit c ms k) s ≡ at ms s
+pub there : (c : Bool) (ms : List Mark) (k s : ℕ) → (k == s) ≡ false → at (hit c ms k) s ≡ at ms s
 there c ms k s e = get_or-set_other ms k s (raised c (at ms k)) mark.Free (different k s e)
 
 hit_marked : (c : Bool) (ms : List Mark) (k s : ℕ) → s < length ms → is_marked (at (hit c ms k) s) ≡ (is_marked (at ms s) || (k == s))

@@ -11,7 +11,8 @@ use Rattle.abel_tree.specs.Entries.{Entry, view_declared, view_meaning}
 use Rattle.abel_tree.specs.View.{view}
 use Rattle.name_kinds.specs.Marking.{all_marked}
 use Rattle.name_kinds.specs.Numbered.{numbered, direct, named_at, named_by, spread_from, swept}
-use Rattle.name_kinds.specs.Settled.{kind_by, kinds_by}
+use Rattle.name_kinds.specs.Reading.{Holding}
+use Rattle.name_kinds.specs.Settled.{is_held_at, kind_by, kinds_by}
 use Rattle.name_kinds.specs.declared.marks.Mark.{Mark}
 use Rattle.name_kinds.specs.declared.marks.Mark.TheVariants as mark
 use Rattle.pld_device.specs.declared.flip.Flip.{Flip}
@@ -42,23 +43,25 @@ sweep_step es (suc k) ms h =
 
 -- ---- one name more with its kind
 
-kinds_from : (flip : Flip) (ms : List Mark) (i : ℕ) (l : List Entry) (e : Entry) → kinds_by flip ms i (l ++ e ∷ []) ≡ kinds_by flip ms i l ++ kind_by flip (get_or ms (i + length l) mark.Free) e ∷ []
-kinds_from flip ms i [] e = ap (λ n. kind_by flip (get_or ms n mark.Free) e ∷ []) (plus_zero i)
+kinds_from : (flip : Flip) (ms : List Mark) (held : Holding) (i : ℕ) (l : List Entry) (e : Entry)
+    → kinds_by flip ms held i (l ++ e ∷ []) ≡ kinds_by flip ms held i l ++ kind_by flip (get_or ms (i + length l) mark.Free) (is_held_at held (i + length l)) e ∷ []
+kinds_from flip ms held i [] e = ap (λ n. kind_by flip (get_or ms n mark.Free) (is_held_at held n) e ∷ []) (plus_zero i)
   where
     plus_zero : (n : ℕ) → n ≡ n + 0
     plus_zero n = omega arith
-kinds_from flip ms i (x ∷ l) e =
-    ap (λ ys. kind_by flip (get_or ms i mark.Free) x ∷ ys)
-    (kinds_from flip ms (suc i) l e ∙ ap (λ n. kinds_by flip ms (suc i) l ++ kind_by flip (get_or ms n mark.Free) e ∷ []) (plus_suc i (length l)))
+kinds_from flip ms held i (x ∷ l) e =
+    ap (λ ys. kind_by flip (get_or ms i mark.Free) (is_held_at held i) x ∷ ys)
+    (kinds_from flip ms held (suc i) l e ∙ ap (λ n. kinds_by flip ms held (suc i) l ++ kind_by flip (get_or ms n mark.Free) (is_held_at held n) e ∷ []) (plus_suc i (length l)))
   where
     plus_suc : (n k : ℕ) → suc n + k ≡ n + suc k
     plus_suc n k = omega arith
 
-pub kinds_more : (flip : Flip) (ms : List Mark) (ys : List Declared) (d : Declared) (n : ℕ) → n ≡ length ys → kinds_by flip ms 0 (map view_declared (ys ++ d ∷ [])) ≡ kinds_by flip ms 0 (map view_declared ys) ++ kind_by flip (get_or ms n mark.Free) (view_declared d) ∷ []
-kinds_more flip ms ys d n h =
+pub kinds_more : (flip : Flip) (ms : List Mark) (held : Holding) (ys : List Declared) (d : Declared) (n : ℕ) → n ≡ length ys
+    → kinds_by flip ms held 0 (map view_declared (ys ++ d ∷ [])) ≡ kinds_by flip ms held 0 (map view_declared ys) ++ kind_by flip (get_or ms n mark.Free) (is_held_at held n) (view_declared d) ∷ []
+kinds_more flip ms held ys d n h =
     let m : 0 + length (map view_declared ys) ≡ n = omega (arith, h, length-map ys view_declared) in
-    ap (kinds_by flip ms 0) (map-append view_declared ys (d ∷ []))
-    ∙ (kinds_from flip ms 0 (map view_declared ys) (view_declared d) ∙ ap (λ k. kinds_by flip ms 0 (map view_declared ys) ++ kind_by flip (get_or ms k mark.Free) (view_declared d) ∷ []) m)
+    ap (kinds_by flip ms held 0) (map-append view_declared ys (d ∷ []))
+    ∙ (kinds_from flip ms held 0 (map view_declared ys) (view_declared d) ∙ ap (λ k. kinds_by flip ms held 0 (map view_declared ys) ++ kind_by flip (get_or ms k mark.Free) (is_held_at held k) (view_declared d) ∷ []) m)
 
 -- both passes
 pub marks_passed : (es : List Entry) (found : List Assigned) (free first last : List Mark) → free ≡ replicate (length es) mark.Free → first ≡ all_marked free found → last ≡ swept es (length es) first → last ≡ swept es (length es) (all_marked (replicate (length es) mark.Free) found)

@@ -30,7 +30,7 @@ pub group_assigns : (ks : List Named) (xs : List Statement) → statements_assig
 group_assigns ks [] = refl
 group_assigns ks (x ∷ xs) = ap (λ us. statement_assigns ks x ++ us) (group_assigns ks xs)
 
-view_group : (list : List Stmt) → view_stmt (stmt.Group list) ≡ AGroup (statements_of (map view_stmt list))
+pub view_group : (list : List Stmt) → view_stmt (stmt.Group list) ≡ AGroup (statements_of (map view_stmt list))
 unfolding stmt.roll-Stmt denote.Hole.Carrier.roll
 view_group list = fold-roll-Stmt Statement Statement stmt_layer when_layer (open_stmt.Group list)
 

@@ -77,7 +77,7 @@ from_push s [] e = ap (λ n. number_named n e ∷ []) (plus_zero s)
 from_push s (x ∷ l) e =
     ap (λ ks. number_named s x ∷ ks) (from_push (suc s) l e ∙ ap (λ n. numbered_from (suc s) l ++ number_named n e ∷ []) (plus_suc s (length l)))
 
-number_push : (l : List Entry) (e : Entry) → numbered_from 0 (l ++ e ∷ []) ≡ numbered_from 0 l ++ number_named (length l) e ∷ []
+pub number_push : (l : List Entry) (e : Entry) → numbered_from 0 (l ++ e ∷ []) ≡ numbered_from 0 l ++ number_named (length l) e ∷ []
 number_push l e = from_push 0 l e ∙ ap (λ n. numbered_from 0 l ++ number_named n e ∷ []) (no_plus (length l))
 
 -- ---- all beginnings of a list of names
@@ -100,7 +100,7 @@ module _ (p q : ℕ → Bool) (es : List Entry) (one : (l : List Entry) (e : Ent
 
 -- ---- the name behind others
 
-get_behind : (l : List Entry) (e : Entry) (r : List Entry) → slice_get (l ++ e ∷ r) (length l) ≡ Some e
+pub get_behind : (l : List Entry) (e : Entry) (r : List Entry) → slice_get (l ++ e ∷ r) (length l) ≡ Some e
 get_behind [] e r = refl
 get_behind (x ∷ l) e r = get_behind l e r
 
@@ -113,12 +113,12 @@ stands_alike es s k = all_alike (λ j. j == s) (λ j. stands es j s) es (λ l e 
         let g : slice_get es (length l) ≡ Some e = ap (λ xs. slice_get xs (length l)) i ∙ get_behind l e r in
         sym (or_false (stands es (length l) s) ∙ (ap (λ o. among s (meant_entry es (length l) o)) g ∙ ap (λ xs. among s (meant (named_of xs) (length l) e.kind)) t))
 
-none : (ds : List ℕ) → list_any (λ j. false) ds ≡ false
+pub none : (ds : List ℕ) → list_any (λ j. false) ds ≡ false
 none [] = refl
 none (d ∷ ds) = none ds
 
 -- no name stands for what is no signal
-not_here : (k s : ℕ) → (k ≡ s → ⊥) → (k == s) ≡ false
+pub not_here : (k s : ℕ) → (k ≡ s → ⊥) → (k == s) ≡ false
 not_here k s h = by (k == s) refl
   where
     by : (b : Bool) → (k == s) ≡ b → b ≡ false
@@ -145,7 +145,7 @@ no_signal_alike es s k no_signal = all_alike (λ j. j == s) (λ j. false) es one
 low : (limit j : ℕ) → nat_lt j limit ≡ true → nat_le limit j ≡ false
 low limit j e = grind (arith, nat_tests)
 
-low_numbers : (limit : ℕ) (o : Option ℕ) → list_any (λ j. nat_le limit j) (below_limit limit o) ≡ false
+pub low_numbers : (limit : ℕ) (o : Option ℕ) → list_any (λ j. nat_le limit j) (below_limit limit o) ≡ false
 low_numbers limit None = refl
 low_numbers limit (Some j) = by (nat_lt j limit) refl
   where

@@ -10,14 +10,16 @@ use Rattle.pld_device.specs.declared.flip.Flip.{Flip}
 use Rattle.abel_tree.specs.Assigned.{Assigned, signals_of_name, named_of, sections_assign, is_assigned, is_clocked_target}
 use Rattle.abel_tree.specs.Entries.{Entry, is_signal}
 use Rattle.abel_tree.specs.Tree.{SectionTree}
-use Rattle.abel_meaning.specs.Kinds.{is_registered, is_buffer, settled_words, with_kind, with_kinds, with_assigned}
+use Rattle.abel_meaning.specs.Held.{holds_of}
+use Rattle.abel_meaning.specs.Kinds.{is_registered, with_kind, with_kinds, with_assigned}
 use Rattle.name_kinds.specs.declared.marks.Mark.{Mark}
 use Rattle.name_kinds.specs.declared.marks.Mark.TheVariants as mark
 use Rattle.name_kinds.specs.Marking.{is_marked, is_on_clock, all_marked}
 use Rattle.name_kinds.specs.Numbered.{numbered, direct, swept as swept_marks}
-use Rattle.name_kinds.specs.Settled.{kind_by, kinds_by}
+use Rattle.name_kinds.specs.Settled.{all_found, is_held_at, kind_by, kinds_by, words_by}
 use Rattle.name_kinds.proofs.Alike.{NamesAlike, tells, sections_alike}
 use Rattle.name_kinds.proofs.Bits.{at, all_marked_at, all_clocked_at, swept_marked, swept_clock, length_all_marked}
+use Rattle.name_kinds.proofs.HeldFound.{held_is}
 use Rattle.name_kinds.proofs.Related.{stands, stands_alike, no_signal_alike, low_alike, direct_low, stands_by, stands_self}
 use Rattle.name_kinds.proofs.Spreading.{sweep, below, below_none, below_or, below_one, swept, same_number}
 
@@ -177,20 +179,30 @@ module _ (es : List Entry) (xs : List SectionTree) where
       the_same : (y e : Entry) → ◌≡◌ {A = Option Entry} (Some y) (Some e) → y ≡ e
       the_same y e h = cc
 
-  settled_one : (flip : Flip) (s : ℕ) (x : Entry) → slice_get es s ≡ Some x → kind_by flip (at (swept_marks es (length es) first_pass) s) x ≡ with_kind flip in_truth s x
+  -- a name with what is marked and held is the name with its kind
+  abbrev settled_by : Flip → ℕ → Entry → Entry
+  settled_by flip s x = kind_by flip (at (swept_marks es (length es) first_pass) s) (is_held_at (all_found es xs) s) x
+
+  abbrev kind_of : Flip → ℕ → Entry → Entry
+  kind_of flip s x = with_kind flip (holds_of es xs) in_truth s x
+
+  settled_one : (flip : Flip) (s : ℕ) (x : Entry) → slice_get es s ≡ Some x → settled_by flip s x ≡ kind_of flip s x
   settled_one flip s x g = by (is_signal x.kind) refl
     where
-      by : (b : Bool) → is_signal x.kind ≡ b → kind_by flip (at (swept_marks es (length es) first_pass) s) x ≡ with_kind flip in_truth s x
+      by : (b : Bool) → is_signal x.kind ≡ b → settled_by flip s x ≡ kind_of flip s x
       by true e =
-          rw e (ap₂ (λ c d. record x { words = settled_words x.words (is_registered x.words c) (is_buffer flip x.words); assigned = d }) (is_clocked s x g e) (is_found s x g e))
+          rw e
+          (ap₂ (λ c d. record x { words = words_by flip (is_held_at (all_found es xs) s) x.words (is_registered x.words c); assigned = d }) (is_clocked s x g e) (is_found s x g e)
+          ∙ ap (λ h. record x { words = words_by flip h x.words (is_registered x.words (is_clocked_target in_truth s)); assigned = is_assigned in_truth s }) (held_is es xs s x g e))
       by false e = rw e (ap (λ d. record x { words = x.words; assigned = d }) (sym (is_no_target s x g e)))
 
-  all_settled : (flip : Flip) (i : ℕ) (l : List Entry) → ((j : ℕ) (e : Entry) → slice_get l j ≡ Some e → kind_by flip (at (swept_marks es (length es) first_pass) (i + j)) e ≡ with_kind flip in_truth (i + j) e) → kinds_by flip (swept_marks es (length es) first_pass) i l ≡ with_kinds flip in_truth i l
+  all_settled : (flip : Flip) (i : ℕ) (l : List Entry) → ((j : ℕ) (e : Entry) → slice_get l j ≡ Some e → settled_by flip (i + j) e ≡ kind_of flip (i + j) e)
+      → kinds_by flip (swept_marks es (length es) first_pass) (all_found es xs) i l ≡ with_kinds flip (holds_of es xs) in_truth i l
   all_settled flip i [] f = refl
   all_settled flip i (e ∷ l) f =
       ap₂ (λ y ys. y ∷ ys)
-      (subst (λ k. kind_by flip (at (swept_marks es (length es) first_pass) k) e ≡ with_kind flip in_truth k e) (plus_zero i) (f 0 e refl))
-      (all_settled flip (suc i) l (λ j y h. subst (λ k. kind_by flip (at (swept_marks es (length es) first_pass) k) y ≡ with_kind flip in_truth k y) (plus_suc i j) (f (suc j) y h)))
+      (subst (λ k. settled_by flip k e ≡ kind_of flip k e) (plus_zero i) (f 0 e refl))
+      (all_settled flip (suc i) l (λ j y h. subst (λ k. settled_by flip k y ≡ kind_of flip k y) (plus_suc i j) (f (suc j) y h)))
     where
       plus_zero : (n : ℕ) → n + 0 ≡ n
       plus_zero n = omega arith
@@ -199,8 +211,8 @@ module _ (es : List Entry) (xs : List SectionTree) where
       plus_suc n j = omega arith
 
   -- the names with their kinds
-  pub settled : (flip : Flip) → kinds_by flip (swept_marks es (length es) first_pass) 0 es ≡ with_assigned flip xs es
-  settled flip = all_settled flip 0 es (λ j e h. subst (λ k. kind_by flip (at (swept_marks es (length es) first_pass) k) e ≡ with_kind flip in_truth k e) (no_plus j) (settled_one flip j e h))
+  pub settled : (flip : Flip) → kinds_by flip (swept_marks es (length es) first_pass) (all_found es xs) 0 es ≡ with_assigned flip xs es
+  settled flip = all_settled flip 0 es (λ j e h. subst (λ k. settled_by flip k e ≡ kind_of flip k e) (no_plus j) (settled_one flip j e h))
     where
       no_plus : (n : ℕ) → n ≡ 0 + n
       no_plus n = omega arith

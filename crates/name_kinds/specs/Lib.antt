@@ -1,3 +1,4 @@
 pub mod Marking
 pub mod Numbered
+pub mod Reading
 pub mod Settled

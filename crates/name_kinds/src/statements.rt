@@ -14,7 +14,7 @@ use pld_base::OutOfMemory;
 use std::alloc::Global;
 
 /// The extension of a target.
-fn extension_of(target: &Expr) -> Option<Extension>
+pub(crate) fn extension_of(target: &Expr) -> Option<Extension>
     ensures { result ≡ target_extension (view target.now) }
 {
     match target {

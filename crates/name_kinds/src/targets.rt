@@ -19,7 +19,7 @@ use std::alloc::Global;
 
 impl Numbers {
     /// Marks a name, if its number is below the limit.
-    fn mark_name(&self, marks: &mut Vec<Mark>, limit: usize, clocked: bool, name: &[u8])
+    pub(crate) fn mark_name(&self, marks: &mut Vec<Mark>, limit: usize, clocked: bool, name: &[u8])
         ensures { (es : List Entry) → IsNumbering self.now es → marks.new.items ≡ hits clocked marks.old.items (signals_of_name (numbered limit es) name.now) }
     {
         if let Some(number) = self.map.get(name) {
@@ -30,7 +30,13 @@ impl Numbers {
     }
 
     /// Marks names.
-    fn mark_names(&self, marks: &mut Vec<Mark>, limit: usize, clocked: bool, names: &[Vec<u8>])
+    pub(crate) fn mark_names(
+        &self,
+        marks: &mut Vec<Mark>,
+        limit: usize,
+        clocked: bool,
+        names: &[Vec<u8>],
+    )
         ensures { (es : List Entry) → IsNumbering self.now es → marks.new.items ≡ hits clocked marks.old.items (signals_of_names (numbered limit es) (map name_items names.now)) }
     {
         for name in names {

@@ -1,5 +1,5 @@
 -- Both passes, and then the names by their marks.
-use Rattle.std.proofs.Common.{◌≡◌, map, length, sym, ap, subst, ◌∙◌, arith}
+use Rattle.std.proofs.Common.{◌≡◌, map, length, sym, ap, ap₂, subst, ◌∙◌, arith}
 use Rattle.std.specs.Prelude.{replicate}
 use Rattle.std.proofs.lemmas.List.{length-map}
 use Rattle.std.proofs.lemmas.Result.{IfOk-weaker}
@@ -10,7 +10,8 @@ use Rattle.abel_meaning.specs.Kinds.{with_assigned}
 use Rattle.name_kinds.specs.declared.marks.Mark.TheVariants.{Free}
 use Rattle.name_kinds.specs.Marking.{all_marked}
 use Rattle.name_kinds.specs.Numbered.{IsNumbering, numbered, swept}
-use Rattle.name_kinds.specs.Settled.{kinds_by}
+use Rattle.name_kinds.specs.Reading.{holding_of}
+use Rattle.name_kinds.specs.Settled.{all_found, kinds_by}
 use Rattle.name_kinds.proofs.Direct.{marks_passed}
 use Rattle.name_kinds.proofs.Settling.{settled}
 use Rattle.name_kinds.proofs.kinds.settle.Goals as goal
@@ -29,8 +30,9 @@ returns c =
     subst (λ l. IsNumbering c.in_ok-numbers.numbers (map view_declared l) → c.sweep.new.marks.items ≡ swept (map view_declared l) (length l) c.mark_sections.new.marks.items) c.as_slice-2.ensures.value c.in_ok-sweep.ensures num
     ∙ ap (λ k. swept es k c.mark_sections.new.marks.items) (sym (length-map c.args.names.items view_declared)) in
     let whole = marks_passed es found c.in_ok-marks.marks.items c.mark_sections.new.marks.items c.sweep.new.marks.items free first last in
+    let held : holding_of c.in_ok-held.held ≡ all_found es xs = c.in_ok-held.ensures ∙ ap (λ l. all_found (map view_declared l) xs) c.as_slice-3.ensures.value in
     IfOk-weaker c.settle_all.result
-    (λ list. map view_declared list.items ≡ kinds_by c.args.flip c.as_slice-3.result.now 0 es)
+    (λ list. map view_declared list.items ≡ kinds_by c.args.flip c.as_slice-4.result.now (holding_of c.in_ok-held.held) 0 es)
     (λ list. map view_declared list.items ≡ with_assigned c.args.flip xs es)
-    (λ list h. h ∙ (ap (λ ms. kinds_by c.args.flip ms 0 es) (c.as_slice-3.ensures.value ∙ whole) ∙ settled es xs c.args.flip))
+    (λ list h. h ∙ (ap₂ (λ ms hs. kinds_by c.args.flip ms hs 0 es) (c.as_slice-4.ensures.value ∙ whole) held ∙ settled es xs c.args.flip))
     c.settle_all.ensures
