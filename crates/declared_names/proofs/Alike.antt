@@ -8,6 +8,7 @@ use Rattle.abel_tree.specs.Entries.{Kind, Words, Entry, kind_of, passes, is_valu
 use Rattle.abel_tree.specs.SoundNames.{used_names, is_named, are_named}
 use Rattle.abel_tree.specs.Uses.{Use}
 use Rattle.abel_meaning.specs.Declarations.{GivenName, with_words}
+use Rattle.abel_meaning.specs.Held.{Holds}
 use Rattle.abel_meaning.specs.Kinds.{with_kinds}
 use Rattle.decls.proofs.FirstNames.{kind_append, or_else}
 
@@ -37,9 +38,9 @@ pub alike_told : (xs : List GivenName) (w : Words) (es : List Entry) → Alike e
 alike_told xs w [] = tt
 alike_told xs w (e ∷ es) = (refl, (refl, alike_told xs w es))
 
-pub alike_settled : (flip : Flip) (found : List Assigned) (s : ℕ) (es : List Entry) → Alike es (with_kinds flip found s es)
-alike_settled flip found s [] = tt
-alike_settled flip found s (e ∷ es) = (refl, (refl, alike_settled flip found (suc s) es))
+pub alike_settled : (flip : Flip) (held : Holds) (found : List Assigned) (s : ℕ) (es : List Entry) → Alike es (with_kinds flip held found s es)
+alike_settled flip held found s [] = tt
+alike_settled flip held found s (e ∷ es) = (refl, (refl, alike_settled flip held found (suc s) es))
 
 -- ---- what is known stays known
 

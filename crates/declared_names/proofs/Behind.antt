@@ -1,4 +1,4 @@
--- Where nothing is refused, a register follows Q only where the device complements behind it.
+-- Where nothing is refused, a register follows Q, or may, only where the device complements behind it.
 use Rattle.std.proofs.Common.{◌≡◌, ◌≢◌, ℕ, zero, suc, ◌+◌, ◌==◌, Bool, true, false, not, ◌&&◌, ◌||◌, if◌then◌else◌, Option, Some, None, List, [], ◌∷◌, ◌++◌, get_or, option_map, refl, sym, ap, ap₂, subst, ◌∙◌, arith}
 use Rattle.std.specs.Prelude.{slice_get, unwrap_or}
 use Rattle.std.specs.List.{All, list_all}
@@ -14,8 +14,9 @@ use Rattle.abel_tree.specs.Assigned.{Assigned, named_of, sections_assign, is_ass
 use Rattle.abel_tree.specs.Entries.{Entry, find, is_signal}
 use Rattle.abel_tree.specs.Tree.{ModuleTree}
 use Rattle.abel_meaning.specs.Declarations.{GivenName, declared_names}
-use Rattle.abel_meaning.specs.Designs.{no_name, is_stored}
-use Rattle.abel_meaning.specs.Kinds.{is_buffer_by_default, is_registered, is_buffer, settled_words, with_kind, with_kinds, names_of}
+use Rattle.abel_meaning.specs.Designs.{no_name, is_stored, follows_q}
+use Rattle.abel_meaning.specs.Held.{Holds, holds_of, is_held}
+use Rattle.abel_meaning.specs.Kinds.{is_buffer_by_default, is_registered, is_buffer, words_with_kind, with_kind, with_kinds, names_of}
 use Rattle.decls.specs.declared.fault.NameFault.TheVariants as fault
 use Rattle.decls.specs.AllDeclarations.{all_declarations}
 use Rattle.decls.specs.NameRefusals.{always_inverts, all_buffered, is_register_at, buffers_refused, module_buffers_refused, names_once, read_refusals, name_refusals}
@@ -40,23 +41,24 @@ none_registered found es (x ∷ xs) h = by (is_register_at found es (find es x.n
     by true g more = absurd cc
     by false g more = more g
 
-kinds_at : (flip : Flip) (found : List Assigned) (k : ℕ) (es : List Entry) (s : ℕ) → slice_get (with_kinds flip found k es) s ≡ option_map (with_kind flip found (k + s)) (slice_get es s)
-kinds_at flip found k [] zero = refl
-kinds_at flip found k [] (suc s) = refl
-kinds_at flip found k (e ∷ es) zero = ap (λ n. Some (with_kind flip found n e)) (start k)
+kinds_at : (flip : Flip) (held : Holds) (found : List Assigned) (k : ℕ) (es : List Entry) (s : ℕ) → slice_get (with_kinds flip held found k es) s ≡ option_map (with_kind flip held found (k + s)) (slice_get es s)
+kinds_at flip held found k [] zero = refl
+kinds_at flip held found k [] (suc s) = refl
+kinds_at flip held found k (e ∷ es) zero = ap (λ n. Some (with_kind flip held found n e)) (start k)
   where
     start : (n : ℕ) → n ≡ n + 0
     start n = omega arith
-kinds_at flip found k (e ∷ es) (suc s) = kinds_at flip found (suc k) es s ∙ ap (λ n. option_map (with_kind flip found n) (slice_get es s)) (step k s)
+kinds_at flip held found k (e ∷ es) (suc s) = kinds_at flip held found (suc k) es s ∙ ap (λ n. option_map (with_kind flip held found n) (slice_get es s)) (step k s)
   where
     step : (n j : ℕ) → suc n + j ≡ n + suc j
     step n j = omega arith
 
 -- a settled name, or what stands past the end
-pub name_at_or : (flip : Flip) (found : List Assigned) (es : List Entry) (s : ℕ) (o : Option Entry) → slice_get es s ≡ o → get_or (with_kinds flip found 0 es) s no_name ≡ unwrap_or (option_map (with_kind flip found s) o) no_name
-name_at_or flip found es s o is =
-    sym (unwrap_or-slice_get (with_kinds flip found 0 es) s no_name)
-    ∙ ap (λ (x : Option Entry). unwrap_or x no_name) (kinds_at flip found 0 es s ∙ ap₂ (λ n (x : Option Entry). option_map (with_kind flip found n) x) (no_plus s) is)
+pub name_at_or : (flip : Flip) (held : Holds) (found : List Assigned) (es : List Entry) (s : ℕ) (o : Option Entry) → slice_get es s ≡ o
+    → get_or (with_kinds flip held found 0 es) s no_name ≡ unwrap_or (option_map (with_kind flip held found s) o) no_name
+name_at_or flip held found es s o is =
+    sym (unwrap_or-slice_get (with_kinds flip held found 0 es) s no_name)
+    ∙ ap (λ (x : Option Entry). unwrap_or x no_name) (kinds_at flip held found 0 es s ∙ ap₂ (λ n (x : Option Entry). option_map (with_kind flip held found n) x) (no_plus s) is)
 
 inverts : (t : Table) → t.clock ≢ 0 → pin_complements t.flip true false ≡ true → always_inverts t ≡ true
 inverts t clock complements = ap₂ (λ a b. not a && b) (other t.clock clock) complements
@@ -64,13 +66,17 @@ inverts t clock complements = ap₂ (λ a b. not a && b) (other t.clock clock) c
     other : (n : ℕ) → n ≢ 0 → (n == 0) ≡ false
     other n apart = grind (arith, nat_tests)
 
--- what is buffer, but not by default, was said to be
-was_said : (said other default : Bool) → default ≡ false → (said || (other && default)) ≡ true → said ≡ true
-was_said true other default none is = refl
-was_said false true default none is = absurd (true≢false (sym is ∙ none))
-was_said false false default none is = absurd cc
+-- what is buffer, or may be, but not by default, was said to be
+was_said : (said other default registered held : Bool) → default ≡ false
+    → not (not (said || (other && default)) && not (registered && ((not said && (other && default)) && not held))) ≡ true → said ≡ true
+was_said true other default registered held none is = refl
+was_said false other true registered held none is = absurd cc
+was_said false true false true held none is = absurd cc
+was_said false true false false held none is = absurd cc
+was_said false false false true held none is = absurd cc
+was_said false false false false held none is = absurd cc
 
-module _ (t : Table) (found : List Assigned) (es : List Entry) (xs : List GivenName) (sound : AreSound t.pins [] es) (told : All (IsTold xs) es) (none : always_inverts t ≡ true → buffers_refused found es xs ≡ []) where
+module _ (t : Table) (held : Holds) (found : List Assigned) (es : List Entry) (xs : List GivenName) (sound : AreSound t.pins [] es) (told : All (IsTold xs) es) (none : always_inverts t ≡ true → buffers_refused found es xs ≡ []) where
   told_at : (s : ℕ) (e : Entry) → slice_get es s ≡ Some e → IsTold xs e
   told_at s e is = subst (IsTold xs) (get_or_from_slice_get es s e e is) (All-get_or (IsTold xs) es s e (slice_get_within es s e is) told)
 
@@ -85,30 +91,33 @@ module _ (t : Table) (found : List Assigned) (es : List Entry) (xs : List GivenN
       ∙ (sym (declared_at found es s) ∙ (ap (registered_by found s) is ∙ here)) in
       true≢false (sym quiet ∙ ap not at)
 
-  not_behind : (flip : Flip) → always_inverts t ≡ true → is_buffer_by_default flip ≡ false → (s : ℕ) (e : Entry) → slice_get es s ≡ Some e → is_stored (with_kind flip found s e) ≡ true → (with_kind flip found s e).words.buffer ≡ true → ⊥
-  not_behind flip inverted default s e is = by (is_signal e.kind) refl
+  not_behind : (flip : Flip) → always_inverts t ≡ true → is_buffer_by_default flip ≡ false → (s : ℕ) (e : Entry) → slice_get es s ≡ Some e → is_signal e.kind ≡ true → is_stored (with_kind flip held found s e) ≡ true → follows_q (with_kind flip held found s e) ≡ true → ⊥
+  not_behind flip inverted default s e is signal = by (is_signal e.kind) signal
     where
-      by : (b : Bool) → is_signal e.kind ≡ b
-          → ((if b then settled_words e.words (is_registered e.words (is_clocked_target found s)) (is_buffer flip e.words) else e.words).registered && is_assigned found s) ≡ true
-          → (if b then settled_words e.words (is_registered e.words (is_clocked_target found s)) (is_buffer flip e.words) else e.words).buffer ≡ true → ⊥
-      by true signal stored follows =
-          no_register inverted s e is (was_said e.words.buffer (not e.words.invert) (is_buffer_by_default flip) default follows)
-          (and_parts (is_registered e.words (is_clocked_target found s)) (is_assigned found s) stored).0
-      by false other stored follows = true≢false (sym (told_at s e is follows).0 ∙ other)
+      registered : Bool
+      registered = is_registered e.words (is_clocked_target found s)
 
-  behind : (flip : Flip) → t.flip ≡ flip → t.clock ≢ 0 → (s : ℕ) (e : Entry) → slice_get es s ≡ Some e → is_stored (with_kind flip found s e) ≡ true → (with_kind flip found s e).words.buffer ≡ true → flip ≡ AfterRegister
-  behind Always same clock s e is stored follows = absurd (not_behind Always (inverts t clock (ap (λ f. pin_complements f true false) same)) refl s e is stored follows)
-  behind AfterRegister same clock s e is stored follows = refl
-  behind BeforeRegister same clock s e is stored follows = absurd (not_behind BeforeRegister (inverts t clock (ap (λ f. pin_complements f true false) same)) refl s e is stored follows)
+      by : (b : Bool) → b ≡ true
+          → ((if b then words_with_kind flip held s e.words registered else e.words).registered && is_assigned found s) ≡ true
+          → not (if b then words_with_kind flip held s e.words registered else e.words).invert ≡ true → ⊥
+      by true here stored follows =
+          no_register inverted s e is (was_said e.words.buffer (not e.words.invert) (is_buffer_by_default flip) registered (is_held held s) default follows)
+          (and_parts registered (is_assigned found s) stored).0
+      by false other stored follows = absurd cc
 
-  pub allowed : BuffersAreAllowed t (with_kinds t.flip found 0 es)
-  allowed s stored follows clock = by (slice_get es s) refl
+  behind : (flip : Flip) → t.flip ≡ flip → t.clock ≢ 0 → (s : ℕ) (e : Entry) → slice_get es s ≡ Some e → is_signal e.kind ≡ true → is_stored (with_kind flip held found s e) ≡ true → follows_q (with_kind flip held found s e) ≡ true → flip ≡ AfterRegister
+  behind Always same clock s e is signal stored follows = absurd (not_behind Always (inverts t clock (ap (λ f. pin_complements f true false) same)) refl s e is signal stored follows)
+  behind AfterRegister same clock s e is signal stored follows = refl
+  behind BeforeRegister same clock s e is signal stored follows = absurd (not_behind BeforeRegister (inverts t clock (ap (λ f. pin_complements f true false) same)) refl s e is signal stored follows)
+
+  pub allowed : BuffersAreAllowed t (with_kinds t.flip held found 0 es)
+  allowed s signal stored follows clock = by (slice_get es s) refl
     where
       by : (o : Option Entry) → slice_get es s ≡ o → t.flip ≡ AfterRegister
-      by None is = absurd (true≢false (sym stored ∙ ap is_stored (name_at_or t.flip found es s None is)))
+      by None is = absurd (true≢false (sym stored ∙ ap is_stored (name_at_or t.flip held found es s None is)))
       by (Some e) is =
-          let here = name_at_or t.flip found es s (Some e) is in
-          behind t.flip refl clock s e is (sym (ap is_stored here) ∙ stored) (sym (ap (λ (x : Entry). x.words.buffer) here) ∙ follows)
+          let here = name_at_or t.flip held found es s (Some e) is in
+          behind t.flip refl clock s e is (sym (ap (λ (x : Entry). is_signal x.kind) here) ∙ signal) (sym (ap is_stored here) ∙ stored) (sym (ap follows_q here) ∙ follows)
 
 -- ---- the module
 
@@ -118,7 +127,7 @@ module_buffers t m h =
     let all = module_accepted t m (none_left (read_refusals t m) (module_buffers_refused t m) h) in
     let told = declarations_told t [] (all_declarations m) [] tt all.unrefused (All-nil (IsTold [])) in
     let refused = λ (es : List Entry). buffers_refused (sections_assign (named_of es) m.sections) es xs in
-    allowed t (sections_assign (named_of (declared_names m)) m.sections) (declared_names m) xs
+    allowed t (holds_of (declared_names m) m.sections) (sections_assign (named_of (declared_names m)) m.sections) (declared_names m) xs
     (subst (AreSound t.pins []) all.settled.names all.sound)
     (subst (All (IsTold xs)) all.settled.names told)
     (λ inverted. subst (λ es. refused es ≡ []) (all.settled.sure.once ∙ all.settled.names) (sym (ap (λ b. if b then refused (names_once m) else []) inverted) ∙ none_right (read_refusals t m) (module_buffers_refused t m) h))

@@ -9,7 +9,8 @@ use Rattle.abel_tree.specs.Assigned.{Assigned, Named, meant, named_after, named_
 use Rattle.abel_tree.specs.Entries.{Kind, APin, ANode, AConstant, ADeviceName, Words, Entry, find, is_signal}
 use Rattle.abel_tree.specs.Tree.{ModuleTree}
 use Rattle.abel_meaning.specs.Declarations.{GivenName}
-use Rattle.abel_meaning.specs.Kinds.{is_registered, is_buffer, settled_words, with_kinds, with_assigned}
+use Rattle.abel_meaning.specs.Held.{Holds, holds_of}
+use Rattle.abel_meaning.specs.Kinds.{is_registered, is_buffer, settled_words, stays_free, with_kinds, with_assigned}
 use Rattle.decls.specs.declared.fault.NameFault.{NameFault}
 use Rattle.decls.specs.declared.fault.NameFault.TheVariants as fault
 use Rattle.decls.specs.declared.reading.Buffered.{Buffered}
@@ -39,11 +40,11 @@ abbrev pub registered_by : List Assigned → ℕ → Option Entry → Bool
 registered_by found s None = false
 registered_by found s (Some e) = is_signal e.kind && is_registered e.words (is_clocked_target found s)
 
-registered_kept : (t : Table) (k : Kind) (w : Words) (r b : Bool) → (is_signal (kept_kind t k) && (if is_signal (kept_kind t k) then settled_words w r b else w).registered) ≡ (is_signal k && r)
-registered_kept t (APin pin negated) w r b = refl
-registered_kept t (ANode number) w r b = refl
-registered_kept t (AConstant value) w r b = refl
-registered_kept t ADeviceName w r b = refl
+registered_kept : (t : Table) (k : Kind) (w : Words) (r b f : Bool) → (is_signal (kept_kind t k) && (if is_signal (kept_kind t k) then settled_words w r b f else w).registered) ≡ (is_signal k && r)
+registered_kept t (APin pin negated) w r b f = refl
+registered_kept t (ANode number) w r b f = refl
+registered_kept t (AConstant value) w r b f = refl
+registered_kept t ADeviceName w r b f = refl
 
 plus_zero : (n : ℕ) → n ≡ n + 0
 plus_zero n = omega arith
@@ -51,14 +52,15 @@ plus_zero n = omega arith
 plus_suc : (s n : ℕ) → suc s + n ≡ s + suc n
 plus_suc s n = omega arith
 
-settled_at : (t : Table) (flip : Flip) (found : List Assigned) (s : ℕ) (es : List Entry) (n : ℕ) → is_register (slice_get (with_kinds flip found s (map (kept t) es)) n) ≡ registered_by found (s + n) (slice_get es n)
-settled_at t flip found s [] zero = refl
-settled_at t flip found s [] (suc n) = refl
-settled_at t flip found s (e ∷ es) zero =
-    registered_kept t e.kind e.words (is_registered e.words (is_clocked_target found s)) (is_buffer flip e.words)
+settled_at : (t : Table) (flip : Flip) (held : Holds) (found : List Assigned) (s : ℕ) (es : List Entry) (n : ℕ) → is_register (slice_get (with_kinds flip held found s (map (kept t) es)) n) ≡ registered_by found (s + n) (slice_get es n)
+settled_at t flip held found s [] zero = refl
+settled_at t flip held found s [] (suc n) = refl
+settled_at t flip held found s (e ∷ es) zero =
+    let registered = is_registered e.words (is_clocked_target found s) in
+    registered_kept t e.kind e.words registered (is_buffer flip e.words) (stays_free flip held s e.words registered)
     ∙ ap (λ k. is_signal e.kind && is_registered e.words (is_clocked_target found k)) (plus_zero s)
-settled_at t flip found s (e ∷ es) (suc n) =
-    settled_at t flip found (suc s) es n ∙ ap (λ k. registered_by found k (slice_get es n)) (plus_suc s n)
+settled_at t flip held found s (e ∷ es) (suc n) =
+    settled_at t flip held found (suc s) es n ∙ ap (λ k. registered_by found k (slice_get es n)) (plus_suc s n)
 
 pub no_plus : (n : ℕ) → 0 + n ≡ n
 no_plus n = omega arith
@@ -91,15 +93,15 @@ one_more es fs bs k d h =
     ∙ (ap (λ l. fs ++ l) (registers_append es (take k bs) (b ∷ []) ∙ ap (λ l. front ++ l) (append-nil (register_refused es b)))
     ∙ sym (append_assoc fs front (register_refused es b)))
 
-module _ (t : Table) (flip : Flip) (found : List Assigned) (es : List Entry) where
+module _ (t : Table) (flip : Flip) (held : Holds) (found : List Assigned) (es : List Entry) where
   abbrev settled : List Entry
-  settled = with_kinds flip found 0 (map (kept t) es)
+  settled = with_kinds flip held found 0 (map (kept t) es)
 
   one_same : (p : Place) (o : Option ℕ) → registers_refused settled (number_if p o) ≡ (if is_register_at found es o then fault.BadAttribute p ∷ [] else [])
   one_same p None = refl
   one_same p (Some n) =
       append-nil (if is_register (slice_get settled n) then fault.BadAttribute p ∷ [] else [])
-      ∙ ap (λ b. if b then fault.BadAttribute p ∷ [] else []) (settled_at t flip found 0 es n ∙ (ap (λ k. registered_by found k (slice_get es n)) (no_plus n) ∙ declared_at found es n))
+      ∙ ap (λ b. if b then fault.BadAttribute p ∷ [] else []) (settled_at t flip held found 0 es n ∙ (ap (λ k. registered_by found k (slice_get es n)) (no_plus n) ∙ declared_at found es n))
 
   buffers_same : (xs : List GivenName) → registers_refused settled (numbered es xs) ≡ buffers_refused found es xs
   buffers_same [] = refl
@@ -112,6 +114,7 @@ pub refused_same : (t : Table) (m : ModuleTree) → refused_for t (with_assigned
 refused_same t m =
     let es = names_once m in
     let xs = all_buffered [] (all_declarations m) in
+    let held = holds_of (map (kept t) es) m.sections in
     ap (λ l. if always_inverts t then l else [])
-    (ap (λ ks. registers_refused (with_kinds t.flip (sections_assign ks m.sections) 0 (map (kept t) es)) (numbered es xs)) (after_kept t [] 0 es)
-    ∙ buffers_same t t.flip (sections_assign (named_of es) m.sections) es xs)
+    (ap (λ ks. registers_refused (with_kinds t.flip held (sections_assign ks m.sections) 0 (map (kept t) es)) (numbered es xs)) (after_kept t [] 0 es)
+    ∙ buffers_same t t.flip held (sections_assign (named_of es) m.sections) es xs)

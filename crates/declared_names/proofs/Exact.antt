@@ -10,6 +10,7 @@ use Rattle.abel_tree.specs.SoundNames.{IsNamed, SoundNames, are_named, module_us
 use Rattle.abel_tree.specs.Tree.{ModuleTree}
 use Rattle.abel_tree.proofs.FirstRefusals.{none_refused}
 use Rattle.abel_meaning.specs.Declarations.{declared_names}
+use Rattle.abel_meaning.specs.Held.{holds_of}
 use Rattle.abel_meaning.specs.Kinds.{names_of, with_assigned}
 use Rattle.decls.specs.declared.fault.NameFault.{NameFault}
 use Rattle.decls.specs.declared.reading.Buffered.{Buffered}
@@ -56,13 +57,13 @@ module _ (t : Table) (m : ModuleTree) (h : name_refusals t m ≡ []) where
   entries_sound : AreSound t.pins [] (names_of t m)
   entries_sound =
       sound_alike t.pins [] [] (declared_names m) (names_of t m) tt
-      (alike_settled t.flip (sections_assign (named_of (declared_names m)) m.sections) 0 (declared_names m))
+      (alike_settled t.flip (holds_of (declared_names m) m.sections) (sections_assign (named_of (declared_names m)) m.sections) 0 (declared_names m))
       (subst (AreSound t.pins []) all.settled.names all.sound)
 
   entries_known : are_named (names_of t m) (module_uses m) ≡ true
   entries_known =
       named_more (declared_names m) (names_of t m) (module_uses m)
-      (extends_alike (declared_names m) (names_of t m) (alike_settled t.flip (sections_assign (named_of (declared_names m)) m.sections) 0 (declared_names m)))
+      (extends_alike (declared_names m) (names_of t m) (alike_settled t.flip (holds_of (declared_names m) m.sections) (sections_assign (named_of (declared_names m)) m.sections) 0 (declared_names m)))
       (subst (λ es. are_named es (module_uses m) ≡ true) all.settled.names all.known)
 
   module _ (n : Names) (same : entries_of n ≡ names_of t m) where

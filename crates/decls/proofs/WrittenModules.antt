@@ -209,7 +209,7 @@ abbrev pub name_code : Entry → ℕ
 name_code x =
     16 * kind_code x.kind
     + (bit (is_signal x.kind && x.words.registered)
-    + (2 * bit (is_signal x.kind && (x.words.registered && x.words.buffer))
+    + (2 * bit (is_signal x.kind && (x.words.registered && not x.words.invert))
     + (4 * bit x.words.dc + 8 * bit x.assigned)))
 
 abbrev pub unless_refused : Option NameFault → List ℕ → List ℕ
