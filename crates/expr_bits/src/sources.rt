@@ -109,11 +109,11 @@ fn node_source(node: u8, extension: Option<Extension>) -> Option<Reading>
     }
 }
 
-/// Whether the pin follows Q.
-fn has_buffer(attributes: Attributes) -> bool
-    ensures { result ≡ has 4 attributes }
+/// Whether the pin follows Q, as it does where nothing says otherwise.
+fn follows_q(attributes: Attributes) -> bool
+    ensures { result ≡ not (has 8 attributes) }
 {
-    attributes.contains(Attributes::BUFFER)
+    !attributes.contains(Attributes::INVERT)
 }
 
 /// Whether the attributes say registered.
@@ -141,7 +141,7 @@ fn on_pin<D: Device>(
     ensures leaf { pin < 32 → HasLeaf result }
 {
     if is_stored(declared) {
-        register_source::<D>(pin, negated, has_buffer(declared.attributes), extension)
+        register_source::<D>(pin, negated, follows_q(declared.attributes), extension)
     } else {
         pin_source(pin, negated, extension)
     }
