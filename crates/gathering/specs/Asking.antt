@@ -7,7 +7,8 @@ use Rattle.bit_expr.specs.declared.netlist.CellWanted.{CellWanted}
 use Rattle.bit_expr.specs.declared.netlist.Control.{Control}
 use Rattle.bit_expr.specs.Formulas.{Formula}
 use Rattle.abel_tree.specs.Entries.{Entry}
-use Rattle.abel_meaning.specs.Designs.{Design, is_stored}
+use Rattle.abel_meaning.specs.Choices.{is_free}
+use Rattle.abel_meaning.specs.Designs.{Design, is_stored, follows_q}
 use Rattle.abel_meaning.specs.Netlists.{plain_function, plain_wanted}
 use Rattle.abel_meaning.specs.SoundIds.{IsFunctionIn, IsCellIn}
 use Rattle.abel_meaning.specs.SourceLogic.{is_negated}
@@ -37,7 +38,8 @@ asked_cell t c s x totals =
       name = s;
       place = unwrap_or totals.place x.place;
       registered = is_stored x;
-      buffer = x.words.buffer;
+      buffer = follows_q x;
+      free = is_free x;
       negated = is_negated x.kind;
       raw = is_stored x && totals.raw;
       function = totals.function;

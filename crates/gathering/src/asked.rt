@@ -8,7 +8,7 @@ ghost use Rattle.signal_sums.specs.Parts.{AllLieIn, Stands};
 ghost use Rattle.gathering.specs.Asking.{Asks, asked_cell, control_by_row, control_if};
 
 use crate::links::{cell_link, node_link};
-use crate::names::{cell_of, has_buffer, is_negated, is_node, is_stored};
+use crate::names::{cell_of, follows_q, is_free, is_negated, is_node, is_stored};
 use abel_tree::Declared;
 use bit_expr::{CellWanted, Control, Exprs, Function};
 use pld_base::OutOfMemory;
@@ -56,7 +56,8 @@ fn asked_cell<D: Device>(cell: u8, name: u32, declared: &Declared, totals: &Tota
         name,
         place: totals.place.unwrap_or(declared.place),
         registered: stored,
-        buffer: has_buffer(declared.attributes),
+        buffer: follows_q(declared.attributes),
+        free: is_free(declared),
         negated: is_negated(&declared.meaning),
         raw: stored && totals.raw,
         function: totals.function,

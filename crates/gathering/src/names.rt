@@ -1,7 +1,8 @@
 //! What is declared of a name.
 
-ghost use Rattle.std.specs.Prelude.{◌≡◌};
+ghost use Rattle.std.specs.Prelude.{◌≡◌, ◌&&◌, not};
 ghost use Rattle.abel_tree.specs.Entries.{has, view_declared, view_meaning};
+ghost use Rattle.abel_meaning.specs.Choices.{is_free};
 ghost use Rattle.abel_meaning.specs.Designs.{cell_on, is_stored};
 ghost use Rattle.abel_meaning.specs.SourceLogic.{is_negated};
 ghost use Rattle.gathered.specs.Gathered.{cell_of};
@@ -28,11 +29,18 @@ pub(crate) fn is_negated(meaning: &Meaning) -> bool
     }
 }
 
-/// Whether the pin follows Q.
-pub(crate) fn has_buffer(attributes: Attributes) -> bool
-    ensures { result ≡ has 4 attributes }
+/// Whether the pin follows Q, as it does where nothing says otherwise.
+pub(crate) fn follows_q(attributes: Attributes) -> bool
+    ensures { result ≡ not (has 8 attributes) }
 {
-    attributes.contains(Attributes::BUFFER)
+    !attributes.contains(Attributes::INVERT)
+}
+
+/// Whether the attributes say neither polarity.
+fn says_neither(attributes: Attributes) -> bool
+    ensures { result ≡ (not (has 4 attributes) && not (has 8 attributes)) }
+{
+    !attributes.contains(Attributes::BUFFER) && !attributes.contains(Attributes::INVERT)
 }
 
 /// Whether the attributes say registered.
@@ -47,6 +55,13 @@ pub(crate) fn is_stored(declared: &Declared) -> bool
     ensures { result ≡ is_stored (view_declared declared.now) }
 {
     has_reg(declared.attributes) && declared.assigned
+}
+
+/// Whether the signal is a register whose polarity is left to the fitter.
+pub(crate) fn is_free(declared: &Declared) -> bool
+    ensures { result ≡ is_free (view_declared declared.now) }
+{
+    is_stored(declared) && says_neither(declared.attributes)
 }
 
 /// The cell on a pin.
