@@ -17,7 +17,7 @@ use Rattle.abel_tree.specs.declared.words.Extension.{Extension}
 use Rattle.abel_tree.specs.declared.words.Extension.TheVariants as extension
 use Rattle.abel_tree.specs.Entries.{Kind, APin, ANode, AConstant, ADeviceName, Entry}
 use Rattle.abel_meaning.specs.Controls.{is_pin, signal_on, cell_stores_for, must_register}
-use Rattle.abel_meaning.specs.Designs.{Design, name_at, no_name, is_stored, cell_on}
+use Rattle.abel_meaning.specs.Designs.{Design, name_at, no_name, is_stored, follows_q, cell_on}
 use Rattle.abel_meaning.specs.SoundIds.{carries_cell}
 use Rattle.abel_meaning.specs.Sources.{Held, pin_source, register_source, node_source, on_pin, source_by}
 use Rattle.gathered.specs.SignalUses.{holds_leaf}
@@ -133,7 +133,7 @@ module _ (d : Design) (apart : PinsApart d) where
   node_read n (Some e) l is = absurd cc
 
   by_stored : (s pin : ℕ) (negated stored : Bool) (e : Option Extension) (l : Leaf) → (name_at d s).kind ≡ APin pin negated → is_stored (name_at d s) ≡ stored → reads_by d.device (name_at d s) stored (APin pin negated) e ≡ true → holds_leaf (on_pin d.device (name_at d s) pin negated stored e) l ≡ true → HasColumns d l
-  by_stored s pin negated true e l kind stored there is = register_read pin negated (name_at d s).words.buffer (cell_on d.device pin) e l refl there is
+  by_stored s pin negated true e l kind stored there is = register_read pin negated (follows_q (name_at d s)) (cell_on d.device pin) e l refl there is
   by_stored s pin negated false e l kind stored there is = pin_read s pin negated kind stored e l there is
 
   by_kind : (s : ℕ) (kind : Kind) (e : Option Extension) (l : Leaf) → (name_at d s).kind ≡ kind → reads_by d.device (name_at d s) (is_stored (name_at d s)) kind e ≡ true → holds_leaf (source_by d.device (name_at d s) kind e) l ≡ true → HasColumns d l

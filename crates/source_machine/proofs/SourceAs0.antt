@@ -14,7 +14,7 @@ use Rattle.abel_tree.specs.Tree.{ModuleTree}
 use Rattle.abel_meaning.specs.AtPoints.{truth_at, given_at}
 use Rattle.abel_meaning.specs.Contributions.{Contribution}
 use Rattle.abel_meaning.specs.Controls.{signal_on, cell_stores, cell_stores_for}
-use Rattle.abel_meaning.specs.Designs.{Design, design_of, name_at, is_stored}
+use Rattle.abel_meaning.specs.Designs.{Design, design_of, name_at, is_stored, follows_q}
 use Rattle.abel_meaning.specs.Follows.{seen}
 use Rattle.abel_meaning.specs.Functions.{function_of, is_raw_signal, value_with_any_0}
 use Rattle.abel_meaning.specs.Netlists.{Wanted, PlainNetlist, function_at, wanted_at}
@@ -97,7 +97,7 @@ module _ (t : Table) (m : ModuleTree) (laws : IsDevice t) (means : MeansTheSame 
       next_named : (s : ℕ) (v raw : Bool) → is_stored (name_at d s) ≡ true → is_raw_signal (given_formulas d) s ≡ raw
           → same_level v (data_with_any_0 at (here c s)) ≡ same_level (complement_if (q_complements raw (name_at d s)) v) (value_with_any_0 (function_at at (here c s).function))
       next_named s v true kept is = rw (kept, is) refl
-      next_named s v false kept is = rw (kept, is) (turned_twice (is_negated (name_at d s).kind) (not (name_at d s).words.buffer) v (value_with_any_0 (function_at at (here c s).function)))
+      next_named s v false kept is = rw (kept, is) (turned_twice (is_negated (name_at d s).kind) (not (follows_q (name_at d s))) v (value_with_any_0 (function_at at (here c s).function)))
 
       next_by : (found : Option ℕ) (v : Bool) → cell_stores_for d c found ≡ true → same_level v (next_with_any_0 at (option_map (here c) found)) ≡ next_allows takes_any_as_0 d at (given_at d at) found v
       next_by None v stores = off v
