@@ -140,7 +140,7 @@ module _ (uses_have_columns : UsesHaveColumns) (d : Design) (fs : List Formula) 
       let may = may_be (cell_at d.device c).kinds (is_stored (name_at d s)) (cell_kind pin c (is_stored (name_at d s)) parts.1 (sym (ap (has_wrong_kind_by d.device (is_stored (name_at d s))) kind) ∙ right_kind s parts.0)) in
       record {
         kind = may;
-        buffer = λ stored follows. accepted.names.buffers s stored follows (clocked pin c parts.1 (may_register (cell_at d.device c).kinds (is_stored (name_at d s)) stored may));
+        buffer = λ stored follows. accepted.names.buffers s (ap is_signal kind) stored follows (clocked pin c parts.1 (may_register (cell_at d.device c).kinds (is_stored (name_at d s)) stored may));
       }
     where
       on_cell : (b : Bool) (o : Option ℕ) → (if b then o else None) ≡ Some c → (b ≡ true) × (o ≡ Some c)
@@ -194,6 +194,7 @@ module _ (uses_have_columns : UsesHaveColumns) (d : Design) (fs : List Formula) 
         pins = accepted.names.pins;
         nodes = accepted.names.nodes;
         cells = λ s c on. allowed s c (name_at d s).kind refl on;
+        free = accepted.free;
         resets = resets;
         presets = presets;
         reads = λ k c is kept l read. some_carried c.holds l ((good_at d Carried (IsSignalOf d) targets (given_uses d) k c given_good is).reads kept) read;

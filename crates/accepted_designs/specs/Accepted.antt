@@ -4,11 +4,12 @@ use Rattle.std.specs.List.{list_any}
 use Rattle.pld_device.specs.declared.flip.Flip.TheVariants.{AfterRegister}
 use Rattle.abel_tree.specs.Entries.{APin, is_signal}
 use Rattle.abel_tree.specs.Tree.{SectionTree, ADiagram}
-use Rattle.abel_meaning.specs.Designs.{Design, name_at, is_stored, cell_on}
+use Rattle.abel_meaning.specs.Choices.{is_free}
+use Rattle.abel_meaning.specs.Designs.{Design, name_at, is_stored, follows_q, cell_on}
 use Rattle.abel_meaning.specs.Functions.{is_data_to}
 use Rattle.abel_meaning.specs.SignalReads.{given_formulas}
 use Rattle.abel_meaning.specs.Terms.{Term, Terms, Read, Set, NoTerm, Before, known_of, term_of}
-use Rattle.gathered.specs.Takeable.{PinsApart, NodesAreFew}
+use Rattle.gathered.specs.Takeable.{PinsApart, NodesAreFew, MayChoose}
 
 -- ---- names
 
@@ -16,11 +17,15 @@ use Rattle.gathered.specs.Takeable.{PinsApart, NodesAreFew}
 abbrev pub SignalsAreAssigned : Design → Type 0
 SignalsAreAssigned d = (s : ℕ) → (name_at d s).assigned ≡ true → is_signal (name_at d s).kind ≡ true
 
--- on a device that has registers, none follows Q where the device can't complement behind it
+-- on a device that has registers, none follows Q, or may, where the device can't complement behind it
 abbrev pub BuffersAreBehind : Design → Type 0
 BuffersAreBehind d =
-    (s : ℕ) → is_stored (name_at d s) ≡ true → (name_at d s).words.buffer ≡ true → d.device.clock ≢ 0
-    → d.device.flip ≡ AfterRegister
+    (s : ℕ) → is_signal (name_at d s).kind ≡ true → is_stored (name_at d s) ≡ true
+    → follows_q (name_at d s) ≡ true → d.device.clock ≢ 0 → d.device.flip ≡ AfterRegister
+
+-- a register whose polarity is left to the fitter is one for which it may be chosen
+abbrev pub FreeMayChoose : Design → Type 0
+FreeMayChoose d = (s : ℕ) → is_free (name_at d s) ≡ true → MayChoose d s
 
 -- each pin that is assigned is that of a cell
 abbrev pub AssignedAreOnCells : Design → Type 0
@@ -67,5 +72,6 @@ HaveBareHeaders d (s ∷ ss) = HasBareHeader d s × HaveBareHeaders d ss
 -- what the phases before accept
 pub record IsAccepted (d : Design) : Type 0 where
   pub names : HasSoundNames d
+  pub free : FreeMayChoose d
   pub data_given : AssignedHaveData d
   pub headers : HaveBareHeaders d d.sections
