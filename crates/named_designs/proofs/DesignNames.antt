@@ -11,6 +11,7 @@ use Rattle.abel_tree.specs.SoundNames.{IsSoundKind}
 use Rattle.abel_tree.specs.Tree.{ModuleTree}
 use Rattle.abel_meaning.specs.Declarations.{declared_names}
 use Rattle.abel_meaning.specs.Designs.{no_name, design_of}
+use Rattle.abel_meaning.specs.Held.{Holds, holds_of}
 use Rattle.abel_meaning.specs.Kinds.{names_of}
 use Rattle.accepted_designs.specs.Accepted.{SignalsAreAssigned}
 use Rattle.name_kinds.proofs.Settling.{is_no_target}
@@ -35,6 +36,9 @@ signals_assigned t m s assigned = by (slice_get es s) refl
     es : List Entry
     es = declared_names m
 
+    held : Holds
+    held = holds_of es m.sections
+
     found : List Assigned
     found = sections_assign (named_of es) m.sections
 
@@ -43,9 +47,9 @@ signals_assigned t m s assigned = by (slice_get es s) refl
     of_kind e is target false other = absurd (true≢false (sym target ∙ is_no_target es m.sections s e is other))
 
     by : (o : Option Entry) → slice_get es s ≡ o → is_signal (get_or (names_of t m) s no_name).kind ≡ true
-    by None is = absurd (true≢false (sym assigned ∙ ap (λ (x : Entry). x.assigned) (name_at_or t.flip found es s None is)))
+    by None is = absurd (true≢false (sym assigned ∙ ap (λ (x : Entry). x.assigned) (name_at_or t.flip held found es s None is)))
     by (Some e) is =
-        let here = name_at_or t.flip found es s (Some e) is in
+        let here = name_at_or t.flip held found es s (Some e) is in
         ap (λ (x : Entry). is_signal x.kind) here
         ∙ of_kind e is (sym (ap (λ (x : Entry). x.assigned) here) ∙ assigned) (is_signal e.kind) refl
 

@@ -6,7 +6,7 @@ use Rattle.gathered.specs.Takeable.{PinsApart, NodesAreFew}
 use Rattle.accepted_designs.specs.Accepted.{SignalsAreAssigned, BuffersAreBehind}
 
 -- the names of the design are accepted: no two are one pin, nodes are few, only signals are assigned, and no register
--- follows Q where the device can't complement behind it
+-- follows Q, or may, where the device can't complement behind it
 pub record HasAcceptedNames (d : Design) : Type 0 where
   pub known : d.known ≡ known_of d.names
   pub pins : PinsApart d
