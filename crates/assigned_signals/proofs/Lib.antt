@@ -3,8 +3,12 @@ pub mod AssignedData
 pub mod AssignedNames
 pub mod AssignedSections
 pub mod BareRegisters
+pub mod BareTargets
 pub mod DiagramHeaders
 pub mod DiagramOutputs
+pub mod FreeRegisters
+pub mod GivenTargets
+pub mod HeldTargets
 pub mod NamedTerms
 pub mod SectionOutputs
 pub mod SoundModules

@@ -145,7 +145,7 @@ extended_alike : (e : Option Extension) (t : Term) → signals_in (extended_if e
 extended_alike None t = refl
 extended_alike (Some e) t = ap some_signals (extended_targets e t)
 
-without_alike : (known : List Known) (t : Tree) → signals_in (term_of known t) ≡ signals_in (term_of known (without_extension t))
+pub without_alike : (known : List Known) (t : Tree) → signals_in (term_of known t) ≡ signals_in (term_of known (without_extension t))
 without_alike known (AName word e) = extended_alike e (term_named known word.text)
 without_alike known (ASet p ms e) = extended_alike e (Set (terms_of known ms))
 without_alike known (ANumber n) = refl

@@ -20,6 +20,8 @@ use Rattle.assigned_signals.specs.Correct.{AreGiven, HasSoundSections, HasSoundD
 use Rattle.assigned_signals.proofs.AssignedSections.{sections_data}
 use Rattle.assigned_signals.proofs.AssignedNames.{own_names, names_within, by_sections, signal_there}
 use Rattle.assigned_signals.proofs.BareRegisters.{registers_bare}
+use Rattle.assigned_signals.proofs.BareTargets.{sections_bare}
+use Rattle.assigned_signals.proofs.FreeRegisters.{free_may_choose}
 use Rattle.assigned_signals.proofs.SectionOutputs.{sections_output}
 use Rattle.assigned_signals.proofs.StatementOutputs.{first_units, last_units}
 
@@ -83,6 +85,7 @@ pub all_accepted : (t : Table) (m : ModuleTree) → HasSoundDeclarations (design
 all_accepted t m n r =
     record {
       names = record { known = refl; pins = n.pins; nodes = n.nodes; signals = signal_there t m; buffers = n.buffers; cells = on_cells t m r };
+      free = free_may_choose t m (sections_bare (design_of t m) [] m.sections (units_clear (design_of t m) r));
       data_given = data_there t m;
       headers = headers_bare (design_of t m) [] m.sections (units_clear (design_of t m) r);
     }

@@ -26,7 +26,7 @@ use Rattle.assigned_signals.proofs.NamedTerms.{IsWithin, without_within}
 use Rattle.assigned_signals.proofs.AimedOutputs.{IsOutput, aimed_among, aimed_output}
 
 -- what is refused of an assignment, part by part
-unrefused_assign : (d : Design) (before : List Manner) (e : Option Extension) (c : Bool) (sign : Sign) (q : Place) (x : TargetFound) (f : Found) → assign_refused d before e c sign q x f ≡ []
+pub unrefused_assign : (d : Design) (before : List Manner) (e : Option Extension) (c : Bool) (sign : Sign) (q : Place) (x : TargetFound) (f : Found) → assign_refused d before e c sign q x f ≡ []
     → (x.refusals ≡ []) × (aims_refused d before e c (is_clocked sign) x.aims ≡ [])
 unrefused_assign d before e c sign q x f h =
     let taken = taken_refused x.refusals q (length x.aims) f in
