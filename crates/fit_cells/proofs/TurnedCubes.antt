@@ -10,22 +10,22 @@ use Rattle.cube_pool.specs.Cubes.{AllAskBelow, AsksBelow, covers, fits, has_from
 use Rattle.fit_cells.specs.Columns.{all_turned, turned}
 use Rattle.fit_cells.specs.Points.{TurnedPoints, levels_turned}
 
-exchanged : (a b mask v : ℕ) → mask < 2 ^ 32 → v < 32
+pub exchanged : (a b mask v : ℕ) → mask < 2 ^ 32 → v < 32
     → bit_at (bit_or (bit_and a (bit_not w32 mask)) (bit_and b mask)) v ≡ max (min (bit_at a v) (1 - bit_at mask v)) (min (bit_at b v) (bit_at mask v))
 exchanged a b mask v low within =
     rw (bit_at_or (bit_and a (bit_not w32 mask)) (bit_and b mask) v, bit_at_and a (bit_not w32 mask) v, bit_at_and b mask v, bit_at_not w32 mask v low within) refl
 
-taken : (a b m : ℕ) → a < 2 → b < 2 → m ≡ 1 → max (min a (1 - m)) (min b m) ≡ b
+pub taken : (a b m : ℕ) → a < 2 → b < 2 → m ≡ 1 → max (min a (1 - m)) (min b m) ≡ b
 taken a b m a_low b_low on = omega (arith, a_low, b_low, on)
 
-stays : (a b m : ℕ) → a < 2 → b < 2 → m ≡ 0 → max (min a (1 - m)) (min b m) ≡ a
+pub stays : (a b m : ℕ) → a < 2 → b < 2 → m ≡ 0 → max (min a (1 - m)) (min b m) ≡ a
 stays a b m a_low b_low off = omega (arith, a_low, b_low, off)
 
-one_or_zero : (m : ℕ) → m < 2 → (m ≡ 1) ⊎ (m ≡ 0)
+pub one_or_zero : (m : ℕ) → m < 2 → (m ≡ 1) ⊎ (m ≡ 0)
 one_or_zero m low = grind (arith, low)
 
 -- a level that is turned fits what was asked of the other one
-fits_turned : (a b : ℕ) (x : Bool) → fits b a x ≡ fits a b (not x)
+pub fits_turned : (a b : ℕ) (x : Bool) → fits b a x ≡ fits a b (not x)
 fits_turned a b true = refl
 fits_turned a b false = refl
 

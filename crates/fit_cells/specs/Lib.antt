@@ -3,3 +3,4 @@ pub mod Columns
 pub mod Covering
 pub mod Points
 pub mod Tries
+pub mod TurnedCovers

@@ -9,5 +9,6 @@ mod turning;
 
 pub use choosing::{Chosen, Tried, choose};
 pub use covering::cover;
-pub use laws::{lists_inside, turned_points};
+pub use laws::{lists_inside, turned_covers, turned_points};
 pub use lists::{Lists, written_lists};
+pub use turning::{all_turned, turned};

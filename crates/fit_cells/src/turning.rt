@@ -7,7 +7,7 @@ use cube_pool::Cube;
 use std::alloc::{AllocError, Global};
 
 /// The cube with its two levels exchanged at the variables of the mask.
-fn turned(cube: Cube, mask: u32) -> Cube
+pub fn turned(cube: Cube, mask: u32) -> Cube
     ensures { result ≡ turned mask cube }
 {
     Cube {
@@ -17,7 +17,7 @@ fn turned(cube: Cube, mask: u32) -> Cube
 }
 
 /// Each cube of a list with its two levels exchanged at the variables of the mask.
-pub(crate) fn all_turned(alloc: Global, cubes: &[Cube], mask: u32) -> Result<Vec<Cube>, AllocError>
+pub fn all_turned(alloc: Global, cubes: &[Cube], mask: u32) -> Result<Vec<Cube>, AllocError>
     ensures { IfOk result (λ r. r.items ≡ all_turned mask cubes.now) }
 {
     let mut list = Vec::new(alloc);
