@@ -1,7 +1,7 @@
 //! The forms that an assigned cell may have, and what its rows have in each.
 
 ghost use Rattle.std.specs.Prelude.{◌≡◌};
-ghost use Rattle.fit_plans.specs.Forms.{may_be_inverted_as, rows_are_positive, or_is_complement, names_or};
+ghost use Rattle.fit_plans.specs.Forms.{follows_as, may_be_inverted_as, rows_are_positive, or_is_complement, names_or};
 ghost use Rattle.pld_device.specs.Macrocells.{complement_if};
 
 use bit_expr::CellWanted;
@@ -31,9 +31,16 @@ pub(crate) fn may_be_inverted_as(flip: Flip, wanted: &CellWanted, inverted: bool
 {
     match flip {
         Flip::Always => inverted,
-        Flip::AfterRegister => !wanted.registered || inverted != wanted.buffer,
+        Flip::AfterRegister => !wanted.registered || wanted.free || inverted != wanted.buffer,
         Flip::BeforeRegister => true,
     }
+}
+
+/// Whether a register's pin follows Q in that form: that of a free one in the direct form alone.
+fn follows_as(wanted: &CellWanted, inverted: bool) -> bool
+    ensures { result ≡ follows_as wanted.now inverted }
+{
+    complement_if(wanted.free && inverted, wanted.buffer)
 }
 
 /// The value of which the cell's function speaks where the OR of its rows is 0.
@@ -44,7 +51,8 @@ fn names_or(flip: Flip, wanted: &CellWanted, inverted: bool) -> bool
     if wanted.raw {
         level
     } else {
-        let input = complement_if(wanted.registered && !wanted.buffer, level);
+        let follows = follows_as(wanted, inverted);
+        let input = complement_if(wanted.registered && !follows, level);
         complement_if(wanted.negated, input)
     }
 }
