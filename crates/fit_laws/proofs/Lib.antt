@@ -13,4 +13,5 @@ pub mod PlansFit
 pub mod Polarity
 pub mod Reached
 pub mod SeenPairs
+pub mod SharedChosen
 pub mod WantedIds

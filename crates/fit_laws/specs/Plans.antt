@@ -1,6 +1,6 @@
 -- What a plan of a device's rows owes a netlist: the covers of its functions, in forms that its cells may have (this
 -- project's rule).
-use Rattle.std.specs.Prelude.{◌≡◌, ℕ, ◌<◌, ◌≤◌, ◌^◌, ◌==◌, Bool, true, false, Option, None, Some, List, [], find, get_or, length, slice_get}
+use Rattle.std.specs.Prelude.{◌≡◌, ℕ, ◌<◌, ◌≤◌, ◌^◌, ◌==◌, Bool, true, false, not, ◌&&◌, Option, None, Some, List, [], find, get_or, length, slice_get}
 use Rattle.std.specs.Int.{bit_at}
 use Rattle.std.specs.Option.{option_to_list}
 use Rattle.pld_base.specs.Points.{Levels}
@@ -19,6 +19,7 @@ use Rattle.bit_expr.specs.Formulas.{Formula}
 use Rattle.abel_meaning.specs.Netlists.{PlainNetlist, Wanted, plain_netlist, shared_function}
 use Rattle.abel_meaning.specs.NetlistLogic.{netlist_stores}
 use Rattle.abel_meaning.specs.SoundIds.{IsSoundNetlist}
+use Rattle.free_netlists.specs.ExchangedNets.{netlist_exchanged, netlist_shown}
 use Rattle.cube_pool.specs.declared.cube.Cube.{Cube}
 use Rattle.cube_pool.specs.Cubes.{covers}
 use Rattle.fit_cells.specs.Covering.{IsCoverBetween}
@@ -39,10 +40,20 @@ abbrev pub carries_complement : Table → PlainNetlist → Carry → Bool
 carries_complement t net (carry.Pin p) = false
 carries_complement t net (carry.Cell c) = netlist_stores t net c
 
+-- so it does of what its leaf stands for, except where the register stores the complement of that
+abbrev pub carries_chosen : Table → PlainNetlist → (chosen : ℕ → Bool) → Carry → Bool
+carries_chosen t net chosen (carry.Pin p) = false
+carries_chosen t net chosen (carry.Cell c) = netlist_stores t net c && not (chosen c)
+
 -- bit v of the mask says so of pair v
 pub record IsTurnMask (t : Table) (net : PlainNetlist) (mask : ℕ) : Type 0 where
   pub low : mask < 2 ^ 32
   pub bits : (v : ℕ) → v < length t.pairs → (bit_at mask v == 1) ≡ carries_complement t net (get_or t.pairs v (carry.Pin 0))
+
+-- bit v of the mask says so of pair v, where these registers store the complement
+pub record IsChosenMask (t : Table) (net : PlainNetlist) (chosen : ℕ → Bool) (mask : ℕ) : Type 0 where
+  pub low : mask < 2 ^ 32
+  pub bits : (v : ℕ) → v < length t.pairs → (bit_at mask v == 1) ≡ carries_chosen t net chosen (get_or t.pairs v (carry.Pin 0))
 
 -- wherever the nodes are valued, the function is the OR of the cubes at what the pairs carry
 abbrev pub IsFunctionOf : Table → PlainNetlist → (fuses : List Bool) → List Cube → (Levels → Bool) → Type 0
@@ -70,6 +81,15 @@ enable_bit w = bit_or (record { 0 = 1 }) w.enable
 -- what is asked of a cell; none where it is assigned nothing
 abbrev pub cell_wanted : Netlist → ℕ → Option CellWanted
 cell_wanted net c = find (λ (w : CellWanted). w.cell == c) net.cells
+
+-- a cell that may be assigned leaves its polarity free
+abbrev pub is_free_cell : Option CellWanted → Bool
+is_free_cell None = false
+is_free_cell (Some w) = w.free
+
+-- the free cells that are inverted: they store the complement
+abbrev pub is_chosen : Netlist → List CellForm → ℕ → Bool
+is_chosen net forms c = is_free_cell (cell_wanted net c) && (form_at forms c).inverted
 
 -- the plan of an assigned cell: it has a form that it may have, and in this its rows fit its room and cover its function
 pub record PlansCell (t : Table) (mask : ℕ) (net : Netlist) (c : ℕ) (w : CellWanted) (x : CellPlan) (form : CellForm) : Type 0 where
@@ -103,18 +123,18 @@ pub record PlansShared (t : Table) (mask : ℕ) (net : Netlist) (own : Wanted �
   pub shared : formula_at (arena net.exprs) bit ≡ shared_function own (plain_netlist net)
   pub covers_it : PlansControl (length t.pairs) mask net bit row
 
--- a plan for the whole netlist
+-- a plan for the whole netlist; its rows ask for what the columns carry in these forms
 pub record PlansNetlist (t : Table) (mask : ℕ) (net : Netlist) (plan : Plan) (forms : List CellForm) : Type 0 where
-  pub mask_is : IsTurnMask t (plain_netlist net) mask
+  pub mask_is : IsChosenMask t (plain_netlist net) (is_chosen net forms) mask
   pub count : length plan.cells ≡ length t.cells
   pub cells : (c : ℕ) → c < length t.cells → HasCellPlan t mask net plan forms c
   pub reset : PlansShared t mask net (λ (w : Wanted). w.reset) plan.reset
   pub preset : PlansShared t mask net (λ (w : Wanted). w.preset) plan.preset
-  pub resets_shared : AreShared t (plain_netlist net) (λ (w : Wanted). w.reset)
-  pub presets_shared : AreShared t (plain_netlist net) (λ (w : Wanted). w.preset)
+  pub resets_shared : AreShared t (netlist_exchanged (is_chosen net forms) (plain_netlist net)) (λ (w : Wanted). w.reset)
+  pub presets_shared : AreShared t (netlist_exchanged (is_chosen net forms) (plain_netlist net)) (λ (w : Wanted). w.preset)
 
--- fuses that hold such a plan are those of the netlist
+-- fuses that hold such a plan are those of the netlist under the choice that they show
 abbrev pub PlansFit : Type 0
 PlansFit =
     (t : Table) (net : Netlist) (mask : ℕ) (plan : Plan) (forms : List CellForm) (fuses : List Bool) → IsDevice t → IsSoundNetlist t net
-    → PlansNetlist t mask net plan forms → IsBurned t plan forms fuses → IsFitted t (plain_netlist net) fuses
+    → PlansNetlist t mask net plan forms → IsBurned t plan forms fuses → IsFitted t (netlist_shown t fuses (plain_netlist net)) fuses
