@@ -1,5 +1,7 @@
 -- The answers of fitting, by what the steps on the way answered.
 use Rattle.std.proofs.Common.{◌≡◌, ◌≢◌, ℕ, ◌<◌, ◌≤◌, Bool, true, List, length, get_or, slice_get, Option, Some, None, refl, sym, ap, ◌∙◌, subst, arith}
+use Rattle.std.specs.Int.Bits.{bit_xor}
+use Rattle.std.proofs.lemmas.List.{length-map}
 use Rattle.std.proofs.lemmas.List.Sorted.{length_permutation}
 use Rattle.std.proofs.lemmas.Option.{same_Some, slice_get_within}
 use Rattle.pld_device.specs.declared.flip.Flip.{Flip}
@@ -10,16 +12,19 @@ use Rattle.pld_device.specs.Registers.{is_inverted}
 use Rattle.pld_device.specs.Table.{Table, cell_at}
 use Rattle.bit_expr.specs.declared.netlist.CellWanted.{CellWanted}
 use Rattle.bit_expr.specs.declared.netlist.Netlist.{Netlist}
-use Rattle.abel_meaning.specs.Netlists.{plain_netlist}
+use Rattle.abel_meaning.specs.Netlists.{Wanted, plain_netlist}
 use Rattle.abel_meaning.specs.SoundIds.{IsSoundNetlist}
 use Rattle.cube_pool.specs.declared.cube.Cube.{Cube}
+use Rattle.fit_cells.specs.Columns.{all_turned, turned}
 use Rattle.fit_cells.specs.declared.choosing.Tried.{Tried}
-use Rattle.fit_laws.specs.Plans.{HasCellPlan, IsTurnMask, PlansNetlist, PlansRows, cell_wanted, enable_bit}
+use Rattle.fit_laws.specs.Plans.{HasCellPlan, IsTurnMask, PlansNetlist, PlansRows, cell_wanted, enable_bit, is_chosen}
 use Rattle.fit_laws.proofs.BurnedControls.{says_inverted}
 use Rattle.fit_laws.proofs.PlannedRows.{cell_single}
-use Rattle.fit_laws.proofs.PlansFit.{plans_fit}
+use Rattle.fit_laws.proofs.PlansFit.{may_choose, plans_fit}
+use Rattle.fit_laws.proofs.SharedChosen.{shared_chosen}
 use Rattle.fit_plans.specs.Covered.{control_function}
 use Rattle.fit_rows.specs.declared.plan.CellPlan.{CellPlan}
+use Rattle.fit_rows.specs.declared.plan.Plan.{Plan}
 use Rattle.fit_rows.specs.Controls.{form_at}
 use Rattle.fit_rows.specs.RowCubes.{HoldsCubes}
 use Rattle.fit_shared.specs.declared.shared.SharedControl.{SharedControl}
@@ -42,7 +47,9 @@ use Rattle.fitter.proofs.Controls.{first_of_one, is_no_product, is_product}
 use Rattle.fitter.proofs.CellPlans.{over_at, plan_as}
 use Rattle.fitter.proofs.FittingCovers.{fitting_cover}
 use Rattle.fitter.proofs.RowOrder.{rows_in_order}
+use Rattle.fitter.specs.Turning.{IsTurnedCell}
 use Rattle.fitter.proofs.CoversInTurn.{none_wide}
+use Rattle.fitter.proofs.TurnedPlans.{both_is, turned_as, turned_control}
 
 -- ---- controls
 
@@ -112,37 +119,51 @@ module _ (t : Table) (laws : IsDevice t) (net : Netlist) (sound : IsSoundNetlist
     -- ---- fuses
 
     module _ (rows : AllRows) (are : RowsBelow t covers (length t.cells) rows.plans.items rows.forms.items) (fitted : Fitted) (is : IsBurnedPlan t net shared rows fitted) where
-      cell_plans : (c : ℕ) → c < length t.cells → HasCellPlan t mask net (plan_of shared rows) rows.forms.items c
+      -- the plan of the rows that were turned, under the mask of the chosen forms
+      abbrev plan : Plan
+      plan = plan_of is.choice shared is.plans
+
+      abbrev both : ℕ
+      both = bit_xor mask is.choice
+
+      cell_plans : (c : ℕ) → c < length t.cells → HasCellPlan t both net plan rows.forms.items c
       cell_plans c low =
           let has = are.each c low in
+          let new = is.turned_are.each c has.plan has.there in
           record {
-            cell = has.plan;
-            there = has.there;
-            planned = plan_as t mask net c (cell_wanted net c) (get_or covers c None) (record { plan = has.plan; form = form_at rows.forms.items c }) refl (below.each c low) has.rows (single c low);
+            cell = new.cell;
+            there = new.there;
+            planned = turned_as t laws mask is.choice mask_is.low is.choice_is.low net c (cell_wanted net c) has.plan new.cell (form_at rows.forms.items c)
+                (plan_as t mask net c (cell_wanted net c) (get_or covers c None) (record { plan = has.plan; form = form_at rows.forms.items c }) refl (below.each c low) has.rows (single c low)) new.is;
           }
 
-      plans : PlansNetlist t mask net (plan_of shared rows) rows.forms.items
-      plans = record {
-        mask_is = mask_is;
-        count = are.plans_count;
-        cells = cell_plans;
-        reset = record { bit = reset.bit; within = reset.shared.id.within; shared = reset.shared.formula; covers_it = reset.covers_it };
-        preset = record { bit = preset.bit; within = preset.shared.id.within; shared = preset.shared.formula; covers_it = preset.covers_it };
-        resets_shared = reset.shared.shared;
-        presets_shared = preset.shared.shared;
-      }
+      plans : PlansNetlist t both net plan rows.forms.items
+      plans =
+          let control = turned_control t laws mask is.choice mask_is.low is.choice_is.low net in
+          let may = may_choose t net sound rows.forms.items in
+          record {
+            mask_is = both_is t net sound rows.forms.items mask is.choice mask_is is.choice_is;
+            count = is.turned_are.count ∙ are.plans_count;
+            cells = cell_plans;
+            reset = record { bit = reset.bit; within = reset.shared.id.within; shared = reset.shared.formula; covers_it = control reset.bit shared.reset reset.covers_it };
+            preset = record { bit = preset.bit; within = preset.shared.id.within; shared = preset.shared.formula; covers_it = control preset.bit shared.preset preset.covers_it };
+            resets_shared = shared_chosen t laws (plain_netlist net) (is_chosen net rows.forms.items) may (λ (w : Wanted). w.reset) (λ w. refl) reset.shared.shared;
+            presets_shared = shared_chosen t laws (plain_netlist net) (is_chosen net rows.forms.items) may (λ (w : Wanted). w.preset) (λ w. refl) preset.shared.shared;
+          }
 
       pin_as : (flip : Flip) (registered a b : Bool) → (flip ≢ Always → a ≡ b) → pin_complements flip registered b ≡ pin_complements flip registered a
       pin_as Always registered a b same = refl
       pin_as AfterRegister registered a b same = sym (same (λ e. absurd cc))
       pin_as BeforeRegister registered a b same = ap (pin_complements BeforeRegister registered) (sym (same (λ e. absurd cc)))
 
-      -- the rows of an assigned cell are in rising order, and fit
-      rows_rise : (c : ℕ) (wanted : Option CellWanted) (w : CellWanted) (found : Option CellCovers) (r : CellRows) → wanted ≡ Some w → HasCoversAs t mask net wanted found → AreRowsOf t c found r
-          → (Rises t.columns r.plan.rows) × (length r.plan.rows ≤ (cell_at t c).room)
-      rows_rise c None w found r e has of = absurd cc
-      rows_rise c (Some v) w None r e has of = absurd has
-      rows_rise c (Some v) w (Some x) r e has of = (of.rise, let fit = of.fit in omega (arith, fit, length_permutation of.list.items r.plan.rows of.same))
+      -- the rows of an assigned cell fit
+      rows_fit : (c : ℕ) (wanted : Option CellWanted) (w : CellWanted) (found : Option CellCovers) (r : CellRows) (y : CellPlan) → wanted ≡ Some w → HasCoversAs t mask net wanted found → AreRowsOf t c found r
+          → IsTurnedCell t is.choice r.plan y → length y.rows ≤ (cell_at t c).room
+      rows_fit c None w found r y e has of new = absurd cc
+      rows_fit c (Some v) w None r y e has of new = absurd has
+      rows_fit c (Some v) w (Some x) r y e has of new =
+          let fit = of.fit in
+          omega (arith, fit, ap length of.rows_are, length_permutation (all_turned is.choice r.plan.rows) y.rows new.same, length-map r.plan.rows (turned is.choice))
 
       -- an assigned cell is inverted only where its direct form doesn't fit
       direct_over : (c : ℕ) (wanted : Option CellWanted) (w : CellWanted) (found : Option CellCovers) (r : CellRows) → wanted ≡ Some w → HasCoversAs t mask net wanted found → AreRowsOf t c found r
@@ -152,39 +173,41 @@ module _ (t : Table) (laws : IsDevice t) (net : Netlist) (sound : IsSoundNetlist
       direct_over c (Some v) w (Some x) r e has of on =
           subst (IsDirectOver t net c) (same_Some v w e) (record { mask = mask; mask_is = mask_is; cover = x.tried.direct; tried = has.tried.direct; over = of.over on })
 
-      entry : (x : FittedCell) → IsEntryOf t net rows.plans.items rows.forms.items x → IsFittedEntry t net fitted.fuses x
+      entry : (x : FittedCell) → IsEntryOf t net is.plans rows.forms.items x → IsFittedEntry t net fitted.fuses x
       entry x of =
-          let there = slice_get_within rows.plans.items x.cell of.plan of.there in
-          let low : x.cell < length t.cells = omega (arith, there, are.plans_count) in
+          let there = slice_get_within is.plans x.cell of.plan of.there in
+          let low : x.cell < length t.cells = omega (arith, there, is.turned_are.count, are.plans_count) in
           let has = are.each x.cell low in
-          let same : has.plan ≡ of.plan = same_Some has.plan of.plan (sym has.there ∙ of.there) in
-          let good = rows_rise x.cell (cell_wanted net x.cell) of.cell (get_or covers x.cell None) (record { plan = has.plan; form = form_at rows.forms.items x.cell }) of.wanted (below.each x.cell low) has.rows in
-          let rows_are : has.plan.rows ≡ x.rows = ap (λ (p : CellPlan). p.rows) same ∙ sym of.rows in
+          let new = is.turned_are.each x.cell has.plan has.there in
+          let same : new.cell ≡ of.plan = same_Some new.cell of.plan (sym new.there ∙ of.there) in
+          let fit = rows_fit x.cell (cell_wanted net x.cell) of.cell (get_or covers x.cell None) (record { plan = has.plan; form = form_at rows.forms.items x.cell }) new.cell of.wanted (below.each x.cell low) has.rows new.is in
+          let rows_are : new.cell.rows ≡ x.rows = ap (λ (p : CellPlan). p.rows) same ∙ sym of.rows in
           record {
             cell = of.cell;
             wanted = of.wanted;
             inverted = of.inverted ∙ pin_as t.flip of.cell.registered (is_inverted t fitted.fuses x.cell) (form_at rows.forms.items x.cell).inverted
-                (says_inverted t laws (plan_of shared rows) rows.forms.items fitted.fuses is.burned x.cell low);
-            rows = subst (HoldsCubes t fitted.fuses (cell_at t x.cell).first (cell_at t x.cell).room) rows_are (is.burned.cells x.cell has.plan low has.there good.1);
-            rise = subst (Rises t.columns) rows_are good.0;
+                (says_inverted t laws plan rows.forms.items fitted.fuses is.burned x.cell low);
+            rows = subst (HoldsCubes t fitted.fuses (cell_at t x.cell).first (cell_at t x.cell).room) rows_are (is.burned.cells x.cell new.cell low new.there fit);
+            rise = subst (Rises t.columns) rows_are new.is.rise;
             direct_first = λ free on.
                 direct_over x.cell (cell_wanted net x.cell) of.cell (get_or covers x.cell None) (record { plan = has.plan; form = form_at rows.forms.items x.cell }) of.wanted (below.each x.cell low) has.rows
-                (sym (says_inverted t laws (plan_of shared rows) rows.forms.items fitted.fuses is.burned x.cell low free) ∙ on);
+                (sym (says_inverted t laws plan rows.forms.items fitted.fuses is.burned x.cell low free) ∙ on);
           }
 
       in_order : (c : ℕ) (w : CellWanted) → c < length t.cells → cell_wanted net c ≡ Some w → AreRowsInOrder t fitted.fuses c
       unfolding cell_plans
       in_order c w low asked =
           let has = are.each c low in
-          let good = rows_rise c (cell_wanted net c) w (get_or covers c None) (record { plan = has.plan; form = form_at rows.forms.items c }) asked (below.each c low) has.rows in
-          rows_in_order t fitted.fuses c has.plan.rows laws.sizes.columns_low (is.burned.cells c has.plan low has.there good.1)
-          (cell_single t laws net mask (plan_of shared rows) rows.forms.items fitted.fuses plans is.burned c (cell_wanted net c) has.plan (form_at rows.forms.items c) (cell_plans c low).planned)
-          good.0
+          let new = is.turned_are.each c has.plan has.there in
+          let fit = rows_fit c (cell_wanted net c) w (get_or covers c None) (record { plan = has.plan; form = form_at rows.forms.items c }) new.cell asked (below.each c low) has.rows new.is in
+          rows_in_order t fitted.fuses c new.cell.rows laws.sizes.columns_low (is.burned.cells c new.cell low new.there fit)
+          (cell_single t laws net both plan rows.forms.items fitted.fuses plans is.burned c (cell_wanted net c) new.cell (form_at rows.forms.items c) (cell_plans c low).planned)
+          new.is.rise
 
       pub fit_of : IsFitOf t net fitted
       fit_of = record {
         controls = controls;
-        fits = plans_fit t net mask (plan_of shared rows) rows.forms.items fitted.fuses laws sound plans is.burned;
+        fits = plans_fit t net both plan rows.forms.items fitted.fuses laws sound plans is.burned;
         cells = record {
           entries = λ k d within. entry (get_or fitted.cells k d) (is.entries.entries k d within);
           order = is.entries.order;

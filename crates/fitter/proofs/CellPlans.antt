@@ -6,7 +6,6 @@ use Rattle.std.proofs.lemmas.Bool.{cases_Bool, cases_lt}
 use Rattle.std.proofs.lemmas.List.{get_or_append_left, length-append}
 use Rattle.std.proofs.Math.Seq.{get_or-append_seam}
 use Rattle.std.proofs.lemmas.Option.{slice_get-get_or}
-use Rattle.std.proofs.lemmas.List.Sorted.{length_permutation}
 use Rattle.pld_device.specs.Table.{Table, cell_at}
 use Rattle.bit_expr.specs.declared.netlist.CellWanted.{CellWanted}
 use Rattle.bit_expr.specs.declared.netlist.Netlist.{Netlist}
@@ -30,7 +29,6 @@ use Rattle.fitter.specs.declared.fault.FitFault.TheVariants as fault
 use Rattle.fitter.specs.Planned.{AreChosen, ArePlanned, ArePlannedAt, AreRowsOf, EachFitsBelow, HasRowsAt, IsOver, IsOverAt, IsSingleRow, RowsBelow, SingleBelow}
 use Rattle.fitter.specs.Rows.{IsHeavier, IsOverRoom}
 use Rattle.fitter.proofs.Controls.{first_of_one}
-use Rattle.fitter.proofs.RisenCovers.{risen_cover}
 
 -- ---- one cell more
 
@@ -120,8 +118,8 @@ cell_plan t mask net c w x rows own has chosen one =
       may = form.may;
       enable = subst (PlansRows (length t.pairs) mask net (control_function (enable_bit w)) true)
           (first_of_one x.enable.items one ∙ ap option_to_list (sym chosen.enable)) has.enable;
-      rows = risen_cover (length t.pairs) mask _ _ chosen.list.items rows.plan.rows chosen.same form.cover;
-      fit = let fit = chosen.fit in omega (arith, fit, length_permutation chosen.list.items rows.plan.rows chosen.same);
+      rows = subst (PlansRows (length t.pairs) mask net w.function (rows_are_positive t.flip w rows.form.inverted)) (sym chosen.rows_are) form.cover;
+      fit = let fit = chosen.fit in omega (arith, fit, ap length chosen.rows_are);
     }
 
 pub plan_as : (t : Table) (mask : ℕ) (net : Netlist) (c : ℕ) (wanted : Option CellWanted) (found : Option CellCovers) (rows : CellRows) → cell_wanted net c ≡ wanted

@@ -1,5 +1,6 @@
 pub mod Answering
 pub mod CellPlans
+pub mod ChoiceBits
 pub mod Controls
 pub mod CoversInTurn
 pub mod Entries
@@ -9,3 +10,5 @@ pub mod RisenCovers
 pub mod RowNumbers
 pub mod RowOrder
 pub mod Stops
+pub mod TurnedCovers
+pub mod TurnedPlans

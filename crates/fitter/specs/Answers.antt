@@ -4,6 +4,7 @@ use Rattle.pld_device.specs.Table.{Table}
 use Rattle.bit_expr.specs.declared.netlist.CellWanted.{CellWanted}
 use Rattle.bit_expr.specs.declared.netlist.Netlist.{Netlist}
 use Rattle.abel_meaning.specs.Netlists.{plain_netlist}
+use Rattle.free_netlists.specs.ExchangedNets.{netlist_shown}
 use Rattle.fitted.specs.Fitting.{AreShared, IsFitted}
 use Rattle.fit_laws.specs.Plans.{IsTurnMask, cell_wanted}
 use Rattle.fit_shared.specs.declared.shared.SharedControl.TheVariants.{Preset, Reset}
@@ -24,10 +25,10 @@ pub record HasControls (t : Table) (net : Netlist) : Type 0 where
   pub preset : IsSharedProduct t net Preset
   pub enables : EnablesBelow t net (length t.cells)
 
--- the answer has the fuses of the netlist and its cells' rows, which are written in order
+-- the answer has the fuses of the netlist under the choice that they show, and its cells' rows, which are written in order
 pub record IsFitOf (t : Table) (net : Netlist) (fitted : Fitted) : Type 0 where
   pub controls : HasControls t net
-  pub fits : IsFitted t (plain_netlist net) fitted.fuses
+  pub fits : IsFitted t (netlist_shown t fitted.fuses (plain_netlist net)) fitted.fuses
   pub cells : AreFittedCells t net fitted.fuses fitted.cells
   pub order : (c : ℕ) (w : CellWanted) → c < length t.cells → cell_wanted net c ≡ Some w → AreRowsInOrder t fitted.fuses c
 

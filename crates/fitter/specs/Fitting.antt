@@ -1,19 +1,29 @@
 -- Private: fuses that were burned for the rows of all cells (this project's rule).
-use Rattle.std.specs.Prelude.{length}
+use Rattle.std.specs.Prelude.{ℕ, List, length}
+use Rattle.std.specs.Option.{option_map}
 use Rattle.pld_device.specs.Table.{Table}
 use Rattle.bit_expr.specs.declared.netlist.Netlist.{Netlist}
+use Rattle.fit_cells.specs.Columns.{turned}
+use Rattle.fit_rows.specs.declared.plan.CellPlan.{CellPlan}
 use Rattle.fit_rows.specs.declared.plan.Plan.{Plan}
 use Rattle.fit_rows.specs.Controls.{IsBurned}
 use Rattle.fitter.specs.declared.answer.Fitted.{Fitted}
 use Rattle.fitter.specs.declared.planning.AllRows.{AllRows}
 use Rattle.fitter.specs.declared.sharing.SharedRows.{SharedRows}
 use Rattle.fitter.specs.Planned.{EntriesBelow}
+use Rattle.fitter.specs.Turning.{AreTurned, IsChoiceMask}
 
--- the plan of all rows
-abbrev pub plan_of : SharedRows → AllRows → Plan
-plan_of shared rows = record { cells = rows.plans.items; reset = shared.reset; preset = shared.preset }
+-- the plan of rows that were turned, with the shared ones turned too
+abbrev pub plan_of : (mask : ℕ) → SharedRows → List CellPlan → Plan
+plan_of mask shared plans =
+    record { cells = plans; reset = option_map (turned mask) shared.reset; preset = option_map (turned mask) shared.preset }
 
--- the fuses hold it, and the entries are those of its cells
+-- the rows are turned where the free registers that are inverted store the complement; the fuses hold them, and the entries are
+-- those of the cells
 pub record IsBurnedPlan (t : Table) (net : Netlist) (shared : SharedRows) (rows : AllRows) (fitted : Fitted) : Type 0 where
-  pub burned : IsBurned t (plan_of shared rows) rows.forms.items fitted.fuses
-  pub entries : EntriesBelow t net rows.plans.items rows.forms.items (length t.cells) fitted.cells
+  pub choice : ℕ
+  pub choice_is : IsChoiceMask t net rows.forms.items choice
+  pub plans : List CellPlan
+  pub turned_are : AreTurned t choice rows.plans.items plans
+  pub burned : IsBurned t (plan_of choice shared plans) rows.forms.items fitted.fuses
+  pub entries : EntriesBelow t net plans rows.forms.items (length t.cells) fitted.cells

@@ -5,3 +5,4 @@ pub mod Order
 pub mod Planned
 pub mod Products
 pub mod Rows
+pub mod Turning

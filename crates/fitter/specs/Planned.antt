@@ -1,7 +1,6 @@
 -- Private: the rows and forms of cells, as they are chosen from their covers (this project's rule).
 use Rattle.std.specs.Prelude.{◌≡◌, ◌⊎◌, ℕ, ◌<◌, ◌≤◌, true, false, Option, Some, None, List, [], length, get_or, slice_get, All, AllPairs, Result, Ok, Err}
 use Rattle.std.specs.Global.{Vec}
-use Rattle.std.specs.List.Sorted.{IsPermutation}
 use Rattle.pld_device.specs.Macrocells.{pin_complements}
 use Rattle.pld_device.specs.Table.{Table, cell_at}
 use Rattle.bit_expr.specs.declared.netlist.CellWanted.{CellWanted}
@@ -27,11 +26,10 @@ use Rattle.fitter.specs.declared.planning.AllRows.{AllRows}
 use Rattle.fitter.specs.declared.planning.CellRows.{CellRows}
 use Rattle.fitter.specs.declared.sharing.SharedRows.{SharedRows}
 use Rattle.fitter.specs.Products.{DifferIn, IsNoProduct, IsSharedSum}
-use Rattle.fitter.specs.Rows.{Rises}
 
 -- ---- one cell
 
--- rows of one form, which fit the room, in rising order
+-- the rows of one form, which fit the room
 pub record AreChosen (t : Table) (c : ℕ) (x : CellCovers) (rows : CellRows) : Type 0 where
   pub enable : rows.plan.enable ≡ slice_get x.enable.items 0
   pub registered : rows.form.registered ≡ x.wanted.registered
@@ -40,8 +38,7 @@ pub record AreChosen (t : Table) (c : ℕ) (x : CellCovers) (rows : CellRows) : 
   pub inverted : rows.form.inverted ≡ true → x.tried.inverted ≡ Some list
   pub over : rows.form.inverted ≡ true → FitsRoom (cell_at t c).room x.tried.direct → ⊥
   pub fit : length list.items ≤ (cell_at t c).room
-  pub same : IsPermutation list.items rows.plan.rows
-  pub rise : Rises t.columns rows.plan.rows
+  pub rows_are : rows.plan.rows ≡ list.items
 
 -- no form fits
 pub record IsOver (t : Table) (c : ℕ) (x : CellCovers) (tried : Tried) : Type 0 where

@@ -4,8 +4,8 @@ ghost use Rattle.std.specs.Prelude.{◌≡◌, ◌+◌, ◌<◌, IfOk, length};
 ghost use Rattle.pld_machine.specs.Comparison.{DoesTheSame};
 ghost use Rattle.pld_device.specs.Macrocells.{device_logic, pin_complements};
 ghost use Rattle.abel_meaning.specs.Netlists.{plain_netlist};
-ghost use Rattle.abel_meaning.specs.NetlistLogic.{netlist_logic, netlist_values};
 ghost use Rattle.abel_meaning.specs.SoundIds.{IsSoundNetlist};
+ghost use Rattle.free_netlists.specs.ExchangedNets.{logic_shown, values_shown};
 ghost use Rattle.fit_rows.specs.Controls.{IsBurned};
 ghost use Rattle.fitter.specs.Answers.{FitAnswers};
 ghost use Rattle.fitter.specs.Fitting.{IsBurnedPlan};
@@ -16,6 +16,7 @@ use crate::covering::cover_cells;
 use crate::fault::FitFault;
 use crate::planning::{AllRows, check_enables, plan_cells};
 use crate::sharing::{SharedRows, shared_rows};
+use crate::turning::{choice_mask, turned_plans, turned_row};
 use bit_expr::Netlist;
 use cell_covers::turn_mask;
 use cube_pool::CubePool;
@@ -85,7 +86,7 @@ fn entries<D: Device>(
     Ok(list)
 }
 
-/// The fuses of the rows.
+/// The fuses of the rows, once these are turned where free registers store the complement.
 fn burned<D: Device>(
     alloc: Global,
     net: &Netlist,
@@ -96,11 +97,13 @@ fn burned<D: Device>(
     requires forms { length rows.forms.items ≡ length D.table.cells }
     ensures { IfOk result (IsBurnedPlan D.table net.now shared rows) }
 {
-    let cells = entries::<D>(alloc, net, &rows.plans, &rows.forms)?;
+    let choice = choice_mask::<D>(net, &rows.forms);
+    let plans = turned_plans::<D>(alloc, &rows.plans, choice)?;
+    let cells = entries::<D>(alloc, net, &plans, &rows.forms)?;
     let plan = Plan {
-        cells: ListOf::from_vec(rows.plans),
-        reset: shared.reset,
-        preset: shared.preset,
+        cells: ListOf::from_vec(plans),
+        reset: turned_row(shared.reset, choice),
+        preset: turned_row(shared.preset, choice),
     };
     let fuses = device_fuses::<D>(alloc, &plan, &rows.forms)?;
     Ok(Fitted {
@@ -110,12 +113,13 @@ fn burned<D: Device>(
 }
 
 /// The fuses of a netlist in a device, and the rows of its cells: of each cell a prime and irredundant cover, in its direct
-/// form where that may be and fits, else in its inverted one. It makes one pool for all covers.
+/// form where that may be and fits, else in its inverted one; a free register that is inverted stores the complement. It makes
+/// one pool for all covers.
 pub fn fit<D: Device>(alloc: Global, net: &Netlist) -> Result<Fitted, FitFault>
     requires sound { IsSoundNetlist D.table net.now }
     ensures answer { FitAnswers D.table net.now result }
     ensures does { IfOk result (λ fitted. DoesTheSame (device_logic D.table fitted.fuses)
-        (netlist_logic D.table (plain_netlist net.now)) (netlist_values (plain_netlist net.now))) }
+        (logic_shown D.table fitted.fuses (plain_netlist net.now)) (values_shown D.table fitted.fuses (plain_netlist net.now))) }
 {
     fitted_runs();
     let mut pool = CubePool::with_room(alloc, POOL)?;

@@ -8,6 +8,7 @@ mod fitting;
 mod planning;
 mod rising;
 mod sharing;
+mod turning;
 
 pub use answer::{Fitted, FittedCell};
 pub use fault::FitFault;

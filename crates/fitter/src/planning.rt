@@ -4,7 +4,6 @@ ghost use Rattle.std.specs.Prelude.{ℕ, ◌≡◌, ◌<◌, ◌≤◌, None, So
 ghost use Rattle.fitter.specs.Planned.{AreNoRows, ArePlanned, ArePlannedAt, AreSingle};
 
 use crate::fault::FitFault;
-use crate::rising::risen;
 use cell_covers::CellCovers;
 use fit_cells::choose;
 use fit_rows::{CellForm, CellPlan};
@@ -37,7 +36,7 @@ fn chosen_rows<D: Device>(cell: u8, covers: CellCovers) -> Result<CellRows, FitF
         Ok(chosen) => Ok(CellRows {
             plan: CellPlan {
                 enable,
-                rows: ListOf::from_vec(risen::<D>(chosen.rows)),
+                rows: ListOf::from_vec(chosen.rows),
             },
             form: CellForm {
                 inverted: chosen.inverted,

@@ -54,4 +54,4 @@ returns-clause-does g c =
     (subst (SingleBelow c.in_ok-covers.covers.items) c.in_ok-covers.ensures.covered.count
     (subst (λ (xs : List (Option CellCovers)). SingleBelow xs (length xs)) c.deref.ensures.value c.in_ok-check_enables.ensures)) c.in_ok-rows.rows c.in_ok-rows.ensures c.in_ok-fitted.fitted
     c.in_ok-fitted.ensures in
-    c.fitted_runs.ensures g.D.Device.table (plain_netlist c.args.net.now) c.in_ok-fitted.fitted.fuses g.met.D.Device.sound c.requires.sound.sound fit.fits
+    c.fitted_runs.ensures.chosen g.D.Device.table (plain_netlist c.args.net.now) c.in_ok-fitted.fitted.fuses g.met.D.Device.sound c.requires.sound.sound fit.fits

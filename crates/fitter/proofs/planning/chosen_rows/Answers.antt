@@ -16,8 +16,7 @@ returns-in-Ok g c =
       inverted = λ on. (c.in-Ok.ensures.2 on).1;
       over = λ on fits. (c.in-Ok.ensures.2 on).0 (subst (λ (x : Cell). FitsRoom x.room c.args.covers.tried.direct) here fits);
       fit = subst (λ (x : Cell). length c.in-Ok.chosen.rows.items ≤ x.room) (sym here) c.in-Ok.ensures.0;
-      same = rw c.from_vec.ensures c.risen.ensures.same;
-      rise = rw c.from_vec.ensures c.risen.ensures.rise;
+      rows_are = c.from_vec.ensures;
     }
 
 pub returns : goal.returns

@@ -1,0 +1,13 @@
+-- The pairs so far have their bits.
+use Rattle.std.proofs.Common.{◌<◌, ◌^◌, get_or}
+use Rattle.pld_base.specs.Bits.{bits}
+use Rattle.pld_device.specs.declared.carry.Carry.TheVariants as carry
+use Rattle.fit_shared.proofs.Stepping.{LevelsBelow}
+use Rattle.fitter.specs.Turning.{carries_choice}
+use Rattle.fitter.proofs.turning.choice_mask.Given as goal
+
+abbrev pub invariant-loop-pair : goal.invariant-loop-pair
+invariant-loop-pair g l = record {
+  low : l.mask < 2 ^ 32;
+  below : LevelsBelow (λ v. carries_choice l.net l.forms (get_or g.D.Device.table.pairs v (carry.Pin 0))) 32 l.pair (bits 32 l.mask);
+}
