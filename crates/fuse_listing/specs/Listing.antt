@@ -13,6 +13,7 @@ use Rattle.pld_device.specs.Registers.{is_inverted, stores}
 use Rattle.pld_device.specs.Rows.{is_switched_on}
 use Rattle.pld_device.specs.Table.{Table, cell_at}
 use Rattle.abel_tree.specs.Entries.{Kind, APin, Entry}
+use Rattle.abel_meaning.specs.Choices.{is_free}
 
 -- ---- names of pins
 
@@ -132,27 +133,32 @@ pin_text t c name = codes "pin " ++ decimal (cell_at t c).pin ++ codes " " ++ na
 
 -- the data rows in use, of those that there are
 abbrev pub use_text : Table → List Bool → (cell : ℕ) → List ℕ
-use_text t fuses c = decimal (length (rows_in_use t fuses c)) ++ codes " of " ++ decimal (cell_at t c).room ++ codes "\n"
+use_text t fuses c = decimal (length (rows_in_use t fuses c)) ++ codes " of " ++ decimal (cell_at t c).room
 
--- a cell's first line
-abbrev pub head_text : Table → List Bool → (cell : ℕ) → (name : List ℕ) → List ℕ
-head_text t fuses c name = pin_text t c name ++ kind_text t fuses c ++ polarity_text t fuses c ++ use_text t fuses c
+-- the polarity of a free register was chosen
+abbrev pub chosen_text : Entry → List ℕ
+chosen_text e = if is_free e then codes " chosen" else []
+
+-- a cell's first line, by its pin's name
+abbrev pub head_text : Table → List Bool → (cell : ℕ) → Entry → List ℕ
+head_text t fuses c e =
+    pin_text t c e.name ++ kind_text t fuses c ++ polarity_text t fuses c ++ use_text t fuses c ++ chosen_text e ++ codes "\n"
 
 -- the line of a data row that is in use
 abbrev pub line_if_used : Table → List Bool → List Entry → (row : ℕ) → List ℕ
 line_if_used t fuses es row = if is_in_use t fuses row then row_line t fuses es (codes "  rows ") row else []
 
 -- the lines of a cell, by its pin's name
-abbrev pub cell_text : Table → List Bool → List Entry → (cell : ℕ) → (name : List ℕ) → List ℕ
-cell_text t fuses es c name =
-    head_text t fuses c name
+abbrev pub cell_text : Table → List Bool → List Entry → (cell : ℕ) → Entry → List ℕ
+cell_text t fuses es c e =
+    head_text t fuses c e
     ++ codes "  enable " ++ enable_text t fuses es (cell_at t c).enable ++ codes "\n"
     ++ flat_map (line_if_used t fuses es) (data_rows t c)
 
 -- those of a cell whose pin's name is assigned
 abbrev pub text_if_assigned : Table → List Bool → List Entry → (cell : ℕ) → Option Entry → List ℕ
 text_if_assigned t fuses es c None = []
-text_if_assigned t fuses es c (Some e) = if e.assigned then cell_text t fuses es c e.name else []
+text_if_assigned t fuses es c (Some e) = if e.assigned then cell_text t fuses es c e else []
 
 abbrev pub assigned_text : Table → List Bool → List Entry → (cell : ℕ) → List ℕ
 assigned_text t fuses es c = text_if_assigned t fuses es c (name_on es (cell_at t c).pin)

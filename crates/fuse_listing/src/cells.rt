@@ -1,17 +1,19 @@
 //! The lines of cells.
 
-ghost use Rattle.std.specs.Prelude.{◌≡◌, ◌+◌, ◌<◌, ◌≤◌, ◌++◌, OnOk, length, filter, flat_map};
+ghost use Rattle.std.specs.Prelude.{◌≡◌, ◌+◌, ◌<◌, ◌≤◌, ◌++◌, OnOk, codes, length, filter, flat_map};
 ghost use Rattle.std.specs.List.{range_with_len};
 ghost use Rattle.std.specs.Fmt.{decimal};
-ghost use Rattle.abel_tree.specs.Entries.{entries_of};
-ghost use Rattle.fuse_listing.specs.Listing.{assigned_text, cell_text, enable_text, head_text, is_in_use, kind_text};
+ghost use Rattle.abel_tree.specs.Entries.{entries_of, view_declared};
+ghost use Rattle.abel_meaning.specs.Choices.{is_free};
+ghost use Rattle.fuse_listing.specs.Listing.{assigned_text, cell_text, chosen_text, enable_text, head_text, is_in_use, kind_text};
 ghost use Rattle.fuse_listing.specs.Listing.{line_if_used, pin_text, polarity_text, use_text};
 
 use crate::columns::{complements_output, stores};
 use crate::lookups::cell_of;
 use crate::pin_names::name_on;
 use crate::rows::{is_in_use, put_row, put_row_line};
-use abel_tree::Names;
+use abel_tree::{Attributes, Declared, Names};
+use bitflags::Flags;
 use pld_base::{OutOfMemory, put_decimal};
 use pld_device::{Cell, Device, Enable};
 use std::alloc::Global;
@@ -154,8 +156,30 @@ fn put_use<D: Device>(
         out,
         count_in_use::<D>(fuses, found.first, found.room),
     )?;
-    put_numbered(alloc, out, b" of ", usize::from(found.room))?;
-    out.push(b'\n')?;
+    put_numbered(alloc, out, b" of ", usize::from(found.room))
+}
+
+/// Whether a name is that of a register whose polarity was free.
+fn is_free(declared: &Declared) -> bool
+    ensures { result ≡ is_free (view_declared declared.now) }
+{
+    let said = declared.attributes;
+    declared.assigned
+        && said.contains(Attributes::REG)
+        && !said.contains(Attributes::BUFFER)
+        && !said.contains(Attributes::INVERT)
+}
+
+/// Appends that the polarity of a free register was chosen, and ends the line.
+fn put_chosen(out: &mut Vec<u8>, declared: &Declared) -> Result<(), OutOfMemory>
+    ensures { OnOk result (out.new.items ≡ out.old.items ++ chosen_text (view_declared declared.now) ++ codes "\n") }
+{
+    let text: &[u8] = if is_free(declared) {
+        b" chosen\n"
+    } else {
+        b"\n"
+    };
+    out.extend_from_slice(text)?;
     Ok(())
 }
 
@@ -165,15 +189,16 @@ fn put_head<D: Device>(
     out: &mut Vec<u8>,
     fuses: &[bool],
     cell: u8,
-    name: &[u8],
+    declared: &Declared,
 ) -> Result<(), OutOfMemory>
     requires { cell < length D.table.cells }
-    ensures { OnOk result (out.new.items ≡ out.old.items ++ head_text D.table fuses.now cell name.now) }
+    ensures { OnOk result (out.new.items ≡ out.old.items ++ head_text D.table fuses.now cell (view_declared declared.now)) }
 {
-    put_pin::<D>(alloc, out, cell, name)?;
+    put_pin::<D>(alloc, out, cell, declared.name.bytes())?;
     put_kind::<D>(out, fuses, cell)?;
     put_polarity::<D>(out, fuses, cell)?;
-    put_use::<D>(alloc, out, fuses, cell)
+    put_use::<D>(alloc, out, fuses, cell)?;
+    put_chosen(out, declared)
 }
 
 /// Appends the lines of a cell.
@@ -183,13 +208,13 @@ fn put_cell<D: Device>(
     fuses: &[bool],
     names: &Names,
     cell: u8,
-    name: &[u8],
+    declared: &Declared,
 ) -> Result<(), OutOfMemory>
     requires { cell < length D.table.cells }
     ensures { OnOk result (out.new.items
-        ≡ out.old.items ++ cell_text D.table fuses.now (entries_of names.now) cell name.now) }
+        ≡ out.old.items ++ cell_text D.table fuses.now (entries_of names.now) cell (view_declared declared.now)) }
 {
-    put_head::<D>(alloc, out, fuses, cell, name)?;
+    put_head::<D>(alloc, out, fuses, cell, declared)?;
     let found = cell_of::<D>(cell);
     out.extend_from_slice(b"  enable ")?;
     put_enable::<D>(alloc, out, fuses, names, found.enable)?;
@@ -211,7 +236,7 @@ pub fn put_if_assigned<D: Device>(
 {
     if let Some(declared) = name_on(names, cell_of::<D>(cell).pin) {
         if declared.assigned {
-            put_cell::<D>(alloc, out, fuses, names, cell, declared.name.bytes())?;
+            put_cell::<D>(alloc, out, fuses, names, cell, declared)?;
         }
     }
     Ok(())

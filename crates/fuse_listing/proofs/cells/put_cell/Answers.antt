@@ -2,7 +2,7 @@
 use Rattle.std.proofs.Common.{◌≡◌, ℕ, List, ◌++◌, ◌∙◌, ap, append_assoc}
 use Rattle.std.proofs.lemmas.Result.{on_ok_weaker}
 use Rattle.std.specs.Prelude.{codes, flat_map}
-use Rattle.abel_tree.specs.Entries.{entries_of}
+use Rattle.abel_tree.specs.Entries.{entries_of, view_declared}
 use Rattle.pld_device.specs.Macrocells.{data_rows}
 use Rattle.pld_device.specs.Table.{cell_at}
 use Rattle.fuse_listing.specs.Listing.{enable_text, head_text, line_if_used}
@@ -19,7 +19,7 @@ returns g c =
     let fuses = c.args.fuses.now in
     let es = entries_of c.args.names.now in
     let old = c.args.out.now.items in
-    let head = head_text t fuses c.args.cell c.args.name.now in
+    let head = head_text t fuses c.args.cell (view_declared c.args.declared.now) in
     let enable = enable_text t fuses es (cell_at t c.args.cell).enable in
     let worded = one_more old head (codes "  enable ") _ _ c.in_ok-put_head.ensures c.in_ok-extend_from_slice.ensures.items in
     let enabled = one_more old (head ++ codes "  enable ") enable _ _ worded (rw (← c.cell_of-found.ensures.found) c.in_ok-put_enable.ensures) in
