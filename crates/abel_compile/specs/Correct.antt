@@ -2,15 +2,16 @@
 -- listing and the summary (this project's rule).
 use Rattle.std.specs.Prelude.{◌≡◌, ℕ, ◌<◌, Bool, List, length}
 use Rattle.pld_device.specs.Macrocells.{device_logic}
+use Rattle.pld_device.specs.Registers.{is_inverted}
 use Rattle.pld_device.specs.Table.{Table}
 use Rattle.pld_order.specs.Graphs.{HasNoLoop}
 use Rattle.device_logic.specs.CellReads.{cell_reads}
 use Rattle.device_logic.specs.ResetPaths.{HasNoResetPath}
 use Rattle.device_sim.specs.Compared.{DisagreeAlike}
 use Rattle.abel_tree.specs.Tree.{ModuleTree}
+use Rattle.abel_meaning.specs.Choices.{source_logic_under}
 use Rattle.abel_meaning.specs.Designs.{design_of}
 use Rattle.abel_meaning.specs.Kinds.{names_of}
-use Rattle.abel_meaning.specs.SourceLogic.{source_logic}
 use Rattle.abel_meaning.specs.Vectors.{source_vectors}
 use Rattle.module_reader.specs.Texts.{SpellsModule, IsRead}
 use Rattle.gathered.specs.Takeable.{IsTakeable}
@@ -29,7 +30,7 @@ use Rattle.compile_phases.specs.SourceRefusals.{IsAcceptedFor}
 -- of a module's fuses in a device: no chain of reads returns or leads from the reset to a register; the rows of each
 -- assigned cell are prime and irredundant, and stand in order; a cell that nothing assigns has no row; each enable, reset and
 -- preset row is that of the module's own control; and where the module's test vectors disagree with the device, they disagree
--- with the module
+-- with the module under the choice that the fuses show
 pub record AreFusesOf (t : Table) (m : ModuleTree) (fuses : List Bool) : Type 0 where
   pub no_loop : HasNoLoop (length t.cells) (cell_reads t fuses)
   pub no_path : HasNoResetPath t fuses
@@ -37,7 +38,7 @@ pub record AreFusesOf (t : Table) (m : ModuleTree) (fuses : List Bool) : Type 0 
   pub order : (c : ℕ) → c < length t.cells → IsAssignedCell (design_of t m) c → AreRowsInOrder t fuses c
   pub spare : (c : ℕ) → c < length t.cells → IsUnassignedCell (design_of t m) c → IsSpareCell t fuses c
   pub controls : HasControlRows t m fuses
-  pub vectors : DisagreeAlike (device_logic t fuses) (source_logic t m) (source_vectors t m)
+  pub vectors : DisagreeAlike (device_logic t fuses) (source_logic_under t m (is_inverted t fuses)) (source_vectors t m)
 
 -- the file is right for the text; no construct of the text nests too deep, nothing is refused of its module for the device,
 -- and the device can take the module's design; so are its fuses; and the listing and the summary are of just these

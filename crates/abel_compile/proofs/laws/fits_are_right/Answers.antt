@@ -1,24 +1,35 @@
 -- What is known of fitted netlists, put together.
 use Rattle.pld_device.specs.Macrocells.{device_logic}
+use Rattle.pld_device.specs.Registers.{is_inverted}
+use Rattle.abel_meaning.specs.Choices.{source_logic_under, source_values_under}
 use Rattle.abel_meaning.specs.Netlists.{plain_netlist}
-use Rattle.abel_meaning.specs.SourceLogic.{source_logic, source_values}
 use Rattle.abel_meaning.specs.Vectors.{source_vectors}
+use Rattle.free_netlists.specs.ExchangedNets.{netlist_shown}
+use Rattle.free_netlists.proofs.FreeCells.{shown_is_sound}
 use Rattle.compile_phases.proofs.NarrowVectors.{vectors_narrow}
 use Rattle.abel_compile.proofs.OrderedRows.{rows_ordered}
 use Rattle.abel_compile.proofs.laws.fits_are_right.Goals as goal
 
 pub returns : goal.returns
-returns c = λ t m net fitted device takeable is fits. let does = c.through_a_netlist.ensures t m (plain_netlist net) fitted.fuses device is.same is.netlist.sound.sound fits.fits in record {
-  takeable = takeable;
-  size = fits.fits.size;
-  does = does;
-  so = record {
-    no_loop = c.fitted_has_no_loop.ensures t (plain_netlist net) fitted.fuses device is.netlist.sound.sound fits.fits;
-    no_path = c.fitted_has_no_reset_path.ensures t (plain_netlist net) fitted.fuses device is.netlist.sound.sound fits.fits;
-    rows = c.fitted_rows_are_prime.ensures t m (plain_netlist net) fitted.fuses device is.netlist.plain is.netlist.sound.sound fits.fits;
-    order = rows_ordered t m net fitted device is.netlist.plain fits;
-    spare = c.fitted_spares_are_unused.ensures t m (plain_netlist net) fitted.fuses device is.netlist.plain fits.fits;
-    controls = c.fitted_controls_are_own.ensures t m (plain_netlist net) fitted.fuses device takeable.registers is.netlist.plain fits.fits;
-    vectors = c.vectors_disagree_alike.ensures (device_logic t fitted.fuses) (source_logic t m) (source_values t m) does (source_vectors t m) (vectors_narrow t device m);
-  };
-}
+returns c = λ t m net fitted device takeable is fits.
+    let plain = plain_netlist net in
+    let fuses = fitted.fuses in
+    let sound = is.netlist.sound.sound in
+    let chosen = netlist_shown t fuses plain in
+    let chosen_sound = shown_is_sound t plain fuses sound in
+    let does = c.through_a_netlist.ensures t m plain fuses device is.same sound fits.fits in
+    record {
+      takeable = takeable;
+      size = fits.fits.size;
+      does = does;
+      so = record {
+        no_loop = c.fitted_has_no_loop.ensures t chosen fuses device chosen_sound fits.fits;
+        no_path = c.fitted_has_no_reset_path.ensures t chosen fuses device chosen_sound fits.fits;
+        rows = c.fitted_rows_are_prime.ensures t m plain fuses device is.netlist.plain sound fits.fits;
+        order = rows_ordered t m net fitted device is.netlist.plain fits;
+        spare = c.fitted_spares_are_unused.ensures t m plain fuses device is.netlist.plain fits.fits;
+        controls = c.fitted_controls_are_own.ensures t m plain fuses device takeable.registers is.netlist.plain sound fits.fits;
+        vectors = c.vectors_disagree_alike.ensures (device_logic t fuses) (source_logic_under t m (is_inverted t fuses)) (source_values_under t m (is_inverted t fuses)) does (source_vectors t m)
+            (vectors_narrow t device m);
+      };
+    }
