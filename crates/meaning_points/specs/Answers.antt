@@ -8,7 +8,7 @@ use Rattle.bit_expr.specs.declared.node.Leaf.TheVariants as leaf
 use Rattle.bit_expr.specs.Formulas.{Formula, Const, Read, Not, And, Or, Xor}
 use Rattle.abel_tree.specs.declared.words.Extension.TheVariants as extension
 use Rattle.abel_tree.specs.Entries.{Kind, APin, ANode, AConstant, ADeviceName, Entry}
-use Rattle.abel_meaning.specs.Designs.{Design, name_at}
+use Rattle.abel_meaning.specs.Designs.{Design, name_at, follows_q}
 use Rattle.abel_meaning.specs.Numbers.{digits_low_first}
 use Rattle.abel_meaning.specs.Contributions.{Contribution}
 use Rattle.abel_meaning.specs.AtPoints.{truth_at, given_at}
@@ -42,7 +42,7 @@ kind_code ADeviceName = 3000
 abbrev pub name_code : Entry → ℕ
 name_code x =
     16 * kind_code x.kind
-    + packed (x.words.registered ∷ (x.words.registered && x.words.buffer) ∷ x.words.dc ∷ x.assigned ∷ [])
+    + packed (x.words.registered ∷ (x.words.registered && follows_q x) ∷ x.words.dc ∷ x.assigned ∷ [])
 
 -- of all names
 abbrev pub name_codes : Design → List ℕ
