@@ -25,6 +25,9 @@ fn put_register(wanted: &CellWanted, found: &mut Found) {
     if wanted.buffer {
         put_word("buffer", found);
     }
+    if wanted.free {
+        put_word("free", found);
+    }
 }
 
 /// What is asked of a cell.
