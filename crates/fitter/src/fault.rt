@@ -4,11 +4,12 @@ use fit_cells::Tried;
 use fit_shared::SharedControl;
 use pld_base::{OutOfMemory, Point};
 use std::alloc::{AllocError, AllocFailed};
+use std::fmt::{self, Debug, Formatter};
 use thiserror::Error;
 
 /// Why a netlist does not fit a device: the first of these in this order; TooWide the first by the cells' places in the
 /// source, of another kind the first by cell. A number is a cell's, in the order of the device.
-#[derive(Debug, Drop, Error)]
+#[derive(Drop, Error)]
 pub enum FitFault {
     /// A written list of the cell's function, in each form that it may have, or of a control of it, would pass 1,024
     /// products.
@@ -32,6 +33,12 @@ pub enum FitFault {
     /// Memory ran out.
     #[error("out of memory")]
     OutOfMemory,
+}
+
+impl Debug for FitFault {
+    fn fmt<W: fmt::Write>(&self, f: &mut Formatter<W>) -> fmt::Result {
+        write!(f, "{self}")
+    }
 }
 
 impl From<AllocError> for FitFault {
