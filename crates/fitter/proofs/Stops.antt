@@ -51,13 +51,13 @@ preset_stops t mask net reset (TooManyProducts c tried) shared is = absurd is
 preset_stops t mask net reset OutOfMemory shared is = tt
 
 pub reset_row_stops : (t : Table) (mask : ℕ) (net : Netlist) (reset preset : ExprId) (x : FitFault) → IsSharedBit t net Reset reset → IsSharedBit t net Preset preset
-    → IsRowOf t mask net reset ResetTooWide (Err x) → AreSharedRows t mask net (Err x)
+    → IsRowOf t mask net reset Reset (Err x) → AreSharedRows t mask net (Err x)
 reset_row_stops t mask net reset preset x shared other (inl many) =
     subst (λ (e : FitFault). AreSharedRows t mask net (Err e)) (sym many.0) (other.shared, record { bit = reset; shared = shared; many = many.1 })
 reset_row_stops t mask net reset preset x shared other (inr none) = subst (λ (e : FitFault). AreSharedRows t mask net (Err e)) (sym none) tt
 
 pub preset_row_stops : (t : Table) (mask : ℕ) (net : Netlist) (reset preset : ExprId) (row : Option Cube) (x : FitFault) → IsSharedBit t net Reset reset → IsSharedBit t net Preset preset
-    → PlansControl (length t.pairs) mask net reset row → IsRowOf t mask net preset PresetTooWide (Err x) → AreSharedRows t mask net (Err x)
+    → PlansControl (length t.pairs) mask net reset row → IsRowOf t mask net preset Preset (Err x) → AreSharedRows t mask net (Err x)
 preset_row_stops t mask net reset preset row x shared other cover (inl many) =
     subst (λ (e : FitFault). AreSharedRows t mask net (Err e)) (sym many.0)
     ((row, record { bit = reset; shared = shared; covers_it = cover }), record { bit = preset; shared = other; many = many.1 })

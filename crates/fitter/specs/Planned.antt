@@ -132,10 +132,15 @@ pub record HasSharedRow (t : Table) (mask : ℕ) (net : Netlist) (which : Shared
   pub shared : IsSharedBit t net which bit
   pub covers_it : PlansControl (length t.pairs) mask net bit row
 
--- a row, or the given fault where the bit is no product
-abbrev pub IsRowOf : Table → (mask : ℕ) → Netlist → ExprId → (many : FitFault) → Result (Option Cube) FitFault → Type 0
-IsRowOf t mask net bit many (Ok row) = PlansControl (length t.pairs) mask net bit row
-IsRowOf t mask net bit many (Err e) = ((e ≡ many) × IsNoProduct (length t.pairs) net bit) ⊎ (e ≡ fault.OutOfMemory)
+-- what is refused where such a control is no product
+abbrev pub no_product : SharedControl → FitFault
+no_product Reset = fault.ResetTooWide
+no_product Preset = fault.PresetTooWide
+
+-- a row, or that the bit is no product
+abbrev pub IsRowOf : Table → (mask : ℕ) → Netlist → ExprId → SharedControl → Result (Option Cube) FitFault → Type 0
+IsRowOf t mask net bit which (Ok row) = PlansControl (length t.pairs) mask net bit row
+IsRowOf t mask net bit which (Err e) = ((e ≡ no_product which) × IsNoProduct (length t.pairs) net bit) ⊎ (e ≡ fault.OutOfMemory)
 
 -- the bit that all registers share, or two cells that don't
 abbrev pub IsSharedBitOf : Table → Netlist → SharedControl → Result ExprId FitFault → Type 0

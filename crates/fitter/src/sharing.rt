@@ -5,7 +5,7 @@ ghost use Rattle.abel_meaning.specs.SoundIds.{IsSoundNetlist};
 ghost use Rattle.fit_laws.specs.Coverable.{IsSoundId};
 ghost use Rattle.sop_lowering.specs.Written.{bit_list};
 ghost use Rattle.cell_covers.specs.Width.{NoneWide};
-ghost use Rattle.fitter.specs.Planned.{AreSharedRows, IsRowOf, IsSharedBitOf};
+ghost use Rattle.fitter.specs.Planned.{AreSharedRows, IsRowOf, IsSharedBitOf, no_product};
 ghost use Rattle.fit_shared.specs.Sharing.{AllListed};
 
 use crate::fault::FitFault;
@@ -46,25 +46,35 @@ fn bit_of<D: Device>(
     }
 }
 
-/// The one row of a control, if any; `many` where it is no product.
+/// What is refused where a control that all registers share is no product.
+fn no_product(which: SharedControl) -> FitFault
+    ensures { result ≡ no_product which }
+{
+    match which {
+        SharedControl::Reset => FitFault::ResetTooWide,
+        SharedControl::Preset => FitFault::PresetTooWide,
+    }
+}
+
+/// The one row of a control, if any; refused where it is no product.
 fn row_of<D: Device>(
     alloc: Global,
     pool: &mut CubePool,
     net: &Netlist,
     bit: ExprId,
     turned: u32,
-    many: FitFault,
+    which: SharedControl,
 ) -> Result<Option<Cube>, FitFault>
     requires sound { IsSoundNetlist D.table net.now }
     requires id { IsSoundId D.table net.now bit }
     requires listed { bit_list net.now bit true ≡ None → ⊥ }
     requires spare { 27672 ≤ pool.old.spare }
     ensures same { pool.new ≡ pool.old }
-    ensures row { IsRowOf D.table turned net.now bit many result }
+    ensures row { IsRowOf D.table turned net.now bit which result }
 {
     match control_rows::<D>(alloc, pool, net, bit, turned) {
         Ok(rows) if rows.len() <= 1 => Ok(rows.first().copied()),
-        Ok(_) => Err(many),
+        Ok(_) => Err(no_product(which)),
         Err(LowerFault::OutOfMemory) => Err(FitFault::OutOfMemory),
         Err(LowerFault::TooWide) => unreachable!(),
     }
@@ -85,14 +95,7 @@ pub(crate) fn shared_rows<D: Device>(
 {
     let reset_bit = bit_of::<D>(alloc, pool, net, SharedControl::Reset)?;
     let preset_bit = bit_of::<D>(alloc, pool, net, SharedControl::Preset)?;
-    let reset = row_of::<D>(alloc, pool, net, reset_bit, turned, FitFault::ResetTooWide)?;
-    let preset = row_of::<D>(
-        alloc,
-        pool,
-        net,
-        preset_bit,
-        turned,
-        FitFault::PresetTooWide,
-    )?;
+    let reset = row_of::<D>(alloc, pool, net, reset_bit, turned, SharedControl::Reset)?;
+    let preset = row_of::<D>(alloc, pool, net, preset_bit, turned, SharedControl::Preset)?;
     Ok(SharedRows { reset, preset })
 }
