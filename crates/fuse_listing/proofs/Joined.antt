@@ -1,4 +1,4 @@
--- Literals that are joined one after another, and names that are looked for.
+-- Texts and literals that are joined one after another, and names that are looked for.
 use Rattle.std.proofs.Common.{◌≡◌, ℕ, ◌+◌, ◌<◌, ◌≤◌, Some, None, length, drop, map, get_or, drop-cons, add-one, Bool, true, false, if◌then◌else◌, List, [], ◌∷◌, ◌++◌, filter, flat_map, refl, ap, sym, ◌∙◌, append_assoc, append-nil, map-id}
 use Rattle.std.proofs.Math.Nat.{zero-add}
 use Rattle.std.proofs.lemmas.Grind.{flat_map-append}
@@ -9,6 +9,11 @@ use Rattle.std.specs.List.{range_with_len}
 use Rattle.abel_tree.specs.declared.names.Declared.{Declared}
 use Rattle.abel_tree.specs.Entries.{view_declared}
 use Rattle.fuse_listing.specs.Listing.{is_on_pin, name_on, product_text}
+
+-- a piece more behind what was appended
+pub one_more : (old sofar piece before new : List ℕ) → before ≡ old ++ sofar → new ≡ before ++ piece → new ≡ old ++ (sofar ++ piece)
+one_more old sofar piece before new before_is new_is =
+    new_is ∙ ap (λ (text : List ℕ). text ++ piece) before_is ∙ append_assoc old sofar piece
 
 -- literals joined, none as no text
 abbrev pub joined : (ℕ → List ℕ) → List ℕ → List ℕ

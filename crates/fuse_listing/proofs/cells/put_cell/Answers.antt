@@ -1,17 +1,13 @@
 -- Five pieces were appended, one behind the other.
-use Rattle.std.proofs.Common.{◌≡◌, ℕ, List, ◌++◌, ◌∙◌, ap, append_assoc}
+use Rattle.std.proofs.Common.{◌++◌}
 use Rattle.std.proofs.lemmas.Result.{on_ok_weaker}
 use Rattle.std.specs.Prelude.{codes, flat_map}
 use Rattle.abel_tree.specs.Entries.{entries_of, view_declared}
 use Rattle.pld_device.specs.Macrocells.{data_rows}
 use Rattle.pld_device.specs.Table.{cell_at}
 use Rattle.fuse_listing.specs.Listing.{enable_text, head_text, line_if_used}
+use Rattle.fuse_listing.proofs.Joined.{one_more}
 use Rattle.fuse_listing.proofs.cells.put_cell.Goals as goal
-
--- a piece more behind what was appended
-one_more : (old sofar piece before new : List ℕ) → before ≡ old ++ sofar → new ≡ before ++ piece → new ≡ old ++ (sofar ++ piece)
-one_more old sofar piece before new before_is new_is =
-    new_is ∙ ap (λ (text : List ℕ). text ++ piece) before_is ∙ append_assoc old sofar piece
 
 pub returns : goal.returns
 returns g c =
