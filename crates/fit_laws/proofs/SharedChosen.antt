@@ -1,5 +1,5 @@
 -- Controls that all registers of a netlist share are shared under a choice too.
-use Rattle.std.proofs.Common.{◌≡◌, ℕ, ◌<◌, Bool, true, Option, None, Some, sym, ap, ◌∙◌, arith}
+use Rattle.std.proofs.Common.{◌≡◌, ℕ, ◌<◌, Bool, true, Option, None, Some, refl, sym, ap, ◌∙◌, arith}
 use Rattle.std.specs.Option.{option_map}
 use Rattle.pld_base.specs.Points.{Levels}
 use Rattle.pld_machine.specs.Exchanged.{exchanged_at}
