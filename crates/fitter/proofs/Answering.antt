@@ -43,12 +43,12 @@ use Rattle.fitter.specs.Order.{AreRowsInOrder}
 use Rattle.fitter.specs.Planned.{AreRowsOf, EachFitsBelow, HasSharedRow, IsEntryOf, IsManyRows, IsOverAt, IsSingleRow, RowsBelow, SingleBelow}
 use Rattle.fitter.specs.Products.{EnablesBelow, IsFirstSum, IsProduct, IsSharedProduct}
 use Rattle.fitter.specs.Rows.{IsDirectOver, IsFittedEntry, Rises}
+use Rattle.fitter.specs.Turning.{IsTurnedCell}
 use Rattle.fitter.proofs.Controls.{first_of_one, is_no_product, is_product}
 use Rattle.fitter.proofs.CellPlans.{over_at, plan_as}
+use Rattle.fitter.proofs.CoversInTurn.{none_wide}
 use Rattle.fitter.proofs.FittingCovers.{fitting_cover}
 use Rattle.fitter.proofs.RowOrder.{rows_in_order}
-use Rattle.fitter.specs.Turning.{IsTurnedCell}
-use Rattle.fitter.proofs.CoversInTurn.{none_wide}
 use Rattle.fitter.proofs.TurnedPlans.{both_is, turned_as, turned_control}
 
 -- ---- controls

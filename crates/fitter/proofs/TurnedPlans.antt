@@ -1,11 +1,9 @@
 -- The plan of all rows, once they are turned and put in order.
-use Rattle.std.proofs.Common.{◌≡◌, ℕ, zero, suc, ◌+◌, ◌<◌, ◌≤◌, ◌^◌, ◌==◌, Bool, true, false, not, ◌&&◌, if◌then◌else◌, List, [], ◌∷◌, ◌++◌, length, get_or, slice_get, take, Option, None, Some, refl, sym, ap, ap₂, ◌∙◌, subst, arith, inl, inr}
-use Rattle.std.specs.Int.{bit_at}
+use Rattle.std.proofs.Common.{◌≡◌, ℕ, ◌+◌, ◌<◌, ◌≤◌, ◌^◌, Bool, true, false, not, ◌&&◌, if◌then◌else◌, List, [], ◌∷◌, ◌++◌, length, get_or, slice_get, Option, None, Some, refl, sym, ap, ap₂, ◌∙◌, subst, arith, inl, inr}
 use Rattle.std.specs.Int.Bits.{bit_xor}
-use Rattle.std.specs.List.Sorted.{IsPermutation}
 use Rattle.std.specs.Option.{option_map, option_to_list}
 use Rattle.std.proofs.lemmas.Bool.{cases_Bool, cases_lt}
-use Rattle.std.proofs.lemmas.List.{length-append, length-map, length-take, take_more}
+use Rattle.std.proofs.lemmas.List.{length-append, length-map}
 use Rattle.std.proofs.lemmas.List.Sorted.{length_permutation}
 use Rattle.std.proofs.lemmas.Nat.{xor_lt}
 use Rattle.std.proofs.lemmas.Option.{same_Some, slice_get-get_or, slice_get_within}
@@ -17,18 +15,17 @@ use Rattle.pld_device.specs.Table.{Table, cell_at}
 use Rattle.bit_expr.specs.declared.netlist.CellWanted.{CellWanted}
 use Rattle.bit_expr.specs.declared.netlist.Netlist.{Netlist}
 use Rattle.bit_expr.proofs.ArenaLists.{get_kept}
-use Rattle.abel_meaning.specs.Netlists.{plain_netlist, wanted_at}
+use Rattle.abel_meaning.specs.Netlists.{plain_netlist}
 use Rattle.abel_meaning.specs.NetlistLogic.{netlist_stores, registers_as}
 use Rattle.abel_meaning.specs.SoundIds.{IsSoundNetlist}
 use Rattle.cube_pool.specs.declared.cube.Cube.{Cube}
 use Rattle.fit_cells.specs.Columns.{all_turned, turned}
-use Rattle.fit_laws.specs.Plans.{IsChosenMask, IsTurnMask, PlansAs, PlansCell, PlansRows, carries_chosen, carries_complement, cell_wanted, enable_bit, is_chosen}
+use Rattle.fit_laws.specs.Plans.{IsChosenMask, IsTurnMask, PlansAs, PlansCell, PlansRows, carries_chosen, carries_complement, enable_bit, is_chosen}
 use Rattle.fit_laws.proofs.PlansFit.{may_choose}
 use Rattle.fit_plans.specs.Covered.{control_function}
-use Rattle.fit_plans.specs.Forms.{rows_are_positive}
 use Rattle.fit_rows.specs.declared.controls.CellForm.{CellForm}
 use Rattle.fit_rows.specs.declared.plan.CellPlan.{CellPlan}
-use Rattle.fitter.specs.Turning.{AreTurned, HasTurned, IsChoiceMask, IsTurnedCell, carries_choice}
+use Rattle.fitter.specs.Turning.{AreTurned, IsChoiceMask, IsTurnedCell, carries_choice}
 use Rattle.fitter.proofs.RisenCovers.{risen_cover}
 use Rattle.fitter.proofs.TurnedCovers.{both_masks, one_turned, turned_cover}
 

@@ -6,7 +6,6 @@ ghost use Rattle.pld_device.specs.Macrocells.{device_logic, pin_complements};
 ghost use Rattle.abel_meaning.specs.Netlists.{plain_netlist};
 ghost use Rattle.abel_meaning.specs.SoundIds.{IsSoundNetlist};
 ghost use Rattle.free_netlists.specs.ExchangedNets.{logic_shown, values_shown};
-ghost use Rattle.fit_rows.specs.Controls.{IsBurned};
 ghost use Rattle.fitter.specs.Answers.{FitAnswers};
 ghost use Rattle.fitter.specs.Fitting.{IsBurnedPlan};
 ghost use Rattle.fitter.specs.Planned.{EntriesBelow};
