@@ -44,25 +44,25 @@ sweep_step es (suc k) ms h =
 -- ---- one name more with its kind
 
 kinds_from : (flip : Flip) (ms : List Mark) (held : Holding) (i : ℕ) (l : List Entry) (e : Entry)
-    → kinds_by flip ms held i (l ++ e ∷ []) ≡ kinds_by flip ms held i l ++ kind_by flip (get_or ms (i + length l) mark.Free) (is_held_at held (i + length l)) e ∷ []
-kinds_from flip ms held i [] e = ap (λ n. kind_by flip (get_or ms n mark.Free) (is_held_at held n) e ∷ []) (plus_zero i)
+    → kinds_by flip ms held i (l ++ e ∷ []) ≡ kinds_by flip ms held i l ++ kind_by flip (get_or ms (i + length l) mark.Clear) (is_held_at held (i + length l)) e ∷ []
+kinds_from flip ms held i [] e = ap (λ n. kind_by flip (get_or ms n mark.Clear) (is_held_at held n) e ∷ []) (plus_zero i)
   where
     plus_zero : (n : ℕ) → n ≡ n + 0
     plus_zero n = omega arith
 kinds_from flip ms held i (x ∷ l) e =
-    ap (λ ys. kind_by flip (get_or ms i mark.Free) (is_held_at held i) x ∷ ys)
-    (kinds_from flip ms held (suc i) l e ∙ ap (λ n. kinds_by flip ms held (suc i) l ++ kind_by flip (get_or ms n mark.Free) (is_held_at held n) e ∷ []) (plus_suc i (length l)))
+    ap (λ ys. kind_by flip (get_or ms i mark.Clear) (is_held_at held i) x ∷ ys)
+    (kinds_from flip ms held (suc i) l e ∙ ap (λ n. kinds_by flip ms held (suc i) l ++ kind_by flip (get_or ms n mark.Clear) (is_held_at held n) e ∷ []) (plus_suc i (length l)))
   where
     plus_suc : (n k : ℕ) → suc n + k ≡ n + suc k
     plus_suc n k = omega arith
 
 pub kinds_more : (flip : Flip) (ms : List Mark) (held : Holding) (ys : List Declared) (d : Declared) (n : ℕ) → n ≡ length ys
-    → kinds_by flip ms held 0 (map view_declared (ys ++ d ∷ [])) ≡ kinds_by flip ms held 0 (map view_declared ys) ++ kind_by flip (get_or ms n mark.Free) (is_held_at held n) (view_declared d) ∷ []
+    → kinds_by flip ms held 0 (map view_declared (ys ++ d ∷ [])) ≡ kinds_by flip ms held 0 (map view_declared ys) ++ kind_by flip (get_or ms n mark.Clear) (is_held_at held n) (view_declared d) ∷ []
 kinds_more flip ms held ys d n h =
     let m : 0 + length (map view_declared ys) ≡ n = omega (arith, h, length-map ys view_declared) in
     ap (kinds_by flip ms held 0) (map-append view_declared ys (d ∷ []))
-    ∙ (kinds_from flip ms held 0 (map view_declared ys) (view_declared d) ∙ ap (λ k. kinds_by flip ms held 0 (map view_declared ys) ++ kind_by flip (get_or ms k mark.Free) (is_held_at held k) (view_declared d) ∷ []) m)
+    ∙ (kinds_from flip ms held 0 (map view_declared ys) (view_declared d) ∙ ap (λ k. kinds_by flip ms held 0 (map view_declared ys) ++ kind_by flip (get_or ms k mark.Clear) (is_held_at held k) (view_declared d) ∷ []) m)
 
 -- both passes
-pub marks_passed : (es : List Entry) (found : List Assigned) (free first last : List Mark) → free ≡ replicate (length es) mark.Free → first ≡ all_marked free found → last ≡ swept es (length es) first → last ≡ swept es (length es) (all_marked (replicate (length es) mark.Free) found)
+pub marks_passed : (es : List Entry) (found : List Assigned) (free first last : List Mark) → free ≡ replicate (length es) mark.Clear → first ≡ all_marked free found → last ≡ swept es (length es) first → last ≡ swept es (length es) (all_marked (replicate (length es) mark.Clear) found)
 marks_passed es found free first last e f g = g ∙ ap (swept es (length es)) (f ∙ ap (λ ms. all_marked ms found) e)

@@ -12,10 +12,10 @@ use Rattle.abel_tree.specs.Tree.{SectionTree}
 use Rattle.abel_meaning.specs.Held.{Part, held_by, held_of, holds_of, is_held, part_reads, part_shares, parts_read, sections_parts}
 use Rattle.name_kinds.specs.declared.marks.Mark.{Mark}
 use Rattle.name_kinds.specs.declared.marks.Mark.TheVariants as mark
-use Rattle.name_kinds.specs.Marking.{all_marked, is_on_clock, marked}
+use Rattle.name_kinds.specs.Marking.{all_marked, is_strong, marked}
 use Rattle.name_kinds.specs.Reading.{Holding, numbers_read, part_found, parts_found, read_through}
 use Rattle.name_kinds.specs.Settled.{all_found, first_found, is_held_at}
-use Rattle.name_kinds.proofs.Bits.{all_clocked_at, at, length_all_marked}
+use Rattle.name_kinds.proofs.Bits.{all_strong_at, at, length_all_marked}
 use Rattle.name_kinds.proofs.HeldNames.{all_low, held_alike, low_read, reads, reads_by_name, reads_it, reads_low, reads_more}
 use Rattle.name_kinds.proofs.ReadMarks.{AllLow, mark_reads, on_reads, read_all, total, total_found}
 use Rattle.name_kinds.proofs.ReadsAlike.{ReadsAlike, parts_alike}
@@ -39,7 +39,7 @@ module _ (es : List Entry) (xs : List SectionTree) where
   own_numbers = parts_read (numbers_read (length es) es) (sections_parts xs)
 
   abbrev free : List Mark
-  free = replicate (length es) mark.Free
+  free = replicate (length es) mark.Clear
 
   first_is : first_found es xs ≡ record { all = list_any part_shares (sections_parts xs); marks = all_marked free own_numbers }
   first_is = found_is (numbers_read (length es) es) false free (sections_parts xs)
@@ -52,7 +52,7 @@ module _ (es : List Entry) (xs : List SectionTree) where
     within = slice_get_within es s x g
 
     free_long : length free ≡ length es
-    free_long = length-replicate (length es) mark.Free
+    free_long = length-replicate (length es) mark.Clear
 
     first_long : length (all_marked free own_numbers) ≡ length es
     first_long = length_all_marked own_numbers free ∙ free_long
@@ -60,7 +60,7 @@ module _ (es : List Entry) (xs : List SectionTree) where
     none_read : (n : ℕ) → n ≤ length es → total (reads es s) (reads_more es s) n free ≡ false
     none_read zero few = refl
     none_read (suc k) few =
-        ap₂ (λ m b. mark_reads (reads es s k) m || b) (get_or-replicate (length es) k mark.Free mark.Free (omega (arith, few))) (none_read k (omega (arith, few)))
+        ap₂ (λ m b. mark_reads (reads es s k) m || b) (get_or-replicate (length es) k mark.Clear mark.Clear (omega (arith, few))) (none_read k (omega (arith, few)))
 
     nothing : (found : List Assigned) → list_any (λ (a : Assigned). false) found ≡ false
     nothing [] = refl
@@ -79,15 +79,15 @@ module _ (es : List Entry) (xs : List SectionTree) where
     named = subst (λ l. ReadsAlike (λ j. j == s) (reads_it es s) (held_by (held_of l)) (numbers_read (length es) es)) (take-length es) (held_alike es s (length es))
 
     -- the signal is marked as on the clock in the end where its Q is read, or its raw input is set
-    pub read_in_the_end : is_on_clock (at (all_found es xs).marks s) ≡ list_any (λ j. j == s) (holds_of es xs).signals
+    pub read_in_the_end : is_strong (at (all_found es xs).marks s) ≡ list_any (λ j. j == s) (holds_of es xs).signals
     read_in_the_end =
         let rs = reads es s in
         let more = reads_more es s in
         let meaning = reads_by_name es s x g sig in
-        ap (λ (h : Holding). is_on_clock (at (read_through es (length es) h.marks) s)) first_is
+        ap (λ (h : Holding). is_strong (at (read_through es (length es) h.marks) s)) first_is
         ∙ (read_all rs more es s (reads_low es) meaning (length es) (all_marked free own_numbers) (omega (arith, first_long)) (omega (arith, within, first_long))
         ∙ (ap₂ (λ a b. a || b)
-        (all_clocked_at own_numbers free s (omega (arith, within, free_long)) ∙ ap (λ m. is_on_clock m || list_any (λ (a : Assigned). (a.signal == s) && a.clocked) own_numbers) (get_or-replicate (length es) s mark.Free mark.Free within))
+        (all_strong_at own_numbers free s (omega (arith, within, free_long)) ∙ ap (λ m. is_strong m || list_any (λ (a : Assigned). (a.signal == s) && a.clocked) own_numbers) (get_or-replicate (length es) s mark.Clear mark.Clear within))
         (total_found rs more (length es) own_numbers free low (omega (arith, free_long)) ∙ ap (λ b. b || list_any (reads_it es s) own_numbers) (none_read (length es) (omega arith)))
         ∙ (absorbed (list_any (λ (a : Assigned). (a.signal == s) && a.clocked) own_numbers) (list_any (reads_it es s) own_numbers) (on_reads rs more es s (reads_low es) meaning own_numbers)
         ∙ sym (parts_alike (λ j. j == s) (reads_it es s) (held_by (held_of es)) (numbers_read (length es) es) named (sections_parts xs)))))

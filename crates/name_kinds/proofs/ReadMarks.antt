@@ -10,36 +10,36 @@ use Rattle.abel_tree.specs.Assigned.{Assigned}
 use Rattle.abel_tree.specs.Entries.{Entry}
 use Rattle.name_kinds.specs.declared.marks.Mark.{Mark}
 use Rattle.name_kinds.specs.declared.marks.Mark.TheVariants as mark
-use Rattle.name_kinds.specs.Marking.{all_marked, hit, is_on_clock, marked, raised}
+use Rattle.name_kinds.specs.Marking.{all_marked, hit, is_strong, marked, raised}
 use Rattle.name_kinds.specs.Reading.{read_on, read_on_by, read_through, reads_of}
-use Rattle.name_kinds.proofs.Bits.{at, all_clocked_at, here, length_all_marked, there}
+use Rattle.name_kinds.proofs.Bits.{at, all_strong_at, here, length_all_marked, there}
 use Rattle.name_kinds.proofs.Spreading.{or_false, same_number}
 
 -- what a mark reads, by what the name reads with `.Q` behind it and without
 abbrev pub mark_reads : (reads : Bool → Bool) → Mark → Bool
-mark_reads reads mark.Free = false
-mark_reads reads mark.Assigned = reads false
-mark_reads reads mark.Clocked = reads true
+mark_reads reads mark.Clear = false
+mark_reads reads mark.Plain = reads false
+mark_reads reads mark.Strong = reads true
 
 raised_reads : (reads : Bool → Bool) → (reads false ≡ true → reads true ≡ true) → (c : Bool) (m : Mark) → mark_reads reads (raised c m) ≡ (mark_reads reads m || reads c)
-raised_reads reads more true mark.Free = refl
-raised_reads reads more true mark.Assigned = absorbed (reads false) (reads true) more
+raised_reads reads more true mark.Clear = refl
+raised_reads reads more true mark.Plain = absorbed (reads false) (reads true) more
   where
     absorbed : (a b : Bool) → (a ≡ true → b ≡ true) → b ≡ (a || b)
     absorbed true b f = f refl
     absorbed false b f = refl
-raised_reads reads more true mark.Clocked = twice (reads true)
+raised_reads reads more true mark.Strong = twice (reads true)
   where
     twice : (b : Bool) → b ≡ (b || b)
     twice true = refl
     twice false = refl
-raised_reads reads more false mark.Free = refl
-raised_reads reads more false mark.Assigned = twice (reads false)
+raised_reads reads more false mark.Clear = refl
+raised_reads reads more false mark.Plain = twice (reads false)
   where
     twice : (b : Bool) → b ≡ (b || b)
     twice true = refl
     twice false = refl
-raised_reads reads more false mark.Clocked = absorbed (reads true) (reads false) more
+raised_reads reads more false mark.Strong = absorbed (reads true) (reads false) more
   where
     absorbed : (a b : Bool) → (b ≡ true → a ≡ true) → a ≡ (a || b)
     absorbed true b f = refl
@@ -141,42 +141,42 @@ module _ (reads : ℕ → Bool → Bool) (more : (k : ℕ) → reads k false ≡
 
     -- what the names below a number come to
     abbrev Earlier : ℕ → Type 0
-    Earlier k = (ns : List Mark) → k ≤ length ns → s < length ns → is_on_clock (at (read_through es k ns) s) ≡ (is_on_clock (at ns s) || total k ns)
+    Earlier k = (ns : List Mark) → k ≤ length ns → s < length ns → is_strong (at (read_through es k ns) s) ≡ (is_strong (at ns s) || total k ns)
 
-    pub read_all : (n : ℕ) (ms : List Mark) → n ≤ length ms → s < length ms → is_on_clock (at (read_through es n ms) s) ≡ (is_on_clock (at ms s) || total n ms)
-    read_all zero ms few low = sym (or_false (is_on_clock (at ms s)))
+    pub read_all : (n : ℕ) (ms : List Mark) → n ≤ length ms → s < length ms → is_strong (at (read_through es n ms) s) ≡ (is_strong (at ms s) || total n ms)
+    read_all zero ms few low = sym (or_false (is_strong (at ms s)))
     read_all (suc k) ms few low = by (at ms k) refl (read_all k)
       where
-        by_reads : Earlier k → (c : Bool) → mark_reads (reads k) (at ms k) ≡ reads k c → (((k == s) && c) ≡ true → is_on_clock (at ms s) ≡ true)
-            → is_on_clock (at (read_through es k (all_marked ms (reads_of es k c))) s) ≡ (is_on_clock (at ms s) || total (suc k) ms)
+        by_reads : Earlier k → (c : Bool) → mark_reads (reads k) (at ms k) ≡ reads k c → (((k == s) && c) ≡ true → is_strong (at ms s) ≡ true)
+            → is_strong (at (read_through es k (all_marked ms (reads_of es k c))) s) ≡ (is_strong (at ms s) || total (suc k) ms)
         by_reads before c is own_mark =
             let found = reads_of es k c in
             let long = length_all_marked found ms in
             before (all_marked ms found) (omega (arith, few, long)) (omega (arith, low, long))
-            ∙ (ap₂ (λ a b. a || b) (all_clocked_at found ms s low) (total_found k found ms (earlier k c) (omega (arith, few)))
-            ∙ (joins (is_on_clock (at ms s)) (on found) (total k ms) (list_any some_reads found) (on_reads found)
-            ∙ (with_own (is_on_clock (at ms s)) ((k == s) && c) (list_any some_reads found) (total k ms) own_mark
-            ∙ ap (λ b. is_on_clock (at ms s) || (b || total k ms)) (sym (is ∙ meaning k c)))))
+            ∙ (ap₂ (λ a b. a || b) (all_strong_at found ms s low) (total_found k found ms (earlier k c) (omega (arith, few)))
+            ∙ (joins (is_strong (at ms s)) (on found) (total k ms) (list_any some_reads found) (on_reads found)
+            ∙ (with_own (is_strong (at ms s)) ((k == s) && c) (list_any some_reads found) (total k ms) own_mark
+            ∙ ap (λ b. is_strong (at ms s) || (b || total k ms)) (sym (is ∙ meaning k c)))))
           where
             with_own : (m o y t : Bool) → (o ≡ true → m ≡ true) → (m || (y || t)) ≡ (m || ((o || y) || t))
             with_own true o y t f = refl
             with_own false true y t f = absurd (let x = f refl in cc)
             with_own false false y t f = refl
 
-        by : (m : Mark) → at ms k ≡ m → Earlier k → is_on_clock (at (read_through es k (read_on_by (at ms k) (reads_of es k) ms)) s) ≡ (is_on_clock (at ms s) || total (suc k) ms)
-        by mark.Free is before =
-            ap (λ m. is_on_clock (at (read_through es k (read_on_by m (reads_of es k) ms)) s)) is
-            ∙ (before ms (omega (arith, few)) low ∙ ap (λ m. is_on_clock (at ms s) || (mark_reads (reads k) m || total k ms)) (sym is))
-        by mark.Assigned is before =
-            ap (λ m. is_on_clock (at (read_through es k (read_on_by m (reads_of es k) ms)) s)) is
+        by : (m : Mark) → at ms k ≡ m → Earlier k → is_strong (at (read_through es k (read_on_by (at ms k) (reads_of es k) ms)) s) ≡ (is_strong (at ms s) || total (suc k) ms)
+        by mark.Clear is before =
+            ap (λ m. is_strong (at (read_through es k (read_on_by m (reads_of es k) ms)) s)) is
+            ∙ (before ms (omega (arith, few)) low ∙ ap (λ m. is_strong (at ms s) || (mark_reads (reads k) m || total k ms)) (sym is))
+        by mark.Plain is before =
+            ap (λ m. is_strong (at (read_through es k (read_on_by m (reads_of es k) ms)) s)) is
             ∙ by_reads before false (ap (mark_reads (reads k)) is) (λ e. absurd (never (k == s) e))
           where
             never : (b : Bool) → (b && false) ≡ true → ⊥
             never true e = absurd cc
             never false e = absurd cc
-        by mark.Clocked is before =
-            ap (λ m. is_on_clock (at (read_through es k (read_on_by m (reads_of es k) ms)) s)) is
-            ∙ by_reads before true (ap (mark_reads (reads k)) is) (λ e. ap (λ j. is_on_clock (at ms j)) (sym (same_number k s (first e))) ∙ ap is_on_clock is)
+        by mark.Strong is before =
+            ap (λ m. is_strong (at (read_through es k (read_on_by m (reads_of es k) ms)) s)) is
+            ∙ by_reads before true (ap (mark_reads (reads k)) is) (λ e. ap (λ j. is_strong (at ms j)) (sym (same_number k s (first e))) ∙ ap is_strong is)
           where
             first : ((k == s) && true) ≡ true → (k == s) ≡ true
             first e = left (k == s) e

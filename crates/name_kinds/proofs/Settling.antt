@@ -14,11 +14,11 @@ use Rattle.abel_meaning.specs.Held.{holds_of}
 use Rattle.abel_meaning.specs.Kinds.{is_registered, with_kind, with_kinds, with_assigned}
 use Rattle.name_kinds.specs.declared.marks.Mark.{Mark}
 use Rattle.name_kinds.specs.declared.marks.Mark.TheVariants as mark
-use Rattle.name_kinds.specs.Marking.{is_marked, is_on_clock, all_marked}
+use Rattle.name_kinds.specs.Marking.{is_marked, is_strong, all_marked}
 use Rattle.name_kinds.specs.Numbered.{numbered, direct, swept as swept_marks}
 use Rattle.name_kinds.specs.Settled.{all_found, is_held_at, kind_by, kinds_by, words_by}
 use Rattle.name_kinds.proofs.Alike.{NamesAlike, tells, sections_alike}
-use Rattle.name_kinds.proofs.Bits.{at, all_marked_at, all_clocked_at, swept_marked, swept_clock, length_all_marked}
+use Rattle.name_kinds.proofs.Bits.{at, all_marked_at, all_strong_at, swept_marked, swept_strong, length_all_marked}
 use Rattle.name_kinds.proofs.HeldFound.{held_is}
 use Rattle.name_kinds.proofs.Related.{stands, stands_alike, no_signal_alike, low_alike, direct_low, stands_by, stands_self}
 use Rattle.name_kinds.proofs.Spreading.{sweep, below, below_none, below_or, below_one, swept, same_number}
@@ -110,7 +110,7 @@ module _ (es : List Entry) (xs : List SectionTree) where
   in_truth = sections_assign (named_of es) xs
 
   abbrev first_pass : List Mark
-  first_pass = all_marked (replicate (length es) mark.Free) own_numbers
+  first_pass = all_marked (replicate (length es) mark.Clear) own_numbers
 
   whole : take (length es) es ≡ es
   whole = take-length es
@@ -128,16 +128,16 @@ module _ (es : List Entry) (xs : List SectionTree) where
     inside = slice_get_within es s x g
 
     within : s < length first_pass
-    within = omega (arith, inside, length_all_marked own_numbers (replicate (length es) mark.Free), length-replicate (length es) mark.Free)
+    within = omega (arith, inside, length_all_marked own_numbers (replicate (length es) mark.Clear), length-replicate (length es) mark.Clear)
 
     size_fits : length es ≤ length first_pass
-    size_fits = omega (arith, length_all_marked own_numbers (replicate (length es) mark.Free), length-replicate (length es) mark.Free)
+    size_fits = omega (arith, length_all_marked own_numbers (replicate (length es) mark.Clear), length-replicate (length es) mark.Clear)
 
-    free : (j : ℕ) → j < length es → at (replicate (length es) mark.Free) j ≡ mark.Free
-    free j h = get_or-replicate (length es) j mark.Free mark.Free h
+    free : (j : ℕ) → j < length es → at (replicate (length es) mark.Clear) j ≡ mark.Clear
+    free j h = get_or-replicate (length es) j mark.Clear mark.Clear h
 
-    in_free : (j : ℕ) → j < length es → j < length (replicate (length es) mark.Free)
-    in_free j h = omega (arith, h, length-replicate (length es) mark.Free)
+    in_free : (j : ℕ) → j < length es → j < length (replicate (length es) mark.Clear)
+    in_free j h = omega (arith, h, length-replicate (length es) mark.Clear)
 
     -- both passes, for what weighs an assignment
     by_weight : (w : Assigned → Bool) (m : ℕ → Bool) → ((j : ℕ) → j < length es → m j ≡ list_any (λ (a : Assigned). (a.signal == j) && w a) own_numbers)
@@ -159,14 +159,14 @@ module _ (es : List Entry) (xs : List SectionTree) where
     pub is_found : is_marked (at (swept_marks es (length es) first_pass) s) ≡ is_assigned in_truth s
     is_found =
         swept_marked es (length es) first_pass s size_fits within
-        ∙ (by_weight (λ a. true) (λ j. is_marked (at first_pass j)) (λ j h. all_marked_at own_numbers (replicate (length es) mark.Free) j (in_free j h) ∙ (ap (λ m. is_marked m || is_assigned own_numbers j) (free j h) ∙ any_same (λ (a : Assigned). a.signal == j) (λ (a : Assigned). (a.signal == j) && true) own_numbers (λ a. with_true (a.signal == j))))
+        ∙ (by_weight (λ a. true) (λ j. is_marked (at first_pass j)) (λ j h. all_marked_at own_numbers (replicate (length es) mark.Clear) j (in_free j h) ∙ (ap (λ m. is_marked m || is_assigned own_numbers j) (free j h) ∙ any_same (λ (a : Assigned). a.signal == j) (λ (a : Assigned). (a.signal == j) && true) own_numbers (λ a. with_true (a.signal == j))))
         ∙ (any_same (λ (a : Assigned). stands es a.signal s && true) (λ (a : Assigned). stands es a.signal s) own_numbers (λ a. sym (with_true (stands es a.signal s)))
         ∙ sym (sections_alike (λ c j. j == s) (λ c j. stands es j s) (named_of es) (numbered (length es) es) (λ c. names_stand) xs)))
 
-    pub is_clocked : is_on_clock (at (swept_marks es (length es) first_pass) s) ≡ is_clocked_target in_truth s
+    pub is_clocked : is_strong (at (swept_marks es (length es) first_pass) s) ≡ is_clocked_target in_truth s
     is_clocked =
-        swept_clock es (length es) first_pass s size_fits within
-        ∙ (by_weight (λ (a : Assigned). a.clocked) (λ j. is_on_clock (at first_pass j)) (λ j h. all_clocked_at own_numbers (replicate (length es) mark.Free) j (in_free j h) ∙ ap (λ m. is_on_clock m || is_clocked_target own_numbers j) (free j h))
+        swept_strong es (length es) first_pass s size_fits within
+        ∙ (by_weight (λ (a : Assigned). a.clocked) (λ j. is_strong (at first_pass j)) (λ j h. all_strong_at own_numbers (replicate (length es) mark.Clear) j (in_free j h) ∙ ap (λ m. is_strong m || is_clocked_target own_numbers j) (free j h))
         ∙ sym (sections_alike (λ c j. (j == s) && c) (λ c j. stands es j s && c) (named_of es) (numbered (length es) es) clock_alike xs))
 
   -- what is no signal is not assigned

@@ -1,4 +1,5 @@
--- Marks of what targets name (ABEL-HDL Reference Manual, equations).
+-- Marks of names: a target on the clock and a read of Q mark strongly, any other plainly (ABEL-HDL Reference Manual, equations
+-- and dot extensions).
 use Rattle.std.specs.Prelude.{ℕ, Bool, true, false, Option, None, Some, List, fold, set, get_or}
 use Rattle.abel_tree.specs.declared.words.Extension.{Extension}
 use Rattle.abel_tree.specs.declared.words.Extension.TheVariants.{D}
@@ -13,34 +14,34 @@ use Rattle.pld_base.specs.declared.place.Place.{Place}
 use Rattle.name_kinds.specs.declared.marks.Mark.{Mark}
 use Rattle.name_kinds.specs.declared.marks.Mark.TheVariants as mark
 
--- some target names it
+-- something names it
 abbrev pub is_marked : Mark → Bool
-is_marked mark.Free = false
-is_marked mark.Assigned = true
-is_marked mark.Clocked = true
+is_marked mark.Clear = false
+is_marked mark.Plain = true
+is_marked mark.Strong = true
 
--- some target that is assigned on the clock names it
-abbrev pub is_on_clock : Mark → Bool
-is_on_clock mark.Free = false
-is_on_clock mark.Assigned = false
-is_on_clock mark.Clocked = true
+-- something names it strongly
+abbrev pub is_strong : Mark → Bool
+is_strong mark.Clear = false
+is_strong mark.Plain = false
+is_strong mark.Strong = true
 
--- one more target names it
-abbrev pub raised : (clocked : Bool) → Mark → Mark
-raised true m = mark.Clocked
-raised false mark.Free = mark.Assigned
-raised false mark.Assigned = mark.Assigned
-raised false mark.Clocked = mark.Clocked
+-- it is named once more
+abbrev pub raised : (strong : Bool) → Mark → Mark
+raised true m = mark.Strong
+raised false mark.Clear = mark.Plain
+raised false mark.Plain = mark.Plain
+raised false mark.Strong = mark.Strong
 
 -- the marks of all names, with one name's raised
-abbrev pub hit : (clocked : Bool) → List Mark → ℕ → List Mark
-hit clocked ms k = set ms k (raised clocked (get_or ms k mark.Free))
+abbrev pub hit : (strong : Bool) → List Mark → ℕ → List Mark
+hit strong ms k = set ms k (raised strong (get_or ms k mark.Clear))
 
 -- with those of several names
-abbrev pub hits : (clocked : Bool) → List Mark → List ℕ → List Mark
-hits clocked ms ks = fold (hit clocked) ms ks
+abbrev pub hits : (strong : Bool) → List Mark → List ℕ → List Mark
+hits strong ms ks = fold (hit strong) ms ks
 
--- what is assigned is marked
+-- what is assigned or read is marked: strongly what is told as on the clock
 abbrev pub marked : List Mark → Assigned → List Mark
 marked ms a = hit a.clocked ms a.signal
 

@@ -7,7 +7,7 @@ use Rattle.abel_tree.specs.Entries.{Kind, APin, ANode, AConstant, ADeviceName, E
 use Rattle.name_kinds.specs.declared.marks.Mark.{Mark}
 use Rattle.name_kinds.specs.declared.numbers.Numbers.{Numbers}
 use Rattle.name_kinds.specs.declared.marks.Mark.TheVariants as mark
-use Rattle.name_kinds.specs.Marking.{is_marked, is_on_clock, hits}
+use Rattle.name_kinds.specs.Marking.{is_marked, is_strong, hits}
 
 -- a name that stands for its own number alone
 abbrev pub numbered_from : ℕ → List Entry → List Named
@@ -35,10 +35,10 @@ direct es k = named_at (numbered k es) (slice_get es k)
 
 -- a constant that is marked marks what it names
 abbrev pub spread_by : Mark → List ℕ → List Mark → List Mark
-spread_by m ds ms = if is_marked m then hits (is_on_clock m) ms ds else ms
+spread_by m ds ms = if is_marked m then hits (is_strong m) ms ds else ms
 
 abbrev pub spread_from : List Entry → ℕ → List Mark → List Mark
-spread_from es k ms = spread_by (get_or ms k mark.Free) (direct es k) ms
+spread_from es k ms = spread_by (get_or ms k mark.Clear) (direct es k) ms
 
 -- all constants below a number, the last one first
 abbrev pub swept : List Entry → ℕ → List Mark → List Mark

@@ -1,5 +1,5 @@
--- Marks of what is read, and what holds registers, as it is found: a name is marked as on the clock where it is read with `.Q`
--- behind it (ABEL-HDL Reference Manual, dot extensions).
+-- Marks of what is read, and what holds registers, as it is found: what is read with `.Q` behind it is told as what is assigned
+-- on the clock is, and so marks strongly (ABEL-HDL Reference Manual, dot extensions).
 use Rattle.std.specs.Prelude.{ℕ, zero, suc, Bool, true, false, ◌||◌, Option, None, Some, List, [], ◌∷◌, fold, get_or, map, option_map, slice_get}
 use Rattle.pld_base.specs.declared.place.Place.{Place}
 use Rattle.abel_tree.specs.Assigned.{Assigned, assigned_each, signals_of_name}
@@ -39,12 +39,12 @@ reads_of es k as_q = reads_at k es as_q (slice_get es k)
 
 -- a constant that is read reads what it names
 abbrev pub read_on_by : Mark → (Bool → List Assigned) → List Mark → List Mark
-read_on_by mark.Free reads ms = ms
-read_on_by mark.Assigned reads ms = all_marked ms (reads false)
-read_on_by mark.Clocked reads ms = all_marked ms (reads true)
+read_on_by mark.Clear reads ms = ms
+read_on_by mark.Plain reads ms = all_marked ms (reads false)
+read_on_by mark.Strong reads ms = all_marked ms (reads true)
 
 abbrev pub read_on : List Entry → ℕ → List Mark → List Mark
-read_on es k ms = read_on_by (get_or ms k mark.Free) (reads_of es k) ms
+read_on es k ms = read_on_by (get_or ms k mark.Clear) (reads_of es k) ms
 
 -- all constants below a number, the last one first
 abbrev pub read_through : List Entry → ℕ → List Mark → List Mark

@@ -7,7 +7,7 @@ use Rattle.abel_meaning.specs.Held.{sections_parts}
 use Rattle.abel_meaning.specs.Kinds.{is_registered, is_buffer, is_open, settled_words}
 use Rattle.name_kinds.specs.declared.marks.Mark.{Mark}
 use Rattle.name_kinds.specs.declared.marks.Mark.TheVariants as mark
-use Rattle.name_kinds.specs.Marking.{is_marked, is_on_clock}
+use Rattle.name_kinds.specs.Marking.{is_marked, is_strong}
 use Rattle.name_kinds.specs.Reading.{Holding, numbers_read, parts_found, read_through}
 
 -- one kind, one polarity or none, and perhaps DC
@@ -18,7 +18,7 @@ attribute_words registered buffer free dc =
 -- what the parts of the sections hold by the numbers of the names
 abbrev pub first_found : List Entry → List SectionTree → Holding
 first_found es sections =
-    parts_found (numbers_read (length es) es) (record { all = false; marks = replicate (length es) mark.Free }) (sections_parts sections)
+    parts_found (numbers_read (length es) es) (record { all = false; marks = replicate (length es) mark.Clear }) (sections_parts sections)
 
 -- and what they hold through constants
 abbrev pub all_found : List Entry → List SectionTree → Holding
@@ -27,7 +27,7 @@ all_found es sections =
 
 -- the name of this number is held
 abbrev pub is_held_at : Holding → ℕ → Bool
-is_held_at held s = held.all || is_on_clock (get_or held.marks s mark.Free)
+is_held_at held s = held.all || is_strong (get_or held.marks s mark.Clear)
 
 -- a signal's words with its kind
 abbrev pub words_by : Flip → (held : Bool) → Words → (registered : Bool) → Words
@@ -38,7 +38,7 @@ words_by flip held words registered =
 abbrev pub kind_by : Flip → Mark → (held : Bool) → Entry → Entry
 kind_by flip m held e =
     record e {
-      words = if is_signal e.kind then words_by flip held e.words (is_registered e.words (is_on_clock m)) else e.words;
+      words = if is_signal e.kind then words_by flip held e.words (is_registered e.words (is_strong m)) else e.words;
       assigned = is_signal e.kind && is_marked m;
     }
 
@@ -46,4 +46,4 @@ kind_by flip m held e =
 abbrev pub kinds_by : Flip → List Mark → Holding → ℕ → List Entry → List Entry
 kinds_by flip ms held s [] = []
 kinds_by flip ms held s (e ∷ es) =
-    kind_by flip (get_or ms s mark.Free) (is_held_at held s) e ∷ kinds_by flip ms held (suc s) es
+    kind_by flip (get_or ms s mark.Clear) (is_held_at held s) e ∷ kinds_by flip ms held (suc s) es

@@ -4,9 +4,9 @@ ghost use Rattle.std.specs.Prelude.{◌≡◌, OnOk, IfOk, List, ℕ, map, repli
 ghost use Rattle.abel_meaning.specs.Kinds.{with_assigned, is_buffer, is_buffer_by_default, is_open, is_registered};
 ghost use Rattle.abel_tree.specs.Entries.{is_signal, view_attributes, view_declared, view_meaning};
 ghost use Rattle.abel_tree.specs.View.{view_section};
-ghost use Rattle.name_kinds.specs.declared.marks.Mark.TheVariants.{Free};
+ghost use Rattle.name_kinds.specs.declared.marks.Mark.TheVariants.{Clear};
 ghost use Rattle.name_kinds.specs.Settled.{all_found, attribute_words, is_held_at, kind_by, kinds_by, words_by};
-ghost use Rattle.name_kinds.specs.Marking.{is_on_clock};
+ghost use Rattle.name_kinds.specs.Marking.{is_strong};
 ghost use Rattle.name_kinds.specs.Numbered.{IsNumbering};
 ghost use Rattle.name_kinds.specs.Reading.{holding_of};
 
@@ -32,7 +32,7 @@ pub fn settle(
 {
     let count = names.len();
     let numbers = numbers_of(alloc, names.as_slice())?;
-    let mut marks = free_marks(alloc, count)?;
+    let mut marks = clear_marks(alloc, count)?;
     numbers.mark_sections(alloc, &mut marks, count, sections)?;
     numbers.sweep(alloc, &mut marks, names.as_slice())?;
     let held = held_names(alloc, &numbers, names.as_slice(), sections)?;
@@ -50,7 +50,7 @@ fn held_names(
     ensures { IfOk result (λ found. holding_of found ≡ all_found (map view_declared names.now) (map view_section sections.now)) }
 {
     let count = names.len();
-    let marks = free_marks(alloc, count)?;
+    let marks = clear_marks(alloc, count)?;
     let mut found = Found { all: false, marks };
     numbers.hold_sections(alloc, &mut found, count, sections)?;
     numbers.read_through(alloc, &mut found.marks, names)?;
@@ -58,12 +58,12 @@ fn held_names(
 }
 
 /// No name is marked.
-fn free_marks(alloc: Global, count: usize) -> Result<Vec<Mark>, OutOfMemory>
-    ensures { IfOk result (λ ms. ms.items ≡ replicate count Free) }
+fn clear_marks(alloc: Global, count: usize) -> Result<Vec<Mark>, OutOfMemory>
+    ensures { IfOk result (λ ms. ms.items ≡ replicate count Clear) }
 {
     let mut marks = Vec::new(alloc);
     for _ in 0..count {
-        marks.push(Mark::Free)?;
+        marks.push(Mark::Clear)?;
     }
     Ok(marks)
 }
@@ -92,7 +92,7 @@ fn settle_all(
 fn is_held(held: &Found, number: usize) -> bool
     ensures { result ≡ is_held_at (holding_of held.now) number }
 {
-    held.all || mark_of(held.marks.as_slice(), number).is_on_clock()
+    held.all || mark_of(held.marks.as_slice(), number).is_strong()
 }
 
 /// A name with its kind, by its mark.
@@ -108,7 +108,7 @@ fn settled_by(flip: Flip, declared: Declared, mark: Mark, held: bool) -> Declare
     } = declared;
     if is_signal(&meaning) {
         let attributes = settled_attributes(flip, attributes, mark, held);
-        let assigned = mark != Mark::Free;
+        let assigned = mark != Mark::Clear;
         return Declared {
             name,
             place,
@@ -140,9 +140,9 @@ fn is_signal(meaning: &Meaning) -> bool
 
 /// The attributes of a signal: its kind, its polarity and DC; neither polarity where it is free.
 fn settled_attributes(flip: Flip, said: Attributes, mark: Mark, held: bool) -> Attributes
-    ensures { view_attributes result ≡ words_by flip held (view_attributes said) (is_registered (view_attributes said) (is_on_clock mark)) }
+    ensures { view_attributes result ≡ words_by flip held (view_attributes said) (is_registered (view_attributes said) (is_strong mark)) }
 {
-    let registered = is_registered(said, mark.is_on_clock());
+    let registered = is_registered(said, mark.is_strong());
     let buffer = is_buffer(flip, said);
     let free = registered && is_open(flip, said) && !held;
     attributes_of(registered, buffer, free, said.contains(Attributes::DC))

@@ -1,46 +1,46 @@
-//! Marks of what targets name.
+//! The marks of names: what targets name, and what is read.
 
 ghost use Rattle.std.specs.Prelude.{◌≡◌};
-ghost use Rattle.name_kinds.specs.Marking.{hit, raised, is_on_clock};
+ghost use Rattle.name_kinds.specs.Marking.{hit, raised, is_strong};
 
-/// Whether some target names a name, and whether one on the clock does.
+/// Whether something names a name, and whether it does so strongly: a target on the clock, or a read of its Q.
 #[derive(Clone, Copy, PartialEq, Eq)]
 pub(crate) enum Mark {
-    Free,
-    Assigned,
-    Clocked,
+    Clear,
+    Plain,
+    Strong,
 }
 
 impl Mark {
-    /// The mark behind one more target.
-    fn raised(self, clocked: bool) -> Mark
-        ensures { result ≡ raised clocked self }
+    /// The mark once it is named once more.
+    fn raised(self, strong: bool) -> Mark
+        ensures { result ≡ raised strong self }
     {
-        match (self, clocked) {
-            (_, true) => Mark::Clocked,
-            (Mark::Free, false) => Mark::Assigned,
-            (Mark::Assigned, false) => Mark::Assigned,
-            (Mark::Clocked, false) => Mark::Clocked,
+        match (self, strong) {
+            (_, true) => Mark::Strong,
+            (Mark::Clear, false) => Mark::Plain,
+            (Mark::Plain, false) => Mark::Plain,
+            (Mark::Strong, false) => Mark::Strong,
         }
     }
 
-    /// Whether a target on the clock names it.
-    pub(crate) fn is_on_clock(self) -> bool
-        ensures { result ≡ is_on_clock self }
+    /// Whether something names it strongly.
+    pub(crate) fn is_strong(self) -> bool
+        ensures { result ≡ is_strong self }
     {
         match self {
-            Mark::Free => false,
-            Mark::Assigned => false,
-            Mark::Clocked => true,
+            Mark::Clear => false,
+            Mark::Plain => false,
+            Mark::Strong => true,
         }
     }
 }
 
-/// One more target names the name of this number.
-pub(crate) fn mark_number(marks: &mut Vec<Mark>, number: usize, clocked: bool)
-    ensures { marks.new.items ≡ hit clocked marks.old.items number }
+/// The name of this number is named once more.
+pub(crate) fn mark_number(marks: &mut Vec<Mark>, number: usize, strong: bool)
+    ensures { marks.new.items ≡ hit strong marks.old.items number }
 {
     if number < marks.len() {
-        marks[number] = marks[number].raised(clocked);
+        marks[number] = marks[number].raised(strong);
     }
 }

@@ -43,9 +43,9 @@ impl Numbers {
     {
         let mark = mark_of(marks.as_slice(), number);
         match mark {
-            Mark::Free => Ok(()),
-            Mark::Assigned => self.read_as(alloc, marks, names, number, false),
-            Mark::Clocked => self.read_as(alloc, marks, names, number, true),
+            Mark::Clear => Ok(()),
+            Mark::Plain => self.read_as(alloc, marks, names, number, false),
+            Mark::Strong => self.read_as(alloc, marks, names, number, true),
         }
     }
 

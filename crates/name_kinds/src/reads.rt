@@ -35,7 +35,7 @@ fn asks_q(as_q: bool, extension: Option<Extension>) -> bool
 }
 
 impl Numbers {
-    /// Marks what an expression reads: a name that has `.Q` behind it as on the clock. Calls go as deep as the nestings,
+    /// Marks what an expression reads, strongly a name that has `.Q` behind it. Calls go as deep as the nestings,
     /// however many operators stand in a row.
     #[cycle(reads)]
     pub(crate) fn mark_read(

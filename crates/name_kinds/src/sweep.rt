@@ -2,7 +2,7 @@
 
 ghost use Rattle.std.specs.Prelude.{◌≡◌, OnOk, List, ℕ, length, map, get_or};
 ghost use Rattle.abel_tree.specs.Entries.{view_declared};
-ghost use Rattle.name_kinds.specs.declared.marks.Mark.TheVariants.{Free};
+ghost use Rattle.name_kinds.specs.declared.marks.Mark.TheVariants.{Clear};
 ghost use Rattle.name_kinds.specs.Marking.{hits};
 ghost use Rattle.name_kinds.specs.Numbered.{IsNumbering, direct, spread_from, swept};
 
@@ -42,9 +42,9 @@ impl Numbers {
     {
         let mark = mark_of(marks.as_slice(), number);
         match mark {
-            Mark::Free => Ok(()),
-            Mark::Assigned => self.spread_as(alloc, marks, names, number, false),
-            Mark::Clocked => self.spread_as(alloc, marks, names, number, true),
+            Mark::Clear => Ok(()),
+            Mark::Plain => self.spread_as(alloc, marks, names, number, false),
+            Mark::Strong => self.spread_as(alloc, marks, names, number, true),
         }
     }
 
@@ -75,11 +75,11 @@ impl Numbers {
 
 /// The mark of a name.
 pub(crate) fn mark_of(marks: &[Mark], number: usize) -> Mark
-    ensures { result ≡ get_or marks.now number Free }
+    ensures { result ≡ get_or marks.now number Clear }
 {
     if number < marks.len() {
         marks[number]
     } else {
-        Mark::Free
+        Mark::Clear
     }
 }

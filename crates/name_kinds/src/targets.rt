@@ -19,12 +19,12 @@ use std::alloc::Global;
 
 impl Numbers {
     /// Marks a name, if its number is below the limit.
-    pub(crate) fn mark_name(&self, marks: &mut Vec<Mark>, limit: usize, clocked: bool, name: &[u8])
-        ensures { (es : List Entry) → IsNumbering self.now es → marks.new.items ≡ hits clocked marks.old.items (signals_of_name (numbered limit es) name.now) }
+    pub(crate) fn mark_name(&self, marks: &mut Vec<Mark>, limit: usize, strong: bool, name: &[u8])
+        ensures { (es : List Entry) → IsNumbering self.now es → marks.new.items ≡ hits strong marks.old.items (signals_of_name (numbered limit es) name.now) }
     {
         if let Some(number) = self.map.get(name) {
             if *number < limit {
-                mark_number(marks, *number, clocked);
+                mark_number(marks, *number, strong);
             }
         }
     }
@@ -34,13 +34,13 @@ impl Numbers {
         &self,
         marks: &mut Vec<Mark>,
         limit: usize,
-        clocked: bool,
+        strong: bool,
         names: &[Vec<u8>],
     )
-        ensures { (es : List Entry) → IsNumbering self.now es → marks.new.items ≡ hits clocked marks.old.items (signals_of_names (numbered limit es) (map name_items names.now)) }
+        ensures { (es : List Entry) → IsNumbering self.now es → marks.new.items ≡ hits strong marks.old.items (signals_of_names (numbered limit es) (map name_items names.now)) }
     {
         for name in names {
-            self.mark_name(marks, limit, clocked, name.as_slice());
+            self.mark_name(marks, limit, strong, name.as_slice());
         }
     }
 

@@ -6,15 +6,15 @@ use Rattle.name_kinds.proofs.numbers.Numbers.mark_name.Goals as goal
 
 pub returns-then-number-limit : goal.returns-then-number-limit
 returns-then-number-limit c = λ es num.
-    hit_name c.args.clocked c.args.marks.now.items c.mark_number.new.marks.items c.in-Some.number.now c.args.limit c.args.name.now es
+    hit_name c.args.strong c.args.marks.now.items c.mark_number.new.marks.items c.in-Some.number.now c.args.limit c.args.name.now es
     (sym (num c.args.name.now) ∙ (sym c.get.ensures.value ∙ ap option_copied c.in-Some.is)) c.if-number-limit.true c.mark_number.ensures
 
 pub returns-else-number-limit : goal.returns-else-number-limit
 returns-else-number-limit c = λ es num.
-    no_hit c.args.clocked c.args.marks.now.items c.in-Some.number.now c.args.limit c.args.name.now es
+    no_hit c.args.strong c.args.marks.now.items c.in-Some.number.now c.args.limit c.args.name.now es
     (sym (num c.args.name.now) ∙ (sym c.get.ensures.value ∙ ap option_copied c.in-Some.is)) (omega (arith, c.if-number-limit.false))
 
 pub returns-in_default : goal.returns-in_default
 returns-in_default c = λ es num.
-    none_hit c.args.clocked c.args.marks.now.items c.args.limit c.args.name.now es
+    none_hit c.args.strong c.args.marks.now.items c.args.limit c.args.name.now es
     (sym (num c.args.name.now) ∙ (sym c.get.ensures.value ∙ ap option_copied c.in_default.is))

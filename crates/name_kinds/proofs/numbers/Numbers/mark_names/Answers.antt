@@ -12,6 +12,6 @@ pub loop-name-preserved : goal.loop-name-preserved
 loop-name-preserved c = λ es num.
     let l = c.loop-name in
     c.mark_name.ensures es num
-    ∙ (ap (λ w. hits c.args.clocked l.marks.items (signals_of_name (numbered c.args.limit es) w)) c.as_slice.ensures.value
-    ∙ (ap (λ ms. hits c.args.clocked ms (signals_of_name (numbered c.args.limit es) (name_items c.name-item.result))) (l.invariant es num)
-    ∙ hits_more c.args.clocked (signals_of_names (numbered c.args.limit es)) (signals_of_name (numbered c.args.limit es)) (names_push (numbered c.args.limit es)) name_items c.args.marks.now.items c.args.names.now l.name-index c.name-item.result c.loop-name-test.true c.name-item.is))
+    ∙ (ap (λ w. hits c.args.strong l.marks.items (signals_of_name (numbered c.args.limit es) w)) c.as_slice.ensures.value
+    ∙ (ap (λ ms. hits c.args.strong ms (signals_of_name (numbered c.args.limit es) (name_items c.name-item.result))) (l.invariant es num)
+    ∙ hits_more c.args.strong (signals_of_names (numbered c.args.limit es)) (signals_of_name (numbered c.args.limit es)) (names_push (numbered c.args.limit es)) name_items c.args.marks.now.items c.args.names.now l.name-index c.name-item.result c.loop-name-test.true c.name-item.is))

@@ -8,4 +8,4 @@ use Rattle.name_kinds.specs.Numbered.{numbered, IsNumbering}
 use Rattle.name_kinds.proofs.numbers.Numbers.mark_names.Given as goal
 
 abbrev pub invariant-loop-name : goal.invariant-loop-name
-invariant-loop-name l = (es : List Entry) → IsNumbering l.self es → l.marks.items ≡ hits l.clocked l.fn.marks.items (signals_of_names (numbered l.limit es) (map name_items (take l.name-index l.names)))
+invariant-loop-name l = (es : List Entry) → IsNumbering l.self es → l.marks.items ≡ hits l.strong l.fn.marks.items (signals_of_names (numbered l.limit es) (map name_items (take l.name-index l.names)))
