@@ -26,6 +26,7 @@ pub mod FirstRegisters
 pub mod FiveStates
 pub mod FiveStatesDontCare
 pub mod FoldedReads
+pub mod FreeRegisters
 pub mod GuardedStatements
 pub mod InvertedReset
 pub mod LastRegisters
