@@ -140,7 +140,7 @@ module _ (uses_have_columns : UsesHaveColumns) (d : Design) (fs : List Formula) 
       let may = may_be (cell_at d.device c).kinds (is_stored (name_at d s)) (cell_kind pin c (is_stored (name_at d s)) parts.1 (sym (ap (has_wrong_kind_by d.device (is_stored (name_at d s))) kind) ∙ right_kind s parts.0)) in
       record {
         kind = may;
-        buffer = λ stored follows. accepted.names.buffers s (ap is_signal kind) stored follows (clocked pin c parts.1 (may_register (cell_at d.device c).kinds (is_stored (name_at d s)) stored may));
+        buffer = λ stored follows. accepted.names.buffers s stored follows (clocked pin c parts.1 (may_register (cell_at d.device c).kinds (is_stored (name_at d s)) stored may));
       }
     where
       on_cell : (b : Bool) (o : Option ℕ) → (if b then o else None) ≡ Some c → (b ≡ true) × (o ≡ Some c)

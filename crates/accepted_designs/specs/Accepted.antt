@@ -20,8 +20,8 @@ SignalsAreAssigned d = (s : ℕ) → (name_at d s).assigned ≡ true → is_sign
 -- on a device that has registers, none follows Q, or may, where the device can't complement behind it
 abbrev pub BuffersAreBehind : Design → Type 0
 BuffersAreBehind d =
-    (s : ℕ) → is_signal (name_at d s).kind ≡ true → is_stored (name_at d s) ≡ true
-    → follows_q (name_at d s) ≡ true → d.device.clock ≢ 0 → d.device.flip ≡ AfterRegister
+    (s : ℕ) → is_stored (name_at d s) ≡ true → follows_q (name_at d s) ≡ true → d.device.clock ≢ 0
+    → d.device.flip ≡ AfterRegister
 
 -- a register whose polarity is left to the fitter is one for which it may be chosen
 abbrev pub FreeMayChoose : Design → Type 0

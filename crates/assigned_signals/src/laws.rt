@@ -19,8 +19,8 @@ pub fn assigned_have_cells()
 {}
 
 /// A module is accepted for a device where nothing is refused of its sections, and its declarations are sound: no two
-/// names are one pin, nodes are few, and no register follows Q, or may,
-/// where the device can't complement behind it. Does nothing.
+/// names are one pin, nodes are few, and no register follows Q, or may, where the device can't complement behind it. Does
+/// nothing.
 pub fn sound_modules_are_accepted()
     ensures { SoundModulesAreAccepted }
 {}

@@ -12,11 +12,12 @@ use Rattle.pld_device.specs.Macrocells.{pin_complements}
 use Rattle.pld_device.specs.Table.{Table}
 use Rattle.abel_tree.specs.Assigned.{Assigned, named_of, sections_assign, is_assigned, is_clocked_target}
 use Rattle.abel_tree.specs.Entries.{Entry, find, is_signal}
-use Rattle.abel_tree.specs.Tree.{ModuleTree}
+use Rattle.abel_tree.specs.Tree.{SectionTree, ModuleTree}
 use Rattle.abel_meaning.specs.Declarations.{GivenName, declared_names}
 use Rattle.abel_meaning.specs.Designs.{no_name, is_stored, follows_q}
 use Rattle.abel_meaning.specs.Held.{Holds, holds_of, is_held}
 use Rattle.abel_meaning.specs.Kinds.{is_buffer_by_default, is_registered, is_buffer, words_with_kind, with_kind, with_kinds, names_of}
+use Rattle.name_kinds.proofs.Settling.{is_no_target}
 use Rattle.decls.specs.declared.fault.NameFault.TheVariants as fault
 use Rattle.decls.specs.AllDeclarations.{all_declarations}
 use Rattle.decls.specs.NameRefusals.{always_inverts, all_buffered, is_register_at, buffers_refused, module_buffers_refused, names_once, read_refusals, name_refusals}
@@ -76,7 +77,18 @@ was_said false true false false held none is = absurd cc
 was_said false false false true held none is = absurd cc
 was_said false false false false held none is = absurd cc
 
-module _ (t : Table) (held : Holds) (found : List Assigned) (es : List Entry) (xs : List GivenName) (sound : AreSound t.pins [] es) (told : All (IsTold xs) es) (none : always_inverts t ≡ true → buffers_refused found es xs ≡ []) where
+-- what is assigned is a signal
+abbrev AssignsSignals : List Assigned → List Entry → Type 0
+AssignsSignals found es = (s : ℕ) (e : Entry) → slice_get es s ≡ Some e → is_assigned found s ≡ true → is_signal e.kind ≡ true
+
+assigns_signals : (es : List Entry) (sections : List SectionTree) → AssignsSignals (sections_assign (named_of es) sections) es
+assigns_signals es sections s e is target = by (is_signal e.kind) refl
+  where
+    by : (b : Bool) → is_signal e.kind ≡ b → b ≡ true
+    by true signal = refl
+    by false other = absurd (true≢false (sym target ∙ is_no_target es sections s e is other))
+
+module _ (t : Table) (held : Holds) (found : List Assigned) (es : List Entry) (xs : List GivenName) (sound : AreSound t.pins [] es) (told : All (IsTold xs) es) (targets : AssignsSignals found es) (none : always_inverts t ≡ true → buffers_refused found es xs ≡ []) where
   told_at : (s : ℕ) (e : Entry) → slice_get es s ≡ Some e → IsTold xs e
   told_at s e is = subst (IsTold xs) (get_or_from_slice_get es s e e is) (All-get_or (IsTold xs) es s e (slice_get_within es s e is) told)
 
@@ -111,13 +123,15 @@ module _ (t : Table) (held : Holds) (found : List Assigned) (es : List Entry) (x
   behind BeforeRegister same clock s e is signal stored follows = absurd (not_behind BeforeRegister (inverts t clock (ap (λ f. pin_complements f true false) same)) refl s e is signal stored follows)
 
   pub allowed : BuffersAreAllowed t (with_kinds t.flip held found 0 es)
-  allowed s signal stored follows clock = by (slice_get es s) refl
+  allowed s stored follows clock = by (slice_get es s) refl
     where
       by : (o : Option Entry) → slice_get es s ≡ o → t.flip ≡ AfterRegister
       by None is = absurd (true≢false (sym stored ∙ ap is_stored (name_at_or t.flip held found es s None is)))
       by (Some e) is =
           let here = name_at_or t.flip held found es s (Some e) is in
-          behind t.flip refl clock s e is (sym (ap (λ (x : Entry). is_signal x.kind) here) ∙ signal) (sym (ap is_stored here) ∙ stored) (sym (ap follows_q here) ∙ follows)
+          let register : is_stored (with_kind t.flip held found s e) ≡ true = sym (ap is_stored here) ∙ stored in
+          let assigned = (and_parts (with_kind t.flip held found s e).words.registered (is_assigned found s) register).1 in
+          behind t.flip refl clock s e is (targets s e is assigned) register (sym (ap follows_q here) ∙ follows)
 
 -- ---- the module
 
@@ -130,4 +144,5 @@ module_buffers t m h =
     allowed t (holds_of (declared_names m) m.sections) (sections_assign (named_of (declared_names m)) m.sections) (declared_names m) xs
     (subst (AreSound t.pins []) all.settled.names all.sound)
     (subst (All (IsTold xs)) all.settled.names told)
+    (assigns_signals (declared_names m) m.sections)
     (λ inverted. subst (λ es. refused es ≡ []) (all.settled.sure.once ∙ all.settled.names) (sym (ap (λ b. if b then refused (names_once m) else []) inverted) ∙ none_right (read_refusals t m) (module_buffers_refused t m) h))
