@@ -17,8 +17,8 @@ use pld_base::ListOf;
 use pld_device::Device;
 use std::alloc::Global;
 
-/// The names that a module declares for a device, with their kinds and polarities. Which device the module
-/// itself names is not looked at.
+/// The names that a module declares for a device, with their kinds and polarities; a register that is free has neither
+/// polarity. Which device the module itself names is not looked at.
 pub fn declare<D: Device>(alloc: Global, source: &Module) -> Result<Names, NameFault>
     ensures names { IfOk result (λ n. entries_of n ≡ names_of D.table (view_module source.now)) }
     ensures accepted { IfOk result (λ n. name_refusals D.table (view_module source.now) ≡ []) }
