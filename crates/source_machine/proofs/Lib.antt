@@ -1,6 +1,9 @@
+pub mod ChosenCells
+pub mod ChosenLogics
 pub mod CleanSlots
 pub mod FirstControls
 pub mod LinkReads
+pub mod NamedPoints
 pub mod NetlistOrdered
 pub mod OneValue
 pub mod SameSignals

@@ -1,4 +1,5 @@
 pub mod AnyAs0
+pub mod Choices
 pub mod Correct
 pub mod Finding
 pub mod NetlistLookups

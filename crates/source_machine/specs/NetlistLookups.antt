@@ -1,7 +1,9 @@
 -- A netlist with any as 0 as what the machine asks of a logic (this project's rule).
 use Rattle.std.specs.Prelude.{ℕ, ◌-◌, nat_lt, if◌then◌else◌, List, map, length}
+use Rattle.pld_base.specs.Bits.{bits, is_on}
 use Rattle.pld_machine.specs.declared.logic.Slot.{Slot}
 use Rattle.pld_machine.specs.declared.logic.Slot.TheVariants as slot
+use Rattle.pld_machine.specs.Exchanged.{exchanged_lookups}
 use Rattle.pld_machine.specs.Lookups.{Lookups}
 use Rattle.pld_order.specs.Graphs.{IsOrder}
 use Rattle.pld_device.specs.Table.{Table, cell_at}
@@ -13,10 +15,12 @@ use Rattle.abel_meaning.specs.NetlistReads.{netlist_waits, signal_count}
 use Rattle.abel_meaning.specs.SoundIds.{IsSoundNetlist}
 use Rattle.source_machine.specs.AnyAs0.{level_with_any_0, next_with_any_0}
 
--- a netlist, and the order in which its signals come to rest: first the cells count, and behind them the nodes
+-- a netlist; the order in which its signals come to rest: first the cells count, and behind them the nodes; and which of
+-- the cells store the complement, each by its bit
 pub record Ordered : Type 0 where
   pub net : Netlist
   pub order : List ℕ
+  pub complemented : ℕ
 
 -- the slot of a signal
 abbrev pub signal_slot : Table → ℕ → Slot
@@ -38,6 +42,11 @@ netlist_lookups t net order =
       preset = λ at c. formula_value at (own_or_shared (λ (w : Wanted). w.preset) net c);
       next = λ at c. next_with_any_0 at (wanted_at net c);
     }
+
+-- the same, where some of the cells store the complement
+abbrev pub ordered_lookups : Table → Ordered → Lookups
+ordered_lookups t l =
+    exchanged_lookups (is_on (bits 32 l.complemented)) (netlist_lookups t (plain_netlist l.net) l.order)
 
 -- all signals, each once, none of which waits for itself or one that stands behind it
 abbrev pub IsSignalOrder : Table → PlainNetlist → (order : List ℕ) → Type 0

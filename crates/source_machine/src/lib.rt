@@ -2,6 +2,7 @@
 #![tactic(auto)]
 
 mod cells;
+mod choices;
 mod controls;
 mod laws;
 mod links;

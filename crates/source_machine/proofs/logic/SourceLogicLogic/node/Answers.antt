@@ -8,8 +8,8 @@ use Rattle.source_machine.specs.NetlistLookups.{netlist_lookups}
 use Rattle.source_machine.proofs.SignalPlaces.{node_within}
 use Rattle.source_machine.proofs.logic.SourceLogicLogic.node.Goals as goal
 
-pub node_function-requires-clause-node : goal.node_function-requires-clause-node
-node_function-requires-clause-node g c =
+pub node_function-function-requires-clause-node : goal.node_function-function-requires-clause-node
+node_function-function-requires-clause-node g c =
     let t = g.D.Device.table in
     let net = c.self.inside.net.now in
     subst (λ n. c.args.node < n) (length-map net.nodes (plain_function (arena net.exprs)))

@@ -1,0 +1,34 @@
+-- What a netlist, and its module, are with any as 0 where bits tell which free registers invert (ABEL-HDL Reference Manual,
+-- ISTYPE; that a choice is one for all points is this project's rule).
+use Rattle.std.specs.Prelude.{◌≡◌, ℕ, Bool, ◌&&◌, nat_lt, length}
+use Rattle.pld_base.specs.Bits.{bits, is_on}
+use Rattle.pld_base.specs.Logic.{Logic}
+use Rattle.pld_machine.specs.Exchanged.{exchanged}
+use Rattle.pld_device.specs.Table.{Table}
+use Rattle.abel_tree.specs.Tree.{ModuleTree}
+use Rattle.abel_meaning.specs.Choices.{inverting}
+use Rattle.abel_meaning.specs.Designs.{design_of}
+use Rattle.abel_meaning.specs.Netlists.{PlainNetlist, wanted_at}
+use Rattle.abel_meaning.specs.SourceLogic.{logic_with_any_0}
+use Rattle.free_netlists.specs.ExchangedNets.{is_free_wanted}
+use Rattle.source_machine.specs.AnyAs0.{netlist_with_any_0}
+
+-- the cells of a device whose bits are 1
+abbrev pub inverts_by : Table → (inverted : ℕ) → ℕ → Bool
+inverts_by t inverted c = nat_lt c (length t.cells) && is_on (bits 32 inverted) c
+
+-- the free registers of a netlist that are on such cells, by their cells
+abbrev pub chosen : Table → PlainNetlist → (inverted : ℕ) → ℕ → Bool
+chosen t net inverted c = is_free_wanted (wanted_at net c) && inverts_by t inverted c
+
+-- the netlist with any as 0, where these store the complement
+abbrev pub netlist_as_chosen : Table → PlainNetlist → (inverted : ℕ) → Logic
+netlist_as_chosen t net inverted = exchanged (chosen t net inverted) (netlist_with_any_0 t net)
+
+-- the module with any as 0, where its free registers on such cells invert
+abbrev pub module_as_chosen : Table → ModuleTree → (inverted : ℕ) → Logic
+module_as_chosen t m inverted = exchanged (inverting (inverts_by t inverted) (design_of t m)) (logic_with_any_0 (design_of t m))
+
+-- bit c says that the register of cell c stores the complement
+abbrev pub AreChosen : Table → PlainNetlist → (inverted complemented : ℕ) → Type 0
+AreChosen t net inverted complemented = (c : ℕ) → is_on (bits 32 complemented) c ≡ chosen t net inverted c

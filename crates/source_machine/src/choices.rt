@@ -1,0 +1,51 @@
+//! Which free registers store the complement, and points as a netlist reads them.
+
+ghost use Rattle.std.specs.Prelude.{◌≡◌, ◌<◌, All, length};
+ghost use Rattle.pld_base.specs.Bits.{bits, is_on};
+ghost use Rattle.pld_base.specs.Points.{levels_of};
+ghost use Rattle.pld_machine.specs.Exchanged.{exchanged_at};
+ghost use Rattle.bit_expr.specs.Arena.{arena};
+ghost use Rattle.abel_meaning.specs.Netlists.{plain_netlist};
+ghost use Rattle.abel_meaning.specs.SoundIds.{IsCellIn};
+ghost use Rattle.source_machine.specs.Choices.{AreChosen, chosen};
+
+use crate::cells::cell_wanted;
+use bit_expr::Netlist;
+use pld_base::{Point, level_at, with_level};
+use pld_device::Device;
+
+/// Whether the cell is a free register that inverts by its bit.
+fn is_chosen<D: Device>(net: &Netlist, inverted: u32, cell: u8) -> bool
+    requires inside { All (IsCellIn (length (arena net.now.exprs))) net.now.cells }
+    requires cell { cell < length D.table.cells }
+    ensures { result ≡ chosen D.table (plain_netlist net.now) inverted cell }
+{
+    match cell_wanted(net, cell) {
+        None => false,
+        Some(wanted) => wanted.free && level_at(inverted, cell),
+    }
+}
+
+/// Bit c says that cell c is such a register.
+pub(crate) fn chosen_cells<D: Device>(net: &Netlist, inverted: u32) -> u32
+    requires { All (IsCellIn (length (arena net.now.exprs))) net.now.cells }
+    ensures { AreChosen D.table (plain_netlist net.now) inverted result }
+{
+    let mut chosen = 0;
+    for cell in 0..D::CELLS {
+        let on = is_chosen::<D>(net, inverted, cell);
+        chosen = with_level(chosen, cell, on);
+    }
+    chosen
+}
+
+/// The point with the Qs of these cells complemented, so that each is what its name says of it.
+pub(crate) fn as_named_point(at: &Point, complemented: u32) -> Point
+    ensures { levels_of result ≡ exchanged_at (is_on (bits 32 complemented)) (levels_of at.now) }
+{
+    Point {
+        pins: at.pins,
+        q: at.q ^ complemented,
+        nodes: at.nodes,
+    }
+}
