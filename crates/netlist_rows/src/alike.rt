@@ -40,8 +40,14 @@ fn turn_alike<A: Logic, B: Logic>(left: &A, right: &B, outside: u32, stored: u32
     are_same(&here, &there) && are_same(&step(left, &here, turned), &step(right, &there, turned))
 }
 
-/// Whether the device does as the module, with any as 0, from each state and at all outside levels.
-pub(crate) fn runs_alike<D: Device>(alloc: Global, made: &ModuleNet, fuses: &Fuses) -> Option<bool>
+/// Whether the device does as the module, with any as 0 and with the free registers of these cells inverted, from each state
+/// and at all outside levels.
+pub(crate) fn runs_alike<D: Device>(
+    alloc: Global,
+    made: &ModuleNet,
+    fuses: &Fuses,
+    inverted: u32,
+) -> Option<bool>
     ghost source: { ModuleTree }
     requires sound { IsSoundNetlist D.table made.now.net }
     requires module { plain_netlist made.now.net ≡ netlist_of D.table source }
@@ -51,7 +57,7 @@ pub(crate) fn runs_alike<D: Device>(alloc: Global, made: &ModuleNet, fuses: &Fus
     let Ok(device) = load::<D>(alloc, fuses) else {
         return None;
     };
-    let source = SourceLogic::<D>::new(alloc, &made.net).ok()?;
+    let source = SourceLogic::<D>::new(alloc, &made.net, inverted).ok()?;
     for stored in 0..STATES {
         for levels in 0..LEVELS {
             if !turn_alike(&device, &source, levels << 1, stored) {

@@ -24,6 +24,17 @@ fn put_cells(cells: &[FittedCell], found: &mut Found) {
     }
 }
 
+/// Bit c says that cell c is inverted.
+fn inverted_cells(cells: &[FittedCell]) -> u32 {
+    let mut inverted = 0u32;
+    for cell in cells {
+        if cell.inverted && cell.cell < 32 {
+            inverted |= 1 << cell.cell;
+        }
+    }
+    inverted
+}
+
 fn put_fuses(levels: &[bool], found: &mut Found) {
     for level in levels {
         found.text(if *level { "1" } else { "0" });
@@ -61,7 +72,8 @@ fn put_fit<D: Device>(
     };
     put_cells(fitted.cells.as_slice(), found);
     put_fuses(fitted.fuses.levels(), found);
-    if is_alike && !runs_alike::<D>(alloc, &made, &fitted.fuses)? {
+    let inverted = inverted_cells(fitted.cells.as_slice());
+    if is_alike && !runs_alike::<D>(alloc, &made, &fitted.fuses, inverted)? {
         found.text(", not as its module");
     }
     let file = FuseFile {

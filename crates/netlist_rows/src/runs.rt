@@ -40,15 +40,15 @@ fn put_point(at: &Point, driven: u32, found: &mut Found) {
     found.text(";")
 }
 
-/// The levels of pins between blanks.
+/// The levels of the pins, or cells, whose numbers stand between blanks.
 fn levels_of(text: &str) -> Option<u32> {
     let mut levels = 0u32;
     for word in text.split_whitespace() {
-        let pin = word.parse::<u8>().ok()?;
-        if pin >= 32 {
+        let place = word.parse::<u8>().ok()?;
+        if place >= 32 {
             return None;
         }
-        levels |= 1 << pin;
+        levels |= 1 << place;
     }
     Some(levels)
 }
@@ -62,14 +62,21 @@ fn steps_of(alloc: Global, text: &str) -> Option<Vec<u32>> {
     Some(steps)
 }
 
-/// The points of a module: at rest with low pins and stored Qs that are 1, and then behind each step.
-fn put_steps(alloc: Global, made: &ModuleNet, steps: &[u32], found: &mut Found) -> Option<()>
+/// The points of a module with the free registers of these cells inverted: at rest with low pins and stored Qs that are 1, and
+/// then behind each step.
+fn put_steps(
+    alloc: Global,
+    made: &ModuleNet,
+    inverted: u32,
+    steps: &[u32],
+    found: &mut Found,
+) -> Option<()>
     ghost source: { ModuleTree }
     requires sound { IsSoundNetlist sample made.now.net }
     requires module { plain_netlist made.now.net ≡ netlist_of sample source }
     requires same { MeansTheSame sample source (plain_netlist made.now.net) }
 {
-    let Ok(logic) = SourceLogic::<Sample>::new(alloc, &made.net) else {
+    let Ok(logic) = SourceLogic::<Sample>::new(alloc, &made.net, inverted) else {
         return None;
     };
     let mut at = rest(&logic, 0, 0b11);
@@ -81,10 +88,16 @@ fn put_steps(alloc: Global, made: &ModuleNet, steps: &[u32], found: &mut Found) 
     Some(())
 }
 
-/// The points of the one module of the names, at rest and behind steps to the levels of a text.
+/// The points of the one module of the names, at rest and behind steps to the levels of a text; before a colon stand the cells
+/// that invert, where any do.
 pub(crate) fn put_run(alloc: Global, names: &Found, text: &str, found: &mut Found) -> Option<()> {
     let module = row_module(alloc, names, "", "", "")?;
     let (made, _vectors) = gathered::<Sample>(alloc, draw::<Sample>(alloc, module)?)?;
-    let steps = steps_of(alloc, text)?;
-    put_steps(alloc, &made, steps.as_slice(), found)
+    let (cells, levels) = match text.split_once(':') {
+        Some(both) => both,
+        None => ("", text),
+    };
+    let inverted = levels_of(cells)?;
+    let steps = steps_of(alloc, levels)?;
+    put_steps(alloc, &made, inverted, steps.as_slice(), found)
 }
