@@ -21,9 +21,10 @@ fuses_and_vectors t fuses vectors =
 
 -- The text is read as one module, and as no other; the module names the device. With the file's fuses, as many as the device
 -- has, the device comes to rest in exactly one way from every state; and it drives, releases and stores, from power-up and
--- for every list of outside levels, what a run of the module does under the choice of its free registers that the file's fuses
--- show, and that alone where the module has no don't-care. The file is the canonical one of the module's name, of these fuses and of the module's test vectors; and it reads back as just
--- these. `spells` says which texts spell which modules, `table` which table a device has.
+-- for every list of outside levels, what a run of the module does under the choice of its free registers that the file's
+-- fuses show, and that alone where the module has no don't-care. The file is the canonical one of the module's name, of these
+-- fuses and of the module's test vectors; and it reads back as just these. `spells` says which texts spell which modules,
+-- `table` which table a device has.
 pub record IsRightFile (spells : List ℕ → ModuleTree → Type 0) (table : DeviceName → Table) (text : List ℕ) (device : DeviceName) (file : List ℕ)
     : Type 0 where
   pub source : ModuleTree
