@@ -13,9 +13,8 @@ VECTORS = 12
 class Cell:
     """An output: a register or combinational, and what the source says of it."""
 
-    def __init__(self, rng, pin):
-        self.pin, self.name = pin, f"o{pin}"
-        self.registered = rng.random() < 0.75
+    def __init__(self, rng, pin, registered):
+        self.pin, self.name, self.registered = pin, f"o{pin}", registered
         self.negated = rng.random() < 0.2
         self.word = rng.choice(["", "", "", "buffer", "invert"]) if self.registered else ""
         self.raw = self.registered and rng.random() < 0.04
@@ -62,13 +61,13 @@ class FreeSource:
         self.rng = rng
         self.inputs = [f"i{pin}" for pin in rng.sample(INPUTS, rng.randint(4, 9))]
         pins = rng.sample(OUTPUTS, rng.randint(1, 5))
-        self.cells = [Cell(rng, pin) for pin in pins]
+        self.cells = [Cell(rng, pin, pin == pins[-1] or rng.random() < 0.7) for pin in pins]
         self.registers = [cell for cell in self.cells if cell.registered]
         self.controls = {}
         for word in ("AR", "SP"):
-            if self.registers and rng.random() < 0.06:
+            if rng.random() < 0.06:
                 self.controls[word] = (rng.choice(self.registers).name, ([self.product(self.inputs)], False))
-        self.constant = rng.choice(self.registers).name if self.registers and rng.random() < 0.1 else None
+        self.constant = rng.choice(self.registers).name if rng.random() < 0.1 else None
         before = []
         for cell in self.cells:
             self.assign(cell, before)
@@ -86,8 +85,8 @@ class FreeSource:
         """Equations that read inputs, registers and, of combinational outputs, those before."""
         rng = self.rng
         names = self.inputs * 2 + [register.name for register in self.registers] + before
-        names += [f"{rng.choice(self.registers).name}.Q"] * (bool(self.registers) and rng.random() < 0.06)
-        names += [f"{rng.choice(self.registers).name}.FB"] * (bool(self.registers) and rng.random() < 0.1)
+        names += [f"{rng.choice(self.registers).name}.Q"] * (rng.random() < 0.06)
+        names += [f"{rng.choice(self.registers).name}.FB"] * (rng.random() < 0.1)
         names += ["k"] * (self.constant is not None and rng.random() < 0.4)
         way = rng.random()
         cell.data = self.expression(names) if way < 0.85 else None
