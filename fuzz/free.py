@@ -7,6 +7,7 @@ import re
 
 INPUTS = [2, 3, 4, 5, 6, 7, 8, 9, 10, 11, 13]
 OUTPUTS = list(range(23, 13, -1))
+SMALL = [23, 22, 15, 14]        # the outputs with the fewest rows
 VECTORS = 12
 
 
@@ -59,8 +60,8 @@ class FreeSource:
 
     def __init__(self, rng):
         self.rng = rng
-        self.inputs = [f"i{pin}" for pin in rng.sample(INPUTS, rng.randint(4, 9))]
-        pins = rng.sample(OUTPUTS, rng.randint(1, 5))
+        self.inputs = [f"i{pin}" for pin in rng.sample(INPUTS, rng.randint(4, 11))]
+        pins = rng.sample(rng.choice([OUTPUTS, SMALL]), rng.randint(1, 4))
         self.cells = [Cell(rng, pin, pin == pins[-1] or rng.random() < 0.7) for pin in pins]
         self.registers = [cell for cell in self.cells if cell.registered]
         self.controls = {}
@@ -75,11 +76,11 @@ class FreeSource:
         self.steps = [[rng.randrange(2) for _ in ["clk"] + self.inputs] for _ in range(VECTORS)]
 
     def product(self, names):
-        return [(name, self.rng.random() < 0.4) for name in self.rng.sample(names, self.rng.randint(1, min(3, len(names))))]
+        return [(name, self.rng.random() < 0.4) for name in self.rng.sample(names, min(self.rng.choice([1, 2, 3, 3, 3]), len(names)))]
 
     def expression(self, names):
-        count = self.rng.choice([1, 2, 3, 4, 5, 6])
-        return [self.product(names) for _ in range(count)], self.rng.random() < 0.6
+        count = self.rng.choice([1, 2, 3, 4, 5, 6, 7, 8])
+        return [self.product(names) for _ in range(count)], self.rng.random() < 0.7
 
     def assign(self, cell, before):
         """Equations that read inputs, registers and, of combinational outputs, those before."""
