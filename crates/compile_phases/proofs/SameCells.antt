@@ -43,7 +43,7 @@ use Rattle.compile_phases.proofs.SameNetlists.{written_same, bit_same}
 
 abbrev may_plain : Flip → Wanted → Bool → Bool
 may_plain Always x i = i
-may_plain AfterRegister x i = not x.registered || same_level i (not x.buffer)
+may_plain AfterRegister x i = not x.registered || (x.free || same_level i (not x.buffer))
 may_plain BeforeRegister x i = true
 
 may_is : (flip : Flip) (fs : List Formula) (w : CellWanted) (i : Bool) → may_be_inverted_as flip w i ≡ may_plain flip (plain_wanted fs w) i
@@ -56,7 +56,7 @@ positive_plain flip x i =
     not (complement_if x.function.complement
     (if x.raw
     then or_is_complement flip x.registered i
-    else complement_if x.negated (complement_if (x.registered && not x.buffer) (or_is_complement flip x.registered i))))
+    else complement_if x.negated (complement_if (x.registered && not (complement_if (x.free && i) x.buffer)) (or_is_complement flip x.registered i))))
 
 positive_is : (flip : Flip) (fs : List Formula) (w : CellWanted) (i : Bool) → rows_are_positive flip w i ≡ positive_plain flip (plain_wanted fs w) i
 positive_is flip fs w i = refl
