@@ -1,0 +1,3 @@
+pub mod SourcePieces
+pub mod SourceTrees
+pub mod Reading

@@ -1,0 +1,8 @@
+//! What the text of a pin source is read as, as the contract of a call that does nothing.
+
+ghost use Rattle.pin_trees.specs.Reading.{SourceTextsAreRead};
+
+/// The text of a source is read as its module. Does nothing.
+pub fn texts()
+    ensures { SourceTextsAreRead }
+{}
