@@ -1,0 +1,2 @@
+pub mod RowLiterals
+pub mod Sources
