@@ -1,0 +1,8 @@
+use Rattle.std.proofs.Common.{◌≡◌, flat_map}
+use Rattle.std.specs.List.{range_with_len}
+use Rattle.decompiled.specs.Sources.{control_products}
+use Rattle.decompiler.proofs.device_fuses.DeviceFuses.data_sum.Given as goal
+
+abbrev pub invariant-loop-offset : goal.invariant-loop-offset
+invariant-loop-offset g l =
+    l.products.items ≡ flat_map (control_products g.D.Device.table l.self) (range_with_len l.cell.first l.offset)

@@ -1,0 +1,7 @@
+use Rattle.std.proofs.Common.{◌≡◌, flat_map}
+use Rattle.std.specs.List.{range_with_len}
+use Rattle.decompiled.specs.Sources.{cell_lines}
+use Rattle.decompiler.proofs.device_fuses.DeviceFuses.lines.Given as goal
+
+abbrev pub invariant-loop-cell : goal.invariant-loop-cell
+invariant-loop-cell g l = l.lines.items ≡ flat_map (cell_lines g.D.Device.table l.self) (range_with_len 0 l.cell)

@@ -1,0 +1,49 @@
+//! From a device's fuses to the text of a source.
+
+ghost use Rattle.std.specs.Prelude.{◌≡◌, IfErr, IfOk, length};
+ghost use Rattle.pld_order.specs.Graphs.{HasNoLoop};
+ghost use Rattle.device_logic.specs.CellReads.{cell_reads};
+ghost use Rattle.device_logic.specs.LoadFaults.{IsLoadFault};
+ghost use Rattle.device_logic.specs.ResetPaths.{HasNoResetPath};
+ghost use Rattle.decompiled.specs.Sources.{decompiled_text, source_of};
+ghost use Rattle.decompiler.specs.Reading.{IsReadAsSource};
+
+use crate::device_fuses::DeviceFuses;
+use device_logic::{SimFault, load};
+use pin_sources::PinSource;
+use pld_base::{ListOf, OutOfMemory};
+use pld_device::{Device, Fuses};
+use std::alloc::Global;
+
+impl<D: Device> DeviceFuses<D> {
+    /// The source.
+    fn source(&self, alloc: Global) -> Result<PinSource, OutOfMemory>
+        ensures { IfOk result (λ source. source ≡ source_of D.table self.now) }
+    {
+        let lines = self.lines(alloc)?;
+        let pins = self.pins(alloc, &lines)?;
+        Ok(PinSource {
+            device: D::NAME,
+            pins: ListOf::from_vec(pins),
+            lines: ListOf::from_vec(lines),
+        })
+    }
+}
+
+/// The text of a source that says what the fuses say: its pins, a sum of products for each cell that drives its pin or
+/// stores, and the rows that enable, reset and preset. Vectors and a signature are no part of it.
+///
+/// The device is loaded first, and a fault is the one of `load`.
+pub fn decompile<D: Device>(alloc: Global, fuses: &Fuses) -> Result<Vec<u8>, SimFault>
+    requires { length fuses.now ≡ D.table.fuses }
+    ensures text { IfOk result (λ text. text.items ≡ decompiled_text D.table fuses.now) }
+    ensures read { IfOk result (λ text. IsReadAsSource D.table fuses.now text.items) }
+    ensures no_loop { IfOk result (λ _. HasNoLoop (length D.table.cells) (cell_reads D.table fuses.now)) }
+    ensures no_path { IfOk result (λ _. HasNoResetPath D.table fuses.now) }
+    ensures refused { IfErr result (IsLoadFault D.table fuses.now) }
+{
+    load::<D>(alloc, fuses)?;
+    let fuses = DeviceFuses::<D>::new(alloc, fuses)?;
+    let text = fuses.source(alloc)?.text(alloc)?;
+    Ok(text)
+}

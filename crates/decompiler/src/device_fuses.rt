@@ -1,0 +1,110 @@
+//! A device's fuses, one by one and by what they say of rows and cells.
+
+ghost use Rattle.std.specs.Prelude.{◌≡◌, ◌<◌, IfOk, IfSome, length};
+ghost use Rattle.pld_device.specs.Given.{never_drives};
+ghost use Rattle.pld_device.specs.Registers.{is_inverted, stores};
+ghost use Rattle.pld_device.specs.Rows.{row_fuses};
+ghost use Rattle.device_array.specs.Array.{is_live};
+ghost use Rattle.decompiled.specs.Sources.{first_register, has_lines};
+
+use device_array::{FuseArray, cell_of};
+use pld_base::OutOfMemory;
+use pld_device::{Device, Enable, Fuses};
+use std::alloc::Global;
+use std::marker::Model;
+
+/// The fuses of a device; contracts see their levels.
+#[derive(Drop)]
+pub struct DeviceFuses<D: Device> {
+    levels: Vec<bool>,
+    array: FuseArray<D>,
+}
+
+impl<D: Device> Model for DeviceFuses<D> {
+    ghost use Rattle.std.specs.Prelude.{List, Bool};
+    ghost use Rattle.decompiler.specs.Steps.{AreFuses};
+
+    ghost Value = { List Bool };
+
+    ghost view = { λ f. f.levels.items };
+
+    ghost invariant = { λ f. AreFuses D.table f.levels.items f.array };
+}
+
+impl<D: Device> DeviceFuses<D> {
+    /// These fuses.
+    pub fn new(alloc: Global, fuses: &Fuses) -> Result<DeviceFuses<D>, OutOfMemory>
+        requires { length fuses.now ≡ D.table.fuses }
+        ensures { IfOk result (λ f. f ≡ fuses.now) }
+    {
+        let array = FuseArray::new(alloc, fuses)?;
+        let levels = fuses.levels().to_vec(alloc)?;
+        Ok(DeviceFuses { levels, array })
+    }
+
+    /// The fuses of a row, one a column: an intact one, 0, connects the column.
+    pub fn row(&self, row: u16) -> &[bool]
+        requires { row < D.table.rows }
+        ensures fuses { result.now ≡ row_fuses D.table self.now row }
+        ensures size { length result.now ≡ D.table.columns }
+    {
+        let first = usize::from(D::COLUMNS) * usize::from(row);
+        &self.levels[first..first + usize::from(D::COLUMNS)]
+    }
+
+    /// Whether the row can be true, as far as its own fuses say.
+    pub fn is_live(&self, row: u16) -> bool
+        requires { row < D.table.rows }
+        ensures { result ≡ is_live D.table self.now row }
+    {
+        self.array.is_live(row)
+    }
+
+    /// Whether the cell is a register.
+    pub fn stores(&self, cell: u8) -> bool
+        requires { cell < length D.table.cells }
+        ensures { result ≡ stores D.table self.now cell }
+    {
+        self.array.stores(cell)
+    }
+
+    /// Whether the cell's control fuse says inverted.
+    pub fn is_inverted(&self, cell: u8) -> bool
+        requires { cell < length D.table.cells }
+        ensures { result ≡ is_inverted D.table self.now cell }
+    {
+        self.array.is_inverted(cell)
+    }
+
+    /// Whether the cell never drives its pin.
+    fn never_drives(&self, cell: u8) -> bool
+        requires { cell < length D.table.cells }
+        ensures { result ≡ never_drives D.table self.now cell }
+    {
+        match cell_of::<D>(cell).enable {
+            Enable::Row(row) => !self.is_live(row),
+            Enable::PinLow(_) => false,
+        }
+    }
+
+    /// Whether the source has lines on the cell.
+    pub fn has_lines(&self, cell: u8) -> bool
+        requires { cell < length D.table.cells }
+        ensures { result ≡ has_lines D.table self.now cell }
+    {
+        self.stores(cell) || !self.never_drives(cell)
+    }
+
+    /// The first cell that is a register.
+    pub fn first_register(&self) -> Option<u8>
+        ensures first { result ≡ first_register D.table self.now }
+        ensures within { IfSome result (λ c. c < length D.table.cells) }
+    {
+        for cell in 0..D::CELLS {
+            if self.stores(cell) {
+                return Some(cell);
+            }
+        }
+        None
+    }
+}
