@@ -1,10 +1,10 @@
 -- A command has as many inputs as its task works on.
 use Rattle.std.proofs.Common.{◌≡◌, ℕ, Bool, true, false, cond, List, [], ◌∷◌, length, Option, Some, None, get_or, refl, sym, subst, arith}
-use Rattle.std.specs.Prelude.{codes, option_map}
+use Rattle.std.specs.Prelude.{codes, option_and_then, option_map}
 use Rattle.std.specs.Str.{bytes_eq}
 use Rattle.pld_base.specs.declared.device_name.DeviceName.{DeviceName}
 use Rattle.pld_base.specs.DeviceNames.{named_device}
-use Rattle.abel_commands.specs.Words.{Command, Task, Simulate, Check, Demo, command_of, on_file, on_nothing, seed_of, source_count}
+use Rattle.abel_commands.specs.Words.{Command, Task, Demo, command_of, on_device, on_file, on_nothing, seed_of, source_count}
 
 abbrev IsCounted : Option Command → Type 0
 IsCounted None = Unit {0}
@@ -14,10 +14,16 @@ counted_if : (b : Bool) (x y : Option Command) → IsCounted x → IsCounted y �
 counted_if true x y one other = one
 counted_if false x y one other = other
 
-counted_device : (task : DeviceName → Task) → ((device : DeviceName) → source_count (task device) ≡ 1) → (input : List ℕ) (device : Option DeviceName)
-    → IsCounted (option_map (λ d. on_file (task d) input) device)
-counted_device task one input None = tt
-counted_device task one input (Some d) = sym (one d)
+counted_task : (b : Bool) (task : Task) (other : Option Task) (input : List ℕ) → source_count task ≡ 1 → IsCounted (option_map (λ x. on_file x input) other)
+    → IsCounted (option_map (λ x. on_file x input) (cond b (Some task) other))
+counted_task true task other input one counted = sym one
+counted_task false task other input one counted = counted
+
+counted_device : (word input : List ℕ) (device : Option DeviceName) → IsCounted (option_and_then (λ d. on_device word d input) device)
+counted_device word input None = tt
+counted_device word input (Some d) =
+    counted_task (bytes_eq word (codes "simulate")) _ _ input refl
+    (counted_task (bytes_eq word (codes "check")) _ _ input refl tt)
 
 counted_seed : (seed : Option ℕ) → IsCounted (option_map (λ n. on_nothing (Demo n)) seed)
 counted_seed None = tt
@@ -30,9 +36,7 @@ counted (first ∷ second ∷ []) =
     counted_if (bytes_eq first (codes "list")) _ _ refl
     (counted_if (bytes_eq first (codes "demo")) _ _ (counted_seed (seed_of second)) tt)
 counted (first ∷ second ∷ third ∷ []) =
-    counted_if (bytes_eq first (codes "compile")) _ _ refl
-    (counted_if (bytes_eq first (codes "simulate")) _ _ (counted_device Simulate (λ d. refl) third (named_device second))
-    (counted_if (bytes_eq first (codes "check")) _ _ (counted_device Check (λ d. refl) third (named_device second)) tt))
+    counted_if (bytes_eq first (codes "compile")) _ _ refl (counted_device first third (named_device second))
 counted (first ∷ second ∷ third ∷ fourth ∷ more) = tt
 
 pub inputs_counted : (words : List (List ℕ)) (c : Command) → command_of words ≡ Some c → length c.inputs ≡ source_count c.task

@@ -1,5 +1,5 @@
 -- The words of the command line (this project's rule).
-use Rattle.std.specs.Prelude.{◌≡◌, ℕ, nat_lt, Bool, ◌&&◌, List, [], ◌∷◌, length, Option, Some, None, option_map, if◌then◌else◌, codes, Contains}
+use Rattle.std.specs.Prelude.{◌≡◌, ℕ, nat_lt, Bool, ◌&&◌, List, [], ◌∷◌, length, Option, Some, None, option_map, option_and_then, if◌then◌else◌, codes, Contains}
 use Rattle.std.specs.Char.{is_ascii_digit}
 use Rattle.std.specs.List.{list_all}
 use Rattle.std.specs.Str.{bytes_eq}
@@ -32,10 +32,6 @@ pub record Command : Type 0 where
 abbrev pub on_file : Task → (input : List ℕ) → Command
 on_file task input = record { task = task; inputs = input ∷ [] }
 
--- the command of a task on the device of this name, where there is one
-abbrev pub on_device : (DeviceName → Task) → (name input : List ℕ) → Option Command
-on_device task name input = option_map (λ device. on_file (task device) input) (named_device name)
-
 -- the command of a task without sources
 abbrev pub on_nothing : Task → Command
 on_nothing task = record { task = task; inputs = [] }
@@ -52,13 +48,22 @@ is_seed word = are_few_digits word && nat_lt 0 (length word) && nat_lt (digits_v
 abbrev pub seed_of : List ℕ → Option ℕ
 seed_of word = if is_seed word then Some (digits_value 10 word) else None
 
+-- the task on a device that a word names
+abbrev pub device_task : (word : List ℕ) → DeviceName → Option Task
+device_task word device =
+    if bytes_eq word (codes "simulate") then Some (Simulate device)
+    else if bytes_eq word (codes "check") then Some (Check device)
+    else None
+
+-- the command of such a task with one source
+abbrev pub on_device : (word : List ℕ) → DeviceName → (input : List ℕ) → Option Command
+on_device word device input = option_map (λ task. on_file task input) (device_task word device)
+
 -- the first word is matched exactly, a device's name without regard to case
 abbrev pub command_by : (first second third : List ℕ) → Option Command
 command_by first second third =
     if bytes_eq first (codes "compile") then Some (on_file (Compile third) second)
-    else if bytes_eq first (codes "simulate") then on_device Simulate second third
-    else if bytes_eq first (codes "check") then on_device Check second third
-    else None
+    else option_and_then (λ device. on_device first device third) (named_device second)
 
 -- so of two words
 abbrev pub command_by_two : (first second : List ℕ) → Option Command

@@ -2,7 +2,7 @@
 
 ghost use Rattle.std.specs.Prelude.{◌≡◌, IfSome, length, option_map};
 ghost use Rattle.abel_commands.specs.View.{command_seen, task_seen};
-ghost use Rattle.abel_commands.specs.Words.{command_of, seed_of, source_count};
+ghost use Rattle.abel_commands.specs.Words.{command_of, device_task, seed_of, source_count};
 ghost use Rattle.source_files.specs.Sources.{texts};
 
 use crate::digits::are_few_digits;
@@ -62,6 +62,20 @@ fn command_of_two<'a>(words: &'a [String]) -> Option<Command<'a>>
     }
 }
 
+/// The task on a device that a word names, with one source. Takes no memory.
+fn device_task<'a>(word: &str, device: DeviceName) -> Option<Task<'a>>
+    ensures task { option_map task_seen result ≡ device_task word.now device }
+    ensures source { IfSome result (λ task. source_count (task_seen task) ≡ 1) }
+{
+    if word == "simulate" {
+        Some(Task::Simulate { device })
+    } else if word == "check" {
+        Some(Task::Check { device })
+    } else {
+        None
+    }
+}
+
 /// The command that the words are. Takes no memory.
 pub fn command_of(words: &[String]) -> Option<Command<'_>>
     ensures command { option_map command_seen result ≡ command_of (texts words.now) }
@@ -74,25 +88,17 @@ pub fn command_of(words: &[String]) -> Option<Command<'_>>
         return None;
     };
     if first.as_str() == "compile" {
-        Some(Command {
+        return Some(Command {
             task: Task::Compile {
                 output: third.as_str(),
             },
             inputs: &words[1..2],
-        })
-    } else if first.as_str() == "simulate" {
-        let device = DeviceName::named(second.as_bytes())?;
-        Some(Command {
-            task: Task::Simulate { device },
-            inputs: &words[2..],
-        })
-    } else if first.as_str() == "check" {
-        let device = DeviceName::named(second.as_bytes())?;
-        Some(Command {
-            task: Task::Check { device },
-            inputs: &words[2..],
-        })
-    } else {
-        None
+        });
     }
+    let device = DeviceName::named(second.as_bytes())?;
+    let task = device_task(first.as_str(), device)?;
+    Some(Command {
+        task,
+        inputs: &words[2..],
+    })
 }
