@@ -23,7 +23,8 @@ counted_device : (word input : List ℕ) (device : Option DeviceName) → IsCoun
 counted_device word input None = tt
 counted_device word input (Some d) =
     counted_task (bytes_eq word (codes "simulate")) _ _ input refl
-    (counted_task (bytes_eq word (codes "check")) _ _ input refl tt)
+    (counted_task (bytes_eq word (codes "check")) _ _ input refl
+    (counted_task (bytes_eq word (codes "decompile")) _ _ input refl tt))
 
 counted_seed : (seed : Option ℕ) → IsCounted (option_map (λ n. on_nothing (Demo n)) seed)
 counted_seed None = tt

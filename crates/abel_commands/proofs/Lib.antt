@@ -1,8 +1,10 @@
 pub mod CheckMeaning
 pub mod Commands
+pub mod DecompileMeaning
 pub mod FewVectors
 pub mod FileRefusals
 pub mod GoodFiles
+pub mod LoadedFiles
 pub mod Seeds
 pub mod SimulateMeaning
 pub mod SimulatedFiles

@@ -26,6 +26,7 @@ usage = codes "usage: abel compile IN OUT\n"
     ++ codes "       abel simulate DEVICE IN\n"
     ++ codes "       abel check DEVICE IN\n"
     ++ codes "       abel demo N\n"
+    ++ codes "       abel decompile DEVICE IN\n"
 
 -- the line on bytes over the limit
 abbrev pub too_long_line : List ℕ

@@ -1,8 +1,10 @@
 pub mod CheckCommand
 pub mod Checking
+pub mod DecompileCommand
 pub mod Ending
 pub mod FaultText
 pub mod FuseFiles
+pub mod Loading
 pub mod SimulateCommand
 pub mod Simulating
 pub mod SourceCommands

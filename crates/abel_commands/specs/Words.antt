@@ -14,6 +14,7 @@ pub data Task : Type 0 where
   Simulate : (device : DeviceName) → Task
   Check : (device : DeviceName) → Task
   Demo : (seed : ℕ) → Task
+  Decompile : (device : DeviceName) → Task
 
 -- how many sources a task works on
 abbrev pub source_count : Task → ℕ
@@ -22,6 +23,7 @@ source_count ListSource = 1
 source_count (Simulate device) = 1
 source_count (Check device) = 1
 source_count (Demo seed) = 0
+source_count (Decompile device) = 1
 
 -- what words ask for: a task, and the names of the files that are its sources, in order
 pub record Command : Type 0 where
@@ -53,6 +55,7 @@ abbrev pub device_task : (word : List ℕ) → DeviceName → Option Task
 device_task word device =
     if bytes_eq word (codes "simulate") then Some (Simulate device)
     else if bytes_eq word (codes "check") then Some (Check device)
+    else if bytes_eq word (codes "decompile") then Some (Decompile device)
     else None
 
 -- the command of such a task with one source

@@ -21,6 +21,8 @@ pub enum Task<'a> {
     Check { device: DeviceName },
     /// `demo N`
     Demo { seed: u16 },
+    /// `decompile DEVICE IN`
+    Decompile { device: DeviceName },
 }
 
 /// What the words ask for: a task, and the words that name its sources, in order.
@@ -71,6 +73,8 @@ fn device_task<'a>(word: &str, device: DeviceName) -> Option<Task<'a>>
         Some(Task::Simulate { device })
     } else if word == "check" {
         Some(Task::Check { device })
+    } else if word == "decompile" {
+        Some(Task::Decompile { device })
     } else {
         None
     }

@@ -89,4 +89,5 @@ const USAGE: &str = "usage: abel compile IN OUT
        abel simulate DEVICE IN
        abel check DEVICE IN
        abel demo N
+       abel decompile DEVICE IN
 ";

@@ -4,6 +4,7 @@
 mod check_command;
 mod checked_line;
 mod command;
+mod decompile_command;
 mod digits;
 pub mod ending;
 mod fault_line;
@@ -16,6 +17,7 @@ mod taken;
 
 pub use check_command::check_ending;
 pub use command::{Command, Task, command_of};
+pub use decompile_command::decompile_ending;
 pub use numbered::put_numbered;
 pub use simulate_command::simulate_ending;
 pub use source_commands::{compile_ending, list_ending, refused_ending};

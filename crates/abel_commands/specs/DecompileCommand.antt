@@ -1,0 +1,33 @@
+-- `decompile DEVICE IN`: how it ends, and what that means (this project's rule).
+use Rattle.std.specs.Prelude.{◌≡◌, ℕ, ◌⊎◌, List, None}
+use Rattle.pld_device.specs.Table.{Table}
+use Rattle.decompiled.specs.Sources.{decompiled_text}
+use Rattle.decompiler.specs.Reading.{IsReadAsSource}
+use Rattle.abel_commands.specs.Ending.{Ending, ends}
+use Rattle.abel_commands.specs.FuseFiles.{IsRefusedFile}
+use Rattle.abel_commands.specs.Loading.{CanLoad, IsBadToLoad, IsRefusedLoad}
+
+-- the bytes are a fuse file of the device that is loaded, this is the text of the source of its fuses, and it is read as that source
+pub record IsDecompiledFile (t : Table) (bytes report : List ℕ) : Type 0 where
+  pub of : CanLoad t bytes
+  pub told : report ≡ decompiled_text t of.file.fuses
+  pub read : IsReadAsSource t of.file.fuses report
+
+-- how it ends: the source of the file's fuses is told, or why there is none
+abbrev pub DecompileEnds : Table → (bytes : List ℕ) → Ending → Type 0
+DecompileEnds t bytes e =
+    ((report : List ℕ) × IsDecompiledFile t bytes report × (e ≡ ends 0 report))
+    ⊎ ((report : List ℕ) × (IsRefusedFile t bytes report ⊎ IsRefusedLoad t bytes report) × (e ≡ ends 4 report))
+
+-- what such an ending means
+pub record DecompileMeans (t : Table) (bytes : List ℕ) (e : Ending) : Type 0 where
+  -- 0 and 4 are its statuses
+  pub statuses : (e.status ≡ 0) ⊎ (e.status ≡ 4)
+  -- 0 comes exactly for a fuse file of the device that is loaded, and tells its source
+  pub decompiled : e.status ≡ 0 → IsDecompiledFile t bytes e.text
+  pub decompiled_where : CanLoad t bytes → e.status ≡ 0
+  -- 4 comes exactly for bytes that are no such file, or one that isn't loaded
+  pub bad : e.status ≡ 4 → IsBadToLoad t bytes
+  pub bad_where : IsBadToLoad t bytes → e.status ≡ 4
+  -- nothing is written
+  pub unwritten : e.output ≡ None

@@ -1,0 +1,41 @@
+-- When a fuse file of a device is loaded, and what is told of one that is not, for each command that looks into the device (this
+-- project's rule).
+use Rattle.std.specs.Prelude.{◌≡◌, ◌≢◌, ℕ, ◌⊎◌, Bool, List, length, Ok}
+use Rattle.jedec_file.specs.FuseFile.{FuseFile, file_of}
+use Rattle.pld_device.specs.Table.{Table}
+use Rattle.pld_order.specs.Graphs.{HasLoop, HasNoLoop}
+use Rattle.device_logic.specs.declared.fault.SimFault.{SimFault}
+use Rattle.device_logic.specs.declared.fault.SimFault.TheVariants as refusal
+use Rattle.device_logic.specs.CellReads.{cell_reads}
+use Rattle.device_logic.specs.LoadFaults.{IsLoadFault}
+use Rattle.device_logic.specs.ResetPaths.{HasNoResetPath, IsResetPath}
+use Rattle.abel_commands.specs.FuseFiles.{IsBadFile, IsFileOf}
+use Rattle.abel_commands.specs.Simulating.{sim_fault_line}
+
+-- the bytes are a fuse file of the device, in which no cell reads itself through others and the reset depends on no register
+pub record CanLoad (t : Table) (bytes : List ℕ) : Type 0 where
+  pub file : FuseFile
+  pub of : IsFileOf t bytes file
+  pub no_loop : HasNoLoop (length t.cells) (cell_reads t file.fuses)
+  pub no_path : HasNoResetPath t file.fuses
+
+-- some cells are a loop, or the reset reads a register
+abbrev pub HasLoopOrPath : Table → (fuses : List Bool) → Type 0
+HasLoopOrPath t fuses = HasLoop (length t.cells) (cell_reads t fuses) ⊎ ((path : List ℕ) × IsResetPath t fuses path)
+
+-- the bytes spell a fuse file of the device, in whatever mode, for which that holds
+abbrev pub IsNotLoaded : Table → (bytes : List ℕ) → Type 0
+IsNotLoaded t bytes = (file : FuseFile) × (file_of t bytes ≡ Ok file) × HasLoopOrPath t file.fuses
+
+-- the bytes are no fuse file of the device, or one that isn't loaded
+abbrev pub IsBadToLoad : Table → (bytes : List ℕ) → Type 0
+IsBadToLoad t bytes = IsBadFile t bytes ⊎ IsNotLoaded t bytes
+
+-- the bytes are a fuse file of the device that isn't loaded, and this is the line on why; want of memory is no reason
+pub record IsRefusedLoad (t : Table) (bytes report : List ℕ) : Type 0 where
+  pub file : FuseFile
+  pub of : IsFileOf t bytes file
+  pub fault : SimFault
+  pub found : IsLoadFault t file.fuses fault
+  pub refuses : fault ≢ refusal.OutOfMemory
+  pub told : report ≡ sim_fault_line fault

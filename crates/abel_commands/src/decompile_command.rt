@@ -1,0 +1,58 @@
+//! `decompile DEVICE IN`.
+
+ghost use Rattle.std.specs.Prelude.{◌≡◌, ◌≤◌, IfOk, length};
+ghost use Rattle.devices.specs.Devices.{table_of};
+ghost use Rattle.jedec_reader.specs.Contents.{contents};
+ghost use Rattle.source_files.specs.Limit.{limit};
+ghost use Rattle.abel_commands.specs.DecompileCommand.{DecompileEnds};
+ghost use Rattle.abel_commands.specs.FuseFiles.{IsFileOf};
+ghost use Rattle.abel_commands.specs.View.{ending_seen};
+
+use crate::ending::Ending;
+use crate::sim_fault_line::sim_fault_line;
+use crate::taken::{Taken, take_file};
+use decompiler::decompile;
+use devices::on_device;
+use jedec_reader::FuseFile;
+use pld_base::{DeviceName, OutOfMemory};
+use pld_device::Device;
+use std::alloc::Global;
+
+/// How `decompile` ends with the fuse file that bytes are.
+fn ending_of<'a, D: Device>(
+    alloc: Global,
+    bytes: &[u8],
+    file: &FuseFile,
+) -> Result<Ending<'a>, OutOfMemory>
+    requires file { IsFileOf D.table bytes.now (contents D.table file.now) }
+    requires fuses { length file.now.fuses ≡ D.table.fuses }
+    ensures { IfOk result (λ e. DecompileEnds D.table bytes.now (ending_seen e)) }
+{
+    match decompile::<D>(alloc, &file.fuses) {
+        Ok(source) => Ok(Ending::plain(0, source)),
+        Err(fault) => Ok(Ending::plain(4, sim_fault_line(alloc, &fault)?)),
+    }
+}
+
+/// How `decompile` ends with bytes as a fuse file of a device.
+fn ending_for<'a, D: Device>(alloc: Global, bytes: &[u8]) -> Result<Ending<'a>, OutOfMemory>
+    requires { length bytes.now ≤ limit }
+    ensures { IfOk result (λ e. DecompileEnds D.table bytes.now (ending_seen e)) }
+{
+    match take_file::<D>(alloc, bytes)? {
+        Taken::File(file) => ending_of::<D>(alloc, bytes, &file),
+        Taken::Refused(line) => Ok(Ending::plain(4, line)),
+    }
+}
+
+/// The same for a device of this name.
+pub fn decompile_ending<'a>(
+    alloc: Global,
+    device: DeviceName,
+    bytes: &[u8],
+) -> Result<Ending<'a>, OutOfMemory>
+    requires { length bytes.now ≤ limit }
+    ensures { IfOk result (λ e. DecompileEnds (table_of device) bytes.now (ending_seen e)) }
+{
+    on_device!(device, ending_for(alloc, bytes))
+}
