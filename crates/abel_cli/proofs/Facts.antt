@@ -12,7 +12,7 @@ use Rattle.abel_cli.specs.Run.{Means}
 use Rattle.abel_commands.specs.Simulating.{Disagrees}
 use Rattle.abel_commands.specs.SourceCommands.{IsRefused}
 use Rattle.source_files.specs.Sources.{source_at}
-use Rattle.abel_commands.specs.Words.{Command, Task, Compile, ListSource, Simulate, Check, Demo, IsCompile, IsNoCommand, command_of, on_file}
+use Rattle.abel_commands.specs.Words.{Command, Task, Compile, ListSource, Simulate, Check, Demo, Decompile, IsCompile, IsNoCommand, command_of, on_file}
 
 module _ (a : Asked) (h : Heard) (p : Promises a h) where
   abbrev On : (e : Ending) → Option Command → Type 0
@@ -67,6 +67,7 @@ module _ (a : Asked) (h : Heard) (p : Promises a h) where
       by_task e c (Compile o) w m n = absurd (let l = (subst (λ (t : Task). Means t m.0 e) w m.2).statuses in omega (arith, l, n))
       by_task e c ListSource w m n = absurd (let l = (subst (λ (t : Task). Means t m.0 e) w m.2).statuses in omega (arith, l, n))
       by_task e c (Check d) w m n = absurd (let l = (subst (λ (t : Task). Means t m.0 e) w m.2).statuses in omega (arith, l, n))
+      by_task e c (Decompile d) w m n = absurd (let l = (subst (λ (t : Task). Means t m.0 e) w m.2).statuses in omega (arith, l, n))
 
       of : (e : Ending) (c : Option Command) → command_of a.words ≡ c → On e c → e.status ≡ 5 → (c : Command) × (command_of a.words ≡ Some c) × RunsVectors c.task
       of e None w m n = let one = ap (λ (x : Ending). x.status) m in absurd (omega (arith, one, n))

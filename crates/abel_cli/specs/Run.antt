@@ -4,6 +4,7 @@ use Rattle.outside.specs.Outside.{Map, SameFiles, SameBut}
 use Rattle.abel_cli.specs.Call.{Asked, Heard}
 use Rattle.source_files.specs.Counts.{HasRisen, HasStayed}
 use Rattle.abel_commands.specs.CheckCommand.{CheckEnds, CheckMeans}
+use Rattle.abel_commands.specs.DecompileCommand.{DecompileEnds, DecompileMeans}
 use Rattle.demo_command.specs.DemoCommand.{DemoEnds, DemoMeans}
 use Rattle.devices.specs.Devices.{table_of}
 use Rattle.abel_commands.specs.Ending.{Ending, memory_line, usage_ending, file_fault}
@@ -12,7 +13,7 @@ use Rattle.abel_commands.specs.SimulateCommand.{SimulateEnds, SimulateMeans}
 use Rattle.abel_commands.specs.SourceCommands.{SourceEnds, SourceMeans, written, listed}
 use Rattle.abel_cli.specs.Sources.{sources_of}
 use Rattle.source_files.specs.Sources.{source_at}
-use Rattle.abel_commands.specs.Words.{Command, Task, Compile, ListSource, Simulate, Check, Demo, command_of, IsInput, IsNoCommand}
+use Rattle.abel_commands.specs.Words.{Command, Task, Compile, ListSource, Simulate, Check, Demo, Decompile, command_of, IsInput, IsNoCommand}
 
 -- ---- by task: the only definitions of a run that name tasks
 
@@ -23,6 +24,7 @@ Ends ListSource sources e = SourceEnds (source_at sources 0) listed e
 Ends (Simulate device) sources e = SimulateEnds (table_of device) (source_at sources 0) e
 Ends (Check device) sources e = CheckEnds (table_of device) (source_at sources 0) e
 Ends (Demo seed) sources e = DemoEnds seed e
+Ends (Decompile device) sources e = DecompileEnds (table_of device) (source_at sources 0) e
 
 -- what that means
 abbrev pub Means : Task → (sources : List (List ℕ)) → Ending → Type 0
@@ -31,6 +33,7 @@ Means ListSource sources e = SourceMeans (source_at sources 0) listed e
 Means (Simulate device) sources e = SimulateMeans (table_of device) (source_at sources 0) e
 Means (Check device) sources e = CheckMeans (table_of device) (source_at sources 0) e
 Means (Demo seed) sources e = DemoMeans seed e
+Means (Decompile device) sources e = DecompileMeans (table_of device) (source_at sources 0) e
 
 -- ---- whatever the task
 
