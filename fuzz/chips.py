@@ -1,0 +1,331 @@
+"""The devices in Python, by the tables of docs/DEVICES.md alone: what a device with its fuses drives and stores, its decompiled
+source, and how two fuse files of it differ. None of it is the program's own code, against which it is held.
+"""
+import itertools
+import re
+
+BOTH = {"L8": [2, 1, 3, 18, 4, 17, 5, 16, 6, 15, 7, 14, 8, 13, 9, 11],
+        "R": [2, 19, 3, 18, 4, 17, 5, 16, 6, 15, 7, 14, 8, 13, 9, 12]}
+REGISTERS = {"L8": [], "R4": range(14, 18), "R6": range(13, 19), "R8": range(12, 20)}
+WIDE = [1, 23, 2, 22, 3, 21, 4, 20, 5, 19, 6, 18, 7, 17, 8, 16, 9, 15, 10, 14, 11, 13]
+# Of the GAL22V10: the enable row of each cell, whose data rows come behind it.
+ENABLES = {23: 1, 22: 10, 21: 21, 20: 34, 19: 49, 18: 66, 17: 83, 16: 98, 15: 111, 14: 122}
+ROOMS = {23: 8, 22: 10, 21: 12, 20: 14, 19: 16, 18: 16, 17: 14, 16: 12, 15: 10, 14: 8}
+DEVICES = ["P16L8", "P16R4", "P16R6", "P16R8", "GAL22V10", "GAL16V8C", "GAL16V8R4", "GAL16V8R6", "GAL16V8R8"]
+
+
+class Loop(Exception):
+    """The cells wait for each other."""
+
+
+class Path(Exception):
+    """The reset reads a register."""
+
+
+class Chip:
+    """A device with its fuses, a list of 0 and 1."""
+
+    def __init__(self, name, fuses):
+        self.name, self.fuses = name, fuses
+        self.wide = name == "GAL22V10"
+        self.is_gal16 = name.startswith("GAL16")
+        kind = name[-2:].replace("8C", "L8")
+        self.pins = 24 if self.wide else 20
+        self.ground = 12 if self.wide else 10
+        self.pairs = WIDE if self.wide else BOTH["L8" if kind == "L8" else "R"]
+        self.cells = list(range(23, 13, -1)) if self.wide else list(range(19, 11, -1))
+        if self.wide:
+            self.registers = [pin for pin in self.cells if not fuses[5809 + 2 * (23 - pin)]]
+        else:
+            self.registers = list(REGISTERS[kind])
+        self.clock = 1 if self.wide or kind != "L8" else 0
+        self.rows = {row: self.row(row) for row in range(132 if self.wide else 64)}
+        self.reset, self.preset = (0, 131) if self.wide else (None, None)
+
+    # ---- rows
+
+    def row(self, number):
+        """What a row asks, as pairs of a pin and whether it is the lower column; None where it is never true."""
+        width = 2 * len(self.pairs)
+        levels = self.fuses[width * number : width * number + width]
+        asked = []
+        for place, pin in enumerate(self.pairs):
+            lower, higher = levels[2 * place : 2 * place + 2]
+            if lower == higher == 0:
+                return None
+            if not (lower and higher):
+                asked.append((pin, not lower))
+        if self.is_gal16 and not self.fuses[2128 + number]:
+            return None
+        return asked
+
+    def enable(self, pin):
+        """The row that enables a cell; None where pin 11 does."""
+        if self.wide:
+            return ENABLES[pin]
+        return None if pin in self.registers else 8 * (19 - pin)
+
+    def data(self, pin):
+        """The data rows of a cell."""
+        if self.wide:
+            return range(ENABLES[pin] + 1, ENABLES[pin] + 1 + ROOMS[pin])
+        first = 8 * (19 - pin)
+        return range(first if pin in self.registers else first + 1, first + 8)
+
+    def control(self, pin):
+        """The polarity fuse: 1 where nothing is complemented at a combinational pin."""
+        if self.wide:
+            return self.fuses[5808 + 2 * (23 - pin)]
+        return self.fuses[2048 + 19 - pin] if self.is_gal16 else 0
+
+    def inverts(self, pin):
+        """Whether the pin has the complement of the OR, or of Q."""
+        return not self.control(pin) or self.is_gal16 and pin in self.registers
+
+    def takes_complement(self, pin):
+        """Whether the register takes the complement of the OR."""
+        return self.is_gal16 and bool(self.control(pin))
+
+    # ---- reads
+
+    def never_drives(self, pin):
+        row = self.enable(pin)
+        return row is not None and self.rows[row] is None
+
+    def cells_read(self, pin, rows):
+        return {other for row in rows for other, _ in self.rows[row] or [] if other in self.cells}
+
+    def rest_reads(self, pin):
+        """The cells that a cell reads while it comes to rest."""
+        if self.never_drives(pin):
+            return set()
+        rows = [] if self.enable(pin) is None else [self.enable(pin)]
+        return self.cells_read(pin, rows + ([] if pin in self.registers else list(self.data(pin))))
+
+    def load(self):
+        """Raises what the program refuses: a loop, or a path from the reset to a register."""
+        waits = {pin: self.rest_reads(pin) - set(self.registers) for pin in self.cells}
+        done = set()
+        while ready := [pin for pin in self.cells if pin not in done and waits[pin] <= done]:
+            done.update(ready)
+        if len(done) < len(self.cells):
+            raise Loop
+        seen, front = set(), set() if self.reset is None else self.cells_read(0, [self.reset])
+        while front:
+            if front & set(self.registers):
+                raise Path
+            seen |= front
+            front = set().union(*(self.rest_reads(pin) for pin in front)) - seen
+
+    def variables(self):
+        """The pins whose outside levels count, and the registers."""
+        read = {pin for asked in self.rows.values() for pin, _ in asked or []} - set(self.registers)
+        return read | ({11} if self.clock and not self.wide else set()), set(self.registers)
+
+    # ---- levels
+
+    def rest(self, outside, stored):
+        """What the device shows at rest: the levels of its pins, its Qs, and which cells drive."""
+        return Rest(self, outside, stored).shown()
+
+    def edge(self, outside, stored):
+        """The Qs after a rising clock from that rest."""
+        at = Rest(self, outside, stored)
+        return {pin: at.next_q(pin) for pin in self.registers}
+
+    # ---- the source
+
+    def product(self, row):
+        words = []
+        for pin, lower in self.rows[row]:
+            if pin in self.registers:
+                words.append(f"{'!' if lower else ''}p{pin}.Q")
+            else:
+                words.append(f"{'' if lower else '!'}p{pin}")
+        return " & ".join(words) or "1"
+
+    def enable_or_zero(self, row):
+        return "0" if self.rows[row] is None else self.product(row)
+
+    def equations(self):
+        for pin in self.cells:
+            register = pin in self.registers
+            if not register and self.never_drives(pin):
+                continue
+            products = [self.product(row) for row in self.data(pin) if self.rows[row] is not None]
+            turned = self.takes_complement(pin) if register else self.inverts(pin)
+            yield f"{'!' if turned else ''}p{pin}{'.D' if register else ''} = {' # '.join(products) or '0'};"
+            if self.enable(pin) is not None:
+                yield f"p{pin}.OE = {self.enable_or_zero(self.enable(pin))};"
+        first = next((pin for pin in self.cells if pin in self.registers), None)
+        for word, row in (("AR", self.reset), ("SP", self.preset)):
+            if first is not None and row is not None and self.rows[row] is not None:
+                yield f"p{first}.{word} = {self.product(row)};"
+
+    def source(self):
+        """The decompiled source."""
+        equations = list(self.equations())
+        named = sorted({int(pin) for pin in re.findall(r"p(\d+)", " ".join(equations))})
+        lines = ["module chip", f"d device '{self.name}';"]
+        for pin in named:
+            kind = f" istype 'reg,{'invert' if self.inverts(pin) else 'buffer'}'" if pin in self.registers else ""
+            lines.append(f"p{pin} pin {pin}{kind};")
+        return "\n".join([*lines, "equations", *equations, "end"]) + "\n"
+
+
+class Rest:
+    """A device at rest, worked out from what is asked: a level is found when it is first looked at."""
+
+    def __init__(self, chip, outside, stored):
+        self.chip, self.outside, self.stored, self.found = chip, outside, stored, {}
+
+    def is_true(self, row):
+        asked = self.chip.rows[row]
+        return asked is not None and all(self.carried(pin) == lower for pin, lower in asked)
+
+    def carried(self, pin):
+        """What the lower column of the pin's pair has."""
+        return not self.q(pin) if pin in self.chip.registers else bool(self.level(pin))
+
+    def is_reset(self):
+        return self.chip.reset is not None and self.is_true(self.chip.reset)
+
+    def q(self, pin):
+        return int(bool(self.stored.get(pin)) and not self.is_reset())
+
+    def drives(self, pin):
+        row = self.chip.enable(pin)
+        return self.is_true(row) if row is not None else not self.level(11)
+
+    def sum(self, pin):
+        return any(self.is_true(row) for row in self.chip.data(pin))
+
+    def level(self, pin):
+        if pin not in self.chip.cells:
+            return self.outside.get(pin, 0)
+        if pin not in self.found:
+            value = self.q(pin) if pin in self.chip.registers else self.drives(pin) and self.sum(pin)
+            driven = bool(value) != self.chip.inverts(pin)
+            self.found[pin] = int(driven) if self.drives(pin) else self.outside.get(pin, 0)
+        return self.found[pin]
+
+    def next_q(self, pin):
+        if self.is_reset():
+            return 0
+        if self.chip.preset is not None and self.is_true(self.chip.preset):
+            return 1
+        return int(self.sum(pin) != self.chip.takes_complement(pin))
+
+    def shown(self):
+        chip = self.chip
+        return ([self.level(pin) for pin in range(1, chip.pins + 1)], {pin: self.q(pin) for pin in chip.registers},
+                [self.drives(pin) for pin in chip.cells])
+
+
+# ---- two files
+
+
+def shows_otherwise(a, b, outside, stored):
+    """How two devices differ in a state: "rest", "clock" or None."""
+    (pins, first, drive), (others, second, drives) = a.rest(outside, stored), b.rest(outside, stored)
+    qs = lambda found: [found.get(pin, 0) for pin in a.cells]
+    if pins != others or qs(first) != qs(second) or drive != drives:
+        return "rest"
+    if a.clock and not outside.get(a.clock) and qs(a.edge(outside, stored)) != qs(b.edge(outside, stored)):
+        return "clock"
+    return None
+
+
+def all_states(a, b):
+    """Every state of the pins and Qs that count in one of the two, the others at 0."""
+    (pins, qs), (more, further) = a.variables(), b.variables()
+    pins, qs = sorted(pins | more), sorted(qs | further)
+    for levels in itertools.product((0, 1), repeat=len(pins) + len(qs)):
+        yield dict(zip(pins, levels)), dict(zip(qs, levels[len(pins):]))
+
+
+def differ(a, b):
+    """Whether the two differ in some state."""
+    return any(shows_otherwise(a, b, outside, stored) for outside, stored in all_states(a, b))
+
+
+# ---- drawn fuses
+
+
+def controls(rng, name, fuses):
+    """Draws the control fuses; those that the device's mode fixes have its levels."""
+    if name == "GAL22V10":
+        for fuse in range(5808, 5828):
+            fuses[fuse] = rng.randrange(2)
+    elif name.startswith("GAL"):
+        registers = REGISTERS["L8" if name.endswith("C") else name[-2:]]
+        for cell in range(8):
+            fuses[2048 + cell] = rng.randrange(2)
+            fuses[2120 + cell] = int(19 - cell not in registers)
+        fuses[2128:2192] = [1] * 64
+        fuses[2192], fuses[2193] = int(name.endswith("C")), 1
+
+
+def put_row(chip, number, asked):
+    """Sets a row: pairs of a pin and whether it is the lower column; None for zeros."""
+    width = 2 * len(chip.pairs)
+    levels = [int(asked is not None)] * width
+    for pin, lower in asked or []:
+        levels[2 * chip.pairs.index(pin) + (0 if lower else 1)] = 0
+    chip.fuses[width * number : width * number + width] = levels
+
+
+def product(rng, pins, most):
+    """A product of at most so many literals of these pins."""
+    return [(pin, rng.random() < 0.5) for pin in rng.sample(pins, rng.randint(0, min(most, len(pins))))]
+
+
+def draw(rng, name, inputs, rows, literals):
+    """Random fuses, whose rows read these inputs, registers and cells that read no later one; at most so many data rows a cell, of at
+    most so many literals."""
+    fuses = [0] * {"GAL22": 5892, "GAL16": 2194}.get(name[:5], 2048)
+    controls(rng, name, fuses)
+    chip = Chip(name, fuses)
+    order = rng.sample(chip.cells, len(chip.cells))
+    for pin in chip.cells:
+        before = [other for other in order[: order.index(pin)] if other not in chip.registers]
+        pins = [other for other in chip.pairs if other in inputs or other in chip.registers or other in before]
+        if chip.enable(pin) is not None and rng.random() < 0.9:
+            put_row(chip, chip.enable(pin), [] if rng.random() < 0.7 else product(rng, pins, 2))
+        data = chip.data(pin)
+        for number in rng.sample(data, rng.randint(0, min(rows, len(data)))):
+            put_row(chip, number, product(rng, pins, literals))
+    for row in (chip.reset, chip.preset):
+        if row is not None and rng.random() < 0.5:
+            put_row(chip, row, product(rng, [pin for pin in chip.pairs if pin in inputs], 2))
+    return fuses
+
+
+# ---- fuse files
+
+
+def file_of(name, fuses, vectors=()):
+    """The fuse file with these fuses, its fuse sum and its transmission sum."""
+    pins, width = (24, 44) if name == "GAL22V10" else (20, 32)
+    lines = ["drawn*", f"QP{pins}*", f"QF{len(fuses)}*", *([f"QV{len(vectors)}*"] if vectors else []), "F0*", "X0*"]
+    for first in range(0, len(fuses), width):
+        lines.append(f"L{first:04} {''.join(map(str, fuses[first:first + width]))}*")
+    groups = [fuses[first : first + 8] for first in range(0, len(fuses), 8)]
+    lines.append(f"C{sum(level << bit for group in groups for bit, level in enumerate(group)) % 65536:04X}*")
+    lines += [f"V{number:04} {vector}*" for number, vector in enumerate(vectors, 1)]
+    text = "\x02" + "\n".join(lines) + "\n\x03"
+    return f"{text}{sum(text.encode()) % 65536:04X}".encode()
+
+
+def fuses_in(name, data):
+    """The fuses that a sound file gives."""
+    count = {"GAL22": 5892, "GAL16": 2194}.get(name[:5], 2048)
+    text = data.decode("latin-1").partition("\x02")[2].partition("\x03")[0]
+    fields = [field.strip() for field in text.split("*")[1:]]
+    default = next((int(field[1]) for field in fields if re.fullmatch(r"F[01]", field)), 0)
+    fuses = [default] * count
+    for field in fields:
+        if match := re.match(r"L(\d+)\s", field):
+            levels = [int(char) for char in field[match.end():] if char in "01"]
+            fuses[int(match[1]) : int(match[1]) + len(levels)] = levels
+    return fuses
