@@ -1,0 +1,6 @@
+use Rattle.std.proofs.Common.{refl}
+use Rattle.row_masks.proofs.MaskedPoints.{never_has}
+use Rattle.row_masks.proofs.row_mask.RowMask.never.Goals as goal
+
+pub returns : goal.returns
+returns c = λ at is. rw (never_has at.pins is.pins) refl
