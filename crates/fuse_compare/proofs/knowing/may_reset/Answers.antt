@@ -1,0 +1,6 @@
+use Rattle.std.proofs.Common.{sym, ◌∙◌}
+use Rattle.device_array.proofs.Ranges.{reset_in}
+use Rattle.fuse_compare.proofs.knowing.may_reset.Goals as goal
+
+pub mask-requires : goal.mask-requires
+mask-requires g c = reset_in g.D.Device.table g.met.D.Device.sound c.in-Some.row (sym (c.RESET.ensures ∙ g.met.D.Device.reset_is) ∙ c.in-Some.is)

@@ -1,0 +1,12 @@
+pub mod Alike
+pub mod Choosing
+pub mod Compared
+pub mod Cut
+pub mod DeviceKnown
+pub mod DeviceReads
+pub mod Masked
+pub mod OneState
+pub mod OwnRows
+pub mod Searching
+pub mod States
+pub mod Told

@@ -1,0 +1,11 @@
+-- Private: what a device whose rows are masks keeps (this project's rule).
+use Rattle.std.specs.Prelude.{◌≡◌, Bool, List}
+use Rattle.pld_device.specs.Table.{Table}
+use Rattle.device_logic.specs.DeviceLookups.{Loaded}
+use Rattle.row_masks.specs.RowMasks.{AreMasks}
+use Rattle.row_masks.specs.declared.row_mask.RowMask.{RowMask}
+
+-- the array has the logic's fuses, and the masks are those of its rows
+pub record HasMasks (t : Table) (loaded : Loaded) (fuses : List Bool) (masks : List RowMask) : Type 0 where
+  pub same : fuses ≡ loaded.fuses
+  pub are : AreMasks t loaded.fuses masks

@@ -1,0 +1,21 @@
+//! Whether two fuse lists of one device behave alike, and where they differ.
+#![tactic(auto)]
+
+mod agreeing;
+mod choosing;
+mod comparing;
+mod cut;
+mod difference;
+mod knowing;
+mod laws;
+mod macrocells;
+mod masked;
+mod own_rows;
+mod reads;
+mod searching;
+mod state;
+mod variable;
+
+pub use comparing::compare;
+pub use difference::Difference;
+pub use laws::alike;

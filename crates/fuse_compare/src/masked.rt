@@ -1,0 +1,143 @@
+//! A device with its fuses as a logic whose rows are masks.
+
+ghost use Rattle.std.specs.Prelude.{◌≡◌, ◌<◌, IfErr, IfOk, length};
+ghost use Rattle.pld_base.specs.Points.{levels_of};
+ghost use Rattle.pld_device.specs.Macrocells.{device_logic};
+ghost use Rattle.pld_device.specs.Rows.{row_value};
+ghost use Rattle.pld_machine.specs.Lookups.{logic_of};
+ghost use Rattle.pld_machine.specs.Order.{IsOrdered};
+ghost use Rattle.pld_machine.specs.Steps.{IsDetermined};
+ghost use Rattle.device_logic.specs.DeviceLookups.{device_lookups};
+ghost use Rattle.device_logic.specs.LoadFaults.{IsLoadFault};
+ghost use Rattle.row_masks.specs.RowMasks.{IsMask};
+ghost use Rattle.fuse_compare.specs.Compared.{CanBeLoaded};
+
+use device_array::{FuseArray, cell_of};
+use device_logic::{DeviceLogic, SimFault};
+use pld_base::Point;
+use pld_device::{Device, Fuses};
+use pld_machine::{Logic, Slot};
+use row_masks::{RowMask, row_masks};
+use std::alloc::Global;
+use std::marker::Model;
+
+/// A device with its fuses, as a logic; contracts see its fuses and the order of its cells.
+///
+/// A look-up costs two tests of bits for each row that it reads, and takes no memory.
+#[derive(Drop)]
+pub struct MaskedLogic<D: Device> {
+    logic: DeviceLogic<D>,
+    array: FuseArray<D>,
+    masks: Vec<RowMask>,
+}
+
+impl<D: Device> Model for MaskedLogic<D> {
+    ghost use Rattle.device_logic.specs.DeviceLookups.{Loaded};
+    ghost use Rattle.fuse_compare.specs.Masked.{HasMasks};
+
+    ghost Value = { Loaded };
+
+    ghost view = { λ l. l.logic };
+
+    ghost invariant = { λ l. HasMasks D.table l.logic l.array l.masks.items };
+}
+
+impl<D: Device> MaskedLogic<D> {
+    /// The device with these fuses; refused as `device_logic::load` refuses them.
+    pub fn load(alloc: Global, fuses: &Fuses) -> Result<MaskedLogic<D>, SimFault>
+        requires { length fuses.now ≡ D.table.fuses }
+        ensures fuses { IfOk result (λ l. l.fuses ≡ fuses.now) }
+        ensures logic { IfOk result (λ l.
+            logic_of (device_lookups D.table l.fuses l.order) ≡ device_logic D.table fuses.now) }
+        ensures ordered { IfOk result (λ l. IsOrdered (device_lookups D.table l.fuses l.order)) }
+        ensures loaded { IfOk result (λ _. CanBeLoaded D.table fuses.now) }
+        ensures determined { IfOk result (λ _. IsDetermined (device_logic D.table fuses.now)) }
+        ensures refused { IfErr result (IsLoadFault D.table fuses.now) }
+    {
+        let logic = device_logic::load::<D>(alloc, fuses)?;
+        let array = FuseArray::<D>::new(alloc, fuses)?;
+        let masks = row_masks::<D>(alloc, fuses)?;
+        Ok(MaskedLogic {
+            logic,
+            array,
+            masks,
+        })
+    }
+
+    /// The array with the fuses.
+    pub fn array(&self) -> &FuseArray<D>
+        ensures { result.now ≡ self.now.fuses }
+    {
+        &self.array
+    }
+
+    /// The mask of a row.
+    pub fn mask(&self, row: u16) -> RowMask
+        requires { row < D.table.rows }
+        ensures { IsMask D.table self.now.fuses row result }
+    {
+        self.masks[usize::from(row)]
+    }
+
+    /// Whether the row is true at a point.
+    pub fn row_value(&self, at: &Point, row: u16) -> bool
+        requires { row < D.table.rows }
+        ensures { result ≡ row_value D.table self.now.fuses (levels_of at.now) row }
+    {
+        self.mask(row).holds(at)
+    }
+}
+
+impl<D: Device> Logic for MaskedLogic<D> {
+    ghost use Rattle.device_logic.specs.DeviceLookups.{device_lookups};
+
+    ghost meaning = { λ l. device_lookups D.table l.fuses l.order };
+
+    fn cells(&self) -> u8 {
+        D::CELLS
+    }
+
+    fn pin(&self, cell: u8) -> u8 {
+        cell_of::<D>(cell).pin
+    }
+
+    fn stores(&self, cell: u8) -> bool {
+        self.array.stores(cell)
+    }
+
+    fn clock(&self) -> u8 {
+        D::CLOCK
+    }
+
+    fn slots(&self) -> u16 {
+        self.logic.slots()
+    }
+
+    fn slot(&self, index: u16) -> Slot {
+        self.logic.slot(index)
+    }
+
+    fn enable(&self, at: &Point, cell: u8) -> bool {
+        self.is_enabled(at, cell)
+    }
+
+    fn level(&self, at: &Point, cell: u8) -> bool {
+        self.pin_level(at, cell)
+    }
+
+    fn node(&self, _at: &Point, _node: u8) -> bool {
+        false
+    }
+
+    fn reset(&self, at: &Point, _cell: u8) -> bool {
+        self.row_if_any(at, D::RESET)
+    }
+
+    fn preset(&self, at: &Point, _cell: u8) -> bool {
+        self.row_if_any(at, D::PRESET)
+    }
+
+    fn next(&self, at: &Point, cell: u8) -> bool {
+        self.next_q(at, cell)
+    }
+}

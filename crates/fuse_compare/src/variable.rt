@@ -1,0 +1,8 @@
+//! What tells the states of a search apart.
+
+/// A pin's outside level, or a cell's stored Q.
+#[derive(Clone, Copy, Debug, PartialEq, Eq)]
+pub enum Variable {
+    Pin(u8),
+    Q(u8),
+}
