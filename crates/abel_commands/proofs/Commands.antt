@@ -4,7 +4,7 @@ use Rattle.std.specs.Prelude.{codes, option_and_then, option_map}
 use Rattle.std.specs.Str.{bytes_eq}
 use Rattle.pld_base.specs.declared.device_name.DeviceName.{DeviceName}
 use Rattle.pld_base.specs.DeviceNames.{named_device}
-use Rattle.abel_commands.specs.Words.{Command, Task, Demo, command_of, on_device, on_file, on_nothing, seed_of, source_count}
+use Rattle.abel_commands.specs.Words.{Command, Task, Compare, Demo, command_of, on_device, on_file, on_files, on_nothing, seed_of, source_count}
 
 abbrev IsCounted : Option Command → Type 0
 IsCounted None = Unit {0}
@@ -26,6 +26,10 @@ counted_device word input (Some d) =
     (counted_task (bytes_eq word (codes "check")) _ _ input refl
     (counted_task (bytes_eq word (codes "decompile")) _ _ input refl tt))
 
+counted_pair : (first second : List ℕ) (device : Option DeviceName) → IsCounted (option_map (λ d. on_files (Compare d) first second) device)
+counted_pair first second None = tt
+counted_pair first second (Some d) = refl
+
 counted_seed : (seed : Option ℕ) → IsCounted (option_map (λ n. on_nothing (Demo n)) seed)
 counted_seed None = tt
 counted_seed (Some n) = refl
@@ -38,7 +42,8 @@ counted (first ∷ second ∷ []) =
     (counted_if (bytes_eq first (codes "demo")) _ _ (counted_seed (seed_of second)) tt)
 counted (first ∷ second ∷ third ∷ []) =
     counted_if (bytes_eq first (codes "compile")) _ _ refl (counted_device first third (named_device second))
-counted (first ∷ second ∷ third ∷ fourth ∷ more) = tt
+counted (first ∷ second ∷ third ∷ fourth ∷ []) = counted_if (bytes_eq first (codes "compare")) _ _ (counted_pair third fourth (named_device second)) tt
+counted (first ∷ second ∷ third ∷ fourth ∷ fifth ∷ more) = tt
 
 pub inputs_counted : (words : List (List ℕ)) (c : Command) → command_of words ≡ Some c → length c.inputs ≡ source_count c.task
 inputs_counted words c is = subst IsCounted is (counted words)

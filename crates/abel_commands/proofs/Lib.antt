@@ -1,10 +1,13 @@
 pub mod CheckMeaning
 pub mod Commands
+pub mod ComparedFiles
+pub mod CompareMeaning
 pub mod DecompileMeaning
 pub mod FewVectors
 pub mod FileRefusals
 pub mod GoodFiles
 pub mod LoadedFiles
+pub mod PinDigits
 pub mod Seeds
 pub mod SimulateMeaning
 pub mod SimulatedFiles

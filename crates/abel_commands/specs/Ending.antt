@@ -27,6 +27,7 @@ usage = codes "usage: abel compile IN OUT\n"
     ++ codes "       abel check DEVICE IN\n"
     ++ codes "       abel demo N\n"
     ++ codes "       abel decompile DEVICE IN\n"
+    ++ codes "       abel compare DEVICE A B\n"
 
 -- the line on bytes over the limit
 abbrev pub too_long_line : List ℕ

@@ -1,10 +1,13 @@
 pub mod CheckCommand
 pub mod Checking
+pub mod CompareCommand
+pub mod Comparing
 pub mod DecompileCommand
 pub mod Ending
 pub mod FaultText
 pub mod FuseFiles
 pub mod Loading
+pub mod SignalEnables
 pub mod SimulateCommand
 pub mod Simulating
 pub mod SourceCommands

@@ -8,7 +8,7 @@ use Rattle.abel_commands.specs.declared.ending.Output as put
 use Rattle.abel_commands.specs.declared.ending.Outcome.{Outcome}
 use Rattle.abel_commands.specs.declared.ending.Outcome.TheVariants as outcome
 use Rattle.abel_commands.specs.Ending.{Ending, Output, usage_ending, file_fault}
-use Rattle.abel_commands.specs.Words.{Command, Task, Compile, ListSource, Simulate, Check, Demo, Decompile}
+use Rattle.abel_commands.specs.Words.{Command, Task, Compile, ListSource, Simulate, Check, Demo, Decompile, Compare}
 use Rattle.source_files.specs.Sources.{texts}
 
 -- what is to be done
@@ -19,6 +19,7 @@ task_seen (task.Simulate device) = Simulate device
 task_seen (task.Check device) = Check device
 task_seen (task.Demo seed) = Demo seed
 task_seen (task.Decompile device) = Decompile device
+task_seen (task.Compare device) = Compare device
 
 -- the command that is asked for
 abbrev pub command_seen : code.Command → Command

@@ -15,6 +15,7 @@ pub data Task : Type 0 where
   Check : (device : DeviceName) → Task
   Demo : (seed : ℕ) → Task
   Decompile : (device : DeviceName) → Task
+  Compare : (device : DeviceName) → Task
 
 -- how many sources a task works on
 abbrev pub source_count : Task → ℕ
@@ -24,6 +25,7 @@ source_count (Simulate device) = 1
 source_count (Check device) = 1
 source_count (Demo seed) = 0
 source_count (Decompile device) = 1
+source_count (Compare device) = 2
 
 -- what words ask for: a task, and the names of the files that are its sources, in order
 pub record Command : Type 0 where
@@ -33,6 +35,10 @@ pub record Command : Type 0 where
 -- the command of a task with one source
 abbrev pub on_file : Task → (input : List ℕ) → Command
 on_file task input = record { task = task; inputs = input ∷ [] }
+
+-- the command of a task with two sources
+abbrev pub on_files : Task → (first second : List ℕ) → Command
+on_files task first second = record { task = task; inputs = first ∷ second ∷ [] }
 
 -- the command of a task without sources
 abbrev pub on_nothing : Task → Command
@@ -75,10 +81,17 @@ command_by_two first second =
     else if bytes_eq first (codes "demo") then option_map (λ seed. on_nothing (Demo seed)) (seed_of second)
     else None
 
+-- so of four words
+abbrev pub command_by_four : (first second third fourth : List ℕ) → Option Command
+command_by_four first second third fourth =
+    if bytes_eq first (codes "compare") then option_map (λ device. on_files (Compare device) third fourth) (named_device second)
+    else None
+
 -- the command that the words are
 abbrev pub command_of : List (List ℕ) → Option Command
 command_of (first ∷ second ∷ []) = command_by_two first second
 command_of (first ∷ second ∷ third ∷ []) = command_by first second third
+command_of (first ∷ second ∷ third ∷ fourth ∷ []) = command_by_four first second third fourth
 command_of _ = None
 
 -- the words are `compile IN OUT`

@@ -23,6 +23,8 @@ pub enum Task<'a> {
     Demo { seed: u16 },
     /// `decompile DEVICE IN`
     Decompile { device: DeviceName },
+    /// `compare DEVICE A B`
+    Compare { device: DeviceName },
 }
 
 /// What the words ask for: a task, and the words that name its sources, in order.
@@ -80,6 +82,23 @@ fn device_task<'a>(word: &str, device: DeviceName) -> Option<Task<'a>>
     }
 }
 
+/// The command that four words are. Takes no memory.
+fn command_of_four<'a>(words: &'a [String]) -> Option<Command<'a>>
+    requires { length words.now ≡ 4 }
+    ensures command { option_map command_seen result ≡ command_of (texts words.now) }
+    ensures inputs { IfSome result (λ c. length c.inputs.now ≡ source_count (task_seen c.task)) }
+{
+    if words[0].as_str() == "compare" {
+        let device = DeviceName::named(words[1].as_bytes())?;
+        Some(Command {
+            task: Task::Compare { device },
+            inputs: &words[2..],
+        })
+    } else {
+        None
+    }
+}
+
 /// The command that the words are. Takes no memory.
 pub fn command_of(words: &[String]) -> Option<Command<'_>>
     ensures command { option_map command_seen result ≡ command_of (texts words.now) }
@@ -87,6 +106,9 @@ pub fn command_of(words: &[String]) -> Option<Command<'_>>
 {
     if words.len() == 2 {
         return command_of_two(words);
+    }
+    if words.len() == 4 {
+        return command_of_four(words);
     }
     let [first, second, third] = words else {
         return None;

@@ -90,4 +90,5 @@ const USAGE: &str = "usage: abel compile IN OUT
        abel check DEVICE IN
        abel demo N
        abel decompile DEVICE IN
+       abel compare DEVICE A B
 ";

@@ -4,6 +4,8 @@
 mod check_command;
 mod checked_line;
 mod command;
+mod compare_command;
+mod compared_line;
 mod decompile_command;
 mod digits;
 pub mod ending;
@@ -17,6 +19,7 @@ mod taken;
 
 pub use check_command::check_ending;
 pub use command::{Command, Task, command_of};
+pub use compare_command::compare_ending;
 pub use decompile_command::decompile_ending;
 pub use numbered::put_numbered;
 pub use simulate_command::simulate_ending;

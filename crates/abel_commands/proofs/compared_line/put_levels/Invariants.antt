@@ -1,0 +1,10 @@
+-- The digits of the pins so far.
+use Rattle.std.proofs.Common.{◌≡◌, ◌++◌, map}
+use Rattle.std.specs.List.{range_with_len}
+use Rattle.jedec_file.specs.FileText.{level_char}
+use Rattle.pld_base.specs.Bits.{bits, is_on}
+use Rattle.abel_commands.proofs.compared_line.put_levels.Given as goal
+
+abbrev pub invariant-loop-before : goal.invariant-loop-before
+invariant-loop-before g l =
+    l.text.items ≡ l.initial.text.items ++ map (λ pin. level_char (is_on (bits 32 l.outside) pin)) (range_with_len 1 l.before)

@@ -1,0 +1,11 @@
+-- The digits of the pins so far.
+use Rattle.std.proofs.Common.{◌≡◌, ◌++◌, map}
+use Rattle.std.specs.List.{range_with_len}
+use Rattle.jedec_file.specs.FileText.{level_char}
+use Rattle.pld_base.specs.Bits.{bits}
+use Rattle.abel_commands.specs.Comparing.{q_on}
+use Rattle.abel_commands.proofs.compared_line.put_stored.Given as goal
+
+abbrev pub invariant-loop-before : goal.invariant-loop-before
+invariant-loop-before g l =
+    l.text.items ≡ l.initial.text.items ++ map (λ pin. level_char (q_on g.D.Device.table (bits 32 l.stored) pin)) (range_with_len 1 l.before)

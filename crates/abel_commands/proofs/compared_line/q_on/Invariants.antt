@@ -1,0 +1,9 @@
+-- None of the cells so far is on the pin with a Q of 1.
+use Rattle.std.proofs.Common.{◌≡◌, ℕ, ◌<◌, ◌==◌, ◌&&◌, false}
+use Rattle.pld_base.specs.Bits.{bits, is_on}
+use Rattle.pld_device.specs.Table.{cell_at}
+use Rattle.abel_commands.proofs.compared_line.q_on.Given as goal
+
+abbrev pub invariant-loop-cell : goal.invariant-loop-cell
+invariant-loop-cell g l =
+    (k : ℕ) → k < l.cell → ((cell_at g.D.Device.table k).pin == l.pin && is_on (bits 32 l.stored) k) ≡ false

@@ -1,0 +1,70 @@
+//! `compare DEVICE A B`.
+
+ghost use Rattle.std.specs.Prelude.{◌≡◌, ◌≤◌, ℕ, IfOk, List, length};
+ghost use Rattle.devices.specs.Devices.{table_of};
+ghost use Rattle.jedec_reader.specs.Contents.{contents};
+ghost use Rattle.source_files.specs.Limit.{limit};
+ghost use Rattle.abel_commands.specs.CompareCommand.{CompareEnds};
+ghost use Rattle.abel_commands.specs.FuseFiles.{IsFileOf};
+ghost use Rattle.abel_commands.specs.View.{ending_seen};
+
+use crate::compared_line::{differ_line, same_line};
+use crate::ending::Ending;
+use crate::sim_fault_line::sim_fault_line;
+use crate::taken::{Taken, take_file};
+use devices::on_device;
+use fuse_compare::compare;
+use jedec_reader::FuseFile;
+use pld_base::{DeviceName, OutOfMemory};
+use pld_device::Device;
+use std::alloc::Global;
+
+/// How `compare` ends with two fuse files.
+fn ending_of<'a, D: Device>(
+    alloc: Global,
+    first: &FuseFile,
+    second: &FuseFile,
+) -> Result<Ending<'a>, OutOfMemory>
+    requires first { length first.now.fuses ≡ D.table.fuses }
+    requires second { length second.now.fuses ≡ D.table.fuses }
+    ensures { (a b : List ℕ) → IsFileOf D.table a (contents D.table first.now)
+        → IsFileOf D.table b (contents D.table second.now)
+        → IfOk result (λ e. CompareEnds D.table a b (ending_seen e)) }
+{
+    match compare::<D>(alloc, &first.fuses, &second.fuses) {
+        Ok(None) => Ok(Ending::plain(0, same_line::<D>(alloc)?)),
+        Ok(Some(state)) => Ok(Ending::plain(5, differ_line::<D>(alloc, &state)?)),
+        Err(fault) => Ok(Ending::plain(4, sim_fault_line(alloc, &fault)?)),
+    }
+}
+
+/// How `compare` ends with the bytes of two files as fuse files of a device.
+fn ending_for<'a, D: Device>(alloc: Global, a: &[u8], b: &[u8]) -> Result<Ending<'a>, OutOfMemory>
+    requires first { length a.now ≤ limit }
+    requires second { length b.now ≤ limit }
+    ensures { IfOk result (λ e. CompareEnds D.table a.now b.now (ending_seen e)) }
+{
+    let first = match take_file::<D>(alloc, a)? {
+        Taken::File(file) => file,
+        Taken::Refused(line) => return Ok(Ending::plain(4, line)),
+    };
+    let second = match take_file::<D>(alloc, b)? {
+        Taken::File(file) => file,
+        Taken::Refused(line) => return Ok(Ending::plain(4, line)),
+    };
+    ending_of::<D>(alloc, &first, &second)
+}
+
+/// The same for a device of this name.
+pub fn compare_ending<'a>(
+    alloc: Global,
+    device: DeviceName,
+    a: &[u8],
+    b: &[u8],
+) -> Result<Ending<'a>, OutOfMemory>
+    requires first { length a.now ≤ limit }
+    requires second { length b.now ≤ limit }
+    ensures { IfOk result (λ e. CompareEnds (table_of device) a.now b.now (ending_seen e)) }
+{
+    on_device!(device, ending_for(alloc, a, b))
+}
