@@ -12,7 +12,7 @@ use Rattle.abel_cli.specs.Run.{Means}
 use Rattle.abel_commands.specs.Simulating.{Disagrees}
 use Rattle.abel_commands.specs.SourceCommands.{IsRefused}
 use Rattle.source_files.specs.Sources.{source_at}
-use Rattle.abel_commands.specs.Words.{Command, Task, Compile, ListSource, Simulate, Check, Demo, Decompile, IsCompile, IsNoCommand, command_of, on_file}
+use Rattle.abel_commands.specs.Words.{Command, Task, Compile, ListSource, Simulate, Check, Demo, Decompile, Compare, IsCompile, IsNoCommand, command_of, on_file}
 
 module _ (a : Asked) (h : Heard) (p : Promises a h) where
   abbrev On : (e : Ending) → Option Command → Type 0
@@ -53,23 +53,24 @@ module _ (a : Asked) (h : Heard) (p : Promises a h) where
       let m = subst (On k.ending) w k.meant in
       (k.ending.text, subst (λ (s : List (List ℕ)). Disagrees (table_of d) (source_at s 0) k.ending.text) (m.1 tells) (m.2.disagrees (sym k.status ∙ is)))
 
-  -- a task that runs vectors
-  abbrev RunsVectors : Task → Type 0
-  RunsVectors t = ((d : DeviceName) × (t ≡ Simulate d)) ⊎ ((n : ℕ) × (t ≡ Demo n))
+  -- a task that finds a disagreement: of vectors, or of two files
+  abbrev FindsOne : Task → Type 0
+  FindsOne t = ((d : DeviceName) × (t ≡ Simulate d)) ⊎ (((n : ℕ) × (t ≡ Demo n)) ⊎ ((d : DeviceName) × (t ≡ Compare d)))
 
-  -- and comes with `simulate` and `demo` alone, whether the files tell or not
-  pub runs_only : h.status ≡ 5 → (c : Command) × (command_of a.words ≡ Some c) × RunsVectors c.task
-  runs_only is = let k = p.ended (omega (arith, is)) in of k.ending (command_of a.words) refl k.meant (sym k.status ∙ is)
+  -- and comes with `simulate`, `demo` and `compare` alone, whether the files tell or not
+  pub finds_only : h.status ≡ 5 → (c : Command) × (command_of a.words ≡ Some c) × FindsOne c.task
+  finds_only is = let k = p.ended (omega (arith, is)) in of k.ending (command_of a.words) refl k.meant (sym k.status ∙ is)
     where
-      by_task : (e : Ending) (c : Command) (t : Task) → c.task ≡ t → On e (Some c) → e.status ≡ 5 → RunsVectors c.task
+      by_task : (e : Ending) (c : Command) (t : Task) → c.task ≡ t → On e (Some c) → e.status ≡ 5 → FindsOne c.task
       by_task e c (Simulate d) w m n = inl (d, w)
-      by_task e c (Demo seed) w m n = inr (seed, w)
+      by_task e c (Demo seed) w m n = inr (inl (seed, w))
+      by_task e c (Compare d) w m n = inr (inr (d, w))
       by_task e c (Compile o) w m n = absurd (let l = (subst (λ (t : Task). Means t m.0 e) w m.2).statuses in omega (arith, l, n))
       by_task e c ListSource w m n = absurd (let l = (subst (λ (t : Task). Means t m.0 e) w m.2).statuses in omega (arith, l, n))
       by_task e c (Check d) w m n = absurd (let l = (subst (λ (t : Task). Means t m.0 e) w m.2).statuses in omega (arith, l, n))
       by_task e c (Decompile d) w m n = absurd (let l = (subst (λ (t : Task). Means t m.0 e) w m.2).statuses in omega (arith, l, n))
 
-      of : (e : Ending) (c : Option Command) → command_of a.words ≡ c → On e c → e.status ≡ 5 → (c : Command) × (command_of a.words ≡ Some c) × RunsVectors c.task
+      of : (e : Ending) (c : Option Command) → command_of a.words ≡ c → On e c → e.status ≡ 5 → (c : Command) × (command_of a.words ≡ Some c) × FindsOne c.task
       of e None w m n = let one = ap (λ (x : Ending). x.status) m in absurd (omega (arith, one, n))
       of e (Some c) w m n = (c, w, by_task e c c.task refl m n)
 

@@ -14,11 +14,13 @@ use Rattle.abel_cli.specs.Promises.{MeansOn, IsMeant, EndsAsCalled, EndsInFileFa
 use Rattle.abel_cli.specs.Further.{HasCompiled, IsRightOrOld}
 use Rattle.abel_cli.specs.Right.{IsRight}
 use Rattle.abel_cli.specs.Run.{Ends, Means, CallsFor, IsCalledFor, Comes, Runs}
+use Rattle.abel_commands.specs.SignalEnables.{signal_enables}
 use Rattle.abel_commands.specs.SourceCommands.{written, listed}
 use Rattle.source_files.specs.Sources.{source_at}
-use Rattle.abel_commands.specs.Words.{Command, Task, Compile, ListSource, Simulate, Check, Demo, Decompile, IsCompile, command_of}
+use Rattle.abel_commands.specs.Words.{Command, Task, Compile, ListSource, Simulate, Check, Demo, Decompile, Compare, IsCompile, command_of}
 use Rattle.abel_commands.proofs.CheckMeaning.{check_means}
 use Rattle.abel_commands.proofs.Commands.{inputs_counted, one_only}
+use Rattle.abel_commands.proofs.CompareMeaning.{compare_means}
 use Rattle.abel_commands.proofs.DecompileMeaning.{decompile_means}
 use Rattle.demo_command.proofs.DemoMeaning.{demo_means}
 use Rattle.abel_commands.proofs.SimulateMeaning.{simulate_means}
@@ -33,6 +35,7 @@ means (Simulate d) sources e ends = simulate_means (table_of d) (source_at sourc
 means (Check d) sources e ends = check_means (table_of d) (source_at sources 0) e ends
 means (Demo n) sources e ends = demo_means n e ends
 means (Decompile d) sources e ends = decompile_means (table_of d) (source_at sources 0) e ends
+means (Compare d) sources e ends = compare_means (table_of d) (source_at sources 0) (source_at sources 1) (signal_enables d) e ends
 
 low : (task : Task) (sources : List (List ℕ)) (e : Ending) → Means task sources e → e.status ≤ 5
 low (Compile o) sources e m = let is = m.statuses in omega (arith, is)
@@ -41,6 +44,7 @@ low (Simulate d) sources e m = let is = m.statuses in omega (arith, is)
 low (Check d) sources e m = let is = m.statuses in omega (arith, is)
 low (Demo n) sources e m = let is = m.statuses in omega (arith, is)
 low (Decompile d) sources e m = let is = m.statuses in omega (arith, is)
+low (Compare d) sources e m = let is = m.statuses in omega (arith, is)
 
 -- what an output is of: of `compile`, the file of a compiled source
 abbrev PutBy : Task → (sources : List (List ℕ)) → Output → Type 0
@@ -50,6 +54,7 @@ PutBy (Simulate d) sources out = ⊥
 PutBy (Check d) sources out = ⊥
 PutBy (Demo n) sources out = ⊥
 PutBy (Decompile d) sources out = ⊥
+PutBy (Compare d) sources out = ⊥
 
 put_by : (task : Task) (sources : List (List ℕ)) (e : Ending) (out : Output) → Means task sources e → e.output ≡ Some out → PutBy task sources out
 put_by (Compile o) sources e out m is = of m.statuses
@@ -71,6 +76,7 @@ put_by (Simulate d) sources e out m is = none-some out (sym m.unwritten ∙ is)
 put_by (Check d) sources e out m is = none-some out (sym m.unwritten ∙ is)
 put_by (Demo n) sources e out m is = none-some out (sym m.unwritten ∙ is)
 put_by (Decompile d) sources e out m is = none-some out (sym m.unwritten ∙ is)
+put_by (Compare d) sources e out m is = none-some out (sym m.unwritten ∙ is)
 
 -- ---- whatever the task
 
@@ -221,6 +227,7 @@ module _ (a : Asked) (h : Heard) where
   held o (Check d) inputs sources own w never new = absurd never
   held o (Demo n) inputs sources own w never new = absurd never
   held o (Decompile d) inputs sources own w never new = absurd never
+  held o (Compare d) inputs sources own w never new = absurd never
 
   held_by : a.told → (e : Ending) (o : Output) (c : Option Command) → command_of a.words ≡ c → MeansOn a.told a.old c e → e.output ≡ Some o → a.new o.name ≡ Some o.bytes → Held
   held_by tells e o None w is out new = absurd (none-some o (sym (ap (λ (x : Ending). x.output) is) ∙ out))

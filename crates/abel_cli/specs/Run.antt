@@ -4,6 +4,7 @@ use Rattle.outside.specs.Outside.{Map, SameFiles, SameBut}
 use Rattle.abel_cli.specs.Call.{Asked, Heard}
 use Rattle.source_files.specs.Counts.{HasRisen, HasStayed}
 use Rattle.abel_commands.specs.CheckCommand.{CheckEnds, CheckMeans}
+use Rattle.abel_commands.specs.CompareCommand.{CompareEnds, CompareMeans}
 use Rattle.abel_commands.specs.DecompileCommand.{DecompileEnds, DecompileMeans}
 use Rattle.demo_command.specs.DemoCommand.{DemoEnds, DemoMeans}
 use Rattle.devices.specs.Devices.{table_of}
@@ -13,7 +14,7 @@ use Rattle.abel_commands.specs.SimulateCommand.{SimulateEnds, SimulateMeans}
 use Rattle.abel_commands.specs.SourceCommands.{SourceEnds, SourceMeans, written, listed}
 use Rattle.abel_cli.specs.Sources.{sources_of}
 use Rattle.source_files.specs.Sources.{source_at}
-use Rattle.abel_commands.specs.Words.{Command, Task, Compile, ListSource, Simulate, Check, Demo, Decompile, command_of, IsInput, IsNoCommand}
+use Rattle.abel_commands.specs.Words.{Command, Task, Compile, ListSource, Simulate, Check, Demo, Decompile, Compare, command_of, IsInput, IsNoCommand}
 
 -- ---- by task: the only definitions of a run that name tasks
 
@@ -25,6 +26,7 @@ Ends (Simulate device) sources e = SimulateEnds (table_of device) (source_at sou
 Ends (Check device) sources e = CheckEnds (table_of device) (source_at sources 0) e
 Ends (Demo seed) sources e = DemoEnds seed e
 Ends (Decompile device) sources e = DecompileEnds (table_of device) (source_at sources 0) e
+Ends (Compare device) sources e = CompareEnds (table_of device) (source_at sources 0) (source_at sources 1) e
 
 -- what that means
 abbrev pub Means : Task → (sources : List (List ℕ)) → Ending → Type 0
@@ -34,6 +36,7 @@ Means (Simulate device) sources e = SimulateMeans (table_of device) (source_at s
 Means (Check device) sources e = CheckMeans (table_of device) (source_at sources 0) e
 Means (Demo seed) sources e = DemoMeans seed e
 Means (Decompile device) sources e = DecompileMeans (table_of device) (source_at sources 0) e
+Means (Compare device) sources e = CompareMeans (table_of device) (source_at sources 0) (source_at sources 1) e
 
 -- ---- whatever the task
 

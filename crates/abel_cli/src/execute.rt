@@ -14,8 +14,8 @@ ghost use Rattle.abel_commands.specs.Words.{command_of, source_count, IsNoComman
 
 use abel_commands::ending::{Ending, Outcome, line};
 use abel_commands::{
-    Command, Task, check_ending, command_of, compile_ending, decompile_ending, list_ending,
-    simulate_ending,
+    Command, Task, check_ending, command_of, compare_ending, compile_ending, decompile_ending,
+    list_ending, simulate_ending,
 };
 use demo_command::demo_ending;
 use outside::{Files, WriteFault};
@@ -37,6 +37,7 @@ fn ending<'a>(alloc: Global, task: Task<'a>, sources: &[Vec<u8>]) -> Result<Endi
         Task::Check { device } => check_ending(alloc, device, source),
         Task::Demo { seed } => demo_ending(alloc, seed),
         Task::Decompile { device } => decompile_ending(alloc, device, source),
+        Task::Compare { device } => compare_ending(alloc, device, source, source_at(sources, 1)),
     }
 }
 
@@ -47,7 +48,10 @@ fn long_ending<'a>(alloc: Global, task: Task<'a>) -> Result<Ending<'a>, OutOfMem
 {
     let status = match task {
         Task::Compile { .. } | Task::List | Task::Demo { .. } => 2,
-        Task::Simulate { .. } | Task::Check { .. } | Task::Decompile { .. } => 4,
+        Task::Simulate { .. }
+        | Task::Check { .. }
+        | Task::Decompile { .. }
+        | Task::Compare { .. } => 4,
     };
     Ok(Ending::plain(status, line(alloc, b"error TooLong", b"")?))
 }

@@ -57,8 +57,8 @@ fn perform<F: Files, K: Sink>(alloc: Global, words: &[String], files: &mut F, re
 /// Does what the words of the command line ask for, and answers the status that the program ends with.
 ///
 /// The words are those after the program's name: `compile IN OUT`, `list IN`, `simulate DEVICE IN`,
-/// `check DEVICE IN`, `demo N` or `decompile DEVICE IN`; every other list of words is answered with the usage text. The
-/// order is: words, reading IN, then what is done with it, writing OUT, the report.
+/// `check DEVICE IN`, `demo N`, `decompile DEVICE IN` or `compare DEVICE A B`; every other list of words is answered with
+/// the usage text. The order is: words, reading IN, or A and then B, what is done with them, writing OUT, the report.
 pub fn run<F: Files, K: Sink>(alloc: Global, words: &[String], files: &mut F, report: &mut K) -> u8
     // The main theorem: with `compile` under 0 OUT holds a file whose fuses do what the source under
     // IN says.
