@@ -43,7 +43,7 @@ fn size_of(command: &str) -> (&'static str, usize) {
 }
 
 /// The fuse file of a command, with its rows and what stands behind them.
-fn file_of(alloc: Global, command: &str, rows: &str, rest: &str) -> Found {
+pub fn file_of(alloc: Global, command: &str, rows: &str, rest: &str) -> Found {
     let (fuses, columns) = size_of(command);
     let mut text = Found::new(alloc);
     text.text("\x02*QF");

@@ -8,6 +8,7 @@ use crate::each_device::try_devices;
 use crate::faults::try_faults;
 use crate::fronts::{try_changed_bytes, try_fronts};
 use crate::fuse_files::try_fuse_files;
+use crate::pairs::try_pairs;
 use crate::refusals::{Phase, try_refusals};
 use crate::runs::try_runs;
 use crate::statements::{try_refused_statements, try_spellings, try_statements};
@@ -52,6 +53,7 @@ fn try_run_section(
         "long files" => try_long_files(alloc, section, report),
         "fuse files" => try_fuse_files(alloc, section, report),
         "fuse files by their rows" => try_devices(alloc, section, report),
+        "pairs of fuse files" => try_pairs(alloc, section, report),
         _ => try_special_section(alloc, kind, section, report),
     }
 }

@@ -12,6 +12,7 @@ mod faults;
 mod fronts;
 mod fuse_files;
 mod kinds;
+mod pairs;
 mod refusals;
 mod runs;
 mod statements;

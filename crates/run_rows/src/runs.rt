@@ -26,16 +26,18 @@ fn words_of(alloc: Global, line: &str) -> Result<Vec<String>, OutOfMemory> {
     Ok(words)
 }
 
-/// Runs a command line over one file. The call of the files and the call of the report of these numbers fail, where they are not 0.
-pub fn run_line(
+/// Runs a command line over files. The call of the files and the call of the report of these numbers fail, where they are not 0.
+pub fn run_over(
     alloc: Global,
     line: &str,
-    (name, bytes): (&str, &[u8]),
+    inputs: &[(&str, &[u8])],
     (files_call, report_call): (u32, u32),
 ) -> Result<Finished, OutOfMemory> {
     let words = words_of(alloc, line)?;
     let mut files = MemoryFiles::new(alloc);
-    files.add(name, bytes)?;
+    for (name, bytes) in inputs {
+        files.add(name, bytes)?;
+    }
     files.fail(files_call)?;
     let mut report = MemorySink::new(alloc);
     report.fail(report_call)?;
@@ -45,6 +47,16 @@ pub fn run_line(
         report,
         files,
     })
+}
+
+/// The same over one file.
+pub fn run_line(
+    alloc: Global,
+    line: &str,
+    input: (&str, &[u8]),
+    calls: (u32, u32),
+) -> Result<Finished, OutOfMemory> {
+    run_over(alloc, line, &[input], calls)
 }
 
 /// Appends a status, and the lines of a report behind bars.
