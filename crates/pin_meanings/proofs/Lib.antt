@@ -1,0 +1,5 @@
+pub mod Declared
+pub mod Giving
+pub mod KnownPins
+pub mod OneLine
+pub mod SumBits

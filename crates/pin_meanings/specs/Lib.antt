@@ -1,0 +1,3 @@
+pub mod LineGives
+pub mod PinNames
+pub mod SumFormulas
