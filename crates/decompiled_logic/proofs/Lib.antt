@@ -1,0 +1,4 @@
+pub mod CellLines
+pub mod AlikeLogics
+pub mod SumValues
+pub mod Values
