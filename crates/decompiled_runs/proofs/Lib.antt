@@ -1,0 +1,2 @@
+pub mod NetlistRuns
+pub mod SaidRuns
