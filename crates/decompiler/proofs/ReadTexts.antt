@@ -1,14 +1,25 @@
 -- The text of a device's fuses is read as the module of their source.
-use Rattle.std.proofs.Common.{◌≡◌, ℕ, Bool, List, sym, subst}
+use Rattle.std.proofs.Common.{◌≡◌, ℕ, Bool, List, length, sym, subst}
 use Rattle.module_reader.specs.Texts.{IsRead}
+use Rattle.pld_order.specs.Graphs.{HasNoLoop}
 use Rattle.pld_device.specs.Laws.{IsDevice}
 use Rattle.pld_device.specs.Table.{Table}
+use Rattle.device_logic.specs.CellReads.{cell_reads}
+use Rattle.device_logic.specs.ResetPaths.{HasNoResetPath}
 use Rattle.pin_trees.proofs.ReadTexts.{read}
 use Rattle.decompiled.specs.Sources.{decompiled_text, source_of}
-use Rattle.decompiler.specs.Reading.{IsReadAsSource}
+use Rattle.decompiled_runs.proofs.SaidRuns.{say_what_they_do}
+use Rattle.decompiler.specs.Reading.{IsReadAsSource, SaysWhatFusesDo}
 use Rattle.decompiler.proofs.LowPins.{source_low}
 
 pub read_as_source : (t : Table) (fuses : List Bool) → IsDevice t → (text : List ℕ) → text ≡ decompiled_text t fuses → IsReadAsSource t fuses text
 read_as_source t fuses laws text is =
     let there = read (source_of t fuses) (source_low t fuses laws) in
     (there.0, there.1, subst (λ (v : List ℕ). IsRead v there.0) (sym is) there.2)
+
+-- and the module says what the device with the fuses does
+pub says_what_fuses_do : (t : Table) (fuses : List Bool) → IsDevice t → length fuses ≡ t.fuses → HasNoLoop (length t.cells) (cell_reads t fuses)
+    → HasNoResetPath t fuses → (text : List ℕ) → text ≡ decompiled_text t fuses → SaysWhatFusesDo t fuses text
+says_what_fuses_do t fuses laws long no_loop no_path text is =
+    let there = read_as_source t fuses laws text is in
+    record { source = there.0; read = there.2; says = say_what_they_do t fuses there.0 laws long there.1 no_loop no_path }

@@ -6,7 +6,7 @@ ghost use Rattle.device_logic.specs.CellReads.{cell_reads};
 ghost use Rattle.device_logic.specs.LoadFaults.{IsLoadFault};
 ghost use Rattle.device_logic.specs.ResetPaths.{HasNoResetPath};
 ghost use Rattle.decompiled.specs.Sources.{decompiled_text, source_of};
-ghost use Rattle.decompiler.specs.Reading.{IsReadAsSource};
+ghost use Rattle.decompiler.specs.Reading.{IsReadAsSource, SaysWhatFusesDo};
 
 use crate::device_fuses::DeviceFuses;
 use device_logic::{SimFault, load};
@@ -38,6 +38,7 @@ pub fn decompile<D: Device>(alloc: Global, fuses: &Fuses) -> Result<Vec<u8>, Sim
     requires { length fuses.now ≡ D.table.fuses }
     ensures text { IfOk result (λ text. text.items ≡ decompiled_text D.table fuses.now) }
     ensures read { IfOk result (λ text. IsReadAsSource D.table fuses.now text.items) }
+    ensures says { IfOk result (λ text. SaysWhatFusesDo D.table fuses.now text.items) }
     ensures no_loop { IfOk result (λ _. HasNoLoop (length D.table.cells) (cell_reads D.table fuses.now)) }
     ensures no_path { IfOk result (λ _. HasNoResetPath D.table fuses.now) }
     ensures refused { IfErr result (IsLoadFault D.table fuses.now) }
