@@ -70,7 +70,7 @@ pub record IsSignalPin (t : Table) (pin : ℕ) : Type 0 where
   pub not_ground : pin ≢ t.ground_pin
 
 -- a cell: its pin is no clock and enables no cell, its rows are in the array, and there is a clock where it may
--- be a register. A pin that enables it is one of the device, and then it always is a register
+-- be a register. A pin that enables it is one for signals, and then it always is a register
 pub record IsCell (t : Table) (cell : Cell) : Type 0 where
   pub pin : IsSignalPin t cell.pin
   pub not_clock : cell.pin ≢ t.clock
@@ -79,7 +79,7 @@ pub record IsCell (t : Table) (cell : Cell) : Type 0 where
   pub room_high : cell.room ≤ 16
   pub data_below : cell.first + cell.room ≤ t.rows
   pub enable_below : (row : ℕ) → cell.enable ≡ Row row → row < t.rows
-  pub enable_pin : (pin : ℕ) → cell.enable ≡ PinLow pin → pin ≤ t.pins
+  pub enable_pin : (pin : ℕ) → cell.enable ≡ PinLow pin → IsSignalPin t pin
   pub pin_registers : (pin : ℕ) → cell.enable ≡ PinLow pin → cell.kinds ≡ Registered
   pub clocked : cell.kinds ≢ Combinational → t.clock ≢ 0
 

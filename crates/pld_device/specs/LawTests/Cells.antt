@@ -2,7 +2,7 @@
 use Rattle.std.proofs.Common.{◌≡◌, ◌≢◌, ℕ, ◌+◌, ◌*◌, ◌<◌, ◌≤◌, Bool, true, false, ◌&&◌, not, length, get_or, refl, arith, eq-eqb}
 use Rattle.std.specs.Prelude.{nat_lt, nat_le, ◌==◌}
 use Rattle.std.specs.List.{list_all}
-use Rattle.std.proofs.lemmas.Bool.{and_parts, leb-true, ltb-true}
+use Rattle.std.proofs.lemmas.Bool.{and_parts, ltb-true}
 use Rattle.std.proofs.lemmas.Bool.Decides.{nat_tests}
 use Rattle.pld_device.specs.declared.carry.Carry.{Carry}
 use Rattle.pld_device.specs.declared.carry.Carry.TheVariants as carry
@@ -42,10 +42,10 @@ abbrev pub is_enable_pin : ℕ → Enable → Bool
 is_enable_pin pin (Row row) = false
 is_enable_pin pin (PinLow other) = other == pin
 
--- the enable is in the array, or a pin of the device
+-- the enable is in the array, or a pin for signals
 abbrev pub is_enable_of : Table → Enable → Bool
 is_enable_of t (Row row) = nat_lt row t.rows
-is_enable_of t (PinLow pin) = nat_le pin t.pins
+is_enable_of t (PinLow pin) = signal_pin_test t pin
 
 -- a cell of these kinds may have this enable
 abbrev pub is_enable_for : Kinds → Enable → Bool
@@ -128,11 +128,11 @@ row_in t (Row other) row test e =
     rw (← same) (ltb-true _ _ test)
 row_in t (PinLow pin) row test e = absurd cc
 
-pin_in : (t : Table) (enable : Enable) (pin : ℕ) → is_enable_of t enable ≡ true → enable ≡ PinLow pin → pin ≤ t.pins
+pin_in : (t : Table) (enable : Enable) (pin : ℕ) → is_enable_of t enable ≡ true → enable ≡ PinLow pin → IsSignalPin t pin
 pin_in t (Row row) pin test e = absurd cc
 pin_in t (PinLow other) pin test e =
     let same : other ≡ pin = cc in
-    rw (← same) (leb-true _ _ test)
+    rw (← same) (signal_pin t other test)
 
 registers_by_pin : (kinds : Kinds) (enable : Enable) (pin : ℕ) → is_enable_for kinds enable ≡ true → enable ≡ PinLow pin → kinds ≡ Registered
 registers_by_pin kinds (Row row) pin test e = absurd cc
