@@ -34,7 +34,7 @@ module _ (t : Table) (laws : IsDevice t) where
     where
       by_enable : (e : Enable) → x.enable ≡ e → EnableInRange t e
       by_enable (Row row) is = law.enable_below row is
-      by_enable (PinLow pin) is = omega (arith, law.enable_pin pin is, laws.sizes.pins_high)
+      by_enable (PinLow pin) is = omega (arith, (law.enable_pin pin is).high, laws.sizes.pins_high)
 
   -- control fuses are fuses of the device
   control_in : (what : Control) (bit : Option FuseBit) → fuse_for t what ≡ fuse_if_any bit → IfSome bit (λ b. b.fuse < t.fuses)
