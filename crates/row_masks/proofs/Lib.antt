@@ -1,3 +1,4 @@
 pub mod MaskLaws
 pub mod MaskedPoints
+pub mod PairedRows
 pub mod Walked

@@ -1,10 +1,10 @@
--- Masks that ask opposite levels, or more than another.
+-- Masks that ask opposite levels.
 use Rattle.std.proofs.Common.{◌≡◌, ◌≤◌, Bool, true, false, List, length, sym, subst, arith}
-use Rattle.std.proofs.lemmas.Bool.{and_from, and_parts, false_from_ne_true}
+use Rattle.std.proofs.lemmas.Bool.{and_parts, false_from_ne_true}
 use Rattle.pld_base.specs.Points.{Levels}
 use Rattle.cube_pool.specs.declared.cube.Cube.{Cube}
-use Rattle.cube_pool.specs.Cubes.{AsksBelow, has_point, is_empty, lies_in, meets}
-use Rattle.cube_pool.proofs.CubePoints.{apart, empty_has_none, lies_in_points}
+use Rattle.cube_pool.specs.Cubes.{AsksBelow, has_point, is_empty, meets}
+use Rattle.cube_pool.proofs.CubePoints.{apart, empty_has_none}
 use Rattle.row_masks.specs.RowMasks.{holds}
 use Rattle.row_masks.specs.declared.row_mask.RowMask.{RowMask}
 
@@ -23,7 +23,3 @@ module _ (c : Cube) (below : AsksBelow 32 c) (p : List Bool) (long : length p �
 
 pub parts_of : (m : RowMask) (at : Levels) → holds m at ≡ true → (has_point m.pins at.pins ≡ true) × (has_point m.q at.q ≡ true)
 parts_of m at is = and_parts (has_point m.pins at.pins) (has_point m.q at.q) is
-
-pub inside : (m n : RowMask) → lies_in m.pins n.pins ≡ true → lies_in m.q n.q ≡ true → (at : Levels) → holds m at ≡ true → holds n at ≡ true
-inside m n pins q at first =
-    and_from (has_point n.pins at.pins) (has_point n.q at.q) (lies_in_points m.pins n.pins at.pins pins (parts_of m at first).0) (lies_in_points m.q n.q at.q q (parts_of m at first).1)

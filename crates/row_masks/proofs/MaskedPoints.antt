@@ -57,7 +57,7 @@ module _ (n : ℕ) (low : n < 2 ^ 32) where
     ]
 
 -- a cube that asks the first level to be both has none
-pub never_has : (p : List Bool) → length p ≡ 32 → has_point (record { yes = 1; no = 1 }) p ≡ false
+pub never_has : (p : List Bool) → 0 < length p → has_point (record { yes = 1; no = 1 }) p ≡ false
 never_has [] long = absurd (omega (arith, long))
 never_has (true ∷ p) long = refl
 never_has (false ∷ p) long = refl

@@ -58,7 +58,7 @@ fn with_column<D: Device>(
 }
 
 /// The fuse of a row and a column: an intact one, 0, connects the column.
-fn fuse_at<D: Device>(fuses: &[bool], row: u16, column: u16) -> bool
+pub(crate) fn fuse_at<D: Device>(fuses: &[bool], row: u16, column: u16) -> bool
     requires size { length fuses.now ≡ D.table.fuses }
     requires row { row < D.table.rows }
     requires column { column < D.table.columns }

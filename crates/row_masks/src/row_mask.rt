@@ -100,14 +100,6 @@ impl RowMask {
         meets(other.pins, self.pins.yes, self.pins.no) && meets(other.q, self.q.yes, self.q.no)
     }
 
-    /// Whether all that `outer` asks is asked here too.
-    pub fn lies_in(self, outer: RowMask) -> bool
-        ensures { result ≡ true → (at : Levels)
-            → holds self at ≡ true → holds outer at ≡ true }
-    {
-        self.pins.lies_in(outer.pins) && self.q.lies_in(outer.q)
-    }
-
     /// Whether some level is asked to be both 1 and 0.
     pub fn is_empty(self) -> bool
         ensures { result ≡ true → (at : Levels) → IsPoint at → holds self at ≡ false }

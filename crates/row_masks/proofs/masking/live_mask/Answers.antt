@@ -1,14 +1,15 @@
 use Rattle.std.proofs.Common.{◌≡◌, length, subst, arith}
-use Rattle.row_masks.proofs.Walked.{HoldsBelow, holds_more, holds_row}
+use Rattle.row_masks.specs.RowMasks.{holds}
+use Rattle.row_masks.proofs.Walked.{PassesBelow, passes_more, passes_row}
 use Rattle.row_masks.proofs.masking.live_mask.Goals as goal
 
 pub loop-pair-preserved : goal.loop-pair-preserved
 loop-pair-preserved g c =
-    holds_more g.D.Device.table c.args.fuses.now c.args.row c.loop-pair.pair c.loop-pair.mask c.with_pair-mask.result c.loop-pair.invariant c.with_pair-mask.ensures
+    passes_more g.D.Device.table c.args.fuses.now c.args.row c.loop-pair.pair (holds c.loop-pair.mask) (holds c.with_pair-mask.result) c.loop-pair.invariant c.with_pair-mask.ensures
 
 pub returns : goal.returns
 returns g c =
     let t = g.D.Device.table in
     let all : c.loop-pair.pair ≡ length t.pairs = omega (arith, g.met.D.Device.columns_is, g.met.D.Device.sound.sizes.columns_even) in
-    holds_row t g.met.D.Device.sound c.args.fuses.now c.args.row c.requires.size c.requires.row c.loop-pair.mask
-    (subst (λ n. HoldsBelow t c.args.fuses.now c.args.row n c.loop-pair.mask) all c.loop-pair.invariant) c.requires.live
+    passes_row t g.met.D.Device.sound c.args.fuses.now c.args.row c.requires.size c.requires.row (holds c.loop-pair.mask)
+    (subst (λ n. PassesBelow t c.args.fuses.now c.args.row n (holds c.loop-pair.mask)) all c.loop-pair.invariant) c.requires.live
