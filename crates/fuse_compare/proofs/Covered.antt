@@ -11,7 +11,7 @@ use Rattle.row_masks.specs.RowMasks.{IsMask, holds}
 use Rattle.row_masks.specs.declared.row_mask.RowMask.{RowMask}
 use Rattle.fuse_compare.specs.Cut.{DifferWithin, some_holds}
 use Rattle.fuse_compare.specs.OwnRows.{AreOwn, CoveredOutside, Covers, HoldsMore, MakesCell, MakesSame, SameCell, SameKind, SameOutside, some_row}
-use Rattle.fuse_compare.specs.declared.own_rows.Group.{Group}
+use Rattle.fuse_compare.specs.declared.group.Group.{Group}
 
 -- ---- one mask more
 
@@ -40,10 +40,10 @@ pub record CoversBelow (t : Table) (a b : List Bool) (rows : Group) (row : ℕ) 
 pub covers_none : (t : Table) (a b : List Bool) (rows : Group) (own : List RowMask) → CoversBelow t a b rows rows.first own own
 covers_none t a b rows own = record { longer = λ at none. none; each = λ k first below. absurd (omega (arith, first, below)) }
 
-module _ (t : Table) (a b : List Bool) (rows : Group) (row : ℕ) (own more : List RowMask) (mask : RowMask) (is : IsMask t a row mask) (below : CoversBelow t a b rows row own more) where
+module _ (t : Table) (a b : List Bool) (rows : Group) (row : ℕ) (own more : List RowMask) (below : CoversBelow t a b rows row own more) where
   -- a row whose mask is taken
-  pub covers_taken : CoversBelow t a b rows (row + 1) own (more ++ mask ∷ [])
-  covers_taken = record {
+  pub covers_taken : (mask : RowMask) → IsMask t a row mask → CoversBelow t a b rows (row + 1) own (more ++ mask ∷ [])
+  covers_taken mask is = record {
     longer = λ at none. below.longer at (none_of more mask at none).0;
     each = λ k first low at point none on. elim (cases_lt k row) [
       | inl earlier ↦ below.each k first earlier at point (none_of more mask at none).0 on
@@ -54,14 +54,14 @@ module _ (t : Table) (a b : List Bool) (rows : Group) (row : ℕ) (own more : Li
   }
 
   -- a row that the other device's group covers
-  pub covers_passed : ((at : Levels) → IsPoint at → holds mask at ≡ true → some_row t b rows at ≡ true) → CoversBelow t a b rows (row + 1) own more
+  pub covers_passed : ((at : Levels) → IsPoint at → row_value t a at row ≡ true → some_row t b rows at ≡ true) → CoversBelow t a b rows (row + 1) own more
   covers_passed covered = record {
     longer = below.longer;
     each = λ k first low at point none on. elim (cases_lt k row) [
       | inl earlier ↦ below.each k first earlier at point none on
       | inr last ↦
           let same : k ≡ row = omega (arith, low, last) in
-          covered at point (is at point ∙ subst (λ n. row_value t a at n ≡ true) same on)
+          covered at point (subst (λ n. row_value t a at n ≡ true) same on)
     ];
   }
 

@@ -1,5 +1,5 @@
 -- The variables chosen for two fuse lists of one device suffice.
-use Rattle.std.proofs.Common.{◌≡◌, ℕ, ◌<◌, ◌≤◌, Bool, true, false, not, ◌==◌, List, [], ◌∷◌, map, length, get_or, refl, sym, ◌∙◌, subst, arith, inl, inr}
+use Rattle.std.proofs.Common.{◌≡◌, ℕ, ◌<◌, Bool, true, false, not, ◌==◌, List, [], ◌∷◌, map, length, get_or, refl, sym, ◌∙◌, subst, arith, inl, inr}
 use Rattle.std.specs.List.{list_any}
 use Rattle.std.proofs.lemmas.Bool.{cases_Bool, and_parts, or_left, or_right, or_cases, eqb-true}
 use Rattle.pld_device.specs.declared.carry.Carry.{Carry}
@@ -40,8 +40,8 @@ module _ (t : Table) (laws : IsDevice t) where
         | inl read ↦ let found = some_of t laws fuses (is_level_of t fuses k) read in
             level_low fuses k (get_or t.pairs found.0 (carry.Pin 0)) (laws.pairs found.0 (carry.Pin 0) found.1) found.2
         | inr enables ↦ let found = one_cell (λ (cell : Cell). is_enable_pin k cell.enable) t.cells enables in
-            let low : k ≤ t.pins = (laws.cells found.0 no_cell found.1).enable_pin k (enables_is k (get_or t.cells found.0 no_cell).enable found.2) in
-            omega (arith, low, laws.sizes.pins_high)
+            let signal = (laws.cells found.0 no_cell found.1).enable_pin k (enables_is k (get_or t.cells found.0 no_cell).enable found.2) in
+            omega (arith, signal.high, laws.sizes.pins_high)
       ]
 
   module _ (a b : List Bool) (first_order second_order : List ℕ)

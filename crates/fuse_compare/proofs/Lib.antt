@@ -8,6 +8,7 @@ pub mod DeviceSuffices
 pub mod DeviceTold
 pub mod Differences
 pub mod Gathered
+pub mod GroupCovers
 pub mod Kept
 pub mod LoadedPair
 pub mod Looked

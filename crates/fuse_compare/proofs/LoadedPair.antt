@@ -10,7 +10,7 @@ use Rattle.pld_device.proofs.OwnPins.{own_pins}
 use Rattle.device_logic.specs.DeviceLookups.{device_lookups}
 use Rattle.fuse_compare.specs.Alike.{FindsDifference, RunsAlike}
 use Rattle.fuse_compare.specs.Choosing.{AreKnown, HoldsRegisters}
-use Rattle.fuse_compare.specs.Compared.{HasSignalEnables, IsPlainState}
+use Rattle.fuse_compare.specs.Compared.{IsPlainState}
 use Rattle.fuse_compare.specs.Cut.{AreOnce}
 use Rattle.fuse_compare.specs.DeviceKnown.{AreChosen}
 use Rattle.fuse_compare.specs.Searching.{CanSearch, IsCut}
@@ -41,11 +41,11 @@ module _ (t : Table) (laws : IsDevice t) (a b : List Bool) where
         is_cut = is_cut;
       }
 
-    pub plain_found : HasSignalEnables t → AreKnown t a b vars → HoldsRegisters t a b (length t.cells) fixed → (found : Option Difference)
+    pub plain_found : AreKnown t a b vars → HoldsRegisters t a b (length t.cells) fixed → (found : Option Difference)
         → IfSome found (λ d. Varies given (bits 32 0) fixed (bits 32 d.outside) (bits 32 d.stored)) → IfSome found (IsPlainState t a b)
-    plain_found signals known registers found varies =
+    plain_found known registers found varies =
         if_some found (λ d. Varies given (bits 32 0) fixed (bits 32 d.outside) (bits 32 d.stored)) (IsPlainState t a b)
-        (λ d is. plain_state t laws signals a b vars fixed known registers d (subst (λ vs. Varies vs (bits 32 0) fixed (bits 32 d.outside) (bits 32 d.stored)) same is)) varies
+        (λ d is. plain_state t laws a b vars fixed known registers d (subst (λ vs. Varies vs (bits 32 0) fixed (bits 32 d.outside) (bits 32 d.stored)) same is)) varies
 
   pub runs_found : (found : Option Difference) → FindsDifference (device_logic t a) (device_logic t b) found → IsDetermined (device_logic t b) → found ≡ None
       → RunsAlike (device_logic t a) (device_logic t b)

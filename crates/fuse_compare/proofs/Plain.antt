@@ -11,7 +11,7 @@ use Rattle.pld_device.specs.Laws.{IsDevice, IsPair, IsSignalPin}
 use Rattle.pld_device.specs.Registers.{stores}
 use Rattle.pld_device.specs.Table.{Table, cell_at, no_cell}
 use Rattle.fuse_compare.specs.Choosing.{AreKnown, HoldsRegisters}
-use Rattle.fuse_compare.specs.Compared.{HasSignalEnables, IsPlainState}
+use Rattle.fuse_compare.specs.Compared.{IsPlainState}
 use Rattle.fuse_compare.specs.DeviceKnown.{enables_some, is_level_of, known_of, some_read}
 use Rattle.fuse_compare.specs.States.{Varies, has_pin, has_q}
 use Rattle.fuse_compare.specs.declared.difference.Difference.{Difference}
@@ -45,7 +45,7 @@ q_from (Q d ∷ vs) o s o' s' varies c on = elim (q_from vs o (set s d varies.0)
   | inr later ↦ inr (or_right (d == c) (has_q vs c) later)
 ]
 
-module _ (t : Table) (laws : IsDevice t) (signals : HasSignalEnables t) (a b : List Bool) where
+module _ (t : Table) (laws : IsDevice t) (a b : List Bool) where
   -- a pin that is known is one for signals
   level_is_signal : (fuses : List Bool) (k : ℕ) (x : Carry) → IsPair t x → is_level_of t fuses k x ≡ true → IsSignalPin t k
   level_is_signal fuses k (carry.Pin p) is carried = subst (IsSignalPin t) (eqb-true p k carried) is.0
@@ -59,7 +59,7 @@ module _ (t : Table) (laws : IsDevice t) (signals : HasSignalEnables t) (a b : L
         level_is_signal fuses k (get_or t.pairs found.0 (carry.Pin 0)) (laws.pairs found.0 (carry.Pin 0) found.1) found.2
     | inr enables ↦
         let found = one_cell (λ (cell : Cell). is_enable_pin k cell.enable) t.cells enables in
-        signals found.0 k found.1 (enables_is k (cell_at t found.0).enable found.2)
+        (laws.cells found.0 no_cell found.1).enable_pin k (enables_is k (cell_at t found.0).enable found.2)
   ]
 
   module _ (vars : List Variable) (fixed : List Bool) (known : AreKnown t a b vars) (registers : HoldsRegisters t a b (length t.cells) fixed) (d : Difference)

@@ -1,10 +1,9 @@
 -- What comparing two fuse lists of one device gives, and why they aren't compared (this project's rule).
 use Rattle.std.specs.Prelude.{◌≡◌, ◌⊎◌, ℕ, ◌<◌, Bool, true, List, length}
 use Rattle.pld_base.specs.Bits.{bits, is_on}
-use Rattle.pld_device.specs.declared.enable.Enable.TheVariants.{PinLow}
 use Rattle.pld_device.specs.Laws.{IsSignalPin}
 use Rattle.pld_device.specs.Registers.{stores}
-use Rattle.pld_device.specs.Table.{Table, cell_at}
+use Rattle.pld_device.specs.Table.{Table}
 use Rattle.pld_order.specs.Graphs.{HasNoLoop}
 use Rattle.device_logic.specs.CellReads.{cell_reads}
 use Rattle.device_logic.specs.LoadFaults.{IsLoadFault}
@@ -25,10 +24,6 @@ pub record CanBeCompared (t : Table) (a b : List Bool) : Type 0 where
 -- the first can't be loaded, and this is why; or it can, and this is why the second can't
 abbrev pub IsCompareFault : Table → (a b : List Bool) → SimFault → Type 0
 IsCompareFault t a b fault = IsLoadFault t a fault ⊎ (CanBeLoaded t a × IsLoadFault t b fault)
-
--- each pin that enables a cell is one for signals
-abbrev pub HasSignalEnables : Table → Type 0
-HasSignalEnables t = (c pin : ℕ) → c < length t.cells → (cell_at t c).enable ≡ PinLow pin → IsSignalPin t pin
 
 -- the levels are 0 at ground, at the supply and where no pin is, and the Qs at each cell that stores in neither
 pub record IsPlainState (t : Table) (a b : List Bool) (d : Difference) : Type 0 where

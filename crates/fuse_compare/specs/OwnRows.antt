@@ -1,14 +1,17 @@
--- Private: rows that a device has with one of two fuse lists alone, and masks of them (this project's rule).
+-- Private: rows that are true with one of two fuse lists where no row of their group is with the other, and masks of them
+-- (this project's rule).
 use Rattle.std.specs.Prelude.{◌≡◌, ℕ, ◌+◌, ◌<◌, ◌≤◌, Bool, true, false, List, length}
 use Rattle.std.specs.List.{list_any, range_with_len}
 use Rattle.pld_base.specs.Points.{IsPoint, Levels}
 use Rattle.pld_device.specs.Macrocells.{is_enabled, or_value, row_if_any}
 use Rattle.pld_device.specs.Registers.{is_inverted, stores}
-use Rattle.pld_device.specs.Rows.{row_value}
+use Rattle.pld_device.specs.Rows.{pair_values, row_value}
 use Rattle.pld_device.specs.Table.{Table, cell_at}
+use Rattle.cube_pool.specs.declared.cube.Cube.{Cube}
+use Rattle.cube_pool.specs.Cubes.{AllAskBelow, covers}
 use Rattle.row_masks.specs.declared.row_mask.RowMask.{RowMask}
 use Rattle.fuse_compare.specs.Cut.{some_holds}
-use Rattle.fuse_compare.specs.declared.own_rows.Group.{Group}
+use Rattle.fuse_compare.specs.declared.group.Group.{Group}
 
 -- the group's rows are rows of the array
 abbrev pub InArray : Table → Group → Type 0
@@ -17,6 +20,16 @@ InArray t rows = rows.first + rows.room ≤ t.rows
 -- some row of the group is true
 abbrev pub some_row : Table → List Bool → Group → Levels → Bool
 some_row t fuses rows at = list_any (row_value t fuses at) (range_with_len rows.first rows.room)
+
+-- the same cells are registers with both
+abbrev pub StoreSame : Table → (a b : List Bool) → Type 0
+StoreSame t a b = (c : ℕ) → c < length t.cells → stores t a c ≡ stores t b c
+
+-- the group's rows as a cover over the column pairs: of the values that these carry at a point it has those where some
+-- row of the group is true
+pub record IsGroupCover (t : Table) (fuses : List Bool) (rows : Group) (cubes : List Cube) : Type 0 where
+  pub below : AllAskBelow (length t.pairs) cubes
+  pub points : (at : Levels) → IsPoint at → covers cubes (pair_values t fuses at) ≡ some_row t fuses rows at
 
 -- where no mask of the list holds, the two tests answer the same
 abbrev pub SameOutside : List RowMask → (test other : Levels → Bool) → Type 0

@@ -3,8 +3,7 @@
 ghost use Rattle.std.specs.Prelude.{◌≡◌, IfErr, IfOk, IfSome, None, Ok, length};
 ghost use Rattle.pld_device.specs.Macrocells.{device_logic};
 ghost use Rattle.fuse_compare.specs.Alike.{FindsDifference, RunsAlike};
-ghost use Rattle.fuse_compare.specs.Compared.{CanBeCompared, HasSignalEnables, IsCompareFault};
-ghost use Rattle.fuse_compare.specs.Compared.{IsPlainState};
+ghost use Rattle.fuse_compare.specs.Compared.{CanBeCompared, IsCompareFault, IsPlainState};
 
 use crate::choosing::choose;
 use crate::difference::Difference;
@@ -30,9 +29,7 @@ pub fn compare<D: Device>(
     requires second { length b.now ≡ D.table.fuses }
     ensures found { IfOk result
         (FindsDifference (device_logic D.table a.now) (device_logic D.table b.now)) }
-    // The laws of a device don't say that each pin that enables is one for signals.
-    ensures plain { HasSignalEnables D.table
-        → IfOk result (λ found. IfSome found (IsPlainState D.table a.now b.now)) }
+    ensures plain { IfOk result (λ found. IfSome found (IsPlainState D.table a.now b.now)) }
     ensures runs { result ≡ Ok None
         → RunsAlike (device_logic D.table a.now) (device_logic D.table b.now) }
     ensures loaded { IfOk result (λ _. CanBeCompared D.table a.now b.now) }

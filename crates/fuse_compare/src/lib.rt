@@ -6,6 +6,8 @@ mod choosing;
 mod comparing;
 mod cut;
 mod difference;
+mod group;
+mod group_covers;
 mod knowing;
 mod laws;
 mod macrocells;

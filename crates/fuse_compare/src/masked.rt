@@ -9,15 +9,17 @@ ghost use Rattle.pld_machine.specs.Order.{IsOrdered};
 ghost use Rattle.pld_machine.specs.Steps.{IsDetermined};
 ghost use Rattle.device_logic.specs.DeviceLookups.{device_lookups};
 ghost use Rattle.device_logic.specs.LoadFaults.{IsLoadFault};
+ghost use Rattle.row_masks.specs.PairCubes.{IsPairCube};
 ghost use Rattle.row_masks.specs.RowMasks.{IsMask};
 ghost use Rattle.fuse_compare.specs.Compared.{CanBeLoaded};
 
+use cube_pool::Cube;
 use device_array::{FuseArray, cell_of};
 use device_logic::{DeviceLogic, SimFault};
 use pld_base::Point;
 use pld_device::{Device, Fuses};
 use pld_machine::{Logic, Slot};
-use row_masks::{RowMask, row_masks};
+use row_masks::{RowMask, pair_cubes, row_masks};
 use std::alloc::Global;
 use std::marker::Model;
 
@@ -29,6 +31,7 @@ pub struct MaskedLogic<D: Device> {
     logic: DeviceLogic<D>,
     array: FuseArray<D>,
     masks: Vec<RowMask>,
+    cubes: Vec<Cube>,
 }
 
 impl<D: Device> Model for MaskedLogic<D> {
@@ -39,7 +42,7 @@ impl<D: Device> Model for MaskedLogic<D> {
 
     ghost view = { λ l. l.logic };
 
-    ghost invariant = { λ l. HasMasks D.table l.logic l.array l.masks.items };
+    ghost invariant = { λ l. HasMasks D.table l.logic l.array l.masks.items l.cubes.items };
 }
 
 impl<D: Device> MaskedLogic<D> {
@@ -57,10 +60,12 @@ impl<D: Device> MaskedLogic<D> {
         let logic = device_logic::load::<D>(alloc, fuses)?;
         let array = FuseArray::<D>::new(alloc, fuses)?;
         let masks = row_masks::<D>(alloc, fuses)?;
+        let cubes = pair_cubes::<D>(alloc, fuses)?;
         Ok(MaskedLogic {
             logic,
             array,
             masks,
+            cubes,
         })
     }
 
@@ -77,6 +82,14 @@ impl<D: Device> MaskedLogic<D> {
         ensures { IsMask D.table self.now.fuses row result }
     {
         self.masks[usize::from(row)]
+    }
+
+    /// The cube of a row over the column pairs.
+    pub fn cube(&self, row: u16) -> Cube
+        requires { row < D.table.rows }
+        ensures { IsPairCube D.table self.now.fuses row result }
+    {
+        self.cubes[usize::from(row)]
     }
 
     /// Whether the row is true at a point.

@@ -1,17 +1,17 @@
 //! The rows that a device has with one of two fuse lists alone.
 //!
 //! The idea: rows are compared within their group, which is a cell's data rows, its enable row, the
-//! reset row or the preset row. A row is no list's own where some row of the other list's group asks
-//! nothing besides; so it may stand in another place.
+//! reset row or the preset row. A row is no list's own where the rows of the other list's group cover
+//! it, be it together. So none is left where the groups say the same by other rows.
 
-ghost use Rattle.std.specs.Prelude.{◌≡◌, ◌+◌, ◌<◌, ◌≤◌, ℕ, IfOk, IfSome, false, length, true};
-ghost use Rattle.pld_base.specs.Points.{IsPoint, Levels};
+ghost use Rattle.std.specs.Prelude.{◌≡◌, ◌<◌, ℕ, IfOk, IfSome, length, true};
 ghost use Rattle.pld_device.specs.Macrocells.{enabled_by, row_if_any};
 ghost use Rattle.device_array.specs.Array.{EnableInRange};
-ghost use Rattle.row_masks.specs.RowMasks.{holds};
 ghost use Rattle.fuse_compare.specs.OwnRows.{AreOwn, Covers, InArray, MakesCell, MakesSame};
-ghost use Rattle.fuse_compare.specs.OwnRows.{SameKind, some_row};
+ghost use Rattle.fuse_compare.specs.OwnRows.{SameKind, StoreSame, some_row};
 
+use crate::group::Group;
+use crate::group_covers::{group_cover, has_cube};
 use crate::masked::MaskedLogic;
 use device_array::cell_of;
 use pld_base::OutOfMemory;
@@ -19,52 +19,24 @@ use pld_device::{Device, Enable};
 use row_masks::RowMask;
 use std::alloc::Global;
 
-/// Rows of the array that stand side by side.
-#[derive(Clone, Copy)]
-pub struct Group {
-    pub first: u16,
-    pub room: u8,
-}
-
-/// Whether some row of the group asks nothing besides.
-fn is_covered<D: Device>(mask: RowMask, other: &MaskedLogic<D>, rows: Group) -> bool
-    requires { InArray D.table rows }
-    ensures { result ≡ true → (at : Levels) → IsPoint at → holds mask at ≡ true
-        → some_row D.table other.now.fuses rows at ≡ true }
-{
-    for row in rows.first..rows.first + u16::from(rows.room) {
-        if mask.lies_in(other.mask(row)) {
-            return true;
-        }
-    }
-    false
-}
-
-/// Whether the mask may hold where no row of the group is true.
-fn is_own<D: Device>(mask: RowMask, other: &MaskedLogic<D>, rows: Group) -> bool
-    requires { InArray D.table rows }
-    ensures { result ≡ false → (at : Levels) → IsPoint at → holds mask at ≡ true
-        → some_row D.table other.now.fuses rows at ≡ true }
-{
-    !mask.is_empty() && !is_covered(mask, other, rows)
-}
-
 /// The masks, and those of the group's rows that the first device has alone.
 fn with_own<D: Device>(
+    alloc: Global,
     own: Vec<RowMask>,
     a: &MaskedLogic<D>,
     b: &MaskedLogic<D>,
     rows: Group,
 ) -> Result<Vec<RowMask>, OutOfMemory>
-    requires { InArray D.table rows }
+    requires same { StoreSame D.table a.now.fuses b.now.fuses }
+    requires within { InArray D.table rows }
     ensures { IfOk result (λ more.
         Covers D.table a.now.fuses b.now.fuses rows own.items more.items) }
 {
+    let mut cover = group_cover(alloc, b, rows)?;
     let mut more = own;
     for row in rows.first..rows.first + u16::from(rows.room) {
-        let mask = a.mask(row);
-        if is_own(mask, b, rows) {
-            more.push(mask)?;
+        if !has_cube::<D>(&mut cover, a.cube(row)) {
+            more.push(a.mask(row))?;
         }
     }
     Ok(more)
@@ -72,61 +44,69 @@ fn with_own<D: Device>(
 
 /// The masks, and those of the group's rows that either device has alone.
 fn with_rows<D: Device>(
+    alloc: Global,
     own: Vec<RowMask>,
     a: &MaskedLogic<D>,
     b: &MaskedLogic<D>,
     rows: Group,
 ) -> Result<Vec<RowMask>, OutOfMemory>
-    requires { InArray D.table rows }
+    requires same { StoreSame D.table a.now.fuses b.now.fuses }
+    requires within { InArray D.table rows }
     ensures { IfOk result (λ more. MakesSame (some_row D.table a.now.fuses rows)
         (some_row D.table b.now.fuses rows) own.items more.items) }
 {
-    let covered = with_own(own, a, b, rows)?;
-    with_own(covered, b, a, rows)
+    let covered = with_own(alloc, own, a, b, rows)?;
+    with_own(alloc, covered, b, a, rows)
 }
 
 /// The masks, and that of a row, where there is one, in the devices that have it alone.
 fn with_row_if_any<D: Device>(
+    alloc: Global,
     own: Vec<RowMask>,
     a: &MaskedLogic<D>,
     b: &MaskedLogic<D>,
     row: Option<u16>,
 ) -> Result<Vec<RowMask>, OutOfMemory>
-    requires { IfSome row (λ r. r < D.table.rows) }
+    requires same { StoreSame D.table a.now.fuses b.now.fuses }
+    requires within { IfSome row (λ r. r < D.table.rows) }
     ensures { IfOk result (λ more. MakesSame (λ at. row_if_any D.table a.now.fuses at row)
         (λ at. row_if_any D.table b.now.fuses at row) own.items more.items) }
 {
     match row {
         None => Ok(own),
-        Some(first) => with_rows(own, a, b, Group { first, room: 1 }),
+        Some(first) => with_rows(alloc, own, a, b, Group { first, room: 1 }),
     }
 }
 
 /// The masks, and those of what enables a cell, where it is a row.
 fn with_enable<D: Device>(
+    alloc: Global,
     own: Vec<RowMask>,
     a: &MaskedLogic<D>,
     b: &MaskedLogic<D>,
     enable: Enable,
 ) -> Result<Vec<RowMask>, OutOfMemory>
-    requires { EnableInRange D.table enable }
+    requires same { StoreSame D.table a.now.fuses b.now.fuses }
+    requires within { EnableInRange D.table enable }
     ensures { IfOk result (λ more. MakesSame (λ at. enabled_by D.table a.now.fuses at enable)
         (λ at. enabled_by D.table b.now.fuses at enable) own.items more.items) }
 {
     match enable {
         Enable::PinLow(_pin) => Ok(own),
-        Enable::Row(first) => with_rows(own, a, b, Group { first, room: 1 }),
+        Enable::Row(first) => with_rows(alloc, own, a, b, Group { first, room: 1 }),
     }
 }
 
 /// The masks, and those of a cell's rows.
 fn with_cell<D: Device>(
+    alloc: Global,
     own: Vec<RowMask>,
     a: &MaskedLogic<D>,
     b: &MaskedLogic<D>,
     cell: u8,
 ) -> Result<Vec<RowMask>, OutOfMemory>
-    requires { cell < length D.table.cells }
+    requires same { StoreSame D.table a.now.fuses b.now.fuses }
+    requires within { cell < length D.table.cells }
     ensures { IfOk result (λ more.
         MakesCell D.table a.now.fuses b.now.fuses cell own.items more.items) }
 {
@@ -135,8 +115,8 @@ fn with_cell<D: Device>(
         first: found.first,
         room: found.room,
     };
-    let enabled = with_enable(own, a, b, found.enable)?;
-    with_rows(enabled, a, b, rows)
+    let enabled = with_enable(alloc, own, a, b, found.enable)?;
+    with_rows(alloc, enabled, a, b, rows)
 }
 
 /// The masks of all rows that either device has alone.
@@ -145,14 +125,15 @@ pub fn own_rows<D: Device>(
     a: &MaskedLogic<D>,
     b: &MaskedLogic<D>,
 ) -> Result<Vec<RowMask>, OutOfMemory>
+    requires { StoreSame D.table a.now.fuses b.now.fuses }
     ensures { IfOk result (λ own. AreOwn D.table a.now.fuses b.now.fuses own.items) }
 {
     let mut own = Vec::new(alloc);
     for cell in 0..D::CELLS {
-        own = with_cell(own, a, b, cell)?;
+        own = with_cell(alloc, own, a, b, cell)?;
     }
-    let with_reset = with_row_if_any(own, a, b, D::RESET)?;
-    with_row_if_any(with_reset, a, b, D::PRESET)
+    let with_reset = with_row_if_any(alloc, own, a, b, D::RESET)?;
+    with_row_if_any(alloc, with_reset, a, b, D::PRESET)
 }
 
 /// Whether each cell is of the same kind and polarity in both.

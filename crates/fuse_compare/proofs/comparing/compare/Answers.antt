@@ -27,7 +27,7 @@ compared-requires g c =
     }
 
 pub returns-clause-plain : goal.returns-clause-plain
-returns-clause-plain g c = λ signals.
+returns-clause-plain g c =
     let t = g.D.Device.table in
     let vars = c.in_ok-choice.choice.vars.items in
     let fixed = bits 32 c.in_ok-choice.choice.fixed in
@@ -35,7 +35,7 @@ returns-clause-plain g c = λ signals.
     let second = c.array-2.ensures ∙ c.in_ok-second.ensures.fuses in
     let known : AreKnown t c.args.a.now c.args.b.now vars = rw (← first, ← second) c.in_ok-choice.ensures.known in
     let registers : HoldsRegisters t c.args.a.now c.args.b.now (length t.cells) fixed = rw (← first, ← second) c.in_ok-choice.ensures.fixed in
-    plain_found t g.met.D.Device.sound c.args.a.now c.args.b.now c.deref.result.now vars c.deref.ensures.value fixed signals known registers c.compared.result c.compared.ensures.state
+    plain_found t g.met.D.Device.sound c.args.a.now c.args.b.now c.deref.result.now vars c.deref.ensures.value fixed known registers c.compared.result c.compared.ensures.state
 
 pub returns-clause-runs : goal.returns-clause-runs
 returns-clause-runs g c = λ none.

@@ -17,11 +17,11 @@ loop-cell-preserved g c = λ d low.
           subst (λ n. SameCell t c.args.a.now.fuses c.args.b.now.fuses c.in_ok-own.own.items n) (sym same) c.in_ok-own.ensures.cell
     ]
 
-pub with_row_if_any-requires : goal.with_row_if_any-requires
-with_row_if_any-requires g c = rw (c.RESET.ensures ∙ g.met.D.Device.reset_is) (reset_if_any g.D.Device.table g.met.D.Device.sound)
+pub with_row_if_any-requires-clause-within : goal.with_row_if_any-requires-clause-within
+with_row_if_any-requires-clause-within g c = rw (c.RESET.ensures ∙ g.met.D.Device.reset_is) (reset_if_any g.D.Device.table g.met.D.Device.sound)
 
-pub with_row_if_any-requires-2 : goal.with_row_if_any-requires-2
-with_row_if_any-requires-2 g c = rw (c.PRESET.ensures ∙ g.met.D.Device.preset_is) (preset_if_any g.D.Device.table g.met.D.Device.sound)
+pub with_row_if_any-requires-2-clause-within : goal.with_row_if_any-requires-2-clause-within
+with_row_if_any-requires-2-clause-within g c = rw (c.PRESET.ensures ∙ g.met.D.Device.preset_is) (preset_if_any g.D.Device.table g.met.D.Device.sound)
 
 pub returns : goal.returns
 returns g c =
