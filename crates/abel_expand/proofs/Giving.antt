@@ -60,7 +60,7 @@ pub said_next : (w v : List ℕ) (i d : ℕ) → i < length w → drop i w ++ v 
 said_next w v i d h = ap (λ (x : List ℕ). x ++ v) (said_at w i d h) ∙ ap (λ (n : ℕ). get_or w i d ∷ (drop n w ++ v)) (sym (add-one i))
 
 -- nothing waits behind the last byte
-said_out : (w : List ℕ) (i : ℕ) → length w ≤ i → drop i w ≡ []
+pub said_out : (w : List ℕ) (i : ℕ) → length w ≤ i → drop i w ≡ []
 said_out [] zero h = refl
 said_out [] (suc i) h = refl
 said_out (x ∷ w) zero h = absurd (omega arith)

@@ -1,5 +1,5 @@
 -- What is done stays done.
-use Rattle.std.proofs.Common.{◌≡◌, ◌<◌, ◌+◌, ℕ, zero, suc, Bool, true, false, List, [], ◌∷◌, ◌++◌, Result, Ok, Err, length, take, drop, refl, sym, ap, ◌∙◌, arith, add-one, append-nil}
+use Rattle.std.proofs.Common.{◌≡◌, ◌<◌, ◌+◌, ℕ, Bool, true, false, List, [], ◌∷◌, ◌++◌, Result, Ok, Err, length, take, refl, sym, ap, ◌∙◌, arith, add-one, append-nil}
 use Rattle.std.specs.Prelude.{◌==◌, nat_lt}
 use Rattle.std.proofs.Math.Seq.{take-length, take-append_seam}
 use Rattle.std.proofs.lemmas.List.{length-take}
@@ -42,7 +42,7 @@ kept text turns given e =
     ap (λ (n : ℕ). take n (after (turns + 1) text).done) e ∙ ap (take (length c.done)) d ∙ take-append_seam c.done g.0 ∙ sym (take-length c.done) ∙ ap (λ (n : ℕ). take n c.done) (sym e)
 
 -- one byte more was given
-pub one_more : (r s : Reading) (b : ℕ) → bytes_waiting r ≡ b ∷ bytes_waiting s → s ≡ record r { given = r.given + 1 } → bytes_given s ≡ bytes_given r ++ b ∷ []
+pub one_more : (r s : Reading) (b : ℕ) → bytes_waiting r ≡ b ∷ bytes_waiting s → s ≡ record r { given = r.given + 1; standing = s.standing } → bytes_given s ≡ bytes_given r ++ b ∷ []
 one_more r s b h e = ap bytes_given e ∙ ap (λ (n : ℕ). take n (after r.turns r.text).done) (add-one r.given) ∙ take_next (after r.turns r.text).done r.given b (bytes_waiting s) h
 
 -- no more bytes were given than are counted

@@ -1,3 +1,4 @@
 pub mod Turning
 pub mod Growth
 pub mod Giving
+pub mod Ending

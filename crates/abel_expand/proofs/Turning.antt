@@ -51,7 +51,7 @@ module _ (text : List ℕ) (turns given done rewritings : ℕ) (k : Kept) (waiti
   pub room : done + length rest ≤ limit
   room = omega (arith, s.fits, ap length rest_is)
 
-  move_is : move (after turns text).tables (after turns text).rest ≡ move (tables_of k) rest
+  pub move_is : move (after turns text).tables (after turns text).rest ≡ move (tables_of k) rest
   move_is = ap (λ (t : Tables). move t (after turns text).rest) s.tables ∙ ap (move (tables_of k)) rest_is
 
   -- what is given stays

@@ -6,6 +6,7 @@ use Rattle.abel_macros.specs.Rules.{Cause, TooLong, ExpansionLimit, BadDirective
 use Rattle.abel_macros.specs.Turns.{Config, start, turn}
 use Rattle.abel_expand.specs.declared.fault.ExpandFault.{ExpandFault}
 use Rattle.abel_expand.specs.declared.fault.ExpandFault.TheVariants as fault
+use Rattle.abel_expand.specs.declared.standing.Standing.{Standing}
 
 -- ---- whole expansions
 
@@ -36,13 +37,14 @@ IsRefusal text w fault.OutOfMemory = Unit {0}
 
 -- ---- a reader
 
--- how many turns of the text were taken, how many bytes of the text done were given, and the refusal
--- that was answered
+-- how many turns of the text were taken, how many bytes of the text done were given, the refusal that was
+-- answered, and where the byte that was given last stands in the text
 pub record Reading : Type 0 where
   pub text : List ℕ
   pub turns : ℕ
   pub given : ℕ
   pub refused : Option ExpandFault
+  pub standing : Standing
 
 -- the bytes that were given: a front of the text done behind these turns
 abbrev pub bytes_given : Reading → List ℕ

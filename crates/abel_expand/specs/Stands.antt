@@ -4,7 +4,9 @@ use Rattle.pld_base.specs.declared.place.Place.{Place}
 use Rattle.abel_lexer.specs.Scans.{place_past, first_place}
 use Rattle.abel_macros.specs.Kept.{Kept, tables_of}
 use Rattle.abel_macros.specs.Turns.{Config, limit, most_rewritings}
+use Rattle.text_rewriting.specs.Marks.{last}
 use Rattle.abel_expand.specs.Runs.{after}
+use Rattle.abel_expand.specs.Origins.{own_left}
 
 -- behind so many turns: the bytes that wait, and so many of the rest behind them, are done and not given
 pub record Stands (text : List ℕ) (turns given done rewritings : ℕ) (k : Kept) (waiting : List ℕ) (copied : ℕ) (rest : List ℕ) (place : Place) : Type 0 where
@@ -21,6 +23,11 @@ pub record Stands (text : List ℕ) (turns given done rewritings : ℕ) (k : Kep
   pub line : place.line ≤ given + 1
   pub column : place.column ≤ given + 1
   pub first : 1 ≤ place.column
+
+-- so many bytes at the end of the rest are the source's own
+pub record IsOwnEnd (text : List ℕ) (turns own : ℕ) (rest : List ℕ) : Type 0 where
+  pub counted : own_left turns text ≡ own
+  pub ends : (n : ℕ) → n ≤ own → n ≤ length rest → last n rest ≡ last n text
 
 -- what is left to do: it falls at each turn
 abbrev pub left_to_do : Config → ℕ

@@ -6,9 +6,12 @@ ghost use Rattle.abel_expand.specs.declared.fault.ExpandFault.TheVariants as fau
 ghost use Rattle.text_rewriting.specs.Fronts.{changed, IsChange};
 ghost use Rattle.text_rewriting.specs.Marks.{DefinesNone};
 ghost use Rattle.abel_expand.specs.Runs.{after, bytes_given, bytes_waiting, byte_in, refusal_in, HasEnded, IsExpanded, IsRefusal};
+ghost use Rattle.abel_expand.specs.declared.standing.Origin.TheVariants as origin;
+ghost use Rattle.abel_expand.specs.Origins.{StandsThere};
 ghost use Rattle.abel_expand.specs.Stands.{left_to_do};
 
 use crate::fault::ExpandFault;
+use crate::standing::{Origin, Standing, copied_at, own_behind, said_at};
 use abel_lexer::place_past;
 use abel_macros::Tables;
 use pld_base::{OutOfMemory, Place};
@@ -32,18 +35,22 @@ pub struct Reader<'a> {
     done: usize,
     rewritings: usize,
     refused: Option<ExpandFault>,
+    own: usize,
+    call: usize,
+    form: usize,
+    standing: Standing,
 }
 
 impl<'a> Model for Reader<'a> {
     ghost use Rattle.std.specs.Prelude.{◌≡◌, ◌≤◌, None, length, drop};
     ghost use Rattle.abel_expand.specs.Runs.{Reading};
-    ghost use Rattle.abel_expand.specs.Stands.{Stands};
+    ghost use Rattle.abel_expand.specs.Stands.{IsOwnEnd, Stands};
 
     ghost Value = { Reading };
 
-    ghost view = { λ r. record { text = r.text.now; turns = r.turns; given = r.given; refused = r.refused } };
+    ghost view = { λ r. record { text = r.text.now; turns = r.turns; given = r.given; refused = r.refused; standing = r.standing } };
 
-    ghost invariant = { λ r. (r.at ≤ length r.said.items) × (r.refused ≡ None → Stands r.text.now r.turns r.given r.done r.rewritings r.tables (drop r.at r.said.items) r.copied r.rest r.place) };
+    ghost invariant = { λ r. (r.at ≤ length r.said.items) × (r.refused ≡ None → Stands r.text.now r.turns r.given r.done r.rewritings r.tables (drop r.at r.said.items) r.copied r.rest r.place) × (r.refused ≡ None → IsOwnEnd r.text.now r.turns r.own r.rest) × (r.own ≤ length r.text.now) × (r.call ≤ length r.text.now) × (r.form ≤ length r.text.now) × (r.standing.offset ≤ length r.text.now) };
 }
 
 /// Defines something.
@@ -84,30 +91,66 @@ impl<'a> Reader<'a> {
             done: 0,
             rewritings: 0,
             refused: None,
+            own: text.len(),
+            call: 0,
+            form: 0,
+            standing: Standing {
+                offset: 0,
+                origin: Origin::Form,
+            },
         }
+    }
+
+    /// The offset in the source of the byte that was given last: of a byte that a macro stands for, that of the outermost call.
+    pub fn offset(&self) -> usize
+        ensures offset { result ≡ self.now.standing.offset }
+        ensures within { result ≤ length self.now.text }
+    {
+        self.standing.offset
+    }
+
+    /// Whether the byte that was given last is of what a macro stands for.
+    pub fn is_in_macro(&self) -> bool
+        ensures yes { result ≡ true → self.now.standing.origin ≡ origin.Call }
+        ensures no { result ≡ false → self.now.standing.origin ≡ origin.Call → ⊥ }
+    {
+        matches!(self.standing.origin, Origin::Call)
+    }
+
+    /// The offset in the source from which nothing was given yet.
+    pub fn next_offset(&self) -> usize
+        ensures { result ≤ length self.now.text }
+    {
+        let left = self.rest.rest().len();
+        copied_at(self.text.len(), self.own, left, self.call).offset
     }
 
     /// Gives the next byte that waits.
     fn give(&mut self) -> Option<u8>
         requires { self.old.refused ≡ None }
         ensures some { IfSome result (λ b. bytes_waiting self.old ≡ b ∷ bytes_waiting self.new) }
-        ensures step { IfSome result (λ b. self.new ≡ record self.old { given = self.old.given + 1 }) }
+        ensures step { IfSome result (λ b. self.new ≡ record self.old { given = self.old.given + 1; standing = self.new.standing }) }
         ensures most { IfSome result (λ b. self.old.given < 1048576) }
         ensures none { IfNone result ((bytes_waiting self.old ≡ []) × (self.new ≡ self.old)) }
+        ensures there { IfSome result (λ b. StandsThere self.new b) }
         ensures all { IfNone result (self.old.given ≡ length (after self.old.turns self.old.text).done) }
     {
         if self.at < self.said.len() {
+            let left = (self.said.len() - self.at) + self.rest.rest().len();
             let byte = self.said[self.at];
             self.at += 1;
             self.given += 1;
+            self.standing = said_at(self.own, left, self.form);
             self.place = place_past(self.place, &[byte]);
             return Some(byte);
         }
         if self.copied == 0 {
             return None;
         }
+        let left = self.rest.rest().len();
         match self.rest.take_byte() {
             Some(byte) => {
+                self.standing = copied_at(self.text.len(), self.own, left, self.call);
                 self.copied -= 1;
                 self.given += 1;
                 self.place = place_past(self.place, &[byte]);
@@ -130,6 +173,8 @@ impl<'a> Reader<'a> {
         ensures refused { IfErr result (λ e. IsRefusal self.old.text (bytes_given self.old) e) }
     {
         let room = 1048576 - self.done;
+        let left = self.rest.rest().len();
+        let here = copied_at(self.text.len(), self.own, left, self.call).offset;
         match look(self.alloc, &self.rest, &self.tables, may_define, room)? {
             Front::Copy(count) => {
                 self.copied = count;
@@ -143,6 +188,7 @@ impl<'a> Reader<'a> {
                 self.rest.skip(end);
                 self.done += bytes.len();
                 self.said = bytes;
+                self.form = here;
                 self.at = 0;
                 self.copied = 0;
                 self.turns += 1;
@@ -153,6 +199,8 @@ impl<'a> Reader<'a> {
                 }
                 self.refused = Some(ExpandFault::OutOfMemory);
                 self.rest.skip(end);
+                self.own = own_behind(self.own, self.rest.rest().len());
+                self.call = here;
                 self.rest.put_all(result.pieces())?;
                 self.refused = None;
                 self.copied = 0;
@@ -202,6 +250,7 @@ impl<'a> Reader<'a> {
         ensures text { self.new.text ≡ self.old.text }
         ensures bytes { bytes_given self.new ≡ bytes_given self.old ++ byte_in result }
         ensures refused { self.new.refused ≡ refusal_in result }
+        ensures there { IfOk result (λ o. IfSome o (λ b. StandsThere self.new b)) }
         ensures count { IfOk result (λ o. IfSome o (λ b. (self.new.given ≡ self.old.given + 1) × (self.old.given < 1048576))) }
         ensures whole { IfOk result (λ o. IfNone o (IsExpanded self.new.text (bytes_given self.new))) }
         ensures cause { self.old.refused ≡ None → IfErr result (λ e. IsRefusal self.new.text (bytes_given self.new) e) }

@@ -1,14 +1,16 @@
 -- What each front makes of the parts of a reader, and which refusal it is.
-use Rattle.std.proofs.Common.{◌≡◌, ◌-◌, ◌+◌, ◌<◌, ◌++◌, ◌∙◌, ap, sym, subst, ℕ, List, [], None, false, drop, arith}
+use Rattle.std.proofs.Common.{◌≡◌, ◌-◌, ◌+◌, ◌<◌, ◌++◌, ◌∙◌, ap, sym, subst, ℕ, List, [], None, false, length, take, drop, refl, arith}
 use Rattle.abel_macros.specs.Kept.{tables_of}
 use Rattle.abel_macros.specs.Rules.{move, BadDirective, Unsupported, TooLong, ExpansionLimit}
 use Rattle.abel_expand.specs.declared.fault.ExpandFault.TheVariants as fault
 use Rattle.text_rewriting.specs.declared.front.Front.{Front}
-use Rattle.text_rewriting.specs.Fronts.{IsFront}
+use Rattle.text_rewriting.specs.Fronts.{changed, IsFront}
 use Rattle.text_rewriting.specs.Marks.{DefinesNone}
 use Rattle.abel_expand.specs.Runs.{Reading, bytes_given, bytes_waiting, after, IsRefusal}
-use Rattle.abel_expand.specs.Stands.{Stands, left_to_do}
-use Rattle.abel_expand.proofs.Turning.{rest_is, copy_turn, said_turn, rewriting_turn, limit_refused, too_long, refused_as, is_refused, room}
+use Rattle.abel_expand.specs.Origins.{lesser}
+use Rattle.abel_expand.specs.Stands.{IsOwnEnd, Stands, left_to_do}
+use Rattle.abel_expand.proofs.Ending.{own_done, own_rewritten}
+use Rattle.abel_expand.proofs.Turning.{rest_is, move_is, copy_turn, said_turn, rewriting_turn, limit_refused, too_long, refused_as, is_refused, room}
 use Rattle.abel_expand.proofs.reader.Reader.act.Goals as goal
 
 pub look-requires-clause-room : goal.look-requires-clause-room
@@ -44,7 +46,7 @@ invariant_of-self c =
     let none : drop i.given (after i.turns i.text.now).done ≡ [] = ap bytes_waiting c.self.view_is ∙ c.requires.given in
     let s = c.self.invariant.1 r in
     let f = subst (λ (x : Front). IsFront (tables_of i.tables) i.rest (1048576 - i.done) (move (tables_of i.tables) i.rest) x) c.in-Copy.is c.in_ok-count.ensures in
-    (c.self.invariant.0, λ _. (copy_turn i.text.now i.turns i.given i.done i.rewritings i.tables (drop i.at i.said.items) i.copied i.rest i.place s none (1048576 - i.done) c.in-Copy.count f).0)
+    (c.self.invariant.0, λ _. (copy_turn i.text.now i.turns i.given i.done i.rewritings i.tables (drop i.at i.said.items) i.copied i.rest i.place s none (1048576 - i.done) c.in-Copy.count f).0, λ n. own_done i.text.now i.turns i.own i.rest (c.self.invariant.2 r) (tables_of i.tables) (take c.in-Copy.count i.rest) (drop c.in-Copy.count i.rest) 0 i.rest (move_is i.text.now i.turns i.given i.done i.rewritings i.tables (drop i.at i.said.items) i.copied i.rest i.place s none ∙ f.0) refl (omega arith), c.self.invariant.3, c.self.invariant.4, c.self.invariant.5, c.self.invariant.6)
 
 pub invariant_of-self-in-Said : goal.invariant_of-self-in-Said
 invariant_of-self-in-Said c =
@@ -53,7 +55,7 @@ invariant_of-self-in-Said c =
     let none : drop i.given (after i.turns i.text.now).done ≡ [] = ap bytes_waiting c.self.view_is ∙ c.requires.given in
     let s = c.self.invariant.1 r in
     let f = subst (λ (x : Front). IsFront (tables_of i.tables) i.rest (1048576 - i.done) (move (tables_of i.tables) i.rest) x) c.in-Said.is c.in_ok-count.ensures in
-    (omega arith, λ _. subst (λ (n : ℕ). Stands i.text.now (i.turns + 1) i.given (i.done + n) i.rewritings c.change_tables.new.tables c.in-Said.bytes.items 0 c.skip.new.self i.place) (omega (arith, c.len.ensures)) (said_turn i.text.now i.turns i.given i.done i.rewritings i.tables (drop i.at i.said.items) i.copied i.rest i.place s none c.change_tables.new.tables (1048576 - i.done) c.in-Said.change c.in-Said.bytes c.in-Said.end c.skip.new.self f c.in_ok-change_tables-in-Said.ensures c.skip.ensures).0)
+    (omega arith, λ _. subst (λ (n : ℕ). Stands i.text.now (i.turns + 1) i.given (i.done + n) i.rewritings c.change_tables.new.tables c.in-Said.bytes.items 0 c.skip.new.self i.place) (omega (arith, c.len.ensures)) (said_turn i.text.now i.turns i.given i.done i.rewritings i.tables (drop i.at i.said.items) i.copied i.rest i.place s none c.change_tables.new.tables (1048576 - i.done) c.in-Said.change c.in-Said.bytes c.in-Said.end c.skip.new.self f c.in_ok-change_tables-in-Said.ensures c.skip.ensures).0, λ n. own_done i.text.now i.turns i.own i.rest (c.self.invariant.2 r) (changed c.in-Said.change (tables_of i.tables)) c.in-Said.bytes.items (drop c.in-Said.end i.rest) c.in-Said.end c.skip.new.self (move_is i.text.now i.turns i.given i.done i.rewritings i.tables (drop i.at i.said.items) i.copied i.rest i.place s none ∙ f.0) c.skip.ensures f.2, c.self.invariant.3, c.self.invariant.4, c.copied_at-here.ensures.within, c.self.invariant.6)
 
 pub returns-then-self-eq65536-clause-refused : goal.returns-then-self-eq65536-clause-refused
 returns-then-self-eq65536-clause-refused c =
@@ -72,7 +74,18 @@ invariant_of-self-in-Rewritten c =
     let none : drop i.given (after i.turns i.text.now).done ≡ [] = ap bytes_waiting c.self.view_is ∙ c.requires.given in
     let s = c.self.invariant.1 r in
     let f = subst (λ (x : Front). IsFront (tables_of i.tables) i.rest (1048576 - i.done) (move (tables_of i.tables) i.rest) x) c.in-Rewritten.is c.in_ok-count.ensures in
-    (c.self.invariant.0, λ _. (rewriting_turn i.text.now i.turns i.given i.done i.rewritings i.tables (drop i.at i.said.items) i.copied i.rest i.place s none c.in-Rewritten.result.text (drop c.in-Rewritten.end i.rest) f.0 c.put_all.new.self (λ e. omega (arith, e, c.if-self-eq65536.false)) (omega (arith, f.1, room i.text.now i.turns i.given i.done i.rewritings i.tables (drop i.at i.said.items) i.copied i.rest i.place s none)) (c.in_ok-put_all-in-Rewritten.ensures.ok ∙ ap (λ (w : List ℕ). w ++ c.skip-in-Rewritten.new.self) c.pieces.ensures.text ∙ ap (λ (w : List ℕ). c.in-Rewritten.result.text ++ w) c.skip-in-Rewritten.ensures)).0)
+    let whole : c.put_all.new.self ≡ c.in-Rewritten.result.text ++ drop c.in-Rewritten.end i.rest =
+    c.in_ok-put_all-in-Rewritten.ensures.ok ∙ ap (λ (w : List ℕ). w ++ c.skip-in-Rewritten.new.self) c.pieces.ensures.text ∙ ap (λ (w : List ℕ). c.in-Rewritten.result.text ++ w) c.skip-in-Rewritten.ensures in
+    let own : c.own_behind-self-inside.result ≡ lesser i.own (length (drop c.in-Rewritten.end i.rest)) = c.own_behind-self-inside.ensures ∙ ap (lesser i.own) (c.len-in-Rewritten.ensures.value ∙ ap length (c.rest-in-Rewritten.ensures ∙ c.skip-in-Rewritten.ensures)) in (
+      c.self.invariant.0,
+      λ _. (rewriting_turn i.text.now i.turns i.given i.done i.rewritings i.tables (drop i.at i.said.items) i.copied i.rest i.place s none c.in-Rewritten.result.text (drop c.in-Rewritten.end i.rest) f.0 c.put_all.new.self (λ e. omega (arith, e, c.if-self-eq65536.false)) (omega (arith, f.1, room i.text.now i.turns i.given i.done i.rewritings i.tables (drop i.at i.said.items) i.copied i.rest i.place s none)) whole).0,
+      λ n. subst (λ (m : ℕ). IsOwnEnd i.text.now (i.turns + 1) m c.put_all.new.self) (sym own)
+          (own_rewritten i.text.now i.turns i.own i.rest (c.self.invariant.2 r) c.in-Rewritten.result.text (drop c.in-Rewritten.end i.rest) c.in-Rewritten.end c.put_all.new.self (move_is i.text.now i.turns i.given i.done i.rewritings i.tables (drop i.at i.said.items) i.copied i.rest i.place s none ∙ f.0) refl f.2 whole),
+      omega (arith, own, c.self.invariant.3),
+      c.copied_at-here.ensures.within,
+      c.self.invariant.5,
+      c.self.invariant.6,
+    )
 
 pub returns-then-self-eq65536-2-clause-refused : goal.returns-then-self-eq65536-2-clause-refused
 returns-then-self-eq65536-2-clause-refused c =
