@@ -1,0 +1,6 @@
+use Rattle.std.proofs.Common.{◌≡◌, false, take}
+use Rattle.pld_order.specs.Graphs.{has}
+use Rattle.pin_matching.proofs.reaching.is_reached.Given as goal
+
+abbrev pub invariant-loop-s : goal.invariant-loop-s
+invariant-loop-s l = has (take l.s-index l.list) l.signal ≡ false

@@ -1,0 +1,8 @@
+use Rattle.std.proofs.Common.{◌≡◌, ℕ, ◌<◌, true, get_or}
+use Rattle.pld_order.specs.Graphs.{has}
+use Rattle.pin_matching.specs.Assignments.{fits}
+use Rattle.pin_matching.specs.Search.{narrowed}
+use Rattle.pin_matching.proofs.reaching.open_place.Given as goal
+
+abbrev pub invariant-loop-i : goal.invariant-loop-i
+invariant-loop-i l = (k : ℕ) → k < l.i → (p : ℕ) → fits (narrowed l.wishes l.fixed) (get_or l.reached k 0) p ≡ true → has l.pins p ≡ true
