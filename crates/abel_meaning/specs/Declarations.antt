@@ -78,10 +78,20 @@ given_names (item ∷ items) =
 abbrev pub entry : (name : List ℕ) → Place → Kind → Words → Entry
 entry name place kind words = record { name = name; place = place; kind = kind; words = words; assigned = false }
 
--- pins by their numbers
+-- a pin that was given no number has the number 0
+abbrev pub is_unnumbered : Kind → Bool
+is_unnumbered (APin pin negated) = pin == 0
+is_unnumbered _ = false
+
+-- each pin has a number
+abbrev pub are_numbered : List Entry → Bool
+are_numbered es = not (list_any (λ (e : Entry). is_unnumbered e.kind) es)
+
+-- pins by their numbers, those past the last number with the number 0
 abbrev pub pin_entries : Words → List GivenName → List ℕ → List Entry
-pin_entries words names numbers =
-    map (λ (x : GivenName × ℕ). entry x.0.name x.0.place (APin x.1 x.0.negated) words) (zip names numbers)
+pin_entries words [] numbers = []
+pin_entries words (x ∷ xs) [] = entry x.name x.place (APin 0 x.negated) words ∷ pin_entries words xs []
+pin_entries words (x ∷ xs) (n ∷ numbers) = entry x.name x.place (APin n x.negated) words ∷ pin_entries words xs numbers
 
 -- nodes by their order, the first with this number
 abbrev pub node_entries : Words → (number : ℕ) → List GivenName → List Entry
