@@ -1,5 +1,5 @@
 -- Pins that no name may have, and counts that differ: sources as trees, and what a second implementation of the language answers.
-use Rattle.std.proofs.Common.{◌≡◌, Some, [], ◌∷◌, refl}
+use Rattle.std.proofs.Common.{◌≡◌, Some, None, [], ◌∷◌, refl}
 use Rattle.std.specs.Prelude.{codes}
 use Rattle.std.specs.Fmt.{digits}
 use Rattle.abel_tree.specs.FirstRefusal.{is_before}
@@ -108,7 +108,7 @@ e11 = refl
 pub e12 : first_name_refusal pal16l8
     (module_of (ADevice (word 1 10 "d") (word 1 19 "'P16L8'") ∷ SomePins (item 2 1 "a" ∷ item 2 3 "b" ∷ []) []
     [] ∷ []) [])
-    ≡ Some (fault.BadPin (at 2 1) (codes "a"))
+    ≡ None
 unfolding is_before digits
 e12 = refl
 

@@ -1,5 +1,5 @@
 -- The steps of declarations are what is refused of them, and what they declare.
-use Rattle.std.proofs.Common.{◌≡◌, cond, Bool, true, false, ◌||◌, List, [], ◌∷◌, ◌++◌, fold, map, zip, filter, drop, length, if◌then◌else◌, refl, sym, ap, ap₂, subst, ◌∙◌, append_assoc}
+use Rattle.std.proofs.Common.{◌≡◌, ℕ, cond, Bool, true, false, ◌||◌, List, [], ◌∷◌, ◌++◌, fold, map, zip, filter, drop, length, if◌then◌else◌, refl, sym, ap, ap₂, subst, ◌∙◌, append_assoc}
 use Rattle.std.specs.List.{list_any}
 use Rattle.std.proofs.lemmas.List.{append-nil, length-map}
 use Rattle.std.proofs.lemmas.List.Sums.{fold-append}
@@ -12,20 +12,20 @@ use Rattle.abel_tree.specs.Entries.{ADeviceName, Entry, is_signal, names_any, pa
 use Rattle.abel_tree.specs.Ranges.{numbers_of}
 use Rattle.abel_tree.specs.Tree.{Tree, Declaration, ADevice, SomePins, SomeNodes, SomeAttributes, SomeConstants, SomeOptions, DontCareFor, SectionTree, Declarations, Equations, ATable, ADiagram, SomeVectors, DontCareSection, ModuleTree}
 use Rattle.abel_tree.specs.Uses.{Use, all_uses, section_uses}
-use Rattle.abel_meaning.specs.Declarations.{GivenName, given_names, entry, no_words, all_said, pin_entries, node_entries, constant_entries, node_count, with_words, section_declarations}
+use Rattle.abel_meaning.specs.Declarations.{GivenName, given_names, entry, no_words, all_said, pin_entries, node_entries, constant_entries, node_count, with_words, declared, section_declarations}
 use Rattle.decls.specs.declared.fault.NameFault.{NameFault}
 use Rattle.decls.specs.declared.fault.NameFault.TheVariants as fault
 use Rattle.decls.specs.AllDeclarations.{all_declarations}
 use Rattle.decls.specs.Attributes.{strings_refused}
-use Rattle.decls.specs.NamesBefore.{names_behind, with_declaration, added, words_of_names, without_number}
+use Rattle.decls.specs.NamesBefore.{names_behind, added, words_of_names}
 use Rattle.decls.specs.NameRefusals.{sections_refused, buffered, all_buffered}
-use Rattle.decls.specs.Refused.{refused_if, name_refused, names_refused, ranges_refused, counts_refused, counts_differ, has_numbers, items_refused, is_device, parts_refused, declaration_refused, declarations_refused, uses_refused}
+use Rattle.decls.specs.Refused.{refused_if, name_refused, names_refused, ranges_refused, counts_refused, counts_differ, has_numbers, items_refused, is_device, given_count, parts_refused, declaration_refused, declarations_refused, uses_refused}
 use Rattle.decls.specs.Steps.{Progress, nothing, refuse_if, refuse_all, used, entered, device_entered}
 use Rattle.decls.specs.Walked.{pin_step, node_step, with_numbers, new_checked, signals_among, signals_wait, items_checked, declaration_step, section_step, module_steps}
 use Rattle.decls.proofs.Folded.{any_append}
 use Rattle.decls.proofs.FirstNames.{names_first, items_first, words_first}
 use Rattle.decls.proofs.Goes.{Reached, Goes, followed, stays, refuses, plain_goes, uses_go}
-use Rattle.decls.proofs.ManyGo.{pins_list, pins_same, pins_go, nodes_go, constants_go}
+use Rattle.decls.proofs.ManyGo.{pins_go, nodes_go, constants_go}
 use Rattle.decls.proofs.Telling.{AreOnce, once_first, kind_told, told_progress, first_told, count_told, taken_told}
 
 -- behind these declarations all is as their definitions say
@@ -41,8 +41,12 @@ pub record Moves (t : Table) (ds : List Declaration) (d : Declaration) (s n : Pr
   pub device : n.device ≡ (list_any is_device ds || is_device d)
   pub waiting : n.waiting ≡ s.waiting ++ buffered (names_behind ds) d
 
-behind_push : (ds : List Declaration) (d : Declaration) → names_behind (ds ++ d ∷ []) ≡ with_declaration (names_behind ds) d
-behind_push ds d = fold-append with_declaration [] ds (d ∷ [])
+behind_push : (ds : List Declaration) (d : Declaration) → names_behind (ds ++ d ∷ []) ≡ declared (names_behind ds) d
+behind_push ds d = fold-append declared [] ds (d ∷ [])
+
+-- the names that a declaration adds
+pub added_is : (es : List Entry) (d : Declaration) (new : List Entry) → declared es d ≡ es ++ new → added es d ≡ new
+added_is es d new e = ap (drop (length es)) e ∙ drop-append_seam es new
 
 or_false : (a : Bool) → a ≡ (a || false)
 or_false true = refl
@@ -60,16 +64,15 @@ module _ (t : Table) (ds : List Declaration) (s : Progress) (b : Behind t ds s) 
   abbrev es : List Entry
   es = names_behind ds
 
-  -- parts, and then names
-  move : (d : Declaration) (n : Progress) (new : List Entry) → with_declaration (names_behind ds) d ≡ names_behind ds ++ new → Reached t (names_behind ds ++ new) n → n.faults ≡ s.faults ++ (parts_refused ds (names_behind ds) d ++ names_refused t (names_behind ds) new) → n.device ≡ (list_any is_device ds || is_device d) → n.waiting ≡ s.waiting ++ buffered (names_behind ds) d → Moves t ds d s n
-  move d n new e r f dev w =
-      let a : added (names_behind ds) d ≡ new = ap (drop (length (names_behind ds))) e ∙ drop-append_seam (names_behind ds) new in
-      record {
-        reached = subst (λ l. Reached t l n) (sym (behind_push ds d ∙ e)) r;
-        faults = f ∙ ap (λ l. s.faults ++ (parts_refused ds (names_behind ds) d ++ names_refused t (names_behind ds) l)) (sym a);
-        device = dev;
-        waiting = w;
-      }
+  -- parts, and then names, so many of which have numbers
+  move : (d : Declaration) (n : Progress) (given : ℕ) (new : List Entry) → given_count (names_behind ds) d ≡ given → declared (names_behind ds) d ≡ names_behind ds ++ new → Reached t (names_behind ds ++ new) n
+      → n.faults ≡ s.faults ++ (parts_refused ds (names_behind ds) d ++ names_refused t (names_behind ds) given new) → n.device ≡ (list_any is_device ds || is_device d) → n.waiting ≡ s.waiting ++ buffered (names_behind ds) d → Moves t ds d s n
+  move d n given new c e r f dev w = record {
+    reached = subst (λ l. Reached t l n) (sym (behind_push ds d ∙ e)) r;
+    faults = f ∙ ap₂ (λ k l. s.faults ++ (parts_refused ds (names_behind ds) d ++ names_refused t (names_behind ds) k l)) (sym c) (sym (added_is (names_behind ds) d new e));
+    device = dev;
+    waiting = w;
+  }
 
   checked_goes : (wrong : Bool) (names : List Item) (attributes : List Word) → Goes t s (ranges_refused names ++ (counts_refused wrong names ++ strings_refused (no_words ∷ []) no_words attributes)) es (new_checked wrong names attributes s)
   checked_goes wrong names attributes =
@@ -96,11 +99,11 @@ module _ (t : Table) (ds : List Declaration) (s : Progress) (b : Behind t ds s) 
       let r1 : Reached t es s1 = record { entries = b.reached.entries; nodes = b.reached.nodes; taken = b.reached.taken } in
       let g1 = counted s.device name s1 r1 in
       let g2 = plain_goes t es (refuse_if s.device f s1) g1.reached name.text name.place no_words in
-      let g : Goes t s1 (refused_if s.device f ++ name_refused t es e) (es ++ e ∷ []) (device_entered name s) =
-      subst (λ m. Goes t s1 (refused_if s.device f ++ name_refused t es e) (es ++ e ∷ []) (entered name.text name.place ADeviceName no_words m)) (sym (counted_same s.device name))
-      (followed t s1 (refuse_if s.device f s1) (entered name.text name.place ADeviceName no_words (refuse_if s.device f s1)) (refused_if s.device f) (name_refused t es e) es (es ++ e ∷ []) g1 g2) in
-      move (ADevice name text) (device_entered name s) (e ∷ []) (append-nil (es ++ e ∷ [])) g.reached
-      (g.faults ∙ ap₂ (λ c l. s.faults ++ (refused_if c f ++ l)) b.device (sym (append-nil (name_refused t es e))))
+      let g : Goes t s1 (refused_if s.device f ++ name_refused t es true e) (es ++ e ∷ []) (device_entered name s) =
+      subst (λ m. Goes t s1 (refused_if s.device f ++ name_refused t es true e) (es ++ e ∷ []) (entered name.text name.place ADeviceName no_words m)) (sym (counted_same s.device name))
+      (followed t s1 (refuse_if s.device f s1) (entered name.text name.place ADeviceName no_words (refuse_if s.device f s1)) (refused_if s.device f) (name_refused t es true e) es (es ++ e ∷ []) g1 g2) in
+      move (ADevice name text) (device_entered name s) 1 (e ∷ []) (ap length (added_is es (ADevice name text) (e ∷ []) refl)) refl g.reached
+      (g.faults ∙ ap₂ (λ c l. s.faults ++ (refused_if c f ++ l)) b.device (sym (append-nil (name_refused t es true e))))
       (g.device ∙ or_true (list_any is_device ds))
       (g.waiting ∙ sym (append-nil s.waiting))
     where
@@ -121,10 +124,10 @@ module _ (t : Table) (ds : List Declaration) (s : Progress) (b : Behind t ds s) 
       let m = new_checked (counts_differ names numbers) names attributes s in
       let g1 = checked_goes (counts_differ names numbers) names attributes in
       let n = fold (pin_step t w) m (with_numbers xs ns) in
-      let g = followed t s m n (parts_refused ds es d) (names_refused t es (pins_list w xs ns)) es (es ++ pins_list w xs ns) g1 (pins_go t w xs ns es m g1.reached) in
-      move d (declaration_step t s d) (pins_list w xs ns)
-      (append_assoc es (pin_entries w xs ns) (map without_number (drop (length ns) xs)) ∙ ap (λ l. es ++ l) (pins_same w xs ns))
-      (waits (es ++ pins_list w xs ns) n (n.waiting ++ (if w.buffer then xs else [])) g.reached)
+      let new = pin_entries w xs ns in
+      let g = followed t s m n (parts_refused ds es d) (names_refused t es (length ns) new) es (es ++ new) g1 (pins_go t w xs ns es m g1.reached) in
+      move d (declaration_step t s d) (length ns) new refl refl
+      (waits (es ++ new) n (n.waiting ++ (if w.buffer then xs else [])) g.reached)
       g.faults
       (no_device d (declaration_step t s d) refl g.device)
       (ap (λ l. l ++ (if w.buffer then xs else [])) g.waiting)
@@ -138,8 +141,8 @@ module _ (t : Table) (ds : List Declaration) (s : Progress) (b : Behind t ds s) 
       let m = new_checked (has_numbers numbers) names attributes s in
       let g1 = checked_goes (has_numbers numbers) names attributes in
       let n = fold (node_step w) m xs in
-      let g = followed t s m n (parts_refused ds es d) (names_refused t es new) es (es ++ new) g1 (nodes_go t w xs (node_count es) es m g1.reached (sym g1.reached.nodes)) in
-      move d (declaration_step t s d) new (append-nil (es ++ new))
+      let g = followed t s m n (parts_refused ds es d) (names_refused t es (length new) new) es (es ++ new) g1 (nodes_go t w xs (node_count es) es m g1.reached (sym g1.reached.nodes)) in
+      move d (declaration_step t s d) (length new) new (ap length (added_is es d new refl)) refl
       (waits (es ++ new) n (n.waiting ++ (if w.buffer then xs else [])) g.reached)
       g.faults
       (no_device d (declaration_step t s d) refl g.device)
@@ -151,12 +154,13 @@ module _ (t : Table) (ds : List Declaration) (s : Progress) (b : Behind t ds s) 
       let d = SomeConstants names values in
       let m = fold used s (all_uses values) in
       let g1 = uses_go t es s (all_uses values) b.reached in
-      let g = followed t s m (declaration_step t s d) (parts_refused ds es d) (names_refused t es new) es (es ++ new) g1 (constants_go t (zip names values) es m g1.reached) in
-      move d (declaration_step t s d) new (append-nil (es ++ new)) g.reached g.faults (no_device d (declaration_step t s d) refl g.device) (g.waiting ∙ sym (append-nil s.waiting))
+      let g = followed t s m (declaration_step t s d) (parts_refused ds es d) (names_refused t es (length new) new) es (es ++ new) g1 (constants_go t (zip names values) es m g1.reached) in
+      move d (declaration_step t s d) (length new) new (ap length (added_is es d new refl)) refl g.reached g.faults (no_device d (declaration_step t s d) refl g.device) (g.waiting ∙ sym (append-nil s.waiting))
 
-  idle_moves : (d : Declaration) → with_declaration es d ≡ es ++ [] → parts_refused ds es d ≡ [] → is_device d ≡ false → buffered es d ≡ [] → Moves t ds d s s
-  idle_moves d e p i w =
-      move d s [] e (subst (λ l. Reached t l s) (sym (append-nil es)) b.reached)
+  idle_moves : (d : Declaration) → declared es d ≡ es → given_count es d ≡ length (added es d) → parts_refused ds es d ≡ [] → is_device d ≡ false → buffered es d ≡ [] → Moves t ds d s s
+  idle_moves d e c p i w =
+      let none : declared es d ≡ es ++ [] = e ∙ sym (append-nil es) in
+      move d s 0 [] (c ∙ ap length (added_is es d [] none)) none (subst (λ l. Reached t l s) (sym (append-nil es)) b.reached)
       (sym (append-nil s.faults) ∙ ap (λ l. s.faults ++ (l ++ [])) (sym p))
       (no_device d s i refl)
       (sym (append-nil s.waiting) ∙ ap (λ l. s.waiting ++ l) (sym w))
@@ -177,7 +181,7 @@ module _ (t : Table) (ds : List Declaration) (s : Progress) (b : Behind t ds s) 
   nothing_added names attributes =
       let f = with_words (given_names names) (all_said attributes) in
       let n : length es ≡ length (map f es) = sym (length-map es f) in
-      ap (λ k. drop k (map f es ++ [])) n ∙ drop-append_seam (map f es) []
+      ap (λ k. drop k (map f es)) n ∙ (ap (drop (length (map f es))) (sym (append-nil (map f es))) ∙ drop-append_seam (map f es) [])
 
   attributes_moves : (names : List Item) (attributes : List Word) → Moves t ds (SomeAttributes names attributes) s (declaration_step t s (SomeAttributes names attributes))
   attributes_moves names attributes =
@@ -199,8 +203,8 @@ module _ (t : Table) (ds : List Declaration) (s : Progress) (b : Behind t ds s) 
       (λ (x : GivenName). ap (passes is_signal) (kind_told xs w m.entries x.name) ∙ (ap (λ l. names_any is_signal l x.name) g.reached.entries ∙ names_first is_signal es x.name)) in
       subst (λ p. Moves t ds d s (signals_wait w.buffer xs p)) (sym told)
       (record {
-        reached = subst (λ l. Reached t l (signals_wait w.buffer xs n)) (sym (behind_push ds d ∙ append-nil (map f es))) (record { entries = r.entries; nodes = r.nodes; taken = r.taken });
-        faults = g.faults ∙ ap (λ l. s.faults ++ l) (sym (append-nil (parts_refused ds es d)) ∙ ap (λ l. parts_refused ds es d ++ names_refused t es l) (sym (nothing_added names attributes)));
+        reached = subst (λ l. Reached t l (signals_wait w.buffer xs n)) (sym (behind_push ds d)) (record { entries = r.entries; nodes = r.nodes; taken = r.taken });
+        faults = g.faults ∙ ap (λ l. s.faults ++ l) (sym (append-nil (parts_refused ds es d)) ∙ ap (λ l. parts_refused ds es d ++ names_refused t es (length l) l) (sym (nothing_added names attributes)));
         device = no_device d (signals_wait w.buffer xs n) refl g.device;
         waiting = ap₂ (λ l k. l ++ (if w.buffer then k else [])) g.waiting among;
       })
@@ -211,8 +215,8 @@ module _ (t : Table) (ds : List Declaration) (s : Progress) (b : Behind t ds s) 
   declaration_moves (SomeNodes names numbers attributes) = nodes_moves names numbers attributes
   declaration_moves (SomeAttributes names attributes) = attributes_moves names attributes
   declaration_moves (SomeConstants names values) = constants_moves names values
-  declaration_moves (SomeOptions words) = idle_moves (SomeOptions words) refl refl refl refl
-  declaration_moves (DontCareFor directive) = idle_moves (DontCareFor directive) refl refl refl refl
+  declaration_moves (SomeOptions words) = idle_moves (SomeOptions words) refl refl refl refl refl
+  declaration_moves (DontCareFor directive) = idle_moves (DontCareFor directive) refl refl refl refl refl
 
 -- ---- all declarations
 

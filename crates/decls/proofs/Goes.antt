@@ -107,8 +107,8 @@ module _ (t : Table) (es : List Entry) (s : Progress) where
       (entered_by (entry name p k w) fs m (is_some (kind_of m.entries name)) c refl)
 
   module _ (r : Reached t es s) where
-    -- a constant, a device, a name without a number
-    pub constant_goes : (name : List ℕ) (p : Place) (v : Tree) (w : Words) → Goes t s (name_refused t es (entry name p (AConstant v) w)) (es ++ entry name p (AConstant v) w ∷ []) (entered name p (AConstant v) w s)
+    -- a constant, a device
+    pub constant_goes : (name : List ℕ) (p : Place) (v : Tree) (w : Words) → Goes t s (name_refused t es true (entry name p (AConstant v) w)) (es ++ entry name p (AConstant v) w ∷ []) (entered name p (AConstant v) w s)
     constant_goes name p v w =
         entered_goes name p (AConstant v) w [] s (record {
           entries = r.entries;
@@ -119,7 +119,7 @@ module _ (t : Table) (es : List Entry) (s : Progress) where
           waiting = refl;
         })
 
-    pub plain_goes : (name : List ℕ) (p : Place) (w : Words) → Goes t s (name_refused t es (entry name p ADeviceName w)) (es ++ entry name p ADeviceName w ∷ []) (entered name p ADeviceName w s)
+    pub plain_goes : (name : List ℕ) (p : Place) (w : Words) → Goes t s (name_refused t es true (entry name p ADeviceName w)) (es ++ entry name p ADeviceName w ∷ []) (entered name p ADeviceName w s)
     plain_goes name p w =
         entered_goes name p ADeviceName w [] s (record {
           entries = r.entries;
@@ -179,11 +179,29 @@ module _ (t : Table) (es : List Entry) (s : Progress) where
     as_taken x n true b c f = ap (λ y. refused_if y (fault.PinTaken x.place x.name)) (f refl)
     as_taken x n false b c f = refl
 
-    pub pin_goes : (x : GivenName) (n : ℕ) (w : Words) → Goes t s (name_refused t es (entry x.name x.place (APin n x.negated) w)) (es ++ entry x.name x.place (APin n x.negated) w ∷ []) (pin_entered t w x n s)
+    pub pin_goes : (x : GivenName) (n : ℕ) (w : Words) → Goes t s (name_refused t es true (entry x.name x.place (APin n x.negated) w)) (es ++ entry x.name x.place (APin n x.negated) w ∷ []) (pin_entered t w x n s)
     pin_goes x n w =
         subst (λ fs. Goes t s (fs ++ refused_if (is_some (kind_of es x.name)) (fault.Redeclared x.place x.name)) (es ++ entry x.name x.place (APin n x.negated) w ∷ []) (pin_entered t w x n s))
         (as_taken x n (is_signal_pin t n) (list_any (λ k. k == n) s.taken) (is_taken es n) (r.taken n))
         (entered_goes x.name x.place (APin n x.negated) w _ (on_pin t x.place x.name n s) (pin_counted x n w (is_signal_pin t n) (list_any (λ k. k == n) s.taken) refl refl))
+
+    -- a pin without a number
+    not_zero : (k : ℕ) → is_signal_pin t k ≡ true → (0 == k) ≡ true → is_taken es k ≡ true
+    not_zero k h e = absurd (let bad : false ≡ true = ap (is_signal_pin t) (same_number 0 k e) ∙ h in cc)
+
+    pub unnumbered_goes : (x : GivenName) (w : Words) → Goes t s (name_refused t es false (entry x.name x.place (APin 0 x.negated) w)) (es ++ entry x.name x.place (APin 0 x.negated) w ∷ []) (entered x.name x.place (APin 0 x.negated) w s)
+    unnumbered_goes x w =
+        entered_goes x.name x.place (APin 0 x.negated) w [] s (record {
+          entries = r.entries;
+          nodes = r.nodes ∙ (same_count (node_count es) ∙ sym (count_append es (entry x.name x.place (APin 0 x.negated) w ∷ [])));
+          taken = λ k h.
+              r.taken k h
+              ∙ (covers (is_taken es k) (0 == k) (not_zero k h)
+              ∙ sym (any_append (λ (e : Entry). is_on_pin k e.kind) es (entry x.name x.place (APin 0 x.negated) w ∷ [])));
+          faults = sym (append-nil s.faults);
+          device = refl;
+          waiting = refl;
+        })
 
     -- a node
     node_by : (x : GivenName) (w : Words) (b : Bool) → Counted (entry x.name x.place (ANode s.nodes) w) (refused_if b (fault.TooManyNodes x.place x.name)) (refuse_if b (fault.TooManyNodes x.place x.name) (record s { nodes = suc s.nodes }))
@@ -204,7 +222,7 @@ module _ (t : Table) (es : List Entry) (s : Progress) where
       waiting = refl;
     }
 
-    pub node_goes : (x : GivenName) (w : Words) → Goes t s (name_refused t es (entry x.name x.place (ANode s.nodes) w)) (es ++ entry x.name x.place (ANode s.nodes) w ∷ []) (node_entered w x s)
+    pub node_goes : (x : GivenName) (w : Words) → Goes t s (name_refused t es true (entry x.name x.place (ANode s.nodes) w)) (es ++ entry x.name x.place (ANode s.nodes) w ∷ []) (node_entered w x s)
     node_goes x w = entered_goes x.name x.place (ANode s.nodes) w (refused_if (nat_le 128 s.nodes) (fault.TooManyNodes x.place x.name)) (node_counted x.place x.name s) (node_by x w (nat_le 128 s.nodes))
 
 -- ---- uses

@@ -1,60 +1,46 @@
 -- Names one after the other.
-use Rattle.std.proofs.Common.{◌≡◌, ℕ, suc, ◌+◌, Some, None, List, [], ◌∷◌, ◌++◌, fold, map, drop, length, refl, sym, ap, subst, ◌∙◌, append_assoc, arith}
+use Rattle.std.proofs.Common.{◌≡◌, ℕ, suc, ◌+◌, Bool, true, false, Some, None, List, [], ◌∷◌, ◌++◌, fold, length, sym, ap, subst, ◌∙◌, append_assoc, arith}
 use Rattle.std.proofs.lemmas.List.{append-nil}
 use Rattle.pld_device.specs.Table.{Table}
 use Rattle.abel_tree.specs.declared.words.Word.{Word}
 use Rattle.abel_tree.specs.Entries.{APin, ANode, AConstant, Words, Entry}
 use Rattle.abel_tree.specs.Tree.{Tree}
 use Rattle.abel_meaning.specs.Declarations.{GivenName, entry, pin_entries, node_entries, constant_entries, no_words, node_count}
-use Rattle.decls.specs.NamesBefore.{without_number}
 use Rattle.decls.specs.Refused.{name_refused, names_refused}
 use Rattle.decls.specs.Steps.{Progress}
 use Rattle.decls.specs.Walked.{pin_step, node_step, constant_step, with_numbers}
-use Rattle.decls.proofs.Goes.{Reached, Goes, followed, stays, count_append, pin_goes, plain_goes, node_goes, constant_goes}
+use Rattle.decls.proofs.Goes.{Reached, Goes, followed, stays, count_append, pin_goes, unnumbered_goes, node_goes, constant_goes}
 
 -- one name and then the others
-first_then : (t : Table) (es : List Entry) (e : Entry) (xs : List Entry) (s m n : Progress) → Goes t s (name_refused t es e) (es ++ e ∷ []) m → Goes t m (names_refused t (es ++ e ∷ []) xs) ((es ++ e ∷ []) ++ xs) n → Goes t s (names_refused t es (e ∷ xs)) (es ++ e ∷ xs) n
-first_then t es e xs s m n g h =
-    subst (λ l. Goes t s (names_refused t es (e ∷ xs)) l n) (append_assoc es (e ∷ []) xs)
-    (followed t s m n (name_refused t es e) (names_refused t (es ++ e ∷ []) xs) (es ++ e ∷ []) ((es ++ e ∷ []) ++ xs) g h)
+first_then : (t : Table) (es : List Entry) (given : Bool) (e : Entry) (more : ℕ) (xs : List Entry) (s m n : Progress) → Goes t s (name_refused t es given e) (es ++ e ∷ []) m → Goes t m (names_refused t (es ++ e ∷ []) more xs) ((es ++ e ∷ []) ++ xs) n → Goes t s (name_refused t es given e ++ names_refused t (es ++ e ∷ []) more xs) (es ++ e ∷ xs) n
+first_then t es given e more xs s m n g h =
+    subst (λ l. Goes t s (name_refused t es given e ++ names_refused t (es ++ e ∷ []) more xs) l n) (append_assoc es (e ∷ []) xs)
+    (followed t s m n (name_refused t es given e) (names_refused t (es ++ e ∷ []) more xs) (es ++ e ∷ []) ((es ++ e ∷ []) ++ xs) g h)
 
 no_names : (t : Table) (es : List Entry) (s : Progress) → Reached t es s → Goes t s [] (es ++ []) s
 no_names t es s r = subst (λ l. Goes t s [] l s) (sym (append-nil es)) (stays t s es r)
 
 -- ---- pins
 
-abbrev pub pins_list : Words → List GivenName → List ℕ → List Entry
-pins_list w [] ns = []
-pins_list w (x ∷ xs) [] = without_number x ∷ pins_list w xs []
-pins_list w (x ∷ xs) (n ∷ ns) = entry x.name x.place (APin n x.negated) w ∷ pins_list w xs ns
-
-pub pins_same : (w : Words) (xs : List GivenName) (ns : List ℕ) → pin_entries w xs ns ++ map without_number (drop (length ns) xs) ≡ pins_list w xs ns
-pins_same w [] [] = refl
-pins_same w [] (n ∷ ns) = refl
-pins_same w (x ∷ xs) [] = ap (λ l. without_number x ∷ l) (rest w xs)
-  where
-    rest : (v : Words) (ys : List GivenName) → map without_number ys ≡ pins_list v ys []
-    rest v [] = refl
-    rest v (y ∷ ys) = ap (λ l. without_number y ∷ l) (rest v ys)
-pins_same w (x ∷ xs) (n ∷ ns) = ap (λ l. entry x.name x.place (APin n x.negated) w ∷ l) (pins_same w xs ns)
-
-pub pins_go : (t : Table) (w : Words) (xs : List GivenName) (ns : List ℕ) (es : List Entry) (s : Progress) → Reached t es s → Goes t s (names_refused t es (pins_list w xs ns)) (es ++ pins_list w xs ns) (fold (pin_step t w) s (with_numbers xs ns))
+pub pins_go : (t : Table) (w : Words) (xs : List GivenName) (ns : List ℕ) (es : List Entry) (s : Progress) → Reached t es s → Goes t s (names_refused t es (length ns) (pin_entries w xs ns)) (es ++ pin_entries w xs ns) (fold (pin_step t w) s (with_numbers xs ns))
 pins_go t w [] ns es s r = no_names t es s r
 pins_go t w (x ∷ xs) [] es s r =
-    let g = plain_goes t es s r x.name x.place no_words in
-    first_then t es (without_number x) (pins_list w xs []) s (pin_step t w s (x, None)) _ g (pins_go t w xs [] (es ++ without_number x ∷ []) (pin_step t w s (x, None)) g.reached)
+    let g = unnumbered_goes t es s r x w in
+    first_then t es false (entry x.name x.place (APin 0 x.negated) w) 0 (pin_entries w xs []) s (pin_step t w s (x, None)) _ g
+    (pins_go t w xs [] (es ++ entry x.name x.place (APin 0 x.negated) w ∷ []) (pin_step t w s (x, None)) g.reached)
 pins_go t w (x ∷ xs) (n ∷ ns) es s r =
     let g = pin_goes t es s r x n w in
-    first_then t es (entry x.name x.place (APin n x.negated) w) (pins_list w xs ns) s (pin_step t w s (x, Some n)) _ g (pins_go t w xs ns (es ++ entry x.name x.place (APin n x.negated) w ∷ []) (pin_step t w s (x, Some n)) g.reached)
+    first_then t es true (entry x.name x.place (APin n x.negated) w) (length ns) (pin_entries w xs ns) s (pin_step t w s (x, Some n)) _ g
+    (pins_go t w xs ns (es ++ entry x.name x.place (APin n x.negated) w ∷ []) (pin_step t w s (x, Some n)) g.reached)
 
 -- ---- nodes
 
-pub nodes_go : (t : Table) (w : Words) (xs : List GivenName) (k : ℕ) (es : List Entry) (s : Progress) → Reached t es s → k ≡ s.nodes → Goes t s (names_refused t es (node_entries w k xs)) (es ++ node_entries w k xs) (fold (node_step w) s xs)
+pub nodes_go : (t : Table) (w : Words) (xs : List GivenName) (k : ℕ) (es : List Entry) (s : Progress) → Reached t es s → k ≡ s.nodes → Goes t s (names_refused t es (length (node_entries w k xs)) (node_entries w k xs)) (es ++ node_entries w k xs) (fold (node_step w) s xs)
 nodes_go t w [] k es s r e = no_names t es s r
 nodes_go t w (x ∷ xs) k es s r e =
-    subst (λ j. Goes t s (names_refused t es (node_entries w j (x ∷ xs))) (es ++ node_entries w j (x ∷ xs)) (fold (node_step w) s (x ∷ xs))) (sym e)
+    subst (λ j. Goes t s (names_refused t es (length (node_entries w j (x ∷ xs))) (node_entries w j (x ∷ xs))) (es ++ node_entries w j (x ∷ xs)) (fold (node_step w) s (x ∷ xs))) (sym e)
     (let g = node_goes t es s r x w in
-    first_then t es (entry x.name x.place (ANode s.nodes) w) (node_entries w (suc s.nodes) xs) s (node_step w s x) _ g
+    first_then t es true (entry x.name x.place (ANode s.nodes) w) (length (node_entries w (suc s.nodes) xs)) (node_entries w (suc s.nodes) xs) s (node_step w s x) _ g
     (nodes_go t w xs (suc s.nodes) (es ++ entry x.name x.place (ANode s.nodes) w ∷ []) (node_step w s x) g.reached (counted g.reached)))
   where
     one_more : (n : ℕ) → suc n ≡ n + 1
@@ -65,8 +51,9 @@ nodes_go t w (x ∷ xs) k es s r e =
 
 -- ---- constants
 
-pub constants_go : (t : Table) (ps : List (Word × Tree)) (es : List Entry) (s : Progress) → Reached t es s → Goes t s (names_refused t es (constant_entries ps)) (es ++ constant_entries ps) (fold constant_step s ps)
+pub constants_go : (t : Table) (ps : List (Word × Tree)) (es : List Entry) (s : Progress) → Reached t es s → Goes t s (names_refused t es (length (constant_entries ps)) (constant_entries ps)) (es ++ constant_entries ps) (fold constant_step s ps)
 constants_go t [] es s r = no_names t es s r
 constants_go t (p ∷ ps) es s r =
     let g = constant_goes t es s r p.0.text p.0.place p.1 no_words in
-    first_then t es (entry p.0.text p.0.place (AConstant p.1) no_words) (constant_entries ps) s (constant_step s p) _ g (constants_go t ps (es ++ entry p.0.text p.0.place (AConstant p.1) no_words ∷ []) (constant_step s p) g.reached)
+    first_then t es true (entry p.0.text p.0.place (AConstant p.1) no_words) (length (constant_entries ps)) (constant_entries ps) s (constant_step s p) _ g
+    (constants_go t ps (es ++ entry p.0.text p.0.place (AConstant p.1) no_words ∷ []) (constant_step s p) g.reached)

@@ -1,32 +1,17 @@
 -- The names that stand before a declaration or a use (ABEL-HDL Reference Manual, declarations).
-use Rattle.std.specs.Prelude.{ℕ, ◌==◌, Bool, false, List, [], ◌∷◌, ◌++◌, if◌then◌else◌, is_some, map, fold, drop, length, bytes_eq}
+use Rattle.std.specs.Prelude.{ℕ, ◌==◌, Bool, false, List, [], ◌∷◌, ◌++◌, if◌then◌else◌, is_some, fold, drop, length, bytes_eq}
 use Rattle.std.specs.List.{list_any}
-use Rattle.abel_tree.specs.Entries.{Kind, APin, ADeviceName, Words, Entry, kind_of}
-use Rattle.abel_tree.specs.Ranges.{numbers_of}
-use Rattle.abel_tree.specs.Tree.{Declaration, SomePins}
-use Rattle.abel_meaning.specs.Declarations.{GivenName, given_names, entry, no_words, declared}
-
--- a name that gets no number is known, but is no signal
-abbrev pub without_number : GivenName → Entry
-without_number x = entry x.name x.place ADeviceName no_words
-
--- the names of a pin declaration that get no number: it is refused elsewhere
-abbrev pub unnumbered : Declaration → List Entry
-unnumbered (SomePins names numbers attributes) =
-    map without_number (drop (length (numbers_of (length (given_names names)) numbers)) (given_names names))
-unnumbered _ = []
-
--- the names with those of one more declaration
-abbrev pub with_declaration : List Entry → Declaration → List Entry
-with_declaration es d = declared es d ++ unnumbered d
+use Rattle.abel_tree.specs.Entries.{Kind, APin, Words, Entry, kind_of}
+use Rattle.abel_tree.specs.Tree.{Declaration}
+use Rattle.abel_meaning.specs.Declarations.{GivenName, declared}
 
 -- the names behind these declarations; a name that is declared twice stands twice
 abbrev pub names_behind : List Declaration → List Entry
-names_behind ds = fold with_declaration [] ds
+names_behind ds = fold declared [] ds
 
 -- what one more declaration adds
 abbrev pub added : List Entry → Declaration → List Entry
-added es d = drop (length es) (with_declaration es d)
+added es d = drop (length es) (declared es d)
 
 -- one more name, if it is new
 abbrev pub enter : List Entry → Entry → List Entry

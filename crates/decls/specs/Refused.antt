@@ -1,6 +1,6 @@
 -- What is refused of declarations and uses, by the names before them (ABEL-HDL Reference Manual, declarations; which
 -- refusals there are, and their places, are this project's rules).
-use Rattle.std.specs.Prelude.{ℕ, ◌==◌, Bool, true, false, not, ◌&&◌, List, [], ◌∷◌, ◌++◌, if◌then◌else◌, is_some, nat_lt, nat_le, length}
+use Rattle.std.specs.Prelude.{ℕ, zero, suc, ◌==◌, Bool, true, false, not, ◌&&◌, List, [], ◌∷◌, ◌++◌, if◌then◌else◌, is_some, nat_lt, nat_le, length}
 use Rattle.std.specs.List.{list_any}
 use Rattle.pld_base.specs.declared.place.Place.{Place}
 use Rattle.pld_device.specs.Table.{Table}
@@ -8,7 +8,7 @@ use Rattle.abel_tree.specs.declared.words.Item.{Item}
 use Rattle.abel_tree.specs.declared.words.Span.{Span}
 use Rattle.abel_tree.specs.declared.words.Word.{Word}
 use Rattle.abel_tree.specs.Entries.{Kind, APin, ANode, Entry, kind_of, is_signal, is_value, names_any}
-use Rattle.abel_tree.specs.Ranges.{is_bad, item_names, ends_agree, names_between, count_numbers}
+use Rattle.abel_tree.specs.Ranges.{is_bad, item_names, ends_agree, names_between, count_numbers, numbers_of}
 use Rattle.abel_tree.specs.Tree.{Declaration, ADevice, SomePins, SomeNodes, SomeAttributes, SomeConstants, SomeOptions, DontCareFor}
 use Rattle.abel_tree.specs.Uses.{Use, OneName, Range, all_uses}
 use Rattle.abel_meaning.specs.Declarations.{given_names, no_words}
@@ -62,15 +62,17 @@ number_refused t es e (APin n negated) =
 number_refused t es e (ANode n) = refused_if (nat_le node_limit n) (fault.TooManyNodes e.place e.name)
 number_refused t es e _ = []
 
--- one name with its number
-abbrev pub name_refused : Table → List Entry → Entry → List NameFault
-name_refused t es e =
-    number_refused t es e e.kind ++ refused_if (is_some (kind_of es e.name)) (fault.Redeclared e.place e.name)
+-- one name, with its number where one is given
+abbrev pub name_refused : Table → List Entry → (given : Bool) → Entry → List NameFault
+name_refused t es given e =
+    (if given then number_refused t es e e.kind else [])
+    ++ refused_if (is_some (kind_of es e.name)) (fault.Redeclared e.place e.name)
 
--- names one after the other
-abbrev pub names_refused : Table → List Entry → List Entry → List NameFault
-names_refused t es [] = []
-names_refused t es (x ∷ xs) = name_refused t es x ++ names_refused t (es ++ x ∷ []) xs
+-- names one after the other, so many of which have numbers, the first ones
+abbrev pub names_refused : Table → List Entry → (given : ℕ) → List Entry → List NameFault
+names_refused t es given [] = []
+names_refused t es zero (x ∷ xs) = name_refused t es false x ++ names_refused t (es ++ x ∷ []) zero xs
+names_refused t es (suc given) (x ∷ xs) = name_refused t es true x ++ names_refused t (es ++ x ∷ []) given xs
 
 -- ---- declarations
 
@@ -88,14 +90,14 @@ abbrev pub counts_refused : Bool → List Item → List NameFault
 counts_refused wrong [] = []
 counts_refused wrong (i ∷ is) = refused_if wrong (fault.BadPin i.first.place (first_name i (item_names i)))
 
--- there are as many names as numbers, unless a range is bad
-abbrev pub counts_differ : List Item → List Span → Bool
-counts_differ names numbers =
-    not (list_any is_bad names) && not (length (given_names names) == count_numbers numbers)
-
 abbrev pub has_numbers : List Span → Bool
 has_numbers [] = false
 has_numbers (n ∷ ns) = true
+
+-- where there are numbers, there are as many names, unless a range is bad
+abbrev pub counts_differ : List Item → List Span → Bool
+counts_differ names numbers =
+    has_numbers numbers && not (list_any is_bad names) && not (length (given_names names) == count_numbers numbers)
 
 -- a range of an ISTYPE declaration, or a name of it, must be of signals
 abbrev pub item_refused : List Entry → Item → List NameFault
@@ -126,11 +128,16 @@ parts_refused before es (SomeConstants names values) = uses_refused es (all_uses
 parts_refused before es (SomeOptions words) = []
 parts_refused before es (DontCareFor directive) = []
 
+-- how many of the names that it makes have numbers: of pins as many as numbers are given for, of others all
+abbrev pub given_count : List Entry → Declaration → ℕ
+given_count es (SomePins names numbers attributes) = length (numbers_of (length (given_names names)) numbers)
+given_count es d = length (added es d)
+
 -- a declaration, behind these
 abbrev pub declaration_refused : Table → List Declaration → Declaration → List NameFault
 declaration_refused t before d =
     parts_refused before (names_behind before) d
-    ++ names_refused t (names_behind before) (added (names_behind before) d)
+    ++ names_refused t (names_behind before) (given_count (names_behind before) d) (added (names_behind before) d)
 
 abbrev pub declarations_refused : Table → List Declaration → List Declaration → List NameFault
 declarations_refused t before [] = []

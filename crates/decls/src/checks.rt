@@ -35,11 +35,11 @@ fn first_name(alloc: Global, item: &Item) -> Result<NameText, OutOfMemory>
     }
 }
 
-/// Whether there are fewer or more names than numbers, of which the first are counted already.
+/// Whether there are numbers, but fewer or more than names, which are counted already.
 pub(crate) fn counts_differ(names: &[Item], count: usize, numbers: &[Span]) -> bool
     ensures { count ≡ length (given_names names.now) → result ≡ counts_differ names.now numbers.now }
 {
-    !has_bad(names) && !is_count(numbers, count)
+    has_numbers(numbers) && !has_bad(names) && !is_count(numbers, count)
 }
 
 /// Whether there are numbers.

@@ -14,14 +14,14 @@ use std::alloc::Global;
 
 /// A name of a declaration.
 #[derive(Drop)]
-pub(crate) struct Given {
-    pub(crate) name: Vec<u8>,
-    pub(crate) place: Place,
-    pub(crate) negated: bool,
+pub struct Given {
+    pub name: Vec<u8>,
+    pub place: Place,
+    pub negated: bool,
 }
 
 /// The names of a declaration, ranges written out.
-pub(crate) fn given_in(alloc: Global, items: &[Item]) -> Result<Vec<Given>, OutOfMemory>
+pub fn given_in(alloc: Global, items: &[Item]) -> Result<Vec<Given>, OutOfMemory>
     ensures { IfOk result (λ gs. map view_given gs.items ≡ given_names items.now) }
 {
     let mut list = Vec::new(alloc);

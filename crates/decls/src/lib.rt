@@ -22,4 +22,5 @@ mod walk;
 
 pub use device::device_of;
 pub use fault::{NameFault, first_of};
+pub use items::{Given, given_in};
 pub use reading::{Buffered, NamesRead, read_names};
