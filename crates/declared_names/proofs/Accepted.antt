@@ -1,12 +1,8 @@
 -- Where nothing is refused of a module, its names are sound, and each name that is used is known.
-use Rattle.std.proofs.Common.{◌≡◌, true, List, [], ◌∷◌, ◌++◌, map, zip, drop, length, refl, sym, ap, ap₂, subst, ◌∙◌, append_assoc}
+use Rattle.std.proofs.Common.{◌≡◌, ℕ, true, List, [], ◌∷◌, ◌++◌, map, zip, length, refl, sym, ap, ap₂, subst, ◌∙◌, append_assoc}
 use Rattle.std.proofs.lemmas.List.{append-nil}
 use Rattle.std.proofs.lemmas.List.Sums.{fold-append}
-use Rattle.std.proofs.Math.Seq.{drop-append_seam}
 use Rattle.pld_device.specs.Table.{Table}
-use Rattle.abel_tree.specs.declared.words.Item.{Item}
-use Rattle.abel_tree.specs.declared.words.Span.{Span}
-use Rattle.abel_tree.specs.declared.words.Word.{Word}
 use Rattle.abel_tree.specs.Entries.{ADeviceName, Entry}
 use Rattle.abel_tree.specs.Ranges.{numbers_of}
 use Rattle.abel_tree.specs.SoundNames.{are_named, declaration_uses, declarations_uses, sections_uses, module_uses}
@@ -15,60 +11,53 @@ use Rattle.abel_tree.specs.Uses.{Use, all_uses, section_uses}
 use Rattle.abel_meaning.specs.Declarations.{given_names, entry, no_words, all_said, pin_entries, node_entries, constant_entries, node_count, with_words, declared, section_declarations}
 use Rattle.decls.specs.AllDeclarations.{all_declarations}
 use Rattle.decls.specs.NameRefusals.{sections_refused, read_refusals}
-use Rattle.decls.specs.NamesBefore.{names_behind, with_declaration, added, without_number}
-use Rattle.decls.specs.Refused.{names_refused, parts_refused, declaration_refused, declarations_refused, uses_refused}
-use Rattle.decls.proofs.ManyGo.{pins_list, pins_same}
-use Rattle.decls.proofs.NoRefusals.{none_left, none_right, Settled, declarations_sure}
+use Rattle.decls.specs.NamesBefore.{names_behind, added}
+use Rattle.decls.specs.Refused.{names_refused, given_count, parts_refused, declaration_refused, declarations_refused, uses_refused}
+use Rattle.decls.proofs.DeclarationsGo.{added_is}
+use Rattle.decls.proofs.NoRefusals.{none_left, none_right, Sure, RestIsUnnumbered, no_rest, pins_rest, declarations_sure}
 use Rattle.declared_names.proofs.Alike.{Extends, extends_same, extends_then, extends_append, extends_alike, alike_told, named_more}
 use Rattle.declared_names.proofs.Named.{uses_known, named_append}
 use Rattle.declared_names.proofs.SoundEntries.{AreSound, AreNamedKinds, sound_append, sound_alike, new_sound, pins_named, nodes_named, constants_named}
 
 -- ---- one declaration
 
-pub pins_added : (es : List Entry) (names : List Item) (numbers : List Span) (attributes : List Word) → with_declaration es (SomePins names numbers attributes) ≡ es ++ pins_list (all_said attributes) (given_names names) (numbers_of (length (given_names names)) numbers)
-pins_added es names numbers attributes =
-    let w = all_said attributes in
-    let xs = given_names names in
-    let ns = numbers_of (length xs) numbers in
-    append_assoc es (pin_entries w xs ns) (map without_number (drop (length ns) xs)) ∙ ap (λ l. es ++ l) (pins_same w xs ns)
-
-sound_rest : (t : Table) (es : List Entry) (d : Declaration) (new : List Entry) → with_declaration es d ≡ es ++ new → AreNamedKinds es new → AreSound t.pins [] es → names_refused t es (added es d) ≡ [] → AreSound t.pins [] (with_declaration es d)
-sound_rest t es d new e named s h =
+sound_rest : (t : Table) (es : List Entry) (d : Declaration) (given : ℕ) (new : List Entry) → given_count es d ≡ given → declared es d ≡ es ++ new → AreNamedKinds es new → RestIsUnnumbered given new → AreSound t.pins [] es → names_refused t es (given_count es d) (added es d) ≡ [] → AreSound t.pins [] (declared es d)
+sound_rest t es d given new c e named rest s h =
     subst (AreSound t.pins []) (sym e)
-    (sound_append t.pins [] es new s (new_sound t es es new (extends_same es) named (sym (ap (names_refused t es) (ap (drop (length es)) e ∙ drop-append_seam es new)) ∙ h)))
+    (sound_append t.pins [] es new s (new_sound t given es es new (extends_same es) named rest (sym (ap₂ (names_refused t es) c (added_is es d new e)) ∙ h)))
 
-pub sound_declaration : (t : Table) (before : List Declaration) (es : List Entry) (d : Declaration) → AreSound t.pins [] es → parts_refused before es d ≡ [] → names_refused t es (added es d) ≡ [] → AreSound t.pins [] (with_declaration es d)
-sound_declaration t before es (ADevice name text) s p h = sound_rest t es (ADevice name text) (entry name.text name.place ADeviceName no_words ∷ []) (append-nil (declared es (ADevice name text))) (tt, tt) s h
+-- where all have numbers
+sound_all : (t : Table) (es : List Entry) (d : Declaration) (new : List Entry) → given_count es d ≡ length (added es d) → declared es d ≡ es ++ new → AreNamedKinds es new → AreSound t.pins [] es → names_refused t es (given_count es d) (added es d) ≡ [] → AreSound t.pins [] (declared es d)
+sound_all t es d new c e named s h = sound_rest t es d (length new) new (c ∙ ap length (added_is es d new e)) e named (no_rest new) s h
+
+pub sound_declaration : (t : Table) (before : List Declaration) (es : List Entry) (d : Declaration) → AreSound t.pins [] es → parts_refused before es d ≡ [] → names_refused t es (given_count es d) (added es d) ≡ [] → AreSound t.pins [] (declared es d)
+sound_declaration t before es (ADevice name text) s p h = sound_all t es (ADevice name text) (entry name.text name.place ADeviceName no_words ∷ []) refl refl (tt, tt) s h
 sound_declaration t before es (SomePins names numbers attributes) s p h =
     let ns = numbers_of (length (given_names names)) numbers in
-    sound_rest t es (SomePins names numbers attributes) (pins_list (all_said attributes) (given_names names) ns) (pins_added es names numbers attributes) (pins_named es (all_said attributes) (given_names names) ns) s h
+    sound_rest t es (SomePins names numbers attributes) (length ns) (pin_entries (all_said attributes) (given_names names) ns) refl refl
+    (pins_named es (all_said attributes) (given_names names) ns) (pins_rest (all_said attributes) (given_names names) ns) s h
 sound_declaration t before es (SomeNodes names numbers attributes) s p h =
     let d = SomeNodes names numbers attributes in
-    sound_rest t es d (node_entries (all_said attributes) (node_count es) (given_names names)) (append-nil (declared es d)) (nodes_named es (all_said attributes) (node_count es) (given_names names)) s h
+    sound_all t es d (node_entries (all_said attributes) (node_count es) (given_names names)) refl refl (nodes_named es (all_said attributes) (node_count es) (given_names names)) s h
 sound_declaration t before es (SomeAttributes names attributes) s p h =
     let f = with_words (given_names names) (all_said attributes) in
-    subst (AreSound t.pins []) (sym (append-nil (map f es))) (sound_alike t.pins [] [] es (map f es) tt (alike_told (given_names names) (all_said attributes) es) s)
+    sound_alike t.pins [] [] es (map f es) tt (alike_told (given_names names) (all_said attributes) es) s
 sound_declaration t before es (SomeConstants names values) s p h =
     let d = SomeConstants names values in
-    sound_rest t es d (constant_entries (zip names values)) (append-nil (declared es d)) (constants_named es names values (uses_known es (all_uses values) p)) s h
-sound_declaration t before es (SomeOptions words) s p h = subst (AreSound t.pins []) (sym (append-nil es)) s
-sound_declaration t before es (DontCareFor directive) s p h = subst (AreSound t.pins []) (sym (append-nil es)) s
+    sound_all t es d (constant_entries (zip names values)) refl refl (constants_named es names values (uses_known es (all_uses values) p)) s h
+sound_declaration t before es (SomeOptions words) s p h = s
+sound_declaration t before es (DontCareFor directive) s p h = s
 
-extends_rest : (es : List Entry) (d : Declaration) (new : List Entry) → with_declaration es d ≡ es ++ new → Extends es (with_declaration es d)
-extends_rest es d new e = subst (Extends es) (sym e) (extends_append es new)
-
-extends_declaration : (es : List Entry) (d : Declaration) → Extends es (with_declaration es d)
-extends_declaration es (ADevice name text) = extends_rest es (ADevice name text) (entry name.text name.place ADeviceName no_words ∷ []) (append-nil (declared es (ADevice name text)))
-extends_declaration es (SomePins names numbers attributes) = extends_rest es (SomePins names numbers attributes) _ (pins_added es names numbers attributes)
-extends_declaration es (SomeNodes names numbers attributes) =
-    extends_rest es (SomeNodes names numbers attributes) (node_entries (all_said attributes) (node_count es) (given_names names)) (append-nil (declared es (SomeNodes names numbers attributes)))
+extends_declaration : (es : List Entry) (d : Declaration) → Extends es (declared es d)
+extends_declaration es (ADevice name text) = extends_append es (entry name.text name.place ADeviceName no_words ∷ [])
+extends_declaration es (SomePins names numbers attributes) = extends_append es (pin_entries (all_said attributes) (given_names names) (numbers_of (length (given_names names)) numbers))
+extends_declaration es (SomeNodes names numbers attributes) = extends_append es (node_entries (all_said attributes) (node_count es) (given_names names))
 extends_declaration es (SomeAttributes names attributes) =
     let f = with_words (given_names names) (all_said attributes) in
-    subst (Extends es) (sym (append-nil (map f es))) (extends_alike es (map f es) (alike_told (given_names names) (all_said attributes) es))
-extends_declaration es (SomeConstants names values) =
-    extends_rest es (SomeConstants names values) (constant_entries (zip names values)) (append-nil (declared es (SomeConstants names values)))
-extends_declaration es (SomeOptions words) = extends_append es []
-extends_declaration es (DontCareFor directive) = extends_append es []
+    extends_alike es (map f es) (alike_told (given_names names) (all_said attributes) es)
+extends_declaration es (SomeConstants names values) = extends_append es (constant_entries (zip names values))
+extends_declaration es (SomeOptions words) = extends_same es
+extends_declaration es (DontCareFor directive) = extends_same es
 
 declaration_known : (before : List Declaration) (es : List Entry) (d : Declaration) → parts_refused before es d ≡ [] → are_named es (declaration_uses d) ≡ true
 declaration_known before es (ADevice name text) p = refl
@@ -81,10 +70,10 @@ declaration_known before es (DontCareFor directive) p = refl
 
 -- ---- declarations
 
-pub behind_push : (ds : List Declaration) (d : Declaration) → names_behind (ds ++ d ∷ []) ≡ with_declaration (names_behind ds) d
-behind_push ds d = fold-append with_declaration [] ds (d ∷ [])
+pub behind_push : (ds : List Declaration) (d : Declaration) → names_behind (ds ++ d ∷ []) ≡ declared (names_behind ds) d
+behind_push ds d = fold-append declared [] ds (d ∷ [])
 
-extends_behind : (before rest : List Declaration) → Extends (names_behind before) (names_behind (before ++ rest))
+pub extends_behind : (before rest : List Declaration) → Extends (names_behind before) (names_behind (before ++ rest))
 extends_behind before [] = subst (λ l. Extends (names_behind before) (names_behind l)) (sym (append-nil before)) (extends_same (names_behind before))
 extends_behind before (d ∷ rest) =
     subst (λ l. Extends (names_behind before) (names_behind l)) (append_assoc before (d ∷ []) rest)
@@ -109,7 +98,7 @@ declarations_known t before (d ∷ rest) h =
     (named_more (names_behind before) whole (declaration_uses d) (extends_behind before (d ∷ rest)) (declaration_known before (names_behind before) d (none_left (parts_refused before (names_behind before) d) _ here)))
     (subst (λ l. are_named (names_behind l) (declarations_uses rest) ≡ true) (append_assoc before (d ∷ []) rest) (declarations_known t (before ++ d ∷ []) rest (none_right (declaration_refused t before d) _ h)))
 
-refused_append : (t : Table) (before ds es : List Declaration) → declarations_refused t before (ds ++ es) ≡ declarations_refused t before ds ++ declarations_refused t (before ++ ds) es
+pub refused_append : (t : Table) (before ds es : List Declaration) → declarations_refused t before (ds ++ es) ≡ declarations_refused t before ds ++ declarations_refused t (before ++ ds) es
 refused_append t before [] es = ap (λ l. declarations_refused t l es) (sym (append-nil before))
 refused_append t before (d ∷ ds) es =
     let here = declaration_refused t before d in
@@ -121,14 +110,14 @@ refused_append t before (d ∷ ds) es =
 
 -- behind these declarations the others and these uses are accepted
 pub record Accepted (t : Table) (before ds : List Declaration) (us : List Use) : Type 0 where
-  pub settled : Settled t (before ++ ds)
+  pub sure : Sure t (names_behind (before ++ ds))
   pub sound : AreSound t.pins [] (names_behind (before ++ ds))
   pub known : are_named (names_behind (before ++ ds)) us ≡ true
   pub unrefused : declarations_refused t before ds ≡ []
 
 other_accepted : (t : Table) (before ds : List Declaration) (us vs : List Use) → uses_refused (names_behind before) us ≡ [] → Accepted t before ds vs → Accepted t before ds (us ++ vs)
 other_accepted t before ds us vs h a = record {
-  settled = a.settled;
+  sure = a.sure;
   sound = a.sound;
   known =
       named_append (names_behind (before ++ ds)) us vs
@@ -141,7 +130,7 @@ more_accepted t before ds es us h a =
     let whole = append_assoc before ds es in
     let all = names_behind ((before ++ ds) ++ es) in
     record {
-      settled = subst (Settled t) whole a.settled;
+      sure = subst (λ l. Sure t (names_behind l)) whole a.sure;
       sound = subst (λ l. AreSound t.pins [] (names_behind l)) whole a.sound;
       known =
           subst (λ l. are_named (names_behind l) (declarations_uses ds ++ us) ≡ true) whole
@@ -154,9 +143,9 @@ uses_then : (t : Table) (before : List Declaration) (xs : List SectionTree) (us 
 uses_then t before xs us f h =
     other_accepted t before (section_declarations xs) us (sections_uses xs) (none_left (uses_refused (names_behind before) us) _ h) (f (none_right (uses_refused (names_behind before) us) _ h))
 
-sections_accepted : (t : Table) (before : List Declaration) (xs : List SectionTree) → Settled t before → AreSound t.pins [] (names_behind before) → sections_refused t before xs ≡ [] → Accepted t before (section_declarations xs) (sections_uses xs)
+sections_accepted : (t : Table) (before : List Declaration) (xs : List SectionTree) → Sure t (names_behind before) → AreSound t.pins [] (names_behind before) → sections_refused t before xs ≡ [] → Accepted t before (section_declarations xs) (sections_uses xs)
 sections_accepted t before [] s a h = record {
-  settled = subst (Settled t) (sym (append-nil before)) s;
+  sure = subst (λ l. Sure t (names_behind l)) (sym (append-nil before)) s;
   sound = subst (λ l. AreSound t.pins [] (names_behind l)) (sym (append-nil before)) a;
   known = refl;
   unrefused = refl;
@@ -176,11 +165,11 @@ sections_accepted t before (DontCareSection d ∷ xs) s a h = uses_then t before
 pub module_accepted : (t : Table) (m : ModuleTree) → read_refusals t m ≡ [] → Accepted t [] (all_declarations m) (module_uses m)
 module_accepted t m h =
     let one = none_left (declarations_refused t [] m.decls) _ h in
-    let none : Settled t [] = record { sure = record { once = refl; same = refl }; names = refl } in
+    let none : Sure t [] = record { once = refl; same = refl } in
     let a = sections_accepted t m.decls m.sections (declarations_sure t [] m.decls none one) (declarations_sound t [] m.decls tt one) (none_right (declarations_refused t [] m.decls) _ h) in
     let all = names_behind (all_declarations m) in
     record {
-      settled = a.settled;
+      sure = a.sure;
       sound = a.sound;
       known =
           named_append all (declarations_uses m.decls) (sections_uses m.sections)

@@ -16,7 +16,7 @@ use Rattle.abel_tree.specs.Tree.{SectionTree, ModuleTree}
 use Rattle.abel_meaning.specs.Declarations.{GivenName, declared_names}
 use Rattle.abel_meaning.specs.Designs.{no_name, is_stored, follows_q}
 use Rattle.abel_meaning.specs.Held.{Holds, holds_of, is_held}
-use Rattle.abel_meaning.specs.Kinds.{is_buffer_by_default, is_registered, is_buffer, words_with_kind, with_kind, with_kinds, names_of}
+use Rattle.abel_meaning.specs.Kinds.{is_buffer_by_default, is_registered, words_with_kind, with_kind, with_kinds, names_of}
 use Rattle.name_kinds.proofs.Settling.{is_no_target}
 use Rattle.decls.specs.declared.fault.NameFault.TheVariants as fault
 use Rattle.decls.specs.AllDeclarations.{all_declarations}
@@ -142,7 +142,7 @@ module_buffers t m h =
     let told = declarations_told t [] (all_declarations m) [] tt all.unrefused (All-nil (IsTold [])) in
     let refused = λ (es : List Entry). buffers_refused (sections_assign (named_of es) m.sections) es xs in
     allowed t (holds_of (declared_names m) m.sections) (sections_assign (named_of (declared_names m)) m.sections) (declared_names m) xs
-    (subst (AreSound t.pins []) all.settled.names all.sound)
-    (subst (All (IsTold xs)) all.settled.names told)
+    all.sound
+    told
     (assigns_signals (declared_names m) m.sections)
-    (λ inverted. subst (λ es. refused es ≡ []) (all.settled.sure.once ∙ all.settled.names) (sym (ap (λ b. if b then refused (names_once m) else []) inverted) ∙ none_right (read_refusals t m) (module_buffers_refused t m) h))
+    (λ inverted. subst (λ es. refused es ≡ []) all.sure.once (sym (ap (λ b. if b then refused (names_once m) else []) inverted) ∙ none_right (read_refusals t m) (module_buffers_refused t m) h))

@@ -6,7 +6,7 @@ use Rattle.abel_tree.specs.declared.names.Names.{Names}
 use Rattle.abel_tree.specs.Assigned.{named_of, sections_assign}
 use Rattle.abel_tree.specs.Entries.{Entry, entries_of}
 use Rattle.abel_tree.specs.FirstRefusal.{first_refusal}
-use Rattle.abel_tree.specs.SoundNames.{IsNamed, SoundNames, are_named, module_uses}
+use Rattle.abel_tree.specs.SoundNames.{IsNamed, are_named, module_uses}
 use Rattle.abel_tree.specs.Tree.{ModuleTree}
 use Rattle.abel_tree.proofs.FirstRefusals.{none_refused}
 use Rattle.abel_meaning.specs.Declarations.{declared_names}
@@ -20,13 +20,13 @@ use Rattle.decls.specs.NameRefusals.{first_name_refusal, name_refusals, module_b
 use Rattle.decls.specs.Numbers.{buffered_names}
 use Rattle.decls.specs.Shown.{kept}
 use Rattle.decls.proofs.NoRefusals.{none_left}
-use Rattle.declared_names.specs.AcceptedNames.{PinsAreApart, BuffersAreAllowed}
+use Rattle.declared_names.specs.AcceptedNames.{AreDeclaredFor, NumbersAreApart, BuffersAreAllowed}
 use Rattle.declared_names.specs.Registers.{refused_for}
 use Rattle.declared_names.proofs.Buffers.{refused_same}
 use Rattle.declared_names.proofs.Accepted.{Accepted, module_accepted}
 use Rattle.declared_names.proofs.Alike.{alike_settled, extends_alike, named_more}
 use Rattle.declared_names.proofs.Behind.{module_buffers}
-use Rattle.declared_names.proofs.Placed.{pins_apart}
+use Rattle.declared_names.proofs.Placed.{numbers_apart}
 use Rattle.declared_names.proofs.SoundEntries.{AreSound, sound_alike, sound_at}
 
 -- the first refusal of all, by what was read, settled and refused of registers
@@ -49,32 +49,32 @@ module _ (t : Table) (m : ModuleTree) (h : name_refusals t m ≡ []) where
 
   -- the table's names are those that are declared
   names_same : map (kept t) (names_once m) ≡ declared_names m
-  names_same = ap (map (kept t)) all.settled.sure.once ∙ (all.settled.sure.same ∙ all.settled.names)
+  names_same = ap (map (kept t)) all.sure.once ∙ all.sure.same
 
   pub settled_same : (flip : Flip) (read settled : List Entry) → flip ≡ t.flip → read ≡ map (kept t) (names_once m) → settled ≡ with_assigned flip m.sections read → settled ≡ names_of t m
   settled_same flip read settled l n s = s ∙ ap₂ (λ x es. with_assigned x m.sections es) l (n ∙ names_same)
 
-  entries_sound : AreSound t.pins [] (names_of t m)
+  pub entries_sound : AreSound t.pins [] (names_of t m)
   entries_sound =
       sound_alike t.pins [] [] (declared_names m) (names_of t m) tt
       (alike_settled t.flip (holds_of (declared_names m) m.sections) (sections_assign (named_of (declared_names m)) m.sections) 0 (declared_names m))
-      (subst (AreSound t.pins []) all.settled.names all.sound)
+      all.sound
 
   entries_known : are_named (names_of t m) (module_uses m) ≡ true
   entries_known =
       named_more (declared_names m) (names_of t m) (module_uses m)
       (extends_alike (declared_names m) (names_of t m) (alike_settled t.flip (holds_of (declared_names m) m.sections) (sections_assign (named_of (declared_names m)) m.sections) 0 (declared_names m)))
-      (subst (λ es. are_named es (module_uses m) ≡ true) all.settled.names all.known)
+      all.known
 
   module _ (n : Names) (same : entries_of n ≡ names_of t m) where
-    pub names_sound : n.device ≡ t.name → SoundNames t.name t.pins n
+    pub names_sound : n.device ≡ t.name → AreDeclaredFor t.name t.pins n
     names_sound d = record {
       device = d;
-      kinds = λ k e is. (sound_at t.pins [] (entries_of n) (subst (AreSound t.pins []) (sym same) entries_sound) k e is).kind;
+      kinds = λ k e is numbered. (sound_at t.pins [] (entries_of n) (subst (AreSound t.pins []) (sym same) entries_sound) k e is).kind numbered;
     }
 
-    pub names_apart : PinsAreApart (entries_of n)
-    names_apart = subst PinsAreApart (sym same) (pins_apart t.pins (names_of t m) entries_sound)
+    pub names_apart : NumbersAreApart (entries_of n)
+    names_apart = subst NumbersAreApart (sym same) (numbers_apart t.pins (names_of t m) entries_sound)
 
     pub names_allowed : BuffersAreAllowed t (entries_of n)
     names_allowed = subst (BuffersAreAllowed t) (sym same) (module_buffers t m h)

@@ -5,6 +5,7 @@ pub mod Behind
 pub mod Buffers
 pub mod Exact
 pub mod Named
+pub mod NumberedNames
 pub mod Placed
 pub mod SaidBuffers
 pub mod SoundEntries

@@ -1,5 +1,5 @@
--- Names that are sound behind those before them: no two have one pin, and each is the first of its name.
-use Rattle.std.proofs.Common.{◌≡◌, ℕ, zero, suc, ◌+◌, ◌<◌, Bool, true, false, Some, List, [], ◌∷◌, take, length, get_or, cond, refl, sym, ap, ◌∙◌, inl, inr, arith}
+-- Names that are sound behind those before them: no two have one number, and each is the first of its name.
+use Rattle.std.proofs.Common.{◌≡◌, ℕ, zero, suc, ◌+◌, ◌<◌, Bool, true, false, Some, List, [], ◌∷◌, take, length, get_or, cond, refl, sym, ap, ◌∙◌, inl, inr, arith, ◌==◌}
 use Rattle.std.specs.Prelude.{is_some, slice_get}
 use Rattle.std.specs.List.{position_from}
 use Rattle.std.specs.Str.{bytes_eq}
@@ -13,7 +13,7 @@ use Rattle.abel_tree.specs.Entries.{Kind, APin, ANode, AConstant, ADeviceName, E
 use Rattle.abel_meaning.specs.Controls.{is_pin}
 use Rattle.abel_meaning.specs.Designs.{no_name}
 use Rattle.decls.specs.NamesBefore.{is_on_pin, is_taken}
-use Rattle.declared_names.specs.AcceptedNames.{PinsAreApart}
+use Rattle.declared_names.specs.AcceptedNames.{NumbersAreApart}
 use Rattle.declared_names.proofs.SoundEntries.{IsNewPin, AreSound, sound_at}
 
 -- ---- pins
@@ -24,14 +24,16 @@ same_test n (ANode number) is = absurd cc
 same_test n (AConstant value) is = absurd cc
 same_test n ADeviceName is = absurd cc
 
-not_taken : (n : ℕ) (earlier : List Entry) (k : Kind) → is_pin n k ≡ true → IsNewPin earlier k → is_taken earlier n ≡ false
-not_taken n earlier (APin pin negated) is new = ap (is_taken earlier) (sym (eqb-true pin n is)) ∙ new
-not_taken n earlier (ANode number) is new = absurd cc
-not_taken n earlier (AConstant value) is new = absurd cc
-not_taken n earlier ADeviceName is new = absurd cc
+not_taken : (n : ℕ) (earlier : List Entry) (k : Kind) → (n == 0) ≡ false → is_pin n k ≡ true → IsNewPin earlier k → is_taken earlier n ≡ false
+not_taken n earlier (APin pin negated) numbered is new =
+    let same = eqb-true pin n is in
+    ap (is_taken earlier) (sym same) ∙ new (ap (λ m. m == 0) same ∙ numbered)
+not_taken n earlier (ANode number) numbered is new = absurd cc
+not_taken n earlier (AConstant value) numbered is new = absurd cc
+not_taken n earlier ADeviceName numbered is new = absurd cc
 
 -- what is a pin is a name of the list
-within : (n : ℕ) (es : List Entry) (k : ℕ) → is_pin n (get_or es k no_name).kind ≡ true → k < length es
+pub within : (n : ℕ) (es : List Entry) (k : ℕ) → is_pin n (get_or es k no_name).kind ≡ true → k < length es
 within n es k is =
     elim (cases_lt k (length es)) [
       | inl less ↦ less
@@ -39,21 +41,21 @@ within n es k is =
     ]
 
 module _ (pins : ℕ) (es : List Entry) (sound : AreSound pins [] es) where
-  not_both : (n i j : ℕ) → i < j → is_pin n (get_or es i no_name).kind ≡ true → is_pin n (get_or es j no_name).kind ≡ true → ⊥
-  not_both n i j less first second =
+  not_both : (n i j : ℕ) → (n == 0) ≡ false → i < j → is_pin n (get_or es i no_name).kind ≡ true → is_pin n (get_or es j no_name).kind ≡ true → ⊥
+  not_both n i j numbered less first second =
       let inside = within n es j second in
-      let new = not_taken n (take j es) (get_or es j no_name).kind second (sound_at pins [] es sound j (get_or es j no_name) (slice_get-get_or es j no_name inside)).pin in
+      let new = not_taken n (take j es) (get_or es j no_name).kind numbered second (sound_at pins [] es sound j (get_or es j no_name) (slice_get-get_or es j no_name inside)).pin in
       let short : i < length (take j es) = omega (arith, length-take j es, less, inside) in
       let there : is_taken (take j es) n ≡ true = list_any_at (λ (e : Entry). is_on_pin n e.kind) (take j es) i no_name short (ap (λ (e : Entry). is_on_pin n e.kind) (get_or-take j es i no_name less) ∙ same_test n (get_or es i no_name).kind first) in
       true≢false (sym there ∙ new)
 
-  pub pins_apart : PinsAreApart es
-  pins_apart n i j first second =
+  pub numbers_apart : NumbersAreApart es
+  numbers_apart n i j numbered first second =
       elim (cases_lt i j) [
-        | inl less ↦ absurd (not_both n i j less first second)
+        | inl less ↦ absurd (not_both n i j numbered less first second)
         | inr most ↦
             elim (cases_lt j i) [
-              | inl less ↦ absurd (not_both n j i less second first)
+              | inl less ↦ absurd (not_both n j i numbered less second first)
               | inr least ↦ omega (arith, most, least)
             ]
       ]

@@ -12,16 +12,15 @@ use Rattle.abel_tree.specs.declared.words.Word.{Word}
 use Rattle.abel_tree.specs.Entries.{ADeviceName, Words, Entry, kind_of, passes, is_signal, names_any}
 use Rattle.abel_tree.specs.Ranges.{is_bad, item_names, numbers_of}
 use Rattle.abel_tree.specs.Tree.{Tree, Declaration, ADevice, SomePins, SomeNodes, SomeAttributes, SomeConstants, SomeOptions, DontCareFor}
-use Rattle.abel_meaning.specs.Declarations.{GivenName, given_names, entry, no_words, all_said, said_by_either, with_words, node_entries, constant_entries, node_count, declared}
+use Rattle.abel_meaning.specs.Declarations.{GivenName, given_names, entry, no_words, all_said, said_by_either, with_words, pin_entries, node_entries, constant_entries, node_count, declared}
 use Rattle.abel_meaning.specs.Designs.{no_name}
 use Rattle.decls.specs.declared.fault.NameFault.TheVariants as fault
 use Rattle.decls.specs.NameRefusals.{buffered, all_buffered}
-use Rattle.decls.specs.NamesBefore.{names_behind, with_declaration}
+use Rattle.decls.specs.NamesBefore.{names_behind}
 use Rattle.decls.specs.Refused.{refused_if, item_refused, items_refused, parts_refused, declaration_refused, declarations_refused}
-use Rattle.decls.proofs.ManyGo.{pins_list}
 use Rattle.decls.proofs.NoRefusals.{none_left, none_right}
 use Rattle.declared_names.proofs.Among.{is_among, among_left, among_right, AreAmong, rest_among, first_among, of_among, all_kept}
-use Rattle.declared_names.proofs.Accepted.{pins_added, sound_declaration, behind_push}
+use Rattle.declared_names.proofs.Accepted.{sound_declaration, behind_push}
 use Rattle.declared_names.proofs.Named.{names_known}
 use Rattle.declared_names.proofs.Placed.{kind_at}
 use Rattle.declared_names.proofs.SoundEntries.{AreSound}
@@ -50,12 +49,12 @@ told_if w xs es all =
 silent : (w : Words) (xs : List GivenName) (e : Entry) → e.words.buffer ≡ false → IsFrom w xs e
 silent w xs e none said = absurd (true≢false (sym said ∙ none))
 
-pins_from : (w : Words) (all xs : List GivenName) (ns : List ℕ) → AreAmong all xs → All (IsFrom w all) (pins_list w xs ns)
+pins_from : (w : Words) (all xs : List GivenName) (ns : List ℕ) → AreAmong all xs → All (IsFrom w all) (pin_entries w xs ns)
 pins_from w all [] ns are = All-nil (IsFrom w all)
 pins_from w all (x ∷ xs) [] are =
-    All-cons (IsFrom w all) _ (pins_list w xs []) (λ said. absurd (true≢false (sym said))) (pins_from w all xs [] (rest_among all x xs are))
+    All-cons (IsFrom w all) _ (pin_entries w xs []) (λ said. (said, (refl, first_among all x xs are))) (pins_from w all xs [] (rest_among all x xs are))
 pins_from w all (x ∷ xs) (n ∷ ns) are =
-    All-cons (IsFrom w all) _ (pins_list w xs ns) (λ said. (said, (refl, first_among all x xs are))) (pins_from w all xs ns (rest_among all x xs are))
+    All-cons (IsFrom w all) _ (pin_entries w xs ns) (λ said. (said, (refl, first_among all x xs are))) (pins_from w all xs ns (rest_among all x xs are))
 
 nodes_from : (w : Words) (all xs : List GivenName) (n : ℕ) → AreAmong all xs → All (IsFrom w all) (node_entries w n xs)
 nodes_from w all [] n are = All-nil (IsFrom w all)
@@ -71,7 +70,7 @@ constants_told (p ∷ ps) = All-cons (IsTold []) _ (constant_entries ps) (λ sai
 item_signals : (es : List Entry) (i : Item) → item_refused es i ≡ [] → list_all (names_any is_signal es) (item_names i) ≡ true
 item_signals es i h = names_known is_signal es i.first.place (item_names i) (none_right (refused_if (is_bad i) (fault.BadRange i.first.place)) _ h)
 
-items_signals : (es : List Entry) (is : List Item) → items_refused es is ≡ [] → list_all (λ (x : GivenName). names_any is_signal es x.name) (given_names is) ≡ true
+pub items_signals : (es : List Entry) (is : List Item) → items_refused es is ≡ [] → list_all (λ (x : GivenName). names_any is_signal es x.name) (given_names is) ≡ true
 items_signals es [] h = refl
 items_signals es (i ∷ is) h =
     let test = λ (x : GivenName). names_any is_signal es x.name in
@@ -122,36 +121,35 @@ all_known pins es sound =
 
 -- ---- one declaration
 
-told_rest : (es : List Entry) (d : Declaration) (new : List Entry) (xs ys : List GivenName) → with_declaration es d ≡ es ++ new → All (IsTold xs) es → All (IsTold ys) new → All (IsTold (xs ++ ys)) (with_declaration es d)
+told_rest : (es : List Entry) (d : Declaration) (new : List Entry) (xs ys : List GivenName) → declared es d ≡ es ++ new → All (IsTold xs) es → All (IsTold ys) new → All (IsTold (xs ++ ys)) (declared es d)
 told_rest es d new xs ys e old told =
     subst (All (IsTold (xs ++ ys))) (sym e) (All-append (IsTold (xs ++ ys)) es new (told_left xs ys es old) (told_right xs ys new told))
 
-told_declaration : (pins : ℕ) (before : List Declaration) (es : List Entry) (d : Declaration) (xs : List GivenName) → AreSound pins [] es → parts_refused before es d ≡ [] → All (IsTold xs) es → All (IsTold (xs ++ buffered es d)) (with_declaration es d)
+told_declaration : (pins : ℕ) (before : List Declaration) (es : List Entry) (d : Declaration) (xs : List GivenName) → AreSound pins [] es → parts_refused before es d ≡ [] → All (IsTold xs) es → All (IsTold (xs ++ buffered es d)) (declared es d)
 told_declaration pins before es (ADevice name text) xs s p told =
-    told_rest es (ADevice name text) (entry name.text name.place ADeviceName no_words ∷ []) xs [] (append-nil (declared es (ADevice name text))) told
+    told_rest es (ADevice name text) (entry name.text name.place ADeviceName no_words ∷ []) xs [] refl told
     (All-cons (IsTold []) (entry name.text name.place ADeviceName no_words) [] (λ said. absurd (true≢false (sym said))) (All-nil (IsTold [])))
 told_declaration pins before es (SomePins names numbers attributes) xs s p told =
     let w = all_said attributes in
     let ys = given_names names in
     let ns = numbers_of (length ys) numbers in
-    told_rest es (SomePins names numbers attributes) (pins_list w ys ns) xs (if w.buffer then ys else []) (pins_added es names numbers attributes) told
-    (told_if w ys (pins_list w ys ns) (pins_from w ys ys ns (λ name is. is)))
+    told_rest es (SomePins names numbers attributes) (pin_entries w ys ns) xs (if w.buffer then ys else []) refl told
+    (told_if w ys (pin_entries w ys ns) (pins_from w ys ys ns (λ name is. is)))
 told_declaration pins before es (SomeNodes names numbers attributes) xs s p told =
     let w = all_said attributes in
     let ys = given_names names in
     let d = SomeNodes names numbers attributes in
-    told_rest es d (node_entries w (node_count es) ys) xs (if w.buffer then ys else []) (append-nil (declared es d)) told
+    told_rest es d (node_entries w (node_count es) ys) xs (if w.buffer then ys else []) refl told
     (told_if w ys (node_entries w (node_count es) ys) (nodes_from w ys ys (node_count es) (λ name is. is)))
 told_declaration pins before es (SomeAttributes names attributes) xs s p told =
     let w = all_said attributes in
     let ys = given_names names in
-    subst (All (IsTold (xs ++ buffered es (SomeAttributes names attributes)))) (sym (append-nil (map (with_words ys w) es)))
-    (words_told es xs ys w (items_signals es names (none_left (items_refused es names) _ p)) es (all_known pins es s) told)
+    words_told es xs ys w (items_signals es names (none_left (items_refused es names) _ p)) es (all_known pins es s) told
 told_declaration pins before es (SomeConstants names values) xs s p told =
     let d = SomeConstants names values in
-    told_rest es d (constant_entries (zip names values)) xs [] (append-nil (declared es d)) told (constants_told (zip names values))
-told_declaration pins before es (SomeOptions words) xs s p told = told_rest es (SomeOptions words) [] xs [] refl told (All-nil (IsTold []))
-told_declaration pins before es (DontCareFor directive) xs s p told = told_rest es (DontCareFor directive) [] xs [] refl told (All-nil (IsTold []))
+    told_rest es d (constant_entries (zip names values)) xs [] refl told (constants_told (zip names values))
+told_declaration pins before es (SomeOptions words) xs s p told = told_rest es (SomeOptions words) [] xs [] (sym (append-nil es)) told (All-nil (IsTold []))
+told_declaration pins before es (DontCareFor directive) xs s p told = told_rest es (DontCareFor directive) [] xs [] (sym (append-nil es)) told (All-nil (IsTold []))
 
 -- ---- all of them
 

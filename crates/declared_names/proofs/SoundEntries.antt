@@ -1,6 +1,7 @@
 -- Names that are sound by the names before them.
 use Rattle.std.proofs.Common.{◌≡◌, ℕ, zero, suc, ◌<◌, ◌≤◌, ◌==◌, nat_le, nat_lt, Bool, true, false, not, ◌&&◌, ◌||◌, if◌then◌else◌, Some, List, [], ◌∷◌, ◌++◌, zip, take, refl, sym, ap, ap₂, subst, ◌∙◌, append_assoc, arith}
 use Rattle.std.specs.Prelude.{is_some, slice_get}
+use Rattle.std.proofs.lemmas.Bool.{true≢false}
 use Rattle.std.proofs.lemmas.Bool.Decides.{nat_tests}
 use Rattle.std.proofs.lemmas.List.{append-nil}
 use Rattle.std.proofs.lemmas.List.Folds.{list_all-append}
@@ -10,24 +11,24 @@ use Rattle.abel_tree.specs.Entries.{Kind, APin, ANode, AConstant, ADeviceName, W
 use Rattle.abel_tree.specs.SoundNames.{IsSoundKind, is_named, are_named}
 use Rattle.abel_tree.specs.Tree.{Tree}
 use Rattle.abel_tree.specs.Uses.{uses, all_uses}
-use Rattle.abel_meaning.specs.Declarations.{GivenName, node_entries, constant_entries}
+use Rattle.abel_meaning.specs.Declarations.{GivenName, is_unnumbered, pin_entries, node_entries, constant_entries}
+use Rattle.decls.specs.declared.fault.NameFault.{NameFault}
 use Rattle.decls.specs.declared.fault.NameFault.TheVariants as fault
 use Rattle.decls.specs.NamesBefore.{is_on_pin, is_taken}
 use Rattle.decls.specs.Refused.{refused_if, is_signal_pin, number_refused, name_refused, names_refused}
-use Rattle.decls.proofs.ManyGo.{pins_list}
-use Rattle.decls.proofs.NoRefusals.{none_left, none_right, not_refused}
+use Rattle.decls.proofs.NoRefusals.{none_left, none_right, not_refused, RestIsUnnumbered}
 use Rattle.declared_names.proofs.Alike.{Alike, alike_kinds, alike_push, Extends, extends_alike, extends_append, extends_then, named_more, both_true}
 
--- no earlier name has the pin
+-- no earlier name has the pin, if it has a number
 abbrev pub IsNewPin : (earlier : List Entry) → Kind → Type 0
-IsNewPin earlier (APin pin negated) = is_taken earlier pin ≡ false
+IsNewPin earlier (APin pin negated) = (pin == 0) ≡ false → is_taken earlier pin ≡ false
 IsNewPin earlier (ANode number) = Unit {0}
 IsNewPin earlier (AConstant value) = Unit {0}
 IsNewPin earlier ADeviceName = Unit {0}
 
--- a name is sound behind these: what it is declared as, its pin, and that none of them is the same
+-- a name is sound behind these: what it is declared as, its pin, where it has a number, and that none of them is the same
 pub record IsSoundEntry (pins : ℕ) (earlier : List Entry) (e : Entry) : Type 0 where
-  pub kind : IsSoundKind pins earlier e.kind
+  pub kind : is_unnumbered e.kind ≡ false → IsSoundKind pins earlier e.kind
   pub pin : IsNewPin earlier e.kind
   pub name : is_some (kind_of earlier e.name) ≡ false
 
@@ -57,21 +58,21 @@ kind_more pins es fs (ANode number) f s = s
 kind_more pins es fs (AConstant value) f s = named_more es fs (uses value) f s
 kind_more pins es fs ADeviceName f s = tt
 
-taken_alike : (xs ys : List Entry) (n : ℕ) → Alike xs ys → is_taken xs n ≡ is_taken ys n
+pub taken_alike : (xs ys : List Entry) (n : ℕ) → Alike xs ys → is_taken xs n ≡ is_taken ys n
 taken_alike [] [] n a = refl
 taken_alike [] (y ∷ ys) n a = absurd a
 taken_alike (x ∷ xs) [] n a = absurd a
 taken_alike (x ∷ xs) (y ∷ ys) n a = ap₂ (λ b c. b || c) (ap (is_on_pin n) a.1.0) (taken_alike xs ys n a.1.1)
 
 pin_alike : (es fs : List Entry) (k : Kind) → Alike es fs → IsNewPin es k → IsNewPin fs k
-pin_alike es fs (APin pin negated) a s = sym (taken_alike es fs pin a) ∙ s
+pin_alike es fs (APin pin negated) a s = λ numbered. sym (taken_alike es fs pin a) ∙ s numbered
 pin_alike es fs (ANode number) a s = tt
 pin_alike es fs (AConstant value) a s = tt
 pin_alike es fs ADeviceName a s = tt
 
 entry_alike : (pins : ℕ) (es fs : List Entry) (x y : Entry) → Alike es fs → x.name ≡ y.name → x.kind ≡ y.kind → IsSoundEntry pins es x → IsSoundEntry pins fs y
 entry_alike pins es fs x y a n k s = record {
-  kind = subst (IsSoundKind pins fs) k (kind_more pins es fs x.kind (extends_alike es fs a) s.kind);
+  kind = λ numbered. subst (IsSoundKind pins fs) k (kind_more pins es fs x.kind (extends_alike es fs a) (s.kind (ap is_unnumbered k ∙ numbered)));
   pin = subst (IsNewPin fs) k (pin_alike es fs x.kind a s.pin);
   name = sym (ap is_some (alike_kinds es fs a x.name ∙ ap (kind_of fs) n)) ∙ s.name;
 }
@@ -118,7 +119,7 @@ one_sound t base es e (AConstant v) f named h = named_more base es (uses v) f na
 one_sound t base es e ADeviceName f named h = tt
 
 one_new : (t : Table) (es : List Entry) (e : Entry) (k : Kind) → number_refused t es e k ≡ [] → IsNewPin es k
-one_new t es e (APin n negated) h = by (is_signal_pin t n) h
+one_new t es e (APin n negated) h = λ numbered. by (is_signal_pin t n) h
   where
     by : (b : Bool) → (if b then refused_if (is_taken es n) (fault.PinTaken e.place e.name) else fault.BadPin e.place e.name ∷ []) ≡ [] → is_taken es n ≡ false
     by true g = not_refused (is_taken es n) (fault.PinTaken e.place e.name) g
@@ -127,22 +128,40 @@ one_new t es e (ANode n) h = tt
 one_new t es e (AConstant v) h = tt
 one_new t es e ADeviceName h = tt
 
-pub new_sound : (t : Table) (base es new : List Entry) → Extends base es → AreNamedKinds base new → names_refused t es new ≡ [] → AreSound t.pins es new
-new_sound t base es [] f named h = tt
-new_sound t base es (e ∷ new) f named h =
-    let here = none_left (name_refused t es e) _ h in
+unnumbered_new : (es : List Entry) (k : Kind) → is_unnumbered k ≡ true → IsNewPin es k
+unnumbered_new es (APin pin negated) none = λ numbered. absurd (true≢false (sym none ∙ numbered))
+unnumbered_new es (ANode n) none = tt
+unnumbered_new es (AConstant v) none = tt
+unnumbered_new es ADeviceName none = tt
+
+new_name : (es : List Entry) (e : Entry) (number : List NameFault) → number ++ refused_if (is_some (kind_of es e.name)) (fault.Redeclared e.place e.name) ≡ [] → is_some (kind_of es e.name) ≡ false
+new_name es e number h = not_refused (is_some (kind_of es e.name)) (fault.Redeclared e.place e.name) (none_right number _ h)
+
+-- so many of which have numbers, the first ones
+pub new_sound : (t : Table) (given : ℕ) (base es new : List Entry) → Extends base es → AreNamedKinds base new → RestIsUnnumbered given new → names_refused t es given new ≡ [] → AreSound t.pins es new
+new_sound t given base es [] f named rest h = tt
+new_sound t zero base es (e ∷ new) f named rest h = (
+  record {
+    kind = λ numbered. absurd (true≢false (sym rest.0 ∙ numbered));
+    pin = unnumbered_new es e.kind rest.0;
+    name = new_name es e [] (none_left (name_refused t es false e) _ h);
+  },
+  new_sound t zero base (es ++ e ∷ []) new (extends_then base es (es ++ e ∷ []) f (extends_append es (e ∷ []))) named.1 rest.1 (none_right (name_refused t es false e) _ h),
+)
+new_sound t (suc given) base es (e ∷ new) f named rest h =
+    let here = none_left (name_refused t es true e) _ h in
     let number = none_left (number_refused t es e e.kind) _ here in (
       record {
-        kind = one_sound t base es e e.kind f named.0 number;
+        kind = λ numbered. one_sound t base es e e.kind f named.0 number;
         pin = one_new t es e e.kind number;
-        name = not_refused (is_some (kind_of es e.name)) (fault.Redeclared e.place e.name) (none_right (number_refused t es e e.kind) _ here);
+        name = new_name es e (number_refused t es e e.kind) here;
       },
-      new_sound t base (es ++ e ∷ []) new (extends_then base es (es ++ e ∷ []) f (extends_append es (e ∷ []))) named.1 (none_right (name_refused t es e) _ h),
+      new_sound t given base (es ++ e ∷ []) new (extends_then base es (es ++ e ∷ []) f (extends_append es (e ∷ []))) named.1 rest (none_right (name_refused t es true e) _ h),
     )
 
 -- ---- what declarations make
 
-pub pins_named : (es : List Entry) (w : Words) (xs : List GivenName) (ns : List ℕ) → AreNamedKinds es (pins_list w xs ns)
+pub pins_named : (es : List Entry) (w : Words) (xs : List GivenName) (ns : List ℕ) → AreNamedKinds es (pin_entries w xs ns)
 pins_named es w [] ns = tt
 pins_named es w (x ∷ xs) [] = (tt, pins_named es w xs [])
 pins_named es w (x ∷ xs) (n ∷ ns) = (tt, pins_named es w xs ns)

@@ -1,10 +1,26 @@
 -- What holds of the names of a module of which nothing is refused (this project's rule).
-use Rattle.std.specs.Prelude.{◌≡◌, ◌≢◌, ℕ, true, List, get_or}
+use Rattle.std.specs.Prelude.{◌≡◌, ◌≢◌, ℕ, ◌==◌, true, false, Some, List, get_or, slice_get, take}
+use Rattle.pld_base.specs.declared.device_name.DeviceName.{DeviceName}
 use Rattle.pld_device.specs.declared.flip.Flip.TheVariants.{AfterRegister}
 use Rattle.pld_device.specs.Table.{Table}
-use Rattle.abel_tree.specs.Entries.{Entry}
+use Rattle.abel_tree.specs.declared.names.Names.{Names}
+use Rattle.abel_tree.specs.Entries.{Entry, entries_of}
+use Rattle.abel_tree.specs.SoundNames.{IsSoundKind, SoundNames}
 use Rattle.abel_meaning.specs.Controls.{is_pin}
+use Rattle.abel_meaning.specs.Declarations.{are_numbered, is_unnumbered}
 use Rattle.abel_meaning.specs.Designs.{no_name, is_stored, follows_q}
+
+-- the names are those of a device with so many pins: each pin that has a number is one of them, nodes are below 128, and
+-- a constant names earlier names alone
+pub record AreDeclaredFor (name : DeviceName) (pins : ℕ) (n : Names) : Type 0 where
+  pub device : n.device ≡ name
+  pub kinds : (k : ℕ) (e : Entry) → slice_get (entries_of n) k ≡ Some e → is_unnumbered e.kind ≡ false
+      → IsSoundKind pins (take k (entries_of n)) e.kind
+
+-- no two names have one number
+abbrev pub NumbersAreApart : List Entry → Type 0
+NumbersAreApart es =
+    (pin i j : ℕ) → (pin == 0) ≡ false → is_pin pin (get_or es i no_name).kind ≡ true → is_pin pin (get_or es j no_name).kind ≡ true → i ≡ j
 
 -- no two names are one pin
 abbrev pub PinsAreApart : List Entry → Type 0
@@ -16,3 +32,12 @@ abbrev pub BuffersAreAllowed : Table → List Entry → Type 0
 BuffersAreAllowed t es =
     (s : ℕ) → is_stored (get_or es s no_name) ≡ true → follows_q (get_or es s no_name) ≡ true → t.clock ≢ 0
     → t.flip ≡ AfterRegister
+
+-- ---- where each pin has a number
+
+abbrev pub NumberedNamesAreSound : Type 0
+NumberedNamesAreSound =
+    (name : DeviceName) (pins : ℕ) (n : Names) → AreDeclaredFor name pins n → are_numbered (entries_of n) ≡ true → SoundNames name pins n
+
+abbrev pub NumberedPinsAreApart : Type 0
+NumberedPinsAreApart = (es : List Entry) → NumbersAreApart es → are_numbered es ≡ true → PinsAreApart es

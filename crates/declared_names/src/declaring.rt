@@ -2,12 +2,12 @@
 
 ghost use Rattle.std.specs.Prelude.{◌≡◌, ◌⊎◌, [], Some, IfOk, IfErr};
 ghost use Rattle.abel_tree.specs.Entries.{entries_of};
-ghost use Rattle.abel_tree.specs.SoundNames.{IsNamed, SoundNames};
+ghost use Rattle.abel_tree.specs.SoundNames.{IsNamed};
 ghost use Rattle.abel_tree.specs.View.{view_module};
 ghost use Rattle.abel_meaning.specs.Kinds.{names_of};
 ghost use Rattle.decls.specs.declared.fault.NameFault.TheVariants.{OutOfMemory};
 ghost use Rattle.decls.specs.NameRefusals.{first_name_refusal, name_refusals};
-ghost use Rattle.declared_names.specs.AcceptedNames.{BuffersAreAllowed, PinsAreApart};
+ghost use Rattle.declared_names.specs.AcceptedNames.{AreDeclaredFor, BuffersAreAllowed, NumbersAreApart};
 
 use crate::registers::first_refused;
 use abel_tree::{Module, Names};
@@ -18,12 +18,12 @@ use pld_device::Device;
 use std::alloc::Global;
 
 /// The names that a module declares for a device, with their kinds and polarities; a register that is free has neither
-/// polarity. Which device the module itself names is not looked at.
+/// polarity, and a pin without a number has the number 0. Which device the module itself names is not looked at.
 pub fn declare<D: Device>(alloc: Global, source: &Module) -> Result<Names, NameFault>
     ensures names { IfOk result (λ n. entries_of n ≡ names_of D.table (view_module source.now)) }
     ensures accepted { IfOk result (λ n. name_refusals D.table (view_module source.now) ≡ []) }
-    ensures sound { IfOk result (λ n. SoundNames D.table.name D.table.pins n) }
-    ensures apart { IfOk result (λ n. PinsAreApart (entries_of n)) }
+    ensures sound { IfOk result (λ n. AreDeclaredFor D.table.name D.table.pins n) }
+    ensures apart { IfOk result (λ n. NumbersAreApart (entries_of n)) }
     ensures buffers { IfOk result (λ n. BuffersAreAllowed D.table (entries_of n)) }
     ensures named { IfOk result (λ n. IsNamed n (view_module source.now)) }
 

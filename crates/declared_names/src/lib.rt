@@ -2,6 +2,10 @@
 #![tactic(auto)]
 
 mod declaring;
+mod laws;
+mod numbered;
 mod registers;
 
 pub use declaring::declare;
+pub use laws::numbered_names;
+pub use numbered::{are_numbered, is_unnumbered};

@@ -1,0 +1,8 @@
+use Rattle.declared_names.proofs.NumberedNames.{numbered_sound, numbered_apart}
+use Rattle.declared_names.proofs.laws.numbered_names.Goals as goal
+
+pub returns-clause-sound : goal.returns-clause-sound
+returns-clause-sound c = numbered_sound
+
+pub returns-clause-apart : goal.returns-clause-apart
+returns-clause-apart c = numbered_apart

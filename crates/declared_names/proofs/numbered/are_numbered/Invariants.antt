@@ -1,0 +1,11 @@
+-- Each pin so far has a number.
+use Rattle.std.proofs.Common.{◌≡◌, drop, map}
+use Rattle.std.specs.List.{list_any}
+use Rattle.abel_tree.specs.Entries.{Entry, view_declared}
+use Rattle.abel_meaning.specs.Declarations.{is_unnumbered}
+use Rattle.declared_names.proofs.numbered.are_numbered.Given as goal
+
+abbrev pub invariant-loop-declared : goal.invariant-loop-declared
+invariant-loop-declared l =
+    list_any (λ (e : Entry). is_unnumbered e.kind) (map view_declared l.names.list)
+    ≡ list_any (λ (e : Entry). is_unnumbered e.kind) (map view_declared (drop l.declared-index l.names.list))

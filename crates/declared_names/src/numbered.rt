@@ -1,0 +1,29 @@
+//! Pins that have no numbers.
+
+ghost use Rattle.std.specs.Prelude.{◌≡◌};
+ghost use Rattle.abel_tree.specs.Entries.{entries_of, view_meaning};
+ghost use Rattle.abel_meaning.specs.Declarations.{are_numbered, is_unnumbered};
+
+use abel_tree::{Meaning, Names};
+
+/// Whether it is a pin without a number.
+pub fn is_unnumbered(meaning: &Meaning) -> bool
+    ensures { result ≡ is_unnumbered (view_meaning meaning.now) }
+{
+    match meaning {
+        Meaning::Pin { pin, negated: _ } => *pin == 0,
+        _ => false,
+    }
+}
+
+/// Whether each pin has a number.
+pub fn are_numbered(names: &Names) -> bool
+    ensures { result ≡ are_numbered (entries_of names.now) }
+{
+    for declared in names.list.as_slice() {
+        if is_unnumbered(&declared.meaning) {
+            return false;
+        }
+    }
+    true
+}
