@@ -1,13 +1,14 @@
 -- The nodes of a module are numbered in the order of their declarations, from 0.
-use Rattle.std.proofs.Common.{◌≡◌, ℕ, suc, ◌+◌, List, [], ◌∷◌, ◌++◌, refl, ◌∙◌, subst, arith}
+use Rattle.std.proofs.Common.{◌≡◌, ℕ, suc, ◌+◌, List, [], ◌∷◌, ◌++◌, length, refl, ◌∙◌, subst, arith}
 use Rattle.std.specs.Prelude.{map, zip, fold}
 use Rattle.abel_tree.specs.declared.words.Word.{Word}
 use Rattle.abel_tree.specs.Assigned.{Assigned, named_of, sections_assign}
 use Rattle.abel_tree.specs.Entries.{Kind, APin, ANode, AConstant, ADeviceName, Entry, Words}
+use Rattle.abel_tree.specs.Ranges.{numbers_of}
 use Rattle.abel_tree.specs.Tree.{Tree, Declaration, ADevice, SomePins, SomeNodes, SomeAttributes, SomeConstants, SomeOptions, DontCareFor, ModuleTree}
 use Rattle.pld_device.specs.declared.flip.Flip.{Flip}
 use Rattle.pld_device.specs.Table.{Table}
-use Rattle.abel_meaning.specs.Declarations.{GivenName, entry, node_entries, constant_entries, node_count, with_words, declared, given_names, all_said, section_declarations, declared_names}
+use Rattle.abel_meaning.specs.Declarations.{GivenName, pin_entries, node_entries, constant_entries, node_count, with_words, declared, given_names, all_said, section_declarations, declared_names}
 use Rattle.abel_meaning.specs.Held.{Holds, holds_of}
 use Rattle.abel_meaning.specs.Kinds.{with_kinds, names_of}
 use Rattle.gathered.proofs.NodesFound.{next_number, AreNumbered}
@@ -42,9 +43,10 @@ behind es ys here there = joined 0 es ys here (subst (λ n. AreNumbered n ys) (c
 
 -- ---- what each declaration declares
 
-pins_numbered : (n : ℕ) (words : Words) (xs : List (GivenName × ℕ)) → AreNumbered n (map (λ (x : GivenName × ℕ). entry x.0.name x.0.place (APin x.1 x.0.negated) words) xs)
-pins_numbered n words [] = tt
-pins_numbered n words (x ∷ xs) = (tt, pins_numbered n words xs)
+pins_numbered : (n : ℕ) (words : Words) (xs : List GivenName) (numbers : List ℕ) → AreNumbered n (pin_entries words xs numbers)
+pins_numbered n words [] numbers = tt
+pins_numbered n words (x ∷ xs) [] = (tt, pins_numbered n words xs [])
+pins_numbered n words (x ∷ xs) (k ∷ numbers) = (tt, pins_numbered n words xs numbers)
 
 nodes_numbered : (n : ℕ) (words : Words) (xs : List GivenName) → AreNumbered n (node_entries words n xs)
 nodes_numbered n words [] = tt
@@ -60,7 +62,7 @@ words_numbered n names words (e ∷ es) all = (all.0, words_numbered (next_numbe
 
 after_one : (es : List Entry) (d : Declaration) → AreNumbered 0 es → AreNumbered 0 (declared es d)
 after_one es (ADevice name text) all = behind es _ all (tt, tt)
-after_one es (SomePins names numbers attributes) all = behind es _ all (pins_numbered (node_count es) (all_said attributes) (zip (given_names names) _))
+after_one es (SomePins names numbers attributes) all = behind es _ all (pins_numbered (node_count es) (all_said attributes) (given_names names) (numbers_of (length (given_names names)) numbers))
 after_one es (SomeNodes names numbers attributes) all = behind es _ all (nodes_numbered (node_count es) (all_said attributes) (given_names names))
 after_one es (SomeAttributes names attributes) all = words_numbered 0 (given_names names) (all_said attributes) es all
 after_one es (SomeConstants names values) all = behind es _ all (constants_numbered (node_count es) (zip names values))
