@@ -17,7 +17,7 @@ fn has_reg(attributes: Attributes) -> bool
 }
 
 /// Whether the signal is stored in a register.
-pub(crate) fn is_stored(declared: &Declared) -> bool
+pub fn is_stored(declared: &Declared) -> bool
     ensures { result ≡ is_stored (view_declared declared.now) }
 {
     has_reg(declared.attributes) && declared.assigned
@@ -42,7 +42,7 @@ fn is_wrong_cell(cell: Cell, pin: u8, stored: bool) -> bool
 }
 
 /// Whether the cell of this pin can't be what the signal is.
-fn has_wrong_kind_on<D: Device>(pin: u8, stored: bool) -> bool
+pub fn has_wrong_kind_on<D: Device>(pin: u8, stored: bool) -> bool
     ensures { result ≡ has_wrong_kind_on D.table pin stored }
 {
     for index in 0..D::CELLS {
@@ -64,7 +64,7 @@ pub(crate) fn has_wrong_kind<D: Device>(declared: &Declared) -> bool
 }
 
 /// Whether the name is a registered node.
-pub(crate) fn is_registered_node(declared: &Declared) -> bool
+pub fn is_registered_node(declared: &Declared) -> bool
     ensures { result ≡ is_registered_node (view_declared declared.now) }
 {
     match declared.meaning {
