@@ -70,6 +70,10 @@ reads_by t x true (APin pin negated) e = reads_register t pin e
 reads_by t x false (APin pin negated) e = reads_pin t x pin e
 reads_by t x stored _ e = true
 
+-- so it would be on this pin
+abbrev pub has_read_path_on : Table → Entry → (pin : ℕ) → Option Extension → Bool
+has_read_path_on t x pin e = reads_by t x (is_stored x) (APin pin false) e
+
 abbrev pub has_read_path : Table → Entry → Option Extension → Bool
 has_read_path t x e = reads_by t x (is_stored x) x.kind e
 
