@@ -16,3 +16,4 @@ mod walk;
 pub use calls::{missing_use, unread_use};
 pub use columns::cell_on;
 pub use refused::{RefusedUse, earlier};
+pub use rule::has_read_path_on;

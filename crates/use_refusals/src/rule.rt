@@ -4,7 +4,7 @@ ghost use Rattle.std.specs.Prelude.{◌≡◌, ◌<◌, Bool, Option, length};
 ghost use Rattle.abel_tree.specs.Entries.{APin, Kind, has, view_declared, view_meaning};
 ghost use Rattle.abel_meaning.specs.Designs.{cell_on, is_stored};
 ghost use Rattle.gathered.specs.Gathered.{cell_of};
-ghost use Rattle.design_uses.specs.RefusedUses.{carries_level, carries_q, has_by, has_extension, has_read_path, pin_has, reads_by, reads_pin, reads_register, register_has};
+ghost use Rattle.design_uses.specs.RefusedUses.{carries_level, carries_q, has_by, has_extension, has_read_path, has_read_path_on, pin_has, reads_by, reads_pin, reads_register, register_has};
 ghost use Rattle.design_uses.specs.SectionUses.{is_by_pin, is_cell_by_pin};
 ghost use Rattle.use_refusals.specs.Walked.{is_asked_of, is_by_pin_of};
 
@@ -118,18 +118,27 @@ fn reads_pin<D: Device>(declared: &Declared, pin: u8, extension: Option<Extensio
     }
 }
 
+/// Whether columns would carry what the extension names of the signal, if it were on this pin.
+pub fn has_read_path_on<D: Device>(
+    declared: &Declared,
+    pin: u8,
+    extension: Option<Extension>,
+) -> bool
+    ensures { result ≡ has_read_path_on D.table (view_declared declared.now) pin extension }
+{
+    if is_stored(declared) {
+        reads_register::<D>(pin, extension)
+    } else {
+        reads_pin::<D>(declared, pin, extension)
+    }
+}
+
 /// Whether columns carry what the extension names of the signal.
 fn has_read_path<D: Device>(declared: &Declared, extension: Option<Extension>) -> bool
     ensures { result ≡ has_read_path D.table (view_declared declared.now) extension }
 {
     match declared.meaning {
-        Meaning::Pin { pin, negated: _ } => {
-            if is_stored(declared) {
-                reads_register::<D>(pin, extension)
-            } else {
-                reads_pin::<D>(declared, pin, extension)
-            }
-        }
+        Meaning::Pin { pin, negated: _ } => has_read_path_on::<D>(declared, pin, extension),
         _ => true,
     }
 }
