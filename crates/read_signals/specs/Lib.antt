@@ -1,0 +1,3 @@
+pub mod Marks
+pub mod NamedSignals
+pub mod Reads

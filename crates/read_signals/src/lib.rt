@@ -1,0 +1,37 @@
+//! Which of some signals a module reads, and of which it assigns the enable.
+#![tactic(auto)]
+
+ghost use Rattle.std.specs.Prelude.{◌≤◌, IfOk, length, map};
+ghost use Rattle.abel_tree.specs.Entries.{view_declared};
+ghost use Rattle.abel_tree.specs.View.{view_section};
+ghost use Rattle.read_signals.specs.Marks.{HasMarks};
+ghost use Rattle.read_signals.specs.Reads.{has_enable, is_read};
+
+mod expressions;
+mod marks;
+mod naming;
+mod sections;
+mod seen;
+mod statements;
+mod transitions;
+
+use abel_tree::{Declared, Section};
+use pld_base::OutOfMemory;
+pub use seen::Seen;
+use std::alloc::Global;
+
+/// Which of the signals, told by their numbers, the sections of a module with these names read, and of which they assign the
+/// enable.
+pub fn seen_in(
+    alloc: Global,
+    names: &[Declared],
+    sections: &[Section],
+    signals: &[usize],
+) -> Result<Seen, OutOfMemory>
+    requires { length signals.now ≤ 32 }
+    ensures read { IfOk result (λ seen. HasMarks signals.now (is_read (map view_declared names.now) (map view_section sections.now)) seen.read) }
+    ensures enabled { IfOk result (λ seen. HasMarks signals.now (has_enable (map view_declared names.now) (map view_section sections.now)) seen.enabled) }
+{
+    let naming = naming::naming_of(alloc, names, signals)?;
+    naming.see_sections(alloc, sections)
+}
