@@ -1,0 +1,16 @@
+use Rattle.std.proofs.Common.{false, [], ◌∷◌, List, ap, ap₂, ◌∙◌}
+use Rattle.abel_tree.specs.declared.words.Item.{Item}
+use Rattle.abel_tree.specs.declared.words.Span.{Span}
+use Rattle.abel_tree.specs.declared.words.Word.{Word}
+use Rattle.abel_tree.specs.Tree.{SomePins}
+use Rattle.placer.specs.PlacedModule.{item_at, span_at}
+use Rattle.placer.proofs.nodes.node_pinned.Goals as goal
+
+pub returns : goal.returns
+returns c =
+    let place = c.args.node.now.place in
+    let names = c.in_ok-names.ensures ∙ ap (λ i. i ∷ []) (c.in_ok-name.ensures ∙ ap (λ n. item_at place n false) c.as_slice.ensures.value) in
+    let numbers = c.in_ok-numbers.ensures ∙ ap (λ s. s ∷ []) c.span_at-number.ensures in
+    let said = c.in_ok-said.ensures ∙ ap (λ text. record { text = text; place = place }) c.register_string.ensures in
+    ap₂ (λ (ns : List Item) (ss : List Span). SomePins ns ss c.in_ok-attributes.attributes) names numbers
+    ∙ ap (λ (ws : List Word). SomePins (item_at place c.args.node.now.name.items false ∷ []) (span_at place c.args.pin ∷ []) ws) (c.in_ok-attributes.ensures ∙ ap (λ (x : Word). x ∷ []) said)

@@ -1,0 +1,14 @@
+-- With those of the signals that are left it is the whole.
+use Rattle.std.proofs.Common.{◌≡◌, ℕ, Bool, ◌++◌, drop, map}
+use Rattle.abel_tree.specs.Entries.{view_declared}
+use Rattle.abel_tree.specs.View.{view_stmt}
+use Rattle.read_signals.specs.Marks.{HasMarks}
+use Rattle.placer.specs.Given.{pins_given}
+use Rattle.placer.specs.Placements.{all_released, with_pins}
+use Rattle.placer.proofs.pins.PlacedPins.all_released.Given as goal
+
+abbrev pub invariant-loop-place : goal.invariant-loop-place
+invariant-loop-place l =
+    (has : ℕ → Bool) → HasMarks l.self.signals.items has l.enabled
+    → map view_stmt l.list.items ++ all_released (map view_declared l.names) has (with_pins (drop l.place l.self.signals.items) (drop l.place l.self.pins.items))
+    ≡ all_released (map view_declared l.names) has (pins_given l.self)

@@ -1,0 +1,12 @@
+-- No later pin is marked.
+use Rattle.std.proofs.Common.{◌≡◌, nat_lt, false, sym, ◌∙◌, arith}
+use Rattle.std.proofs.lemmas.Bool.Decides.{nat_tests}
+use Rattle.std.proofs.lemmas.List.{get_or_past}
+use Rattle.pld_base.specs.Bits.{bits}
+use Rattle.pld_base.proofs.BitLemmas.{length-bits}
+use Rattle.placer.proofs.wishing.is_marked.Goals as goal
+
+pub returns-else-pin-lt32 : goal.returns-else-pin-lt32
+returns-else-pin-lt32 c =
+    let off : nat_lt c.args.pin 32 ≡ false = grind (arith, nat_tests, c.if-pin-lt32.false) in
+    off ∙ sym (get_or_past (bits 32 c.args.marks) c.args.pin false (let long = length-bits 32 c.args.marks in omega (arith, long, c.if-pin-lt32.false)))

@@ -1,0 +1,11 @@
+use Rattle.std.proofs.Common.{ap, ◌∙◌}
+use Rattle.std.proofs.lemmas.Result.{IfOk-weaker}
+use Rattle.abel_tree.specs.Entries.{view_declared}
+use Rattle.placer.specs.Wanted.{wanted_of}
+use Rattle.placer.proofs.wishing.wish_of.Goals as goal
+
+pub returns : goal.returns
+returns g c =
+    IfOk-weaker c.wanted_of.result _ _
+    (λ w is es free. is es free ∙ ap (wanted_of g.D.Device.table es c.args.read (view_declared c.args.declared.now)) (c.as_slice.ensures.value ∙ c.in_ok-pins.ensures))
+    c.wanted_of.ensures

@@ -1,0 +1,6 @@
+-- The words so far.
+use Rattle.std.proofs.Common.{◌≡◌, take}
+use Rattle.placer.proofs.writing.copies.Given as goal
+
+abbrev pub invariant-loop-word : goal.invariant-loop-word
+invariant-loop-word l = l.list.items ≡ take l.word-index l.words

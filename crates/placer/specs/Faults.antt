@@ -1,0 +1,19 @@
+-- Why a module isn't placed (this project's rule).
+use Rattle.std.specs.Prelude.{◌≡◌, ℕ, List, map, get_or}
+use Rattle.pld_device.specs.Table.{Table}
+use Rattle.abel_tree.specs.Tree.{ModuleTree}
+use Rattle.pin_matching.specs.Assignments.{IsKept}
+use Rattle.placer.specs.declared.fault.PlaceFault.{PlaceFault}
+use Rattle.placer.specs.declared.fault.PlaceFault.TheVariants.{NoPlacement, OutOfMemory}
+use Rattle.placer.specs.Placements.{HasNoPlacement}
+
+-- the refusal has its cause; want of memory has none
+abbrev pub IsUnplaced : Table → ModuleTree → PlaceFault → Type 0
+IsUnplaced t m (NoPlacement signals places) = HasNoPlacement t m signals.items places
+IsUnplaced t m OutOfMemory = Unit {0}
+
+-- what is told of signals with these wishes: the set that is kept, by the signals' numbers
+abbrev pub IsToldOf : (signals : List ℕ) → (wishes : List (List ℕ)) → PlaceFault → Type 0
+IsToldOf signals wishes (NoPlacement told places) =
+    (set : List ℕ) × (IsKept wishes set places × (told.items ≡ map (λ k. get_or signals k 0) set))
+IsToldOf signals wishes OutOfMemory = Unit {0}

@@ -1,0 +1,106 @@
+//! Which pins are free, and which fit a signal.
+
+ghost use Rattle.std.specs.Prelude.{◌≡◌, map, is_some};
+ghost use Rattle.std.specs.List.{list_any};
+ghost use Rattle.pld_device.specs.declared.cell.Cell.{Cell};
+ghost use Rattle.abel_tree.specs.Entries.{view_declared, view_meaning};
+ghost use Rattle.abel_meaning.specs.Designs.{cell_on};
+ghost use Rattle.decls.specs.NamesBefore.{is_on_pin, is_taken};
+ghost use Rattle.decls.specs.Refused.{is_signal_pin};
+ghost use Rattle.placer.specs.Signals.{has_cell_for, is_enabled_by, is_free, pin_fits};
+ghost use Rattle.placer.specs.Wanted.{AreFree};
+
+use abel_tree::{Declared, Meaning};
+use design_refusals::{has_wrong_kind_on, is_stored};
+use pld_base::with_level;
+use pld_device::{Device, Enable};
+use use_refusals::{cell_on, has_read_path_on};
+
+/// Whether a pin may have a name: it is neither ground nor the supply.
+fn is_signal_pin<D: Device>(pin: u8) -> bool
+    ensures { result ≡ is_signal_pin D.table pin }
+{
+    pin != 0 && pin != D::GROUND && pin < D::PINS
+}
+
+/// Whether the pin enables.
+fn is_enabled_by(pin: u8, enable: Enable) -> bool
+    ensures { result ≡ is_enabled_by pin enable }
+{
+    match enable {
+        Enable::Row(_) => false,
+        Enable::PinLow(enabling) => enabling == pin,
+    }
+}
+
+/// Whether the pin enables some cell.
+fn is_enabling<D: Device>(pin: u8) -> bool
+    ensures { result ≡ list_any (λ (c : Cell). is_enabled_by pin c.enable) D.table.cells }
+{
+    for index in 0..D::CELLS {
+        if is_enabled_by(pin, D::cell(index).enable) {
+            return true;
+        }
+    }
+    false
+}
+
+/// Whether it is declared on the pin.
+fn is_on_pin(pin: u8, meaning: &Meaning) -> bool
+    ensures { result ≡ is_on_pin pin (view_meaning meaning.now) }
+{
+    match meaning {
+        Meaning::Pin {
+            pin: named,
+            negated: _,
+        } => *named == pin,
+        _ => false,
+    }
+}
+
+/// Whether a number names the pin.
+fn is_taken(names: &[Declared], pin: u8) -> bool
+    ensures { result ≡ is_taken (map view_declared names.now) pin }
+{
+    for declared in names {
+        if is_on_pin(pin, &declared.meaning) {
+            return true;
+        }
+    }
+    false
+}
+
+/// Whether the pin is free.
+fn is_free<D: Device>(names: &[Declared], pin: u8) -> bool
+    ensures { result ≡ is_free D.table (map view_declared names.now) pin }
+{
+    is_signal_pin::<D>(pin) && pin != D::CLOCK && !is_enabling::<D>(pin) && !is_taken(names, pin)
+}
+
+/// The pins that are free, bit k for pin k.
+pub(crate) fn free_pins<D: Device>(names: &[Declared]) -> u32
+    ensures { AreFree D.table (map view_declared names.now) result }
+{
+    let mut free = 0;
+    for pin in 0..D::PINS {
+        if is_free::<D>(names, pin) {
+            free = with_level(free, pin, true);
+        }
+    }
+    free
+}
+
+/// Whether there is a cell on the pin that can be what the signal is.
+fn has_cell_for<D: Device>(declared: &Declared, pin: u8) -> bool
+    ensures { result ≡ has_cell_for D.table (view_declared declared.now) pin }
+{
+    cell_on::<D>(pin).is_some() && !has_wrong_kind_on::<D>(pin, is_stored(declared))
+}
+
+/// Whether the pin fits the signal.
+pub(crate) fn pin_fits<D: Device>(declared: &Declared, read: bool, pin: u8) -> bool
+    ensures { result ≡ pin_fits D.table read (view_declared declared.now) pin }
+{
+    (!declared.assigned || has_cell_for::<D>(declared, pin))
+        && (!read || has_read_path_on::<D>(declared, pin, None))
+}

@@ -1,0 +1,88 @@
+//! Which pins a signal prefers.
+
+ghost use Rattle.std.specs.Prelude.{◌≡◌, ◌==◌, ◌++◌, IfOk, OnOk, is_none};
+ghost use Rattle.abel_meaning.specs.Designs.{cell_on};
+ghost use Rattle.placer.specs.Signals.{cells_of_room, large_cells, plain_pins, preferred, small_cells};
+
+use pld_base::OutOfMemory;
+use pld_device::{Cell, Device};
+use std::alloc::Global;
+use use_refusals::cell_on;
+
+/// Whether the cell has so many rows.
+fn is_of_room(cell: &Cell, room: u16) -> bool
+    ensures { result ≡ (cell.now.room == room) }
+{
+    u16::from(cell.room) == room
+}
+
+/// Adds the pins of the cells of a room.
+fn add_room<D: Device>(list: &mut Vec<u8>, room: u16) -> Result<(), OutOfMemory>
+    ensures { OnOk result (list.new.items ≡ list.old.items ++ cells_of_room D.table room) }
+{
+    for index in 0..D::CELLS {
+        let cell = D::cell(index);
+        if is_of_room(&cell, room) {
+            list.push(cell.pin)?;
+        }
+    }
+    Ok(())
+}
+
+/// The pins of cells, those of larger room first.
+fn large_cells<D: Device>(alloc: Global) -> Result<Vec<u8>, OutOfMemory>
+    ensures { IfOk result (λ v. v.items ≡ large_cells D.table) }
+{
+    let mut list = Vec::new(alloc);
+    let mut room = D::ROWS;
+    'rooms: while 0 < room {
+        add_room::<D>(&mut list, room)?;
+        room -= 1;
+    }
+    add_room::<D>(&mut list, 0)?;
+    Ok(list)
+}
+
+/// Adds the pins of cells, those of smaller room first.
+fn add_small<D: Device>(list: &mut Vec<u8>) -> Result<(), OutOfMemory>
+    ensures { OnOk result (list.new.items ≡ list.old.items ++ small_cells D.table) }
+{
+    add_room::<D>(list, 0)?;
+    for room in 0..D::ROWS {
+        add_room::<D>(list, room + 1)?;
+    }
+    Ok(())
+}
+
+/// Whether no cell is on the pin.
+fn is_plain<D: Device>(pin: u8) -> bool
+    ensures { result ≡ is_none (cell_on D.table pin) }
+{
+    cell_on::<D>(pin).is_none()
+}
+
+/// Adds the pins without a cell, in rising order.
+fn add_plain<D: Device>(list: &mut Vec<u8>) -> Result<(), OutOfMemory>
+    ensures { OnOk result (list.new.items ≡ list.old.items ++ plain_pins D.table) }
+{
+    for index in 0..D::PINS {
+        let pin = index + 1;
+        if is_plain::<D>(pin) {
+            list.push(pin)?;
+        }
+    }
+    Ok(())
+}
+
+/// The pins that a signal prefers, the most preferred one first.
+pub(crate) fn preferred<D: Device>(alloc: Global, assigned: bool) -> Result<Vec<u8>, OutOfMemory>
+    ensures { IfOk result (λ v. v.items ≡ preferred D.table assigned) }
+{
+    if assigned {
+        return large_cells::<D>(alloc);
+    }
+    let mut list = Vec::new(alloc);
+    add_plain::<D>(&mut list)?;
+    add_small::<D>(&mut list)?;
+    Ok(list)
+}
