@@ -4,5 +4,6 @@ pub mod Fitting
 pub mod Order
 pub mod Planned
 pub mod Products
+pub mod Rooms
 pub mod Rows
 pub mod Turning

@@ -27,7 +27,7 @@ use pld_device::{Device, Flip, Fuses};
 use std::alloc::{AllocError, Global};
 
 /// The cubes of the pool in which all covers are made.
-const POOL: usize = 49_152;
+pub(crate) const POOL: usize = 49_152;
 
 /// Whether a pin is the complement of what the rows, or the register, give.
 fn pin_complements(flip: Flip, registered: bool, inverted: bool) -> bool

@@ -79,7 +79,7 @@ fn rows_of<D: Device>(
 }
 
 /// Takes the covers of a cell out of the list.
-fn taken(left: &mut Vec<Option<CellCovers>>, cell: usize) -> Option<CellCovers>
+pub(crate) fn taken(left: &mut Vec<Option<CellCovers>>, cell: usize) -> Option<CellCovers>
     requires { cell < length left.old.items }
     ensures value { result ≡ get_or left.old.items cell None }
     ensures later { (d : ℕ) → cell < d → get_or left.new.items d None ≡ get_or left.old.items d None }

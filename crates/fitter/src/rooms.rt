@@ -1,0 +1,104 @@
+//! The cells that are over their room, all of them.
+
+ghost use Rattle.std.specs.Prelude.{◌≡◌, ℕ, ◌<◌, ◌≤◌, IfOk, IfSome, length};
+ghost use Rattle.std.specs.List.{All};
+ghost use Rattle.abel_meaning.specs.SoundIds.{IsSoundNetlist};
+ghost use Rattle.fit_cells.specs.Choices.{FitsRoom};
+ghost use Rattle.fitter.specs.Rooms.{IsOver};
+
+use crate::covering::cover_cells;
+use crate::fault::FitFault;
+use crate::fitting::POOL;
+use crate::planning::taken;
+use bit_expr::Netlist;
+use cell_covers::{CellCovers, turn_mask};
+use cube_pool::CubePool;
+use fit_cells::{Tried, choose};
+use pld_base::{ListOf, OutOfMemory};
+use pld_device::Device;
+use std::alloc::Global;
+
+/// A cell with too few rows: its pin, its room, and how many rows the smaller one of its covers has.
+#[derive(Clone, Copy)]
+pub struct Overfull {
+    pub pin: u8,
+    pub room: u8,
+    pub rows: usize,
+}
+
+/// The lesser of two numbers.
+fn lesser(one: usize, other: usize) -> usize
+    ensures one { result ≤ one }
+    ensures other { result ≤ other }
+    ensures bound { (n : ℕ) → n < one → n < other → n < result }
+{
+    if one < other { one } else { other }
+}
+
+/// How many rows the smaller one of the covers has, if there is one.
+fn fewest(tried: &Tried) -> Option<usize>
+    ensures { IfSome result (λ rows. (room : ℕ) → (FitsRoom room tried.now.direct → ⊥) → (FitsRoom room tried.now.inverted → ⊥) → room < rows) }
+{
+    match (&tried.direct, &tried.inverted) {
+        (None, None) => None,
+        (Some(rows), None) => Some(rows.len()),
+        (None, Some(rows)) => Some(rows.len()),
+        (Some(direct), Some(inverted)) => Some(lesser(direct.len(), inverted.len())),
+    }
+}
+
+/// Whether the covers of a cell are over its room, and by how much.
+fn overfull_at<D: Device>(cell: u8, covers: CellCovers) -> Option<Overfull>
+    requires { cell < length D.table.cells }
+    ensures { IfSome result IsOver }
+{
+    let found = D::cell(cell);
+    match choose(covers.tried, usize::from(found.room)) {
+        Ok(_) => None,
+        Err(tried) => match fewest(&tried) {
+            None => None,
+            Some(rows) => Some(Overfull {
+                pin: found.pin,
+                room: found.room,
+                rows,
+            }),
+        },
+    }
+}
+
+/// Adds a cell that is over its room.
+fn add_overfull<D: Device>(
+    list: &mut Vec<Overfull>,
+    cell: u8,
+    covers: Option<CellCovers>,
+) -> Result<(), OutOfMemory>
+    requires cell { cell < length D.table.cells }
+    requires over { All IsOver list.old.items }
+    ensures { IfOk result (λ _. All IsOver list.new.items) }
+{
+    let Some(covers) = covers else {
+        return Ok(());
+    };
+    if let Some(over) = overfull_at::<D>(cell, covers) {
+        list.push(over)?;
+    }
+    Ok(())
+}
+
+/// The cells of a netlist that are over their room, in the order of the cells. It makes one pool for all covers.
+pub fn cells_over_room<D: Device>(
+    alloc: Global,
+    net: &Netlist,
+) -> Result<ListOf<Overfull>, FitFault>
+    requires { IsSoundNetlist D.table net.now }
+    ensures { IfOk result (λ list. All IsOver list) }
+{
+    let mut pool = CubePool::with_room(alloc, POOL)?;
+    let mut left = cover_cells::<D>(alloc, &mut pool, net, turn_mask::<D>(net))?;
+    let mut list = Vec::new(alloc);
+    for cell in 0..D::CELLS {
+        let covers = taken(&mut left, cell as usize);
+        add_overfull::<D>(&mut list, cell, covers)?;
+    }
+    Ok(ListOf::from_vec(list))
+}
