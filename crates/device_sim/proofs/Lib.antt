@@ -4,4 +4,5 @@ pub mod FoundAt
 pub mod Loaded
 pub mod OneList
 pub mod Outsides
+pub mod Shown
 pub mod Vectors

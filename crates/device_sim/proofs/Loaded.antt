@@ -22,7 +22,7 @@ use Rattle.device_sim.specs.VectorSteps.{chars_at, all_chars_at, mismatches_afte
 use Rattle.device_sim.proofs.OneList.{IsNarrow, is_vector_run, one_list}
 
 -- the characters at the pins of a device are few
-narrow : (pins : ℕ) (vectors : List Vector) → pins ≤ 24 → All IsNarrow (all_chars_at pins vectors)
+pub narrow : (pins : ℕ) (vectors : List Vector) → pins ≤ 24 → All IsNarrow (all_chars_at pins vectors)
 narrow pins vectors few = All-map IsNarrow (chars_at pins) vectors (λ k d within. omega (arith, length-take {A = ℕ}))
 
 module _ (t : Table) (default : Bool) (vectors : List Vector) (few : t.pins ≤ 24) where

@@ -70,15 +70,16 @@ module _ (m : Lookups) (ordered : IsOrdered m) where
       rw (steps_are (rest_of m o power_up) outsides)
       (runs_once m ordered o outsides (All-head IsWide o outsides wide) (All-tail IsWide o outsides wide)).runs
 
+  -- and so are those of vectors
+  pub vectors_run : (default : Bool) (vectors : List (List ℕ)) → All IsNarrow vectors → vectors ≢ [] → Run (logic_of m) (flat_map (outsides_of default) vectors) (points_after m None (flat_map (outsides_of default) vectors))
+  vectors_run default [] narrow some = absurd (some refl)
+  vectors_run default (chars ∷ vectors) narrow some = points_run (flat_map (outsides_of default) (chars ∷ vectors)) (some_outsides default chars vectors) (outsides_wide default (chars ∷ vectors) narrow)
+
   -- the computed list is that of the logic's run
   pub is_vector_run : (default : Bool) (vectors : List (List ℕ)) → All IsNarrow vectors → IsVectorRun (logic_of m) default vectors (mismatches_after m default 1 None vectors)
   unfolding mismatches_after
   is_vector_run default vectors narrow = record {
     points = points_after m None (flat_map (outsides_of default) vectors);
-    runs = runs vectors narrow;
+    runs = vectors_run default vectors narrow;
     disagrees = refl;
   }
-    where
-      runs : (list : List (List ℕ)) → All IsNarrow list → list ≢ [] → Run (logic_of m) (flat_map (outsides_of default) list) (points_after m None (flat_map (outsides_of default) list))
-      runs [] some_narrow some = absurd (some refl)
-      runs (chars ∷ list) some_narrow some = points_run (flat_map (outsides_of default) (chars ∷ list)) (some_outsides default chars list) (outsides_wide default (chars ∷ list) some_narrow)

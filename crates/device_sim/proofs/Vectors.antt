@@ -31,20 +31,20 @@ module _ (m : Lookups) where
   last_point before o (next ∷ rest) = last_point (Some (point_after m before o)) next rest
 
   -- of the points of some levels and later ones, the last of the former, and the latter
-  point_between : (before : Option Levels) (o : List Bool) (rest later : List (List Bool)) → slice_get (points_after m before ((o ∷ rest) ++ later)) (length (o ∷ rest) - 1) ≡ last_after m before (o ∷ rest)
+  pub point_between : (before : Option Levels) (o : List Bool) (rest later : List (List Bool)) → slice_get (points_after m before ((o ∷ rest) ++ later)) (length (o ∷ rest) - 1) ≡ last_after m before (o ∷ rest)
   point_between before o rest later =
       let one : length (o ∷ rest) - 1 ≡ length rest = omega arith in
       rw (one, points_after-append before (o ∷ rest) later)
       (slice_get-append (points_after m before (o ∷ rest)) (points_after m (last_after m before (o ∷ rest)) later) (length rest) (omega (arith, length-points_after before (o ∷ rest)))
       ∙ last_point before o rest)
 
-  points_behind : (before : Option Levels) (first later : List (List Bool)) → drop (length first) (points_after m before (first ++ later)) ≡ points_after m (last_after m before first) later
+  pub points_behind : (before : Option Levels) (first later : List (List Bool)) → drop (length first) (points_after m before (first ++ later)) ≡ points_after m (last_after m before first) later
   points_behind before first later =
       rw (points_after-append before first later, ← length-points_after before first)
       (drop-append_seam (points_after m before first) (points_after m (last_after m before first) later))
 
   -- a vector's outside levels are some
-  some_outside : (default : Bool) (chars : List ℕ) → (o : List Bool) × (rest : List (List Bool)) × (outsides_of default chars ≡ o ∷ rest)
+  pub some_outside : (default : Bool) (chars : List ℕ) → (o : List Bool) × (rest : List (List Bool)) × (outsides_of default chars ≡ o ∷ rest)
   unfolding outsides_of
   some_outside default chars =
       (at_pins (level_before default) chars, (if has_clock chars then at_pins (level_turned default) chars ∷ at_pins (level_before default) chars ∷ [] else []), refl)

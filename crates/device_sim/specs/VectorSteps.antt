@@ -1,12 +1,14 @@
 -- How the vectors' run is computed, one vector after another. These are private helpers: no public clause cites
 -- them.
-use Rattle.std.specs.Prelude.{ℕ, Bool, if◌then◌else◌, Option, None, Some, List, [], ◌∷◌, map, take, flat_map}
+use Rattle.std.specs.Prelude.{◌≡◌, ℕ, Bool, if◌then◌else◌, Option, None, Some, List, [], ◌∷◌, map, take, flat_map}
+use Rattle.pld_base.specs.declared.point.Trace.{Trace}
 use Rattle.pld_base.specs.declared.point.Vector.{Vector}
 use Rattle.pld_base.specs.Points.{Levels}
 use Rattle.pld_machine.specs.Lookups.{Lookups, logic_of}
 use Rattle.pld_machine.specs.Settling.{rest_of, step_of}
 use Rattle.pld_machine.specs.Steps.{power_up}
 use Rattle.device_sim.specs.declared.report.Mismatch.{Mismatch}
+use Rattle.device_sim.specs.Traced.{IsShown}
 use Rattle.device_sim.specs.VectorRun.{level_before, level_turned, outsides_of, mismatches_of}
 
 -- the characters of a vector at pins 1 to the last one, and those of all vectors
@@ -40,3 +42,11 @@ last_after m before (outside ∷ rest) = last_after m (Some (point_after m befor
 unfoldable pub mismatches_after : Lookups → Bool → (vector : ℕ) → Option Levels → List (List ℕ) → List Mismatch
 mismatches_after m default vector before vectors =
     mismatches_of (logic_of m) default vector vectors (points_after m before (flat_map (outsides_of default) vectors))
+
+-- each vector is shown at its last point, after the point that there may be
+abbrev pub ShownAfter : Lookups → Bool → Option Levels → List (List ℕ) → List Trace → Type 0
+ShownAfter m default before [] traces = traces ≡ []
+ShownAfter m default before (chars ∷ vectors) [] = ⊥
+ShownAfter m default before (chars ∷ vectors) (trace ∷ traces) =
+    IsShown (logic_of m) (last_after m before (outsides_of default chars)) trace
+    × ShownAfter m default (last_after m before (outsides_of default chars)) vectors traces

@@ -29,7 +29,7 @@ fn point_after<L: Logic>(logic: &L, before: Option<Point>, outside: u32) -> Poin
 }
 
 /// The point at which a vector is tested: with a clock, after two further steps.
-fn point_of<L: Logic>(logic: &L, before: Option<Point>, chars: &[u8], default: bool) -> Point
+pub fn point_of<L: Logic>(logic: &L, before: Option<Point>, chars: &[u8], default: bool) -> Point
     requires ordered { IsOrdered (L.meaning logic.now) }
     requires few { length chars.now ≤ 31 }
     ensures { last_after (L.meaning logic.now) (option_map levels_of before)
