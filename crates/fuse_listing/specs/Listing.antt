@@ -1,5 +1,5 @@
 -- The listing of a device's fuses in the names of a source (this project's rule).
-use Rattle.std.specs.Prelude.{ℕ, ◌+◌, ◌*◌, ◌/◌, ◌%◌, ◌==◌, ◌<◌, Bool, false, not, ◌&&◌, if◌then◌else◌, Option, None, Some, List, [], ◌∷◌, ◌++◌, length, filter, flat_map, slice_get, codes}
+use Rattle.std.specs.Prelude.{ℕ, ◌+◌, ◌*◌, ◌/◌, ◌%◌, ◌==◌, ◌<◌, Bool, false, not, ◌&&◌, if◌then◌else◌, Option, None, Some, List, [], ◌∷◌, ◌++◌, length, filter, flat_map, slice_get, zip, codes}
 use Rattle.std.specs.List.{list_any, range_with_len}
 use Rattle.std.specs.Fmt.{decimal}
 use Rattle.pld_base.specs.DeviceNames.{device_text}
@@ -14,6 +14,7 @@ use Rattle.pld_device.specs.Rows.{is_switched_on}
 use Rattle.pld_device.specs.Table.{Table, cell_at}
 use Rattle.abel_tree.specs.Entries.{Kind, APin, Entry}
 use Rattle.abel_meaning.specs.Choices.{is_free}
+use Rattle.abel_meaning.specs.Declarations.{is_unnumbered}
 
 -- ---- names of pins
 
@@ -163,6 +164,21 @@ text_if_assigned t fuses es c (Some e) = if e.assigned then cell_text t fuses es
 abbrev pub assigned_text : Table → List Bool → List Entry → (cell : ℕ) → List ℕ
 assigned_text t fuses es c = text_if_assigned t fuses es c (name_on es (cell_at t c).pin)
 
+-- ---- pins that were given
+
+-- the line of a pin, by its name
+abbrev pub pin_line : Kind → (name : List ℕ) → List ℕ
+pin_line (APin pin negated) name = codes "pin " ++ decimal pin ++ codes " " ++ name ++ codes "\n"
+pin_line _ name = []
+
+-- that of a signal which was given its pin, and has no line of a cell: it has no number, and nothing is assigned to it
+abbrev pub given_line : (declared placed : Entry) → List ℕ
+given_line x e = if is_unnumbered x.kind && not x.assigned then pin_line e.kind e.name else []
+
+-- names as they are declared, and as they are placed
+abbrev pub given_lines : (declared placed : List Entry) → List ℕ
+given_lines declared placed = flat_map (λ (x : Entry × Entry). given_line x.0 x.1) (zip declared placed)
+
 -- ---- the whole
 
 -- the line of the row of all registers that there may be
@@ -170,9 +186,10 @@ abbrev pub common_line : Table → List Bool → List Entry → (word : List ℕ
 common_line t fuses es word None = []
 common_line t fuses es word (Some row) = row_line t fuses es word row
 
-abbrev pub listing_text : Table → List Bool → List Entry → List ℕ
-listing_text t fuses es =
+abbrev pub listing_text : Table → List Bool → (declared placed : List Entry) → List ℕ
+listing_text t fuses declared es =
     codes "device " ++ device_text t.name ++ codes "\n"
+    ++ given_lines declared es
     ++ flat_map (assigned_text t fuses es) (range_with_len 0 (length t.cells))
     ++ common_line t fuses es (codes "reset ") t.reset
     ++ common_line t fuses es (codes "preset ") t.preset

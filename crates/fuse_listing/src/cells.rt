@@ -18,8 +18,8 @@ use pld_base::{OutOfMemory, put_decimal};
 use pld_device::{Cell, Device, Enable};
 use std::alloc::Global;
 
-/// How many of some rows are in use.
-fn count_in_use<D: Device>(fuses: &[bool], first: u16, room: u8) -> usize
+/// How many of some rows are in use. Takes no memory.
+pub fn count_in_use<D: Device>(fuses: &[bool], first: u16, room: u8) -> usize
     requires { first + room ≤ 65535 }
     ensures { result ≡ length (filter (is_in_use D.table fuses.now) (range_with_len first room)) }
 {
@@ -112,7 +112,7 @@ fn put_polarity<D: Device>(out: &mut Vec<u8>, fuses: &[bool], cell: u8) -> Resul
 }
 
 /// Appends a number behind a text.
-fn put_numbered(
+pub(crate) fn put_numbered(
     alloc: Global,
     out: &mut Vec<u8>,
     text: &[u8],

@@ -25,8 +25,8 @@ pub fn level_of(fuses: &[bool], fuse: usize) -> bool
     }
 }
 
-/// Whether a control fuse that is there has the level that it means.
-fn says(fuses: &[bool], bit: Option<FuseBit>) -> bool
+/// Whether a control fuse that is there has the level that it means. Takes no memory.
+pub fn says(fuses: &[bool], bit: Option<FuseBit>) -> bool
     ensures { result ≡ says fuses.now bit }
 {
     match bit {
@@ -59,8 +59,8 @@ pub fn complements_output<D: Device>(fuses: &[bool], cell: u8) -> bool
     }
 }
 
-/// The pin that a pair belongs to.
-fn pin_of<D: Device>(pair: Carry) -> u8
+/// The pin that a pair belongs to. Takes no memory.
+pub fn pin_of<D: Device>(pair: Carry) -> u8
     requires { CarryIsThere D.table pair }
     ensures { result ≡ pin_of D.table pair }
 {

@@ -13,8 +13,8 @@ use pld_base::OutOfMemory;
 use pld_device::Device;
 use std::alloc::Global;
 
-/// Whether the fuse of a row and a column is opened.
-fn is_opened<D: Device>(fuses: &[bool], row: u16, column: u16) -> bool
+/// Whether the fuse of a row and a column is opened. Takes no memory.
+pub fn is_opened<D: Device>(fuses: &[bool], row: u16, column: u16) -> bool
     ensures { result ≡ is_opened D.table fuses.now row column }
 {
     level_of(

@@ -6,6 +6,7 @@ ghost use Rattle.abel_tree.specs.Entries.{entries_of};
 ghost use Rattle.fuse_listing.specs.Listing.{assigned_text, common_line, listing_text};
 
 use crate::cells::put_if_assigned;
+use crate::given::put_given;
 use crate::rows::put_row_line;
 use abel_tree::Names;
 use pld_base::OutOfMemory;
@@ -46,23 +47,31 @@ fn put_common<D: Device>(
     }
 }
 
-/// The listing of a device's fuses: for each assigned cell its pin and name, whether it is a register, how its pin
-/// follows its output, its data rows in use of those that it has room for, what enables it, and these rows, as
-/// products of the names; then the reset and preset of all registers, where the device has such rows.
+/// The listing of a device's fuses: for each pin that was given to a signal which drives no cell its number and name; for
+/// each assigned cell its pin and name, whether it is a register, how its pin follows its output, its data rows in use of
+/// those that it has room for, what enables it, and these rows, as products of the names; then the reset and preset of all
+/// registers, where the device has such rows. The names are given as they are declared, and as they are placed.
 ///
 /// # Errors
 /// Only want of memory.
 pub fn listing<D: Device>(
     alloc: Global,
+    declared: &Names,
     names: &Names,
     fuses: &Fuses,
 ) -> Result<Vec<u8>, OutOfMemory>
-    ensures { IfOk result (λ text. text.items ≡ listing_text D.table fuses.now (entries_of names.now)) }
+    ensures { IfOk result (λ text. text.items ≡ listing_text D.table fuses.now (entries_of declared.now) (entries_of names.now)) }
 {
     let levels = fuses.levels();
     let mut out = Vec::from_slice(alloc, b"device ")?;
     out.extend_from_slice(D::NAME.text().as_bytes())?;
     out.push(b'\n')?;
+    put_given(
+        alloc,
+        &mut out,
+        declared.list.as_slice(),
+        names.list.as_slice(),
+    )?;
     put_cells::<D>(alloc, &mut out, levels, names)?;
     put_common::<D>(alloc, &mut out, levels, names, b"reset ", D::RESET)?;
     put_common::<D>(alloc, &mut out, levels, names, b"preset ", D::PRESET)?;
