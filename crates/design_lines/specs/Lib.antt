@@ -1,3 +1,4 @@
 pub mod Designs
 pub mod Fits
+pub mod Placings
 pub mod Told
