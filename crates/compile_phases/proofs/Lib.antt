@@ -2,6 +2,7 @@ pub mod NarrowVectors
 pub mod NotRefused
 pub mod PhaseFaults
 pub mod PlacedNames
+pub mod PlacedRefusals
 pub mod Refusals
 pub mod SameCells
 pub mod SameContributions

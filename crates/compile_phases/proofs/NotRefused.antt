@@ -15,7 +15,7 @@ use Rattle.set_expr.specs.SectionOrder.{section_order}
 use Rattle.fitter.specs.declared.fault.FitFault.{FitFault}
 use Rattle.fitter.specs.declared.fault.FitFault.TheVariants as fit
 use Rattle.compile_phases.specs.declared.fault.CompileFault.{CompileFault}
-use Rattle.compile_phases.specs.declared.fault.CompileFault.TheVariants.{Source, Fit, OutOfMemory}
+use Rattle.compile_phases.specs.declared.fault.CompileFault.TheVariants.{Source, Place, Fit, OutOfMemory}
 use Rattle.compile_phases.specs.declared.fault.SourceFault.{SourceFault}
 use Rattle.compile_phases.specs.declared.fault.SourceFault.TheVariants.{Expand, Scan, Parse, Names, Sections, Design, Width}
 use Rattle.compile_phases.specs.Fits.{FitsAsWritten, IsOfFit, IsUnfitFor}
@@ -25,7 +25,7 @@ use Rattle.compile_phases.proofs.SameCells.{not_wide, not_unfit}
 use Rattle.compile_phases.proofs.SameContributions.{not_refused}
 
 -- nothing of none is the first
-no_first : {F : Type 0} (o : Ranks F) (fs : List F) (f : F) → fs ≡ [] → first_refusal o fs ≡ Some f → ⊥
+pub no_first : {F : Type 0} (o : Ranks F) (fs : List F) (f : F) → fs ≡ [] → first_refusal o fs ≡ Some f → ⊥
 no_first o fs f none first = let gone : None ≡ Some f = sym (ap (first_refusal o) none) ∙ first in absurd (cc)
 
 -- a design of which nothing is refused is not refused by other contributions of its sections
@@ -64,5 +64,6 @@ module _ (t : Table) (m : ModuleTree) (laws : IsDevice t) (accepted : IsAccepted
 
     pub not_for : (e : CompileFault) → e ≢ OutOfMemory → IsRefusedFor t m e → ⊥
     not_for (Source f line) memory h = not_source f line.items h
+    not_for (Place f line) memory h = h
     not_for (Fit f line) memory h = not_fit f line.items h.0 h.1
     not_for OutOfMemory memory h = memory refl

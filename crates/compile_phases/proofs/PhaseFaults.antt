@@ -11,7 +11,7 @@ use Rattle.fitter.specs.declared.fault.FitFault.{FitFault}
 use Rattle.fitter.specs.declared.fault.FitFault.TheVariants as fit
 use Rattle.fitter.specs.Answers.{FitAnswers}
 use Rattle.compile_phases.specs.declared.fault.CompileFault.{CompileFault}
-use Rattle.compile_phases.specs.declared.fault.CompileFault.TheVariants.{Source, Fit, OutOfMemory}
+use Rattle.compile_phases.specs.declared.fault.CompileFault.TheVariants.{Source, Place, Fit, OutOfMemory}
 use Rattle.compile_phases.specs.declared.fault.SourceFault.{SourceFault}
 use Rattle.compile_phases.specs.declared.fault.SourceFault.TheVariants.{Expand, Scan, Parse, Names, Sections, Design, Width}
 use Rattle.compile_phases.specs.Fits.{IsOfFit}
@@ -60,6 +60,7 @@ by_width t m es net (Design f) line names is h = absurd h
 pub by_fit : (t : Table) (m : ModuleTree) (es : List Entry) (net : Netlist) (e : CompileFault) → es ≡ names_of t m → IsNetlistFor t m net
     → IsFitRefused t es net e → IsRefusedFor t m e
 by_fit t m es net (Source f line) names is h = by_width t m es net f line.items names is h
+by_fit t m es net (Place f line) names is h = absurd h
 by_fit t m es net (Fit f line) names is h = (
   h.0,
   record {

@@ -1,4 +1,5 @@
 pub mod Fits
 pub mod Lines
 pub mod Phases
+pub mod Placings
 pub mod SourceRefusals

@@ -33,14 +33,16 @@ use Rattle.fitter.specs.declared.fault.FitFault.{FitFault}
 use Rattle.fitter.specs.declared.fault.FitFault.TheVariants as fit
 use Rattle.fitter.specs.Answers.{FitAnswers, IsFitOf}
 use Rattle.module_reader.specs.declared.fault.ReadFault.TheVariants as reading
+use Rattle.placer.specs.declared.fault.PlaceFault.{PlaceFault}
 use Rattle.module_reader.specs.Texts.{SpellsModule, IsRead, IsUnread}
 use Rattle.summary_line.specs.Summary.{assigned_cells, design_cells}
 use Rattle.compile_phases.specs.declared.fault.CompileFault.{CompileFault}
-use Rattle.compile_phases.specs.declared.fault.CompileFault.TheVariants.{Source, Fit, OutOfMemory}
+use Rattle.compile_phases.specs.declared.fault.CompileFault.TheVariants.{Source, Place, Fit, OutOfMemory}
 use Rattle.compile_phases.specs.declared.fault.SourceFault.{SourceFault}
 use Rattle.compile_phases.specs.declared.fault.SourceFault.TheVariants.{Expand, Scan, Parse, Names as NamesRefused, Sections, Design, Width}
 use Rattle.compile_phases.specs.Fits.{IsOfFit, IsUnfitFor}
 use Rattle.compile_phases.specs.Lines.{read_text, name_text, section_text}
+use Rattle.compile_phases.specs.Placings.{IsPlacedFor, IsUnplacedFor}
 use Rattle.compile_phases.specs.SourceRefusals.{HasDesign, IsNetlistOf, IsRefusedSo}
 
 -- ---- refusals
@@ -48,8 +50,16 @@ use Rattle.compile_phases.specs.SourceRefusals.{HasDesign, IsNetlistOf, IsRefuse
 -- the source is refused so that this holds with its line, or memory is out
 abbrev pub IsOfSource : (SourceFault → (line : List ℕ) → Type 0) → CompileFault → Type 0
 IsOfSource P (Source f line) = P f line.items
+IsOfSource P (Place f line) = ⊥
 IsOfSource P (Fit f line) = ⊥
 IsOfSource P OutOfMemory = Unit {0}
+
+-- it can't be placed so that this holds with its line, or memory is out
+abbrev pub IsOfPlacing : (PlaceFault → (line : List ℕ) → Type 0) → CompileFault → Type 0
+IsOfPlacing P (Source f line) = ⊥
+IsOfPlacing P (Place f line) = P f line.items
+IsOfPlacing P (Fit f line) = ⊥
+IsOfPlacing P OutOfMemory = Unit {0}
 
 -- there was memory for the line
 abbrev pub IsMade : Result (Vec ℕ) NoMemory → List ℕ → Type 0
@@ -95,6 +105,7 @@ IsWidthFault t es net _ line = ⊥
 -- a refusal of the fit, with its line: of the width before that of the rest
 abbrev pub IsFitRefused : Table → List Entry → Netlist → CompileFault → Type 0
 IsFitRefused t es net (Source f line) = IsWidthFault t es net f line.items
+IsFitRefused t es net (Place f line) = ⊥
 IsFitRefused t es net (Fit f line) = IsOfFit f × FitAnswers t net (Err f) × (fit_text t es net f ≡ Some line.items)
 IsFitRefused t es net OutOfMemory = Unit {0}
 
@@ -105,7 +116,12 @@ pub record IsReadAlone (text : List ℕ) (m : ModuleTree) : Type 0 where
   pub read : IsRead text m
   pub only : (other : ModuleTree) → SpellsModule text other → other ≡ m
 
--- the names of the module, of which nothing is refused
+-- the names that the module declares, of which nothing is refused
+pub record AreDeclaredBy (t : Table) (m : ModuleTree) (n : Names) : Type 0 where
+  pub entries : entries_of n ≡ names_of t m
+  pub accepted : name_refusals t m ≡ []
+
+-- and each pin has a number
 pub record AreNamesFor (t : Table) (m : ModuleTree) (n : Names) : Type 0 where
   pub entries : entries_of n ≡ names_of t m
   pub accepted : name_refusals t m ≡ []
@@ -122,8 +138,17 @@ pub record IsNetlistFor (t : Table) (m : ModuleTree) (net : Netlist) : Type 0 wh
 -- it is refused
 abbrev pub IsRefusedFor : Table → ModuleTree → CompileFault → Type 0
 IsRefusedFor t m (Source f line) = IsRefusedSo f line.items t m
+IsRefusedFor t m (Place f line) = ⊥
 IsRefusedFor t m (Fit f line) = IsOfFit f × IsUnfitFor f line.items t m
 IsRefusedFor t m OutOfMemory = Unit {0}
+
+-- it is refused by its names, or can't be placed, or the placed one is refused
+abbrev pub IsRefusedBy : Table → ModuleTree → CompileFault → Type 0
+IsRefusedBy t m (Source (NamesRefused f) line) = IsRefusedSo (NamesRefused f) line.items t m
+IsRefusedBy t m (Source f line) = IsPlacedFor (IsRefusedSo f line.items) t m
+IsRefusedBy t m (Place f line) = IsUnplacedFor f line.items t m
+IsRefusedBy t m (Fit f line) = IsOfFit f × IsPlacedFor (IsUnfitFor f line.items) t m
+IsRefusedBy t m OutOfMemory = Unit {0}
 
 -- ---- laws
 

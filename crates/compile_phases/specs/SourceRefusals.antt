@@ -34,6 +34,7 @@ use Rattle.compile_phases.specs.declared.fault.SourceFault.{SourceFault}
 use Rattle.compile_phases.specs.declared.fault.SourceFault.TheVariants.{Expand, Scan, Parse, Names, Sections, Design, Width}
 use Rattle.devices.specs.Devices.{table_of}
 use Rattle.compile_phases.specs.Lines.{read_text, name_text, section_text}
+use Rattle.compile_phases.specs.Placings.{IsPlacedFor}
 
 -- ---- a module for a device, phase by phase
 
@@ -112,4 +113,4 @@ IsSourceRefused text (Expand f) line = IsUnread text (reading.Expand f) × (read
 IsSourceRefused text (Scan f) line = IsUnread text (reading.Scan f) × (read_text (reading.Scan f) ≡ Some line)
 IsSourceRefused text (Parse f) line = IsUnread text (reading.Parse f) × (read_text (reading.Parse f) ≡ Some line)
 IsSourceRefused text (Names f) line = (HasNoDevice text f × (name_text f ≡ Some line)) ⊎ IsReadFor text (IsRefusedSo (Names f) line)
-IsSourceRefused text f line = IsReadFor text (IsRefusedSo f line)
+IsSourceRefused text f line = IsReadFor text (IsPlacedFor (IsRefusedSo f line))

@@ -6,6 +6,7 @@ use abel_parser::ParseFault;
 use decls::NameFault;
 use design::DesignFault;
 use fitter::FitFault;
+use placer::PlaceFault;
 use pld_base::OutOfMemory;
 use set_expr::SectionFault;
 use std::alloc::AllocError;
@@ -39,12 +40,16 @@ pub enum SourceFault {
     Width(FitFault),
 }
 
-/// Why a source has no fuse file: `Source` comes before `Fit`, which is never `TooWide`. The bytes are the report, a line.
+/// Why a source has no fuse file. A source is refused for its text and its names before its signals are placed, and for all
+/// else of it behind that; `Fit` comes last, and is never `TooWide`. The bytes are the report, a line.
 #[derive(Drop, Error)]
 pub enum CompileFault {
     /// The source is refused.
     #[error("the source is refused")]
     Source(SourceFault, Vec<u8>),
+    /// Too few pins are free for the signals that have to be given some: `NoPlacement` alone.
+    #[error("the signals can't be placed")]
+    Place(PlaceFault, Vec<u8>),
     /// The design does not fit the device.
     #[error("the design does not fit the device")]
     Fit(FitFault, Vec<u8>),

@@ -14,20 +14,25 @@ ghost use Rattle.source_sections.specs.SectionAnswers.{AreContributed};
 ghost use Rattle.source_vectors.specs.AllSections.{AreSections, all_sections_refused};
 ghost use Rattle.gathered.specs.Takeable.{IsTakeable};
 ghost use Rattle.fitter.specs.Answers.{IsFitOf};
-ghost use Rattle.compile_phases.specs.Phases.{AreNamesFor, IsDesignFault, IsFitRefused, IsNameFault, IsNetlistFor, IsOfSource, IsReadAlone, IsSectionFault, IsTextFault, IsUnnamed};
+ghost use Rattle.placer.specs.Following.{HasNumberedNames};
+ghost use Rattle.placer.specs.Placements.{IsPlacedModule};
+ghost use Rattle.compile_phases.specs.declared.fault.CompileFault.TheVariants.{OutOfMemory};
+ghost use Rattle.compile_phases.specs.Phases.{AreDeclaredBy, AreNamesFor, IsDesignFault, IsFitRefused, IsNameFault, IsNetlistFor, IsOfPlacing, IsOfSource, IsReadAlone, IsSectionFault, IsTextFault, IsUnnamed};
+ghost use Rattle.compile_phases.specs.Placings.{IsUnplacedFor};
 ghost use Rattle.compile_phases.specs.SourceRefusals.{IsDesignRefusedFor};
 
 use crate::fault::CompileFault;
 use crate::laws::sections_are_accepted;
-use crate::refusing::{uncontributed, undesigned, unfit, unnamed, unread};
+use crate::refusing::{uncontributed, undesigned, unfit, unnamed, unplaced, unread};
 use abel_tree::{Module, Names};
 use accepted_designs::unrefused_is_takeable;
 use bit_expr::Netlist;
-use declared_names::declare;
+use declared_names::{declare, numbered_names};
 use decls::device_of;
 use design::gather;
 use fitter::{Fitted, fit};
 use module_reader::read_module;
+use placer::place;
 use pld_base::DeviceName;
 use pld_device::Device;
 use set_expr::{Contributions, known_names};
@@ -57,15 +62,46 @@ pub fn device_named(alloc: Global, source: &Module) -> Result<DeviceName, Compil
     }
 }
 
-/// The names of a source.
-pub fn names_of<D: Device>(alloc: Global, source: &Module) -> Result<Names, CompileFault>
-    ensures ok { IfOk result (λ n. AreNamesFor D.table (view_module source.now) n) }
+/// The names that a source declares.
+pub fn declared_of<D: Device>(alloc: Global, source: &Module) -> Result<Names, CompileFault>
+    ensures ok { IfOk result (λ n. AreDeclaredBy D.table (view_module source.now) n) }
     ensures err { IfErr result (IsOfSource (IsNameFault (λ f.
         first_name_refusal D.table (view_module source.now) ≡ Some f))) }
 {
     match declare::<D>(alloc, source) {
         Ok(names) => Ok(names),
         Err(fault) => Err(unnamed(alloc, fault)),
+    }
+}
+
+/// The source with pins for its signals that have none.
+pub fn placed_of<D: Device>(
+    alloc: Global,
+    source: Module,
+    names: &Names,
+) -> Result<Module, CompileFault>
+    requires { AreDeclaredBy D.table (view_module source) names.now }
+    ensures ok { IfOk result (λ m. IsPlacedModule D.table (view_module source) (view_module m)) }
+    ensures numbered { IfOk result (λ m. HasNumberedNames D.table (view_module m)) }
+    ensures err { IfErr result (IsOfPlacing (λ f line. IsUnplacedFor f line D.table (view_module source))) }
+{
+    match place::<D>(alloc, source, names) {
+        Ok(placed) => Ok(placed),
+        Err(fault) => Err(unplaced(alloc, names, fault)),
+    }
+}
+
+/// The names of a source that is placed.
+pub fn names_of<D: Device>(alloc: Global, placed: &Module) -> Result<Names, CompileFault>
+    requires { HasNumberedNames D.table (view_module placed.now) }
+    ensures ok { IfOk result (λ n. AreNamesFor D.table (view_module placed.now) n) }
+    ensures err { IfErr result (λ e. e ≡ OutOfMemory) }
+{
+    numbered_names();
+    match declare::<D>(alloc, placed) {
+        Ok(names) => Ok(names),
+        // Nothing is refused of the names, so that only memory can be out.
+        Err(_) => Err(CompileFault::OutOfMemory),
     }
 }
 

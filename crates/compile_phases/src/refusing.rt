@@ -2,6 +2,8 @@
 
 ghost use Rattle.std.specs.Prelude.{◌≡◌, ℕ, List, Some, Err};
 ghost use Rattle.abel_tree.specs.Entries.{entries_of};
+ghost use Rattle.abel_tree.specs.Tree.{ModuleTree};
+ghost use Rattle.abel_meaning.specs.Kinds.{names_of};
 ghost use Rattle.abel_meaning.specs.SoundIds.{IsSoundNetlist};
 ghost use Rattle.design_lines.specs.Designs.{design_text};
 ghost use Rattle.design_lines.specs.Fits.{fit_text};
@@ -9,16 +11,20 @@ ghost use Rattle.fitter.specs.Answers.{FitAnswers};
 ghost use Rattle.module_reader.specs.Texts.{IsUnread};
 ghost use Rattle.compile_phases.specs.declared.fault.SourceFault.TheVariants as source;
 ghost use Rattle.compile_phases.specs.Lines.{name_text, section_text};
-ghost use Rattle.compile_phases.specs.Phases.{IsFitRefused, IsMade, IsOfSource, IsTextFault, IsTold};
+ghost use Rattle.pld_device.specs.Table.{Table};
+ghost use Rattle.placer.specs.Faults.{IsUnplaced};
+ghost use Rattle.compile_phases.specs.Phases.{IsFitRefused, IsMade, IsOfPlacing, IsOfSource, IsTextFault, IsTold};
+ghost use Rattle.compile_phases.specs.Placings.{IsUnplacedFor};
 
 use crate::fault::{CompileFault, SourceFault};
 use abel_tree::Names;
 use bit_expr::Netlist;
 use decls::NameFault;
 use design::DesignFault;
-use design_lines::{design_line, fit_line};
+use design_lines::{design_line, fit_line, placing_line};
 use fitter::FitFault;
 use module_reader::ReadFault;
+use placer::PlaceFault;
 use pld_base::OutOfMemory;
 use pld_device::Device;
 use refusal_lines::{name_line, read_line, section_line};
@@ -54,6 +60,22 @@ pub(crate) fn unnamed(alloc: Global, fault: NameFault) -> CompileFault
 {
     let line = name_line(alloc, &fault);
     source_refused(SourceFault::Names(fault), line)
+}
+
+/// Why a source can't be placed.
+pub(crate) fn unplaced(alloc: Global, names: &Names, fault: PlaceFault) -> CompileFault
+    ensures { (t : Table) (m : ModuleTree) → entries_of names.now ≡ names_of t m → IsUnplaced t m fault
+        → IsOfPlacing (λ f line. IsUnplacedFor f line t m) result }
+{
+    match fault {
+        PlaceFault::NoPlacement { signals, places } => {
+            match placing_line(alloc, names, signals.as_slice(), places) {
+                Ok(line) => CompileFault::Place(PlaceFault::NoPlacement { signals, places }, line),
+                Err(_) => CompileFault::OutOfMemory,
+            }
+        }
+        PlaceFault::OutOfMemory => CompileFault::OutOfMemory,
+    }
 }
 
 /// Why sections are refused.

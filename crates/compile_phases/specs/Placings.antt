@@ -1,0 +1,21 @@
+-- A module is placed before its sections are read: what is said of it then is said of the placed module (this project's rule).
+use Rattle.std.specs.Prelude.{◌≡◌, ℕ, Some, List}
+use Rattle.pld_device.specs.Table.{Table}
+use Rattle.abel_tree.specs.Tree.{ModuleTree}
+use Rattle.abel_meaning.specs.Kinds.{names_of}
+use Rattle.design_lines.specs.Placings.{placing_text}
+use Rattle.placer.specs.declared.fault.PlaceFault.{PlaceFault}
+use Rattle.placer.specs.declared.fault.PlaceFault.TheVariants as placing
+use Rattle.placer.specs.Placements.{HasNoPlacement, IsPlacedModule}
+
+-- some placed module of this one, of which this holds
+pub record IsPlacedFor (holds : Table → ModuleTree → Type 0) (t : Table) (m : ModuleTree) : Type 0 where
+  pub placed : ModuleTree
+  pub is : IsPlacedModule t m placed
+  pub so : holds t placed
+
+-- it can't be placed, and so it is told
+abbrev pub IsUnplacedFor : PlaceFault → (line : List ℕ) → Table → ModuleTree → Type 0
+IsUnplacedFor (placing.NoPlacement signals places) line t m =
+    HasNoPlacement t m signals.items places × (placing_text (names_of t m) signals.items places ≡ Some line)
+IsUnplacedFor placing.OutOfMemory line t m = ⊥
