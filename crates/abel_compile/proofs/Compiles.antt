@@ -1,21 +1,28 @@
 -- What the phases answer for the module of a text, as an answer for the text.
-use Rattle.std.proofs.Common.{◌≡◌, ℕ, Some, List, Result, Ok, Err, sym, subst, inl, inr}
+use Rattle.std.proofs.Common.{◌≡◌, ℕ, Some, List, Result, Ok, Err, sym, ap, ◌∙◌, subst, inl, inr}
 use Rattle.std.specs.Prelude.{IfOk, IfErr}
 use Rattle.pld_base.specs.declared.device_name.DeviceName.{DeviceName}
+use Rattle.jedec_file.specs.CanonicalFile.{canonical_file}
+use Rattle.abel_tree.specs.declared.words.Word.{Word}
 use Rattle.abel_tree.specs.Tree.{ModuleTree}
 use Rattle.abel_meaning.specs.DeviceStrings.{device_named}
+use Rattle.abel_meaning.specs.Kinds.{names_of}
+use Rattle.abel_meaning.specs.Vectors.{source_vectors}
 use Rattle.module_reader.specs.Texts.{SpellsModule, IsRead}
+use Rattle.placer.specs.Placements.{IsPlacedModule}
 use Rattle.abel_compile.specs.declared.compiled.Compiled.{Compiled}
 use Rattle.compile_phases.specs.declared.fault.CompileFault.{CompileFault}
-use Rattle.compile_phases.specs.declared.fault.CompileFault.TheVariants.{Source, Fit, OutOfMemory}
+use Rattle.compile_phases.specs.declared.fault.CompileFault.TheVariants.{Source, Place, Fit, OutOfMemory}
 use Rattle.compile_phases.specs.declared.fault.SourceFault.{SourceFault}
 use Rattle.compile_phases.specs.declared.fault.SourceFault.TheVariants.{Expand, Scan, Parse, Names, Sections, Design, Width}
 use Rattle.abel_compile.specs.Answers.{CompileAnswers}
 use Rattle.abel_compile.specs.Statement.{IsRightFile}
 use Rattle.devices.specs.Devices.{table_of}
-use Rattle.compile_phases.specs.Phases.{IsOfSource, IsTextFault, IsNameFault, IsUnnamed, IsReadAlone, IsRefusedFor}
+use Rattle.compile_phases.specs.Phases.{IsOfSource, IsTextFault, IsNameFault, IsUnnamed, IsReadAlone, IsRefusedBy}
+use Rattle.compile_phases.specs.Placings.{IsPlacedFor}
 use Rattle.abel_compile.specs.Compiling.{IsCompiledFor, IsCompiledOn}
-use Rattle.compile_phases.specs.SourceRefusals.{IsRefusedSo, IsSourceRefused}
+use Rattle.compile_phases.specs.SourceRefusals.{IsSourceRefused}
+use Rattle.compile_phases.proofs.PlacedRefusals.{placed_name}
 use Rattle.abel_compile.proofs.NeverRefused.{spelled}
 
 -- ---- the text
@@ -31,6 +38,7 @@ text_refused text (Width f) line h = absurd h
 
 pub of_text : (text : List ℕ) (e : CompileFault) → IsOfSource (IsTextFault text) e → CompileAnswers text (Err e)
 of_text text (Source f line) h = text_refused text f line.items h
+of_text text (Place f line) h = absurd h
 of_text text (Fit f line) h = absurd h
 of_text text OutOfMemory h = tt
 
@@ -49,43 +57,44 @@ device_refused text m (Width f) line read h = absurd h
 pub of_device : (text : List ℕ) (m : ModuleTree) (e : CompileFault) → IsRead text m → IsOfSource (IsNameFault (IsUnnamed m)) e
     → CompileAnswers text (Err e)
 of_device text m (Source f line) read h = device_refused text m f line.items read h
+of_device text m (Place f line) read h = absurd h
 of_device text m (Fit f line) read h = absurd h
 of_device text m OutOfMemory read h = tt
 
 -- ---- its module for the device
 
 module _ (text : List ℕ) (m : ModuleTree) (device : DeviceName) (read : IsRead text m) (named : device_named m ≡ Some device) where
-  source_refused : (f : SourceFault) (line : List ℕ) → IsRefusedSo f line (table_of device) m → IsSourceRefused text f line
-  source_refused (Names f) line h = inr (record { source = m; read = read; device = device; named = named; so = h })
-  source_refused (Sections f) line h = record { source = m; read = read; device = device; named = named; so = h }
-  source_refused (Design f) line h = record { source = m; read = read; device = device; named = named; so = h }
-  source_refused (Width f) line h = record { source = m; read = read; device = device; named = named; so = h }
-  source_refused (Expand f) line h = absurd h
-  source_refused (Scan f) line h = absurd h
-  source_refused (Parse f) line h = absurd h
-
-  pub of_refused : (e : CompileFault) → IsRefusedFor (table_of device) m e → CompileAnswers text (Err e)
-  of_refused (Source f line) h = source_refused f line.items h
+  pub of_refused : (e : CompileFault) → IsRefusedBy (table_of device) m e → CompileAnswers text (Err e)
+  of_refused (Source (Names f) line) h = inr (record { source = m; read = read; device = device; named = named; so = h })
+  of_refused (Source (Sections f) line) h = record { source = m; read = read; device = device; named = named; so = h }
+  of_refused (Source (Design f) line) h = record { source = m; read = read; device = device; named = named; so = h }
+  of_refused (Source (Width f) line) h = record { source = m; read = read; device = device; named = named; so = h }
+  of_refused (Source (Expand f) line) h = let never : ⊥ = h.so in absurd never
+  of_refused (Source (Scan f) line) h = let never : ⊥ = h.so in absurd never
+  of_refused (Source (Parse f) line) h = let never : ⊥ = h.so in absurd never
+  of_refused (Place f line) h = record { source = m; read = read; device = device; named = named; so = h }
   of_refused (Fit f line) h = (h.0, record { source = m; read = read; device = device; named = named; so = h.1 })
   of_refused OutOfMemory h = tt
 
 -- the module is compiled for the device that it names
 pub of_compiled : (text : List ℕ) (m : ModuleTree) (device : DeviceName) (c : Compiled) → IsReadAlone text m → device_named m ≡ Some device
-    → IsCompiledOn (table_of device) device m c → CompileAnswers text (Ok c)
+    → IsPlacedFor (λ t p. IsCompiledOn t (names_of t m) device p c) (table_of device) m → CompileAnswers text (Ok c)
 of_compiled text m device c alone named is =
-    let here : IsCompiledFor (table_of c.device) m c =
-    subst (λ (d : DeviceName). IsCompiledFor (table_of d) m c) (sym is.device_is) is.compiled in
+    let here : IsCompiledFor (table_of c.device) (names_of (table_of c.device) m) is.placed c =
+    subst (λ (d : DeviceName). IsCompiledFor (table_of d) (names_of (table_of d) m) is.placed c) (sym is.so.device_is) is.so.compiled in
     record {
       right = record {
         source = m;
         read = spelled text m alone.read;
         only = alone.only;
-        named = subst (λ (d : DeviceName). device_named m ≡ Some d) (sym is.device_is) named;
+        named = subst (λ (d : DeviceName). device_named m ≡ Some d) (sym is.so.device_is) named;
+        placed = is.placed;
+        is_placed = subst (λ (d : DeviceName). IsPlacedModule (table_of d) m is.placed) (sym is.so.device_is) is.is;
         fuses = here.fuses;
         size = here.right.size;
         one_rest = here.right.does.one_rest;
         does = here.right.does;
-        canonical = here.told.canonical;
+        canonical = here.told.canonical ∙ ap (λ (w : Word). canonical_file (table_of c.device) w.text here.fuses (source_vectors (table_of c.device) is.placed)) (placed_name (table_of device) m is.placed is.is);
         reads_back = here.told.reads_back;
       };
       read = alone.read;
@@ -98,7 +107,7 @@ of_compiled text m device c alone named is =
 
 -- either answer of the module's device
 pub answers_of : (text : List ℕ) (m : ModuleTree) (device : DeviceName) (r : Result Compiled CompileFault) → IsReadAlone text m
-    → device_named m ≡ Some device → IfOk r (λ c. IsCompiledOn (table_of device) device m c) → IfErr r (IsRefusedFor (table_of device) m)
+    → device_named m ≡ Some device → IfOk r (λ c. IsPlacedFor (λ t p. IsCompiledOn t (names_of t m) device p c) (table_of device) m) → IfErr r (IsRefusedBy (table_of device) m)
     → CompileAnswers text r
 answers_of text m device (Ok c) alone named ok err = of_compiled text m device c alone named ok
 answers_of text m device (Err e) alone named ok err = of_refused text m device alone.read named e err

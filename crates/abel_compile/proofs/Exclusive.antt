@@ -4,8 +4,11 @@ use Rattle.pld_base.specs.declared.device_name.DeviceName.{DeviceName}
 use Rattle.pld_device.specs.Table.{Table}
 use Rattle.abel_tree.specs.Tree.{ModuleTree}
 use Rattle.abel_meaning.specs.DeviceStrings.{device_named}
+use Rattle.decls.specs.FaultOrder.{name_order}
+use Rattle.decls.specs.NameRefusals.{name_refusals}
 use Rattle.fitter.specs.declared.fault.FitFault.{FitFault}
 use Rattle.module_reader.specs.declared.fault.ReadFault.TheVariants as reading
+use Rattle.placer.specs.declared.fault.PlaceFault.{PlaceFault}
 use Rattle.text_fates.proofs.Fates.{read_or_not, one_module}
 use Rattle.abel_compile.specs.declared.compiled.Compiled.{Compiled}
 use Rattle.compile_phases.specs.declared.fault.SourceFault.{SourceFault}
@@ -14,12 +17,19 @@ use Rattle.compile_phases.specs.Fits.{FitsAsWritten, IsOfFit, IsUnfitFor}
 use Rattle.abel_compile.specs.Correct.{IsCompiled}
 use Rattle.devices.specs.DeviceLaws.{table_sound}
 use Rattle.devices.specs.Devices.{table_of}
-use Rattle.compile_phases.specs.SourceRefusals.{IsAcceptedFor, IsReadFor, IsRefusedSo, IsSourceRefused}
-use Rattle.compile_phases.proofs.NotRefused.{not_source, not_fit}
+use Rattle.compile_phases.specs.SourceRefusals.{IsAcceptedFor, IsReadFor, IsSourceRefused}
+use Rattle.compile_phases.specs.Placings.{IsPlacedFor, IsUnplacedFor}
+use Rattle.compile_phases.proofs.NotRefused.{no_first, not_source, not_fit}
+use Rattle.compile_phases.proofs.PlacedRefusals.{one_placed, placed_not_unplaced, unplaced_names}
 use Rattle.abel_compile.proofs.NeverRefused.{spelled}
 
 same_device : (a b : DeviceName) → Some a ≡ Some b → a ≡ b
 same_device a b e = cc
+
+-- what holds of a placed module, and what of another, hold of one
+module _ {P Q : Table → ModuleTree → Type 0} (t : Table) (m : ModuleTree) (p : IsPlacedFor P t m) (q : IsPlacedFor Q t m) where
+  on_one : Q t p.placed
+  on_one = subst (λ (x : ModuleTree). Q t x) (one_placed t m q.placed p.placed q.is p.is) q.so
 
 module _ (text : List ℕ) where
   module _ {P Q : Table → ModuleTree → Type 0} (p : IsReadFor text P) (q : IsReadFor text Q) where
@@ -33,7 +43,7 @@ module _ (text : List ℕ) where
         subst (λ (d : DeviceName). Q (table_of d) p.source) here (subst (λ (x : ModuleTree). Q (table_of q.device) x) same_source q.so)
 
   -- what is accepted isn't refused
-  pub accepted_not_refused : (f : SourceFault) (line : List ℕ) → IsReadFor text IsAcceptedFor → IsSourceRefused text f line → ⊥
+  pub accepted_not_refused : (f : SourceFault) (line : List ℕ) → IsReadFor text (IsPlacedFor IsAcceptedFor) → IsSourceRefused text f line → ⊥
   accepted_not_refused (Expand f) line p h = read_or_not text p.source (reading.Expand f) (λ e. cc) p.read h.0
   accepted_not_refused (Scan f) line p h = read_or_not text p.source (reading.Scan f) (λ e. cc) p.read h.0
   accepted_not_refused (Parse f) line p h = read_or_not text p.source (reading.Parse f) (λ e. cc) p.read h.0
@@ -41,22 +51,42 @@ module _ (text : List ℕ) where
       let same : h.source ≡ p.source = one_module text h.source p.source (spelled text h.source h.read) (spelled text p.source p.read) in
       let gone : None ≡ Some p.device = sym h.unnamed ∙ ap device_named same ∙ p.named in
       absurd (cc)
-  accepted_not_refused (Names f) line p (inr h) = not_source (table_of p.device) p.source (table_sound p.device) p.so (Names f) line (brought p h)
-  accepted_not_refused (Sections f) line p h = not_source (table_of p.device) p.source (table_sound p.device) p.so (Sections f) line (brought p h)
-  accepted_not_refused (Design f) line p h = not_source (table_of p.device) p.source (table_sound p.device) p.so (Design f) line (brought p h)
-  accepted_not_refused (Width f) line p h = not_source (table_of p.device) p.source (table_sound p.device) p.so (Width f) line (brought p h)
+  accepted_not_refused (Names f) line p (inr h) = no_first name_order (name_refusals (table_of p.device) p.source) f p.so.is.names (brought p h).0
+  accepted_not_refused (Sections f) line p h = not_source (table_of p.device) p.so.placed (table_sound p.device) p.so.so (Sections f) line (on_one (table_of p.device) p.source p.so (brought p h))
+  accepted_not_refused (Design f) line p h = not_source (table_of p.device) p.so.placed (table_sound p.device) p.so.so (Design f) line (on_one (table_of p.device) p.source p.so (brought p h))
+  accepted_not_refused (Width f) line p h = not_source (table_of p.device) p.so.placed (table_sound p.device) p.so.so (Width f) line (on_one (table_of p.device) p.source p.so (brought p h))
 
   pub compiled_not_refused : (c : Compiled) (f : SourceFault) (line : List ℕ) → IsCompiled text c → IsSourceRefused text f line → ⊥
   compiled_not_refused c f line is =
-      accepted_not_refused f line (record { source = is.right.source; read = is.read; device = c.device; named = is.right.named; so = is.accepted })
+      accepted_not_refused f line (record { source = is.right.source; read = is.read; device = c.device; named = is.right.named; so = record { placed = is.right.placed; is = is.right.is_placed; so = is.accepted } })
 
-  pub unfit_not_refused : (u : FitFault) (told : List ℕ) (f : SourceFault) (line : List ℕ) → IsReadFor text (IsUnfitFor u told) → IsSourceRefused text f line → ⊥
+  pub unfit_not_refused : (u : FitFault) (told : List ℕ) (f : SourceFault) (line : List ℕ) → IsReadFor text (IsPlacedFor (IsUnfitFor u told)) → IsSourceRefused text f line → ⊥
   unfit_not_refused u told f line is =
-      accepted_not_refused f line (record { source = is.source; read = is.read; device = is.device; named = is.named; so = is.so.accepted })
+      accepted_not_refused f line (record { source = is.source; read = is.read; device = is.device; named = is.named; so = record { placed = is.so.placed; is = is.so.is; so = is.so.so.accepted } })
 
-  pub fits_not_refused : (f : SourceFault) (line : List ℕ) → IsReadFor text (λ t m. IsAcceptedFor t m × FitsAsWritten t m) → IsSourceRefused text f line → ⊥
+  pub fits_not_refused : (f : SourceFault) (line : List ℕ) → IsReadFor text (IsPlacedFor (λ t m. IsAcceptedFor t m × FitsAsWritten t m)) → IsSourceRefused text f line → ⊥
   fits_not_refused f line is =
-      accepted_not_refused f line (record { source = is.source; read = is.read; device = is.device; named = is.named; so = is.so.0 })
+      accepted_not_refused f line (record { source = is.source; read = is.read; device = is.device; named = is.named; so = record { placed = is.so.placed; is = is.so.is; so = is.so.so.0 } })
 
-  pub fits_not_unfit : (u : FitFault) (told : List ℕ) → IsReadFor text (λ t m. IsAcceptedFor t m × FitsAsWritten t m) → IsOfFit u → IsReadFor text (IsUnfitFor u told) → ⊥
-  fits_not_unfit u told p of_fit q = not_fit (table_of p.device) p.source (table_sound p.device) p.so.0 p.so.1 u told of_fit (brought p q)
+  pub fits_not_unfit : (u : FitFault) (told : List ℕ) → IsReadFor text (IsPlacedFor (λ t m. IsAcceptedFor t m × FitsAsWritten t m)) → IsOfFit u → IsReadFor text (IsPlacedFor (IsUnfitFor u told)) → ⊥
+  fits_not_unfit u told p of_fit q =
+      not_fit (table_of p.device) p.so.placed (table_sound p.device) p.so.so.0 p.so.so.1 u told of_fit (on_one (table_of p.device) p.source p.so (brought p q))
+
+  -- ---- what can't be placed
+
+  -- the names of a placed module are not refused, so that it isn't refused for its text, its device or its names
+  pub unplaced_not_refused : (u : PlaceFault) (told : List ℕ) (f : SourceFault) (line : List ℕ) → IsReadFor text (IsUnplacedFor u told) → IsSourceRefused text f line → ⊥
+  unplaced_not_refused u told (Expand f) line p h = read_or_not text p.source (reading.Expand f) (λ e. cc) p.read h.0
+  unplaced_not_refused u told (Scan f) line p h = read_or_not text p.source (reading.Scan f) (λ e. cc) p.read h.0
+  unplaced_not_refused u told (Parse f) line p h = read_or_not text p.source (reading.Parse f) (λ e. cc) p.read h.0
+  unplaced_not_refused u told (Names f) line p (inl (h, also)) =
+      let same : h.source ≡ p.source = one_module text h.source p.source (spelled text h.source h.read) (spelled text p.source p.read) in
+      let gone : None ≡ Some p.device = sym h.unnamed ∙ ap device_named same ∙ p.named in
+      absurd (cc)
+  unplaced_not_refused u told (Names f) line p (inr h) = no_first name_order (name_refusals (table_of p.device) p.source) f (unplaced_names (table_of p.device) p.source u told p.so) (brought p h).0
+  unplaced_not_refused u told (Sections f) line p h = placed_not_unplaced (table_of p.device) p.source (brought p h).placed u told (brought p h).is p.so
+  unplaced_not_refused u told (Design f) line p h = placed_not_unplaced (table_of p.device) p.source (brought p h).placed u told (brought p h).is p.so
+  unplaced_not_refused u told (Width f) line p h = placed_not_unplaced (table_of p.device) p.source (brought p h).placed u told (brought p h).is p.so
+
+  pub fits_not_unplaced : (u : PlaceFault) (told : List ℕ) → IsReadFor text (IsPlacedFor (λ t m. IsAcceptedFor t m × FitsAsWritten t m)) → IsReadFor text (IsUnplacedFor u told) → ⊥
+  fits_not_unplaced u told p q = placed_not_unplaced (table_of p.device) p.source p.so.placed u told p.so.is (brought p q)

@@ -4,5 +4,6 @@ pub mod Exclusive
 pub mod NeverRefused
 pub mod NothingRefused
 pub mod OrderedRows
+pub mod PlacedModules
 pub mod Refusals
 pub mod ToldFuses

@@ -3,22 +3,27 @@ use Rattle.std.proofs.Common.{◌≡◌, ◌≢◌, ℕ, Some, None, List, Resul
 use Rattle.std.specs.Prelude.{IfErr}
 use Rattle.pld_base.specs.declared.device_name.DeviceName.{DeviceName}
 use Rattle.pld_device.specs.Laws.{IsDevice}
+use Rattle.pld_device.specs.Table.{Table}
 use Rattle.abel_tree.specs.Tree.{ModuleTree}
 use Rattle.abel_meaning.specs.DeviceStrings.{device_named}
+use Rattle.decls.specs.FaultOrder.{name_order}
+use Rattle.decls.specs.NameRefusals.{name_refusals}
 use Rattle.module_reader.specs.declared.fault.ReadFault.TheVariants as reading
 use Rattle.module_reader.specs.Texts.{SpellsModule, IsRead}
 use Rattle.text_fates.proofs.Fates.{read_or_not}
 use Rattle.abel_compile.specs.declared.compiled.Compiled.{Compiled}
 use Rattle.compile_phases.specs.declared.fault.CompileFault.{CompileFault}
-use Rattle.compile_phases.specs.declared.fault.CompileFault.TheVariants.{Source, Fit, OutOfMemory}
+use Rattle.compile_phases.specs.declared.fault.CompileFault.TheVariants.{Source, Place, Fit, OutOfMemory}
 use Rattle.compile_phases.specs.declared.fault.SourceFault.{SourceFault}
 use Rattle.compile_phases.specs.declared.fault.SourceFault.TheVariants.{Expand, Scan, Parse, Names, Sections, Design, Width}
-use Rattle.compile_phases.specs.Fits.{FitsAsWritten}
+use Rattle.compile_phases.specs.Fits.{FitsAsWritten, IsUnfitFor}
 use Rattle.abel_compile.specs.Answers.{IsNeverRefused}
 use Rattle.devices.specs.Devices.{table_of}
-use Rattle.compile_phases.specs.Phases.{IsOfSource, IsTextFault, IsNameFault, IsUnnamed, IsReadAlone, IsRefusedFor}
-use Rattle.compile_phases.specs.SourceRefusals.{IsAcceptedFor}
-use Rattle.compile_phases.proofs.NotRefused.{not_for}
+use Rattle.compile_phases.specs.Phases.{IsOfSource, IsTextFault, IsNameFault, IsUnnamed, IsReadAlone, IsRefusedBy}
+use Rattle.compile_phases.specs.Placings.{IsPlacedFor}
+use Rattle.compile_phases.specs.SourceRefusals.{IsAcceptedFor, IsRefusedSo}
+use Rattle.compile_phases.proofs.NotRefused.{no_first, not_fit, not_source}
+use Rattle.compile_phases.proofs.PlacedRefusals.{one_placed, placed_not_unplaced}
 
 -- ---- of the text
 
@@ -39,6 +44,7 @@ unread text m (Width f) line read h = h
 
 unread_fault : (text : List ℕ) (m : ModuleTree) (e : CompileFault) → e ≢ OutOfMemory → IsRead text m → IsOfSource (IsTextFault text) e → ⊥
 unread_fault text m (Source f line) memory read h = unread text m f line.items read h
+unread_fault text m (Place f line) memory read h = h
 unread_fault text m (Fit f line) memory read h = h
 unread_fault text m OutOfMemory memory read h = memory refl
 
@@ -59,6 +65,7 @@ not_unnamed m device (Source (Parse f) line) named memory h = h
 not_unnamed m device (Source (Sections f) line) named memory h = h
 not_unnamed m device (Source (Design f) line) named memory h = h
 not_unnamed m device (Source (Width f) line) named memory h = h
+not_unnamed m device (Place f line) named memory h = h
 not_unnamed m device (Fit f line) named memory h = h
 not_unnamed m device OutOfMemory named memory h = memory refl
 
@@ -73,13 +80,33 @@ never_device text m e alone h = λ p f memory is.
 same_device : (a b : DeviceName) → Some a ≡ Some b → a ≡ b
 same_device a b e = cc
 
+abbrev AcceptedAndFits : Table → ModuleTree → Type 0
+AcceptedAndFits t m = IsAcceptedFor t m × FitsAsWritten t m
+
+-- what holds of another placed module holds of this one
+brought : (t : Table) (m : ModuleTree) (p : IsPlacedFor AcceptedAndFits t m) (Q : Table → ModuleTree → Type 0) → IsPlacedFor Q t m → Q t p.placed
+brought t m p Q q = subst (λ (x : ModuleTree). Q t x) (one_placed t m q.placed p.placed q.is p.is) q.so
+
+-- a module whose placed module is accepted and fits as it is written is refused for nothing but want of memory
+not_by : (t : Table) (m : ModuleTree) → IsDevice t → IsPlacedFor AcceptedAndFits t m → (e : CompileFault) → e ≢ OutOfMemory → IsRefusedBy t m e → ⊥
+not_by t m laws p (Source (Names f) line) memory h = no_first name_order (name_refusals t m) f p.is.names h.0
+not_by t m laws p (Source (Expand f) line) memory h = h.so
+not_by t m laws p (Source (Scan f) line) memory h = h.so
+not_by t m laws p (Source (Parse f) line) memory h = h.so
+not_by t m laws p (Source (Sections f) line) memory h = not_source t p.placed laws p.so.0 (Sections f) line.items (brought t m p (IsRefusedSo (Sections f) line.items) h)
+not_by t m laws p (Source (Design f) line) memory h = not_source t p.placed laws p.so.0 (Design f) line.items (brought t m p (IsRefusedSo (Design f) line.items) h)
+not_by t m laws p (Source (Width f) line) memory h = not_source t p.placed laws p.so.0 (Width f) line.items (brought t m p (IsRefusedSo (Width f) line.items) h)
+not_by t m laws p (Place f line) memory h = placed_not_unplaced t m p.placed f line.items p.is h
+not_by t m laws p (Fit f line) memory h = not_fit t p.placed laws p.so.0 p.so.1 f line.items h.0 (brought t m p (IsUnfitFor f line.items) h.1)
+not_by t m laws p OutOfMemory memory h = memory refl
+
 pub never_on : (text : List ℕ) (m : ModuleTree) (device : DeviceName) (r : Result Compiled CompileFault) → IsDevice (table_of device) → IsReadAlone text m
-    → device_named m ≡ Some device → IfErr r (IsRefusedFor (table_of device) m) → IsNeverRefused text r
+    → device_named m ≡ Some device → IfErr r (IsRefusedBy (table_of device) m) → IsNeverRefused text r
 never_on text m device (Ok c) laws alone named h = λ p f memory is. absurd cc
 never_on text m device (Err e) laws alone named h = λ p f memory is.
     let same : p.source ≡ m = alone.only p.source (spelled text p.source p.read) in
     let here : p.device ≡ device = same_device p.device device (sym p.named ∙ ap device_named same ∙ named) in
-    let so : IsAcceptedFor (table_of device) m × FitsAsWritten (table_of device) m =
-    subst (λ (d : DeviceName). IsAcceptedFor (table_of d) m × FitsAsWritten (table_of d) m) here
-    (subst (λ (x : ModuleTree). IsAcceptedFor (table_of p.device) x × FitsAsWritten (table_of p.device) x) same p.so) in
-    not_for (table_of device) m laws so.0 so.1 e (λ out. memory (sym (same_fault e f is) ∙ out)) h
+    let so : IsPlacedFor AcceptedAndFits (table_of device) m =
+    subst (λ (d : DeviceName). IsPlacedFor AcceptedAndFits (table_of d) m) here
+    (subst (λ (x : ModuleTree). IsPlacedFor AcceptedAndFits (table_of p.device) x) same p.so) in
+    not_by (table_of device) m laws so e (λ out. memory (sym (same_fault e f is) ∙ out)) h

@@ -14,15 +14,15 @@ use Rattle.abel_compile.specs.declared.compiled.Compiled.{Compiled}
 use Rattle.abel_compile.specs.Compiling.{IsToldOf}
 use Rattle.abel_compile.specs.Statement.{fuses_and_vectors}
 
-pub told_of : (t : Table) (m : ModuleTree) (fuses : List Bool) (name : List ℕ) (es : List Entry) (count : ℕ) (vectors : List (List ℕ)) (c : Compiled) → vectors ≡ source_vectors t m
+pub told_of : (t : Table) (declared : List Entry) (m : ModuleTree) (fuses : List Bool) (name : List ℕ) (es : List Entry) (count : ℕ) (vectors : List (List ℕ)) (c : Compiled) → vectors ≡ source_vectors t m
     → name ≡ m.name.text → es ≡ names_of t m → count ≡ design_cells (design_of t m)
     → c.file.items ≡ canonical_file t name fuses vectors → file_of t c.file.items ≡ Ok (fuses_and_vectors t fuses vectors)
-    → c.listing.items ≡ listing_text t fuses es → c.summary.items ≡ summary_of t count fuses
-    → IsToldOf t m fuses c
-told_of t m fuses name es count vectors c vectors_are name_is es_is count_is file back listing line =
+    → c.listing.items ≡ listing_text t fuses declared es → c.summary.items ≡ summary_of t count fuses
+    → IsToldOf t declared m fuses c
+told_of t declared m fuses name es count vectors c vectors_are name_is es_is count_is file back listing line =
     record {
       canonical = file ∙ ap (λ (x : List ℕ). canonical_file t x fuses vectors) name_is ∙ ap (λ (vs : List (List ℕ)). canonical_file t m.name.text fuses vs) vectors_are;
       reads_back = subst (λ (vs : List (List ℕ)). file_of t c.file.items ≡ Ok (fuses_and_vectors t fuses vs)) vectors_are back;
-      listing = listing ∙ ap (λ (xs : List Entry). listing_text t fuses xs) es_is;
+      listing = listing ∙ ap (λ (xs : List Entry). listing_text t fuses declared xs) es_is;
       summary = line ∙ ap (λ (n : ℕ). summary_of t n fuses) count_is;
     }

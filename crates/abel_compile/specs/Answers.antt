@@ -2,16 +2,18 @@
 use Rattle.std.specs.Prelude.{◌≡◌, ◌≢◌, ℕ, List, Result, Ok, Err}
 use Rattle.abel_compile.specs.declared.compiled.Compiled.{Compiled}
 use Rattle.compile_phases.specs.declared.fault.CompileFault.{CompileFault}
-use Rattle.compile_phases.specs.declared.fault.CompileFault.TheVariants.{Source, Fit, OutOfMemory}
+use Rattle.compile_phases.specs.declared.fault.CompileFault.TheVariants.{Source, Place, Fit, OutOfMemory}
 use Rattle.abel_compile.specs.Correct.{IsCompiled}
 use Rattle.compile_phases.specs.Fits.{FitsAsWritten, IsOfFit, IsUnfitFor}
+use Rattle.compile_phases.specs.Placings.{IsPlacedFor, IsUnplacedFor}
 use Rattle.compile_phases.specs.SourceRefusals.{IsReadFor, IsAcceptedFor, IsSourceRefused}
 
 -- each answer with its cause and its line; want of memory tells nothing
 abbrev pub CompileAnswers : List ℕ → Result Compiled CompileFault → Type 0
 CompileAnswers text (Ok c) = IsCompiled text c
 CompileAnswers text (Err (Source f line)) = IsSourceRefused text f line.items
-CompileAnswers text (Err (Fit f line)) = IsOfFit f × IsReadFor text (IsUnfitFor f line.items)
+CompileAnswers text (Err (Place f line)) = IsReadFor text (IsUnplacedFor f line.items)
+CompileAnswers text (Err (Fit f line)) = IsOfFit f × IsReadFor text (IsPlacedFor (IsUnfitFor f line.items))
 CompileAnswers text (Err OutOfMemory) = Unit {0}
 
 -- ---- completeness
@@ -19,4 +21,4 @@ CompileAnswers text (Err OutOfMemory) = Unit {0}
 -- a source that is accepted and fits as written is compiled, or memory runs out
 abbrev pub IsNeverRefused : List ℕ → Result Compiled CompileFault → Type 0
 IsNeverRefused text r =
-    IsReadFor text (λ t m. IsAcceptedFor t m × FitsAsWritten t m) → (f : CompileFault) → f ≢ OutOfMemory → r ≡ Err f → ⊥
+    IsReadFor text (IsPlacedFor (λ t m. IsAcceptedFor t m × FitsAsWritten t m)) → (f : CompileFault) → f ≢ OutOfMemory → r ≡ Err f → ⊥

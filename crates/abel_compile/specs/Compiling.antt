@@ -6,6 +6,7 @@ use Rattle.pld_device.specs.Table.{Table}
 use Rattle.jedec_file.specs.CanonicalFile.{canonical_file}
 use Rattle.jedec_file.specs.FuseFile.{file_of}
 use Rattle.bit_expr.specs.declared.netlist.Netlist.{Netlist}
+use Rattle.abel_tree.specs.Entries.{Entry}
 use Rattle.abel_tree.specs.Tree.{ModuleTree}
 use Rattle.abel_meaning.specs.Designs.{design_of}
 use Rattle.abel_meaning.specs.Kinds.{names_of}
@@ -30,24 +31,24 @@ pub record AreRightFuses (t : Table) (m : ModuleTree) (fuses : List Bool) : Type
   pub so : AreFusesOf t m fuses
 
 -- what is answered of these fuses: the canonical file of the module's name and test vectors, which reads back as just
--- these; the listing; and the summary
-pub record IsToldOf (t : Table) (m : ModuleTree) (fuses : List Bool) (c : Compiled) : Type 0 where
+-- these; the listing, with the names as they are declared; and the summary
+pub record IsToldOf (t : Table) (declared : List Entry) (m : ModuleTree) (fuses : List Bool) (c : Compiled) : Type 0 where
   pub canonical : c.file.items ≡ canonical_file t m.name.text fuses (source_vectors t m)
   pub reads_back : file_of t c.file.items ≡ Ok (fuses_and_vectors t fuses (source_vectors t m))
-  pub listing : c.listing.items ≡ listing_text t fuses (names_of t m)
+  pub listing : c.listing.items ≡ listing_text t fuses declared (names_of t m)
   pub summary : c.summary.items ≡ summary_of t (design_cells (design_of t m)) fuses
 
--- the module is compiled
-pub record IsCompiledFor (t : Table) (m : ModuleTree) (c : Compiled) : Type 0 where
+-- the placed module is compiled, whose names are so declared
+pub record IsCompiledFor (t : Table) (declared : List Entry) (m : ModuleTree) (c : Compiled) : Type 0 where
   pub accepted : IsAcceptedFor t m
   pub fuses : List Bool
   pub right : AreRightFuses t m fuses
-  pub told : IsToldOf t m fuses c
+  pub told : IsToldOf t declared m fuses c
 
 -- and for this device
-pub record IsCompiledOn (t : Table) (device : DeviceName) (m : ModuleTree) (c : Compiled) : Type 0 where
+pub record IsCompiledOn (t : Table) (declared : List Entry) (device : DeviceName) (m : ModuleTree) (c : Compiled) : Type 0 where
   pub device_is : c.device ≡ device
-  pub compiled : IsCompiledFor t m c
+  pub compiled : IsCompiledFor t declared m c
 
 -- where the device can take a module, the fuses of its netlist are those of the module
 abbrev pub FitsAreRight : Type 0

@@ -40,13 +40,13 @@ pub record AreFusesOf (t : Table) (m : ModuleTree) (fuses : List Bool) : Type 0 
   pub controls : HasControlRows t m fuses
   pub vectors : DisagreeAlike (device_logic t fuses) (source_logic_under t m (is_inverted t fuses)) (source_vectors t m)
 
--- the file is right for the text; no construct of the text nests too deep, nothing is refused of its module for the device,
--- and the device can take the module's design; so are its fuses; and the listing and the summary are of just these
+-- the file is right for the text; no construct of the text nests too deep, nothing is refused of its placed module for the
+-- device, and the device can take that module's design; so are its fuses; and the listing and the summary are of just these
 pub record IsCompiled (text : List ℕ) (c : Compiled) : Type 0 where
   pub right : IsRightFile SpellsModule table_of text c.device c.file.items
   pub read : IsRead text right.source
-  pub accepted : IsAcceptedFor (table_of c.device) right.source
-  pub takeable : IsTakeable (design_of (table_of c.device) right.source)
-  pub fuses : AreFusesOf (table_of c.device) right.source right.fuses
-  pub listing : c.listing.items ≡ listing_text (table_of c.device) right.fuses (names_of (table_of c.device) right.source)
-  pub summary : c.summary.items ≡ summary_of (table_of c.device) (design_cells (design_of (table_of c.device) right.source)) right.fuses
+  pub accepted : IsAcceptedFor (table_of c.device) right.placed
+  pub takeable : IsTakeable (design_of (table_of c.device) right.placed)
+  pub fuses : AreFusesOf (table_of c.device) right.placed right.fuses
+  pub listing : c.listing.items ≡ listing_text (table_of c.device) right.fuses (names_of (table_of c.device) right.source) (names_of (table_of c.device) right.placed)
+  pub summary : c.summary.items ≡ summary_of (table_of c.device) (design_cells (design_of (table_of c.device) right.placed)) right.fuses

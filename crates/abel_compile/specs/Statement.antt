@@ -13,17 +13,19 @@ use Rattle.abel_tree.specs.Tree.{ModuleTree}
 use Rattle.abel_meaning.specs.Choices.{source_logic_under, source_values_under}
 use Rattle.abel_meaning.specs.DeviceStrings.{device_named}
 use Rattle.abel_meaning.specs.Vectors.{source_vectors}
+use Rattle.placer.specs.Placements.{IsPlacedModule}
 
 -- what a file of these fuses and vectors says: it lists all fuses, and its default level is 0
 abbrev pub fuses_and_vectors : Table → List Bool → List (List ℕ) → FuseFile
 fuses_and_vectors t fuses vectors =
     record { fuses = fuses; listed = t.fuses; vectors = vectors; default_level = false }
 
--- The text is read as one module, and as no other; the module names the device. With the file's fuses, as many as the device
--- has, the device comes to rest in exactly one way from every state; and it drives, releases and stores, from power-up and
--- for every list of outside levels, what a run of the module does under the choice of its free registers that the file's
--- fuses show, and that alone where the module has no don't-care. The file is the canonical one of the module's name, of these
--- fuses and of the module's test vectors; and it reads back as just these. `spells` says which texts spell which modules,
+-- The text is read as one module, and as no other; the module names the device. Its signals that have no pins are given
+-- some: the placed module is the module itself where all have theirs. With the file's fuses, as many as the device has, the
+-- device comes to rest in exactly one way from every state; and it drives, releases and stores, from power-up and for every
+-- list of outside levels, what a run of the placed module does under the choice of its free registers that the file's fuses
+-- show, and that alone where the module has no don't-care. The file is the canonical one of the module's name, of these fuses
+-- and of the placed module's test vectors; and it reads back as just these. `spells` says which texts spell which modules,
 -- `table` which table a device has.
 pub record IsRightFile (spells : List ℕ → ModuleTree → Type 0) (table : DeviceName → Table) (text : List ℕ) (device : DeviceName) (file : List ℕ)
     : Type 0 where
@@ -31,11 +33,13 @@ pub record IsRightFile (spells : List ℕ → ModuleTree → Type 0) (table : De
   pub read : spells text source
   pub only : (other : ModuleTree) → spells text other → other ≡ source
   pub named : device_named source ≡ Some device
+  pub placed : ModuleTree
+  pub is_placed : IsPlacedModule (table device) source placed
   pub fuses : List Bool
   pub size : length fuses ≡ (table device).fuses
   pub one_rest : RestsOnce (device_logic (table device) fuses)
   pub does : DoesTheSame (device_logic (table device) fuses)
-      (source_logic_under (table device) source (is_inverted (table device) fuses))
-      (source_values_under (table device) source (is_inverted (table device) fuses))
-  pub canonical : file ≡ canonical_file (table device) source.name.text fuses (source_vectors (table device) source)
-  pub reads_back : file_of (table device) file ≡ Ok (fuses_and_vectors (table device) fuses (source_vectors (table device) source))
+      (source_logic_under (table device) placed (is_inverted (table device) fuses))
+      (source_values_under (table device) placed (is_inverted (table device) fuses))
+  pub canonical : file ≡ canonical_file (table device) source.name.text fuses (source_vectors (table device) placed)
+  pub reads_back : file_of (table device) file ≡ Ok (fuses_and_vectors (table device) fuses (source_vectors (table device) placed))

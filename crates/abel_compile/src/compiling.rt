@@ -4,23 +4,27 @@ ghost use Rattle.std.specs.Prelude.{◌≤◌, IfOk, IfErr, length, All};
 ghost use Rattle.pld_device.specs.Laws.{IsDevice};
 ghost use Rattle.jedec_file.specs.CanonicalFile.{IsPlainName};
 ghost use Rattle.jedec_file.specs.TestVectors.{IsTestVector};
+ghost use Rattle.abel_tree.specs.Entries.{entries_of};
 ghost use Rattle.abel_tree.specs.View.{view_module};
 ghost use Rattle.abel_meaning.specs.Designs.{design_of};
+ghost use Rattle.abel_meaning.specs.Kinds.{names_of};
 ghost use Rattle.module_reader.specs.Texts.{SpellsModule};
 ghost use Rattle.source_vectors.specs.AllSections.{AreSections};
 ghost use Rattle.abel_compile.specs.Answers.{CompileAnswers, IsNeverRefused};
 ghost use Rattle.abel_compile.specs.Statement.{IsRightFile};
 ghost use Rattle.devices.specs.Devices.{table_of};
-ghost use Rattle.compile_phases.specs.Phases.{AreNamesFor, IsNetlistFor, IsRefusedFor};
+ghost use Rattle.compile_phases.specs.Phases.{AreNamesFor, IsNetlistFor, IsRefusedBy, IsRefusedFor};
+ghost use Rattle.compile_phases.specs.Placings.{IsPlacedFor};
 ghost use Rattle.abel_compile.specs.Compiling.{IsCompiledOn};
 
 use crate::compiled::Compiled;
 use crate::laws::fits_are_right;
+use crate::placed::PlacedModule;
 use crate::telling::compiled_of;
-use abel_tree::{Module, Names};
+use abel_tree::Module;
 use compile_phases::{
-    CompileFault, device_named, fitted_of, module_of, names_of, netlist_of, read_names_are_plain,
-    sections_of,
+    CompileFault, declared_of, device_named, fitted_of, module_of, names_of, netlist_of, placed_of,
+    read_names_are_plain, sections_of,
 };
 use devices::on_device;
 use pld_base::DeviceName;
@@ -28,44 +32,47 @@ use pld_device::Device;
 use source_vectors::SourceSections;
 use std::alloc::Global;
 
-/// The fuse file of a module for a device, with its names.
-fn compile_named<D: Device>(
-    alloc: Global,
-    source: &Module,
-    names: &Names,
-) -> Result<Compiled, CompileFault>
-    requires name { IsPlainName (view_module source.now).name.text }
-    requires names { AreNamesFor D.table (view_module source.now) names.now }
-    ensures ok { IfOk result (λ c. IsCompiledOn D.table D.NAME (view_module source.now) c) }
-    ensures err { IfErr result (IsRefusedFor D.table (view_module source.now)) }
+/// The fuse file of a placed module for a device.
+fn compile_placed<D: Device>(alloc: Global, placed: &PlacedModule) -> Result<Compiled, CompileFault>
+    requires name { IsPlainName (view_module placed.now.module).name.text }
+    requires names { AreNamesFor D.table (view_module placed.now.module) placed.now.names }
+    ensures ok { IfOk result (λ c. IsCompiledOn D.table (entries_of placed.now.declared) D.NAME (view_module placed.now.module) c) }
+    ensures err { IfErr result (IsRefusedFor D.table (view_module placed.now.module)) }
 {
     fits_are_right();
     let SourceSections {
         contributions,
         vectors,
-    } = sections_of::<D>(alloc, source, names)?;
-    let net = netlist_of::<D>(alloc, source, names, contributions)?;
-    let fitted = fitted_of::<D>(alloc, names, &net)?;
-    let compiled = compiled_of::<D>(alloc, source, names, &net, &fitted, vectors.as_slice())?;
+    } = sections_of::<D>(alloc, &placed.module, &placed.names)?;
+    let net = netlist_of::<D>(alloc, &placed.module, &placed.names, contributions)?;
+    let fitted = fitted_of::<D>(alloc, &placed.names, &net)?;
+    let compiled = compiled_of::<D>(alloc, placed, &net, &fitted, vectors.as_slice())?;
     Ok(compiled)
 }
 
-/// The fuse file of a module for a device.
-fn compile_for<D: Device>(alloc: Global, source: &Module) -> Result<Compiled, CompileFault>
-    requires { IsPlainName (view_module source.now).name.text }
-    ensures ok { IfOk result (λ c. IsCompiledOn D.table D.NAME (view_module source.now) c) }
-    ensures err { IfErr result (IsRefusedFor D.table (view_module source.now)) }
+/// The fuse file of a module for a device: of the placed module.
+fn compile_for<D: Device>(alloc: Global, source: Module) -> Result<Compiled, CompileFault>
+    requires { IsPlainName (view_module source).name.text }
+    ensures ok { IfOk result (λ c. IsPlacedFor (λ t m. IsCompiledOn t (names_of t (view_module source)) D.NAME m c) D.table (view_module source)) }
+    ensures err { IfErr result (IsRefusedBy D.table (view_module source)) }
     ensures device { IsDevice D.table }
 {
-    let names = names_of::<D>(alloc, source)?;
-    compile_named::<D>(alloc, source, &names)
+    let declared = declared_of::<D>(alloc, &source)?;
+    let module = placed_of::<D>(alloc, source, &declared)?;
+    let names = names_of::<D>(alloc, &module)?;
+    let placed = PlacedModule {
+        module,
+        declared,
+        names,
+    };
+    compile_placed::<D>(alloc, &placed)
 }
 
 /// The fuse file of a module for the device of this name.
-fn compile_on(alloc: Global, device: DeviceName, source: &Module) -> Result<Compiled, CompileFault>
-    requires { IsPlainName (view_module source.now).name.text }
-    ensures ok { IfOk result (λ c. IsCompiledOn (table_of device) device (view_module source.now) c) }
-    ensures err { IfErr result (IsRefusedFor (table_of device) (view_module source.now)) }
+fn compile_on(alloc: Global, device: DeviceName, source: Module) -> Result<Compiled, CompileFault>
+    requires { IsPlainName (view_module source).name.text }
+    ensures ok { IfOk result (λ c. IsPlacedFor (λ t m. IsCompiledOn t (names_of t (view_module source)) device m c) (table_of device) (view_module source)) }
+    ensures err { IfErr result (IsRefusedBy (table_of device) (view_module source)) }
     ensures device { IsDevice (table_of device) }
 {
     on_device!(device, compile_for(alloc, source))
@@ -88,5 +95,5 @@ pub fn compile(alloc: Global, bytes: &[u8]) -> Result<Compiled, CompileFault>
     read_names_are_plain();
     let module = module_of(alloc, bytes)?;
     let device = device_named(alloc, &module)?;
-    compile_on(alloc, device, &module)
+    compile_on(alloc, device, module)
 }

@@ -4,6 +4,7 @@
 mod compiled;
 mod compiling;
 mod laws;
+mod placed;
 mod telling;
 
 pub use compile_phases::{CompileFault, SourceFault};

@@ -3,6 +3,7 @@
 ghost use Rattle.std.specs.Prelude.{◌≡◌, ◌≤◌, All, IfOk, length};
 ghost use Rattle.jedec_file.specs.CanonicalFile.{IsPlainName};
 ghost use Rattle.jedec_file.specs.TestVectors.{IsTestVector, all_chars};
+ghost use Rattle.abel_tree.specs.Entries.{entries_of};
 ghost use Rattle.abel_tree.specs.View.{view_module};
 ghost use Rattle.abel_meaning.specs.Vectors.{source_vectors};
 ghost use Rattle.fitter.specs.Answers.{IsFitOf};
@@ -10,7 +11,7 @@ ghost use Rattle.abel_compile.specs.Compiling.{IsToldOf};
 ghost use Rattle.compile_phases.specs.Phases.{AreNamesFor, IsNetlistFor};
 
 use crate::compiled::Compiled;
-use abel_tree::{Module, Names};
+use crate::placed::PlacedModule;
 use bit_expr::Netlist;
 use compile_phases::fits_can_be_told;
 use fitter::Fitted;
@@ -24,27 +25,31 @@ use summary_line::summary;
 /// The file, the listing and the summary of the fuses of a source.
 pub(crate) fn compiled_of<D: Device>(
     alloc: Global,
-    source: &Module,
-    names: &Names,
+    placed: &PlacedModule,
     net: &Netlist,
     fitted: &Fitted,
     vectors: &[Vector],
 ) -> Result<Compiled, OutOfMemory>
-    requires name { IsPlainName (view_module source.now).name.text }
-    requires names { AreNamesFor D.table (view_module source.now) names.now }
-    requires netlist { IsNetlistFor D.table (view_module source.now) net.now }
+    requires name { IsPlainName (view_module placed.now.module).name.text }
+    requires names { AreNamesFor D.table (view_module placed.now.module) placed.now.names }
+    requires netlist { IsNetlistFor D.table (view_module placed.now.module) net.now }
     requires fits { IsFitOf D.table net.now fitted.now }
-    requires vectors { all_chars D.table vectors.now ≡ source_vectors D.table (view_module source.now) }
+    requires vectors { all_chars D.table vectors.now ≡ source_vectors D.table (view_module placed.now.module) }
     requires few { length vectors.now ≤ 9999 }
     requires chars { All (IsTestVector D.table) vectors.now }
     ensures device { IfOk result (λ c. c.device ≡ D.NAME) }
-    ensures told { IfOk result (λ c. IsToldOf D.table (view_module source.now) fitted.now.fuses c) }
+    ensures told { IfOk result (λ c. IsToldOf D.table (entries_of placed.now.declared) (view_module placed.now.module) fitted.now.fuses c) }
 {
     fits_can_be_told();
     Ok(Compiled {
         device: D::NAME,
-        file: write::<D>(alloc, source.name.text.bytes(), &fitted.fuses, vectors)?,
-        listing: listing::<D>(alloc, names, &fitted.fuses)?,
+        file: write::<D>(
+            alloc,
+            placed.module.name.text.bytes(),
+            &fitted.fuses,
+            vectors,
+        )?,
+        listing: listing::<D>(alloc, &placed.declared, &placed.names, &fitted.fuses)?,
         summary: summary::<D>(alloc, net, &fitted.fuses)?,
     })
 }
