@@ -1,0 +1,53 @@
+-- Where a device always inverts, no register of a decompiled source is declared `buffer`.
+use Rattle.std.proofs.Common.{◌≡◌, ℕ, suc, Bool, true, false, not, Option, None, Some, List, [], ◌∷◌, ◌++◌, slice_get, refl, sym, ap, ◌∙◌}
+use Rattle.std.specs.Prelude.{◌==◌}
+use Rattle.std.proofs.lemmas.Bool.{and_parts}
+use Rattle.pld_device.specs.declared.flip.Flip.{Flip}
+use Rattle.pld_device.specs.declared.flip.Flip.TheVariants.{Always, AfterRegister, BeforeRegister}
+use Rattle.pld_device.specs.Macrocells.{pin_complements}
+use Rattle.pld_device.specs.Registers.{is_inverted}
+use Rattle.pld_device.specs.Table.{Table}
+use Rattle.pld_base.specs.declared.place.Place.{Place}
+use Rattle.abel_tree.specs.Entries.{Entry}
+use Rattle.abel_tree.specs.Tree.{Declaration}
+use Rattle.abel_meaning.specs.Declarations.{GivenName, all_said}
+use Rattle.decls.specs.NameRefusals.{all_buffered, always_inverts, buffered}
+use Rattle.decls.specs.NamesBefore.{names_behind}
+use Rattle.pin_sources.specs.declared.pin_line.PinLine.{PinLine}
+use Rattle.pin_trees.specs.SourceTrees.{attributes_in, IsPinLine, ArePins}
+use Rattle.decompiled.specs.Sources.{follows_by, pin_line, register_on}
+
+complements_always : (flip : Flip) (inverted : Bool) → pin_complements flip true false ≡ true → pin_complements flip true inverted ≡ true
+complements_always Always inverted is = refl
+complements_always AfterRegister inverted is = absurd cc
+complements_always BeforeRegister inverted is = refl
+
+-- no pin is said to equal Q
+pub pins_inverted : (t : Table) (fuses : List Bool) → always_inverts t ≡ true → (pin : ℕ) → (pin_line t fuses pin).follows ≡ Some true → ⊥
+pins_inverted t fuses always pin = by_register (register_on t fuses pin)
+  where
+    complements : pin_complements t.flip true false ≡ true
+    complements = (and_parts (not (t.clock == 0)) (pin_complements t.flip true false) always).1
+
+    by_register : (o : Option ℕ) → follows_by t fuses o ≡ Some true → ⊥
+    by_register None e = cc
+    by_register (Some c) e = absurd (false_true (ap (λ (b : Bool). Some (not b)) (sym (complements_always t.flip (is_inverted t fuses c) complements)) ∙ e))
+      where
+        false_true : Some false ≡ Some true → ⊥
+        false_true e = cc
+
+none_said : (follows : Option Bool) (p : Place) → (follows ≡ Some true → ⊥) → (all_said (attributes_in follows p)).buffer ≡ false
+none_said None p other = refl
+none_said (Some true) p other = absurd (other refl)
+none_said (Some false) p other = refl
+
+one_buffered : (l : PinLine) (d : Declaration) (es : List Entry) → IsPinLine l d → (l.follows ≡ Some true → ⊥) → buffered es d ≡ []
+one_buffered l d es is other = ap (buffered es) is.is ∙ (rw (none_said l.follows is.attributes other) refl)
+
+pub none_buffered : (ls : List PinLine) (ds before : List Declaration) → ArePins ls ds
+    → ((i : ℕ) (a : PinLine) → slice_get ls i ≡ Some a → a.follows ≡ Some true → ⊥) → all_buffered before ds ≡ []
+none_buffered [] ds before are other = ap (all_buffered before) are
+none_buffered (l ∷ ls) ds before are other =
+    ap (all_buffered before) are.4
+    ∙ ap (λ (xs : List GivenName). xs ++ all_buffered (before ++ are.0 ∷ []) are.1) (one_buffered l are.0 (names_behind before) are.2 (other 0 l refl))
+    ∙ none_buffered ls are.1 (before ++ are.0 ∷ []) are.3 (λ i a there. other (suc i) a there)

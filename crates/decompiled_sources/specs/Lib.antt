@@ -1,0 +1,12 @@
+pub mod Bounds
+pub mod ShortSums
+pub mod Fit
+pub mod Held
+pub mod Netlists
+pub mod Names
+pub mod Placed
+pub mod Sections
+pub mod Designs
+pub mod Contributions
+pub mod Accepted
+pub mod Right

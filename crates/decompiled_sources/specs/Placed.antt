@@ -1,0 +1,12 @@
+-- That a decompiled source has nothing to place (this project's rule).
+use Rattle.std.specs.Prelude.{Bool, List}
+use Rattle.pld_device.specs.Laws.{IsDevice}
+use Rattle.pld_device.specs.Table.{Table}
+use Rattle.abel_tree.specs.Tree.{ModuleTree}
+use Rattle.placer.specs.Placements.{IsPlacedModule}
+use Rattle.pin_trees.specs.SourceTrees.{IsSourceTree}
+use Rattle.decompiled.specs.Sources.{source_of}
+
+-- a module that is the fuses' source is its own placed module
+abbrev pub SourcesArePlaced : Type 0
+SourcesArePlaced = (t : Table) (fuses : List Bool) (m : ModuleTree) → IsDevice t → IsSourceTree (source_of t fuses) m → IsPlacedModule t m m

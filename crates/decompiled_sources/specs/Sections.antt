@@ -1,0 +1,14 @@
+-- What is refused of the equations of a decompiled source: nothing (this project's rule).
+use Rattle.std.specs.Prelude.{◌≡◌, Bool, List, []}
+use Rattle.pld_device.specs.Laws.{IsDevice}
+use Rattle.pld_device.specs.Table.{Table}
+use Rattle.abel_tree.specs.Tree.{ModuleTree}
+use Rattle.abel_meaning.specs.Designs.{design_of}
+use Rattle.pin_trees.specs.SourceTrees.{IsSourceTree}
+use Rattle.decompiled.specs.Sources.{source_of}
+use Rattle.source_vectors.specs.AllSections.{all_sections_refused}
+
+-- nothing is refused of the constants, sections and vectors of a module that is the fuses' source
+abbrev pub SectionsAreUnrefused : Type 0
+SectionsAreUnrefused =
+    (t : Table) (fuses : List Bool) (m : ModuleTree) → IsDevice t → IsSourceTree (source_of t fuses) m → all_sections_refused (design_of t m) ≡ []
