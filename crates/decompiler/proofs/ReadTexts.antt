@@ -1,4 +1,4 @@
--- The text of a device's fuses is read as the module of their source.
+-- The text of a device's fuses is read as the module of their source, which is right.
 use Rattle.std.proofs.Common.{◌≡◌, ℕ, Bool, List, length, sym, subst}
 use Rattle.module_reader.specs.Texts.{IsRead}
 use Rattle.pld_order.specs.Graphs.{HasNoLoop}
@@ -8,8 +8,8 @@ use Rattle.device_logic.specs.CellReads.{cell_reads}
 use Rattle.device_logic.specs.ResetPaths.{HasNoResetPath}
 use Rattle.pin_trees.proofs.ReadTexts.{read}
 use Rattle.decompiled.specs.Sources.{decompiled_text, source_of}
-use Rattle.decompiled_runs.proofs.SaidRuns.{say_what_they_do}
-use Rattle.decompiler.specs.Reading.{IsReadAsSource, SaysWhatFusesDo}
+use Rattle.decompiled_sources.specs.Right.{SourcesAreRight}
+use Rattle.decompiler.specs.Reading.{IsDecompiled, IsReadAsSource}
 use Rattle.decompiler.proofs.LowPins.{source_low}
 
 pub read_as_source : (t : Table) (fuses : List Bool) → IsDevice t → (text : List ℕ) → text ≡ decompiled_text t fuses → IsReadAsSource t fuses text
@@ -17,9 +17,9 @@ read_as_source t fuses laws text is =
     let there = read (source_of t fuses) (source_low t fuses laws) in
     (there.0, there.1, subst (λ (v : List ℕ). IsRead v there.0) (sym is) there.2)
 
--- and the module says what the device with the fuses does
-pub says_what_fuses_do : (t : Table) (fuses : List Bool) → IsDevice t → length fuses ≡ t.fuses → HasNoLoop (length t.cells) (cell_reads t fuses)
-    → HasNoResetPath t fuses → (text : List ℕ) → text ≡ decompiled_text t fuses → SaysWhatFusesDo t fuses text
-says_what_fuses_do t fuses laws long no_loop no_path text is =
-    let there = read_as_source t fuses laws text is in
-    record { source = there.0; read = there.2; says = say_what_they_do t fuses there.0 laws long there.1 no_loop no_path }
+module _ (right : SourcesAreRight) (t : Table) (fuses : List Bool) (laws : IsDevice t) (long : length fuses ≡ t.fuses)
+    (no_loop : HasNoLoop (length t.cells) (cell_reads t fuses)) (no_path : HasNoResetPath t fuses) where
+  pub is_decompiled : (text : List ℕ) → text ≡ decompiled_text t fuses → IsDecompiled t fuses text
+  is_decompiled text is =
+      let there = read_as_source t fuses laws text is in
+      record { source = there.0; read = there.2; right = right t fuses there.0 laws long there.1 no_loop no_path }

@@ -6,9 +6,10 @@ ghost use Rattle.device_logic.specs.CellReads.{cell_reads};
 ghost use Rattle.device_logic.specs.LoadFaults.{IsLoadFault};
 ghost use Rattle.device_logic.specs.ResetPaths.{HasNoResetPath};
 ghost use Rattle.decompiled.specs.Sources.{decompiled_text, source_of};
-ghost use Rattle.decompiler.specs.Reading.{IsReadAsSource, SaysWhatFusesDo};
+ghost use Rattle.decompiler.specs.Reading.{IsDecompiled, IsReadAsSource};
 
 use crate::device_fuses::DeviceFuses;
+use decompiled_sources::sources_are_right;
 use device_logic::{SimFault, load};
 use pin_sources::PinSource;
 use pld_base::{ListOf, OutOfMemory};
@@ -38,11 +39,12 @@ pub fn decompile<D: Device>(alloc: Global, fuses: &Fuses) -> Result<Vec<u8>, Sim
     requires { length fuses.now ≡ D.table.fuses }
     ensures text { IfOk result (λ text. text.items ≡ decompiled_text D.table fuses.now) }
     ensures read { IfOk result (λ text. IsReadAsSource D.table fuses.now text.items) }
-    ensures says { IfOk result (λ text. SaysWhatFusesDo D.table fuses.now text.items) }
+    ensures right { IfOk result (λ text. IsDecompiled D.table fuses.now text.items) }
     ensures no_loop { IfOk result (λ _. HasNoLoop (length D.table.cells) (cell_reads D.table fuses.now)) }
     ensures no_path { IfOk result (λ _. HasNoResetPath D.table fuses.now) }
     ensures refused { IfErr result (IsLoadFault D.table fuses.now) }
 {
+    sources_are_right();
     load::<D>(alloc, fuses)?;
     let fuses = DeviceFuses::<D>::new(alloc, fuses)?;
     let text = fuses.source(alloc)?.text(alloc)?;

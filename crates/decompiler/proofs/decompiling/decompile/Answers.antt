@@ -1,7 +1,7 @@
 use Rattle.std.proofs.Common.{ap, ◌∙◌}
 use Rattle.pin_sources.specs.SourceText.{source_text}
 use Rattle.decompiled.specs.Sources.{source_of}
-use Rattle.decompiler.proofs.ReadTexts.{read_as_source, says_what_fuses_do}
+use Rattle.decompiler.proofs.ReadTexts.{is_decompiled, read_as_source}
 use Rattle.decompiler.proofs.decompiling.decompile.Goals as goal
 
 pub returns-clause-read : goal.returns-clause-read
@@ -9,8 +9,8 @@ returns-clause-read g c =
     let t = g.D.Device.table in
     read_as_source t c.args.fuses.now g.met.D.Device.sound _ (c.in_ok-text.ensures ∙ ap source_text (c.in_ok-source.ensures ∙ ap (source_of t) c.in_ok-fuses.ensures))
 
-pub returns-clause-says : goal.returns-clause-says
-returns-clause-says g c =
+pub returns-clause-right : goal.returns-clause-right
+returns-clause-right g c =
     let t = g.D.Device.table in
-    says_what_fuses_do t c.args.fuses.now g.met.D.Device.sound c.requires c.in_ok-load.ensures.no_loop c.in_ok-load.ensures.no_path _
-    (c.in_ok-text.ensures ∙ ap source_text (c.in_ok-source.ensures ∙ ap (source_of t) c.in_ok-fuses.ensures))
+    is_decompiled c.sources_are_right.ensures t c.args.fuses.now g.met.D.Device.sound c.requires c.in_ok-load.ensures.no_loop
+    c.in_ok-load.ensures.no_path _ (c.in_ok-text.ensures ∙ ap source_text (c.in_ok-source.ensures ∙ ap (source_of t) c.in_ok-fuses.ensures))
