@@ -1,0 +1,5 @@
+mod TextSizes
+pub mod NeverRefused
+pub mod Unexchanged
+pub mod OneSource
+pub mod RoundTrips
