@@ -7,7 +7,6 @@ use Rattle.pld_base.specs.Logic.{Logic}
 use Rattle.pld_device.specs.Macrocells.{device_logic}
 use Rattle.pld_device.specs.Table.{Table}
 use Rattle.fuse_compare.specs.Alike.{AreAlike, DifferAs, IsDifference}
-use Rattle.fuse_compare.specs.Compared.{HasSignalEnables}
 use Rattle.fuse_compare.specs.declared.difference.Difference.{Difference}
 use Rattle.abel_commands.specs.CompareCommand.{CompareEnds, CompareMeans, IsRefusedPair, LongFile, FirstFile, SecondFile, FirstLoad, SecondLoad}
 use Rattle.abel_commands.specs.Comparing.{AreDifferent, AreSame, IsPlain}
@@ -96,7 +95,7 @@ module _ (t : Table) (a b : List ℕ) where
     unwritten = refl;
   }
 
-  pub compare_means : HasSignalEnables t → (e : Ending) → CompareEnds t a b e → CompareMeans t a b e
-  compare_means signals e (inl (report, s, is)) = subst (λ (x : Ending). CompareMeans t a b x) (sym is) (same report s)
-  compare_means signals e (inr (inl (report, d, plain, is))) = subst (λ (x : Ending). CompareMeans t a b x) (sym is) (different report d (plain signals))
-  compare_means signals e (inr (inr (report, r, is))) = subst (λ (x : Ending). CompareMeans t a b x) (sym is) (refused report (bad_pair report r))
+  pub compare_means : (e : Ending) → CompareEnds t a b e → CompareMeans t a b e
+  compare_means e (inl (report, s, is)) = subst (λ (x : Ending). CompareMeans t a b x) (sym is) (same report s)
+  compare_means e (inr (inl (report, d, plain, is))) = subst (λ (x : Ending). CompareMeans t a b x) (sym is) (different report d plain)
+  compare_means e (inr (inr (report, r, is))) = subst (λ (x : Ending). CompareMeans t a b x) (sym is) (refused report (bad_pair report r))

@@ -16,14 +16,16 @@ module _ (text : List ℕ) where
 
   pub unfit_not_refused : IsUnfit text → IsRefused text → ⊥
   unfit_not_refused (within, report, u) (inl long) = omega (arith, within, long)
-  unfit_not_refused (within, report, u) (inr (other, r)) = one.unfit_not_refused text u.0 report r.0 other u.2 r.1
+  unfit_not_refused (within, report, inl u) (inr (other, r)) = one.unplaced_not_refused text u.0 report r.0 other u.1 r.1
+  unfit_not_refused (within, report, inr u) (inr (other, r)) = one.unfit_not_refused text u.0 report r.0 other u.2 r.1
 
   pub fits_not_refused : Fits text → IsRefused text → ⊥
   fits_not_refused (within, fits) (inl long) = omega (arith, within, long)
   fits_not_refused (within, fits) (inr (report, r)) = one.fits_not_refused text r.0 report fits r.1
 
   pub fits_not_unfit : Fits text → IsUnfit text → ⊥
-  fits_not_unfit (within, fits) (also, report, u) = one.fits_not_unfit text u.0 report fits u.1 u.2
+  fits_not_unfit (within, fits) (also, report, inl u) = one.fits_not_unplaced text u.0 report fits u.1
+  fits_not_unfit (within, fits) (also, report, inr u) = one.fits_not_unfit text u.0 report fits u.1 u.2
 
   -- ---- each ending
 

@@ -1,7 +1,6 @@
 -- `compare DEVICE A B`: how it ends, and what that means (this project's rule).
 use Rattle.std.specs.Prelude.{◌≡◌, ℕ, ◌≤◌, ◌⊎◌, List, length, None}
 use Rattle.pld_device.specs.Table.{Table}
-use Rattle.fuse_compare.specs.Compared.{HasSignalEnables}
 use Rattle.source_files.specs.Limit.{limit, IsTooLong}
 use Rattle.abel_commands.specs.Comparing.{AreDifferent, AreSame, BehaveAlike, BehaveOtherwise, IsPlain}
 use Rattle.abel_commands.specs.Ending.{Ending, ends, too_long_line}
@@ -25,7 +24,7 @@ pub data IsRefusedPair (t : Table) (a b report : List ℕ) : Type 0 where
 abbrev pub CompareEnds : Table → (a b : List ℕ) → Ending → Type 0
 CompareEnds t a b e =
     ((report : List ℕ) × AreSame t a b report × (e ≡ ends 0 report))
-    ⊎ (((report : List ℕ) × (it : AreDifferent t a b report) × (HasSignalEnables t → IsPlain t a b report it) × (e ≡ ends 5 report))
+    ⊎ (((report : List ℕ) × (it : AreDifferent t a b report) × IsPlain t a b report it × (e ≡ ends 5 report))
     ⊎ ((report : List ℕ) × IsRefusedPair t a b report × (e ≡ ends 4 report)))
 
 -- what such an ending means

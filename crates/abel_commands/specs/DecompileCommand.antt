@@ -2,16 +2,18 @@
 use Rattle.std.specs.Prelude.{◌≡◌, ℕ, ◌⊎◌, List, None}
 use Rattle.pld_device.specs.Table.{Table}
 use Rattle.decompiled.specs.Sources.{decompiled_text}
-use Rattle.decompiler.specs.Reading.{IsReadAsSource}
+use Rattle.decompiler.specs.Reading.{IsDecompiled, IsReadAsSource}
 use Rattle.abel_commands.specs.Ending.{Ending, ends}
 use Rattle.abel_commands.specs.FuseFiles.{IsRefusedFile}
 use Rattle.abel_commands.specs.Loading.{CanLoad, IsBadToLoad, IsRefusedLoad}
 
--- the bytes are a fuse file of the device that is loaded, this is the text of the source of its fuses, and it is read as that source
+-- the bytes are a fuse file of the device that is loaded, and this is the text of the source of its fuses: it is read as that
+-- source, which is accepted, fits and says what the device with the fuses does
 pub record IsDecompiledFile (t : Table) (bytes report : List ℕ) : Type 0 where
   pub of : CanLoad t bytes
   pub told : report ≡ decompiled_text t of.file.fuses
   pub read : IsReadAsSource t of.file.fuses report
+  pub right : IsDecompiled t of.file.fuses report
 
 -- how it ends: the source of the file's fuses is told, or why there is none
 abbrev pub DecompileEnds : Table → (bytes : List ℕ) → Ending → Type 0

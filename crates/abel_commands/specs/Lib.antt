@@ -5,9 +5,9 @@ pub mod Comparing
 pub mod DecompileCommand
 pub mod Ending
 pub mod FaultText
+pub mod FewVectors
 pub mod FuseFiles
 pub mod Loading
-pub mod SignalEnables
 pub mod SimulateCommand
 pub mod Simulating
 pub mod SourceCommands

@@ -4,7 +4,9 @@ use Rattle.fitter.specs.declared.fault.FitFault.{FitFault}
 use Rattle.abel_compile.specs.declared.compiled.Compiled.{Compiled}
 use Rattle.compile_phases.specs.declared.fault.SourceFault.{SourceFault}
 use Rattle.compile_phases.specs.Fits.{FitsAsWritten, IsOfFit, IsUnfitFor}
+use Rattle.placer.specs.declared.fault.PlaceFault.{PlaceFault}
 use Rattle.abel_compile.specs.Correct.{IsCompiled}
+use Rattle.compile_phases.specs.Placings.{IsPlacedFor, IsUnplacedFor}
 use Rattle.compile_phases.specs.SourceRefusals.{IsAcceptedFor, IsReadFor, IsSourceRefused}
 use Rattle.abel_commands.specs.Ending.{Ending, ends, too_long_line}
 use Rattle.source_files.specs.Limit.{limit, IsTooLong}
@@ -15,21 +17,23 @@ use Rattle.source_files.specs.Limit.{limit, IsTooLong}
 abbrev pub IsRefusedWith : (text report : List ℕ) → Type 0
 IsRefusedWith text report = (f : SourceFault) × IsSourceRefused text f report
 
--- the source is accepted, and does not fit its device, with this report
+-- the source is accepted, and its signals can't all be placed, or it does not fit its device, with this report
 abbrev pub IsUnfitWith : (text report : List ℕ) → Type 0
-IsUnfitWith text report = (f : FitFault) × IsOfFit f × IsReadFor text (IsUnfitFor f report)
+IsUnfitWith text report =
+    ((f : PlaceFault) × IsReadFor text (IsUnplacedFor f report))
+    ⊎ ((f : FitFault) × IsOfFit f × IsReadFor text (IsPlacedFor (IsUnfitFor f report)))
 
 -- the source is too long, or refused
 abbrev pub IsRefused : (text : List ℕ) → Type 0
 IsRefused text = IsTooLong text ⊎ ((report : List ℕ) × IsRefusedWith text report)
 
--- the source is within the limit and does not fit its device
+-- the source is within the limit, and can't be placed or does not fit its device
 abbrev pub IsUnfit : (text : List ℕ) → Type 0
 IsUnfit text = (length text ≤ limit) × (report : List ℕ) × IsUnfitWith text report
 
 -- the source is within the limit, accepted, and fits its device as it is written
 abbrev pub Fits : (text : List ℕ) → Type 0
-Fits text = (length text ≤ limit) × IsReadFor text (λ t m. IsAcceptedFor t m × FitsAsWritten t m)
+Fits text = (length text ≤ limit) × IsReadFor text (IsPlacedFor (λ t m. IsAcceptedFor t m × FitsAsWritten t m))
 
 -- ---- what is told of a compiled source
 

@@ -18,6 +18,7 @@ pub fn refused_ending<'a>(fault: CompileFault) -> Result<Ending<'a>, OutOfMemory
 {
     match fault {
         CompileFault::Source(_, line) => Ok(Ending::plain(2, line)),
+        CompileFault::Place(_, line) => Ok(Ending::plain(3, line)),
         CompileFault::Fit(_, line) => Ok(Ending::plain(3, line)),
         CompileFault::OutOfMemory => Err(OutOfMemory),
     }

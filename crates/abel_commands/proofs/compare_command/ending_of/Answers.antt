@@ -26,7 +26,7 @@ returns-in_ok-differ_line-in-Ok-Some g c a b first second =
       told_different t a b (contents t c.args.first.now) (contents t c.args.second.now) first second _ c.in-Ok-Some.state c.in-Ok-Some.ensures.loaded
           (rw c.in-Ok-Some.field-0-is at c.in-Ok-Some.ensures.found)
           c.in_ok-differ_line-in-Ok-Some.ensures,
-      λ signals. rw c.in-Ok-Some.field-0-is at c.in-Ok-Some.ensures.plain signals,
+      rw c.in-Ok-Some.field-0-is at c.in-Ok-Some.ensures.plain,
       c.plain-in-Ok-Some.ensures,
     ))
 

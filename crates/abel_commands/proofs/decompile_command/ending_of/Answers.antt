@@ -15,6 +15,7 @@ returns-in-Ok g c = inl (
     };
     told = c.in-Ok.ensures.text;
     read = c.in-Ok.ensures.read;
+    right = c.in-Ok.ensures.right;
   },
   c.plain.ensures,
 )
