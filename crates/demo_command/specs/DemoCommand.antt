@@ -53,9 +53,9 @@ FileEnds seed cells t bytes e =
     ((report : List ℕ) × IsFileRun seed cells t bytes [] report × (e ≡ ends 0 report))
     ⊎ ((report : List ℕ) × ((list : List Mismatch) × (list ≢ []) × IsFileRun seed cells t bytes list report) × (e ≡ ends 5 report))
 
--- the cells that the module of a compiled source assigns
+-- the cells that the placed module of a compiled source assigns
 abbrev pub cells_of : (text : List ℕ) (c : Compiled) → IsCompiled text c → ℕ
-cells_of text c is = design_cells (design_of (table_of c.device) is.right.source)
+cells_of text c is = design_cells (design_of (table_of c.device) is.right.placed)
 
 -- so of a source: it is compiled, and its file is run
 pub record IsDemoRun (seed : ℕ) (text : List ℕ) (list : List Mismatch) (report : List ℕ) : Type 0 where
