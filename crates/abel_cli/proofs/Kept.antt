@@ -14,7 +14,6 @@ use Rattle.abel_cli.specs.Promises.{MeansOn, IsMeant, EndsAsCalled, EndsInFileFa
 use Rattle.abel_cli.specs.Further.{HasCompiled, IsRightOrOld}
 use Rattle.abel_cli.specs.Right.{IsRight}
 use Rattle.abel_cli.specs.Run.{Ends, Means, CallsFor, IsCalledFor, Comes, Runs}
-use Rattle.abel_commands.specs.SignalEnables.{signal_enables}
 use Rattle.abel_commands.specs.SourceCommands.{written, listed}
 use Rattle.source_files.specs.Sources.{source_at}
 use Rattle.abel_commands.specs.Words.{Command, Task, Compile, ListSource, Simulate, Check, Demo, Decompile, Compare, IsCompile, command_of}
@@ -35,7 +34,7 @@ means (Simulate d) sources e ends = simulate_means (table_of d) (source_at sourc
 means (Check d) sources e ends = check_means (table_of d) (source_at sources 0) e ends
 means (Demo n) sources e ends = demo_means n e ends
 means (Decompile d) sources e ends = decompile_means (table_of d) (source_at sources 0) e ends
-means (Compare d) sources e ends = compare_means (table_of d) (source_at sources 0) (source_at sources 1) (signal_enables d) e ends
+means (Compare d) sources e ends = compare_means (table_of d) (source_at sources 0) (source_at sources 1) e ends
 
 low : (task : Task) (sources : List (List ℕ)) (e : Ending) → Means task sources e → e.status ≤ 5
 low (Compile o) sources e m = let is = m.statuses in omega (arith, is)
