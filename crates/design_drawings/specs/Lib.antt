@@ -1,0 +1,3 @@
+pub mod Disagreements
+pub mod Equations
+pub mod PinNames
