@@ -1,0 +1,92 @@
+//! The warning on active-low outputs that would take far fewer products in the other polarity.
+
+ghost use Rattle.std.specs.Prelude.{◌≤◌, length};
+ghost use Rattle.abel_tree.specs.View.{view_module};
+ghost use Rattle.compile_phases.specs.Phases.{AreNamesFor};
+
+use crate::made::Input;
+use crate::places::origins_of;
+use crate::telling::put_place;
+use abel_tree::{Meaning, Module, Names};
+use compile_phases::{CompileFault, netlist_of, sections_of};
+use fuse_listing::name_on;
+use pld_base::{ListOf, OutOfMemory, put_decimal, with_level};
+use pld_device::Device;
+use polarity_costs::{CostlyPolarity, costly_polarities};
+use source_vectors::SourceSections;
+use std::alloc::Global;
+
+/// The pins that have an active-low name, bit p for pin p.
+fn low_pins(names: &Names) -> u32 {
+    let mut pins = 0;
+    for declared in names.list.as_slice() {
+        if let Meaning::Pin { pin, negated: true } = declared.meaning {
+            if pin < 32 {
+                pins = with_level(pins, pin, true);
+            }
+        }
+    }
+    pins
+}
+
+/// The outputs with active-low names that are costly; no netlist is made where there is no such name.
+fn costly_outputs<D: Device>(
+    alloc: Global,
+    module: &Module,
+    names: &Names,
+) -> Result<ListOf<CostlyPolarity>, CompileFault>
+    requires { AreNamesFor D.table (view_module module.now) names.now }
+{
+    let pins = low_pins(names);
+    if pins == 0 {
+        return Ok(ListOf::from_vec(Vec::new(alloc)));
+    }
+    let SourceSections {
+        contributions,
+        vectors: _,
+    } = sections_of::<D>(alloc, module, names)?;
+    let net = netlist_of::<D>(alloc, module, names, contributions)?;
+    match costly_polarities::<D>(alloc, &net, pins) {
+        Ok(list) => Ok(list),
+        Err(OutOfMemory) => Err(CompileFault::OutOfMemory),
+    }
+}
+
+/// Appends what an output takes in each polarity.
+fn put_costs(
+    alloc: Global,
+    text: &mut Vec<u8>,
+    name: &[u8],
+    found: CostlyPolarity,
+) -> Result<(), OutOfMemory> {
+    text.extend_from_slice(b": warning: `")?;
+    text.extend_from_slice(name)?;
+    text.extend_from_slice(b"` takes ")?;
+    put_decimal(alloc, text, found.rows)?;
+    text.extend_from_slice(b" products, and its complement ")?;
+    put_decimal(alloc, text, found.other)?;
+    text.push(b'\n')?;
+    Ok(())
+}
+
+/// Appends the warnings on active-low outputs that take several times the products of their complement.
+pub fn put_costly_outputs<D: Device>(
+    alloc: Global,
+    text: &mut Vec<u8>,
+    module: &Module,
+    names: &Names,
+    input: Input,
+) -> Result<(), CompileFault>
+    requires names { AreNamesFor D.table (view_module module.now) names.now }
+    requires within { length input.bytes.now ≤ 1048576 }
+{
+    let list = costly_outputs::<D>(alloc, module, names)?;
+    let origins = origins_of(alloc, input.bytes)?;
+    for found in list.as_slice() {
+        if let Some(declared) = name_on(names, found.pin) {
+            put_place(alloc, text, input.name, origins.at(declared.place))?;
+            put_costs(alloc, text, declared.name.bytes(), *found)?;
+        }
+    }
+    Ok(())
+}

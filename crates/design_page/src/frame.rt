@@ -1,0 +1,40 @@
+//! The frame of a page.
+
+use crate::style::STYLE;
+use page_text::{Page, Piece};
+use pld_base::OutOfMemory;
+
+/// Writes all up to the page's first heading, which is its name.
+pub fn put_front(page: &mut Page, name: &[u8]) -> Result<(), OutOfMemory> {
+    page.put(&[
+        Piece::Markup(
+            "<!DOCTYPE html>\n<html lang=\"en\">\n<head>\n<meta charset=\"utf-8\">\n<meta name=\"viewport\" content=\"width=device-width, initial-scale=1\">\n<title>",
+        ),
+        Piece::Text(name),
+        Piece::Markup("</title>\n<style>"),
+        Piece::Markup(STYLE),
+        Piece::Markup("</style>\n</head>\n<body>\n<h1>"),
+        Piece::Text(name),
+        Piece::Markup("</h1>\n"),
+    ])
+}
+
+/// Writes the heading of a part, which links lead to by its word.
+pub fn put_heading(
+    page: &mut Page,
+    word: &'static str,
+    heading: &'static str,
+) -> Result<(), OutOfMemory> {
+    page.put(&[
+        Piece::Markup("<h2 id=\""),
+        Piece::Markup(word),
+        Piece::Markup("\">"),
+        Piece::Markup(heading),
+        Piece::Markup("</h2>\n"),
+    ])
+}
+
+/// Writes the end of the page.
+pub fn put_end(page: &mut Page) -> Result<(), OutOfMemory> {
+    page.put(&[Piece::Markup("</body>\n</html>\n")])
+}

@@ -1,0 +1,27 @@
+//! The page of a design: its drawings in one file of HTML, and what is said of it.
+#![tactic(auto)]
+
+mod costly;
+mod drawn;
+mod frame;
+mod lines;
+mod made;
+mod of_file;
+mod of_source;
+mod outcome;
+mod pin_names;
+mod placed;
+mod places;
+mod refused;
+mod running;
+mod source;
+mod style;
+mod telling;
+mod told_places;
+mod unfit;
+mod warned;
+
+pub use made::{Input, Made};
+pub use of_file::page_of_file;
+pub use of_source::page_of_source;
+pub use running::run;

@@ -1,0 +1,63 @@
+//! The page of a fuse file.
+
+ghost use Rattle.std.specs.Prelude.{◌≡◌, ◌≤◌, ◌<◌, ◌^◌, length};
+ghost use Rattle.source_files.specs.Limit.{limit};
+
+use crate::drawn::{Parts, drawn_page};
+use crate::made::{Input, Made, without_end};
+use crate::outcome::outcome_of;
+use crate::pin_names::pin_names;
+use abel_commands::checked_line::checked_line;
+use abel_commands::{Taken, read_files_have_few_vectors, take_file};
+use design_drawings::Design;
+use devices::on_device;
+use jedec_reader::FuseFile;
+use pld_base::{DeviceName, OutOfMemory};
+use pld_device::Device;
+use std::alloc::Global;
+
+/// What comes of a fuse file that is read.
+fn made_of<D: Device>(alloc: Global, input: Input, file: &FuseFile) -> Result<Made, OutOfMemory>
+    requires fuses { length file.now.fuses ≡ D.table.fuses }
+    requires few { length file.now.vectors < 2 ^ 32 }
+{
+    let outcome = outcome_of::<D>(alloc, file)?;
+    let names = pin_names::<D>(alloc, file)?;
+    let checked = checked_line::<D>(alloc, file)?;
+    let design = Design {
+        alloc,
+        names: &names,
+        file,
+    };
+    let parts = Parts {
+        name: input.name,
+        title: b"",
+        summary: without_end(&checked),
+        file: input.bytes,
+        source: b"",
+    };
+    Ok(Made {
+        status: outcome.status(),
+        report: outcome.lines::<D>(alloc)?,
+        page: Some(drawn_page::<D>(design, parts, &outcome)?),
+    })
+}
+
+/// What comes of bytes as a fuse file of a device.
+fn made_for<D: Device>(alloc: Global, input: Input) -> Result<Made, OutOfMemory>
+    requires { length input.bytes.now ≤ limit }
+{
+    read_files_have_few_vectors();
+    let taken = take_file::<D>(alloc, input.bytes)?;
+    match taken {
+        Taken::File(file) => made_of::<D>(alloc, input, &file),
+        Taken::Refused(line) => Made::told(alloc, 4, &[&line]),
+    }
+}
+
+/// What comes of a fuse file of a device: its page, and how `simulate` ends with it.
+pub fn page_of_file(alloc: Global, device: DeviceName, input: Input) -> Result<Made, OutOfMemory>
+    requires { length input.bytes.now ≤ limit }
+{
+    on_device!(device, made_for(alloc, input))
+}

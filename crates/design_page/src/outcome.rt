@@ -1,0 +1,53 @@
+//! What the vectors of a fuse file come to.
+
+ghost use Rattle.std.specs.Prelude.{◌≡◌, ◌<◌, ◌^◌, length};
+
+use abel_commands::run_lines::run_lines;
+use abel_commands::sim_fault_line::sim_fault_line;
+use design_drawings::DRAWN;
+use device_sim::{Report, simulate, traces};
+use jedec_reader::FuseFile;
+use pld_base::{ListOf, OutOfMemory, Trace};
+use pld_device::Device;
+use std::alloc::Global;
+
+/// What the vectors of a fuse file came to, with what the pins show at the first of them; or the line on why they were not run.
+#[derive(Drop)]
+pub enum Outcome {
+    Ran(Report, ListOf<Trace>),
+    NotRun(Vec<u8>),
+}
+
+/// Runs the vectors of a fuse file.
+pub fn outcome_of<D: Device>(alloc: Global, file: &FuseFile) -> Result<Outcome, OutOfMemory>
+    requires fuses { length file.now.fuses ≡ D.table.fuses }
+    requires few { length file.now.vectors < 2 ^ 32 }
+{
+    let report = match simulate::<D>(alloc, file) {
+        Ok(report) => report,
+        Err(fault) => return Ok(Outcome::NotRun(sim_fault_line(alloc, &fault)?)),
+    };
+    match traces::<D>(alloc, file, DRAWN) {
+        Ok(shown) => Ok(Outcome::Ran(report, shown)),
+        Err(fault) => Ok(Outcome::NotRun(sim_fault_line(alloc, &fault)?)),
+    }
+}
+
+impl Outcome {
+    /// The status that `simulate` ends with. Takes no memory.
+    pub fn status(&self) -> u8 {
+        match self {
+            Outcome::NotRun(_) => 4,
+            Outcome::Ran(report, _) if report.list.as_slice().is_empty() => 0,
+            Outcome::Ran(_, _) => 5,
+        }
+    }
+
+    /// The lines of `simulate`.
+    pub fn lines<D: Device>(&self, alloc: Global) -> Result<Vec<u8>, OutOfMemory> {
+        match self {
+            Outcome::NotRun(line) => Ok(Vec::from_slice(alloc, line)?),
+            Outcome::Ran(report, _) => run_lines::<D>(alloc, report),
+        }
+    }
+}

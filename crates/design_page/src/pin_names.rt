@@ -1,0 +1,71 @@
+//! Names for the pins of a fuse file, which has none.
+
+ghost use Rattle.std.specs.Prelude.{◌<◌, length};
+
+use abel_tree::{Attributes, Declared, Meaning, Names};
+use fuse_listing::{cell_of, count_in_use, is_in_use, name_on};
+use jedec_reader::FuseFile;
+use pld_base::{ListOf, NameText, OutOfMemory, Place, put_decimal};
+use pld_device::{Device, Enable};
+use std::alloc::Global;
+
+/// Whether a fuse file uses a cell: some row of it is in use.
+fn is_used<D: Device>(levels: &[bool], cell: u8) -> bool
+    requires { cell < length D.table.cells }
+{
+    let found = cell_of::<D>(cell);
+    let is_enabled = match found.enable {
+        Enable::Row(row) => is_in_use::<D>(levels, row),
+        Enable::PinLow(_) => false,
+    };
+    is_enabled || count_in_use::<D>(levels, found.first, found.room) != 0
+}
+
+/// Whether a fuse file uses the cell on a pin.
+fn is_assigned<D: Device>(levels: &[bool], pin: u8) -> bool {
+    for cell in 0..D::CELLS {
+        if cell_of::<D>(cell).pin == pin {
+            return is_used::<D>(levels, cell);
+        }
+    }
+    false
+}
+
+/// The name of a pin: `p` and its number, as `decompile` writes it.
+fn named<D: Device>(alloc: Global, levels: &[bool], pin: u8) -> Result<Declared, OutOfMemory> {
+    let mut text = Vec::from_slice(alloc, b"p")?;
+    put_decimal(alloc, &mut text, usize::from(pin))?;
+    Ok(Declared {
+        name: NameText::new(alloc, &text)?,
+        place: Place { line: 1, column: 1 },
+        meaning: Meaning::Pin {
+            pin,
+            negated: false,
+        },
+        attributes: Attributes(0),
+        assigned: is_assigned::<D>(levels, pin),
+    })
+}
+
+/// The bytes of the first name of a pin, none where it has none. Takes no memory.
+pub fn name_of_pin(names: &Names, pin: u8) -> &[u8] {
+    match name_on(names, pin) {
+        Some(declared) => declared.name.bytes(),
+        None => b"",
+    }
+}
+
+/// The names of a fuse file's pins, those of cells in use assigned.
+pub fn pin_names<D: Device>(alloc: Global, file: &FuseFile) -> Result<Names, OutOfMemory> {
+    let mut list = Vec::new(alloc);
+    for before in 0..D::PINS {
+        let pin = before + 1;
+        if pin != D::GROUND && pin != D::PINS {
+            list.push(named::<D>(alloc, file.fuses.levels(), pin)?)?;
+        }
+    }
+    Ok(Names {
+        list: ListOf::from_vec(list),
+        device: D::NAME,
+    })
+}

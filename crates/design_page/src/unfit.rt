@@ -1,0 +1,89 @@
+//! What is said of a design that does not fit: each cell that is over its room.
+
+ghost use Rattle.std.specs.Prelude.{◌≤◌, length};
+ghost use Rattle.abel_tree.specs.View.{view_module};
+ghost use Rattle.compile_phases.specs.Phases.{AreNamesFor};
+
+use crate::pin_names::name_of_pin;
+use crate::placed::placed_module;
+use abel_tree::{Module, Names};
+use compile_phases::{CompileFault, device_named, module_of, names_of, netlist_of, sections_of};
+use devices::on_device;
+use fitter::{FitFault, Overfull, cells_over_room};
+use pld_base::{ListOf, OutOfMemory, put_decimal};
+use pld_device::Device;
+use source_vectors::SourceSections;
+use std::alloc::Global;
+
+/// The cells that are over their room, none where the fit has another fault.
+fn overfull_cells<D: Device>(
+    alloc: Global,
+    module: &Module,
+    names: &Names,
+) -> Result<ListOf<Overfull>, CompileFault>
+    requires { AreNamesFor D.table (view_module module.now) names.now }
+{
+    let SourceSections {
+        contributions,
+        vectors: _,
+    } = sections_of::<D>(alloc, module, names)?;
+    let net = netlist_of::<D>(alloc, module, names, contributions)?;
+    match cells_over_room::<D>(alloc, &net) {
+        Ok(list) => Ok(list),
+        Err(FitFault::OutOfMemory) => Err(CompileFault::OutOfMemory),
+        Err(_) => Ok(ListOf::from_vec(Vec::new(alloc))),
+    }
+}
+
+/// Appends the line on a cell.
+fn put_cell(
+    alloc: Global,
+    text: &mut Vec<u8>,
+    names: &Names,
+    over: Overfull,
+) -> Result<(), OutOfMemory> {
+    text.extend_from_slice(b"pin ")?;
+    put_decimal(alloc, text, usize::from(over.pin))?;
+    text.push(b' ')?;
+    text.extend_from_slice(name_of_pin(names, over.pin))?;
+    text.extend_from_slice(b" takes ")?;
+    put_decimal(alloc, text, over.rows)?;
+    text.extend_from_slice(b" products and has room for ")?;
+    put_decimal(alloc, text, usize::from(over.room))?;
+    text.push(b'\n')?;
+    Ok(())
+}
+
+/// Appends a line on each cell of a module that is over its room.
+fn put_cells<D: Device>(
+    alloc: Global,
+    text: &mut Vec<u8>,
+    module: Module,
+) -> Result<(), CompileFault> {
+    let placed = placed_module::<D>(alloc, module)?;
+    let names = names_of::<D>(alloc, &placed)?;
+    let cells = overfull_cells::<D>(alloc, &placed, &names)?;
+    for over in cells.as_slice() {
+        put_cell(alloc, text, &names, *over)?;
+    }
+    Ok(())
+}
+
+/// Appends a line on each cell of a source that is over its room.
+fn put_source_cells(alloc: Global, text: &mut Vec<u8>, bytes: &[u8]) -> Result<(), CompileFault>
+    requires { length bytes.now ≤ 1048576 }
+{
+    let module = module_of(alloc, bytes)?;
+    let device = device_named(alloc, &module)?;
+    on_device!(device, put_cells(alloc, text, module))
+}
+
+/// Appends a line on each cell that is over its room, of a source that does not fit; nothing of one that is refused before.
+pub fn put_unfit(alloc: Global, text: &mut Vec<u8>, bytes: &[u8]) -> Result<(), OutOfMemory>
+    requires { length bytes.now ≤ 1048576 }
+{
+    match put_source_cells(alloc, text, bytes) {
+        Err(CompileFault::OutOfMemory) => Err(OutOfMemory),
+        _ => Ok(()),
+    }
+}
