@@ -1,0 +1,36 @@
+//! `abel-page`: the page of a design, from its ABEL-HDL source or its fuse file.
+#![tactic(auto)]
+
+use design_page::run;
+use host_files::{HostFiles, HostSink};
+use std::io::ErrorKind;
+use std::process::ExitCode;
+use std::{env, io};
+
+/// The words behind the program's name, each of which is UTF-8.
+fn text_words(rt: &HostRuntime) -> io::Result<Vec<String>> {
+    let mut words = Vec::new(rt.alloc());
+    for word in env::args(rt)?.skip(1) {
+        words.push(word)?;
+    }
+    Ok(words)
+}
+
+/// The status that the program ends with. Where some word is no UTF-8 it is as if there were none.
+fn status(rt: &HostRuntime) -> u8 {
+    let alloc = rt.alloc();
+    let mut files = HostFiles::new(alloc, rt);
+    let mut report = HostSink::new(alloc, rt.stdout());
+    match text_words(rt) {
+        Ok(words) => run(alloc, &words, &mut files, &mut report),
+        Err(fault) if fault.kind() == ErrorKind::InvalidData => {
+            run(alloc, &[], &mut files, &mut report)
+        }
+        Err(_) => 8,
+    }
+}
+
+/// Runs the program over the real files and standard output.
+fn main(rt: HostRuntime) -> ExitCode {
+    ExitCode::from(status(&rt))
+}
