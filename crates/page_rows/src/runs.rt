@@ -1,0 +1,52 @@
+//! Runs of the program's top call over files and a report in memory.
+
+use crate::texts::put_lines;
+use design_page::run;
+use outside::{MemoryFiles, MemorySink};
+use pld_base::OutOfMemory;
+use std::alloc::Global;
+use test_rows::Found;
+
+/// The words of a command line, which blanks part.
+fn words_of(alloc: Global, line: &str) -> Result<Vec<String>, OutOfMemory> {
+    let mut words = Vec::new(alloc);
+    for word in line.split(' ') {
+        if !word.is_empty() {
+            words.push(String::from_str(alloc, word)?)?;
+        }
+    }
+    Ok(words)
+}
+
+/// Appends what a run over the bytes under `in` came to: its status, the lines of its report, and whether a page stands under `out`.
+fn put_run(
+    alloc: Global,
+    found: &mut Found,
+    line: &str,
+    bytes: &[u8],
+    calls: (u32, u32),
+) -> Result<(), OutOfMemory> {
+    let words = words_of(alloc, line)?;
+    let mut files = MemoryFiles::new(alloc);
+    files.add("in", bytes)?;
+    files.fail(calls.0)?;
+    let mut report = MemorySink::new(alloc);
+    report.fail(calls.1)?;
+    found.number(usize::from(run(alloc, &words, &mut files, &mut report)));
+    found.text("|");
+    put_lines(found, report.bytes());
+    if files.get("out").is_some() {
+        found.text("page");
+    }
+    Ok(())
+}
+
+/// What a run over the bytes under `in` comes to. The call of the files and the call of the report of these numbers fail, where they are
+/// not 0.
+pub fn run_found(alloc: Global, line: &str, bytes: &[u8], calls: (u32, u32)) -> Found {
+    let mut found = Found::new(alloc);
+    if put_run(alloc, &mut found, line, bytes, calls).is_err() {
+        found.text("no memory");
+    }
+    found
+}
