@@ -40,7 +40,7 @@ fn names_of(alloc: Global, text: &str) -> Result<Names, OutOfMemory> {
 /// Appends the listing of fuses in names.
 fn put_listing(alloc: Global, names: &str, fuses: &str, found: &mut Found) {
     match (names_of(alloc, names), fuses_of(alloc, fuses, 60)) {
-        (Ok(names), Some(fuses)) => match listing::<Sample>(alloc, &names, &fuses) {
+        (Ok(names), Some(fuses)) => match listing::<Sample>(alloc, &names, &names, &fuses) {
             Ok(list) => found.put(&list),
             Err(_) => found.text("no memory"),
         },
