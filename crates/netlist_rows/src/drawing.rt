@@ -14,7 +14,7 @@ ghost use Rattle.netlist_rows.specs.Named.{AreNamesFor};
 use abel_tree::{Module, Names};
 use assigned_signals::sound_modules_are_accepted;
 use bit_expr::Netlist;
-use declared_names::declare;
+use declared_names::{are_numbered, declare, numbered_names};
 use design::gather;
 use named_designs::names_are_accepted;
 use pld_base::Vector;
@@ -32,12 +32,19 @@ pub(crate) struct Drawn {
     pub(crate) vectors: Vec<Vector>,
 }
 
-/// The names of a module for a device.
+/// The names of a module for a device, if each pin has a number.
 pub(crate) fn names_of<D: Device>(alloc: Global, source: &Module) -> Option<Names>
     ensures { IfSome result (AreNamesFor D.table (view_module source.now)) }
 {
+    numbered_names();
     match declare::<D>(alloc, source) {
-        Ok(names) => Some(names),
+        Ok(names) => {
+            if are_numbered(&names) {
+                Some(names)
+            } else {
+                None
+            }
+        }
         Err(_) => None,
     }
 }
