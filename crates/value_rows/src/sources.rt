@@ -7,7 +7,7 @@ ghost use Rattle.row_entries.specs.EntryTerms.{AreInOrder};
 ghost use Rattle.set_expr.specs.KnownNames.{IsKnown};
 
 use abel_tree::{Module, Names};
-use declared_names::declare;
+use declared_names::{are_numbered, declare, numbered_names};
 use module_reader::read_module;
 use pld_device::Device;
 use set_expr::{KnownNames, known_names};
@@ -46,13 +46,20 @@ fn module_of(alloc: Global, names: &Found, front: &str, text: &str, back: &str) 
     read_module(alloc, bytes).ok()
 }
 
-/// The names of a module for a device.
+/// The names of a module for a device, if each pin has a number.
 fn names_of<D: Device>(alloc: Global, module: &Module) -> Option<Names>
     ensures order { IfSome result (λ n. AreInOrder (entries_of n)) }
     ensures placed { IfSome result (λ n. ArePlaced n) }
 {
+    numbered_names();
     match declare::<D>(alloc, module) {
-        Ok(names) => Some(names),
+        Ok(names) => {
+            if are_numbered(&names) {
+                Some(names)
+            } else {
+                None
+            }
+        }
         Err(_) => None,
     }
 }
