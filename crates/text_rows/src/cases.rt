@@ -2,7 +2,7 @@
 
 use crate::attribute_sets::attribute_set;
 use crate::named_ranges::range;
-use crate::{copies, declared, expanded, long_texts, nests, parsed, scanned, told};
+use crate::{copies, declared, expanded, long_texts, nests, parsed, scanned, told, warned};
 use std::alloc::{AllocError, Global};
 use test_rows::{Found, Report, Row, Section, halves, unescaped};
 
@@ -22,10 +22,12 @@ fn found_for(alloc: Global, kind: &str, input: &[u8]) -> Option<Found> {
         "Longest scans" => Some(scanned::longest_scan(alloc, input)),
         "Expansions" => Some(expanded::expansion(alloc, input)),
         "Readers" => Some(expanded::reading(alloc, input)),
+        "Offsets" => Some(expanded::offsets(alloc, input)),
         "Values" => Some(expanded::value(alloc, input)),
         "Sources" => Some(parsed::reading(alloc, input)),
         "Copies" => Some(copies::copied(alloc, input)),
         "Modules" => Some(told::module(alloc, input)),
+        "Warnings" => Some(warned::warnings_of(alloc, input)),
         _ => None,
     }
 }

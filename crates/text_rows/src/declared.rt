@@ -13,7 +13,7 @@ use std::alloc::Global;
 use test_rows::{Found, halves, unescaped};
 
 /// The names for the device that a module names.
-fn declared(alloc: Global, module: &Module) -> Result<Names, NameFault> {
+pub fn declared(alloc: Global, module: &Module) -> Result<Names, NameFault> {
     on_device!(device_of(module)?, declare(alloc, module))
 }
 
@@ -27,7 +27,7 @@ fn put_named(found: &mut Found, kind: &str, place: Place, name: &NameText) {
 }
 
 /// Puts the refusal of names.
-fn put_name_fault(found: &mut Found, fault: &NameFault) {
+pub fn put_name_fault(found: &mut Found, fault: &NameFault) {
     match fault {
         NameFault::Redeclared(place, name) => put_named(found, "Redeclared", *place, name),
         NameFault::UnknownDevice(place) => put_refusal(found, "UnknownDevice", *place),

@@ -76,6 +76,34 @@ pub fn reading(alloc: Global, text: &[u8]) -> Found {
     found
 }
 
+/// Puts the offset of the byte that a reader gave last, with an `m` if a macro stands for it.
+fn put_offset(found: &mut Found, reader: &Reader) {
+    found.number(reader.offset());
+    if reader.is_in_macro() {
+        found.text("m");
+    }
+    found.text(" ")
+}
+
+/// The offset of each byte that a reader gives, and where it goes on behind them.
+pub fn offsets(alloc: Global, text: &[u8]) -> Found {
+    let mut found = Found::new(alloc);
+    if text.len() > LONGEST {
+        found.text("too long");
+        return found;
+    }
+    let mut reader = Reader::new(alloc, text);
+    for _ in 0..=LONGEST {
+        match reader.next() {
+            Ok(Some(_)) => put_offset(&mut found, &reader),
+            _ => break,
+        }
+    }
+    found.text("and ");
+    found.number(reader.next_offset());
+    found
+}
+
 /// Puts what a text expands to, or its refusal.
 fn put_expansion(alloc: Global, text: &[u8], found: &mut Found) {
     if text.len() > LONGEST {

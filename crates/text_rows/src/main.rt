@@ -21,6 +21,7 @@ mod scanned;
 mod sources;
 mod statement_outlines;
 mod told;
+mod warned;
 
 use std::io::{self, Write};
 use test_rows::{Found, sections};
