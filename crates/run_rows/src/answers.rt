@@ -20,6 +20,7 @@ pub fn compiled(alloc: Global, source: &[u8]) -> Result<Compiled, CompileFault> 
 pub fn put_fault(found: &mut Found, fault: &CompileFault) {
     match fault {
         CompileFault::Source(_, line) => put_error(found, line),
+        CompileFault::Place(_, line) => put_error(found, line),
         CompileFault::Fit(_, line) => put_error(found, line),
         CompileFault::OutOfMemory => found.text("no memory"),
     }

@@ -9,9 +9,9 @@ use test_rows::{Found, Report, Row, Section, unescaped};
 /// Who refuses a source.
 #[derive(Clone, Copy)]
 pub enum Phase {
-    /// What comes before the fit.
+    /// What is said of the source.
     Source,
-    /// The fit.
+    /// The device: its pins, or the fit.
     Fit,
 }
 
@@ -19,6 +19,7 @@ pub enum Phase {
 fn is_of(fault: &CompileFault, phase: Phase) -> bool {
     match (fault, phase) {
         (CompileFault::Source(..), Phase::Source) => true,
+        (CompileFault::Place(..), Phase::Fit) => true,
         (CompileFault::Fit(..), Phase::Fit) => true,
         _ => false,
     }
