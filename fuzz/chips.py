@@ -1,7 +1,6 @@
 """The devices in Python, by the tables of docs/DEVICES.md alone: what a device with its fuses drives and stores, its decompiled
 source, and how two fuse files of it differ. None of it is the program's own code, against which it is held.
 """
-import itertools
 import re
 
 BOTH = {"L8": [2, 1, 3, 18, 4, 17, 5, 16, 6, 15, 7, 14, 8, 13, 9, 11],
@@ -122,17 +121,6 @@ class Chip:
         read = {pin for asked in self.rows.values() for pin, _ in asked or []} - set(self.registers)
         return read | ({11} if self.clock and not self.wide else set()), set(self.registers)
 
-    # ---- levels
-
-    def rest(self, outside, stored):
-        """What the device shows at rest: the levels of its pins, its Qs, and which cells drive."""
-        return Rest(self, outside, stored).shown()
-
-    def edge(self, outside, stored):
-        """The Qs after a rising clock from that rest."""
-        at = Rest(self, outside, stored)
-        return {pin: at.next_q(pin) for pin in self.registers}
-
     # ---- the source
 
     def product(self, row):
@@ -174,79 +162,115 @@ class Chip:
 
 
 class Rest:
-    """A device at rest, worked out from what is asked: a level is found when it is first looked at."""
+    """A device at rest in many states at once: bit k of a level, of a Q and of all that is worked out of them is that of state k.
+    A level is found when it is first looked at.
+    """
 
-    def __init__(self, chip, outside, stored):
+    def __init__(self, chip, outside, stored, states=1):
         self.chip, self.outside, self.stored, self.found = chip, outside, stored, {}
+        self.all = (1 << states) - 1
+
+    def turned(self, value, turns):
+        """The value, or where it is turned its complement."""
+        return value ^ self.all if turns else value
 
     def is_true(self, row):
-        asked = self.chip.rows[row]
-        return asked is not None and all(self.carried(pin) == lower for pin, lower in asked)
+        if self.chip.rows[row] is None:
+            return 0
+        value = self.all
+        for pin, lower in self.chip.rows[row]:
+            value &= self.turned(self.carried(pin), not lower)
+        return value
 
     def carried(self, pin):
         """What the lower column of the pin's pair has."""
-        return not self.q(pin) if pin in self.chip.registers else bool(self.level(pin))
+        return self.turned(self.q(pin), True) if pin in self.chip.registers else self.level(pin)
 
     def is_reset(self):
-        return self.chip.reset is not None and self.is_true(self.chip.reset)
+        return 0 if self.chip.reset is None else self.once("reset", self.is_true, self.chip.reset)
+
+    def is_preset(self):
+        return 0 if self.chip.preset is None else self.is_true(self.chip.preset)
 
     def q(self, pin):
-        return int(bool(self.stored.get(pin)) and not self.is_reset())
+        return self.stored.get(pin, 0) & ~self.is_reset()
 
     def drives(self, pin):
         row = self.chip.enable(pin)
-        return self.is_true(row) if row is not None else not self.level(11)
+        return self.turned(self.level(11), True) if row is None else self.once(("drives", pin), self.is_true, row)
 
     def sum(self, pin):
-        return any(self.is_true(row) for row in self.chip.data(pin))
+        value = 0
+        for row in self.chip.data(pin):
+            value |= self.is_true(row)
+        return value
 
     def level(self, pin):
-        if pin not in self.chip.cells:
-            return self.outside.get(pin, 0)
-        if pin not in self.found:
-            value = self.q(pin) if pin in self.chip.registers else self.drives(pin) and self.sum(pin)
-            driven = bool(value) != self.chip.inverts(pin)
-            self.found[pin] = int(driven) if self.drives(pin) else self.outside.get(pin, 0)
-        return self.found[pin]
+        return self.once(pin, self.driven, pin) if pin in self.chip.cells else self.outside.get(pin, 0)
+
+    def driven(self, pin):
+        """The level of a cell's pin: the cell's where it drives, else that from outside."""
+        drives = self.drives(pin)
+        value = (self.q(pin) if pin in self.chip.registers else self.sum(pin)) if drives else 0
+        return drives & self.turned(value, self.chip.inverts(pin)) | ~drives & self.outside.get(pin, 0)
+
+    def once(self, key, work, *words):
+        if key not in self.found:
+            self.found[key] = work(*words)
+        return self.found[key]
 
     def next_q(self, pin):
-        if self.is_reset():
-            return 0
-        if self.chip.preset is not None and self.is_true(self.chip.preset):
-            return 1
-        return int(self.sum(pin) != self.chip.takes_complement(pin))
+        """The Q after a rising clock."""
+        taken = self.turned(self.sum(pin), self.chip.takes_complement(pin))
+        return (taken | self.is_preset()) & ~self.is_reset()
 
     def shown(self):
+        """The levels of all pins, the Q of each cell, 0 where there is no register, and where each cell drives."""
         chip = self.chip
-        return ([self.level(pin) for pin in range(1, chip.pins + 1)], {pin: self.q(pin) for pin in chip.registers},
-                [self.drives(pin) for pin in chip.cells])
+        qs = [self.q(pin) if pin in chip.registers else 0 for pin in chip.cells]
+        return [*map(self.level, range(1, chip.pins + 1)), *qs, *map(self.drives, chip.cells)]
+
+    def stored_then(self):
+        """The Qs that stay stored, by pin."""
+        return {pin: self.q(pin) for pin in self.chip.registers}
+
+    def seen(self, pin):
+        """What a test finds at a cell's pin, in one state."""
+        return "LH"[self.level(pin)] if self.drives(pin) else "Z"
+
+    def stepped(self):
+        """The Q of each cell after a rising clock; that of a cell without a register is 0."""
+        return [self.next_q(pin) if pin in self.chip.registers else 0 for pin in self.chip.cells]
 
 
 # ---- two files
 
 
-def shows_otherwise(a, b, outside, stored):
-    """How two devices differ in a state: "rest", "clock" or None."""
-    (pins, first, drive), (others, second, drives) = a.rest(outside, stored), b.rest(outside, stored)
-    qs = lambda found: [found.get(pin, 0) for pin in a.cells]
-    if pins != others or qs(first) != qs(second) or drive != drives:
-        return "rest"
-    if a.clock and not outside.get(a.clock) and qs(a.edge(outside, stored)) != qs(b.edge(outside, stored)):
-        return "clock"
-    return None
+def differences(a, b, outside, stored, states=1):
+    """The states in which two devices show something else at rest, and those in which they don't and a rising clock gives other Qs."""
+    first, second = Rest(a, outside, stored, states), Rest(b, outside, stored, states)
+    at_rest = clocked = 0
+    for one, other in zip(first.shown(), second.shown()):
+        at_rest |= one ^ other
+    if a.clock:
+        for one, other in zip(first.stepped(), second.stepped()):
+            clocked |= one ^ other
+    return at_rest, clocked & ~at_rest & ~outside.get(a.clock, 0)
 
 
 def all_states(a, b):
-    """Every state of the pins and Qs that count in one of the two, the others at 0."""
+    """Each pin and Q that counts in one of the two, with its level in every state of them all, and how many states these are."""
     (pins, qs), (more, further) = a.variables(), b.variables()
     pins, qs = sorted(pins | more), sorted(qs | further)
-    for levels in itertools.product((0, 1), repeat=len(pins) + len(qs)):
-        yield dict(zip(pins, levels)), dict(zip(qs, levels[len(pins):]))
+    states = 1 << len(pins) + len(qs)
+    # of variable k: 2^k states at 0 and as many at 1, over and over
+    levels = [((1 << states) - 1) // ((1 << (1 << k)) + 1) << (1 << k) for k in range(len(pins) + len(qs))]
+    return dict(zip(pins, levels)), dict(zip(qs, levels[len(pins):])), states
 
 
 def differ(a, b):
     """Whether the two differ in some state."""
-    return any(shows_otherwise(a, b, outside, stored) for outside, stored in all_states(a, b))
+    return any(differences(a, b, *all_states(a, b)))
 
 
 # ---- drawn fuses
@@ -299,6 +323,30 @@ def draw(rng, name, inputs, rows, literals):
         if row is not None and rng.random() < 0.5:
             put_row(chip, row, product(rng, [pin for pin in chip.pairs if pin in inputs], 2))
     return fuses
+
+
+# ---- test vectors
+
+
+def vectors_of(rng, chip, count):
+    """So many vectors of a device from power-up, with random levels, of which a few are those of cells' pins, and some with a pulse of
+    the clock; what they expect of all other cells' pins is what the device shows then.
+    """
+    stored, vectors = {}, []
+    for _ in range(count):
+        given = [pin for pin in range(1, chip.pins) if pin not in (chip.ground, chip.clock) and (pin not in chip.cells or rng.random() < 0.2)]
+        outside = {pin: rng.randrange(2) for pin in given}
+        at = Rest(chip, outside, stored)
+        pulses = chip.clock and rng.random() < 0.6
+        if pulses:
+            stepped = dict(zip(chip.cells, at.stepped()))
+            at = Rest(chip, outside | {chip.clock: 1}, stepped)
+            at = Rest(chip, outside, at.stored_then())
+        stored = at.stored_then()
+        chars = {pin: str(outside[pin]) for pin in given} | {pin: at.seen(pin) for pin in chip.cells if pin not in given}
+        chars |= {chip.clock: "C" if pulses else "0", chip.ground: "N", chip.pins: "N"}
+        vectors.append("".join(chars[pin] for pin in range(1, chip.pins + 1)))
+    return vectors
 
 
 # ---- fuse files
