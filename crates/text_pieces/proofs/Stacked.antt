@@ -1,21 +1,21 @@
 -- The text of a stack, and one piece more or less.
-use Rattle.std.proofs.Common.{◌≡◌, ◌-◌, ◌+◌, ◌<◌, ◌≤◌, ℕ, zero, suc, List, [], ◌∷◌, ◌++◌, length, take, drop, get_or, refl, sym, ap, ◌∙◌, subst, append_assoc, append-nil, add-one, arith, length-drop, length-append}
+use Rattle.std.proofs.Common.{◌≡◌, ◌-◌, ◌+◌, ◌<◌, ◌≤◌, ℕ, zero, suc, List, [], ◌∷◌, ◌++◌, length, take, drop, get_or, refl, sym, ap, ◌∙◌, append_assoc, append-nil, add-one, arith, length-drop}
 use Rattle.std.proofs.Math.Seq.{take-length, take-suc}
-use Rattle.std.specs.Borrow.{Bor}
+use Rattle.text_pieces.specs.declared.piece.Piece.{Piece}
 use Rattle.text_pieces.specs.Stacks.{rest_of}
-use Rattle.text_pieces.specs.Stacks.{stacked, joined}
+use Rattle.text_pieces.specs.Stacks.{stacked}
 
-pub stacked-append : (ps qs : List (Bor (List ℕ))) → stacked (ps ++ qs) ≡ stacked qs ++ stacked ps
+pub stacked-append : (ps qs : List Piece) → stacked (ps ++ qs) ≡ stacked qs ++ stacked ps
 stacked-append [] qs = sym (append-nil (stacked qs))
-stacked-append (p ∷ ps) qs = ap (λ (w : List ℕ). w ++ p.now) (stacked-append ps qs) ∙ append_assoc (stacked qs) (stacked ps) p.now
+stacked-append (p ∷ ps) qs = ap (λ (w : List ℕ). w ++ p.bytes.now) (stacked-append ps qs) ∙ append_assoc (stacked qs) (stacked ps) p.bytes.now
 
-pub stacked-push : (ps : List (Bor (List ℕ))) (p : Bor (List ℕ)) → stacked (ps ++ p ∷ []) ≡ p.now ++ stacked ps
+pub stacked-push : (ps : List Piece) (p : Piece) → stacked (ps ++ p ∷ []) ≡ p.bytes.now ++ stacked ps
 stacked-push ps p = stacked-append ps (p ∷ [])
 
 -- a stack that isn't empty is its last piece and the others
-pub stacked_split : (ps : List (Bor (List ℕ))) → 0 < length ps → (get_or ps (length ps - 1) (record { ref_ptr = (0, 0); now = [] })).now ++ stacked (take (length ps - 1) ps) ≡ stacked ps
+pub stacked_split : (ps : List Piece) → 0 < length ps → (get_or ps (length ps - 1) (record { bytes = record { ref_ptr = (0, 0); now = [] }; offset = 0 })).bytes.now ++ stacked (take (length ps - 1) ps) ≡ stacked ps
 stacked_split ps h =
-    let none : Bor (List ℕ) = record { ref_ptr = (0, 0); now = [] } in
+    let none : Piece = record { bytes = record { ref_ptr = (0, 0); now = [] }; offset = 0 } in
     let lt : length ps - 1 < length ps = omega arith in
     let whole : take (suc (length ps - 1)) ps ≡ ps = let e : suc (length ps - 1) ≡ length ps = omega arith in ap (λ (n : ℕ). take n ps) e ∙ take-length ps in
     sym (stacked-push (take (length ps - 1) ps) (get_or ps (length ps - 1) none)) ∙ ap stacked (sym (take-suc ps (length ps - 1) none lt) ∙ whole)
@@ -29,20 +29,18 @@ drop_next (y ∷ w) zero x xs e = ap rest_of e
 drop_next (y ∷ w) (suc p) x xs e = drop_next w p x xs e
 
 -- the first byte of a piece that isn't empty, and the others
-pub piece_split : (here : List ℕ) → 0 < length here → here ≡ get_or here 0 0 ∷ take (length here - 1) (drop 1 here)
+pub piece_split : (here : List ℕ) → 0 < length here → here ≡ get_or here 0 0 ∷ drop 1 here
 piece_split [] h = absurd (omega arith)
-piece_split (x ∷ xs) h =
-    let e : length (x ∷ xs) - 1 ≡ length xs = omega arith in
-    ap (λ (w : List ℕ). x ∷ w) (sym (ap (λ (n : ℕ). take n xs) e ∙ take-length xs))
+piece_split (x ∷ xs) h = refl
 
 pub record Passes (here stack whole : List ℕ) (passed : ℕ) : Type 0 where
-  pub text : take (length here - 1) (drop 1 here) ++ stack ≡ drop (passed + 1) whole
+  pub text : drop 1 here ++ stack ≡ drop (passed + 1) whole
   pub byte : drop passed whole ≡ get_or here 0 0 ∷ drop (passed + 1) whole
   pub within : passed + 1 ≤ length whole
 
 pub passes : (here stack whole : List ℕ) (passed : ℕ) → 0 < length here → here ++ stack ≡ drop passed whole → Passes here stack whole passed
 passes here stack whole passed h e =
-    let more : List ℕ = take (length here - 1) (drop 1 here) ++ stack in
+    let more : List ℕ = drop 1 here ++ stack in
     let at : drop passed whole ≡ get_or here 0 0 ∷ more = sym e ∙ ap (λ (w : List ℕ). w ++ stack) (piece_split here h) in
     let next : drop (passed + 1) whole ≡ more = ap (λ (n : ℕ). drop n whole) (add-one passed) ∙ drop_next whole passed (get_or here 0 0) more at in
     record { text = sym next; byte = at ∙ ap (λ (w : List ℕ). get_or here 0 0 ∷ w) (sym next); within = omega (arith, ap length at, length-drop passed whole) }
@@ -60,8 +58,8 @@ is_nothing [] h = refl
 is_nothing (x ∷ xs) h = absurd (omega arith)
 
 -- a loop over pieces passes one that holds nothing
-pub next_piece : (here : List ℕ) (below : List (Bor (List ℕ))) (text : List ℕ) → length here ≡ 0 → 0 < length below → here ++ stacked below ≡ text
-    → (get_or below (length below - 1) (record { ref_ptr = (0, 0); now = [] })).now ++ stacked (take (length below - 1) below) ≡ text
+pub next_piece : (here : List ℕ) (below : List Piece) (text : List ℕ) → length here ≡ 0 → 0 < length below → here ++ stacked below ≡ text
+    → (get_or below (length below - 1) (record { bytes = record { ref_ptr = (0, 0); now = [] }; offset = 0 })).bytes.now ++ stacked (take (length below - 1) below) ≡ text
 next_piece here below text z s e = stacked_split below s ∙ emptied here (stacked below) text z e
 
 -- the first two bytes of a text

@@ -1,17 +1,16 @@
 -- Texts that stand in pieces.
-use Rattle.std.specs.Prelude.{ℕ, List, [], ◌∷◌, ◌++◌, drop, map}
-use Rattle.std.specs.List.{concat}
-use Rattle.std.specs.Borrow.{Bor}
+use Rattle.std.specs.Prelude.{ℕ, List, [], ◌∷◌, ◌++◌, drop}
+use Rattle.text_pieces.specs.declared.piece.Piece.{Piece}
 
 -- the text of pieces, the first piece first
-abbrev pub joined : List (Bor (List ℕ)) → List ℕ
+abbrev pub joined : List Piece → List ℕ
 joined [] = []
-joined (p ∷ ps) = p.now ++ joined ps
+joined (p ∷ ps) = p.bytes.now ++ joined ps
 
 -- the text of a stack of pieces, the last piece first
-abbrev pub stacked : List (Bor (List ℕ)) → List ℕ
+abbrev pub stacked : List Piece → List ℕ
 stacked [] = []
-stacked (p ∷ ps) = stacked ps ++ p.now
+stacked (p ∷ ps) = stacked ps ++ p.bytes.now
 
 -- a text that is looked at: the whole of it, and how much was passed
 pub record Look : Type 0 where

@@ -3,16 +3,17 @@
 ghost use Rattle.std.specs.Prelude.{◌≡◌, ℕ, ◌+◌, ◌<◌, ◌≤◌, ◌^◌, List, [], ◌∷◌, ◌++◌, length, take, drop, IfOk, IfSome, IfNone, true, false};
 ghost use Rattle.text_pieces.specs.Stacks.{ahead, joined, rest_of, stacked};
 
+use crate::piece::Piece;
 use std::alloc::{AllocError, Global};
 use std::marker::Model;
 
 /// A place in a text in pieces, from which it is looked at.
 #[derive(Drop)]
 pub struct Ahead<'r, 'a> {
-    top: &'a [u8],
-    stack: &'r [&'a [u8]],
-    here: &'a [u8],
-    below: &'r [&'a [u8]],
+    top: Piece<'a>,
+    stack: &'r [Piece<'a>],
+    here: Piece<'a>,
+    below: &'r [Piece<'a>],
     bytes: usize,
     passed: usize,
 }
@@ -23,25 +24,25 @@ impl<'r, 'a> Model for Ahead<'r, 'a> {
 
     ghost Value = { Look };
 
-    ghost view = { λ a. record { whole = a.top.now ++ stacked a.stack.now; passed = a.passed } };
+    ghost view = { λ a. record { whole = a.top.bytes.now ++ stacked a.stack.now; passed = a.passed } };
 
-    ghost invariant = { λ a. (a.here.now ++ stacked a.below.now ≡ drop a.passed (a.top.now ++ stacked a.stack.now)) × (a.passed ≤ length (a.top.now ++ stacked a.stack.now)) × (a.here.now ≡ [] → stacked a.below.now ≡ []) × (length a.below.now < 2 ^ 59) × (length (a.top.now ++ stacked a.stack.now) < 2 ^ 63) × (a.bytes ≡ length (a.top.now ++ stacked a.stack.now)) };
+    ghost invariant = { λ a. (a.here.bytes.now ++ stacked a.below.now ≡ drop a.passed (a.top.bytes.now ++ stacked a.stack.now)) × (a.passed ≤ length (a.top.bytes.now ++ stacked a.stack.now)) × (a.here.bytes.now ≡ [] → stacked a.below.now ≡ []) × (length a.below.now < 2 ^ 59) × (length (a.top.bytes.now ++ stacked a.stack.now) < 2 ^ 63) × (a.bytes ≡ length (a.top.bytes.now ++ stacked a.stack.now)) };
 }
 
 /// Whether a piece holds nothing and others stand below it.
-fn is_passed(here: &[u8], below: &[&[u8]]) -> bool
-    ensures yes { result ≡ true → (length here.now ≡ 0) × (0 < length below.now) }
-    ensures no { result ≡ false → here.now ≡ [] → stacked below.now ≡ [] }
+fn is_passed(here: Piece, below: &[Piece]) -> bool
+    ensures yes { result ≡ true → (length here.entry.bytes.now ≡ 0) × (0 < length below.now) }
+    ensures no { result ≡ false → here.entry.bytes.now ≡ [] → stacked below.now ≡ [] }
 {
-    here.is_empty() && !below.is_empty()
+    here.bytes.is_empty() && !below.is_empty()
 }
 
 /// The same text, begun by a piece that isn't empty where the text isn't.
-fn settled<'r, 'a>(first: &'a [u8], rest: &'r [&'a [u8]]) -> (&'a [u8], &'r [&'a [u8]])
+fn settled<'r, 'a>(first: Piece<'a>, rest: &'r [Piece<'a>]) -> (Piece<'a>, &'r [Piece<'a>])
     requires { length rest.now < 2 ^ 59 }
-    ensures text { result.0.now ++ stacked result.1.now ≡ first.now ++ stacked rest.now }
+    ensures text { result.0.bytes.now ++ stacked result.1.now ≡ first.entry.bytes.now ++ stacked rest.now }
     ensures fewer { length result.1.now ≤ length rest.now }
-    ensures first { result.0.now ≡ [] → stacked result.1.now ≡ [] }
+    ensures first { result.0.bytes.now ≡ [] → stacked result.1.now ≡ [] }
 {
     let mut here = first;
     let mut below = rest;
@@ -49,7 +50,7 @@ fn settled<'r, 'a>(first: &'a [u8], rest: &'r [&'a [u8]]) -> (&'a [u8], &'r [&'a
         let [more @ .., last] = below else {
             unreachable!();
         };
-        here = last;
+        here = *last;
         below = more;
     }
     (here, below)
@@ -58,25 +59,25 @@ fn settled<'r, 'a>(first: &'a [u8], rest: &'r [&'a [u8]]) -> (&'a [u8], &'r [&'a
 /// The first bytes of a text, as pieces.
 fn pieces_of<'a>(
     alloc: Global,
-    first: &'a [u8],
-    rest: &[&'a [u8]],
+    first: Piece<'a>,
+    rest: &[Piece<'a>],
     count: usize,
-) -> Result<Vec<&'a [u8]>, AllocError>
+) -> Result<Vec<Piece<'a>>, AllocError>
     requires pieces { length rest.now < 2 ^ 59 }
-    requires within { count ≤ length (first.now ++ stacked rest.now) }
-    ensures { IfOk result (λ w. joined w.items ≡ take count (first.now ++ stacked rest.now)) }
+    requires within { count ≤ length (first.bytes.now ++ stacked rest.now) }
+    ensures { IfOk result (λ w. joined w.items ≡ take count (first.entry.bytes.now ++ stacked rest.now)) }
 {
     let mut pieces = Vec::new(alloc);
     let mut here = first;
     let mut below = rest;
     let mut left = count;
-    'pieces: while here.len() < left {
+    'pieces: while here.bytes.len() < left {
         pieces.push(here)?;
-        left -= here.len();
+        left -= here.bytes.len();
         let [more @ .., last] = below else {
             unreachable!();
         };
-        here = last;
+        here = *last;
         below = more;
     }
     if left == 0 {
@@ -90,11 +91,11 @@ fn pieces_of<'a>(
 impl<'r, 'a> Ahead<'r, 'a> {
     /// A look at a whole text of so many bytes: this piece, and then those of the stack, the last one
     /// first.
-    pub fn new(top: &'a [u8], stack: &'r [&'a [u8]], bytes: usize) -> Ahead<'r, 'a>
+    pub fn new(top: Piece<'a>, stack: &'r [Piece<'a>], bytes: usize) -> Ahead<'r, 'a>
         requires pieces { length stack.now < 2 ^ 59 }
-        requires bytes { bytes ≡ length (top.now ++ stacked stack.now) }
+        requires bytes { bytes ≡ length (top.bytes.now ++ stacked stack.now) }
         requires fits { bytes < 2 ^ 63 }
-        ensures whole { result.whole ≡ top.now ++ stacked stack.now }
+        ensures whole { result.whole ≡ top.entry.bytes.now ++ stacked stack.now }
         ensures passed { result.passed ≡ 0 }
     {
         let (here, below) = settled(top, stack);
@@ -146,12 +147,20 @@ impl<'r, 'a> Ahead<'r, 'a> {
         let _passed = self.passed;
     }
 
+    /// The next bytes, as far as they stand in one piece.
+    pub fn front(&self) -> &'a [u8]
+        ensures text { take (length result.now) (ahead self.now) ≡ result.now }
+        ensures within { length result.now ≤ length (ahead self.now) }
+    {
+        self.here.bytes
+    }
+
     /// The next byte, which stays ahead.
     pub fn peek(&self) -> Option<u8>
         ensures some { IfSome result (λ b. (bs : List ℕ) × (ahead self.now ≡ b ∷ bs)) }
         ensures none { IfNone result (ahead self.now ≡ []) }
     {
-        match self.here {
+        match self.here.bytes {
             [first, ..] => Some(*first),
             [] => None,
         }
@@ -162,11 +171,11 @@ impl<'r, 'a> Ahead<'r, 'a> {
         ensures some { IfSome result (λ b. (a : ℕ) × (bs : List ℕ) × (ahead self.now ≡ a ∷ b ∷ bs)) }
         ensures none { IfNone result (rest_of (ahead self.now) ≡ []) }
     {
-        match self.here {
+        match self.here.bytes {
             [_, second, ..] => Some(*second),
             [_] => {
-                let (here, _below) = settled(&[], self.below);
-                match here {
+                let (here, _below) = settled(Piece::computed(&[]), self.below);
+                match here.bytes {
                     [first, ..] => Some(*first),
                     [] => None,
                 }
@@ -183,15 +192,16 @@ impl<'r, 'a> Ahead<'r, 'a> {
         ensures passed { IfSome result (λ b. self.new.passed ≡ self.old.passed + 1) }
         ensures same { IfNone result (self.new ≡ self.old) }
     {
-        match self.here {
-            [first, rest @ ..] => {
-                let mut here = rest;
+        match self.here.bytes {
+            [first, ..] => {
+                let (_passed, behind) = self.here.split_at(1);
+                let mut here = behind;
                 let mut below = self.below;
                 'pieces: while is_passed(here, below) {
                     let [more @ .., last] = below else {
                         unreachable!();
                     };
-                    here = last;
+                    here = *last;
                     below = more;
                 }
                 self.here = here;
@@ -204,7 +214,7 @@ impl<'r, 'a> Ahead<'r, 'a> {
     }
 
     /// The next bytes, as pieces.
-    pub fn until(&self, alloc: Global, count: usize) -> Result<Vec<&'a [u8]>, AllocError>
+    pub fn until(&self, alloc: Global, count: usize) -> Result<Vec<Piece<'a>>, AllocError>
         requires { count ≤ length (ahead self.now) }
         ensures { IfOk result (λ w. joined w.items ≡ take count (ahead self.now)) }
     {
@@ -218,10 +228,28 @@ impl<'r, 'a> Ahead<'r, 'a> {
         ensures whole { self.new.whole ≡ self.old.whole }
         ensures passed { self.new.passed ≡ self.old.passed + count }
     {
+        let mut here = self.here;
+        let mut below = self.below;
         let mut left = count;
-        'bytes: while left > 0 {
-            let _byte = self.step();
-            left -= 1;
+        'pieces: while here.bytes.len() < left {
+            left -= here.bytes.len();
+            let [more @ .., last] = below else {
+                unreachable!();
+            };
+            here = *last;
+            below = more;
         }
+        let (_passed, behind) = here.split_at(left);
+        here = behind;
+        'settling: while is_passed(here, below) {
+            let [more @ .., last] = below else {
+                unreachable!();
+            };
+            here = *last;
+            below = more;
+        }
+        self.here = here;
+        self.below = below;
+        self.passed += count;
     }
 }

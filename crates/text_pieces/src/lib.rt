@@ -2,7 +2,9 @@
 #![tactic(auto)]
 
 mod ahead;
+mod piece;
 mod rest;
 
 pub use ahead::Ahead;
+pub use piece::Piece;
 pub use rest::Rest;

@@ -4,14 +4,15 @@ ghost use Rattle.std.specs.Prelude.{◌≡◌, ◌++◌, ◌+◌, ◌<◌, ◌�
 ghost use Rattle.text_pieces.specs.Stacks.{Look, joined, stacked};
 
 use crate::ahead::Ahead;
+use crate::piece::Piece;
 use std::alloc::{AllocError, Global};
 use std::marker::Model;
 
 /// What is still to be read. The last piece of the stack stands right behind the top piece.
 #[derive(Drop)]
 pub struct Rest<'a> {
-    top: &'a [u8],
-    stack: Vec<&'a [u8]>,
+    top: Piece<'a>,
+    stack: Vec<Piece<'a>>,
     bytes: usize,
 }
 
@@ -21,9 +22,9 @@ impl<'a> Model for Rest<'a> {
 
     ghost Value = { List ℕ };
 
-    ghost view = { λ r. r.top.now ++ stacked r.stack.items };
+    ghost view = { λ r. r.top.bytes.now ++ stacked r.stack.items };
 
-    ghost invariant = { λ r. (r.bytes ≡ length (r.top.now ++ stacked r.stack.items)) × (length (r.top.now ++ stacked r.stack.items) < 2 ^ 63) };
+    ghost invariant = { λ r. (r.bytes ≡ length (r.top.bytes.now ++ stacked r.stack.items)) × (length (r.top.bytes.now ++ stacked r.stack.items) < 2 ^ 63) };
 }
 
 impl<'a> Rest<'a> {
@@ -33,7 +34,7 @@ impl<'a> Rest<'a> {
         ensures { result ≡ text.now }
     {
         Rest {
-            top: text,
+            top: Piece::source(text),
             stack: Vec::new(alloc),
             bytes: text.len(),
         }
@@ -60,22 +61,26 @@ impl<'a> Rest<'a> {
         Ahead::new(self.top, &self.stack, self.bytes)
     }
 
+    /// The offset in the source of the byte before the first one: of the byte that was taken last.
+    pub fn offset_before(&self) -> usize {
+        self.top.offset.wrapping_sub(1)
+    }
+
     /// Takes the first byte.
     pub fn take_byte(&mut self) -> Option<u8>
         ensures some { IfSome result (λ b. self.old ≡ b ∷ self.new) }
         ensures none { IfNone result ((self.old ≡ []) × (self.new ≡ [])) }
     {
         'pieces: loop {
-            match self.top {
-                [first, rest @ ..] => {
-                    self.top = rest;
-                    self.bytes -= 1;
-                    return Some(*first);
-                }
-                [] => match self.stack.pop() {
-                    Some(piece) => self.top = piece,
-                    None => return None,
-                },
+            if let [first, ..] = self.top.bytes {
+                let (_passed, behind) = self.top.split_at(1);
+                self.top = behind;
+                self.bytes -= 1;
+                return Some(*first);
+            }
+            match self.stack.pop() {
+                Some(piece) => self.top = piece,
+                None => return None,
             }
         }
     }
@@ -86,9 +91,9 @@ impl<'a> Rest<'a> {
         ensures { self.new ≡ drop count self.old }
     {
         let mut left = count;
-        'pieces: while self.top.len() < left {
-            left -= self.top.len();
-            self.bytes -= self.top.len();
+        'pieces: while self.top.bytes.len() < left {
+            left -= self.top.bytes.len();
+            self.bytes -= self.top.bytes.len();
             match self.stack.pop() {
                 Some(piece) => self.top = piece,
                 None => return,
@@ -100,18 +105,18 @@ impl<'a> Rest<'a> {
     }
 
     /// Takes the first bytes out, as pieces.
-    pub fn cut(&mut self, alloc: Global, count: usize) -> Result<Vec<&'a [u8]>, AllocError>
+    pub fn cut(&mut self, alloc: Global, count: usize) -> Result<Vec<Piece<'a>>, AllocError>
         requires { count ≤ length self.old }
         ensures ok { OnOk result (self.new ≡ drop count self.old) }
         ensures cut { IfOk result (λ w. joined w.items ≡ take count self.old) }
     {
         let mut pieces = Vec::new(alloc);
         let mut left = count;
-        'pieces: while self.top.len() < left {
+        'pieces: while self.top.bytes.len() < left {
             let top = self.top;
             pieces.push(top)?;
-            left -= top.len();
-            self.bytes -= top.len();
+            left -= top.bytes.len();
+            self.bytes -= top.bytes.len();
             match self.stack.pop() {
                 Some(piece) => self.top = piece,
                 None => return Ok(pieces),
@@ -125,31 +130,31 @@ impl<'a> Rest<'a> {
     }
 
     /// Puts a piece in front.
-    fn put(&mut self, piece: &'a [u8]) -> Result<(), AllocError>
-        requires { length self.old + length piece.now < 2 ^ 63 }
-        ensures ok { OnOk result (self.new ≡ piece.now ++ self.old) }
+    fn put(&mut self, piece: Piece<'a>) -> Result<(), AllocError>
+        requires { length self.old + length piece.bytes.now < 2 ^ 63 }
+        ensures ok { OnOk result (self.new ≡ piece.entry.bytes.now ++ self.old) }
         ensures err { OnErr result (self.new ≡ self.old) }
     {
-        if self.top.is_empty() {
-            self.bytes += piece.len();
+        if self.top.bytes.is_empty() {
+            self.bytes += piece.bytes.len();
             self.top = piece;
             return Ok(());
         }
         self.stack.push(self.top)?;
-        self.bytes += piece.len();
+        self.bytes += piece.bytes.len();
         self.top = piece;
         Ok(())
     }
 
     /// Puts a text in pieces in front.
-    pub fn put_all(&mut self, pieces: &[&'a [u8]]) -> Result<(), AllocError>
+    pub fn put_all(&mut self, pieces: &[Piece<'a>]) -> Result<(), AllocError>
         requires bytes { length self.old + length (joined pieces.now) < 2 ^ 63 }
         requires pieces { length pieces.now < 2 ^ 59 }
         ensures ok { OnOk result (self.new ≡ joined pieces.now ++ self.old) }
     {
         let mut left = pieces;
         'pieces: while let [more @ .., last] = left {
-            self.put(last)?;
+            self.put(*last)?;
             left = more;
         }
         Ok(())

@@ -6,8 +6,8 @@ use Rattle.text_pieces.proofs.ahead.pieces_of.Given as goal
 abbrev pub invariant-pieces : goal.invariant-pieces
 invariant-pieces l =
     record {
-      cut : joined l.pieces.items ++ take l.left (l.here ++ stacked l.below) ≡ take l.fn.count (l.fn.first ++ stacked l.fn.rest);
-      most : l.left ≤ length (l.here ++ stacked l.below);
+      cut : joined l.pieces.items ++ take l.left (l.here.bytes.now ++ stacked l.below) ≡ take l.fn.count (l.fn.first.bytes.now ++ stacked l.fn.rest);
+      most : l.left ≤ length (l.here.bytes.now ++ stacked l.below);
       fewer : length l.below < 2 ^ 59;
     }
 

@@ -5,7 +5,7 @@ use Rattle.text_pieces.proofs.ahead.settled.Given as goal
 
 -- the text stays
 abbrev pub invariant-pieces : goal.invariant-pieces
-invariant-pieces l = record { text : l.here ++ stacked l.below ≡ l.fn.first ++ stacked l.fn.rest; fewer : length l.below ≤ length l.fn.rest }
+invariant-pieces l = record { text : l.here.bytes.now ++ stacked l.below ≡ l.fn.first.bytes.now ++ stacked l.fn.rest; fewer : length l.below ≤ length l.fn.rest }
 
 abbrev pub decreases-pieces : goal.decreases-pieces
 decreases-pieces l = length l.below

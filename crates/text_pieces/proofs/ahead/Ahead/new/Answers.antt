@@ -1,5 +1,5 @@
 -- A look from the front of a text stands there.
-use Rattle.std.proofs.Common.{arith, ◌≤◌, length}
+use Rattle.std.proofs.Common.{arith}
 use Rattle.text_pieces.proofs.ahead.Ahead.new.Goals as goal
 
 pub invariant_of-result : goal.invariant_of-result

@@ -1,10 +1,10 @@
 -- The first byte of the piece is the next one.
-use Rattle.std.proofs.Common.{◌≡◌, List, ℕ, ap, ◌∙◌, sym, arith, drop, ◌+◌, ◌++◌}
+use Rattle.std.proofs.Common.{ap, ◌∙◌, sym, arith, drop, ◌+◌, ◌++◌}
 use Rattle.text_pieces.specs.Stacks.{ahead, stacked}
 use Rattle.text_pieces.proofs.Stacked.{passes}
 use Rattle.text_pieces.proofs.ahead.Ahead.peek.Goals as goal
 
 pub returns-in-len1-up-clause-some : goal.returns-in-len1-up-clause-some
 returns-in-len1-up-clause-some c =
-    let p = passes c.self.inside.here.now (stacked c.self.inside.below.now) (c.self.inside.top.now ++ stacked c.self.inside.stack.now) c.self.inside.passed (omega arith) c.self.invariant.0 in
-    (drop (c.self.inside.passed + 1) (c.self.inside.top.now ++ stacked c.self.inside.stack.now), ap ahead (sym c.self.view_is) ∙ p.byte)
+    let p = passes c.self.inside.here.bytes.now (stacked c.self.inside.below.now) (c.self.inside.top.bytes.now ++ stacked c.self.inside.stack.now) c.self.inside.passed (omega arith) c.self.invariant.0 in
+    (drop (c.self.inside.passed + 1) (c.self.inside.top.bytes.now ++ stacked c.self.inside.stack.now), ap ahead (sym c.self.view_is) ∙ p.byte)

@@ -1,16 +1,22 @@
--- The bytes that are left to pass lead to where all lead.
-use Rattle.std.proofs.Common.{◌≡◌, ◌≤◌, ◌+◌, length, drop}
-use Rattle.text_pieces.specs.Stacks.{ahead}
+-- The bytes that are left to pass lead to where all lead; then pieces that hold nothing are passed.
+use Rattle.std.proofs.Common.{◌≡◌, ◌≤◌, ◌++◌, length, drop}
+use Rattle.text_pieces.specs.Stacks.{stacked}
 use Rattle.text_pieces.proofs.ahead.Ahead.skip.Given as goal
 
-abbrev pub invariant-bytes : goal.invariant-bytes
-invariant-bytes l =
+abbrev pub invariant-pieces : goal.invariant-pieces
+invariant-pieces l =
     record {
-      behind : drop l.left (ahead l.self) ≡ drop l.fn.count (ahead l.fn.self);
-      some : l.left ≤ length (ahead l.self);
-      whole : l.self.whole ≡ l.fn.self.whole;
-      passed : l.self.passed + l.left ≡ l.fn.self.passed + l.fn.count;
+      behind : drop l.left (l.here.bytes.now ++ stacked l.below) ≡ drop l.fn.count (l.initial.here.bytes.now ++ stacked l.initial.below);
+      most : l.left ≤ length (l.here.bytes.now ++ stacked l.below);
+      fewer : length l.below ≤ length l.initial.below;
     }
 
-abbrev pub decreases-bytes : goal.decreases-bytes
-decreases-bytes l = l.left
+abbrev pub decreases-pieces : goal.decreases-pieces
+decreases-pieces l = length l.below
+
+-- the text ahead stays
+abbrev pub invariant-settling : goal.invariant-settling
+invariant-settling l = record { text : l.here.bytes.now ++ stacked l.below ≡ l.initial.here.bytes.now ++ stacked l.initial.below; fewer : length l.below ≤ length l.initial.below }
+
+abbrev pub decreases-settling : goal.decreases-settling
+decreases-settling l = length l.below

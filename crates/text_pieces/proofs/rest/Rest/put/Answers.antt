@@ -1,17 +1,17 @@
 -- One piece more stands before the rest.
-use Rattle.std.proofs.Common.{◌≡◌, ◌+◌, ◌++◌, ◌∙◌, ap, List, ℕ, sym, length, arith, length-append}
+use Rattle.std.proofs.Common.{◌≡◌, ◌++◌, ◌∙◌, ap, List, ℕ, length, arith, length-append}
 use Rattle.text_pieces.specs.Stacks.{stacked}
 use Rattle.text_pieces.proofs.Stacked.{stacked-push}
 use Rattle.text_pieces.proofs.rest.Rest.put.Goals as goal
 
 pub invariant_of-self-2 : goal.invariant_of-self-2
 invariant_of-self-2 c =
-    let e : stacked c.push.new.self.items ≡ c.self.inside.top.now ++ stacked c.self.inside.stack.items = ap stacked c.in_ok-push.ensures.items ∙ stacked-push c.self.inside.stack.items c.self.inside.top in
+    let e : stacked c.push.new.self.items ≡ c.self.inside.top.bytes.now ++ stacked c.self.inside.stack.items = ap stacked c.in_ok-push.ensures.items ∙ stacked-push c.self.inside.stack.items c.self.inside.top in
     let v = c.self.invariant in
     let r = c.requires in
     let w = ap length c.self.view_is in
-    (omega (arith, length-append c.args.piece.now (stacked c.push.new.self.items), ap length e, v.0), omega (arith, length-append c.args.piece.now (stacked c.push.new.self.items), ap length e, v.0, w))
+    (omega (arith, length-append c.args.piece.bytes.now (stacked c.push.new.self.items), ap length e, v.0), omega (arith, length-append c.args.piece.bytes.now (stacked c.push.new.self.items), ap length e, v.0, w))
 
 pub returns-clause-ok : goal.returns-clause-ok
 returns-clause-ok c =
-    ap (λ (w : List ℕ). c.args.piece.now ++ w) (ap stacked c.in_ok-push.ensures.items ∙ stacked-push c.self.inside.stack.items c.self.inside.top ∙ c.self.view_is)
+    ap (λ (w : List ℕ). c.args.piece.bytes.now ++ w) (ap stacked c.in_ok-push.ensures.items ∙ stacked-push c.self.inside.stack.items c.self.inside.top ∙ c.self.view_is)

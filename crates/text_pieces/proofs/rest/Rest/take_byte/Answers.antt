@@ -10,7 +10,7 @@ pieces-preserved c =
     record {
       text =
           popped c.pieces.self-inside.stack.items c.pop.new.self.items c.in-Some.piece c.in-Some.ensures.items
-          ∙ emptied c.pieces.self-inside.top.now (stacked c.pieces.self-inside.stack.items) _ (omega arith) c.pieces.invariant.text;
+          ∙ emptied c.pieces.self-inside.top.bytes.now (stacked c.pieces.self-inside.stack.items) _ (omega arith) c.pieces.invariant.text;
       count = c.pieces.invariant.count;
       fits = c.pieces.invariant.fits;
     }
