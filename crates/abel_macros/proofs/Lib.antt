@@ -10,3 +10,4 @@ pub mod Told
 pub mod MacroExamples
 pub mod ValueExamples
 pub mod DirectiveExamples
+pub mod Passed

@@ -1,5 +1,10 @@
 -- A text without the blanks at its ends, byte by byte.
-use Rattle.std.proofs.Common.{◌≡◌, ℕ, zero, suc, ◌+◌, ◌-◌, ◌≤◌, ◌<◌, inl, inr, Bool, true, false, List, [], ◌∷◌, ◌++◌, length, take, drop, refl, sym, ap, ◌∙◌, arith, add-one, length-drop}
+use Rattle.std.proofs.Common.{◌≡◌, ℕ, suc, ◌+◌, ◌-◌, ◌≤◌, ◌<◌, inl, inr, Bool, true, false, List, [], ◌∷◌, ◌++◌, length, take, drop, get_or, refl, sym, ap, ◌∙◌, arith, length-take}
+use Rattle.text_pieces.specs.declared.piece.Piece.{Piece}
+use Rattle.std.proofs.Math.Seq.{take-length, take-suc}
+use Rattle.text_pieces.specs.Stacks.{joined}
+use Rattle.text_pieces.proofs.Pieces.{joined-push}
+use Rattle.abel_macros.proofs.Passed.{take_within, and_false}
 use Rattle.std.specs.Prelude.{◌&&◌}
 use Rattle.std.specs.List.{list_all, prefix_len}
 use Rattle.std.proofs.lemmas.List.{drop-take}
@@ -10,18 +15,6 @@ use Rattle.abel_macros.specs.Forms.{trimmed, trimmed_end}
 
 pub take_some : (n b : ℕ) (w x : List ℕ) → 0 < n → w ≡ b ∷ x → take n w ≡ b ∷ take (n - 1) x
 take_some n b w x h e = let m : n ≡ suc (n - 1) = omega arith in ap (λ (v : List ℕ). take n v) e ∙ ap (λ (k : ℕ). take k (b ∷ x)) m
-
-take_next : (w : List ℕ) (p x : ℕ) (xs : List ℕ) → drop p w ≡ x ∷ xs → take (suc p) w ≡ take p w ++ x ∷ []
-take_next [] zero x xs e = absurd cc
-take_next [] (suc p) x xs e = absurd cc
-take_next (y ∷ w) zero x xs e = ap (λ (z : List ℕ). take 1 z) e
-take_next (y ∷ w) (suc p) x xs e = ap (λ (z : List ℕ). y ∷ z) (take_next w p x xs e)
-
-drop_next : (w : List ℕ) (p x : ℕ) (xs : List ℕ) → drop p w ≡ x ∷ xs → drop (suc p) w ≡ xs
-drop_next [] zero x xs e = absurd cc
-drop_next [] (suc p) x xs e = absurd cc
-drop_next (y ∷ w) zero x xs e = ap (drop 1) e
-drop_next (y ∷ w) (suc p) x xs e = drop_next w p x xs e
 
 trim_dark : (u : List ℕ) (b : ℕ) → is_blank b ≡ false → trimmed_end (u ++ b ∷ []) ≡ u ++ b ∷ []
 trim_dark [] b e = rw e refl
@@ -38,28 +31,79 @@ trim_blank (a ∷ u) b e = rw (all_with (a ∷ u) b e) (elim (bool_cases (list_a
   | inr f ↦ rw f (ap (λ (z : List ℕ). a ∷ z) (trim_blank u b e))
 ])
 
--- one byte more that is no blank
-pub dark_next : (w x : List ℕ) (p b : ℕ) → drop p w ≡ b ∷ x → is_blank b ≡ false → take (p + 1) w ≡ trimmed_end (take (p + 1) w)
-dark_next w x p b e d =
-    let next : take (p + 1) w ≡ take p w ++ b ∷ [] = ap (λ (n : ℕ). take n w) (add-one p) ∙ take_next w p b x e in
-    next ∙ sym (ap trimmed_end next ∙ trim_dark (take p w) b d)
-
--- one byte more that is a blank
-pub blank_next : (w x : List ℕ) (p b end : ℕ) → drop p w ≡ b ∷ x → is_blank b ≡ true → take end w ≡ trimmed_end (take p w) → take end w ≡ trimmed_end (take (p + 1) w)
-blank_next w x p b end e d h =
-    let next : take (p + 1) w ≡ take p w ++ b ∷ [] = ap (λ (n : ℕ). take n w) (add-one p) ∙ take_next w p b x e in
-    h ∙ sym (ap trimmed_end next ∙ trim_blank (take p w) b d)
-
-pub drop_more : (w x : List ℕ) (p b : ℕ) → drop p w ≡ b ∷ x → x ≡ drop (p + 1) w
-drop_more w x p b e = sym (ap (λ (n : ℕ). drop n w) (add-one p) ∙ drop_next w p b x e)
-
-pub ran_out : {P : Type 0} (w : List ℕ) (p n : ℕ) → drop p w ≡ [] → p < n → n ≤ length w → P
-ran_out w p n e lt le = absurd (let none = ap length e in omega (arith, none, length-drop p w))
-
-pub both_trimmed : (w u : List ℕ) (blanks count n : ℕ) → count ≤ length w → blanks ≡ prefix_len is_blank (take count w) → blanks ≤ count → u ≡ drop blanks w
-    → take n u ≡ trimmed_end (take (count - blanks) u) → take n u ≡ trimmed (take count w)
-both_trimmed w u blanks count n le b within e t =
+pub both_trimmed : (w u r : List ℕ) (blanks count : ℕ) → count ≤ length w → blanks ≡ prefix_len is_blank (take count w) → blanks ≤ count → u ≡ drop blanks w
+    → r ≡ trimmed_end (take (count - blanks) u) → r ≡ trimmed (take count w)
+both_trimmed w u r blanks count le b within e t =
     let sum : blanks + (count - blanks) ≡ count = omega arith in
     let same : drop blanks (take count w) ≡ take (count - blanks) u =
     sym (ap (λ (k : ℕ). drop blanks (take k w)) sum) ∙ drop-take blanks (count - blanks) w ∙ ap (take (count - blanks)) (sym e) in
     t ∙ ap trimmed_end (sym same) ∙ ap (λ (k : ℕ). trimmed_end (drop k (take count w))) b
+
+-- ---- from the end
+
+last_of : (w : List ℕ) → 0 < length w → w ≡ take (length w - 1) w ++ get_or w (length w - 1) 0 ∷ []
+last_of w h =
+    let e : suc (length w - 1) ≡ length w = omega arith in
+    sym (ap (λ (n : ℕ). take n w) e ∙ take-length w) ∙ take-suc w (length w - 1) 0 (omega arith)
+
+-- a byte at the end that is no blank, and one that is
+pub dark_last : (w : List ℕ) → 0 < length w → is_blank (get_or w (length w - 1) 0) ≡ false → trimmed_end w ≡ w
+dark_last w h d = let s = last_of w h in ap trimmed_end s ∙ trim_dark (take (length w - 1) w) (get_or w (length w - 1) 0) d ∙ sym s
+
+pub blank_last : (w : List ℕ) → 0 < length w → is_blank (get_or w (length w - 1) 0) ≡ true → trimmed_end (take (length w - 1) w) ≡ trimmed_end w
+blank_last w h d = sym (ap trimmed_end (last_of w h) ∙ trim_blank (take (length w - 1) w) (get_or w (length w - 1) 0) d)
+
+-- of a part without its last byte, so many bytes are the front of the whole
+pub one_fewer : (w whole : List ℕ) → 0 < length w → take (length w) whole ≡ w → take (length (take (length w - 1) w)) whole ≡ take (length w - 1) w
+one_fewer w whole h e =
+    let n : length (take (length w - 1) w) ≡ length w - 1 = omega (arith, length-take (length w - 1) w) in
+    ap (λ (k : ℕ). take k whole) n ∙ sym (take_within (length w - 1) (length w) whole (omega arith)) ∙ ap (take (length w - 1)) e
+
+chosen_all : (w : List ℕ) → trimmed_end w ≡ [] → list_all is_blank w ≡ true
+chosen_all [] e = refl
+chosen_all (b ∷ bs) e = elim (bool_cases (list_all is_blank (b ∷ bs))) [
+  | inl t ↦ t
+  | inr f ↦ absurd (let bad : b ∷ trimmed_end bs ≡ [] = sym (rw f refl) ∙ e in cc)
+]
+
+all_behind : (v w : List ℕ) → list_all is_blank w ≡ true → list_all is_blank (v ++ w) ≡ list_all is_blank v
+all_behind [] w h = h
+all_behind (a ∷ v) w h = ap (λ (t : Bool). is_blank a && t) (all_behind v w h)
+
+-- a text behind which nothing but blanks stands
+pub blanks_behind : (v w : List ℕ) → trimmed_end w ≡ [] → trimmed_end (v ++ w) ≡ trimmed_end v
+blanks_behind [] w e = e
+blanks_behind (a ∷ v) w e = rw (all_behind (a ∷ v) w (chosen_all w e)) (elim (bool_cases (list_all is_blank (a ∷ v))) [
+  | inl t ↦ rw t refl
+  | inr f ↦ rw f (ap (λ (z : List ℕ). a ∷ z) (blanks_behind v w e))
+])
+
+some_dark : (v w : List ℕ) → list_all is_blank w ≡ false → list_all is_blank (v ++ w) ≡ false
+some_dark [] w h = h
+some_dark (a ∷ v) w h = ap (λ (t : Bool). is_blank a && t) (some_dark v w h) ∙ and_false (is_blank a)
+
+not_all_blank : (w : List ℕ) → 0 < length (trimmed_end w) → list_all is_blank w ≡ false
+not_all_blank [] h = absurd (omega (arith, h))
+not_all_blank (b ∷ bs) h = elim (bool_cases (list_all is_blank (b ∷ bs))) [
+  | inl t ↦ absurd (let e : trimmed_end (b ∷ bs) ≡ [] = rw t refl in omega (arith, h, ap length e))
+  | inr f ↦ f
+]
+
+-- a text behind which something stands
+pub dark_behind : (v w : List ℕ) → 0 < length (trimmed_end w) → trimmed_end (v ++ w) ≡ v ++ trimmed_end w
+dark_behind [] w h = refl
+dark_behind (a ∷ v) w h = rw (some_dark (a ∷ v) w (not_all_blank w h)) (ap (λ (z : List ℕ). a ∷ z) (dark_behind v w h))
+
+-- ---- pieces
+
+pub piece_gone : (items more : List Piece) (p : Piece) (n : ℕ) (total : List ℕ) → items ≡ more ++ p ∷ [] → take n p.bytes.now ≡ trimmed_end p.bytes.now → n ≡ 0
+    → trimmed_end (joined items) ≡ total → trimmed_end (joined more) ≡ total
+piece_gone items more p n total e t z h =
+    sym (blanks_behind (joined more) p.bytes.now (sym t ∙ ap (λ (k : ℕ). take k p.bytes.now) z)) ∙ ap trimmed_end (sym (joined-push more p)) ∙ ap (λ (ps : List Piece). trimmed_end (joined ps)) (sym e) ∙ h
+
+pub piece_kept : (items more pushed : List Piece) (p q : Piece) (n : ℕ) (total : List ℕ) → items ≡ more ++ p ∷ [] → take n p.bytes.now ≡ trimmed_end p.bytes.now → 0 < n → n ≤ length p.bytes.now → q.bytes.now ≡ take n p.bytes.now
+    → pushed ≡ more ++ q ∷ [] → trimmed_end (joined items) ≡ total → joined pushed ≡ total
+piece_kept items more pushed p q n total e t s l f g h =
+    let some : 0 < length (trimmed_end p.bytes.now) = omega (arith, s, l, ap length t, length-take n p.bytes.now) in
+    ap joined g ∙ joined-push more q ∙ ap (λ (w : List ℕ). joined more ++ w) (f ∙ t) ∙ sym (dark_behind (joined more) p.bytes.now some)
+    ∙ ap trimmed_end (sym (joined-push more p)) ∙ ap (λ (ps : List Piece). trimmed_end (joined ps)) (sym e) ∙ h

@@ -1,9 +1,7 @@
 //! Arguments ahead.
 
-ghost use Rattle.std.specs.Prelude.{◌≡◌, ◌≤◌, length, IfOk, true, false, Some, None, IfSome, IfNone, take};
+ghost use Rattle.std.specs.Prelude.{◌≡◌, ◌≤◌, length, IfOk, true, false, Some, None, IfSome, IfNone};
 ghost use Rattle.text_pieces.specs.Stacks.{ahead, joined};
-ghost use Rattle.std.specs.List.{prefix_len};
-ghost use Rattle.abel_lexer.specs.Bytes.{is_blank};
 ghost use Rattle.abel_macros.specs.Forms as spec;
 ghost use Rattle.abel_macros.specs.Pieces.{texts};
 ghost use Rattle.abel_macros.specs.declared.mode.Mode.TheVariants as mode;
@@ -11,9 +9,10 @@ ghost use Rattle.abel_macros.specs.declared.mode.Mode.TheVariants as mode;
 use crate::blocks::open_in;
 use crate::gaps::{is_next, skip_any, skip_byte, skip_gap};
 use crate::mode::Mode;
-use abel_lexer::is_blank;
+use crate::stretches::{STRETCH, skip_enclosed};
+use crate::trimming::trimmed;
 use std::alloc::{AllocError, Global};
-use text_pieces::Ahead;
+use text_pieces::{Ahead, Piece};
 
 /// Whether a byte ends an argument in which so many parentheses and brackets are open.
 fn ends_argument(parens: usize, brackets: usize, mode: Mode, byte: u8) -> bool
@@ -22,7 +21,8 @@ fn ends_argument(parens: usize, brackets: usize, mode: Mode, byte: u8) -> bool
     mode.is_plain() && parens == 0 && (byte == b')' || byte == b',' && brackets == 0)
 }
 
-/// Passes an argument up to the comma or parenthesis that ends it, if there is one.
+/// Passes an argument up to the comma or parenthesis that ends it, if there is one. So many bytes are
+/// passed singly before stretches are tried again.
 fn skip_argument(at: &mut Ahead) -> bool
     ensures yes { result ≡ true → spec.argument_end 0 0 mode.Plain (ahead at.old) ≡ Some (ahead at.new) }
     ensures no { result ≡ false → spec.argument_end 0 0 mode.Plain (ahead at.old) ≡ None }
@@ -33,6 +33,7 @@ fn skip_argument(at: &mut Ahead) -> bool
     let mut mode = Mode::Plain;
     let mut parens = 0;
     let mut brackets = 0;
+    let mut singly = STRETCH;
     'bytes: while let Some(byte) = at.peek() {
         if ends_argument(parens, brackets, mode, byte) {
             return true;
@@ -41,71 +42,21 @@ fn skip_argument(at: &mut Ahead) -> bool
         parens = open_in(mode, b'(', b')', parens, byte);
         brackets = open_in(mode, b'[', b']', brackets, byte);
         mode = mode.quoting(byte);
+        if singly > 0 {
+            singly -= 1;
+        } else {
+            parens = skip_enclosed(at, mode, parens, brackets);
+            singly = STRETCH;
+        }
     }
     false
-}
-
-/// How many blanks the next bytes begin with.
-#[tactic(auto, using(crate::proofs::Trims::take_some))]
-fn blank_len(at: &Ahead, count: usize) -> usize
-    requires { count ≤ length (ahead at.now) }
-    ensures value { result ≡ prefix_len is_blank (take count (ahead at.now)) }
-    ensures within { result ≤ count }
-{
-    let mut look = at.fork();
-    let mut blanks = 0;
-    'bytes: while blanks < count {
-        let Some(byte) = look.step() else {
-            return blanks;
-        };
-        if !is_blank(byte) {
-            return blanks;
-        }
-        blanks += 1;
-    }
-    blanks
-}
-
-/// How long the next bytes are without the blanks at their end.
-#[tactic(auto, using(crate::proofs::Trims::dark_next, crate::proofs::Trims::blank_next, crate::proofs::Trims::ran_out, crate::proofs::Trims::drop_more))]
-fn trimmed_len(at: &Ahead, count: usize) -> usize
-    requires { count ≤ length (ahead at.now) }
-    ensures value { take result (ahead at.now) ≡ spec.trimmed_end (take count (ahead at.now)) }
-    ensures within { result ≤ count }
-{
-    let mut look = at.fork();
-    let mut end = 0;
-    let mut passed = 0;
-    'bytes: while passed < count {
-        let Some(byte) = look.step() else {
-            return end;
-        };
-        passed += 1;
-        if !is_blank(byte) {
-            end = passed;
-        }
-    }
-    end
-}
-
-/// The next bytes without the blanks at both ends.
-#[tactic(auto, using(crate::proofs::Trims::both_trimmed))]
-fn trimmed<'a>(alloc: Global, at: &Ahead<'_, 'a>, count: usize) -> Result<Vec<&'a [u8]>, AllocError>
-    requires { count ≤ length (ahead at.now) }
-    ensures { IfOk result (λ w. joined w.items ≡ spec.trimmed (take count (ahead at.now))) }
-{
-    let blanks = blank_len(at, count);
-    let mut look = at.fork();
-    look.skip(blanks);
-    let length = trimmed_len(&look, count - blanks);
-    look.until(alloc, length)
 }
 
 /// Reads an argument, and stops at the comma or parenthesis behind it.
 fn read_argument<'a>(
     alloc: Global,
     at: &mut Ahead<'_, 'a>,
-) -> Result<Option<Vec<&'a [u8]>>, AllocError>
+) -> Result<Option<Vec<Piece<'a>>>, AllocError>
     ensures some { IfOk result (λ o. IfSome o (λ w. spec.argument (ahead at.old) ≡ Some (joined w.items, ahead at.new))) }
     ensures none { IfOk result (λ o. IfNone o (spec.argument (ahead at.old) ≡ None)) }
     ensures whole { at.new.whole ≡ at.old.whole }
@@ -125,7 +76,7 @@ fn read_arguments_in<'a>(
     alloc: Global,
     at: &mut Ahead<'_, 'a>,
     most: usize,
-) -> Result<Option<Vec<Vec<&'a [u8]>>>, AllocError>
+) -> Result<Option<Vec<Vec<Piece<'a>>>>, AllocError>
     ensures some { IfOk result (λ o. IfSome o (λ w. spec.arguments_in most (ahead at.old) ≡ Some (texts w.items, ahead at.new))) }
     ensures none { IfOk result (λ o. IfNone o (spec.arguments_in most (ahead at.old) ≡ None)) }
     ensures whole { at.new.whole ≡ at.old.whole }
@@ -152,7 +103,7 @@ fn read_arguments_in<'a>(
 pub fn read_arguments<'a>(
     alloc: Global,
     at: &mut Ahead<'_, 'a>,
-) -> Result<Option<Vec<Vec<&'a [u8]>>>, AllocError>
+) -> Result<Option<Vec<Vec<Piece<'a>>>>, AllocError>
     ensures some { IfOk result (λ o. IfSome o (λ w. spec.arguments (ahead at.old) ≡ Some (texts w.items, ahead at.new))) }
     ensures none { IfOk result (λ o. IfNone o (spec.arguments (ahead at.old) ≡ None)) }
     ensures whole { at.new.whole ≡ at.old.whole }

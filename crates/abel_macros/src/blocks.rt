@@ -7,8 +7,9 @@ ghost use Rattle.abel_macros.specs.declared.mode.Mode.TheVariants as mode;
 
 use crate::gaps::{skip_byte, skip_gap};
 use crate::mode::Mode;
+use crate::stretches::{STRETCH, skip_braced};
 use std::alloc::{AllocError, Global};
-use text_pieces::Ahead;
+use text_pieces::{Ahead, Piece};
 
 /// How many of a pair of brackets are open behind a byte.
 fn nested(opening: u8, shutting: u8, inside: usize, byte: u8) -> usize
@@ -45,7 +46,8 @@ fn closes_block(mode: Mode, inside: usize, byte: u8) -> bool
     mode.is_plain() && byte == b'}' && inside == 0
 }
 
-/// Passes the text of a block up to the brace that closes it, if there is one.
+/// Passes the text of a block up to the brace that closes it, if there is one. So many bytes are passed
+/// singly before stretches are tried again.
 fn skip_inside(at: &mut Ahead) -> bool
     ensures yes { result ≡ true → spec.closing 0 mode.Plain (ahead at.old) ≡ Some (ahead at.new) }
     ensures no { result ≡ false → spec.closing 0 mode.Plain (ahead at.old) ≡ None }
@@ -55,6 +57,7 @@ fn skip_inside(at: &mut Ahead) -> bool
     at.fits();
     let mut mode = Mode::Plain;
     let mut inside = 0;
+    let mut singly = STRETCH;
     'bytes: while let Some(byte) = at.peek() {
         if closes_block(mode, inside, byte) {
             return true;
@@ -62,6 +65,12 @@ fn skip_inside(at: &mut Ahead) -> bool
         let _byte = at.step();
         inside = open_in(mode, b'{', b'}', inside, byte);
         mode = mode.passing(byte, at);
+        if singly > 0 {
+            singly -= 1;
+        } else {
+            inside = skip_braced(at, mode, inside);
+            singly = STRETCH;
+        }
     }
     false
 }
@@ -71,7 +80,7 @@ fn skip_inside(at: &mut Ahead) -> bool
 fn read_inside<'a>(
     alloc: Global,
     at: &mut Ahead<'_, 'a>,
-) -> Result<Option<Vec<&'a [u8]>>, AllocError>
+) -> Result<Option<Vec<Piece<'a>>>, AllocError>
     ensures some { IfOk result (λ o. IfSome o (λ w. spec.block_inside (ahead at.old) ≡ Some (joined w.items, ahead at.new))) }
     ensures none { IfOk result (λ o. IfNone o (spec.block_inside (ahead at.old) ≡ None)) }
     ensures fits { IfOk result (λ o. IfSome o (λ w. length (joined w.items) < 2 ^ 63)) }
@@ -92,7 +101,7 @@ fn read_inside<'a>(
 pub fn read_block<'a>(
     alloc: Global,
     at: &mut Ahead<'_, 'a>,
-) -> Result<Option<Vec<&'a [u8]>>, AllocError>
+) -> Result<Option<Vec<Piece<'a>>>, AllocError>
     ensures some { IfOk result (λ o. IfSome o (λ w. spec.block (ahead at.old) ≡ Some (joined w.items, ahead at.new))) }
     ensures none { IfOk result (λ o. IfNone o (spec.block (ahead at.old) ≡ None)) }
     ensures fits { IfOk result (λ o. IfSome o (λ w. length (joined w.items) < 2 ^ 63)) }

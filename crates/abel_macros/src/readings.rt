@@ -12,7 +12,7 @@ use crate::tables::Tables;
 use crate::values::read_value;
 use crate::words::{read_name, skip_sign};
 use std::alloc::{AllocError, Global};
-use text_pieces::Ahead;
+use text_pieces::{Ahead, Piece};
 
 /// Reads an expression and the `;` behind it.
 pub fn read_terminated(
@@ -76,7 +76,7 @@ pub fn read_counted<'a>(
     alloc: Global,
     at: &mut Ahead<'_, 'a>,
     tables: &Tables,
-) -> Result<Option<(u32, Vec<&'a [u8]>)>, AllocError>
+) -> Result<Option<(u32, Vec<Piece<'a>>)>, AllocError>
     ensures some { IfOk result (λ o. IfSome o (λ c. spec.counted_form (tables_of tables.now) (ahead at.old) ≡ Some ((c.0, joined c.1.items), ahead at.new))) }
     ensures none { IfOk result (λ o. IfNone o (spec.counted_form (tables_of tables.now) (ahead at.old) ≡ None)) }
     ensures whole { at.new.whole ≡ at.old.whole }
@@ -96,7 +96,7 @@ pub fn read_defined<'a>(
     alloc: Global,
     at: &mut Ahead<'_, 'a>,
     tables: &Tables,
-) -> Result<Option<(bool, Vec<&'a [u8]>)>, AllocError>
+) -> Result<Option<(bool, Vec<Piece<'a>>)>, AllocError>
     ensures some { IfOk result (λ o. IfSome o (λ c. spec.defined_form (tables_of tables.now) (ahead at.old) ≡ Some ((c.0, joined c.1.items), ahead at.new))) }
     ensures none { IfOk result (λ o. IfNone o (spec.defined_form (tables_of tables.now) (ahead at.old) ≡ None)) }
     ensures whole { at.new.whole ≡ at.old.whole }
@@ -115,7 +115,7 @@ pub fn read_defined<'a>(
 fn read_arguments_and_block<'a>(
     alloc: Global,
     at: &mut Ahead<'_, 'a>,
-) -> Result<Option<(Vec<Vec<&'a [u8]>>, Vec<&'a [u8]>)>, AllocError>
+) -> Result<Option<(Vec<Vec<Piece<'a>>>, Vec<Piece<'a>>)>, AllocError>
     ensures some { IfOk result (λ o. IfSome o (λ c. spec.arguments_and_block (ahead at.old) ≡ Some ((texts c.0.items, joined c.1.items), ahead at.new))) }
     ensures none { IfOk result (λ o. IfNone o (spec.arguments_and_block (ahead at.old) ≡ None)) }
     ensures fits { IfOk result (λ o. IfSome o (λ c. length (joined c.1.items) < 2 ^ 63)) }
@@ -135,8 +135,8 @@ fn read_arguments_and_block<'a>(
 #[derive(Drop)]
 pub struct Each<'a> {
     pub parameter: Vec<u8>,
-    pub arguments: Vec<Vec<&'a [u8]>>,
-    pub block: Vec<&'a [u8]>,
+    pub arguments: Vec<Vec<Piece<'a>>>,
+    pub block: Vec<Piece<'a>>,
 }
 
 /// Reads a parameter, its arguments and a block, as behind `@IRP`.

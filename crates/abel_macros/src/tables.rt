@@ -11,12 +11,13 @@ use indexmap::IndexMap;
 use pld_base::OutOfMemory;
 use std::alloc::Global;
 use std::marker::Model;
+use text_pieces::Piece;
 
 /// A macro: its parameters, none where it is called without parentheses, and its block in pieces.
 #[derive(Drop)]
 pub struct Macro<'a> {
     parameters: Option<Vec<Vec<u8>>>,
-    block: Vec<&'a [u8]>,
+    block: Vec<Piece<'a>>,
 }
 
 impl<'a> Model for Macro<'a> {
@@ -53,7 +54,7 @@ impl<'a> Model for Tables<'a> {
 
 impl<'a> Macro<'a> {
     /// A macro of these parameters and this block.
-    pub fn new(parameters: Option<Vec<Vec<u8>>>, block: Vec<&'a [u8]>) -> Macro<'a>
+    pub fn new(parameters: Option<Vec<Vec<u8>>>, block: Vec<Piece<'a>>) -> Macro<'a>
         requires { length (joined block.items) < 2 ^ 63 }
         ensures { result ≡ record { parameters = option_map (λ ps. names ps.items) parameters; block = joined block.entry.items } }
     {
@@ -72,7 +73,7 @@ impl<'a> Macro<'a> {
     }
 
     /// Its block, in pieces.
-    pub fn block(&self) -> &[&'a [u8]]
+    pub fn block(&self) -> &[Piece<'a>]
         ensures text { joined result.now ≡ self.now.block }
         ensures bytes { length (joined result.now) < 2 ^ 63 }
         ensures pieces { length result.now < 2 ^ 59 }

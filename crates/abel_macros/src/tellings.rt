@@ -14,13 +14,13 @@ use crate::tables::Tables;
 use crate::words::{read_number, skip_sign};
 use abel_lexer::{is_radix, number_value};
 use std::alloc::{AllocError, Global};
-use text_pieces::Ahead;
+use text_pieces::{Ahead, Piece};
 
 /// Reads a block that may stand there.
 fn read_optional_block<'a>(
     alloc: Global,
     at: &mut Ahead<'_, 'a>,
-) -> Result<Option<Vec<&'a [u8]>>, AllocError>
+) -> Result<Option<Vec<Piece<'a>>>, AllocError>
     ensures some { IfOk result (λ o. IfSome o (λ w. spec.optional_block (ahead at.old) ≡ Some (joined w.items, ahead at.new))) }
     ensures none { IfOk result (λ o. IfNone o (spec.optional_block (ahead at.old) ≡ None)) }
     ensures whole { at.new.whole ≡ at.old.whole }
@@ -40,7 +40,7 @@ pub fn read_expression<'a>(
     alloc: Global,
     at: &mut Ahead<'_, 'a>,
     tables: &Tables,
-) -> Result<Option<(Vec<&'a [u8]>, u32)>, AllocError>
+) -> Result<Option<(Vec<Piece<'a>>, u32)>, AllocError>
     ensures some { IfOk result (λ o. IfSome o (λ e. spec.value_form (tables_of tables.now) (ahead at.old) ≡ Some (joined e.0.items ++ digits_in 32 tables.now.radix e.1, ahead at.new))) }
     ensures none { IfOk result (λ o. IfNone o (spec.value_form (tables_of tables.now) (ahead at.old) ≡ None)) }
     ensures whole { at.new.whole ≡ at.old.whole }

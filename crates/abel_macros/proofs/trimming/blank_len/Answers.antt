@@ -4,7 +4,7 @@ use Rattle.std.specs.List.{prefix_len}
 use Rattle.text_pieces.specs.Stacks.{ahead}
 use Rattle.abel_lexer.specs.Bytes.{is_blank}
 use Rattle.abel_macros.proofs.Trims.{take_some}
-use Rattle.abel_macros.proofs.arguments.blank_len.Goals as goal
+use Rattle.abel_macros.proofs.trimming.blank_len.Goals as goal
 
 pub bytes-preserved : goal.bytes-preserved
 bytes-preserved c =

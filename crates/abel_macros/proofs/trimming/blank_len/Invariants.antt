@@ -3,7 +3,7 @@ use Rattle.std.proofs.Common.{◌≡◌, ◌≤◌, ◌+◌, ◌-◌, length, ta
 use Rattle.std.specs.List.{prefix_len}
 use Rattle.text_pieces.specs.Stacks.{ahead}
 use Rattle.abel_lexer.specs.Bytes.{is_blank}
-use Rattle.abel_macros.proofs.arguments.blank_len.Given as goal
+use Rattle.abel_macros.proofs.trimming.blank_len.Given as goal
 
 abbrev pub invariant-bytes : goal.invariant-bytes
 invariant-bytes l =

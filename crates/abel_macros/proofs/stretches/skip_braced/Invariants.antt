@@ -1,0 +1,17 @@
+-- What is ahead leads to where all leads.
+use Rattle.std.proofs.Common.{◌≡◌, ◌≤◌, ◌+◌, length}
+use Rattle.text_pieces.specs.Stacks.{ahead}
+use Rattle.abel_macros.specs.Forms as forms
+use Rattle.abel_macros.proofs.stretches.skip_braced.Given as goal
+
+abbrev pub invariant-stretches : goal.invariant-stretches
+invariant-stretches l =
+    record {
+      value : forms.closing l.open l.fn.mode (ahead l.at) ≡ forms.closing l.fn.inside l.fn.mode (ahead l.fn.at);
+      few : l.open + length (ahead l.at) ≤ l.fn.inside + length (ahead l.fn.at);
+      whole : l.at.whole ≡ l.fn.at.whole;
+      further : l.fn.at.passed ≤ l.at.passed;
+    }
+
+abbrev pub decreases-stretches : goal.decreases-stretches
+decreases-stretches l = length (ahead l.at)
