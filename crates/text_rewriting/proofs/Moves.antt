@@ -2,7 +2,7 @@
 use Rattle.std.proofs.Common.{◌≡◌, ◌+◌, ◌<◌, ◌≤◌, ℕ, suc, Bool, true, false, inl, inr, List, [], ◌∷◌, ◌++◌, Option, Some, None, length, take, drop, refl, sym, ap, ◌∙◌, arith, if◌then◌else◌, codes}
 use Rattle.std.specs.Prelude.{◌==◌, nat_lt}
 use Rattle.std.specs.List.{prefix_len}
-use Rattle.std.specs.Borrow.{Bor}
+use Rattle.text_pieces.specs.declared.piece.Piece.{Piece}
 use Rattle.std.specs.Global.{Vec}
 use Rattle.std.proofs.lemmas.Bool.{eqb-true, eq-eqb, ltb-true}
 use Rattle.abel_lexer.proofs.Booleans.{bool_cases}
@@ -44,7 +44,7 @@ plain_called m behind w p e = ap (by_parameters m behind) p ∙ ap (λ (v : List
 pub called_broken : (m : Macro) (behind : List ℕ) (ps : List (List ℕ)) → m.parameters ≡ Some ps → arguments behind ≡ None → called m behind ≡ None
 called_broken m behind ps p e = ap (by_parameters m behind) p ∙ ap (by_arguments m ps) e
 
-texts_length : (ws : List (Vec (Bor (List ℕ)))) → length (texts ws) ≡ length ws
+texts_length : (ws : List (Vec Piece)) → length (texts ws) ≡ length ws
 texts_length [] = refl
 texts_length (w ∷ ws) = ap suc (texts_length ws)
 
@@ -52,7 +52,7 @@ names_length : (ws : List (Vec ℕ)) → length (names ws) ≡ length ws
 names_length [] = refl
 names_length (w ∷ ws) = ap suc (names_length ws)
 
-module _ (m : Macro) (behind end : List ℕ) (ps : List (Vec ℕ)) (found : List (Vec (Bor (List ℕ)))) (p : m.parameters ≡ Some (names ps)) (a : arguments behind ≡ Some (texts found, end)) where
+module _ (m : Macro) (behind end : List ℕ) (ps : List (Vec ℕ)) (found : List (Vec Piece)) (p : m.parameters ≡ Some (names ps)) (a : arguments behind ≡ Some (texts found, end)) where
   by_count : called m behind ≡ given (length (texts found) == length (names ps)) (replaced (standing_for (names ps) (texts found)) 0 m.block, end)
   by_count = ap (by_parameters m behind) p ∙ ap (by_arguments m (names ps)) a
 

@@ -1,13 +1,20 @@
 -- A block in which arguments stand for parameters, part by part.
-use Rattle.std.proofs.Common.{◌≡◌, ◌+◌, ◌<◌, ◌≤◌, ℕ, zero, suc, Bool, true, false, List, [], ◌∷◌, ◌++◌, Option, Some, None, length, take, drop, get_or, refl, sym, ap, ◌∙◌, arith, append-nil, append_assoc, add-one, length-append, length-drop, if◌then◌else◌}
-use Rattle.std.specs.Prelude.{Result, Ok, Err, IfErr, IfSome, IfNone}
-use Rattle.std.specs.Str.{bytes_eq}
-use Rattle.std.specs.Borrow.{Bor}
+use Rattle.std.proofs.Common.{◌≡◌, ◌+◌, ◌<◌, ◌≤◌, ℕ, zero, suc, Bool, true, false, List, [], ◌∷◌, ◌++◌, Option, Some, None, inl, inr, length, take, drop, refl, sym, ap, ◌∙◌, arith, append-nil, append_assoc, add-one, length-append, length-drop, if◌then◌else◌}
+use Rattle.std.specs.Prelude.{◌==◌, Result, Ok, Err, IfErr, IfSome, IfNone}
+use Rattle.std.specs.List.{count_by}
+use Rattle.std.proofs.lemmas.List.{drop-drop}
+use Rattle.std.proofs.lemmas.List.Sums.{sum_by-cons}
+use Rattle.std.proofs.Math.Seq.{take-add}
+use Rattle.abel_lexer.proofs.Booleans.{bool_cases}
+use Rattle.text_pieces.specs.declared.piece.Piece.{Piece}
 use Rattle.std.specs.Global.{Vec}
-use Rattle.text_pieces.specs.Stacks.{joined}
 use Rattle.abel_macros.specs.Gaps.{starts_byte, rest_of}
+use Rattle.abel_lexer.specs.Bytes.{is_name_later}
+use Rattle.abel_lexer.specs.Kinds.{word_head}
+use Rattle.abel_lexer.specs.Lengths.{shaped_len}
+use Rattle.abel_macros.proofs.Passed.{take_within}
 use Rattle.abel_macros.specs.Forms.{asked, replaced, standing_for}
-use Rattle.abel_macros.specs.Pieces.{names, texts}
+use Rattle.abel_macros.specs.Pieces.{texts}
 use Rattle.abel_macros.specs.Rules.{each_replaced}
 
 past : {A : Type 0} (ws : List A) (i : ℕ) → length ws ≤ i → drop i ws ≡ []
@@ -34,6 +41,18 @@ take_next [] zero x xs e = absurd cc
 take_next [] (suc p) x xs e = absurd cc
 take_next (y ∷ w) zero x xs e = ap (λ (z : List ℕ). take 1 z) e
 take_next (y ∷ w) (suc p) x xs e = ap (λ (z : List ℕ). y ∷ z) (take_next w p x xs e)
+
+-- a byte that is nowhere isn't the first, and stands nowhere behind it
+no_first : (b : ℕ) (w : List ℕ) → count_by (λ c. c == 63) (b ∷ w) ≡ 0 → ((b == 63) ≡ false) × (count_by (λ c. c == 63) w ≡ 0)
+no_first b w e =
+    let split = sum_by-cons (λ c. if c == 63 then 1 else 0) b w in
+    elim (bool_cases (b == 63)) [
+      | inl t ↦ absurd (omega (arith, e, split, ap {B = ℕ} (λ (x : Bool). if x then 1 else 0) t))
+      | inr g ↦ (g, omega (arith, e, split, ap {B = ℕ} (λ (x : Bool). if x then 1 else 0) g))
+    ]
+
+pub gone : (w look : List ℕ) (n k : ℕ) → look ≡ drop n w → drop (n + k) w ≡ drop k look
+gone w look n k d = sym (drop-drop k n w) ∙ ap (drop k) (sym d)
 
 module _ (f : List ℕ → Option (List ℕ)) where
   -- bytes of a replaced name are left out
@@ -76,6 +95,21 @@ module _ (f : List ℕ → Option (List ℕ)) where
       ap (λ (k : ℕ). take k w ++ replaced f 0 (drop k w)) (add-one n) ∙ ap (λ (v : List ℕ). v ++ replaced f 0 (drop (suc n) w)) (take_next w n b next at) ∙ ap (λ (v : List ℕ). (take n w ++ b ∷ []) ++ replaced f 0 v) (drop_next w n b next at)
       ∙ append_assoc (take n w) (b ∷ []) (replaced f 0 next) ∙ ap (λ (v : List ℕ). take n w ++ v) (sym one ∙ ap (replaced f 0) (sym at)) ∙ t
 
+  -- bytes among which no `?` stands
+  run : (n : ℕ) (w : List ℕ) → count_by (λ b. b == 63) (take n w) ≡ 0 → take n w ++ replaced f 0 (drop n w) ≡ replaced f 0 w
+  run zero w e = refl
+  run (suc n) [] e = refl
+  run (suc n) (b ∷ bs) e =
+      let none = no_first b (take n bs) e in
+      ap (λ (v : List ℕ). b ∷ v) (run n bs none.1) ∙ sym (ap (replaced_at b bs) none.0)
+
+  pub run_stays : (w look next : List ℕ) (n k : ℕ) → look ≡ drop n w → next ≡ drop k look → count_by (λ b. b == 63) (take k look) ≡ 0 → take n w ++ replaced f 0 (drop n w) ≡ replaced f 0 w
+      → take (n + k) w ++ replaced f 0 (drop (n + k) w) ≡ replaced f 0 w
+  run_stays w look next n k d g z t =
+      let all : drop (n + k) w ≡ drop k look = gone w look n k d in
+      ap (λ (v : List ℕ). v ++ replaced f 0 (drop (n + k) w)) (take-add n k w ∙ ap (λ (v : List ℕ). take n w ++ take k v) (sym d)) ∙ ap (λ (v : List ℕ). (take n w ++ take k look) ++ replaced f 0 v) all
+      ∙ append_assoc (take n w) (take k look) (replaced f 0 (drop k look)) ∙ ap (λ (v : List ℕ). take n w ++ v) (run k look z ∙ ap (replaced f 0) d) ∙ t
+
   behind : (text new part w v : List ℕ) → new ≡ text ++ part → replaced f 0 w ≡ part ++ replaced f 0 v → new ++ replaced f 0 v ≡ text ++ replaced f 0 w
   behind text new part w v n e = ap (λ (x : List ℕ). x ++ replaced f 0 v) n ∙ append_assoc text part (replaced f 0 v) ∙ ap (λ (x : List ℕ). text ++ x) (sym e)
 
@@ -112,6 +146,13 @@ module _ (f : List ℕ → Option (List ℕ)) where
 pub block_long : (text rest total : List ℕ) (f : List ℕ → Option (List ℕ)) (most : ℕ) → most < length (text ++ replaced f 0 rest) → text ++ replaced f 0 rest ≡ total → most < length total
 block_long text rest total f most l e = omega (arith, l, ap length e)
 
+-- the same too much, where a part was added before
+pub both_long : (text new w v : List ℕ) (f : List ℕ → Option (List ℕ)) (most less : ℕ) → new ++ replaced f 0 v ≡ text ++ replaced f 0 w → less ≡ most → less < length (new ++ replaced f 0 v) → most < length (text ++ replaced f 0 w)
+both_long text new w v f most less e m l = omega (arith, l, m, ap length e)
+
+pub left_some : (w v : List ℕ) (n : ℕ) → v ≡ drop n w → 0 < length v → n < length w
+left_some w v n e h = omega (arith, h, ap length e, length-drop n w)
+
 pub marked : (w : List ℕ) → starts_byte 63 w ≡ true → 0 < length w
 marked [] s = absurd cc
 marked (b ∷ bs) s = omega arith
@@ -119,30 +160,38 @@ marked (b ∷ bs) s = omega arith
 pub shorter : (w v : List ℕ) (n : ℕ) → v ≡ drop n w → 0 < n → 0 < length w → length v < length w
 shorter w v n e h k = omega (arith, ap length e, length-drop n w)
 
+-- the name behind a mark, in one piece or read
+pub asked_front : (w look front name : List ℕ) (b n : ℕ) → w ≡ b ∷ look → n ≡ shaped_len word_head is_name_later look → take (length front) look ≡ front → n ≤ length front → name ≡ take n front → name ≡ asked (rest_of w)
+asked_front w look front name b n e c f h t =
+    t ∙ ap (take n) (sym f) ∙ take_within n (length front) look h ∙ ap (λ (k : ℕ). take k look) c ∙ ap asked (sym (ap rest_of e))
+
+pub asked_read : (w look name : List ℕ) (b n : ℕ) → w ≡ b ∷ look → n ≡ shaped_len word_head is_name_later look → name ≡ take n look → name ≡ asked (rest_of w)
+asked_read w look name b n e c t = t ∙ ap (λ (k : ℕ). take k look) c ∙ ap asked (sym (ap rest_of e))
+
 -- ---- a block once for each argument
 
 module _ (n b : List ℕ) where
-  each_split : (found : List (Vec (Bor (List ℕ)))) (i : ℕ) → i < length found
+  each_split : (found : List (Vec Piece)) (i : ℕ) → i < length found
       → each_replaced n (texts (drop i found)) b ≡ replaced (standing_for (n ∷ []) (texts (take 1 (drop i found)))) 0 b ++ each_replaced n (texts (drop (suc i) found)) b
   each_split [] i h = absurd (omega arith)
   each_split (a ∷ found) zero h = refl
   each_split (a ∷ found) (suc i) h = each_split found i (omega arith)
 
-  pub each_next : (found : List (Vec (Bor (List ℕ)))) (i : ℕ) (text new total : List ℕ) → i < length found → new ≡ text ++ replaced (standing_for (n ∷ []) (texts (take 1 (drop i found)))) 0 b
+  pub each_next : (found : List (Vec Piece)) (i : ℕ) (text new total : List ℕ) → i < length found → new ≡ text ++ replaced (standing_for (n ∷ []) (texts (take 1 (drop i found)))) 0 b
       → text ++ each_replaced n (texts (drop i found)) b ≡ total → new ++ each_replaced n (texts (drop (i + 1) found)) b ≡ total
   each_next found i text new total h t e =
       ap (λ (k : ℕ). new ++ each_replaced n (texts (drop k found)) b) (add-one i) ∙ ap (λ (x : List ℕ). x ++ each_replaced n (texts (drop (suc i) found)) b) t
       ∙ append_assoc text (replaced (standing_for (n ∷ []) (texts (take 1 (drop i found)))) 0 b) (each_replaced n (texts (drop (suc i) found)) b)
       ∙ ap (λ (x : List ℕ). text ++ x) (sym (each_split found i h)) ∙ e
 
-  pub each_long : (found : List (Vec (Bor (List ℕ)))) (i : ℕ) (text total : List ℕ) (most : ℕ) → i < length found → most < length (text ++ replaced (standing_for (n ∷ []) (texts (take 1 (drop i found)))) 0 b)
+  pub each_long : (found : List (Vec Piece)) (i : ℕ) (text total : List ℕ) (most : ℕ) → i < length found → most < length (text ++ replaced (standing_for (n ∷ []) (texts (take 1 (drop i found)))) 0 b)
       → text ++ each_replaced n (texts (drop i found)) b ≡ total → most < length total
   each_long found i text total most h l e =
       let part : List ℕ = replaced (standing_for (n ∷ []) (texts (take 1 (drop i found)))) 0 b in
       omega (arith, ap length (each_next found i text (text ++ part) total h refl e), length-append (text ++ part) (each_replaced n (texts (drop (i + 1) found)) b))
 
-  pub each_added : (found : List (Vec (Bor (List ℕ)))) (i : ℕ) (text total : List ℕ) → length found ≤ i → text ++ each_replaced n (texts (drop i found)) b ≡ total → text ≡ total
-  each_added found i text total h e = sym (append-nil text) ∙ ap (λ (ws : List (Vec (Bor (List ℕ)))). text ++ each_replaced n (texts ws) b) (sym (past found i h)) ∙ e
+  pub each_added : (found : List (Vec Piece)) (i : ℕ) (text total : List ℕ) → length found ≤ i → text ++ each_replaced n (texts (drop i found)) b ≡ total → text ≡ total
+  each_added found i text total h e = sym (append-nil text) ∙ ap (λ (ws : List (Vec Piece)). text ++ each_replaced n (texts ws) b) (sym (past found i h)) ∙ e
 
 -- what is too long makes more too long
 pub err_longer : {A E : Type 0} (r : Result A E) (f : E) (P Q : Type 0) → (P → Q) → IfErr r (λ e. e ≡ f → P) → IfErr r (λ e. e ≡ f → Q)

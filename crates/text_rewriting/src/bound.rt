@@ -9,11 +9,12 @@ ghost use Rattle.text_rewriting.specs.Bound.{bound};
 use indexmap::IndexMap;
 use pld_base::OutOfMemory;
 use std::alloc::Global;
+use text_pieces::Piece;
 
 /// What stands for each parameter: the argument in the place of the first parameter of its name.
 #[derive(Drop)]
 pub struct Arguments<'m, 'a> {
-    by_name: IndexMap<Vec<u8>, &'m [&'a [u8]]>,
+    by_name: IndexMap<Vec<u8>, &'m [Piece<'a>]>,
 }
 
 impl<'m, 'a> Arguments<'m, 'a> {
@@ -23,7 +24,7 @@ impl<'m, 'a> Arguments<'m, 'a> {
     pub fn new(
         alloc: Global,
         parameters: &[Vec<u8>],
-        arguments: &'m [Vec<&'a [u8]>],
+        arguments: &'m [Vec<Piece<'a>>],
     ) -> Result<Arguments<'m, 'a>, OutOfMemory>
         ensures { IfOk result (λ a. bound a.by_name.entries ≡ standing_for (names parameters.now) (texts arguments.now)) }
     {
@@ -39,7 +40,7 @@ impl<'m, 'a> Arguments<'m, 'a> {
 
     /// The argument that stands for a name.
     #[tactic(auto, using(crate::proofs::Bounds::bound_some, crate::proofs::Bounds::bound_none))]
-    pub fn of(&self, name: &[u8]) -> Option<&'m [&'a [u8]]>
+    pub fn of(&self, name: &[u8]) -> Option<&'m [Piece<'a>]>
         ensures some { IfSome result (λ a. bound self.now.by_name.entries name.now ≡ Some (joined a.now)) }
         ensures none { IfNone result (bound self.now.by_name.entries name.now ≡ None) }
     {

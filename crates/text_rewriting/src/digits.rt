@@ -6,6 +6,7 @@ ghost use Rattle.text_rewriting.specs.RuleMoves.{digits};
 ghost use Rattle.text_rewriting.specs.declared.gathered.Shortage.TheVariants as shortage;
 
 use crate::gathered::{Gathered, Shortage};
+use text_pieces::Piece;
 
 const DIGITS: &[u8] = b"0123456789ABCDEF";
 
@@ -33,12 +34,12 @@ impl<'a> Gathered<'a> {
             return Ok(());
         }
         if value < radix {
-            self.add(digit(value))?;
+            self.add(Piece::computed(digit(value)))?;
             return Ok(());
         }
         match self.add_digits(radix, value / radix, most - 1) {
             Ok(()) => {
-                self.add(digit(value % radix))?;
+                self.add(Piece::computed(digit(value % radix)))?;
                 Ok(())
             }
             Err(shortage) => Err(shortage),

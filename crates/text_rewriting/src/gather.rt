@@ -9,11 +9,12 @@ use crate::gathered::{Gathered, Shortage};
 use crate::rules::Rewriting;
 use abel_macros::Each;
 use std::alloc::Global;
+use text_pieces::Piece;
 
 impl<'a> Gathered<'a> {
     /// Adds a block, and a value's digits in a radix.
     #[tactic(auto, using(crate::proofs::Gathers::two_added, crate::proofs::Gathers::first_long, crate::proofs::Gathers::second_long))]
-    fn add_valued(&mut self, block: &[&'a [u8]], value: u32, radix: u32) -> Result<(), Shortage>
+    fn add_valued(&mut self, block: &[Piece<'a>], value: u32, radix: u32) -> Result<(), Shortage>
         requires low { 2 ≤ radix }
         requires high { radix ≤ 16 }
         ensures ok { OnOk result (self.new ≡ record self.old { text = self.old.text ++ (joined block.now ++ digits radix value) }) }

@@ -8,6 +8,7 @@ ghost use Rattle.text_rewriting.specs.declared.gathered.Shortage.TheVariants as 
 use pld_base::OutOfMemory;
 use std::alloc::{AllocError, AllocFailed, Global};
 use std::marker::Model;
+use text_pieces::Piece;
 
 /// Why a text isn't gathered.
 #[derive(Clone, Copy)]
@@ -21,7 +22,7 @@ pub enum Shortage {
 /// A text in pieces that may have so many bytes more.
 #[derive(Drop)]
 pub struct Gathered<'a> {
-    pieces: Vec<&'a [u8]>,
+    pieces: Vec<Piece<'a>>,
     room: usize,
 }
 
@@ -37,12 +38,12 @@ impl<'a> Model for Gathered<'a> {
 
 /// Whether a text in pieces has no bytes.
 #[tactic(auto, using(crate::proofs::Gathers::nothing_next, crate::proofs::Gathers::something_at, crate::proofs::Gathers::nothing_left))]
-fn is_nothing(pieces: &[&[u8]]) -> bool
+fn is_nothing(pieces: &[Piece]) -> bool
     ensures yes { result ≡ true → joined pieces.now ≡ [] }
     ensures no { result ≡ false → 0 < length (joined pieces.now) }
 {
     for piece in pieces {
-        if !piece.is_empty() {
+        if !piece.bytes.is_empty() {
             return false;
         }
     }
@@ -69,7 +70,7 @@ impl<'a> Gathered<'a> {
     }
 
     /// The pieces that were gathered.
-    pub fn pieces(&self) -> &[&'a [u8]]
+    pub fn pieces(&self) -> &[Piece<'a>]
         ensures text { joined result.now ≡ self.now.text }
         ensures within { length (joined result.now) ≤ self.now.most }
         ensures few { length result.now < 2 ^ 59 }
@@ -86,29 +87,29 @@ impl<'a> Gathered<'a> {
 
     /// Adds a piece behind.
     #[tactic(auto, using(crate::proofs::Gathers::added, crate::proofs::Gathers::added_nothing, crate::proofs::Gathers::over))]
-    pub fn add(&mut self, piece: &'a [u8]) -> Result<(), Shortage>
-        ensures ok { OnOk result (self.new ≡ record self.old { text = self.old.text ++ piece.now }) }
-        ensures long { IfErr result (λ e. e ≡ shortage.TooLong → self.old.most < length (self.old.text ++ piece.now)) }
+    pub fn add(&mut self, piece: Piece<'a>) -> Result<(), Shortage>
+        ensures ok { OnOk result (self.new ≡ record self.old { text = self.old.text ++ piece.entry.bytes.now }) }
+        ensures long { IfErr result (λ e. e ≡ shortage.TooLong → self.old.most < length (self.old.text ++ piece.entry.bytes.now)) }
     {
-        if piece.len() == 0 {
+        if piece.bytes.len() == 0 {
             return Ok(());
         }
-        if piece.len() > self.room {
+        if piece.bytes.len() > self.room {
             return Err(Shortage::TooLong);
         }
         self.pieces.push(piece)?;
-        self.room -= piece.len();
+        self.room -= piece.bytes.len();
         Ok(())
     }
 
     /// Adds a text in pieces behind.
     #[tactic(auto, using(crate::proofs::Gathers::all_next, crate::proofs::Gathers::all_long, crate::proofs::Gathers::all_added))]
-    pub fn add_all(&mut self, pieces: &[&'a [u8]]) -> Result<(), Shortage>
+    pub fn add_all(&mut self, pieces: &[Piece<'a>]) -> Result<(), Shortage>
         ensures ok { OnOk result (self.new ≡ record self.old { text = self.old.text ++ joined pieces.now }) }
         ensures long { IfErr result (λ e. e ≡ shortage.TooLong → self.old.most < length (self.old.text ++ joined pieces.now)) }
     {
         for piece in pieces {
-            self.add(piece)?;
+            self.add(*piece)?;
         }
         Ok(())
     }
@@ -122,7 +123,7 @@ impl<'a> Gathered<'a> {
 
     /// Adds a text in pieces behind, so many times.
     #[tactic(auto, using(crate::proofs::Gathers::times_next, crate::proofs::Gathers::times_long, crate::proofs::Gathers::times_added))]
-    fn add_times(&mut self, pieces: &[&'a [u8]], count: u32) -> Result<(), Shortage>
+    fn add_times(&mut self, pieces: &[Piece<'a>], count: u32) -> Result<(), Shortage>
         ensures ok { OnOk result (self.new ≡ record self.old { text = self.old.text ++ concat (replicate count (joined pieces.now)) }) }
         ensures long { IfErr result (λ e. e ≡ shortage.TooLong → self.old.most < length (self.old.text ++ concat (replicate count (joined pieces.now)))) }
     {
@@ -136,7 +137,7 @@ impl<'a> Gathered<'a> {
 
     /// Adds a text in pieces behind, once and so many times more; if that would be too long, only once.
     #[tactic(auto, using(crate::proofs::Gathers::once_long, crate::proofs::Gathers::times_over, crate::proofs::Gathers::rest_added, crate::proofs::Gathers::rest_long, crate::proofs::Gathers::less_room))]
-    fn add_some(&mut self, pieces: &[&'a [u8]], count: u32) -> Result<(), Shortage>
+    fn add_some(&mut self, pieces: &[Piece<'a>], count: u32) -> Result<(), Shortage>
         requires { 0 < count }
         ensures ok { OnOk result (self.new ≡ record self.old { text = self.old.text ++ concat (replicate count (joined pieces.now)) }) }
         ensures long { IfErr result (λ e. e ≡ shortage.TooLong → self.old.most < length (self.old.text ++ concat (replicate count (joined pieces.now)))) }
@@ -152,7 +153,7 @@ impl<'a> Gathered<'a> {
 
     /// Adds a text in pieces behind, so many times.
     #[tactic(auto, using(crate::proofs::Gathers::no_times, crate::proofs::Gathers::zero_times))]
-    pub fn repeat(&mut self, pieces: &[&'a [u8]], count: u32) -> Result<(), Shortage>
+    pub fn repeat(&mut self, pieces: &[Piece<'a>], count: u32) -> Result<(), Shortage>
         ensures ok { OnOk result (self.new ≡ record self.old { text = self.old.text ++ concat (replicate count (joined pieces.now)) }) }
         ensures long { IfErr result (λ e. e ≡ shortage.TooLong → self.old.most < length (self.old.text ++ concat (replicate count (joined pieces.now)))) }
     {

@@ -11,20 +11,43 @@ ghost use Rattle.text_rewriting.specs.declared.gathered.Shortage.TheVariants as 
 
 use crate::bound::Arguments;
 use crate::gathered::{Gathered, Shortage};
-use abel_macros::{is_next, read, word_len};
+use abel_macros::{STRETCH, is_next, read, skip_without, word_len};
 use std::alloc::{AllocError, Global};
-use text_pieces::{Ahead, Rest};
+use text_pieces::{Ahead, Piece, Rest};
 
-/// The name behind the `?` ahead; empty if there is none.
-fn asked_name(alloc: Global, at: &Ahead) -> Result<Vec<u8>, AllocError>
+/// How long the name behind the `?` ahead is; 0 if there is none.
+fn asked_len(at: &Ahead) -> usize
     requires { starts_byte 63 (ahead at.now) ≡ true }
-    ensures name { IfOk result (λ w. w.items ≡ asked (rest_of (ahead at.now))) }
-    ensures within { IfOk result (λ w. 1 + length w.items ≤ length (ahead at.now)) }
+    ensures value { result ≡ length (asked (rest_of (ahead at.now))) }
+    ensures within { 1 + result ≤ length (ahead at.now) }
+{
+    let mut look = at.fork();
+    let _mark = look.step();
+    word_len(&look)
+}
+
+/// The argument that stands for the `?` ahead and the name behind it. Only a name that doesn't stand in
+/// one piece is copied.
+#[tactic(auto, using(crate::proofs::Replaces::asked_front, crate::proofs::Replaces::asked_read))]
+fn asked_argument<'m, 'a>(
+    alloc: Global,
+    at: &Ahead<'_, 'a>,
+    arguments: &Arguments<'m, 'a>,
+) -> Result<Option<&'m [Piece<'a>]>, AllocError>
+    requires { starts_byte 63 (ahead at.now) ≡ true }
+    ensures some { IfOk result (λ o. IfSome o (λ a. bound arguments.now.by_name.entries (asked (rest_of (ahead at.now))) ≡ Some (joined a.now))) }
+    ensures none { IfOk result (λ o. IfNone o (bound arguments.now.by_name.entries (asked (rest_of (ahead at.now))) ≡ None)) }
 {
     let mut look = at.fork();
     let _mark = look.step();
     let count = word_len(&look);
-    read(alloc, &mut look, count)
+    let front = look.front();
+    if front.len() >= count {
+        let (name, _behind) = front.split_at(count);
+        return Ok(arguments.of(name));
+    }
+    let name = read(alloc, &mut look, count)?;
+    Ok(arguments.of(&name))
 }
 
 /// Whether a `?` is ahead, and a parameter behind it. If not, the next byte stays.
@@ -36,29 +59,35 @@ fn is_replaced(alloc: Global, at: &Ahead, arguments: &Arguments) -> Result<bool,
     if !is_next(at, b'?') {
         return Ok(false);
     }
-    let name = asked_name(alloc, at)?;
-    match arguments.of(&name) {
+    match asked_argument(alloc, at, arguments)? {
         Some(_argument) => Ok(true),
         None => Ok(false),
     }
 }
 
-/// How many of the next bytes stay: those before the next `?` with a parameter behind it.
-#[tactic(auto, using(crate::proofs::Replaces::stays_next))]
+/// How many of the next bytes stay: those before the next `?` with a parameter behind it. So many bytes
+/// are passed singly before stretches without a `?` are.
 fn kept_len(alloc: Global, at: &Ahead, arguments: &Arguments) -> Result<usize, AllocError>
     ensures value { IfOk result (λ n. take n (ahead at.now) ++ replaced (bound arguments.now.by_name.entries) 0 (drop n (ahead at.now)) ≡ replaced (bound arguments.now.by_name.entries) 0 (ahead at.now)) }
     ensures within { IfOk result (λ n. n ≤ length (ahead at.now)) }
-    ensures asked { IfOk result (λ n. n ≡ 0 → 0 < length (ahead at.now) → starts_byte 63 (ahead at.now) ≡ true) }
+    ensures asked { IfOk result (λ n. n < length (ahead at.now) → starts_byte 63 (drop n (ahead at.now)) ≡ true) }
 {
     at.fits();
     let mut look = at.fork();
     let mut count = 0;
+    let mut singly = STRETCH;
     'bytes: while look.left() > 0 {
         if is_replaced(alloc, &look, arguments)? {
             return Ok(count);
         }
         let _byte = look.step();
         count += 1;
+        if singly > 0 {
+            singly -= 1;
+        } else {
+            count += skip_without(&mut look, b'?');
+            singly = STRETCH;
+        }
     }
     Ok(count)
 }
@@ -89,20 +118,38 @@ impl<'a> Gathered<'a> {
         ensures falls { OnOk result (length rest.new < length rest.old) }
         ensures long { IfErr result (λ e. e ≡ shortage.TooLong → self.old.most < length (self.old.text ++ replaced (bound arguments.now.by_name.entries) 0 rest.old)) }
     {
-        let name = asked_name(alloc, &rest.ahead())?;
-        match arguments.of(&name) {
+        match asked_argument(alloc, &rest.ahead(), arguments)? {
             Some(argument) => {
                 self.add_all(argument)?;
-                rest.skip(1 + name.len());
+                let count = asked_len(&rest.ahead());
+                rest.skip(1 + count);
                 Ok(())
             }
             None => self.add_cut(alloc, rest, 1),
         }
     }
 
-    /// Takes the bytes that stay, and adds them behind; or takes a `?` and the name behind it, and adds what
+    /// Takes the bytes that stay, and adds them behind; a `?` stands in front then, or nothing is left.
+    #[tactic(auto, using(crate::proofs::Replaces::kept_run, crate::proofs::Replaces::kept_long, crate::proofs::Replaces::left_some))]
+    fn add_kept(
+        &mut self,
+        alloc: Global,
+        rest: &mut Rest<'a>,
+        arguments: &Arguments<'_, 'a>,
+    ) -> Result<(), Shortage>
+        ensures text { OnOk result (self.new.text ++ replaced (bound arguments.now.by_name.entries) 0 rest.new ≡ self.old.text ++ replaced (bound arguments.now.by_name.entries) 0 rest.old) }
+        ensures most { OnOk result (self.new.most ≡ self.old.most) }
+        ensures within { OnOk result (length rest.new ≤ length rest.old) }
+        ensures marked { OnOk result (0 < length rest.new → starts_byte 63 rest.new ≡ true) }
+        ensures long { IfErr result (λ e. e ≡ shortage.TooLong → self.old.most < length (self.old.text ++ replaced (bound arguments.now.by_name.entries) 0 rest.old)) }
+    {
+        let count = kept_len(alloc, &rest.ahead(), arguments)?;
+        self.add_cut(alloc, rest, count)
+    }
+
+    /// Takes the bytes that stay, and adds them behind; then a `?` and the name behind it, and adds what
     /// stands for them.
-    #[tactic(auto, using(crate::proofs::Replaces::kept_run, crate::proofs::Replaces::kept_long, crate::proofs::Replaces::shorter))]
+    #[tactic(auto, using(crate::proofs::Replaces::both_long))]
     fn add_part(
         &mut self,
         alloc: Global,
@@ -115,12 +162,11 @@ impl<'a> Gathered<'a> {
         ensures falls { OnOk result (length rest.new < length rest.old) }
         ensures long { IfErr result (λ e. e ≡ shortage.TooLong → self.old.most < length (self.old.text ++ replaced (bound arguments.now.by_name.entries) 0 rest.old)) }
     {
-        let count = kept_len(alloc, &rest.ahead(), arguments)?;
-        if count == 0 {
-            self.add_asked(alloc, rest, arguments)
-        } else {
-            self.add_cut(alloc, rest, count)
+        self.add_kept(alloc, rest, arguments)?;
+        if rest.len() == 0 {
+            return Ok(());
         }
+        self.add_asked(alloc, rest, arguments)
     }
 
     /// Adds a block in which each parameter behind a `?` is replaced by its argument.
@@ -128,7 +174,7 @@ impl<'a> Gathered<'a> {
     fn add_bound(
         &mut self,
         alloc: Global,
-        block: &[&'a [u8]],
+        block: &[Piece<'a>],
         arguments: &Arguments<'_, 'a>,
     ) -> Result<(), Shortage>
         requires bytes { length (joined block.now) < 2 ^ 63 }
@@ -148,9 +194,9 @@ impl<'a> Gathered<'a> {
     pub fn add_replaced(
         &mut self,
         alloc: Global,
-        block: &[&'a [u8]],
+        block: &[Piece<'a>],
         parameters: &[Vec<u8>],
-        arguments: &[Vec<&'a [u8]>],
+        arguments: &[Vec<Piece<'a>>],
     ) -> Result<(), Shortage>
         requires bytes { length (joined block.now) < 2 ^ 63 }
         requires pieces { length block.now < 2 ^ 59 }
@@ -167,8 +213,8 @@ impl<'a> Gathered<'a> {
         &mut self,
         alloc: Global,
         parameter: Vec<u8>,
-        arguments: &[Vec<&'a [u8]>],
-        block: &[&'a [u8]],
+        arguments: &[Vec<Piece<'a>>],
+        block: &[Piece<'a>],
     ) -> Result<(), Shortage>
         requires bytes { length (joined block.now) < 2 ^ 63 }
         requires pieces { length block.now < 2 ^ 59 }

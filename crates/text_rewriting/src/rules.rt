@@ -15,7 +15,7 @@ use abel_macros::{
     token_len,
 };
 use std::alloc::{AllocError, Global};
-use text_pieces::{Ahead, Rest};
+use text_pieces::{Ahead, Piece, Rest};
 
 /// What the result of a rewriting is made of.
 #[derive(Drop)]
@@ -23,17 +23,17 @@ pub enum Rewriting<'t, 'a> {
     /// Nothing.
     Nothing,
     /// A block.
-    Block(Vec<&'a [u8]>),
+    Block(Vec<Piece<'a>>),
     /// A block so many times.
-    Repeated(u32, Vec<&'a [u8]>),
+    Repeated(u32, Vec<Piece<'a>>),
     /// A block once for each argument.
     Each(Each<'a>),
     /// A block, and a value's digits in a radix.
-    Valued(Vec<&'a [u8]>, u32, u32),
+    Valued(Vec<Piece<'a>>, u32, u32),
     /// The block of a macro without parameters.
-    Plain(&'t [&'a [u8]]),
+    Plain(&'t [Piece<'a>]),
     /// Parameters, arguments and the block of a macro.
-    Called(&'t [Vec<u8>], Vec<Vec<&'a [u8]>>, &'t [&'a [u8]]),
+    Called(&'t [Vec<u8>], Vec<Vec<Piece<'a>>>, &'t [Piece<'a>]),
 }
 
 /// The first rule that fits.

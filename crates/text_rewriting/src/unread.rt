@@ -9,7 +9,7 @@ ghost use Rattle.text_rewriting.specs.Marks.{last, DefinesNone};
 use abel_macros::{skip_gap_to, skip_macro_word, word_len};
 use std::alloc::{AllocError, Global};
 use std::marker::Model;
-use text_pieces::{Ahead, Rest};
+use text_pieces::{Ahead, Piece, Rest};
 
 /// What is still to be read. Where the last `left` bytes begin, blanks and comments stand that lead to
 /// no word MACRO; they have `gap` bytes, or there are none.
@@ -96,7 +96,7 @@ impl<'a> Unread<'a> {
 
     /// Puts a text in pieces in front.
     #[tactic(auto, using(crate::proofs::Marks::none_at_end, crate::proofs::Marks::none_before))]
-    pub fn put_all(&mut self, pieces: &[&'a [u8]]) -> Result<(), AllocError>
+    pub fn put_all(&mut self, pieces: &[Piece<'a>]) -> Result<(), AllocError>
         requires bytes { length self.old + length (joined pieces.now) < 2 ^ 63 }
         requires pieces { length pieces.now < 2 ^ 59 }
         ensures ok { OnOk result (self.new ≡ joined pieces.now ++ self.old) }
