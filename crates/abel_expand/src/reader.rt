@@ -1,6 +1,6 @@
 //! The expanded text, byte by byte.
 
-ghost use Rattle.std.specs.Prelude.{◌≡◌, ℕ, ◌+◌, ◌<◌, ◌≤◌, ◌++◌, List, [], ◌∷◌, length, Some, None, Ok, Err, IfOk, IfErr, OnOk, IfSome, IfNone, true, false};
+ghost use Rattle.std.specs.Prelude.{◌≡◌, ℕ, ◌+◌, ◌<◌, ◌≤◌, ◌++◌, List, [], ◌∷◌, length, Some, None, Ok, Err, IfOk, IfErr, OnOk, IfSome, IfNone, slice_get, true, false};
 ghost use Rattle.abel_macros.specs.Kept.{tables_of};
 ghost use Rattle.abel_expand.specs.declared.fault.ExpandFault.TheVariants as fault;
 ghost use Rattle.text_rewriting.specs.Fronts.{changed, IsChange};
@@ -115,6 +115,18 @@ impl<'a> Reader<'a> {
         ensures no { result ≡ false → self.now.standing.origin ≡ origin.Call → ⊥ }
     {
         matches!(self.standing.origin, Origin::Call)
+    }
+
+    /// Where the source has this byte, which was given last: in the block of a macro or an argument, if it is of one. None of a
+    /// byte that the source doesn't have, as the digits of a value.
+    pub fn origin_of(&self, byte: u8) -> Option<usize>
+        ensures { IfSome result (λ at. slice_get self.now.text at ≡ Some byte) }
+    {
+        let at = self.rest.rest().offset_before();
+        match self.text.get(at) {
+            Some(found) if *found == byte => Some(at),
+            _ => None,
+        }
     }
 
     /// The offset in the source from which nothing was given yet.
