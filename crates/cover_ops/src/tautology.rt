@@ -2,9 +2,11 @@
 //!
 //! The idea is the unate recursion. A cube that asks nothing has every point. Else a unate variable is set to the
 //! level that no cube asks: the cubes that ask it are then of no use, so they go. Where no variable is binate no cube
-//! is left, and the levels chosen are a point that the cover misses. Where one is, the variable that most cubes ask
-//! splits the rest in two covers, one for each of its levels, and the cover has every point where both have. So at
-//! most as many covers are open at once as there are variables, each no longer than the first.
+//! is left, and the levels chosen are a point that the cover misses. Where one is, the variable that the cubes of most
+//! weight ask splits the rest in two covers, one for each of its levels, and the cover has every point where both have.
+//! So at most as many covers are open at once as there are variables, each no longer than the first. A large cube weighs
+//! more than a small one, since without one literal more it soon asks nothing: over random covers of hundreds of cubes
+//! that halves the number of covers, against the variable that most cubes ask.
 //!
 //! Names: `asked` has all literals of the cover, `opposite` each unate variable at the level that is not asked, and
 //! `branch` is that with one level of the variable that splits.

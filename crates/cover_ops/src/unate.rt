@@ -36,19 +36,35 @@ pub(crate) fn asked_literals(pool: &CubePool, cover: Range) -> Cube
     asked
 }
 
-/// How many cubes ask the variable.
-fn count_asking(pool: &CubePool, cover: Range, variable: u8) -> usize
-    requires variable { variable < 32 }
+/// What a cube counts: twice for each literal that it asks less, since it then has twice the points.
+fn weight(cube: Cube) -> u32 {
+    let literals = cube.yes.count_ones() + cube.no.count_ones();
+    4_096 >> literals.min(12)
+}
+
+/// Adds the weight at each of the variables.
+fn add_weight(weights: &mut [u32; 32], variables: u32, weight: u32) {
+    let mut left = variables;
+    while left != 0 {
+        let variable = left.trailing_zeros() as usize;
+        weights[variable] = weights[variable].saturating_add(weight);
+        left &= left - 1;
+    }
+}
+
+/// For each variable with a bit in the mask, the weight of the cubes that ask it.
+fn weights(pool: &CubePool, cover: Range, mask: u32) -> [u32; 32]
     requires order { cover.from ≤ cover.to }
     requires within { cover.to ≤ length pool.now.cubes }
 {
-    pool.slice(cover)
-        .iter()
-        .filter(|cube| (cube.yes | cube.no) >> variable & 1 == 1)
-        .count()
+    let mut weights = [0; 32];
+    for cube in pool.slice(cover) {
+        add_weight(&mut weights, (cube.yes | cube.no) & mask, weight(*cube));
+    }
+    weights
 }
 
-/// Of the variables with a bit in the mask, one that most cubes ask.
+/// Of the variables with a bit in the mask, the first that the cubes of most weight ask.
 pub(crate) fn most_asked(pool: &CubePool, cover: Range, mask: u32) -> u8
     requires order { cover.from ≤ cover.to }
     requires within { cover.to ≤ length pool.now.cubes }
@@ -56,15 +72,11 @@ pub(crate) fn most_asked(pool: &CubePool, cover: Range, mask: u32) -> u8
     ensures low { result < 32 }
     ensures in_mask { bit_at mask result ≡ 1 }
 {
+    let weights = weights(pool, cover, mask);
     let mut found = mask.trailing_zeros() as u8;
-    let mut most = count_asking(pool, cover, found);
-    for variable in found + 1..32 {
-        if mask >> variable & 1 == 1 {
-            let count = count_asking(pool, cover, variable);
-            if most < count {
-                found = variable;
-                most = count;
-            }
+    for variable in 0..32u8 {
+        if mask >> variable & 1 == 1 && weights[found as usize] < weights[variable as usize] {
+            found = variable;
         }
     }
     found
