@@ -1,16 +1,17 @@
 -- The points that a cube has in common with another, and with those of a list.
 use Rattle.std.proofs.Common.{◌≡◌, ℕ, ◌+◌, ◌-◌, ◌<◌, ◌≤◌, Bool, true, false, inl, inr, List, [], ◌∷◌, ◌++◌, length, get_or, slice_range, refl, sym, ap, ◌∙◌, arith}
 use Rattle.std.specs.Prelude.{IsTrue, ◌↔◌}
+use Rattle.std.specs.List.{list_any}
 use Rattle.std.proofs.lemmas.Bool.{and_from, and_parts}
 use Rattle.std.proofs.lemmas.Nat.{or_lt}
 use Rattle.std.proofs.lemmas.List.Edits.{between_none, between_more, length-between, get_or-between}
 use Rattle.std.proofs.lemmas.List.Folds.{list_any_at}
 use Rattle.cube_pool.specs.declared.cube.Cube.{Cube}
-use Rattle.cube_pool.specs.Cubes.{has_point, full_cube, meets, union, AsksBelow}
+use Rattle.cube_pool.specs.Cubes.{has_point, full_cube, lies_in, meets, union, AsksBelow}
 use Rattle.cube_pool.specs.Covers.{CoversCube}
 use Rattle.cube_pool.proofs.CubePoints.{apart, union_points}
 use Rattle.cover_min.specs.Expanded.{CoversBoth, CoversCommon}
-use Rattle.cover_min.proofs.ExpandedRows.{push_cases}
+use Rattle.cover_min.proofs.ExpandedRows.{lies_in_row, push_cases}
 
 -- cubes that don't meet have no point in common
 pub apart_answer : (rows : List Cube) (c d : Cube) (vars : ℕ) (r : Bool) → vars ≤ 22 → AsksBelow vars c → r ≡ meets c d → r ≡ false → IsTrue true ↔ CoversBoth rows c d vars
@@ -22,6 +23,13 @@ pub union_answer : (rows : List Cube) (c d e : Cube) (vars : ℕ) (r : Bool) →
 union_answer rows c d e vars r is answer = (
   λ yes-is p len first second. (answer.0 yes-is) p len (rw (is, union_points c d p) (and_from (has_point c p) (has_point d p) first second)),
   λ all. answer.1 (λ p len both. let parts = and_parts (has_point c p) (has_point d p) (sym (union_points c d p) ∙ rw is at both) in all p len parts.0 parts.1),
+)
+
+-- the union lies in a row
+pub row_answer : (rows : List Cube) (c d e : Cube) (vars : ℕ) → e ≡ union c d → list_any (lies_in e) rows ≡ true → IsTrue true ↔ CoversBoth rows c d vars
+row_answer rows c d e vars is inside = (
+  λ _ p len first second. lies_in_row e rows p inside (rw (is, union_points c d p) (and_from (has_point c p) (has_point d p) first second)),
+  λ all. refl,
 )
 
 pub union_below : (vars : ℕ) (c d : Cube) → AsksBelow vars c → AsksBelow vars d → AsksBelow vars (union c d)

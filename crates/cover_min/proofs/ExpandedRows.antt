@@ -61,10 +61,10 @@ push_cases xs c p is =
       | inr last ↦ elim (or_cases (has_point c p) false last) [ inl here ↦ inr here | inr never ↦ absurd cc ]
     ]
 
-push_first : (xs : List Cube) (c : Cube) (p : List Bool) → covers xs p ≡ true → covers (xs ++ c ∷ []) p ≡ true
+pub push_first : (xs : List Cube) (c : Cube) (p : List Bool) → covers xs p ≡ true → covers (xs ++ c ∷ []) p ≡ true
 push_first xs c p is = list_any-append (λ d. has_point d p) xs (c ∷ []) ∙ or_left (covers xs p) (covers (c ∷ []) p) is
 
-push_last : (xs : List Cube) (c : Cube) (p : List Bool) → has_point c p ≡ true → covers (xs ++ c ∷ []) p ≡ true
+pub push_last : (xs : List Cube) (c : Cube) (p : List Bool) → has_point c p ≡ true → covers (xs ++ c ∷ []) p ≡ true
 push_last xs c p is = list_any-append (λ d. has_point d p) xs (c ∷ []) ∙ or_right (covers xs p) (covers (c ∷ []) p) (or_left (has_point c p) false is)
 
 pub expanded_none : (allowed cubes old : List Cube) (vars from : ℕ) → IsExpanded allowed (slice_range cubes from from) vars (drop (length old) old)
@@ -101,7 +101,7 @@ expanded_more allowed cubes rows vars from place c d le lt is so_far inside grow
 
 -- a needed cube that lies in a row
 
-lies_in_row : (c : Cube) (rows : List Cube) (p : List Bool) → list_any (lies_in c) rows ≡ true → has_point c p ≡ true → covers rows p ≡ true
+pub lies_in_row : (c : Cube) (rows : List Cube) (p : List Bool) → list_any (lies_in c) rows ≡ true → has_point c p ≡ true → covers rows p ≡ true
 lies_in_row c [] p any has = absurd cc
 lies_in_row c (d ∷ rows) p any has =
     elim (or_cases (lies_in c d) (list_any (lies_in c) rows) any) [

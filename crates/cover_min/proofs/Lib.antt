@@ -4,4 +4,8 @@ pub mod GrownPools
 pub mod LeftOut
 pub mod Literals
 pub mod Minimised
+pub mod MovedRows
+pub mod OffLaws
+pub mod Passed
+pub mod Reductions
 pub mod RowsOthers

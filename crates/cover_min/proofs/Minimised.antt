@@ -18,9 +18,9 @@ covers_among old new p among is =
     let old_has : Contains old found.1 = rw same at there in
     list_any_at (λ c. has_point c p) old old_has.0 found.1 old_has.1 (rw old_has.2 found.4)
 
-pub minimised : (needed allowed first rows whole : List Cube) (vars : ℕ) → whole ≡ rows → IsExpanded allowed needed vars first → All (Contains first) rows
+pub minimised : (needed allowed cubes first rows whole : List Cube) (vars : ℕ) → whole ≡ rows → IsExpanded allowed cubes vars first → All (Contains first) rows
     → CoversList rows needed vars → IsIrredundant needed vars rows → IsPrimeIrredundant needed allowed vars whole
-minimised needed allowed first rows whole vars is expanded among all never = rw is (record {
+minimised needed allowed cubes first rows whole vars is expanded among all never = rw is (record {
   at_needed = all;
   at_allowed = λ p len has. expanded.at_allowed p len (covers_among first rows p among has);
   prime = λ k d lt. All-contains (IsPrime allowed vars) first (get_or rows k d) expanded.prime (among k d lt);

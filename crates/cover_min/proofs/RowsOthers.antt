@@ -99,7 +99,7 @@ exchanged_back i j k = elim (exchange_case i j k) [
   | inr (inr c) ↦ rw c.2 c.2
 ]
 
-get_or-swap : (rows : List Cube) (i j k : ℕ) → i < length rows → j < length rows → k < length rows → get_or (swap rows i j) k full_cube ≡ get_or rows (exchanged i j k) full_cube
+pub get_or-swap : (rows : List Cube) (i j k : ℕ) → i < length rows → j < length rows → k < length rows → get_or (swap rows i j) k full_cube ≡ get_or rows (exchanged i j k) full_cube
 get_or-swap rows i j k li lj lk =
     let once = set rows i (get_or rows j full_cube) in
     let is : get_or (swap rows i j) k full_cube ≡ get_or (set once j (get_or rows i full_cube)) k full_cube = ap (λ (xs : List Cube). get_or xs k full_cube) (sym (swap_is rows i j full_cube li lj)) in
@@ -170,3 +170,9 @@ swapped_covers rows i j p li lj is =
     let long = length-swap rows i j in
     let there = exchanged_within (length rows) i j found.0 li lj found.1 in
     some_covers (swap rows i j) p (exchanged i j found.0, omega (arith, there, long), rw (get_or-swap rows i j (exchanged i j found.0) li lj there, exchanged_back i j found.0) found.2)
+
+pub swapped_back : (rows : List Cube) (i j : ℕ) (p : List Bool) → i < length rows → j < length rows → covers (swap rows i j) p ≡ true → covers rows p ≡ true
+swapped_back rows i j p li lj is =
+    let found = some_of (swap rows i j) p is in
+    let lf : found.0 < length rows = omega (arith, found.1, length-swap rows i j) in
+    some_covers rows p (exchanged i j found.0, exchanged_within (length rows) i j found.0 li lj lf, rw (get_or-swap rows i j found.0 li lj lf) at found.2)

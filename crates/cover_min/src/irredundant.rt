@@ -2,7 +2,7 @@
 //!
 //! The idea: a row can be left out where the other rows have each needed point of it, since all rows together have every
 //! needed point. So the question is asked only of the needed cubes that meet the row, and of each for what it has in
-//! common with it. The rows stand at the end of the pool. Each is put last in its turn, so that the others are one
+//! common with it: mostly one other row has all of that, as the row that the needed cube became. The rows stand at the end of the pool. Each is put last in its turn, so that the others are one
 //! range before it and no second list is made; where it can go, the pool is cut before it. A row that had to stay has to
 //! stay in a shorter list too, so one pass is enough.
 //!
@@ -15,6 +15,7 @@ ghost use Rattle.cube_pool.specs.Prime.{IsIrredundant};
 ghost use Rattle.cube_pool.specs.Pool.{LiesIn, cubes_in};
 ghost use Rattle.cover_min.specs.Expanded.{CoversBoth, CoversCommon};
 
+use crate::rows::has_row;
 use cover_ops::covers_cube;
 use cube_pool::{Cube, CubePool, Mark, Range};
 
@@ -32,11 +33,21 @@ fn covers_both(pool: &mut CubePool, cover: Range, other: Cube, cube: Cube, vars:
     if !other.meets(cube) {
         return true;
     }
-    covers_cube(pool, cover, other.union(cube), vars)
+    let both = other.union(cube);
+    if has_row(pool, cover, both) {
+        return true;
+    }
+    covers_cube(pool, cover, both, vars)
 }
 
 /// Whether the cover has every needed point of the cube.
-fn covers_needed(pool: &mut CubePool, cover: Range, needed: Range, cube: Cube, vars: u8) -> bool
+pub(crate) fn covers_needed(
+    pool: &mut CubePool,
+    cover: Range,
+    needed: Range,
+    cube: Cube,
+    vars: u8,
+) -> bool
     requires vars { vars ≤ 22 }
     requires cover { LiesIn pool.old cover }
     requires needed { LiesIn pool.old needed }

@@ -1,7 +1,7 @@
 //! A prime and irredundant cover between a needed and an allowed one.
 //!
-//! The idea is espresso's, without its return from a local minimum: expand each needed cube to a prime one, then leave
-//! out the rows that the others make up for. The contract is its checker's: the rows have every needed point, and only
+//! The idea is espresso's: expand each needed cube to a prime one, then leave out the rows that the others make up for; and
+//! where the rows are few, reduce and expand them again and again, which may leave fewer. The contract is its checker's: the rows have every needed point, and only
 //! allowed ones.
 
 ghost use Rattle.std.specs.Prelude.{◌≡◌, ◌+◌, ◌-◌, ◌*◌, ◌≤◌, length, max};
@@ -11,8 +11,10 @@ ghost use Rattle.cube_pool.specs.Prime.{IsPrimeIrredundant};
 ghost use Rattle.cube_pool.specs.Pool.{LiesIn, cubes_in};
 ghost use Rattle.cover_min.specs.Appended.{Appends};
 
+use crate::allowed::allowed_cover;
 use crate::expand::push_expanded;
 use crate::irredundant::leave_out;
+use crate::passes::shorten;
 use cube_pool::{CubePool, Range};
 
 /// Appends a prime and irredundant list of rows that is true at every needed point and only at allowed ones, and no
@@ -30,8 +32,10 @@ pub fn minimise(pool: &mut CubePool, needed: Range, allowed: Range, vars: u8) ->
     ensures few { result.to - result.from ≤ needed.to - needed.from }
 {
     let from = pool.len();
-    push_expanded(pool, needed, allowed, vars);
+    let allowed = allowed_cover(pool, allowed, vars);
+    push_expanded(pool, needed, &allowed, vars);
     leave_out(pool, from, needed, vars);
+    shorten(pool, from, needed, &allowed, vars);
     let to = pool.len();
     Range { from, to }
 }

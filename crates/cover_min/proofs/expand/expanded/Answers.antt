@@ -12,7 +12,7 @@ loop-left-init c = record {
   below = c.requires.cube;
   inside = c.requires.inside;
   grows = grows-refl c.args.vars c.args.cube;
-  tried = tried_first (slice_range c.args.pool.now.cubes c.args.allowed.from c.args.allowed.to) c.args.vars c.args.cube;
+  tried = tried_first (slice_range c.args.pool.now.cubes c.args.allowed.now.range.from c.args.allowed.now.range.to) c.args.vars c.args.cube;
 }
 
 pub expanded_at-first-requires-clause-variable : goal.expanded_at-first-requires-clause-variable
@@ -39,9 +39,9 @@ loop-left-preserved c =
       below = found.ensures.below;
       inside = rw two at found.ensures.inside;
       grows = grows-trans c.args.vars c.args.cube c.loop-left.found found.result before.grows more;
-      tried = tried_more (slice_range c.args.pool.now.cubes c.args.allowed.from c.args.allowed.to) c.args.vars c.loop-left.left _ v c.loop-left.found first.result found.result (omega arith)
+      tried = tried_more (slice_range c.args.pool.now.cubes c.args.allowed.now.range.from c.args.allowed.now.range.to) c.args.vars c.loop-left.left _ v c.loop-left.found first.result found.result (omega arith)
           (bit_below c.loop-left.left c.args.vars v before.low c.most_voted-variable.ensures.is_left) first.ensures.grows found.ensures.grows refl before.tried (rw one at first.ensures.tried) (rw two at found.ensures.tried);
     }
 
 pub returns-clause-prime : goal.returns-clause-prime
-returns-clause-prime c = tried_last (slice_range c.args.pool.now.cubes c.args.allowed.from c.args.allowed.to) c.args.vars c.loop-left.left c.loop-left.found (omega arith) c.loop-left.invariant.tried
+returns-clause-prime c = tried_last (slice_range c.args.pool.now.cubes c.args.allowed.now.range.from c.args.allowed.now.range.to) c.args.vars c.loop-left.left c.loop-left.found (omega arith) c.loop-left.invariant.tried

@@ -9,9 +9,9 @@ invariant-loop-left l = record {
   same : l.pool ≡ l.initial.pool;
   low : l.left < 2 ^ l.vars;
   below : AsksBelow l.vars l.found;
-  inside : CoversCube (slice_range l.initial.pool.cubes l.fn.allowed.from l.fn.allowed.to) l.found l.vars;
+  inside : CoversCube (slice_range l.initial.pool.cubes l.fn.allowed.range.from l.fn.allowed.range.to) l.found l.vars;
   grows : Grows l.vars l.fn.cube l.found;
-  tried : IsTriedPast (slice_range l.initial.pool.cubes l.fn.allowed.from l.fn.allowed.to) l.vars l.left l.found;
+  tried : IsTriedPast (slice_range l.initial.pool.cubes l.fn.allowed.range.from l.fn.allowed.range.to) l.vars l.left l.found;
 }
 
 abbrev pub decreases-loop-left : goal.decreases-loop-left

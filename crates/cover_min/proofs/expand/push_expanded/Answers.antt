@@ -12,8 +12,8 @@ expanded-row-requires-clause-cube c =
 pub expanded-row-requires-clause-inside : goal.expanded-row-requires-clause-inside
 expanded-row-requires-clause-inside c =
     let there = cube_kept c.args.pool.now.cubes c.loop-place.pool.cubes c.loop-place.place c.cube_at-cube.result c.loop-place.invariant.kept (omega arith) c.cube_at-cube.ensures in
-    rw (slice_kept c.args.pool.now.cubes c.loop-place.pool.cubes c.args.allowed.from c.args.allowed.to c.loop-place.invariant.kept c.requires.allowed.1)
-    (at_inside c.args.vars c.args.needed.from c.args.needed.to c.loop-place.place (slice_range c.args.pool.now.cubes c.args.allowed.from c.args.allowed.to) c.args.pool.now.cubes c.cube_at-cube.result c.loop-place.invariant.from c.loop-place-test.true (omega arith) c.requires.inside there)
+    rw (slice_kept c.args.pool.now.cubes c.loop-place.pool.cubes c.args.allowed.now.range.from c.args.allowed.now.range.to c.loop-place.invariant.kept c.requires.allowed.1)
+    (at_inside c.args.vars c.args.needed.from c.args.needed.to c.loop-place.place (slice_range c.args.pool.now.cubes c.args.allowed.now.range.from c.args.allowed.now.range.to) c.args.pool.now.cubes c.cube_at-cube.result c.loop-place.invariant.from c.loop-place-test.true (omega arith) c.requires.inside there)
 
 pub loop-place-preserved : goal.loop-place-preserved
 loop-place-preserved c =
@@ -25,13 +25,13 @@ loop-place-preserved c =
     let grown : c.push.new.self.cubes ≡ now ++ row.result ∷ [] = c.push.ensures.cubes ∙ ap (λ (p : Pool). p.cubes ++ row.result ∷ []) row.ensures.same in
     let long : length c.push.new.self.cubes ≡ length now + 1 = ap length grown ∙ length_push now row.result in
     let room = ap (λ (p : Pool). p.spare) row.ensures.same in
-    let same = slice_kept old now c.args.allowed.from c.args.allowed.to before.kept c.requires.allowed.1 in
+    let same = slice_kept old now c.args.allowed.now.range.from c.args.allowed.now.range.to before.kept c.requires.allowed.1 in
     record {
       kept = rw grown (push_kept old now row.result before.kept);
       spare = omega (arith, long, room, c.push.ensures.spare, before.spare);
       from = omega arith;
       rows = rw (grown, push_rows old now row.result before.kept)
-          (expanded_more (slice_range old c.args.allowed.from c.args.allowed.to) old (drop (length old) now) c.args.vars c.args.needed.from c.loop-place.place c.cube_at-cube.result row.result before.from (omega arith) there before.rows
+          (expanded_more (slice_range old c.args.allowed.now.range.from c.args.allowed.now.range.to) old (drop (length old) now) c.args.vars c.args.needed.from c.loop-place.place c.cube_at-cube.result row.result before.from (omega arith) there before.rows
           (rw same at row.ensures.inside) row.ensures.grows (rw same at row.ensures.prime) row.ensures.below);
     }
 
@@ -45,9 +45,12 @@ loop-place-preserved-then-has_row c =
       kept = before.kept;
       spare = before.spare;
       from = omega arith;
-      rows = expanded_skip (slice_range old c.args.allowed.from c.args.allowed.to) old (drop (length old) now) c.args.vars c.args.needed.from c.loop-place.place c.cube_at-cube.result before.from (omega arith) there before.rows
+      rows = expanded_skip (slice_range old c.args.allowed.now.range.from c.args.allowed.now.range.to) old (drop (length old) now) c.args.vars c.args.needed.from c.loop-place.place c.cube_at-cube.result before.from (omega arith) there before.rows
           (rw (rows_so_far now c.len-from.result c.len.result c.len.ensures, c.len-from.ensures) at (sym c.has_row.ensures ∙ c.if-has_row.true));
     }
 
 pub expanded-row-requires-clause-below : goal.expanded-row-requires-clause-below
-expanded-row-requires-clause-below c = rw (slice_kept c.args.pool.now.cubes c.loop-place.pool.cubes c.args.allowed.from c.args.allowed.to c.loop-place.invariant.kept c.requires.allowed.1) c.requires.allowed_below
+expanded-row-requires-clause-below c = rw (slice_kept c.args.pool.now.cubes c.loop-place.pool.cubes c.args.allowed.now.range.from c.args.allowed.now.range.to c.loop-place.invariant.kept c.requires.allowed.1) c.requires.allowed_below
+
+pub expanded-row-requires-clause-off : goal.expanded-row-requires-clause-off
+expanded-row-requires-clause-off c = rw (slice_kept c.args.pool.now.cubes c.loop-place.pool.cubes c.args.allowed.now.range.from c.args.allowed.now.range.to c.loop-place.invariant.kept c.requires.allowed.1) c.requires.off

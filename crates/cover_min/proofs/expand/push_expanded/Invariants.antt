@@ -7,5 +7,5 @@ invariant-loop-place l = record {
   kept : take (length l.initial.pool.cubes) l.pool.cubes ≡ l.initial.pool.cubes;
   spare : l.pool.spare + length l.pool.cubes ≡ l.initial.pool.spare + length l.initial.pool.cubes;
   from : l.fn.needed.from ≤ l.place;
-  rows : IsExpanded (slice_range l.initial.pool.cubes l.fn.allowed.from l.fn.allowed.to) (slice_range l.initial.pool.cubes l.fn.needed.from l.place) l.vars (drop (length l.initial.pool.cubes) l.pool.cubes);
+  rows : IsExpanded (slice_range l.initial.pool.cubes l.fn.allowed.range.from l.fn.allowed.range.to) (slice_range l.initial.pool.cubes l.fn.needed.from l.place) l.vars (drop (length l.initial.pool.cubes) l.pool.cubes);
 }

@@ -1,6 +1,6 @@
 use Rattle.std.specs.Int.{w32}
 use Rattle.std.proofs.lemmas.Nat.Bits.{bit_at-trailing_zeros}
-use Rattle.cover_min.proofs.expand.most_voted.Goals as goal
+use Rattle.cover_min.proofs.votes.most_voted.Goals as goal
 
 pub loop-variable-init : goal.loop-variable-init
 loop-variable-init c =

@@ -1,6 +1,6 @@
 use Rattle.std.proofs.Common.{◌≡◌, ◌<◌}
 use Rattle.std.specs.Int.{bit_at}
-use Rattle.cover_min.proofs.expand.most_voted.Given as goal
+use Rattle.cover_min.proofs.votes.most_voted.Given as goal
 
 abbrev pub invariant-loop-variable : goal.invariant-loop-variable
 invariant-loop-variable l = record {
