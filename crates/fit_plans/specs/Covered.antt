@@ -1,5 +1,5 @@
 -- The covers of the cells and controls of a netlist, over the pairs' columns (this project's rule).
-use Rattle.std.specs.Prelude.{◌≡◌, ℕ, Bool, true, false, if◌then◌else◌, Option, None, Some, List, length}
+use Rattle.std.specs.Prelude.{◌≡◌, ◌⊎◌, ℕ, Bool, true, false, if◌then◌else◌, Option, None, Some, List, length}
 use Rattle.std.specs.Global.{Vec}
 use Rattle.bit_expr.specs.declared.netlist.CellWanted.{CellWanted}
 use Rattle.bit_expr.specs.declared.netlist.Function.{Function}
@@ -36,6 +36,15 @@ pub record IsTriedCell (flip : Flip) (room vars mask : ℕ) (net : Netlist) (w :
   pub direct : IsTriedAs flip vars mask net w false tried.direct
   pub inverted : (FitsRoom room tried.direct → ⊥) → IsTriedAs flip vars mask net w true tried.inverted
   pub untried : FitsRoom room tried.direct → tried.inverted ≡ None
+
+-- a list on the way to one of the two lists of a function passes the limit
+abbrev pub HasNoLists : Netlist → Function → (positive : Bool) → Type 0
+HasNoLists net f positive = (needed_of net f positive ≡ None) ⊎ (allowed_of net f positive ≡ None)
+
+-- the cell may have the form, and has both lists in it
+pub record IsListedAs (flip : Flip) (net : Netlist) (w : CellWanted) (inverted : Bool) : Type 0 where
+  pub may : may_be_inverted_as flip w inverted ≡ true
+  pub lists : HasNoLists net w.function (rows_are_positive flip w inverted) → ⊥
 
 -- a control as a function: never any
 abbrev pub control_function : ExprId → Function

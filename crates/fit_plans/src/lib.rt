@@ -6,4 +6,4 @@ mod forms;
 mod trying;
 
 pub use controls::control_cover;
-pub use trying::{try_cell, try_form};
+pub use trying::{has_lists, try_cell, try_form};

@@ -1,14 +1,17 @@
 //! The covers of a cell in the forms that it may have.
 
-ghost use Rattle.std.specs.Prelude.{◌≡◌, ◌≤◌, ◌<◌, ◌^◌, IfOk, false, true};
+ghost use Rattle.std.specs.Prelude.{◌≡◌, ◌≤◌, ◌<◌, ◌^◌, IfOk, Ok, false, true};
 ghost use Rattle.fit_cells.specs.Choices.{FitsRoom};
-ghost use Rattle.fit_plans.specs.Covered.{CanCover, IsTriedAs, IsTriedCell};
+ghost use Rattle.sop_lowering.specs.Lowering.{CanLower};
+ghost use Rattle.fit_plans.specs.Covered.{CanCover, HasNoLists, IsListedAs, IsTriedAs, IsTriedCell};
+ghost use Rattle.fit_plans.specs.Forms.{may_be_inverted_as, rows_are_positive};
 
 use crate::forms::{may_be_inverted_as, rows_are_positive};
 use bit_expr::{CellWanted, Netlist};
 use cube_pool::{Cube, CubePool};
-use fit_cells::{Tried, cover};
+use fit_cells::{Tried, cover, written_lists};
 use pld_device::Flip;
+use sop_lowering::LowerFault;
 use std::alloc::{AllocError, Global};
 
 /// The cover of a cell in one form, over the pairs' columns; None where it may not have the form, or where a list on the
@@ -75,4 +78,29 @@ pub fn try_cell(
     }
     let inverted = try_form(alloc, pool, net, wanted, flip, true, turned, vars)?;
     Ok(Tried { direct, inverted })
+}
+
+/// Whether there are written lists of a cell in one form: not where it may not have the form, nor where a list on the way
+/// would pass 1,024 products.
+pub fn has_lists(
+    alloc: Global,
+    net: &Netlist,
+    wanted: &CellWanted,
+    flip: Flip,
+    inverted: bool,
+) -> Result<bool, AllocError>
+    requires one { CanLower net.now wanted.now.function.one }
+    requires any { CanLower net.now wanted.now.function.any }
+    ensures some { result ≡ Ok true → IsListedAs flip net.now wanted.now inverted }
+    ensures none { result ≡ Ok false → may_be_inverted_as flip wanted.now inverted ≡ true → HasNoLists net.now wanted.now.function (rows_are_positive flip wanted.now inverted) }
+{
+    if !may_be_inverted_as(flip, wanted, inverted) {
+        return Ok(false);
+    }
+    let positive = rows_are_positive(flip, wanted, inverted);
+    match written_lists(alloc, net, wanted.function, positive) {
+        Ok(_) => Ok(true),
+        Err(LowerFault::TooWide) => Ok(false),
+        Err(LowerFault::OutOfMemory) => Err(AllocError),
+    }
 }
