@@ -25,10 +25,10 @@ use Rattle.fit_laws.specs.Coverable.{IsSoundId}
 use Rattle.fit_laws.specs.Plans.{PlansRows, cell_wanted, enable_bit}
 use Rattle.fit_laws.proofs.Coverable.{sound_cover}
 use Rattle.fit_laws.proofs.WantedIds.{enable_id, function_ids, preset_id, reset_id, sound_id_at, zero_sound}
-use Rattle.fit_plans.specs.Covered.{CanCover, IsCoverOf, IsTriedAs, IsTriedCell, control_function}
+use Rattle.fit_plans.specs.Covered.{CanCover, HasNoLists, IsCoverOf, IsListedAs, IsTriedAs, IsTriedCell, control_function}
 use Rattle.fit_plans.specs.Forms.{may_be_inverted_as, rows_are_positive}
 use Rattle.cell_covers.specs.declared.covering.CellCovers.{CellCovers}
-use Rattle.cell_covers.specs.Covered.{CanCoverCell, HasCovers, HasCoversAs, HasRows, IsCovered, IsCoveredAt, IsListed}
+use Rattle.cell_covers.specs.Covered.{CanCoverCell, HasChecked, HasCheckedAs, HasCovers, HasCoversAs, HasRows, IsChecked, IsCheckedAt, IsCovered, IsCoveredAt, IsListed}
 use Rattle.cell_covers.specs.Width.{HasNoWeight, IsControlTooWide, IsFunctionTooWide, IsTooWide}
 use Rattle.cell_covers.proofs.ControlLists.{no_list}
 
@@ -209,3 +209,69 @@ pub tried_over : (t : Table) (mask : ℕ) (net : Netlist) (w : CellWanted) (trie
 tried_over t mask net w tried flip room vars same room_is few has =
     subst (λ (f : Flip). IsTriedCell f (cell_at t w.cell).room (length t.pairs) mask net w tried) same
     (subst (λ n. IsTriedCell flip n (length t.pairs) mask net w tried) room_is (subst (λ n. IsTriedCell flip room n mask net w tried) few has))
+
+-- ---- a cell that is checked alone
+
+pub form_fits : (t : Table) (net : Netlist) (w : CellWanted) (flip : Flip) (inverted : Bool) → flip ≡ t.flip → IsListedAs flip net w inverted → IsFunctionTooWide t net w → ⊥
+form_fits t net w flip inverted same listed wide =
+    let own = subst (λ (f : Flip). IsListedAs f net w inverted) same listed in
+    own.lists (wide inverted own.may)
+
+pub forms_wide : (t : Table) (net : Netlist) (w : CellWanted) (flip : Flip) → flip ≡ t.flip
+    → (may_be_inverted_as flip w false ≡ true → HasNoLists net w.function (rows_are_positive flip w false))
+    → (may_be_inverted_as flip w true ≡ true → HasNoLists net w.function (rows_are_positive flip w true)) → IsFunctionTooWide t net w
+forms_wide t net w flip same direct inverted = subst (λ (f : Flip). (b : Bool) → may_be_inverted_as f w b ≡ true → HasNoLists net w.function (rows_are_positive f w b)) same by
+  where
+    by : (b : Bool) → may_be_inverted_as flip w b ≡ true → HasNoLists net w.function (rows_are_positive flip w b)
+    by true = inverted
+    by false = direct
+
+-- it fails as one that is covered
+pub checked_fails : (t : Table) (mask : ℕ) (net : Netlist) (w : CellWanted) (x : LowerFault) → IsCovered t mask net w (Err x) → IsChecked t mask net w (Err x)
+checked_fails t mask net w lower.TooWide wide = wide
+checked_fails t mask net w lower.OutOfMemory none = tt
+
+pub checked_handed : (t : Table) (mask : ℕ) (net : Netlist) (w : CellWanted) (result : Result CellCovers LowerFault) (x : LowerFault) → (e : LowerFault) × (result ≡ Err e) × (e ≡ x)
+    → IsCovered t mask net w (Err x) → IsChecked t mask net w result
+checked_handed t mask net w result x is holds = subst (IsChecked t mask net w) (sym (is.1 ∙ ap (λ (e : LowerFault). Err e) is.2)) (checked_fails t mask net w x holds)
+
+pub check_fails : (t : Table) (mask : ℕ) (net : Netlist) (c : ℕ) (wanted : Option CellWanted) (w : CellWanted) (result : Result (Option CellCovers) LowerFault) (x : LowerFault)
+    → (e : LowerFault) × (result ≡ Err e) × (e ≡ x) → wanted ≡ cell_wanted net c → wanted ≡ Some w → IsChecked t mask net w (Err x) → IsCheckedAt t mask net c result
+check_fails t mask net c wanted w result x handed same is holds = subst (IsCheckedAt t mask net c) (sym (handed.1 ∙ ap (λ (e : LowerFault). Err e) handed.2)) (by x holds)
+  where
+    by : (x : LowerFault) → IsChecked t mask net w (Err x) → IsCheckedAt t mask net c (Err x)
+    by lower.TooWide wide = record { cell = w; wanted = sym same ∙ is; wide = wide }
+    by lower.OutOfMemory none = tt
+
+pub check_none : (t : Table) (mask : ℕ) (net : Netlist) (wanted own : Option CellWanted) → wanted ≡ own → wanted ≡ None → HasCheckedAs t mask net own None
+check_none t mask net wanted own same is = subst (λ (o : Option CellWanted). HasCheckedAs t mask net o None) (sym is ∙ same) tt
+
+pub check_some : (t : Table) (mask : ℕ) (net : Netlist) (wanted own : Option CellWanted) (w : CellWanted) (x : CellCovers) → wanted ≡ own → wanted ≡ Some w → HasChecked t mask net w x
+    → HasCheckedAs t mask net own (Some x)
+check_some t mask net wanted own w x same is has = subst (λ (o : Option CellWanted). HasCheckedAs t mask net o (Some x)) (sym is ∙ same) has
+
+-- a cell that has its covers is checked
+pub covered_checked : (t : Table) (mask : ℕ) (net : Netlist) (wanted : Option CellWanted) (found : Option CellCovers) → HasCoversAs t mask net wanted found → HasCheckedAs t mask net wanted found
+covered_checked t mask net None None has = tt
+covered_checked t mask net None (Some x) has = has
+covered_checked t mask net (Some w) None has = has
+covered_checked t mask net (Some w) (Some x) has = record {
+  wanted = has.wanted;
+  form = λ wide. not_wide t mask net w x has (inl wide);
+  enable = has.enable;
+  reset = has.reset;
+  preset = has.preset;
+}
+
+-- and one that is checked is not too wide
+pub checked_not_wide : (t : Table) (mask : ℕ) (net : Netlist) (wanted : Option CellWanted) (w : CellWanted) (found : Option CellCovers) → HasCheckedAs t mask net wanted found → wanted ≡ Some w
+    → IsTooWide t net w → ⊥
+checked_not_wide t mask net None w found has is wide = absurd cc
+checked_not_wide t mask net (Some v) w None has is wide = has
+checked_not_wide t mask net (Some v) w (Some x) has is wide = by (subst (λ u. HasChecked t mask net u x) (same_some v w is) has) wide
+  where
+    by : HasChecked t mask net w x → IsTooWide t net w → ⊥
+    by own (inl form) = own.form form
+    by own (inr (inl none)) = rows_listed (length t.pairs) mask net (enable_bit w) x.enable.items own.enable none
+    by own (inr (inr (inl reset))) = own.reset reset
+    by own (inr (inr (inr preset))) = own.preset preset

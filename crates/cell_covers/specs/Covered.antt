@@ -15,7 +15,7 @@ use Rattle.fit_laws.specs.Coverable.{IsSoundId}
 use Rattle.fit_laws.specs.Plans.{PlansRows, cell_wanted, enable_bit}
 use Rattle.fit_plans.specs.Covered.{IsTriedCell, control_function}
 use Rattle.cell_covers.specs.declared.covering.CellCovers.{CellCovers}
-use Rattle.cell_covers.specs.Width.{IsControlTooWide, IsTooWide, width_order}
+use Rattle.cell_covers.specs.Width.{IsControlTooWide, IsFunctionTooWide, IsTooWide, width_order}
 
 -- the cell is the device's, and all its ids are sound
 pub record CanCoverCell (t : Table) (net : Netlist) (w : CellWanted) : Type 0 where
@@ -47,6 +47,27 @@ pub record HasCovers (t : Table) (mask : ℕ) (net : Netlist) (w : CellWanted) (
   pub reset : IsControlTooWide net w.reset → ⊥
   pub preset : IsControlTooWide net w.preset → ⊥
 
+-- the cell is not too wide, and has the cover of its enable
+pub record HasChecked (t : Table) (mask : ℕ) (net : Netlist) (w : CellWanted) (x : CellCovers) : Type 0 where
+  pub wanted : x.wanted ≡ w
+  pub form : IsFunctionTooWide t net w → ⊥
+  pub enable : PlansRows (length t.pairs) mask net (control_function (enable_bit w)) true x.enable.items
+  pub reset : IsControlTooWide net w.reset → ⊥
+  pub preset : IsControlTooWide net w.preset → ⊥
+
+-- so is one assigned cell; TooWide where a list of it would be too long
+abbrev pub IsChecked : Table → (mask : ℕ) → Netlist → CellWanted → Result CellCovers LowerFault → Type 0
+IsChecked t mask net w (Ok x) = HasChecked t mask net w x
+IsChecked t mask net w (Err lower.TooWide) = IsTooWide t net w
+IsChecked t mask net w (Err lower.OutOfMemory) = Unit {0}
+
+-- so is a cell that may be assigned
+abbrev pub HasCheckedAs : Table → (mask : ℕ) → Netlist → Option CellWanted → Option CellCovers → Type 0
+HasCheckedAs t mask net None None = Unit {0}
+HasCheckedAs t mask net None (Some x) = ⊥
+HasCheckedAs t mask net (Some w) None = ⊥
+HasCheckedAs t mask net (Some w) (Some x) = HasChecked t mask net w x
+
 -- the covers of one assigned cell; TooWide where a list of it would be too long
 abbrev pub IsCovered : Table → (mask : ℕ) → Netlist → CellWanted → Result CellCovers LowerFault → Type 0
 IsCovered t mask net w (Ok x) = HasCovers t mask net w x
@@ -71,6 +92,12 @@ abbrev pub IsCoveredAt : Table → (mask : ℕ) → Netlist → ℕ → Result (
 IsCoveredAt t mask net c (Ok found) = HasCoversAs t mask net (cell_wanted net c) found
 IsCoveredAt t mask net c (Err lower.TooWide) = IsWideAt t net c
 IsCoveredAt t mask net c (Err lower.OutOfMemory) = Unit {0}
+
+-- so is the cell of a number
+abbrev pub IsCheckedAt : Table → (mask : ℕ) → Netlist → ℕ → Result (Option CellCovers) LowerFault → Type 0
+IsCheckedAt t mask net c (Ok found) = HasCheckedAs t mask net (cell_wanted net c) found
+IsCheckedAt t mask net c (Err lower.TooWide) = IsWideAt t net c
+IsCheckedAt t mask net c (Err lower.OutOfMemory) = Unit {0}
 
 -- the first by number
 pub record IsFirstNumber (t : Table) (net : Netlist) (c : ℕ) : Type 0 where

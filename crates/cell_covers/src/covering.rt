@@ -1,20 +1,21 @@
 //! The covers of a cell and of its enable.
 
-ghost use Rattle.std.specs.Prelude.{◌≡◌, ◌≤◌, None, Some, false, true};
+ghost use Rattle.std.specs.Prelude.{◌≡◌, ◌≤◌, None, Ok, Some, false, true};
 ghost use Rattle.bit_expr.specs.declared.netlist.Control.{Control};
 ghost use Rattle.abel_meaning.specs.SoundIds.{IsSoundNetlist};
 ghost use Rattle.fit_laws.specs.Coverable.{IsSoundId};
 ghost use Rattle.fit_laws.specs.Plans.{enable_bit};
-ghost use Rattle.cell_covers.specs.Covered.{CanCoverCell, HasRows, IsCovered, IsCoveredAt, IsListed};
+ghost use Rattle.cell_covers.specs.Covered.{CanCoverCell, HasRows, IsChecked, IsCheckedAt, IsCovered, IsCoveredAt, IsListed};
+ghost use Rattle.cell_covers.specs.Width.{IsFunctionTooWide};
 
 use bit_expr::{CellWanted, Control, ExprId, Netlist};
 use cube_pool::{Cube, CubePool};
 use fit_cells::Tried;
-use fit_plans::{control_cover, try_cell};
+use fit_plans::{control_cover, has_lists, try_cell};
 use fit_shared::{cell_wanted, pair_count};
 use pld_device::Device;
 use sop_lowering::{LowerFault, lower};
-use std::alloc::Global;
+use std::alloc::{AllocError, Global};
 
 /// What is found of an assigned cell: the covers in the forms that it may have, and that of its enable.
 #[derive(Drop)]
@@ -113,6 +114,57 @@ pub(crate) fn cover_cell<D: Device>(
     })
 }
 
+/// Whether the cell's function has written lists in some form that the cell may have.
+fn has_form<D: Device>(
+    alloc: Global,
+    net: &Netlist,
+    wanted: &CellWanted,
+) -> Result<bool, AllocError>
+    requires sound { IsSoundNetlist D.table net.now }
+    requires can { CanCoverCell D.table net.now wanted.now }
+    ensures fits { result ≡ Ok true → IsFunctionTooWide D.table net.now wanted.now → ⊥ }
+    ensures wide { result ≡ Ok false → IsFunctionTooWide D.table net.now wanted.now }
+{
+    let direct = has_lists(alloc, net, wanted, D::FLIP, false)?;
+    if direct {
+        return Ok(true);
+    }
+    has_lists(alloc, net, wanted, D::FLIP, true)
+}
+
+/// The cover of a cell's enable, without those of its function; TooWide where this has no written lists in any form, or a
+/// control of the cell none.
+fn check_cell<D: Device>(
+    alloc: Global,
+    pool: &mut CubePool,
+    net: &Netlist,
+    wanted: CellWanted,
+    turned: u32,
+) -> Result<CellCovers, LowerFault>
+    requires sound { IsSoundNetlist D.table net.now }
+    requires can { CanCoverCell D.table net.now wanted }
+    requires spare { 27672 ≤ pool.old.spare }
+    ensures same { pool.new ≡ pool.old }
+    ensures checked { IsChecked D.table turned net.now wanted result }
+{
+    let fits = has_form::<D>(alloc, net, &wanted)?;
+    if !fits {
+        return Err(LowerFault::TooWide);
+    }
+    let enable = control_rows::<D>(alloc, pool, net, enable_bit(&wanted), turned)?;
+    listed::<D>(alloc, net, wanted.reset)?;
+    listed::<D>(alloc, net, wanted.preset)?;
+    let tried = Tried {
+        direct: None,
+        inverted: None,
+    };
+    Ok(CellCovers {
+        wanted,
+        tried,
+        enable,
+    })
+}
+
 /// The covers of the cell of a number, if it is assigned.
 pub fn cover_at<D: Device>(
     alloc: Global,
@@ -130,5 +182,26 @@ pub fn cover_at<D: Device>(
         return Ok(None);
     };
     let covers = cover_cell::<D>(alloc, pool, net, wanted, turned)?;
+    Ok(Some(covers))
+}
+
+/// Of the cell of a number, if it is assigned, that it is not too wide, and the cover of its enable alone: for the cells
+/// that come after one which is refused.
+pub fn check_at<D: Device>(
+    alloc: Global,
+    pool: &mut CubePool,
+    net: &Netlist,
+    cell: u8,
+    turned: u32,
+) -> Result<Option<CellCovers>, LowerFault>
+    requires sound { IsSoundNetlist D.table net.now }
+    requires spare { 27672 ≤ pool.old.spare }
+    ensures same { pool.new ≡ pool.old }
+    ensures checked { IsCheckedAt D.table turned net.now cell result }
+{
+    let Some(wanted) = cell_wanted(net, cell) else {
+        return Ok(None);
+    };
+    let covers = check_cell::<D>(alloc, pool, net, wanted, turned)?;
     Ok(Some(covers))
 }

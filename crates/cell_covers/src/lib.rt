@@ -5,6 +5,6 @@ mod covering;
 mod masks;
 mod widest;
 
-pub use covering::{CellCovers, control_rows, cover_at};
+pub use covering::{CellCovers, check_at, control_rows, cover_at};
 pub use masks::turn_mask;
 pub use widest::first_wide;
