@@ -30,7 +30,7 @@ use Rattle.fit_rows.specs.RowCubes.{HoldsCubes}
 use Rattle.fit_shared.specs.declared.shared.SharedControl.{SharedControl}
 use Rattle.fit_shared.specs.declared.shared.SharedControl.TheVariants.{Preset, Reset}
 use Rattle.cell_covers.specs.declared.covering.CellCovers.{CellCovers}
-use Rattle.cell_covers.specs.Covered.{HasCoversAs}
+use Rattle.cell_covers.specs.Covered.{HasCheckedAs, HasCoversAs}
 use Rattle.fitter.specs.declared.answer.Fitted.{Fitted}
 use Rattle.fitter.specs.declared.answer.FittedCell.{FittedCell}
 use Rattle.fitter.specs.declared.planning.AllRows.{AllRows}
@@ -47,7 +47,7 @@ use Rattle.fitter.specs.Turning.{IsTurnedCell}
 use Rattle.fitter.proofs.Controls.{first_of_one, is_no_product, is_product}
 use Rattle.fitter.proofs.CellPlans.{over_at, plan_as}
 use Rattle.fitter.proofs.CoversInTurn.{none_wide}
-use Rattle.fitter.proofs.FittingCovers.{fitting_cover}
+use Rattle.fitter.proofs.FittingCovers.{each_fits_below, fitting_cover}
 use Rattle.fitter.proofs.RowOrder.{rows_in_order}
 use Rattle.fitter.proofs.TurnedPlans.{both_is, turned_as, turned_control}
 
@@ -61,7 +61,7 @@ module _ (t : Table) (laws : IsDevice t) (net : Netlist) (sound : IsSoundNetlist
   shared_product which row has = record { bit = has.bit; shared = has.shared; product = is_product (length t.pairs) mask net has.bit few_pairs mask_is.low row has.covers_it }
 
   -- the enable of a cell with one row at most
-  enable_product : (wanted : Option CellWanted) (w : CellWanted) (found : Option CellCovers) → wanted ≡ Some w → HasCoversAs t mask net wanted found → IsSingleRow found
+  enable_product : (wanted : Option CellWanted) (w : CellWanted) (found : Option CellCovers) → wanted ≡ Some w → HasCheckedAs t mask net wanted found → IsSingleRow found
       → IsProduct (length t.pairs) net (enable_bit w)
   enable_product None w found is has one = absurd cc
   enable_product (Some v) w None is has one = absurd has
@@ -78,7 +78,7 @@ module _ (t : Table) (laws : IsDevice t) (net : Netlist) (sound : IsSoundNetlist
   enables_below covers c below few single d w low is =
       enable_product (cell_wanted net d) w (get_or covers d None) is (below.each d (omega (arith, low, few))) (single d low)
 
-  first_sum_of : (wanted : Option CellWanted) (c : ℕ) (found : Option CellCovers) → cell_wanted net c ≡ wanted → HasCoversAs t mask net wanted found → IsManyRows found → EnablesBelow t net c
+  first_sum_of : (wanted : Option CellWanted) (c : ℕ) (found : Option CellCovers) → cell_wanted net c ≡ wanted → HasCheckedAs t mask net wanted found → IsManyRows found → EnablesBelow t net c
       → IsFirstSum t net c
   first_sum_of None c None is has many before = absurd many
   first_sum_of None c (Some x) is has many before = absurd has
@@ -112,13 +112,17 @@ module _ (t : Table) (laws : IsDevice t) (net : Netlist) (sound : IsSoundNetlist
       controls = controls;
       mask = mask;
       mask_is = mask_is;
-      over = over_at t mask net c (cell_wanted net c) (get_or covers c None) tried refl (below.each c low) over;
-      before = λ d w less is. fitting_cover t mask net d (cell_wanted net d) w (get_or covers d None) refl is (below.each d (omega (arith, less, low))) (fit d less);
+      over = over_at t mask net c (cell_wanted net c) (get_or covers c None) tried refl (below.tried c low fit) over;
+      before = λ d w less is. fitting_cover t mask net d (cell_wanted net d) w (get_or covers d None) refl is (below.tried d (omega (arith, less, low)) (λ e before. fit e (omega (arith, before, less)))) (fit d less);
     }
 
     -- ---- fuses
 
     module _ (rows : AllRows) (are : RowsBelow t covers (length t.cells) rows.plans.items rows.forms.items) (fitted : Fitted) (is : IsBurnedPlan t net shared rows fitted) where
+      -- each cell has its covers, since each has one that fits
+      covers_at : (c : ℕ) → c < length t.cells → HasCoversAs t mask net (cell_wanted net c) (get_or covers c None)
+      covers_at c low = below.tried c low (λ d less. each_fits_below t covers (length t.cells) rows.plans.items rows.forms.items are d (omega (arith, less, low)))
+
       -- the plan of the rows that were turned, under the mask of the chosen forms
       abbrev plan : Plan
       plan = plan_of is.choice shared is.plans
@@ -134,7 +138,7 @@ module _ (t : Table) (laws : IsDevice t) (net : Netlist) (sound : IsSoundNetlist
             cell = new.cell;
             there = new.there;
             planned = turned_as t laws mask is.choice mask_is.low is.choice_is.low net c (cell_wanted net c) has.plan new.cell (form_at rows.forms.items c)
-                (plan_as t mask net c (cell_wanted net c) (get_or covers c None) (record { plan = has.plan; form = form_at rows.forms.items c }) refl (below.each c low) has.rows (single c low)) new.is;
+                (plan_as t mask net c (cell_wanted net c) (get_or covers c None) (record { plan = has.plan; form = form_at rows.forms.items c }) refl (covers_at c low) has.rows (single c low)) new.is;
           }
 
       plans : PlansNetlist t both net plan rows.forms.items
@@ -180,7 +184,7 @@ module _ (t : Table) (laws : IsDevice t) (net : Netlist) (sound : IsSoundNetlist
           let has = are.each x.cell low in
           let new = is.turned_are.each x.cell has.plan has.there in
           let same : new.cell ≡ of.plan = same_Some new.cell of.plan (sym new.there ∙ of.there) in
-          let fit = rows_fit x.cell (cell_wanted net x.cell) of.cell (get_or covers x.cell None) (record { plan = has.plan; form = form_at rows.forms.items x.cell }) new.cell of.wanted (below.each x.cell low) has.rows new.is in
+          let fit = rows_fit x.cell (cell_wanted net x.cell) of.cell (get_or covers x.cell None) (record { plan = has.plan; form = form_at rows.forms.items x.cell }) new.cell of.wanted (covers_at x.cell low) has.rows new.is in
           let rows_are : new.cell.rows ≡ x.rows = ap (λ (p : CellPlan). p.rows) same ∙ sym of.rows in
           record {
             cell = of.cell;
@@ -190,7 +194,7 @@ module _ (t : Table) (laws : IsDevice t) (net : Netlist) (sound : IsSoundNetlist
             rows = subst (HoldsCubes t fitted.fuses (cell_at t x.cell).first (cell_at t x.cell).room) rows_are (is.burned.cells x.cell new.cell low new.there fit);
             rise = subst (Rises t.columns) rows_are new.is.rise;
             direct_first = λ free on.
-                direct_over x.cell (cell_wanted net x.cell) of.cell (get_or covers x.cell None) (record { plan = has.plan; form = form_at rows.forms.items x.cell }) of.wanted (below.each x.cell low) has.rows
+                direct_over x.cell (cell_wanted net x.cell) of.cell (get_or covers x.cell None) (record { plan = has.plan; form = form_at rows.forms.items x.cell }) of.wanted (covers_at x.cell low) has.rows
                 (sym (says_inverted t laws plan rows.forms.items fitted.fuses is.burned x.cell low free) ∙ on);
           }
 
@@ -199,7 +203,7 @@ module _ (t : Table) (laws : IsDevice t) (net : Netlist) (sound : IsSoundNetlist
       in_order c w low asked =
           let has = are.each c low in
           let new = is.turned_are.each c has.plan has.there in
-          let fit = rows_fit c (cell_wanted net c) w (get_or covers c None) (record { plan = has.plan; form = form_at rows.forms.items c }) new.cell asked (below.each c low) has.rows new.is in
+          let fit = rows_fit c (cell_wanted net c) w (get_or covers c None) (record { plan = has.plan; form = form_at rows.forms.items c }) new.cell asked (covers_at c low) has.rows new.is in
           rows_in_order t fitted.fuses c new.cell.rows laws.sizes.columns_low (is.burned.cells c new.cell low new.there fit)
           (cell_single t laws net both plan rows.forms.items fitted.fuses plans is.burned c (cell_wanted net c) new.cell (form_at rows.forms.items c) (cell_plans c low).planned)
           new.is.rise

@@ -5,15 +5,17 @@ use Rattle.pld_device.specs.Table.{Table}
 use Rattle.bit_expr.specs.declared.netlist.Netlist.{Netlist}
 use Rattle.fit_laws.specs.Plans.{cell_wanted}
 use Rattle.cell_covers.specs.declared.covering.CellCovers.{CellCovers}
-use Rattle.cell_covers.specs.Covered.{HasCoversAs}
+use Rattle.cell_covers.specs.Covered.{HasCheckedAs, HasCoversAs}
 use Rattle.cell_covers.specs.Width.{IsFirstWide}
 use Rattle.fitter.specs.declared.fault.FitFault.{FitFault}
 use Rattle.fitter.specs.declared.fault.FitFault.TheVariants as fault
+use Rattle.fitter.specs.Planned.{EachFitsBelow}
 
--- the covers of the cells below a number
+-- the cells below a number are not too wide, and have their covers as far as each cell before has one that fits
 pub record CoversBelow (t : Table) (mask : ℕ) (net : Netlist) (c : ℕ) (list : List (Option CellCovers)) : Type 0 where
   pub count : length list ≡ c
-  pub each : (d : ℕ) → d < c → HasCoversAs t mask net (cell_wanted net d) (get_or list d None)
+  pub each : (d : ℕ) → d < c → HasCheckedAs t mask net (cell_wanted net d) (get_or list d None)
+  pub tried : (d : ℕ) → d < c → EachFitsBelow t list d → HasCoversAs t mask net (cell_wanted net d) (get_or list d None)
 
 -- those of all cells; TooWide with the first cell that is, by the place of its target
 abbrev pub AreCovered : Table → (mask : ℕ) → Netlist → Result (Vec (Option CellCovers)) FitFault → Type 0

@@ -1,24 +1,83 @@
 //! The covers of the assigned cells and of their enables.
 
-ghost use Rattle.std.specs.Prelude.{◌≡◌, ◌≤◌};
+ghost use Rattle.std.specs.Prelude.{◌≡◌, ◌⊎◌, ◌<◌, ◌≤◌, Ok, false, length, true};
 ghost use Rattle.abel_meaning.specs.SoundIds.{IsSoundNetlist};
+ghost use Rattle.cell_covers.specs.Covered.{IsCheckedAt, IsCoveredAt};
+ghost use Rattle.fit_cells.specs.Choices.{FitsRoom};
 ghost use Rattle.fitter.specs.Covered.{AreCovered};
+ghost use Rattle.fitter.specs.Planned.{OneFitsAt};
 
 use crate::fault::FitFault;
 use bit_expr::Netlist;
-use cell_covers::{CellCovers, cover_at, first_wide};
-use cube_pool::CubePool;
+use cell_covers::{CellCovers, check_at, cover_at, first_wide};
+use cube_pool::{Cube, CubePool};
 use pld_device::Device;
 use sop_lowering::LowerFault;
 use std::alloc::Global;
 
+/// Whether there is a cover that fits the room.
+fn fits(cover: &Option<Vec<Cube>>, room: usize) -> bool
+    ensures { result ≡ false → FitsRoom room cover.now → ⊥ }
+{
+    match cover {
+        Some(rows) => rows.len() <= room,
+        None => false,
+    }
+}
+
+/// Whether no cover of the cell fits its room.
+fn is_over<D: Device>(cell: u8, covers: &Option<CellCovers>) -> bool
+    requires { cell < length D.table.cells }
+    ensures { result ≡ true → OneFitsAt D.table cell covers.now → ⊥ }
+{
+    let Some(found) = covers else {
+        return false;
+    };
+    let room = D::cell(cell).room as usize;
+    !fits(&found.tried.direct, room) && !fits(&found.tried.inverted, room)
+}
+
+/// Whether a cell is refused for its rows: one before, or else this one where that is asked.
+fn is_refused<D: Device>(before: bool, stops: bool, cell: u8, covers: &Option<CellCovers>) -> bool
+    requires { cell < length D.table.cells }
+    ensures { result ≡ true → (before ≡ true) ⊎ (OneFitsAt D.table cell covers.now → ⊥) }
+{
+    if before {
+        return true;
+    }
+    stops && is_over::<D>(cell, covers)
+}
+
+/// The covers of the cell of a number; behind a cell that is refused only that of its enable.
+fn next_covers<D: Device>(
+    alloc: Global,
+    pool: &mut CubePool,
+    net: &Netlist,
+    cell: u8,
+    turned: u32,
+    refused: bool,
+) -> Result<Option<CellCovers>, LowerFault>
+    requires sound { IsSoundNetlist D.table net.now }
+    requires spare { 27672 ≤ pool.old.spare }
+    ensures same { pool.new ≡ pool.old }
+    ensures checked { IsCheckedAt D.table turned net.now cell result }
+    ensures covered { refused ≡ false → IsCoveredAt D.table turned net.now cell result }
+{
+    if refused {
+        check_at::<D>(alloc, pool, net, cell, turned)
+    } else {
+        cover_at::<D>(alloc, pool, net, cell, turned)
+    }
+}
+
 /// The covers of all assigned cells, one entry a cell of the device; or, of the cells that are too wide, the first in the
-/// source.
+/// source. With `stops` the functions of the cells behind the first that is over its room are not covered.
 pub(crate) fn cover_cells<D: Device>(
     alloc: Global,
     pool: &mut CubePool,
     net: &Netlist,
     turned: u32,
+    stops: bool,
 ) -> Result<Vec<Option<CellCovers>>, FitFault>
     requires sound { IsSoundNetlist D.table net.now }
     requires spare { 27672 ≤ pool.old.spare }
@@ -26,9 +85,13 @@ pub(crate) fn cover_cells<D: Device>(
     ensures covered { AreCovered D.table turned net.now result }
 {
     let mut list = Vec::new(alloc);
+    let mut refused = false;
     for cell in 0..D::CELLS {
-        match cover_at::<D>(alloc, pool, net, cell, turned) {
-            Ok(covers) => list.push(covers)?,
+        match next_covers::<D>(alloc, pool, net, cell, turned, refused) {
+            Ok(covers) => {
+                refused = is_refused::<D>(refused, stops, cell, &covers);
+                list.push(covers)?;
+            }
             Err(LowerFault::TooWide) => {
                 let first = first_wide::<D>(alloc, pool, net, cell, turned)?;
                 return Err(FitFault::TooWide(first));

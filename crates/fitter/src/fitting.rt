@@ -123,7 +123,7 @@ pub fn fit<D: Device>(alloc: Global, net: &Netlist) -> Result<Fitted, FitFault>
     fitted_runs();
     let mut pool = CubePool::with_room(alloc, POOL)?;
     let turned = turn_mask::<D>(net);
-    let covers = cover_cells::<D>(alloc, &mut pool, net, turned)?;
+    let covers = cover_cells::<D>(alloc, &mut pool, net, turned, true)?;
     let shared = shared_rows::<D>(alloc, &mut pool, net, turned)?;
     check_enables(&covers)?;
     let rows = plan_cells::<D>(alloc, covers)?;

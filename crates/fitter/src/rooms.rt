@@ -94,7 +94,7 @@ pub fn cells_over_room<D: Device>(
     ensures { IfOk result (λ list. All IsOver list) }
 {
     let mut pool = CubePool::with_room(alloc, POOL)?;
-    let mut left = cover_cells::<D>(alloc, &mut pool, net, turn_mask::<D>(net))?;
+    let mut left = cover_cells::<D>(alloc, &mut pool, net, turn_mask::<D>(net), false)?;
     let mut list = Vec::new(alloc);
     for cell in 0..D::CELLS {
         let covers = taken(&mut left, cell as usize);

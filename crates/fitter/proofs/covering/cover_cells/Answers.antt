@@ -1,22 +1,40 @@
-use Rattle.std.proofs.Common.{◌+◌, List, refl, subst, sym, ◌∙◌, arith, Option}
+use Rattle.std.proofs.Common.{◌+◌, List, inl, inr, refl, subst, sym, ◌∙◌, arith, Option}
+use Rattle.std.proofs.lemmas.Bool.{cases_Bool}
 use Rattle.cell_covers.specs.declared.covering.CellCovers.{CellCovers}
 use Rattle.fitter.specs.Covered.{CoversBelow}
-use Rattle.fitter.proofs.CoversInTurn.{below_more, below_none, first_number}
+use Rattle.fitter.proofs.CoversInTurn.{IsRefused, below_more, below_none, first_number, none_refused, refused_more}
 use Rattle.fitter.proofs.covering.cover_cells.Goals as goal
 
 pub loop-cell-init : goal.loop-cell-init
-loop-cell-init g c = record { same = refl; below = rw c.new-list.ensures.items (below_none g.D.Device.table c.args.turned c.args.net.now) }
+loop-cell-init g c = record {
+  same = refl;
+  below = rw c.new-list.ensures.items (below_none g.D.Device.table c.args.turned c.args.net.now);
+  refused = rw c.new-list.ensures.items (none_refused g.D.Device.table);
+}
 
 pub loop-cell-preserved : goal.loop-cell-preserved
-loop-cell-preserved g c = record {
-  same = c.cover_at.ensures.same ∙ c.loop-cell.invariant.same;
-  below = subst (λ (xs : List (Option CellCovers)). CoversBelow g.D.Device.table c.args.turned c.args.net.now (c.loop-cell.cell + 1) xs) (sym c.in_ok-push-in-Ok.ensures.items)
-      (below_more g.D.Device.table c.args.turned c.args.net.now c.loop-cell.cell c.loop-cell.list.items c.in-Ok.covers c.loop-cell.invariant.below c.in-Ok.ensures.covered);
-}
+loop-cell-preserved g c =
+    let t = g.D.Device.table in
+    let before = c.loop-cell.invariant in
+    let cell = c.loop-cell.cell in
+    let list = c.loop-cell.list.items in
+    record {
+      same = c.next_covers.ensures.same ∙ before.same;
+      below = subst (λ (xs : List (Option CellCovers)). CoversBelow t c.args.turned c.args.net.now (cell + 1) xs) (sym c.in_ok-push-in-Ok.ensures.items)
+          (below_more t c.args.turned c.args.net.now cell list c.in-Ok.covers before.below c.in-Ok.ensures.checked (λ fit. elim (cases_Bool c.loop-cell.refused) [
+            | inl yes-is ↦ absurd (before.refused yes-is fit)
+            | inr no-is ↦ c.in-Ok.ensures.covered no-is
+          ]));
+      refused = subst (λ (xs : List (Option CellCovers)). IsRefused t xs (cell + 1) c.is_refused-refused.result) (sym c.in_ok-push-in-Ok.ensures.items)
+          (refused_more t list c.in-Ok.covers cell c.loop-cell.refused c.is_refused-refused.result before.below.count before.refused c.is_refused-refused.ensures);
+    }
+
+pub is_refused-refused-requires : goal.is_refused-refused-requires
+is_refused-refused-requires g c = omega (arith, c.loop-cell-test.true, c.CELLS-cell-end.ensures, g.met.D.Device.cells_is)
 
 pub first_wide-requires-clause-wide : goal.first_wide-requires-clause-wide
 first_wide-requires-clause-wide g c =
-    first_number g.D.Device.table c.args.turned c.args.net.now c.loop-cell.cell c.loop-cell.list.items c.loop-cell.invariant.below (rw c.in-Err-TooWide.field-0-is at c.in-Err-TooWide.ensures.covered)
+    first_number g.D.Device.table c.args.turned c.args.net.now c.loop-cell.cell c.loop-cell.list.items c.loop-cell.invariant.below (rw c.in-Err-TooWide.field-0-is at c.in-Err-TooWide.ensures.checked)
 
 pub returns-clause-covered : goal.returns-clause-covered
 returns-clause-covered g c =
