@@ -1,9 +1,8 @@
-//! The array of a device with its fuses, and what its cells drive and store at a point.
+//! The array of a device with its fuses: which rows can be true, what they read, and what its cells are.
 #![tactic(auto)]
 
 mod array;
 mod lookups;
-mod macrocells;
 mod rows;
 
 pub use array::FuseArray;
