@@ -1,3 +1,4 @@
+pub mod JoinedWords
 pub mod MaskLaws
 pub mod MaskedPoints
 pub mod PairedRows

@@ -1,6 +1,6 @@
 //! What a row asks of a point.
 
-ghost use Rattle.std.specs.Prelude.{◌≡◌, ◌<◌, Bool, List, false, length, true};
+ghost use Rattle.std.specs.Prelude.{◌≡◌, ◌+◌, ◌*◌, ◌^◌, ◌<◌, Bool, List, false, length, true};
 ghost use Rattle.pld_base.specs.Bits.{bits, is_on, same_level};
 ghost use Rattle.pld_base.specs.Points.{IsPoint, Levels, levels_of};
 ghost use Rattle.cube_pool.specs.Cubes.{has_point};
@@ -16,15 +16,22 @@ pub struct RowMask {
     pub q: Cube,
 }
 
+/// Two words as one, the second in the upper half.
+fn joined(lower: u32, upper: u32) -> u64
+    ensures words { result ≡ upper * 2 ^ 32 + lower }
+    ensures lower { lower < 2 ^ 32 }
+{
+    u64::from(upper) << 32 | u64::from(lower)
+}
+
 /// Whether the levels are those that the cube asks.
 fn has_levels(cube: Cube, levels: u32) -> bool
     ensures { result ≡ has_point cube (bits 32 levels) }
 {
-    let own = Cube {
-        yes: levels,
-        no: !levels,
-    };
-    own.meets(cube)
+    // Both kinds of literals in one test: a 1 that is asked is missing where the level is 0, a 0 where it is 1.
+    let asked = joined(cube.yes, cube.no);
+    let missing = joined(!levels, levels);
+    asked & missing == 0
 }
 
 /// Whether the literals of a cube and those in two numbers are nowhere opposite.

@@ -1,6 +1,11 @@
 use Rattle.std.proofs.Common.{◌∙◌}
+use Rattle.std.specs.Int.{bit_not, w32}
+use Rattle.row_masks.proofs.JoinedWords.{joined_meets}
 use Rattle.row_masks.proofs.MaskedPoints.{meets_own}
 use Rattle.row_masks.proofs.row_mask.has_levels.Goals as goal
 
 pub returns : goal.returns
-returns c = c.meets.ensures ∙ meets_own c.args.levels c.ranges.levels.fits c.args.cube
+returns c =
+    rw (c.joined-asked.ensures.words, c.joined-missing.ensures.words)
+    (joined_meets c.args.cube c.args.levels (bit_not w32 c.args.levels) c.joined-asked.ensures.lower c.joined-missing.ensures.lower
+    ∙ meets_own c.args.levels c.ranges.levels.fits c.args.cube)
