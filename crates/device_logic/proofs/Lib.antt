@@ -1,9 +1,11 @@
 pub mod CellsOrdered
 pub mod FreeReads
 pub mod Loads
+pub mod MaskedRows
 pub mod OneLayer
 pub mod OneRun
 pub mod ReadCells
 pub mod ResetReads
 pub mod SameCells
 pub mod SameOrders
+pub mod SomeRows

@@ -6,6 +6,7 @@ mod graphs;
 mod laws;
 mod loading;
 mod logic;
+mod macrocells;
 mod reads;
 
 pub use fault::SimFault;

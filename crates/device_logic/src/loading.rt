@@ -17,6 +17,7 @@ use crate::logic::DeviceLogic;
 use device_array::{FuseArray, cell_of};
 use pld_base::OutOfMemory;
 use pld_device::{Device, Fuses};
+use row_masks::row_masks;
 use std::alloc::Global;
 
 /// The pins of a list of cells.
@@ -34,8 +35,8 @@ fn pins_of<D: Device>(alloc: Global, cells: &[u8]) -> Result<Vec<u8>, OutOfMemor
 /// The device with these fuses, its cells in an order in which each reads earlier ones alone.
 ///
 /// Answers `DeviceLoop` where the cells have none, and else `DeviceResetReadsRegister` where the reset
-/// depends on a register; never `UnsupportedCondition`. Takes memory for the fuses and a flag for each
-/// row, or for the pins of a fault.
+/// depends on a register; never `UnsupportedCondition`. Takes memory for the fuses, and a flag and a
+/// mask for each row, or for the pins of a fault.
 pub fn load<D: Device>(alloc: Global, fuses: &Fuses) -> Result<DeviceLogic<D>, SimFault>
     requires { length fuses.now ≡ D.table.fuses }
     ensures fuses { IfOk result (λ l. l.fuses ≡ fuses.now) }
@@ -59,7 +60,10 @@ pub fn load<D: Device>(alloc: Global, fuses: &Fuses) -> Result<DeviceLogic<D>, S
                 let pins = pins_of::<D>(alloc, path.as_slice())?;
                 Err(SimFault::DeviceResetReadsRegister(pins))
             }
-            None => Ok(DeviceLogic::new(array, order)),
+            None => {
+                let masks = row_masks::<D>(alloc, fuses)?;
+                Ok(DeviceLogic::new(array, masks, order))
+            }
         },
     }
 }

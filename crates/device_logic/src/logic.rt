@@ -1,6 +1,9 @@
 //! A device with its fuses as a logic.
 
-ghost use Rattle.std.specs.Prelude.{◌≡◌};
+ghost use Rattle.std.specs.Prelude.{◌≡◌, ◌<◌};
+ghost use Rattle.pld_base.specs.Points.{levels_of};
+ghost use Rattle.pld_device.specs.Rows.{row_value};
+ghost use Rattle.row_masks.specs.RowMasks.{AreMasks, IsMask};
 ghost use Rattle.device_logic.specs.CellReads.{IsCellOrder};
 
 use arrayvec::ArrayVec;
@@ -8,37 +11,78 @@ use device_array::{FuseArray, cell_of};
 use pld_base::Point;
 use pld_device::Device;
 use pld_machine::{Logic, Slot};
+use row_masks::RowMask;
 use std::marker::Model;
 
 /// A device with its fuses, as a logic; contracts see its fuses and the order of its cells.
 ///
-/// Its look-ups take no memory. A row costs a look at its fuses up to the first connected column
-/// that carries 0, and nothing where its own fuses keep it at 0.
+/// Its look-ups take no memory. A row costs a test or two of its mask, which was made of its fuses once.
 #[derive(Drop)]
 pub struct DeviceLogic<D: Device> {
     array: FuseArray<D>,
+    masks: Vec<RowMask>,
     order: ArrayVec<u8, 256>,
 }
 
 impl<D: Device> Model for DeviceLogic<D> {
-    ghost use Rattle.device_logic.specs.CellReads.{IsCellOrder};
     ghost use Rattle.device_logic.specs.DeviceLookups.{Loaded};
+    ghost use Rattle.device_logic.specs.Masked.{IsMaskedInOrder};
 
     ghost Value = { Loaded };
 
     ghost view = { λ l. record { fuses = l.array; order = l.order.items } };
 
-    ghost invariant = { λ l. IsCellOrder D.table l.array l.order.items };
+    ghost invariant = { λ l. IsMaskedInOrder D.table l.array l.masks.items l.order.items };
 }
 
 impl<D: Device> DeviceLogic<D> {
-    /// The logic of an array, its cells in this order.
-    pub(crate) fn new(array: FuseArray<D>, order: ArrayVec<u8, 256>) -> DeviceLogic<D>
-        requires { IsCellOrder D.table array order.items }
+    /// The logic of an array with the masks of its rows, its cells in this order.
+    pub(crate) fn new(
+        array: FuseArray<D>,
+        masks: Vec<RowMask>,
+        order: ArrayVec<u8, 256>,
+    ) -> DeviceLogic<D>
+        requires masks { AreMasks D.table array masks.items }
+        requires order { IsCellOrder D.table array order.items }
         ensures fuses { result.fuses ≡ array }
         ensures order { result.order ≡ order.items }
     {
-        DeviceLogic { array, order }
+        DeviceLogic {
+            array,
+            masks,
+            order,
+        }
+    }
+
+    /// The array with the fuses.
+    pub fn array(&self) -> &FuseArray<D>
+        ensures { result.now ≡ self.now.fuses }
+    {
+        &self.array
+    }
+
+    /// The mask of a row.
+    pub fn mask(&self, row: u16) -> RowMask
+        requires { row < D.table.rows }
+        ensures { IsMask D.table self.now.fuses row result }
+    {
+        self.masks[usize::from(row)]
+    }
+
+    /// Whether the row of this place is true at a point.
+    pub(crate) fn holds_at(&self, at: &Point, row: usize) -> bool
+        requires { row < D.table.rows }
+        ensures { result ≡ row_value D.table self.now.fuses (levels_of at.now) row }
+    {
+        self.masks[row].holds(at)
+    }
+
+    /// Whether the row is true at a point.
+    pub(crate) fn row_value(&self, at: &Point, row: u16) -> bool
+        requires { row < D.table.rows }
+        ensures { result ≡ row_value D.table self.now.fuses (levels_of at.now) row }
+    {
+        self.holds_at(at, usize::from(row))
     }
 }
 
@@ -72,11 +116,11 @@ impl<D: Device> Logic for DeviceLogic<D> {
     }
 
     fn enable(&self, at: &Point, cell: u8) -> bool {
-        self.array.is_enabled(at, cell)
+        self.is_enabled(at, cell)
     }
 
     fn level(&self, at: &Point, cell: u8) -> bool {
-        self.array.pin_level(at, cell)
+        self.pin_level(at, cell)
     }
 
     fn node(&self, _at: &Point, _node: u8) -> bool {
@@ -84,14 +128,14 @@ impl<D: Device> Logic for DeviceLogic<D> {
     }
 
     fn reset(&self, at: &Point, _cell: u8) -> bool {
-        self.array.reset(at)
+        self.row_if_any(at, D::RESET)
     }
 
     fn preset(&self, at: &Point, _cell: u8) -> bool {
-        self.array.preset(at)
+        self.row_if_any(at, D::PRESET)
     }
 
     fn next(&self, at: &Point, cell: u8) -> bool {
-        self.array.next_q(at, cell)
+        self.next_q(at, cell)
     }
 }

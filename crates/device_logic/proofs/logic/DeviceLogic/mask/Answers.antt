@@ -1,0 +1,13 @@
+use Rattle.std.proofs.Common.{get_or, ap, ◌∙◌}
+use Rattle.pld_device.specs.Rows.{row_value}
+use Rattle.device_logic.specs.DeviceLookups.{Loaded}
+use Rattle.row_masks.specs.RowMasks.{holds}
+use Rattle.row_masks.specs.declared.row_mask.RowMask.{RowMask}
+use Rattle.device_logic.proofs.logic.DeviceLogic.mask.Goals as goal
+
+pub returns : goal.returns
+returns g c = λ at is.
+    ap (λ (m : RowMask). holds m at) c.index.ensures
+    ∙ (ap (λ k. holds (get_or c.self.inside.masks.items k c.index.result.now) at) c.from.ensures
+    ∙ (c.self.invariant.masked.each c.args.row c.index.result.now c.requires at is
+    ∙ ap (λ (l : Loaded). row_value g.D.Device.table l.fuses at c.args.row) c.self.view_is))

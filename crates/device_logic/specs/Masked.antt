@@ -1,0 +1,11 @@
+-- Private: what a loaded device keeps (this project's rule).
+use Rattle.std.specs.Prelude.{ℕ, Bool, List}
+use Rattle.pld_device.specs.Table.{Table}
+use Rattle.row_masks.specs.RowMasks.{AreMasks}
+use Rattle.row_masks.specs.declared.row_mask.RowMask.{RowMask}
+use Rattle.device_logic.specs.CellReads.{IsCellOrder}
+
+-- the masks are those of the device's rows, and each of its cells waits for earlier ones alone
+pub record IsMaskedInOrder (t : Table) (fuses : List Bool) (masks : List RowMask) (order : List ℕ) : Type 0 where
+  pub masked : AreMasks t fuses masks
+  pub ordered : IsCellOrder t fuses order
