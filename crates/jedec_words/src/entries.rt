@@ -9,12 +9,12 @@ use crate::words::{first_word, is_blank, level_of, short_number};
 use std::alloc::{AllocError, Global};
 
 /// The levels that all bytes of the words are, a byte for each; `None` where one of them is no
-/// level.
+/// level. Takes memory once.
 #[tactic(auto, using(std::proofs::lemmas::List::drop_more, crate::proofs::EntryLemmas::each_next, crate::proofs::EntryLemmas::each_none,))]
 pub fn levels(alloc: Global, text: &[u8]) -> Result<Option<Vec<bool>>, AllocError>
     ensures { IfOk result (λ found. option_map (λ v. v.items) found ≡ levels_in text.now) }
 {
-    let mut levels = Vec::new(alloc);
+    let mut levels = Vec::with_capacity(alloc, text.len())?;
     for byte in text {
         if !is_blank(*byte) {
             match level_of(*byte) {
@@ -26,12 +26,12 @@ pub fn levels(alloc: Global, text: &[u8]) -> Result<Option<Vec<bool>>, AllocErro
     Ok(Some(levels))
 }
 
-/// All bytes of the words.
+/// All bytes of the words. Takes memory once.
 #[tactic(auto, using(std::proofs::lemmas::List::drop_more))]
 pub fn characters(alloc: Global, text: &[u8]) -> Result<Vec<u8>, AllocError>
     ensures { IfOk result (λ v. v.items ≡ characters_in text.now) }
 {
-    let mut characters = Vec::new(alloc);
+    let mut characters = Vec::with_capacity(alloc, text.len())?;
     for byte in text {
         if !is_blank(*byte) {
             characters.push(*byte)?;
