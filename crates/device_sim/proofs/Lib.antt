@@ -4,5 +4,7 @@ pub mod FoundAt
 pub mod Loaded
 pub mod OneList
 pub mod Outsides
+pub mod PowerUp
 pub mod Shown
 pub mod Vectors
+pub mod WithoutRegisters

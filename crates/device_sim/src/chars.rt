@@ -4,7 +4,7 @@ ghost use Rattle.std.specs.Prelude.{◌≡◌, ◌<◌, ◌≤◌, ◌^◌, code
 ghost use Rattle.std.specs.List.{list_any};
 ghost use Rattle.jedec_file.specs.Fields.{is_among};
 ghost use Rattle.device_sim.specs.Simulated.{first_unsupported, is_unsupported};
-ghost use Rattle.device_sim.specs.VectorRun.{has_clock, is_tested};
+ghost use Rattle.device_sim.specs.VectorRun.{has_clock};
 ghost use Rattle.device_sim.specs.VectorSteps.{all_chars_at, chars_at, level_for};
 
 use pld_base::Vector;
@@ -43,13 +43,6 @@ pub fn has_clock(chars: &[u8]) -> bool
     ensures { result ≡ has_clock chars.now }
 {
     chars.iter().any(|char| is_clock(*char))
-}
-
-/// Whether the character tests a pin.
-pub fn is_tested(char: u8) -> bool
-    ensures { result ≡ is_tested char }
-{
-    matches!(char, b'H' | b'L' | b'Z')
 }
 
 /// Whether the character is one that is not simulated: super voltages, buried preload, preload and

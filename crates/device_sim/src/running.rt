@@ -1,6 +1,7 @@
 //! The run that test vectors drive, over any logic.
 
 ghost use Rattle.std.specs.Prelude.{◌≡◌, ◌<◌, ◌≤◌, ◌^◌, length, IfOk, Some, None, option_map};
+ghost use Rattle.std.specs.List.{list_any, range_with_len};
 ghost use Rattle.pld_base.specs.Bits.{bits};
 ghost use Rattle.pld_base.specs.Points.{levels_of};
 ghost use Rattle.pld_machine.specs.Order.{IsOrdered};
@@ -16,7 +17,21 @@ use pld_base::{OutOfMemory, Point, Vector};
 use pld_machine::{Logic, rest, step};
 use std::alloc::Global;
 
+/// Whether some cell is a register.
+pub fn has_register<L: Logic>(logic: &L) -> bool
+    ensures { result ≡ list_any (L.meaning logic.now).stores
+        (range_with_len 0 (L.meaning logic.now).cells) }
+{
+    for cell in 0..logic.cells() {
+        if logic.stores(cell) {
+            return true;
+        }
+    }
+    false
+}
+
 /// The next point: after a step, or at rest from power-up where there is none before.
+#[inline(always)]
 fn point_after<L: Logic>(logic: &L, before: Option<Point>, outside: u32) -> Point
     requires { IsOrdered (L.meaning logic.now) }
     ensures { levels_of result
@@ -29,7 +44,8 @@ fn point_after<L: Logic>(logic: &L, before: Option<Point>, outside: u32) -> Poin
 }
 
 /// The point at which a vector is tested: with a clock, after two further steps.
-pub fn point_of<L: Logic>(logic: &L, before: Option<Point>, chars: &[u8], default: bool) -> Point
+#[inline(always)]
+fn point_in_steps<L: Logic>(logic: &L, before: Option<Point>, chars: &[u8], default: bool) -> Point
     requires ordered { IsOrdered (L.meaning logic.now) }
     requires few { length chars.now ≤ 31 }
     ensures { last_after (L.meaning logic.now) (option_map levels_of before)
@@ -42,6 +58,31 @@ pub fn point_of<L: Logic>(logic: &L, before: Option<Point>, chars: &[u8], defaul
         point_after(logic, Some(turned), outside)
     } else {
         at
+    }
+}
+
+/// The point at which a vector is tested, where it is known whether some cell is a register.
+///
+/// Where none is, a step only comes to rest: clocks that are turned and turned back change nothing.
+#[inline(always)]
+pub fn point_of<L: Logic>(
+    logic: &L,
+    stores: bool,
+    before: Option<Point>,
+    chars: &[u8],
+    default: bool,
+) -> Point
+    requires ordered { IsOrdered (L.meaning logic.now) }
+    requires stores { stores ≡ list_any (L.meaning logic.now).stores
+        (range_with_len 0 (L.meaning logic.now).cells) }
+    requires few { length chars.now ≤ 31 }
+    ensures { last_after (L.meaning logic.now) (option_map levels_of before)
+        (outsides_of default chars.now) ≡ Some (levels_of result) }
+{
+    if stores {
+        point_in_steps(logic, before, chars, default)
+    } else {
+        rest(logic, outside_of(chars, false, default), 0)
     }
 }
 
@@ -59,11 +100,12 @@ pub fn run_vectors<L: Logic>(
     ensures { IfOk result (λ list. list.items
         ≡ mismatches_after (L.meaning logic.now) default 1 None (all_chars_at pins vectors.now)) }
 {
+    let stores = has_register(logic);
     let mut found = Vec::new(alloc);
     let mut before = None;
     for (index, vector) in vectors.iter().enumerate() {
         let chars = chars_of(vector, pins);
-        let at = point_of(logic, before, chars, default);
+        let at = point_of(logic, stores, before, chars, default);
         test_pins(&mut found, logic, &at, index as u32 + 1, chars)?;
         before = Some(at);
     }

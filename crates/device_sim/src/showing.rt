@@ -8,7 +8,7 @@ ghost use Rattle.device_sim.specs.Traced.{IsTraced};
 ghost use Rattle.device_sim.specs.VectorSteps.{ShownAfter, all_chars_at};
 
 use crate::chars::chars_of;
-use crate::running::point_of;
+use crate::running::{has_register, point_of};
 use device_logic::{SimFault, load};
 use jedec_reader::FuseFile;
 use pld_base::{ListOf, OutOfMemory, Trace, Vector};
@@ -39,10 +39,11 @@ fn trace_vectors<L: Logic>(
     requires pins { pins ≤ 24 }
     ensures { IfOk result (λ list. ShownAfter (L.meaning logic.now) default None (all_chars_at pins vectors.now) list.items) }
 {
+    let stores = has_register(logic);
     let mut shown = Vec::new(alloc);
     let mut before = None;
     for vector in vectors {
-        let at = point_of(logic, before, chars_of(vector, pins), default);
+        let at = point_of(logic, stores, before, chars_of(vector, pins), default);
         shown.push(trace(logic, &at))?;
         before = Some(at);
     }

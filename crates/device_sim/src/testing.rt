@@ -1,13 +1,12 @@
 //! What is found at the pins of a point, against a vector's characters.
 
-ghost use Rattle.std.specs.Prelude.{◌≡◌, ◌+◌, ◌++◌, ◌<◌, ◌≤◌, length, IfOk};
+ghost use Rattle.std.specs.Prelude.{◌≡◌, ◌==◌, ◌&&◌, ◌+◌, ◌++◌, ◌<◌, ◌≤◌, length, not, IfOk};
 ghost use Rattle.pld_base.specs.Bits.{bits, is_on};
 ghost use Rattle.pld_base.specs.Points.{levels_of};
 ghost use Rattle.pld_machine.specs.Lookups.{logic_of};
 ghost use Rattle.pld_machine.specs.Order.{HasPins};
-ghost use Rattle.device_sim.specs.VectorRun.{found, if_mismatch, vector_mismatches};
+ghost use Rattle.device_sim.specs.VectorRun.{found, if_mismatch, is_tested, vector_mismatches};
 
-use crate::chars::is_tested;
 use crate::report::Mismatch;
 use pld_base::{OutOfMemory, Point, Trace, level_at};
 use pld_machine::{Logic, trace};
@@ -24,12 +23,46 @@ fn found_at(shown: Trace, pin: u8) -> u8
     }
 }
 
-/// Adds a mismatch where the character tests its pin and something else is found there.
-fn add_mismatch(list: &mut Vec<Mismatch>, seen: Mismatch) -> Result<(), OutOfMemory>
-    ensures { IfOk result (λ _. list.new.items ≡ list.old.items ++ if_mismatch seen) }
+/// Whether the character tests its pin and something else is found there.
+fn disagrees(shown: Trace, pin: u8, expects: u8) -> bool
+    requires { pin < 32 }
+    ensures { result ≡ (is_tested expects && not (expects == found
+        (is_on (bits 32 shown.driven) pin) (is_on (bits 32 shown.level) pin))) }
 {
-    if is_tested(seen.expects) && seen.expects != seen.finds {
-        list.push(seen)?;
+    match expects {
+        b'H' => !level_at(shown.driven, pin) || !level_at(shown.level, pin),
+        b'L' => !level_at(shown.driven, pin) || level_at(shown.level, pin),
+        b'Z' => level_at(shown.driven, pin),
+        _ => false,
+    }
+}
+
+/// Adds a mismatch where the character tests its pin and something else is found there.
+fn test_pin(
+    list: &mut Vec<Mismatch>,
+    shown: Trace,
+    vector: u32,
+    pin: u8,
+    expects: u8,
+) -> Result<(), OutOfMemory>
+    requires { pin < 32 }
+    ensures { IfOk result (λ _. list.new.items ≡ list.old.items ++ if_mismatch
+        (record {
+          vector = vector;
+          pin = pin;
+          expects = expects;
+          finds = found
+              (is_on (bits 32 shown.driven) pin) (is_on (bits 32 shown.level) pin);
+        })) }
+{
+    if disagrees(shown, pin, expects) {
+        let finds = found_at(shown, pin);
+        list.push(Mismatch {
+            vector,
+            pin,
+            expects,
+            finds,
+        })?;
     }
     Ok(())
 }
@@ -50,14 +83,7 @@ pub fn test_pins<L: Logic>(
 {
     let shown = trace(logic, at);
     for (index, char) in chars.iter().enumerate() {
-        let pin = index as u8 + 1;
-        let seen = Mismatch {
-            vector,
-            pin,
-            expects: *char,
-            finds: found_at(shown, pin),
-        };
-        add_mismatch(list, seen)?;
+        test_pin(list, shown, vector, index as u8 + 1, *char)?;
     }
     Ok(())
 }

@@ -1,13 +1,12 @@
-use Rattle.std.proofs.Common.{refl}
-use Rattle.device_sim.specs.VectorRun.{outsides_of}
+use Rattle.std.proofs.Common.{Some, option_map, sym, ap, ◌∙◌}
+use Rattle.pld_base.specs.Points.{Levels, levels_of}
+use Rattle.device_sim.proofs.PowerUp.{comes_to_rest}
+use Rattle.device_sim.proofs.WithoutRegisters.{vector_is_rest}
 use Rattle.device_sim.proofs.running.point_of.Goals as goal
 
-pub returns-then-has_clock : goal.returns-then-has_clock
-unfolding outsides_of
-returns-then-has_clock g c =
-    rw (← c.has_clock.ensures, c.if-has_clock.true, ← c.outside_of-outside.ensures, ← c.outside_of.ensures, ← c.point_after-at.ensures, ← c.point_after-turned.ensures, ← c.point_after.ensures) refl
-
-pub returns-else-has_clock : goal.returns-else-has_clock
-unfolding outsides_of
-returns-else-has_clock g c =
-    rw (← c.has_clock.ensures, c.if-has_clock.false, ← c.outside_of-outside.ensures, ← c.point_after-at.ensures) refl
+pub returns-else-stores : goal.returns-else-stores
+returns-else-stores g c =
+    let m = g.L.Logic.meaning c.args.logic.now in
+    let rests = comes_to_rest m c.requires.ordered c.outside_of.result c.rest.result c.rest.ensures in
+    vector_is_rest m (sym c.requires.stores ∙ c.if-stores.false) (option_map levels_of c.args.before) c.args.default c.args.chars.now
+    ∙ sym (ap (λ (p : Levels). Some p) (rw c.outside_of.ensures at rests))
