@@ -12,7 +12,6 @@ pub mod GroupCovers
 pub mod Kept
 pub mod LoadedPair
 pub mod Looked
-pub mod MaskedRows
 pub mod Mixed
 pub mod Moving
 pub mod Plain

@@ -4,7 +4,6 @@ pub mod Compared
 pub mod Cut
 pub mod DeviceKnown
 pub mod DeviceReads
-pub mod Masked
 pub mod OneState
 pub mod OwnRows
 pub mod Searching

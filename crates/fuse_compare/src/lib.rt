@@ -10,7 +10,6 @@ mod group;
 mod group_covers;
 mod knowing;
 mod laws;
-mod macrocells;
 mod masked;
 mod own_rows;
 mod reads;

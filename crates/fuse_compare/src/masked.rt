@@ -1,9 +1,7 @@
 //! A device with its fuses as a logic whose rows are masks.
 
 ghost use Rattle.std.specs.Prelude.{◌≡◌, ◌<◌, IfErr, IfOk, length};
-ghost use Rattle.pld_base.specs.Points.{levels_of};
 ghost use Rattle.pld_device.specs.Macrocells.{device_logic};
-ghost use Rattle.pld_device.specs.Rows.{row_value};
 ghost use Rattle.pld_machine.specs.Lookups.{logic_of};
 ghost use Rattle.pld_machine.specs.Order.{IsOrdered};
 ghost use Rattle.pld_machine.specs.Steps.{IsDetermined};
@@ -14,35 +12,32 @@ ghost use Rattle.row_masks.specs.RowMasks.{IsMask};
 ghost use Rattle.fuse_compare.specs.Compared.{CanBeLoaded};
 
 use cube_pool::Cube;
-use device_array::{FuseArray, cell_of};
+use device_array::FuseArray;
 use device_logic::{DeviceLogic, SimFault};
 use pld_base::Point;
 use pld_device::{Device, Fuses};
 use pld_machine::{Logic, Slot};
-use row_masks::{RowMask, pair_cubes, row_masks};
+use row_masks::{RowMask, pair_cubes};
 use std::alloc::Global;
 use std::marker::Model;
 
-/// A device with its fuses, as a logic; contracts see its fuses and the order of its cells.
-///
-/// A look-up costs two tests of bits for each row that it reads, and takes no memory.
+/// A device with its fuses, as a logic, and what its rows ask of the column pairs; contracts see its fuses and the order of
+/// its cells.
 #[derive(Drop)]
 pub struct MaskedLogic<D: Device> {
     logic: DeviceLogic<D>,
-    array: FuseArray<D>,
-    masks: Vec<RowMask>,
     cubes: Vec<Cube>,
 }
 
 impl<D: Device> Model for MaskedLogic<D> {
     ghost use Rattle.device_logic.specs.DeviceLookups.{Loaded};
-    ghost use Rattle.fuse_compare.specs.Masked.{HasMasks};
+    ghost use Rattle.row_masks.specs.PairCubes.{ArePairCubes};
 
     ghost Value = { Loaded };
 
     ghost view = { λ l. l.logic };
 
-    ghost invariant = { λ l. HasMasks D.table l.logic l.array l.masks.items l.cubes.items };
+    ghost invariant = { λ l. ArePairCubes D.table l.logic.fuses l.cubes.items };
 }
 
 impl<D: Device> MaskedLogic<D> {
@@ -58,22 +53,15 @@ impl<D: Device> MaskedLogic<D> {
         ensures refused { IfErr result (IsLoadFault D.table fuses.now) }
     {
         let logic = device_logic::load::<D>(alloc, fuses)?;
-        let array = FuseArray::<D>::new(alloc, fuses)?;
-        let masks = row_masks::<D>(alloc, fuses)?;
         let cubes = pair_cubes::<D>(alloc, fuses)?;
-        Ok(MaskedLogic {
-            logic,
-            array,
-            masks,
-            cubes,
-        })
+        Ok(MaskedLogic { logic, cubes })
     }
 
     /// The array with the fuses.
     pub fn array(&self) -> &FuseArray<D>
         ensures { result.now ≡ self.now.fuses }
     {
-        &self.array
+        self.logic.array()
     }
 
     /// The mask of a row.
@@ -81,7 +69,7 @@ impl<D: Device> MaskedLogic<D> {
         requires { row < D.table.rows }
         ensures { IsMask D.table self.now.fuses row result }
     {
-        self.masks[usize::from(row)]
+        self.logic.mask(row)
     }
 
     /// The cube of a row over the column pairs.
@@ -91,14 +79,6 @@ impl<D: Device> MaskedLogic<D> {
     {
         self.cubes[usize::from(row)]
     }
-
-    /// Whether the row is true at a point.
-    pub fn row_value(&self, at: &Point, row: u16) -> bool
-        requires { row < D.table.rows }
-        ensures { result ≡ row_value D.table self.now.fuses (levels_of at.now) row }
-    {
-        self.mask(row).holds(at)
-    }
 }
 
 impl<D: Device> Logic for MaskedLogic<D> {
@@ -107,19 +87,19 @@ impl<D: Device> Logic for MaskedLogic<D> {
     ghost meaning = { λ l. device_lookups D.table l.fuses l.order };
 
     fn cells(&self) -> u8 {
-        D::CELLS
+        self.logic.cells()
     }
 
     fn pin(&self, cell: u8) -> u8 {
-        cell_of::<D>(cell).pin
+        self.logic.pin(cell)
     }
 
     fn stores(&self, cell: u8) -> bool {
-        self.array.stores(cell)
+        self.logic.stores(cell)
     }
 
     fn clock(&self) -> u8 {
-        D::CLOCK
+        self.logic.clock()
     }
 
     fn slots(&self) -> u16 {
@@ -131,26 +111,26 @@ impl<D: Device> Logic for MaskedLogic<D> {
     }
 
     fn enable(&self, at: &Point, cell: u8) -> bool {
-        self.is_enabled(at, cell)
+        self.logic.enable(at, cell)
     }
 
     fn level(&self, at: &Point, cell: u8) -> bool {
-        self.pin_level(at, cell)
+        self.logic.level(at, cell)
     }
 
-    fn node(&self, _at: &Point, _node: u8) -> bool {
-        false
+    fn node(&self, at: &Point, node: u8) -> bool {
+        self.logic.node(at, node)
     }
 
-    fn reset(&self, at: &Point, _cell: u8) -> bool {
-        self.row_if_any(at, D::RESET)
+    fn reset(&self, at: &Point, cell: u8) -> bool {
+        self.logic.reset(at, cell)
     }
 
-    fn preset(&self, at: &Point, _cell: u8) -> bool {
-        self.row_if_any(at, D::PRESET)
+    fn preset(&self, at: &Point, cell: u8) -> bool {
+        self.logic.preset(at, cell)
     }
 
     fn next(&self, at: &Point, cell: u8) -> bool {
-        self.next_q(at, cell)
+        self.logic.next(at, cell)
     }
 }

@@ -9,4 +9,4 @@ returns g c =
     let t = g.D.Device.table in
     subst (λ (cube : Cube). IsPairCube t c.args.self.now.fuses c.args.row cube) (sym (c.index.ensures ∙ ap (λ k. get_or c.self.inside.cubes.items k c.index.result.now) c.from.ensures))
     (subst (λ (l : Loaded). IsPairCube t l.fuses c.args.row (get_or c.self.inside.cubes.items c.args.row c.index.result.now)) c.self.view_is
-    (c.self.invariant.are_cubes.each c.args.row c.index.result.now c.requires))
+    (c.self.invariant.each c.args.row c.index.result.now c.requires))

@@ -1,7 +1,0 @@
-use Rattle.std.proofs.Common.{◌≡◌, ℕ, ◌<◌, ◌≤◌, false}
-use Rattle.pld_base.specs.Points.{levels_of}
-use Rattle.pld_device.specs.Rows.{row_value}
-use Rattle.fuse_compare.proofs.masked.MaskedLogic.some_row.Given as goal
-
-abbrev pub invariant-loop-row : goal.invariant-loop-row
-invariant-loop-row g l = (k : ℕ) → l.first ≤ k → k < l.row → row_value g.D.Device.table l.self.fuses (levels_of l.at) k ≡ false

@@ -1,6 +1,0 @@
-use Rattle.std.proofs.Common.{◌∙◌}
-use Rattle.device_array.proofs.Ranges.{preset_if_any}
-use Rattle.fuse_compare.proofs.masked.MaskedLogicLogic.preset.Goals as goal
-
-pub row_if_any-requires : goal.row_if_any-requires
-row_if_any-requires g c = rw (c.PRESET.ensures ∙ g.met.D.Device.preset_is) (preset_if_any g.D.Device.table g.met.D.Device.sound)

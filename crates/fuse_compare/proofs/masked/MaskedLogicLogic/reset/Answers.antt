@@ -1,6 +1,0 @@
-use Rattle.std.proofs.Common.{◌∙◌}
-use Rattle.device_array.proofs.Ranges.{reset_if_any}
-use Rattle.fuse_compare.proofs.masked.MaskedLogicLogic.reset.Goals as goal
-
-pub row_if_any-requires : goal.row_if_any-requires
-row_if_any-requires g c = rw (c.RESET.ensures ∙ g.met.D.Device.reset_is) (reset_if_any g.D.Device.table g.met.D.Device.sound)
