@@ -2,11 +2,12 @@
 use Rattle.std.proofs.Common.{◌≡◌, ℕ, zero, suc, ◌+◌, ◌-◌, ◌<◌, ◌≤◌, nat_le, Bool, true, false, List, [], ◌∷◌, ◌++◌, Some, None, map, take, drop, length, get_or, reverse, if◌then◌else◌, refl, sym, ap, ap₂, ◌∙◌, arith, cond}
 use Rattle.std.specs.Fmt.{decimal}
 use Rattle.std.specs.Str.{bytes_eq}
-use Rattle.std.proofs.lemmas.List.{take_more, take_rest, take-append-drop, reverse-append, reverse-reverse, length-append}
+use Rattle.std.proofs.lemmas.List.{take_more, take_rest, take-append-drop, reverse-append, reverse-reverse, length-append, length-map}
+use Rattle.std.proofs.lemmas.List.FromFn.{length-range_with_len}
 use Rattle.std.proofs.lemmas.List.Sums.{take_while-cons}
 use Rattle.std.proofs.Math.Seq.{drop-append_seam}
 use Rattle.std.specs.List.{range_with_len, take_while, prefix_len}
-use Rattle.abel_tree.specs.Ranges.{is_digit, last_digits, stem, is_run, number_of, numbers_between}
+use Rattle.abel_tree.specs.Ranges.{is_digit, last_digits, stem, is_run, number_of, numbers_between, ends_agree, names_between, range_names}
 use Rattle.name_ranges.specs.RangeParts.{number_at, end_number, names_if_agree}
 
 -- one byte more
@@ -95,3 +96,20 @@ agreed first last from to names e f g h =
     let n = run_number (is_run (last_digits first)) (number_of (last_digits first)) from e in
     let m = run_number (is_run (last_digits last)) (number_of (last_digits last)) to f in
     rw (a, b, g) (ap Some (h ∙ ap₂ (λ i j. map (λ k. stem first ++ decimal k) (numbers_between i j)) (sym n) (sym m)))
+
+-- how many names there are
+counted_names : (st : List ℕ) (from to : ℕ) → length (map (λ k. st ++ decimal k) (numbers_between from to)) ≡ span_length from to
+counted_names st from to =
+    length-map (numbers_between from to) (λ k. st ++ decimal k)
+    ∙ (ap length (numbers_by_place from to)
+    ∙ (length-map (range_with_len 0 (span_length from to)) (number_at from to) ∙ length-range_with_len 0 (span_length from to)))
+
+some_counted : (b : Bool) (names found : List (List ℕ)) → Some found ≡ (if b then Some names else None) → length found ≡ length (if b then names else [])
+some_counted true names found e = ap length cc
+some_counted false names found e = absurd cc
+
+pub counted_range : (first last : List ℕ) (from to n : ℕ) → end_number first ≡ Some from → end_number last ≡ Some to → bytes_eq (stem first) (stem last) ≡ true → n ≡ span_length from to → n ≡ length (range_names first last)
+counted_range first last from to n e f g h =
+    h
+    ∙ (sym (counted_names (stem first) from to)
+    ∙ some_counted (ends_agree first last) (names_between first last) (map (λ k. stem first ++ decimal k) (numbers_between from to)) (agreed first last from to (map (λ k. stem first ++ decimal k) (numbers_between from to)) e f g refl))

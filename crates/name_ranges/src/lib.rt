@@ -3,4 +3,4 @@
 
 mod ranges;
 
-pub use ranges::{is_bad_item, item_list, names_of_range, range_list};
+pub use ranges::{is_bad_item, item_count, item_list, names_of_range, range_list};

@@ -170,6 +170,34 @@ fn ends_in_run(name: &[u8]) -> bool
     end_value(name).is_some()
 }
 
+/// How many names an item of a declaration has, none where it is a range whose ends don't agree. Takes no memory.
+pub fn item_count(item: &Item) -> usize
+    ensures { result ≡ length (item_names item.now) }
+{
+    match &item.last {
+        Some(last) => range_count(item.first.text.bytes(), last.text.bytes()),
+        None => 1,
+    }
+}
+
+/// How many names a range has, none where its ends don't agree.
+fn range_count(first: &[u8], last: &[u8]) -> usize
+    ensures { result ≡ length (range_names first.now last.now) }
+{
+    let Some(from) = end_value(first) else {
+        return 0;
+    };
+    let Some(to) = end_value(last) else {
+        return 0;
+    };
+    let has_names = is_same(stem_of(first), stem_of(last));
+    if has_names {
+        steps_between(from, to) as usize + 1
+    } else {
+        0
+    }
+}
+
 /// The names of an item of a declaration, none where it is a range whose ends don't agree.
 pub fn item_list(alloc: Global, item: &Item) -> Result<Vec<Vec<u8>>, OutOfMemory>
     ensures { IfOk result (λ names. map name_items names.items ≡ item_names item.now) }
