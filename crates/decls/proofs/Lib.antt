@@ -1,3 +1,4 @@
+pub mod Added
 pub mod Attributed
 pub mod BadAttributeExamplesA
 pub mod BadAttributeExamplesB
@@ -6,11 +7,14 @@ pub mod BadRangeExamples
 pub mod DeclarationsGo
 pub mod Entered
 pub mod FirstNames
+pub mod FirstNumbers
+pub mod FirstStays
 pub mod FirstStrings
 pub mod Folded
 pub mod Found
 pub mod Goes
 pub mod ManyGo
+pub mod LeftOut
 pub mod NamesExamplesA
 pub mod NamesExamplesB
 pub mod NoRefusals

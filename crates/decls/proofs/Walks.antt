@@ -1,17 +1,22 @@
 -- One more item of a list whose names are used.
-use Rattle.std.proofs.Common.{◌≡◌, ℕ, ◌+◌, ◌<◌, List, [], ◌∷◌, ◌++◌, map, fold, take, length, get_or, refl, sym, ap, ◌∙◌, append_assoc}
+use Rattle.std.proofs.Common.{◌≡◌, ℕ, ◌+◌, ◌<◌, List, [], ◌∷◌, ◌++◌, map, fold, take, length, get_or, Some, None, rules, refl, sym, ap, ◌∙◌, append_assoc}
 use Rattle.std.proofs.lemmas.List.{append-nil}
 use Rattle.std.proofs.lemmas.List.Sums.{fold-append}
 use Rattle.pld_base.specs.declared.place.Place.{Place}
+use Rattle.abel_tree.specs.declared.diagrams.Arm.{Arm}
+use Rattle.abel_tree.specs.declared.diagrams.Arm.{the_lemmas as arm_lemmas}
+use Rattle.abel_tree.specs.declared.diagrams.If.{If}
 use Rattle.abel_tree.specs.declared.statements.Stmt.{Stmt}
+use Rattle.abel_tree.specs.declared.statements.Stmt.{the_lemmas as stmt_lemmas}
+use Rattle.abel_tree.specs.declared.statements.When.{When}
 use Rattle.abel_tree.specs.declared.statements.Stmt as stmt
 use Rattle.abel_tree.specs.declared.statements.Stmt.TheFolds.{fold-roll-Stmt}
 use Rattle.abel_tree.specs.declared.statements.Stmt.TheOpen as open_stmt
-use Rattle.abel_tree.specs.View.{view_stmt, stmt_layer, when_layer}
+use Rattle.abel_tree.specs.View.{view, view_arm, view_stmt, stmt_layer, when_layer}
 use Rattle.abel_tree.specs.Tree.{Tree, Statement, AGroup, statements_of, Branch, choices_of, RowTree, StateTree}
 use Rattle.abel_tree.specs.Uses.{Use, uses, all_uses, statement_uses, statements_uses, list_uses, branch_uses, branches_uses, choices_uses, rows_uses, states_uses}
 use Rattle.decls.specs.Steps.{Progress, used}
-use Rattle.decls.specs.Shown.{choice_uses, state_uses}
+use Rattle.decls.specs.Shown.{choice_uses, state_uses, view_if, view_when}
 use Rattle.decls.proofs.Rows.{mapped_more}
 
 -- a list's uses, one item more
@@ -75,3 +80,23 @@ states_push (y ∷ xs) x =
 pub values_push : (xs : List Tree) (x : Tree) → all_uses (xs ++ x ∷ []) ≡ all_uses xs ++ uses x
 values_push [] x = append-nil (uses x)
 values_push (y ∷ xs) x = ap (λ us. uses y ++ us) (values_push xs x) ∙ sym (append_assoc (uses y) (all_uses xs) (uses x))
+
+-- ---- WHEN and IF
+
+pub three_used : (s : Progress) (us vs xs : List Use) → fold used (fold used (fold used s us) vs) xs ≡ fold used s (us ++ (vs ++ xs))
+three_used s us vs xs = sym (fold-append used s us (vs ++ xs) ∙ fold-append used (fold used s us) vs xs)
+
+pub two_used : (s : Progress) (us vs : List Use) → fold used (fold used s us) vs ≡ fold used s (us ++ (vs ++ []))
+two_used s us vs = sym (ap (λ xs. fold used s (us ++ xs)) (append-nil vs) ∙ fold-append used s us vs)
+
+pub when_some : (x : When) (y : Stmt) → x.otherwise ≡ Some y → statement_uses (view_when x) ≡ uses (view x.condition) ++ (statement_uses (view_stmt x.then) ++ statement_uses (view_stmt y))
+when_some x y e = search (rules, stmt_lemmas)
+
+pub when_none : (x : When) → x.otherwise ≡ None → statement_uses (view_when x) ≡ uses (view x.condition) ++ (statement_uses (view_stmt x.then) ++ [])
+when_none x e = search (rules, stmt_lemmas)
+
+pub if_some : (x : If) (y : Arm) → x.otherwise ≡ Some y → branch_uses (view_if x) ≡ uses (view x.condition) ++ (branch_uses (view_arm x.then) ++ branch_uses (view_arm y))
+if_some x y e = search (rules, arm_lemmas)
+
+pub if_none : (x : If) → x.otherwise ≡ None → branch_uses (view_if x) ≡ uses (view x.condition) ++ (branch_uses (view_arm x.then) ++ [])
+if_none x e = search (rules, arm_lemmas)

@@ -5,6 +5,7 @@ pub mod FaultOrder
 pub mod NameRefusals
 pub mod NamesBefore
 pub mod Numbers
+pub mod Passed
 pub mod Pieces
 pub mod Refused
 pub mod Shown

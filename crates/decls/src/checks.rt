@@ -12,11 +12,13 @@ ghost use Rattle.decls.specs.NamesBefore.{words_named, words_of_names};
 ghost use Rattle.decls.specs.Refused.{refused_if, ranges_refused, counts_refused, counts_differ, has_numbers, first_name, item_refused, items_refused};
 ghost use Rattle.decls.specs.Shown.{Shows, said_before, view_given, view_said};
 ghost use Rattle.decls.specs.Steps.{Progress, refuse_all};
-ghost use Rattle.decls.specs.Walked.{items_checked, new_checked};
+ghost use Rattle.decls.specs.Passed.{items_told};
+ghost use Rattle.decls.specs.Walked.{new_checked};
 
 use crate::fault::NameFault;
 use crate::items::{Given, given_in, has_bad};
 use crate::said::{NOTHING, Said};
+use crate::saying::all_in;
 use crate::spans::is_count;
 use crate::table::NameTable;
 use abel_tree::{Item, Span, Word};
@@ -129,13 +131,16 @@ impl NameTable {
     fn check_item(&mut self, alloc: Global, item: &Item) -> Result<(), OutOfMemory>
         ensures { OnOk result ((t : Table) (s : Progress) → Shows t self.old s → Shows t self.new (refuse_all (item_refused s.entries item.now) s)) }
     {
+        if self.is_behind(item.first.place) {
+            return Ok(());
+        }
         self.refuse_range(item);
         let names = item_list(alloc, item)?;
         self.require_all(alloc, item.first.place, names.as_slice(), true)
     }
 
     /// Refuses bad ranges and names that are no signals.
-    fn check_items(&mut self, alloc: Global, items: &[Item]) -> Result<(), OutOfMemory>
+    pub(crate) fn check_items(&mut self, alloc: Global, items: &[Item]) -> Result<(), OutOfMemory>
         ensures { OnOk result ((t : Table) (s : Progress) → Shows t self.old s → Shows t self.new (refuse_all (items_refused s.entries items.now) s)) }
     {
         for item in items {
@@ -189,19 +194,17 @@ impl NameTable {
         Ok(())
     }
 
-    /// Refuses items and strings of an ISTYPE declaration, and answers its names.
-    pub(crate) fn check_attributes(
+    /// Refuses strings of an ISTYPE declaration, and adds their words to what is said of its names.
+    pub(crate) fn tell_items(
         &mut self,
         alloc: Global,
         names: &[Item],
         attributes: &[Word],
-    ) -> Result<Vec<Given>, OutOfMemory>
-        ensures names { IfOk result (λ gs. map view_given gs.items ≡ given_names names.now) }
-        ensures checked { OnOk result ((t : Table) (s : Progress) → Shows t self.old s → Shows t self.new (items_checked names.now attributes.now s)) }
+    ) -> Result<(), OutOfMemory>
+        ensures { OnOk result ((t : Table) (s : Progress) → Shows t self.old s → Shows t self.new (items_told names.now attributes.now s)) }
     {
-        self.check_items(alloc, names)?;
         let given = given_in(alloc, names)?;
         self.check_said(alloc, given.as_slice(), attributes)?;
-        Ok(given)
+        self.tell_all(alloc, given, all_in(attributes))
     }
 }

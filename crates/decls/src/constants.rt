@@ -1,10 +1,9 @@
 //! Names of constants and of the device.
 
-ghost use Rattle.std.specs.Prelude.{◌≡◌, OnOk, Bool, List, ℕ, fold, map};
+ghost use Rattle.std.specs.Prelude.{◌≡◌, OnOk};
 ghost use Rattle.pld_device.specs.Table.{Table};
-ghost use Rattle.abel_tree.specs.Uses.{all_uses};
 ghost use Rattle.abel_tree.specs.View.{view};
-ghost use Rattle.decls.specs.Steps.{Progress, used, constant_entered, device_counted, device_entered};
+ghost use Rattle.decls.specs.Steps.{Progress, constant_entered, device_counted, device_entered};
 ghost use Rattle.decls.specs.Shown.{Shows};
 
 use crate::fault::NameFault;
@@ -15,16 +14,6 @@ use pld_base::{NameText, OutOfMemory};
 use std::alloc::Global;
 
 impl NameTable {
-    /// Refuses the names of expressions that aren't known.
-    pub(crate) fn use_values(&mut self, alloc: Global, values: &[Expr]) -> Result<(), OutOfMemory>
-        ensures { OnOk result ((t : Table) (s : Progress) → Shows t self.old s → Shows t self.new (fold used s (all_uses (map view values.now)))) }
-    {
-        for value in values {
-            self.use_expr(alloc, value)?;
-        }
-        Ok(())
-    }
-
     /// Declares a constant.
     pub(crate) fn declare_constant(
         &mut self,

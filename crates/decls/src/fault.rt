@@ -3,6 +3,7 @@
 ghost use Rattle.std.specs.Prelude.{◌≡◌, Some};
 ghost use Rattle.abel_tree.specs.FirstRefusal.{is_before, earlier};
 ghost use Rattle.decls.specs.FaultOrder.{name_order, place_of, rank_of};
+ghost use Rattle.decls.specs.Passed.{stands_before};
 
 use pld_base::{NameText, OutOfMemory, Place};
 use std::fmt::{self, Debug, Formatter};
@@ -47,7 +48,7 @@ const NOWHERE: Place = Place { line: 0, column: 0 };
 
 impl NameFault {
     /// The place, if it has one.
-    fn place(&self) -> Place
+    pub(crate) fn place(&self) -> Place
         ensures { result ≡ place_of self.now }
     {
         match self {
@@ -94,6 +95,13 @@ impl NameFault {
         }
         self.rank() < other.rank()
     }
+}
+
+/// Whether one place stands before another.
+pub(crate) fn stands_before(one: Place, other: Place) -> bool
+    ensures { result ≡ stands_before one other }
+{
+    one.line < other.line || (one.line == other.line && one.column < other.column)
 }
 
 /// The first of two refusals by place, at one place by kind; `before` is None where there is none

@@ -1,6 +1,6 @@
 //! The names and numbers of a declaration.
 
-ghost use Rattle.std.specs.Prelude.{◌≡◌, IfOk, OnOk, List, ℕ, map, ◌++◌, length};
+ghost use Rattle.std.specs.Prelude.{◌≡◌, IfOk, OnOk, List, ℕ, map, ◌++◌, ◌+◌, length};
 ghost use Rattle.std.specs.List.{list_any};
 ghost use Rattle.abel_tree.specs.Ranges.{is_bad, item_names};
 ghost use Rattle.abel_meaning.specs.Declarations.{given_names};
@@ -8,7 +8,7 @@ ghost use Rattle.decls.specs.Shown.{view_given, given_by};
 ghost use Rattle.name_ranges.specs.RangeParts.{name_items};
 
 use abel_tree::Item;
-use name_ranges::{is_bad_item, item_list};
+use name_ranges::{is_bad_item, item_count, item_list};
 use pld_base::{OutOfMemory, Place};
 use std::alloc::Global;
 
@@ -31,7 +31,37 @@ pub fn given_in(alloc: Global, items: &[Item]) -> Result<Vec<Given>, OutOfMemory
     Ok(list)
 }
 
-/// The names of one item.
+/// The names of one item, a range written out.
+pub(crate) fn given_by_item(alloc: Global, item: &Item) -> Result<Vec<Given>, OutOfMemory>
+    ensures { IfOk result (λ gs. map view_given gs.items ≡ map (given_by item.now) (item_names item.now)) }
+{
+    let mut list = Vec::new(alloc);
+    add_item(alloc, &mut list, item)?;
+    Ok(list)
+}
+
+/// How many names a declaration has. More than a machine counts have no room in its memory either.
+pub(crate) fn count_names(items: &[Item]) -> Result<usize, OutOfMemory>
+    ensures { IfOk result (λ n. n ≡ length (given_names items.now)) }
+{
+    let mut count = 0usize;
+    for item in items {
+        count = sum(count, item_count(item))?;
+    }
+    Ok(count)
+}
+
+/// The sum of two counts.
+fn sum(one: usize, other: usize) -> Result<usize, OutOfMemory>
+    ensures { IfOk result (λ n. n ≡ one + other) }
+{
+    match one.checked_add(other) {
+        Some(sum) => Ok(sum),
+        None => Err(OutOfMemory),
+    }
+}
+
+/// Adds the names of one item.
 fn add_item(alloc: Global, list: &mut Vec<Given>, item: &Item) -> Result<(), OutOfMemory>
     ensures { OnOk result (map view_given list.new.items ≡ map view_given list.old.items ++ map (given_by item.now) (item_names item.now)) }
 {

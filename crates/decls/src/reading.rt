@@ -1,6 +1,6 @@
 //! The names of a module as its declarations say them, before their kinds are known.
 
-ghost use Rattle.std.specs.Prelude.{◌≡◌, ◌++◌, IfOk, OnOk, if◌then◌else◌, map};
+ghost use Rattle.std.specs.Prelude.{◌≡◌, ◌++◌, IfOk, OnOk, true, if◌then◌else◌, map};
 ghost use Rattle.pld_device.specs.Table.{Table};
 ghost use Rattle.abel_tree.specs.Entries.{view_attributes, view_declared};
 ghost use Rattle.abel_tree.specs.FirstRefusal.{first_refusal};
@@ -8,6 +8,7 @@ ghost use Rattle.abel_tree.specs.View.{view_module};
 ghost use Rattle.decls.specs.FaultOrder.{name_order};
 ghost use Rattle.decls.specs.NameRefusals.{names_once, read_refusals};
 ghost use Rattle.decls.specs.Numbers.{buffered_names, number_if, numbered};
+ghost use Rattle.decls.specs.Passed.{wants_names};
 ghost use Rattle.decls.specs.Shown.{Shows, kept, view_given, view_known, view_said};
 ghost use Rattle.decls.specs.Steps.{Progress};
 
@@ -128,11 +129,12 @@ fn list_of(alloc: Global, names: IndexMap<Vec<u8>, Known>) -> Result<Vec<Declare
 
 /// The names that a module declares, each as it is declared first, and the first refusal of what is
 /// declared and used. A pin or node that is refused has the number 0. Whether a register may be
-/// `buffer` isn't looked at.
+/// `buffer` isn't looked at. Once something is refused, names behind it may be missing, unless a
+/// register may still be refused before it.
 pub fn read_names<D: Device>(alloc: Global, source: &Module) -> Result<NamesRead, OutOfMemory>
-    ensures list { IfOk result (λ r. map view_declared r.list.items
+    ensures list { IfOk result (λ r. wants_names D.table r.fault ≡ true → map view_declared r.list.items
         ≡ map (kept D.table) (names_once (view_module source.now))) }
-    ensures buffered { IfOk result (λ r. r.buffered.items
+    ensures buffered { IfOk result (λ r. wants_names D.table r.fault ≡ true → r.buffered.items
         ≡ buffered_names (view_module source.now)) }
     ensures fault { IfOk result (λ r. r.fault
         ≡ first_refusal name_order (read_refusals D.table (view_module source.now))) }

@@ -1,22 +1,22 @@
 //! Names that statements use.
 
 ghost use Rattle.std.specs.Prelude.{◌≡◌, OnOk, List, ℕ, fold, map, ◌++◌};
-ghost use Rattle.pld_device.specs.Table.{Table};
 ghost use Rattle.abel_tree.specs.View.{view, view_stmt};
 ghost use Rattle.abel_tree.specs.Uses.{uses, statement_uses, list_uses};
 ghost use Rattle.decls.specs.Steps.{Progress, used};
-ghost use Rattle.decls.specs.Shown.{Shows, view_when};
+ghost use Rattle.decls.specs.Passed.{Follows, Way};
+ghost use Rattle.decls.specs.Shown.{view_when};
 
-use crate::table::NameTable;
+use crate::pass::Pass;
 use abel_tree::{Expr, Stmt, When};
 use pld_base::OutOfMemory;
 use std::alloc::Global;
 
-impl NameTable {
+impl Pass {
     /// Refuses the names of a statement that aren't known.
     #[cycle(statements)]
     pub(crate) fn use_stmt(&mut self, alloc: Global, stmt: &Stmt) -> Result<(), OutOfMemory>
-        ensures { OnOk result ((t : Table) (s : Progress) → Shows t self.old s → Shows t self.new (fold used s (statement_uses (view_stmt stmt.now)))) }
+        ensures { OnOk result ((w : Way) (s : Progress) → Follows w self.old s → Follows w self.new (fold used s (statement_uses (view_stmt stmt.now)))) }
     {
         match stmt {
             Stmt::Assign(assign) => self.use_both(alloc, &assign.target, &assign.value),
@@ -33,7 +33,7 @@ impl NameTable {
         one: &Expr,
         other: &Expr,
     ) -> Result<(), OutOfMemory>
-        ensures { OnOk result ((t : Table) (s : Progress) → Shows t self.old s → Shows t self.new (fold used s (uses (view one.now) ++ uses (view other.now)))) }
+        ensures { OnOk result ((w : Way) (s : Progress) → Follows w self.old s → Follows w self.new (fold used s (uses (view one.now) ++ uses (view other.now)))) }
     {
         self.use_expr(alloc, one)?;
         self.use_expr(alloc, other)
@@ -42,7 +42,7 @@ impl NameTable {
     /// Refuses the names of WHEN, its condition and its statements.
     #[cycle(statements)]
     fn use_when(&mut self, alloc: Global, when: &When) -> Result<(), OutOfMemory>
-        ensures { OnOk result ((t : Table) (s : Progress) → Shows t self.old s → Shows t self.new (fold used s (statement_uses (view_when when.now)))) }
+        ensures { OnOk result ((w : Way) (s : Progress) → Follows w self.old s → Follows w self.new (fold used s (statement_uses (view_when when.now)))) }
     {
         self.use_expr(alloc, &when.condition)?;
         self.use_stmt(alloc, when.then.get())?;
@@ -55,7 +55,7 @@ impl NameTable {
     /// Refuses the names of statements.
     #[cycle(statements)]
     pub(crate) fn use_stmts(&mut self, alloc: Global, list: &[Stmt]) -> Result<(), OutOfMemory>
-        ensures { OnOk result ((t : Table) (s : Progress) → Shows t self.old s → Shows t self.new (fold used s (list_uses (map view_stmt list.now)))) }
+        ensures { OnOk result ((w : Way) (s : Progress) → Follows w self.old s → Follows w self.new (fold used s (list_uses (map view_stmt list.now)))) }
     {
         for stmt in list {
             self.use_stmt(alloc, stmt)?;

@@ -1,79 +1,32 @@
 //! Declarations and sections one after the other.
 
-ghost use Rattle.std.specs.Prelude.{◌≡◌, IfOk, OnOk, List, ℕ, [], fold, map};
+ghost use Rattle.std.specs.Prelude.{◌≡◌, IfOk, OnOk, true, fold, map};
 ghost use Rattle.pld_device.specs.Table.{Table};
 ghost use Rattle.abel_tree.specs.FirstRefusal.{first_refusal};
 ghost use Rattle.abel_tree.specs.View.{view_decl, view_module, view_section};
-ghost use Rattle.abel_tree.specs.Tree.{SomeAttributes, SomeNodes, SomePins};
-ghost use Rattle.decls.specs.AllDeclarations.{all_declarations};
 ghost use Rattle.decls.specs.FaultOrder.{name_order};
-ghost use Rattle.decls.specs.NameRefusals.{all_buffered, names_once, read_refusals};
-ghost use Rattle.decls.specs.Shown.{Shows, kept, view_given, view_known};
+ghost use Rattle.decls.specs.NameRefusals.{read_refusals};
+ghost use Rattle.decls.specs.Passed.{Follows, Way, wants_names, way};
+ghost use Rattle.decls.specs.Shown.{Shows};
 ghost use Rattle.decls.specs.Steps.{Progress, nothing};
 ghost use Rattle.decls.specs.Walked.{declaration_step, module_steps, section_step};
 
-use crate::checks::{counts_differ, has_numbers};
-use crate::items::given_in;
-use crate::saying::all_in;
+use crate::buffers::always_inverts;
+use crate::pass::Pass;
 use crate::table::NameTable;
-use abel_tree::{Decl, Item, Module, Section, Span, Word};
+use abel_tree::{Decl, Module, Section};
 use indexmap::IndexMap;
 use pld_base::OutOfMemory;
 use pld_device::Device;
 use std::alloc::Global;
 
-impl NameTable {
-    /// Declares pins.
-    fn declare_pins(
-        &mut self,
-        alloc: Global,
-        names: &[Item],
-        numbers: &[Span],
-        attributes: &[Word],
-    ) -> Result<(), OutOfMemory>
-        ensures { OnOk result ((t : Table) (s : Progress) → Shows t self.old s → Shows t self.new (declaration_step t s (SomePins names.now numbers.now attributes.now))) }
-    {
-        let given = given_in(alloc, names)?;
-        let count = given.as_slice().len();
-        let wrong = counts_differ(names, count, numbers);
-        self.check_new(alloc, wrong, names, attributes)?;
-        self.declare_pin_names(alloc, given, numbers, all_in(attributes))
-    }
-
-    /// Declares nodes.
-    fn declare_nodes(
-        &mut self,
-        alloc: Global,
-        names: &[Item],
-        numbers: &[Span],
-        attributes: &[Word],
-    ) -> Result<(), OutOfMemory>
-        ensures { OnOk result ((t : Table) (s : Progress) → Shows t self.old s → Shows t self.new (declaration_step t s (SomeNodes names.now numbers.now attributes.now))) }
-    {
-        let given = given_in(alloc, names)?;
-        self.check_new(alloc, has_numbers(numbers), names, attributes)?;
-        self.declare_node_names(alloc, given, all_in(attributes))
-    }
-
-    /// Adds words to what is said of names.
-    fn declare_attributes(
-        &mut self,
-        alloc: Global,
-        names: &[Item],
-        attributes: &[Word],
-    ) -> Result<(), OutOfMemory>
-        ensures { OnOk result ((t : Table) (s : Progress) → Shows t self.old s → Shows t self.new (declaration_step t s (SomeAttributes names.now attributes.now))) }
-    {
-        let given = self.check_attributes(alloc, names, attributes)?;
-        self.tell_all(alloc, given, all_in(attributes))
-    }
-
+impl Pass {
     /// Declares what a declaration declares.
     fn declare_decl(&mut self, alloc: Global, decl: &Decl) -> Result<(), OutOfMemory>
-        ensures { OnOk result ((t : Table) (s : Progress) → Shows t self.old s → Shows t self.new (declaration_step t s (view_decl decl.now))) }
+        ensures { OnOk result ((w : Way) (s : Progress) → Follows w self.old s → Follows w self.new (declaration_step w.table s (view_decl decl.now))) }
     {
         match decl {
-            Decl::Device { name, text: _ } => self.declare_device(alloc, name),
+            Decl::Device { name, text: _ } => self.enter_device(alloc, name),
             Decl::Pins {
                 names,
                 numbers,
@@ -108,7 +61,7 @@ impl NameTable {
 
     /// Declares what declarations declare.
     fn declare_all(&mut self, alloc: Global, decls: &[Decl]) -> Result<(), OutOfMemory>
-        ensures { OnOk result ((t : Table) (s : Progress) → Shows t self.old s → Shows t self.new (fold (declaration_step t) s (map view_decl decls.now))) }
+        ensures { OnOk result ((w : Way) (s : Progress) → Follows w self.old s → Follows w self.new (fold (declaration_step w.table) s (map view_decl decls.now))) }
     {
         for decl in decls {
             self.declare_decl(alloc, decl)?;
@@ -118,7 +71,7 @@ impl NameTable {
 
     /// Declares what a section declares, or refuses what it uses.
     fn read_section(&mut self, alloc: Global, section: &Section) -> Result<(), OutOfMemory>
-        ensures { OnOk result ((t : Table) (s : Progress) → Shows t self.old s → Shows t self.new (section_step t s (view_section section.now))) }
+        ensures { OnOk result ((w : Way) (s : Progress) → Follows w self.old s → Follows w self.new (section_step w.table s (view_section section.now))) }
     {
         match section {
             Section::Declarations(list) => self.declare_all(alloc, list.as_slice()),
@@ -132,7 +85,7 @@ impl NameTable {
 
     /// Sections one after the other.
     fn read_sections(&mut self, alloc: Global, sections: &[Section]) -> Result<(), OutOfMemory>
-        ensures { OnOk result ((t : Table) (s : Progress) → Shows t self.old s → Shows t self.new (fold (section_step t) s (map view_section sections.now))) }
+        ensures { OnOk result ((w : Way) (s : Progress) → Follows w self.old s → Follows w self.new (fold (section_step w.table) s (map view_section sections.now))) }
     {
         for section in sections {
             self.read_section(alloc, section)?;
@@ -142,7 +95,7 @@ impl NameTable {
 
     /// A whole module.
     fn read_module(&mut self, alloc: Global, source: &Module) -> Result<(), OutOfMemory>
-        ensures { OnOk result ((t : Table) → Shows t self.old nothing → Shows t self.new (module_steps t (view_module source.now))) }
+        ensures { OnOk result ((w : Way) → Follows w self.old nothing → Follows w self.new (module_steps w.table (view_module source.now))) }
     {
         self.declare_all(alloc, source.decls.as_slice())?;
         self.read_sections(alloc, source.sections.as_slice())
@@ -165,21 +118,37 @@ fn empty_table(alloc: Global, pins: u8, ground: u8) -> NameTable
     }
 }
 
-/// The names of a module, each as it is declared first, and the first refusal of declarations and uses. The
-/// names that a string with `buffer` is for wait.
+/// A pass over a module for a device.
+fn pass_over<D: Device>(alloc: Global, source: &Module, skips: bool) -> Result<Pass, OutOfMemory>
+    ensures { IfOk result (λ d. Follows (way D.table skips) d (module_steps D.table (view_module source.now))) }
+{
+    let mut pass = Pass {
+        table: empty_table(alloc, D::PINS, D::GROUND),
+        skips,
+        skipped: false,
+        lost: false,
+    };
+    pass.read_module(alloc, source)?;
+    Ok(pass)
+}
+
+/// The names of a module as far as they are wanted, each as it is declared first, and the first refusal of
+/// declarations and uses. The names that a string with `buffer` is for wait.
 pub(crate) fn names_read<D: Device>(
     alloc: Global,
     source: &Module,
 ) -> Result<NameTable, OutOfMemory>
-    ensures steps { IfOk result (λ d. Shows D.table d (module_steps D.table (view_module source.now))) }
-    ensures names { IfOk result (λ d. map view_known d.names.entries
-        ≡ map (kept D.table) (names_once (view_module source.now))) }
+    ensures steps { IfOk result (λ d. wants_names D.table d.fault ≡ true
+        → Shows D.table d (module_steps D.table (view_module source.now))) }
     ensures fault { IfOk result (λ d. d.fault
         ≡ first_refusal name_order (read_refusals D.table (view_module source.now))) }
-    ensures waiting { IfOk result (λ d. map view_given d.waiting.items
-        ≡ all_buffered [] (all_declarations (view_module source.now))) }
 {
-    let mut table = empty_table(alloc, D::PINS, D::GROUND);
-    table.read_module(alloc, source)?;
-    Ok(table)
+    let pass = pass_over::<D>(alloc, source, !always_inverts::<D>())?;
+    if !pass.lost {
+        return Ok(pass.table);
+    }
+
+    // Places of a source grow, so that nothing is lost. In a tree with other places nothing is left out.
+    let pass = pass_over::<D>(alloc, source, false)?;
+    Ok(pass.table)
 }

@@ -1,31 +1,34 @@
 -- The steps of the module, from no name on, and what they are.
-use Rattle.std.proofs.Common.{map, ap, ◌∙◌}
+use Rattle.std.proofs.Common.{◌≡◌, Bool, true, false, not, refl, ap, ◌∙◌}
 use Rattle.abel_tree.specs.FirstRefusal.{first_refusal}
 use Rattle.abel_tree.specs.View.{view_module}
 use Rattle.decls.specs.FaultOrder.{name_order}
-use Rattle.decls.specs.Shown.{kept}
+use Rattle.decls.specs.Walked.{module_steps}
 use Rattle.decls.proofs.DeclarationsGo.{module_go}
+use Rattle.decls.proofs.LeftOut.{all_names, whole_names}
 use Rattle.decls.proofs.walk.names_read.Goals as goal
 
-pub returns-clause-steps : goal.returns-clause-steps
-returns-clause-steps g c =
-    c.in_ok-read_module.ensures g.D.Device.table
-    (c.empty_table-table.ensures g.D.Device.table (c.PINS.ensures ∙ g.met.D.Device.pins_is) (c.GROUND.ensures ∙ g.met.D.Device.ground_is))
+not_lost : (b : Bool) → not b ≡ true → b ≡ false
+not_lost true h = absurd cc
+not_lost false h = refl
 
-pub returns-clause-names : goal.returns-clause-names
-returns-clause-names g c =
+pub returns-then-not-pass-clause-steps : goal.returns-then-not-pass-clause-steps
+returns-then-not-pass-clause-steps g c = λ h.
     let t = g.D.Device.table in
-    let sh = c.in_ok-read_module.ensures t (c.empty_table-table.ensures t (c.PINS.ensures ∙ g.met.D.Device.pins_is) (c.GROUND.ensures ∙ g.met.D.Device.ground_is)) in
-    sh.rows ∙ ap (map (kept t)) (module_go t (view_module c.args.source.now)).behind.reached.entries
+    whole_names t c.always_inverts.result c.in_ok-pass.pass (module_steps t (view_module c.args.source.now)) c.always_inverts.ensures c.in_ok-pass.ensures (not_lost c.in_ok-pass.pass.lost c.if-not-pass.true) h
+
+pub returns-then-not-pass-clause-fault : goal.returns-then-not-pass-clause-fault
+returns-then-not-pass-clause-fault g c =
+    let t = g.D.Device.table in
+    c.in_ok-pass.ensures.first (not_lost c.in_ok-pass.pass.lost c.if-not-pass.true) ∙ ap (first_refusal name_order) (module_go t (view_module c.args.source.now)).faults
+
+pub returns-clause-steps : goal.returns-clause-steps
+returns-clause-steps g c = λ h.
+    let t = g.D.Device.table in
+    all_names t c.in_ok-pass-2.pass (module_steps t (view_module c.args.source.now)) c.in_ok-pass-2.ensures
 
 pub returns-clause-fault : goal.returns-clause-fault
 returns-clause-fault g c =
     let t = g.D.Device.table in
-    let sh = c.in_ok-read_module.ensures t (c.empty_table-table.ensures t (c.PINS.ensures ∙ g.met.D.Device.pins_is) (c.GROUND.ensures ∙ g.met.D.Device.ground_is)) in
-    sh.first ∙ ap (first_refusal name_order) (module_go t (view_module c.args.source.now)).faults
-
-pub returns-clause-waiting : goal.returns-clause-waiting
-returns-clause-waiting g c =
-    let t = g.D.Device.table in
-    let sh = c.in_ok-read_module.ensures t (c.empty_table-table.ensures t (c.PINS.ensures ∙ g.met.D.Device.pins_is) (c.GROUND.ensures ∙ g.met.D.Device.ground_is)) in
-    sh.waiting ∙ (module_go t (view_module c.args.source.now)).behind.waiting
+    let m = view_module c.args.source.now in
+    (all_names t c.in_ok-pass-2.pass (module_steps t m) c.in_ok-pass-2.ensures).first ∙ ap (first_refusal name_order) (module_go t m).faults

@@ -1,15 +1,24 @@
 -- A bad range, and then the first name that is no signal.
-use Rattle.std.proofs.Common.{map, subst, ap, ◌∙◌}
+use Rattle.std.proofs.Common.{map, subst, sym, ap, ◌∙◌}
 use Rattle.std.proofs.lemmas.Result.{on_ok_weaker}
 use Rattle.abel_tree.specs.Entries.{is_signal}
 use Rattle.decls.specs.Shown.{Shows}
 use Rattle.decls.specs.Steps.{all_known, refuse_all}
-use Rattle.decls.specs.Refused.{refused_if}
+use Rattle.decls.specs.Refused.{refused_if, item_refused}
 use Rattle.decls.specs.declared.fault.NameFault.TheVariants as fault
 use Rattle.abel_tree.specs.Ranges.{is_bad}
 use Rattle.name_ranges.specs.RangeParts.{name_items}
+use Rattle.decls.proofs.FirstStays.{at_behind, at_item}
+use Rattle.decls.proofs.LeftOut.{shows_behind}
 use Rattle.decls.proofs.Unknown.{item_known}
 use Rattle.decls.proofs.table.NameTable.check_item.Goals as goal
+
+pub returns-then-is_behind : goal.returns-then-is_behind
+returns-then-is_behind c = λ t s sh.
+    let o = c.args.self.now.fault in
+    let i = c.args.item.now in
+    shows_behind t c.args.self.now s (item_refused s.entries i)
+    (at_behind o i.first.place (item_refused s.entries i) (sym c.is_behind.ensures ∙ c.if-is_behind.true) (at_item s.entries i)) sh
 
 pub returns : goal.returns
 returns c =

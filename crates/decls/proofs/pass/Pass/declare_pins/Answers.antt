@@ -1,0 +1,35 @@
+-- Checks, and then the names with their numbers.
+use Rattle.std.proofs.Common.{fold, length, refl, subst, ap, ap₂, ◌∙◌}
+use Rattle.std.proofs.lemmas.Result.{on_ok_weaker}
+use Rattle.abel_tree.specs.Ranges.{numbers_of}
+use Rattle.abel_meaning.specs.Declarations.{all_said, given_names}
+use Rattle.decls.specs.Passed.{Follows}
+use Rattle.decls.specs.Refused.{counts_differ}
+use Rattle.decls.specs.Walked.{new_checked, pin_step, waits_if, with_numbers}
+use Rattle.decls.proofs.Added.{adds_new_pins}
+use Rattle.decls.proofs.LeftOut.{goes_on}
+use Rattle.decls.proofs.pass.Pass.declare_pins.Goals as goal
+
+pub returns-then-self : goal.returns-then-self
+returns-then-self c = λ w s f.
+    let names = c.args.names.now in
+    let numbers = c.args.numbers.now in
+    let words = c.args.attributes.now in
+    c.leave_out.ensures w s _ c.if-self.true
+    (λ h k. adds_new_pins c.args.self.now.table.fault w.table (counts_differ names numbers) (all_said words) names (numbers_of (length (given_names names)) numbers) words s h k) f
+
+pub returns : goal.returns
+returns c =
+    let d = c.args.self.now in
+    let names = c.args.names.now in
+    let words = c.args.attributes.now in
+    let ns = numbers_of (length (given_names names)) c.args.numbers.now in
+    on_ok_weaker c.wait_if.result
+    (λ h w s f.
+    let wrong = c.counts_differ-wrong.result in
+    let checked = goes_on w d (record d { table = c.check_new.new.self }) s (new_checked wrong names words s) refl c.if-self.false (c.in_ok-check_new.ensures w.table s (f.shown c.if-self.false)) f in
+    subst (Follows w c.wait_if.new.self)
+    (ap₂ (λ u v. waits_if u.buffer (given_names names) (fold (pin_step w.table v) (new_checked wrong names words s) (with_numbers (given_names names) ns))) c.all_in-2.ensures c.all_in.ensures
+    ∙ ap (λ b. waits_if (all_said words).buffer (given_names names) (fold (pin_step w.table (all_said words)) (new_checked b names words s) (with_numbers (given_names names) ns))) (c.counts_differ-wrong.ensures c.in_ok-count.ensures))
+    (h w _ (c.in_ok-enter_pins.ensures w _ c.in_ok-count.ensures c.if-self.false checked)))
+    c.wait_if.ensures

@@ -1,0 +1,14 @@
+-- The items so far, of which none was left out.
+use Rattle.std.proofs.Common.{◌≡◌, false, fold, take}
+use Rattle.abel_meaning.specs.Declarations.{given_names}
+use Rattle.decls.specs.Passed.{Follows, Way}
+use Rattle.decls.specs.Shown.{view_said}
+use Rattle.decls.specs.Steps.{Progress}
+use Rattle.decls.specs.Walked.{node_step}
+use Rattle.decls.proofs.pass.Pass.enter_node_items.Given as goal
+
+abbrev pub invariant-loop-place : goal.invariant-loop-place
+invariant-loop-place l = record {
+  whole : l.self.skipped ≡ l.fn.self.skipped;
+  follows : (w : Way) (s : Progress) → l.fn.self.skipped ≡ false → Follows w l.fn.self s → Follows w l.self (fold (node_step (view_said l.said)) s (given_names (take l.place l.names)));
+}

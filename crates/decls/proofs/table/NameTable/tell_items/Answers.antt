@@ -1,0 +1,20 @@
+-- The strings, and then their words.
+use Rattle.std.proofs.Common.{map, subst, ap, ap₂, ◌∙◌}
+use Rattle.std.proofs.lemmas.Result.{on_ok_weaker}
+use Rattle.abel_meaning.specs.Declarations.{all_said, no_words}
+use Rattle.decls.specs.Attributes.{strings_refused}
+use Rattle.decls.specs.NamesBefore.{words_of_names}
+use Rattle.decls.specs.Shown.{Shows, view_given}
+use Rattle.decls.specs.Steps.{refuse_all}
+use Rattle.decls.specs.Walked.{all_told}
+use Rattle.decls.proofs.table.NameTable.tell_items.Goals as goal
+
+pub returns : goal.returns
+returns c =
+    on_ok_weaker c.tell_all.result
+    (λ h t s sh.
+    subst (Shows t c.tell_all.new.self)
+    (ap₂ (λ w xs. all_told w (map view_given c.in_ok-given.given.items) (refuse_all (strings_refused (words_of_names s.entries xs) no_words c.args.attributes.now) s)) c.all_in.ensures (ap (map view_given) c.as_slice.ensures.value)
+    ∙ ap (λ xs. all_told (all_said c.args.attributes.now) xs (refuse_all (strings_refused (words_of_names s.entries xs) no_words c.args.attributes.now) s)) c.in_ok-given.ensures)
+    (h t _ (c.in_ok-check_said.ensures t s sh)))
+    c.tell_all.ensures

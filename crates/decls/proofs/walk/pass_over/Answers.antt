@@ -1,0 +1,11 @@
+-- From no name on.
+use Rattle.std.proofs.Common.{◌∙◌}
+use Rattle.decls.specs.Passed.{way}
+use Rattle.decls.proofs.LeftOut.{starts}
+use Rattle.decls.proofs.walk.pass_over.Goals as goal
+
+pub returns : goal.returns
+returns g c =
+    let t = g.D.Device.table in
+    c.in_ok-read_module.ensures (way t c.args.skips)
+    (starts t c.args.skips _ (c.empty_table.ensures t (c.PINS.ensures ∙ g.met.D.Device.pins_is) (c.GROUND.ensures ∙ g.met.D.Device.ground_is)))
