@@ -1,5 +1,6 @@
 -- What is answered where nothing is refused.
-use Rattle.std.proofs.Common.{◌≡◌, true, Option, None, List, [], ◌++◌, map, sym, ap, ap₂, subst, ◌∙◌}
+use Rattle.std.proofs.Common.{◌≡◌, ◌⊎◌, inl, inr, Bool, true, false, if◌then◌else◌, Option, None, Some, List, [], ◌++◌, map, refl, sym, ap, ap₂, subst, ◌∙◌}
+use Rattle.std.proofs.lemmas.List.{append-nil}
 use Rattle.pld_device.specs.declared.flip.Flip.{Flip}
 use Rattle.pld_device.specs.Table.{Table}
 use Rattle.abel_tree.specs.declared.names.Names.{Names}
@@ -16,8 +17,9 @@ use Rattle.decls.specs.declared.fault.NameFault.{NameFault}
 use Rattle.decls.specs.declared.reading.Buffered.{Buffered}
 use Rattle.decls.specs.AllDeclarations.{all_declarations}
 use Rattle.decls.specs.FaultOrder.{name_order}
-use Rattle.decls.specs.NameRefusals.{first_name_refusal, name_refusals, module_buffers_refused, names_once, read_refusals}
+use Rattle.decls.specs.NameRefusals.{always_inverts, first_name_refusal, name_refusals, module_buffers_refused, names_once, read_refusals}
 use Rattle.decls.specs.Numbers.{buffered_names}
+use Rattle.decls.specs.Passed.{wants_names}
 use Rattle.decls.specs.Shown.{kept}
 use Rattle.decls.proofs.NoRefusals.{none_left}
 use Rattle.declared_names.specs.AcceptedNames.{AreDeclaredFor, NumbersAreApart, BuffersAreAllowed}
@@ -36,6 +38,33 @@ first_same t m flip read settled bs f r l n s b e k =
     let names : settled ≡ with_assigned t.flip m.sections (map (kept t) (names_once m)) = s ∙ ap₂ (λ x es. with_assigned x m.sections es) l n in
     k (read_refusals t m) e
     ∙ ap (λ fs. first_refusal name_order (read_refusals t m ++ fs)) (ap₂ (refused_for t) names b ∙ refused_same t m)
+
+-- a refusal of what is read is the answer where no register can be refused
+refused_none : (b : Bool) (fs : List NameFault) → b ≡ false → (if b then fs else []) ≡ []
+refused_none true fs e = absurd cc
+refused_none false fs e = refl
+
+either_none : (b : Bool) → ◌≡◌ {A = List NameFault} (if b then [] else []) []
+either_none true = refl
+either_none false = refl
+
+wanted_all : (t : Table) (f : Option NameFault) → always_inverts t ≡ true → wants_names t f ≡ true
+wanted_all t None e = refl
+wanted_all t (Some f) e = e
+
+pub final_because : (t : Table) (bs cs : List Buffered) → cs ≡ bs → (always_inverts t ≡ false) ⊎ ((always_inverts t ≡ true) × (cs ≡ [])) → (always_inverts t ≡ false) ⊎ ((always_inverts t ≡ true) × (bs ≡ []))
+final_because t bs cs e (inl h) = inl h
+final_because t bs cs e (inr h) = inr (h.0, sym e ∙ h.1)
+
+pub final_fault : (t : Table) (m : ModuleTree) (f : Option NameFault) (bs : List Buffered) → f ≡ first_refusal name_order (read_refusals t m) → (wants_names t f ≡ true → bs ≡ buffered_names m)
+    → (always_inverts t ≡ false) ⊎ ((always_inverts t ≡ true) × (bs ≡ [])) → first_name_refusal t m ≡ f
+final_fault t m f bs e k h = ap (λ fs. first_refusal name_order (read_refusals t m ++ fs)) (none h) ∙ (ap (first_refusal name_order) (append-nil (read_refusals t m)) ∙ sym e)
+  where
+    none : (always_inverts t ≡ false) ⊎ ((always_inverts t ≡ true) × (bs ≡ [])) → module_buffers_refused t m ≡ []
+    none (inl g) = refused_none (always_inverts t) _ g
+    none (inr g) =
+        let empty : buffered_names m ≡ [] = sym (k (wanted_all t f g.0)) ∙ g.1 in
+        sym (refused_same t m) ∙ (ap (refused_for t (with_assigned t.flip m.sections (map (kept t) (names_once m)))) empty ∙ either_none (always_inverts t))
 
 pub nothing_refused : (t : Table) (m : ModuleTree) → None ≡ first_name_refusal t m → name_refusals t m ≡ []
 nothing_refused t m h = none_refused name_order (name_refusals t m) h

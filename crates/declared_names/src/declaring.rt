@@ -9,7 +9,7 @@ ghost use Rattle.decls.specs.declared.fault.NameFault.TheVariants.{OutOfMemory};
 ghost use Rattle.decls.specs.NameRefusals.{first_name_refusal, name_refusals};
 ghost use Rattle.declared_names.specs.AcceptedNames.{AreDeclaredFor, BuffersAreAllowed, NumbersAreApart};
 
-use crate::registers::first_refused;
+use crate::registers::{first_refused, open_fault};
 use abel_tree::{Module, Names};
 use decls::{NameFault, NamesRead, read_names};
 use name_kinds::settle;
@@ -36,6 +36,10 @@ pub fn declare<D: Device>(alloc: Global, source: &Module) -> Result<Names, NameF
         buffered,
         fault,
     } = read_names::<D>(alloc, source)?;
+    let fault = match open_fault::<D>(fault, buffered.as_slice()) {
+        Ok(fault) => fault,
+        Err(fault) => return Err(fault),
+    };
     let list = settle(alloc, D::FLIP, list, source.sections.as_slice())?;
     match first_refused::<D>(fault, list.as_slice(), buffered.as_slice()) {
         Some(fault) => Err(fault),

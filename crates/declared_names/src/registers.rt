@@ -1,17 +1,18 @@
 //! Registers that a device can't buffer.
 
-ghost use Rattle.std.specs.Prelude.{◌≡◌, ◌++◌, List, map, slice_get, if◌then◌else◌};
+ghost use Rattle.std.specs.Prelude.{◌≡◌, ◌⊎◌, [], is_some, ◌++◌, IfErr, IfOk, List, Some, false, map, slice_get, true};
 ghost use Rattle.abel_tree.specs.Entries.{view_declared, view_meaning, is_signal};
 ghost use Rattle.abel_tree.specs.FirstRefusal.{first_refusal};
 ghost use Rattle.decls.specs.declared.fault.NameFault.{NameFault};
 ghost use Rattle.decls.specs.FaultOrder.{name_order};
 ghost use Rattle.decls.specs.NameRefusals.{always_inverts};
+ghost use Rattle.decls.specs.Passed.{wants_names};
 ghost use Rattle.declared_names.specs.Registers.{is_register, register_refused, registers_refused, refused_for};
 
 use abel_tree::{Attributes, Declared, Meaning};
 use bitflags::Flags;
-use decls::{Buffered, NameFault, first_of};
-use pld_device::{Device, Flip};
+use decls::{Buffered, NameFault, always_inverts, first_of};
+use pld_device::Device;
 
 /// Whether a name is a signal.
 fn is_signal(meaning: &Meaning) -> bool
@@ -62,16 +63,32 @@ fn with_registers(
     first
 }
 
-/// Whether the device has registers and always complements them at their pins.
-fn always_inverts<D: Device>() -> bool
-    ensures { result ≡ always_inverts D.table }
+/// No refusal, or else the answer.
+fn settled(fault: Option<NameFault>) -> Result<Option<NameFault>, NameFault>
+    ensures open { IfOk result (λ f. (f ≡ fault) × (is_some fault ≡ false)) }
+    ensures settled { IfErr result (λ f. fault ≡ Some f) }
 {
-    let always = match D::FLIP {
-        Flip::Always => true,
-        Flip::AfterRegister => false,
-        Flip::BeforeRegister => true,
-    };
-    D::CLOCK != 0 && always
+    match fault {
+        Some(fault) => Err(fault),
+        None => Ok(None),
+    }
+}
+
+/// The first refusal so far, if registers may still be refused before it. Else it is the answer.
+pub(crate) fn open_fault<D: Device>(
+    fault: Option<NameFault>,
+    names: &[Buffered],
+) -> Result<Option<NameFault>, NameFault>
+    ensures open { IfOk result (λ f. (f ≡ fault) × (wants_names D.table fault ≡ true)) }
+    ensures settled { IfErr result (λ f. (fault ≡ Some f) × ((always_inverts D.table ≡ false) ⊎ ((always_inverts D.table ≡ true) × (names.now ≡ [])))) }
+{
+    if !always_inverts::<D>() {
+        return settled(fault);
+    }
+    if names.is_empty() {
+        return settled(fault);
+    }
+    Ok(fault)
 }
 
 /// The first refusal, counting the registers among these names that the device can't buffer.
