@@ -12,7 +12,7 @@ pub enum Cause {
     IdleWord,
     /// A second assignment of a name, which adds to the first one.
     SecondAssignment,
-    /// A pin that no product term has and nothing assigns.
+    /// A pin that is neither read nor assigned.
     UnusedPin,
     /// An active-low register that is asserted after power-up.
     AssertedAtPowerUp,
