@@ -2,7 +2,7 @@
 
 ghost use Rattle.std.specs.Prelude.{◌≡◌, ◌+◌, ◌*◌};
 
-use crate::array_heads::{head_height, put_heads, put_stripes};
+use crate::array_heads::{levels_height, put_levels, put_pins, put_stripes};
 use crate::array_rows::put_array_row;
 use crate::control_fuses::put_control_fuses;
 use crate::design::Design;
@@ -19,6 +19,9 @@ pub const STEP: usize = 9;
 
 /// From one line to the next.
 pub const LINE: u32 = 11;
+
+/// How high the pins above the columns are.
+const PINS: usize = 12;
 
 /// Where the columns begin.
 pub const LEFT: usize = 44;
@@ -129,20 +132,37 @@ fn put_rows<D: Device>(page: &mut Page, design: Design) -> Result<(), OutOfMemor
     put_group_drawing::<D>(page, rows, last, down)
 }
 
-/// Writes the plot of the array: a line a row with its first fuse and, where the row is in use, its product. The heads of the
-/// columns are repeated on each sheet.
+/// Writes the pins above the columns. They alone are repeated on each sheet: browsers misplace turned text in what they repeat.
+fn put_pin_drawing<D: Device>(page: &mut Page) -> Result<(), OutOfMemory> {
+    put_drawing::<D>(page, PINS)?;
+    page.put(&[Piece::Markup(
+        "<title>The pins</title><desc>Above each pair of columns the number of its pin.</desc>",
+    )])?;
+    put_stripes::<D>(page, PINS)?;
+    put_pins::<D>(page)?;
+    page.put(&[Piece::Markup("</svg>")])
+}
+
+/// Writes the levels that the columns carry.
+fn put_level_drawing<D: Device>(page: &mut Page, design: Design) -> Result<(), OutOfMemory> {
+    let height = levels_height::<D>(design)?;
+    put_drawing::<D>(page, height + 4)?;
+    page.put(&[Piece::Markup(
+        "<title>The levels</title><desc>Above each column the level that it carries.</desc>",
+    )])?;
+    put_stripes::<D>(page, height + 4)?;
+    put_levels::<D>(page, design, height)?;
+    page.put(&[Piece::Markup("</svg>\n")])
+}
+
+/// Writes the plot of the array: a line a row with its first fuse and, where the row is in use, its product.
 pub fn put_array<D: Device>(page: &mut Page, design: Design) -> Result<(), OutOfMemory> {
-    let top = head_height::<D>(design)?;
     page.put(&[Piece::Markup(
         "<div class=\"wide\" tabindex=\"0\"><div class=\"plot\"><div class=\"heads\">",
     )])?;
-    put_drawing::<D>(page, top + 4)?;
-    page.put(&[Piece::Markup(
-        "<title>The columns</title><desc>Above each pair of columns the number of its pin, and above each column the level that it carries.</desc>",
-    )])?;
-    put_stripes::<D>(page, top + 4)?;
-    put_heads::<D>(page, design, top)?;
-    page.put(&[Piece::Markup("</svg></div>\n<div class=\"rows\">")])?;
+    put_pin_drawing::<D>(page)?;
+    page.put(&[Piece::Markup("</div>\n<div class=\"rows\">")])?;
+    put_level_drawing::<D>(page, design)?;
     put_rows::<D>(page, design)?;
     page.put(&[Piece::Markup("</div></div></div>\n")])
 }

@@ -37,12 +37,12 @@ fn longest<D: Device>(design: Design) -> Result<u8, OutOfMemory> {
     Ok(most)
 }
 
-/// How high the heads of the columns are.
-pub fn head_height<D: Device>(design: Design) -> Result<usize, OutOfMemory>
+/// How high the literals of the columns are.
+pub fn levels_height<D: Device>(design: Design) -> Result<usize, OutOfMemory>
     ensures { IfOk result (λ height. height ≤ 2000) }
 {
     let most = longest::<D>(design)?;
-    Ok(usize::from(most) * 6 + 19)
+    Ok(usize::from(most) * 6 + 7)
 }
 
 /// Writes the literal of a column, from the bottom up.
@@ -97,17 +97,22 @@ fn put_pair<D: Device>(page: &mut Page, column: u16) -> Result<(), OutOfMemory>
     ])
 }
 
-/// Writes the heads of all columns, which end so far down.
-pub fn put_heads<D: Device>(
-    page: &mut Page,
-    design: Design,
-    down: usize,
-) -> Result<(), OutOfMemory> {
+/// Writes the pins above the columns.
+pub fn put_pins<D: Device>(page: &mut Page) -> Result<(), OutOfMemory> {
     for column in 0..D::COLUMNS {
         if column % 2 == 0 {
             put_pair::<D>(page, column)?;
         }
     }
+    page.put(&[Piece::Markup("\n")])
+}
+
+/// Writes the literals of all columns, which end so far down.
+pub fn put_levels<D: Device>(
+    page: &mut Page,
+    design: Design,
+    down: usize,
+) -> Result<(), OutOfMemory> {
     for column in 0..D::COLUMNS {
         put_head::<D>(page, design, column, down)?;
     }
