@@ -84,7 +84,7 @@ pub fn put_costly_outputs<D: Device>(
     let origins = origins_of(alloc, input.bytes)?;
     for found in list.as_slice() {
         if let Some(declared) = name_on(names, found.pin) {
-            put_place(alloc, text, input.name, origins.at(declared.place))?;
+            put_place(alloc, text, input.name, origins.at(declared.place).source)?;
             put_costs(alloc, text, declared.name.bytes(), *found)?;
         }
     }

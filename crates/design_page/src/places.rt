@@ -9,19 +9,13 @@ use std::alloc::Global;
 /// The first place of a text.
 const START: Place = Place { line: 1, column: 1 };
 
-/// A place of the expanded text, and where it stands in the source: there itself, or the call of the macro whose text has it.
+/// A place of the expanded text, and where it stands in the source. What a macro or a directive stands for stands where its
+/// bytes are written, and is expanded elsewhere: at the outermost call.
 #[derive(Clone, Copy)]
 pub struct Found {
     pub expanded: Place,
     pub source: Place,
-    pub is_in_macro: bool,
-}
-
-/// How far a text is read: an offset, and the place there.
-#[derive(Clone, Copy)]
-struct Mark {
-    offset: usize,
-    place: Place,
+    pub call: Option<Place>,
 }
 
 /// Where each byte of the expanded text stands, and its end.
@@ -46,17 +40,44 @@ fn place_behind(place: Place, byte: u8) -> Place {
     }
 }
 
-/// A mark in a text, moved on to an offset that is not before it.
-fn moved(text: &[u8], mark: Mark, offset: usize) -> Mark {
-    let mut place = mark.place;
-    match text.get(mark.offset..offset) {
-        Some(passed) => {
-            for byte in passed {
-                place = place_behind(place, *byte);
-            }
-            Mark { offset, place }
-        }
-        None => mark,
+/// The places of all offsets of a text, its end too.
+fn places_in(alloc: Global, text: &[u8]) -> Result<Vec<Place>, OutOfMemory> {
+    let mut places = Vec::new(alloc);
+    let mut place = START;
+    places.push(place)?;
+    for byte in text {
+        place = place_behind(place, *byte);
+        places.push(place)?;
+    }
+    Ok(places)
+}
+
+/// The place of an offset.
+fn place_at(places: &[Place], offset: usize) -> Place {
+    match places.get(offset) {
+        Some(place) => *place,
+        None => START,
+    }
+}
+
+/// Where the byte stands that a reader gave last, at this place of the expanded text.
+fn found_at(reader: &Reader, places: &[Place], byte: u8, expanded: Place) -> Found {
+    let outer = place_at(places, reader.offset());
+    if !reader.is_in_macro() {
+        return Found {
+            expanded,
+            source: outer,
+            call: None,
+        };
+    }
+    let source = match reader.origin_of(byte) {
+        Some(offset) => place_at(places, offset),
+        None => outer,
+    };
+    Found {
+        expanded,
+        source,
+        call: Some(outer),
     }
 }
 
@@ -64,26 +85,18 @@ fn moved(text: &[u8], mark: Mark, offset: usize) -> Mark {
 pub fn origins_of(alloc: Global, text: &[u8]) -> Result<Origins, OutOfMemory>
     requires { length text.now ≤ 1048576 }
 {
+    let places = places_in(alloc, text)?;
     let mut reader = Reader::new(alloc, text);
     let mut bytes = Vec::new(alloc);
     let mut expanded = START;
-    let mut mark = Mark {
-        offset: 0,
-        place: START,
-    };
     'bytes: while let Ok(Some(byte)) = reader.next() {
-        mark = moved(text, mark, reader.offset());
-        bytes.push(Found {
-            expanded,
-            source: mark.place,
-            is_in_macro: reader.is_in_macro(),
-        })?;
+        bytes.push(found_at(&reader, &places, byte, expanded))?;
         expanded = place_behind(expanded, byte);
     }
     let end = Found {
         expanded,
-        source: moved(text, mark, reader.next_offset()).place,
-        is_in_macro: false,
+        source: place_at(&places, reader.next_offset()),
+        call: None,
     };
     Ok(Origins { bytes, end })
 }

@@ -9,22 +9,28 @@ use crate::source::put_text;
 use crate::telling::put_refusal;
 use crate::told_places::told_place;
 use page_text::{Page, Piece};
-use pld_base::OutOfMemory;
+use pld_base::{OutOfMemory, Place};
 use std::alloc::Global;
 
-/// Writes where the refusal stands.
-fn put_place(page: &mut Page, found: Found) -> Result<(), OutOfMemory> {
+/// Writes a place of the source.
+fn put_place(page: &mut Page, place: Place) -> Result<(), OutOfMemory> {
     page.put(&[
-        Piece::Markup("<p>In the source: line "),
-        Piece::Number(found.source.line as usize),
+        Piece::Markup("line "),
+        Piece::Number(place.line as usize),
         Piece::Markup(", column "),
-        Piece::Number(found.source.column as usize),
-        Piece::Markup(if found.is_in_macro {
-            ", in what the macro that is called there stands for.</p>\n"
-        } else {
-            ".</p>\n"
-        }),
+        Piece::Number(place.column as usize),
     ])
+}
+
+/// Writes where the refusal stands, and where that is expanded.
+fn put_places(page: &mut Page, found: Found) -> Result<(), OutOfMemory> {
+    page.put(&[Piece::Markup("<p>In the source: ")])?;
+    put_place(page, found.source)?;
+    if let Some(call) = found.call {
+        page.put(&[Piece::Markup(", which is expanded at ")])?;
+        put_place(page, call)?;
+    }
+    page.put(&[Piece::Markup(".</p>\n")])
 }
 
 /// Writes the source with the refusal's place, and the expanded text where macros have moved it.
@@ -40,9 +46,9 @@ fn put_texts(
     let Some(found) = found else {
         return put_text(page, text, None);
     };
-    put_place(page, found)?;
+    put_places(page, found)?;
     put_text(page, text, Some(found.source))?;
-    if found.source == found.expanded && !found.is_in_macro {
+    if found.source == found.expanded && found.call.is_none() {
         return Ok(());
     }
     page.put(&[Piece::Markup(

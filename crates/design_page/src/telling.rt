@@ -4,7 +4,7 @@ use crate::lines::line_at;
 use crate::made::Input;
 use crate::outcome::Outcome;
 use crate::places::Found;
-use pld_base::{OutOfMemory, put_decimal};
+use pld_base::{OutOfMemory, Place, put_decimal};
 use pld_device::Device;
 use std::alloc::Global;
 
@@ -26,12 +26,13 @@ fn put_words(text: &mut Vec<u8>, line: &[u8]) -> Result<(), OutOfMemory> {
     Ok(())
 }
 
-/// Appends the line of the source and a caret under a column of it.
-fn put_caret(text: &mut Vec<u8>, line: &[u8], column: usize) -> Result<(), OutOfMemory> {
+/// Appends the line of a text at a place, and a caret under the place.
+fn put_caret(text: &mut Vec<u8>, source: &[u8], place: Place) -> Result<(), OutOfMemory> {
+    let line = line_at(source, place.line);
     text.extend_from_slice(line)?;
     text.push(b'\n')?;
-    for (place, byte) in line.iter().enumerate() {
-        if place + 1 < column {
+    for (before, byte) in line.iter().enumerate() {
+        if before + 1 < place.column as usize {
             text.push(if *byte == b'\t' { b'\t' } else { b' ' })?;
         }
     }
@@ -44,16 +45,17 @@ pub fn put_place(
     alloc: Global,
     text: &mut Vec<u8>,
     name: &[u8],
-    found: Found,
+    place: Place,
 ) -> Result<(), OutOfMemory> {
     text.extend_from_slice(name)?;
     text.push(b':')?;
-    put_decimal(alloc, text, found.source.line as usize)?;
+    put_decimal(alloc, text, place.line as usize)?;
     text.push(b':')?;
-    put_decimal(alloc, text, found.source.column as usize)
+    put_decimal(alloc, text, place.column as usize)
 }
 
-/// Appends where in a file a refusal of this line stands, that line of the source, and a caret under the place.
+/// Appends where in a file a refusal of this line stands, that line of the source, and a caret under the place; and the same of
+/// the call, where the place is in what a macro or a directive stands for.
 pub fn put_refusal(
     alloc: Global,
     text: &mut Vec<u8>,
@@ -61,16 +63,14 @@ pub fn put_refusal(
     line: &[u8],
     found: Found,
 ) -> Result<(), OutOfMemory> {
-    put_place(alloc, text, input.name, found)?;
+    put_place(alloc, text, input.name, found.source)?;
     text.extend_from_slice(b": ")?;
     put_words(text, line)?;
-    put_caret(
-        text,
-        line_at(input.bytes, found.source.line),
-        found.source.column as usize,
-    )?;
-    if found.is_in_macro {
-        text.extend_from_slice(b"in what the macro stands for that is called here\n")?;
+    put_caret(text, input.bytes, found.source)?;
+    if let Some(call) = found.call {
+        put_place(alloc, text, input.name, call)?;
+        text.extend_from_slice(b": expanded here\n")?;
+        put_caret(text, input.bytes, call)?;
     }
     Ok(())
 }

@@ -5,10 +5,11 @@ ghost use Rattle.std.specs.Prelude.{◌≤◌, length};
 use crate::made::Input;
 use crate::places::{Origins, origins_of};
 use crate::telling::put_place;
-use abel_tree::{Meaning, Module};
+use abel_tree::{Declared, Meaning, Module};
 use design_drawings::{Design, Flow, flow_of, is_low_register};
-use pld_base::{NameText, OutOfMemory};
+use pld_base::{NameText, OutOfMemory, level_at};
 use pld_device::Device;
+use read_signals::seen_in;
 use source_warnings::{Cause, Warning, warnings};
 use std::alloc::Global;
 
@@ -18,7 +19,7 @@ fn words(cause: Cause) -> (&'static [u8], &'static [u8]) {
         Cause::PlusOfSingles => (b"`+` between single signals is XOR; OR is `#`", b""),
         Cause::IdleWord => (b"the word `", b"` does nothing here"),
         Cause::SecondAssignment => (b"`", b"` is assigned before; the two are joined by OR"),
-        Cause::UnusedPin => (b"`", b"` is in no product term, and nothing assigns it"),
+        Cause::UnusedPin => (b"`", b"` is neither read nor assigned"),
         Cause::AssertedAtPowerUp => (
             b"`",
             b"` is active-low, and its register asserts it after power-up",
@@ -27,28 +28,61 @@ fn words(cause: Cause) -> (&'static [u8], &'static [u8]) {
     }
 }
 
-/// The warnings that only the fuses tell: pins that are not used, and registers that begin asserted.
-fn fuse_warnings<D: Device>(design: Design) -> Result<Vec<Warning>, OutOfMemory> {
+/// The most pins that `seen_in` is asked for at once, more than a device has.
+const MOST_PINS: usize = 32;
+
+/// A warning on a name at its declaration.
+fn warning_on(alloc: Global, declared: &Declared, cause: Cause) -> Result<Warning, OutOfMemory> {
+    Ok(Warning {
+        cause,
+        place: declared.place,
+        name: NameText::new(alloc, declared.name.bytes())?,
+    })
+}
+
+/// The numbers of the names whose pins no fuse uses.
+fn idle_pins<D: Device>(design: Design) -> Result<Vec<usize>, OutOfMemory> {
     let mut found = Vec::new(design.alloc);
-    for declared in design.names.list.as_slice() {
-        if let Meaning::Pin { pin, negated } = declared.meaning {
-            let cause = if flow_of::<D>(design, pin) == Flow::Unused {
-                Some(Cause::UnusedPin)
-            } else if negated && is_low_register::<D>(design, pin) {
-                Some(Cause::AssertedAtPowerUp)
-            } else {
-                None
-            };
-            if let Some(cause) = cause {
-                found.push(Warning {
-                    cause,
-                    place: declared.place,
-                    name: NameText::new(design.alloc, declared.name.bytes())?,
-                })?;
+    for (number, declared) in design.names.list.as_slice().iter().enumerate() {
+        if let Meaning::Pin { pin, negated: _ } = declared.meaning {
+            if flow_of::<D>(design, pin) == Flow::Unused {
+                found.push(number)?;
             }
         }
     }
     Ok(found)
+}
+
+/// Adds the pins that nothing assigns and no section reads.
+fn add_unused<D: Device>(
+    found: &mut Vec<Warning>,
+    design: Design,
+    module: &Module,
+) -> Result<(), OutOfMemory> {
+    let names = design.names.list.as_slice();
+    let idle = idle_pins::<D>(design)?;
+    let (asked, _) = idle.split_at(idle.len().min(MOST_PINS));
+    let seen = seen_in(design.alloc, names, module.sections.as_slice(), asked)?;
+    for (place, number) in asked.iter().enumerate() {
+        if !level_at(seen.read, place as u8) {
+            if let Some(declared) = names.get(*number) {
+                found.push(warning_on(design.alloc, declared, Cause::UnusedPin)?)?;
+            }
+        }
+    }
+    Ok(())
+}
+
+/// Adds the active-low registers that are asserted after power-up.
+fn add_asserted<D: Device>(found: &mut Vec<Warning>, design: Design) -> Result<(), OutOfMemory> {
+    for declared in design.names.list.as_slice() {
+        if let Meaning::Pin { pin, negated } = declared.meaning {
+            if negated && is_low_register::<D>(design, pin) {
+                found.push(warning_on(design.alloc, declared, Cause::AssertedAtPowerUp)?)?;
+            }
+        }
+    }
+    Ok(())
 }
 
 /// Appends the line on a warning.
@@ -62,7 +96,7 @@ fn put_warning(
     if warning.cause == Cause::NoVectors {
         text.extend_from_slice(name)?;
     } else {
-        put_place(alloc, text, name, origins.at(warning.place))?;
+        put_place(alloc, text, name, origins.at(warning.place).source)?;
     }
     let (front, behind) = words(warning.cause);
     text.extend_from_slice(b": warning: ")?;
@@ -99,7 +133,9 @@ pub fn put_warnings<D: Device>(
     requires { length input.bytes.now ≤ 1048576 }
 {
     let of_source = warnings(design.alloc, module, design.names)?;
-    let of_fuses = fuse_warnings::<D>(design)?;
+    let mut of_pins = Vec::new(design.alloc);
+    add_unused::<D>(&mut of_pins, design, module)?;
+    add_asserted::<D>(&mut of_pins, design)?;
     put_list(design.alloc, text, input, of_source.as_slice())?;
-    put_list(design.alloc, text, input, &of_fuses)
+    put_list(design.alloc, text, input, &of_pins)
 }
