@@ -76,11 +76,15 @@ pub fn reading(alloc: Global, text: &[u8]) -> Found {
     found
 }
 
-/// Puts the offset of the byte that a reader gave last, with an `m` if a macro stands for it.
-fn put_offset(found: &mut Found, reader: &Reader) {
+/// Puts the offset of the byte that a reader gave last; if a macro stands for it also an `m`, and where the source has it.
+fn put_offset(found: &mut Found, reader: &Reader, byte: u8) {
     found.number(reader.offset());
     if reader.is_in_macro() {
         found.text("m");
+        match reader.origin_of(byte) {
+            Some(offset) => found.number(offset),
+            None => found.text("-"),
+        }
     }
     found.text(" ")
 }
@@ -95,7 +99,7 @@ pub fn offsets(alloc: Global, text: &[u8]) -> Found {
     let mut reader = Reader::new(alloc, text);
     for _ in 0..=LONGEST {
         match reader.next() {
-            Ok(Some(_)) => put_offset(&mut found, &reader),
+            Ok(Some(byte)) => put_offset(&mut found, &reader, byte),
             _ => break,
         }
     }

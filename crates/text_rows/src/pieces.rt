@@ -2,16 +2,32 @@
 
 use std::alloc::{AllocError, Global};
 use test_rows::{Found, Report};
-use text_pieces::Rest;
+use text_pieces::{Piece, Rest};
+
+// Pieces.
+const AB: Piece = Piece {
+    bytes: b"ab",
+    offset: 0,
+};
+
+const C: Piece = Piece {
+    bytes: b"c",
+    offset: 0,
+};
+
+const NOTHING: Piece = Piece {
+    bytes: b"",
+    offset: 0,
+};
 
 // Pieces that are put before a text, how many bytes are left out, and what is left.
-const LEFT: [(&[&[u8]], &[u8], usize, &[u8]); 6] = [
+const LEFT: [(&[Piece], &[u8], usize, &[u8]); 6] = [
     (&[], b"abc", 0, b"abc"),
-    (&[b"ab", b"", b"c"], b"de", 0, b"abcde"),
-    (&[b"ab", b"c"], b"de", 1, b"bcde"),
-    (&[b"ab", b"c"], b"de", 4, b"e"),
-    (&[b"ab", b"c"], b"de", 5, b""),
-    (&[b"", b""], b"", 0, b""),
+    (&[AB, NOTHING, C], b"de", 0, b"abcde"),
+    (&[AB, C], b"de", 1, b"bcde"),
+    (&[AB, C], b"de", 4, b"e"),
+    (&[AB, C], b"de", 5, b""),
+    (&[NOTHING, NOTHING], b"", 0, b""),
 ];
 
 /// A text behind its length.
@@ -64,7 +80,7 @@ fn put_byte(found: &mut Found, byte: Option<u8>) {
 /// pieces there are up to the third.
 fn looked(alloc: Global) -> Result<Found, AllocError> {
     let mut rest = Rest::new(alloc, b"de");
-    rest.put_all(&[b"ab", b"", b"c"])?;
+    rest.put_all(&[AB, NOTHING, C])?;
     let mut at = rest.ahead();
     let mut found = Found::new(alloc);
     put_byte(&mut found, at.step());
@@ -74,7 +90,7 @@ fn looked(alloc: Global) -> Result<Found, AllocError> {
     if at.left() >= 3 {
         let mut count = 0usize;
         for piece in at.until(alloc, 3)?.iter() {
-            count = count.saturating_add(piece.len());
+            count = count.saturating_add(piece.bytes.len());
         }
         found.text(" ");
         found.number(count);
