@@ -1,2 +1,9 @@
 pub mod Stacked
 pub mod Pieces
+pub mod Tables
+pub mod OpenPlaces
+pub mod BlockSteps
+pub mod ArgumentSteps
+pub mod Marked
+pub mod Alike
+pub mod Told

@@ -1,1 +1,7 @@
+pub mod Modes
+pub mod Brackets
 pub mod Stacks
+pub mod Homes
+pub mod Known
+pub mod Opened
+pub mod Places

@@ -1,16 +1,15 @@
 -- Texts that stand in pieces.
 use Rattle.std.specs.Prelude.{ℕ, List, [], ◌∷◌, ◌++◌, drop}
-use Rattle.text_pieces.specs.declared.piece.Piece.{Piece}
 
 -- the text of pieces, the first piece first
-abbrev pub joined : List Piece → List ℕ
+abbrev pub joined : List (List ℕ) → List ℕ
 joined [] = []
-joined (p ∷ ps) = p.bytes.now ++ joined ps
+joined (p ∷ ps) = p ++ joined ps
 
 -- the text of a stack of pieces, the last piece first
-abbrev pub stacked : List Piece → List ℕ
+abbrev pub stacked : List (List ℕ) → List ℕ
 stacked [] = []
-stacked (p ∷ ps) = stacked ps ++ p.bytes.now
+stacked (p ∷ ps) = stacked ps ++ p
 
 -- a text that is looked at: the whole of it, and how much was passed
 pub record Look : Type 0 where

@@ -1,109 +1,52 @@
 //! A look ahead at a text in pieces, byte by byte.
 
-ghost use Rattle.std.specs.Prelude.{◌≡◌, ℕ, ◌+◌, ◌<◌, ◌≤◌, ◌^◌, List, [], ◌∷◌, ◌++◌, length, take, drop, IfOk, IfSome, IfNone, true, false};
+ghost use Rattle.std.specs.Prelude.{◌≡◌, ◌==◌, ℕ, ◌+◌, ◌<◌, ◌≤◌, ◌^◌, List, [], ◌∷◌, ◌++◌, length, take, drop, IfOk, IfSome, IfNone, Some};
+ghost use Rattle.std.specs.List.{count_by};
+ghost use Rattle.text_pieces.specs.Brackets.{closing, argument_end};
 ghost use Rattle.text_pieces.specs.Stacks.{ahead, joined, rest_of, stacked};
+ghost use Rattle.text_pieces.specs.declared.mode.Mode.TheVariants as mode;
 
 use crate::piece::Piece;
+use crate::place::Place;
 use std::alloc::{AllocError, Global};
 use std::marker::Model;
 
 /// A place in a text in pieces, from which it is looked at.
 #[derive(Drop)]
 pub struct Ahead<'r, 'a> {
-    top: Piece<'a>,
+    top: &'r Piece<'a>,
     stack: &'r [Piece<'a>],
-    here: Piece<'a>,
-    below: &'r [Piece<'a>],
+    place: Place<'r, 'a>,
     bytes: usize,
     passed: usize,
 }
 
 impl<'r, 'a> Model for Ahead<'r, 'a> {
-    ghost use Rattle.std.specs.Prelude.{◌≡◌, ◌≤◌, ◌++◌, ◌<◌, ◌^◌, [], length, drop};
+    ghost use Rattle.std.specs.Prelude.{◌≡◌, ◌≤◌, ◌++◌, ◌<◌, ◌^◌, length, drop};
     ghost use Rattle.text_pieces.specs.Stacks.{Look, stacked};
+    ghost use Rattle.text_pieces.specs.Places.{text_at, IsPlace, IsSettled};
 
     ghost Value = { Look };
 
-    ghost view = { λ a. record { whole = a.top.bytes.now ++ stacked a.stack.now; passed = a.passed } };
+    ghost view = { λ a. record { whole = a.top.now ++ stacked a.stack.now; passed = a.passed } };
 
-    ghost invariant = { λ a. (a.here.bytes.now ++ stacked a.below.now ≡ drop a.passed (a.top.bytes.now ++ stacked a.stack.now)) × (a.passed ≤ length (a.top.bytes.now ++ stacked a.stack.now)) × (a.here.bytes.now ≡ [] → stacked a.below.now ≡ []) × (length a.below.now < 2 ^ 59) × (length (a.top.bytes.now ++ stacked a.stack.now) < 2 ^ 63) × (a.bytes ≡ length (a.top.bytes.now ++ stacked a.stack.now)) };
-}
-
-/// Whether a piece holds nothing and others stand below it.
-fn is_passed(here: Piece, below: &[Piece]) -> bool
-    ensures yes { result ≡ true → (length here.entry.bytes.now ≡ 0) × (0 < length below.now) }
-    ensures no { result ≡ false → here.entry.bytes.now ≡ [] → stacked below.now ≡ [] }
-{
-    here.bytes.is_empty() && !below.is_empty()
-}
-
-/// The same text, begun by a piece that isn't empty where the text isn't.
-fn settled<'r, 'a>(first: Piece<'a>, rest: &'r [Piece<'a>]) -> (Piece<'a>, &'r [Piece<'a>])
-    requires { length rest.now < 2 ^ 59 }
-    ensures text { result.0.bytes.now ++ stacked result.1.now ≡ first.entry.bytes.now ++ stacked rest.now }
-    ensures fewer { length result.1.now ≤ length rest.now }
-    ensures first { result.0.bytes.now ≡ [] → stacked result.1.now ≡ [] }
-{
-    let mut here = first;
-    let mut below = rest;
-    'pieces: while is_passed(here, below) {
-        let [more @ .., last] = below else {
-            unreachable!();
-        };
-        here = *last;
-        below = more;
-    }
-    (here, below)
-}
-
-/// The first bytes of a text, as pieces.
-fn pieces_of<'a>(
-    alloc: Global,
-    first: Piece<'a>,
-    rest: &[Piece<'a>],
-    count: usize,
-) -> Result<Vec<Piece<'a>>, AllocError>
-    requires pieces { length rest.now < 2 ^ 59 }
-    requires within { count ≤ length (first.bytes.now ++ stacked rest.now) }
-    ensures { IfOk result (λ w. joined w.items ≡ take count (first.entry.bytes.now ++ stacked rest.now)) }
-{
-    let mut pieces = Vec::new(alloc);
-    let mut here = first;
-    let mut below = rest;
-    let mut left = count;
-    'pieces: while here.bytes.len() < left {
-        pieces.push(here)?;
-        left -= here.bytes.len();
-        let [more @ .., last] = below else {
-            unreachable!();
-        };
-        here = *last;
-        below = more;
-    }
-    if left == 0 {
-        return Ok(pieces);
-    }
-    let (front, _behind) = here.split_at(left);
-    pieces.push(front)?;
-    Ok(pieces)
+    ghost invariant = { λ a. (text_at a.place ≡ drop a.passed (a.top.now ++ stacked a.stack.now)) × (a.passed ≤ length (a.top.now ++ stacked a.stack.now)) × IsSettled a.place × IsPlace a.place × (length (a.top.now ++ stacked a.stack.now) < 2 ^ 63) × (a.bytes ≡ length (a.top.now ++ stacked a.stack.now)) };
 }
 
 impl<'r, 'a> Ahead<'r, 'a> {
     /// A look at a whole text of so many bytes: this piece, and then those of the stack, the last one
     /// first.
-    pub fn new(top: Piece<'a>, stack: &'r [Piece<'a>], bytes: usize) -> Ahead<'r, 'a>
-        requires pieces { length stack.now < 2 ^ 59 }
-        requires bytes { bytes ≡ length (top.bytes.now ++ stacked stack.now) }
+    pub fn new(top: &'r Piece<'a>, stack: &'r [Piece<'a>], bytes: usize) -> Ahead<'r, 'a>
+        requires pieces { length stack.now < 2 ^ 58 }
+        requires bytes { bytes ≡ length (top.now ++ stacked stack.now) }
         requires fits { bytes < 2 ^ 63 }
-        ensures whole { result.whole ≡ top.entry.bytes.now ++ stacked stack.now }
+        ensures whole { result.whole ≡ top.now ++ stacked stack.now }
         ensures passed { result.passed ≡ 0 }
     {
-        let (here, below) = settled(top, stack);
         Ahead {
             top,
             stack,
-            here,
-            below,
+            place: Place::new(top, stack).settled(),
             bytes,
             passed: 0,
         }
@@ -116,8 +59,7 @@ impl<'r, 'a> Ahead<'r, 'a> {
         Ahead {
             top: self.top,
             stack: self.stack,
-            here: self.here,
-            below: self.below,
+            place: self.place,
             bytes: self.bytes,
             passed: self.passed,
         }
@@ -148,11 +90,11 @@ impl<'r, 'a> Ahead<'r, 'a> {
     }
 
     /// The next bytes, as far as they stand in one piece.
-    pub fn front(&self) -> &'a [u8]
+    pub fn front(&self) -> &'r [u8]
         ensures text { take (length result.now) (ahead self.now) ≡ result.now }
         ensures within { length result.now ≤ length (ahead self.now) }
     {
-        self.here.bytes
+        self.place.front
     }
 
     /// The next byte, which stays ahead.
@@ -160,7 +102,7 @@ impl<'r, 'a> Ahead<'r, 'a> {
         ensures some { IfSome result (λ b. (bs : List ℕ) × (ahead self.now ≡ b ∷ bs)) }
         ensures none { IfNone result (ahead self.now ≡ []) }
     {
-        match self.here.bytes {
+        match self.place.front {
             [first, ..] => Some(*first),
             [] => None,
         }
@@ -171,15 +113,12 @@ impl<'r, 'a> Ahead<'r, 'a> {
         ensures some { IfSome result (λ b. (a : ℕ) × (bs : List ℕ) × (ahead self.now ≡ a ∷ b ∷ bs)) }
         ensures none { IfNone result (rest_of (ahead self.now) ≡ []) }
     {
-        match self.here.bytes {
+        match self.place.front {
             [_, second, ..] => Some(*second),
-            [_] => {
-                let (here, _below) = settled(Piece::computed(&[]), self.below);
-                match here.bytes {
-                    [first, ..] => Some(*first),
-                    [] => None,
-                }
-            }
+            [_] => match self.place.behind(1).front {
+                [first, ..] => Some(*first),
+                [] => None,
+            },
             [] => None,
         }
     }
@@ -192,20 +131,9 @@ impl<'r, 'a> Ahead<'r, 'a> {
         ensures passed { IfSome result (λ b. self.new.passed ≡ self.old.passed + 1) }
         ensures same { IfNone result (self.new ≡ self.old) }
     {
-        match self.here.bytes {
+        match self.place.front {
             [first, ..] => {
-                let (_passed, behind) = self.here.split_at(1);
-                let mut here = behind;
-                let mut below = self.below;
-                'pieces: while is_passed(here, below) {
-                    let [more @ .., last] = below else {
-                        unreachable!();
-                    };
-                    here = *last;
-                    below = more;
-                }
-                self.here = here;
-                self.below = below;
+                self.place = self.place.behind(1);
                 self.passed += 1;
                 Some(*first)
             }
@@ -218,7 +146,7 @@ impl<'r, 'a> Ahead<'r, 'a> {
         requires { count ≤ length (ahead self.now) }
         ensures { IfOk result (λ w. joined w.items ≡ take count (ahead self.now)) }
     {
-        pieces_of(alloc, self.here, self.below, count)
+        self.place.pieces(alloc, count)
     }
 
     /// Passes the next bytes.
@@ -228,28 +156,31 @@ impl<'r, 'a> Ahead<'r, 'a> {
         ensures whole { self.new.whole ≡ self.old.whole }
         ensures passed { self.new.passed ≡ self.old.passed + count }
     {
-        let mut here = self.here;
-        let mut below = self.below;
-        let mut left = count;
-        'pieces: while here.bytes.len() < left {
-            left -= here.bytes.len();
-            let [more @ .., last] = below else {
-                unreachable!();
-            };
-            here = *last;
-            below = more;
-        }
-        let (_passed, behind) = here.split_at(left);
-        here = behind;
-        'settling: while is_passed(here, below) {
-            let [more @ .., last] = below else {
-                unreachable!();
-            };
-            here = *last;
-            below = more;
-        }
-        self.here = here;
-        self.below = below;
+        self.place = self.place.behind(count);
         self.passed += count;
+    }
+
+    /// How many bytes stand before the brace that closes the block whose text begins here, if that is known.
+    pub fn block_len(&self) -> Option<usize>
+        ensures closes { IfSome result (λ n. closing 0 mode.Plain (ahead self.now) ≡ Some (drop n (ahead self.now))) }
+        ensures within { IfSome result (λ n. n ≤ length (ahead self.now)) }
+    {
+        self.place.block_len()
+    }
+
+    /// How many bytes the argument has that begins here, if that is known.
+    pub fn argument_len(&self) -> Option<usize>
+        ensures ends { IfSome result (λ n. argument_end 0 0 mode.Plain (ahead self.now) ≡ Some (drop n (ahead self.now))) }
+        ensures within { IfSome result (λ n. n ≤ length (ahead self.now)) }
+    {
+        self.place.argument_len()
+    }
+
+    /// So many of the next bytes are no question marks.
+    pub fn unmarked_len(&self) -> usize
+        ensures none { count_by (λ b. b == 63) (take result (ahead self.now)) ≡ 0 }
+        ensures within { result ≤ length (ahead self.now) }
+    {
+        self.place.unmarked_len()
     }
 }

@@ -1,51 +1,196 @@
 //! A piece of a text, which knows where it stands in the source.
 
-ghost use Rattle.std.specs.Prelude.{◌≡◌, ◌≤◌, length, take, drop};
+ghost use Rattle.std.specs.Prelude.{◌≡◌, ◌+◌, ◌-◌, ◌<◌, ◌≤◌, ◌^◌, ◌++◌, [], ◌∷◌, length, take, drop, IfNone, IfOk, OnOk, IfSome};
+ghost use Rattle.text_pieces.specs.Homes.{home_bytes};
+ghost use Rattle.text_pieces.specs.Known.{ClosesAt, EndsAt, NoMark};
+ghost use Rattle.text_pieces.specs.Stacks.{joined};
 
-/// The offset of bytes that stand nowhere in the source, as the digits of a value.
-const NOWHERE: usize = usize::MAX;
+use crate::home::Home;
+use crate::text::{NOWHERE, Text};
+use std::alloc::{AllocError, Global};
+use std::marker::Model;
+use std::rc::Rc;
 
-/// Bytes, and the offset in the source at which they begin. No contract rests on the offset: who reads it looks whether the
-/// source has the byte there.
-#[derive(Clone, Copy)]
+/// Bytes of a text. No contract rests on where they stand in the source: who reads that looks whether the source has the byte
+/// there.
+#[derive(Drop)]
 pub struct Piece<'a> {
-    pub bytes: &'a [u8],
-    pub offset: usize,
+    home: Home<'a>,
+    from: usize,
+    to: usize,
+}
+
+impl<'a> Model for Piece<'a> {
+    ghost use Rattle.std.specs.Prelude.{◌≤◌, ◌<◌, ◌^◌, ◌-◌, List, ℕ, length, take, drop};
+
+    ghost Value = { List ℕ };
+
+    ghost use Rattle.text_pieces.specs.Homes.{home_bytes};
+
+    ghost view = { λ p. take (p.to - p.from) (drop p.from (home_bytes p.home)) };
+
+    ghost invariant = { λ p. (p.from ≤ p.to) × (p.to ≤ length (home_bytes p.home)) × (p.to < 2 ^ 64) };
 }
 
 impl<'a> Piece<'a> {
     /// A whole source.
     pub fn source(bytes: &'a [u8]) -> Piece<'a>
-        ensures same { result.bytes.now ≡ bytes.now }
+        ensures { result ≡ bytes.now }
     {
-        Piece { bytes, offset: 0 }
+        Piece {
+            home: Home::Lent(bytes, 0),
+            from: 0,
+            to: bytes.len(),
+        }
     }
 
     /// Bytes that stand nowhere in the source.
     pub fn computed(bytes: &'a [u8]) -> Piece<'a>
-        ensures same { result.bytes.now ≡ bytes.now }
+        ensures { result ≡ bytes.now }
     {
         Piece {
-            bytes,
-            offset: NOWHERE,
+            home: Home::Lent(bytes, usize::MAX),
+            from: 0,
+            to: bytes.len(),
         }
     }
 
-    /// Its first bytes, and those behind them.
-    pub fn split_at(self, count: usize) -> (Piece<'a>, Piece<'a>)
-        requires { count ≤ length self.bytes.now }
-        ensures front { result.0.bytes.now ≡ take count self.entry.bytes.now }
-        ensures behind { result.1.bytes.now ≡ drop count self.entry.bytes.now }
+    /// One piece of all these bytes, of a text that is kept.
+    pub fn kept(alloc: Global, pieces: &[Piece<'a>]) -> Result<Piece<'a>, AllocError>
+        requires { length (joined pieces.now) < 2 ^ 32 }
+        ensures { IfOk result (λ p. p ≡ joined pieces.now) }
     {
-        let (front, behind) = self.bytes.split_at(count);
-        let front = Piece {
-            bytes: front,
-            offset: self.offset,
-        };
-        let behind = Piece {
-            bytes: behind,
-            offset: self.offset.saturating_add(count),
-        };
-        (front, behind)
+        let mut bytes = Vec::new(alloc);
+        let mut offsets = Vec::new(alloc);
+        'pieces: for piece in pieces {
+            piece.add_to(&mut bytes, &mut offsets)?;
+        }
+        let to = bytes.len();
+        let text = Rc::new(alloc, Text::new(alloc, bytes, offsets)?)?;
+        Ok(Piece {
+            home: Home::Kept(text),
+            from: 0,
+            to,
+        })
+    }
+
+    /// Adds its bytes, and where they stand in the source.
+    fn add_to(&self, bytes: &mut Vec<u8>, offsets: &mut Vec<u32>) -> Result<(), AllocError>
+        ensures { OnOk result (bytes.new.items ≡ bytes.old.items ++ self.now) }
+    {
+        bytes.extend_from_slice(self.bytes())?;
+        let mut place = self.from;
+        'offsets: while place < self.to {
+            match u32::try_from(self.home.offset(place)) {
+                Ok(offset) => offsets.push(offset)?,
+                Err(_) => offsets.push(NOWHERE)?,
+            }
+            place += 1;
+        }
+        Ok(())
+    }
+
+    pub fn len(&self) -> usize
+        ensures { result ≡ length self.now }
+    {
+        self.to - self.from
+    }
+
+    pub fn bytes(&self) -> &[u8]
+        ensures { result.now ≡ self.now }
+    {
+        let (front, _behind) = self.home.bytes().split_at(self.to);
+        let (_passed, bytes) = front.split_at(self.from);
+        bytes
+    }
+
+    /// Where the byte before its first one stands in the source.
+    pub fn offset_before(&self) -> usize {
+        match self.from.checked_sub(1) {
+            Some(place) => self.home.offset(place),
+            None => self.home.offset(0).wrapping_sub(1),
+        }
+    }
+
+    /// Its first byte.
+    pub fn first(&self) -> Option<u8>
+        ensures some { IfSome result (λ b. self.now ≡ b ∷ drop 1 self.now) }
+        ensures none { IfNone result (self.now ≡ []) }
+    {
+        match self.bytes() {
+            [first, ..] => Some(*first),
+            [] => None,
+        }
+    }
+
+    /// So many of its bytes, from one on.
+    pub fn part(&self, from: usize, count: usize) -> Result<Piece<'a>, AllocError>
+        requires { from + count ≤ length self.now }
+        ensures { IfOk result (λ p. p ≡ take count (drop from self.now)) }
+    {
+        let from = self.from + from;
+        Ok(Piece {
+            home: self.home.shared()?,
+            from,
+            to: from + count,
+        })
+    }
+
+    /// Leaves out its first bytes.
+    pub fn skip(&mut self, count: usize)
+        requires { count ≤ length self.old }
+        ensures { self.new ≡ drop count self.old }
+    {
+        self.from += count;
+    }
+
+    /// How many bytes stand before the brace that closes the block that begins at one of its bytes, if that is known.
+    pub fn block_len(&self, at: usize) -> Option<usize>
+        requires { at ≤ length self.now }
+        ensures closes { IfSome result (λ n. ClosesAt (drop at self.now) 0 n) }
+        ensures within { IfSome result (λ n. n < length (drop at self.now)) }
+    {
+        let place = self.from + at;
+        let end = self.home.block_end(place)?;
+        if end < place || end >= self.to {
+            return None;
+        }
+        Some(end - place)
+    }
+
+    /// How many bytes the argument has that begins at one of its bytes, if that is known.
+    pub fn argument_len(&self, at: usize) -> Option<usize>
+        requires { at ≤ length self.now }
+        ensures ends { IfSome result (λ n. EndsAt (drop at self.now) 0 n) }
+        ensures within { IfSome result (λ n. n < length (drop at self.now)) }
+    {
+        let place = self.from + at;
+        let end = self.home.argument_end(place)?;
+        if end < place || end >= self.to {
+            return None;
+        }
+        Some(end - place)
+    }
+
+    /// So many bytes from one of them on are no question marks.
+    pub fn unmarked_len(&self, at: usize) -> usize
+        requires { at ≤ length self.now }
+        ensures { NoMark (drop at self.now) 0 result }
+    {
+        let place = self.from + at;
+        let end = self.home.mark(place).min(self.to);
+        end.saturating_sub(place)
+    }
+}
+
+impl<'a> Clone for Piece<'a> {
+    ghost is_clone = { λ piece copy. copy ≡ piece };
+
+    fn clone(&self) -> Result<Piece<'a>, AllocError> {
+        Ok(Piece {
+            home: self.home.shared()?,
+            from: self.from,
+            to: self.to,
+        })
     }
 }

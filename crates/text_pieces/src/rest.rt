@@ -1,12 +1,15 @@
 //! The rest of a text that is rewritten: a stack of pieces of texts that are there.
 
 ghost use Rattle.std.specs.Prelude.{◌≡◌, ◌++◌, ◌+◌, ◌<◌, ◌≤◌, ◌^◌, [], ◌∷◌, IfSome, IfNone, length, take, drop, OnOk, OnErr, IfOk};
-ghost use Rattle.text_pieces.specs.Stacks.{Look, joined, stacked};
+ghost use Rattle.text_pieces.specs.Stacks.{joined, stacked};
 
 use crate::ahead::Ahead;
 use crate::piece::Piece;
 use std::alloc::{AllocError, Global};
 use std::marker::Model;
+
+/// A text that is kept has fewer bytes.
+const LONGEST: usize = 1 << 32;
 
 /// What is still to be read. The last piece of the stack stands right behind the top piece.
 #[derive(Drop)]
@@ -22,9 +25,16 @@ impl<'a> Model for Rest<'a> {
 
     ghost Value = { List ℕ };
 
-    ghost view = { λ r. r.top.bytes.now ++ stacked r.stack.items };
+    ghost view = { λ r. r.top ++ stacked r.stack.items };
 
-    ghost invariant = { λ r. (r.bytes ≡ length (r.top.bytes.now ++ stacked r.stack.items)) × (length (r.top.bytes.now ++ stacked r.stack.items) < 2 ^ 63) };
+    ghost invariant = { λ r. (r.bytes ≡ length (r.top ++ stacked r.stack.items)) × (length (r.top ++ stacked r.stack.items) < 2 ^ 63) };
+}
+
+/// Puts a piece in the place of another.
+fn exchange<'a>(top: &mut Piece<'a>, piece: Piece<'a>)
+    ensures { top.new ≡ piece.entry }
+{
+    *top = piece;
 }
 
 impl<'a> Rest<'a> {
@@ -58,12 +68,12 @@ impl<'a> Rest<'a> {
     pub fn ahead<'r>(&'r self) -> Ahead<'r, 'a>
         ensures { result ≡ record { whole = self.now; passed = 0 } }
     {
-        Ahead::new(self.top, &self.stack, self.bytes)
+        Ahead::new(&self.top, &self.stack, self.bytes)
     }
 
     /// The offset in the source of the byte before the first one: of the byte that was taken last.
     pub fn offset_before(&self) -> usize {
-        self.top.offset.wrapping_sub(1)
+        self.top.offset_before()
     }
 
     /// Takes the first byte.
@@ -72,14 +82,13 @@ impl<'a> Rest<'a> {
         ensures none { IfNone result ((self.old ≡ []) × (self.new ≡ [])) }
     {
         'pieces: loop {
-            if let [first, ..] = self.top.bytes {
-                let (_passed, behind) = self.top.split_at(1);
-                self.top = behind;
+            if let Some(byte) = self.top.first() {
+                self.top.skip(1);
                 self.bytes -= 1;
-                return Some(*first);
+                return Some(byte);
             }
             match self.stack.pop() {
-                Some(piece) => self.top = piece,
+                Some(piece) => exchange(&mut self.top, piece),
                 None => return None,
             }
         }
@@ -91,17 +100,17 @@ impl<'a> Rest<'a> {
         ensures { self.new ≡ drop count self.old }
     {
         let mut left = count;
-        'pieces: while self.top.bytes.len() < left {
-            left -= self.top.bytes.len();
-            self.bytes -= self.top.bytes.len();
+        'pieces: while self.top.len() < left {
+            let len = self.top.len();
+            left -= len;
+            self.bytes -= len;
             match self.stack.pop() {
-                Some(piece) => self.top = piece,
+                Some(piece) => exchange(&mut self.top, piece),
                 None => return,
             }
         }
-        let (_passed, behind) = self.top.split_at(left);
+        self.top.skip(left);
         self.bytes -= left;
-        self.top = behind;
     }
 
     /// Takes the first bytes out, as pieces.
@@ -112,36 +121,35 @@ impl<'a> Rest<'a> {
     {
         let mut pieces = Vec::new(alloc);
         let mut left = count;
-        'pieces: while self.top.bytes.len() < left {
-            let top = self.top;
-            pieces.push(top)?;
-            left -= top.bytes.len();
-            self.bytes -= top.bytes.len();
+        'pieces: while self.top.len() < left {
+            let len = self.top.len();
+            pieces.push(self.top.clone()?)?;
+            left -= len;
+            self.bytes -= len;
             match self.stack.pop() {
-                Some(piece) => self.top = piece,
+                Some(piece) => exchange(&mut self.top, piece),
                 None => return Ok(pieces),
             }
         }
-        let (passed, behind) = self.top.split_at(left);
-        pieces.push(passed)?;
+        pieces.push(self.top.part(0, left)?)?;
+        self.top.skip(left);
         self.bytes -= left;
-        self.top = behind;
         Ok(pieces)
     }
 
     /// Puts a piece in front.
     fn put(&mut self, piece: Piece<'a>) -> Result<(), AllocError>
-        requires { length self.old + length piece.bytes.now < 2 ^ 63 }
-        ensures ok { OnOk result (self.new ≡ piece.entry.bytes.now ++ self.old) }
+        requires { length self.old + length piece < 2 ^ 63 }
+        ensures ok { OnOk result (self.new ≡ piece.entry ++ self.old) }
         ensures err { OnErr result (self.new ≡ self.old) }
     {
-        if self.top.bytes.is_empty() {
-            self.bytes += piece.bytes.len();
+        if self.top.len() == 0 {
+            self.bytes += piece.len();
             self.top = piece;
             return Ok(());
         }
-        self.stack.push(self.top)?;
-        self.bytes += piece.bytes.len();
+        self.stack.push(self.top.clone()?)?;
+        self.bytes += piece.len();
         self.top = piece;
         Ok(())
     }
@@ -149,13 +157,23 @@ impl<'a> Rest<'a> {
     /// Puts a text in pieces in front.
     pub fn put_all(&mut self, pieces: &[Piece<'a>]) -> Result<(), AllocError>
         requires bytes { length self.old + length (joined pieces.now) < 2 ^ 63 }
-        requires pieces { length pieces.now < 2 ^ 59 }
+        requires pieces { length pieces.now < 2 ^ 58 }
         ensures ok { OnOk result (self.new ≡ joined pieces.now ++ self.old) }
     {
         let mut left = pieces;
         'pieces: while let [more @ .., last] = left {
-            self.put(*last)?;
+            self.put(last.clone()?)?;
             left = more;
+        }
+        Ok(())
+    }
+
+    /// Keeps what is known of the places of its first piece.
+    pub fn keep(&mut self, alloc: Global) -> Result<(), AllocError>
+        ensures { self.new ≡ self.old }
+    {
+        if self.top.len() < LONGEST {
+            self.top = Piece::kept(alloc, &[self.top.clone()?])?;
         }
         Ok(())
     }

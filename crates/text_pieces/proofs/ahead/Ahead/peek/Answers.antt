@@ -6,5 +6,5 @@ use Rattle.text_pieces.proofs.ahead.Ahead.peek.Goals as goal
 
 pub returns-in-len1-up-clause-some : goal.returns-in-len1-up-clause-some
 returns-in-len1-up-clause-some c =
-    let p = passes c.self.inside.here.bytes.now (stacked c.self.inside.below.now) (c.self.inside.top.bytes.now ++ stacked c.self.inside.stack.now) c.self.inside.passed (omega arith) c.self.invariant.0 in
-    (drop (c.self.inside.passed + 1) (c.self.inside.top.bytes.now ++ stacked c.self.inside.stack.now), ap ahead (sym c.self.view_is) ∙ p.byte)
+    let p = passes c.self.inside.place.front.now (stacked c.self.inside.place.below.now) (c.self.inside.top.now ++ stacked c.self.inside.stack.now) c.self.inside.passed (omega arith) c.self.invariant.0 in
+    (drop (c.self.inside.passed + 1) (c.self.inside.top.now ++ stacked c.self.inside.stack.now), ap ahead (sym c.self.view_is) ∙ p.byte)

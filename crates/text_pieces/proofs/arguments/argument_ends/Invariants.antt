@@ -1,0 +1,10 @@
+-- The arguments that are open before the next byte.
+use Rattle.std.proofs.Common.{◌≤◌, ◌-◌, length}
+use Rattle.text_pieces.specs.Opened.{ArgumentsOpen}
+use Rattle.text_pieces.proofs.arguments.argument_ends.Given as goal
+
+abbrev pub invariant-bytes : goal.invariant-bytes
+invariant-bytes l = record { begun : ArgumentsOpen l.text l.mode l.at l.ends; within : l.at ≤ length l.text }
+
+abbrev pub decreases-bytes : goal.decreases-bytes
+decreases-bytes l = length l.text - l.at

@@ -1,0 +1,11 @@
+-- No question mark stands up to there in the text, nor in the piece.
+use Rattle.std.proofs.Common.{sym, arith}
+use Rattle.text_pieces.specs.Homes.{home_bytes}
+use Rattle.text_pieces.proofs.Told.{length_is, unmarked_within}
+use Rattle.text_pieces.proofs.piece.Piece.unmarked_len.Goals as goal
+
+pub overflow_add-place : goal.overflow_add-place
+overflow_add-place c = omega (arith, c.requires, c.self.invariant.0, c.self.invariant.2, length_is (home_bytes c.self.inside.home) c.args.self.now c.self.inside.from c.self.inside.to c.self.view_is c.self.invariant.1)
+
+pub returns : goal.returns
+returns c = unmarked_within (home_bytes c.self.inside.home) c.args.self.now c.self.inside.from c.self.inside.to c.args.at (sym c.self.view_is) c.self.invariant.0 c.self.invariant.1 (omega (arith, c.requires, length_is (home_bytes c.self.inside.home) c.args.self.now c.self.inside.from c.self.inside.to c.self.view_is c.self.invariant.1)) c.mark.result c.saturating_sub.result c.mark.ensures (omega arith) (omega arith)

@@ -1,0 +1,23 @@
+-- What is known of a text's places: where the block that begins there is closed, where the argument
+-- ends, and up to where no question mark stands.
+use Rattle.std.specs.Prelude.{ℕ, ◌+◌, ◌-◌, ◌==◌, ◌≡◌, ◌≤◌, List, [], ◌∷◌, length, take, drop, Some}
+use Rattle.std.specs.List.{count_by}
+use Rattle.text_pieces.specs.Brackets.{closing, argument_end}
+use Rattle.text_pieces.specs.declared.mode.Mode.TheVariants as mode
+
+-- the block whose text begins at a place is closed at another
+abbrev pub ClosesAt : List ℕ → ℕ → ℕ → Type 0
+ClosesAt text from end = closing 0 mode.Plain (drop from text) ≡ Some (drop end text)
+
+-- the argument that begins at a place ends at another
+abbrev pub EndsAt : List ℕ → ℕ → ℕ → Type 0
+EndsAt text from end = argument_end 0 0 mode.Plain (drop from text) ≡ Some (drop end text)
+
+-- no question mark stands between two places
+abbrev pub NoMark : List ℕ → ℕ → ℕ → Type 0
+NoMark text from end = (count_by (λ b. b == 63) (take (end - from) (drop from text)) ≡ 0) × (end ≤ length text)
+
+-- what a table says of its places from one on; 0 says nothing
+abbrev pub Tells : (ℕ → ℕ → Type 0) → ℕ → List ℕ → Type 0
+Tells fact from [] = Unit {0}
+Tells fact from (e ∷ es) = ((e ≡ 0 → ⊥) → fact from e) × Tells fact (from + 1) es

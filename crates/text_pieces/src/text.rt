@@ -1,0 +1,101 @@
+//! A text that is kept, with what was found of it once.
+
+ghost use Rattle.std.specs.Prelude.{◌≡◌, ◌<◌, ◌^◌, length, IfOk, IfSome, slice_index};
+ghost use Rattle.text_pieces.specs.Known.{ClosesAt, EndsAt, NoMark};
+
+use crate::arguments::argument_ends;
+use crate::blocks::block_ends;
+use crate::marks::marks;
+use std::alloc::{AllocError, Global};
+use std::marker::Model;
+
+/// The offset of bytes that stand nowhere in the source, as the digits of a value.
+pub const NOWHERE: u32 = u32::MAX;
+
+/// Bytes, where they stand in the source, and for each place in them: the brace that closes the block that begins there, the
+/// comma or parenthesis that ends the argument, and the next question mark. 0 where the first two aren't known.
+#[derive(Drop)]
+pub struct Text {
+    bytes: Vec<u8>,
+    offsets: Vec<u32>,
+    block_ends: Vec<u32>,
+    argument_ends: Vec<u32>,
+    marks: Vec<u32>,
+}
+
+impl Model for Text {
+    ghost use Rattle.std.specs.Prelude.{◌<◌, ◌^◌, List, ℕ, length};
+    ghost use Rattle.text_pieces.specs.Known.{ClosesAt, EndsAt, NoMark, Tells};
+
+    ghost Value = { List ℕ };
+
+    ghost view = { λ t. t.bytes.items };
+
+    ghost invariant = { λ t. (Tells (ClosesAt t.bytes.items) 0 t.block_ends.items) × (Tells (EndsAt t.bytes.items) 0 t.argument_ends.items) × (Tells (NoMark t.bytes.items) 0 t.marks.items) };
+}
+
+/// What a table has at a place; 0 behind its end.
+fn entry(table: &[u32], place: usize) -> usize
+    ensures { result ≡ slice_index table.now place }
+{
+    match table.get(place) {
+        Some(found) => *found as usize,
+        None => 0,
+    }
+}
+
+impl Text {
+    /// A text of these bytes, which stand there in the source.
+    pub fn new(alloc: Global, bytes: Vec<u8>, offsets: Vec<u32>) -> Result<Text, AllocError>
+        requires { length bytes.items < 2 ^ 32 }
+        ensures { IfOk result (λ t. t ≡ bytes.items) }
+    {
+        let block_ends = block_ends(alloc, &bytes)?;
+        let argument_ends = argument_ends(alloc, &bytes)?;
+        let marks = marks(alloc, &bytes)?;
+        Ok(Text {
+            bytes,
+            offsets,
+            block_ends,
+            argument_ends,
+            marks,
+        })
+    }
+
+    pub fn bytes(&self) -> &[u8]
+        ensures { result.now ≡ self.now }
+    {
+        &self.bytes
+    }
+
+    /// Where a byte stands in the source.
+    pub fn offset(&self, place: usize) -> u32 {
+        match self.offsets.get(place) {
+            Some(offset) => *offset,
+            None => NOWHERE,
+        }
+    }
+
+    /// Where the block that begins at a place is closed, if that is known.
+    pub fn block_end(&self, place: usize) -> Option<usize>
+        ensures { IfSome result (λ e. ClosesAt self.now place e) }
+    {
+        let end = entry(&self.block_ends, place);
+        if end == 0 { None } else { Some(end) }
+    }
+
+    /// Where the argument that begins at a place ends, if that is known.
+    pub fn argument_end(&self, place: usize) -> Option<usize>
+        ensures { IfSome result (λ e. EndsAt self.now place e) }
+    {
+        let end = entry(&self.argument_ends, place);
+        if end == 0 { None } else { Some(end) }
+    }
+
+    /// A place up to which no question mark stands from this one on.
+    pub fn mark(&self, place: usize) -> usize
+        ensures { NoMark self.now place result }
+    {
+        entry(&self.marks, place)
+    }
+}
