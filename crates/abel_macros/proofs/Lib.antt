@@ -11,3 +11,5 @@ pub mod MacroExamples
 pub mod ValueExamples
 pub mod DirectiveExamples
 pub mod Passed
+pub mod Calls
+pub mod LengthsWithin

@@ -1,7 +1,6 @@
 -- Arguments and parameters, one after another.
 use Rattle.std.proofs.Common.{◌≡◌, ℕ, suc, ◌-◌, ◌<◌, Bool, true, false, List, [], ◌∷◌, ◌++◌, Option, None, Some, refl, sym, ap, ◌∙◌, arith, append_assoc}
 use Rattle.std.specs.Prelude.{if◌then◌else◌}
-use Rattle.text_pieces.specs.declared.piece.Piece.{Piece}
 use Rattle.std.specs.Global.{Vec}
 use Rattle.std.proofs.lemmas.List.{map-append}
 use Rattle.text_pieces.specs.Stacks.{joined}
@@ -14,7 +13,7 @@ use Rattle.abel_macros.proofs.Behind.{behind_all}
 abbrev Found : Type 0
 Found = Option (List (List ℕ) × List ℕ)
 
-pub texts_push : (ws : List (Vec Piece)) (w : Vec Piece) → texts (ws ++ w ∷ []) ≡ texts ws ++ joined w.items ∷ []
+pub texts_push : (ws : List (Vec (List ℕ))) (w : Vec (List ℕ)) → texts (ws ++ w ∷ []) ≡ texts ws ++ joined w.items ∷ []
 texts_push ws w = map-append (λ v. joined v.items) ws (w ∷ [])
 
 pub names_push : (ws : List (Vec ℕ)) (w : Vec ℕ) → names (ws ++ w ∷ []) ≡ names ws ++ w.items ∷ []

@@ -8,8 +8,8 @@ use Rattle.std.proofs.Math.Seq.{take-add}
 use Rattle.std.proofs.lemmas.Bool.{eqb-true}
 use mir.Val.{bool_byte}
 use Rattle.abel_lexer.proofs.Booleans.{bool_cases}
-use Rattle.abel_macros.specs.declared.mode.Mode.{Mode}
-use Rattle.abel_macros.specs.declared.mode.Mode.TheVariants as mode
+use Rattle.text_pieces.specs.declared.mode.Mode.{Mode}
+use Rattle.text_pieces.specs.declared.mode.Mode.TheVariants as mode
 use Rattle.abel_macros.specs.Gaps.{is_plain, passing, quoting}
 use Rattle.abel_macros.specs.Forms.{nested, closes_block, closing, ends_argument, argument_end}
 

@@ -1,6 +1,5 @@
 -- A text without the blanks at its ends, byte by byte.
 use Rattle.std.proofs.Common.{◌≡◌, ℕ, suc, ◌+◌, ◌-◌, ◌≤◌, ◌<◌, inl, inr, Bool, true, false, List, [], ◌∷◌, ◌++◌, length, take, drop, get_or, refl, sym, ap, ◌∙◌, arith, length-take}
-use Rattle.text_pieces.specs.declared.piece.Piece.{Piece}
 use Rattle.std.proofs.Math.Seq.{take-length, take-suc}
 use Rattle.text_pieces.specs.Stacks.{joined}
 use Rattle.text_pieces.proofs.Pieces.{joined-push}
@@ -96,14 +95,14 @@ dark_behind (a ∷ v) w h = rw (some_dark (a ∷ v) w (not_all_blank w h)) (ap (
 
 -- ---- pieces
 
-pub piece_gone : (items more : List Piece) (p : Piece) (n : ℕ) (total : List ℕ) → items ≡ more ++ p ∷ [] → take n p.bytes.now ≡ trimmed_end p.bytes.now → n ≡ 0
+pub piece_gone : (items more : List (List ℕ)) (p : List ℕ) (n : ℕ) (total : List ℕ) → items ≡ more ++ p ∷ [] → take n p ≡ trimmed_end p → n ≡ 0
     → trimmed_end (joined items) ≡ total → trimmed_end (joined more) ≡ total
 piece_gone items more p n total e t z h =
-    sym (blanks_behind (joined more) p.bytes.now (sym t ∙ ap (λ (k : ℕ). take k p.bytes.now) z)) ∙ ap trimmed_end (sym (joined-push more p)) ∙ ap (λ (ps : List Piece). trimmed_end (joined ps)) (sym e) ∙ h
+    sym (blanks_behind (joined more) p (sym t ∙ ap (λ (k : ℕ). take k p) z)) ∙ ap trimmed_end (sym (joined-push more p)) ∙ ap (λ (ps : List (List ℕ)). trimmed_end (joined ps)) (sym e) ∙ h
 
-pub piece_kept : (items more pushed : List Piece) (p q : Piece) (n : ℕ) (total : List ℕ) → items ≡ more ++ p ∷ [] → take n p.bytes.now ≡ trimmed_end p.bytes.now → 0 < n → n ≤ length p.bytes.now → q.bytes.now ≡ take n p.bytes.now
+pub piece_kept : (items more pushed : List (List ℕ)) (p q : List ℕ) (n : ℕ) (total : List ℕ) → items ≡ more ++ p ∷ [] → take n p ≡ trimmed_end p → 0 < n → n ≤ length p → q ≡ take n p
     → pushed ≡ more ++ q ∷ [] → trimmed_end (joined items) ≡ total → joined pushed ≡ total
 piece_kept items more pushed p q n total e t s l f g h =
-    let some : 0 < length (trimmed_end p.bytes.now) = omega (arith, s, l, ap length t, length-take n p.bytes.now) in
-    ap joined g ∙ joined-push more q ∙ ap (λ (w : List ℕ). joined more ++ w) (f ∙ t) ∙ sym (dark_behind (joined more) p.bytes.now some)
-    ∙ ap trimmed_end (sym (joined-push more p)) ∙ ap (λ (ps : List Piece). trimmed_end (joined ps)) (sym e) ∙ h
+    let some : 0 < length (trimmed_end p) = omega (arith, s, l, ap length t, length-take n p) in
+    ap joined g ∙ joined-push more q ∙ ap (λ (w : List ℕ). joined more ++ w) (f ∙ t) ∙ sym (dark_behind (joined more) p some)
+    ∙ ap trimmed_end (sym (joined-push more p)) ∙ ap (λ (ps : List (List ℕ)). trimmed_end (joined ps)) (sym e) ∙ h

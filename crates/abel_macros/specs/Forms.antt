@@ -1,33 +1,16 @@
 -- Blocks, arguments, and what stands for a parameter (ABEL-HDL Reference Manual, macros, and the
 -- @IRP directive; how braces, strings and comments are passed is this project's rule).
-use Rattle.std.specs.Prelude.{ℕ, zero, suc, ◌+◌, ◌-◌, Bool, true, false, ◌==◌, ◌&&◌, ◌||◌, List, [], ◌∷◌, ◌++◌, length, take, drop, Option, Some, None, if◌then◌else◌}
+use Rattle.std.specs.Prelude.{ℕ, zero, suc, true, false, ◌==◌, List, [], ◌∷◌, ◌++◌, length, take, drop, Option, Some, None, if◌then◌else◌}
 use Rattle.std.specs.List.{list_all, prefix_len}
 use Rattle.std.specs.Str.{bytes_eq}
 use Rattle.abel_lexer.specs.Bytes.{is_blank, is_name_later}
 use Rattle.abel_lexer.specs.Kinds.{word_head}
 use Rattle.abel_lexer.specs.Lengths.{shaped_len}
-use Rattle.abel_macros.specs.declared.mode.Mode.{Mode}
-use Rattle.abel_macros.specs.declared.mode.Mode.TheVariants as mode
-use Rattle.abel_macros.specs.Gaps.{◌>>=◌, given, starts_byte, rest_of, before, is_plain, quoting, passing, gap, name}
+use Rattle.text_pieces.specs.declared.mode.Mode.TheVariants as mode
+use Rattle.abel_macros.specs.Gaps.{◌>>=◌, given, starts_byte, rest_of, before, gap, name}
+pub use Rattle.text_pieces.specs.Brackets.{nested, braces, closes_block, closing, open_in, ends_argument, argument_end}
 
 -- ---- blocks
-
--- how many of a pair of brackets are open behind a byte of the plain text
-abbrev pub nested : ℕ → ℕ → ℕ → ℕ → ℕ
-nested opening shutting inside b = if b == opening then inside + 1 else if b == shutting then inside - 1 else inside
-
--- how many braces are open behind a byte that stands in such a mode
-abbrev pub braces : Mode → ℕ → ℕ → ℕ
-braces m inside b = if is_plain m then nested 123 125 inside b else inside
-
--- whether this byte closes the block
-abbrev pub closes_block : Mode → ℕ → ℕ → Bool
-closes_block m inside b = is_plain m && b == 125 && inside == 0
-
--- from the brace on that closes a block; so many are open within it, and the first byte stands in such a mode
-abbrev pub closing : ℕ → Mode → List ℕ → Option (List ℕ)
-closing inside m [] = None
-closing inside m (b ∷ bs) = if closes_block m inside b then Some (b ∷ bs) else closing (braces m inside b) (passing m b bs) bs
 
 -- a block's text behind its opening brace, and what stands behind its closing brace
 abbrev pub block_inside : List ℕ → Option (List ℕ × List ℕ)
@@ -47,21 +30,6 @@ trimmed_end (b ∷ bs) = if list_all is_blank (b ∷ bs) then [] else b ∷ trim
 -- a text without the blanks at both ends
 abbrev pub trimmed : List ℕ → List ℕ
 trimmed text = trimmed_end (drop (prefix_len is_blank text) text)
-
--- how many parentheses, or brackets, are open behind a byte that stands in such a mode
-abbrev pub open_in : Mode → ℕ → ℕ → ℕ → ℕ → ℕ
-open_in m opening shutting inside b = if is_plain m then nested opening shutting inside b else inside
-
--- whether this byte ends an argument: the closing parenthesis, or a comma
-abbrev pub ends_argument : ℕ → ℕ → Mode → ℕ → Bool
-ends_argument parens brackets m b = is_plain m && parens == 0 && (b == 41 || b == 44 && brackets == 0)
-
--- from the byte on that ends the argument; so many parentheses and brackets are open in it
-abbrev pub argument_end : ℕ → ℕ → Mode → List ℕ → Option (List ℕ)
-argument_end parens brackets m [] = None
-argument_end parens brackets m (b ∷ bs) =
-    if ends_argument parens brackets m b then Some (b ∷ bs)
-    else argument_end (open_in m 40 41 parens b) (open_in m 91 93 brackets b) (quoting m b) bs
 
 -- an argument, and what stands behind it: a comma or the closing parenthesis
 abbrev pub argument : List ℕ → Option (List ℕ × List ℕ)

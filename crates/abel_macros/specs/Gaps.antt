@@ -2,12 +2,13 @@
 -- identifiers and numbers).
 use Rattle.std.specs.Prelude.{ℕ, ◌-◌, Bool, true, false, not, ◌==◌, ◌&&◌, ◌||◌, nat_lt, List, [], ◌∷◌, length, take, drop, Option, Some, None, if◌then◌else◌}
 use Rattle.std.specs.Option.{option_and_then}
-use Rattle.abel_lexer.specs.Bytes.{line_feed, note_mark, quote, slash, backslash, is_blank, is_name_later, starts}
+use Rattle.abel_lexer.specs.Bytes.{line_feed, note_mark, quote, slash, is_blank, is_name_later}
 use Rattle.abel_lexer.specs.Kinds.{word_head}
 use Rattle.abel_lexer.specs.Lengths.{shaped_len, number_len, quoted_len, listed_len}
 use Rattle.abel_lexer.specs.Signs.{signs}
-use Rattle.abel_macros.specs.declared.mode.Mode.{Mode}
-use Rattle.abel_macros.specs.declared.mode.Mode.TheVariants as mode
+use Rattle.text_pieces.specs.declared.mode.Mode.{Mode}
+use Rattle.text_pieces.specs.declared.mode.Mode.TheVariants as mode
+pub use Rattle.text_pieces.specs.Modes.{starts_byte, is_plain, quoting, passing}
 
 -- ---- readings: a reading takes what stands at the front of a text, and leaves what stands behind
 
@@ -19,10 +20,6 @@ o >>= f = option_and_then f o
 abbrev pub given : {A : Type 0} → Bool → A → Option A
 given true x = Some x
 given false x = None
-
--- whether the first byte is this one
-abbrev pub starts_byte : ℕ → List ℕ → Bool
-starts_byte b bs = starts (λ c. c == b) bs
 
 -- all but the first byte
 abbrev pub rest_of : List ℕ → List ℕ
@@ -36,29 +33,6 @@ before text behind = take (length text - length behind) text
 -- behind what has so many bytes; nothing has none
 abbrev pub behind_some : ℕ → List ℕ → Option (List ℕ)
 behind_some n text = given (nat_lt 0 n) (drop n text)
-
--- ---- where the bytes of a text stand
-
-abbrev pub is_plain : Mode → Bool
-is_plain mode.Plain = true
-is_plain mode.Quoted = false
-is_plain mode.Escaped = false
-is_plain mode.Note = false
-is_plain mode.Line = false
-
--- where the byte behind this one stands, where comments don't count in the plain text
-abbrev pub quoting : Mode → ℕ → Mode
-quoting mode.Plain b = if b == quote then mode.Quoted else mode.Plain
-quoting mode.Quoted b = if b == backslash then mode.Escaped else if b == quote then mode.Plain else mode.Quoted
-quoting mode.Escaped b = mode.Quoted
-quoting mode.Note b = if b == note_mark || b == line_feed then mode.Plain else mode.Note
-quoting mode.Line b = if b == line_feed then mode.Plain else mode.Line
-
--- the same where comments count; `bs` stand behind the byte
-abbrev pub passing : Mode → ℕ → List ℕ → Mode
-passing m b bs =
-    if not (is_plain m) then quoting m b
-    else if b == note_mark then mode.Note else if b == slash && starts_byte slash bs then mode.Line else quoting m b
 
 -- ---- comments, gaps and strings
 

@@ -1,7 +1,8 @@
 -- The tables as the code keeps them: lists of names with what they stand for.
-use Rattle.std.specs.Prelude.{ℕ, List, [], ◌∷◌, Option, None, Some, map, if◌then◌else◌}
+use Rattle.std.specs.Prelude.{◌≡◌, ℕ, List, [], ◌∷◌, Option, None, Some, map, if◌then◌else◌}
 use Rattle.std.specs.Str.{bytes_eq}
 use Rattle.std.specs.Global.{Vec}
+use Rattle.abel_macros.specs.Forms.{replaced, standing_for}
 use Rattle.abel_macros.specs.Rules.{Macro, Tables}
 
 -- names with what they stand for, and the radix in force
@@ -22,3 +23,7 @@ by_bytes es = map (λ e. (e.0.items, e.1)) es
 -- the tables that are kept so
 abbrev pub tables_of : Kept → Tables
 tables_of k = record { macros = under k.macros; values = under k.values; radix = k.radix }
+
+-- a call of the macro of this name with these arguments has this result
+pub record IsResult (macros : List ℕ → Option Macro) (name : List ℕ) (found : List (List ℕ)) (result : List ℕ) : Type 0 where
+  pub replaces : (m : Macro) → (ps : List (List ℕ)) → macros name ≡ Some m → m.parameters ≡ Some ps → result ≡ replaced (standing_for ps found) 0 m.block

@@ -1,11 +1,10 @@
 -- Texts that stand in pieces, and names, as the code keeps them.
 use Rattle.std.specs.Prelude.{ℕ, List, map}
-use Rattle.text_pieces.specs.declared.piece.Piece.{Piece}
 use Rattle.std.specs.Global.{Vec}
 use Rattle.text_pieces.specs.Stacks.{joined}
 
 -- the texts that stand in these pieces
-abbrev pub texts : List (Vec Piece) → List (List ℕ)
+abbrev pub texts : List (Vec (List ℕ)) → List (List ℕ)
 texts ws = map (λ w. joined w.items) ws
 
 -- the bytes of these names

@@ -5,8 +5,8 @@ use Rattle.std.specs.List.{concat}
 use Rattle.std.specs.Str.{bytes_eq, str_eq_ignore_ascii_case}
 use Rattle.abel_lexer.specs.Bytes.{line_feed}
 use Rattle.abel_lexer.specs.Lengths.{known_radix}
-use Rattle.abel_macros.specs.declared.mode.Mode.{Mode}
-use Rattle.abel_macros.specs.declared.mode.Mode.TheVariants as mode
+use Rattle.text_pieces.specs.declared.mode.Mode.{Mode}
+use Rattle.text_pieces.specs.declared.mode.Mode.TheVariants as mode
 use Rattle.abel_macros.specs.Gaps.{◌>>=◌, given, starts_byte, rest_of, before, passing, gap, name, number, sign, behind_sign}
 use Rattle.abel_macros.specs.Forms.{block, arguments, parameters_in, standing_for, replaced}
 use Rattle.abel_macros.specs.Values.{expression, digits_in}

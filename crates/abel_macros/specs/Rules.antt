@@ -6,7 +6,7 @@ use Rattle.abel_lexer.specs.Bytes.{quote}
 use Rattle.abel_lexer.specs.Lengths.{larger, longest_at}
 use Rattle.abel_macros.specs.declared.directive.Directive.{Directive}
 use Rattle.abel_macros.specs.declared.directive.Directive.TheVariants as directive
-use Rattle.abel_macros.specs.declared.mode.Mode.TheVariants as mode
+use Rattle.text_pieces.specs.declared.mode.Mode.TheVariants as mode
 use Rattle.abel_macros.specs.Gaps.{◌>>=◌, given, starts_byte, before, comment, string_len, word}
 use Rattle.abel_macros.specs.Forms.{arguments, standing_for, replaced}
 pub use Rattle.abel_macros.specs.Defined.{Macro, Tables, with_name, is_defined, Cause, TooLong, ExpansionLimit, BadDirective, Unsupported, Move, Done, Rewritten, Refused, or_bad, line_feeds}

@@ -4,15 +4,14 @@ ghost use Rattle.std.specs.Prelude.{◌≡◌, ◌≤◌, length, IfOk, true, fa
 ghost use Rattle.text_pieces.specs.Stacks.{ahead, joined};
 ghost use Rattle.abel_macros.specs.Forms as spec;
 ghost use Rattle.abel_macros.specs.Pieces.{texts};
-ghost use Rattle.abel_macros.specs.declared.mode.Mode.TheVariants as mode;
+ghost use Rattle.text_pieces.specs.declared.mode.Mode.TheVariants as mode;
 
 use crate::blocks::open_in;
 use crate::gaps::{is_next, skip_any, skip_byte, skip_gap};
-use crate::mode::Mode;
 use crate::stretches::{STRETCH, skip_enclosed};
 use crate::trimming::trimmed;
 use std::alloc::{AllocError, Global};
-use text_pieces::{Ahead, Piece};
+use text_pieces::{Ahead, Mode, Piece};
 
 /// Whether a byte ends an argument in which so many parentheses and brackets are open.
 fn ends_argument(parens: usize, brackets: usize, mode: Mode, byte: u8) -> bool
@@ -21,8 +20,8 @@ fn ends_argument(parens: usize, brackets: usize, mode: Mode, byte: u8) -> bool
     mode.is_plain() && parens == 0 && (byte == b')' || byte == b',' && brackets == 0)
 }
 
-/// Passes an argument up to the comma or parenthesis that ends it, if there is one. So many bytes are
-/// passed singly before stretches are tried again.
+/// Passes an argument up to the comma or parenthesis that ends it, if there is one, byte by byte. So many bytes are passed
+/// singly before stretches are tried again.
 fn skip_argument(at: &mut Ahead) -> bool
     ensures yes { result ≡ true → spec.argument_end 0 0 mode.Plain (ahead at.old) ≡ Some (ahead at.new) }
     ensures no { result ≡ false → spec.argument_end 0 0 mode.Plain (ahead at.old) ≡ None }
@@ -52,6 +51,20 @@ fn skip_argument(at: &mut Ahead) -> bool
     false
 }
 
+/// Passes an argument up to the comma or parenthesis that ends it, if there is one: at once where its end is known.
+fn skip_to_end(at: &mut Ahead) -> bool
+    ensures yes { result ≡ true → spec.argument_end 0 0 mode.Plain (ahead at.old) ≡ Some (ahead at.new) }
+    ensures no { result ≡ false → spec.argument_end 0 0 mode.Plain (ahead at.old) ≡ None }
+    ensures whole { at.new.whole ≡ at.old.whole }
+    ensures further { at.old.passed ≤ at.new.passed }
+{
+    let Some(count) = at.argument_len() else {
+        return skip_argument(at);
+    };
+    at.skip(count);
+    true
+}
+
 /// Reads an argument, and stops at the comma or parenthesis behind it.
 fn read_argument<'a>(
     alloc: Global,
@@ -63,7 +76,7 @@ fn read_argument<'a>(
     ensures further { at.old.passed ≤ at.new.passed }
 {
     let from = at.fork();
-    if !skip_argument(at) {
+    if !skip_to_end(at) {
         return Ok(None);
     }
     let argument = trimmed(alloc, &from, at.passed() - from.passed())?;

@@ -3,13 +3,12 @@
 ghost use Rattle.std.specs.Prelude.{◌≡◌, ◌+◌, ◌<◌, ◌≤◌, ◌^◌, length, IfOk, true, false, Some, None, IfSome, IfNone};
 ghost use Rattle.text_pieces.specs.Stacks.{ahead, joined};
 ghost use Rattle.abel_macros.specs.Forms as spec;
-ghost use Rattle.abel_macros.specs.declared.mode.Mode.TheVariants as mode;
+ghost use Rattle.text_pieces.specs.declared.mode.Mode.TheVariants as mode;
 
 use crate::gaps::{skip_byte, skip_gap};
-use crate::mode::Mode;
 use crate::stretches::{STRETCH, skip_braced};
 use std::alloc::{AllocError, Global};
-use text_pieces::{Ahead, Piece};
+use text_pieces::{Ahead, Mode, Piece};
 
 /// How many of a pair of brackets are open behind a byte.
 fn nested(opening: u8, shutting: u8, inside: usize, byte: u8) -> usize
@@ -46,8 +45,8 @@ fn closes_block(mode: Mode, inside: usize, byte: u8) -> bool
     mode.is_plain() && byte == b'}' && inside == 0
 }
 
-/// Passes the text of a block up to the brace that closes it, if there is one. So many bytes are passed
-/// singly before stretches are tried again.
+/// Passes the text of a block up to the brace that closes it, if there is one, byte by byte. So many bytes are passed singly
+/// before stretches are tried again.
 fn skip_inside(at: &mut Ahead) -> bool
     ensures yes { result ≡ true → spec.closing 0 mode.Plain (ahead at.old) ≡ Some (ahead at.new) }
     ensures no { result ≡ false → spec.closing 0 mode.Plain (ahead at.old) ≡ None }
@@ -75,6 +74,20 @@ fn skip_inside(at: &mut Ahead) -> bool
     false
 }
 
+/// Passes the text of a block up to the brace that closes it, if there is one: at once where its end is known.
+fn skip_to_closing(at: &mut Ahead) -> bool
+    ensures yes { result ≡ true → spec.closing 0 mode.Plain (ahead at.old) ≡ Some (ahead at.new) }
+    ensures no { result ≡ false → spec.closing 0 mode.Plain (ahead at.old) ≡ None }
+    ensures whole { at.new.whole ≡ at.old.whole }
+    ensures further { at.old.passed ≤ at.new.passed }
+{
+    let Some(count) = at.block_len() else {
+        return skip_inside(at);
+    };
+    at.skip(count);
+    true
+}
+
 /// Reads a block's text behind its opening brace, and passes its closing brace.
 #[tactic(auto, using(crate::proofs::Behind::part_fits))]
 fn read_inside<'a>(
@@ -89,7 +102,7 @@ fn read_inside<'a>(
 {
     let from = at.fork();
     from.fits();
-    if !skip_inside(at) {
+    if !skip_to_closing(at) {
         return Ok(None);
     }
     let text = from.until(alloc, at.passed() - from.passed())?;

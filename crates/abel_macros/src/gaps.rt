@@ -4,9 +4,8 @@ ghost use Rattle.std.specs.Prelude.{◌≡◌, ℕ, ◌<◌, ◌≤◌, List, �
 ghost use Rattle.text_pieces.specs.Stacks.{ahead};
 ghost use Rattle.abel_macros.specs.Gaps as spec;
 
-use crate::mode::Mode;
 use abel_lexer::is_blank;
-use text_pieces::Ahead;
+use text_pieces::{Ahead, Mode};
 
 /// Whether the next byte is this one.
 pub fn is_next(at: &Ahead, byte: u8) -> bool

@@ -3,11 +3,11 @@
 
 mod arguments;
 mod blocks;
+mod call;
 mod definitions;
 mod directive;
 mod gaps;
 mod lengths;
-mod mode;
 mod operator;
 mod readings;
 mod stretches;
@@ -16,15 +16,16 @@ mod tellings;
 mod tokens;
 mod trimming;
 mod values;
+mod wholes;
 mod words;
 
 pub use arguments::read_arguments;
 pub use blocks::read_block;
+pub use call::Call;
 pub use definitions::{read_macro, skip_macro_word};
 pub use directive::Directive;
 pub use gaps::{is_next, skip_comment, skip_gap_to};
 pub use lengths::{later_len, word_len};
-pub use mode::Mode;
 pub use readings::{Each, read_const, read_counted, read_defined, read_each};
 pub use stretches::{STRETCH, skip_without};
 pub use tables::{Macro, Tables};

@@ -4,10 +4,9 @@ ghost use Rattle.std.specs.Prelude.{◌≡◌, ℕ, ◌+◌, ◌-◌, ◌<◌, �
 ghost use Rattle.std.specs.List.{count_by};
 ghost use Rattle.text_pieces.specs.Stacks.{ahead};
 ghost use Rattle.abel_macros.specs.Forms as spec;
-ghost use Rattle.abel_macros.specs.declared.mode.Mode.TheVariants as mode;
+ghost use Rattle.text_pieces.specs.declared.mode.Mode.TheVariants as mode;
 
-use crate::mode::Mode;
-use text_pieces::Ahead;
+use text_pieces::{Ahead, Mode};
 
 /// How many bytes are looked at together. A sum over so many fits a byte, which lets many be added at once.
 pub const STRETCH: usize = 128;
@@ -52,7 +51,7 @@ fn open_behind(stretch: &[u8], opening: u8, shutting: u8, inside: usize) -> Opti
 
 /// The stretch ahead, if it stands in one piece.
 #[tactic(auto, using(crate::proofs::Passed::front_begins))]
-fn stretch_ahead<'a>(at: &Ahead<'_, 'a>) -> Option<&'a [u8]>
+fn stretch_ahead<'r>(at: &Ahead<'r, '_>) -> Option<&'r [u8]>
     ensures bytes { IfSome result (λ s. s.now ≡ take 128 (ahead at.now)) }
     ensures length { IfSome result (λ s. length s.now ≡ 128) }
     ensures within { IfSome result (λ s. 128 ≤ length (ahead at.now)) }

@@ -1,15 +1,17 @@
 //! What a text has defined so far.
 
-ghost use Rattle.std.specs.Prelude.{◌≡◌, ◌<◌, ◌≤◌, ◌^◌, length, Some, None, IfSome, IfNone, OnOk, option_map};
+ghost use Rattle.std.specs.Prelude.{◌≡◌, ◌<◌, ◌≤◌, ◌^◌, length, Some, None, IfOk, IfSome, IfNone, OnOk, option_map};
 ghost use Rattle.text_pieces.specs.Stacks.{joined};
-ghost use Rattle.abel_macros.specs.Pieces.{names};
+ghost use Rattle.abel_macros.specs.Pieces.{names, texts};
 ghost use Rattle.abel_macros.specs.Turns.{nothing_defined};
-ghost use Rattle.abel_macros.specs.Kept.{tables_of};
+ghost use Rattle.abel_macros.specs.Kept.{tables_of, IsResult};
 ghost use Rattle.abel_macros.specs.Rules as spec;
 
+use crate::call::{Call, KeptCall};
+use crate::wholes::{length_within, whole};
 use indexmap::IndexMap;
 use pld_base::OutOfMemory;
-use std::alloc::Global;
+use std::alloc::{AllocError, Global};
 use std::marker::Model;
 use text_pieces::Piece;
 
@@ -33,23 +35,32 @@ impl<'a> Model for Macro<'a> {
     ghost invariant = { λ m. length (joined m.block.items) < 2 ^ 63 };
 }
 
-/// The macros, the values of names and the radix in force.
+/// How many bytes of texts in pieces are made one piece in all. Each takes 17 bytes of memory, and stays as long as any part of
+/// the piece does.
+const ROOM: usize = 1 << 21;
+
+/// The macros, the values of names and the radix in force; the call that was kept last, which is one of these macros; and how
+/// many bytes more may be kept.
 #[derive(Drop)]
 pub struct Tables<'a> {
     macros: IndexMap<Vec<u8>, Macro<'a>>,
     values: IndexMap<Vec<u8>, u32>,
     radix: u32,
+    last: Option<KeptCall<'a>>,
+    room: usize,
 }
 
 impl<'a> Model for Tables<'a> {
-    ghost use Rattle.std.specs.Prelude.{◌≤◌};
-    ghost use Rattle.abel_macros.specs.Kept.{Kept, by_bytes};
+    ghost use Rattle.std.specs.Prelude.{◌≤◌, IfSome};
+    ghost use Rattle.text_pieces.specs.Stacks.{joined};
+    ghost use Rattle.abel_macros.specs.Kept.{Kept, by_bytes, under, IsResult};
+    ghost use Rattle.abel_macros.specs.Pieces.{names};
 
     ghost Value = { Kept };
 
     ghost view = { λ t. record { macros = by_bytes t.macros.entries; values = by_bytes t.values.entries; radix = t.radix } };
 
-    ghost invariant = { λ t. (2 ≤ t.radix) × (t.radix ≤ 16) };
+    ghost invariant = { λ t. (2 ≤ t.radix) × (t.radix ≤ 16) × IfSome t.last (λ c. IsResult (under (by_bytes t.macros.entries)) c.name.items (names c.arguments.items) (joined c.text.items)) × (t.room ≤ 2097152) };
 }
 
 impl<'a> Macro<'a> {
@@ -76,7 +87,7 @@ impl<'a> Macro<'a> {
     pub fn block(&self) -> &[Piece<'a>]
         ensures text { joined result.now ≡ self.now.block }
         ensures bytes { length (joined result.now) < 2 ^ 63 }
-        ensures pieces { length result.now < 2 ^ 59 }
+        ensures pieces { length result.now < 2 ^ 58 }
     {
         self.block.as_slice()
     }
@@ -91,6 +102,8 @@ impl<'a> Tables<'a> {
             macros: IndexMap::new(alloc),
             values: IndexMap::new(alloc),
             radix: 10,
+            last: None,
+            room: ROOM,
         }
     }
 
@@ -137,12 +150,61 @@ impl<'a> Tables<'a> {
         self.macro_of(name).is_some() || self.value(name).is_some()
     }
 
-    /// Keeps a macro; an older one of its name is replaced.
-    pub fn define(&mut self, name: Vec<u8>, entry: Macro<'a>) -> Result<(), OutOfMemory>
+    /// One piece of a text in pieces, if it has at most so many bytes and there is room to keep them.
+    pub fn whole(
+        &mut self,
+        alloc: Global,
+        pieces: &[Piece<'a>],
+        most: usize,
+    ) -> Result<Option<Vec<Piece<'a>>>, AllocError>
+        ensures text { IfOk result (λ o. IfSome o (λ w. joined w.items ≡ joined pieces.now)) }
+        ensures same { self.new ≡ self.old }
+    {
+        let Some(count) = length_within(pieces, most.min(self.room)) else {
+            return Ok(None);
+        };
+        self.room -= count;
+        Ok(Some(whole(alloc, pieces)?))
+    }
+
+    /// A macro with its block in one piece, if there is room to keep that: then it is quick to find where a block within it
+    /// ends, however often the macro is called.
+    fn settled(&mut self, alloc: Global, entry: Macro<'a>) -> Result<Macro<'a>, AllocError>
+        ensures entry { IfOk result (λ m. m ≡ entry.entry) }
+        ensures same { self.new ≡ self.old }
+    {
+        if entry.block.len() < 2 {
+            return Ok(entry);
+        }
+        let Some(block) = self.whole(alloc, &entry.block, usize::MAX)? else {
+            return Ok(entry);
+        };
+        Ok(Macro {
+            parameters: entry.parameters,
+            block,
+        })
+    }
+
+    /// Puts a macro in the place of an older one of its name, and forgets the call that was kept.
+    fn insert(&mut self, name: Vec<u8>, entry: Macro<'a>) -> Result<(), OutOfMemory>
         ensures { OnOk result (tables_of self.new ≡ record (tables_of self.old) { macros = spec.with_name name.items entry.entry (tables_of self.old).macros }) }
     {
+        self.last = None;
         self.macros.insert(name, entry)?;
         Ok(())
+    }
+
+    /// Keeps a macro; an older one of its name is replaced.
+    pub fn define(
+        &mut self,
+        alloc: Global,
+        name: Vec<u8>,
+        entry: Macro<'a>,
+    ) -> Result<(), OutOfMemory>
+        ensures { OnOk result (tables_of self.new ≡ record (tables_of self.old) { macros = spec.with_name name.items entry.entry (tables_of self.old).macros }) }
+    {
+        let settled = self.settled(alloc, entry)?;
+        self.insert(name, settled)
     }
 
     /// Keeps the value of a name; an older one is replaced.
@@ -150,6 +212,38 @@ impl<'a> Tables<'a> {
         ensures { OnOk result (tables_of self.new ≡ record (tables_of self.old) { values = spec.with_name name.items value (tables_of self.old).values }) }
     {
         self.values.insert(name, value)?;
+        Ok(())
+    }
+
+    /// The result of a call, if it is the one that was kept.
+    #[tactic(auto, using(crate::proofs::Calls::same_call))]
+    pub fn result_of(&self, name: &[u8], arguments: &[Vec<Piece<'a>>]) -> Option<&[Piece<'a>]>
+        ensures { IfSome result (λ w. IsResult (tables_of self.now).macros name.now (texts arguments.now) (joined w.now)) }
+    {
+        match &self.last {
+            Some(call) => {
+                if call.is_of(name, arguments) {
+                    Some(call.text.as_slice())
+                } else {
+                    None
+                }
+            }
+            None => None,
+        }
+    }
+
+    /// Keeps a call with its result, in place of the one before, until a macro is defined.
+    #[tactic(auto, using(crate::proofs::Calls::same_call))]
+    pub fn keep_call(
+        &mut self,
+        alloc: Global,
+        call: Call<'a>,
+        text: Vec<Piece<'a>>,
+    ) -> Result<(), AllocError>
+        requires { IsResult (tables_of self.old).macros call.name.items (texts call.arguments.items) (joined text.items) }
+        ensures { self.new ≡ self.old }
+    {
+        self.last = Some(KeptCall::new(alloc, call, text)?);
         Ok(())
     }
 }

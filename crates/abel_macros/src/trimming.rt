@@ -51,9 +51,9 @@ fn trim_end<'a>(pieces: &mut Vec<Piece<'a>>) -> Result<(), AllocError>
     ensures { OnOk result (joined pieces.new.items ≡ spec.trimmed_end (joined pieces.old.items)) }
 {
     'pieces: while let Some(last) = pieces.pop() {
-        let count = trimmed_len(last.bytes);
+        let count = trimmed_len(last.bytes());
         if count > 0 {
-            let (dark, _blanks) = last.split_at(count);
+            let dark = last.part(0, count)?;
             pieces.push(dark)?;
             return Ok(());
         }

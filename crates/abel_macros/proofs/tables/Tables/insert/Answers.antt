@@ -3,7 +3,7 @@ use Rattle.std.proofs.Common.{◌≡◌, ap, ◌∙◌, ℕ, List, Option}
 use Rattle.abel_macros.specs.Kept.{Kept, under, by_bytes}
 use Rattle.abel_macros.specs.Rules.{Macro, Tables, with_name}
 use Rattle.abel_macros.proofs.Looked.{inserted_table}
-use Rattle.abel_macros.proofs.tables.Tables.define.Goals as goal
+use Rattle.abel_macros.proofs.tables.Tables.insert.Goals as goal
 
 pub returns : goal.returns
 returns c =

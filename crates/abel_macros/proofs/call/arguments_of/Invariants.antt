@@ -1,0 +1,7 @@
+-- The arguments so far have their bytes.
+use Rattle.std.proofs.Common.{◌≡◌, take}
+use Rattle.abel_macros.specs.Pieces.{names, texts}
+use Rattle.abel_macros.proofs.call.arguments_of.Given as goal
+
+abbrev pub invariant-loop-argument : goal.invariant-loop-argument
+invariant-loop-argument l = names l.copied.items ≡ texts (take l.argument-index l.arguments)

@@ -1,0 +1,33 @@
+//! Texts in pieces, made one piece.
+
+ghost use Rattle.std.specs.Prelude.{◌≡◌, ◌<◌, ◌≤◌, ◌^◌, length, IfOk, IfSome};
+ghost use Rattle.text_pieces.specs.Stacks.{joined};
+
+use std::alloc::{AllocError, Global};
+use text_pieces::Piece;
+
+/// How many bytes pieces have, if they are at most so many.
+#[tactic(auto, using(crate::proofs::LengthsWithin::length_next, crate::proofs::LengthsWithin::length_all))]
+pub fn length_within(pieces: &[Piece], most: usize) -> Option<usize>
+    ensures length { IfSome result (λ n. length (joined pieces.now) ≡ n) }
+    ensures within { IfSome result (λ n. n ≤ most) }
+{
+    let mut left = most;
+    for piece in pieces {
+        if piece.len() > left {
+            return None;
+        }
+        left -= piece.len();
+    }
+    Some(most - left)
+}
+
+/// One piece of all these bytes.
+pub fn whole<'a>(alloc: Global, pieces: &[Piece<'a>]) -> Result<Vec<Piece<'a>>, AllocError>
+    requires { length (joined pieces.now) < 2 ^ 32 }
+    ensures { IfOk result (λ w. joined w.items ≡ joined pieces.now) }
+{
+    let mut one = Vec::new(alloc);
+    one.push(Piece::kept(alloc, pieces)?)?;
+    Ok(one)
+}
