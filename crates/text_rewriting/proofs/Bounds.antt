@@ -6,7 +6,6 @@ use Rattle.std.specs.Option.{option_copied}
 use Rattle.std.proofs.Math.Nat.{le-min}
 use Rattle.std.proofs.lemmas.Bool.{ltb-true, ltb-false}
 use Rattle.std.specs.Borrow.{Bor}
-use Rattle.text_pieces.specs.declared.piece.Piece.{Piece}
 use Rattle.std.specs.Global.{Vec}
 use Rattle.std.specs.Str.{bytes_eq}
 use Rattle.std.proofs.lemmas.List.{drop_all}
@@ -21,14 +20,14 @@ use Rattle.abel_macros.proofs.Looked.{inserted, looked_up}
 use Rattle.text_rewriting.specs.Bound.{bound}
 
 abbrev Pieces : Type 0
-Pieces = List Piece
+Pieces = List (List ℕ)
 
 named_at : (ps : List (Vec ℕ)) (i : ℕ) (d : Vec ℕ) → i < length ps → names (drop i ps) ≡ (get_or ps i d).items ∷ names (drop (suc i) ps)
 named_at [] i d h = absurd (omega arith)
 named_at (p ∷ ps) zero d h = refl
 named_at (p ∷ ps) (suc i) d h = named_at ps i d (omega arith)
 
-text_at : (ws : List (Vec Piece)) (i : ℕ) (d : Vec Piece) → i < length ws → texts (drop i ws) ≡ joined (get_or ws i d).items ∷ texts (drop (suc i) ws)
+text_at : (ws : List (Vec (List ℕ))) (i : ℕ) (d : Vec (List ℕ)) → i < length ws → texts (drop i ws) ≡ joined (get_or ws i d).items ∷ texts (drop (suc i) ws)
 text_at [] i d h = absurd (omega arith)
 text_at (w ∷ ws) zero d h = refl
 text_at (w ∷ ws) (suc i) d h = text_at ws i d (omega arith)
@@ -38,9 +37,9 @@ no_text [] name = refl
 no_text (n ∷ ns) name = refl
 
 -- where no pair is left nothing stands for a name
-none_left : (ps : List (Vec ℕ)) (ws : List (Vec Piece)) (n : ℕ) (w : List ℕ) → (length ps ≤ n) ⊎ (length ws ≤ n) → None ≡ standing_for (names (drop n ps)) (texts (drop n ws)) w
+none_left : (ps : List (Vec ℕ)) (ws : List (Vec (List ℕ))) (n : ℕ) (w : List ℕ) → (length ps ≤ n) ⊎ (length ws ≤ n) → None ≡ standing_for (names (drop n ps)) (texts (drop n ws)) w
 none_left ps ws n w (inl l) = sym (ap (λ (qs : List (Vec ℕ)). standing_for (names qs) (texts (drop n ws)) w) (drop_all n ps l))
-none_left ps ws n w (inr l) = sym (ap (λ (vs : List (Vec Piece)). standing_for (names (drop n ps)) (texts vs) w) (drop_all n ws l) ∙ no_text (names (drop n ps)) w)
+none_left ps ws n w (inr l) = sym (ap (λ (vs : List (Vec (List ℕ))). standing_for (names (drop n ps)) (texts vs) w) (drop_all n ws l) ∙ no_text (names (drop n ps)) w)
 
 shorter : (a b n : ℕ) → n ≡ min a b → (a ≤ n) ⊎ (b ≤ n)
 shorter a b n e =
@@ -49,11 +48,11 @@ shorter a b n e =
       | inr f ↦ let l : a ≤ b = ltb-false b a f in let m : a ≤ min a b = le-min {k = a} {a = a} {b = b} (omega arith) l in inl (omega (arith, e, m))
     ]
 
-pub none_bound : (ps : List (Vec ℕ)) (ws : List (Vec Piece)) (n : ℕ) → n ≡ min (length ps) (length ws) → bound [] ≡ standing_for (names (drop n ps)) (texts (drop n ws))
+pub none_bound : (ps : List (Vec ℕ)) (ws : List (Vec (List ℕ))) (n : ℕ) → n ≡ min (length ps) (length ws) → bound [] ≡ standing_for (names (drop n ps)) (texts (drop n ws))
 none_bound ps ws n e = λ i w. none_left ps ws n w (shorter (length ps) (length ws) n e) i
 
 -- all pairs
-pub all_bound : (ps : List (Vec ℕ)) (ws : List (Vec Piece)) (n : ℕ) (f : List ℕ → Option (List ℕ)) → n ≡ 0 → f ≡ standing_for (names (drop n ps)) (texts (drop n ws)) → f ≡ standing_for (names ps) (texts ws)
+pub all_bound : (ps : List (Vec ℕ)) (ws : List (Vec (List ℕ))) (n : ℕ) (f : List ℕ → Option (List ℕ)) → n ≡ 0 → f ≡ standing_for (names (drop n ps)) (texts (drop n ws)) → f ≡ standing_for (names ps) (texts ws)
 all_bound ps ws n f z e = e ∙ ap (λ (k : ℕ). standing_for (names (drop k ps)) (texts (drop k ws))) z
 
 abbrev told : Option (Bor Pieces) → Option (List ℕ)
@@ -64,7 +63,7 @@ chosen true x v q o m e = ap Some q
 chosen false x v q o m e = e
 
 -- one pair more
-pub next_bound : (es new : List (Vec ℕ × Bor Pieces)) (key : Vec ℕ) (v : Bor Pieces) (ps : List (Vec ℕ)) (ws : List (Vec Piece)) (i : ℕ) (d : Vec ℕ) (e : Vec Piece)
+pub next_bound : (es new : List (Vec ℕ × Bor Pieces)) (key : Vec ℕ) (v : Bor Pieces) (ps : List (Vec ℕ)) (ws : List (Vec (List ℕ))) (i : ℕ) (d : Vec ℕ) (e : Vec (List ℕ))
     → i < length ps → i < length ws → key.items ≡ (get_or ps i d).items → v.now ≡ (get_or ws i e).items
     → new ≡ insert_entry (λ a b. bytes_eq a.items b.items) es key v → bound es ≡ standing_for (names (drop (i + 1) ps)) (texts (drop (i + 1) ws)) → bound new ≡ standing_for (names (drop i ps)) (texts (drop i ws))
 next_bound es new key v ps ws i d e h k n t u b = λ j w. at w j

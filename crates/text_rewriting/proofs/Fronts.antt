@@ -1,5 +1,5 @@
 -- What a front says of a move.
-use Rattle.std.proofs.Common.{◌≡◌, ◌-◌, ◌<◌, ◌≤◌, ℕ, List, length, take, drop, refl, sym, ap, ◌∙◌, arith, length-drop}
+use Rattle.std.proofs.Common.{◌≡◌, ◌-◌, ◌<◌, ◌≤◌, ℕ, List, length, take, drop, refl, sym, ap, ◌∙◌, subst, arith, length-drop}
 use Rattle.std.specs.Prelude.{Result, Ok, Err, IfOk}
 use Rattle.std.specs.Global.{Vec}
 use Rattle.abel_macros.specs.Gaps.{before}
@@ -8,7 +8,7 @@ use Rattle.abel_macros.proofs.Behind.{before_drop}
 use Rattle.text_rewriting.specs.declared.front.Change.{Change}
 use Rattle.text_rewriting.specs.declared.front.Front.{Front}
 use Rattle.text_rewriting.specs.declared.front.Front.TheVariants as front
-use Rattle.text_rewriting.specs.Fronts.{changed, IsChange, IsFront, IsRewritten}
+use Rattle.text_rewriting.specs.Fronts.{changed, IsChange, IsFront, IsMade, IsRewritten}
 
 -- bytes that are done unchanged
 pub copy_front : (t : Tables) (text : List ℕ) (most n : ℕ) → 0 < n → n ≤ length text → IsFront t text most (Done t (before text (drop n text)) (drop n text)) (front.Copy n)
@@ -20,11 +20,11 @@ pub said_front : (t : Tables) (text : List ℕ) (most : ℕ) (c : Change) (bytes
 said_front t text most c bytes w end u e b h k l i = (ap (λ (x : Tables). Done x w (drop end text)) (sym e) ∙ ap (λ (x : List ℕ). Done (changed c t) x (drop end text)) (sym b), h, k, l, i)
 
 -- a result that was gathered, or is too long
-pub rewritten_front : (t : Tables) (text w : List ℕ) (most room end : ℕ) (f : Front) → room ≡ most - (length text - end) → length text ≤ most → end ≤ length text → IsRewritten w room end f
+pub rewritten_front : (t : Tables) (text w : List ℕ) (most room end : ℕ) (f : Front) → room ≡ most - (length text - end) → length text ≤ most → end ≤ length text → IsRewritten t w room end f
     → IsFront t text most (Rewritten w (drop end text)) f
-rewritten_front t text w most room end (front.Rewritten result e) r l k h =
+rewritten_front t text w most room end (front.Rewritten result e call) r l k h =
     let at : e ≡ end = h.2 in
-    (ap (λ (x : List ℕ). Rewritten x (drop end text)) (sym h.0) ∙ ap (λ (n : ℕ). Rewritten result.text (drop n text)) (sym at), omega (arith, h.1, r, l, k, at, ap length h.0, length-drop e text), omega (arith, at, k))
+    (ap (λ (x : List ℕ). Rewritten x (drop end text)) (sym h.0) ∙ ap (λ (n : ℕ). Rewritten result.text (drop n text)) (sym at), omega (arith, h.1, r, l, k, at, ap length h.0, length-drop e text), omega (arith, at, k), subst (λ (x : List ℕ). IsMade t x call) (sym h.0) h.3)
 rewritten_front t text w most room end front.TooLong r l k h = (w, drop end text, refl, omega (arith, h, r, l, k, length-drop end text))
 rewritten_front t text w most room end (front.Copy n) r l k h = absurd h
 rewritten_front t text w most room end (front.Said c bytes e) r l k h = absurd h

@@ -1,7 +1,6 @@
 -- Lengths of a text that is gathered.
 use Rattle.std.proofs.Common.{◌≡◌, ◌+◌, ◌-◌, ◌<◌, ◌≤◌, ◌*◌, ℕ, zero, suc, List, [], ◌∷◌, ◌++◌, length, drop, get_or, replicate, refl, sym, ap, ◌∙◌, subst, arith, append-nil, append_assoc, add-one, length-append}
 use Rattle.std.specs.Prelude.{◌/◌}
-use Rattle.text_pieces.specs.declared.piece.Piece.{Piece}
 use Rattle.std.proofs.Math.Nat.{div-lt_iff_lt-mul, suc-mul}
 use Rattle.std.specs.List.{concat}
 use Rattle.text_pieces.specs.Stacks.{joined}
@@ -17,12 +16,12 @@ empty (x ∷ xs) h = absurd (omega arith)
 abbrev gathering : List ℕ → ℕ → Gathering
 gathering w m = record { text = w; most = m }
 
-pub added : (ps qs : List Piece) (p : Piece) (room : ℕ) → length p.bytes.now ≤ room → qs ≡ ps ++ p ∷ []
-    → gathering (joined qs) (length (joined qs) + (room - length p.bytes.now)) ≡ gathering (joined ps ++ p.bytes.now) (length (joined ps) + room)
-added ps qs p room h e =
-    let t : joined qs ≡ joined ps ++ p.bytes.now = ap joined e ∙ joined-push ps p in
-    let n : length (joined qs) + (room - length p.bytes.now) ≡ length (joined ps) + room = omega (arith, ap length t, length-append (joined ps) p.bytes.now) in
-    ap (λ (w : List ℕ). gathering w (length (joined qs) + (room - length p.bytes.now))) t ∙ ap (gathering (joined ps ++ p.bytes.now)) n
+pub added : (ps qs : List (List ℕ)) (p : List ℕ) (room n : ℕ) → n ≡ length p → n ≤ room → qs ≡ ps ++ p ∷ []
+    → gathering (joined qs) (length (joined qs) + (room - n)) ≡ gathering (joined ps ++ p) (length (joined ps) + room)
+added ps qs p room n l h e =
+    let t : joined qs ≡ joined ps ++ p = ap joined e ∙ joined-push ps p in
+    let m : length (joined qs) + (room - n) ≡ length (joined ps) + room = omega (arith, ap length t, length-append (joined ps) p, l) in
+    ap (λ (w : List ℕ). gathering w (length (joined qs) + (room - n))) t ∙ ap (gathering (joined ps ++ p)) m
 
 pub added_nothing : (g : Gathering) (p : List ℕ) → length p ≡ 0 → g ≡ record g { text = g.text ++ p }
 added_nothing g p h = ap (λ (w : List ℕ). record g { text = w }) (sym (ap (λ (w : List ℕ). g.text ++ w) (empty p h) ∙ append-nil g.text))
@@ -32,38 +31,38 @@ over w p room h = omega (arith, length-append w p)
 
 -- ---- pieces
 
-opened_suc : (ps : List Piece) (i : ℕ) (d : Piece) → i < length ps → joined (drop i ps) ≡ (get_or ps i d).bytes.now ++ joined (drop (suc i) ps)
+opened_suc : (ps : List (List ℕ)) (i : ℕ) (d : List ℕ) → i < length ps → joined (drop i ps) ≡ (get_or ps i d) ++ joined (drop (suc i) ps)
 opened_suc [] i d h = absurd (omega arith)
 opened_suc (p ∷ ps) zero d h = refl
 opened_suc (p ∷ ps) (suc i) d h = opened_suc ps i d (omega arith)
 
-opened : (ps : List Piece) (i : ℕ) (d : Piece) → i < length ps → joined (drop i ps) ≡ (get_or ps i d).bytes.now ++ joined (drop (i + 1) ps)
-opened ps i d h = opened_suc ps i d h ∙ ap (λ (n : ℕ). (get_or ps i d).bytes.now ++ joined (drop n ps)) (sym (add-one i))
+opened : (ps : List (List ℕ)) (i : ℕ) (d : List ℕ) → i < length ps → joined (drop i ps) ≡ (get_or ps i d) ++ joined (drop (i + 1) ps)
+opened ps i d h = opened_suc ps i d h ∙ ap (λ (n : ℕ). (get_or ps i d) ++ joined (drop n ps)) (sym (add-one i))
 
-pub nothing_next : (ps : List Piece) (i : ℕ) (d : Piece) (w : List ℕ) → i < length ps → length (get_or ps i d).bytes.now ≡ 0 → joined (drop i ps) ≡ w → joined (drop (i + 1) ps) ≡ w
-nothing_next ps i d w h z e = sym (opened ps i d h ∙ ap (λ (v : List ℕ). v ++ joined (drop (i + 1) ps)) (empty (get_or ps i d).bytes.now z)) ∙ e
+pub nothing_next : (ps : List (List ℕ)) (i : ℕ) (d : List ℕ) (w : List ℕ) → i < length ps → length (get_or ps i d) ≡ 0 → joined (drop i ps) ≡ w → joined (drop (i + 1) ps) ≡ w
+nothing_next ps i d w h z e = sym (opened ps i d h ∙ ap (λ (v : List ℕ). v ++ joined (drop (i + 1) ps)) (empty (get_or ps i d) z)) ∙ e
 
-pub something_at : (ps : List Piece) (i : ℕ) (d : Piece) (w : List ℕ) → i < length ps → 0 < length (get_or ps i d).bytes.now → joined (drop i ps) ≡ w → 0 < length w
-something_at ps i d w h s e = omega (arith, ap length (sym e ∙ opened ps i d h), length-append (get_or ps i d).bytes.now (joined (drop (i + 1) ps)))
+pub something_at : (ps : List (List ℕ)) (i : ℕ) (d : List ℕ) (w : List ℕ) → i < length ps → 0 < length (get_or ps i d) → joined (drop i ps) ≡ w → 0 < length w
+something_at ps i d w h s e = omega (arith, ap length (sym e ∙ opened ps i d h), length-append (get_or ps i d) (joined (drop (i + 1) ps)))
 
-past_all : (ps : List Piece) (i : ℕ) → length ps ≤ i → joined (drop i ps) ≡ []
+past_all : (ps : List (List ℕ)) (i : ℕ) → length ps ≤ i → joined (drop i ps) ≡ []
 past_all [] zero h = refl
 past_all [] (suc i) h = refl
 past_all (p ∷ ps) zero h = absurd (omega arith)
 past_all (p ∷ ps) (suc i) h = past_all ps i (omega arith)
 
-pub nothing_left : (ps : List Piece) (i : ℕ) (w : List ℕ) → length ps ≤ i → joined (drop i ps) ≡ w → w ≡ []
+pub nothing_left : (ps : List (List ℕ)) (i : ℕ) (w : List ℕ) → length ps ≤ i → joined (drop i ps) ≡ w → w ≡ []
 nothing_left ps i w h e = sym e ∙ past_all ps i h
 
-pub all_next : (ps : List Piece) (i : ℕ) (d : Piece) (text new total : List ℕ) → i < length ps → new ≡ text ++ (get_or ps i d).bytes.now → text ++ joined (drop i ps) ≡ total → new ++ joined (drop (i + 1) ps) ≡ total
+pub all_next : (ps : List (List ℕ)) (i : ℕ) (d : List ℕ) (text new total : List ℕ) → i < length ps → new ≡ text ++ (get_or ps i d) → text ++ joined (drop i ps) ≡ total → new ++ joined (drop (i + 1) ps) ≡ total
 all_next ps i d text new total h n e =
-    ap (λ (w : List ℕ). w ++ joined (drop (i + 1) ps)) n ∙ append_assoc text (get_or ps i d).bytes.now (joined (drop (i + 1) ps)) ∙ ap (λ (w : List ℕ). text ++ w) (sym (opened ps i d h)) ∙ e
+    ap (λ (w : List ℕ). w ++ joined (drop (i + 1) ps)) n ∙ append_assoc text (get_or ps i d) (joined (drop (i + 1) ps)) ∙ ap (λ (w : List ℕ). text ++ w) (sym (opened ps i d h)) ∙ e
 
-pub all_long : (ps : List Piece) (i : ℕ) (d : Piece) (text total : List ℕ) (most : ℕ) → i < length ps → most < length (text ++ (get_or ps i d).bytes.now) → text ++ joined (drop i ps) ≡ total → most < length total
+pub all_long : (ps : List (List ℕ)) (i : ℕ) (d : List ℕ) (text total : List ℕ) (most : ℕ) → i < length ps → most < length (text ++ (get_or ps i d)) → text ++ joined (drop i ps) ≡ total → most < length total
 all_long ps i d text total most h l e =
-    omega (arith, ap length (all_next ps i d text (text ++ (get_or ps i d).bytes.now) total h refl e), length-append (text ++ (get_or ps i d).bytes.now) (joined (drop (i + 1) ps)))
+    omega (arith, ap length (all_next ps i d text (text ++ (get_or ps i d)) total h refl e), length-append (text ++ (get_or ps i d)) (joined (drop (i + 1) ps)))
 
-pub all_added : (ps : List Piece) (i : ℕ) (text total : List ℕ) → length ps ≤ i → text ++ joined (drop i ps) ≡ total → text ≡ total
+pub all_added : (ps : List (List ℕ)) (i : ℕ) (text total : List ℕ) → length ps ≤ i → text ++ joined (drop i ps) ≡ total → text ≡ total
 all_added ps i text total h e = sym (append-nil text) ∙ ap (λ (w : List ℕ). text ++ w) (sym (past_all ps i h)) ∙ e
 
 -- ---- so many times
@@ -134,3 +133,14 @@ second_long text v w most l = omega (arith, l, ap length (append_assoc text v w)
 
 pub added_none : (g : Gathering) → g ≡ record g { text = g.text ++ [] }
 added_none g = ap (λ (w : List ℕ). record g { text = w }) (sym (append-nil g.text))
+
+-- ---- one piece
+
+pub joined_one : (ps : List (List ℕ)) (p : List ℕ) → ps ≡ [] ++ p ∷ [] → joined ps ≡ p
+joined_one ps p e = ap joined e ∙ append-nil p
+
+pub joined_only : (ps : List (List ℕ)) (p w : List ℕ) → ps ≡ p ∷ [] → joined ps ≡ w → p ≡ w
+joined_only ps p w e t = sym (ap joined e ∙ append-nil p) ∙ t
+
+pub same_gathering : (v w : List ℕ) (room : ℕ) → v ≡ w → gathering v (length v + room) ≡ gathering w (length w + room)
+same_gathering v w room e = ap (λ (x : List ℕ). gathering x (length x + room)) e

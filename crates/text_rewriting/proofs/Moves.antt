@@ -2,7 +2,6 @@
 use Rattle.std.proofs.Common.{◌≡◌, ◌+◌, ◌<◌, ◌≤◌, ℕ, suc, Bool, true, false, inl, inr, List, [], ◌∷◌, ◌++◌, Option, Some, None, length, take, drop, refl, sym, ap, ◌∙◌, arith, if◌then◌else◌, codes}
 use Rattle.std.specs.Prelude.{◌==◌, nat_lt}
 use Rattle.std.specs.List.{prefix_len}
-use Rattle.text_pieces.specs.declared.piece.Piece.{Piece}
 use Rattle.std.specs.Global.{Vec}
 use Rattle.std.proofs.lemmas.Bool.{eqb-true, eq-eqb, ltb-true}
 use Rattle.abel_lexer.proofs.Booleans.{bool_cases}
@@ -10,6 +9,7 @@ use Rattle.abel_lexer.specs.Bytes.{quote, is_name_later}
 use Rattle.abel_lexer.specs.Lengths.{quoted_len}
 use Rattle.abel_macros.specs.Gaps.{◌>>=◌, given, before, starts_byte, rest_of, comment, string_len, word}
 use Rattle.abel_macros.specs.Forms.{arguments, replaced, standing_for}
+use Rattle.abel_macros.specs.Kept.{IsResult}
 use Rattle.abel_macros.specs.Pieces.{names, texts}
 use Rattle.abel_macros.specs.Rules.{Tables, Macro, Move, Done, Rewritten, Refused, BadDirective, or_bad, macro_word, definition, called, named, directed, directive_of, behind_directive, token_len, move}
 use Rattle.abel_macros.proofs.Behind.{before_drop}
@@ -18,6 +18,9 @@ use Rattle.text_rewriting.specs.RuleMoves.{plain_move, digits}
 
 pub zero_takes_none : (v : ℕ) (w : List ℕ) → v ≡ 0 → (if v == 0 then [] else w) ≡ []
 zero_takes_none v w e = ap (λ (b : Bool). if b then [] else w) (eq-eqb v 0 e)
+
+some_same : {A : Type 0} {x y : A} → Some x ≡ Some y → x ≡ y
+some_same {A} {x} {y} e = ap (λ (o : Option A). elim o [ Some z ↦ z | None ↦ x ]) e
 
 not_true : (b : Bool) → (b ≡ true → ⊥) → b ≡ false
 not_true true h = absurd (h refl)
@@ -44,7 +47,7 @@ plain_called m behind w p e = ap (by_parameters m behind) p ∙ ap (λ (v : List
 pub called_broken : (m : Macro) (behind : List ℕ) (ps : List (List ℕ)) → m.parameters ≡ Some ps → arguments behind ≡ None → called m behind ≡ None
 called_broken m behind ps p e = ap (by_parameters m behind) p ∙ ap (by_arguments m ps) e
 
-texts_length : (ws : List (Vec Piece)) → length (texts ws) ≡ length ws
+texts_length : (ws : List (Vec (List ℕ))) → length (texts ws) ≡ length ws
 texts_length [] = refl
 texts_length (w ∷ ws) = ap suc (texts_length ws)
 
@@ -52,7 +55,7 @@ names_length : (ws : List (Vec ℕ)) → length (names ws) ≡ length ws
 names_length [] = refl
 names_length (w ∷ ws) = ap suc (names_length ws)
 
-module _ (m : Macro) (behind end : List ℕ) (ps : List (Vec ℕ)) (found : List (Vec Piece)) (p : m.parameters ≡ Some (names ps)) (a : arguments behind ≡ Some (texts found, end)) where
+module _ (m : Macro) (behind end : List ℕ) (ps : List (Vec ℕ)) (found : List (Vec (List ℕ))) (p : m.parameters ≡ Some (names ps)) (a : arguments behind ≡ Some (texts found, end)) where
   by_count : called m behind ≡ given (length (texts found) == length (names ps)) (replaced (standing_for (names ps) (texts found)) 0 m.block, end)
   by_count = ap (by_parameters m behind) p ∙ ap (by_arguments m (names ps)) a
 
@@ -67,6 +70,28 @@ module _ (m : Macro) (behind end : List ℕ) (ps : List (Vec ℕ)) (found : List
       let other : (length (texts found) == length (names ps)) ≡ false =
       not_true (length (texts found) == length (names ps)) (λ e. n (sym (texts_length found) ∙ eqb-true (length (texts found)) (length (names ps)) e ∙ names_length ps)) in
       by_count ∙ ap (λ (b : Bool). given b (replaced (standing_for (names ps) (texts found)) 0 m.block, end)) other
+
+-- a macro that stands for a name, as a call of it keeps it
+pub called_macro : (t : Tables) (name : List ℕ) (m : Macro) (ps : List (List ℕ)) (w : List ℕ) → t.macros name ≡ Some m → m.parameters ≡ Some ps → w ≡ m.block → t.macros name ≡ Some (record { parameters = Some ps; block = w })
+called_macro t name m ps w e p b = e ∙ ap (λ (o : Option (List (List ℕ))). Some (record { parameters = o; block = m.block })) p ∙ ap (λ (x : List ℕ). Some (record { parameters = Some ps; block = x })) (sym b)
+
+-- the result of a call by what its name stands for
+pub result_of_call : (t : Tables) (name : List ℕ) (ps found : List (List ℕ)) (w result : List ℕ) → t.macros name ≡ Some (record { parameters = Some ps; block = w }) → result ≡ replaced (standing_for ps found) 0 w → IsResult t.macros name found result
+result_of_call t name ps found w result e r =
+    record {
+      replaces = λ m qs f p.
+          let same : m ≡ record { parameters = Some ps; block = w } = some_same (sym f ∙ e) in
+          let named : ps ≡ qs = some_same (sym (ap (λ (x : Macro). x.parameters) same) ∙ p) in
+          r ∙ ap (λ (x : List (List ℕ)). replaced (standing_for x found) 0 w) named ∙ ap (λ (x : Macro). replaced (standing_for qs found) 0 x.block) (sym same);
+    }
+
+pub call_result : (t : Tables) (name w result : List ℕ) (ps : List (Vec ℕ)) (found : List (Vec (List ℕ))) → t.macros name ≡ Some (record { parameters = Some (names ps); block = w }) → result ≡ replaced (standing_for (names ps) (texts found)) 0 w
+    → IsResult t.macros name (texts found) result
+call_result t name w result ps found e r = result_of_call t name (names ps) (texts found) w result e r
+
+-- a result that was kept is that of the call
+pub result_kept : (t : Tables) (name : List ℕ) (ps found : List (List ℕ)) (w result : List ℕ) → t.macros name ≡ Some (record { parameters = Some ps; block = w }) → IsResult t.macros name found result → result ≡ replaced (standing_for ps found) 0 w
+result_kept t name ps found w result e r = r.replaces (record { parameters = Some ps; block = w }) ps e refl
 
 -- ---- names
 

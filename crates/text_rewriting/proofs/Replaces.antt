@@ -6,7 +6,6 @@ use Rattle.std.proofs.lemmas.List.{drop-drop}
 use Rattle.std.proofs.lemmas.List.Sums.{sum_by-cons}
 use Rattle.std.proofs.Math.Seq.{take-add}
 use Rattle.abel_lexer.proofs.Booleans.{bool_cases}
-use Rattle.text_pieces.specs.declared.piece.Piece.{Piece}
 use Rattle.std.specs.Global.{Vec}
 use Rattle.abel_macros.specs.Gaps.{starts_byte, rest_of}
 use Rattle.abel_lexer.specs.Bytes.{is_name_later}
@@ -171,27 +170,27 @@ asked_read w look name b n e c t = t ∙ ap (λ (k : ℕ). take k look) c ∙ ap
 -- ---- a block once for each argument
 
 module _ (n b : List ℕ) where
-  each_split : (found : List (Vec Piece)) (i : ℕ) → i < length found
+  each_split : (found : List (Vec (List ℕ))) (i : ℕ) → i < length found
       → each_replaced n (texts (drop i found)) b ≡ replaced (standing_for (n ∷ []) (texts (take 1 (drop i found)))) 0 b ++ each_replaced n (texts (drop (suc i) found)) b
   each_split [] i h = absurd (omega arith)
   each_split (a ∷ found) zero h = refl
   each_split (a ∷ found) (suc i) h = each_split found i (omega arith)
 
-  pub each_next : (found : List (Vec Piece)) (i : ℕ) (text new total : List ℕ) → i < length found → new ≡ text ++ replaced (standing_for (n ∷ []) (texts (take 1 (drop i found)))) 0 b
+  pub each_next : (found : List (Vec (List ℕ))) (i : ℕ) (text new total : List ℕ) → i < length found → new ≡ text ++ replaced (standing_for (n ∷ []) (texts (take 1 (drop i found)))) 0 b
       → text ++ each_replaced n (texts (drop i found)) b ≡ total → new ++ each_replaced n (texts (drop (i + 1) found)) b ≡ total
   each_next found i text new total h t e =
       ap (λ (k : ℕ). new ++ each_replaced n (texts (drop k found)) b) (add-one i) ∙ ap (λ (x : List ℕ). x ++ each_replaced n (texts (drop (suc i) found)) b) t
       ∙ append_assoc text (replaced (standing_for (n ∷ []) (texts (take 1 (drop i found)))) 0 b) (each_replaced n (texts (drop (suc i) found)) b)
       ∙ ap (λ (x : List ℕ). text ++ x) (sym (each_split found i h)) ∙ e
 
-  pub each_long : (found : List (Vec Piece)) (i : ℕ) (text total : List ℕ) (most : ℕ) → i < length found → most < length (text ++ replaced (standing_for (n ∷ []) (texts (take 1 (drop i found)))) 0 b)
+  pub each_long : (found : List (Vec (List ℕ))) (i : ℕ) (text total : List ℕ) (most : ℕ) → i < length found → most < length (text ++ replaced (standing_for (n ∷ []) (texts (take 1 (drop i found)))) 0 b)
       → text ++ each_replaced n (texts (drop i found)) b ≡ total → most < length total
   each_long found i text total most h l e =
       let part : List ℕ = replaced (standing_for (n ∷ []) (texts (take 1 (drop i found)))) 0 b in
       omega (arith, ap length (each_next found i text (text ++ part) total h refl e), length-append (text ++ part) (each_replaced n (texts (drop (i + 1) found)) b))
 
-  pub each_added : (found : List (Vec Piece)) (i : ℕ) (text total : List ℕ) → length found ≤ i → text ++ each_replaced n (texts (drop i found)) b ≡ total → text ≡ total
-  each_added found i text total h e = sym (append-nil text) ∙ ap (λ (ws : List (Vec Piece)). text ++ each_replaced n (texts ws) b) (sym (past found i h)) ∙ e
+  pub each_added : (found : List (Vec (List ℕ))) (i : ℕ) (text total : List ℕ) → length found ≤ i → text ++ each_replaced n (texts (drop i found)) b ≡ total → text ≡ total
+  each_added found i text total h e = sym (append-nil text) ∙ ap (λ (ws : List (Vec (List ℕ))). text ++ each_replaced n (texts ws) b) (sym (past found i h)) ∙ e
 
 -- what is too long makes more too long
 pub err_longer : {A E : Type 0} (r : Result A E) (f : E) (P Q : Type 0) → (P → Q) → IfErr r (λ e. e ≡ f → P) → IfErr r (λ e. e ≡ f → Q)

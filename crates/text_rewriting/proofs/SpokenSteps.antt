@@ -2,8 +2,8 @@
 use Rattle.std.proofs.Common.{◌≡◌, ◌+◌, ◌<◌, ◌≤◌, ℕ, Bool, true, false, List, [], ◌∷◌, ◌++◌, length, take, refl, sym, ap, ◌∙◌, arith, append-nil, append_assoc, length-take, if◌then◌else◌}
 use Rattle.std.specs.Prelude.{◌==◌}
 use Rattle.std.proofs.lemmas.Bool.{eqb-true, eq-eqb}
-use Rattle.abel_macros.specs.declared.mode.Mode.{Mode}
-use Rattle.abel_macros.specs.declared.mode.Mode.TheVariants as mode
+use Rattle.text_pieces.specs.declared.mode.Mode.{Mode}
+use Rattle.text_pieces.specs.declared.mode.Mode.TheVariants as mode
 use Rattle.abel_macros.specs.Gaps.{passing}
 use Rattle.abel_macros.specs.Rules.{line_feeds, shown_in}
 use Rattle.text_rewriting.specs.Shown.{shown_of}

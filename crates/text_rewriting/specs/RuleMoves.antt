@@ -4,7 +4,7 @@ use Rattle.std.specs.List.{concat}
 use Rattle.text_pieces.specs.Stacks.{Look, ahead, joined}
 use Rattle.abel_macros.specs.declared.directive.Directive.{Directive}
 use Rattle.abel_macros.specs.Kept.{Kept, tables_of}
-use Rattle.abel_macros.specs.declared.mode.Mode.TheVariants as mode
+use Rattle.text_pieces.specs.declared.mode.Mode.TheVariants as mode
 use Rattle.abel_macros.specs.Gaps.{before, word}
 use Rattle.abel_macros.specs.Forms.{replaced, standing_for}
 use Rattle.abel_macros.specs.Pieces.{names, texts}
@@ -27,7 +27,7 @@ rewriting_text (rewriting.Repeated n w) = concat (replicate n (joined w.items))
 rewriting_text (rewriting.Each e) = each_replaced e.parameter.items (texts e.arguments.items) (joined e.block.items)
 rewriting_text (rewriting.Valued w v r) = joined w.items ++ digits r v
 rewriting_text (rewriting.Plain w) = joined w.now
-rewriting_text (rewriting.Called ps found w) = replaced (standing_for (names ps.now) (texts found.items)) 0 (joined w.now)
+rewriting_text (rewriting.Called c) = replaced (standing_for (names c.parameters.now) (texts c.arguments.items)) 0 (joined c.block.now)
 
 -- its numbers are within bounds
 abbrev pub IsRewriting : Rewriting → Type 0
@@ -37,7 +37,17 @@ IsRewriting (rewriting.Repeated n w) = Unit {0}
 IsRewriting (rewriting.Each e) = length (joined e.block.items) < 2 ^ 63
 IsRewriting (rewriting.Valued w v r) = (2 ≤ r) × (r ≤ 16)
 IsRewriting (rewriting.Plain w) = Unit {0}
-IsRewriting (rewriting.Called ps found w) = (length (joined w.now) < 2 ^ 63) × (length w.now < 2 ^ 59)
+IsRewriting (rewriting.Called c) = (length (joined c.block.now) < 2 ^ 63) × (length c.block.now < 2 ^ 58)
+
+-- a call is one of a macro of these tables
+abbrev pub IsCallOf : Tables → Rewriting → Type 0
+IsCallOf t rewriting.Nothing = Unit {0}
+IsCallOf t (rewriting.Block w) = Unit {0}
+IsCallOf t (rewriting.Repeated n w) = Unit {0}
+IsCallOf t (rewriting.Each e) = Unit {0}
+IsCallOf t (rewriting.Valued w v r) = Unit {0}
+IsCallOf t (rewriting.Plain w) = Unit {0}
+IsCallOf t (rewriting.Called c) = t.macros c.name.items ≡ Some (record { parameters = Some (names c.parameters.now); block = joined c.block.now })
 
 -- the move of a text by a rule, which leaves what stands behind
 abbrev pub rule_move : Tables → List ℕ → List ℕ → Rule → Move
@@ -60,6 +70,21 @@ IsRule (rule.Radix r) = (2 ≤ r) × (r ≤ 16)
 IsRule (rule.Rewrite w) = IsRewriting w
 IsRule rule.BadDirective = Unit {0}
 IsRule rule.Unsupported = Unit {0}
+
+-- a call by a rule is one of a macro of these tables
+abbrev pub IsRuleOf : Tables → Rule → Type 0
+IsRuleOf t rule.Comment = Unit {0}
+IsRuleOf t rule.Copy = Unit {0}
+IsRuleOf t (rule.Define n m) = Unit {0}
+IsRuleOf t (rule.Keep n v) = Unit {0}
+IsRuleOf t (rule.Radix r) = Unit {0}
+IsRuleOf t (rule.Rewrite w) = IsCallOf t w
+IsRuleOf t rule.BadDirective = Unit {0}
+IsRuleOf t rule.Unsupported = Unit {0}
+
+-- a rule that fits these tables
+abbrev pub Fits : Kept → Rule → Type 0
+Fits k r = IsRule r × IsRuleOf (tables_of k) r
 
 -- the move of a text that begins with a word or another token
 abbrev pub plain_move : Tables → List ℕ → Move

@@ -1,8 +1,8 @@
 -- What is done for a byte of a form in which comments become spaces.
 use Rattle.std.specs.Prelude.{ℕ, ◌==◌, List, [], ◌∷◌, codes, if◌then◌else◌}
 use Rattle.abel_lexer.specs.Bytes.{line_feed}
-use Rattle.abel_macros.specs.declared.mode.Mode.{Mode}
-use Rattle.abel_macros.specs.declared.mode.Mode.TheVariants as mode
+use Rattle.text_pieces.specs.declared.mode.Mode.{Mode}
+use Rattle.text_pieces.specs.declared.mode.Mode.TheVariants as mode
 
 -- a byte that stands in a mode, and the mode behind it: a comment's first byte is a space, and of the
 -- others only a line feed is done

@@ -2,7 +2,7 @@
 
 ghost use Rattle.std.specs.Prelude.{◌≡◌, ◌≤◌, IfOk};
 ghost use Rattle.abel_macros.specs.declared.directive.Directive.TheVariants as directive;
-ghost use Rattle.text_rewriting.specs.RuleMoves.{IsDirected, IsRule};
+ghost use Rattle.text_rewriting.specs.RuleMoves.{IsDirected, Fits};
 
 use crate::rules::{Rewriting, Rule};
 use abel_macros::{
@@ -19,7 +19,7 @@ fn const_rule<'t, 'a>(
     tables: &'t Tables<'a>,
 ) -> Result<Rule<'t, 'a>, AllocError>
     ensures moves { IfOk result (λ r. IsDirected directive.Const tables.now at.old at.new r) }
-    ensures fits { IfOk result (λ r. IsRule r) }
+    ensures fits { IfOk result (λ r. Fits tables.now r) }
     ensures whole { at.new.whole ≡ at.old.whole }
     ensures further { at.old.passed ≤ at.new.passed }
 {
@@ -37,7 +37,7 @@ fn if_rule<'t, 'a>(
     tables: &'t Tables<'a>,
 ) -> Result<Rule<'t, 'a>, AllocError>
     ensures moves { IfOk result (λ r. IsDirected directive.If tables.now at.old at.new r) }
-    ensures fits { IfOk result (λ r. IsRule r) }
+    ensures fits { IfOk result (λ r. Fits tables.now r) }
     ensures whole { at.new.whole ≡ at.old.whole }
     ensures further { at.old.passed ≤ at.new.passed }
 {
@@ -60,7 +60,7 @@ fn defined_rule<'t, 'a>(
     tables: &'t Tables<'a>,
 ) -> Result<Rule<'t, 'a>, AllocError>
     ensures moves { IfOk result (λ r. IsDirected directive.IfDefined tables.now at.old at.new r) }
-    ensures fits { IfOk result (λ r. IsRule r) }
+    ensures fits { IfOk result (λ r. Fits tables.now r) }
     ensures whole { at.new.whole ≡ at.old.whole }
     ensures further { at.old.passed ≤ at.new.passed }
 {
@@ -83,7 +83,7 @@ fn undefined_rule<'t, 'a>(
     tables: &'t Tables<'a>,
 ) -> Result<Rule<'t, 'a>, AllocError>
     ensures moves { IfOk result (λ r. IsDirected directive.IfUndefined tables.now at.old at.new r) }
-    ensures fits { IfOk result (λ r. IsRule r) }
+    ensures fits { IfOk result (λ r. Fits tables.now r) }
     ensures whole { at.new.whole ≡ at.old.whole }
     ensures further { at.old.passed ≤ at.new.passed }
 {
@@ -106,7 +106,7 @@ fn each_rule<'t, 'a>(
     tables: &'t Tables<'a>,
 ) -> Result<Rule<'t, 'a>, AllocError>
     ensures moves { IfOk result (λ r. IsDirected directive.Each tables.now at.old at.new r) }
-    ensures fits { IfOk result (λ r. IsRule r) }
+    ensures fits { IfOk result (λ r. Fits tables.now r) }
     ensures whole { at.new.whole ≡ at.old.whole }
     ensures further { at.old.passed ≤ at.new.passed }
 {
@@ -123,7 +123,7 @@ fn repeat_rule<'t, 'a>(
     tables: &'t Tables<'a>,
 ) -> Result<Rule<'t, 'a>, AllocError>
     ensures moves { IfOk result (λ r. IsDirected directive.Repeat tables.now at.old at.new r) }
-    ensures fits { IfOk result (λ r. IsRule r) }
+    ensures fits { IfOk result (λ r. Fits tables.now r) }
     ensures whole { at.new.whole ≡ at.old.whole }
     ensures further { at.old.passed ≤ at.new.passed }
 {
@@ -141,7 +141,7 @@ fn value_rule<'t, 'a>(
     tables: &'t Tables<'a>,
 ) -> Result<Rule<'t, 'a>, AllocError>
     ensures moves { IfOk result (λ r. IsDirected directive.Value tables.now at.old at.new r) }
-    ensures fits { IfOk result (λ r. IsRule r) }
+    ensures fits { IfOk result (λ r. Fits tables.now r) }
     ensures whole { at.new.whole ≡ at.old.whole }
     ensures further { at.old.passed ≤ at.new.passed }
 {
@@ -158,7 +158,7 @@ fn radix_rule<'t, 'a>(
     tables: &'t Tables<'a>,
 ) -> Result<Rule<'t, 'a>, AllocError>
     ensures moves { IfOk result (λ r. IsDirected directive.Radix tables.now at.old at.new r) }
-    ensures fits { IfOk result (λ r. IsRule r) }
+    ensures fits { IfOk result (λ r. Fits tables.now r) }
     ensures whole { at.new.whole ≡ at.old.whole }
     ensures further { at.old.passed ≤ at.new.passed }
 {
@@ -176,7 +176,7 @@ pub fn directed_rule<'t, 'a>(
     directive: Directive,
 ) -> Result<Rule<'t, 'a>, AllocError>
     ensures moves { IfOk result (λ r. IsDirected directive tables.now at.old at.new r) }
-    ensures fits { IfOk result (λ r. IsRule r) }
+    ensures fits { IfOk result (λ r. Fits tables.now r) }
     ensures whole { at.new.whole ≡ at.old.whole }
     ensures further { at.old.passed ≤ at.new.passed }
 {

@@ -3,7 +3,7 @@
 ghost use Rattle.std.specs.Prelude.{◌≡◌, [], ◌∷◌, ◌<◌, ◌≤◌, false, length, drop, IfOk};
 ghost use Rattle.abel_macros.specs.Kept.{tables_of};
 ghost use Rattle.abel_macros.specs.Rules as spec;
-ghost use Rattle.text_rewriting.specs.RuleMoves.{rewriting_text, rule_move, IsRewriting, IsRule};
+ghost use Rattle.text_rewriting.specs.RuleMoves.{rewriting_text, rule_move, IsCallOf, IsRewriting, IsRule, IsRuleOf};
 ghost use Rattle.text_rewriting.specs.Marks.{DefinesNone};
 ghost use Rattle.text_rewriting.specs.Fronts.{IsFront, IsRewritten};
 
@@ -12,7 +12,7 @@ use crate::gathered::{Gathered, Shortage};
 use crate::rules::{Rewriting, Rule, first_rule};
 use crate::spoken::{line_feeds, shown};
 use crate::unread::Unread;
-use abel_macros::{Macro, Tables};
+use abel_macros::{Call, Macro, Tables};
 use pld_base::OutOfMemory;
 use std::alloc::{AllocError, Global};
 use text_pieces::Rest;
@@ -37,8 +37,8 @@ pub enum Front<'a> {
     Copy(usize),
     /// Something is defined, and these bytes are done for so many of the rest.
     Said(Change<'a>, Vec<u8>, usize),
-    /// This result is put in place of so many bytes.
-    Rewritten(Gathered<'a>, usize),
+    /// This result is put in place of so many bytes; it may be that of a call.
+    Rewritten(Gathered<'a>, usize, Option<Call<'a>>),
     /// A result that is too long.
     TooLong,
     /// A form that is broken.
@@ -64,12 +64,12 @@ fn rewritten<'a>(
     end: usize,
 ) -> Result<Front<'a>, OutOfMemory>
     requires { IsRewriting rewriting }
-    ensures { IfOk result (λ f. IsRewritten (rewriting_text rewriting.entry) room end f) }
+    ensures { IfOk result (λ f. (t : spec.Tables) → IsCallOf t rewriting.entry → IsRewritten t (rewriting_text rewriting.entry) room end f) }
 {
     match gather(alloc, rewriting, room) {
-        Ok(result) => {
+        Ok((result, call)) => {
             result.is_within();
-            Ok(Front::Rewritten(result, end))
+            Ok(Front::Rewritten(result, end, call))
         }
         Err(Shortage::TooLong) => Ok(Front::TooLong),
         Err(Shortage::OutOfMemory) => Err(OutOfMemory),
@@ -89,7 +89,7 @@ fn front_of<'a>(
     requires some { 0 < end }
     requires within { end ≤ length rest.now }
     requires room { length rest.now ≤ most }
-    ensures { IfOk result (λ f. (t : spec.Tables) → IsFront t rest.now most (rule_move t rest.now (drop end rest.now) rule.entry) f) }
+    ensures { IfOk result (λ f. (t : spec.Tables) → IsRuleOf t rule.entry → IsFront t rest.now most (rule_move t rest.now (drop end rest.now) rule.entry) f) }
 {
     match rule {
         Rule::Comment => Ok(Front::Said(Change::Nothing, space(alloc)?, end)),

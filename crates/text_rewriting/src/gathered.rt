@@ -43,7 +43,7 @@ fn is_nothing(pieces: &[Piece]) -> bool
     ensures no { result ≡ false → 0 < length (joined pieces.now) }
 {
     for piece in pieces {
-        if !piece.bytes.is_empty() {
+        if piece.len() > 0 {
             return false;
         }
     }
@@ -73,9 +73,18 @@ impl<'a> Gathered<'a> {
     pub fn pieces(&self) -> &[Piece<'a>]
         ensures text { joined result.now ≡ self.now.text }
         ensures within { length (joined result.now) ≤ self.now.most }
-        ensures few { length result.now < 2 ^ 59 }
+        ensures few { length result.now < 2 ^ 58 }
     {
         self.pieces.as_slice()
+    }
+
+    /// Puts other pieces of the same text in the place of those that were gathered.
+    #[tactic(auto, using(crate::proofs::Gathers::same_gathering))]
+    pub fn stand_in(&mut self, pieces: Vec<Piece<'a>>)
+        requires { joined pieces.items ≡ self.old.text }
+        ensures { self.new ≡ self.old }
+    {
+        self.pieces = pieces;
     }
 
     /// It has no more bytes than it may have: this does nothing, and tells it.
@@ -88,17 +97,18 @@ impl<'a> Gathered<'a> {
     /// Adds a piece behind.
     #[tactic(auto, using(crate::proofs::Gathers::added, crate::proofs::Gathers::added_nothing, crate::proofs::Gathers::over))]
     pub fn add(&mut self, piece: Piece<'a>) -> Result<(), Shortage>
-        ensures ok { OnOk result (self.new ≡ record self.old { text = self.old.text ++ piece.entry.bytes.now }) }
-        ensures long { IfErr result (λ e. e ≡ shortage.TooLong → self.old.most < length (self.old.text ++ piece.entry.bytes.now)) }
+        ensures ok { OnOk result (self.new ≡ record self.old { text = self.old.text ++ piece.entry }) }
+        ensures long { IfErr result (λ e. e ≡ shortage.TooLong → self.old.most < length (self.old.text ++ piece.entry)) }
     {
-        if piece.bytes.len() == 0 {
+        let length = piece.len();
+        if length == 0 {
             return Ok(());
         }
-        if piece.bytes.len() > self.room {
+        if length > self.room {
             return Err(Shortage::TooLong);
         }
         self.pieces.push(piece)?;
-        self.room -= piece.bytes.len();
+        self.room -= length;
         Ok(())
     }
 
@@ -109,7 +119,7 @@ impl<'a> Gathered<'a> {
         ensures long { IfErr result (λ e. e ≡ shortage.TooLong → self.old.most < length (self.old.text ++ joined pieces.now)) }
     {
         for piece in pieces {
-            self.add(*piece)?;
+            self.add(piece.clone()?)?;
         }
         Ok(())
     }

@@ -8,6 +8,7 @@ mod directives;
 mod front;
 mod gather;
 mod gathered;
+mod kept;
 mod replaced;
 mod rules;
 mod spoken;

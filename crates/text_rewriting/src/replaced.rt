@@ -1,6 +1,7 @@
 //! Blocks in which arguments stand for parameters.
 
-ghost use Rattle.std.specs.Prelude.{◌≡◌, ◌+◌, ◌++◌, ◌<◌, ◌≤◌, ◌^◌, length, take, drop, true, false, Some, None, IfSome, IfNone, IfOk, OnOk, IfErr};
+ghost use Rattle.std.specs.Prelude.{◌≡◌, ◌==◌, ◌+◌, ◌++◌, ◌<◌, ◌≤◌, ◌^◌, length, take, drop, true, false, Some, None, IfSome, IfNone, IfOk, OnOk, IfErr};
+ghost use Rattle.std.specs.List.{count_by};
 ghost use Rattle.text_pieces.specs.Stacks.{ahead, joined};
 ghost use Rattle.abel_macros.specs.Forms.{asked, replaced, standing_for};
 ghost use Rattle.abel_macros.specs.Gaps.{starts_byte, rest_of};
@@ -65,6 +66,25 @@ fn is_replaced(alloc: Global, at: &Ahead, arguments: &Arguments) -> Result<bool,
     }
 }
 
+/// Passes bytes among which no `?` stands, and tells how many: those of which that is known, or stretches unless more bytes are to
+/// be passed singly before.
+fn skip_unmarked(at: &mut Ahead, singly: usize) -> usize
+    ensures none { count_by (λ b. b == 63) (take result (ahead at.old)) ≡ 0 }
+    ensures ahead { ahead at.new ≡ drop result (ahead at.old) }
+    ensures within { result ≤ length (ahead at.old) }
+    ensures whole { at.new.whole ≡ at.old.whole }
+{
+    let known = at.unmarked_len();
+    if known > 0 {
+        at.skip(known);
+        return known;
+    }
+    if singly > 0 {
+        return 0;
+    }
+    skip_without(at, b'?')
+}
+
 /// How many of the next bytes stay: those before the next `?` with a parameter behind it. So many bytes
 /// are passed singly before stretches without a `?` are.
 fn kept_len(alloc: Global, at: &Ahead, arguments: &Arguments) -> Result<usize, AllocError>
@@ -82,12 +102,8 @@ fn kept_len(alloc: Global, at: &Ahead, arguments: &Arguments) -> Result<usize, A
         }
         let _byte = look.step();
         count += 1;
-        if singly > 0 {
-            singly -= 1;
-        } else {
-            count += skip_without(&mut look, b'?');
-            singly = STRETCH;
-        }
+        count += skip_unmarked(&mut look, singly);
+        singly = singly.checked_sub(1).unwrap_or(STRETCH);
     }
     Ok(count)
 }
@@ -178,7 +194,7 @@ impl<'a> Gathered<'a> {
         arguments: &Arguments<'_, 'a>,
     ) -> Result<(), Shortage>
         requires bytes { length (joined block.now) < 2 ^ 63 }
-        requires pieces { length block.now < 2 ^ 59 }
+        requires pieces { length block.now < 2 ^ 58 }
         ensures ok { OnOk result (self.new ≡ record self.old { text = self.old.text ++ replaced (bound arguments.now.by_name.entries) 0 (joined block.now) }) }
         ensures long { IfErr result (λ e. e ≡ shortage.TooLong → self.old.most < length (self.old.text ++ replaced (bound arguments.now.by_name.entries) 0 (joined block.now))) }
     {
@@ -199,7 +215,7 @@ impl<'a> Gathered<'a> {
         arguments: &[Vec<Piece<'a>>],
     ) -> Result<(), Shortage>
         requires bytes { length (joined block.now) < 2 ^ 63 }
-        requires pieces { length block.now < 2 ^ 59 }
+        requires pieces { length block.now < 2 ^ 58 }
         ensures ok { OnOk result (self.new ≡ record self.old { text = self.old.text ++ replaced (standing_for (names parameters.now) (texts arguments.now)) 0 (joined block.now) }) }
         ensures long { IfErr result (λ e. e ≡ shortage.TooLong → self.old.most < length (self.old.text ++ replaced (standing_for (names parameters.now) (texts arguments.now)) 0 (joined block.now))) }
     {
@@ -217,7 +233,7 @@ impl<'a> Gathered<'a> {
         block: &[Piece<'a>],
     ) -> Result<(), Shortage>
         requires bytes { length (joined block.now) < 2 ^ 63 }
-        requires pieces { length block.now < 2 ^ 59 }
+        requires pieces { length block.now < 2 ^ 58 }
         ensures ok { OnOk result (self.new ≡ record self.old { text = self.old.text ++ each_replaced parameter.items (texts arguments.now) (joined block.now) }) }
         ensures long { IfErr result (λ e. e ≡ shortage.TooLong → self.old.most < length (self.old.text ++ each_replaced parameter.items (texts arguments.now) (joined block.now))) }
     {

@@ -6,7 +6,7 @@ ghost use Rattle.abel_macros.specs.Gaps as gaps;
 ghost use Rattle.abel_macros.specs.Kept.{tables_of};
 ghost use Rattle.abel_macros.specs.Rules as spec;
 ghost use Rattle.text_rewriting.specs.Marks.{DefinesNone};
-ghost use Rattle.text_rewriting.specs.RuleMoves.{rule_move, IsRule, plain_move};
+ghost use Rattle.text_rewriting.specs.RuleMoves.{rule_move, Fits, plain_move};
 
 use crate::called::named_rule;
 use crate::directives::directed_rule;
@@ -16,6 +16,15 @@ use abel_macros::{
 };
 use std::alloc::{AllocError, Global};
 use text_pieces::{Ahead, Piece, Rest};
+
+/// A call of a macro with parameters.
+#[derive(Drop)]
+pub struct Called<'t, 'a> {
+    pub name: Vec<u8>,
+    pub parameters: &'t [Vec<u8>],
+    pub arguments: Vec<Vec<Piece<'a>>>,
+    pub block: &'t [Piece<'a>],
+}
 
 /// What the result of a rewriting is made of.
 #[derive(Drop)]
@@ -30,10 +39,10 @@ pub enum Rewriting<'t, 'a> {
     Each(Each<'a>),
     /// A block, and a value's digits in a radix.
     Valued(Vec<Piece<'a>>, u32, u32),
-    /// The block of a macro without parameters.
+    /// A text that is there: the block of a macro without parameters, or the result of a call that was kept.
     Plain(&'t [Piece<'a>]),
-    /// Parameters, arguments and the block of a macro.
-    Called(&'t [Vec<u8>], Vec<Vec<Piece<'a>>>, &'t [Piece<'a>]),
+    /// The block of a macro with its arguments.
+    Called(Called<'t, 'a>),
 }
 
 /// The first rule that fits.
@@ -80,7 +89,7 @@ fn directive_rule<'t, 'a>(
 ) -> Result<(Rule<'t, 'a>, usize), AllocError>
     requires { gaps.starts_byte 64 rest.now ≡ true }
     ensures moves { IfOk result (λ r. spec.directed (spec.directive_of (gaps.before rest.now (spec.behind_directive rest.now))) (tables_of tables.now) rest.now (spec.behind_directive rest.now) ≡ rule_move (tables_of tables.now) rest.now (drop r.1 rest.now) r.0) }
-    ensures fits { IfOk result (λ r. IsRule r.0) }
+    ensures fits { IfOk result (λ r. Fits tables.now r.0) }
     ensures within { IfOk result (λ r. (0 < r.1) × (r.1 ≤ length rest.now)) }
 {
     let mut at = rest.ahead();
@@ -101,7 +110,7 @@ fn plain_rule<'t, 'a>(
     requires undefined { may_define ≡ false → DefinesNone rest.now }
     requires plain { (gaps.starts_byte 39 rest.now ≡ false) × (gaps.starts_byte 64 rest.now ≡ false) }
     ensures moves { IfOk result (λ r. plain_move (tables_of tables.now) rest.now ≡ rule_move (tables_of tables.now) rest.now (drop r.1 rest.now) r.0) }
-    ensures fits { IfOk result (λ r. IsRule r.0) }
+    ensures fits { IfOk result (λ r. Fits tables.now r.0) }
     ensures within { IfOk result (λ r. (0 < r.1) × (r.1 ≤ length rest.now)) }
 {
     let mut at = rest.ahead();
@@ -126,7 +135,7 @@ pub fn first_rule<'t, 'a>(
     requires some { 0 < length rest.now }
     requires undefined { may_define ≡ false → DefinesNone rest.now }
     ensures moves { IfOk result (λ r. spec.move (tables_of tables.now) rest.now ≡ rule_move (tables_of tables.now) rest.now (drop r.1 rest.now) r.0) }
-    ensures fits { IfOk result (λ r. IsRule r.0) }
+    ensures fits { IfOk result (λ r. Fits tables.now r.0) }
     ensures within { IfOk result (λ r. (0 < r.1) × (r.1 ≤ length rest.now)) }
 {
     let mut at = rest.ahead();

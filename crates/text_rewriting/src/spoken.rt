@@ -3,12 +3,11 @@
 ghost use Rattle.std.specs.Prelude.{◌≡◌, ◌+◌, ◌++◌, ◌<◌, ◌≤◌, length, take, IfOk, OnOk};
 ghost use Rattle.text_pieces.specs.Stacks.{ahead};
 ghost use Rattle.abel_macros.specs.Rules as spec;
-ghost use Rattle.abel_macros.specs.declared.mode.Mode.TheVariants as mode;
+ghost use Rattle.text_pieces.specs.declared.mode.Mode.TheVariants as mode;
 ghost use Rattle.text_rewriting.specs.Shown.{shown_of};
 
-use abel_macros::Mode;
 use std::alloc::{AllocError, Global};
-use text_pieces::Rest;
+use text_pieces::{Mode, Rest};
 
 /// The first bytes of a rest, as a text of their own.
 #[tactic(auto, using(crate::proofs::SpokenSteps::part_fits))]

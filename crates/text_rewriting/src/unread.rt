@@ -60,6 +60,13 @@ impl<'a> Unread<'a> {
         }
     }
 
+    /// Keeps what is known of the places of its first piece.
+    pub fn keep_text(&mut self, alloc: Global) -> Result<(), AllocError>
+        ensures { self.new ≡ self.old }
+    {
+        self.rest.keep(alloc)
+    }
+
     /// Its bytes.
     pub fn rest(&self) -> &Rest<'a>
         ensures { result.now ≡ self.now }
@@ -98,7 +105,7 @@ impl<'a> Unread<'a> {
     #[tactic(auto, using(crate::proofs::Marks::none_at_end, crate::proofs::Marks::none_before))]
     pub fn put_all(&mut self, pieces: &[Piece<'a>]) -> Result<(), AllocError>
         requires bytes { length self.old + length (joined pieces.now) < 2 ^ 63 }
-        requires pieces { length pieces.now < 2 ^ 59 }
+        requires pieces { length pieces.now < 2 ^ 58 }
         ensures ok { OnOk result (self.new ≡ joined pieces.now ++ self.old) }
     {
         let left = self.left;

@@ -1,6 +1,5 @@
 -- One pair more.
 use Rattle.std.proofs.Common.{◌≡◌, ◌+◌, ◌-◌, ◌∙◌, ap, arith, ℕ, List, drop}
-use Rattle.text_pieces.specs.declared.piece.Piece.{Piece}
 use Rattle.std.specs.Global.{Vec}
 use Rattle.abel_macros.specs.Forms.{standing_for}
 use Rattle.abel_macros.specs.Pieces.{names, texts}
@@ -16,7 +15,7 @@ pairs-preserved c =
     i.pairs ∙ ap (λ (n : ℕ). standing_for (names (drop n c.args.parameters.now)) (texts (drop n c.args.arguments.now))) back in
     record {
       pairs = next_bound c.pairs.by_name.entries c.insert.new.self.entries c.in_ok-name.name c.as_slice-in-pairs.result c.args.parameters.now c.args.arguments.now (c.pairs.left - 1) _ _ (omega (arith, i.few, c.pairs-test.true)) (omega (arith, i.fewer, c.pairs-test.true))
-          (c.in_ok-name.ensures.items ∙ c.as_slice.ensures.value ∙ ap (λ (v : Vec ℕ). v.items) c.index-parameters-left.is) (c.as_slice-in-pairs.ensures.value ∙ ap (λ (v : Vec Piece). v.items) c.index-arguments-left.is) c.in_ok-insert.ensures.entries before;
+          (c.in_ok-name.ensures.items ∙ c.as_slice.ensures.value ∙ ap (λ (v : Vec ℕ). v.items) c.index-parameters-left.is) (c.as_slice-in-pairs.ensures.value ∙ ap (λ (v : Vec (List ℕ)). v.items) c.index-arguments-left.is) c.in_ok-insert.ensures.entries before;
       few = omega (arith, i.few);
       fewer = omega (arith, i.fewer);
     }

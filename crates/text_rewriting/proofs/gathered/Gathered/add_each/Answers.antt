@@ -1,6 +1,5 @@
 -- One argument more.
 use Rattle.std.proofs.Common.{rules, ◌≡◌, ◌++◌, ◌∙◌, List, [], ◌∷◌, ap, arith, take, drop}
-use Rattle.text_pieces.specs.declared.piece.Piece.{Piece}
 use Rattle.std.specs.Global.{Vec}
 use Rattle.std.specs.Prelude.{ℕ}
 use Rattle.text_pieces.specs.Stacks.{joined}
@@ -16,7 +15,7 @@ arguments-preserved c =
     let one : c.split_at-in-arguments.result.0.now ≡ take 1 (drop c.arguments.at c.args.arguments.now) = search rules in
     let new : c.add_replaced.new.self.text ≡ c.arguments.self.text ++ replaced (standing_for (c.args.parameter.items ∷ []) (texts (take 1 (drop c.arguments.at c.args.arguments.now)))) 0 (joined c.args.block.now) =
     ap (λ (g : Gathering). g.text) c.in_ok-add_replaced.ensures.ok
-    ∙ ap (λ (ws : List (Vec Piece)). c.arguments.self.text ++ replaced (standing_for (c.args.parameter.items ∷ []) (texts ws)) 0 (joined c.args.block.now)) one in
+    ∙ ap (λ (ws : List (Vec (List ℕ))). c.arguments.self.text ++ replaced (standing_for (c.args.parameter.items ∷ []) (texts ws)) 0 (joined c.args.block.now)) one in
     record {
       text = each_next c.args.parameter.items (joined c.args.block.now) c.args.arguments.now c.arguments.at c.arguments.self.text c.add_replaced.new.self.text
           (c.args.self.now.text ++ each_replaced c.args.parameter.items (texts c.args.arguments.now) (joined c.args.block.now)) (omega arith) new c.arguments.invariant.text;
