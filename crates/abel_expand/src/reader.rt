@@ -15,7 +15,7 @@ use crate::standing::{Origin, Standing, copied_at, own_behind, said_at};
 use abel_lexer::place_past;
 use abel_macros::Tables;
 use pld_base::{OutOfMemory, Place};
-use std::alloc::Global;
+use std::alloc::{AllocError, Global};
 use std::marker::Model;
 use text_rewriting::{Change, Front, Unread, look};
 
@@ -54,13 +54,17 @@ impl<'a> Model for Reader<'a> {
 }
 
 /// Defines something.
-fn change_tables<'a>(tables: &mut Tables<'a>, change: Change<'a>) -> Result<(), OutOfMemory>
+fn change_tables<'a>(
+    alloc: Global,
+    tables: &mut Tables<'a>,
+    change: Change<'a>,
+) -> Result<(), OutOfMemory>
     requires { IsChange change }
     ensures { OnOk result (tables_of tables.new ≡ changed change.entry (tables_of tables.old)) }
 {
     match change {
         Change::Nothing => Ok(()),
-        Change::Define(name, entry) => tables.define(name, entry),
+        Change::Define(name, entry) => tables.define(alloc, name, entry),
         Change::Keep(name, value) => tables.keep(name, value),
         Change::Radix(radix) => {
             tables.set_radix(radix);
@@ -195,7 +199,7 @@ impl<'a> Reader<'a> {
             }
             Front::Said(change, bytes, end) => {
                 self.refused = Some(ExpandFault::OutOfMemory);
-                change_tables(&mut self.tables, change)?;
+                change_tables(self.alloc, &mut self.tables, change)?;
                 self.refused = None;
                 self.rest.skip(end);
                 self.done += bytes.len();
@@ -205,11 +209,12 @@ impl<'a> Reader<'a> {
                 self.copied = 0;
                 self.turns += 1;
             }
-            Front::Rewritten(result, end) => {
+            Front::Rewritten(mut result, end, call) => {
                 if self.rewritings == 65536 {
                     return Err(ExpandFault::ExpansionLimit(self.place));
                 }
                 self.refused = Some(ExpandFault::OutOfMemory);
+                result.keep(self.alloc, &mut self.tables, call)?;
                 self.rest.skip(end);
                 self.own = own_behind(self.own, self.rest.rest().len());
                 self.call = here;
@@ -231,8 +236,18 @@ impl<'a> Reader<'a> {
         Ok(())
     }
 
-    /// Takes a turn of the text, where nothing waits and something is left of it.
-    fn turn(&mut self) -> Result<(), ExpandFault>
+    /// Keeps what is known of the places of the text, before the first turn.
+    fn begin(&mut self) -> Result<(), AllocError>
+        ensures { self.new ≡ self.old }
+    {
+        if self.turns > 0 {
+            return Ok(());
+        }
+        self.rest.keep_text(self.alloc)
+    }
+
+    /// Takes a turn of the text, where nothing waits and something is left of it and what is known of its places is kept.
+    fn move_on(&mut self) -> Result<(), ExpandFault>
         requires going { self.old.refused ≡ None }
         requires given { bytes_waiting self.old ≡ [] }
         requires some { (after self.old.turns self.old.text).rest ≡ [] → ⊥ }
@@ -243,6 +258,20 @@ impl<'a> Reader<'a> {
     {
         let may_define = self.rest.may_define(self.alloc)?;
         self.act(may_define)
+    }
+
+    /// Takes a turn of the text, where nothing waits and something is left of it.
+    fn turn(&mut self) -> Result<(), ExpandFault>
+        requires going { self.old.refused ≡ None }
+        requires given { bytes_waiting self.old ≡ [] }
+        requires some { (after self.old.turns self.old.text).rest ≡ [] → ⊥ }
+        ensures ok { OnOk result (self.new ≡ record self.old { turns = self.old.turns + 1 }) }
+        ensures falls { OnOk result (left_to_do (after self.new.turns self.new.text) < left_to_do (after self.old.turns self.old.text)) }
+        ensures err { IfErr result (λ e. (self.new.text ≡ self.old.text) × (self.new.turns ≡ self.old.turns) × (self.new.given ≡ self.old.given)) }
+        ensures refused { IfErr result (λ e. IsRefusal self.old.text (bytes_given self.old) e) }
+    {
+        self.begin()?;
+        self.move_on()
     }
 
     /// Whether nothing is left of the text, where nothing waits.

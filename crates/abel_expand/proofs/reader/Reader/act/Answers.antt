@@ -1,10 +1,11 @@
 -- What each front makes of the parts of a reader, and which refusal it is.
 use Rattle.std.proofs.Common.{◌≡◌, ◌-◌, ◌+◌, ◌<◌, ◌++◌, ◌∙◌, ap, sym, subst, ℕ, List, [], None, false, length, take, drop, refl, arith}
-use Rattle.abel_macros.specs.Kept.{tables_of}
+use Rattle.abel_macros.specs.Kept.{Kept, tables_of}
 use Rattle.abel_macros.specs.Rules.{move, BadDirective, Unsupported, TooLong, ExpansionLimit}
 use Rattle.abel_expand.specs.declared.fault.ExpandFault.TheVariants as fault
 use Rattle.text_rewriting.specs.declared.front.Front.{Front}
 use Rattle.text_rewriting.specs.Fronts.{changed, IsFront}
+use Rattle.text_rewriting.specs.Gathering.{Gathering}
 use Rattle.text_rewriting.specs.Marks.{DefinesNone}
 use Rattle.abel_expand.specs.Runs.{Reading, bytes_given, bytes_waiting, after, IsRefusal}
 use Rattle.abel_expand.specs.Origins.{lesser}
@@ -67,6 +68,12 @@ returns-then-self-eq65536-clause-refused c =
     let some = subst (λ (v : Reading). (after v.turns v.text).rest ≡ [] → ⊥) (sym c.self.view_is) c.requires.some in
     subst (λ (v : Reading). IsRefusal v.text (bytes_given v) (fault.ExpansionLimit i.place)) c.self.view_is (s.placed, is_refused i.text.now i.turns i.given i.done i.rewritings i.tables (drop i.at i.said.items) i.copied i.rest i.place s none ExpansionLimit (limit_refused i.text.now i.turns i.given i.done i.rewritings i.tables (drop i.at i.said.items) i.copied i.rest i.place s none c.in-Rewritten.result.text (drop c.in-Rewritten.end i.rest) f.0 (omega (arith, c.if-self-eq65536.true))) some)
 
+pub keep-requires : goal.keep-requires
+keep-requires c =
+    let i = c.self.inside in
+    let f = subst (λ (x : Front). IsFront (tables_of i.tables) i.rest (1048576 - i.done) (move (tables_of i.tables) i.rest) x) c.in-Rewritten.is c.in_ok-count.ensures in
+    f.3
+
 pub invariant_of-self-in-Rewritten : goal.invariant_of-self-in-Rewritten
 invariant_of-self-in-Rewritten c =
     let i = c.self.inside in
@@ -75,10 +82,11 @@ invariant_of-self-in-Rewritten c =
     let s = c.self.invariant.1 r in
     let f = subst (λ (x : Front). IsFront (tables_of i.tables) i.rest (1048576 - i.done) (move (tables_of i.tables) i.rest) x) c.in-Rewritten.is c.in_ok-count.ensures in
     let whole : c.put_all.new.self ≡ c.in-Rewritten.result.text ++ drop c.in-Rewritten.end i.rest =
-    c.in_ok-put_all-in-Rewritten.ensures.ok ∙ ap (λ (w : List ℕ). w ++ c.skip-in-Rewritten.new.self) c.pieces.ensures.text ∙ ap (λ (w : List ℕ). c.in-Rewritten.result.text ++ w) c.skip-in-Rewritten.ensures in
+    c.in_ok-put_all-in-Rewritten.ensures.ok ∙ ap (λ (w : List ℕ). w ++ c.skip-in-Rewritten.new.self) (c.pieces.ensures.text ∙ ap (λ (g : Gathering). g.text) c.in_ok-keep-in-Rewritten.ensures.text) ∙ ap (λ (w : List ℕ). c.in-Rewritten.result.text ++ w) c.skip-in-Rewritten.ensures in
     let own : c.own_behind-self-inside.result ≡ lesser i.own (length (drop c.in-Rewritten.end i.rest)) = c.own_behind-self-inside.ensures ∙ ap (lesser i.own) (c.len-in-Rewritten.ensures.value ∙ ap length (c.rest-in-Rewritten.ensures ∙ c.skip-in-Rewritten.ensures)) in (
       c.self.invariant.0,
-      λ _. (rewriting_turn i.text.now i.turns i.given i.done i.rewritings i.tables (drop i.at i.said.items) i.copied i.rest i.place s none c.in-Rewritten.result.text (drop c.in-Rewritten.end i.rest) f.0 c.put_all.new.self (λ e. omega (arith, e, c.if-self-eq65536.false)) (omega (arith, f.1, room i.text.now i.turns i.given i.done i.rewritings i.tables (drop i.at i.said.items) i.copied i.rest i.place s none)) whole).0,
+      λ _. subst (λ (k : Kept). Stands i.text.now (i.turns + 1) i.given i.done (i.rewritings + 1) k (drop i.at i.said.items) 0 c.put_all.new.self i.place) (sym c.in_ok-keep-in-Rewritten.ensures.tables)
+          (rewriting_turn i.text.now i.turns i.given i.done i.rewritings i.tables (drop i.at i.said.items) i.copied i.rest i.place s none c.in-Rewritten.result.text (drop c.in-Rewritten.end i.rest) f.0 c.put_all.new.self (λ e. omega (arith, e, c.if-self-eq65536.false)) (omega (arith, f.1, room i.text.now i.turns i.given i.done i.rewritings i.tables (drop i.at i.said.items) i.copied i.rest i.place s none)) whole).0,
       λ n. subst (λ (m : ℕ). IsOwnEnd i.text.now (i.turns + 1) m c.put_all.new.self) (sym own)
           (own_rewritten i.text.now i.turns i.own i.rest (c.self.invariant.2 r) c.in-Rewritten.result.text (drop c.in-Rewritten.end i.rest) c.in-Rewritten.end c.put_all.new.self (move_is i.text.now i.turns i.given i.done i.rewritings i.tables (drop i.at i.said.items) i.copied i.rest i.place s none ∙ f.0) refl f.2 whole),
       omega (arith, own, c.self.invariant.3),
@@ -152,4 +160,4 @@ returns-in_ok-put_all-in-Rewritten-clause-falls c =
     let none : drop i.given (after i.turns i.text.now).done ≡ [] = ap bytes_waiting c.self.view_is ∙ c.requires.given in
     let s = c.self.invariant.1 r in
     let f = subst (λ (x : Front). IsFront (tables_of i.tables) i.rest (1048576 - i.done) (move (tables_of i.tables) i.rest) x) c.in-Rewritten.is c.in_ok-count.ensures in
-    subst (λ (v : Reading). left_to_do (after (i.turns + 1) i.text.now) < left_to_do (after v.turns v.text)) c.self.view_is (rewriting_turn i.text.now i.turns i.given i.done i.rewritings i.tables (drop i.at i.said.items) i.copied i.rest i.place s none c.in-Rewritten.result.text (drop c.in-Rewritten.end i.rest) f.0 c.put_all.new.self (λ e. omega (arith, e, c.if-self-eq65536.false)) (omega (arith, f.1, room i.text.now i.turns i.given i.done i.rewritings i.tables (drop i.at i.said.items) i.copied i.rest i.place s none)) (c.in_ok-put_all-in-Rewritten.ensures.ok ∙ ap (λ (w : List ℕ). w ++ c.skip-in-Rewritten.new.self) c.pieces.ensures.text ∙ ap (λ (w : List ℕ). c.in-Rewritten.result.text ++ w) c.skip-in-Rewritten.ensures)).1
+    subst (λ (v : Reading). left_to_do (after (i.turns + 1) i.text.now) < left_to_do (after v.turns v.text)) c.self.view_is (rewriting_turn i.text.now i.turns i.given i.done i.rewritings i.tables (drop i.at i.said.items) i.copied i.rest i.place s none c.in-Rewritten.result.text (drop c.in-Rewritten.end i.rest) f.0 c.put_all.new.self (λ e. omega (arith, e, c.if-self-eq65536.false)) (omega (arith, f.1, room i.text.now i.turns i.given i.done i.rewritings i.tables (drop i.at i.said.items) i.copied i.rest i.place s none)) (c.in_ok-put_all-in-Rewritten.ensures.ok ∙ ap (λ (w : List ℕ). w ++ c.skip-in-Rewritten.new.self) (c.pieces.ensures.text ∙ ap (λ (g : Gathering). g.text) c.in_ok-keep-in-Rewritten.ensures.text) ∙ ap (λ (w : List ℕ). c.in-Rewritten.result.text ++ w) c.skip-in-Rewritten.ensures)).1

@@ -3,7 +3,7 @@ use Rattle.std.proofs.Common.{◌≡◌, ◌∙◌, ap, sym, subst, [], None, dr
 use Rattle.text_rewriting.specs.Marks.{DefinesNone}
 use Rattle.abel_expand.specs.Runs.{Reading, bytes_waiting, after}
 use Rattle.abel_expand.proofs.Turning.{rest_is}
-use Rattle.abel_expand.proofs.reader.Reader.turn.Goals as goal
+use Rattle.abel_expand.proofs.reader.Reader.move_on.Goals as goal
 
 pub act-requires-clause-undefined : goal.act-requires-clause-undefined
 act-requires-clause-undefined c =
