@@ -8,7 +8,6 @@ use Rattle.decls.specs.declared.fault.NameFault.{NameFault}
 use Rattle.decls.specs.declared.pass.Pass.{Pass}
 use Rattle.decls.specs.declared.table.NameTable.{NameTable}
 use Rattle.decls.specs.FaultOrder.{name_order}
-use Rattle.decls.specs.NameRefusals.{always_inverts}
 use Rattle.decls.specs.Passed.{is_behind, AreBehind, MayLeave, Way, way, Follows, wants_names}
 use Rattle.decls.specs.Shown.{Shows}
 use Rattle.decls.specs.Steps.{Progress, nothing, refuse_all}
@@ -90,16 +89,16 @@ starts t skips d sh = record {
 }
 
 -- where names are wanted, none is left out
-wants : (t : Table) (o : Option NameFault) (b : Bool) → is_some o ≡ true → not b ≡ true → always_inverts t ≡ b → wants_names t o ≡ true → ⊥
-wants t None b h k e g = absurd cc
-wants t (Some f) true h k e g = absurd cc
-wants t (Some f) false h k e g = absurd (let bad : true ≡ false = sym g ∙ e in cc)
+wants : (wait : Bool) (o : Option NameFault) → is_some o ≡ true → not wait ≡ true → wants_names wait o ≡ true → ⊥
+wants wait None h k g = absurd cc
+wants true (Some f) h k g = absurd cc
+wants false (Some f) h k g = absurd cc
 
-pub whole_names : (t : Table) (inverts : Bool) (d : Pass) (s : Progress) → inverts ≡ always_inverts t → Follows (way t (not inverts)) d s → d.lost ≡ false → wants_names t d.table.fault ≡ true → Shows t d.table s
-whole_names t inverts d s e f l g = f.shown (by d.skipped refl)
+pub whole_names : (t : Table) (wait : Bool) (d : Pass) (s : Progress) → Follows (way t (not wait)) d s → d.lost ≡ false → wants_names wait d.table.fault ≡ true → Shows t d.table s
+whole_names t wait d s f l g = f.shown (by d.skipped refl)
   where
     by : (b : Bool) → d.skipped ≡ b → d.skipped ≡ false
-    by true h = absurd (wants t d.table.fault inverts (f.refused h l) (f.allowed h) (sym e) g)
+    by true h = absurd (wants wait d.table.fault (f.refused h l) (f.allowed h) g)
     by false h = h
 
 pub all_names : (t : Table) (d : Pass) (s : Progress) → Follows (way t false) d s → Shows t d.table s

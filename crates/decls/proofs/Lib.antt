@@ -4,6 +4,7 @@ pub mod BadAttributeExamplesA
 pub mod BadAttributeExamplesB
 pub mod BadPinExamples
 pub mod BadRangeExamples
+pub mod BufferStrings
 pub mod DeclarationsGo
 pub mod Entered
 pub mod FirstNames

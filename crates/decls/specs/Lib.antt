@@ -1,5 +1,6 @@
 pub mod AllDeclarations
 pub mod Attributes
+pub mod Buffers
 pub mod Devices
 pub mod FaultOrder
 pub mod NameRefusals

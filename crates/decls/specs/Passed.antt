@@ -12,7 +12,6 @@ use Rattle.decls.specs.declared.fault.NameFault.{NameFault}
 use Rattle.decls.specs.declared.pass.Pass.{Pass}
 use Rattle.decls.specs.Attributes.{strings_refused}
 use Rattle.decls.specs.FaultOrder.{place_of, name_order}
-use Rattle.decls.specs.NameRefusals.{always_inverts}
 use Rattle.decls.specs.NamesBefore.{words_of_names}
 use Rattle.decls.specs.Shown.{Shows}
 use Rattle.decls.specs.Steps.{Progress, refuse_all}
@@ -70,9 +69,9 @@ pub record Follows (w : Way) (d : Pass) (s : Progress) : Type 0 where
   pub refused : d.skipped ≡ true → d.lost ≡ false → is_some d.table.fault ≡ true
   pub found : d.skipped ≡ false → d.lost ≡ false
 
--- the names of a module are wanted where nothing is refused, and where registers may be refused before that
-abbrev pub wants_names : Table → Option NameFault → Bool
-wants_names t fault = not (is_some fault) || always_inverts t
+-- the names of a module are wanted where nothing is refused, and where registers wait that may be refused before that
+abbrev pub wants_names : (wait : Bool) → Option NameFault → Bool
+wants_names wait fault = not (is_some fault) || wait
 
 -- numbers for so many names: all that there are, or the first of them where names may be left out
 pub record HasNumbers (skips : Bool) (room : ℕ) (numbers all : List ℕ) : Type 0 where

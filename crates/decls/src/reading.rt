@@ -5,6 +5,7 @@ ghost use Rattle.pld_device.specs.Table.{Table};
 ghost use Rattle.abel_tree.specs.Entries.{view_attributes, view_declared};
 ghost use Rattle.abel_tree.specs.FirstRefusal.{first_refusal};
 ghost use Rattle.abel_tree.specs.View.{view_module};
+ghost use Rattle.decls.specs.Buffers.{registers_wait};
 ghost use Rattle.decls.specs.FaultOrder.{name_order};
 ghost use Rattle.decls.specs.NameRefusals.{names_once, read_refusals};
 ghost use Rattle.decls.specs.Numbers.{buffered_names, number_if, numbered};
@@ -12,6 +13,7 @@ ghost use Rattle.decls.specs.Passed.{wants_names};
 ghost use Rattle.decls.specs.Shown.{Shows, kept, view_given, view_known, view_said};
 ghost use Rattle.decls.specs.Steps.{Progress};
 
+use crate::buffers::registers_wait;
 use crate::fault::NameFault;
 use crate::items::Given;
 use crate::said::Said;
@@ -34,6 +36,9 @@ pub struct NamesRead {
     pub buffered: Vec<Buffered>,
     /// The first of what is refused where it is read.
     pub fault: Option<NameFault>,
+    /// Whether registers wait for what is assigned, which may be refused then: the device always
+    /// inverts, and some string says `buffer`.
+    pub registers_wait: bool,
 }
 
 /// A name that a string with `buffer` is for: its place in the string's declaration, and its number
@@ -129,17 +134,19 @@ fn list_of(alloc: Global, names: IndexMap<Vec<u8>, Known>) -> Result<Vec<Declare
 
 /// The names that a module declares, each as it is declared first, and the first refusal of what is
 /// declared and used. A pin or node that is refused has the number 0. Whether a register may be
-/// `buffer` isn't looked at. Once something is refused, names behind it may be missing, unless a
-/// register may still be refused before it.
+/// `buffer` isn't looked at. Once something is refused, names behind it may be missing, unless
+/// registers wait, of which one may be refused before it.
 pub fn read_names<D: Device>(alloc: Global, source: &Module) -> Result<NamesRead, OutOfMemory>
-    ensures list { IfOk result (λ r. wants_names D.table r.fault ≡ true → map view_declared r.list.items
+    ensures list { IfOk result (λ r. wants_names (registers_wait D.table (view_module source.now)) r.fault ≡ true → map view_declared r.list.items
         ≡ map (kept D.table) (names_once (view_module source.now))) }
-    ensures buffered { IfOk result (λ r. wants_names D.table r.fault ≡ true → r.buffered.items
+    ensures buffered { IfOk result (λ r. wants_names (registers_wait D.table (view_module source.now)) r.fault ≡ true → r.buffered.items
         ≡ buffered_names (view_module source.now)) }
     ensures fault { IfOk result (λ r. r.fault
         ≡ first_refusal name_order (read_refusals D.table (view_module source.now))) }
+    ensures wait { IfOk result (λ r. r.registers_wait ≡ registers_wait D.table (view_module source.now)) }
 {
-    let table = names_read::<D>(alloc, source)?;
+    let wait = registers_wait::<D>(source);
+    let table = names_read::<D>(alloc, source, wait)?;
     let buffered = table.buffered(alloc, table.waiting.as_slice())?;
     let NameTable {
         pins: _,
@@ -156,5 +163,6 @@ pub fn read_names<D: Device>(alloc: Global, source: &Module) -> Result<NamesRead
         list,
         buffered,
         fault,
+        registers_wait: wait,
     })
 }

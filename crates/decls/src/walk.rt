@@ -11,7 +11,6 @@ ghost use Rattle.decls.specs.Shown.{Shows};
 ghost use Rattle.decls.specs.Steps.{Progress, nothing};
 ghost use Rattle.decls.specs.Walked.{declaration_step, module_steps, section_step};
 
-use crate::buffers::always_inverts;
 use crate::pass::Pass;
 use crate::table::NameTable;
 use abel_tree::{Decl, Module, Section};
@@ -133,17 +132,19 @@ fn pass_over<D: Device>(alloc: Global, source: &Module, skips: bool) -> Result<P
 }
 
 /// The names of a module as far as they are wanted, each as it is declared first, and the first refusal of
-/// declarations and uses. The names that a string with `buffer` is for wait.
+/// declarations and uses. The names that a string with `buffer` is for wait. They are wanted behind a
+/// refusal too where registers wait.
 pub(crate) fn names_read<D: Device>(
     alloc: Global,
     source: &Module,
+    wait: bool,
 ) -> Result<NameTable, OutOfMemory>
-    ensures steps { IfOk result (λ d. wants_names D.table d.fault ≡ true
+    ensures steps { IfOk result (λ d. wants_names wait d.fault ≡ true
         → Shows D.table d (module_steps D.table (view_module source.now))) }
     ensures fault { IfOk result (λ d. d.fault
         ≡ first_refusal name_order (read_refusals D.table (view_module source.now))) }
 {
-    let pass = pass_over::<D>(alloc, source, !always_inverts::<D>())?;
+    let pass = pass_over::<D>(alloc, source, !wait)?;
     if !pass.lost {
         return Ok(pass.table);
     }

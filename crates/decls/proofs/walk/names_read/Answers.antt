@@ -15,7 +15,7 @@ not_lost false h = refl
 pub returns-then-not-pass-clause-steps : goal.returns-then-not-pass-clause-steps
 returns-then-not-pass-clause-steps g c = λ h.
     let t = g.D.Device.table in
-    whole_names t c.always_inverts.result c.in_ok-pass.pass (module_steps t (view_module c.args.source.now)) c.always_inverts.ensures c.in_ok-pass.ensures (not_lost c.in_ok-pass.pass.lost c.if-not-pass.true) h
+    whole_names t c.args.wait c.in_ok-pass.pass (module_steps t (view_module c.args.source.now)) c.in_ok-pass.ensures (not_lost c.in_ok-pass.pass.lost c.if-not-pass.true) h
 
 pub returns-then-not-pass-clause-fault : goal.returns-then-not-pass-clause-fault
 returns-then-not-pass-clause-fault g c =
