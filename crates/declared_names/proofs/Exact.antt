@@ -1,5 +1,6 @@
 -- What is answered where nothing is refused.
-use Rattle.std.proofs.Common.{◌≡◌, ◌⊎◌, inl, inr, Bool, true, false, if◌then◌else◌, Option, None, Some, List, [], ◌++◌, map, refl, sym, ap, ap₂, subst, ◌∙◌}
+use Rattle.std.proofs.Common.{◌≡◌, Bool, true, false, ◌&&◌, ◌||◌, if◌then◌else◌, Option, None, List, [], ◌∷◌, ◌++◌, map, refl, sym, ap, ap₂, subst, ◌∙◌}
+use Rattle.std.specs.List.{list_any}
 use Rattle.std.proofs.lemmas.List.{append-nil}
 use Rattle.pld_device.specs.declared.flip.Flip.{Flip}
 use Rattle.pld_device.specs.Table.{Table}
@@ -8,18 +9,19 @@ use Rattle.abel_tree.specs.Assigned.{named_of, sections_assign}
 use Rattle.abel_tree.specs.Entries.{Entry, entries_of}
 use Rattle.abel_tree.specs.FirstRefusal.{first_refusal}
 use Rattle.abel_tree.specs.SoundNames.{IsNamed, are_named, module_uses}
-use Rattle.abel_tree.specs.Tree.{ModuleTree}
+use Rattle.abel_tree.specs.Tree.{Declaration, ADevice, SomePins, SomeNodes, SomeAttributes, SomeConstants, SomeOptions, DontCareFor, ModuleTree}
 use Rattle.abel_tree.proofs.FirstRefusals.{none_refused}
-use Rattle.abel_meaning.specs.Declarations.{declared_names}
+use Rattle.abel_meaning.specs.Declarations.{GivenName, all_said, declared_names}
 use Rattle.abel_meaning.specs.Held.{holds_of}
 use Rattle.abel_meaning.specs.Kinds.{names_of, with_assigned}
 use Rattle.decls.specs.declared.fault.NameFault.{NameFault}
 use Rattle.decls.specs.declared.reading.Buffered.{Buffered}
 use Rattle.decls.specs.AllDeclarations.{all_declarations}
+use Rattle.decls.specs.Buffers.{says_buffer, registers_wait}
 use Rattle.decls.specs.FaultOrder.{name_order}
-use Rattle.decls.specs.NameRefusals.{always_inverts, first_name_refusal, name_refusals, module_buffers_refused, names_once, read_refusals}
+use Rattle.decls.specs.NameRefusals.{always_inverts, all_buffered, buffered, buffers_refused, first_name_refusal, name_refusals, module_buffers_refused, names_once, read_refusals}
+use Rattle.decls.specs.NamesBefore.{names_behind}
 use Rattle.decls.specs.Numbers.{buffered_names}
-use Rattle.decls.specs.Passed.{wants_names}
 use Rattle.decls.specs.Shown.{kept}
 use Rattle.decls.proofs.NoRefusals.{none_left}
 use Rattle.declared_names.specs.AcceptedNames.{AreDeclaredFor, NumbersAreApart, BuffersAreAllowed}
@@ -39,32 +41,46 @@ first_same t m flip read settled bs f r l n s b e k =
     k (read_refusals t m) e
     ∙ ap (λ fs. first_refusal name_order (read_refusals t m ++ fs)) (ap₂ (refused_for t) names b ∙ refused_same t m)
 
--- a refusal of what is read is the answer where no register can be refused
-refused_none : (b : Bool) (fs : List NameFault) → b ≡ false → (if b then fs else []) ≡ []
-refused_none true fs e = absurd cc
-refused_none false fs e = refl
+-- ---- a refusal of what is read is the answer where no register waits
 
-either_none : (b : Bool) → ◌≡◌ {A = List NameFault} (if b then [] else []) []
-either_none true = refl
-either_none false = refl
+quiet_if : {A : Type 0} (b : Bool) (xs : List A) → b ≡ false → (if b then xs else []) ≡ []
+quiet_if true xs e = absurd cc
+quiet_if false xs e = refl
 
-wanted_all : (t : Table) (f : Option NameFault) → always_inverts t ≡ true → wants_names t f ≡ true
-wanted_all t None e = refl
-wanted_all t (Some f) e = e
+quiet_declaration : (es : List Entry) (d : Declaration) → says_buffer d ≡ false → buffered es d ≡ []
+quiet_declaration es (ADevice name text) h = refl
+quiet_declaration es (SomePins names numbers attributes) h = quiet_if (all_said attributes).buffer _ h
+quiet_declaration es (SomeNodes names numbers attributes) h = quiet_if (all_said attributes).buffer _ h
+quiet_declaration es (SomeAttributes names attributes) h = quiet_if (all_said attributes).buffer _ h
+quiet_declaration es (SomeConstants names values) h = refl
+quiet_declaration es (SomeOptions words) h = refl
+quiet_declaration es (DontCareFor directive) h = refl
 
-pub final_because : (t : Table) (bs cs : List Buffered) → cs ≡ bs → (always_inverts t ≡ false) ⊎ ((always_inverts t ≡ true) × (cs ≡ [])) → (always_inverts t ≡ false) ⊎ ((always_inverts t ≡ true) × (bs ≡ []))
-final_because t bs cs e (inl h) = inl h
-final_because t bs cs e (inr h) = inr (h.0, sym e ∙ h.1)
+neither : (a b : Bool) → (a || b) ≡ false → (a ≡ false) × (b ≡ false)
+neither true b h = absurd cc
+neither false b h = (refl, h)
 
-pub final_fault : (t : Table) (m : ModuleTree) (f : Option NameFault) (bs : List Buffered) → f ≡ first_refusal name_order (read_refusals t m) → (wants_names t f ≡ true → bs ≡ buffered_names m)
-    → (always_inverts t ≡ false) ⊎ ((always_inverts t ≡ true) × (bs ≡ [])) → first_name_refusal t m ≡ f
-final_fault t m f bs e k h = ap (λ fs. first_refusal name_order (read_refusals t m ++ fs)) (none h) ∙ (ap (first_refusal name_order) (append-nil (read_refusals t m)) ∙ sym e)
+-- where no string says `buffer`, there is no name that such a string is for
+quiet_declarations : (before ds : List Declaration) → list_any says_buffer ds ≡ false → all_buffered before ds ≡ []
+quiet_declarations before [] h = refl
+quiet_declarations before (d ∷ ds) h =
+    let both = neither (says_buffer d) (list_any says_buffer ds) h in
+    ap₂ (λ xs ys. xs ++ ys) (quiet_declaration (names_behind before) d both.0) (quiet_declarations (before ++ d ∷ []) ds both.1)
+
+none_wait : (t : Table) (m : ModuleTree) → registers_wait t m ≡ false → module_buffers_refused t m ≡ []
+none_wait t m h = by (always_inverts t) h
   where
-    none : (always_inverts t ≡ false) ⊎ ((always_inverts t ≡ true) × (bs ≡ [])) → module_buffers_refused t m ≡ []
-    none (inl g) = refused_none (always_inverts t) _ g
-    none (inr g) =
-        let empty : buffered_names m ≡ [] = sym (k (wanted_all t f g.0)) ∙ g.1 in
-        sym (refused_same t m) ∙ (ap (refused_for t (with_assigned t.flip m.sections (map (kept t) (names_once m)))) empty ∙ either_none (always_inverts t))
+    refused : List GivenName → List NameFault
+    refused xs = buffers_refused (sections_assign (named_of (names_once m)) m.sections) (names_once m) xs
+
+    by : (b : Bool) → (b && list_any says_buffer (all_declarations m)) ≡ false → (if b then refused (all_buffered [] (all_declarations m)) else []) ≡ []
+    by true g = ap refused (quiet_declarations [] (all_declarations m) g)
+    by false g = refl
+
+pub final_fault : (t : Table) (m : ModuleTree) (f : Option NameFault) (wait : Bool) → f ≡ first_refusal name_order (read_refusals t m) → wait ≡ registers_wait t m → wait ≡ false → first_name_refusal t m ≡ f
+final_fault t m f wait e same h =
+    ap (λ fs. first_refusal name_order (read_refusals t m ++ fs)) (none_wait t m (sym same ∙ h))
+    ∙ (ap (first_refusal name_order) (append-nil (read_refusals t m)) ∙ sym e)
 
 pub nothing_refused : (t : Table) (m : ModuleTree) → None ≡ first_name_refusal t m → name_refusals t m ≡ []
 nothing_refused t m h = none_refused name_order (name_refusals t m) h

@@ -35,8 +35,9 @@ pub fn declare<D: Device>(alloc: Global, source: &Module) -> Result<Names, NameF
         list,
         buffered,
         fault,
+        registers_wait,
     } = read_names::<D>(alloc, source)?;
-    let fault = match open_fault::<D>(fault, buffered.as_slice()) {
+    let fault = match open_fault(fault, registers_wait) {
         Ok(fault) => fault,
         Err(fault) => return Err(fault),
     };

@@ -1,11 +1,10 @@
 //! Registers that a device can't buffer.
 
-ghost use Rattle.std.specs.Prelude.{◌≡◌, ◌⊎◌, [], is_some, ◌++◌, IfErr, IfOk, List, Some, false, map, slice_get, true};
+ghost use Rattle.std.specs.Prelude.{◌≡◌, is_some, ◌++◌, IfErr, IfOk, List, Some, false, map, slice_get, true};
 ghost use Rattle.abel_tree.specs.Entries.{view_declared, view_meaning, is_signal};
 ghost use Rattle.abel_tree.specs.FirstRefusal.{first_refusal};
 ghost use Rattle.decls.specs.declared.fault.NameFault.{NameFault};
 ghost use Rattle.decls.specs.FaultOrder.{name_order};
-ghost use Rattle.decls.specs.NameRefusals.{always_inverts};
 ghost use Rattle.decls.specs.Passed.{wants_names};
 ghost use Rattle.declared_names.specs.Registers.{is_register, register_refused, registers_refused, refused_for};
 
@@ -74,21 +73,18 @@ fn settled(fault: Option<NameFault>) -> Result<Option<NameFault>, NameFault>
     }
 }
 
-/// The first refusal so far, if registers may still be refused before it. Else it is the answer.
-pub(crate) fn open_fault<D: Device>(
+/// The first refusal so far, if registers wait that may be refused before it. Else it is the answer.
+pub(crate) fn open_fault(
     fault: Option<NameFault>,
-    names: &[Buffered],
+    registers_wait: bool,
 ) -> Result<Option<NameFault>, NameFault>
-    ensures open { IfOk result (λ f. (f ≡ fault) × (wants_names D.table fault ≡ true)) }
-    ensures settled { IfErr result (λ f. (fault ≡ Some f) × ((always_inverts D.table ≡ false) ⊎ ((always_inverts D.table ≡ true) × (names.now ≡ [])))) }
+    ensures open { IfOk result (λ f. (f ≡ fault) × (wants_names registers_wait fault ≡ true)) }
+    ensures settled { IfErr result (λ f. (fault ≡ Some f) × (registers_wait ≡ false)) }
 {
-    if !always_inverts::<D>() {
-        return settled(fault);
+    if registers_wait {
+        return Ok(fault);
     }
-    if names.is_empty() {
-        return settled(fault);
-    }
-    Ok(fault)
+    settled(fault)
 }
 
 /// The first refusal, counting the registers among these names that the device can't buffer.

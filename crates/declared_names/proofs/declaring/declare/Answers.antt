@@ -6,21 +6,22 @@ use Rattle.abel_tree.specs.View.{view_module, view_section}
 use Rattle.abel_meaning.specs.Kinds.{with_assigned}
 use Rattle.decls.specs.FaultOrder.{name_order}
 use Rattle.decls.specs.NameRefusals.{first_name_refusal}
+use Rattle.decls.specs.Passed.{wants_names}
 use Rattle.declared_names.specs.Registers.{refused_for}
-use Rattle.declared_names.proofs.Exact.{final_because, final_fault, first_same, nothing_refused, settled_same, names_sound, names_apart, names_allowed, names_known}
+use Rattle.declared_names.proofs.Exact.{final_fault, first_same, nothing_refused, settled_same, names_sound, names_apart, names_allowed, names_known}
 use Rattle.declared_names.proofs.declaring.declare.Goals as goal
 
 pub returns : goal.returns
 returns g c =
     let t = g.D.Device.table in
     let m = view_module c.args.source.now in
-    let wanted = c.in-Ok.ensures.open.1 in
+    let wanted = ap (λ w. wants_names w c.in_ok-list.field-0.fault) (sym c.in_ok-list.ensures.wait) ∙ c.in-Ok.ensures.open.1 in
     let read = map view_declared c.in_ok-list.field-0.list.items in
     let settled = map view_declared c.in_ok-list-2.list.items in
     let flip = c.FLIP.ensures ∙ g.met.D.Device.flip_is in
-    let kinds : settled ≡ with_assigned c.FLIP.result m.sections read = c.in_ok-list-2.ensures ∙ ap (λ xs. with_assigned c.FLIP.result (map view_section xs) read) c.as_slice-2.ensures in
-    let first : c.first_refused.result ≡ first_name_refusal t m = first_same t m c.FLIP.result read settled c.as_slice-4.result.now c.in_ok-list.field-0.fault c.first_refused.result flip (c.in_ok-list.ensures.list wanted) kinds (c.as_slice-4.ensures.value ∙ c.in_ok-list.ensures.buffered wanted) c.in_ok-list.ensures.fault
-    (λ fs e. c.first_refused.ensures fs (c.in-Ok.ensures.open.0 ∙ e) ∙ ap (λ ds. first_refusal name_order (fs ++ refused_for t (map view_declared ds) c.as_slice-4.result.now)) c.as_slice-3.ensures.value) in
+    let kinds : settled ≡ with_assigned c.FLIP.result m.sections read = c.in_ok-list-2.ensures ∙ ap (λ xs. with_assigned c.FLIP.result (map view_section xs) read) c.as_slice.ensures in
+    let first : c.first_refused.result ≡ first_name_refusal t m = first_same t m c.FLIP.result read settled c.as_slice-3.result.now c.in_ok-list.field-0.fault c.first_refused.result flip (c.in_ok-list.ensures.list wanted) kinds (c.as_slice-3.ensures.value ∙ c.in_ok-list.ensures.buffered wanted) c.in_ok-list.ensures.fault
+    (λ fs e. c.first_refused.ensures fs (c.in-Ok.ensures.open.0 ∙ e) ∙ ap (λ ds. first_refusal name_order (fs ++ refused_for t (map view_declared ds) c.as_slice-3.result.now)) c.as_slice-2.ensures.value) in
     let none = nothing_refused t m (sym c.in-None.is ∙ first) in
     let names = ap (map view_declared) c.from_vec.ensures ∙ settled_same t m none c.FLIP.result read settled flip (c.in_ok-list.ensures.list wanted) kinds in
     record {
@@ -37,12 +38,12 @@ pub returns-in-Some-clause-refused : goal.returns-in-Some-clause-refused
 returns-in-Some-clause-refused g c =
     let t = g.D.Device.table in
     let m = view_module c.args.source.now in
-    let wanted = c.in-Ok.ensures.open.1 in
+    let wanted = ap (λ w. wants_names w c.in_ok-list.field-0.fault) (sym c.in_ok-list.ensures.wait) ∙ c.in-Ok.ensures.open.1 in
     let read = map view_declared c.in_ok-list.field-0.list.items in
     let settled = map view_declared c.in_ok-list-2.list.items in
-    let kinds : settled ≡ with_assigned c.FLIP.result m.sections read = c.in_ok-list-2.ensures ∙ ap (λ xs. with_assigned c.FLIP.result (map view_section xs) read) c.as_slice-2.ensures in
-    let first : c.first_refused.result ≡ first_name_refusal t m = first_same t m c.FLIP.result read settled c.as_slice-4.result.now c.in_ok-list.field-0.fault c.first_refused.result (c.FLIP.ensures ∙ g.met.D.Device.flip_is) (c.in_ok-list.ensures.list wanted) kinds (c.as_slice-4.ensures.value ∙ c.in_ok-list.ensures.buffered wanted) c.in_ok-list.ensures.fault
-    (λ fs e. c.first_refused.ensures fs (c.in-Ok.ensures.open.0 ∙ e) ∙ ap (λ ds. first_refusal name_order (fs ++ refused_for t (map view_declared ds) c.as_slice-4.result.now)) c.as_slice-3.ensures.value) in
+    let kinds : settled ≡ with_assigned c.FLIP.result m.sections read = c.in_ok-list-2.ensures ∙ ap (λ xs. with_assigned c.FLIP.result (map view_section xs) read) c.as_slice.ensures in
+    let first : c.first_refused.result ≡ first_name_refusal t m = first_same t m c.FLIP.result read settled c.as_slice-3.result.now c.in_ok-list.field-0.fault c.first_refused.result (c.FLIP.ensures ∙ g.met.D.Device.flip_is) (c.in_ok-list.ensures.list wanted) kinds (c.as_slice-3.ensures.value ∙ c.in_ok-list.ensures.buffered wanted) c.in_ok-list.ensures.fault
+    (λ fs e. c.first_refused.ensures fs (c.in-Ok.ensures.open.0 ∙ e) ∙ ap (λ ds. first_refusal name_order (fs ++ refused_for t (map view_declared ds) c.as_slice-3.result.now)) c.as_slice-2.ensures.value) in
     inr (sym first ∙ c.in-Some.is)
 
 pub returns-in-Err-clause-refused : goal.returns-in-Err-clause-refused
@@ -50,4 +51,4 @@ returns-in-Err-clause-refused g c =
     let t = g.D.Device.table in
     let m = view_module c.args.source.now in
     let final = c.in-Err.ensures.settled in
-    inr (final_fault t m c.in_ok-list.field-0.fault c.in_ok-list.field-0.buffered.items c.in_ok-list.ensures.fault c.in_ok-list.ensures.buffered (final_because t c.in_ok-list.field-0.buffered.items _ c.as_slice.ensures.value final.1) ∙ final.0)
+    inr (final_fault t m c.in_ok-list.field-0.fault c.in_ok-list.field-0.registers_wait c.in_ok-list.ensures.fault c.in_ok-list.ensures.wait final.1 ∙ final.0)
