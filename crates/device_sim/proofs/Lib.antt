@@ -6,5 +6,6 @@ pub mod OneList
 pub mod Outsides
 pub mod PowerUp
 pub mod Shown
+pub mod TestedPins
 pub mod Vectors
 pub mod WithoutRegisters

@@ -1,6 +1,6 @@
 //! What is found at the pins of a point, against a vector's characters.
 
-ghost use Rattle.std.specs.Prelude.{◌≡◌, ◌==◌, ◌&&◌, ◌+◌, ◌++◌, ◌<◌, ◌≤◌, length, not, IfOk};
+ghost use Rattle.std.specs.Prelude.{ℕ, ◌≡◌, ◌==◌, ◌&&◌, ◌+◌, ◌++◌, ◌<◌, ◌≤◌, length, not, IfOk};
 ghost use Rattle.pld_base.specs.Bits.{bits, is_on};
 ghost use Rattle.pld_base.specs.Points.{levels_of};
 ghost use Rattle.pld_machine.specs.Lookups.{logic_of};
@@ -23,6 +23,14 @@ fn found_at(shown: Trace, pin: u8) -> u8
     }
 }
 
+/// The levels, with 0 where the others have 1.
+fn without(levels: u32, others: u32) -> u32
+    ensures { (k : ℕ) → k < 32 → is_on (bits 32 result) k
+        ≡ (is_on (bits 32 levels) k && not (is_on (bits 32 others) k)) }
+{
+    levels & !others
+}
+
 /// Whether the character tests its pin and something else is found there.
 fn disagrees(shown: Trace, pin: u8, expects: u8) -> bool
     requires { pin < 32 }
@@ -30,8 +38,9 @@ fn disagrees(shown: Trace, pin: u8, expects: u8) -> bool
         (is_on (bits 32 shown.driven) pin) (is_on (bits 32 shown.level) pin))) }
 {
     match expects {
-        b'H' => !level_at(shown.driven, pin) || !level_at(shown.level, pin),
-        b'L' => !level_at(shown.driven, pin) || level_at(shown.level, pin),
+        // The words are the same at each pin, so that a pin takes one test.
+        b'H' => !level_at(shown.driven & shown.level, pin),
+        b'L' => !level_at(without(shown.driven, shown.level), pin),
         b'Z' => level_at(shown.driven, pin),
         _ => false,
     }

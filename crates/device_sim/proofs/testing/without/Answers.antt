@@ -1,0 +1,9 @@
+use Rattle.std.proofs.Common.{refl}
+use Rattle.std.specs.Int.{bit_not, w32}
+use Rattle.pld_base.proofs.BitLemmas.{is_on-and}
+use Rattle.device_sim.proofs.TestedPins.{is_on-not}
+use Rattle.device_sim.proofs.testing.without.Goals as goal
+
+pub returns : goal.returns
+returns c =
+    λ k within. rw (is_on-and 32 c.args.levels (bit_not w32 c.args.others) k within, is_on-not c.args.others k c.ranges.others.fits within) refl
