@@ -4,31 +4,26 @@ use std::alloc::{AllocError, Global};
 use test_rows::{Found, Report};
 use text_pieces::{Piece, Rest};
 
-// Pieces.
-const AB: Piece = Piece {
-    bytes: b"ab",
-    offset: 0,
-};
-
-const C: Piece = Piece {
-    bytes: b"c",
-    offset: 0,
-};
-
-const NOTHING: Piece = Piece {
-    bytes: b"",
-    offset: 0,
-};
-
 // Pieces that are put before a text, how many bytes are left out, and what is left.
-const LEFT: [(&[Piece], &[u8], usize, &[u8]); 6] = [
+const LEFT: [(&[&[u8]], &[u8], usize, &[u8]); 6] = [
     (&[], b"abc", 0, b"abc"),
-    (&[AB, NOTHING, C], b"de", 0, b"abcde"),
-    (&[AB, C], b"de", 1, b"bcde"),
-    (&[AB, C], b"de", 4, b"e"),
-    (&[AB, C], b"de", 5, b""),
-    (&[NOTHING, NOTHING], b"", 0, b""),
+    (&[b"ab", b"", b"c"], b"de", 0, b"abcde"),
+    (&[b"ab", b"c"], b"de", 1, b"bcde"),
+    (&[b"ab", b"c"], b"de", 4, b"e"),
+    (&[b"ab", b"c"], b"de", 5, b""),
+    (&[b"", b""], b"", 0, b""),
 ];
+
+/// Puts short texts before a short rest, each as a piece of its own.
+fn put_before<'a>(rest: &mut Rest<'a>, texts: &[&'a [u8]]) -> Result<(), AllocError> {
+    for index in 0..texts.len() {
+        let text = texts[texts.len() - 1 - index];
+        if rest.len() < 100 && text.len() < 100 {
+            rest.put_all(&[Piece::computed(text)])?;
+        }
+    }
+    Ok(())
+}
 
 /// A text behind its length.
 fn counted(alloc: Global, text: &[u8]) -> Found {
@@ -58,7 +53,7 @@ fn run_rests(alloc: Global, report: &mut Report) -> Result<(), AllocError> {
     for (pieces, text, count, left) in LEFT {
         number = number.saturating_add(1);
         let mut rest = Rest::new(alloc, text);
-        rest.put_all(pieces)?;
+        put_before(&mut rest, pieces)?;
         if count <= rest.len() {
             rest.skip(count);
         }
@@ -80,7 +75,7 @@ fn put_byte(found: &mut Found, byte: Option<u8>) {
 /// pieces there are up to the third.
 fn looked(alloc: Global) -> Result<Found, AllocError> {
     let mut rest = Rest::new(alloc, b"de");
-    rest.put_all(&[AB, NOTHING, C])?;
+    put_before(&mut rest, &[b"ab", b"", b"c"])?;
     let mut at = rest.ahead();
     let mut found = Found::new(alloc);
     put_byte(&mut found, at.step());
@@ -90,13 +85,43 @@ fn looked(alloc: Global) -> Result<Found, AllocError> {
     if at.left() >= 3 {
         let mut count = 0usize;
         for piece in at.until(alloc, 3)?.iter() {
-            count = count.saturating_add(piece.bytes.len());
+            count = count.saturating_add(piece.len());
         }
         found.text(" ");
         found.number(count);
     }
     Ok(found)
 }
+
+/// Puts a length, if it is known.
+fn put_length(found: &mut Found, length: Option<usize>) {
+    if let Some(length) = length {
+        found.number(length);
+    }
+    found.text(" ")
+}
+
+/// A look behind the first byte of a kept text: how long the block is that begins there, and the argument, and how many bytes
+/// stand before a question mark.
+fn known(alloc: Global, text: &[u8]) -> Result<Found, AllocError> {
+    let mut rest = Rest::new(alloc, text);
+    rest.keep(alloc)?;
+    let mut at = rest.ahead();
+    let _opening = at.step();
+    let mut found = Found::new(alloc);
+    put_length(&mut found, at.block_len());
+    put_length(&mut found, at.argument_len());
+    found.number(at.unmarked_len());
+    Ok(found)
+}
+
+// Kept texts, and what is known behind their first byte.
+const KNOWN: [(&[u8], &[u8]); 4] = [
+    (b"{ab{c}d}e?f", b"6  8"),
+    (b"(a(b,c)d,e)?", b" 7 10"),
+    (b"{a(')}',b?)}", b"10  8"),
+    (b"{a?", b"  1"),
+];
 
 /// The report on texts in pieces.
 pub fn report(alloc: Global) -> Found {
@@ -107,6 +132,14 @@ pub fn report(alloc: Global) -> Found {
     match looked(alloc) {
         Ok(found) => report.row(7, b"a b c 4 3", &found),
         Err(_) => report.unread(7),
+    }
+    let mut number = 7usize;
+    for (text, expected) in KNOWN {
+        number = number.saturating_add(1);
+        match known(alloc, text) {
+            Ok(found) => report.row(number, expected, &found),
+            Err(_) => report.unread(number),
+        }
     }
     report.end()
 }
