@@ -8,7 +8,7 @@ use Rattle.abel_meaning.specs.Terms as term
 use Rattle.abel_tree.specs.declared.words.Unary.TheVariants as unary
 use Rattle.abel_tree.specs.declared.words.Unary.{Unary}
 use Rattle.abel_meaning.specs.Terms.{Term, Terms}
-use Rattle.abel_meaning.specs.Designs.{Design}
+use Rattle.abel_meaning.specs.Designs.{Context, Design}
 use Rattle.abel_meaning.specs.Sources.{source_of, source_value}
 use Rattle.abel_meaning.specs.Numbers.{Shape, Number, Single, Set, width_of, member_width, Value, met_number, met, digits_low_first, number_with}
 use Rattle.abel_meaning.specs.Values.{term_value, set_value, constant_of, nowhere, is_relation, binary_value, unary_number, unary_value, joined_value}
@@ -80,13 +80,13 @@ joined_agrees at c1 cr n r xs ys has low e =
           ∙ sym (digits_joined (member_width c1.shape) (width_of cr.shape) n r low);
     }
 
-as_set : (d : Design) (at : Levels) (ts : Terms) (bs : List Bool) → SetAgrees (set_value d nowhere ts) (set_value d at ts) bs → Agrees (set_value d nowhere ts) (set_value d at ts) bs
+as_set : (d : Context) (at : Levels) (ts : Terms) (bs : List Bool) → SetAgrees (set_value d nowhere ts) (set_value d at ts) bs → Agrees (set_value d nowhere ts) (set_value d at ts) bs
 as_set d at term.NoTerm bs p = record { same = p.same; has = (p.small, p.bits) }
 as_set d at (term.Before t ts) bs p = record { same = p.same; has = (p.small, p.bits) }
 
 -- every term agrees
 mutual
-  pub term_agrees : (d : Design) (at : Levels) (t : Term) → Agrees (constant_of d t) (term_value d at t) (map (formula_value at) (bits_of d t).what)
+  pub term_agrees : (d : Context) (at : Levels) (t : Term) → Agrees (constant_of d t) (term_value d at t) (map (formula_value at) (bits_of d t).what)
   term_agrees d at (term.Number n) = record { same = refl; has = refl }
   term_agrees d at term.X = record { same = refl; has = (omega arith, refl) }
   term_agrees d at term.Pulse = record { same = refl; has = refl }
@@ -110,7 +110,7 @@ mutual
       subst₂ (λ (v w : Value). Agrees (binary_value sign (constant_of d t) (constant_of d u)) (binary_value sign v w) (map (formula_value at) (bits_of d (term.BinaryOf sign t u)).what)) (sym p.same) (sym q.same)
       (binary_agrees at (is_relation sign) sign (constant_of d t) (constant_of d u) (term_value d at t).number (term_value d at u).number (bits_of d t).what (bits_of d u).what p.has q.has)
 
-  terms_agree : (d : Design) (at : Levels) (ts : Terms) → SetAgrees (set_value d nowhere ts) (set_value d at ts) (map (formula_value at) (bits_of_all d ts).what)
+  terms_agree : (d : Context) (at : Levels) (ts : Terms) → SetAgrees (set_value d nowhere ts) (set_value d at ts) (map (formula_value at) (bits_of_all d ts).what)
   terms_agree d at term.NoTerm = record { same = refl; small = omega arith; bits = refl }
   terms_agree d at (term.Before t ts) =
       let p = term_agrees d at t in
@@ -119,7 +119,7 @@ mutual
       (joined_agrees at (constant_of d t) (set_value d nowhere ts) (term_value d at t).number (set_value d at ts).number (bits_of d t).what (bits_of_all d ts).what p.has q.small q.bits)
 
 -- the word of a term has its digits at every point
-pub word_follows : (d : Design) (at : Levels) (w : ℕ) (t : Term) → map (formula_value at) ((formulas d).word w t) ≡ (truth_at d at).word w t
+pub word_follows : (d : Context) (at : Levels) (w : ℕ) (t : Term) → map (formula_value at) ((formulas d).word w t) ≡ (truth_at d at).word w t
 word_follows d at w t =
     let p = term_agrees d at t in
     map_reverse (formula_value at) (met_word w (constant_of d t) (bits_of d t).what)
@@ -128,7 +128,7 @@ word_follows d at w t =
     ∙ ap (λ (v : Value). digits_low_first w (met w v)) (sym p.same))
 
 -- formulas follow values
-pub formulas_follow : (d : Design) (at : Levels) → Follows (formula_value at) (formulas d) (truth_at d at)
+pub formulas_follow : (d : Context) (at : Levels) → Follows (formula_value at) (formulas d) (truth_at d at)
 formulas_follow d at =
     record {
       constant = λ b. refl;
@@ -140,4 +140,4 @@ formulas_follow d at =
 
 -- at every point the formulas of all contributions have the values of the contributions there
 pub formulas_have_values : (d : Design) (at : Levels) → map (seen (formula_value at)) (given_formulas d) ≡ given_at d at
-formulas_have_values d at = contributions_seen (formula_value at) (formulas d) (truth_at d at) (formulas_follow d at) d
+formulas_have_values d at = contributions_seen (formula_value at) (formulas d.context) (truth_at d.context at) (formulas_follow d.context at) d

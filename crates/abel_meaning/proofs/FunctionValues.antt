@@ -120,32 +120,32 @@ same_parts : (a b c x y z : Bool) → a ≡ x → b ≡ y → c ≡ z → with_p
 same_parts a b c x y z p q r = ap₂ (λ one any. with_parts one any c) p q ∙ ap (λ complement. with_parts x y complement) r
 
 -- what contributions of one polarity amount to
-single_formulas : (d : Design) (at : Levels) (s : ℕ) → function_seen (formula_value at) (single_function (formulas d) (given_formulas d) s) ≡ single_function (truth_at d at) (given_at d at) s
+single_formulas : (d : Design) (at : Levels) (s : ℕ) → function_seen (formula_value at) (single_function (formulas d.context) (given_formulas d) s) ≡ single_function (truth_at d.context at) (given_at d at) s
 single_formulas d at s =
     same_parts _ _ _ _ _ _
-    (gives_seen (formula_value at) (formulas d) (truth_at d at) (formulas_follow d at) (given_formulas d) One s
-    ∙ ap (λ cs. gives_some (truth_at d at) cs One s) (formulas_have_values d at))
-    (any_of_seen (formula_value at) (formulas d) (truth_at d at) (formulas_follow d at) (given_formulas d) s
-    ∙ ap (λ cs. any_of (truth_at d at) cs s) (formulas_have_values d at))
-    (sym (complement_seen (formula_value at) (formulas d) (truth_at d at) (formulas_follow d at) (given_formulas d) s)
+    (gives_seen (formula_value at) (formulas d.context) (truth_at d.context at) (formulas_follow d.context at) (given_formulas d) One s
+    ∙ ap (λ cs. gives_some (truth_at d.context at) cs One s) (formulas_have_values d at))
+    (any_of_seen (formula_value at) (formulas d.context) (truth_at d.context at) (formulas_follow d.context at) (given_formulas d) s
+    ∙ ap (λ cs. any_of (truth_at d.context at) cs s) (formulas_have_values d at))
+    (sym (complement_seen (formula_value at) (formulas d.context) (truth_at d.context at) (formulas_follow d.context at) (given_formulas d) s)
     ∙ ap (λ cs. is_complement cs s) (formulas_have_values d at))
 
 -- what those of both amount to
-both_formulas : (d : Design) (at : Levels) (s : ℕ) → function_seen (formula_value at) (both_function (formulas d) (given_formulas d) s) ≡ both_function (truth_at d at) (given_at d at) s
+both_formulas : (d : Design) (at : Levels) (s : ℕ) → function_seen (formula_value at) (both_function (formulas d.context) (given_formulas d) s) ≡ both_function (truth_at d.context at) (given_at d at) s
 both_formulas d at s =
     same_parts _ _ _ _ _ _
-    (both_one_seen (formula_value at) (formulas d) (truth_at d at) (formulas_follow d at) (given_formulas d) s
-    ∙ ap (λ cs. (both_function (truth_at d at) cs s).one) (formulas_have_values d at))
-    (both_any_seen (formula_value at) (formulas d) (truth_at d at) (formulas_follow d at) (given_formulas d) s
-    ∙ ap (λ cs. (both_function (truth_at d at) cs s).any) (formulas_have_values d at))
+    (both_one_seen (formula_value at) (formulas d.context) (truth_at d.context at) (formulas_follow d.context at) (given_formulas d) s
+    ∙ ap (λ cs. (both_function (truth_at d.context at) cs s).one) (formulas_have_values d at))
+    (both_any_seen (formula_value at) (formulas d.context) (truth_at d.context at) (formulas_follow d.context at) (given_formulas d) s
+    ∙ ap (λ cs. (both_function (truth_at d.context at) cs s).any) (formulas_have_values d at))
     refl
 
 both_same : (d : Design) (at : Levels) (s : ℕ) → is_both (given_formulas d) s ≡ is_both (given_at d at) s
 both_same d at s =
-    sym (both_seen (formula_value at) (formulas d) (truth_at d at) (formulas_follow d at) (given_formulas d) s) ∙ ap (λ cs. is_both cs s) (formulas_have_values d at)
+    sym (both_seen (formula_value at) (formulas d.context) (truth_at d.context at) (formulas_follow d.context at) (given_formulas d) s) ∙ ap (λ cs. is_both cs s) (formulas_have_values d at)
 
 -- at every point the folded formulas of a signal have the values of its function there
-pub formula_function : (d : Design) (at : Levels) (s : ℕ) → function_seen (formula_value at) (function_of (formulas d) (given_formulas d) s) ≡ function_of (truth_at d at) (given_at d at) s
+pub formula_function : (d : Design) (at : Levels) (s : ℕ) → function_seen (formula_value at) (function_of (formulas d.context) (given_formulas d) s) ≡ function_of (truth_at d.context at) (given_at d at) s
 formula_function d at s =
     elim (cases_Bool (is_both (given_formulas d) s)) [
       | inl both ↦ rw (both, sym (both_same d at s) ∙ both) (both_formulas d at s)
@@ -153,7 +153,7 @@ formula_function d at s =
     ]
 
 -- and those of its controls
-pub formula_control : (d : Design) (at : Levels) (s : ℕ) (e : Extension) → option_map (formula_value at) (control_of (formulas d) (given_formulas d) s e) ≡ control_of (truth_at d at) (given_at d at) s e
+pub formula_control : (d : Design) (at : Levels) (s : ℕ) (e : Extension) → option_map (formula_value at) (control_of (formulas d.context) (given_formulas d) s e) ≡ control_of (truth_at d.context at) (given_at d at) s e
 formula_control d at s e =
-    control_seen (formula_value at) (formulas d) (truth_at d at) (formulas_follow d at) (given_formulas d) s e
-    ∙ ap (λ cs. control_of (truth_at d at) cs s e) (formulas_have_values d at)
+    control_seen (formula_value at) (formulas d.context) (truth_at d.context at) (formulas_follow d.context at) (given_formulas d) s e
+    ∙ ap (λ cs. control_of (truth_at d.context at) cs s e) (formulas_have_values d at)

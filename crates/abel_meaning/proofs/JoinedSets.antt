@@ -49,7 +49,7 @@ values_agree d at s v =
     elim (cases_Bool (is_both (given_at d at) s)) [
       | inl both ↦
           rw both
-          (joined (gives_in (truth_at d at) (given_at d at) false One s) (gives_in (truth_at d at) (given_at d at) false Any s)
-          (gives_in (truth_at d at) (given_at d at) true One s) (any_against (truth_at d at) (given_at d at) s) v)
+          (joined (gives_in (truth_at d.context at) (given_at d at) false One s) (gives_in (truth_at d.context at) (given_at d at) false Any s)
+          (gives_in (truth_at d.context at) (given_at d at) true One s) (any_against (truth_at d.context at) (given_at d at) s) v)
       | inr single ↦ rw single refl
     ]

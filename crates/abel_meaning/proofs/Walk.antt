@@ -10,7 +10,7 @@ use Rattle.abel_tree.specs.Tree.{AnAssign, AWhen, AGroup, ADontCare, NoElse, AnE
 use Rattle.abel_meaning.specs.Terms.{Term, term_of}
 use Rattle.abel_meaning.specs.Targets.{targets_of, some_signals}
 use Rattle.abel_tree.specs.Assigned.{target_extension, is_clocked}
-use Rattle.abel_meaning.specs.Designs.{Design}
+use Rattle.abel_meaning.specs.Designs.{Context, Design}
 use Rattle.abel_meaning.specs.Numbers.{width_of, digits}
 use Rattle.abel_meaning.specs.Values.{constant_of}
 use Rattle.abel_meaning.specs.Contributions.{Evaluator, condition, Gives, One, Contribution, Guard, guarded, contribution}
@@ -22,7 +22,7 @@ use Rattle.abel_meaning.specs.Directives.{after_section}
 use Rattle.abel_meaning.specs.Sections.{next_block, unguarded, section_gives, sections_give, contributions}
 use Rattle.abel_meaning.specs.Follows.{Follows, seen, seen_guard}
 
-module _ {V W : Type 0} (h : V → W) (ev : Evaluator V) (fv : Evaluator W) (l : Follows h ev fv) (d : Design) where
+module _ {V W : Type 0} (h : V → W) (ev : Evaluator V) (fv : Evaluator W) (l : Follows h ev fv) (d : Context) where
   -- two parts that are seen alike
   parts : (xs ys : List (Contribution V)) (us vs : List (Contribution W)) → map (seen h) xs ≡ us → map (seen h) ys ≡ vs → map (seen h) (xs ++ ys) ≡ us ++ vs
   parts xs ys us vs p q = map-append (seen h) xs ys ∙ ap₂ (λ a b. a ++ b) p q
@@ -246,5 +246,6 @@ module _ {V W : Type 0} (h : V → W) (ev : Evaluator V) (fv : Evaluator W) (l :
   sections_seen on block (s ∷ ss) =
       parts _ _ _ _ (section_seen on block s) (sections_seen (after_section on s) (next_block block s) ss)
 
+module _ {V W : Type 0} (h : V → W) (ev : Evaluator V) (fv : Evaluator W) (l : Follows h ev fv) (d : Design) where
   pub contributions_seen : map (seen h) (contributions ev d) ≡ contributions fv d
-  contributions_seen = sections_seen d.starts_dontcare 0 d.sections
+  contributions_seen = sections_seen h ev fv l d.context d.starts_dontcare 0 d.sections

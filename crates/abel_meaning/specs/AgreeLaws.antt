@@ -6,7 +6,7 @@ use Rattle.pld_base.specs.Points.{Levels}
 use Rattle.bit_expr.specs.Formulas.{formula_value}
 use Rattle.abel_tree.specs.declared.words.Extension.{Extension}
 use Rattle.abel_meaning.specs.Terms.{Term}
-use Rattle.abel_meaning.specs.Designs.{Design}
+use Rattle.abel_meaning.specs.Designs.{Context, Design}
 use Rattle.abel_meaning.specs.AllowedValues.{allowed_values}
 use Rattle.abel_meaning.specs.AtPoints.{truth_at, given_at}
 use Rattle.abel_meaning.specs.FormulaBits.{formulas}
@@ -18,7 +18,7 @@ use Rattle.abel_meaning.specs.Follows.{seen}
 -- the bits that a target takes from an expression have the digits of its value
 abbrev pub ExpressionsAgree : Type 0
 ExpressionsAgree =
-    (d : Design) (at : Levels) (width : ℕ) (t : Term)
+    (d : Context) (at : Levels) (width : ℕ) (t : Term)
     → map (formula_value at) ((formulas d).word width t) ≡ (truth_at d at).word width t
 
 -- the contributions by formulas hold where the contributions hold
@@ -30,18 +30,18 @@ ContributionsAgree =
 abbrev pub FunctionsAgree : Type 0
 FunctionsAgree =
     (d : Design) (at : Levels) (signal : ℕ)
-    → function_seen (formula_value at) (function_of (formulas d) (given_formulas d) signal)
-    ≡ function_of (truth_at d at) (given_at d at) signal
+    → function_seen (formula_value at) (function_of (formulas d.context) (given_formulas d) signal)
+    ≡ function_of (truth_at d.context at) (given_at d at) signal
 
 -- a signal's function allows just the values that the signal may have
 abbrev pub ValuesAgree : Type 0
 ValuesAgree =
     (d : Design) (at : Levels) (signal : ℕ) (value : Bool)
-    → allows (function_of (truth_at d at) (given_at d at) signal) value ≡ allowed_values d at signal value
+    → allows (function_of (truth_at d.context at) (given_at d at) signal) value ≡ allowed_values d at signal value
 
 -- a signal's controls by formulas are its controls
 abbrev pub ControlsAgree : Type 0
 ControlsAgree =
     (d : Design) (at : Levels) (signal : ℕ) (control : Extension)
-    → option_map (formula_value at) (control_of (formulas d) (given_formulas d) signal control)
-    ≡ control_of (truth_at d at) (given_at d at) signal control
+    → option_map (formula_value at) (control_of (formulas d.context) (given_formulas d) signal control)
+    ≡ control_of (truth_at d.context at) (given_at d at) signal control

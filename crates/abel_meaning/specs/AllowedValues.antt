@@ -38,4 +38,4 @@ values_by ev cs s v =
 
 -- those at a point
 abbrev pub allowed_values : Design → Levels → ℕ → Bool → Bool
-allowed_values d at s v = values_by (truth_at d at) (given_at d at) s v
+allowed_values d at s v = values_by (truth_at d.context at) (given_at d at) s v

@@ -1,14 +1,14 @@
 -- What a module contributes at a point (ABEL-HDL Reference Manual, equations).
 use Rattle.std.specs.Prelude.{Bool, not, ◌&&◌, ◌||◌, List}
 use Rattle.pld_base.specs.Points.{Levels}
-use Rattle.abel_meaning.specs.Designs.{Design}
+use Rattle.abel_meaning.specs.Designs.{Context, Design}
 use Rattle.abel_meaning.specs.Numbers.{digits, met}
 use Rattle.abel_meaning.specs.Values.{term_value}
 use Rattle.abel_meaning.specs.Contributions.{Evaluator, Contribution}
 use Rattle.abel_meaning.specs.Sections.{contributions}
 
 -- terms as truth values at the point
-abbrev pub truth_at : Design → Levels → Evaluator Bool
+abbrev pub truth_at : Context → Levels → Evaluator Bool
 truth_at d at =
     record {
       constant = λ b. b;
@@ -20,4 +20,4 @@ truth_at d at =
 
 -- what is given at the point
 abbrev pub given_at : Design → Levels → List (Contribution Bool)
-given_at d at = contributions (truth_at d at) d
+given_at d at = contributions (truth_at d.context at) d

@@ -3,7 +3,7 @@ use Rattle.std.specs.Prelude.{ℕ, Bool, false, ◌||◌, Option, None, Some, Li
 use Rattle.abel_tree.specs.declared.words.Extension.{Extension}
 use Rattle.abel_tree.specs.Entries.{Entry}
 use Rattle.abel_meaning.specs.Terms.{Term}
-use Rattle.abel_meaning.specs.Designs.{Design, name_at}
+use Rattle.abel_meaning.specs.Designs.{Context, name_at}
 
 -- how terms are read: at a point as truth values, or as bit formulas. `word w t` is the value that a target of w
 -- signals takes, from the left
@@ -49,7 +49,7 @@ is_dontcare g x None = false
 is_dontcare g x (Some block) = g.dontcare || x.words.dc
 
 -- a contribution under a guard
-abbrev pub contribution : {W : Type 0} → Design → Guard W → Option Extension
+abbrev pub contribution : {W : Type 0} → Context → Guard W → Option Extension
     → (complement clocked : Bool) → Gives → (signal : ℕ) → W → Contribution W
 contribution d g extension complement clocked gives s w =
     record {

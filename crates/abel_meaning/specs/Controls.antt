@@ -11,7 +11,7 @@ use Rattle.pld_device.specs.Table.{cell_at}
 use Rattle.abel_tree.specs.declared.words.Extension.{Extension}
 use Rattle.abel_tree.specs.declared.words.Extension.TheVariants as extension
 use Rattle.abel_tree.specs.Entries.{Kind, APin, Entry}
-use Rattle.abel_meaning.specs.Designs.{Design, name_at, is_stored}
+use Rattle.abel_meaning.specs.Designs.{Context, name_at, is_stored}
 use Rattle.abel_meaning.specs.Contributions.{Evaluator, Contribution}
 use Rattle.abel_meaning.specs.Functions.{some_holds}
 
@@ -42,7 +42,7 @@ is_pin pin (APin other negated) = other == pin
 is_pin pin _ = false
 
 -- the signal that is assigned on a cell, none where nothing is
-abbrev pub signal_on : Design → (cell : ℕ) → Option ℕ
+abbrev pub signal_on : Context → (cell : ℕ) → Option ℕ
 signal_on d c =
     position (λ (x : Entry). x.assigned && is_pin (cell_at d.device c).pin x.kind) d.names
 
@@ -53,12 +53,12 @@ must_register Registered = true
 must_register Either = false
 
 -- the cell stores, by the signal that is assigned on it
-abbrev pub cell_stores_for : Design → (cell : ℕ) → Option ℕ → Bool
+abbrev pub cell_stores_for : Context → (cell : ℕ) → Option ℕ → Bool
 cell_stores_for d c None = must_register (cell_at d.device c).kinds
 cell_stores_for d c (Some s) = is_stored (name_at d s)
 
 -- the cell stores
-abbrev pub cell_stores : Design → (cell : ℕ) → Bool
+abbrev pub cell_stores : Context → (cell : ℕ) → Bool
 cell_stores d c = cell_stores_for d c (signal_on d c)
 
 -- the enable of a cell whose enable is a row: its equation, always without one, never where nothing is assigned
@@ -72,7 +72,7 @@ cell_enabled_by ev at cs s (enable.Row row) = enable_equation ev cs s
 cell_enabled_by ev at cs s (enable.PinLow pin) = not (is_on at.pins pin)
 
 -- the cell drives its pin
-abbrev pub cell_is_enabled : Evaluator Bool → Design → Levels → List (Contribution Bool) → (cell : ℕ) → Bool
+abbrev pub cell_is_enabled : Evaluator Bool → Context → Levels → List (Contribution Bool) → (cell : ℕ) → Bool
 cell_is_enabled ev d at cs c = cell_enabled_by ev at cs (signal_on d c) (cell_at d.device c).enable
 
 -- the control of a stored signal, if it has an equation
@@ -91,11 +91,11 @@ shared_from ev cs e s [] = ev.constant false
 shared_from ev cs e s (x ∷ xs) = unwrap_or (control_if_stored ev cs e s x) (shared_from ev cs e (suc s) xs)
 
 -- that of the whole design
-abbrev pub shared_control : {W : Type 0} → Evaluator W → Design → List (Contribution W) → Extension → W
+abbrev pub shared_control : {W : Type 0} → Evaluator W → Context → List (Contribution W) → Extension → W
 shared_control ev d cs e = shared_from ev cs e 0 d.names
 
 -- reset or preset of a register: its own equation, or the shared one
-abbrev pub register_control : {W : Type 0} → Evaluator W → Design → List (Contribution W)
+abbrev pub register_control : {W : Type 0} → Evaluator W → Context → List (Contribution W)
     → Extension → Option ℕ → W
 register_control ev d cs e None = shared_control ev d cs e
 register_control ev d cs e (Some s) = unwrap_or (control_of ev cs s e) (shared_control ev d cs e)

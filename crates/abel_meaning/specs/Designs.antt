@@ -8,11 +8,19 @@ use Rattle.abel_meaning.specs.Declarations.{no_words}
 use Rattle.abel_meaning.specs.Kinds.{names_of}
 use Rattle.abel_meaning.specs.Terms.{Known, known_of}
 
--- a module for a device: its names, what they stand for, whether `@DCSET` is in force before its sections, and these
-pub record Design : Type 0 where
+-- what the expressions of a source are over: a device, the names that are declared, and what these stand for
+pub record Context : Type 0 where
   pub device : Table
   pub names : List Entry
   pub known : List Known
+
+-- names for a device
+abbrev pub context_of : Table → List Entry → Context
+context_of t names = record { device = t; names = names; known = known_of names }
+
+-- a module for a device: its names, whether `@DCSET` is in force before its sections, and these
+pub record Design : Type 0 where
+  pub context : Context
   pub starts_dontcare : Bool
   pub sections : List SectionTree
 
@@ -26,9 +34,7 @@ after_declarations on (_ ∷ ds) = after_declarations on ds
 abbrev pub design_for : Table → List Entry → ModuleTree → Design
 design_for t names m =
     record {
-      device = t;
-      names = names;
-      known = known_of names;
+      context = context_of t names;
       starts_dontcare = after_declarations false m.decls;
       sections = m.sections;
     }
@@ -42,7 +48,7 @@ abbrev pub no_name : Entry
 no_name = record { name = []; place = record { line = 0; column = 0 }; kind = ADeviceName; words = no_words; assigned = false }
 
 -- the name of a number
-abbrev pub name_at : Design → ℕ → Entry
+abbrev pub name_at : Context → ℕ → Entry
 name_at d s = get_or d.names s no_name
 
 -- the signal is stored in a register; one that is assigned nothing counts as combinational

@@ -6,7 +6,7 @@ use Rattle.bit_expr.specs.Formulas.{Formula, Const, Read}
 use Rattle.abel_tree.specs.declared.words.Binary.{Binary}
 use Rattle.abel_meaning.specs.Terms.{Term, Terms}
 use Rattle.abel_meaning.specs.Terms as term
-use Rattle.abel_meaning.specs.Designs.{Design}
+use Rattle.abel_meaning.specs.Designs.{Context}
 use Rattle.abel_meaning.specs.Sources.{Source, Zero, Held, source_of}
 use Rattle.abel_meaning.specs.Numbers.{Shape, Number, Single, Set, width_of, member_width, meeting, Value, met_unknown, either_unknown, digits_low_first}
 use Rattle.abel_meaning.specs.Values.{is_relation, constant_of}
@@ -68,7 +68,7 @@ binary_word false sign shape v u xs ys =
 
 -- the bits of a term; a number has none, and an X position has 0
 abbrev mutual
-  pub bits_of : Design → Term → Made Word
+  pub bits_of : Context → Term → Made Word
   bits_of d (term.Number n) = free []
   bits_of d term.X = free (Const false ∷ [])
   bits_of d term.Pulse = free []
@@ -81,14 +81,14 @@ abbrev mutual
       binary_word (is_relation sign) sign (meeting (constant_of d t).shape (constant_of d u).shape)
       (constant_of d t) (constant_of d u) xs ys
 
-  pub bits_of_all : Design → Terms → Made Word
+  pub bits_of_all : Context → Terms → Made Word
   bits_of_all d term.NoTerm = free []
   bits_of_all d (term.Before t ts) =
       bits_of d t >>= λ xs. bits_of_all d ts >>= λ ys.
       free (ys ++ met_word (member_width (constant_of d t).shape) (constant_of d t) xs)
 
 -- terms as folded formulas
-abbrev pub formulas : Design → Evaluator Formula
+abbrev pub formulas : Context → Evaluator Formula
 formulas d =
     record {
       constant = Const;

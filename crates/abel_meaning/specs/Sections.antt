@@ -2,7 +2,7 @@
 use Rattle.std.specs.Prelude.{ℕ, suc, Bool, true, Option, None, Some, List, [], ◌∷◌, ◌++◌}
 use Rattle.abel_tree.specs.Tree.{statements_of, SectionTree, Equations, ATable, ADiagram}
 use Rattle.abel_meaning.specs.Terms.{term_of}
-use Rattle.abel_meaning.specs.Designs.{Design}
+use Rattle.abel_meaning.specs.Designs.{Context, Design}
 use Rattle.abel_meaning.specs.Contributions.{Evaluator, Contribution, Guard}
 use Rattle.abel_meaning.specs.Statements.{statements_give}
 use Rattle.abel_meaning.specs.Tables.{table_gives}
@@ -20,7 +20,7 @@ abbrev pub unguarded : {W : Type 0} → Evaluator W → (dontcare : Bool) → Op
 unguarded ev on block = record { holds = ev.constant true; dontcare = on; block = block }
 
 -- what a section gives
-abbrev pub section_gives : {W : Type 0} → Evaluator W → Design → (dontcare : Bool) → (block : ℕ)
+abbrev pub section_gives : {W : Type 0} → Evaluator W → Context → (dontcare : Bool) → (block : ℕ)
     → SectionTree → List (Contribution W)
 section_gives ev d on block (Equations ss) = statements_give ev d (unguarded ev on None) (statements_of ss)
 section_gives ev d on block (ATable place inputs clocked outputs rows) =
@@ -30,7 +30,7 @@ section_gives ev d on block (ADiagram place registers states) =
 section_gives ev d on block _ = []
 
 -- what sections give, the first of which begins with the directive in force or not
-abbrev pub sections_give : {W : Type 0} → Evaluator W → Design → (dontcare : Bool) → (block : ℕ)
+abbrev pub sections_give : {W : Type 0} → Evaluator W → Context → (dontcare : Bool) → (block : ℕ)
     → List SectionTree → List (Contribution W)
 sections_give ev d on block [] = []
 sections_give ev d on block (s ∷ ss) =
@@ -38,4 +38,4 @@ sections_give ev d on block (s ∷ ss) =
 
 -- all contributions of a module, in order of the source
 abbrev pub contributions : {W : Type 0} → Evaluator W → Design → List (Contribution W)
-contributions ev d = sections_give ev d d.starts_dontcare 0 d.sections
+contributions ev d = sections_give ev d.context d.starts_dontcare 0 d.sections

@@ -9,7 +9,7 @@ use Rattle.pld_device.specs.Table.{Table, cell_at}
 use Rattle.abel_tree.specs.declared.words.Extension.TheVariants as extension
 use Rattle.abel_tree.specs.Entries.{Kind, APin, ANode, Entry}
 use Rattle.abel_tree.specs.Tree.{ModuleTree}
-use Rattle.abel_meaning.specs.Designs.{Design, design_of, name_at, is_stored, follows_q}
+use Rattle.abel_meaning.specs.Designs.{Context, Design, design_of, name_at, is_stored, follows_q}
 use Rattle.abel_meaning.specs.Contributions.{Contribution}
 use Rattle.abel_meaning.specs.AtPoints.{truth_at, given_at}
 use Rattle.abel_meaning.specs.Functions.{Function, function_of, allows, value_with_any_0, is_raw_signal}
@@ -29,18 +29,18 @@ is_negated (APin pin negated) = negated
 is_negated _ = false
 
 -- the values of a signal at the point
-abbrev pub signal_allows : Choice → Design → Levels → List (Contribution Bool) → ℕ → Bool → Bool
+abbrev pub signal_allows : Choice → Context → Levels → List (Contribution Bool) → ℕ → Bool → Bool
 signal_allows choice d at cs s value = choice (function_of (truth_at d at) cs s) value
 
 -- the pin of a signal: its pin polarity where it is stored, else a value that the name may have
-abbrev pub assigned_level : Choice → Design → Levels → List (Contribution Bool) → (cell signal : ℕ)
+abbrev pub assigned_level : Choice → Context → Levels → List (Contribution Bool) → (cell signal : ℕ)
     → Entry → Bool → Bool
 assigned_level choice d at cs c s x level =
     if is_stored x then same_level level (complement_if (not (follows_q x)) (is_on at.q c))
     else signal_allows choice d at cs s (complement_if (is_negated x.kind) level)
 
 -- the levels of a cell's pin: a register that nothing assigns inverts, and any other such cell is never enabled
-abbrev pub pin_allows : Choice → Design → Levels → List (Contribution Bool) → (cell : ℕ) → Option ℕ
+abbrev pub pin_allows : Choice → Context → Levels → List (Contribution Bool) → (cell : ℕ) → Option ℕ
     → Bool → Bool
 pin_allows choice d at cs c None level = if cell_stores d c then same_level level (not (is_on at.q c)) else false
 pin_allows choice d at cs c (Some s) level = assigned_level choice d at cs c s (name_at d s) level
@@ -51,7 +51,7 @@ q_complements true x = false
 q_complements false x = complement_if (is_negated x.kind) (not (follows_q x))
 
 -- the next Qs of a register
-abbrev pub next_allows : Choice → Design → Levels → List (Contribution Bool) → Option ℕ → Bool → Bool
+abbrev pub next_allows : Choice → Context → Levels → List (Contribution Bool) → Option ℕ → Bool → Bool
 next_allows choice d at cs None q = not q
 next_allows choice d at cs (Some s) q =
     signal_allows choice d at cs s (complement_if (q_complements (is_raw_signal cs s) (name_at d s)) q)
@@ -62,11 +62,11 @@ is_node_number n (ANode other) = other == n
 is_node_number n _ = false
 
 -- the signal that is a node
-abbrev pub node_signal : Design → (node : ℕ) → Option ℕ
+abbrev pub node_signal : Context → (node : ℕ) → Option ℕ
 node_signal d n = position (λ (x : Entry). is_node_number n x.kind) d.names
 
 -- a node that is assigned nothing is 0
-abbrev pub node_allows : Choice → Design → Levels → List (Contribution Bool) → Option ℕ → Bool → Bool
+abbrev pub node_allows : Choice → Context → Levels → List (Contribution Bool) → Option ℕ → Bool → Bool
 node_allows choice d at cs None value = not value
 node_allows choice d at cs (Some s) value = signal_allows choice d at cs s value
 
@@ -74,17 +74,17 @@ node_allows choice d at cs (Some s) value = signal_allows choice d at cs s value
 abbrev pub logic_by : Choice → Design → Logic
 logic_by choice d =
     record {
-      cells = length d.device.cells;
-      pin = λ c. (cell_at d.device c).pin;
-      stores = cell_stores d;
-      clock = d.device.clock;
-      is_node = λ n. is_some (node_signal d n);
-      enabled = λ at c. cell_is_enabled (truth_at d at) d at (given_at d at) c;
-      allows_level = λ at c level. pin_allows choice d at (given_at d at) c (signal_on d c) level;
-      allows_node = λ at n value. node_allows choice d at (given_at d at) (node_signal d n) value;
-      reset = λ at c. register_control (truth_at d at) d (given_at d at) extension.Ar (signal_on d c);
-      preset = λ at c. register_control (truth_at d at) d (given_at d at) extension.Sp (signal_on d c);
-      allows_next = λ at c q. next_allows choice d at (given_at d at) (signal_on d c) q;
+      cells = length d.context.device.cells;
+      pin = λ c. (cell_at d.context.device c).pin;
+      stores = cell_stores d.context;
+      clock = d.context.device.clock;
+      is_node = λ n. is_some (node_signal d.context n);
+      enabled = λ at c. cell_is_enabled (truth_at d.context at) d.context at (given_at d at) c;
+      allows_level = λ at c level. pin_allows choice d.context at (given_at d at) c (signal_on d.context c) level;
+      allows_node = λ at n value. node_allows choice d.context at (given_at d at) (node_signal d.context n) value;
+      reset = λ at c. register_control (truth_at d.context at) d.context (given_at d at) extension.Ar (signal_on d.context c);
+      preset = λ at c. register_control (truth_at d.context at) d.context (given_at d at) extension.Sp (signal_on d.context c);
+      allows_next = λ at c q. next_allows choice d.context at (given_at d at) (signal_on d.context c) q;
     }
 
 -- what a design asks of each point
@@ -100,13 +100,13 @@ abbrev pub source_logic : Table → ModuleTree → Logic
 source_logic t m = design_logic (design_of t m)
 
 -- the value of a node with any as 0, by the contributions at the point
-abbrev pub node_value_by : Design → Levels → List (Contribution Bool) → Option ℕ → Bool
+abbrev pub node_value_by : Context → Levels → List (Contribution Bool) → Option ℕ → Bool
 node_value_by d at cs None = false
 node_value_by d at cs (Some s) = value_with_any_0 (function_of (truth_at d at) cs s)
 
 -- the value that stands for each node of a design, and of a module
 abbrev pub node_values : Design → NodeValues
-node_values d at n = node_value_by d at (given_at d at) (node_signal d n)
+node_values d at n = node_value_by d.context at (given_at d at) (node_signal d.context n)
 
 abbrev pub source_values : Table → ModuleTree → NodeValues
 source_values t m = node_values (design_of t m)

@@ -10,7 +10,7 @@ use Rattle.bit_expr.specs.Formulas.{leaf_value}
 use Rattle.abel_tree.specs.declared.words.Extension.{Extension}
 use Rattle.abel_tree.specs.declared.words.Extension.TheVariants as extension
 use Rattle.abel_tree.specs.Entries.{Kind, APin, ANode, AConstant, ADeviceName, Entry}
-use Rattle.abel_meaning.specs.Designs.{Design, name_at, is_stored, follows_q, cell_on}
+use Rattle.abel_meaning.specs.Designs.{Context, name_at, is_stored, follows_q, cell_on}
 
 -- what is read: 0, or what a leaf carries, or its complement
 pub data Source : Type 0 where
@@ -55,5 +55,5 @@ source_by t x (AConstant value) e = Zero
 source_by t x ADeviceName e = Zero
 
 -- what a signal reads
-abbrev pub source_of : Design → (signal : ℕ) → Option Extension → Source
+abbrev pub source_of : Context → (signal : ℕ) → Option Extension → Source
 source_of d s e = source_by d.device (name_at d s) (name_at d s).kind e

@@ -7,7 +7,7 @@ use Rattle.abel_tree.specs.Assigned.{target_extension, is_clocked}
 use Rattle.abel_tree.specs.Tree.{Statement, AnAssign, AWhen, AGroup, ADontCare, Otherwise, NoElse, AnElse, Statements, NoStatement, MoreStatements}
 use Rattle.abel_meaning.specs.Terms.{term_of}
 use Rattle.abel_meaning.specs.Targets.{targets_of}
-use Rattle.abel_meaning.specs.Designs.{Design}
+use Rattle.abel_meaning.specs.Designs.{Context}
 use Rattle.abel_meaning.specs.Contributions.{Evaluator, condition, Gives, Contribution, Guard, guarded, contribution}
 use Rattle.abel_meaning.specs.Contributions as give
 
@@ -19,7 +19,7 @@ sign_gives sign.Any = give.Any
 sign_gives sign.ClockedAny = give.Any
 
 -- each signal of a target with its bit of the value
-abbrev pub given_each : {W : Type 0} → Evaluator W → Design → Guard W → Option Extension
+abbrev pub given_each : {W : Type 0} → Evaluator W → Context → Guard W → Option Extension
     → (complement clocked : Bool) → Gives → List (Option ℕ) → List W → List (Contribution W)
 given_each ev d g extension complement clocked gives [] ws = []
 given_each ev d g extension complement clocked gives (s ∷ ss) [] = []
@@ -31,7 +31,7 @@ given_each ev d g extension complement clocked gives (Some s ∷ ss) (w ∷ ws) 
 
 -- those of `s` count where the condition holds, those of `t` where it doesn't
 abbrev mutual
-  pub statement_gives : {W : Type 0} → Evaluator W → Design → Guard W → Statement → List (Contribution W)
+  pub statement_gives : {W : Type 0} → Evaluator W → Context → Guard W → Statement → List (Contribution W)
   statement_gives ev d g (AnAssign place complement target sign sign_place value) =
       given_each ev d g (target_extension target) complement (is_clocked sign) (sign_gives sign)
       (targets_of (term_of d.known target))
@@ -42,10 +42,10 @@ abbrev mutual
   statement_gives ev d g (AGroup ss) = statements_give ev d g ss
   statement_gives ev d g (ADontCare directive) = []
 
-  pub else_gives : {W : Type 0} → Evaluator W → Design → Guard W → Otherwise → List (Contribution W)
+  pub else_gives : {W : Type 0} → Evaluator W → Context → Guard W → Otherwise → List (Contribution W)
   else_gives ev d g NoElse = []
   else_gives ev d g (AnElse s) = statement_gives ev d g s
 
-  pub statements_give : {W : Type 0} → Evaluator W → Design → Guard W → Statements → List (Contribution W)
+  pub statements_give : {W : Type 0} → Evaluator W → Context → Guard W → Statements → List (Contribution W)
   statements_give ev d g NoStatement = []
   statements_give ev d g (MoreStatements s ss) = statement_gives ev d g s ++ statements_give ev d g ss

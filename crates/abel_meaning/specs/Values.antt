@@ -10,7 +10,7 @@ use Rattle.abel_tree.specs.declared.words.Unary.{Unary}
 use Rattle.abel_tree.specs.declared.words.Unary.TheVariants as unary
 use Rattle.abel_meaning.specs.Terms.{Term, Terms}
 use Rattle.abel_meaning.specs.Terms as term
-use Rattle.abel_meaning.specs.Designs.{Design}
+use Rattle.abel_meaning.specs.Designs.{Context}
 use Rattle.abel_meaning.specs.Sources.{source_of, source_value}
 use Rattle.abel_meaning.specs.Numbers.{Shape, Number, Single, Set, width_of, member_width, meeting, Value, met, met_unknown, either_unknown, kept, one_bit, number_with, by_position, digits_low_first}
 
@@ -123,7 +123,7 @@ no_position = record { shape = Set 0; number = 0; unknown = [] }
 
 -- the value of a term
 abbrev mutual
-  pub term_value : Design → Levels → Term → Value
+  pub term_value : Context → Levels → Term → Value
   term_value d at (term.Number n) = plain_value n
   term_value d at term.X = record { shape = Single; number = 0; unknown = true ∷ [] }
   term_value d at term.Pulse = plain_value 0
@@ -133,7 +133,7 @@ abbrev mutual
   term_value d at (term.UnaryOf sign t) = unary_value sign (term_value d at t)
   term_value d at (term.BinaryOf sign t u) = binary_value sign (term_value d at t) (term_value d at u)
 
-  pub set_value : Design → Levels → Terms → Value
+  pub set_value : Context → Levels → Terms → Value
   set_value d at term.NoTerm = no_position
   set_value d at (term.Before t ts) = joined_value (term_value d at t) (set_value d at ts)
 
@@ -142,5 +142,5 @@ abbrev pub nowhere : Levels
 nowhere = record { pins = []; q = []; nodes = [] }
 
 -- shapes, X positions and the numbers of constants are the same at every point, and so at that one
-abbrev pub constant_of : Design → Term → Value
+abbrev pub constant_of : Context → Term → Value
 constant_of d t = term_value d nowhere t

@@ -8,7 +8,7 @@ use Rattle.abel_tree.specs.Entries.{Kind, APin}
 use Rattle.abel_tree.specs.Tree.{RowTree, SectionTree, SomeVectors, ModuleTree}
 use Rattle.abel_meaning.specs.Terms.{Term, term_of}
 use Rattle.abel_meaning.specs.Targets.{targets_of}
-use Rattle.abel_meaning.specs.Designs.{Design, design_of, name_at}
+use Rattle.abel_meaning.specs.Designs.{Context, Design, design_of, name_at}
 use Rattle.abel_meaning.specs.Rows.{Mark, Level, Unknown, Pulsed, Released, marks_of}
 
 -- the one character of a text
@@ -45,7 +45,7 @@ first_char (Some c) other = Some c
 first_char None other = other
 
 -- the character that the positions of a header give to a pin, the first of them
-abbrev pub char_given : Design → (pin : ℕ) → (Bool → Mark → Option ℕ) → List (Option ℕ) → List Mark
+abbrev pub char_given : Context → (pin : ℕ) → (Bool → Mark → Option ℕ) → List (Option ℕ) → List Mark
     → Option ℕ
 char_given d pin char [] marks = None
 char_given d pin char (s ∷ ss) [] = None
@@ -63,7 +63,7 @@ char_or_plain t pin (Some c) = c
 char_or_plain t pin None = plain_char t pin
 
 -- the character of a pin in a row under a header
-abbrev pub pin_char : Design → (inputs outputs : Term) → RowTree → (pin : ℕ) → ℕ
+abbrev pub pin_char : Context → (inputs outputs : Term) → RowTree → (pin : ℕ) → ℕ
 pin_char d inputs outputs row pin =
     char_or_plain d.device pin
     (first_char
@@ -71,23 +71,23 @@ pin_char d inputs outputs row pin =
     (char_given d pin output_char (targets_of outputs) (marks_of d outputs (term_of d.known row.outputs))))
 
 -- the characters of a row, from pin 1 to the last one
-abbrev pub row_chars : Design → (inputs outputs : Term) → RowTree → List ℕ
+abbrev pub row_chars : Context → (inputs outputs : Term) → RowTree → List ℕ
 row_chars d inputs outputs row = map (pin_char d inputs outputs row) (range_with_len 1 d.device.pins)
 
 -- the vectors of a section
-abbrev pub section_vectors : Design → SectionTree → List (List ℕ)
+abbrev pub section_vectors : Context → SectionTree → List (List ℕ)
 section_vectors d (SomeVectors _ place inputs outputs rows) =
     map (row_chars d (term_of d.known inputs) (term_of d.known outputs)) rows
 section_vectors d _ = []
 
 -- the vectors of sections
-abbrev pub sections_vectors : Design → List SectionTree → List (List ℕ)
+abbrev pub sections_vectors : Context → List SectionTree → List (List ℕ)
 sections_vectors d [] = []
 sections_vectors d (s ∷ ss) = section_vectors d s ++ sections_vectors d ss
 
 -- all vectors of a design, in order of the source
 abbrev pub design_vectors : Design → List (List ℕ)
-design_vectors d = sections_vectors d d.sections
+design_vectors d = sections_vectors d.context d.sections
 
 -- those of a module for a device
 abbrev pub source_vectors : Table → ModuleTree → List (List ℕ)
