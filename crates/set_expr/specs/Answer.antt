@@ -11,7 +11,7 @@ use Rattle.abel_tree.specs.declared.names.Names.{Names}
 use Rattle.abel_tree.specs.Entries.{entries_of}
 use Rattle.abel_tree.specs.FirstRefusal.{first_refusal}
 use Rattle.abel_tree.specs.Tree.{Tree, ANumber, ASpecial, AName, ASet, AParen, AUnary, ABinary}
-use Rattle.abel_meaning.specs.Designs.{Design}
+use Rattle.abel_meaning.specs.Designs.{Context}
 use Rattle.abel_meaning.specs.Terms.{known_of, term_of}
 use Rattle.abel_meaning.specs.Numbers as number
 use Rattle.abel_meaning.specs.Values.{constant_of}
@@ -26,8 +26,8 @@ use Rattle.set_expr.specs.FoundNames.{expression_found}
 use Rattle.set_expr.specs.SectionOrder.{section_order}
 use Rattle.set_expr.specs.Shapes.{HasShape}
 
--- the names are those of the design, and its device has this table
-pub record IsDesignOf (t : Table) (n : Names) (d : Design) : Type 0 where
+-- the names are those of the context, and its device has this table
+pub record IsContextOf (t : Table) (n : Names) (d : Context) : Type 0 where
   pub device : d.device ≡ t
   pub names : d.names ≡ entries_of n
   pub known : d.known ≡ known_of (entries_of n)
@@ -99,21 +99,21 @@ abbrev pub IsPast : List Formula → ℕ → Type 0
 IsPast old nodes = PassesLimit MOST (length old) nodes
 
 -- an expression is accepted: nothing is refused, just its nodes were made, and these do not pass the limit
-pub record IsAccepted (n : Names) (d : Design) (t : Tree) (old new : List Formula) (s : Shaped) : Type 0 where
+pub record IsAccepted (n : Names) (d : Context) (t : Tree) (old new : List Formula) (s : Shaped) : Type 0 where
   pub accepted : refusal_of n t ≡ None
   pub shaped : IsShaped new s (constant_of d (term_of d.known t)) (bits_of d (term_of d.known t)).what
   pub grew : Grew old new (bits_of d (term_of d.known t)).nodes
   pub within : IsPast old (bits_of d (term_of d.known t)).nodes → ⊥
 
 -- its nodes pass the limit, and nothing else is refused
-pub record IsPastLimit (n : Names) (d : Design) (t : Tree) (old new : List Formula) (p : Place) : Type 0 where
+pub record IsPastLimit (n : Names) (d : Context) (t : Tree) (old new : List Formula) (p : Place) : Type 0 where
   pub accepted : refusal_of n t ≡ None
   pub past : IsPast old (bits_of d (term_of d.known t)).nodes
   pub place : p ≡ first_place t
   pub keeps : Keeps old new
 
 -- the answer for an expression over the names of a design
-abbrev pub IsAnswer : Names → Design → Tree → (old new : List Node) → Result Shaped SectionFault → Type 0
+abbrev pub IsAnswer : Names → Context → Tree → (old new : List Node) → Result Shaped SectionFault → Type 0
 IsAnswer n d t old new (Ok s) = IsAccepted n d t (arena old) (arena new) s
 IsAnswer n d t old new (Err (fault.NodeLimit p)) = IsPastLimit n d t (arena old) (arena new) p
 IsAnswer n d t old new (Err fault.OutOfMemory) = Keeps (arena old) (arena new)

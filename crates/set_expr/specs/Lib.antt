@@ -5,5 +5,6 @@ pub mod Kept
 pub mod KnownNames
 pub mod Members
 pub mod Refusals
+pub mod Scopes
 pub mod SectionOrder
 pub mod Shapes

@@ -75,7 +75,7 @@ fn check_use(place: Place, known: KnownName) -> Checked
 }
 
 /// What is found of the name with this text, used at this place; one that is not declared is a number. Takes no memory.
-pub fn check_name(known: &KnownNames, text: &[u8], place: Place) -> Checked
+pub(crate) fn checked_name(known: &KnownNames, text: &[u8], place: Place) -> Checked
     ensures { (es : List Entry) → IsKnown es known.now → SumsUp result (found_use place (name_found (names_found es) text.now)) }
 {
     match known.get(text) {

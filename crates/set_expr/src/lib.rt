@@ -1,7 +1,6 @@
 //! Set expressions as bits, and what the sections of a source contribute.
 #![tactic(auto)]
 
-mod answering;
 mod checked;
 mod checking;
 mod contributions;
@@ -10,16 +9,15 @@ mod known;
 mod known_name;
 mod learning;
 mod rules;
+mod scope;
 mod shaped;
 mod walking;
 
-pub use answering::check_constants;
 pub use checked::Checked;
-pub use checking::check_name;
 pub use contributions::{Contribution, Contributions, Gives, Guard, Target};
 pub use fault::{SectionFault, earlier};
 pub use known::KnownNames;
 pub use known_name::KnownName;
 pub use learning::known_names;
+pub use scope::Scope;
 pub use shaped::{Shape, Shaped};
-pub use walking::check;

@@ -2,38 +2,24 @@
 
 ghost use Rattle.std.specs.Prelude.{◌≡◌, ℕ, List, [], ◌++◌, map, IfOk, OnOk};
 ghost use Rattle.pld_base.specs.declared.place.Place.{Place};
-ghost use Rattle.abel_tree.specs.Entries.{Entry, entries_of};
+ghost use Rattle.abel_tree.specs.Entries.{Entry};
 ghost use Rattle.abel_tree.specs.Ranges.{range_names};
 ghost use Rattle.abel_tree.specs.Tree.{members_of};
 ghost use Rattle.abel_tree.specs.View.{view, view_member};
-ghost use Rattle.set_expr.specs.FoundNames.{found_of, found_before, range_found, names_found, expression_found};
+ghost use Rattle.set_expr.specs.FoundNames.{found_of, found_before, range_found, names_found};
 ghost use Rattle.set_expr.specs.KnownNames.{IsKnown, SumsUp};
 ghost use Rattle.set_expr.specs.Members.{AreSummedUp};
 ghost use Rattle.set_expr.specs.Refusals.{Found};
 
 use crate::checked::Checked;
-use crate::checking::{Members, check_name, check_special, plain};
+use crate::checking::{Members, check_special, checked_name, plain};
 use crate::known::KnownNames;
 use crate::rules::{check_both, check_under};
 use crate::shaped::Shape;
-use abel_tree::{Expr, Member, Names, Word};
+use abel_tree::{Expr, Member, Word};
 use name_ranges::range_list;
 use pld_base::{OutOfMemory, Place};
 use std::alloc::Global;
-
-/// What is found of an expression: its first refusal, or its shape and the first of its X positions. Calls go as
-/// deep as the nestings, however many operators stand in a row, and constants are looked up.
-pub fn check(
-    alloc: Global,
-    names: &Names,
-    known: &KnownNames,
-    expr: &Expr,
-) -> Result<Checked, OutOfMemory>
-    requires known { IsKnown (entries_of names.now) known.now }
-    ensures { IfOk result (λ c. SumsUp c (expression_found (entries_of names.now) (view expr.now))) }
-{
-    check_expr(alloc, known, expr)
-}
 
 /// The names of a range as members of the set at this place.
 fn check_range(
@@ -49,7 +35,7 @@ fn check_range(
     let names = range_list(alloc, first.text.bytes(), last.text.bytes())?;
     let mut members = before;
     for name in &names {
-        members = members.with(place, check_name(known, name.as_slice(), first.place));
+        members = members.with(place, checked_name(known, name.as_slice(), first.place));
     }
     Ok(members)
 }
@@ -82,7 +68,7 @@ fn check_level(alloc: Global, known: &KnownNames, expr: &Expr) -> Result<Checked
     match expr {
         Expr::Number(number) => Ok(plain(Shape::Number(number.value))),
         Expr::Special { letter, place } => Ok(check_special(*letter, *place)),
-        Expr::Name { word, extension: _ } => Ok(check_name(known, word.text.bytes(), word.place)),
+        Expr::Name { word, extension: _ } => Ok(checked_name(known, word.text.bytes(), word.place)),
         Expr::Set {
             place,
             members,

@@ -15,7 +15,7 @@ loop-name-preserved c es fs k s =
     let text : Vec ℕ → List ℕ = λ n. n.items in
     let before = map text (take c.loop-name.name-index c.deref-name-items.result.now) in
     let here : map text (take (c.loop-name.name-index + 1) c.deref-name-items.result.now) ≡ before ++ text c.name-item.result ∷ [] = front_more text c.deref-name-items.result.now c.loop-name.name-index c.name-item.result c.loop-name-test.true c.name-item.is in
-    let use_found : SumsUp c.check_name.result (found_use p (name_found ns c.name-item.result.items)) = subst (λ t. SumsUp c.check_name.result (found_use p (name_found ns t))) c.as_slice.ensures.value (c.check_name.ensures es k) in
+    let use_found : SumsUp c.checked_name.result (found_use p (name_found ns c.name-item.result.items)) = subst (λ t. SumsUp c.checked_name.result (found_use p (name_found ns t))) c.as_slice.ensures.value (c.checked_name.ensures es k) in
     subst (λ gs. AreSummedUp c.args.place c.with-members.result gs)
     (append_assoc fs (range_found ns p before []) (found_use p (name_found ns (text c.name-item.result)) ∷ [])
     ∙ ap (λ gs. fs ++ gs) (sym (range_more ns p before (text c.name-item.result)) ∙ ap (λ names. range_found ns p names []) (sym here)))

@@ -3,8 +3,8 @@ use Rattle.abel_tree.specs.Entries.{entries_of}
 use Rattle.abel_tree.proofs.FirstRefusals.{none_refused}
 use Rattle.set_expr.specs.FoundNames.{constants_refused}
 use Rattle.set_expr.specs.SectionOrder.{section_order}
-use Rattle.set_expr.proofs.answering.check_constants.Goals as goal
+use Rattle.set_expr.proofs.scope.Scope.check_constants.Goals as goal
 
 pub returns-in-None-clause-accepted : goal.returns-in-None-clause-accepted
 returns-in-None-clause-accepted c =
-    none_refused section_order (constants_refused (entries_of c.args.names.now)) (sym c.in-None.is ∙ (c.fault.ensures ∙ c.requires.known.fault))
+    none_refused section_order (constants_refused (entries_of c.args.self.now)) (sym c.in-None.is ∙ (c.fault.ensures ∙ c.known.ensures.fault))
