@@ -3,7 +3,7 @@ use Rattle.std.proofs.Common.{◌≡◌, ℕ, ◌+◌, Bool, true, false, Option
 use Rattle.abel_tree.specs.declared.words.Binary.{Binary}
 use Rattle.abel_tree.specs.declared.words.Extension.{Extension}
 use Rattle.abel_tree.specs.declared.words.Unary.{Unary}
-use Rattle.abel_meaning.specs.Designs.{Design}
+use Rattle.abel_meaning.specs.Designs.{Context}
 use Rattle.abel_meaning.specs.Numbers.{Shape, Number, Single, Set, Value, width_of, member_width, meeting, met_number}
 use Rattle.abel_meaning.specs.Terms.{Term, Terms, extended, extended_each, extended_if}
 use Rattle.abel_meaning.specs.Terms as term
@@ -54,7 +54,7 @@ pub binary_same : (sign : Binary) (v u w x : Value) → Same v w → Same u x �
 binary_same sign v u w x h k = by_same (is_relation sign) sign v u w x h k
 
 mutual
-  extended_same : (d : Design) (e : Extension) (t : Term) → Same (constant_of d (extended e t)) (constant_of d t)
+  extended_same : (d : Context) (e : Extension) (t : Term) → Same (constant_of d (extended e t)) (constant_of d t)
   extended_same d e (term.Number n) = same_itself (constant_of d (term.Number n))
   extended_same d e term.X = same_itself (constant_of d term.X)
   extended_same d e term.Pulse = same_itself (constant_of d term.Pulse)
@@ -65,7 +65,7 @@ mutual
   extended_same d e (term.UnaryOf sign t) = unary_same sign (constant_of d (extended e t)) (constant_of d t) (extended_same d e t)
   extended_same d e (term.BinaryOf sign t u) = binary_same sign (constant_of d (extended e t)) (constant_of d (extended e u)) (constant_of d t) (constant_of d u) (extended_same d e t) (extended_same d e u)
 
-  set_same : (d : Design) (e : Extension) (ts : Terms) → Same (set_value d nowhere (extended_each e ts)) (set_value d nowhere ts)
+  set_same : (d : Context) (e : Extension) (ts : Terms) → Same (set_value d nowhere (extended_each e ts)) (set_value d nowhere ts)
   set_same d e term.NoTerm = same_itself (set_value d nowhere term.NoTerm)
   set_same d e (term.Before t ts) =
       record {
@@ -73,7 +73,7 @@ mutual
         number = λ h. absurd cc;
       }
 
-pub extended_if_same : (d : Design) (e : Option Extension) (t : Term) → Same (constant_of d (extended_if e t)) (constant_of d t)
+pub extended_if_same : (d : Context) (e : Option Extension) (t : Term) → Same (constant_of d (extended_if e t)) (constant_of d t)
 extended_if_same d None t = same_itself (constant_of d t)
 extended_if_same d (Some e) t = extended_same d e t
 
@@ -118,7 +118,7 @@ operand_extended (Some e) term.Release h = absurd cc
 operand_extended (Some e) (term.Read s f) h = absurd cc
 operand_extended (Some e) (term.Set ts) h = absurd cc
 
-pub number_extended : (d : Design) (e : Option Extension) (n : ℕ) → extended_if e (term.Number n) ≡ term.Number n
+pub number_extended : (d : Context) (e : Option Extension) (n : ℕ) → extended_if e (term.Number n) ≡ term.Number n
 number_extended d None n = refl
 number_extended d (Some e) n = refl
 

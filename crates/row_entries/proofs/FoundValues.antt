@@ -7,7 +7,7 @@ use Rattle.abel_tree.specs.declared.words.Unary.{Unary}
 use Rattle.abel_tree.specs.Entries.{Entry, Kind, APin, ANode, AConstant, ADeviceName}
 use Rattle.abel_tree.specs.Ranges.{range_names}
 use Rattle.abel_tree.specs.Tree.{Tree, ANumber, ASpecial, AName, ASet, AParen, AUnary, ABinary, OneMember, SpanMember, Members, NoMember, MoreMembers}
-use Rattle.abel_meaning.specs.Designs.{Design}
+use Rattle.abel_meaning.specs.Designs.{Context}
 use Rattle.abel_meaning.specs.Numbers.{Number, Set, Value, width_of, member_width}
 use Rattle.abel_meaning.specs.Terms.{Term, Terms, Known, term_named, named_before, term_of, terms_of, special_term, term_meant, known_after, known_of, extended_if}
 use Rattle.abel_meaning.specs.Terms as term
@@ -94,7 +94,7 @@ IsPulseTerm term.Pulse = Unit {0}
 IsPulseTerm term.Release = Unit {0}
 IsPulseTerm _ = ⊥
 
-pulse_same : (d : Design) (t : Term) → IsPulseTerm t → Same (plain_value 0) (constant_of d t)
+pulse_same : (d : Context) (t : Term) → IsPulseTerm t → Same (plain_value 0) (constant_of d t)
 pulse_same d term.Pulse h = same_itself (plain_value 0)
 pulse_same d term.Release h = same_itself (plain_value 0)
 pulse_same d term.X h = absurd h
@@ -105,22 +105,22 @@ pulse_same d (term.UnaryOf sign t) h = absurd h
 pulse_same d (term.BinaryOf sign t u) h = absurd h
 
 -- what is found of a name and what it stands for
-record NameAgrees (d : Design) (n : NameFound) (t : Term) : Type 0 where
+record NameAgrees (d : Context) (n : NameFound) (t : Term) : Type 0 where
   pub valued : IsValued n.found (constant_of d t)
   pub pulse : n.is_pulse ≡ true → IsPulseTerm t
 
-abbrev AllAgree : Design → List NameFound → List Known → Type 0
+abbrev AllAgree : Context → List NameFound → List Known → Type 0
 AllAgree d [] [] = Unit {0}
 AllAgree d (n ∷ ns) (k ∷ ks) = ((n.name ≡ k.name) × NameAgrees d n k.term) × AllAgree d ns ks
 AllAgree d _ _ = ⊥
 
-agree_push : (d : Design) (ns : List NameFound) (ks : List Known) (n : NameFound) (k : Known) → AllAgree d ns ks → n.name ≡ k.name → NameAgrees d n k.term → AllAgree d (ns ++ n ∷ []) (ks ++ k ∷ [])
+agree_push : (d : Context) (ns : List NameFound) (ks : List Known) (n : NameFound) (k : Known) → AllAgree d ns ks → n.name ≡ k.name → NameAgrees d n k.term → AllAgree d (ns ++ n ∷ []) (ks ++ k ∷ [])
 agree_push d [] [] n k h e a = ((e, a), tt)
 agree_push d (m ∷ ns) (x ∷ ks) n k h e a = (h.0, agree_push d ns ks n k h.1 e a)
 agree_push d [] (x ∷ ks) n k h e a = absurd h
 agree_push d (m ∷ ns) [] n k h e a = absurd h
 
-named_agrees : (d : Design) (ns : List NameFound) (ks : List Known) → AllAgree d ns ks → (w : List ℕ) → NameAgrees d (name_found ns w) (term_named ks w)
+named_agrees : (d : Context) (ns : List NameFound) (ks : List Known) → AllAgree d ns ks → (w : List ℕ) → NameAgrees d (name_found ns w) (term_named ks w)
 named_agrees d [] [] h w = record { valued = λ e. same_itself (plain_value 0); pulse = λ e. absurd cc }
 named_agrees d [] (k ∷ ks) h w = absurd h
 named_agrees d (n ∷ ns) [] h w = absurd h
@@ -136,7 +136,7 @@ use_valued : (b : Bool) (p : Place) (f : Found) (xs : List SectionFault) (v : Va
 use_valued true p f xs v h e = absurd cc
 use_valued false p f xs v h e = h e
 
-special_valued : (d : Design) (letter : ℕ) (p : Place) → IsValued (found_special letter p) (constant_of d (special_term letter))
+special_valued : (d : Context) (letter : ℕ) (p : Place) → IsValued (found_special letter p) (constant_of d (special_term letter))
 special_valued d letter p = by_test (bytes_eq (letter ∷ []) (codes "X"))
   where
     by_test : (b : Bool) → IsValued (if b then record { refusals = []; specials = MisplacedSpecial p ∷ []; value = Some (one_position true) } else refused_there (MisplacedSpecial p))
@@ -154,7 +154,7 @@ special_pulse letter = by_test (bytes_eq (letter ∷ []) (codes "X")) (bytes_eq 
 
 -- ---- expressions over names
 
-module _ (d : Design) (ns : List NameFound) (ks : List Known) (agree : AllAgree d ns ks) where
+module _ (d : Context) (ns : List NameFound) (ks : List Known) (agree : AllAgree d ns ks) where
   name_valued : (p : Place) (w : List ℕ) → IsValued (found_use p (name_found ns w)) (constant_of d (term_named ks w))
   name_valued p w =
       let n = name_found ns w in
@@ -214,15 +214,15 @@ module _ (d : Design) (ns : List NameFound) (ks : List Known) (agree : AllAgree 
       by_kind (AConstant t) = record { valued = constant_valued (is_pulse t) t refl; pulse = pulse_term t }
       by_kind ADeviceName = record { valued = λ e. same_itself (plain_value 0); pulse = λ e. absurd cc }
 
-all_agree : (d : Design) (ns : List NameFound) (ks : List Known) (s : ℕ) (es : List Entry) → AllAgree d ns ks → AllAgree d (found_after ns es) (known_after ks s es)
+all_agree : (d : Context) (ns : List NameFound) (ks : List Known) (s : ℕ) (es : List Entry) → AllAgree d ns ks → AllAgree d (found_after ns es) (known_after ks s es)
 all_agree d ns ks s [] h = h
 all_agree d ns ks s (x ∷ es) h =
     all_agree d (ns ++ found_entry ns x ∷ []) (ks ++ record { name = x.name; term = term_meant ks s x.kind } ∷ []) (suc s) es
     (agree_push d ns ks (found_entry ns x) (record { name = x.name; term = term_meant ks s x.kind }) h refl (kind_agrees d ns ks h s x))
 
 -- over all declared names
-pub expression_valued : (d : Design) (es : List Entry) (t : Tree) → IsValued (found_of (names_found es) t) (constant_of d (term_of (known_of es) t))
+pub expression_valued : (d : Context) (es : List Entry) (t : Tree) → IsValued (found_of (names_found es) t) (constant_of d (term_of (known_of es) t))
 expression_valued d es t = found_valued d (names_found es) (known_of es) (all_agree d [] [] 0 es tt) t
 
-pub named_valued : (d : Design) (es : List Entry) (p : Place) (w : List ℕ) → IsValued (found_use p (name_found (names_found es) w)) (constant_of d (term_named (known_of es) w))
+pub named_valued : (d : Context) (es : List Entry) (p : Place) (w : List ℕ) → IsValued (found_use p (name_found (names_found es) w)) (constant_of d (term_named (known_of es) w))
 named_valued d es p w = name_valued d (names_found es) (known_of es) (all_agree d [] [] 0 es tt) p w

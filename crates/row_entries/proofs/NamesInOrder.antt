@@ -15,7 +15,7 @@ use Rattle.abel_tree.specs.SoundNames.{SoundNames, IsSoundKind, is_named, are_na
 use Rattle.abel_tree.specs.Tree.{Tree, ANumber, ASpecial, AName, ASet, AParen, AUnary, ABinary, OneMember, SpanMember, Members, NoMember, MoreMembers}
 use Rattle.abel_tree.specs.Uses.{uses, member_uses}
 use Rattle.abel_meaning.specs.Terms.{Terms, Number, Before, UnaryOf, BinaryOf, Set, Known, extended_if, term_named, named_before, term_of, terms_of, term_meant, known_after, known_of}
-use Rattle.row_entries.specs.EntryTerms.{NamesEarlier, AreInOrder}
+use Rattle.set_expr.specs.Scopes.{NamesEarlier, AreInOrder}
 
 -- ---- lists of names
 

@@ -4,7 +4,7 @@ use Rattle.std.proofs.lemmas.List.{map-append, reverse-append, replicate-append-
 use Rattle.abel_tree.specs.declared.expressions.Member.{Member}
 use Rattle.abel_tree.specs.declared.words.Extension.{Extension}
 use Rattle.abel_meaning.proofs.RelationWords.{map_reverse}
-use Rattle.abel_meaning.specs.Designs.{Design}
+use Rattle.abel_meaning.specs.Designs.{Context}
 use Rattle.abel_meaning.specs.Numbers.{digits, digits_low_first}
 use Rattle.abel_meaning.specs.Rows.{part_marks, part_width, marks_of, all_marks}
 use Rattle.abel_meaning.specs.Rows as meant
@@ -49,7 +49,7 @@ digits_left w i n h =
 
 -- ---- as a whole
 
-whole_meets : (d : Design) (h e : Term) → both_sets h e ≡ false → meets d h e ≡ meets_whole d e
+whole_meets : (d : Context) (h e : Term) → both_sets h e ≡ false → meets d h e ≡ meets_whole d e
 whole_meets d (term.Set hs) (term.Set es) k = absurd cc
 whole_meets d (term.Set hs) (term.Number n) k = refl
 whole_meets d (term.Set hs) term.X k = refl
@@ -66,7 +66,7 @@ whole_meets d (term.Read s x) e k = refl
 whole_meets d (term.UnaryOf sign t) e k = refl
 whole_meets d (term.BinaryOf sign t u) e k = refl
 
-whole_marks : (d : Design) (h e : Term) → both_sets h e ≡ false → marks_of d h e ≡ part_marks d (part_width d h) e
+whole_marks : (d : Context) (h e : Term) → both_sets h e ≡ false → marks_of d h e ≡ part_marks d (part_width d h) e
 whole_marks d (term.Set hs) (term.Set es) k = absurd cc
 whole_marks d (term.Set hs) (term.Number n) k = refl
 whole_marks d (term.Set hs) term.X k = refl
@@ -83,7 +83,7 @@ whole_marks d (term.Read s x) e k = refl
 whole_marks d (term.UnaryOf sign t) e k = refl
 whole_marks d (term.BinaryOf sign t u) e k = refl
 
-operand_whole : (d : Design) (e : Term) → is_operand e ≡ true → meets_whole d e ≡ is_number (constant_of d e).shape
+operand_whole : (d : Context) (e : Term) → is_operand e ≡ true → meets_whole d e ≡ is_number (constant_of d e).shape
 operand_whole d (term.Number n) k = refl
 operand_whole d (term.UnaryOf sign t) k = refl
 operand_whole d (term.BinaryOf sign t u) k = refl
@@ -93,7 +93,7 @@ operand_whole d term.Release k = absurd cc
 operand_whole d (term.Read s x) k = absurd cc
 operand_whole d (term.Set ts) k = absurd cc
 
-operand_marks : (d : Design) (w : ℕ) (e : Term) → is_operand e ≡ true → part_marks d w e ≡ map meant.Level (digits w (constant_of d e).number)
+operand_marks : (d : Context) (w : ℕ) (e : Term) → is_operand e ≡ true → part_marks d w e ≡ map meant.Level (digits w (constant_of d e).number)
 operand_marks d w (term.Number n) k = refl
 operand_marks d w (term.UnaryOf sign t) k = refl
 operand_marks d w (term.BinaryOf sign t u) k = refl
@@ -104,7 +104,7 @@ operand_marks d w (term.Read s x) k = absurd cc
 operand_marks d w (term.Set ts) k = absurd cc
 
 -- marks that were put make a whole
-met_whole : (d : Design) (h e : Term) (w : ℕ) (old new : List Mark) → both_sets h e ≡ false → w ≡ part_width d h → meets_whole d e ≡ true → part_marks d w e ++ seen old ≡ seen new → Met d h e [] old new
+met_whole : (d : Context) (h e : Term) (w : ℕ) (old new : List Mark) → both_sets h e ≡ false → w ≡ part_width d h → meets_whole d e ≡ true → part_marks d w e ++ seen old ≡ seen new → Met d h e [] old new
 met_whole d h e w old new k p m s =
     record {
       pairs = [];
@@ -113,30 +113,30 @@ met_whole d h e w old new k p m s =
       marks = λ _. ap (λ xs. xs ++ seen old) (whole_marks d h e k ∙ ap (λ n. part_marks d n e) (sym p)) ∙ s;
     }
 
-pub put_number : (d : Design) (h e : Term) (w n : ℕ) (old new : List Mark) → IsNumeral d e n → both_sets h e ≡ false → w ≡ part_width d h → map view_mark new ≡ map view_mark old ++ map meant.Level (digits_low_first w n) → Met d h e [] old new
+pub put_number : (d : Context) (h e : Term) (w n : ℕ) (old new : List Mark) → IsNumeral d e n → both_sets h e ≡ false → w ≡ part_width d h → map view_mark new ≡ map view_mark old ++ map meant.Level (digits_low_first w n) → Met d h e [] old new
 put_number d h e w n old new i k p s =
     let lows = digits_low_first w n in
     met_whole d h e w old new k p (operand_whole d e i.operand ∙ ap is_number i.shape)
     (ap (λ xs. xs ++ seen old) (operand_marks d w e i.operand ∙ ap (λ m. map meant.Level (digits w m)) i.number ∙ map_reverse meant.Level lows)
     ∙ sym (ap reverse s ∙ reverse-append (map view_mark old) (map meant.Level lows)))
 
-pub put_same : (d : Design) (h e : Term) (w : ℕ) (m : Mark) (old new : List Mark) → meets_whole d e ≡ true → part_marks d w e ≡ replicate w (view_mark m) → both_sets h e ≡ false → w ≡ part_width d h → new ≡ old ++ replicate w m → Met d h e [] old new
+pub put_same : (d : Context) (h e : Term) (w : ℕ) (m : Mark) (old new : List Mark) → meets_whole d e ≡ true → part_marks d w e ≡ replicate w (view_mark m) → both_sets h e ≡ false → w ≡ part_width d h → new ≡ old ++ replicate w m → Met d h e [] old new
 put_same d h e w m old new t q k p s =
     met_whole d h e w old new k p t
     (ap (λ xs. xs ++ seen old) (q ∙ sym (reverse_same w (view_mark m)) ∙ ap reverse (sym (map_same view_mark w m)))
     ∙ sym (ap seen s ∙ seen_append old (replicate w m)))
 
-pub put_unknown : (d : Design) (h e : Term) (w : ℕ) (m : Mark) (old new : List Mark) → e ≡ term.X → view_mark m ≡ meant.Unknown → both_sets h e ≡ false → w ≡ part_width d h → new ≡ old ++ replicate w m → Met d h e [] old new
+pub put_unknown : (d : Context) (h e : Term) (w : ℕ) (m : Mark) (old new : List Mark) → e ≡ term.X → view_mark m ≡ meant.Unknown → both_sets h e ≡ false → w ≡ part_width d h → new ≡ old ++ replicate w m → Met d h e [] old new
 put_unknown d h e w m old new t q k p s = put_same d h e w m old new (ap (meets_whole d) t) (ap (part_marks d w) t ∙ ap (replicate w) (sym q)) k p s
 
-pub put_pulsed : (d : Design) (h e : Term) (w : ℕ) (m : Mark) (old new : List Mark) → e ≡ term.Pulse → view_mark m ≡ meant.Pulsed → both_sets h e ≡ false → w ≡ part_width d h → new ≡ old ++ replicate w m → Met d h e [] old new
+pub put_pulsed : (d : Context) (h e : Term) (w : ℕ) (m : Mark) (old new : List Mark) → e ≡ term.Pulse → view_mark m ≡ meant.Pulsed → both_sets h e ≡ false → w ≡ part_width d h → new ≡ old ++ replicate w m → Met d h e [] old new
 put_pulsed d h e w m old new t q k p s = put_same d h e w m old new (ap (meets_whole d) t) (ap (part_marks d w) t ∙ ap (replicate w) (sym q)) k p s
 
-pub put_released : (d : Design) (h e : Term) (w : ℕ) (m : Mark) (old new : List Mark) → e ≡ term.Release → view_mark m ≡ meant.Released → both_sets h e ≡ false → w ≡ part_width d h → new ≡ old ++ replicate w m → Met d h e [] old new
+pub put_released : (d : Context) (h e : Term) (w : ℕ) (m : Mark) (old new : List Mark) → e ≡ term.Release → view_mark m ≡ meant.Released → both_sets h e ≡ false → w ≡ part_width d h → new ≡ old ++ replicate w m → Met d h e [] old new
 put_released d h e w m old new t q k p s = put_same d h e w m old new (ap (meets_whole d) t) (ap (part_marks d w) t ∙ ap (replicate w) (sym q)) k p s
 
 -- a signal meets nothing as a whole
-pub no_signal : (d : Design) (h e : Term) (s : ℕ) (x : Option Extension) → e ≡ term.Read s x → both_sets h e ≡ false → meets d h e ≡ false
+pub no_signal : (d : Context) (h e : Term) (s : ℕ) (x : Option Extension) → e ≡ term.Read s x → both_sets h e ≡ false → meets d h e ≡ false
 no_signal d h e s x t k = whole_meets d h e k ∙ ap (meets_whole d) t
 
 -- ---- a set beside a set
@@ -152,7 +152,7 @@ paired_more [] (b ∷ ys) x y e = absurd cc
 paired_more (a ∷ xs) [] x y e = absurd cc
 paired_more (a ∷ xs) (b ∷ ys) x y e = ap (λ ps. record { header = a; given = b } ∷ ps) (paired_more xs ys x y (omega (arith, e)))
 
-paired_stand : (d : Design) (hs es : List Part) (ts us : List Term) → AreParts d true hs ts → AreParts d false es us → ArePairs d (paired hs es) (zipped ts us)
+paired_stand : (d : Context) (hs es : List Part) (ts us : List Term) → AreParts d true hs ts → AreParts d false es us → ArePairs d (paired hs es) (zipped ts us)
 paired_stand d [] es [] us h k = tt
 paired_stand d [] es (t ∷ ts) us h k = absurd h
 paired_stand d (x ∷ hs) es [] us h k = absurd h
@@ -161,7 +161,7 @@ paired_stand d (x ∷ hs) [] (t ∷ ts) (u ∷ us) h k = absurd k
 paired_stand d (x ∷ hs) (y ∷ es) (t ∷ ts) [] h k = absurd k
 paired_stand d (x ∷ hs) (y ∷ es) (t ∷ ts) (u ∷ us) h k = ((h.0, k.0), paired_stand d hs es ts us h.1 k.1)
 
-sets_meet : (d : Design) (us vs : Terms) → length (listed us) ≡ length (listed vs) → all_meet d us vs ≡ pairs_meet d (zipped (listed us) (listed vs))
+sets_meet : (d : Context) (us vs : Terms) → length (listed us) ≡ length (listed vs) → all_meet d us vs ≡ pairs_meet d (zipped (listed us) (listed vs))
 sets_meet d term.NoTerm term.NoTerm e = refl
 sets_meet d term.NoTerm (term.Before v vs) e = absurd cc
 sets_meet d (term.Before u us) term.NoTerm e = absurd cc
@@ -171,18 +171,18 @@ and_none : (a : Bool) → (a && false) ≡ false
 and_none true = refl
 and_none false = refl
 
-sets_differ : (d : Design) (us vs : Terms) → (length (listed us) ≡ length (listed vs) → ⊥) → all_meet d us vs ≡ false
+sets_differ : (d : Context) (us vs : Terms) → (length (listed us) ≡ length (listed vs) → ⊥) → all_meet d us vs ≡ false
 sets_differ d term.NoTerm term.NoTerm e = absurd (e refl)
 sets_differ d term.NoTerm (term.Before v vs) e = refl
 sets_differ d (term.Before u us) term.NoTerm e = refl
 sets_differ d (term.Before u us) (term.Before v vs) e = ap (λ b. meets d u v && b) (sets_differ d us vs (λ h. e (ap suc h))) ∙ and_none (meets d u v)
 
-sets_marks : (d : Design) (us vs : Terms) → all_marks d us vs ≡ pairs_marks d (zipped (listed us) (listed vs))
+sets_marks : (d : Context) (us vs : Terms) → all_marks d us vs ≡ pairs_marks d (zipped (listed us) (listed vs))
 sets_marks d term.NoTerm vs = refl
 sets_marks d (term.Before u us) term.NoTerm = refl
 sets_marks d (term.Before u us) (term.Before v vs) = ap (λ xs. marks_of d u v ++ xs) (sets_marks d us vs)
 
-pub sets_met : (d : Design) (o i : Option Extension) (ts us : Terms) (hs es : List Part) → AreParts d true hs (extended_list o (listed ts)) → AreParts d false es (extended_list i (listed us)) → length hs ≡ length es
+pub sets_met : (d : Context) (o i : Option Extension) (ts us : Terms) (hs es : List Part) → AreParts d true hs (extended_list o (listed ts)) → AreParts d false es (extended_list i (listed us)) → length hs ≡ length es
     → (ms : List Mark) → Met d (extended_if o (term.Set ts)) (extended_if i (term.Set us)) (paired hs es) ms ms
 sets_met d o i ts us hs es h k e ms =
     let xs = each_if o ts in
@@ -195,7 +195,7 @@ sets_met d o i ts us hs es h k e ms =
       marks = λ _. ap (λ zs. zs ++ seen ms) (ap₂ (marks_of d) (set_members o ts) (set_members i us) ∙ sets_marks d xs ys);
     }
 
-pub sets_unmet : (d : Design) (o i : Option Extension) (ts us : Terms) (hs es : List Part) → AreParts d true hs (extended_list o (listed ts)) → AreParts d false es (extended_list i (listed us)) → (length hs ≡ length es → ⊥)
+pub sets_unmet : (d : Context) (o i : Option Extension) (ts us : Terms) (hs es : List Part) → AreParts d true hs (extended_list o (listed ts)) → AreParts d false es (extended_list i (listed us)) → (length hs ≡ length es → ⊥)
     → meets d (extended_if o (term.Set ts)) (extended_if i (term.Set us)) ≡ false
 sets_unmet d o i ts us hs es h k n =
     ap₂ (meets d) (set_members o ts) (set_members i us)
@@ -212,21 +212,21 @@ and_true : (a : Bool) → (a && true) ≡ a
 and_true true = refl
 and_true false = refl
 
-meet_append : (d : Design) (xs ys : List (Term × Term)) → pairs_meet d (xs ++ ys) ≡ (pairs_meet d xs && pairs_meet d ys)
+meet_append : (d : Context) (xs ys : List (Term × Term)) → pairs_meet d (xs ++ ys) ≡ (pairs_meet d xs && pairs_meet d ys)
 meet_append d [] ys = refl
 meet_append d (x ∷ xs) ys = ap (λ b. meets d x.0 x.1 && b) (meet_append d xs ys) ∙ sym (and_assoc (meets d x.0 x.1) (pairs_meet d xs) (pairs_meet d ys))
 
-marks_append : (d : Design) (xs ys : List (Term × Term)) → pairs_marks d (xs ++ ys) ≡ pairs_marks d xs ++ pairs_marks d ys
+marks_append : (d : Context) (xs ys : List (Term × Term)) → pairs_marks d (xs ++ ys) ≡ pairs_marks d xs ++ pairs_marks d ys
 marks_append d [] ys = refl
 marks_append d (x ∷ xs) ys = ap (λ ms. marks_of d x.0 x.1 ++ ms) (marks_append d xs ys) ∙ sym (append_assoc (marks_of d x.0 x.1) (pairs_marks d xs) (pairs_marks d ys))
 
-pairs_append : (d : Design) (ps qs : List Pair) (xs ys : List (Term × Term)) → ArePairs d ps xs → ArePairs d qs ys → ArePairs d (ps ++ qs) (xs ++ ys)
+pairs_append : (d : Context) (ps qs : List Pair) (xs ys : List (Term × Term)) → ArePairs d ps xs → ArePairs d qs ys → ArePairs d (ps ++ qs) (xs ++ ys)
 pairs_append d [] qs [] ys h k = k
 pairs_append d [] qs (x ∷ xs) ys h k = absurd h
 pairs_append d (p ∷ ps) qs [] ys h k = absurd h
 pairs_append d (p ∷ ps) qs (x ∷ xs) ys h k = (h.0, pairs_append d ps qs xs ys h.1 k)
 
-record Last (d : Design) (ps : List Pair) (p : Pair) (xs : List (Term × Term)) : Type 0 where
+record Last (d : Context) (ps : List Pair) (p : Pair) (xs : List (Term × Term)) : Type 0 where
   pub front : List (Term × Term)
   pub header : Term
   pub entry : Term
@@ -235,7 +235,7 @@ record Last (d : Design) (ps : List Pair) (p : Pair) (xs : List (Term × Term)) 
   pub one : IsPart d true p.header header
   pub other : IsPart d false p.given entry
 
-last_pair : (d : Design) (ps : List Pair) (p : Pair) (xs : List (Term × Term)) → ArePairs d (ps ++ p ∷ []) xs → Last d ps p xs
+last_pair : (d : Context) (ps : List Pair) (p : Pair) (xs : List (Term × Term)) → ArePairs d (ps ++ p ∷ []) xs → Last d ps p xs
 last_pair d [] p [] h = absurd h
 last_pair d [] p (x ∷ []) h = record { front = []; header = x.0; entry = x.1; is = refl; stand = tt; one = h.0.0; other = h.0.1 }
 last_pair d [] p (x ∷ (y ∷ xs)) h = absurd h.1
@@ -253,10 +253,10 @@ right_true true b e = e
 right_true false b e = absurd cc
 
 -- the pairs with the last one apart
-apart : (d : Design) (front : List (Term × Term)) (x y : Term) → pairs_meet d (front ++ (x, y) ∷ []) ≡ (pairs_meet d front && meets d x y)
+apart : (d : Context) (front : List (Term × Term)) (x y : Term) → pairs_meet d (front ++ (x, y) ∷ []) ≡ (pairs_meet d front && meets d x y)
 apart d front x y = meet_append d front ((x, y) ∷ []) ∙ ap (λ b. pairs_meet d front && b) (and_true (meets d x y))
 
-pub walk_on : (d : Design) (h e : Term) (rest later : List Pair) (p : Pair) (old new : List Mark) → Walked d h e (rest ++ p ∷ []) old
+pub walk_on : (d : Context) (h e : Term) (rest later : List Pair) (p : Pair) (old new : List Mark) → Walked d h e (rest ++ p ∷ []) old
     → ((x y : Term) → IsPart d true p.header x → IsPart d false p.given y → Stepped d x y rest later old new) → Walked d h e later new
 walk_on d h e rest later p old new w by =
     let l = last_pair d rest p w.pairs w.stand in
@@ -276,20 +276,20 @@ walk_on d h e rest later p old new w by =
           ∙ ap (λ xs. xs ++ seen new) (sym (marks_append d l.front s.met.pairs));
     }
 
-pub walk_stops : (d : Design) (h e : Term) (rest : List Pair) (p : Pair) (old : List Mark) → Walked d h e (rest ++ p ∷ []) old
+pub walk_stops : (d : Context) (h e : Term) (rest : List Pair) (p : Pair) (old : List Mark) → Walked d h e (rest ++ p ∷ []) old
     → ((x y : Term) → IsPart d true p.header x → IsPart d false p.given y → meets d x y ≡ false) → meets d h e ≡ false
 walk_stops d h e rest p old w by =
     let l = last_pair d rest p w.pairs w.stand in
     w.meets ∙ ap (pairs_meet d) l.is ∙ apart d l.front l.header l.entry ∙ ap (λ b. pairs_meet d l.front && b) (by l.header l.entry l.one l.other) ∙ and_none (pairs_meet d l.front)
 
-pub walk_done : (d : Design) (h e : Term) (out : List Mark) → Walked d h e [] out → (meets d h e ≡ true) × (seen out ≡ marks_of d h e)
+pub walk_done : (d : Context) (h e : Term) (out : List Mark) → Walked d h e [] out → (meets d h e ≡ true) × (seen out ≡ marks_of d h e)
 walk_done d h e out w = by_pairs w.pairs w.stand w.meets w.marks
   where
     by_pairs : (xs : List (Term × Term)) → ArePairs d [] xs → meets d h e ≡ pairs_meet d xs → (pairs_meet d xs ≡ true → marks_of d h e ≡ pairs_marks d xs ++ seen out) → (meets d h e ≡ true) × (seen out ≡ marks_of d h e)
     by_pairs [] s m g = (m, sym (g refl))
     by_pairs (x ∷ xs) s m g = absurd s
 
-pub walk_begun : (d : Design) (h e : Term) (p q : Part) → IsPart d true p h → IsPart d false q e → Walked d h e (record { header = p; given = q } ∷ []) []
+pub walk_begun : (d : Context) (h e : Term) (p q : Part) → IsPart d true p h → IsPart d false q e → Walked d h e (record { header = p; given = q } ∷ []) []
 walk_begun d h e p q a b =
     record {
       pairs = (h, e) ∷ [];
@@ -304,11 +304,11 @@ seen_turned out = map_reverse view_mark out
 
 -- ---- steps
 
-pub step_push : (d : Design) (h e : Term) (b : Bool) (stack later : List Pair) (ms : List Mark) → IsPush d h e b stack later → IsStep d h e b stack later ms ms
+pub step_push : (d : Context) (h e : Term) (b : Bool) (stack later : List Pair) (ms : List Mark) → IsPush d h e b stack later → IsStep d h e b stack later ms ms
 step_push d h e false stack later ms p = p
 step_push d h e true stack later ms p = p ms
 
-pub step_whole : (d : Design) (h e : Term) (b : Bool) (stack : List Pair) (old new : List Mark) → Whole d h e b old new → IsStep d h e b stack stack old new
+pub step_whole : (d : Context) (h e : Term) (b : Bool) (stack : List Pair) (old new : List Mark) → Whole d h e b old new → IsStep d h e b stack stack old new
 step_whole d h e false stack old new p = p
 step_whole d h e true stack old new p = record { more = []; pushed = sym (append-nil stack); met = p }
 
@@ -356,7 +356,7 @@ operand_not (term.Read s x) k = refl
 operand_not (term.UnaryOf sign t) k = refl
 operand_not (term.BinaryOf sign t u) k = refl
 
-content_not : (d : Design) (x : Content) (t : Term) → ((ms : Bor (List Member)) (e : Option Extension) → x ≡ content.Set ms e → ⊥) → IsContent d x t → not_set t ≡ true
+content_not : (d : Context) (x : Content) (t : Term) → ((ms : Bor (List Member)) (e : Option Extension) → x ≡ content.Set ms e → ⊥) → IsContent d x t → not_set t ≡ true
 unfolding not_set
 content_not d (content.Set ms e) t n i = absurd (n ms e refl)
 content_not d (content.Signal s e) t n i = ap not_set i
@@ -366,8 +366,8 @@ content_not d content.Pulsed t n i = ap not_set i
 content_not d content.Released t n i = ap not_set i
 content_not d content.Bits t n i = operand_not t i.operand
 
-pub header_not : (d : Design) (x : Content) (h e : Term) → ((ms : Bor (List Member)) (e : Option Extension) → x ≡ content.Set ms e → ⊥) → IsContent d x h → both_sets h e ≡ false
+pub header_not : (d : Context) (x : Content) (h e : Term) → ((ms : Bor (List Member)) (e : Option Extension) → x ≡ content.Set ms e → ⊥) → IsContent d x h → both_sets h e ≡ false
 header_not d x h e n i = no_header h e (content_not d x h n i)
 
-pub given_not : (d : Design) (x : Content) (h e : Term) → ((ms : Bor (List Member)) (e : Option Extension) → x ≡ content.Set ms e → ⊥) → IsContent d x e → both_sets h e ≡ false
+pub given_not : (d : Context) (x : Content) (h e : Term) → ((ms : Bor (List Member)) (e : Option Extension) → x ≡ content.Set ms e → ⊥) → IsContent d x e → both_sets h e ≡ false
 given_not d x h e n i = no_given h e (content_not d x e n i)

@@ -17,7 +17,7 @@ use Rattle.abel_tree.specs.Entries.{entries_of, view_declared}
 use Rattle.abel_tree.specs.FirstRefusal.{earlier, is_before, first_refusal}
 use Rattle.abel_tree.specs.Tree.{Tree, ANumber, ASpecial, AName, ASet, AParen, AUnary, ABinary, OneMember, SpanMember, members_of}
 use Rattle.abel_tree.specs.View.{view, view_member}
-use Rattle.abel_meaning.specs.Designs.{Design}
+use Rattle.abel_meaning.specs.Designs.{Context}
 use Rattle.abel_meaning.specs.Numbers.{Value, member_width}
 use Rattle.abel_meaning.specs.Terms.{Term, term_of, term_named, extended_if}
 use Rattle.abel_meaning.specs.Values.{constant_of}
@@ -62,26 +62,26 @@ value_width w (Some v) u h k = k ∙ ap member_width h.shape
 
 -- ---- under an extension
 
-pub numeral_extended : (d : Design) (e : Option Extension) (t : Term) (n : ℕ) → is_operand t ≡ true → HasShape (shape.Number n) (constant_of d t) → IsNumeral d (extended_if e t) n
+pub numeral_extended : (d : Context) (e : Option Extension) (t : Term) (n : ℕ) → is_operand t ≡ true → HasShape (shape.Number n) (constant_of d t) → IsNumeral d (extended_if e t) n
 numeral_extended d e t n h k =
     let s = extended_if_same d e t in
     record { operand = operand_extended e t h; shape = s.shape ∙ k.0; number = s.number (s.shape ∙ k.0) ∙ k.1 }
 
-pub single_extended : (d : Design) (e : Option Extension) (t : Term) → is_operand t ≡ true → HasShape shape.Single (constant_of d t) → IsBits d (extended_if e t)
+pub single_extended : (d : Context) (e : Option Extension) (t : Term) → is_operand t ≡ true → HasShape shape.Single (constant_of d t) → IsBits d (extended_if e t)
 single_extended d e t h k = record { operand = operand_extended e t h; shape = ap is_number ((extended_if_same d e t).shape ∙ k) }
 
-pub set_extended : (d : Design) (e : Option Extension) (t : Term) (w : ℕ) → is_operand t ≡ true → HasShape (shape.Set w) (constant_of d t) → IsBits d (extended_if e t)
+pub set_extended : (d : Context) (e : Option Extension) (t : Term) (w : ℕ) → is_operand t ≡ true → HasShape (shape.Set w) (constant_of d t) → IsBits d (extended_if e t)
 set_extended d e t w h k = record { operand = operand_extended e t h; shape = ap is_number ((extended_if_same d e t).shape ∙ k) }
 
-pub width_extended : (d : Design) (e : Option Extension) (t : Term) (w : ℕ) → w ≡ member_width (constant_of d t).shape → w ≡ member_width (constant_of d (extended_if e t)).shape
+pub width_extended : (d : Context) (e : Option Extension) (t : Term) (w : ℕ) → w ≡ member_width (constant_of d t).shape → w ≡ member_width (constant_of d (extended_if e t)).shape
 width_extended d e t w h = h ∙ sym (ap member_width (extended_if_same d e t).shape)
 
 -- ---- over the names of a design
 
-pub over_valued : (n : Names) (d : Design) → IsOver n d → (t : Tree) → IsValued (expression_found (entries_of n) t) (constant_of d (term_of d.known t))
+pub over_valued : (n : Names) (d : Context) → IsOver n d → (t : Tree) → IsValued (expression_found (entries_of n) t) (constant_of d (term_of d.known t))
 over_valued n d is t = subst (λ ks. IsValued (expression_found (entries_of n) t) (constant_of d (term_of ks t))) (sym is.known) (expression_valued d (entries_of n) t)
 
-pub over_named : (n : Names) (d : Design) → IsOver n d → (p : Place) (w : List ℕ) → IsValued (found_use p (name_found (names_found (entries_of n)) w)) (constant_of d (term_named d.known w))
+pub over_named : (n : Names) (d : Context) → IsOver n d → (p : Place) (w : List ℕ) → IsValued (found_use p (name_found (names_found (entries_of n)) w)) (constant_of d (term_named d.known w))
 over_named n d is p w = subst (λ ks. IsValued (found_use p (name_found (names_found (entries_of n)) w)) (constant_of d (term_named ks w))) (sym is.known) (named_valued d (entries_of n) p w)
 
 pub entry_at : (ds : List Declared) (k : ℕ) (x : Declared) → x ≡ get_or ds k x → get_or (map view_declared ds) k (view_declared x) ≡ view_declared x

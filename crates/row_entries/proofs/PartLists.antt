@@ -4,19 +4,19 @@ use Rattle.std.proofs.lemmas.List.{map-append}
 use Rattle.abel_tree.specs.declared.words.Extension.{Extension}
 use Rattle.abel_tree.specs.Ranges.{range_names}
 use Rattle.abel_tree.specs.Tree.{SetMember, OneMember, SpanMember, members_of}
-use Rattle.abel_meaning.specs.Designs.{Design}
+use Rattle.abel_meaning.specs.Designs.{Context}
 use Rattle.abel_meaning.specs.Terms.{Term, Terms, NoTerm, Before, Known, Set, extended_if, extended, extended_each, term_named, named_before, member_before, terms_of}
 use Rattle.row_entries.specs.declared.part.Part.{Part}
 use Rattle.row_entries.specs.EntryTerms.{listed, extended_list}
 use Rattle.row_entries.specs.PartTerms.{IsPart, AreParts}
 
-pub parts_push : (d : Design) (s : Bool) (ps : List Part) (ts : List Term) (p : Part) (t : Term) → AreParts d s ps ts → IsPart d s p t → AreParts d s (ps ++ p ∷ []) (ts ++ t ∷ [])
+pub parts_push : (d : Context) (s : Bool) (ps : List Part) (ts : List Term) (p : Part) (t : Term) → AreParts d s ps ts → IsPart d s p t → AreParts d s (ps ++ p ∷ []) (ts ++ t ∷ [])
 parts_push d s [] [] p t h g = (g, tt)
 parts_push d s (q ∷ ps) (u ∷ ts) p t h g = (h.0, parts_push d s ps ts p t h.1 g)
 parts_push d s [] (u ∷ ts) p t h g = absurd h
 parts_push d s (q ∷ ps) [] p t h g = absurd h
 
-pub parts_length : (d : Design) (s : Bool) (ps : List Part) (ts : List Term) → AreParts d s ps ts → length ps ≡ length ts
+pub parts_length : (d : Context) (s : Bool) (ps : List Part) (ts : List Term) → AreParts d s ps ts → length ps ≡ length ts
 parts_length d s [] [] h = refl
 parts_length d s (q ∷ ps) (u ∷ ts) h = ap suc (parts_length d s ps ts h.1)
 parts_length d s [] (u ∷ ts) h = absurd h

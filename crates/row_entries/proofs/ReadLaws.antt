@@ -4,7 +4,7 @@ use Rattle.abel_tree.specs.declared.names.Names.{Names}
 use Rattle.abel_tree.specs.Entries.{entries_of}
 use Rattle.abel_tree.specs.FirstRefusal.{first_refusal}
 use Rattle.abel_tree.specs.Tree.{Tree}
-use Rattle.abel_meaning.specs.Designs.{Design}
+use Rattle.abel_meaning.specs.Designs.{Context}
 use Rattle.abel_meaning.specs.Terms.{Term, term_of}
 use Rattle.set_expr.specs.declared.fault.SectionFault.{SectionFault}
 use Rattle.set_expr.specs.FoundNames.{names_found}
@@ -27,17 +27,17 @@ none_met [] r true e h = refl
 none_met [] r false e h = absurd cc
 none_met (x ∷ xs) r b e h = absurd cc
 
-pub read_refused : (n : Names) (d : Design) → IsOver n d → (r f : SectionFault) (h : Term) (t : Tree) (o : Option SectionFault) → o ≡ first_refusal section_order (refused_inside (names_found (entries_of n)) r t) → o ≡ Some f → first_refusal section_order (entry_refused d r h t) ≡ Some f
+pub read_refused : (n : Names) (d : Context) → IsOver n d → (r f : SectionFault) (h : Term) (t : Tree) (o : Option SectionFault) → o ≡ first_refusal section_order (refused_inside (names_found (entries_of n)) r t) → o ≡ Some f → first_refusal section_order (entry_refused d r h t) ≡ Some f
 read_refused n d is r f h t o e s =
     subst (λ es. first_refusal section_order (unless_met (refused_inside (names_found es) r t) r (meets d h (term_of d.known t))) ≡ Some f) (sym is.names)
     (inside_first (refused_inside (names_found (entries_of n)) r t) r f (meets d h (term_of d.known t)) (sym s ∙ e))
 
-pub read_unmet : (n : Names) (d : Design) → IsOver n d → (r : SectionFault) (h : Term) (t : Tree) (o : Option SectionFault) → o ≡ first_refusal section_order (refused_inside (names_found (entries_of n)) r t) → o ≡ None → meets d h (term_of d.known t) ≡ false → first_refusal section_order (entry_refused d r h t) ≡ Some r
+pub read_unmet : (n : Names) (d : Context) → IsOver n d → (r : SectionFault) (h : Term) (t : Tree) (o : Option SectionFault) → o ≡ first_refusal section_order (refused_inside (names_found (entries_of n)) r t) → o ≡ None → meets d h (term_of d.known t) ≡ false → first_refusal section_order (entry_refused d r h t) ≡ Some r
 read_unmet n d is r h t o e s m =
     subst (λ es. first_refusal section_order (unless_met (refused_inside (names_found es) r t) r (meets d h (term_of d.known t))) ≡ Some r) (sym is.names)
     (ap (first_refusal section_order) (none_unmet (refused_inside (names_found (entries_of n)) r t) r (meets d h (term_of d.known t)) (none_refused (refused_inside (names_found (entries_of n)) r t) (sym e ∙ s)) m))
 
-pub read_met : (n : Names) (d : Design) → IsOver n d → (r : SectionFault) (h : Term) (t : Tree) (o : Option SectionFault) → o ≡ first_refusal section_order (refused_inside (names_found (entries_of n)) r t) → o ≡ None → meets d h (term_of d.known t) ≡ true → entry_refused d r h t ≡ []
+pub read_met : (n : Names) (d : Context) → IsOver n d → (r : SectionFault) (h : Term) (t : Tree) (o : Option SectionFault) → o ≡ first_refusal section_order (refused_inside (names_found (entries_of n)) r t) → o ≡ None → meets d h (term_of d.known t) ≡ true → entry_refused d r h t ≡ []
 read_met n d is r h t o e s m =
     subst (λ es. unless_met (refused_inside (names_found es) r t) r (meets d h (term_of d.known t)) ≡ []) (sym is.names)
     (none_met (refused_inside (names_found (entries_of n)) r t) r (meets d h (term_of d.known t)) (none_refused (refused_inside (names_found (entries_of n)) r t) (sym e ∙ s)) m)

@@ -11,8 +11,8 @@ use Rattle.abel_tree.specs.declared.words.Unary.TheVariants as unary
 use Rattle.abel_tree.specs.Entries.{Kind, APin, AConstant, Entry}
 use Rattle.abel_tree.specs.Tree.{Tree, ANumber, ASpecial, AName, ASet, AParen, AUnary, ABinary, SetMember, OneMember, members_of}
 use Rattle.abel_meaning.specs.Declarations.{no_words}
-use Rattle.abel_meaning.specs.Designs.{Design}
-use Rattle.abel_meaning.specs.Terms.{known_of, term_of}
+use Rattle.abel_meaning.specs.Designs.{Context, context_of}
+use Rattle.abel_meaning.specs.Terms.{term_of}
 use Rattle.set_expr.specs.declared.fault.SectionFault.{SectionFault}
 use Rattle.set_expr.specs.declared.fault.SectionFault.TheVariants.{MisplacedSpecial, NotConstant, ZeroDivisor, BadRow}
 use Rattle.row_entries.specs.RowEntries.{entry_refused}
@@ -57,8 +57,8 @@ names =
     ∷ declared "k" (AConstant (AParen (at 1) pulse)) ∷ declared "z" (AConstant release)
     ∷ declared "m" (AConstant (set (number 0 ∷ unknown ∷ []))) ∷ []
 
-abbrev design : Design
-design = record { device = sample; names = names; known = known_of names; starts_dontcare = false; sections = [] }
+abbrev design : Context
+design = context_of sample names
 
 -- a row that begins at column 1, under a header
 abbrev refused : (header entry : Tree) → List SectionFault

@@ -2,7 +2,7 @@
 use Rattle.std.proofs.Common.{◌≡◌, ℕ, Bool, true, false, ◌&&◌, Option, None, Some, List, [], ◌∷◌, ◌++◌, reverse, refl, sym, ap, ◌∙◌, subst, append_assoc, append-nil}
 use Rattle.std.proofs.lemmas.List.{reverse-append}
 use Rattle.abel_tree.specs.declared.words.Extension.{Extension}
-use Rattle.abel_meaning.specs.Designs.{Design}
+use Rattle.abel_meaning.specs.Designs.{Context}
 use Rattle.abel_meaning.specs.Targets.{targets_of, all_targets}
 use Rattle.abel_meaning.specs.Terms.{Term, Terms, extended_if}
 use Rattle.abel_meaning.specs.Terms as term
@@ -23,7 +23,7 @@ listed_signals : (ts : Terms) → all_targets ts ≡ all_signals (listed ts)
 listed_signals term.NoTerm = refl
 listed_signals (term.Before t ts) = ap (λ ss. targets_of t ++ ss) (listed_signals ts)
 
-pub put_set : (d : Design) (t : Term) (e : Option Extension) (ts : Terms) (ps stack later : List Part) (ss : List (Option ℕ)) → t ≡ extended_if e (term.Set ts) → AreParts d false ps (extended_list e (listed ts)) → later ≡ stack ++ ps → Put d t stack later ss ss
+pub put_set : (d : Context) (t : Term) (e : Option Extension) (ts : Terms) (ps stack later : List Part) (ss : List (Option ℕ)) → t ≡ extended_if e (term.Set ts) → AreParts d false ps (extended_list e (listed ts)) → later ≡ stack ++ ps → Put d t stack later ss ss
 put_set d t e ts ps stack later ss h k p =
     let us = each_if e ts in
     let all : listed us ≡ extended_list e (listed ts) = each_listed e ts in
@@ -37,7 +37,7 @@ put_set d t e ts ps stack later ss h k p =
     }
 
 -- one position
-put_one : (d : Design) (t : Term) (s : Option ℕ) (stack : List Part) (old new : List (Option ℕ)) → names_positions t ≡ true → targets_of t ≡ s ∷ [] → new ≡ old ++ s ∷ [] → Put d t stack stack old new
+put_one : (d : Context) (t : Term) (s : Option ℕ) (stack : List Part) (old new : List (Option ℕ)) → names_positions t ≡ true → targets_of t ≡ s ∷ [] → new ≡ old ++ s ∷ [] → Put d t stack stack old new
 put_one d t s stack old new n k p =
     record {
       more = [];
@@ -48,10 +48,10 @@ put_one d t s stack old new n k p =
       signals = λ _. ap (λ xs. xs ++ reverse old) k ∙ sym (ap reverse p ∙ reverse-append old (s ∷ []));
     }
 
-pub put_unknown : (d : Design) (t : Term) (stack : List Part) (old new : List (Option ℕ)) → t ≡ term.X → new ≡ old ++ None ∷ [] → Put d t stack stack old new
+pub put_unknown : (d : Context) (t : Term) (stack : List Part) (old new : List (Option ℕ)) → t ≡ term.X → new ≡ old ++ None ∷ [] → Put d t stack stack old new
 put_unknown d t stack old new h p = put_one d t None stack old new (ap names_positions h) (ap targets_of h) p
 
-pub put_read : (d : Design) (t : Term) (s : ℕ) (stack : List Part) (old new : List (Option ℕ)) → t ≡ term.Read s None → new ≡ old ++ Some s ∷ [] → Put d t stack stack old new
+pub put_read : (d : Context) (t : Term) (s : ℕ) (stack : List Part) (old new : List (Option ℕ)) → t ≡ term.Read s None → new ≡ old ++ Some s ∷ [] → Put d t stack stack old new
 put_read d t s stack old new h p = put_one d t (Some s) stack old new (ap names_positions h) (ap targets_of h) p
 
 pub operand_unnamed : (t : Term) → is_operand t ≡ true → names_positions t ≡ false
@@ -90,20 +90,20 @@ signals_append : (xs ys : List Term) → all_signals (xs ++ ys) ≡ all_signals 
 signals_append [] ys = refl
 signals_append (x ∷ xs) ys = ap (λ ss. targets_of x ++ ss) (signals_append xs ys) ∙ sym (append_assoc (targets_of x) (all_signals xs) (all_signals ys))
 
-parts_append : (d : Design) (ps qs : List Part) (xs ys : List Term) → AreParts d false ps xs → AreParts d false qs ys → AreParts d false (ps ++ qs) (xs ++ ys)
+parts_append : (d : Context) (ps qs : List Part) (xs ys : List Term) → AreParts d false ps xs → AreParts d false qs ys → AreParts d false (ps ++ qs) (xs ++ ys)
 parts_append d [] qs [] ys h k = k
 parts_append d [] qs (x ∷ xs) ys h k = absurd h
 parts_append d (p ∷ ps) qs [] ys h k = absurd h
 parts_append d (p ∷ ps) qs (x ∷ xs) ys h k = (h.0, parts_append d ps qs xs ys h.1 k)
 
-record LastPart (d : Design) (ps : List Part) (p : Part) (xs : List Term) : Type 0 where
+record LastPart (d : Context) (ps : List Part) (p : Part) (xs : List Term) : Type 0 where
   pub front : List Term
   pub last : Term
   pub is : xs ≡ front ++ last ∷ []
   pub stand : AreParts d false ps front
   pub one : IsPart d false p last
 
-last_part : (d : Design) (ps : List Part) (p : Part) (xs : List Term) → AreParts d false (ps ++ p ∷ []) xs → LastPart d ps p xs
+last_part : (d : Context) (ps : List Part) (p : Part) (xs : List Term) → AreParts d false (ps ++ p ∷ []) xs → LastPart d ps p xs
 last_part d [] p [] h = absurd h
 last_part d [] p (x ∷ []) h = record { front = []; last = x; is = refl; stand = tt; one = h.0 }
 last_part d [] p (x ∷ (y ∷ xs)) h = absurd h.1
@@ -115,7 +115,7 @@ last_part d (q ∷ ps) p (x ∷ xs) h =
 apart : (front : List Term) (t : Term) → all_named (front ++ t ∷ []) ≡ (all_named front && names_positions t)
 apart front t = named_append front (t ∷ []) ∙ ap (λ b. all_named front && b) (and_true (names_positions t))
 
-pub list_on : (d : Design) (h : Term) (rest later : List Part) (p : Part) (old new : List (Option ℕ)) → Listing d h (rest ++ p ∷ []) old
+pub list_on : (d : Context) (h : Term) (rest later : List Part) (p : Part) (old new : List (Option ℕ)) → Listing d h (rest ++ p ∷ []) old
     → ((t : Term) → IsPart d false p t → Put d t rest later old new) → Listing d h later new
 list_on d h rest later p old new w by =
     let l = last_part d rest p w.terms w.stand in
@@ -135,20 +135,20 @@ list_on d h rest later p old new w by =
           ∙ ap (λ xs. xs ++ reverse new) (sym (signals_append l.front s.terms));
     }
 
-pub list_stops : (d : Design) (h : Term) (rest : List Part) (p : Part) (old : List (Option ℕ)) → Listing d h (rest ++ p ∷ []) old
+pub list_stops : (d : Context) (h : Term) (rest : List Part) (p : Part) (old : List (Option ℕ)) → Listing d h (rest ++ p ∷ []) old
     → ((t : Term) → IsPart d false p t → names_positions t ≡ false) → names_positions h ≡ false
 list_stops d h rest p old w by =
     let l = last_part d rest p w.terms w.stand in
     w.named ∙ ap all_named l.is ∙ apart l.front l.last ∙ ap (λ b. all_named l.front && b) (by l.last l.one) ∙ and_none (all_named l.front)
 
-pub list_done : (d : Design) (h : Term) (out : List (Option ℕ)) → Listing d h [] out → (names_positions h ≡ true) × (reverse out ≡ targets_of h)
+pub list_done : (d : Context) (h : Term) (out : List (Option ℕ)) → Listing d h [] out → (names_positions h ≡ true) × (reverse out ≡ targets_of h)
 list_done d h out w = by_terms w.terms w.stand w.named w.signals
   where
     by_terms : (xs : List Term) → AreParts d false [] xs → names_positions h ≡ all_named xs → (all_named xs ≡ true → targets_of h ≡ all_signals xs ++ reverse out) → (names_positions h ≡ true) × (reverse out ≡ targets_of h)
     by_terms [] s m g = (m, sym (g refl))
     by_terms (x ∷ xs) s m g = absurd s
 
-pub list_begun : (d : Design) (h : Term) (p : Part) → IsPart d false p h → Listing d h (p ∷ []) []
+pub list_begun : (d : Context) (h : Term) (p : Part) → IsPart d false p h → Listing d h (p ∷ []) []
 list_begun d h p a =
     record {
       terms = h ∷ [];

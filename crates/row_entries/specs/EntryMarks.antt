@@ -3,7 +3,7 @@ use Rattle.std.specs.Prelude.{◌≡◌, true, false, Option, None, Some, [], ma
 use Rattle.std.specs.Global.{Vec}
 use Rattle.abel_tree.specs.FirstRefusal.{first_refusal}
 use Rattle.abel_tree.specs.Tree.{Tree}
-use Rattle.abel_meaning.specs.Designs.{Design}
+use Rattle.abel_meaning.specs.Designs.{Context}
 use Rattle.abel_meaning.specs.Rows.{marks_of}
 use Rattle.abel_meaning.specs.Rows as meant
 use Rattle.abel_meaning.specs.Terms.{Term, term_of}
@@ -22,11 +22,11 @@ view_mark mark.Pulsed = meant.Pulsed
 view_mark mark.Released = meant.Released
 
 -- what an entry says of each position of a header that it meets, from the left
-abbrev pub IsMarked : Design → (header entry : Term) → Option (Vec Mark) → Type 0
+abbrev pub IsMarked : Context → (header entry : Term) → Option (Vec Mark) → Type 0
 IsMarked d h e None = meets d h e ≡ false
 IsMarked d h e (Some ms) = (meets d h e ≡ true) × (map view_mark ms.items ≡ marks_of d h e)
 
 -- what is found of an entry under its header, in a row that is refused so
-abbrev pub IsRead : Design → (row : SectionFault) → (header : Term) → (entry : Tree) → Entry → Type 0
+abbrev pub IsRead : Context → (row : SectionFault) → (header : Term) → (entry : Tree) → Entry → Type 0
 IsRead d r h t (entry.Refused f) = first_refusal section_order (entry_refused d r h t) ≡ Some f
 IsRead d r h t (entry.Marks ms) = (entry_refused d r h t ≡ []) × (map view_mark ms.items ≡ marks_of d h (term_of d.known t))

@@ -5,7 +5,7 @@ use Rattle.std.specs.Prelude.{ℕ, Bool, true, false, ◌&&◌, ◌||◌, List, 
 use Rattle.std.specs.List.{list_any}
 use Rattle.abel_tree.specs.Ranges.{range_names}
 use Rattle.abel_tree.specs.Tree.{Tree, ANumber, ASpecial, AName, ASet, AParen, AUnary, ABinary, SetMember, OneMember, SpanMember, Members, NoMember, MoreMembers}
-use Rattle.abel_meaning.specs.Designs.{Design}
+use Rattle.abel_meaning.specs.Designs.{Context}
 use Rattle.abel_meaning.specs.Numbers as number
 use Rattle.abel_meaning.specs.Terms.{Term, Terms, term_of}
 use Rattle.abel_meaning.specs.Terms as term
@@ -22,7 +22,7 @@ is_number number.Single = false
 is_number (number.Set w) = false
 
 -- an entry that meets any part of a header whole: a number or a special
-abbrev pub meets_whole : Design → Term → Bool
+abbrev pub meets_whole : Context → Term → Bool
 meets_whole d term.X = true
 meets_whole d term.Pulse = true
 meets_whole d term.Release = true
@@ -32,11 +32,11 @@ meets_whole d t = is_number (constant_of d t).shape
 
 -- a set meets a set of as many members, member by member
 abbrev mutual
-  pub meets : Design → (header entry : Term) → Bool
+  pub meets : Context → (header entry : Term) → Bool
   meets d (term.Set hs) (term.Set es) = all_meet d hs es
   meets d h e = meets_whole d e
 
-  pub all_meet : Design → (headers entries : Terms) → Bool
+  pub all_meet : Context → (headers entries : Terms) → Bool
   all_meet d term.NoTerm term.NoTerm = true
   all_meet d term.NoTerm (term.Before e es) = false
   all_meet d (term.Before h hs) term.NoTerm = false
@@ -103,5 +103,5 @@ unless_met [] r false = r ∷ []
 unless_met (x ∷ xs) r met = x ∷ xs
 
 -- what is refused of an entry under a header
-abbrev pub entry_refused : Design → (r : SectionFault) → (header : Term) → (entry : Tree) → List SectionFault
+abbrev pub entry_refused : Context → (r : SectionFault) → (header : Term) → (entry : Tree) → List SectionFault
 entry_refused d r h t = unless_met (refused_inside (names_found d.names) r t) r (meets d h (term_of d.known t))

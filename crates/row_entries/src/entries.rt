@@ -1,20 +1,18 @@
 //! Entries of rows under their headers.
 
 ghost use Rattle.std.specs.Prelude.{IfOk};
-ghost use Rattle.abel_tree.specs.Entries.{entries_of};
 ghost use Rattle.abel_tree.specs.View.{view};
-ghost use Rattle.abel_meaning.specs.Designs.{Design};
+ghost use Rattle.abel_meaning.specs.Designs.{Context};
 ghost use Rattle.abel_meaning.specs.Terms.{term_of};
-ghost use Rattle.set_expr.specs.KnownNames.{IsKnown};
 ghost use Rattle.row_entries.specs.EntryMarks.{IsRead};
-ghost use Rattle.row_entries.specs.EntryTerms.{IsOver, AreInOrder};
+ghost use Rattle.row_entries.specs.EntryTerms.{IsOver};
 
 use crate::inside::refuse_inside;
 use crate::mark::Mark;
 use crate::marks::entry_marks;
-use abel_tree::{Expr, Names};
+use abel_tree::Expr;
 use pld_base::OutOfMemory;
-use set_expr::{KnownNames, SectionFault};
+use set_expr::{Scope, SectionFault};
 use std::alloc::Global;
 
 /// What is found of an entry under its header: its first refusal, or its marks at the header's positions, from the
@@ -30,21 +28,18 @@ pub enum Entry {
 /// that constants stand for.
 pub fn read_entry(
     alloc: Global,
-    names: &Names,
-    known: &KnownNames,
+    scope: &Scope<'_>,
     row: SectionFault,
     header: &Expr,
     entry: &Expr,
 ) -> Result<Entry, OutOfMemory>
-    requires known { IsKnown (entries_of names.now) known.now }
-    requires order { AreInOrder (entries_of names.now) }
-    ensures { IfOk result (λ r. (d : Design) → IsOver names.now d → IsRead d row (term_of d.known (view header.now)) (view entry.now) r) }
+    ensures { IfOk result (λ r. (d : Context) → IsOver scope.now d → IsRead d row (term_of d.known (view header.now)) (view entry.now) r) }
 {
-    let inside = refuse_inside(alloc, names, known, row, entry)?;
+    let inside = refuse_inside(alloc, scope, row, entry)?;
     match inside {
         Some(fault) => Ok(Entry::Refused(fault)),
         None => {
-            let found = entry_marks(alloc, names, known, header, entry)?;
+            let found = entry_marks(alloc, scope, header, entry)?;
             match found {
                 Some(marks) => Ok(Entry::Marks(marks)),
                 None => Ok(Entry::Refused(row)),

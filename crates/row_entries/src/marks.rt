@@ -1,37 +1,32 @@
 //! The marks of an entry at the positions of its header.
 
 ghost use Rattle.std.specs.Prelude.{◌≡◌, [], IfOk, reverse};
-ghost use Rattle.abel_tree.specs.Entries.{entries_of};
 ghost use Rattle.abel_tree.specs.View.{view};
-ghost use Rattle.abel_meaning.specs.Designs.{Design};
+ghost use Rattle.abel_meaning.specs.Designs.{Context};
 ghost use Rattle.abel_meaning.specs.Terms.{term_of};
-ghost use Rattle.set_expr.specs.KnownNames.{IsKnown};
 ghost use Rattle.row_entries.specs.EntryMarks.{IsMarked};
-ghost use Rattle.row_entries.specs.EntryTerms.{IsOver, AreInOrder};
+ghost use Rattle.row_entries.specs.EntryTerms.{IsOver};
 ghost use Rattle.row_entries.specs.PairTerms.{Walked};
 
 use crate::mark::Mark;
 use crate::pairs::{Pair, step};
 use crate::parts::part_of;
-use abel_tree::{Expr, Names};
+use abel_tree::Expr;
 use pld_base::OutOfMemory;
-use set_expr::KnownNames;
+use set_expr::Scope;
 use std::alloc::Global;
 
 /// A header beside an entry.
 fn begun<'a>(
     alloc: Global,
-    names: &'a Names,
-    known: &KnownNames,
+    scope: &Scope<'a>,
     header: &'a Expr,
     entry: &'a Expr,
 ) -> Result<Vec<Pair<'a>>, OutOfMemory>
-    requires known { IsKnown (entries_of names.now) known.now }
-    requires order { AreInOrder (entries_of names.now) }
-    ensures { IfOk result (λ stack. (d : Design) → IsOver names.now d → Walked d (term_of d.known (view header.now)) (term_of d.known (view entry.now)) stack.items []) }
+    ensures { IfOk result (λ stack. (d : Context) → IsOver scope.now d → Walked d (term_of d.known (view header.now)) (term_of d.known (view entry.now)) stack.items []) }
 {
-    let header = part_of(alloc, names, known, header, None, true)?;
-    let entry = part_of(alloc, names, known, entry, None, false)?;
+    let header = part_of(alloc, scope, header, None, true)?;
+    let entry = part_of(alloc, scope, entry, None, false)?;
     let mut stack = Vec::new(alloc);
     stack.push(Pair {
         header,
@@ -54,22 +49,19 @@ fn turned(marks: Vec<Mark>) -> Vec<Mark>
 /// stack, so that no call goes as deep as constants nest.
 pub(crate) fn entry_marks(
     alloc: Global,
-    names: &Names,
-    known: &KnownNames,
+    scope: &Scope<'_>,
     header: &Expr,
     entry: &Expr,
 ) -> Result<Option<Vec<Mark>>, OutOfMemory>
-    requires known { IsKnown (entries_of names.now) known.now }
-    requires order { AreInOrder (entries_of names.now) }
-    ensures { IfOk result (λ ms. (d : Design) → IsOver names.now d → IsMarked d (term_of d.known (view header.now)) (term_of d.known (view entry.now)) ms) }
+    ensures { IfOk result (λ ms. (d : Context) → IsOver scope.now d → IsMarked d (term_of d.known (view header.now)) (term_of d.known (view entry.now)) ms) }
 {
     let mut marks = Vec::new(alloc);
-    let mut stack = begun(alloc, names, known, header, entry)?;
+    let mut stack = begun(alloc, scope, header, entry)?;
     for _step in 0..u64::MAX {
         match stack.pop() {
             None => return Ok(Some(turned(marks))),
             Some(pair) => {
-                if !step(alloc, names, known, pair, &mut stack, &mut marks)? {
+                if !step(alloc, scope, pair, &mut stack, &mut marks)? {
                     return Ok(None);
                 }
             }

@@ -1,27 +1,25 @@
 //! Parts of headers beside what stands for them in entries, met one by one from the last on.
 
-ghost use Rattle.std.specs.Prelude.{◌≡◌, ◌++◌, Bool, true, false, List, [], length, map, replicate, IfOk, OnOk};
-ghost use Rattle.abel_tree.specs.Entries.{entries_of};
+ghost use Rattle.std.specs.Prelude.{◌≡◌, ◌++◌, true, false, [], length, map, replicate, IfOk, OnOk};
 ghost use Rattle.abel_tree.specs.Tree.{members_of};
 ghost use Rattle.abel_tree.specs.View.{view_member};
-ghost use Rattle.abel_meaning.specs.Designs.{Design};
+ghost use Rattle.abel_meaning.specs.Designs.{Context};
 ghost use Rattle.abel_meaning.specs.Numbers.{digits_low_first, member_width};
 ghost use Rattle.abel_meaning.specs.Rows as meant;
 ghost use Rattle.abel_meaning.specs.Terms.{Term, terms_of, extended_if};
 ghost use Rattle.abel_meaning.specs.Terms as term;
 ghost use Rattle.abel_meaning.specs.Values.{constant_of};
-ghost use Rattle.set_expr.specs.KnownNames.{IsKnown};
 ghost use Rattle.row_entries.specs.EntryMarks.{view_mark};
-ghost use Rattle.row_entries.specs.EntryTerms.{IsOver, AreInOrder};
+ghost use Rattle.row_entries.specs.EntryTerms.{IsOver};
 ghost use Rattle.row_entries.specs.PairTerms.{both_sets, paired, Whole, IsStep, IsPush};
 ghost use Rattle.row_entries.specs.PartTerms.{IsContent, IsPart};
 
 use crate::mark::Mark;
 use crate::part::{Content, Part};
 use crate::parts::parts_of;
-use abel_tree::{Extension, Member, Names};
+use abel_tree::{Extension, Member};
 use pld_base::OutOfMemory;
-use set_expr::KnownNames;
+use set_expr::Scope;
 use std::alloc::Global;
 
 /// A part of a header with its width, and what stands for it in an entry.
@@ -56,7 +54,7 @@ fn push_levels(marks: &mut Vec<Mark>, width: u8, number: u32) -> Result<(), OutO
 /// The marks of an entry that meets a part of so many positions as a whole, from the last position on; false for one
 /// that doesn't.
 fn put_whole(marks: &mut Vec<Mark>, width: u8, content: Content<'_>) -> Result<bool, OutOfMemory>
-    ensures { IfOk result (λ b. (d : Design) (h e : Term) → IsContent d content.entry e → both_sets h e ≡ false → width ≡ member_width (constant_of d h).shape → Whole d h e b marks.old.items marks.new.items) }
+    ensures { IfOk result (λ b. (d : Context) (h e : Term) → IsContent d content.entry e → both_sets h e ≡ false → width ≡ member_width (constant_of d h).shape → Whole d h e b marks.old.items marks.new.items) }
 {
     match content {
         Content::Number(number) => {
@@ -102,20 +100,17 @@ fn push_pairs<'a>(
 /// A set beside a set: their members, if they are as many.
 fn push_sets<'a>(
     alloc: Global,
-    names: &'a Names,
-    known: &KnownNames,
+    scope: &Scope<'a>,
     headers: &'a [Member],
     outer: Option<Extension>,
     entries: &'a [Member],
     inner: Option<Extension>,
     stack: &mut Vec<Pair<'a>>,
 ) -> Result<bool, OutOfMemory>
-    requires known { IsKnown (entries_of names.now) known.now }
-    requires order { AreInOrder (entries_of names.now) }
-    ensures { IfOk result (λ b. (d : Design) → IsOver names.now d → IsPush d (extended_if outer (term.Set (terms_of d.known (members_of (map view_member headers.now))))) (extended_if inner (term.Set (terms_of d.known (members_of (map view_member entries.now))))) b stack.old.items stack.new.items) }
+    ensures { IfOk result (λ b. (d : Context) → IsOver scope.now d → IsPush d (extended_if outer (term.Set (terms_of d.known (members_of (map view_member headers.now))))) (extended_if inner (term.Set (terms_of d.known (members_of (map view_member entries.now))))) b stack.old.items stack.new.items) }
 {
-    let header_parts = parts_of(alloc, names, known, headers, outer, true)?;
-    let entry_parts = parts_of(alloc, names, known, entries, inner, false)?;
+    let header_parts = parts_of(alloc, scope, headers, outer, true)?;
+    let entry_parts = parts_of(alloc, scope, entries, inner, false)?;
     let headers = header_parts.as_slice();
     let entries = entry_parts.as_slice();
     if headers.len() != entries.len() {
@@ -128,20 +123,17 @@ fn push_sets<'a>(
 /// Meets one pair: puts its marks, or its members onto the stack; false where it doesn't meet.
 pub(crate) fn step<'a>(
     alloc: Global,
-    names: &'a Names,
-    known: &KnownNames,
+    scope: &Scope<'a>,
     pair: Pair<'a>,
     stack: &mut Vec<Pair<'a>>,
     marks: &mut Vec<Mark>,
 ) -> Result<bool, OutOfMemory>
-    requires known { IsKnown (entries_of names.now) known.now }
-    requires order { AreInOrder (entries_of names.now) }
-    ensures { IfOk result (λ b. (d : Design) (h e : Term) → IsOver names.now d → IsPart d true pair.entry.header h → IsPart d false pair.entry.given e → IsStep d h e b stack.old.items stack.new.items marks.old.items marks.new.items) }
+    ensures { IfOk result (λ b. (d : Context) (h e : Term) → IsOver scope.now d → IsPart d true pair.entry.header h → IsPart d false pair.entry.given e → IsStep d h e b stack.old.items stack.new.items marks.old.items marks.new.items) }
 {
     match pair.header.content {
         Content::Set(headers, outer) => match pair.given.content {
             Content::Set(entries, inner) => {
-                push_sets(alloc, names, known, headers, outer, entries, inner, stack)
+                push_sets(alloc, scope, headers, outer, entries, inner, stack)
             }
             _ => put_whole(marks, pair.header.width, pair.given.content),
         },

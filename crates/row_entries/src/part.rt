@@ -1,17 +1,17 @@
 //! What a part of a header or of an entry stands for, through the names of constants.
 
 ghost use Rattle.std.specs.Prelude.{◌≡◌, [], Some, IfOk};
-ghost use Rattle.abel_tree.specs.Entries.{entries_of, view_meaning};
-ghost use Rattle.abel_meaning.specs.Designs.{Design};
+ghost use Rattle.abel_tree.specs.Entries.{view_meaning};
+ghost use Rattle.abel_meaning.specs.Designs.{Context};
 ghost use Rattle.abel_meaning.specs.Terms.{Term, term_named, term_meant, special_term, extended_if};
-ghost use Rattle.set_expr.specs.KnownNames.{IsKnown, SumsUp, HasShapeIf};
+ghost use Rattle.set_expr.specs.KnownNames.{SumsUp, HasShapeIf};
 ghost use Rattle.set_expr.specs.Refusals.{Found};
-ghost use Rattle.row_entries.specs.EntryTerms.{IsOver, AreInOrder};
+ghost use Rattle.row_entries.specs.EntryTerms.{IsOver};
 ghost use Rattle.row_entries.specs.PartTerms.{IsContent, IsStand};
 
-use abel_tree::{Expr, Extension, Meaning, Member, Names};
+use abel_tree::{Expr, Extension, Meaning, Member};
 use pld_base::OutOfMemory;
-use set_expr::{Checked, KnownNames, Shape};
+use set_expr::{Checked, Scope, Shape};
 
 /// A set with what extends its members, a signal, a number, a special, or bits that are no number.
 #[derive(Clone, Copy)]
@@ -41,7 +41,7 @@ pub(crate) enum Stand<'a> {
 
 /// What a declared name of this number stands for.
 fn meaning_stand(meaning: &Meaning, number: u32, extension: Option<Extension>) -> Stand<'_>
-    ensures { (d : Design) → IsStand d extension result (extended_if extension (term_meant d.known number (view_meaning meaning.now))) }
+    ensures { (d : Context) → IsStand d extension result (extended_if extension (term_meant d.known number (view_meaning meaning.now))) }
 {
     match meaning {
         Meaning::Pin { pin: _, negated: _ } => Stand::Content(Content::Signal(number, extension)),
@@ -53,19 +53,17 @@ fn meaning_stand(meaning: &Meaning, number: u32, extension: Option<Extension>) -
 
 /// What the name with this text stands for; one that isn't declared is a number.
 pub(crate) fn stand_of<'a>(
-    names: &'a Names,
-    known: &KnownNames,
+    scope: &Scope<'a>,
     text: &[u8],
     extension: Option<Extension>,
 ) -> Stand<'a>
-    requires known { IsKnown (entries_of names.now) known.now }
-    requires order { AreInOrder (entries_of names.now) }
-    ensures { (d : Design) → IsOver names.now d → IsStand d extension result (extended_if extension (term_named d.known text.now)) }
+    ensures { (d : Context) → IsOver scope.now d → IsStand d extension result (extended_if extension (term_named d.known text.now)) }
 {
-    match known.get(text) {
+    scope.are_in_order();
+    match scope.get(text) {
         None => Stand::Content(Content::Number(0)),
         Some(name) => {
-            let declared = &names.list.as_slice()[name.number as usize];
+            let declared = &scope.list()[name.number as usize];
             meaning_stand(&declared.meaning, name.number, extension)
         }
     }
@@ -73,7 +71,7 @@ pub(crate) fn stand_of<'a>(
 
 /// A special.
 pub(crate) fn special<'a>(letter: u8) -> Content<'a>
-    ensures { (d : Design) → IsContent d result (special_term letter) }
+    ensures { (d : Context) → IsContent d result (special_term letter) }
 {
     match letter {
         b'X' => Content::Unknown,

@@ -1,23 +1,21 @@
 //! The signals that a header names.
 
 ghost use Rattle.std.specs.Prelude.{◌≡◌, ◌++◌, false, List, [], IfOk, OnOk, reverse};
-ghost use Rattle.abel_tree.specs.Entries.{entries_of};
 ghost use Rattle.abel_tree.specs.View.{view};
-ghost use Rattle.abel_meaning.specs.Designs.{Design};
+ghost use Rattle.abel_meaning.specs.Designs.{Context};
 ghost use Rattle.abel_meaning.specs.Terms.{Term, term_of};
 ghost use Rattle.abel_meaning.specs.Terms as term;
-ghost use Rattle.set_expr.specs.KnownNames.{IsKnown};
 ghost use Rattle.row_entries.specs.declared.part.Part.{Part as OnePart};
-ghost use Rattle.row_entries.specs.EntryTerms.{IsOver, AreInOrder};
+ghost use Rattle.row_entries.specs.EntryTerms.{IsOver};
 ghost use Rattle.row_entries.specs.HeaderSignals.{AreSignals};
 ghost use Rattle.row_entries.specs.PartTerms.{IsPart};
 ghost use Rattle.row_entries.specs.SignalTerms.{IsPut, Listing};
 
 use crate::part::{Content, Part};
 use crate::parts::{part_of, parts_of};
-use abel_tree::{Expr, Extension, Names};
+use abel_tree::{Expr, Extension};
 use pld_base::OutOfMemory;
-use set_expr::KnownNames;
+use set_expr::Scope;
 use std::alloc::Global;
 
 /// Puts parts onto the stack.
@@ -36,7 +34,7 @@ fn put_signal(
     signal: u32,
     extension: Option<Extension>,
 ) -> Result<bool, OutOfMemory>
-    ensures { IfOk result (λ b. (d : Design) (stack : List OnePart) → IsPut d (term.Read signal extension) b stack stack signals.old.items signals.new.items) }
+    ensures { IfOk result (λ b. (d : Context) (stack : List OnePart) → IsPut d (term.Read signal extension) b stack stack signals.old.items signals.new.items) }
 {
     match extension {
         None => {
@@ -50,19 +48,16 @@ fn put_signal(
 /// One part: its signal or X, or its members onto the stack; false where it is something else.
 fn put_part<'a>(
     alloc: Global,
-    names: &'a Names,
-    known: &KnownNames,
+    scope: &Scope<'a>,
     part: Part<'a>,
     stack: &mut Vec<Part<'a>>,
     signals: &mut Vec<Option<u32>>,
 ) -> Result<bool, OutOfMemory>
-    requires known { IsKnown (entries_of names.now) known.now }
-    requires order { AreInOrder (entries_of names.now) }
-    ensures { IfOk result (λ b. (d : Design) (t : Term) → IsOver names.now d → IsPart d false part.entry t → IsPut d t b stack.old.items stack.new.items signals.old.items signals.new.items) }
+    ensures { IfOk result (λ b. (d : Context) (t : Term) → IsOver scope.now d → IsPart d false part.entry t → IsPut d t b stack.old.items stack.new.items signals.old.items signals.new.items) }
 {
     match part.content {
         Content::Set(members, outer) => {
-            let parts = parts_of(alloc, names, known, members, outer, false)?;
+            let parts = parts_of(alloc, scope, members, outer, false)?;
             push_parts(stack, parts.as_slice())?;
             Ok(true)
         }
@@ -81,15 +76,12 @@ fn put_part<'a>(
 /// A header alone.
 fn begun<'a>(
     alloc: Global,
-    names: &'a Names,
-    known: &KnownNames,
+    scope: &Scope<'a>,
     header: &'a Expr,
 ) -> Result<Vec<Part<'a>>, OutOfMemory>
-    requires known { IsKnown (entries_of names.now) known.now }
-    requires order { AreInOrder (entries_of names.now) }
-    ensures { IfOk result (λ stack. (d : Design) → IsOver names.now d → Listing d (term_of d.known (view header.now)) stack.items []) }
+    ensures { IfOk result (λ stack. (d : Context) → IsOver scope.now d → Listing d (term_of d.known (view header.now)) stack.items []) }
 {
-    let part = part_of(alloc, names, known, header, None, false)?;
+    let part = part_of(alloc, scope, header, None, false)?;
     let mut stack = Vec::new(alloc);
     stack.push(part)?;
     Ok(stack)
@@ -109,21 +101,18 @@ fn turned(signals: Vec<Option<u32>>) -> Vec<Option<u32>>
 /// are followed by a stack.
 pub fn header_signals(
     alloc: Global,
-    names: &Names,
-    known: &KnownNames,
+    scope: &Scope<'_>,
     header: &Expr,
 ) -> Result<Option<Vec<Option<u32>>>, OutOfMemory>
-    requires known { IsKnown (entries_of names.now) known.now }
-    requires order { AreInOrder (entries_of names.now) }
-    ensures { IfOk result (λ ss. (d : Design) → IsOver names.now d → AreSignals (term_of d.known (view header.now)) ss) }
+    ensures { IfOk result (λ ss. (d : Context) → IsOver scope.now d → AreSignals (term_of d.known (view header.now)) ss) }
 {
     let mut signals = Vec::new(alloc);
-    let mut stack = begun(alloc, names, known, header)?;
+    let mut stack = begun(alloc, scope, header)?;
     for _step in 0..u64::MAX {
         match stack.pop() {
             None => return Ok(Some(turned(signals))),
             Some(part) => {
-                if !put_part(alloc, names, known, part, &mut stack, &mut signals)? {
+                if !put_part(alloc, scope, part, &mut stack, &mut signals)? {
                     return Ok(None);
                 }
             }

@@ -8,18 +8,18 @@ use Rattle.row_entries.proofs.entries.read_entry.Goals as goal
 
 pub returns-in-Some : goal.returns-in-Some
 returns-in-Some c d is =
-    read_refused c.args.names.now d is c.args.row c.in-Some.fault (term_of d.known (view c.args.header.now)) (view c.args.entry.now) c.in_ok-inside.inside c.in_ok-inside.ensures c.in-Some.is
+    read_refused c.args.scope.now d is c.args.row c.in-Some.fault (term_of d.known (view c.args.header.now)) (view c.args.entry.now) c.in_ok-inside.inside c.in_ok-inside.ensures c.in-Some.is
 
 pub returns-in-Some-found : goal.returns-in-Some-found
 returns-in-Some-found c d is =
     let h = term_of d.known (view c.args.header.now) in
     let t = view c.args.entry.now in
     let m = subst (IsMarked d h (term_of d.known t)) c.in-Some-found.is (c.in_ok-found-in-None.ensures d is) in
-    (read_met c.args.names.now d is c.args.row h t c.in_ok-inside.inside c.in_ok-inside.ensures c.in-None.is m.0, m.1)
+    (read_met c.args.scope.now d is c.args.row h t c.in_ok-inside.inside c.in_ok-inside.ensures c.in-None.is m.0, m.1)
 
 pub returns-in-None-found : goal.returns-in-None-found
 returns-in-None-found c d is =
     let h = term_of d.known (view c.args.header.now) in
     let t = view c.args.entry.now in
     let m = subst (IsMarked d h (term_of d.known t)) c.in-None-found.is (c.in_ok-found-in-None.ensures d is) in
-    read_unmet c.args.names.now d is c.args.row h t c.in_ok-inside.inside c.in_ok-inside.ensures c.in-None.is m
+    read_unmet c.args.scope.now d is c.args.row h t c.in_ok-inside.inside c.in_ok-inside.ensures c.in-None.is m

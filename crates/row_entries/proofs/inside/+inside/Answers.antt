@@ -14,7 +14,7 @@ use Rattle.row_entries.proofs.inside.+inside.Goals as goal
 
 pub refuse_inside-loop-member-preserved : goal.refuse_inside-loop-member-preserved
 refuse_inside-loop-member-preserved t c =
-    let ns = names_found (entries_of c.args.names.now) in
+    let ns = names_found (entries_of c.args.scope.now) in
     let r = c.args.row in
     let ms = c.as_slice-member-items.result.now in
     let i = c.loop-member.member-index in
@@ -27,7 +27,7 @@ refuse_inside-loop-member-preserved t c =
 
 pub refuse_inside-returns-after-loop-member : goal.refuse_inside-returns-after-loop-member
 refuse_inside-returns-after-loop-member t c =
-    let ns = names_found (entries_of c.args.names.now) in
+    let ns = names_found (entries_of c.args.scope.now) in
     let r = c.args.row in
     let ms = c.as_slice-member-items.result.now in
     let all : map view_member (take c.loop-member.member-index ms) ≡ map view_member c.in-Set.members = whole_front view_member ms c.loop-member.member-index c.loop-member-test.false ∙ ap (map view_member) c.as_slice-member-items.ensures in

@@ -11,4 +11,4 @@ use Rattle.row_entries.proofs.inside.+inside.Given as goal
 
 abbrev pub invariant-refuse_inside-loop-member : goal.invariant-refuse_inside-loop-member
 invariant-refuse_inside-loop-member l =
-    l.fault ≡ first_refusal section_order (all_refused_inside (names_found (entries_of l.names)) l.row (members_of (map view_member (take l.member-index l.member-items))))
+    l.fault ≡ first_refusal section_order (all_refused_inside (names_found (entries_of l.scope)) l.row (members_of (map view_member (take l.member-index l.member-items))))

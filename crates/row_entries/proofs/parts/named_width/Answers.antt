@@ -10,8 +10,8 @@ pub returns : goal.returns
 returns c =
     IfOk-weaker c.width_in.result _ _
     (λ w h d e is s.
-    let es = entries_of c.args.names.now in
+    let es = entries_of c.args.scope.now in
     let f = found_use c.args.place (name_found (names_found es) c.args.text.now) in
-    let k = h f (c.check_name.ensures es c.requires.known) in
-    width_extended d e (term_named d.known c.args.text.now) w (value_width w f.value (constant_of d (term_named d.known c.args.text.now)) (over_named c.args.names.now d is c.args.place c.args.text.now k.0) k.1))
+    let k = h f (c.check_name.ensures) in
+    width_extended d e (term_named d.known c.args.text.now) w (value_width w f.value (constant_of d (term_named d.known c.args.text.now)) (over_named c.args.scope.now d is c.args.place c.args.text.now k.0) k.1))
     c.width_in.ensures

@@ -12,23 +12,23 @@ use Rattle.row_entries.proofs.parts.operator.Goals as goal
 pub returns-in-Number : goal.returns-in-Number
 returns-in-Number c d e is h =
     let t = view c.args.expr.now in
-    let f = expression_found (entries_of c.args.names.now) t in
+    let f = expression_found (entries_of c.args.scope.now) t in
     let s = c.in_ok-number.ensures f c.in_ok-found.ensures in
-    let k = value_shape c.in_ok-number.field-0 f.value (constant_of d (term_of d.known t)) (over_valued c.args.names.now d is t s.0) s.1 in
+    let k = value_shape c.in_ok-number.field-0 f.value (constant_of d (term_of d.known t)) (over_valued c.args.scope.now d is t s.0) s.1 in
     numeral_extended d e (term_of d.known t) c.in-Number.number h (subst (λ x. HasShape x (constant_of d (term_of d.known t))) c.in-Number.is k)
 
 pub returns-in-Single : goal.returns-in-Single
 returns-in-Single c d e is h =
     let t = view c.args.expr.now in
-    let f = expression_found (entries_of c.args.names.now) t in
+    let f = expression_found (entries_of c.args.scope.now) t in
     let s = c.in_ok-number.ensures f c.in_ok-found.ensures in
-    let k = value_shape c.in_ok-number.field-0 f.value (constant_of d (term_of d.known t)) (over_valued c.args.names.now d is t s.0) s.1 in
+    let k = value_shape c.in_ok-number.field-0 f.value (constant_of d (term_of d.known t)) (over_valued c.args.scope.now d is t s.0) s.1 in
     single_extended d e (term_of d.known t) h (subst (λ x. HasShape x (constant_of d (term_of d.known t))) c.in-Single.is k)
 
 pub returns-in-Set : goal.returns-in-Set
 returns-in-Set c d e is h =
     let t = view c.args.expr.now in
-    let f = expression_found (entries_of c.args.names.now) t in
+    let f = expression_found (entries_of c.args.scope.now) t in
     let s = c.in_ok-number.ensures f c.in_ok-found.ensures in
-    let k = value_shape c.in_ok-number.field-0 f.value (constant_of d (term_of d.known t)) (over_valued c.args.names.now d is t s.0) s.1 in
+    let k = value_shape c.in_ok-number.field-0 f.value (constant_of d (term_of d.known t)) (over_valued c.args.scope.now d is t s.0) s.1 in
     set_extended d e (term_of d.known t) c.in-Set.field-0 h (subst (λ x. HasShape x (constant_of d (term_of d.known t))) c.in-Set.is k)

@@ -2,7 +2,7 @@
 use Rattle.std.proofs.Common.{map, take}
 use Rattle.abel_tree.specs.Tree.{members_of}
 use Rattle.abel_tree.specs.View.{view_member}
-use Rattle.abel_meaning.specs.Designs.{Design}
+use Rattle.abel_meaning.specs.Designs.{Context}
 use Rattle.abel_meaning.specs.Terms.{terms_of}
 use Rattle.row_entries.specs.EntryTerms.{IsOver, listed, extended_list}
 use Rattle.row_entries.specs.PartTerms.{AreParts}
@@ -10,5 +10,5 @@ use Rattle.row_entries.proofs.parts.parts_of.Given as goal
 
 abbrev pub invariant-loop-member : goal.invariant-loop-member
 invariant-loop-member l =
-    (d : Design) → IsOver l.names d
+    (d : Context) → IsOver l.scope d
     → AreParts d l.sized l.parts.items (extended_list l.outer (listed (terms_of d.known (members_of (map view_member (take l.member-index l.members))))))

@@ -12,7 +12,7 @@ returns c =
     IfOk-weaker c.width_in.result _ _
     (λ w h d e is s.
     let t = view c.args.expr.now in
-    let f = expression_found (entries_of c.args.names.now) t in
+    let f = expression_found (entries_of c.args.scope.now) t in
     let k = h f c.in_ok-found.ensures in
-    width_extended d e (term_of d.known t) w (value_width w f.value (constant_of d (term_of d.known t)) (over_valued c.args.names.now d is t k.0) k.1))
+    width_extended d e (term_of d.known t) w (value_width w f.value (constant_of d (term_of d.known t)) (over_valued c.args.scope.now d is t k.0) k.1))
     c.width_in.ensures

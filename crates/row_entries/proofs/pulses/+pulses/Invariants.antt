@@ -2,11 +2,10 @@
 use Rattle.std.proofs.Common.{◌≡◌, ◌||◌, ◌+◌, ◌*◌, ◌≤◌, List, map, take}
 use Rattle.abel_tree.specs.declared.expressions.Expr.{size-Expr}
 use Rattle.abel_tree.specs.declared.expressions.Member.{size-Member}
-use Rattle.abel_tree.specs.Entries.{Entry}
+use Rattle.abel_tree.specs.Entries.{entries_of}
 use Rattle.abel_tree.specs.Tree.{members_of}
 use Rattle.abel_tree.specs.View.{view, view_member}
 use Rattle.set_expr.specs.FoundNames.{names_found}
-use Rattle.set_expr.specs.KnownNames.{IsKnown}
 use Rattle.row_entries.specs.RowEntries.{holds_pulse, any_holds_pulse}
 use Rattle.row_entries.proofs.pulses.+pulses.Given as goal
 
@@ -22,11 +21,10 @@ decreases-member_holds l = 2 * size-Member l.member.now
 abbrev pub invariant-holds_pulse-down : goal.invariant-holds_pulse-down
 invariant-holds_pulse-down l =
     record {
-      holds : (es : List Entry) → IsKnown es l.known → (l.found || holds_pulse (names_found es) (view l.first)) ≡ holds_pulse (names_found es) (view l.expr);
+      holds : (l.found || holds_pulse (names_found (entries_of l.scope)) (view l.first)) ≡ holds_pulse (names_found (entries_of l.scope)) (view l.expr);
       size : size-Expr l.first ≤ size-Expr l.expr;
     }
 
 abbrev pub invariant-level_holds-loop-member : goal.invariant-level_holds-loop-member
 invariant-level_holds-loop-member l =
-    (es : List Entry) → IsKnown es l.known
-    → l.found ≡ any_holds_pulse (names_found es) (members_of (map view_member (take l.member-index l.member-items)))
+    l.found ≡ any_holds_pulse (names_found (entries_of l.scope)) (members_of (map view_member (take l.member-index l.member-items)))

@@ -2,13 +2,11 @@
 use Rattle.std.proofs.Common.{◌≡◌, ℕ, List, map, take}
 use Rattle.std.specs.Global.{Vec}
 use Rattle.std.specs.List.{list_any}
-use Rattle.abel_tree.specs.Entries.{Entry}
+use Rattle.abel_tree.specs.Entries.{entries_of}
 use Rattle.set_expr.specs.FoundNames.{names_found}
-use Rattle.set_expr.specs.KnownNames.{IsKnown}
 use Rattle.row_entries.specs.RowEntries.{is_pulse_named}
 use Rattle.row_entries.proofs.pulses.range_holds_pulse.Given as goal
 
 abbrev pub invariant-loop-name : goal.invariant-loop-name
 invariant-loop-name l =
-    (es : List Entry) → IsKnown es l.known
-    → l.found ≡ list_any (is_pulse_named (names_found es)) (map (λ (n : Vec ℕ). n.items) (take l.name-index l.name-items))
+    l.found ≡ list_any (is_pulse_named (names_found (entries_of l.scope))) (map (λ (n : Vec ℕ). n.items) (take l.name-index l.name-items))

@@ -1,6 +1,6 @@
 -- The parts on the stack have their signals before those that were listed.
 use Rattle.abel_tree.specs.View.{view}
-use Rattle.abel_meaning.specs.Designs.{Design}
+use Rattle.abel_meaning.specs.Designs.{Context}
 use Rattle.abel_meaning.specs.Terms.{term_of}
 use Rattle.row_entries.specs.EntryTerms.{IsOver}
 use Rattle.row_entries.specs.SignalTerms.{Listing}
@@ -8,4 +8,4 @@ use Rattle.row_entries.proofs.signals.header_signals.Given as goal
 
 abbrev pub invariant-loop-step : goal.invariant-loop-step
 invariant-loop-step l =
-    (d : Design) → IsOver l.names d → Listing d (term_of d.known (view l.header)) l.stack.items l.signals.items
+    (d : Context) → IsOver l.scope d → Listing d (term_of d.known (view l.header)) l.stack.items l.signals.items
