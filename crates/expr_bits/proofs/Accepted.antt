@@ -1,36 +1,32 @@
 -- What an accepted expression comes to.
-use Rattle.std.proofs.Common.{◌≡◌, ℕ, ◌<◌, ◌≤◌, Bool, true, false, Option, None, Some, List, [], ◌∷◌, if◌then◌else◌, length, Result, Ok, Err, refl, sym, ap, ◌∙◌, subst, arith}
-use Rattle.pld_base.specs.declared.place.Place.{Place}
-use Rattle.pld_device.specs.Table.{Table}
+use Rattle.std.proofs.Common.{◌≡◌, ℕ, ◌<◌, ◌≤◌, Bool, true, false, Option, None, Some, List, [], ◌∷◌, if◌then◌else◌, length, Err, refl, sym, subst, arith}
 use Rattle.bit_expr.specs.declared.node.Node.{Node}
 use Rattle.bit_expr.specs.Arena.{arena}
 use Rattle.abel_tree.specs.declared.names.Names.{Names}
-use Rattle.abel_tree.specs.Entries.{Entry, entries_of}
+use Rattle.abel_tree.specs.Entries.{entries_of}
 use Rattle.abel_tree.specs.FirstRefusal.{Ranks, earlier, first_refusal, is_before}
 use Rattle.abel_tree.specs.Tree.{Tree}
-use Rattle.abel_meaning.specs.Designs.{Design}
+use Rattle.abel_meaning.specs.Designs.{Context}
 use Rattle.abel_meaning.specs.FormulaBits.{bits_of}
 use Rattle.abel_meaning.specs.Numbers.{Value, width_of}
-use Rattle.abel_meaning.specs.Numbers as number
 use Rattle.abel_meaning.specs.Terms.{Term, known_of, term_of}
 use Rattle.abel_meaning.specs.Values.{constant_of}
 use Rattle.bit_words.specs.Making.{IsMade}
-use Rattle.set_expr.specs.Answer.{IsDesignOf, IsShaped, IsAccepted, IsAnswer, refusal_of}
+use Rattle.set_expr.specs.Answer.{IsShaped, IsAccepted, IsAnswer, refusal_of}
 use Rattle.set_expr.specs.declared.fault.SectionFault.{SectionFault}
 use Rattle.set_expr.specs.declared.fault.SectionFault.TheVariants as fault
 use Rattle.set_expr.specs.declared.shaped.Shaped.{Shaped}
 use Rattle.set_expr.specs.FoundNames.{expression_found}
-use Rattle.set_expr.specs.Refusals.{Found}
 use Rattle.set_expr.specs.SectionOrder.{section_order}
 use Rattle.value_bits.specs.declared.bits.Bits.{Bits}
 use Rattle.value_bits.specs.declared.bits.Form.{Form}
 use Rattle.value_bits.specs.declared.bits.Form.TheVariants as form
-use Rattle.value_bits.specs.Parts.{Part, IsPart}
+use Rattle.value_bits.specs.Parts.{IsPart}
 use Rattle.value_bits.specs.Showing.{HasForm, IsBits}
 use Rattle.expr_bits.specs.Shaping.{IsBlank}
 use Rattle.expr_bits.specs.Steps.{term_part}
 use Rattle.expr_bits.proofs.Blank.{blank}
-use Rattle.expr_bits.proofs.Linked.{IsLinked, IsLinkedIf, expression_linked}
+use Rattle.expr_bits.proofs.Linked.{IsLinkedIf, expression_linked}
 use Rattle.expr_bits.proofs.Links.{SameKind, Sound}
 use Rattle.expr_bits.proofs.OfExpressions.{IsOfExpression, first_of}
 use Rattle.expr_bits.proofs.StackLaws.{normal_is}
@@ -51,17 +47,17 @@ none_refused (f ∷ fs) e = absurd (earlier_some section_order f (first_refusal 
 
 -- ---- values
 
-record IsFound (d : Design) (t : Term) : Type 0 where
+record IsFound (d : Context) (t : Term) : Type 0 where
   value : Value
   kind : SameKind value (constant_of d t)
   sound : Sound d t
   narrow : width_of value.shape ≤ 32
 
-found_if : (d : Design) (o : Option Value) (xs : List SectionFault) (t : Term) → (o ≡ None → ⊥) → IsLinkedIf d o xs t → IsFound d t
+found_if : (d : Context) (o : Option Value) (xs : List SectionFault) (t : Term) → (o ≡ None → ⊥) → IsLinkedIf d o xs t → IsFound d t
 found_if d None xs t h l = absurd (h refl)
 found_if d (Some v) xs t h l = record { value = v; kind = l.0; sound = l.2; narrow = l.3 }
 
-found : (n : Names) (d : Design) (t : Tree) → refusal_of n t ≡ None → IsFound d (term_of (known_of (entries_of n)) t)
+found : (n : Names) (d : Context) (t : Tree) → refusal_of n t ≡ None → IsFound d (term_of (known_of (entries_of n)) t)
 found n d t e =
     let l = expression_linked d (entries_of n) t in
     let f = expression_found (entries_of n) t in
@@ -73,13 +69,13 @@ few_by form.Single v k h w = omega (arith, h.1)
 few_by form.Set v k h w = omega (arith, subst (λ s. width_of s ≤ 32) h w)
 
 -- an accepted expression has few positions
-pub few : (n : Names) (d : Design) (t : Tree) (old new : List Node) (b : Bits) → refusal_of n t ≡ None → d.known ≡ known_of (entries_of n) → IsMade IsPart (arena old) (arena new) b (term_part d (term_of d.known t)) → length b.word < 256
+pub few : (n : Names) (d : Context) (t : Tree) (old new : List Node) (b : Bits) → refusal_of n t ≡ None → d.known ≡ known_of (entries_of n) → IsMade IsPart (arena old) (arena new) b (term_part d (term_of d.known t)) → length b.word < 256
 few n d t old new b e known m =
     let x = subst (λ ks. IsFound d (term_of ks t)) (sym known) (found n d t e) in
     let is = normal_is (arena new) b (record { value = constant_of d (term_of d.known t); word = (bits_of d (term_of d.known t)).what }) m.shows in
     few_by b.form (constant_of d (term_of d.known t)) (length b.word) is.form (subst (λ s. width_of s ≤ 32) (sym x.kind.shape) x.narrow)
 
-pub accepted : (n : Names) (d : Design) (t : Tree) (old new : List Node) (b : Bits) (s : Shaped) → refusal_of n t ≡ None → d.known ≡ known_of (entries_of n) → IsMade IsPart (arena old) (arena new) b (term_part d (term_of d.known t))
+pub accepted : (n : Names) (d : Context) (t : Tree) (old new : List Node) (b : Bits) (s : Shaped) → refusal_of n t ≡ None → d.known ≡ known_of (entries_of n) → IsMade IsPart (arena old) (arena new) b (term_part d (term_of d.known t))
     → ((v : Value) → IsBits (arena new) b v (bits_of d (term_of d.known t)).what → IsBlank v.unknown (bits_of d (term_of d.known t)).what → IsShaped (arena new) s v (bits_of d (term_of d.known t)).what)
     → IsAccepted n d t (arena old) (arena new) s
 accepted n d t old new b s e known m shaped =
@@ -95,7 +91,7 @@ accepted n d t old new b s e known m shaped =
 
 -- ---- a refusal
 
-answer_by : (n : Names) (d : Design) (t : Tree) (old : List Node) (f : SectionFault) → IsOfExpression f → refusal_of n t ≡ Some f → IsAnswer n d t old old (Err f)
+answer_by : (n : Names) (d : Context) (t : Tree) (old : List Node) (f : SectionFault) → IsOfExpression f → refusal_of n t ≡ Some f → IsAnswer n d t old old (Err f)
 answer_by n d t old (fault.MisplacedSpecial p) h e = (e, refl)
 answer_by n d t old (fault.NotConstant p) h e = (e, refl)
 answer_by n d t old (fault.ZeroDivisor p) h e = (e, refl)
@@ -108,6 +104,6 @@ answer_by n d t old (fault.BadVector p) h e = absurd h
 answer_by n d t old (fault.NodeLimit p) h e = absurd h
 answer_by n d t old fault.OutOfMemory h e = absurd h
 
-pub refused : (n : Names) (d : Design) (t : Tree) (old : List Node) (f : SectionFault) → refusal_of n t ≡ Some f → IsAnswer n d t old old (Err f)
+pub refused : (n : Names) (d : Context) (t : Tree) (old : List Node) (f : SectionFault) → refusal_of n t ≡ Some f → IsAnswer n d t old old (Err f)
 refused n d t old f e =
     answer_by n d t old f (first_of section_order (expression_found (entries_of n) t).refusals f (expression_linked d (entries_of n) t).refusals e) e

@@ -1,10 +1,10 @@
 -- What is X in an accepted expression has the bit 0.
-use Rattle.std.proofs.Common.{◌≡◌, ℕ, zero, suc, ◌+◌, Bool, true, false, List, [], ◌∷◌, ◌++◌, length, map, replicate, refl, sym, ap, ◌∙◌, arith, length-append}
+use Rattle.std.proofs.Common.{◌≡◌, ℕ, zero, suc, Bool, true, false, List, [], ◌∷◌, ◌++◌, length, replicate, refl, sym, ap, ◌∙◌, arith, length-append}
 use Rattle.std.proofs.lemmas.List.{length-map, length-replicate}
-use Rattle.bit_expr.specs.Formulas.{Formula, Const, formula_value}
+use Rattle.bit_expr.specs.Formulas.{Formula, formula_value}
 use Rattle.abel_tree.specs.declared.words.Binary.{Binary}
 use Rattle.abel_meaning.specs.BitWords.{Word}
-use Rattle.abel_meaning.specs.Designs.{Design}
+use Rattle.abel_meaning.specs.Designs.{Context}
 use Rattle.abel_meaning.specs.FormulaBits.{bits_of, bits_of_all, met_by, resized}
 use Rattle.abel_meaning.specs.Numbers.{Shape, Number, Single, Set, Value, width_of, member_width, meeting, met_unknown_by}
 use Rattle.abel_meaning.specs.Terms.{Term, Terms}
@@ -70,7 +70,7 @@ met_flags Single (x ∷ xs) h = refl
 met_flags (Set w) xs h = h w refl
 
 mutual
-  term_flags : (d : Design) (t : Term) → FlagsLong (constant_of d t)
+  term_flags : (d : Context) (t : Term) → FlagsLong (constant_of d t)
   term_flags d (term.Number n) k e = absurd cc
   term_flags d term.X k e = absurd cc
   term_flags d term.Pulse k e = absurd cc
@@ -80,7 +80,7 @@ mutual
   term_flags d (term.UnaryOf sign t) k e = term_flags d t k e
   term_flags d (term.BinaryOf sign t u) k e = flags_by (is_relation sign) sign (constant_of d t) (constant_of d u) k e
 
-  set_flags : (d : Design) (ts : Terms) → length (set_value d nowhere ts).unknown ≡ width_of (set_value d nowhere ts).shape
+  set_flags : (d : Context) (ts : Terms) → length (set_value d nowhere ts).unknown ≡ width_of (set_value d nowhere ts).shape
   set_flags d term.NoTerm = refl
   set_flags d (term.Before t ts) =
       let c = constant_of d t in
@@ -88,7 +88,7 @@ mutual
       let own = met_flags c.shape c.unknown (term_flags d t) in
       length-append (set_value d nowhere ts).unknown (met_unknown_by (member_width c.shape) c.shape c.unknown) ∙ omega (arith, rest, own)
 
-set_long : (d : Design) (ts : Terms) → length (bits_of_all d ts).what ≡ width_of (set_value d nowhere ts).shape
+set_long : (d : Context) (ts : Terms) → length (bits_of_all d ts).what ≡ width_of (set_value d nowhere ts).shape
 set_long d term.NoTerm = refl
 set_long d (term.Before t ts) =
     let agrees = term_agrees d nowhere (term.Set (term.Before t ts)) in
@@ -98,7 +98,7 @@ set_long d (term.Before t ts) =
 -- ---- terms
 
 mutual
-  pub blank : (d : Design) (t : Term) → Sound d t → IsBlank (constant_of d t).unknown (bits_of d t).what
+  pub blank : (d : Context) (t : Term) → Sound d t → IsBlank (constant_of d t).unknown (bits_of d t).what
   blank d (term.Number n) s = tt
   blank d term.X s = (refl, tt)
   blank d term.Pulse s = tt
@@ -108,7 +108,7 @@ mutual
   blank d (term.UnaryOf sign t) s = known_blank (constant_of d t).unknown _ s
   blank d (term.BinaryOf sign t u) s = known_blank _ _ (known_binary sign (constant_of d t) (constant_of d u))
 
-  all_blank : (d : Design) (ts : Terms) → AllSound d ts → IsBlank (set_value d nowhere ts).unknown (bits_of_all d ts).what
+  all_blank : (d : Context) (ts : Terms) → AllSound d ts → IsBlank (set_value d nowhere ts).unknown (bits_of_all d ts).what
   all_blank d term.NoTerm s = tt
   all_blank d (term.Before t ts) s =
       let c = constant_of d t in

@@ -1,12 +1,12 @@
 -- Work comes to terms: one more member, and work to be done first.
-use Rattle.std.proofs.Common.{◌≡◌, ℕ, suc, ◌+◌, true, false, Bool, Option, None, Some, List, [], ◌∷◌, ◌++◌, if◌then◌else◌, length, map, reverse, bytes_eq, codes, refl, sym, ap, ap₂, ◌∙◌, subst, append_assoc, append-nil}
+use Rattle.std.proofs.Common.{◌≡◌, ℕ, suc, true, false, Bool, Option, None, Some, List, [], ◌∷◌, ◌++◌, if◌then◌else◌, length, map, reverse, bytes_eq, codes, refl, sym, ap, ap₂, ◌∙◌, subst, append_assoc, append-nil}
 use Rattle.std.proofs.lemmas.List.{reverse-append, reverse-reverse, map-append}
 use Rattle.bit_expr.specs.Folding.{Made, ◌>>=◌}
 use Rattle.abel_tree.specs.declared.words.Binary.{Binary}
 use Rattle.abel_tree.specs.declared.words.Extension.{Extension}
 use Rattle.abel_tree.specs.declared.words.Unary.{Unary}
 use Rattle.abel_tree.specs.Entries.{Entry}
-use Rattle.abel_meaning.specs.Designs.{Design}
+use Rattle.abel_meaning.specs.Designs.{Context}
 use Rattle.abel_meaning.specs.Terms.{Term, Terms, extended_if, special_term}
 use Rattle.abel_meaning.specs.Terms as term
 use Rattle.value_bits.specs.Parts.{Part}
@@ -47,7 +47,7 @@ come_long es [] (t ∷ ts) c = absurd c
 come_long es (w ∷ ws) [] c = absurd c
 come_long es (w ∷ ws) (t ∷ ts) c = ap suc (come_long es ws ts c.1)
 
-come_all : (es : List Entry) (ws : List Work) (ts : List Term) (ss : List Task) (d : Design) (ps : List Part) → ComeTo es ws ts → after_all d (map (task_of es) ws ++ ss) ps ≡ after_all d (map Push ts ++ ss) ps
+come_all : (es : List Entry) (ws : List Work) (ts : List Term) (ss : List Task) (d : Context) (ps : List Part) → ComeTo es ws ts → after_all d (map (task_of es) ws ++ ss) ps ≡ after_all d (map Push ts ++ ss) ps
 come_all es [] [] ss d ps c = refl
 come_all es [] (t ∷ ts) ss d ps c = absurd c
 come_all es (w ∷ ws) [] ss d ps c = absurd c
@@ -61,7 +61,7 @@ come_all es (w ∷ ws) (t ∷ ts) ss d ps c =
 -- ---- sets
 
 pub set_work : (es : List Entry) (e : Option Extension) (ts : Terms) (old parts turned mid new : List Work) (n : ℕ) → ComeTo es parts (each_extended e (list_of ts)) → n ≡ length parts → mid ≡ old ++ work.Do (step.Joins n) ∷ [] → turned ≡ reverse parts → new ≡ mid ++ turned
-    → (d : Design) (ps : List Part) → after_all d (tasks_of es new) ps ≡ after_all d (Push (extended_if e (term.Set ts)) ∷ tasks_of es old) ps
+    → (d : Context) (ps : List Part) → after_all d (tasks_of es new) ps ≡ after_all d (Push (extended_if e (term.Set ts)) ∷ tasks_of es old) ps
 set_work es e ts old parts turned mid new n c long m t all d ps =
     let us = all_extended e ts in
     let list : each_extended e (list_of ts) ≡ list_of us = sym (list_extended e ts) in
@@ -77,17 +77,17 @@ set_work es e ts old parts turned mid new n c long m t all d ps =
 
 -- work that comes to a term and what was to be done before
 abbrev pub ComesFirst : List Entry → (new old : List Work) → Term → Type 0
-ComesFirst es new old t = (d : Design) (ps : List Part) → after_all d (tasks_of es new) ps ≡ after_all d (Push t ∷ tasks_of es old) ps
+ComesFirst es new old t = (d : Context) (ps : List Part) → after_all d (tasks_of es new) ps ≡ after_all d (Push t ∷ tasks_of es old) ps
 
 pub same_first : (es : List Entry) (new old : List Work) (t u : Term) → t ≡ u → ComesFirst es new old t → ComesFirst es new old u
 same_first es new old t u e c = subst (λ x. ComesFirst es new old x) e c
 
-pub first_comes : (es : List Entry) (old new : List Work) (w : Work) (t : Term) → new ≡ old ++ w ∷ [] → ComesTo es w t → (d : Design) (ps : List Part) → after_all d (tasks_of es new) ps ≡ after_all d (Push t ∷ tasks_of es old) ps
+pub first_comes : (es : List Entry) (old new : List Work) (w : Work) (t : Term) → new ≡ old ++ w ∷ [] → ComesTo es w t → (d : Context) (ps : List Part) → after_all d (tasks_of es new) ps ≡ after_all d (Push t ∷ tasks_of es old) ps
 first_comes es old new w t e c d ps =
     ap (λ ws. after_all d (tasks_of es ws) ps) e ∙ ap (λ ts. after_all d ts ps) (tasks_last es old w)
     ∙ ap (λ (m : Made (List Part)). m >>= after_all d (tasks_of es old)) (c d ps)
 
-pub number_comes : (d : Design) (e : Option Extension) (n : ℕ) (ps : List Part) → after_task d (Do (step.Number n)) ps ≡ after_task d (Push (extended_if e (term.Number n))) ps
+pub number_comes : (d : Context) (e : Option Extension) (n : ℕ) (ps : List Part) → after_task d (Do (step.Number n)) ps ≡ after_task d (Push (extended_if e (term.Number n))) ps
 number_comes d None n ps = refl
 number_comes d (Some e) n ps = refl
 
@@ -109,7 +109,7 @@ both_extended None sign t u = refl
 both_extended (Some e) sign t u = refl
 
 pub under_work : (es : List Entry) (e : Option Extension) (sign : Unary) (t : Term) (old mid new : List Work) (w : Work) → mid ≡ old ++ work.Do (step.Under sign) ∷ [] → new ≡ mid ++ w ∷ [] → task_of es w ≡ Push (extended_if e t)
-    → (d : Design) (ps : List Part) → after_all d (tasks_of es new) ps ≡ after_all d (Push (extended_if e (term.UnaryOf sign t)) ∷ tasks_of es old) ps
+    → (d : Context) (ps : List Part) → after_all d (tasks_of es new) ps ≡ after_all d (Push (extended_if e (term.UnaryOf sign t)) ∷ tasks_of es old) ps
 under_work es e sign t old mid new w m n is d ps =
     let tasks : tasks_of es new ≡ Push (extended_if e t) ∷ Do (step.Under sign) ∷ tasks_of es old =
     ap (tasks_of es) n ∙ tasks_last es mid w ∙ ap₂ (λ x xs. x ∷ xs) is (ap (tasks_of es) m ∙ tasks_last es old (work.Do (step.Under sign))) in
@@ -117,7 +117,7 @@ under_work es e sign t old mid new w m n is d ps =
     ∙ ap (λ x. after_all d (Push x ∷ tasks_of es old) ps) (under_extended e sign t)
 
 pub both_work : (es : List Entry) (e : Option Extension) (sign : Binary) (t u : Term) (old mid last new : List Work) (v w : Work) → mid ≡ old ++ work.Do (step.Both sign) ∷ [] → last ≡ mid ++ w ∷ [] → new ≡ last ++ v ∷ [] → task_of es v ≡ Push (extended_if e t) → task_of es w ≡ Push (extended_if e u)
-    → (d : Design) (ps : List Part) → after_all d (tasks_of es new) ps ≡ after_all d (Push (extended_if e (term.BinaryOf sign t u)) ∷ tasks_of es old) ps
+    → (d : Context) (ps : List Part) → after_all d (tasks_of es new) ps ≡ after_all d (Push (extended_if e (term.BinaryOf sign t u)) ∷ tasks_of es old) ps
 both_work es e sign t u old mid last new v w m l n left right d ps =
     let tasks : tasks_of es new ≡ Push (extended_if e t) ∷ Push (extended_if e u) ∷ Do (step.Both sign) ∷ tasks_of es old =
     ap (tasks_of es) n ∙ tasks_last es last v ∙ ap₂ (λ x xs. x ∷ xs) left (ap (tasks_of es) l ∙ tasks_last es mid w ∙ ap₂ (λ x xs. x ∷ xs) right (ap (tasks_of es) m ∙ tasks_last es old (work.Do (step.Both sign)))) in

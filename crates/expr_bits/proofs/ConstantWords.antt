@@ -1,5 +1,5 @@
 -- What operators make of constant bits is constant, and takes no node.
-use Rattle.std.proofs.Common.{◌≡◌, ℕ, zero, suc, ◌+◌, Bool, true, false, List, [], ◌∷◌, ◌++◌, map, reverse, replicate, refl, sym, subst, arith}
+use Rattle.std.proofs.Common.{◌≡◌, ℕ, zero, suc, Bool, true, false, List, [], ◌∷◌, ◌++◌, map, reverse, replicate, refl, sym, subst, arith}
 use Rattle.std.proofs.lemmas.List.{reverse-append}
 use Rattle.bit_expr.specs.Folding.{Made, free, ◌>>=◌, make_not, make_and, make_or, make_xor}
 use Rattle.bit_expr.specs.Formulas.{Formula, Const, Read, Not, And, Or, Xor}

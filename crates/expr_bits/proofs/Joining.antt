@@ -1,5 +1,5 @@
 -- Members of a set, one more at a time.
-use Rattle.std.proofs.Common.{◌≡◌, ℕ, suc, ◌+◌, ◌-◌, ◌<◌, ◌≤◌, List, [], ◌∷◌, refl, sym, ap, ◌∙◌, subst, arith}
+use Rattle.std.proofs.Common.{◌≡◌, ℕ, suc, ◌+◌, ◌-◌, ◌<◌, ◌≤◌, List, ◌∷◌, sym, ap, ◌∙◌, arith}
 use Rattle.bit_expr.specs.Formulas.{Formula}
 use Rattle.value_bits.specs.declared.bits.Bits.{Bits}
 use Rattle.value_bits.specs.Parts.{Part, IsPart, no_part, joined_part}

@@ -1,6 +1,6 @@
 -- What is found of expressions over names, and their terms.
 use Rattle.std.proofs.lemmas.Bool.Decides.{nat_tests}
-use Rattle.std.proofs.Common.{◌≡◌, ℕ, suc, ◌+◌, ◌≤◌, nat_lt, arith, Bool, true, false, Option, None, Some, List, [], ◌∷◌, ◌++◌, if◌then◌else◌, unwrap_or, bytes_eq, codes, refl, sym, ap, ap₂, ◌∙◌, subst}
+use Rattle.std.proofs.Common.{◌≡◌, ℕ, suc, ◌+◌, ◌≤◌, nat_lt, arith, Bool, true, false, Option, None, Some, List, [], ◌∷◌, ◌++◌, if◌then◌else◌, unwrap_or, bytes_eq, codes, refl, sym, ap, ap₂, subst}
 use Rattle.pld_base.specs.declared.place.Place.{Place}
 use Rattle.abel_tree.specs.declared.words.Binary.{Binary}
 use Rattle.abel_tree.specs.declared.words.Extension.{Extension}
@@ -8,26 +8,26 @@ use Rattle.abel_tree.specs.declared.words.Unary.{Unary}
 use Rattle.abel_tree.specs.Entries.{Entry, Kind, APin, ANode, AConstant, ADeviceName}
 use Rattle.abel_tree.specs.Ranges.{range_names}
 use Rattle.abel_tree.specs.Tree.{Tree, ANumber, ASpecial, AName, ASet, AParen, AUnary, ABinary, SetMember, OneMember, SpanMember, Members, NoMember, MoreMembers}
-use Rattle.abel_meaning.specs.Designs.{Design}
+use Rattle.abel_meaning.specs.Designs.{Context}
 use Rattle.abel_meaning.specs.Numbers.{Shape, Number, Single, Set, Value, width_of, member_width, meeting}
 use Rattle.abel_meaning.specs.Terms.{Term, Terms, Known, term_named, term_of, terms_of, member_before, named_before, term_meant, known_after, known_of, extended_if, special_term}
 use Rattle.abel_meaning.specs.Terms as term
 use Rattle.abel_meaning.specs.Values.{constant_of, set_value, nowhere, plain_value, unary_value, binary_value, binary_by, is_relation}
 use Rattle.set_expr.specs.declared.fault.SectionFault.{SectionFault}
 use Rattle.set_expr.specs.declared.fault.SectionFault.TheVariants.{MisplacedSpecial, BadWidth}
-use Rattle.set_expr.specs.FoundNames.{NameFound, found_value, found_special, found_use, refused_there, at_name, name_found, named, nothing_found, one_position, range_found, found_of, all_found, found_before, found_constant, found_kind, found_entry, found_after, names_found, expression_found, is_pulse, is_pulse_kind}
-use Rattle.set_expr.specs.Refusals.{Found, unless_refused, found_both, found_under, found_set, members_refused, members_specials, members_value, members_width, too_wide, value_of_both, value_or_none, large_member, specials_refused, operands_refused, width_with}
+use Rattle.set_expr.specs.FoundNames.{NameFound, found_value, found_use, refused_there, at_name, name_found, named, nothing_found, one_position, range_found, found_of, all_found, found_before, found_constant, found_kind, found_entry, found_after, names_found, expression_found, is_pulse, is_pulse_kind}
+use Rattle.set_expr.specs.Refusals.{Found, unless_refused, found_both, found_under, found_set, members_refused, members_specials, members_value, members_width, too_wide, value_of_both, value_or_none, large_member, specials_refused, width_with}
 use Rattle.set_expr.proofs.SummedUp.{left_empty, right_empty}
 use Rattle.expr_bits.proofs.OfExpressions.{OfExpressions, of_append, of_operands, of_specials, of_large_member, of_too_wide, of_name}
-use Rattle.expr_bits.proofs.Links.{SameKind, same_kind, kind_then, unary_kind, binary_kind, AllKnown, known_append, known_met, known_binary, Sound, AllSound, Alike, extended_alike, extended_sound}
+use Rattle.expr_bits.proofs.Links.{SameKind, same_kind, kind_then, unary_kind, binary_kind, AllKnown, known_append, known_met, known_binary, Sound, AllSound, extended_alike, extended_sound}
 
 -- what is found of a value and its X positions, and a term
-abbrev pub IsLinkedIf : Design → Option Value → List SectionFault → Term → Type 0
+abbrev pub IsLinkedIf : Context → Option Value → List SectionFault → Term → Type 0
 IsLinkedIf d None xs t = Unit {0}
 IsLinkedIf d (Some v) xs t = SameKind v (constant_of d t) × (xs ≡ [] → AllKnown (constant_of d t).unknown) × Sound d t × (width_of v.shape ≤ 32)
 
 -- what isn't refused has a value, which is that of the term
-pub record IsLinked (d : Design) (f : Found) (t : Term) : Type 0 where
+pub record IsLinked (d : Context) (f : Found) (t : Term) : Type 0 where
   pub valued : f.refusals ≡ [] → f.value ≡ None → ⊥
   pub linked : IsLinkedIf d f.value f.specials t
   pub refusals : OfExpressions f.refusals
@@ -39,13 +39,13 @@ abbrev pub HasKind : Option Value → Value → Type 0
 HasKind None c = ⊥
 HasKind (Some v) c = SameKind v c
 
-there : (d : Design) (o : Option Value) (xs : List SectionFault) (t : Term) → (o ≡ None → ⊥) → IsLinkedIf d o xs t → HasKind o (constant_of d t) × (xs ≡ [] → AllKnown (constant_of d t).unknown) × Sound d t × (width_of (value_or_none o).shape ≤ 32)
+there : (d : Context) (o : Option Value) (xs : List SectionFault) (t : Term) → (o ≡ None → ⊥) → IsLinkedIf d o xs t → HasKind o (constant_of d t) × (xs ≡ [] → AllKnown (constant_of d t).unknown) × Sound d t × (width_of (value_or_none o).shape ≤ 32)
 there d None xs t h l = absurd (h refl)
 there d (Some v) xs t h l = l
 
 -- ---- what is refused says nothing
 
-unless : (d : Design) (rs xs : List SectionFault) (v : Value) (t : Term) → OfExpressions rs → OfExpressions xs → (rs ≡ [] → SameKind v (constant_of d t) × (xs ≡ [] → AllKnown (constant_of d t).unknown) × Sound d t × (width_of v.shape ≤ 32)) → IsLinked d (unless_refused rs xs v) t
+unless : (d : Context) (rs xs : List SectionFault) (v : Value) (t : Term) → OfExpressions rs → OfExpressions xs → (rs ≡ [] → SameKind v (constant_of d t) × (xs ≡ [] → AllKnown (constant_of d t).unknown) × Sound d t × (width_of v.shape ≤ 32)) → IsLinked d (unless_refused rs xs v) t
 unless d [] xs v t a b h = record { valued = λ e f. absurd cc; linked = h refl; refusals = tt; specials = b }
 unless d (r ∷ rs) xs v t a b h = record { valued = λ e f. absurd cc; linked = tt; refusals = a; specials = tt }
 
@@ -55,7 +55,7 @@ under_kind : (sign : Unary) (o : Option Value) (c : Value) → HasKind o c → S
 under_kind sign None c h = absurd h
 under_kind sign (Some v) c h = unary_kind sign v c h
 
-linked_under : (d : Design) (sign : Unary) (f : Found) (t : Term) → IsLinked d f t → IsLinked d (found_under sign f) (term.UnaryOf sign t)
+linked_under : (d : Context) (sign : Unary) (f : Found) (t : Term) → IsLinked d f t → IsLinked d (found_under sign f) (term.UnaryOf sign t)
 linked_under d sign f t l =
     unless d (f.refusals ++ f.specials) [] (unary_value sign (value_or_none f.value)) (term.UnaryOf sign t) (of_append f.refusals f.specials l.refusals l.specials) tt
     (λ e.
@@ -84,7 +84,7 @@ both_narrow sign None p a b = a
 both_narrow sign (Some v) None a b = b
 both_narrow sign (Some v) (Some u) a b = narrow_by (is_relation sign) sign v u a b
 
-linked_both : (d : Design) (sign : Binary) (p : Place) (f g : Found) (t u : Term) → IsLinked d f t → IsLinked d g u → IsLinked d (found_both sign p f g) (term.BinaryOf sign t u)
+linked_both : (d : Context) (sign : Binary) (p : Place) (f g : Found) (t u : Term) → IsLinked d f t → IsLinked d g u → IsLinked d (found_both sign p f g) (term.BinaryOf sign t u)
 linked_both d sign p f g t u l m =
     unless d _ [] (value_of_both sign f.value g.value) (term.BinaryOf sign t u)
     (of_append (f.refusals ++ g.refusals) _ (of_append f.refusals g.refusals l.refusals m.refusals)
@@ -97,12 +97,12 @@ linked_both d sign p f g t u l m =
 
 -- ---- sets
 
-abbrev pub AreLinked : Design → List Found → Terms → Type 0
+abbrev pub AreLinked : Context → List Found → Terms → Type 0
 AreLinked d [] term.NoTerm = Unit {0}
 AreLinked d (f ∷ fs) (term.Before t ts) = IsLinked d f t × AreLinked d fs ts
 AreLinked d _ _ = ⊥
 
-record SetLinked (d : Design) (fs : List Found) (ts : Terms) : Type 0 where
+record SetLinked (d : Context) (fs : List Found) (ts : Terms) : Type 0 where
   shape : (set_value d nowhere ts).shape ≡ (members_value fs).shape
   known : members_specials fs ≡ [] → AllKnown (set_value d nowhere ts).unknown
   sound : AllSound d ts
@@ -116,7 +116,7 @@ first_width : (o : Option Value) (c r : Value) (w : ℕ) → HasKind o c → r.s
 first_width None c r w h e = absurd h
 first_width (Some v) c r w h e = ap (λ s. Set (member_width v.shape + width_of s)) e
 
-linked_members : (d : Design) (p : Place) (fs : List Found) (ts : Terms) → AreLinked d fs ts → members_refused p fs ≡ [] → SetLinked d fs ts
+linked_members : (d : Context) (p : Place) (fs : List Found) (ts : Terms) → AreLinked d fs ts → members_refused p fs ≡ [] → SetLinked d fs ts
 linked_members d p [] term.NoTerm l e = record { shape = refl; known = λ x. tt; sound = tt; width = refl }
 linked_members d p [] (term.Before t ts) l e = absurd l
 linked_members d p (f ∷ fs) term.NoTerm l e = absurd l
@@ -133,11 +133,11 @@ linked_members d p (f ∷ fs) (term.Before t ts) l e =
       width = first_width f.value (constant_of d t) (members_value fs) (members_width fs) h.0 rest.width;
     }
 
-set_number : (d : Design) (fs : List Found) (ts : Terms) → (set_value d nowhere ts).shape ≡ (members_value fs).shape → SameKind (members_value fs) (set_value d nowhere ts)
+set_number : (d : Context) (fs : List Found) (ts : Terms) → (set_value d nowhere ts).shape ≡ (members_value fs).shape → SameKind (members_value fs) (set_value d nowhere ts)
 set_number d [] ts e = record { shape = e; number = λ n. absurd cc }
 set_number d (f ∷ fs) ts e = record { shape = e; number = λ n. absurd cc }
 
-of_members : (d : Design) (p : Place) (fs : List Found) (ts : Terms) → AreLinked d fs ts → OfExpressions (members_refused p fs) × OfExpressions (members_specials fs)
+of_members : (d : Context) (p : Place) (fs : List Found) (ts : Terms) → AreLinked d fs ts → OfExpressions (members_refused p fs) × OfExpressions (members_specials fs)
 of_members d p [] ts l = (tt, tt)
 of_members d p (f ∷ fs) term.NoTerm l = absurd l
 of_members d p (f ∷ fs) (term.Before t ts) l =
@@ -151,7 +151,7 @@ narrow_from p w e = by (nat_lt 32 w) refl e
     by true h f = absurd cc
     by false h f = grind (arith, nat_tests, h)
 
-linked_set : (d : Design) (p : Place) (fs : List Found) (ts : Terms) → AreLinked d fs ts → IsLinked d (found_set p fs) (term.Set ts)
+linked_set : (d : Context) (p : Place) (fs : List Found) (ts : Terms) → AreLinked d fs ts → IsLinked d (found_set p fs) (term.Set ts)
 linked_set d p fs ts l =
     let of = of_members d p fs ts l in
     unless d _ (members_specials fs) (members_value fs) (term.Set ts)
@@ -162,10 +162,10 @@ linked_set d p fs ts l =
 
 -- ---- an extension
 
-extended_known : (d : Design) (e : Extension) (t : Term) → AllKnown (constant_of d t).unknown → AllKnown (constant_of d (term.extended e t)).unknown
+extended_known : (d : Context) (e : Extension) (t : Term) → AllKnown (constant_of d t).unknown → AllKnown (constant_of d (term.extended e t)).unknown
 extended_known d e t k = subst AllKnown (sym (extended_alike d e t).unknown) k
 
-linked_extended : (d : Design) (e : Extension) (o : Option Value) (xs : List SectionFault) (t : Term) → IsLinkedIf d o xs t → IsLinkedIf d o xs (term.extended e t)
+linked_extended : (d : Context) (e : Extension) (o : Option Value) (xs : List SectionFault) (t : Term) → IsLinkedIf d o xs t → IsLinkedIf d o xs (term.extended e t)
 linked_extended d e None xs t l = tt
 linked_extended d e (Some v) xs t l = (
   kind_then v (constant_of d t) (constant_of d (term.extended e t)) l.0 (extended_alike d e t).kind,
@@ -174,7 +174,7 @@ linked_extended d e (Some v) xs t l = (
   l.3,
 )
 
-pub linked_if : (d : Design) (e : Option Extension) (f : Found) (t : Term) → IsLinked d f t → IsLinked d f (extended_if e t)
+pub linked_if : (d : Context) (e : Option Extension) (f : Found) (t : Term) → IsLinked d f t → IsLinked d f (extended_if e t)
 linked_if d None f t l = l
 linked_if d (Some e) f t l = record { valued = l.valued; linked = linked_extended d e f.value f.specials t l.linked; refusals = l.refusals; specials = l.specials }
 
@@ -186,28 +186,28 @@ IsPulseTerm term.Pulse = Unit {0}
 IsPulseTerm term.Release = Unit {0}
 IsPulseTerm _ = ⊥
 
-pub record NameLinked (d : Design) (n : NameFound) (k : Known) : Type 0 where
+pub record NameLinked (d : Context) (n : NameFound) (k : Known) : Type 0 where
   pub name : n.name ≡ k.name
   pub found : IsLinked d n.found k.term
   pub pulse : n.is_pulse ≡ true → IsPulseTerm k.term
 
-abbrev pub NamesLinked : Design → List NameFound → List Known → Type 0
+abbrev pub NamesLinked : Context → List NameFound → List Known → Type 0
 NamesLinked d [] [] = Unit {0}
 NamesLinked d (n ∷ ns) (k ∷ ks) = NameLinked d n k × NamesLinked d ns ks
 NamesLinked d _ _ = ⊥
 
-linked_value : (d : Design) (v : Value) (t : Term) → SameKind v (constant_of d t) → AllKnown (constant_of d t).unknown → Sound d t → width_of v.shape ≤ 32 → IsLinked d (found_value v) t
+linked_value : (d : Context) (v : Value) (t : Term) → SameKind v (constant_of d t) → AllKnown (constant_of d t).unknown → Sound d t → width_of v.shape ≤ 32 → IsLinked d (found_value v) t
 linked_value d v t k a s n = record { valued = λ e f. absurd cc; linked = (k, λ x. a, s, n); refusals = tt; specials = tt }
 
 -- a name's find, and its term
-record IsFoundTerm (d : Design) (n : NameFound) (t : Term) : Type 0 where
+record IsFoundTerm (d : Context) (n : NameFound) (t : Term) : Type 0 where
   found : IsLinked d n.found t
   pulse : n.is_pulse ≡ true → IsPulseTerm t
 
-nothing_linked : (d : Design) → IsFoundTerm d nothing_found (term.Number 0)
+nothing_linked : (d : Context) → IsFoundTerm d nothing_found (term.Number 0)
 nothing_linked d = record { found = linked_value d (plain_value 0) (term.Number 0) (same_kind (plain_value 0)) tt tt (omega arith); pulse = λ e. absurd cc }
 
-looked : (d : Design) (ns : List NameFound) (ks : List Known) (w : List ℕ) → NamesLinked d ns ks → IsFoundTerm d (name_found ns w) (term_named ks w)
+looked : (d : Context) (ns : List NameFound) (ks : List Known) (w : List ℕ) → NamesLinked d ns ks → IsFoundTerm d (name_found ns w) (term_named ks w)
 looked d [] [] w l = nothing_linked d
 looked d [] (k ∷ ks) w l = absurd l
 looked d (n ∷ ns) [] w l = absurd l
@@ -223,11 +223,11 @@ at_none : (p : Place) (xs : List SectionFault) → at_name p xs ≡ [] → xs �
 at_none p [] e = refl
 at_none p (x ∷ xs) e = absurd cc
 
-used_if : (d : Design) (p : Place) (o : Option Value) (xs : List SectionFault) (t : Term) → IsLinkedIf d o xs t → IsLinkedIf d o (at_name p xs) t
+used_if : (d : Context) (p : Place) (o : Option Value) (xs : List SectionFault) (t : Term) → IsLinkedIf d o xs t → IsLinkedIf d o (at_name p xs) t
 used_if d p None xs t l = tt
 used_if d p (Some v) xs t l = (l.0, λ e. l.1 (at_none p xs e), l.2, l.3)
 
-used : (d : Design) (p : Place) (n : NameFound) (t : Term) → IsFoundTerm d n t → IsLinked d (found_use p n) t
+used : (d : Context) (p : Place) (n : NameFound) (t : Term) → IsFoundTerm d n t → IsLinked d (found_use p n) t
 used d p n t l = by n.is_pulse
   where
     by : (b : Bool) → IsLinked d (if b then refused_there (MisplacedSpecial p) else record n.found { specials = at_name p n.found.specials }) t
@@ -236,18 +236,18 @@ used d p n t l = by n.is_pulse
 
 -- ---- specials
 
-special_linked : (d : Design) (p : Place) (b c : Bool) → IsLinked d (if b then record { refusals = []; specials = MisplacedSpecial p ∷ []; value = Some (one_position true) } else refused_there (MisplacedSpecial p)) (if b then term.X else if c then term.Pulse else term.Release)
+special_linked : (d : Context) (p : Place) (b c : Bool) → IsLinked d (if b then record { refusals = []; specials = MisplacedSpecial p ∷ []; value = Some (one_position true) } else refused_there (MisplacedSpecial p)) (if b then term.X else if c then term.Pulse else term.Release)
 special_linked d p true c = record { valued = λ e f. absurd cc; linked = (same_kind _, λ e. absurd cc, tt, omega arith); refusals = tt; specials = (tt, tt) }
 special_linked d p false c = record { valued = λ e f. absurd cc; linked = tt; refusals = (tt, tt); specials = tt }
 
 -- ---- expressions
 
-ranged : (d : Design) (ns : List NameFound) (ks : List Known) (p : Place) (names : List (List ℕ)) (fs : List Found) (ts : Terms) → NamesLinked d ns ks → AreLinked d fs ts → AreLinked d (range_found ns p names fs) (named_before ks names ts)
+ranged : (d : Context) (ns : List NameFound) (ks : List Known) (p : Place) (names : List (List ℕ)) (fs : List Found) (ts : Terms) → NamesLinked d ns ks → AreLinked d fs ts → AreLinked d (range_found ns p names fs) (named_before ks names ts)
 ranged d ns ks p [] fs ts l m = m
 ranged d ns ks p (w ∷ names) fs ts l m = (used d p (name_found ns w) (term_named ks w) (looked d ns ks w l), ranged d ns ks p names fs ts l m)
 
 mutual
-  pub tree_linked : (d : Design) (ns : List NameFound) (ks : List Known) → NamesLinked d ns ks → (t : Tree) → IsLinked d (found_of ns t) (term_of ks t)
+  pub tree_linked : (d : Context) (ns : List NameFound) (ks : List Known) → NamesLinked d ns ks → (t : Tree) → IsLinked d (found_of ns t) (term_of ks t)
   tree_linked d ns ks l (ANumber n) = linked_value d (plain_value n.value) (term.Number n.value) (same_kind (plain_value n.value)) tt tt (omega arith)
   tree_linked d ns ks l (ASpecial letter p) = special_linked d p (bytes_eq (letter ∷ []) (codes "X")) (bytes_eq (letter ∷ []) (codes "C"))
   tree_linked d ns ks l (AName word e) = linked_if d e _ (term_named ks word.text) (used d word.place (name_found ns word.text) (term_named ks word.text) (looked d ns ks word.text l))
@@ -256,11 +256,11 @@ mutual
   tree_linked d ns ks l (AUnary sign p t) = linked_under d sign (found_of ns t) (term_of ks t) (tree_linked d ns ks l t)
   tree_linked d ns ks l (ABinary sign p t u) = linked_both d sign p (found_of ns t) (found_of ns u) (term_of ks t) (term_of ks u) (tree_linked d ns ks l t) (tree_linked d ns ks l u)
 
-  members_linked : (d : Design) (ns : List NameFound) (ks : List Known) → NamesLinked d ns ks → (ms : Members) → AreLinked d (all_found ns ms) (terms_of ks ms)
+  members_linked : (d : Context) (ns : List NameFound) (ks : List Known) → NamesLinked d ns ks → (ms : Members) → AreLinked d (all_found ns ms) (terms_of ks ms)
   members_linked d ns ks l NoMember = tt
   members_linked d ns ks l (MoreMembers m ms) = member_linked d ns ks l m (all_found ns ms) (terms_of ks ms) (members_linked d ns ks l ms)
 
-  member_linked : (d : Design) (ns : List NameFound) (ks : List Known) → NamesLinked d ns ks → (m : SetMember) (fs : List Found) (ts : Terms) → AreLinked d fs ts → AreLinked d (found_before ns m fs) (member_before ks m ts)
+  member_linked : (d : Context) (ns : List NameFound) (ks : List Known) → NamesLinked d ns ks → (m : SetMember) (fs : List Found) (ts : Terms) → AreLinked d fs ts → AreLinked d (found_before ns m fs) (member_before ks m ts)
   member_linked d ns ks l (OneMember t) fs ts a = (tree_linked d ns ks l t, a)
   member_linked d ns ks l (SpanMember first last) fs ts a = ranged d ns ks first.place (range_names first.text last.text) fs ts l a
 
@@ -271,7 +271,7 @@ special_pulse true c e = absurd cc
 special_pulse false true e = tt
 special_pulse false false e = tt
 
-pulse_tree : (d : Design) (ns : List NameFound) (ks : List Known) → NamesLinked d ns ks → (t : Tree) → is_pulse t ≡ true → IsPulseTerm (term_of ks t)
+pulse_tree : (d : Context) (ns : List NameFound) (ks : List Known) → NamesLinked d ns ks → (t : Tree) → is_pulse t ≡ true → IsPulseTerm (term_of ks t)
 pulse_tree d ns ks l (ANumber n) e = absurd cc
 pulse_tree d ns ks l (ASpecial letter p) e = special_pulse (bytes_eq (letter ∷ []) (codes "X")) (bytes_eq (letter ∷ []) (codes "C")) e
 pulse_tree d ns ks l (AName word e) h = absurd cc
@@ -280,7 +280,7 @@ pulse_tree d ns ks l (AParen p t) h = pulse_tree d ns ks l t h
 pulse_tree d ns ks l (AUnary sign p t) h = absurd cc
 pulse_tree d ns ks l (ABinary sign p t u) h = absurd cc
 
-pulse_value : (d : Design) (t : Term) → IsPulseTerm t → IsLinked d (found_value (plain_value 0)) t
+pulse_value : (d : Context) (t : Term) → IsPulseTerm t → IsLinked d (found_value (plain_value 0)) t
 pulse_value d term.Pulse h = linked_value d (plain_value 0) term.Pulse (same_kind (plain_value 0)) tt tt (omega arith)
 pulse_value d term.Release h = linked_value d (plain_value 0) term.Release (same_kind (plain_value 0)) tt tt (omega arith)
 pulse_value d (term.Number n) h = absurd h
@@ -290,43 +290,43 @@ pulse_value d (term.Set ts) h = absurd h
 pulse_value d (term.UnaryOf sign t) h = absurd h
 pulse_value d (term.BinaryOf sign t u) h = absurd h
 
-constant_linked : (d : Design) (b : Bool) (f : Found) (t : Term) → (b ≡ true → IsPulseTerm t) → IsLinked d f t → IsLinked d (found_constant b f) t
+constant_linked : (d : Context) (b : Bool) (f : Found) (t : Term) → (b ≡ true → IsPulseTerm t) → IsLinked d f t → IsLinked d (found_constant b f) t
 constant_linked d true f t h l = pulse_value d t (h refl)
 constant_linked d false f t h l = l
 
-signal_linked : (d : Design) (s : ℕ) → IsLinked d (found_value (one_position false)) (term.Read s None)
+signal_linked : (d : Context) (s : ℕ) → IsLinked d (found_value (one_position false)) (term.Read s None)
 signal_linked d s = linked_value d (one_position false) (term.Read s None) (record { shape = refl; number = λ e. absurd cc }) (refl, tt) tt (omega arith)
 
-kind_linked : (d : Design) (ns : List NameFound) (ks : List Known) (s : ℕ) → NamesLinked d ns ks → (k : Kind) → IsLinked d (found_kind ns k) (term_meant ks s k)
+kind_linked : (d : Context) (ns : List NameFound) (ks : List Known) (s : ℕ) → NamesLinked d ns ks → (k : Kind) → IsLinked d (found_kind ns k) (term_meant ks s k)
 kind_linked d ns ks s l (APin pin negated) = signal_linked d s
 kind_linked d ns ks s l (ANode number) = signal_linked d s
 kind_linked d ns ks s l (AConstant t) = constant_linked d (is_pulse t) (found_of ns t) (term_of ks t) (pulse_tree d ns ks l t) (tree_linked d ns ks l t)
 kind_linked d ns ks s l ADeviceName = linked_value d (plain_value 0) (term.Number 0) (same_kind (plain_value 0)) tt tt (omega arith)
 
-kind_pulse : (d : Design) (ns : List NameFound) (ks : List Known) (s : ℕ) → NamesLinked d ns ks → (k : Kind) → is_pulse_kind k ≡ true → IsPulseTerm (term_meant ks s k)
+kind_pulse : (d : Context) (ns : List NameFound) (ks : List Known) (s : ℕ) → NamesLinked d ns ks → (k : Kind) → is_pulse_kind k ≡ true → IsPulseTerm (term_meant ks s k)
 kind_pulse d ns ks s l (APin pin negated) e = absurd cc
 kind_pulse d ns ks s l (ANode number) e = absurd cc
 kind_pulse d ns ks s l (AConstant t) e = pulse_tree d ns ks l t e
 kind_pulse d ns ks s l ADeviceName e = absurd cc
 
-one_more : (d : Design) (ns : List NameFound) (ks : List Known) (n : NameFound) (k : Known) → NamesLinked d ns ks → NameLinked d n k → NamesLinked d (ns ++ n ∷ []) (ks ++ k ∷ [])
+one_more : (d : Context) (ns : List NameFound) (ks : List Known) (n : NameFound) (k : Known) → NamesLinked d ns ks → NameLinked d n k → NamesLinked d (ns ++ n ∷ []) (ks ++ k ∷ [])
 one_more d [] [] n k l h = (h, tt)
 one_more d [] (y ∷ ks) n k l h = absurd l
 one_more d (x ∷ ns) [] n k l h = absurd l
 one_more d (x ∷ ns) (y ∷ ks) n k l h = (l.0, one_more d ns ks n k l.1 h)
 
-after_linked : (d : Design) (ns : List NameFound) (ks : List Known) (s : ℕ) (es : List Entry) → NamesLinked d ns ks → NamesLinked d (found_after ns es) (known_after ks s es)
+after_linked : (d : Context) (ns : List NameFound) (ks : List Known) (s : ℕ) (es : List Entry) → NamesLinked d ns ks → NamesLinked d (found_after ns es) (known_after ks s es)
 after_linked d ns ks s [] l = l
 after_linked d ns ks s (e ∷ es) l =
     after_linked d (ns ++ found_entry ns e ∷ []) (ks ++ record { name = e.name; term = term_meant ks s e.kind } ∷ []) (suc s) es
     (one_more d ns ks (found_entry ns e) (record { name = e.name; term = term_meant ks s e.kind }) l
     (record { name = refl; found = kind_linked d ns ks s l e.kind; pulse = kind_pulse d ns ks s l e.kind }))
 
-pub names_linked : (d : Design) (es : List Entry) → NamesLinked d (names_found es) (known_of es)
+pub names_linked : (d : Context) (es : List Entry) → NamesLinked d (names_found es) (known_of es)
 names_linked d es = after_linked d [] [] 0 es tt
 
-pub name_linked : (d : Design) (es : List Entry) (w : List ℕ) → IsLinked d (name_found (names_found es) w).found (term_named (known_of es) w)
+pub name_linked : (d : Context) (es : List Entry) (w : List ℕ) → IsLinked d (name_found (names_found es) w).found (term_named (known_of es) w)
 name_linked d es w = (looked d (names_found es) (known_of es) w (names_linked d es)).found
 
-pub expression_linked : (d : Design) (es : List Entry) (t : Tree) → IsLinked d (expression_found es t) (term_of (known_of es) t)
+pub expression_linked : (d : Context) (es : List Entry) (t : Tree) → IsLinked d (expression_found es t) (term_of (known_of es) t)
 expression_linked d es t = tree_linked d (names_found es) (known_of es) (names_linked d es) t

@@ -1,9 +1,9 @@
 -- What is found of an expression and what its term comes to: the same shape, and X only where nothing is made of it.
-use Rattle.std.proofs.Common.{◌≡◌, ℕ, zero, suc, ◌+◌, Bool, true, false, Option, None, Some, List, [], ◌∷◌, ◌++◌, if◌then◌else◌, length, replicate, refl, sym, ap, ap₂, ◌∙◌, subst}
+use Rattle.std.proofs.Common.{◌≡◌, ℕ, zero, suc, ◌+◌, Bool, true, false, None, Some, List, [], ◌∷◌, ◌++◌, replicate, refl, sym, ap, ap₂, ◌∙◌, subst}
 use Rattle.abel_tree.specs.declared.words.Binary.{Binary}
 use Rattle.abel_tree.specs.declared.words.Extension.{Extension}
 use Rattle.abel_tree.specs.declared.words.Unary.{Unary}
-use Rattle.abel_meaning.specs.Designs.{Design}
+use Rattle.abel_meaning.specs.Designs.{Context}
 use Rattle.abel_meaning.specs.Numbers.{Shape, Number, Single, Set, Value, width_of, member_width, meeting, met_number, met_unknown_by}
 use Rattle.abel_meaning.specs.Terms.{Term, Terms, extended, extended_each, extended_if}
 use Rattle.abel_meaning.specs.Terms as term
@@ -96,7 +96,7 @@ known_binary sign v u = known_by (is_relation sign) sign v u
 -- ---- nothing is made of X
 
 abbrev mutual
-  pub Sound : Design → Term → Type 0
+  pub Sound : Context → Term → Type 0
   Sound d (term.Number n) = Unit {0}
   Sound d term.X = Unit {0}
   Sound d term.Pulse = Unit {0}
@@ -106,7 +106,7 @@ abbrev mutual
   Sound d (term.UnaryOf sign t) = AllKnown (constant_of d t).unknown
   Sound d (term.BinaryOf sign t u) = Unit {0}
 
-  pub AllSound : Design → Terms → Type 0
+  pub AllSound : Context → Terms → Type 0
   AllSound d term.NoTerm = Unit {0}
   AllSound d (term.Before t ts) = Sound d t × AllSound d ts
 
@@ -124,7 +124,7 @@ pub record Alike (v c : Value) : Type 0 where
   pub unknown : c.unknown ≡ v.unknown
 
 mutual
-  pub extended_alike : (d : Design) (e : Extension) (t : Term) → Alike (constant_of d t) (constant_of d (extended e t))
+  pub extended_alike : (d : Context) (e : Extension) (t : Term) → Alike (constant_of d t) (constant_of d (extended e t))
   extended_alike d e (term.Number n) = record { kind = same_kind _; unknown = refl }
   extended_alike d e term.X = record { kind = same_kind _; unknown = refl }
   extended_alike d e term.Pulse = record { kind = same_kind _; unknown = refl }
@@ -143,7 +143,7 @@ mutual
         unknown = flags_by (is_relation sign) sign (constant_of d t) (constant_of d (extended e t)) (constant_of d u) (constant_of d (extended e u)) a.kind b.kind;
       }
 
-  set_alike : (d : Design) (e : Extension) (ts : Terms) → Alike (set_value d nowhere ts) (set_value d nowhere (extended_each e ts))
+  set_alike : (d : Context) (e : Extension) (ts : Terms) → Alike (set_value d nowhere ts) (set_value d nowhere (extended_each e ts))
   set_alike d e term.NoTerm = record { kind = same_kind _; unknown = refl }
   set_alike d e (term.Before t ts) =
       let a = extended_alike d e t in
@@ -157,7 +157,7 @@ mutual
       }
 
 mutual
-  pub extended_sound : (d : Design) (e : Extension) (t : Term) → Sound d t → Sound d (extended e t)
+  pub extended_sound : (d : Context) (e : Extension) (t : Term) → Sound d t → Sound d (extended e t)
   extended_sound d e (term.Number n) s = tt
   extended_sound d e term.X s = tt
   extended_sound d e term.Pulse s = tt
@@ -168,6 +168,6 @@ mutual
   extended_sound d e (term.UnaryOf sign t) s = subst AllKnown (sym (extended_alike d e t).unknown) s
   extended_sound d e (term.BinaryOf sign t u) s = tt
 
-  all_sound : (d : Design) (e : Extension) (ts : Terms) → AllSound d ts → AllSound d (extended_each e ts)
+  all_sound : (d : Context) (e : Extension) (ts : Terms) → AllSound d ts → AllSound d (extended_each e ts)
   all_sound d e term.NoTerm s = tt
   all_sound d e (term.Before t ts) s = (extended_sound d e t s.0, all_sound d e ts s.1)

@@ -2,8 +2,8 @@
 use Rattle.std.proofs.Common.{◌≡◌, ℕ, Option, None, Some, List, unwrap_or, refl, ◌∙◌, subst}
 use Rattle.bit_expr.specs.Folding.{free}
 use Rattle.abel_tree.specs.declared.words.Extension.{Extension}
-use Rattle.abel_tree.specs.Entries.{Entry, find}
-use Rattle.abel_meaning.specs.Designs.{Design}
+use Rattle.abel_tree.specs.Entries.{Entry}
+use Rattle.abel_meaning.specs.Designs.{Context}
 use Rattle.abel_meaning.specs.Numbers.{Value}
 use Rattle.abel_meaning.specs.Terms.{Term, extended_if, known_of, term_named}
 use Rattle.abel_meaning.specs.Terms as term
@@ -11,7 +11,7 @@ use Rattle.set_expr.specs.declared.fault.SectionFault.{SectionFault}
 use Rattle.set_expr.specs.declared.known_name.KnownName.{KnownName}
 use Rattle.set_expr.specs.declared.shaped.Shape.TheVariants as shape
 use Rattle.set_expr.specs.FoundNames.{NameFound, named, names_found, name_found, nothing_found}
-use Rattle.set_expr.specs.KnownNames.{Table, IsKnown, IsKnownIf, IsKnownName, HasShapeIf, IsPlaced, under}
+use Rattle.set_expr.specs.KnownNames.{IsKnownIf, IsKnownName, HasShapeIf}
 use Rattle.value_bits.specs.Parts.{Part, number_part}
 use Rattle.expr_bits.specs.declared.step.Step.TheVariants as step
 use Rattle.expr_bits.specs.Named.{KnowsNumber}
@@ -19,13 +19,13 @@ use Rattle.expr_bits.specs.Steps.{after_task, term_part, Push, Do}
 use Rattle.expr_bits.proofs.Linked.{IsLinkedIf, linked_if, name_linked}
 use Rattle.expr_bits.proofs.NumberTerms.{number_term}
 
-pub zero_comes : (d : Design) (e : Option Extension) (t : Term) (ps : List Part) → t ≡ term.Number 0 → after_task d (Do (step.Number 0)) ps ≡ after_task d (Push (extended_if e t)) ps
+pub zero_comes : (d : Context) (e : Option Extension) (t : Term) (ps : List Part) → t ≡ term.Number 0 → after_task d (Do (step.Number 0)) ps ≡ after_task d (Push (extended_if e t)) ps
 zero_comes d None t ps h = rw h refl
 zero_comes d (Some e) t ps h = rw h refl
 
 -- ---- what the table of names knows
 
-valued : (d : Design) (n : ℕ) (v : Option Value) (t : Term) (xs : List SectionFault) → HasShapeIf (Some (shape.Number n)) v → IsLinkedIf d v xs t → term_part d t ≡ free (number_part n)
+valued : (d : Context) (n : ℕ) (v : Option Value) (t : Term) (xs : List SectionFault) → HasShapeIf (Some (shape.Number n)) v → IsLinkedIf d v xs t → term_part d t ≡ free (number_part n)
 valued d n None t xs h l = absurd h
 valued d n (Some v) t xs h l = number_term d t n (l.0.shape ∙ h.0) (l.0.number h.0 ∙ h.1)
 
@@ -33,15 +33,9 @@ found_some : (k : KnownName) (o : Option NameFound) → IsKnownIf (Some k) o →
 found_some k None i = absurd i
 found_some k (Some n) i = i
 
-pub knows : (es : List Entry) (t : Table) (w : List ℕ) (k : KnownName) (e : Option Extension) → IsKnown es t → under t.names w ≡ Some k → KnowsNumber k (extended_if e (term_named (known_of es) w))
-knows es t w k e is u n shaped d =
-    let known = found_some k (named (names_found es) w) (subst (λ o. IsKnownIf o (named (names_found es) w)) u (is.names w)) in
+pub knows : (es : List Entry) (w : List ℕ) (k : KnownName) (e : Option Extension) → IsKnownIf (Some k) (named (names_found es) w) → KnowsNumber k (extended_if e (term_named (known_of es) w))
+knows es w k e is n shaped d =
+    let known = found_some k (named (names_found es) w) is in
     let found = (name_found (names_found es) w).found in
     let l = linked_if d e found (term_named (known_of es) w) (name_linked d es w) in
     valued d n found.value (extended_if e (term_named (known_of es) w)) found.specials (subst (λ s. HasShapeIf s found.value) shaped known.checked.shape) l.linked
-
-pub place_known : (es : List Entry) (t : Table) (w : List ℕ) (k : KnownName) → IsKnown es t → under t.names w ≡ Some k → find es w ≡ Some k.number
-place_known es t w k is u = subst (λ o. IsPlaced o (find es w)) u (is.places w)
-
-pub place_none : (es : List Entry) (t : Table) (w : List ℕ) → IsKnown es t → under t.names w ≡ None → find es w ≡ None
-place_none es t w is u = subst (λ o. IsPlaced o (find es w)) u (is.places w)

@@ -8,7 +8,7 @@ use Rattle.abel_meaning.specs.Numbers.{Shape, Number, Single, Set, Value}
 use Rattle.set_expr.specs.declared.fault.SectionFault.{SectionFault}
 use Rattle.set_expr.specs.declared.fault.SectionFault.TheVariants as fault
 use Rattle.set_expr.specs.FoundNames.{at_name}
-use Rattle.set_expr.specs.Refusals.{Found, unequal, unequal_unspread, not_numbers, no_divisor, operator_refusals, operands_refused, specials_refused, large_number, large_member, too_wide}
+use Rattle.set_expr.specs.Refusals.{unequal, unequal_unspread, not_numbers, no_divisor, operator_refusals, operands_refused, specials_refused, large_number, large_member, too_wide}
 
 abbrev pub IsOfExpression : SectionFault → Type 0
 IsOfExpression (fault.MisplacedSpecial p) = Unit {0}

@@ -1,5 +1,5 @@
 -- A stack of values in the arena: one more, one taken, and all of them while the arena grows.
-use Rattle.std.proofs.Common.{◌≡◌, ℕ, ◌+◌, ◌-◌, List, [], ◌∷◌, ◌++◌, reverse, refl, sym, ap, ◌∙◌, subst, take, append-nil}
+use Rattle.std.proofs.Common.{◌≡◌, ℕ, ◌-◌, List, [], ◌∷◌, ◌++◌, reverse, refl, sym, ap, ◌∙◌, subst, take, append-nil}
 use Rattle.std.specs.Global.{Vec}
 use Rattle.bit_expr.specs.declared.node.Node.{Node}
 use Rattle.bit_expr.specs.Arena.{arena, Grew}
@@ -13,7 +13,7 @@ use Rattle.value_bits.specs.Parts.{Part, IsPart}
 use Rattle.value_bits.specs.Showing.{IsBits}
 use Rattle.value_bits.proofs.TwoValues.{number_shown}
 use Rattle.expr_bits.specs.Stacks.{AreParts, AreStacked, ShowsStack}
-use Rattle.expr_bits.specs.Steps.{normal, normal_by, made_normal, top, pushed}
+use Rattle.expr_bits.specs.Steps.{normal, normal_by, made_normal, pushed}
 
 pub part_kept : (old new : List Formula) (n : ℕ) (b : Bits) (p : Part) → Grew old new n → IsPart old b p → IsPart new b p
 part_kept old new n b p g is =

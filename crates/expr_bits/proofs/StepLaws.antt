@@ -1,12 +1,11 @@
 -- Steps come to what their terms come to.
-use Rattle.std.proofs.Common.{◌≡◌, ℕ, zero, suc, ◌+◌, Bool, true, false, Option, None, Some, List, [], ◌∷◌, ◌++◌, length, map, reverse, refl, sym, ap, ap₂, ◌∙◌, subst, arith, append_assoc, append-nil}
+use Rattle.std.proofs.Common.{◌≡◌, ℕ, suc, ◌+◌, Bool, true, false, List, [], ◌∷◌, ◌++◌, length, map, reverse, refl, sym, ap, ap₂, ◌∙◌, arith, append_assoc}
 use Rattle.std.proofs.lemmas.List.{reverse-append, length-reverse}
 use Rattle.bit_expr.specs.Folding.{Made, free, ◌>>=◌}
 use Rattle.abel_tree.specs.declared.words.Binary.{Binary}
-use Rattle.abel_tree.specs.declared.words.Extension.{Extension}
 use Rattle.abel_tree.specs.declared.words.Unary.{Unary}
 use Rattle.abel_meaning.specs.BitWords.{Word, unary_word}
-use Rattle.abel_meaning.specs.Designs.{Design}
+use Rattle.abel_meaning.specs.Designs.{Context}
 use Rattle.abel_meaning.specs.FormulaBits.{bits_of, bits_of_all, binary_word}
 use Rattle.abel_meaning.specs.Numbers.{Shape, Number, Single, Set, Value, meeting}
 use Rattle.abel_meaning.specs.Terms.{Term, Terms, extended, extended_each, extended_if}
@@ -16,7 +15,7 @@ use Rattle.bit_words.proofs.Making.{made_is}
 use Rattle.value_bits.specs.Parts.{Part, no_part, joined_part}
 use Rattle.expr_bits.specs.declared.step.Step.TheVariants as step
 use Rattle.expr_bits.specs.Members.{list_of}
-use Rattle.expr_bits.specs.Steps.{normal, normal_by, term_part, top, below, pushed, joins, Task, Push, Do, after_task, after_all}
+use Rattle.expr_bits.specs.Steps.{normal, normal_by, term_part, joins, Task, Push, Do, after_all}
 
 abbrev value_with : Shape → ℕ → List Bool → Value
 value_with s n xs = record { shape = s; number = n; unknown = xs }
@@ -78,7 +77,7 @@ joined_by (Set w) n fs xs rest = refl
 normal_joined : (v : Value) (xs : Word) (rest : Part) → joined_part (part_with (normal v) xs) rest ≡ joined_part (part_with v xs) rest
 normal_joined v xs rest = joined_by v.shape v.number v.unknown xs rest
 
-normal_set : (d : Design) (ts : Terms) → normal (set_value d nowhere ts) ≡ set_value d nowhere ts
+normal_set : (d : Context) (ts : Terms) → normal (set_value d nowhere ts) ≡ set_value d nowhere ts
 normal_set d term.NoTerm = refl
 normal_set d (term.Before t ts) = refl
 
@@ -87,13 +86,13 @@ normal_set d (term.Before t ts) = refl
 regrouped : {A : Type 0} (a b : ℕ) (m n : Made A) → m ≡ n → ◌≡◌ {A = Made A} (record { what = m.what; nodes = (a + b) + m.nodes }) (record { what = n.what; nodes = a + (b + n.nodes) })
 regrouped {A} a b m n e = made_is _ _ (ap (λ (x : Made A). x.what) e) (omega (arith, ap (λ (x : Made A). x.nodes) e))
 
-pub unary_steps : (d : Design) (sign : Unary) (t : Term) (ss : List Task) (ps : List Part) → after_all d (Push (term.UnaryOf sign t) ∷ ss) ps ≡ after_all d (Push t ∷ Do (step.Under sign) ∷ ss) ps
+pub unary_steps : (d : Context) (sign : Unary) (t : Term) (ss : List Task) (ps : List Part) → after_all d (Push (term.UnaryOf sign t) ∷ ss) ps ≡ after_all d (Push t ∷ Do (step.Under sign) ∷ ss) ps
 unary_steps d sign t ss ps =
     let made = bits_of d t in
     let word = unary_word sign made.what in
     regrouped made.nodes word.nodes _ _ (ap (λ v. after_all d ss (part_with v word.what ∷ ps)) (sym (normal_under sign (constant_of d t))))
 
-pub binary_steps : (d : Design) (sign : Binary) (t u : Term) (ss : List Task) (ps : List Part) → after_all d (Push (term.BinaryOf sign t u) ∷ ss) ps ≡ after_all d (Push t ∷ Push u ∷ Do (step.Both sign) ∷ ss) ps
+pub binary_steps : (d : Context) (sign : Binary) (t u : Term) (ss : List Task) (ps : List Part) → after_all d (Push (term.BinaryOf sign t u) ∷ ss) ps ≡ after_all d (Push t ∷ Push u ∷ Do (step.Both sign) ∷ ss) ps
 binary_steps d sign t u ss ps =
     let xs = bits_of d t in
     let ys = bits_of d u in
@@ -110,15 +109,15 @@ binary_steps d sign t u ss ps =
 -- ---- sets
 
 -- all terms, one after another
-abbrev parts_of : Design → List Term → Made (List Part)
+abbrev parts_of : Context → List Term → Made (List Part)
 parts_of d [] = free []
 parts_of d (t ∷ ts) = term_part d t >>= λ p. parts_of d ts >>= λ ps. free (p ∷ ps)
 
-parts_long : (d : Design) (ts : List Term) → length (parts_of d ts).what ≡ length ts
+parts_long : (d : Context) (ts : List Term) → length (parts_of d ts).what ≡ length ts
 parts_long d [] = refl
 parts_long d (t ∷ ts) = ap suc (parts_long d ts)
 
-pushes : (d : Design) (ts : List Term) (ss : List Task) (ps : List Part) → after_all d (map Push ts ++ ss) ps ≡ parts_of d ts >>= λ qs. after_all d ss (reverse qs ++ ps)
+pushes : (d : Context) (ts : List Term) (ss : List Task) (ps : List Part) → after_all d (map Push ts ++ ss) ps ≡ parts_of d ts >>= λ qs. after_all d ss (reverse qs ++ ps)
 pushes d [] ss ps = made_is _ _ refl (omega arith)
 pushes d (t ∷ ts) ss ps =
     let p = term_part d t in
@@ -157,17 +156,17 @@ set_joins xs ps n e =
     ap (λ k. joins k no_part (reverse xs ++ ps)) (e ∙ sym (length-reverse xs)) ∙ joins_all (reverse xs) no_part ps
     ∙ ap (λ p. p ∷ ps) (down_turned xs no_part)
 
-set_made : (d : Design) (ts : Terms) → set_before (parts_of d (list_of ts)).what no_part ≡ part_with (set_value d nowhere ts) (bits_of_all d ts).what
+set_made : (d : Context) (ts : Terms) → set_before (parts_of d (list_of ts)).what no_part ≡ part_with (set_value d nowhere ts) (bits_of_all d ts).what
 set_made d term.NoTerm = refl
 set_made d (term.Before t ts) =
     ap (joined_part (part_with (normal (constant_of d t)) (bits_of d t).what)) (set_made d ts)
     ∙ normal_joined (constant_of d t) (bits_of d t).what (part_with (set_value d nowhere ts) (bits_of_all d ts).what)
 
-set_nodes : (d : Design) (ts : Terms) → (parts_of d (list_of ts)).nodes ≡ (bits_of_all d ts).nodes
+set_nodes : (d : Context) (ts : Terms) → (parts_of d (list_of ts)).nodes ≡ (bits_of_all d ts).nodes
 set_nodes d term.NoTerm = refl
 set_nodes d (term.Before t ts) = omega (arith, set_nodes d ts)
 
-pub set_steps : (d : Design) (ts : Terms) (n : ℕ) (ss : List Task) (ps : List Part) → n ≡ length (list_of ts) → after_all d (Push (term.Set ts) ∷ ss) ps ≡ after_all d (map Push (list_of ts) ++ Do (step.Joins n) ∷ ss) ps
+pub set_steps : (d : Context) (ts : Terms) (n : ℕ) (ss : List Task) (ps : List Part) → n ≡ length (list_of ts) → after_all d (Push (term.Set ts) ∷ ss) ps ≡ after_all d (map Push (list_of ts) ++ Do (step.Joins n) ∷ ss) ps
 set_steps d ts n ss ps e =
     let all = parts_of d (list_of ts) in
     let whole : joins n no_part (reverse all.what ++ ps) ≡ part_with (normal (set_value d nowhere ts)) (bits_of_all d ts).what ∷ ps = set_joins all.what ps n (e ∙ sym (parts_long d (list_of ts))) ∙ ap (λ p. p ∷ ps) (set_made d ts ∙ ap (λ v. part_with v (bits_of_all d ts).what) (sym (normal_set d ts))) in

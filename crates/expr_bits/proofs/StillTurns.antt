@@ -1,5 +1,5 @@
 -- Turns on constant values make no node, and leave them constant.
-use Rattle.std.proofs.Common.{◌≡◌, ℕ, zero, suc, ◌+◌, ◌<◌, List, [], ◌∷◌, ◌++◌, get_or, length, Ok, refl, sym, ap, ◌∙◌, ap₂, subst, arith}
+use Rattle.std.proofs.Common.{◌≡◌, ℕ, zero, suc, ◌<◌, List, [], ◌∷◌, ◌++◌, get_or, length, Ok, refl, sym, ap, ◌∙◌, ap₂, subst, arith}
 use Rattle.std.specs.Global.{Vec}
 use Rattle.bit_expr.specs.declared.node.ExprId.{ExprId}
 use Rattle.bit_expr.specs.declared.node.Node.{Node}
@@ -7,7 +7,7 @@ use Rattle.bit_expr.specs.Arena.{arena}
 use Rattle.bit_expr.specs.Folding.{free, ◌>>=◌}
 use Rattle.bit_expr.proofs.ArenaLists.{arena_count, low_formula}
 use Rattle.abel_tree.specs.Entries.{Entry}
-use Rattle.abel_meaning.specs.Designs.{Design}
+use Rattle.abel_meaning.specs.Designs.{Context}
 use Rattle.abel_meaning.specs.FormulaBits.{bits_of, make_source}
 use Rattle.abel_meaning.specs.Numbers.{member_width}
 use Rattle.abel_meaning.specs.Sources.{Source, Zero, Held, source_of}
@@ -47,7 +47,7 @@ zero_free : (s : Source) → s ≡ Zero → IsFree AreConstant (make_source s >>
 zero_free Zero e = (refl, (tt, tt))
 zero_free (Held complement leaf) e = absurd cc
 
-step_still : (d : Design) (s : Step) (ps : List Part) → IsQuiet d s → AreStill ps → IsFree AreStill (after_step d s ps)
+step_still : (d : Context) (s : Step) (ps : List Part) → IsQuiet d s → AreStill ps → IsFree AreStill (after_step d s ps)
 step_still d (step.Number n) ps q k = (refl, (tt, k))
 step_still d step.Unknown ps q k = (refl, ((tt, tt), k))
 step_still d (step.Read s e) ps q k = let z = zero_free (source_of d s e) q in (z.0, (z.1, k))
@@ -60,16 +60,16 @@ step_still d (step.Joins n) ps q k = (refl, joins_still n no_part ps tt k)
 
 -- ---- turns
 
-turn_still : (es : List Entry) (d : Design) (t : Turn) (ps : List Part) → IsQuietTurn d t → IsHeld es d t → AreStill ps → IsFree AreStill (after_turn d es t ps)
+turn_still : (es : List Entry) (d : Context) (t : Turn) (ps : List Part) → IsQuietTurn d t → IsHeld es d t → AreStill ps → IsFree AreStill (after_turn d es t ps)
 turn_still es d (turn.Expands x e n) ps q h k = (refl, k)
 turn_still es d (turn.Does s) ps q h k = step_still d s ps q k
 turn_still es d (turn.Keeps b n e) ps q h k = (h.free.0, (h.free.1, k))
 
-pub still_none : (d : Design) → KeepStill d []
+pub still_none : (d : Context) → KeepStill d []
 still_none d ps h = (refl, h)
 
 -- what is left keeps values constant, and so does the turn with it
-pub still_turn : (es : List Entry) (d : Design) (t : Turn) (a b : Task) (ts us : List Task) → ((ps : List Part) → after_task d a ps ≡ after_task d b ps) → ((ps : List Part) → after_all d (a ∷ ts) ps ≡ then_all d (after_turn d es t ps) us) → IsQuietTurn d t → IsHeld es d t → KeepStill d us → KeepStill d (b ∷ ts)
+pub still_turn : (es : List Entry) (d : Context) (t : Turn) (a b : Task) (ts us : List Task) → ((ps : List Part) → after_task d a ps ≡ after_task d b ps) → ((ps : List Part) → after_all d (a ∷ ts) ps ≡ then_all d (after_turn d es t ps) us) → IsQuietTurn d t → IsHeld es d t → KeepStill d us → KeepStill d (b ∷ ts)
 still_turn es d t a b ts us same law q h more ps k =
     subst (IsFree AreStill) (sym (law ps) ∙ ap (λ m. m >>= after_all d ts) (same ps))
     (free_then AreStill AreStill (after_turn d es t ps) (after_all d us) (turn_still es d t ps q h k) more)
@@ -95,7 +95,7 @@ anywhere old ns b p e is =
     }
 
 -- what is built alone without a node is kept
-pub kept_alone : (d : Design) (new : List Node) (b : Bits) (t : Term) → KeepStill d (Push t ∷ []) → Makes IsPart [] new (Ok b) (term_part d t) → IsKept d b t
+pub kept_alone : (d : Context) (new : List Node) (b : Bits) (t : Term) → KeepStill d (Push t ∷ []) → Makes IsPart [] new (Ok b) (term_part d t) → IsKept d b t
 kept_alone d new b t still made =
     let all = still [] tt in
     let nodes : (bits_of d t).nodes ≡ 0 = omega (arith, all.0) in
@@ -106,17 +106,17 @@ kept_alone d new b t still made =
 
 -- ---- tables
 
-pub kept_more : (es : List Entry) (d : Design) (rs : List Row) (r : Row) → AreKept es d rs → IsKept d r.bits (named_term es r.number r.extension) → AreKept es d (rs ++ r ∷ [])
+pub kept_more : (es : List Entry) (d : Context) (rs : List Row) (r : Row) → AreKept es d rs → IsKept d r.bits (named_term es r.number r.extension) → AreKept es d (rs ++ r ∷ [])
 kept_more es d [] r h k = (k, tt)
 kept_more es d (x ∷ rs) r h k = (h.0, kept_more es d rs r h.1 k)
 
-pub kept_at : (es : List Entry) (d : Design) (rs : List Row) (i : ℕ) (r : Row) → AreKept es d rs → i < length rs → r ≡ get_or rs i r → IsKept d r.bits (named_term es r.number r.extension)
+pub kept_at : (es : List Entry) (d : Context) (rs : List Row) (i : ℕ) (r : Row) → AreKept es d rs → i < length rs → r ≡ get_or rs i r → IsKept d r.bits (named_term es r.number r.extension)
 kept_at es d [] i r h lt e = absurd (omega (arith, lt))
 kept_at es d (x ∷ rs) zero r h lt e = subst (λ (y : Row). IsKept d y.bits (named_term es y.number y.extension)) (sym e) h.0
 kept_at es d (x ∷ rs) (suc i) r h lt e = kept_at es d rs i r h.1 (omega (arith, lt)) e
 
 -- what is kept is put on top without a node
-pub kept_put : (old : List Node) (d : Design) (t : Term) (b : Bits) (vs : Vec Bits) (ps : List Part) → IsKept d b t → (IsPart (arena old) b (term_part d t).what → ShowsStack (arena old) vs ((term_part d t).what ∷ ps)) → Makes ShowsStack old old (Ok vs) (pushed (term_part d t) ps)
+pub kept_put : (old : List Node) (d : Context) (t : Term) (b : Bits) (vs : Vec Bits) (ps : List Part) → IsKept d b t → (IsPart (arena old) b (term_part d t).what → ShowsStack (arena old) vs ((term_part d t).what ∷ ps)) → Makes ShowsStack old old (Ok vs) (pushed (term_part d t) ps)
 kept_put old d t b vs ps k shows =
     let none : pushed (term_part d t) ps ≡ free ((term_part d t).what ∷ ps) = made_is _ _ refl k.free.0 in
     subst (Makes ShowsStack old old (Ok vs)) (sym none) (nothing_made ShowsStack old vs ((term_part d t).what ∷ ps) (shows (k.shows old)))

@@ -1,5 +1,5 @@
 -- The walk, turn by turn: what was built, and what is left comes to the whole.
-use Rattle.std.proofs.Common.{◌≡◌, ℕ, ◌+◌, false, List, [], ◌∷◌, ◌++◌, length, map, reverse, take, Ok, Err, refl, sym, ap, ◌∙◌, subst, arith}
+use Rattle.std.proofs.Common.{◌≡◌, ℕ, ◌+◌, List, [], ◌∷◌, ◌++◌, length, map, take, Ok, Err, refl, sym, ap, ◌∙◌, subst, arith}
 use Rattle.std.proofs.lemmas.List.{reverse-append}
 use Rattle.std.proofs.Math.Seq.{take-length}
 use Rattle.std.specs.Global.{Vec}
@@ -14,11 +14,11 @@ use Rattle.abel_tree.specs.declared.expressions.Expr.{Expr}
 use Rattle.abel_tree.specs.declared.names.Names.{Names}
 use Rattle.abel_tree.specs.Entries.{Entry, entries_of}
 use Rattle.abel_tree.specs.View.{view}
-use Rattle.abel_meaning.specs.Designs.{Design}
+use Rattle.abel_meaning.specs.Designs.{Context, context_of}
 use Rattle.abel_meaning.specs.Terms.{Term, known_of, term_of}
 use Rattle.bit_words.specs.Making.{IsMade, Makes}
 use Rattle.bit_words.proofs.Making.{made_is, Going, going_start, going_on, going_stop, going_done}
-use Rattle.set_expr.specs.Answer.{IsDesignOf}
+use Rattle.set_expr.specs.Answer.{IsContextOf}
 use Rattle.value_bits.specs.declared.bits.Bits.{Bits}
 use Rattle.value_bits.specs.Parts.{Part, IsPart}
 use Rattle.expr_bits.specs.declared.turn.Turn.{Turn}
@@ -30,24 +30,24 @@ pub tasks_last : (es : List Entry) (ws : List Work) (w : Work) → tasks_of es (
 tasks_last es ws w = ap (map (task_of es)) (reverse-append ws (w ∷ []))
 
 -- the values so far, and these tasks
-abbrev pub Walking : Design → (old now : List Node) → Vec Bits → List Task → Term → Type 0
+abbrev pub Walking : Context → (old now : List Node) → Vec Bits → List Task → Term → Type 0
 Walking d old now vs ts t = Going ShowsStack old now vs (after_all d ts) (pushed (term_part d t) [])
 
-pub walking_start : (d : Design) (old : List Node) (vs : Vec Bits) (t : Term) → vs.items ≡ [] → Walking d old old vs (Push t ∷ []) t
+pub walking_start : (d : Context) (old : List Node) (vs : Vec Bits) (t : Term) → vs.items ≡ [] → Walking d old old vs (Push t ∷ []) t
 walking_start d old vs t e =
     going_start ShowsStack old vs (after_all d (Push t ∷ [])) (pushed (term_part d t) []) []
     (subst (λ bs. AreStacked (arena old) bs []) (sym e) tt) refl (omega arith)
 
-pub walking_standing : (d : Design) (old now : List Node) (vs : Vec Bits) (ts : List Task) (t : Term) → Walking d old now vs ts t → Standing (arena now) vs.items
+pub walking_standing : (d : Context) (old now : List Node) (vs : Vec Bits) (ts : List Task) (t : Term) → Walking d old now vs ts t → Standing (arena now) vs.items
 walking_standing d old now vs ts t g = record { parts = g.made; are = g.shows }
 
 -- an expression in parts
-pub whole_turn : (d : Design) (us ts : List Task) (ps : List Part) → after_all d us ps ≡ after_all d ts ps → after_all d ts ps ≡ then_all d (free ps) us
+pub whole_turn : (d : Context) (us ts : List Task) (ps : List Part) → after_all d us ps ≡ after_all d ts ps → after_all d ts ps ≡ then_all d (free ps) us
 whole_turn d us ts ps e =
     made_is _ _ (ap (λ (m : Made (List Part)). m.what) (sym e)) (omega (arith, ap (λ (m : Made (List Part)). m.nodes) e))
 
 -- the first task as another one that comes to the same
-pub walking_as : (d : Design) (old now : List Node) (vs : Vec Bits) (a b : Task) (ts : List Task) (t : Term) → ((ps : List Part) → after_task d a ps ≡ after_task d b ps) → Walking d old now vs (b ∷ ts) t → Walking d old now vs (a ∷ ts) t
+pub walking_as : (d : Context) (old now : List Node) (vs : Vec Bits) (a b : Task) (ts : List Task) (t : Term) → ((ps : List Part) → after_task d a ps ≡ after_task d b ps) → Walking d old now vs (b ∷ ts) t → Walking d old now vs (a ∷ ts) t
 walking_as d old now vs a b ts t same g =
     let here : after_all d (b ∷ ts) g.made ≡ after_all d (a ∷ ts) g.made = ap (λ m. m >>= after_all d ts) (sym (same g.made)) in
     record {
@@ -61,12 +61,12 @@ walking_as d old now vs a b ts t same g =
     }
 
 -- a turn
-pub walking_turn : (d : Design) (old now new : List Node) (vs ws : Vec Bits) (es : List Entry) (next : Turn) (ts us : List Task) (t : Term) → (g : Walking d old now vs ts t) → ((ps : List Part) → after_all d ts ps ≡ then_all d (after_turn d es next ps) us) → Makes ShowsStack now new (Ok ws) (after_turn d es next g.made) → Walking d old new ws us t
+pub walking_turn : (d : Context) (old now new : List Node) (vs ws : Vec Bits) (es : List Entry) (next : Turn) (ts us : List Task) (t : Term) → (g : Walking d old now vs ts t) → ((ps : List Part) → after_all d ts ps ≡ then_all d (after_turn d es next ps) us) → Makes ShowsStack now new (Ok ws) (after_turn d es next g.made) → Walking d old new ws us t
 walking_turn d old now new vs ws es next ts us t g law m =
     going_on ShowsStack ShowsStack ShowsStack old now new vs ws ws (after_all d ts) (pushed (term_part d t) []) (after_turn d es next g.made) (after_all d us) (after_turn d es next g.made).what
     g m m.shows (ap (λ (x : Made (List Part)). x.what) (law g.made)) (ap (λ (x : Made (List Part)). x.nodes) (law g.made))
 
-pub walking_stops : (d : Design) (old now new : List Node) (vs : Vec Bits) (e : ExprFault) (es : List Entry) (next : Turn) (ts us : List Task) (t : Term) → (g : Walking d old now vs ts t) → ((ps : List Part) → after_all d ts ps ≡ then_all d (after_turn d es next ps) us) → Makes {R = Vec Bits} ShowsStack now new (Err e) (after_turn d es next g.made) → Makes {R = Bits} IsPart old new (Err e) (term_part d t)
+pub walking_stops : (d : Context) (old now new : List Node) (vs : Vec Bits) (e : ExprFault) (es : List Entry) (next : Turn) (ts us : List Task) (t : Term) → (g : Walking d old now vs ts t) → ((ps : List Part) → after_all d ts ps ≡ then_all d (after_turn d es next ps) us) → Makes {R = Vec Bits} ShowsStack now new (Err e) (after_turn d es next g.made) → Makes {R = Bits} IsPart old new (Err e) (term_part d t)
 walking_stops d old now new vs e es next ts us t g law m =
     as_part e (going_stop ShowsStack ShowsStack ShowsStack old now new vs e (after_all d ts) (pushed (term_part d t) []) (after_turn d es next g.made) g m (omega (arith, ap (λ (x : Made (List Part)). x.nodes) (law g.made))))
   where
@@ -78,7 +78,7 @@ walking_stops d old now new vs e es next ts us t g law m =
 abbrev ShowsTop : List Formula → Bits → List Part → Type 0
 ShowsTop fs b ps = IsPart fs b (top ps)
 
-pub walking_done : (d : Design) (old now : List Node) (vs : Vec Bits) (b : Bits) (ts : List Task) (t : Term) → ts ≡ [] → (g : Walking d old now vs ts t) → IsPart (arena now) b (top g.made) → Makes IsPart old now (Ok b) (term_part d t)
+pub walking_done : (d : Context) (old now : List Node) (vs : Vec Bits) (b : Bits) (ts : List Task) (t : Term) → ts ≡ [] → (g : Walking d old now vs ts t) → IsPart (arena now) b (top g.made) → Makes IsPart old now (Ok b) (term_part d t)
 walking_done d old now vs b ts t e g is =
     let none : after_all d ts g.made ≡ free g.made = ap (λ us. after_all d us g.made) e in
     let whole : IsMade ShowsTop (arena old) (arena now) b (pushed (term_part d t) []) =
@@ -91,14 +91,14 @@ all_names es n e = ap (λ k. take k es) e ∙ take-length es
 
 -- ---- a design of these names
 
-pub plain_design : Table → Names → Design
-plain_design t n = record { device = t; names = entries_of n; known = known_of (entries_of n); starts_dontcare = false; sections = [] }
+pub plain_design : Table → Names → Context
+plain_design t n = context_of t (entries_of n)
 
-pub is_plain : (t : Table) (n : Names) → IsDesignOf t n (plain_design t n)
+pub is_plain : (t : Table) (n : Names) → IsContextOf t n (plain_design t n)
 unfolding plain_design
 is_plain t n = record { device = refl; names = refl; known = refl }
 
 -- what an expression over all names stands for
-pub whole_term : (t : Table) (n : Names) (d : Design) (e : Expr) (count : ℕ) → IsDesignOf t n d → count ≡ length (entries_of n) → term_of (known_of (take count (entries_of n))) (view e) ≡ term_of d.known (view e)
+pub whole_term : (t : Table) (n : Names) (d : Context) (e : Expr) (count : ℕ) → IsContextOf t n d → count ≡ length (entries_of n) → term_of (known_of (take count (entries_of n))) (view e) ≡ term_of d.known (view e)
 whole_term t n d e count is all =
     ap (λ es. term_of (known_of es) (view e)) (all_names (entries_of n) count all) ∙ ap (λ ks. term_of ks (view e)) (sym is.known)

@@ -1,7 +1,6 @@
 pub mod Held
 pub mod Members
 pub mod Named
-pub mod Placed
 pub mod Shaping
 pub mod Stacks
 pub mod Still

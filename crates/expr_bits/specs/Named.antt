@@ -2,7 +2,7 @@
 use Rattle.std.specs.Prelude.{◌≡◌, ℕ, Some, List, [], ◌∷◌}
 use Rattle.bit_expr.specs.Folding.{free}
 use Rattle.abel_tree.specs.Entries.{Entry}
-use Rattle.abel_meaning.specs.Designs.{Design}
+use Rattle.abel_meaning.specs.Designs.{Context}
 use Rattle.abel_meaning.specs.Terms.{Term}
 use Rattle.set_expr.specs.declared.known_name.KnownName.{KnownName}
 use Rattle.set_expr.specs.declared.shaped.Shape.TheVariants as shape
@@ -13,7 +13,7 @@ use Rattle.expr_bits.specs.Steps.{Push, after_task, term_part}
 
 -- the work comes to the term
 abbrev pub ComesTo : List Entry → Work → Term → Type 0
-ComesTo es w t = (d : Design) (ps : List Part) → after_task d (task_of es w) ps ≡ after_task d (Push t) ps
+ComesTo es w t = (d : Context) (ps : List Part) → after_task d (task_of es w) ps ≡ after_task d (Push t) ps
 
 -- each of these comes to each of those
 abbrev pub ComeTo : List Entry → List Work → List Term → Type 0
@@ -23,4 +23,4 @@ ComeTo es _ _ = ⊥
 
 -- where a number is known of a name, its term comes to that number
 abbrev pub KnowsNumber : KnownName → Term → Type 0
-KnowsNumber k t = (n : ℕ) → k.checked.shape ≡ Some (shape.Number n) → (d : Design) → term_part d t ≡ free (number_part n)
+KnowsNumber k t = (n : ℕ) → k.checked.shape ≡ Some (shape.Number n) → (d : Context) → term_part d t ≡ free (number_part n)

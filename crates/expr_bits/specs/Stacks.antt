@@ -6,7 +6,7 @@ use Rattle.bit_expr.specs.Formulas.{Formula}
 use Rattle.abel_tree.specs.declared.words.Extension.{Extension}
 use Rattle.abel_tree.specs.Entries.{Entry}
 use Rattle.abel_tree.specs.View.{view}
-use Rattle.abel_meaning.specs.Designs.{Design}
+use Rattle.abel_meaning.specs.Designs.{Context}
 use Rattle.abel_meaning.specs.Terms.{Term, known_of, term_of, term_meant, extended_if}
 use Rattle.abel_meaning.specs.Terms as term
 use Rattle.value_bits.specs.declared.bits.Bits.{Bits}
@@ -61,11 +61,11 @@ abbrev pub tasks_of : List Entry → List Work → List Task
 tasks_of es ws = map (task_of es) (reverse ws)
 
 -- the values after a turn: an expression alone adds none
-abbrev pub after_turn : Design → List Entry → Turn → List Part → Made (List Part)
+abbrev pub after_turn : Context → List Entry → Turn → List Part → Made (List Part)
 after_turn d es (turn.Expands expr extension count) ps = free ps
 after_turn d es (turn.Does s) ps = after_step d s ps
 after_turn d es (turn.Keeps b k e) ps = pushed (term_part d (named_term es k e)) ps
 
 -- and then all these tasks
-abbrev pub then_all : Design → Made (List Part) → List Task → Made (List Part)
+abbrev pub then_all : Context → Made (List Part) → List Task → Made (List Part)
 then_all d m ts = m >>= after_all d ts

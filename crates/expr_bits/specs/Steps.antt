@@ -3,7 +3,7 @@ use Rattle.std.specs.Prelude.{ℕ, zero, suc, true, false, Option, List, [], ◌
 use Rattle.bit_expr.specs.Folding.{Made, free, ◌>>=◌}
 use Rattle.bit_expr.specs.Formulas.{Const}
 use Rattle.abel_tree.specs.declared.words.Extension.{Extension}
-use Rattle.abel_meaning.specs.Designs.{Design}
+use Rattle.abel_meaning.specs.Designs.{Context}
 use Rattle.abel_meaning.specs.FormulaBits.{bits_of}
 use Rattle.abel_meaning.specs.Numbers.{Shape, Number, Single, Set, Value}
 use Rattle.abel_meaning.specs.Terms.{Term}
@@ -27,7 +27,7 @@ made_normal m =
     record { what = record { value = normal m.what.value; word = m.what.word }; nodes = m.nodes }
 
 -- what a term comes to
-abbrev pub term_part : Design → Term → Made Part
+abbrev pub term_part : Context → Term → Made Part
 term_part d t = with_value (normal (constant_of d t)) (bits_of d t)
 
 -- the value on top, the number 0 where there is none, and those below it
@@ -49,7 +49,7 @@ joins zero rest ps = rest ∷ ps
 joins (suc n) rest ps = joins n (joined_part (top ps) rest) (below ps)
 
 -- what a signal reads
-abbrev pub read_part : Design → ℕ → Option Extension → Made Part
+abbrev pub read_part : Context → ℕ → Option Extension → Made Part
 read_part d s e = with_value (constant_of d (term.Read s e)) (bits_of d (term.Read s e))
 
 -- `.X.`
@@ -57,7 +57,7 @@ abbrev pub unknown_part : Part
 unknown_part = record { value = record { shape = Single; number = 0; unknown = true ∷ [] }; word = Const false ∷ [] }
 
 -- a step
-abbrev pub after_step : Design → Step → List Part → Made (List Part)
+abbrev pub after_step : Context → Step → List Part → Made (List Part)
 after_step d (step.Number n) ps = free (number_part n ∷ ps)
 after_step d step.Unknown ps = free (unknown_part ∷ ps)
 after_step d (step.Read s e) ps = pushed (read_part d s e) ps
@@ -70,11 +70,11 @@ pub data Task : Type 0 where
   Push : Term → Task
   Do : Step → Task
 
-abbrev pub after_task : Design → Task → List Part → Made (List Part)
+abbrev pub after_task : Context → Task → List Part → Made (List Part)
 after_task d (Push t) ps = pushed (term_part d t) ps
 after_task d (Do s) ps = after_step d s ps
 
 -- all tasks, the first of them first
-abbrev pub after_all : Design → List Task → List Part → Made (List Part)
+abbrev pub after_all : Context → List Task → List Part → Made (List Part)
 after_all d [] ps = free ps
 after_all d (t ∷ ts) ps = after_task d t ps >>= after_all d ts

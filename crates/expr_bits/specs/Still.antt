@@ -6,7 +6,7 @@ use Rattle.bit_expr.specs.Folding.{Made}
 use Rattle.bit_expr.specs.Formulas.{Formula, Const}
 use Rattle.abel_tree.specs.Entries.{Entry}
 use Rattle.abel_meaning.specs.BitWords.{Word}
-use Rattle.abel_meaning.specs.Designs.{Design}
+use Rattle.abel_meaning.specs.Designs.{Context}
 use Rattle.abel_meaning.specs.FormulaBits.{bits_of}
 use Rattle.abel_meaning.specs.Sources.{Zero, source_of}
 use Rattle.abel_meaning.specs.Terms.{Term}
@@ -39,29 +39,29 @@ AreStill [] = Unit {0}
 AreStill (p ∷ ps) = AreConstant p.word × AreStill ps
 
 -- tasks that keep values constant, and make no node
-abbrev pub KeepStill : Design → List Task → Type 0
+abbrev pub KeepStill : Context → List Task → Type 0
 KeepStill d ts = (ps : List Part) → AreStill ps → IsFree AreStill (after_all d ts ps)
 
 -- a step that reads no leaf
-abbrev pub IsQuiet : Design → Step → Type 0
+abbrev pub IsQuiet : Context → Step → Type 0
 IsQuiet d (step.Read s e) = source_of d s e ≡ Zero
 IsQuiet d s = Unit {0}
 
-abbrev pub IsQuietTurn : Design → Turn → Type 0
+abbrev pub IsQuietTurn : Context → Turn → Type 0
 IsQuietTurn d (turn.Does s) = IsQuiet d s
 IsQuietTurn d t = Unit {0}
 
 -- in every arena, the bits are those of a term, which is constant
-pub record IsKept (d : Design) (b : Bits) (t : Term) : Type 0 where
+pub record IsKept (d : Context) (b : Bits) (t : Term) : Type 0 where
   pub free : IsFree AreConstant (bits_of d t)
   pub shows : (ns : List Node) → IsPart (arena ns) b (term_part d t).what
 
 -- all rows of a table are those of their names
-abbrev pub AreKept : List Entry → Design → List Row → Type 0
+abbrev pub AreKept : List Entry → Context → List Row → Type 0
 AreKept es d [] = Unit {0}
 AreKept es d (r ∷ rs) = IsKept d r.bits (named_term es r.number r.extension) × AreKept es d rs
 
 -- what a turn takes from the table is that of its name
-abbrev pub IsHeld : List Entry → Design → Turn → Type 0
+abbrev pub IsHeld : List Entry → Context → Turn → Type 0
 IsHeld es d (turn.Keeps b k e) = IsKept d b.now (named_term es k e)
 IsHeld es d t = Unit {0}

@@ -4,21 +4,20 @@ ghost use Rattle.std.specs.Prelude.{◌≡◌, List, ◌∷◌, IfOk};
 ghost use Rattle.bit_expr.specs.declared.node.Node.{Node as ANode};
 ghost use Rattle.bit_expr.specs.Arena.{arena};
 ghost use Rattle.bit_expr.specs.Formulas.{Formula};
-ghost use Rattle.abel_tree.specs.Entries.{entries_of};
-ghost use Rattle.abel_meaning.specs.Designs.{Design};
+ghost use Rattle.abel_meaning.specs.Designs.{Context};
 ghost use Rattle.bit_words.specs.Making.{Makes};
-ghost use Rattle.set_expr.specs.Answer.{IsDesignOf};
+ghost use Rattle.set_expr.specs.Answer.{IsContextOf};
 ghost use Rattle.value_bits.specs.Parts.{Part, IsPart, under_part, both_part, no_part};
-ghost use Rattle.expr_bits.specs.Placed.{ArePlaced};
 ghost use Rattle.expr_bits.specs.Stacks.{AreStacked, ShowsStack, Standing};
 ghost use Rattle.expr_bits.specs.Steps.{top, below, pushed, made_normal, joins, after_step, read_part};
 
 use crate::reading::read;
 use crate::step::Step;
-use abel_tree::{Binary, Extension, Names, Unary};
+use abel_tree::{Binary, Extension, Unary};
 use bit_expr::{ExprFault, ExprId, Exprs};
 use pld_base::{ListOf, OutOfMemory};
 use pld_device::Device;
+use set_expr::Scope;
 use std::alloc::Global;
 use value_bits::{Bits, both, empty_set, number_bits, one_bit, under, with_member};
 
@@ -118,17 +117,16 @@ fn build_set(alloc: Global, count: usize, values: Vec<Bits>) -> Result<Vec<Bits>
 /// What a name reads, on top.
 fn build_read<D: Device>(
     alloc: Global,
-    names: &Names,
+    scope: &Scope<'_>,
     exprs: &mut Exprs,
     signal: u32,
     extension: Option<Extension>,
     values: Vec<Bits>,
 ) -> Result<Vec<Bits>, ExprFault>
-    requires placed { ArePlaced names.now }
     requires values { Standing (arena exprs.old) values.items }
-    ensures { (d : Design) (ps : List Part) → IsDesignOf D.table names.now d → AreStacked (arena exprs.old) values.items ps → Makes ShowsStack exprs.old exprs.new result (pushed (read_part d signal extension) ps) }
+    ensures { (d : Context) (ps : List Part) → IsContextOf D.table scope.now d → AreStacked (arena exprs.old) values.items ps → Makes ShowsStack exprs.old exprs.new result (pushed (read_part d signal extension) ps) }
 {
-    let bits = read::<D>(alloc, names, exprs, signal, extension)?;
+    let bits = read::<D>(alloc, scope, exprs, signal, extension)?;
     let values = put(values, bits)?;
     Ok(values)
 }
@@ -136,14 +134,13 @@ fn build_read<D: Device>(
 /// The values after a step.
 pub(crate) fn build<D: Device>(
     alloc: Global,
-    names: &Names,
+    scope: &Scope<'_>,
     exprs: &mut Exprs,
     step: Step,
     values: Vec<Bits>,
 ) -> Result<Vec<Bits>, ExprFault>
-    requires placed { ArePlaced names.now }
     requires values { Standing (arena exprs.old) values.items }
-    ensures { (d : Design) (ps : List Part) → IsDesignOf D.table names.now d → AreStacked (arena exprs.old) values.items ps → Makes ShowsStack exprs.old exprs.new result (after_step d step ps) }
+    ensures { (d : Context) (ps : List Part) → IsContextOf D.table scope.now d → AreStacked (arena exprs.old) values.items ps → Makes ShowsStack exprs.old exprs.new result (after_step d step ps) }
 {
     match step {
         Step::Number(number) => Ok(put(values, number_bits(alloc, number))?),
@@ -152,7 +149,7 @@ pub(crate) fn build<D: Device>(
             Ok(put(values, bits)?)
         }
         Step::Read(signal, extension) => {
-            build_read::<D>(alloc, names, exprs, signal, extension, values)
+            build_read::<D>(alloc, scope, exprs, signal, extension, values)
         }
         Step::Under(sign) => build_under(alloc, exprs, sign, values),
         Step::Both(sign) => build_both(alloc, exprs, sign, values),

@@ -1,16 +1,15 @@
 //! Expressions as work on their parts.
 
-ghost use Rattle.std.specs.Prelude.{◌≡◌, ℕ, List, [], ◌∷◌, ◌++◌, map, reverse, take, IfOk, OnOk};
-ghost use Rattle.abel_tree.specs.Entries.{Entry, entries_of};
+ghost use Rattle.std.specs.Prelude.{◌≡◌, List, [], ◌∷◌, ◌++◌, map, take, IfOk};
+ghost use Rattle.abel_tree.specs.Entries.{entries_of};
 ghost use Rattle.abel_tree.specs.Ranges.{range_names};
 ghost use Rattle.abel_tree.specs.Tree.{members_of};
 ghost use Rattle.abel_tree.specs.View.{view, view_member};
-ghost use Rattle.abel_meaning.specs.Designs.{Design};
+ghost use Rattle.abel_meaning.specs.Designs.{Context};
 ghost use Rattle.abel_meaning.specs.Terms.{Term, extended_if, known_of, member_before, named_before, special_term, term_of, terms_of};
 ghost use Rattle.abel_meaning.specs.Terms as term;
-ghost use Rattle.set_expr.specs.KnownNames.{IsKnown};
 ghost use Rattle.value_bits.specs.Parts.{Part};
-ghost use Rattle.expr_bits.specs.Named.{ComeTo, ComesTo};
+ghost use Rattle.expr_bits.specs.Named.{ComeTo};
 ghost use Rattle.expr_bits.specs.Members.{each_extended, list_of};
 ghost use Rattle.expr_bits.specs.Stacks.{tasks_of};
 ghost use Rattle.expr_bits.specs.Steps.{Do, Push, after_all, after_task};
@@ -18,10 +17,10 @@ ghost use Rattle.expr_bits.specs.Steps.{Do, Push, after_all, after_task};
 use crate::naming::name_work;
 use crate::step::Step;
 use crate::work::Work;
-use abel_tree::{Expr, Extension, Member, Names, Word};
+use abel_tree::{Expr, Extension, Member, Word};
 use name_ranges::range_list;
 use pld_base::OutOfMemory;
-use set_expr::KnownNames;
+use set_expr::Scope;
 use std::alloc::Global;
 
 /// An inner extension wins over an outer one.
@@ -37,21 +36,19 @@ fn inner_first(inner: Option<Extension>, outer: Option<Extension>) -> Option<Ext
 /// The names of a range behind other members.
 fn with_range<'a>(
     alloc: Global,
-    names: &'a Names,
-    known: &KnownNames,
+    scope: &Scope<'a>,
     first: &Word,
     last: &Word,
     extension: Option<Extension>,
     count: usize,
     before: Vec<Work<'a>>,
 ) -> Result<Vec<Work<'a>>, OutOfMemory>
-    requires { IsKnown (entries_of names.now) known.now }
-    ensures { IfOk result (λ ws. (ts : List Term) → ComeTo (entries_of names.now) before.entry.items ts → ComeTo (entries_of names.now) ws.items (ts ++ each_extended extension (list_of (named_before (known_of (take count (entries_of names.now))) (range_names first.now.text last.now.text) term.NoTerm)))) }
+    ensures { IfOk result (λ ws. (ts : List Term) → ComeTo (entries_of scope.now) before.entry.items ts → ComeTo (entries_of scope.now) ws.items (ts ++ each_extended extension (list_of (named_before (known_of (take count (entries_of scope.now))) (range_names first.now.text last.now.text) term.NoTerm)))) }
 {
     let list = range_list(alloc, first.text.bytes(), last.text.bytes())?;
     let mut works = before;
     for name in &list {
-        works.push(name_work(names, known, name.as_slice(), extension, count))?;
+        works.push(name_work(scope, name.as_slice(), extension, count))?;
     }
     Ok(works)
 }
@@ -59,15 +56,13 @@ fn with_range<'a>(
 /// A member behind others.
 fn with_member<'a>(
     alloc: Global,
-    names: &'a Names,
-    known: &KnownNames,
+    scope: &Scope<'a>,
     member: &'a Member,
     extension: Option<Extension>,
     count: usize,
     before: Vec<Work<'a>>,
 ) -> Result<Vec<Work<'a>>, OutOfMemory>
-    requires { IsKnown (entries_of names.now) known.now }
-    ensures { IfOk result (λ ws. (ts : List Term) → ComeTo (entries_of names.now) before.entry.items ts → ComeTo (entries_of names.now) ws.items (ts ++ each_extended extension (list_of (member_before (known_of (take count (entries_of names.now))) (view_member member.now) term.NoTerm)))) }
+    ensures { IfOk result (λ ws. (ts : List Term) → ComeTo (entries_of scope.now) before.entry.items ts → ComeTo (entries_of scope.now) ws.items (ts ++ each_extended extension (list_of (member_before (known_of (take count (entries_of scope.now))) (view_member member.now) term.NoTerm)))) }
 {
     match member {
         Member::One(expr) => {
@@ -76,7 +71,7 @@ fn with_member<'a>(
             Ok(works)
         }
         Member::Span { first, last } => {
-            with_range(alloc, names, known, first, last, extension, count, before)
+            with_range(alloc, scope, first, last, extension, count, before)
         }
     }
 }
@@ -84,18 +79,16 @@ fn with_member<'a>(
 /// The members of a set, in order.
 fn member_works<'a>(
     alloc: Global,
-    names: &'a Names,
-    known: &KnownNames,
+    scope: &Scope<'a>,
     members: &'a [Member],
     extension: Option<Extension>,
     count: usize,
 ) -> Result<Vec<Work<'a>>, OutOfMemory>
-    requires { IsKnown (entries_of names.now) known.now }
-    ensures { IfOk result (λ ws. ComeTo (entries_of names.now) ws.items (each_extended extension (list_of (terms_of (known_of (take count (entries_of names.now))) (members_of (map view_member members.now)))))) }
+    ensures { IfOk result (λ ws. ComeTo (entries_of scope.now) ws.items (each_extended extension (list_of (terms_of (known_of (take count (entries_of scope.now))) (members_of (map view_member members.now)))))) }
 {
     let mut works = Vec::new(alloc);
     for member in members {
-        works = with_member(alloc, names, known, member, extension, count, works)?;
+        works = with_member(alloc, scope, member, extension, count, works)?;
     }
     Ok(works)
 }
@@ -112,17 +105,15 @@ fn first_of<'a>(work: Vec<Work<'a>>, next: Work<'a>) -> Result<Vec<Work<'a>>, Ou
 /// The members of a set and its step, to be done before the others.
 fn expand_set<'a>(
     alloc: Global,
-    names: &'a Names,
-    known: &KnownNames,
+    scope: &Scope<'a>,
     members: &'a [Member],
     extension: Option<Extension>,
     count: usize,
     work: Vec<Work<'a>>,
 ) -> Result<Vec<Work<'a>>, OutOfMemory>
-    requires { IsKnown (entries_of names.now) known.now }
-    ensures { IfOk result (λ new. (d : Design) (ps : List Part) → after_all d (tasks_of (entries_of names.now) new.items) ps ≡ after_all d (Push (extended_if extension (term.Set (terms_of (known_of (take count (entries_of names.now))) (members_of (map view_member members.now))))) ∷ tasks_of (entries_of names.now) work.entry.items) ps) }
+    ensures { IfOk result (λ new. (d : Context) (ps : List Part) → after_all d (tasks_of (entries_of scope.now) new.items) ps ≡ after_all d (Push (extended_if extension (term.Set (terms_of (known_of (take count (entries_of scope.now))) (members_of (map view_member members.now))))) ∷ tasks_of (entries_of scope.now) work.entry.items) ps) }
 {
-    let mut parts = member_works(alloc, names, known, members, extension, count)?;
+    let mut parts = member_works(alloc, scope, members, extension, count)?;
     let mut work = first_of(work, Work::Do(Step::Joins(parts.as_slice().len())))?;
     parts.reverse();
     work.extend_from_slice(parts.as_slice())?;
@@ -132,15 +123,13 @@ fn expand_set<'a>(
 /// An expression as work on its parts, to be done before the others.
 pub(crate) fn expand<'a>(
     alloc: Global,
-    names: &'a Names,
-    known: &KnownNames,
+    scope: &Scope<'a>,
     expr: &'a Expr,
     extension: Option<Extension>,
     count: usize,
     work: Vec<Work<'a>>,
 ) -> Result<Vec<Work<'a>>, OutOfMemory>
-    requires { IsKnown (entries_of names.now) known.now }
-    ensures { IfOk result (λ new. (d : Design) (ps : List Part) → after_all d (tasks_of (entries_of names.now) new.items) ps ≡ after_all d (Push (extended_if extension (term_of (known_of (take count (entries_of names.now))) (view expr.now))) ∷ tasks_of (entries_of names.now) work.entry.items) ps) }
+    ensures { IfOk result (λ new. (d : Context) (ps : List Part) → after_all d (tasks_of (entries_of scope.now) new.items) ps ≡ after_all d (Push (extended_if extension (term_of (known_of (take count (entries_of scope.now))) (view expr.now))) ∷ tasks_of (entries_of scope.now) work.entry.items) ps) }
 {
     match expr {
         Expr::Number(number) => first_of(work, Work::Do(Step::Number(number.value))),
@@ -150,7 +139,7 @@ pub(crate) fn expand<'a>(
             extension: own,
         } => {
             let extension = inner_first(*own, extension);
-            let next = name_work(names, known, word.text.bytes(), extension, count);
+            let next = name_work(scope, word.text.bytes(), extension, count);
             first_of(work, next)
         }
         Expr::Set {
@@ -159,15 +148,7 @@ pub(crate) fn expand<'a>(
             extension: own,
         } => {
             let extension = inner_first(*own, extension);
-            expand_set(
-                alloc,
-                names,
-                known,
-                members.as_slice(),
-                extension,
-                count,
-                work,
-            )
+            expand_set(alloc, scope, members.as_slice(), extension, count, work)
         }
         Expr::Paren { place: _, inner } => {
             first_of(work, Work::Whole(inner.get(), extension, count))
@@ -195,7 +176,7 @@ pub(crate) fn expand<'a>(
 
 /// `.X.`, or a special that has no value.
 fn special_step(letter: u8) -> Step
-    ensures { (d : Design) (ps : List Part) → after_task d (Do result) ps ≡ after_task d (Push (special_term letter)) ps }
+    ensures { (d : Context) (ps : List Part) → after_task d (Do result) ps ≡ after_task d (Push (special_term letter)) ps }
 {
     if letter == b'X' {
         Step::Unknown

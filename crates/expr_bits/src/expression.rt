@@ -1,27 +1,22 @@
 //! The bits of an expression.
 
-ghost use Rattle.std.specs.Prelude.{◌≡◌, [], None, Some, List, IfOk, IfErr};
-ghost use Rattle.bit_expr.specs.Arena.{arena};
-ghost use Rattle.abel_tree.specs.Entries.{entries_of};
+ghost use Rattle.std.specs.Prelude.{◌≡◌, [], None, Some};
 ghost use Rattle.abel_tree.specs.View.{view};
-ghost use Rattle.abel_meaning.specs.Designs.{Design};
-ghost use Rattle.set_expr.specs.Answer.{IsDesignOf, IsAnswer, first_place, refusal_of};
-ghost use Rattle.set_expr.specs.FoundNames.{expression_found};
-ghost use Rattle.set_expr.specs.KnownNames.{IsKnown};
+ghost use Rattle.abel_meaning.specs.Designs.{Context};
+ghost use Rattle.set_expr.specs.Answer.{IsContextOf, IsAnswer, first_place, refusal_of};
 ghost use Rattle.abel_meaning.specs.Terms.{term_of};
 ghost use Rattle.bit_words.specs.Making.{Makes};
 ghost use Rattle.value_bits.specs.Parts.{IsPart};
-ghost use Rattle.expr_bits.specs.Placed.{ArePlaced};
 ghost use Rattle.expr_bits.specs.Steps.{term_part};
 
 use crate::needed::kept_for;
 use crate::shaping::shaped;
 use crate::walking::walk;
-use abel_tree::{Expr, Names};
+use abel_tree::Expr;
 use bit_expr::{ExprFault, Exprs};
 use pld_base::Place;
 use pld_device::Device;
-use set_expr::{KnownNames, SectionFault, Shaped, check};
+use set_expr::{Scope, SectionFault, Shaped};
 use std::alloc::Global;
 use value_bits::Bits;
 
@@ -66,34 +61,28 @@ fn first_place(expr: &Expr) -> Place
 /// The bits of an expression over all names, in just the counted nodes.
 fn whole<D: Device>(
     alloc: Global,
-    names: &Names,
-    known: &KnownNames,
+    scope: &Scope<'_>,
     expr: &Expr,
     exprs: &mut Exprs,
 ) -> Result<Bits, ExprFault>
-    requires known { IsKnown (entries_of names.now) known.now }
-    requires placed { ArePlaced names.now }
-    ensures { (d : Design) → IsDesignOf D.table names.now d → Makes IsPart exprs.old exprs.new result (term_part d (term_of d.known (view expr.now))) }
+    ensures { (d : Context) → IsContextOf D.table scope.now d → Makes IsPart exprs.old exprs.new result (term_part d (term_of d.known (view expr.now))) }
 {
-    let kept = kept_for::<D>(alloc, names, known, expr)?;
-    let count = names.list.as_slice().len();
-    walk::<D>(alloc, names, known, &kept, expr, None, count, exprs)
+    let kept = kept_for::<D>(alloc, scope, expr)?;
+    let count = scope.list().len();
+    walk::<D>(alloc, scope, &kept, expr, None, count, exprs)
 }
 
 /// The answer for an expression of which nothing is refused.
 fn built<D: Device>(
     alloc: Global,
-    names: &Names,
-    known: &KnownNames,
+    scope: &Scope<'_>,
     expr: &Expr,
     exprs: &mut Exprs,
 ) -> Result<Shaped, SectionFault>
-    requires known { IsKnown (entries_of names.now) known.now }
-    requires placed { ArePlaced names.now }
-    requires accepted { refusal_of names.now (view expr.now) ≡ None }
-    ensures { (d : Design) → IsDesignOf D.table names.now d → IsAnswer names.now d (view expr.now) exprs.old exprs.new result }
+    requires accepted { refusal_of scope.now (view expr.now) ≡ None }
+    ensures { (d : Context) → IsContextOf D.table scope.now d → IsAnswer scope.now d (view expr.now) exprs.old exprs.new result }
 {
-    match whole::<D>(alloc, names, known, expr, exprs) {
+    match whole::<D>(alloc, scope, expr, exprs) {
         Ok(bits) => {
             let shaped = shaped(alloc, &bits)?;
             Ok(shaped)
@@ -110,18 +99,15 @@ fn built<D: Device>(
 /// anew, also of equal operands.
 pub fn bits<D: Device>(
     alloc: Global,
-    names: &Names,
-    known: &KnownNames,
+    scope: &Scope<'_>,
     expr: &Expr,
     exprs: &mut Exprs,
 ) -> Result<Shaped, SectionFault>
-    requires known { IsKnown (entries_of names.now) known.now }
-    requires placed { ArePlaced names.now }
-    ensures answer { (d : Design) → IsDesignOf D.table names.now d → IsAnswer names.now d (view expr.now) exprs.old exprs.new result }
+    ensures answer { (d : Context) → IsContextOf D.table scope.now d → IsAnswer scope.now d (view expr.now) exprs.old exprs.new result }
 {
-    let checked = check(alloc, names, known, expr)?;
+    let checked = scope.check(alloc, expr)?;
     match checked.fault {
         Some(fault) => Err(fault),
-        None => built::<D>(alloc, names, known, expr, exprs),
+        None => built::<D>(alloc, scope, expr, exprs),
     }
 }

@@ -1,14 +1,12 @@
 //! Which constants make no node, and their bits.
 
-ghost use Rattle.std.specs.Prelude.{◌≡◌, ◌+◌, true, false, slice_get, take, Option, Some, IfOk, IfSome, List, [], ◌∷◌, ◌++◌};
+ghost use Rattle.std.specs.Prelude.{◌≡◌, ◌+◌, true, false, slice_get, take, Option, Some, IfOk, IfSome, [], ◌∷◌, ◌++◌};
 ghost use Rattle.abel_tree.specs.declared.words.Extension.{Extension as AnExtension};
 ghost use Rattle.abel_tree.specs.Entries.{entries_of, view_declared};
 ghost use Rattle.abel_tree.specs.View.{view};
-ghost use Rattle.abel_meaning.specs.Designs.{Design};
+ghost use Rattle.abel_meaning.specs.Designs.{Context};
 ghost use Rattle.abel_meaning.specs.Terms.{extended_if, known_of, term_of};
-ghost use Rattle.set_expr.specs.Answer.{IsDesignOf};
-ghost use Rattle.set_expr.specs.KnownNames.{IsKnown};
-ghost use Rattle.expr_bits.specs.Placed.{ArePlaced};
+ghost use Rattle.set_expr.specs.Answer.{IsContextOf};
 ghost use Rattle.expr_bits.specs.Stacks.{named_term};
 ghost use Rattle.expr_bits.specs.Steps.{Push};
 ghost use Rattle.expr_bits.specs.Still.{AreKept, IsKept, IsQuietTurn, KeepStill};
@@ -19,22 +17,21 @@ use crate::step::Step;
 use crate::turn::{Turn, turn_of};
 use crate::walking::{expanded, walk};
 use crate::work::Work;
-use abel_tree::{Declared, Expr, Extension, Meaning, Names};
+use abel_tree::{Declared, Expr, Extension, Meaning};
 use bit_expr::{ExprFault, Exprs};
 use pld_base::OutOfMemory;
 use pld_device::Device;
-use set_expr::{KnownNames, Shape};
+use set_expr::{Scope, Shape};
 use std::alloc::Global;
 use value_bits::Bits;
 
 /// Whether a turn may make a node. That a constant of which nothing is kept does saves going through it here.
-fn may_make<D: Device>(names: &Names, next: Work, turn: Turn) -> bool
-    requires { ArePlaced names.now }
-    ensures { result ≡ false → (d : Design) → IsDesignOf D.table names.now d → IsQuietTurn d turn.entry }
+fn may_make<D: Device>(scope: &Scope<'_>, next: Work, turn: Turn) -> bool
+    ensures { result ≡ false → (d : Context) → IsContextOf D.table scope.now d → IsQuietTurn d turn.entry }
 {
     match turn {
         Turn::Does(Step::Read(signal, extension)) => {
-            signal_source::<D>(names, signal, extension).is_some()
+            signal_source::<D>(scope, signal, extension).is_some()
         }
         Turn::Expands(_, _, _) => matches!(next, Work::Named(_, _)),
         _ => false,
@@ -42,19 +39,16 @@ fn may_make<D: Device>(names: &Names, next: Work, turn: Turn) -> bool
 }
 
 /// Whether an expression over the names before this one makes no node, as far as is kept of those. Takes no stack.
-fn makes_none<D: Device>(
+fn makes_none<'a, D: Device>(
     alloc: Global,
-    names: &Names,
-    known: &KnownNames,
+    scope: &Scope<'a>,
     kept: &Kept,
-    expr: &Expr,
+    expr: &'a Expr,
     extension: Option<Extension>,
     number: u32,
 ) -> Result<bool, OutOfMemory>
-    requires known { IsKnown (entries_of names.now) known.now }
-    requires placed { ArePlaced names.now }
-    requires kept { (d : Design) → IsDesignOf D.table names.now d → AreKept (entries_of names.now) d kept.now.rows.items }
-    ensures { IfOk result (λ b. b ≡ true → (d : Design) → IsDesignOf D.table names.now d → KeepStill d (Push (extended_if extension (term_of (known_of (take number (entries_of names.now))) (view expr.now))) ∷ [])) }
+    requires kept { (d : Context) → IsContextOf D.table scope.now d → AreKept (entries_of scope.now) d kept.now.rows.items }
+    ensures { IfOk result (λ b. b ≡ true → (d : Context) → IsContextOf D.table scope.now d → KeepStill d (Push (extended_if extension (term_of (known_of (take number (entries_of scope.now))) (view expr.now))) ∷ [])) }
 {
     let mut work = Vec::new(alloc);
     work.push(Work::Whole(expr, extension, number as usize))?;
@@ -62,11 +56,11 @@ fn makes_none<D: Device>(
         let Some(next) = work.pop() else {
             return Ok(true);
         };
-        let turn = turn_of(names, kept, next);
-        if may_make::<D>(names, next, turn) {
+        let turn = turn_of(scope, kept, next);
+        if may_make::<D>(scope, next, turn) {
             return Ok(false);
         }
-        work = expanded(alloc, names, known, turn, work)?;
+        work = expanded(alloc, scope, turn, work)?;
     }
     Err(OutOfMemory)
 }
@@ -74,24 +68,20 @@ fn makes_none<D: Device>(
 /// The bits of an expression in an arena of its own.
 fn bits_alone<D: Device>(
     alloc: Global,
-    names: &Names,
-    known: &KnownNames,
+    scope: &Scope<'_>,
     kept: &Kept,
     expr: &Expr,
     extension: Option<Extension>,
     number: u32,
 ) -> Result<Option<Bits>, OutOfMemory>
-    requires known { IsKnown (entries_of names.now) known.now }
-    requires placed { ArePlaced names.now }
-    requires kept { (d : Design) → IsDesignOf D.table names.now d → AreKept (entries_of names.now) d kept.now.rows.items }
-    requires still { (d : Design) → IsDesignOf D.table names.now d → KeepStill d (Push (extended_if extension (term_of (known_of (take number (entries_of names.now))) (view expr.now))) ∷ []) }
-    ensures { IfOk result (λ o. IfSome o (λ b. (d : Design) → IsDesignOf D.table names.now d → IsKept d b (extended_if extension (term_of (known_of (take number (entries_of names.now))) (view expr.now))))) }
+    requires kept { (d : Context) → IsContextOf D.table scope.now d → AreKept (entries_of scope.now) d kept.now.rows.items }
+    requires still { (d : Context) → IsContextOf D.table scope.now d → KeepStill d (Push (extended_if extension (term_of (known_of (take number (entries_of scope.now))) (view expr.now))) ∷ []) }
+    ensures { IfOk result (λ o. IfSome o (λ b. (d : Context) → IsContextOf D.table scope.now d → IsKept d b (extended_if extension (term_of (known_of (take number (entries_of scope.now))) (view expr.now))))) }
 {
     let mut exprs = Exprs::new(alloc);
     match walk::<D>(
         alloc,
-        names,
-        known,
+        scope,
         kept,
         expr,
         extension,
@@ -107,20 +97,17 @@ fn bits_alone<D: Device>(
 /// The bits of a constant's expression, if it makes no node.
 fn bits_of<D: Device>(
     alloc: Global,
-    names: &Names,
-    known: &KnownNames,
+    scope: &Scope<'_>,
     kept: &Kept,
     expr: &Expr,
     extension: Option<Extension>,
     number: u32,
 ) -> Result<Option<Bits>, OutOfMemory>
-    requires known { IsKnown (entries_of names.now) known.now }
-    requires placed { ArePlaced names.now }
-    requires kept { (d : Design) → IsDesignOf D.table names.now d → AreKept (entries_of names.now) d kept.now.rows.items }
-    ensures { IfOk result (λ o. IfSome o (λ b. (d : Design) → IsDesignOf D.table names.now d → IsKept d b (extended_if extension (term_of (known_of (take number (entries_of names.now))) (view expr.now))))) }
+    requires kept { (d : Context) → IsContextOf D.table scope.now d → AreKept (entries_of scope.now) d kept.now.rows.items }
+    ensures { IfOk result (λ o. IfSome o (λ b. (d : Context) → IsContextOf D.table scope.now d → IsKept d b (extended_if extension (term_of (known_of (take number (entries_of scope.now))) (view expr.now))))) }
 {
-    if makes_none::<D>(alloc, names, known, kept, expr, extension, number)? {
-        bits_alone::<D>(alloc, names, known, kept, expr, extension, number)
+    if makes_none::<D>(alloc, scope, kept, expr, extension, number)? {
+        bits_alone::<D>(alloc, scope, kept, expr, extension, number)
     } else {
         Ok(None)
     }
@@ -138,20 +125,17 @@ fn with_row(kept: Kept, row: Row) -> Result<Kept, OutOfMemory>
 /// A constant's expression with this extension, if it makes no node.
 fn with_extension<D: Device>(
     alloc: Global,
-    names: &Names,
-    known: &KnownNames,
+    scope: &Scope<'_>,
     expr: &Expr,
     extension: Option<Extension>,
     number: u32,
     kept: Kept,
 ) -> Result<Kept, OutOfMemory>
-    requires known { IsKnown (entries_of names.now) known.now }
-    requires placed { ArePlaced names.now }
-    requires kept { (d : Design) → IsDesignOf D.table names.now d → AreKept (entries_of names.now) d kept.rows.items }
-    requires here { named_term (entries_of names.now) number extension ≡ extended_if extension (term_of (known_of (take number (entries_of names.now))) (view expr.now)) }
-    ensures { IfOk result (λ k. (d : Design) → IsDesignOf D.table names.now d → AreKept (entries_of names.now) d k.rows.items) }
+    requires kept { (d : Context) → IsContextOf D.table scope.now d → AreKept (entries_of scope.now) d kept.rows.items }
+    requires here { named_term (entries_of scope.now) number extension ≡ extended_if extension (term_of (known_of (take number (entries_of scope.now))) (view expr.now)) }
+    ensures { IfOk result (λ k. (d : Context) → IsContextOf D.table scope.now d → AreKept (entries_of scope.now) d k.rows.items) }
 {
-    let found = bits_of::<D>(alloc, names, known, &kept, expr, extension, number)?;
+    let found = bits_of::<D>(alloc, scope, &kept, expr, extension, number)?;
     match found {
         Some(bits) => with_row(
             kept,
@@ -168,28 +152,25 @@ fn with_extension<D: Device>(
 /// A constant's expression with each extension.
 fn with_each<D: Device>(
     alloc: Global,
-    names: &Names,
-    known: &KnownNames,
+    scope: &Scope<'_>,
     expr: &Expr,
     number: u32,
     before: Kept,
 ) -> Result<Kept, OutOfMemory>
-    requires known { IsKnown (entries_of names.now) known.now }
-    requires placed { ArePlaced names.now }
-    requires kept { (d : Design) → IsDesignOf D.table names.now d → AreKept (entries_of names.now) d before.rows.items }
-    requires here { (e : Option AnExtension) → named_term (entries_of names.now) number e ≡ extended_if e (term_of (known_of (take number (entries_of names.now))) (view expr.now)) }
-    ensures { IfOk result (λ k. (d : Design) → IsDesignOf D.table names.now d → AreKept (entries_of names.now) d k.rows.items) }
+    requires kept { (d : Context) → IsContextOf D.table scope.now d → AreKept (entries_of scope.now) d before.rows.items }
+    requires here { (e : Option AnExtension) → named_term (entries_of scope.now) number e ≡ extended_if e (term_of (known_of (take number (entries_of scope.now))) (view expr.now)) }
+    ensures { IfOk result (λ k. (d : Context) → IsContextOf D.table scope.now d → AreKept (entries_of scope.now) d k.rows.items) }
 {
     let mut kept = before;
     for extension in EXTENSIONS.as_slice() {
-        kept = with_extension::<D>(alloc, names, known, expr, *extension, number, kept)?;
+        kept = with_extension::<D>(alloc, scope, expr, *extension, number, kept)?;
     }
     Ok(kept)
 }
 
 /// Whether a name's value has positions; what is a number is known without a row.
-fn has_positions(known: &KnownNames, name: &[u8]) -> bool {
-    match known.get(name) {
+fn has_positions(scope: &Scope<'_>, name: &[u8]) -> bool {
+    match scope.get(name) {
         Some(name) => matches!(
             name.checked.shape,
             Some(Shape::Single) | Some(Shape::Set(_))
@@ -201,22 +182,19 @@ fn has_positions(known: &KnownNames, name: &[u8]) -> bool {
 /// One name more.
 fn with_name<D: Device>(
     alloc: Global,
-    names: &Names,
-    known: &KnownNames,
+    scope: &Scope<'_>,
     declared: &Declared,
     number: u32,
     before: Kept,
 ) -> Result<Kept, OutOfMemory>
-    requires known { IsKnown (entries_of names.now) known.now }
-    requires placed { ArePlaced names.now }
-    requires kept { (d : Design) → IsDesignOf D.table names.now d → AreKept (entries_of names.now) d before.rows.items }
-    requires here { slice_get (entries_of names.now) number ≡ Some (view_declared declared.now) }
-    ensures { IfOk result (λ k. (d : Design) → IsDesignOf D.table names.now d → AreKept (entries_of names.now) d k.rows.items) }
+    requires kept { (d : Context) → IsContextOf D.table scope.now d → AreKept (entries_of scope.now) d before.rows.items }
+    requires here { slice_get (entries_of scope.now) number ≡ Some (view_declared declared.now) }
+    ensures { IfOk result (λ k. (d : Context) → IsContextOf D.table scope.now d → AreKept (entries_of scope.now) d k.rows.items) }
 {
     match &declared.meaning {
         Meaning::Constant(expr) => {
-            if has_positions(known, declared.name.bytes()) {
-                with_each::<D>(alloc, names, known, expr, number, before)
+            if has_positions(scope, declared.name.bytes()) {
+                with_each::<D>(alloc, scope, expr, number, before)
             } else {
                 Ok(before)
             }
@@ -246,20 +224,14 @@ fn next(number: u32) -> Result<u32, OutOfMemory>
 }
 
 /// The constants that make no node, each by those before it.
-pub(crate) fn kept_of<D: Device>(
-    alloc: Global,
-    names: &Names,
-    known: &KnownNames,
-) -> Result<Kept, OutOfMemory>
-    requires known { IsKnown (entries_of names.now) known.now }
-    requires placed { ArePlaced names.now }
-    ensures { IfOk result (λ k. (d : Design) → IsDesignOf D.table names.now d → AreKept (entries_of names.now) d k.rows.items) }
+pub(crate) fn kept_of<D: Device>(alloc: Global, scope: &Scope<'_>) -> Result<Kept, OutOfMemory>
+    ensures { IfOk result (λ k. (d : Context) → IsContextOf D.table scope.now d → AreKept (entries_of scope.now) d k.rows.items) }
 {
     let mut kept = Kept::new(alloc);
     let mut number = 0u32;
-    for declared in names.list.as_slice() {
+    for declared in scope.list() {
         let here = begun(kept)?;
-        kept = with_name::<D>(alloc, names, known, declared, number, here)?;
+        kept = with_name::<D>(alloc, scope, declared, number, here)?;
         number = next(number)?;
     }
     Ok(kept)

@@ -2,7 +2,7 @@
 
 ghost use Rattle.std.specs.Prelude.{◌≡◌, true, List, [], IfSome};
 ghost use Rattle.abel_tree.specs.Entries.{Entry};
-ghost use Rattle.abel_meaning.specs.Designs.{Design};
+ghost use Rattle.abel_meaning.specs.Designs.{Context};
 ghost use Rattle.expr_bits.specs.Stacks.{named_term};
 ghost use Rattle.expr_bits.specs.Still.{AreKept, IsKept};
 
@@ -59,7 +59,7 @@ impl Kept {
 
     /// The bits that are kept of a name. Takes no memory.
     pub(crate) fn get(&self, number: u32, extension: Option<Extension>) -> Option<&Bits>
-        ensures { (es : List Entry) (d : Design) → AreKept es d self.now.rows.items → IfSome result (λ b. IsKept d b.now (named_term es number extension)) }
+        ensures { (es : List Entry) (d : Context) → AreKept es d self.now.rows.items → IfSome result (λ b. IsKept d b.now (named_term es number extension)) }
     {
         let Some(start) = self.starts.as_slice().get(number as usize) else {
             return None;

@@ -3,13 +3,12 @@
 ghost use Rattle.std.specs.Prelude.{◌≡◌, ℕ, List, Some, take};
 ghost use Rattle.abel_tree.specs.Entries.{Entry, entries_of, find};
 ghost use Rattle.abel_meaning.specs.Terms.{extended_if, known_of, term_named};
-ghost use Rattle.set_expr.specs.KnownNames.{IsKnown};
 ghost use Rattle.expr_bits.specs.Named.{ComesTo, KnowsNumber};
 
 use crate::step::Step;
 use crate::work::Work;
-use abel_tree::{Extension, Names};
-use set_expr::{KnownName, KnownNames, Shape};
+use abel_tree::Extension;
+use set_expr::{KnownName, Scope, Shape};
 
 /// A name that is known, by its number; where its value is a number, that isn't built anew.
 fn named_work<'a>(name: KnownName, extension: Option<Extension>) -> Work<'a>
@@ -34,16 +33,14 @@ fn known_work<'a>(name: KnownName, extension: Option<Extension>, count: usize) -
 
 /// What the name with this text is built as over so many names, with an extension at its signals.
 pub(crate) fn name_work<'a>(
-    names: &'a Names,
-    known: &KnownNames,
+    scope: &Scope<'a>,
     text: &[u8],
     extension: Option<Extension>,
     count: usize,
 ) -> Work<'a>
-    requires { IsKnown (entries_of names.now) known.now }
-    ensures { ComesTo (entries_of names.now) result (extended_if extension (term_named (known_of (take count (entries_of names.now))) text.now)) }
+    ensures { ComesTo (entries_of scope.now) result (extended_if extension (term_named (known_of (take count (entries_of scope.now))) text.now)) }
 {
-    match known.get(text) {
+    match scope.get(text) {
         Some(name) => known_work(name, extension, count),
         None => Work::Do(Step::Number(0)),
     }

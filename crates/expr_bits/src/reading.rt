@@ -1,22 +1,21 @@
 //! The bits of what signals read.
 
-ghost use Rattle.std.specs.Prelude.{◌≡◌, length};
-ghost use Rattle.bit_expr.specs.Arena.{arena, IsLeaf};
-ghost use Rattle.abel_tree.specs.Entries.{entries_of};
-ghost use Rattle.abel_meaning.specs.Designs.{Design};
+ghost use Rattle.std.specs.Prelude.{◌≡◌};
+ghost use Rattle.bit_expr.specs.Arena.{IsLeaf};
+ghost use Rattle.abel_meaning.specs.Designs.{Context};
 ghost use Rattle.abel_meaning.specs.FormulaBits.{make_held, make_source};
 ghost use Rattle.abel_meaning.specs.Sources.{source_of};
 ghost use Rattle.bit_words.specs.Making.{Makes, ShowsOne};
-ghost use Rattle.set_expr.specs.Answer.{IsDesignOf};
+ghost use Rattle.set_expr.specs.Answer.{IsContextOf};
 ghost use Rattle.value_bits.specs.Parts.{IsPart};
 ghost use Rattle.expr_bits.specs.Held.{HasLeaf, view_reading};
-ghost use Rattle.expr_bits.specs.Placed.{ArePlaced};
 ghost use Rattle.expr_bits.specs.Steps.{read_part};
 
 use crate::sources::{Reading, source_of};
-use abel_tree::{Extension, Names};
+use abel_tree::Extension;
 use bit_expr::{ExprFault, ExprId, Exprs, Node};
 use pld_device::Device;
+use set_expr::Scope;
 use std::alloc::Global;
 use value_bits::{Bits, one_bit};
 
@@ -46,15 +45,15 @@ fn source_bit(exprs: &mut Exprs, reading: Option<Reading>) -> Result<ExprId, Exp
 
 /// What the name of a number reads; 0 where there is no such name.
 pub(crate) fn signal_source<D: Device>(
-    names: &Names,
+    scope: &Scope<'_>,
     signal: u32,
     extension: Option<Extension>,
 ) -> Option<Reading>
-    requires { ArePlaced names.now }
-    ensures source { (d : Design) → IsDesignOf D.table names.now d → view_reading result ≡ source_of d signal extension }
+    ensures source { (d : Context) → IsContextOf D.table scope.now d → view_reading result ≡ source_of d signal extension }
     ensures leaf { HasLeaf result }
 {
-    match names.list.as_slice().get(signal as usize) {
+    scope.are_placed();
+    match scope.list().get(signal as usize) {
         Some(declared) => source_of::<D>(declared, extension),
         None => None,
     }
@@ -63,30 +62,28 @@ pub(crate) fn signal_source<D: Device>(
 /// The bit that a signal of this number reads under its extension: the source's leaf, with a Not where it reads the complement.
 /// A number that no name has reads 0, and so does a signal without a source.
 pub fn read_signal<D: Device>(
-    names: &Names,
+    scope: &Scope<'_>,
     exprs: &mut Exprs,
     signal: u32,
     extension: Option<Extension>,
 ) -> Result<ExprId, ExprFault>
-    requires { ArePlaced names.now }
-    ensures { (d : Design) → IsDesignOf D.table names.now d → Makes ShowsOne exprs.old exprs.new result (make_source (source_of d signal extension)) }
+    ensures { (d : Context) → IsContextOf D.table scope.now d → Makes ShowsOne exprs.old exprs.new result (make_source (source_of d signal extension)) }
 {
-    let reading = signal_source::<D>(names, signal, extension);
+    let reading = signal_source::<D>(scope, signal, extension);
     source_bit(exprs, reading)
 }
 
 /// The bits of what a signal reads.
 pub(crate) fn read<D: Device>(
     alloc: Global,
-    names: &Names,
+    scope: &Scope<'_>,
     exprs: &mut Exprs,
     signal: u32,
     extension: Option<Extension>,
 ) -> Result<Bits, ExprFault>
-    requires { ArePlaced names.now }
-    ensures { (d : Design) → IsDesignOf D.table names.now d → Makes IsPart exprs.old exprs.new result (read_part d signal extension) }
+    ensures { (d : Context) → IsContextOf D.table scope.now d → Makes IsPart exprs.old exprs.new result (read_part d signal extension) }
 {
-    let bit = read_signal::<D>(names, exprs, signal, extension)?;
+    let bit = read_signal::<D>(scope, exprs, signal, extension)?;
     let bits = one_bit(alloc, bit, false)?;
     Ok(bits)
 }

@@ -6,7 +6,7 @@ ghost use Rattle.abel_meaning.specs.Designs.{cell_on, is_stored};
 ghost use Rattle.abel_meaning.specs.Sources.{node_source, on_pin, pin_source, register_source, source_by};
 ghost use Rattle.pld_device.specs.Macrocells.{complement_if};
 ghost use Rattle.expr_bits.specs.Held.{HasLeaf, view_reading};
-ghost use Rattle.expr_bits.specs.Placed.{IsPlacedKind};
+ghost use Rattle.set_expr.specs.Scopes.{IsPlacedKind};
 
 use abel_tree::{Attributes, Declared, Extension, Meaning};
 use bit_expr::Leaf;

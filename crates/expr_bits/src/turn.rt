@@ -2,7 +2,7 @@
 
 ghost use Rattle.std.specs.Prelude.{◌≡◌, List, take};
 ghost use Rattle.abel_tree.specs.Entries.{Entry, entries_of, view_meaning};
-ghost use Rattle.abel_meaning.specs.Designs.{Design};
+ghost use Rattle.abel_meaning.specs.Designs.{Context};
 ghost use Rattle.abel_meaning.specs.Terms.{extended_if, known_of, term_meant};
 ghost use Rattle.value_bits.specs.Parts.{Part};
 ghost use Rattle.expr_bits.specs.Stacks.{named_term, task_of, task_of_turn};
@@ -12,21 +12,26 @@ ghost use Rattle.expr_bits.specs.Still.{AreKept, IsHeld};
 use crate::kept::Kept;
 use crate::step::Step;
 use crate::work::Work;
-use abel_tree::{Expr, Extension, Meaning, Names};
+use abel_tree::{Expr, Extension, Meaning};
+use set_expr::Scope;
 use value_bits::Bits;
 
 /// An expression comes to its parts, a step is done, or the bits that are kept of a name are taken.
 #[derive(Clone, Copy)]
-pub(crate) enum Turn<'a> {
+pub(crate) enum Turn<'a, 'kept> {
     Expands(&'a Expr, Option<Extension>, usize),
     Does(Step),
-    Keeps(&'a Bits, u32, Option<Extension>),
+    Keeps(&'kept Bits, u32, Option<Extension>),
 }
 
 /// A declared name of this number.
-fn declared_turn<'a>(meaning: &'a Meaning, number: u32, extension: Option<Extension>) -> Turn<'a>
-    ensures task { (es : List Entry) (d : Design) (ps : List Part) → after_task d (task_of_turn es result) ps ≡ after_task d (Push (extended_if extension (term_meant (known_of (take number es)) number (view_meaning meaning.now)))) ps }
-    ensures held { (es : List Entry) (d : Design) → IsHeld es d result }
+fn declared_turn<'a, 'kept>(
+    meaning: &'a Meaning,
+    number: u32,
+    extension: Option<Extension>,
+) -> Turn<'a, 'kept>
+    ensures task { (es : List Entry) (d : Context) (ps : List Part) → after_task d (task_of_turn es result) ps ≡ after_task d (Push (extended_if extension (term_meant (known_of (take number es)) number (view_meaning meaning.now)))) ps }
+    ensures held { (es : List Entry) (d : Context) → IsHeld es d result }
 {
     match meaning {
         Meaning::Pin { pin: _, negated: _ } => Turn::Does(Step::Read(number, extension)),
@@ -37,40 +42,48 @@ fn declared_turn<'a>(meaning: &'a Meaning, number: u32, extension: Option<Extens
 }
 
 /// The name of this number.
-fn named_turn<'a>(names: &'a Names, number: u32, extension: Option<Extension>) -> Turn<'a>
-    ensures task { (d : Design) (ps : List Part) → after_task d (task_of_turn (entries_of names.now) result) ps ≡ after_task d (Push (named_term (entries_of names.now) number extension)) ps }
-    ensures held { (d : Design) → IsHeld (entries_of names.now) d result }
+fn named_turn<'a, 'kept>(
+    scope: &Scope<'a>,
+    number: u32,
+    extension: Option<Extension>,
+) -> Turn<'a, 'kept>
+    ensures task { (d : Context) (ps : List Part) → after_task d (task_of_turn (entries_of scope.now) result) ps ≡ after_task d (Push (named_term (entries_of scope.now) number extension)) ps }
+    ensures held { (d : Context) → IsHeld (entries_of scope.now) d result }
 {
-    match names.list.as_slice().get(number as usize) {
+    match scope.list().get(number as usize) {
         Some(declared) => declared_turn(&declared.meaning, number, extension),
         None => Turn::Does(Step::Number(0)),
     }
 }
 
 /// The name of this number, by the bits that are kept of it where there are some.
-fn kept_turn<'a>(
-    names: &'a Names,
-    kept: &'a Kept,
+fn kept_turn<'a, 'kept>(
+    scope: &Scope<'a>,
+    kept: &'kept Kept,
     number: u32,
     extension: Option<Extension>,
-) -> Turn<'a>
-    ensures task { (d : Design) (ps : List Part) → after_task d (task_of_turn (entries_of names.now) result) ps ≡ after_task d (Push (named_term (entries_of names.now) number extension)) ps }
-    ensures held { (d : Design) → AreKept (entries_of names.now) d kept.now.rows.items → IsHeld (entries_of names.now) d result }
+) -> Turn<'a, 'kept>
+    ensures task { (d : Context) (ps : List Part) → after_task d (task_of_turn (entries_of scope.now) result) ps ≡ after_task d (Push (named_term (entries_of scope.now) number extension)) ps }
+    ensures held { (d : Context) → AreKept (entries_of scope.now) d kept.now.rows.items → IsHeld (entries_of scope.now) d result }
 {
     match kept.get(number, extension) {
         Some(bits) => Turn::Keeps(bits, number, extension),
-        None => named_turn(names, number, extension),
+        None => named_turn(scope, number, extension),
     }
 }
 
 /// What is done of the work.
-pub(crate) fn turn_of<'a>(names: &'a Names, kept: &'a Kept, next: Work<'a>) -> Turn<'a>
-    ensures task { (d : Design) (ps : List Part) → after_task d (task_of_turn (entries_of names.now) result) ps ≡ after_task d (task_of (entries_of names.now) next.entry) ps }
-    ensures held { (d : Design) → AreKept (entries_of names.now) d kept.now.rows.items → IsHeld (entries_of names.now) d result }
+pub(crate) fn turn_of<'a, 'kept>(
+    scope: &Scope<'a>,
+    kept: &'kept Kept,
+    next: Work<'a>,
+) -> Turn<'a, 'kept>
+    ensures task { (d : Context) (ps : List Part) → after_task d (task_of_turn (entries_of scope.now) result) ps ≡ after_task d (task_of (entries_of scope.now) next.entry) ps }
+    ensures held { (d : Context) → AreKept (entries_of scope.now) d kept.now.rows.items → IsHeld (entries_of scope.now) d result }
 {
     match next {
         Work::Whole(expr, extension, count) => Turn::Expands(expr, extension, count),
-        Work::Named(number, extension) => kept_turn(names, kept, number, extension),
+        Work::Named(number, extension) => kept_turn(scope, kept, number, extension),
         Work::Do(step) => Turn::Does(step),
     }
 }

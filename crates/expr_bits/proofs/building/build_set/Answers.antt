@@ -1,5 +1,5 @@
 -- One member more, and all of them.
-use Rattle.std.proofs.Common.{sym, subst}
+use Rattle.std.proofs.Common.{subst}
 use Rattle.std.proofs.lemmas.Result.{IfOk-weaker}
 use Rattle.bit_expr.specs.Arena.{arena}
 use Rattle.expr_bits.specs.Stacks.{ShowsStack}

@@ -1,9 +1,9 @@
 -- The members so far, and the values that are left.
-use Rattle.std.proofs.Common.{◌≡◌, ◌-◌, List}
+use Rattle.std.proofs.Common.{◌≡◌, List}
 use Rattle.bit_expr.specs.declared.node.Node.{Node}
 use Rattle.bit_expr.specs.Arena.{arena}
 use Rattle.value_bits.specs.declared.bits.Form.TheVariants as form
-use Rattle.value_bits.specs.Parts.{Part, no_part}
+use Rattle.value_bits.specs.Parts.{Part}
 use Rattle.expr_bits.specs.Stacks.{AreStacked}
 use Rattle.expr_bits.proofs.Joining.{Joining}
 use Rattle.expr_bits.proofs.building.build_set.Given as goal

@@ -1,5 +1,5 @@
 -- Each expression by its parts.
-use Rattle.std.proofs.Common.{◌≡◌, map, take, refl, sym, ap, subst, ◌∙◌}
+use Rattle.std.proofs.Common.{map, take, refl, sym, ap, ◌∙◌}
 use Rattle.std.proofs.lemmas.Result.{IfOk-weaker}
 use Rattle.abel_tree.specs.Entries.{entries_of}
 use Rattle.abel_tree.specs.Tree.{members_of}
@@ -8,14 +8,14 @@ use Rattle.abel_meaning.specs.Terms.{extended_if, known_of, special_term, term_n
 use Rattle.abel_meaning.specs.Terms as term
 use Rattle.expr_bits.specs.declared.step.Step.TheVariants as step
 use Rattle.expr_bits.specs.declared.work.Work.TheVariants as work
-use Rattle.expr_bits.specs.Steps.{Push, after_task}
+use Rattle.expr_bits.specs.Steps.{Push}
 use Rattle.expr_bits.proofs.Coming.{first_comes, same_first, number_comes, special_extended, under_work, both_work}
 use Rattle.expr_bits.proofs.Views.{view_number, view_special, view_name, view_set, view_paren, view_unary, view_binary}
 use Rattle.expr_bits.proofs.expanding.expand.Goals as goal
 
 pub returns-in-Number : goal.returns-in-Number
 returns-in-Number c =
-    let es = entries_of c.args.names.now in
+    let es = entries_of c.args.scope.now in
     let ks = known_of (take c.args.count es) in
     let e = c.args.extension in
     let old = c.args.work.items in
@@ -27,7 +27,7 @@ returns-in-Number c =
 
 pub returns-in-Special : goal.returns-in-Special
 returns-in-Special c =
-    let es = entries_of c.args.names.now in
+    let es = entries_of c.args.scope.now in
     let ks = known_of (take c.args.count es) in
     let e = c.args.extension in
     let old = c.args.work.items in
@@ -40,7 +40,7 @@ returns-in-Special c =
 
 pub returns-in-Name : goal.returns-in-Name
 returns-in-Name c =
-    let es = entries_of c.args.names.now in
+    let es = entries_of c.args.scope.now in
     let ks = known_of (take c.args.count es) in
     let e = c.args.extension in
     let old = c.args.work.items in
@@ -55,7 +55,7 @@ returns-in-Name c =
 
 pub returns-in-Set : goal.returns-in-Set
 returns-in-Set c =
-    let es = entries_of c.args.names.now in
+    let es = entries_of c.args.scope.now in
     let ks = known_of (take c.args.count es) in
     let e = c.args.extension in
     let old = c.args.work.items in
@@ -71,7 +71,7 @@ returns-in-Set c =
 
 pub returns-in-Paren : goal.returns-in-Paren
 returns-in-Paren c =
-    let es = entries_of c.args.names.now in
+    let es = entries_of c.args.scope.now in
     let ks = known_of (take c.args.count es) in
     let e = c.args.extension in
     let old = c.args.work.items in
@@ -83,7 +83,7 @@ returns-in-Paren c =
 
 pub returns-in_ok-work-in-Unary : goal.returns-in_ok-work-in-Unary
 returns-in_ok-work-in-Unary c =
-    let es = entries_of c.args.names.now in
+    let es = entries_of c.args.scope.now in
     let ks = known_of (take c.args.count es) in
     let e = c.args.extension in
     let old = c.args.work.items in
@@ -97,7 +97,7 @@ returns-in_ok-work-in-Unary c =
 
 pub returns-in_ok-work-in-Binary-2 : goal.returns-in_ok-work-in-Binary-2
 returns-in_ok-work-in-Binary-2 c =
-    let es = entries_of c.args.names.now in
+    let es = entries_of c.args.scope.now in
     let ks = known_of (take c.args.count es) in
     let e = c.args.extension in
     let old = c.args.work.items in

@@ -13,7 +13,7 @@ use Rattle.expr_bits.proofs.expanding.member_works.Goals as goal
 
 pub loop-member-preserved : goal.loop-member-preserved
 loop-member-preserved c =
-    let es = entries_of c.args.names.now in
+    let es = entries_of c.args.scope.now in
     let ks = known_of (take c.args.count es) in
     let e = c.args.extension in
     let ms = c.args.members.now in
@@ -27,6 +27,6 @@ loop-member-preserved c =
 
 pub returns : goal.returns
 returns c =
-    let es = entries_of c.args.names.now in
+    let es = entries_of c.args.scope.now in
     subst (λ xs. ComeTo es c.loop-member.works.items (each_extended c.args.extension (list_of (terms_of (known_of (take c.args.count es)) (members_of xs)))))
     (whole_front view_member c.args.members.now c.loop-member.member-index c.loop-member-test.false) c.loop-member.invariant

@@ -1,5 +1,5 @@
 -- A member that is an expression, and the names of a range.
-use Rattle.std.proofs.Common.{◌≡◌, [], ◌∷◌, ◌++◌, take, refl, sym, ap, subst, ◌∙◌}
+use Rattle.std.proofs.Common.{◌++◌, take, refl, sym, ap, subst, ◌∙◌}
 use Rattle.std.proofs.lemmas.Result.{IfOk-weaker}
 use Rattle.abel_tree.specs.Entries.{entries_of}
 use Rattle.abel_tree.specs.View.{view, view_member}
@@ -13,7 +13,7 @@ use Rattle.expr_bits.proofs.expanding.with_member.Goals as goal
 
 pub returns-in_ok-push-in-One : goal.returns-in_ok-push-in-One
 returns-in_ok-push-in-One c ts a =
-    let es = entries_of c.args.names.now in
+    let es = entries_of c.args.scope.now in
     let ks = known_of (take c.args.count es) in
     let e = c.args.extension in
     subst (λ m. ComeTo es c.push.new.self.items (ts ++ each_extended e (list_of (member_before ks m term.NoTerm)))) (sym (ap view_member c.in-One.is ∙ view_one c.in-One.expr))
@@ -21,7 +21,7 @@ returns-in_ok-push-in-One c ts a =
 
 pub returns-in-Span : goal.returns-in-Span
 returns-in-Span c =
-    let es = entries_of c.args.names.now in
+    let es = entries_of c.args.scope.now in
     IfOk-weaker c.with_range.result _ _
     (λ ws f ts a.
     subst (λ m. ComeTo es ws.items (ts ++ each_extended c.args.extension (list_of (member_before (known_of (take c.args.count es)) m term.NoTerm)))) (sym (ap view_member c.in-Span.is ∙ view_span c.in-Span.first c.in-Span.last)) (f ts a))

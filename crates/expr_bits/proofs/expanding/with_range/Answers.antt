@@ -1,5 +1,5 @@
 -- One name more, and all of them.
-use Rattle.std.proofs.Common.{◌≡◌, ℕ, ◌+◌, List, [], ◌∷◌, ◌++◌, map, take, sym, ap, ap₂, subst, ◌∙◌}
+use Rattle.std.proofs.Common.{◌≡◌, ℕ, ◌+◌, List, [], ◌∷◌, ◌++◌, map, take, ap, ap₂, subst, ◌∙◌}
 use Rattle.std.specs.Global.{Vec}
 use Rattle.abel_tree.specs.Entries.{entries_of}
 use Rattle.abel_tree.specs.Ranges.{range_names}
@@ -13,11 +13,11 @@ use Rattle.expr_bits.proofs.Extensions.{each_append, range_more}
 use Rattle.expr_bits.proofs.expanding.with_range.Goals as goal
 
 pub loop-name-init : goal.loop-name-init
-loop-name-init c ts a = come_none (entries_of c.args.names.now) c.args.before.items ts a
+loop-name-init c ts a = come_none (entries_of c.args.scope.now) c.args.before.items ts a
 
 pub loop-name-preserved : goal.loop-name-preserved
 loop-name-preserved c ts a =
-    let es = entries_of c.args.names.now in
+    let es = entries_of c.args.scope.now in
     let ks = known_of (take c.args.count es) in
     let e = c.args.extension in
     let text : Vec ℕ → List ℕ = λ n. n.items in
@@ -31,7 +31,7 @@ loop-name-preserved c ts a =
 
 pub returns : goal.returns
 returns c ts a =
-    let es = entries_of c.args.names.now in
+    let es = entries_of c.args.scope.now in
     let text : Vec ℕ → List ℕ = λ n. n.items in
     let list = c.deref-name-items.result.now in
     let all : map text (take c.loop-name.name-index list) ≡ range_names c.args.first.now.text c.args.last.now.text =

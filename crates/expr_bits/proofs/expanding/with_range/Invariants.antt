@@ -10,5 +10,5 @@ use Rattle.expr_bits.proofs.expanding.with_range.Given as goal
 
 abbrev pub invariant-loop-name : goal.invariant-loop-name
 invariant-loop-name l =
-    (ts : List Term) → ComeTo (entries_of l.names) l.fn.before.items ts
-    → ComeTo (entries_of l.names) l.works.items (ts ++ each_extended l.extension (list_of (named_before (known_of (take l.count (entries_of l.names))) (map (λ (n : Vec ℕ). n.items) (take l.name-index l.name-items)) term.NoTerm)))
+    (ts : List Term) → ComeTo (entries_of l.scope) l.fn.before.items ts
+    → ComeTo (entries_of l.scope) l.works.items (ts ++ each_extended l.extension (list_of (named_before (known_of (take l.count (entries_of l.scope))) (map (λ (n : Vec ℕ). n.items) (take l.name-index l.name-items)) term.NoTerm)))

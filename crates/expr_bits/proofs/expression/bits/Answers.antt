@@ -6,5 +6,5 @@ use Rattle.expr_bits.proofs.expression.bits.Goals as goal
 
 pub returns-in-Some : goal.returns-in-Some
 returns-in-Some g c = record {
-  answer = λ d is. refused c.args.names.now d (view c.args.expr.now) c.args.exprs.now c.in-Some.fault (sym c.in_ok-checked.ensures.fault ∙ c.in-Some.is);
+  answer = λ d is. refused c.args.scope.now d (view c.args.expr.now) c.args.exprs.now c.in-Some.fault (sym c.in_ok-checked.ensures.fault ∙ c.in-Some.is);
 }

@@ -20,24 +20,24 @@ use Rattle.expr_bits.proofs.expression.built.Goals as goal
 
 pub shaped-requires-clause-few : goal.shaped-requires-clause-few
 shaped-requires-clause-few g c =
-    let d = plain_design g.D.Device.table c.args.names.now in
-    let is = is_plain g.D.Device.table c.args.names.now in
-    few c.args.names.now d (view c.args.expr.now) c.args.exprs.now c.whole.new.exprs c.in-Ok.bits c.requires.accepted is.known (c.in-Ok.ensures d is)
+    let d = plain_design g.D.Device.table c.args.scope.now in
+    let is = is_plain g.D.Device.table c.args.scope.now in
+    few c.args.scope.now d (view c.args.expr.now) c.args.exprs.now c.whole.new.exprs c.in-Ok.bits c.requires.accepted is.known (c.in-Ok.ensures d is)
 
 pub shaped-requires-clause-positions : goal.shaped-requires-clause-positions
 shaped-requires-clause-positions g c =
-    (c.in-Ok.ensures (plain_design g.D.Device.table c.args.names.now) (is_plain g.D.Device.table c.args.names.now)).shows.positions
+    (c.in-Ok.ensures (plain_design g.D.Device.table c.args.scope.now) (is_plain g.D.Device.table c.args.scope.now)).shows.positions
 
 pub returns-in_err-shaped-in-Ok : goal.returns-in_err-shaped-in-Ok
 returns-in_err-shaped-in-Ok g c d is =
     let p = err_from_is_err_and c.from_residual.result c.from_residual.ensures.1 in
     let e : c.from_residual.result ≡ Err fault.OutOfMemory = p.1 ∙ ap Err p.2 in
-    subst (λ (r : Result Shaped SectionFault). IsAnswer c.args.names.now d (view c.args.expr.now) c.args.exprs.now c.whole.new.exprs r) (sym e)
+    subst (λ (r : Result Shaped SectionFault). IsAnswer c.args.scope.now d (view c.args.expr.now) c.args.exprs.now c.whole.new.exprs r) (sym e)
     (c.in-Ok.ensures d is).grew.keeps
 
 pub returns-in_ok-shaped-in-Ok : goal.returns-in_ok-shaped-in-Ok
 returns-in_ok-shaped-in-Ok g c d is =
-    accepted c.args.names.now d (view c.args.expr.now) c.args.exprs.now c.whole.new.exprs c.in-Ok.bits c.in_ok-shaped-in-Ok.shaped c.requires.accepted is.known (c.in-Ok.ensures d is)
+    accepted c.args.scope.now d (view c.args.expr.now) c.args.exprs.now c.whole.new.exprs c.in-Ok.bits c.in_ok-shaped-in-Ok.shaped c.requires.accepted is.known (c.in-Ok.ensures d is)
     (λ v b z. c.in_ok-shaped-in-Ok.ensures (arena c.whole.new.exprs) v (bits_of d (term_of d.known (view c.args.expr.now))).what b z)
 
 pub returns-in-Err-NodeLimit : goal.returns-in-Err-NodeLimit

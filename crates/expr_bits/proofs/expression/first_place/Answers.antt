@@ -1,8 +1,8 @@
 -- The place by the variant of the first operand.
-use Rattle.std.proofs.Common.{◌≡◌, sym, ap, ◌∙◌}
+use Rattle.std.proofs.Common.{sym, ap, ◌∙◌}
 use Rattle.abel_tree.specs.View.{view}
 use Rattle.set_expr.specs.Answer.{first_place}
-use Rattle.expr_bits.proofs.Views.{view_number, view_special, view_name, view_set, view_paren, view_unary}
+use Rattle.expr_bits.proofs.Views.{view_number}
 use Rattle.expr_bits.proofs.expression.first_place.Goals as goal
 
 pub returns-in-Number : goal.returns-in-Number

@@ -10,4 +10,4 @@ use Rattle.expr_bits.proofs.expression.whole.Goals as goal
 pub returns : goal.returns
 returns g c d is =
     subst (λ t. Makes IsPart c.args.exprs.now c.walk.new.exprs c.walk.result (term_part d t))
-    (whole_term g.D.Device.table c.args.names.now d c.args.expr.now _ is (sym (entries_long c.args.names.now c.as_slice-count.result.now c.as_slice-count.ensures))) (c.walk.ensures d is)
+    (whole_term g.D.Device.table c.args.scope.now d c.args.expr.now _ is (sym (entries_long c.args.scope.now c.list-count.result.now c.list-count.ensures))) (c.walk.ensures d is)

@@ -14,7 +14,7 @@ use Rattle.expr_bits.proofs.keeping.makes_none.Goals as goal
 
 pub turns-init : goal.turns-init
 turns-init g c d is more =
-    let es = entries_of c.args.names.now in
+    let es = entries_of c.args.scope.now in
     let t = extended_if c.args.extension (term_of (known_of (take c.args.number es)) (view c.args.expr.now)) in
     let w = work.Whole c.args.expr c.args.extension c.args.number in
     let tasks : tasks_of es c.push.new.self.items ≡ Push t ∷ [] = ap (tasks_of es) (c.in_ok-push.ensures.items ∙ ap (λ ws. ws ++ w ∷ []) c.new-work.ensures.items) in
@@ -22,7 +22,7 @@ turns-init g c d is more =
 
 pub turns-preserved : goal.turns-preserved
 turns-preserved g c d is more =
-    let es = entries_of c.args.names.now in
+    let es = entries_of c.args.scope.now in
     let left = c.pop.new.self.items in
     let next = c.in-Some.next in
     let turn = c.turn_of-turn.result in
@@ -32,6 +32,6 @@ turns-preserved g c d is more =
 
 pub returns-in_default : goal.returns-in_default
 returns-in_default g c e d is =
-    let es = entries_of c.args.names.now in
+    let es = entries_of c.args.scope.now in
     let p = c.in_default.ensures in
     c.turns.invariant d is (subst (KeepStill d) (sym (ap (tasks_of es) (none_left c.turns.work.items c.pop.new.self.items _ p.items p.rest p.cases.0))) (still_none d))

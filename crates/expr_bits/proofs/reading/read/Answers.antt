@@ -1,5 +1,5 @@
 -- One bit without X.
-use Rattle.std.proofs.Common.{false, [], ◌∷◌, refl}
+use Rattle.std.proofs.Common.{refl}
 use Rattle.abel_meaning.specs.FormulaBits.{make_source}
 use Rattle.abel_meaning.specs.Sources.{source_of}
 use Rattle.abel_meaning.specs.Terms as term

@@ -7,5 +7,5 @@ pub returns-in-Some-clause-leaf : goal.returns-in-Some-clause-leaf
 returns-in-Some-clause-leaf g c =
     let lookup = c.in-Some.ensures.lookup in
     c.source_of.ensures.leaf
-    (c.requires c.args.signal (view_declared c.in-Some.declared.now)
-    (entry_at c.args.names.now c.as_slice.result.now c.args.signal c.in-Some.declared.now c.as_slice.ensures lookup.3.0 lookup.1))
+    (c.are_placed.ensures c.args.signal (view_declared c.in-Some.declared.now)
+    (entry_at c.args.scope.now c.list.result.now c.args.signal c.in-Some.declared.now c.list.ensures lookup.3.0 lookup.1))

@@ -12,21 +12,21 @@ use Rattle.expr_bits.proofs.turn.named_turn.Goals as goal
 
 pub returns-in-Some-clause-task : goal.returns-in-Some-clause-task
 returns-in-Some-clause-task c d ps =
-    let es = entries_of c.args.names.now in
+    let es = entries_of c.args.scope.now in
     let n = c.args.number in
     let lookup = c.in-Some.ensures.lookup in
-    let here = entry_at c.args.names.now c.as_slice.result.now n c.in-Some.declared.now c.as_slice.ensures lookup.3.0 lookup.1 in
+    let here = entry_at c.args.scope.now c.list.result.now n c.in-Some.declared.now c.list.ensures lookup.3.0 lookup.1 in
     subst (λ o. after_task d (task_of_turn es c.declared_turn.result) ps ≡ after_task d (Push (extended_if c.args.extension (here_term es n o))) ps) (sym here)
     (c.declared_turn.ensures.task es d ps)
 
 pub returns-in-None-clause-task : goal.returns-in-None-clause-task
 returns-in-None-clause-task c d ps =
-    let es = entries_of c.args.names.now in
+    let es = entries_of c.args.scope.now in
     let n = c.args.number in
-    let list = c.as_slice.result.now in
+    let list = c.list.result.now in
     let past : length list ≤ n = ltb-false n (length list) (sym c.in-None.ensures.lookup.0) in
-    let none : slice_get es n ≡ None = slice_get_past es n (omega (arith, past, entries_long c.args.names.now list c.as_slice.ensures)) in
+    let none : slice_get es n ≡ None = slice_get_past es n (omega (arith, past, entries_long c.args.scope.now list c.list.ensures)) in
     zero_comes d c.args.extension _ ps (ap (here_term es n) none)
 
 pub returns-in-Some-clause-held : goal.returns-in-Some-clause-held
-returns-in-Some-clause-held c d = c.declared_turn.ensures.held (entries_of c.args.names.now) d
+returns-in-Some-clause-held c d = c.declared_turn.ensures.held (entries_of c.args.scope.now) d

@@ -12,7 +12,7 @@ use Rattle.expr_bits.proofs.walking.expanded.Goals as goal
 
 pub returns-in-Expands : goal.returns-in-Expands
 returns-in-Expands c =
-    let es = entries_of c.args.names.now in
+    let es = entries_of c.args.scope.now in
     let old = c.args.work.items in
     IfOk-weaker c.expand.result _ _
     (λ new has d ps.

@@ -18,23 +18,23 @@ use Rattle.expr_bits.proofs.walking.walk.Goals as goal
 
 pub turns-init : goal.turns-init
 turns-init g c d is =
-    let es = entries_of c.args.names.now in
+    let es = entries_of c.args.scope.now in
     let old = c.args.exprs.now in
     let t = extended_if c.args.extension (term_of (known_of (take c.args.count es)) (view c.args.expr.now)) in
     let w = work.Whole c.args.expr c.args.extension c.args.count in
     let tasks : tasks_of es c.push.new.self.items ≡ Push t ∷ [] = ap (tasks_of es) (c.in_ok-push.ensures.items ∙ ap (λ ws. ws ++ w ∷ []) c.new-work.ensures.items) in
     subst (λ ts. Walking d old old c.new-values.result ts t) (sym tasks) (walking_start d old c.new-values.result t c.new-values.ensures.items)
 
-pub done-requires-clause-values : goal.done-requires-clause-values
-done-requires-clause-values g c =
-    let es = entries_of c.args.names.now in
+pub done-requires : goal.done-requires
+done-requires g c =
+    let es = entries_of c.args.scope.now in
     let t = extended_if c.args.extension (term_of (known_of (take c.args.count es)) (view c.args.expr.now)) in
-    let d = plain_design g.D.Device.table c.args.names.now in
-    walking_standing d c.args.exprs.now c.turns.exprs c.turns.values (tasks_of es c.turns.work.items) t (c.turns.invariant d (is_plain g.D.Device.table c.args.names.now))
+    let d = plain_design g.D.Device.table c.args.scope.now in
+    record { values = walking_standing d c.args.exprs.now c.turns.exprs c.turns.values (tasks_of es c.turns.work.items) t (c.turns.invariant d (is_plain g.D.Device.table c.args.scope.now)) }
 
 pub returns-in_err-values : goal.returns-in_err-values
 returns-in_err-values g c d is =
-    let es = entries_of c.args.names.now in
+    let es = entries_of c.args.scope.now in
     let t = extended_if c.args.extension (term_of (known_of (take c.args.count es)) (view c.args.expr.now)) in
     let old = c.args.exprs.now in
     let now = c.turns.exprs in
@@ -50,7 +50,7 @@ returns-in_err-values g c d is =
 
 pub returns-in_default : goal.returns-in_default
 returns-in_default g c d is =
-    let es = entries_of c.args.names.now in
+    let es = entries_of c.args.scope.now in
     let t = extended_if c.args.extension (term_of (known_of (take c.args.count es)) (view c.args.expr.now)) in
     let here = c.turns.invariant d is in
     let p = c.in_default.ensures in
@@ -59,7 +59,7 @@ returns-in_default g c d is =
 
 pub turns-preserved : goal.turns-preserved
 turns-preserved g c d is =
-    let es = entries_of c.args.names.now in
+    let es = entries_of c.args.scope.now in
     let t = extended_if c.args.extension (term_of (known_of (take c.args.count es)) (view c.args.expr.now)) in
     let old = c.args.exprs.now in
     let now = c.turns.exprs in
