@@ -3,7 +3,7 @@ use Rattle.std.proofs.Common.{◌≡◌, ℕ, zero, suc, ◌+◌, ◌==◌, ◌<
 use Rattle.std.specs.List.{slice_get}
 use Rattle.std.proofs.Math.Bool.{or-false, or_assoc}
 use Rattle.abel_tree.specs.Entries.{Kind, APin, ANode, AConstant, ADeviceName}
-use Rattle.abel_meaning.specs.Designs.{Design, name_at}
+use Rattle.abel_meaning.specs.Designs.{Context, name_at}
 use Rattle.abel_meaning.specs.Rows.{Mark, Level, Unknown, Pulsed, Released}
 use Rattle.abel_meaning.specs.Vectors.{input_char, output_char, given_to, first_char, char_given}
 use Rattle.abel_vectors.specs.declared.given.Given.{Given}
@@ -13,19 +13,19 @@ use Rattle.abel_vectors.proofs.GivenLaws.{found_append, adds_both}
 
 -- ---- one position more
 
-chars_nil : (d : Design) (char : Bool → Mark → Option ℕ) (s : Option ℕ) (ss : List (Option ℕ)) → chars_for d char (s ∷ ss) [] ≡ []
+chars_nil : (d : Context) (char : Bool → Mark → Option ℕ) (s : Option ℕ) (ss : List (Option ℕ)) → chars_for d char (s ∷ ss) [] ≡ []
 chars_nil d char None ss = refl
 chars_nil d char (Some s) ss = refl
 
-gives_none : (d : Design) (char : Bool → Mark → Option ℕ) (s : Option ℕ) → position_gives d char s None ≡ []
+gives_none : (d : Context) (char : Bool → Mark → Option ℕ) (s : Option ℕ) → position_gives d char s None ≡ []
 gives_none d char None = refl
 gives_none d char (Some s) = refl
 
-chars_cons : (d : Design) (char : Bool → Mark → Option ℕ) (s : Option ℕ) (ss : List (Option ℕ)) (m : Mark) (ms : List Mark) → chars_for d char (s ∷ ss) (m ∷ ms) ≡ position_gives d char s (Some m) ++ chars_for d char ss ms
+chars_cons : (d : Context) (char : Bool → Mark → Option ℕ) (s : Option ℕ) (ss : List (Option ℕ)) (m : Mark) (ms : List Mark) → chars_for d char (s ∷ ss) (m ∷ ms) ≡ position_gives d char s (Some m) ++ chars_for d char ss ms
 chars_cons d char None ss m ms = refl
 chars_cons d char (Some s) ss m ms = refl
 
-chars_step : (d : Design) (char : Bool → Mark → Option ℕ) (ss : List (Option ℕ)) (ms : List Mark) (k : ℕ) (x : Option ℕ) → k < length ss → chars_for d char (take (suc k) ss) ms ≡ chars_for d char (take k ss) ms ++ position_gives d char (get_or ss k x) (slice_get ms k)
+chars_step : (d : Context) (char : Bool → Mark → Option ℕ) (ss : List (Option ℕ)) (ms : List Mark) (k : ℕ) (x : Option ℕ) → k < length ss → chars_for d char (take (suc k) ss) ms ≡ chars_for d char (take k ss) ms ++ position_gives d char (get_or ss k x) (slice_get ms k)
 chars_step d char [] ms k x h = absurd (omega arith)
 chars_step d char (s ∷ ss) [] zero x h = chars_nil d char s [] ∙ sym (gives_none d char s)
 chars_step d char (s ∷ ss) [] (suc k) x h =
@@ -39,7 +39,7 @@ chars_step d char (s ∷ ss) (m ∷ ms) (suc k) x h =
     ∙ sym (append_assoc p (chars_for d char (take k ss) ms) (position_gives d char (get_or ss k x) (slice_get ms k)))
     ∙ ap (λ xs. xs ++ position_gives d char (get_or ss k x) (slice_get ms k)) (sym (chars_cons d char s (take k ss) m ms))
 
-pub chars_more : (d : Design) (char : Bool → Mark → Option ℕ) (ss : List (Option ℕ)) (ms : List Mark) (k : ℕ) (x : Option ℕ) → k < length ss → chars_for d char (take (k + 1) ss) ms ≡ chars_for d char (take k ss) ms ++ position_gives d char (get_or ss k x) (slice_get ms k)
+pub chars_more : (d : Context) (char : Bool → Mark → Option ℕ) (ss : List (Option ℕ)) (ms : List Mark) (k : ℕ) (x : Option ℕ) → k < length ss → chars_for d char (take (k + 1) ss) ms ≡ chars_for d char (take k ss) ms ++ position_gives d char (get_or ss k x) (slice_get ms k)
 chars_more d char ss ms k x h = ap (λ n. chars_for d char (take n ss) ms) (add-one k) ∙ chars_step d char ss ms k x h
 
 pulse_nil : (s : Option ℕ) (ss : List (Option ℕ)) → tests_pulse (s ∷ ss) [] ≡ false
@@ -91,7 +91,7 @@ given_one pin char (ANode n) m = refl
 given_one pin char (AConstant v) m = refl
 given_one pin char ADeviceName m = refl
 
-given_found : (d : Design) (pin : ℕ) (char : Bool → Mark → Option ℕ) (ss : List (Option ℕ)) (ms : List Mark) → char_given d pin char ss ms ≡ found_at (chars_for d char ss ms) pin
+given_found : (d : Context) (pin : ℕ) (char : Bool → Mark → Option ℕ) (ss : List (Option ℕ)) (ms : List Mark) → char_given d pin char ss ms ≡ found_at (chars_for d char ss ms) pin
 given_found d pin char [] ms = refl
 given_found d pin char (None ∷ ss) [] = refl
 given_found d pin char (Some s ∷ ss) [] = refl
@@ -100,14 +100,14 @@ given_found d pin char (Some s ∷ ss) (m ∷ ms) =
     ap₂ first_char (given_one pin char (name_at d s).kind m) (given_found d pin char ss ms)
     ∙ sym (found_append (char_for (name_at d s).kind char m) (chars_for d char ss ms) pin)
 
-pub all_found : (d : Design) (pin : ℕ) (ss : List (Option ℕ)) (given : List Mark) (ts : List (Option ℕ)) (tested : List Mark) → first_char (char_given d pin input_char ss given) (char_given d pin output_char ts tested) ≡ found_at (all_given d ss given ts tested) pin
+pub all_found : (d : Context) (pin : ℕ) (ss : List (Option ℕ)) (given : List Mark) (ts : List (Option ℕ)) (tested : List Mark) → first_char (char_given d pin input_char ss given) (char_given d pin output_char ts tested) ≡ found_at (all_given d ss given ts tested) pin
 all_found d pin ss given ts tested =
     ap₂ first_char (given_found d pin input_char ss given) (given_found d pin output_char ts tested)
     ∙ sym (found_append (chars_for d input_char ss given) (chars_for d output_char ts tested) pin)
 
 -- ---- what is added, position by position
 
-pub side_more : (d : Design) (char : Bool → Mark → Option ℕ) (ss : List (Option ℕ)) (ms : List Mark) (k : ℕ) (x : Option ℕ) (old mid new : List Given) (a b c : Bool) (g : Option Given) → k < length ss → pairs_of g ≡ position_gives d char (get_or ss k x) (slice_get ms k) → c ≡ (a && b) → Adds (chars_for d char (take k ss) ms) old mid a → Adds (pairs_of g) mid new b → Adds (chars_for d char (take (k + 1) ss) ms) old new c
+pub side_more : (d : Context) (char : Bool → Mark → Option ℕ) (ss : List (Option ℕ)) (ms : List Mark) (k : ℕ) (x : Option ℕ) (old mid new : List Given) (a b c : Bool) (g : Option Given) → k < length ss → pairs_of g ≡ position_gives d char (get_or ss k x) (slice_get ms k) → c ≡ (a && b) → Adds (chars_for d char (take k ss) ms) old mid a → Adds (pairs_of g) mid new b → Adds (chars_for d char (take (k + 1) ss) ms) old new c
 side_more d char ss ms k x old mid new a b c g lt same both so_far one =
     let here = position_gives d char (get_or ss k x) (slice_get ms k) in
     subst (λ t. Adds (chars_for d char (take (k + 1) ss) ms) old new t) (sym both)
@@ -115,10 +115,10 @@ side_more d char ss ms k x old mid new a b c g lt same both so_far one =
     (adds_both (chars_for d char (take k ss) ms) here old mid new a b so_far (subst (λ zs. Adds zs mid new b) same one)))
 
 -- both sides of a row
-pub row_firsts : (d : Design) (ss : List (Option ℕ)) (given : List Mark) (ts : List (Option ℕ)) (tested : List Mark) (mid new : List Given) (a b : Bool) → Adds (chars_for d input_char ss given) [] mid a → Adds (chars_for d output_char ts tested) mid new b → HasFirsts (all_given d ss given ts tested) new
+pub row_firsts : (d : Context) (ss : List (Option ℕ)) (given : List Mark) (ts : List (Option ℕ)) (tested : List Mark) (mid new : List Given) (a b : Bool) → Adds (chars_for d input_char ss given) [] mid a → Adds (chars_for d output_char ts tested) mid new b → HasFirsts (all_given d ss given ts tested) new
 row_firsts d ss given ts tested mid new a b h k = (adds_both (chars_for d input_char ss given) (chars_for d output_char ts tested) [] mid new a b h k).firsts [] (λ p. refl)
 
-pub row_refuses : (d : Design) (ss : List (Option ℕ)) (given : List Mark) (ts : List (Option ℕ)) (tested : List Mark) (mid new : List Given) (a b t r : Bool) → Adds (chars_for d input_char ss given) [] mid a → Adds (chars_for d output_char ts tested) mid new b → t ≡ tests_pulse ts tested → r ≡ (t || not (a && b)) → gives_no_vector d ss given ts tested ≡ r
+pub row_refuses : (d : Context) (ss : List (Option ℕ)) (given : List Mark) (ts : List (Option ℕ)) (tested : List Mark) (mid new : List Given) (a b t r : Bool) → Adds (chars_for d input_char ss given) [] mid a → Adds (chars_for d output_char ts tested) mid new b → t ≡ tests_pulse ts tested → r ≡ (t || not (a && b)) → gives_no_vector d ss given ts tested ≡ r
 row_refuses d ss given ts tested mid new a b t r h k p e =
     ap₂ (λ x y. x || y) (sym p) ((adds_both (chars_for d input_char ss given) (chars_for d output_char ts tested) [] mid new a b h k).agree [] (λ q. refl))
     ∙ sym e

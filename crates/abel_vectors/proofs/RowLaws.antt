@@ -8,12 +8,12 @@ use Rattle.abel_tree.specs.declared.names.Names.{Names}
 use Rattle.abel_tree.specs.FirstRefusal.{first_refusal, earlier}
 use Rattle.abel_tree.specs.Tree.{Tree, RowTree}
 use Rattle.abel_tree.proofs.FirstRefusals.{first_append}
-use Rattle.abel_meaning.specs.Designs.{Design}
+use Rattle.abel_meaning.specs.Designs.{Context}
 use Rattle.abel_meaning.specs.Rows.{Mark, marks_of}
 use Rattle.abel_meaning.specs.Targets.{targets_of}
 use Rattle.abel_meaning.specs.Terms.{Term, term_of}
 use Rattle.abel_meaning.specs.Vectors.{char_or_plain}
-use Rattle.set_expr.specs.Answer.{IsDesignOf}
+use Rattle.set_expr.specs.Answer.{IsContextOf}
 use Rattle.set_expr.specs.declared.fault.SectionFault.{SectionFault}
 use Rattle.set_expr.specs.declared.fault.SectionFault.TheVariants.{BadVector}
 use Rattle.set_expr.specs.SectionOrder.{section_order}
@@ -31,7 +31,7 @@ use Rattle.abel_vectors.specs.VectorRefusals.{entries_refused, if_none, is_no_ve
 use Rattle.abel_vectors.proofs.PositionLaws.{all_found}
 
 -- a design of the names for a device is one for any device
-pub over : (t : Table) (n : Names) (d : Design) → IsDesignOf t n d → IsOver n d
+pub over : (t : Table) (n : Names) (d : Context) → IsContextOf t n d → IsOver n d
 over t n d is = record { names = is.names; known = is.known }
 
 map_same : (f g : ℕ → ℕ) (xs : List ℕ) → ((x : ℕ) → f x ≡ g x) → map f xs ≡ map g xs
@@ -39,12 +39,12 @@ map_same f g [] h = refl
 map_same f g (x ∷ xs) h = ap₂ (λ y ys. y ∷ ys) (h x) (map_same f g xs h)
 
 -- the vector of the first characters
-marked_chars : (d : Design) (ss : List (Option ℕ)) (given : List Mark) (ts : List (Option ℕ)) (tested : List Mark) (gs : List Given) (xs : List ℕ) → HasFirsts (all_given d ss given ts tested) gs → map (λ (pin : ℕ). char_or_plain d.device pin (found_at (map pair_of gs) pin)) xs ≡ map (marked_char d ss given ts tested) xs
+marked_chars : (d : Context) (ss : List (Option ℕ)) (given : List Mark) (ts : List (Option ℕ)) (tested : List Mark) (gs : List Given) (xs : List ℕ) → HasFirsts (all_given d ss given ts tested) gs → map (λ (pin : ℕ). char_or_plain d.device pin (found_at (map pair_of gs) pin)) xs ≡ map (marked_char d ss given ts tested) xs
 marked_chars d ss given ts tested gs xs h =
     map_same (λ (pin : ℕ). char_or_plain d.device pin (found_at (map pair_of gs) pin)) (marked_char d ss given ts tested) xs
     (λ pin. ap (char_or_plain d.device pin) (h pin ∙ sym (all_found d pin ss given ts tested)))
 
-pub marked_vector : (t : Table) (d : Design) → d.device ≡ t → (ss : List (Option ℕ)) (given : List Mark) (ts : List (Option ℕ)) (tested : List Mark) (gs slice : List Given) (v : Vector) → HasFirsts (all_given d ss given ts tested) gs → slice ≡ gs → chars_of t v ≡ map (λ (pin : ℕ). char_or_plain t pin (found_at (map pair_of slice) pin)) (range_with_len 1 t.pins) → chars_of d.device v ≡ map (marked_char d ss given ts tested) (range_with_len 1 d.device.pins)
+pub marked_vector : (t : Table) (d : Context) → d.device ≡ t → (ss : List (Option ℕ)) (given : List Mark) (ts : List (Option ℕ)) (tested : List Mark) (gs slice : List Given) (v : Vector) → HasFirsts (all_given d ss given ts tested) gs → slice ≡ gs → chars_of t v ≡ map (λ (pin : ℕ). char_or_plain t pin (found_at (map pair_of slice) pin)) (range_with_len 1 t.pins) → chars_of d.device v ≡ map (marked_char d ss given ts tested) (range_with_len 1 d.device.pins)
 marked_vector t d is ss given ts tested gs slice v firsts same chars =
     let here : chars_of d.device v ≡ map (λ (pin : ℕ). char_or_plain d.device pin (found_at (map pair_of slice) pin)) (range_with_len 1 d.device.pins) =
     subst (λ u. chars_of u v ≡ map (λ (pin : ℕ). char_or_plain u pin (found_at (map pair_of slice) pin)) (range_with_len 1 u.pins)) (sym is) chars in
@@ -62,11 +62,11 @@ pub if_none_nil : (xs ys : List SectionFault) → xs ≡ [] → if_none xs ys �
 if_none_nil [] ys e = refl
 if_none_nil (x ∷ xs) ys e = absurd cc
 
-entry_first : (d : Design) (r : SectionFault) (h : Term) (t : Tree) (e : Entry) → IsRead d r h t e → first_refusal section_order (entry_refused d r h t) ≡ entry_fault e
+entry_first : (d : Context) (r : SectionFault) (h : Term) (t : Tree) (e : Entry) → IsRead d r h t e → first_refusal section_order (entry_refused d r h t) ≡ entry_fault e
 entry_first d r h t (entry.Refused f) is = is
 entry_first d r h t (entry.Marks ms) is = ap (first_refusal section_order) is.0
 
-pub entries_first : (d : Design) (h k : Term) (r : RowTree) (a b : Entry) (f : SectionFault) → IsRead d (BadVector r.place) h r.inputs a → IsRead d (BadVector r.place) k r.outputs b → earlier section_order (entry_fault a) (entry_fault b) ≡ Some f → first_refusal section_order (row_refused d h k r) ≡ Some f
+pub entries_first : (d : Context) (h k : Term) (r : RowTree) (a b : Entry) (f : SectionFault) → IsRead d (BadVector r.place) h r.inputs a → IsRead d (BadVector r.place) k r.outputs b → earlier section_order (entry_fault a) (entry_fault b) ≡ Some f → first_refusal section_order (row_refused d h k r) ≡ Some f
 entries_first d h k r a b f p q e =
     if_none_first (entries_refused d h k r) (marks_refused d h k r) f
     (first_append section_order (entry_refused d (BadVector r.place) h r.inputs) (entry_refused d (BadVector r.place) k r.outputs)
@@ -76,23 +76,23 @@ entries_first d h k r a b f p q e =
 -- ---- what is refused of marks
 
 -- the marks of a row by those that were found
-record Found (d : Design) (h k : Term) (r : RowTree) (ss : List (Option ℕ)) (ms : List Mark) (ts : List (Option ℕ)) (ns : List Mark) : Type 0 where
+record Found (d : Context) (h k : Term) (r : RowTree) (ss : List (Option ℕ)) (ms : List Mark) (ts : List (Option ℕ)) (ns : List Mark) : Type 0 where
   inputs : ss ≡ targets_of h
   outputs : ts ≡ targets_of k
   given : ms ≡ marks_of d h (term_of d.known r.inputs)
   tested : ns ≡ marks_of d k (term_of d.known r.outputs)
 
-found_by : {X : Type 0} (d : Design) (h k : Term) (r : RowTree) (ss : List (Option ℕ)) (given : List Mark) (ts : List (Option ℕ)) (tested : List Mark) (f : List (Option ℕ) → List Mark → List (Option ℕ) → List Mark → X) → Found d h k r ss given ts tested → f (targets_of h) (marks_of d h (term_of d.known r.inputs)) (targets_of k) (marks_of d k (term_of d.known r.outputs)) ≡ f ss given ts tested
+found_by : {X : Type 0} (d : Context) (h k : Term) (r : RowTree) (ss : List (Option ℕ)) (given : List Mark) (ts : List (Option ℕ)) (tested : List Mark) (f : List (Option ℕ) → List Mark → List (Option ℕ) → List Mark → X) → Found d h k r ss given ts tested → f (targets_of h) (marks_of d h (term_of d.known r.inputs)) (targets_of k) (marks_of d k (term_of d.known r.outputs)) ≡ f ss given ts tested
 found_by d h k r ss given ts tested f is =
     ap₂ (λ a b. f a b (targets_of k) (marks_of d k (term_of d.known r.outputs))) (sym is.inputs) (sym is.given)
     ∙ ap₂ (λ a b. f ss given a b) (sym is.outputs) (sym is.tested)
 
-marks_by : (d : Design) (h k : Term) (r : RowTree) (b : Bool) → is_no_vector d h k (marks_of d h (term_of d.known r.inputs)) (marks_of d k (term_of d.known r.outputs)) ≡ b → entries_refused d h k r ≡ [] → row_refused d h k r ≡ (if b then BadVector r.place ∷ [] else [])
+marks_by : (d : Context) (h k : Term) (r : RowTree) (b : Bool) → is_no_vector d h k (marks_of d h (term_of d.known r.inputs)) (marks_of d k (term_of d.known r.outputs)) ≡ b → entries_refused d h k r ≡ [] → row_refused d h k r ≡ (if b then BadVector r.place ∷ [] else [])
 marks_by d h k r b e n =
     if_none_nil (entries_refused d h k r) (marks_refused d h k r) n
     ∙ ap (λ (t : Bool). if t then BadVector r.place ∷ [] else []) e
 
-pub marked_read : (d : Design) (h k : Term) (r : RowTree) (ss : List (Option ℕ)) (given : List Mark) (ts : List (Option ℕ)) (tested : List Mark) (found : Row) → ss ≡ targets_of h → ts ≡ targets_of k → given ≡ marks_of d h (term_of d.known r.inputs) → tested ≡ marks_of d k (term_of d.known r.outputs) → entries_refused d h k r ≡ [] → IsMarkedRow d r.place ss given ts tested found → IsReadRow d h k r found
+pub marked_read : (d : Context) (h k : Term) (r : RowTree) (ss : List (Option ℕ)) (given : List Mark) (ts : List (Option ℕ)) (tested : List Mark) (found : Row) → ss ≡ targets_of h → ts ≡ targets_of k → given ≡ marks_of d h (term_of d.known r.inputs) → tested ≡ marks_of d k (term_of d.known r.outputs) → entries_refused d h k r ≡ [] → IsMarkedRow d r.place ss given ts tested found → IsReadRow d h k r found
 marked_read d h k r ss given ts tested (row.Refused f) a b m n e is =
     let same : Found d h k r ss given ts tested = record { inputs = a; outputs = b; given = m; tested = n } in
     ap (first_refusal section_order) (marks_by d h k r true (found_by d h k r ss given ts tested (gives_no_vector d) same ∙ is.0) e)
@@ -106,6 +106,6 @@ marked_read d h k r ss given ts tested (row.Read v) a b m n e is =
 pub both_nil : (xs ys : List SectionFault) → xs ≡ [] → ys ≡ [] → xs ++ ys ≡ []
 both_nil xs ys e f = ap₂ (λ a b. a ++ b) e f
 
-pub row_first : (d : Design) (h k : Term) (r : RowTree) (found : Row) → IsReadRow d h k r found → first_refusal section_order (row_refused d h k r) ≡ row_fault found
+pub row_first : (d : Context) (h k : Term) (r : RowTree) (found : Row) → IsReadRow d h k r found → first_refusal section_order (row_refused d h k r) ≡ row_fault found
 row_first d h k r (row.Refused f) is = is
 row_first d h k r (row.Read v) is = ap (first_refusal section_order) is.0

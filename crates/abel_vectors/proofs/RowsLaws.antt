@@ -10,7 +10,7 @@ use Rattle.abel_tree.specs.FirstRefusal.{first_refusal, earlier}
 use Rattle.abel_tree.specs.Tree.{RowTree}
 use Rattle.abel_tree.specs.View.{view_vector_row}
 use Rattle.abel_tree.proofs.FirstRefusals.{first_append, none_refused}
-use Rattle.abel_meaning.specs.Designs.{Design}
+use Rattle.abel_meaning.specs.Designs.{Context}
 use Rattle.abel_meaning.specs.Terms.{Term}
 use Rattle.abel_meaning.specs.Vectors.{row_chars}
 use Rattle.set_expr.specs.declared.fault.SectionFault.{SectionFault}
@@ -26,10 +26,10 @@ use Rattle.abel_vectors.proofs.RowLaws.{row_first}
 -- ---- what is refused
 
 -- of one row behind so many
-abbrev here : Design → ℕ → (inputs outputs : Term) → RowTree → List SectionFault
+abbrev here : Context → ℕ → (inputs outputs : Term) → RowTree → List SectionFault
 here d n h k r = one_too_many n r.place ++ row_refused d h k r
 
-rows_push : (d : Design) (n : ℕ) (h k : Term) (rs : List RowTree) (r : RowTree) → rows_refused d n h k (rs ++ r ∷ []) ≡ rows_refused d n h k rs ++ here d (n + length rs) h k r
+rows_push : (d : Context) (n : ℕ) (h k : Term) (rs : List RowTree) (r : RowTree) → rows_refused d n h k (rs ++ r ∷ []) ≡ rows_refused d n h k rs ++ here d (n + length rs) h k r
 rows_push d n h k [] r =
     ap (λ xs. one_too_many n r.place ++ xs) (append-nil (row_refused d h k r))
     ∙ ap (λ m. here d m h k r) (sym (add-zero n))
@@ -47,7 +47,7 @@ room_by : (b : Bool) (p : Place) → first_refusal section_order (if b then [] e
 room_by true p = refl
 room_by false p = refl
 
-here_first : (d : Design) (n : ℕ) (h k : Term) (r : RowTree) (found : Row) → IsReadRow d h k r found → first_refusal section_order (here d n h k r) ≡ earlier section_order (room_fault n r.place) (row_fault found)
+here_first : (d : Context) (n : ℕ) (h k : Term) (r : RowTree) (found : Row) → IsReadRow d h k r found → first_refusal section_order (here d n h k r) ≡ earlier section_order (room_fault n r.place) (row_fault found)
 here_first d n h k r found is =
     first_append section_order (one_too_many n r.place) (row_refused d h k r)
     ∙ ap₂ (earlier section_order) (room_by (nat_lt n 9999) r.place) (row_first d h k r found is)
@@ -67,14 +67,14 @@ both_none (Some f) b e = absurd (some_first f b e)
 
 -- ---- one row more
 
-vectors_by : (d : Design) (h k : Term) (r : RowTree) (found : Row) → IsReadRow d h k r found → row_fault found ≡ None → all_chars d.device (row_vectors found) ≡ row_chars d h k r ∷ []
+vectors_by : (d : Context) (h k : Term) (r : RowTree) (found : Row) → IsReadRow d h k r found → row_fault found ≡ None → all_chars d.device (row_vectors found) ≡ row_chars d h k r ∷ []
 vectors_by d h k r (row.Refused f) is e = absurd cc
 vectors_by d h k r (row.Read v) is e = ap (λ cs. cs ∷ []) is.1
 
-pub rows_none : (d : Design) (n : ℕ) (h k : Term) (found : Rows) → found.fault ≡ None → found.list.items ≡ [] → AreRead d n h k [] found
+pub rows_none : (d : Context) (n : ℕ) (h k : Term) (found : Rows) → found.fault ≡ None → found.list.items ≡ [] → AreRead d n h k [] found
 rows_none d n h k found e f = record { fault = e; list = λ _. ap (all_chars d.device) f }
 
-rows_more : (d : Design) (n : ℕ) (h k : Term) (rs : List RowTree) (r : RowTree) (found : Row) (old new : Rows) → IsReadRow d h k r found → AddsRow old new (room_fault (n + length rs) r.place) found → AreRead d n h k rs old → AreRead d n h k (rs ++ r ∷ []) new
+rows_more : (d : Context) (n : ℕ) (h k : Term) (rs : List RowTree) (r : RowTree) (found : Row) (old new : Rows) → IsReadRow d h k r found → AddsRow old new (room_fault (n + length rs) r.place) found → AreRead d n h k rs old → AreRead d n h k (rs ++ r ∷ []) new
 rows_more d n h k rs r found old new is adds so_far =
     record {
       fault =
@@ -92,7 +92,7 @@ rows_more d n h k rs r found old new is adds so_far =
     }
 
 -- at a place of the code's rows
-pub rows_step : (d : Design) (n : ℕ) (h k : Term) (rows : List VectorRow) (i : ℕ) (x : VectorRow) (found : Row) (old new : Rows) (room : Option SectionFault) → i < length rows → x ≡ get_or rows i x → IsReadRow d h k (view_vector_row x) found → room ≡ room_fault (n + i) x.place → AddsRow old new room found → AreRead d n h k (map view_vector_row (take i rows)) old → AreRead d n h k (map view_vector_row (take (i + 1) rows)) new
+pub rows_step : (d : Context) (n : ℕ) (h k : Term) (rows : List VectorRow) (i : ℕ) (x : VectorRow) (found : Row) (old new : Rows) (room : Option SectionFault) → i < length rows → x ≡ get_or rows i x → IsReadRow d h k (view_vector_row x) found → room ≡ room_fault (n + i) x.place → AddsRow old new room found → AreRead d n h k (map view_vector_row (take i rows)) old → AreRead d n h k (map view_vector_row (take (i + 1) rows)) new
 rows_step d n h k rows i x found old new room lt here is same adds so_far =
     let rs = map view_vector_row (take i rows) in
     let long : length rs ≡ i = length-map (take i rows) view_vector_row ∙ length-take-le i rows (omega arith) in
@@ -115,7 +115,7 @@ front_nil : (xs ys : List SectionFault) → xs ++ ys ≡ [] → (xs ≡ []) × (
 front_nil [] ys e = (refl, e)
 front_nil (x ∷ xs) ys e = absurd cc
 
-pub rows_few : (d : Design) (n : ℕ) (h k : Term) (rs : List RowTree) → n ≤ 9999 → rows_refused d n h k rs ≡ [] → n + length rs ≤ 9999
+pub rows_few : (d : Context) (n : ℕ) (h k : Term) (rs : List RowTree) → n ≤ 9999 → rows_refused d n h k rs ≡ [] → n + length rs ≤ 9999
 rows_few d n h k [] le e = omega arith
 rows_few d n h k (r ∷ rs) le e =
     let first = front_nil (one_too_many n r.place) (row_refused d h k r ++ rows_refused d (suc n) h k rs) e in

@@ -17,10 +17,10 @@ use Rattle.abel_tree.specs.FirstRefusal.{first_refusal, earlier}
 use Rattle.abel_tree.specs.Tree.{Tree, SectionTree, Declarations, Equations, ATable, ADiagram, SomeVectors, DontCareSection}
 use Rattle.abel_tree.specs.View.{view, view_vector_row}
 use Rattle.abel_tree.proofs.FirstRefusals.{first_append, none_refused}
-use Rattle.abel_meaning.specs.Designs.{Design}
-use Rattle.abel_meaning.specs.Terms.{known_of, term_of}
+use Rattle.abel_meaning.specs.Designs.{Context, context_of}
+use Rattle.abel_meaning.specs.Terms.{term_of}
 use Rattle.abel_meaning.specs.Vectors.{row_chars, section_vectors}
-use Rattle.set_expr.specs.Answer.{IsDesignOf}
+use Rattle.set_expr.specs.Answer.{IsContextOf}
 use Rattle.set_expr.specs.declared.fault.SectionFault.{SectionFault}
 use Rattle.set_expr.specs.declared.fault.SectionFault.TheVariants as fault
 use Rattle.set_expr.specs.SectionOrder.{section_order}
@@ -35,7 +35,7 @@ use Rattle.abel_vectors.proofs.RowLaws.{if_none_first, if_none_nil}
 use Rattle.abel_vectors.proofs.RowsLaws.{rows_few}
 use Rattle.abel_vectors.proofs.TestChars.{AllTest, all_test, rows_test}
 
-pub refused_answer : (d : Design) (n : ℕ) (s : SectionTree) (f : SectionFault) → first_refusal section_order (vectors_refused d n s) ≡ Some f → Answers d n s (Err f)
+pub refused_answer : (d : Context) (n : ℕ) (s : SectionTree) (f : SectionFault) → first_refusal section_order (vectors_refused d n s) ≡ Some f → Answers d n s (Err f)
 refused_answer d n s (fault.BadWidth p) e = e
 refused_answer d n s (fault.NotConstant p) e = e
 refused_answer d n s (fault.ZeroDivisor p) e = e
@@ -48,12 +48,12 @@ refused_answer d n s (fault.BadVector p) e = e
 refused_answer d n s (fault.NodeLimit p) e = e
 refused_answer d n s fault.OutOfMemory e = tt
 
-side_first : (d : Design) (p : Place) (t : Tree) (s : Side) → IsSide d p t s → first_refusal section_order (side_refused d p t) ≡ side_fault s
+side_first : (d : Context) (p : Place) (t : Tree) (s : Side) → IsSide d p t s → first_refusal section_order (side_refused d p t) ≡ side_fault s
 side_first d p t (side.Refused f) is = is
 side_first d p t (side.Pins ss) is = ap (first_refusal section_order) is.0
 
 -- a header that is refused
-pub header_answer : (d : Design) (n : ℕ) (v : Vectors) (a b : Side) (f : SectionFault) → IsSide d v.place (view v.inputs) a → IsSide d v.place (view v.outputs) b → earlier section_order (side_fault a) (side_fault b) ≡ Some f → Answers d n (view_vectors v) (Err f)
+pub header_answer : (d : Context) (n : ℕ) (v : Vectors) (a b : Side) (f : SectionFault) → IsSide d v.place (view v.inputs) a → IsSide d v.place (view v.outputs) b → earlier section_order (side_fault a) (side_fault b) ≡ Some f → Answers d n (view_vectors v) (Err f)
 header_answer d n v a b f p q e =
     refused_answer d n (view_vectors v) f
     (if_none_first (header_refused d v.place (view v.inputs) (view v.outputs)) (rows_refused d n (header_term d v.inputs) (header_term d v.outputs) (map view_vector_row v.rows)) f
@@ -62,7 +62,7 @@ header_answer d n v a b f p q e =
     ∙ e))
 
 -- rows under one that isn't
-pub rows_answer : (d : Design) (n : ℕ) (v : Vectors) (found : Rows) → side_refused d v.place (view v.inputs) ≡ [] → side_refused d v.place (view v.outputs) ≡ [] → AreRead d n (header_term d v.inputs) (header_term d v.outputs) (map view_vector_row v.rows) found → Answers d n (view_vectors v) (answer_of found.fault found.list)
+pub rows_answer : (d : Context) (n : ℕ) (v : Vectors) (found : Rows) → side_refused d v.place (view v.inputs) ≡ [] → side_refused d v.place (view v.outputs) ≡ [] → AreRead d n (header_term d v.inputs) (header_term d v.outputs) (map view_vector_row v.rows) found → Answers d n (view_vectors v) (answer_of found.fault found.list)
 rows_answer d n v found a b is = by_fault found.fault refl
   where
     same : vectors_refused d n (view_vectors v) ≡ rows_refused d n (header_term d v.inputs) (header_term d v.outputs) (map view_vector_row v.rows)
@@ -74,10 +74,10 @@ rows_answer d n v found a b is = by_fault found.fault refl
 
 -- ---- over some design of the names
 
-abbrev some_design : Table → Names → Design
-some_design t n = record { device = t; names = entries_of n; known = known_of (entries_of n); starts_dontcare = false; sections = [] }
+abbrev some_design : Table → Names → Context
+some_design t n = context_of t (entries_of n)
 
-some_design_of : (t : Table) (n : Names) → IsDesignOf t n (some_design t n)
+some_design_of : (t : Table) (n : Names) → IsContextOf t n (some_design t n)
 some_design_of t n = record { device = refl; names = refl; known = refl }
 
 if_none_parts : (xs ys : List SectionFault) → if_none xs ys ≡ [] → ys ≡ []
@@ -88,7 +88,7 @@ if_none_parts (x ∷ xs) ys e = absurd cc
 count : (t : Table) (vs : List Vector) (css : List (List ℕ)) → all_chars t vs ≡ css → length vs ≡ length css
 count t vs css e = sym (length-map vs (chars_of t)) ∙ ap length e
 
-few_in : (d : Design) (n : ℕ) (s : SectionTree) (r : Result (Vec Vector) SectionFault) → n ≤ 9999 → Answers d n s r → IfOk r (λ list. n + length list.items ≤ 9999)
+few_in : (d : Context) (n : ℕ) (s : SectionTree) (r : Result (Vec Vector) SectionFault) → n ≤ 9999 → Answers d n s r → IfOk r (λ list. n + length list.items ≤ 9999)
 few_in d n s (Err f) le h = tt
 few_in d n (SomeVectors _ p a b rs) (Ok list) le h =
     let rows : n + length rs ≤ 9999 = rows_few d n (term_of d.known a) (term_of d.known b) rs le (if_none_parts (header_refused d p a b) (rows_refused d n (term_of d.known a) (term_of d.known b) rs) h.0) in
@@ -101,7 +101,7 @@ few_in d n (ATable p a c b rs) (Ok list) le h = let same = count d.device list.i
 few_in d n (ADiagram p t ss) (Ok list) le h = let same = count d.device list.items [] h.1 in omega arith
 few_in d n (DontCareSection c) (Ok list) le h = let same = count d.device list.items [] h.1 in omega arith
 
-section_test : (d : Design) (s : SectionTree) → AllTest (section_vectors d s)
+section_test : (d : Context) (s : SectionTree) → AllTest (section_vectors d s)
 section_test d (SomeVectors _ p a b rs) = rows_test d (term_of d.known a) (term_of d.known b) rs
 section_test d (Declarations ds) = All-nil (λ (cs : List ℕ). list_all is_test_char cs ≡ true)
 section_test d (Equations ss) = All-nil (λ (cs : List ℕ). list_all is_test_char cs ≡ true)
@@ -109,13 +109,13 @@ section_test d (ATable p a c b rs) = All-nil (λ (cs : List ℕ). list_all is_te
 section_test d (ADiagram p t ss) = All-nil (λ (cs : List ℕ). list_all is_test_char cs ≡ true)
 section_test d (DontCareSection c) = All-nil (λ (cs : List ℕ). list_all is_test_char cs ≡ true)
 
-chars_in : (d : Design) (n : ℕ) (s : SectionTree) (r : Result (Vec Vector) SectionFault) → Answers d n s r → IfOk r (λ list. All (IsTestVector d.device) list.items)
+chars_in : (d : Context) (n : ℕ) (s : SectionTree) (r : Result (Vec Vector) SectionFault) → Answers d n s r → IfOk r (λ list. All (IsTestVector d.device) list.items)
 chars_in d n s (Err f) h = tt
 chars_in d n s (Ok list) h = all_test d.device list.items (subst AllTest (sym h.1) (section_test d s))
 
 -- the answer for all designs of the names
 abbrev AnswersAll : Table → Names → ℕ → SectionTree → Result (Vec Vector) SectionFault → Type 0
-AnswersAll t n count s r = (d : Design) → IsDesignOf t n d → Answers d count s r
+AnswersAll t n count s r = (d : Context) → IsContextOf t n d → Answers d count s r
 
 pub answers_few : (t : Table) (n : Names) (before : ℕ) (s : SectionTree) (r : Result (Vec Vector) SectionFault) → before ≤ 9999 → AnswersAll t n before s r → IfOk r (λ list. before + length list.items ≤ 9999)
 answers_few t n before s r le h = few_in (some_design t n) before s r le (h (some_design t n) (some_design_of t n))

@@ -5,7 +5,7 @@ use Rattle.std.proofs.lemmas.List.Folds.{list_all-append}
 use Rattle.pld_base.specs.declared.place.Place.{Place}
 use Rattle.abel_tree.specs.FirstRefusal.{first_refusal}
 use Rattle.abel_tree.specs.Tree.{Tree}
-use Rattle.abel_meaning.specs.Designs.{Design}
+use Rattle.abel_meaning.specs.Designs.{Context}
 use Rattle.abel_meaning.specs.Targets.{targets_of, all_targets}
 use Rattle.abel_meaning.specs.Terms.{Term, Terms, term_of}
 use Rattle.abel_meaning.specs.Terms as term
@@ -32,7 +32,7 @@ and_swap true false true d = refl
 and_swap true false false d = refl
 
 mutual
-  pins_all : (d : Design) (t : Term) → names_pins d t ≡ (names_positions t && list_all (is_pin_or_unknown d) (targets_of t))
+  pins_all : (d : Context) (t : Term) → names_pins d t ≡ (names_positions t && list_all (is_pin_or_unknown d) (targets_of t))
   pins_all d (term.Number n) = refl
   pins_all d term.X = refl
   pins_all d term.Pulse = refl
@@ -43,7 +43,7 @@ mutual
   pins_all d (term.UnaryOf sign t) = refl
   pins_all d (term.BinaryOf sign t u) = refl
 
-  all_pins : (d : Design) (ts : Terms) → all_name_pins d ts ≡ (all_name_positions ts && list_all (is_pin_or_unknown d) (all_targets ts))
+  all_pins : (d : Context) (ts : Terms) → all_name_pins d ts ≡ (all_name_positions ts && list_all (is_pin_or_unknown d) (all_targets ts))
   all_pins d term.NoTerm = refl
   all_pins d (term.Before t ts) =
       ap₂ (λ a b. a && b) (pins_all d t) (all_pins d ts)
@@ -52,19 +52,19 @@ mutual
 
 -- ---- the three answers
 
-pub side_fault : (d : Design) (p : Place) (t : Tree) (f : SectionFault) → Some f ≡ first_refusal section_order (expression_found d.names t).refusals → first_refusal section_order (side_refused d p t) ≡ Some f
+pub side_fault : (d : Context) (p : Place) (t : Tree) (f : SectionFault) → Some f ≡ first_refusal section_order (expression_found d.names t).refusals → first_refusal section_order (side_refused d p t) ≡ Some f
 side_fault d p t f e = inside_first (expression_found d.names t).refusals (BadVector p) f (names_pins d (term_of d.known t)) e
 
-no_pins : (d : Design) (p : Place) (t : Tree) → (expression_found d.names t).refusals ≡ [] → names_pins d (term_of d.known t) ≡ false → first_refusal section_order (side_refused d p t) ≡ Some (BadVector p)
+no_pins : (d : Context) (p : Place) (t : Tree) → (expression_found d.names t).refusals ≡ [] → names_pins d (term_of d.known t) ≡ false → first_refusal section_order (side_refused d p t) ≡ Some (BadVector p)
 no_pins d p t e k = ap (first_refusal section_order) (none_unmet (expression_found d.names t).refusals (BadVector p) (names_pins d (term_of d.known t)) e k)
 
-pub side_unnamed : (d : Design) (p : Place) (t : Tree) → (expression_found d.names t).refusals ≡ [] → names_positions (term_of d.known t) ≡ false → first_refusal section_order (side_refused d p t) ≡ Some (BadVector p)
+pub side_unnamed : (d : Context) (p : Place) (t : Tree) → (expression_found d.names t).refusals ≡ [] → names_positions (term_of d.known t) ≡ false → first_refusal section_order (side_refused d p t) ≡ Some (BadVector p)
 side_unnamed d p t e k = no_pins d p t e (pins_all d (term_of d.known t) ∙ ap (λ b. b && list_all (is_pin_or_unknown d) (targets_of (term_of d.known t))) k)
 
-pub side_others : (d : Design) (p : Place) (t : Tree) (ss : List (Option ℕ)) → (expression_found d.names t).refusals ≡ [] → names_positions (term_of d.known t) ≡ true → ss ≡ targets_of (term_of d.known t) → list_all (is_pin_or_unknown d) ss ≡ false → first_refusal section_order (side_refused d p t) ≡ Some (BadVector p)
+pub side_others : (d : Context) (p : Place) (t : Tree) (ss : List (Option ℕ)) → (expression_found d.names t).refusals ≡ [] → names_positions (term_of d.known t) ≡ true → ss ≡ targets_of (term_of d.known t) → list_all (is_pin_or_unknown d) ss ≡ false → first_refusal section_order (side_refused d p t) ≡ Some (BadVector p)
 side_others d p t ss e k s a = no_pins d p t e (pins_all d (term_of d.known t) ∙ ap₂ (λ b c. b && c) k (ap (list_all (is_pin_or_unknown d)) (sym s) ∙ a))
 
-pub side_pins : (d : Design) (p : Place) (t : Tree) (ss : List (Option ℕ)) → (expression_found d.names t).refusals ≡ [] → names_positions (term_of d.known t) ≡ true → ss ≡ targets_of (term_of d.known t) → list_all (is_pin_or_unknown d) ss ≡ true → side_refused d p t ≡ []
+pub side_pins : (d : Context) (p : Place) (t : Tree) (ss : List (Option ℕ)) → (expression_found d.names t).refusals ≡ [] → names_positions (term_of d.known t) ≡ true → ss ≡ targets_of (term_of d.known t) → list_all (is_pin_or_unknown d) ss ≡ true → side_refused d p t ≡ []
 side_pins d p t ss e k s a =
     none_met (expression_found d.names t).refusals (BadVector p) (names_pins d (term_of d.known t)) e
     (pins_all d (term_of d.known t) ∙ ap₂ (λ b c. b && c) k (ap (list_all (is_pin_or_unknown d)) (sym s) ∙ a))

@@ -10,7 +10,7 @@ use Rattle.jedec_file.specs.Fields.{is_test_char}
 use Rattle.jedec_file.specs.TestVectors.{IsTestVector, all_chars}
 use Rattle.abel_tree.specs.Entries.{Kind, APin, ANode, AConstant, ADeviceName}
 use Rattle.abel_tree.specs.Tree.{RowTree}
-use Rattle.abel_meaning.specs.Designs.{Design, name_at}
+use Rattle.abel_meaning.specs.Designs.{Context, name_at}
 use Rattle.abel_meaning.specs.Rows.{Mark, Level, Unknown, Pulsed, Released, marks_of}
 use Rattle.abel_meaning.specs.Targets.{targets_of}
 use Rattle.abel_meaning.specs.Terms.{Term, term_of}
@@ -59,7 +59,7 @@ first_tests : (a b : Option ℕ) → IsTestIf a → IsTestIf b → IsTestIf (fir
 first_tests None b h k = k
 first_tests (Some c) b h k = h
 
-side_tests : (d : Design) (pin : ℕ) (char : Bool → Mark → Option ℕ) (ss : List (Option ℕ)) (ms : List Mark) → ((b : Bool) (n : Mark) → IsTestIf (char b n)) → IsTestIf (char_given d pin char ss ms)
+side_tests : (d : Context) (pin : ℕ) (char : Bool → Mark → Option ℕ) (ss : List (Option ℕ)) (ms : List Mark) → ((b : Bool) (n : Mark) → IsTestIf (char b n)) → IsTestIf (char_given d pin char ss ms)
 side_tests d pin char [] ms h = tt
 side_tests d pin char (None ∷ ss) [] h = tt
 side_tests d pin char (Some s ∷ ss) [] h = tt
@@ -75,7 +75,7 @@ plain_tests : (t : Table) (pin : ℕ) (o : Option ℕ) → IsTestIf o → is_tes
 plain_tests t pin None h = plain_by (pin == t.ground_pin || pin == t.pins)
 plain_tests t pin (Some c) h = h
 
-pin_tests : (d : Design) (h k : Term) (r : RowTree) (pin : ℕ) → is_test_char (pin_char d h k r pin) ≡ true
+pin_tests : (d : Context) (h k : Term) (r : RowTree) (pin : ℕ) → is_test_char (pin_char d h k r pin) ≡ true
 pin_tests d h k r pin =
     let given = char_given d pin input_char (targets_of h) (marks_of d h (term_of d.known r.inputs)) in
     let tested = char_given d pin output_char (targets_of k) (marks_of d k (term_of d.known r.outputs)) in
@@ -84,7 +84,7 @@ pin_tests d h k r pin =
     (side_tests d pin input_char (targets_of h) (marks_of d h (term_of d.known r.inputs)) input_tests)
     (side_tests d pin output_char (targets_of k) (marks_of d k (term_of d.known r.outputs)) output_tests))
 
-pins_test : (d : Design) (h k : Term) (r : RowTree) (pins : List ℕ) → list_all is_test_char (map (pin_char d h k r) pins) ≡ true
+pins_test : (d : Context) (h k : Term) (r : RowTree) (pins : List ℕ) → list_all is_test_char (map (pin_char d h k r) pins) ≡ true
 pins_test d h k r [] = refl
 pins_test d h k r (pin ∷ pins) = ap₂ (λ a b. a && b) (pin_tests d h k r pin) (pins_test d h k r pins)
 
@@ -92,7 +92,7 @@ pins_test d h k r (pin ∷ pins) = ap₂ (λ a b. a && b) (pin_tests d h k r pin
 abbrev pub AllTest : List (List ℕ) → Type 0
 AllTest css = All (λ (cs : List ℕ). list_all is_test_char cs ≡ true) css
 
-pub rows_test : (d : Design) (h k : Term) (rs : List RowTree) → AllTest (map (row_chars d h k) rs)
+pub rows_test : (d : Context) (h k : Term) (rs : List RowTree) → AllTest (map (row_chars d h k) rs)
 rows_test d h k [] = All-nil (λ (cs : List ℕ). list_all is_test_char cs ≡ true)
 rows_test d h k (r ∷ rs) =
     All-cons (λ (cs : List ℕ). list_all is_test_char cs ≡ true) (row_chars d h k r) (map (row_chars d h k) rs) (pins_test d h k r (range_with_len 1 d.device.pins)) (rows_test d h k rs)

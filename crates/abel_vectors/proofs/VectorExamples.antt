@@ -9,8 +9,7 @@ use Rattle.abel_tree.specs.declared.words.Word.{Word}
 use Rattle.abel_tree.specs.Entries.{Kind, APin, ANode, AConstant, Entry}
 use Rattle.abel_tree.specs.Tree.{Tree, ANumber, ASpecial, AName, ASet, AParen, SetMember, OneMember, members_of, RowTree, SomeVectors}
 use Rattle.abel_meaning.specs.Declarations.{no_words}
-use Rattle.abel_meaning.specs.Designs.{Design}
-use Rattle.abel_meaning.specs.Terms.{known_of}
+use Rattle.abel_meaning.specs.Designs.{Context, context_of}
 use Rattle.set_expr.specs.declared.fault.SectionFault.{SectionFault}
 use Rattle.set_expr.specs.declared.fault.SectionFault.TheVariants.{MisplacedSpecial, BadVector}
 use Rattle.abel_vectors.specs.VectorRefusals.{vectors_refused}
@@ -52,8 +51,8 @@ names =
     declared "a" (APin 1 false) ∷ declared "b" (APin 2 true) ∷ declared "e" (APin 3 false) ∷ declared "n" (ANode 0)
     ∷ declared "k" (AConstant (AParen (at 1) pulse)) ∷ declared "z" (AConstant release) ∷ []
 
-abbrev design : Design
-design = record { device = sample; names = names; known = known_of names; starts_dontcare = false; sections = [] }
+abbrev design : Context
+design = context_of sample names
 
 -- a row on this line
 abbrev row : ℕ → (inputs outputs : Tree) → RowTree

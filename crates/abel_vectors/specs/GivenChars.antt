@@ -1,7 +1,7 @@
 -- Private: the characters that the positions of a row give to pins, and the first of each pin as they are gathered.
 use Rattle.std.specs.Prelude.{◌≡◌, ℕ, ◌==◌, Bool, true, false, not, ◌||◌, if◌then◌else◌, Option, None, Some, List, [], ◌∷◌, ◌++◌, map}
 use Rattle.std.specs.Global.{Vec}
-use Rattle.abel_meaning.specs.Designs.{Design, name_at}
+use Rattle.abel_meaning.specs.Designs.{Context, name_at}
 use Rattle.abel_meaning.specs.Rows.{Mark, Pulsed}
 use Rattle.abel_meaning.specs.Vectors.{input_char, output_char}
 use Rattle.abel_vectors.specs.declared.chars.Role.{Role}
@@ -22,7 +22,7 @@ pairs_of None = []
 pairs_of (Some g) = pair_of g ∷ []
 
 -- what a mark gives at a position, if both are there
-abbrev pub position_gives : Design → (Bool → Mark → Option ℕ) → Option ℕ → Option Mark → List (ℕ × ℕ)
+abbrev pub position_gives : Context → (Bool → Mark → Option ℕ) → Option ℕ → Option Mark → List (ℕ × ℕ)
 position_gives d char None mark = []
 position_gives d char (Some s) None = []
 position_gives d char (Some s) (Some m) = char_for (name_at d s).kind char m
@@ -48,15 +48,15 @@ pub record Adds (ys : List (ℕ × ℕ)) (old new : List Given) (same : Bool) : 
   pub agree : (xs : List (ℕ × ℕ)) → HasFirsts xs old → disagree (xs ++ ys) ≡ (disagree xs || not same)
 
 -- all characters of a row
-abbrev pub all_given : Design → (inputs : List (Option ℕ)) → List Mark → (outputs : List (Option ℕ)) → List Mark → List (ℕ × ℕ)
+abbrev pub all_given : Context → (inputs : List (Option ℕ)) → List Mark → (outputs : List (Option ℕ)) → List Mark → List (ℕ × ℕ)
 all_given d ss given ts tested = chars_for d input_char ss given ++ chars_for d output_char ts tested
 
 -- the marks of a row are no vector's
-abbrev pub gives_no_vector : Design → (inputs : List (Option ℕ)) → List Mark → (outputs : List (Option ℕ)) → List Mark → Bool
+abbrev pub gives_no_vector : Context → (inputs : List (Option ℕ)) → List Mark → (outputs : List (Option ℕ)) → List Mark → Bool
 gives_no_vector d ss given ts tested = tests_pulse ts tested || disagree (all_given d ss given ts tested)
 
 -- they are no vector's, or the list has the first character of each pin
-abbrev pub IsGiven : Design → (inputs : List (Option ℕ)) → List Mark → (outputs : List (Option ℕ)) → List Mark → Option (Vec Given) → Type 0
+abbrev pub IsGiven : Context → (inputs : List (Option ℕ)) → List Mark → (outputs : List (Option ℕ)) → List Mark → Option (Vec Given) → Type 0
 IsGiven d ss given ts tested None = gives_no_vector d ss given ts tested ≡ true
 IsGiven d ss given ts tested (Some gs) =
     (gives_no_vector d ss given ts tested ≡ false) × HasFirsts (all_given d ss given ts tested) gs.items

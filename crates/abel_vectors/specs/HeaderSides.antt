@@ -3,7 +3,7 @@ use Rattle.std.specs.Prelude.{◌≡◌, ℕ, Bool, true, Option, None, Some, []
 use Rattle.pld_base.specs.declared.place.Place.{Place}
 use Rattle.abel_tree.specs.FirstRefusal.{first_refusal}
 use Rattle.abel_tree.specs.Tree.{Tree}
-use Rattle.abel_meaning.specs.Designs.{Design, name_at}
+use Rattle.abel_meaning.specs.Designs.{Context, name_at}
 use Rattle.abel_meaning.specs.Targets.{targets_of}
 use Rattle.abel_meaning.specs.Terms.{term_of}
 use Rattle.set_expr.specs.SectionOrder.{section_order}
@@ -13,12 +13,12 @@ use Rattle.abel_vectors.specs.declared.headers.Side.TheVariants as side
 use Rattle.abel_vectors.specs.VectorRefusals.{is_pin, side_refused}
 
 -- X, or the name of a pin
-abbrev pub is_pin_or_unknown : Design → Option ℕ → Bool
+abbrev pub is_pin_or_unknown : Context → Option ℕ → Bool
 is_pin_or_unknown d None = true
 is_pin_or_unknown d (Some s) = is_pin (name_at d s).kind
 
 -- the first refusal of a side, or its pins from the left
-abbrev pub IsSide : Design → Place → Tree → Side → Type 0
+abbrev pub IsSide : Context → Place → Tree → Side → Type 0
 IsSide d p t (side.Refused f) = first_refusal section_order (side_refused d p t) ≡ Some f
 IsSide d p t (side.Pins ss) = (side_refused d p t ≡ []) × (ss.items ≡ targets_of (term_of d.known t))
 

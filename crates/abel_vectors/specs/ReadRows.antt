@@ -10,7 +10,7 @@ use Rattle.abel_tree.specs.declared.tables.Vectors.{Vectors}
 use Rattle.abel_tree.specs.FirstRefusal.{first_refusal, earlier}
 use Rattle.abel_tree.specs.Tree.{RowTree, SectionTree, SomeVectors}
 use Rattle.abel_tree.specs.View.{view, view_vector_row}
-use Rattle.abel_meaning.specs.Designs.{Design}
+use Rattle.abel_meaning.specs.Designs.{Context}
 use Rattle.abel_meaning.specs.Rows.{Mark}
 use Rattle.abel_meaning.specs.Terms.{Term, term_of}
 use Rattle.abel_meaning.specs.Vectors.{input_char, output_char, char_given, char_or_plain, first_char, row_chars}
@@ -28,7 +28,7 @@ use Rattle.abel_vectors.specs.HeaderSides.{IsSide}
 use Rattle.abel_vectors.specs.VectorRefusals.{row_refused, rows_refused}
 
 -- the term of a side of a header
-abbrev pub header_term : Design → Expr → Term
+abbrev pub header_term : Context → Expr → Term
 header_term d e = term_of d.known (view e)
 
 -- ---- a row
@@ -38,12 +38,12 @@ entry_fault (entry.Refused f) = Some f
 entry_fault (entry.Marks marks) = None
 
 -- the character of a pin by the marks of a row
-abbrev pub marked_char : Design → (inputs : List (Option ℕ)) → List Mark → (outputs : List (Option ℕ)) → List Mark → (pin : ℕ) → ℕ
+abbrev pub marked_char : Context → (inputs : List (Option ℕ)) → List Mark → (outputs : List (Option ℕ)) → List Mark → (pin : ℕ) → ℕ
 marked_char d ss given ts tested pin =
     char_or_plain d.device pin (first_char (char_given d pin input_char ss given) (char_given d pin output_char ts tested))
 
 -- a row at this place whose entries meet the header
-abbrev pub IsMarkedRow : Design → Place → (inputs : List (Option ℕ)) → List Mark → (outputs : List (Option ℕ)) → List Mark → Row → Type 0
+abbrev pub IsMarkedRow : Context → Place → (inputs : List (Option ℕ)) → List Mark → (outputs : List (Option ℕ)) → List Mark → Row → Type 0
 IsMarkedRow d p ss given ts tested (row.Refused f) =
     (gives_no_vector d ss given ts tested ≡ true) × (f ≡ BadVector p)
 IsMarkedRow d p ss given ts tested (row.Read v) =
@@ -51,7 +51,7 @@ IsMarkedRow d p ss given ts tested (row.Read v) =
     × (chars_of d.device v ≡ map (marked_char d ss given ts tested) (range_with_len 1 d.device.pins))
 
 -- its first refusal, or its vector
-abbrev pub IsReadRow : Design → (inputs outputs : Term) → RowTree → Row → Type 0
+abbrev pub IsReadRow : Context → (inputs outputs : Term) → RowTree → Row → Type 0
 IsReadRow d h k r (row.Refused f) = first_refusal section_order (row_refused d h k r) ≡ Some f
 IsReadRow d h k r (row.Read v) = (row_refused d h k r ≡ []) × (chars_of d.device v ≡ row_chars d h k r)
 
@@ -75,7 +75,7 @@ pub record AddsRow (old new : Rows) (room : Option SectionFault) (r : Row) : Typ
   pub list : new.list.items ≡ old.list.items ++ row_vectors r
 
 -- rows behind so many vectors: the first refusal, and their vectors where there is none
-pub record AreRead (d : Design) (before : ℕ) (inputs outputs : Term) (rows : List RowTree) (found : Rows) : Type 0 where
+pub record AreRead (d : Context) (before : ℕ) (inputs outputs : Term) (rows : List RowTree) (found : Rows) : Type 0 where
   pub fault : found.fault ≡ first_refusal section_order (rows_refused d before inputs outputs rows)
   pub list : found.fault ≡ None → all_chars d.device found.list.items ≡ map (row_chars d inputs outputs) rows
 
@@ -85,7 +85,7 @@ abbrev pub view_vectors : Vectors → SectionTree
 view_vectors v = SomeVectors v.note v.place (view v.inputs) (view v.outputs) (map view_vector_row v.rows)
 
 -- what was found of both sides of its header
-pub record AreSides (d : Design) (v : Vectors) (left right : Side) : Type 0 where
+pub record AreSides (d : Context) (v : Vectors) (left right : Side) : Type 0 where
   pub inputs : IsSide d v.place (view v.inputs) left
   pub outputs : IsSide d v.place (view v.outputs) right
 

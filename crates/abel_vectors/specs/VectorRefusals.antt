@@ -5,7 +5,7 @@ use Rattle.std.specs.List.{list_any}
 use Rattle.pld_base.specs.declared.place.Place.{Place}
 use Rattle.abel_tree.specs.Entries.{Kind, APin, ANode, AConstant, ADeviceName}
 use Rattle.abel_tree.specs.Tree.{Tree, RowTree, SectionTree, SomeVectors}
-use Rattle.abel_meaning.specs.Designs.{Design, name_at}
+use Rattle.abel_meaning.specs.Designs.{Context, name_at}
 use Rattle.abel_meaning.specs.Rows.{Mark, Pulsed, marks_of}
 use Rattle.abel_meaning.specs.Targets.{targets_of}
 use Rattle.abel_meaning.specs.Terms.{Term, Terms, term_of}
@@ -26,22 +26,22 @@ is_pin ADeviceName = false
 
 -- each position is a pin without extension, or X
 abbrev mutual
-  pub names_pins : Design → Term → Bool
+  pub names_pins : Context → Term → Bool
   names_pins d term.X = true
   names_pins d (term.Read s None) = is_pin (name_at d s).kind
   names_pins d (term.Set ts) = all_name_pins d ts
   names_pins d _ = false
 
-  pub all_name_pins : Design → Terms → Bool
+  pub all_name_pins : Context → Terms → Bool
   all_name_pins d term.NoTerm = true
   all_name_pins d (term.Before t ts) = names_pins d t && all_name_pins d ts
 
 -- a side of the header that stands at this place
-abbrev pub side_refused : Design → Place → Tree → List SectionFault
+abbrev pub side_refused : Context → Place → Tree → List SectionFault
 side_refused d p t =
     unless_met (expression_found d.names t).refusals (BadVector p) (names_pins d (term_of d.known t))
 
-abbrev pub header_refused : Design → Place → (inputs outputs : Tree) → List SectionFault
+abbrev pub header_refused : Context → Place → (inputs outputs : Tree) → List SectionFault
 header_refused d p inputs outputs = side_refused d p inputs ++ side_refused d p outputs
 
 -- ---- rows
@@ -56,7 +56,7 @@ abbrev pub char_for : Kind → (Bool → Mark → Option ℕ) → Mark → List 
 char_for (APin pin negated) char mark = char_if pin (char negated mark)
 char_for _ char mark = []
 
-abbrev pub chars_for : Design → (Bool → Mark → Option ℕ) → List (Option ℕ) → List Mark → List (ℕ × ℕ)
+abbrev pub chars_for : Context → (Bool → Mark → Option ℕ) → List (Option ℕ) → List Mark → List (ℕ × ℕ)
 chars_for d char [] marks = []
 chars_for d char (s ∷ ss) [] = []
 chars_for d char (None ∷ ss) (m ∷ marks) = chars_for d char ss marks
@@ -79,19 +79,19 @@ tests_pulse (Some s ∷ ss) (Pulsed ∷ marks) = true
 tests_pulse (s ∷ ss) (m ∷ marks) = tests_pulse ss marks
 
 -- the marks of a row are no vector's
-abbrev pub is_no_vector : Design → (inputs outputs : Term) → (given tested : List Mark) → Bool
+abbrev pub is_no_vector : Context → (inputs outputs : Term) → (given tested : List Mark) → Bool
 is_no_vector d inputs outputs given tested =
     tests_pulse (targets_of outputs) tested
     || disagree (chars_for d input_char (targets_of inputs) given ++ chars_for d output_char (targets_of outputs) tested)
 
 -- what is refused of a row whose entries meet the header
-abbrev pub marks_refused : Design → (inputs outputs : Term) → RowTree → List SectionFault
+abbrev pub marks_refused : Context → (inputs outputs : Term) → RowTree → List SectionFault
 marks_refused d inputs outputs row =
     if is_no_vector d inputs outputs (marks_of d inputs (term_of d.known row.inputs)) (marks_of d outputs (term_of d.known row.outputs))
     then BadVector row.place ∷ [] else []
 
 -- what is refused of a row
-abbrev pub entries_refused : Design → (inputs outputs : Term) → RowTree → List SectionFault
+abbrev pub entries_refused : Context → (inputs outputs : Term) → RowTree → List SectionFault
 entries_refused d inputs outputs row =
     entry_refused d (BadVector row.place) inputs row.inputs ++ entry_refused d (BadVector row.place) outputs row.outputs
 
@@ -99,7 +99,7 @@ abbrev pub if_none : List SectionFault → List SectionFault → List SectionFau
 if_none [] more = more
 if_none (x ∷ xs) more = x ∷ xs
 
-abbrev pub row_refused : Design → (inputs outputs : Term) → RowTree → List SectionFault
+abbrev pub row_refused : Context → (inputs outputs : Term) → RowTree → List SectionFault
 row_refused d inputs outputs row =
     if_none (entries_refused d inputs outputs row) (marks_refused d inputs outputs row)
 
@@ -108,7 +108,7 @@ abbrev pub one_too_many : (before : ℕ) → Place → List SectionFault
 one_too_many before p = if nat_lt before 9999 then [] else BadVector p ∷ []
 
 -- rows behind so many vectors
-abbrev pub rows_refused : Design → (before : ℕ) → (inputs outputs : Term) → List RowTree → List SectionFault
+abbrev pub rows_refused : Context → (before : ℕ) → (inputs outputs : Term) → List RowTree → List SectionFault
 rows_refused d before inputs outputs [] = []
 rows_refused d before inputs outputs (row ∷ rows) =
     one_too_many before row.place ++ (row_refused d inputs outputs row ++ rows_refused d (suc before) inputs outputs rows)
@@ -116,7 +116,7 @@ rows_refused d before inputs outputs (row ∷ rows) =
 -- ---- sections
 
 -- what is refused of a section behind so many vectors; rows meet no header that is refused
-abbrev pub vectors_refused : Design → (before : ℕ) → SectionTree → List SectionFault
+abbrev pub vectors_refused : Context → (before : ℕ) → SectionTree → List SectionFault
 vectors_refused d before (SomeVectors _ place inputs outputs rows) =
     if_none (header_refused d place inputs outputs)
     (rows_refused d before (term_of d.known inputs) (term_of d.known outputs) rows)

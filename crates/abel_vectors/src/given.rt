@@ -1,8 +1,8 @@
 //! The characters that the entries of a row give to pins.
 
-ghost use Rattle.std.specs.Prelude.{◌≡◌, ◌∷◌, ℕ, Option, IfOk, [], map, option_map};
+ghost use Rattle.std.specs.Prelude.{◌≡◌, ◌∷◌, Option, IfOk, [], map, option_map};
 ghost use Rattle.abel_tree.specs.Entries.{entries_of, view_meaning};
-ghost use Rattle.abel_meaning.specs.Designs.{Design, name_at};
+ghost use Rattle.abel_meaning.specs.Designs.{Context, name_at};
 ghost use Rattle.row_entries.specs.EntryMarks.{view_mark};
 ghost use Rattle.abel_vectors.specs.GivenChars.{Adds, IsGiven, char_in, found_at, pair_of, pairs_of, position_gives};
 ghost use Rattle.abel_vectors.specs.VectorRefusals.{char_for, char_if, chars_for};
@@ -10,9 +10,10 @@ ghost use Rattle.abel_vectors.specs.VectorRefusals.{char_for, char_if, chars_for
 use crate::chars::{Role, role_char};
 use crate::headers::both;
 use crate::pulses::{either, mark_at, tests_pulse};
-use abel_tree::{Meaning, Names};
+use abel_tree::Meaning;
 use pld_base::OutOfMemory;
 use row_entries::Mark;
+use set_expr::Scope;
 use std::alloc::Global;
 
 /// A pin with the character that is given to it.
@@ -45,10 +46,10 @@ fn given_by(meaning: &Meaning, role: Role, mark: Mark) -> Option<Given>
 }
 
 /// What a mark gives at a position of the name with this number.
-fn given_under(names: &Names, role: Role, number: usize, mark: Mark) -> Option<Given>
-    ensures { (d : Design) → d.names ≡ entries_of names.now → pairs_of result ≡ char_for (name_at d number).kind (char_in role) (view_mark mark) }
+fn given_under(scope: &Scope<'_>, role: Role, number: usize, mark: Mark) -> Option<Given>
+    ensures { (d : Context) → d.names ≡ entries_of scope.now → pairs_of result ≡ char_for (name_at d number).kind (char_in role) (view_mark mark) }
 {
-    let list = names.list.as_slice();
+    let list = scope.list();
     if number < list.len() {
         given_by(&list[number].meaning, role, mark)
     } else {
@@ -57,14 +58,14 @@ fn given_under(names: &Names, role: Role, number: usize, mark: Mark) -> Option<G
 }
 
 /// What a mark gives at a position, if both are there.
-fn given_at(names: &Names, role: Role, signal: Option<u32>, mark: Option<Mark>) -> Option<Given>
-    ensures { (d : Design) → d.names ≡ entries_of names.now → pairs_of result ≡ position_gives d (char_in role) signal (option_map view_mark mark) }
+fn given_at(scope: &Scope<'_>, role: Role, signal: Option<u32>, mark: Option<Mark>) -> Option<Given>
+    ensures { (d : Context) → d.names ≡ entries_of scope.now → pairs_of result ≡ position_gives d (char_in role) signal (option_map view_mark mark) }
 {
     match signal {
         None => None,
         Some(number) => match mark {
             None => None,
-            Some(mark) => given_under(names, role, number as usize, mark),
+            Some(mark) => given_under(scope, role, number as usize, mark),
         },
     }
 }
@@ -106,17 +107,17 @@ fn put_if(list: &mut Vec<Given>, given: Option<Given>) -> Result<bool, OutOfMemo
 
 /// The characters of a side of a row; whether no pin gets another one than it has.
 fn put_side(
-    names: &Names,
+    scope: &Scope<'_>,
     role: Role,
     signals: &[Option<u32>],
     marks: &[Mark],
     list: &mut Vec<Given>,
 ) -> Result<bool, OutOfMemory>
-    ensures { IfOk result (λ agree. (d : Design) → d.names ≡ entries_of names.now → Adds (chars_for d (char_in role) signals.now (map view_mark marks.now)) list.old.items list.new.items agree) }
+    ensures { IfOk result (λ agree. (d : Context) → d.names ≡ entries_of scope.now → Adds (chars_for d (char_in role) signals.now (map view_mark marks.now)) list.old.items list.new.items agree) }
 {
     let mut agree = true;
     for index in 0..signals.len() {
-        let given = given_at(names, role, signals[index], mark_at(marks, index));
+        let given = given_at(scope, role, signals[index], mark_at(marks, index));
         let same = put_if(list, given)?;
         agree = both(agree, same);
     }
@@ -126,17 +127,17 @@ fn put_side(
 /// The characters that the marks of a row give to pins; None where they are no vector's.
 pub(crate) fn row_chars(
     alloc: Global,
-    names: &Names,
+    scope: &Scope<'_>,
     inputs: &[Option<u32>],
     given: &[Mark],
     outputs: &[Option<u32>],
     tested: &[Mark],
 ) -> Result<Option<Vec<Given>>, OutOfMemory>
-    ensures { IfOk result (λ found. (d : Design) → d.names ≡ entries_of names.now → IsGiven d inputs.now (map view_mark given.now) outputs.now (map view_mark tested.now) found) }
+    ensures { IfOk result (λ found. (d : Context) → d.names ≡ entries_of scope.now → IsGiven d inputs.now (map view_mark given.now) outputs.now (map view_mark tested.now) found) }
 {
     let mut list = Vec::new(alloc);
-    let driven = put_side(names, Role::Driven, inputs, given, &mut list)?;
-    let agree = put_side(names, Role::Tested, outputs, tested, &mut list)?;
+    let driven = put_side(scope, Role::Driven, inputs, given, &mut list)?;
+    let agree = put_side(scope, Role::Tested, outputs, tested, &mut list)?;
     if either(tests_pulse(outputs, tested), !both(driven, agree)) {
         Ok(None)
     } else {

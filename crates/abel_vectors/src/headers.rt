@@ -4,17 +4,16 @@ ghost use Rattle.std.specs.Prelude.{◌≡◌, ◌&&◌, [], IfOk};
 ghost use Rattle.std.specs.List.{list_all};
 ghost use Rattle.abel_tree.specs.Entries.{entries_of, view_meaning};
 ghost use Rattle.abel_tree.specs.View.{view};
-ghost use Rattle.abel_meaning.specs.Designs.{Design, name_at};
+ghost use Rattle.abel_meaning.specs.Designs.{Context, name_at};
 ghost use Rattle.set_expr.specs.FoundNames.{expression_found};
-ghost use Rattle.set_expr.specs.KnownNames.{IsKnown};
-ghost use Rattle.row_entries.specs.EntryTerms.{IsOver, AreInOrder};
+ghost use Rattle.row_entries.specs.EntryTerms.{IsOver};
 ghost use Rattle.abel_vectors.specs.HeaderSides.{IsSide, is_pin_or_unknown};
 ghost use Rattle.abel_vectors.specs.VectorRefusals.{is_pin};
 
-use abel_tree::{Expr, Meaning, Names};
+use abel_tree::{Expr, Meaning};
 use pld_base::{OutOfMemory, Place};
 use row_entries::header_signals;
-use set_expr::{KnownNames, SectionFault, check};
+use set_expr::{Scope, SectionFault};
 use std::alloc::Global;
 
 /// What is found of a side of a header: its first refusal, or its pins from the left as numbers of names, None at X.
@@ -37,10 +36,10 @@ fn names_pin(meaning: &Meaning) -> bool
 }
 
 /// Whether the name with this number is that of a pin.
-fn numbers_pin(names: &Names, number: usize) -> bool
-    ensures { (d : Design) → d.names ≡ entries_of names.now → result ≡ is_pin (name_at d number).kind }
+fn numbers_pin(scope: &Scope<'_>, number: usize) -> bool
+    ensures { (d : Context) → d.names ≡ entries_of scope.now → result ≡ is_pin (name_at d number).kind }
 {
-    let list = names.list.as_slice();
+    let list = scope.list();
     if number < list.len() {
         names_pin(&list[number].meaning)
     } else {
@@ -49,12 +48,12 @@ fn numbers_pin(names: &Names, number: usize) -> bool
 }
 
 /// Whether a position is X or a pin.
-fn may_stand(names: &Names, signal: Option<u32>) -> bool
-    ensures { (d : Design) → d.names ≡ entries_of names.now → result ≡ is_pin_or_unknown d signal }
+fn may_stand(scope: &Scope<'_>, signal: Option<u32>) -> bool
+    ensures { (d : Context) → d.names ≡ entries_of scope.now → result ≡ is_pin_or_unknown d signal }
 {
     match signal {
         None => true,
-        Some(number) => numbers_pin(names, number as usize),
+        Some(number) => numbers_pin(scope, number as usize),
     }
 }
 
@@ -66,12 +65,12 @@ pub(crate) fn both(first: bool, second: bool) -> bool
 }
 
 /// Whether all positions are.
-fn all_may_stand(names: &Names, signals: &[Option<u32>]) -> bool
-    ensures { (d : Design) → d.names ≡ entries_of names.now → result ≡ list_all (is_pin_or_unknown d) signals.now }
+fn all_may_stand(scope: &Scope<'_>, signals: &[Option<u32>]) -> bool
+    ensures { (d : Context) → d.names ≡ entries_of scope.now → result ≡ list_all (is_pin_or_unknown d) signals.now }
 {
     let mut all = true;
     for index in 0..signals.len() {
-        all = both(all, may_stand(names, signals[index]));
+        all = both(all, may_stand(scope, signals[index]));
     }
     all
 }
@@ -79,20 +78,17 @@ fn all_may_stand(names: &Names, signals: &[Option<u32>]) -> bool
 /// A side in which nothing is refused as an expression.
 fn named_side(
     alloc: Global,
-    names: &Names,
-    known: &KnownNames,
+    scope: &Scope<'_>,
     place: Place,
     side: &Expr,
 ) -> Result<Side, OutOfMemory>
-    requires known { IsKnown (entries_of names.now) known.now }
-    requires order { AreInOrder (entries_of names.now) }
-    ensures { IfOk result (λ s. (d : Design) → IsOver names.now d → (expression_found d.names (view side.now)).refusals ≡ [] → IsSide d place (view side.now) s) }
+    ensures { IfOk result (λ s. (d : Context) → IsOver scope.now d → (expression_found d.names (view side.now)).refusals ≡ [] → IsSide d place (view side.now) s) }
 {
-    let found = header_signals(alloc, names, known, side)?;
+    let found = header_signals(alloc, scope, side)?;
     match found {
         None => Ok(Side::Refused(SectionFault::BadVector(place))),
         Some(signals) => {
-            if all_may_stand(names, signals.as_slice()) {
+            if all_may_stand(scope, signals.as_slice()) {
                 Ok(Side::Pins(signals))
             } else {
                 Ok(Side::Refused(SectionFault::BadVector(place)))
@@ -104,18 +100,15 @@ fn named_side(
 /// The side of a header that stands at this place: its first refusal, or the pins that it names.
 pub fn read_side(
     alloc: Global,
-    names: &Names,
-    known: &KnownNames,
+    scope: &Scope<'_>,
     place: Place,
     side: &Expr,
 ) -> Result<Side, OutOfMemory>
-    requires known { IsKnown (entries_of names.now) known.now }
-    requires order { AreInOrder (entries_of names.now) }
-    ensures { IfOk result (λ s. (d : Design) → IsOver names.now d → IsSide d place (view side.now) s) }
+    ensures { IfOk result (λ s. (d : Context) → IsOver scope.now d → IsSide d place (view side.now) s) }
 {
-    let found = check(alloc, names, known, side)?;
+    let found = scope.check(alloc, side)?;
     match found.fault {
         Some(fault) => Ok(Side::Refused(fault)),
-        None => named_side(alloc, names, known, place, side),
+        None => named_side(alloc, scope, place, side),
     }
 }

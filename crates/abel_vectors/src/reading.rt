@@ -2,22 +2,19 @@
 
 ghost use Rattle.std.specs.Prelude.{◌≡◌, ◌+◌, ◌≤◌, All, IfOk, length};
 ghost use Rattle.jedec_file.specs.TestVectors.{IsTestVector};
-ghost use Rattle.abel_tree.specs.Entries.{entries_of};
 ghost use Rattle.abel_tree.specs.View.{view_section};
-ghost use Rattle.abel_meaning.specs.Designs.{Design};
-ghost use Rattle.set_expr.specs.Answer.{IsDesignOf};
-ghost use Rattle.set_expr.specs.KnownNames.{IsKnown};
-ghost use Rattle.row_entries.specs.EntryTerms.{AreInOrder};
+ghost use Rattle.abel_meaning.specs.Designs.{Context};
+ghost use Rattle.set_expr.specs.Answer.{IsContextOf};
 ghost use Rattle.abel_vectors.specs.HeaderSides.{side_fault};
 ghost use Rattle.abel_vectors.specs.ReadRows.{AreSides, answer_of, view_vectors};
 ghost use Rattle.abel_vectors.specs.VectorAnswers.{Answers};
 
 use crate::headers::{Side, read_side};
 use crate::rows::{Rows, first_of, read_rows};
-use abel_tree::{Names, Section, Vectors};
+use abel_tree::{Section, Vectors};
 use pld_base::Vector;
 use pld_device::Device;
-use set_expr::{KnownNames, SectionFault};
+use set_expr::{Scope, SectionFault};
 use std::alloc::Global;
 
 /// The refusal of a side of a header, if there is one.
@@ -43,16 +40,13 @@ fn answer(rows: Rows) -> Result<Vec<Vector>, SectionFault>
 /// The rows behind the sides of their header.
 fn read_under<D: Device>(
     alloc: Global,
-    names: &Names,
-    known: &KnownNames,
+    scope: &Scope<'_>,
     section: &Vectors,
     inputs: Side,
     outputs: Side,
     before: u32,
 ) -> Result<Vec<Vector>, SectionFault>
-    requires known { IsKnown (entries_of names.now) known.now }
-    requires order { AreInOrder (entries_of names.now) }
-    ensures { (d : Design) → IsDesignOf D.table names.now d → AreSides d section.now inputs outputs → Answers d before (view_vectors section.now) result }
+    ensures { (d : Context) → IsContextOf D.table scope.now d → AreSides d section.now inputs outputs → Answers d before (view_vectors section.now) result }
 {
     match inputs {
         Side::Refused(first) => Err(first_of(first, fault_of(&outputs))),
@@ -60,7 +54,7 @@ fn read_under<D: Device>(
             Side::Refused(second) => Err(second),
             Side::Pins(outputs) => {
                 let (inputs, outputs) = (inputs.as_slice(), outputs.as_slice());
-                answer(read_rows::<D>(alloc, names, known, section, inputs, outputs, before)?)
+                answer(read_rows::<D>(alloc, scope, section, inputs, outputs, before)?)
             }
         },
     }
@@ -69,18 +63,15 @@ fn read_under<D: Device>(
 /// The vectors of a section behind so many vectors.
 fn read_vectors<D: Device>(
     alloc: Global,
-    names: &Names,
-    known: &KnownNames,
+    scope: &Scope<'_>,
     section: &Vectors,
     before: u32,
 ) -> Result<Vec<Vector>, SectionFault>
-    requires known { IsKnown (entries_of names.now) known.now }
-    requires order { AreInOrder (entries_of names.now) }
-    ensures { (d : Design) → IsDesignOf D.table names.now d → Answers d before (view_vectors section.now) result }
+    ensures { (d : Context) → IsContextOf D.table scope.now d → Answers d before (view_vectors section.now) result }
 {
-    let inputs = read_side(alloc, names, known, section.place, &section.inputs)?;
-    let outputs = read_side(alloc, names, known, section.place, &section.outputs)?;
-    read_under::<D>(alloc, names, known, section, inputs, outputs, before)
+    let inputs = read_side(alloc, scope, section.place, &section.inputs)?;
+    let outputs = read_side(alloc, scope, section.place, &section.outputs)?;
+    read_under::<D>(alloc, scope, section, inputs, outputs, before)
 }
 
 /// The vectors of a section, which is one of TEST_VECTORS or has none, as the characters of the device's pins; `before`
@@ -88,22 +79,19 @@ fn read_vectors<D: Device>(
 /// of the header and the rows with the sets that constants stand for.
 pub fn vectors<D: Device>(
     alloc: Global,
-    names: &Names,
-    known: &KnownNames,
+    scope: &Scope<'_>,
     section: &Section,
     before: u32,
 ) -> Result<Vec<Vector>, SectionFault>
-    requires known { IsKnown (entries_of names.now) known.now }
-    requires order { AreInOrder (entries_of names.now) }
     requires before { before ≤ 9999 }
-    ensures answers { (d : Design) → IsDesignOf D.table names.now d → Answers d before (view_section section.now) result }
+    ensures answers { (d : Context) → IsContextOf D.table scope.now d → Answers d before (view_section section.now) result }
     // So many are the vectors of the sections up to this one.
     ensures few { IfOk result (λ list. before + length list.items ≤ 9999) }
     // A fuse file may have them.
     ensures chars { IfOk result (λ list. All (IsTestVector D.table) list.items) }
 {
     match section {
-        Section::Vectors(section) => read_vectors::<D>(alloc, names, known, section, before),
+        Section::Vectors(section) => read_vectors::<D>(alloc, scope, section, before),
         _ => Ok(Vec::new(alloc)),
     }
 }

@@ -1,25 +1,22 @@
 //! Rows of vectors under a header in which nothing is refused.
 
 ghost use Rattle.std.specs.Prelude.{◌≡◌, ◌+◌, Some, IfOk, OnOk, map};
-ghost use Rattle.abel_tree.specs.Entries.{entries_of};
 ghost use Rattle.abel_tree.specs.FirstRefusal as refusal;
 ghost use Rattle.abel_tree.specs.View.{view_vector_row};
-ghost use Rattle.abel_meaning.specs.Designs.{Design};
+ghost use Rattle.abel_meaning.specs.Designs.{Context};
 ghost use Rattle.abel_meaning.specs.Targets.{targets_of};
-ghost use Rattle.set_expr.specs.Answer.{IsDesignOf};
-ghost use Rattle.set_expr.specs.KnownNames.{IsKnown};
+ghost use Rattle.set_expr.specs.Answer.{IsContextOf};
 ghost use Rattle.set_expr.specs.SectionOrder.{section_order};
 ghost use Rattle.row_entries.specs.EntryMarks.{view_mark};
-ghost use Rattle.row_entries.specs.EntryTerms.{AreInOrder};
 ghost use Rattle.abel_vectors.specs.ReadRows.{AddsRow, AreRead, IsMarkedRow, IsReadRow, entry_fault, header_term, room_fault};
 
 use crate::given::row_chars;
 use crate::pins::vector_of;
-use abel_tree::{Names, VectorRow, Vectors};
+use abel_tree::{VectorRow, Vectors};
 use pld_base::{OutOfMemory, Place, Vector};
 use pld_device::Device;
 use row_entries::{Entry, Mark, read_entry};
-use set_expr::{KnownNames, SectionFault, earlier};
+use set_expr::{Scope, SectionFault, earlier};
 use std::alloc::Global;
 
 /// The most vectors of a source.
@@ -68,16 +65,16 @@ fn fault_of(entry: &Entry) -> Option<SectionFault>
 /// A row whose entries meet the header.
 fn marked_row<D: Device>(
     alloc: Global,
-    names: &Names,
+    scope: &Scope<'_>,
     place: Place,
     inputs: &[Option<u32>],
     given: &[Mark],
     outputs: &[Option<u32>],
     tested: &[Mark],
 ) -> Result<Row, OutOfMemory>
-    ensures { IfOk result (λ row. (d : Design) → IsDesignOf D.table names.now d → IsMarkedRow d place inputs.now (map view_mark given.now) outputs.now (map view_mark tested.now) row) }
+    ensures { IfOk result (λ row. (d : Context) → IsContextOf D.table scope.now d → IsMarkedRow d place inputs.now (map view_mark given.now) outputs.now (map view_mark tested.now) row) }
 {
-    match row_chars(alloc, names, inputs, given, outputs, tested)? {
+    match row_chars(alloc, scope, inputs, given, outputs, tested)? {
         Some(list) => Ok(Row::Read(vector_of::<D>(list.as_slice()))),
         None => Ok(Row::Refused(SectionFault::BadVector(place))),
     }
@@ -86,27 +83,24 @@ fn marked_row<D: Device>(
 /// A row under a header whose sides name these positions.
 fn read_row<D: Device>(
     alloc: Global,
-    names: &Names,
-    known: &KnownNames,
+    scope: &Scope<'_>,
     section: &Vectors,
     inputs: &[Option<u32>],
     outputs: &[Option<u32>],
     row: &VectorRow,
 ) -> Result<Row, OutOfMemory>
-    requires known { IsKnown (entries_of names.now) known.now }
-    requires order { AreInOrder (entries_of names.now) }
-    ensures { IfOk result (λ found. (d : Design) → IsDesignOf D.table names.now d → inputs.now ≡ targets_of (header_term d section.now.inputs) → outputs.now ≡ targets_of (header_term d section.now.outputs) → IsReadRow d (header_term d section.now.inputs) (header_term d section.now.outputs) (view_vector_row row.now) found) }
+    ensures { IfOk result (λ found. (d : Context) → IsContextOf D.table scope.now d → inputs.now ≡ targets_of (header_term d section.now.inputs) → outputs.now ≡ targets_of (header_term d section.now.outputs) → IsReadRow d (header_term d section.now.inputs) (header_term d section.now.outputs) (view_vector_row row.now) found) }
 {
     let fault = SectionFault::BadVector(row.place);
-    let given = read_entry(alloc, names, known, fault, &section.inputs, &row.inputs)?;
-    let tested = read_entry(alloc, names, known, fault, &section.outputs, &row.outputs)?;
+    let given = read_entry(alloc, scope, fault, &section.inputs, &row.inputs)?;
+    let tested = read_entry(alloc, scope, fault, &section.outputs, &row.outputs)?;
     match given {
         Entry::Refused(first) => Ok(Row::Refused(first_of(first, fault_of(&tested)))),
         Entry::Marks(given) => match tested {
             Entry::Refused(second) => Ok(Row::Refused(second)),
             Entry::Marks(tested) => marked_row::<D>(
                 alloc,
-                names,
+                scope,
                 row.place,
                 inputs,
                 given.as_slice(),
@@ -148,16 +142,13 @@ fn add_row(rows: &mut Rows, room: Option<SectionFault>, row: Row) -> Result<(), 
 /// since the first refusal by place may stand in any of them.
 pub(crate) fn read_rows<D: Device>(
     alloc: Global,
-    names: &Names,
-    known: &KnownNames,
+    scope: &Scope<'_>,
     section: &Vectors,
     inputs: &[Option<u32>],
     outputs: &[Option<u32>],
     before: u32,
 ) -> Result<Rows, OutOfMemory>
-    requires known { IsKnown (entries_of names.now) known.now }
-    requires order { AreInOrder (entries_of names.now) }
-    ensures { IfOk result (λ found. (d : Design) → IsDesignOf D.table names.now d → inputs.now ≡ targets_of (header_term d section.now.inputs) → outputs.now ≡ targets_of (header_term d section.now.outputs) → AreRead d before (header_term d section.now.inputs) (header_term d section.now.outputs) (map view_vector_row section.now.rows) found) }
+    ensures { IfOk result (λ found. (d : Context) → IsContextOf D.table scope.now d → inputs.now ≡ targets_of (header_term d section.now.inputs) → outputs.now ≡ targets_of (header_term d section.now.outputs) → AreRead d before (header_term d section.now.inputs) (header_term d section.now.outputs) (map view_vector_row section.now.rows) found) }
 {
     let rows = section.rows.as_slice();
     let mut found = Rows {
@@ -167,7 +158,7 @@ pub(crate) fn read_rows<D: Device>(
     for index in 0..rows.len() {
         let row = &rows[index];
         let room = refuse_room(before, index, row.place);
-        let read = read_row::<D>(alloc, names, known, section, inputs, outputs, row)?;
+        let read = read_row::<D>(alloc, scope, section, inputs, outputs, row)?;
         add_row(&mut found, room, read)?;
     }
     Ok(found)

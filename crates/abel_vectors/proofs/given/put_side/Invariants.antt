@@ -1,7 +1,7 @@
 -- The positions so far.
 use Rattle.std.proofs.Common.{◌≡◌, map, take}
 use Rattle.abel_tree.specs.Entries.{entries_of}
-use Rattle.abel_meaning.specs.Designs.{Design}
+use Rattle.abel_meaning.specs.Designs.{Context}
 use Rattle.row_entries.specs.EntryMarks.{view_mark}
 use Rattle.abel_vectors.specs.GivenChars.{Adds, char_in}
 use Rattle.abel_vectors.specs.VectorRefusals.{chars_for}
@@ -9,5 +9,5 @@ use Rattle.abel_vectors.proofs.given.put_side.Given as goal
 
 abbrev pub invariant-loop-index : goal.invariant-loop-index
 invariant-loop-index l =
-    (d : Design) → d.names ≡ entries_of l.names
+    (d : Context) → d.names ≡ entries_of l.scope
     → Adds (chars_for d (char_in l.role) (take l.index l.signals) (map view_mark l.marks)) l.initial.list.items l.list.items l.agree

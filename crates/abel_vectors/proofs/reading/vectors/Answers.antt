@@ -12,8 +12,8 @@ returns-in-Vectors-clause-answers g c d is =
 
 pub returns-in-Vectors-clause-few : goal.returns-in-Vectors-clause-few
 returns-in-Vectors-clause-few g c =
-    answers_few g.D.Device.table c.args.names.now c.args.before (view_vectors c.in-Vectors.section) c.read_vectors.result c.requires.before c.read_vectors.ensures
+    answers_few g.D.Device.table c.args.scope.now c.args.before (view_vectors c.in-Vectors.section) c.read_vectors.result c.requires.before c.read_vectors.ensures
 
 pub returns-in-Vectors-clause-chars : goal.returns-in-Vectors-clause-chars
 returns-in-Vectors-clause-chars g c =
-    answers_test g.D.Device.table c.args.names.now c.args.before (view_vectors c.in-Vectors.section) c.read_vectors.result c.read_vectors.ensures
+    answers_test g.D.Device.table c.args.scope.now c.args.before (view_vectors c.in-Vectors.section) c.read_vectors.result c.read_vectors.ensures

@@ -13,13 +13,13 @@ use Rattle.abel_vectors.proofs.rows.read_row.Goals as goal
 
 pub returns-in-Refused : goal.returns-in-Refused
 returns-in-Refused g c d is a b =
-    let o = over g.D.Device.table c.args.names.now d is in
+    let o = over g.D.Device.table c.args.scope.now d is in
     entries_first d (header_term d c.args.section.now.inputs) (header_term d c.args.section.now.outputs) (view_vector_row c.args.row.now) c.in_ok-given.given c.in_ok-tested.tested c.first_of.result (c.in_ok-given.ensures d o) (c.in_ok-tested.ensures d o)
     (ap₂ (earlier section_order) (ap entry_fault c.in-Refused.is) (sym c.fault_of.ensures) ∙ sym c.first_of.ensures)
 
 pub returns-in-Refused-tested : goal.returns-in-Refused-tested
 returns-in-Refused-tested g c d is a b =
-    let o = over g.D.Device.table c.args.names.now d is in
+    let o = over g.D.Device.table c.args.scope.now d is in
     entries_first d (header_term d c.args.section.now.inputs) (header_term d c.args.section.now.outputs) (view_vector_row c.args.row.now) c.in_ok-given.given c.in_ok-tested.tested c.in-Refused-tested.second (c.in_ok-given.ensures d o) (c.in_ok-tested.ensures d o)
     (ap₂ (earlier section_order) (ap entry_fault c.in-Marks.is) (ap entry_fault c.in-Refused-tested.is))
 
@@ -27,7 +27,7 @@ pub returns : goal.returns
 returns g c =
     IfOk-weaker c.marked_row.result _ _
     (λ found marked d is a b.
-    let o = over g.D.Device.table c.args.names.now d is in
+    let o = over g.D.Device.table c.args.scope.now d is in
     let h = header_term d c.args.section.now.inputs in
     let k = header_term d c.args.section.now.outputs in
     let r = view_vector_row c.args.row.now in
