@@ -6,7 +6,7 @@ use Rattle.abel_tree.specs.declared.words.Extension.{Extension}
 use Rattle.abel_tree.specs.Entries.{Kind, APin, ANode, AConstant, ADeviceName, Entry, is_signal}
 use Rattle.abel_tree.specs.Ranges.{range_names}
 use Rattle.abel_tree.specs.Tree.{Tree, ANumber, ASpecial, AName, ASet, AParen, AUnary, ABinary, SetMember, OneMember, SpanMember, Members, NoMember, MoreMembers}
-use Rattle.abel_meaning.specs.Designs.{Design, name_at, no_name}
+use Rattle.abel_meaning.specs.Designs.{Context, name_at, no_name}
 use Rattle.abel_meaning.specs.Targets.{targets_of, all_targets}
 use Rattle.abel_meaning.specs.Terms.{Term, Terms, X, Pulse, Release, Set, Known, term_named, extended_if, named_before, member_before, special_term, term_of, terms_of, term_meant, known_after, known_of}
 use Rattle.section_targets.proofs.SignalLists.{extended_targets}
@@ -93,9 +93,9 @@ module _ (Q : ℕ → Type 0) where
       (meant_targets ks (length before) x.kind h (λ signal. q (length before) (ap (λ (y : Entry). is_signal y.kind) here ∙ signal)))))
 
 -- each name that a target has is a signal
-abbrev pub IsSignalOf : Design → ℕ → Type 0
+abbrev pub IsSignalOf : Context → ℕ → Type 0
 IsSignalOf d s = is_signal (name_at d s).kind ≡ true
 
-pub signal_targets : (d : Design) → d.known ≡ known_of d.names → (t : Tree) → EachTarget (IsSignalOf d) (targets_of (term_of d.known t))
+pub signal_targets : (d : Context) → d.known ≡ known_of d.names → (t : Tree) → EachTarget (IsSignalOf d) (targets_of (term_of d.known t))
 signal_targets d known t =
     term_targets (IsSignalOf d) d.known (subst (EachKnown (IsSignalOf d)) (sym known) (after_known (IsSignalOf d) d.names [] d.names [] refl (λ s is. is) tt)) t

@@ -9,5 +9,6 @@ pub mod Views
 pub mod SmallTargets
 pub mod Settled
 pub mod OneUnit
+pub mod OverNames
 pub mod SideTerms
 pub mod KnownTargets

@@ -1,5 +1,5 @@
 -- What names stand for, and the members of sets one at a time.
-use Rattle.std.proofs.Common.{◌≡◌, ℕ, zero, suc, ◌+◌, ◌<◌, ◌≤◌, Bool, true, false, ◌&&◌, Option, None, Some, List, [], ◌∷◌, ◌++◌, if◌then◌else◌, length, map, get_or, slice_get, cond, bytes_eq, refl, sym, ap, ap₂, ◌∙◌, subst, arith, append_assoc, append-nil, length-append}
+use Rattle.std.proofs.Common.{◌≡◌, ℕ, suc, ◌+◌, ◌≤◌, Bool, true, false, ◌&&◌, Option, None, Some, List, [], ◌∷◌, ◌++◌, if◌then◌else◌, length, map, get_or, slice_get, cond, bytes_eq, refl, sym, ap, ◌∙◌, subst, arith, append_assoc, append-nil, length-append}
 use Rattle.std.specs.List.{position_from}
 use Rattle.std.proofs.lemmas.Iterator.Adapters.{position_from-zero}
 use Rattle.std.proofs.lemmas.List.{map-append}
@@ -9,7 +9,7 @@ use Rattle.pld_base.specs.declared.place.Place.{Place}
 use Rattle.abel_tree.specs.Entries.{Entry, find}
 use Rattle.abel_tree.specs.Ranges.{range_names}
 use Rattle.abel_tree.specs.Tree.{SetMember, OneMember, SpanMember, members_of}
-use Rattle.abel_meaning.specs.Designs.{Design}
+use Rattle.abel_meaning.specs.Designs.{Context}
 use Rattle.abel_meaning.specs.Targets.{targets_of, all_targets, some_signals}
 use Rattle.abel_meaning.specs.Terms.{Term, Terms, Number, NoTerm, Before, Known, term_named, term_meant, term_of, terms_of, member_before, named_before, known_after, known_of}
 use Rattle.section_targets.specs.declared.named.NamedSignals.{NamedSignals}
@@ -192,12 +192,12 @@ both_assoc x y z = rw (append_assoc x.refusals y.refusals z.refusals, append_ass
 pub both_none : (x : TargetFound) → targets_both x (record { refusals = []; aims = [] }) ≡ x
 both_none x = rw (append-nil x.refusals, append-nil x.aims) refl
 
-pub members_more : (d : Design) (ms : List SetMember) (m : SetMember) → target_members d (members_of (ms ++ m ∷ [])) ≡ targets_both (target_members d (members_of ms)) (target_one d m)
+pub members_more : (d : Context) (ms : List SetMember) (m : SetMember) → target_members d (members_of (ms ++ m ∷ [])) ≡ targets_both (target_members d (members_of ms)) (target_one d m)
 members_more d [] m = both_none (target_one d m)
 members_more d (x ∷ ms) m =
     ap (targets_both (target_one d x)) (members_more d ms m) ∙ sym (both_assoc (target_one d x) (target_members d (members_of ms)) (target_one d m))
 
-pub range_more : (d : Design) (x : TargetFound) (p : Place) (names : List (List ℕ)) (n : List ℕ) → targets_both (targets_both x (target_range d p names)) (target_name d p p n) ≡ targets_both x (target_range d p (names ++ n ∷ []))
+pub range_more : (d : Context) (x : TargetFound) (p : Place) (names : List (List ℕ)) (n : List ℕ) → targets_both (targets_both x (target_range d p names)) (target_name d p p n) ≡ targets_both x (target_range d p (names ++ n ∷ []))
 range_more d x p names n = both_assoc x (target_range d p names) (target_name d p p n) ∙ ap (targets_both x) (sym (ranged names))
   where
     ranged : (names : List (List ℕ)) → target_range d p (names ++ n ∷ []) ≡ targets_both (target_range d p names) (target_name d p p n)

@@ -9,8 +9,8 @@ use Rattle.abel_tree.specs.declared.names.Declared.{Declared}
 use Rattle.abel_tree.specs.declared.names.Names.{Names}
 use Rattle.abel_tree.specs.Entries.{Entry, entries_of, view_declared}
 use Rattle.pld_device.specs.Table.{Table}
-use Rattle.set_expr.specs.Answer.{IsDesignOf}
-use Rattle.abel_meaning.specs.Designs.{Design, name_at, no_name}
+use Rattle.set_expr.specs.Answer.{IsContextOf}
+use Rattle.abel_meaning.specs.Designs.{Context, name_at, no_name}
 use Rattle.set_expr.specs.declared.fault.SectionFault.{SectionFault}
 use Rattle.set_expr.specs.SectionOrder.{section_order}
 use Rattle.section_targets.specs.declared.aim.Aim.{Aim}
@@ -22,12 +22,12 @@ pub first_of_both : (fs gs : List SectionFault) → first_refusal section_order 
 first_of_both fs gs = first_append section_order fs gs
 
 -- what is refused of one signal
-abbrev pub aim_refused : Design → List Manner → Option Extension → (complement clocked : Bool) → Aim → List SectionFault
+abbrev pub aim_refused : Context → List Manner → Option Extension → (complement clocked : Bool) → Aim → List SectionFault
 aim_refused d before e complement clocked a =
     no_output d.device (name_at d a.signal) a.place (manner_of e complement clocked a)
     ++ mixed before (name_at d a.signal) a.place (manner_of e complement clocked a)
 
-refused_push : (d : Design) (before : List Manner) (e : Option Extension) (c k : Bool) (xs : List Aim) (x : Aim) → aims_refused d before e c k (xs ++ x ∷ []) ≡ aims_refused d before e c k xs ++ aim_refused d (before ++ map (manner_of e c k) xs) e c k x
+refused_push : (d : Context) (before : List Manner) (e : Option Extension) (c k : Bool) (xs : List Aim) (x : Aim) → aims_refused d before e c k (xs ++ x ∷ []) ≡ aims_refused d before e c k xs ++ aim_refused d (before ++ map (manner_of e c k) xs) e c k x
 refused_push d before e c k [] x = append-nil (aim_refused d before e c k x) ∙ ap (λ ms. aim_refused d ms e c k x) (sym (append-nil before))
 refused_push d before e c k (y ∷ xs) x =
     let next = before ++ manner_of e c k y ∷ [] in
@@ -36,12 +36,12 @@ refused_push d before e c k (y ∷ xs) x =
     ∙ ap (λ ms. (aim_refused d before e c k y ++ aims_refused d next e c k xs) ++ aim_refused d ms e c k x) (append_assoc before (manner_of e c k y ∷ []) (map (manner_of e c k) xs))
 
 -- only the firsts of what was assigned before count
-firsts_refused : (d : Design) (firsts all : List Manner) (e : Option Extension) (c k : Bool) (a : Aim) → AreFirsts firsts all → aim_refused d firsts e c k a ≡ aim_refused d all e c k a
+firsts_refused : (d : Context) (firsts all : List Manner) (e : Option Extension) (c k : Bool) (a : Aim) → AreFirsts firsts all → aim_refused d firsts e c k a ≡ aim_refused d all e c k a
 firsts_refused d firsts all e c k a h =
     ap (λ (f : Option Manner). no_output d.device (name_at d a.signal) a.place (manner_of e c k a) ++ (if differs_from f (manner_of e c k a) || is_against_kind (name_at d a.signal) (manner_of e c k a) then MixedAssignment a.place a.signal ∷ [] else [])) (h a.signal (part_of e))
 
 -- the first refusal with the signal at i
-pub refused_next : (d : Design) (before now : List Manner) (e : Option Extension) (c k : Bool) (xs : List Aim) (i : ℕ) (x : Aim) → i < length xs → AreFirsts now (before ++ map (manner_of e c k) (take i xs))
+pub refused_next : (d : Context) (before now : List Manner) (e : Option Extension) (c k : Bool) (xs : List Aim) (i : ℕ) (x : Aim) → i < length xs → AreFirsts now (before ++ map (manner_of e c k) (take i xs))
     → first_refusal section_order (aims_refused d before e c k (take (i + 1) xs)) ≡ earlier section_order (first_refusal section_order (aims_refused d before e c k (take i xs))) (first_refusal section_order (aim_refused d now e c k (get_or xs i x)))
 refused_next d before now e c k xs i x lt h =
     let t : take (i + 1) xs ≡ take i xs ++ get_or xs i x ∷ [] = ap (λ n. take n xs) (add-one i) ∙ take-suc xs i x lt in
@@ -70,12 +70,12 @@ at_view [] k x y lt = absurd (omega (arith, lt))
 at_view (z ∷ xs) zero x y lt = refl
 at_view (z ∷ xs) (suc k) x y lt = at_view xs k x y (omega (arith, lt))
 
-named_entry : (n : Names) (d : Design) (k : ℕ) (x y : Declared) → d.names ≡ entries_of n → k < length (entries_of n) → y ≡ get_or n.list k x → name_at d k ≡ view_declared y
+named_entry : (n : Names) (d : Context) (k : ℕ) (x y : Declared) → d.names ≡ entries_of n → k < length (entries_of n) → y ≡ get_or n.list k x → name_at d k ≡ view_declared y
 named_entry n d k x y e lt h =
     ap (λ es. get_or es k no_name) e ∙ at_view n.list k x no_name (omega (arith, lt, length-map n.list view_declared)) ∙ ap view_declared (sym h)
 
 -- what is refused of a signal that is declared so
-pub aim_refused_as : (n : Names) (t : Table) (d : Design) (ds : List Declared) (x y : Declared) (before : List Manner) (e : Option Extension) (c k : Bool) (a : Aim) → IsDesignOf t n d → a.signal < length (entries_of n) → ds ≡ n.list → y ≡ get_or ds a.signal x
+pub aim_refused_as : (n : Names) (t : Table) (d : Context) (ds : List Declared) (x y : Declared) (before : List Manner) (e : Option Extension) (c k : Bool) (a : Aim) → IsContextOf t n d → a.signal < length (entries_of n) → ds ≡ n.list → y ≡ get_or ds a.signal x
     → first_refusal section_order (no_output t (view_declared y) a.place (manner_of e c k a) ++ mixed before (view_declared y) a.place (manner_of e c k a))
     ≡ first_refusal section_order (aim_refused d before e c k a)
 aim_refused_as n t d ds x y before e c k a is lt l h =

@@ -1,5 +1,5 @@
 -- The answer for units that were checked and built.
-use Rattle.std.proofs.Common.{◌≡◌, ℕ, Option, None, Some, List, [], ◌∷◌, ◌++◌, Result, Ok, Err, length, refl, sym, ap, ap₂, ◌∙◌, subst, append-nil}
+use Rattle.std.proofs.Common.{◌≡◌, Option, None, Some, List, ◌++◌, Ok, Err, length, refl, sym, ap, ap₂, ◌∙◌, append-nil}
 use Rattle.pld_base.specs.declared.place.Place.{Place}
 use Rattle.bit_expr.specs.Arena.{arena}
 use Rattle.bit_expr.specs.Formulas.{Formula}
@@ -11,7 +11,7 @@ use Rattle.set_expr.specs.declared.fault.SectionFault.{SectionFault}
 use Rattle.set_expr.specs.declared.fault.SectionFault.TheVariants as fault
 use Rattle.set_expr.specs.SectionOrder.{section_order}
 use Rattle.section_targets.specs.Appending.{Leaves, AnswersUnits}
-use Rattle.section_targets.specs.Building.{AtRefusal, stop_of, Stops, StopsWith, IsBuilt}
+use Rattle.section_targets.specs.Building.{AtRefusal, Stops, StopsWith, IsBuilt}
 use Rattle.section_targets.specs.Units.{CountedUnit, units_refused, limit_refused, all_refused}
 use Rattle.section_targets.proofs.Built.{both_empty}
 

@@ -6,10 +6,9 @@ use Rattle.abel_tree.specs.declared.words.Extension.{Extension}
 use Rattle.abel_tree.specs.Entries.{find}
 use Rattle.abel_tree.specs.Ranges.{range_names}
 use Rattle.abel_tree.specs.Tree.{Tree, ANumber, ASpecial, AName, ASet, AParen, AUnary, ABinary, OneMember, SpanMember, Members, NoMember, MoreMembers}
-use Rattle.abel_meaning.specs.Designs.{Design}
+use Rattle.abel_meaning.specs.Designs.{Context}
 use Rattle.abel_meaning.specs.Targets.{targets_of, all_targets, some_signals}
 use Rattle.abel_meaning.specs.Terms.{Term, Terms, Number, X, Pulse, Release, Read, Set, UnaryOf, BinaryOf, NoTerm, Before, extended_if, term_named, term_of, terms_of, named_before}
-use Rattle.set_expr.specs.declared.fault.SectionFault.{SectionFault}
 use Rattle.set_expr.specs.declared.fault.SectionFault.TheVariants.{NotAnOutput}
 use Rattle.set_expr.specs.FoundNames.{found_use, name_found, names_found}
 use Rattle.set_expr.specs.Refusals.{too_wide}
@@ -52,7 +51,7 @@ aims_positions : (q : Place) (ss : List ℕ) → positions_of (aims_at q ss) ≡
 aims_positions q [] = refl
 aims_positions q (s ∷ ss) = ap (λ xs. Some s ∷ xs) (aims_positions q ss)
 
-name_positions : (d : Design) (p q : Place) (w : List ℕ) → (target_name d p q w).refusals ≡ [] → targets_of (term_named d.known w) ≡ positions_of (target_name d p q w).aims
+name_positions : (d : Context) (p q : Place) (w : List ℕ) → (target_name d p q w).refusals ≡ [] → targets_of (term_named d.known w) ≡ positions_of (target_name d p q w).aims
 name_positions d p q w e =
     let f = found_use p (name_found (names_found d.names) w) in
     let t = term_named d.known w in
@@ -63,7 +62,7 @@ name_positions d p q w e =
     alone true e = refl
     alone false e = absurd cc
 
-range_positions : (d : Design) (p : Place) (names : List (List ℕ)) (ts : Terms) (x : TargetFound) → all_targets ts ≡ positions_of x.aims → (target_range d p names).refusals ≡ []
+range_positions : (d : Context) (p : Place) (names : List (List ℕ)) (ts : Terms) (x : TargetFound) → all_targets ts ≡ positions_of x.aims → (target_range d p names).refusals ≡ []
     → all_targets (named_before d.known names ts) ≡ positions_of ((target_range d p names).aims ++ x.aims)
 range_positions d p [] ts x h e = h
 range_positions d p (n ∷ names) ts x h e =
@@ -74,7 +73,7 @@ range_positions d p (n ∷ names) ts x h e =
     ∙ ap positions_of (sym (append_assoc a.aims b.aims x.aims))
 
 mutual
-  pub member_positions : (d : Design) (t : Tree) → (target_member d t).refusals ≡ [] → targets_of (term_of d.known t) ≡ positions_of (target_member d t).aims
+  pub member_positions : (d : Context) (t : Tree) → (target_member d t).refusals ≡ [] → targets_of (term_of d.known t) ≡ positions_of (target_member d t).aims
   member_positions d (ANumber n) e = absurd cc
   member_positions d (ASpecial letter p) e = absurd cc
   member_positions d (AName word None) e = name_positions d word.place word.place word.text e
@@ -85,7 +84,7 @@ mutual
   member_positions d (AUnary sign p t) e = absurd cc
   member_positions d (ABinary sign p t u) e = absurd cc
 
-  members_positions : (d : Design) (ms : Members) → (target_members d ms).refusals ≡ [] → all_targets (terms_of d.known ms) ≡ positions_of (target_members d ms).aims
+  members_positions : (d : Context) (ms : Members) → (target_members d ms).refusals ≡ [] → all_targets (terms_of d.known ms) ≡ positions_of (target_members d ms).aims
   members_positions d NoMember e = refl
   members_positions d (MoreMembers (OneMember t) ms) e =
       let a = target_member d t in
@@ -101,7 +100,7 @@ extended_positions : (e : Option Extension) (t : Term) → targets_of (extended_
 extended_positions None t = refl
 extended_positions (Some e) t = extended_targets e t
 
-pub side_positions : (d : Design) (p : Place) (t : Tree) → (left_side d p t).refusals ≡ [] → targets_of (term_of d.known t) ≡ positions_of (left_side d p t).aims
+pub side_positions : (d : Context) (p : Place) (t : Tree) → (left_side d p t).refusals ≡ [] → targets_of (term_of d.known t) ≡ positions_of (left_side d p t).aims
 side_positions d p (AName word x) e = extended_positions x (term_named d.known word.text) ∙ name_positions d word.place (start_of d p word) word.text e
 side_positions d p (ASet q ms x) e = extended_positions x (Set (terms_of d.known ms)) ∙ members_positions d ms (left_empty (target_members d ms).refusals (too_wide q (length (target_members d ms).aims)) e)
 side_positions d p (ANumber n) e = member_positions d (ANumber n) e

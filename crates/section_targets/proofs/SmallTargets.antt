@@ -1,25 +1,23 @@
 -- A target that isn't refused has at most 32 signals.
-use Rattle.std.proofs.Common.{◌≡◌, ℕ, suc, ◌+◌, ◌≤◌, nat_lt, Bool, true, false, Option, None, Some, List, [], ◌∷◌, ◌++◌, if◌then◌else◌, length, unwrap_or, bytes_eq, refl, sym, ap, ap₂, ◌∙◌, subst, arith, length-append}
+use Rattle.std.proofs.Common.{◌≡◌, ℕ, suc, ◌+◌, ◌≤◌, nat_lt, Bool, true, false, Option, None, Some, List, [], ◌∷◌, ◌++◌, if◌then◌else◌, length, unwrap_or, bytes_eq, refl, sym, ap, ◌∙◌, subst, arith, length-append}
 use Rattle.std.specs.Prelude.{codes}
 use Rattle.std.proofs.lemmas.Bool.{ltb-false}
 use Rattle.pld_base.specs.declared.place.Place.{Place}
 use Rattle.abel_tree.specs.declared.words.Extension.{Extension}
 use Rattle.abel_tree.specs.Entries.{Kind, APin, ANode, AConstant, ADeviceName, Entry, find}
 use Rattle.abel_tree.specs.Ranges.{range_names}
-use Rattle.abel_tree.specs.Tree.{Tree, ANumber, ASpecial, AName, ASet, AParen, AUnary, ABinary, SetMember, OneMember, SpanMember, Members, NoMember, MoreMembers}
-use Rattle.abel_tree.specs.FirstRefusal.{first_refusal}
+use Rattle.abel_tree.specs.Tree.{Tree, ANumber, ASpecial, AName, ASet, AParen, AUnary, ABinary, OneMember, SpanMember, Members, NoMember, MoreMembers}
 use Rattle.abel_tree.proofs.FirstRefusals.{none_refused}
-use Rattle.abel_meaning.specs.Designs.{Design}
-use Rattle.abel_meaning.specs.Numbers.{Value, Number, Single, Set, member_width, width_of}
+use Rattle.abel_meaning.specs.Designs.{Context}
+use Rattle.abel_meaning.specs.Numbers.{Value, Set, member_width, width_of}
 use Rattle.abel_meaning.specs.Targets.{targets_of, all_targets, some_signals}
 use Rattle.abel_meaning.specs.Terms.{Term, Terms, X, Pulse, Release, NoTerm, Before, Known, extended_if, special_term, term_named, term_of, terms_of, member_before, named_before, term_meant, known_after, known_of}
 use Rattle.abel_meaning.specs.Terms as term
 use Rattle.set_expr.specs.declared.fault.SectionFault.{SectionFault}
 use Rattle.set_expr.specs.declared.fault.SectionFault.TheVariants.{BadWidth, MisplacedSpecial}
-use Rattle.set_expr.specs.FoundNames.{NameFound, named, name_found, nothing_found, found_of, all_found, found_before, range_found, found_use, found_special, found_kind, found_constant, found_entry, found_after, names_found, is_pulse_kind, refused_there, at_name}
+use Rattle.set_expr.specs.FoundNames.{NameFound, named, name_found, nothing_found, found_of, all_found, range_found, found_use, found_special, found_kind, found_constant, found_entry, found_after, names_found, is_pulse_kind, refused_there, at_name}
 use Rattle.set_expr.specs.Refusals.{Found, unless_refused, found_set, width_with, members_width, members_value, members_refused, members_specials, large_member, too_wide, value_or_none}
 use Rattle.set_expr.specs.SectionOrder.{section_order}
-use Rattle.section_targets.specs.declared.aim.Aim.{Aim}
 use Rattle.section_targets.specs.declared.sides.Side.{Side}
 use Rattle.section_targets.specs.NamedTargets.{IsSide}
 use Rattle.section_targets.specs.TargetSignals.{TargetFound, target_name, target_set, target_member, target_members, left_side, no_signals, start_of}
@@ -180,7 +178,7 @@ all_few es = looked_few (names_found es) (known_of es) (names_few [] [] 0 es tt)
 
 -- ---- targets
 
-name_few : (d : Design) (p q : Place) (w : List ℕ) → d.known ≡ known_of d.names → (target_name d p q w).refusals ≡ [] → length (target_name d p q w).aims ≤ 32
+name_few : (d : Context) (p q : Place) (w : List ℕ) → d.known ≡ known_of d.names → (target_name d p q w).refusals ≡ [] → length (target_name d p q w).aims ≤ 32
 name_few d p q w k e =
     let f = found_use p (name_found (names_found d.names) w) in
     let t = term_named d.known w in
@@ -194,7 +192,7 @@ wide_none p x e = ltb-false 32 (length x.aims) (narrow (nat_lt 32 (length x.aims
     narrow true e = absurd cc
     narrow false e = refl
 
-pub member_few : (d : Design) (t : Tree) → d.known ≡ known_of d.names → (target_member d t).refusals ≡ [] → length (target_member d t).aims ≤ 32
+pub member_few : (d : Context) (t : Tree) → d.known ≡ known_of d.names → (target_member d t).refusals ≡ [] → length (target_member d t).aims ≤ 32
 member_few d (ANumber n) k e = omega arith
 member_few d (ASpecial letter p) k e = omega arith
 member_few d (AName word None) k e = name_few d word.place word.place word.text k e
@@ -205,7 +203,7 @@ member_few d (AParen p t) k e = member_few d t k e
 member_few d (AUnary sign p t) k e = omega arith
 member_few d (ABinary sign p t u) k e = omega arith
 
-pub side_few : (d : Design) (p : Place) (t : Tree) → d.known ≡ known_of d.names → (left_side d p t).refusals ≡ [] → length (left_side d p t).aims ≤ 32
+pub side_few : (d : Context) (p : Place) (t : Tree) → d.known ≡ known_of d.names → (left_side d p t).refusals ≡ [] → length (left_side d p t).aims ≤ 32
 side_few d p (AName word x) k e = name_few d word.place (start_of d p word) word.text k e
 side_few d p (ASet q ms x) k e = wide_none q (target_members d ms) e
 side_few d p (ANumber n) k e = member_few d (ANumber n) k e
@@ -215,7 +213,7 @@ side_few d p (AUnary sign q t) k e = member_few d (AUnary sign q t) k e
 side_few d p (ABinary sign q t u) k e = member_few d (ABinary sign q t u) k e
 
 -- where no fault is found, the signals are all there
-pub side_whole : (d : Design) (count : ℕ) (s : Side) (p : Place) (t : Tree) → d.known ≡ known_of d.names → IsSide count s (left_side d p t) → None ≡ s.fault → ((left_side d p t).refusals ≡ []) × (s.aims ≡ (left_side d p t).aims)
+pub side_whole : (d : Context) (count : ℕ) (s : Side) (p : Place) (t : Tree) → d.known ≡ known_of d.names → IsSide count s (left_side d p t) → None ≡ s.fault → ((left_side d p t).refusals ≡ []) × (s.aims ≡ (left_side d p t).aims)
 side_whole d count s p t k h e =
     let r = none_refused section_order (left_side d p t).refusals (e ∙ h.fault) in
     (r, h.aims (side_few d p t k r))

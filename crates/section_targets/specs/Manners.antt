@@ -9,7 +9,7 @@ use Rattle.bit_expr.specs.Formulas.{differ}
 use Rattle.abel_tree.specs.declared.words.Extension.{Extension}
 use Rattle.abel_tree.specs.declared.words.Extension.TheVariants as extension
 use Rattle.abel_tree.specs.Entries.{Kind, APin, ANode, AConstant, ADeviceName, Entry}
-use Rattle.abel_meaning.specs.Designs.{Design, name_at}
+use Rattle.abel_meaning.specs.Designs.{Context, name_at}
 use Rattle.abel_meaning.specs.Targets.{is_data, is_raw}
 use Rattle.set_expr.specs.declared.contributions.Contribution.{Contribution}
 use Rattle.set_expr.specs.declared.fault.SectionFault.{SectionFault}
@@ -104,7 +104,7 @@ abbrev pub manners_of : List Contribution → List Manner
 manners_of cs = map manner_of_contribution cs
 
 -- what is refused of the signals of a target, one after another
-abbrev pub aims_refused : Design → List Manner → Option Extension → (complement clocked : Bool) → List Aim
+abbrev pub aims_refused : Context → List Manner → Option Extension → (complement clocked : Bool) → List Aim
     → List SectionFault
 aims_refused d before e complement clocked [] = []
 aims_refused d before e complement clocked (a ∷ aims) =

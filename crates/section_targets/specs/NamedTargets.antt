@@ -1,11 +1,11 @@
 -- The signals that names stand for as targets, and those of a target (ABEL-HDL Reference Manual, equations, sets and
 -- constants).
-use Rattle.std.specs.Prelude.{◌≡◌, ℕ, ◌<◌, ◌≤◌, ◌&&◌, Bool, Option, None, Some, List, [], ◌∷◌, ◌++◌, All, length, map, min, slice_get}
+use Rattle.std.specs.Prelude.{◌≡◌, ℕ, ◌<◌, ◌≤◌, Bool, Option, None, Some, List, [], ◌∷◌, ◌++◌, All, length, map, min}
 use Rattle.abel_tree.specs.Entries.{Entry}
 use Rattle.abel_tree.specs.FirstRefusal.{first_refusal}
-use Rattle.abel_meaning.specs.Designs.{Design}
+use Rattle.abel_meaning.specs.Designs.{Context}
 use Rattle.abel_meaning.specs.Targets.{targets_of, some_signals}
-use Rattle.abel_meaning.specs.Terms.{Term, Number, Known, known_of}
+use Rattle.abel_meaning.specs.Terms.{Term, Number, Known}
 use Rattle.set_expr.specs.SectionOrder.{section_order}
 use Rattle.section_targets.specs.declared.named.NamedSignals.{NamedSignals}
 use Rattle.section_targets.specs.declared.sides.Side.{Side}
@@ -41,7 +41,7 @@ pub record StandFor (count : ℕ) (es : List Entry) (ns : List NamedSignals) (ks
   pub terms : AreOfTerms count ns ks
 
 -- what all names of a design stand for
-abbrev pub AreTargets : Design → List NamedSignals → Type 0
+abbrev pub AreTargets : Context → List NamedSignals → Type 0
 AreTargets d ns = StandFor (length d.names) d.names ns d.known
 
 -- what is found of a target; a set has at most 32 positions, and more are only counted

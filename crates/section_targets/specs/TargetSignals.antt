@@ -5,7 +5,7 @@ use Rattle.abel_tree.specs.declared.words.Word.{Word}
 use Rattle.abel_tree.specs.Entries.{Entry, find}
 use Rattle.abel_tree.specs.Ranges.{range_names}
 use Rattle.abel_tree.specs.Tree.{Tree, ANumber, ASpecial, AName, ASet, AParen, AUnary, ABinary, SetMember, OneMember, SpanMember, Members, NoMember, MoreMembers}
-use Rattle.abel_meaning.specs.Designs.{Design}
+use Rattle.abel_meaning.specs.Designs.{Context}
 use Rattle.abel_meaning.specs.Targets.{targets_of, some_signals}
 use Rattle.abel_meaning.specs.Terms.{Term, Terms, term_named}
 use Rattle.abel_meaning.specs.Terms as term
@@ -48,7 +48,7 @@ target_use p q name f t =
       aims = aims_at q (some_signals (targets_of t));
     }
 
-abbrev pub target_name : Design → (p q : Place) → List ℕ → TargetFound
+abbrev pub target_name : Context → (p q : Place) → List ℕ → TargetFound
 target_name d p q text =
     target_use p q (find d.names text) (found_use p (name_found (names_found d.names) text)) (term_named d.known text)
 
@@ -69,13 +69,13 @@ abbrev pub target_set : Place → TargetFound → TargetFound
 target_set p x = record x { refusals = x.refusals ++ too_wide p (length x.aims) }
 
 -- the names of a range, all at the place of its first end
-abbrev pub target_range : Design → Place → List (List ℕ) → TargetFound
+abbrev pub target_range : Context → Place → List (List ℕ) → TargetFound
 target_range d p [] = record { refusals = []; aims = [] }
 target_range d p (name ∷ names) = targets_both (target_name d p p name) (target_range d p names)
 
 -- what is found of a member of a target
 abbrev mutual
-  pub target_member : Design → Tree → TargetFound
+  pub target_member : Context → Tree → TargetFound
   target_member d (ANumber n) = no_target (NotAnOutput n.place None)
   target_member d (ASpecial letter p) = no_target (MisplacedSpecial p)
   target_member d (AName word None) = target_name d word.place word.place word.text
@@ -86,11 +86,11 @@ abbrev mutual
   target_member d (AUnary sign p t) = no_target (NotAnOutput p None)
   target_member d (ABinary sign p t u) = no_target (NotAnOutput (first_place t) (first_name d.names t))
 
-  pub target_members : Design → Members → TargetFound
+  pub target_members : Context → Members → TargetFound
   target_members d NoMember = record { refusals = []; aims = [] }
   target_members d (MoreMembers m ms) = targets_both (target_one d m) (target_members d ms)
 
-  pub target_one : Design → SetMember → TargetFound
+  pub target_one : Context → SetMember → TargetFound
   target_one d (OneMember t) = target_member d t
   target_one d (SpanMember first last) = target_range d first.place (range_names first.text last.text)
 
@@ -106,11 +106,11 @@ is_itself (Some n) t = is_only n (some_signals (targets_of t))
 
 -- where the signals of a side stand that is a name, with or without `!`: a signal where the side begins, and what a
 -- constant brings at the constant's name
-abbrev pub start_of : Design → (begin : Place) → Word → Place
+abbrev pub start_of : Context → (begin : Place) → Word → Place
 start_of d p word = if is_itself (find d.names word.text) (term_named d.known word.text) then p else word.place
 
 -- what is found of the left side of an assignment, which begins at this place and has its extension outside
-abbrev pub left_side : Design → Place → Tree → TargetFound
+abbrev pub left_side : Context → Place → Tree → TargetFound
 left_side d p (AName word e) = target_name d word.place (start_of d p word) word.text
 left_side d p (ASet q ms e) = target_set q (target_members d ms)
 left_side d p t = target_member d t

@@ -1,16 +1,15 @@
 //! The signals that names stand for as targets.
 
 ghost use Rattle.std.specs.Prelude.{◌≡◌, ◌==◌, ◌<◌, ℕ, Bool, List, [], ◌∷◌, ◌++◌, ◌&&◌, true, false, IfOk, slice_get};
-ghost use Rattle.abel_tree.specs.Entries.{Entry};
+ghost use Rattle.abel_tree.specs.Entries.{entries_of};
 ghost use Rattle.abel_meaning.specs.Targets.{targets_of, some_signals};
 ghost use Rattle.abel_meaning.specs.Terms.{Term, Known, term_named, extended_if};
-ghost use Rattle.set_expr.specs.KnownNames.{IsKnown};
 ghost use Rattle.section_targets.specs.NamedTargets.{AreSignals, IsOfTerm, IsAt, StandFor};
 ghost use Rattle.section_targets.specs.TargetSignals.{is_only, names_signals};
 
 use abel_tree::Extension;
 use pld_base::{ListOf, OutOfMemory};
-use set_expr::KnownNames;
+use set_expr::Scope;
 use std::alloc::Global;
 
 /// The signals that a name stands for, from the left, and whether it stands for nothing else. `width` counts them,
@@ -104,13 +103,13 @@ impl NamedSignals {
     /// With those of the name with this text, of these names; what isn't one of them is a number.
     pub(crate) fn with_name(
         self,
-        known: &KnownNames,
+        scope: &Scope<'_>,
         named: &[NamedSignals],
         text: &[u8],
     ) -> Result<NamedSignals, OutOfMemory>
-        ensures { IfOk result (λ n. (count : ℕ) (es : List Entry) (ks : List Known) (xs : List ℕ) (b : Bool) → IsKnown es known.now → StandFor count es named.now ks → AreSignals count self xs b → AreSignals count n (xs ++ some_signals (targets_of (term_named ks text.now))) (b && names_signals (term_named ks text.now))) }
+        ensures { IfOk result (λ n. (count : ℕ) (ks : List Known) (xs : List ℕ) (b : Bool) → StandFor count (entries_of scope.now) named.now ks → AreSignals count self xs b → AreSignals count n (xs ++ some_signals (targets_of (term_named ks text.now))) (b && names_signals (term_named ks text.now))) }
     {
-        match known.get(text) {
+        match scope.get(text) {
             None => Ok(self.mixed()),
             Some(name) => self.with_number(named, name.number as usize),
         }

@@ -1,37 +1,31 @@
 //! The signals of all names of a source, made once for all its targets.
 
 ghost use Rattle.std.specs.Prelude.{◌≡◌, ◌+◌, ◌<◌, ℕ, Bool, List, [], ◌∷◌, ◌++◌, ◌&&◌, IfOk, length};
-ghost use Rattle.abel_tree.specs.Entries.{Entry, entries_of, view_meaning};
+ghost use Rattle.abel_tree.specs.Entries.{entries_of, view_meaning};
 ghost use Rattle.abel_tree.specs.Ranges.{range_names};
 ghost use Rattle.abel_tree.specs.View.{view, view_member};
-ghost use Rattle.abel_meaning.specs.Targets.{targets_of, some_signals, all_targets};
+ghost use Rattle.abel_meaning.specs.Targets.{some_signals, all_targets};
 ghost use Rattle.abel_meaning.specs.Terms.{Known, term_of, term_meant, known_of, named_before, member_before};
 ghost use Rattle.abel_meaning.specs.Terms as term;
-ghost use Rattle.set_expr.specs.KnownNames.{IsKnown};
 ghost use Rattle.section_targets.specs.NamedTargets.{AreSignals, IsOfTerm, StandFor};
-ghost use Rattle.section_targets.specs.TargetSignals.{names_signals, all_name_signals};
+ghost use Rattle.section_targets.specs.TargetSignals.{all_name_signals};
 
 use crate::named::NamedSignals;
-use abel_tree::{Declared, Expr, Meaning, Member, Names, Word};
+use abel_tree::{Expr, Meaning, Member, Word};
 use name_ranges::range_list;
 use pld_base::{ListOf, OutOfMemory};
-use set_expr::KnownNames;
+use set_expr::Scope;
 use std::alloc::Global;
 
 /// The signals that each name of a source stands for, in the order of the names: a signal itself, and a constant the
 /// signals of its set.
-pub fn target_names(
-    alloc: Global,
-    names: &Names,
-    known: &KnownNames,
-) -> Result<ListOf<NamedSignals>, OutOfMemory>
-    requires known { IsKnown (entries_of names.now) known.now }
-    ensures { IfOk result (λ named. StandFor (length (entries_of names.now)) (entries_of names.now) named (known_of (entries_of names.now))) }
+pub fn target_names(alloc: Global, scope: &Scope<'_>) -> Result<ListOf<NamedSignals>, OutOfMemory>
+    ensures { IfOk result (λ named. StandFor (length (entries_of scope.now)) (entries_of scope.now) named (known_of (entries_of scope.now))) }
 {
     let mut named = Vec::new(alloc);
     let mut number = 0u32;
-    for declared in names.list.as_slice() {
-        let signals = named_meaning(alloc, known, named.as_slice(), &declared.meaning, number)?;
+    for declared in scope.list() {
+        let signals = named_meaning(alloc, scope, named.as_slice(), &declared.meaning, number)?;
         named.push(signals)?;
         number = next(number)?;
     }
@@ -51,17 +45,17 @@ fn next(number: u32) -> Result<u32, OutOfMemory>
 /// The signals of the name with this number, by those of the names before it.
 fn named_meaning(
     alloc: Global,
-    known: &KnownNames,
+    scope: &Scope<'_>,
     named: &[NamedSignals],
     meaning: &Meaning,
     number: u32,
 ) -> Result<NamedSignals, OutOfMemory>
-    ensures { IfOk result (λ n. (count : ℕ) (es : List Entry) (ks : List Known) → number < count → IsKnown es known.now → StandFor count es named.now ks → IsOfTerm count n (term_meant ks number (view_meaning meaning.now))) }
+    ensures { IfOk result (λ n. (count : ℕ) (ks : List Known) → number < count → StandFor count (entries_of scope.now) named.now ks → IsOfTerm count n (term_meant ks number (view_meaning meaning.now))) }
 {
     match meaning {
         Meaning::Pin { pin: _, negated: _ } => NamedSignals::one(alloc, number),
         Meaning::Node(_) => NamedSignals::one(alloc, number),
-        Meaning::Constant(expr) => named_expr(alloc, known, named, expr),
+        Meaning::Constant(expr) => named_expr(alloc, scope, named, expr),
         Meaning::DeviceName => Ok(NamedSignals::none(alloc, false)),
     }
 }
@@ -70,16 +64,16 @@ fn named_meaning(
 #[cycle(naming)]
 fn named_expr(
     alloc: Global,
-    known: &KnownNames,
+    scope: &Scope<'_>,
     named: &[NamedSignals],
     expr: &Expr,
 ) -> Result<NamedSignals, OutOfMemory>
-    ensures { IfOk result (λ n. (count : ℕ) (es : List Entry) (ks : List Known) → IsKnown es known.now → StandFor count es named.now ks → IsOfTerm count n (term_of ks (view expr.now))) }
+    ensures { IfOk result (λ n. (count : ℕ) (ks : List Known) → StandFor count (entries_of scope.now) named.now ks → IsOfTerm count n (term_of ks (view expr.now))) }
 {
     match expr {
         Expr::Name { word, extension } => {
             let none = NamedSignals::none(alloc, true);
-            let signals = none.with_name(known, named, word.text.bytes())?;
+            let signals = none.with_name(scope, named, word.text.bytes())?;
             Ok(signals.extended(*extension))
         }
         Expr::Set {
@@ -89,11 +83,11 @@ fn named_expr(
         } => {
             let mut signals = NamedSignals::none(alloc, true);
             for member in members.as_slice() {
-                signals = named_member(alloc, known, named, member, signals)?;
+                signals = named_member(alloc, scope, named, member, signals)?;
             }
             Ok(signals.extended(*extension))
         }
-        Expr::Paren { place: _, inner } => named_expr(alloc, known, named, inner.get()),
+        Expr::Paren { place: _, inner } => named_expr(alloc, scope, named, inner.get()),
         Expr::Number(_) => Ok(NamedSignals::none(alloc, false)),
         Expr::Special {
             letter: _,
@@ -117,37 +111,37 @@ fn named_expr(
 #[cycle(naming)]
 fn named_member(
     alloc: Global,
-    known: &KnownNames,
+    scope: &Scope<'_>,
     named: &[NamedSignals],
     member: &Member,
     before: NamedSignals,
 ) -> Result<NamedSignals, OutOfMemory>
-    ensures { IfOk result (λ n. (count : ℕ) (es : List Entry) (ks : List Known) (xs : List ℕ) (b : Bool) → IsKnown es known.now → StandFor count es named.now ks → AreSignals count before xs b → AreSignals count n (xs ++ some_signals (all_targets (member_before ks (view_member member.now) term.NoTerm))) (b && all_name_signals (member_before ks (view_member member.now) term.NoTerm))) }
+    ensures { IfOk result (λ n. (count : ℕ) (ks : List Known) (xs : List ℕ) (b : Bool) → StandFor count (entries_of scope.now) named.now ks → AreSignals count before xs b → AreSignals count n (xs ++ some_signals (all_targets (member_before ks (view_member member.now) term.NoTerm))) (b && all_name_signals (member_before ks (view_member member.now) term.NoTerm))) }
 {
     match member {
         Member::One(expr) => {
-            let signals = named_expr(alloc, known, named, expr)?;
+            let signals = named_expr(alloc, scope, named, expr)?;
             before.with(&signals)
         }
-        Member::Span { first, last } => named_range(alloc, known, named, first, last, before),
+        Member::Span { first, last } => named_range(alloc, scope, named, first, last, before),
     }
 }
 
 /// The names of a range more.
 fn named_range(
     alloc: Global,
-    known: &KnownNames,
+    scope: &Scope<'_>,
     named: &[NamedSignals],
     first: &Word,
     last: &Word,
     before: NamedSignals,
 ) -> Result<NamedSignals, OutOfMemory>
-    ensures { IfOk result (λ n. (count : ℕ) (es : List Entry) (ks : List Known) (xs : List ℕ) (b : Bool) → IsKnown es known.now → StandFor count es named.now ks → AreSignals count before xs b → AreSignals count n (xs ++ some_signals (all_targets (named_before ks (range_names first.now.text last.now.text) term.NoTerm))) (b && all_name_signals (named_before ks (range_names first.now.text last.now.text) term.NoTerm))) }
+    ensures { IfOk result (λ n. (count : ℕ) (ks : List Known) (xs : List ℕ) (b : Bool) → StandFor count (entries_of scope.now) named.now ks → AreSignals count before xs b → AreSignals count n (xs ++ some_signals (all_targets (named_before ks (range_names first.now.text last.now.text) term.NoTerm))) (b && all_name_signals (named_before ks (range_names first.now.text last.now.text) term.NoTerm))) }
 {
     let names = range_list(alloc, first.text.bytes(), last.text.bytes())?;
     let mut signals = before;
     for name in &names {
-        signals = signals.with_name(known, named, name.as_slice())?;
+        signals = signals.with_name(scope, named, name.as_slice())?;
     }
     Ok(signals)
 }

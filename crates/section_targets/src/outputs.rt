@@ -3,8 +3,8 @@
 ghost use Rattle.std.specs.Prelude.{◌≡◌, List, ◌++◌, length, map, IfOk, OnOk};
 ghost use Rattle.abel_tree.specs.Entries.{entries_of, has, view_meaning, view_declared};
 ghost use Rattle.abel_tree.specs.FirstRefusal.{first_refusal};
-ghost use Rattle.abel_meaning.specs.Designs.{Design};
-ghost use Rattle.set_expr.specs.Answer.{IsDesignOf};
+ghost use Rattle.abel_meaning.specs.Designs.{Context};
+ghost use Rattle.set_expr.specs.Answer.{IsContextOf};
 ghost use Rattle.set_expr.specs.SectionOrder.{section_order};
 ghost use Rattle.section_targets.specs.Manners.{is_cell_pin, is_output_kind, is_output, no_output, mixed, is_against_kind, differs_from, manner_of, aims_refused, AreFirsts};
 ghost use Rattle.section_targets.specs.declared.manner.Manner.{Manner};
@@ -13,11 +13,11 @@ ghost use Rattle.section_targets.specs.Given.{AreNamed};
 use crate::aim::Aim;
 use crate::assigned::Assigned;
 use crate::manner::{Manner, names_data, takes_values};
-use abel_tree::{Attributes, Declared, Extension, Meaning, Names};
+use abel_tree::{Attributes, Declared, Extension, Meaning};
 use bitflags::Flags;
 use pld_base::{OutOfMemory, Place};
 use pld_device::Device;
-use set_expr::{SectionFault, earlier};
+use set_expr::{Scope, SectionFault, earlier};
 
 /// Whether a cell of the device has this pin.
 fn has_cell<D: Device>(pin: u8) -> bool
@@ -130,15 +130,15 @@ fn refuse_aim<D: Device>(
 /// Checks the signals of a target, what an extension names of them or of their complement, on the clock or not,
 /// against what was assigned before, and notes how they are assigned. The first refusal by place comes.
 pub fn check_aims<D: Device>(
-    names: &Names,
+    scope: &Scope<'_>,
     extension: Option<Extension>,
     complement: bool,
     clocked: bool,
     aims: &[Aim],
     before: &mut Assigned,
 ) -> Result<Option<SectionFault>, OutOfMemory>
-    requires { AreNamed (length (entries_of names.now)) aims.now }
-    ensures fault { IfOk result (λ f. (d : Design) (all : List Manner) → IsDesignOf D.table names.now d → AreFirsts before.old all → f ≡ first_refusal section_order (aims_refused d all extension complement clocked aims.now)) }
+    requires { AreNamed (length (entries_of scope.now)) aims.now }
+    ensures fault { IfOk result (λ f. (d : Context) (all : List Manner) → IsContextOf D.table scope.now d → AreFirsts before.old all → f ≡ first_refusal section_order (aims_refused d all extension complement clocked aims.now)) }
     ensures before { OnOk result ((all : List Manner) → AreFirsts before.old all → AreFirsts before.new (all ++ map (manner_of extension complement clocked) aims.now)) }
 {
     let mut fault = None;
@@ -149,7 +149,7 @@ pub fn check_aims<D: Device>(
             complement,
             clocked,
         };
-        let declared = &names.list.as_slice()[aim.signal as usize];
+        let declared = &scope.list()[aim.signal as usize];
         fault = earlier(fault, refuse_aim::<D>(before, declared, aim.place, manner));
         before.note(manner)?;
     }

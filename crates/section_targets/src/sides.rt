@@ -1,12 +1,11 @@
 //! The signals of targets with their places, and what is no target.
 
 ghost use Rattle.std.specs.Prelude.{◌≡◌, ℕ, Bool, min, if◌then◌else◌, List, [], ◌∷◌, IfOk, length};
-ghost use Rattle.abel_tree.specs.Entries.{Entry, find};
+ghost use Rattle.abel_tree.specs.Entries.{entries_of, find};
 ghost use Rattle.abel_tree.specs.FirstRefusal.{first_refusal};
-ghost use Rattle.abel_meaning.specs.Designs.{Design};
+ghost use Rattle.abel_meaning.specs.Designs.{Context};
 ghost use Rattle.set_expr.specs.declared.fault.SectionFault.TheVariants.{NotAnOutput};
 ghost use Rattle.set_expr.specs.Refusals.{too_wide};
-ghost use Rattle.set_expr.specs.KnownNames.{IsKnown};
 ghost use Rattle.set_expr.specs.SectionOrder.{section_order};
 ghost use Rattle.section_targets.specs.NamedTargets.{AreSignals, IsSide, AreTargets};
 ghost use Rattle.section_targets.specs.TargetSignals.{TargetFound, aims_at, no_target, targets_both, target_set, target_name};
@@ -14,7 +13,7 @@ ghost use Rattle.section_targets.specs.TargetSignals.{TargetFound, aims_at, no_t
 use crate::aim::Aim;
 use crate::named::NamedSignals;
 use pld_base::{ListOf, OutOfMemory, Place};
-use set_expr::{KnownNames, SectionFault, check_name, earlier};
+use set_expr::{Scope, SectionFault, earlier};
 use std::alloc::Global;
 
 /// What is found of a target: its first refusal, and its signals from the left. `width` counts them, 255 where there
@@ -27,10 +26,10 @@ pub struct Side {
 }
 
 /// The number of the name with this text, None where it is not declared. Takes no memory.
-pub fn number_of(known: &KnownNames, text: &[u8]) -> Option<u32>
-    ensures { (es : List Entry) → IsKnown es known.now → result ≡ find es text.now }
+pub fn number_of(scope: &Scope<'_>, text: &[u8]) -> Option<u32>
+    ensures { result ≡ find (entries_of scope.now) text.now }
 {
-    match known.get(text) {
+    match scope.get(text) {
         None => None,
         Some(name) => Some(name.number),
     }
@@ -113,18 +112,18 @@ impl Side {
     /// The name with this text, used at a place, where its signals stand at another.
     pub(crate) fn of_name(
         alloc: Global,
-        known: &KnownNames,
+        scope: &Scope<'_>,
         named: &[NamedSignals],
         text: &[u8],
         place: Place,
         signal_place: Place,
     ) -> Result<Side, OutOfMemory>
-        ensures { IfOk result (λ s. (d : Design) → IsKnown d.names known.now → AreTargets d named.now → IsSide (length d.names) s (target_name d place signal_place text.now)) }
+        ensures { IfOk result (λ s. (d : Context) → d.names ≡ entries_of scope.now → AreTargets d named.now → IsSide (length d.names) s (target_name d place signal_place text.now)) }
     {
-        let found = check_name(known, text, place);
+        let found = scope.check_name(text, place);
         let none = NamedSignals::none(alloc, true);
-        let signals = none.with_name(known, named, text)?;
-        let mixed = refuse_mixed(signals.alone, signal_place, number_of(known, text));
+        let signals = none.with_name(scope, named, text)?;
+        let mixed = refuse_mixed(signals.alone, signal_place, number_of(scope, text));
         let fault = earlier(found.fault, earlier(found.special, mixed));
         Side::named(alloc, &signals, fault, signal_place)
     }

@@ -1,15 +1,14 @@
 //! The walk of a target.
 
-ghost use Rattle.std.specs.Prelude.{◌≡◌, List, IfOk, length, map};
-ghost use Rattle.abel_tree.specs.Entries.{Entry, find};
+ghost use Rattle.std.specs.Prelude.{◌≡◌, IfOk, length, map};
+ghost use Rattle.abel_tree.specs.Entries.{entries_of, find};
 ghost use Rattle.abel_meaning.specs.Terms.{term_named};
 ghost use Rattle.abel_tree.specs.Ranges.{range_names};
 ghost use Rattle.abel_tree.specs.Tree.{AName, members_of};
 ghost use Rattle.abel_tree.specs.View.{view, view_member};
-ghost use Rattle.abel_meaning.specs.Designs.{Design};
+ghost use Rattle.abel_meaning.specs.Designs.{Context};
 ghost use Rattle.set_expr.specs.declared.fault.SectionFault.TheVariants.{NotAnOutput};
 ghost use Rattle.set_expr.specs.Answer.{first_place};
-ghost use Rattle.set_expr.specs.KnownNames.{IsKnown};
 ghost use Rattle.section_targets.specs.NamedTargets.{IsSide, AreTargets};
 ghost use Rattle.section_targets.specs.TargetSignals.{TargetFound, targets_both, target_range, target_one, target_member, target_members, target_set, left_side, first_name, is_itself, start_of};
 
@@ -18,14 +17,14 @@ use crate::sides::{Side, number_of};
 use abel_tree::{Expr, Extension, Member, Word};
 use name_ranges::range_list;
 use pld_base::{OutOfMemory, Place};
-use set_expr::{KnownNames, SectionFault};
+use set_expr::{Scope, SectionFault};
 use std::alloc::Global;
 
 /// Whether the name with this text stands for itself, as a signal's does, and no constant's.
-fn names_itself(known: &KnownNames, named: &[NamedSignals], text: &[u8]) -> bool
-    ensures { (d : Design) → IsKnown d.names known.now → AreTargets d named.now → result ≡ is_itself (find d.names text.now) (term_named d.known text.now) }
+fn names_itself(scope: &Scope<'_>, named: &[NamedSignals], text: &[u8]) -> bool
+    ensures { (d : Context) → d.names ≡ entries_of scope.now → AreTargets d named.now → result ≡ is_itself (find d.names text.now) (term_named d.known text.now) }
 {
-    match number_of(known, text) {
+    match number_of(scope, text) {
         None => false,
         Some(number) => is_itself(named, number),
     }
@@ -33,10 +32,10 @@ fn names_itself(known: &KnownNames, named: &[NamedSignals], text: &[u8]) -> bool
 
 /// Where the signals of a side stand that is a name, with or without `!` before it: a signal where the side begins, and
 /// what a constant brings at the constant's name.
-fn start_of(known: &KnownNames, named: &[NamedSignals], word: &Word, begin: Place) -> Place
-    ensures { (d : Design) → IsKnown d.names known.now → AreTargets d named.now → result ≡ start_of d begin word.now }
+fn start_of(scope: &Scope<'_>, named: &[NamedSignals], word: &Word, begin: Place) -> Place
+    ensures { (d : Context) → d.names ≡ entries_of scope.now → AreTargets d named.now → result ≡ start_of d begin word.now }
 {
-    if names_itself(known, named, word.text.bytes()) {
+    if names_itself(scope, named, word.text.bytes()) {
         begin
     } else {
         word.place
@@ -47,30 +46,30 @@ fn start_of(known: &KnownNames, named: &[NamedSignals], word: &Word, begin: Plac
 /// refusal. Calls go as deep as the nestings of sets and parentheses.
 pub fn left_side(
     alloc: Global,
-    known: &KnownNames,
+    scope: &Scope<'_>,
     named: &[NamedSignals],
     place: Place,
     target: &Expr,
 ) -> Result<Side, OutOfMemory>
-    ensures { IfOk result (λ s. (d : Design) → IsKnown d.names known.now → AreTargets d named.now → IsSide (length d.names) s (left_side d place (view target.now))) }
+    ensures { IfOk result (λ s. (d : Context) → d.names ≡ entries_of scope.now → AreTargets d named.now → IsSide (length d.names) s (left_side d place (view target.now))) }
 {
     match target {
         Expr::Name { word, extension: _ } => {
-            let at = start_of(known, named, word, place);
-            Side::of_name(alloc, known, named, word.text.bytes(), word.place, at)
+            let at = start_of(scope, named, word, place);
+            Side::of_name(alloc, scope, named, word.text.bytes(), word.place, at)
         }
         Expr::Set {
             place: bracket,
             members,
             extension: _,
-        } => set_side(alloc, known, named, members.as_slice(), *bracket),
-        _ => member_side(alloc, known, named, target),
+        } => set_side(alloc, scope, named, members.as_slice(), *bracket),
+        _ => member_side(alloc, scope, named, target),
     }
 }
 
 /// What is no name, in a target or header: refused as no output where it begins. Takes no memory.
-pub fn refuse_operator(known: &KnownNames, expr: &Expr) -> SectionFault
-    ensures { (es : List Entry) → IsKnown es known.now → result ≡ NotAnOutput (first_place (view expr.now)) (first_name es (view expr.now)) }
+pub fn refuse_operator(scope: &Scope<'_>, expr: &Expr) -> SectionFault
+    ensures { result ≡ NotAnOutput (first_place (view expr.now)) (first_name (entries_of scope.now) (view expr.now)) }
 {
     let mut first = expr;
     loop {
@@ -82,7 +81,7 @@ pub fn refuse_operator(known: &KnownNames, expr: &Expr) -> SectionFault
                 right: _,
             } => first = left.get(),
             Expr::Name { word, extension: _ } => {
-                return SectionFault::NotAnOutput(word.place, number_of(known, word.text.bytes()));
+                return SectionFault::NotAnOutput(word.place, number_of(scope, word.text.bytes()));
             }
             Expr::Number(number) => return SectionFault::NotAnOutput(number.place, None),
             Expr::Special { letter: _, place } => return SectionFault::NotAnOutput(*place, None),
@@ -104,18 +103,18 @@ pub fn refuse_operator(known: &KnownNames, expr: &Expr) -> SectionFault
 /// A name in a set, which has no extension.
 fn name_side(
     alloc: Global,
-    known: &KnownNames,
+    scope: &Scope<'_>,
     named: &[NamedSignals],
     word: &Word,
     extension: Option<Extension>,
 ) -> Result<Side, OutOfMemory>
-    ensures { IfOk result (λ s. (d : Design) → IsKnown d.names known.now → AreTargets d named.now → IsSide (length d.names) s (target_member d (AName word.now extension))) }
+    ensures { IfOk result (λ s. (d : Context) → d.names ≡ entries_of scope.now → AreTargets d named.now → IsSide (length d.names) s (target_member d (AName word.now extension))) }
 {
     let text = word.text.bytes();
     match extension {
-        None => Side::of_name(alloc, known, named, text, word.place, word.place),
+        None => Side::of_name(alloc, scope, named, text, word.place, word.place),
         Some(_) => {
-            let fault = SectionFault::NotAnOutput(word.place, number_of(known, text));
+            let fault = SectionFault::NotAnOutput(word.place, number_of(scope, text));
             Ok(Side::refused(alloc, fault))
         }
     }
@@ -125,16 +124,16 @@ fn name_side(
 #[cycle(siding)]
 fn set_side(
     alloc: Global,
-    known: &KnownNames,
+    scope: &Scope<'_>,
     named: &[NamedSignals],
     members: &[Member],
     place: Place,
 ) -> Result<Side, OutOfMemory>
-    ensures { IfOk result (λ s. (d : Design) → IsKnown d.names known.now → AreTargets d named.now → IsSide (length d.names) s (target_set place (target_members d (members_of (map view_member members.now))))) }
+    ensures { IfOk result (λ s. (d : Context) → d.names ≡ entries_of scope.now → AreTargets d named.now → IsSide (length d.names) s (target_set place (target_members d (members_of (map view_member members.now))))) }
 {
     let mut side = Side::none(alloc);
     for member in members {
-        side = with_member(alloc, known, named, member, side)?;
+        side = with_member(alloc, scope, named, member, side)?;
     }
     Ok(side.as_set(place))
 }
@@ -143,38 +142,38 @@ fn set_side(
 #[cycle(siding)]
 fn with_member(
     alloc: Global,
-    known: &KnownNames,
+    scope: &Scope<'_>,
     named: &[NamedSignals],
     member: &Member,
     before: Side,
 ) -> Result<Side, OutOfMemory>
-    ensures { IfOk result (λ s. (d : Design) (x : TargetFound) → IsKnown d.names known.now → AreTargets d named.now → IsSide (length d.names) before x → IsSide (length d.names) s (targets_both x (target_one d (view_member member.now)))) }
+    ensures { IfOk result (λ s. (d : Context) (x : TargetFound) → d.names ≡ entries_of scope.now → AreTargets d named.now → IsSide (length d.names) before x → IsSide (length d.names) s (targets_both x (target_one d (view_member member.now)))) }
 {
     match member {
         Member::One(expr) => {
-            let side = member_side(alloc, known, named, expr)?;
+            let side = member_side(alloc, scope, named, expr)?;
             before.with(&side)
         }
-        Member::Span { first, last } => with_range(alloc, known, named, first, last, before),
+        Member::Span { first, last } => with_range(alloc, scope, named, first, last, before),
     }
 }
 
 /// The names of a range more, which all stand at its first end.
 fn with_range(
     alloc: Global,
-    known: &KnownNames,
+    scope: &Scope<'_>,
     named: &[NamedSignals],
     first: &Word,
     last: &Word,
     before: Side,
 ) -> Result<Side, OutOfMemory>
-    ensures { IfOk result (λ s. (d : Design) (x : TargetFound) → IsKnown d.names known.now → AreTargets d named.now → IsSide (length d.names) before x → IsSide (length d.names) s (targets_both x (target_range d first.now.place (range_names first.now.text last.now.text)))) }
+    ensures { IfOk result (λ s. (d : Context) (x : TargetFound) → d.names ≡ entries_of scope.now → AreTargets d named.now → IsSide (length d.names) before x → IsSide (length d.names) s (targets_both x (target_range d first.now.place (range_names first.now.text last.now.text)))) }
 {
     let names = range_list(alloc, first.text.bytes(), last.text.bytes())?;
     let mut side = before;
     for name in &names {
         let place = first.place;
-        let one = Side::of_name(alloc, known, named, name.as_slice(), place, place)?;
+        let one = Side::of_name(alloc, scope, named, name.as_slice(), place, place)?;
         side = side.with(&one)?;
     }
     Ok(side)
@@ -185,11 +184,11 @@ fn with_range(
 #[cycle(siding)]
 pub fn member_side(
     alloc: Global,
-    known: &KnownNames,
+    scope: &Scope<'_>,
     named: &[NamedSignals],
     expr: &Expr,
 ) -> Result<Side, OutOfMemory>
-    ensures { IfOk result (λ s. (d : Design) → IsKnown d.names known.now → AreTargets d named.now → IsSide (length d.names) s (target_member d (view expr.now))) }
+    ensures { IfOk result (λ s. (d : Context) → d.names ≡ entries_of scope.now → AreTargets d named.now → IsSide (length d.names) s (target_member d (view expr.now))) }
 {
     match expr {
         Expr::Number(number) => Ok(Side::refused(
@@ -199,16 +198,16 @@ pub fn member_side(
         Expr::Special { letter: _, place } => {
             Ok(Side::refused(alloc, SectionFault::MisplacedSpecial(*place)))
         }
-        Expr::Name { word, extension } => name_side(alloc, known, named, word, *extension),
+        Expr::Name { word, extension } => name_side(alloc, scope, named, word, *extension),
         Expr::Set {
             place,
             members,
             extension,
         } => match extension {
             Some(_) => Ok(Side::refused(alloc, SectionFault::NotAnOutput(*place, None))),
-            None => set_side(alloc, known, named, members.as_slice(), *place),
+            None => set_side(alloc, scope, named, members.as_slice(), *place),
         },
-        Expr::Paren { place: _, inner } => member_side(alloc, known, named, inner.get()),
+        Expr::Paren { place: _, inner } => member_side(alloc, scope, named, inner.get()),
         Expr::Unary {
             sign: _,
             place,
@@ -219,6 +218,6 @@ pub fn member_side(
             place: _,
             left: _,
             right: _,
-        } => Ok(Side::refused(alloc, refuse_operator(known, expr))),
+        } => Ok(Side::refused(alloc, refuse_operator(scope, expr))),
     }
 }

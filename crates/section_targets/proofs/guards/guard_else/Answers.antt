@@ -1,9 +1,8 @@
 -- Two nodes of one unit, the second over the first.
-use Rattle.std.proofs.Common.{◌≡◌, [], ◌∷◌, Ok, Err, ap₂, ◌∙◌, subst₂}
+use Rattle.std.proofs.Common.{[], ◌∷◌, Ok, Err, ap₂, ◌∙◌, subst₂}
 use Rattle.std.proofs.lemmas.Result.{err_from_is_err_and}
 use Rattle.bit_expr.specs.declared.node.ExprId.{ExprId}
-use Rattle.bit_expr.specs.Arena.{arena, formula_at}
-use Rattle.bit_expr.specs.Folding.{make_not, make_and}
+use Rattle.bit_expr.specs.Folding.{make_and}
 use Rattle.section_targets.specs.Building.{IsBuilt, Builds}
 use Rattle.section_targets.specs.Units.{part}
 use Rattle.section_targets.proofs.Built.{kept_formula, kept_inside}

@@ -17,24 +17,24 @@ use Rattle.section_targets.proofs.naming.+naming.Goals as goal
 pub named_member-returns-in_ok-signals-in-One : goal.named_member-returns-in_ok-signals-in-One
 named_member-returns-in_ok-signals-in-One t c =
     IfOk-weaker c.with.result _ _
-    (λ n f count es ks xs b k h s.
+    (λ n f count ks xs b h s.
     subst (λ m. AreSignals count n (xs ++ some_signals (all_targets (member_before ks m term.NoTerm))) (b && all_name_signals (member_before ks m term.NoTerm))) (sym (ap view_member c.in-One.is ∙ view_one c.in-One.expr))
-    (one_member count n xs b (term_of ks (view c.in-One.expr)) (f count xs _ b _ s (c.in_ok-signals-in-One.ensures count es ks k h))))
+    (one_member count n xs b (term_of ks (view c.in-One.expr)) (f count xs _ b _ s (c.in_ok-signals-in-One.ensures count ks h))))
     c.with.ensures
 
 pub named_member-returns-in-Span : goal.named_member-returns-in-Span
 named_member-returns-in-Span t c =
     IfOk-weaker c.named_range.result _ _
-    (λ n f count es ks xs b k h s.
+    (λ n f count ks xs b h s.
     subst (λ m. AreSignals count n (xs ++ some_signals (all_targets (member_before ks m term.NoTerm))) (b && all_name_signals (member_before ks m term.NoTerm))) (sym (ap view_member c.in-Span.is ∙ view_span c.in-Span.first c.in-Span.last))
-    (f count es ks xs b k h s))
+    (f count ks xs b h s))
     c.named_range.ensures
 
 pub named_expr-loop-member-init : goal.named_expr-loop-member-init
-named_expr-loop-member-init t c count es ks k h = c.none-signals.ensures count
+named_expr-loop-member-init t c count ks h = c.none-signals.ensures count
 
 pub named_expr-loop-member-preserved : goal.named_expr-loop-member-preserved
-named_expr-loop-member-preserved t c count es ks k h =
+named_expr-loop-member-preserved t c count ks h =
     let ms = c.as_slice-member-items.result.now in
     let i = c.loop-member.member-index in
     let n = c.in_ok-signals-in-Set.signals in
@@ -42,45 +42,45 @@ named_expr-loop-member-preserved t c count es ks k h =
     let here : map view_member (take (i + 1) ms) ≡ before ++ view_member c.member-item.result ∷ [] = front_more view_member ms i c.member-item.result c.loop-member-test.true c.member-item.is in
     let all = terms_of ks (members_of before) in
     let one = member_before ks (view_member c.member-item.result) term.NoTerm in
-    let more = c.in_ok-signals-in-Set.ensures count es ks _ _ k h (c.loop-member.invariant count es ks k h) in
+    let more = c.in_ok-signals-in-Set.ensures count ks _ _ h (c.loop-member.invariant count ks h) in
     subst₂ (AreSignals count n)
     (sym (ap (λ xs. some_signals (all_targets (terms_of ks (members_of xs)))) here ∙ ap some_signals (targets_more ks before (view_member c.member-item.result)) ∙ some_append (all_targets all) (all_targets one)))
     (sym (ap (λ xs. all_name_signals (terms_of ks (members_of xs))) here ∙ alone_more ks before (view_member c.member-item.result)))
     more
 
 pub named_expr-returns-after-loop-member : goal.named_expr-returns-after-loop-member
-named_expr-returns-after-loop-member t c count es ks k h =
+named_expr-returns-after-loop-member t c count ks h =
     let ms = c.as_slice-member-items.result.now in
     let all : map view_member (take c.loop-member.member-index ms) ≡ map view_member c.in-Set.members = whole_front view_member ms c.loop-member.member-index c.loop-member-test.false ∙ ap (map view_member) c.as_slice-member-items.ensures in
     subst (λ e. IsOfTerm count c.extended-in-Set.result (term_of ks e)) (sym (ap view c.in-Set.is ∙ view_set c.in-Set.place c.in-Set.members c.in-Set.extension))
     (c.extended-in-Set.ensures count (term.Set (terms_of ks (members_of (map view_member c.in-Set.members))))
-    (subst (λ xs. AreSignals count c.loop-member.signals (some_signals (all_targets (terms_of ks (members_of xs)))) (all_name_signals (terms_of ks (members_of xs)))) all (c.loop-member.invariant count es ks k h)))
+    (subst (λ xs. AreSignals count c.loop-member.signals (some_signals (all_targets (terms_of ks (members_of xs)))) (all_name_signals (terms_of ks (members_of xs)))) all (c.loop-member.invariant count ks h)))
 
 pub named_expr-returns-in-Binary : goal.named_expr-returns-in-Binary
-named_expr-returns-in-Binary t c count es ks k h =
+named_expr-returns-in-Binary t c count ks h =
     subst (λ e. IsOfTerm count c.none-in-Binary.result (term_of ks e)) (sym (ap view c.in-Binary.is ∙ view_binary c.in-Binary.sign c.in-Binary.place c.in-Binary.left c.in-Binary.right)) (c.none-in-Binary.ensures count)
 
 pub named_expr-returns-in-Number : goal.named_expr-returns-in-Number
-named_expr-returns-in-Number t c count es ks k h =
+named_expr-returns-in-Number t c count ks h =
     subst (λ e. IsOfTerm count c.none.result (term_of ks e)) (sym (ap view c.in-Number.is ∙ view_number c.in-Number.field-0)) (c.none.ensures count)
 
 pub named_expr-returns-in-Unary : goal.named_expr-returns-in-Unary
-named_expr-returns-in-Unary t c count es ks k h =
+named_expr-returns-in-Unary t c count ks h =
     subst (λ e. IsOfTerm count c.none-in-Unary.result (term_of ks e)) (sym (ap view c.in-Unary.is ∙ view_unary c.in-Unary.sign c.in-Unary.place c.in-Unary.inner)) (c.none-in-Unary.ensures count)
 
 pub named_expr-returns-in-Special : goal.named_expr-returns-in-Special
-named_expr-returns-in-Special t c count es ks k h =
+named_expr-returns-in-Special t c count ks h =
     subst (λ e. IsOfTerm count c.none-in-Special.result (term_of ks e)) (sym (ap view c.in-Special.is ∙ view_special c.in-Special.letter c.in-Special.place)) (special_none count c.none-in-Special.result c.in-Special.letter (c.none-in-Special.ensures count))
 
 pub named_expr-returns-in-Paren : goal.named_expr-returns-in-Paren
 named_expr-returns-in-Paren t c =
     IfOk-weaker c.named_expr.result _ _
-    (λ n f count es ks k h.
-    subst (λ e. IsOfTerm count n (term_of ks e)) (sym (ap view c.in-Paren.is ∙ view_paren c.in-Paren.place c.in-Paren.inner ∙ ap (AParen c.in-Paren.place) (ap view (sym c.get.ensures)))) (f count es ks k h))
+    (λ n f count ks h.
+    subst (λ e. IsOfTerm count n (term_of ks e)) (sym (ap view c.in-Paren.is ∙ view_paren c.in-Paren.place c.in-Paren.inner ∙ ap (AParen c.in-Paren.place) (ap view (sym c.get.ensures)))) (f count ks h))
     c.named_expr.ensures
 
 pub named_expr-returns-in_ok-signals-in-Name : goal.named_expr-returns-in_ok-signals-in-Name
-named_expr-returns-in_ok-signals-in-Name t c count es ks k h =
+named_expr-returns-in_ok-signals-in-Name t c count ks h =
     subst (λ e. IsOfTerm count c.extended.result (term_of ks e)) (sym (ap view c.in-Name.is ∙ view_name c.in-Name.word c.in-Name.extension))
     (c.extended.ensures count (term_named ks c.in-Name.word.text)
-    (subst (λ w. IsOfTerm count c.in_ok-signals-in-Name.signals (term_named ks w)) c.bytes.ensures (c.in_ok-signals-in-Name.ensures count es ks [] true k h (c.none-none.ensures count))))
+    (subst (λ w. IsOfTerm count c.in_ok-signals-in-Name.signals (term_named ks w)) c.bytes.ensures (c.in_ok-signals-in-Name.ensures count ks [] true h (c.none-none.ensures count))))

@@ -1,4 +1,4 @@
-use Rattle.std.proofs.Common.{◌≡◌, sym, subst}
+use Rattle.std.proofs.Common.{sym, subst}
 use Rattle.std.proofs.lemmas.Result.{IfOk-weaker}
 use Rattle.abel_tree.specs.Entries.{view_meaning}
 use Rattle.abel_meaning.specs.Terms.{term_meant}
@@ -8,9 +8,9 @@ use Rattle.section_targets.proofs.naming.named_meaning.Goals as goal
 pub returns-in-Constant : goal.returns-in-Constant
 returns-in-Constant c =
     IfOk-weaker c.named_expr.result _ _
-    (λ n f count es ks lt k h. subst (λ m. IsOfTerm count n (term_meant ks c.args.number (view_meaning m))) (sym c.in-Constant.is) (f count es ks k h))
+    (λ n f count ks lt h. subst (λ m. IsOfTerm count n (term_meant ks c.args.number (view_meaning m))) (sym c.in-Constant.is) (f count ks h))
     c.named_expr.ensures
 
 pub returns-in-DeviceName : goal.returns-in-DeviceName
-returns-in-DeviceName c count es ks lt k h =
+returns-in-DeviceName c count ks lt h =
     subst (λ m. IsOfTerm count c.none.result (term_meant ks c.args.number (view_meaning m))) (sym c.in-DeviceName.is) (c.none.ensures count)

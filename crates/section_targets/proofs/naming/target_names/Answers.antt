@@ -1,9 +1,8 @@
 -- One name more, and all names.
-use Rattle.std.proofs.Common.{◌≡◌, ℕ, ◌+◌, ◌<◌, [], ◌∷◌, ◌++◌, map, take, drop, length, refl, sym, ap, subst, subst₂, ◌∙◌, arith, length-append}
+use Rattle.std.proofs.Common.{◌≡◌, ◌+◌, [], ◌∷◌, ◌++◌, map, take, drop, length, sym, ap, subst, subst₂, ◌∙◌, arith, length-append}
 use Rattle.std.proofs.lemmas.List.{map-append, take-append-drop, length-take-le, length-map}
-use Rattle.abel_tree.specs.Entries.{Entry, entries_of, view_declared}
+use Rattle.abel_tree.specs.Entries.{entries_of, view_declared}
 use Rattle.abel_meaning.specs.Terms.{known_of, term_meant}
-use Rattle.set_expr.specs.KnownNames.{IsKnown}
 use Rattle.set_expr.proofs.FoundMembers.{front_more, whole_front}
 use Rattle.section_targets.specs.NamedTargets.{AreOfTerms, IsOfTerm, StandFor}
 use Rattle.section_targets.proofs.NameTerms.{known_more, terms_push, stand_front, stand_all}
@@ -11,15 +10,15 @@ use Rattle.section_targets.proofs.naming.target_names.Goals as goal
 
 pub loop-declared-preserved : goal.loop-declared-preserved
 loop-declared-preserved c =
-    let ds = c.as_slice-declared-items.result.now in
+    let ds = c.list-declared-items.result.now in
     let i = c.loop-declared.declared-index in
     let d = c.declared-item.result in
     let es = map view_declared (take i ds) in
     let here : map view_declared (take (i + 1) ds) ≡ es ++ view_declared d ∷ [] = front_more view_declared ds i d c.loop-declared-test.true c.declared-item.is in
-    let split : es ++ map view_declared (drop i ds) ≡ entries_of c.args.names.now = sym (map-append view_declared (take i ds) (drop i ds)) ∙ ap (map view_declared) (take-append-drop i ds) ∙ ap (map view_declared) c.as_slice-declared-items.ensures in
+    let split : es ++ map view_declared (drop i ds) ≡ entries_of c.args.scope.now = sym (map-append view_declared (take i ds) (drop i ds)) ∙ ap (map view_declared) (take-append-drop i ds) ∙ ap (map view_declared) c.list-declared-items.ensures in
     let size : length es ≡ i = length-map (take i ds) view_declared ∙ length-take-le i ds (omega (arith, c.loop-declared-test.true)) in
-    let front : StandFor (length ds) (entries_of c.args.names.now) c.loop-declared.named.items (known_of es) = subst (λ xs. StandFor (length ds) xs c.loop-declared.named.items (known_of es)) split (stand_front (length ds) es (map view_declared (drop i ds)) c.loop-declared.named.items c.loop-declared.invariant.terms) in
-    let one = c.in_ok-signals.ensures (length ds) (entries_of c.args.names.now) (known_of es) (omega (arith, size, c.loop-declared.invariant.number, c.loop-declared-test.true)) c.requires.known (subst (λ ns. StandFor (length ds) (entries_of c.args.names.now) ns (known_of es)) (sym c.as_slice.ensures.value) front) in
+    let front : StandFor (length ds) (entries_of c.args.scope.now) c.loop-declared.named.items (known_of es) = subst (λ xs. StandFor (length ds) xs c.loop-declared.named.items (known_of es)) split (stand_front (length ds) es (map view_declared (drop i ds)) c.loop-declared.named.items c.loop-declared.invariant.terms) in
+    let one = c.in_ok-signals.ensures (length ds) (known_of es) (omega (arith, size, c.loop-declared.invariant.number, c.loop-declared-test.true)) (subst (λ ns. StandFor (length ds) (entries_of c.args.scope.now) ns (known_of es)) (sym c.as_slice.ensures.value) front) in
     record {
       terms = subst₂ (AreOfTerms (length ds)) (sym c.in_ok-push.ensures.items) (sym (ap known_of here ∙ known_more [] 0 es (view_declared d)))
           (terms_push (length ds) c.loop-declared.named.items (known_of es) c.in_ok-signals.signals _ c.loop-declared.invariant.terms (subst (λ n. IsOfTerm (length ds) c.in_ok-signals.signals (term_meant (known_of es) n (view_declared d).kind)) (omega (arith, c.loop-declared.invariant.number)) one));
@@ -28,8 +27,8 @@ loop-declared-preserved c =
 
 pub returns : goal.returns
 returns c =
-    let ds = c.as_slice-declared-items.result.now in
-    let es = entries_of c.args.names.now in
-    let all : map view_declared (take c.loop-declared.declared-index ds) ≡ es = whole_front view_declared ds c.loop-declared.declared-index c.loop-declared-test.false ∙ ap (map view_declared) c.as_slice-declared-items.ensures in
+    let ds = c.list-declared-items.result.now in
+    let es = entries_of c.args.scope.now in
+    let all : map view_declared (take c.loop-declared.declared-index ds) ≡ es = whole_front view_declared ds c.loop-declared.declared-index c.loop-declared-test.false ∙ ap (map view_declared) c.list-declared-items.ensures in
     let terms : AreOfTerms (length ds) c.loop-declared.named.items (known_of es) = subst (λ xs. AreOfTerms (length ds) c.loop-declared.named.items (known_of xs)) all c.loop-declared.invariant.terms in
-    subst₂ (λ n ns. StandFor n es ns (known_of es)) (sym (length-map ds view_declared) ∙ ap (λ xs. length (map view_declared xs)) c.as_slice-declared-items.ensures) (sym c.from_vec.ensures) (stand_all (length ds) es c.loop-declared.named.items terms)
+    subst₂ (λ n ns. StandFor n es ns (known_of es)) (sym (length-map ds view_declared) ∙ ap (λ xs. length (map view_declared xs)) c.list-declared-items.ensures) (sym c.from_vec.ensures) (stand_all (length ds) es c.loop-declared.named.items terms)

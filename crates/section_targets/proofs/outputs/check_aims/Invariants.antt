@@ -1,8 +1,8 @@
 -- So many signals are checked and noted.
 use Rattle.std.proofs.Common.{◌≡◌, List, ◌++◌, take, map}
 use Rattle.abel_tree.specs.FirstRefusal.{first_refusal}
-use Rattle.abel_meaning.specs.Designs.{Design}
-use Rattle.set_expr.specs.Answer.{IsDesignOf}
+use Rattle.abel_meaning.specs.Designs.{Context}
+use Rattle.set_expr.specs.Answer.{IsContextOf}
 use Rattle.set_expr.specs.SectionOrder.{section_order}
 use Rattle.section_targets.specs.declared.manner.Manner.{Manner}
 use Rattle.section_targets.specs.Manners.{manner_of, aims_refused, AreFirsts}
@@ -11,4 +11,4 @@ use Rattle.section_targets.proofs.outputs.check_aims.Given as goal
 abbrev pub invariant-loop-aim : goal.invariant-loop-aim
 invariant-loop-aim g l =
     ((all : List Manner) → AreFirsts l.initial.before all → AreFirsts l.before (all ++ map (manner_of l.extension l.complement l.clocked) (take l.aim-index l.aims)))
-    × ((d : Design) (all : List Manner) → IsDesignOf g.D.Device.table l.names d → AreFirsts l.initial.before all → l.fault ≡ first_refusal section_order (aims_refused d all l.extension l.complement l.clocked (take l.aim-index l.aims)))
+    × ((d : Context) (all : List Manner) → IsContextOf g.D.Device.table l.scope d → AreFirsts l.initial.before all → l.fault ≡ first_refusal section_order (aims_refused d all l.extension l.complement l.clocked (take l.aim-index l.aims)))

@@ -35,7 +35,7 @@ member_side-returns-in-Binary t c d k h =
     let v = ap view c.in-Binary.is ∙ view_binary c.in-Binary.sign c.in-Binary.place c.in-Binary.left c.in-Binary.right in
     subst (λ e. IsSide (length d.names) c.refused-in-Binary.result (target_member d e)) (sym v)
     (subst (λ f. IsSide (length d.names) c.refused-in-Binary.result (no_target f))
-    (c.refuse_operator.ensures d.names k ∙ ap (λ e. NotAnOutput (first_place e) (first_name d.names e)) v)
+    (c.refuse_operator.ensures ∙ ap (λ es. NotAnOutput (first_place (view c.args.expr.now)) (first_name es (view c.args.expr.now))) (sym k) ∙ ap (λ e. NotAnOutput (first_place e) (first_name d.names e)) v)
     (c.refused-in-Binary.ensures (length d.names)))
 
 pub with_member-returns-in_ok-side-in-One : goal.with_member-returns-in_ok-side-in-One

@@ -1,4 +1,4 @@
-use Rattle.std.proofs.Common.{◌≡◌, refl, sym, subst, Some}
+use Rattle.std.proofs.Common.{refl, sym, subst}
 use Rattle.abel_meaning.specs.Terms.{extended_if}
 use Rattle.section_targets.specs.declared.named.NamedSignals.{NamedSignals}
 use Rattle.section_targets.specs.NamedTargets.{IsOfTerm}

@@ -1,4 +1,4 @@
-use Rattle.std.proofs.Common.{◌≡◌, sym, ap, ◌∙◌, arith}
+use Rattle.std.proofs.Common.{sym, ap, ◌∙◌, arith}
 use Rattle.std.proofs.lemmas.Bool.Decides.{nat_tests}
 use Rattle.abel_meaning.specs.Targets.{targets_of, some_signals}
 use Rattle.section_targets.specs.TargetSignals.{is_only, names_signals}

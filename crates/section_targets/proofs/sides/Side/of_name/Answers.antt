@@ -1,5 +1,5 @@
 -- What is found of a name, and its signals.
-use Rattle.std.proofs.Common.{◌≡◌, true, if◌then◌else◌, refl, ap, ap₂, sym, ◌∙◌, [], ◌∷◌, ◌++◌, length}
+use Rattle.std.proofs.Common.{true, if◌then◌else◌, refl, ap₂, sym, subst, ◌∙◌, [], ◌∷◌, ◌++◌, length}
 use Rattle.std.proofs.lemmas.Result.{IfOk-weaker}
 use Rattle.abel_tree.specs.Entries.{find}
 use Rattle.abel_tree.specs.FirstRefusal.{earlier, first_refusal}
@@ -8,8 +8,11 @@ use Rattle.abel_meaning.specs.Targets.{targets_of, some_signals}
 use Rattle.abel_meaning.specs.Terms.{term_named}
 use Rattle.set_expr.specs.declared.fault.SectionFault.TheVariants.{NotAnOutput}
 use Rattle.set_expr.specs.FoundNames.{found_use, name_found, names_found}
+use Rattle.set_expr.specs.KnownNames.{SumsUp}
 use Rattle.set_expr.specs.SectionOrder.{section_order}
+use Rattle.section_targets.specs.NamedTargets.{StandFor}
 use Rattle.section_targets.specs.TargetSignals.{no_signals, names_signals, target_name}
+use Rattle.section_targets.proofs.OverNames.{found_in}
 use Rattle.section_targets.proofs.sides.Side.of_name.Goals as goal
 
 pub returns : goal.returns
@@ -20,9 +23,9 @@ returns c =
     let q = c.args.signal_place in
     let t = term_named d.known w in
     let x = found_use c.args.place (name_found (names_found d.names) w) in
-    let n = c.in_ok-signals.ensures (length d.names) d.names d.known [] true k h (c.none-none.ensures (length d.names)) in
-    let found = c.check_name-found.ensures d.names k in
-    let mixed = c.refuse_mixed-mixed.ensures ∙ ap₂ (λ b i. first_refusal section_order (if b then [] else NotAnOutput q i ∷ [])) n.alone (c.number_of.ensures d.names k) in
+    let n = c.in_ok-signals.ensures (length d.names) d.known [] true (subst (λ es. StandFor (length d.names) es c.args.named.now d.known) k h) (c.none-none.ensures (length d.names)) in
+    let found = subst (λ es. SumsUp c.check_name-found.result (found_use c.args.place (name_found (names_found es) w))) (sym k) c.check_name-found.ensures in
+    let mixed = c.refuse_mixed-mixed.ensures ∙ ap₂ (λ b i. first_refusal section_order (if b then [] else NotAnOutput q i ∷ [])) n.alone (found_in w k c.number_of.ensures) in
     let inner = c.earlier.ensures ∙ ap₂ (earlier section_order) found.special mixed ∙ sym (first_append section_order x.specials (no_signals q (find d.names w) t)) in
     f (length d.names) (target_name d c.args.place q w) (some_signals (targets_of t)) (names_signals t)
     (c.earlier-fault.ensures ∙ ap₂ (earlier section_order) found.fault inner ∙ sym (first_append section_order x.refusals (x.specials ++ no_signals q (find d.names w) t)))

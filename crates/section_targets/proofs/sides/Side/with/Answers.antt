@@ -1,4 +1,4 @@
-use Rattle.std.proofs.Common.{◌≡◌, ◌++◌, ◌∙◌, ap, ap₂, refl, arith}
+use Rattle.std.proofs.Common.{◌++◌, ◌∙◌, ap, ap₂}
 use Rattle.section_targets.specs.declared.sides.Side.{Side}
 use Rattle.section_targets.proofs.SignalLists.{side_joined, side_cut}
 use Rattle.section_targets.proofs.sides.Side.with.Goals.{then-width-le32+in_ok-extend_from_slice, else-width-le32}
