@@ -12,7 +12,7 @@ use Rattle.set_expr.specs.declared.fault.SectionFault.{SectionFault}
 use Rattle.set_expr.specs.declared.fault.SectionFault.TheVariants as fault
 use Rattle.set_expr.specs.Answer.{Keeps}
 use Rattle.set_expr.specs.Given.{view_contribution}
-use Rattle.abel_meaning.specs.Designs.{Design}
+use Rattle.abel_meaning.specs.Designs.{Context}
 use Rattle.section_targets.specs.declared.aim.Aim.{Aim}
 use Rattle.guarded_values.specs.declared.giving.Giving.{Giving}
 use Rattle.guarded_values.specs.GivenUnits.{one_given, one_part, each_given, each_part}
@@ -60,24 +60,24 @@ given_after us g p old new list more c b e inside v q =
 -- ---- signal after signal
 
 -- where nodes are kept, an older bit gives the same
-one_kept : (d : Design) (old new : List Formula) (g : Giving) (a : Aim) (id : ExprId) → formula_at new g.guard.when ≡ formula_at old g.guard.when → formula_at new id ≡ formula_at old id → one_given d new g a (formula_at new id) ≡ one_given d old g a (formula_at old id)
+one_kept : (d : Context) (old new : List Formula) (g : Giving) (a : Aim) (id : ExprId) → formula_at new g.guard.when ≡ formula_at old g.guard.when → formula_at new id ≡ formula_at old id → one_given d new g a (formula_at new id) ≡ one_given d old g a (formula_at old id)
 one_kept d old new g a id e f = rw (e, f) refl
 
 part_kept : (old new : List Formula) (g : Giving) (id : ExprId) → formula_at new g.guard.when ≡ formula_at old g.guard.when → formula_at new id ≡ formula_at old id → one_part new g (formula_at new id) ≡ one_part old g (formula_at old id)
 part_kept old new g id e f = rw (e, f) refl
 
-pub each_append : (d : Design) (fs : List Formula) (g : Giving) (xs ys : List Aim) (bs cs : List Formula) → length xs ≡ length bs → each_given d fs g (xs ++ ys) (bs ++ cs) ≡ each_given d fs g xs bs ++ each_given d fs g ys cs
+pub each_append : (d : Context) (fs : List Formula) (g : Giving) (xs ys : List Aim) (bs cs : List Formula) → length xs ≡ length bs → each_given d fs g (xs ++ ys) (bs ++ cs) ≡ each_given d fs g xs bs ++ each_given d fs g ys cs
 each_append d fs g [] ys [] cs e = refl
 each_append d fs g [] ys (b ∷ bs) cs e = absurd (omega (arith, e))
 each_append d fs g (x ∷ xs) ys [] cs e = absurd (omega (arith, e))
 each_append d fs g (x ∷ xs) ys (b ∷ bs) cs e = ap (λ gs. one_given d fs g x b ∷ gs) (each_append d fs g xs ys bs cs (omega (arith, e)))
 
 -- what is left by giving the signals xs, bit by bit
-abbrev pub GivesEach : Design → List Formula → Giving → List Aim → List ExprId → (old new : Contributions) → Result Unit SectionFault → Type 0
+abbrev pub GivesEach : Context → List Formula → Giving → List Aim → List ExprId → (old new : Contributions) → Result Unit SectionFault → Type 0
 GivesEach d fs g xs ids old new r = Builds (each_part fs g (map (formula_at fs) ids)) (each_given d fs g xs (map (formula_at fs) ids)) (places_of xs) old new r
 
 -- the parts of two lists together
-each_parts : (d : Design) (fs : List Formula) (g : Giving) (xs ys : List Aim) (ids more : List ExprId) (old new : Contributions) (r : Result Unit SectionFault) → length xs ≡ length ids
+each_parts : (d : Context) (fs : List Formula) (g : Giving) (xs ys : List Aim) (ids more : List ExprId) (old new : Contributions) (r : Result Unit SectionFault) → length xs ≡ length ids
     → Builds (each_part fs g (map (formula_at fs) ids) ++ each_part fs g (map (formula_at fs) more)) (each_given d fs g xs (map (formula_at fs) ids) ++ each_given d fs g ys (map (formula_at fs) more)) (places_of xs ++ places_of ys) old new r
     → GivesEach d fs g (xs ++ ys) (ids ++ more) old new r
 each_parts d fs g xs ys ids more old new r e b =
@@ -89,7 +89,7 @@ each_parts d fs g xs ys ids more old new r e b =
     (subst (λ vs. Builds vs (each_given d fs g xs (map (formula_at fs) ids) ++ each_given d fs g ys (map (formula_at fs) more)) (places_of xs ++ places_of ys) old new r) (sym us) b))
 
 -- one signal more
-pub each_more : (d : Design) (fs : List Formula) (g : Giving) (xs : List Aim) (x : Aim) (ids : List ExprId) (id : ExprId) (old mid new : Contributions) (r : Result Unit SectionFault)
+pub each_more : (d : Context) (fs : List Formula) (g : Giving) (xs : List Aim) (x : Aim) (ids : List ExprId) (id : ExprId) (old mid new : Contributions) (r : Result Unit SectionFault)
     → Keeps fs (arena mid.exprs) → g.guard.when.0 < length fs → id.0 < length fs → length xs ≡ length ids
     → IsBuilt (each_part fs g (map (formula_at fs) ids)) (each_given d fs g xs (map (formula_at fs) ids)) (places_of xs) old mid
     → Builds (one_part (arena mid.exprs) g (formula_at (arena mid.exprs) id) ∷ []) (one_given d (arena mid.exprs) g x (formula_at (arena mid.exprs) id) ∷ []) (x.place ∷ []) mid new r
@@ -103,21 +103,21 @@ each_more d fs g xs x ids id old mid new r k h i e b c =
     (builds_then (each_part fs g (map (formula_at fs) ids)) (one_part fs g (formula_at fs id) ∷ []) (each_given d fs g xs (map (formula_at fs) ids)) (one_given d fs g x (formula_at fs id) ∷ []) (places_of xs) (x.place ∷ []) old mid new r b s)
 
 -- where one stops, those behind it aren't given
-pub each_stops : (d : Design) (fs : List Formula) (g : Giving) (xs ys : List Aim) (ids more : List ExprId) (old new : Contributions) (f : SectionFault) → length xs ≡ length ids
+pub each_stops : (d : Context) (fs : List Formula) (g : Giving) (xs ys : List Aim) (ids more : List ExprId) (old new : Contributions) (f : SectionFault) → length xs ≡ length ids
     → GivesEach d fs g xs ids old new (Err f) → GivesEach d fs g (xs ++ ys) (ids ++ more) old new (Err f)
 each_stops d fs g xs ys ids more old new f e s =
     each_parts d fs g xs ys ids more old new (Err f) e
     (builds_stop (each_part fs g (map (formula_at fs) ids)) (each_part fs g (map (formula_at fs) more)) (each_given d fs g xs (map (formula_at fs) ids)) (each_given d fs g ys (map (formula_at fs) more)) (places_of xs) (places_of ys) old new f s)
 
 -- all but the signals from k on
-pub each_stops_at : (d : Design) (fs : List Formula) (g : Giving) (k : ℕ) (xs : List Aim) (ids : List ExprId) (old new : Contributions) (f : SectionFault) → length xs ≡ length ids → k ≤ length xs
+pub each_stops_at : (d : Context) (fs : List Formula) (g : Giving) (k : ℕ) (xs : List Aim) (ids : List ExprId) (old new : Contributions) (f : SectionFault) → length xs ≡ length ids → k ≤ length xs
     → GivesEach d fs g (take k xs) (take k ids) old new (Err f) → GivesEach d fs g xs ids old new (Err f)
 each_stops_at d fs g k xs ids old new f e h s =
     let c = each_stops d fs g (take k xs) (drop k xs) (take k ids) (drop k ids) old new f (length-take-le k xs h ∙ sym (length-take-le k ids (omega (arith, e)))) s in
     subst (λ zs. GivesEach d fs g zs ids old new (Err f)) (take-append-drop k xs) (subst (λ zs. GivesEach d fs g (take k xs ++ drop k xs) zs old new (Err f)) (take-append-drop k ids) c)
 
 -- the signals up to k, and one more
-pub each_next : (d : Design) (fs : List Formula) (g : Giving) (k : ℕ) (xs : List Aim) (x : Aim) (ids : List ExprId) (id : ExprId) (old mid new : Contributions) (r : Result Unit SectionFault)
+pub each_next : (d : Context) (fs : List Formula) (g : Giving) (k : ℕ) (xs : List Aim) (x : Aim) (ids : List ExprId) (id : ExprId) (old mid new : Contributions) (r : Result Unit SectionFault)
     → Keeps fs (arena mid.exprs) → g.guard.when.0 < length fs → (get_or ids k id).0 < length fs → length xs ≡ length ids → k < length xs
     → IsBuilt (each_part fs g (map (formula_at fs) (take k ids))) (each_given d fs g (take k xs) (map (formula_at fs) (take k ids))) (places_of (take k xs)) old mid
     → Builds (one_part (arena mid.exprs) g (formula_at (arena mid.exprs) (get_or ids k id)) ∷ []) (one_given d (arena mid.exprs) g (get_or xs k x) (formula_at (arena mid.exprs) (get_or ids k id)) ∷ []) ((get_or xs k x).place ∷ []) mid new r
@@ -129,7 +129,7 @@ each_next d fs g k xs x ids id old mid new r kept h i e lt b c =
     subst (λ zs. GivesEach d fs g zs (take (k + 1) ids) old new r) (sym s) (subst (λ zs. GivesEach d fs g (take k xs ++ get_or xs k x ∷ []) zs old new r) (sym t) m)
 
 -- all signals
-pub each_all : (d : Design) (fs : List Formula) (g : Giving) (k : ℕ) (xs : List Aim) (ids : List ExprId) (old new : Contributions) (r : Result Unit SectionFault) → length xs ≡ length ids → k ≡ length xs
+pub each_all : (d : Context) (fs : List Formula) (g : Giving) (k : ℕ) (xs : List Aim) (ids : List ExprId) (old new : Contributions) (r : Result Unit SectionFault) → length xs ≡ length ids → k ≡ length xs
     → GivesEach d fs g (take k xs) (take k ids) old new r → GivesEach d fs g xs ids old new r
 each_all d fs g k xs ids old new r e h b =
     let s : take k xs ≡ xs = ap (λ n. take n xs) h ∙ take-length xs in

@@ -5,7 +5,7 @@ use Rattle.bit_expr.specs.declared.node.Node.{Node}
 use Rattle.bit_expr.specs.Arena.{arena, formula_at}
 use Rattle.abel_tree.specs.declared.names.Names.{Names}
 use Rattle.abel_tree.specs.Entries.{entries_of}
-use Rattle.abel_meaning.specs.Designs.{Design}
+use Rattle.abel_meaning.specs.Designs.{Context}
 use Rattle.set_expr.specs.declared.contributions.Contribution.{Contribution}
 use Rattle.set_expr.specs.declared.fault.SectionFault.{SectionFault}
 use Rattle.section_targets.specs.declared.aim.Aim.{Aim}
@@ -18,7 +18,7 @@ use Rattle.section_targets.specs.Given.{places_of}
 abbrev pub GivesOne : Names → Giving → Aim → ExprId → (old new : List Node) → (list more : List Contribution)
     → Result Unit SectionFault → Type 0
 GivesOne n g a id old new list more r =
-    (d : Design) → d.names ≡ entries_of n
+    (d : Context) → d.names ≡ entries_of n
     → Builds (one_part (arena old) g (formula_at (arena old) id) ∷ [])
     (one_given d (arena old) g a (formula_at (arena old) id) ∷ []) (a.place ∷ [])
     (record { exprs = old; list = list }) (record { exprs = new; list = more }) r
@@ -27,7 +27,7 @@ GivesOne n g a id old new list more r =
 abbrev pub GivesAll : Names → Giving → List Aim → List ExprId → (old new : List Node)
     → (list more : List Contribution) → Result Unit SectionFault → Type 0
 GivesAll n g aims ids old new list more r =
-    (d : Design) → d.names ≡ entries_of n
+    (d : Context) → d.names ≡ entries_of n
     → Builds (each_part (arena old) g (map (formula_at (arena old)) ids))
     (each_given d (arena old) g aims (map (formula_at (arena old)) ids)) (places_of aims)
     (record { exprs = old; list = list }) (record { exprs = new; list = more }) r

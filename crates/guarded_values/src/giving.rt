@@ -5,18 +5,18 @@ ghost use Rattle.bit_expr.specs.Arena.{arena};
 ghost use Rattle.bit_expr.specs.Formulas.{Formula};
 ghost use Rattle.abel_tree.specs.Entries.{entries_of, has};
 ghost use Rattle.abel_meaning.specs.Contributions.{is_dontcare};
-ghost use Rattle.abel_meaning.specs.Designs.{Design, name_at};
+ghost use Rattle.abel_meaning.specs.Designs.{Context, name_at};
 ghost use Rattle.set_expr.specs.Answer.{Keeps};
 ghost use Rattle.set_expr.specs.Given.{view_guard};
 ghost use Rattle.section_targets.specs.Given.{AreNamed, AreIn};
 ghost use Rattle.guarded_values.specs.Gives.{GivesOne, GivesAll};
 
-use abel_tree::{Attributes, Extension, Names};
+use abel_tree::{Attributes, Extension};
 use bit_expr::{ExprId, Exprs, Node};
 use bitflags::Flags;
 use pld_base::Place;
 use section_targets::{Aim, add_node};
-use set_expr::{Contribution, Gives, Guard, SectionFault, Target};
+use set_expr::{Contribution, Gives, Guard, Scope, SectionFault, Target};
 
 /// How the unit at a place gives values to signals: under a guard, to what an extension names of them or to the
 /// complement, on the clock or not.
@@ -38,30 +38,30 @@ fn has_dc(attributes: Attributes) -> bool
 }
 
 /// Whether the block that the guard stands in is don't-care for the signal.
-fn is_free(names: &Names, guard: Guard, signal: u32) -> bool
-    requires { signal < length (entries_of names.now) }
-    ensures { (d : Design) (fs : List Formula) → d.names ≡ entries_of names.now → result ≡ is_dontcare (view_guard fs guard) (name_at d signal) guard.block }
+fn is_free(scope: &Scope<'_>, guard: Guard, signal: u32) -> bool
+    requires { signal < length (entries_of scope.now) }
+    ensures { (d : Context) (fs : List Formula) → d.names ≡ entries_of scope.now → result ≡ is_dontcare (view_guard fs guard) (name_at d signal) guard.block }
 {
     match guard.block {
         None => false,
-        Some(_) => { guard.dontcare || has_dc(names.list.as_slice()[signal as usize].attributes) }
+        Some(_) => { guard.dontcare || has_dc(scope.list()[signal as usize].attributes) }
     }
 }
 
 /// Appends what a signal is given where the guard and this bit are 1.
 pub fn give(
-    names: &Names,
+    scope: &Scope<'_>,
     giving: Giving,
     aim: Aim,
     bit: ExprId,
     exprs: &mut Exprs,
     list: &mut Vec<Contribution>,
 ) -> Result<(), SectionFault>
-    requires signal { aim.signal < length (entries_of names.now) }
+    requires signal { aim.signal < length (entries_of scope.now) }
     requires guard { giving.guard.when.0 < length (arena exprs.old) }
     requires bit { bit.0 < length (arena exprs.old) }
     ensures keeps { Keeps (arena exprs.old) (arena exprs.new) }
-    ensures builds { GivesOne names.now giving aim bit exprs.old exprs.new list.old.items list.new.items result }
+    ensures builds { GivesOne scope.now giving aim bit exprs.old exprs.new list.old.items list.new.items result }
 {
     let when = add_node(exprs, Node::And(giving.guard.when, bit), giving.unit)?;
     list.push(Contribution {
@@ -72,7 +72,7 @@ pub fn give(
         complement: giving.complement,
         clocked: giving.clocked,
         block: giving.guard.block,
-        dontcare: is_free(names, giving.guard, aim.signal),
+        dontcare: is_free(scope, giving.guard, aim.signal),
         what: giving.what,
         when,
         place: aim.place,
@@ -82,22 +82,22 @@ pub fn give(
 
 /// Appends what the signals of a target are given, each its bit, from the left.
 pub fn give_all(
-    names: &Names,
+    scope: &Scope<'_>,
     giving: Giving,
     aims: &[Aim],
     bits: &[ExprId],
     exprs: &mut Exprs,
     list: &mut Vec<Contribution>,
 ) -> Result<(), SectionFault>
-    requires signals { AreNamed (length (entries_of names.now)) aims.now }
+    requires signals { AreNamed (length (entries_of scope.now)) aims.now }
     requires guard { giving.guard.when.0 < length (arena exprs.old) }
     requires bits { AreIn (length (arena exprs.old)) bits.now }
     requires each { length bits.now ≡ length aims.now }
     ensures keeps { Keeps (arena exprs.old) (arena exprs.new) }
-    ensures builds { GivesAll names.now giving aims.now bits.now exprs.old exprs.new list.old.items list.new.items result }
+    ensures builds { GivesAll scope.now giving aims.now bits.now exprs.old exprs.new list.old.items list.new.items result }
 {
     for index in 0..aims.len() {
-        give(names, giving, aims[index], bits[index], exprs, list)?;
+        give(scope, giving, aims[index], bits[index], exprs, list)?;
     }
     Ok(())
 }

@@ -2,7 +2,7 @@
 use Rattle.std.proofs.Common.{◌≡◌, take, map}
 use Rattle.bit_expr.specs.Arena.{arena, formula_at}
 use Rattle.abel_tree.specs.Entries.{entries_of}
-use Rattle.abel_meaning.specs.Designs.{Design}
+use Rattle.abel_meaning.specs.Designs.{Context}
 use Rattle.set_expr.specs.Answer.{Keeps}
 use Rattle.section_targets.specs.Building.{IsBuilt}
 use Rattle.guarded_values.specs.GivenUnits.{each_given, each_part}
@@ -12,4 +12,4 @@ use Rattle.guarded_values.proofs.giving.give_all.Given as goal
 abbrev pub invariant-loop-index : goal.invariant-loop-index
 invariant-loop-index l =
     Keeps (arena l.initial.exprs) (arena l.exprs) ×
-    ((d : Design) → d.names ≡ entries_of l.names → IsBuilt (each_part (arena l.initial.exprs) l.giving (map (formula_at (arena l.initial.exprs)) (take l.index l.bits))) (each_given d (arena l.initial.exprs) l.giving (take l.index l.aims) (map (formula_at (arena l.initial.exprs)) (take l.index l.bits))) (places_of (take l.index l.aims)) (record { exprs = l.initial.exprs; list = l.initial.list.items }) (record { exprs = l.exprs; list = l.list.items }))
+    ((d : Context) → d.names ≡ entries_of l.scope → IsBuilt (each_part (arena l.initial.exprs) l.giving (map (formula_at (arena l.initial.exprs)) (take l.index l.bits))) (each_given d (arena l.initial.exprs) l.giving (take l.index l.aims) (map (formula_at (arena l.initial.exprs)) (take l.index l.bits))) (places_of (take l.index l.aims)) (record { exprs = l.initial.exprs; list = l.initial.list.items }) (record { exprs = l.exprs; list = l.list.items }))
