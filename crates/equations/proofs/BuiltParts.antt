@@ -16,8 +16,7 @@ use Rattle.abel_tree.specs.FirstRefusal.{first_refusal}
 use Rattle.abel_tree.specs.Tree.{Tree}
 use Rattle.abel_meaning.specs.Contributions as meant
 use Rattle.abel_meaning.specs.CountedNodes.{term_nodes}
-use Rattle.abel_meaning.specs.Designs.{Design}
-use Rattle.abel_meaning.specs.Terms.{known_of}
+use Rattle.abel_meaning.specs.Designs.{Context, context_of}
 use Rattle.abel_meaning.specs.BitWords.{Word}
 use Rattle.abel_meaning.specs.FormulaBits.{resized, met_by, met_word}
 use Rattle.abel_meaning.specs.Numbers.{Value, Single, digits_low_first}
@@ -33,7 +32,7 @@ use Rattle.set_expr.specs.declared.shaped.Shaped.{Shaped}
 use Rattle.set_expr.specs.FoundNames.{expression_found}
 use Rattle.set_expr.specs.SectionOrder.{section_order}
 use Rattle.set_expr.specs.Shapes.{HasShape}
-use Rattle.set_expr.specs.Answer.{IsDesignOf, IsAnswer, IsShaped, Keeps, refusal_of, bits_at, positions}
+use Rattle.set_expr.specs.Answer.{IsContextOf, IsAnswer, IsShaped, Keeps, refusal_of, bits_at, positions}
 use Rattle.section_targets.specs.Building.{Stop, AtLimit, NoMemory, AtRefusal, stop_of, Stops, StopsWith, IsBuilt, Builds, IsBit, AreBits}
 use Rattle.section_targets.specs.Units.{CountedUnit, part}
 use Rattle.section_targets.specs.ValueWidths.{value_width}
@@ -44,11 +43,11 @@ use Rattle.equations.specs.Builds.{at_unit, condition_unit}
 use Rattle.equations.specs.StatementUnits.{condition_refused}
 
 -- some design of these names, since what stands doesn't depend on it
-abbrev pub some_design : Table → Names → Design
+abbrev pub some_design : Table → Names → Context
 some_design t n =
-    record { device = t; names = entries_of n; known = known_of (entries_of n); starts_dontcare = false; sections = [] }
+    context_of t (entries_of n)
 
-pub is_some_design : (t : Table) (n : Names) → IsDesignOf t n (some_design t n)
+pub is_some_design : (t : Table) (n : Names) → IsContextOf t n (some_design t n)
 is_some_design t n = record { device = refl; names = refl; known = refl }
 
 -- ---- expressions
@@ -56,7 +55,7 @@ is_some_design t n = record { device = refl; names = refl; known = refl }
 refused_not : {A : Type 0} (n : Names) (t : Tree) (f : SectionFault) → refusal_of n t ≡ None → refusal_of n t ≡ Some f → A
 refused_not n t f e h = absurd (none-some f (sym e ∙ h))
 
-pub answer_keeps : (n : Names) (d : Design) (t : Tree) (old new : List Node) (r : Result Shaped SectionFault) → refusal_of n t ≡ None → IsAnswer n d t old new r → Keeps (arena old) (arena new)
+pub answer_keeps : (n : Names) (d : Context) (t : Tree) (old new : List Node) (r : Result Shaped SectionFault) → refusal_of n t ≡ None → IsAnswer n d t old new r → Keeps (arena old) (arena new)
 answer_keeps n d t old new (Ok s) e a = a.grew.keeps
 answer_keeps n d t old new (Err (fault.NodeLimit p)) e a = a.keeps
 answer_keeps n d t old new (Err fault.OutOfMemory) e a = a
@@ -70,7 +69,7 @@ answer_keeps n d t old new (Err (fault.BadRow p)) e a = refused_not n t (fault.B
 answer_keeps n d t old new (Err (fault.BadState p)) e a = refused_not n t (fault.BadState p) e a.0
 answer_keeps n d t old new (Err (fault.BadVector p)) e a = refused_not n t (fault.BadVector p) e a.0
 
-pub answer_stops : (n : Names) (d : Design) (t : Tree) (p : Place) (old new : List Node) (f : SectionFault) → refusal_of n t ≡ None → IsAnswer n d t old new (Err f)
+pub answer_stops : (n : Names) (d : Context) (t : Tree) (p : Place) (old new : List Node) (f : SectionFault) → refusal_of n t ≡ None → IsAnswer n d t old new (Err f)
     → (list : List Contribution) → StopsWith (part p (term_nodes d t) ∷ []) [] [] (record { exprs = old; list = list }) (record { exprs = new; list = list }) (at_unit p f)
 answer_stops n d t p old new (fault.NodeLimit q) e a = λ list. (limit_here p (term_nodes d t) (length (arena old)) a.past, leaves_nodes old new list a.keeps)
 answer_stops n d t p old new fault.OutOfMemory e a = λ list. (tt, leaves_nodes old new list a)
@@ -161,14 +160,14 @@ first_bit fs (x ∷ ids) id gs lt h = (h.0 0 x (omega arith), ap (λ xs. get_or 
 -- ---- conditions
 
 -- a condition of which nothing is refused is an expression of which nothing is refused
-pub accepted_condition : (d : Design) (n : Names) (p : Place) (c : Tree) → d.names ≡ entries_of n → None ≡ first_refusal section_order (condition_refused d p c) → (condition_refused d p c ≡ []) × (refusal_of n c ≡ None)
+pub accepted_condition : (d : Context) (n : Names) (p : Place) (c : Tree) → d.names ≡ entries_of n → None ≡ first_refusal section_order (condition_refused d p c) → (condition_refused d p c ≡ []) × (refusal_of n c ≡ None)
 accepted_condition d n p c e h =
     let rs = none_refused section_order (condition_refused d p c) h in
     let f = expression_found d.names c in
     (rs, ap (λ es. first_refusal section_order (expression_found es c).refusals) (sym e) ∙ ap (first_refusal section_order) (left_empty f.refusals (f.specials ++ value_width p 1 f.value) rs))
 
 -- so its unit is that of its nodes
-pub accepted_unit : {R : Type 0} (d : Design) (p : Place) (c : Tree) (m : ℕ) (old new : Contributions) (r : Result R SectionFault) → condition_refused d p c ≡ [] → Builds (part p m ∷ []) [] [] old new r → Builds (condition_unit d p c m ∷ []) [] [] old new r
+pub accepted_unit : {R : Type 0} (d : Context) (p : Place) (c : Tree) (m : ℕ) (old new : Contributions) (r : Result R SectionFault) → condition_refused d p c ≡ [] → Builds (part p m ∷ []) [] [] old new r → Builds (condition_unit d p c m ∷ []) [] [] old new r
 accepted_unit d p c m old new r e b = subst (λ rs. Builds (whole p rs m ∷ []) [] [] old new r) (sym e) b
 
 -- a bit stays where its node stands

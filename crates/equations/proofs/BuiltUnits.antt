@@ -15,7 +15,7 @@ use Rattle.abel_tree.specs.Tree.{Tree, Statement, Otherwise, AWhen, NoElse, AnEl
 use Rattle.abel_meaning.specs.Contributions as meant
 use Rattle.abel_meaning.specs.Contributions.{guarded}
 use Rattle.abel_meaning.specs.CountedNodes.{choice_nodes, condition_of, guard_then, guard_else, has_else, guard_nodes, term_nodes, value_nodes}
-use Rattle.abel_meaning.specs.Designs.{Design}
+use Rattle.abel_meaning.specs.Designs.{Context}
 use Rattle.abel_meaning.specs.FormulaBits.{formulas}
 use Rattle.abel_meaning.specs.Statements.{given_each, statement_gives, else_gives, statements_give}
 use Rattle.abel_meaning.specs.Targets.{targets_of}
@@ -51,7 +51,7 @@ at ns cs = record { exprs = ns; list = cs }
 -- ---- assignments
 
 -- signals that all have positions are each given a bit
-pub each_as_given : (d : Design) (fs : List Formula) (g : Giving) (aims : List Aim) (bs : List Formula) →
+pub each_as_given : (d : Context) (fs : List Formula) (g : Giving) (aims : List Aim) (bs : List Formula) →
     given_each (formulas d) d (view_guard fs g.guard) g.extension g.complement g.clocked (view_gives g.what) (positions_of aims) bs ≡ each_given d fs g aims bs
 each_as_given d fs g [] bs = refl
 each_as_given d fs g (a ∷ aims) [] = refl
@@ -68,10 +68,10 @@ each_parts_of fs g (b ∷ bs) = (refl, each_parts_of fs g bs)
 -- ---- WHEN
 
 -- what a statement gives under a guard of formulas
-abbrev pub Under : Design → (all : List Manner) → Statement → (old new : Contributions) → Result Unit SectionFault → meant.Guard Formula → Type 0
+abbrev pub Under : Context → (all : List Manner) → Statement → (old new : Contributions) → Result Unit SectionFault → meant.Guard Formula → Type 0
 Under d all s old new r h = Builds (units_of_statement d h.holds all s) (statement_gives (formulas d) d h s) (statement_places d s) old new r
 
-pub when_alone_built : (d : Design) (old mid new : Contributions) (g h : Guard) (all : List Manner) (p : Place) (c : Tree) (s : Statement) (r : Result Unit SectionFault)
+pub when_alone_built : (d : Context) (old mid new : Contributions) (g h : Guard) (all : List Manner) (p : Place) (c : Tree) (s : Statement) (r : Result Unit SectionFault)
     → IsBuilt (condition_unit d p c (choice_nodes d (formula_at (arena old.exprs) g.when) c false) ∷ []) [] [] old mid
     → view_guard (arena mid.exprs) h ≡ guarded (formulas d) (view_guard (arena old.exprs) g) (condition_of d c)
     → Under d all s mid new r (view_guard (arena mid.exprs) h) → Under d all (AWhen p c s NoElse) old new r (view_guard (arena old.exprs) g)
@@ -87,14 +87,14 @@ when_alone_built d old mid new g h all p c s r b e a =
     (builds_then (u ∷ []) us [] gs [] ps old mid new r b (subst (Under d all s mid new r) e a))))
 
 -- a WHEN whose condition stops
-pub when_stops : (d : Design) (old new : Contributions) (g : meant.Guard Formula) (all : List Manner) (p : Place) (c : Tree) (s : Statement) (o : Otherwise) (f : SectionFault) → StopsWith (condition_unit d p c (choice_nodes d g.holds c (has_else o)) ∷ []) [] [] old new f → Under d all (AWhen p c s o) old new (Err f) g
+pub when_stops : (d : Context) (old new : Contributions) (g : meant.Guard Formula) (all : List Manner) (p : Place) (c : Tree) (s : Statement) (o : Otherwise) (f : SectionFault) → StopsWith (condition_unit d p c (choice_nodes d g.holds c (has_else o)) ∷ []) [] [] old new f → Under d all (AWhen p c s o) old new (Err f) g
 when_stops d old new g all p c s o f b =
     let u = condition_unit d p c (choice_nodes d g.holds c (has_else o)) in
     builds_stop (u ∷ []) (units_of_statement d (guard_then g.holds (condition_of d c)).what all s ++ units_of_else d (guard_else g.holds (condition_of d c)).what (all ++ statement_manners d s) o) []
     (statement_gives (formulas d) d (guarded (formulas d) g (condition_of d c)) s ++ else_gives (formulas d) d (guarded (formulas d) g ((formulas d).not (condition_of d c))) o) [] (statement_places d s ++ else_places d o) old new f b
 
 -- the statement before ELSE stops
-pub when_then_stops : (d : Design) (old mid new : Contributions) (g h : Guard) (all : List Manner) (p : Place) (c : Tree) (s t : Statement) (f : SectionFault)
+pub when_then_stops : (d : Context) (old mid new : Contributions) (g h : Guard) (all : List Manner) (p : Place) (c : Tree) (s t : Statement) (f : SectionFault)
     → IsBuilt (condition_unit d p c (choice_nodes d (formula_at (arena old.exprs) g.when) c true) ∷ []) [] [] old mid
     → view_guard (arena mid.exprs) h ≡ guarded (formulas d) (view_guard (arena old.exprs) g) (condition_of d c)
     → Under d all s mid new (Err f) (view_guard (arena mid.exprs) h) → Under d all (AWhen p c s (AnElse t)) old new (Err f) (view_guard (arena old.exprs) g)
@@ -107,7 +107,7 @@ when_then_stops d old mid new g h all p c s t f b e a =
     builds_then {R = Unit} (u ∷ []) (us ++ vs) [] (statement_gives (formulas d) d k s ++ statement_gives (formulas d) d j t) [] (statement_places d s ++ statement_places d t) old mid new (Err f) b
     (builds_stop us vs (statement_gives (formulas d) d k s) (statement_gives (formulas d) d j t) (statement_places d s) (statement_places d t) mid new f (subst (Under d all s mid new (Err f)) e a))
 
-pub when_both_built : (d : Design) (old mid then new : Contributions) (g h i : Guard) (all : List Manner) (p : Place) (c : Tree) (s t : Statement) (r : Result Unit SectionFault)
+pub when_both_built : (d : Context) (old mid then new : Contributions) (g h i : Guard) (all : List Manner) (p : Place) (c : Tree) (s t : Statement) (r : Result Unit SectionFault)
     → IsBuilt (condition_unit d p c (choice_nodes d (formula_at (arena old.exprs) g.when) c true) ∷ []) [] [] old mid
     → view_guard (arena mid.exprs) h ≡ guarded (formulas d) (view_guard (arena old.exprs) g) (condition_of d c)
     → view_guard (arena then.exprs) i ≡ guarded (formulas d) (view_guard (arena old.exprs) g) ((formulas d).not (condition_of d c))
@@ -124,25 +124,25 @@ when_both_built d old mid then new g h i all p c s t r b e f a o =
 
 -- ---- lists
 
-pub units_append : (d : Design) (g : Formula) (all : List Manner) (ss ts : List Statement) → units_of_statements d g all (statements_of (ss ++ ts)) ≡ units_of_statements d g all (statements_of ss) ++ units_of_statements d g (all ++ statements_manners d (statements_of ss)) (statements_of ts)
+pub units_append : (d : Context) (g : Formula) (all : List Manner) (ss ts : List Statement) → units_of_statements d g all (statements_of (ss ++ ts)) ≡ units_of_statements d g all (statements_of ss) ++ units_of_statements d g (all ++ statements_manners d (statements_of ss)) (statements_of ts)
 units_append d g all [] ts = ap (λ ms. units_of_statements d g ms (statements_of ts)) (sym (append-nil all))
 units_append d g all (s ∷ ss) ts =
     ap (λ us. units_of_statement d g all s ++ us) (units_append d g (all ++ statement_manners d s) ss ts)
     ∙ sym (append_assoc (units_of_statement d g all s) (units_of_statements d g (all ++ statement_manners d s) (statements_of ss)) (units_of_statements d g ((all ++ statement_manners d s) ++ statements_manners d (statements_of ss)) (statements_of ts)))
     ∙ ap (λ ms. units_of_statements d g all (statements_of (s ∷ ss)) ++ units_of_statements d g ms (statements_of ts)) (append_assoc all (statement_manners d s) (statements_manners d (statements_of ss)))
 
-pub gives_append : (d : Design) (g : meant.Guard Formula) (ss ts : List Statement) → statements_give (formulas d) d g (statements_of (ss ++ ts)) ≡ statements_give (formulas d) d g (statements_of ss) ++ statements_give (formulas d) d g (statements_of ts)
+pub gives_append : (d : Context) (g : meant.Guard Formula) (ss ts : List Statement) → statements_give (formulas d) d g (statements_of (ss ++ ts)) ≡ statements_give (formulas d) d g (statements_of ss) ++ statements_give (formulas d) d g (statements_of ts)
 gives_append d g [] ts = refl
 gives_append d g (s ∷ ss) ts = ap (λ xs. statement_gives (formulas d) d g s ++ xs) (gives_append d g ss ts) ∙ sym (append_assoc (statement_gives (formulas d) d g s) (statements_give (formulas d) d g (statements_of ss)) (statements_give (formulas d) d g (statements_of ts)))
 
-pub places_append : (d : Design) (ss ts : List Statement) → statements_places d (statements_of (ss ++ ts)) ≡ statements_places d (statements_of ss) ++ statements_places d (statements_of ts)
+pub places_append : (d : Context) (ss ts : List Statement) → statements_places d (statements_of (ss ++ ts)) ≡ statements_places d (statements_of ss) ++ statements_places d (statements_of ts)
 places_append d [] ts = refl
 places_append d (s ∷ ss) ts = ap (λ xs. statement_places d s ++ xs) (places_append d ss ts) ∙ sym (append_assoc (statement_places d s) (statements_places d (statements_of ss)) (statements_places d (statements_of ts)))
 
 -- ---- assignments as units
 
 -- what an assignment's signals are given behind the nodes of its value
-pub assign_built : (d : Design) (old mid new : Contributions) (g : Giving) (target value : Tree) (t : TargetFound) (aims : List Aim) (ids : List ExprId) (e : Option Extension) (k : Bool) (what : meant.Gives) (r : Result Unit SectionFault)
+pub assign_built : (d : Context) (old mid new : Contributions) (g : Giving) (target value : Tree) (t : TargetFound) (aims : List Aim) (ids : List ExprId) (e : Option Extension) (k : Bool) (what : meant.Gives) (r : Result Unit SectionFault)
     → t.refusals ≡ [] → aims ≡ t.aims → targets_of (term_of d.known target) ≡ positions_of t.aims
     → g.extension ≡ e → g.clocked ≡ k → view_gives g.what ≡ what
     → IsBuilt (part g.unit (term_nodes d value) ∷ []) [] [] old mid
@@ -171,7 +171,7 @@ assign_built d old mid new g target value t aims ids e k what r q a s he hk hw b
     subst (λ xs. Builds (part g.unit (value_nodes d bit (length (targets_of (term_of d.known target))) value) ∷ []) (given_each (formulas d) d (view_guard (arena old.exprs) g.guard) e g.complement k what (targets_of (term_of d.known target)) ((formulas d).word (length (targets_of (term_of d.known target))) v)) (places_of xs) old new r) (a ∙ ap (λ rs. unless_any rs t.aims) (sym q)) aimed
 
 -- an assignment of which nothing is refused
-pub accepted_assign : (d : Design) (all : List Manner) (e : Option Extension) (c : Bool) (s : Sign) (q : Place) (t : TargetFound) (f : Found) → None ≡ first_refusal section_order (assign_refused d all e c s q t f ++ [])
+pub accepted_assign : (d : Context) (all : List Manner) (e : Option Extension) (c : Bool) (s : Sign) (q : Place) (t : TargetFound) (f : Found) → None ≡ first_refusal section_order (assign_refused d all e c s q t f ++ [])
     → (assign_refused d all e c s q t f ≡ []) × ((t.refusals ≡ []) × (f.refusals ≡ []))
 accepted_assign d all e c s q t f h =
     let taken = taken_refused t.refusals q (length t.aims) f in
@@ -184,7 +184,7 @@ accepted_assign d all e c s q t f h =
 -- ---- statements in a list
 
 -- what one statement more gives behind those before it
-pub statements_next : (d : Design) (all : List Manner) (g : meant.Guard Formula) (ss ts : List Statement) (s : Statement) (old mid new : Contributions) (r : Result Unit SectionFault) → ts ≡ ss ++ s ∷ []
+pub statements_next : (d : Context) (all : List Manner) (g : meant.Guard Formula) (ss ts : List Statement) (s : Statement) (old mid new : Contributions) (r : Result Unit SectionFault) → ts ≡ ss ++ s ∷ []
     → IsBuilt (units_of_statements d g.holds all (statements_of ss)) (statements_give (formulas d) d g (statements_of ss)) (statements_places d (statements_of ss)) old mid
     → Under d (all ++ statements_manners d (statements_of ss)) s mid new r g
     → Builds (units_of_statements d g.holds all (statements_of ts)) (statements_give (formulas d) d g (statements_of ts)) (statements_places d (statements_of ts)) old new r
@@ -203,7 +203,7 @@ statements_next d all g ss ts s old mid new r e b a =
     (subst (λ xs. Builds (us ++ vs) (gs ++ hs) xs old new r) (sym p) (builds_then us vs gs hs ps qs old mid new r b a)))
 
 -- where one stops, those behind it aren't built
-pub statements_stop : (d : Design) (all : List Manner) (g : meant.Guard Formula) (ss ts us : List Statement) (old new : Contributions) (f : SectionFault) → us ≡ ss ++ ts
+pub statements_stop : (d : Context) (all : List Manner) (g : meant.Guard Formula) (ss ts us : List Statement) (old new : Contributions) (f : SectionFault) → us ≡ ss ++ ts
     → Builds {R = Unit} (units_of_statements d g.holds all (statements_of ss)) (statements_give (formulas d) d g (statements_of ss)) (statements_places d (statements_of ss)) old new (Err f)
     → Builds {R = Unit} (units_of_statements d g.holds all (statements_of us)) (statements_give (formulas d) d g (statements_of us)) (statements_places d (statements_of us)) old new (Err f)
 statements_stop d all g ss ts us old new f e b =
@@ -223,7 +223,7 @@ statements_stop d all g ss ts us old new f e b =
 -- ---- guards
 
 -- the guard of a statement of WHEN, with its bit made
-pub guard_view : (d : Design) (fs old : List Formula) (g h : Guard) (c : Formula) → h.dontcare ≡ g.dontcare → h.block ≡ g.block → formula_at fs h.when ≡ (formulas d).both (formula_at old g.when) c → view_guard fs h ≡ guarded (formulas d) (view_guard old g) c
+pub guard_view : (d : Context) (fs old : List Formula) (g h : Guard) (c : Formula) → h.dontcare ≡ g.dontcare → h.block ≡ g.block → formula_at fs h.when ≡ (formulas d).both (formula_at old g.when) c → view_guard fs h ≡ guarded (formulas d) (view_guard old g) c
 guard_view d fs old g h c e f w = rw (e, f, w) refl
 
 pub guard_kept : (old new : List Formula) (g : Guard) → formula_at new g.when ≡ formula_at old g.when → view_guard new g ≡ view_guard old g

@@ -16,8 +16,7 @@ use Rattle.abel_tree.specs.declared.words.Unary.TheVariants as unary
 use Rattle.abel_tree.specs.declared.words.Word.{Word}
 use Rattle.abel_tree.specs.Entries.{Kind, APin, ANode, AConstant, Words, Entry}
 use Rattle.abel_tree.specs.Tree.{Tree, ANumber, ASpecial, AName, ASet, AParen, AUnary, ABinary, SetMember, OneMember, SpanMember, members_of, Statement, AnAssign, AWhen, AGroup, NoElse, AnElse, statements_of}
-use Rattle.abel_meaning.specs.Designs.{Design}
-use Rattle.abel_meaning.specs.Terms.{known_of}
+use Rattle.abel_meaning.specs.Designs.{Context, context_of}
 
 -- a column of the one line
 abbrev pub at : ℕ → Place
@@ -137,6 +136,6 @@ entries =
     ∷ entry "i" (AConstant (inverse 1 (name 2 "Y"))) false false
     ∷ []
 
-abbrev pub design : Design
+abbrev pub design : Context
 design =
-    record { device = device; names = entries; known = known_of entries; starts_dontcare = false; sections = [] }
+    context_of device entries

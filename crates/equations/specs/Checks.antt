@@ -11,10 +11,10 @@ use Rattle.abel_tree.specs.Entries.{entries_of}
 use Rattle.abel_tree.specs.FirstRefusal.{first_refusal}
 use Rattle.abel_tree.specs.Tree.{Statement, AnAssign, Statements, statements_of}
 use Rattle.abel_tree.specs.View.{view, view_stmt, stmt_layer, when_layer}
-use Rattle.abel_meaning.specs.Designs.{Design}
+use Rattle.abel_meaning.specs.Designs.{Context}
 use Rattle.abel_meaning.specs.Terms.{known_of}
 use Rattle.set_expr.specs.declared.fault.SectionFault.{SectionFault}
-use Rattle.set_expr.specs.Answer.{IsDesignOf}
+use Rattle.set_expr.specs.Answer.{IsContextOf}
 use Rattle.set_expr.specs.SectionOrder.{section_order}
 use Rattle.section_targets.specs.declared.manner.Manner.{Manner}
 use Rattle.section_targets.specs.declared.named.NamedSignals.{NamedSignals}
@@ -30,22 +30,22 @@ AreNames n ns = StandFor (length (entries_of n)) (entries_of n) ns (known_of (en
 -- the first refusal of a statement behind what was assigned, under any guard
 abbrev pub RefusesStatement : Table → Names → (before : List Manner) → Statement → Option SectionFault → Type 0
 RefusesStatement t n before s f =
-    (d : Design) (g : Formula) (all : List Manner) → IsDesignOf t n d → AreFirsts before all
+    (d : Context) (g : Formula) (all : List Manner) → IsContextOf t n d → AreFirsts before all
     → f ≡ first_refusal section_order (units_refused (units_of_statement d g all s))
 
 abbrev pub RefusesStatements : Table → Names → (before : List Manner) → Statements → Option SectionFault → Type 0
 RefusesStatements t n before ss f =
-    (d : Design) (g : Formula) (all : List Manner) → IsDesignOf t n d → AreFirsts before all
+    (d : Context) (g : Formula) (all : List Manner) → IsContextOf t n d → AreFirsts before all
     → f ≡ first_refusal section_order (units_refused (units_of_statements d g all ss))
 
 -- how a statement assigns signals is noted
 abbrev pub NotesStatement : Table → Names → (before after : List Manner) → Statement → Type 0
 NotesStatement t n before after s =
-    (d : Design) (all : List Manner) → IsDesignOf t n d → AreFirsts before all → AreFirsts after (all ++ statement_manners d s)
+    (d : Context) (all : List Manner) → IsContextOf t n d → AreFirsts before all → AreFirsts after (all ++ statement_manners d s)
 
 abbrev pub NotesStatements : Table → Names → (before after : List Manner) → Statements → Type 0
 NotesStatements t n before after ss =
-    (d : Design) (all : List Manner) → IsDesignOf t n d → AreFirsts before all → AreFirsts after (all ++ statements_manners d ss)
+    (d : Context) (all : List Manner) → IsContextOf t n d → AreFirsts before all → AreFirsts after (all ++ statements_manners d ss)
 
 -- ---- parts of a statement
 

@@ -6,7 +6,7 @@ use Rattle.bit_expr.specs.Formulas.{Formula}
 use Rattle.abel_tree.specs.Assigned.{target_extension, is_clocked}
 use Rattle.abel_tree.specs.declared.words.Sign.{Sign}
 use Rattle.abel_tree.specs.Tree.{Tree, Statement, AnAssign, AWhen, AGroup, ADontCare, Otherwise, NoElse, AnElse, Statements, NoStatement, MoreStatements}
-use Rattle.abel_meaning.specs.Designs.{Design}
+use Rattle.abel_meaning.specs.Designs.{Context}
 use Rattle.abel_meaning.specs.Targets.{targets_of}
 use Rattle.abel_meaning.specs.Terms.{term_of}
 use Rattle.abel_tree.specs.declared.words.Extension.{Extension}
@@ -24,7 +24,7 @@ use Rattle.section_targets.specs.TargetSignals.{TargetFound, left_side}
 -- ---- conditions and assignments
 
 -- a condition is one bit
-abbrev pub condition_refused : Design → Place → Tree → List SectionFault
+abbrev pub condition_refused : Context → Place → Tree → List SectionFault
 condition_refused d p c = value_refused p 1 (expression_found d.names c)
 
 -- a target that is refused assigns nothing
@@ -45,7 +45,7 @@ abbrev pub assigned_manners : Option Extension → (complement : Bool) → Sign 
 assigned_manners e complement sign aims = map (manner_of e complement (is_clocked sign)) aims
 
 -- what is refused of an assignment: its target, its value, and how the signals are assigned
-abbrev pub assign_refused : Design → List Manner → Option Extension → (complement : Bool) → Sign → Place
+abbrev pub assign_refused : Context → List Manner → Option Extension → (complement : Bool) → Sign → Place
     → TargetFound → Found → List SectionFault
 assign_refused d before e complement sign q t f =
     t.refusals
@@ -56,18 +56,18 @@ assign_refused d before e complement sign q t f =
 
 -- how the statements assign signals, in order
 abbrev mutual
-  pub statement_manners : Design → Statement → List Manner
+  pub statement_manners : Context → Statement → List Manner
   statement_manners d (AnAssign place complement target sign q value) =
       assigned_manners (target_extension target) complement sign (assigned_aims (left_side d place target))
   statement_manners d (AWhen place c s other) = statement_manners d s ++ else_manners d other
   statement_manners d (AGroup ss) = statements_manners d ss
   statement_manners d (ADontCare directive) = []
 
-  pub else_manners : Design → Otherwise → List Manner
+  pub else_manners : Context → Otherwise → List Manner
   else_manners d NoElse = []
   else_manners d (AnElse s) = statement_manners d s
 
-  pub statements_manners : Design → Statements → List Manner
+  pub statements_manners : Context → Statements → List Manner
   statements_manners d NoStatement = []
   statements_manners d (MoreStatements s ss) = statement_manners d s ++ statements_manners d ss
 
@@ -76,24 +76,24 @@ abbrev pub places_of : List Aim → List Place
 places_of aims = map (λ (a : Aim). a.place) aims
 
 abbrev mutual
-  pub statement_places : Design → Statement → List Place
+  pub statement_places : Context → Statement → List Place
   statement_places d (AnAssign place complement target sign q value) =
       places_of (assigned_aims (left_side d place target))
   statement_places d (AWhen place c s other) = statement_places d s ++ else_places d other
   statement_places d (AGroup ss) = statements_places d ss
   statement_places d (ADontCare directive) = []
 
-  pub else_places : Design → Otherwise → List Place
+  pub else_places : Context → Otherwise → List Place
   else_places d NoElse = []
   else_places d (AnElse s) = statement_places d s
 
-  pub statements_places : Design → Statements → List Place
+  pub statements_places : Context → Statements → List Place
   statements_places d NoStatement = []
   statements_places d (MoreStatements s ss) = statement_places d s ++ statements_places d ss
 
 -- the units of statements under a guard, behind what was assigned before
 abbrev mutual
-  pub units_of_statement : Design → (guard : Formula) → List Manner → Statement → List CountedUnit
+  pub units_of_statement : Context → (guard : Formula) → List Manner → Statement → List CountedUnit
   units_of_statement d g before (AnAssign place complement target sign q value) =
       record {
         place = place;
@@ -112,11 +112,11 @@ abbrev mutual
   units_of_statement d g before (AGroup ss) = units_of_statements d g before ss
   units_of_statement d g before (ADontCare directive) = []
 
-  pub units_of_else : Design → (guard : Formula) → List Manner → Otherwise → List CountedUnit
+  pub units_of_else : Context → (guard : Formula) → List Manner → Otherwise → List CountedUnit
   units_of_else d g before NoElse = []
   units_of_else d g before (AnElse s) = units_of_statement d g before s
 
-  pub units_of_statements : Design → (guard : Formula) → List Manner → Statements → List CountedUnit
+  pub units_of_statements : Context → (guard : Formula) → List Manner → Statements → List CountedUnit
   units_of_statements d g before NoStatement = []
   units_of_statements d g before (MoreStatements s ss) =
       units_of_statement d g before s ++ units_of_statements d g (before ++ statement_manners d s) ss

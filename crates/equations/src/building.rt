@@ -2,12 +2,8 @@
 
 ghost use Rattle.std.specs.Prelude.{◌<◌, ◌≤◌, length, OnOk};
 ghost use Rattle.bit_expr.specs.Arena.{arena};
-ghost use Rattle.abel_tree.specs.Entries.{entries_of};
-ghost use Rattle.abel_tree.specs.View.{view, view_stmt};
-ghost use Rattle.abel_meaning.specs.Designs.{Design};
-ghost use Rattle.set_expr.specs.Answer.{Keeps, IsDesignOf};
-ghost use Rattle.set_expr.specs.KnownNames.{IsKnown};
-ghost use Rattle.expr_bits.specs.Placed.{ArePlaced};
+ghost use Rattle.abel_tree.specs.View.{view_stmt};
+ghost use Rattle.set_expr.specs.Answer.{Keeps};
 ghost use Rattle.equations.specs.Builds.{BuildsStatement, BuildsStatements, GivesAssign, IsAcceptedAssign};
 ghost use Rattle.equations.specs.Checks.{AreNames, NotesStatement, NotesStatements, view_assign, view_when, view_list};
 
@@ -15,46 +11,35 @@ use crate::checking::check_assign;
 use crate::choices::{both_guards, refused_unit, then_guard};
 use crate::conditions::{is_clocked, sign_gives, target_extension};
 use crate::values::value_bits;
-use abel_tree::{Assign, Names, Stmt, When};
+use abel_tree::{Assign, Stmt, When};
 use bit_expr::Exprs;
 use guarded_values::{Giving, give_all};
 use pld_device::Device;
 use section_targets::{Assigned, NamedSignals, left_side};
-use set_expr::{Contribution, Guard, KnownNames, SectionFault};
+use set_expr::{Contribution, Guard, Scope, SectionFault};
 use std::alloc::Global;
 
 /// The contributions of an assignment of which nothing is refused.
 fn give_assign<D: Device>(
     alloc: Global,
-    names: &Names,
-    known: &KnownNames,
+    scope: &Scope<'_>,
     named: &[NamedSignals],
     guard: Guard,
     assign: &Assign,
     exprs: &mut Exprs,
     list: &mut Vec<Contribution>,
 ) -> Result<(), SectionFault>
-    requires known { IsKnown (entries_of names.now) known.now }
-    requires named { AreNames names.now named.now }
-    requires placed { ArePlaced names.now }
+    requires named { AreNames scope.now named.now }
     requires guard { guard.when.0 < length (arena exprs.old) }
-    requires accepted { IsAcceptedAssign D.table names.now assign.now }
+    requires accepted { IsAcceptedAssign D.table scope.now assign.now }
     ensures keeps { Keeps (arena exprs.old) (arena exprs.new) }
     ensures grows { length (arena exprs.old) ≤ length (arena exprs.new) }
-    ensures builds { GivesAssign D.table names.now guard assign.now exprs.old exprs.new list.old.items list.new.items result }
+    ensures builds { GivesAssign D.table scope.now guard assign.now exprs.old exprs.new list.old.items list.new.items result }
 {
-    let side = left_side(alloc, known, named, assign.place, &assign.target)?;
+    let side = left_side(alloc, scope, named, assign.place, &assign.target)?;
     let aims = side.aims.as_slice();
     let width = aims.len();
-    let bits = value_bits::<D>(
-        alloc,
-        names,
-        known,
-        &assign.value,
-        width,
-        assign.place,
-        exprs,
-    )?;
+    let bits = value_bits::<D>(alloc, scope, &assign.value, width, assign.place, exprs)?;
     let giving = Giving {
         unit: assign.place,
         guard,
@@ -63,14 +48,13 @@ fn give_assign<D: Device>(
         clocked: is_clocked(assign.sign),
         what: sign_gives(assign.sign),
     };
-    give_all(names, giving, aims, &bits, exprs, list)
+    give_all(scope, giving, aims, &bits, exprs, list)
 }
 
 /// An assignment.
 fn build_assign<D: Device>(
     alloc: Global,
-    names: &Names,
-    known: &KnownNames,
+    scope: &Scope<'_>,
     named: &[NamedSignals],
     guard: Guard,
     assign: &Assign,
@@ -78,18 +62,16 @@ fn build_assign<D: Device>(
     exprs: &mut Exprs,
     list: &mut Vec<Contribution>,
 ) -> Result<(), SectionFault>
-    requires known { IsKnown (entries_of names.now) known.now }
-    requires named { AreNames names.now named.now }
-    requires placed { ArePlaced names.now }
+    requires named { AreNames scope.now named.now }
     requires guard { guard.when.0 < length (arena exprs.old) }
     ensures keeps { Keeps (arena exprs.old) (arena exprs.new) }
     ensures grows { length (arena exprs.old) ≤ length (arena exprs.new) }
-    ensures before { OnOk result (NotesStatement D.table names.now before.old before.new (view_assign assign.now)) }
-    ensures builds { BuildsStatement D.table names.now guard before.old (view_assign assign.now) exprs.old exprs.new list.old.items list.new.items result }
+    ensures before { OnOk result (NotesStatement D.table scope.now before.old before.new (view_assign assign.now)) }
+    ensures builds { BuildsStatement D.table scope.now guard before.old (view_assign assign.now) exprs.old exprs.new list.old.items list.new.items result }
 {
-    match check_assign::<D>(alloc, names, known, named, assign, before)? {
+    match check_assign::<D>(alloc, scope, named, assign, before)? {
         Some(_) => Err(refused_unit(assign.place)),
-        None => give_assign::<D>(alloc, names, known, named, guard, assign, exprs, list),
+        None => give_assign::<D>(alloc, scope, named, guard, assign, exprs, list),
     }
 }
 
@@ -97,8 +79,7 @@ fn build_assign<D: Device>(
 #[cycle(builds)]
 fn build_when<D: Device>(
     alloc: Global,
-    names: &Names,
-    known: &KnownNames,
+    scope: &Scope<'_>,
     named: &[NamedSignals],
     guard: Guard,
     when: &When,
@@ -106,22 +87,19 @@ fn build_when<D: Device>(
     exprs: &mut Exprs,
     list: &mut Vec<Contribution>,
 ) -> Result<(), SectionFault>
-    requires known { IsKnown (entries_of names.now) known.now }
-    requires named { AreNames names.now named.now }
-    requires placed { ArePlaced names.now }
+    requires named { AreNames scope.now named.now }
     requires guard { guard.when.0 < length (arena exprs.old) }
     ensures keeps { Keeps (arena exprs.old) (arena exprs.new) }
     ensures grows { length (arena exprs.old) ≤ length (arena exprs.new) }
-    ensures before { OnOk result (NotesStatement D.table names.now before.old before.new (view_when when.now)) }
-    ensures builds { BuildsStatement D.table names.now guard before.old (view_when when.now) exprs.old exprs.new list.old.items list.new.items result }
+    ensures before { OnOk result (NotesStatement D.table scope.now before.old before.new (view_when when.now)) }
+    ensures builds { BuildsStatement D.table scope.now guard before.old (view_when when.now) exprs.old exprs.new list.old.items list.new.items result }
 {
     let inner = when.then.get();
     match &when.otherwise {
         None => {
             let chosen = then_guard::<D>(
                 alloc,
-                names,
-                known,
+                scope,
                 guard.when,
                 when.place,
                 &when.condition,
@@ -131,13 +109,12 @@ fn build_when<D: Device>(
                 when: chosen.then,
                 ..guard
             };
-            build_statement::<D>(alloc, names, known, named, then, inner, before, exprs, list)
+            build_statement::<D>(alloc, scope, named, then, inner, before, exprs, list)
         }
         Some(other) => {
             let bits = both_guards::<D>(
                 alloc,
-                names,
-                known,
+                scope,
                 guard.when,
                 when.place,
                 &when.condition,
@@ -147,15 +124,13 @@ fn build_when<D: Device>(
                 when: bits.then,
                 ..guard
             };
-            build_statement::<D>(alloc, names, known, named, then, inner, before, exprs, list)?;
+            build_statement::<D>(alloc, scope, named, then, inner, before, exprs, list)?;
             let otherwise = Guard {
                 when: bits.otherwise,
                 ..guard
             };
             let inner = other.get();
-            build_statement::<D>(
-                alloc, names, known, named, otherwise, inner, before, exprs, list,
-            )
+            build_statement::<D>(alloc, scope, named, otherwise, inner, before, exprs, list)
         }
     }
 }
@@ -164,8 +139,7 @@ fn build_when<D: Device>(
 #[cycle(builds)]
 fn build_statement<D: Device>(
     alloc: Global,
-    names: &Names,
-    known: &KnownNames,
+    scope: &Scope<'_>,
     named: &[NamedSignals],
     guard: Guard,
     stmt: &Stmt,
@@ -173,28 +147,23 @@ fn build_statement<D: Device>(
     exprs: &mut Exprs,
     list: &mut Vec<Contribution>,
 ) -> Result<(), SectionFault>
-    requires known { IsKnown (entries_of names.now) known.now }
-    requires named { AreNames names.now named.now }
-    requires placed { ArePlaced names.now }
+    requires named { AreNames scope.now named.now }
     requires guard { guard.when.0 < length (arena exprs.old) }
     ensures keeps { Keeps (arena exprs.old) (arena exprs.new) }
     ensures grows { length (arena exprs.old) ≤ length (arena exprs.new) }
-    ensures before { OnOk result (NotesStatement D.table names.now before.old before.new (view_stmt stmt.now)) }
-    ensures builds { BuildsStatement D.table names.now guard before.old (view_stmt stmt.now) exprs.old exprs.new list.old.items list.new.items result }
+    ensures before { OnOk result (NotesStatement D.table scope.now before.old before.new (view_stmt stmt.now)) }
+    ensures builds { BuildsStatement D.table scope.now guard before.old (view_stmt stmt.now) exprs.old exprs.new list.old.items list.new.items result }
 {
     match stmt {
         Stmt::Assign(assign) => {
-            build_assign::<D>(
-                alloc, names, known, named, guard, assign, before, exprs, list,
-            )
+            build_assign::<D>(alloc, scope, named, guard, assign, before, exprs, list)
         }
         Stmt::When(when) => {
-            build_when::<D>(alloc, names, known, named, guard, when, before, exprs, list)
+            build_when::<D>(alloc, scope, named, guard, when, before, exprs, list)
         }
         Stmt::Group(group) => build_statements::<D>(
             alloc,
-            names,
-            known,
+            scope,
             named,
             guard,
             group.as_slice(),
@@ -211,8 +180,7 @@ fn build_statement<D: Device>(
 #[cycle(builds)]
 pub fn build_statements<D: Device>(
     alloc: Global,
-    names: &Names,
-    known: &KnownNames,
+    scope: &Scope<'_>,
     named: &[NamedSignals],
     guard: Guard,
     stmts: &[Stmt],
@@ -220,17 +188,15 @@ pub fn build_statements<D: Device>(
     exprs: &mut Exprs,
     list: &mut Vec<Contribution>,
 ) -> Result<(), SectionFault>
-    requires known { IsKnown (entries_of names.now) known.now }
-    requires named { AreNames names.now named.now }
-    requires placed { ArePlaced names.now }
+    requires named { AreNames scope.now named.now }
     requires guard { guard.when.0 < length (arena exprs.old) }
     ensures keeps { Keeps (arena exprs.old) (arena exprs.new) }
     ensures grows { length (arena exprs.old) ≤ length (arena exprs.new) }
-    ensures before { OnOk result (NotesStatements D.table names.now before.old before.new (view_list stmts.now)) }
-    ensures builds { BuildsStatements D.table names.now guard before.old (view_list stmts.now) exprs.old exprs.new list.old.items list.new.items result }
+    ensures before { OnOk result (NotesStatements D.table scope.now before.old before.new (view_list stmts.now)) }
+    ensures builds { BuildsStatements D.table scope.now guard before.old (view_list stmts.now) exprs.old exprs.new list.old.items list.new.items result }
 {
     for stmt in stmts {
-        build_statement::<D>(alloc, names, known, named, guard, stmt, before, exprs, list)?;
+        build_statement::<D>(alloc, scope, named, guard, stmt, before, exprs, list)?;
     }
     Ok(())
 }

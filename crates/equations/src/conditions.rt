@@ -5,19 +5,19 @@ ghost use Rattle.abel_tree.specs.Assigned as assigned;
 ghost use Rattle.abel_tree.specs.Entries.{entries_of};
 ghost use Rattle.abel_tree.specs.FirstRefusal.{first_refusal};
 ghost use Rattle.abel_tree.specs.View.{view};
-ghost use Rattle.abel_meaning.specs.Designs.{Design};
+ghost use Rattle.abel_meaning.specs.Designs.{Context};
 ghost use Rattle.abel_meaning.specs.Numbers.{Value};
 ghost use Rattle.abel_meaning.specs.Statements as given;
 ghost use Rattle.set_expr.specs.Given.{view_gives};
-ghost use Rattle.set_expr.specs.KnownNames.{IsKnown, HasShapeIf, SumsUp};
+ghost use Rattle.set_expr.specs.KnownNames.{HasShapeIf, SumsUp};
 ghost use Rattle.set_expr.specs.Refusals.{Found};
 ghost use Rattle.set_expr.specs.SectionOrder.{section_order};
 ghost use Rattle.section_targets.specs.ValueWidths.{value_width, value_refused};
 ghost use Rattle.equations.specs.StatementUnits.{condition_refused};
 
-use abel_tree::{Expr, Extension, Names, Sign};
+use abel_tree::{Expr, Extension, Sign};
 use pld_base::{OutOfMemory, Place};
-use set_expr::{Checked, Gives, KnownNames, SectionFault, Shape, check, earlier};
+use set_expr::{Checked, Gives, Scope, SectionFault, Shape, earlier};
 use std::alloc::Global;
 
 /// The extension of a target, which stands outside.
@@ -86,14 +86,12 @@ pub fn refuse_value(place: Place, width: usize, value: Checked) -> Option<Sectio
 /// What is refused of a condition at the place of its WHEN.
 pub fn check_condition(
     alloc: Global,
-    names: &Names,
-    known: &KnownNames,
+    scope: &Scope<'_>,
     place: Place,
     condition: &Expr,
 ) -> Result<Option<SectionFault>, OutOfMemory>
-    requires known { IsKnown (entries_of names.now) known.now }
-    ensures { IfOk result (λ f. (d : Design) → d.names ≡ entries_of names.now → f ≡ first_refusal section_order (condition_refused d place (view condition.now))) }
+    ensures { IfOk result (λ f. (d : Context) → d.names ≡ entries_of scope.now → f ≡ first_refusal section_order (condition_refused d place (view condition.now))) }
 {
-    let value = check(alloc, names, known, condition)?;
+    let value = scope.check(alloc, condition)?;
     Ok(refuse_value(place, 1, value))
 }

@@ -25,22 +25,22 @@ use Rattle.equations.proofs.building.+builds.Goals as goal
 
 pub build_statement-returns-in-Assign-clause-builds : goal.build_statement-returns-in-Assign-clause-builds
 build_statement-returns-in-Assign-clause-builds g t c =
-    subst (λ (s : Statement). BuildsStatement g.D.Device.table c.args.names.now c.args.guard c.args.before.now s c.args.exprs.now c.build_assign.new.exprs c.args.list.now.items c.build_assign.new.list.items c.build_assign.result)
+    subst (λ (s : Statement). BuildsStatement g.D.Device.table c.args.scope.now c.args.guard c.args.before.now s c.args.exprs.now c.build_assign.new.exprs c.args.list.now.items c.build_assign.new.list.items c.build_assign.result)
     (sym (ap view_stmt c.in-Assign.is ∙ view_assigned c.in-Assign.assign)) c.build_assign.ensures.builds
 
 pub build_statement-returns-in-When-clause-builds : goal.build_statement-returns-in-When-clause-builds
 build_statement-returns-in-When-clause-builds g t c =
-    subst (λ (s : Statement). BuildsStatement g.D.Device.table c.args.names.now c.args.guard c.args.before.now s c.args.exprs.now c.build_when.new.exprs c.args.list.now.items c.build_when.new.list.items c.build_when.result)
+    subst (λ (s : Statement). BuildsStatement g.D.Device.table c.args.scope.now c.args.guard c.args.before.now s c.args.exprs.now c.build_when.new.exprs c.args.list.now.items c.build_when.new.list.items c.build_when.result)
     (sym (ap view_stmt c.in-When.is ∙ view_whened c.in-When.when)) c.build_when.ensures.builds
 
 pub build_statement-returns-in-Group-clause-before : goal.build_statement-returns-in-Group-clause-before
 build_statement-returns-in-Group-clause-before g t c =
-    subst (λ (s : Statement). OnOk c.build_statements.result (NotesStatement g.D.Device.table c.args.names.now c.args.before.now c.build_statements.new.before s))
+    subst (λ (s : Statement). OnOk c.build_statements.result (NotesStatement g.D.Device.table c.args.scope.now c.args.before.now c.build_statements.new.before s))
     (sym (ap view_stmt c.in-Group.is ∙ view_grouped c.in-Group.group c.as_slice.result.now (sym c.as_slice.ensures))) c.build_statements.ensures.before
 
 pub build_statement-returns-in-Group-clause-builds : goal.build_statement-returns-in-Group-clause-builds
 build_statement-returns-in-Group-clause-builds g t c =
-    subst (λ (s : Statement). BuildsStatement g.D.Device.table c.args.names.now c.args.guard c.args.before.now s c.args.exprs.now c.build_statements.new.exprs c.args.list.now.items c.build_statements.new.list.items c.build_statements.result)
+    subst (λ (s : Statement). BuildsStatement g.D.Device.table c.args.scope.now c.args.guard c.args.before.now s c.args.exprs.now c.build_statements.new.exprs c.args.list.now.items c.build_statements.new.list.items c.build_statements.result)
     (sym (ap view_stmt c.in-Group.is ∙ view_grouped c.in-Group.group c.as_slice.result.now (sym c.as_slice.ensures))) c.build_statements.ensures.builds
 
 -- ---- lists
@@ -85,7 +85,7 @@ build_statements-returns-in_err-build_statement-clause-builds g t c = λ d all i
 pub build_statements-returns-clause-builds : goal.build_statements-returns-clause-builds
 build_statements-returns-clause-builds g t c =
     let list = c.args.stmts.now in
-    subst (λ (xs : List Stmt). BuildsStatements g.D.Device.table c.args.names.now c.args.guard c.args.before.now (view_list xs) c.args.exprs.now c.loop-stmt.exprs c.args.list.now.items c.loop-stmt.list.items (Ok tt))
+    subst (λ (xs : List Stmt). BuildsStatements g.D.Device.table c.args.scope.now c.args.guard c.args.before.now (view_list xs) c.args.exprs.now c.loop-stmt.exprs c.args.list.now.items c.loop-stmt.list.items (Ok tt))
     (ap (λ n. take n list) (omega (arith, c.loop-stmt-test.false, c.loop-stmt.auto.stmt-index-end)) ∙ take-length list) c.loop-stmt.invariant.1.1
 
 -- ---- WHEN

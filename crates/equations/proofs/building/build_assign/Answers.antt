@@ -10,8 +10,8 @@ use Rattle.set_expr.specs.SectionOrder.{section_order}
 use Rattle.section_targets.specs.TargetSignals.{left_side}
 use Rattle.guarded_values.proofs.Gives.{stops_nodes}
 use Rattle.section_targets.proofs.Parts.{leaves_nodes}
-use Rattle.set_expr.specs.Answer.{IsDesignOf}
-use Rattle.abel_meaning.specs.Designs.{Design}
+use Rattle.set_expr.specs.Answer.{IsContextOf}
+use Rattle.abel_meaning.specs.Designs.{Context}
 use Rattle.equations.specs.StatementUnits.{assign_refused}
 use Rattle.equations.proofs.BuiltParts.{some_design, is_some_design, refused_whole, accepted_whole, value_accepted}
 use Rattle.equations.proofs.BuiltUnits.{accepted_assign}
@@ -20,9 +20,9 @@ use Rattle.equations.proofs.building.build_assign.Goals as goal
 pub give_assign-requires-clause-accepted : goal.give_assign-requires-clause-accepted
 give_assign-requires-clause-accepted g c =
     let a = c.args.assign.now in
-    let n = c.args.names.now in
+    let n = c.args.scope.now in
     let t = g.D.Device.table in
-    let clear = λ (d : Design) (is : IsDesignOf t n d). accepted_assign d c.args.before.now (target_extension (view a.target)) a.complement a.sign a.sign_place (left_side d a.place (view a.target)) (expression_found d.names (view a.value))
+    let clear = λ (d : Context) (is : IsContextOf t n d). accepted_assign d c.args.before.now (target_extension (view a.target)) a.complement a.sign a.sign_place (left_side d a.place (view a.target)) (expression_found d.names (view a.value))
     (sym c.in-None.is ∙ c.in_ok-check_assign.ensures.fault d (Const false) c.args.before.now is (λ s p. refl)) in
     record {
       value = value_accepted n (view a.value) (clear (some_design t n) (is_some_design t n)).1.1;

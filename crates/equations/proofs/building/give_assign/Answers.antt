@@ -1,5 +1,5 @@
 -- The signals of an assignment are given its value.
-use Rattle.std.proofs.Common.{◌<◌, List, [], All, sym, ◌∙◌, subst, length}
+use Rattle.std.proofs.Common.{◌<◌, List, [], All, refl, sym, ◌∙◌, subst, length}
 use Rattle.std.proofs.lemmas.Result.{err_from_is_err_and}
 use Rattle.bit_expr.specs.declared.node.ExprId.{ExprId}
 use Rattle.bit_expr.specs.Arena.{arena, formula_at}
@@ -9,7 +9,6 @@ use Rattle.abel_meaning.specs.CountedNodes.{guard_nodes, term_nodes}
 use Rattle.abel_meaning.specs.FormulaBits.{formulas}
 use Rattle.abel_meaning.specs.Targets.{targets_of}
 use Rattle.abel_meaning.specs.Terms.{term_of}
-use Rattle.set_expr.specs.KnownNames.{IsKnown}
 use Rattle.section_targets.specs.declared.aim.Aim.{Aim}
 use Rattle.section_targets.specs.Building.{AreBits}
 use Rattle.section_targets.specs.Given.{AreNamed}
@@ -34,24 +33,23 @@ returns-in_err-bits-clause-builds g c = λ d is.
 
 pub give_all-requires-clause-signals : goal.give_all-requires-clause-signals
 give_all-requires-clause-signals g c =
-    let d = some_design g.D.Device.table c.args.names.now in
-    subst (λ (xs : List Aim). AreNamed (length (entries_of c.args.names.now)) xs) (sym c.as_slice-aims.ensures) (c.in_ok-side.ensures d c.requires.known c.requires.named).inside
+    let d = some_design g.D.Device.table c.args.scope.now in
+    subst (λ (xs : List Aim). AreNamed (length (entries_of c.args.scope.now)) xs) (sym c.as_slice-aims.ensures) (c.in_ok-side.ensures d refl c.requires.named).inside
 
 pub give_all-requires-clause-guard : goal.give_all-requires-clause-guard
 give_all-requires-clause-guard g c = kept_inside _ _ c.args.guard.when c.in_ok-bits.ensures.keeps c.requires.guard
 
 pub give_all-requires-clause-bits : goal.give_all-requires-clause-bits
 give_all-requires-clause-bits g c =
-    let d = some_design g.D.Device.table c.args.names.now in
+    let d = some_design g.D.Device.table c.args.scope.now in
     subst (λ (xs : List ExprId). All (λ (id : ExprId). id.0 < length (arena c.value_bits.new.exprs)) xs) (sym c.deref.ensures.value)
-    (c.in_ok-bits.ensures.bits d (is_some_design g.D.Device.table c.args.names.now)).0
+    (c.in_ok-bits.ensures.bits d (is_some_design g.D.Device.table c.args.scope.now)).0
 
 pub returns-clause-builds : goal.returns-clause-builds
 returns-clause-builds g c = λ d is.
-    let n = c.args.names.now in
+    let n = c.args.scope.now in
     let a = c.args.assign.now in
-    let known = subst (λ es. IsKnown es c.args.known.now) (sym is.names) c.requires.known in
-    let side = c.in_ok-side.ensures d known (names_of_design g.D.Device.table n d c.args.named.now is c.requires.named) in
+    let side = c.in_ok-side.ensures d is.names (names_of_design g.D.Device.table n d c.args.named.now is c.requires.named) in
     let clear = c.requires.accepted.target d is in
     let aims = c.as_slice-aims.ensures ∙ side.aims (side_few d a.place (view a.target) (known_by_names g.D.Device.table n d is) clear) in
     assign_built d _ _ _ _ (view a.target) (view a.value) (left_side d a.place (view a.target)) c.as_slice-aims.result.now c.deref.result.now _ _ _ c.give_all.result

@@ -5,5 +5,5 @@ use Rattle.equations.proofs.checking.+checks.Given as goal
 
 abbrev pub invariant-check_statements-loop-stmt : goal.invariant-check_statements-loop-stmt
 invariant-check_statements-loop-stmt g l =
-    RefusesStatements g.D.Device.table l.names l.fn.before (view_list (take l.stmt-index l.list)) l.fault
-    × NotesStatements g.D.Device.table l.names l.fn.before l.before (view_list (take l.stmt-index l.list))
+    RefusesStatements g.D.Device.table l.scope l.fn.before (view_list (take l.stmt-index l.list)) l.fault
+    × NotesStatements g.D.Device.table l.scope l.fn.before l.before (view_list (take l.stmt-index l.list))

@@ -3,7 +3,6 @@ use Rattle.std.proofs.Common.{[], ◌∷◌, Ok, Err, ap₂, ◌∙◌, subst₂
 use Rattle.std.proofs.lemmas.Result.{err_from_is_err_and}
 use Rattle.bit_expr.specs.declared.node.ExprId.{ExprId}
 use Rattle.abel_tree.specs.View.{view}
-use Rattle.abel_meaning.specs.CountedNodes.{condition_of}
 use Rattle.abel_meaning.specs.CountedNodes as counted
 use Rattle.section_targets.specs.Building.{IsBuilt, Builds}
 use Rattle.section_targets.specs.Units.{part}

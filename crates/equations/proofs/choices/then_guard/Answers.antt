@@ -19,7 +19,7 @@ returns-in_err-bit-clause-builds g c = λ d is list.
 pub add_node-requires : goal.add_node-requires
 add_node-requires g c = (
   kept_inside _ _ c.args.guard c.in_ok-bit.ensures.keeps c.requires.guard,
-  (c.in_ok-bit.ensures.bit (some_design g.D.Device.table c.args.names.now) (is_some_design g.D.Device.table c.args.names.now)).0,
+  (c.in_ok-bit.ensures.bit (some_design g.D.Device.table c.args.scope.now) (is_some_design g.D.Device.table c.args.scope.now)).0,
 )
 
 pub returns-in_err-then-clause-builds : goal.returns-in_err-then-clause-builds
@@ -53,7 +53,7 @@ returns-clause-then g c = λ d is. (
 
 pub returns-clause-inside : goal.returns-clause-inside
 returns-clause-inside g c =
-    let d = some_design g.D.Device.table c.args.names.now in (
-      kept_inside _ _ c.in_ok-bit.bit (c.in_ok-then.ensures.builds []).made.grew.keeps (c.in_ok-bit.ensures.bit d (is_some_design g.D.Device.table c.args.names.now)).0,
+    let d = some_design g.D.Device.table c.args.scope.now in (
+      kept_inside _ _ c.in_ok-bit.bit (c.in_ok-then.ensures.builds []).made.grew.keeps (c.in_ok-bit.ensures.bit d (is_some_design g.D.Device.table c.args.scope.now)).0,
       c.in_ok-then.ensures.bit.0,
     )

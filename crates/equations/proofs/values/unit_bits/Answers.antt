@@ -7,7 +7,7 @@ use Rattle.equations.proofs.values.unit_bits.Goals as goal
 
 pub returns-in-Ok-clause-keeps : goal.returns-in-Ok-clause-keeps
 returns-in-Ok-clause-keeps g c =
-    let n = c.args.names.now in
+    let n = c.args.scope.now in
     let t = g.D.Device.table in
     answer_keeps n (some_design t n) (view c.args.expr.now) _ _ (Ok c.in-Ok.shaped) c.requires.accepted (c.in-Ok.ensures.answer (some_design t n) (is_some_design t n))
 
@@ -21,10 +21,10 @@ returns-in-Ok-clause-builds g c = λ d is list.
 
 pub returns-in-Err-clause-keeps : goal.returns-in-Err-clause-keeps
 returns-in-Err-clause-keeps g c =
-    let n = c.args.names.now in
+    let n = c.args.scope.now in
     let t = g.D.Device.table in
     answer_keeps n (some_design t n) (view c.args.expr.now) _ _ (Err c.in-Err.fault) c.requires.accepted (c.in-Err.ensures.answer (some_design t n) (is_some_design t n))
 
 pub returns-in-Err-clause-builds : goal.returns-in-Err-clause-builds
 returns-in-Err-clause-builds g c = λ d is list.
-    rw (c.at_unit.ensures) (answer_stops c.args.names.now d (view c.args.expr.now) c.args.unit _ _ c.in-Err.fault c.requires.accepted (c.in-Err.ensures.answer d is) list)
+    rw (c.at_unit.ensures) (answer_stops c.args.scope.now d (view c.args.expr.now) c.args.unit _ _ c.in-Err.fault c.requires.accepted (c.in-Err.ensures.answer d is) list)

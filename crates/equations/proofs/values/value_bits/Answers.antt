@@ -11,8 +11,8 @@ use Rattle.equations.proofs.values.value_bits.Goals as goal
 
 pub returns-clause-width : goal.returns-clause-width
 returns-clause-width g c =
-    let d = some_design g.D.Device.table c.args.names.now in
-    let s = c.in_ok-shaped.ensures.shaped d (is_some_design g.D.Device.table c.args.names.now) in
+    let d = some_design g.D.Device.table c.args.scope.now in
+    let s = c.in_ok-shaped.ensures.shaped d (is_some_design g.D.Device.table c.args.scope.now) in
     ap length c.reverse.ensures.items ∙ length-reverse c.in_ok-ids.ids.items
     ∙ bits_length (arena c.unit_bits.new.exprs) c.in_ok-ids.ids.items _ (c.in_ok-ids.ensures c.unit_bits.new.exprs _ _ s)
     ∙ met_length c.args.width (arena c.unit_bits.new.exprs) c.in_ok-shaped.shaped _ _ s
