@@ -8,8 +8,7 @@ use Rattle.pld_device.specs.SampleTable.{sample}
 use Rattle.abel_tree.specs.declared.words.Extension.TheVariants as extension
 use Rattle.abel_tree.specs.Entries.{Kind, APin, AConstant, Words, Entry}
 use Rattle.abel_tree.specs.Tree.{Tree, ANumber, ASpecial, AName, ASet, SetMember, OneMember, members_of, RowTree}
-use Rattle.abel_meaning.specs.Designs.{Design}
-use Rattle.abel_meaning.specs.Terms.{known_of}
+use Rattle.abel_meaning.specs.Designs.{Context, context_of}
 use Rattle.set_expr.specs.declared.fault.SectionFault.{SectionFault}
 use Rattle.set_expr.specs.declared.fault.SectionFault.TheVariants.{MisplacedSpecial, NotAnOutput, MixedAssignment, BadRow}
 use Rattle.section_targets.specs.declared.manner.Manner.{Manner}
@@ -59,8 +58,8 @@ names =
     ∷ declared "Y" (APin 8 false) false true ∷ declared "Z" (APin 9 false) false true
     ∷ constant "c" (set 1 (name 1 "Y" ∷ name 1 "Z" ∷ [])) ∷ constant "x" unknown ∷ constant "k" pulse ∷ []
 
-abbrev design : Design
-design = record { device = sample; names = names; known = known_of names; starts_dontcare = false; sections = [] }
+abbrev design : Context
+design = context_of sample names
 
 abbrev row : ℕ → (inputs outputs : Tree) → RowTree
 row l inputs outputs = record { place = row_at l; inputs = inputs; clocked = false; outputs = outputs }

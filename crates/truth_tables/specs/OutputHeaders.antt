@@ -6,7 +6,7 @@ use Rattle.pld_base.specs.declared.place.Place.{Place}
 use Rattle.abel_tree.specs.Entries.{find}
 use Rattle.abel_tree.specs.Ranges.{range_names}
 use Rattle.abel_tree.specs.Tree.{Tree, ANumber, ASpecial, AName, ASet, AParen, AUnary, ABinary, SetMember, OneMember, SpanMember, Members, NoMember, MoreMembers}
-use Rattle.abel_meaning.specs.Designs.{Design}
+use Rattle.abel_meaning.specs.Designs.{Context}
 use Rattle.abel_meaning.specs.Targets.{targets_of}
 use Rattle.abel_meaning.specs.Terms.{Term, term_named}
 use Rattle.set_expr.specs.declared.fault.SectionFault.{SectionFault}
@@ -41,7 +41,7 @@ named_outputs [] p name t =
 named_outputs (r ∷ rs) p name t = record { refusals = r ∷ rs; outputs = [] }
 
 -- a name at its place
-abbrev pub header_name : Design → Place → List ℕ → HeaderFound
+abbrev pub header_name : Context → Place → List ℕ → HeaderFound
 header_name d p text =
     named_outputs (found_use p (name_found (names_found d.names) text)).refusals p (find d.names text)
     (term_named d.known text)
@@ -54,7 +54,7 @@ abbrev pub header_set : Place → HeaderFound → HeaderFound
 header_set p x = record x { refusals = x.refusals ++ too_wide p (length x.outputs) }
 
 -- the names of a range, all at the place of its first end
-abbrev pub header_range : Design → Place → List (List ℕ) → HeaderFound
+abbrev pub header_range : Context → Place → List (List ℕ) → HeaderFound
 header_range d p [] = header_of []
 header_range d p (name ∷ names) = both_headers (header_name d p name) (header_range d p names)
 
@@ -66,7 +66,7 @@ header_special letter p =
 
 -- what is found of an output header, and of each member of one
 abbrev mutual
-  pub output_header : Design → Tree → HeaderFound
+  pub output_header : Context → Tree → HeaderFound
   output_header d (ANumber n) = refused_header (NotAnOutput n.place None)
   output_header d (ASpecial letter p) = header_special letter p
   output_header d (AName word None) = header_name d word.place word.text
@@ -77,10 +77,10 @@ abbrev mutual
   output_header d (AUnary sign p t) = refused_header (NotAnOutput p None)
   output_header d (ABinary sign p t u) = refused_header (NotAnOutput (first_place t) (first_name d.names t))
 
-  pub output_members : Design → Members → HeaderFound
+  pub output_members : Context → Members → HeaderFound
   output_members d NoMember = header_of []
   output_members d (MoreMembers m ms) = both_headers (output_member d m) (output_members d ms)
 
-  pub output_member : Design → SetMember → HeaderFound
+  pub output_member : Context → SetMember → HeaderFound
   output_member d (OneMember t) = output_header d t
   output_member d (SpanMember first last) = header_range d first.place (range_names first.text last.text)

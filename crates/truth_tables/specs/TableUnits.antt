@@ -5,7 +5,7 @@ use Rattle.pld_base.specs.declared.place.Place.{Place}
 use Rattle.abel_tree.specs.Tree.{Tree, RowTree}
 use Rattle.bit_expr.specs.Formulas.{differ}
 use Rattle.abel_meaning.specs.CountedBlocks.{table_units}
-use Rattle.abel_meaning.specs.Designs.{Design}
+use Rattle.abel_meaning.specs.Designs.{Context}
 use Rattle.abel_meaning.specs.Rows.{entry_levels}
 use Rattle.abel_meaning.specs.Terms.{Term, term_of}
 use Rattle.set_expr.specs.declared.fault.SectionFault.{SectionFault}
@@ -35,7 +35,7 @@ unless_refused (r ∷ rs) aims = []
 -- ---- refusals
 
 -- the outputs are assigned by their names, on the clock or not, behind what was assigned before
-abbrev pub outputs_refused : Design → List Manner → (clocked : Bool) → HeaderFound → List SectionFault
+abbrev pub outputs_refused : Context → List Manner → (clocked : Bool) → HeaderFound → List SectionFault
 outputs_refused d before clocked h =
     if_none h.refusals (aims_refused d before None false clocked (some_aims h.outputs))
 
@@ -44,19 +44,19 @@ abbrev pub assigned_by : (clocked : Bool) → HeaderFound → List Manner
 assigned_by clocked h = map (manner_of None false clocked) (unless_refused h.refusals (some_aims h.outputs))
 
 -- both sides of a header
-abbrev pub header_refused : Design → List Manner → (clocked : Bool) → (inputs outputs : Tree) → List SectionFault
+abbrev pub header_refused : Context → List Manner → (clocked : Bool) → (inputs outputs : Tree) → List SectionFault
 header_refused d before clocked inputs outputs =
     (expression_found d.names inputs).refusals ++ outputs_refused d before clocked (output_header d outputs)
 
 -- `.C.` and `.Z.` stand in no row of a table
-abbrev pub level_refused : Design → (r : SectionFault) → (header : Term) → Tree → List SectionFault
+abbrev pub level_refused : Context → (r : SectionFault) → (header : Term) → Tree → List SectionFault
 level_refused d r h t = if holds_pulse (names_found d.names) t then r ∷ [] else entry_refused d r h t
 
 -- a row has the arrow of its header
 abbrev pub arrow_refused : (r : SectionFault) → (clocked row_clocked : Bool) → List SectionFault
 arrow_refused r clocked row_clocked = if differ clocked row_clocked then r ∷ [] else []
 
-abbrev pub row_refused : Design → (clocked : Bool) → (inputs outputs : Term) → RowTree → List SectionFault
+abbrev pub row_refused : Context → (clocked : Bool) → (inputs outputs : Term) → RowTree → List SectionFault
 row_refused d clocked inputs outputs row =
     arrow_refused (BadRow row.place) clocked row.clocked
     ++ (level_refused d (BadRow row.place) inputs row.inputs ++ level_refused d (BadRow row.place) outputs row.outputs)
@@ -64,7 +64,7 @@ row_refused d clocked inputs outputs row =
 -- ---- units
 
 -- rows with the nodes of each
-abbrev pub row_units : Design → (clocked : Bool) → (inputs outputs : Term) → List RowTree → List ℕ → List CountedUnit
+abbrev pub row_units : Context → (clocked : Bool) → (inputs outputs : Term) → List RowTree → List ℕ → List CountedUnit
 row_units d clocked inputs outputs [] ns = []
 row_units d clocked inputs outputs (row ∷ rows) [] = []
 row_units d clocked inputs outputs (row ∷ rows) (n ∷ ns) =
@@ -77,7 +77,7 @@ units_behind [] p us = us
 units_behind (r ∷ rs) p us = record { place = p; refusals = r ∷ rs; nodes = 0 } ∷ []
 
 -- the units of a table at this place
-abbrev pub units_of_table : Design → List Manner → Place → (inputs : Tree) → (clocked : Bool) → (outputs : Tree)
+abbrev pub units_of_table : Context → List Manner → Place → (inputs : Tree) → (clocked : Bool) → (outputs : Tree)
     → List RowTree → List CountedUnit
 units_of_table d before p inputs clocked outputs rows =
     units_behind (header_refused d before clocked inputs outputs) p
@@ -96,7 +96,7 @@ row_places (x ∷ xs) [] = []
 row_places (None ∷ xs) (l ∷ ls) = row_places xs ls
 row_places (Some a ∷ xs) (l ∷ ls) = places_for a l ++ row_places xs ls
 
-abbrev pub rows_places : Design → List (Option Aim) → (outputs : Term) → List RowTree → List Place
+abbrev pub rows_places : Context → List (Option Aim) → (outputs : Term) → List RowTree → List Place
 rows_places d xs outputs [] = []
 rows_places d xs outputs (row ∷ rows) =
     row_places xs (entry_levels d outputs (term_of d.known row.outputs)) ++ rows_places d xs outputs rows
@@ -105,7 +105,7 @@ abbrev pub places_of : List Aim → List Place
 places_of [] = []
 places_of (a ∷ aims) = a.place ∷ places_of aims
 
-abbrev pub table_places : Design → (outputs : Tree) → List RowTree → List Place
+abbrev pub table_places : Context → (outputs : Tree) → List RowTree → List Place
 table_places d outputs rows =
     places_of (some_aims (output_header d outputs).outputs)
     ++ rows_places d (output_header d outputs).outputs (term_of d.known outputs) rows
