@@ -10,8 +10,7 @@ use Rattle.abel_tree.specs.declared.words.Sign.TheVariants as sign
 use Rattle.abel_tree.specs.declared.words.Word.{Word}
 use Rattle.abel_tree.specs.Entries.{Kind, APin, AConstant, Words, Entry}
 use Rattle.abel_tree.specs.Tree.{Tree, ANumber, ASpecial, AName, ASet, ABinary, SetMember, OneMember, members_of, AnAssign, Branch, AGoal, AnIf, ACase, NoBranch, ABranch, NoChoice, MoreChoices, StateTree}
-use Rattle.abel_meaning.specs.Designs.{Design}
-use Rattle.abel_meaning.specs.Terms.{known_of}
+use Rattle.abel_meaning.specs.Designs.{Context, context_of}
 use Rattle.set_expr.specs.declared.fault.SectionFault.{SectionFault}
 use Rattle.set_expr.specs.declared.fault.SectionFault.TheVariants.{MisplacedSpecial, BadWidth, NotAnOutput, MixedAssignment, BadState}
 use Rattle.section_targets.specs.Units.{units_refused}
@@ -56,8 +55,8 @@ names =
     ∷ declared "R" (APin 9 false) true true ∷ declared "Y" (APin 9 false) false true
     ∷ declared "s" (AConstant (number 2)) false false ∷ []
 
-abbrev design : Design
-design = record { device = sample; names = names; known = known_of names; starts_dontcare = false; sections = [] }
+abbrev design : Context
+design = context_of sample names
 
 -- a state on this line
 abbrev state : ℕ → Tree → List Branch → StateTree
