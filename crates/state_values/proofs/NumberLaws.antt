@@ -13,7 +13,7 @@ use Rattle.abel_tree.specs.Entries.{entries_of}
 use Rattle.abel_tree.specs.Tree.{Tree}
 use Rattle.abel_tree.proofs.FirstRefusals.{none_refused}
 use Rattle.abel_meaning.specs.BitWords.{Word}
-use Rattle.abel_meaning.specs.Designs.{Design}
+use Rattle.abel_meaning.specs.Designs.{Context}
 use Rattle.abel_meaning.specs.FormulaBits.{bits_of}
 use Rattle.abel_meaning.specs.Numbers.{Value, width_of, met_number, number_with, digits_low_first}
 use Rattle.abel_meaning.specs.Numbers as number
@@ -42,7 +42,7 @@ neither false b h = (refl, h)
 neither true b h = absurd cc
 
 mutual
-  same_value : (d : Design) (at : Levels) (t : Term) → reads_signal t ≡ false → term_value d at t ≡ constant_of d t
+  same_value : (d : Context) (at : Levels) (t : Term) → reads_signal t ≡ false → term_value d at t ≡ constant_of d t
   same_value d at (term.Number n) h = refl
   same_value d at term.X h = refl
   same_value d at term.Pulse h = refl
@@ -54,7 +54,7 @@ mutual
       let n = neither (reads_signal t) (reads_signal u) h in
       ap₂ (binary_value sign) (same_value d at t n.0) (same_value d at u n.1)
 
-  same_set : (d : Design) (at : Levels) (ts : Terms) → any_reads_signal ts ≡ false → set_value d at ts ≡ set_value d nowhere ts
+  same_set : (d : Context) (at : Levels) (ts : Terms) → any_reads_signal ts ≡ false → set_value d at ts ≡ set_value d nowhere ts
   same_set d at term.NoTerm h = refl
   same_set d at (term.Before t ts) h =
       let n = neither (reads_signal t) (any_reads_signal ts) h in
@@ -66,7 +66,7 @@ digits_by number.Single k n bs h = h
 digits_by (number.Set w) k n bs h = h
 
 -- its word has the digits of its number
-pub still_digits : (d : Design) (t : Term) → reads_signal t ≡ false → HasDigits (constant_of d t) (bits_of d t).what
+pub still_digits : (d : Context) (t : Term) → reads_signal t ≡ false → HasDigits (constant_of d t) (bits_of d t).what
 still_digits d t h =
     let v = constant_of d t in
     let bs = map (formula_value all_zero) (bits_of d t).what in
@@ -114,11 +114,11 @@ ids_number fs ids w h = ap number_with (sym (map-map (formula_value all_zero) (f
 
 -- ---- few positions
 
-narrow_if : (d : Design) (o : Option Value) (xs : List SectionFault) (t : Term) → (o ≡ None → ⊥) → IsLinkedIf d o xs t → width_of (constant_of d t).shape ≤ 32
+narrow_if : (d : Context) (o : Option Value) (xs : List SectionFault) (t : Term) → (o ≡ None → ⊥) → IsLinkedIf d o xs t → width_of (constant_of d t).shape ≤ 32
 narrow_if d None xs t h l = absurd (h refl)
 narrow_if d (Some v) xs t h l = subst (λ s. width_of s ≤ 32) (sym l.0.shape) l.3
 
-pub narrow : (n : Names) (d : Design) (t : Tree) → d.known ≡ known_of (entries_of n) → refusal_of n t ≡ None → width_of (constant_of d (term_of d.known t)).shape ≤ 32
+pub narrow : (n : Names) (d : Context) (t : Tree) → d.known ≡ known_of (entries_of n) → refusal_of n t ≡ None → width_of (constant_of d (term_of d.known t)).shape ≤ 32
 narrow n d t known e =
     let f = expression_found (entries_of n) t in
     let l = expression_linked d (entries_of n) t in

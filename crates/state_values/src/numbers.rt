@@ -1,27 +1,24 @@
 //! The number of an expression that reads no signal.
 
-ghost use Rattle.std.specs.Prelude.{◌≡◌, ◌<◌, ◌≤◌, ◌+◌, ◌*◌, ℕ, false, None, All, length, map, IfOk};
+ghost use Rattle.std.specs.Prelude.{◌≡◌, ◌<◌, ◌≤◌, ◌+◌, ◌*◌, false, None, All, length, map, IfOk};
 ghost use Rattle.bit_expr.specs.declared.node.ExprId.{ExprId};
 ghost use Rattle.bit_expr.specs.Arena.{arena};
-ghost use Rattle.abel_tree.specs.Entries.{entries_of};
 ghost use Rattle.abel_tree.specs.View.{view};
 ghost use Rattle.abel_meaning.specs.BitWords.{Word};
-ghost use Rattle.abel_meaning.specs.Designs.{Design};
+ghost use Rattle.abel_meaning.specs.Designs.{Context};
 ghost use Rattle.abel_meaning.specs.Numbers.{Value, number_with, one_bit};
 ghost use Rattle.abel_meaning.specs.Terms.{term_of};
-ghost use Rattle.set_expr.specs.Answer.{IsDesignOf, IsShaped, refusal_of};
-ghost use Rattle.set_expr.specs.KnownNames.{IsKnown};
-ghost use Rattle.expr_bits.specs.Placed.{ArePlaced};
+ghost use Rattle.set_expr.specs.Answer.{IsContextOf, IsShaped, refusal_of};
 ghost use Rattle.state_diagrams.specs.StateValues.{reads_signal, state_number};
 ghost use Rattle.state_values.specs.Still.{level_of, met_levels, HasFew, HasDigits, Shows};
 
-use abel_tree::{Expr, Names};
+use abel_tree::Expr;
 use bit_expr::{ExprId, Exprs};
 use expr_bits::bits;
 use pld_base::{OutOfMemory, Point};
 use pld_device::Device;
 use section_targets::meet;
-use set_expr::{KnownNames, Shape, Shaped};
+use set_expr::{Scope, Shape, Shaped};
 use std::alloc::Global;
 
 /// A digit more on the right of a number.
@@ -84,18 +81,15 @@ fn shaped_number(alloc: Global, exprs: &Exprs, shaped: &Shaped) -> Result<u32, O
 /// their own, which want of memory alone can end, since no node is made.
 pub fn state_number<D: Device>(
     alloc: Global,
-    names: &Names,
-    known: &KnownNames,
+    scope: &Scope<'_>,
     value: &Expr,
 ) -> Result<u32, OutOfMemory>
-    requires known { IsKnown (entries_of names.now) known.now }
-    requires placed { ArePlaced names.now }
-    requires accepted { refusal_of names.now (view value.now) ≡ None }
-    requires still { (d : Design) → IsDesignOf D.table names.now d → reads_signal (term_of d.known (view value.now)) ≡ false }
-    ensures { IfOk result (λ n. (d : Design) → IsDesignOf D.table names.now d → n ≡ state_number d (view value.now)) }
+    requires accepted { refusal_of scope.now (view value.now) ≡ None }
+    requires still { (d : Context) → IsContextOf D.table scope.now d → reads_signal (term_of d.known (view value.now)) ≡ false }
+    ensures { IfOk result (λ n. (d : Context) → IsContextOf D.table scope.now d → n ≡ state_number d (view value.now)) }
 {
     let mut exprs = Exprs::new(alloc);
-    match bits::<D>(alloc, names, known, value, &mut exprs) {
+    match bits::<D>(alloc, scope, value, &mut exprs) {
         Ok(shaped) => shaped_number(alloc, &exprs, &shaped),
         Err(_) => Err(OutOfMemory),
     }

@@ -1,20 +1,19 @@
 //! Whether an expression reads a signal.
 
-ghost use Rattle.std.specs.Prelude.{◌≡◌, ◌||◌, Bool, false, List, IfOk, get_or};
+ghost use Rattle.std.specs.Prelude.{◌≡◌, ◌||◌, false, List, IfOk, get_or};
 ghost use Rattle.std.specs.List.{list_any};
-ghost use Rattle.abel_tree.specs.Entries.{Entry};
+ghost use Rattle.abel_tree.specs.Entries.{entries_of};
 ghost use Rattle.abel_tree.specs.Ranges.{range_names};
 ghost use Rattle.abel_tree.specs.View.{view, view_member};
-ghost use Rattle.abel_meaning.specs.Terms.{Known, term_named, term_of, member_before};
+ghost use Rattle.abel_meaning.specs.Terms.{Known, term_of, member_before};
 ghost use Rattle.abel_meaning.specs.Terms as term;
-ghost use Rattle.set_expr.specs.KnownNames.{IsKnown};
 ghost use Rattle.state_diagrams.specs.StateValues.{reads_signal, any_reads_signal};
 ghost use Rattle.state_values.specs.Reads.{ReadFor, name_reads};
 
 use abel_tree::{Expr, Member, Word};
 use name_ranges::range_list;
 use pld_base::OutOfMemory;
-use set_expr::KnownNames;
+use set_expr::Scope;
 use std::alloc::Global;
 
 /// Whether the name of this number reads a signal, of the names before.
@@ -29,10 +28,10 @@ fn number_reads(reading: &[bool], number: usize) -> bool
 }
 
 /// Whether what a name stands for reads a signal.
-fn text_reads(known: &KnownNames, reading: &[bool], text: &[u8]) -> bool
-    ensures { (es : List Entry) (ks : List Known) → IsKnown es known.now → ReadFor es reading.now ks → result ≡ name_reads ks text.now }
+fn text_reads(scope: &Scope<'_>, reading: &[bool], text: &[u8]) -> bool
+    ensures { (ks : List Known) → ReadFor (entries_of scope.now) reading.now ks → result ≡ name_reads ks text.now }
 {
-    match known.get(text) {
+    match scope.get(text) {
         Some(name) => number_reads(reading, name.number as usize),
         None => false,
     }
@@ -48,17 +47,17 @@ fn either(first: bool, second: bool) -> bool
 /// Whether some name of a range reads a signal.
 fn range_reads(
     alloc: Global,
-    known: &KnownNames,
+    scope: &Scope<'_>,
     reading: &[bool],
     first: &Word,
     last: &Word,
 ) -> Result<bool, OutOfMemory>
-    ensures { IfOk result (λ b. (es : List Entry) (ks : List Known) → IsKnown es known.now → ReadFor es reading.now ks → b ≡ list_any (name_reads ks) (range_names first.now.text last.now.text)) }
+    ensures { IfOk result (λ b. (ks : List Known) → ReadFor (entries_of scope.now) reading.now ks → b ≡ list_any (name_reads ks) (range_names first.now.text last.now.text)) }
 {
     let names = range_list(alloc, first.text.bytes(), last.text.bytes())?;
     let mut found = false;
     for name in &names {
-        found = either(found, text_reads(known, reading, name.as_slice()));
+        found = either(found, text_reads(scope, reading, name.as_slice()));
     }
     Ok(found)
 }
@@ -67,15 +66,15 @@ fn range_reads(
 #[cycle(reading)]
 fn member_reads(
     alloc: Global,
-    known: &KnownNames,
+    scope: &Scope<'_>,
     reading: &[bool],
     member: &Member,
 ) -> Result<bool, OutOfMemory>
-    ensures { IfOk result (λ b. (es : List Entry) (ks : List Known) → IsKnown es known.now → ReadFor es reading.now ks → b ≡ any_reads_signal (member_before ks (view_member member.now) term.NoTerm)) }
+    ensures { IfOk result (λ b. (ks : List Known) → ReadFor (entries_of scope.now) reading.now ks → b ≡ any_reads_signal (member_before ks (view_member member.now) term.NoTerm)) }
 {
     match member {
-        Member::One(expr) => reads_signal(alloc, known, reading, expr),
-        Member::Span { first, last } => range_reads(alloc, known, reading, first, last),
+        Member::One(expr) => reads_signal(alloc, scope, reading, expr),
+        Member::Span { first, last } => range_reads(alloc, scope, reading, first, last),
     }
 }
 
@@ -83,11 +82,11 @@ fn member_reads(
 #[cycle(reading)]
 fn level_reads(
     alloc: Global,
-    known: &KnownNames,
+    scope: &Scope<'_>,
     reading: &[bool],
     expr: &Expr,
 ) -> Result<bool, OutOfMemory>
-    ensures { IfOk result (λ b. (es : List Entry) (ks : List Known) → IsKnown es known.now → ReadFor es reading.now ks → b ≡ reads_signal (term_of ks (view expr.now))) }
+    ensures { IfOk result (λ b. (ks : List Known) → ReadFor (entries_of scope.now) reading.now ks → b ≡ reads_signal (term_of ks (view expr.now))) }
 {
     match expr {
         Expr::Number(_) => Ok(false),
@@ -95,7 +94,7 @@ fn level_reads(
             letter: _,
             place: _,
         } => Ok(false),
-        Expr::Name { word, extension: _ } => Ok(text_reads(known, reading, word.text.bytes())),
+        Expr::Name { word, extension: _ } => Ok(text_reads(scope, reading, word.text.bytes())),
         Expr::Set {
             place: _,
             members,
@@ -103,25 +102,25 @@ fn level_reads(
         } => {
             let mut found = false;
             for member in members.as_slice() {
-                let reads = member_reads(alloc, known, reading, member)?;
+                let reads = member_reads(alloc, scope, reading, member)?;
                 found = either(found, reads);
             }
             Ok(found)
         }
-        Expr::Paren { place: _, inner } => reads_signal(alloc, known, reading, inner.get()),
+        Expr::Paren { place: _, inner } => reads_signal(alloc, scope, reading, inner.get()),
         Expr::Unary {
             sign: _,
             place: _,
             inner,
-        } => reads_signal(alloc, known, reading, inner.get()),
+        } => reads_signal(alloc, scope, reading, inner.get()),
         Expr::Binary {
             sign: _,
             place: _,
             left,
             right,
         } => {
-            let left = reads_signal(alloc, known, reading, left.get())?;
-            let right = reads_signal(alloc, known, reading, right.get())?;
+            let left = reads_signal(alloc, scope, reading, left.get())?;
+            let right = reads_signal(alloc, scope, reading, right.get())?;
             Ok(either(left, right))
         }
     }
@@ -132,11 +131,11 @@ fn level_reads(
 #[cycle(reading)]
 pub fn reads_signal(
     alloc: Global,
-    known: &KnownNames,
+    scope: &Scope<'_>,
     reading: &[bool],
     expr: &Expr,
 ) -> Result<bool, OutOfMemory>
-    ensures { IfOk result (λ b. (es : List Entry) (ks : List Known) → IsKnown es known.now → ReadFor es reading.now ks → b ≡ reads_signal (term_of ks (view expr.now))) }
+    ensures { IfOk result (λ b. (ks : List Known) → ReadFor (entries_of scope.now) reading.now ks → b ≡ reads_signal (term_of ks (view expr.now))) }
 {
     let mut first = expr;
     let mut found = false;
@@ -147,10 +146,10 @@ pub fn reads_signal(
         right,
     } = first
     {
-        let reads = reads_signal(alloc, known, reading, right.get())?;
+        let reads = reads_signal(alloc, scope, reading, right.get())?;
         found = either(found, reads);
         first = left.get();
     }
-    let reads = level_reads(alloc, known, reading, first)?;
+    let reads = level_reads(alloc, scope, reading, first)?;
     Ok(either(found, reads))
 }

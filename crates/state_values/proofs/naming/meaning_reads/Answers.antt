@@ -9,5 +9,5 @@ use Rattle.state_values.proofs.naming.meaning_reads.Goals as goal
 pub returns-in-Constant : goal.returns-in-Constant
 returns-in-Constant c =
     IfOk-weaker c.reads_signal.result _ _
-    (λ b f es ks s k h. f es ks k h ∙ ap (λ m. reads_signal (term_meant ks s (view_meaning m))) (sym c.in-Constant.is))
+    (λ b f ks s h. f ks h ∙ ap (λ m. reads_signal (term_meant ks s (view_meaning m))) (sym c.in-Constant.is))
     c.reads_signal.ensures

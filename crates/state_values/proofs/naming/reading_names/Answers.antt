@@ -10,20 +10,20 @@ use Rattle.state_values.proofs.naming.reading_names.Goals as goal
 
 pub loop-declared-preserved : goal.loop-declared-preserved
 loop-declared-preserved c =
-    let ds = c.as_slice-declared-items.result.now in
+    let ds = c.list-declared-items.result.now in
     let i = c.loop-declared.declared-index in
     let d = c.declared-item.result in
-    let all = entries_of c.args.names.now in
+    let all = entries_of c.args.scope.now in
     let es = map view_declared (take i ds) in
     let here : map view_declared (take (i + 1) ds) ≡ es ++ view_declared d ∷ [] = front_more view_declared ds i d c.loop-declared-test.true c.declared-item.is in
-    let split : es ++ map view_declared (drop i ds) ≡ all = sym (map-append view_declared (take i ds) (drop i ds)) ∙ ap (map view_declared) (take-append-drop i ds) ∙ ap (map view_declared) c.as_slice-declared-items.ensures in
+    let split : es ++ map view_declared (drop i ds) ≡ all = sym (map-append view_declared (take i ds) (drop i ds)) ∙ ap (map view_declared) (take-append-drop i ds) ∙ ap (map view_declared) c.list-declared-items.ensures in
     let front : ReadFor all c.loop-declared.reading.items (known_of es) = subst (λ xs. ReadFor xs c.loop-declared.reading.items (known_of es)) split (read_front es (map view_declared (drop i ds)) c.loop-declared.reading.items c.loop-declared.invariant) in
-    let one = c.in_ok-reads.ensures all (known_of es) (0 + length es) c.requires.known (subst (λ (bs : List Bool). ReadFor all bs (known_of es)) (sym c.deref.ensures.value) front) in
+    let one = c.in_ok-reads.ensures (known_of es) (0 + length es) (subst (λ (bs : List Bool). ReadFor all bs (known_of es)) (sym c.deref.ensures.value) front) in
     c.in_ok-push.ensures.items ∙ reads_more es (view_declared d) c.loop-declared.reading.items c.in_ok-reads.reads c.loop-declared.invariant one ∙ ap (λ xs. reads_of (known_of xs)) (sym here)
 
 pub returns : goal.returns
 returns c =
-    let ds = c.as_slice-declared-items.result.now in
-    let es = entries_of c.args.names.now in
-    let all : map view_declared (take c.loop-declared.declared-index ds) ≡ es = whole_front view_declared ds c.loop-declared.declared-index c.loop-declared-test.false ∙ ap (map view_declared) c.as_slice-declared-items.ensures in
+    let ds = c.list-declared-items.result.now in
+    let es = entries_of c.args.scope.now in
+    let all : map view_declared (take c.loop-declared.declared-index ds) ≡ es = whole_front view_declared ds c.loop-declared.declared-index c.loop-declared-test.false ∙ ap (map view_declared) c.list-declared-items.ensures in
     read_all es c.loop-declared.reading.items (c.loop-declared.invariant ∙ ap (λ xs. reads_of (known_of xs)) all)

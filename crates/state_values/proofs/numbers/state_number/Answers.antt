@@ -10,7 +10,7 @@ use Rattle.state_values.proofs.numbers.state_number.Goals as goal
 
 pub shaped_number-requires-clause-few : goal.shaped_number-requires-clause-few
 shaped_number-requires-clause-few g c =
-    let n = c.args.names.now in
+    let n = c.args.scope.now in
     let d = some_design g.D.Device.table n in
     let is = is_some_design g.D.Device.table n in
     let t = view c.args.value.now in
@@ -18,7 +18,7 @@ shaped_number-requires-clause-few g c =
 
 pub shaped_number-requires-clause-shows : goal.shaped_number-requires-clause-shows
 shaped_number-requires-clause-shows g c =
-    let n = c.args.names.now in
+    let n = c.args.scope.now in
     let d = some_design g.D.Device.table n in
     let t = term_of d.known (view c.args.value.now) in
     record { value = constant_of d t; word = (bits_of d t).what; shaped = (c.in-Ok.ensures.answer d (is_some_design g.D.Device.table n)).shaped }

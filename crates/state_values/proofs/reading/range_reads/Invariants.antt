@@ -2,13 +2,12 @@
 use Rattle.std.proofs.Common.{◌≡◌, ℕ, List, map, take}
 use Rattle.std.specs.Global.{Vec}
 use Rattle.std.specs.List.{list_any}
-use Rattle.abel_tree.specs.Entries.{Entry}
+use Rattle.abel_tree.specs.Entries.{entries_of}
 use Rattle.abel_meaning.specs.Terms.{Known}
-use Rattle.set_expr.specs.KnownNames.{IsKnown}
 use Rattle.state_values.specs.Reads.{ReadFor, name_reads}
 use Rattle.state_values.proofs.reading.range_reads.Given as goal
 
 abbrev pub invariant-loop-name : goal.invariant-loop-name
 invariant-loop-name l =
-    (es : List Entry) (ks : List Known) → IsKnown es l.known → ReadFor es l.reading ks
+    (ks : List Known) → ReadFor (entries_of l.scope) l.reading ks
     → l.found ≡ list_any (name_reads ks) (map (λ (n : Vec ℕ). n.items) (take l.name-index l.name-items))
