@@ -3,7 +3,7 @@ use Rattle.std.proofs.Common.{◌≡◌, ◌≤◌, true, false, Option, None, S
 use Rattle.abel_tree.specs.FirstRefusal.{first_refusal}
 use Rattle.abel_tree.specs.Tree.{Tree}
 use Rattle.abel_tree.proofs.FirstRefusals.{none_refused}
-use Rattle.abel_meaning.specs.Designs.{Design}
+use Rattle.abel_meaning.specs.Designs.{Context}
 use Rattle.abel_meaning.specs.Terms.{known_of}
 use Rattle.set_expr.specs.declared.fault.SectionFault.{SectionFault}
 use Rattle.set_expr.specs.SectionOrder.{section_order}
@@ -24,7 +24,7 @@ abbrev first : List SectionFault → Option SectionFault
 first rs = first_refusal section_order rs
 
 -- no targets
-pub no_registers : (d : Design) (all : List Manner) (t : Tree) (s : Side) (f : SectionFault) → IsSide (length d.names) s (target_member d t) → s.fault ≡ Some f → AreRegisters d all t s
+pub no_registers : (d : Context) (all : List Manner) (t : Tree) (s : Side) (f : SectionFault) → IsSide (length d.names) s (target_member d t) → s.fault ≡ Some f → AreRegisters d all t s
 no_registers d all t s f h e =
     record {
       fault = e ∙ by (target_member d t).refusals (sym e ∙ h.fault);
@@ -48,7 +48,7 @@ no_manners x all o f h e = by x.refusals (sym e ∙ h)
     by (r ∷ rs) g = sym (append-nil all)
 
 -- where no fault is found, the registers are all there
-pub member_whole : (d : Design) (s : Side) (t : Tree) → d.known ≡ known_of d.names → IsSide (length d.names) s (target_member d t) → s.fault ≡ None → ((target_member d t).refusals ≡ []) × (s.aims ≡ (target_member d t).aims) × (length s.aims ≤ 32)
+pub member_whole : (d : Context) (s : Side) (t : Tree) → d.known ≡ known_of d.names → IsSide (length d.names) s (target_member d t) → s.fault ≡ None → ((target_member d t).refusals ≡ []) × (s.aims ≡ (target_member d t).aims) × (length s.aims ≤ 32)
 member_whole d s t k h e =
     let r = none_refused section_order (target_member d t).refusals (sym e ∙ h.fault) in
     let few = member_few d t k r in
@@ -56,7 +56,7 @@ member_whole d s t k h e =
     (r, a, subst (λ xs. length xs ≤ 32) (sym a) few)
 
 -- targets that are assigned on the clock
-pub some_registers : (d : Design) (all : List Manner) (t : Tree) (s r : Side) → d.known ≡ known_of d.names → IsSide (length d.names) s (target_member d t) → s.fault ≡ None → r.aims ≡ s.aims → r.fault ≡ first (aims_refused d all None false true s.aims) → AreRegisters d all t r
+pub some_registers : (d : Context) (all : List Manner) (t : Tree) (s r : Side) → d.known ≡ known_of d.names → IsSide (length d.names) s (target_member d t) → s.fault ≡ None → r.aims ≡ s.aims → r.fault ≡ first (aims_refused d all None false true s.aims) → AreRegisters d all t r
 some_registers d all t s r k h e a f =
     let w = member_whole d s t k h e in
     record {

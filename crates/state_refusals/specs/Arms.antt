@@ -13,9 +13,9 @@ use Rattle.abel_tree.specs.FirstRefusal.{first_refusal}
 use Rattle.abel_tree.specs.Tree.{Tree, Branch, AGoal, Choices, choices_of}
 use Rattle.pld_base.specs.declared.place.Place.{Place}
 use Rattle.abel_tree.specs.View.{view, view_stmt, view_arm, view_choice, arm_layer, case_layer, case_arm_layer, if_layer}
-use Rattle.abel_meaning.specs.Designs.{Design}
+use Rattle.abel_meaning.specs.Designs.{Context}
 use Rattle.set_expr.specs.declared.fault.SectionFault.{SectionFault}
-use Rattle.set_expr.specs.Answer.{IsDesignOf}
+use Rattle.set_expr.specs.Answer.{IsContextOf}
 use Rattle.set_expr.specs.SectionOrder.{section_order}
 use Rattle.section_targets.specs.declared.manner.Manner.{Manner}
 use Rattle.section_targets.specs.Manners.{AreFirsts}
@@ -26,45 +26,45 @@ use Rattle.state_diagrams.specs.DiagramUnits.{branch_manners, branches_manners, 
 
 abbrev pub RefusesBranch : Table → Names → (registers : ℕ) → (before : List Manner) → Branch → Option SectionFault → Type 0
 RefusesBranch t n k before b f =
-    (d : Design) (g : Formula) (all : List Manner) → IsDesignOf t n d → AreFirsts before all
+    (d : Context) (g : Formula) (all : List Manner) → IsContextOf t n d → AreFirsts before all
     → f ≡ first_refusal section_order (units_refused (units_of_branch d g k all b))
 
 abbrev pub RefusesBranches : Table → Names → (registers : ℕ) → (before : List Manner) → List Branch → Option SectionFault
     → Type 0
 RefusesBranches t n k before bs f =
-    (d : Design) (g : Formula) (all : List Manner) → IsDesignOf t n d → AreFirsts before all
+    (d : Context) (g : Formula) (all : List Manner) → IsContextOf t n d → AreFirsts before all
     → f ≡ first_refusal section_order (units_refused (units_of_branches d g k all bs))
 
 -- the arms of a CASE, without their conditions
 abbrev pub RefusesChoices : Table → Names → (registers : ℕ) → (before : List Manner) → Choices → Option SectionFault
     → Type 0
 RefusesChoices t n k before cs f =
-    (d : Design) (g : Formula) (all : List Manner) → IsDesignOf t n d → AreFirsts before all
+    (d : Context) (g : Formula) (all : List Manner) → IsContextOf t n d → AreFirsts before all
     → f ≡ first_refusal section_order (units_refused (units_of_choices d g k all cs))
 
 -- CASE with these arms
 abbrev pub RefusesCase : Table → Names → (registers : ℕ) → (before : List Manner) → Choices → Option SectionFault → Type 0
 RefusesCase t n k before cs f =
-    (d : Design) (g : Formula) (all : List Manner) → IsDesignOf t n d → AreFirsts before all
+    (d : Context) (g : Formula) (all : List Manner) → IsContextOf t n d → AreFirsts before all
     → f ≡ first_refusal section_order (choices_refused d cs ++ units_refused (units_of_choices d g k all cs))
 
 -- the conditions alone
 abbrev pub RefusesConditions : Names → Choices → Option SectionFault → Type 0
-RefusesConditions n cs f = (d : Design) → d.names ≡ entries_of n → f ≡ first_refusal section_order (choices_refused d cs)
+RefusesConditions n cs f = (d : Context) → d.names ≡ entries_of n → f ≡ first_refusal section_order (choices_refused d cs)
 
 -- ---- how transitions assign signals is noted
 
 abbrev pub NotesBranch : Table → Names → (before after : List Manner) → Branch → Type 0
 NotesBranch t n before after b =
-    (d : Design) (all : List Manner) → IsDesignOf t n d → AreFirsts before all → AreFirsts after (all ++ branch_manners d b)
+    (d : Context) (all : List Manner) → IsContextOf t n d → AreFirsts before all → AreFirsts after (all ++ branch_manners d b)
 
 abbrev pub NotesBranches : Table → Names → (before after : List Manner) → List Branch → Type 0
 NotesBranches t n before after bs =
-    (d : Design) (all : List Manner) → IsDesignOf t n d → AreFirsts before all → AreFirsts after (all ++ branches_manners d bs)
+    (d : Context) (all : List Manner) → IsContextOf t n d → AreFirsts before all → AreFirsts after (all ++ branches_manners d bs)
 
 abbrev pub NotesChoices : Table → Names → (before after : List Manner) → Choices → Type 0
 NotesChoices t n before after cs =
-    (d : Design) (all : List Manner) → IsDesignOf t n d → AreFirsts before all → AreFirsts after (all ++ choices_manners d cs)
+    (d : Context) (all : List Manner) → IsContextOf t n d → AreFirsts before all → AreFirsts after (all ++ choices_manners d cs)
 
 -- ---- parts of a transition
 

@@ -7,16 +7,16 @@ use Rattle.abel_tree.specs.Entries.{entries_of}
 use Rattle.abel_tree.specs.FirstRefusal.{first_refusal}
 use Rattle.abel_tree.specs.Tree.{StateTree}
 use Rattle.abel_tree.specs.View.{view}
-use Rattle.abel_meaning.specs.Designs.{Design}
+use Rattle.abel_meaning.specs.Designs.{Context}
 use Rattle.abel_meaning.specs.Terms.{term_of}
-use Rattle.set_expr.specs.Answer.{IsDesignOf}
+use Rattle.set_expr.specs.Answer.{IsContextOf}
 use Rattle.set_expr.specs.FoundNames.{expression_found}
 use Rattle.set_expr.specs.SectionOrder.{section_order}
 use Rattle.state_diagrams.specs.StateValues.{reads_signal, state_number, state_refused}
 use Rattle.state_refusals.specs.declared.values.StateFound.{StateFound}
 
 -- the refusal of a state's value among n registers, behind those that are listed, and where it isn't refused its number
-pub record IsState (d : Design) (n : ℕ) (listed : List ℕ) (s : StateTree) (f : StateFound) : Type 0 where
+pub record IsState (d : Context) (n : ℕ) (listed : List ℕ) (s : StateTree) (f : StateFound) : Type 0 where
   pub fault : f.fault ≡ first_refusal section_order (state_refused d n listed s)
   pub number : f.fault ≡ None → f.number ≡ state_number d s.value
 
@@ -24,4 +24,4 @@ pub record IsState (d : Design) (n : ℕ) (listed : List ℕ) (s : StateTree) (f
 pub record IsStill (t : Table) (n : Names) (s : State) : Type 0 where
   pub refusals : (expression_found (entries_of n) (view s.value)).refusals ≡ []
   pub specials : (expression_found (entries_of n) (view s.value)).specials ≡ []
-  pub still : (d : Design) → IsDesignOf t n d → reads_signal (term_of d.known (view s.value)) ≡ false
+  pub still : (d : Context) → IsContextOf t n d → reads_signal (term_of d.known (view s.value)) ≡ false

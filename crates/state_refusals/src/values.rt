@@ -2,19 +2,16 @@
 
 ghost use Rattle.std.specs.Prelude.{◌≡◌, ◌==◌, ◌≤◌, ◌^◌, ◌||◌, ℕ, nat_lt, Some, IfOk};
 ghost use Rattle.std.specs.List.{list_any};
-ghost use Rattle.abel_tree.specs.Entries.{entries_of};
 ghost use Rattle.abel_tree.specs.View.{view_state};
-ghost use Rattle.abel_meaning.specs.Designs.{Design};
-ghost use Rattle.set_expr.specs.Answer.{IsDesignOf};
-ghost use Rattle.set_expr.specs.KnownNames.{IsKnown};
-ghost use Rattle.expr_bits.specs.Placed.{ArePlaced};
+ghost use Rattle.abel_meaning.specs.Designs.{Context};
+ghost use Rattle.set_expr.specs.Answer.{IsContextOf};
 ghost use Rattle.state_values.specs.Reads.{AreRead};
 ghost use Rattle.state_refusals.specs.States.{IsState, IsStill};
 
-use abel_tree::{Names, State};
+use abel_tree::State;
 use pld_base::OutOfMemory;
 use pld_device::Device;
-use set_expr::{KnownNames, SectionFault, check};
+use set_expr::{Scope, SectionFault};
 use state_values::{reads_signal, state_number};
 use std::alloc::Global;
 
@@ -65,19 +62,16 @@ fn refused(fault: SectionFault) -> StateFound
 /// A value of which nothing is refused and that reads no signal, at its word.
 fn still_value<D: Device>(
     alloc: Global,
-    names: &Names,
-    known: &KnownNames,
+    scope: &Scope<'_>,
     width: usize,
     listed: &[u32],
     state: &State,
 ) -> Result<StateFound, OutOfMemory>
-    requires known { IsKnown (entries_of names.now) known.now }
-    requires placed { ArePlaced names.now }
     requires few { width ≤ 32 }
-    requires still { IsStill D.table names.now state.now }
-    ensures { IfOk result (λ f. (d : Design) → IsDesignOf D.table names.now d → IsState d width listed.now (view_state state.now) f) }
+    requires still { IsStill D.table scope.now state.now }
+    ensures { IfOk result (λ f. (d : Context) → IsContextOf D.table scope.now d → IsState d width listed.now (view_state state.now) f) }
 {
-    let number = state_number::<D>(alloc, names, known, &state.value)?;
+    let number = state_number::<D>(alloc, scope, &state.value)?;
     if fits(number, width) && !is_listed(listed, number) {
         Ok(StateFound {
             number,
@@ -91,20 +85,17 @@ fn still_value<D: Device>(
 /// The value of a state of so many registers, behind those that are listed: its refusal, or its number.
 pub fn check_value<D: Device>(
     alloc: Global,
-    names: &Names,
-    known: &KnownNames,
+    scope: &Scope<'_>,
     reading: &[bool],
     width: usize,
     listed: &[u32],
     state: &State,
 ) -> Result<StateFound, OutOfMemory>
-    requires known { IsKnown (entries_of names.now) known.now }
-    requires placed { ArePlaced names.now }
-    requires reading { AreRead names.now reading.now }
+    requires reading { AreRead scope.now reading.now }
     requires few { width ≤ 32 }
-    ensures { IfOk result (λ f. (d : Design) → IsDesignOf D.table names.now d → IsState d width listed.now (view_state state.now) f) }
+    ensures { IfOk result (λ f. (d : Context) → IsContextOf D.table scope.now d → IsState d width listed.now (view_state state.now) f) }
 {
-    let found = check(alloc, names, known, &state.value)?;
+    let found = scope.check(alloc, &state.value)?;
     match found.fault {
         Some(fault) => Ok(refused(fault)),
         None => {
@@ -112,10 +103,10 @@ pub fn check_value<D: Device>(
             match found.special {
                 Some(_) => Ok(refused(bad)),
                 None => {
-                    if reads_signal(alloc, known, reading, &state.value)? {
+                    if reads_signal(alloc, scope, reading, &state.value)? {
                         Ok(refused(bad))
                     } else {
-                        still_value::<D>(alloc, names, known, width, listed, state)
+                        still_value::<D>(alloc, scope, width, listed, state)
                     }
                 }
             }

@@ -10,7 +10,7 @@ use Rattle.abel_tree.specs.FirstRefusal.{earlier}
 use Rattle.abel_tree.specs.Tree.{choices_of}
 use Rattle.abel_tree.specs.View.{view, view_arm, view_choice}
 use Rattle.abel_meaning.specs.CountedNodes.{guard_then, guard_else, condition_of}
-use Rattle.abel_meaning.specs.Designs.{Design}
+use Rattle.abel_meaning.specs.Designs.{Context}
 use Rattle.set_expr.specs.SectionOrder.{section_order}
 use Rattle.set_expr.proofs.FoundMembers.{front_more}
 use Rattle.section_targets.specs.declared.manner.Manner.{Manner}
@@ -67,44 +67,44 @@ check_case-returns-clause-fault g t c d f all is a =
 
 pub check_arm-returns-in-Goal-clause-fault : goal.check_arm-returns-in-Goal-clause-fault
 check_arm-returns-in-Goal-clause-fault g t c =
-    subst (λ b. IfOk c.check_goal.result (λ f. RefusesBranch g.D.Device.table c.args.names.now c.args.registers c.args.before.now b f))
+    subst (λ b. IfOk c.check_goal.result (λ f. RefusesBranch g.D.Device.table c.args.scope.now c.args.registers c.args.before.now b f))
     (sym (ap view_arm c.in-Goal.is ∙ view_goaled c.in-Goal.goal)) c.check_goal.ensures.fault
 
 pub check_arm-returns-in-Goal-clause-before : goal.check_arm-returns-in-Goal-clause-before
 check_arm-returns-in-Goal-clause-before g t c =
-    subst (λ b. OnOk c.check_goal.result (NotesBranch g.D.Device.table c.args.names.now c.args.before.now c.check_goal.new.before b))
+    subst (λ b. OnOk c.check_goal.result (NotesBranch g.D.Device.table c.args.scope.now c.args.before.now c.check_goal.new.before b))
     (sym (ap view_arm c.in-Goal.is ∙ view_goaled c.in-Goal.goal)) c.check_goal.ensures.before
 
 pub check_arm-returns-in-If-clause-fault : goal.check_arm-returns-in-If-clause-fault
 check_arm-returns-in-If-clause-fault g t c =
-    subst (λ b. IfOk c.check_if.result (λ f. RefusesBranch g.D.Device.table c.args.names.now c.args.registers c.args.before.now b f))
+    subst (λ b. IfOk c.check_if.result (λ f. RefusesBranch g.D.Device.table c.args.scope.now c.args.registers c.args.before.now b f))
     (sym (ap view_arm c.in-If.is ∙ view_iffed c.in-If.choice)) c.check_if.ensures.fault
 
 pub check_arm-returns-in-If-clause-before : goal.check_arm-returns-in-If-clause-before
 check_arm-returns-in-If-clause-before g t c =
-    subst (λ b. OnOk c.check_if.result (NotesBranch g.D.Device.table c.args.names.now c.args.before.now c.check_if.new.before b))
+    subst (λ b. OnOk c.check_if.result (NotesBranch g.D.Device.table c.args.scope.now c.args.before.now c.check_if.new.before b))
     (sym (ap view_arm c.in-If.is ∙ view_iffed c.in-If.choice)) c.check_if.ensures.before
 
 pub check_arm-returns-in-Case-clause-fault : goal.check_arm-returns-in-Case-clause-fault
 check_arm-returns-in-Case-clause-fault g t c =
     let cs = view_choices c.as_slice-arms.result.now in
-    let same : (d : Design) (f : Formula) (n : ℕ) (all : List Manner) → choices_refused d cs ++ units_refused (units_of_choices d f n all cs) ≡ units_refused (units_of_branch d f n all (view_arm c.args.arm.now)) = λ d f n all. search (rules, arm_lemmas) in
+    let same : (d : Context) (f : Formula) (n : ℕ) (all : List Manner) → choices_refused d cs ++ units_refused (units_of_choices d f n all cs) ≡ units_refused (units_of_branch d f n all (view_arm c.args.arm.now)) = λ d f n all. search (rules, arm_lemmas) in
     IfOk-weaker c.check_case.result _ _ (λ r h d f all is a. h d f all is a ∙ ap first (same d f c.args.registers all)) c.check_case.ensures.fault
 
 pub check_arm-returns-in-Case-clause-before : goal.check_arm-returns-in-Case-clause-before
 check_arm-returns-in-Case-clause-before g t c =
     let cs = view_choices c.as_slice-arms.result.now in
-    let same : (d : Design) → choices_manners d cs ≡ branch_manners d (view_arm c.args.arm.now) = λ d. search (rules, arm_lemmas) in
+    let same : (d : Context) → choices_manners d cs ≡ branch_manners d (view_arm c.args.arm.now) = λ d. search (rules, arm_lemmas) in
     on_ok_weaker c.check_case.result (λ h d all is a. subst (λ ms. AreFirsts c.check_case.new.before (all ++ ms)) (same d) (h d all is a)) c.check_case.ensures.before
 
 pub check_choices-returns-clause-fault : goal.check_choices-returns-clause-fault
 check_choices-returns-clause-fault g t c =
-    subst (λ (xs : List CaseArm). RefusesChoices g.D.Device.table c.args.names.now c.args.registers c.args.before.now (view_choices xs) c.loop-arm.fault)
+    subst (λ (xs : List CaseArm). RefusesChoices g.D.Device.table c.args.scope.now c.args.registers c.args.before.now (view_choices xs) c.loop-arm.fault)
     (ap (λ n. take n c.args.arms.now) (omega (arith, c.loop-arm-test.false, c.loop-arm.auto.arm-index-end)) ∙ take-length c.args.arms.now) c.loop-arm.invariant.0
 
 pub check_choices-returns-clause-before : goal.check_choices-returns-clause-before
 check_choices-returns-clause-before g t c =
-    subst (λ (xs : List CaseArm). NotesChoices g.D.Device.table c.args.names.now c.args.before.now c.loop-arm.before (view_choices xs))
+    subst (λ (xs : List CaseArm). NotesChoices g.D.Device.table c.args.scope.now c.args.before.now c.loop-arm.before (view_choices xs))
     (ap (λ n. take n c.args.arms.now) (omega (arith, c.loop-arm-test.false, c.loop-arm.auto.arm-index-end)) ∙ take-length c.args.arms.now) c.loop-arm.invariant.1
 
 pub check_choices-loop-arm-preserved : goal.check_choices-loop-arm-preserved

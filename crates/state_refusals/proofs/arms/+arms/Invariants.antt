@@ -5,5 +5,5 @@ use Rattle.state_refusals.proofs.arms.+arms.Given as goal
 
 abbrev pub invariant-check_choices-loop-arm : goal.invariant-check_choices-loop-arm
 invariant-check_choices-loop-arm g l =
-    RefusesChoices g.D.Device.table l.names l.registers l.fn.before (view_choices (take l.arm-index l.arms)) l.fault
-    × NotesChoices g.D.Device.table l.names l.fn.before l.before (view_choices (take l.arm-index l.arms))
+    RefusesChoices g.D.Device.table l.scope l.registers l.fn.before (view_choices (take l.arm-index l.arms)) l.fault
+    × NotesChoices g.D.Device.table l.scope l.fn.before l.before (view_choices (take l.arm-index l.arms))

@@ -32,10 +32,10 @@ loop-arm-preserved g c =
 
 pub returns-clause-fault : goal.returns-clause-fault
 returns-clause-fault g c =
-    subst (λ (xs : List Arm). RefusesBranches g.D.Device.table c.args.names.now c.args.registers c.args.before.now (view_arms xs) c.loop-arm.fault)
+    subst (λ (xs : List Arm). RefusesBranches g.D.Device.table c.args.scope.now c.args.registers c.args.before.now (view_arms xs) c.loop-arm.fault)
     (ap (λ n. take n c.args.arms.now) (omega (arith, c.loop-arm-test.false, c.loop-arm.auto.arm-index-end)) ∙ take-length c.args.arms.now) c.loop-arm.invariant.0
 
 pub returns-clause-before : goal.returns-clause-before
 returns-clause-before g c =
-    subst (λ (xs : List Arm). NotesBranches g.D.Device.table c.args.names.now c.args.before.now c.loop-arm.before (view_arms xs))
+    subst (λ (xs : List Arm). NotesBranches g.D.Device.table c.args.scope.now c.args.before.now c.loop-arm.before (view_arms xs))
     (ap (λ n. take n c.args.arms.now) (omega (arith, c.loop-arm-test.false, c.loop-arm.auto.arm-index-end)) ∙ take-length c.args.arms.now) c.loop-arm.invariant.1

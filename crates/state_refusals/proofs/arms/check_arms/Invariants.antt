@@ -5,5 +5,5 @@ use Rattle.state_refusals.proofs.arms.check_arms.Given as goal
 
 abbrev pub invariant-loop-arm : goal.invariant-loop-arm
 invariant-loop-arm g l =
-    RefusesBranches g.D.Device.table l.names l.registers l.fn.before (view_arms (take l.arm-index l.arms)) l.fault
-    × NotesBranches g.D.Device.table l.names l.fn.before l.before (view_arms (take l.arm-index l.arms))
+    RefusesBranches g.D.Device.table l.scope l.registers l.fn.before (view_arms (take l.arm-index l.arms)) l.fault
+    × NotesBranches g.D.Device.table l.scope l.fn.before l.before (view_arms (take l.arm-index l.arms))

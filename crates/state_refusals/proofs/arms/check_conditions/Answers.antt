@@ -26,5 +26,5 @@ loop-arm-preserved c d e =
 
 pub returns : goal.returns
 returns c =
-    subst (λ (xs : List CaseArm). RefusesConditions c.args.names.now (view_choices xs) c.loop-arm.fault)
+    subst (λ (xs : List CaseArm). RefusesConditions c.args.scope.now (view_choices xs) c.loop-arm.fault)
     (ap (λ n. take n c.args.arms.now) (omega (arith, c.loop-arm-test.false, c.loop-arm.auto.arm-index-end)) ∙ take-length c.args.arms.now) c.loop-arm.invariant

@@ -4,4 +4,4 @@ use Rattle.state_refusals.specs.Arms.{RefusesConditions, view_choices}
 use Rattle.state_refusals.proofs.arms.check_conditions.Given as goal
 
 abbrev pub invariant-loop-arm : goal.invariant-loop-arm
-invariant-loop-arm l = RefusesConditions l.names (view_choices (take l.arm-index l.arms)) l.fault
+invariant-loop-arm l = RefusesConditions l.scope (view_choices (take l.arm-index l.arms)) l.fault

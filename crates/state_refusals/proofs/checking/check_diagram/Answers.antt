@@ -17,7 +17,7 @@ use Rattle.state_refusals.proofs.checking.check_diagram.Goals as goal
 
 pub check_states-requires-clause-few : goal.check_states-requires-clause-few
 check_states-requires-clause-few g c =
-    let n = c.args.names.now in
+    let n = c.args.scope.now in
     let found = c.in_ok-side.ensures.found (some_design g.D.Device.table n) c.args.before.now (is_some_design g.D.Device.table n) (λ s p. refl) in
     subst (λ (xs : List Aim). length xs ≤ 32) (sym c.as_slice-registers.ensures) (found.few c.in-None.is)
 

@@ -3,7 +3,6 @@ use Rattle.std.proofs.Common.{◌++◌, None, true, false, List, map, length, re
 use Rattle.abel_tree.specs.Entries.{entries_of}
 use Rattle.abel_tree.specs.FirstRefusal.{first_refusal}
 use Rattle.abel_tree.specs.View.{view}
-use Rattle.set_expr.specs.KnownNames.{IsKnown}
 use Rattle.set_expr.specs.SectionOrder.{section_order}
 use Rattle.section_targets.specs.declared.aim.Aim.{Aim}
 use Rattle.section_targets.specs.Given.{AreNamed}
@@ -16,27 +15,25 @@ use Rattle.state_refusals.proofs.registers.check_registers.Goals as goal
 
 pub check_aims-requires : goal.check_aims-requires
 check_aims-requires g c =
-    let n = c.args.names.now in
+    let n = c.args.scope.now in
     let d = some_design g.D.Device.table n in
-    subst (λ (xs : List Aim). AreNamed (length (entries_of n)) xs) (sym c.as_slice.ensures) (c.in_ok-side.ensures d c.requires.known c.requires.named).inside
+    subst (λ (xs : List Aim). AreNamed (length (entries_of n)) xs) (sym c.as_slice.ensures) (c.in_ok-side.ensures d refl c.requires.named).inside
 
 pub returns-in_ok-mixed-in-None-clause-found : goal.returns-in_ok-mixed-in-None-clause-found
 returns-in_ok-mixed-in-None-clause-found g c d all is a =
-    let n = c.args.names.now in
+    let n = c.args.scope.now in
     let t = view c.args.registers.now in
     let k = known_by_names g.D.Device.table n d is in
-    let known = subst (λ es. IsKnown es c.args.known.now) (sym is.names) c.requires.known in
-    let side = c.in_ok-side.ensures d known (names_of_design g.D.Device.table n d c.args.named.now is c.requires.named) in
+    let side = c.in_ok-side.ensures d is.names (names_of_design g.D.Device.table n d c.args.named.now is c.requires.named) in
     some_registers d all t c.in_ok-side.side _ k side c.in-None.is refl
     (c.in_ok-mixed-in-None.ensures.fault d all is a ∙ ap (λ (xs : List Aim). first_refusal section_order (aims_refused d all None false true xs)) c.as_slice.ensures)
 
 pub returns-in_ok-mixed-in-None-clause-before : goal.returns-in_ok-mixed-in-None-clause-before
 returns-in_ok-mixed-in-None-clause-before g c d all is a =
-    let n = c.args.names.now in
+    let n = c.args.scope.now in
     let t = view c.args.registers.now in
     let k = known_by_names g.D.Device.table n d is in
-    let known = subst (λ es. IsKnown es c.args.known.now) (sym is.names) c.requires.known in
-    let side = c.in_ok-side.ensures d known (names_of_design g.D.Device.table n d c.args.named.now is c.requires.named) in
+    let side = c.in_ok-side.ensures d is.names (names_of_design g.D.Device.table n d c.args.named.now is c.requires.named) in
     let w = member_whole d c.in_ok-side.side t k side c.in-None.is in
     subst (λ ms. AreFirsts c.check_aims.new.before (all ++ ms)) (ap (λ (xs : List Aim). map (manner_of None false true) xs) c.as_slice.ensures ∙ some_manners (target_member d t) c.in_ok-side.side.aims w.0 w.1)
     (c.in_ok-mixed-in-None.ensures.before all a)

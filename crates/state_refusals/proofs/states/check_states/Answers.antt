@@ -40,10 +40,10 @@ loop-state-preserved g c =
 
 pub returns-clause-fault : goal.returns-clause-fault
 returns-clause-fault g c =
-    subst (λ (xs : List State). RefusesStates g.D.Device.table c.args.names.now c.args.registers c.args.before.now [] (map view_state xs) c.loop-state.fault)
+    subst (λ (xs : List State). RefusesStates g.D.Device.table c.args.scope.now c.args.registers c.args.before.now [] (map view_state xs) c.loop-state.fault)
     (ap (λ n. take n c.args.states.now) (omega (arith, c.loop-state-test.false, c.loop-state.auto.state-index-end)) ∙ take-length c.args.states.now) c.loop-state.invariant.refuses
 
 pub returns-clause-before : goal.returns-clause-before
 returns-clause-before g c =
-    subst (λ (xs : List State). NotesStates g.D.Device.table c.args.names.now c.args.before.now c.loop-state.before (map view_state xs))
+    subst (λ (xs : List State). NotesStates g.D.Device.table c.args.scope.now c.args.before.now c.loop-state.before (map view_state xs))
     (ap (λ n. take n c.args.states.now) (omega (arith, c.loop-state-test.false, c.loop-state.auto.state-index-end)) ∙ take-length c.args.states.now) c.loop-state.invariant.notes

@@ -13,11 +13,11 @@ use Rattle.state_refusals.proofs.values.check_value.Goals as goal
 
 pub still_value-requires-clause-still : goal.still_value-requires-clause-still
 still_value-requires-clause-still g c =
-    let n = c.args.names.now in
+    let n = c.args.scope.now in
     let t = view c.args.state.now.value in
     let f = expression_found (entries_of n) t in
     let s = c.in_ok-found.ensures in
-    let read = c.in_ok-reads_signal-in-None-special.ensures (entries_of n) (known_of (entries_of n)) c.requires.known c.requires.reading in
+    let read = c.in_ok-reads_signal-in-None-special.ensures (known_of (entries_of n)) c.requires.reading in
     record {
       refusals = none_refused section_order f.refusals (sym c.in-None.is ∙ s.fault);
       specials = none_refused section_order f.specials (sym c.in-None-special.is ∙ s.special);
@@ -26,11 +26,11 @@ still_value-requires-clause-still g c =
 
 pub returns-then-branch : goal.returns-then-branch
 returns-then-branch g c d is =
-    let n = c.args.names.now in
+    let n = c.args.scope.now in
     let x = c.args.state.now in
     let t = view x.value in
     let s = subst (λ es. SumsUp c.in_ok-found.found (expression_found es t)) (sym is.names) c.in_ok-found.ensures in
-    let read = c.in_ok-reads_signal-in-None-special.ensures (entries_of n) (known_of (entries_of n)) c.requires.known c.requires.reading in
+    let read = c.in_ok-reads_signal-in-None-special.ensures (known_of (entries_of n)) c.requires.reading in
     record {
       fault = c.refused-then-branch.ensures.fault
           ∙ read_refused d x.place c.args.width c.args.listed.now (expression_found d.names t) t (sym c.in-None.is ∙ s.fault)
