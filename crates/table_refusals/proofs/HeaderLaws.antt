@@ -1,11 +1,10 @@
 -- What is found of a header, part by part.
-use Rattle.std.proofs.Common.{◌≡◌, ℕ, Bool, true, false, Option, None, Some, List, [], ◌∷◌, ◌++◌, length, map, if◌then◌else◌, refl, sym, ap, ap₂, ◌∙◌, append_assoc, append-nil}
-use Rattle.std.proofs.lemmas.List.{map-append}
+use Rattle.std.proofs.Common.{◌≡◌, ℕ, true, false, Option, None, Some, List, [], ◌∷◌, ◌++◌, length, refl, sym, ap, ap₂, ◌∙◌, append_assoc, append-nil}
 use Rattle.pld_base.specs.declared.place.Place.{Place}
 use Rattle.abel_tree.specs.FirstRefusal.{earlier, first_refusal}
 use Rattle.abel_tree.proofs.FirstRefusals.{first_append, none_refused}
 use Rattle.abel_tree.specs.Tree.{SetMember, members_of}
-use Rattle.abel_meaning.specs.Designs.{Design}
+use Rattle.abel_meaning.specs.Designs.{Context}
 use Rattle.abel_meaning.specs.Targets.{targets_of}
 use Rattle.abel_meaning.specs.Terms.{Term}
 use Rattle.set_expr.specs.declared.fault.SectionFault.{SectionFault}
@@ -57,12 +56,12 @@ both_assoc x y z = rw (append_assoc x.refusals y.refusals z.refusals, append_ass
 pub both_none : (x : HeaderFound) → both_headers x (header_of []) ≡ x
 both_none x = rw (append-nil x.refusals, append-nil x.outputs) refl
 
-pub members_more : (d : Design) (ms : List SetMember) (m : SetMember) → output_members d (members_of (ms ++ m ∷ [])) ≡ both_headers (output_members d (members_of ms)) (output_member d m)
+pub members_more : (d : Context) (ms : List SetMember) (m : SetMember) → output_members d (members_of (ms ++ m ∷ [])) ≡ both_headers (output_members d (members_of ms)) (output_member d m)
 members_more d [] m = both_none (output_member d m)
 members_more d (x ∷ ms) m =
     ap (both_headers (output_member d x)) (members_more d ms m) ∙ sym (both_assoc (output_member d x) (output_members d (members_of ms)) (output_member d m))
 
-pub range_more : (d : Design) (x : HeaderFound) (p : Place) (names : List (List ℕ)) (n : List ℕ) → both_headers (both_headers x (header_range d p names)) (header_name d p n) ≡ both_headers x (header_range d p (names ++ n ∷ []))
+pub range_more : (d : Context) (x : HeaderFound) (p : Place) (names : List (List ℕ)) (n : List ℕ) → both_headers (both_headers x (header_range d p names)) (header_name d p n) ≡ both_headers x (header_range d p (names ++ n ∷ []))
 range_more d x p names n = both_assoc x (header_range d p names) (header_name d p n) ∙ ap (both_headers x) (sym (ranged names))
   where
     ranged : (names : List (List ℕ)) → header_range d p (names ++ n ∷ []) ≡ both_headers (header_range d p names) (header_name d p n)

@@ -8,9 +8,9 @@ use Rattle.pld_base.specs.declared.place.Place.{Place}
 use Rattle.abel_tree.specs.Entries.{Entry, is_signal, find}
 use Rattle.abel_tree.specs.Ranges.{range_names}
 use Rattle.abel_tree.specs.Tree.{Tree, ANumber, ASpecial, AName, ASet, AParen, AUnary, ABinary, SetMember, OneMember, SpanMember, Members, NoMember, MoreMembers}
-use Rattle.abel_meaning.specs.Designs.{Design, no_name}
+use Rattle.abel_meaning.specs.Designs.{Context, no_name}
 use Rattle.abel_meaning.specs.Targets.{targets_of}
-use Rattle.abel_meaning.specs.Terms.{Term, known_of, term_named}
+use Rattle.abel_meaning.specs.Terms.{known_of, term_named}
 use Rattle.set_expr.specs.declared.fault.SectionFault.{SectionFault}
 use Rattle.set_expr.specs.declared.fault.SectionFault.TheVariants.{MisplacedSpecial, NotAnOutput}
 use Rattle.set_expr.specs.FoundNames.{found_use, name_found, names_found}
@@ -23,17 +23,17 @@ use Rattle.truth_tables.specs.TableUnits.{some_aims}
 use Rattle.table_refusals.proofs.HeaderLaws.{aims_append}
 
 -- outputs that are names of a design
-abbrev AreInside : Design → List (Option Aim) → Type 0
+abbrev AreInside : Context → List (Option Aim) → Type 0
 AreInside d xs = AreNamed (length d.names) (some_aims xs)
 
-none_inside : (d : Design) → AreInside d []
+none_inside : (d : Context) → AreInside d []
 none_inside d k a lt = absurd (omega (arith, lt))
 
-both_inside : (d : Design) (xs ys : List (Option Aim)) → AreInside d xs → AreInside d ys → AreInside d (xs ++ ys)
+both_inside : (d : Context) (xs ys : List (Option Aim)) → AreInside d xs → AreInside d ys → AreInside d (xs ++ ys)
 both_inside d xs ys h k =
     subst (AreNamed (length d.names)) (sym (aims_append xs ys)) (All-append (λ (a : Aim). a.signal < length d.names) (some_aims xs) (some_aims ys) h k)
 
-signal_within : (d : Design) (s : ℕ) → IsSignalOf d s → s < length d.names
+signal_within : (d : Context) (s : ℕ) → IsSignalOf d s → s < length d.names
 signal_within d s h = by_test (nat_lt s (length d.names)) refl
   where
     by_test : (b : Bool) → nat_lt s (length d.names) ≡ b → s < length d.names
@@ -45,7 +45,7 @@ signal_within d s h = by_test (nat_lt s (length d.names)) refl
         no_signal : is_signal no_name.kind ≡ true → ⊥
         no_signal e = absurd cc
 
-listed_inside : (d : Design) (p : Place) (ss : List (Option ℕ)) → EachTarget (IsSignalOf d) ss → AreInside d (outputs_at p ss)
+listed_inside : (d : Context) (p : Place) (ss : List (Option ℕ)) → EachTarget (IsSignalOf d) ss → AreInside d (outputs_at p ss)
 listed_inside d p [] h = none_inside d
 listed_inside d p (None ∷ ss) h = listed_inside d p ss h
 listed_inside d p (Some s ∷ ss) h = more (signal_within d s h.0) (listed_inside d p ss h.1)
@@ -54,7 +54,7 @@ listed_inside d p (Some s ∷ ss) h = more (signal_within d s h.0) (listed_insid
     more lt rest zero a le = lt
     more lt rest (suc k) a le = rest k a (omega (arith, le))
 
-name_inside : (d : Design) → d.known ≡ known_of d.names → (p : Place) (w : List ℕ) → AreInside d (header_name d p w).outputs
+name_inside : (d : Context) → d.known ≡ known_of d.names → (p : Place) (w : List ℕ) → AreInside d (header_name d p w).outputs
 name_inside d k p w =
     by_refusals (found_use p (name_found (names_found d.names) w)).refusals (names_positions (term_named d.known w))
     (signal_targets d k (AName (record { text = w; place = p }) None))
@@ -67,11 +67,11 @@ name_inside d k p w =
         by_names true = listed_inside d p (targets_of (term_named d.known w)) h
         by_names false = none_inside d
 
-range_inside : (d : Design) → d.known ≡ known_of d.names → (p : Place) (names : List (List ℕ)) → AreInside d (header_range d p names).outputs
+range_inside : (d : Context) → d.known ≡ known_of d.names → (p : Place) (names : List (List ℕ)) → AreInside d (header_range d p names).outputs
 range_inside d k p [] = none_inside d
 range_inside d k p (w ∷ names) = both_inside d (header_name d p w).outputs (header_range d p names).outputs (name_inside d k p w) (range_inside d k p names)
 
-special_inside : (d : Design) (letter : ℕ) (p : Place) → AreInside d (header_special letter p).outputs
+special_inside : (d : Context) (letter : ℕ) (p : Place) → AreInside d (header_special letter p).outputs
 special_inside d letter p = by_letter (bytes_eq (letter ∷ []) (codes "X"))
   where
     by_letter : (b : Bool) → AreInside d (if b then header_of (None ∷ []) else refused_header (MisplacedSpecial p)).outputs
@@ -79,7 +79,7 @@ special_inside d letter p = by_letter (bytes_eq (letter ∷ []) (codes "X"))
     by_letter false = none_inside d
 
 mutual
-  pub header_inside : (d : Design) → d.known ≡ known_of d.names → (t : Tree) → AreNamed (length d.names) (some_aims (output_header d t).outputs)
+  pub header_inside : (d : Context) → d.known ≡ known_of d.names → (t : Tree) → AreNamed (length d.names) (some_aims (output_header d t).outputs)
   header_inside d k (ANumber n) = none_inside d
   header_inside d k (ASpecial letter p) = special_inside d letter p
   header_inside d k (AName word None) = name_inside d k word.place word.text
@@ -90,10 +90,10 @@ mutual
   header_inside d k (AUnary sign p t) = none_inside d
   header_inside d k (ABinary sign p t u) = none_inside d
 
-  members_inside : (d : Design) → d.known ≡ known_of d.names → (ms : Members) → AreInside d (output_members d ms).outputs
+  members_inside : (d : Context) → d.known ≡ known_of d.names → (ms : Members) → AreInside d (output_members d ms).outputs
   members_inside d k NoMember = none_inside d
   members_inside d k (MoreMembers m ms) = both_inside d (output_member d m).outputs (output_members d ms).outputs (member_inside d k m) (members_inside d k ms)
 
-  member_inside : (d : Design) → d.known ≡ known_of d.names → (m : SetMember) → AreInside d (output_member d m).outputs
+  member_inside : (d : Context) → d.known ≡ known_of d.names → (m : SetMember) → AreInside d (output_member d m).outputs
   member_inside d k (OneMember t) = header_inside d k t
   member_inside d k (SpanMember first last) = range_inside d k first.place (range_names first.text last.text)

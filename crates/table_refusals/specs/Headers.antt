@@ -3,7 +3,7 @@ use Rattle.std.specs.Prelude.{◌≡◌, List}
 use Rattle.abel_tree.specs.declared.tables.Table.{Table}
 use Rattle.abel_tree.specs.FirstRefusal.{first_refusal}
 use Rattle.abel_tree.specs.View.{view}
-use Rattle.abel_meaning.specs.Designs.{Design}
+use Rattle.abel_meaning.specs.Designs.{Context}
 use Rattle.set_expr.specs.SectionOrder.{section_order}
 use Rattle.section_targets.specs.declared.manner.Manner.{Manner}
 use Rattle.truth_tables.specs.OutputHeaders.{HeaderFound, output_header}
@@ -16,6 +16,6 @@ pub record IsHeader (h : Header) (x : HeaderFound) : Type 0 where
   pub outputs : h.outputs ≡ x.outputs
 
 -- what is found of both sides of a table's header behind what was assigned before
-pub record IsWholeHeader (d : Design) (before : List Manner) (t : Table) (h : Header) : Type 0 where
+pub record IsWholeHeader (d : Context) (before : List Manner) (t : Table) (h : Header) : Type 0 where
   pub fault : h.fault ≡ first_refusal section_order (header_refused d before t.clocked (view t.inputs) (view t.outputs))
   pub outputs : h.outputs ≡ (output_header d (view t.outputs)).outputs

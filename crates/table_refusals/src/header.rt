@@ -1,23 +1,22 @@
 //! The outputs of headers.
 
-ghost use Rattle.std.specs.Prelude.{◌≡◌, None, [], ◌∷◌, ◌++◌, IfOk, OnOk, length};
-ghost use Rattle.abel_tree.specs.Entries.{entries_of, find};
+ghost use Rattle.std.specs.Prelude.{◌≡◌, None, [], ◌∷◌, ◌++◌, IfOk, OnOk};
+ghost use Rattle.abel_tree.specs.Entries.{find};
 ghost use Rattle.abel_tree.specs.FirstRefusal.{first_refusal};
-ghost use Rattle.abel_meaning.specs.Designs.{Design};
+ghost use Rattle.abel_meaning.specs.Designs.{Context};
 ghost use Rattle.abel_meaning.specs.Terms.{term_named};
 ghost use Rattle.set_expr.specs.Refusals.{too_wide};
-ghost use Rattle.set_expr.specs.KnownNames.{IsKnown};
 ghost use Rattle.set_expr.specs.SectionOrder.{section_order};
-ghost use Rattle.row_entries.specs.EntryTerms.{IsOver, AreInOrder};
+ghost use Rattle.row_entries.specs.EntryTerms.{IsOver};
 ghost use Rattle.truth_tables.specs.OutputHeaders.{HeaderFound, header_of, refused_header, header_name, header_set, both_headers, named_outputs, outputs_at};
 ghost use Rattle.truth_tables.specs.TableUnits.{some_aims};
 ghost use Rattle.table_refusals.specs.Headers.{IsHeader};
 
-use abel_tree::{Expr, Names, Word};
+use abel_tree::{Expr, Word};
 use pld_base::{ListOf, NameText, OutOfMemory, Place};
 use row_entries::header_signals;
 use section_targets::{Aim, number_of};
-use set_expr::{KnownNames, SectionFault, check_name, earlier};
+use set_expr::{Scope, SectionFault, earlier};
 use std::alloc::Global;
 
 /// What is found of a header: its first refusal, and its outputs position by position from the left, None at X.
@@ -161,14 +160,11 @@ impl Header {
 /// A name of which nothing is refused, used at a place.
 fn accepted_name(
     alloc: Global,
-    names: &Names,
-    known: &KnownNames,
+    scope: &Scope<'_>,
     text: &[u8],
     place: Place,
 ) -> Result<Header, OutOfMemory>
-    requires known { IsKnown (entries_of names.now) known.now }
-    requires order { AreInOrder (entries_of names.now) }
-    ensures { IfOk result (λ h. (d : Design) → IsOver names.now d → IsHeader h (named_outputs [] place (find d.names text.now) (term_named d.known text.now))) }
+    ensures { IfOk result (λ h. (d : Context) → IsOver scope.now d → IsHeader h (named_outputs [] place (find d.names text.now) (term_named d.known text.now))) }
 {
     let name = Expr::Name {
         word: Word {
@@ -177,10 +173,10 @@ fn accepted_name(
         },
         extension: None,
     };
-    let found = header_signals(alloc, names, known, &name)?;
+    let found = header_signals(alloc, scope, &name)?;
     match found {
         None => {
-            let fault = SectionFault::NotAnOutput(place, number_of(known, text));
+            let fault = SectionFault::NotAnOutput(place, number_of(scope, text));
             Ok(Header::refused(alloc, fault))
         }
         Some(signals) => Header::listed(alloc, signals.as_slice(), place),
@@ -190,18 +186,15 @@ fn accepted_name(
 /// The name with this text, used at a place.
 pub(crate) fn name_header(
     alloc: Global,
-    names: &Names,
-    known: &KnownNames,
+    scope: &Scope<'_>,
     text: &[u8],
     place: Place,
 ) -> Result<Header, OutOfMemory>
-    requires known { IsKnown (entries_of names.now) known.now }
-    requires order { AreInOrder (entries_of names.now) }
-    ensures { IfOk result (λ h. (d : Design) → IsOver names.now d → IsHeader h (header_name d place text.now)) }
+    ensures { IfOk result (λ h. (d : Context) → IsOver scope.now d → IsHeader h (header_name d place text.now)) }
 {
-    let found = check_name(known, text, place);
+    let found = scope.check_name(text, place);
     match found.fault {
         Some(fault) => Ok(Header::refused(alloc, fault)),
-        None => accepted_name(alloc, names, known, text, place),
+        None => accepted_name(alloc, scope, text, place),
     }
 }

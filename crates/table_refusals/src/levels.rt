@@ -1,22 +1,20 @@
 //! The levels of a row's entries.
 
 ghost use Rattle.std.specs.Prelude.{◌≡◌, false, Some, IfOk};
-ghost use Rattle.abel_tree.specs.Entries.{entries_of};
 ghost use Rattle.abel_tree.specs.View.{view};
-ghost use Rattle.abel_meaning.specs.Designs.{Design};
+ghost use Rattle.abel_meaning.specs.Designs.{Context};
 ghost use Rattle.abel_meaning.specs.Rows as meant;
 ghost use Rattle.abel_meaning.specs.Terms.{term_of};
 ghost use Rattle.set_expr.specs.FoundNames.{names_found};
-ghost use Rattle.set_expr.specs.KnownNames.{IsKnown};
 ghost use Rattle.row_entries.specs.EntryMarks.{view_mark};
-ghost use Rattle.row_entries.specs.EntryTerms.{IsOver, AreInOrder};
+ghost use Rattle.row_entries.specs.EntryTerms.{IsOver};
 ghost use Rattle.row_entries.specs.RowEntries as found;
 ghost use Rattle.table_refusals.specs.RowLevels.{IsLevels, levels_of};
 
-use abel_tree::{Expr, Names};
+use abel_tree::Expr;
 use pld_base::{ListOf, OutOfMemory};
 use row_entries::{Entry, Mark, holds_pulse, read_entry};
-use set_expr::{KnownNames, SectionFault};
+use set_expr::{Scope, SectionFault};
 use std::alloc::Global;
 
 /// What is found of an entry of a table: its first refusal, and where nothing is refused its level at each position of the
@@ -63,17 +61,14 @@ fn refused(alloc: Global, fault: SectionFault) -> Levels
 /// An entry in which neither `.C.` nor `.Z.` stands.
 fn level_entry(
     alloc: Global,
-    names: &Names,
-    known: &KnownNames,
+    scope: &Scope<'_>,
     row: SectionFault,
     header: &Expr,
     entry: &Expr,
 ) -> Result<Levels, OutOfMemory>
-    requires known { IsKnown (entries_of names.now) known.now }
-    requires order { AreInOrder (entries_of names.now) }
-    ensures { IfOk result (λ r. (d : Design) → IsOver names.now d → found.holds_pulse (names_found d.names) (view entry.now) ≡ false → IsLevels d row (term_of d.known (view header.now)) (view entry.now) r) }
+    ensures { IfOk result (λ r. (d : Context) → IsOver scope.now d → found.holds_pulse (names_found d.names) (view entry.now) ≡ false → IsLevels d row (term_of d.known (view header.now)) (view entry.now) r) }
 {
-    match read_entry(alloc, names, known, row, header, entry)? {
+    match read_entry(alloc, scope, row, header, entry)? {
         Entry::Refused(fault) => Ok(refused(alloc, fault)),
         Entry::Marks(marks) => {
             let levels = list_levels(alloc, marks.as_slice())?;
@@ -88,19 +83,16 @@ fn level_entry(
 /// An entry under its header, in a row of a table that is refused so: `.C.` and `.Z.` stand in none.
 pub(crate) fn read_levels(
     alloc: Global,
-    names: &Names,
-    known: &KnownNames,
+    scope: &Scope<'_>,
     row: SectionFault,
     header: &Expr,
     entry: &Expr,
 ) -> Result<Levels, OutOfMemory>
-    requires known { IsKnown (entries_of names.now) known.now }
-    requires order { AreInOrder (entries_of names.now) }
-    ensures { IfOk result (λ r. (d : Design) → IsOver names.now d → IsLevels d row (term_of d.known (view header.now)) (view entry.now) r) }
+    ensures { IfOk result (λ r. (d : Context) → IsOver scope.now d → IsLevels d row (term_of d.known (view header.now)) (view entry.now) r) }
 {
-    if holds_pulse(alloc, known, entry)? {
+    if holds_pulse(alloc, scope, entry)? {
         Ok(refused(alloc, row))
     } else {
-        level_entry(alloc, names, known, row, header, entry)
+        level_entry(alloc, scope, row, header, entry)
     }
 }

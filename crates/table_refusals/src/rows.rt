@@ -1,21 +1,19 @@
 //! The rows of a table.
 
 ghost use Rattle.std.specs.Prelude.{◌≡◌, IfOk};
-ghost use Rattle.abel_tree.specs.Entries.{entries_of};
 ghost use Rattle.abel_tree.specs.FirstRefusal.{first_refusal};
 ghost use Rattle.abel_tree.specs.View.{view, view_row};
-ghost use Rattle.abel_meaning.specs.Designs.{Design};
+ghost use Rattle.abel_meaning.specs.Designs.{Context};
 ghost use Rattle.abel_meaning.specs.Terms.{term_of};
-ghost use Rattle.set_expr.specs.KnownNames.{IsKnown};
 ghost use Rattle.set_expr.specs.SectionOrder.{section_order};
-ghost use Rattle.row_entries.specs.EntryTerms.{IsOver, AreInOrder};
+ghost use Rattle.row_entries.specs.EntryTerms.{IsOver};
 ghost use Rattle.truth_tables.specs.TableUnits.{arrow_refused};
 ghost use Rattle.table_refusals.specs.RowLevels.{IsRow};
 
 use crate::levels::read_levels;
-use abel_tree::{Names, Row, Table};
+use abel_tree::{Row, Table};
 use pld_base::{ListOf, OutOfMemory};
-use set_expr::{KnownNames, SectionFault, earlier};
+use set_expr::{Scope, SectionFault, earlier};
 use std::alloc::Global;
 
 /// What is found of a row: its first refusal, and where nothing is refused the levels of its entries at the positions of
@@ -41,19 +39,16 @@ fn refuse_arrow(row: SectionFault, clocked: bool, row_clocked: bool) -> Option<S
 /// A row of a table whose header isn't refused: its first refusal, or the levels of its entries.
 pub fn read_row(
     alloc: Global,
-    names: &Names,
-    known: &KnownNames,
+    scope: &Scope<'_>,
     table: &Table,
     row: &Row,
 ) -> Result<RowFound, OutOfMemory>
-    requires known { IsKnown (entries_of names.now) known.now }
-    requires order { AreInOrder (entries_of names.now) }
-    ensures { IfOk result (λ r. (d : Design) → IsOver names.now d → IsRow d table.now.clocked (term_of d.known (view table.now.inputs)) (term_of d.known (view table.now.outputs)) (view_row row.now) r) }
+    ensures { IfOk result (λ r. (d : Context) → IsOver scope.now d → IsRow d table.now.clocked (term_of d.known (view table.now.inputs)) (term_of d.known (view table.now.outputs)) (view_row row.now) r) }
 {
     let bad = SectionFault::BadRow(row.place);
     let arrow = refuse_arrow(bad, table.clocked, row.clocked);
-    let inputs = read_levels(alloc, names, known, bad, &table.inputs, &row.inputs)?;
-    let outputs = read_levels(alloc, names, known, bad, &table.outputs, &row.outputs)?;
+    let inputs = read_levels(alloc, scope, bad, &table.inputs, &row.inputs)?;
+    let outputs = read_levels(alloc, scope, bad, &table.outputs, &row.outputs)?;
     let entries = earlier(inputs.fault, outputs.fault);
     Ok(RowFound {
         inputs: inputs.levels,

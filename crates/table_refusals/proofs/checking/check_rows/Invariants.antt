@@ -2,7 +2,7 @@
 use Rattle.std.proofs.Common.{◌≡◌, map, take}
 use Rattle.abel_tree.specs.FirstRefusal.{first_refusal}
 use Rattle.abel_tree.specs.View.{view, view_row}
-use Rattle.abel_meaning.specs.Designs.{Design}
+use Rattle.abel_meaning.specs.Designs.{Context}
 use Rattle.abel_meaning.specs.Terms.{term_of}
 use Rattle.set_expr.specs.SectionOrder.{section_order}
 use Rattle.row_entries.specs.EntryTerms.{IsOver}
@@ -11,5 +11,5 @@ use Rattle.table_refusals.proofs.checking.check_rows.Given as goal
 
 abbrev pub invariant-loop-row : goal.invariant-loop-row
 invariant-loop-row l =
-    (d : Design) → IsOver l.names d
+    (d : Context) → IsOver l.scope d
     → l.fault ≡ first_refusal section_order (rows_refused d l.table.clocked (term_of d.known (view l.table.inputs)) (term_of d.known (view l.table.outputs)) (map view_row (take l.row-index l.row-items)))

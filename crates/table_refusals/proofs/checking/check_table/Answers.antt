@@ -27,7 +27,7 @@ returns-clause-fault g c =
     let t = c.args.table.now in
     let i = term_of d.known (view t.inputs) in
     let o = term_of d.known (view t.outputs) in
-    let over : IsOver c.args.names.now d = record { names = is.names; known = is.known } in
+    let over : IsOver c.args.scope.now d = record { names = is.names; known = is.known } in
     let rows = map view_row t.rows in
     let us = row_units d t.clocked i o rows (table_units d (view t.inputs) rows) in
     let free = header_free (header_refused d all t.clocked (view t.inputs) (view t.outputs)) t.place us (sym c.in-None.is ∙ (c.in_ok-header.ensures.header d all is a).fault) in

@@ -1,4 +1,4 @@
-use Rattle.std.proofs.Common.{◌≡◌, ◌++◌, [], ◌∷◌, None, ap, sym, ◌∙◌, take, get_or}
+use Rattle.std.proofs.Common.{◌++◌, [], ◌∷◌, None, ap, sym, ◌∙◌, take, get_or}
 use Rattle.std.proofs.lemmas.List.{take_more}
 use Rattle.truth_tables.specs.TableUnits.{some_aims}
 use Rattle.table_refusals.proofs.HeaderLaws.{aims_append}

@@ -1,4 +1,4 @@
-use Rattle.std.proofs.Common.{◌≡◌, ◌++◌, [], ◌∷◌, None, ap, ap₂, sym, ◌∙◌, take, get_or}
+use Rattle.std.proofs.Common.{◌++◌, [], ◌∷◌, None, ap, ap₂, sym, ◌∙◌, take, get_or}
 use Rattle.std.proofs.lemmas.List.{take_more}
 use Rattle.truth_tables.specs.OutputHeaders.{outputs_at}
 use Rattle.table_refusals.proofs.HeaderLaws.{outputs_append}

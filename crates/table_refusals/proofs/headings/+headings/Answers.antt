@@ -1,14 +1,13 @@
 -- What each variant is refused as, and one member more.
-use Rattle.std.proofs.Common.{◌≡◌, ◌+◌, ◌++◌, [], ◌∷◌, Some, None, ap, sym, refl, ◌∙◌, subst, take, map}
+use Rattle.std.proofs.Common.{◌≡◌, ◌+◌, ◌++◌, [], ◌∷◌, ap, sym, ◌∙◌, subst, take, map}
 use Rattle.std.proofs.lemmas.Result.{IfOk-weaker}
-use Rattle.abel_tree.specs.Tree.{AName, ASet, members_of}
+use Rattle.abel_tree.specs.Tree.{ASet, members_of}
 use Rattle.abel_tree.specs.View.{view, view_member}
 use Rattle.set_expr.specs.declared.fault.SectionFault.TheVariants.{NotAnOutput}
 use Rattle.set_expr.specs.Answer.{first_place}
-use Rattle.set_expr.specs.KnownNames.{IsKnown}
-use Rattle.set_expr.proofs.FoundMembers.{front_more, whole_front}
+use Rattle.set_expr.proofs.FoundMembers.{front_more}
 use Rattle.section_targets.specs.TargetSignals.{first_name}
-use Rattle.section_targets.proofs.Views.{view_number, view_special, view_set, view_unary, view_binary, view_name, view_paren, view_one, view_span}
+use Rattle.section_targets.proofs.Views.{view_number, view_set, view_unary, view_binary, view_one}
 use Rattle.truth_tables.specs.OutputHeaders.{refused_header, header_set, both_headers, output_header, output_member, output_members}
 use Rattle.table_refusals.specs.Headers.{IsHeader}
 use Rattle.table_refusals.proofs.HeaderLaws.{members_more}
@@ -33,10 +32,9 @@ expr_header-returns-in-Unary t c d is =
 pub expr_header-returns-in-Binary : goal.expr_header-returns-in-Binary
 expr_header-returns-in-Binary t c d is =
     let v = ap view c.in-Binary.is ∙ view_binary c.in-Binary.sign c.in-Binary.place c.in-Binary.left c.in-Binary.right in
-    let known = subst (λ es. IsKnown es c.args.known.now) (sym is.names) c.requires.known in
     subst (λ e. IsHeader c.refused-in-Binary.result (output_header d e)) (sym v)
     (subst (λ f. IsHeader c.refused-in-Binary.result (refused_header f))
-    (c.refuse_operator.ensures d.names known ∙ ap (λ e. NotAnOutput (first_place e) (first_name d.names e)) v)
+    (c.refuse_operator.ensures ∙ ap (λ es. NotAnOutput (first_place (view c.args.expr.now)) (first_name es (view c.args.expr.now))) (sym is.names) ∙ ap (λ e. NotAnOutput (first_place e) (first_name d.names e)) v)
     c.refused-in-Binary.ensures)
 
 pub expr_header-returns-in-None : goal.expr_header-returns-in-None

@@ -2,7 +2,7 @@
 use Rattle.std.proofs.Common.{take, map}
 use Rattle.abel_tree.specs.Tree.{members_of}
 use Rattle.abel_tree.specs.View.{view_member}
-use Rattle.abel_meaning.specs.Designs.{Design}
+use Rattle.abel_meaning.specs.Designs.{Context}
 use Rattle.row_entries.specs.EntryTerms.{IsOver}
 use Rattle.truth_tables.specs.OutputHeaders.{output_members}
 use Rattle.table_refusals.specs.Headers.{IsHeader}
@@ -10,4 +10,4 @@ use Rattle.table_refusals.proofs.headings.+headings.Given as goal
 
 abbrev pub invariant-set_header-loop-member : goal.invariant-set_header-loop-member
 invariant-set_header-loop-member l =
-    (d : Design) → IsOver l.names d → IsHeader l.header (output_members d (members_of (map view_member (take l.member-index l.members))))
+    (d : Context) → IsOver l.scope d → IsHeader l.header (output_members d (members_of (map view_member (take l.member-index l.members))))

@@ -1,11 +1,10 @@
 -- Both sides, whose outputs are names.
-use Rattle.std.proofs.Common.{refl, sym, ap, ap₂, ◌∙◌, subst, false, [], length}
+use Rattle.std.proofs.Common.{refl, sym, ap₂, ◌∙◌, subst, length}
 use Rattle.abel_tree.specs.Entries.{entries_of}
 use Rattle.abel_tree.specs.FirstRefusal.{earlier}
 use Rattle.abel_tree.proofs.FirstRefusals.{first_append}
 use Rattle.abel_tree.specs.View.{view}
-use Rattle.abel_meaning.specs.Designs.{Design}
-use Rattle.abel_meaning.specs.Terms.{known_of}
+use Rattle.abel_meaning.specs.Designs.{Context, context_of}
 use Rattle.set_expr.specs.FoundNames.{expression_found}
 use Rattle.set_expr.specs.KnownNames.{SumsUp}
 use Rattle.set_expr.specs.SectionOrder.{section_order}
@@ -18,15 +17,15 @@ use Rattle.table_refusals.proofs.headings.read_header.Goals as goal
 
 pub check_outputs-requires : goal.check_outputs-requires
 check_outputs-requires g c =
-    let n = c.args.names.now in
-    let d : Design = record { device = g.D.Device.table; names = entries_of n; known = known_of (entries_of n); starts_dontcare = false; sections = [] } in
+    let n = c.args.scope.now in
+    let d : Context = context_of g.D.Device.table (entries_of n) in
     let over : IsOver n d = record { names = refl; known = refl } in
     subst (λ xs. AreNamed (length (entries_of n)) (some_aims xs)) (sym (c.in_ok-outputs.ensures d over).outputs) (header_inside d refl (view c.args.table.now.outputs))
 
 pub returns-clause-header : goal.returns-clause-header
 returns-clause-header g c d all is a =
     let t = c.args.table.now in
-    let over : IsOver c.args.names.now d = record { names = is.names; known = is.known } in
+    let over : IsOver c.args.scope.now d = record { names = is.names; known = is.known } in
     let inputs = subst (λ es. SumsUp c.in_ok-inputs.inputs (expression_found es (view t.inputs))) (sym is.names) c.in_ok-inputs.ensures in
     let header = c.in_ok-outputs.ensures d over in
     let x = output_header d (view t.outputs) in

@@ -1,7 +1,7 @@
 -- The names that were looked up are added.
-use Rattle.std.proofs.Common.{ℕ, List, map, take}
+use Rattle.std.proofs.Common.{ℕ, map, take}
 use Rattle.std.specs.Global.{Vec}
-use Rattle.abel_meaning.specs.Designs.{Design}
+use Rattle.abel_meaning.specs.Designs.{Context}
 use Rattle.row_entries.specs.EntryTerms.{IsOver}
 use Rattle.truth_tables.specs.OutputHeaders.{HeaderFound, both_headers, header_range}
 use Rattle.table_refusals.specs.Headers.{IsHeader}
@@ -9,5 +9,5 @@ use Rattle.table_refusals.proofs.headings.with_range.Given as goal
 
 abbrev pub invariant-loop-text : goal.invariant-loop-text
 invariant-loop-text l =
-    (d : Design) (x : HeaderFound) → IsOver l.names d → IsHeader l.fn.before x
+    (d : Context) (x : HeaderFound) → IsOver l.scope d → IsHeader l.fn.before x
     → IsHeader l.header (both_headers x (header_range d l.first.place (map (λ (n : Vec ℕ). n.items) (take l.text-index l.text-items))))
