@@ -1,18 +1,17 @@
 -- The positions of an input header stand for its bits.
-use Rattle.std.proofs.Common.{◌≡◌, ℕ, zero, suc, ◌+◌, ◌<◌, Bool, true, false, Option, None, Some, List, [], ◌∷◌, ◌++◌, All, length, map, reverse, replicate, if◌then◌else◌, bytes_eq, refl, sym, ap, ap₂, ◌∙◌, subst, arith}
+use Rattle.std.proofs.Common.{◌≡◌, ℕ, zero, suc, ◌<◌, Bool, true, false, Option, None, Some, List, [], ◌∷◌, All, length, map, reverse, replicate, if◌then◌else◌, bytes_eq, refl, sym, ap, ap₂, ◌∙◌, subst, arith}
 use Rattle.std.specs.Prelude.{codes}
 use Rattle.std.proofs.lemmas.List.Sorted.{IsPermutation-reverse, All-permutation}
 use Rattle.bit_expr.specs.declared.node.ExprId.{ExprId}
-use Rattle.bit_expr.specs.declared.node.Node.{Node}
-use Rattle.bit_expr.specs.Arena.{arena, formula_at}
+use Rattle.bit_expr.specs.Arena.{formula_at}
 use Rattle.bit_expr.specs.Formulas.{Formula, Const}
 use Rattle.abel_tree.specs.declared.words.Binary.{Binary}
 use Rattle.abel_tree.specs.declared.words.Extension.{Extension}
 use Rattle.abel_meaning.specs.BitWords.{Word}
 use Rattle.abel_meaning.specs.CountedBlocks.{row_literals}
-use Rattle.abel_meaning.specs.Designs.{Design}
+use Rattle.abel_meaning.specs.Designs.{Context}
 use Rattle.abel_meaning.specs.FormulaBits.{bits_of, formulas, met_by, met_word, resized}
-use Rattle.abel_meaning.specs.Numbers.{Shape, Number, Single, Set, Value, meeting, width_of}
+use Rattle.abel_meaning.specs.Numbers.{Number, Single, Set, Value, width_of}
 use Rattle.abel_meaning.specs.Terms.{Term, NoTerm, Before, extended, extended_if, special_term}
 use Rattle.abel_meaning.specs.Terms as term
 use Rattle.abel_meaning.specs.Values.{binary_by, constant_of, is_relation}
@@ -23,7 +22,7 @@ use Rattle.set_expr.specs.Answer.{AreIn, HasUnknown, bits_at, positions, unknown
 use Rattle.set_expr.specs.Shapes.{HasShape}
 use Rattle.section_targets.specs.Building.{AreBits}
 use Rattle.equations.proofs.BuiltParts.{met_length, bits_length}
-use Rattle.row_products.specs.Products.{IsShapedTerm, IsShapedNumber, StandForInputs, header_literals, is_computed, literals}
+use Rattle.row_products.specs.Products.{IsShapedTerm, IsShapedNumber, StandForInputs, is_computed}
 
 -- ---- positions in the other order
 
@@ -77,7 +76,7 @@ in_reverse : (count : ℕ) (ps : List (Option ExprId)) → AreIn count ps → Ar
 in_reverse count ps h = all_in count (reverse ps) (All-permutation (InOne count) ps (reverse ps) (IsPermutation-reverse ps) (each_in count ps h))
 
 -- positions that have the flags and the bits of a header, from the right
-pub stand_reversed : (d : Design) (h : Term) (fs : List Formula) (ps : List (Option ExprId)) → AreIn (length fs) ps → (constant_of d h).unknown ≡ unknown_at ps
+pub stand_reversed : (d : Context) (h : Term) (fs : List Formula) (ps : List (Option ExprId)) → AreIn (length fs) ps → (constant_of d h).unknown ≡ unknown_at ps
     → met_word (width_of (constant_of d h).shape) (constant_of d h) (bits_of d h).what ≡ bits_at fs ps → StandForInputs d h fs (reverse ps)
 stand_reversed d h fs ps i u w =
     record {
@@ -106,7 +105,7 @@ bits_many fs [] = refl
 bits_many fs (None ∷ ps) = omega (arith, bits_many fs ps)
 bits_many fs (Some id ∷ ps) = omega (arith, bits_many fs ps)
 
-pub stand_single : (d : Design) (fs : List Formula) (h : Term) (s : Shaped) → IsShapedTerm d fs h s → s.shape ≡ shape.Single → StandForInputs d h fs (reverse s.places)
+pub stand_single : (d : Context) (fs : List Formula) (h : Term) (s : Shaped) → IsShapedTerm d fs h s → s.shape ≡ shape.Single → StandForInputs d h fs (reverse s.places)
 stand_single d fs h s k e =
     let v = constant_of d h in
     let w = (bits_of d h).what in
@@ -116,7 +115,7 @@ stand_single d fs h s k e =
     stand_reversed d h fs s.places k.inside (sym flags)
     (ap (λ y. met_by (width_of y) y v.number w) shaped ∙ single_same v.number w one ∙ sym k.bits)
 
-pub stand_set : (d : Design) (fs : List Formula) (h : Term) (s : Shaped) (n : ℕ) → IsShapedTerm d fs h s → s.shape ≡ shape.Set n → StandForInputs d h fs (reverse s.places)
+pub stand_set : (d : Context) (fs : List Formula) (h : Term) (s : Shaped) (n : ℕ) → IsShapedTerm d fs h s → s.shape ≡ shape.Set n → StandForInputs d h fs (reverse s.places)
 stand_set d fs h s n k e =
     let v = constant_of d h in
     let w = (bits_of d h).what in
@@ -133,7 +132,7 @@ relation_or_not true sign v u e = absurd cc
 relation_or_not false sign v u e = ap (λ s. replicate (width_of s) false) e
 
 -- the X positions of a number: none, or those of the 32 bits that an operator makes
-number_unknown : (d : Design) (t : Term) → (constant_of d t).shape ≡ Number → (constant_of d t).unknown ≡ (if is_computed t then replicate 32 false else [])
+number_unknown : (d : Context) (t : Term) → (constant_of d t).shape ≡ Number → (constant_of d t).unknown ≡ (if is_computed t then replicate 32 false else [])
 number_unknown d (term.Number n) e = refl
 number_unknown d term.X e = absurd cc
 number_unknown d term.Pulse e = refl
@@ -168,7 +167,7 @@ special_plain letter = by_letter (bytes_eq (letter ∷ []) (codes "X")) (bytes_e
     by_letter false false = refl
 
 -- a number that no operator makes has no position
-pub stand_none : (d : Design) (fs : List Formula) (h : Term) (s : Shaped) → IsShapedNumber d fs h s → is_computed h ≡ false → StandForInputs d h fs []
+pub stand_none : (d : Context) (fs : List Formula) (h : Term) (s : Shaped) → IsShapedNumber d fs h s → is_computed h ≡ false → StandForInputs d h fs []
 stand_none d fs h s k e =
     let none : (constant_of d h).unknown ≡ [] = number_unknown d h k.1 ∙ ap (λ b. if b then replicate 32 false else []) e in
     record {
@@ -189,7 +188,7 @@ given_in count [] h = tt
 given_in count (id ∷ ids) h = (h zero id (omega arith), given_in count ids (λ k d lt. h (suc k) d (omega (arith, lt))))
 
 -- one that an operator makes has 32
-pub stand_all : (d : Design) (fs : List Formula) (h : Term) (s : Shaped) (ids : List ExprId) → IsShapedNumber d fs h s → is_computed h ≡ true → AreBits fs ids (met_word 32 (constant_of d h) (bits_of d h).what) → StandForInputs d h fs (reverse (map Some ids))
+pub stand_all : (d : Context) (fs : List Formula) (h : Term) (s : Shaped) (ids : List ExprId) → IsShapedNumber d fs h s → is_computed h ≡ true → AreBits fs ids (met_word 32 (constant_of d h) (bits_of d h).what) → StandForInputs d h fs (reverse (map Some ids))
 stand_all d fs h s ids k e b =
     let v = constant_of d h in
     let w = (bits_of d h).what in

@@ -10,7 +10,7 @@ use Rattle.bit_expr.specs.Formulas.{Formula, Const}
 use Rattle.abel_tree.specs.declared.expressions.Expr.{Expr}
 use Rattle.abel_tree.specs.View.{view}
 use Rattle.abel_meaning.specs.CountedBlocks.{make_literal, row_literals}
-use Rattle.abel_meaning.specs.Designs.{Design}
+use Rattle.abel_meaning.specs.Designs.{Context}
 use Rattle.abel_meaning.specs.FormulaBits.{bits_of, formulas}
 use Rattle.abel_meaning.specs.Numbers.{Number, width_of}
 use Rattle.abel_meaning.specs.Terms.{Term, term_of}
@@ -44,13 +44,13 @@ pub record IsJoined (old now : List Node) (unit : Place) (found : ExprId) (all :
   pub total : all.nodes ≡ nodes + (literals (arena old) made ps ls).nodes
 
 -- the literals of a header's positions
-abbrev pub header_literals : Design → (header : Term) → List (Option Bool) → Made Formula
+abbrev pub header_literals : Context → (header : Term) → List (Option Bool) → Made Formula
 header_literals d h ls =
     row_literals (Const true) (reverse (constant_of d h).unknown)
     ((formulas d).word (width_of (constant_of d h).shape) h) ls
 
 -- positions that stand for those of a header
-pub record StandForInputs (d : Design) (h : Term) (fs : List Formula) (ps : List (Option ExprId)) : Type 0 where
+pub record StandForInputs (d : Context) (h : Term) (fs : List Formula) (ps : List (Option ExprId)) : Type 0 where
   pub inside : AreIn (length fs) ps
   pub same : (ls : List (Option Bool)) → header_literals d h ls ≡ literals fs (Const true) ps ls
 
@@ -63,14 +63,14 @@ is_computed (term.BinaryOf sign t u) = true
 is_computed _ = false
 
 -- what a name stands for is a constant's expression, or no operator
-abbrev pub IsConstantIf : Design → Option (Bor Expr) → Term → Type 0
+abbrev pub IsConstantIf : Context → Option (Bor Expr) → Term → Type 0
 IsConstantIf d None t = is_computed t ≡ false
 IsConstantIf d (Some x) t = t ≡ term_of d.known (view x.now)
 
 -- the bits of a term in an arena
-abbrev pub IsShapedTerm : Design → List Formula → Term → Shaped → Type 0
+abbrev pub IsShapedTerm : Context → List Formula → Term → Shaped → Type 0
 IsShapedTerm d fs t s = IsShaped fs s (constant_of d t) (bits_of d t).what
 
 -- those of a number
-abbrev pub IsShapedNumber : Design → List Formula → Term → Shaped → Type 0
+abbrev pub IsShapedNumber : Context → List Formula → Term → Shaped → Type 0
 IsShapedNumber d fs t s = IsShapedTerm d fs t s × ((constant_of d t).shape ≡ Number)

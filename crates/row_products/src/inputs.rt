@@ -3,31 +3,29 @@
 ghost use Rattle.std.specs.Prelude.{◌≡◌, ℕ, None, Some, List, [], ◌∷◌, map, reverse, IfOk};
 ghost use Rattle.bit_expr.specs.declared.node.Node.{Node};
 ghost use Rattle.bit_expr.specs.Arena.{arena};
-ghost use Rattle.abel_tree.specs.Entries.{entries_of, view_meaning};
+ghost use Rattle.abel_tree.specs.Entries.{view_meaning};
 ghost use Rattle.abel_tree.specs.View.{view};
 ghost use Rattle.abel_meaning.specs.CountedNodes.{term_nodes};
-ghost use Rattle.abel_meaning.specs.Designs.{Design};
+ghost use Rattle.abel_meaning.specs.Designs.{Context};
 ghost use Rattle.abel_meaning.specs.Terms.{term_meant, term_named, term_of};
-ghost use Rattle.set_expr.specs.Answer.{Keeps, IsDesignOf, refusal_of};
-ghost use Rattle.set_expr.specs.KnownNames.{IsKnown};
-ghost use Rattle.expr_bits.specs.Placed.{ArePlaced};
-ghost use Rattle.row_entries.specs.EntryTerms.{IsOver, AreInOrder};
+ghost use Rattle.set_expr.specs.Answer.{Keeps, IsContextOf, refusal_of};
+ghost use Rattle.row_entries.specs.EntryTerms.{IsOver};
 ghost use Rattle.section_targets.specs.Building.{BuildsNodes};
 ghost use Rattle.section_targets.specs.Units.{part};
 ghost use Rattle.row_products.specs.Products.{StandForInputs, IsConstantIf, IsShapedTerm, IsShapedNumber, is_computed};
 
-use abel_tree::{Expr, Meaning, Names};
+use abel_tree::{Expr, Meaning};
 use bit_expr::{ExprId, Exprs};
 use equations::unit_bits;
 use pld_base::{OutOfMemory, Place};
 use pld_device::Device;
 use section_targets::meet;
-use set_expr::{KnownNames, SectionFault, Shape, Shaped};
+use set_expr::{Scope, SectionFault, Shape, Shaped};
 use std::alloc::Global;
 
 /// The expression of a name that is declared a constant.
 fn constant_meant(meaning: &Meaning) -> Option<&Expr>
-    ensures { (d : Design) (k : ℕ) → IsConstantIf d result (term_meant d.known k (view_meaning meaning.now)) }
+    ensures { (d : Context) (k : ℕ) → IsConstantIf d result (term_meant d.known k (view_meaning meaning.now)) }
 {
     match meaning {
         Meaning::Constant(value) => Some(value),
@@ -38,35 +36,28 @@ fn constant_meant(meaning: &Meaning) -> Option<&Expr>
 }
 
 /// The constant that the name with this text stands for.
-fn constant_named<'a>(names: &'a Names, known: &KnownNames, text: &[u8]) -> Option<&'a Expr>
-    requires known { IsKnown (entries_of names.now) known.now }
-    requires order { AreInOrder (entries_of names.now) }
-    ensures { (d : Design) → IsOver names.now d → IsConstantIf d result (term_named d.known text.now) }
+fn constant_named<'a>(scope: &Scope<'a>, text: &[u8]) -> Option<&'a Expr>
+    ensures { (d : Context) → IsOver scope.now d → IsConstantIf d result (term_named d.known text.now) }
 {
-    match known.get(text) {
+    scope.are_in_order();
+    match scope.get(text) {
         None => None,
         Some(name) => {
-            let declared = &names.list.as_slice()[name.number as usize];
+            let declared = &scope.list()[name.number as usize];
             constant_meant(&declared.meaning)
         }
     }
 }
 
 /// Whether an expression is an operator of two operands, behind signs, parentheses and constants' names.
-fn has_operator<'a>(
-    names: &'a Names,
-    known: &KnownNames,
-    expr: &'a Expr,
-) -> Result<bool, OutOfMemory>
-    requires known { IsKnown (entries_of names.now) known.now }
-    requires order { AreInOrder (entries_of names.now) }
-    ensures { IfOk result (λ b. (d : Design) → IsOver names.now d → b ≡ is_computed (term_of d.known (view expr.now))) }
+fn has_operator<'a>(scope: &Scope<'a>, expr: &'a Expr) -> Result<bool, OutOfMemory>
+    ensures { IfOk result (λ b. (d : Context) → IsOver scope.now d → b ≡ is_computed (term_of d.known (view expr.now))) }
 {
     let mut at = expr;
     for _step in 0..u64::MAX {
         match at {
             Expr::Name { word, extension: _ } => {
-                match constant_named(names, known, word.text.bytes()) {
+                match constant_named(scope, word.text.bytes()) {
                     Some(value) => at = value,
                     None => return Ok(false),
                 }
@@ -113,16 +104,13 @@ fn list_positions(alloc: Global, bits: &[ExprId]) -> Result<Vec<Option<ExprId>>,
 /// The positions of a header that is a number: the 32 bits of what an operator makes, and none otherwise.
 fn number_positions(
     alloc: Global,
-    names: &Names,
-    known: &KnownNames,
+    scope: &Scope<'_>,
     header: &Expr,
     shaped: &Shaped,
 ) -> Result<Vec<Option<ExprId>>, OutOfMemory>
-    requires known { IsKnown (entries_of names.now) known.now }
-    requires order { AreInOrder (entries_of names.now) }
-    ensures { IfOk result (λ ps. (d : Design) (ns : List Node) → IsOver names.now d → IsShapedNumber d (arena ns) (term_of d.known (view header.now)) shaped.now → StandForInputs d (term_of d.known (view header.now)) (arena ns) ps.items) }
+    ensures { IfOk result (λ ps. (d : Context) (ns : List Node) → IsOver scope.now d → IsShapedNumber d (arena ns) (term_of d.known (view header.now)) shaped.now → StandForInputs d (term_of d.known (view header.now)) (arena ns) ps.items) }
 {
-    if has_operator(names, known, header)? {
+    if has_operator(scope, header)? {
         let bits = meet(alloc, shaped, 32)?;
         list_positions(alloc, &bits)
     } else {
@@ -142,17 +130,14 @@ fn turned(positions: Vec<Option<ExprId>>) -> Vec<Option<ExprId>>
 /// The positions of a header from the left.
 fn shaped_positions(
     alloc: Global,
-    names: &Names,
-    known: &KnownNames,
+    scope: &Scope<'_>,
     header: &Expr,
     shaped: Shaped,
 ) -> Result<Vec<Option<ExprId>>, OutOfMemory>
-    requires known { IsKnown (entries_of names.now) known.now }
-    requires order { AreInOrder (entries_of names.now) }
-    ensures { IfOk result (λ ps. (d : Design) (ns : List Node) → IsOver names.now d → IsShapedTerm d (arena ns) (term_of d.known (view header.now)) shaped → StandForInputs d (term_of d.known (view header.now)) (arena ns) ps.items) }
+    ensures { IfOk result (λ ps. (d : Context) (ns : List Node) → IsOver scope.now d → IsShapedTerm d (arena ns) (term_of d.known (view header.now)) shaped → StandForInputs d (term_of d.known (view header.now)) (arena ns) ps.items) }
 {
     match shaped.shape {
-        Shape::Number(_) => number_positions(alloc, names, known, header, &shaped),
+        Shape::Number(_) => number_positions(alloc, scope, header, &shaped),
         Shape::Single => Ok(turned(shaped.places.into_vec())),
         Shape::Set(_) => Ok(turned(shaped.places.into_vec())),
     }
@@ -161,21 +146,17 @@ fn shaped_positions(
 /// The positions of an input header from the left, None at X, as nodes of the unit at this place.
 pub fn header_bits<D: Device>(
     alloc: Global,
-    names: &Names,
-    known: &KnownNames,
+    scope: &Scope<'_>,
     header: &Expr,
     unit: Place,
     exprs: &mut Exprs,
 ) -> Result<Vec<Option<ExprId>>, SectionFault>
-    requires known { IsKnown (entries_of names.now) known.now }
-    requires order { AreInOrder (entries_of names.now) }
-    requires placed { ArePlaced names.now }
-    requires accepted { refusal_of names.now (view header.now) ≡ None }
+    requires accepted { refusal_of scope.now (view header.now) ≡ None }
     ensures keeps { Keeps (arena exprs.old) (arena exprs.new) }
-    ensures builds { (d : Design) → IsDesignOf D.table names.now d → BuildsNodes (part unit (term_nodes d (view header.now)) ∷ []) exprs.old exprs.new result }
-    ensures inputs { IfOk result (λ ps. (d : Design) → IsDesignOf D.table names.now d → StandForInputs d (term_of d.known (view header.now)) (arena exprs.new) ps.items) }
+    ensures builds { (d : Context) → IsContextOf D.table scope.now d → BuildsNodes (part unit (term_nodes d (view header.now)) ∷ []) exprs.old exprs.new result }
+    ensures inputs { IfOk result (λ ps. (d : Context) → IsContextOf D.table scope.now d → StandForInputs d (term_of d.known (view header.now)) (arena exprs.new) ps.items) }
 {
-    let shaped = unit_bits::<D>(alloc, names, known, header, unit, exprs)?;
-    let positions = shaped_positions(alloc, names, known, header, shaped)?;
+    let shaped = unit_bits::<D>(alloc, scope, header, unit, exprs)?;
+    let positions = shaped_positions(alloc, scope, header, shaped)?;
     Ok(positions)
 }

@@ -1,7 +1,7 @@
 -- What was begun with is an operator where what is looked at is one.
 use Rattle.std.proofs.Common.{◌≡◌}
 use Rattle.abel_tree.specs.View.{view}
-use Rattle.abel_meaning.specs.Designs.{Design}
+use Rattle.abel_meaning.specs.Designs.{Context}
 use Rattle.abel_meaning.specs.Terms.{term_of}
 use Rattle.row_entries.specs.EntryTerms.{IsOver}
 use Rattle.row_products.specs.Products.{is_computed}
@@ -9,4 +9,4 @@ use Rattle.row_products.proofs.inputs.has_operator.Given as goal
 
 abbrev pub invariant-loop-step : goal.invariant-loop-step
 invariant-loop-step l =
-    (d : Design) → IsOver l.names d → is_computed (term_of d.known (view l.fn.expr)) ≡ is_computed (term_of d.known (view l.at))
+    (d : Context) → IsOver l.scope d → is_computed (term_of d.known (view l.fn.expr)) ≡ is_computed (term_of d.known (view l.at))

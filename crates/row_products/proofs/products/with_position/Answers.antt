@@ -1,5 +1,5 @@
 -- A position that is X, and a bit.
-use Rattle.std.proofs.Common.{[], ◌∷◌, Ok, Some, None, refl, sym, subst, length}
+use Rattle.std.proofs.Common.{[], ◌∷◌, Ok, refl, sym, subst, length}
 use Rattle.std.specs.Prelude.{IfOk}
 use Rattle.bit_expr.specs.Arena.{arena, formula_at}
 use Rattle.set_expr.specs.Answer.{AreIn}
