@@ -1,5 +1,5 @@
 -- The outputs of a header that isn't refused are the signals of its term, position by position.
-use Rattle.std.proofs.Common.{◌≡◌, ℕ, Bool, true, false, Option, None, Some, List, [], ◌∷◌, ◌++◌, if◌then◌else◌, map, length, bytes_eq, append_assoc, refl, sym, ap, ap₂, ◌∙◌}
+use Rattle.std.proofs.Common.{◌≡◌, ℕ, Bool, true, false, Option, None, Some, List, [], ◌∷◌, ◌++◌, if◌then◌else◌, length, bytes_eq, append_assoc, refl, sym, ap, ap₂, ◌∙◌}
 use Rattle.std.specs.Prelude.{codes}
 use Rattle.std.specs.Option.{option_map}
 use Rattle.std.proofs.lemmas.List.{map-append}
@@ -7,9 +7,9 @@ use Rattle.pld_base.specs.declared.place.Place.{Place}
 use Rattle.abel_tree.specs.Entries.{find}
 use Rattle.abel_tree.specs.Ranges.{range_names}
 use Rattle.abel_tree.specs.Tree.{Tree, ANumber, ASpecial, AName, ASet, AParen, AUnary, ABinary, OneMember, SpanMember, Members, NoMember, MoreMembers}
-use Rattle.abel_meaning.specs.Designs.{Design}
+use Rattle.abel_meaning.specs.Designs.{Context}
 use Rattle.abel_meaning.specs.Targets.{targets_of, all_targets}
-use Rattle.abel_meaning.specs.Terms.{Term, Terms, X, Pulse, Release, NoTerm, term_named, term_of, terms_of, named_before, special_term}
+use Rattle.abel_meaning.specs.Terms.{Term, Terms, X, Pulse, Release, term_named, term_of, terms_of, named_before, special_term}
 use Rattle.set_expr.specs.declared.fault.SectionFault.{SectionFault}
 use Rattle.set_expr.specs.declared.fault.SectionFault.TheVariants.{MisplacedSpecial, NotAnOutput}
 use Rattle.set_expr.specs.FoundNames.{found_use, name_found, names_found}
@@ -28,7 +28,7 @@ listed_signals p [] = refl
 listed_signals p (None ∷ ss) = ap (λ xs. None ∷ xs) (listed_signals p ss)
 listed_signals p (Some s ∷ ss) = ap (λ xs. Some s ∷ xs) (listed_signals p ss)
 
-name_signals : (d : Design) (p : Place) (w : List ℕ) → (header_name d p w).refusals ≡ [] → targets_of (term_named d.known w) ≡ signals_of (header_name d p w).outputs
+name_signals : (d : Context) (p : Place) (w : List ℕ) → (header_name d p w).refusals ≡ [] → targets_of (term_named d.known w) ≡ signals_of (header_name d p w).outputs
 name_signals d p w e = by_refusals (found_use p (name_found (names_found d.names) w)).refusals e
   where
     t : Term
@@ -43,7 +43,7 @@ name_signals d p w e = by_refusals (found_use p (name_found (names_found d.names
     by_refusals [] e = by_names (names_positions t) e
     by_refusals (r ∷ rs) e = absurd cc
 
-range_signals : (d : Design) (p : Place) (names : List (List ℕ)) (ts : Terms) (xs : List (Option Aim)) → all_targets ts ≡ signals_of xs → (header_range d p names).refusals ≡ []
+range_signals : (d : Context) (p : Place) (names : List (List ℕ)) (ts : Terms) (xs : List (Option Aim)) → all_targets ts ≡ signals_of xs → (header_range d p names).refusals ≡ []
     → all_targets (named_before d.known names ts) ≡ signals_of ((header_range d p names).outputs ++ xs)
 range_signals d p [] ts xs h e = h
 range_signals d p (n ∷ names) ts xs h e =
@@ -53,7 +53,7 @@ range_signals d p (n ∷ names) ts xs h e =
     ∙ sym (signals_append a.outputs (b.outputs ++ xs))
     ∙ ap signals_of (sym (append_assoc a.outputs b.outputs xs))
 
-special_signals : (d : Design) (letter : ℕ) (p : Place) → (header_special letter p).refusals ≡ [] → targets_of (special_term letter) ≡ signals_of (header_special letter p).outputs
+special_signals : (d : Context) (letter : ℕ) (p : Place) → (header_special letter p).refusals ≡ [] → targets_of (special_term letter) ≡ signals_of (header_special letter p).outputs
 special_signals d letter p e = by_letter (bytes_eq (letter ∷ []) (codes "X")) (bytes_eq (letter ∷ []) (codes "C")) e
   where
     by_letter : (a b : Bool) → (if a then header_of (None ∷ []) else refused_header (MisplacedSpecial p)).refusals ≡ []
@@ -62,7 +62,7 @@ special_signals d letter p e = by_letter (bytes_eq (letter ∷ []) (codes "X")) 
     by_letter false b e = absurd cc
 
 mutual
-  pub header_signals : (d : Design) (t : Tree) → (output_header d t).refusals ≡ [] → targets_of (term_of d.known t) ≡ signals_of (output_header d t).outputs
+  pub header_signals : (d : Context) (t : Tree) → (output_header d t).refusals ≡ [] → targets_of (term_of d.known t) ≡ signals_of (output_header d t).outputs
   header_signals d (ANumber n) e = absurd cc
   header_signals d (ASpecial letter p) e = special_signals d letter p e
   header_signals d (AName word None) e = name_signals d word.place word.text e
@@ -73,7 +73,7 @@ mutual
   header_signals d (AUnary sign p t) e = absurd cc
   header_signals d (ABinary sign p t u) e = absurd cc
 
-  members_signals : (d : Design) (ms : Members) → (output_members d ms).refusals ≡ [] → all_targets (terms_of d.known ms) ≡ signals_of (output_members d ms).outputs
+  members_signals : (d : Context) (ms : Members) → (output_members d ms).refusals ≡ [] → all_targets (terms_of d.known ms) ≡ signals_of (output_members d ms).outputs
   members_signals d NoMember e = refl
   members_signals d (MoreMembers (OneMember t) ms) e =
       let a = output_header d t in

@@ -11,16 +11,15 @@ use Rattle.abel_tree.specs.declared.tables.Row.{Row}
 use Rattle.abel_tree.specs.declared.tables.Table.{Table}
 use Rattle.abel_tree.specs.FirstRefusal.{first_refusal}
 use Rattle.abel_tree.proofs.FirstRefusals.{none_refused}
-use Rattle.abel_tree.specs.Tree.{Tree, RowTree}
+use Rattle.abel_tree.specs.Tree.{RowTree}
 use Rattle.abel_tree.specs.View.{view, view_row}
 use Rattle.abel_meaning.specs.Contributions as meant
 use Rattle.abel_meaning.specs.CountedBlocks.{row_literals, row_nodes, rows_units}
-use Rattle.abel_meaning.specs.CountedNodes.{term_nodes}
-use Rattle.abel_meaning.specs.Designs.{Design}
+use Rattle.abel_meaning.specs.Designs.{Context}
 use Rattle.abel_meaning.specs.FormulaBits.{formulas}
 use Rattle.abel_meaning.specs.Numbers.{width_of}
 use Rattle.abel_meaning.specs.Rows.{entry_levels}
-use Rattle.abel_meaning.specs.Tables.{agrees, no_matches, outputs_given, rows_give, row_matches}
+use Rattle.abel_meaning.specs.Tables.{agrees, outputs_given, rows_give}
 use Rattle.abel_meaning.specs.Targets.{targets_of}
 use Rattle.abel_meaning.specs.Terms.{Term, term_of}
 use Rattle.abel_meaning.specs.Values.{constant_of}
@@ -54,7 +53,7 @@ use Rattle.table_contributions.proofs.WorkLaws.{DoesWork}
 -- ---- products
 
 -- what agrees is the product of the literals
-pub agrees_literals : (d : Design) (f : Formula) (xs : List Bool) (ws : List Formula) (ls : List (Option Bool)) → agrees (formulas d) f xs ws ls ≡ (row_literals f xs ws ls).what
+pub agrees_literals : (d : Context) (f : Formula) (xs : List Bool) (ws : List Formula) (ls : List (Option Bool)) → agrees (formulas d) f xs ws ls ≡ (row_literals f xs ws ls).what
 agrees_literals d f [] ws ls = refl
 agrees_literals d f (x ∷ xs) [] ls = refl
 agrees_literals d f (x ∷ xs) (w ∷ ws) [] = refl
@@ -69,7 +68,7 @@ bits_kept old new [] k h = refl
 bits_kept old new (None ∷ ps) k h = ap (λ fs. Const false ∷ fs) (bits_kept old new ps k h)
 bits_kept old new (Some id ∷ ps) k h = ap₂ (λ f fs. f ∷ fs) (kept_formula old new id k h.0) (bits_kept old new ps k h.1)
 
-pub inputs_kept : (d : Design) (h : Term) (old new : List Formula) (ps : List (Option ExprId)) → Keeps old new → length old ≤ length new → StandForInputs d h old ps → StandForInputs d h new ps
+pub inputs_kept : (d : Context) (h : Term) (old new : List Formula) (ps : List (Option ExprId)) → Keeps old new → length old ≤ length new → StandForInputs d h old ps → StandForInputs d h new ps
 inputs_kept d h old new ps k le s =
     record {
       inside = in_longer (length old) (length new) ps le s.inside;
@@ -78,7 +77,7 @@ inputs_kept d h old new ps k le s =
 
 -- ---- rows
 
-abbrev row_of : Design → meant.Guard Formula → Table → List (Option Aim) → (nodes : ℕ) → Place → Formula → List (Option Bool) → List (Option ℕ) → List SectionFault → Work
+abbrev row_of : Context → meant.Guard Formula → Table → List (Option Aim) → (nodes : ℕ) → Place → Formula → List (Option Bool) → List (Option ℕ) → List SectionFault → Work
 row_of d g t xs n p q os ss rs =
     record {
       units = record { place = p; refusals = rs; nodes = n } ∷ [];
@@ -86,12 +85,12 @@ row_of d g t xs n p q os ss rs =
       places = row_places xs os;
     }
 
-abbrev product_row : Design → meant.Guard Formula → Table → List (Option Aim) → (nodes : ℕ) → Place → (ins outs : List (Option Bool)) → List (Option ℕ) → List SectionFault → Work
+abbrev product_row : Context → meant.Guard Formula → Table → List (Option Aim) → (nodes : ℕ) → Place → (ins outs : List (Option Bool)) → List (Option ℕ) → List SectionFault → Work
 product_row d g t xs n p is os ss rs =
     row_of d g t xs (n + (header_literals d (term_of d.known (view t.inputs)) is).nodes) p (header_literals d (term_of d.known (view t.inputs)) is).what os ss rs
 
 -- a row of which nothing is refused, by its levels
-pub found_row : (d : Design) (g : meant.Guard Formula) (guard : Guard) (t : Table) (xs : List (Option Aim)) (n : ℕ) (row : RowTree) (f : RowFound) → NamesOutputs d t xs
+pub found_row : (d : Context) (g : meant.Guard Formula) (guard : Guard) (t : Table) (xs : List (Option Aim)) (n : ℕ) (row : RowTree) (f : RowFound) → NamesOutputs d t xs
     → IsRow d t.clocked (term_of d.known (view t.inputs)) (term_of d.known (view t.outputs)) row f → f.fault ≡ None
     → product_work d g (record { unit = row.place; guard = guard; clocked = t.clocked }) n (header_literals d (term_of d.known (view t.inputs)) f.inputs) xs f ≡ row_work d g t xs n row
 found_row d g guard t xs n row f names r e =
@@ -106,7 +105,7 @@ found_row d g guard t xs n row f names r e =
     (sym (agrees_literals d (Const true) (reverse (constant_of d h).unknown) ((formulas d).word (width_of (constant_of d h).shape) h) is))
 
 -- the outputs behind the product of a row
-pub found_built : (d : Design) (g : Guard) (m : Assigning) (made : Made Formula) (id : ExprId) (xs : List (Option Aim)) (f : RowFound) (old mid new : Contributions) (r : Result Unit SectionFault)
+pub found_built : (d : Context) (g : Guard) (m : Assigning) (made : Made Formula) (id : ExprId) (xs : List (Option Aim)) (f : RowFound) (old mid new : Contributions) (r : Result Unit SectionFault)
     → IsBuilt (part m.unit made.nodes ∷ []) [] [] old mid → formula_at (arena mid.exprs) id ≡ made.what
     → Builds [] (outputs_given d (matched_guard (arena mid.exprs) m.guard id) m.clocked (signals_of xs) f.outputs) (row_places xs f.outputs) mid new r
     → DoesWork (found_work d (view_guard (arena old.exprs) m.guard) m made.nodes made.what xs f) old new r
@@ -121,7 +120,7 @@ later_part p m k gs ps old mid new r b c =
     (one_unit p (part p m ∷ part p k ∷ []) gs ps old new r (refl, (refl, tt)) (builds_then (part p m ∷ []) (part p k ∷ []) [] gs [] ps old mid new r b c))
 
 -- the first row behind the bits of the input header
-pub first_built : {R : Type 0} (d : Design) (h : Term) (m : Assigning) (n : ℕ) (ps : List (Option ExprId)) (xs : List (Option Aim)) (f : RowFound) (old mid new : Contributions) (r : Result R SectionFault)
+pub first_built : {R : Type 0} (d : Context) (h : Term) (m : Assigning) (n : ℕ) (ps : List (Option ExprId)) (xs : List (Option Aim)) (f : RowFound) (old mid new : Contributions) (r : Result R SectionFault)
     → StandForInputs d h (arena mid.exprs) ps → IsBuilt (part m.unit n ∷ []) [] [] old mid
     → DoesWork (found_work d (view_guard (arena mid.exprs) m.guard) m (literals (arena mid.exprs) (Const true) ps f.inputs).nodes (literals (arena mid.exprs) (Const true) ps f.inputs).what xs f) mid new r
     → DoesWork (product_work d (view_guard (arena old.exprs) m.guard) m n (header_literals d h f.inputs) xs f) old new r
@@ -130,7 +129,7 @@ first_built d h m n ps xs f old mid new r s b c =
     (later_part m.unit n (literals (arena mid.exprs) (Const true) ps f.inputs).nodes _ (row_places xs f.outputs) old mid new r b c)
 
 -- a row behind the first
-pub row_built : (d : Design) (fs : List Formula) (guard : Guard) (t : Table) (xs : List (Option Aim)) (ps : List (Option ExprId)) (row : RowTree) (f : RowFound) (old new : Contributions) (r : Result Unit SectionFault) → NamesOutputs d t xs
+pub row_built : (d : Context) (fs : List Formula) (guard : Guard) (t : Table) (xs : List (Option Aim)) (ps : List (Option ExprId)) (row : RowTree) (f : RowFound) (old new : Contributions) (r : Result Unit SectionFault) → NamesOutputs d t xs
     → IsRow d t.clocked (term_of d.known (view t.inputs)) (term_of d.known (view t.outputs)) row f → f.fault ≡ None → StandForInputs d (term_of d.known (view t.inputs)) fs ps
     → DoesWork (found_work d (view_guard fs guard) (record { unit = row.place; guard = guard; clocked = t.clocked }) (literals fs (Const true) ps f.inputs).nodes (literals fs (Const true) ps f.inputs).what xs f) old new r
     → DoesWork (row_work d (view_guard fs guard) t xs 0 row) old new r
@@ -143,7 +142,7 @@ row_built d fs guard t xs ps row f old new r names i e s b =
     (subst (λ n. DoesWork (found_work d (view_guard fs guard) m n made.what xs f) old new r) counted b))
 
 -- a row of which something is refused
-pub row_stops : (d : Design) (g : meant.Guard Formula) (t : Table) (xs : List (Option Aim)) (n : ℕ) (row : RowTree) (f : RowFound) (x y : SectionFault) (ns : List Node) (list : List Contribution)
+pub row_stops : (d : Context) (g : meant.Guard Formula) (t : Table) (xs : List (Option Aim)) (n : ℕ) (row : RowTree) (f : RowFound) (x y : SectionFault) (ns : List Node) (list : List Contribution)
     → IsRow d t.clocked (term_of d.known (view t.inputs)) (term_of d.known (view t.outputs)) row f → f.fault ≡ Some x → stop_of y ≡ AtRefusal
     → StopsWith (row_work d g t xs n row).units (row_work d g t xs n row).gives (row_work d g t xs n row).places (at ns list) (at ns list) y
 row_stops d g t xs n row f x y ns list r e s =
@@ -158,12 +157,12 @@ row_stops d g t xs n row f x y ns list r e s =
     none_some x e = absurd cc
 
 -- rows from one on
-pub rows_next : (d : Design) (g : meant.Guard Formula) (t : Table) (xs : List (Option Aim)) (i : ℕ) (rows : List Row) (row : Row) → i < length rows → row ≡ get_or rows i row
+pub rows_next : (d : Context) (g : meant.Guard Formula) (t : Table) (xs : List (Option Aim)) (i : ℕ) (rows : List Row) (row : Row) → i < length rows → row ≡ get_or rows i row
     → rows_work d g t xs 0 (map view_row (drop i rows)) ≡ before (row_work d g t xs 0 (view_row row)) (rows_work d g t xs 0 (map view_row (drop (i + 1) rows)))
 rows_next d g t xs i rows row lt is =
     ap (λ rs. rows_work d g t xs 0 (map view_row rs)) (drop-cons rows i row lt ∙ ap₂ (λ r rs. r ∷ rs) (sym is) (ap (λ n. drop n rows) (sym (add-one i))))
 
-pub rows_left : (d : Design) (g : meant.Guard Formula) (t : Table) (xs : List (Option Aim)) (i : ℕ) (rows : List Row) → length rows ≤ i → rows_work d g t xs 0 (map view_row (drop i rows)) ≡ nothing
+pub rows_left : (d : Context) (g : meant.Guard Formula) (t : Table) (xs : List (Option Aim)) (i : ℕ) (rows : List Row) → length rows ≤ i → rows_work d g t xs 0 (map view_row (drop i rows)) ≡ nothing
 rows_left d g t xs zero [] e = refl
 rows_left d g t xs zero (r ∷ rows) e = absurd (omega (arith, e))
 rows_left d g t xs (suc i) [] e = refl
@@ -171,14 +170,14 @@ rows_left d g t xs (suc i) (r ∷ rows) e = rows_left d g t xs i rows (omega (ar
 
 -- ---- all rows
 
-pub rows_units_of : (d : Design) (g : meant.Guard Formula) (t : Table) (xs : List (Option Aim)) (n : ℕ) (rows : List RowTree) → (rows_work d g t xs n rows).units ≡ row_units d t.clocked (term_of d.known (view t.inputs)) (term_of d.known (view t.outputs)) rows (rows_units d (term_of d.known (view t.inputs)) n rows)
+pub rows_units_of : (d : Context) (g : meant.Guard Formula) (t : Table) (xs : List (Option Aim)) (n : ℕ) (rows : List RowTree) → (rows_work d g t xs n rows).units ≡ row_units d t.clocked (term_of d.known (view t.inputs)) (term_of d.known (view t.outputs)) rows (rows_units d (term_of d.known (view t.inputs)) n rows)
 rows_units_of d g t xs n [] = refl
 rows_units_of d g t xs n (row ∷ rows) = ap (λ us. (row_work d g t xs n row).units ++ us) (rows_units_of d g t xs 0 rows)
 
-pub rows_gives_of : (d : Design) (g : meant.Guard Formula) (t : Table) (xs : List (Option Aim)) (n : ℕ) (rows : List RowTree) → (rows_work d g t xs n rows).gives ≡ rows_give (formulas d) d g t.clocked (term_of d.known (view t.inputs)) (term_of d.known (view t.outputs)) rows
+pub rows_gives_of : (d : Context) (g : meant.Guard Formula) (t : Table) (xs : List (Option Aim)) (n : ℕ) (rows : List RowTree) → (rows_work d g t xs n rows).gives ≡ rows_give (formulas d) d g t.clocked (term_of d.known (view t.inputs)) (term_of d.known (view t.outputs)) rows
 rows_gives_of d g t xs n [] = refl
 rows_gives_of d g t xs n (row ∷ rows) = ap (λ gs. (row_work d g t xs n row).gives ++ gs) (rows_gives_of d g t xs 0 rows)
 
-pub rows_places_of : (d : Design) (g : meant.Guard Formula) (t : Table) (xs : List (Option Aim)) (n : ℕ) (rows : List RowTree) → (rows_work d g t xs n rows).places ≡ rows_places d xs (term_of d.known (view t.outputs)) rows
+pub rows_places_of : (d : Context) (g : meant.Guard Formula) (t : Table) (xs : List (Option Aim)) (n : ℕ) (rows : List RowTree) → (rows_work d g t xs n rows).places ≡ rows_places d xs (term_of d.known (view t.outputs)) rows
 rows_places_of d g t xs n [] = refl
 rows_places_of d g t xs n (row ∷ rows) = ap (λ ps. (row_work d g t xs n row).places ++ ps) (rows_places_of d g t xs 0 rows)

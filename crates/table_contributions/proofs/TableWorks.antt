@@ -12,9 +12,9 @@ use Rattle.abel_tree.specs.View.{view, view_row}
 use Rattle.abel_meaning.specs.Contributions as meant
 use Rattle.abel_meaning.specs.CountedBlocks.{table_units}
 use Rattle.abel_meaning.specs.CountedNodes.{term_nodes}
-use Rattle.abel_meaning.specs.Designs.{Design}
+use Rattle.abel_meaning.specs.Designs.{Context}
 use Rattle.abel_meaning.specs.FormulaBits.{formulas}
-use Rattle.abel_meaning.specs.Tables.{no_matches, rows_give}
+use Rattle.abel_meaning.specs.Tables.{no_matches}
 use Rattle.abel_meaning.specs.Terms.{term_of}
 use Rattle.set_expr.specs.declared.contributions.Contribution.{Contribution}
 use Rattle.set_expr.specs.declared.contributions.Contributions.{Contributions}
@@ -44,12 +44,12 @@ use Rattle.table_contributions.proofs.RowWorks.{rows_gives_of, rows_places_of, r
 use Rattle.table_contributions.proofs.WorkLaws.{DoesWork}
 
 -- rows give the same over any arena
-pub rows_any : (d : Design) (fs hs : List Formula) (g : Guard) (t : Table) (xs : List (Option Aim)) (n : ℕ) (rows : List RowTree) → rows_work d (view_guard fs g) t xs n rows ≡ rows_work d (view_guard hs g) t xs n rows
+pub rows_any : (d : Context) (fs hs : List Formula) (g : Guard) (t : Table) (xs : List (Option Aim)) (n : ℕ) (rows : List RowTree) → rows_work d (view_guard fs g) t xs n rows ≡ rows_work d (view_guard hs g) t xs n rows
 rows_any d fs hs g t xs n [] = refl
 rows_any d fs hs g t xs n (row ∷ rows) = ap (before (row_work d (view_guard fs g) t xs n row)) (rows_any d fs hs g t xs 0 rows)
 
 -- a header of which nothing is refused
-pub inputs_clear : (d : Design) (before : List Manner) (t : Table) → None ≡ first_refusal section_order (header_refused d before t.clocked (view t.inputs) (view t.outputs)) → (expression_found d.names (view t.inputs)).refusals ≡ []
+pub inputs_clear : (d : Context) (before : List Manner) (t : Table) → None ≡ first_refusal section_order (header_refused d before t.clocked (view t.inputs) (view t.outputs)) → (expression_found d.names (view t.inputs)).refusals ≡ []
 inputs_clear d before t e =
     left_empty (expression_found d.names (view t.inputs)).refusals (outputs_refused d before t.clocked (output_header d (view t.outputs)))
     (none_refused section_order (header_refused d before t.clocked (view t.inputs) (view t.outputs)) e)
@@ -58,7 +58,7 @@ neither : (rs more : List SectionFault) → if_none rs more ≡ [] → rs ≡ []
 neither [] more e = refl
 neither (r ∷ rs) more e = absurd cc
 
-pub outputs_named : (d : Design) (before : List Manner) (t : Table) (xs : List (Option Aim)) → xs ≡ (output_header d (view t.outputs)).outputs → None ≡ first_refusal section_order (header_refused d before t.clocked (view t.inputs) (view t.outputs)) → NamesOutputs d t xs
+pub outputs_named : (d : Context) (before : List Manner) (t : Table) (xs : List (Option Aim)) → xs ≡ (output_header d (view t.outputs)).outputs → None ≡ first_refusal section_order (header_refused d before t.clocked (view t.inputs) (view t.outputs)) → NamesOutputs d t xs
 outputs_named d before t xs h e =
     let x = output_header d (view t.outputs) in
     header_signals d (view t.outputs)
@@ -77,7 +77,7 @@ header_stops (r ∷ rs) p us gs ps x y ns list e s =
     )
 
 -- the works of a table are its units, and what it gives
-pub table_built : (d : Design) (all : List Manner) (fs : List Formula) (g : Guard) (t : Table) (xs : List (Option Aim)) (old new : Contributions) (r : Result Unit SectionFault) → NamesOutputs d t xs → xs ≡ (output_header d (view t.outputs)).outputs
+pub table_built : (d : Context) (all : List Manner) (fs : List Formula) (g : Guard) (t : Table) (xs : List (Option Aim)) (old new : Contributions) (r : Result Unit SectionFault) → NamesOutputs d t xs → xs ≡ (output_header d (view t.outputs)).outputs
     → None ≡ first_refusal section_order (header_refused d all t.clocked (view t.inputs) (view t.outputs))
     → DoesWork (before (given_freely (no_matches (formulas d) d (view_guard fs g) false t.clocked (signals_of xs)) (places_of (some_aims xs))) (rows_work d (view_guard fs g) t xs (term_nodes d (view t.inputs)) (map view_row t.rows))) old new r
     → Builds (units_of d all t) (given_by d g t fs) (places_by d t) old new r

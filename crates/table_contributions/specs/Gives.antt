@@ -10,7 +10,7 @@ use Rattle.abel_tree.specs.declared.names.Names.{Names}
 use Rattle.abel_tree.specs.Entries.{entries_of}
 use Rattle.abel_meaning.specs.Contributions.{contribution}
 use Rattle.abel_meaning.specs.Contributions as meant
-use Rattle.abel_meaning.specs.Designs.{Design}
+use Rattle.abel_meaning.specs.Designs.{Context}
 use Rattle.abel_meaning.specs.FormulaBits.{formulas}
 use Rattle.abel_meaning.specs.Tables.{level_gives, no_matches, outputs_given}
 use Rattle.set_expr.specs.declared.contributions.Contribution.{Contribution}
@@ -38,10 +38,10 @@ value_places a (Some true) = a.place ∷ []
 value_places a (Some false) = []
 
 -- what is left by building no nodes, over every design of these names
-abbrev pub GivesFreely : Names → (Design → List (meant.Contribution Formula)) → List Place → (old new : List Node)
+abbrev pub GivesFreely : Names → (Context → List (meant.Contribution Formula)) → List Place → (old new : List Node)
     → (list more : List Contribution) → Result Unit SectionFault → Type 0
 GivesFreely n gs ps old new list more r =
-    (d : Design) → d.names ≡ entries_of n
+    (d : Context) → d.names ≡ entries_of n
     → Builds [] (gs d) ps (record { exprs = old; list = list }) (record { exprs = new; list = more }) r
 
 abbrev pub GivesOutput : Names → Assigning → Gives → Aim → ExprId → (old new : List Node)

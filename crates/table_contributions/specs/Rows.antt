@@ -1,6 +1,5 @@
 -- Private: what is left by building the rows of a table (ABEL-HDL Reference Manual, truth tables).
 use Rattle.std.specs.Prelude.{◌≡◌, ℕ, ◌+◌, true, false, Option, List, [], ◌∷◌, map, Result}
-use Rattle.pld_base.specs.declared.place.Place.{Place}
 use Rattle.pld_device.specs.Table as device
 use Rattle.bit_expr.specs.declared.node.ExprId.{ExprId}
 use Rattle.bit_expr.specs.declared.node.Node.{Node}
@@ -16,7 +15,7 @@ use Rattle.abel_tree.specs.View.{view, view_row}
 use Rattle.abel_meaning.specs.Contributions as meant
 use Rattle.abel_meaning.specs.CountedBlocks.{row_nodes}
 use Rattle.abel_meaning.specs.CountedNodes.{term_nodes}
-use Rattle.abel_meaning.specs.Designs.{Design}
+use Rattle.abel_meaning.specs.Designs.{Context}
 use Rattle.abel_meaning.specs.FormulaBits.{formulas}
 use Rattle.abel_meaning.specs.Rows.{entry_levels}
 use Rattle.abel_meaning.specs.Tables.{no_matches, outputs_given, row_matches}
@@ -25,7 +24,7 @@ use Rattle.abel_meaning.specs.Terms.{term_of}
 use Rattle.set_expr.specs.declared.contributions.Contribution.{Contribution}
 use Rattle.set_expr.specs.declared.contributions.Guard.{Guard}
 use Rattle.set_expr.specs.declared.fault.SectionFault.{SectionFault}
-use Rattle.set_expr.specs.Answer.{IsDesignOf}
+use Rattle.set_expr.specs.Answer.{IsContextOf}
 use Rattle.set_expr.specs.Given.{view_guard}
 use Rattle.section_targets.specs.declared.aim.Aim.{Aim}
 use Rattle.section_targets.specs.Building.{Builds}
@@ -46,7 +45,7 @@ Does w old new list more r =
 -- ---- works
 
 -- a row with the nodes of the input header before its own, and what it gives under the guard of its table
-abbrev pub row_work : Design → meant.Guard Formula → Table → List (Option Aim) → (nodes : ℕ) → RowTree → Work
+abbrev pub row_work : Context → meant.Guard Formula → Table → List (Option Aim) → (nodes : ℕ) → RowTree → Work
 row_work d g t xs n row =
     record {
       units = record {
@@ -62,12 +61,12 @@ row_work d g t xs n row =
     }
 
 -- rows, the first of which has so many nodes of the input header
-abbrev pub rows_work : Design → meant.Guard Formula → Table → List (Option Aim) → (nodes : ℕ) → List RowTree → Work
+abbrev pub rows_work : Context → meant.Guard Formula → Table → List (Option Aim) → (nodes : ℕ) → List RowTree → Work
 rows_work d g t xs n [] = nothing
 rows_work d g t xs n (row ∷ rows) = before (row_work d g t xs n row) (rows_work d g t xs 0 rows)
 
 -- a row of which nothing is refused, with so many nodes, where this holds
-abbrev pub found_work : Design → meant.Guard Formula → Assigning → (nodes : ℕ) → (holds : Formula) → List (Option Aim)
+abbrev pub found_work : Context → meant.Guard Formula → Assigning → (nodes : ℕ) → (holds : Formula) → List (Option Aim)
     → RowFound → Work
 found_work d g m n holds xs f =
     record {
@@ -77,7 +76,7 @@ found_work d g m n holds xs f =
     }
 
 -- the same by a product, with so many nodes before it
-abbrev pub product_work : Design → meant.Guard Formula → Assigning → (nodes : ℕ) → Made Formula → List (Option Aim)
+abbrev pub product_work : Context → meant.Guard Formula → Assigning → (nodes : ℕ) → Made Formula → List (Option Aim)
     → RowFound → Work
 product_work d g m n product xs f = found_work d g m (n + product.nodes) product.what xs f
 
@@ -86,50 +85,50 @@ product_work d g m n product xs f = found_work d g m (n + product.nodes) product
 abbrev pub GivesFound : Names → Assigning → List (Option ExprId) → List (Option Aim) → RowFound → (old new : List Node)
     → (list more : List Contribution) → Result Unit SectionFault → Type 0
 GivesFound n m ps xs f old new list more r =
-    (d : Design) → d.names ≡ entries_of n
+    (d : Context) → d.names ≡ entries_of n
     → Does (found_work d (view_guard (arena old) m.guard) m (literals (arena old) (Const true) ps f.inputs).nodes (literals (arena old) (Const true) ps f.inputs).what xs f)
     old new list more r
 
 abbrev pub GivesFirst : {R : Type 0} → device.Table → Names → Assigning → (header : Tree) → List (Option Aim) → RowFound
     → (old new : List Node) → (list more : List Contribution) → Result R SectionFault → Type 0
 GivesFirst t n m h xs f old new list more r =
-    (d : Design) → IsDesignOf t n d
+    (d : Context) → IsContextOf t n d
     → Does (product_work d (view_guard (arena old) m.guard) m (term_nodes d h) (header_literals d (term_of d.known h) f.inputs) xs f)
     old new list more r
 
 -- a table names these outputs
-abbrev pub NamesOutputs : Design → Table → List (Option Aim) → Type 0
+abbrev pub NamesOutputs : Context → Table → List (Option Aim) → Type 0
 NamesOutputs d t xs = targets_of (term_of d.known (view t.outputs)) ≡ signals_of xs
 
 abbrev pub BuildsRow : Names → Guard → Table → List (Option ExprId) → List (Option Aim) → Row → (old new : List Node)
     → (list more : List Contribution) → Result Unit SectionFault → Type 0
 BuildsRow n g t ps xs row old new list more r =
-    (d : Design) → IsOver n d → StandForInputs d (term_of d.known (view t.inputs)) (arena old) ps → NamesOutputs d t xs
+    (d : Context) → IsOver n d → StandForInputs d (term_of d.known (view t.inputs)) (arena old) ps → NamesOutputs d t xs
     → Does (row_work d (view_guard (arena old) g) t xs 0 (view_row row)) old new list more r
 
 abbrev pub BuildsRows : Names → Guard → Table → List (Option ExprId) → List (Option Aim) → List Row → (old new : List Node)
     → (list more : List Contribution) → Result Unit SectionFault → Type 0
 BuildsRows n g t ps xs rows old new list more r =
-    (d : Design) → IsOver n d → StandForInputs d (term_of d.known (view t.inputs)) (arena old) ps → NamesOutputs d t xs
+    (d : Context) → IsOver n d → StandForInputs d (term_of d.known (view t.inputs)) (arena old) ps → NamesOutputs d t xs
     → Does (rows_work d (view_guard (arena old) g) t xs 0 (map view_row rows)) old new list more r
 
 abbrev pub BuildsFirst : {R : Type 0} → device.Table → Names → Guard → Table → List (Option Aim) → Row
     → (old new : List Node) → (list more : List Contribution) → Result R SectionFault → Type 0
 BuildsFirst v n g t xs row old new list more r =
-    (d : Design) → IsDesignOf v n d → NamesOutputs d t xs
+    (d : Context) → IsContextOf v n d → NamesOutputs d t xs
     → Does (row_work d (view_guard (arena old) g) t xs (term_nodes d (view t.inputs)) (view_row row)) old new list more r
 
 abbrev pub BuildsListed : device.Table → Names → Guard → Table → List (Option Aim) → List Row → (old new : List Node)
     → (list more : List Contribution) → Result Unit SectionFault → Type 0
 BuildsListed v n g t xs rows old new list more r =
-    (d : Design) → IsDesignOf v n d → NamesOutputs d t xs
+    (d : Context) → IsContextOf v n d → NamesOutputs d t xs
     → Does (rows_work d (view_guard (arena old) g) t xs (term_nodes d (view t.inputs)) (map view_row rows)) old new list more r
 
 -- the rows behind a header that isn't refused
 abbrev pub BuildsAccepted : device.Table → Names → Guard → Table → List (Option Aim) → (old new : List Node)
     → (list more : List Contribution) → Result Unit SectionFault → Type 0
 BuildsAccepted v n g t xs old new list more r =
-    (d : Design) → IsDesignOf v n d → NamesOutputs d t xs
+    (d : Context) → IsContextOf v n d → NamesOutputs d t xs
     → Does (before
     (given_freely (no_matches (formulas d) d (view_guard (arena old) g) false t.clocked (signals_of xs)) (places_of (some_aims xs)))
     (rows_work d (view_guard (arena old) g) t xs (term_nodes d (view t.inputs)) (map view_row t.rows)))

@@ -8,12 +8,11 @@ ghost use Rattle.section_targets.specs.Given.{AreNamed};
 ghost use Rattle.truth_tables.specs.TableUnits.{some_aims};
 ghost use Rattle.table_contributions.specs.Gives.{GivesOutput, GivesValue, GivesPosition};
 
-use abel_tree::Names;
 use bit_expr::{ExprId, Exprs};
 use guarded_values::{Giving, give};
 use pld_base::Place;
 use section_targets::Aim;
-use set_expr::{Contribution, Gives, Guard, SectionFault};
+use set_expr::{Contribution, Gives, Guard, Scope, SectionFault};
 
 /// How the unit at a place gives values to outputs, on the clock or not. The guard's bit doesn't count.
 #[derive(Clone, Copy, PartialEq, Eq)]
@@ -25,7 +24,7 @@ pub struct Assigning {
 
 /// Appends what an output is given where a bit is 1; makes no node.
 pub fn give_output(
-    names: &Names,
+    scope: &Scope<'_>,
     assigning: Assigning,
     what: Gives,
     aim: Aim,
@@ -33,10 +32,10 @@ pub fn give_output(
     exprs: &mut Exprs,
     list: &mut Vec<Contribution>,
 ) -> Result<(), SectionFault>
-    requires signal { aim.signal < length (entries_of names.now) }
+    requires signal { aim.signal < length (entries_of scope.now) }
     requires bit { bit.0 < length (arena exprs.old) }
     ensures keeps { Keeps (arena exprs.old) (arena exprs.new) }
-    ensures gives { GivesOutput names.now assigning what aim bit exprs.old exprs.new list.old.items list.new.items result }
+    ensures gives { GivesOutput scope.now assigning what aim bit exprs.old exprs.new list.old.items list.new.items result }
 {
     let giving = Giving {
         unit: assigning.unit,
@@ -50,12 +49,12 @@ pub fn give_output(
         clocked: assigning.clocked,
         what,
     };
-    give(names, giving, aim, bit, exprs, list)
+    give(scope, giving, aim, bit, exprs, list)
 }
 
 /// What a level gives where the row matches: one for 1, any for X and nothing for 0.
 fn give_value(
-    names: &Names,
+    scope: &Scope<'_>,
     assigning: Assigning,
     aim: Aim,
     level: Option<bool>,
@@ -63,16 +62,16 @@ fn give_value(
     exprs: &mut Exprs,
     list: &mut Vec<Contribution>,
 ) -> Result<(), SectionFault>
-    requires signal { aim.signal < length (entries_of names.now) }
+    requires signal { aim.signal < length (entries_of scope.now) }
     requires bit { matched.0 < length (arena exprs.old) }
     ensures keeps { Keeps (arena exprs.old) (arena exprs.new) }
-    ensures gives { GivesValue names.now assigning aim level matched exprs.old exprs.new list.old.items list.new.items result }
+    ensures gives { GivesValue scope.now assigning aim level matched exprs.old exprs.new list.old.items list.new.items result }
 {
     match level {
-        None => give_output(names, assigning, Gives::Any, aim, matched, exprs, list),
+        None => give_output(scope, assigning, Gives::Any, aim, matched, exprs, list),
         Some(on) => {
             if on {
-                give_output(names, assigning, Gives::One, aim, matched, exprs, list)
+                give_output(scope, assigning, Gives::One, aim, matched, exprs, list)
             } else {
                 Ok(())
             }
@@ -82,7 +81,7 @@ fn give_value(
 
 /// An output of a row: what its level gives, and a match.
 fn give_level(
-    names: &Names,
+    scope: &Scope<'_>,
     assigning: Assigning,
     aim: Aim,
     level: Option<bool>,
@@ -90,18 +89,18 @@ fn give_level(
     exprs: &mut Exprs,
     list: &mut Vec<Contribution>,
 ) -> Result<(), SectionFault>
-    requires signal { aim.signal < length (entries_of names.now) }
+    requires signal { aim.signal < length (entries_of scope.now) }
     requires bit { matched.0 < length (arena exprs.old) }
     ensures keeps { Keeps (arena exprs.old) (arena exprs.new) }
-    ensures gives { GivesPosition names.now assigning (Some aim) level matched exprs.old exprs.new list.old.items list.new.items result }
+    ensures gives { GivesPosition scope.now assigning (Some aim) level matched exprs.old exprs.new list.old.items list.new.items result }
 {
-    give_value(names, assigning, aim, level, matched, exprs, list)?;
-    give_output(names, assigning, Gives::Match, aim, matched, exprs, list)
+    give_value(scope, assigning, aim, level, matched, exprs, list)?;
+    give_output(scope, assigning, Gives::Match, aim, matched, exprs, list)
 }
 
 /// A position of a row; X is given nothing.
 pub(crate) fn give_position(
-    names: &Names,
+    scope: &Scope<'_>,
     assigning: Assigning,
     output: Option<Aim>,
     level: Option<bool>,
@@ -109,13 +108,13 @@ pub(crate) fn give_position(
     exprs: &mut Exprs,
     list: &mut Vec<Contribution>,
 ) -> Result<(), SectionFault>
-    requires signal { AreNamed (length (entries_of names.now)) (some_aims (output ∷ [])) }
+    requires signal { AreNamed (length (entries_of scope.now)) (some_aims (output ∷ [])) }
     requires bit { matched.0 < length (arena exprs.old) }
     ensures keeps { Keeps (arena exprs.old) (arena exprs.new) }
-    ensures gives { GivesPosition names.now assigning output level matched exprs.old exprs.new list.old.items list.new.items result }
+    ensures gives { GivesPosition scope.now assigning output level matched exprs.old exprs.new list.old.items list.new.items result }
 {
     match output {
         None => Ok(()),
-        Some(aim) => give_level(names, assigning, aim, level, matched, exprs, list),
+        Some(aim) => give_level(scope, assigning, aim, level, matched, exprs, list),
     }
 }

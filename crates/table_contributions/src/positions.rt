@@ -9,14 +9,13 @@ ghost use Rattle.truth_tables.specs.TableUnits.{some_aims};
 ghost use Rattle.table_contributions.specs.Gives.{GivesPositions, GivesNoMatches};
 
 use crate::giving::{Assigning, give_output, give_position};
-use abel_tree::Names;
 use bit_expr::{ExprId, Exprs};
 use section_targets::Aim;
-use set_expr::{Contribution, Gives, SectionFault};
+use set_expr::{Contribution, Gives, Scope, SectionFault};
 
 /// The positions of a row, where it matches.
 pub(crate) fn give_positions(
-    names: &Names,
+    scope: &Scope<'_>,
     assigning: Assigning,
     outputs: &[Option<Aim>],
     levels: &[Option<bool>],
@@ -24,15 +23,15 @@ pub(crate) fn give_positions(
     exprs: &mut Exprs,
     list: &mut Vec<Contribution>,
 ) -> Result<(), SectionFault>
-    requires signals { AreNamed (length (entries_of names.now)) (some_aims outputs.now) }
+    requires signals { AreNamed (length (entries_of scope.now)) (some_aims outputs.now) }
     requires bit { matched.0 < length (arena exprs.old) }
     ensures keeps { Keeps (arena exprs.old) (arena exprs.new) }
-    ensures gives { GivesPositions names.now assigning outputs.now levels.now matched exprs.old exprs.new list.old.items list.new.items result }
+    ensures gives { GivesPositions scope.now assigning outputs.now levels.now matched exprs.old exprs.new list.old.items list.new.items result }
 {
     let count = outputs.len().min(levels.len());
     for index in 0..count {
         give_position(
-            names,
+            scope,
             assigning,
             outputs[index],
             levels[index],
@@ -46,36 +45,36 @@ pub(crate) fn give_positions(
 
 /// No match for an output, so that it has some contribution of the block.
 fn give_no_match(
-    names: &Names,
+    scope: &Scope<'_>,
     assigning: Assigning,
     output: Option<Aim>,
     exprs: &mut Exprs,
     list: &mut Vec<Contribution>,
 ) -> Result<(), SectionFault>
-    requires { AreNamed (length (entries_of names.now)) (some_aims (output ∷ [])) }
+    requires { AreNamed (length (entries_of scope.now)) (some_aims (output ∷ [])) }
     ensures keeps { Keeps (arena exprs.old) (arena exprs.new) }
-    ensures gives { GivesNoMatches names.now assigning (output ∷ []) exprs.old exprs.new list.old.items list.new.items result }
+    ensures gives { GivesNoMatches scope.now assigning (output ∷ []) exprs.old exprs.new list.old.items list.new.items result }
 {
     match output {
         None => Ok(()),
-        Some(aim) => give_output(names, assigning, Gives::Match, aim, ExprId(0), exprs, list),
+        Some(aim) => give_output(scope, assigning, Gives::Match, aim, ExprId(0), exprs, list),
     }
 }
 
 /// Appends no match for each output of a header, so that each has some contribution of the block; makes no node.
 pub fn give_no_matches(
-    names: &Names,
+    scope: &Scope<'_>,
     assigning: Assigning,
     outputs: &[Option<Aim>],
     exprs: &mut Exprs,
     list: &mut Vec<Contribution>,
 ) -> Result<(), SectionFault>
-    requires { AreNamed (length (entries_of names.now)) (some_aims outputs.now) }
+    requires { AreNamed (length (entries_of scope.now)) (some_aims outputs.now) }
     ensures keeps { Keeps (arena exprs.old) (arena exprs.new) }
-    ensures gives { GivesNoMatches names.now assigning outputs.now exprs.old exprs.new list.old.items list.new.items result }
+    ensures gives { GivesNoMatches scope.now assigning outputs.now exprs.old exprs.new list.old.items list.new.items result }
 {
     for index in 0..outputs.len() {
-        give_no_match(names, assigning, outputs[index], exprs, list)?;
+        give_no_match(scope, assigning, outputs[index], exprs, list)?;
     }
     Ok(())
 }

@@ -4,12 +4,9 @@ ghost use Rattle.std.specs.Prelude.{◌≡◌, ◌≤◌, ◌∷◌, None, drop,
 ghost use Rattle.bit_expr.specs.Arena.{arena};
 ghost use Rattle.abel_tree.specs.Entries.{entries_of};
 ghost use Rattle.abel_tree.specs.View.{view};
-ghost use Rattle.abel_meaning.specs.Designs.{Design};
+ghost use Rattle.abel_meaning.specs.Designs.{Context};
 ghost use Rattle.abel_meaning.specs.Terms.{term_of};
-ghost use Rattle.set_expr.specs.Answer.{AreIn, Keeps, IsDesignOf, refusal_of};
-ghost use Rattle.set_expr.specs.KnownNames.{IsKnown};
-ghost use Rattle.expr_bits.specs.Placed.{ArePlaced};
-ghost use Rattle.row_entries.specs.EntryTerms.{AreInOrder};
+ghost use Rattle.set_expr.specs.Answer.{AreIn, Keeps, IsContextOf, refusal_of};
 ghost use Rattle.section_targets.specs.Given.{AreNamed};
 ghost use Rattle.truth_tables.specs.TableUnits.{some_aims};
 ghost use Rattle.row_products.specs.Products.{StandForInputs};
@@ -17,18 +14,18 @@ ghost use Rattle.table_contributions.specs.Rows.{BuildsFirst, BuildsListed, Buil
 
 use crate::giving::Assigning;
 use crate::positions::give_positions;
-use abel_tree::{Expr, Names, Row, Table};
+use abel_tree::{Expr, Row, Table};
 use bit_expr::{ExprId, Exprs};
 use pld_device::Device;
 use row_products::{header_bits, row_product};
 use section_targets::Aim;
-use set_expr::{Contribution, Guard, KnownNames, SectionFault};
+use set_expr::{Contribution, Guard, Scope, SectionFault};
 use std::alloc::Global;
 use table_refusals::{RowFound, read_row};
 
 /// What a row of which nothing is refused makes and gives.
 fn give_found(
-    names: &Names,
+    scope: &Scope<'_>,
     assigning: Assigning,
     inputs: &[Option<ExprId>],
     outputs: &[Option<Aim>],
@@ -36,22 +33,21 @@ fn give_found(
     exprs: &mut Exprs,
     list: &mut Vec<Contribution>,
 ) -> Result<(), SectionFault>
-    requires signals { AreNamed (length (entries_of names.now)) (some_aims outputs.now) }
+    requires signals { AreNamed (length (entries_of scope.now)) (some_aims outputs.now) }
     requires inputs { AreIn (length (arena exprs.old)) inputs.now }
     ensures keeps { Keeps (arena exprs.old) (arena exprs.new) }
-    ensures gives { GivesFound names.now assigning inputs.now outputs.now found.now exprs.old exprs.new list.old.items list.new.items result }
+    ensures gives { GivesFound scope.now assigning inputs.now outputs.now found.now exprs.old exprs.new list.old.items list.new.items result }
 {
     let levels = found.inputs.as_slice();
     let matched = row_product(exprs, inputs, levels, assigning.unit)?;
     let given = found.outputs.as_slice();
-    give_positions(names, assigning, outputs, given, matched, exprs, list)
+    give_positions(scope, assigning, outputs, given, matched, exprs, list)
 }
 
 /// A row behind the first, under the bits of the input header.
 fn build_row(
     alloc: Global,
-    names: &Names,
-    known: &KnownNames,
+    scope: &Scope<'_>,
     guard: Guard,
     table: &Table,
     inputs: &[Option<ExprId>],
@@ -60,14 +56,12 @@ fn build_row(
     exprs: &mut Exprs,
     list: &mut Vec<Contribution>,
 ) -> Result<(), SectionFault>
-    requires known { IsKnown (entries_of names.now) known.now }
-    requires order { AreInOrder (entries_of names.now) }
-    requires signals { AreNamed (length (entries_of names.now)) (some_aims outputs.now) }
+    requires signals { AreNamed (length (entries_of scope.now)) (some_aims outputs.now) }
     requires inputs { AreIn (length (arena exprs.old)) inputs.now }
     ensures keeps { Keeps (arena exprs.old) (arena exprs.new) }
-    ensures builds { BuildsRow names.now guard table.now inputs.now outputs.now row.now exprs.old exprs.new list.old.items list.new.items result }
+    ensures builds { BuildsRow scope.now guard table.now inputs.now outputs.now row.now exprs.old exprs.new list.old.items list.new.items result }
 {
-    let found = read_row(alloc, names, known, table, row)?;
+    let found = read_row(alloc, scope, table, row)?;
     match found.fault {
         Some(_) => Err(SectionFault::BadRow(row.place)),
         None => {
@@ -76,7 +70,7 @@ fn build_row(
                 guard,
                 clocked: table.clocked,
             };
-            give_found(names, assigning, inputs, outputs, &found, exprs, list)
+            give_found(scope, assigning, inputs, outputs, &found, exprs, list)
         }
     }
 }
@@ -84,8 +78,7 @@ fn build_row(
 /// The input header and the first row, as one unit.
 fn give_first<D: Device>(
     alloc: Global,
-    names: &Names,
-    known: &KnownNames,
+    scope: &Scope<'_>,
     assigning: Assigning,
     header: &Expr,
     outputs: &[Option<Aim>],
@@ -93,18 +86,15 @@ fn give_first<D: Device>(
     exprs: &mut Exprs,
     list: &mut Vec<Contribution>,
 ) -> Result<Vec<Option<ExprId>>, SectionFault>
-    requires known { IsKnown (entries_of names.now) known.now }
-    requires order { AreInOrder (entries_of names.now) }
-    requires placed { ArePlaced names.now }
-    requires accepted { refusal_of names.now (view header.now) ≡ None }
-    requires signals { AreNamed (length (entries_of names.now)) (some_aims outputs.now) }
+    requires accepted { refusal_of scope.now (view header.now) ≡ None }
+    requires signals { AreNamed (length (entries_of scope.now)) (some_aims outputs.now) }
     ensures keeps { Keeps (arena exprs.old) (arena exprs.new) }
-    ensures gives { GivesFirst D.table names.now assigning (view header.now) outputs.now found.now exprs.old exprs.new list.old.items list.new.items result }
-    ensures inputs { IfOk result (λ ps. (d : Design) → IsDesignOf D.table names.now d → StandForInputs d (term_of d.known (view header.now)) (arena exprs.new) ps.items) }
+    ensures gives { GivesFirst D.table scope.now assigning (view header.now) outputs.now found.now exprs.old exprs.new list.old.items list.new.items result }
+    ensures inputs { IfOk result (λ ps. (d : Context) → IsContextOf D.table scope.now d → StandForInputs d (term_of d.known (view header.now)) (arena exprs.new) ps.items) }
 {
-    let inputs = header_bits::<D>(alloc, names, known, header, assigning.unit, exprs)?;
+    let inputs = header_bits::<D>(alloc, scope, header, assigning.unit, exprs)?;
     give_found(
-        names,
+        scope,
         assigning,
         inputs.as_slice(),
         outputs,
@@ -118,8 +108,7 @@ fn give_first<D: Device>(
 /// The first row, which makes the bits of the input header.
 fn first_row<D: Device>(
     alloc: Global,
-    names: &Names,
-    known: &KnownNames,
+    scope: &Scope<'_>,
     guard: Guard,
     table: &Table,
     outputs: &[Option<Aim>],
@@ -127,16 +116,13 @@ fn first_row<D: Device>(
     exprs: &mut Exprs,
     list: &mut Vec<Contribution>,
 ) -> Result<Vec<Option<ExprId>>, SectionFault>
-    requires known { IsKnown (entries_of names.now) known.now }
-    requires order { AreInOrder (entries_of names.now) }
-    requires placed { ArePlaced names.now }
-    requires accepted { refusal_of names.now (view table.now.inputs) ≡ None }
-    requires signals { AreNamed (length (entries_of names.now)) (some_aims outputs.now) }
+    requires accepted { refusal_of scope.now (view table.now.inputs) ≡ None }
+    requires signals { AreNamed (length (entries_of scope.now)) (some_aims outputs.now) }
     ensures keeps { Keeps (arena exprs.old) (arena exprs.new) }
-    ensures builds { BuildsFirst D.table names.now guard table.now outputs.now row.now exprs.old exprs.new list.old.items list.new.items result }
-    ensures inputs { IfOk result (λ ps. (d : Design) → IsDesignOf D.table names.now d → StandForInputs d (term_of d.known (view table.now.inputs)) (arena exprs.new) ps.items) }
+    ensures builds { BuildsFirst D.table scope.now guard table.now outputs.now row.now exprs.old exprs.new list.old.items list.new.items result }
+    ensures inputs { IfOk result (λ ps. (d : Context) → IsContextOf D.table scope.now d → StandForInputs d (term_of d.known (view table.now.inputs)) (arena exprs.new) ps.items) }
 {
-    let found = read_row(alloc, names, known, table, row)?;
+    let found = read_row(alloc, scope, table, row)?;
     match found.fault {
         Some(_) => Err(SectionFault::BadRow(row.place)),
         None => {
@@ -147,7 +133,7 @@ fn first_row<D: Device>(
             };
             let header = &table.inputs;
             give_first::<D>(
-                alloc, names, known, assigning, header, outputs, &found, exprs, list,
+                alloc, scope, assigning, header, outputs, &found, exprs, list,
             )
         }
     }
@@ -156,8 +142,7 @@ fn first_row<D: Device>(
 /// The rows behind the first.
 fn later_rows(
     alloc: Global,
-    names: &Names,
-    known: &KnownNames,
+    scope: &Scope<'_>,
     guard: Guard,
     table: &Table,
     inputs: &[Option<ExprId>],
@@ -166,16 +151,14 @@ fn later_rows(
     exprs: &mut Exprs,
     list: &mut Vec<Contribution>,
 ) -> Result<(), SectionFault>
-    requires known { IsKnown (entries_of names.now) known.now }
-    requires order { AreInOrder (entries_of names.now) }
-    requires signals { AreNamed (length (entries_of names.now)) (some_aims outputs.now) }
+    requires signals { AreNamed (length (entries_of scope.now)) (some_aims outputs.now) }
     requires inputs { AreIn (length (arena exprs.old)) inputs.now }
     ensures keeps { Keeps (arena exprs.old) (arena exprs.new) }
-    ensures builds { BuildsRows names.now guard table.now inputs.now outputs.now rows.now exprs.old exprs.new list.old.items list.new.items result }
+    ensures builds { BuildsRows scope.now guard table.now inputs.now outputs.now rows.now exprs.old exprs.new list.old.items list.new.items result }
 {
     for row in rows {
         build_row(
-            alloc, names, known, guard, table, inputs, outputs, row, exprs, list,
+            alloc, scope, guard, table, inputs, outputs, row, exprs, list,
         )?;
     }
     Ok(())
@@ -184,8 +167,7 @@ fn later_rows(
 /// The first row, and the rows behind it.
 fn listed_rows<D: Device>(
     alloc: Global,
-    names: &Names,
-    known: &KnownNames,
+    scope: &Scope<'_>,
     guard: Guard,
     table: &Table,
     outputs: &[Option<Aim>],
@@ -194,20 +176,15 @@ fn listed_rows<D: Device>(
     exprs: &mut Exprs,
     list: &mut Vec<Contribution>,
 ) -> Result<(), SectionFault>
-    requires known { IsKnown (entries_of names.now) known.now }
-    requires order { AreInOrder (entries_of names.now) }
-    requires placed { ArePlaced names.now }
-    requires accepted { refusal_of names.now (view table.now.inputs) ≡ None }
-    requires signals { AreNamed (length (entries_of names.now)) (some_aims outputs.now) }
+    requires accepted { refusal_of scope.now (view table.now.inputs) ≡ None }
+    requires signals { AreNamed (length (entries_of scope.now)) (some_aims outputs.now) }
     ensures keeps { Keeps (arena exprs.old) (arena exprs.new) }
-    ensures builds { BuildsListed D.table names.now guard table.now outputs.now (first.now ∷ later.now) exprs.old exprs.new list.old.items list.new.items result }
+    ensures builds { BuildsListed D.table scope.now guard table.now outputs.now (first.now ∷ later.now) exprs.old exprs.new list.old.items list.new.items result }
 {
-    let inputs = first_row::<D>(
-        alloc, names, known, guard, table, outputs, first, exprs, list,
-    )?;
+    let inputs = first_row::<D>(alloc, scope, guard, table, outputs, first, exprs, list)?;
     let bits = inputs.as_slice();
     later_rows(
-        alloc, names, known, guard, table, bits, outputs, later, exprs, list,
+        alloc, scope, guard, table, bits, outputs, later, exprs, list,
     )
 }
 
@@ -222,21 +199,17 @@ fn later_of(rows: &[Row]) -> &[Row]
 /// The rows of a table whose header isn't refused.
 pub(crate) fn build_rows<D: Device>(
     alloc: Global,
-    names: &Names,
-    known: &KnownNames,
+    scope: &Scope<'_>,
     guard: Guard,
     table: &Table,
     outputs: &[Option<Aim>],
     exprs: &mut Exprs,
     list: &mut Vec<Contribution>,
 ) -> Result<(), SectionFault>
-    requires known { IsKnown (entries_of names.now) known.now }
-    requires order { AreInOrder (entries_of names.now) }
-    requires placed { ArePlaced names.now }
-    requires accepted { refusal_of names.now (view table.now.inputs) ≡ None }
-    requires signals { AreNamed (length (entries_of names.now)) (some_aims outputs.now) }
+    requires accepted { refusal_of scope.now (view table.now.inputs) ≡ None }
+    requires signals { AreNamed (length (entries_of scope.now)) (some_aims outputs.now) }
     ensures keeps { Keeps (arena exprs.old) (arena exprs.new) }
-    ensures builds { BuildsListed D.table names.now guard table.now outputs.now table.now.rows exprs.old exprs.new list.old.items list.new.items result }
+    ensures builds { BuildsListed D.table scope.now guard table.now outputs.now table.now.rows exprs.old exprs.new list.old.items list.new.items result }
 {
     let rows = table.rows.as_slice();
     match rows {
@@ -244,8 +217,7 @@ pub(crate) fn build_rows<D: Device>(
         [first, ..] => {
             listed_rows::<D>(
                 alloc,
-                names,
-                known,
+                scope,
                 guard,
                 table,
                 outputs,

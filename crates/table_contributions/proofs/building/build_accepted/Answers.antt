@@ -1,5 +1,5 @@
 -- No match for each output, and the rows behind them.
-use Rattle.std.proofs.Common.{false, Ok, Err, map, subst}
+use Rattle.std.proofs.Common.{false, map, subst}
 use Rattle.std.proofs.lemmas.Result.{err_from_is_err_and}
 use Rattle.bit_expr.specs.Arena.{arena}
 use Rattle.abel_tree.specs.View.{view, view_row}

@@ -1,5 +1,5 @@
 -- A table whose header is refused, and one whose header isn't.
-use Rattle.std.proofs.Common.{List, Option, refl, sym, ap, ◌∙◌, map, subst, length}
+use Rattle.std.proofs.Common.{List, Option, refl, sym, ◌∙◌, map, subst, length}
 use Rattle.bit_expr.specs.Arena.{arena}
 use Rattle.abel_tree.specs.Entries.{entries_of}
 use Rattle.abel_tree.specs.View.{view, view_row}
@@ -12,7 +12,6 @@ use Rattle.truth_tables.specs.TableUnits.{header_refused, row_units, some_aims}
 use Rattle.table_refusals.proofs.Inside.{header_inside}
 use Rattle.equations.proofs.BuiltParts.{some_design, is_some_design, value_accepted}
 use Rattle.equations.proofs.BuiltUnits.{at}
-use Rattle.table_contributions.specs.Rows.{BuildsAccepted}
 use Rattle.table_contributions.specs.TableAnswers.{given_by, places_by}
 use Rattle.table_contributions.proofs.TableWorks.{header_stops, inputs_clear, outputs_named, table_built}
 use Rattle.table_contributions.proofs.building.build_table.Goals as goal
@@ -27,7 +26,7 @@ returns-in-Some-clause-builds g c = λ d all is a.
 
 pub build_accepted-requires-clause-accepted : goal.build_accepted-requires-clause-accepted
 build_accepted-requires-clause-accepted g c =
-    let n = c.args.names.now in
+    let n = c.args.scope.now in
     let v = g.D.Device.table in
     let d = some_design v n in
     let header = c.in_ok-header.ensures.header d c.args.before.now (is_some_design v n) (λ s p. refl) in
@@ -35,7 +34,7 @@ build_accepted-requires-clause-accepted g c =
 
 pub build_accepted-requires-clause-signals : goal.build_accepted-requires-clause-signals
 build_accepted-requires-clause-signals g c =
-    let n = c.args.names.now in
+    let n = c.args.scope.now in
     let v = g.D.Device.table in
     let d = some_design v n in
     let header = c.in_ok-header.ensures.header d c.args.before.now (is_some_design v n) (λ s p. refl) in

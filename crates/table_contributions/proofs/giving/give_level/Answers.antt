@@ -1,5 +1,4 @@
 -- What a level gives, and a match behind it.
-use Rattle.std.proofs.Common.{Ok, Err}
 use Rattle.std.proofs.lemmas.Result.{err_from_is_err_and}
 use Rattle.bit_expr.specs.Arena.{arena}
 use Rattle.section_targets.proofs.Built.{kept_formula, kept_inside, keeps_on}

@@ -1,5 +1,5 @@
 -- One output more, and all outputs.
-use Rattle.std.proofs.Common.{◌≡◌, ◌+◌, ◌<◌, ◌≤◌, [], ◌∷◌, None, Ok, Err, min, length, get_or, drop, subst, arith}
+use Rattle.std.proofs.Common.{◌+◌, ◌<◌, ◌≤◌, [], ◌∷◌, None, Ok, Err, length, get_or, drop, subst, arith}
 use Rattle.std.proofs.lemmas.Result.{err_from_is_err_and}
 use Rattle.bit_expr.specs.Arena.{arena}
 use Rattle.section_targets.proofs.Built.{keeps_on}

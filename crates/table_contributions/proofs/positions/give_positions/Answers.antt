@@ -1,5 +1,5 @@
 -- One position more, and all positions.
-use Rattle.std.proofs.Common.{◌≡◌, ◌+◌, ◌<◌, ◌≤◌, [], ◌∷◌, None, Ok, Err, min, length, get_or, drop, subst, arith}
+use Rattle.std.proofs.Common.{◌+◌, ◌<◌, ◌≤◌, [], ◌∷◌, None, Ok, Err, min, length, get_or, drop, subst, arith}
 use Rattle.std.proofs.lemmas.Result.{err_from_is_err_and}
 use Rattle.bit_expr.specs.Arena.{arena}
 use Rattle.section_targets.proofs.Built.{kept_formula, kept_inside, keeps_on}

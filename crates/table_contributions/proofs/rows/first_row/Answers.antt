@@ -19,13 +19,13 @@ use Rattle.table_contributions.proofs.rows.first_row.Goals as goal
 pub returns-in-Some-clause-builds : goal.returns-in-Some-clause-builds
 returns-in-Some-clause-builds g c = λ d is names.
     let row = view_row c.args.row.now in
-    let over : IsOver c.args.names.now d = record { names = is.names; known = is.known } in
+    let over : IsOver c.args.scope.now d = record { names = is.names; known = is.known } in
     row_stops d (view_guard (arena c.args.exprs.now) c.args.guard) c.args.table.now c.args.outputs.now (term_nodes d (view c.args.table.now.inputs)) row c.in_ok-found.found c.in-Some.field-0 (BadRow row.place) c.args.exprs.now c.args.list.now.items (c.in_ok-found.ensures d over) c.in-Some.is refl
 
 pub returns-clause-builds : goal.returns-clause-builds
 returns-clause-builds g c = λ d is names.
     let t = c.args.table.now in
-    let over : IsOver c.args.names.now d = record { names = is.names; known = is.known } in
+    let over : IsOver c.args.scope.now d = record { names = is.names; known = is.known } in
     subst (λ (w : Work). DoesWork w (at c.args.exprs.now c.args.list.now.items) (at c.give_first.new.exprs c.give_first.new.list.items) c.give_first.result)
     (found_row d (view_guard (arena c.args.exprs.now) c.args.guard) c.args.guard t c.args.outputs.now (term_nodes d (view t.inputs)) (view_row c.args.row.now) c.in_ok-found.found names (c.in_ok-found.ensures d over) c.in-None.is)
     (c.give_first.ensures.gives d is)

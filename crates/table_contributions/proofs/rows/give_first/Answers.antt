@@ -1,5 +1,5 @@
 -- The bits of the input header, and the first row behind them.
-use Rattle.std.proofs.Common.{[], ◌∷◌, List, Option, Ok, Err, length, sym, ◌∙◌, subst}
+use Rattle.std.proofs.Common.{[], List, Option, Ok, Err, length, sym, subst}
 use Rattle.std.proofs.lemmas.Result.{err_from_is_err_and}
 use Rattle.bit_expr.specs.declared.node.ExprId.{ExprId}
 use Rattle.bit_expr.specs.Arena.{arena}
@@ -12,7 +12,7 @@ use Rattle.section_targets.proofs.Built.{keeps_on}
 use Rattle.guarded_values.proofs.Gives.{stops_nodes}
 use Rattle.equations.proofs.BuiltParts.{some_design, is_some_design, stops_longer, keeps_longer}
 use Rattle.equations.proofs.BuiltUnits.{at}
-use Rattle.row_products.specs.Products.{StandForInputs, header_literals}
+use Rattle.row_products.specs.Products.{header_literals}
 use Rattle.table_contributions.specs.Rows.{GivesFound, product_work}
 use Rattle.table_contributions.proofs.RowWorks.{first_built, inputs_kept}
 use Rattle.table_contributions.proofs.rows.give_first.Goals as goal
@@ -32,7 +32,7 @@ returns-in_err-inputs-clause-gives g c = λ d is.
 
 pub give_found-requires-clause-inputs : goal.give_found-requires-clause-inputs
 give_found-requires-clause-inputs g c =
-    let n = c.args.names.now in
+    let n = c.args.scope.now in
     let d = some_design g.D.Device.table n in
     subst (λ (ps : List (Option ExprId)). AreIn (length (arena c.header_bits.new.exprs)) ps) (sym c.as_slice.ensures.value) (c.in_ok-inputs.ensures.inputs d (is_some_design g.D.Device.table n)).inside
 
@@ -48,7 +48,7 @@ returns-in_err-give_found-clause-gives g c = λ d is.
     let old = at c.args.exprs.now c.args.list.now.items in
     let mid = at c.header_bits.new.exprs c.args.list.now.items in
     let new = at c.give_found.new.exprs c.give_found.new.list.items in
-    let given = subst (λ (ps : List (Option ExprId)). GivesFound c.args.names.now m ps c.args.outputs.now c.args.found.now c.header_bits.new.exprs c.give_found.new.exprs c.args.list.now.items c.give_found.new.list.items (Err f)) c.as_slice.ensures.value c.in_err-give_found.ensures.gives in
+    let given = subst (λ (ps : List (Option ExprId)). GivesFound c.args.scope.now m ps c.args.outputs.now c.args.found.now c.header_bits.new.exprs c.give_found.new.exprs c.args.list.now.items c.give_found.new.list.items (Err f)) c.as_slice.ensures.value c.in_err-give_found.ensures.gives in
     rw (p.1, p.2)
     (first_built {R = Unit} d (term_of d.known h) m (term_nodes d h) c.in_ok-inputs.inputs.items c.args.outputs.now c.args.found.now old mid new (Err f) (c.in_ok-inputs.ensures.inputs d is) (c.in_ok-inputs.ensures.builds d is c.args.list.now.items) (given d is.names))
 
@@ -62,7 +62,7 @@ returns-clause-gives g c = λ d is.
     let old = at c.args.exprs.now c.args.list.now.items in
     let mid = at c.header_bits.new.exprs c.args.list.now.items in
     let new = at c.give_found.new.exprs c.give_found.new.list.items in
-    let given = subst (λ (ps : List (Option ExprId)). GivesFound c.args.names.now m ps c.args.outputs.now c.args.found.now c.header_bits.new.exprs c.give_found.new.exprs c.args.list.now.items c.give_found.new.list.items (Ok tt)) c.as_slice.ensures.value c.in_ok-give_found.ensures.gives in
+    let given = subst (λ (ps : List (Option ExprId)). GivesFound c.args.scope.now m ps c.args.outputs.now c.args.found.now c.header_bits.new.exprs c.give_found.new.exprs c.args.list.now.items c.give_found.new.list.items (Ok tt)) c.as_slice.ensures.value c.in_ok-give_found.ensures.gives in
     first_built {R = Unit} d (term_of d.known h) m (term_nodes d h) c.in_ok-inputs.inputs.items c.args.outputs.now c.args.found.now old mid new (Ok tt) (c.in_ok-inputs.ensures.inputs d is) (c.in_ok-inputs.ensures.builds d is c.args.list.now.items) (given d is.names)
 
 pub returns-clause-inputs : goal.returns-clause-inputs

@@ -1,5 +1,5 @@
 -- The product, and the outputs behind it.
-use Rattle.std.proofs.Common.{[], ◌∷◌, List, Option, Bool, true, Ok, Err, sym, ap, ◌∙◌, subst}
+use Rattle.std.proofs.Common.{[], ◌∷◌, List, Option, Bool, true, Ok, Err, subst}
 use Rattle.std.proofs.lemmas.Result.{err_from_is_err_and}
 use Rattle.bit_expr.specs.Arena.{arena}
 use Rattle.bit_expr.specs.Formulas.{Const}
@@ -43,5 +43,5 @@ returns-clause-gives c = λ d e.
     let made = λ (ls : List (Option Bool)). literals (arena c.args.exprs.now) (Const true) c.args.inputs.now ls in
     let built = subst (λ (ls : List (Option Bool)). BuildsNodes (part m.unit (made ls).nodes ∷ []) c.args.exprs.now c.row_product.new.exprs (Ok c.in_ok-matched.matched)) c.as_slice-levels.ensures c.in_ok-matched.ensures.builds in
     let bit = subst (λ (ls : List (Option Bool)). IsBit (arena c.row_product.new.exprs) c.in_ok-matched.matched (made ls).what) c.as_slice-levels.ensures c.in_ok-matched.ensures.bit in
-    let outs = subst (λ (ls : List (Option Bool)). GivesPositions c.args.names.now m c.args.outputs.now ls c.in_ok-matched.matched c.row_product.new.exprs c.give_positions.new.exprs c.args.list.now.items c.give_positions.new.list.items c.give_positions.result) c.as_slice-given.ensures c.give_positions.ensures.gives in
+    let outs = subst (λ (ls : List (Option Bool)). GivesPositions c.args.scope.now m c.args.outputs.now ls c.in_ok-matched.matched c.row_product.new.exprs c.give_positions.new.exprs c.args.list.now.items c.give_positions.new.list.items c.give_positions.result) c.as_slice-given.ensures c.give_positions.ensures.gives in
     found_built d m.guard m (made f.inputs) c.in_ok-matched.matched c.args.outputs.now f (at c.args.exprs.now c.args.list.now.items) (at c.row_product.new.exprs c.args.list.now.items) (at c.give_positions.new.exprs c.give_positions.new.list.items) c.give_positions.result (built c.args.list.now.items) bit.1 (outs d e)

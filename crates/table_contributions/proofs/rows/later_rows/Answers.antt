@@ -1,5 +1,5 @@
 -- One row more, and all rows.
-use Rattle.std.proofs.Common.{◌≡◌, ◌+◌, ◌<◌, [], Ok, Err, length, map, drop, ap, ◌∙◌, subst, arith, refl}
+use Rattle.std.proofs.Common.{◌+◌, map, drop, subst}
 use Rattle.std.proofs.lemmas.Result.{err_from_is_err_and}
 use Rattle.bit_expr.specs.Arena.{arena}
 use Rattle.abel_tree.specs.View.{view, view_row}

@@ -1,5 +1,5 @@
 -- The first row, and those behind it over the bits that it made.
-use Rattle.std.proofs.Common.{List, Option, Ok, Err, length, map, sym, subst}
+use Rattle.std.proofs.Common.{List, Option, length, map, sym, subst}
 use Rattle.std.proofs.lemmas.Result.{err_from_is_err_and}
 use Rattle.bit_expr.specs.declared.node.ExprId.{ExprId}
 use Rattle.bit_expr.specs.Arena.{arena}
@@ -31,7 +31,7 @@ returns-in_err-inputs-clause-builds g c = λ d is names.
 
 pub later_rows-requires-clause-inputs : goal.later_rows-requires-clause-inputs
 later_rows-requires-clause-inputs g c =
-    let n = c.args.names.now in
+    let n = c.args.scope.now in
     let v = g.D.Device.table in
     subst (λ (ps : List (Option ExprId)). AreIn (length (arena c.first_row.new.exprs)) ps) (sym c.as_slice-bits.ensures.value) (c.in_ok-inputs.ensures.inputs (some_design v n) (is_some_design v n)).inside
 
@@ -48,7 +48,7 @@ returns-clause-builds g c = λ d is names.
     let mid = at c.first_row.new.exprs c.first_row.new.list.items in
     let new = at c.later_rows.new.exprs c.later_rows.new.list.items in
     let later = map view_row c.args.later.now in
-    let over : IsOver c.args.names.now d = record { names = is.names; known = is.known } in
+    let over : IsOver c.args.scope.now d = record { names = is.names; known = is.known } in
     let stand = subst (λ (ps : List (Option ExprId)). StandForInputs d (term_of d.known (view t.inputs)) hs ps) (sym c.as_slice-bits.ensures.value) (c.in_ok-inputs.ensures.inputs d is) in
     step_then {R = Unit} (row_work d (view_guard fs c.args.guard) t xs (term_nodes d (view t.inputs)) (view_row c.args.first.now)) (rows_work d (view_guard fs c.args.guard) t xs 0 later) old mid new c.later_rows.result
     (c.in_ok-inputs.ensures.builds d is names)
