@@ -10,7 +10,7 @@ use Rattle.state_refusals.proofs.ArmViews.{choice_parts}
 use Rattle.abel_tree.specs.Tree.{choices_of, Choices}
 use Rattle.abel_meaning.specs.CountedBlocks.{choices_nodes}
 use Rattle.abel_meaning.specs.CountedNodes.{choice_nodes, condition_of, guard_then}
-use Rattle.abel_meaning.specs.Designs.{Design}
+use Rattle.abel_meaning.specs.Designs.{Context}
 use Rattle.abel_meaning.specs.Numbers.{Shape, Number, Single, Set, Value}
 use Rattle.set_expr.specs.declared.contributions.Contributions.{Contributions}
 use Rattle.set_expr.specs.declared.fault.SectionFault.{SectionFault}
@@ -32,26 +32,26 @@ use Rattle.state_contributions.proofs.BranchWorks.{Choice}
 
 -- ---- guards
 
-pub guards_kept : (d : Design) (old new : List Formula) (g : Formula) (cs : List Choice) (ids : List ExprId) → Keeps old new → AreGuardsOf d old g (choices_of cs) ids → AreGuardsOf d new g (choices_of cs) ids
+pub guards_kept : (d : Context) (old new : List Formula) (g : Formula) (cs : List Choice) (ids : List ExprId) → Keeps old new → AreGuardsOf d old g (choices_of cs) ids → AreGuardsOf d new g (choices_of cs) ids
 guards_kept d old new g [] [] k h = tt
 guards_kept d old new g [] (id ∷ ids) k h = absurd h
 guards_kept d old new g (c ∷ cs) [] k h = absurd h
 guards_kept d old new g (c ∷ cs) (id ∷ ids) k h = (kept_bit old new id (guard_then g (condition_of d c.0)).what k h.0, guards_kept d old new g cs ids k h.1)
 
-pub guards_more : (d : Design) (fs : List Formula) (g : Formula) (cs : List Choice) (ids : List ExprId) (c : Choice) (id : ExprId) → AreGuardsOf d fs g (choices_of cs) ids → IsBit fs id (guard_then g (condition_of d c.0)).what → AreGuardsOf d fs g (choices_of (cs ++ c ∷ [])) (ids ++ id ∷ [])
+pub guards_more : (d : Context) (fs : List Formula) (g : Formula) (cs : List Choice) (ids : List ExprId) (c : Choice) (id : ExprId) → AreGuardsOf d fs g (choices_of cs) ids → IsBit fs id (guard_then g (condition_of d c.0)).what → AreGuardsOf d fs g (choices_of (cs ++ c ∷ [])) (ids ++ id ∷ [])
 guards_more d fs g [] [] c id h b = (b, tt)
 guards_more d fs g [] (x ∷ ids) c id h b = absurd h
 guards_more d fs g (y ∷ cs) [] c id h b = absurd h
 guards_more d fs g (y ∷ cs) (x ∷ ids) c id h b = (h.0, guards_more d fs g cs ids c id h.1 b)
 
-pub guard_at : (d : Design) (fs : List Formula) (g : Formula) (cs : List Choice) (ids : List ExprId) (i : ℕ) (c : Choice) (id : ExprId) → AreGuardsOf d fs g (choices_of cs) ids → i < length ids → IsBit fs (get_or ids i id) (guard_then g (condition_of d (get_or cs i c).0)).what
+pub guard_at : (d : Context) (fs : List Formula) (g : Formula) (cs : List Choice) (ids : List ExprId) (i : ℕ) (c : Choice) (id : ExprId) → AreGuardsOf d fs g (choices_of cs) ids → i < length ids → IsBit fs (get_or ids i id) (guard_then g (condition_of d (get_or cs i c).0)).what
 guard_at d fs g [] [] i c id h lt = absurd (omega (arith, lt))
 guard_at d fs g [] (x ∷ ids) i c id h lt = absurd h
 guard_at d fs g (y ∷ cs) [] i c id h lt = absurd h
 guard_at d fs g (y ∷ cs) (x ∷ ids) zero c id h lt = h.0
 guard_at d fs g (y ∷ cs) (x ∷ ids) (suc i) c id h lt = guard_at d fs g cs ids i c id h.1 (omega (arith, lt))
 
-pub guards_inside : (d : Design) (fs : List Formula) (g : Formula) (cs : List Choice) (ids : List ExprId) → AreGuardsOf d fs g (choices_of cs) ids → All (λ (id : ExprId). id.0 < length fs) ids
+pub guards_inside : (d : Context) (fs : List Formula) (g : Formula) (cs : List Choice) (ids : List ExprId) → AreGuardsOf d fs g (choices_of cs) ids → All (λ (id : ExprId). id.0 < length fs) ids
 guards_inside d fs g [] [] h = λ k x lt. absurd (omega (arith, lt))
 guards_inside d fs g [] (id ∷ ids) h = absurd h
 guards_inside d fs g (c ∷ cs) [] h = absurd h
@@ -61,7 +61,7 @@ guards_inside d fs g (c ∷ cs) (id ∷ ids) h = by h.0.0 (guards_inside d fs g 
     by a b zero x lt = a
     by a b (suc k) x lt = b k x (omega (arith, lt))
 
-pub guards_each : (d : Design) (fs : List Formula) (g : Formula) (cs : List Choice) (ids : List ExprId) → AreGuardsOf d fs g (choices_of cs) ids → length ids ≡ length cs
+pub guards_each : (d : Context) (fs : List Formula) (g : Formula) (cs : List Choice) (ids : List ExprId) → AreGuardsOf d fs g (choices_of cs) ids → length ids ≡ length cs
 guards_each d fs g [] [] h = refl
 guards_each d fs g [] (id ∷ ids) h = absurd h
 guards_each d fs g (c ∷ cs) [] h = absurd h
@@ -90,16 +90,16 @@ anywhere p q f e =
     by None e = refl
     by (Some v) e = by_shape v.shape e
 
-pub clear_at : (d : Design) (cs : List Choice) (i : ℕ) (c : Choice) (p : Place) → choices_refused d (choices_of cs) ≡ [] → i < length cs → condition_refused d p (get_or cs i c).0 ≡ []
+pub clear_at : (d : Context) (cs : List Choice) (i : ℕ) (c : Choice) (p : Place) → choices_refused d (choices_of cs) ≡ [] → i < length cs → condition_refused d p (get_or cs i c).0 ≡ []
 clear_at d [] i c p e lt = absurd (omega (arith, lt))
 clear_at d (x ∷ cs) zero c p e lt = anywhere x.1.0 p (expression_found d.names x.0) (left_empty (condition_refused d x.1.0 x.0) (choices_refused d (choices_of cs)) e)
 clear_at d (x ∷ cs) (suc i) c p e lt = clear_at d cs i c p (right_empty (condition_refused d x.1.0 x.0) (choices_refused d (choices_of cs)) e) (omega (arith, lt))
 
-nodes_more : (d : Design) (g : Formula) (cs : List Choice) (c : Choice) → choices_nodes d g (choices_of (cs ++ c ∷ [])) ≡ choices_nodes d g (choices_of cs) + choice_nodes d g c.0 false
+nodes_more : (d : Context) (g : Formula) (cs : List Choice) (c : Choice) → choices_nodes d g (choices_of (cs ++ c ∷ [])) ≡ choices_nodes d g (choices_of cs) + choice_nodes d g c.0 false
 nodes_more d g [] c = omega arith
 nodes_more d g (x ∷ cs) c = omega (arith, nodes_more d g cs c)
 
-nodes_append : (d : Design) (g : Formula) (cs ds : List Choice) → choices_nodes d g (choices_of (cs ++ ds)) ≡ choices_nodes d g (choices_of cs) + choices_nodes d g (choices_of ds)
+nodes_append : (d : Context) (g : Formula) (cs ds : List Choice) → choices_nodes d g (choices_of (cs ++ ds)) ≡ choices_nodes d g (choices_of cs) + choices_nodes d g (choices_of ds)
 nodes_append d g [] ds = omega arith
 nodes_append d g (x ∷ cs) ds = omega (arith, nodes_append d g cs ds)
 
@@ -108,7 +108,7 @@ pub no_nodes : (p : Place) (out : Contributions) → IsBuilt (part p 0 ∷ []) [
 no_nodes p out = one_unit {R = Unit} p [] [] [] out out (Ok tt) tt (builds_none out)
 
 -- the condition of one arm more, of which nothing is refused
-pub conditions_next : {R : Type 0} (d : Design) (g h : Formula) (p : Place) (cs ds : List Choice) (c : Choice) (old mid new : Contributions) (r : Result R SectionFault) → ds ≡ cs ++ c ∷ [] → h ≡ g → condition_refused d p c.0 ≡ []
+pub conditions_next : {R : Type 0} (d : Context) (g h : Formula) (p : Place) (cs ds : List Choice) (c : Choice) (old mid new : Contributions) (r : Result R SectionFault) → ds ≡ cs ++ c ∷ [] → h ≡ g → condition_refused d p c.0 ≡ []
     → IsBuilt (part p (choices_nodes d g (choices_of cs)) ∷ []) [] [] old mid
     → Builds (condition_unit d p c.0 (choice_nodes d h c.0 false) ∷ []) [] [] mid new r
     → Builds (part p (choices_nodes d g (choices_of ds)) ∷ []) [] [] old new r
@@ -120,18 +120,18 @@ conditions_next d g h p cs ds c old mid new r e same clear b a =
     (subst (λ rs. Builds (record { place = p; refusals = rs; nodes = choice_nodes d h c.0 false } ∷ []) [] [] mid new r) clear a)))
 
 -- where one stops, those behind it aren't made
-pub conditions_stop : (d : Design) (g : Formula) (p : Place) (cs ds es : List Choice) (old new : Contributions) (f : SectionFault) → es ≡ cs ++ ds
+pub conditions_stop : (d : Context) (g : Formula) (p : Place) (cs ds es : List Choice) (old new : Contributions) (f : SectionFault) → es ≡ cs ++ ds
     → StopsWith (part p (choices_nodes d g (choices_of cs)) ∷ []) [] [] old new f → StopsWith (part p (choices_nodes d g (choices_of es)) ∷ []) [] [] old new f
 conditions_stop d g p cs ds es old new f e s =
     subst (λ m. StopsWith (part p m ∷ []) [] [] old new f) (sym (ap (λ xs. choices_nodes d g (choices_of xs)) e ∙ nodes_append d g cs ds))
     (stops_longer p [] (choices_nodes d g (choices_of cs)) (choices_nodes d g (choices_of ds)) old new f s)
 
 -- the unit of conditions of which nothing is refused, and of refused ones
-pub conditions_clear : {R : Type 0} (d : Design) (g : Formula) (p : Place) (cs : Choices) (old new : Contributions) (r : Result R SectionFault) → choices_refused d cs ≡ [] → Builds (part p (choices_nodes d g cs) ∷ []) [] [] old new r
+pub conditions_clear : {R : Type 0} (d : Context) (g : Formula) (p : Place) (cs : Choices) (old new : Contributions) (r : Result R SectionFault) → choices_refused d cs ≡ [] → Builds (part p (choices_nodes d g cs) ∷ []) [] [] old new r
     → Builds (record { place = p; refusals = choices_refused d cs; nodes = choices_nodes d g cs } ∷ []) [] [] old new r
 conditions_clear d g p cs old new r e b = subst (λ rs. Builds (record { place = p; refusals = rs; nodes = choices_nodes d g cs } ∷ []) [] [] old new r) (sym e) b
 
 -- the condition of an arm of the code
-pub condition_there : {R : Type 0} (d : Design) (p : Place) (x : CaseArm) (g : Formula) (old new : Contributions) (r : Result R SectionFault) → Builds (condition_unit d p (view x.condition) (choice_nodes d g (view x.condition) false) ∷ []) [] [] old new r
+pub condition_there : {R : Type 0} (d : Context) (p : Place) (x : CaseArm) (g : Formula) (old new : Contributions) (r : Result R SectionFault) → Builds (condition_unit d p (view x.condition) (choice_nodes d g (view x.condition) false) ∷ []) [] [] old new r
     → Builds (condition_unit d p (view_choice x).0 (choice_nodes d g (view_choice x).0 false) ∷ []) [] [] old new r
 condition_there d p x g old new r b = subst (λ (z : Choice). Builds (condition_unit d p z.0 (choice_nodes d g z.0 false) ∷ []) [] [] old new r) (sym (choice_parts x)) b

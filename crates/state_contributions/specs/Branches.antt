@@ -11,13 +11,13 @@ use Rattle.abel_tree.specs.Tree.{Branch, Choices, NoChoice, MoreChoices}
 use Rattle.abel_meaning.specs.Contributions as meant
 use Rattle.abel_meaning.specs.CountedBlocks.{choices_nodes}
 use Rattle.abel_meaning.specs.CountedNodes.{condition_of, guard_then}
-use Rattle.abel_meaning.specs.Designs.{Design}
+use Rattle.abel_meaning.specs.Designs.{Context}
 use Rattle.abel_meaning.specs.Diagrams.{branch_gives, branches_give, choices_give}
 use Rattle.abel_meaning.specs.FormulaBits.{formulas}
 use Rattle.set_expr.specs.declared.contributions.Contribution.{Contribution}
 use Rattle.set_expr.specs.declared.contributions.Guard.{Guard}
 use Rattle.set_expr.specs.declared.fault.SectionFault.{SectionFault}
-use Rattle.set_expr.specs.Answer.{IsDesignOf}
+use Rattle.set_expr.specs.Answer.{IsContextOf}
 use Rattle.set_expr.specs.Given.{view_guard}
 use Rattle.section_targets.specs.declared.aim.Aim.{Aim}
 use Rattle.section_targets.specs.declared.manner.Manner.{Manner}
@@ -31,7 +31,7 @@ use Rattle.state_contributions.specs.Places.{branch_places, branches_places, cho
 
 -- ---- units with what they give to these registers, under a guard of formulas and behind what was assigned
 
-abbrev pub branch_work : Design → meant.Guard Formula → List Aim → List Manner → Branch → Work
+abbrev pub branch_work : Context → meant.Guard Formula → List Aim → List Manner → Branch → Work
 branch_work d h xs all b =
     record {
       units = units_of_branch d h.holds (length xs) all b;
@@ -39,7 +39,7 @@ branch_work d h xs all b =
       places = branch_places d xs b;
     }
 
-abbrev pub branches_work : Design → meant.Guard Formula → List Aim → List Manner → List Branch → Work
+abbrev pub branches_work : Context → meant.Guard Formula → List Aim → List Manner → List Branch → Work
 branches_work d h xs all bs =
     record {
       units = units_of_branches d h.holds (length xs) all bs;
@@ -47,7 +47,7 @@ branches_work d h xs all bs =
       places = branches_places d xs bs;
     }
 
-abbrev pub choices_work : Design → meant.Guard Formula → List Aim → List Manner → Choices → Work
+abbrev pub choices_work : Context → meant.Guard Formula → List Aim → List Manner → Choices → Work
 choices_work d h xs all cs =
     record {
       units = units_of_choices d h.holds (length xs) all cs;
@@ -60,43 +60,43 @@ choices_work d h xs all cs =
 abbrev pub BuildsBranch : Table → Names → Guard → (registers : List Aim) → (before : List Manner) → Branch
     → (old new : List Node) → (list more : List Contribution) → Result Unit SectionFault → Type 0
 BuildsBranch t n g xs before b old new list more r =
-    (d : Design) (all : List Manner) → IsDesignOf t n d → AreFirsts before all
+    (d : Context) (all : List Manner) → IsContextOf t n d → AreFirsts before all
     → Does (branch_work d (view_guard (arena old) g) xs all b) old new list more r
 
 abbrev pub BuildsBranches : Table → Names → Guard → (registers : List Aim) → (before : List Manner) → List Branch
     → (old new : List Node) → (list more : List Contribution) → Result Unit SectionFault → Type 0
 BuildsBranches t n g xs before bs old new list more r =
-    (d : Design) (all : List Manner) → IsDesignOf t n d → AreFirsts before all
+    (d : Context) (all : List Manner) → IsContextOf t n d → AreFirsts before all
     → Does (branches_work d (view_guard (arena old) g) xs all bs) old new list more r
 
 -- ---- the arms of CASE
 
 -- nothing is refused of their conditions
 abbrev pub AreClear : Table → Names → Choices → Type 0
-AreClear t n cs = (d : Design) → IsDesignOf t n d → choices_refused d cs ≡ []
+AreClear t n cs = (d : Context) → IsContextOf t n d → choices_refused d cs ≡ []
 
 -- their conditions as one unit
 abbrev pub MakesGuards : {R : Type 0} → Table → Names → (guard : ExprId) → Place → Choices → (old new : List Node)
     → Result R SectionFault → Type 0
 MakesGuards t n g p cs old new r =
-    (d : Design) → IsDesignOf t n d
+    (d : Context) → IsContextOf t n d
     → BuildsNodes (part p (choices_nodes d (formula_at (arena old) g) cs) ∷ []) old new r
 
 abbrev pub BuildsConditions : {R : Type 0} → Table → Names → (guard : ExprId) → Place → Choices → (old new : List Node)
     → Result R SectionFault → Type 0
 BuildsConditions t n g p cs old new r =
-    (d : Design) → IsDesignOf t n d
+    (d : Context) → IsContextOf t n d
     → BuildsNodes (record { place = p; refusals = choices_refused d cs; nodes = choices_nodes d (formula_at (arena old) g) cs } ∷ []) old new r
 
 -- the guard of each, in an arena of these formulas
-abbrev pub AreGuardsOf : Design → List Formula → (guard : Formula) → Choices → List ExprId → Type 0
+abbrev pub AreGuardsOf : Context → List Formula → (guard : Formula) → Choices → List ExprId → Type 0
 AreGuardsOf d fs g NoChoice [] = Unit {0}
 AreGuardsOf d fs g (MoreChoices c colon b cs) (id ∷ ids) =
     IsBit fs id (guard_then g (condition_of d c)).what × AreGuardsOf d fs g cs ids
 AreGuardsOf d fs g _ _ = ⊥
 
 abbrev pub AreGuards : Table → Names → (old new : List Formula) → (guard : ExprId) → Choices → List ExprId → Type 0
-AreGuards t n old new g cs ids = (d : Design) → IsDesignOf t n d → AreGuardsOf d new (formula_at old g) cs ids
+AreGuards t n old new g cs ids = (d : Context) → IsContextOf t n d → AreGuardsOf d new (formula_at old g) cs ids
 
 -- a guard where this holds
 abbrev pub guard_of : Guard → (holds : Formula) → meant.Guard Formula
@@ -107,14 +107,14 @@ abbrev pub BuildsChoices : Table → Names → Guard → List ExprId → (holds 
     → (before : List Manner) → Choices → (old new : List Node) → (list more : List Contribution)
     → Result Unit SectionFault → Type 0
 BuildsChoices t n g ids h xs before cs old new list more r =
-    (d : Design) (all : List Manner) → IsDesignOf t n d → AreFirsts before all → AreGuardsOf d (arena old) h cs ids
+    (d : Context) (all : List Manner) → IsContextOf t n d → AreFirsts before all → AreGuardsOf d (arena old) h cs ids
     → Does (choices_work d (guard_of g h) xs all cs) old new list more r
 
 -- CASE at this place
 abbrev pub BuildsCase : Table → Names → Guard → Place → (registers : List Aim) → (before : List Manner) → Choices
     → (old new : List Node) → (list more : List Contribution) → Result Unit SectionFault → Type 0
 BuildsCase t n g p xs before cs old new list more r =
-    (d : Design) (all : List Manner) → IsDesignOf t n d → AreFirsts before all
+    (d : Context) (all : List Manner) → IsContextOf t n d → AreFirsts before all
     → Does (record {
       units = record { place = p; refusals = choices_refused d cs; nodes = choices_nodes d (formula_at (arena old) g.when) cs }
           ∷ units_of_choices d (formula_at (arena old) g.when) (length xs) all cs;

@@ -13,14 +13,14 @@ use Rattle.abel_tree.specs.Entries.{entries_of}
 use Rattle.abel_tree.specs.View.{view}
 use Rattle.abel_meaning.specs.Contributions as meant
 use Rattle.abel_meaning.specs.CountedNodes.{value_nodes}
-use Rattle.abel_meaning.specs.Designs.{Design}
+use Rattle.abel_meaning.specs.Designs.{Context}
 use Rattle.abel_meaning.specs.Diagrams.{goal_gives}
 use Rattle.abel_meaning.specs.FormulaBits.{formulas}
 use Rattle.abel_meaning.specs.Terms.{term_of}
 use Rattle.set_expr.specs.declared.contributions.Contribution.{Contribution}
 use Rattle.set_expr.specs.declared.contributions.Guard.{Guard}
 use Rattle.set_expr.specs.declared.fault.SectionFault.{SectionFault}
-use Rattle.set_expr.specs.Answer.{IsDesignOf}
+use Rattle.set_expr.specs.Answer.{IsContextOf}
 use Rattle.set_expr.specs.FoundNames.{expression_found}
 use Rattle.set_expr.specs.Given.{view_guard}
 use Rattle.section_targets.specs.declared.aim.Aim.{Aim}
@@ -38,14 +38,14 @@ goal_parts p g (a ∷ aims) [] = []
 goal_parts p g (a ∷ aims) (w ∷ ws) = part p (make_and g w).nodes ∷ goal_parts p g aims ws
 
 -- what they give, with just these parts
-abbrev pub goal_work : Design → meant.Guard Formula → Place → List Aim → List Formula → Work
+abbrev pub goal_work : Context → meant.Guard Formula → Place → List Aim → List Formula → Work
 goal_work d h p aims ws =
     record { units = goal_parts p h.holds aims ws; gives = goal_gives (formulas d) d h (signals_of aims) ws; places = goal_places aims }
 
 abbrev pub GivesRegisters : Names → Guard → Place → List Aim → List ExprId → (old new : List Node)
     → (list more : List Contribution) → Result Unit SectionFault → Type 0
 GivesRegisters n g p aims ids old new list more r =
-    (d : Design) → d.names ≡ entries_of n
+    (d : Context) → d.names ≡ entries_of n
     → Does (goal_work d (view_guard (arena old) g) p aims (map (formula_at (arena old)) ids)) old new list more r
 
 abbrev pub GivesRegister : Names → Guard → Place → Aim → ExprId → (old new : List Node)
@@ -53,7 +53,7 @@ abbrev pub GivesRegister : Names → Guard → Place → Aim → ExprId → (old
 GivesRegister n g p a id old new list more r = GivesRegisters n g p (a ∷ []) (id ∷ []) old new list more r
 
 -- a goal as a unit with these refusals
-abbrev pub goal_unit : Design → meant.Guard Formula → List Aim → Goal → List SectionFault → Work
+abbrev pub goal_unit : Context → meant.Guard Formula → List Aim → Goal → List SectionFault → Work
 goal_unit d h aims g rs =
     record {
       units = record { place = g.place; refusals = rs; nodes = value_nodes d h.holds (length aims) (view g.value) } ∷ [];
@@ -64,11 +64,11 @@ goal_unit d h aims g rs =
 abbrev pub GivesGoal : Table → Names → Guard → List Aim → Goal → (old new : List Node)
     → (list more : List Contribution) → Result Unit SectionFault → Type 0
 GivesGoal t n g aims x old new list more r =
-    (d : Design) → IsDesignOf t n d → Does (goal_unit d (view_guard (arena old) g) aims x []) old new list more r
+    (d : Context) → IsContextOf t n d → Does (goal_unit d (view_guard (arena old) g) aims x []) old new list more r
 
 abbrev pub BuildsValue : Table → Names → Guard → List Aim → Goal → (old new : List Node)
     → (list more : List Contribution) → Result Unit SectionFault → Type 0
 BuildsValue t n g aims x old new list more r =
-    (d : Design) → IsDesignOf t n d
+    (d : Context) → IsContextOf t n d
     → Does (goal_unit d (view_guard (arena old) g) aims x (value_refused x.place (length aims) (expression_found d.names (view x.value))))
     old new list more r

@@ -3,7 +3,7 @@
 use Rattle.std.specs.Prelude.{List, [], ◌∷◌, ◌++◌}
 use Rattle.pld_base.specs.declared.place.Place.{Place}
 use Rattle.abel_tree.specs.Tree.{Branch, AGoal, AnIf, ACase, OtherBranch, NoBranch, ABranch, Choices, NoChoice, MoreChoices}
-use Rattle.abel_meaning.specs.Designs.{Design}
+use Rattle.abel_meaning.specs.Designs.{Context}
 use Rattle.abel_meaning.specs.Diagrams.{with_statements}
 use Rattle.section_targets.specs.declared.aim.Aim.{Aim}
 use Rattle.equations.specs.StatementUnits.{statements_places}
@@ -14,19 +14,19 @@ goal_places [] = []
 goal_places (a ∷ aims) = a.place ∷ a.place ∷ goal_places aims
 
 abbrev mutual
-  pub branch_places : Design → List Aim → Branch → List Place
+  pub branch_places : Context → List Aim → Branch → List Place
   branch_places d xs (AGoal p value ss) = goal_places xs ++ statements_places d (with_statements ss)
   branch_places d xs (AnIf p c b other) = branch_places d xs b ++ other_places d xs other
   branch_places d xs (ACase p cs) = choices_places d xs cs
 
-  pub other_places : Design → List Aim → OtherBranch → List Place
+  pub other_places : Context → List Aim → OtherBranch → List Place
   other_places d xs NoBranch = []
   other_places d xs (ABranch b) = branch_places d xs b
 
-  pub choices_places : Design → List Aim → Choices → List Place
+  pub choices_places : Context → List Aim → Choices → List Place
   choices_places d xs NoChoice = []
   choices_places d xs (MoreChoices c colon b cs) = branch_places d xs b ++ choices_places d xs cs
 
-abbrev pub branches_places : Design → List Aim → List Branch → List Place
+abbrev pub branches_places : Context → List Aim → List Branch → List Place
 branches_places d xs [] = []
 branches_places d xs (b ∷ bs) = branch_places d xs b ++ branches_places d xs bs

@@ -6,8 +6,6 @@ ghost use Rattle.bit_expr.specs.Formulas.{Formula};
 ghost use Rattle.abel_tree.specs.Entries.{entries_of};
 ghost use Rattle.abel_tree.specs.View.{view_arm};
 ghost use Rattle.set_expr.specs.Answer.{Keeps};
-ghost use Rattle.set_expr.specs.KnownNames.{IsKnown};
-ghost use Rattle.expr_bits.specs.Placed.{ArePlaced};
 ghost use Rattle.section_targets.specs.Given.{AreNamed, AreIn};
 ghost use Rattle.equations.specs.Checks.{AreNames};
 ghost use Rattle.state_refusals.specs.Arms.{NotesBranch, NotesBranches, NotesChoices, view_goal, view_if, view_arms, view_choices};
@@ -15,13 +13,13 @@ ghost use Rattle.state_contributions.specs.Branches.{BuildsBranch, BuildsBranche
 
 use crate::choices::arm_guards;
 use crate::goals::build_value;
-use abel_tree::{Arm, CaseArm, Goal, If, Names};
+use abel_tree::{Arm, CaseArm, Goal, If};
 use bit_expr::{ExprId, Exprs};
 use equations::{both_guards, build_statements, then_guard};
 use pld_base::Place;
 use pld_device::Device;
 use section_targets::{Aim, Assigned, NamedSignals};
-use set_expr::{Contribution, Guard, KnownNames, SectionFault};
+use set_expr::{Contribution, Guard, Scope, SectionFault};
 use std::alloc::Global;
 
 /// A guard with another bit.
@@ -47,8 +45,7 @@ fn under_arm(guard: Guard, guards: &[ExprId], index: usize) -> Guard
 /// A goal with the statements behind it.
 fn build_goal<D: Device>(
     alloc: Global,
-    names: &Names,
-    known: &KnownNames,
+    scope: &Scope<'_>,
     named: &[NamedSignals],
     guard: Guard,
     registers: &[Aim],
@@ -57,22 +54,19 @@ fn build_goal<D: Device>(
     exprs: &mut Exprs,
     list: &mut Vec<Contribution>,
 ) -> Result<(), SectionFault>
-    requires known { IsKnown (entries_of names.now) known.now }
-    requires named { AreNames names.now named.now }
-    requires placed { ArePlaced names.now }
-    requires signals { AreNamed (length (entries_of names.now)) registers.now }
+    requires named { AreNames scope.now named.now }
+    requires signals { AreNamed (length (entries_of scope.now)) registers.now }
     requires guard { guard.when.0 < length (arena exprs.old) }
     ensures keeps { Keeps (arena exprs.old) (arena exprs.new) }
-    ensures before { OnOk result (NotesBranch D.table names.now before.old before.new (view_goal goal.now)) }
-    ensures builds { BuildsBranch D.table names.now guard registers.now before.old (view_goal goal.now) exprs.old exprs.new list.old.items list.new.items result }
+    ensures before { OnOk result (NotesBranch D.table scope.now before.old before.new (view_goal goal.now)) }
+    ensures builds { BuildsBranch D.table scope.now guard registers.now before.old (view_goal goal.now) exprs.old exprs.new list.old.items list.new.items result }
 {
-    build_value::<D>(alloc, names, known, guard, registers, goal, exprs, list)?;
+    build_value::<D>(alloc, scope, guard, registers, goal, exprs, list)?;
     match &goal.with {
         None => Ok(()),
         Some(stmts) => build_statements::<D>(
             alloc,
-            names,
-            known,
+            scope,
             named,
             guard,
             stmts.as_slice(),
@@ -87,8 +81,7 @@ fn build_goal<D: Device>(
 #[cycle(builds)]
 fn build_if<D: Device>(
     alloc: Global,
-    names: &Names,
-    known: &KnownNames,
+    scope: &Scope<'_>,
     named: &[NamedSignals],
     guard: Guard,
     registers: &[Aim],
@@ -97,14 +90,12 @@ fn build_if<D: Device>(
     exprs: &mut Exprs,
     list: &mut Vec<Contribution>,
 ) -> Result<(), SectionFault>
-    requires known { IsKnown (entries_of names.now) known.now }
-    requires named { AreNames names.now named.now }
-    requires placed { ArePlaced names.now }
-    requires signals { AreNamed (length (entries_of names.now)) registers.now }
+    requires named { AreNames scope.now named.now }
+    requires signals { AreNamed (length (entries_of scope.now)) registers.now }
     requires guard { guard.when.0 < length (arena exprs.old) }
     ensures keeps { Keeps (arena exprs.old) (arena exprs.new) }
-    ensures before { OnOk result (NotesBranch D.table names.now before.old before.new (view_if choice.now)) }
-    ensures builds { BuildsBranch D.table names.now guard registers.now before.old (view_if choice.now) exprs.old exprs.new list.old.items list.new.items result }
+    ensures before { OnOk result (NotesBranch D.table scope.now before.old before.new (view_if choice.now)) }
+    ensures builds { BuildsBranch D.table scope.now guard registers.now before.old (view_if choice.now) exprs.old exprs.new list.old.items list.new.items result }
 {
     let inner = choice.then.get();
     let unit = choice.place;
@@ -112,22 +103,22 @@ fn build_if<D: Device>(
     let outer = guard.when;
     match &choice.otherwise {
         None => {
-            let chosen = then_guard::<D>(alloc, names, known, outer, unit, condition, exprs)?;
+            let chosen = then_guard::<D>(alloc, scope, outer, unit, condition, exprs)?;
             let then = under(guard, chosen.then);
             build_arm::<D>(
-                alloc, names, known, named, then, registers, inner, before, exprs, list,
+                alloc, scope, named, then, registers, inner, before, exprs, list,
             )
         }
         Some(other) => {
-            let bits = both_guards::<D>(alloc, names, known, outer, unit, condition, exprs)?;
+            let bits = both_guards::<D>(alloc, scope, outer, unit, condition, exprs)?;
             let then = under(guard, bits.then);
             build_arm::<D>(
-                alloc, names, known, named, then, registers, inner, before, exprs, list,
+                alloc, scope, named, then, registers, inner, before, exprs, list,
             )?;
             let otherwise = under(guard, bits.otherwise);
             let inner = other.get();
             build_arm::<D>(
-                alloc, names, known, named, otherwise, registers, inner, before, exprs, list,
+                alloc, scope, named, otherwise, registers, inner, before, exprs, list,
             )
         }
     }
@@ -137,8 +128,7 @@ fn build_if<D: Device>(
 #[cycle(builds)]
 fn build_choices<D: Device>(
     alloc: Global,
-    names: &Names,
-    known: &KnownNames,
+    scope: &Scope<'_>,
     named: &[NamedSignals],
     guard: Guard,
     registers: &[Aim],
@@ -148,21 +138,19 @@ fn build_choices<D: Device>(
     exprs: &mut Exprs,
     list: &mut Vec<Contribution>,
 ) -> Result<(), SectionFault>
-    requires known { IsKnown (entries_of names.now) known.now }
-    requires named { AreNames names.now named.now }
-    requires placed { ArePlaced names.now }
-    requires signals { AreNamed (length (entries_of names.now)) registers.now }
+    requires named { AreNames scope.now named.now }
+    requires signals { AreNamed (length (entries_of scope.now)) registers.now }
     requires guards { AreIn (length (arena exprs.old)) guards.now }
     requires each { length guards.now ≡ length arms.now }
     ensures keeps { Keeps (arena exprs.old) (arena exprs.new) }
-    ensures before { OnOk result (NotesChoices D.table names.now before.old before.new (view_choices arms.now)) }
-    ensures builds { (h : Formula) → BuildsChoices D.table names.now guard guards.now h registers.now before.old (view_choices arms.now) exprs.old exprs.new list.old.items list.new.items result }
+    ensures before { OnOk result (NotesChoices D.table scope.now before.old before.new (view_choices arms.now)) }
+    ensures builds { (h : Formula) → BuildsChoices D.table scope.now guard guards.now h registers.now before.old (view_choices arms.now) exprs.old exprs.new list.old.items list.new.items result }
 {
     for index in 0..arms.len() {
         let then = under_arm(guard, guards, index);
         let inner = &arms[index].result;
         build_arm::<D>(
-            alloc, names, known, named, then, registers, inner, before, exprs, list,
+            alloc, scope, named, then, registers, inner, before, exprs, list,
         )?;
     }
     Ok(())
@@ -172,8 +160,7 @@ fn build_choices<D: Device>(
 #[cycle(builds)]
 fn build_case<D: Device>(
     alloc: Global,
-    names: &Names,
-    known: &KnownNames,
+    scope: &Scope<'_>,
     named: &[NamedSignals],
     guard: Guard,
     registers: &[Aim],
@@ -183,18 +170,16 @@ fn build_case<D: Device>(
     exprs: &mut Exprs,
     list: &mut Vec<Contribution>,
 ) -> Result<(), SectionFault>
-    requires known { IsKnown (entries_of names.now) known.now }
-    requires named { AreNames names.now named.now }
-    requires placed { ArePlaced names.now }
-    requires signals { AreNamed (length (entries_of names.now)) registers.now }
+    requires named { AreNames scope.now named.now }
+    requires signals { AreNamed (length (entries_of scope.now)) registers.now }
     requires guard { guard.when.0 < length (arena exprs.old) }
     ensures keeps { Keeps (arena exprs.old) (arena exprs.new) }
-    ensures before { OnOk result (NotesChoices D.table names.now before.old before.new (view_choices arms.now)) }
-    ensures builds { BuildsCase D.table names.now guard unit registers.now before.old (view_choices arms.now) exprs.old exprs.new list.old.items list.new.items result }
+    ensures before { OnOk result (NotesChoices D.table scope.now before.old before.new (view_choices arms.now)) }
+    ensures builds { BuildsCase D.table scope.now guard unit registers.now before.old (view_choices arms.now) exprs.old exprs.new list.old.items list.new.items result }
 {
-    let guards = arm_guards::<D>(alloc, names, known, guard.when, unit, arms, exprs)?;
+    let guards = arm_guards::<D>(alloc, scope, guard.when, unit, arms, exprs)?;
     build_choices::<D>(
-        alloc, names, known, named, guard, registers, &guards, arms, before, exprs, list,
+        alloc, scope, named, guard, registers, &guards, arms, before, exprs, list,
     )
 }
 
@@ -203,8 +188,7 @@ fn build_case<D: Device>(
 #[cycle(builds)]
 pub fn build_arm<D: Device>(
     alloc: Global,
-    names: &Names,
-    known: &KnownNames,
+    scope: &Scope<'_>,
     named: &[NamedSignals],
     guard: Guard,
     registers: &[Aim],
@@ -213,27 +197,24 @@ pub fn build_arm<D: Device>(
     exprs: &mut Exprs,
     list: &mut Vec<Contribution>,
 ) -> Result<(), SectionFault>
-    requires known { IsKnown (entries_of names.now) known.now }
-    requires named { AreNames names.now named.now }
-    requires placed { ArePlaced names.now }
-    requires signals { AreNamed (length (entries_of names.now)) registers.now }
+    requires named { AreNames scope.now named.now }
+    requires signals { AreNamed (length (entries_of scope.now)) registers.now }
     requires guard { guard.when.0 < length (arena exprs.old) }
     ensures keeps { Keeps (arena exprs.old) (arena exprs.new) }
     ensures grows { length (arena exprs.old) ≤ length (arena exprs.new) }
-    ensures before { OnOk result (NotesBranch D.table names.now before.old before.new (view_arm arm.now)) }
-    ensures builds { BuildsBranch D.table names.now guard registers.now before.old (view_arm arm.now) exprs.old exprs.new list.old.items list.new.items result }
+    ensures before { OnOk result (NotesBranch D.table scope.now before.old before.new (view_arm arm.now)) }
+    ensures builds { BuildsBranch D.table scope.now guard registers.now before.old (view_arm arm.now) exprs.old exprs.new list.old.items list.new.items result }
 {
     match arm {
         Arm::Goal(goal) => build_goal::<D>(
-            alloc, names, known, named, guard, registers, goal, before, exprs, list,
+            alloc, scope, named, guard, registers, goal, before, exprs, list,
         ),
         Arm::If(choice) => build_if::<D>(
-            alloc, names, known, named, guard, registers, choice, before, exprs, list,
+            alloc, scope, named, guard, registers, choice, before, exprs, list,
         ),
         Arm::Case(case) => build_case::<D>(
             alloc,
-            names,
-            known,
+            scope,
             named,
             guard,
             registers,
@@ -249,8 +230,7 @@ pub fn build_arm<D: Device>(
 /// Transitions one after another, as `build_arm` builds each.
 pub fn build_arms<D: Device>(
     alloc: Global,
-    names: &Names,
-    known: &KnownNames,
+    scope: &Scope<'_>,
     named: &[NamedSignals],
     guard: Guard,
     registers: &[Aim],
@@ -259,18 +239,16 @@ pub fn build_arms<D: Device>(
     exprs: &mut Exprs,
     list: &mut Vec<Contribution>,
 ) -> Result<(), SectionFault>
-    requires known { IsKnown (entries_of names.now) known.now }
-    requires named { AreNames names.now named.now }
-    requires placed { ArePlaced names.now }
-    requires signals { AreNamed (length (entries_of names.now)) registers.now }
+    requires named { AreNames scope.now named.now }
+    requires signals { AreNamed (length (entries_of scope.now)) registers.now }
     requires guard { guard.when.0 < length (arena exprs.old) }
     ensures keeps { Keeps (arena exprs.old) (arena exprs.new) }
-    ensures before { OnOk result (NotesBranches D.table names.now before.old before.new (view_arms arms.now)) }
-    ensures builds { BuildsBranches D.table names.now guard registers.now before.old (view_arms arms.now) exprs.old exprs.new list.old.items list.new.items result }
+    ensures before { OnOk result (NotesBranches D.table scope.now before.old before.new (view_arms arms.now)) }
+    ensures builds { BuildsBranches D.table scope.now guard registers.now before.old (view_arms arms.now) exprs.old exprs.new list.old.items list.new.items result }
 {
     for arm in arms {
         build_arm::<D>(
-            alloc, names, known, named, guard, registers, arm, before, exprs, list,
+            alloc, scope, named, guard, registers, arm, before, exprs, list,
         )?;
     }
     Ok(())

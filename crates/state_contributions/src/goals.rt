@@ -5,25 +5,23 @@ ghost use Rattle.bit_expr.specs.Arena.{arena};
 ghost use Rattle.abel_tree.specs.Entries.{entries_of};
 ghost use Rattle.abel_tree.specs.View.{view};
 ghost use Rattle.set_expr.specs.Answer.{Keeps, refusal_of};
-ghost use Rattle.set_expr.specs.KnownNames.{IsKnown};
-ghost use Rattle.expr_bits.specs.Placed.{ArePlaced};
 ghost use Rattle.section_targets.specs.Given.{AreNamed, AreIn};
 ghost use Rattle.state_contributions.specs.Goals.{GivesRegister, GivesRegisters, GivesGoal, BuildsValue};
 
-use abel_tree::{Goal, Names};
+use abel_tree::Goal;
 use bit_expr::{ExprId, Exprs};
 use equations::{refuse_value, refused_unit, value_bits};
 use guarded_values::{Giving, give};
 use pld_base::Place;
 use pld_device::Device;
 use section_targets::Aim;
-use set_expr::{Contribution, Gives, Guard, KnownNames, SectionFault, check};
+use set_expr::{Contribution, Gives, Guard, Scope, SectionFault};
 use std::alloc::Global;
 use table_contributions::{Assigning, give_output};
 
 /// A register is given its bit of a goal under a guard, and a match, as parts of the unit at this place.
 fn give_register(
-    names: &Names,
+    scope: &Scope<'_>,
     guard: Guard,
     unit: Place,
     aim: Aim,
@@ -31,11 +29,11 @@ fn give_register(
     exprs: &mut Exprs,
     list: &mut Vec<Contribution>,
 ) -> Result<(), SectionFault>
-    requires signal { aim.signal < length (entries_of names.now) }
+    requires signal { aim.signal < length (entries_of scope.now) }
     requires guard { guard.when.0 < length (arena exprs.old) }
     requires bit { bit.0 < length (arena exprs.old) }
     ensures keeps { Keeps (arena exprs.old) (arena exprs.new) }
-    ensures gives { GivesRegister names.now guard unit aim bit exprs.old exprs.new list.old.items list.new.items result }
+    ensures gives { GivesRegister scope.now guard unit aim bit exprs.old exprs.new list.old.items list.new.items result }
 {
     let giving = Giving {
         unit,
@@ -45,18 +43,18 @@ fn give_register(
         clocked: true,
         what: Gives::One,
     };
-    give(names, giving, aim, bit, exprs, list)?;
+    give(scope, giving, aim, bit, exprs, list)?;
     let assigning = Assigning {
         unit,
         guard,
         clocked: true,
     };
-    give_output(names, assigning, Gives::Match, aim, guard.when, exprs, list)
+    give_output(scope, assigning, Gives::Match, aim, guard.when, exprs, list)
 }
 
 /// Each register is given its bit of a goal, from the left.
 fn give_registers(
-    names: &Names,
+    scope: &Scope<'_>,
     guard: Guard,
     unit: Place,
     registers: &[Aim],
@@ -64,16 +62,16 @@ fn give_registers(
     exprs: &mut Exprs,
     list: &mut Vec<Contribution>,
 ) -> Result<(), SectionFault>
-    requires signals { AreNamed (length (entries_of names.now)) registers.now }
+    requires signals { AreNamed (length (entries_of scope.now)) registers.now }
     requires guard { guard.when.0 < length (arena exprs.old) }
     requires bits { AreIn (length (arena exprs.old)) bits.now }
     requires each { length bits.now ≡ length registers.now }
     ensures keeps { Keeps (arena exprs.old) (arena exprs.new) }
-    ensures gives { GivesRegisters names.now guard unit registers.now bits.now exprs.old exprs.new list.old.items list.new.items result }
+    ensures gives { GivesRegisters scope.now guard unit registers.now bits.now exprs.old exprs.new list.old.items list.new.items result }
 {
     for index in 0..registers.len() {
         give_register(
-            names,
+            scope,
             guard,
             unit,
             registers[index],
@@ -88,49 +86,43 @@ fn give_registers(
 /// A goal of which nothing is refused.
 fn give_goal<D: Device>(
     alloc: Global,
-    names: &Names,
-    known: &KnownNames,
+    scope: &Scope<'_>,
     guard: Guard,
     registers: &[Aim],
     goal: &Goal,
     exprs: &mut Exprs,
     list: &mut Vec<Contribution>,
 ) -> Result<(), SectionFault>
-    requires known { IsKnown (entries_of names.now) known.now }
-    requires placed { ArePlaced names.now }
-    requires signals { AreNamed (length (entries_of names.now)) registers.now }
+    requires signals { AreNamed (length (entries_of scope.now)) registers.now }
     requires guard { guard.when.0 < length (arena exprs.old) }
-    requires accepted { refusal_of names.now (view goal.now.value) ≡ None }
+    requires accepted { refusal_of scope.now (view goal.now.value) ≡ None }
     ensures keeps { Keeps (arena exprs.old) (arena exprs.new) }
-    ensures gives { GivesGoal D.table names.now guard registers.now goal.now exprs.old exprs.new list.old.items list.new.items result }
+    ensures gives { GivesGoal D.table scope.now guard registers.now goal.now exprs.old exprs.new list.old.items list.new.items result }
 {
     let unit = goal.place;
     let width = registers.len();
-    let bits = value_bits::<D>(alloc, names, known, &goal.value, width, unit, exprs)?;
-    give_registers(names, guard, unit, registers, &bits, exprs, list)
+    let bits = value_bits::<D>(alloc, scope, &goal.value, width, unit, exprs)?;
+    give_registers(scope, guard, unit, registers, &bits, exprs, list)
 }
 
 /// A goal without the statements behind it.
 pub(crate) fn build_value<D: Device>(
     alloc: Global,
-    names: &Names,
-    known: &KnownNames,
+    scope: &Scope<'_>,
     guard: Guard,
     registers: &[Aim],
     goal: &Goal,
     exprs: &mut Exprs,
     list: &mut Vec<Contribution>,
 ) -> Result<(), SectionFault>
-    requires known { IsKnown (entries_of names.now) known.now }
-    requires placed { ArePlaced names.now }
-    requires signals { AreNamed (length (entries_of names.now)) registers.now }
+    requires signals { AreNamed (length (entries_of scope.now)) registers.now }
     requires guard { guard.when.0 < length (arena exprs.old) }
     ensures keeps { Keeps (arena exprs.old) (arena exprs.new) }
-    ensures builds { BuildsValue D.table names.now guard registers.now goal.now exprs.old exprs.new list.old.items list.new.items result }
+    ensures builds { BuildsValue D.table scope.now guard registers.now goal.now exprs.old exprs.new list.old.items list.new.items result }
 {
-    let value = check(alloc, names, known, &goal.value)?;
+    let value = scope.check(alloc, &goal.value)?;
     match refuse_value(goal.place, registers.len(), value) {
         Some(_) => Err(refused_unit(goal.place)),
-        None => give_goal::<D>(alloc, names, known, guard, registers, goal, exprs, list),
+        None => give_goal::<D>(alloc, scope, guard, registers, goal, exprs, list),
     }
 }

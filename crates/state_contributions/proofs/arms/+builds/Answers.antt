@@ -12,7 +12,7 @@ use Rattle.abel_tree.specs.Tree.{choices_of}
 use Rattle.abel_tree.specs.View.{view, view_arm, view_choice}
 use Rattle.abel_meaning.specs.CountedNodes.{condition_of, guard_then}
 use Rattle.section_targets.specs.Building.{IsBit}
-use Rattle.abel_meaning.specs.Designs.{Design}
+use Rattle.abel_meaning.specs.Designs.{Context}
 use Rattle.abel_meaning.specs.FormulaBits.{formulas}
 use Rattle.abel_meaning.specs.Contributions.{guarded}
 use Rattle.set_expr.specs.Given.{view_guard}
@@ -194,7 +194,7 @@ build_choices-loop-index-init g t c =
 
 pub build_choices-returns-clause-before : goal.build_choices-returns-clause-before
 build_choices-returns-clause-before g t c =
-    subst (λ (xs : List CaseArm). NotesChoices g.D.Device.table c.args.names.now c.args.before.now c.loop-index.before (view_choices xs))
+    subst (λ (xs : List CaseArm). NotesChoices g.D.Device.table c.args.scope.now c.args.before.now c.loop-index.before (view_choices xs))
     (ap (λ n. take n c.args.arms.now) (omega (arith, c.loop-index-test.false, c.loop-index.auto.index-end)) ∙ take-length c.args.arms.now) c.loop-index.invariant.notes
 
 pub build_choices-returns-clause-keeps : goal.build_choices-returns-clause-keeps
@@ -213,24 +213,24 @@ build_choices-returns-clause-builds g t c = λ h d all is a gs.
 
 pub build_arm-returns-in-Goal-clause-before : goal.build_arm-returns-in-Goal-clause-before
 build_arm-returns-in-Goal-clause-before g t c =
-    subst (λ b. OnOk c.build_goal.result (NotesBranch g.D.Device.table c.args.names.now c.args.before.now c.build_goal.new.before b)) (sym (ap view_arm c.in-Goal.is ∙ view_goaled c.in-Goal.goal)) c.build_goal.ensures.before
+    subst (λ b. OnOk c.build_goal.result (NotesBranch g.D.Device.table c.args.scope.now c.args.before.now c.build_goal.new.before b)) (sym (ap view_arm c.in-Goal.is ∙ view_goaled c.in-Goal.goal)) c.build_goal.ensures.before
 
 pub build_arm-returns-in-Goal-clause-builds : goal.build_arm-returns-in-Goal-clause-builds
 build_arm-returns-in-Goal-clause-builds g t c =
-    subst (λ b. BuildsBranch g.D.Device.table c.args.names.now c.args.guard c.args.registers.now c.args.before.now b c.args.exprs.now c.build_goal.new.exprs c.args.list.now.items c.build_goal.new.list.items c.build_goal.result) (sym (ap view_arm c.in-Goal.is ∙ view_goaled c.in-Goal.goal)) c.build_goal.ensures.builds
+    subst (λ b. BuildsBranch g.D.Device.table c.args.scope.now c.args.guard c.args.registers.now c.args.before.now b c.args.exprs.now c.build_goal.new.exprs c.args.list.now.items c.build_goal.new.list.items c.build_goal.result) (sym (ap view_arm c.in-Goal.is ∙ view_goaled c.in-Goal.goal)) c.build_goal.ensures.builds
 
 pub build_arm-returns-in-If-clause-before : goal.build_arm-returns-in-If-clause-before
 build_arm-returns-in-If-clause-before g t c =
-    subst (λ b. OnOk c.build_if.result (NotesBranch g.D.Device.table c.args.names.now c.args.before.now c.build_if.new.before b)) (sym (ap view_arm c.in-If.is ∙ view_iffed c.in-If.choice)) c.build_if.ensures.before
+    subst (λ b. OnOk c.build_if.result (NotesBranch g.D.Device.table c.args.scope.now c.args.before.now c.build_if.new.before b)) (sym (ap view_arm c.in-If.is ∙ view_iffed c.in-If.choice)) c.build_if.ensures.before
 
 pub build_arm-returns-in-If-clause-builds : goal.build_arm-returns-in-If-clause-builds
 build_arm-returns-in-If-clause-builds g t c =
-    subst (λ b. BuildsBranch g.D.Device.table c.args.names.now c.args.guard c.args.registers.now c.args.before.now b c.args.exprs.now c.build_if.new.exprs c.args.list.now.items c.build_if.new.list.items c.build_if.result) (sym (ap view_arm c.in-If.is ∙ view_iffed c.in-If.choice)) c.build_if.ensures.builds
+    subst (λ b. BuildsBranch g.D.Device.table c.args.scope.now c.args.guard c.args.registers.now c.args.before.now b c.args.exprs.now c.build_if.new.exprs c.args.list.now.items c.build_if.new.list.items c.build_if.result) (sym (ap view_arm c.in-If.is ∙ view_iffed c.in-If.choice)) c.build_if.ensures.builds
 
 pub build_arm-returns-in-Case-clause-before : goal.build_arm-returns-in-Case-clause-before
 build_arm-returns-in-Case-clause-before g t c =
     let cs = view_choices c.as_slice.result.now in
-    let same : (d : Design) → choices_manners d cs ≡ branch_manners d (view_arm c.args.arm.now) = λ d. search (rules, arm_lemmas) in
+    let same : (d : Context) → choices_manners d cs ≡ branch_manners d (view_arm c.args.arm.now) = λ d. search (rules, arm_lemmas) in
     on_ok_weaker c.build_case.result (λ h d all is a. subst (λ ms. AreFirsts c.build_case.new.before (all ++ ms)) (same d) (h d all is a)) c.build_case.ensures.before
 
 pub build_arm-returns-in-Case-clause-builds : goal.build_arm-returns-in-Case-clause-builds
@@ -305,14 +305,14 @@ build_choices-returns-in_err-build_arm-clause-builds g t c = λ h d all is a gs.
 
 pub build_case-build_choices-requires : goal.build_case-build_choices-requires
 build_case-build_choices-requires g t c κs o =
-    let d = some_design g.D.Device.table c.args.names.now in
+    let d = some_design g.D.Device.table c.args.scope.now in
     let fs = arena c.arm_guards.new.exprs in
     let gf = formula_at (arena c.args.exprs.now) c.args.guard.when in
     let cs = map view_choice c.args.arms.now in
-    let gs = c.in_ok-guards.ensures.guards d (is_some_design g.D.Device.table c.args.names.now) in
+    let gs = c.in_ok-guards.ensures.guards d (is_some_design g.D.Device.table c.args.scope.now) in
     let inside = subst (λ (ids : List ExprId). All (λ (id : ExprId). id.0 < length fs) ids) (sym c.deref.ensures.value) (guards_inside d fs gf cs c.in_ok-guards.guards.items gs) in
     let each = ap length c.deref.ensures.value ∙ guards_each d fs gf cs c.in_ok-guards.guards.items gs ∙ length-map c.args.arms.now view_choice in
-    (omega (arith, c.decreases), (o, (c.requires.known, (c.requires.named, (c.requires.placed, (c.requires.signals, (inside, each)))))))
+    (omega (arith, c.decreases), (o, (c.requires.named, (c.requires.signals, (inside, each)))))
 
 pub build_arm-returns-in-Goal-clause-grows : goal.build_arm-returns-in-Goal-clause-grows
 build_arm-returns-in-Goal-clause-grows g t c = keeps_longer _ _ c.build_goal.ensures.keeps

@@ -93,7 +93,7 @@ returns-clause-keeps g c = c.loop-arm.invariant.keeps
 
 pub returns-clause-before : goal.returns-clause-before
 returns-clause-before g c =
-    subst (λ (xs : List Arm). NotesBranches g.D.Device.table c.args.names.now c.args.before.now c.loop-arm.before (view_arms xs))
+    subst (λ (xs : List Arm). NotesBranches g.D.Device.table c.args.scope.now c.args.before.now c.loop-arm.before (view_arms xs))
     (ap (λ n. take n c.args.arms.now) (omega (arith, c.loop-arm-test.false, c.loop-arm.auto.arm-index-end)) ∙ take-length c.args.arms.now) c.loop-arm.invariant.notes
 
 pub returns-clause-builds : goal.returns-clause-builds

@@ -59,7 +59,7 @@ returns-in-Some-clause-builds g c = λ d all is a.
     let old = at c.args.exprs.now c.args.list.now.items in
     let mid = at c.build_value.new.exprs c.build_value.new.list.items in
     let new = at c.build_statements.new.exprs c.build_statements.new.list.items in
-    let stmts = subst (λ (xs : List Stmt). BuildsStatements g.D.Device.table c.args.names.now c.args.guard c.args.before.now (view_list xs) c.build_value.new.exprs c.build_statements.new.exprs c.build_value.new.list.items c.build_statements.new.list.items c.build_statements.result) c.as_slice.ensures c.build_statements.ensures.builds in
+    let stmts = subst (λ (xs : List Stmt). BuildsStatements g.D.Device.table c.args.scope.now c.args.guard c.args.before.now (view_list xs) c.build_value.new.exprs c.build_statements.new.exprs c.build_value.new.list.items c.build_statements.new.list.items c.build_statements.result) c.as_slice.ensures c.build_statements.ensures.builds in
     subst (λ b. DoesWork (branch_work d h c.args.registers.now all b) old new c.build_statements.result) (sym (goal_with x c.in-Some.stmts c.in-Some.is))
     (goal_then_built d h (view_guard hs c.args.guard) c.args.registers.now all x.place (view x.value) (map view_stmt c.in-Some.stmts) old mid new c.build_statements.result
     (guard_kept fs hs c.args.guard (kept_formula fs hs c.args.guard.when c.in_ok-build_value.ensures.keeps c.requires.guard))

@@ -25,8 +25,8 @@ use Rattle.state_contributions.proofs.choices.make_guards.Goals as goal
 pub loop-arm-init : goal.loop-arm-init
 loop-arm-init g c = record { keeps = λ i f e. e; built = λ d is list. no_nodes c.args.unit (at c.args.exprs.now list); guards = λ d is. subst (λ (ids : List ExprId). AreGuardsOf d (arena c.args.exprs.now) (formula_at (arena c.args.exprs.now) c.args.guard) (choices_of []) ids) (sym c.new-guards.ensures.items) tt }
 
-pub then_guard-requires-clause-guard : goal.then_guard-requires-clause-guard
-then_guard-requires-clause-guard g c = kept_inside _ _ c.args.guard c.loop-arm.invariant.keeps c.requires.guard
+pub then_guard-requires : goal.then_guard-requires
+then_guard-requires g c = record { guard = kept_inside _ _ c.args.guard c.loop-arm.invariant.keeps c.requires.guard }
 
 pub loop-arm-preserved : goal.loop-arm-preserved
 loop-arm-preserved g c =
@@ -92,12 +92,12 @@ returns-clause-keeps g c = c.loop-arm.invariant.keeps
 
 pub returns-clause-builds : goal.returns-clause-builds
 returns-clause-builds g c =
-    subst (λ (xs : List CaseArm). MakesGuards g.D.Device.table c.args.names.now c.args.guard c.args.unit (choices_of (map view_choice xs)) c.args.exprs.now c.loop-arm.exprs (Ok c.loop-arm.guards))
+    subst (λ (xs : List CaseArm). MakesGuards g.D.Device.table c.args.scope.now c.args.guard c.args.unit (choices_of (map view_choice xs)) c.args.exprs.now c.loop-arm.exprs (Ok c.loop-arm.guards))
     (ap (λ n. take n c.args.arms.now) (omega (arith, c.loop-arm-test.false, c.loop-arm.auto.arm-index-end)) ∙ take-length c.args.arms.now) c.loop-arm.invariant.built
 
 pub returns-clause-guards : goal.returns-clause-guards
 returns-clause-guards g c =
-    subst (λ (xs : List CaseArm). AreGuards g.D.Device.table c.args.names.now (arena c.args.exprs.now) (arena c.loop-arm.exprs) c.args.guard (choices_of (map view_choice xs)) c.loop-arm.guards.items)
+    subst (λ (xs : List CaseArm). AreGuards g.D.Device.table c.args.scope.now (arena c.args.exprs.now) (arena c.loop-arm.exprs) c.args.guard (choices_of (map view_choice xs)) c.loop-arm.guards.items)
     (ap (λ n. take n c.args.arms.now) (omega (arith, c.loop-arm-test.false, c.loop-arm.auto.arm-index-end)) ∙ take-length c.args.arms.now) c.loop-arm.invariant.guards
 
 pub returns-in_err-push-clause-builds : goal.returns-in_err-push-clause-builds

@@ -33,7 +33,7 @@ returns-in-Some-clause-builds g c = λ d is.
 
 pub give_goal-requires-clause-accepted : goal.give_goal-requires-clause-accepted
 give_goal-requires-clause-accepted g c =
-    let n = c.args.names.now in
+    let n = c.args.scope.now in
     let x = c.args.goal.now in
     let f = expression_found (entries_of n) (view x.value) in
     let rs = none_refused section_order (value_refused x.place (length c.args.registers.now) f) (sym c.in-None.is ∙ c.refuse_value.ensures f c.in_ok-value.ensures) in

@@ -30,9 +30,9 @@ give_registers-requires-clause-guard g c = kept_inside _ _ c.args.guard.when c.i
 
 pub give_registers-requires-clause-bits : goal.give_registers-requires-clause-bits
 give_registers-requires-clause-bits g c =
-    let d = some_design g.D.Device.table c.args.names.now in
+    let d = some_design g.D.Device.table c.args.scope.now in
     subst (λ (xs : List ExprId). All (λ (id : ExprId). id.0 < length (arena c.value_bits.new.exprs)) xs) (sym c.deref.ensures.value)
-    (c.in_ok-bits.ensures.bits d (is_some_design g.D.Device.table c.args.names.now)).0
+    (c.in_ok-bits.ensures.bits d (is_some_design g.D.Device.table c.args.scope.now)).0
 
 pub give_registers-requires-clause-each : goal.give_registers-requires-clause-each
 give_registers-requires-clause-each g c = ap length c.deref.ensures.value ∙ c.in_ok-bits.ensures.width
