@@ -7,7 +7,7 @@ use Rattle.bit_expr.specs.declared.node.Node.{Node}
 use Rattle.bit_expr.specs.Arena.{arena, formula_at}
 use Rattle.bit_expr.specs.Folding.{Made, free, with_nodes, ◌>>=◌}
 use Rattle.bit_expr.specs.Formulas.{Formula, Const}
-use Rattle.abel_meaning.specs.Designs.{Design}
+use Rattle.abel_meaning.specs.Designs.{Context}
 use Rattle.set_expr.specs.declared.fault.SectionFault.{SectionFault}
 use Rattle.set_expr.specs.declared.fault.SectionFault.TheVariants as fault
 use Rattle.set_expr.specs.Answer.{Keeps}
@@ -49,10 +49,10 @@ bit_stops p old new f m k a =
 -- ---- registers
 
 -- one register before others
-literals_first : (d : Design) (f : Formula) (x : Aim) (xs : List Aim) (b : Bool) (bs : List Bool) → literals d f (x ∷ xs) (b ∷ bs) ≡ (register_literal d f x.signal b >>= λ g. literals d g xs bs)
+literals_first : (d : Context) (f : Formula) (x : Aim) (xs : List Aim) (b : Bool) (bs : List Bool) → literals d f (x ∷ xs) (b ∷ bs) ≡ (register_literal d f x.signal b >>= λ g. literals d g xs bs)
 literals_first d f x xs b bs = made_is (literals d f (x ∷ xs) (b ∷ bs)) (register_literal d f x.signal b >>= λ g. literals d g xs bs) refl (omega arith)
 
-pub joined_start : (d : Design) (ns : List Node) (unit : Place) (found : ExprId) (xs : List Aim) (bs : List Bool) → found.0 ≡ 1 → IsJoined d ns ns unit found (literals d (Const true) xs bs) xs bs
+pub joined_start : (d : Context) (ns : List Node) (unit : Place) (found : ExprId) (xs : List Aim) (bs : List Bool) → found.0 ≡ 1 → IsJoined d ns ns unit found (literals d (Const true) xs bs) xs bs
 joined_start d ns unit found xs bs e =
     record {
       made = free (Const true);
@@ -61,19 +61,19 @@ joined_start d ns unit found xs bs e =
     }
 
 -- the literal of one register more
-joined_bit : (d : Design) (old mid new : List Node) (unit : Place) (found : ExprId) (r : Result ExprId SectionFault) (m : Made Formula) (x : Aim) (b : Bool)
+joined_bit : (d : Context) (old mid new : List Node) (unit : Place) (found : ExprId) (r : Result ExprId SectionFault) (m : Made Formula) (x : Aim) (b : Bool)
     → MakesBit unit m old mid (Ok found) → MakesBit unit (register_literal d (formula_at (arena mid) found) x.signal b) mid new r
     → MakesBit unit (m >>= λ f. register_literal d f x.signal b) old new r
 joined_bit d old mid new unit found r m x b a c =
     bit_then unit old mid new found r m (λ f. register_literal d f x.signal b) a (subst (λ f. MakesBit unit (register_literal d f x.signal b) mid new r) a.1.1 c)
 
-joined_whole : (d : Design) (all m : Made Formula) (x : Aim) (xs : List Aim) (b : Bool) (bs : List Bool) → all ≡ (m >>= λ f. literals d f (x ∷ xs) (b ∷ bs))
+joined_whole : (d : Context) (all m : Made Formula) (x : Aim) (xs : List Aim) (b : Bool) (bs : List Bool) → all ≡ (m >>= λ f. literals d f (x ∷ xs) (b ∷ bs))
     → all ≡ ((m >>= λ f. register_literal d f x.signal b) >>= λ g. literals d g xs bs)
 joined_whole d all m x xs b bs e =
     e ∙ ap (λ k. with_nodes m.nodes k) (literals_first d m.what x xs b bs)
     ∙ made_is (m >>= λ f. (register_literal d f x.signal b >>= λ g. literals d g xs bs)) ((m >>= λ f. register_literal d f x.signal b) >>= λ g. literals d g xs bs) refl (omega arith)
 
-joined_next : (d : Design) (old mid new : List Node) (unit : Place) (found id : ExprId) (all : Made Formula) (x : Aim) (xs : List Aim) (b : Bool) (bs : List Bool)
+joined_next : (d : Context) (old mid new : List Node) (unit : Place) (found id : ExprId) (all : Made Formula) (x : Aim) (xs : List Aim) (b : Bool) (bs : List Bool)
     → IsJoined d old mid unit found all (x ∷ xs) (b ∷ bs) → MakesBit unit (register_literal d (formula_at (arena mid) found) x.signal b) mid new (Ok id)
     → IsJoined d old new unit id all xs bs
 joined_next d old mid new unit found id all x xs b bs j c =
@@ -83,7 +83,7 @@ joined_next d old mid new unit found id all x xs b bs j c =
       whole = joined_whole d all j.made x xs b bs j.whole;
     }
 
-joined_stops : (d : Design) (old mid new : List Node) (unit : Place) (found : ExprId) (all : Made Formula) (x : Aim) (xs : List Aim) (b : Bool) (bs : List Bool) (f : SectionFault)
+joined_stops : (d : Context) (old mid new : List Node) (unit : Place) (found : ExprId) (all : Made Formula) (x : Aim) (xs : List Aim) (b : Bool) (bs : List Bool) (f : SectionFault)
     → IsJoined d old mid unit found all (x ∷ xs) (b ∷ bs) → MakesBit unit (register_literal d (formula_at (arena mid) found) x.signal b) mid new (Err f)
     → MakesBit unit all old new (Err f)
 joined_stops d old mid new unit found all x xs b bs f j c =
@@ -91,7 +91,7 @@ joined_stops d old mid new unit found all x xs b bs f j c =
     (bit_stops unit old new f (j.made >>= λ g. register_literal d g x.signal b) (λ g. literals d g xs bs) (joined_bit d old mid new unit found (Err f) j.made x b j.bit c))
 
 -- no register or no digit is left
-none_left : (d : Design) (f : Formula) (xs : List Aim) (bs : List Bool) (i : ℕ) → min (length xs) (length bs) ≤ i → literals d f (drop i xs) (drop i bs) ≡ free f
+none_left : (d : Context) (f : Formula) (xs : List Aim) (bs : List Bool) (i : ℕ) → min (length xs) (length bs) ≤ i → literals d f (drop i xs) (drop i bs) ≡ free f
 none_left d f [] bs zero h = refl
 none_left d f (x ∷ xs) [] zero h = refl
 none_left d f (x ∷ xs) (b ∷ bs) zero h = absurd (omega (arith, h))
@@ -103,7 +103,7 @@ none_left d f (x ∷ xs) [] (suc i) h = no_digit (drop i xs)
     no_digit (y ∷ ys) = refl
 none_left d f (x ∷ xs) (b ∷ bs) (suc i) h = none_left d f xs bs i (omega (arith, h))
 
-pub joined_done : (d : Design) (old new : List Node) (unit : Place) (found : ExprId) (all : Made Formula) (xs : List Aim) (bs : List Bool) (i : ℕ) → min (length xs) (length bs) ≤ i
+pub joined_done : (d : Context) (old new : List Node) (unit : Place) (found : ExprId) (all : Made Formula) (xs : List Aim) (bs : List Bool) (i : ℕ) → min (length xs) (length bs) ≤ i
     → IsJoined d old new unit found all (drop i xs) (drop i bs) → MakesBit unit all old new (Ok found)
 joined_done d old new unit found all xs bs i h j =
     let e : all ≡ j.made = j.whole ∙ ap (λ k. with_nodes j.made.nodes k) (none_left d j.made.what xs bs i h) ∙ made_is (j.made >>= free) j.made refl (omega arith) in
@@ -111,19 +111,19 @@ joined_done d old new unit found all xs bs i h j =
 
 -- ---- at an index
 
-at_index : (d : Design) (old mid : List Node) (unit : Place) (found : ExprId) (all : Made Formula) (xs : List Aim) (x : Aim) (bs : List Bool) (b : Bool) (i : ℕ) → i < min (length xs) (length bs)
+at_index : (d : Context) (old mid : List Node) (unit : Place) (found : ExprId) (all : Made Formula) (xs : List Aim) (x : Aim) (bs : List Bool) (b : Bool) (i : ℕ) → i < min (length xs) (length bs)
     → IsJoined d old mid unit found all (drop i xs) (drop i bs) → IsJoined d old mid unit found all (get_or xs i x ∷ drop (suc i) xs) (get_or bs i b ∷ drop (suc i) bs)
 at_index d old mid unit found all xs x bs b i lt j =
     subst₂ (λ ys cs. IsJoined d old mid unit found all ys cs) (drop-cons xs i x (omega (arith, lt))) (drop-cons bs i b (omega (arith, lt))) j
 
-pub joined_index : (d : Design) (old mid new : List Node) (unit : Place) (found id : ExprId) (all : Made Formula) (xs : List Aim) (x : Aim) (bs : List Bool) (b : Bool) (i : ℕ) → i < min (length xs) (length bs)
+pub joined_index : (d : Context) (old mid new : List Node) (unit : Place) (found id : ExprId) (all : Made Formula) (xs : List Aim) (x : Aim) (bs : List Bool) (b : Bool) (i : ℕ) → i < min (length xs) (length bs)
     → IsJoined d old mid unit found all (drop i xs) (drop i bs) → MakesBit unit (register_literal d (formula_at (arena mid) found) (get_or xs i x).signal (get_or bs i b)) mid new (Ok id)
     → IsJoined d old new unit id all (drop (i + 1) xs) (drop (i + 1) bs)
 joined_index d old mid new unit found id all xs x bs b i lt j c =
     subst (λ n. IsJoined d old new unit id all (drop n xs) (drop n bs)) (sym (add-one i))
     (joined_next d old mid new unit found id all (get_or xs i x) (drop (suc i) xs) (get_or bs i b) (drop (suc i) bs) (at_index d old mid unit found all xs x bs b i lt j) c)
 
-pub stops_index : (d : Design) (old mid new : List Node) (unit : Place) (found : ExprId) (all : Made Formula) (xs : List Aim) (x : Aim) (bs : List Bool) (b : Bool) (i : ℕ) (f : SectionFault) → i < min (length xs) (length bs)
+pub stops_index : (d : Context) (old mid new : List Node) (unit : Place) (found : ExprId) (all : Made Formula) (xs : List Aim) (x : Aim) (bs : List Bool) (b : Bool) (i : ℕ) (f : SectionFault) → i < min (length xs) (length bs)
     → IsJoined d old mid unit found all (drop i xs) (drop i bs) → MakesBit unit (register_literal d (formula_at (arena mid) found) (get_or xs i x).signal (get_or bs i b)) mid new (Err f)
     → MakesBit unit all old new (Err f)
 stops_index d old mid new unit found all xs x bs b i f lt j c =

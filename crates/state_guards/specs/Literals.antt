@@ -7,7 +7,7 @@ use Rattle.bit_expr.specs.Arena.{arena}
 use Rattle.bit_expr.specs.Folding.{Made, ◌>>=◌}
 use Rattle.bit_expr.specs.Formulas.{Formula}
 use Rattle.abel_meaning.specs.CountedBlocks.{make_literal, register_literals}
-use Rattle.abel_meaning.specs.Designs.{Design}
+use Rattle.abel_meaning.specs.Designs.{Context}
 use Rattle.abel_meaning.specs.FormulaBits.{make_source}
 use Rattle.abel_meaning.specs.Sources.{source_of}
 use Rattle.set_expr.specs.declared.fault.SectionFault.{SectionFault}
@@ -21,19 +21,19 @@ abbrev pub MakesBit : Place → Made Formula → (old new : List Node) → Resul
 MakesBit p m old new r = BuildsNodes (part p m.nodes ∷ []) old new r × IfOk r (λ id. IsBit (arena new) id m.what)
 
 -- what the bare name of a signal reads
-abbrev pub bare_read : Design → (signal : ℕ) → Made Formula
+abbrev pub bare_read : Context → (signal : ℕ) → Made Formula
 bare_read d s = make_source (source_of d s None)
 
 -- the literal of one register, behind what was found
-abbrev pub register_literal : Design → (found : Formula) → (signal : ℕ) → (digit : Bool) → Made Formula
+abbrev pub register_literal : Context → (found : Formula) → (signal : ℕ) → (digit : Bool) → Made Formula
 register_literal d found s b = bare_read d s >>= λ f. make_literal found b f
 
 -- the literals of several
-abbrev pub literals : Design → (found : Formula) → (registers : List Aim) → (digits : List Bool) → Made Formula
+abbrev pub literals : Context → (found : Formula) → (registers : List Aim) → (digits : List Bool) → Made Formula
 literals d found xs bs = register_literals d found (signals_of xs) bs
 
 -- all literals but those of these registers and digits are joined
-pub record IsJoined (d : Design) (old now : List Node) (unit : Place) (found : ExprId) (all : Made Formula)
+pub record IsJoined (d : Context) (old now : List Node) (unit : Place) (found : ExprId) (all : Made Formula)
     (registers : List Aim) (digits : List Bool) : Type 0 where
   pub made : Made Formula
   pub bit : MakesBit unit made old now (Ok found)

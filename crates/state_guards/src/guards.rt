@@ -3,38 +3,35 @@
 ghost use Rattle.std.specs.Prelude.{true};
 ghost use Rattle.bit_expr.specs.Arena.{arena};
 ghost use Rattle.bit_expr.specs.Formulas.{Const};
-ghost use Rattle.abel_meaning.specs.Designs.{Design};
-ghost use Rattle.set_expr.specs.Answer.{IsDesignOf, Keeps};
-ghost use Rattle.expr_bits.specs.Placed.{ArePlaced};
+ghost use Rattle.abel_meaning.specs.Designs.{Context};
+ghost use Rattle.set_expr.specs.Answer.{IsContextOf, Keeps};
 ghost use Rattle.state_guards.specs.Literals.{MakesBit, literals};
 ghost use Rattle.state_guards.specs.StateGuards.{MakesGuard};
 
 use crate::digits::state_digits;
 use crate::literals::with_register;
-use abel_tree::Names;
 use bit_expr::{ExprId, Exprs};
 use pld_base::Place;
 use pld_device::Device;
 use section_targets::Aim;
-use set_expr::SectionFault;
+use set_expr::{Scope, SectionFault};
 use std::alloc::Global;
 
 /// The bit that is 1 where each register reads its digit, from the left.
 fn registers_guard<D: Device>(
-    names: &Names,
+    scope: &Scope<'_>,
     registers: &[Aim],
     digits: &[bool],
     unit: Place,
     exprs: &mut Exprs,
 ) -> Result<ExprId, SectionFault>
-    requires { ArePlaced names.now }
-    ensures { (d : Design) → IsDesignOf D.table names.now d → MakesBit unit (literals d (Const true) registers.now digits.now) exprs.old exprs.new result }
+    ensures { (d : Context) → IsContextOf D.table scope.now d → MakesBit unit (literals d (Const true) registers.now digits.now) exprs.old exprs.new result }
 {
     let mut found = ExprId(1);
     let count = registers.len().min(digits.len());
     for index in 0..count {
         let signal = registers[index].signal;
-        found = with_register::<D>(names, found, signal, digits[index], unit, exprs)?;
+        found = with_register::<D>(scope, found, signal, digits[index], unit, exprs)?;
     }
     Ok(found)
 }
@@ -46,16 +43,15 @@ fn registers_guard<D: Device>(
 /// ABEL-HDL Reference Manual, state diagrams.
 pub fn state_guard<D: Device>(
     alloc: Global,
-    names: &Names,
+    scope: &Scope<'_>,
     registers: &[Aim],
     number: u32,
     unit: Place,
     exprs: &mut Exprs,
 ) -> Result<ExprId, SectionFault>
-    requires placed { ArePlaced names.now }
     ensures keeps { Keeps (arena exprs.old) (arena exprs.new) }
-    ensures makes { MakesGuard D.table names.now registers.now number unit exprs.old exprs.new result }
+    ensures makes { MakesGuard D.table scope.now registers.now number unit exprs.old exprs.new result }
 {
     let digits = state_digits(alloc, number, registers.len())?;
-    registers_guard::<D>(names, registers, digits.as_slice(), unit, exprs)
+    registers_guard::<D>(scope, registers, digits.as_slice(), unit, exprs)
 }

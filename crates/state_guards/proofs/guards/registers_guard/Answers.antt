@@ -8,8 +8,8 @@ use Rattle.state_guards.proofs.guards.registers_guard.Goals as goal
 pub loop-index-init : goal.loop-index-init
 loop-index-init g c = λ d is. joined_start d c.args.exprs.now c.args.unit _ c.args.registers.now c.args.digits.now refl
 
-pub with_register-requires-clause-found : goal.with_register-requires-clause-found
-with_register-requires-clause-found g c = (c.loop-index.invariant (some_design g.D.Device.table c.args.names.now) (is_some_design g.D.Device.table c.args.names.now)).bit.1.0
+pub with_register-requires : goal.with_register-requires
+with_register-requires g c = record { found = (c.loop-index.invariant (some_design g.D.Device.table c.args.scope.now) (is_some_design g.D.Device.table c.args.scope.now)).bit.1.0 }
 
 pub loop-index-preserved : goal.loop-index-preserved
 loop-index-preserved g c = λ d is.

@@ -14,8 +14,8 @@ use Rattle.state_guards.proofs.guards.state_guard.Goals as goal
 
 pub returns-clause-keeps : goal.returns-clause-keeps
 returns-clause-keeps g c =
-    let d = some_design g.D.Device.table c.args.names.now in
-    bit_keeps c.args.unit _ _ c.registers_guard.result _ (c.registers_guard.ensures d (is_some_design g.D.Device.table c.args.names.now))
+    let d = some_design g.D.Device.table c.args.scope.now in
+    bit_keeps c.args.unit _ _ c.registers_guard.result _ (c.registers_guard.ensures d (is_some_design g.D.Device.table c.args.scope.now))
 
 pub returns-clause-makes : goal.returns-clause-makes
 returns-clause-makes g c = λ d is.

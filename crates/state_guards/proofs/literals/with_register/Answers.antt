@@ -11,12 +11,12 @@ use Rattle.state_guards.proofs.literals.with_register.Goals as goal
 
 pub with_digit-requires-clause-found : goal.with_digit-requires-clause-found
 with_digit-requires-clause-found g c =
-    let d = some_design g.D.Device.table c.args.names.now in
-    let b = c.in_ok-bit.ensures d (is_some_design g.D.Device.table c.args.names.now) in
+    let d = some_design g.D.Device.table c.args.scope.now in
+    let b = c.in_ok-bit.ensures d (is_some_design g.D.Device.table c.args.scope.now) in
     kept_inside _ _ c.args.found (bit_keeps c.args.unit _ _ (Ok c.in_ok-bit.bit) (bare_read d c.args.signal) b) c.requires.found
 
 pub with_digit-requires-clause-bit : goal.with_digit-requires-clause-bit
-with_digit-requires-clause-bit g c = (c.in_ok-bit.ensures (some_design g.D.Device.table c.args.names.now) (is_some_design g.D.Device.table c.args.names.now)).1.0
+with_digit-requires-clause-bit g c = (c.in_ok-bit.ensures (some_design g.D.Device.table c.args.scope.now) (is_some_design g.D.Device.table c.args.scope.now)).1.0
 
 pub returns : goal.returns
 returns g c = λ d is.
