@@ -8,7 +8,7 @@ use Rattle.abel_tree.specs.declared.words.Extension.{Extension}
 use Rattle.abel_tree.specs.Assigned.{target_extension, is_clocked}
 use Rattle.abel_tree.specs.Tree.{Statement, AnAssign, AWhen, AGroup, ADontCare, Otherwise, NoElse, AnElse, Statements, NoStatement, MoreStatements, statements_of, Branch, AGoal, AnIf, ACase, OtherBranch, NoBranch, ABranch, Choices, NoChoice, MoreChoices, StateTree}
 use Rattle.abel_meaning.specs.Contributions.{Evaluator, condition, Gives, One, Contribution, Guard, contribution}
-use Rattle.abel_meaning.specs.Designs.{Design}
+use Rattle.abel_meaning.specs.Designs.{Context}
 use Rattle.abel_meaning.specs.Diagrams.{goal_gives, with_statements, branch_gives, other_gives, choices_give, branches_give, is_state, in_state, state_gives, states_give, is_other, once, first_of_each, state_matches, other_matches}
 use Rattle.abel_meaning.specs.Statements.{sign_gives, given_each, statement_gives, else_gives, statements_give}
 use Rattle.abel_meaning.specs.Tables.{match_of}
@@ -18,7 +18,7 @@ use Rattle.state_matches.specs.Matches.{match_beside, matches_beside, other_firs
 
 -- ---- contributions that differ by block and don't-care alone
 
-module _ {W : Type 0} (d : Design) (g : Guard W) where
+module _ {W : Type 0} (d : Context) (g : Guard W) where
   abbrev regarded_all : List (Contribution W) → List (Contribution W)
   regarded_all cs = map (regarded d g) cs
 
@@ -55,7 +55,7 @@ module _ {W : Type 0} (d : Design) (g : Guard W) where
 
 -- ---- what statements, transitions and states give
 
-module _ {W : Type 0} (ev : Evaluator W) (d : Design) where
+module _ {W : Type 0} (ev : Evaluator W) (d : Context) where
   module _ (g h : Guard W) where
     -- a guard whose condition is this one
     abbrev under : Guard W → W → Guard W

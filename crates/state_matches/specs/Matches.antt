@@ -8,7 +8,7 @@ use Rattle.bit_expr.specs.declared.node.Node.{Node}
 use Rattle.bit_expr.specs.Arena.{arena, formula_at}
 use Rattle.abel_meaning.specs.Contributions.{is_dontcare}
 use Rattle.abel_meaning.specs.Contributions as meant
-use Rattle.abel_meaning.specs.Designs.{Design, name_at}
+use Rattle.abel_meaning.specs.Designs.{Context, name_at}
 use Rattle.abel_meaning.specs.Diagrams.{first_of_each, is_other}
 use Rattle.set_expr.specs.declared.contributions.Contribution.{Contribution}
 use Rattle.set_expr.specs.declared.fault.SectionFault.{SectionFault}
@@ -32,7 +32,7 @@ abbrev pub other_firsts : {W : Type 0} → (registers : List ℕ) → List (mean
 other_firsts ss cs = first_of_each [] (filter (is_other ss) cs)
 
 -- a contribution as a block under this guard gives it
-abbrev pub regarded : {W : Type 0} → Design → meant.Guard W → meant.Contribution W → meant.Contribution W
+abbrev pub regarded : {W : Type 0} → Context → meant.Guard W → meant.Contribution W → meant.Contribution W
 regarded d g c = record c { block = g.block; dontcare = is_dontcare g (name_at d c.signal) g.block }
 
 -- so many times the same place
