@@ -8,7 +8,7 @@ use Rattle.bit_expr.specs.Arena.{arena, formula_at}
 use Rattle.bit_expr.specs.Formulas.{Formula}
 use Rattle.abel_tree.specs.Tree.{StateTree}
 use Rattle.abel_meaning.specs.Contributions as meant
-use Rattle.abel_meaning.specs.Designs.{Design}
+use Rattle.abel_meaning.specs.Designs.{Context}
 use Rattle.abel_meaning.specs.Diagrams.{in_state, other_matches, registers_given, state_gives, state_matches, states_give}
 use Rattle.abel_meaning.specs.FormulaBits.{formulas}
 use Rattle.abel_meaning.specs.Tables.{no_matches}
@@ -37,17 +37,17 @@ use Rattle.diagram_contributions.proofs.StateBits.{states_counted}
 -- ---- other signals
 
 -- what states give under a guard
-abbrev gives_of : Design → meant.Guard Formula → List Aim → List StateTree → List (meant.Contribution Formula)
+abbrev gives_of : Context → meant.Guard Formula → List Aim → List StateTree → List (meant.Contribution Formula)
 gives_of d h xs ss = states_give (formulas d) d h (signals_of xs) ss
 
 -- the matches of other signals, without nodes
-abbrev matches_work : Design → meant.Guard Formula → List Aim → List StateTree → Work
+abbrev matches_work : Context → meant.Guard Formula → List Aim → List StateTree → Work
 matches_work d h xs ss =
     given_freely (other_matches (formulas d) d h (signals_of xs) ss (other_firsts (signals_of xs) (gives_of d h xs ss)))
     (other_places (signals_of xs) [] (length ss) (gives_of d h xs ss) (states_places d xs ss))
 
 -- what these give together by these units
-abbrev both_work : Design → List Aim → List StateTree → List CountedUnit → (states matches : List (meant.Contribution Formula)) → Work
+abbrev both_work : Context → List Aim → List StateTree → List CountedUnit → (states matches : List (meant.Contribution Formula)) → Work
 both_work d xs ss us cs ms =
     record {
       units = us;
@@ -55,19 +55,19 @@ both_work d xs ss us cs ms =
       places = states_places d xs ss ++ other_places (signals_of xs) [] (length ss) cs (states_places d xs ss);
     }
 
-others_split : (d : Design) (h : meant.Guard Formula) (xs : List Aim) (all : List Manner) (ss : List StateTree) → before (states_work d h xs all [] ss) (matches_work d h xs ss) ≡ others_work d h xs all ss
+others_split : (d : Context) (h : meant.Guard Formula) (xs : List Aim) (all : List Manner) (ss : List StateTree) → before (states_work d h xs all [] ss) (matches_work d h xs ss) ≡ others_work d h xs all ss
 others_split d h xs all ss =
     ap (λ us. both_work d xs ss us (gives_of d h xs ss) (other_matches (formulas d) d h (signals_of xs) ss (other_firsts (signals_of xs) (gives_of d h xs ss))))
     (append-nil (units_of_states d (signals_of xs) all [] ss))
 
 -- where the states stop
-pub others_stop : (d : Design) (h : meant.Guard Formula) (xs : List Aim) (all : List Manner) (ss : List StateTree) (old new : Contributions) (f : SectionFault)
+pub others_stop : (d : Context) (h : meant.Guard Formula) (xs : List Aim) (all : List Manner) (ss : List StateTree) (old new : Contributions) (f : SectionFault)
     → DoesWork {R = List ExprId} (states_work d h xs all [] ss) old new (Err f) → DoesWork {R = Unit} (others_work d h xs all ss) old new (Err f)
 others_stop d h xs all ss old new f s =
     subst (λ (w : Work). DoesWork {R = Unit} w old new (Err f)) (others_split d h xs all ss) (step_stops (states_work d h xs all [] ss) (matches_work d h xs ss) old new f s)
 
 -- the states are what stands behind the start of the list
-behind_start : (d : Design) (h : meant.Guard Formula) (xs : List Aim) (all : List Manner) (ss : List StateTree) (old mid : Contributions) → IsBuilt (states_work d h xs all [] ss).units (gives_of d h xs ss) (states_places d xs ss) old mid
+behind_start : (d : Context) (h : meant.Guard Formula) (xs : List Aim) (all : List Manner) (ss : List StateTree) (old mid : Contributions) → IsBuilt (states_work d h xs all [] ss).units (gives_of d h xs ss) (states_places d xs ss) old mid
     → (map (view_contribution (arena mid.exprs)) (drop (length old.list) mid.list) ≡ gives_of d h xs ss) × (map (λ (c : Contribution). c.place) (drop (length old.list) mid.list) ≡ states_places d xs ss)
 behind_start d h xs all ss old mid b =
     let more = b.made.more in
@@ -78,7 +78,7 @@ behind_start d h xs all ss old mid b =
     )
 
 -- the matches behind the states
-pub others_built : (d : Design) (h : meant.Guard Formula) (xs : List Aim) (all : List Manner) (ss : List StateTree) (ids : List ExprId) (ns ms : List Node) (list mids more : List Contribution) (r : Result Unit SectionFault)
+pub others_built : (d : Context) (h : meant.Guard Formula) (xs : List Aim) (all : List Manner) (ss : List StateTree) (ids : List ExprId) (ns ms : List Node) (list mids more : List Contribution) (r : Result Unit SectionFault)
     → IsBuilt (states_work d h xs all [] ss).units (gives_of d h xs ss) (states_places d xs ss) (at ns list) (at ms mids)
     → AreBits (arena ms) ids (state_bits d xs ss) → GivesMatches xs ids (length list) mids more r
     → DoesWork (others_work d h xs all ss) (at ns list) (at ms more) r
@@ -97,15 +97,15 @@ others_built d h xs all ss ids ns ms list mids more r b bits g =
 -- ---- registers
 
 -- the guard's own bit doesn't count
-states_any : (d : Design) (fs hs : List Formula) (g : Guard) (xs : List Aim) (ss : List StateTree) → gives_of d (view_guard fs g) xs ss ≡ gives_of d (view_guard hs g) xs ss
+states_any : (d : Context) (fs hs : List Formula) (g : Guard) (xs : List Aim) (ss : List StateTree) → gives_of d (view_guard fs g) xs ss ≡ gives_of d (view_guard hs g) xs ss
 states_any d fs hs g xs [] = refl
 states_any d fs hs g xs (s ∷ ss) = ap (λ cs. state_gives (formulas d) d (signals_of xs) s (in_state (formulas d) d (view_guard fs g) (signals_of xs) s) ++ cs) (states_any d fs hs g xs ss)
 
-matches_any : (d : Design) (fs hs : List Formula) (g : Guard) (ys : List ℕ) (ss : List StateTree) (cs : List (meant.Contribution Formula)) → other_matches (formulas d) d (view_guard fs g) ys ss cs ≡ other_matches (formulas d) d (view_guard hs g) ys ss cs
+matches_any : (d : Context) (fs hs : List Formula) (g : Guard) (ys : List ℕ) (ss : List StateTree) (cs : List (meant.Contribution Formula)) → other_matches (formulas d) d (view_guard fs g) ys ss cs ≡ other_matches (formulas d) d (view_guard hs g) ys ss cs
 matches_any d fs hs g ys ss [] = refl
 matches_any d fs hs g ys ss (c ∷ cs) = ap (λ ms. state_matches (formulas d) d (view_guard fs g) ys ss c ++ ms) (matches_any d fs hs g ys ss cs)
 
-pub others_any : (d : Design) (fs hs : List Formula) (g : Guard) (xs : List Aim) (all : List Manner) (ss : List StateTree) → others_work d (view_guard fs g) xs all ss ≡ others_work d (view_guard hs g) xs all ss
+pub others_any : (d : Context) (fs hs : List Formula) (g : Guard) (xs : List Aim) (all : List Manner) (ss : List StateTree) → others_work d (view_guard fs g) xs all ss ≡ others_work d (view_guard hs g) xs all ss
 others_any d fs hs g xs all ss =
     let sig = signals_of xs in
     let us = units_of_states d sig all [] ss in
@@ -114,15 +114,15 @@ others_any d fs hs g xs all ss =
     ∙ ap (both_work d xs ss us cs) (matches_any d fs hs g sig ss (other_firsts sig cs))
 
 -- no match for each register
-abbrev header_work : Design → meant.Guard Formula → List Aim → Work
+abbrev header_work : Context → meant.Guard Formula → List Aim → Work
 header_work d h xs = given_freely (no_matches (formulas d) d h false true (map Some (signals_of xs))) (places_of xs)
 
 -- what a diagram gives, at these places
-abbrev placed_work : Design → meant.Guard Formula → List Aim → List Manner → List StateTree → List Place → Work
+abbrev placed_work : Context → meant.Guard Formula → List Aim → List Manner → List StateTree → List Place → Work
 placed_work d h xs all ss ps =
     record { units = units_of_states d (signals_of xs) all [] ss; gives = registers_given (formulas d) d h (signals_of xs) ss; places = ps }
 
-registers_split : (d : Design) (h : meant.Guard Formula) (xs : List Aim) (all : List Manner) (ss : List StateTree) → before (header_work d h xs) (others_work d h xs all ss) ≡ registers_work d h xs all ss
+registers_split : (d : Context) (h : meant.Guard Formula) (xs : List Aim) (all : List Manner) (ss : List StateTree) → before (header_work d h xs) (others_work d h xs all ss) ≡ registers_work d h xs all ss
 registers_split d h xs all ss =
     let sig = signals_of xs in
     let ps = states_places d xs ss in
@@ -143,20 +143,20 @@ pub header_aims : (xs : List Aim) → tables.some_aims (map Some xs) ≡ xs
 header_aims [] = refl
 header_aims (x ∷ xs) = ap (λ ys. x ∷ ys) (header_aims xs)
 
-header_there : (d : Design) (h : meant.Guard Formula) (xs : List Aim) (outputs : List (Option Aim)) (old new : Contributions) (r : Result Unit SectionFault) → outputs ≡ map Some xs
+header_there : (d : Context) (h : meant.Guard Formula) (xs : List Aim) (outputs : List (Option Aim)) (old new : Contributions) (r : Result Unit SectionFault) → outputs ≡ map Some xs
     → Builds [] (no_matches (formulas d) d h false true (header.signals_of outputs)) (tables.places_of (tables.some_aims outputs)) old new r → DoesWork (header_work d h xs) old new r
 header_there d h xs outputs old new r e b =
     subst (λ ps. Builds [] (no_matches (formulas d) d h false true (map Some (signals_of xs))) ps old new r) (ap (λ ys. tables.places_of (tables.some_aims ys)) e ∙ header_places xs)
     (subst (λ ss. Builds [] (no_matches (formulas d) d h false true ss) (tables.places_of (tables.some_aims outputs)) old new r) (ap header.signals_of e ∙ header_signals xs) b)
 
 -- where they stop
-pub registers_stop : (d : Design) (h : meant.Guard Formula) (xs : List Aim) (outputs : List (Option Aim)) (all : List Manner) (ss : List StateTree) (old new : Contributions) (f : SectionFault) → outputs ≡ map Some xs
+pub registers_stop : (d : Context) (h : meant.Guard Formula) (xs : List Aim) (outputs : List (Option Aim)) (all : List Manner) (ss : List StateTree) (old new : Contributions) (f : SectionFault) → outputs ≡ map Some xs
     → Builds {R = Unit} [] (no_matches (formulas d) d h false true (header.signals_of outputs)) (tables.places_of (tables.some_aims outputs)) old new (Err f) → DoesWork {R = Unit} (registers_work d h xs all ss) old new (Err f)
 registers_stop d h xs outputs all ss old new f e b =
     subst (λ (w : Work). DoesWork {R = Unit} w old new (Err f)) (registers_split d h xs all ss)
     (step_stops (header_work d h xs) (others_work d h xs all ss) old new f (header_there d h xs outputs old new (Err f) e b))
 
-pub registers_then : (d : Design) (h : meant.Guard Formula) (xs : List Aim) (outputs : List (Option Aim)) (all : List Manner) (ss : List StateTree) (old mid new : Contributions) (r : Result Unit SectionFault) → outputs ≡ map Some xs
+pub registers_then : (d : Context) (h : meant.Guard Formula) (xs : List Aim) (outputs : List (Option Aim)) (all : List Manner) (ss : List StateTree) (old mid new : Contributions) (r : Result Unit SectionFault) → outputs ≡ map Some xs
     → Builds {R = Unit} [] (no_matches (formulas d) d h false true (header.signals_of outputs)) (tables.places_of (tables.some_aims outputs)) old mid (Ok tt) → DoesWork (others_work d h xs all ss) mid new r
     → DoesWork (registers_work d h xs all ss) old new r
 registers_then d h xs outputs all ss old mid new r e b w =

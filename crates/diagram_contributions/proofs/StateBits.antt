@@ -6,7 +6,7 @@ use Rattle.bit_expr.specs.declared.node.ExprId.{ExprId}
 use Rattle.bit_expr.specs.Arena.{formula_at}
 use Rattle.bit_expr.specs.Formulas.{Formula}
 use Rattle.abel_tree.specs.Tree.{StateTree}
-use Rattle.abel_meaning.specs.Designs.{Design}
+use Rattle.abel_meaning.specs.Designs.{Context}
 use Rattle.set_expr.specs.Answer.{Keeps}
 use Rattle.section_targets.specs.declared.aim.Aim.{Aim}
 use Rattle.section_targets.specs.Building.{IsBit, AreBits}
@@ -36,12 +36,12 @@ bits_more fs ids gs id g b o = (
 )
 
 -- the bit of one state more
-pub states_more : (d : Design) (xs : List Aim) (old new : List Formula) (ids : List ExprId) (id : ExprId) (ss ts : List StateTree) (s : StateTree) → ts ≡ ss ++ s ∷ [] → Keeps old new
+pub states_more : (d : Context) (xs : List Aim) (old new : List Formula) (ids : List ExprId) (id : ExprId) (ss ts : List StateTree) (s : StateTree) → ts ≡ ss ++ s ∷ [] → Keeps old new
     → AreBits old ids (state_bits d xs ss) → IsBit new id (state_bit d xs s) → AreBits new (ids ++ id ∷ []) (state_bits d xs ts)
 states_more d xs old new ids id ss ts s e k b o =
     subst (AreBits new (ids ++ id ∷ [])) (sym (ap (state_bits d xs) e ∙ map-append (λ (x : StateTree). state_bit d xs x) ss (s ∷ [])))
     (bits_more new ids (state_bits d xs ss) id (state_bit d xs s) (bits_kept old new ids (state_bits d xs ss) k b) o)
 
 -- there is a bit for each state
-pub states_counted : (d : Design) (xs : List Aim) (fs : List Formula) (ids : List ExprId) (ss : List StateTree) → AreBits fs ids (state_bits d xs ss) → length ids ≡ length ss
+pub states_counted : (d : Context) (xs : List Aim) (fs : List Formula) (ids : List ExprId) (ss : List StateTree) → AreBits fs ids (state_bits d xs ss) → length ids ≡ length ss
 states_counted d xs fs ids ss b = sym (length-map ids (formula_at fs)) ∙ ap length b.1 ∙ length-map ss (λ (s : StateTree). state_bit d xs s)

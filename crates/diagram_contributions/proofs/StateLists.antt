@@ -9,7 +9,7 @@ use Rattle.abel_tree.specs.declared.diagrams.State.{State}
 use Rattle.abel_tree.specs.Tree.{StateTree}
 use Rattle.abel_tree.specs.View.{view_state}
 use Rattle.abel_meaning.specs.Contributions as meant
-use Rattle.abel_meaning.specs.Designs.{Design}
+use Rattle.abel_meaning.specs.Designs.{Context}
 use Rattle.set_expr.proofs.FoundMembers.{front_more}
 use Rattle.set_expr.specs.declared.contributions.Contribution.{Contribution}
 use Rattle.set_expr.specs.declared.contributions.Contributions.{Contributions}
@@ -30,7 +30,7 @@ use Rattle.diagram_contributions.specs.DiagramWorks.{state_work, states_work}
 use Rattle.diagram_contributions.proofs.StateWorks.{sized}
 
 -- the states from one on
-states_next : (d : Design) (h : meant.Guard Formula) (xs : List Aim) (all : List Manner) (listed : List ℕ) (i : ℕ) (ss : List StateTree) (s : StateTree) → i < length ss
+states_next : (d : Context) (h : meant.Guard Formula) (xs : List Aim) (all : List Manner) (listed : List ℕ) (i : ℕ) (ss : List StateTree) (s : StateTree) → i < length ss
     → states_work d h xs all listed (drop i ss)
     ≡ before (state_work d h xs all listed (get_or ss i s)) (states_work d h xs (all ++ state_manners d (get_or ss i s)) (listed_after d (length (signals_of xs)) listed (get_or ss i s)) (drop (i + 1) ss))
 states_next d h xs all listed i ss s lt =
@@ -42,16 +42,16 @@ abbrev pub front : ℕ → List State → List StateTree
 front i states = map view_state (take i states)
 
 -- what is left from a state of the code on, behind those before it
-abbrev pub rest_work : Design → meant.Guard Formula → List Aim → List Manner → (i : ℕ) → List State → Work
+abbrev pub rest_work : Context → meant.Guard Formula → List Aim → List Manner → (i : ℕ) → List State → Work
 rest_work d h xs all i states =
     states_work d h xs (all ++ states_manners d (front i states)) (listed_behind d (length (signals_of xs)) [] (front i states)) (drop i (map view_state states))
 
 -- the state of the code at a place, behind those before it
-abbrev pub here_work : Design → meant.Guard Formula → List Aim → List Manner → (i : ℕ) → List State → StateTree → Work
+abbrev pub here_work : Context → meant.Guard Formula → List Aim → List Manner → (i : ℕ) → List State → StateTree → Work
 here_work d h xs all i states s =
     state_work d h xs (all ++ states_manners d (front i states)) (listed_behind d (length (signals_of xs)) [] (front i states)) s
 
-pub state_next : (d : Design) (h : meant.Guard Formula) (xs : List Aim) (all : List Manner) (i : ℕ) (states : List State) (x : State) → i < length states → x ≡ get_or states i x
+pub state_next : (d : Context) (h : meant.Guard Formula) (xs : List Aim) (all : List Manner) (i : ℕ) (states : List State) (x : State) → i < length states → x ≡ get_or states i x
     → rest_work d h xs all i states ≡ before (here_work d h xs all i states (view_state x)) (rest_work d h xs all (i + 1) states)
 state_next d h xs all i states x lt e =
     let ms = all ++ states_manners d (front i states) in
@@ -67,20 +67,20 @@ state_next d h xs all i states x lt e =
     ∙ ap (λ ks. before one (states_work d h xs (all ++ states_manners d (front (i + 1) states)) ks (drop (i + 1) ss)))
     (sym (ap (listed_behind d (length (signals_of xs)) []) more ∙ listed_more d (length (signals_of xs)) [] (front i states) s))
 
-pub states_left : (d : Design) (h : meant.Guard Formula) (xs : List Aim) (all : List Manner) (i : ℕ) (states : List State) → length states ≤ i → rest_work d h xs all i states ≡ nothing
+pub states_left : (d : Context) (h : meant.Guard Formula) (xs : List Aim) (all : List Manner) (i : ℕ) (states : List State) → length states ≤ i → rest_work d h xs all i states ≡ nothing
 states_left d h xs all i states le =
     ap (states_work d h xs (all ++ states_manners d (front i states)) (listed_behind d (length (signals_of xs)) [] (front i states)))
     (drop_all i (map view_state states) (omega (arith, le, length-map states view_state)))
 
 -- ---- so many states are built
 
-state_here : (d : Design) (h : meant.Guard Formula) (xs : List Aim) (all : List Manner) (i : ℕ) (states : List State) (s : StateTree) (listed : List ℕ) (old new : Contributions) (r : Result ExprId SectionFault)
+state_here : (d : Context) (h : meant.Guard Formula) (xs : List Aim) (all : List Manner) (i : ℕ) (states : List State) (s : StateTree) (listed : List ℕ) (old new : Contributions) (r : Result ExprId SectionFault)
     → listed ≡ listed_behind d (length xs) [] (front i states) → DoesWork (state_work d h xs (all ++ states_manners d (front i states)) listed s) old new r → DoesWork (here_work d h xs all i states s) old new r
 state_here d h xs all i states s listed old new r e w =
     subst (λ ls. DoesWork (state_work d h xs (all ++ states_manners d (front i states)) ls s) old new r) (e ∙ ap (λ n. listed_behind d n [] (front i states)) (sized xs)) w
 
 -- one more is built
-pub states_begun : (d : Design) (h : meant.Guard Formula) (xs : List Aim) (all : List Manner) (i : ℕ) (states : List State) (x : State) (listed : List ℕ) (old mid new : Contributions) (id : ExprId) → i < length states → x ≡ get_or states i x
+pub states_begun : (d : Context) (h : meant.Guard Formula) (xs : List Aim) (all : List Manner) (i : ℕ) (states : List State) (x : State) (listed : List ℕ) (old mid new : Contributions) (id : ExprId) → i < length states → x ≡ get_or states i x
     → listed ≡ listed_behind d (length xs) [] (front i states) → IsBegun (states_work d h xs all [] (map view_state states)) (rest_work d h xs all i states) old mid
     → DoesWork (state_work d h xs (all ++ states_manners d (front i states)) listed (view_state x)) mid new (Ok id)
     → IsBegun (states_work d h xs all [] (map view_state states)) (rest_work d h xs all (i + 1) states) old new
@@ -90,7 +90,7 @@ states_begun d h xs all i states x listed old mid new id lt e k b w =
     (subst (λ v. IsBegun whole v old mid) (state_next d h xs all i states x lt e) b) (state_here d h xs all i states (view_state x) listed mid new (Ok id) k w)
 
 -- one stops
-pub states_stop : (d : Design) (h : meant.Guard Formula) (xs : List Aim) (all : List Manner) (i : ℕ) (states : List State) (x : State) (listed : List ℕ) (old mid new : Contributions) (f : SectionFault) → i < length states → x ≡ get_or states i x
+pub states_stop : (d : Context) (h : meant.Guard Formula) (xs : List Aim) (all : List Manner) (i : ℕ) (states : List State) (x : State) (listed : List ℕ) (old mid new : Contributions) (f : SectionFault) → i < length states → x ≡ get_or states i x
     → listed ≡ listed_behind d (length xs) [] (front i states) → IsBegun (states_work d h xs all [] (map view_state states)) (rest_work d h xs all i states) old mid
     → DoesWork {R = ExprId} (state_work d h xs (all ++ states_manners d (front i states)) listed (view_state x)) mid new (Err f)
     → DoesWork {R = List ExprId} (states_work d h xs all [] (map view_state states)) old new (Err f)

@@ -10,7 +10,7 @@ use Rattle.bit_expr.specs.Formulas.{Formula}
 use Rattle.abel_tree.specs.FirstRefusal.{first_refusal}
 use Rattle.abel_tree.specs.Tree.{StateTree}
 use Rattle.abel_meaning.specs.Contributions as meant
-use Rattle.abel_meaning.specs.Designs.{Design}
+use Rattle.abel_meaning.specs.Designs.{Context}
 use Rattle.abel_meaning.specs.Diagrams.{in_state, state_gives}
 use Rattle.abel_meaning.specs.FormulaBits.{formulas}
 use Rattle.set_expr.specs.declared.contributions.Contribution.{Contribution}
@@ -39,13 +39,13 @@ use Rattle.diagram_contributions.specs.DiagramWorks.{number_work, state_bit, sta
 abbrev bit_work : Place → (nodes : ℕ) → Work
 bit_work p n = record { units = part p n ∷ []; gives = []; places = [] }
 
-pub number_stops : (d : Design) (h : meant.Guard Formula) (xs : List Aim) (all : List Manner) (n : ℕ) (s : StateTree) (old new : Contributions) (f : SectionFault)
+pub number_stops : (d : Context) (h : meant.Guard Formula) (xs : List Aim) (all : List Manner) (n : ℕ) (s : StateTree) (old new : Contributions) (f : SectionFault)
     → StopsWith (part s.place (number_guard d (signals_of xs) n).nodes ∷ []) [] [] old new f
     → DoesWork {R = ExprId} (number_work d h xs all n s) old new (Err f)
 number_stops d h xs all n s old new f t =
     let m = number_guard d (signals_of xs) n in step_stops (bit_work s.place m.nodes) (within_work d (where_holds h m.what) xs all s) old new f t
 
-pub number_then : (d : Design) (h k : meant.Guard Formula) (xs : List Aim) (all : List Manner) (n : ℕ) (s : StateTree) (old mid new : Contributions) (r : Result ExprId SectionFault)
+pub number_then : (d : Context) (h k : meant.Guard Formula) (xs : List Aim) (all : List Manner) (n : ℕ) (s : StateTree) (old mid new : Contributions) (r : Result ExprId SectionFault)
     → k ≡ where_holds h (number_guard d (signals_of xs) n).what
     → IsBuilt (part s.place (number_guard d (signals_of xs) n).nodes ∷ []) [] [] old mid → DoesWork (within_work d k xs all s) mid new r
     → DoesWork (number_work d h xs all n s) old new r
@@ -61,7 +61,7 @@ pub sized : (xs : List Aim) → length xs ≡ length (signals_of xs)
 sized xs = sym (length-map xs (λ (x : Aim). x.signal))
 
 -- a refused state
-pub state_stops : (d : Design) (h : meant.Guard Formula) (xs : List Aim) (all : List Manner) (listed : List ℕ) (s : StateTree) (x y : SectionFault) (ns : List Node) (list : List Contribution)
+pub state_stops : (d : Context) (h : meant.Guard Formula) (xs : List Aim) (all : List Manner) (listed : List ℕ) (s : StateTree) (x y : SectionFault) (ns : List Node) (list : List Contribution)
     → Some x ≡ first_refusal section_order (state_refused d (length xs) listed s) → stop_of y ≡ AtRefusal
     → DoesWork {R = ExprId} (state_work d h xs all listed s) (at ns list) (at ns list) (Err y)
 state_stops d h xs all listed s x y ns list e stop =
@@ -76,11 +76,11 @@ state_stops d h xs all listed s x y ns list e stop =
     )
 
 -- what a state gives where this holds, by these units
-abbrev unit_work : Design → meant.Guard Formula → List Aim → StateTree → List CountedUnit → (holds : Formula) → Work
+abbrev unit_work : Context → meant.Guard Formula → List Aim → StateTree → List CountedUnit → (holds : Formula) → Work
 unit_work d h xs s us f = record { units = us; gives = state_gives (formulas d) d (signals_of xs) s (where_holds h f); places = state_places d xs s }
 
 -- a state that isn't refused, by the law of its bit
-pub state_there : (d : Design) (h : meant.Guard Formula) (xs : List Aim) (all : List Manner) (listed : List ℕ) (n : ℕ) (s : StateTree)
+pub state_there : (d : Context) (h : meant.Guard Formula) (xs : List Aim) (all : List Manner) (listed : List ℕ) (n : ℕ) (s : StateTree)
     → (number_guard d (signals_of xs) (state_number d s.value)).what ≡ state_bit d xs s
     → state_refused d (length xs) listed s ≡ [] → n ≡ state_number d s.value → number_work d h xs all n s ≡ state_work d h xs all listed s
 state_there d h xs all listed n s law clear e =

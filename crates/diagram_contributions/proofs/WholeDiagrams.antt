@@ -8,7 +8,7 @@ use Rattle.abel_tree.specs.FirstRefusal.{first_refusal}
 use Rattle.abel_tree.specs.Tree.{Tree}
 use Rattle.abel_tree.specs.View.{view, view_state}
 use Rattle.abel_meaning.specs.Contributions as meant
-use Rattle.abel_meaning.specs.Designs.{Design}
+use Rattle.abel_meaning.specs.Designs.{Context}
 use Rattle.abel_meaning.specs.Diagrams.{registers_given}
 use Rattle.abel_meaning.specs.FormulaBits.{formulas}
 use Rattle.abel_meaning.specs.Targets.{some_signals, targets_of}
@@ -50,10 +50,10 @@ some_positions : (xs : List Aim) → some_signals (positions_of xs) ≡ signals_
 some_positions [] = refl
 some_positions (x ∷ xs) = ap (λ ss. x.signal ∷ ss) (some_positions xs)
 
-register_signals : (d : Design) (t : Tree) → (target_member d t).refusals ≡ [] → some_signals (targets_of (term_of d.known t)) ≡ signals_of (target_member d t).aims
+register_signals : (d : Context) (t : Tree) → (target_member d t).refusals ≡ [] → some_signals (targets_of (term_of d.known t)) ≡ signals_of (target_member d t).aims
 register_signals d t e = ap some_signals (member_positions d t e) ∙ some_positions (target_member d t).aims
 
-pub diagram_built : (d : Design) (all : List Manner) (fs : List Formula) (g : Guard) (x : Diagram) (xs : List Aim) (old new : Contributions) (r : Result Unit SectionFault)
+pub diagram_built : (d : Context) (all : List Manner) (fs : List Formula) (g : Guard) (x : Diagram) (xs : List Aim) (old new : Contributions) (r : Result Unit SectionFault)
     → registers_refused d all (target_member d (view x.registers)) ≡ [] → xs ≡ (target_member d (view x.registers)).aims
     → DoesWork (registers_work d (view_guard fs g) xs (all ++ register_manners (target_member d (view x.registers))) (map view_state x.states)) old new r
     → Builds (units_of d all x) (given_by d g x fs) (places_by d x) old new r

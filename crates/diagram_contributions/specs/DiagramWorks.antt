@@ -9,7 +9,7 @@ use Rattle.bit_expr.specs.Formulas.{Formula}
 use Rattle.abel_tree.specs.declared.names.Names.{Names}
 use Rattle.abel_tree.specs.Tree.{StateTree, statements_of}
 use Rattle.abel_meaning.specs.Contributions as meant
-use Rattle.abel_meaning.specs.Designs.{Design}
+use Rattle.abel_meaning.specs.Designs.{Context}
 use Rattle.abel_meaning.specs.Diagrams.{in_state, is_state, registers_given, state_gives, states_give, with_others}
 use Rattle.abel_meaning.specs.FormulaBits.{formulas}
 use Rattle.abel_meaning.specs.Statements.{statements_give}
@@ -17,7 +17,7 @@ use Rattle.abel_meaning.specs.Terms.{term_of}
 use Rattle.set_expr.specs.declared.contributions.Contribution.{Contribution}
 use Rattle.set_expr.specs.declared.contributions.Guard.{Guard}
 use Rattle.set_expr.specs.declared.fault.SectionFault.{SectionFault}
-use Rattle.set_expr.specs.Answer.{IsDesignOf}
+use Rattle.set_expr.specs.Answer.{IsContextOf}
 use Rattle.set_expr.specs.Given.{view_guard}
 use Rattle.section_targets.specs.declared.aim.Aim.{Aim}
 use Rattle.section_targets.specs.declared.manner.Manner.{Manner}
@@ -36,7 +36,7 @@ use Rattle.diagram_contributions.specs.DiagramPlaces.{aims_places, state_places,
 -- ---- works
 
 -- statements under a guard, behind what was assigned
-abbrev pub statements_work : Design → meant.Guard Formula → List Manner → StateTree → Work
+abbrev pub statements_work : Context → meant.Guard Formula → List Manner → StateTree → Work
 statements_work d h all s =
     record {
       units = units_of_statements d h.holds all (statements_of s.statements);
@@ -45,7 +45,7 @@ statements_work d h all s =
     }
 
 -- what stands in a state of these registers, under its guard
-abbrev pub within_work : Design → meant.Guard Formula → List Aim → List Manner → StateTree → Work
+abbrev pub within_work : Context → meant.Guard Formula → List Aim → List Manner → StateTree → Work
 within_work d h xs all s =
     record {
       units = units_within d h.holds (length xs) all s;
@@ -58,7 +58,7 @@ abbrev pub where_holds : meant.Guard Formula → Formula → meant.Guard Formula
 where_holds h f = record { holds = f; dontcare = h.dontcare; block = h.block }
 
 -- a state of which nothing is refused, by its number
-abbrev pub number_work : Design → meant.Guard Formula → List Aim → List Manner → (number : ℕ) → StateTree → Work
+abbrev pub number_work : Context → meant.Guard Formula → List Aim → List Manner → (number : ℕ) → StateTree → Work
 number_work d h xs all n s =
     record {
       units = part s.place (number_guard d (signals_of xs) n).nodes ∷ units_within d (number_guard d (signals_of xs) n).what (length xs) all s;
@@ -67,7 +67,7 @@ number_work d h xs all n s =
     }
 
 -- a state behind those that are listed
-abbrev pub state_work : Design → meant.Guard Formula → List Aim → List Manner → (listed : List ℕ) → StateTree → Work
+abbrev pub state_work : Context → meant.Guard Formula → List Aim → List Manner → (listed : List ℕ) → StateTree → Work
 state_work d h xs all listed s =
     record {
       units = units_of_state d (signals_of xs) all (state_refused d (length (signals_of xs)) listed s) s (state_guard d (signals_of xs) s.value);
@@ -75,7 +75,7 @@ state_work d h xs all listed s =
       places = state_places d xs s;
     }
 
-abbrev pub states_work : Design → meant.Guard Formula → List Aim → List Manner → (listed : List ℕ) → List StateTree → Work
+abbrev pub states_work : Context → meant.Guard Formula → List Aim → List Manner → (listed : List ℕ) → List StateTree → Work
 states_work d h xs all listed states =
     record {
       units = units_of_states d (signals_of xs) all listed states;
@@ -84,7 +84,7 @@ states_work d h xs all listed states =
     }
 
 -- states, with the matches of other signals
-abbrev pub others_work : Design → meant.Guard Formula → List Aim → List Manner → List StateTree → Work
+abbrev pub others_work : Context → meant.Guard Formula → List Aim → List Manner → List StateTree → Work
 others_work d h xs all states =
     record {
       units = units_of_states d (signals_of xs) all [] states;
@@ -94,7 +94,7 @@ others_work d h xs all states =
     }
 
 -- a diagram of registers that aren't refused
-abbrev pub registers_work : Design → meant.Guard Formula → List Aim → List Manner → List StateTree → Work
+abbrev pub registers_work : Context → meant.Guard Formula → List Aim → List Manner → List StateTree → Work
 registers_work d h xs all states =
     record {
       units = units_of_states d (signals_of xs) all [] states;
@@ -103,10 +103,10 @@ registers_work d h xs all states =
     }
 
 -- what holds in a state, and in each of several
-abbrev pub state_bit : Design → List Aim → StateTree → Formula
+abbrev pub state_bit : Context → List Aim → StateTree → Formula
 state_bit d xs s = is_state (formulas d) d (signals_of xs) (term_of d.known s.value)
 
-abbrev pub state_bits : Design → List Aim → List StateTree → List Formula
+abbrev pub state_bits : Context → List Aim → List StateTree → List Formula
 state_bits d xs states = map (λ (s : StateTree). state_bit d xs s) states
 
 -- ---- what is left
@@ -114,46 +114,46 @@ state_bits d xs states = map (λ (s : StateTree). state_bit d xs s) states
 abbrev pub BuildsWithin : Table → Names → Guard → (registers : List Aim) → (before : List Manner) → StateTree
     → (old new : List Node) → (list more : List Contribution) → Result Unit SectionFault → Type 0
 BuildsWithin t n g xs before s old new list more r =
-    (d : Design) (all : List Manner) → IsDesignOf t n d → AreFirsts before all
+    (d : Context) (all : List Manner) → IsContextOf t n d → AreFirsts before all
     → Does (within_work d (view_guard (arena old) g) xs all s) old new list more r
 
 abbrev pub BuildsNumber : Table → Names → Guard → (registers : List Aim) → (before : List Manner) → (number : ℕ) → StateTree
     → (old new : List Node) → (list more : List Contribution) → Result ExprId SectionFault → Type 0
 BuildsNumber t n g xs before m s old new list more r =
-    (d : Design) (all : List Manner) → IsDesignOf t n d → AreFirsts before all
+    (d : Context) (all : List Manner) → IsContextOf t n d → AreFirsts before all
     → Does (number_work d (view_guard (arena old) g) xs all m s) old new list more r
 
 abbrev pub BuildsState : Table → Names → Guard → (registers : List Aim) → (before : List Manner) → (listed : List ℕ)
     → StateTree → (old new : List Node) → (list more : List Contribution) → Result ExprId SectionFault → Type 0
 BuildsState t n g xs before listed s old new list more r =
-    (d : Design) (all : List Manner) → IsDesignOf t n d → AreFirsts before all
+    (d : Context) (all : List Manner) → IsContextOf t n d → AreFirsts before all
     → Does (state_work d (view_guard (arena old) g) xs all listed s) old new list more r
 
 abbrev pub BuildsStates : {R : Type 0} → Table → Names → Guard → (registers : List Aim) → (before : List Manner) → List StateTree
     → (old new : List Node) → (list more : List Contribution) → Result R SectionFault → Type 0
 BuildsStates t n g xs before states old new list more r =
-    (d : Design) (all : List Manner) → IsDesignOf t n d → AreFirsts before all
+    (d : Context) (all : List Manner) → IsContextOf t n d → AreFirsts before all
     → Does (states_work d (view_guard (arena old) g) xs all [] states) old new list more r
 
 -- the bit of a number in an arena, and that of a state
 abbrev pub IsNumberBit : Table → Names → (registers : List Aim) → (number : ℕ) → List Formula → ExprId → Type 0
-IsNumberBit t n xs m fs id = (d : Design) → IsDesignOf t n d → IsBit fs id (number_guard d (signals_of xs) m).what
+IsNumberBit t n xs m fs id = (d : Context) → IsContextOf t n d → IsBit fs id (number_guard d (signals_of xs) m).what
 
 abbrev pub IsStateBit : Table → Names → (registers : List Aim) → StateTree → List Formula → ExprId → Type 0
-IsStateBit t n xs s fs id = (d : Design) → IsDesignOf t n d → IsBit fs id (state_bit d xs s)
+IsStateBit t n xs s fs id = (d : Context) → IsContextOf t n d → IsBit fs id (state_bit d xs s)
 
 -- the bits of states
 abbrev pub AreStates : Table → Names → (registers : List Aim) → List Formula → List ExprId → List StateTree → Type 0
-AreStates t n xs fs ids states = (d : Design) → IsDesignOf t n d → AreBits fs ids (state_bits d xs states)
+AreStates t n xs fs ids states = (d : Context) → IsContextOf t n d → AreBits fs ids (state_bits d xs states)
 
 abbrev pub BuildsOthers : Table → Names → Guard → (registers : List Aim) → (before : List Manner) → List StateTree
     → (old new : List Node) → (list more : List Contribution) → Result Unit SectionFault → Type 0
 BuildsOthers t n g xs before states old new list more r =
-    (d : Design) (all : List Manner) → IsDesignOf t n d → AreFirsts before all
+    (d : Context) (all : List Manner) → IsContextOf t n d → AreFirsts before all
     → Does (others_work d (view_guard (arena old) g) xs all states) old new list more r
 
 abbrev pub BuildsRegisters : Table → Names → Guard → (registers : List Aim) → (before : List Manner) → List StateTree
     → (old new : List Node) → (list more : List Contribution) → Result Unit SectionFault → Type 0
 BuildsRegisters t n g xs before states old new list more r =
-    (d : Design) (all : List Manner) → IsDesignOf t n d → AreFirsts before all
+    (d : Context) (all : List Manner) → IsContextOf t n d → AreFirsts before all
     → Does (registers_work d (view_guard (arena old) g) xs all states) old new list more r

@@ -2,21 +2,18 @@
 
 ghost use Rattle.std.specs.Prelude.{OnOk};
 ghost use Rattle.bit_expr.specs.Arena.{arena};
-ghost use Rattle.abel_tree.specs.Entries.{entries_of};
 ghost use Rattle.set_expr.specs.Answer.{Keeps};
-ghost use Rattle.set_expr.specs.KnownNames.{IsKnown};
-ghost use Rattle.expr_bits.specs.Placed.{ArePlaced};
 ghost use Rattle.equations.specs.Checks.{AreNames};
 ghost use Rattle.state_refusals.specs.Checks.{NotesDiagram};
 ghost use Rattle.diagram_contributions.specs.DiagramAnswers.{BuildsDiagram};
 
 use crate::registers::build_registers;
-use abel_tree::{Diagram, Names};
+use abel_tree::Diagram;
 use bit_expr::Exprs;
 use equations::refused_unit;
 use pld_device::Device;
 use section_targets::{Assigned, NamedSignals};
-use set_expr::{Contribution, Guard, KnownNames, SectionFault};
+use set_expr::{Contribution, Guard, Scope, SectionFault};
 use state_refusals::check_registers;
 use std::alloc::Global;
 
@@ -28,8 +25,7 @@ use std::alloc::Global;
 /// refused: by what, `check_diagram` of `state_refusals` says. ABEL-HDL Reference Manual, state diagrams.
 pub fn build_diagram<D: Device>(
     alloc: Global,
-    names: &Names,
-    known: &KnownNames,
+    scope: &Scope<'_>,
     named: &[NamedSignals],
     guard: Guard,
     diagram: &Diagram,
@@ -37,21 +33,18 @@ pub fn build_diagram<D: Device>(
     exprs: &mut Exprs,
     list: &mut Vec<Contribution>,
 ) -> Result<(), SectionFault>
-    requires known { IsKnown (entries_of names.now) known.now }
-    requires named { AreNames names.now named.now }
-    requires placed { ArePlaced names.now }
+    requires named { AreNames scope.now named.now }
     ensures keeps { Keeps (arena exprs.old) (arena exprs.new) }
-    ensures before { OnOk result (NotesDiagram D.table names.now before.old before.new diagram.now) }
+    ensures before { OnOk result (NotesDiagram D.table scope.now before.old before.new diagram.now) }
     // Ok where no unit is refused or passes the limit, with all that the diagram gives; else a front of that stands.
-    ensures builds { BuildsDiagram D.table names.now guard before.old diagram.now exprs.old exprs.new list.old.items list.new.items result }
+    ensures builds { BuildsDiagram D.table scope.now guard before.old diagram.now exprs.old exprs.new list.old.items list.new.items result }
 {
-    let side = check_registers::<D>(alloc, names, known, named, &diagram.registers, before)?;
+    let side = check_registers::<D>(alloc, scope, named, &diagram.registers, before)?;
     match side.fault {
         Some(_) => Err(refused_unit(diagram.place)),
         None => build_registers::<D>(
             alloc,
-            names,
-            known,
+            scope,
             named,
             guard,
             diagram.place,

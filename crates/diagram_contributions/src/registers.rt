@@ -5,20 +5,18 @@ ghost use Rattle.bit_expr.specs.Arena.{arena};
 ghost use Rattle.abel_tree.specs.Entries.{entries_of};
 ghost use Rattle.abel_tree.specs.View.{view_state};
 ghost use Rattle.set_expr.specs.Answer.{Keeps};
-ghost use Rattle.set_expr.specs.KnownNames.{IsKnown};
-ghost use Rattle.expr_bits.specs.Placed.{ArePlaced};
 ghost use Rattle.section_targets.specs.Given.{AreNamed};
 ghost use Rattle.equations.specs.Checks.{AreNames};
 ghost use Rattle.state_refusals.specs.Checks.{NotesStates};
 ghost use Rattle.diagram_contributions.specs.DiagramWorks.{BuildsOthers, BuildsRegisters};
 
 use crate::states::build_states;
-use abel_tree::{Names, State};
+use abel_tree::State;
 use bit_expr::Exprs;
 use pld_base::Place;
 use pld_device::Device;
 use section_targets::{Aim, Assigned, NamedSignals};
-use set_expr::{Contribution, Guard, KnownNames, SectionFault};
+use set_expr::{Contribution, Guard, Scope, SectionFault};
 use state_matches::give_matches;
 use std::alloc::{AllocError, Global};
 use table_contributions::{Assigning, give_no_matches};
@@ -33,8 +31,7 @@ fn outputs_of(alloc: Global, registers: &[Aim]) -> Result<Vec<Option<Aim>>, Allo
 /// The states, and the matches of signals that are no registers.
 fn build_others<D: Device>(
     alloc: Global,
-    names: &Names,
-    known: &KnownNames,
+    scope: &Scope<'_>,
     named: &[NamedSignals],
     guard: Guard,
     registers: &[Aim],
@@ -43,18 +40,16 @@ fn build_others<D: Device>(
     exprs: &mut Exprs,
     list: &mut Vec<Contribution>,
 ) -> Result<(), SectionFault>
-    requires known { IsKnown (entries_of names.now) known.now }
-    requires named { AreNames names.now named.now }
-    requires placed { ArePlaced names.now }
-    requires signals { AreNamed (length (entries_of names.now)) registers.now }
+    requires named { AreNames scope.now named.now }
+    requires signals { AreNamed (length (entries_of scope.now)) registers.now }
     requires few { length registers.now ≤ 32 }
     ensures keeps { Keeps (arena exprs.old) (arena exprs.new) }
-    ensures before { OnOk result (NotesStates D.table names.now before.old before.new (map view_state states.now)) }
-    ensures builds { BuildsOthers D.table names.now guard registers.now before.old (map view_state states.now) exprs.old exprs.new list.old.items list.new.items result }
+    ensures before { OnOk result (NotesStates D.table scope.now before.old before.new (map view_state states.now)) }
+    ensures builds { BuildsOthers D.table scope.now guard registers.now before.old (map view_state states.now) exprs.old exprs.new list.old.items list.new.items result }
 {
     let start = list.len();
     let bits = build_states::<D>(
-        alloc, names, known, named, guard, registers, states, before, exprs, list,
+        alloc, scope, named, guard, registers, states, before, exprs, list,
     )?;
     give_matches(alloc, registers, &bits, start, list)
 }
@@ -62,8 +57,7 @@ fn build_others<D: Device>(
 /// No match for each register, so that each has some contribution of the diagram, and then its states.
 pub(crate) fn build_registers<D: Device>(
     alloc: Global,
-    names: &Names,
-    known: &KnownNames,
+    scope: &Scope<'_>,
     named: &[NamedSignals],
     guard: Guard,
     unit: Place,
@@ -73,14 +67,12 @@ pub(crate) fn build_registers<D: Device>(
     exprs: &mut Exprs,
     list: &mut Vec<Contribution>,
 ) -> Result<(), SectionFault>
-    requires known { IsKnown (entries_of names.now) known.now }
-    requires named { AreNames names.now named.now }
-    requires placed { ArePlaced names.now }
-    requires signals { AreNamed (length (entries_of names.now)) registers.now }
+    requires named { AreNames scope.now named.now }
+    requires signals { AreNamed (length (entries_of scope.now)) registers.now }
     requires few { length registers.now ≤ 32 }
     ensures keeps { Keeps (arena exprs.old) (arena exprs.new) }
-    ensures before { OnOk result (NotesStates D.table names.now before.old before.new (map view_state states.now)) }
-    ensures builds { BuildsRegisters D.table names.now guard registers.now before.old (map view_state states.now) exprs.old exprs.new list.old.items list.new.items result }
+    ensures before { OnOk result (NotesStates D.table scope.now before.old before.new (map view_state states.now)) }
+    ensures builds { BuildsRegisters D.table scope.now guard registers.now before.old (map view_state states.now) exprs.old exprs.new list.old.items list.new.items result }
 {
     let outputs = outputs_of(alloc, registers)?;
     let assigning = Assigning {
@@ -88,8 +80,8 @@ pub(crate) fn build_registers<D: Device>(
         guard,
         clocked: true,
     };
-    give_no_matches(names, assigning, &outputs, exprs, list)?;
+    give_no_matches(scope, assigning, &outputs, exprs, list)?;
     build_others::<D>(
-        alloc, names, known, named, guard, registers, states, before, exprs, list,
+        alloc, scope, named, guard, registers, states, before, exprs, list,
     )
 }

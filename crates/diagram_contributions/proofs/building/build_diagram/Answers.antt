@@ -41,13 +41,13 @@ returns-in-Some-clause-builds g c = λ d all is a.
 
 pub build_registers-requires-clause-signals : goal.build_registers-requires-clause-signals
 build_registers-requires-clause-signals g c =
-    let n = c.args.names.now in
+    let n = c.args.scope.now in
     let found = c.in_ok-side.ensures.found (some_design g.D.Device.table n) c.args.before.now (is_some_design g.D.Device.table n) (λ s p. refl) in
     subst (AreNamed (length (entries_of n))) (sym c.as_slice.ensures) found.inside
 
 pub build_registers-requires-clause-few : goal.build_registers-requires-clause-few
 build_registers-requires-clause-few g c =
-    let n = c.args.names.now in
+    let n = c.args.scope.now in
     let found = c.in_ok-side.ensures.found (some_design g.D.Device.table n) c.args.before.now (is_some_design g.D.Device.table n) (λ s p. refl) in
     subst (λ (xs : List Aim). length xs ≤ 32) (sym c.as_slice.ensures) (found.few c.in-None.is)
 

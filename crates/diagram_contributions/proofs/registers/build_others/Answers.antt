@@ -20,7 +20,7 @@ returns-in_err-bits-clause-builds g c = λ d all is a.
 
 pub give_matches-requires : goal.give_matches-requires
 give_matches-requires g c =
-    let n = c.args.names.now in
+    let n = c.args.scope.now in
     let t = g.D.Device.table in
     let b = c.in_ok-bits.ensures.builds (some_design t n) c.args.before.now (is_some_design t n) (λ s p. refl) in
     omega (arith, c.len-start.ensures, ap length b.made.whole.list, length-append c.args.list.now.items b.made.more)

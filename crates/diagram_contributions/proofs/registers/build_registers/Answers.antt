@@ -24,7 +24,7 @@ returns-in_err-outputs-clause-builds g c = λ d all is a.
 
 pub give_no_matches-requires : goal.give_no_matches-requires
 give_no_matches-requires g c =
-    subst (AreNamed (length (entries_of c.args.names.now))) (sym (ap some_aims (c.deref.ensures.value ∙ c.in_ok-outputs.ensures) ∙ header_aims c.args.registers.now)) c.requires.signals
+    subst (AreNamed (length (entries_of c.args.scope.now))) (sym (ap some_aims (c.deref.ensures.value ∙ c.in_ok-outputs.ensures) ∙ header_aims c.args.registers.now)) c.requires.signals
 
 pub returns-in_err-give_no_matches-clause-builds : goal.returns-in_err-give_no_matches-clause-builds
 returns-in_err-give_no_matches-clause-builds g c = λ d all is a.

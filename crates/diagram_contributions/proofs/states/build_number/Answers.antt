@@ -23,7 +23,7 @@ returns-in_err-when-clause-builds g c = λ d all is a.
 
 pub build_within-requires-clause-guard : goal.build_within-requires-clause-guard
 build_within-requires-clause-guard g c =
-    let n = c.args.names.now in
+    let n = c.args.scope.now in
     let t = g.D.Device.table in
     (c.in_ok-when.ensures.makes (some_design t n) (is_some_design t n)).1.0
 

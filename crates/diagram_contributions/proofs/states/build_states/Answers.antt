@@ -104,7 +104,7 @@ returns-clause-keeps g c = c.loop-state.invariant.keeps
 
 pub returns-clause-before : goal.returns-clause-before
 returns-clause-before g c =
-    subst (λ (xs : List State). NotesStates g.D.Device.table c.args.names.now c.args.before.now c.loop-state.before (map view_state xs))
+    subst (λ (xs : List State). NotesStates g.D.Device.table c.args.scope.now c.args.before.now c.loop-state.before (map view_state xs))
     (ap (λ n. take n c.args.states.now) (omega (arith, c.loop-state-test.false, c.loop-state.auto.state-index-end)) ∙ take-length c.args.states.now) c.loop-state.invariant.notes
 
 pub returns-clause-builds : goal.returns-clause-builds
@@ -118,5 +118,5 @@ returns-clause-builds g c = λ d all is a.
 
 pub returns-clause-bits : goal.returns-clause-bits
 returns-clause-bits g c =
-    subst (λ (xs : List State). AreStates g.D.Device.table c.args.names.now c.args.registers.now (arena c.loop-state.exprs) c.loop-state.bits.items (map view_state xs))
+    subst (λ (xs : List State). AreStates g.D.Device.table c.args.scope.now c.args.registers.now (arena c.loop-state.exprs) c.loop-state.bits.items (map view_state xs))
     (ap (λ n. take n c.args.states.now) (omega (arith, c.loop-state-test.false, c.loop-state.auto.state-index-end)) ∙ take-length c.args.states.now) c.loop-state.invariant.bits

@@ -25,7 +25,7 @@ returns-in_err-build_statements-clause-builds g c = λ d all is a.
     let h = view_guard (arena c.args.exprs.now) c.args.guard in
     let ms = all ++ statements_manners d (view_list c.args.state.now.statements) in
     let f = c.in_err-build_statements.field-0.0 in
-    let stmts = subst (λ (xs : List Stmt). BuildsStatements g.D.Device.table c.args.names.now c.args.guard c.args.before.now (view_list xs) c.args.exprs.now c.build_statements.new.exprs c.args.list.now.items c.build_statements.new.list.items (Err f)) c.as_slice-stmts.ensures c.in_err-build_statements.ensures.builds in
+    let stmts = subst (λ (xs : List Stmt). BuildsStatements g.D.Device.table c.args.scope.now c.args.guard c.args.before.now (view_list xs) c.args.exprs.now c.build_statements.new.exprs c.args.list.now.items c.build_statements.new.list.items (Err f)) c.as_slice-stmts.ensures c.in_err-build_statements.ensures.builds in
     rw (p.1, p.2)
     (step_stops (statements_work d h all s) (branches_work d h c.args.registers.now ms s.transitions) (at c.args.exprs.now c.args.list.now.items) (at c.build_statements.new.exprs c.build_statements.new.list.items) f
     (stmts d all is a))
@@ -60,7 +60,7 @@ returns-clause-builds g c = λ d all is a.
     let mid = at c.build_statements.new.exprs c.build_statements.new.list.items in
     let new = at c.build_arms.new.exprs c.build_arms.new.list.items in
     let noted = subst (λ (ys : List Stmt). AreFirsts c.build_statements.new.before (all ++ statements_manners d (view_list ys))) c.as_slice-stmts.ensures (c.in_ok-build_statements.ensures.before d all is a) in
-    let stmts = subst (λ (ys : List Stmt). BuildsStatements g.D.Device.table c.args.names.now c.args.guard c.args.before.now (view_list ys) c.args.exprs.now c.build_statements.new.exprs c.args.list.now.items c.build_statements.new.list.items (Ok tt)) c.as_slice-stmts.ensures c.in_ok-build_statements.ensures.builds in
+    let stmts = subst (λ (ys : List Stmt). BuildsStatements g.D.Device.table c.args.scope.now c.args.guard c.args.before.now (view_list ys) c.args.exprs.now c.build_statements.new.exprs c.args.list.now.items c.build_statements.new.list.items (Ok tt)) c.as_slice-stmts.ensures c.in_ok-build_statements.ensures.builds in
     let arms = subst (λ (ys : List Arm). DoesWork (branches_work d (view_guard hs c.args.guard) xs ms (map view_arm ys)) mid new c.build_arms.result) c.as_slice-arms.ensures (c.build_arms.ensures.builds d ms is noted) in
     step_then (statements_work d h all s) (branches_work d h xs ms s.transitions) old mid new c.build_arms.result (stmts d all is a)
     (subst (λ k. DoesWork (branches_work d k xs ms s.transitions) mid new c.build_arms.result) (guard_kept fs hs c.args.guard (kept_formula fs hs c.args.guard.when c.in_ok-build_statements.ensures.keeps c.requires.guard)) arms)
