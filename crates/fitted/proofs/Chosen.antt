@@ -43,22 +43,22 @@ never false false = refl
 
 -- the fuses show the same choice of the netlist's registers and of the module's
 pub same_shown : (t : Table) (m : ModuleTree) (net : PlainNetlist) (fuses : List Bool) → IsDevice t
-    → ((c : ℕ) → c < length t.cells → is_free_wanted (wanted_at net c) ≡ is_free_signal (design_of t m) (signal_on (design_of t m) c))
-    → (c : ℕ) → shown t fuses net c ≡ inverting (is_inverted t fuses) (design_of t m) c
+    → ((c : ℕ) → c < length t.cells → is_free_wanted (wanted_at net c) ≡ is_free_signal (design_of t m).context (signal_on (design_of t m).context c))
+    → (c : ℕ) → shown t fuses net c ≡ inverting (is_inverted t fuses) (design_of t m).context c
 same_shown t m net fuses laws free c =
     elim (cases_lt c (length t.cells)) [
       | inl within ↦ ap (λ b. b && is_inverted t fuses c) (free c within)
       | inr past ↦
           let none = none_past t laws fuses c past in
           let netlists = is_free_wanted (wanted_at net c) in
-          let modules = is_free_signal (design_of t m) (signal_on (design_of t m) c) in
+          let modules = is_free_signal (design_of t m).context (signal_on (design_of t m).context c) in
           ap (λ b. netlists && b) none ∙ (never netlists modules ∙ sym (ap (λ b. modules && b) none))
     ]
 
 pub fitted_does_what_it_says : FittedDoesWhatItSays
 fitted_does_what_it_says t m net fuses laws means sound fitted =
     let x = shown t fuses net in
-    let y = inverting (is_inverted t fuses) (design_of t m) in
+    let y = inverting (is_inverted t fuses) (design_of t m).context in
     let same : (c : ℕ) → x c ≡ y c = same_shown t m net fuses laws means.free in
     let back : (c : ℕ) → y c ≡ x c = λ c. sym (same c) in
     let by_module = other_source (exchanged x (netlist_logic t net)) (exchanged x (source_logic t m)) (exchanged_refines x (netlist_logic t net) (source_logic t m) means.to)

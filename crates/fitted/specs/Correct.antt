@@ -34,7 +34,7 @@ pub record MeansTheSame (t : Table) (m : ModuleTree) (net : PlainNetlist) : Type
   pub from : Refines (source_logic t m) (netlist_logic t net)
   pub values : SameValues (netlist_logic t net) (netlist_values net) (source_values t m)
   pub free : (c : ℕ) → c < length t.cells
-      → is_free_wanted (wanted_at net c) ≡ is_free_signal (design_of t m) (signal_on (design_of t m) c)
+      → is_free_wanted (wanted_at net c) ≡ is_free_signal (design_of t m).context (signal_on (design_of t m).context c)
 
 -- at each point, with the netlist's nodes valued there, the netlist allows what a device with its fuses does
 abbrev pub FittedRefines : Type 0
