@@ -14,7 +14,7 @@ use Rattle.bit_expr.specs.Formulas.{Formula}
 use Rattle.abel_tree.specs.Entries.{Kind, APin, ANode, AConstant, ADeviceName, Entry}
 use Rattle.abel_meaning.specs.Contributions.{Contribution}
 use Rattle.abel_meaning.specs.Controls.{is_pin, signal_on}
-use Rattle.abel_meaning.specs.Designs.{Design, name_at, no_name, cell_on}
+use Rattle.abel_meaning.specs.Designs.{Context, name_at, no_name, cell_on}
 use Rattle.abel_meaning.specs.Netlists.{Wanted, wanted_at}
 use Rattle.gathered.specs.Gathered.{wanted_for, cell_by, cell_of, and_cell, cells_from, gathered_from}
 
@@ -93,7 +93,7 @@ module _ (t : Table) (laws : IsDevice t) where
       nothing true = refl
       nothing false = refl
 
-module _ (d : Design) (cs : List (Contribution Formula)) (laws : IsDevice d.device) (c : ℕ) (within : c < length d.device.cells) where
+module _ (d : Context) (cs : List (Contribution Formula)) (laws : IsDevice d.device) (c : ℕ) (within : c < length d.device.cells) where
   abbrev is_here : Entry → Bool
   is_here x = x.assigned && is_pin (cell_at d.device c).pin x.kind
 

@@ -7,7 +7,7 @@ use Rattle.std.proofs.lemmas.Bool.{eq-eqb, ne_eqb, lt-ltb, le-ltb, cases_lt}
 use Rattle.bit_expr.specs.Formulas.{Formula}
 use Rattle.abel_tree.specs.Entries.{Kind, APin, ANode, AConstant, ADeviceName, Entry}
 use Rattle.abel_meaning.specs.Contributions.{Contribution}
-use Rattle.abel_meaning.specs.Designs.{Design}
+use Rattle.abel_meaning.specs.Designs.{Context}
 use Rattle.abel_meaning.specs.FormulaBits.{formulas}
 use Rattle.abel_meaning.specs.Functions.{Function, function_of}
 use Rattle.abel_meaning.specs.SourceLogic.{is_node_number, node_signal}
@@ -29,7 +29,7 @@ abbrev pub AreNumbered : ℕ → List Entry → Type 0
 AreNumbered n [] = Unit {0}
 AreNumbered n (x ∷ xs) = NumberIs n x.kind × AreNumbered (next_number n x.kind) xs
 
-module _ (d : Design) (cs : List (Contribution Formula)) where
+module _ (d : Context) (cs : List (Contribution Formula)) where
   -- the function of the signal of a number
   abbrev pub function_here : ℕ → Function Formula
   function_here s = function_of (formulas d) cs s

@@ -10,7 +10,7 @@ use Rattle.abel_tree.specs.Entries.{Entry}
 use Rattle.abel_meaning.specs.AtPoints.{truth_at, given_at}
 use Rattle.abel_meaning.specs.Contributions.{Evaluator, Contribution}
 use Rattle.abel_meaning.specs.Controls.{control_if_stored, shared_from}
-use Rattle.abel_meaning.specs.Designs.{Design, is_stored}
+use Rattle.abel_meaning.specs.Designs.{Context, Design, is_stored}
 use Rattle.abel_meaning.specs.FormulaBits.{formulas}
 use Rattle.abel_meaning.specs.Netlists.{Wanted, earlier_name, first_with, own_of}
 use Rattle.abel_meaning.specs.SignalReads.{given_formulas}
@@ -21,7 +21,7 @@ use Rattle.gathered.specs.Gathered.{wanted_for, cell_of, and_cell, cells_from}
 unstored : {W : Type 0} (ev : Evaluator W) (cs : List (Contribution W)) (e : Extension) (s : ℕ) (x : Entry) → is_stored x ≡ false → control_if_stored ev cs e s x ≡ None
 unstored ev cs e s x is = rw is refl
 
-module _ (d : Design) (cs : List (Contribution Formula)) (e : Extension) (own : Wanted → Option Formula) (own_is : (c s : ℕ) (x : Entry) → own (wanted_for d cs c s x) ≡ control_if_stored (formulas d) cs e s x) where
+module _ (d : Context) (cs : List (Contribution Formula)) (e : Extension) (own : Wanted → Option Formula) (own_is : (c s : ℕ) (x : Entry) → own (wanted_for d cs c s x) ≡ control_if_stored (formulas d) cs e s x) where
   -- the names of the cells are those of the list
   abbrev FromOn : ℕ → Option Wanted → Type 0
   FromOn s w = IfSome w (λ w. s ≤ w.name)
@@ -88,7 +88,7 @@ pub unwrapped : (at : Levels) (f : Option Formula) (rest : Formula) → formula_
 unwrapped at None rest = refl
 unwrapped at (Some f) rest = refl
 
-pub stored_value : (d : Design) (at : Levels) (e : Extension) (s : ℕ) (x : Entry) → option_map (formula_value at) (control_if_stored (formulas d) (given_formulas d) e s x) ≡ control_if_stored (truth_at d at) (given_at d at) e s x
+pub stored_value : (d : Design) (at : Levels) (e : Extension) (s : ℕ) (x : Entry) → option_map (formula_value at) (control_if_stored (formulas d.context) (given_formulas d) e s x) ≡ control_if_stored (truth_at d.context at) (given_at d at) e s x
 stored_value d at e s x =
     elim (cases_Bool (is_stored x)) [
       | inl stored ↦ rw stored (formula_control d at s e)
@@ -96,8 +96,8 @@ stored_value d at e s x =
     ]
 
 -- the shared formula has the value of the shared control
-pub shared_value : (d : Design) (at : Levels) (e : Extension) (s : ℕ) (xs : List Entry) → formula_value at (shared_from (formulas d) (given_formulas d) e s xs) ≡ shared_from (truth_at d at) (given_at d at) e s xs
+pub shared_value : (d : Design) (at : Levels) (e : Extension) (s : ℕ) (xs : List Entry) → formula_value at (shared_from (formulas d.context) (given_formulas d) e s xs) ≡ shared_from (truth_at d.context at) (given_at d at) e s xs
 shared_value d at e s [] = refl
 shared_value d at e s (x ∷ xs) =
-    unwrapped at (control_if_stored (formulas d) (given_formulas d) e s x) _
+    unwrapped at (control_if_stored (formulas d.context) (given_formulas d) e s x) _
     ∙ ap₂ (λ f r. unwrap_or f r) (stored_value d at e s x) (shared_value d at e (suc s) xs)

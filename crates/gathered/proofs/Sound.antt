@@ -20,19 +20,19 @@ short [] k none = omega arith
 short (x ∷ xs) zero none = absurd cc
 short (x ∷ xs) (suc k) none = omega (arith, short xs k none)
 
-module _ (d : Design) (laws : IsDevice d.device) (numbered : AreNumbered 0 d.names) (take : IsTakeable d) where
+module _ (d : Design) (laws : IsDevice d.context.device) (numbered : AreNumbered 0 d.context.names) (take : IsTakeable d) where
   -- the node past the 128th would have a number that none may have
-  found_past : (found : Option ℕ) → node_signal d 128 ≡ found → length (gathered d).nodes ≤ 128
-  found_past None is = short (gathered d).nodes 128 (node_found d (given_formulas d) 128 numbered ∙ ap (λ f. option_map (function_here d (given_formulas d)) f) is)
+  found_past : (found : Option ℕ) → node_signal d.context 128 ≡ found → length (gathered d).nodes ≤ 128
+  found_past None is = short (gathered d).nodes 128 (node_found d.context (given_formulas d) 128 numbered ∙ ap (λ f. option_map (function_here d.context (given_formulas d)) f) is)
   found_past (Some s) is = let few = take.nodes s 128 (node_kind d laws numbered take.pins 128 s is) in absurd (omega (arith, few))
 
-  pub gathered_sound : IsSound d.device (gathered d)
+  pub gathered_sound : IsSound d.context.device (gathered d)
   gathered_sound = record {
-    few_nodes = found_past (node_signal d 128) refl;
+    few_nodes = found_past (node_signal d.context 128) refl;
     nodes = sound_nodes d laws numbered take;
     cells = sound_cells d laws numbered take;
     free = sound_free d laws numbered take;
-    once = each_once d take.pins 0 d.names (λ k less. ap (λ j. name_at d j) (omega arith));
+    once = each_once d take.pins 0 d.context.names (λ k less. ap (λ j. name_at d.context j) (omega arith));
     no_loop = no_netlist_loop d laws numbered take.pins take.no_loop;
     no_path = no_netlist_path d laws numbered take.pins take.no_path;
   }

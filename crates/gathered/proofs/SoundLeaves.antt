@@ -15,7 +15,7 @@ use Rattle.abel_tree.specs.declared.words.Extension.{Extension}
 use Rattle.abel_tree.specs.declared.words.Extension.TheVariants as extension
 use Rattle.abel_tree.specs.Entries.{Kind, APin, ANode, AConstant, ADeviceName, Entry}
 use Rattle.abel_meaning.specs.Controls.{is_pin, signal_on, cell_stores}
-use Rattle.abel_meaning.specs.Designs.{Design, name_at, no_name, is_stored, cell_on, follows_q}
+use Rattle.abel_meaning.specs.Designs.{Context, Design, name_at, no_name, is_stored, cell_on, follows_q}
 use Rattle.abel_meaning.specs.Netlists.{wanted_at}
 use Rattle.abel_meaning.specs.NetlistLogic.{registers_as, netlist_stores}
 use Rattle.abel_meaning.specs.SignalReads.{given_formulas}
@@ -50,7 +50,7 @@ some_place p y xs i within hit = by (position p xs) refl
 -- ---- names
 
 -- a name that is no device's name has a number of the list
-pub inside : (d : Design) (s : ℕ) → ((name_at d s).kind ≡ ADeviceName → ⊥) → s < length d.names
+pub inside : (d : Context) (s : ℕ) → ((name_at d s).kind ≡ ADeviceName → ⊥) → s < length d.names
 inside d s other =
     elim (cases_lt s (length d.names)) [
       | inl less ↦ less
@@ -59,7 +59,7 @@ inside d s other =
 
 -- ---- what is declared
 
-module _ (d : Design) where
+module _ (d : Context) where
   -- a Q is that of an assigned register, a node is declared
   abbrev pub IsDeclared : Leaf → Type 0
   IsDeclared (leaf.Pin p) = Unit {0}
@@ -129,38 +129,38 @@ module _ (d : Design) where
 
 -- ---- what the netlist may read
 
-module _ (d : Design) (laws : IsDevice d.device) (numbered : AreNumbered 0 d.names) (apart : PinsApart d) where
+module _ (d : Design) (laws : IsDevice d.context.device) (numbered : AreNumbered 0 d.context.names) (apart : PinsApart d.context) where
   no_point : Levels
   no_point = record { pins = []; q = []; nodes = [] }
 
-  pub stores_alike : (c : ℕ) → c < length d.device.cells → netlist_stores d.device (gathered d) c ≡ cell_stores d c
+  pub stores_alike : (c : ℕ) → c < length d.context.device.cells → netlist_stores d.context.device (gathered d) c ≡ cell_stores d.context c
   stores_alike c within =
-      ap (λ w. registers_as (cell_at d.device c).kinds w) (wanted_found d (given_formulas d) laws c within)
-      ∙ stores_as d laws no_point c within (signal_on d c)
+      ap (λ w. registers_as (cell_at d.context.device c).kinds w) (wanted_found d.context (given_formulas d) laws c within)
+      ∙ stores_as d laws no_point c within (signal_on d.context c)
 
   -- the assigned signal of a cell is the one on it
-  pub assigned_on : (s c : ℕ) → c < length d.device.cells → (name_at d s).assigned ≡ true → is_pin (cell_at d.device c).pin (name_at d s).kind ≡ true → signal_on d c ≡ Some s
+  pub assigned_on : (s c : ℕ) → c < length d.context.device.cells → (name_at d.context s).assigned ≡ true → is_pin (cell_at d.context.device c).pin (name_at d.context s).kind ≡ true → signal_on d.context c ≡ Some s
   assigned_on s c within assigned on =
-      only_place (λ (x : Entry). x.assigned && is_pin (cell_at d.device c).pin x.kind) no_name d.names s
-      (inside d s (λ e. true≢false (sym on ∙ ap (λ k. is_pin (cell_at d.device c).pin k) e)))
+      only_place (λ (x : Entry). x.assigned && is_pin (cell_at d.context.device c).pin x.kind) no_name d.context.names s
+      (inside d.context s (λ e. true≢false (sym on ∙ ap (λ k. is_pin (cell_at d.context.device c).pin k) e)))
       (rw assigned on)
-      (λ j hit. apart (cell_at d.device c).pin j s (and_parts (name_at d j).assigned _ hit).1 on)
+      (λ j hit. apart (cell_at d.context.device c).pin j s (and_parts (name_at d.context j).assigned _ hit).1 on)
 
-  pub wanted_of : (s c : ℕ) → c < length d.device.cells → (name_at d s).assigned ≡ true → is_pin (cell_at d.device c).pin (name_at d s).kind ≡ true → wanted_at (gathered d) c ≡ Some (wanted_for d (given_formulas d) c s (name_at d s))
+  pub wanted_of : (s c : ℕ) → c < length d.context.device.cells → (name_at d.context s).assigned ≡ true → is_pin (cell_at d.context.device c).pin (name_at d.context s).kind ≡ true → wanted_at (gathered d) c ≡ Some (wanted_for d.context (given_formulas d) c s (name_at d.context s))
   wanted_of s c within assigned on =
-      wanted_found d (given_formulas d) laws c within
-      ∙ ap (λ f. option_map (λ i. wanted_for d (given_formulas d) c i (name_at d i)) f) (assigned_on s c within assigned on)
+      wanted_found d.context (given_formulas d) laws c within
+      ∙ ap (λ f. option_map (λ i. wanted_for d.context (given_formulas d) c i (name_at d.context i)) f) (assigned_on s c within assigned on)
 
-  pub readable : (l : Leaf) → HasColumns d l → IsDeclared d l → IsReadable d.device (gathered d) l
+  pub readable : (l : Leaf) → HasColumns d.context l → IsDeclared d.context l → IsReadable d.context.device (gathered d) l
   readable (leaf.Pin p) has declared = (has.0, λ c within on. stores_alike c within ∙ has.1 c within on)
   readable (leaf.Q c) has declared =
       let s = declared.0 in
-      let at = position-Some (has_pin declared.1) d.device.cells c no_cell declared.5 in
-      let on : is_pin (cell_at d.device c).pin (name_at d s).kind ≡ true = rw declared.3 (eq-eqb declared.1 (cell_at d.device c).pin (sym (eqb-true (cell_at d.device c).pin declared.1 at.1))) in
-      (has, (at.0, wanted_for d (given_formulas d) c s (name_at d s), wanted_of s c at.0 (and_parts (name_at d s).words.registered (name_at d s).assigned declared.4).1 on, declared.4))
+      let at = position-Some (has_pin declared.1) d.context.device.cells c no_cell declared.5 in
+      let on : is_pin (cell_at d.context.device c).pin (name_at d.context s).kind ≡ true = rw declared.3 (eq-eqb declared.1 (cell_at d.context.device c).pin (sym (eqb-true (cell_at d.context.device c).pin declared.1 at.1))) in
+      (has, (at.0, wanted_for d.context (given_formulas d) c s (name_at d.context s), wanted_of s c at.0 (and_parts (name_at d.context s).words.registered (name_at d.context s).assigned declared.4).1 on, declared.4))
   readable (leaf.Node n) has declared =
       let s = declared.0 in
-      let on : is_node_number n (name_at d s).kind ≡ true = rw declared.1 (eq-eqb n n refl) in
-      let first = some_place (λ (x : Entry). is_node_number n x.kind) no_name d.names s (inside d s (λ e. true≢false (sym on ∙ ap (λ k. is_node_number n k) e))) on in
-      slice_get_within (gathered d).nodes n (function_here d (given_formulas d) first.0)
-      (node_found d (given_formulas d) n numbered ∙ ap (λ f. option_map (function_here d (given_formulas d)) f) first.1)
+      let on : is_node_number n (name_at d.context s).kind ≡ true = rw declared.1 (eq-eqb n n refl) in
+      let first = some_place (λ (x : Entry). is_node_number n x.kind) no_name d.context.names s (inside d.context s (λ e. true≢false (sym on ∙ ap (λ k. is_node_number n k) e))) on in
+      slice_get_within (gathered d).nodes n (function_here d.context (given_formulas d) first.0)
+      (node_found d.context (given_formulas d) n numbered ∙ ap (λ f. option_map (function_here d.context (given_formulas d)) f) first.1)

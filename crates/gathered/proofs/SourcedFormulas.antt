@@ -9,7 +9,7 @@ use Rattle.bit_expr.specs.declared.node.Leaf.{Leaf}
 use Rattle.bit_expr.specs.Folding.{make_not, make_and, make_or}
 use Rattle.bit_expr.specs.Formulas.{Formula, Const, formula_value}
 use Rattle.abel_meaning.specs.Contributions.{Evaluator, Contribution}
-use Rattle.abel_meaning.specs.Designs.{Design}
+use Rattle.abel_meaning.specs.Designs.{Context, Design}
 use Rattle.abel_meaning.specs.Follows.{Follows, seen}
 use Rattle.abel_meaning.specs.FormulaBits.{make_source, met_word, bits_of, bits_of_all, formulas}
 use Rattle.abel_meaning.specs.Numbers.{digits_low_first, met, member_width, meeting}
@@ -27,7 +27,7 @@ use Rattle.gathered.specs.SignalUses.{SignalUse, term_uses, all_term_uses, reads
 use Rattle.gathered.proofs.NamedLeaves.{NamesOnly, EachNames, of_constant, of_not, of_and, of_or, each_joined, each_reversed}
 use Rattle.gathered.proofs.NamedWords.{of_unary, of_binary, of_met}
 
-module _ (d : Design) where
+module _ (d : Context) where
   -- the leaf is read by one of the uses
   abbrev pub ReadBy : List SignalUse → Leaf → Type 0
   ReadBy us l = uses_read d us l ≡ true
@@ -146,12 +146,13 @@ module _ (d : Design) where
         word = λ w t. its_uses (term_uses t) ((formulas d).word w t) (word_named w t) ∙ ap (λ n. replicate n (term_uses t)) (word_length w t);
       }
 
+module _ (d : Design) where
   -- the contributions as formulas with what they use
-  abbrev pub sourced_contributions : List (Contribution Sourced)
-  sourced_contributions = contributions sourced d
+  abbrev pub sourced_contributions : List (Contribution (Sourced d.context))
+  sourced_contributions = contributions (sourced d.context) d
 
-  pub formulas_are : map (seen (λ (x : Sourced). x.formula)) sourced_contributions ≡ given_formulas d
-  formulas_are = contributions_seen (λ (x : Sourced). x.formula) sourced (formulas d) formulas_followed d
+  pub formulas_are : map (seen (λ (x : Sourced d.context). x.formula)) sourced_contributions ≡ given_formulas d
+  formulas_are = contributions_seen (λ (x : Sourced d.context). x.formula) (sourced d.context) (formulas d.context) (formulas_followed d.context) d
 
-  pub uses_are : map (seen (λ (x : Sourced). x.uses)) sourced_contributions ≡ given_uses d
-  uses_are = contributions_seen (λ (x : Sourced). x.uses) sourced reads_of_terms uses_followed d
+  pub uses_are : map (seen (λ (x : Sourced d.context). x.uses)) sourced_contributions ≡ given_uses d
+  uses_are = contributions_seen (λ (x : Sourced d.context). x.uses) (sourced d.context) reads_of_terms (uses_followed d.context) d

@@ -12,7 +12,7 @@ use Rattle.gathered.specs.Takeable.{RegistersHaveCells, IsTakeable}
 -- the nodes alike
 abbrev pub GatheredMeansTheSame : Type 0
 GatheredMeansTheSame =
-    (t : Table) (m : ModuleTree) → IsDevice t → RegistersHaveCells (design_of t m) → MeansTheSame t m (netlist_of t m)
+    (t : Table) (m : ModuleTree) → IsDevice t → RegistersHaveCells (design_of t m).context → MeansTheSame t m (netlist_of t m)
 
 -- where nothing is refused, the device can take the netlist of a module
 abbrev pub GatheredIsSound : Type 0

@@ -11,9 +11,8 @@ use Rattle.abel_tree.specs.declared.words.Sign.{Sign}
 use Rattle.abel_tree.specs.declared.words.Sign.TheVariants as sign
 use Rattle.abel_tree.specs.Entries.{Kind, APin, ANode, Entry}
 use Rattle.abel_tree.specs.Tree.{Statement, AnAssign, Equations}
-use Rattle.abel_meaning.specs.Designs.{Design}
+use Rattle.abel_meaning.specs.Designs.{context_of, Design}
 use Rattle.abel_meaning.specs.Netlists.{PlainNetlist}
-use Rattle.abel_meaning.specs.Terms.{known_of}
 use Rattle.gathered.specs.Gathered.{gathered}
 use Rattle.abel_tree.specs.Tree as tree
 
@@ -53,9 +52,7 @@ example_names =
 abbrev pub example_design : Design
 example_design =
     record {
-      device = sample;
-      names = example_names;
-      known = known_of example_names;
+      context = context_of sample example_names;
       starts_dontcare = false;
       sections = Equations (
           assign true (just (codes "n") None) sign.Equal (just (codes "a") None)

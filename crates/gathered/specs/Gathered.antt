@@ -12,7 +12,7 @@ use Rattle.abel_tree.specs.Tree.{ModuleTree}
 use Rattle.abel_meaning.specs.Choices.{is_free}
 use Rattle.abel_meaning.specs.Contributions.{Contribution}
 use Rattle.abel_meaning.specs.Controls.{control_of, control_if_stored}
-use Rattle.abel_meaning.specs.Designs.{Design, design_of, is_stored, follows_q, cell_on}
+use Rattle.abel_meaning.specs.Designs.{Context, Design, design_of, is_stored, follows_q, cell_on}
 use Rattle.abel_meaning.specs.FormulaBits.{formulas}
 use Rattle.abel_meaning.specs.Functions.{Function, function_of, is_raw_signal}
 use Rattle.abel_meaning.specs.Netlists.{Wanted, PlainNetlist}
@@ -27,7 +27,7 @@ by_row (Row row) f = f
 by_row (PinLow pin) f = None
 
 -- what a signal asks of its cell
-abbrev pub wanted_for : Design → List (Contribution Formula) → (cell signal : ℕ) → Entry → Wanted
+abbrev pub wanted_for : Context → List (Contribution Formula) → (cell signal : ℕ) → Entry → Wanted
 wanted_for d cs c s x =
     record {
       cell = c;
@@ -58,7 +58,7 @@ and_cell None ws = ws
 and_cell (Some w) ws = w ∷ ws
 
 -- what the signals ask of their cells, in order of declaration; the first name has this number
-abbrev pub cells_from : Design → List (Contribution Formula) → ℕ → List Entry → List Wanted
+abbrev pub cells_from : Context → List (Contribution Formula) → ℕ → List Entry → List Wanted
 cells_from d cs s [] = []
 cells_from d cs s (x ∷ xs) =
     and_cell (option_map (λ c. wanted_for d cs c s x) (cell_of d.device x)) (cells_from d cs (suc s) xs)
@@ -71,19 +71,19 @@ and_node (ANode n) f fs = f ∷ fs
 and_node _ f fs = fs
 
 -- the functions of the nodes, in order of declaration; the first name has this number
-abbrev pub nodes_from : Design → List (Contribution Formula) → ℕ → List Entry → List (Function Formula)
+abbrev pub nodes_from : Context → List (Contribution Formula) → ℕ → List Entry → List (Function Formula)
 nodes_from d cs s [] = []
 nodes_from d cs s (x ∷ xs) = and_node x.kind (function_of (formulas d) cs s) (nodes_from d cs (suc s) xs)
 
 -- ---- the whole netlist
 
 -- the netlist of a design by its contributions
-abbrev pub gathered_from : Design → List (Contribution Formula) → PlainNetlist
+abbrev pub gathered_from : Context → List (Contribution Formula) → PlainNetlist
 gathered_from d cs = record { nodes = nodes_from d cs 0 d.names; cells = cells_from d cs 0 d.names }
 
 -- the netlist of a design
 abbrev pub gathered : Design → PlainNetlist
-gathered d = gathered_from d (given_formulas d)
+gathered d = gathered_from d.context (given_formulas d)
 
 -- the netlist of a module for a device
 abbrev pub netlist_of : Table → ModuleTree → PlainNetlist

@@ -6,7 +6,7 @@ use Rattle.bit_expr.specs.declared.node.Leaf.{Leaf}
 use Rattle.bit_expr.specs.Formulas.{same_leaf}
 use Rattle.abel_tree.specs.declared.words.Extension.{Extension}
 use Rattle.abel_meaning.specs.Contributions.{Evaluator, Contribution}
-use Rattle.abel_meaning.specs.Designs.{Design}
+use Rattle.abel_meaning.specs.Designs.{Context, Design}
 use Rattle.abel_meaning.specs.Sections.{contributions}
 use Rattle.abel_meaning.specs.Sources.{Source, Zero, Held, source_of}
 use Rattle.abel_meaning.specs.Terms.{Term, Terms, Number, X, Pulse, Release, Read, Set, UnaryOf, BinaryOf, NoTerm, Before}
@@ -53,9 +53,9 @@ holds_leaf Zero l = false
 holds_leaf (Held complement other) l = same_leaf other l
 
 -- the use reads the leaf
-abbrev pub use_reads : Design → Leaf → SignalUse → Bool
+abbrev pub use_reads : Context → Leaf → SignalUse → Bool
 use_reads d l u = holds_leaf (source_of d u.signal u.extension) l
 
 -- some of the uses does
-abbrev pub uses_read : Design → List SignalUse → Leaf → Bool
+abbrev pub uses_read : Context → List SignalUse → Leaf → Bool
 uses_read d us l = list_any (use_reads d l) us
