@@ -5,7 +5,6 @@ use Rattle.pld_device.specs.Registers.{is_inverted}
 use Rattle.pld_device.specs.Table.{Table}
 use Rattle.abel_tree.specs.Tree.{ModuleTree}
 use Rattle.abel_meaning.specs.Choices.{inverting}
-use Rattle.abel_meaning.specs.Designs.{design_of}
 use Rattle.abel_meaning.specs.Netlists.{PlainNetlist}
 use Rattle.abel_meaning.specs.Soundness.{IsSound}
 use Rattle.free_netlists.specs.ExchangedNets.{MayExchangeIn, netlist_exchanged, netlist_shown, shown}

@@ -79,12 +79,12 @@ module _ (t : Table) (m : ModuleTree) (x : ℕ → Bool) (laws : IsDevice t) (c 
   d = design_of t m
 
   abbrev its : ℕ → Wanted
-  its s = wanted_for d (given_formulas d) c s (name_at d s)
+  its s = wanted_for d.context (given_formulas d) c s (name_at d.context s)
 
-  wanted_is : (found : Option ℕ) → signal_on (design_of t m) c ≡ found → wanted_at (netlist_exchanged x (netlist_of t m)) c ≡ option_map (wanted_exchanged x) (option_map its found)
+  wanted_is : (found : Option ℕ) → signal_on (design_of t m).context c ≡ found → wanted_at (netlist_exchanged x (netlist_of t m)) c ≡ option_map (wanted_exchanged x) (option_map its found)
   wanted_is found is =
       wanted_at_exchanged x (netlist_of t m) c
-      ∙ ap (option_map (wanted_exchanged x)) (wanted_found d (given_formulas d) laws c within ∙ ap (λ s. option_map its s) is)
+      ∙ ap (option_map (wanted_exchanged x)) (wanted_found d.context (given_formulas d) laws c within ∙ ap (λ s. option_map its s) is)
 
 pub spares_are_unused : FittedSparesAreUnused
 spares_are_unused t m net fuses laws same fitted c within none =
@@ -93,7 +93,7 @@ spares_are_unused t m net fuses laws same fitted c within none =
 
 -- ---- the controls
 
-module _ (t : Table) (m : ModuleTree) (fuses : List Bool) (laws : IsDevice t) (has_cells : RegistersHaveCells (design_of t m)) (may : MayExchangeIn t (netlist_of t m) (choice t m fuses))
+module _ (t : Table) (m : ModuleTree) (fuses : List Bool) (laws : IsDevice t) (has_cells : RegistersHaveCells (design_of t m).context) (may : MayExchangeIn t (netlist_of t m) (choice t m fuses))
     (fitted : IsFitted t (netlist_exchanged (choice t m fuses) (netlist_of t m)) fuses) where
   abbrev net : PlainNetlist
   net = netlist_exchanged (choice t m fuses) (netlist_of t m)
@@ -122,7 +122,7 @@ module _ (t : Table) (m : ModuleTree) (fuses : List Bool) (laws : IsDevice t) (h
 
   -- what all registers share
   shared_row : (e : Extension) (own : Wanted → Option Formula)
-      → ((c s : ℕ) (x : Entry) → own (wanted_for (design_of t m) (given_formulas (design_of t m)) c s x) ≡ control_if_stored (formulas (design_of t m)) (given_formulas (design_of t m)) e s x)
+      → ((c s : ℕ) (x : Entry) → own (wanted_for (design_of t m).context (given_formulas (design_of t m)) c s x) ≡ control_if_stored (formulas (design_of t m).context) (given_formulas (design_of t m)) e s x)
       → ((w : Wanted) → own (wanted_exchanged (choice t m fuses) w) ≡ option_map (formula_exchanged (choice t m fuses)) (own w))
       → (found : Option ℕ) → IsFittedShared t net fuses (shared_function own net) found → (row : ℕ) → found ≡ Some row
       → IsRowOf t m fuses (λ at. shared_at t m e (seen_at t m fuses at)) row
@@ -132,7 +132,7 @@ module _ (t : Table) (m : ModuleTree) (fuses : List Bool) (laws : IsDevice t) (h
       (λ at valued.
       ap (formula_value at) (shared_exchanged (choice t m fuses) own exchanged_is (netlist_of t m))
       ∙ (value_exchanged (choice t m fuses) low at valued.is_point (shared_function own (netlist_of t m))
-      ∙ (ap (formula_value (seen_at t m fuses at)) (shared_is d (given_formulas d) e own own_is 0 d.names has_cells) ∙ shared_value d (seen_at t m fuses at) e 0 d.names)))
+      ∙ (ap (formula_value (seen_at t m fuses at)) (shared_is d.context (given_formulas d) e own own_is 0 d.context.names has_cells) ∙ shared_value d (seen_at t m fuses at) e 0 d.context.names)))
       (subst (IsFittedShared t net fuses (shared_function own net)) is shared)
 
   control_rows : HasControlRows t m fuses

@@ -29,7 +29,7 @@ use Rattle.prime_rows.specs.Covers.{IsValuedPoint, chosen_logic, or_allows}
 module _ (t : Table) (m : ModuleTree) (fuses : List Bool) where
   -- the free registers that the fuses show inverted
   abbrev pub choice : ℕ → Bool
-  choice = inverting (is_inverted t fuses) (design_of t m)
+  choice = inverting (is_inverted t fuses) (design_of t m).context
 
   module _ (laws : IsDevice t) (may : MayExchangeIn t (netlist_of t m) choice) where
     low : (c : ℕ) → choice c ≡ true → c < 32
@@ -63,13 +63,13 @@ module _ (t : Table) (m : ModuleTree) (fuses : List Bool) where
 
     -- ---- the OR of a cell
 
-    module _ (c : ℕ) (within : c < length t.cells) (s : ℕ) (on : signal_on (design_of t m) c ≡ Some s) where
+    module _ (c : ℕ) (within : c < length t.cells) (s : ℕ) (on : signal_on (design_of t m).context c ≡ Some s) where
       abbrev d : Design
       d = design_of t m
 
       -- what the netlist asks of the cell
       abbrev pub asked : Wanted
-      asked = wanted_for d (given_formulas d) c s (name_at d s)
+      asked = wanted_for d.context (given_formulas d) c s (name_at d.context s)
 
       abbrev by_register : Bool
       by_register = data_complements t.flip (is_inverted t fuses c)
@@ -80,15 +80,15 @@ module _ (t : Table) (m : ModuleTree) (fuses : List Bool) where
       function_same : (at : Levels) → IsPoint at → (v : Bool) → allows (function_at at (function_exchanged choice asked.function)) v ≡ allows (function_at (exchanged_at choice at) asked.function) v
       function_same at is v = ap (λ f. allows f v) (function_value_exchanged choice low at is asked.function)
 
-      stored_same : (at : Levels) → IsPoint at → wanted_at (netlist_of t m) c ≡ Some asked → (v : Bool) → is_stored (name_at d s) ≡ true
+      stored_same : (at : Levels) → IsPoint at → wanted_at (netlist_of t m) c ≡ Some asked → (v : Bool) → is_stored (name_at d.context s) ≡ true
           → allows (function_at at (function_exchanged choice asked.function)) (as_named (wanted_exchanged choice asked) (complement_if by_register v)) ≡ (chosen_logic t m fuses).allows_next at c (complement_if by_register v)
       stored_same at is found v stored =
           function_same at is (as_named (wanted_exchanged choice asked) (complement_if by_register v))
           ∙ (ap (allows (function_at (exchanged_at choice at) asked.function)) (named_by t laws (netlist_of t m) choice may at is c asked (complement_if by_register v) found refl stored)
           ∙ (next_as d laws (exchanged_at choice at) c within (Some s) (in_sense (choice c) (complement_if by_register v)) stored
-          ∙ ap (λ f. next_allows allows d (exchanged_at choice at) (given_at d (exchanged_at choice at)) f (in_sense (choice c) (complement_if by_register v))) (sym on)))
+          ∙ ap (λ f. next_allows allows d.context (exchanged_at choice at) (given_at d (exchanged_at choice at)) f (in_sense (choice c) (complement_if by_register v))) (sym on)))
 
-      plain_same : (at : Levels) → IsPoint at → (v : Bool) → is_stored (name_at d s) ≡ false
+      plain_same : (at : Levels) → IsPoint at → (v : Bool) → is_stored (name_at d.context s) ≡ false
           → allows (function_at at (function_exchanged choice asked.function)) (as_named (wanted_exchanged choice asked) (complement_if by_pin v)) ≡ (chosen_logic t m fuses).allows_level at c (complement_if by_pin v)
       plain_same at is v plain =
           let level = complement_if by_pin v in
@@ -97,9 +97,9 @@ module _ (t : Table) (m : ModuleTree) (fuses : List Bool) where
           ∙ (ap (allows (function_at (exchanged_at choice at) asked.function)) (named_plain t laws (netlist_of t m) choice may at is c asked level plain)
           ∙ (sym (ap (λ b. if b then same_level level (complement_if (not asked.buffer) (is_on (exchanged_at choice at).q c)) else named) plain)
           ∙ (level_of d laws (exchanged_at choice at) c within s level on
-          ∙ ap (λ f. pin_allows allows d (exchanged_at choice at) (given_at d (exchanged_at choice at)) c f level) (sym on))))
+          ∙ ap (λ f. pin_allows allows d.context (exchanged_at choice at) (given_at d (exchanged_at choice at)) c f level) (sym on))))
 
-      by_kind : (at : Levels) → IsPoint at → wanted_at (netlist_of t m) c ≡ Some asked → (v stored : Bool) → is_stored (name_at d s) ≡ stored → stores t fuses c ≡ stored
+      by_kind : (at : Levels) → IsPoint at → wanted_at (netlist_of t m) c ≡ Some asked → (v stored : Bool) → is_stored (name_at d.context s) ≡ stored → stores t fuses c ≡ stored
           → or_may_be t fuses c (wanted_exchanged choice asked) at v ≡ or_allows t m fuses c at v
       by_kind at is found v true stored here =
           ap (λ b. allows (function_at at (function_exchanged choice asked.function)) (as_named (wanted_exchanged choice asked) (complement_if (if b then by_register else by_pin) v))) stored
@@ -111,6 +111,6 @@ module _ (t : Table) (m : ModuleTree) (fuses : List Bool) where
           ∙ sym (ap (λ b. if b then (chosen_logic t m fuses).allows_next at c (complement_if by_register v) else (chosen_logic t m fuses).allows_level at c (complement_if by_pin v)) here))
 
       -- where the cell is a register just as its signal is, the OR may have the same values by both
-      pub same_or : wanted_at (netlist_of t m) c ≡ Some asked → stores t fuses c ≡ is_stored (name_at d s) → (at : Levels) → IsPoint at → (v : Bool)
+      pub same_or : wanted_at (netlist_of t m) c ≡ Some asked → stores t fuses c ≡ is_stored (name_at d.context s) → (at : Levels) → IsPoint at → (v : Bool)
           → or_may_be t fuses c (wanted_exchanged choice asked) at v ≡ or_allows t m fuses c at v
-      same_or found kind at is v = by_kind at is found v (is_stored (name_at d s)) refl kind
+      same_or found kind at is v = by_kind at is found v (is_stored (name_at d.context s)) refl kind

@@ -23,17 +23,17 @@ use Rattle.prime_rows.proofs.Choosing.{fits_choice, may_choose}
 use Rattle.prime_rows.proofs.ModulePoints.{choice, valued_there, valued_back, same_or}
 
 module _ (t : Table) (m : ModuleTree) (fuses : List Bool) (laws : IsDevice t) (sound : IsSound t (netlist_of t m)) (may : MayExchangeIn t (netlist_of t m) (choice t m fuses))
-    (fitted : IsFitted t (netlist_exchanged (choice t m fuses) (netlist_of t m)) fuses) (c : ℕ) (within : c < length t.cells) (s : ℕ) (on : signal_on (design_of t m) c ≡ Some s) where
+    (fitted : IsFitted t (netlist_exchanged (choice t m fuses) (netlist_of t m)) fuses) (c : ℕ) (within : c < length t.cells) (s : ℕ) (on : signal_on (design_of t m).context c ≡ Some s) where
   abbrev d : Design
   d = design_of t m
 
   abbrev its : Wanted
-  its = wanted_for d (given_formulas d) c s (name_at d s)
+  its = wanted_for d.context (given_formulas d) c s (name_at d.context s)
 
   its_is : wanted_at (netlist_of t m) c ≡ Some its
   its_is =
-      wanted_found d (given_formulas d) laws c within
-      ∙ ap (λ f. option_map (λ i. wanted_for d (given_formulas d) c i (name_at d i)) f) on
+      wanted_found d.context (given_formulas d) laws c within
+      ∙ ap (λ f. option_map (λ i. wanted_for d.context (given_formulas d) c i (name_at d.context i)) f) on
 
   wanted_is : wanted_at (netlist_exchanged (choice t m fuses) (netlist_of t m)) c ≡ Some (wanted_exchanged (choice t m fuses) its)
   wanted_is = wanted_at_exchanged (choice t m fuses) (netlist_of t m) c ∙ ap (option_map (wanted_exchanged (choice t m fuses))) its_is
@@ -41,7 +41,7 @@ module _ (t : Table) (m : ModuleTree) (fuses : List Bool) (laws : IsDevice t) (s
   cell : IsFittedCell t (netlist_exchanged (choice t m fuses) (netlist_of t m)) fuses c (wanted_exchanged (choice t m fuses) its)
   cell = subst (IsFittedAs t (netlist_exchanged (choice t m fuses) (netlist_of t m)) fuses c) wanted_is (fitted.cells c within)
 
-  kind : stores t fuses c ≡ is_stored (name_at d s)
+  kind : stores t fuses c ≡ is_stored (name_at d.context s)
   kind =
       registers_wanted t (netlist_exchanged (choice t m fuses) (netlist_of t m)) fuses (exchanged_is_sound t (netlist_of t m) (choice t m fuses) sound may) c
       (wanted_exchanged (choice t m fuses) its) wanted_is cell

@@ -27,11 +27,11 @@ pub record IsRowOf (t : Table) (m : ModuleTree) (fuses : List Bool) (value : Lev
 
 -- the reset, or the preset, that all registers of the module share
 abbrev pub shared_at : Table → ModuleTree → Extension → Levels → Bool
-shared_at t m e at = shared_control (truth_at (design_of t m) at) (design_of t m) (given_at (design_of t m) at) e
+shared_at t m e at = shared_control (truth_at (design_of t m).context at) (design_of t m).context (given_at (design_of t m) at) e
 
 -- what the module sees of a point under the choice that the fuses show
 abbrev pub seen_at : Table → ModuleTree → (fuses : List Bool) → Levels → Levels
-seen_at t m fuses at = exchanged_at (inverting (is_inverted t fuses) (design_of t m)) at
+seen_at t m fuses at = exchanged_at (inverting (is_inverted t fuses) (design_of t m).context) at
 
 -- each enable row, and the reset and the preset row, is that of the module's own control
 pub record HasControlRows (t : Table) (m : ModuleTree) (fuses : List Bool) : Type 0 where
