@@ -69,11 +69,11 @@ module _ (t : Table) (laws : IsDevice t) (net : PlainNetlist) (order : List ℕ)
 
 -- the netlist's free registers are the module's
 same_choice : (t : Table) (m : ModuleTree) (net : PlainNetlist) (inverted : ℕ) → MeansTheSame t m net
-    → (c : ℕ) → chosen t net inverted c ≡ inverting (inverts_by t inverted) (design_of t m) c
+    → (c : ℕ) → chosen t net inverted c ≡ inverting (inverts_by t inverted) (design_of t m).context c
 same_choice t m net inverted means c =
     elim (cases_Bool (nat_lt c (length t.cells))) [
       | inl less ↦ ap (λ b. b && inverts_by t inverted c) (means.free c (ltb-true c (length t.cells) less))
-      | inr past ↦ rw past (never (is_free_wanted (wanted_at net c)) (is_free_signal (design_of t m) (signal_on (design_of t m) c)))
+      | inr past ↦ rw past (never (is_free_wanted (wanted_at net c)) (is_free_signal (design_of t m).context (signal_on (design_of t m).context c)))
     ]
   where
     never : (a b : Bool) → (a && false) ≡ (b && false)

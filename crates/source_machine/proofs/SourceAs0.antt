@@ -67,55 +67,55 @@ module _ (t : Table) (m : ModuleTree) (laws : IsDevice t) (means : MeansTheSame 
   net = netlist_of t m
 
   abbrev here : (c s : ℕ) → Wanted
-  here c s = wanted_for d (given_formulas d) c s (name_at d s)
+  here c s = wanted_for d.context (given_formulas d) c s (name_at d.context s)
 
   module _ (at : Levels) where
-    value_is : (s : ℕ) (c : ℕ) → value_with_any_0 (function_at at (here c s).function) ≡ value_with_any_0 (function_of (truth_at d at) (given_at d at) s)
+    value_is : (s : ℕ) (c : ℕ) → value_with_any_0 (function_at at (here c s).function) ≡ value_with_any_0 (function_of (truth_at d.context at) (given_at d at) s)
     value_is s c = ap (λ f. value_with_any_0 f) (formula_function d at s)
 
     raw_is : (s : ℕ) → is_raw_signal (given_formulas d) s ≡ is_raw_signal (given_at d at) s
     raw_is s = sym (raw_of (formula_value at) s (given_formulas d)) ∙ ap (λ cs. is_raw_signal cs s) (formulas_have_values d at)
 
     module _ (c : ℕ) (within : c < length t.cells) where
-      level_by : (found : Option ℕ) (v : Bool) → signal_on d c ≡ found → drives at (wanted_at net c) (cell_at t c).enable ≡ true
-          → same_level v (level_with_any_0 at c (option_map (here c) found)) ≡ pin_allows takes_any_as_0 d at (given_at d at) c found v
+      level_by : (found : Option ℕ) (v : Bool) → signal_on d.context c ≡ found → drives at (wanted_at net c) (cell_at t c).enable ≡ true
+          → same_level v (level_with_any_0 at c (option_map (here c) found)) ≡ pin_allows takes_any_as_0 d.context at (given_at d at) c found v
       level_by None v is on =
-          let none : wanted_at net c ≡ None = wanted_found d (given_formulas d) laws c within ∙ ap (option_map (here c)) is in
-          let stores : cell_stores d c ≡ true =
+          let none : wanted_at net c ≡ None = wanted_found d.context (given_formulas d) laws c within ∙ ap (option_map (here c)) is in
+          let stores : cell_stores d.context c ≡ true =
           sym (means.to.same_cells.stores c within) ∙ alone t laws net at c within (cell_at t c).enable refl none (ap (λ w. drives at w (cell_at t c).enable) (sym none) ∙ on) in
           rw stores refl
       level_by (Some s) v is on =
-          elim (cases_Bool (is_stored (name_at d s))) [
+          elim (cases_Bool (is_stored (name_at d.context s))) [
             | inl kept ↦ rw kept refl
-            | inr plain ↦ rw plain (turned (is_negated (name_at d s).kind) v (value_with_any_0 (function_at at (here c s).function)) ∙ ap (same_level (complement_if (is_negated (name_at d s).kind) v)) (value_is s c))
+            | inr plain ↦ rw plain (turned (is_negated (name_at d.context s).kind) v (value_with_any_0 (function_at at (here c s).function)) ∙ ap (same_level (complement_if (is_negated (name_at d.context s).kind) v)) (value_is s c))
           ]
 
       level_same : (v : Bool) → drives at (wanted_at net c) (cell_at t c).enable ≡ true → (netlist_with_any_0 t net).allows_level at c v ≡ (logic_with_any_0 d).allows_level at c v
       level_same v on =
-          ap (λ w. same_level v (level_with_any_0 at c w)) (wanted_found d (given_formulas d) laws c within) ∙ level_by (signal_on d c) v refl on
+          ap (λ w. same_level v (level_with_any_0 at c w)) (wanted_found d.context (given_formulas d) laws c within) ∙ level_by (signal_on d.context c) v refl on
 
-      next_named : (s : ℕ) (v raw : Bool) → is_stored (name_at d s) ≡ true → is_raw_signal (given_formulas d) s ≡ raw
-          → same_level v (data_with_any_0 at (here c s)) ≡ same_level (complement_if (q_complements raw (name_at d s)) v) (value_with_any_0 (function_at at (here c s).function))
+      next_named : (s : ℕ) (v raw : Bool) → is_stored (name_at d.context s) ≡ true → is_raw_signal (given_formulas d) s ≡ raw
+          → same_level v (data_with_any_0 at (here c s)) ≡ same_level (complement_if (q_complements raw (name_at d.context s)) v) (value_with_any_0 (function_at at (here c s).function))
       next_named s v true kept is = rw (kept, is) refl
-      next_named s v false kept is = rw (kept, is) (turned_twice (is_negated (name_at d s).kind) (not (follows_q (name_at d s))) v (value_with_any_0 (function_at at (here c s).function)))
+      next_named s v false kept is = rw (kept, is) (turned_twice (is_negated (name_at d.context s).kind) (not (follows_q (name_at d.context s))) v (value_with_any_0 (function_at at (here c s).function)))
 
-      next_by : (found : Option ℕ) (v : Bool) → cell_stores_for d c found ≡ true → same_level v (next_with_any_0 at (option_map (here c) found)) ≡ next_allows takes_any_as_0 d at (given_at d at) found v
+      next_by : (found : Option ℕ) (v : Bool) → cell_stores_for d.context c found ≡ true → same_level v (next_with_any_0 at (option_map (here c) found)) ≡ next_allows takes_any_as_0 d.context at (given_at d at) found v
       next_by None v stores = off v
       next_by (Some s) v stores =
           next_named s v (is_raw_signal (given_formulas d) s) stores refl
-          ∙ ap (λ r. same_level (complement_if (q_complements r (name_at d s)) v) (value_with_any_0 (function_at at (here c s).function))) (raw_is s)
-          ∙ ap (same_level (complement_if (q_complements (is_raw_signal (given_at d at) s) (name_at d s)) v)) (value_is s c)
+          ∙ ap (λ r. same_level (complement_if (q_complements r (name_at d.context s)) v) (value_with_any_0 (function_at at (here c s).function))) (raw_is s)
+          ∙ ap (same_level (complement_if (q_complements (is_raw_signal (given_at d at) s) (name_at d.context s)) v)) (value_is s c)
 
-      next_same : (v : Bool) → cell_stores d c ≡ true → (netlist_with_any_0 t net).allows_next at c v ≡ (logic_with_any_0 d).allows_next at c v
+      next_same : (v : Bool) → cell_stores d.context c ≡ true → (netlist_with_any_0 t net).allows_next at c v ≡ (logic_with_any_0 d).allows_next at c v
       next_same v stores =
-          ap (λ w. same_level v (next_with_any_0 at w)) (wanted_found d (given_formulas d) laws c within) ∙ next_by (signal_on d c) v stores
+          ap (λ w. same_level v (next_with_any_0 at w)) (wanted_found d.context (given_formulas d) laws c within) ∙ next_by (signal_on d.context c) v stores
 
-    node_by : (found : Option ℕ) (v : Bool) → same_level v (node_value_by d at (given_at d at) found) ≡ node_allows takes_any_as_0 d at (given_at d at) found v
+    node_by : (found : Option ℕ) (v : Bool) → same_level v (node_value_by d.context at (given_at d at) found) ≡ node_allows takes_any_as_0 d.context at (given_at d at) found v
     node_by None v = off v
     node_by (Some s) v = refl
 
     node_same : (n : ℕ) (v : Bool) → (netlist_with_any_0 t net).allows_node at n v ≡ (logic_with_any_0 d).allows_node at n v
-    node_same n v = ap (same_level v) (value_as t m at n) ∙ node_by (node_signal d n) v
+    node_same n v = ap (same_level v) (value_as t m at n) ∙ node_by (node_signal d.context n) v
 
   to_allows : (at : Levels) → IsPoint at → AllowsAt (netlist_with_any_0 t net) (logic_with_any_0 d) at at
   to_allows at is =

@@ -27,7 +27,7 @@ netlist_as_chosen t net inverted = exchanged (chosen t net inverted) (netlist_wi
 
 -- the module with any as 0, where its free registers on such cells invert
 abbrev pub module_as_chosen : Table → ModuleTree → (inverted : ℕ) → Logic
-module_as_chosen t m inverted = exchanged (inverting (inverts_by t inverted) (design_of t m)) (logic_with_any_0 (design_of t m))
+module_as_chosen t m inverted = exchanged (inverting (inverts_by t inverted) (design_of t m).context) (logic_with_any_0 (design_of t m))
 
 -- bit c says that the register of cell c stores the complement
 abbrev pub AreChosen : Table → PlainNetlist → (inverted complemented : ℕ) → Type 0

@@ -19,5 +19,5 @@ pub record AllowTheSame (a b : Logic) : Type 0 where
 -- point
 abbrev pub GatheredAs0 : Type 0
 GatheredAs0 =
-    (t : Table) (m : ModuleTree) → IsDevice t → RegistersHaveCells (design_of t m)
+    (t : Table) (m : ModuleTree) → IsDevice t → RegistersHaveCells (design_of t m).context
     → AllowTheSame (netlist_with_any_0 t (netlist_of t m)) (logic_with_any_0 (design_of t m))
