@@ -13,7 +13,7 @@ use Rattle.abel_tree.specs.declared.words.Extension.{Extension}
 use Rattle.abel_tree.specs.declared.words.Extension.TheVariants as extension
 use Rattle.abel_meaning.specs.Contributions as meant
 use Rattle.abel_meaning.specs.Controls.{is_control, control_by, control_of}
-use Rattle.abel_meaning.specs.Designs.{Design}
+use Rattle.abel_meaning.specs.Designs.{Context}
 use Rattle.abel_meaning.specs.FormulaBits.{formulas}
 use Rattle.abel_meaning.specs.Functions.{is_data_to, same_gives, some_holds, gives_some, gives_in, is_free_elsewhere, any_of, any_against, is_complement, is_raw_signal, single_function, both_function, function_of}
 use Rattle.abel_meaning.specs.Functions as meant_function
@@ -33,7 +33,7 @@ use Rattle.signal_sums.proofs.SeenLists.{and_grouped, filtered, any_seen, all_se
 
 -- ---- sums
 
-module _ (d : Design) (fs : List Formula) where
+module _ (d : Context) (fs : List Formula) where
   abbrev seen : Contribution → meant.Contribution Formula
   seen c = view_contribution fs c
 

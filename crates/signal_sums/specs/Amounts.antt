@@ -8,7 +8,7 @@ use Rattle.abel_tree.specs.declared.words.Extension.{Extension}
 use Rattle.abel_tree.specs.declared.words.Extension.TheVariants as extension
 use Rattle.abel_meaning.specs.Contributions as meant
 use Rattle.abel_meaning.specs.Controls.{is_the_control, control_of}
-use Rattle.abel_meaning.specs.Designs.{Design}
+use Rattle.abel_meaning.specs.Designs.{Context}
 use Rattle.abel_meaning.specs.FormulaBits.{formulas}
 use Rattle.abel_meaning.specs.Functions.{function_of, is_raw_signal}
 use Rattle.abel_meaning.specs.Netlists.{plain_function, plain_control}
@@ -40,14 +40,14 @@ target_place first = option_map (λ (c : Contribution). c.place) first
 
 -- a control in the second arena is the signal's by contributions in the first, with the place of the first of them
 pub record IsControlGiven (old new : List Formula) (cs : List Contribution) (s : ℕ) (e : Extension) (control : Option Control) : Type 0 where
-  pub is : (d : Design) → plain_control new control ≡ control_of (formulas d) (contributions_in old cs) s e
+  pub is : (d : Context) → plain_control new control ≡ control_of (formulas d) (contributions_in old cs) s e
   pub inside : IsControlIn (length new) control
   pub place : control_place control ≡ target_place (first_target s e cs)
 
 -- function and controls in the second arena are the signal's by contributions in the first, with the place of the first
 -- data
 pub record AreGiven (old new : List Formula) (cs : List Contribution) (s : ℕ) (totals : Totals) : Type 0 where
-  pub function : (d : Design) → plain_function new totals.function ≡ function_of (formulas d) (contributions_in old cs) s
+  pub function : (d : Context) → plain_function new totals.function ≡ function_of (formulas d) (contributions_in old cs) s
   pub inside : IsFunctionIn (length new) totals.function
   pub raw : totals.raw ≡ is_raw_signal (contributions_in old cs) s
   pub enable : IsControlGiven old new cs s extension.Oe totals.controls.enable
