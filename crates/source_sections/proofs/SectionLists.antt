@@ -3,7 +3,7 @@ use Rattle.std.proofs.Common.{◌≡◌, ℕ, Bool, List, [], ◌∷◌, ◌++�
 use Rattle.abel_tree.specs.FirstRefusal.{earlier, first_refusal}
 use Rattle.abel_tree.proofs.FirstRefusals.{first_append}
 use Rattle.abel_tree.specs.Tree.{SectionTree}
-use Rattle.abel_meaning.specs.Designs.{Design}
+use Rattle.abel_meaning.specs.Designs.{Context}
 use Rattle.abel_meaning.specs.Directives.{after_section}
 use Rattle.abel_meaning.specs.FormulaBits.{formulas}
 use Rattle.abel_meaning.specs.Sections.{next_block, section_gives, sections_give}
@@ -20,7 +20,7 @@ use Rattle.source_sections.specs.SectionUnits.{section_manners, sections_manners
 
 -- ---- lists
 
-pub manners_append : (d : Design) (all : List Manner) (ss ts : List SectionTree) → sections_manners d all (ss ++ ts) ≡ sections_manners d all ss ++ sections_manners d (all ++ sections_manners d all ss) ts
+pub manners_append : (d : Context) (all : List Manner) (ss ts : List SectionTree) → sections_manners d all (ss ++ ts) ≡ sections_manners d all ss ++ sections_manners d (all ++ sections_manners d all ss) ts
 manners_append d all [] ts = ap (λ ms. sections_manners d ms ts) (sym (append-nil all))
 manners_append d all (s ∷ ss) ts =
     let here = section_manners d all s in
@@ -29,11 +29,11 @@ manners_append d all (s ∷ ss) ts =
     ∙ sym (append_assoc here later (sections_manners d ((all ++ here) ++ later) ts))
     ∙ ap (λ ms. sections_manners d all (s ∷ ss) ++ sections_manners d ms ts) (append_assoc all here later)
 
-pub places_append : (d : Design) (ss ts : List SectionTree) → sections_places d (ss ++ ts) ≡ sections_places d ss ++ sections_places d ts
+pub places_append : (d : Context) (ss ts : List SectionTree) → sections_places d (ss ++ ts) ≡ sections_places d ss ++ sections_places d ts
 places_append d [] ts = refl
 places_append d (s ∷ ss) ts = ap (λ xs. section_places d s ++ xs) (places_append d ss ts) ∙ sym (append_assoc (section_places d s) (sections_places d ss) (sections_places d ts))
 
-pub units_append : (d : Design) (all : List Manner) (ss ts : List SectionTree) → units_of_sections d all (ss ++ ts) ≡ units_of_sections d all ss ++ units_of_sections d (all ++ sections_manners d all ss) ts
+pub units_append : (d : Context) (all : List Manner) (ss ts : List SectionTree) → units_of_sections d all (ss ++ ts) ≡ units_of_sections d all ss ++ units_of_sections d (all ++ sections_manners d all ss) ts
 units_append d all [] ts = ap (λ ms. units_of_sections d ms ts) (sym (append-nil all))
 units_append d all (s ∷ ss) ts =
     let here = section_manners d all s in
@@ -59,7 +59,7 @@ pub block_push : (block : ℕ) (ss : List SectionTree) (s : SectionTree) → blo
 block_push block [] s = refl
 block_push block (x ∷ ss) s = block_push (next_block block x) ss s
 
-pub gives_append : (d : Design) (on : Bool) (block : ℕ) (ss ts : List SectionTree) → sections_give (formulas d) d on block (ss ++ ts) ≡ sections_give (formulas d) d on block ss ++ sections_give (formulas d) d (after_sections on ss) (blocks_after block ss) ts
+pub gives_append : (d : Context) (on : Bool) (block : ℕ) (ss ts : List SectionTree) → sections_give (formulas d) d on block (ss ++ ts) ≡ sections_give (formulas d) d on block ss ++ sections_give (formulas d) d (after_sections on ss) (blocks_after block ss) ts
 gives_append d on block [] ts = refl
 gives_append d on block (s ∷ ss) ts =
     ap (λ xs. section_gives (formulas d) d on block s ++ xs) (gives_append d (after_section on s) (next_block block s) ss ts)
@@ -67,7 +67,7 @@ gives_append d on block (s ∷ ss) ts =
 
 -- ---- checks
 
-pub refused_next : (d : Design) (ss ts : List SectionTree) (s : SectionTree) → ts ≡ ss ++ s ∷ []
+pub refused_next : (d : Context) (ss ts : List SectionTree) (s : SectionTree) → ts ≡ ss ++ s ∷ []
     → earlier section_order (first_refusal section_order (units_refused (units_of_sections d [] ss))) (first_refusal section_order (units_refused (units_of_section d (sections_manners d [] ss) s)))
     ≡ first_refusal section_order (units_refused (units_of_sections d [] ts))
 refused_next d ss ts s e =
@@ -78,7 +78,7 @@ refused_next d ss ts s e =
     ∙ ap (first_refusal section_order) (sym (refused_append us vs))
     ∙ ap (λ xs. first_refusal section_order (units_refused xs)) (sym u)
 
-pub noted_next : (d : Design) (after : List Manner) (ss ts : List SectionTree) (s : SectionTree) → ts ≡ ss ++ s ∷ [] → AreFirsts after (sections_manners d [] ss ++ section_manners d (sections_manners d [] ss) s) → AreFirsts after (sections_manners d [] ts)
+pub noted_next : (d : Context) (after : List Manner) (ss ts : List SectionTree) (s : SectionTree) → ts ≡ ss ++ s ∷ [] → AreFirsts after (sections_manners d [] ss ++ section_manners d (sections_manners d [] ss) s) → AreFirsts after (sections_manners d [] ts)
 noted_next d after ss ts s e a =
     let all = sections_manners d [] ss in
     subst (AreFirsts after) (sym (ap (sections_manners d []) e ∙ manners_append d [] ss (s ∷ []) ∙ ap (λ xs. all ++ xs) (append-nil (section_manners d all s)))) a
@@ -86,10 +86,10 @@ noted_next d after ss ts s e a =
 -- ---- builds
 
 -- what is left by building sections, from nothing assigned
-abbrev pub Under : Design → Bool → List SectionTree → (old new : Contributions) → Result Unit SectionFault → Type 0
+abbrev pub Under : Context → Bool → List SectionTree → (old new : Contributions) → Result Unit SectionFault → Type 0
 Under d on ss old new r = Builds (units_of_sections d [] ss) (sections_give (formulas d) d on 0 ss) (sections_places d ss) old new r
 
-pub sections_next : (d : Design) (on : Bool) (ss ts : List SectionTree) (s : SectionTree) (old mid new : Contributions) (r : Result Unit SectionFault) → ts ≡ ss ++ s ∷ []
+pub sections_next : (d : Context) (on : Bool) (ss ts : List SectionTree) (s : SectionTree) (old mid new : Contributions) (r : Result Unit SectionFault) → ts ≡ ss ++ s ∷ []
     → IsBuilt (units_of_sections d [] ss) (sections_give (formulas d) d on 0 ss) (sections_places d ss) old mid
     → Builds (units_of_section d (sections_manners d [] ss) s) (section_gives (formulas d) d (after_sections on ss) (blocks_after 0 ss) s) (section_places d s) mid new r
     → Under d on ts old new r
@@ -108,7 +108,7 @@ sections_next d on ss ts s old mid new r e b a =
     (subst (λ xs. Builds (us ++ vs) (gs ++ hs) xs old new r) (sym p) (builds_then us vs gs hs ps qs old mid new r b a)))
 
 -- what a section leaves, where it stands
-pub section_stands : (d : Design) (all : List Manner) (s : SectionTree) (on here : Bool) (block number : ℕ) (old new : Contributions) (r : Result Unit SectionFault) → on ≡ here → block ≡ number
+pub section_stands : (d : Context) (all : List Manner) (s : SectionTree) (on here : Bool) (block number : ℕ) (old new : Contributions) (r : Result Unit SectionFault) → on ≡ here → block ≡ number
     → Builds (units_of_section d all s) (section_gives (formulas d) d on block s) (section_places d s) old new r
     → Builds (units_of_section d all s) (section_gives (formulas d) d here number s) (section_places d s) old new r
 section_stands d all s on here block number old new r o b h =
@@ -116,14 +116,14 @@ section_stands d all s on here block number old new r o b h =
     (subst (λ k. Builds (units_of_section d all s) (section_gives (formulas d) d k block s) (section_places d s) old new r) o h)
 
 -- where memory is out behind sections, those that were built stand
-pub memory_behind : (d : Design) (on : Bool) (ss : List SectionTree) (old new : Contributions) → Under d on ss old new (Ok tt) → Under d on ss old new (Err fault.OutOfMemory)
+pub memory_behind : (d : Context) (on : Bool) (ss : List SectionTree) (old new : Contributions) → Under d on ss old new (Ok tt) → Under d on ss old new (Err fault.OutOfMemory)
 memory_behind d on ss old new b = (
   tt,
   record { keeps = b.made.grew.keeps; more = b.made.more; later = []; later_places = []; front = b.made.whole },
 )
 
 -- where one stops, those behind it aren't built
-pub sections_stop : (d : Design) (on : Bool) (ss ts us : List SectionTree) (old new : Contributions) (f : SectionFault) → us ≡ ss ++ ts → Under d on ss old new (Err f) → Under d on us old new (Err f)
+pub sections_stop : (d : Context) (on : Bool) (ss ts us : List SectionTree) (old new : Contributions) (f : SectionFault) → us ≡ ss ++ ts → Under d on ss old new (Err f) → Under d on us old new (Err f)
 sections_stop d on ss ts us old new f e b =
     let xs = units_of_sections d [] ss in
     let ys = units_of_sections d (sections_manners d [] ss) ts in

@@ -72,12 +72,12 @@ pub constant_told : (cs us : List SectionFault) (f : SectionFault) → first_ref
 constant_told cs us f e n = told_of (cs ++ us) f (ap (λ xs. first_refusal section_order (cs ++ xs)) n ∙ ap (first_refusal section_order) (append-nil cs) ∙ e)
 
 -- all units are contributed
-pub contributed : (d : Design) (new : Contributions) → constants_refused d.names ≡ [] → AnswersUnits (source_units d) (given_formulas d) (sections_places d d.sections) (at [] []) new (Ok tt) → AreContributed d new
+pub contributed : (d : Design) (new : Contributions) → constants_refused d.context.names ≡ [] → AnswersUnits (source_units d) (given_formulas d) (sections_places d.context d.sections) (at [] []) new (Ok tt) → AreContributed d new
 contributed d new h a =
     let made = a.1 in
     let whole = made.whole in
     record {
-      accepted = both_empty (constants_refused d.names) (all_refused (length (arena [])) (source_units d)) h a.0;
+      accepted = both_empty (constants_refused d.context.names) (all_refused (length (arena [])) (source_units d)) h a.0;
       inside = subst (AllLieIn (length (arena new.exprs))) (sym whole.list) whole.inside;
       gives = ap (map (view_contribution (arena new.exprs))) whole.list ∙ sym (whole.gives ∙ append-nil (map (view_contribution (arena new.exprs)) made.more));
       places = ap (map (λ (c : Contribution). c.place)) whole.list ∙ sym (whole.stand ∙ append-nil (map (λ (c : Contribution). c.place) made.more));

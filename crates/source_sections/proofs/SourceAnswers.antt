@@ -14,7 +14,7 @@ use Rattle.abel_meaning.specs.Sections.{sections_give}
 use Rattle.abel_meaning.specs.SignalReads.{given_formulas}
 use Rattle.set_expr.specs.declared.contributions.Contributions.{Contributions}
 use Rattle.set_expr.specs.declared.fault.SectionFault.{SectionFault}
-use Rattle.set_expr.specs.Answer.{IsDesignOf}
+use Rattle.set_expr.specs.Answer.{IsContextOf}
 use Rattle.set_expr.specs.SectionOrder.{section_order}
 use Rattle.section_targets.specs.Building.{Builds}
 use Rattle.section_targets.specs.Units.{units_refused}
@@ -26,21 +26,21 @@ use Rattle.source_sections.specs.SectionUnits.{sections_places, units_of_section
 abbrev pub designed : Table → Names → Module → Design
 designed t n m = design_for t (entries_of n) (view_module m)
 
-pub is_designed : (t : Table) (n : Names) (m : Module) → IsDesignOf t n (designed t n m)
+pub is_designed : (t : Table) (n : Names) (m : Module) → IsContextOf t n (designed t n m).context
 is_designed t n m = record { device = refl; names = refl; known = refl }
 
 -- what is refused of the sections is refused of the source
 pub source_refused : (t : Table) (n : Names) (m : Module) (list : List Section) (f : Option SectionFault) → list ≡ m.sections
-    → f ≡ first_refusal section_order (units_refused (units_of_sections (designed t n m) [] (view_sections list)))
+    → f ≡ first_refusal section_order (units_refused (units_of_sections (designed t n m).context [] (view_sections list)))
     → f ≡ first_refusal section_order (units_refused (source_units (designed t n m)))
-source_refused t n m list f e h = h ∙ ap (λ xs. first_refusal section_order (units_refused (units_of_sections (designed t n m) [] (view_sections xs)))) e
+source_refused t n m list f e h = h ∙ ap (λ xs. first_refusal section_order (units_refused (units_of_sections (designed t n m).context [] (view_sections xs)))) e
 
 -- what the sections give is what the source gives
 pub source_builds : (t : Table) (n : Names) (m : Module) (list : List Section) (decls : List Decl) (on : Bool) (old new : Contributions) (r : Result Unit SectionFault)
     → list ≡ m.sections → decls ≡ m.decls → on ≡ after_declarations false (map view_decl decls)
-    → Builds (units_of_sections (designed t n m) [] (view_sections list)) (sections_give (formulas (designed t n m)) (designed t n m) on 0 (view_sections list)) (sections_places (designed t n m) (view_sections list)) old new r
-    → Builds (source_units (designed t n m)) (given_formulas (designed t n m)) (sections_places (designed t n m) (designed t n m).sections) old new r
+    → Builds (units_of_sections (designed t n m).context [] (view_sections list)) (sections_give (formulas (designed t n m).context) (designed t n m).context on 0 (view_sections list)) (sections_places (designed t n m).context (view_sections list)) old new r
+    → Builds (source_units (designed t n m)) (given_formulas (designed t n m)) (sections_places (designed t n m).context (designed t n m).sections) old new r
 source_builds t n m list decls on old new r e k o h =
-    let d = designed t n m in
+    let d = (designed t n m).context in
     let started = subst (λ b. Builds (units_of_sections d [] (view_sections list)) (sections_give (formulas d) d b 0 (view_sections list)) (sections_places d (view_sections list)) old new r) (o ∙ ap (λ ds. after_declarations false (map view_decl ds)) k) h in
     subst (λ xs. Builds (units_of_sections d [] (view_sections xs)) (sections_give (formulas d) d (after_declarations false (map view_decl m.decls)) 0 (view_sections xs)) (sections_places d (view_sections xs)) old new r) e started

@@ -22,18 +22,18 @@ use Rattle.source_sections.specs.SectionUnits.{units_of_sections, sections_place
 
 -- all units of a source
 abbrev pub source_units : Design → List CountedUnit
-source_units d = units_of_sections d [] d.sections
+source_units d = units_of_sections d.context [] d.sections
 
 -- all that is refused of constants and sections, the limit of nodes too
 abbrev pub sections_refused : Design → List SectionFault
-sections_refused d = constants_refused d.names ++ all_refused (length (arena [])) (source_units d)
+sections_refused d = constants_refused d.context.names ++ all_refused (length (arena [])) (source_units d)
 
 -- nothing is refused, and just what the source says is contributed, in just the counted nodes
 pub record AreContributed (d : Design) (found : Contributions) : Type 0 where
   pub accepted : sections_refused d ≡ []
   pub inside : AllLieIn (length (arena found.exprs)) found.list
   pub gives : given found ≡ given_formulas d
-  pub places : map (λ (c : Contribution). c.place) found.list ≡ sections_places d d.sections
+  pub places : map (λ (c : Contribution). c.place) found.list ≡ sections_places d.context d.sections
   pub nodes : length (arena found.exprs) ≡ length (arena []) + units_nodes (source_units d)
 
 -- want of memory, or the first of refusals

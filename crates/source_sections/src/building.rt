@@ -1,22 +1,18 @@
 //! The building of sections, one after another, up to the first unit that is refused or passes the limit.
 
 ghost use Rattle.std.specs.Prelude.{◌≡◌, [], OnOk};
-ghost use Rattle.abel_tree.specs.Entries.{entries_of};
 ghost use Rattle.abel_tree.specs.View.{view_section};
-ghost use Rattle.set_expr.specs.KnownNames.{IsKnown};
-ghost use Rattle.expr_bits.specs.Placed.{ArePlaced};
-ghost use Rattle.row_entries.specs.EntryTerms.{AreInOrder};
 ghost use Rattle.equations.specs.Checks.{AreNames};
 ghost use Rattle.source_sections.specs.Reading.{NotesSection, BuildsSection, BuildsSections, view_sections};
 
 use crate::behind::{after_section, block_after};
-use abel_tree::{Names, Section};
+use abel_tree::Section;
 use bit_expr::{ExprId, Exprs};
 use diagram_contributions::build_diagram;
 use equations::build_statements;
 use pld_device::Device;
 use section_targets::{Assigned, NamedSignals};
-use set_expr::{Contribution, Guard, KnownNames, SectionFault};
+use set_expr::{Contribution, Guard, Scope, SectionFault};
 use std::alloc::Global;
 use table_contributions::build_table;
 
@@ -36,8 +32,7 @@ fn unguarded(dontcare: bool, block: Option<u32>) -> Guard
 /// A section, where `@DCSET` is in force or not, which may be the block with this number; how it assigns signals is noted.
 fn build_section<D: Device>(
     alloc: Global,
-    names: &Names,
-    known: &KnownNames,
+    scope: &Scope<'_>,
     named: &[NamedSignals],
     dontcare: bool,
     block: u32,
@@ -46,30 +41,23 @@ fn build_section<D: Device>(
     exprs: &mut Exprs,
     list: &mut Vec<Contribution>,
 ) -> Result<(), SectionFault>
-    requires known { IsKnown (entries_of names.now) known.now }
-    requires named { AreNames names.now named.now }
-    requires order { AreInOrder (entries_of names.now) }
-    requires placed { ArePlaced names.now }
-    ensures before { OnOk result (NotesSection D.table names.now before.old before.new (view_section section.now)) }
-    ensures builds { BuildsSection D.table names.now dontcare block before.old (view_section section.now) exprs.old exprs.new list.old.items list.new.items result }
+    requires named { AreNames scope.now named.now }
+    ensures before { OnOk result (NotesSection D.table scope.now before.old before.new (view_section section.now)) }
+    ensures builds { BuildsSection D.table scope.now dontcare block before.old (view_section section.now) exprs.old exprs.new list.old.items list.new.items result }
 {
     match section {
         Section::Equations(stmts) => {
             let guard = unguarded(dontcare, None);
             let stmts = stmts.as_slice();
-            build_statements::<D>(
-                alloc, names, known, named, guard, stmts, before, exprs, list,
-            )
+            build_statements::<D>(alloc, scope, named, guard, stmts, before, exprs, list)
         }
         Section::Table(table) => {
             let guard = unguarded(dontcare, Some(block));
-            build_table::<D>(alloc, names, known, guard, table, before, exprs, list)
+            build_table::<D>(alloc, scope, guard, table, before, exprs, list)
         }
         Section::Diagram(diagram) => {
             let guard = unguarded(dontcare, Some(block));
-            build_diagram::<D>(
-                alloc, names, known, named, guard, diagram, before, exprs, list,
-            )
+            build_diagram::<D>(alloc, scope, named, guard, diagram, before, exprs, list)
         }
         Section::Declarations(_) => Ok(()),
         Section::DontCare(_) => Ok(()),
@@ -80,21 +68,17 @@ fn build_section<D: Device>(
 /// The sections of a source, where `@DCSET` is in force before them or not.
 pub(crate) fn build_sections<D: Device>(
     alloc: Global,
-    names: &Names,
-    known: &KnownNames,
+    scope: &Scope<'_>,
     named: &[NamedSignals],
     starts_dontcare: bool,
     sections: &[Section],
     exprs: &mut Exprs,
     list: &mut Vec<Contribution>,
 ) -> Result<(), SectionFault>
-    requires known { IsKnown (entries_of names.now) known.now }
-    requires named { AreNames names.now named.now }
-    requires order { AreInOrder (entries_of names.now) }
-    requires placed { ArePlaced names.now }
+    requires named { AreNames scope.now named.now }
     requires exprs { exprs.old ≡ [] }
     requires list { list.old.items ≡ [] }
-    ensures { BuildsSections D.table names.now starts_dontcare (view_sections sections.now) exprs.new list.new.items result }
+    ensures { BuildsSections D.table scope.now starts_dontcare (view_sections sections.now) exprs.new list.new.items result }
 {
     let mut before = Assigned::new(alloc);
     let mut dontcare = starts_dontcare;
@@ -102,8 +86,7 @@ pub(crate) fn build_sections<D: Device>(
     for section in sections {
         build_section::<D>(
             alloc,
-            names,
-            known,
+            scope,
             named,
             dontcare,
             block,

@@ -6,29 +6,25 @@ ghost use Rattle.abel_tree.specs.FirstRefusal as first;
 ghost use Rattle.abel_tree.specs.View.{view_module};
 ghost use Rattle.set_expr.specs.declared.fault.SectionFault.TheVariants.{OutOfMemory};
 ghost use Rattle.set_expr.specs.FoundNames.{constants_refused};
-ghost use Rattle.set_expr.specs.KnownNames.{IsKnown};
 ghost use Rattle.set_expr.specs.SectionOrder.{section_order};
-ghost use Rattle.row_entries.specs.EntryTerms.{AreInOrder};
-ghost use Rattle.expr_bits.specs.Placed.{ArePlaced};
 ghost use Rattle.source_sections.specs.SectionAnswers.{AnswersModule};
 
 use crate::building::build_sections;
 use crate::checking::check_sections;
 use crate::directives::after_declarations;
-use abel_tree::{Module, Names};
+use abel_tree::Module;
 use bit_expr::Exprs;
 use pld_base::ListOf;
 use pld_device::Device;
 use section_targets::{answer_units, target_names};
-use set_expr::{Contributions, KnownNames, SectionFault, check_constants, earlier};
+use set_expr::{Contributions, Scope, SectionFault, earlier};
 use std::alloc::Global;
 
 /// The first refusal, by place, of all constants. Takes no memory.
-fn refused_constant(names: &Names, known: &KnownNames) -> Option<SectionFault>
-    requires { IsKnown (entries_of names.now) known.now }
-    ensures { result ≡ first.first_refusal section_order (constants_refused (entries_of names.now)) }
+fn refused_constant(scope: &Scope<'_>) -> Option<SectionFault>
+    ensures { result ≡ first.first_refusal section_order (constants_refused (entries_of scope.now)) }
 {
-    match check_constants(names, known) {
+    match scope.check_constants() {
         Ok(()) => None,
         Err(fault) => Some(fault),
     }
@@ -60,33 +56,28 @@ fn first_of(constant: Option<SectionFault>, section: SectionFault) -> SectionFau
 /// checked first, and then built in order up to the first unit that is refused or passes the limit.
 pub fn contributions<D: Device>(
     alloc: Global,
-    names: &Names,
-    known: &KnownNames,
+    scope: &Scope<'_>,
     source: &Module,
 ) -> Result<Contributions, SectionFault>
-    requires known { IsKnown (entries_of names.now) known.now }
-    requires order { AreInOrder (entries_of names.now) }
-    requires placed { ArePlaced names.now }
-    ensures { AnswersModule D.table names.now (view_module source.now) result }
+    ensures { AnswersModule D.table scope.now (view_module source.now) result }
 {
-    let named = target_names(alloc, names, known)?;
+    let named = target_names(alloc, scope)?;
     let named = named.as_slice();
     let sections = source.sections.as_slice();
-    let fault = check_sections::<D>(alloc, names, known, named, sections)?;
+    let fault = check_sections::<D>(alloc, scope, named, sections)?;
     let starts_dontcare = after_declarations(false, source.decls.as_slice());
     let mut exprs = Exprs::new(alloc);
     let mut list = Vec::new(alloc);
     let built = build_sections::<D>(
         alloc,
-        names,
-        known,
+        scope,
         named,
         starts_dontcare,
         sections,
         &mut exprs,
         &mut list,
     );
-    let constant = refused_constant(names, known);
+    let constant = refused_constant(scope);
     match answer_units(fault, built) {
         Ok(()) => match constant {
             None => Ok(Contributions {

@@ -37,4 +37,4 @@ returns-in-Diagram-clause-builds g c = λ d all is a.
 
 pub returns-in-Table-clause-before : goal.returns-in-Table-clause-before
 returns-in-Table-clause-before g c =
-    subst (λ s. OnOk c.build_table.result (NotesSection g.D.Device.table c.args.names.now c.args.before.now c.build_table.new.before s)) (sym (ap view_section c.in-Table.is)) c.build_table.ensures.before
+    subst (λ s. OnOk c.build_table.result (NotesSection g.D.Device.table c.args.scope.now c.args.before.now c.build_table.new.before s)) (sym (ap view_section c.in-Table.is)) c.build_table.ensures.before

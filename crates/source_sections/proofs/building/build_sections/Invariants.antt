@@ -9,6 +9,6 @@ invariant-loop-section g l =
     record {
       directive : l.dontcare ≡ after_sections l.starts_dontcare (view_sections (take l.section-index l.sections));
       block : l.block ≡ blocks_after 0 (view_sections (take l.section-index l.sections));
-      notes : NotesSections g.D.Device.table l.names l.before (view_sections (take l.section-index l.sections));
-      builds : BuildsSections g.D.Device.table l.names l.starts_dontcare (view_sections (take l.section-index l.sections)) l.exprs l.list.items (Ok tt);
+      notes : NotesSections g.D.Device.table l.scope l.before (view_sections (take l.section-index l.sections));
+      builds : BuildsSections g.D.Device.table l.scope l.starts_dontcare (view_sections (take l.section-index l.sections)) l.exprs l.list.items (Ok tt);
     }

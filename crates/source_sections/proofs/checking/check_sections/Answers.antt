@@ -29,5 +29,5 @@ loop-section-preserved g c =
 pub returns : goal.returns
 returns g c =
     let list = c.args.sections.now in
-    subst (λ (xs : List Section). RefusesSections g.D.Device.table c.args.names.now (view_sections xs) c.loop-section.fault)
+    subst (λ (xs : List Section). RefusesSections g.D.Device.table c.args.scope.now (view_sections xs) c.loop-section.fault)
     (ap (λ n. take n list) (omega (arith, c.loop-section-test.false, c.loop-section.auto.section-index-end)) ∙ take-length list) c.loop-section.invariant.0

@@ -5,5 +5,5 @@ use Rattle.source_sections.proofs.checking.check_sections.Given as goal
 
 abbrev pub invariant-loop-section : goal.invariant-loop-section
 invariant-loop-section g l =
-    RefusesSections g.D.Device.table l.names (view_sections (take l.section-index l.sections)) l.fault
-    × NotesSections g.D.Device.table l.names l.before (view_sections (take l.section-index l.sections))
+    RefusesSections g.D.Device.table l.scope (view_sections (take l.section-index l.sections)) l.fault
+    × NotesSections g.D.Device.table l.scope l.before (view_sections (take l.section-index l.sections))
