@@ -3,7 +3,7 @@ use Rattle.std.proofs.Common.{◌≡◌, ℕ, suc, ◌+◌, ◌≤◌, nat_lt, B
 use Rattle.std.proofs.lemmas.Bool.Decides.{nat_tests}
 use Rattle.std.proofs.lemmas.List.{length-map}
 use Rattle.abel_tree.specs.Tree.{RowTree, SectionTree, Declarations, Equations, ATable, ADiagram, SomeVectors, DontCareSection}
-use Rattle.abel_meaning.specs.Designs.{Design}
+use Rattle.abel_meaning.specs.Designs.{Context}
 use Rattle.abel_meaning.specs.Terms.{Term, term_of}
 use Rattle.abel_meaning.specs.Vectors.{row_chars, section_vectors, sections_vectors}
 use Rattle.set_expr.specs.declared.fault.SectionFault.{SectionFault}
@@ -29,7 +29,7 @@ capped_more n m = by_test (nat_lt n 9999) refl
 -- ---- refusals
 
 -- behind as many vectors as a source may have each row is refused, however many they are
-rows_late : (d : Design) (m n : ℕ) (h k : Term) (rs : List RowTree) → 9999 ≤ m → 9999 ≤ n → rows_refused d m h k rs ≡ rows_refused d n h k rs
+rows_late : (d : Context) (m n : ℕ) (h k : Term) (rs : List RowTree) → 9999 ≤ m → 9999 ≤ n → rows_refused d m h k rs ≡ rows_refused d n h k rs
 rows_late d m n h k [] p q = refl
 rows_late d m n h k (r ∷ rs) p q =
     let a : nat_lt m 9999 ≡ false = grind (arith, nat_tests) in
@@ -37,7 +37,7 @@ rows_late d m n h k (r ∷ rs) p q =
     ap₂ (λ b xs. (if b then [] else BadVector r.place ∷ []) ++ (row_refused d h k r ++ xs)) (a ∙ sym c)
     (rows_late d (suc m) (suc n) h k rs (omega (arith, p)) (omega (arith, q)))
 
-vectors_late : (d : Design) (m n : ℕ) (s : SectionTree) → 9999 ≤ m → 9999 ≤ n → vectors_refused d m s ≡ vectors_refused d n s
+vectors_late : (d : Context) (m n : ℕ) (s : SectionTree) → 9999 ≤ m → 9999 ≤ n → vectors_refused d m s ≡ vectors_refused d n s
 vectors_late d m n (SomeVectors _ p a b rs) x y = ap (if_none (header_refused d p a b)) (rows_late d m n (term_of d.known a) (term_of d.known b) rs x y)
 vectors_late d m n (Declarations ds) x y = refl
 vectors_late d m n (Equations ss) x y = refl
@@ -45,7 +45,7 @@ vectors_late d m n (ATable p a c b rs) x y = refl
 vectors_late d m n (ADiagram p t ss) x y = refl
 vectors_late d m n (DontCareSection c) x y = refl
 
-pub vectors_capped : (d : Design) (n : ℕ) (s : SectionTree) → vectors_refused d (capped n) s ≡ vectors_refused d n s
+pub vectors_capped : (d : Context) (n : ℕ) (s : SectionTree) → vectors_refused d (capped n) s ≡ vectors_refused d n s
 vectors_capped d n s = by_test (nat_lt n 9999) refl
   where
     by_test : (b : Bool) → nat_lt n 9999 ≡ b → vectors_refused d (if b then n else 9999) s ≡ vectors_refused d n s
@@ -58,7 +58,7 @@ behind_header : (xs ys : List SectionFault) → if_none xs ys ≡ [] → ys ≡ 
 behind_header [] ys e = e
 behind_header (x ∷ xs) ys e = absurd cc
 
-section_few : (d : Design) (n : ℕ) (s : SectionTree) → n ≤ 9999 → vectors_refused d n s ≡ [] → n + length (section_vectors d s) ≤ 9999
+section_few : (d : Context) (n : ℕ) (s : SectionTree) → n ≤ 9999 → vectors_refused d n s ≡ [] → n + length (section_vectors d s) ≤ 9999
 section_few d n (SomeVectors _ p a b rs) le e =
     let rows : n + length rs ≤ 9999 = rows_few d n (term_of d.known a) (term_of d.known b) rs le (behind_header (header_refused d p a b) (rows_refused d n (term_of d.known a) (term_of d.known b) rs) e) in
     let mapped = length-map rs (row_chars d (term_of d.known a) (term_of d.known b)) in
@@ -69,7 +69,7 @@ section_few d n (ATable p a c b rs) le e = omega (arith, le)
 section_few d n (ADiagram p t ss) le e = omega (arith, le)
 section_few d n (DontCareSection c) le e = omega (arith, le)
 
-pub all_few : (d : Design) (n : ℕ) (ss : List SectionTree) → n ≤ 9999 → refused_behind d n ss ≡ [] → n + length (sections_vectors d ss) ≤ 9999
+pub all_few : (d : Context) (n : ℕ) (ss : List SectionTree) → n ≤ 9999 → refused_behind d n ss ≡ [] → n + length (sections_vectors d ss) ≤ 9999
 all_few d n [] le e = omega (arith, le)
 all_few d n (s ∷ ss) le e =
     let later = refused_behind d (n + length (section_vectors d s)) ss in

@@ -10,7 +10,7 @@ use Rattle.jedec_file.specs.TestVectors.{IsTestVector, all_chars, chars_of}
 use Rattle.abel_tree.specs.FirstRefusal.{first_refusal, earlier}
 use Rattle.abel_tree.specs.Tree.{SectionTree}
 use Rattle.abel_tree.proofs.FirstRefusals.{first_append, none_refused}
-use Rattle.abel_meaning.specs.Designs.{Design}
+use Rattle.abel_meaning.specs.Designs.{Context, Design}
 use Rattle.abel_meaning.specs.Vectors.{section_vectors, sections_vectors}
 use Rattle.set_expr.specs.declared.fault.SectionFault.{SectionFault}
 use Rattle.set_expr.specs.declared.fault.SectionFault.TheVariants as fault
@@ -25,14 +25,14 @@ use Rattle.source_vectors.proofs.SectionCounts.{all_few, vectors_capped}
 
 -- ---- lists
 
-pub vectors_push : (d : Design) (ss : List SectionTree) (s : SectionTree) → sections_vectors d (ss ++ s ∷ []) ≡ sections_vectors d ss ++ section_vectors d s
+pub vectors_push : (d : Context) (ss : List SectionTree) (s : SectionTree) → sections_vectors d (ss ++ s ∷ []) ≡ sections_vectors d ss ++ section_vectors d s
 vectors_push d [] s = append-nil (section_vectors d s)
 vectors_push d (x ∷ ss) s = ap (λ xs. section_vectors d x ++ xs) (vectors_push d ss s) ∙ sym (append_assoc (section_vectors d x) (sections_vectors d ss) (section_vectors d s))
 
-pub count_push : (d : Design) (ss : List SectionTree) (s : SectionTree) → length (sections_vectors d (ss ++ s ∷ [])) ≡ length (sections_vectors d ss) + length (section_vectors d s)
+pub count_push : (d : Context) (ss : List SectionTree) (s : SectionTree) → length (sections_vectors d (ss ++ s ∷ [])) ≡ length (sections_vectors d ss) + length (section_vectors d s)
 count_push d ss s = ap length (vectors_push d ss s) ∙ length-append (sections_vectors d ss) (section_vectors d s)
 
-refused_push : (d : Design) (n : ℕ) (ss : List SectionTree) (s : SectionTree) → refused_behind d n (ss ++ s ∷ []) ≡ refused_behind d n ss ++ vectors_refused d (n + length (sections_vectors d ss)) s
+refused_push : (d : Context) (n : ℕ) (ss : List SectionTree) (s : SectionTree) → refused_behind d n (ss ++ s ∷ []) ≡ refused_behind d n ss ++ vectors_refused d (n + length (sections_vectors d ss)) s
 refused_push d n [] s = append-nil (vectors_refused d n s) ∙ ap (λ m. vectors_refused d m s) (omega arith)
 refused_push d n (x ∷ ss) s =
     let k = length (section_vectors d x) in
@@ -43,7 +43,7 @@ refused_push d n (x ∷ ss) s =
 
 -- ---- the answer for a section
 
-answered : (d : Design) (n : ℕ) (s : SectionTree) (r : Result (Vec Vector) SectionFault) → section_fault r ≢ Some fault.OutOfMemory → Answers d n s r → first_refusal section_order (vectors_refused d n s) ≡ section_fault r
+answered : (d : Context) (n : ℕ) (s : SectionTree) (r : Result (Vec Vector) SectionFault) → section_fault r ≢ Some fault.OutOfMemory → Answers d n s r → first_refusal section_order (vectors_refused d n s) ≡ section_fault r
 answered d n s (Ok list) o h = ap (first_refusal section_order) h.0
 answered d n s (Err (fault.MisplacedSpecial p)) o h = h
 answered d n s (Err (fault.NotConstant p)) o h = h
@@ -57,16 +57,16 @@ answered d n s (Err (fault.BadVector p)) o h = h
 answered d n s (Err (fault.NodeLimit p)) o h = h
 answered d n s (Err fault.OutOfMemory) o h = absurd (o refl)
 
-chars_by : (d : Design) (n : ℕ) (s : SectionTree) (r : Result (Vec Vector) SectionFault) → section_fault r ≡ None → Answers d n s r → all_chars d.device (section_list r) ≡ section_vectors d s
+chars_by : (d : Context) (n : ℕ) (s : SectionTree) (r : Result (Vec Vector) SectionFault) → section_fault r ≡ None → Answers d n s r → all_chars d.device (section_list r) ≡ section_vectors d s
 chars_by d n s (Ok list) e h = h.1
 chars_by d n s (Err f) e h = absurd cc
 
 -- ---- one section more
 
-pub none_found : (d : Design) (found : Found) → found.fault ≡ None → found.list.items ≡ [] → AreFound d [] found
+pub none_found : (d : Context) (found : Found) → found.fault ≡ None → found.list.items ≡ [] → AreFound d [] found
 none_found d found e f = record { fault = e; list = λ _. ap (all_chars d.device) f }
 
-pub found_next : (d : Design) (before : ℕ) (ss ts : List SectionTree) (s : SectionTree) (old new : Found) (r : Result (Vec Vector) SectionFault) → ts ≡ ss ++ s ∷ [] → before ≡ capped (length (sections_vectors d ss))
+pub found_next : (d : Context) (before : ℕ) (ss ts : List SectionTree) (s : SectionTree) (old new : Found) (r : Result (Vec Vector) SectionFault) → ts ≡ ss ++ s ∷ [] → before ≡ capped (length (sections_vectors d ss))
     → Answers d before s r → Adds old new r → AreFound d ss old → AreFound d ts new
 found_next d before ss ts s old new r e b h adds so_far =
     let n = length (sections_vectors d ss) in
@@ -92,12 +92,12 @@ chars_next t old new (Err f) adds h k = subst (All (IsTestVector t)) (sym (adds.
 
 -- ---- all sections
 
-pub all_found : (d : Design) (found : Found) → found.fault ≡ None → AreFound d d.sections found → AreVectors d found.list.items
+pub all_found : (d : Design) (found : Found) → found.fault ≡ None → AreFound d.context d.sections found → AreVectors d found.list.items
 all_found d found e h =
-    record { accepted = none_refused section_order (refused_behind d 0 d.sections) (sym e ∙ h.fault); chars = h.list e }
+    record { accepted = none_refused section_order (refused_behind d.context 0 d.sections) (sym e ∙ h.fault); chars = h.list e }
 
 pub found_few : (d : Design) (list : List Vector) → AreVectors d list → length list ≤ 9999
 found_few d list h =
-    let few : 0 + length (sections_vectors d d.sections) ≤ 9999 = all_few d 0 d.sections (omega arith) h.accepted in
-    let same : length list ≡ length (sections_vectors d d.sections) = sym (length-map list (chars_of d.device)) ∙ ap length h.chars in
+    let few : 0 + length (sections_vectors d.context d.sections) ≤ 9999 = all_few d.context 0 d.sections (omega arith) h.accepted in
+    let same : length list ≡ length (sections_vectors d.context d.sections) = sym (length-map list (chars_of d.context.device)) ∙ ap length h.chars in
     omega arith

@@ -5,7 +5,7 @@ use Rattle.pld_base.specs.declared.point.Vector.{Vector}
 use Rattle.jedec_file.specs.TestVectors.{all_chars}
 use Rattle.abel_tree.specs.FirstRefusal.{first_refusal, earlier}
 use Rattle.abel_tree.specs.Tree.{SectionTree}
-use Rattle.abel_meaning.specs.Designs.{Design}
+use Rattle.abel_meaning.specs.Designs.{Context}
 use Rattle.abel_meaning.specs.Vectors.{sections_vectors}
 use Rattle.set_expr.specs.declared.fault.SectionFault.{SectionFault}
 use Rattle.set_expr.specs.declared.fault.SectionFault.TheVariants.{OutOfMemory}
@@ -36,6 +36,6 @@ pub record Adds (old new : Found) (r : Result (Vec Vector) SectionFault) : Type 
 -- ---- sections
 
 -- the first refusal of sections, and their vectors where there is none
-pub record AreFound (d : Design) (ss : List SectionTree) (found : Found) : Type 0 where
+pub record AreFound (d : Context) (ss : List SectionTree) (found : Found) : Type 0 where
   pub fault : found.fault ≡ first_refusal section_order (refused_behind d 0 ss)
   pub list : found.fault ≡ None → all_chars d.device found.list.items ≡ sections_vectors d ss

@@ -2,7 +2,7 @@
 
 ghost use Rattle.std.specs.Prelude.{◌≡◌, ◌+◌, ◌≤◌, length};
 ghost use Rattle.abel_tree.specs.View.{view_section};
-ghost use Rattle.abel_meaning.specs.Designs.{Design};
+ghost use Rattle.abel_meaning.specs.Designs.{Context};
 ghost use Rattle.abel_meaning.specs.Vectors.{section_vectors};
 ghost use Rattle.source_vectors.specs.FoundVectors.{capped};
 
@@ -13,7 +13,7 @@ const MOST: u32 = 9_999;
 
 /// The rows of vectors of a section.
 fn rows_of(section: &Section) -> usize
-    ensures { (d : Design) → result ≡ length (section_vectors d (view_section section.now)) }
+    ensures { (d : Context) → result ≡ length (section_vectors d (view_section section.now)) }
 {
     match section {
         Section::Declarations(_) => 0,
@@ -42,7 +42,7 @@ fn capped_sum(before: u32, rows: usize) -> u32
 pub(crate) fn count_after(before: u32, section: &Section) -> u32
     requires { before ≤ 9999 }
     ensures few { result ≤ 9999 }
-    ensures sum { (d : Design) → result ≡ capped (before + length (section_vectors d (view_section section.now))) }
+    ensures sum { (d : Context) → result ≡ capped (before + length (section_vectors d (view_section section.now))) }
 {
     capped_sum(before, rows_of(section))
 }

@@ -7,19 +7,16 @@ ghost use Rattle.abel_tree.specs.FirstRefusal as first;
 ghost use Rattle.abel_tree.specs.View.{view_module};
 ghost use Rattle.abel_meaning.specs.Designs.{Design, design_for};
 ghost use Rattle.set_expr.specs.declared.fault.SectionFault.{SectionFault};
-ghost use Rattle.set_expr.specs.KnownNames.{IsKnown};
 ghost use Rattle.set_expr.specs.SectionOrder.{section_order};
-ghost use Rattle.row_entries.specs.EntryTerms.{AreInOrder};
-ghost use Rattle.expr_bits.specs.Placed.{ArePlaced};
 ghost use Rattle.source_sections.specs.SectionAnswers.{IsTold, sections_refused};
 ghost use Rattle.source_vectors.specs.AllSections.{AnswersAll, all_sections_refused};
 ghost use Rattle.source_vectors.specs.SourceVectors.{AnswersVectors};
 
 use crate::reading::all_vectors;
-use abel_tree::{Module, Names};
+use abel_tree::Module;
 use pld_base::Vector;
 use pld_device::Device;
-use set_expr::{Contributions, KnownNames, SectionFault, earlier};
+use set_expr::{Contributions, Scope, SectionFault, earlier};
 use source_sections::contributions;
 use std::alloc::Global;
 
@@ -67,20 +64,16 @@ fn first_with(section: SectionFault, tested: &Result<Vec<Vector>, SectionFault>)
 /// and its vectors. Else the first refusal by place.
 pub fn all_sections<D: Device>(
     alloc: Global,
-    names: &Names,
-    known: &KnownNames,
+    scope: &Scope<'_>,
     source: &Module,
 ) -> Result<SourceSections, SectionFault>
-    requires known { IsKnown (entries_of names.now) known.now }
-    requires order { AreInOrder (entries_of names.now) }
-    requires placed { ArePlaced names.now }
-    ensures answers { AnswersAll (design_for D.table (entries_of names.now) (view_module source.now)) result }
+    ensures answers { AnswersAll (design_for D.table (entries_of scope.now) (view_module source.now)) result }
     // A fuse file has room for the vectors, and may have each.
     ensures few { IfOk result (λ found. length found.vectors.items ≤ 9999) }
     ensures chars { IfOk result (λ found. All (IsTestVector D.table) found.vectors.items) }
 {
-    let given = contributions::<D>(alloc, names, known, source);
-    let tested = all_vectors::<D>(alloc, names, known, source);
+    let given = contributions::<D>(alloc, scope, source);
+    let tested = all_vectors::<D>(alloc, scope, source);
     match given {
         Ok(contributions) => match tested {
             Ok(vectors) => Ok(SourceSections {

@@ -4,34 +4,29 @@ ghost use Rattle.std.specs.Prelude.{◌≡◌, ◌≤◌, All, IfOk, length};
 ghost use Rattle.jedec_file.specs.TestVectors.{IsTestVector};
 ghost use Rattle.abel_tree.specs.Entries.{entries_of};
 ghost use Rattle.abel_tree.specs.View.{view_module};
-ghost use Rattle.abel_meaning.specs.Designs.{Design, design_for};
-ghost use Rattle.set_expr.specs.Answer.{IsDesignOf};
-ghost use Rattle.set_expr.specs.KnownNames.{IsKnown};
-ghost use Rattle.row_entries.specs.EntryTerms.{AreInOrder};
+ghost use Rattle.abel_meaning.specs.Designs.{Context, design_for};
+ghost use Rattle.set_expr.specs.Answer.{IsContextOf};
 ghost use Rattle.source_sections.specs.Reading.{view_sections};
 ghost use Rattle.source_vectors.specs.FoundVectors.{AreFound};
 ghost use Rattle.source_vectors.specs.SourceVectors.{AnswersVectors};
 
 use crate::counting::count_after;
 use crate::finding::{Found, add_section};
-use abel_tree::{Module, Names, Section};
+use abel_tree::{Module, Section};
 use abel_vectors::vectors;
 use pld_base::{OutOfMemory, Vector};
 use pld_device::Device;
-use set_expr::{KnownNames, SectionFault};
+use set_expr::{Scope, SectionFault};
 use std::alloc::Global;
 
 /// The first refusal, by place, of the vectors of sections, and the vectors where there is none. All sections are gone
 /// over, since any may have the first refusal.
 fn read_vectors<D: Device>(
     alloc: Global,
-    names: &Names,
-    known: &KnownNames,
+    scope: &Scope<'_>,
     sections: &[Section],
 ) -> Result<Found, OutOfMemory>
-    requires known { IsKnown (entries_of names.now) known.now }
-    requires order { AreInOrder (entries_of names.now) }
-    ensures found { IfOk result (λ found. (d : Design) → IsDesignOf D.table names.now d → AreFound d (view_sections sections.now) found) }
+    ensures found { IfOk result (λ found. (d : Context) → IsContextOf D.table scope.now d → AreFound d (view_sections sections.now) found) }
     ensures chars { IfOk result (λ found. All (IsTestVector D.table) found.list.items) }
 {
     let mut found = Found {
@@ -40,7 +35,7 @@ fn read_vectors<D: Device>(
     };
     let mut before = 0u32;
     for section in sections {
-        let read = vectors::<D>(alloc, names, known, section, before);
+        let read = vectors::<D>(alloc, scope, section, before);
         add_section(&mut found, read)?;
         before = count_after(before, section);
     }
@@ -51,18 +46,15 @@ fn read_vectors<D: Device>(
 /// refused; else the first refusal by place.
 pub fn all_vectors<D: Device>(
     alloc: Global,
-    names: &Names,
-    known: &KnownNames,
+    scope: &Scope<'_>,
     source: &Module,
 ) -> Result<Vec<Vector>, SectionFault>
-    requires known { IsKnown (entries_of names.now) known.now }
-    requires order { AreInOrder (entries_of names.now) }
-    ensures answers { AnswersVectors (design_for D.table (entries_of names.now) (view_module source.now)) result }
+    ensures answers { AnswersVectors (design_for D.table (entries_of scope.now) (view_module source.now)) result }
     // A fuse file has room for them, and may have each.
     ensures few { IfOk result (λ list. length list.items ≤ 9999) }
     ensures chars { IfOk result (λ list. All (IsTestVector D.table) list.items) }
 {
-    let found = read_vectors::<D>(alloc, names, known, source.sections.as_slice())?;
+    let found = read_vectors::<D>(alloc, scope, source.sections.as_slice())?;
     match found.fault {
         None => Ok(found.list),
         Some(fault) => Err(fault),

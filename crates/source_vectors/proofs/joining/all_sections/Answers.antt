@@ -6,5 +6,5 @@ use Rattle.source_vectors.proofs.joining.all_sections.Goals as goal
 
 pub returns-in-Err-clause-answers : goal.returns-in-Err-clause-answers
 returns-in-Err-clause-answers g c =
-    let d = designed g.D.Device.table c.args.names.now c.args.source.now in
+    let d = designed g.D.Device.table c.args.scope.now c.args.source.now in
     c.first_with.ensures d (subst (AnswersSections d) c.in-Err.is c.contributions-given.ensures) c.all_vectors-tested.ensures.answers

@@ -12,27 +12,27 @@ use Rattle.source_vectors.proofs.reading.all_vectors.Goals as goal
 pub returns-in-None-clause-answers : goal.returns-in-None-clause-answers
 returns-in-None-clause-answers g c =
     let t = g.D.Device.table in
-    let n = c.args.names.now in
+    let n = c.args.scope.now in
     let m = c.args.source.now in
     let d = designed t n m in
     let found = c.in_ok-found.found in
-    all_found d found c.in-None.is (subst (λ (xs : List Section). AreFound d (view_sections xs) found) c.as_slice.ensures (c.in_ok-found.ensures.found d (is_designed t n m)))
+    all_found d found c.in-None.is (subst (λ (xs : List Section). AreFound d.context (view_sections xs) found) c.as_slice.ensures (c.in_ok-found.ensures.found d.context (is_designed t n m)))
 
 pub returns-in-None-clause-few : goal.returns-in-None-clause-few
 returns-in-None-clause-few g c =
     let t = g.D.Device.table in
-    let n = c.args.names.now in
+    let n = c.args.scope.now in
     let m = c.args.source.now in
     let d = designed t n m in
     let found = c.in_ok-found.found in
-    found_few d found.list.items (all_found d found c.in-None.is (subst (λ (xs : List Section). AreFound d (view_sections xs) found) c.as_slice.ensures (c.in_ok-found.ensures.found d (is_designed t n m))))
+    found_few d found.list.items (all_found d found c.in-None.is (subst (λ (xs : List Section). AreFound d.context (view_sections xs) found) c.as_slice.ensures (c.in_ok-found.ensures.found d.context (is_designed t n m))))
 
 pub returns-in-Some-clause-answers : goal.returns-in-Some-clause-answers
 returns-in-Some-clause-answers g c =
     let t = g.D.Device.table in
-    let n = c.args.names.now in
+    let n = c.args.scope.now in
     let m = c.args.source.now in
     let d = designed t n m in
     let found = c.in_ok-found.found in
     told_of (all_vectors_refused d) c.in-Some.fault
-    (sym (subst (λ (xs : List Section). AreFound d (view_sections xs) found) c.as_slice.ensures (c.in_ok-found.ensures.found d (is_designed t n m))).fault ∙ c.in-Some.is)
+    (sym (subst (λ (xs : List Section). AreFound d.context (view_sections xs) found) c.as_slice.ensures (c.in_ok-found.ensures.found d.context (is_designed t n m))).fault ∙ c.in-Some.is)

@@ -2,9 +2,9 @@
 use Rattle.std.proofs.Common.{◌≡◌, ◌≤◌, length, take}
 use Rattle.std.specs.Prelude.{All}
 use Rattle.jedec_file.specs.TestVectors.{IsTestVector}
-use Rattle.abel_meaning.specs.Designs.{Design}
+use Rattle.abel_meaning.specs.Designs.{Context}
 use Rattle.abel_meaning.specs.Vectors.{sections_vectors}
-use Rattle.set_expr.specs.Answer.{IsDesignOf}
+use Rattle.set_expr.specs.Answer.{IsContextOf}
 use Rattle.source_sections.specs.Reading.{view_sections}
 use Rattle.source_vectors.specs.FoundVectors.{AreFound, capped}
 use Rattle.source_vectors.proofs.reading.read_vectors.Given as goal
@@ -13,7 +13,7 @@ abbrev pub invariant-loop-section : goal.invariant-loop-section
 invariant-loop-section g l =
     record {
       few : l.before ≤ 9999;
-      count : (d : Design) → l.before ≡ capped (length (sections_vectors d (view_sections (take l.section-index l.sections))));
-      found : (d : Design) → IsDesignOf g.D.Device.table l.names d → AreFound d (view_sections (take l.section-index l.sections)) l.found;
+      count : (d : Context) → l.before ≡ capped (length (sections_vectors d (view_sections (take l.section-index l.sections))));
+      found : (d : Context) → IsContextOf g.D.Device.table l.scope d → AreFound d (view_sections (take l.section-index l.sections)) l.found;
       chars : All (IsTestVector g.D.Device.table) l.found.list.items;
     }
