@@ -9,7 +9,7 @@ use Rattle.bit_expr.specs.Formulas.{Formula}
 use Rattle.bit_expr.specs.Reading.{AreReads}
 use Rattle.abel_tree.specs.Entries.{Kind, APin, ANode, AConstant, ADeviceName, Entry}
 use Rattle.abel_meaning.specs.Contributions as meant
-use Rattle.abel_meaning.specs.Designs.{Design, is_stored, cell_on}
+use Rattle.abel_meaning.specs.Designs.{Context, is_stored, cell_on}
 use Rattle.abel_meaning.specs.SignalReads.{leaf_by, settles, settles_by, signal_names, function_names, names_if_any}
 use Rattle.gathered.specs.Gathered.{cell_by, cell_of}
 use Rattle.set_expr.specs.declared.contributions.Contribution.{Contribution}
@@ -35,7 +35,7 @@ module _ (P Q : List ℕ → List Link → Type 0) (same : (ns : List ℕ) (ls :
   starts_same true first s (n ∷ ns) [] starts = absurd starts
   starts_same true first s (n ∷ ns) (k ∷ ks) starts = (starts.0, starts.1, same ns ks starts.2)
 
-module _ (d : Design) (cs : List (meant.Contribution Formula)) (x : Entry) where
+module _ (d : Context) (cs : List (meant.Contribution Formula)) (x : Entry) where
   -- a name that isn't linked
   pub links_kept : (s : ℕ) (xs : List Entry) (ns : List ℕ) (ls : List Link) → is_linked d.device x ≡ false → AreLinksFrom d cs s xs ns ls → AreLinksFrom d cs s (xs ++ x ∷ []) ns ls
   links_kept s [] ns ls other are = rw other are
@@ -59,7 +59,7 @@ reads_same f g r same are = record {
   nodes = λ n below. are.nodes n below ∙ same (leaf.Node n);
 }
 
-module _ (d : Design) (old new : List Formula) (cs : List Contribution) (s : ℕ) (totals : Totals) (given : AreGiven old new cs s totals) where
+module _ (d : Context) (old new : List Formula) (cs : List Contribution) (s : ℕ) (totals : Totals) (given : AreGiven old new cs s totals) where
   names_same : (l : Leaf) → totals_name new totals l ≡ signal_names d (contributions_in old cs) s l
   names_same l = ap₂ (λ f c. function_names f l || names_if_any c l) (given.function d) (given.enable.is d)
 

@@ -15,7 +15,7 @@ use Rattle.abel_tree.specs.declared.words.Extension.TheVariants as extension
 use Rattle.abel_tree.specs.Entries.{Kind, APin, ANode, AConstant, ADeviceName, Entry}
 use Rattle.abel_meaning.specs.Contributions as meant
 use Rattle.abel_meaning.specs.Controls.{control_of, control_if_stored}
-use Rattle.abel_meaning.specs.Designs.{Design, is_stored}
+use Rattle.abel_meaning.specs.Designs.{Context, is_stored}
 use Rattle.abel_meaning.specs.FormulaBits.{formulas}
 use Rattle.abel_meaning.specs.Functions.{function_of, is_raw_signal}
 use Rattle.abel_meaning.specs.Functions as meant_function
@@ -47,7 +47,7 @@ and_cell_on : (w : Option Wanted) (ws vs : List Wanted) → and_cell w (ws ++ vs
 and_cell_on None ws vs = refl
 and_cell_on (Some w) ws vs = refl
 
-module _ (d : Design) (cs : List (meant.Contribution Formula)) where
+module _ (d : Context) (cs : List (meant.Contribution Formula)) where
   nodes_end : (s i : ℕ) (xs : List Entry) (x : Entry) → i ≡ s + length xs → nodes_from d cs s (xs ++ x ∷ []) ≡ nodes_from d cs s xs ++ and_node x.kind (function_of (formulas d) cs i) []
   nodes_end s i [] x e = ap (λ j. and_node x.kind (function_of (formulas d) cs j) []) (let same : s ≡ i = omega (arith, e) in same)
   nodes_end s i (y ∷ ys) x e =
@@ -140,7 +140,7 @@ if_inside : (count : ℕ) (stored : Bool) (control : Option Control) → IsContr
 if_inside count true control inside = inside
 if_inside count false control inside = tt
 
-if_seen : (fs : List Formula) (d : Design) (cs : List (meant.Contribution Formula)) (e : Extension) (s : ℕ) (x : Entry) (stored : Bool) (control : Option Control) → is_stored x ≡ stored → plain_control fs control ≡ control_of (formulas d) cs s e
+if_seen : (fs : List Formula) (d : Context) (cs : List (meant.Contribution Formula)) (e : Extension) (s : ℕ) (x : Entry) (stored : Bool) (control : Option Control) → is_stored x ≡ stored → plain_control fs control ≡ control_of (formulas d) cs s e
     → plain_control fs (control_if stored control) ≡ control_if_stored (formulas d) cs e s x
 if_seen fs d cs e s x true control is same = rw is same
 if_seen fs d cs e s x false control is same = rw is refl
@@ -157,7 +157,7 @@ if_placed cs s e true control is = is
 if_placed cs s e false control is = λ c none. absurd cc
 
 module _ (t : Table) (old new : List Formula) (cs : List Contribution) (c s : ℕ) (x : Entry) (totals : Totals) (given : AreGiven old new cs s totals) where
-  cell_seen : (d : Design) → d.device ≡ t → plain_wanted new (asked_cell t c s x totals) ≡ wanted_for d (contributions_in old cs) c s x
+  cell_seen : (d : Context) → d.device ≡ t → plain_wanted new (asked_cell t c s x totals) ≡ wanted_for d (contributions_in old cs) c s x
   cell_seen d e =
       rw (e, row_seen new (cell_at t c).enable totals.controls.enable, given.enable.is d, given.function d, given.raw, if_seen new d (contributions_in old cs) extension.Ar s x (is_stored x) totals.controls.reset refl (given.reset.is d), if_seen new d (contributions_in old cs) extension.Sp s x (is_stored x) totals.controls.preset refl (given.preset.is d)) refl
 
@@ -218,13 +218,13 @@ module _ (t : Table) (first old : List Formula) (cs : List Contribution) (xs : L
     same : contributions_in old cs ≡ contributions_in first cs
     same = same_contributions first old standing cs inside
 
-    nodes_still : (d : Design) → map (plain_function new) asked.nodes.items ≡ nodes_from d (contributions_in first cs) 0 xs
+    nodes_still : (d : Context) → map (plain_function new) asked.nodes.items ≡ nodes_from d (contributions_in first cs) 0 xs
     nodes_still d = same_functions old new stands asked.nodes.items asks.nodes_in ∙ asks.nodes d
 
-    cells_same : (d : Design) → d.device ≡ t → map (plain_wanted new) asked.cells.items ≡ cells_from d (contributions_in first cs) 0 xs
+    cells_same : (d : Context) → d.device ≡ t → map (plain_wanted new) asked.cells.items ≡ cells_from d (contributions_in first cs) 0 xs
     cells_same d e = same_cells old new stands asked.cells.items asks.cells_in ∙ asks.cells d e
 
-    linked_more : (d : Design) (more : Asked) (link : Link) → d.device ≡ t → more.signals.items ≡ asked.signals.items ++ s ∷ [] → more.links.items ≡ asked.links.items ++ link ∷ [] → is_linked t x ≡ true → IsLinkOf d (contributions_in old cs) s x link
+    linked_more : (d : Context) (more : Asked) (link : Link) → d.device ≡ t → more.signals.items ≡ asked.signals.items ++ s ∷ [] → more.links.items ≡ asked.links.items ++ link ∷ [] → is_linked t x ≡ true → IsLinkOf d (contributions_in old cs) s x link
         → AreLinksFrom d (contributions_in first cs) 0 (xs ++ x ∷ []) more.signals.items more.links.items
     linked_more d more link e signals links linked of =
         subst (λ ns. AreLinksFrom d (contributions_in first cs) 0 (xs ++ x ∷ []) ns more.links.items) (sym signals)

@@ -8,7 +8,7 @@ use Rattle.bit_expr.specs.declared.netlist.Control.{Control}
 use Rattle.bit_expr.specs.Formulas.{Formula}
 use Rattle.abel_tree.specs.Entries.{Entry}
 use Rattle.abel_meaning.specs.Choices.{is_free}
-use Rattle.abel_meaning.specs.Designs.{Design, is_stored, follows_q}
+use Rattle.abel_meaning.specs.Designs.{Context, is_stored, follows_q}
 use Rattle.abel_meaning.specs.Netlists.{plain_function, plain_wanted}
 use Rattle.abel_meaning.specs.SoundIds.{IsFunctionIn, IsCellIn}
 use Rattle.abel_meaning.specs.SourceLogic.{is_negated}
@@ -50,9 +50,9 @@ asked_cell t c s x totals =
 
 -- what is asked, over the second arena, is the netlist of these names by contributions over the first
 pub record Asks (t : Table) (first now : List Formula) (cs : List Contribution) (xs : List Entry) (asked : Asked) : Type 0 where
-  pub nodes : (d : Design) → map (plain_function now) asked.nodes.items ≡ nodes_from d (contributions_in first cs) 0 xs
-  pub cells : (d : Design) → d.device ≡ t → map (plain_wanted now) asked.cells.items ≡ cells_from d (contributions_in first cs) 0 xs
+  pub nodes : (d : Context) → map (plain_function now) asked.nodes.items ≡ nodes_from d (contributions_in first cs) 0 xs
+  pub cells : (d : Context) → d.device ≡ t → map (plain_wanted now) asked.cells.items ≡ cells_from d (contributions_in first cs) 0 xs
   pub nodes_in : All (IsFunctionIn (length now)) asked.nodes.items
   pub cells_in : All (IsCellIn (length now)) asked.cells.items
   pub places : All (IsPlaced cs) asked.cells.items
-  pub links : (d : Design) → d.device ≡ t → AreLinksFrom d (contributions_in first cs) 0 xs asked.signals.items asked.links.items
+  pub links : (d : Context) → d.device ≡ t → AreLinksFrom d (contributions_in first cs) 0 xs asked.signals.items asked.links.items

@@ -5,7 +5,7 @@ use Rattle.bit_expr.specs.Formulas.{Formula}
 use Rattle.bit_expr.specs.Reading.{AreReads}
 use Rattle.abel_tree.specs.Entries.{Kind, ANode, Entry}
 use Rattle.abel_meaning.specs.Contributions.{Contribution}
-use Rattle.abel_meaning.specs.Designs.{Design, is_stored}
+use Rattle.abel_meaning.specs.Designs.{Context, is_stored}
 use Rattle.abel_meaning.specs.SignalReads.{leaf_by, settles, signal_names}
 use Rattle.gathered.specs.Gathered.{cell_of}
 use Rattle.signal_chains.specs.declared.link.Link.{Link}
@@ -21,7 +21,7 @@ is_linked t x = is_node_kind x.kind || is_some (cell_of t x)
 
 -- the signal as others read it: by its leaf; it reads what its function and its enable name, and nothing where it is a
 -- register
-pub record IsLinkOf (d : Design) (cs : List (Contribution Formula)) (s : ℕ) (x : Entry) (link : Link) : Type 0 where
+pub record IsLinkOf (d : Context) (cs : List (Contribution Formula)) (s : ℕ) (x : Entry) (link : Link) : Type 0 where
   pub leaf : link.leaf ≡ leaf_by d x x.kind
   pub reads : AreReads (λ l. settles x && signal_names d cs s l) link.reads
   pub stored : link.stored ≡ is_stored x
@@ -37,10 +37,10 @@ StartsIf true first others s ns ls = StartsWith first others s ns ls
 StartsIf false first others s ns ls = others ns ls
 
 -- numbers and links of all names that are linked, in order of declaration; the first name has this number
-abbrev pub AreLinksFrom : Design → List (Contribution Formula) → ℕ → List Entry → List ℕ → List Link → Type 0
+abbrev pub AreLinksFrom : Context → List (Contribution Formula) → ℕ → List Entry → List ℕ → List Link → Type 0
 AreLinksFrom d cs s [] ns ls = (ns ≡ []) × (ls ≡ [])
 AreLinksFrom d cs s (x ∷ xs) ns ls = StartsIf (is_linked d.device x) (IsLinkOf d cs s x) (AreLinksFrom d cs (suc s) xs) s ns ls
 
 -- those of a design
-abbrev pub AreLinks : Design → List (Contribution Formula) → List ℕ → List Link → Type 0
+abbrev pub AreLinks : Context → List (Contribution Formula) → List ℕ → List Link → Type 0
 AreLinks d cs ns ls = AreLinksFrom d cs 0 d.names ns ls

@@ -3,10 +3,10 @@
 ghost use Rattle.std.specs.Prelude.{◌≡◌, ◌<◌, ◌+◌, All, [], ℕ, length, IfOk, OnOk, get_or};
 ghost use Rattle.bit_expr.specs.Arena.{arena};
 ghost use Rattle.abel_tree.specs.Entries.{entries_of};
-ghost use Rattle.abel_meaning.specs.Designs.{Design};
+ghost use Rattle.abel_meaning.specs.Designs.{Context};
 ghost use Rattle.abel_meaning.specs.Netlists.{plain_netlist};
 ghost use Rattle.abel_meaning.specs.SoundIds.{no_pair, pair_of_cell, pair_of_pin};
-ghost use Rattle.set_expr.specs.Answer.{IsDesignOf};
+ghost use Rattle.set_expr.specs.Answer.{IsContextOf};
 ghost use Rattle.set_expr.specs.Given.{given};
 ghost use Rattle.signal_sums.specs.Parts.{AllLieIn, Stands};
 ghost use Rattle.gathered.specs.Gathered.{gathered_from};
@@ -76,9 +76,9 @@ pub fn gather_up<D: Device>(
     found: Contributions,
 ) -> Result<Gathered, OutOfMemory>
     requires { AllLieIn (length (arena found.exprs)) found.list }
-    ensures netlist { IfOk result (λ r. (d : Design) → IsDesignOf D.table names.now d
+    ensures netlist { IfOk result (λ r. (d : Context) → IsContextOf D.table names.now d
         → plain_netlist r.net ≡ gathered_from d (given found)) }
-    ensures links { IfOk result (λ r. (d : Design) → IsDesignOf D.table names.now d
+    ensures links { IfOk result (λ r. (d : Context) → IsContextOf D.table names.now d
         → AreLinks d (given found) r.signals r.links) }
     ensures ids { IfOk result (λ r. AreIdsIn r.net) }
     ensures places { IfOk result (λ r. All (IsPlaced found.list) r.net.cells) }
