@@ -4,11 +4,11 @@ use Rattle.std.proofs.lemmas.Bool.{cases_Bool, true≢false}
 use Rattle.bit_expr.specs.Formulas.{Formula}
 use Rattle.abel_tree.specs.Entries.{Entry}
 use Rattle.abel_meaning.specs.Contributions as meant
-use Rattle.abel_meaning.specs.Designs.{Design, no_name}
+use Rattle.abel_meaning.specs.Designs.{Context, no_name}
 use Rattle.signal_chains.specs.declared.link.Link.{Link}
 use Rattle.gathering.specs.Linked.{is_linked, IsLinkOf, StartsIf, AreLinksFrom}
 
-module _ (d : Design) (cs : List (meant.Contribution Formula)) where
+module _ (d : Context) (cs : List (meant.Contribution Formula)) where
   -- the link at a place is that of a name of the list that is linked
   abbrev pub IsHere : ℕ → List Entry → ℕ → Link → Type 0
   IsHere s xs n l =

@@ -4,16 +4,16 @@ use Rattle.bit_expr.specs.declared.node.Leaf.{Leaf}
 use Rattle.abel_tree.specs.declared.words.Extension.TheVariants as extension
 use Rattle.abel_tree.specs.Entries.{APin}
 use Rattle.abel_meaning.specs.Controls.{control_of}
-use Rattle.abel_meaning.specs.Designs.{Design, name_at, cell_on}
+use Rattle.abel_meaning.specs.Designs.{Context, Design, name_at, cell_on}
 use Rattle.abel_meaning.specs.FormulaBits.{formulas}
 use Rattle.abel_meaning.specs.SignalReads.{given_formulas, names_if_any}
 
 -- the reset equation of a signal names the leaf
 abbrev pub reset_names : Design → (s : ℕ) → Leaf → Bool
-reset_names d s = names_if_any (control_of (formulas d) (given_formulas d) s extension.Ar)
+reset_names d s = names_if_any (control_of (formulas d.context) (given_formulas d) s extension.Ar)
 
 -- each pin that is assigned is that of a cell
-abbrev pub AssignedHaveCells : Design → Type 0
+abbrev pub AssignedHaveCells : Context → Type 0
 AssignedHaveCells d =
     (s pin : ℕ) (negated : Bool) → (name_at d s).kind ≡ APin pin negated → (name_at d s).assigned ≡ true
     → IsSome (cell_on d.device pin)

@@ -35,10 +35,10 @@ pub fn signal_loop(
     requires few { length links.now ≤ 256 }
     requires leaves { AreLeaves links.now }
     requires count { length signals.now ≡ length links.now }
-    ensures found { IfOk result (λ r. IfSome r (λ chain. (d : Design) → AssignedHaveCells d
-        → AreLinks d (given_formulas d) signals.now links.now → IsSignalLoop d chain.items)) }
-    ensures none { IfOk result (λ r. IfNone r ((d : Design) → AssignedHaveCells d
-        → AreLinks d (given_formulas d) signals.now links.now → HasNoSignalLoop d)) }
+    ensures found { IfOk result (λ r. IfSome r (λ chain. (d : Design) → AssignedHaveCells d.context
+        → AreLinks d.context (given_formulas d) signals.now links.now → IsSignalLoop d chain.items)) }
+    ensures none { IfOk result (λ r. IfNone r ((d : Design) → AssignedHaveCells d.context
+        → AreLinks d.context (given_formulas d) signals.now links.now → HasNoSignalLoop d)) }
 {
     match first_loop(alloc, links)? {
         None => Ok(None),
@@ -57,11 +57,11 @@ pub fn reset_path(
     requires few { length links.now ≤ 256 }
     requires leaves { AreLeaves links.now }
     requires count { length signals.now ≡ length links.now }
-    ensures found { IfOk result (λ r. IfSome r (λ path. (d : Design) (s : ℕ) → AssignedHaveCells d
-        → AreLinks d (given_formulas d) signals.now links.now → AreReads (reset_names d s) reset.now
+    ensures found { IfOk result (λ r. IfSome r (λ path. (d : Design) (s : ℕ) → AssignedHaveCells d.context
+        → AreLinks d.context (given_formulas d) signals.now links.now → AreReads (reset_names d s) reset.now
         → IsSignalPath d s path.items)) }
-    ensures none { IfOk result (λ r. IfNone r ((d : Design) (s : ℕ) → AssignedHaveCells d
-        → AreLinks d (given_formulas d) signals.now links.now → AreReads (reset_names d s) reset.now
+    ensures none { IfOk result (λ r. IfNone r ((d : Design) (s : ℕ) → AssignedHaveCells d.context
+        → AreLinks d.context (given_formulas d) signals.now links.now → AreReads (reset_names d s) reset.now
         → HasNoSignalPath d s)) }
 {
     match path_to_register(alloc, links, reset)? {
