@@ -17,7 +17,7 @@ use Rattle.abel_tree.specs.declared.words.Extension.{Extension}
 use Rattle.abel_tree.specs.declared.words.Extension.TheVariants as extension
 use Rattle.abel_tree.specs.Entries.{Kind, APin, ANode, AConstant, ADeviceName, Entry}
 use Rattle.abel_meaning.specs.Controls.{is_pin, signal_on, cell_stores_for, must_register}
-use Rattle.abel_meaning.specs.Designs.{Design, name_at, no_name, is_stored, follows_q, cell_on}
+use Rattle.abel_meaning.specs.Designs.{Context, name_at, no_name, is_stored, follows_q, cell_on}
 use Rattle.abel_meaning.specs.SoundIds.{carries_cell}
 use Rattle.abel_meaning.specs.Sources.{Held, pin_source, register_source, node_source, on_pin, source_by}
 use Rattle.gathered.specs.SignalUses.{holds_leaf}
@@ -37,7 +37,7 @@ same_cell : (x : Carry) (c : ℕ) → carries_cell c x ≡ true → x ≡ carry.
 same_cell (carry.Pin p) c is = absurd cc
 same_cell (carry.Cell e) c is = ap (λ n. carry.Cell n) (eqb-true e c is)
 
-module _ (d : Design) (apart : PinsApart d) where
+module _ (d : Context) (apart : PinsApart d) where
   -- ---- registers
 
   q_carried : (c : ℕ) → carries_q d.device (Some c) ≡ true → HasColumns d (leaf.Q c)

@@ -2,7 +2,7 @@
 use Rattle.std.specs.Prelude.{◌≡◌, true, false, map}
 use Rattle.bit_expr.specs.declared.node.Leaf.{Leaf}
 use Rattle.abel_tree.specs.Tree.{Tree}
-use Rattle.abel_meaning.specs.Designs.{Design}
+use Rattle.abel_meaning.specs.Designs.{Context}
 use Rattle.abel_meaning.specs.Terms.{term_of}
 use Rattle.gathered.specs.SignalUses.{term_uses, use_reads}
 use Rattle.gathered.specs.Takeable.{PinsApart, HasColumns}
@@ -13,12 +13,12 @@ use Rattle.design_uses.specs.SectionUses.{expression_uses}
 
 -- the uses of an expression are what its term reads
 abbrev pub UsesAreRead : Type 0
-UsesAreRead = (d : Design) (t : Tree) → map (λ (u : PlacedUse). u.read) (expression_uses d t) ≡ term_uses (term_of d.known t)
+UsesAreRead = (d : Context) (t : Tree) → map (λ (u : PlacedUse). u.read) (expression_uses d t) ≡ term_uses (term_of d.known t)
 
 -- a use that isn't refused reads a leaf for which the device has columns, where no two names are one pin
 abbrev pub UsesHaveColumns : Type 0
 UsesHaveColumns =
-    (d : Design) (u : PlacedUse) (l : Leaf) → PinsApart d → is_missing d u ≡ false → is_unread d u ≡ false
+    (d : Context) (u : PlacedUse) (l : Leaf) → PinsApart d → is_missing d u ≡ false → is_unread d u ≡ false
     → use_reads d l u.read ≡ true → HasColumns d l
 
 -- those of the example that are refused

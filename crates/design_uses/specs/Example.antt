@@ -9,8 +9,7 @@ use Rattle.abel_tree.specs.declared.words.Sign.TheVariants as sign
 use Rattle.abel_tree.specs.declared.words.Unary.TheVariants as unary
 use Rattle.abel_tree.specs.Entries.{Kind, APin, ANode, AConstant, Entry}
 use Rattle.abel_tree.specs.Tree.{Tree, AName, AUnary, ABinary, ASet, NoMember, MoreMembers, OneMember, Statement, AnAssign, Equations}
-use Rattle.abel_meaning.specs.Designs.{Design}
-use Rattle.abel_meaning.specs.Terms.{known_of}
+use Rattle.abel_meaning.specs.Designs.{context_of, Design}
 use Rattle.design_uses.specs.LocatedUses.{PlacedUse}
 
 abbrev pub at : (column : ℕ) → Place
@@ -49,9 +48,7 @@ assign target value = AnAssign (at 1) false target sign.Equal (at 2) value
 abbrev pub example_design : Design
 example_design =
     record {
-      device = sample;
-      names = example_names;
-      known = known_of example_names;
+      context = context_of sample example_names;
       starts_dontcare = false;
       sections = Equations (
           assign (just 3 (codes "Y") None) (ABinary binary.And (at 11) (just 10 (codes "R") (Some extension.Pin)) (just 12 (codes "e") None))

@@ -9,7 +9,7 @@ use Rattle.abel_tree.specs.declared.words.Extension.{Extension}
 use Rattle.abel_tree.specs.declared.words.Extension.TheVariants as extension
 use Rattle.abel_tree.specs.Entries.{Kind, APin, ANode, Entry}
 use Rattle.abel_meaning.specs.Controls.{must_register}
-use Rattle.abel_meaning.specs.Designs.{Design, name_at, is_stored, cell_on}
+use Rattle.abel_meaning.specs.Designs.{Context, Design, name_at, is_stored, cell_on}
 use Rattle.abel_meaning.specs.SoundIds.{carries_cell}
 use Rattle.design_uses.specs.LocatedUses.{PlacedUse}
 use Rattle.design_uses.specs.SectionUses.{design_uses}
@@ -80,15 +80,15 @@ has_read_path t x e = reads_by t x (is_stored x) x.kind e
 -- ---- uses that are refused
 
 -- NoSuchControl: the signal doesn't have the extension
-abbrev pub is_missing : Design → PlacedUse → Bool
+abbrev pub is_missing : Context → PlacedUse → Bool
 is_missing d u = not (has_extension d.device (name_at d u.read.signal) u.read.extension)
 
 -- NoReadPath: it has it, and no column carries it
-abbrev pub is_unread : Design → PlacedUse → Bool
+abbrev pub is_unread : Context → PlacedUse → Bool
 is_unread d u = not (is_missing d u) && not (has_read_path d.device (name_at d u.read.signal) u.read.extension)
 
 abbrev pub missing_uses : Design → List PlacedUse
-missing_uses d = filter (is_missing d) (design_uses d)
+missing_uses d = filter (is_missing d.context) (design_uses d)
 
 abbrev pub unread_uses : Design → List PlacedUse
-unread_uses d = filter (is_unread d) (design_uses d)
+unread_uses d = filter (is_unread d.context) (design_uses d)
