@@ -5,7 +5,7 @@ use Rattle.std.specs.List.{list_all}
 use Rattle.abel_tree.specs.declared.words.Extension.{Extension}
 use Rattle.abel_tree.specs.declared.words.Extension.TheVariants as extension
 use Rattle.abel_tree.specs.Entries.{Entry}
-use Rattle.abel_meaning.specs.Designs.{Design, no_name}
+use Rattle.abel_meaning.specs.Designs.{Context, no_name}
 use Rattle.abel_meaning.specs.Terms.{Term, Known, Number, known_of, term_meant, term_named, extended_if}
 use Rattle.abel_meaning.specs.Targets.{targets_of, some_signals}
 use Rattle.gathered.specs.SignalUses.{SignalUse, term_uses}
@@ -100,7 +100,7 @@ same_if a b None (Some t) d m r h = absurd h
 same_if a b (Some n) None d m r h = absurd h
 
 -- one name more
-pub knows_more : (d : Design) (r : Rule) (es : List Entry) (e : Entry) (kept more : Kept) (new : NameUses) → Knows (learning d r es) kept
+pub knows_more : (d : Context) (r : Rule) (es : List Entry) (e : Entry) (kept more : Kept) (new : NameUses) → Knows (learning d r es) kept
     → IsUsesOf (learning d r es) new (term_meant (known_of es) (length es) e.kind)
     → ((w : List ℕ) → under more w ≡ with_new e.name new (under kept) w) → Knows (learning d r (es ++ e ∷ [])) more
 knows_more d r es e kept more new before here grown w =
@@ -118,7 +118,7 @@ knows_more d r es e kept more new before here grown w =
     plus_none n = omega arith
 
 -- what was learnt of all names
-pub knows_all : (d : Design) (r : Rule) (es : List Entry) (kept : Kept) → d.known ≡ known_of es → Knows (learning d r es) kept → Knows (asking d r) kept
+pub knows_all : (d : Context) (r : Rule) (es : List Entry) (kept : Kept) → d.known ≡ known_of es → Knows (learning d r es) kept → Knows (asking d r) kept
 knows_all d r es kept known all w =
     subst (λ ks. IsUsesIf (asking d r) (under kept w) (term_known ks w)) (sym known)
     (same_if (learning d r es) (asking d r) (under kept w) (term_known (known_of es) w) refl refl refl (all w))
@@ -162,7 +162,7 @@ doubly (Some f) None t = refl
 doubly (Some f) (Some e) t = twice e f t
 
 -- no name yet
-pub knows_none : (d : Design) (r : Rule) → Knows (learning d r []) []
+pub knows_none : (d : Context) (r : Rule) → Knows (learning d r []) []
 knows_none d r w = tt
 
 -- the name of a number, in a list that is gone through

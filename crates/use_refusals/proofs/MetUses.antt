@@ -5,7 +5,7 @@ use Rattle.std.proofs.lemmas.Bool.Decides.{nat_tests}
 use Rattle.pld_base.specs.declared.place.Place.{Place}
 use Rattle.abel_tree.specs.FirstRefusal.{sooner, earlier}
 use Rattle.abel_tree.proofs.FirstRefusals.{earlier_assoc, earlier_none}
-use Rattle.abel_meaning.specs.Designs.{Design}
+use Rattle.abel_meaning.specs.Designs.{Context}
 use Rattle.gathered.specs.SignalUses.{SignalUse}
 use Rattle.design_uses.specs.LocatedUses.{PlacedUse, all_at}
 use Rattle.use_refusals.specs.declared.refused.RefusedUse.{RefusedUse}
@@ -81,11 +81,11 @@ first_named a p us is =
 
 -- ---- all uses
 
-asked_same : (d : Design) (r : Rule) (u : PlacedUse) → is_asked d r u.read ≡ is_refused d r u
+asked_same : (d : Context) (r : Rule) (u : PlacedUse) → is_asked d r u.read ≡ is_refused d r u
 asked_same d rule.Missing u = refl
 asked_same d rule.Unread u = refl
 
-first_from : (d : Design) (r : Rule) (f : Option RefusedUse) (us : List PlacedUse) → fold (met (asking d r)) f us ≡ earlier use_order f (first_use (filter (is_refused d r) us))
+first_from : (d : Context) (r : Rule) (f : Option RefusedUse) (us : List PlacedUse) → fold (met (asking d r)) f us ≡ earlier use_order f (first_use (filter (is_refused d r) us))
 first_from d r f [] = sym (earlier_none use_order f)
 first_from d r f (u ∷ us) =
     ap (λ g. fold (met (asking d r)) g us) (met_is (asking d r) f u)
@@ -99,7 +99,7 @@ first_from d r f (u ∷ us) =
         rest (earlier use_order f None) ∙ ap (λ g. earlier use_order g (first_use (filter (is_refused d r) us))) (earlier_none use_order f)
 
 -- the first of those that are refused
-pub first_of_all : (d : Design) (r : Rule) (us : List PlacedUse) → fold (met (asking d r)) None us ≡ first_use (filter (is_refused d r) us)
+pub first_of_all : (d : Context) (r : Rule) (us : List PlacedUse) → fold (met (asking d r)) None us ≡ first_use (filter (is_refused d r) us)
 first_of_all d r us = first_from d r None us
 
 -- ---- one name

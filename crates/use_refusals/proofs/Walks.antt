@@ -10,7 +10,7 @@ use Rattle.abel_tree.specs.declared.statements.Stmt.TheOpen as open_stmt
 use Rattle.abel_tree.specs.declared.words.Extension.{Extension}
 use Rattle.abel_tree.specs.Tree.{Tree, Statement, AGroup, statements_of, Branch, StateTree, SectionTree}
 use Rattle.abel_tree.specs.View.{view_stmt, stmt_layer, when_layer}
-use Rattle.abel_meaning.specs.Designs.{Design}
+use Rattle.abel_meaning.specs.Designs.{Context}
 use Rattle.abel_meaning.specs.Terms.{Known}
 use Rattle.design_uses.specs.LocatedUses.{PlacedUse, range_located, all_at}
 use Rattle.design_uses.specs.SectionUses.{expression_uses, statement_uses, branch_uses, branches_uses, states_uses, section_uses, sections_uses}
@@ -27,7 +27,7 @@ uses_more a g h push v f es k e within i =
     sym (fold-append (met a) f (g (map v (take k es))) (h (v e)))
     ∙ ap (fold (met a) f) (sym (ap g (front_more v es k e within i) ∙ push (map v (take k es)) (v e)))
 
-module _ (d : Design) where
+module _ (d : Context) where
   pub list_push : (xs : List Statement) (x : Statement) → list_uses d (xs ++ x ∷ []) ≡ list_uses d xs ++ statement_uses d x
   list_push [] x = append-nil (statement_uses d x)
   list_push (y ∷ xs) x = ap (λ us. statement_uses d y ++ us) (list_push xs x) ∙ sym (append_assoc (statement_uses d y) (list_uses d xs) (statement_uses d x))
@@ -68,5 +68,5 @@ unfolding stmt.roll-Stmt denote.Hole.Carrier.roll
 view_group list = fold-roll-Stmt Statement Statement stmt_layer when_layer (open_stmt.Group list)
 
 -- the uses of a group
-pub uses_of_group : (d : Design) (x : Stmt) (list : List Stmt) → x ≡ stmt.Group list → list_uses d (map view_stmt list) ≡ statement_uses d (view_stmt x)
+pub uses_of_group : (d : Context) (x : Stmt) (list : List Stmt) → x ≡ stmt.Group list → list_uses d (map view_stmt list) ≡ statement_uses d (view_stmt x)
 uses_of_group d x list e = sym (ap (λ y. statement_uses d (view_stmt y)) e ∙ ap (statement_uses d) (view_group list))

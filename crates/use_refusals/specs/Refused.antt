@@ -1,7 +1,7 @@
 -- The first use that is refused (this project's rule).
 use Rattle.std.specs.Prelude.{Bool, Option, List, map}
 use Rattle.abel_tree.specs.FirstRefusal.{Ranks, first_refusal}
-use Rattle.abel_meaning.specs.Designs.{Design}
+use Rattle.abel_meaning.specs.Designs.{Context}
 use Rattle.design_uses.specs.LocatedUses.{PlacedUse}
 use Rattle.design_uses.specs.RefusedUses.{is_missing, is_unread}
 use Rattle.use_refusals.specs.declared.refused.RefusedUse.{RefusedUse}
@@ -21,6 +21,6 @@ abbrev pub first_use : List PlacedUse → Option RefusedUse
 first_use us = first_refusal use_order (map told us)
 
 -- the rule refuses the use
-abbrev pub is_refused : Design → Rule → PlacedUse → Bool
+abbrev pub is_refused : Context → Rule → PlacedUse → Bool
 is_refused d rule.Missing u = is_missing d u
 is_refused d rule.Unread u = is_unread d u

@@ -16,7 +16,7 @@ use Rattle.abel_tree.specs.FirstRefusal.{earlier}
 use Rattle.abel_tree.specs.Tree.{Tree, Statement, Branch, StateTree, members_of, statements_of, choices_of}
 use Rattle.abel_tree.specs.View.{view_member, view_stmt, stmt_layer, when_layer, arm_layer, case_layer, case_arm_layer, if_layer}
 use Rattle.pld_device.specs.Table.{Table}
-use Rattle.abel_meaning.specs.Designs.{Design, name_at}
+use Rattle.abel_meaning.specs.Designs.{Context, name_at}
 use Rattle.abel_meaning.specs.Targets.{targets_of, some_signals}
 use Rattle.abel_meaning.specs.Terms.{Term, Known, known_of, extended_if}
 use Rattle.gathered.specs.Gathered.{cell_of}
@@ -40,7 +40,7 @@ abbrev pub is_asked_of : Table → Rule → Entry → Option Extension → Bool
 is_asked_of t rule.Missing x e = not (has_extension t x e)
 is_asked_of t rule.Unread x e = not (not (has_extension t x e)) && not (has_read_path t x e)
 
-abbrev pub is_asked : Design → Rule → SignalUse → Bool
+abbrev pub is_asked : Context → Rule → SignalUse → Bool
 is_asked d r u = is_asked_of d.device r (name_at d u.signal) u.extension
 
 -- the signal is on a cell that a pin enables
@@ -49,18 +49,18 @@ is_by_pin_of t x = is_cell_by_pin t (cell_of t x)
 
 -- what is asked of which design; all uses stand at one place, if there is one here
 pub record Asking : Type 0 where
-  pub design : Design
+  pub design : Context
   pub rule : Rule
   pub at : Option Place
 
-abbrev pub asking : Design → Rule → Asking
+abbrev pub asking : Context → Rule → Asking
 asking d r = record { design = d; rule = r; at = None }
 
 abbrev pub anywhere : Place
 anywhere = record { line = 1; column = 1 }
 
 -- while constants are learnt, over the names so far
-abbrev pub learning : Design → Rule → List Entry → Asking
+abbrev pub learning : Context → Rule → List Entry → Asking
 learning d r es = record { design = record d { known = known_of es }; rule = r; at = Some anywhere }
 
 abbrev pub refused_if : Bool → RefusedUse → Option RefusedUse
@@ -93,7 +93,7 @@ uses_under n (Some extension.Sp) = n.control.sp
 uses_under n (Some extension.D) = n.control.d
 
 -- each signal is on a cell that a pin enables
-abbrev pub are_by_pin : Design → List (Option ℕ) → Bool
+abbrev pub are_by_pin : Context → List (Option ℕ) → Bool
 are_by_pin d ss = list_all (is_enabled_by_pin d) (some_signals ss)
 
 -- what is kept of a name that stands for this, for an extension
@@ -171,10 +171,10 @@ compares (Some extension.Oe) b = b
 compares _ b = false
 
 -- the value of an assignment, unless it is compared
-abbrev pub assign_uses : Design → (target value : Tree) → List PlacedUse
+abbrev pub assign_uses : Context → (target value : Tree) → List PlacedUse
 assign_uses d target value = if is_compared d target then [] else expression_uses d value
 
-abbrev pub list_uses : Design → List Statement → List PlacedUse
+abbrev pub list_uses : Context → List Statement → List PlacedUse
 list_uses d ss = statements_uses d (statements_of ss)
 
 abbrev pub view_when : When → Statement
@@ -183,13 +183,13 @@ view_when = fold-When Statement Statement stmt_layer when_layer
 abbrev pub view_if : If → Branch
 view_if = fold-If Branch Branch (Tree × (Place × Branch)) Branch arm_layer case_layer case_arm_layer if_layer
 
-abbrev pub choice_uses : Design → Tree × (Place × Branch) → List PlacedUse
+abbrev pub choice_uses : Context → Tree × (Place × Branch) → List PlacedUse
 choice_uses d c = expression_uses d c.0 ++ branch_uses d c.1.1
 
-abbrev pub listed_choices : Design → List (Tree × (Place × Branch)) → List PlacedUse
+abbrev pub listed_choices : Context → List (Tree × (Place × Branch)) → List PlacedUse
 listed_choices d cs = choices_uses d (choices_of cs)
 
-abbrev pub state_uses : Design → StateTree → List PlacedUse
+abbrev pub state_uses : Context → StateTree → List PlacedUse
 state_uses d s = list_uses d s.statements ++ branches_uses d s.transitions
 
 -- the statements behind WITH
@@ -197,9 +197,9 @@ abbrev pub view_with : Option (List Stmt) → Option (List Statement)
 view_with = option_map (λ l. map view_stmt l)
 
 -- a transition to a state
-abbrev pub goal_uses : Design → (value : Tree) → Option (List Statement) → List PlacedUse
+abbrev pub goal_uses : Context → (value : Tree) → Option (List Statement) → List PlacedUse
 goal_uses d value statements = expression_uses d value ++ with_uses d statements
 
 -- a diagram
-abbrev pub diagram_uses : Design → (registers : Tree) → List StateTree → List PlacedUse
+abbrev pub diagram_uses : Context → (registers : Tree) → List StateTree → List PlacedUse
 diagram_uses d registers states = expression_uses d registers ++ states_uses d states

@@ -3,7 +3,7 @@
 ghost use Rattle.std.specs.Prelude.{◌≡◌, Option, IfOk, fold, map, None};
 ghost use Rattle.abel_tree.specs.View.{view_section};
 ghost use Rattle.abel_meaning.specs.Designs.{Design};
-ghost use Rattle.set_expr.specs.Answer.{IsDesignOf};
+ghost use Rattle.set_expr.specs.Answer.{IsContextOf};
 ghost use Rattle.design_uses.specs.RefusedUses.{missing_uses, unread_uses};
 ghost use Rattle.design_uses.specs.SectionUses.{design_uses};
 ghost use Rattle.use_refusals.specs.Refused.{first_use};
@@ -25,9 +25,9 @@ fn first_by<D: Device>(
     sections: &[Section],
     rule: Rule,
 ) -> Result<Option<RefusedUse>, OutOfMemory>
-    ensures { IfOk result (λ r. (d : Design) → IsDesignOf D.table names.now d → d.sections
+    ensures { IfOk result (λ r. (d : Design) → IsContextOf D.table names.now d.context → d.sections
         ≡ map view_section sections.now
-        → r ≡ fold (met (asking d rule)) None (design_uses d)) }
+        → r ≡ fold (met (asking d.context rule)) None (design_uses d)) }
 {
     let kept = learn_names::<D>(alloc, names, rule)?;
     let mut walk = UseWalk {
@@ -46,7 +46,7 @@ pub fn missing_use<D: Device>(
     names: &Names,
     sections: &[Section],
 ) -> Result<Option<RefusedUse>, OutOfMemory>
-    ensures { IfOk result (λ r. (d : Design) → IsDesignOf D.table names.now d → d.sections
+    ensures { IfOk result (λ r. (d : Design) → IsContextOf D.table names.now d.context → d.sections
         ≡ map view_section sections.now
         → r ≡ first_use (missing_uses d)) }
 {
@@ -60,7 +60,7 @@ pub fn unread_use<D: Device>(
     names: &Names,
     sections: &[Section],
 ) -> Result<Option<RefusedUse>, OutOfMemory>
-    ensures { IfOk result (λ r. (d : Design) → IsDesignOf D.table names.now d → d.sections
+    ensures { IfOk result (λ r. (d : Design) → IsContextOf D.table names.now d.context → d.sections
         ≡ map view_section sections.now
         → r ≡ first_use (unread_uses d)) }
 {

@@ -3,10 +3,10 @@
 ghost use Rattle.std.specs.Prelude.{◌≡◌, ◌+◌, List, Some, None, IfOk, if◌then◌else◌};
 ghost use Rattle.abel_tree.specs.Entries.{Entry, view_declared, view_meaning};
 ghost use Rattle.abel_tree.specs.View.{view};
-ghost use Rattle.abel_meaning.specs.Designs.{Design, name_at};
+ghost use Rattle.abel_meaning.specs.Designs.{Context, name_at};
 ghost use Rattle.abel_meaning.specs.Terms.{Number, Read, extended_if, term_meant, term_of};
 ghost use Rattle.gathered.specs.SignalUses.{term_uses};
-ghost use Rattle.set_expr.specs.Answer.{IsDesignOf};
+ghost use Rattle.set_expr.specs.Answer.{IsContextOf};
 ghost use Rattle.use_refusals.specs.Walked.{Asking, IsUsesOf, IsReadOf, IsControlOf, Knows, anywhere, asking, first_read, is_asked_of};
 
 use crate::names::{ControlUses, KeptUses, NameUses, ReadUses};
@@ -205,7 +205,7 @@ pub(crate) fn learn_names<D: Device>(
     names: &Names,
     rule: Rule,
 ) -> Result<KeptUses, OutOfMemory>
-    ensures { IfOk result (λ kept. (d : Design) → IsDesignOf D.table names.now d → Knows
+    ensures { IfOk result (λ kept. (d : Context) → IsContextOf D.table names.now d → Knows
         (asking d rule) kept) }
 {
     let mut kept = KeptUses::new(alloc);

@@ -7,4 +7,4 @@ use Rattle.use_refusals.proofs.calls.missing_use.Goals as goal
 
 pub returns : goal.returns
 returns g c =
-    IfOk-weaker c.first_by.result _ _ (λ r h d of sections. h d of sections ∙ first_of_all d rule.Missing (design_uses d)) c.first_by.ensures
+    IfOk-weaker c.first_by.result _ _ (λ r h d of sections. h d of sections ∙ first_of_all d.context rule.Missing (design_uses d)) c.first_by.ensures

@@ -1,14 +1,14 @@
 -- The names that were learnt.
 use Rattle.std.proofs.Common.{◌≡◌, map, take, length}
 use Rattle.abel_tree.specs.Entries.{view_declared}
-use Rattle.abel_meaning.specs.Designs.{Design}
-use Rattle.set_expr.specs.Answer.{IsDesignOf}
+use Rattle.abel_meaning.specs.Designs.{Context}
+use Rattle.set_expr.specs.Answer.{IsContextOf}
 use Rattle.use_refusals.specs.Walked.{Knows, learning}
 use Rattle.use_refusals.proofs.learning.learn_names.Given as goal
 
 abbrev pub invariant-loop-declared : goal.invariant-loop-declared
 invariant-loop-declared g l =
     record {
-      knows : (d : Design) → IsDesignOf g.D.Device.table l.names d → Knows (learning d l.rule (map view_declared (take l.declared-index l.declared-items))) l.kept;
+      knows : (d : Context) → IsContextOf g.D.Device.table l.names d → Knows (learning d l.rule (map view_declared (take l.declared-index l.declared-items))) l.kept;
       number : l.number ≡ length (map view_declared (take l.declared-index l.declared-items));
     }

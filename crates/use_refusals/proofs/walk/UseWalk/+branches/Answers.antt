@@ -5,7 +5,7 @@ use Rattle.std.proofs.lemmas.Result.{on_ok_weaker}
 use Rattle.abel_tree.specs.declared.diagrams.Arm.{the_lemmas as arm_lemmas}
 use Rattle.abel_tree.specs.View.{view, view_arm, view_choice}
 use Rattle.abel_tree.specs.Tree.{other_of}
-use Rattle.abel_meaning.specs.Designs.{Design}
+use Rattle.abel_meaning.specs.Designs.{Context}
 use Rattle.design_uses.specs.SectionUses.{expression_uses, branch_uses, other_uses}
 use Rattle.use_refusals.specs.Walked.{listed_choices, choice_uses, Shows, met}
 use Rattle.use_refusals.proofs.Viewed.{both_met, choice_is, if_is}
@@ -30,7 +30,7 @@ visit_choice-returns t c =
 
 pub visit_arm-returns-in-Case : goal.visit_arm-returns-in-Case
 visit_arm-returns-in-Case t c =
-    let same : (d : Design) → listed_choices d (map view_choice c.as_slice.result.now) ≡ branch_uses d (view_arm c.args.arm.now) = λ d. search (rules, arm_lemmas) in
+    let same : (d : Context) → listed_choices d (map view_choice c.as_slice.result.now) ≡ branch_uses d (view_arm c.args.arm.now) = λ d. search (rules, arm_lemmas) in
     on_ok_weaker c.visit_choices.result
     (λ h a f sh. subst (λ us. Shows a c.args.names.now c.visit_choices.new.self (fold (met a) f us)) (same a.design) (h a f sh))
     c.visit_choices.ensures
