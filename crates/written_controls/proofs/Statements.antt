@@ -13,7 +13,7 @@ use Rattle.abel_tree.specs.FirstRefusal.{earlier, first_refusal}
 use Rattle.abel_tree.specs.Tree.{AWhen, Statement, AGroup, SectionTree, statements_of, otherwise_of}
 use Rattle.abel_tree.specs.View.{view, view_stmt, stmt_layer, when_layer}
 use Rattle.abel_tree.proofs.FirstRefusals.{first_append}
-use Rattle.abel_meaning.specs.Designs.{Design}
+use Rattle.abel_meaning.specs.Designs.{Context}
 use Rattle.section_targets.specs.declared.aim.Aim.{Aim}
 use Rattle.set_expr.proofs.FoundMembers.{front_more}
 use Rattle.use_refusals.specs.declared.refused.RefusedUse.{RefusedUse}
@@ -23,20 +23,20 @@ use Rattle.written_controls.specs.Written.{Written, aim_refused, aims_refused, i
 
 -- ---- signals of a target
 
-abbrev pub aim_at : Design → Option Extension → Written → ℕ → Aim → List RefusedUse
+abbrev pub aim_at : Context → Option Extension → Written → ℕ → Aim → List RefusedUse
 aim_at d e w i a = aim_refused d e (is_written_at w i) a
 
-aims_push : (d : Design) (e : Option Extension) (w : Written) (i : ℕ) (aims : List Aim) (a : Aim)
+aims_push : (d : Context) (e : Option Extension) (w : Written) (i : ℕ) (aims : List Aim) (a : Aim)
     → aims_refused d e w i (aims ++ a ∷ []) ≡ aims_refused d e w i aims ++ aim_at d e w (i + length aims) a
 aims_push d e w i [] a = append-nil (aim_at d e w i a) ∙ ap (λ n. aim_at d e w n a) (omega arith)
 aims_push d e w i (x ∷ aims) a =
     ap (λ rs. aim_at d e w i x ++ rs) (aims_push d e w (suc i) aims a ∙ ap (λ n. aims_refused d e w (suc i) aims ++ aim_at d e w n a) (omega arith))
     ∙ sym (append_assoc (aim_at d e w i x) (aims_refused d e w (suc i) aims) (aim_at d e w (i + suc (length aims)) a))
 
-pub aim_same : (d : Design) (e : Option Extension) {b c : Bool} (a : Aim) → b ≡ c → first_refusal use_order (aim_refused d e b a) ≡ first_refusal use_order (aim_refused d e c a)
+pub aim_same : (d : Context) (e : Option Extension) {b c : Bool} (a : Aim) → b ≡ c → first_refusal use_order (aim_refused d e b a) ≡ first_refusal use_order (aim_refused d e c a)
 aim_same d e a s = ap (λ (w : Bool). first_refusal use_order (aim_refused d e w a)) s
 
-pub aims_more : (d : Design) (e : Option Extension) (w : Written) (aims : List Aim) (i : ℕ) (a : Aim) → i < length aims
+pub aims_more : (d : Context) (e : Option Extension) (w : Written) (aims : List Aim) (i : ℕ) (a : Aim) → i < length aims
     → first_refusal use_order (aims_refused d e w 0 (take (i + 1) aims)) ≡ earlier use_order (first_refusal use_order (aims_refused d e w 0 (take i aims))) (first_refusal use_order (aim_at d e w i (get_or aims i a)))
 aims_more d e w aims i a low =
     let x = get_or aims i a in
@@ -68,7 +68,7 @@ first_more g h push v es k e within i =
     sym (first_append use_order (g (map v (take k es))) (h (v e)))
     ∙ ap (first_refusal use_order) (sym (ap g (front_more v es k e within i) ∙ push (map v (take k es)) (v e)))
 
-module _ (d : Design) where
+module _ (d : Context) where
   pub list_push : (guarded : Bool) (xs : List Statement) (x : Statement) → list_refused d guarded (xs ++ x ∷ []) ≡ list_refused d guarded xs ++ statement_refused d guarded x
   list_push guarded [] x = append-nil (statement_refused d guarded x)
   list_push guarded (y ∷ xs) x =
@@ -90,5 +90,5 @@ unfolding stmt.roll-Stmt denote.Hole.Carrier.roll
 view_group list = fold-roll-Stmt Statement Statement stmt_layer when_layer (open_stmt.Group list)
 
 -- what is refused of a group
-pub refused_of_group : (d : Design) (guarded : Bool) (x : Stmt) (list : List Stmt) → x ≡ stmt.Group list → list_refused d guarded (map view_stmt list) ≡ statement_refused d guarded (view_stmt x)
+pub refused_of_group : (d : Context) (guarded : Bool) (x : Stmt) (list : List Stmt) → x ≡ stmt.Group list → list_refused d guarded (map view_stmt list) ≡ statement_refused d guarded (view_stmt x)
 refused_of_group d guarded x list e = sym (ap (λ y. statement_refused d guarded (view_stmt y)) e ∙ ap (statement_refused d guarded) (view_group list))

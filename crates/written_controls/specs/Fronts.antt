@@ -5,9 +5,8 @@ use Rattle.abel_tree.specs.declared.statements.When.{When}
 use Rattle.abel_tree.specs.Entries.{Entry}
 use Rattle.abel_tree.specs.Tree.{Statement, statements_of}
 use Rattle.abel_tree.specs.View.{stmt_layer, when_layer}
-use Rattle.abel_meaning.specs.Designs.{Design}
+use Rattle.abel_meaning.specs.Designs.{Context}
 use Rattle.abel_meaning.specs.Terms.{Known}
-use Rattle.set_expr.specs.KnownNames.{IsKnown}
 use Rattle.section_targets.specs.NamedTargets.{AreTargets}
 use Rattle.written_controls.specs.declared.front.Front.{Front}
 use Rattle.written_controls.specs.declared.fronts.Learnt.{Learnt}
@@ -28,12 +27,11 @@ pub record AreFronts (es : List Entry) (fs : List Front) (ks : List Known) : Typ
   pub fronts : fs ≡ fronts_of ks
 
 -- what is learnt of all names of a design
-pub record IsLearnt (d : Design) (l : Learnt) : Type 0 where
-  pub known : IsKnown d.names l.known
+pub record IsLearnt (d : Context) (l : Learnt) : Type 0 where
   pub named : AreTargets d l.named
   pub fronts : AreFronts d.names l.fronts d.known
 
-abbrev pub list_refused : Design → (guarded : Bool) → List Statement → List RefusedUse
+abbrev pub list_refused : Context → (guarded : Bool) → List Statement → List RefusedUse
 list_refused d guarded ss = statements_refused d guarded (statements_of ss)
 
 abbrev pub view_when : When → Statement

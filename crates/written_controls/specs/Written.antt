@@ -8,7 +8,7 @@ use Rattle.abel_tree.specs.declared.words.Extension.{Extension}
 use Rattle.abel_tree.specs.declared.words.Unary.TheVariants as unary
 use Rattle.abel_tree.specs.Assigned.{target_extension}
 use Rattle.abel_tree.specs.Tree.{Tree, Statement, AnAssign, AWhen, AGroup, ADontCare, Otherwise, NoElse, AnElse, Statements, NoStatement, MoreStatements, statements_of, SectionTree, Declarations, Equations, ATable, ADiagram, SomeVectors, DontCareSection}
-use Rattle.abel_meaning.specs.Designs.{Design, name_at}
+use Rattle.abel_meaning.specs.Designs.{Context, Design, name_at}
 use Rattle.abel_meaning.specs.Terms.{Term, Terms, Number, X, Pulse, Release, Read, Set, UnaryOf, BinaryOf, NoTerm, Before, term_of}
 use Rattle.section_targets.specs.declared.aim.Aim.{Aim}
 use Rattle.section_targets.specs.TargetSignals.{left_side}
@@ -59,12 +59,12 @@ is_written_at w i = nat_lt i w.count || (w.whole && (w.count == 1))
 -- ---- equations
 
 -- one signal of a target
-abbrev pub aim_refused : Design → Option Extension → (written : Bool) → Aim → List RefusedUse
+abbrev pub aim_refused : Context → Option Extension → (written : Bool) → Aim → List RefusedUse
 aim_refused d e written a =
     told_if (not written && is_compared_of d.device e (name_at d a.signal)) (record { place = a.place; name = a.signal })
 
 -- the signals of a target from a position on
-abbrev pub aims_refused : Design → Option Extension → Written → (position : ℕ) → List Aim → List RefusedUse
+abbrev pub aims_refused : Context → Option Extension → Written → (position : ℕ) → List Aim → List RefusedUse
 aims_refused d e w i [] = []
 aims_refused d e w i (a ∷ aims) = aim_refused d e (is_written_at w i) a ++ aims_refused d e w (suc i) aims
 
@@ -77,30 +77,30 @@ abbrev pub written_if : (guarded : Bool) → Term → Written
 written_if true t = not_written
 written_if false t = written_of t
 
-abbrev pub assign_refused : Design → (guarded : Bool) → Place → (target value : Tree) → List RefusedUse
+abbrev pub assign_refused : Context → (guarded : Bool) → Place → (target value : Tree) → List RefusedUse
 assign_refused d guarded p target value =
     aims_refused d (target_extension target) (written_if guarded (term_of d.known value)) 0 (narrow (left_side d p target).aims)
 
 abbrev mutual
-  pub statement_refused : Design → (guarded : Bool) → Statement → List RefusedUse
+  pub statement_refused : Context → (guarded : Bool) → Statement → List RefusedUse
   statement_refused d guarded (AnAssign place complement target sign sign_place value) =
       assign_refused d guarded place target value
   statement_refused d guarded (AWhen place c s other) = statement_refused d true s ++ else_refused d other
   statement_refused d guarded (AGroup ss) = statements_refused d guarded ss
   statement_refused d guarded (ADontCare directive) = []
 
-  pub else_refused : Design → Otherwise → List RefusedUse
+  pub else_refused : Context → Otherwise → List RefusedUse
   else_refused d NoElse = []
   else_refused d (AnElse s) = statement_refused d true s
 
-  pub statements_refused : Design → (guarded : Bool) → Statements → List RefusedUse
+  pub statements_refused : Context → (guarded : Bool) → Statements → List RefusedUse
   statements_refused d guarded NoStatement = []
   statements_refused d guarded (MoreStatements s ss) = statement_refused d guarded s ++ statements_refused d guarded ss
 
 -- ---- all equations
 
 -- what stands in a diagram is told by its block
-abbrev pub section_refused : Design → SectionTree → List RefusedUse
+abbrev pub section_refused : Context → SectionTree → List RefusedUse
 section_refused d (Declarations ds) = []
 section_refused d (Equations ss) = statements_refused d false (statements_of ss)
 section_refused d (ATable place inputs clocked outputs rows) = []
@@ -108,10 +108,10 @@ section_refused d (ADiagram place registers states) = []
 section_refused d (SomeVectors text place inputs outputs rows) = []
 section_refused d (DontCareSection directive) = []
 
-abbrev pub sections_refused : Design → List SectionTree → List RefusedUse
+abbrev pub sections_refused : Context → List SectionTree → List RefusedUse
 sections_refused d [] = []
 sections_refused d (s ∷ ss) = section_refused d s ++ sections_refused d ss
 
 -- the signals of a design's targets whose equation is compared and not written as levels, in order of the source
 abbrev pub unwritten : Design → List RefusedUse
-unwritten d = sections_refused d d.sections
+unwritten d = sections_refused d.context d.sections

@@ -1,12 +1,13 @@
 //! Equations that are not written as levels are.
 
 ghost use Rattle.std.specs.Prelude.{◌≡◌, ◌≤◌, Bool, Option, IfOk, length, map};
+ghost use Rattle.abel_tree.specs.Entries.{entries_of};
 ghost use Rattle.abel_tree.specs.FirstRefusal.{first_refusal};
 ghost use Rattle.abel_tree.specs.View.{view, view_section, view_stmt};
 ghost use Rattle.abel_tree.specs.Assigned.{target_extension};
-ghost use Rattle.abel_meaning.specs.Designs.{Design, name_at};
+ghost use Rattle.abel_meaning.specs.Designs.{Context, Design, name_at};
 ghost use Rattle.abel_meaning.specs.Terms.{term_of};
-ghost use Rattle.set_expr.specs.Answer.{IsDesignOf};
+ghost use Rattle.set_expr.specs.Answer.{IsContextOf};
 ghost use Rattle.use_refusals.specs.Refused.{use_order};
 ghost use Rattle.compared_controls.specs.Compared.{is_compared_of};
 ghost use Rattle.written_controls.specs.Fronts.{IsLearnt, counted, list_refused, view_when};
@@ -14,19 +15,20 @@ ghost use Rattle.written_controls.specs.Written.{Written, aim_refused, aims_refu
 
 use crate::front::Front;
 use crate::fronts::{Learnt, front_expr, learn};
-use abel_tree::{Assign, Expr, Extension, Names, Section, Stmt, When};
+use abel_tree::{Assign, Expr, Extension, Section, Stmt, When};
 use compared_controls::is_compared;
 use pld_base::OutOfMemory;
 use pld_device::Device;
 use section_targets::{Aim, left_side};
+use set_expr::Scope;
 use std::alloc::Global;
 use use_refusals::{RefusedUse, earlier};
 
 /// Whether an equation for the signal with this number is compared.
-fn is_compared_at<D: Device>(names: &Names, extension: Option<Extension>, signal: u32) -> bool
-    ensures { (d : Design) → IsDesignOf D.table names.now d → result ≡ is_compared_of d.device extension (name_at d signal) }
+fn is_compared_at<D: Device>(scope: &Scope<'_>, extension: Option<Extension>, signal: u32) -> bool
+    ensures { (d : Context) → IsContextOf D.table scope.now d → result ≡ is_compared_of d.device extension (name_at d signal) }
 {
-    let list = names.list.as_slice();
+    let list = scope.list();
     if (signal as usize) < list.len() {
         is_compared::<D>(&list[signal as usize], extension)
     } else {
@@ -36,15 +38,15 @@ fn is_compared_at<D: Device>(names: &Names, extension: Option<Extension>, signal
 
 /// What is refused of one signal of a target.
 fn refused_aim<D: Device>(
-    names: &Names,
+    scope: &Scope<'_>,
     extension: Option<Extension>,
     written: bool,
     aim: Aim,
 ) -> Option<RefusedUse>
-    ensures { (d : Design) → IsDesignOf D.table names.now d
+    ensures { (d : Context) → IsContextOf D.table scope.now d
         → result ≡ first_refusal use_order (aim_refused d extension written aim) }
 {
-    if !written && is_compared_at::<D>(names, extension, aim.signal) {
+    if !written && is_compared_at::<D>(scope, extension, aim.signal) {
         Some(RefusedUse {
             place: aim.place,
             name: aim.signal,
@@ -56,19 +58,19 @@ fn refused_aim<D: Device>(
 
 /// The first refusal of the signals of a target.
 fn refused_aims<D: Device>(
-    names: &Names,
+    scope: &Scope<'_>,
     extension: Option<Extension>,
     front: Front,
     aims: &[Aim],
 ) -> Option<RefusedUse>
-    ensures { (d : Design) (w : Written) → IsDesignOf D.table names.now d → front ≡ counted w → length aims.now ≤ 32
+    ensures { (d : Context) (w : Written) → IsContextOf D.table scope.now d → front ≡ counted w → length aims.now ≤ 32
         → result ≡ first_refusal use_order (aims_refused d extension w 0 aims.now) }
 {
     let mut first = None;
     let mut position = 0u8;
     for aim in aims {
         let written = front.is_written_at(position);
-        first = earlier(first, refused_aim::<D>(names, extension, written, *aim));
+        first = earlier(first, refused_aim::<D>(scope, extension, written, *aim));
         position = position.saturating_add(1);
     }
     first
@@ -92,56 +94,57 @@ fn target_extension(target: &Expr) -> Option<Extension>
 /// How a value is written, which is not as a level under a guard.
 fn front_if(
     alloc: Global,
+    scope: &Scope<'_>,
     learnt: &Learnt,
     guarded: bool,
     value: &Expr,
 ) -> Result<Front, OutOfMemory>
-    ensures { IfOk result (λ f. (d : Design) → IsLearnt d learnt.now → f ≡ counted (written_if guarded (term_of d.known (view value.now)))) }
+    ensures { IfOk result (λ f. (d : Context) → d.names ≡ entries_of scope.now → IsLearnt d learnt.now → f ≡ counted (written_if guarded (term_of d.known (view value.now)))) }
 {
     if guarded {
         Ok(Front::other())
     } else {
-        front_expr(alloc, &learnt.known, learnt.fronts.as_slice(), value)
+        front_expr(alloc, scope, learnt.fronts.as_slice(), value)
     }
 }
 
 /// The first refusal of an assignment.
 fn refused_assign<D: Device>(
     alloc: Global,
-    names: &Names,
+    scope: &Scope<'_>,
     learnt: &Learnt,
     guarded: bool,
     assign: &Assign,
 ) -> Result<Option<RefusedUse>, OutOfMemory>
-    ensures { IfOk result (λ r. (d : Design) → IsDesignOf D.table names.now d → IsLearnt d learnt.now
+    ensures { IfOk result (λ r. (d : Context) → IsContextOf D.table scope.now d → IsLearnt d learnt.now
         → r ≡ first_refusal use_order (assign_refused d guarded assign.now.place (view assign.now.target) (view assign.now.value))) }
 {
     let named = learnt.named.as_slice();
-    let side = left_side(alloc, &learnt.known, named, assign.place, &assign.target)?;
+    let side = left_side(alloc, scope, named, assign.place, &assign.target)?;
     if side.width > 32 {
         return Ok(None);
     }
-    let front = front_if(alloc, learnt, guarded, &assign.value)?;
+    let front = front_if(alloc, scope, learnt, guarded, &assign.value)?;
     let extension = target_extension(&assign.target);
-    Ok(refused_aims::<D>(names, extension, front, side.aims.as_slice()))
+    Ok(refused_aims::<D>(scope, extension, front, side.aims.as_slice()))
 }
 
 /// The first refusal of a statement, under a guard or not.
 #[cycle(statements)]
 fn refused_stmt<D: Device>(
     alloc: Global,
-    names: &Names,
+    scope: &Scope<'_>,
     learnt: &Learnt,
     guarded: bool,
     stmt: &Stmt,
 ) -> Result<Option<RefusedUse>, OutOfMemory>
-    ensures { IfOk result (λ r. (d : Design) → IsDesignOf D.table names.now d → IsLearnt d learnt.now
+    ensures { IfOk result (λ r. (d : Context) → IsContextOf D.table scope.now d → IsLearnt d learnt.now
         → r ≡ first_refusal use_order (statement_refused d guarded (view_stmt stmt.now))) }
 {
     match stmt {
-        Stmt::Assign(assign) => refused_assign::<D>(alloc, names, learnt, guarded, assign),
-        Stmt::When(when) => refused_when::<D>(alloc, names, learnt, when),
-        Stmt::Group(list) => refused_list::<D>(alloc, names, learnt, guarded, list.as_slice()),
+        Stmt::Assign(assign) => refused_assign::<D>(alloc, scope, learnt, guarded, assign),
+        Stmt::When(when) => refused_when::<D>(alloc, scope, learnt, when),
+        Stmt::Group(list) => refused_list::<D>(alloc, scope, learnt, guarded, list.as_slice()),
         Stmt::DontCare(_) => Ok(None),
     }
 }
@@ -150,18 +153,18 @@ fn refused_stmt<D: Device>(
 #[cycle(statements)]
 fn refused_when<D: Device>(
     alloc: Global,
-    names: &Names,
+    scope: &Scope<'_>,
     learnt: &Learnt,
     when: &When,
 ) -> Result<Option<RefusedUse>, OutOfMemory>
-    ensures { IfOk result (λ r. (d : Design) (guarded : Bool) → IsDesignOf D.table names.now d → IsLearnt d learnt.now
+    ensures { IfOk result (λ r. (d : Context) (guarded : Bool) → IsContextOf D.table scope.now d → IsLearnt d learnt.now
         → r ≡ first_refusal use_order (statement_refused d guarded (view_when when.now))) }
 {
-    let then = refused_stmt::<D>(alloc, names, learnt, true, when.then.get())?;
+    let then = refused_stmt::<D>(alloc, scope, learnt, true, when.then.get())?;
     match &when.otherwise {
         None => Ok(then),
         Some(other) => {
-            let other = refused_stmt::<D>(alloc, names, learnt, true, other.get())?;
+            let other = refused_stmt::<D>(alloc, scope, learnt, true, other.get())?;
             Ok(earlier(then, other))
         }
     }
@@ -171,19 +174,19 @@ fn refused_when<D: Device>(
 #[cycle(statements)]
 fn refused_list<D: Device>(
     alloc: Global,
-    names: &Names,
+    scope: &Scope<'_>,
     learnt: &Learnt,
     guarded: bool,
     list: &[Stmt],
 ) -> Result<Option<RefusedUse>, OutOfMemory>
-    ensures { IfOk result (λ r. (d : Design) → IsDesignOf D.table names.now d → IsLearnt d learnt.now
+    ensures { IfOk result (λ r. (d : Context) → IsContextOf D.table scope.now d → IsLearnt d learnt.now
         → r ≡ first_refusal use_order (list_refused d guarded (map view_stmt list.now))) }
 {
     let mut first = None;
     for stmt in list {
         first = earlier(
             first,
-            refused_stmt::<D>(alloc, names, learnt, guarded, stmt)?,
+            refused_stmt::<D>(alloc, scope, learnt, guarded, stmt)?,
         );
     }
     Ok(first)
@@ -192,16 +195,16 @@ fn refused_list<D: Device>(
 /// Of a section.
 fn refused_section<D: Device>(
     alloc: Global,
-    names: &Names,
+    scope: &Scope<'_>,
     learnt: &Learnt,
     section: &Section,
 ) -> Result<Option<RefusedUse>, OutOfMemory>
-    ensures { IfOk result (λ r. (d : Design) → IsDesignOf D.table names.now d → IsLearnt d learnt.now
+    ensures { IfOk result (λ r. (d : Context) → IsContextOf D.table scope.now d → IsLearnt d learnt.now
         → r ≡ first_refusal use_order (section_refused d (view_section section.now))) }
 {
     match section {
         Section::Equations(list) => {
-            refused_list::<D>(alloc, names, learnt, false, list.as_slice())
+            refused_list::<D>(alloc, scope, learnt, false, list.as_slice())
         }
         Section::Declarations(_) => Ok(None),
         Section::Table(_) => Ok(None),
@@ -216,16 +219,16 @@ fn refused_section<D: Device>(
 /// is told. None where there is none; the only refusal is want of memory.
 pub fn other_spelling<D: Device>(
     alloc: Global,
-    names: &Names,
+    scope: &Scope<'_>,
     sections: &[Section],
 ) -> Result<Option<RefusedUse>, OutOfMemory>
-    ensures { IfOk result (λ r. (d : Design) → IsDesignOf D.table names.now d → d.sections ≡ map view_section sections.now
+    ensures { IfOk result (λ r. (d : Design) → IsContextOf D.table scope.now d.context → d.sections ≡ map view_section sections.now
         → r ≡ first_refusal use_order (unwritten d)) }
 {
-    let learnt = learn(alloc, names)?;
+    let learnt = learn(alloc, scope)?;
     let mut first = None;
     for section in sections {
-        first = earlier(first, refused_section::<D>(alloc, names, &learnt, section)?);
+        first = earlier(first, refused_section::<D>(alloc, scope, &learnt, section)?);
     }
     Ok(first)
 }

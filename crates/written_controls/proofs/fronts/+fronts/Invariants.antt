@@ -1,15 +1,14 @@
 -- The members so far.
 use Rattle.std.proofs.Common.{◌≡◌, List, map, take}
-use Rattle.abel_tree.specs.Entries.{Entry}
+use Rattle.abel_tree.specs.Entries.{entries_of}
 use Rattle.abel_tree.specs.Tree.{members_of}
 use Rattle.abel_tree.specs.View.{view_member}
 use Rattle.abel_meaning.specs.Terms.{Known, terms_of}
-use Rattle.set_expr.specs.KnownNames.{IsKnown}
 use Rattle.written_controls.specs.Fronts.{AreFronts, counted}
 use Rattle.written_controls.specs.Written.{written_of_all}
 use Rattle.written_controls.proofs.fronts.+fronts.Given as goal
 
 abbrev pub invariant-front_expr-loop-member : goal.invariant-front_expr-loop-member
 invariant-front_expr-loop-member l =
-    (es : List Entry) (ks : List Known) → IsKnown es l.known → AreFronts es l.fronts ks
+    (ks : List Known) → AreFronts (entries_of l.scope) l.fronts ks
     → l.front ≡ counted (written_of_all (terms_of ks (members_of (map view_member (take l.member-index l.member-items)))))

@@ -9,5 +9,5 @@ use Rattle.written_controls.proofs.fronts.front_meaning.Goals as goal
 pub returns-in-Constant : goal.returns-in-Constant
 returns-in-Constant c =
     IfOk-weaker c.front_expr.result _ _
-    (λ f g es ks n k h. subst (λ m. f ≡ counted (written_of (term_meant ks n (view_meaning m)))) (sym c.in-Constant.is) (g es ks k h))
+    (λ f g ks n h. subst (λ m. f ≡ counted (written_of (term_meant ks n (view_meaning m)))) (sym c.in-Constant.is) (g ks h))
     c.front_expr.ensures

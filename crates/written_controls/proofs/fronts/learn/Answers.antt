@@ -1,17 +1,15 @@
 use Rattle.std.proofs.Common.{length, sym, subst}
 use Rattle.abel_tree.specs.Entries.{entries_of}
-use Rattle.set_expr.specs.KnownNames.{IsKnown}
 use Rattle.section_targets.specs.NamedTargets.{StandFor}
 use Rattle.written_controls.specs.Fronts.{AreFronts}
 use Rattle.written_controls.proofs.fronts.learn.Goals as goal
 
 pub returns : goal.returns
 returns c t d of =
-    let es = entries_of c.args.names.now in
+    let es = entries_of c.args.scope.now in
     let ns = c.in_ok-named.named in
     let fs = c.in_ok-fronts.fronts in
     record {
-      known = subst (λ xs. IsKnown xs c.in_ok-known.known) (sym of.names) c.in_ok-known.ensures;
       named = subst (λ xs. StandFor (length xs) xs ns d.known) (sym of.names) (subst (λ ks. StandFor (length es) es ns ks) (sym of.known) c.in_ok-named.ensures);
       fronts = subst (λ xs. AreFronts xs fs d.known) (sym of.names) (subst (λ ks. AreFronts es fs ks) (sym of.known) c.in_ok-fronts.ensures);
     }

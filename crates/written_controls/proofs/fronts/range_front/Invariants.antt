@@ -1,14 +1,13 @@
 -- The names that were looked up.
 use Rattle.std.proofs.Common.{◌≡◌, ℕ, List, map, take}
 use Rattle.std.specs.Global.{Vec}
-use Rattle.abel_tree.specs.Entries.{Entry}
+use Rattle.abel_tree.specs.Entries.{entries_of}
 use Rattle.abel_meaning.specs.Terms.{Known, NoTerm, named_before}
-use Rattle.set_expr.specs.KnownNames.{IsKnown}
 use Rattle.written_controls.specs.Fronts.{AreFronts, counted}
 use Rattle.written_controls.specs.Written.{written_of_all}
 use Rattle.written_controls.proofs.fronts.range_front.Given as goal
 
 abbrev pub invariant-loop-name : goal.invariant-loop-name
 invariant-loop-name l =
-    (es : List Entry) (ks : List Known) → IsKnown es l.known → AreFronts es l.fronts ks
+    (ks : List Known) → AreFronts (entries_of l.scope) l.fronts ks
     → l.front ≡ counted (written_of_all (named_before ks (map (λ (n : Vec ℕ). n.items) (take l.name-index l.name-items)) NoTerm))

@@ -16,5 +16,5 @@ loop-section-preserved g c d of =
 
 pub returns : goal.returns
 returns g c d of same =
-    c.loop-section.invariant d of
-    ∙ ap (λ ss. first_refusal use_order (sections_refused d ss)) (whole_front view_section c.args.sections.now c.loop-section.section-index c.loop-section-test.false ∙ sym same)
+    c.loop-section.invariant d.context of
+    ∙ ap (λ ss. first_refusal use_order (sections_refused d.context ss)) (whole_front view_section c.args.sections.now c.loop-section.section-index c.loop-section-test.false ∙ sym same)

@@ -1,8 +1,8 @@
 -- So many signals are gone through.
 use Rattle.std.proofs.Common.{◌≡◌, ◌≤◌, length, min, take}
 use Rattle.abel_tree.specs.FirstRefusal.{first_refusal}
-use Rattle.abel_meaning.specs.Designs.{Design}
-use Rattle.set_expr.specs.Answer.{IsDesignOf}
+use Rattle.abel_meaning.specs.Designs.{Context}
+use Rattle.set_expr.specs.Answer.{IsContextOf}
 use Rattle.use_refusals.specs.Refused.{use_order}
 use Rattle.written_controls.specs.Fronts.{counted}
 use Rattle.written_controls.specs.Written.{Written, aims_refused}
@@ -11,7 +11,7 @@ use Rattle.written_controls.proofs.written.refused_aims.Given as goal
 abbrev pub invariant-loop-aim : goal.invariant-loop-aim
 invariant-loop-aim g l =
     record {
-      first : (d : Design) (w : Written) → IsDesignOf g.D.Device.table l.names d → l.front ≡ counted w → length l.aims ≤ 32
+      first : (d : Context) (w : Written) → IsContextOf g.D.Device.table l.scope d → l.front ≡ counted w → length l.aims ≤ 32
           → l.first ≡ first_refusal use_order (aims_refused d l.extension w 0 (take l.aim-index l.aims));
       position : l.position ≡ min l.aim-index 255;
     }
