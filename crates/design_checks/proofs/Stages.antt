@@ -13,7 +13,7 @@ use Rattle.design_checks.specs.Refused.{wrong_kinds, no_controls}
 use Rattle.design_checks.specs.Verdict.{KindsPass, ControlsPass, IsCellRefused, IsNodeRefused, IsControlRefused, IsAnyRefused, IsPathRefused, IsSignalRefused}
 
 module _ (d : Design) (fs : List Formula) (cs : List Contribution) where
-  pub by_cell : (f : DesignFault) → IsCellRefused d.device d.names cs f → IsSignalRefused d fs cs f
+  pub by_cell : (f : DesignFault) → IsCellRefused d.context.device d.context.names cs f → IsSignalRefused d fs cs f
   by_cell (fault.WrongKind p s) is = is
   by_cell (fault.RegisteredNode p s) is = absurd is
   by_cell (fault.NoSuchControl p s) is = absurd is
@@ -23,7 +23,7 @@ module _ (d : Design) (fs : List Formula) (cs : List Contribution) where
   by_cell (fault.ResetReadsRegister p path) is = absurd is
   by_cell fault.OutOfMemory is = absurd is
 
-  pub by_node : (f : DesignFault) → wrong_kinds d.device d.names cs ≡ [] → IsNodeRefused d.names f → IsSignalRefused d fs cs f
+  pub by_node : (f : DesignFault) → wrong_kinds d.context.device d.context.names cs ≡ [] → IsNodeRefused d.context.names f → IsSignalRefused d fs cs f
   by_node (fault.RegisteredNode p s) kinds is = (kinds, is)
   by_node fault.OutOfMemory kinds is = tt
   by_node (fault.WrongKind p s) kinds is = absurd is
@@ -33,7 +33,7 @@ module _ (d : Design) (fs : List Formula) (cs : List Contribution) where
   by_node (fault.Loop p chain) kinds is = absurd is
   by_node (fault.ResetReadsRegister p path) kinds is = absurd is
 
-  module _ (kinds : KindsPass d.device d.names cs) where
+  module _ (kinds : KindsPass d.context.device d.context.names cs) where
     pub by_control : (f : DesignFault) → IsControlRefused d fs cs f → IsSignalRefused d fs cs f
     by_control (fault.NoSuchControl p s) is = (kinds, is)
     by_control fault.OutOfMemory is = tt
@@ -44,7 +44,7 @@ module _ (d : Design) (fs : List Formula) (cs : List Contribution) where
     by_control (fault.Loop p chain) is = absurd is
     by_control (fault.ResetReadsRegister p path) is = absurd is
 
-    pub by_any : (f : DesignFault) → no_controls d fs cs ≡ [] → IsAnyRefused d.device d.names cs f → IsSignalRefused d fs cs f
+    pub by_any : (f : DesignFault) → no_controls d fs cs ≡ [] → IsAnyRefused d.context.device d.context.names cs f → IsSignalRefused d fs cs f
     by_any (fault.DontCareControl p s) controls is = (kinds, controls, is)
     by_any (fault.WrongKind p s) controls is = absurd is
     by_any (fault.RegisteredNode p s) controls is = absurd is

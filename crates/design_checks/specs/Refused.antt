@@ -42,7 +42,7 @@ target_controls t fs xs cs = targets_refused t xs rule.Controls cs ++ other_leve
 
 -- these, equations that are compared and not written as a level is, and uses of what the signal doesn't have
 abbrev pub no_controls : Design → List Formula → List Contribution → List RefusedUse
-no_controls d fs cs = target_controls d.device fs d.names cs ++ (unwritten d ++ map told (missing_uses d))
+no_controls d fs cs = target_controls d.context.device fs d.context.names cs ++ (unwritten d ++ map told (missing_uses d))
 
 -- controls that are assigned by `?=`
 abbrev pub any_controls : Table → List Entry → List Contribution → List RefusedUse

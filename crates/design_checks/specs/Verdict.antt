@@ -12,7 +12,7 @@ use Rattle.abel_meaning.specs.Designs.{Design}
 use Rattle.abel_meaning.specs.SignalReads.{given_formulas}
 use Rattle.set_expr.specs.declared.contributions.Contribution.{Contribution}
 use Rattle.set_expr.specs.declared.contributions.Contributions.{Contributions}
-use Rattle.set_expr.specs.Answer.{IsDesignOf}
+use Rattle.set_expr.specs.Answer.{IsContextOf}
 use Rattle.set_expr.specs.Given.{given}
 use Rattle.use_refusals.specs.declared.refused.RefusedUse.{RefusedUse}
 use Rattle.use_refusals.specs.Refused.{use_order}
@@ -22,7 +22,7 @@ use Rattle.design_checks.specs.Refused.{wrong_kinds, stored_nodes, no_controls, 
 
 -- the design of a module's names and sections, to which this is contributed
 pub record IsDesignFor (t : Table) (n : Names) (m : Module) (found : Contributions) (d : Design) : Type 0 where
-  pub design : IsDesignOf t n d
+  pub design : IsContextOf t n d.context
   pub sections : d.sections ≡ map view_section m.sections
   pub gives : given found ≡ given_formulas d
 
@@ -38,7 +38,7 @@ pub record KindsPass (t : Table) (xs : List Entry) (cs : List Contribution) : Ty
 -- no control is refused: each signal has those that are assigned and read, and none is assigned by `?=`
 pub record ControlsPass (d : Design) (fs : List Formula) (cs : List Contribution) : Type 0 where
   pub controls : no_controls d fs cs ≡ []
-  pub any : any_controls d.device d.names cs ≡ []
+  pub any : any_controls d.context.device d.context.names cs ≡ []
 
 -- nor is a use of what no column carries
 pub record UsesPass (d : Design) (fs : List Formula) (cs : List Contribution) : Type 0 where
@@ -79,16 +79,16 @@ IsPathRefused d _ = ⊥
 
 -- what is refused of signals: kinds of refusals come in this order, and those of one kind by place
 abbrev pub IsSignalRefused : Design → List Formula → List Contribution → DesignFault → Type 0
-IsSignalRefused d fs cs (fault.WrongKind p s) = IsFirst (wrong_kinds d.device d.names cs) p s
-IsSignalRefused d fs cs (fault.RegisteredNode p s) = (wrong_kinds d.device d.names cs ≡ []) × IsFirst (stored_nodes d.names) p s
-IsSignalRefused d fs cs (fault.NoSuchControl p s) = KindsPass d.device d.names cs × IsFirst (no_controls d fs cs) p s
+IsSignalRefused d fs cs (fault.WrongKind p s) = IsFirst (wrong_kinds d.context.device d.context.names cs) p s
+IsSignalRefused d fs cs (fault.RegisteredNode p s) = (wrong_kinds d.context.device d.context.names cs ≡ []) × IsFirst (stored_nodes d.context.names) p s
+IsSignalRefused d fs cs (fault.NoSuchControl p s) = KindsPass d.context.device d.context.names cs × IsFirst (no_controls d fs cs) p s
 IsSignalRefused d fs cs (fault.DontCareControl p s) =
-    KindsPass d.device d.names cs × (no_controls d fs cs ≡ []) × IsFirst (any_controls d.device d.names cs) p s
-IsSignalRefused d fs cs (fault.NoReadPath p s) = KindsPass d.device d.names cs × ControlsPass d fs cs × IsFirst (no_paths d) p s
+    KindsPass d.context.device d.context.names cs × (no_controls d fs cs ≡ []) × IsFirst (any_controls d.context.device d.context.names cs) p s
+IsSignalRefused d fs cs (fault.NoReadPath p s) = KindsPass d.context.device d.context.names cs × ControlsPass d fs cs × IsFirst (no_paths d) p s
 IsSignalRefused d fs cs fault.OutOfMemory = Unit {0}
 IsSignalRefused d fs cs _ = ⊥
 
 -- nothing is refused of a design's kinds, nodes, controls and uses
 pub record HasSoundSignals (d : Design) (fs : List Formula) (cs : List Contribution) : Type 0 where
-  pub kinds : KindsPass d.device d.names cs
+  pub kinds : KindsPass d.context.device d.context.names cs
   pub uses : UsesPass d fs cs

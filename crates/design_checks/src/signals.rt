@@ -20,7 +20,7 @@ use design_refusals::{
 };
 use pld_base::OutOfMemory;
 use pld_device::Device;
-use set_expr::{Contribution, Contributions};
+use set_expr::{Contribution, Contributions, Scope};
 use std::alloc::Global;
 use use_refusals::{RefusedUse, earlier, missing_use, unread_use};
 use written_controls::other_spelling;
@@ -82,18 +82,19 @@ fn target_controls<D: Device>(names: &Names, found: &Contributions) -> Option<Re
 fn controls<D: Device>(
     alloc: Global,
     source: &Module,
-    names: &Names,
+    scope: &Scope<'_>,
     found: &Contributions,
 ) -> Result<Option<RefusedUse>, OutOfMemory>
-    requires names { AreToNames (length (entries_of names.now)) found.now.list }
+    requires names { AreToNames (length (entries_of scope.now)) found.now.list }
     requires inside { All (λ (c : code.Contribution). c.when.0 < length
         (arena found.now.exprs)) found.now.list }
-    ensures { IfOk result (λ r. (d : Design) → IsDesignFor D.table names.now source.now found.now d
+    ensures { IfOk result (λ r. (d : Design) → IsDesignFor D.table scope.now source.now found.now d
         → r ≡ first_refusal use_order (no_controls d (arena found.now.exprs) found.now.list)) }
 {
+    let names = scope.names();
     let sections = source.sections.as_slice();
     let used = missing_use::<D>(alloc, names, sections)?;
-    let unwritten = other_spelling::<D>(alloc, names, sections)?;
+    let unwritten = other_spelling::<D>(alloc, scope, sections)?;
     let both = earlier(unwritten, used);
     Ok(earlier(target_controls::<D>(names, found), both))
 }
@@ -150,20 +151,20 @@ fn check_nodes(names: &Names) -> Result<(), DesignFault>
 fn check_there<D: Device>(
     alloc: Global,
     source: &Module,
-    names: &Names,
+    scope: &Scope<'_>,
     found: &Contributions,
 ) -> Result<(), DesignFault>
-    requires names { AreToNames (length (entries_of names.now)) found.now.list }
+    requires names { AreToNames (length (entries_of scope.now)) found.now.list }
     requires inside { All (λ (c : code.Contribution). c.when.0 < length
         (arena found.now.exprs)) found.now.list }
     ensures ok { IfOk result (λ _. (d : Design)
-        → IsDesignFor D.table names.now source.now found.now d
+        → IsDesignFor D.table scope.now source.now found.now d
         → no_controls d (arena found.now.exprs) found.now.list ≡ []) }
     ensures err { IfErr result (λ f. (d : Design)
-        → IsDesignFor D.table names.now source.now found.now d
+        → IsDesignFor D.table scope.now source.now found.now d
         → IsControlRefused d (arena found.now.exprs) found.now.list f) }
 {
-    match controls::<D>(alloc, source, names, found)? {
+    match controls::<D>(alloc, source, scope, found)? {
         None => Ok(()),
         Some(refused) => Err(DesignFault::NoSuchControl(refused.place, refused.name)),
     }
@@ -206,8 +207,8 @@ fn check_paths<D: Device>(
 fn check_kinds<D: Device>(names: &Names, list: &[Contribution]) -> Result<(), DesignFault>
     requires { AreToNames (length (entries_of names.now)) list.now }
     ensures ok { IfOk result (λ _. KindsPass D.table (entries_of names.now) list.now) }
-    ensures err { IfErr result (λ f. (d : Design) (fs : List Formula) → d.device ≡ D.table → d.names
-        ≡ entries_of names.now
+    ensures err { IfErr result (λ f. (d : Design) (fs : List Formula) → d.context.device ≡ D.table
+        → d.context.names ≡ entries_of names.now
         → IsSignalRefused d fs list.now f) }
 {
     match check_cells::<D>(names, list) {
@@ -220,23 +221,23 @@ fn check_kinds<D: Device>(names: &Names, list: &[Contribution]) -> Result<(), De
 fn check_controls<D: Device>(
     alloc: Global,
     source: &Module,
-    names: &Names,
+    scope: &Scope<'_>,
     found: &Contributions,
 ) -> Result<(), DesignFault>
-    requires names { AreToNames (length (entries_of names.now)) found.now.list }
+    requires names { AreToNames (length (entries_of scope.now)) found.now.list }
     requires inside { All (λ (c : code.Contribution). c.when.0 < length
         (arena found.now.exprs)) found.now.list }
     ensures ok { IfOk result (λ _. (d : Design)
-        → IsDesignFor D.table names.now source.now found.now d
+        → IsDesignFor D.table scope.now source.now found.now d
         → ControlsPass d (arena found.now.exprs) found.now.list) }
     ensures err { IfErr result (λ f. (d : Design)
-        → IsDesignFor D.table names.now source.now found.now d
-        → KindsPass d.device d.names found.now.list
+        → IsDesignFor D.table scope.now source.now found.now d
+        → KindsPass d.context.device d.context.names found.now.list
         → IsSignalRefused d (arena found.now.exprs) found.now.list f) }
 {
-    match check_there::<D>(alloc, source, names, found) {
+    match check_there::<D>(alloc, source, scope, found) {
         Err(fault) => Err(fault),
-        Ok(()) => check_any::<D>(names, found.list.as_slice()),
+        Ok(()) => check_any::<D>(scope.names(), found.list.as_slice()),
     }
 }
 
@@ -244,23 +245,23 @@ fn check_controls<D: Device>(
 fn check_uses<D: Device>(
     alloc: Global,
     source: &Module,
-    names: &Names,
+    scope: &Scope<'_>,
     found: &Contributions,
 ) -> Result<(), DesignFault>
-    requires names { AreToNames (length (entries_of names.now)) found.now.list }
+    requires names { AreToNames (length (entries_of scope.now)) found.now.list }
     requires inside { All (λ (c : code.Contribution). c.when.0 < length
         (arena found.now.exprs)) found.now.list }
     ensures ok { IfOk result (λ _. (d : Design)
-        → IsDesignFor D.table names.now source.now found.now d
+        → IsDesignFor D.table scope.now source.now found.now d
         → UsesPass d (arena found.now.exprs) found.now.list) }
     ensures err { IfErr result (λ f. (d : Design)
-        → IsDesignFor D.table names.now source.now found.now d
-        → KindsPass d.device d.names found.now.list
+        → IsDesignFor D.table scope.now source.now found.now d
+        → KindsPass d.context.device d.context.names found.now.list
         → IsSignalRefused d (arena found.now.exprs) found.now.list f) }
 {
-    match check_controls::<D>(alloc, source, names, found) {
+    match check_controls::<D>(alloc, source, scope, found) {
         Err(fault) => Err(fault),
-        Ok(()) => check_paths::<D>(alloc, source, names, found),
+        Ok(()) => check_paths::<D>(alloc, source, scope.names(), found),
     }
 }
 
@@ -268,21 +269,21 @@ fn check_uses<D: Device>(
 pub fn check_signals<D: Device>(
     alloc: Global,
     source: &Module,
-    names: &Names,
+    scope: &Scope<'_>,
     found: &Contributions,
 ) -> Result<(), DesignFault>
-    requires names { AreToNames (length (entries_of names.now)) found.now.list }
+    requires names { AreToNames (length (entries_of scope.now)) found.now.list }
     requires inside { All (λ (c : code.Contribution). c.when.0 < length
         (arena found.now.exprs)) found.now.list }
     ensures ok { IfOk result (λ _. (d : Design)
-        → IsDesignFor D.table names.now source.now found.now d
+        → IsDesignFor D.table scope.now source.now found.now d
         → HasSoundSignals d (arena found.now.exprs) found.now.list) }
     ensures err { IfErr result (λ f. (d : Design)
-        → IsDesignFor D.table names.now source.now found.now d
+        → IsDesignFor D.table scope.now source.now found.now d
         → IsSignalRefused d (arena found.now.exprs) found.now.list f) }
 {
-    match check_kinds::<D>(names, found.list.as_slice()) {
+    match check_kinds::<D>(scope.names(), found.list.as_slice()) {
         Err(fault) => Err(fault),
-        Ok(()) => check_uses::<D>(alloc, source, names, found),
+        Ok(()) => check_uses::<D>(alloc, source, scope, found),
     }
 }

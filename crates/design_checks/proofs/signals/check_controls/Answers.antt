@@ -1,5 +1,6 @@
-use Rattle.std.proofs.Common.{◌≡◌, [], sym, subst}
+use Rattle.std.proofs.Common.{◌≡◌, [], sym, subst, subst₂}
 use Rattle.bit_expr.specs.Arena.{arena}
+use Rattle.abel_tree.specs.declared.names.Names.{Names}
 use Rattle.abel_tree.specs.Entries.{entries_of}
 use Rattle.design_checks.specs.Refused.{any_controls}
 use Rattle.design_checks.specs.Verdict.{IsAnyRefused}
@@ -18,7 +19,7 @@ returns-in-Ok-clause-ok g c =
     ok_then c.check_any.result _ _
     (λ _ any d of. record {
       controls = at_ok c.check_there.result _ _ c.in-Ok.is c.check_there.ensures.ok d of;
-      any = subst (λ u. any_controls u d.names cs ≡ []) (sym of.design.device) (subst (λ ys. any_controls t ys cs ≡ []) (sym of.design.names) (subst (λ es. any_controls t (entries_of c.args.names.now) es ≡ []) c.as_slice.ensures any));
+      any = subst (λ u. any_controls u d.context.names cs ≡ []) (sym of.design.device) (subst (λ ys. any_controls t ys cs ≡ []) (sym of.design.names) (subst₂ (λ (n : Names) es. any_controls t (entries_of n) es ≡ []) c.names.ensures c.as_slice.ensures any));
     })
     c.check_any.ensures.ok
 
@@ -29,5 +30,5 @@ returns-in-Ok-clause-err g c =
     err_then c.check_any.result _ _
     (λ f h d of kinds.
     by_any d (arena c.args.found.now.exprs) cs kinds f (at_ok c.check_there.result _ _ c.in-Ok.is c.check_there.ensures.ok d of)
-    (subst (λ u. IsAnyRefused u d.names cs f) (sym of.design.device) (subst (λ ys. IsAnyRefused t ys cs f) (sym of.design.names) (subst (λ es. IsAnyRefused t (entries_of c.args.names.now) es f) c.as_slice.ensures h))))
+    (subst (λ u. IsAnyRefused u d.context.names cs f) (sym of.design.device) (subst (λ ys. IsAnyRefused t ys cs f) (sym of.design.names) (subst₂ (λ (n : Names) es. IsAnyRefused t (entries_of n) es f) c.names.ensures c.as_slice.ensures h))))
     c.check_any.ensures.err

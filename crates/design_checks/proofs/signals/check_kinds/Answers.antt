@@ -10,7 +10,7 @@ returns-in-Err-clause-err g c d fs device names =
     let xs = entries_of c.args.names.now in
     let cs = c.args.list.now in
     by_cell d fs cs c.in-Err.fault
-    (subst (λ t. IsCellRefused t d.names cs c.in-Err.fault) (sym device)
+    (subst (λ t. IsCellRefused t d.context.names cs c.in-Err.fault) (sym device)
     (subst (λ ys. IsCellRefused g.D.Device.table ys cs c.in-Err.fault) (sym names)
     (at_err c.check_cells.result c.in-Err.fault _ c.in-Err.is c.check_cells.ensures.err)))
 
@@ -26,7 +26,7 @@ returns-in-Ok-clause-err g c =
     err_then c.check_nodes.result _ _
     (λ f h d fs device names.
     by_node d fs cs f
-    (subst (λ t. wrong_kinds t d.names cs ≡ []) (sym device)
+    (subst (λ t. wrong_kinds t d.context.names cs ≡ []) (sym device)
     (subst (λ ys. wrong_kinds g.D.Device.table ys cs ≡ []) (sym names)
     (at_ok c.check_cells.result _ _ c.in-Ok.is c.check_cells.ensures.ok)))
     (subst (λ ys. IsNodeRefused ys f) (sym names) h))
