@@ -4,7 +4,7 @@ use Rattle.std.specs.List.{list_any, flat_map}
 use Rattle.std.proofs.lemmas.Bool.{true≢false, or_cases, or_left, or_right}
 use Rattle.std.proofs.lemmas.List.Folds.{list_any-append}
 use Rattle.abel_tree.specs.Tree.{Tree, Statement, AnAssign, AWhen, AGroup, ADontCare, Otherwise, NoElse, AnElse, Statements, NoStatement, MoreStatements, statements_of, Branch, AGoal, AnIf, ACase, OtherBranch, NoBranch, ABranch, Choices, NoChoice, MoreChoices, StateTree, SectionTree, Declarations, Equations, ATable, ADiagram, SomeVectors, DontCareSection}
-use Rattle.abel_meaning.specs.Designs.{Design}
+use Rattle.abel_meaning.specs.Designs.{Context}
 use Rattle.abel_meaning.specs.Held.{Part, ATarget, AValue, statement_parts, else_parts, statements_parts, list_parts, with_parts, branch_parts, other_parts, choices_parts, branches_parts, states_parts}
 use Rattle.abel_meaning.specs.Terms.{known_of}
 use Rattle.design_uses.specs.LocatedUses.{PlacedUse, located}
@@ -22,7 +22,7 @@ front p xs ys found = list_any-append p xs ys ∙ or_left (list_any p xs) (list_
 back : {X : Type 0} (p : X → Bool) (xs ys : List X) → list_any p ys ≡ true → list_any p (xs ++ ys) ≡ true
 back p xs ys found = list_any-append p xs ys ∙ or_right (list_any p xs) (list_any p ys) found
 
-module _ (d : Design) (known : d.known ≡ known_of d.names) (s : ℕ) where
+module _ (d : Context) (known : d.known ≡ known_of d.names) (s : ℕ) where
   abbrev is_of : PlacedUse → Bool
   is_of u = u.read.signal == s
 

@@ -44,8 +44,8 @@ AssignedPinsFit =
 -- what the device must follow is read
 abbrev pub UsesAreReads : Type 0
 UsesAreReads =
-    (d : Design) → d.known ≡ known_of d.names → (signal : ℕ) → list_any (λ (u : PlacedUse). u.read.signal == signal) (design_uses d) ≡ true
-    → is_read d.names d.sections signal ≡ true
+    (d : Design) → d.context.known ≡ known_of d.context.names → (signal : ℕ) → list_any (λ (u : PlacedUse). u.read.signal == signal) (design_uses d) ≡ true
+    → is_read d.context.names d.sections signal ≡ true
 
 -- ---- the placed module
 
