@@ -11,7 +11,7 @@ use Rattle.abel_tree.specs.declared.words.Extension.TheVariants as extension
 use Rattle.abel_tree.specs.Assigned.{target_extension, is_clocked}
 use Rattle.abel_tree.specs.Tree.{Tree, Statement, AnAssign, AWhen, AGroup, ADontCare, Otherwise, NoElse, AnElse, Statements, NoStatement, MoreStatements, statements_of, Branch, AGoal, AnIf, ACase, OtherBranch, NoBranch, ABranch, Choices, NoChoice, MoreChoices, StateTree, RowTree, SectionTree, Declarations, Equations, ATable, ADiagram, SomeVectors, DontCareSection}
 use Rattle.abel_meaning.specs.Contributions.{Contribution, Gives, One, Guard, guarded, condition, contribution}
-use Rattle.abel_meaning.specs.Designs.{Design, name_at}
+use Rattle.abel_meaning.specs.Designs.{Context, name_at}
 use Rattle.abel_meaning.specs.Diagrams.{registers_equal, is_state, goal_gives, branch_gives, other_gives, choices_give, branches_give, in_state, state_gives, states_give, is_other, once, first_of_each, state_matches, other_matches, with_others, registers_given, with_statements}
 use Rattle.abel_meaning.specs.Directives.{after_section}
 use Rattle.abel_meaning.specs.Numbers.{width_of, digits}
@@ -43,7 +43,7 @@ by_pin_not_row t (Some c) pin row = by (cell_at t c).enable pin row
     by (Row r) pin row = absurd cc
     by (PinLow p) pin row = absurd cc
 
-module _ (d : Design) (P : SignalUse → Type 0) (Q : ℕ → Type 0) (targets : (t : Tree) → EachTarget Q (targets_of (term_of d.known t))) where
+module _ (d : Context) (P : SignalUse → Type 0) (Q : ℕ → Type 0) (targets : (t : Tree) → EachTarget Q (targets_of (term_of d.known t))) where
   -- ---- lists of uses
 
   abbrev pub Each : List SignalUse → Type 0

@@ -72,58 +72,58 @@ preset_extension (Some extension.Q) is = absurd cc
 preset_extension (Some extension.Fb) is = absurd cc
 preset_extension (Some extension.Pin) is = absurd cc
 
-module _ (d : Design) (known : d.known ≡ known_of d.names) (headers : HaveBareHeaders d d.sections) where
+module _ (d : Design) (known : d.context.known ≡ known_of d.context.names) (headers : HaveBareHeaders d.context d.sections) where
   abbrev AnyUse : SignalUse → Type 0
   AnyUse u = Unit {0}
 
-  targets : (t : Tree) → EachTarget (IsSignalOf d) (targets_of (term_of d.known t))
-  targets = signal_targets d known
+  targets : (t : Tree) → EachTarget (IsSignalOf d.context) (targets_of (term_of d.context.known t))
+  targets = signal_targets d.context known
 
-  any_uses : (us : List PlacedUse) → EachUse d AnyUse (IsSignalOf d) targets us
+  any_uses : (us : List PlacedUse) → EachUse d.context AnyUse (IsSignalOf d.context) targets us
   any_uses [] = tt
   any_uses (u ∷ us) = (tt, any_uses us)
 
-  good_signals : (es : List (Contribution (List SignalUse))) → EachGood d AnyUse (IsSignalOf d) targets es → EachSignal (IsSignalOf d) es
+  good_signals : (es : List (Contribution (List SignalUse))) → EachGood d.context AnyUse (IsSignalOf d.context) targets es → EachSignal (IsSignalOf d.context) es
   good_signals [] h = tt
   good_signals (c ∷ es) h = (h.0.signal, good_signals es h.1)
 
-  given_good : EachGood d AnyUse (IsSignalOf d) targets (given_uses d)
-  given_good = sections_good d AnyUse (IsSignalOf d) targets d.starts_dontcare 0 d.sections headers (any_uses (design_uses d))
+  given_good : EachGood d.context AnyUse (IsSignalOf d.context) targets (given_uses d)
+  given_good = sections_good d.context AnyUse (IsSignalOf d.context) targets d.starts_dontcare 0 d.sections headers (any_uses (design_uses d))
 
   -- each contribution is to a signal
-  pub given_signals : EachSignal (IsSignalOf d) (given_formulas d)
+  pub given_signals : EachSignal (IsSignalOf d.context) (given_formulas d)
   given_signals =
-      subst (EachSignal (IsSignalOf d)) (formulas_are d)
-      (same_signals (IsSignalOf d) (λ (x : Sourced d). x.uses) (λ (x : Sourced d). x.formula) (sourced_contributions d)
-      (subst (EachSignal (IsSignalOf d)) (sym (uses_are d)) (good_signals (given_uses d) given_good)))
+      subst (EachSignal (IsSignalOf d.context)) (formulas_are d)
+      (same_signals (IsSignalOf d.context) (λ (x : Sourced d.context). x.uses) (λ (x : Sourced d.context). x.formula) (sourced_contributions d)
+      (subst (EachSignal (IsSignalOf d.context)) (sym (uses_are d)) (good_signals (given_uses d) given_good)))
 
-  module _ (fs : List Formula) (cs : List code.Contribution) (same : map (view_contribution fs) cs ≡ given_formulas d) (controls : all_refused d.device d.names rule.Controls cs ≡ []) where
-    controls_here : EachOf (λ c. HasControl d fs c × IsSignalOf d c.signal) (given_formulas d)
+  module _ (fs : List Formula) (cs : List code.Contribution) (same : map (view_contribution fs) cs ≡ given_formulas d) (controls : all_refused d.context.device d.context.names rule.Controls cs ≡ []) where
+    controls_here : EachOf (λ c. HasControl d.context fs c × IsSignalOf d.context c.signal) (given_formulas d)
     controls_here =
-        with_signals (IsSignalOf d) (HasControl d fs) (given_formulas d) (subst (EachOf (HasControl d fs)) same (controls_there d fs cs controls)) given_signals
+        with_signals (IsSignalOf d.context) (HasControl d.context fs) (given_formulas d) (subst (EachOf (HasControl d.context fs)) same (controls_there d.context fs cs controls)) given_signals
 
-    control_had : (e : Extension) (s : ℕ) (f : Formula) → control_of (formulas d) (given_formulas d) s e ≡ Some f
-        → (c : Contribution Formula) × (HasControl d fs c × IsSignalOf d c.signal) × (is_control s e c ≡ true)
+    control_had : (e : Extension) (s : ℕ) (f : Formula) → control_of (formulas d.context) (given_formulas d) s e ≡ Some f
+        → (c : Contribution Formula) × (HasControl d.context fs c × IsSignalOf d.context c.signal) × (is_control s e c ≡ true)
     control_had e s f is =
-        some_of (λ c. HasControl d fs c × IsSignalOf d c.signal) (is_control s e) (given_formulas d) controls_here
-        (control_given (formulas d) (is_control s e) (given_formulas d) f is)
+        some_of (λ c. HasControl d.context fs c × IsSignalOf d.context c.signal) (is_control s e) (given_formulas d) controls_here
+        (control_given (formulas d.context) (is_control s e) (given_formulas d) f is)
 
     -- a control with an equation is one that its signal has
     abbrev pub HasOwn : Extension → ℕ → Type 0
-    HasOwn e s = (lacks_control d.device (name_at d s) (Some e) ≡ false) × IsSignalOf d s
+    HasOwn e s = (lacks_control d.context.device (name_at d.context s) (Some e) ≡ false) × IsSignalOf d.context s
 
-    had_by : (e : Extension) (s : ℕ) (f : Formula) → ((o : Option Extension) → is_the_control e o ≡ true → o ≡ Some e) → control_of (formulas d) (given_formulas d) s e ≡ Some f → HasOwn e s
+    had_by : (e : Extension) (s : ℕ) (f : Formula) → ((o : Option Extension) → is_the_control e o ≡ true → o ≡ Some e) → control_of (formulas d.context) (given_formulas d) s e ≡ Some f → HasOwn e s
     had_by e s f extension_is is =
         let c = control_had e s f is in
         let parts = and_parts (c.0.signal == s) (is_the_control e c.0.extension) c.2 in
         let same_signal : c.0.signal ≡ s = eqb-true c.0.signal s parts.0 in (
-          sym (ap (λ o. lacks_control d.device (name_at d s) o) (extension_is c.0.extension parts.1))
-              ∙ sym (ap (λ n. lacks_control d.device (name_at d n) c.0.extension) same_signal) ∙ c.1.0,
-          subst (IsSignalOf d) same_signal c.1.1,
+          sym (ap (λ o. lacks_control d.context.device (name_at d.context s) o) (extension_is c.0.extension parts.1))
+              ∙ sym (ap (λ n. lacks_control d.context.device (name_at d.context n) c.0.extension) same_signal) ∙ c.1.0,
+          subst (IsSignalOf d.context) same_signal c.1.1,
         )
 
-    pub reset_had : (s : ℕ) (f : Formula) → control_of (formulas d) (given_formulas d) s extension.Ar ≡ Some f → HasOwn extension.Ar s
+    pub reset_had : (s : ℕ) (f : Formula) → control_of (formulas d.context) (given_formulas d) s extension.Ar ≡ Some f → HasOwn extension.Ar s
     reset_had s f is = had_by extension.Ar s f reset_extension is
 
-    pub preset_had : (s : ℕ) (f : Formula) → control_of (formulas d) (given_formulas d) s extension.Sp ≡ Some f → HasOwn extension.Sp s
+    pub preset_had : (s : ℕ) (f : Formula) → control_of (formulas d.context) (given_formulas d) s extension.Sp ≡ Some f → HasOwn extension.Sp s
     preset_had s f is = had_by extension.Sp s f preset_extension is

@@ -72,55 +72,55 @@ preset_there t x (ANode n) signal has = absurd cc
 preset_there t x (AConstant value) signal has = absurd cc
 preset_there t x ADeviceName signal has = absurd cc
 
-module _ (uses_have_columns : UsesHaveColumns) (d : Design) (fs : List Formula) (cs : List code.Contribution) (laws : IsDevice d.device) (accepted : IsAccepted d) (same : map (view_contribution fs) cs ≡ given_formulas d) (unrefused : IsUnrefused d cs) where
+module _ (uses_have_columns : UsesHaveColumns) (d : Design) (fs : List Formula) (cs : List code.Contribution) (laws : IsDevice d.context.device) (accepted : IsAccepted d) (same : map (view_contribution fs) cs ≡ given_formulas d) (unrefused : IsUnrefused d cs) where
   -- ---- names
 
-  stored_on_cell : (s : ℕ) (x : Entry) (kind : Kind) → slice_get d.names s ≡ Some x → x.kind ≡ kind → is_stored x ≡ true → IsSome (cell_by d.device x kind)
+  stored_on_cell : (s : ℕ) (x : Entry) (kind : Kind) → slice_get d.context.names s ≡ Some x → x.kind ≡ kind → is_stored x ≡ true → IsSome (cell_by d.context.device x kind)
   stored_on_cell s x (APin pin negated) is kind stored =
-      let here : name_at d s ≡ x = get_or_from_slice_get d.names s x no_name is in
+      let here : name_at d.context s ≡ x = get_or_from_slice_get d.context.names s x no_name is in
       let parts = and_parts x.words.registered x.assigned stored in
-      on_cell x.assigned (cell_on d.device pin) parts.1 (accepted.names.cells s pin negated (ap (λ (y : Entry). y.kind) here ∙ kind) (ap (λ (y : Entry). y.assigned) here ∙ parts.1))
+      on_cell x.assigned (cell_on d.context.device pin) parts.1 (accepted.names.cells s pin negated (ap (λ (y : Entry). y.kind) here ∙ kind) (ap (λ (y : Entry). y.assigned) here ∙ parts.1))
     where
       on_cell : (b : Bool) (o : Option ℕ) → b ≡ true → IsSome o → IsSome (if b then o else None)
       on_cell true o e some = some
       on_cell false o e some = absurd cc
   stored_on_cell s x (ANode n) is kind stored =
       let parts = and_parts x.words.registered x.assigned stored in
-      absurd (true≢false (sym parts.0 ∙ sym (ap (is_registered_by x.words.registered) kind) ∙ no_registered 0 d.names unrefused.nodes s x is))
+      absurd (true≢false (sym parts.0 ∙ sym (ap (is_registered_by x.words.registered) kind) ∙ no_registered 0 d.context.names unrefused.nodes s x is))
   stored_on_cell s x (AConstant value) is kind stored = absurd (not_signal (AConstant value) s x is kind stored refl)
     where
-      not_signal : (kind : Kind) (s : ℕ) (x : Entry) → slice_get d.names s ≡ Some x → x.kind ≡ kind → is_stored x ≡ true → is_signal kind ≡ false → ⊥
+      not_signal : (kind : Kind) (s : ℕ) (x : Entry) → slice_get d.context.names s ≡ Some x → x.kind ≡ kind → is_stored x ≡ true → is_signal kind ≡ false → ⊥
       not_signal kind s x is said stored no_signal =
-          let here : name_at d s ≡ x = get_or_from_slice_get d.names s x no_name is in
+          let here : name_at d.context s ≡ x = get_or_from_slice_get d.context.names s x no_name is in
           true≢false (sym (accepted.names.signals s (ap (λ (y : Entry). y.assigned) here ∙ (and_parts x.words.registered x.assigned stored).1)) ∙ ap (λ (y : Entry). is_signal y.kind) here ∙ ap is_signal said ∙ no_signal)
   stored_on_cell s x ADeviceName is kind stored = absurd (not_signal ADeviceName s x is kind stored refl)
     where
-      not_signal : (kind : Kind) (s : ℕ) (x : Entry) → slice_get d.names s ≡ Some x → x.kind ≡ kind → is_stored x ≡ true → is_signal kind ≡ false → ⊥
+      not_signal : (kind : Kind) (s : ℕ) (x : Entry) → slice_get d.context.names s ≡ Some x → x.kind ≡ kind → is_stored x ≡ true → is_signal kind ≡ false → ⊥
       not_signal kind s x is said stored no_signal =
-          let here : name_at d s ≡ x = get_or_from_slice_get d.names s x no_name is in
+          let here : name_at d.context s ≡ x = get_or_from_slice_get d.context.names s x no_name is in
           true≢false (sym (accepted.names.signals s (ap (λ (y : Entry). y.assigned) here ∙ (and_parts x.words.registered x.assigned stored).1)) ∙ ap (λ (y : Entry). is_signal y.kind) here ∙ ap is_signal said ∙ no_signal)
 
   -- ---- cells
 
-  kinds_here : EachOf (FitsKind d fs) (given_formulas d)
-  kinds_here = subst (EachOf (FitsKind d fs)) same (kinds_fit d fs cs unrefused.kinds)
+  kinds_here : EachOf (FitsKind d.context fs) (given_formulas d)
+  kinds_here = subst (EachOf (FitsKind d.context fs)) same (kinds_fit d.context fs cs unrefused.kinds)
 
-  right_kind : (s : ℕ) → (name_at d s).assigned ≡ true → has_wrong_kind d.device (name_at d s) ≡ false
+  right_kind : (s : ℕ) → (name_at d.context s).assigned ≡ true → has_wrong_kind d.context.device (name_at d.context s) ≡ false
   right_kind s assigned =
-      let some = some_of (FitsKind d fs) (is_data_to s) (given_formulas d) kinds_here (accepted.data_given s assigned) in
+      let some = some_of (FitsKind d.context fs) (is_data_to s) (given_formulas d) kinds_here (accepted.data_given s assigned) in
       let parts = and_parts (some.0.signal == s) (is_data some.0.extension) some.2 in
-      let fits : has_wrong_kind d.device (name_at d some.0.signal) ≡ false = and_right (is_data some.0.extension) (has_wrong_kind d.device (name_at d some.0.signal)) parts.1 some.1 in
-      sym (ap (λ n. has_wrong_kind d.device (name_at d n)) (eqb-true some.0.signal s parts.0)) ∙ fits
+      let fits : has_wrong_kind d.context.device (name_at d.context some.0.signal) ≡ false = and_right (is_data some.0.extension) (has_wrong_kind d.context.device (name_at d.context some.0.signal)) parts.1 some.1 in
+      sym (ap (λ n. has_wrong_kind d.context.device (name_at d.context n)) (eqb-true some.0.signal s parts.0)) ∙ fits
     where
       and_right : (a b : Bool) → a ≡ true → (a && b) ≡ false → b ≡ false
       and_right true b e f = f
       and_right false b e f = absurd cc
 
-  cell_kind : (pin c : ℕ) (stored : Bool) → cell_on d.device pin ≡ Some c → has_wrong_kind_on d.device pin stored ≡ false → is_wrong_kind (cell_at d.device c).kinds stored ≡ false
+  cell_kind : (pin c : ℕ) (stored : Bool) → cell_on d.context.device pin ≡ Some c → has_wrong_kind_on d.context.device pin stored ≡ false → is_wrong_kind (cell_at d.context.device c).kinds stored ≡ false
   cell_kind pin c stored on right =
-      let at = position-Some (λ (x : Cell). x.pin == pin) d.device.cells c no_cell on in
-      elim (cases_Bool (is_wrong_kind (cell_at d.device c).kinds stored)) [
-        | inl wrong ↦ absurd (true≢false (sym (list_any_at (is_wrong_cell pin stored) d.device.cells c no_cell at.0 (both ((cell_at d.device c).pin == pin) (is_wrong_kind (cell_at d.device c).kinds stored) at.1 wrong)) ∙ right))
+      let at = position-Some (λ (x : Cell). x.pin == pin) d.context.device.cells c no_cell on in
+      elim (cases_Bool (is_wrong_kind (cell_at d.context.device c).kinds stored)) [
+        | inl wrong ↦ absurd (true≢false (sym (list_any_at (is_wrong_cell pin stored) d.context.device.cells c no_cell at.0 (both ((cell_at d.context.device c).pin == pin) (is_wrong_kind (cell_at d.context.device c).kinds stored) at.1 wrong)) ∙ right))
         | inr fits ↦ fits
       ]
     where
@@ -129,18 +129,18 @@ module _ (uses_have_columns : UsesHaveColumns) (d : Design) (fs : List Formula) 
       both false b e f = absurd cc
 
   -- a device on which a cell may be a register has a clock
-  clocked : (pin c : ℕ) → cell_on d.device pin ≡ Some c → (cell_at d.device c).kinds ≢ Combinational → d.device.clock ≢ 0
+  clocked : (pin c : ℕ) → cell_on d.context.device pin ≡ Some c → (cell_at d.context.device c).kinds ≢ Combinational → d.context.device.clock ≢ 0
   clocked pin c on =
-      let at = position-Some (λ (x : Cell). x.pin == pin) d.device.cells c no_cell on in
-      (All-get_or (IsCell d.device) d.device.cells c no_cell at.0 laws.cells).clocked
+      let at = position-Some (λ (x : Cell). x.pin == pin) d.context.device.cells c no_cell on in
+      (All-get_or (IsCell d.context.device) d.context.device.cells c no_cell at.0 laws.cells).clocked
 
-  allowed : (s c : ℕ) (kind : Kind) → (name_at d s).kind ≡ kind → cell_by d.device (name_at d s) kind ≡ Some c → IsAllowedOn d s c
+  allowed : (s c : ℕ) (kind : Kind) → (name_at d.context s).kind ≡ kind → cell_by d.context.device (name_at d.context s) kind ≡ Some c → IsAllowedOn d.context s c
   allowed s c (APin pin negated) kind on =
-      let parts = on_cell (name_at d s).assigned (cell_on d.device pin) on in
-      let may = may_be (cell_at d.device c).kinds (is_stored (name_at d s)) (cell_kind pin c (is_stored (name_at d s)) parts.1 (sym (ap (has_wrong_kind_by d.device (is_stored (name_at d s))) kind) ∙ right_kind s parts.0)) in
+      let parts = on_cell (name_at d.context s).assigned (cell_on d.context.device pin) on in
+      let may = may_be (cell_at d.context.device c).kinds (is_stored (name_at d.context s)) (cell_kind pin c (is_stored (name_at d.context s)) parts.1 (sym (ap (has_wrong_kind_by d.context.device (is_stored (name_at d.context s))) kind) ∙ right_kind s parts.0)) in
       record {
         kind = may;
-        buffer = λ stored follows. accepted.names.buffers s stored follows (clocked pin c parts.1 (may_register (cell_at d.device c).kinds (is_stored (name_at d s)) stored may));
+        buffer = λ stored follows. accepted.names.buffers s stored follows (clocked pin c parts.1 (may_register (cell_at d.context.device c).kinds (is_stored (name_at d.context s)) stored may));
       }
     where
       on_cell : (b : Bool) (o : Option ℕ) → (if b then o else None) ≡ Some c → (b ≡ true) × (o ≡ Some c)
@@ -153,39 +153,39 @@ module _ (uses_have_columns : UsesHaveColumns) (d : Design) (fs : List Formula) 
   -- ---- reads
 
   abbrev Carried : SignalUse → Type 0
-  Carried u = (l : Leaf) → use_reads d l u ≡ true → HasColumns d l
+  Carried u = (l : Leaf) → use_reads d.context l u ≡ true → HasColumns d.context l
 
-  targets : (t : Tree) → EachTarget (IsSignalOf d) (targets_of (term_of d.known t))
-  targets = signal_targets d accepted.names.known
+  targets : (t : Tree) → EachTarget (IsSignalOf d.context) (targets_of (term_of d.context.known t))
+  targets = signal_targets d.context accepted.names.known
 
-  carried : (us : List PlacedUse) → AllUses (λ u. is_missing d u ≡ false) us → AllUses (λ u. is_unread d u ≡ false) us → EachUse d Carried (IsSignalOf d) targets us
+  carried : (us : List PlacedUse) → AllUses (λ u. is_missing d.context u ≡ false) us → AllUses (λ u. is_unread d.context u ≡ false) us → EachUse d.context Carried (IsSignalOf d.context) targets us
   carried [] missing unread = tt
-  carried (u ∷ us) missing unread = (λ l is. uses_have_columns d u l accepted.names.pins missing.0 unread.0 is, carried us missing.1 unread.1)
+  carried (u ∷ us) missing unread = (λ l is. uses_have_columns d.context u l accepted.names.pins missing.0 unread.0 is, carried us missing.1 unread.1)
 
-  given_good : EachGood d Carried (IsSignalOf d) targets (given_uses d)
+  given_good : EachGood d.context Carried (IsSignalOf d.context) targets (given_uses d)
   given_good =
-      sections_good d Carried (IsSignalOf d) targets d.starts_dontcare 0 d.sections accepted.headers
-      (carried (design_uses d) (none_passes (is_missing d) (design_uses d) unrefused.missing) (none_passes (is_unread d) (design_uses d) unrefused.unread))
+      sections_good d.context Carried (IsSignalOf d.context) targets d.starts_dontcare 0 d.sections accepted.headers
+      (carried (design_uses d) (none_passes (is_missing d.context) (design_uses d) unrefused.missing) (none_passes (is_unread d.context) (design_uses d) unrefused.unread))
 
-  some_carried : (us : List SignalUse) (l : Leaf) → Each d Carried (IsSignalOf d) targets us → uses_read d us l ≡ true → HasColumns d l
+  some_carried : (us : List SignalUse) (l : Leaf) → Each d.context Carried (IsSignalOf d.context) targets us → uses_read d.context us l ≡ true → HasColumns d.context l
   some_carried [] l h is = absurd cc
-  some_carried (u ∷ us) l h is = by (use_reads d l u) refl (λ g. some_carried us l h.1 g) is
+  some_carried (u ∷ us) l h is = by (use_reads d.context l u) refl (λ g. some_carried us l h.1 g) is
     where
-      by : (b : Bool) → use_reads d l u ≡ b → (uses_read d us l ≡ true → HasColumns d l) → (b || uses_read d us l) ≡ true → HasColumns d l
+      by : (b : Bool) → use_reads d.context l u ≡ b → (uses_read d.context us l ≡ true → HasColumns d.context l) → (b || uses_read d.context us l) ≡ true → HasColumns d.context l
       by true e more is = h.0 l e
       by false e more is = more is
 
   -- ---- controls
 
-  resets : ControlIsThere d extension.Ar d.device.reset
+  resets : ControlIsThere d extension.Ar d.context.device.reset
   resets s f is =
       let has = reset_had d accepted.names.known accepted.headers fs cs same unrefused.controls s f is in
-      reset_there d.device (name_at d s) (name_at d s).kind has.1 has.0
+      reset_there d.context.device (name_at d.context s) (name_at d.context s).kind has.1 has.0
 
-  presets : ControlIsThere d extension.Sp d.device.preset
+  presets : ControlIsThere d extension.Sp d.context.device.preset
   presets s f is =
       let has = preset_had d accepted.names.known accepted.headers fs cs same unrefused.controls s f is in
-      preset_there d.device (name_at d s) (name_at d s).kind has.1 has.0
+      preset_there d.context.device (name_at d.context s) (name_at d.context s).kind has.1 has.0
 
   takes : IsTakeable d
   takes =
@@ -193,11 +193,11 @@ module _ (uses_have_columns : UsesHaveColumns) (d : Design) (fs : List Formula) 
         registers = λ s x is stored. stored_on_cell s x x.kind is refl stored;
         pins = accepted.names.pins;
         nodes = accepted.names.nodes;
-        cells = λ s c on. allowed s c (name_at d s).kind refl on;
+        cells = λ s c on. allowed s c (name_at d.context s).kind refl on;
         free = accepted.free;
         resets = resets;
         presets = presets;
-        reads = λ k c is kept l read. some_carried c.holds l ((good_at d Carried (IsSignalOf d) targets (given_uses d) k c given_good is).reads kept) read;
+        reads = λ k c is kept l read. some_carried c.holds l ((good_at d.context Carried (IsSignalOf d.context) targets (given_uses d) k c given_good is).reads kept) read;
         no_loop = unrefused.no_loop;
         no_path = unrefused.no_path;
       }

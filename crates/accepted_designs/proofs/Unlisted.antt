@@ -5,7 +5,7 @@ use Rattle.std.specs.List.{list_any}
 use Rattle.bit_expr.specs.Formulas.{Formula}
 use Rattle.abel_tree.specs.Entries.{Entry}
 use Rattle.abel_meaning.specs.Contributions as meant
-use Rattle.abel_meaning.specs.Designs.{Design, name_at}
+use Rattle.abel_meaning.specs.Designs.{Context, name_at}
 use Rattle.abel_meaning.specs.Targets.{is_data}
 use Rattle.set_expr.specs.declared.contributions.Contribution.{Contribution}
 use Rattle.set_expr.specs.Given.{view_contribution}
@@ -34,7 +34,7 @@ abbrev pub EachOf : (meant.Contribution Formula → Type 0) → List (meant.Cont
 EachOf P [] = Unit {0}
 EachOf P (c ∷ cs) = P c × EachOf P cs
 
-module _ (d : Design) (fs : List Formula) where
+module _ (d : Context) (fs : List Formula) where
   -- data are to signals that their cells can be
   abbrev pub FitsKind : meant.Contribution Formula → Type 0
   FitsKind c = (is_data c.extension && has_wrong_kind d.device (name_at d c.signal)) ≡ false

@@ -5,7 +5,7 @@ use Rattle.pld_device.specs.declared.flip.Flip.TheVariants.{AfterRegister}
 use Rattle.abel_tree.specs.Entries.{APin, is_signal}
 use Rattle.abel_tree.specs.Tree.{SectionTree, ADiagram}
 use Rattle.abel_meaning.specs.Choices.{is_free}
-use Rattle.abel_meaning.specs.Designs.{Design, name_at, is_stored, follows_q, cell_on}
+use Rattle.abel_meaning.specs.Designs.{Context, Design, name_at, is_stored, follows_q, cell_on}
 use Rattle.abel_meaning.specs.Functions.{is_data_to}
 use Rattle.abel_meaning.specs.SignalReads.{given_formulas}
 use Rattle.abel_meaning.specs.Terms.{Term, Terms, Read, Set, NoTerm, Before, known_of, term_of}
@@ -14,27 +14,27 @@ use Rattle.gathered.specs.Takeable.{PinsApart, NodesAreFew, MayChoose}
 -- ---- names
 
 -- only signals are assigned
-abbrev pub SignalsAreAssigned : Design → Type 0
+abbrev pub SignalsAreAssigned : Context → Type 0
 SignalsAreAssigned d = (s : ℕ) → (name_at d s).assigned ≡ true → is_signal (name_at d s).kind ≡ true
 
 -- on a device that has registers, none follows Q, or may, where the device can't complement behind it
-abbrev pub BuffersAreBehind : Design → Type 0
+abbrev pub BuffersAreBehind : Context → Type 0
 BuffersAreBehind d =
     (s : ℕ) → is_stored (name_at d s) ≡ true → follows_q (name_at d s) ≡ true → d.device.clock ≢ 0
     → d.device.flip ≡ AfterRegister
 
 -- a register whose polarity is left to the fitter is one for which it may be chosen
 abbrev pub FreeMayChoose : Design → Type 0
-FreeMayChoose d = (s : ℕ) → is_free (name_at d s) ≡ true → MayChoose d s
+FreeMayChoose d = (s : ℕ) → is_free (name_at d.context s) ≡ true → MayChoose d s
 
 -- each pin that is assigned is that of a cell
-abbrev pub AssignedAreOnCells : Design → Type 0
+abbrev pub AssignedAreOnCells : Context → Type 0
 AssignedAreOnCells d =
     (s pin : ℕ) (negated : Bool) → (name_at d s).kind ≡ APin pin negated → (name_at d s).assigned ≡ true
     → IsSome (cell_on d.device pin)
 
 -- what the phase of names accepts, and that of sections of targets
-pub record HasSoundNames (d : Design) : Type 0 where
+pub record HasSoundNames (d : Context) : Type 0 where
   pub known : d.known ≡ known_of d.names
   pub pins : PinsApart d
   pub nodes : NodesAreFew d
@@ -46,7 +46,7 @@ pub record HasSoundNames (d : Design) : Type 0 where
 
 -- each signal that is assigned has data
 abbrev pub AssignedHaveData : Design → Type 0
-AssignedHaveData d = (s : ℕ) → (name_at d s).assigned ≡ true → list_any (is_data_to s) (given_formulas d) ≡ true
+AssignedHaveData d = (s : ℕ) → (name_at d.context s).assigned ≡ true → list_any (is_data_to s) (given_formulas d) ≡ true
 
 -- the signals of a target are bare names
 abbrev mutual
@@ -61,17 +61,17 @@ abbrev mutual
   are_bare (Before t ts) = is_bare t && are_bare ts
 
 -- the registers of diagrams are bare names
-abbrev pub HasBareHeader : Design → SectionTree → Type 0
+abbrev pub HasBareHeader : Context → SectionTree → Type 0
 HasBareHeader d (ADiagram place registers states) = is_bare (term_of d.known registers) ≡ true
 HasBareHeader d _ = Unit {0}
 
-abbrev pub HaveBareHeaders : Design → List SectionTree → Type 0
+abbrev pub HaveBareHeaders : Context → List SectionTree → Type 0
 HaveBareHeaders d [] = Unit {0}
 HaveBareHeaders d (s ∷ ss) = HasBareHeader d s × HaveBareHeaders d ss
 
 -- what the phases before accept
 pub record IsAccepted (d : Design) : Type 0 where
-  pub names : HasSoundNames d
+  pub names : HasSoundNames d.context
   pub free : FreeMayChoose d
   pub data_given : AssignedHaveData d
-  pub headers : HaveBareHeaders d d.sections
+  pub headers : HaveBareHeaders d.context d.sections

@@ -13,5 +13,5 @@ use Rattle.accepted_designs.specs.Unrefused.{IsUnrefused}
 -- the device can take its netlist
 abbrev pub UnrefusedIsTakeable : Type 0
 UnrefusedIsTakeable =
-    (d : Design) (fs : List Formula) (cs : List Contribution) → IsDevice d.device → IsAccepted d
+    (d : Design) (fs : List Formula) (cs : List Contribution) → IsDevice d.context.device → IsAccepted d
     → map (view_contribution fs) cs ≡ given_formulas d → IsUnrefused d cs → IsTakeable d

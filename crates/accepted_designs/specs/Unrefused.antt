@@ -9,9 +9,9 @@ use Rattle.design_uses.specs.RefusedUses.{missing_uses, unread_uses}
 
 -- nothing is refused of the design, to whose targets this is contributed
 pub record IsUnrefused (d : Design) (cs : List Contribution) : Type 0 where
-  pub kinds : all_refused d.device d.names rule.Kinds cs ≡ []
-  pub nodes : registered_nodes 0 d.names ≡ []
-  pub controls : all_refused d.device d.names rule.Controls cs ≡ []
+  pub kinds : all_refused d.context.device d.context.names rule.Kinds cs ≡ []
+  pub nodes : registered_nodes 0 d.context.names ≡ []
+  pub controls : all_refused d.context.device d.context.names rule.Controls cs ≡ []
   pub missing : missing_uses d ≡ []
   pub unread : unread_uses d ≡ []
   pub no_loop : HasNoSignalLoop d
