@@ -30,7 +30,7 @@ node_below pins es sound s n kind =
       | inr past ↦ absurd (no_node n (sym (ap (λ (e : Entry). e.kind) (get_or_past es s no_name past)) ∙ kind))
     ]
 
-signals_assigned : (t : Table) (m : ModuleTree) → SignalsAreAssigned (design_of t m)
+signals_assigned : (t : Table) (m : ModuleTree) → SignalsAreAssigned (design_of t m).context
 signals_assigned t m s assigned = by (slice_get es s) refl
   where
     es : List Entry

@@ -14,4 +14,4 @@ use Rattle.named_designs.specs.Accepted.{HasAcceptedNames}
 abbrev pub NamesAreAccepted : Type 0
 NamesAreAccepted =
     (t : Table) (m : ModuleTree) (names : Names) → entries_of names ≡ names_of t m → SoundNames t.name t.pins names
-    → PinsAreApart (entries_of names) → BuffersAreAllowed t (entries_of names) → HasAcceptedNames (design_of t m)
+    → PinsAreApart (entries_of names) → BuffersAreAllowed t (entries_of names) → HasAcceptedNames (design_of t m).context
