@@ -4,7 +4,7 @@ use Rattle.std.specs.List.{list_any}
 use Rattle.std.proofs.lemmas.Bool.{and_parts, eqb-true, or_cases}
 use Rattle.pld_base.specs.declared.place.Place.{Place}
 use Rattle.abel_tree.specs.declared.words.Extension.{Extension}
-use Rattle.abel_meaning.specs.Designs.{Design, name_at}
+use Rattle.abel_meaning.specs.Designs.{Context, name_at}
 use Rattle.abel_meaning.specs.Targets.{some_signals, is_data}
 use Rattle.set_expr.specs.declared.fault.SectionFault.TheVariants.{NotAnOutput}
 use Rattle.section_targets.specs.declared.aim.Aim.{Aim}
@@ -22,7 +22,7 @@ pub aimed_among : (s : ℕ) (aims : List Aim) → among s (some_signals (positio
 aimed_among s [] = refl
 aimed_among s (a ∷ aims) = ap (λ b. (a.signal == s) || b) (aimed_among s aims)
 
-module _ (d : Design) (s : ℕ) where
+module _ (d : Context) (s : ℕ) where
   -- a node, or the pin of a cell
   abbrev pub IsOutput : Type 0
   IsOutput = is_output_kind d.device (name_at d s).kind ≡ true

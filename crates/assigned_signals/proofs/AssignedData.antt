@@ -9,7 +9,7 @@ use Rattle.abel_tree.specs.declared.words.Extension.TheVariants as extension
 use Rattle.abel_tree.specs.Assigned.{Named, Assigned, signals_of, target_extension, without_extension, is_clocked, assigned_each, assigned_by, statement_assigns, else_assigns, statements_assign, list_assigns, is_assigned}
 use Rattle.abel_tree.specs.Tree.{Statement, AnAssign, AWhen, AGroup, ADontCare, Otherwise, NoElse, AnElse, Statements, NoStatement, MoreStatements, statements_of}
 use Rattle.abel_meaning.specs.Contributions.{condition, Contribution, Gives, Guard, guarded}
-use Rattle.abel_meaning.specs.Designs.{Design}
+use Rattle.abel_meaning.specs.Designs.{Context}
 use Rattle.abel_meaning.specs.FormulaBits.{formulas}
 use Rattle.abel_meaning.specs.Functions.{is_data_to}
 use Rattle.abel_meaning.specs.Statements.{sign_gives, given_each, statement_gives, else_gives, statements_give}
@@ -37,7 +37,7 @@ assigned_data s (Some extension.Q) c ss h = absurd cc
 assigned_data s (Some extension.Fb) c ss h = absurd cc
 assigned_data s (Some extension.Pin) c ss h = absurd cc
 
-module _ (d : Design) (s : ℕ) where
+module _ (d : Context) (s : ℕ) where
   -- some contribution is data to the signal
   abbrev pub has_data : List (Contribution Formula) → Bool
   has_data cs = list_any (is_data_to s) cs

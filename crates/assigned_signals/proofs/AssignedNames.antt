@@ -50,20 +50,20 @@ module _ (t : Table) (m : ModuleTree) where
   abbrev d : Design
   d = design_of t m
 
-  pub same_targets : (x : Tree) → signals_of own_names x ≡ bare_signals (term_of d.known x)
+  pub same_targets : (x : Tree) → signals_of own_names x ≡ bare_signals (term_of d.context.known x)
   same_targets x = ap (λ ks. signals_of ks x) (sym (named_kept t.flip own_held (sections_assign own_names m.sections) [] 0 0 (declared_names m))) ∙ same_signals (names_of t m) x
 
-  pub names_within : (s : ℕ) → IsWithin s own_names d.known
-  names_within s x h = bare_among s (term_of d.known x) (sym (ap (among s) (same_targets x)) ∙ h)
+  pub names_within : (s : ℕ) → IsWithin s own_names d.context.known
+  names_within s x h = bare_among s (term_of d.context.known x) (sym (ap (among s) (same_targets x)) ∙ h)
 
-  pub by_sections : (s : ℕ) → (name_at d s).assigned ≡ true → is_assigned (sections_assign own_names m.sections) s ≡ true
+  pub by_sections : (s : ℕ) → (name_at d.context s).assigned ≡ true → is_assigned (sections_assign own_names m.sections) s ≡ true
   by_sections s h = subst (λ n. is_assigned (sections_assign own_names m.sections) n ≡ true) (no_more s) (assigned_told t.flip own_held (sections_assign own_names m.sections) 0 s (declared_names m) h)
     where
       no_more : (n : ℕ) → 0 + n ≡ n
       no_more n = omega arith
 
   -- only signals are assigned
-  pub signal_there : (s : ℕ) → (name_at d s).assigned ≡ true → is_signal (name_at d s).kind ≡ true
+  pub signal_there : (s : ℕ) → (name_at d.context s).assigned ≡ true → is_signal (name_at d.context s).kind ≡ true
   signal_there s h =
       let x = declared_there t.flip own_held (sections_assign own_names m.sections) 0 s (declared_names m) h in
       ap is_signal (sym x.1.1) ∙ by x.0 x.1.0 (is_signal x.0.kind) refl

@@ -5,7 +5,7 @@ use Rattle.bit_expr.specs.Formulas.{Formula}
 use Rattle.abel_tree.specs.Assigned.{Named, signals_of, assigned_each, list_assigns, with_assigns, branch_assigns, other_assigns, choices_assign, branches_assign, states_assign, section_assigns, sections_assign, is_assigned}
 use Rattle.abel_tree.specs.Tree.{Tree, Statement, statements_of, Branch, AGoal, AnIf, ACase, OtherBranch, NoBranch, ABranch, Choices, NoChoice, MoreChoices, RowTree, StateTree, SectionTree, Declarations, Equations, ATable, ADiagram, SomeVectors, DontCareSection}
 use Rattle.abel_meaning.specs.Contributions.{condition, Guard, guarded}
-use Rattle.abel_meaning.specs.Designs.{Design}
+use Rattle.abel_meaning.specs.Designs.{Context}
 use Rattle.abel_meaning.specs.Diagrams.{goal_gives, with_statements, branch_gives, other_gives, choices_give, branches_give, in_state, states_give, is_other, first_of_each, other_matches, diagram_gives}
 use Rattle.abel_meaning.specs.Directives.{after_section}
 use Rattle.abel_meaning.specs.FormulaBits.{formulas}
@@ -22,7 +22,7 @@ bare_signals : (ss : List ℕ) → some_signals (map Some ss) ≡ ss
 bare_signals [] = refl
 bare_signals (j ∷ ss) = ap (λ js. j ∷ js) (bare_signals ss)
 
-module _ (d : Design) (s : ℕ) (ks : List Named) (within : IsWithin s ks d.known) where
+module _ (d : Context) (s : ℕ) (ks : List Named) (within : IsWithin s ks d.known) where
   -- the signals of a header
   header_data : (k : Bool) (t : Tree) → is_assigned (assigned_each k (signals_of ks t)) s ≡ true → among s (signals_in (term_of d.known t)) ≡ true
   header_data k t h = within t (sym (assigned_among s k (signals_of ks t)) ∙ h)

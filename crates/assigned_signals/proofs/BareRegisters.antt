@@ -5,7 +5,7 @@ use Rattle.pld_base.specs.declared.place.Place.{Place}
 use Rattle.abel_tree.specs.Entries.{find}
 use Rattle.abel_tree.specs.Ranges.{range_names}
 use Rattle.abel_tree.specs.Tree.{StateTree, Tree, ANumber, ASpecial, AName, ASet, AParen, AUnary, ABinary, OneMember, SpanMember, Members, NoMember, MoreMembers}
-use Rattle.abel_meaning.specs.Designs.{Design}
+use Rattle.abel_meaning.specs.Designs.{Context}
 use Rattle.abel_meaning.specs.Terms.{Term, Terms, Number, X, Pulse, Release, Read, Set, UnaryOf, BinaryOf, NoTerm, Before, term_named, term_of, terms_of, named_before}
 use Rattle.set_expr.specs.declared.fault.SectionFault.TheVariants.{NotAnOutput}
 use Rattle.set_expr.specs.FoundNames.{found_use, name_found, names_found}
@@ -36,7 +36,7 @@ mutual
       let both = and_parts (names_signals t) (all_name_signals ts) e in
       ap₂ (λ a b. a && b) (signals_bare t both.0) (all_bare ts both.1)
 
-module _ (d : Design) where
+module _ (d : Context) where
   name_bare : (p q : Place) (w : List ℕ) → (target_name d p q w).refusals ≡ [] → is_bare (term_named d.known w) ≡ true
   name_bare p q w e =
       let f = found_use p (name_found (names_found d.names) w) in

@@ -7,7 +7,7 @@ use Rattle.abel_tree.specs.Entries.{find}
 use Rattle.abel_tree.specs.Ranges.{range_names}
 use Rattle.abel_tree.specs.Tree.{Tree, ANumber, ASpecial, AName, ASet, AParen, AUnary, ABinary, OneMember, SpanMember, Members, NoMember, MoreMembers, Statement, AnAssign, AWhen, AGroup, ADontCare, Otherwise, NoElse, AnElse, Statements, NoStatement, MoreStatements, statements_of, Branch, AGoal, AnIf, ACase, OtherBranch, NoBranch, ABranch, Choices, NoChoice, MoreChoices, StateTree, SectionTree, Declarations, Equations, ATable, ADiagram, SomeVectors, DontCareSection}
 use Rattle.abel_meaning.specs.CountedNodes.{condition_of, guard_then, guard_else}
-use Rattle.abel_meaning.specs.Designs.{Design}
+use Rattle.abel_meaning.specs.Designs.{Context}
 use Rattle.abel_meaning.specs.Diagrams.{with_statements}
 use Rattle.abel_meaning.specs.Held.{Part, ATarget, AValue, statement_parts, else_parts, statements_parts, list_parts, with_parts, branch_parts, other_parts, choices_parts, branches_parts, states_parts, section_parts, sections_parts}
 use Rattle.abel_meaning.specs.Terms.{Terms, term_named, term_of, terms_of, named_before}
@@ -27,7 +27,7 @@ use Rattle.state_diagrams.specs.StateValues.{state_refused, listed_after}
 use Rattle.assigned_signals.proofs.DiagramHeaders.{diagram_clear}
 use Rattle.assigned_signals.proofs.StatementOutputs.{unrefused_assign, first_units, last_units}
 
-module _ (d : Design) where
+module _ (d : Context) where
   -- ---- targets
 
   name_bare : (p q : Place) (w : List ℕ) → (target_name d p q w).refusals ≡ [] → names_signals (term_named d.known w) ≡ true

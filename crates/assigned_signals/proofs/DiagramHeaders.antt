@@ -2,7 +2,7 @@
 use Rattle.std.proofs.Common.{◌≡◌, false, true, None, List, [], ◌∷◌, ◌++◌, refl}
 use Rattle.pld_base.specs.declared.place.Place.{Place}
 use Rattle.abel_tree.specs.Tree.{Tree, StateTree}
-use Rattle.abel_meaning.specs.Designs.{Design}
+use Rattle.abel_meaning.specs.Designs.{Context}
 use Rattle.set_expr.specs.declared.fault.SectionFault.{SectionFault}
 use Rattle.section_targets.specs.declared.manner.Manner.{Manner}
 use Rattle.section_targets.specs.Manners.{aims_refused}
@@ -20,7 +20,7 @@ header_clear [] p us h = (refl, h)
 header_clear (r ∷ rs) p us h = absurd cc
 
 -- the registers as targets, how they are assigned, and the states behind them
-pub diagram_clear : (d : Design) (before : List Manner) (p : Place) (registers : Tree) (xs : List StateTree) → units_refused (units_of_diagram d before p registers xs) ≡ []
+pub diagram_clear : (d : Context) (before : List Manner) (p : Place) (registers : Tree) (xs : List StateTree) → units_refused (units_of_diagram d before p registers xs) ≡ []
     → ((target_member d registers).refusals ≡ []) × (aims_refused d before None false true (target_member d registers).aims ≡ [])
     × (units_refused (units_of_states d (signals_of (target_member d registers).aims) (before ++ register_manners (target_member d registers)) [] xs) ≡ [])
 diagram_clear d before p registers xs h =

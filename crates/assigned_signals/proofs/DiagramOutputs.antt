@@ -5,7 +5,7 @@ use Rattle.bit_expr.specs.Formulas.{Formula}
 use Rattle.abel_tree.specs.Assigned.{Named, signals_of, assigned_each, list_assigns, with_assigns, branch_assigns, other_assigns, choices_assign, branches_assign, states_assign, is_assigned}
 use Rattle.abel_tree.specs.Tree.{Tree, AParen, Statement, statements_of, Branch, AGoal, AnIf, ACase, OtherBranch, NoBranch, ABranch, Choices, NoChoice, MoreChoices, StateTree}
 use Rattle.abel_meaning.specs.CountedNodes.{condition_of, guard_then, guard_else}
-use Rattle.abel_meaning.specs.Designs.{Design}
+use Rattle.abel_meaning.specs.Designs.{Context}
 use Rattle.abel_meaning.specs.Diagrams.{with_statements}
 use Rattle.abel_meaning.specs.Targets.{some_signals}
 use Rattle.set_expr.specs.FoundNames.{expression_found}
@@ -26,7 +26,7 @@ use Rattle.assigned_signals.proofs.DiagramHeaders.{diagram_clear}
 use Rattle.assigned_signals.proofs.NamedTerms.{IsWithin}
 use Rattle.assigned_signals.proofs.StatementOutputs.{first_units, last_units, one_of_two, list_output}
 
-module _ (d : Design) (s : ℕ) (ks : List Named) (within : IsWithin s ks d.known) where
+module _ (d : Context) (s : ℕ) (ks : List Named) (within : IsWithin s ks d.known) where
   with_output : (g : Formula) (before : List Manner) (o : Option (List Statement)) → units_refused (units_of_statements d g before (with_statements o)) ≡ [] → is_assigned (with_assigns ks o) s ≡ true → IsOutput d s
   with_output g before None h a = absurd cc
   with_output g before (Some xs) h a = list_output d s ks within g before xs h a

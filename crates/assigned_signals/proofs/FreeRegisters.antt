@@ -17,7 +17,7 @@ use Rattle.abel_meaning.specs.Choices.{is_free}
 use Rattle.abel_meaning.specs.Contributions.{Contribution}
 use Rattle.abel_meaning.specs.Controls.{is_the_control, is_control, control_by, control_of}
 use Rattle.abel_meaning.specs.Declarations.{declared_names}
-use Rattle.abel_meaning.specs.Designs.{Design, design_of, name_at, no_name, is_stored}
+use Rattle.abel_meaning.specs.Designs.{Context, Design, design_of, name_at, no_name, is_stored}
 use Rattle.abel_meaning.specs.FormulaBits.{formulas}
 use Rattle.abel_meaning.specs.Functions.{is_raw_signal}
 use Rattle.abel_meaning.specs.Held.{Part, ATarget, AValue, sections_parts, read_in, part_reads, parts_read, held_by, held_of, is_shared, part_shares, Holds, is_held}
@@ -113,7 +113,7 @@ none_kept s e other (c ∷ cs) h =
     ∙ none_kept s e other cs parts.1
 
 -- a part that shares nothing names nothing with a shared control
-module _ (d : Design) where
+module _ (d : Context) where
   abbrev is_control_to : Option Extension → ℕ → Bool
   is_control_to e j = is_shared e
 
@@ -169,31 +169,31 @@ raw_among s e (j ∷ js) h =
 
 -- ---- a module
 
-module _ (t : Table) (m : ModuleTree) (bare : AreBare (design_of t m) (sections_parts m.sections)) where
+module _ (t : Table) (m : ModuleTree) (bare : AreBare (design_of t m).context (sections_parts m.sections)) where
   abbrev d : Design
   d = design_of t m
 
   -- what the targets of raw inputs name is held
-  target_held : (s : ℕ) (x : Tree) → IsBare d (ATarget x) → list_any (is_raw_to s (target_extension x)) (signals_in (term_of d.known x)) ≡ true → among s (part_reads (held_by (held_of (declared_names m))) (ATarget x)) ≡ true
+  target_held : (s : ℕ) (x : Tree) → IsBare d.context (ATarget x) → list_any (is_raw_to s (target_extension x)) (signals_in (term_of d.context.known x)) ≡ true → among s (part_reads (held_by (held_of (declared_names m))) (ATarget x)) ≡ true
   target_held s x clear h =
-      let found = raw_among s (target_extension x) (signals_in (term_of d.known x)) h in
+      let found = raw_among s (target_extension x) (signals_in (term_of d.context.known x)) h in
       let own = without_extension x in
-      let same = without_alike d.known x ∙ (bare_alone (term_of d.known own) clear ∙ sym (same_targets t m own)) in
+      let same = without_alike d.context.known x ∙ (bare_alone (term_of d.context.known own) clear ∙ sym (same_targets t m own)) in
       let read = is_read s (declared_names m) own (sym (ap (among s) same) ∙ found.1) in
       ap (λ b. among s (if b then read_in (held_by (held_of (declared_names m))) true own else [])) found.0 ∙ read
 
-  parts_held : (s : ℕ) (ps : List Part) → AreBare d ps → is_named d (is_raw_to s) (raw_plain s) ps ≡ true → among s (parts_read (held_by (held_of (declared_names m))) ps) ≡ true
+  parts_held : (s : ℕ) (ps : List Part) → AreBare d.context ps → is_named d.context (is_raw_to s) (raw_plain s) ps ≡ true → among s (parts_read (held_by (held_of (declared_names m))) ps) ≡ true
   parts_held s [] clear h = absurd cc
   parts_held s (p ∷ ps) clear h =
       let own = part_reads (held_by (held_of (declared_names m))) p in
       let rest = parts_read (held_by (held_of (declared_names m))) ps in
       list_any-append (λ j. j == s) own rest
-      ∙ elim (or_cases (is_named_in d (is_raw_to s) (raw_plain s) p) (is_named d (is_raw_to s) (raw_plain s) ps) h) [
+      ∙ elim (or_cases (is_named_in d.context (is_raw_to s) (raw_plain s) p) (is_named d.context (is_raw_to s) (raw_plain s) ps) h) [
         | inl here ↦ or_left (among s own) (among s rest) (part_held p clear.0 here)
         | inr there ↦ or_right (among s own) (among s rest) (parts_held s ps clear.1 there)
       ]
     where
-      part_held : (q : Part) → IsBare d q → is_named_in d (is_raw_to s) (raw_plain s) q ≡ true → among s (part_reads (held_by (held_of (declared_names m))) q) ≡ true
+      part_held : (q : Part) → IsBare d.context q → is_named_in d.context (is_raw_to s) (raw_plain s) q ≡ true → among s (part_reads (held_by (held_of (declared_names m))) q) ≡ true
       part_held (ATarget x) apart g = target_held s x apart g
       part_held (AValue x) apart g = absurd cc
 
@@ -202,7 +202,7 @@ module _ (t : Table) (m : ModuleTree) (bare : AreBare (design_of t m) (sections_
   named s free =
       elim (cases_Bool (is_raw_signal (given_formulas d) s)) [
         | inl raw ↦
-            let given = sections_named d (is_raw_to s) (raw_plain s) d.starts_dontcare 0 m.sections in
+            let given = sections_named d.context (is_raw_to s) (raw_plain s) d.starts_dontcare 0 m.sections in
             let read = parts_held s (sections_parts m.sections) bare (sym given ∙ raw) in
             absurd (true≢false (sym read ∙ (either_false (own_held t m).all (list_any (λ h. h == s) (own_held t m).signals) free).1))
         | inr other ↦ other
@@ -210,8 +210,8 @@ module _ (t : Table) (m : ModuleTree) (bare : AreBare (design_of t m) (sections_
 
   none_given : (e : Extension) → ((x : Option Extension) → is_shared x ≡ false → is_the_control e x ≡ false) → (own_held t m).all ≡ false → HasNoEquation d e
   none_given e other none s =
-      let given = sections_named d (is_control_to d) (λ j. refl) d.starts_dontcare 0 m.sections in
-      ap (control_by (formulas d)) (none_kept s e other (given_formulas d) (given ∙ parts_clear d (sections_parts m.sections) none))
+      let given = sections_named d.context (is_control_to d.context) (λ j. refl) d.starts_dontcare 0 m.sections in
+      ap (control_by (formulas d.context)) (none_kept s e other (given_formulas d) (given ∙ parts_clear d.context (sections_parts m.sections) none))
 
   stays : (s : ℕ) (x : Entry) → is_signal x.kind ≡ true → is_free (with_kind t.flip (own_held t m) (sections_assign (own_names t m) m.sections) s x) ≡ true
       → (t.flip ≡ AfterRegister) × (is_held (own_held t m) s ≡ false)
@@ -233,8 +233,8 @@ module _ (t : Table) (m : ModuleTree) (bare : AreBare (design_of t m) (sections_
 
   pub free_may_choose : FreeMayChoose d
   free_may_choose s free =
-      let stored = (and_parts (is_stored (name_at d s)) (not (name_at d s).words.buffer && not (name_at d s).words.invert) free).0 in
-      let signal = signal_there t m s (and_parts (name_at d s).words.registered (name_at d s).assigned stored).1 in
+      let stored = (and_parts (is_stored (name_at d.context s)) (not (name_at d.context s).words.buffer && not (name_at d.context s).words.invert) free).0 in
+      let signal = signal_there t m s (and_parts (name_at d.context s).words.registered (name_at d.context s).assigned stored).1 in
       let there = kinds_there t.flip (own_held t m) (sections_assign (own_names t m) m.sections) 0 s (declared_names m) free in
       let is = subst (λ n. is_free (with_kind t.flip (own_held t m) (sections_assign (own_names t m) m.sections) n there.0) ≡ true) (no_more s) there.1.1 in
       let stay = stays s there.0 (ap is_signal there.1.0 ∙ signal) is in

@@ -8,7 +8,7 @@ use Rattle.abel_tree.specs.declared.words.Extension.{Extension}
 use Rattle.abel_tree.specs.Assigned.{target_extension, is_clocked}
 use Rattle.abel_tree.specs.Tree.{Tree, Statement, AnAssign, AWhen, AGroup, ADontCare, Otherwise, NoElse, AnElse, Statements, NoStatement, MoreStatements, statements_of, Branch, AGoal, AnIf, ACase, OtherBranch, NoBranch, ABranch, Choices, NoChoice, MoreChoices, RowTree, StateTree, SectionTree, Declarations, Equations, ATable, ADiagram, SomeVectors, DontCareSection}
 use Rattle.abel_meaning.specs.Contributions.{condition, Contribution, Gives, Guard, guarded}
-use Rattle.abel_meaning.specs.Designs.{Design}
+use Rattle.abel_meaning.specs.Designs.{Context}
 use Rattle.abel_meaning.specs.Diagrams.{goal_gives, with_statements, branch_gives, other_gives, choices_give, branches_give, in_state, states_give, is_other, first_of_each, state_matches, other_matches, diagram_gives}
 use Rattle.abel_meaning.specs.Directives.{after_section}
 use Rattle.abel_meaning.specs.FormulaBits.{formulas}
@@ -27,7 +27,7 @@ or_none true = refl
 or_none false = refl
 
 -- a test of extensions and their signals that nothing without an extension passes
-module _ (d : Design) (test : Option Extension → ℕ → Bool) (plain : (j : ℕ) → test None j ≡ false) where
+module _ (d : Context) (test : Option Extension → ℕ → Bool) (plain : (j : ℕ) → test None j ≡ false) where
   abbrev pub some_given : List (Contribution Formula) → Bool
   some_given cs = list_any (λ (c : Contribution Formula). test c.extension c.signal) cs
 

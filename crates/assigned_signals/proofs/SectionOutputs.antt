@@ -3,7 +3,7 @@ use Rattle.std.proofs.Common.{◌≡◌, ℕ, true, List, [], ◌∷◌, ◌++�
 use Rattle.bit_expr.specs.Formulas.{Const}
 use Rattle.abel_tree.specs.Assigned.{Named, section_assigns, sections_assign, is_assigned}
 use Rattle.abel_tree.specs.Tree.{SectionTree, Declarations, Equations, ATable, ADiagram, SomeVectors, DontCareSection}
-use Rattle.abel_meaning.specs.Designs.{Design}
+use Rattle.abel_meaning.specs.Designs.{Context}
 use Rattle.section_targets.specs.declared.manner.Manner.{Manner}
 use Rattle.section_targets.specs.Units.{units_refused}
 use Rattle.source_sections.specs.SectionUnits.{section_manners, units_of_section, units_of_sections}
@@ -13,7 +13,7 @@ use Rattle.assigned_signals.proofs.DiagramOutputs.{diagram_output}
 use Rattle.assigned_signals.proofs.StatementOutputs.{first_units, last_units, one_of_two, list_output}
 use Rattle.assigned_signals.proofs.TableOutputs.{table_output}
 
-module _ (d : Design) (s : ℕ) (ks : List Named) (within : IsWithin s ks d.known) where
+module _ (d : Context) (s : ℕ) (ks : List Named) (within : IsWithin s ks d.known) where
   section_output : (before : List Manner) (x : SectionTree) → units_refused (units_of_section d before x) ≡ [] → is_assigned (section_assigns ks x) s ≡ true → IsOutput d s
   section_output before (Declarations ds) h a = absurd cc
   section_output before (Equations xs) h a = list_output d s ks within (Const true) before xs h a

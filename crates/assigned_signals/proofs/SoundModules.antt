@@ -7,7 +7,7 @@ use Rattle.pld_device.specs.declared.cell.Cell.{Cell}
 use Rattle.pld_device.specs.Table.{Table}
 use Rattle.bit_expr.specs.Arena.{arena}
 use Rattle.abel_tree.specs.Tree.{SectionTree, Declarations, Equations, ATable, ADiagram, SomeVectors, DontCareSection, ModuleTree}
-use Rattle.abel_meaning.specs.Designs.{Design, design_of, cell_on}
+use Rattle.abel_meaning.specs.Designs.{Context, Design, design_of, cell_on}
 use Rattle.set_expr.specs.FoundNames.{constants_refused}
 use Rattle.section_targets.specs.declared.manner.Manner.{Manner}
 use Rattle.section_targets.specs.Manners.{is_cell_pin, is_output_kind}
@@ -40,7 +40,7 @@ cell_there t pin h = subst IsSome (sym (position_from-zero (λ (c : Cell). c.pin
 
 -- ---- sections
 
-header_bare : (d : Design) (before : List Manner) (x : SectionTree) → units_refused (units_of_section d before x) ≡ [] → HasBareHeader d x
+header_bare : (d : Context) (before : List Manner) (x : SectionTree) → units_refused (units_of_section d before x) ≡ [] → HasBareHeader d x
 header_bare d before (Declarations ds) h = tt
 header_bare d before (Equations xs) h = tt
 header_bare d before (ATable place inputs k outputs rows) h = tt
@@ -48,7 +48,7 @@ header_bare d before (ADiagram place registers states) h = registers_bare d befo
 header_bare d before (SomeVectors _ place inputs outputs rows) h = tt
 header_bare d before (DontCareSection directive) h = tt
 
-headers_bare : (d : Design) (before : List Manner) (ss : List SectionTree) → units_refused (units_of_sections d before ss) ≡ [] → HaveBareHeaders d ss
+headers_bare : (d : Context) (before : List Manner) (ss : List SectionTree) → units_refused (units_of_sections d before ss) ≡ [] → HaveBareHeaders d ss
 headers_bare d before [] h = tt
 headers_bare d before (x ∷ ss) h =
     let more = before ++ section_manners d before x in
@@ -60,32 +60,32 @@ headers_bare d before (x ∷ ss) h =
 units_clear : (d : Design) → HasSoundSections d → units_refused (source_units d) ≡ []
 units_clear d h =
     let base = length (arena []) in
-    left_empty (units_refused (source_units d)) (limit_refused base (source_units d)) (right_empty (constants_refused d.names) (all_refused base (source_units d)) h)
+    left_empty (units_refused (source_units d)) (limit_refused base (source_units d)) (right_empty (constants_refused d.context.names) (all_refused base (source_units d)) h)
 
 module _ (t : Table) (m : ModuleTree) where
   abbrev d : Design
   d = design_of t m
 
   data_there : AssignedHaveData d
-  data_there s h = sections_data d s (own_names t m) (names_within t m s) d.starts_dontcare 0 m.sections (by_sections t m s h)
+  data_there s h = sections_data d.context s (own_names t m) (names_within t m s) d.starts_dontcare 0 m.sections (by_sections t m s h)
 
-  on_cells : HasSoundSections d → AssignedAreOnCells d
+  on_cells : HasSoundSections d → AssignedAreOnCells d.context
   on_cells r s pin negated kind h =
       cell_there t pin
       (subst (λ k. is_output_kind t k ≡ true) kind
-      (sections_output d s (own_names t m) (names_within t m s) [] m.sections (units_clear d r) (by_sections t m s h)))
+      (sections_output d.context s (own_names t m) (names_within t m s) [] m.sections (units_clear d r) (by_sections t m s h)))
 
 pub all_given : (t : Table) (m : ModuleTree) → AreGiven (design_of t m)
 all_given t m = record { signals = signal_there t m; data_given = data_there t m }
 
-pub all_on_cells : (t : Table) (m : ModuleTree) → HasSoundSections (design_of t m) → AssignedAreOnCells (design_of t m)
+pub all_on_cells : (t : Table) (m : ModuleTree) → HasSoundSections (design_of t m) → AssignedAreOnCells (design_of t m).context
 all_on_cells t m = on_cells t m
 
-pub all_accepted : (t : Table) (m : ModuleTree) → HasSoundDeclarations (design_of t m) → HasSoundSections (design_of t m) → IsAccepted (design_of t m)
+pub all_accepted : (t : Table) (m : ModuleTree) → HasSoundDeclarations (design_of t m).context → HasSoundSections (design_of t m) → IsAccepted (design_of t m)
 all_accepted t m n r =
     record {
       names = record { known = refl; pins = n.pins; nodes = n.nodes; signals = signal_there t m; buffers = n.buffers; cells = on_cells t m r };
-      free = free_may_choose t m (sections_bare (design_of t m) [] m.sections (units_clear (design_of t m) r));
+      free = free_may_choose t m (sections_bare (design_of t m).context [] m.sections (units_clear (design_of t m) r));
       data_given = data_there t m;
-      headers = headers_bare (design_of t m) [] m.sections (units_clear (design_of t m) r);
+      headers = headers_bare (design_of t m).context [] m.sections (units_clear (design_of t m) r);
     }

@@ -9,7 +9,7 @@ use Rattle.abel_tree.specs.declared.words.Sign.{Sign}
 use Rattle.abel_tree.specs.Assigned.{Named, Assigned, signals_of, target_extension, without_extension, is_clocked, statement_assigns, else_assigns, statements_assign, list_assigns, is_assigned}
 use Rattle.abel_tree.specs.Tree.{Tree, Statement, AnAssign, AWhen, AGroup, ADontCare, Otherwise, NoElse, AnElse, Statements, NoStatement, MoreStatements, statements_of}
 use Rattle.abel_meaning.specs.CountedNodes.{condition_of, guard_then, guard_else}
-use Rattle.abel_meaning.specs.Designs.{Design}
+use Rattle.abel_meaning.specs.Designs.{Context}
 use Rattle.abel_meaning.specs.Targets.{some_signals}
 use Rattle.set_expr.specs.FoundNames.{expression_found}
 use Rattle.set_expr.specs.Refusals.{Found}
@@ -26,7 +26,7 @@ use Rattle.assigned_signals.proofs.NamedTerms.{IsWithin, without_within}
 use Rattle.assigned_signals.proofs.AimedOutputs.{IsOutput, aimed_among, aimed_output}
 
 -- what is refused of an assignment, part by part
-pub unrefused_assign : (d : Design) (before : List Manner) (e : Option Extension) (c : Bool) (sign : Sign) (q : Place) (x : TargetFound) (f : Found) → assign_refused d before e c sign q x f ≡ []
+pub unrefused_assign : (d : Context) (before : List Manner) (e : Option Extension) (c : Bool) (sign : Sign) (q : Place) (x : TargetFound) (f : Found) → assign_refused d before e c sign q x f ≡ []
     → (x.refusals ≡ []) × (aims_refused d before e c (is_clocked sign) x.aims ≡ [])
 unrefused_assign d before e c sign q x f h =
     let taken = taken_refused x.refusals q (length x.aims) f in
@@ -44,7 +44,7 @@ last_units us vs h = right_empty (units_refused us) (units_refused vs) (sym (ref
 pub one_of_two : (P : Type 0) (s : ℕ) (xs ys : List Assigned) → is_assigned (xs ++ ys) s ≡ true → (is_assigned xs s ≡ true → P) → (is_assigned ys s ≡ true → P) → P
 one_of_two P s xs ys h f g = elim (or_cases (is_assigned xs s) (is_assigned ys s) (sym (list_any-append (λ (a : Assigned). a.signal == s) xs ys) ∙ h)) [ inl e ↦ f e | inr e ↦ g e ]
 
-module _ (d : Design) (s : ℕ) (ks : List Named) (within : IsWithin s ks d.known) where
+module _ (d : Context) (s : ℕ) (ks : List Named) (within : IsWithin s ks d.known) where
   assign_output : (before : List Manner) (e : Option Extension) (c : Bool) (sign : Sign) (p q : Place) (target : Tree) (f : Found) → assign_refused d before e c sign q (left_side d p target) f ≡ []
       → among s (signals_of ks (without_extension target)) ≡ true → IsOutput d s
   assign_output before e c sign p q target f h a =

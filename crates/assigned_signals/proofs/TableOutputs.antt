@@ -4,7 +4,7 @@ use Rattle.pld_base.specs.declared.place.Place.{Place}
 use Rattle.abel_tree.specs.Assigned.{Named, signals_of, assigned_each, is_assigned}
 use Rattle.abel_tree.specs.Tree.{Tree, RowTree}
 use Rattle.abel_meaning.specs.CountedBlocks.{table_units}
-use Rattle.abel_meaning.specs.Designs.{Design}
+use Rattle.abel_meaning.specs.Designs.{Context}
 use Rattle.abel_meaning.specs.Targets.{some_signals}
 use Rattle.abel_meaning.specs.Terms.{term_of}
 use Rattle.set_expr.specs.declared.fault.SectionFault.{SectionFault}
@@ -36,7 +36,7 @@ header_clear : (rs : List SectionFault) (p : Place) (us : List CountedUnit) → 
 header_clear [] p us h = refl
 header_clear (r ∷ rs) p us h = absurd cc
 
-module _ (d : Design) (s : ℕ) (ks : List Named) (within : IsWithin s ks d.known) where
+module _ (d : Context) (s : ℕ) (ks : List Named) (within : IsWithin s ks d.known) where
   pub table_output : (before : List Manner) (p : Place) (inputs : Tree) (k : Bool) (outputs : Tree) (rows : List RowTree) → units_refused (units_of_table d before p inputs k outputs rows) ≡ []
       → is_assigned (assigned_each k (signals_of ks outputs)) s ≡ true → IsOutput d s
   table_output before p inputs k outputs rows h a =

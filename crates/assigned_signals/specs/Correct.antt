@@ -5,7 +5,7 @@ use Rattle.pld_device.specs.Table.{Table}
 use Rattle.abel_tree.specs.Assigned.{named_of, signals_of}
 use Rattle.abel_tree.specs.Entries.{Entry}
 use Rattle.abel_tree.specs.Tree.{Tree, ModuleTree}
-use Rattle.abel_meaning.specs.Designs.{Design, design_of}
+use Rattle.abel_meaning.specs.Designs.{Context, Design, design_of}
 use Rattle.abel_meaning.specs.Terms.{Term, Terms, Read, Set, NoTerm, Before, known_of, term_of}
 use Rattle.gathered.specs.Takeable.{PinsApart, NodesAreFew}
 use Rattle.source_sections.specs.SectionAnswers.{sections_refused}
@@ -30,7 +30,7 @@ TargetsNameAlike = (es : List Entry) (t : Tree) → signals_of (named_of es) t �
 
 -- what a module assigns is a signal that some contribution is data to
 pub record AreGiven (d : Design) : Type 0 where
-  pub signals : SignalsAreAssigned d
+  pub signals : SignalsAreAssigned d.context
   pub data_given : AssignedHaveData d
 
 abbrev pub AssignedAreGiven : Type 0
@@ -44,10 +44,10 @@ HasSoundSections d = sections_refused d ≡ []
 
 -- each pin that a module assigns is that of a cell
 abbrev pub AssignedHaveCells : Type 0
-AssignedHaveCells = (t : Table) (m : ModuleTree) → HasSoundSections (design_of t m) → AssignedAreOnCells (design_of t m)
+AssignedHaveCells = (t : Table) (m : ModuleTree) → HasSoundSections (design_of t m) → AssignedAreOnCells (design_of t m).context
 
 -- what the declarations of a design are accepted for
-pub record HasSoundDeclarations (d : Design) : Type 0 where
+pub record HasSoundDeclarations (d : Context) : Type 0 where
   pub pins : PinsApart d
   pub nodes : NodesAreFew d
   pub buffers : BuffersAreBehind d
@@ -55,4 +55,4 @@ pub record HasSoundDeclarations (d : Design) : Type 0 where
 -- a module is accepted whose declarations and sections are
 abbrev pub SoundModulesAreAccepted : Type 0
 SoundModulesAreAccepted =
-    (t : Table) (m : ModuleTree) → HasSoundDeclarations (design_of t m) → HasSoundSections (design_of t m) → IsAccepted (design_of t m)
+    (t : Table) (m : ModuleTree) → HasSoundDeclarations (design_of t m).context → HasSoundSections (design_of t m) → IsAccepted (design_of t m)
