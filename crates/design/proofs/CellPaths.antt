@@ -29,7 +29,7 @@ module _ (fs : List Formula) (ns : List ℕ) (ls : List Link) (w : CellWanted) w
 
     -- what is said of every signal of a design with such a reset
     abbrev Says : (Design → ℕ → Type 0) → Type 0
-    Says P = (d : Design) (s : ℕ) → AssignedHaveCells d → AreLinks d (given_formulas d) ns ls → AreReads (reset_names d s) r → P d s
+    Says P = (d : Design) (s : ℕ) → AssignedHaveCells d.context → AreLinks d.context (given_formulas d) ns ls → AreReads (reset_names d s) r → P d s
 
     pub leads_nowhere : Says (λ d s. HasNoSignalPath d s) → LeadsNowhereAt fs ns ls AnyPlace w
     leads_nowhere none k reset any d of = none d w.name of.cells of.links (reset_read d of)

@@ -15,7 +15,7 @@ use Rattle.abel_tree.specs.declared.words.Extension.TheVariants as extension
 use Rattle.abel_tree.specs.Entries.{Kind, APin, ANode, AConstant, ADeviceName, Entry, is_signal}
 use Rattle.abel_meaning.specs.Contributions as meant
 use Rattle.abel_meaning.specs.Controls.{control_of, control_if_stored}
-use Rattle.abel_meaning.specs.Designs.{Design, name_at, no_name, is_stored, cell_on}
+use Rattle.abel_meaning.specs.Designs.{Context, Design, name_at, no_name, is_stored, cell_on}
 use Rattle.abel_meaning.specs.FormulaBits.{formulas}
 use Rattle.abel_meaning.specs.Netlists.{Wanted, plain_control, plain_wanted}
 use Rattle.abel_meaning.specs.SignalReads.{given_formulas, leaf_of, names_if_any, is_one_of, HasNoSignalPath}
@@ -34,7 +34,7 @@ use Rattle.design.specs.Resets.{IsResetOf, LeadsNowhereAt, AnyPlace, Before, IsF
 
 -- ---- what is asked of each cell
 
-module _ (d : Design) (cs : List (meant.Contribution Formula)) where
+module _ (d : Context) (cs : List (meant.Contribution Formula)) where
   -- what holds of all that is asked holds of what a signal asks
   asked_by : (P : Wanted → Type 0) (s i c : ℕ) (xs : List Entry) → All P (cells_from d cs s xs) → i < length xs → cell_of d.device (get_or xs i no_name) ≡ Some c → P (wanted_for d cs c (s + i) (get_or xs i no_name))
   asked_by P s i c [] all within on = absurd (omega (arith, within))
@@ -71,9 +71,9 @@ stored_by t x (AConstant value) is signal has = absurd cc
 stored_by t x ADeviceName is signal has = absurd cc
 
 -- no reset without an equation reads anything
-no_equation : (d : Design) (s : ℕ) → control_of (formulas d) (given_formulas d) s extension.Ar ≡ None → HasNoSignalPath d s
+no_equation : (d : Design) (s : ℕ) → control_of (formulas d.context) (given_formulas d) s extension.Ar ≡ None → HasNoSignalPath d s
 no_equation d s none path is =
-    nothing (leaf_of d (get_or path 0 0)) (subst (λ o. is_one_of (names_if_any o) (leaf_of d (get_or path 0 0)) ≡ true) none is.begins)
+    nothing (leaf_of d.context (get_or path 0 0)) (subst (λ o. is_one_of (names_if_any o) (leaf_of d.context (get_or path 0 0)) ≡ true) none is.begins)
   where
     nothing : (o : Option Leaf) → is_one_of (names_if_any None) o ≡ true → ⊥
     nothing None e = absurd cc
@@ -81,20 +81,20 @@ no_equation d s none path is =
 
 -- ---- cells and signals
 
-module _ (d : Design) (fs : List Formula) (ns : List ℕ) (ls : List Link) (cs : List Contribution) (ws : List CellWanted) (cells : AssignedHaveCells d) (links : AreLinks d (given_formulas d) ns ls)
-    (asked : map (plain_wanted fs) ws ≡ cells_from d (given_formulas d) 0 d.names) (placed : All (IsPlaced cs) ws)
-    (had : (s : ℕ) (f : Formula) → control_of (formulas d) (given_formulas d) s extension.Ar ≡ Some f → (lacks_control d.device (name_at d s) (Some extension.Ar) ≡ false) × IsSignalOf d s) where
+module _ (d : Design) (fs : List Formula) (ns : List ℕ) (ls : List Link) (cs : List Contribution) (ws : List CellWanted) (cells : AssignedHaveCells d.context) (links : AreLinks d.context (given_formulas d) ns ls)
+    (asked : map (plain_wanted fs) ws ≡ cells_from d.context (given_formulas d) 0 d.context.names) (placed : All (IsPlaced cs) ws)
+    (had : (s : ℕ) (f : Formula) → control_of (formulas d.context) (given_formulas d) s extension.Ar ≡ Some f → (lacks_control d.context.device (name_at d.context s) (Some extension.Ar) ≡ false) × IsSignalOf d.context s) where
   for_cell : (k : ℕ) (w : CellWanted) → k < length ws → IsFor d 0 (plain_wanted fs (get_or ws k w))
   for_cell k w less =
       subst (IsFor d 0) (get_or-map (plain_wanted fs) ws k w (plain_wanted fs w) less)
-      (subst (All (IsFor d 0)) (sym asked) (each_for d 0 d.names (λ i within. ap (λ n. name_at d n) (omega arith))) k (plain_wanted fs w) (omega (arith, length-map ws (plain_wanted fs), less)))
+      (subst (All (IsFor d 0)) (sym asked) (each_for d 0 d.context.names (λ i within. ap (λ n. name_at d.context n) (omega arith))) k (plain_wanted fs w) (omega (arith, length-map ws (plain_wanted fs), less)))
 
-  reset_is : (w : CellWanted) (c : Control) → IsFor d 0 (plain_wanted fs w) → w.reset ≡ Some c → plain_control fs w.reset ≡ control_of (formulas d) (given_formulas d) w.name extension.Ar
+  reset_is : (w : CellWanted) (c : Control) → IsFor d 0 (plain_wanted fs w) → w.reset ≡ Some c → plain_control fs w.reset ≡ control_of (formulas d.context) (given_formulas d) w.name extension.Ar
   reset_is w c for is =
       let named : w.name ≡ for.signal = ap (λ (v : Wanted). v.name) for.is in
-      let own : plain_control fs w.reset ≡ control_if_stored (formulas d) (given_formulas d) extension.Ar for.signal (name_at d for.signal) = ap (λ (v : Wanted). v.reset) for.is in
-      elim (cases_Bool (is_stored (name_at d for.signal))) [
-        | inl stored ↦ (rw stored at own) ∙ ap (λ n. control_of (formulas d) (given_formulas d) n extension.Ar) (sym named)
+      let own : plain_control fs w.reset ≡ control_if_stored (formulas d.context) (given_formulas d) extension.Ar for.signal (name_at d.context for.signal) = ap (λ (v : Wanted). v.reset) for.is in
+      elim (cases_Bool (is_stored (name_at d.context for.signal))) [
+        | inl stored ↦ (rw stored at own) ∙ ap (λ n. control_of (formulas d.context) (given_formulas d) n extension.Ar) (sym named)
         | inr other ↦ absurd (none (sym (ap (plain_control fs) is) ∙ (rw other at own)))
       ]
     where
@@ -119,35 +119,35 @@ module _ (d : Design) (fs : List Formula) (ns : List ℕ) (ls : List Link) (cs :
         by None e is = absurd cc
         by (Some c) e is = none c e (stands c.place (place.reset c e)) d (reset_of w c for e)
 
-    goes_asked : All Goes (cells_from d (given_formulas d) 0 d.names)
+    goes_asked : All Goes (cells_from d.context (given_formulas d) 0 d.context.names)
     goes_asked = subst (All Goes) asked (All-map Goes (plain_wanted fs) ws (λ k w less. goes_by (get_or ws k w) (for_cell k w less) (nowhere k w less) (placed k w less)))
 
-    on_cell : (s pin : ℕ) (negated : Bool) → (name_at d s).kind ≡ APin pin negated → (name_at d s).assigned ≡ true → (c : ℕ) × (cell_of d.device (name_at d s) ≡ Some c)
+    on_cell : (s pin : ℕ) (negated : Bool) → (name_at d.context s).kind ≡ APin pin negated → (name_at d.context s).assigned ≡ true → (c : ℕ) × (cell_of d.context.device (name_at d.context s) ≡ Some c)
     on_cell s pin negated kind assigned =
-        let found = some_cell (cell_on d.device pin) (cells s pin negated kind assigned) in
+        let found = some_cell (cell_on d.context.device pin) (cells s pin negated kind assigned) in
         (found.0, rw (kind, assigned) found.1)
       where
         some_cell : (o : Option ℕ) → IsSome o → (c : ℕ) × (o ≡ Some c)
         some_cell None some = absurd cc
         some_cell (Some c) some = (c, refl)
 
-    stored_goes : (s : ℕ) (f : Formula) → control_of (formulas d) (given_formulas d) s extension.Ar ≡ Some f → IsStoredPin (name_at d s) → StandsAt s → HasNoSignalPath d s
+    stored_goes : (s : ℕ) (f : Formula) → control_of (formulas d.context) (given_formulas d) s extension.Ar ≡ Some f → IsStoredPin (name_at d.context s) → StandsAt s → HasNoSignalPath d s
     stored_goes s f is at stands =
-        let on = on_cell s at.pin at.negated at.kind (and_parts (name_at d s).words.registered (name_at d s).assigned at.stored).1 in
-        let within = inside d s (λ e. absurd (pin_name at.pin at.negated (sym at.kind ∙ e))) in
+        let on = on_cell s at.pin at.negated at.kind (and_parts (name_at d.context s).words.registered (name_at d.context s).assigned at.stored).1 in
+        let within = inside d.context s (λ e. absurd (pin_name at.pin at.negated (sym at.kind ∙ e))) in
         let e : 0 + s ≡ s = omega arith in
-        let goes : Goes (wanted_for d (given_formulas d) on.0 s (name_at d s)) = subst (λ n. Goes (wanted_for d (given_formulas d) on.0 n (name_at d s))) e (asked_by d (given_formulas d) Goes 0 s on.0 d.names goes_asked within on.1) in
+        let goes : Goes (wanted_for d.context (given_formulas d) on.0 s (name_at d.context s)) = subst (λ n. Goes (wanted_for d.context (given_formulas d) on.0 n (name_at d.context s))) e (asked_by d.context (given_formulas d) Goes 0 s on.0 d.context.names goes_asked within on.1) in
         goes f (rw at.stored is) stands
       where
         pin_name : (pin : ℕ) (negated : Bool) → APin pin negated ≡ ADeviceName → ⊥
         pin_name pin negated e = absurd cc
 
     pub no_path : (s : ℕ) → StandsAt s → HasNoSignalPath d s
-    no_path s stands = by (control_of (formulas d) (given_formulas d) s extension.Ar) refl
+    no_path s stands = by (control_of (formulas d.context) (given_formulas d) s extension.Ar) refl
       where
-        by : (o : Option Formula) → control_of (formulas d) (given_formulas d) s extension.Ar ≡ o → HasNoSignalPath d s
+        by : (o : Option Formula) → control_of (formulas d.context) (given_formulas d) s extension.Ar ≡ o → HasNoSignalPath d s
         by None e = no_equation d s e
-        by (Some f) e = let has = had s f e in stored_goes s f e (stored_by d.device (name_at d s) (name_at d s).kind refl has.1 has.0) stands
+        by (Some f) e = let has = had s f e in stored_goes s f e (stored_by d.context.device (name_at d.context s) (name_at d.context s).kind refl has.1 has.0) stands
 
   -- where no reset of a cell leads to a register, none of a signal does
   pub none_leads : AllLeadNowhere fs ns ls ws → (s : ℕ) → HasNoSignalPath d s

@@ -11,7 +11,7 @@ use Rattle.abel_tree.specs.declared.names.Names.{Names}
 use Rattle.abel_tree.specs.declared.sections.Module.{Module}
 use Rattle.abel_tree.specs.Entries.{entries_of, is_signal}
 use Rattle.abel_tree.specs.View.{view_module}
-use Rattle.abel_meaning.specs.Designs.{Design, design_of}
+use Rattle.abel_meaning.specs.Designs.{Context, Design, design_of}
 use Rattle.abel_meaning.specs.Kinds.{names_of}
 use Rattle.abel_meaning.specs.Netlists.{PlainNetlist, plain_netlist, plain_wanted}
 use Rattle.abel_meaning.specs.SignalReads.{given_formulas, HasNoSignalLoop, HasNoSignalPath}
@@ -21,7 +21,7 @@ use Rattle.abel_meaning.specs.Terms.{known_of}
 use Rattle.fitted.specs.Correct.{MeansTheSame}
 use Rattle.set_expr.specs.declared.contributions.Contribution.{Contribution}
 use Rattle.set_expr.specs.declared.contributions.Contributions.{Contributions}
-use Rattle.set_expr.specs.Answer.{IsDesignOf}
+use Rattle.set_expr.specs.Answer.{IsContextOf}
 use Rattle.set_expr.specs.Given.{given, view_contribution}
 use Rattle.signal_chains.specs.declared.link.Link.{Link}
 use Rattle.signal_chains.specs.Links.{AreLeaves}
@@ -57,18 +57,18 @@ module _ (t : Table) (laws : IsDevice t) (source : Module) (n : Names) (found : 
 
   -- ---- targets
 
-  signal_inside : (s : ℕ) → IsSignalOf d s → s < length d.names
-  signal_inside s signal = inside d s (λ device. true≢false (sym signal ∙ ap is_signal device))
+  signal_inside : (s : ℕ) → IsSignalOf d.context s → s < length d.context.names
+  signal_inside s signal = inside d.context s (λ device. true≢false (sym signal ∙ ap is_signal device))
 
-  each_inside : (cs : List Contribution) → EachSignal (IsSignalOf d) (map (view_contribution (arena found.exprs)) cs) → AreToNames (length d.names) cs
-  each_inside [] each = All-nil (λ (c : Contribution). c.target.signal < length d.names)
-  each_inside (c ∷ cs) each = All-cons (λ (c : Contribution). c.target.signal < length d.names) c cs (signal_inside c.target.signal each.0) (each_inside cs each.1)
+  each_inside : (cs : List Contribution) → EachSignal (IsSignalOf d.context) (map (view_contribution (arena found.exprs)) cs) → AreToNames (length d.context.names) cs
+  each_inside [] each = All-nil (λ (c : Contribution). c.target.signal < length d.context.names)
+  each_inside (c ∷ cs) each = All-cons (λ (c : Contribution). c.target.signal < length d.context.names) c cs (signal_inside c.target.signal each.0) (each_inside cs each.1)
 
   -- each contribution is to a name
   pub to_names : AreToNames (length (entries_of n)) found.list
   to_names =
       subst (λ xs. AreToNames (length xs) found.list) (sym names)
-      (each_inside found.list (subst (EachSignal (IsSignalOf d)) (sym gives) (given_signals d accepted.names.known accepted.headers)))
+      (each_inside found.list (subst (EachSignal (IsSignalOf d.context)) (sym gives) (given_signals d accepted.names.known accepted.headers)))
 
   -- ---- refusals
 
@@ -84,15 +84,15 @@ module _ (t : Table) (laws : IsDevice t) (source : Module) (n : Names) (found : 
   by_signals fault.OutOfMemory is = tt
 
   -- what is gathered, with its signals and links as slices have them
-  module _ (r : Gathered) (ns : List ℕ) (ls : List Link) (plain : (e : Design) → IsDesignOf t n e → plain_netlist r.net ≡ gathered_from e (given found))
-      (links : (e : Design) → IsDesignOf t n e → AreLinks e (given found) r.signals r.links) (signals_same : r.signals ≡ ns) (links_same : r.links ≡ ls) where
+  module _ (r : Gathered) (ns : List ℕ) (ls : List Link) (plain : (e : Context) → IsContextOf t n e → plain_netlist r.net ≡ gathered_from e (given found))
+      (links : (e : Context) → IsContextOf t n e → AreLinks e (given found) r.signals r.links) (signals_same : r.signals ≡ ns) (links_same : r.links ≡ ls) where
     abbrev net : Netlist
     net = r.net
 
-    links_here : AreLinks d (given_formulas d) ns ls
+    links_here : AreLinks d.context (given_formulas d) ns ls
     links_here =
-        subst (λ cs. AreLinks d cs ns ls) gives
-        (subst (λ ks. AreLinks d (given found) ns ks) links_same (subst (λ xs. AreLinks d (given found) xs r.links) signals_same (links d is_design.design)))
+        subst (λ cs. AreLinks d.context cs ns ls) gives
+        (subst (λ ks. AreLinks d.context (given found) ns ks) links_same (subst (λ xs. AreLinks d.context (given found) xs r.links) signals_same (links d.context is_design.design)))
 
     pub is_linked : IsLinkedDesign (entries_of n) ns ls d
     is_linked = record { names = sym names; cells = accepted.names.cells; links = links_here }
@@ -107,9 +107,9 @@ module _ (t : Table) (laws : IsDevice t) (source : Module) (n : Names) (found : 
     links_count = as_many d laws accepted.names.nodes (names_numbered t (view_module source)) accepted.names.pins ns ls links_here
 
     pub netlist_is : plain_netlist net ≡ netlist_of t (view_module source)
-    netlist_is = plain d is_design.design ∙ ap (gathered_from d) gives
+    netlist_is = plain d.context is_design.design ∙ ap (gathered_from d.context) gives
 
-    asked : map (plain_wanted (arena net.exprs)) net.cells ≡ cells_from d (given_formulas d) 0 d.names
+    asked : map (plain_wanted (arena net.exprs)) net.cells ≡ cells_from d.context (given_formulas d) 0 d.context.names
     asked = ap (λ (p : PlainNetlist). p.cells) netlist_is
 
     module _ (sound : HasSoundSignals d (arena found.exprs) found.list) (placed : All (IsPlaced found.list) net.cells) where

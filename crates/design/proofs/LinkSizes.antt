@@ -66,23 +66,23 @@ leaf_past [] v far = refl
 leaf_past (l ∷ ls) zero far = absurd (omega (arith, far))
 leaf_past (l ∷ ls) (suc v) far = leaf_past ls v (omega (arith, far))
 
-module _ (d : Design) (laws : IsDevice d.device) (nodes : NodesAreFew d) where
-  cell_small : (pin c : ℕ) → cell_on d.device pin ≡ Some c → (c < 32) × (pin < 32)
+module _ (d : Design) (laws : IsDevice d.context.device) (nodes : NodesAreFew d.context) where
+  cell_small : (pin c : ℕ) → cell_on d.context.device pin ≡ Some c → (c < 32) × (pin < 32)
   cell_small pin c on =
-      let at = position-Some (has_pin pin) d.device.cells c no_cell on in
-      let same : (cell_at d.device c).pin ≡ pin = eqb-true (cell_at d.device c).pin pin at.1 in
+      let at = position-Some (has_pin pin) d.context.device.cells c no_cell on in
+      let same : (cell_at d.context.device c).pin ≡ pin = eqb-true (cell_at d.context.device c).pin pin at.1 in
       let signal = (laws.cells c no_cell at.0).pin in
       (omega (arith, at.0, laws.sizes.few_cells), omega (arith, same, signal.high, laws.sizes.pins_high))
 
-  pin_small : (x : Entry) (pin : ℕ) (negated : Bool) → x.kind ≡ APin pin negated → is_linked d.device x ≡ true → pin < 32
-  pin_small x pin negated kind linked = by x.assigned (cell_on d.device pin) refl (rw kind at linked)
+  pin_small : (x : Entry) (pin : ℕ) (negated : Bool) → x.kind ≡ APin pin negated → is_linked d.context.device x ≡ true → pin < 32
+  pin_small x pin negated kind linked = by x.assigned (cell_on d.context.device pin) refl (rw kind at linked)
     where
-      by : (b : Bool) (o : Option ℕ) → cell_on d.device pin ≡ o → is_some (if b then o else None) ≡ true → pin < 32
+      by : (b : Bool) (o : Option ℕ) → cell_on d.context.device pin ≡ o → is_some (if b then o else None) ≡ true → pin < 32
       by true (Some c) on is = (cell_small pin c on).1
       by true None on is = absurd cc
       by false o on is = absurd cc
 
-  leaf_of_pin : (x : Entry) (pin : ℕ) (l : Leaf) (stored settled : Bool) (o : Option ℕ) → cell_on d.device pin ≡ o → pin < 32 → (if stored then option_map leaf.Q o else if settled then Some (leaf.Pin pin) else None) ≡ Some l → IsLeaf l
+  leaf_of_pin : (x : Entry) (pin : ℕ) (l : Leaf) (stored settled : Bool) (o : Option ℕ) → cell_on d.context.device pin ≡ o → pin < 32 → (if stored then option_map leaf.Q o else if settled then Some (leaf.Pin pin) else None) ≡ Some l → IsLeaf l
   leaf_of_pin x pin l true settled (Some c) on low is = subst IsLeaf (some_same is) (cell_small pin c on).0
     where
       some_same : Some (leaf.Q c) ≡ Some l → leaf.Q c ≡ l
@@ -100,43 +100,43 @@ module _ (d : Design) (laws : IsDevice d.device) (nodes : NodesAreFew d) where
       some_same : Some (leaf.Node n) ≡ Some l → leaf.Node n ≡ l
       some_same e = cc
 
-  leaf_small : (s : ℕ) (kind : Kind) (l : Leaf) → (name_at d s).kind ≡ kind → is_linked d.device (name_at d s) ≡ true → leaf_by d (name_at d s) kind ≡ Some l → IsLeaf l
+  leaf_small : (s : ℕ) (kind : Kind) (l : Leaf) → (name_at d.context s).kind ≡ kind → is_linked d.context.device (name_at d.context s) ≡ true → leaf_by d.context (name_at d.context s) kind ≡ Some l → IsLeaf l
   leaf_small s (APin pin negated) l kind linked is =
-      leaf_of_pin (name_at d s) pin l (is_stored (name_at d s)) (settles (name_at d s)) (cell_on d.device pin) refl (pin_small (name_at d s) pin negated kind linked) is
+      leaf_of_pin (name_at d.context s) pin l (is_stored (name_at d.context s)) (settles (name_at d.context s)) (cell_on d.context.device pin) refl (pin_small (name_at d.context s) pin negated kind linked) is
   leaf_small s (ANode n) l kind linked is = node_leaf n l (nodes s n kind) is
   leaf_small s (AConstant value) l kind linked is = absurd cc
   leaf_small s ADeviceName l kind linked is = absurd cc
 
-  number_small : (s : ℕ) (kind : Kind) → (name_at d s).kind ≡ kind → is_linked d.device (name_at d s) ≡ true → number_of kind < 256
-  number_small s (APin pin negated) kind linked = omega (arith, pin_small (name_at d s) pin negated kind linked)
+  number_small : (s : ℕ) (kind : Kind) → (name_at d.context s).kind ≡ kind → is_linked d.context.device (name_at d.context s) ≡ true → number_of kind < 256
+  number_small s (APin pin negated) kind linked = omega (arith, pin_small (name_at d.context s) pin negated kind linked)
   number_small s (ANode n) kind linked = omega (arith, nodes s n kind)
   number_small s (AConstant value) kind linked = omega arith
   number_small s ADeviceName kind linked = omega arith
 
-  constant_unlinked : (x : Entry) (value : Tree) → x.kind ≡ AConstant value → is_linked d.device x ≡ true → ⊥
+  constant_unlinked : (x : Entry) (value : Tree) → x.kind ≡ AConstant value → is_linked d.context.device x ≡ true → ⊥
   constant_unlinked x value is linked = true≢false (sym (rw is at linked))
 
-  device_unlinked : (x : Entry) → x.kind ≡ ADeviceName → is_linked d.device x ≡ true → ⊥
+  device_unlinked : (x : Entry) → x.kind ≡ ADeviceName → is_linked d.context.device x ≡ true → ⊥
   device_unlinked x is linked = true≢false (sym (rw is at linked))
 
-  module _ (numbered : AreNumbered 0 d.names) (apart : PinsApart d) where
+  module _ (numbered : AreNumbered 0 d.context.names) (apart : PinsApart d.context) where
     -- two linked names have two numbers
-    unlike : (s r : ℕ) (one other : Kind) → s < r → (name_at d s).kind ≡ one → (name_at d r).kind ≡ other → is_linked d.device (name_at d s) ≡ true → is_linked d.device (name_at d r) ≡ true → number_of one ≢ number_of other
-    unlike s r (ANode a) (ANode b) less one other linked too same = absurd (omega (arith, rising 0 d.names s r a b numbered less one other, same))
+    unlike : (s r : ℕ) (one other : Kind) → s < r → (name_at d.context s).kind ≡ one → (name_at d.context r).kind ≡ other → is_linked d.context.device (name_at d.context s) ≡ true → is_linked d.context.device (name_at d.context r) ≡ true → number_of one ≢ number_of other
+    unlike s r (ANode a) (ANode b) less one other linked too same = absurd (omega (arith, rising 0 d.context.names s r a b numbered less one other, same))
     unlike s r (ANode a) (APin q negated) less one other linked too same = absurd (omega (arith, nodes s a one, same))
     unlike s r (APin p negated) (ANode b) less one other linked too same = absurd (omega (arith, nodes r b other, same))
     unlike s r (APin p negated) (APin q turned) less one other linked too same =
         let pins : q ≡ p = omega (arith, same) in
         let e = apart p s r (ap (is_pin p) one ∙ eq-eqb p p refl) (ap (is_pin p) other ∙ eq-eqb q p pins) in
         absurd (omega (arith, less, e))
-    unlike s r (AConstant value) other less is_one is_other linked too same = absurd (constant_unlinked (name_at d s) value is_one linked)
-    unlike s r ADeviceName other less is_one is_other linked too same = absurd (device_unlinked (name_at d s) is_one linked)
-    unlike s r one (AConstant value) less is_one is_other linked too same = absurd (constant_unlinked (name_at d r) value is_other too)
-    unlike s r one ADeviceName less is_one is_other linked too same = absurd (device_unlinked (name_at d r) is_other too)
+    unlike s r (AConstant value) other less is_one is_other linked too same = absurd (constant_unlinked (name_at d.context s) value is_one linked)
+    unlike s r ADeviceName other less is_one is_other linked too same = absurd (device_unlinked (name_at d.context s) is_one linked)
+    unlike s r one (AConstant value) less is_one is_other linked too same = absurd (constant_unlinked (name_at d.context r) value is_other too)
+    unlike s r one ADeviceName less is_one is_other linked too same = absurd (device_unlinked (name_at d.context r) is_other too)
 
-    module _ (ns : List ℕ) (ls : List Link) (are : AreLinks d (given_formulas d) ns ls) where
-      known : Facts d (given_formulas d) 0 d.names ns ls
-      known = facts d (given_formulas d) 0 d.names ns ls are
+    module _ (ns : List ℕ) (ls : List Link) (are : AreLinks d.context (given_formulas d) ns ls) where
+      known : Facts d.context (given_formulas d) 0 d.context.names ns ls
+      known = facts d.context (given_formulas d) 0 d.context.names ns ls are
 
       abbrev up : ℕ → ℕ
       up v = get_or ns v 0
@@ -144,11 +144,11 @@ module _ (d : Design) (laws : IsDevice d.device) (nodes : NodesAreFew d) where
       pub as_many : length ns ≡ length ls
       as_many = known.count
 
-      linked_up : (v : ℕ) → v < length ls → is_linked d.device (name_at d (up v)) ≡ true
+      linked_up : (v : ℕ) → v < length ls → is_linked d.context.device (name_at d.context (up v)) ≡ true
       linked_up v low =
           let at = known.here v no_link low in
           let same : at.0 ≡ up v = omega (arith, at.2) in
-          subst (λ n. is_linked d.device (name_at d n) ≡ true) same at.4
+          subst (λ n. is_linked d.context.device (name_at d.context n) ≡ true) same at.4
 
       -- ---- leaves
 
@@ -156,8 +156,8 @@ module _ (d : Design) (laws : IsDevice d.device) (nodes : NodesAreFew d) where
       leaf_by_link v l low is =
           let at = known.here v no_link low in
           let same : at.0 ≡ up v = omega (arith, at.2) in
-          let of : IsLinkOf d (given_formulas d) (up v) (name_at d (up v)) (get_or ls v no_link) = subst (λ n. IsLinkOf d (given_formulas d) (up v) (name_at d n) (get_or ls v no_link)) same at.3 in
-          leaf_small (up v) (name_at d (up v)).kind l refl (linked_up v low) (sym of.leaf ∙ sym (leaf_there ls v no_link low) ∙ is)
+          let of : IsLinkOf d.context (given_formulas d) (up v) (name_at d.context (up v)) (get_or ls v no_link) = subst (λ n. IsLinkOf d.context (given_formulas d) (up v) (name_at d.context n) (get_or ls v no_link)) same at.3 in
+          leaf_small (up v) (name_at d.context (up v)).kind l refl (linked_up v low) (sym of.leaf ∙ sym (leaf_there ls v no_link low) ∙ is)
 
       pub are_leaves : AreLeaves ls
       are_leaves v l is =
@@ -172,13 +172,13 @@ module _ (d : Design) (laws : IsDevice d.device) (nodes : NodesAreFew d) where
       -- ---- how many
 
       abbrev numbers : List ℕ
-      numbers = map (λ s. number_of (name_at d s).kind) ns
+      numbers = map (λ s. number_of (name_at d.context s).kind) ns
 
-      number_at : (v z : ℕ) → v < length ls → get_or numbers v z ≡ number_of (name_at d (up v)).kind
-      number_at v z low = get_or-map (λ s. number_of (name_at d s).kind) ns v 0 z (omega (arith, as_many, low))
+      number_at : (v z : ℕ) → v < length ls → get_or numbers v z ≡ number_of (name_at d.context (up v)).kind
+      number_at v z low = get_or-map (λ s. number_of (name_at d.context s).kind) ns v 0 z (omega (arith, as_many, low))
 
       long : length numbers ≡ length ls
-      long = length-map ns (λ s. number_of (name_at d s).kind) ∙ as_many
+      long = length-map ns (λ s. number_of (name_at d.context s).kind) ∙ as_many
 
       once : IsDistinct eqb numbers
       once =
@@ -187,14 +187,14 @@ module _ (d : Design) (laws : IsDevice d.device) (nodes : NodesAreFew d) where
           let low : j < length ls = omega (arith, long, within) in
           let lower : i < length ls = omega (arith, less, low) in
           ne_eqb (get_or numbers i z) (get_or numbers j z)
-          (λ e. unlike (up i) (up j) (name_at d (up i)).kind (name_at d (up j)).kind (known.rises i j less low) refl refl (linked_up i lower) (linked_up j low)
+          (λ e. unlike (up i) (up j) (name_at d.context (up i)).kind (name_at d.context (up j)).kind (known.rises i j less low) refl refl (linked_up i lower) (linked_up j low)
           (sym (number_at i z lower) ∙ e ∙ number_at j z low)))
 
       inside : (v : ℕ) → has numbers v ≡ true → v < 256
       inside v there =
           let at = place_of numbers v there in
           let low : at.0 < length ls = omega (arith, long, at.1) in
-          let small = number_small (up at.0) (name_at d (up at.0)).kind refl (linked_up at.0 low) in
+          let small = number_small (up at.0) (name_at d.context (up at.0)).kind refl (linked_up at.0 low) in
           omega (arith, small, number_at at.0 0 low, at.2)
 
       pub are_few : length ls ≤ 256

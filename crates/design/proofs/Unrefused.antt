@@ -23,21 +23,21 @@ mapped_empty f [] e = refl
 mapped_empty f (x ∷ xs) e = absurd cc
 
 module _ (d : Design) (fs : List Formula) (cs : List Contribution) where
-  controls_empty : HasSoundSignals d fs cs → target_controls d.device fs d.names cs ≡ []
-  controls_empty sound = front_empty (target_controls d.device fs d.names cs) (unwritten d ++ map told (missing_uses d)) sound.uses.controls.controls
+  controls_empty : HasSoundSignals d fs cs → target_controls d.context.device fs d.context.names cs ≡ []
+  controls_empty sound = front_empty (target_controls d.context.device fs d.context.names cs) (unwritten d ++ map told (missing_uses d)) sound.uses.controls.controls
 
   -- no target names what its signal doesn't have
-  pub had : HasSoundSignals d fs cs → all_refused d.device d.names rule.Controls cs ≡ []
+  pub had : HasSoundSignals d fs cs → all_refused d.context.device d.context.names rule.Controls cs ≡ []
   had sound =
-      mapped_empty plain (all_refused d.device d.names rule.Controls cs)
-      (front_empty (targets_refused d.device d.names rule.Controls cs) (other_levels d.device fs d.names cs) (controls_empty sound))
+      mapped_empty plain (all_refused d.context.device d.context.names rule.Controls cs)
+      (front_empty (targets_refused d.context.device d.context.names rule.Controls cs) (other_levels d.context.device fs d.context.names cs) (controls_empty sound))
 
   pub unrefused : HasNoRefusal d fs cs → IsUnrefused d cs
   unrefused none = record {
-    kinds = mapped_empty plain (all_refused d.device d.names rule.Kinds cs) none.signals.kinds.kinds;
-    nodes = mapped_empty plain (registered_nodes 0 d.names) none.signals.kinds.nodes;
+    kinds = mapped_empty plain (all_refused d.context.device d.context.names rule.Kinds cs) none.signals.kinds.kinds;
+    nodes = mapped_empty plain (registered_nodes 0 d.context.names) none.signals.kinds.nodes;
     controls = had none.signals;
-    missing = mapped_empty told (missing_uses d) (back_empty (unwritten d) (map told (missing_uses d)) (back_empty (target_controls d.device fs d.names cs) (unwritten d ++ map told (missing_uses d)) none.signals.uses.controls.controls));
+    missing = mapped_empty told (missing_uses d) (back_empty (unwritten d) (map told (missing_uses d)) (back_empty (target_controls d.context.device fs d.context.names cs) (unwritten d ++ map told (missing_uses d)) none.signals.uses.controls.controls));
     unread = mapped_empty told (unread_uses d) none.signals.uses.paths;
     no_loop = none.no_loop;
     no_path = none.no_path;

@@ -24,7 +24,7 @@ pub record HasNoRefusal (d : Design) (fs : List Formula) (cs : List Contribution
 -- is declared here
 pub record IsFirstLoop (d : Design) (p : Place) (chain : List ℕ) : Type 0 where
   pub loop : IsSignalLoop d chain
-  pub place : p ≡ (name_at d (get_or chain 0 0)).place
+  pub place : p ≡ (name_at d.context (get_or chain 0 0)).place
 
 -- the first target of the reset of s stands here
 abbrev pub IsResetAt : List Contribution → (s : ℕ) → Place → Type 0

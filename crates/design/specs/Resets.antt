@@ -29,9 +29,9 @@ Before p q = is_sooner q p ≡ true
 module _ (fs : List Formula) (ns : List ℕ) (ls : List Link) where
   -- a design of these links, in which the signal of the cell has this reset
   pub record IsResetOf (w : CellWanted) (d : Design) : Type 0 where
-    pub cells : AssignedHaveCells d
-    pub links : AreLinks d (given_formulas d) ns ls
-    pub reset : plain_control fs w.reset ≡ control_of (formulas d) (given_formulas d) w.name extension.Ar
+    pub cells : AssignedHaveCells d.context
+    pub links : AreLinks d.context (given_formulas d) ns ls
+    pub reset : plain_control fs w.reset ≡ control_of (formulas d.context) (given_formulas d) w.name extension.Ar
 
   -- no path leads from the reset of the cell to a register
   abbrev pub LeadsNowhere : CellWanted → Type 0

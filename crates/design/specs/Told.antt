@@ -15,9 +15,9 @@ use Rattle.design.specs.Resets.{IsFirstOf}
 
 -- a design of these names and links, each of whose assigned pins is that of a cell
 pub record IsLinkedDesign (xs : List Entry) (ns : List ℕ) (ls : List Link) (d : Design) : Type 0 where
-  pub names : d.names ≡ xs
-  pub cells : AssignedHaveCells d
-  pub links : AreLinks d (given_formulas d) ns ls
+  pub names : d.context.names ≡ xs
+  pub cells : AssignedHaveCells d.context
+  pub links : AreLinks d.context (given_formulas d) ns ls
 
 -- what is told of a loop
 abbrev pub IsLoopTold : Design → DesignFault → Type 0

@@ -28,7 +28,7 @@ use bit_expr::Netlist;
 use design_checks::{DesignFault, check_signals};
 use gathering::{Gathered, gather_up};
 use pld_device::Device;
-use set_expr::Contributions;
+use set_expr::{Contributions, Scope};
 use signal_chains::Link;
 use std::alloc::Global;
 
@@ -66,10 +66,10 @@ fn check_chains(
 pub fn gather<D: Device>(
     alloc: Global,
     source: &Module,
-    names: &Names,
+    scope: &Scope<'_>,
     found: Contributions,
 ) -> Result<Netlist, DesignFault>
-    requires names { entries_of names.now ≡ names_of D.table (view_module source.now) }
+    requires names { entries_of scope.now ≡ names_of D.table (view_module source.now) }
     requires accepted { IsAccepted (design_of D.table (view_module source.now)) }
     requires gives { given found ≡ given_formulas (design_of D.table (view_module source.now)) }
     requires inside { AllLieIn (length (arena found.exprs)) found.list }
@@ -89,7 +89,8 @@ pub fn gather<D: Device>(
         (design_of D.table (view_module source.now)) (arena found.exprs) found.list f) }
 {
     unrefused_is_sound();
-    match check_signals::<D>(alloc, source, names, &found) {
+    let names = scope.names();
+    match check_signals::<D>(alloc, source, scope, &found) {
         Err(fault) => Err(fault),
         Ok(()) => {
             let Gathered {

@@ -10,7 +10,7 @@ use Rattle.design.proofs.chains.check_loop.Goals as goal
 pub declared_at-place-requires : goal.declared_at-place-requires
 declared_at-place-requires c =
     let of = c.requires.linked in
-    let found : (d : Design) → AssignedHaveCells d → AreLinks d (given_formulas d) c.args.signals.now c.args.links.now → IsSignalLoop d c.in-Some.chain.items = rw c.in-Some.is at c.in_ok-signal_loop.ensures.found in
+    let found : (d : Design) → AssignedHaveCells d.context → AreLinks d.context (given_formulas d) c.args.signals.now c.args.links.now → IsSignalLoop d c.in-Some.chain.items = rw c.in-Some.is at c.in_ok-signal_loop.ensures.found in
     let loop = found of.0 of.1.cells of.1.links in
     record {
       some = subst (λ xs. 0 < length xs) (sym c.as_slice.ensures.value) (some_there of.0 c.in-Some.chain.items loop);

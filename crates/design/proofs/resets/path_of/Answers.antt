@@ -18,5 +18,5 @@ pub returns-in-None-2 : goal.returns-in-None-2
 returns-in-None-2 c =
     let ns = c.args.signals.now in
     let ls = c.args.links.now in
-    let none : (d : Design) (s : ℕ) → AssignedHaveCells d → AreLinks d (given_formulas d) ns ls → AreReads (reset_names d s) c.reads.result → HasNoSignalPath d s = rw c.in-None-2.is at c.in_ok-reset_path-in-Some.ensures.none in
+    let none : (d : Design) (s : ℕ) → AssignedHaveCells d.context → AreLinks d.context (given_formulas d) ns ls → AreReads (reset_names d s) c.reads.result → HasNoSignalPath d s = rw c.in-None-2.is at c.in_ok-reset_path-in-Some.ensures.none in
     leads_nowhere (arena c.args.exprs.now) ns ls c.args.wanted.now c.in-Some.reset c.in-Some.is c.reads.result c.reads.ensures none
