@@ -65,6 +65,6 @@ pub counts_the_design : SummaryCountsTheDesign
 unfolding assigned_cells
 counts_the_design t m net laws is =
     ap (assigned_cells t) is
-    ∙ count_same (λ c. is_some (wanted_at (netlist_of t m) c)) (λ c. is_some (signal_on (design_of t m) c)) 0 (length t.cells)
-    (λ c low high. ap (λ (o : Option Wanted). is_some o) (wanted_found (design_of t m) (given_formulas (design_of t m)) laws c (omega (arith, high)))
-    ∙ some_map (wanted_here (design_of t m) (given_formulas (design_of t m)) laws c (omega (arith, high))) (signal_on (design_of t m) c))
+    ∙ count_same (λ c. is_some (wanted_at (netlist_of t m) c)) (λ c. is_some (signal_on (design_of t m).context c)) 0 (length t.cells)
+    (λ c low high. ap (λ (o : Option Wanted). is_some o) (wanted_found (design_of t m).context (given_formulas (design_of t m)) laws c (omega (arith, high)))
+    ∙ some_map (wanted_here (design_of t m).context (given_formulas (design_of t m)) laws c (omega (arith, high))) (signal_on (design_of t m).context c))

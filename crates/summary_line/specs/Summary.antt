@@ -12,7 +12,7 @@ use Rattle.jedec_file.specs.FileText.{four_hex}
 use Rattle.jedec_file.specs.FuseSums.{fuse_sum_of}
 use Rattle.abel_tree.specs.Tree.{ModuleTree}
 use Rattle.abel_meaning.specs.Controls.{signal_on}
-use Rattle.abel_meaning.specs.Designs.{Design, design_of}
+use Rattle.abel_meaning.specs.Designs.{Context, design_of}
 use Rattle.abel_meaning.specs.Netlists.{PlainNetlist, wanted_at}
 use Rattle.fitted.specs.Covers.{is_used}
 use Rattle.gathered.specs.Gathered.{netlist_of}
@@ -40,10 +40,10 @@ summary_of t cells fuses =
     ++ codes "\n"
 
 -- how many cells of its device a design assigns
-abbrev pub design_cells : Design → ℕ
+abbrev pub design_cells : Context → ℕ
 design_cells d = count_by (λ c. is_some (signal_on d c)) (range_with_len 0 (length d.device.cells))
 
 -- of the netlist of a module, as many as the module assigns
 abbrev pub SummaryCountsTheDesign : Type 0
 SummaryCountsTheDesign =
-    (t : Table) (m : ModuleTree) (net : PlainNetlist) → IsDevice t → net ≡ netlist_of t m → assigned_cells t net ≡ design_cells (design_of t m)
+    (t : Table) (m : ModuleTree) (net : PlainNetlist) → IsDevice t → net ≡ netlist_of t m → assigned_cells t net ≡ design_cells (design_of t m).context
