@@ -74,7 +74,7 @@ source =
     ∷ [])
 
 -- what each name is
-names : name_codes (design_of pal16l8 source)
+names : name_codes (design_of pal16l8 source).context
     ≡ (48000 ∷ 32 ∷ 64 ∷ 96 ∷ 128 ∷ 160 ∷ 192 ∷ 456 ∷ 488 ∷ 520 ∷ 552 ∷ 32000 ∷ 32000 ∷ 32000 ∷ 32000 ∷ [])
 unfolding digits
 names = refl

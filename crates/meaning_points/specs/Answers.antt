@@ -8,7 +8,7 @@ use Rattle.bit_expr.specs.declared.node.Leaf.TheVariants as leaf
 use Rattle.bit_expr.specs.Formulas.{Formula, Const, Read, Not, And, Or, Xor}
 use Rattle.abel_tree.specs.declared.words.Extension.TheVariants as extension
 use Rattle.abel_tree.specs.Entries.{Kind, APin, ANode, AConstant, ADeviceName, Entry}
-use Rattle.abel_meaning.specs.Designs.{Design, name_at, follows_q}
+use Rattle.abel_meaning.specs.Designs.{Context, Design, name_at, follows_q}
 use Rattle.abel_meaning.specs.Numbers.{digits_low_first}
 use Rattle.abel_meaning.specs.Contributions.{Contribution}
 use Rattle.abel_meaning.specs.AtPoints.{truth_at, given_at}
@@ -45,7 +45,7 @@ name_code x =
     + packed (x.words.registered ∷ (x.words.registered && follows_q x) ∷ x.words.dc ∷ x.assigned ∷ [])
 
 -- of all names
-abbrev pub name_codes : Design → List ℕ
+abbrev pub name_codes : Context → List ℕ
 name_codes d = map name_code d.names
 
 -- ---- points
@@ -67,23 +67,23 @@ logic_answers m at n =
 abbrev pub shared_logic : Design → Levels → List (Contribution Bool) → Logic
 shared_logic d at cs =
     record (design_logic d) {
-      enabled = λ _ c. cell_is_enabled (truth_at d at) d at cs c;
-      allows_level = λ _ c level. pin_allows allows d at cs c (signal_on d c) level;
-      allows_node = λ _ n value. node_allows allows d at cs (node_signal d n) value;
-      reset = λ _ c. register_control (truth_at d at) d cs extension.Ar (signal_on d c);
-      preset = λ _ c. register_control (truth_at d at) d cs extension.Sp (signal_on d c);
-      allows_next = λ _ c q. next_allows allows d at cs (signal_on d c) q;
+      enabled = λ _ c. cell_is_enabled (truth_at d.context at) d.context at cs c;
+      allows_level = λ _ c level. pin_allows allows d.context at cs c (signal_on d.context c) level;
+      allows_node = λ _ n value. node_allows allows d.context at cs (node_signal d.context n) value;
+      reset = λ _ c. register_control (truth_at d.context at) d.context cs extension.Ar (signal_on d.context c);
+      preset = λ _ c. register_control (truth_at d.context at) d.context cs extension.Sp (signal_on d.context c);
+      allows_next = λ _ c q. next_allows allows d.context at cs (signal_on d.context c) q;
     }
 
 -- each name's value with any as 0; 2 where it is assigned nothing
-abbrev pub any_0_values : Design → Levels → List (Contribution Bool) → List ℕ
+abbrev pub any_0_values : Context → Levels → List (Contribution Bool) → List ℕ
 any_0_values d at cs =
     map (λ s. if (name_at d s).assigned then packed (value_with_any_0 (function_of (truth_at d at) cs s) ∷ []) else 2)
     (range_with_len 0 (length d.names))
 
 -- both, by these contributions
 abbrev pub answers_with : Design → Levels → (nodes : ℕ) → List (Contribution Bool) → List ℕ
-answers_with d at n cs = logic_answers (shared_logic d at cs) at n ++ any_0_values d at cs
+answers_with d at n cs = logic_answers (shared_logic d at cs) at n ++ any_0_values d.context at cs
 
 -- both
 abbrev pub answers : Design → Levels → (nodes : ℕ) → List ℕ
@@ -116,7 +116,7 @@ abbrev pub function_codes : Function Formula → List ℕ
 function_codes f = formula_code f.one ∷ formula_code f.any ∷ packed (f.complement ∷ []) ∷ []
 
 -- those of a name, with its enable, reset and preset
-abbrev pub signal_trees : Design → List (Contribution Formula) → ℕ → List ℕ
+abbrev pub signal_trees : Context → List (Contribution Formula) → ℕ → List ℕ
 signal_trees d cs s =
     function_codes (function_of (formulas d) cs s)
     ++ option_code (control_of (formulas d) cs s extension.Oe)
@@ -125,34 +125,34 @@ signal_trees d cs s =
     ∷ []
 
 -- those of all assigned names, by these contributions
-abbrev pub trees_with : Design → List (Contribution Formula) → List (List ℕ)
+abbrev pub trees_with : Context → List (Contribution Formula) → List (List ℕ)
 trees_with d cs =
     map (λ s. if (name_at d s).assigned then signal_trees d cs s else []) (range_with_len 0 (length d.names))
 
 -- those of all assigned names
 abbrev pub all_trees : Design → List (List ℕ)
-all_trees d = trees_with d (given_formulas d)
+all_trees d = trees_with d.context (given_formulas d)
 
 -- ---- reads
 
 -- the names that are read, by whether their leaf is among those named
-abbrev pub read_from : Design → (named : Leaf → Bool) → List ℕ
+abbrev pub read_from : Context → (named : Leaf → Bool) → List ℕ
 read_from d named = filter (λ r. is_one_of named (leaf_of d r)) (range_with_len 0 (length d.names))
 
 -- for each name those that its formulas name, none where it doesn't settle
-abbrev pub reads_with : Design → List (Contribution Formula) → List (List ℕ)
+abbrev pub reads_with : Context → List (Contribution Formula) → List (List ℕ)
 reads_with d cs =
     map (λ s. if settles (name_at d s) then read_from d (signal_names d cs s) else []) (range_with_len 0 (length d.names))
 
 -- for each name those that its reset names
-abbrev pub resets_with : Design → List (Contribution Formula) → List (List ℕ)
+abbrev pub resets_with : Context → List (Contribution Formula) → List (List ℕ)
 resets_with d cs =
     map (λ s. read_from d (names_if_any (control_of (formulas d) cs s extension.Ar))) (range_with_len 0 (length d.names))
 
 -- both
-abbrev pub reads_by : Design → List (Contribution Formula) → List (List ℕ)
+abbrev pub reads_by : Context → List (Contribution Formula) → List (List ℕ)
 reads_by d cs = reads_with d cs ++ resets_with d cs
 
 -- for each name those that its formulas name, and then those that its reset names
 abbrev pub all_reads : Design → List (List ℕ)
-all_reads d = reads_by d (given_formulas d)
+all_reads d = reads_by d.context (given_formulas d)

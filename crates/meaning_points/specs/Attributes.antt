@@ -68,7 +68,7 @@ source =
     ∷ [])
 
 -- what each name is
-names : name_codes (design_of gal22v10 source)
+names : name_codes (design_of gal22v10 source).context
     ≡ (48000 ∷ 80 ∷ 96 ∷ 747 ∷ 715 ∷ 683 ∷ 651 ∷ 619 ∷ 588 ∷ 128 ∷ 160 ∷ 16008 ∷ 16024 ∷ 16040 ∷ 16048 ∷ 557
     ∷ 525 ∷ 32000 ∷ 32000 ∷ 488 ∷ 32000 ∷ [])
 unfolding digits

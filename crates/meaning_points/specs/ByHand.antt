@@ -5,7 +5,7 @@ use Rattle.std.specs.List.{list_any, range_with_len}
 use Rattle.pld_base.specs.Points.{Levels}
 use Rattle.abel_tree.specs.Entries.{Kind, APin, find}
 use Rattle.abel_tree.specs.Tree.{Tree}
-use Rattle.abel_meaning.specs.Designs.{Design, name_at, cell_on}
+use Rattle.abel_meaning.specs.Designs.{Context, Design, name_at, cell_on}
 use Rattle.abel_meaning.specs.Terms.{term_of}
 use Rattle.abel_meaning.specs.Values.{term_value}
 use Rattle.abel_meaning.specs.AtPoints.{truth_at, given_at}
@@ -45,44 +45,44 @@ values test = value_if (test false) 0 ++ value_if (test true) 1
     value_if false n = []
 
 -- the number of a name
-abbrev pub number_named : Design → String → ℕ
+abbrev pub number_named : Context → String → ℕ
 number_named d name = unwrap_or (find d.names (codes name)) 0
 
 -- the values that a name may have at the point
 abbrev pub may_be : Design → String → Levels → List ℕ
-may_be d name at = values (allows (function_of (truth_at d at) (given_at d at) (number_named d name)))
+may_be d name at = values (allows (function_of (truth_at d.context at) (given_at d at) (number_named d.context name)))
 
 -- the cell of a name on a pin
-abbrev pub cell_by : Design → Kind → ℕ
+abbrev pub cell_by : Context → Kind → ℕ
 cell_by d (APin pin negated) = unwrap_or (cell_on d.device pin) 0
 cell_by d _ = 0
 
 -- the cell of a name
-abbrev pub cell_named : Design → String → ℕ
+abbrev pub cell_named : Context → String → ℕ
 cell_named d name = cell_by d (name_at d (number_named d name)).kind
 
 -- the levels that its pin may have
 abbrev pub pin_may_be : Design → String → Levels → List ℕ
-pin_may_be d name at = values ((design_logic d).allows_level at (cell_named d name))
+pin_may_be d name at = values ((design_logic d).allows_level at (cell_named d.context name))
 
 -- the next Qs that its register may take
 abbrev pub next_may_be : Design → String → Levels → List ℕ
-next_may_be d name at = values ((design_logic d).allows_next at (cell_named d name))
+next_may_be d name at = values ((design_logic d).allows_next at (cell_named d.context name))
 
 -- its cell drives the pin
 abbrev pub is_driven : Design → String → Levels → Bool
-is_driven d name at = (design_logic d).enabled at (cell_named d name)
+is_driven d name at = (design_logic d).enabled at (cell_named d.context name)
 
 -- its register is reset, and preset
 abbrev pub is_reset : Design → String → Levels → Bool
-is_reset d name at = (design_logic d).reset at (cell_named d name)
+is_reset d name at = (design_logic d).reset at (cell_named d.context name)
 
 -- its register is preset
 abbrev pub is_preset : Design → String → Levels → Bool
-is_preset d name at = (design_logic d).preset at (cell_named d name)
+is_preset d name at = (design_logic d).preset at (cell_named d.context name)
 
 -- the number of an expression at the point
-abbrev pub number_of : Design → Tree → Levels → ℕ
+abbrev pub number_of : Context → Tree → Levels → ℕ
 number_of d t at = (term_value d at (term_of d.known t)).number
 
 -- one answer for each point

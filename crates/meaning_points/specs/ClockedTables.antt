@@ -49,7 +49,7 @@ source =
     ∷ [])
 
 -- what each name is
-names : name_codes (design_of pal16r8 source)
+names : name_codes (design_of pal16r8 source).context
     ≡ (48000 ∷ 32 ∷ 352 ∷ 64 ∷ 96 ∷ 393 ∷ 425 ∷ 473 ∷ 489 ∷ 32000 ∷ [])
 unfolding digits
 names = refl

@@ -72,7 +72,7 @@ source =
     ∷ [])
 
 -- what each name is
-names : name_codes (design_of gal22v10 source)
+names : name_codes (design_of gal22v10 source).context
     ≡ (48000 ∷ 64 ∷ 96 ∷ 128 ∷ 160 ∷ 680 ∷ 648 ∷ 616 ∷ 584 ∷ 552 ∷ 520 ∷ 488 ∷ 456 ∷ 32000 ∷ 32000 ∷ 32000
     ∷ 32000 ∷ 32000 ∷ 32000 ∷ 32000 ∷ 32000 ∷ 32000 ∷ 32000 ∷ [])
 unfolding digits

@@ -29,7 +29,7 @@ source =
     (Equations (assign (name "Y") (number 1) ∷ assign (name "Z") (number 0) ∷ []) ∷ [])
 
 -- what each name is
-names : name_codes (design_of gal22v10 source)
+names : name_codes (design_of gal22v10 source).context
     ≡ (48000 ∷ 744 ∷ 712 ∷ [])
 unfolding digits
 names = refl

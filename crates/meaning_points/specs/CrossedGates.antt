@@ -33,7 +33,7 @@ source =
     ∷ [])
 
 -- what each name is
-names : name_codes (design_of pal16l8 source)
+names : name_codes (design_of pal16l8 source).context
     ≡ (48000 ∷ 32 ∷ 64 ∷ 584 ∷ 552 ∷ [])
 unfolding digits
 names = refl

@@ -30,7 +30,7 @@ source =
     (Equations (assign (name "Y") (either (both (name "a") (name "b")) (name "c")) ∷ []) ∷ [])
 
 -- what each name is
-names : name_codes (design_of pal16l8 source)
+names : name_codes (design_of pal16l8 source).context
     ≡ (48000 ∷ 32 ∷ 64 ∷ 96 ∷ 616 ∷ [])
 unfolding digits
 names = refl

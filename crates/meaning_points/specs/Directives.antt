@@ -92,7 +92,7 @@ source =
     ∷ [])
 
 -- what each name is
-names : name_codes (design_of gal22v10 source)
+names : name_codes (design_of gal22v10 source).context
     ≡ (48000 ∷ 32 ∷ 64 ∷ 96 ∷ 456 ∷ 488 ∷ 520 ∷ 552 ∷ 584 ∷ 619 ∷ 651 ∷ 683 ∷ 16008 ∷ 16024 ∷ 712 ∷ 16040
     ∷ 747 ∷ [])
 unfolding digits

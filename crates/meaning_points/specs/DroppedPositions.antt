@@ -32,41 +32,41 @@ abbrev d : Design
 d = design_of gal22v10 source
 
 -- A >= 15 compares a, b, c with 01111 without its two lowest bits, which is 3
-at_least_15 : at_each (points_of (2 ∷ 3 ∷ 4 ∷ []) [] []) (number_of d (at_least (name "A") (number 15))) ≡ (0 ∷ 0 ∷ 0 ∷ 1 ∷ 1 ∷ 1 ∷ 1 ∷ 1 ∷ [])
+at_least_15 : at_each (points_of (2 ∷ 3 ∷ 4 ∷ []) [] []) (number_of d.context (at_least (name "A") (number 15))) ≡ (0 ∷ 0 ∷ 0 ∷ 1 ∷ 1 ∷ 1 ∷ 1 ∷ 1 ∷ [])
 unfolding digits
 at_least_15 = refl
 
 -- A < 8 compares them with 2
-less_than_8 : at_each (points_of (2 ∷ 3 ∷ 4 ∷ []) [] []) (number_of d (less (name "A") (number 8))) ≡ (1 ∷ 1 ∷ 0 ∷ 0 ∷ 0 ∷ 0 ∷ 0 ∷ 0 ∷ [])
+less_than_8 : at_each (points_of (2 ∷ 3 ∷ 4 ∷ []) [] []) (number_of d.context (less (name "A") (number 8))) ≡ (1 ∷ 1 ∷ 0 ∷ 0 ∷ 0 ∷ 0 ∷ 0 ∷ 0 ∷ [])
 unfolding digits
 less_than_8 = refl
 
 -- A == 21 compares them with 5, and the bits of 21 at X count for nothing
-equals_21 : at_each (points_of (2 ∷ 3 ∷ 4 ∷ []) [] []) (number_of d (equal (name "A") (number 21))) ≡ (0 ∷ 0 ∷ 0 ∷ 0 ∷ 0 ∷ 1 ∷ 0 ∷ 0 ∷ [])
+equals_21 : at_each (points_of (2 ∷ 3 ∷ 4 ∷ []) [] []) (number_of d.context (equal (name "A") (number 21))) ≡ (0 ∷ 0 ∷ 0 ∷ 0 ∷ 0 ∷ 1 ∷ 0 ∷ 0 ∷ [])
 unfolding digits
 equals_21 = refl
 
 -- a position that is X on either side is dropped: of [a,X] and [X,b] none is left
-both_sides : at_each (points_of (2 ∷ 3 ∷ []) [] []) (number_of d (equal (set (one (name "a") ∷ one (name "X") ∷ [])) (set (one (name "X") ∷ one (name "b") ∷ [])))) ≡ (1 ∷ 1 ∷ 1 ∷ 1 ∷ [])
+both_sides : at_each (points_of (2 ∷ 3 ∷ []) [] []) (number_of d.context (equal (set (one (name "a") ∷ one (name "X") ∷ [])) (set (one (name "X") ∷ one (name "b") ∷ [])))) ≡ (1 ∷ 1 ∷ 1 ∷ 1 ∷ [])
 unfolding digits
 both_sides = refl
 
 -- with no position left ==, <= and >= hold
-none_left : number_of d (equal (name "N") (number 3)) (point_at [] [] []) ≡ 1
+none_left : number_of d.context (equal (name "N") (number 3)) (point_at [] [] []) ≡ 1
 unfolding digits
 none_left = refl
 
 -- so does <=
-none_left_at_most : number_of d (at_most (name "N") (number 0)) (point_at [] [] []) ≡ 1
+none_left_at_most : number_of d.context (at_most (name "N") (number 0)) (point_at [] [] []) ≡ 1
 unfolding digits
 none_left_at_most = refl
 
 -- and the others do not
-none_left_less : number_of d (less (name "N") (number 3)) (point_at [] [] []) ≡ 0
+none_left_less : number_of d.context (less (name "N") (number 3)) (point_at [] [] []) ≡ 0
 unfolding digits
 none_left_less = refl
 
 -- nor does !=
-none_left_unequal : number_of d (unequal (name "N") (number 3)) (point_at [] [] []) ≡ 0
+none_left_unequal : number_of d.context (unequal (name "N") (number 3)) (point_at [] [] []) ≡ 0
 unfolding digits
 none_left_unequal = refl

@@ -62,7 +62,7 @@ source =
     ∷ [])
 
 -- what each name is
-names : name_codes (design_of gal22v10 source)
+names : name_codes (design_of gal22v10 source).context
     ≡ (48000 ∷ 32 ∷ 64 ∷ 96 ∷ 128 ∷ 747 ∷ 715 ∷ 683 ∷ 651 ∷ 633 ∷ 585 ∷ 552 ∷ 536 ∷ 16008 ∷ 16024 ∷ 32000
     ∷ 32000 ∷ 32000 ∷ [])
 unfolding digits

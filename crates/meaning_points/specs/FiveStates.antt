@@ -40,7 +40,7 @@ source =
     ∷ [])
 
 -- what each name is
-names : name_codes (design_of gal22v10 source)
+names : name_codes (design_of gal22v10 source).context
     ≡ (48000 ∷ 747 ∷ 715 ∷ 683 ∷ [])
 unfolding digits
 names = refl

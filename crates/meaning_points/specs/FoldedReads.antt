@@ -42,7 +42,7 @@ source =
     ∷ [])
 
 -- what each name is
-names : name_codes (design_of gal22v10 source)
+names : name_codes (design_of gal22v10 source).context
     ≡ (48000 ∷ 64 ∷ 96 ∷ 584 ∷ 552 ∷ 619 ∷ 16008 ∷ 16024 ∷ [])
 unfolding digits
 names = refl

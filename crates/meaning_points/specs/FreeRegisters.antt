@@ -45,7 +45,7 @@ source words =
 
 -- which of its names are free registers
 abbrev free_names : (words : String) → List Bool
-free_names words = map is_free (design_of gal22v10 (source words)).names
+free_names words = map is_free (design_of gal22v10 (source words)).context.names
 
 -- the choice: each cell inverts but that of r
 abbrev inverts : ℕ → Bool

@@ -59,7 +59,7 @@ source =
     ∷ [])
 
 -- what each name is
-names : name_codes (design_of pal16r6 source)
+names : name_codes (design_of pal16r6 source).context
     ≡ (48000 ∷ 32 ∷ 352 ∷ 64 ∷ 96 ∷ 128 ∷ 160 ∷ 429 ∷ 477 ∷ 493 ∷ 616 ∷ 408 ∷ 32000 ∷ [])
 unfolding digits
 names = refl

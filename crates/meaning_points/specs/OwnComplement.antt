@@ -26,7 +26,7 @@ source =
     (Equations (assign (name "Y") (both (name "Y") (complement (name "Y"))) ∷ []) ∷ [])
 
 -- what each name is
-names : name_codes (design_of pal16l8 source)
+names : name_codes (design_of pal16l8 source).context
     ≡ (48000 ∷ 584 ∷ [])
 unfolding digits
 names = refl

@@ -66,6 +66,6 @@ unfolding digits
 from_6_q0 = refl
 
 -- the set reads 5 where q2 and q0 are 1
-reads : number_of d (name "S") (point_at [] (0 ∷ 2 ∷ []) []) ≡ 5
+reads : number_of d.context (name "S") (point_at [] (0 ∷ 2 ∷ []) []) ≡ 5
 unfolding digits
 reads = refl

@@ -35,7 +35,7 @@ source =
     ∷ [])
 
 -- what each name is
-names : name_codes (design_of gal22v10 source)
+names : name_codes (design_of gal22v10 source).context
     ≡ (48000 ∷ 64 ∷ 96 ∷ 747 ∷ [])
 unfolding digits
 names = refl

@@ -76,7 +76,7 @@ source =
     ∷ [])
 
 -- what each name is
-names : name_codes (design_of pal16r4 source)
+names : name_codes (design_of pal16r4 source).context
     ≡ (48000 ∷ 32 ∷ 352 ∷ 64 ∷ 96 ∷ 128 ∷ 553 ∷ 521 ∷ 509 ∷ 616 ∷ 584 ∷ 16008 ∷ 32000 ∷ 32000 ∷ 32000 ∷ [])
 unfolding digits
 names = refl

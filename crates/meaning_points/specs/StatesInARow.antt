@@ -52,7 +52,7 @@ source =
     ∷ [])
 
 -- what each name is
-names : name_codes (design_of gal22v10 source)
+names : name_codes (design_of gal22v10 source).context
     ≡ (48000 ∷ 32 ∷ 64 ∷ 96 ∷ 747 ∷ 715 ∷ 699 ∷ 655 ∷ 620 ∷ [])
 unfolding digits
 names = refl

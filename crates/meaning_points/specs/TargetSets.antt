@@ -54,7 +54,7 @@ source =
     ∷ [])
 
 -- what each name is
-names : name_codes (design_of gal22v10 source)
+names : name_codes (design_of gal22v10 source).context
     ≡ (48000 ∷ 64 ∷ 96 ∷ 128 ∷ 160 ∷ 192 ∷ 224 ∷ 272 ∷ 680 ∷ 648 ∷ 616 ∷ 584 ∷ 552 ∷ 520 ∷ 488 ∷ 456 ∷ [])
 unfolding digits
 names = refl

@@ -56,7 +56,7 @@ source =
     (Equations (assign (name "Y") (equal (set (span "a9" "a0" ∷ [])) (set (span "b9" "b0" ∷ []))) ∷ []) ∷ [])
 
 -- what each name is
-names : name_codes (design_of gal22v10 source)
+names : name_codes (design_of gal22v10 source).context
     ≡ (48000 ∷ 32 ∷ 64 ∷ 96 ∷ 128 ∷ 160 ∷ 192 ∷ 224 ∷ 256 ∷ 288 ∷ 320 ∷ 352 ∷ 416 ∷ 448 ∷ 480 ∷ 512 ∷ 544
     ∷ 608 ∷ 640 ∷ 672 ∷ 704 ∷ 584 ∷ [])
 unfolding digits

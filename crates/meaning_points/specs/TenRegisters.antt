@@ -68,7 +68,7 @@ source =
     (Equations (first_equations ++ last_equations) ∷ [])
 
 -- what each name is
-names : name_codes (design_of gal22v10 source)
+names : name_codes (design_of gal22v10 source).context
     ≡ (48000 ∷ 32 ∷ 64 ∷ 96 ∷ 128 ∷ 160 ∷ 192 ∷ 224 ∷ 256 ∷ 288 ∷ 320 ∷ 352 ∷ 747 ∷ 715 ∷ 683 ∷ 651 ∷ 619
     ∷ 587 ∷ 555 ∷ 523 ∷ 491 ∷ 459 ∷ [])
 unfolding digits

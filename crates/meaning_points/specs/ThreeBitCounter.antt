@@ -36,7 +36,7 @@ source =
     ∷ [])
 
 -- what each name is
-names : name_codes (design_of gal22v10 source)
+names : name_codes (design_of gal22v10 source).context
     ≡ (48000 ∷ 32 ∷ 747 ∷ 715 ∷ 683 ∷ 32000 ∷ [])
 unfolding digits
 names = refl

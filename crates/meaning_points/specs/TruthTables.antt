@@ -87,7 +87,7 @@ source =
     ∷ [])
 
 -- what each name is
-names : name_codes (design_of pal16l8 source)
+names : name_codes (design_of pal16l8 source).context
     ≡ (48000 ∷ 64 ∷ 96 ∷ 128 ∷ 160 ∷ 208 ∷ 584 ∷ 552 ∷ 520 ∷ 504 ∷ 16012 ∷ 32000 ∷ 32000 ∷ 32000 ∷ 32000 ∷ [])
 unfolding digits
 names = refl

@@ -36,7 +36,7 @@ source =
     ∷ [])
 
 -- what each name is
-names : name_codes (design_of pal16r4 source)
+names : name_codes (design_of pal16r4 source).context
     ≡ (48000 ∷ 32 ∷ 352 ∷ 553 ∷ 521 ∷ [])
 unfolding digits
 names = refl

@@ -32,7 +32,7 @@ source =
     ∷ [])
 
 -- what each name is
-names : name_codes (design_of pal16l8 source)
+names : name_codes (design_of pal16l8 source).context
     ≡ (48000 ∷ 64 ∷ 96 ∷ 616 ∷ 584 ∷ [])
 unfolding digits
 names = refl

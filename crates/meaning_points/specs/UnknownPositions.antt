@@ -73,7 +73,7 @@ source =
     ∷ [])
 
 -- what each name is
-names : name_codes (design_of gal22v10 source)
+names : name_codes (design_of gal22v10 source).context
     ≡ (48000 ∷ 64 ∷ 96 ∷ 128 ∷ 160 ∷ 192 ∷ 224 ∷ 456 ∷ 488 ∷ 520 ∷ 552 ∷ 584 ∷ 616 ∷ 648 ∷ 680 ∷ 32000
     ∷ 32000 ∷ 32000 ∷ 32000 ∷ [])
 unfolding digits

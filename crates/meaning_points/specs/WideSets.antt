@@ -21,7 +21,7 @@ use Rattle.gal22v10_device.specs.Gal22V10Table.{gal22v10}
 use Rattle.meaning_points.specs.WideSetsSource.{source}
 
 -- what each name is
-names : name_codes (design_of gal22v10 source)
+names : name_codes (design_of gal22v10 source).context
     ≡ (48000 ∷ 32 ∷ 64 ∷ 96 ∷ 128 ∷ 160 ∷ 192 ∷ 224 ∷ 256 ∷ 288 ∷ 320 ∷ 352 ∷ 744 ∷ 712 ∷ 680 ∷ 648 ∷ 16008
     ∷ 16024 ∷ 16040 ∷ 16056 ∷ 16072 ∷ 16088 ∷ 16104 ∷ 16120 ∷ 16136 ∷ 16152 ∷ 16168 ∷ 16184 ∷ 16200
     ∷ 16216 ∷ 16232 ∷ 16248 ∷ 16264 ∷ 16280 ∷ 16296 ∷ 16312 ∷ 16328 ∷ 16344 ∷ 16360 ∷ 16376 ∷ 16392
