@@ -3,19 +3,16 @@
 ghost use Rattle.std.specs.Prelude.{length};
 ghost use Rattle.bit_expr.specs.Arena.{arena};
 ghost use Rattle.set_expr.specs.Answer.{AreIn};
-ghost use Rattle.abel_tree.specs.Entries.{entries_of};
-ghost use Rattle.set_expr.specs.KnownNames.{IsKnown};
-ghost use Rattle.expr_bits.specs.Placed.{ArePlaced};
 
 use crate::places::{put_blank, put_fault, put_shape};
-use crate::sources::{Source, source_of};
+use crate::sources::source_of;
 use abel_tree::{Expr, Module, Section, Stmt};
 use bit_expr::{ExprId, Exprs};
 use expr_bits::bits;
 use pld_base::Point;
 use pld_device::Sample;
 use section_targets::meet;
-use set_expr::{Shaped, check, check_constants};
+use set_expr::{Scope, Shaped};
 use std::alloc::Global;
 use test_rows::Found;
 
@@ -41,11 +38,9 @@ fn value_of(module: &Module) -> Option<&Expr> {
 }
 
 /// The shape of an expression, or its first refusal.
-fn put_checked(alloc: Global, source: &Source, found: &mut Found) -> Option<()>
-    requires known { IsKnown (entries_of source.now.names) source.now.known }
-{
-    let expr = value_of(&source.module)?;
-    match check(alloc, &source.names, &source.known, expr) {
+fn put_checked(alloc: Global, module: &Module, scope: &Scope<'_>, found: &mut Found) -> Option<()> {
+    let expr = value_of(module)?;
+    match scope.check(alloc, expr) {
         Ok(checked) => match (checked.fault, checked.shape) {
             (None, Some(shape)) => put_shape(shape, found),
             (fault, _) => put_fault(fault, found),
@@ -56,11 +51,9 @@ fn put_checked(alloc: Global, source: &Source, found: &mut Found) -> Option<()>
 }
 
 /// The first X of an expression, as what it is refused as where it may not stand.
-fn put_special(alloc: Global, source: &Source, found: &mut Found) -> Option<()>
-    requires known { IsKnown (entries_of source.now.names) source.now.known }
-{
-    let expr = value_of(&source.module)?;
-    match check(alloc, &source.names, &source.known, expr) {
+fn put_special(alloc: Global, module: &Module, scope: &Scope<'_>, found: &mut Found) -> Option<()> {
+    let expr = value_of(module)?;
+    match scope.check(alloc, expr) {
         Ok(checked) => put_fault(checked.special, found),
         Err(_) => return None,
     }
@@ -94,13 +87,10 @@ fn unknown_at(places: &[Option<ExprId>]) -> u32 {
 }
 
 /// The shape of an expression, its number at the point, and its X positions; or its first refusal.
-fn put_value(alloc: Global, source: &Source, found: &mut Found) -> Option<()>
-    requires known { IsKnown (entries_of source.now.names) source.now.known }
-    requires placed { ArePlaced source.now.names }
-{
-    let expr = value_of(&source.module)?;
+fn put_value(alloc: Global, module: &Module, scope: &Scope<'_>, found: &mut Found) -> Option<()> {
+    let expr = value_of(module)?;
     let mut exprs = Exprs::new(alloc);
-    match bits::<Sample>(alloc, &source.names, &source.known, expr, &mut exprs) {
+    match bits::<Sample>(alloc, scope, expr, &mut exprs) {
         Ok(shaped) => {
             let number = number_at(&exprs, shaped.places.as_slice());
             let unknown = unknown_at(shaped.places.as_slice());
@@ -116,34 +106,31 @@ fn put_value(alloc: Global, source: &Source, found: &mut Found) -> Option<()>
 }
 
 /// The bits of an expression that isn't refused.
-fn shaped_of(alloc: Global, source: &Source) -> Option<Shaped>
-    requires known { IsKnown (entries_of source.now.names) source.now.known }
-    requires placed { ArePlaced source.now.names }
-{
-    let expr = value_of(&source.module)?;
+fn shaped_of(alloc: Global, module: &Module, scope: &Scope<'_>) -> Option<Shaped> {
+    let expr = value_of(module)?;
     let mut exprs = Exprs::new(alloc);
-    match bits::<Sample>(alloc, &source.names, &source.known, expr, &mut exprs) {
+    match bits::<Sample>(alloc, scope, expr, &mut exprs) {
         Ok(shaped) => Some(shaped),
         Err(_) => None,
     }
 }
 
 /// The shape of the bits of an expression. They are made and not valued, since they may share their nodes.
-fn put_width(alloc: Global, source: &Source, found: &mut Found) -> Option<()>
-    requires known { IsKnown (entries_of source.now.names) source.now.known }
-    requires placed { ArePlaced source.now.names }
-{
-    let shaped = shaped_of(alloc, source)?;
+fn put_width(alloc: Global, module: &Module, scope: &Scope<'_>, found: &mut Found) -> Option<()> {
+    let shaped = shaped_of(alloc, module, scope)?;
     put_shape(shaped.shape, found);
     Some(())
 }
 
 /// The ids of an expression in so many positions, the rightmost first.
-fn put_met(alloc: Global, source: &Source, width: usize, found: &mut Found) -> Option<()>
-    requires known { IsKnown (entries_of source.now.names) source.now.known }
-    requires placed { ArePlaced source.now.names }
-{
-    let shaped = shaped_of(alloc, source)?;
+fn put_met(
+    alloc: Global,
+    module: &Module,
+    scope: &Scope<'_>,
+    width: usize,
+    found: &mut Found,
+) -> Option<()> {
+    let shaped = shaped_of(alloc, module, scope)?;
     match meet(alloc, &shaped, width) {
         Ok(ids) => {
             for id in ids.as_slice() {
@@ -159,7 +146,8 @@ fn put_met(alloc: Global, source: &Source, width: usize, found: &mut Found) -> O
 /// The first refusal of the constants of a row.
 fn put_constants(alloc: Global, names: &Found, text: &str, found: &mut Found) -> Option<()> {
     let source = source_of::<Sample>(alloc, names, "", text, "")?;
-    put_fault(check_constants(&source.names, &source.known).err(), found);
+    let scope = Scope::new(alloc, &source.names).ok()?;
+    put_fault(scope.check_constants().err(), found);
     Some(())
 }
 
@@ -175,15 +163,17 @@ pub(crate) fn ask(
         return put_constants(alloc, names, text, found);
     }
     let source = source_of::<Sample>(alloc, names, FRONT, text, ";")?;
+    let scope = Scope::new(alloc, &source.names).ok()?;
+    let module = &source.module;
     if let Some(width) = question.strip_prefix("ids in positions, ") {
-        return put_met(alloc, &source, width.parse::<usize>().ok()?, found);
+        return put_met(alloc, module, &scope, width.parse::<usize>().ok()?, found);
     }
     match question {
-        "shapes" => put_checked(alloc, &source, found),
-        "refusals" => put_checked(alloc, &source, found),
-        "sums that double" => put_checked(alloc, &source, found),
-        "first X" => put_special(alloc, &source, found),
-        "widths of bits" => put_width(alloc, &source, found),
-        _ => put_value(alloc, &source, found),
+        "shapes" => put_checked(alloc, module, &scope, found),
+        "refusals" => put_checked(alloc, module, &scope, found),
+        "sums that double" => put_checked(alloc, module, &scope, found),
+        "first X" => put_special(alloc, module, &scope, found),
+        "widths of bits" => put_width(alloc, module, &scope, found),
+        _ => put_value(alloc, module, &scope, found),
     }
 }

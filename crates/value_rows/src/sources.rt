@@ -2,15 +2,12 @@
 
 ghost use Rattle.std.specs.Prelude.{IfSome};
 ghost use Rattle.abel_tree.specs.Entries.{entries_of};
-ghost use Rattle.expr_bits.specs.Placed.{ArePlaced};
-ghost use Rattle.row_entries.specs.EntryTerms.{AreInOrder};
-ghost use Rattle.set_expr.specs.KnownNames.{IsKnown};
+ghost use Rattle.set_expr.specs.Scopes.{AreInOrder, ArePlaced};
 
 use abel_tree::{Module, Names};
 use declared_names::{are_numbered, declare, numbered_names};
 use module_reader::read_module;
 use pld_device::Device;
-use set_expr::{KnownNames, known_names};
 use std::alloc::Global;
 use test_rows::Found;
 
@@ -20,12 +17,11 @@ pub(crate) const ROW: u32 = 4;
 /// More bytes than any source of a row has.
 const LONGEST: usize = 100_000;
 
-/// A module with its names, and what is known of them.
+/// A module with its names.
 #[derive(Drop)]
 pub(crate) struct Source {
     pub(crate) module: Module,
     pub(crate) names: Names,
-    pub(crate) known: KnownNames,
 }
 
 /// The module that declares these names, and goes on with the row's text between two others.
@@ -72,19 +68,10 @@ pub(crate) fn source_of<D: Device>(
     text: &str,
     back: &str,
 ) -> Option<Source>
-    ensures known { IfSome result (λ s. IsKnown (entries_of s.names) s.known) }
     ensures order { IfSome result (λ s. AreInOrder (entries_of s.names)) }
     ensures placed { IfSome result (λ s. ArePlaced s.names) }
 {
     let module = module_of(alloc, names, front, text, back)?;
     let names = names_of::<D>(alloc, &module)?;
-    let known = match known_names(alloc, &names) {
-        Ok(known) => known,
-        Err(_) => return None,
-    };
-    Some(Source {
-        module,
-        names,
-        known,
-    })
+    Some(Source { module, names })
 }

@@ -1,17 +1,13 @@
 //! Statements: their first refusals, and what they contribute.
 
-ghost use Rattle.abel_tree.specs.Entries.{entries_of};
-ghost use Rattle.set_expr.specs.KnownNames.{IsKnown};
-ghost use Rattle.expr_bits.specs.Placed.{ArePlaced};
-
 use crate::places::{put_blank, put_fault, put_place};
-use crate::sources::{Source, source_of};
+use crate::sources::source_of;
 use abel_tree::{Module, Section, Stmt};
 use bit_expr::{ExprId, Exprs};
 use equations::{check_statements, statements};
 use pld_device::Sample;
 use section_targets::{Assigned, target_names};
-use set_expr::{Contribution, Guard};
+use set_expr::{Contribution, Guard, Scope};
 use std::alloc::Global;
 use test_rows::Found;
 
@@ -31,15 +27,12 @@ fn statements_of(module: &Module) -> Option<&[Stmt]> {
 }
 
 /// The first refusal of the statements.
-fn put_refusal(alloc: Global, source: &Source, found: &mut Found) -> Option<()>
-    requires known { IsKnown (entries_of source.now.names) source.now.known }
-{
-    let (names, known) = (&source.names, &source.known);
-    let list = statements_of(&source.module)?;
-    let named = target_names(alloc, names, known).ok()?;
+fn put_refusal(alloc: Global, module: &Module, scope: &Scope<'_>, found: &mut Found) -> Option<()> {
+    let list = statements_of(module)?;
+    let named = target_names(alloc, scope).ok()?;
     let mut before = Assigned::new(alloc);
     let named = named.as_slice();
-    match check_statements::<Sample>(alloc, names, known, named, list, &mut before) {
+    match check_statements::<Sample>(alloc, scope, named, list, &mut before) {
         Ok(fault) => put_fault(fault, found),
         Err(_) => return None,
     }
@@ -74,19 +67,13 @@ fn put_both(list: &[Contribution], found: &mut Found) -> Option<()> {
 }
 
 /// What two contributions of the statements are.
-fn put_given(alloc: Global, source: &Source, found: &mut Found) -> Option<()>
-    requires known { IsKnown (entries_of source.now.names) source.now.known }
-    requires placed { ArePlaced source.now.names }
-{
-    let (names, known) = (&source.names, &source.known);
-    let stmts = statements_of(&source.module)?;
-    let named = target_names(alloc, names, known).ok()?;
+fn put_given(alloc: Global, module: &Module, scope: &Scope<'_>, found: &mut Found) -> Option<()> {
+    let stmts = statements_of(module)?;
+    let named = target_names(alloc, scope).ok()?;
     let mut exprs = Exprs::new(alloc);
     let mut list = Vec::new(alloc);
     let named = named.as_slice();
-    match statements::<Sample>(
-        alloc, names, known, named, ALWAYS, stmts, &mut exprs, &mut list,
-    ) {
+    match statements::<Sample>(alloc, scope, named, ALWAYS, stmts, &mut exprs, &mut list) {
         Ok(()) => put_both(list.as_slice(), found),
         Err(_) => None,
     }
@@ -101,8 +88,10 @@ pub(crate) fn ask(
     found: &mut Found,
 ) -> Option<()> {
     let source = source_of::<Sample>(alloc, names, "equations", text, "")?;
+    let scope = Scope::new(alloc, &source.names).ok()?;
+    let module = &source.module;
     match question {
-        "refusals" => put_refusal(alloc, &source, found),
-        _ => put_given(alloc, &source, found),
+        "refusals" => put_refusal(alloc, module, &scope, found),
+        _ => put_given(alloc, module, &scope, found),
     }
 }

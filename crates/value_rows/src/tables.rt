@@ -1,17 +1,12 @@
 //! Truth tables: their first refusals, and what they contribute.
 
-ghost use Rattle.abel_tree.specs.Entries.{entries_of};
-ghost use Rattle.set_expr.specs.KnownNames.{IsKnown};
-ghost use Rattle.row_entries.specs.EntryTerms.{AreInOrder};
-ghost use Rattle.expr_bits.specs.Placed.{ArePlaced};
-
 use crate::places::{put_blank, put_fault, put_place};
-use crate::sources::{Source, source_of};
+use crate::sources::source_of;
 use abel_tree::{Module, Section, Table};
 use bit_expr::{ExprId, Exprs};
 use pal16_device::Pal16L8;
 use section_targets::Assigned;
-use set_expr::{Contribution, Gives, Guard};
+use set_expr::{Contribution, Gives, Guard, Scope};
 use std::alloc::Global;
 use table_contributions::build_table;
 use table_refusals::check_table;
@@ -33,13 +28,10 @@ fn table_of(module: &Module) -> Option<&Table> {
 }
 
 /// The first refusal of the table.
-fn put_refusal(alloc: Global, source: &Source, found: &mut Found) -> Option<()>
-    requires known { IsKnown (entries_of source.now.names) source.now.known }
-    requires order { AreInOrder (entries_of source.now.names) }
-{
-    let table = table_of(&source.module)?;
+fn put_refusal(alloc: Global, module: &Module, scope: &Scope<'_>, found: &mut Found) -> Option<()> {
+    let table = table_of(module)?;
     let mut before = Assigned::new(alloc);
-    match check_table::<Pal16L8>(alloc, &source.names, &source.known, table, &mut before) {
+    match check_table::<Pal16L8>(alloc, scope, table, &mut before) {
         Ok(fault) => put_fault(fault, found),
         Err(_) => return None,
     }
@@ -62,20 +54,14 @@ fn put_contribution(given: &Contribution, found: &mut Found) {
 }
 
 /// What the table contributes.
-fn put_given(alloc: Global, source: &Source, found: &mut Found) -> Option<()>
-    requires known { IsKnown (entries_of source.now.names) source.now.known }
-    requires order { AreInOrder (entries_of source.now.names) }
-    requires placed { ArePlaced source.now.names }
-{
-    let (names, known) = (&source.names, &source.known);
-    let table = table_of(&source.module)?;
+fn put_given(alloc: Global, module: &Module, scope: &Scope<'_>, found: &mut Found) -> Option<()> {
+    let table = table_of(module)?;
     let mut exprs = Exprs::new(alloc);
     let mut list: Vec<Contribution> = Vec::new(alloc);
     let mut before = Assigned::new(alloc);
     match build_table::<Pal16L8>(
         alloc,
-        names,
-        known,
+        scope,
         FIRST,
         table,
         &mut before,
@@ -101,8 +87,10 @@ pub(crate) fn ask(
     found: &mut Found,
 ) -> Option<()> {
     let source = source_of::<Pal16L8>(alloc, names, "", text, "")?;
+    let scope = Scope::new(alloc, &source.names).ok()?;
+    let module = &source.module;
     match question {
-        "refusals" => put_refusal(alloc, &source, found),
-        _ => put_given(alloc, &source, found),
+        "refusals" => put_refusal(alloc, module, &scope, found),
+        _ => put_given(alloc, module, &scope, found),
     }
 }

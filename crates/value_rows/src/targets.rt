@@ -5,13 +5,12 @@ ghost use Rattle.abel_tree.specs.Entries.{entries_of};
 
 use crate::places::{put_blank, put_fault, put_place};
 use crate::sources::{ROW, Source, source_of};
-use abel_tree::Names;
 use bit_expr::{Exprs, Leaf, Node};
 use guarded_values::{Giving, give};
 use pld_base::Place;
 use pld_device::Sample;
 use section_targets::{Aim, Assigned, add_node, check_aims};
-use set_expr::{Contribution, Gives, Guard};
+use set_expr::{Contribution, Gives, Guard, Scope};
 use std::alloc::Global;
 use test_rows::Found;
 
@@ -38,10 +37,10 @@ const THIRD: Aim = Aim {
     },
 };
 
-fn are_three(names: &Names) -> bool
-    ensures { result ≡ true → 2 < length (entries_of names.now) }
+fn are_three(scope: &Scope<'_>) -> bool
+    ensures { result ≡ true → 2 < length (entries_of scope.now) }
 {
-    names.list.as_slice().len() > 2
+    scope.list().len() > 2
 }
 
 fn giving(guard: Guard) -> Giving
@@ -71,7 +70,7 @@ fn put_contribution(list: &[Contribution], found: &mut Found) {
 }
 
 /// What the third name is given where pin 2 is 1, under the guard that it is, in the block 4.
-fn put_given(alloc: Global, names: &Names, found: &mut Found) -> Option<()> {
+fn put_given(alloc: Global, scope: &Scope<'_>, found: &mut Found) -> Option<()> {
     let mut exprs = Exprs::new(alloc);
     let Ok(bit) = add_node(&mut exprs, Node::Leaf(Leaf::Pin(2)), UNIT) else {
         return None;
@@ -81,11 +80,11 @@ fn put_given(alloc: Global, names: &Names, found: &mut Found) -> Option<()> {
         dontcare: false,
         block: Some(4),
     };
-    if !are_three(names) {
+    if !are_three(scope) {
         return None;
     }
     let mut list: Vec<Contribution> = Vec::new(alloc);
-    match give(names, giving(guard), THIRD, bit, &mut exprs, &mut list) {
+    match give(scope, giving(guard), THIRD, bit, &mut exprs, &mut list) {
         Ok(()) => put_contribution(list.as_slice(), found),
         Err(_) => return None,
     }
@@ -94,18 +93,18 @@ fn put_given(alloc: Global, names: &Names, found: &mut Found) -> Option<()> {
 
 /// What is refused of the second name as data, or of its complement, on the clock or not.
 fn put_data(
-    names: &Names,
+    scope: &Scope<'_>,
     complement: bool,
     clocked: bool,
     before: &mut Assigned,
     found: &mut Found,
 ) -> Option<()> {
-    if !are_three(names) {
+    if !are_three(scope) {
         return None;
     }
     let aims = [SECOND];
     put_blank(found);
-    match check_aims::<Sample>(names, None, complement, clocked, &aims, before) {
+    match check_aims::<Sample>(scope, None, complement, clocked, &aims, before) {
         Ok(fault) => put_fault(fault, found),
         Err(_) => return None,
     }
@@ -116,7 +115,7 @@ fn put_data(
 /// What is refused of the second name, and then of it or its complement, on the clock or not.
 fn put_refused(
     alloc: Global,
-    names: &Names,
+    scope: &Scope<'_>,
     complement: bool,
     clocked: bool,
     found: &mut Found,
@@ -124,21 +123,18 @@ fn put_refused(
     let Ok(mut before) = Assigned::by(alloc, &[]) else {
         return None;
     };
-    put_data(names, false, false, &mut before, found)?;
-    put_data(names, complement, clocked, &mut before, found)
+    put_data(scope, false, false, &mut before, found)?;
+    put_data(scope, complement, clocked, &mut before, found)
 }
 
 /// Puts what comes of a case.
 pub(crate) fn ask(alloc: Global, names: &Found, text: &str, found: &mut Found) -> Option<()> {
-    let Source {
-        module: _,
-        names,
-        known: _,
-    } = source_of::<Sample>(alloc, names, "", "", "")?;
+    let Source { module: _, names } = source_of::<Sample>(alloc, names, "", "", "")?;
+    let scope = Scope::new(alloc, &names).ok()?;
     match text {
-        "an and with the guard" => put_given(alloc, &names, found),
-        "the name and its complement" => put_refused(alloc, &names, true, false, found),
-        "the name, then on the clock" => put_refused(alloc, &names, false, true, found),
+        "an and with the guard" => put_given(alloc, &scope, found),
+        "the name and its complement" => put_refused(alloc, &scope, true, false, found),
+        "the name, then on the clock" => put_refused(alloc, &scope, false, true, found),
         _ => None,
     }
 }

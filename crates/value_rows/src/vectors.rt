@@ -1,17 +1,13 @@
 //! Test vectors: their characters, and their refusals; headers and entries by themselves.
 
-ghost use Rattle.abel_tree.specs.Entries.{entries_of};
-ghost use Rattle.set_expr.specs.KnownNames.{IsKnown};
-ghost use Rattle.row_entries.specs.EntryTerms.{AreInOrder};
-
 use crate::places::{put_blank, put_fault};
-use crate::sources::{ROW, Source, source_of};
+use crate::sources::{ROW, source_of};
 use abel_tree::{Expr, Module, Section, Vectors};
 use abel_vectors::{Side, read_side, vectors};
 use pld_base::Place;
 use pld_device::Sample;
 use row_entries::{Entry, Mark, read_entry};
-use set_expr::SectionFault;
+use set_expr::{Scope, SectionFault};
 use std::alloc::Global;
 use test_rows::Found;
 
@@ -22,18 +18,20 @@ const HERE: Place = Place {
 };
 
 /// The characters of the vectors of the one section, behind so many, or its first refusal.
-fn put_chars(alloc: Global, source: &Source, before: u32, found: &mut Found) -> Option<()>
-    requires known { IsKnown (entries_of source.now.names) source.now.known }
-    requires order { AreInOrder (entries_of source.now.names) }
-{
-    let (names, known) = (&source.names, &source.known);
-    let [section] = source.module.sections.as_slice() else {
+fn put_chars(
+    alloc: Global,
+    module: &Module,
+    scope: &Scope<'_>,
+    before: u32,
+    found: &mut Found,
+) -> Option<()> {
+    let [section] = module.sections.as_slice() else {
         return None;
     };
     if before > 9999 {
         return None;
     }
-    match vectors::<Sample>(alloc, names, known, section, before) {
+    match vectors::<Sample>(alloc, scope, section, before) {
         Ok(list) => {
             for vector in list.as_slice() {
                 put_blank(found);
@@ -65,12 +63,9 @@ fn put_pins(pins: &[Option<u32>], found: &mut Found) {
 }
 
 /// The inputs of the header, or their refusal.
-fn put_side(alloc: Global, source: &Source, found: &mut Found) -> Option<()>
-    requires known { IsKnown (entries_of source.now.names) source.now.known }
-    requires order { AreInOrder (entries_of source.now.names) }
-{
-    let header = &vectors_of(&source.module)?.inputs;
-    match read_side(alloc, &source.names, &source.known, HERE, header) {
+fn put_side(alloc: Global, module: &Module, scope: &Scope<'_>, found: &mut Found) -> Option<()> {
+    let header = &vectors_of(module)?.inputs;
+    match read_side(alloc, scope, HERE, header) {
         Ok(Side::Pins(pins)) => put_pins(pins.as_slice(), found),
         Ok(Side::Refused(fault)) => put_fault(Some(fault), found),
         Err(_) => return None,
@@ -97,13 +92,10 @@ fn entry_of(vectors: &Vectors) -> Option<(&Expr, &Expr)> {
 }
 
 /// What the entry of the one row says of each position of the header, or its refusal.
-fn put_entry(alloc: Global, source: &Source, found: &mut Found) -> Option<()>
-    requires known { IsKnown (entries_of source.now.names) source.now.known }
-    requires order { AreInOrder (entries_of source.now.names) }
-{
-    let (header, entry) = entry_of(vectors_of(&source.module)?)?;
+fn put_entry(alloc: Global, module: &Module, scope: &Scope<'_>, found: &mut Found) -> Option<()> {
+    let (header, entry) = entry_of(vectors_of(module)?)?;
     let row = SectionFault::BadRow(HERE);
-    match read_entry(alloc, &source.names, &source.known, row, header, entry) {
+    match read_entry(alloc, scope, row, header, entry) {
         Ok(Entry::Marks(marks)) => {
             for mark in marks.as_slice() {
                 put_blank(found);
@@ -135,12 +127,14 @@ pub(crate) fn ask(
 ) -> Option<()> {
     let (front, back) = around(question);
     let source = source_of::<Sample>(alloc, names, front, text, back)?;
+    let scope = Scope::new(alloc, &source.names).ok()?;
+    let module = &source.module;
     if let Some(count) = question.strip_prefix("behind ") {
-        return put_chars(alloc, &source, count.parse::<u32>().ok()?, found);
+        return put_chars(alloc, module, &scope, count.parse::<u32>().ok()?, found);
     }
     match question {
-        "entries" => put_entry(alloc, &source, found),
-        "headers" => put_side(alloc, &source, found),
-        _ => put_chars(alloc, &source, 0, found),
+        "entries" => put_entry(alloc, module, &scope, found),
+        "headers" => put_side(alloc, module, &scope, found),
+        _ => put_chars(alloc, module, &scope, 0, found),
     }
 }

@@ -9,4 +9,4 @@ use Rattle.value_rows.proofs.expressions.put_value.Goals as goal
 pub number_at-number-requires : goal.number_at-number-requires
 number_at-number-requires c =
     subst (AreIn (length (arena c.bits.new.exprs))) (sym c.as_slice.ensures)
-    (c.in-Ok.ensures.answer (plain_design sample c.args.source.now.names) (is_plain sample c.args.source.now.names)).shaped.inside
+    (c.in-Ok.ensures.answer (plain_design sample c.args.scope.now) (is_plain sample c.args.scope.now)).shaped.inside
