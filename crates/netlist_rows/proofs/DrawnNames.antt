@@ -20,14 +20,14 @@ module _ (t : Table) (s : Drawn) (is : IsDrawn t s) where
   abbrev d : Design
   d = design_of t (view_module s.module)
 
-  signal_inside : (v : ℕ) → IsSignalOf d v → v < length d.names
-  signal_inside v signal = inside d v (λ device. true≢false (sym signal ∙ ap is_signal device))
+  signal_inside : (v : ℕ) → IsSignalOf d.context v → v < length d.context.names
+  signal_inside v signal = inside d.context v (λ device. true≢false (sym signal ∙ ap is_signal device))
 
-  each_inside : (cs : List Contribution) → EachSignal (IsSignalOf d) (map (view_contribution (arena s.contributions.exprs)) cs) → AreToNames (length d.names) cs
-  each_inside [] each = All-nil (λ (c : Contribution). c.target.signal < length d.names)
-  each_inside (c ∷ cs) each = All-cons (λ (c : Contribution). c.target.signal < length d.names) c cs (signal_inside c.target.signal each.0) (each_inside cs each.1)
+  each_inside : (cs : List Contribution) → EachSignal (IsSignalOf d.context) (map (view_contribution (arena s.contributions.exprs)) cs) → AreToNames (length d.context.names) cs
+  each_inside [] each = All-nil (λ (c : Contribution). c.target.signal < length d.context.names)
+  each_inside (c ∷ cs) each = All-cons (λ (c : Contribution). c.target.signal < length d.context.names) c cs (signal_inside c.target.signal each.0) (each_inside cs each.1)
 
   pub drawn_to_names : AreToNames (length (entries_of s.names)) s.contributions.list
   drawn_to_names =
       subst (λ xs. AreToNames (length xs) s.contributions.list) (sym is.names)
-      (each_inside s.contributions.list (subst (EachSignal (IsSignalOf d)) (sym is.gives) (given_signals d is.accepted.names.known is.accepted.headers)))
+      (each_inside s.contributions.list (subst (EachSignal (IsSignalOf d.context)) (sym is.gives) (given_signals d is.accepted.names.known is.accepted.headers)))

@@ -3,6 +3,7 @@ use Rattle.std.specs.Prelude.{◌≡◌, length}
 use Rattle.pld_device.specs.Table.{Table}
 use Rattle.bit_expr.specs.Arena.{arena}
 use Rattle.abel_tree.specs.Entries.{entries_of}
+use Rattle.abel_tree.specs.SoundNames.{SoundNames}
 use Rattle.abel_tree.specs.View.{view_module}
 use Rattle.accepted_designs.specs.Accepted.{IsAccepted}
 use Rattle.abel_meaning.specs.Designs.{design_of}
@@ -12,8 +13,9 @@ use Rattle.set_expr.specs.Given.{given}
 use Rattle.signal_sums.specs.Parts.{AllLieIn}
 use Rattle.netlist_rows.specs.declared.drawing.Drawn.{Drawn}
 
--- its names are those of its module, which is accepted, and its contributions those of the module's sections
+-- its names are sound and those of its module, which is accepted, and its contributions those of the module's sections
 pub record IsDrawn (t : Table) (d : Drawn) : Type 0 where
+  pub sound : SoundNames t.name t.pins d.names
   pub names : entries_of d.names ≡ names_of t (view_module d.module)
   pub accepted : IsAccepted (design_of t (view_module d.module))
   pub gives : given d.contributions ≡ given_formulas (design_of t (view_module d.module))

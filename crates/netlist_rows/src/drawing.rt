@@ -19,7 +19,7 @@ use design::gather;
 use named_designs::names_are_accepted;
 use pld_base::Vector;
 use pld_device::Device;
-use set_expr::{Contributions, known_names};
+use set_expr::{Contributions, Scope};
 use source_vectors::{SourceSections, all_sections};
 use std::alloc::Global;
 
@@ -54,8 +54,8 @@ fn sections_of<D: Device>(alloc: Global, source: &Module, names: &Names) -> Opti
     ensures found { IfSome result (AreSections (design_of D.table (view_module source.now))) }
     ensures few { IfSome result (λ found. length found.vectors.items ≤ 9999) }
 {
-    let known = known_names(alloc, names).ok()?;
-    match all_sections::<D>(alloc, names, &known, source) {
+    let scope = Scope::new(alloc, names).ok()?;
+    match all_sections::<D>(alloc, &scope, source) {
         Ok(found) => Some(found),
         Err(_) => None,
     }
@@ -105,7 +105,8 @@ pub(crate) fn gathered<D: Device>(alloc: Global, drawn: Drawn) -> Option<(Module
         contributions,
         vectors,
     } = drawn;
-    match gather::<D>(alloc, &module, &names, contributions) {
+    let scope = Scope::new(alloc, &names).ok()?;
+    match gather::<D>(alloc, &module, &scope, contributions) {
         Ok(net) => Some((ModuleNet { module, net }, vectors)),
         Err(_) => None,
     }

@@ -14,6 +14,7 @@ use design_refusals::{
     SignalFault, dont_care_control, missing_control, registered_node, wrong_kind,
 };
 use pld_device::Sample;
+use set_expr::Scope;
 use std::alloc::Global;
 use test_rows::Found;
 use use_refusals::{RefusedUse, missing_use, unread_use};
@@ -109,7 +110,8 @@ pub(crate) fn put_levels(
 fn check(alloc: Global, drawn: &Drawn) -> Result<(), DesignFault>
     requires { IsDrawn sample drawn.now }
 {
-    check_signals::<Sample>(alloc, &drawn.module, &drawn.names, &drawn.contributions)
+    let scope = Scope::new(alloc, &drawn.names)?;
+    check_signals::<Sample>(alloc, &drawn.module, &scope, &drawn.contributions)
 }
 
 /// The first refusal of the signals of equations.

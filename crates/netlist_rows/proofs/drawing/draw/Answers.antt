@@ -9,6 +9,7 @@ returns-clause-drawn g c =
     let accepted = c.names_are_accepted.ensures g.D.Device.table m c.in_ok-names.names names.entries names.sound names.apart names.buffers in
     let found = c.in_ok-contributions.ensures.found.contributed in
     record {
+      sound = names.sound;
       names = names.entries;
       accepted = c.sound_modules_are_accepted.ensures g.D.Device.table m (record { pins = accepted.pins; nodes = accepted.nodes; buffers = accepted.buffers }) found.accepted;
       gives = found.gives;

@@ -1,6 +1,21 @@
+-- What a scope asks for, and names of which the contributions are.
+use Rattle.std.proofs.Common.{length, sym, subst, arith}
 use Rattle.pld_device.specs.SampleTable.{sample}
+use Rattle.abel_tree.specs.declared.names.Names.{Names}
+use Rattle.abel_tree.specs.Entries.{entries_of}
+use Rattle.row_entries.proofs.NamesInOrder.{sound_in_order}
+use Rattle.design_refusals.specs.Refused.{AreToNames}
 use Rattle.netlist_rows.proofs.DrawnNames.{drawn_to_names}
+use Rattle.netlist_rows.proofs.PlacedNames.{sound_placed}
 use Rattle.netlist_rows.proofs.refusals.check.Goals as goal
 
+pub new-requires-clause-placed : goal.new-requires-clause-placed
+new-requires-clause-placed c = sound_placed sample.name sample.pins c.args.drawn.now.names (omega arith) c.requires.sound
+
+pub new-requires-clause-order : goal.new-requires-clause-order
+new-requires-clause-order c = sound_in_order sample.name sample.pins c.args.drawn.now.names c.requires.sound
+
 pub check_signals-requires-clause-names : goal.check_signals-requires-clause-names
-check_signals-requires-clause-names c = drawn_to_names sample c.args.drawn.now c.requires
+check_signals-requires-clause-names c =
+    subst (λ (n : Names). AreToNames (length (entries_of n)) c.args.drawn.now.contributions.list) (sym c.in_ok-scope.ensures)
+    (drawn_to_names sample c.args.drawn.now c.requires)
