@@ -7,14 +7,14 @@ use Rattle.std.proofs.lemmas.List.FromFn.{length-range_with_len}
 use Rattle.pld_device.specs.Laws.{IsDevice}
 use Rattle.pld_device.specs.Table.{Table}
 use Rattle.abel_tree.specs.Tree.{ModuleTree, SectionTree, RowTree, Declarations, Equations, ATable, ADiagram, SomeVectors, DontCareSection}
-use Rattle.abel_meaning.specs.Designs.{Design, design_of}
+use Rattle.abel_meaning.specs.Designs.{Context, design_of}
 use Rattle.abel_meaning.specs.Terms.{Term, term_of}
 use Rattle.abel_meaning.specs.Vectors.{pin_char, row_chars, section_vectors, sections_vectors, source_vectors}
 
 abbrev pub IsNarrow : List ℕ → Type 0
 IsNarrow chars = length chars ≤ 31
 
-module _ (d : Design) (few : d.device.pins ≤ 31) where
+module _ (d : Context) (few : d.device.pins ≤ 31) where
   row_narrow : (inputs outputs : Term) (row : RowTree) → IsNarrow (row_chars d inputs outputs row)
   row_narrow inputs outputs row =
       omega (arith, few, length-map (range_with_len 1 d.device.pins) (pin_char d inputs outputs row), length-range_with_len 1 d.device.pins)
@@ -34,4 +34,4 @@ module _ (d : Design) (few : d.device.pins ≤ 31) where
   sections_narrow (s ∷ ss) = All-append IsNarrow (section_vectors d s) (sections_vectors d ss) (section_narrow s) (sections_narrow ss)
 
 pub vectors_narrow : (t : Table) → IsDevice t → (m : ModuleTree) → All IsNarrow (source_vectors t m)
-vectors_narrow t laws m = let few = laws.sizes.pins_high in sections_narrow (design_of t m) (omega (arith, few)) (design_of t m).sections
+vectors_narrow t laws m = let few = laws.sizes.pins_high in sections_narrow (design_of t m).context (omega (arith, few)) (design_of t m).sections

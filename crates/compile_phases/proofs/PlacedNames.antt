@@ -4,7 +4,7 @@ use Rattle.pld_base.specs.declared.device_name.DeviceName.{DeviceName}
 use Rattle.abel_tree.specs.declared.names.Names.{Names}
 use Rattle.abel_tree.specs.Entries.{Kind, APin, ANode, AConstant, ADeviceName, Entry}
 use Rattle.abel_tree.specs.SoundNames.{IsSoundKind, SoundNames}
-use Rattle.expr_bits.specs.Placed.{IsPlacedKind, ArePlaced}
+use Rattle.set_expr.specs.Scopes.{IsPlacedKind, ArePlaced}
 
 placed_kind : (pins : ℕ) (es : List Entry) (x : Kind) → pins ≤ 24 → IsSoundKind pins es x → IsPlacedKind x
 placed_kind pins es (APin p negated) few sound = omega (arith, few, sound.1)

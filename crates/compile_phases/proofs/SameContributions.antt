@@ -92,38 +92,38 @@ no_first rs p s none first = let gone : IsFirst [] p s = subst (λ (ys : List Re
 
 module _ (d : Design) (fs gs : List Formula) (cs ds : List Contribution)
     (given : map (view_contribution fs) cs ≡ map (view_contribution gs) ds) (places : places_of cs ≡ places_of ds) where
-  refused_same : (r : Rule) → all_refused d.device d.names r cs ≡ all_refused d.device d.names r ds
+  refused_same : (r : Rule) → all_refused d.context.device d.context.names r cs ≡ all_refused d.context.device d.context.names r ds
   refused_same r =
-      all_is d.device d.names r fs cs
-      ∙ ap (λ (vs : List (meant.Contribution Formula)). all_seen d.device d.names r vs (places_of cs)) given
-      ∙ ap (all_seen d.device d.names r (map (view_contribution gs) ds)) places
-      ∙ sym (all_is d.device d.names r gs ds)
+      all_is d.context.device d.context.names r fs cs
+      ∙ ap (λ (vs : List (meant.Contribution Formula)). all_seen d.context.device d.context.names r vs (places_of cs)) given
+      ∙ ap (all_seen d.context.device d.context.names r (map (view_contribution gs) ds)) places
+      ∙ sym (all_is d.context.device d.context.names r gs ds)
 
-  levels_same : other_levels d.device fs d.names cs ≡ other_levels d.device gs d.names ds
+  levels_same : other_levels d.context.device fs d.context.names cs ≡ other_levels d.context.device gs d.context.names ds
   levels_same =
-      levels_are d.device d.names fs cs
-      ∙ ap (λ (vs : List (meant.Contribution Formula)). levels_seen d.device d.names vs (places_of cs)) given
-      ∙ ap (levels_seen d.device d.names (map (view_contribution gs) ds)) places
-      ∙ sym (levels_are d.device d.names gs ds)
+      levels_are d.context.device d.context.names fs cs
+      ∙ ap (λ (vs : List (meant.Contribution Formula)). levels_seen d.context.device d.context.names vs (places_of cs)) given
+      ∙ ap (levels_seen d.context.device d.context.names (map (view_contribution gs) ds)) places
+      ∙ sym (levels_are d.context.device d.context.names gs ds)
 
-  kinds_same : wrong_kinds d.device d.names ds ≡ wrong_kinds d.device d.names cs
+  kinds_same : wrong_kinds d.context.device d.context.names ds ≡ wrong_kinds d.context.device d.context.names cs
   kinds_same = ap (λ (ys : List SignalFault). map plain ys) (sym (refused_same rule.Kinds))
 
-  any_same : any_controls d.device d.names ds ≡ any_controls d.device d.names cs
+  any_same : any_controls d.context.device d.context.names ds ≡ any_controls d.context.device d.context.names cs
   any_same = ap (λ (ys : List SignalFault). map plain ys) (sym (refused_same rule.DontCares))
 
   controls_same : no_controls d gs ds ≡ no_controls d fs cs
   controls_same =
-      ap (λ (ys : List SignalFault). (map plain ys ++ other_levels d.device gs d.names ds) ++ (unwritten d ++ map told (missing_uses d))) (sym (refused_same rule.Controls))
-      ∙ ap (λ (ys : List RefusedUse). (map plain (all_refused d.device d.names rule.Controls cs) ++ ys) ++ (unwritten d ++ map told (missing_uses d))) (sym levels_same)
+      ap (λ (ys : List SignalFault). (map plain ys ++ other_levels d.context.device gs d.context.names ds) ++ (unwritten d ++ map told (missing_uses d))) (sym (refused_same rule.Controls))
+      ∙ ap (λ (ys : List RefusedUse). (map plain (all_refused d.context.device d.context.names rule.Controls cs) ++ ys) ++ (unwritten d ++ map told (missing_uses d))) (sym levels_same)
 
   -- where nothing is refused of the one, no refusal of the other holds
   pub not_refused : (f : DesignFault) → f ≢ designing.OutOfMemory → HasNoRefusal d fs cs → IsDesignRefused d gs ds f → ⊥
-  not_refused (designing.WrongKind p s) memory none h = no_first (wrong_kinds d.device d.names ds) p s (kinds_same ∙ none.signals.kinds.kinds) h
+  not_refused (designing.WrongKind p s) memory none h = no_first (wrong_kinds d.context.device d.context.names ds) p s (kinds_same ∙ none.signals.kinds.kinds) h
   not_refused (designing.RegisteredNode p s) memory none h = no_first _ p s none.signals.kinds.nodes h.1
   not_refused (designing.NoSuchControl p s) memory none h = no_first (no_controls d gs ds) p s (controls_same ∙ none.signals.uses.controls.controls) h.1
   not_refused (designing.DontCareControl p s) memory none h =
-      no_first (any_controls d.device d.names ds) p s (any_same ∙ none.signals.uses.controls.any) h.2
+      no_first (any_controls d.context.device d.context.names ds) p s (any_same ∙ none.signals.uses.controls.any) h.2
   not_refused (designing.NoReadPath p s) memory none h = no_first _ p s none.signals.uses.paths h.2
   not_refused (designing.Loop p chain) memory none h = none.no_loop chain h.1.loop.is_loop
   not_refused (designing.ResetReadsRegister p path) memory none h = none.no_path h.2.reset path h.2.leads

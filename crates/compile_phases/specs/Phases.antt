@@ -161,7 +161,7 @@ SectionsAreAccepted =
 -- a fuse file can say the fuses of a module's netlist, and the netlist has as many cells as the design
 pub record CanBeTold (t : Table) (m : ModuleTree) (net : Netlist) (fitted : Fitted) : Type 0 where
   pub intact : IsIntactPastLines t fitted.fuses
-  pub cells : assigned_cells t (plain_netlist net) ≡ design_cells (design_of t m)
+  pub cells : assigned_cells t (plain_netlist net) ≡ design_cells (design_of t m).context
 
 -- so it is of each fit of a module's netlist
 abbrev pub FitsCanBeTold : Type 0

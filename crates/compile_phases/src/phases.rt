@@ -35,7 +35,7 @@ use module_reader::read_module;
 use placer::place;
 use pld_base::DeviceName;
 use pld_device::Device;
-use set_expr::{Contributions, known_names};
+use set_expr::{Contributions, Scope};
 use source_vectors::{SourceSections, all_sections};
 use std::alloc::Global;
 
@@ -118,8 +118,8 @@ pub fn sections_of<D: Device>(
     ensures err { IfErr result (IsOfSource (IsSectionFault (entries_of names.now) (λ f. first_refusal section_order
         (all_sections_refused (design_of D.table (view_module source.now))) ≡ Some f))) }
 {
-    let known = known_names(alloc, names)?;
-    match all_sections::<D>(alloc, names, &known, source) {
+    let scope = Scope::new(alloc, names)?;
+    match all_sections::<D>(alloc, &scope, source) {
         Ok(found) => Ok(found),
         Err(fault) => Err(uncontributed(alloc, names, fault)),
     }
@@ -142,7 +142,8 @@ pub fn netlist_of<D: Device>(
 {
     sections_are_accepted();
     unrefused_is_takeable();
-    match gather::<D>(alloc, source, names, found) {
+    let scope = Scope::new(alloc, names)?;
+    match gather::<D>(alloc, source, &scope, found) {
         Ok(net) => Ok(net),
         Err(fault) => Err(undesigned(alloc, names, fault)),
     }

@@ -3,7 +3,17 @@ use Rattle.bit_expr.specs.Arena.{arena}
 use Rattle.abel_tree.specs.View.{view_module}
 use Rattle.abel_meaning.specs.Designs.{design_of}
 use Rattle.design.proofs.Unrefused.{unrefused}
+use Rattle.row_entries.proofs.NamesInOrder.{sound_in_order}
+use Rattle.compile_phases.proofs.PlacedNames.{sound_placed}
 use Rattle.compile_phases.proofs.phases.netlist_of.Goals as goal
+
+pub new-requires-clause-placed : goal.new-requires-clause-placed
+new-requires-clause-placed g c =
+    sound_placed g.D.Device.table.name g.D.Device.table.pins c.args.names.now g.met.D.Device.sound.sizes.pins_high c.requires.names.sound
+
+pub new-requires-clause-order : goal.new-requires-clause-order
+new-requires-clause-order g c =
+    sound_in_order g.D.Device.table.name g.D.Device.table.pins c.args.names.now c.requires.names.sound
 
 pub gather-requires-clause-accepted : goal.gather-requires-clause-accepted
 gather-requires-clause-accepted g c =
