@@ -15,7 +15,7 @@ use Rattle.abel_compile.specs.Compiling.{IsToldOf}
 use Rattle.abel_compile.specs.Statement.{fuses_and_vectors}
 
 pub told_of : (t : Table) (declared : List Entry) (m : ModuleTree) (fuses : List Bool) (name : List ℕ) (es : List Entry) (count : ℕ) (vectors : List (List ℕ)) (c : Compiled) → vectors ≡ source_vectors t m
-    → name ≡ m.name.text → es ≡ names_of t m → count ≡ design_cells (design_of t m)
+    → name ≡ m.name.text → es ≡ names_of t m → count ≡ design_cells (design_of t m).context
     → c.file.items ≡ canonical_file t name fuses vectors → file_of t c.file.items ≡ Ok (fuses_and_vectors t fuses vectors)
     → c.listing.items ≡ listing_text t fuses declared es → c.summary.items ≡ summary_of t count fuses
     → IsToldOf t declared m fuses c

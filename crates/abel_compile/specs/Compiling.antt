@@ -36,7 +36,7 @@ pub record IsToldOf (t : Table) (declared : List Entry) (m : ModuleTree) (fuses 
   pub canonical : c.file.items ≡ canonical_file t m.name.text fuses (source_vectors t m)
   pub reads_back : file_of t c.file.items ≡ Ok (fuses_and_vectors t fuses (source_vectors t m))
   pub listing : c.listing.items ≡ listing_text t fuses declared (names_of t m)
-  pub summary : c.summary.items ≡ summary_of t (design_cells (design_of t m)) fuses
+  pub summary : c.summary.items ≡ summary_of t (design_cells (design_of t m).context) fuses
 
 -- the placed module is compiled, whose names are so declared
 pub record IsCompiledFor (t : Table) (declared : List Entry) (m : ModuleTree) (c : Compiled) : Type 0 where

@@ -34,9 +34,9 @@ use Rattle.compile_phases.specs.SourceRefusals.{IsAcceptedFor}
 pub record AreFusesOf (t : Table) (m : ModuleTree) (fuses : List Bool) : Type 0 where
   pub no_loop : HasNoLoop (length t.cells) (cell_reads t fuses)
   pub no_path : HasNoResetPath t fuses
-  pub rows : (c : ℕ) → c < length t.cells → IsAssignedCell (design_of t m) c → HasPrimeRows t m fuses c
-  pub order : (c : ℕ) → c < length t.cells → IsAssignedCell (design_of t m) c → AreRowsInOrder t fuses c
-  pub spare : (c : ℕ) → c < length t.cells → IsUnassignedCell (design_of t m) c → IsSpareCell t fuses c
+  pub rows : (c : ℕ) → c < length t.cells → IsAssignedCell (design_of t m).context c → HasPrimeRows t m fuses c
+  pub order : (c : ℕ) → c < length t.cells → IsAssignedCell (design_of t m).context c → AreRowsInOrder t fuses c
+  pub spare : (c : ℕ) → c < length t.cells → IsUnassignedCell (design_of t m).context c → IsSpareCell t fuses c
   pub controls : HasControlRows t m fuses
   pub vectors : DisagreeAlike (device_logic t fuses) (source_logic_under t m (is_inverted t fuses)) (source_vectors t m)
 
@@ -49,4 +49,4 @@ pub record IsCompiled (text : List ℕ) (c : Compiled) : Type 0 where
   pub takeable : IsTakeable (design_of (table_of c.device) right.placed)
   pub fuses : AreFusesOf (table_of c.device) right.placed right.fuses
   pub listing : c.listing.items ≡ listing_text (table_of c.device) right.fuses (names_of (table_of c.device) right.source) (names_of (table_of c.device) right.placed)
-  pub summary : c.summary.items ≡ summary_of (table_of c.device) (design_cells (design_of (table_of c.device) right.placed)) right.fuses
+  pub summary : c.summary.items ≡ summary_of (table_of c.device) (design_cells (design_of (table_of c.device) right.placed).context) right.fuses
