@@ -8,7 +8,7 @@ use Rattle.abel_tree.specs.declared.words.Extension.{Extension}
 use Rattle.abel_tree.specs.declared.words.Sign.TheVariants as sign
 use Rattle.abel_tree.specs.Tree.{Tree, AName, Statement, AnAssign, statements_of}
 use Rattle.abel_meaning.specs.Contributions.{Contribution, Guard, One}
-use Rattle.abel_meaning.specs.Designs.{Design}
+use Rattle.abel_meaning.specs.Designs.{Context}
 use Rattle.abel_meaning.specs.FormulaBits.{formulas}
 use Rattle.abel_meaning.specs.Sections.{unguarded}
 use Rattle.abel_meaning.specs.Statements.{given_each, statement_gives, statements_give}
@@ -31,7 +31,7 @@ always : (f : Formula) → (make_and (Const true) f).what ≡ f
 unfolding make_and
 always f = refl
 
-module _ (d : Design) (on : Bool) (signal_of : ℕ → ℕ) (leaf_of : PinLiteral → Leaf) where
+module _ (d : Context) (on : Bool) (signal_of : ℕ → ℕ) (leaf_of : PinLiteral → Leaf) where
   abbrev guard : Guard Formula
   guard = unguarded (formulas d) on None
 

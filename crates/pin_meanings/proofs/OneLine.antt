@@ -10,7 +10,7 @@ use Rattle.bit_expr.specs.Formulas.{Formula, Const}
 use Rattle.abel_tree.specs.declared.words.Extension.{Extension}
 use Rattle.abel_meaning.specs.Contributions.{Contribution, One, Any}
 use Rattle.abel_meaning.specs.Controls.{control_by, control_of, is_control}
-use Rattle.abel_meaning.specs.Designs.{Design}
+use Rattle.abel_meaning.specs.Designs.{Context}
 use Rattle.abel_meaning.specs.FormulaBits.{formulas}
 use Rattle.abel_meaning.specs.Functions.{Function, any_of, both_function, function_of, gives_some, is_both, is_complement, is_data_in, is_data_to, is_free_elsewhere, same_gives, single_function, some_holds}
 use Rattle.pin_sources.specs.declared.literal.PinLiteral.{PinLiteral}
@@ -68,7 +68,7 @@ or_false : (b : Bool) → (b || false) ≡ b
 or_false true = refl
 or_false false = refl
 
-module _ (d : Design) (signal_of : ℕ → ℕ) (leaf_of : PinLiteral → Leaf) (ls : List SumLine) (s : ℕ) where
+module _ (d : Context) (signal_of : ℕ → ℕ) (leaf_of : PinLiteral → Leaf) (ls : List SumLine) (s : ℕ) where
   abbrev give : SumLine → Contribution Formula
   give = line_gives signal_of leaf_of
 

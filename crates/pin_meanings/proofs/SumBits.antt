@@ -9,7 +9,7 @@ use Rattle.abel_tree.specs.declared.words.Extension.{Extension}
 use Rattle.abel_tree.specs.declared.words.Unary.TheVariants as unary
 use Rattle.abel_tree.specs.declared.words.Binary.TheVariants as binary
 use Rattle.abel_tree.specs.Tree.{Tree, ABinary}
-use Rattle.abel_meaning.specs.Designs.{Design}
+use Rattle.abel_meaning.specs.Designs.{Context}
 use Rattle.abel_meaning.specs.BitWords.{Word, each_not}
 use Rattle.abel_meaning.specs.FormulaBits.{formulas, bits_of, met_word, met_by, make_source, operator_word}
 use Rattle.abel_meaning.specs.Numbers.{Shape, Number, Single, Value, one_bit, meeting, met, met_number, width_of}
@@ -22,19 +22,19 @@ use Rattle.pin_trees.specs.SourceTrees.{IsNumber, IsNamed, IsSigned, IsLiteral, 
 use Rattle.pin_meanings.specs.SumFormulas.{ReadsLeaf, literal_formula, product_formula, sum_formula, SumsHaveFormulas}
 
 -- one bit with this formula
-pub record IsBit (d : Design) (t : Term) (f : Formula) : Type 0 where
+pub record IsBit (d : Context) (t : Term) (f : Formula) : Type 0 where
   pub shape : (constant_of d t).shape ≡ Single
   pub bits : (bits_of d t).what ≡ f ∷ []
 
 -- a number, 0 or 1, with the constant
-pub record IsLevel (d : Design) (t : Term) (f : Formula) : Type 0 where
+pub record IsLevel (d : Context) (t : Term) (f : Formula) : Type 0 where
   pub level : Bool
   pub shape : (constant_of d t).shape ≡ Number
   pub number : (constant_of d t).number ≡ one_bit level
   pub bits : (bits_of d t).what ≡ []
   pub formula : f ≡ Const level
 
-abbrev IsEither : Design → Term → Formula → Type 0
+abbrev IsEither : Context → Term → Formula → Type 0
 IsEither d t f = IsBit d t f ⊎ IsLevel d t f
 
 -- ---- in one position
@@ -50,20 +50,20 @@ met_level : (v : Value) (xs : Word) (b : Bool) → v.shape ≡ Number → v.numb
 met_level v xs b s n e =
     ap (λ (x : Shape). met_by 1 x v.number xs) s ∙ ap (λ (i : ℕ). met_by 1 Number i xs) n ∙ ap (λ (ys : Word). met_by 1 Number (one_bit b) ys) e ∙ level_met b
 
-met_either : (d : Design) (t : Term) (f : Formula) → IsEither d t f → met_word 1 (constant_of d t) (bits_of d t).what ≡ f ∷ []
+met_either : (d : Context) (t : Term) (f : Formula) → IsEither d t f → met_word 1 (constant_of d t) (bits_of d t).what ≡ f ∷ []
 met_either d t f (inl b) = met_bit (constant_of d t) (bits_of d t).what f b.shape b.bits
 met_either d t f (inr l) = met_level (constant_of d t) (bits_of d t).what l.level l.shape l.number l.bits ∙ ap (λ (g : Formula). g ∷ []) (sym l.formula)
 
-pub word_is : (d : Design) (t : Term) (f : Formula) → IsEither d t f → (formulas d).word 1 t ≡ f ∷ []
+pub word_is : (d : Context) (t : Term) (f : Formula) → IsEither d t f → (formulas d).word 1 t ≡ f ∷ []
 word_is d t f e = ap reverse (met_either d t f e)
 
 -- ---- literals
 
-named_bit : (d : Design) (s : ℕ) (e : Option Extension) (leaf : Leaf) → source_of d s e ≡ Held false leaf → IsBit d (ReadTerm s e) (Read leaf)
+named_bit : (d : Context) (s : ℕ) (e : Option Extension) (leaf : Leaf) → source_of d s e ≡ Held false leaf → IsBit d (ReadTerm s e) (Read leaf)
 named_bit d s e leaf reads =
     record { shape = refl; bits = ap (λ (x : Source). (make_source x).what ∷ []) reads }
 
-complement_bit : (d : Design) (t : Term) (leaf : Leaf) → IsBit d t (Read leaf) → IsBit d (UnaryOf unary.Not t) (Not (Read leaf))
+complement_bit : (d : Context) (t : Term) (leaf : Leaf) → IsBit d t (Read leaf) → IsBit d (UnaryOf unary.Not t) (Not (Read leaf))
 unfolding make_not
 complement_bit d t leaf b = record { shape = b.shape; bits = ap (λ (xs : Word). (each_not xs).what) b.bits }
 
@@ -71,7 +71,7 @@ extended_read : (e : Option Extension) (s : ℕ) → extended_if e (ReadTerm s N
 extended_read None s = refl
 extended_read (Some e) s = refl
 
-module _ (d : Design) (leaf_of : PinLiteral → Leaf) where
+module _ (d : Context) (leaf_of : PinLiteral → Leaf) where
   abbrev meaning : Tree → Term
   meaning tree = term_of d.known tree
 
@@ -94,7 +94,7 @@ module _ (d : Design) (leaf_of : PinLiteral → Leaf) where
 -- ---- two operands
 
 -- where they meet in one bit
-and_bits : (d : Design) (t u : Term) (f g : Formula) → meeting (constant_of d t).shape (constant_of d u).shape ≡ Single → met_word 1 (constant_of d t) (bits_of d t).what ≡ f ∷ []
+and_bits : (d : Context) (t u : Term) (f g : Formula) → meeting (constant_of d t).shape (constant_of d u).shape ≡ Single → met_word 1 (constant_of d t) (bits_of d t).what ≡ f ∷ []
     → met_word 1 (constant_of d u) (bits_of d u).what ≡ g ∷ [] → IsBit d (BinaryOf binary.And t u) (make_and f g).what
 and_bits d t u f g m a b =
     record {
@@ -104,7 +104,7 @@ and_bits d t u f g m a b =
           ∙ ap (λ (ys : Word). (operator_word binary.And Single (f ∷ []) ys).what) b;
     }
 
-or_bits : (d : Design) (t u : Term) (f g : Formula) → meeting (constant_of d t).shape (constant_of d u).shape ≡ Single → met_word 1 (constant_of d t) (bits_of d t).what ≡ f ∷ []
+or_bits : (d : Context) (t u : Term) (f g : Formula) → meeting (constant_of d t).shape (constant_of d u).shape ≡ Single → met_word 1 (constant_of d t) (bits_of d t).what ≡ f ∷ []
     → met_word 1 (constant_of d u) (bits_of d u).what ≡ g ∷ [] → IsBit d (BinaryOf binary.Or t u) (make_or f g).what
 or_bits d t u f g m a b =
     record {
@@ -128,7 +128,7 @@ or_formula true false = refl
 or_formula false true = refl
 or_formula false false = refl
 
-or_levels : (d : Design) (t u : Term) (f g : Formula) → IsLevel d t f → IsLevel d u g → IsLevel d (BinaryOf binary.Or t u) (make_or f g).what
+or_levels : (d : Context) (t u : Term) (f g : Formula) → IsLevel d t f → IsLevel d u g → IsLevel d (BinaryOf binary.Or t u) (make_or f g).what
 or_levels d t u f g a b =
     let v : Value = constant_of d t in
     let w : Value = constant_of d u in
@@ -146,7 +146,7 @@ or_levels d t u f g a b =
       formula = ap (λ (x : Formula). (make_or x g).what) a.formula ∙ ap (λ (x : Formula). (make_or (Const a.level) x).what) b.formula ∙ or_formula a.level b.level;
     }
 
-or_either : (d : Design) (t u : Term) (f g : Formula) → IsEither d t f → IsEither d u g → IsEither d (BinaryOf binary.Or t u) (make_or f g).what
+or_either : (d : Context) (t u : Term) (f g : Formula) → IsEither d t f → IsEither d u g → IsEither d (BinaryOf binary.Or t u) (make_or f g).what
 or_either d t u f g (inl a) (inl b) =
     inl (or_bits d t u f g (ap (λ (s : Shape). meeting s (constant_of d u).shape) a.shape ∙ ap (meeting Single) b.shape) (met_either d t f (inl a)) (met_either d u g (inl b)))
 or_either d t u f g (inl a) (inr b) =
@@ -155,17 +155,17 @@ or_either d t u f g (inr a) (inl b) =
     inl (or_bits d t u f g (ap (λ (s : Shape). meeting s (constant_of d u).shape) a.shape ∙ b.shape) (met_either d t f (inr a)) (met_either d u g (inl b)))
 or_either d t u f g (inr a) (inr b) = inr (or_levels d t u f g a b)
 
-and_both_bits : (d : Design) (t u : Term) (f g : Formula) → IsBit d t f → IsBit d u g → IsBit d (BinaryOf binary.And t u) (make_and f g).what
+and_both_bits : (d : Context) (t u : Term) (f g : Formula) → IsBit d t f → IsBit d u g → IsBit d (BinaryOf binary.And t u) (make_and f g).what
 and_both_bits d t u f g a b =
     and_bits d t u f g (ap (λ (s : Shape). meeting s (constant_of d u).shape) a.shape ∙ ap (meeting Single) b.shape) (met_either d t f (inl a)) (met_either d u g (inl b))
 
 -- ---- products and sums
 
-number_level : (d : Design) (b : Bool) (tree : Tree) → IsNumber (one_bit b) tree → IsLevel d (term_of d.known tree) (Const b)
+number_level : (d : Context) (b : Bool) (tree : Tree) → IsNumber (one_bit b) tree → IsLevel d (term_of d.known tree) (Const b)
 number_level d b tree is =
     subst (λ (t : Tree). IsLevel d (term_of d.known t) (Const b)) (sym is.1) (record { level = b; shape = refl; number = refl; bits = refl; formula = refl })
 
-module _ (d : Design) (leaf_of : PinLiteral → Leaf) where
+module _ (d : Context) (leaf_of : PinLiteral → Leaf) where
   abbrev and_literal : Formula → PinLiteral → Formula
   and_literal f k = (make_and f (literal_formula leaf_of k)).what
 

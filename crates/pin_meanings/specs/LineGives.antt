@@ -7,7 +7,7 @@ use Rattle.abel_tree.specs.declared.words.Extension.{Extension}
 use Rattle.abel_tree.specs.Tree.{Statement, statements_of}
 use Rattle.abel_meaning.specs.Contributions.{Contribution, One}
 use Rattle.abel_meaning.specs.Controls.{control_of, is_the_control}
-use Rattle.abel_meaning.specs.Designs.{Design}
+use Rattle.abel_meaning.specs.Designs.{Context}
 use Rattle.abel_meaning.specs.FormulaBits.{formulas}
 use Rattle.abel_meaning.specs.Functions.{function_of}
 use Rattle.abel_meaning.specs.Sections.{unguarded}
@@ -35,14 +35,14 @@ line_gives signal_of leaf_of l =
     }
 
 -- its pin is a signal, and its literals read leaves
-pub record IsKnownLine (d : Design) (signal_of : ℕ → ℕ) (leaf_of : PinLiteral → Leaf) (l : SumLine) : Type 0 where
+pub record IsKnownLine (d : Context) (signal_of : ℕ → ℕ) (leaf_of : PinLiteral → Leaf) (l : SumLine) : Type 0 where
   pub target : term_named d.known (name_text l.pin) ≡ Read (signal_of l.pin) None
   pub reads : AllByRecursion (AllByRecursion (ReadsLeaf d leaf_of)) l.products
 
 -- each line gives one thing
 abbrev pub LinesGive : Type 0
 LinesGive =
-    (d : Design) (on : Bool) (signal_of : ℕ → ℕ) (leaf_of : PinLiteral → Leaf) (ls : List SumLine) (ss : List Statement)
+    (d : Context) (on : Bool) (signal_of : ℕ → ℕ) (leaf_of : PinLiteral → Leaf) (ls : List SumLine) (ss : List Statement)
     → AllByRecursion (IsKnownLine d signal_of leaf_of) ls → AreLines ls ss
     → statements_give (formulas d) d (unguarded (formulas d) on None) (statements_of ss) ≡ map (line_gives signal_of leaf_of) ls
 
@@ -57,7 +57,7 @@ abbrev pub is_control_line : (ℕ → ℕ) → (signal : ℕ) → Extension → 
 is_control_line signal_of s e l = signal_of l.pin == s && is_the_control e l.extension
 
 -- the sum of one line is the function of its signal, or its control; no line is no control
-pub record OneLineSays (d : Design) (signal_of : ℕ → ℕ) (leaf_of : PinLiteral → Leaf) (ls : List SumLine) (s : ℕ) : Type 0 where
+pub record OneLineSays (d : Context) (signal_of : ℕ → ℕ) (leaf_of : PinLiteral → Leaf) (ls : List SumLine) (s : ℕ) : Type 0 where
   pub function : (l : SumLine) → filter (is_data_line signal_of s) ls ≡ l ∷ []
       → function_of (formulas d) (map (line_gives signal_of leaf_of) ls) s
       ≡ record { one = sum_formula leaf_of l.products; any = Const false; complement = l.negated }
@@ -68,4 +68,4 @@ pub record OneLineSays (d : Design) (signal_of : ℕ → ℕ) (leaf_of : PinLite
 
 -- so it is of any lines and any signal
 abbrev pub OneLineIsAFunction : Type 0
-OneLineIsAFunction = (d : Design) (signal_of : ℕ → ℕ) (leaf_of : PinLiteral → Leaf) (ls : List SumLine) (s : ℕ) → OneLineSays d signal_of leaf_of ls s
+OneLineIsAFunction = (d : Context) (signal_of : ℕ → ℕ) (leaf_of : PinLiteral → Leaf) (ls : List SumLine) (s : ℕ) → OneLineSays d signal_of leaf_of ls s

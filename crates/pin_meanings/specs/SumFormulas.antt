@@ -5,7 +5,7 @@ use Rattle.bit_expr.specs.declared.node.Leaf.{Leaf}
 use Rattle.bit_expr.specs.Folding.{make_and, make_or}
 use Rattle.bit_expr.specs.Formulas.{Formula, Const, Read, Not}
 use Rattle.abel_tree.specs.Tree.{Tree}
-use Rattle.abel_meaning.specs.Designs.{Design}
+use Rattle.abel_meaning.specs.Designs.{Context}
 use Rattle.abel_meaning.specs.FormulaBits.{formulas}
 use Rattle.abel_meaning.specs.Sources.{Held, source_of}
 use Rattle.abel_meaning.specs.Terms.{Read as ReadTerm, term_named, term_of}
@@ -14,7 +14,7 @@ use Rattle.pin_sources.specs.SourceText.{q_if, name_text}
 use Rattle.pin_trees.specs.SourceTrees.{IsSum}
 
 -- a literal's name is a signal, and reads this leaf
-pub record ReadsLeaf (d : Design) (leaf_of : PinLiteral → Leaf) (l : PinLiteral) : Type 0 where
+pub record ReadsLeaf (d : Context) (leaf_of : PinLiteral → Leaf) (l : PinLiteral) : Type 0 where
   pub signal : ℕ
   pub known : term_named d.known (name_text l.pin) ≡ ReadTerm signal None
   pub reads : source_of d signal (q_if l.of_q) ≡ Held false (leaf_of l)
@@ -36,6 +36,6 @@ sum_formula leaf_of (p ∷ ps) = fold (λ f q. (make_or f (product_formula leaf_
 -- the tree of a sum is one bit, and that is its formula
 abbrev pub SumsHaveFormulas : Type 0
 SumsHaveFormulas =
-    (d : Design) (leaf_of : PinLiteral → Leaf) (products : List (List PinLiteral)) (tree : Tree)
+    (d : Context) (leaf_of : PinLiteral → Leaf) (products : List (List PinLiteral)) (tree : Tree)
     → AllByRecursion (AllByRecursion (ReadsLeaf d leaf_of)) products → IsSum products tree
     → (formulas d).word 1 (term_of d.known tree) ≡ sum_formula leaf_of products ∷ []
