@@ -70,7 +70,7 @@ module _ (t : Table) (fuses : List Bool) (laws : IsDevice t) (m : ModuleTree) (i
 
   -- ---- nodes
 
-  no_node : (n : ℕ) → node_signal d n ≡ None
+  no_node : (n : ℕ) → node_signal d.context n ≡ None
   no_node n = none_first (λ (x : Entry). is_node_number n x.kind) (names_of t m) no_name fails
     where
       fails : (j : ℕ) → is_node_number n (get_or (names_of t m) j no_name).kind ≡ false
@@ -80,7 +80,7 @@ module _ (t : Table) (fuses : List Bool) (laws : IsDevice t) (m : ModuleTree) (i
       ]
 
   no_nodes : net.nodes ≡ []
-  no_nodes = empty net.nodes (node_found d cs 0 (names_numbered t m) ∙ ap (option_map (function_here d cs)) (no_node 0))
+  no_nodes = empty net.nodes (node_found d.context cs 0 (names_numbered t m) ∙ ap (option_map (function_here d.context cs)) (no_node 0))
     where
       empty : {A : Type 0} (xs : List A) → slice_get xs 0 ≡ None → xs ≡ []
       empty [] none = refl
@@ -96,10 +96,10 @@ module _ (t : Table) (fuses : List Bool) (laws : IsDevice t) (m : ModuleTree) (i
     dec = lines_declare t fuses laws c within some
 
     abbrev wanted : Wanted
-    wanted = wanted_for d cs c (signal_at c) (name t fuses laws m is (cell_at t c).pin)
+    wanted = wanted_for d.context cs c (signal_at c) (name t fuses laws m is (cell_at t c).pin)
 
     wanted_is : wanted_at net c ≡ Some wanted
-    wanted_is = wanted_found d cs laws c within ∙ ap (option_map (λ s. wanted_for d cs c s (name_at d s))) (on_it t fuses laws m is c within some)
+    wanted_is = wanted_found d.context cs laws c within ∙ ap (option_map (λ s. wanted_for d.context cs c s (name_at d.context s))) (on_it t fuses laws m is c within some)
 
     own_lines : HasOwnLines t fuses signal c
     own_lines = have t fuses signal c within (own t fuses laws m is c within dec)
@@ -107,10 +107,10 @@ module _ (t : Table) (fuses : List Bool) (laws : IsDevice t) (m : ModuleTree) (i
     own_data : filter (is_data_line signal (signal_at c)) (lines_of t fuses) ≡ data_line t fuses c ∷ []
     own_data = own_lines.data_is ∙ (rw some refl)
 
-    function_is : function_of (formulas d) cs (signal_at c) ≡ record { one = sum_formula (leaf_of t) (data_line t fuses c).products; any = Const false; complement = (data_line t fuses c).negated }
+    function_is : function_of (formulas d.context) cs (signal_at c) ≡ record { one = sum_formula (leaf_of t) (data_line t fuses c).products; any = Const false; complement = (data_line t fuses c).negated }
     function_is =
-        ap (λ (gs : List (Contribution Formula)). function_of (formulas d) gs (signal_at c)) (given_is t fuses laws m is)
-        ∙ (says d signal (leaf_of t) (lines_of t fuses) (signal_at c)).function (data_line t fuses c)
+        ap (λ (gs : List (Contribution Formula)). function_of (formulas d.context) gs (signal_at c)) (given_is t fuses laws m is)
+        ∙ (says d.context signal (leaf_of t) (lines_of t fuses) (signal_at c)).function (data_line t fuses c)
         own_data
 
     raw_is : wanted.raw ≡ stores t fuses c
@@ -138,11 +138,11 @@ module _ (t : Table) (fuses : List Bool) (laws : IsDevice t) (m : ModuleTree) (i
     enable_is : wanted.enable ≡ enable_formula t fuses (leaf_of t) (cell_at t c).enable
     enable_is = by_enable (cell_at t c).enable refl
       where
-        by_enable : (x : Enable) → (cell_at t c).enable ≡ x → by_row x (control_of (formulas d) cs (signal_at c) extension.Oe) ≡ enable_formula t fuses (leaf_of t) x
+        by_enable : (x : Enable) → (cell_at t c).enable ≡ x → by_row x (control_of (formulas d.context) cs (signal_at c) extension.Oe) ≡ enable_formula t fuses (leaf_of t) x
         by_enable (PinLow pin) e = refl
         by_enable (Row row) e =
-            ap (λ (gs : List (Contribution Formula)). control_of (formulas d) gs (signal_at c) extension.Oe) (given_is t fuses laws m is)
-            ∙ (says d signal (leaf_of t) (lines_of t fuses) (signal_at c)).control extension.Oe (control_line t fuses c extension.Oe row) refl
+            ap (λ (gs : List (Contribution Formula)). control_of (formulas d.context) gs (signal_at c) extension.Oe) (given_is t fuses laws m is)
+            ∙ (says d.context signal (leaf_of t) (lines_of t fuses) (signal_at c)).control extension.Oe (control_line t fuses c extension.Oe row) refl
             (own_lines.enable_is ∙ (rw some (ap (enable_lines t fuses c) e)))
 
     cell_asked : IsCellAsked t fuses (leaf_of t) c wanted
@@ -163,7 +163,7 @@ module _ (t : Table) (fuses : List Bool) (laws : IsDevice t) (m : ModuleTree) (i
   own_by Resets w = w.reset
   own_by Presets w = w.preset
 
-  own_by_is : (which : Shared) (c s : ℕ) (x : Entry) → own_by which (wanted_for d cs c s x) ≡ control_if_stored (formulas d) cs (extension_for which) s x
+  own_by_is : (which : Shared) (c s : ℕ) (x : Entry) → own_by which (wanted_for d.context cs c s x) ≡ control_if_stored (formulas d.context) cs (extension_for which) s x
   own_by_is Resets c s x = refl
   own_by_is Presets c s x = refl
 
@@ -175,20 +175,20 @@ module _ (t : Table) (fuses : List Bool) (laws : IsDevice t) (m : ModuleTree) (i
     G = shared_formula t fuses (leaf_of t) (row_for t which)
 
     abbrev control : ℕ → Option Formula
-    control s = control_of (formulas d) given s e
+    control s = control_of (formulas d.context) given s e
 
     -- the control of a name, by whether it is a register
-    name_control : (s : ℕ) (x : Entry) → (control_if_stored (formulas d) cs e s x ≡ None) ⊎ (control_if_stored (formulas d) cs e s x ≡ control s)
+    name_control : (s : ℕ) (x : Entry) → (control_if_stored (formulas d.context) cs e s x ≡ None) ⊎ (control_if_stored (formulas d.context) cs e s x ≡ control s)
     name_control s x = elim (cases_Bool (is_stored x)) [
-      | inl stored ↦ inr (rw stored (ap (λ (gs : List (Contribution Formula)). control_of (formulas d) gs s e) (given_is t fuses laws m is)))
+      | inl stored ↦ inr (rw stored (ap (λ (gs : List (Contribution Formula)). control_of (formulas d.context) gs s e) (given_is t fuses laws m is)))
       | inr plain ↦ inl (rw plain refl)
     ]
 
-    stored_control : (s : ℕ) (x : Entry) → is_stored x ≡ true → control_if_stored (formulas d) cs e s x ≡ control s
-    stored_control s x stored = rw stored (ap (λ (gs : List (Contribution Formula)). control_of (formulas d) gs s e) (given_is t fuses laws m is))
+    stored_control : (s : ℕ) (x : Entry) → is_stored x ≡ true → control_if_stored (formulas d.context) cs e s x ≡ control s
+    stored_control s x stored = rw stored (ap (λ (gs : List (Contribution Formula)). control_of (formulas d.context) gs s e) (given_is t fuses laws m is))
 
-    shared_as : shared_function (own_by which) net ≡ shared_from (formulas d) cs e 0 (names_of t m)
-    shared_as = shared_is d cs e (own_by which) (own_by_is which) 0 (names_of t m) (registers_have_cells t fuses laws m is)
+    shared_as : shared_function (own_by which) net ≡ shared_from (formulas d.context) cs e 0 (names_of t m)
+    shared_as = shared_is d.context cs e (own_by which) (own_by_is which) 0 (names_of t m) (registers_have_cells t fuses laws m is)
 
     module _ (c : ℕ) (within : c < length t.cells) (stored : stores t fuses c ≡ true) where
       some_lines : has_lines t fuses c ≡ true
@@ -197,7 +197,7 @@ module _ (t : Table) (fuses : List Bool) (laws : IsDevice t) (m : ModuleTree) (i
       x_stored : is_stored (name t fuses laws m is (cell_at t c).pin) ≡ true
       x_stored = (cell_name t fuses laws m is c within (dec c within some_lines)).stored ∙ stored
 
-      own_is : own_or_shared (own_by which) net c ≡ unwrap_or (control (signal_at c)) (shared_from (formulas d) cs e 0 (names_of t m))
+      own_is : own_or_shared (own_by which) net c ≡ unwrap_or (control (signal_at c)) (shared_from (formulas d.context) cs e 0 (names_of t m))
       own_is =
           ap (λ (w : Option Wanted). unwrap_or (own_of (own_by which) w) (shared_function (own_by which) net)) (wanted_is c within some_lines)
           ∙ ap (λ (o : Option Formula). unwrap_or o (shared_function (own_by which) net)) (own_by_is which c (signal_at c) (name t fuses laws m is (cell_at t c).pin) ∙ stored_control (signal_at c) (name t fuses laws m is (cell_at t c).pin) x_stored)
@@ -213,7 +213,7 @@ module _ (t : Table) (fuses : List Bool) (laws : IsDevice t) (m : ModuleTree) (i
       where
         by_first : (o : Option ℕ) → first_register t fuses ≡ o → own_or_shared (own_by which) net c ≡ G
         by_first None first = absurd (true≢false (sym stored ∙ none_passes (stores t fuses) 0 (length t.cells) c first (omega arith) (omega (arith, within))))
-        by_first (Some f) first = elim (controls t fuses signal (leaf_of t) which d f first) [
+        by_first (Some f) first = elim (controls t fuses signal (leaf_of t) which d.context f first) [
           | inl none ↦ with_none none
           | inr one ↦ with_one one
         ]
@@ -224,29 +224,29 @@ module _ (t : Table) (fuses : List Bool) (laws : IsDevice t) (m : ModuleTree) (i
             f_within : f < length t.cells
             f_within = omega (arith, f_at.1)
 
-            with_none : HasNone t fuses signal (leaf_of t) which d → own_or_shared (own_by which) net c ≡ G
+            with_none : HasNone t fuses signal (leaf_of t) which d.context → own_or_shared (own_by which) net c ≡ G
             with_none none =
                 own_is c within stored
-                ∙ ap (λ (o : Option Formula). unwrap_or o (shared_from (formulas d) cs e 0 (names_of t m))) (none.none (signal_at c))
-                ∙ shared_none d cs e 0 (names_of t m) (λ k x at. elim (name_control (0 + k) x) [ inl plain ↦ plain | inr has ↦ has ∙ none.none (0 + k) ])
+                ∙ ap (λ (o : Option Formula). unwrap_or o (shared_from (formulas d.context) cs e 0 (names_of t m))) (none.none (signal_at c))
+                ∙ shared_none d.context cs e 0 (names_of t m) (λ k x at. elim (name_control (0 + k) x) [ inl plain ↦ plain | inr has ↦ has ∙ none.none (0 + k) ])
                 ∙ sym none.zero_is
 
-            with_one : HasOne t fuses signal (leaf_of t) which d f → own_or_shared (own_by which) net c ≡ G
+            with_one : HasOne t fuses signal (leaf_of t) which d.context f → own_or_shared (own_by which) net c ≡ G
             with_one one = elim (cases_Bool (signal_at f == signal_at c)) [
               | inl same ↦
                   own_is c within stored
-                  ∙ ap (λ (o : Option Formula). unwrap_or o (shared_from (formulas d) cs e 0 (names_of t m))) (subst (λ (s : ℕ). control s ≡ Some G) (eqb-true (signal_at f) (signal_at c) same) one.here)
+                  ∙ ap (λ (o : Option Formula). unwrap_or o (shared_from (formulas d.context) cs e 0 (names_of t m))) (subst (λ (s : ℕ). control s ≡ Some G) (eqb-true (signal_at f) (signal_at c) same) one.here)
               | inr apart ↦
                   own_is c within stored
-                  ∙ ap (λ (o : Option Formula). unwrap_or o (shared_from (formulas d) cs e 0 (names_of t m))) (one.other (signal_at c) apart)
-                  ∙ shared_one d cs e G 0 (names_of t m) (signal_at f) (name t fuses laws m is (cell_at t f).pin) (there f f_within f_at.0) f_owns each
+                  ∙ ap (λ (o : Option Formula). unwrap_or o (shared_from (formulas d.context) cs e 0 (names_of t m))) (one.other (signal_at c) apart)
+                  ∙ shared_one d.context cs e G 0 (names_of t m) (signal_at f) (name t fuses laws m is (cell_at t f).pin) (there f f_within f_at.0) f_owns each
             ]
               where
-                f_owns : control_if_stored (formulas d) cs e (0 + signal_at f) (name t fuses laws m is (cell_at t f).pin) ≡ Some G
-                f_owns = ap (λ (s : ℕ). control_if_stored (formulas d) cs e s (name t fuses laws m is (cell_at t f).pin)) (omega arith)
+                f_owns : control_if_stored (formulas d.context) cs e (0 + signal_at f) (name t fuses laws m is (cell_at t f).pin) ≡ Some G
+                f_owns = ap (λ (s : ℕ). control_if_stored (formulas d.context) cs e s (name t fuses laws m is (cell_at t f).pin)) (omega arith)
                     ∙ stored_control (signal_at f) (name t fuses laws m is (cell_at t f).pin) (x_stored f f_within f_at.0) ∙ one.here
 
-                each : (k : ℕ) (x : Entry) → slice_get (names_of t m) k ≡ Some x → (control_if_stored (formulas d) cs e (0 + k) x ≡ None) ⊎ (control_if_stored (formulas d) cs e (0 + k) x ≡ Some G)
+                each : (k : ℕ) (x : Entry) → slice_get (names_of t m) k ≡ Some x → (control_if_stored (formulas d.context) cs e (0 + k) x ≡ None) ⊎ (control_if_stored (formulas d.context) cs e (0 + k) x ≡ Some G)
                 each k x at = elim (name_control (0 + k) x) [
                   | inl plain ↦ inl plain
                   | inr has ↦ elim (cases_Bool (signal_at f == (0 + k))) [
@@ -261,7 +261,7 @@ module _ (t : Table) (fuses : List Bool) (laws : IsDevice t) (m : ModuleTree) (i
   is_of_fuses = record {
     nodes = no_nodes;
     assigned = λ c within some. (wanted c within some, wanted_is c within some, cell_asked c within some);
-    unassigned = λ c within none. wanted_found d cs laws c within ∙ ap (option_map (λ s. wanted_for d cs c s (name_at d s))) (on_none t fuses laws m is c within none);
+    unassigned = λ c within none. wanted_found d.context cs laws c within ∙ ap (option_map (λ s. wanted_for d.context cs c s (name_at d.context s))) (on_none t fuses laws m is c within none);
     reset = shared_rows Resets;
     preset = shared_rows Presets;
   }

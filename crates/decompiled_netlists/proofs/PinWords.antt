@@ -96,7 +96,7 @@ module _ (flip : Flip) (held : Holds) (found : List Assigned) (s : ℕ) (name : 
 
 module _ (t : Table) (fuses : List Bool) (laws : IsDevice t) (m : ModuleTree) (is : IsSourceTree (source_of t fuses) m) where
   abbrev pub name : ℕ → Entry
-  name pin = name_at (design_of t m) (signal_of t fuses pin)
+  name pin = name_at (design_of t m).context (signal_of t fuses pin)
 
   -- no cell is on the pin
   abbrev pub HasNoCell : ℕ → Type 0

@@ -15,7 +15,7 @@ use Rattle.abel_tree.specs.declared.words.Extension.TheVariants as extension
 use Rattle.abel_tree.specs.Entries.{Entry}
 use Rattle.abel_meaning.specs.Contributions.{Contribution}
 use Rattle.abel_meaning.specs.Controls.{control_if_stored, control_of, is_the_control, shared_from}
-use Rattle.abel_meaning.specs.Designs.{Design}
+use Rattle.abel_meaning.specs.Designs.{Context}
 use Rattle.abel_meaning.specs.FormulaBits.{formulas}
 use Rattle.pin_sources.specs.declared.literal.PinLiteral.{PinLiteral}
 use Rattle.pin_sources.specs.declared.sum_line.SumLine.{SumLine}
@@ -104,7 +104,7 @@ module _ (t : Table) (fuses : List Bool) (signal : ℕ → ℕ) (leaf_of : PinLi
 
   -- ---- the controls of signals
 
-  module _ (d : Design) where
+  module _ (d : Context) where
     abbrev given : List (Contribution Formula)
     given = map (line_gives signal leaf_of) (lines_of t fuses)
 
@@ -161,7 +161,7 @@ module _ (t : Table) (fuses : List Bool) (signal : ℕ → ℕ) (leaf_of : PinLi
 
 -- ---- the shared control
 
-module _ (d : Design) (cs : List (Contribution Formula)) (e : Extension) where
+module _ (d : Context) (cs : List (Contribution Formula)) (e : Extension) where
   abbrev own_of_name : ℕ → Entry → Option Formula
   own_of_name s x = control_if_stored (formulas d) cs e s x
 

@@ -105,7 +105,7 @@ module _ (t : Table) (fuses : List Bool) (laws : IsDevice t) where
               dec,
             )
 
-    pub on_it : (c : ℕ) → c < length t.cells → has_lines t fuses c ≡ true → signal_on (design_of t m) c ≡ Some (signal_of t fuses (cell_at t c).pin)
+    pub on_it : (c : ℕ) → c < length t.cells → has_lines t fuses c ≡ true → signal_on (design_of t m).context c ≡ Some (signal_of t fuses (cell_at t c).pin)
     on_it c within some =
         let pin : ℕ = (cell_at t c).pin in
         let dec : IsDeclared t fuses laws pin = lines_declare c within some in
@@ -115,7 +115,7 @@ module _ (t : Table) (fuses : List Bool) (laws : IsDevice t) where
         (ap (λ (b : Bool). b && is_pin pin (name t fuses laws m is pin).kind) (x.assigned ∙ some) ∙ ap (is_pin pin) x.kind ∙ eq-eqb pin pin refl)
         (λ j hit. (here_named c j within hit).0)
 
-    pub on_none : (c : ℕ) → c < length t.cells → has_lines t fuses c ≡ false → signal_on (design_of t m) c ≡ None
+    pub on_none : (c : ℕ) → c < length t.cells → has_lines t fuses c ≡ false → signal_on (design_of t m).context c ≡ None
     on_none c within none = none_first (is_here c) (names_of t m) no_name fails
       where
         fails : (j : ℕ) → is_here c (get_or (names_of t m) j no_name) ≡ false
@@ -128,12 +128,12 @@ module _ (t : Table) (fuses : List Bool) (laws : IsDevice t) where
             assigned_here j hit =
                 let at = here_named c j within hit in
                 let x = cell_name t fuses laws m is c within at.1 in
-                sym x.assigned ∙ ap (λ (i : ℕ). (name_at (design_of t m) i).assigned) (sym at.0)
+                sym x.assigned ∙ ap (λ (i : ℕ). (name_at (design_of t m).context i).assigned) (sym at.0)
                 ∙ (and_parts (get_or (names_of t m) j no_name).assigned (is_pin (cell_at t c).pin (get_or (names_of t m) j no_name).kind) hit).0
 
     -- ---- registers
 
-    pub registers_have_cells : RegistersHaveCells (design_of t m)
+    pub registers_have_cells : RegistersHaveCells (design_of t m).context
     registers_have_cells s x there stored = by_name (names_at t fuses laws m is s)
       where
         x_is : get_or (names_of t m) s no_name ≡ x

@@ -98,7 +98,7 @@ module _ (t : Table) (fuses : List Bool) (laws : IsDevice t) (m : ModuleTree) (i
 
   -- ---- what names stand for
 
-  pub known_is : (pin : ℕ) → IsDeclared t fuses laws pin → term_named (design_of t m).known (name_text pin) ≡ Read (signal_of t fuses pin) None
+  pub known_is : (pin : ℕ) → IsDeclared t fuses laws pin → term_named (design_of t m).context.known (name_text pin) ≡ Read (signal_of t fuses pin) None
   known_is pin dec =
       ap (λ (ks : List Known). term_named ks (name_text pin)) (known_kinded t.flip held found 0 0 [] (declared_names m))
       ∙ ap (λ (xs : List Entry). term_named (known_of xs) (name_text pin)) names_are
@@ -127,7 +127,7 @@ module _ (t : Table) (fuses : List Bool) (laws : IsDevice t) (m : ModuleTree) (i
       }
 
   pub name_is : (pin : ℕ) → (dec : IsDeclared t fuses laws pin)
-      → name_at (design_of t m) (signal_of t fuses pin)
+      → name_at (design_of t m).context (signal_of t fuses pin)
       ≡ with_kind t.flip held found (signal_of t fuses pin) (entry (name_text pin) (pin_named pin dec).place (APin pin false) (said (pin_line t fuses pin).follows))
   name_is pin dec = get_or_from_slice_get (names_of t m) (signal_of t fuses pin) _ no_name (pin_named pin dec).there
 
