@@ -140,16 +140,16 @@ module _ (t : Table) (fuses : List Bool) (m : ModuleTree) (laws : IsDevice t) (l
   one_value = no_dontcare_too (netlist_logic t net) source refl means.to means.from same_logics.one_value
 
   -- no register is free
-  none_free : (c : ℕ) → inverting (is_inverted t fuses) (design_of t m) c ≡ false
+  none_free : (c : ℕ) → inverting (is_inverted t fuses) (design_of t m).context c ≡ false
   none_free c = elim (cases_lt c (length t.cells)) [
     | inl within ↦ elim (cases_Bool (has_lines t fuses c)) [
       | inl some ↦
           let x = cell_name t fuses laws m is c within (lines_declare t fuses laws c within some) in
-          ap (λ (o : Option ℕ). is_free_signal (design_of t m) o && is_inverted t fuses c) (on_it t fuses laws m is c within some)
+          ap (λ (o : Option ℕ). is_free_signal (design_of t m).context o && is_inverted t fuses c) (on_it t fuses laws m is c within some)
           ∙ ap (λ (b : Bool). b && is_inverted t fuses c) x.free
-      | inr none ↦ ap (λ (o : Option ℕ). is_free_signal (design_of t m) o && is_inverted t fuses c) (on_none t fuses laws m is c within none)
+      | inr none ↦ ap (λ (o : Option ℕ). is_free_signal (design_of t m).context o && is_inverted t fuses c) (on_none t fuses laws m is c within none)
     ]
-    | inr past ↦ ap (λ (b : Bool). is_free_signal (design_of t m) (signal_on (design_of t m) c) && b) (plain past) ∙ and_false (is_free_signal (design_of t m) (signal_on (design_of t m) c))
+    | inr past ↦ ap (λ (b : Bool). is_free_signal (design_of t m).context (signal_on (design_of t m).context c) && b) (plain past) ∙ and_false (is_free_signal (design_of t m).context (signal_on (design_of t m).context c))
   ]
     where
       plain : length t.cells ≤ c → is_inverted t fuses c ≡ false
@@ -171,7 +171,7 @@ module _ (t : Table) (fuses : List Bool) (m : ModuleTree) (laws : IsDevice t) (l
 
     pub as_chosen : DoesWhatItSays t m fuses
     as_chosen =
-        let x = inverting (is_inverted t fuses) (design_of t m) in
+        let x = inverting (is_inverted t fuses) (design_of t m).context in
         other_source source (exchanged x source) (unchanged_back x none_free source) (unchanged x none_free source) (source_values t m) (exchanged_values x (source_values t m))
         (same_values x none_free source (source_values t m)) device as_source
 
