@@ -47,7 +47,7 @@ module _ (t : Table) (m : ModuleTree) (found : Contributions) (laws : IsDevice t
   nodes = nodes_held fs plain.nodes held.ids (flat_map cell_formulas plain.cells) (record { are = held.each; inside = held.inside })
 
   cells : HoldsCells fs found.list plain.cells
-  cells = cells_held fs found.list plain.cells nodes.ids (cells_targeted d found given.gives 0 d.names) nodes.rest
+  cells = cells_held fs found.list plain.cells nodes.ids (cells_targeted d found given.gives 0 d.context.names) nodes.rest
 
   abbrev net : Netlist
   net =

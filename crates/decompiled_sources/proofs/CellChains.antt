@@ -85,25 +85,25 @@ module _ (t : Table) (fuses : List Bool) (laws : IsDevice t) (long : length fuse
     own_lines_here : HasOwnLines t fuses signal c
     own_lines_here = have t fuses signal c from.on.within (own t fuses laws m is c from.on.within from.on.declared)
 
-    function_is : function_of (formulas d) cs (signal_at c) ≡ record { one = sum_formula (leaf_of t) (data_line t fuses c).products; any = Const false; complement = (data_line t fuses c).negated }
+    function_is : function_of (formulas d.context) cs (signal_at c) ≡ record { one = sum_formula (leaf_of t) (data_line t fuses c).products; any = Const false; complement = (data_line t fuses c).negated }
     function_is =
-        ap (λ (gs : List (Contribution Formula)). function_of (formulas d) gs (signal_at c)) (given_is t fuses laws m is)
-        ∙ (says d signal (leaf_of t) (lines_of t fuses) (signal_at c)).function (data_line t fuses c)
+        ap (λ (gs : List (Contribution Formula)). function_of (formulas d.context) gs (signal_at c)) (given_is t fuses laws m is)
+        ∙ (says d.context signal (leaf_of t) (lines_of t fuses) (signal_at c)).function (data_line t fuses c)
         (own_lines_here.data_is ∙ (rw from.has refl))
 
     abbrev control : Option Formula
-    control = control_of (formulas d) cs (signal_at c) extension.Oe
+    control = control_of (formulas d.context) cs (signal_at c) extension.Oe
 
     abbrev given_control : Option Formula
-    given_control = control_of (formulas d) (map (line_gives signal (leaf_of t)) (lines_of t fuses)) (signal_at c) extension.Oe
+    given_control = control_of (formulas d.context) (map (line_gives signal (leaf_of t)) (lines_of t fuses)) (signal_at c) extension.Oe
 
     control_given : control ≡ given_control
-    control_given = ap (λ (gs : List (Contribution Formula)). control_of (formulas d) gs (signal_at c) extension.Oe) (given_is t fuses laws m is)
+    control_given = ap (λ (gs : List (Contribution Formula)). control_of (formulas d.context) gs (signal_at c) extension.Oe) (given_is t fuses laws m is)
 
     enable_is : filter (is_control_line signal (signal_at c) extension.Oe) (lines_of t fuses) ≡ enable_lines t fuses c (cell_at t c).enable
     enable_is = own_lines_here.enable_is ∙ (rw from.has refl)
 
-    function_reads : function_names (function_of (formulas d) cs (signal_at c)) (leaf_at e) ≡ true → data_reads t fuses c e ≡ true
+    function_reads : function_names (function_of (formulas d.context) cs (signal_at c)) (leaf_at e) ≡ true → data_reads t fuses c e ≡ true
     function_reads named =
         and_from (not (stores t fuses c)) (list_any (λ row. row_reads_cell t fuses row e) (data_rows t c)) (ap not from.plain)
         (data_read_it t fuses laws sizes e to.within c from.on.within (sum_named (leaf_at e) (leaf_of t) (data_line t fuses c).products one_named))
@@ -124,7 +124,7 @@ module _ (t : Table) (fuses : List Bool) (laws : IsDevice t) (long : length fuse
           where
             row_control : given_control ≡ Some (sum_formula (leaf_of t) (control_products t fuses row))
             row_control =
-                (says d signal (leaf_of t) (lines_of t fuses) (signal_at c)).control extension.Oe (control_line t fuses c extension.Oe row) refl
+                (says d.context signal (leaf_of t) (lines_of t fuses) (signal_at c)).control extension.Oe (control_line t fuses c extension.Oe row) refl
                 (enable_is ∙ ap (enable_lines t fuses c) has)
         by_enable (PinLow pin) has =
             absurd (
@@ -132,7 +132,7 @@ module _ (t : Table) (fuses : List Bool) (laws : IsDevice t) (long : length fuse
             sym (
             sym (
             ap (λ (o : Option Formula). names_if_any o (leaf_at e))
-            (control_given ∙ (says d signal (leaf_of t) (lines_of t fuses) (signal_at c)).no_control extension.Oe (enable_is ∙ ap (enable_lines t fuses c) has))
+            (control_given ∙ (says d.context signal (leaf_of t) (lines_of t fuses) (signal_at c)).no_control extension.Oe (enable_is ∙ ap (enable_lines t fuses c) has))
             )
             ∙ named
             )
@@ -140,14 +140,14 @@ module _ (t : Table) (fuses : List Bool) (laws : IsDevice t) (long : length fuse
             )
 
     -- its cell reads the cell of what it reads
-    cell_rest_reads : signal_names d cs s (leaf_at e) ≡ true → rest_reads t fuses c e ≡ true
+    cell_rest_reads : signal_names d.context cs s (leaf_at e) ≡ true → rest_reads t fuses c e ≡ true
     cell_rest_reads named =
         and_from (not (never_drives t fuses c)) (enable_reads t fuses (cell_at t c).enable e || data_reads t fuses c e)
         (sym (ap (λ (b : Bool). b || not (never_drives t fuses c)) from.plain) ∙ from.has)
         (
         elim (
-        or_cases (function_names (function_of (formulas d) cs (signal_at c)) (leaf_at e)) (names_if_any control (leaf_at e))
-        (sym (ap (λ (i : ℕ). signal_names d cs i (leaf_at e)) from.on.at) ∙ named)
+        or_cases (function_names (function_of (formulas d.context) cs (signal_at c)) (leaf_at e)) (names_if_any control (leaf_at e))
+        (sym (ap (λ (i : ℕ). signal_names d.context cs i (leaf_at e)) from.on.at) ∙ named)
         ) [
           | inl function ↦ or_right (enable_reads t fuses (cell_at t c).enable e) (data_reads t fuses c e) (function_reads function)
           | inr enable ↦ or_left (enable_reads t fuses (cell_at t c).enable e) (data_reads t fuses c e) (control_reads enable)
@@ -162,9 +162,9 @@ module _ (t : Table) (fuses : List Bool) (laws : IsDevice t) (long : length fuse
 
   are_reads : (s r : ℕ) → signal_reads d s r ≡ true → AreReads s r
   are_reads s r reads =
-      let parts = and_parts (settles (name_at d s)) (is_one_of (signal_names d cs s) (leaf_of_signal d r)) reads in
+      let parts = and_parts (settles (name_at d.context s)) (is_one_of (signal_names d.context cs s) (leaf_of_signal d.context r)) reads in
       let from = settled t fuses laws m is s parts.0 in
-      let to = read t fuses laws m is r (signal_names d cs s) parts.1 in
+      let to = read t fuses laws m is r (signal_names d.context cs s) parts.1 in
       record {
         from = from;
         to = to.on;
@@ -179,7 +179,7 @@ module _ (t : Table) (fuses : List Bool) (laws : IsDevice t) (long : length fuse
 
   pub no_signal_loop : HasNoLoop (length t.cells) (cell_reads t fuses) → HasNoSignalLoop d
   no_signal_loop none =
-      no_loop (length d.names) (length t.cells) (signal_reads d) (cell_reads t fuses) f (IsSettled t fuses laws m is) (λ s from. on_inside t fuses laws m is s from.on)
+      no_loop (length d.context.names) (length t.cells) (signal_reads d) (cell_reads t fuses) f (IsSettled t fuses laws m is) (λ s from. on_inside t fuses laws m is s from.on)
       (λ s r reads. (are_reads s r reads).from)
       (λ s r reads to. and_from (not (stores t fuses (f r))) (rest_reads t fuses (f s) (f r)) (plain_at r to) (are_reads s r reads).rest)
       (λ s r a b same. on_apart t fuses laws m is s r a.on b.on same) none
@@ -188,15 +188,15 @@ module _ (t : Table) (fuses : List Bool) (laws : IsDevice t) (long : length fuse
 
   module _ (s : ℕ) where
     abbrev reset : Option Formula
-    reset = control_of (formulas d) (map (line_gives signal (leaf_of t)) (lines_of t fuses)) s extension.Ar
+    reset = control_of (formulas d.context) (map (line_gives signal (leaf_of t)) (lines_of t fuses)) s extension.Ar
 
-    reset_given : control_of (formulas d) cs s extension.Ar ≡ reset
-    reset_given = ap (λ (gs : List (Contribution Formula)). control_of (formulas d) gs s extension.Ar) (given_is t fuses laws m is)
+    reset_given : control_of (formulas d.context) cs s extension.Ar ≡ reset
+    reset_given = ap (λ (gs : List (Contribution Formula)). control_of (formulas d.context) gs s extension.Ar) (given_is t fuses laws m is)
 
     -- without a register no line is a reset
     no_reset : first_register t fuses ≡ None → reset ≡ None
     no_reset none =
-        (says d signal (leaf_of t) (lines_of t fuses) s).no_control extension.Ar
+        (says d.context signal (leaf_of t) (lines_of t fuses) s).no_control extension.Ar
         (filter_none (IsOwnLine t fuses) (is_control_line signal s extension.Ar) fails (lines_of t fuses) (own_lines t fuses laws))
       where
         by_form : (l : SumLine) (own : IsOwnLine t fuses l) → (form : LineForm) → IsForm t fuses form own.cell l → is_the_control extension.Ar l.extension ≡ false
@@ -226,16 +226,16 @@ module _ (t : Table) (fuses : List Bool) (laws : IsDevice t) (long : length fuse
 
         by_first : (o : Option ℕ) → first_register t fuses ≡ o → reset_reads t fuses e ≡ true
         by_first None first = absurd (none_named (leaf_at e) (no_reset first) named)
-        by_first (Some g) first = elim (controls t fuses signal (leaf_of t) Resets d g first) [
+        by_first (Some g) first = elim (controls t fuses signal (leaf_of t) Resets d.context g first) [
           | inl none ↦ absurd (none_named (leaf_at e) (none.none s) named)
           | inr one ↦ with_one one
         ]
           where
-            with_one : HasOne t fuses signal (leaf_of t) Resets d g → reset_reads t fuses e ≡ true
+            with_one : HasOne t fuses signal (leaf_of t) Resets d.context g → reset_reads t fuses e ≡ true
             with_one one = elim (cases_Bool (signal_at g == s)) [
               | inl same ↦
                   let here : reset ≡ Some (shared_formula t fuses (leaf_of t) t.reset) =
-                  subst (λ (i : ℕ). control_of (formulas d) (map (line_gives signal (leaf_of t)) (lines_of t fuses)) i extension.Ar ≡ Some (shared_formula t fuses (leaf_of t) t.reset)) (eqb-true (signal_at g) s same) one.here in
+                  subst (λ (i : ℕ). control_of (formulas d.context) (map (line_gives signal (leaf_of t)) (lines_of t fuses)) i extension.Ar ≡ Some (shared_formula t fuses (leaf_of t) t.reset)) (eqb-true (signal_at g) s same) one.here in
                   by_row t.reset refl (sym (ap (λ (o : Option Formula). names_if_any o (leaf_at e)) here) ∙ named)
               | inr other ↦ absurd (none_named (leaf_at e) (one.other s other) named)
             ]
@@ -247,7 +247,7 @@ module _ (t : Table) (fuses : List Bool) (laws : IsDevice t) (long : length fuse
 
     starts : (r : ℕ) → reset_equation_reads d s r ≡ true → IsStart r
     starts r reads =
-        let to = read t fuses laws m is r (names_if_any (control_of (formulas d) cs s extension.Ar)) reads in
+        let to = read t fuses laws m is r (names_if_any (control_of (formulas d.context) cs s extension.Ar)) reads in
         record {
           on = to.on;
           row_reads = ap (reset_reads t fuses) to.on.found
@@ -256,8 +256,8 @@ module _ (t : Table) (fuses : List Bool) (laws : IsDevice t) (long : length fuse
 
     pub no_signal_path : HasNoResetPath t fuses → HasNoSignalPath d s
     no_signal_path none =
-        no_path (length d.names) (length t.cells) (signal_reads d) (plain_reads t fuses) f (IsOn t fuses laws m is) (on_inside t fuses laws m is)
-        (reset_equation_reads d s) (is_stored_signal d) (reset_reads t fuses) (stores t fuses)
+        no_path (length d.context.names) (length t.cells) (signal_reads d) (plain_reads t fuses) f (IsOn t fuses laws m is) (on_inside t fuses laws m is)
+        (reset_equation_reads d s) (is_stored_signal d.context) (reset_reads t fuses) (stores t fuses)
         (λ v w reads. (are_reads v w reads).to)
         (λ v w reads. and_from (not (stores t fuses (f v))) (rest_reads t fuses (f v) (f w)) (plain_at v (are_reads v w reads).from) (are_reads v w reads).rest)
         (λ v reads. (starts v reads).on)

@@ -134,7 +134,7 @@ module _ (t : Table) (fuses : List Bool) (laws : IsDevice t) (m : ModuleTree) (i
     accepted = sections_pass t fuses laws m is;
     inside = All-from_recursion (λ (c : Contribution). c.when.0 < length fs) found.list are.inside;
     gives = are.given ∙ sym (given_is t fuses laws m is);
-    places = are.places ∙ sym (ap (sections_places d) (sections_are t fuses laws m is) ∙ append-nil (statements_places d (statements_of is.lines)) ∙ placed.are);
+    places = are.places ∙ sym (ap (sections_places d.context) (sections_are t fuses laws m is) ∙ append-nil (statements_places d.context (statements_of is.lines)) ∙ placed.are);
     nodes = held.size;
   }
 

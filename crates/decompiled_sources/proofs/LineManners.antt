@@ -89,20 +89,20 @@ module _ (t : Table) (fuses : List Bool) (laws : IsDevice t) (m : ModuleTree) (i
       pub place : Place
       pub equals : found ≡ record { refusals = []; aims = record { signal = signal l.pin; place = place } ∷ [] }
 
-    pub aimed : (p : Place) (target : Tree) → IsNamed l.pin l.extension target → IsAimed (left_side d p target)
+    pub aimed : (p : Place) (target : Tree) → IsNamed l.pin l.extension target → IsAimed (left_side d.context p target)
     aimed p target named =
         let w = word (name_text l.pin) named.0 in
-        let q : Place = start_of d p w in
+        let q : Place = start_of d.context p w in
         record {
           place = q;
-          equals = ap (left_side d p) named.1
-              ∙ ap (λ (f : Found). target_use named.0 q (find d.names (name_text l.pin)) f (term_named d.known (name_text l.pin))) (use_found named.0 (name_found (names_found d.names) (name_text l.pin)) (pin_found t fuses laws m is l.pin good.1.pin))
-              ∙ ap (target_use named.0 q (find d.names (name_text l.pin)) (found_value (one_position false))) (known_is t fuses laws m is l.pin good.1.pin);
+          equals = ap (left_side d.context p) named.1
+              ∙ ap (λ (f : Found). target_use named.0 q (find d.context.names (name_text l.pin)) f (term_named d.context.known (name_text l.pin))) (use_found named.0 (name_found (names_found d.context.names) (name_text l.pin)) (pin_found t fuses laws m is l.pin good.1.pin))
+              ∙ ap (target_use named.0 q (find d.context.names (name_text l.pin)) (found_value (one_position false))) (known_is t fuses laws m is l.pin good.1.pin);
         }
 
-    pub one_target : (target : Tree) → IsNamed l.pin l.extension target → length (targets_of (term_of d.known target)) ≡ 1
+    pub one_target : (target : Tree) → IsNamed l.pin l.extension target → length (targets_of (term_of d.context.known target)) ≡ 1
     one_target target named =
-        ap (λ (x : Tree). length (targets_of (term_of d.known x))) named.1
+        ap (λ (x : Tree). length (targets_of (term_of d.context.known x))) named.1
         ∙ ap (λ (u : Term). length (targets_of (extended_if l.extension u))) (known_is t fuses laws m is l.pin good.1.pin)
         ∙ extended_signal l.extension (signal l.pin)
 

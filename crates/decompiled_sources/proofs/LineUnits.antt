@@ -48,31 +48,31 @@ module _ (t : Table) (fuses : List Bool) (laws : IsDevice t) (m : ModuleTree) (i
   -- ---- the unit of a line
 
   module _ (l : SumLine) (good : IsGoodLine t fuses laws m is l) (s : Statement) (line : IsLine l s) where
-    found_pin : (k : PinLiteral) → IsDeclaredLiteral t fuses laws k → IsFoundPin (names_found d.names) k
+    found_pin : (k : PinLiteral) → IsDeclaredLiteral t fuses laws k → IsFoundPin (names_found d.context.names) k
     found_pin k of = pin_found t fuses laws m is k.pin of.1
 
-    value_found : IsFoundBit (expression_found d.names line.value)
+    value_found : IsFoundBit (expression_found d.context.names line.value)
     value_found =
-        sum_holds (IsFoundPin (names_found d.names)) (IsFoundTree (names_found d.names)) (found_steps (names_found d.names)) l.products line.value
+        sum_holds (IsFoundPin (names_found d.context.names)) (IsFoundTree (names_found d.context.names)) (found_steps (names_found d.context.names)) l.products line.value
         (
-        each_weaker (AllByRecursion (IsDeclaredLiteral t fuses laws)) (AllByRecursion (IsFoundPin (names_found d.names)))
-        (λ p all. each_weaker (IsDeclaredLiteral t fuses laws) (IsFoundPin (names_found d.names)) found_pin p all) l.products good.1.literals
+        each_weaker (AllByRecursion (IsDeclaredLiteral t fuses laws)) (AllByRecursion (IsFoundPin (names_found d.context.names)))
+        (λ p all. each_weaker (IsDeclaredLiteral t fuses laws) (IsFoundPin (names_found d.context.names)) found_pin p all) l.products good.1.literals
         )
         line.sum
 
-    pub known_pin : (k : PinLiteral) → IsDeclaredLiteral t fuses laws k → IsKnownPin d k
+    pub known_pin : (k : PinLiteral) → IsDeclaredLiteral t fuses laws k → IsKnownPin d.context k
     known_pin k of = record { signal = signal k.pin; known = known_is t fuses laws m is k.pin of.1 }
 
-    value_small : IsSmall d (term_of d.known line.value) (weight line.value)
+    value_small : IsSmall d.context (term_of d.context.known line.value) (weight line.value)
     value_small =
-        sum_holds (IsKnownPin d) (IsSmallTree d) (small_steps d) l.products line.value
+        sum_holds (IsKnownPin d.context) (IsSmallTree d.context) (small_steps d.context) l.products line.value
         (
-        each_weaker (AllByRecursion (IsDeclaredLiteral t fuses laws)) (AllByRecursion (IsKnownPin d))
-        (λ p all. each_weaker (IsDeclaredLiteral t fuses laws) (IsKnownPin d) known_pin p all) l.products good.1.literals
+        each_weaker (AllByRecursion (IsDeclaredLiteral t fuses laws)) (AllByRecursion (IsKnownPin d.context))
+        (λ p all. each_weaker (IsDeclaredLiteral t fuses laws) (IsKnownPin d.context) known_pin p all) l.products good.1.literals
         )
         line.sum
 
-    abbrev aim : IsAimed t fuses laws m is l good (left_side d line.place line.target)
+    abbrev aim : IsAimed t fuses laws m is l good (left_side d.context line.place line.target)
     aim = aimed t fuses laws m is l good line.place line.target line.named
 
     abbrev one_aim : TargetFound
@@ -84,12 +84,12 @@ module _ (t : Table) (fuses : List Bool) (laws : IsDevice t) (m : ModuleTree) (i
     written_is : s ≡ written
     written_is = line.is ∙ ap (λ (target : Tree). AnAssign line.place l.negated target sign.Equal line.sign_place line.value) line.named.1
 
-    aim_is : left_side d line.place (AName (word (name_text l.pin) line.named.0) l.extension) ≡ one_aim
-    aim_is = ap (left_side d line.place) (sym line.named.1) ∙ aim.equals
+    aim_is : left_side d.context line.place (AName (word (name_text l.pin) line.named.0) l.extension) ≡ one_aim
+    aim_is = ap (left_side d.context line.place) (sym line.named.1) ∙ aim.equals
 
-    pub manner_is : statement_manners d s ≡ line_manner t fuses laws m is l ∷ []
+    pub manner_is : statement_manners d.context s ≡ line_manner t fuses laws m is l ∷ []
     manner_is =
-        ap (statement_manners d) written_is
+        ap (statement_manners d.context) written_is
         ∙ ap (λ (found : TargetFound). assigned_manners l.extension l.negated sign.Equal (assigned_aims found)) aim_is
 
     -- its signal stands at one place
@@ -97,18 +97,18 @@ module _ (t : Table) (fuses : List Bool) (laws : IsDevice t) (m : ModuleTree) (i
       pub place : Place
       pub equals : ps ≡ place ∷ []
 
-    pub place_is : IsPlacedAt (statement_places d s)
+    pub place_is : IsPlacedAt (statement_places d.context s)
     place_is = record {
       place = aim.place;
-      equals = ap (statement_places d) written_is ∙ ap (λ (found : TargetFound). map (λ (a : Aim). a.place) (assigned_aims found)) aim_is;
+      equals = ap (statement_places d.context) written_is ∙ ap (λ (found : TargetFound). map (λ (a : Aim). a.place) (assigned_aims found)) aim_is;
     }
 
     -- nothing is refused, behind lines
     line_passes : (before : List Manner) → AllByRecursion (IsLineManner t fuses laws m is) before
-        → assign_refused d before l.extension l.negated sign.Equal line.sign_place one_aim (expression_found d.names line.value) ≡ []
+        → assign_refused d.context before l.extension l.negated sign.Equal line.sign_place one_aim (expression_found d.context.names line.value) ≡ []
     line_passes before all =
         let allowed : no_output t (x t fuses laws m is l good) aim.place (line_manner t fuses laws m is l) ≡ [] = rw (is_output_line t fuses laws m is l good) refl in
-        ap (λ (rs : List SectionFault). rs ++ aims_refused d before l.extension l.negated false one_aim.aims) (value_passes line.sign_place (expression_found d.names line.value) value_found)
+        ap (λ (rs : List SectionFault). rs ++ aims_refused d.context before l.extension l.negated false one_aim.aims) (value_passes line.sign_place (expression_found d.context.names line.value) value_found)
         ∙ append-nil (no_output t (x t fuses laws m is l good) aim.place (line_manner t fuses laws m is l) ++ mixed before (x t fuses laws m is l good) aim.place (line_manner t fuses laws m is l))
         ∙ ap (λ (rs : List SectionFault). rs ++ mixed before (x t fuses laws m is l good) aim.place (line_manner t fuses laws m is l)) allowed
         ∙ ap (λ (b : Bool). mixed_if (b || is_against_kind (x t fuses laws m is l good) (line_manner t fuses laws m is l))) (none_differs t fuses laws m is before all l good)
@@ -126,25 +126,25 @@ module _ (t : Table) (fuses : List Bool) (laws : IsDevice t) (m : ModuleTree) (i
       pub refusals : unit.refusals ≡ []
       pub nodes : unit.nodes ≤ 2832
       -- those of its value, as nothing stands round it
-      pub counted : unit.nodes ≡ (bits_of d (term_of d.known line.value)).nodes
+      pub counted : unit.nodes ≡ (bits_of d.context (term_of d.context.known line.value)).nodes
 
-    pub unit_is : (before : List Manner) → AllByRecursion (IsLineManner t fuses laws m is) before → IsLineUnit before (units_of_statement d (Const true) before s)
+    pub unit_is : (before : List Manner) → AllByRecursion (IsLineManner t fuses laws m is) before → IsLineUnit before (units_of_statement d.context (Const true) before s)
     unit_is before all = record {
       unit = record { place = line.place; refusals = refusals; nodes = nodes };
-      equals = ap (units_of_statement d (Const true) before) written_is;
-      refusals = ap (λ (found : TargetFound). assign_refused d before l.extension l.negated sign.Equal line.sign_place found (expression_found d.names line.value)) aim_is ∙ line_passes before all;
+      equals = ap (units_of_statement d.context (Const true) before) written_is;
+      refusals = ap (λ (found : TargetFound). assign_refused d.context before l.extension l.negated sign.Equal line.sign_place found (expression_found d.context.names line.value)) aim_is ∙ line_passes before all;
       nodes = omega (arith, no_guard, value_small.nodes, sum_weight l.products line.value good.0.short line.sum, good.0.few);
       counted = omega (arith, no_guard);
     }
       where
         width : ℕ
-        width = length (targets_of (term_of d.known (AName (word (name_text l.pin) line.named.0) l.extension)))
+        width = length (targets_of (term_of d.context.known (AName (word (name_text l.pin) line.named.0) l.extension)))
 
         refusals : List SectionFault
-        refusals = assign_refused d before l.extension l.negated sign.Equal line.sign_place (left_side d line.place (AName (word (name_text l.pin) line.named.0) l.extension)) (expression_found d.names line.value)
+        refusals = assign_refused d.context before l.extension l.negated sign.Equal line.sign_place (left_side d.context line.place (AName (word (name_text l.pin) line.named.0) l.extension)) (expression_found d.context.names line.value)
 
         nodes : ℕ
-        nodes = value_nodes d (Const true) width line.value
+        nodes = value_nodes d.context (Const true) width line.value
 
-        no_guard : guard_nodes (Const true) ((formulas d).word width (term_of d.known line.value)) ≡ 0
-        no_guard = unguarded_nodes ((formulas d).word width (term_of d.known line.value))
+        no_guard : guard_nodes (Const true) ((formulas d.context).word width (term_of d.context.known line.value)) ≡ 0
+        no_guard = unguarded_nodes ((formulas d.context).word width (term_of d.context.known line.value))

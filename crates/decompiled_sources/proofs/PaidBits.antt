@@ -9,7 +9,7 @@ use Rattle.abel_tree.specs.declared.words.Unary.TheVariants as unary
 use Rattle.abel_tree.specs.declared.words.Binary.TheVariants as binary
 use Rattle.abel_tree.specs.Tree.{Tree}
 use Rattle.abel_meaning.specs.BitWords.{Word, each_not, word_by_position}
-use Rattle.abel_meaning.specs.Designs.{Design}
+use Rattle.abel_meaning.specs.Designs.{Context}
 use Rattle.abel_meaning.specs.FormulaBits.{bits_of, formulas, make_held, make_source, met_by, met_word, operator_word}
 use Rattle.abel_meaning.specs.Numbers.{Shape, Number, Single, Set, meeting, width_of}
 use Rattle.abel_meaning.specs.Sources.{Source, Zero, Held, source_of}
@@ -69,11 +69,11 @@ source_paid Zero = omega arith
 source_paid (Held complement l) = held_paid complement l
 
 -- a number or one bit, with no more nodes than were counted
-pub record IsPaid (d : Design) (u : Term) (weight : ℕ) : Type 0 where
+pub record IsPaid (d : Context) (u : Term) (weight : ℕ) : Type 0 where
   pub small : IsSmall d u weight
   pub paid : all_nodes_of (bits_of d u).what ≤ (bits_of d u).nodes
 
-module _ (d : Design) where
+module _ (d : Context) where
   read_paid : (s : ℕ) (e : Option Extension) → IsPaid d (ReadTerm s e) 2
   read_paid s e = let one = source_paid (source_of d s e) in record { small = read_small d s e; paid = omega (arith, one) }
 

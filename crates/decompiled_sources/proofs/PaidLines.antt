@@ -40,23 +40,23 @@ module _ (t : Table) (fuses : List Bool) (laws : IsDevice t) (m : ModuleTree) (i
 
   -- ---- one line
 
-  value_paid : (l : SumLine) (s : Statement) (good : IsGood l) (line : IsLine l s) → nodes_of (line_formula l) ≤ (bits_of d (term_of d.known line.value)).nodes
+  value_paid : (l : SumLine) (s : Statement) (good : IsGood l) (line : IsLine l s) → nodes_of (line_formula l) ≤ (bits_of d.context (term_of d.context.known line.value)).nodes
   value_paid l s good line =
-      bit_paid d (term_of d.known line.value) (weight line.value) (line_formula l)
+      bit_paid d.context (term_of d.context.known line.value) (weight line.value) (line_formula l)
       (
-      sum_holds (IsKnownPin d) (IsPaidTree d) (paid_steps d) l.products line.value
+      sum_holds (IsKnownPin d.context) (IsPaidTree d.context) (paid_steps d.context) l.products line.value
       (
-      each_weaker (AllByRecursion (IsDeclaredLiteral t fuses laws)) (AllByRecursion (IsKnownPin d))
-      (λ p all. each_weaker (IsDeclaredLiteral t fuses laws) (IsKnownPin d) (known_pin t fuses laws m is l good s line) p all) l.products good.1.literals
+      each_weaker (AllByRecursion (IsDeclaredLiteral t fuses laws)) (AllByRecursion (IsKnownPin d.context))
+      (λ p all. each_weaker (IsDeclaredLiteral t fuses laws) (IsKnownPin d.context) (known_pin t fuses laws m is l good s line) p all) l.products good.1.literals
       )
       line.sum
       )
-      (sums d (leaf_of t) l.products line.value (literals_read t fuses laws m is l.products good.1.literals) line.sum)
+      (sums d.context (leaf_of t) l.products line.value (literals_read t fuses laws m is l.products good.1.literals) line.sum)
 
   -- ---- all lines
 
   pub lines_paid : (ls : List SumLine) (ss : List Statement) (before : List Manner) → AreLines ls ss → AllByRecursion IsGood ls → AllByRecursion (IsLineManner t fuses laws m is) before
-      → all_nodes_of (map line_formula ls) ≤ units_nodes (units_of_statements d (Const true) before (statements_of ss))
+      → all_nodes_of (map line_formula ls) ≤ units_nodes (units_of_statements d.context (Const true) before (statements_of ss))
   lines_paid [] ss before are good all = omega arith
   lines_paid (l ∷ ls) ss before are good all =
       let unit = unit_is t fuses laws m is l good.0 are.0 are.2 before all in
@@ -64,12 +64,12 @@ module _ (t : Table) (fuses : List Bool) (laws : IsDevice t) (m : ModuleTree) (i
       let rest = lines_paid ls are.1 (before ++ line_manner t fuses laws m is l ∷ []) are.3 good.1
       (each_append (IsLineManner t fuses laws m is) before (line_manner t fuses laws m is l ∷ []) all (record { line = l; good = good.0; equals = refl }, tt)) in
       let one = value_paid l are.0 good.0 are.2 in
-      let later : List CountedUnit = units_of_statements d (Const true) (before ++ line_manner t fuses laws m is l ∷ []) (statements_of are.1) in
-      let whole : units_of_statements d (Const true) before (statements_of ss) ≡ unit.unit ∷ later =
-      ap (λ (xs : List Statement). units_of_statements d (Const true) before (statements_of xs)) are.4
-      ∙ ap (λ (us : List CountedUnit). us ++ units_of_statements d (Const true) (before ++ statement_manners d are.0) (statements_of are.1)) unit.equals
-      ∙ ap (λ (ms : List Manner). unit.unit ∷ units_of_statements d (Const true) (before ++ ms) (statements_of are.1)) manner in
-      let nodes : units_nodes (units_of_statements d (Const true) before (statements_of ss)) ≡ unit.unit.nodes + units_nodes later = ap units_nodes whole in
+      let later : List CountedUnit = units_of_statements d.context (Const true) (before ++ line_manner t fuses laws m is l ∷ []) (statements_of are.1) in
+      let whole : units_of_statements d.context (Const true) before (statements_of ss) ≡ unit.unit ∷ later =
+      ap (λ (xs : List Statement). units_of_statements d.context (Const true) before (statements_of xs)) are.4
+      ∙ ap (λ (us : List CountedUnit). us ++ units_of_statements d.context (Const true) (before ++ statement_manners d.context are.0) (statements_of are.1)) unit.equals
+      ∙ ap (λ (ms : List Manner). unit.unit ∷ units_of_statements d.context (Const true) (before ++ ms) (statements_of are.1)) manner in
+      let nodes : units_nodes (units_of_statements d.context (Const true) before (statements_of ss)) ≡ unit.unit.nodes + units_nodes later = ap units_nodes whole in
       omega (arith, one, rest, nodes, unit.counted)
 
   -- ---- where they stand
@@ -77,18 +77,18 @@ module _ (t : Table) (fuses : List Bool) (laws : IsDevice t) (m : ModuleTree) (i
   -- a place for each line
   pub record HavePlaces (ls : List SumLine) (ss : List Statement) : Type 0 where
     pub places : List Place
-    pub are : statements_places d (statements_of ss) ≡ places
+    pub are : statements_places d.context (statements_of ss) ≡ places
     pub long : length places ≡ length ls
 
   pub lines_placed : (ls : List SumLine) (ss : List Statement) → AreLines ls ss → AllByRecursion IsGood ls → HavePlaces ls ss
-  lines_placed [] ss are good = record { places = []; are = ap (λ (xs : List Statement). statements_places d (statements_of xs)) are; long = refl }
+  lines_placed [] ss are good = record { places = []; are = ap (λ (xs : List Statement). statements_places d.context (statements_of xs)) are; long = refl }
   lines_placed (l ∷ ls) ss are good =
       let rest = lines_placed ls are.1 are.3 good.1 in
       let one = place_is t fuses laws m is l good.0 are.0 are.2 in
       record {
         places = one.place ∷ rest.places;
-        are = ap (λ (xs : List Statement). statements_places d (statements_of xs)) are.4
-            ∙ ap (λ (ps : List Place). ps ++ statements_places d (statements_of are.1)) one.equals
+        are = ap (λ (xs : List Statement). statements_places d.context (statements_of xs)) are.4
+            ∙ ap (λ (ps : List Place). ps ++ statements_places d.context (statements_of are.1)) one.equals
             ∙ ap (λ (ps : List Place). one.place ∷ ps) rest.are;
         long = omega (arith, rest.long);
       }

@@ -185,10 +185,10 @@ module _ (t : Table) (fuses : List Bool) (laws : IsDevice t) (m : ModuleTree) (i
     IsOf c = IsOfLine (signal_of t fuses) (leaf_of t) IsGood fs c
 
     abbrev entry_of : Contribution → Entry
-    entry_of c = get_or d.names c.target.signal no_name
+    entry_of c = get_or d.context.names c.target.signal no_name
 
     entry_is : (c : Contribution) (o : IsOf c) → entry_of c ≡ name t fuses laws m is o.line.pin
-    entry_is c o = ap (λ (g : meant.Contribution Formula). get_or d.names g.signal no_name) o.is
+    entry_is c o = ap (λ (g : meant.Contribution Formula). get_or d.context.names g.signal no_name) o.is
 
     extension_is : (c : Contribution) (o : IsOf c) → c.target.extension ≡ o.line.extension
     extension_is c o = ap (λ (g : meant.Contribution Formula). g.extension) o.is
@@ -211,9 +211,9 @@ module _ (t : Table) (fuses : List Bool) (laws : IsDevice t) (m : ModuleTree) (i
         let one : is_any c.what ≡ false = gives_one c.what (ap (λ (g : meant.Contribution Formula). g.gives) o.is) in
         (rw (and_right (not (is_data c.target.extension)) (is_any c.what) one) refl)
 
-    pub targets_pass : (r : Rule) (cs : List Contribution) → AllByRecursion IsOf cs → all_refused t d.names r cs ≡ []
+    pub targets_pass : (r : Rule) (cs : List Contribution) → AllByRecursion IsOf cs → all_refused t d.context.names r cs ≡ []
     targets_pass r [] all = refl
-    targets_pass r (c ∷ cs) all = ap (λ (xs : List SignalFault). xs ++ all_refused t d.names r cs) (rule_passes r c all.0) ∙ targets_pass r cs all.1
+    targets_pass r (c ∷ cs) all = ap (λ (xs : List SignalFault). xs ++ all_refused t d.context.names r cs) (rule_passes r c all.0) ∙ targets_pass r cs all.1
 
     says_as : (c : Contribution) → (o : IsOf c) → says_always t (entry_of c) c.target.extension c.block c.complement (formula_at fs c.when) ≡ true
     says_as c o =
@@ -223,10 +223,10 @@ module _ (t : Table) (fuses : List Bool) (laws : IsDevice t) (m : ModuleTree) (i
         ∙ ap (λ (b : Bool). says_so t (name t fuses laws m is o.line.pin) o.line.extension b (formula_at fs c.when)) (ap (λ (g : meant.Contribution Formula). g.complement) o.is)
         ∙ row_says o.line o.good o.good.0.form o.good.0.is (formula_at fs c.when)
 
-    pub levels_pass : (cs : List Contribution) → AllByRecursion IsOf cs → other_levels t fs d.names cs ≡ []
+    pub levels_pass : (cs : List Contribution) → AllByRecursion IsOf cs → other_levels t fs d.context.names cs ≡ []
     levels_pass [] all = refl
     levels_pass (c ∷ cs) all =
-        ap (λ (xs : List RefusedUse). xs ++ other_levels t fs d.names cs) (level_passes (says_as c all.0))
+        ap (λ (xs : List RefusedUse). xs ++ other_levels t fs d.context.names cs) (level_passes (says_as c all.0))
         ∙ levels_pass cs all.1
       where
         level_passes : says_always t (entry_of c) c.target.extension c.block c.complement (formula_at fs c.when) ≡ true → other_level t fs (entry_of c) c ≡ []

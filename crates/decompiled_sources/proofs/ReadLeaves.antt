@@ -38,13 +38,13 @@ module _ (t : Table) (fuses : List Bool) (laws : IsDevice t) (m : ModuleTree) (i
 
   -- what a pin's name reads, by whether it is a register
   reads_as : (pin : ℕ) (e : Option Extension) (stored : Bool) → IsDeclared t fuses laws pin → is_stored (entry_on pin) ≡ stored
-      → read_of d (signal pin) e ≡ on_pin t (entry_on pin) pin false stored e
+      → read_of d.context (signal pin) e ≡ on_pin t (entry_on pin) pin false stored e
   reads_as pin e stored dec by =
       ap (λ (k : Kind). source_by t (entry_on pin) k e) (kind_is t fuses laws m is pin dec)
       ∙ ap (λ (b : Bool). on_pin t (entry_on pin) pin false b e) by
 
   pair_reads : (higher : Bool) (x : Carry) → IsPair t x → IsDeclared t fuses laws (named_by t fuses higher x).pin
-      → read_of d (signal (named_by t fuses higher x).pin) (q_if (named_by t fuses higher x).of_q) ≡ Held false (leaf_of t (named_by t fuses higher x))
+      → read_of d.context (signal (named_by t fuses higher x).pin) (q_if (named_by t fuses higher x).of_q) ≡ Held false (leaf_of t (named_by t fuses higher x))
   pair_reads higher (carry.Pin pin) law dec = reads_as pin None false dec (free_plain t fuses laws m is pin dec none)
     where
       none : HasNoCell t fuses laws m is pin
@@ -54,7 +54,7 @@ module _ (t : Table) (fuses : List Bool) (laws : IsDevice t) (m : ModuleTree) (i
       x_stored : is_stored (entry_on (cell_at t c).pin) ≡ stores t fuses c
       x_stored = (cell_name t fuses laws m is c law dec).stored
 
-      by_kind : (b : Bool) → stores t fuses c ≡ b → read_of d (signal (cell_at t c).pin) (q_if b) ≡ Held false (if b then leaf.Q (unwrap_or (cell_on t (cell_at t c).pin) 0) else leaf.Pin (cell_at t c).pin)
+      by_kind : (b : Bool) → stores t fuses c ≡ b → read_of d.context (signal (cell_at t c).pin) (q_if b) ≡ Held false (if b then leaf.Q (unwrap_or (cell_on t (cell_at t c).pin) 0) else leaf.Pin (cell_at t c).pin)
       by_kind true e =
           reads_as (cell_at t c).pin (Some extension.Q) true dec (x_stored ∙ e)
           ∙ ap (λ (o : Option ℕ). on_pin_by o) (cell_here t laws c law)
@@ -64,15 +64,15 @@ module _ (t : Table) (fuses : List Bool) (laws : IsDevice t) (m : ModuleTree) (i
           on_pin_by o = register_source false (follows_q (entry_on (cell_at t c).pin)) o (Some extension.Q)
       by_kind false e = reads_as (cell_at t c).pin None false dec (x_stored ∙ e)
 
-  literal_reads : (l : PinLiteral) → IsDeclaredLiteral t fuses laws l → ReadsLeaf d (leaf_of t) l
+  literal_reads : (l : PinLiteral) → IsDeclaredLiteral t fuses laws l → ReadsLeaf d.context (leaf_of t) l
   literal_reads l of = record {
     signal = signal l.pin;
     known = known_is t fuses laws m is l.pin of.1;
-    reads = subst (λ (k : PinLiteral). read_of d (signal k.pin) (q_if k.of_q) ≡ Held false (leaf_of t k)) (sym of.0.is)
+    reads = subst (λ (k : PinLiteral). read_of d.context (signal k.pin) (q_if k.of_q) ≡ Held false (leaf_of t k)) (sym of.0.is)
         (pair_reads of.0.higher of.0.pair of.0.law (subst (λ (k : PinLiteral). IsDeclared t fuses laws k.pin) of.0.is of.1));
   }
 
-  pub literals_read : (ps : List (List PinLiteral)) → AllByRecursion (AllByRecursion (IsDeclaredLiteral t fuses laws)) ps → AllByRecursion (AllByRecursion (ReadsLeaf d (leaf_of t))) ps
+  pub literals_read : (ps : List (List PinLiteral)) → AllByRecursion (AllByRecursion (IsDeclaredLiteral t fuses laws)) ps → AllByRecursion (AllByRecursion (ReadsLeaf d.context (leaf_of t))) ps
   literals_read ps all =
-      each_weaker (AllByRecursion (IsDeclaredLiteral t fuses laws)) (AllByRecursion (ReadsLeaf d (leaf_of t)))
-      (λ p each. each_weaker (IsDeclaredLiteral t fuses laws) (ReadsLeaf d (leaf_of t)) literal_reads p each) ps all
+      each_weaker (AllByRecursion (IsDeclaredLiteral t fuses laws)) (AllByRecursion (ReadsLeaf d.context (leaf_of t)))
+      (λ p each. each_weaker (IsDeclaredLiteral t fuses laws) (ReadsLeaf d.context (leaf_of t)) literal_reads p each) ps all

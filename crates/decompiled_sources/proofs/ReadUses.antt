@@ -164,7 +164,7 @@ module _ (t : Table) (fuses : List Bool) (laws : IsDevice t) (m : ModuleTree) (i
 
   -- a literal of a declared pin that is readable
   pub record IsReadLiteral (l : PinLiteral) : Type 0 where
-    pub known : term_named d.known (name_text l.pin) ≡ Read (signal_of t fuses l.pin) None
+    pub known : term_named d.context.known (name_text l.pin) ≡ Read (signal_of t fuses l.pin) None
     pub readable : IsReadable l.pin l.of_q
 
   literal_read : (l : PinLiteral) → IsColumn t fuses l → IsDeclared t fuses laws l.pin → IsReadLiteral l
@@ -185,73 +185,73 @@ module _ (t : Table) (fuses : List Bool) (laws : IsDevice t) (m : ModuleTree) (i
 
   -- none of them is refused
   pub record AreFollowed (us : List PlacedUse) : Type 0 where
-    pub missing : filter (is_missing d) us ≡ []
-    pub unread : filter (is_unread d) us ≡ []
+    pub missing : filter (is_missing d.context) us ≡ []
+    pub unread : filter (is_unread d.context) us ≡ []
 
   none_followed : AreFollowed []
   none_followed = record { missing = refl; unread = refl }
 
   both_followed : (us vs : List PlacedUse) → AreFollowed us → AreFollowed vs → AreFollowed (us ++ vs)
   both_followed us vs a b = record {
-    missing = filter-append (is_missing d) us vs ∙ ap (λ (xs : List PlacedUse). xs ++ filter (is_missing d) vs) a.missing ∙ b.missing;
-    unread = filter-append (is_unread d) us vs ∙ ap (λ (xs : List PlacedUse). xs ++ filter (is_unread d) vs) a.unread ∙ b.unread;
+    missing = filter-append (is_missing d.context) us vs ∙ ap (λ (xs : List PlacedUse). xs ++ filter (is_missing d.context) vs) a.missing ∙ b.missing;
+    unread = filter-append (is_unread d.context) us vs ∙ ap (λ (xs : List PlacedUse). xs ++ filter (is_unread d.context) vs) a.unread ∙ b.unread;
   }
 
-  one_followed : (u : PlacedUse) → has_extension t (name_at d u.read.signal) u.read.extension ≡ true → has_read_path t (name_at d u.read.signal) u.read.extension ≡ true → AreFollowed (u ∷ [])
+  one_followed : (u : PlacedUse) → has_extension t (name_at d.context u.read.signal) u.read.extension ≡ true → has_read_path t (name_at d.context u.read.signal) u.read.extension ≡ true → AreFollowed (u ∷ [])
   one_followed u has path =
-      let found : is_missing d u ≡ false = ap not has in
-      let followed : is_unread d u ≡ false = and_right (not (is_missing d u)) (not (has_read_path t (name_at d u.read.signal) u.read.extension)) (ap not path) in
+      let found : is_missing d.context u ≡ false = ap not has in
+      let followed : is_unread d.context u ≡ false = and_right (not (is_missing d.context u)) (not (has_read_path t (name_at d.context u.read.signal) u.read.extension)) (ap not path) in
       record { missing = rw found refl; unread = rw followed refl }
 
   extended_read : (e : Option Extension) (s : ℕ) → extended_if e (Read s None) ≡ Read s e
   extended_read None s = refl
   extended_read (Some e) s = refl
 
-  use_steps : HoldsBySteps IsReadLiteral (λ (tree : Tree). AreFollowed (located d.known None tree))
+  use_steps : HoldsBySteps IsReadLiteral (λ (tree : Tree). AreFollowed (located d.context.known None tree))
   use_steps = record {
     number = λ n p low. none_followed;
     name = λ l p of.
         subst (λ (u : Term). AreFollowed (all_at p (term_uses u))) (sym (ap (extended_if (q_if l.of_q)) of.known ∙ extended_read (q_if l.of_q) (signal_of t fuses l.pin)))
         (one_followed (record { read = record { signal = signal_of t fuses l.pin; extension = q_if l.of_q }; place = p }) of.readable.has of.readable.path);
     complement = λ p tree here. here;
-    both = λ p left right here there. both_followed (located d.known None left) (located d.known None right) here there;
-    either = λ p left right here there. both_followed (located d.known None left) (located d.known None right) here there;
+    both = λ p left right here there. both_followed (located d.context.known None left) (located d.context.known None right) here there;
+    either = λ p left right here there. both_followed (located d.context.known None left) (located d.context.known None right) here there;
   }
 
-  line_followed : (l : SumLine) (s : Statement) → IsGoodLine t fuses laws m is l → IsLine l s → AreFollowed (statement_uses d s)
+  line_followed : (l : SumLine) (s : Statement) → IsGoodLine t fuses laws m is l → IsLine l s → AreFollowed (statement_uses d.context s)
   line_followed l s good line =
-      subst (λ (x : Statement). AreFollowed (statement_uses d x)) (sym line.is)
-      (unless (is_compared d line.target))
+      subst (λ (x : Statement). AreFollowed (statement_uses d.context x)) (sym line.is)
+      (unless (is_compared d.context line.target))
     where
-      unless : (b : Bool) → AreFollowed (if b then [] else expression_uses d line.value)
+      unless : (b : Bool) → AreFollowed (if b then [] else expression_uses d.context line.value)
       unless true = none_followed
       unless false =
-          sum_holds IsReadLiteral (λ (tree : Tree). AreFollowed (located d.known None tree)) use_steps l.products line.value
+          sum_holds IsReadLiteral (λ (tree : Tree). AreFollowed (located d.context.known None tree)) use_steps l.products line.value
           (literals_read l.products (line_columns t fuses laws l good.0) good.1.literals) line.sum
 
-  lines_followed : (ls : List SumLine) (ss : List Statement) → AreLines ls ss → AllByRecursion (IsGoodLine t fuses laws m is) ls → AreFollowed (statements_uses d (statements_of ss))
-  lines_followed [] ss are good = subst (λ (xs : List Statement). AreFollowed (statements_uses d (statements_of xs))) (sym are) none_followed
+  lines_followed : (ls : List SumLine) (ss : List Statement) → AreLines ls ss → AllByRecursion (IsGoodLine t fuses laws m is) ls → AreFollowed (statements_uses d.context (statements_of ss))
+  lines_followed [] ss are good = subst (λ (xs : List Statement). AreFollowed (statements_uses d.context (statements_of xs))) (sym are) none_followed
   lines_followed (l ∷ ls) ss are good =
-      subst (λ (xs : List Statement). AreFollowed (statements_uses d (statements_of xs))) (sym are.4)
-      (both_followed (statement_uses d are.0) (statements_uses d (statements_of are.1)) (line_followed l are.0 good.0 are.2) (lines_followed ls are.1 are.3 good.1))
+      subst (λ (xs : List Statement). AreFollowed (statements_uses d.context (statements_of xs))) (sym are.4)
+      (both_followed (statement_uses d.context are.0) (statements_uses d.context (statements_of are.1)) (line_followed l are.0 good.0 are.2) (lines_followed ls are.1 are.3 good.1))
 
   -- ---- equations that are compared
 
-  line_written : (l : SumLine) (s : Statement) → IsGoodLine t fuses laws m is l → IsLine l s → statement_refused d false s ≡ []
+  line_written : (l : SumLine) (s : Statement) → IsGoodLine t fuses laws m is l → IsLine l s → statement_refused d.context false s ≡ []
   line_written l s good line =
-      ap (statement_refused d false) line.is
-      ∙ ap (λ (e : Option Extension). aims_refused d e written 0 (narrow (left_side d line.place line.target).aims)) (ap target_extension line.named.1)
-      ∙ ap (λ (f : TargetFound). aims_refused d l.extension written 0 (narrow f.aims)) (aimed t fuses laws m is l good line.place line.target line.named).equals
+      ap (statement_refused d.context false) line.is
+      ∙ ap (λ (e : Option Extension). aims_refused d.context e written 0 (narrow (left_side d.context line.place line.target).aims)) (ap target_extension line.named.1)
+      ∙ ap (λ (f : TargetFound). aims_refused d.context l.extension written 0 (narrow f.aims)) (aimed t fuses laws m is l good line.place line.target line.named).equals
       ∙ (rw (and_right (not (is_written_at written 0)) (is_compared_of t l.extension (x_on l.pin)) (not_compared t fuses laws m is l good)) refl)
     where
       written : Written
-      written = written_if false (term_of d.known line.value)
+      written = written_if false (term_of d.context.known line.value)
 
-  lines_written : (ls : List SumLine) (ss : List Statement) → AreLines ls ss → AllByRecursion (IsGoodLine t fuses laws m is) ls → statements_refused d false (statements_of ss) ≡ []
-  lines_written [] ss are good = ap (λ (xs : List Statement). statements_refused d false (statements_of xs)) are
+  lines_written : (ls : List SumLine) (ss : List Statement) → AreLines ls ss → AllByRecursion (IsGoodLine t fuses laws m is) ls → statements_refused d.context false (statements_of ss) ≡ []
+  lines_written [] ss are good = ap (λ (xs : List Statement). statements_refused d.context false (statements_of xs)) are
   lines_written (l ∷ ls) ss are good =
-      ap (λ (xs : List Statement). statements_refused d false (statements_of xs)) are.4
-      ∙ ap (λ (rs : List RefusedUse). rs ++ statements_refused d false (statements_of are.1)) (line_written l are.0 good.0 are.2)
+      ap (λ (xs : List Statement). statements_refused d.context false (statements_of xs)) are.4
+      ∙ ap (λ (rs : List RefusedUse). rs ++ statements_refused d.context false (statements_of are.1)) (line_written l are.0 good.0 are.2)
       ∙ lines_written ls are.1 are.3 good.1
 
   -- ---- the whole design
@@ -260,8 +260,8 @@ module _ (t : Table) (fuses : List Bool) (laws : IsDevice t) (m : ModuleTree) (i
     sections_are : d.sections ≡ Equations is.lines ∷ []
     sections_are = ap (λ (y : ModuleTree). y.sections) is.is
 
-    uses_are : design_uses d ≡ statements_uses d (statements_of is.lines)
-    uses_are = ap (sections_uses d) sections_are ∙ append-nil (statements_uses d (statements_of is.lines))
+    uses_are : design_uses d ≡ statements_uses d.context (statements_of is.lines)
+    uses_are = ap (sections_uses d.context) sections_are ∙ append-nil (statements_uses d.context (statements_of is.lines))
 
     followed : AreFollowed (design_uses d)
     followed = subst AreFollowed (sym uses_are) (lines_followed (lines_of t fuses) is.lines is.are_lines good)
@@ -274,5 +274,5 @@ module _ (t : Table) (fuses : List Bool) (laws : IsDevice t) (m : ModuleTree) (i
 
     pub all_written : unwritten d ≡ []
     all_written =
-        ap (sections_refused d) sections_are ∙ append-nil (statements_refused d false (statements_of is.lines))
+        ap (sections_refused d.context) sections_are ∙ append-nil (statements_refused d.context false (statements_of is.lines))
         ∙ lines_written (lines_of t fuses) is.lines is.are_lines good

@@ -34,7 +34,7 @@ module _ (t : Table) (fuses : List Bool) (laws : IsDevice t) (m : ModuleTree) (i
 
   -- the cell on the pin of a signal
   abbrev pub cell_of_signal : ℕ → ℕ
-  cell_of_signal s = unwrap_or (cell_on t (pin_of (name_at d s).kind)) 0
+  cell_of_signal s = unwrap_or (cell_on t (pin_of (name_at d.context s).kind)) 0
 
   abbrev signal_at : ℕ → ℕ
   signal_at c = signal_of t fuses (cell_at t c).pin
@@ -64,16 +64,16 @@ module _ (t : Table) (fuses : List Bool) (laws : IsDevice t) (m : ModuleTree) (i
   pub on_apart : (s r : ℕ) → IsOn s → IsOn r → cell_of_signal s ≡ cell_of_signal r → s ≡ r
   on_apart s r a b same = a.at ∙ ap signal_at (sym a.found ∙ same ∙ b.found) ∙ sym b.at
 
-  pub on_stored : (s : ℕ) (on : IsOn s) → is_stored (name_at d s) ≡ stores t fuses on.cell
-  on_stored s on = ap (λ (i : ℕ). is_stored (name_at d i)) on.at ∙ (cell_name t fuses laws m is on.cell on.within on.declared).stored
+  pub on_stored : (s : ℕ) (on : IsOn s) → is_stored (name_at d.context s) ≡ stores t fuses on.cell
+  on_stored s on = ap (λ (i : ℕ). is_stored (name_at d.context i)) on.at ∙ (cell_name t fuses laws m is on.cell on.within on.declared).stored
 
   -- ---- by what is asked of the name
 
   -- a name on no cell is no register, does not come to rest, and has no leaf
   pub record IsNoSignal (s : ℕ) : Type 0 where
-    pub plain : is_stored (name_at d s) ≡ false
-    pub unsettled : settles (name_at d s) ≡ false
-    pub unread : leaf_of d s ≡ None
+    pub plain : is_stored (name_at d.context s) ≡ false
+    pub unsettled : settles (name_at d.context s) ≡ false
+    pub unread : leaf_of d.context s ≡ None
 
   pub on_or_none : (s : ℕ) → IsOn s ⊎ IsNoSignal s
   on_or_none s = by_name (names_at t fuses laws m is s)
@@ -82,8 +82,8 @@ module _ (t : Table) (fuses : List Bool) (laws : IsDevice t) (m : ModuleTree) (i
       by_name (inl device) =
           inr (record {
             plain = device.1;
-            unsettled = ap (settles_by (name_at d s)) device.0;
-            unread = ap (leaf_by d (name_at d s)) device.0;
+            unsettled = ap (settles_by (name_at d.context s)) device.0;
+            unread = ap (leaf_by d.context (name_at d.context s)) device.0;
           })
       by_name (inr of) = elim (on_cell t fuses laws m is pin) [
         | inl c ↦
@@ -105,15 +105,15 @@ module _ (t : Table) (fuses : List Bool) (laws : IsDevice t) (m : ModuleTree) (i
 
           without : HasNoCell t fuses laws m is pin → IsNoSignal s
           without none =
-              let plain : is_stored (name_at d s) ≡ false = ap (λ (i : ℕ). is_stored (name_at d i)) at ∙ free_plain t fuses laws m is pin dec none in
-              let unassigned : (name_at d s).assigned ≡ false = ap (λ (i : ℕ). (name_at d i).assigned) at ∙ free_unassigned_name t fuses laws m is pin dec none in
-              let unsettled : settles (name_at d s) ≡ false =
-              ap (settles_by (name_at d s)) of.4 ∙ ap (λ (b : Bool). b && not (name_at d s).words.registered) unassigned in
+              let plain : is_stored (name_at d.context s) ≡ false = ap (λ (i : ℕ). is_stored (name_at d.context i)) at ∙ free_plain t fuses laws m is pin dec none in
+              let unassigned : (name_at d.context s).assigned ≡ false = ap (λ (i : ℕ). (name_at d.context i).assigned) at ∙ free_unassigned_name t fuses laws m is pin dec none in
+              let unsettled : settles (name_at d.context s) ≡ false =
+              ap (settles_by (name_at d.context s)) of.4 ∙ ap (λ (b : Bool). b && not (name_at d.context s).words.registered) unassigned in
               record {
                 plain = plain;
                 unsettled = unsettled;
-                unread = ap (leaf_by d (name_at d s)) of.4
-                    ∙ ap (λ (b : Bool). if b then option_map leaf.Q (cell_on t pin) else if settles (name_at d s) then Some (leaf.Pin pin) else None) plain
+                unread = ap (leaf_by d.context (name_at d.context s)) of.4
+                    ∙ ap (λ (b : Bool). if b then option_map leaf.Q (cell_on t pin) else if settles (name_at d.context s) then Some (leaf.Pin pin) else None) plain
                     ∙ ap (λ (b : Bool). if b then Some (leaf.Pin pin) else None) unsettled;
               }
 
@@ -123,7 +123,7 @@ module _ (t : Table) (fuses : List Bool) (laws : IsDevice t) (m : ModuleTree) (i
     pub has : has_lines t fuses on.cell ≡ true
     pub plain : stores t fuses on.cell ≡ false
 
-  pub settled : (s : ℕ) → settles (name_at d s) ≡ true → IsSettled s
+  pub settled : (s : ℕ) → settles (name_at d.context s) ≡ true → IsSettled s
   settled s is_settled = elim (on_or_none s) [
     | inl on ↦ on_this on
     | inr none ↦ absurd (true≢false (sym is_settled ∙ none.unsettled))
@@ -132,12 +132,12 @@ module _ (t : Table) (fuses : List Bool) (laws : IsDevice t) (m : ModuleTree) (i
       on_this : IsOn s → IsSettled s
       on_this on =
           let c = cell_name t fuses laws m is on.cell on.within on.declared in
-          let kind : (name_at d s).kind ≡ APin (cell_at t on.cell).pin false = ap (λ (i : ℕ). (name_at d i).kind) on.at ∙ c.kind in
-          let parts = and_parts (name_at d s).assigned (not (name_at d s).words.registered) (sym (ap (settles_by (name_at d s)) kind) ∙ is_settled) in
+          let kind : (name_at d.context s).kind ≡ APin (cell_at t on.cell).pin false = ap (λ (i : ℕ). (name_at d.context i).kind) on.at ∙ c.kind in
+          let parts = and_parts (name_at d.context s).assigned (not (name_at d.context s).words.registered) (sym (ap (settles_by (name_at d.context s)) kind) ∙ is_settled) in
           record {
             on = on;
-            has = sym (ap (λ (i : ℕ). (name_at d i).assigned) on.at ∙ c.assigned) ∙ parts.0;
-            plain = sym (on_stored s on) ∙ unstored (name_at d s).words.registered (name_at d s).assigned parts.1;
+            has = sym (ap (λ (i : ℕ). (name_at d.context i).assigned) on.at ∙ c.assigned) ∙ parts.0;
+            plain = sym (on_stored s on) ∙ unstored (name_at d.context s).words.registered (name_at d.context s).assigned parts.1;
           }
         where
           unstored : (registered assigned : Bool) → not registered ≡ true → (registered && assigned) ≡ false
@@ -153,29 +153,29 @@ module _ (t : Table) (fuses : List Bool) (laws : IsDevice t) (m : ModuleTree) (i
     pub on : IsOn s
     pub leaf_named : named (cell_leaf on.cell) ≡ true
 
-  pub read : (s : ℕ) (named : Leaf → Bool) → is_one_of named (leaf_of d s) ≡ true → IsRead s named
+  pub read : (s : ℕ) (named : Leaf → Bool) → is_one_of named (leaf_of d.context s) ≡ true → IsRead s named
   read s named some = elim (on_or_none s) [
-    | inl on ↦ record { on = on; leaf_named = of_leaf on (stores t fuses on.cell) refl (settles (name_at d s)) refl }
+    | inl on ↦ record { on = on; leaf_named = of_leaf on (stores t fuses on.cell) refl (settles (name_at d.context s)) refl }
     | inr none ↦ absurd (true≢false (sym some ∙ ap (is_one_of named) none.unread))
   ]
     where
-      of_leaf : (on : IsOn s) → (stored : Bool) → stores t fuses on.cell ≡ stored → (settled : Bool) → settles (name_at d s) ≡ settled → named (cell_leaf on.cell) ≡ true
+      of_leaf : (on : IsOn s) → (stored : Bool) → stores t fuses on.cell ≡ stored → (settled : Bool) → settles (name_at d.context s) ≡ settled → named (cell_leaf on.cell) ≡ true
       of_leaf on stored e settled f =
           ap (λ (b : Bool). named (if b then leaf.Q c else leaf.Pin (cell_at t c).pin)) e ∙ by_kind stored settled (sym leaf_is ∙ some)
         where
           c : ℕ
           c = on.cell
 
-          kind : (name_at d s).kind ≡ APin (cell_at t c).pin false
-          kind = ap (λ (i : ℕ). (name_at d i).kind) on.at ∙ (cell_name t fuses laws m is on.cell on.within on.declared).kind
+          kind : (name_at d.context s).kind ≡ APin (cell_at t c).pin false
+          kind = ap (λ (i : ℕ). (name_at d.context i).kind) on.at ∙ (cell_name t fuses laws m is on.cell on.within on.declared).kind
 
           by : Option ℕ → Bool → Bool → Option Leaf
           by o stored settled = if stored then option_map leaf.Q o else if settled then Some (leaf.Pin (cell_at t c).pin) else None
 
-          leaf_is : is_one_of named (leaf_of d s) ≡ is_one_of named (by (Some c) stored settled)
+          leaf_is : is_one_of named (leaf_of d.context s) ≡ is_one_of named (by (Some c) stored settled)
           leaf_is =
-              ap (λ (k : Kind). is_one_of named (leaf_by d (name_at d s) k)) kind
-              ∙ ap (λ (b : Bool). is_one_of named (by (cell_on t (cell_at t c).pin) b (settles (name_at d s)))) (on_stored s on ∙ e)
+              ap (λ (k : Kind). is_one_of named (leaf_by d.context (name_at d.context s) k)) kind
+              ∙ ap (λ (b : Bool). is_one_of named (by (cell_on t (cell_at t c).pin) b (settles (name_at d.context s)))) (on_stored s on ∙ e)
               ∙ ap (λ (b : Bool). is_one_of named (by (cell_on t (cell_at t c).pin) stored b)) f
               ∙ ap (λ (o : Option ℕ). is_one_of named (by o stored settled)) (cell_here t laws c on.within)
 

@@ -10,7 +10,7 @@ use Rattle.abel_tree.specs.declared.words.Binary.TheVariants as binary
 use Rattle.abel_tree.specs.Tree.{Tree, AName, AUnary, ABinary}
 use Rattle.abel_meaning.specs.BitWords.{Word, each_not, word_by_position}
 use Rattle.abel_meaning.specs.CountedNodes.{guard_nodes}
-use Rattle.abel_meaning.specs.Designs.{Design}
+use Rattle.abel_meaning.specs.Designs.{Context}
 use Rattle.abel_meaning.specs.FormulaBits.{bits_of, make_source, met_by, met_word, operator_word}
 use Rattle.abel_meaning.specs.Numbers.{Shape, Number, Single, Set, meeting, width_of}
 use Rattle.abel_meaning.specs.Sources.{Source, Zero, Held, source_of}
@@ -99,7 +99,7 @@ met_few (Set w) n xs narrow few = absurd narrow
 -- ---- terms
 
 -- a number or one bit, by at most so many nodes
-pub record IsSmall (d : Design) (u : Term) (weight : ℕ) : Type 0 where
+pub record IsSmall (d : Context) (u : Term) (weight : ℕ) : Type 0 where
   pub narrow : IsNarrow (constant_of d u).shape
   pub few : length (bits_of d u).what ≤ 1
   pub nodes : (bits_of d u).nodes ≤ weight
@@ -109,7 +109,7 @@ source_nodes Zero = omega arith
 source_nodes (Held false l) = omega arith
 source_nodes (Held true l) = let one = one_not (Read l) in omega (arith, one)
 
-module _ (d : Design) where
+module _ (d : Context) where
   pub read_small : (s : ℕ) (e : Option Extension) → IsSmall d (ReadTerm s e) 2
   read_small s e = let n = source_nodes (source_of d s e) in record { narrow = tt; few = omega arith; nodes = omega (arith, n) }
 
@@ -162,7 +162,7 @@ weight (AUnary sign p t) = weight t + 1
 weight (ABinary sign p t u) = weight t + weight u + 1
 weight _ = 0
 
-module _ (d : Design) where
+module _ (d : Context) where
   pub record IsKnownPin (l : PinLiteral) : Type 0 where
     pub signal : ℕ
     pub known : term_named d.known (name_text l.pin) ≡ ReadTerm signal None

@@ -54,7 +54,7 @@ module _ (t : Table) (fuses : List Bool) (laws : IsDevice t) (m : ModuleTree) (i
     pub number : i ≡ suc place
     pub there : slice_get (pins_of t fuses) place ≡ Some pin
 
-  pin_at : (pin i : ℕ) → is_pin pin (name_at d i).kind ≡ true → IsPinAt pin i
+  pin_at : (pin i : ℕ) → is_pin pin (name_at d.context i).kind ≡ true → IsPinAt pin i
   pin_at pin i has = by_name (names_at t fuses laws m is i)
     where
       by_name : IsNameAt t fuses laws m is i → IsPinAt pin i
@@ -63,7 +63,7 @@ module _ (t : Table) (fuses : List Bool) (laws : IsDevice t) (m : ModuleTree) (i
           let same : of.1 ≡ pin = eqb-true of.1 pin (sym (ap (is_pin pin) of.4) ∙ has) in
           record { place = of.0; number = of.2; there = of.3 ∙ ap Some same }
 
-  pins_apart : PinsApart d
+  pins_apart : PinsApart d.context
   pins_apart pin i j has_i has_j =
       let a = pin_at pin i has_i in
       let b = pin_at pin j has_j in
@@ -72,12 +72,12 @@ module _ (t : Table) (fuses : List Bool) (laws : IsDevice t) (m : ModuleTree) (i
   no_node : (k : Kind) (n : ℕ) → is_no_node k ≡ true → k ≡ ANode n → ⊥
   no_node k n plain is_node = true≢false (sym plain ∙ ap is_no_node is_node)
 
-  nodes_few : NodesAreFew d
+  nodes_few : NodesAreFew d.context
   nodes_few s n kind = by_name (names_at t fuses laws m is s)
     where
       by_name : IsNameAt t fuses laws m is s → n < 128
-      by_name (inl device) = absurd (no_node (name_at d s).kind n (ap is_no_node device.0) kind)
-      by_name (inr of) = absurd (no_node (name_at d s).kind n (ap is_no_node of.4) kind)
+      by_name (inl device) = absurd (no_node (name_at d.context s).kind n (ap is_no_node device.0) kind)
+      by_name (inr of) = absurd (no_node (name_at d.context s).kind n (ap is_no_node of.4) kind)
 
   -- a register whose pin equals Q is one of a device that complements behind it
   behind : (flip : Flip) (inverted : Bool) → not (pin_complements flip true inverted) ≡ true → flip ≡ AfterRegister
@@ -85,7 +85,7 @@ module _ (t : Table) (fuses : List Bool) (laws : IsDevice t) (m : ModuleTree) (i
   behind AfterRegister inverted e = refl
   behind BeforeRegister inverted e = absurd (true≢false (sym e))
 
-  buffers_behind : BuffersAreBehind d
+  buffers_behind : BuffersAreBehind d.context
   buffers_behind s stored follows clocked = elim (on_or_none t fuses laws m is s) [
     | inl on ↦ on_this on
     | inr none ↦ absurd (true≢false (sym stored ∙ none.plain))
@@ -96,11 +96,11 @@ module _ (t : Table) (fuses : List Bool) (laws : IsDevice t) (m : ModuleTree) (i
           let c = cell_name t fuses laws m is on.cell on.within on.declared in
           behind t.flip (is_inverted t fuses on.cell)
           (
-          sym (ap (λ (i : ℕ). follows_q (name_at d i)) on.at ∙ c.follows (sym (on_stored t fuses laws m is s on) ∙ stored))
+          sym (ap (λ (i : ℕ). follows_q (name_at d.context i)) on.at ∙ c.follows (sym (on_stored t fuses laws m is s on) ∙ stored))
           ∙ follows
           )
 
-  declarations : HasSoundDeclarations d
+  declarations : HasSoundDeclarations d.context
   declarations = record { pins = pins_apart; nodes = nodes_few; buffers = buffers_behind }
 
   -- ---- the whole
@@ -109,7 +109,7 @@ module _ (t : Table) (fuses : List Bool) (laws : IsDevice t) (m : ModuleTree) (i
     pub unrefused_by : (no_loop : HasNoSignalLoop d) → ((s : ℕ) → HasNoSignalPath d s) → IsUnrefused d found.list
     unrefused_by no_loop no_path = record {
       kinds = targets_pass t fuses laws m is (arena found.exprs) rule.Kinds found.list (all_of t fuses laws m is found of);
-      nodes = no_nodes 0 d.names (names_plain t fuses laws m is);
+      nodes = no_nodes 0 d.context.names (names_plain t fuses laws m is);
       controls = targets_pass t fuses laws m is (arena found.exprs) rule.Controls found.list (all_of t fuses laws m is found of);
       missing = none_missing t fuses laws m is (good_lines t fuses laws m is);
       unread = none_unread t fuses laws m is (good_lines t fuses laws m is);

@@ -48,19 +48,19 @@ module _ (t : Table) (fuses : List Bool) (laws : IsDevice t) (m : ModuleTree) (i
       each_of_line (signal_of t fuses) (leaf_of t) (IsGoodLine t fuses laws m is) fs cs (lines_of t fuses)
       (of.gives ∙ given_is t fuses laws m is) (good_lines t fuses laws m is)
 
-  rule_passes : (r : Rule) → targets_refused t d.names r cs ≡ []
+  rule_passes : (r : Rule) → targets_refused t d.context.names r cs ≡ []
   rule_passes r = ap (map plain) (targets_pass t fuses laws m is fs r cs all_of)
 
   controls_pass : no_controls d fs cs ≡ []
   controls_pass =
-      ap (λ (rs : List RefusedUse). (rs ++ other_levels t fs d.names cs) ++ (unwritten d ++ map told (missing_uses d))) (rule_passes rule.Controls)
+      ap (λ (rs : List RefusedUse). (rs ++ other_levels t fs d.context.names cs) ++ (unwritten d ++ map told (missing_uses d))) (rule_passes rule.Controls)
       ∙ ap (λ (rs : List RefusedUse). rs ++ (unwritten d ++ map told (missing_uses d))) (levels_pass t fuses laws m is fs cs all_of)
       ∙ ap (λ (rs : List RefusedUse). rs ++ map told (missing_uses d)) (all_written t fuses laws m is (good_lines t fuses laws m is))
       ∙ ap (map told) (none_missing t fuses laws m is (good_lines t fuses laws m is))
 
   pub sound : HasSoundSignals d fs cs
   sound = record {
-    kinds = record { kinds = rule_passes rule.Kinds; nodes = ap (map plain) (no_nodes 0 d.names (names_plain t fuses laws m is)) };
+    kinds = record { kinds = rule_passes rule.Kinds; nodes = ap (map plain) (no_nodes 0 d.context.names (names_plain t fuses laws m is)) };
     uses = record {
       controls = record { controls = controls_pass; any = rule_passes rule.DontCares };
       paths = ap (map told) (none_unread t fuses laws m is (good_lines t fuses laws m is));

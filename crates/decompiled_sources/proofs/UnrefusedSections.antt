@@ -65,20 +65,20 @@ module _ (t : Table) (fuses : List Bool) (laws : IsDevice t) (m : ModuleTree) (i
   d = design_of t m
 
   lines_pass : (ls : List SumLine) (ss : List Statement) (before : List Manner) → AreLines ls ss → AllByRecursion (IsGoodLine t fuses laws m is) ls
-      → AllByRecursion (IsLineManner t fuses laws m is) before → AreUnrefused (units_of_statements d (Const true) before (statements_of ss)) (2832 * length ls)
+      → AllByRecursion (IsLineManner t fuses laws m is) before → AreUnrefused (units_of_statements d.context (Const true) before (statements_of ss)) (2832 * length ls)
   lines_pass [] ss before are good all =
-      subst (λ (xs : List Statement). AreUnrefused (units_of_statements d (Const true) before (statements_of xs)) 0) (sym are)
+      subst (λ (xs : List Statement). AreUnrefused (units_of_statements d.context (Const true) before (statements_of xs)) 0) (sym are)
       (record { each = tt; nodes = omega arith })
   lines_pass (l ∷ ls) ss before are good all =
       let unit = unit_is t fuses laws m is l good.0 are.0 are.2 before all in
       let manner = manner_is t fuses laws m is l good.0 are.0 are.2 in
       let rest = lines_pass ls are.1 (before ++ line_manner t fuses laws m is l ∷ []) are.3 good.1
       (each_append (IsLineManner t fuses laws m is) before (line_manner t fuses laws m is l ∷ []) all (record { line = l; good = good.0; equals = refl }, tt)) in
-      let later : List CountedUnit = units_of_statements d (Const true) (before ++ line_manner t fuses laws m is l ∷ []) (statements_of are.1) in
-      let whole : units_of_statements d (Const true) before (statements_of ss) ≡ unit.unit ∷ later =
-      ap (λ (xs : List Statement). units_of_statements d (Const true) before (statements_of xs)) are.4
-      ∙ ap (λ (us : List CountedUnit). us ++ units_of_statements d (Const true) (before ++ statement_manners d are.0) (statements_of are.1)) unit.equals
-      ∙ ap (λ (ms : List Manner). unit.unit ∷ units_of_statements d (Const true) (before ++ ms) (statements_of are.1)) manner in
+      let later : List CountedUnit = units_of_statements d.context (Const true) (before ++ line_manner t fuses laws m is l ∷ []) (statements_of are.1) in
+      let whole : units_of_statements d.context (Const true) before (statements_of ss) ≡ unit.unit ∷ later =
+      ap (λ (xs : List Statement). units_of_statements d.context (Const true) before (statements_of xs)) are.4
+      ∙ ap (λ (us : List CountedUnit). us ++ units_of_statements d.context (Const true) (before ++ statement_manners d.context are.0) (statements_of are.1)) unit.equals
+      ∙ ap (λ (ms : List Manner). unit.unit ∷ units_of_statements d.context (Const true) (before ++ ms) (statements_of are.1)) manner in
       subst (λ (us : List CountedUnit). AreUnrefused us (2832 * length (l ∷ ls))) (sym whole)
       (record { each = (unit.refusals, rest.each); nodes = omega (arith, unit.nodes, rest.nodes) })
 
@@ -94,10 +94,10 @@ module _ (t : Table) (fuses : List Bool) (laws : IsDevice t) (m : ModuleTree) (i
   sections_are = ap (λ (x : ModuleTree). x.sections) is.is
 
   abbrev line_units : List CountedUnit
-  line_units = units_of_statements d (Const true) [] (statements_of is.lines)
+  line_units = units_of_statements d.context (Const true) [] (statements_of is.lines)
 
   pub units_are : source_units d ≡ line_units
-  units_are = ap (units_of_sections d []) sections_are ∙ append-nil line_units
+  units_are = ap (units_of_sections d.context []) sections_are ∙ append-nil line_units
 
   pub sections_pass : sections_refused d ≡ []
   sections_pass =
@@ -107,7 +107,7 @@ module _ (t : Table) (fuses : List Bool) (laws : IsDevice t) (m : ModuleTree) (i
       ∙ units_pass line_units (2832 * length (lines_of t fuses)) lines (omega (arith, few_lines t fuses laws))
 
   pub all_pass : all_sections_refused d ≡ []
-  all_pass = ap (λ (rs : List SectionFault). rs ++ refused_behind d 0 d.sections) sections_pass ∙ ap (refused_behind d 0) sections_are
+  all_pass = ap (λ (rs : List SectionFault). rs ++ refused_behind d.context 0 d.sections) sections_pass ∙ ap (refused_behind d.context 0) sections_are
 
 pub sections_unrefused : SectionsAreUnrefused
 sections_unrefused t fuses m laws is = all_pass t fuses laws m is
