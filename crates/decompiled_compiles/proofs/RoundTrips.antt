@@ -42,16 +42,16 @@ use Rattle.decompiled_compiles.proofs.Unexchanged.{same_logic, same_values}
 
 module _ (t : Table) (fuses : List Bool) (laws : IsDevice t) (m : ModuleTree) (is : IsSourceTree (source_of t fuses) m) where
   -- no register of the source is free, whatever fuses say of cells
-  none_free : (other : List Bool) (c : ℕ) → inverting (is_inverted t other) (design_of t m) c ≡ false
+  none_free : (other : List Bool) (c : ℕ) → inverting (is_inverted t other) (design_of t m).context c ≡ false
   none_free other c = elim (cases_lt c (length t.cells)) [
     | inl within ↦ elim (cases_Bool (has_lines t fuses c)) [
       | inl has ↦
           let x = cell_name t fuses laws m is c within (lines_declare t fuses laws c within has) in
-          ap (λ (o : Option ℕ). is_free_signal (design_of t m) o && is_inverted t other c) (on_it t fuses laws m is c within has)
+          ap (λ (o : Option ℕ). is_free_signal (design_of t m).context o && is_inverted t other c) (on_it t fuses laws m is c within has)
           ∙ ap (λ (b : Bool). b && is_inverted t other c) x.free
-      | inr lacks ↦ ap (λ (o : Option ℕ). is_free_signal (design_of t m) o && is_inverted t other c) (on_none t fuses laws m is c within lacks)
+      | inr lacks ↦ ap (λ (o : Option ℕ). is_free_signal (design_of t m).context o && is_inverted t other c) (on_none t fuses laws m is c within lacks)
     ]
-    | inr past ↦ ap (λ (b : Bool). is_free_signal (design_of t m) (signal_on (design_of t m) c) && b) (plain past) ∙ and_false (is_free_signal (design_of t m) (signal_on (design_of t m) c))
+    | inr past ↦ ap (λ (b : Bool). is_free_signal (design_of t m).context (signal_on (design_of t m).context c) && b) (plain past) ∙ and_false (is_free_signal (design_of t m).context (signal_on (design_of t m).context c))
   ]
     where
       plain : length t.cells ≤ c → is_inverted t other c ≡ false
@@ -64,7 +64,7 @@ module _ (t : Table) (fuses : List Bool) (laws : IsDevice t) (m : ModuleTree) (i
   -- so what does what it says does so without a choice
   unchosen : (other : List Bool) → DoesWhatItSays t m other → DoesTheSame (device_logic t other) (source_logic t m) (source_values t m)
   unchosen other does =
-      let x = inverting (is_inverted t other) (design_of t m) in
+      let x = inverting (is_inverted t other) (design_of t m).context in
       subst (λ v. DoesTheSame (device_logic t other) (source_logic t m) v) (same_values x (none_free other) (source_values t m))
       (subst (λ s. DoesTheSame (device_logic t other) s (source_values_under t m (is_inverted t other))) (same_logic x (none_free other) (source_logic t m)) does)
 
