@@ -77,7 +77,7 @@ module _ (t : Table) (cells : ℕ) (fuses : List Bool) (low : cells < 2 ^ 64) wh
 few_of : (device : DeviceName) → length (table_of device).cells < 2 ^ 64
 few_of device = let few = (table_sound device).sizes.few_cells in omega (arith, few)
 
-pub few_cells : (device : DeviceName) (m : ModuleTree) → design_cells (design_of (table_of device) m) < 2 ^ 64
+pub few_cells : (device : DeviceName) (m : ModuleTree) → design_cells (design_of (table_of device) m).context < 2 ^ 64
 few_cells device m =
-    let counted = count_by-le-length (λ c. is_some (signal_on (design_of (table_of device) m) c)) (range_with_len 0 (length (table_of device).cells)) in
+    let counted = count_by-le-length (λ c. is_some (signal_on (design_of (table_of device) m).context c)) (range_with_len 0 (length (table_of device).cells)) in
     omega (arith, counted, length-range_with_len 0 (length (table_of device).cells), few_of device)

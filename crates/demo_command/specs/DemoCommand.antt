@@ -55,7 +55,7 @@ FileEnds seed cells t bytes e =
 
 -- the cells that the placed module of a compiled source assigns
 abbrev pub cells_of : (text : List ℕ) (c : Compiled) → IsCompiled text c → ℕ
-cells_of text c is = design_cells (design_of (table_of c.device) is.right.placed)
+cells_of text c is = design_cells (design_of (table_of c.device) is.right.placed).context
 
 -- so of a source: it is compiled, and its file is run
 pub record IsDemoRun (seed : ℕ) (text : List ℕ) (list : List Mismatch) (report : List ℕ) : Type 0 where
