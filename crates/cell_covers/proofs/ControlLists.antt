@@ -6,7 +6,7 @@ use Rattle.bit_expr.specs.Arena.{arena, formula_at}
 use Rattle.bit_expr.specs.Formulas.{Or}
 use Rattle.sop_lowering.specs.Products.{Products, sum_of}
 use Rattle.sop_lowering.specs.Written.{bit_list, written}
-use Rattle.fit_cells.specs.Tries.{allowed_of, needed_of}
+use Rattle.fit_plans.specs.Tries.{allowed_of, needed_of}
 use Rattle.fit_laws.proofs.WantedIds.{zero_is}
 use Rattle.fit_plans.specs.Covered.{control_function}
 

@@ -19,8 +19,8 @@ use Rattle.sop_lowering.specs.declared.fault.LowerFault.TheVariants as lower
 use Rattle.sop_lowering.specs.Lowering.{Fails}
 use Rattle.sop_lowering.specs.Products.{Products}
 use Rattle.sop_lowering.specs.Written.{bit_list}
-use Rattle.fit_cells.specs.declared.choosing.Tried.{Tried}
-use Rattle.fit_cells.specs.Choices.{FitsRoom}
+use Rattle.fit_plans.specs.declared.choosing.Tried.{Tried}
+use Rattle.fit_plans.specs.Choices.{FitsRoom}
 use Rattle.fit_laws.specs.Coverable.{IsSoundId}
 use Rattle.fit_laws.specs.Plans.{PlansRows, cell_wanted, enable_bit}
 use Rattle.fit_laws.proofs.Coverable.{sound_cover}

@@ -7,7 +7,7 @@ use Rattle.bit_expr.specs.declared.netlist.Control.{Control}
 use Rattle.bit_expr.specs.declared.netlist.Function.{Function}
 use Rattle.bit_expr.specs.declared.netlist.Netlist.{Netlist}
 use Rattle.sop_lowering.specs.Written.{bit_list}
-use Rattle.fit_cells.specs.Tries.{allowed_of, needed_of}
+use Rattle.fit_plans.specs.Tries.{allowed_of, needed_of}
 use Rattle.fit_laws.specs.Plans.{cell_wanted, enable_bit}
 use Rattle.fit_plans.specs.Forms.{may_be_inverted_as, rows_are_positive}
 

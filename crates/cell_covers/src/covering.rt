@@ -10,8 +10,7 @@ ghost use Rattle.cell_covers.specs.Width.{IsFunctionTooWide};
 
 use bit_expr::{CellWanted, Control, ExprId, Netlist};
 use cube_pool::{Cube, CubePool};
-use fit_cells::Tried;
-use fit_plans::{control_cover, has_lists, try_cell};
+use fit_plans::{Tried, control_cover, has_lists, try_cell};
 use fit_shared::{cell_wanted, pair_count};
 use pld_device::Device;
 use sop_lowering::{LowerFault, lower};

@@ -1,7 +1,7 @@
 //! The fuses of a small plan in the sample device.
 
 use cube_pool::Cube;
-use fit_rows::{CellForm, CellPlan, Plan, device_fuses, planned_fuses};
+use fit_plans::{CellForm, CellPlan, Plan, device_fuses, planned_fuses};
 use pld_base::ListOf;
 use pld_device::Sample;
 use std::alloc::{AllocError, Global};

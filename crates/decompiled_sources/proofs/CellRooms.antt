@@ -25,7 +25,7 @@ use Rattle.abel_meaning.specs.SoundIds.{IsSoundNetlist}
 use Rattle.cube_pool.specs.declared.cube.Cube.{Cube}
 use Rattle.sop_lowering.specs.Products.{Products, sum_of}
 use Rattle.sop_lowering.specs.Written.{bit_list, written}
-use Rattle.fit_cells.specs.Tries.{allowed_of, needed_of, one_of}
+use Rattle.fit_plans.specs.Tries.{allowed_of, needed_of, one_of}
 use Rattle.fit_laws.specs.Plans.{cell_wanted, enable_bit}
 use Rattle.fit_laws.proofs.WantedIds.{enable_is, sound_id_at, wanted_is}
 use Rattle.fit_plans.specs.Forms.{rows_are_positive}

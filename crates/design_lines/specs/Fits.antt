@@ -11,7 +11,7 @@ use Rattle.bit_expr.specs.declared.netlist.Netlist.{Netlist}
 use Rattle.abel_tree.specs.Entries.{Entry}
 use Rattle.abel_tree.specs.FirstRefusal.{Ranks, first_refusal}
 use Rattle.cube_pool.specs.declared.cube.Cube.{Cube}
-use Rattle.fit_cells.specs.declared.choosing.Tried.{Tried}
+use Rattle.fit_plans.specs.declared.choosing.Tried.{Tried}
 use Rattle.fit_laws.specs.Plans.{cell_wanted}
 use Rattle.fit_shared.specs.declared.shared.SharedControl.{SharedControl}
 use Rattle.fit_shared.specs.declared.shared.SharedControl.TheVariants.{Preset, Reset}

@@ -13,7 +13,7 @@ use crate::told::{put_names, told};
 use abel_tree::Names;
 use bit_expr::{CellWanted, Control, Netlist};
 use cube_pool::Cube;
-use fit_cells::Tried;
+use fit_plans::Tried;
 use fit_shared::{SharedControl, cell_wanted, own_control};
 use fitter::FitFault;
 use pld_base::{OutOfMemory, put_decimal};

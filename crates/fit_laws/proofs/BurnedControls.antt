@@ -18,10 +18,10 @@ use Rattle.pld_device.specs.Rows.{is_switched_on}
 use Rattle.pld_device.specs.Table.{Table, cell_at, inverted_at, registered_at}
 use Rattle.pld_order.specs.Graphs.{has}
 use Rattle.cube_pool.specs.declared.cube.Cube.{Cube}
-use Rattle.fit_rows.specs.declared.controls.CellForm.{CellForm}
-use Rattle.fit_rows.specs.declared.plan.Plan.{Plan}
-use Rattle.fit_rows.specs.Controls.{IsBurned, control_level, form_at, told_level}
-use Rattle.fit_rows.specs.Owners.{planned}
+use Rattle.fit_plans.specs.declared.control_fuses.CellForm.{CellForm}
+use Rattle.fit_plans.specs.declared.plan.Plan.{Plan}
+use Rattle.fit_plans.specs.Controls.{IsBurned, control_level, form_at, told_level}
+use Rattle.fit_plans.specs.Owners.{planned}
 
 -- ---- a fuse that controls something is listed
 

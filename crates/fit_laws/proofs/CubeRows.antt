@@ -27,7 +27,7 @@ use Rattle.fitted.specs.Covers.{IsPrimeCover, IsPrimeRow, IsValuedFor, any_other
 use Rattle.fitted.proofs.BoolLaws.{both_ways}
 use Rattle.fitted.proofs.RowLiterals.{HasPair, column_of, pair_of}
 use Rattle.fitted.proofs.UnusedRows.{unused_value}
-use Rattle.fit_rows.specs.RowCubes.{HoldsCubes, fuse_at, row_of, zeros}
+use Rattle.fit_plans.specs.RowCubes.{HoldsCubes, fuse_at, row_of, zeros}
 use Rattle.fit_laws.specs.Plans.{IsFunctionOf}
 use Rattle.fit_laws.proofs.PairPoints.{point_of}
 

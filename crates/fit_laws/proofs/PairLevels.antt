@@ -30,11 +30,11 @@ use Rattle.sop_lowering.specs.Products.{Products}
 use Rattle.sop_lowering.specs.Values.{Carries, HasValue}
 use Rattle.sop_lowering.specs.Written.{pair_of, written}
 use Rattle.sop_lowering.proofs.WrittenValues.{written_values}
-use Rattle.fit_cells.specs.Columns.{all_turned}
-use Rattle.fit_cells.specs.Covering.{IsCoverBetween}
-use Rattle.fit_cells.specs.Points.{levels_turned}
-use Rattle.fit_cells.specs.Tries.{allowed_of, needed_of, one_of, one_or_any}
-use Rattle.fit_cells.proofs.TurnedCubes.{covers_turned, length_turned}
+use Rattle.fit_plans.specs.Columns.{all_turned}
+use Rattle.fit_plans.specs.Covering.{IsCoverBetween}
+use Rattle.fit_plans.specs.Points.{levels_turned}
+use Rattle.fit_plans.specs.Tries.{allowed_of, needed_of, one_of, one_or_any}
+use Rattle.fit_plans.proofs.TurnedCubes.{covers_turned, length_turned}
 use Rattle.fit_laws.specs.Coverable.{IsSoundId}
 use Rattle.fit_laws.specs.Plans.{IsChosenMask, IsFunctionOf, carries_chosen}
 use Rattle.fit_laws.proofs.CarriedPoints.{carries_all}

@@ -18,18 +18,18 @@ use Rattle.bit_expr.specs.declared.node.ExprId.{ExprId}
 use Rattle.cube_pool.specs.declared.cube.Cube.{Cube}
 use Rattle.cube_pool.specs.Cubes.{full_cube}
 use Rattle.fitted.specs.Covers.{is_used}
-use Rattle.fit_cells.specs.Columns.{all_turned}
-use Rattle.fit_cells.specs.Covering.{IsCoverBetween}
+use Rattle.fit_plans.specs.Columns.{all_turned}
+use Rattle.fit_plans.specs.Covering.{IsCoverBetween}
 use Rattle.sop_lowering.specs.Products.{Products}
-use Rattle.fit_rows.specs.declared.controls.CellForm.{CellForm}
-use Rattle.fit_rows.specs.declared.plan.CellPlan.{CellPlan}
-use Rattle.fit_rows.specs.declared.plan.Plan.{Plan}
-use Rattle.fit_rows.specs.Controls.{IsBurned, form_at}
-use Rattle.fit_rows.specs.FuseLists.{planned_row}
-use Rattle.fit_rows.specs.Owners.{cube_for, of_cell, planned}
-use Rattle.fit_rows.specs.RowCubes.{HoldsCubes, fuse_at, row_of, zeros}
-use Rattle.fit_rows.proofs.PlannedCubes.{each_planned}
-use Rattle.fit_rows.proofs.OwnedRows.{enable_owner, planned_data, preset_owner, reset_owner}
+use Rattle.fit_plans.specs.declared.control_fuses.CellForm.{CellForm}
+use Rattle.fit_plans.specs.declared.plan.CellPlan.{CellPlan}
+use Rattle.fit_plans.specs.declared.plan.Plan.{Plan}
+use Rattle.fit_plans.specs.Controls.{IsBurned, form_at}
+use Rattle.fit_plans.specs.FuseLists.{planned_row}
+use Rattle.fit_plans.specs.Owners.{cube_for, of_cell, planned}
+use Rattle.fit_plans.specs.RowCubes.{HoldsCubes, fuse_at, row_of, zeros}
+use Rattle.fit_plans.proofs.PlannedCubes.{each_planned}
+use Rattle.fit_plans.proofs.OwnedRows.{enable_owner, planned_data, preset_owner, reset_owner}
 use Rattle.fit_laws.specs.Plans.{HasCellPlan, PlansAs, PlansNetlist, cell_wanted}
 use Rattle.fit_laws.proofs.BurnedControls.{holder_on, switch_as}
 use Rattle.fit_laws.proofs.CubeWitness.{asks_one_level}

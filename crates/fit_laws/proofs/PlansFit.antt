@@ -32,15 +32,15 @@ use Rattle.cube_pool.specs.declared.cube.Cube.{Cube}
 use Rattle.fitted.specs.Covers.{IsExactRow, IsPrimeCover, is_used}
 use Rattle.fitted.specs.Fitting.{IsFitted, IsFittedAs, IsFittedCell, IsFittedEnable, IsFittedShared, IsSpareCell, or_complements, or_may_be}
 use Rattle.fitted.proofs.UnusedRows.{data_row_below}
-use Rattle.fit_cells.specs.Columns.{all_turned}
-use Rattle.fit_cells.specs.Tries.{one_of, one_or_any}
+use Rattle.fit_plans.specs.Columns.{all_turned}
+use Rattle.fit_plans.specs.Tries.{one_of, one_or_any}
 use Rattle.fit_plans.specs.Covered.{control_function}
 use Rattle.fit_plans.specs.Forms.{follows_as, may_be_inverted_as, names_or, or_is_complement, rows_are_positive}
-use Rattle.fit_rows.specs.declared.controls.CellForm.{CellForm}
-use Rattle.fit_rows.specs.declared.plan.CellPlan.{CellPlan}
-use Rattle.fit_rows.specs.declared.plan.Plan.{Plan}
-use Rattle.fit_rows.specs.Controls.{IsBurned, form_at}
-use Rattle.fit_rows.specs.Owners.{planned}
+use Rattle.fit_plans.specs.declared.control_fuses.CellForm.{CellForm}
+use Rattle.fit_plans.specs.declared.plan.CellPlan.{CellPlan}
+use Rattle.fit_plans.specs.declared.plan.Plan.{Plan}
+use Rattle.fit_plans.specs.Controls.{IsBurned, form_at}
+use Rattle.fit_plans.specs.Owners.{planned}
 use Rattle.fit_laws.specs.Coverable.{IsSoundId}
 use Rattle.fit_laws.specs.Plans.{IsFunctionOf, PlansAs, PlansCell, PlansControl, PlansFit, PlansNetlist, PlansShared, PlansSpare, cell_wanted, enable_bit, is_chosen, is_free_cell}
 use Rattle.pld_machine.specs.Exchanged.{exchanged_at, in_sense}

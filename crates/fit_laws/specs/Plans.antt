@@ -22,14 +22,14 @@ use Rattle.abel_meaning.specs.SoundIds.{IsSoundNetlist}
 use Rattle.free_netlists.specs.ExchangedNets.{netlist_exchanged, netlist_shown}
 use Rattle.cube_pool.specs.declared.cube.Cube.{Cube}
 use Rattle.cube_pool.specs.Cubes.{covers}
-use Rattle.fit_cells.specs.Covering.{IsCoverBetween}
-use Rattle.fit_cells.specs.Tries.{allowed_of, needed_of}
+use Rattle.fit_plans.specs.Covering.{IsCoverBetween}
+use Rattle.fit_plans.specs.Tries.{allowed_of, needed_of}
 use Rattle.fit_plans.specs.Covered.{control_function}
 use Rattle.fit_plans.specs.Forms.{may_be_inverted_as, rows_are_positive}
-use Rattle.fit_rows.specs.declared.controls.CellForm.{CellForm}
-use Rattle.fit_rows.specs.declared.plan.CellPlan.{CellPlan}
-use Rattle.fit_rows.specs.declared.plan.Plan.{Plan}
-use Rattle.fit_rows.specs.Controls.{IsBurned, form_at}
+use Rattle.fit_plans.specs.declared.control_fuses.CellForm.{CellForm}
+use Rattle.fit_plans.specs.declared.plan.CellPlan.{CellPlan}
+use Rattle.fit_plans.specs.declared.plan.Plan.{Plan}
+use Rattle.fit_plans.specs.Controls.{IsBurned, form_at}
 use Rattle.fitted.specs.Covers.{IsValuedFor}
 use Rattle.fitted.specs.Fitting.{AreShared, IsFitted}
 

@@ -2,9 +2,9 @@
 use Rattle.std.proofs.Common.{ℕ, ◌≤◌, ◌<◌, ◌^◌, Bool, arith}
 use Rattle.bit_expr.specs.declared.netlist.Function.{Function}
 use Rattle.bit_expr.specs.declared.netlist.Netlist.{Netlist}
-use Rattle.fit_cells.specs.Covering.{AreInside}
-use Rattle.fit_cells.specs.Tries.{allowed_of, needed_of}
-use Rattle.fit_cells.proofs.InsideLists.{lists_inside}
+use Rattle.fit_plans.specs.Covering.{AreInside}
+use Rattle.fit_plans.specs.Tries.{allowed_of, needed_of}
+use Rattle.fit_plans.proofs.InsideLists.{lists_inside}
 use Rattle.fit_plans.specs.Covered.{CanCover}
 
 pub are_inside : (vars mask : ℕ) (net : Netlist) (f : Function) (positive : Bool) → vars ≤ 22 → mask < 2 ^ 32 → CanCover vars net f

@@ -8,11 +8,11 @@ use Rattle.bit_expr.specs.declared.node.ExprId.{ExprId}
 use Rattle.cube_pool.specs.declared.cube.Cube.{Cube}
 use Rattle.pld_device.specs.declared.flip.Flip.{Flip}
 use Rattle.sop_lowering.specs.Lowering.{CanLower}
-use Rattle.fit_cells.specs.Choices.{FitsRoom}
-use Rattle.fit_cells.specs.Covering.{IsTried}
-use Rattle.fit_cells.specs.Points.{IsCarried}
-use Rattle.fit_cells.specs.Tries.{allowed_of, needed_of}
-use Rattle.fit_cells.specs.declared.choosing.Tried.{Tried}
+use Rattle.fit_plans.specs.Choices.{FitsRoom}
+use Rattle.fit_plans.specs.Covering.{IsTried}
+use Rattle.fit_plans.specs.Points.{IsCarried}
+use Rattle.fit_plans.specs.Tries.{allowed_of, needed_of}
+use Rattle.fit_plans.specs.declared.choosing.Tried.{Tried}
 use Rattle.fit_plans.specs.Forms.{may_be_inverted_as, rows_are_positive}
 
 -- what covering a function needs: it can be lowered, and all levels of the pairs are carried to it from some point

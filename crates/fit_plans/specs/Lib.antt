@@ -1,2 +1,13 @@
-pub mod Forms
+pub mod Choices
+pub mod Columns
+pub mod Controls
 pub mod Covered
+pub mod Covering
+pub mod Forms
+pub mod FuseLists
+pub mod Owners
+pub mod Planned
+pub mod Points
+pub mod RowCubes
+pub mod Tries
+pub mod TurnedCovers

@@ -1,15 +1,17 @@
 //! The covers of a cell in the forms that it may have.
 
 ghost use Rattle.std.specs.Prelude.{◌≡◌, ◌≤◌, ◌<◌, ◌^◌, IfOk, Ok, false, true};
-ghost use Rattle.fit_cells.specs.Choices.{FitsRoom};
+ghost use Rattle.fit_plans.specs.Choices.{FitsRoom};
 ghost use Rattle.sop_lowering.specs.Lowering.{CanLower};
 ghost use Rattle.fit_plans.specs.Covered.{CanCover, HasNoLists, IsListedAs, IsTriedAs, IsTriedCell};
 ghost use Rattle.fit_plans.specs.Forms.{may_be_inverted_as, rows_are_positive};
 
+use crate::choosing::Tried;
+use crate::covering::cover;
 use crate::forms::{may_be_inverted_as, rows_are_positive};
+use crate::lists::written_lists;
 use bit_expr::{CellWanted, Netlist};
 use cube_pool::{Cube, CubePool};
-use fit_cells::{Tried, cover, written_lists};
 use pld_device::Flip;
 use sop_lowering::LowerFault;
 use std::alloc::{AllocError, Global};

@@ -15,18 +15,18 @@ use Rattle.bit_expr.specs.declared.netlist.Netlist.{Netlist}
 use Rattle.abel_meaning.specs.Netlists.{Wanted, plain_netlist}
 use Rattle.abel_meaning.specs.SoundIds.{IsSoundNetlist}
 use Rattle.cube_pool.specs.declared.cube.Cube.{Cube}
-use Rattle.fit_cells.specs.Columns.{all_turned, turned}
-use Rattle.fit_cells.specs.declared.choosing.Tried.{Tried}
+use Rattle.fit_plans.specs.Columns.{all_turned, turned}
+use Rattle.fit_plans.specs.declared.choosing.Tried.{Tried}
 use Rattle.fit_laws.specs.Plans.{HasCellPlan, IsTurnMask, PlansNetlist, PlansRows, cell_wanted, enable_bit, is_chosen}
 use Rattle.fit_laws.proofs.BurnedControls.{says_inverted}
 use Rattle.fit_laws.proofs.PlannedRows.{cell_single}
 use Rattle.fit_laws.proofs.PlansFit.{may_choose, plans_fit}
 use Rattle.fit_laws.proofs.SharedChosen.{shared_chosen}
 use Rattle.fit_plans.specs.Covered.{control_function}
-use Rattle.fit_rows.specs.declared.plan.CellPlan.{CellPlan}
-use Rattle.fit_rows.specs.declared.plan.Plan.{Plan}
-use Rattle.fit_rows.specs.Controls.{form_at}
-use Rattle.fit_rows.specs.RowCubes.{HoldsCubes}
+use Rattle.fit_plans.specs.declared.plan.CellPlan.{CellPlan}
+use Rattle.fit_plans.specs.declared.plan.Plan.{Plan}
+use Rattle.fit_plans.specs.Controls.{form_at}
+use Rattle.fit_plans.specs.RowCubes.{HoldsCubes}
 use Rattle.fit_shared.specs.declared.shared.SharedControl.{SharedControl}
 use Rattle.fit_shared.specs.declared.shared.SharedControl.TheVariants.{Preset, Reset}
 use Rattle.cell_covers.specs.declared.covering.CellCovers.{CellCovers}

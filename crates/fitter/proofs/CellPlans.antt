@@ -11,16 +11,16 @@ use Rattle.bit_expr.specs.declared.netlist.CellWanted.{CellWanted}
 use Rattle.bit_expr.specs.declared.netlist.Netlist.{Netlist}
 use Rattle.bit_expr.proofs.ArenaLists.{get_kept}
 use Rattle.cube_pool.specs.declared.cube.Cube.{Cube}
-use Rattle.fit_cells.specs.declared.choosing.Tried.{Tried}
-use Rattle.fit_cells.specs.Choices.{FitsRoom}
-use Rattle.fit_cells.specs.Tries.{allowed_of, needed_of}
+use Rattle.fit_plans.specs.declared.choosing.Tried.{Tried}
+use Rattle.fit_plans.specs.Choices.{FitsRoom}
+use Rattle.fit_plans.specs.Tries.{allowed_of, needed_of}
 use Rattle.fit_laws.specs.Plans.{PlansAs, PlansCell, PlansRows, cell_wanted, enable_bit}
 use Rattle.fit_laws.proofs.WantedIds.{found_id}
 use Rattle.fit_plans.specs.Covered.{IsTriedAs, IsTriedCell, control_function}
 use Rattle.fit_plans.specs.Forms.{may_be_inverted_as, rows_are_positive}
-use Rattle.fit_rows.specs.declared.controls.CellForm.{CellForm}
-use Rattle.fit_rows.specs.declared.plan.CellPlan.{CellPlan}
-use Rattle.fit_rows.specs.Controls.{form_at}
+use Rattle.fit_plans.specs.declared.control_fuses.CellForm.{CellForm}
+use Rattle.fit_plans.specs.declared.plan.CellPlan.{CellPlan}
+use Rattle.fit_plans.specs.Controls.{form_at}
 use Rattle.cell_covers.specs.declared.covering.CellCovers.{CellCovers}
 use Rattle.cell_covers.specs.Covered.{HasCovers, HasCoversAs}
 use Rattle.fitter.specs.declared.planning.CellRows.{CellRows}

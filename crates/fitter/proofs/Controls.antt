@@ -5,7 +5,7 @@ use Rattle.cube_pool.specs.declared.cube.Cube.{Cube}
 use Rattle.cube_pool.specs.Prime.{IsPrimeIrredundant}
 use Rattle.bit_expr.specs.declared.netlist.Netlist.{Netlist}
 use Rattle.bit_expr.specs.declared.node.ExprId.{ExprId}
-use Rattle.fit_cells.specs.Columns.{all_turned}
+use Rattle.fit_plans.specs.Columns.{all_turned}
 use Rattle.fit_laws.specs.Plans.{PlansControl, PlansRows}
 use Rattle.fit_plans.specs.Covered.{control_function}
 use Rattle.cell_covers.proofs.ControlLists.{control_allowed}

@@ -13,9 +13,9 @@ use Rattle.cube_pool.proofs.CubePoints.{fits_at, has_point_each, point_one, poin
 use Rattle.cover_min.proofs.RowsOthers.{other_covers}
 use Rattle.fitted.proofs.BoolLaws.{both_ways}
 use Rattle.fitted.proofs.RowLiterals.{column_of}
-use Rattle.fit_cells.specs.Columns.{all_turned, turned}
-use Rattle.fit_cells.specs.Points.{levels_turned}
-use Rattle.fit_cells.proofs.TurnedCubes.{covers_turned, length_turned, turned_points}
+use Rattle.fit_plans.specs.Columns.{all_turned, turned}
+use Rattle.fit_plans.specs.Points.{levels_turned}
+use Rattle.fit_plans.proofs.TurnedCubes.{covers_turned, length_turned, turned_points}
 use Rattle.fit_laws.proofs.CubeRows.{dropped_other}
 use Rattle.fit_laws.proofs.CubeWitness.{asks_one_level}
 use Rattle.fitter.specs.Products.{IsOneProduct}

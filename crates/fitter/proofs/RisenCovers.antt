@@ -9,7 +9,7 @@ use Rattle.cube_pool.specs.Cubes.{covers, has_point}
 use Rattle.cube_pool.specs.Prime.{IsIrredundant, IsPrime, IsPrimeIrredundant}
 use Rattle.cover_min.proofs.RowsOthers.{exchange_case, exchanged, swapped_others}
 use Rattle.sop_lowering.specs.Products.{Products}
-use Rattle.fit_cells.specs.Covering.{IsCoverBetween}
+use Rattle.fit_plans.specs.Covering.{IsCoverBetween}
 
 within_exchanged : (n i j k : ℕ) → i < n → j < n → k < n → exchanged i j k < n
 within_exchanged n i j k li lj lk =

@@ -3,7 +3,7 @@ use Rattle.std.proofs.Common.{◌≡◌, ℕ, suc, ◌+◌, ◌*◌, ◌<◌, �
 use Rattle.std.proofs.Math.Nat.{pow-suc}
 use Rattle.std.proofs.Math.Pow.{pow_mono}
 use Rattle.cube_pool.specs.declared.cube.Cube.{Cube}
-use Rattle.fit_rows.specs.RowCubes.{fuse_at}
+use Rattle.fit_plans.specs.RowCubes.{fuse_at}
 use Rattle.fitter.specs.Rows.{row_number}
 
 pub digit_low : (b : Bool) → (if b then 1 else 0) ≤ 1

@@ -8,10 +8,10 @@ use Rattle.std.proofs.lemmas.Nat.{xor_lt}
 use Rattle.std.proofs.lemmas.Nat.Bits.{bit_at-lt, bit_at_xor}
 use Rattle.cube_pool.specs.declared.cube.Cube.{Cube}
 use Rattle.sop_lowering.specs.Products.{Products}
-use Rattle.fit_cells.specs.Columns.{all_turned, turned}
-use Rattle.fit_cells.specs.Covering.{IsCoverBetween}
-use Rattle.fit_cells.specs.TurnedCovers.{IsExchangedMask}
-use Rattle.fit_cells.proofs.TurnedRows.{turned_again}
+use Rattle.fit_plans.specs.Columns.{all_turned, turned}
+use Rattle.fit_plans.specs.Covering.{IsCoverBetween}
+use Rattle.fit_plans.specs.TurnedCovers.{IsExchangedMask}
+use Rattle.fit_plans.proofs.TurnedRows.{turned_again}
 
 -- ---- the mask of both
 

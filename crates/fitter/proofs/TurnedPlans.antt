@@ -19,12 +19,12 @@ use Rattle.abel_meaning.specs.Netlists.{plain_netlist}
 use Rattle.abel_meaning.specs.NetlistLogic.{netlist_stores, registers_as}
 use Rattle.abel_meaning.specs.SoundIds.{IsSoundNetlist}
 use Rattle.cube_pool.specs.declared.cube.Cube.{Cube}
-use Rattle.fit_cells.specs.Columns.{all_turned, turned}
+use Rattle.fit_plans.specs.Columns.{all_turned, turned}
 use Rattle.fit_laws.specs.Plans.{IsChosenMask, IsTurnMask, PlansAs, PlansCell, PlansRows, carries_chosen, carries_complement, enable_bit, is_chosen}
 use Rattle.fit_laws.proofs.PlansFit.{may_choose}
 use Rattle.fit_plans.specs.Covered.{control_function}
-use Rattle.fit_rows.specs.declared.controls.CellForm.{CellForm}
-use Rattle.fit_rows.specs.declared.plan.CellPlan.{CellPlan}
+use Rattle.fit_plans.specs.declared.control_fuses.CellForm.{CellForm}
+use Rattle.fit_plans.specs.declared.plan.CellPlan.{CellPlan}
 use Rattle.fitter.specs.Turning.{AreTurned, IsChoiceMask, IsTurnedCell, carries_choice}
 use Rattle.fitter.proofs.RisenCovers.{risen_cover}
 use Rattle.fitter.proofs.TurnedCovers.{both_masks, one_turned, turned_cover}

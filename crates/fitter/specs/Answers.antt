@@ -9,7 +9,7 @@ use Rattle.fitted.specs.Fitting.{AreShared, IsFitted}
 use Rattle.fit_laws.specs.Plans.{IsTurnMask, cell_wanted}
 use Rattle.fit_shared.specs.declared.shared.SharedControl.TheVariants.{Preset, Reset}
 use Rattle.fit_shared.specs.Sharing.{own_formula}
-use Rattle.fit_cells.specs.declared.choosing.Tried.{Tried}
+use Rattle.fit_plans.specs.declared.choosing.Tried.{Tried}
 use Rattle.cell_covers.specs.Width.{IsFirstWide, NoneWide}
 use Rattle.fitter.specs.declared.fault.FitFault.{FitFault}
 use Rattle.fitter.specs.declared.fault.FitFault.TheVariants.{EnableTooWide, NotShared, OutOfMemory, PresetTooWide, ResetTooWide, TooManyProducts, TooWide}

@@ -3,10 +3,10 @@ use Rattle.std.specs.Prelude.{ℕ, List, length}
 use Rattle.std.specs.Option.{option_map}
 use Rattle.pld_device.specs.Table.{Table}
 use Rattle.bit_expr.specs.declared.netlist.Netlist.{Netlist}
-use Rattle.fit_cells.specs.Columns.{turned}
-use Rattle.fit_rows.specs.declared.plan.CellPlan.{CellPlan}
-use Rattle.fit_rows.specs.declared.plan.Plan.{Plan}
-use Rattle.fit_rows.specs.Controls.{IsBurned}
+use Rattle.fit_plans.specs.Columns.{turned}
+use Rattle.fit_plans.specs.declared.plan.CellPlan.{CellPlan}
+use Rattle.fit_plans.specs.declared.plan.Plan.{Plan}
+use Rattle.fit_plans.specs.Controls.{IsBurned}
 use Rattle.fitter.specs.declared.answer.Fitted.{Fitted}
 use Rattle.fitter.specs.declared.planning.AllRows.{AllRows}
 use Rattle.fitter.specs.declared.sharing.SharedRows.{SharedRows}

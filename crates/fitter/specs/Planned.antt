@@ -7,12 +7,12 @@ use Rattle.bit_expr.specs.declared.netlist.CellWanted.{CellWanted}
 use Rattle.bit_expr.specs.declared.netlist.Netlist.{Netlist}
 use Rattle.bit_expr.specs.declared.node.ExprId.{ExprId}
 use Rattle.cube_pool.specs.declared.cube.Cube.{Cube}
-use Rattle.fit_cells.specs.declared.choosing.Tried.{Tried}
-use Rattle.fit_cells.specs.Choices.{FitsRoom}
+use Rattle.fit_plans.specs.declared.choosing.Tried.{Tried}
+use Rattle.fit_plans.specs.Choices.{FitsRoom}
 use Rattle.fit_laws.specs.Plans.{PlansControl, cell_wanted}
-use Rattle.fit_rows.specs.declared.controls.CellForm.{CellForm}
-use Rattle.fit_rows.specs.declared.plan.CellPlan.{CellPlan}
-use Rattle.fit_rows.specs.Controls.{form_at}
+use Rattle.fit_plans.specs.declared.control_fuses.CellForm.{CellForm}
+use Rattle.fit_plans.specs.declared.plan.CellPlan.{CellPlan}
+use Rattle.fit_plans.specs.Controls.{form_at}
 use Rattle.fitted.specs.Fitting.{AreShared}
 use Rattle.abel_meaning.specs.Netlists.{plain_netlist}
 use Rattle.fit_shared.specs.declared.shared.SharedControl.{SharedControl}

@@ -9,15 +9,15 @@ use Rattle.pld_device.specs.Table.{Table, cell_at}
 use Rattle.bit_expr.specs.declared.netlist.CellWanted.{CellWanted}
 use Rattle.bit_expr.specs.declared.netlist.Netlist.{Netlist}
 use Rattle.cube_pool.specs.declared.cube.Cube.{Cube}
-use Rattle.fit_cells.specs.declared.choosing.Tried.{Tried}
-use Rattle.fit_cells.specs.Choices.{FitsRoom}
-use Rattle.fit_cells.specs.Tries.{allowed_of, needed_of}
+use Rattle.fit_plans.specs.declared.choosing.Tried.{Tried}
+use Rattle.fit_plans.specs.Choices.{FitsRoom}
+use Rattle.fit_plans.specs.Tries.{allowed_of, needed_of}
 use Rattle.sop_lowering.specs.Products.{Products}
 use Rattle.abel_meaning.specs.Netlists.{plain_netlist}
 use Rattle.fit_laws.specs.Plans.{IsTurnMask, cell_wanted}
 use Rattle.fit_plans.specs.Covered.{IsTriedAs, IsTriedCell}
 use Rattle.fit_plans.specs.Forms.{may_be_inverted_as, rows_are_positive}
-use Rattle.fit_rows.specs.RowCubes.{HoldsCubes, fuse_at}
+use Rattle.fit_plans.specs.RowCubes.{HoldsCubes, fuse_at}
 use Rattle.fitter.specs.declared.answer.FittedCell.{FittedCell}
 
 -- the first fuses of the cube's row, read as a binary number: rows that rise as text rise by it

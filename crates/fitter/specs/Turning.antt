@@ -7,10 +7,10 @@ use Rattle.pld_device.specs.declared.carry.Carry.{Carry}
 use Rattle.pld_device.specs.declared.carry.Carry.TheVariants as carry
 use Rattle.pld_device.specs.Table.{Table}
 use Rattle.bit_expr.specs.declared.netlist.Netlist.{Netlist}
-use Rattle.fit_cells.specs.Columns.{all_turned, turned}
+use Rattle.fit_plans.specs.Columns.{all_turned, turned}
 use Rattle.fit_laws.specs.Plans.{is_chosen}
-use Rattle.fit_rows.specs.declared.controls.CellForm.{CellForm}
-use Rattle.fit_rows.specs.declared.plan.CellPlan.{CellPlan}
+use Rattle.fit_plans.specs.declared.control_fuses.CellForm.{CellForm}
+use Rattle.fit_plans.specs.declared.plan.CellPlan.{CellPlan}
 use Rattle.fitter.specs.Rows.{Rises}
 
 -- a pair carries a cell that stores the complement in these forms

@@ -3,7 +3,7 @@
 ghost use Rattle.std.specs.Prelude.{◌≡◌, ◌⊎◌, ◌<◌, ◌≤◌, Ok, false, length, true};
 ghost use Rattle.abel_meaning.specs.SoundIds.{IsSoundNetlist};
 ghost use Rattle.cell_covers.specs.Covered.{IsCheckedAt, IsCoveredAt};
-ghost use Rattle.fit_cells.specs.Choices.{FitsRoom};
+ghost use Rattle.fit_plans.specs.Choices.{FitsRoom};
 ghost use Rattle.fitter.specs.Covered.{AreCovered};
 ghost use Rattle.fitter.specs.Planned.{OneFitsAt};
 

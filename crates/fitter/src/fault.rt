@@ -1,6 +1,6 @@
 //! Why a netlist does not fit.
 
-use fit_cells::Tried;
+use fit_plans::Tried;
 use fit_shared::SharedControl;
 use pld_base::{OutOfMemory, Point};
 use std::alloc::{AllocError, AllocFailed};

@@ -5,8 +5,7 @@ ghost use Rattle.fitter.specs.Planned.{AreNoRows, ArePlanned, ArePlannedAt, AreS
 
 use crate::fault::FitFault;
 use cell_covers::CellCovers;
-use fit_cells::choose;
-use fit_rows::{CellForm, CellPlan};
+use fit_plans::{CellForm, CellPlan, choose};
 use pld_base::ListOf;
 use pld_device::Device;
 use std::alloc::Global;

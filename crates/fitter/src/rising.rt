@@ -2,7 +2,7 @@
 
 ghost use Rattle.std.specs.Prelude.{◌≡◌, ◌<◌, ◌≤◌, if◌then◌else◌};
 ghost use Rattle.std.specs.List.Sorted.{IsPermutation};
-ghost use Rattle.fit_rows.specs.RowCubes.{fuse_at};
+ghost use Rattle.fit_plans.specs.RowCubes.{fuse_at};
 ghost use Rattle.fitter.specs.Rows.{Rises, row_number};
 
 use cube_pool::Cube;

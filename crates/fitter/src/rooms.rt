@@ -3,7 +3,7 @@
 ghost use Rattle.std.specs.Prelude.{◌≡◌, ℕ, ◌<◌, ◌≤◌, IfOk, IfSome, length};
 ghost use Rattle.std.specs.List.{All};
 ghost use Rattle.abel_meaning.specs.SoundIds.{IsSoundNetlist};
-ghost use Rattle.fit_cells.specs.Choices.{FitsRoom};
+ghost use Rattle.fit_plans.specs.Choices.{FitsRoom};
 ghost use Rattle.fitter.specs.Rooms.{IsOver};
 
 use crate::covering::cover_cells;
@@ -13,7 +13,7 @@ use crate::planning::taken;
 use bit_expr::Netlist;
 use cell_covers::{CellCovers, turn_mask};
 use cube_pool::CubePool;
-use fit_cells::{Tried, choose};
+use fit_plans::{Tried, choose};
 use pld_base::{ListOf, OutOfMemory};
 use pld_device::Device;
 use std::alloc::Global;

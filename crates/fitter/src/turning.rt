@@ -6,16 +6,15 @@
 ghost use Rattle.std.specs.Prelude.{◌≡◌, ◌<◌, IfOk, get_or, length};
 ghost use Rattle.std.specs.Option.{option_map};
 ghost use Rattle.pld_device.specs.declared.carry.Carry.TheVariants as carry;
-ghost use Rattle.fit_cells.specs.Columns.{turned};
+ghost use Rattle.fit_plans.specs.Columns.{turned};
 ghost use Rattle.fit_laws.specs.Plans.{is_chosen};
-ghost use Rattle.fit_rows.specs.Controls.{form_at};
+ghost use Rattle.fit_plans.specs.Controls.{form_at};
 ghost use Rattle.fitter.specs.Turning.{AreTurned, IsChoiceMask, IsTurnedCell, carries_choice};
 
 use crate::rising::risen;
 use bit_expr::Netlist;
 use cube_pool::Cube;
-use fit_cells::{all_turned, turned};
-use fit_rows::{CellForm, CellPlan};
+use fit_plans::{CellForm, CellPlan, all_turned, turned};
 use fit_shared::{cell_wanted, pair_count};
 use pld_base::{ListOf, with_level};
 use pld_device::{Carry, Device};

@@ -9,7 +9,7 @@ ghost use Rattle.gal22v10_device.specs.SmallCells.{all_low, is_preset, is_reset,
 
 /// What a small counter shows: each register feeds back the complement of its Q, though the pin
 /// follows Q. Does nothing.
-pub fn counters()
+pub fn gal22v10_counters()
     ensures shows { ShowsEach gal22v10 counter counter_shows }
     ensures opened { opened_of counter ≡ 394 }
 {}

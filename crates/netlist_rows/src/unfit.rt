@@ -4,7 +4,7 @@ use crate::drawing::{draw, gathered};
 use crate::places::{put_number, put_word};
 use crate::sources::module_of;
 use cube_pool::Cube;
-use fit_cells::Tried;
+use fit_plans::Tried;
 use fit_shared::SharedControl;
 use fitter::{FitFault, fit};
 use pld_device::Device;

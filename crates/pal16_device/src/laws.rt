@@ -14,7 +14,7 @@ pub fn layout()
 {}
 
 /// What the cells of a small counter show on each of the devices with registers. Does nothing.
-pub fn counters()
+pub fn pal16_counters()
     ensures r4 { ShowsEach pal16r4 (counter pal16r4) r4_shows }
     ensures r6 { ShowsEach pal16r6 (counter pal16r6) r6_shows }
     ensures r8 { ShowsEach pal16r8 (counter pal16r8) r8_shows }

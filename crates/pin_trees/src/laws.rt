@@ -3,6 +3,6 @@
 ghost use Rattle.pin_trees.specs.Reading.{SourceTextsAreRead};
 
 /// The text of a source is read as its module. Does nothing.
-pub fn texts()
+pub fn source_texts_are_read()
     ensures { SourceTextsAreRead }
 {}

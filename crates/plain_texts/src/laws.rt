@@ -3,7 +3,7 @@
 ghost use Rattle.plain_texts.specs.Plain.{PlainTextsExpandToThemselves, PlainTextsHaveTheirTokens};
 
 /// A plain text expands to itself, and its tokens are those of its pieces. Does nothing.
-pub fn texts()
+pub fn plain_texts_expand()
     ensures expand { PlainTextsExpandToThemselves }
     ensures tokens { PlainTextsHaveTheirTokens }
 {}

@@ -2,7 +2,7 @@ use Rattle.std.proofs.Common.{rules, ◌≤◌, length, refl, sym, subst}
 use Rattle.std.proofs.lemmas.Option.{get_or_from_slice_get}
 use Rattle.pld_device.specs.declared.cell.Cell.{Cell}
 use Rattle.pld_device.specs.Table.{no_cell}
-use Rattle.fit_cells.specs.Choices.{FitsRoom}
+use Rattle.fit_plans.specs.Choices.{FitsRoom}
 use Rattle.fitter.proofs.planning.chosen_rows.Goals as goal
 
 pub returns-in-Ok : goal.returns-in-Ok

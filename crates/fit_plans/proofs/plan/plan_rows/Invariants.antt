@@ -1,0 +1,7 @@
+use Rattle.std.proofs.Common.{◌≡◌, map}
+use Rattle.std.specs.List.{range_with_len}
+use Rattle.fit_plans.specs.Owners.{planned}
+use Rattle.fit_plans.proofs.plan.plan_rows.Given as goal
+
+abbrev pub invariant-loop-row : goal.invariant-loop-row
+invariant-loop-row g l = record { rows : l.rows.items ≡ map (planned g.D.Device.table l.plan) (range_with_len 0 l.row) }

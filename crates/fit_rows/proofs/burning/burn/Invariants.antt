@@ -1,9 +1,0 @@
-use Rattle.std.proofs.Common.{◌≡◌, map, get_or, None, false}
-use Rattle.std.specs.List.{range_with_len}
-use Rattle.fit_rows.specs.FuseLists.{fuse_level}
-use Rattle.fit_rows.proofs.burning.burn.Given as goal
-
-abbrev pub invariant-loop-number : goal.invariant-loop-number
-invariant-loop-number g l = record {
-  fuses : l.fuses.items ≡ map (fuse_level g.D.Device.table (λ row. get_or l.plan row None) (λ n. get_or l.control n false)) (range_with_len 0 l.number);
-}

@@ -1,6 +1,0 @@
-use Rattle.std.proofs.Common.{◌<◌, ℕ}
-use Rattle.fit_rows.specs.Controls.{IsNoCells}
-use Rattle.fit_rows.proofs.controls.cell_level.Given as goal
-
-abbrev pub invariant-loop-index : goal.invariant-loop-index
-invariant-loop-index g l = record { none : (k : ℕ) → k < l.index → IsNoCells g.D.Device.table l.fuse k }

@@ -1,5 +1,0 @@
-pub mod Controls
-pub mod FuseLists
-pub mod Owners
-pub mod Planned
-pub mod RowCubes
