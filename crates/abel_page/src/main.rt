@@ -2,7 +2,7 @@
 #![tactic(auto)]
 
 use design_page::run;
-use host_files::{HostFiles, HostSink};
+use outside::{HostFiles, HostSink};
 use std::io::ErrorKind;
 use std::process::ExitCode;
 use std::{env, io};

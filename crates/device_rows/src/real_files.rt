@@ -1,8 +1,7 @@
 //! That the real files and standard output answer, in a folder of the program's own.
 
 use crate::full_disk::FullDisk;
-use host_files::{HostFiles, HostSink};
-use outside::{Files, ReadFault, Sink, WriteFault};
+use outside::{Files, HostFiles, HostSink, ReadFault, Sink, WriteFault};
 use std::fs::Permissions;
 use std::os::unix::fs::PermissionsExt;
 use std::{fs, io, rt};

@@ -1,7 +1,7 @@
 -- What was read so far is the front of what there was, and within the limit.
 use Rattle.std.proofs.Common.{◌≤◌, length}
 use Rattle.std.specs.Io.KnownBytes.{Consumes}
-use Rattle.host_files.proofs.bytes.read_all.Given as goal
+use Rattle.outside.proofs.bytes.read_all.Given as goal
 
 abbrev pub invariant-loop : goal.invariant-loop
 invariant-loop g l =

@@ -3,10 +3,10 @@
 ghost use Rattle.std.specs.Io.KnownBytes.{Appends};
 ghost use Rattle.std.specs.Prelude.{◌≡◌, ◌≤◌, ◌⊎◌, [], OnOk, IsErrOf};
 ghost use Rattle.outside.specs.Causes.{Rose};
-ghost use Rattle.host_files.specs.HostState.{writer_of, put_faults};
+ghost use Rattle.outside.specs.HostState.{writer_of, put_faults};
 
 use crate::bytes::write_all;
-use outside::{Sink, SinkFault};
+use crate::sink::{Sink, SinkFault};
 use std::alloc::Global;
 use std::io::Write;
 

@@ -1,11 +1,11 @@
 //! The real files. Nothing is told of what they hold.
 
 ghost use Rattle.std.specs.Prelude.{◌≡◌, None};
-ghost use Rattle.host_files.specs.HostState.{host_faults, host_write_faults};
+ghost use Rattle.outside.specs.HostState.{host_faults, host_write_faults};
 
 use crate::bytes::read_all;
+use crate::files::{Files, ReadFault, WriteFault};
 use crate::replacing::replace;
-use outside::{Files, ReadFault, WriteFault};
 use std::alloc::Global;
 use std::{fs, rt};
 

@@ -3,7 +3,7 @@
 ghost use Rattle.std.specs.Io.KnownBytes.{Appends, Consumes, IsAtEnd};
 ghost use Rattle.std.specs.Prelude.{true, IfSome, IfOk, OnOk, IsErrOf, ◌≡◌, ◌≤◌, ◌<◌, ◌-◌, length};
 
-use outside::ReadFault;
+use crate::files::ReadFault;
 use std::alloc::Global;
 use std::io::{ErrorKind, Read, Write};
 

@@ -7,7 +7,7 @@ ghost use Rattle.std.specs.Io.KnownBytes.{Appends};
 ghost use Rattle.std.specs.Prelude.{true, ◌≡◌};
 
 use crate::bytes::write_all;
-use outside::WriteFault;
+use crate::files::WriteFault;
 use std::alloc::Global;
 use std::fs::{File, OpenFile, OpenOptions, Permissions};
 use std::io::{ErrorKind, Write};

@@ -1,7 +1,7 @@
 -- What the contracts of the real files and standard output speak of: their counts, and a sink's writer.
 use Rattle.std.specs.Prelude.{ℕ}
-use Rattle.host_files.specs.declared.files.HostFiles.{HostFiles}
-use Rattle.host_files.specs.declared.sink.HostSink.{HostSink}
+use Rattle.outside.specs.declared.real_files.HostFiles.{HostFiles}
+use Rattle.outside.specs.declared.real_sink.HostSink.{HostSink}
 
 -- the writer behind a sink
 abbrev pub writer_of : {W : Type 0} → HostSink W → W
