@@ -7,7 +7,7 @@ ghost use Rattle.jedec_file.specs.FileText.{level_char};
 ghost use Rattle.pld_device.specs.Table.{cell_at};
 ghost use Rattle.abel_commands.specs.Comparing.{differ_line, pin_digits, q_on, same_line};
 
-use device_array::cell_of;
+use device_logic::cell_of;
 use fuse_compare::Difference;
 use pld_base::{OutOfMemory, level_at};
 use pld_device::Device;

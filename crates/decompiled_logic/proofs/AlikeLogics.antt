@@ -11,7 +11,7 @@ use Rattle.pld_device.specs.Laws.{IsDevice}
 use Rattle.pld_device.specs.Macrocells.{device_logic, is_enabled, next_q, pin_level, row_if_any}
 use Rattle.pld_device.specs.Registers.{stores}
 use Rattle.pld_device.specs.Table.{Table, cell_at}
-use Rattle.device_array.proofs.Ranges.{preset_in, reset_in}
+use Rattle.device_logic.proofs.Ranges.{preset_in, reset_in}
 use Rattle.bit_expr.specs.declared.node.Leaf.{Leaf}
 use Rattle.bit_expr.specs.Formulas.{Formula, formula_value}
 use Rattle.abel_meaning.specs.Functions.{Function, allows}

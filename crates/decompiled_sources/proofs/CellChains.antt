@@ -12,7 +12,7 @@ use Rattle.pld_device.specs.Laws.{IsDevice}
 use Rattle.pld_device.specs.Macrocells.{data_rows}
 use Rattle.pld_device.specs.Registers.{stores}
 use Rattle.pld_device.specs.Table.{Table, cell_at, no_cell}
-use Rattle.device_array.proofs.Ranges.{reset_in}
+use Rattle.device_logic.proofs.Ranges.{reset_in}
 use Rattle.bit_expr.specs.declared.node.Leaf.{Leaf}
 use Rattle.bit_expr.specs.Formulas.{Formula, Const, names}
 use Rattle.device_logic.specs.CellReads.{cell_reads, data_reads, enable_reads, rest_reads, row_reads_cell}

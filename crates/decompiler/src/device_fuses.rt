@@ -4,10 +4,10 @@ ghost use Rattle.std.specs.Prelude.{◌≡◌, ◌<◌, IfOk, IfSome, length};
 ghost use Rattle.pld_device.specs.Given.{never_drives};
 ghost use Rattle.pld_device.specs.Registers.{is_inverted, stores};
 ghost use Rattle.pld_device.specs.Rows.{row_fuses};
-ghost use Rattle.device_array.specs.Array.{is_live};
+ghost use Rattle.device_logic.specs.Array.{is_live};
 ghost use Rattle.decompiled.specs.Sources.{first_register, has_lines};
 
-use device_array::{FuseArray, cell_of};
+use device_logic::{FuseArray, cell_of};
 use pld_base::OutOfMemory;
 use pld_device::{Device, Enable, Fuses};
 use std::alloc::Global;

@@ -7,7 +7,7 @@ ghost use Rattle.decompiler.specs.Steps.{pin_if_named};
 
 use crate::device_fuses::DeviceFuses;
 use crate::lines::pin_complements;
-use device_array::cell_of;
+use device_logic::cell_of;
 use pin_sources::{PinLine, PinLiteral, SumLine};
 use pld_base::{ListOf, OutOfMemory};
 use pld_device::Device;

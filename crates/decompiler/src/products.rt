@@ -2,12 +2,12 @@
 
 ghost use Rattle.std.specs.Prelude.{◌≡◌, ◌+◌, ◌<◌, ◌≤◌, ◌++◌, IfOk, OnOk, length, map, filter};
 ghost use Rattle.std.specs.List.{range_with_len};
-ghost use Rattle.device_array.specs.Array.{CarryInRange, is_live};
+ghost use Rattle.device_logic.specs.Array.{CarryInRange, is_live};
 ghost use Rattle.decompiled.specs.Sources.{control_products, named_by, product_of};
 ghost use Rattle.decompiler.specs.Steps.{pair_literals};
 
 use crate::device_fuses::DeviceFuses;
-use device_array::{carry_of, cell_of};
+use device_logic::{carry_of, cell_of};
 use pin_sources::PinLiteral;
 use pld_base::{ListOf, OutOfMemory};
 use pld_device::{Carry, Cell, Device};

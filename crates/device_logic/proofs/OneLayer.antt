@@ -15,7 +15,7 @@ use Rattle.device_logic.specs.CellReads.{row_reads_cell, enable_reads, data_read
 use Rattle.device_logic.proofs.FreeReads.{layer_reads_free}
 use Rattle.device_logic.proofs.CellsOrdered.{is_ordered, determined}
 use Rattle.device_logic.proofs.ReadCells.{row_reads_cell-pair}
-use Rattle.device_array.proofs.Runs.{one_of}
+use Rattle.device_logic.proofs.Runs.{one_of}
 use Rattle.device_logic.proofs.OneRun.{order_of, resets_by_none}
 
 -- a list has its first

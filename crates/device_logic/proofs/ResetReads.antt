@@ -28,7 +28,7 @@ use Rattle.device_logic.specs.ResetPaths.{row_reads_if_any, reset_reads, plain_r
 use Rattle.device_logic.proofs.CellsOrdered.{has_slots, has_pins, in_cells, unset_free, cell_slot, same_cell}
 use Rattle.device_logic.proofs.FreeReads.{ReadsFreePins, device_reads_free, rows_free}
 use Rattle.device_logic.proofs.ReadCells.{cell_reads-rest, row_reads_cell-pair}
-use Rattle.device_array.proofs.Runs.{one_of}
+use Rattle.device_logic.proofs.Runs.{one_of}
 use Rattle.device_logic.proofs.SameCells.{row_equal, cell_same}
 
 -- no chain of reads leads from the cell to a register

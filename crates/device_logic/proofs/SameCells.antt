@@ -16,7 +16,7 @@ use Rattle.pld_device.specs.Given.{enables_never, never_drives, is_free_pin}
 use Rattle.pld_device.proofs.RowReads.{row_same, never_true}
 use Rattle.device_logic.specs.CellReads.{row_reads_cell, enable_reads, rest_reads}
 use Rattle.device_logic.proofs.FreeReads.{RowReadsFree, EnableReadsFree, ReadsFreePins}
-use Rattle.device_array.proofs.Runs.{any_same}
+use Rattle.device_logic.proofs.Runs.{any_same}
 use Rattle.device_logic.proofs.ReadCells.{row_reads_cell-at, rest_reads-enable, rest_reads-data}
 
 -- what the pairs carry, place by place

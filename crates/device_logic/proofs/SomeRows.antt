@@ -2,7 +2,7 @@
 use Rattle.std.proofs.Common.{◌≡◌, ℕ, ◌+◌, ◌<◌, ◌≤◌, Bool, false, sym, ◌∙◌}
 use Rattle.std.specs.List.{list_any, range_with_len}
 use Rattle.std.proofs.lemmas.Bool.{false_from_ne_true, true≢false}
-use Rattle.device_array.proofs.Runs.{any_at}
+use Rattle.device_logic.proofs.Runs.{any_at}
 
 -- where none of a run passes, no one of it does
 pub none_at : (test : ℕ → Bool) (first count k : ℕ) → list_any test (range_with_len first count) ≡ false → first ≤ k → k < first + count → test k ≡ false

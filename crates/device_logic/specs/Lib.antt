@@ -1,8 +1,11 @@
+pub mod Array
 pub mod CellReads
 pub mod DeviceLookups
 pub mod Graphs
 pub mod LoadFaults
 pub mod Masked
+pub mod PairCubes
 pub mod PairReads
 pub mod ResetPaths
+pub mod RowMasks
 pub mod TrioTable

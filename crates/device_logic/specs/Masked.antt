@@ -1,8 +1,8 @@
 -- Private: what a loaded device keeps (this project's rule).
 use Rattle.std.specs.Prelude.{ℕ, Bool, List}
 use Rattle.pld_device.specs.Table.{Table}
-use Rattle.row_masks.specs.RowMasks.{AreMasks}
-use Rattle.row_masks.specs.declared.row_mask.RowMask.{RowMask}
+use Rattle.device_logic.specs.RowMasks.{AreMasks}
+use Rattle.device_logic.specs.declared.row_mask.RowMask.{RowMask}
 use Rattle.device_logic.specs.CellReads.{IsCellOrder}
 
 -- the masks are those of the device's rows, and each of its cells waits for earlier ones alone

@@ -8,9 +8,9 @@ ghost use Rattle.device_logic.specs.CellReads.{IsCellOrder, cell_reads};
 ghost use Rattle.device_logic.specs.Graphs.{HasCells, IsGraph, QuestionInRange, holds, reads_as};
 ghost use Rattle.device_logic.specs.ResetPaths.{HasNoResetPath, IsResetPath};
 
+use crate::array::FuseArray;
 use crate::reads::{cell_reads, plain_reads, row_reads_if_any};
 use arrayvec::ArrayVec;
-use device_array::FuseArray;
 use pld_device::Device;
 use pld_order::{LoopFound, VertexSet, order, path};
 

@@ -11,13 +11,14 @@ ghost use Rattle.device_logic.specs.DeviceLookups.{device_lookups};
 ghost use Rattle.device_logic.specs.LoadFaults.{IsLoadFault, pins_of};
 ghost use Rattle.device_logic.specs.ResetPaths.{HasNoResetPath};
 
+use crate::array::FuseArray;
 use crate::fault::SimFault;
 use crate::graphs::{cell_order, reset_path};
 use crate::logic::DeviceLogic;
-use device_array::{FuseArray, cell_of};
+use crate::lookups::cell_of;
+use crate::masking::row_masks;
 use pld_base::OutOfMemory;
 use pld_device::{Device, Fuses};
-use row_masks::row_masks;
 use std::alloc::Global;
 
 /// The pins of a list of cells.

@@ -3,15 +3,16 @@
 ghost use Rattle.std.specs.Prelude.{◌≡◌, ◌<◌};
 ghost use Rattle.pld_base.specs.Points.{levels_of};
 ghost use Rattle.pld_device.specs.Rows.{row_value};
-ghost use Rattle.row_masks.specs.RowMasks.{AreMasks, IsMask};
+ghost use Rattle.device_logic.specs.RowMasks.{AreMasks, IsMask};
 ghost use Rattle.device_logic.specs.CellReads.{IsCellOrder};
 
+use crate::array::FuseArray;
+use crate::lookups::cell_of;
+use crate::row_mask::RowMask;
 use arrayvec::ArrayVec;
-use device_array::{FuseArray, cell_of};
 use pld_base::Point;
 use pld_device::Device;
 use pld_machine::{Logic, Slot};
-use row_masks::RowMask;
 use std::marker::Model;
 
 /// A device with its fuses, as a logic; contracts see its fuses and the order of its cells.

@@ -8,7 +8,7 @@ ghost use Rattle.pld_device.specs.Macrocells.{output_value, pin_complements, pin
 ghost use Rattle.pld_device.specs.Rows.{row_value};
 
 use crate::logic::DeviceLogic;
-use device_array::cell_of;
+use crate::lookups::cell_of;
 use pld_base::{Point, level_at};
 use pld_device::{Device, Enable, Flip};
 

@@ -3,13 +3,14 @@
 ghost use Rattle.std.specs.Prelude.{◌≡◌, ◌+◌, ◌<◌, ◌≤◌, IfSome, length};
 ghost use Rattle.std.specs.List.{list_any, range_with_len};
 ghost use Rattle.pld_device.specs.Given.{enables_never};
-ghost use Rattle.device_array.specs.Array.{EnableInRange};
+ghost use Rattle.device_logic.specs.Array.{EnableInRange};
 ghost use Rattle.device_logic.specs.CellReads.{carries_cell, cell_reads, data_reads};
 ghost use Rattle.device_logic.specs.CellReads.{enable_reads, rest_reads, row_reads_cell};
 ghost use Rattle.device_logic.specs.PairReads.{pair_reads};
 ghost use Rattle.device_logic.specs.ResetPaths.{plain_reads, row_reads_if_any};
 
-use device_array::{FuseArray, carry_of, cell_of};
+use crate::array::FuseArray;
+use crate::lookups::{carry_of, cell_of};
 use pld_device::{Carry, Device, Enable};
 
 /// Whether the pair carries what the cell feeds back.

@@ -8,7 +8,7 @@ use Rattle.pld_base.specs.Logic.{Logic}
 use Rattle.pld_machine.specs.Shows.{Shows}
 use Rattle.pld_machine.specs.Lookups.{Lookups, logic_of}
 use Rattle.pld_machine.specs.Order.{HasPins}
-use Rattle.device_array.proofs.Runs.{any_at, any_none, one_of}
+use Rattle.device_logic.proofs.Runs.{any_at, any_none, one_of}
 use Rattle.device_sim.specs.declared.report.Mismatch.{Mismatch}
 use Rattle.device_sim.specs.VectorRun.{is_driven, found, found_at, mismatch_at, vector_mismatches}
 

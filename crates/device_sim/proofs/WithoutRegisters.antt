@@ -10,7 +10,7 @@ use Rattle.pld_machine.specs.Settling.{between_of, clocked_of, filled, rest_of, 
 use Rattle.pld_machine.specs.Steps.{power_up}
 use Rattle.device_sim.specs.VectorRun.{at_pins, has_clock, level_before, level_turned, outsides_of}
 use Rattle.device_sim.specs.VectorSteps.{last_after, point_after}
-use Rattle.device_array.proofs.Runs.{any_at}
+use Rattle.device_logic.proofs.Runs.{any_at}
 
 module _ (m : Lookups) (none : list_any m.stores (range_with_len 0 m.cells) ≡ false) where
   no_register : (c : ℕ) → is_register (logic_of m) c ≡ false

@@ -15,7 +15,7 @@ use Rattle.pld_device.specs.Laws.{IsDevice}
 use Rattle.pld_device.specs.Rows.{carried, columns_of, is_switched_on, pair_values, row_is_true, row_value}
 use Rattle.pld_order.proofs.Ranks.{Ranked}
 use Rattle.pld_order.specs.Graphs.{has}
-use Rattle.device_array.proofs.Runs.{any_at, one_of}
+use Rattle.device_logic.proofs.Runs.{any_at, one_of}
 use Rattle.cube_pool.specs.declared.cube.Cube.{Cube}
 use Rattle.cube_pool.specs.Cubes.{asks, covers, fits, full_cube, has_from, has_point, literal_cube, without}
 use Rattle.cube_pool.specs.Prime.{IsPrimeIrredundant}

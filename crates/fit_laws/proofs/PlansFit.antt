@@ -16,7 +16,7 @@ use Rattle.pld_device.specs.Laws.{IsDevice}
 use Rattle.pld_device.specs.Macrocells.{complement_if, data_complements, data_rows, pin_complements}
 use Rattle.pld_device.specs.Registers.{is_inverted, says, stores, stores_by}
 use Rattle.pld_device.specs.Table.{IsDataRow, Table, cell_at, no_cell, registered_at}
-use Rattle.device_array.proofs.Ranges.{preset_in, reset_in}
+use Rattle.device_logic.proofs.Ranges.{preset_in, reset_in}
 use Rattle.bit_expr.specs.declared.netlist.CellWanted.{CellWanted}
 use Rattle.bit_expr.specs.declared.netlist.Function.{Function}
 use Rattle.bit_expr.specs.declared.netlist.Netlist.{Netlist}

@@ -13,7 +13,7 @@ use Rattle.pld_device.specs.Macrocells.{data_rows}
 use Rattle.pld_device.specs.Registers.{stores}
 use Rattle.pld_order.specs.Graphs.{HasNoLoop}
 use Rattle.device_logic.specs.CellReads.{row_reads_cell, enable_reads, data_reads, rest_reads, cell_reads}
-use Rattle.device_array.proofs.Runs.{one_of}
+use Rattle.device_logic.proofs.Runs.{one_of}
 use Rattle.bit_expr.specs.declared.node.Leaf.TheVariants as leaf
 use Rattle.bit_expr.specs.declared.node.Leaf.{Leaf}
 use Rattle.bit_expr.specs.Formulas.{Formula, Const, names}

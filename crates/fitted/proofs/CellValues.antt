@@ -16,7 +16,7 @@ use Rattle.pld_device.specs.Macrocells.{data_rows, or_value, enabled_by, is_enab
 use Rattle.pld_device.specs.Registers.{stores, is_inverted}
 use Rattle.pld_device.specs.Rows.{carried, columns_of, row_fuses, is_switched_on, row_is_true, row_value}
 use Rattle.pld_device.specs.Table.{Table, cell_at, no_cell}
-use Rattle.device_array.proofs.Runs.{any_none}
+use Rattle.device_logic.proofs.Runs.{any_none}
 use Rattle.fitted.proofs.BoolLaws.{both_ways, level_is, level_same}
 use Rattle.bit_expr.specs.Formulas.{Formula, formula_value}
 use Rattle.abel_meaning.specs.Netlists.{Wanted, PlainNetlist, wanted_at, as_named, own_of, shared_function, own_or_shared, function_at}

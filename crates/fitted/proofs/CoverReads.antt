@@ -16,7 +16,7 @@ use Rattle.pld_device.specs.Reads.{connected_pairs, is_never_true, row_reads}
 use Rattle.pld_device.specs.Registers.{stores}
 use Rattle.pld_device.specs.Rows.{carried, pair_values, row_fuses, row_value}
 use Rattle.pld_device.proofs.OwnPins.{own_pins, pairs_apart}
-use Rattle.device_array.proofs.Ranges.{carry_in_range}
+use Rattle.device_logic.proofs.Ranges.{carry_in_range}
 use Rattle.bit_expr.specs.declared.node.Leaf.TheVariants as leaf
 use Rattle.bit_expr.specs.declared.node.Leaf.{Leaf}
 use Rattle.bit_expr.specs.Formulas.{leaf_value, same_leaf}

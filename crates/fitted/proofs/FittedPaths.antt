@@ -15,8 +15,8 @@ use Rattle.pld_order.proofs.Lists.{eqb_same}
 use Rattle.pld_order.proofs.Ranks.{Ranked}
 use Rattle.device_logic.specs.CellReads.{row_reads_cell, enable_reads, data_reads, rest_reads}
 use Rattle.device_logic.specs.ResetPaths.{row_reads_if_any, plain_reads, HasNoResetPath}
-use Rattle.device_array.proofs.Ranges.{reset_in}
-use Rattle.device_array.proofs.Runs.{one_of}
+use Rattle.device_logic.proofs.Ranges.{reset_in}
+use Rattle.device_logic.proofs.Runs.{one_of}
 use Rattle.bit_expr.specs.declared.node.Leaf.{Leaf}
 use Rattle.bit_expr.specs.Formulas.{Formula, names}
 use Rattle.abel_meaning.specs.Netlists.{Wanted, PlainNetlist, wanted_at, shared_function}

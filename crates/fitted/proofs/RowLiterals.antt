@@ -10,7 +10,7 @@ use Rattle.pld_device.specs.Rows.{carried, columns_of, pair_values, row_fuses, i
 use Rattle.pld_device.specs.RowLaws.{CarriesAll}
 use Rattle.pld_device.specs.Reads.{has_whole_pair, connected_pairs, is_never_true, row_reads}
 use Rattle.pld_device.proofs.RowValues.{row_is_true-columns}
-use Rattle.device_array.proofs.PairWalks.{row_whole, row_connected}
+use Rattle.device_logic.proofs.PairWalks.{row_whole, row_connected}
 use Rattle.fitted.specs.Covers.{value_without}
 
 -- ---- columns and pairs

@@ -13,7 +13,7 @@ use Rattle.pld_device.specs.Rows.{row_value}
 use Rattle.pld_order.specs.Graphs.{has}
 use Rattle.device_logic.specs.CellReads.{row_reads_cell}
 use Rattle.device_logic.proofs.ReadCells.{row_reads_cell-pair}
-use Rattle.device_array.proofs.Runs.{any_at}
+use Rattle.device_logic.proofs.Runs.{any_at}
 use Rattle.bit_expr.specs.declared.node.Leaf.{Leaf}
 use Rattle.bit_expr.specs.Formulas.{Formula, formula_value}
 use Rattle.abel_meaning.specs.Netlists.{Wanted, PlainNetlist}

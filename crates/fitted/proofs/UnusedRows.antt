@@ -9,7 +9,7 @@ use Rattle.pld_device.specs.Rows.{row_fuses, is_switched_on, row_value}
 use Rattle.pld_device.specs.Table.{Table, no_cell, IsDataRow}
 use Rattle.pld_device.proofs.OwnPins.{has_pairs}
 use Rattle.pld_device.proofs.RowReads.{never_true}
-use Rattle.device_array.proofs.PairWalks.{row_whole}
+use Rattle.device_logic.proofs.PairWalks.{row_whole}
 use Rattle.fitted.specs.Covers.{is_used}
 use Rattle.fitted.proofs.BoolLaws.{neither}
 

@@ -4,8 +4,8 @@ use Rattle.std.proofs.lemmas.Bool.{cases_Bool}
 use Rattle.pld_base.specs.Bits.{is_on, same_level}
 use Rattle.pld_machine.specs.Lookups.{Lookups}
 use Rattle.pld_machine.specs.Steps.{IsWide}
-use Rattle.row_masks.specs.RowMasks.{HoldsWith}
-use Rattle.row_masks.specs.declared.row_mask.RowMask.{RowMask}
+use Rattle.device_logic.specs.RowMasks.{HoldsWith}
+use Rattle.device_logic.specs.declared.row_mask.RowMask.{RowMask}
 use Rattle.fuse_compare.specs.Cut.{AreFreePins, AreKeptQs, AreOnce, IsDecided}
 use Rattle.fuse_compare.specs.States.{Varies, VariesAt, has_q}
 use Rattle.fuse_compare.specs.declared.variable.Variable.{Variable}

@@ -5,10 +5,10 @@ use Rattle.pld_base.specs.Points.{IsPoint, Levels}
 use Rattle.pld_device.specs.Macrocells.{is_enabled, or_value, row_if_any}
 use Rattle.pld_device.specs.Rows.{row_value}
 use Rattle.pld_device.specs.Table.{Table}
-use Rattle.device_array.proofs.Runs.{one_of}
+use Rattle.device_logic.proofs.Runs.{one_of}
 use Rattle.device_logic.specs.DeviceLookups.{device_lookups}
-use Rattle.row_masks.specs.RowMasks.{IsMask, holds}
-use Rattle.row_masks.specs.declared.row_mask.RowMask.{RowMask}
+use Rattle.device_logic.specs.RowMasks.{IsMask, holds}
+use Rattle.device_logic.specs.declared.row_mask.RowMask.{RowMask}
 use Rattle.fuse_compare.specs.Cut.{DifferWithin, some_holds}
 use Rattle.fuse_compare.specs.OwnRows.{AreOwn, CoveredOutside, Covers, HoldsMore, MakesCell, MakesSame, SameCell, SameKind, SameOutside, some_row}
 use Rattle.fuse_compare.specs.declared.group.Group.{Group}

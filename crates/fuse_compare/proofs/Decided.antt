@@ -8,8 +8,8 @@ use Rattle.pld_machine.specs.Lookups.{Lookups}
 use Rattle.pld_machine.specs.Settling.{rest_of}
 use Rattle.pld_machine.specs.Steps.{IsWide}
 use Rattle.pld_machine.proofs.OneRun.{rests_once}
-use Rattle.row_masks.specs.RowMasks.{HoldsWith, holds}
-use Rattle.row_masks.specs.declared.row_mask.RowMask.{RowMask}
+use Rattle.device_logic.specs.RowMasks.{HoldsWith, holds}
+use Rattle.device_logic.specs.declared.row_mask.RowMask.{RowMask}
 use Rattle.fuse_compare.specs.Cut.{AreFreePins, AreKeptQs, DifferWithin, IsDecided, some_holds}
 use Rattle.fuse_compare.specs.OneState.{AlikeAt}
 use Rattle.fuse_compare.specs.States.{Varies, has_pin, has_q}

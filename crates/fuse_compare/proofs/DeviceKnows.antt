@@ -14,7 +14,7 @@ use Rattle.pld_device.specs.Reads.{row_reads}
 use Rattle.pld_device.specs.Registers.{stores}
 use Rattle.pld_device.specs.Table.{Table, cell_at, no_cell}
 use Rattle.pld_device.proofs.OwnPins.{own_pins}
-use Rattle.device_array.proofs.Runs.{any_at, one_of}
+use Rattle.device_logic.proofs.Runs.{any_at, one_of}
 use Rattle.fuse_compare.specs.DeviceKnown.{some_read, is_level_of, is_q_of, known_of}
 use Rattle.fuse_compare.specs.DeviceReads.{Knows, KnowsReads}
 

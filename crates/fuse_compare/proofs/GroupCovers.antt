@@ -15,7 +15,7 @@ use Rattle.pld_device.specs.Table.{Table}
 use Rattle.cube_pool.specs.declared.cube.Cube.{Cube}
 use Rattle.cube_pool.specs.Covers.{CoversCube}
 use Rattle.cube_pool.specs.Cubes.{AsksBelow, covers, has_point}
-use Rattle.row_masks.specs.PairCubes.{IsPairCube}
+use Rattle.device_logic.specs.PairCubes.{IsPairCube}
 use Rattle.fuse_compare.specs.OwnRows.{IsGroupCover, StoreSame, some_row}
 use Rattle.fuse_compare.specs.declared.group.Group.{Group}
 

@@ -6,8 +6,8 @@ use Rattle.pld_base.specs.Bits.{bits, is_on}
 use Rattle.pld_base.specs.Points.{IsPoint, Levels}
 use Rattle.pld_base.proofs.BitLemmas.{is_on-zero, length-bits}
 use Rattle.pld_machine.specs.Lookups.{Lookups}
-use Rattle.row_masks.specs.RowMasks.{holds}
-use Rattle.row_masks.specs.declared.row_mask.RowMask.{RowMask}
+use Rattle.device_logic.specs.RowMasks.{holds}
+use Rattle.device_logic.specs.declared.row_mask.RowMask.{RowMask}
 use Rattle.fuse_compare.specs.Cut.{AreFreePins, AreKeptQs, DifferWithin, some_holds}
 
 -- 0 has no level

@@ -6,8 +6,8 @@ use Rattle.pld_base.specs.Bits.{is_on}
 use Rattle.pld_base.specs.Points.{IsPoint, Levels}
 use Rattle.pld_machine.specs.Lookups.{Lookups, logic_of}
 use Rattle.pld_machine.specs.Rest.{AtRest}
-use Rattle.row_masks.specs.RowMasks.{holds}
-use Rattle.row_masks.specs.declared.row_mask.RowMask.{RowMask}
+use Rattle.device_logic.specs.RowMasks.{holds}
+use Rattle.device_logic.specs.declared.row_mask.RowMask.{RowMask}
 use Rattle.fuse_compare.specs.States.{Varies, has_pin, has_q}
 use Rattle.fuse_compare.specs.declared.variable.Variable.{Variable}
 use Rattle.fuse_compare.specs.declared.variable.Variable.TheVariants.{Pin, Q}

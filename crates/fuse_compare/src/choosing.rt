@@ -15,7 +15,7 @@ ghost use Rattle.fuse_compare.specs.DeviceKnown.{AreChosen};
 
 use crate::reads::{knows_pin, knows_q};
 use crate::variable::Variable;
-use device_array::FuseArray;
+use device_logic::FuseArray;
 use pld_base::{OutOfMemory, with_level};
 use pld_device::Device;
 use std::alloc::Global;

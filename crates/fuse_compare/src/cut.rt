@@ -7,12 +7,12 @@
 ghost use Rattle.std.specs.Prelude.{◌≡◌, ◌<◌, ◌||◌, false, not, slice_set, true};
 ghost use Rattle.pld_base.specs.Bits.{bits, is_on, same_level};
 ghost use Rattle.pld_base.specs.Points.{IsPoint, Levels};
-ghost use Rattle.row_masks.specs.RowMasks.{HoldsWith, holds};
+ghost use Rattle.device_logic.specs.RowMasks.{HoldsWith, holds};
 ghost use Rattle.fuse_compare.specs.Cut.{some_holds};
 
 use crate::state::State;
+use device_logic::RowMask;
 use pld_base::{level_at, with_level};
-use row_masks::RowMask;
 
 /// What is known of two logics before they are searched: masks of the rows that one has alone, the pins
 /// that no cell of the first drives, and its registers that are never reset.

@@ -13,9 +13,9 @@ use crate::group::Group;
 use crate::masked::MaskedLogic;
 use cover_ops::covers_cube;
 use cube_pool::{Cube, CubePool, Range};
+use device_logic::pair_count;
 use pld_base::OutOfMemory;
 use pld_device::Device;
-use row_masks::pair_count;
 use std::alloc::Global;
 
 /// The rows of a group as a cover, with the room that `has_cube` works in.

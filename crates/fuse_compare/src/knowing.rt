@@ -4,7 +4,7 @@ ghost use Rattle.std.specs.Prelude.{◌≡◌, ◌<◌, ℕ, IfOk, false, length
 ghost use Rattle.pld_base.specs.Bits.{bits};
 ghost use Rattle.pld_base.specs.Points.{IsPoint, Levels};
 ghost use Rattle.pld_device.specs.Macrocells.{enabled_by};
-ghost use Rattle.device_array.specs.Array.{EnableInRange};
+ghost use Rattle.device_logic.specs.Array.{EnableInRange};
 ghost use Rattle.device_logic.specs.DeviceLookups.{device_lookups};
 ghost use Rattle.fuse_compare.specs.Cut.{AreFreePins, AreKeptQs, DifferWithin};
 ghost use Rattle.fuse_compare.specs.OwnRows.{NeverDrives, NeverResets};
@@ -13,10 +13,9 @@ ghost use Rattle.fuse_compare.specs.Searching.{IsCut};
 use crate::cut::Cut;
 use crate::masked::MaskedLogic;
 use crate::own_rows::{has_same_kinds, own_rows};
-use device_array::cell_of;
+use device_logic::{RowMask, cell_of};
 use pld_base::{OutOfMemory, with_level};
 use pld_device::{Device, Enable};
-use row_masks::RowMask;
 use std::alloc::Global;
 
 /// Whether what enables a cell may do so.

@@ -7,17 +7,15 @@ ghost use Rattle.pld_machine.specs.Order.{IsOrdered};
 ghost use Rattle.pld_machine.specs.Steps.{IsDetermined};
 ghost use Rattle.device_logic.specs.DeviceLookups.{device_lookups};
 ghost use Rattle.device_logic.specs.LoadFaults.{IsLoadFault};
-ghost use Rattle.row_masks.specs.PairCubes.{IsPairCube};
-ghost use Rattle.row_masks.specs.RowMasks.{IsMask};
+ghost use Rattle.device_logic.specs.PairCubes.{IsPairCube};
+ghost use Rattle.device_logic.specs.RowMasks.{IsMask};
 ghost use Rattle.fuse_compare.specs.Compared.{CanBeLoaded};
 
 use cube_pool::Cube;
-use device_array::FuseArray;
-use device_logic::{DeviceLogic, SimFault};
+use device_logic::{DeviceLogic, FuseArray, RowMask, SimFault, pair_cubes};
 use pld_base::Point;
 use pld_device::{Device, Fuses};
 use pld_machine::{Logic, Slot};
-use row_masks::{RowMask, pair_cubes};
 use std::alloc::Global;
 use std::marker::Model;
 
@@ -31,7 +29,7 @@ pub struct MaskedLogic<D: Device> {
 
 impl<D: Device> Model for MaskedLogic<D> {
     ghost use Rattle.device_logic.specs.DeviceLookups.{Loaded};
-    ghost use Rattle.row_masks.specs.PairCubes.{ArePairCubes};
+    ghost use Rattle.device_logic.specs.PairCubes.{ArePairCubes};
 
     ghost Value = { Loaded };
 

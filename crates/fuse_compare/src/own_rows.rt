@@ -6,17 +6,16 @@
 
 ghost use Rattle.std.specs.Prelude.{◌≡◌, ◌<◌, ℕ, IfOk, IfSome, length, true};
 ghost use Rattle.pld_device.specs.Macrocells.{enabled_by, row_if_any};
-ghost use Rattle.device_array.specs.Array.{EnableInRange};
+ghost use Rattle.device_logic.specs.Array.{EnableInRange};
 ghost use Rattle.fuse_compare.specs.OwnRows.{AreOwn, Covers, InArray, MakesCell, MakesSame};
 ghost use Rattle.fuse_compare.specs.OwnRows.{SameKind, StoreSame, some_row};
 
 use crate::group::Group;
 use crate::group_covers::{group_cover, has_cube};
 use crate::masked::MaskedLogic;
-use device_array::cell_of;
+use device_logic::{RowMask, cell_of};
 use pld_base::OutOfMemory;
 use pld_device::{Device, Enable};
-use row_masks::RowMask;
 use std::alloc::Global;
 
 /// The masks, and those of the group's rows that the first device has alone.

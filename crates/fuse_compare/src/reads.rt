@@ -2,12 +2,12 @@
 
 ghost use Rattle.std.specs.Prelude.{◌≡◌, ◌<◌, length};
 ghost use Rattle.pld_device.specs.LawTests.Cells.{is_enable_pin};
-ghost use Rattle.device_array.specs.Array.{CarryInRange};
+ghost use Rattle.device_logic.specs.Array.{CarryInRange};
 ghost use Rattle.fuse_compare.specs.DeviceKnown.{carries, enables_some, is_level_of, is_q_of, known_of};
 ghost use Rattle.fuse_compare.specs.DeviceKnown.{reads_at, row_reads_some, some_read};
 
 use crate::variable::Variable;
-use device_array::{FuseArray, carry_of, cell_of};
+use device_logic::{FuseArray, carry_of, cell_of};
 use pld_device::{Carry, Device, Enable};
 
 /// Whether the pair carries the pin's level.

@@ -24,9 +24,9 @@ use crate::cut::{Cut, some_meets};
 use crate::difference::Difference;
 use crate::state::State;
 use crate::variable::Variable;
+use device_logic::RowMask;
 use pld_base::{Point, level_at};
 use pld_machine::{Logic, rest};
-use row_masks::RowMask;
 
 /// Two logics, the variables that tell their states apart, and what their search may pass over.
 #[derive(Drop)]

@@ -3,7 +3,7 @@
 ghost use Rattle.std.specs.Prelude.{◌≡◌};
 
 use crate::difference::Difference;
-use row_masks::RowMask;
+use device_logic::RowMask;
 
 /// Outside levels, stored Qs, and a mask that holds where the first logic rests there.
 #[derive(Clone, Copy)]

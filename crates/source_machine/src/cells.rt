@@ -8,7 +8,7 @@ ghost use Rattle.bit_expr.specs.Arena.{arena};
 ghost use Rattle.abel_meaning.specs.Netlists.{node_at, plain_function, plain_netlist, plain_wanted, wanted_at};
 ghost use Rattle.abel_meaning.specs.NetlistLogic.{drives, netlist_stores};
 ghost use Rattle.abel_meaning.specs.SoundIds.{IsCellIn, IsFunctionIn};
-ghost use Rattle.device_array.specs.Array.{EnableInRange};
+ghost use Rattle.device_logic.specs.Array.{EnableInRange};
 ghost use Rattle.source_machine.specs.AnyAs0.{level_with_any_0, next_with_any_0};
 
 use crate::values::{as_named, control_value, value};

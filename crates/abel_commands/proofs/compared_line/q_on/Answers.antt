@@ -2,7 +2,7 @@
 use Rattle.std.proofs.Common.{◌==◌, ◌&&◌, length, sym, ◌∙◌, arith}
 use Rattle.pld_base.specs.Bits.{bits, is_on}
 use Rattle.pld_device.specs.Table.{cell_at}
-use Rattle.device_array.proofs.Runs.{any_at, any_none}
+use Rattle.device_logic.proofs.Runs.{any_at, any_none}
 use Rattle.abel_commands.proofs.compared_line.q_on.Goals as goal
 
 pub returns-then-is_on_at : goal.returns-then-is_on_at

@@ -1,7 +1,7 @@
 use Rattle.std.proofs.Common.{Some, sym, ap, ◌∙◌}
 use Rattle.pld_device.specs.declared.carry.Carry.{Carry}
 use Rattle.pld_device.specs.declared.carry.Carry.TheVariants as carry
-use Rattle.device_array.proofs.Ranges.{carry_in_range}
+use Rattle.device_logic.proofs.Ranges.{carry_in_range}
 use Rattle.abel_meaning.specs.Netlists.{plain_netlist}
 use Rattle.cell_covers.proofs.TurnBits.{turned_is}
 use Rattle.cell_covers.proofs.masks.is_turned.Goals as goal

@@ -1,6 +1,6 @@
 use Rattle.std.proofs.Common.{sym, ◌∙◌, arith}
 use Rattle.device_logic.specs.CellReads.{row_reads_cell}
-use Rattle.device_array.proofs.Runs.{any_at, any_none}
+use Rattle.device_logic.proofs.Runs.{any_at, any_none}
 use Rattle.device_logic.proofs.reads.rows_read_cell.Goals as goal
 
 pub returns-then-row_reads_cell : goal.returns-then-row_reads_cell

@@ -3,7 +3,7 @@ use Rattle.std.specs.Prelude.{flat_map, map, filter}
 use Rattle.std.specs.List.{range_with_len}
 use Rattle.pld_device.specs.Table.{Table}
 use Rattle.pld_device.specs.Reads.{is_never_true}
-use Rattle.device_array.specs.Array.{is_live}
+use Rattle.device_logic.specs.Array.{is_live}
 use Rattle.decompiled.specs.Sources.{control_products, product_of}
 use Rattle.decompiler.proofs.Ranges.{more_given}
 use Rattle.decompiler.proofs.device_fuses.DeviceFuses.data_sum.Goals as goal

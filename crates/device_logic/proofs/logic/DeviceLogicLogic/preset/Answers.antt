@@ -1,5 +1,5 @@
 use Rattle.std.proofs.Common.{◌∙◌}
-use Rattle.device_array.proofs.Ranges.{preset_if_any}
+use Rattle.device_logic.proofs.Ranges.{preset_if_any}
 use Rattle.device_logic.proofs.logic.DeviceLogicLogic.preset.Goals as goal
 
 pub row_if_any-requires : goal.row_if_any-requires

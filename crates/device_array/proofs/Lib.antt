@@ -1,4 +1,0 @@
-pub mod LiveRows
-pub mod PairWalks
-pub mod Ranges
-pub mod Runs

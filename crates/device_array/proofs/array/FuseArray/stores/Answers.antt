@@ -1,5 +1,0 @@
-use Rattle.device_array.proofs.Ranges.{registered_in}
-use Rattle.device_array.proofs.array.FuseArray.stores.Goals as goal
-
-pub says-requires : goal.says-requires
-says-requires g c = rw c.registered_at.ensures (registered_in g.D.Device.table g.met.D.Device.sound c.args.cell)

@@ -1,5 +1,0 @@
-use Rattle.device_array.proofs.Ranges.{carry_in_range}
-use Rattle.device_array.proofs.lookups.carry_of.Goals as goal
-
-pub returns-clause-range : goal.returns-clause-range
-returns-clause-range g c = carry_in_range g.D.Device.table g.met.D.Device.sound c.args.pair c.carries.result c.carries.ensures

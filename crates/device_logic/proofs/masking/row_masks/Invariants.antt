@@ -1,0 +1,6 @@
+use Rattle.device_logic.specs.RowMasks.{IsMask}
+use Rattle.device_logic.proofs.Walked.{EachBelow}
+use Rattle.device_logic.proofs.masking.row_masks.Given as goal
+
+abbrev pub invariant-loop-row : goal.invariant-loop-row
+invariant-loop-row g l = EachBelow (IsMask g.D.Device.table l.fuses) l.row l.masks.items

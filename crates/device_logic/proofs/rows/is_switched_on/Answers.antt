@@ -1,0 +1,6 @@
+use Rattle.std.proofs.Common.{sym, arith}
+use Rattle.pld_device.specs.Laws.{Switches}
+use Rattle.device_logic.proofs.rows.is_switched_on.Goals as goal
+
+pub bounds-fuses-from : goal.bounds-fuses-from
+bounds-fuses-from g c = omega (arith, (g.met.D.Device.sound.control (Switches c.args.row) c.in-Some.fuse (sym c.in-Some.ensures)).below)

@@ -1,6 +1,0 @@
-use Rattle.row_masks.specs.PairCubes.{IsPairCube}
-use Rattle.row_masks.proofs.Walked.{EachBelow}
-use Rattle.row_masks.proofs.pairing.pair_cubes.Given as goal
-
-abbrev pub invariant-loop-row : goal.invariant-loop-row
-invariant-loop-row g l = EachBelow (IsPairCube g.D.Device.table l.fuses) l.row l.cubes.items

@@ -1,6 +1,0 @@
-use Rattle.std.proofs.Common.{refl, arith}
-use Rattle.row_masks.proofs.MaskedPoints.{never_has}
-use Rattle.row_masks.proofs.row_mask.RowMask.never.Goals as goal
-
-pub returns : goal.returns
-returns c = λ at is. rw (never_has at.pins (omega (arith, is.pins))) refl
