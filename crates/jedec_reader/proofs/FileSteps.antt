@@ -7,7 +7,7 @@ use Rattle.jedec_file.specs.Frame.{frame_of}
 use Rattle.jedec_file.specs.FuseFile.{contents_of, file_of}
 use Rattle.jedec_file.specs.Refusals.{Read, ◌>>=◌}
 use Rattle.pld_device.specs.Table.{Table}
-use Rattle.jedec_fields.specs.FieldsIn.{fields_in}
+use Rattle.jedec_reader.specs.FieldsIn.{fields_in}
 
 regrouped : {A B C : Type 0} (step : Read A) (next : A → Read B) (last : B → Read C) → (step >>= next >>= last) ≡ (step >>= λ x. next x >>= last)
 regrouped (Ok x) next last = refl

@@ -1,6 +1,14 @@
+mod EntryLemmas
+mod FieldLoop
 mod FileSteps
+mod Fits
 mod LastOf
-mod Levels
+mod LevelLists
 mod NumberedVectors
+mod Numbers
+mod OrderFields
 mod PinOrders
+pub mod Positions
+pub mod Ranges
 mod Steps
+mod WordLemmas

@@ -14,7 +14,7 @@ use Rattle.jedec_file.specs.FuseFile.{last_of, vector_at, order_of, by_pins, vec
 use Rattle.pld_device.specs.Table.{Table}
 use Rattle.jedec_file.specs.TestVectors.{chars_of, all_chars}
 use Rattle.jedec_reader.specs.Contents.{IsPadded}
-use Rattle.jedec_fields.specs.FieldFits.{FieldFits}
+use Rattle.jedec_reader.specs.FieldFits.{FieldFits}
 use Rattle.jedec_reader.specs.VectorTable.{ArePlaces, AreWithin, HasPutVector, HasVectors, IsPlaced, place_of, present}
 use Rattle.jedec_reader.proofs.LastOf.{last_of_more}
 

@@ -11,7 +11,7 @@ use Rattle.jedec_file.specs.declared.field.Field.TheVariants as field
 use Rattle.jedec_file.specs.Fields.{is_among, is_each_pin}
 use Rattle.jedec_file.specs.FuseFile.{last_of, pin_order, order_of}
 use Rattle.pld_device.specs.Table.{Table}
-use Rattle.jedec_fields.specs.FieldFits.{FieldFits}
+use Rattle.jedec_reader.specs.FieldFits.{FieldFits}
 use Rattle.jedec_reader.proofs.LastOf.{last_of_more}
 
 first_true : (a b : Bool) → (a && b) ≡ true → a ≡ true

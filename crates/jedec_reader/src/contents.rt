@@ -7,7 +7,7 @@ ghost use Rattle.std.specs.List.{list_all};
 ghost use Rattle.jedec_file.specs.FuseSums.{fuse_sum_of};
 ghost use Rattle.jedec_file.specs.Refusals.{Gives};
 ghost use Rattle.jedec_reader.specs.Contents.{IsPadded, contents};
-ghost use Rattle.jedec_fields.specs.FieldFits.{FieldFits};
+ghost use Rattle.jedec_reader.specs.FieldFits.{FieldFits};
 ghost use Rattle.jedec_reader.specs.SaidBy.{IsSaidBy, size_fits};
 
 use crate::fuse_file::FuseFile;

@@ -1,7 +1,7 @@
 //! The level of each fuse that stands in a list of levels.
 
 ghost use Rattle.std.specs.Prelude.{◌≡◌, ◌+◌, ◌≤◌, length, IfOk, All};
-ghost use Rattle.jedec_fields.specs.FieldFits.{FieldFits};
+ghost use Rattle.jedec_reader.specs.FieldFits.{FieldFits};
 ghost use Rattle.jedec_reader.specs.LevelTable.{HasPut, levels_said};
 
 use jedec_file::Field;

@@ -2,7 +2,7 @@
 
 ghost use Rattle.std.specs.Prelude.{◌≡◌, ◌≤◌, length, All};
 ghost use Rattle.jedec_file.specs.FuseFile.{order_of};
-ghost use Rattle.jedec_fields.specs.FieldFits.{FieldFits};
+ghost use Rattle.jedec_reader.specs.FieldFits.{FieldFits};
 ghost use Rattle.jedec_reader.specs.VectorTable.{ArePlaces, place_of};
 
 use jedec_file::Field;

@@ -6,8 +6,8 @@ ghost use Rattle.jedec_file.specs.Refusals.{Refuses};
 ghost use Rattle.jedec_reader.specs.Contents.{IsPadded, contents};
 
 use crate::contents::contents;
+use crate::field_list::fields;
 use crate::fuse_file::FuseFile;
-use jedec_fields::fields;
 use jedec_file::JedecFault;
 use pld_device::Device;
 use std::alloc::Global;

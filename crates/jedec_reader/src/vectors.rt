@@ -4,7 +4,7 @@ ghost use Rattle.std.specs.Prelude.{◌≡◌, ◌≤◌, ◌^◌, length, IfOk,
 ghost use Rattle.jedec_file.specs.FuseFile.{order_of, vectors_of};
 ghost use Rattle.jedec_file.specs.TestVectors.{all_chars};
 ghost use Rattle.jedec_reader.specs.Contents.{IsPadded};
-ghost use Rattle.jedec_fields.specs.FieldFits.{FieldFits};
+ghost use Rattle.jedec_reader.specs.FieldFits.{FieldFits};
 ghost use Rattle.jedec_reader.specs.VectorTable.{ArePlaces, AreWithin, IsPlaced};
 ghost use Rattle.jedec_reader.specs.VectorTable.{HasPutVector, HasVectors, present};
 

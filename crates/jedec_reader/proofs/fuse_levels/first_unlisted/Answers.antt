@@ -1,6 +1,6 @@
 use Rattle.std.proofs.Common.{◌≡◌, get_or, sym, refl, arith, None, true}
 use Rattle.std.specs.Prelude.{is_none}
-use Rattle.jedec_words.proofs.Positions.{position_found, position_none}
+use Rattle.jedec_reader.proofs.Positions.{position_found, position_none}
 use Rattle.jedec_reader.proofs.fuse_levels.first_unlisted.Goals as goal
 
 pub returns-then-is_none : goal.returns-then-is_none

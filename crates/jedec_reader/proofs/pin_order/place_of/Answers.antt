@@ -1,6 +1,6 @@
 use Rattle.std.proofs.Common.{ap, sym, arith, eq-eqb, ℕ, Option}
 use Rattle.std.specs.Prelude.{◌==◌, unwrap_or}
-use Rattle.jedec_words.proofs.Positions.{position_found, position_none}
+use Rattle.jedec_reader.proofs.Positions.{position_found, position_none}
 use Rattle.jedec_reader.proofs.pin_order.place_of.Goals as goal
 
 pub returns-then-other-pin : goal.returns-then-other-pin

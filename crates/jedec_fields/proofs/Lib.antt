@@ -1,3 +1,0 @@
-mod FieldLoop
-mod Fits
-mod OrderFields

@@ -1,3 +1,0 @@
-pub mod FieldFits
-pub mod FieldsIn
-pub mod Letters

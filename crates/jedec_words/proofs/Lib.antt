@@ -1,5 +1,0 @@
-mod EntryLemmas
-mod Numbers
-pub mod Positions
-pub mod Ranges
-mod WordLemmas

@@ -1,7 +1,0 @@
-use Rattle.jedec_file.specs.Fields.{each_of, words}
-use Rattle.jedec_words.specs.FieldTexts.{pin_number}
-use Rattle.jedec_words.proofs.EntryLemmas.{behind_nothing}
-use Rattle.jedec_words.proofs.entries.pin_numbers.Goals as goal
-
-pub loop-word-init : goal.loop-word-init
-loop-word-init c = rw c.new-pins.ensures.items (behind_nothing (each_of pin_number (words c.args.text.now)))

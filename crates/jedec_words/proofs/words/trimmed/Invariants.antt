@@ -1,6 +1,0 @@
-use Rattle.std.proofs.Common.{◌≡◌, drop}
-use Rattle.jedec_file.specs.Fields.{trimmed}
-use Rattle.jedec_words.proofs.words.trimmed.Given as goal
-
-abbrev pub invariant-loop-place : goal.invariant-loop-place
-invariant-loop-place l = trimmed (drop l.place l.text) ≡ trimmed l.text
