@@ -9,7 +9,7 @@ ghost use Rattle.cell_covers.specs.Covered.{CanCoverCell, HasRows, IsChecked, Is
 ghost use Rattle.cell_covers.specs.Width.{IsFunctionTooWide};
 
 use bit_expr::{CellWanted, Control, ExprId, Netlist};
-use cube_pool::{Cube, CubePool};
+use covers::{Cube, CubePool};
 use fit_plans::{Tried, control_cover, has_lists, try_cell};
 use fit_shared::{cell_wanted, pair_count};
 use pld_device::Device;

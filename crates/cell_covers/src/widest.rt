@@ -8,7 +8,7 @@ ghost use Rattle.cell_covers.specs.Width.{IsFirstWide, IsTooWide, width_order};
 
 use crate::covering::cover_cell;
 use bit_expr::{CellWanted, Netlist};
-use cube_pool::CubePool;
+use covers::CubePool;
 use fit_shared::cell_wanted;
 use pld_device::Device;
 use sop_lowering::LowerFault;

@@ -18,7 +18,7 @@ use Rattle.bit_expr.specs.Arena.{arena, formula_at}
 use Rattle.bit_expr.specs.Formulas.{Formula, Const, Or}
 use Rattle.abel_meaning.specs.Netlists.{PlainNetlist, Wanted, plain_control, plain_netlist, plain_wanted, shared_function, wanted_at}
 use Rattle.abel_meaning.specs.SoundIds.{IsSoundNetlist}
-use Rattle.cube_pool.specs.declared.cube.Cube.{Cube}
+use Rattle.covers.specs.declared.cube.Cube.{Cube}
 use Rattle.sop_lowering.specs.Products.{Products}
 use Rattle.sop_lowering.specs.Written.{written, bit_list}
 use Rattle.fitted.specs.Fitting.{AreShared}

@@ -14,7 +14,7 @@ use Rattle.abel_meaning.specs.Functions.{Function}
 use Rattle.abel_meaning.specs.Netlists.{PlainNetlist, plain_netlist, plain_function, node_at}
 use Rattle.abel_meaning.specs.SoundIds.{IsSoundNetlist}
 use Rattle.abel_meaning.specs.Soundness.{IsReadable, IsSoundFormula}
-use Rattle.cube_pool.specs.Cubes.{literal_cube}
+use Rattle.covers.specs.Cubes.{literal_cube}
 use Rattle.sop_lowering.specs.Products.{Products}
 use Rattle.sop_lowering.specs.Written.{function_of_node, node_formula, leaf_list, list_of, node_list, written, bit_list}
 use Rattle.fitted.proofs.FormulaLeaves.{same_leaf-refl}

@@ -5,7 +5,7 @@ use Rattle.bit_expr.specs.declared.netlist.CellWanted.{CellWanted}
 use Rattle.bit_expr.specs.declared.netlist.Netlist.{Netlist}
 use Rattle.abel_tree.specs.Tree.{ModuleTree}
 use Rattle.abel_meaning.specs.Kinds.{names_of}
-use Rattle.cube_pool.specs.declared.cube.Cube.{Cube}
+use Rattle.covers.specs.declared.cube.Cube.{Cube}
 use Rattle.design_lines.specs.Fits.{fit_text}
 use Rattle.fit_plans.specs.Tries.{allowed_of, needed_of}
 use Rattle.fit_laws.specs.Plans.{cell_wanted}

@@ -2,7 +2,7 @@
 
 ghost use Rattle.std.specs.Prelude.{◌≤◌};
 
-use cube_pool::Cube;
+use covers::Cube;
 use test_rows::Found;
 
 /// A cube as a row of a PLA file: at the place of a variable `1` or `0` where it is asked, `-` where it isn't; and `x`

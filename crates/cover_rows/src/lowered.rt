@@ -9,7 +9,7 @@ ghost use Rattle.sop_lowering.specs.Through.{Reaches};
 use crate::cubes::put_cubes;
 use crate::formulas::{Formula, formula_of, netlist};
 use bit_expr::{ExprId, Exprs, Leaf, Netlist, Node};
-use cube_pool::Cube;
+use covers::Cube;
 use sop_lowering::{LowerFault, lower};
 use std::alloc::{AllocError, Global};
 use test_rows::Found;

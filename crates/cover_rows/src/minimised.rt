@@ -1,13 +1,12 @@
 //! Functions with known minima, and the longest list that lowering gives.
 
 ghost use Rattle.std.specs.Prelude.{◌≡◌, ◌+◌, ◌-◌, ◌*◌, ◌≤◌, IfSome, length, max, take, drop};
-ghost use Rattle.cube_pool.specs.Cubes.{AllAskBelow};
-ghost use Rattle.cube_pool.specs.Covers.{CoversList};
-ghost use Rattle.cube_pool.specs.Pool.{LiesIn, cubes_in};
+ghost use Rattle.covers.specs.Cubes.{AllAskBelow};
+ghost use Rattle.covers.specs.Covers.{CoversList};
+ghost use Rattle.covers.specs.Pool.{LiesIn, cubes_in};
 
 use crate::functions::{Function, Value, function_of};
-use cover_min::minimise;
-use cube_pool::{Cube, CubePool, Range};
+use covers::{Cube, CubePool, Range, minimise};
 use std::alloc::Global;
 use test_rows::Found;
 

@@ -1,12 +1,13 @@
 //! Small covers, with what follows for them.
 
 ghost use Rattle.std.specs.Prelude.{◌+◌, ◌-◌, ◌*◌, ◌≤◌, IfSome, length};
-ghost use Rattle.cube_pool.specs.Cubes.{AllAskBelow};
-ghost use Rattle.cube_pool.specs.Pool.{cubes_in};
+ghost use Rattle.covers.specs.Cubes.{AllAskBelow};
+ghost use Rattle.covers.specs.Pool.{cubes_in};
 
 use crate::cubes::{cube_of, put_cube, put_cubes};
-use cover_ops::{cofactor, complement_cube, covers_cube, is_tautology, point_outside};
-use cube_pool::{Cube, CubePool, Range};
+use covers::{
+    Cube, CubePool, Range, cofactor, complement_cube, covers_cube, is_tautology, point_outside,
+};
 use std::alloc::Global;
 use test_rows::Found;
 

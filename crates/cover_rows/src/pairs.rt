@@ -1,7 +1,7 @@
 //! Cubes beside each other, and a pool of them.
 
 use crate::cubes::put_blank;
-use cube_pool::{Cube, CubePool, Range};
+use covers::{Cube, CubePool, Range};
 use std::alloc::Global;
 use test_rows::Found;
 

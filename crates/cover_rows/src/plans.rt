@@ -1,6 +1,6 @@
 //! The fuses of a small plan in the sample device.
 
-use cube_pool::Cube;
+use covers::Cube;
 use fit_plans::{CellForm, CellPlan, Plan, device_fuses, planned_fuses};
 use pld_base::ListOf;
 use pld_device::Sample;

@@ -22,7 +22,7 @@ use Rattle.bit_expr.specs.Formulas.{Formula, Const, Or}
 use Rattle.abel_meaning.specs.Functions.{Function}
 use Rattle.abel_meaning.specs.Netlists.{Wanted, plain_netlist, plain_wanted, wanted_at}
 use Rattle.abel_meaning.specs.SoundIds.{IsSoundNetlist}
-use Rattle.cube_pool.specs.declared.cube.Cube.{Cube}
+use Rattle.covers.specs.declared.cube.Cube.{Cube}
 use Rattle.sop_lowering.specs.Products.{Products, sum_of}
 use Rattle.sop_lowering.specs.Written.{bit_list, written}
 use Rattle.fit_plans.specs.Tries.{allowed_of, needed_of, one_of}

@@ -7,8 +7,8 @@ use Rattle.bit_expr.specs.declared.netlist.Netlist.{Netlist}
 use Rattle.bit_expr.specs.declared.node.Leaf.{Leaf}
 use Rattle.bit_expr.specs.declared.node.Leaf.TheVariants as leaf
 use Rattle.bit_expr.specs.Formulas.{Formula, Const, Read, Not, And, Or, Xor}
-use Rattle.cube_pool.specs.declared.cube.Cube.{Cube}
-use Rattle.cube_pool.specs.Cubes.{lies_in, union, full_cube, literal_cube}
+use Rattle.covers.specs.declared.cube.Cube.{Cube}
+use Rattle.covers.specs.Cubes.{lies_in, union, full_cube, literal_cube}
 use Rattle.sop_lowering.specs.Products.{Products, adds_nothing, others, appended, insert_one, insert_all, insert_unions, insert_products, sum_of, product_of}
 use Rattle.sop_lowering.specs.Through.{EachLeaf}
 use Rattle.sop_lowering.specs.Written.{leaf_list, list_of, node_list, constant_list, pair_of}

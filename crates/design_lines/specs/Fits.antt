@@ -10,7 +10,7 @@ use Rattle.bit_expr.specs.declared.netlist.Control.{Control}
 use Rattle.bit_expr.specs.declared.netlist.Netlist.{Netlist}
 use Rattle.abel_tree.specs.Entries.{Entry}
 use Rattle.abel_tree.specs.FirstRefusal.{Ranks, first_refusal}
-use Rattle.cube_pool.specs.declared.cube.Cube.{Cube}
+use Rattle.covers.specs.declared.cube.Cube.{Cube}
 use Rattle.fit_plans.specs.declared.choosing.Tried.{Tried}
 use Rattle.fit_laws.specs.Plans.{cell_wanted}
 use Rattle.fit_shared.specs.declared.shared.SharedControl.{SharedControl}

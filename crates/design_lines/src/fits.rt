@@ -12,7 +12,7 @@ use crate::firsts::first_own;
 use crate::told::{put_names, told};
 use abel_tree::Names;
 use bit_expr::{CellWanted, Control, Netlist};
-use cube_pool::Cube;
+use covers::Cube;
 use fit_plans::Tried;
 use fit_shared::{SharedControl, cell_wanted, own_control};
 use fitter::FitFault;

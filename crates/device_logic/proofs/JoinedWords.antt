@@ -4,8 +4,8 @@ use Rattle.std.specs.Prelude.{bit_and}
 use Rattle.std.specs.Int.{bit_not, w32}
 use Rattle.std.proofs.lemmas.Bool.{eqb-true, false_from_ne_true}
 use Rattle.std.proofs.lemmas.Nat.{and_block, and_comm}
-use Rattle.cube_pool.specs.declared.cube.Cube.{Cube}
-use Rattle.cube_pool.specs.Cubes.{meets}
+use Rattle.covers.specs.declared.cube.Cube.{Cube}
+use Rattle.covers.specs.Cubes.{meets}
 
 above_zero : (n : ℕ) → 0 < n → (n == 0) ≡ false
 above_zero n some = false_from_ne_true (n == 0) (λ is. absurd (let e = eqb-true n 0 is in omega (arith, e, some)))

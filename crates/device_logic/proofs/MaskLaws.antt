@@ -2,9 +2,9 @@
 use Rattle.std.proofs.Common.{◌≡◌, ◌≤◌, Bool, true, false, List, length, sym, subst, arith}
 use Rattle.std.proofs.lemmas.Bool.{and_parts, false_from_ne_true}
 use Rattle.pld_base.specs.Points.{Levels}
-use Rattle.cube_pool.specs.declared.cube.Cube.{Cube}
-use Rattle.cube_pool.specs.Cubes.{AsksBelow, has_point, is_empty, meets}
-use Rattle.cube_pool.proofs.CubePoints.{apart, empty_has_none}
+use Rattle.covers.specs.declared.cube.Cube.{Cube}
+use Rattle.covers.specs.Cubes.{AsksBelow, has_point, is_empty, meets}
+use Rattle.covers.proofs.CubePoints.{apart, empty_has_none}
 use Rattle.device_logic.specs.RowMasks.{holds}
 use Rattle.device_logic.specs.declared.row_mask.RowMask.{RowMask}
 

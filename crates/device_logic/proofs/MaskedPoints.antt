@@ -5,10 +5,10 @@ use Rattle.std.proofs.lemmas.Bool.{cases_Bool, false_from_ne_true}
 use Rattle.std.proofs.lemmas.Nat.Bits.{bit_at-lt, bit_at_not}
 use Rattle.pld_base.specs.Bits.{bits}
 use Rattle.pld_base.proofs.BitLemmas.{is_on-bits, length-bits}
-use Rattle.cube_pool.specs.declared.cube.Cube.{Cube}
-use Rattle.cube_pool.specs.Cubes.{AsksBelow, fits, has_point, meets}
-use Rattle.cube_pool.proofs.CubeBits.{meets_each}
-use Rattle.cube_pool.proofs.CubePoints.{apart, has_point_each}
+use Rattle.covers.specs.declared.cube.Cube.{Cube}
+use Rattle.covers.specs.Cubes.{AsksBelow, fits, has_point, meets}
+use Rattle.covers.proofs.CubeBits.{meets_each}
+use Rattle.covers.proofs.CubePoints.{apart, has_point_each}
 
 -- a level is what its own bit and the complement ask
 fits_own : (a b : ℕ) → a < 2 → b ≡ 1 - a → fits a b (a == 1) ≡ true

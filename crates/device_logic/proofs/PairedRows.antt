@@ -10,10 +10,10 @@ use Rattle.pld_device.specs.Rows.{carried, pair_values, row_fuses}
 use Rattle.pld_device.specs.Table.{Table}
 use Rattle.device_logic.specs.Array.{is_live, passes}
 use Rattle.device_logic.proofs.LiveRows.{dead_value}
-use Rattle.cube_pool.specs.declared.cube.Cube.{Cube}
-use Rattle.cube_pool.specs.Cubes.{AsksBelow, full_cube, has_point, literal_cube, union}
-use Rattle.cube_pool.proofs.CubeBits.{literal_below}
-use Rattle.cube_pool.proofs.CubePoints.{full_has_all}
+use Rattle.covers.specs.declared.cube.Cube.{Cube}
+use Rattle.covers.specs.Cubes.{AsksBelow, full_cube, has_point, literal_cube, union}
+use Rattle.covers.proofs.CubeBits.{literal_below}
+use Rattle.covers.proofs.CubePoints.{full_has_all}
 use Rattle.device_logic.specs.PairCubes.{AsksBesides, IsPairCube}
 use Rattle.device_logic.proofs.MaskedPoints.{never_has}
 use Rattle.device_logic.proofs.Walked.{PassesBelow, passes_more, passes_row}

@@ -3,8 +3,8 @@ use Rattle.std.specs.Prelude.{◌≡◌, ℕ, ◌<◌, Bool, ◌&&◌, List, get
 use Rattle.pld_base.specs.Points.{IsPoint, Levels}
 use Rattle.pld_device.specs.Rows.{pair_values, row_value}
 use Rattle.pld_device.specs.Table.{Table}
-use Rattle.cube_pool.specs.Cubes.{AsksBelow, has_point}
-use Rattle.cube_pool.specs.declared.cube.Cube.{Cube}
+use Rattle.covers.specs.Cubes.{AsksBelow, has_point}
+use Rattle.covers.specs.declared.cube.Cube.{Cube}
 
 -- it asks of the pairs' values what the row does
 pub record IsPairCube (t : Table) (fuses : List Bool) (row : ℕ) (cube : Cube) : Type 0 where

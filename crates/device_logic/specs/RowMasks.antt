@@ -3,7 +3,7 @@ use Rattle.std.specs.Prelude.{◌≡◌, ℕ, ◌<◌, Bool, ◌&&◌, List, get
 use Rattle.pld_base.specs.Points.{IsPoint, Levels}
 use Rattle.pld_device.specs.Rows.{row_value}
 use Rattle.pld_device.specs.Table.{Table}
-use Rattle.cube_pool.specs.Cubes.{has_point}
+use Rattle.covers.specs.Cubes.{has_point}
 use Rattle.device_logic.specs.declared.row_mask.RowMask.{RowMask}
 
 -- each pin and each Q has the level that is asked

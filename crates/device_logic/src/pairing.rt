@@ -11,7 +11,7 @@ ghost use Rattle.device_logic.specs.PairCubes.{ArePairCubes, AsksBesides, IsPair
 
 use crate::array::FuseArray;
 use crate::masking::fuse_at;
-use cube_pool::Cube;
+use covers::Cube;
 use pld_base::OutOfMemory;
 use pld_device::{Device, Fuses};
 use std::alloc::Global;

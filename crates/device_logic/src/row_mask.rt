@@ -3,10 +3,10 @@
 ghost use Rattle.std.specs.Prelude.{◌≡◌, ◌+◌, ◌*◌, ◌^◌, ◌<◌, Bool, List, false, length, true};
 ghost use Rattle.pld_base.specs.Bits.{bits, is_on, same_level};
 ghost use Rattle.pld_base.specs.Points.{IsPoint, Levels, levels_of};
-ghost use Rattle.cube_pool.specs.Cubes.{has_point};
+ghost use Rattle.covers.specs.Cubes.{has_point};
 ghost use Rattle.device_logic.specs.RowMasks.{HoldsWith, holds};
 
-use cube_pool::Cube;
+use covers::Cube;
 use pld_base::Point;
 
 /// The levels that are asked of a point's pins, and of its Qs.

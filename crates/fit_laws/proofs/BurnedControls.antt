@@ -17,7 +17,7 @@ use Rattle.pld_device.specs.Registers.{is_inverted, says}
 use Rattle.pld_device.specs.Rows.{is_switched_on}
 use Rattle.pld_device.specs.Table.{Table, cell_at, inverted_at, registered_at}
 use Rattle.pld_order.specs.Graphs.{has}
-use Rattle.cube_pool.specs.declared.cube.Cube.{Cube}
+use Rattle.covers.specs.declared.cube.Cube.{Cube}
 use Rattle.fit_plans.specs.declared.control_fuses.CellForm.{CellForm}
 use Rattle.fit_plans.specs.declared.plan.Plan.{Plan}
 use Rattle.fit_plans.specs.Controls.{IsBurned, control_level, form_at, told_level}

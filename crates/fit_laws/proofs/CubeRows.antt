@@ -16,10 +16,10 @@ use Rattle.pld_device.specs.Rows.{carried, columns_of, is_switched_on, pair_valu
 use Rattle.pld_order.proofs.Ranks.{Ranked}
 use Rattle.pld_order.specs.Graphs.{has}
 use Rattle.device_logic.proofs.Runs.{any_at, one_of}
-use Rattle.cube_pool.specs.declared.cube.Cube.{Cube}
-use Rattle.cube_pool.specs.Cubes.{asks, covers, fits, full_cube, has_from, has_point, literal_cube, without}
-use Rattle.cube_pool.specs.Prime.{IsPrimeIrredundant}
-use Rattle.cube_pool.proofs.CubeBits.{bit_at_without, literal_below, literal_other, literal_same}
+use Rattle.covers.specs.declared.cube.Cube.{Cube}
+use Rattle.covers.specs.Cubes.{asks, covers, fits, full_cube, has_from, has_point, literal_cube, without}
+use Rattle.covers.specs.Prime.{IsPrimeIrredundant}
+use Rattle.covers.proofs.CubeBits.{bit_at_without, literal_below, literal_other, literal_same}
 use Rattle.abel_meaning.specs.Netlists.{PlainNetlist}
 use Rattle.abel_meaning.specs.NetlistReads.{netlist_waits, signal_count}
 use Rattle.abel_meaning.specs.Soundness.{IsSound}

@@ -15,8 +15,8 @@ use Rattle.pld_device.specs.Table.{Table, cell_at}
 use Rattle.bit_expr.specs.declared.netlist.CellWanted.{CellWanted}
 use Rattle.bit_expr.specs.declared.netlist.Netlist.{Netlist}
 use Rattle.bit_expr.specs.declared.node.ExprId.{ExprId}
-use Rattle.cube_pool.specs.declared.cube.Cube.{Cube}
-use Rattle.cube_pool.specs.Cubes.{full_cube}
+use Rattle.covers.specs.declared.cube.Cube.{Cube}
+use Rattle.covers.specs.Cubes.{full_cube}
 use Rattle.fitted.specs.Covers.{is_used}
 use Rattle.fit_plans.specs.Columns.{all_turned}
 use Rattle.fit_plans.specs.Covering.{IsCoverBetween}

@@ -28,7 +28,7 @@ use Rattle.abel_meaning.specs.Netlists.{PlainNetlist, Wanted, function_at, plain
 use Rattle.abel_meaning.specs.NetlistLogic.{enable_of, netlist_stores, registers_as}
 use Rattle.abel_meaning.specs.SoundIds.{IsSoundNetlist}
 use Rattle.abel_meaning.specs.Soundness.{IsSound, IsSoundFormula, IsSoundFree, MayRegister}
-use Rattle.cube_pool.specs.declared.cube.Cube.{Cube}
+use Rattle.covers.specs.declared.cube.Cube.{Cube}
 use Rattle.fitted.specs.Covers.{IsExactRow, IsPrimeCover, is_used}
 use Rattle.fitted.specs.Fitting.{IsFitted, IsFittedAs, IsFittedCell, IsFittedEnable, IsFittedShared, IsSpareCell, or_complements, or_may_be}
 use Rattle.fitted.proofs.UnusedRows.{data_row_below}

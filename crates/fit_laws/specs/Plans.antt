@@ -20,8 +20,8 @@ use Rattle.abel_meaning.specs.Netlists.{PlainNetlist, Wanted, plain_netlist, sha
 use Rattle.abel_meaning.specs.NetlistLogic.{netlist_stores}
 use Rattle.abel_meaning.specs.SoundIds.{IsSoundNetlist}
 use Rattle.free_netlists.specs.ExchangedNets.{netlist_exchanged, netlist_shown}
-use Rattle.cube_pool.specs.declared.cube.Cube.{Cube}
-use Rattle.cube_pool.specs.Cubes.{covers}
+use Rattle.covers.specs.declared.cube.Cube.{Cube}
+use Rattle.covers.specs.Cubes.{covers}
 use Rattle.fit_plans.specs.Covering.{IsCoverBetween}
 use Rattle.fit_plans.specs.Tries.{allowed_of, needed_of}
 use Rattle.fit_plans.specs.Covered.{control_function}

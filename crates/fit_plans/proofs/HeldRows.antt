@@ -3,10 +3,10 @@ use Rattle.std.proofs.Common.{◌≡◌, ℕ, ◌+◌, ◌<◌, Bool, false, Opt
 use Rattle.std.specs.List.{range_with_len}
 use Rattle.std.proofs.lemmas.List.FromFn.{get_or-map-range_with_len}
 use Rattle.std.proofs.lemmas.Option.{slice_get-get_or, slice_get_past}
-use Rattle.cube_pool.specs.declared.cube.Cube.{Cube}
+use Rattle.covers.specs.declared.cube.Cube.{Cube}
 use Rattle.pld_device.specs.Laws.{IsDevice}
 use Rattle.pld_device.specs.Table.{Table, no_cell, cell_at}
-use Rattle.cube_pool.specs.Cubes.{full_cube}
+use Rattle.covers.specs.Cubes.{full_cube}
 use Rattle.fit_plans.specs.FuseLists.{fuses_of, planned_row}
 use Rattle.fit_plans.proofs.PlannedRows.{control_is, fuses_long, holds_planned, row_is}
 use Rattle.fit_plans.specs.declared.plan.Plan.{Plan}

@@ -6,9 +6,9 @@ use Rattle.pld_base.specs.Bits.{same_level}
 use Rattle.bit_expr.specs.declared.netlist.Function.{Function}
 use Rattle.bit_expr.specs.declared.netlist.Netlist.{Netlist}
 use Rattle.bit_expr.specs.Formulas.{Formula, formula_value}
-use Rattle.cube_pool.specs.declared.cube.Cube.{Cube}
-use Rattle.cube_pool.specs.Cubes.{AllAskBelow, AsksBelow, covers}
-use Rattle.cube_pool.specs.Covers.{CoversList}
+use Rattle.covers.specs.declared.cube.Cube.{Cube}
+use Rattle.covers.specs.Cubes.{AllAskBelow, AsksBelow, covers}
+use Rattle.covers.specs.Covers.{CoversList}
 use Rattle.sop_lowering.specs.Products.{Products}
 use Rattle.sop_lowering.specs.Values.{Carries, HasValue}
 use Rattle.sop_lowering.specs.Written.{written}

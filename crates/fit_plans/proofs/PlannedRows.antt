@@ -9,8 +9,8 @@ use Rattle.pld_base.proofs.BitLemmas.{same_levels}
 use Rattle.pld_device.specs.Laws.{IsDevice}
 use Rattle.pld_device.specs.Rows.{row_fuses}
 use Rattle.pld_device.specs.Table.{Table}
-use Rattle.cube_pool.specs.declared.cube.Cube.{Cube}
-use Rattle.cube_pool.specs.Cubes.{full_cube}
+use Rattle.covers.specs.declared.cube.Cube.{Cube}
+use Rattle.covers.specs.Cubes.{full_cube}
 use Rattle.fit_plans.specs.RowCubes.{fuse_at, row_of, zeros, HoldsCubes}
 use Rattle.fit_plans.specs.FuseLists.{planned_fuse, planned_row, fuse_level, fuses_of}
 

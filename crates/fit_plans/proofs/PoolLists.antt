@@ -2,11 +2,11 @@
 use Rattle.std.proofs.Common.{◌≡◌, ℕ, ◌+◌, ◌≤◌, List, [], ◌∷◌, ◌++◌, length, take, refl, sym, ◌∙◌, ap, arith}
 use Rattle.std.specs.Prelude.{slice_range}
 use Rattle.std.proofs.lemmas.List.{length-append}
-use Rattle.cube_pool.specs.declared.cube.Cube.{Cube}
-use Rattle.cube_pool.specs.Pool.{Pool}
-use Rattle.cover_min.proofs.ExpandedRows.{slice_kept}
-use Rattle.cover_min.proofs.GrownPools.{grown_kept}
-use Rattle.cover_ops.proofs.CofactorLists.{appended}
+use Rattle.covers.specs.declared.cube.Cube.{Cube}
+use Rattle.covers.specs.Pool.{Pool}
+use Rattle.covers.proofs.ExpandedRows.{slice_kept}
+use Rattle.covers.proofs.GrownPools.{grown_kept}
+use Rattle.covers.proofs.CofactorLists.{appended}
 
 take_front : (xs ys : List Cube) → take (length xs) (xs ++ ys) ≡ xs
 take_front [] ys = refl

@@ -5,8 +5,8 @@ use Rattle.std.specs.Int.{bit_at, bit_not, w32}
 use Rattle.std.proofs.lemmas.List.Elements.{All-map}
 use Rattle.std.proofs.lemmas.Nat.{and_le_l, or_lt}
 use Rattle.std.proofs.lemmas.Nat.Bits.{bit_at-lt, bit_at_and, bit_at_or, bit_at_not}
-use Rattle.cube_pool.specs.declared.cube.Cube.{Cube}
-use Rattle.cube_pool.specs.Cubes.{AllAskBelow, AsksBelow, covers, fits, has_from}
+use Rattle.covers.specs.declared.cube.Cube.{Cube}
+use Rattle.covers.specs.Cubes.{AllAskBelow, AsksBelow, covers, fits, has_from}
 use Rattle.fit_plans.specs.Columns.{all_turned, turned}
 use Rattle.fit_plans.specs.Points.{TurnedPoints, levels_turned}
 

@@ -5,8 +5,8 @@ use Rattle.std.specs.Int.{bit_at, bit_not, w32}
 use Rattle.std.proofs.lemmas.Bool.{cases_eq}
 use Rattle.std.proofs.lemmas.Nat.Bits.{bit_at-lt, bit_at-pow_other, bit_at-zero, bit_at_and, bit_at_not}
 use Rattle.std.proofs.lemmas.Nat.{pow_below}
-use Rattle.cube_pool.specs.declared.cube.Cube.{Cube}
-use Rattle.cube_pool.specs.Cubes.{asks, fits, has_from, literal_cube, without}
+use Rattle.covers.specs.declared.cube.Cube.{Cube}
+use Rattle.covers.specs.Cubes.{asks, fits, has_from, literal_cube, without}
 use Rattle.fit_plans.specs.Columns.{turned}
 use Rattle.fit_plans.specs.Points.{levels_turned}
 use Rattle.fit_plans.proofs.TurnedCubes.{exchanged, fits_turned, one_or_zero, stays, taken}

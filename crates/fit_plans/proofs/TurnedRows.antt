@@ -4,10 +4,10 @@ use Rattle.std.specs.Prelude.{◌==◌, remove, take, drop, get_or}
 use Rattle.std.specs.Int.{bit_at}
 use Rattle.std.proofs.lemmas.List.{length-map, map-append}
 use Rattle.std.proofs.lemmas.List.Elements.{All-map}
-use Rattle.cube_pool.specs.declared.cube.Cube.{Cube}
-use Rattle.cube_pool.specs.Covers.{CoversList}
-use Rattle.cube_pool.specs.Cubes.{covers, has_point, literal_cube, without}
-use Rattle.cube_pool.specs.Prime.{IsIrredundant, IsPrime, IsPrimeIrredundant}
+use Rattle.covers.specs.declared.cube.Cube.{Cube}
+use Rattle.covers.specs.Covers.{CoversList}
+use Rattle.covers.specs.Cubes.{covers, has_point, literal_cube, without}
+use Rattle.covers.specs.Prime.{IsIrredundant, IsPrime, IsPrimeIrredundant}
 use Rattle.fit_plans.specs.Columns.{all_turned, turned}
 use Rattle.fit_plans.specs.Points.{levels_turned}
 use Rattle.fit_plans.specs.TurnedCovers.{IsExchangedMask, TurnedAgain, TurnedStaysPrime}

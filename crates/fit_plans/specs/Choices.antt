@@ -1,7 +1,7 @@
 -- Which polarity a cell takes (this project's rule).
 use Rattle.std.specs.Prelude.{◌≡◌, ℕ, ◌≤◌, true, false, Option, Some, None, length, Result, Ok, Err}
 use Rattle.std.specs.Global.{Vec}
-use Rattle.cube_pool.specs.declared.cube.Cube.{Cube}
+use Rattle.covers.specs.declared.cube.Cube.{Cube}
 use Rattle.fit_plans.specs.declared.choosing.Chosen.{Chosen}
 use Rattle.fit_plans.specs.declared.choosing.Tried.{Tried}
 

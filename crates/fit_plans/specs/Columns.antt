@@ -2,7 +2,7 @@
 -- datasheets, macrocell diagrams). Bit v of a mask says that pair v does.
 use Rattle.std.specs.Prelude.{ℕ, List, map, bit_and, bit_or}
 use Rattle.std.specs.Int.{bit_not, w32}
-use Rattle.cube_pool.specs.declared.cube.Cube.{Cube}
+use Rattle.covers.specs.declared.cube.Cube.{Cube}
 
 -- the cube with its two levels exchanged at the variables of the mask
 abbrev pub turned : (mask : ℕ) → Cube → Cube

@@ -5,7 +5,7 @@ use Rattle.bit_expr.specs.declared.netlist.CellWanted.{CellWanted}
 use Rattle.bit_expr.specs.declared.netlist.Function.{Function}
 use Rattle.bit_expr.specs.declared.netlist.Netlist.{Netlist}
 use Rattle.bit_expr.specs.declared.node.ExprId.{ExprId}
-use Rattle.cube_pool.specs.declared.cube.Cube.{Cube}
+use Rattle.covers.specs.declared.cube.Cube.{Cube}
 use Rattle.pld_device.specs.declared.flip.Flip.{Flip}
 use Rattle.sop_lowering.specs.Lowering.{CanLower}
 use Rattle.fit_plans.specs.Choices.{FitsRoom}

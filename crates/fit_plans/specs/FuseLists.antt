@@ -3,7 +3,7 @@
 use Rattle.std.specs.Prelude.{ℕ, ◌*◌, ◌/◌, ◌%◌, Bool, false, nat_lt, if◌then◌else◌, Option, None, Some, List, map}
 use Rattle.std.specs.List.{range_with_len}
 use Rattle.pld_device.specs.Table.{Table}
-use Rattle.cube_pool.specs.declared.cube.Cube.{Cube}
+use Rattle.covers.specs.declared.cube.Cube.{Cube}
 use Rattle.fit_plans.specs.RowCubes.{fuse_at, row_of, zeros}
 
 -- the fuse of a column in a row that holds a cube, or nothing

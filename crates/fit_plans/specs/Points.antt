@@ -4,8 +4,8 @@ use Rattle.std.specs.Int.{bit_at}
 use Rattle.pld_base.specs.Points.{Levels}
 use Rattle.bit_expr.specs.declared.netlist.Function.{Function}
 use Rattle.bit_expr.specs.declared.netlist.Netlist.{Netlist}
-use Rattle.cube_pool.specs.declared.cube.Cube.{Cube}
-use Rattle.cube_pool.specs.Cubes.{AsksBelow, has_point}
+use Rattle.covers.specs.declared.cube.Cube.{Cube}
+use Rattle.covers.specs.Cubes.{AsksBelow, has_point}
 use Rattle.sop_lowering.specs.Values.{Carries}
 use Rattle.fit_plans.specs.Columns.{turned}
 use Rattle.fit_plans.specs.Covering.{AreInside}

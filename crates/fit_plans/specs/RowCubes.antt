@@ -4,8 +4,8 @@ use Rattle.std.specs.Int.{bit_at}
 use Rattle.std.specs.List.{range_with_len}
 use Rattle.pld_device.specs.Rows.{row_fuses}
 use Rattle.pld_device.specs.Table.{Table}
-use Rattle.cube_pool.specs.declared.cube.Cube.{Cube}
-use Rattle.cube_pool.specs.Cubes.{full_cube}
+use Rattle.covers.specs.declared.cube.Cube.{Cube}
+use Rattle.covers.specs.Cubes.{full_cube}
 
 -- the fuse of a column in the row of a cube: 0 where the cube asks for what the column carries
 abbrev pub fuse_at : Cube → ℕ → Bool

@@ -4,7 +4,7 @@ ghost use Rattle.std.specs.Prelude.{◌≡◌, ◌*◌, ◌<◌, ◌≤◌, leng
 ghost use Rattle.fit_plans.specs.RowCubes.{fuse_at};
 ghost use Rattle.fit_plans.specs.FuseLists.{planned_fuse, fuse_level, fuses_of};
 
-use cube_pool::Cube;
+use covers::Cube;
 use pld_device::Device;
 use std::alloc::{AllocError, Global};
 

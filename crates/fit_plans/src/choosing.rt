@@ -2,7 +2,7 @@
 
 ghost use Rattle.fit_plans.specs.Choices.{Chooses};
 
-use cube_pool::Cube;
+use covers::Cube;
 
 /// The rows that a cell takes, and whether they are those of the inverted form.
 #[derive(Drop)]

@@ -5,7 +5,7 @@ ghost use Rattle.fit_plans.specs.Covered.{CanCover, IsCoverOf, control_function}
 
 use crate::covering::cover;
 use bit_expr::{ExprId, Function, Netlist};
-use cube_pool::{Cube, CubePool};
+use covers::{Cube, CubePool};
 use std::alloc::{AllocError, Global};
 
 /// The cover of a control over the pairs' columns; None where a list on the way would pass 1,024 products.

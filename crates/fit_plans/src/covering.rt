@@ -1,7 +1,7 @@
 //! The cover of a function in a polarity, made in the pool.
 
 ghost use Rattle.std.specs.Prelude.{◌≡◌, ◌+◌, ◌≤◌, ◌++◌, IfOk, length, vec_capacity, vec_len};
-ghost use Rattle.cube_pool.specs.Prime.{IsPrimeIrredundant};
+ghost use Rattle.covers.specs.Prime.{IsPrimeIrredundant};
 ghost use Rattle.sop_lowering.specs.Lowering.{CanLower};
 ghost use Rattle.fit_plans.specs.Covering.{AreInside, IsInside, IsTried};
 ghost use Rattle.fit_plans.specs.Tries.{allowed_of, needed_of};
@@ -9,8 +9,7 @@ ghost use Rattle.fit_plans.specs.Tries.{allowed_of, needed_of};
 use crate::lists::written_lists;
 use crate::turning::all_turned;
 use bit_expr::{Function, Netlist};
-use cover_min::minimise;
-use cube_pool::{Cube, CubePool};
+use covers::{Cube, CubePool, minimise};
 use sop_lowering::LowerFault;
 use std::alloc::{AllocError, Global};
 

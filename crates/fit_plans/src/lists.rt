@@ -5,7 +5,7 @@ ghost use Rattle.sop_lowering.specs.Lowering.{CanLower};
 ghost use Rattle.fit_plans.specs.Tries.{AreLists, allowed_of, needed_of};
 
 use bit_expr::{Function, Netlist};
-use cube_pool::Cube;
+use covers::Cube;
 use sop_lowering::{LowerFault, lower, product_list, sum_list};
 use std::alloc::Global;
 

@@ -6,7 +6,7 @@ ghost use Rattle.fit_plans.specs.Owners.{cube_for, enables, is_data, owner, plan
 ghost use Rattle.fit_plans.specs.Planned.{IsPlanned};
 
 use crate::burning::burn;
-use cube_pool::Cube;
+use covers::Cube;
 use pld_base::ListOf;
 use pld_device::{Cell, Device, Enable};
 use std::alloc::{AllocError, Global};

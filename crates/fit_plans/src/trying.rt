@@ -11,7 +11,7 @@ use crate::covering::cover;
 use crate::forms::{may_be_inverted_as, rows_are_positive};
 use crate::lists::written_lists;
 use bit_expr::{CellWanted, Netlist};
-use cube_pool::{Cube, CubePool};
+use covers::{Cube, CubePool};
 use pld_device::Flip;
 use sop_lowering::LowerFault;
 use std::alloc::{AllocError, Global};

@@ -3,7 +3,7 @@
 ghost use Rattle.std.specs.Prelude.{◌≡◌, ◌≤◌, IfOk, vec_len, length};
 ghost use Rattle.fit_plans.specs.Columns.{all_turned, turned};
 
-use cube_pool::Cube;
+use covers::Cube;
 use std::alloc::{AllocError, Global};
 
 /// The cube with its two levels exchanged at the variables of the mask.

@@ -20,9 +20,9 @@ use Rattle.bit_expr.specs.Formulas.{Const, Formula, formula_value}
 use Rattle.abel_meaning.specs.Netlists.{Wanted, first_with, own_of, plain_control, plain_netlist, plain_wanted, shared_function, wanted_at}
 use Rattle.abel_meaning.specs.SoundIds.{IsSoundNetlist}
 use Rattle.abel_meaning.specs.Soundness.{IsReadable, IsSoundCell}
-use Rattle.cube_pool.specs.declared.cube.Cube.{Cube}
-use Rattle.cube_pool.specs.Covers.{CoversList}
-use Rattle.cube_pool.specs.Cubes.{covers}
+use Rattle.covers.specs.declared.cube.Cube.{Cube}
+use Rattle.covers.specs.Covers.{CoversList}
+use Rattle.covers.specs.Cubes.{covers}
 use Rattle.fitted.specs.Covers.{IsValuedFor}
 use Rattle.fitted.specs.Fitting.{AreShared}
 use Rattle.fitted.proofs.BoolLaws.{both_ways}

@@ -4,11 +4,11 @@ use Rattle.std.proofs.lemmas.Bool.{cases_lt, true≢false}
 use Rattle.std.proofs.lemmas.List.{get_or-take, length-take, take_more, take_all}
 use Rattle.std.proofs.lemmas.List.Folds.{list_any_at}
 use Rattle.pld_base.specs.Bits.{bits}
-use Rattle.cube_pool.specs.declared.cube.Cube.{Cube}
-use Rattle.cube_pool.specs.Cubes.{covers, full_cube, has_point}
-use Rattle.cube_pool.specs.Covers.{CoversCube, CoversList}
-use Rattle.cover_min.proofs.RowsOthers.{some_of}
-use Rattle.cover_ops.specs.Outside.{IsOutside}
+use Rattle.covers.specs.declared.cube.Cube.{Cube}
+use Rattle.covers.specs.Cubes.{covers, full_cube, has_point}
+use Rattle.covers.specs.Covers.{CoversCube, CoversList}
+use Rattle.covers.proofs.RowsOthers.{some_of}
+use Rattle.covers.specs.Outside.{IsOutside}
 use Rattle.fit_shared.specs.Missing.{FindsApart, FindsMissed, IsApart, IsMissed}
 
 pub missed_at : (rows cubes : List Cube) (index vars point : ℕ) (row : Cube) → index < length rows → get_or rows index full_cube ≡ row → IsOutside cubes row vars point → IsMissed rows cubes vars point

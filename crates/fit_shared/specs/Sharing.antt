@@ -11,8 +11,8 @@ use Rattle.bit_expr.specs.declared.node.ExprId.{ExprId}
 use Rattle.bit_expr.specs.Arena.{arena, formula_at}
 use Rattle.bit_expr.specs.Formulas.{Formula, formula_value}
 use Rattle.abel_meaning.specs.Netlists.{PlainNetlist, Wanted, first_with, plain_netlist, plain_wanted, shared_function, wanted_at}
-use Rattle.cube_pool.specs.declared.cube.Cube.{Cube}
-use Rattle.cube_pool.specs.Covers.{CoversList}
+use Rattle.covers.specs.declared.cube.Cube.{Cube}
+use Rattle.covers.specs.Covers.{CoversList}
 use Rattle.fitted.specs.Covers.{IsValuedFor}
 use Rattle.fitted.specs.Fitting.{AreShared}
 use Rattle.sop_lowering.specs.Written.{bit_list}

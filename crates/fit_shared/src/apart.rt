@@ -1,12 +1,11 @@
 //! Points at which two covers differ.
 
 ghost use Rattle.std.specs.Prelude.{◌≡◌, ◌+◌, ◌-◌, ◌*◌, ◌≤◌, length};
-ghost use Rattle.cube_pool.specs.Cubes.{AllAskBelow};
-ghost use Rattle.cube_pool.specs.Pool.{cubes_in};
+ghost use Rattle.covers.specs.Cubes.{AllAskBelow};
+ghost use Rattle.covers.specs.Pool.{cubes_in};
 ghost use Rattle.fit_shared.specs.Missing.{FindsApart, FindsMissed};
 
-use cover_ops::point_outside;
-use cube_pool::{Cube, CubePool, Range};
+use covers::{Cube, CubePool, Range, point_outside};
 
 /// A point of the rows that the cubes of a range miss.
 fn missed_in(pool: &mut CubePool, rows: &[Cube], cover: Range, vars: u8) -> Option<u32>

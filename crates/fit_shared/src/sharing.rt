@@ -10,7 +10,7 @@ use crate::apart::point_apart;
 use crate::evaluating::valued_point;
 use crate::shared::{SharedControl, cell_wanted, own_control, pair_count};
 use bit_expr::{CellWanted, ExprId, Netlist};
-use cube_pool::{Cube, CubePool};
+use covers::{Cube, CubePool};
 use pld_base::Point;
 use pld_device::Device;
 use sop_lowering::{LowerFault, lower};

@@ -14,7 +14,7 @@ use Rattle.bit_expr.specs.declared.netlist.CellWanted.{CellWanted}
 use Rattle.bit_expr.specs.declared.netlist.Netlist.{Netlist}
 use Rattle.abel_meaning.specs.Netlists.{Wanted, plain_netlist}
 use Rattle.abel_meaning.specs.SoundIds.{IsSoundNetlist}
-use Rattle.cube_pool.specs.declared.cube.Cube.{Cube}
+use Rattle.covers.specs.declared.cube.Cube.{Cube}
 use Rattle.fit_plans.specs.Columns.{all_turned, turned}
 use Rattle.fit_plans.specs.declared.choosing.Tried.{Tried}
 use Rattle.fit_laws.specs.Plans.{HasCellPlan, IsTurnMask, PlansNetlist, PlansRows, cell_wanted, enable_bit, is_chosen}

@@ -6,11 +6,11 @@ use Rattle.std.proofs.lemmas.Bool.{cases_Bool, cases_eq, eqb-true, true≢false}
 use Rattle.std.proofs.lemmas.List.Folds.{list_any_at}
 use Rattle.std.proofs.lemmas.Nat.Bits.{bit_at-lt}
 use Rattle.pld_base.specs.Bits.{is_on}
-use Rattle.cube_pool.specs.declared.cube.Cube.{Cube}
-use Rattle.cube_pool.specs.Cubes.{asks, covers, fits, full_cube, has_point, literal_cube, without}
-use Rattle.cube_pool.specs.Prime.{IsPrimeIrredundant}
-use Rattle.cube_pool.proofs.CubePoints.{fits_at, has_point_each, point_one, point_zero}
-use Rattle.cover_min.proofs.RowsOthers.{other_covers}
+use Rattle.covers.specs.declared.cube.Cube.{Cube}
+use Rattle.covers.specs.Cubes.{asks, covers, fits, full_cube, has_point, literal_cube, without}
+use Rattle.covers.specs.Prime.{IsPrimeIrredundant}
+use Rattle.covers.proofs.CubePoints.{fits_at, has_point_each, point_one, point_zero}
+use Rattle.covers.proofs.RowsOthers.{other_covers}
 use Rattle.fitted.proofs.BoolLaws.{both_ways}
 use Rattle.fitted.proofs.RowLiterals.{column_of}
 use Rattle.fit_plans.specs.Columns.{all_turned, turned}

@@ -4,10 +4,10 @@ use Rattle.std.specs.List.{swap}
 use Rattle.std.specs.List.Sorted.{IsPermutation}
 use Rattle.std.proofs.lemmas.List.Edits.{length-swap}
 use Rattle.std.proofs.lemmas.List.Sorted.{All-permutation, IsPermutation-keeps, length_permutation, list_any-IsPermutation}
-use Rattle.cube_pool.specs.declared.cube.Cube.{Cube}
-use Rattle.cube_pool.specs.Cubes.{covers, has_point}
-use Rattle.cube_pool.specs.Prime.{IsIrredundant, IsPrime, IsPrimeIrredundant}
-use Rattle.cover_min.proofs.RowsOthers.{exchange_case, exchanged, swapped_others}
+use Rattle.covers.specs.declared.cube.Cube.{Cube}
+use Rattle.covers.specs.Cubes.{covers, has_point}
+use Rattle.covers.specs.Prime.{IsIrredundant, IsPrime, IsPrimeIrredundant}
+use Rattle.covers.proofs.RowsOthers.{exchange_case, exchanged, swapped_others}
 use Rattle.sop_lowering.specs.Products.{Products}
 use Rattle.fit_plans.specs.Covering.{IsCoverBetween}
 

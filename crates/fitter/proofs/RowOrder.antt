@@ -6,8 +6,8 @@ use Rattle.std.proofs.lemmas.Option.{slice_get-get_or}
 use Rattle.pld_base.specs.Bits.{is_on}
 use Rattle.pld_device.specs.Rows.{row_fuses}
 use Rattle.pld_device.specs.Table.{Table, cell_at}
-use Rattle.cube_pool.specs.declared.cube.Cube.{Cube}
-use Rattle.cube_pool.specs.Cubes.{full_cube}
+use Rattle.covers.specs.declared.cube.Cube.{Cube}
+use Rattle.covers.specs.Cubes.{full_cube}
 use Rattle.fit_laws.proofs.PlannedRows.{IsSingle, row_used, zeros_unused}
 use Rattle.fit_plans.specs.RowCubes.{HoldsCubes, fuse_at, row_of}
 use Rattle.fitter.specs.Order.{AreRowsInOrder, fuse_number}

@@ -7,7 +7,7 @@ use Rattle.bit_expr.specs.declared.netlist.Netlist.{Netlist}
 use Rattle.bit_expr.specs.declared.node.ExprId.{ExprId}
 use Rattle.abel_meaning.specs.Netlists.{plain_netlist}
 use Rattle.abel_meaning.specs.SoundIds.{IsSoundNetlist}
-use Rattle.cube_pool.specs.declared.cube.Cube.{Cube}
+use Rattle.covers.specs.declared.cube.Cube.{Cube}
 use Rattle.fit_laws.specs.Plans.{IsTurnMask, PlansControl, PlansRows}
 use Rattle.fit_plans.specs.Covered.{control_function}
 use Rattle.fit_shared.specs.declared.shared.SharedControl.{SharedControl}

@@ -18,7 +18,7 @@ use Rattle.bit_expr.proofs.ArenaLists.{get_kept}
 use Rattle.abel_meaning.specs.Netlists.{plain_netlist}
 use Rattle.abel_meaning.specs.NetlistLogic.{netlist_stores, registers_as}
 use Rattle.abel_meaning.specs.SoundIds.{IsSoundNetlist}
-use Rattle.cube_pool.specs.declared.cube.Cube.{Cube}
+use Rattle.covers.specs.declared.cube.Cube.{Cube}
 use Rattle.fit_plans.specs.Columns.{all_turned, turned}
 use Rattle.fit_laws.specs.Plans.{IsChosenMask, IsTurnMask, PlansAs, PlansCell, PlansRows, carries_chosen, carries_complement, enable_bit, is_chosen}
 use Rattle.fit_laws.proofs.PlansFit.{may_choose}

@@ -6,7 +6,7 @@ use Rattle.pld_device.specs.Table.{Table, cell_at}
 use Rattle.bit_expr.specs.declared.netlist.CellWanted.{CellWanted}
 use Rattle.bit_expr.specs.declared.netlist.Netlist.{Netlist}
 use Rattle.bit_expr.specs.declared.node.ExprId.{ExprId}
-use Rattle.cube_pool.specs.declared.cube.Cube.{Cube}
+use Rattle.covers.specs.declared.cube.Cube.{Cube}
 use Rattle.fit_plans.specs.declared.choosing.Tried.{Tried}
 use Rattle.fit_plans.specs.Choices.{FitsRoom}
 use Rattle.fit_laws.specs.Plans.{PlansControl, cell_wanted}

@@ -7,8 +7,8 @@ use Rattle.abel_meaning.specs.Netlists.{plain_netlist}
 use Rattle.bit_expr.specs.declared.netlist.CellWanted.{CellWanted}
 use Rattle.bit_expr.specs.declared.netlist.Netlist.{Netlist}
 use Rattle.bit_expr.specs.declared.node.ExprId.{ExprId}
-use Rattle.cube_pool.specs.declared.cube.Cube.{Cube}
-use Rattle.cube_pool.specs.Cubes.{covers}
+use Rattle.covers.specs.declared.cube.Cube.{Cube}
+use Rattle.covers.specs.Cubes.{covers}
 use Rattle.sop_lowering.specs.Written.{bit_list}
 use Rattle.fit_laws.specs.Plans.{cell_wanted, enable_bit}
 use Rattle.fit_shared.specs.declared.shared.SharedControl.{SharedControl}

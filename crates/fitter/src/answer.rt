@@ -1,6 +1,6 @@
 //! What fitting answers.
 
-use cube_pool::Cube;
+use covers::Cube;
 use pld_base::ListOf;
 use pld_device::Fuses;
 

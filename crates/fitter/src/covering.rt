@@ -10,7 +10,7 @@ ghost use Rattle.fitter.specs.Planned.{OneFitsAt};
 use crate::fault::FitFault;
 use bit_expr::Netlist;
 use cell_covers::{CellCovers, check_at, cover_at, first_wide};
-use cube_pool::{Cube, CubePool};
+use covers::{Cube, CubePool};
 use pld_device::Device;
 use sop_lowering::LowerFault;
 use std::alloc::Global;

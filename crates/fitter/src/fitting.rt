@@ -18,7 +18,7 @@ use crate::sharing::{SharedRows, shared_rows};
 use crate::turning::{choice_mask, turned_plans, turned_row};
 use bit_expr::Netlist;
 use cell_covers::turn_mask;
-use cube_pool::CubePool;
+use covers::CubePool;
 use fit_plans::{CellForm, CellPlan, Plan, device_fuses};
 use fit_shared::cell_wanted;
 use fitted::fitted_runs;

@@ -5,7 +5,7 @@ ghost use Rattle.std.specs.List.Sorted.{IsPermutation};
 ghost use Rattle.fit_plans.specs.RowCubes.{fuse_at};
 ghost use Rattle.fitter.specs.Rows.{Rises, row_number};
 
-use cube_pool::Cube;
+use covers::Cube;
 use pld_device::Device;
 
 /// The fuse of a column in the row of a cube.

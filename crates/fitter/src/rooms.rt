@@ -12,7 +12,7 @@ use crate::fitting::POOL;
 use crate::planning::taken;
 use bit_expr::Netlist;
 use cell_covers::{CellCovers, turn_mask};
-use cube_pool::CubePool;
+use covers::CubePool;
 use fit_plans::{Tried, choose};
 use pld_base::{ListOf, OutOfMemory};
 use pld_device::Device;

@@ -11,7 +11,7 @@ ghost use Rattle.fit_shared.specs.Sharing.{AllListed};
 use crate::fault::FitFault;
 use bit_expr::{ExprId, Netlist};
 use cell_covers::control_rows;
-use cube_pool::{Cube, CubePool};
+use covers::{Cube, CubePool};
 use fit_shared::{ShareFault, SharedControl, shared_bit};
 use pld_device::Device;
 use sop_lowering::LowerFault;

@@ -13,7 +13,7 @@ ghost use Rattle.fitter.specs.Turning.{AreTurned, IsChoiceMask, IsTurnedCell, ca
 
 use crate::rising::risen;
 use bit_expr::Netlist;
-use cube_pool::Cube;
+use covers::Cube;
 use fit_plans::{CellForm, CellPlan, all_turned, turned};
 use fit_shared::{cell_wanted, pair_count};
 use pld_base::{ListOf, with_level};

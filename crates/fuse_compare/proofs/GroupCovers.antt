@@ -12,9 +12,9 @@ use Rattle.pld_device.specs.declared.carry.Carry.TheVariants as carry
 use Rattle.pld_device.specs.Laws.{IsDevice, IsPair}
 use Rattle.pld_device.specs.Rows.{carried, pair_values, row_value}
 use Rattle.pld_device.specs.Table.{Table}
-use Rattle.cube_pool.specs.declared.cube.Cube.{Cube}
-use Rattle.cube_pool.specs.Covers.{CoversCube}
-use Rattle.cube_pool.specs.Cubes.{AsksBelow, covers, has_point}
+use Rattle.covers.specs.declared.cube.Cube.{Cube}
+use Rattle.covers.specs.Covers.{CoversCube}
+use Rattle.covers.specs.Cubes.{AsksBelow, covers, has_point}
 use Rattle.device_logic.specs.PairCubes.{IsPairCube}
 use Rattle.fuse_compare.specs.OwnRows.{IsGroupCover, StoreSame, some_row}
 use Rattle.fuse_compare.specs.declared.group.Group.{Group}

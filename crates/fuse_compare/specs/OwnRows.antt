@@ -7,8 +7,8 @@ use Rattle.pld_device.specs.Macrocells.{is_enabled, or_value, row_if_any}
 use Rattle.pld_device.specs.Registers.{is_inverted, stores}
 use Rattle.pld_device.specs.Rows.{pair_values, row_value}
 use Rattle.pld_device.specs.Table.{Table, cell_at}
-use Rattle.cube_pool.specs.declared.cube.Cube.{Cube}
-use Rattle.cube_pool.specs.Cubes.{AllAskBelow, covers}
+use Rattle.covers.specs.declared.cube.Cube.{Cube}
+use Rattle.covers.specs.Cubes.{AllAskBelow, covers}
 use Rattle.device_logic.specs.declared.row_mask.RowMask.{RowMask}
 use Rattle.fuse_compare.specs.Cut.{some_holds}
 use Rattle.fuse_compare.specs.declared.group.Group.{Group}

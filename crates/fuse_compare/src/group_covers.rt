@@ -5,14 +5,13 @@
 //! of the row's cube. A group has few rows, so that this is soon decided.
 
 ghost use Rattle.std.specs.Prelude.{◌≡◌, ◌+◌, ◌*◌, ◌≤◌, ◌↔◌, IfOk, IsTrue, length};
-ghost use Rattle.cube_pool.specs.Covers.{CoversCube};
-ghost use Rattle.cube_pool.specs.Cubes.{AllAskBelow, AsksBelow};
+ghost use Rattle.covers.specs.Covers.{CoversCube};
+ghost use Rattle.covers.specs.Cubes.{AllAskBelow, AsksBelow};
 ghost use Rattle.fuse_compare.specs.OwnRows.{InArray, IsGroupCover};
 
 use crate::group::Group;
 use crate::masked::MaskedLogic;
-use cover_ops::covers_cube;
-use cube_pool::{Cube, CubePool, Range};
+use covers::{Cube, CubePool, Range, covers_cube};
 use device_logic::pair_count;
 use pld_base::OutOfMemory;
 use pld_device::Device;

@@ -11,7 +11,7 @@ ghost use Rattle.device_logic.specs.PairCubes.{IsPairCube};
 ghost use Rattle.device_logic.specs.RowMasks.{IsMask};
 ghost use Rattle.fuse_compare.specs.Compared.{CanBeLoaded};
 
-use cube_pool::Cube;
+use covers::Cube;
 use device_logic::{DeviceLogic, FuseArray, RowMask, SimFault, pair_cubes};
 use pld_base::Point;
 use pld_device::{Device, Fuses};

@@ -3,7 +3,7 @@
 use crate::drawing::{draw, gathered};
 use crate::places::{put_number, put_word};
 use crate::sources::module_of;
-use cube_pool::Cube;
+use covers::Cube;
 use fit_plans::Tried;
 use fit_shared::SharedControl;
 use fitter::{FitFault, fit};

@@ -8,7 +8,7 @@ ghost use Rattle.polarity_costs.specs.Costly.{IsCostly};
 
 use bit_expr::{CellWanted, Netlist};
 use cell_covers::turn_mask;
-use cube_pool::CubePool;
+use covers::CubePool;
 use fit_plans::try_form;
 use fit_shared::{cell_wanted, pair_count};
 use pld_base::{ListOf, OutOfMemory, level_at};

@@ -5,9 +5,9 @@ use Rattle.std.specs.Prelude.{not}
 use Rattle.std.proofs.lemmas.Bool.{cases_Bool, or_left, or_right, or_cases}
 use Rattle.std.proofs.lemmas.List.Folds.{list_any-append}
 use Rattle.std.proofs.lemmas.Nat.{or_lt}
-use Rattle.cube_pool.specs.declared.cube.Cube.{Cube}
-use Rattle.cube_pool.specs.Cubes.{AsksBelow, has_point, covers, is_empty, lies_in, union}
-use Rattle.cube_pool.proofs.CubePoints.{empty_has_none, lies_in_points, union_points}
+use Rattle.covers.specs.declared.cube.Cube.{Cube}
+use Rattle.covers.specs.Cubes.{AsksBelow, has_point, covers, is_empty, lies_in, union}
+use Rattle.covers.proofs.CubePoints.{empty_has_none, lies_in_points, union_points}
 use Rattle.sop_lowering.specs.Products.{Products, adds_nothing, others, insert_one, insert_all, insert_unions, insert_products, product_of, sum_of}
 use Rattle.sop_lowering.specs.Values.{HasValue}
 

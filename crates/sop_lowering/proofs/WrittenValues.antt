@@ -8,9 +8,9 @@ use Rattle.bit_expr.specs.declared.netlist.Netlist.{Netlist}
 use Rattle.bit_expr.specs.declared.node.Leaf.{Leaf}
 use Rattle.bit_expr.specs.declared.node.Leaf.TheVariants as leaf
 use Rattle.bit_expr.specs.Formulas.{Formula, Const, Read, Not, And, Or, Xor, formula_value, leaf_value}
-use Rattle.cube_pool.specs.Cubes.{literal_cube, has_point}
-use Rattle.cube_pool.proofs.CubeBits.{literal_below}
-use Rattle.cube_pool.proofs.CubePoints.{full_has_all, literal_points}
+use Rattle.covers.specs.Cubes.{literal_cube, has_point}
+use Rattle.covers.proofs.CubeBits.{literal_below}
+use Rattle.covers.proofs.CubePoints.{full_has_all, literal_points}
 use Rattle.sop_lowering.specs.Products.{Products, product_of, sum_of}
 use Rattle.sop_lowering.specs.Through.{EachLeaf, OfLeaf, ReachesThrough}
 use Rattle.sop_lowering.specs.Values.{AreNodesValued, CarriesLeaf, HasValue, WrittenValues}

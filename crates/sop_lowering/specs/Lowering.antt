@@ -5,7 +5,7 @@ use Rattle.bit_expr.specs.declared.node.ExprId.{ExprId}
 use Rattle.bit_expr.specs.declared.node.Leaf.{Leaf}
 use Rattle.bit_expr.specs.declared.node.Leaf.TheVariants as leaf
 use Rattle.bit_expr.specs.Arena.{arena, formula_at}
-use Rattle.cube_pool.specs.declared.cube.Cube.{Cube}
+use Rattle.covers.specs.declared.cube.Cube.{Cube}
 use Rattle.sop_lowering.specs.declared.fault.LowerFault.{LowerFault}
 use Rattle.sop_lowering.specs.declared.fault.LowerFault.TheVariants as fault
 use Rattle.sop_lowering.specs.Products.{Products}

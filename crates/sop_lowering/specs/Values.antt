@@ -7,7 +7,7 @@ use Rattle.pld_device.specs.Macrocells.{complement_if}
 use Rattle.bit_expr.specs.declared.netlist.Netlist.{Netlist}
 use Rattle.bit_expr.specs.declared.node.Leaf.{Leaf}
 use Rattle.bit_expr.specs.Formulas.{Formula, formula_value, leaf_value}
-use Rattle.cube_pool.specs.Cubes.{AsksBelow, covers}
+use Rattle.covers.specs.Cubes.{AsksBelow, covers}
 use Rattle.sop_lowering.specs.Products.{Products}
 use Rattle.sop_lowering.specs.Through.{Reaches}
 use Rattle.sop_lowering.specs.Written.{pair_of, function_of_node, node_formula, written}

@@ -9,7 +9,7 @@ use Rattle.bit_expr.specs.declared.node.Leaf.{Leaf}
 use Rattle.bit_expr.specs.declared.node.Leaf.TheVariants as leaf
 use Rattle.bit_expr.specs.Arena.{arena, formula_at}
 use Rattle.bit_expr.specs.Formulas.{Formula, Const, Read, Not, And, Or, Xor}
-use Rattle.cube_pool.specs.Cubes.{full_cube, literal_cube}
+use Rattle.covers.specs.Cubes.{full_cube, literal_cube}
 use Rattle.sop_lowering.specs.Products.{Products, sum_of, product_of}
 
 -- the pair of columns that carries a leaf; a node has none

@@ -2,12 +2,12 @@
 
 ghost use Rattle.std.specs.Prelude.{◌≡◌, ◌≤◌, vec_len, IfOk, OnOk, Some, not};
 ghost use Rattle.std.specs.List.{list_any};
-ghost use Rattle.cube_pool.specs.Cubes.{lies_in};
+ghost use Rattle.covers.specs.Cubes.{lies_in};
 ghost use Rattle.sop_lowering.specs.Lowering.{IsList};
 ghost use Rattle.sop_lowering.specs.Products.{adds_nothing, others, insert_one, insert_unions, product_of, sum_of};
 
 use crate::fault::LowerFault;
-use cube_pool::Cube;
+use covers::Cube;
 use std::alloc::Global;
 
 /// How many products a list may have.

@@ -5,7 +5,7 @@ ghost use Rattle.bit_expr.specs.declared.node.ExprId.{ExprId};
 ghost use Rattle.sop_lowering.specs.Keeping.{KeepsNone, Puts, kept_at, products_at, products_of};
 
 use bit_expr::ExprId;
-use cube_pool::Cube;
+use covers::Cube;
 use std::alloc::{AllocError, Global};
 
 /// A bit of the arena in a polarity.

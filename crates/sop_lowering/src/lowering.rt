@@ -6,7 +6,7 @@ ghost use Rattle.std.specs.Prelude.{◌≡◌, ◌<◌, ◌≤◌, ◌∷◌, []
 ghost use Rattle.pld_device.specs.Macrocells.{complement_if};
 ghost use Rattle.bit_expr.specs.Formulas.{Read};
 ghost use Rattle.bit_expr.specs.declared.node.Leaf.TheVariants as leaf;
-ghost use Rattle.cube_pool.specs.Cubes.{literal_cube};
+ghost use Rattle.covers.specs.Cubes.{literal_cube};
 ghost use Rattle.sop_lowering.specs.Keeping.{AreRight, CanReach, signed_list};
 ghost use Rattle.sop_lowering.specs.Lowering.{CanLower, HasPair, IsList};
 ghost use Rattle.sop_lowering.specs.Products.{product_of, sum_of};
@@ -17,7 +17,7 @@ use crate::fault::LowerFault;
 use crate::inserting::{product_list, sum_list};
 use crate::kept::{Kept, SignedBit, signed};
 use bit_expr::{ExprId, Leaf, Netlist, Node};
-use cube_pool::Cube;
+use covers::Cube;
 use std::alloc::Global;
 
 /// The list of a constant.

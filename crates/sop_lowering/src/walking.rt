@@ -11,7 +11,7 @@ use crate::kept::{Kept, SignedBit, signed};
 use crate::lowering::{list_now, turned};
 use crate::uses::Uses;
 use bit_expr::{ExprId, Leaf, Netlist, Node};
-use cube_pool::Cube;
+use covers::Cube;
 use std::alloc::{AllocError, Global};
 
 /// How many lists one list is made of at most.

@@ -1,4 +1,4 @@
-use Rattle.cover_min.proofs.GrownPools.{grown_below, grown_kept}
+use Rattle.covers.proofs.GrownPools.{grown_below, grown_kept}
 use Rattle.cover_rows.proofs.minimised.push_equal.Goals as goal
 
 pub returns-then-not-push_below : goal.returns-then-not-push_below

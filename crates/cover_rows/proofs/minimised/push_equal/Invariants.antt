@@ -1,5 +1,5 @@
 use Rattle.std.proofs.Common.{◌≡◌, drop, length, take}
-use Rattle.cube_pool.specs.Cubes.{AllAskBelow}
+use Rattle.covers.specs.Cubes.{AllAskBelow}
 use Rattle.cover_rows.proofs.minimised.push_equal.Given as goal
 
 abbrev pub invariant-loop-number : goal.invariant-loop-number

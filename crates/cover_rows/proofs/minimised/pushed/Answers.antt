@@ -1,6 +1,6 @@
 use Rattle.std.proofs.Common.{arith}
-use Rattle.cover_min.proofs.ExpandedRows.{kept_long, rows_so_far}
-use Rattle.cover_min.proofs.GrownPools.{front_inside, grown_below}
+use Rattle.covers.proofs.ExpandedRows.{kept_long, rows_so_far}
+use Rattle.covers.proofs.GrownPools.{front_inside, grown_below}
 use Rattle.cover_rows.proofs.minimised.pushed.Goals as goal
 
 pub returns-clause-allowed_below : goal.returns-clause-allowed_below

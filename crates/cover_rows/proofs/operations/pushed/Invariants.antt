@@ -1,5 +1,5 @@
 use Rattle.std.proofs.Common.{◌≤◌, drop, length}
-use Rattle.cube_pool.specs.Cubes.{AllAskBelow}
+use Rattle.covers.specs.Cubes.{AllAskBelow}
 use Rattle.cover_rows.proofs.operations.pushed.Given as goal
 
 abbrev pub invariant-loop-row : goal.invariant-loop-row

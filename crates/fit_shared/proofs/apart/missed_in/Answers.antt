@@ -1,6 +1,6 @@
 use Rattle.std.proofs.Common.{get_or, slice_range, refl, ap, ◌∙◌}
-use Rattle.cube_pool.specs.Cubes.{full_cube}
-use Rattle.cube_pool.specs.Pool.{Pool}
+use Rattle.covers.specs.Cubes.{full_cube}
+use Rattle.covers.specs.Pool.{Pool}
 use Rattle.fit_shared.proofs.MissedPoints.{all_covered, missed_at, none_covered, one_covered}
 use Rattle.fit_shared.proofs.apart.missed_in.Goals as goal
 

@@ -1,8 +1,8 @@
 use Rattle.std.proofs.Common.{◌≡◌, ◌+◌, length, subst, arith, List, slice_range}
 use Rattle.std.proofs.lemmas.List.{length-append}
-use Rattle.cube_pool.specs.declared.cube.Cube.{Cube}
-use Rattle.cube_pool.specs.Cubes.{AllAskBelow}
-use Rattle.cover_ops.proofs.CofactorLists.{appended}
+use Rattle.covers.specs.declared.cube.Cube.{Cube}
+use Rattle.covers.specs.Cubes.{AllAskBelow}
+use Rattle.covers.proofs.CofactorLists.{appended}
 use Rattle.fit_shared.specs.Missing.{FindsMissed}
 use Rattle.fit_shared.proofs.apart.point_missed.Goals as goal
 

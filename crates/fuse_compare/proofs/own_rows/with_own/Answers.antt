@@ -1,5 +1,5 @@
 use Rattle.std.proofs.Common.{◌≡◌, ◌≤◌, ◌+◌, ◌*◌, length, subst, sym, arith}
-use Rattle.cube_pool.specs.Pool.{Pool}
+use Rattle.covers.specs.Pool.{Pool}
 use Rattle.fuse_compare.specs.OwnRows.{IsGroupCover}
 use Rattle.fuse_compare.proofs.Covered.{covers_all, covers_none, covers_passed, covers_taken}
 use Rattle.fuse_compare.proofs.GroupCovers.{covered_row}

@@ -1,4 +1,0 @@
-use Rattle.cover_min.proofs.votes.add_votes.Given as goal
-
-abbrev pub decreases-loop-left : goal.decreases-loop-left
-decreases-loop-left l = l.left

@@ -1,9 +1,0 @@
-use Rattle.std.proofs.Common.{◌≡◌, ◌<◌}
-use Rattle.std.specs.Int.{bit_at}
-use Rattle.cover_min.proofs.votes.most_voted.Given as goal
-
-abbrev pub invariant-loop-variable : goal.invariant-loop-variable
-invariant-loop-variable l = record {
-  low : l.found < 32;
-  is_left : bit_at l.left l.found ≡ 1;
-}

@@ -1,5 +1,0 @@
-pub mod Appended
-pub mod Expanded
-pub mod Off
-pub mod Passes
-pub mod Reduced

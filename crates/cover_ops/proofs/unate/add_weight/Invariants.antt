@@ -1,4 +1,0 @@
-use Rattle.cover_ops.proofs.unate.add_weight.Given as goal
-
-abbrev pub decreases-loop-left : goal.decreases-loop-left
-decreases-loop-left l = l.left

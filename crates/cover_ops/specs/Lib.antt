@@ -1,3 +1,0 @@
-pub mod Cofactors
-pub mod Unate
-pub mod Outside

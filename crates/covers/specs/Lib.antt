@@ -1,0 +1,12 @@
+pub mod Appended
+pub mod Cofactors
+pub mod Covers
+pub mod Cubes
+pub mod Expanded
+pub mod Off
+pub mod Outside
+pub mod Passes
+pub mod Pool
+pub mod Prime
+pub mod Reduced
+pub mod Unate

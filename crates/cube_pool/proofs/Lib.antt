@@ -1,2 +1,0 @@
-pub mod CubeBits
-pub mod CubePoints

@@ -1,8 +1,0 @@
-use Rattle.std.proofs.Common.{bit_and, eqb, eq-eqb}
-use Rattle.std.proofs.lemmas.Bool.{and_from}
-use Rattle.cube_pool.proofs.CubePoints.{lies_in_points}
-use Rattle.cube_pool.proofs.cube.Cube.lies_in.Goals as goal
-
-pub returns-then-self-outer-clause-points : goal.returns-then-self-outer-clause-points
-returns-then-self-outer-clause-points c = λ is p. lies_in_points c.args.self c.args.outer p
-    (and_from (eqb (bit_and c.args.self.yes c.args.outer.yes) c.args.outer.yes) (eqb (bit_and c.args.self.no c.args.outer.no) c.args.outer.no) (eq-eqb _ _ c.if-self-outer.true) is)

@@ -1,4 +1,0 @@
-pub mod Cubes
-pub mod Covers
-pub mod Prime
-pub mod Pool
