@@ -1,14 +1,14 @@
 -- The place where reading stopped is that of the token which is refused.
 use Rattle.std.proofs.Common.{◌≡◌, ℕ, ◌-◌, ◌==◌, true, false, List, [], ◌∷◌, ◌++◌, length, Ok, Err, refl, sym, ap, subst, ◌∙◌, arith, length-append}
 use Rattle.std.proofs.lemmas.Bool.Decides.{nat_tests}
-use Rattle.grammar.specs.Reading.{Syntax, TooDeep}
+use Rattle.abel_grammar.specs.Reading.{Syntax, TooDeep}
 use Rattle.pld_base.specs.declared.place.Place.{Place}
 use Rattle.abel_lexer.specs.declared.token.Token.{Token}
 use Rattle.abel_tree.specs.Tree.{ModuleTree}
-use Rattle.abel_syntax.specs.ModuleReaders.{read_source}
-use Rattle.abel_syntax.proofs.Verdict.{is_stopped, is_left_over, is_too_deep, is_end, is_rest}
+use Rattle.abel_grammar.specs.ModuleReaders.{read_source}
+use Rattle.abel_grammar.proofs.Verdict.{is_stopped, is_left_over, is_too_deep, is_end, is_rest}
 use Rattle.abel_parser.specs.declared.fault.ParseFault.TheVariants as fault
-use Rattle.abel_syntax.proofs.ModuleLaws.{source_laws}
+use Rattle.abel_grammar.proofs.ModuleLaws.{source_laws}
 use Rattle.abel_parser.specs.Refusals.{place_at, IsAccepted, IsRefused}
 
 -- the token behind so many is the first of the others

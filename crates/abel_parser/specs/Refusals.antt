@@ -1,10 +1,10 @@
 -- When the tokens of a source are accepted, and where they are refused (this project's rule).
 use Rattle.std.specs.Prelude.{◌≡◌, ℕ, zero, suc, List, [], ◌∷◌}
-use Rattle.grammar.specs.Verdict.{SpellsWhole, SyntaxAt, TooDeepAt}
+use Rattle.abel_grammar.specs.Verdict.{SpellsWhole, SyntaxAt, TooDeepAt}
 use Rattle.pld_base.specs.declared.place.Place.{Place}
 use Rattle.abel_lexer.specs.declared.token.Token.{Token}
 use Rattle.abel_tree.specs.Tree.{ModuleTree}
-use Rattle.abel_syntax.specs.Modules.{source}
+use Rattle.abel_grammar.specs.Modules.{source}
 use Rattle.abel_parser.specs.declared.fault.ParseFault.{ParseFault}
 use Rattle.abel_parser.specs.declared.fault.ParseFault.TheVariants as fault
 

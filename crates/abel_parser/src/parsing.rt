@@ -1,17 +1,17 @@
 //! The tree that tokens spell, all of them.
 
 ghost use Rattle.std.specs.Prelude.{◌≡◌, IfOk, IfErr};
-ghost use Rattle.grammar.specs.Verdict.{Spells};
+ghost use Rattle.abel_grammar.specs.Verdict.{Spells};
 ghost use Rattle.abel_tree.specs.Tree.{ModuleTree};
 ghost use Rattle.abel_tree.specs.View.{view_module};
-ghost use Rattle.source_order.specs.Places.{places_of_module};
-ghost use Rattle.source_order.specs.Order.{Along, TokensRise, SectionsRise};
-ghost use Rattle.abel_syntax.specs.Modules as grammar;
+ghost use Rattle.abel_grammar.specs.Places.{places_of_module};
+ghost use Rattle.abel_grammar.specs.Order.{Along, TokensRise, SectionsRise};
+ghost use Rattle.abel_grammar.specs.Modules as grammar;
 ghost use Rattle.abel_parser.specs.Refusals.{place_at, IsAccepted, IsRefused};
 
 use crate::fault::ParseFault;
+use abel_grammar::Halt;
 use abel_lexer::Token;
-use abel_syntax::Halt;
 use abel_tree::Module;
 use module_parser::source;
 use pld_base::Place;

@@ -1,10 +1,10 @@
 -- Where one reading stops, so does another that stops with it.
 use Rattle.std.proofs.Common.{◌≡◌, Result, Err}
-use Rattle.grammar.specs.Reading.{Stop, Syntax, TooDeep}
+use Rattle.abel_grammar.specs.Reading.{Stop, Syntax, TooDeep}
 use Rattle.abel_lexer.specs.declared.token.Token.{Token}
-use Rattle.abel_syntax.specs.declared.halt.Halt.{Halt}
-use Rattle.abel_syntax.specs.declared.halt.Halt.TheVariants as halt
-use Rattle.abel_syntax.specs.Gives.{Fails}
+use Rattle.abel_grammar.specs.declared.halt.Halt.{Halt}
+use Rattle.abel_grammar.specs.declared.halt.Halt.TheVariants as halt
+use Rattle.abel_grammar.specs.Gives.{Fails}
 
 pub fails_as : {A B : Type 0} (h : Halt) (r : Result A (Stop Token)) (q : Result B (Stop Token)) → Fails h r → ((s : Stop Token) → r ≡ Err s → q ≡ Err s) → Fails h q
 fails_as halt.Memory r q e f = tt

@@ -2,19 +2,19 @@
 
 ghost use Rattle.std.specs.Prelude.{◌≡◌, ℕ, List, length, map, [], ◌∷◌, option_map, unwrap_or, IfOk};
 ghost use Rattle.std.specs.Option.{option_copied};
-ghost use Rattle.grammar.specs.Reading.{read_made, ◌then_read◌, read_repeated};
-ghost use Rattle.grammar.specs.Further.{read_times};
+ghost use Rattle.abel_grammar.specs.Reading.{read_made, ◌then_read◌, read_repeated};
+ghost use Rattle.abel_grammar.specs.Further.{read_times};
 ghost use Rattle.abel_tree.specs.View.{view, view_decl};
-ghost use Rattle.abel_syntax.specs.Gives.{Gives};
-ghost use Rattle.abel_syntax.specs.Terminals.{among};
-ghost use Rattle.abel_syntax.specs.WordReaders.{read_one};
-ghost use Rattle.abel_syntax.specs.ExpressionReaders.{read_expr};
-ghost use Rattle.abel_syntax.specs.Declarations.{pins_of, nodes_of, attributes_of, value_of};
-ghost use Rattle.abel_syntax.specs.DeclarationReaders.{read_kept, read_istype, bare_item, only_name, bare_names, read_device, read_values_for, read_constants, read_declared, read_naming, read_option_decl, read_dont_care_decl, read_decl, read_other_decl, decl_starts};
+ghost use Rattle.abel_grammar.specs.Gives.{Gives};
+ghost use Rattle.abel_grammar.specs.Terminals.{among};
+ghost use Rattle.abel_grammar.specs.WordReaders.{read_one};
+ghost use Rattle.abel_grammar.specs.ExpressionReaders.{read_expr};
+ghost use Rattle.abel_grammar.specs.Declarations.{pins_of, nodes_of, attributes_of, value_of};
+ghost use Rattle.abel_grammar.specs.DeclarationReaders.{read_kept, read_istype, bare_item, only_name, bare_names, read_device, read_values_for, read_constants, read_declared, read_naming, read_option_decl, read_dont_care_decl, read_decl, read_other_decl, decl_starts};
 
 use crate::items::{istype, names, option, some_istype, some_nums};
+use abel_grammar::{Halt, Terminal, expect, starts};
 use abel_lexer::Token;
-use abel_syntax::{Halt, Terminal, expect, starts};
 use abel_tree::{Decl, Expr, Item, Span, Word};
 use expr_parser::{dont_care, expr, packed, text};
 use pld_base::{ListOf, OutOfMemory};
@@ -95,7 +95,7 @@ fn device<'a>(
 }
 
 /// PIN or NODE, its numbers and its attributes.
-#[tactic(auto, unfolding(abel_syntax::specs::DeclarationReaders::read_kept))]
+#[tactic(auto, unfolding(abel_grammar::specs::DeclarationReaders::read_kept))]
 fn kept<'a>(
     alloc: Global,
     word: Terminal,
@@ -279,7 +279,7 @@ fn constants<'a>(
 }
 
 /// What names are declared as.
-#[tactic(auto, unfolding(abel_syntax::specs::DeclarationReaders::read_declared))]
+#[tactic(auto, unfolding(abel_grammar::specs::DeclarationReaders::read_declared))]
 fn declared<'a>(
     alloc: Global,
     names: Vec<Item>,
@@ -304,7 +304,7 @@ fn declared<'a>(
 }
 
 /// Names, and what they are declared as.
-#[tactic(auto, unfolding(abel_syntax::specs::DeclarationReaders::read_naming))]
+#[tactic(auto, unfolding(abel_grammar::specs::DeclarationReaders::read_naming))]
 fn naming<'a>(
     alloc: Global,
     tokens: &'a [Token],
@@ -317,7 +317,7 @@ fn naming<'a>(
 }
 
 /// An option among declarations.
-#[tactic(auto, unfolding(abel_syntax::specs::DeclarationReaders::read_option_decl))]
+#[tactic(auto, unfolding(abel_grammar::specs::DeclarationReaders::read_option_decl))]
 fn option_decl<'a>(alloc: Global, tokens: &'a [Token]) -> Result<(Decl, &'a [Token]), Halt<'a>>
     ensures { Gives (λ x. (view_decl x.0, x.1.now)) result (read_option_decl tokens.now) }
 {
@@ -326,7 +326,7 @@ fn option_decl<'a>(alloc: Global, tokens: &'a [Token]) -> Result<(Decl, &'a [Tok
 }
 
 /// `@DCSET` or `@ONSET` among declarations.
-#[tactic(auto, unfolding(abel_syntax::specs::DeclarationReaders::read_dont_care_decl))]
+#[tactic(auto, unfolding(abel_grammar::specs::DeclarationReaders::read_dont_care_decl))]
 fn dont_care_decl<'a>(tokens: &'a [Token]) -> Result<(Decl, &'a [Token]), Halt<'a>>
     ensures { Gives (λ x. (view_decl x.0, x.1.now)) result (read_dont_care_decl tokens.now) }
 {
@@ -335,7 +335,7 @@ fn dont_care_decl<'a>(tokens: &'a [Token]) -> Result<(Decl, &'a [Token]), Halt<'
 }
 
 /// A declaration.
-#[tactic(auto, unfolding(abel_syntax::specs::DeclarationReaders::read_decl))]
+#[tactic(auto, unfolding(abel_grammar::specs::DeclarationReaders::read_decl))]
 fn decl<'a>(alloc: Global, tokens: &'a [Token], depth: u8) -> Result<(Decl, &'a [Token]), Halt<'a>>
     ensures { Gives (λ x. (view_decl x.0, x.1.now)) result (read_decl depth tokens.now) }
 {
@@ -349,7 +349,7 @@ fn decl<'a>(alloc: Global, tokens: &'a [Token], depth: u8) -> Result<(Decl, &'a 
 }
 
 /// A declaration that is no option.
-#[tactic(auto, unfolding(abel_syntax::specs::DeclarationReaders::read_other_decl))]
+#[tactic(auto, unfolding(abel_grammar::specs::DeclarationReaders::read_other_decl))]
 pub fn other_decl<'a>(
     alloc: Global,
     tokens: &'a [Token],

@@ -1,19 +1,19 @@
 //! The parts of declarations from tokens.
 
 ghost use Rattle.std.specs.Prelude.{◌≡◌, [], ◌∷◌, option_map};
-ghost use Rattle.grammar.specs.Reading.{read_optional};
-ghost use Rattle.abel_syntax.specs.Gives.{Gives};
-ghost use Rattle.abel_syntax.specs.Terminals.{among};
-ghost use Rattle.abel_syntax.specs.DeclarationReaders.{read_item, read_names, read_num, read_nums, read_texts, read_istype, read_option};
+ghost use Rattle.abel_grammar.specs.Reading.{read_optional};
+ghost use Rattle.abel_grammar.specs.Gives.{Gives};
+ghost use Rattle.abel_grammar.specs.Terminals.{among};
+ghost use Rattle.abel_grammar.specs.DeclarationReaders.{read_item, read_names, read_num, read_nums, read_texts, read_istype, read_option};
 
+use abel_grammar::{Halt, Terminal, behind, expect, starts};
 use abel_lexer::Token;
-use abel_syntax::{Halt, Terminal, behind, expect, starts};
 use abel_tree::{Item, Span, Word};
 use expr_parser::{maybe, name, number, text};
 use std::alloc::Global;
 
 /// A name or a range of names, and whether a `!` stands before it.
-#[tactic(auto, unfolding(abel_syntax::specs::DeclarationReaders::read_item))]
+#[tactic(auto, unfolding(abel_grammar::specs::DeclarationReaders::read_item))]
 fn item<'a>(alloc: Global, tokens: &'a [Token]) -> Result<(Item, &'a [Token]), Halt<'a>>
     ensures { Gives (λ x. (x.0, x.1.now)) result (read_item tokens.now) }
 {
@@ -43,7 +43,7 @@ fn item<'a>(alloc: Global, tokens: &'a [Token]) -> Result<(Item, &'a [Token]), H
 }
 
 /// Names with a comma between any two.
-#[tactic(auto, unfolding(abel_syntax::specs::DeclarationReaders::read_names))]
+#[tactic(auto, unfolding(abel_grammar::specs::DeclarationReaders::read_names))]
 pub fn names<'a>(alloc: Global, tokens: &'a [Token]) -> Result<(Vec<Item>, &'a [Token]), Halt<'a>>
     ensures { Gives (λ x. (x.0.items, x.1.now)) result (read_names tokens.now) }
 {
@@ -60,7 +60,7 @@ pub fn names<'a>(alloc: Global, tokens: &'a [Token]) -> Result<(Vec<Item>, &'a [
 }
 
 /// A pin number, or a range of them.
-#[tactic(auto, unfolding(abel_syntax::specs::DeclarationReaders::read_num))]
+#[tactic(auto, unfolding(abel_grammar::specs::DeclarationReaders::read_num))]
 fn num<'a>(tokens: &'a [Token]) -> Result<(Span, &'a [Token]), Halt<'a>>
     ensures { Gives (λ x. (x.0, x.1.now)) result (read_num tokens.now) }
 {
@@ -80,7 +80,7 @@ fn num<'a>(tokens: &'a [Token]) -> Result<(Span, &'a [Token]), Halt<'a>>
 }
 
 /// Pin numbers with a comma between any two.
-#[tactic(auto, unfolding(abel_syntax::specs::DeclarationReaders::read_nums))]
+#[tactic(auto, unfolding(abel_grammar::specs::DeclarationReaders::read_nums))]
 fn nums<'a>(alloc: Global, tokens: &'a [Token]) -> Result<(Vec<Span>, &'a [Token]), Halt<'a>>
     ensures { Gives (λ x. (x.0.items, x.1.now)) result (read_nums tokens.now) }
 {
@@ -112,7 +112,7 @@ pub fn some_nums<'a>(
 }
 
 /// Strings with a comma between any two.
-#[tactic(auto, unfolding(abel_syntax::specs::DeclarationReaders::read_texts))]
+#[tactic(auto, unfolding(abel_grammar::specs::DeclarationReaders::read_texts))]
 fn texts<'a>(alloc: Global, tokens: &'a [Token]) -> Result<(Vec<Word>, &'a [Token]), Halt<'a>>
     ensures { Gives (λ x. (x.0.items, x.1.now)) result (read_texts tokens.now) }
 {
@@ -129,7 +129,7 @@ fn texts<'a>(alloc: Global, tokens: &'a [Token]) -> Result<(Vec<Word>, &'a [Toke
 }
 
 /// ISTYPE and its strings.
-#[tactic(auto, unfolding(abel_syntax::specs::DeclarationReaders::read_istype))]
+#[tactic(auto, unfolding(abel_grammar::specs::DeclarationReaders::read_istype))]
 pub fn istype<'a>(alloc: Global, tokens: &'a [Token]) -> Result<(Vec<Word>, &'a [Token]), Halt<'a>>
     ensures { Gives (λ x. (x.0.items, x.1.now)) result (read_istype tokens.now) }
 {
@@ -153,7 +153,7 @@ pub fn some_istype<'a>(
 }
 
 /// FLAG or OPTIONS and the strings.
-#[tactic(auto, unfolding(abel_syntax::specs::DeclarationReaders::read_option))]
+#[tactic(auto, unfolding(abel_grammar::specs::DeclarationReaders::read_option))]
 pub fn option<'a>(alloc: Global, tokens: &'a [Token]) -> Result<(Vec<Word>, &'a [Token]), Halt<'a>>
     ensures { Gives (λ x. (x.0.items, x.1.now)) result (read_option tokens.now) }
 {

@@ -1,15 +1,15 @@
 //! State diagrams from tokens.
 
 ghost use Rattle.std.specs.Prelude.{◌≡◌, ℕ, map, [], ◌∷◌};
-ghost use Rattle.grammar.specs.Reading.{read_repeated};
+ghost use Rattle.abel_grammar.specs.Reading.{read_repeated};
 ghost use Rattle.abel_tree.specs.View.{view_arm, view_state, view_section};
-ghost use Rattle.abel_syntax.specs.Gives.{Gives};
-ghost use Rattle.abel_syntax.specs.Terminals.{among};
-ghost use Rattle.abel_syntax.specs.DiagramReaders.{read_trans, trans_starts, read_state, read_diagram};
+ghost use Rattle.abel_grammar.specs.Gives.{Gives};
+ghost use Rattle.abel_grammar.specs.Terminals.{among};
+ghost use Rattle.abel_grammar.specs.DiagramReaders.{read_trans, trans_starts, read_state, read_diagram};
 
 use crate::transitions::trans;
+use abel_grammar::{Halt, Terminal, expect, starts};
 use abel_lexer::Token;
-use abel_syntax::{Halt, Terminal, expect, starts};
 use abel_tree::{Arm, Diagram, Section, State};
 use expr_parser::expr;
 use pld_base::ListOf;
@@ -38,7 +38,7 @@ fn transitions<'a>(
 }
 
 /// A state.
-#[tactic(auto, unfolding(abel_syntax::specs::DiagramReaders::read_state))]
+#[tactic(auto, unfolding(abel_grammar::specs::DiagramReaders::read_state))]
 fn state<'a>(
     alloc: Global,
     tokens: &'a [Token],
@@ -83,7 +83,7 @@ fn states<'a>(
 }
 
 /// A state diagram.
-#[tactic(auto, unfolding(abel_syntax::specs::DiagramReaders::read_diagram))]
+#[tactic(auto, unfolding(abel_grammar::specs::DiagramReaders::read_diagram))]
 pub fn diagram<'a>(
     alloc: Global,
     tokens: &'a [Token],

@@ -2,11 +2,11 @@
 
 ghost use Rattle.std.specs.Prelude.{◌≡◌, ℕ, map, option_map, [], ◌∷◌};
 ghost use Rattle.abel_tree.specs.View.{view, view_stmt, view_arm};
-ghost use Rattle.abel_syntax.specs.Gives.{Gives};
-ghost use Rattle.abel_syntax.specs.DiagramReaders.{read_braced, read_listed, read_with_part, read_goal, read_goal_arm, read_goto};
+ghost use Rattle.abel_grammar.specs.Gives.{Gives};
+ghost use Rattle.abel_grammar.specs.DiagramReaders.{read_braced, read_listed, read_with_part, read_goal, read_goal_arm, read_goto};
 
+use abel_grammar::{Halt, Terminal, expect, starts};
 use abel_lexer::Token;
-use abel_syntax::{Halt, Terminal, expect, starts};
 use abel_tree::{Arm, Goal, Stmt};
 use expr_parser::{expr, maybe};
 use pld_base::ListOf;
@@ -22,7 +22,7 @@ const PLAIN_STARTS: [Terminal; 5] = [
 ];
 
 /// Statements in braces, and an ENDWITH.
-#[tactic(auto, unfolding(abel_syntax::specs::DiagramReaders::read_braced))]
+#[tactic(auto, unfolding(abel_grammar::specs::DiagramReaders::read_braced))]
 fn braced<'a>(
     alloc: Global,
     tokens: &'a [Token],
@@ -46,7 +46,7 @@ fn braced<'a>(
 }
 
 /// Statements up to ENDWITH, the first of which is no group.
-#[tactic(auto, unfolding(abel_syntax::specs::DiagramReaders::read_listed))]
+#[tactic(auto, unfolding(abel_grammar::specs::DiagramReaders::read_listed))]
 fn listed<'a>(
     alloc: Global,
     tokens: &'a [Token],
@@ -67,7 +67,7 @@ fn listed<'a>(
 }
 
 /// WITH and its statements.
-#[tactic(auto, unfolding(abel_syntax::specs::DiagramReaders::read_with_part))]
+#[tactic(auto, unfolding(abel_grammar::specs::DiagramReaders::read_with_part))]
 fn with_part<'a>(
     alloc: Global,
     tokens: &'a [Token],
@@ -92,7 +92,7 @@ fn with_part<'a>(
 }
 
 /// An expression and its WITH.
-#[tactic(auto, unfolding(abel_syntax::specs::DiagramReaders::read_goal))]
+#[tactic(auto, unfolding(abel_grammar::specs::DiagramReaders::read_goal))]
 fn goal<'a>(alloc: Global, tokens: &'a [Token], depth: u8) -> Result<(Arm, &'a [Token]), Halt<'a>>
     ensures { Gives (λ x. (view_arm x.0, x.1.now)) result (read_goal depth tokens.now) }
 {
@@ -125,7 +125,7 @@ fn goal<'a>(alloc: Global, tokens: &'a [Token], depth: u8) -> Result<(Arm, &'a [
 }
 
 /// `[GOTO] goal [;]`
-#[tactic(auto, unfolding(abel_syntax::specs::DiagramReaders::read_goal_arm))]
+#[tactic(auto, unfolding(abel_grammar::specs::DiagramReaders::read_goal_arm))]
 pub fn goal_arm<'a>(
     alloc: Global,
     tokens: &'a [Token],
@@ -141,7 +141,7 @@ pub fn goal_arm<'a>(
 }
 
 /// `GOTO goal [;]`
-#[tactic(auto, unfolding(abel_syntax::specs::DiagramReaders::read_goto))]
+#[tactic(auto, unfolding(abel_grammar::specs::DiagramReaders::read_goto))]
 pub fn goto_goal<'a>(
     alloc: Global,
     tokens: &'a [Token],

@@ -1,20 +1,20 @@
 //! Transitions from tokens.
 
 ghost use Rattle.std.specs.Prelude.{◌≡◌, ℕ, map, option_map, [], ◌∷◌, None};
-ghost use Rattle.grammar.specs.Reading.{read_optional, ◌then_read◌};
-ghost use Rattle.grammar.specs.Further.{read_unless};
+ghost use Rattle.abel_grammar.specs.Reading.{read_optional, ◌then_read◌};
+ghost use Rattle.abel_grammar.specs.Further.{read_unless};
 ghost use Rattle.abel_tree.specs.Tree.{AnIf, ACase, other_of, choices_of};
 ghost use Rattle.abel_tree.specs.View.{view, view_arm, view_choice};
-ghost use Rattle.abel_syntax.specs.Gives.{Gives};
-ghost use Rattle.abel_syntax.specs.Terminals.{among};
-ghost use Rattle.abel_syntax.specs.WordReaders.{read_one};
-ghost use Rattle.abel_syntax.specs.ExpressionReaders.{read_expr};
-ghost use Rattle.abel_syntax.specs.Diagrams.{is_open_arm, is_closed};
-ghost use Rattle.abel_syntax.specs.DiagramReaders.{read_if, read_choice, read_choices, read_case, read_arm, read_leading, read_trans};
+ghost use Rattle.abel_grammar.specs.Gives.{Gives};
+ghost use Rattle.abel_grammar.specs.Terminals.{among};
+ghost use Rattle.abel_grammar.specs.WordReaders.{read_one};
+ghost use Rattle.abel_grammar.specs.ExpressionReaders.{read_expr};
+ghost use Rattle.abel_grammar.specs.Diagrams.{is_open_arm, is_closed};
+ghost use Rattle.abel_grammar.specs.DiagramReaders.{read_if, read_choice, read_choices, read_case, read_arm, read_leading, read_trans};
 
 use crate::goals::{goal_arm, goto_goal};
+use abel_grammar::{Halt, Terminal, expect, starts};
 use abel_lexer::Token;
-use abel_syntax::{Halt, Terminal, expect, starts};
 use abel_tree::{Arm, Case, CaseArm, Expr, If};
 use expr_parser::{expr, maybe};
 use pld_base::{Boxed, ListOf, Place};
@@ -128,7 +128,7 @@ fn else_arm<'a>(
 
 /// IF, its arm and its ELSE, and the `;` behind.
 #[cycle(arm)]
-#[tactic(auto, unfolding(abel_syntax::specs::DiagramReaders::read_if))]
+#[tactic(auto, unfolding(abel_grammar::specs::DiagramReaders::read_if))]
 fn if_arm<'a>(
     alloc: Global,
     tokens: &'a [Token],
@@ -159,7 +159,7 @@ fn if_arm<'a>(
 
 /// An expression, its arm and the `;`.
 #[cycle(arm)]
-#[tactic(auto, unfolding(abel_syntax::specs::DiagramReaders::read_choice))]
+#[tactic(auto, unfolding(abel_grammar::specs::DiagramReaders::read_choice))]
 fn choice<'a>(
     alloc: Global,
     tokens: &'a [Token],
@@ -199,7 +199,7 @@ fn choices<'a>(
 
 /// CASE, its choices, and the `;` behind ENDCASE.
 #[cycle(arm)]
-#[tactic(auto, unfolding(abel_syntax::specs::DiagramReaders::read_case))]
+#[tactic(auto, unfolding(abel_grammar::specs::DiagramReaders::read_case))]
 fn case_arm<'a>(
     alloc: Global,
     tokens: &'a [Token],
@@ -217,7 +217,7 @@ fn case_arm<'a>(
 }
 
 /// An arm, where no nesting may be opened, and the `;` behind.
-#[tactic(auto, unfolding(abel_syntax::specs::DiagramReaders::read_arm))]
+#[tactic(auto, unfolding(abel_grammar::specs::DiagramReaders::read_arm))]
 fn flat_arm<'a>(
     alloc: Global,
     tokens: &'a [Token],
@@ -238,7 +238,7 @@ fn flat_arm<'a>(
 
 /// An arm, and the `;` behind.
 #[cycle(arm)]
-#[tactic(auto, unfolding(abel_syntax::specs::DiagramReaders::read_arm))]
+#[tactic(auto, unfolding(abel_grammar::specs::DiagramReaders::read_arm))]
 fn arm<'a>(
     alloc: Global,
     tokens: &'a [Token],
@@ -260,7 +260,7 @@ fn arm<'a>(
 }
 
 /// GOTO, IF or CASE, and the `;` behind.
-#[tactic(auto, unfolding(abel_syntax::specs::DiagramReaders::read_leading))]
+#[tactic(auto, unfolding(abel_grammar::specs::DiagramReaders::read_leading))]
 fn leading<'a>(
     alloc: Global,
     tokens: &'a [Token],
@@ -289,7 +289,7 @@ fn leading<'a>(
 }
 
 /// A transition, whose `;` may be missing behind ENDWITH, ENDCASE or `}`.
-#[tactic(auto, unfolding(abel_syntax::specs::DiagramReaders::read_trans))]
+#[tactic(auto, unfolding(abel_grammar::specs::DiagramReaders::read_trans))]
 pub fn trans<'a>(
     alloc: Global,
     tokens: &'a [Token],

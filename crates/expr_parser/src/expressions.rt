@@ -2,16 +2,16 @@
 
 ghost use Rattle.std.specs.Prelude.{◌≡◌, ℕ, map, [], ◌∷◌};
 ghost use Rattle.abel_tree.specs.View.{view, view_member};
-ghost use Rattle.abel_syntax.specs.Gives.{Gives};
-ghost use Rattle.abel_syntax.specs.Expressions.{products, sums, relations};
-ghost use Rattle.abel_syntax.specs.WordReaders.{read_apart_by};
-ghost use Rattle.abel_syntax.specs.ExpressionReaders.{read_link, read_level, read_paren, read_member, read_set, read_negated, read_operand, read_expr, read_set_at};
+ghost use Rattle.abel_grammar.specs.Gives.{Gives};
+ghost use Rattle.abel_grammar.specs.Expressions.{products, sums, relations};
+ghost use Rattle.abel_grammar.specs.WordReaders.{read_apart_by};
+ghost use Rattle.abel_grammar.specs.ExpressionReaders.{read_link, read_level, read_paren, read_member, read_set, read_negated, read_operand, read_expr, read_set_at};
 
 use crate::lists::packed;
 use crate::operands::{at_range, simple, span_member};
 use crate::words::{extension_in, maybe};
+use abel_grammar::{Halt, Terminal, behind, expect, starts, terminal_of};
 use abel_lexer::Token;
-use abel_syntax::{Halt, Terminal, behind, expect, starts, terminal_of};
 use abel_tree::{Expr, Member};
 use operator_signs::{
     begins_product, begins_relation, begins_sum, binary_of, join, product_sign, relation_sign,
@@ -22,7 +22,7 @@ use std::alloc::Global;
 
 /// Signs and the operand behind them.
 #[cycle(expr)]
-#[tactic(auto, unfolding(abel_syntax::specs::ExpressionReaders::read_negated))]
+#[tactic(auto, unfolding(abel_grammar::specs::ExpressionReaders::read_negated))]
 fn negated<'a>(
     alloc: Global,
     tokens: &'a [Token],
@@ -41,7 +41,7 @@ fn negated<'a>(
 
 /// An expression in parentheses.
 #[cycle(expr)]
-#[tactic(auto, unfolding(abel_syntax::specs::ExpressionReaders::read_paren))]
+#[tactic(auto, unfolding(abel_grammar::specs::ExpressionReaders::read_paren))]
 fn paren<'a>(alloc: Global, tokens: &'a [Token], depth: u8) -> Result<(Expr, &'a [Token]), Halt<'a>>
     ensures { Gives (λ x. (view x.0, x.1.now)) result (read_paren (read_expr depth) tokens.now) }
 {
@@ -55,7 +55,7 @@ fn paren<'a>(alloc: Global, tokens: &'a [Token], depth: u8) -> Result<(Expr, &'a
 
 /// A member of a set.
 #[cycle(expr)]
-#[tactic(auto, unfolding(abel_syntax::specs::ExpressionReaders::read_member))]
+#[tactic(auto, unfolding(abel_grammar::specs::ExpressionReaders::read_member))]
 fn member<'a>(
     alloc: Global,
     tokens: &'a [Token],
@@ -95,7 +95,7 @@ fn members<'a>(
 
 /// A set in brackets, and its extension.
 #[cycle(expr)]
-#[tactic(auto, unfolding(abel_syntax::specs::ExpressionReaders::read_set))]
+#[tactic(auto, unfolding(abel_grammar::specs::ExpressionReaders::read_set))]
 fn set<'a>(alloc: Global, tokens: &'a [Token], depth: u8) -> Result<(Expr, &'a [Token]), Halt<'a>>
     ensures { Gives (λ x. (view x.0, x.1.now)) result (read_set (read_expr depth) tokens.now) }
 {
@@ -116,7 +116,7 @@ fn set<'a>(alloc: Global, tokens: &'a [Token], depth: u8) -> Result<(Expr, &'a [
 }
 
 /// What opens no nesting, where none may be opened.
-#[tactic(auto, unfolding(abel_syntax::specs::ExpressionReaders::read_operand))]
+#[tactic(auto, unfolding(abel_grammar::specs::ExpressionReaders::read_operand))]
 fn flat<'a>(alloc: Global, tokens: &'a [Token]) -> Result<(Expr, &'a [Token]), Halt<'a>>
     ensures { Gives (λ x. (view x.0, x.1.now)) result (read_operand 0 tokens.now) }
 {
@@ -133,7 +133,7 @@ fn flat<'a>(alloc: Global, tokens: &'a [Token]) -> Result<(Expr, &'a [Token]), H
 
 /// A sign and its operand, something in parentheses or brackets, or what needs no nesting.
 #[cycle(expr)]
-#[tactic(auto, unfolding(abel_syntax::specs::ExpressionReaders::read_operand))]
+#[tactic(auto, unfolding(abel_grammar::specs::ExpressionReaders::read_operand))]
 fn operand<'a>(
     alloc: Global,
     tokens: &'a [Token],
@@ -240,7 +240,7 @@ fn relation_link<'a>(
 
 /// Operands joined from the left.
 #[cycle(expr)]
-#[tactic(auto, unfolding(abel_syntax::specs::ExpressionReaders::read_expr_over))]
+#[tactic(auto, unfolding(abel_grammar::specs::ExpressionReaders::read_expr_over))]
 pub fn expr<'a>(
     alloc: Global,
     tokens: &'a [Token],
@@ -260,7 +260,7 @@ pub fn expr<'a>(
 }
 
 /// A set that stands alone.
-#[tactic(auto, unfolding(abel_syntax::specs::ExpressionReaders::read_set_at))]
+#[tactic(auto, unfolding(abel_grammar::specs::ExpressionReaders::read_set_at))]
 pub fn set_at<'a>(
     alloc: Global,
     tokens: &'a [Token],

@@ -1,21 +1,21 @@
 //! Operands that need no nesting.
 
 ghost use Rattle.std.specs.Prelude.{◌≡◌, [], ◌∷◌};
-ghost use Rattle.grammar.specs.Further.{starts_two};
+ghost use Rattle.abel_grammar.specs.Further.{starts_two};
 ghost use Rattle.abel_tree.specs.View.{view, view_member};
-ghost use Rattle.abel_syntax.specs.Gives.{Gives};
-ghost use Rattle.abel_syntax.specs.Terminals.{among};
-ghost use Rattle.abel_syntax.specs.Expressions.{letter_of};
-ghost use Rattle.abel_syntax.specs.ExpressionReaders.{read_name_tree, read_number_tree, read_special, read_simple, read_span_member};
+ghost use Rattle.abel_grammar.specs.Gives.{Gives};
+ghost use Rattle.abel_grammar.specs.Terminals.{among};
+ghost use Rattle.abel_grammar.specs.Expressions.{letter_of};
+ghost use Rattle.abel_grammar.specs.ExpressionReaders.{read_name_tree, read_number_tree, read_special, read_simple, read_span_member};
 
 use crate::words::{extension_in, maybe, name, number};
+use abel_grammar::{Halt, Terminal, expect, is_among, starts};
 use abel_lexer::Token;
-use abel_syntax::{Halt, Terminal, expect, is_among, starts};
 use abel_tree::{Expr, Member};
 use std::alloc::Global;
 
 /// A name and its extension.
-#[tactic(auto, unfolding(abel_syntax::specs::ExpressionReaders::read_name_tree))]
+#[tactic(auto, unfolding(abel_grammar::specs::ExpressionReaders::read_name_tree))]
 pub fn name_tree<'a>(alloc: Global, tokens: &'a [Token]) -> Result<(Expr, &'a [Token]), Halt<'a>>
     ensures { Gives (λ x. (view x.0, x.1.now)) result (read_name_tree tokens.now) }
 {
@@ -26,7 +26,7 @@ pub fn name_tree<'a>(alloc: Global, tokens: &'a [Token]) -> Result<(Expr, &'a [T
 }
 
 /// A number.
-#[tactic(auto, unfolding(abel_syntax::specs::ExpressionReaders::read_number_tree))]
+#[tactic(auto, unfolding(abel_grammar::specs::ExpressionReaders::read_number_tree))]
 fn number_tree<'a>(tokens: &'a [Token]) -> Result<(Expr, &'a [Token]), Halt<'a>>
     ensures { Gives (λ x. (view x.0, x.1.now)) result (read_number_tree tokens.now) }
 {
@@ -45,7 +45,7 @@ fn letter_of(text: &[u8]) -> u8
 }
 
 /// A special.
-#[tactic(auto, unfolding(abel_syntax::specs::ExpressionReaders::read_special))]
+#[tactic(auto, unfolding(abel_grammar::specs::ExpressionReaders::read_special))]
 fn special<'a>(tokens: &'a [Token]) -> Result<(Expr, &'a [Token]), Halt<'a>>
     ensures { Gives (λ x. (view x.0, x.1.now)) result (read_special tokens.now) }
 {
@@ -60,7 +60,7 @@ fn special<'a>(tokens: &'a [Token]) -> Result<(Expr, &'a [Token]), Halt<'a>>
 }
 
 /// What needs no nesting.
-#[tactic(auto, unfolding(abel_syntax::specs::ExpressionReaders::read_simple))]
+#[tactic(auto, unfolding(abel_grammar::specs::ExpressionReaders::read_simple))]
 pub fn simple<'a>(alloc: Global, tokens: &'a [Token]) -> Result<(Expr, &'a [Token]), Halt<'a>>
     ensures { Gives (λ x. (view x.0, x.1.now)) result (read_simple tokens.now) }
 {
@@ -87,7 +87,7 @@ pub fn at_range(tokens: &[Token]) -> bool
 }
 
 /// A range of names.
-#[tactic(auto, unfolding(abel_syntax::specs::ExpressionReaders::read_span_member))]
+#[tactic(auto, unfolding(abel_grammar::specs::ExpressionReaders::read_span_member))]
 pub fn span_member<'a>(
     alloc: Global,
     tokens: &'a [Token],

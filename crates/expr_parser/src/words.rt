@@ -1,20 +1,20 @@
 //! Single tokens: what each terminal gives to the tree.
 
 ghost use Rattle.std.specs.Prelude.{◌≡◌, [], ◌∷◌, option_map};
-ghost use Rattle.grammar.specs.Reading.{read_optional};
-ghost use Rattle.abel_syntax.specs.Gives.{Gives};
-ghost use Rattle.abel_syntax.specs.Terminals.{among};
-ghost use Rattle.abel_syntax.specs.Words.{extension_in, extension_of};
-ghost use Rattle.abel_syntax.specs.WordReaders.{read_one, read_name, read_number, read_text, read_dont_care};
+ghost use Rattle.abel_grammar.specs.Reading.{read_optional};
+ghost use Rattle.abel_grammar.specs.Gives.{Gives};
+ghost use Rattle.abel_grammar.specs.Terminals.{among};
+ghost use Rattle.abel_grammar.specs.Words.{extension_in, extension_of};
+ghost use Rattle.abel_grammar.specs.WordReaders.{read_one, read_name, read_number, read_text, read_dont_care};
 
+use abel_grammar::{Halt, Terminal, expect, is_among};
 use abel_lexer::Token;
-use abel_syntax::{Halt, Terminal, expect, is_among};
 use abel_tree::{DontCare, Extension, Number, Word};
 use pld_base::NameText;
 use std::alloc::Global;
 
 /// A name.
-#[tactic(auto, unfolding(abel_syntax::specs::WordReaders::read_name))]
+#[tactic(auto, unfolding(abel_grammar::specs::WordReaders::read_name))]
 pub fn name<'a>(alloc: Global, tokens: &'a [Token]) -> Result<(Word, &'a [Token]), Halt<'a>>
     ensures { Gives (λ x. (x.0, x.1.now)) result (read_name tokens.now) }
 {
@@ -30,7 +30,7 @@ pub fn name<'a>(alloc: Global, tokens: &'a [Token]) -> Result<(Word, &'a [Token]
 }
 
 /// A string, with its quotes.
-#[tactic(auto, unfolding(abel_syntax::specs::WordReaders::read_text))]
+#[tactic(auto, unfolding(abel_grammar::specs::WordReaders::read_text))]
 pub fn text<'a>(alloc: Global, tokens: &'a [Token]) -> Result<(Word, &'a [Token]), Halt<'a>>
     ensures { Gives (λ x. (x.0, x.1.now)) result (read_text tokens.now) }
 {
@@ -46,7 +46,7 @@ pub fn text<'a>(alloc: Global, tokens: &'a [Token]) -> Result<(Word, &'a [Token]
 }
 
 /// A number.
-#[tactic(auto, unfolding(abel_syntax::specs::WordReaders::read_number))]
+#[tactic(auto, unfolding(abel_grammar::specs::WordReaders::read_number))]
 pub fn number<'a>(tokens: &'a [Token]) -> Result<(Number, &'a [Token]), Halt<'a>>
     ensures { Gives (λ x. (x.0, x.1.now)) result (read_number tokens.now) }
 {
@@ -112,7 +112,7 @@ pub fn extension_in(token: Option<&Token>) -> Option<Extension>
 }
 
 /// `@DCSET` or `@ONSET`.
-#[tactic(auto, unfolding(abel_syntax::specs::WordReaders::read_dont_care))]
+#[tactic(auto, unfolding(abel_grammar::specs::WordReaders::read_dont_care))]
 pub fn dont_care<'a>(tokens: &'a [Token]) -> Result<(DontCare, &'a [Token]), Halt<'a>>
     ensures { Gives (λ x. (x.0, x.1.now)) result (read_dont_care tokens.now) }
 {

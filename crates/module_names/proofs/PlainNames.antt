@@ -11,11 +11,11 @@ use Rattle.abel_lexer.specs.Kinds.{IsToken, IsWord}
 use Rattle.abel_lexer.specs.Scans.{Remainder, Lexeme, Shown, Radix, Leads, IsTokensOf, tokens_among, whole}
 use Rattle.abel_tree.specs.Tree.{ModuleTree}
 use Rattle.abel_tree.specs.declared.words.Word.{Word}
-use Rattle.abel_syntax.specs.declared.terminal.Terminal.{Terminal}
-use Rattle.abel_syntax.specs.declared.terminal.Terminal.TheVariants as terminal
-use Rattle.abel_syntax.specs.Modules.{source}
-use Rattle.abel_syntax.specs.Terminals.{among, look_up, number_of, signs, terminal_by, terminal_of}
-use Rattle.abel_syntax.specs.Words.{name}
+use Rattle.abel_grammar.specs.declared.terminal.Terminal.{Terminal}
+use Rattle.abel_grammar.specs.declared.terminal.Terminal.TheVariants as terminal
+use Rattle.abel_grammar.specs.Modules.{source}
+use Rattle.abel_grammar.specs.Terminals.{among, look_up, number_of, signs, terminal_by, terminal_of}
+use Rattle.abel_grammar.specs.Words.{name}
 use Rattle.jedec_file.specs.CanonicalFile.{IsPlainName}
 use Rattle.jedec_file.specs.FileText.{ETX}
 use Rattle.module_names.specs.Correct.{ModuleNamesArePlain}

@@ -5,7 +5,7 @@ use Rattle.std.specs.Prelude.{slice_get}
 use Rattle.abel_tree.specs.declared.diagrams.Arm.{Arm}
 use Rattle.abel_tree.specs.declared.diagrams.State.{State}
 use Rattle.abel_tree.specs.View.{view_arm, view_state}
-use Rattle.abel_syntax.specs.Modules.{is_empty, last_is_bare}
+use Rattle.abel_grammar.specs.Modules.{is_empty, last_is_bare}
 
 pub last_bare : (ss : List State) (s : State) → slice_get ss (length ss - 1) ≡ Some s → last_is_bare (map view_state ss) ≡ is_empty (map view_arm s.transitions)
 last_bare [] s e = absurd cc

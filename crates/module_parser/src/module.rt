@@ -1,15 +1,15 @@
 //! A module from tokens.
 
 ghost use Rattle.std.specs.Prelude.{◌≡◌, ℕ, map, [], ◌∷◌, option_map};
-ghost use Rattle.grammar.specs.Reading.{read_optional};
+ghost use Rattle.abel_grammar.specs.Reading.{read_optional};
 ghost use Rattle.abel_tree.specs.View.{view_decl, view_section, view_module};
-ghost use Rattle.abel_syntax.specs.Gives.{Gives};
-ghost use Rattle.abel_syntax.specs.Terminals.{among};
-ghost use Rattle.abel_syntax.specs.ModuleReaders.{read_title, read_options, read_first_decls, read_ending, read_body, read_source};
+ghost use Rattle.abel_grammar.specs.Gives.{Gives};
+ghost use Rattle.abel_grammar.specs.Terminals.{among};
+ghost use Rattle.abel_grammar.specs.ModuleReaders.{read_title, read_options, read_first_decls, read_ending, read_body, read_source};
 
 use crate::sections::sections;
+use abel_grammar::{Halt, Terminal, expect, starts};
 use abel_lexer::Token;
-use abel_syntax::{Halt, Terminal, expect, starts};
 use abel_tree::{Decl, Module, Section, Word};
 use declaration_parser::{decls, option, other_decl};
 use expr_parser::{maybe, name, text};
@@ -30,7 +30,7 @@ type Ending<'a> = (
 type Body<'a> = (Vec<Word>, (Vec<Decl>, Ending<'a>));
 
 /// TITLE and its string.
-#[tactic(auto, unfolding(abel_syntax::specs::ModuleReaders::read_title))]
+#[tactic(auto, unfolding(abel_grammar::specs::ModuleReaders::read_title))]
 fn title<'a>(alloc: Global, tokens: &'a [Token]) -> Result<(Word, &'a [Token]), Halt<'a>>
     ensures { Gives (λ x. (x.0, x.1.now)) result (read_title tokens.now) }
 {
@@ -56,7 +56,7 @@ fn some_title<'a>(
 }
 
 /// The strings of all options that stand there.
-#[tactic(auto, unfolding(abel_syntax::specs::ModuleReaders::read_options))]
+#[tactic(auto, unfolding(abel_grammar::specs::ModuleReaders::read_options))]
 fn options<'a>(alloc: Global, tokens: &'a [Token]) -> Result<(Vec<Word>, &'a [Token]), Halt<'a>>
     ensures { Gives (λ x. (x.0.items, x.1.now)) result (read_options tokens.now) }
 {
@@ -71,7 +71,7 @@ fn options<'a>(alloc: Global, tokens: &'a [Token]) -> Result<(Vec<Word>, &'a [To
 }
 
 /// The declarations behind the options; the first is no option.
-#[tactic(auto, unfolding(abel_syntax::specs::ModuleReaders::read_first_decls))]
+#[tactic(auto, unfolding(abel_grammar::specs::ModuleReaders::read_first_decls))]
 fn first_decls<'a>(
     alloc: Global,
     tokens: &'a [Token],
@@ -146,7 +146,7 @@ fn body<'a>(
 }
 
 /// A module, with at most so many nestings open.
-#[tactic(auto, unfolding(abel_syntax::specs::ModuleReaders::read_source))]
+#[tactic(auto, unfolding(abel_grammar::specs::ModuleReaders::read_source))]
 pub fn source<'a>(
     alloc: Global,
     tokens: &'a [Token],

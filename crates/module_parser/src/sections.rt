@@ -1,16 +1,16 @@
 //! Sections from tokens.
 
 ghost use Rattle.std.specs.Prelude.{◌≡◌, ℕ, map, [], ◌∷◌};
-ghost use Rattle.grammar.specs.Reading.{read_made, read_followed, read_repeated};
-ghost use Rattle.grammar.specs.Further.{read_unless};
+ghost use Rattle.abel_grammar.specs.Reading.{read_made, read_followed, read_repeated};
+ghost use Rattle.abel_grammar.specs.Further.{read_unless};
 ghost use Rattle.abel_tree.specs.View.{view_decl, view_state, view_section};
-ghost use Rattle.abel_syntax.specs.Gives.{Gives};
-ghost use Rattle.abel_syntax.specs.Terminals.{among};
-ghost use Rattle.abel_syntax.specs.Modules.{last_is_bare, takes_dont_care, section_group_of};
-ghost use Rattle.abel_syntax.specs.ModuleReaders.{read_declarations, read_equations, read_proper, read_dont_care_section, read_sections};
+ghost use Rattle.abel_grammar.specs.Gives.{Gives};
+ghost use Rattle.abel_grammar.specs.Terminals.{among};
+ghost use Rattle.abel_grammar.specs.Modules.{last_is_bare, takes_dont_care, section_group_of};
+ghost use Rattle.abel_grammar.specs.ModuleReaders.{read_declarations, read_equations, read_proper, read_dont_care_section, read_sections};
 
+use abel_grammar::{Halt, Terminal, expect, starts};
 use abel_lexer::Token;
-use abel_syntax::{Halt, Terminal, expect, starts};
 use abel_tree::{Section, State};
 use declaration_parser::decls;
 use diagram_parser::diagram;
@@ -29,7 +29,7 @@ const PROPER_STARTS: [Terminal; 5] = [
 ];
 
 /// DECLARATIONS and what is declared.
-#[tactic(auto, unfolding(abel_syntax::specs::ModuleReaders::read_declarations))]
+#[tactic(auto, unfolding(abel_grammar::specs::ModuleReaders::read_declarations))]
 fn declarations<'a>(
     alloc: Global,
     tokens: &'a [Token],
@@ -43,7 +43,7 @@ fn declarations<'a>(
 }
 
 /// EQUATIONS and the statements.
-#[tactic(auto, unfolding(abel_syntax::specs::ModuleReaders::read_equations))]
+#[tactic(auto, unfolding(abel_grammar::specs::ModuleReaders::read_equations))]
 fn equations<'a>(
     alloc: Global,
     tokens: &'a [Token],
@@ -57,7 +57,7 @@ fn equations<'a>(
 }
 
 /// A section that is no `@DCSET` and no `@ONSET`.
-#[tactic(auto, unfolding(abel_syntax::specs::ModuleReaders::read_proper))]
+#[tactic(auto, unfolding(abel_grammar::specs::ModuleReaders::read_proper))]
 fn proper<'a>(
     alloc: Global,
     tokens: &'a [Token],
@@ -103,7 +103,7 @@ fn takes_dont_care(section: &Section) -> bool
 }
 
 /// `@DCSET` or `@ONSET` as a section.
-#[tactic(auto, unfolding(abel_syntax::specs::ModuleReaders::read_dont_care_section))]
+#[tactic(auto, unfolding(abel_grammar::specs::ModuleReaders::read_dont_care_section))]
 fn dont_care_section<'a>(tokens: &'a [Token]) -> Result<(Section, &'a [Token]), Halt<'a>>
     ensures { Gives (λ x. (view_section x.0, x.1.now)) result (read_dont_care_section tokens.now) }
 {
@@ -163,7 +163,7 @@ fn group<'a>(
 }
 
 /// All sections.
-#[tactic(auto, unfolding(abel_syntax::specs::ModuleReaders::read_sections))]
+#[tactic(auto, unfolding(abel_grammar::specs::ModuleReaders::read_sections))]
 pub fn sections<'a>(
     alloc: Global,
     tokens: &'a [Token],

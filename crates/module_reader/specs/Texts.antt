@@ -1,7 +1,7 @@
 -- Which texts spell which modules, and why a text is refused (ABEL-HDL Reference Manual, source file structure; the
 -- order of refusals is this project's rule).
 use Rattle.std.specs.Prelude.{◌≢◌, ℕ, List}
-use Rattle.grammar.specs.Verdict.{Spells}
+use Rattle.abel_grammar.specs.Verdict.{Spells}
 use Rattle.abel_lexer.specs.declared.fault.ScanFault.{ScanFault}
 use Rattle.abel_lexer.specs.declared.fault.ScanFault.TheVariants as scan
 use Rattle.abel_lexer.specs.declared.token.Token.{Token}
@@ -9,7 +9,7 @@ use Rattle.abel_lexer.specs.Scans.{IsTokensOf, IsFirstFault, first_place, place_
 use Rattle.abel_expand.specs.declared.fault.ExpandFault.TheVariants as expand
 use Rattle.abel_expand.specs.Runs.{IsExpanded, IsRefusal}
 use Rattle.abel_tree.specs.Tree.{ModuleTree}
-use Rattle.abel_syntax.specs.Modules.{source}
+use Rattle.abel_grammar.specs.Modules.{source}
 use Rattle.abel_parser.specs.declared.fault.ParseFault.{ParseFault}
 use Rattle.abel_parser.specs.declared.fault.ParseFault.TheVariants as parse
 use Rattle.abel_parser.specs.Refusals.{IsAccepted, IsRefused}

@@ -3,7 +3,7 @@
 ghost use Rattle.std.specs.Prelude.{◌≡◌, ◌≤◌, length, IfOk, IfErr};
 ghost use Rattle.abel_tree.specs.Tree.{ModuleTree};
 ghost use Rattle.abel_tree.specs.View.{view_module};
-ghost use Rattle.source_order.specs.Order.{SectionsRise};
+ghost use Rattle.abel_grammar.specs.Order.{SectionsRise};
 ghost use Rattle.module_reader.specs.Texts.{SpellsModule, IsRead, IsUnread};
 
 use crate::fault::{ReadFault, of_expanding, of_parsing, of_scanning};

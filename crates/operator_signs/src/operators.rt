@@ -3,9 +3,9 @@
 ghost use Rattle.std.specs.Prelude.{◌≡◌, IfOk};
 ghost use Rattle.abel_tree.specs.Tree.{ABinary};
 ghost use Rattle.abel_tree.specs.View.{view};
-ghost use Rattle.abel_syntax.specs.Expressions.{binary_of, unary_of};
+ghost use Rattle.abel_grammar.specs.Expressions.{binary_of, unary_of};
 
-use abel_syntax::Terminal;
+use abel_grammar::Terminal;
 use abel_tree::{Binary, Expr, Unary};
 use pld_base::{Boxed, OutOfMemory, Place};
 use std::alloc::Global;

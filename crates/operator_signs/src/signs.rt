@@ -1,13 +1,13 @@
 //! The signs that join operands, by how tight they bind.
 
 ghost use Rattle.std.specs.Prelude.{◌≡◌};
-ghost use Rattle.grammar.specs.Reading.{starts, read_token};
-ghost use Rattle.abel_syntax.specs.Gives.{Gives};
-ghost use Rattle.abel_syntax.specs.Terminals.{among};
-ghost use Rattle.abel_syntax.specs.Expressions.{products, sums, relations};
+ghost use Rattle.abel_grammar.specs.Reading.{starts, read_token};
+ghost use Rattle.abel_grammar.specs.Gives.{Gives};
+ghost use Rattle.abel_grammar.specs.Terminals.{among};
+ghost use Rattle.abel_grammar.specs.Expressions.{products, sums, relations};
 
+use abel_grammar::{Halt, Terminal, expect, starts};
 use abel_lexer::Token;
-use abel_syntax::{Halt, Terminal, expect, starts};
 
 const PRODUCTS: [Terminal; 6] = [
     Terminal::And,

@@ -1,6 +1,6 @@
 -- Literals, products and sums are spelled.
 use Rattle.std.proofs.Common.{◌≡◌, ℕ, zero, suc, inl, inr, Bool, true, false, Option, None, Some, List, [], ◌∷◌, refl, sym, ap, subst, codes}
-use Rattle.grammar.specs.Form.{Form, SpellsList, ◌then◌, token, grouped}
+use Rattle.abel_grammar.specs.Form.{Form, SpellsList, ◌then◌, token, grouped}
 use Rattle.pld_base.specs.declared.place.Place.{Place}
 use Rattle.abel_lexer.specs.declared.token.Token.{Token}
 use Rattle.abel_lexer.specs.Numbers.{number_value}
@@ -11,10 +11,10 @@ use Rattle.abel_tree.specs.declared.words.Unary.TheVariants as unary
 use Rattle.abel_tree.specs.declared.words.Binary.{Binary}
 use Rattle.abel_tree.specs.declared.words.Binary.TheVariants as binary
 use Rattle.abel_tree.specs.Tree.{Tree, ANumber, AName, AUnary, ABinary}
-use Rattle.abel_syntax.specs.declared.terminal.Terminal.{Terminal}
-use Rattle.abel_syntax.specs.Terminals.{among, terminal_of}
-use Rattle.abel_syntax.specs.Words.{name, number as a_number, numeral_of, extension_of}
-use Rattle.abel_syntax.specs.Expressions.{name_tree, number_tree, operand, negated, expr, expr_over, joined, level, products, sums, relations, binary_of}
+use Rattle.abel_grammar.specs.declared.terminal.Terminal.{Terminal}
+use Rattle.abel_grammar.specs.Terminals.{among, terminal_of}
+use Rattle.abel_grammar.specs.Words.{name, number as a_number, numeral_of, extension_of}
+use Rattle.abel_grammar.specs.Expressions.{name_tree, number_tree, operand, negated, expr, expr_over, joined, level, products, sums, relations, binary_of}
 use Rattle.plain_texts.specs.Pieces.{Piece, token_at, place_in, place_behind, tokens_from}
 use Rattle.pin_sources.specs.declared.literal.PinLiteral.{PinLiteral}
 use Rattle.pin_sources.specs.SourceText.{q_if, name_text, extension_text}

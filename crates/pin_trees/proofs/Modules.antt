@@ -2,7 +2,7 @@
 use Rattle.std.proofs.Common.{◌≡◌, ℕ, suc, inl, inr, Bool, false, Option, None, Some, List, [], ◌∷◌, ◌++◌, refl, ap, codes}
 use Rattle.std.specs.Prelude.{if◌then◌else◌}
 use Rattle.std.specs.Fmt.{decimal}
-use Rattle.grammar.specs.Form.{SpellsList}
+use Rattle.abel_grammar.specs.Form.{SpellsList}
 use Rattle.pld_base.specs.declared.place.Place.{Place}
 use Rattle.pld_base.specs.DeviceNames.{device_text}
 use Rattle.abel_lexer.specs.declared.token.Token.{Token}
@@ -11,10 +11,10 @@ use Rattle.abel_lexer.specs.Scans.{first_place}
 use Rattle.abel_tree.specs.declared.words.Word.{Word}
 use Rattle.abel_tree.specs.declared.words.Number.{Number}
 use Rattle.abel_tree.specs.Tree.{Statement, Declaration, ADevice, SomePins, Equations, ModuleTree}
-use Rattle.abel_syntax.specs.Terminals.{terminal_of}
-use Rattle.abel_syntax.specs.Words.{name, number, text, numeral_of}
-use Rattle.abel_syntax.specs.Declarations.{item, names, num, nums, texts, istype, device, pins, naming, decl, other_decl}
-use Rattle.abel_syntax.specs.Modules.{equations, proper, sections, options, first_decls, source}
+use Rattle.abel_grammar.specs.Terminals.{terminal_of}
+use Rattle.abel_grammar.specs.Words.{name, number, text, numeral_of}
+use Rattle.abel_grammar.specs.Declarations.{item, names, num, nums, texts, istype, device, pins, naming, decl, other_decl}
+use Rattle.abel_grammar.specs.Modules.{equations, proper, sections, options, first_decls, source}
 use Rattle.plain_texts.specs.Pieces.{Piece, token_at, place_in, place_behind, tokens_from}
 use Rattle.pin_sources.specs.declared.pin_line.PinLine.{PinLine}
 use Rattle.pin_sources.specs.declared.sum_line.SumLine.{SumLine}

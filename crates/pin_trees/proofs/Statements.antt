@@ -1,12 +1,12 @@
 -- Equations are spelled.
 use Rattle.std.proofs.Common.{ℕ, suc, inl, inr, Bool, true, false, List, [], ◌∷◌, refl, codes}
-use Rattle.grammar.specs.Form.{SpellsList}
+use Rattle.abel_grammar.specs.Form.{SpellsList}
 use Rattle.pld_base.specs.declared.place.Place.{Place}
 use Rattle.abel_lexer.specs.declared.token.Token.{Token}
 use Rattle.abel_tree.specs.declared.words.Sign.TheVariants as a_sign
 use Rattle.abel_tree.specs.Tree.{Statement, AnAssign}
-use Rattle.abel_syntax.specs.Terminals.{terminal_of}
-use Rattle.abel_syntax.specs.Statements.{target, complemented_at, assign, stmt}
+use Rattle.abel_grammar.specs.Terminals.{terminal_of}
+use Rattle.abel_grammar.specs.Statements.{target, complemented_at, assign, stmt}
 use Rattle.plain_texts.specs.Pieces.{Piece, token_at, place_in, place_behind, tokens_from}
 use Rattle.pin_sources.specs.declared.sum_line.SumLine.{SumLine}
 use Rattle.pin_sources.specs.SourceText.{name_text}

@@ -2,12 +2,12 @@
 
 ghost use Rattle.std.specs.Prelude.{◌≡◌, ℕ, [], ◌∷◌};
 ghost use Rattle.abel_tree.specs.View.{view, view_stmt};
-ghost use Rattle.abel_syntax.specs.Gives.{Gives};
-ghost use Rattle.abel_syntax.specs.Statements.{sign_of_terminal};
-ghost use Rattle.abel_syntax.specs.StatementReaders.{read_bare_target, read_complemented_at, read_target, read_assign, read_dont_care_stmt};
+ghost use Rattle.abel_grammar.specs.Gives.{Gives};
+ghost use Rattle.abel_grammar.specs.Statements.{sign_of_terminal};
+ghost use Rattle.abel_grammar.specs.StatementReaders.{read_bare_target, read_complemented_at, read_target, read_assign, read_dont_care_stmt};
 
+use abel_grammar::{Halt, Terminal, expect, starts, terminal_of};
 use abel_lexer::Token;
-use abel_syntax::{Halt, Terminal, expect, starts, terminal_of};
 use abel_tree::{Assign, Expr, Sign, Stmt};
 use expr_parser::{dont_care, expr, name_tree, set_at};
 use std::alloc::Global;
@@ -32,7 +32,7 @@ fn sign_of(terminal: Terminal) -> Sign
 }
 
 /// A name or a set.
-#[tactic(auto, unfolding(abel_syntax::specs::StatementReaders::read_bare_target))]
+#[tactic(auto, unfolding(abel_grammar::specs::StatementReaders::read_bare_target))]
 fn bare_target<'a>(
     alloc: Global,
     tokens: &'a [Token],
@@ -48,7 +48,7 @@ fn bare_target<'a>(
 }
 
 /// A `!` and a target, where the `!` may open a nesting.
-#[tactic(auto, unfolding(abel_syntax::specs::StatementReaders::read_complemented_at))]
+#[tactic(auto, unfolding(abel_grammar::specs::StatementReaders::read_complemented_at))]
 fn complemented<'a>(
     alloc: Global,
     tokens: &'a [Token],
@@ -70,7 +70,7 @@ fn complemented<'a>(
 }
 
 /// A target, and whether a `!` stands before it.
-#[tactic(auto, unfolding(abel_syntax::specs::StatementReaders::read_target))]
+#[tactic(auto, unfolding(abel_grammar::specs::StatementReaders::read_target))]
 fn target<'a>(
     alloc: Global,
     tokens: &'a [Token],
@@ -87,7 +87,7 @@ fn target<'a>(
 }
 
 /// An assignment.
-#[tactic(auto, unfolding(abel_syntax::specs::StatementReaders::read_assign))]
+#[tactic(auto, unfolding(abel_grammar::specs::StatementReaders::read_assign))]
 pub fn assign<'a>(
     alloc: Global,
     tokens: &'a [Token],
@@ -118,7 +118,7 @@ pub fn assign<'a>(
 }
 
 /// `@DCSET` or `@ONSET`.
-#[tactic(auto, unfolding(abel_syntax::specs::StatementReaders::read_dont_care_stmt))]
+#[tactic(auto, unfolding(abel_grammar::specs::StatementReaders::read_dont_care_stmt))]
 pub fn dont_care_stmt<'a>(tokens: &'a [Token]) -> Result<(Stmt, &'a [Token]), Halt<'a>>
     ensures { Gives (λ x. (view_stmt x.0, x.1.now)) result (read_dont_care_stmt tokens.now) }
 {

@@ -1,20 +1,20 @@
 //! Statements from tokens.
 
 ghost use Rattle.std.specs.Prelude.{◌≡◌, ℕ, map, option_map, [], ◌∷◌, None};
-ghost use Rattle.grammar.specs.Reading.{read_optional, ◌then_read◌};
-ghost use Rattle.grammar.specs.Further.{read_unless};
+ghost use Rattle.abel_grammar.specs.Reading.{read_optional, ◌then_read◌};
+ghost use Rattle.abel_grammar.specs.Further.{read_unless};
 ghost use Rattle.abel_tree.specs.Tree.{AWhen, otherwise_of};
 ghost use Rattle.abel_tree.specs.View.{view, view_stmt};
-ghost use Rattle.abel_syntax.specs.Gives.{Gives};
-ghost use Rattle.abel_syntax.specs.Terminals.{among};
-ghost use Rattle.abel_syntax.specs.WordReaders.{read_one};
-ghost use Rattle.abel_syntax.specs.ExpressionReaders.{read_expr};
-ghost use Rattle.abel_syntax.specs.Statements.{is_open};
-ghost use Rattle.abel_syntax.specs.StatementReaders.{read_when, read_stmts, read_group, read_stmt, read_plain_stmt};
+ghost use Rattle.abel_grammar.specs.Gives.{Gives};
+ghost use Rattle.abel_grammar.specs.Terminals.{among};
+ghost use Rattle.abel_grammar.specs.WordReaders.{read_one};
+ghost use Rattle.abel_grammar.specs.ExpressionReaders.{read_expr};
+ghost use Rattle.abel_grammar.specs.Statements.{is_open};
+ghost use Rattle.abel_grammar.specs.StatementReaders.{read_when, read_stmts, read_group, read_stmt, read_plain_stmt};
 
 use crate::assignments::{assign, dont_care_stmt};
+use abel_grammar::{Halt, Terminal, expect, starts};
 use abel_lexer::Token;
-use abel_syntax::{Halt, Terminal, expect, starts};
 use abel_tree::{Expr, Stmt, When};
 use expr_parser::{expr, maybe, packed};
 use pld_base::{Boxed, Place};
@@ -92,7 +92,7 @@ fn make_when(
 
 /// WHEN, its statement, and its ELSE.
 #[cycle(stmt)]
-#[tactic(auto, unfolding(abel_syntax::specs::StatementReaders::read_when))]
+#[tactic(auto, unfolding(abel_grammar::specs::StatementReaders::read_when))]
 fn when<'a>(alloc: Global, tokens: &'a [Token], depth: u8) -> Result<(Stmt, &'a [Token]), Halt<'a>>
     ensures { Gives (λ x. (view_stmt x.0, x.1.now)) result
         (read_when (read_expr depth) (read_stmt depth) tokens.now) }
@@ -139,7 +139,7 @@ pub fn stmts<'a>(
 
 /// Statements in braces.
 #[cycle(stmt)]
-#[tactic(auto, unfolding(abel_syntax::specs::StatementReaders::read_group))]
+#[tactic(auto, unfolding(abel_grammar::specs::StatementReaders::read_group))]
 fn group<'a>(alloc: Global, tokens: &'a [Token], depth: u8) -> Result<(Stmt, &'a [Token]), Halt<'a>>
     ensures { Gives (λ x. (view_stmt x.0, x.1.now)) result
         (read_group (read_stmt depth) tokens.now) }
@@ -152,7 +152,7 @@ fn group<'a>(alloc: Global, tokens: &'a [Token], depth: u8) -> Result<(Stmt, &'a
 }
 
 /// A statement that is no group, where no nesting may be opened.
-#[tactic(auto, unfolding(abel_syntax::specs::StatementReaders::read_plain_stmt))]
+#[tactic(auto, unfolding(abel_grammar::specs::StatementReaders::read_plain_stmt))]
 fn flat_plain<'a>(alloc: Global, tokens: &'a [Token]) -> Result<(Stmt, &'a [Token]), Halt<'a>>
     ensures { Gives (λ x. (view_stmt x.0, x.1.now)) result (read_plain_stmt 0 tokens.now) }
 {
@@ -169,7 +169,7 @@ fn flat_plain<'a>(alloc: Global, tokens: &'a [Token]) -> Result<(Stmt, &'a [Toke
 
 /// A statement that is no group.
 #[cycle(stmt)]
-#[tactic(auto, unfolding(abel_syntax::specs::StatementReaders::read_plain_stmt))]
+#[tactic(auto, unfolding(abel_grammar::specs::StatementReaders::read_plain_stmt))]
 pub fn plain<'a>(
     alloc: Global,
     tokens: &'a [Token],
@@ -190,7 +190,7 @@ pub fn plain<'a>(
 }
 
 /// A statement, where no nesting may be opened.
-#[tactic(auto, unfolding(abel_syntax::specs::StatementReaders::read_stmt, abel_syntax::specs::StatementReaders::read_plain_stmt))]
+#[tactic(auto, unfolding(abel_grammar::specs::StatementReaders::read_stmt, abel_grammar::specs::StatementReaders::read_plain_stmt))]
 fn flat_stmt<'a>(alloc: Global, tokens: &'a [Token]) -> Result<(Stmt, &'a [Token]), Halt<'a>>
     ensures { Gives (λ x. (view_stmt x.0, x.1.now)) result (read_stmt 0 tokens.now) }
 {
@@ -205,7 +205,7 @@ fn flat_stmt<'a>(alloc: Global, tokens: &'a [Token]) -> Result<(Stmt, &'a [Token
 
 /// A statement.
 #[cycle(stmt)]
-#[tactic(auto, unfolding(abel_syntax::specs::StatementReaders::read_stmt, abel_syntax::specs::StatementReaders::read_plain_stmt))]
+#[tactic(auto, unfolding(abel_grammar::specs::StatementReaders::read_stmt, abel_grammar::specs::StatementReaders::read_plain_stmt))]
 fn statement<'a>(
     alloc: Global,
     tokens: &'a [Token],

@@ -2,13 +2,13 @@
 
 ghost use Rattle.std.specs.Prelude.{◌≡◌, ℕ, map, [], ◌∷◌};
 ghost use Rattle.abel_tree.specs.View.{view_row, view_section};
-ghost use Rattle.abel_syntax.specs.Gives.{Gives};
-ghost use Rattle.abel_syntax.specs.Tables.{is_clocked};
-ghost use Rattle.abel_syntax.specs.TableReaders.{read_row, read_header, read_rows, read_table};
+ghost use Rattle.abel_grammar.specs.Gives.{Gives};
+ghost use Rattle.abel_grammar.specs.Tables.{is_clocked};
+ghost use Rattle.abel_grammar.specs.TableReaders.{read_row, read_header, read_rows, read_table};
 
 use crate::sides::{EXPR_STARTS, sides};
+use abel_grammar::{Halt, Terminal, expect, starts, terminal_of};
 use abel_lexer::Token;
-use abel_syntax::{Halt, Terminal, expect, starts, terminal_of};
 use abel_tree::{Row, Section, Table};
 use pld_base::ListOf;
 use std::alloc::Global;
@@ -26,7 +26,7 @@ fn is_clocked(arrow: Terminal) -> bool
 }
 
 /// A row of a truth table.
-#[tactic(auto, unfolding(abel_syntax::specs::TableReaders::read_row_as))]
+#[tactic(auto, unfolding(abel_grammar::specs::TableReaders::read_row_as))]
 fn row<'a>(alloc: Global, tokens: &'a [Token], depth: u8) -> Result<(Row, &'a [Token]), Halt<'a>>
     ensures { Gives (λ x. (view_row x.0, x.1.now)) result (read_row depth tokens.now) }
 {
@@ -55,7 +55,7 @@ fn row<'a>(alloc: Global, tokens: &'a [Token], depth: u8) -> Result<(Row, &'a [T
 }
 
 /// The header of a truth table, in parentheses.
-#[tactic(auto, unfolding(abel_syntax::specs::TableReaders::read_header_as))]
+#[tactic(auto, unfolding(abel_grammar::specs::TableReaders::read_header_as))]
 fn header<'a>(alloc: Global, tokens: &'a [Token], depth: u8) -> Result<(Row, &'a [Token]), Halt<'a>>
     ensures { Gives (λ x. (view_row x.0, x.1.now)) result (read_header depth tokens.now) }
 {
@@ -104,7 +104,7 @@ fn rows<'a>(
 }
 
 /// A truth table.
-#[tactic(auto, unfolding(abel_syntax::specs::TableReaders::read_table))]
+#[tactic(auto, unfolding(abel_grammar::specs::TableReaders::read_table))]
 pub fn table<'a>(
     alloc: Global,
     tokens: &'a [Token],

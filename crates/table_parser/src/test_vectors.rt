@@ -1,23 +1,23 @@
 //! Test vectors from tokens.
 
 ghost use Rattle.std.specs.Prelude.{◌≡◌, ℕ, map, [], ◌∷◌};
-ghost use Rattle.grammar.specs.Reading.{read_optional};
+ghost use Rattle.abel_grammar.specs.Reading.{read_optional};
 ghost use Rattle.abel_tree.specs.View.{view_vector_row, view_section};
-ghost use Rattle.abel_syntax.specs.Gives.{Gives};
-ghost use Rattle.abel_syntax.specs.Terminals.{among};
-ghost use Rattle.abel_syntax.specs.WordReaders.{read_text};
-ghost use Rattle.abel_syntax.specs.TableReaders.{read_vector_row, read_vector_header, read_vector_rows, read_vectors};
+ghost use Rattle.abel_grammar.specs.Gives.{Gives};
+ghost use Rattle.abel_grammar.specs.Terminals.{among};
+ghost use Rattle.abel_grammar.specs.WordReaders.{read_text};
+ghost use Rattle.abel_grammar.specs.TableReaders.{read_vector_row, read_vector_header, read_vector_rows, read_vectors};
 
 use crate::sides::{EXPR_STARTS, sides};
+use abel_grammar::{Halt, Terminal, expect, starts};
 use abel_lexer::Token;
-use abel_syntax::{Halt, Terminal, expect, starts};
 use abel_tree::{Section, VectorRow, Vectors, Word};
 use expr_parser::text;
 use pld_base::ListOf;
 use std::alloc::Global;
 
 /// A row of test vectors.
-#[tactic(auto, unfolding(abel_syntax::specs::TableReaders::read_row_as))]
+#[tactic(auto, unfolding(abel_grammar::specs::TableReaders::read_row_as))]
 fn vector_row<'a>(
     alloc: Global,
     tokens: &'a [Token],
@@ -49,7 +49,7 @@ fn vector_row<'a>(
 }
 
 /// The header of test vectors, in parentheses.
-#[tactic(auto, unfolding(abel_syntax::specs::TableReaders::read_header_as))]
+#[tactic(auto, unfolding(abel_grammar::specs::TableReaders::read_header_as))]
 fn vector_header<'a>(
     alloc: Global,
     tokens: &'a [Token],
@@ -118,7 +118,7 @@ fn some_text<'a>(
 }
 
 /// Test vectors.
-#[tactic(auto, unfolding(abel_syntax::specs::TableReaders::read_vectors))]
+#[tactic(auto, unfolding(abel_grammar::specs::TableReaders::read_vectors))]
 pub fn vectors<'a>(
     alloc: Global,
     tokens: &'a [Token],

@@ -1,12 +1,12 @@
 -- Each front of the tokens of a transition or a diagram begins it, at each depth of nesting.
 use Rattle.std.proofs.Common.{ℕ, zero, suc, Bool, true, false, None}
-use Rattle.grammar.specs.Form.{Form}
+use Rattle.abel_grammar.specs.Form.{Form}
 use Rattle.abel_lexer.specs.declared.token.Token.{Token}
 use Rattle.abel_tree.specs.Tree.{Tree, Branch}
-use Rattle.abel_syntax.specs.declared.terminal.Terminal.TheVariants.{BraceOpen, BraceClose, With, Endwith, If, Then, Else, Case, Endcase, Colon, Semicolon, Goto, State, StateDiagram}
-use Rattle.abel_syntax.specs.Diagrams.{braced, listed, with_part, goal, is_open_arm, if_form, choice, case_form, goal_arm, arm, is_closed, ending, leading, trans, state, diagram}
-use Rattle.source_order.proofs.Expressions.{expr_takes}
-use Rattle.source_order.proofs.Forms.{takes_before}
+use Rattle.abel_grammar.specs.declared.terminal.Terminal.TheVariants.{BraceOpen, BraceClose, With, Endwith, If, Then, Else, Case, Endcase, Colon, Semicolon, Goto, State, StateDiagram}
+use Rattle.abel_grammar.specs.Diagrams.{braced, listed, with_part, goal, is_open_arm, if_form, choice, case_form, goal_arm, arm, is_closed, ending, leading, trans, state, diagram}
+use Rattle.abel_grammar.proofs.Expressions.{expr_takes}
+use Rattle.abel_grammar.proofs.Forms.{takes_before}
 use Rattle.text_fates.proofs.Forms.{Begun, followed_begun, then_begun, made_begun, or_begun, nothing_begun, some_begun, unless_begun, many_begun, lies, placed_begun}
 use Rattle.text_fates.proofs.Expressions.{one_begun, end_begun, expr_begun}
 use Rattle.text_fates.proofs.Statements.{stmt_begun, plain_stmt_begun}

@@ -1,7 +1,7 @@
 -- Each front of the tokens of a module begins it, at each depth of nesting.
 use Rattle.std.proofs.Common.{ℕ, []}
-use Rattle.abel_syntax.specs.declared.terminal.Terminal.TheVariants.{Declarations, Equations, Module, End, Title, Identifier}
-use Rattle.abel_syntax.specs.Modules.{declarations, equations, proper, dont_care_section, takes_dont_care, sections, options, first_decls, title, source}
+use Rattle.abel_grammar.specs.declared.terminal.Terminal.TheVariants.{Declarations, Equations, Module, End, Title, Identifier}
+use Rattle.abel_grammar.specs.Modules.{declarations, equations, proper, dont_care_section, takes_dont_care, sections, options, first_decls, title, source}
 use Rattle.text_fates.proofs.Forms.{Begun, followed_begun, then_begun, made_begun, or_begun, some_begun, unless_begun, many_begun}
 use Rattle.text_fates.proofs.Expressions.{one_begun, end_begun, name_begun, text_begun, dont_care_begun}
 use Rattle.text_fates.proofs.Statements.{stmt_begun}

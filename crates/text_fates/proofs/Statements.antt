@@ -1,11 +1,11 @@
 -- Each front of the tokens of a statement begins it, at each depth of nesting.
 use Rattle.std.proofs.Common.{ℕ, zero, suc, None}
-use Rattle.grammar.specs.Form.{Form}
+use Rattle.abel_grammar.specs.Form.{Form}
 use Rattle.abel_lexer.specs.declared.token.Token.{Token}
 use Rattle.abel_tree.specs.Tree.{Tree, Statement}
-use Rattle.abel_syntax.specs.declared.terminal.Terminal.TheVariants.{Not, Semicolon, When, Then, Else, BraceOpen, BraceClose}
-use Rattle.abel_syntax.specs.Statements.{bare_target, complemented_at, target, assign, dont_care_stmt, is_open, when, group, stmt, plain_stmt}
-use Rattle.source_order.proofs.Forms.{takes_token, takes_behind, takes_before}
+use Rattle.abel_grammar.specs.declared.terminal.Terminal.TheVariants.{Not, Semicolon, When, Then, Else, BraceOpen, BraceClose}
+use Rattle.abel_grammar.specs.Statements.{bare_target, complemented_at, target, assign, dont_care_stmt, is_open, when, group, stmt, plain_stmt}
+use Rattle.abel_grammar.proofs.Forms.{takes_token, takes_behind, takes_before}
 use Rattle.text_fates.proofs.Forms.{Begun, token_begun, followed_begun, then_begun, made_begun, or_begun, nothing_begun, some_begun, unless_begun, many_begun, lies, placed_begun}
 use Rattle.text_fates.proofs.Expressions.{one_begun, end_begun, dont_care_begun, name_tree_begun, expr_begun, set_at_begun}
 

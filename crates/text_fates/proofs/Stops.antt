@@ -2,8 +2,8 @@
 use Rattle.std.proofs.Common.{◌≡◌, ℕ, ◌+◌, ◌≤◌, ◌<◌, inl, inr, List, [], ◌++◌, length, take, drop, sym, subst, ◌∙◌, arith, append-nil}
 use Rattle.std.proofs.lemmas.Bool.{cases_lt}
 use Rattle.std.proofs.lemmas.List.{take-append-drop, take-take}
-use Rattle.grammar.specs.Form.{Form}
-use Rattle.grammar.specs.Verdict.{SpellsWhole, SyntaxAt, TooDeepAt}
+use Rattle.abel_grammar.specs.Form.{Form}
+use Rattle.abel_grammar.specs.Verdict.{SpellsWhole, SyntaxAt, TooDeepAt}
 use Rattle.abel_lexer.specs.declared.token.Token.{Token}
 use Rattle.text_fates.proofs.Forms.{Begun}
 

@@ -1,10 +1,10 @@
 -- Each front of the tokens of a truth table or of test vectors begins them, at each depth of nesting.
 use Rattle.std.proofs.Common.{ℕ, zero, suc, List}
 use Rattle.abel_tree.specs.Tree.{RowTree}
-use Rattle.abel_syntax.specs.declared.terminal.Terminal.{Terminal}
-use Rattle.abel_syntax.specs.declared.terminal.Terminal.TheVariants.{Open, Close, Semicolon, TruthTable, TestVectors}
-use Rattle.abel_syntax.specs.Tables.{Sides, row_as, header_as, table, vectors}
-use Rattle.source_order.proofs.Forms.{takes_token, takes_behind}
+use Rattle.abel_grammar.specs.declared.terminal.Terminal.{Terminal}
+use Rattle.abel_grammar.specs.declared.terminal.Terminal.TheVariants.{Open, Close, Semicolon, TruthTable, TestVectors}
+use Rattle.abel_grammar.specs.Tables.{Sides, row_as, header_as, table, vectors}
+use Rattle.abel_grammar.proofs.Forms.{takes_token, takes_behind}
 use Rattle.text_fates.proofs.Forms.{Begun, token_begun, then_begun, made_begun, nothing_begun, some_begun, many_begun, lies, placed_begun}
 use Rattle.text_fates.proofs.Expressions.{one_begun, text_begun, expr_begun}
 

@@ -1,9 +1,9 @@
 -- What reading gives is the verdict.
 use Rattle.std.proofs.Common.{◌≡◌, [], ◌∷◌, true, false, length, List, sym, ap, subst, ◌∙◌}
 use Rattle.abel_tree.specs.View.{view_module}
-use Rattle.abel_syntax.proofs.Verdict.{is_tree, is_only_tree}
-use Rattle.source_order.proofs.Modules.{places_lie}
-use Rattle.source_order.proofs.Sections.{places_rise}
+use Rattle.abel_grammar.proofs.Verdict.{is_tree, is_only_tree}
+use Rattle.abel_grammar.proofs.Modules.{places_lie}
+use Rattle.abel_grammar.proofs.Sections.{places_rise}
 use Rattle.abel_parser.proofs.Refused.{is_accepted, refused_syntax, refused_deep, refused_left, none_left}
 use Rattle.abel_parser.proofs.parsing.parse.Goals as goal
 

@@ -1,12 +1,12 @@
 -- Each turn reads one entry.
 use Rattle.std.proofs.Common.{◌≡◌, [], ◌∷◌, ◌++◌, length, map, sym, ◌∙◌}
 use Rattle.std.proofs.lemmas.List.{map_push}
-use Rattle.grammar.proofs.ListTurns.{list_turn}
-use Rattle.grammar.specs.Reading.{read_repeated}
+use Rattle.abel_grammar.proofs.ListTurns.{list_turn}
+use Rattle.abel_grammar.specs.Reading.{read_repeated}
 use Rattle.abel_tree.specs.View.{view_decl}
-use Rattle.abel_syntax.specs.Terminals.{among}
-use Rattle.abel_syntax.specs.DeclarationReaders.{decl_starts, read_decl}
-use Rattle.abel_syntax.proofs.Shorter.{decl_shorter}
+use Rattle.abel_grammar.specs.Terminals.{among}
+use Rattle.abel_grammar.specs.DeclarationReaders.{decl_starts, read_decl}
+use Rattle.abel_grammar.proofs.Shorter.{decl_shorter}
 use Rattle.declaration_parser.proofs.declarations.decls.Goals as goal
 
 pub list-smaller : goal.list-smaller

@@ -3,15 +3,15 @@ use Rattle.std.proofs.Common.{◌≡◌, ℕ, suc, [], ◌∷◌, ◌++◌, ◌-
 use Rattle.std.proofs.lemmas.Bool.Decides.{nat_tests}
 use Rattle.std.proofs.lemmas.Result.{err_from_is_err_and}
 use Rattle.std.proofs.lemmas.List.{map_push}
-use Rattle.grammar.specs.Reading.{read_made, ◌then_read◌}
-use Rattle.grammar.specs.Further.{read_times}
-use Rattle.grammar.proofs.ListTurns.{with_front}
-use Rattle.grammar.proofs.TimesTurns.{times_turn, times_fails}
+use Rattle.abel_grammar.specs.Reading.{read_made, ◌then_read◌}
+use Rattle.abel_grammar.specs.Further.{read_times}
+use Rattle.abel_grammar.proofs.ListTurns.{with_front}
+use Rattle.abel_grammar.proofs.TimesTurns.{times_turn, times_fails}
 use Rattle.abel_tree.specs.View.{view}
-use Rattle.abel_syntax.specs.declared.terminal.Terminal.TheVariants as terminal
-use Rattle.abel_syntax.specs.WordReaders.{read_one}
-use Rattle.abel_syntax.specs.ExpressionReaders.{read_expr}
-use Rattle.abel_syntax.specs.Declarations.{value_of}
+use Rattle.abel_grammar.specs.declared.terminal.Terminal.TheVariants as terminal
+use Rattle.abel_grammar.specs.WordReaders.{read_one}
+use Rattle.abel_grammar.specs.ExpressionReaders.{read_expr}
+use Rattle.abel_grammar.specs.Declarations.{value_of}
 use Rattle.declaration_parser.proofs.Stops.{fails_as}
 use Rattle.declaration_parser.proofs.declarations.values.Goals as goal
 

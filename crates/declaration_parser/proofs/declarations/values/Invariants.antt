@@ -1,13 +1,13 @@
 -- What was read before and what is still read is what is read from the start.
 use Rattle.std.proofs.Common.{◌≡◌, [], ◌∷◌, length, map}
-use Rattle.grammar.specs.Reading.{read_made, ◌then_read◌}
-use Rattle.grammar.specs.Further.{read_times}
-use Rattle.grammar.proofs.ListTurns.{with_front}
+use Rattle.abel_grammar.specs.Reading.{read_made, ◌then_read◌}
+use Rattle.abel_grammar.specs.Further.{read_times}
+use Rattle.abel_grammar.proofs.ListTurns.{with_front}
 use Rattle.abel_tree.specs.View.{view}
-use Rattle.abel_syntax.specs.declared.terminal.Terminal.TheVariants as terminal
-use Rattle.abel_syntax.specs.WordReaders.{read_one}
-use Rattle.abel_syntax.specs.ExpressionReaders.{read_expr}
-use Rattle.abel_syntax.specs.Declarations.{value_of}
+use Rattle.abel_grammar.specs.declared.terminal.Terminal.TheVariants as terminal
+use Rattle.abel_grammar.specs.WordReaders.{read_one}
+use Rattle.abel_grammar.specs.ExpressionReaders.{read_expr}
+use Rattle.abel_grammar.specs.Declarations.{value_of}
 use Rattle.declaration_parser.proofs.declarations.values.Given as goal
 
 abbrev pub invariant-list : goal.invariant-list

@@ -1,7 +1,7 @@
 -- What was read before and what is still read is what is read from the start.
 use Rattle.std.proofs.Common.{◌≡◌, length}
-use Rattle.grammar.proofs.ListTurns.{with_front}
-use Rattle.abel_syntax.specs.DeclarationReaders.{read_texts}
+use Rattle.abel_grammar.proofs.ListTurns.{with_front}
+use Rattle.abel_grammar.specs.DeclarationReaders.{read_texts}
 use Rattle.declaration_parser.proofs.items.texts.Given as goal
 
 abbrev pub invariant-list : goal.invariant-list

@@ -1,13 +1,13 @@
 -- Each turn reads one entry.
 use Rattle.std.proofs.Common.{◌≡◌, [], ◌∷◌, ◌++◌, length, map, sym, ◌∙◌}
 use Rattle.std.proofs.lemmas.List.{map_push}
-use Rattle.grammar.proofs.ListTurns.{list_turn}
-use Rattle.grammar.specs.Reading.{read_repeated}
+use Rattle.abel_grammar.proofs.ListTurns.{list_turn}
+use Rattle.abel_grammar.specs.Reading.{read_repeated}
 use Rattle.abel_tree.specs.View.{view_state}
-use Rattle.abel_syntax.specs.declared.terminal.Terminal.TheVariants as terminal
-use Rattle.abel_syntax.specs.Terminals.{among}
-use Rattle.abel_syntax.specs.DiagramReaders.{read_state}
-use Rattle.abel_syntax.proofs.Shorter.{state_shorter}
+use Rattle.abel_grammar.specs.declared.terminal.Terminal.TheVariants as terminal
+use Rattle.abel_grammar.specs.Terminals.{among}
+use Rattle.abel_grammar.specs.DiagramReaders.{read_state}
+use Rattle.abel_grammar.proofs.Shorter.{state_shorter}
 use Rattle.diagram_parser.proofs.diagrams.states.Goals as goal
 
 pub list-smaller : goal.list-smaller

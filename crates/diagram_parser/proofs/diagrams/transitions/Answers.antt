@@ -1,12 +1,12 @@
 -- Each turn reads one entry.
 use Rattle.std.proofs.Common.{◌≡◌, [], ◌∷◌, ◌++◌, length, map, sym, ◌∙◌}
 use Rattle.std.proofs.lemmas.List.{map_push}
-use Rattle.grammar.proofs.ListTurns.{list_turn}
-use Rattle.grammar.specs.Reading.{read_repeated}
+use Rattle.abel_grammar.proofs.ListTurns.{list_turn}
+use Rattle.abel_grammar.specs.Reading.{read_repeated}
 use Rattle.abel_tree.specs.View.{view_arm}
-use Rattle.abel_syntax.specs.Terminals.{among}
-use Rattle.abel_syntax.specs.DiagramReaders.{trans_starts, read_trans}
-use Rattle.abel_syntax.proofs.Shorter.{trans_shorter}
+use Rattle.abel_grammar.specs.Terminals.{among}
+use Rattle.abel_grammar.specs.DiagramReaders.{trans_starts, read_trans}
+use Rattle.abel_grammar.proofs.Shorter.{trans_shorter}
 use Rattle.diagram_parser.proofs.diagrams.transitions.Goals as goal
 
 pub list-smaller : goal.list-smaller

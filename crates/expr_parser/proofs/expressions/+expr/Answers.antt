@@ -1,15 +1,15 @@
 -- Each turn reads one entry.
 use Rattle.std.proofs.Common.{◌≡◌, [], ◌∷◌, ◌++◌, map, sym, ◌∙◌}
 use Rattle.std.proofs.lemmas.List.{map_push}
-use Rattle.grammar.proofs.ChainTurns.{chain_turn}
-use Rattle.grammar.proofs.SeparatedTurns.{separated_turn, separated_shorter}
+use Rattle.abel_grammar.proofs.ChainTurns.{chain_turn}
+use Rattle.abel_grammar.proofs.SeparatedTurns.{separated_turn, separated_shorter}
 use Rattle.abel_tree.specs.View.{view, view_member}
-use Rattle.abel_syntax.specs.declared.terminal.Terminal.TheVariants as terminal
-use Rattle.abel_syntax.specs.Terminals.{among}
-use Rattle.abel_syntax.specs.WordReaders.{read_apart_by}
-use Rattle.abel_syntax.specs.Expressions.{products, sums, relations, joined}
-use Rattle.abel_syntax.specs.ExpressionReaders.{read_link, read_level, read_member, read_operand, read_expr}
-use Rattle.abel_syntax.proofs.Shorter.{product_link_shorter, sum_link_shorter, relation_link_shorter, member_shorter}
+use Rattle.abel_grammar.specs.declared.terminal.Terminal.TheVariants as terminal
+use Rattle.abel_grammar.specs.Terminals.{among}
+use Rattle.abel_grammar.specs.WordReaders.{read_apart_by}
+use Rattle.abel_grammar.specs.Expressions.{products, sums, relations, joined}
+use Rattle.abel_grammar.specs.ExpressionReaders.{read_link, read_level, read_member, read_operand, read_expr}
+use Rattle.abel_grammar.proofs.Shorter.{product_link_shorter, sum_link_shorter, relation_link_shorter, member_shorter}
 use Rattle.expr_parser.proofs.expressions.+expr.Goals as goal
 
 pub product-links-smaller : goal.product-links-smaller

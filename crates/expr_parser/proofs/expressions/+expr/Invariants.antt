@@ -1,14 +1,14 @@
 -- What was read before and what is still read is what is read from the start; and how deep calls go.
 use Rattle.std.proofs.Common.{◌≡◌, length, map, [], ◌∷◌, ◌+◌, ◌*◌}
-use Rattle.grammar.proofs.ListTurns.{with_front}
-use Rattle.grammar.proofs.ChainTurns.{go_on}
-use Rattle.grammar.specs.Reading.{read_repeated}
+use Rattle.abel_grammar.proofs.ListTurns.{with_front}
+use Rattle.abel_grammar.proofs.ChainTurns.{go_on}
+use Rattle.abel_grammar.specs.Reading.{read_repeated}
 use Rattle.abel_tree.specs.View.{view, view_member}
-use Rattle.abel_syntax.specs.declared.terminal.Terminal.TheVariants as terminal
-use Rattle.abel_syntax.specs.Terminals.{among}
-use Rattle.abel_syntax.specs.WordReaders.{read_apart_by}
-use Rattle.abel_syntax.specs.Expressions.{products, sums, relations, joined}
-use Rattle.abel_syntax.specs.ExpressionReaders.{read_link, read_level, read_member, read_operand, read_expr}
+use Rattle.abel_grammar.specs.declared.terminal.Terminal.TheVariants as terminal
+use Rattle.abel_grammar.specs.Terminals.{among}
+use Rattle.abel_grammar.specs.WordReaders.{read_apart_by}
+use Rattle.abel_grammar.specs.Expressions.{products, sums, relations, joined}
+use Rattle.abel_grammar.specs.ExpressionReaders.{read_link, read_level, read_member, read_operand, read_expr}
 use Rattle.expr_parser.proofs.expressions.+expr.Given as goal
 
 abbrev pub decreases-operand : goal.decreases-operand

@@ -1,13 +1,13 @@
 -- Each turn reads one list.
 use Rattle.std.proofs.Common.{◌≡◌, [], ◌∷◌, ◌++◌, length, map, sym, ◌∙◌}
 use Rattle.std.proofs.lemmas.List.{map-append}
-use Rattle.grammar.specs.Reading.{read_repeated}
-use Rattle.grammar.proofs.JoinedTurns.{lists_turn}
-use Rattle.abel_syntax.specs.Terminals.{among}
-use Rattle.abel_syntax.specs.Declarations.{option_words}
-use Rattle.abel_syntax.specs.DeclarationReaders.{read_option}
-use Rattle.abel_syntax.specs.ModuleReaders.{read_options}
-use Rattle.abel_syntax.proofs.Shorter.{option_shorter}
+use Rattle.abel_grammar.specs.Reading.{read_repeated}
+use Rattle.abel_grammar.proofs.JoinedTurns.{lists_turn}
+use Rattle.abel_grammar.specs.Terminals.{among}
+use Rattle.abel_grammar.specs.Declarations.{option_words}
+use Rattle.abel_grammar.specs.DeclarationReaders.{read_option}
+use Rattle.abel_grammar.specs.ModuleReaders.{read_options}
+use Rattle.abel_grammar.proofs.Shorter.{option_shorter}
 use Rattle.module_parser.proofs.module.options.Goals as goal
 
 pub list-smaller : goal.list-smaller

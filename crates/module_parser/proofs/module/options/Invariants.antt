@@ -1,11 +1,11 @@
 -- What was read before and what is still read is what is read from the start.
 use Rattle.std.proofs.Common.{◌≡◌, [], ◌∷◌, length, map}
-use Rattle.grammar.specs.Reading.{read_repeated}
-use Rattle.grammar.proofs.JoinedTurns.{with_lists}
-use Rattle.abel_syntax.specs.Terminals.{among}
-use Rattle.abel_syntax.specs.Declarations.{option_words}
-use Rattle.abel_syntax.specs.DeclarationReaders.{read_option}
-use Rattle.abel_syntax.specs.ModuleReaders.{read_options}
+use Rattle.abel_grammar.specs.Reading.{read_repeated}
+use Rattle.abel_grammar.proofs.JoinedTurns.{with_lists}
+use Rattle.abel_grammar.specs.Terminals.{among}
+use Rattle.abel_grammar.specs.Declarations.{option_words}
+use Rattle.abel_grammar.specs.DeclarationReaders.{read_option}
+use Rattle.abel_grammar.specs.ModuleReaders.{read_options}
 use Rattle.module_parser.proofs.module.options.Given as goal
 
 abbrev pub invariant-list : goal.invariant-list

@@ -1,12 +1,12 @@
 -- Each turn reads one list.
 use Rattle.std.proofs.Common.{◌≡◌, [], ◌∷◌, ◌++◌, length, map, sym, ◌∙◌}
 use Rattle.std.proofs.lemmas.List.{map-append}
-use Rattle.grammar.specs.Reading.{read_repeated}
-use Rattle.grammar.proofs.JoinedTurns.{lists_turn}
+use Rattle.abel_grammar.specs.Reading.{read_repeated}
+use Rattle.abel_grammar.proofs.JoinedTurns.{lists_turn}
 use Rattle.abel_tree.specs.View.{view_section}
-use Rattle.abel_syntax.specs.Terminals.{among}
-use Rattle.abel_syntax.specs.ModuleReaders.{proper_starts, read_section_group, read_sections}
-use Rattle.abel_syntax.proofs.Shorter.{section_group_shorter}
+use Rattle.abel_grammar.specs.Terminals.{among}
+use Rattle.abel_grammar.specs.ModuleReaders.{proper_starts, read_section_group, read_sections}
+use Rattle.abel_grammar.proofs.Shorter.{section_group_shorter}
 use Rattle.module_parser.proofs.sections.sections.Goals as goal
 
 pub list-smaller : goal.list-smaller
