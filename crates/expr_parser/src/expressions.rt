@@ -9,14 +9,14 @@ ghost use Rattle.abel_grammar.specs.ExpressionReaders.{read_link, read_level, re
 
 use crate::lists::packed;
 use crate::operands::{at_range, simple, span_member};
+use crate::operators::{binary_of, join, unary_of};
+use crate::signs::{
+    begins_product, begins_relation, begins_sum, product_sign, relation_sign, sum_sign,
+};
 use crate::words::{extension_in, maybe};
 use abel_grammar::{Halt, Terminal, behind, expect, starts, terminal_of};
 use abel_lexer::Token;
 use abel_tree::{Expr, Member};
-use operator_signs::{
-    begins_product, begins_relation, begins_sum, binary_of, join, product_sign, relation_sign,
-    sum_sign, unary_of,
-};
 use pld_base::Boxed;
 use std::alloc::Global;
 
