@@ -13,8 +13,8 @@ use crate::fault::ParseFault;
 use abel_grammar::Halt;
 use abel_lexer::Token;
 use abel_tree::Module;
-use module_parser::source;
 use pld_base::Place;
+use section_parsers::source;
 use std::alloc::Global;
 
 /// How many constructs may be open round a token.

@@ -1,1 +1,0 @@
-use Rattle.declaration_parser.proofs.declarations.bare_names.Goals as goal

@@ -1,7 +1,0 @@
-//! Sections and modules from tokens.
-#![tactic(auto)]
-
-mod module;
-mod sections;
-
-pub use module::source;

@@ -1,0 +1,2 @@
+mod LastState
+mod Stops

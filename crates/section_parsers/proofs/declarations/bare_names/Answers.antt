@@ -1,0 +1,1 @@
+use Rattle.section_parsers.proofs.declarations.bare_names.Goals as goal

@@ -1,0 +1,18 @@
+-- Each turn reads one entry.
+use Rattle.std.proofs.Common.{◌≡◌, [], ◌∷◌, ◌++◌, length, map, sym, ◌∙◌}
+use Rattle.std.proofs.lemmas.List.{map_push}
+use Rattle.abel_grammar.proofs.ListTurns.{list_turn}
+use Rattle.abel_tree.specs.View.{view_vector_row}
+use Rattle.abel_grammar.specs.Terminals.{among}
+use Rattle.abel_grammar.specs.TableReaders.{expr_starts, read_vector_row, read_vector_rows}
+use Rattle.abel_grammar.proofs.Shorter.{vector_row_shorter}
+use Rattle.section_parsers.proofs.test_vectors.vector_rows.Goals as goal
+
+pub list-smaller : goal.list-smaller
+list-smaller c = vector_row_shorter c.args.depth c.list.rest.now (view_vector_row c.in_ok-next.next, c.in_ok-next.after.now) c.in_ok-next.ensures
+
+pub list-preserved : goal.list-preserved
+list-preserved c =
+    let e : map view_vector_row c.push.new.self.items ≡ map view_vector_row c.list.list.items ++ view_vector_row c.in_ok-next.next ∷ [] = rw c.in_ok-push.ensures.items (map_push _ c.list.list.items c.in_ok-next.next) in
+    rw e (list_turn (read_vector_row c.args.depth) (among expr_starts) (vector_row_shorter c.args.depth) (map view_vector_row c.list.list.items) c.list.rest.now (view_vector_row c.in_ok-next.next, c.in_ok-next.after.now)
+    (read_vector_rows c.args.depth c.args.tokens.now) (sym c.starts.ensures ∙ c.list-test.true) c.in_ok-next.ensures c.list.invariant)

@@ -1,7 +1,0 @@
-//! Statements from tokens.
-#![tactic(auto)]
-
-mod assignments;
-mod statements;
-
-pub use statements::{plain, stmts};

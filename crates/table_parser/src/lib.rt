@@ -1,9 +1,0 @@
-//! Truth tables and test vectors from tokens.
-#![tactic(auto)]
-
-mod sides;
-mod tables;
-mod test_vectors;
-
-pub use tables::table;
-pub use test_vectors::vectors;
