@@ -9,7 +9,7 @@ use Rattle.decls.specs.NameRefusals.{name_refusals}
 use Rattle.fitter.specs.declared.fault.FitFault.{FitFault}
 use Rattle.module_reader.specs.declared.fault.ReadFault.TheVariants as reading
 use Rattle.placer.specs.declared.fault.PlaceFault.{PlaceFault}
-use Rattle.text_fates.proofs.Fates.{read_or_not, one_module}
+use Rattle.module_reader.proofs.Fates.{read_or_not, one_module}
 use Rattle.abel_compile.specs.declared.compiled.Compiled.{Compiled}
 use Rattle.compile_phases.specs.declared.fault.SourceFault.{SourceFault}
 use Rattle.compile_phases.specs.declared.fault.SourceFault.TheVariants.{Expand, Scan, Parse, Names, Sections, Design, Width}

@@ -10,7 +10,7 @@ use Rattle.decls.specs.FaultOrder.{name_order}
 use Rattle.decls.specs.NameRefusals.{name_refusals}
 use Rattle.module_reader.specs.declared.fault.ReadFault.TheVariants as reading
 use Rattle.module_reader.specs.Texts.{SpellsModule, IsRead}
-use Rattle.text_fates.proofs.Fates.{read_or_not}
+use Rattle.module_reader.proofs.Fates.{read_or_not}
 use Rattle.abel_compile.specs.declared.compiled.Compiled.{Compiled}
 use Rattle.compile_phases.specs.declared.fault.CompileFault.{CompileFault}
 use Rattle.compile_phases.specs.declared.fault.CompileFault.TheVariants.{Source, Place, Fit, OutOfMemory}

@@ -4,7 +4,7 @@ ghost use Rattle.compile_phases.specs.Phases.{FitsCanBeTold, ReadNamesArePlain, 
 
 use assigned_signals::sound_modules_are_accepted;
 use fitted_files::fitted_is_intact;
-use module_names::module_names_are_plain;
+use module_reader::module_names_are_plain;
 use named_designs::names_are_accepted;
 use summary_line::summary_counts_the_design;
 

@@ -1,2 +1,13 @@
+pub mod Declarations
+pub mod Diagrams
 pub mod Ends
+pub mod Expansions
+pub mod Expressions
+pub mod Fates
+pub mod Forms
+pub mod Modules
+pub mod PlainNames
 pub mod Read
+pub mod Statements
+pub mod Stops
+pub mod Tables

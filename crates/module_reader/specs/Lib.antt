@@ -1,1 +1,3 @@
+pub mod Correct
+pub mod Fates
 pub mod Texts

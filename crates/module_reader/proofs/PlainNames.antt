@@ -18,7 +18,7 @@ use Rattle.abel_grammar.specs.Terminals.{among, look_up, number_of, signs, termi
 use Rattle.abel_grammar.specs.Words.{name}
 use Rattle.jedec_file.specs.CanonicalFile.{IsPlainName}
 use Rattle.jedec_file.specs.FileText.{ETX}
-use Rattle.module_names.specs.Correct.{ModuleNamesArePlain}
+use Rattle.module_reader.specs.Correct.{ModuleNamesArePlain}
 
 -- ---- bytes
 

@@ -6,8 +6,8 @@ use Rattle.abel_tree.specs.Tree.{Tree, Statement}
 use Rattle.abel_grammar.specs.declared.terminal.Terminal.TheVariants.{Not, Semicolon, When, Then, Else, BraceOpen, BraceClose}
 use Rattle.abel_grammar.specs.Statements.{bare_target, complemented_at, target, assign, dont_care_stmt, is_open, when, group, stmt, plain_stmt}
 use Rattle.abel_grammar.proofs.Forms.{takes_token, takes_behind, takes_before}
-use Rattle.text_fates.proofs.Forms.{Begun, token_begun, followed_begun, then_begun, made_begun, or_begun, nothing_begun, some_begun, unless_begun, many_begun, lies, placed_begun}
-use Rattle.text_fates.proofs.Expressions.{one_begun, end_begun, dont_care_begun, name_tree_begun, expr_begun, set_at_begun}
+use Rattle.module_reader.proofs.Forms.{Begun, token_begun, followed_begun, then_begun, made_begun, or_begun, nothing_begun, some_begun, unless_begun, many_begun, lies, placed_begun}
+use Rattle.module_reader.proofs.Expressions.{one_begun, end_begun, dont_care_begun, name_tree_begun, expr_begun, set_at_begun}
 
 -- ---- assignments
 

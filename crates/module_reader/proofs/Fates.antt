@@ -18,10 +18,10 @@ use Rattle.abel_parser.specs.Refusals.{IsAccepted, IsRefused, place_at}
 use Rattle.module_reader.specs.declared.fault.ReadFault.TheVariants.{Expand, Scan, Parse, OutOfMemory}
 use Rattle.module_reader.specs.Texts.{HasTokens, IsNotScanned}
 use Rattle.module_reader.proofs.Ends.{expanded_once}
-use Rattle.text_fates.specs.Fates.{TextIsReadOrNot, TextHasOneRefusal, TextSpellsOneModule}
-use Rattle.text_fates.proofs.Expansions.{no_refusal, one_refusal}
-use Rattle.text_fates.proofs.Modules.{source_begun}
-use Rattle.text_fates.proofs.Stops.{no_syntax, no_too_deep, syntax_once, deep_once, either_stop}
+use Rattle.module_reader.specs.Fates.{TextIsReadOrNot, TextHasOneRefusal, TextSpellsOneModule}
+use Rattle.module_reader.proofs.Expansions.{no_refusal, one_refusal}
+use Rattle.module_reader.proofs.Modules.{source_begun}
+use Rattle.module_reader.proofs.Stops.{no_syntax, no_too_deep, syntax_once, deep_once, either_stop}
 
 -- ---- the tokens of a text are one
 

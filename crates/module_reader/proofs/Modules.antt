@@ -2,12 +2,12 @@
 use Rattle.std.proofs.Common.{ℕ, []}
 use Rattle.abel_grammar.specs.declared.terminal.Terminal.TheVariants.{Declarations, Equations, Module, End, Title, Identifier}
 use Rattle.abel_grammar.specs.Modules.{declarations, equations, proper, dont_care_section, takes_dont_care, sections, options, first_decls, title, source}
-use Rattle.text_fates.proofs.Forms.{Begun, followed_begun, then_begun, made_begun, or_begun, some_begun, unless_begun, many_begun}
-use Rattle.text_fates.proofs.Expressions.{one_begun, end_begun, name_begun, text_begun, dont_care_begun}
-use Rattle.text_fates.proofs.Statements.{stmt_begun}
-use Rattle.text_fates.proofs.Declarations.{option_begun, decl_begun, other_decl_begun}
-use Rattle.text_fates.proofs.Diagrams.{diagram_begun}
-use Rattle.text_fates.proofs.Tables.{table_begun, vectors_begun}
+use Rattle.module_reader.proofs.Forms.{Begun, followed_begun, then_begun, made_begun, or_begun, some_begun, unless_begun, many_begun}
+use Rattle.module_reader.proofs.Expressions.{one_begun, end_begun, name_begun, text_begun, dont_care_begun}
+use Rattle.module_reader.proofs.Statements.{stmt_begun}
+use Rattle.module_reader.proofs.Declarations.{option_begun, decl_begun, other_decl_begun}
+use Rattle.module_reader.proofs.Diagrams.{diagram_begun}
+use Rattle.module_reader.proofs.Tables.{table_begun, vectors_begun}
 
 -- ---- sections
 

@@ -5,8 +5,8 @@ use Rattle.abel_grammar.specs.declared.terminal.Terminal.{Terminal}
 use Rattle.abel_grammar.specs.declared.terminal.Terminal.TheVariants.{Open, Close, Semicolon, TruthTable, TestVectors}
 use Rattle.abel_grammar.specs.Tables.{Sides, row_as, header_as, table, vectors}
 use Rattle.abel_grammar.proofs.Forms.{takes_token, takes_behind}
-use Rattle.text_fates.proofs.Forms.{Begun, token_begun, then_begun, made_begun, nothing_begun, some_begun, many_begun, lies, placed_begun}
-use Rattle.text_fates.proofs.Expressions.{one_begun, text_begun, expr_begun}
+use Rattle.module_reader.proofs.Forms.{Begun, token_begun, then_begun, made_begun, nothing_begun, some_begun, many_begun, lies, placed_begun}
+use Rattle.module_reader.proofs.Expressions.{one_begun, text_begun, expr_begun}
 
 row_begun : (of : Sides → RowTree) (signs : List Terminal) (n : ℕ) → Begun (row_as of signs n)
 unfolding row_as

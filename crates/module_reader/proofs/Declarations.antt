@@ -7,8 +7,8 @@ use Rattle.abel_tree.specs.Tree.{Tree}
 use Rattle.abel_grammar.specs.declared.terminal.Terminal.{Terminal}
 use Rattle.abel_grammar.specs.declared.terminal.Terminal.TheVariants.{Not, Range, Istype, Device, Pin, Node, Semicolon, Comma, Equal}
 use Rattle.abel_grammar.specs.Declarations.{item, names, num, nums, texts, istype, option, device, kept, pins, nodes, attributes, values_for, constants, naming, option_decl, dont_care_decl, decl, other_decl}
-use Rattle.text_fates.proofs.Forms.{Begun, token_begun, followed_begun, then_begun, made_begun, or_begun, nothing_begun, some_begun, apart_begun, times_begun}
-use Rattle.text_fates.proofs.Expressions.{one_begun, end_begun, name_begun, number_begun, text_begun, dont_care_begun, expr_begun}
+use Rattle.module_reader.proofs.Forms.{Begun, token_begun, followed_begun, then_begun, made_begun, or_begun, nothing_begun, some_begun, apart_begun, times_begun}
+use Rattle.module_reader.proofs.Expressions.{one_begun, end_begun, name_begun, number_begun, text_begun, dont_care_begun, expr_begun}
 
 -- ---- items, numbers and strings
 

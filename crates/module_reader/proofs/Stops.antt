@@ -5,7 +5,7 @@ use Rattle.std.proofs.lemmas.List.{take-append-drop, take-take}
 use Rattle.abel_grammar.specs.Form.{Form}
 use Rattle.abel_grammar.specs.Verdict.{SpellsWhole, SyntaxAt, TooDeepAt}
 use Rattle.abel_lexer.specs.declared.token.Token.{Token}
-use Rattle.text_fates.proofs.Forms.{Begun}
+use Rattle.module_reader.proofs.Forms.{Begun}
 
 module _ {A : Type 0} (form : ℕ → Form Token A) (depth : ℕ) (begun : (n : ℕ) → Begun (form n)) (ts : List Token) where
   fewer : (n k m : ℕ) → k ≤ m → (form n).begins (take m ts) → (form n).begins (take k ts)

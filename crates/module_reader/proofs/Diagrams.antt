@@ -7,9 +7,9 @@ use Rattle.abel_grammar.specs.declared.terminal.Terminal.TheVariants.{BraceOpen,
 use Rattle.abel_grammar.specs.Diagrams.{braced, listed, with_part, goal, is_open_arm, if_form, choice, case_form, goal_arm, arm, is_closed, ending, leading, trans, state, diagram}
 use Rattle.abel_grammar.proofs.Expressions.{expr_takes}
 use Rattle.abel_grammar.proofs.Forms.{takes_before}
-use Rattle.text_fates.proofs.Forms.{Begun, followed_begun, then_begun, made_begun, or_begun, nothing_begun, some_begun, unless_begun, many_begun, lies, placed_begun}
-use Rattle.text_fates.proofs.Expressions.{one_begun, end_begun, expr_begun}
-use Rattle.text_fates.proofs.Statements.{stmt_begun, plain_stmt_begun}
+use Rattle.module_reader.proofs.Forms.{Begun, followed_begun, then_begun, made_begun, or_begun, nothing_begun, some_begun, unless_begun, many_begun, lies, placed_begun}
+use Rattle.module_reader.proofs.Expressions.{one_begun, end_begun, expr_begun}
+use Rattle.module_reader.proofs.Statements.{stmt_begun, plain_stmt_begun}
 
 -- ---- WITH and goals
 

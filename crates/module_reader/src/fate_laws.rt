@@ -1,6 +1,6 @@
 //! The laws of a text's fate, as the contracts of calls that do nothing.
 
-ghost use Rattle.text_fates.specs.Fates.{TextIsReadOrNot, TextHasOneRefusal, TextSpellsOneModule};
+ghost use Rattle.module_reader.specs.Fates.{TextIsReadOrNot, TextHasOneRefusal, TextSpellsOneModule};
 
 /// A text that is read is refused for nothing but want of memory. Does nothing.
 pub fn a_text_is_read_or_refused()

@@ -1,5 +1,0 @@
-use Rattle.module_names.proofs.PlainNames.{name_is_plain}
-use Rattle.module_names.proofs.laws.module_names_are_plain.Goals as goal
-
-pub returns : goal.returns
-returns c = name_is_plain
