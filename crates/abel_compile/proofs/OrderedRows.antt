@@ -15,9 +15,9 @@ use Rattle.fit_laws.proofs.WantedIds.{wanted_is}
 use Rattle.fitter.specs.declared.answer.Fitted.{Fitted}
 use Rattle.fitter.specs.Answers.{IsFitOf}
 use Rattle.fitter.specs.Order.{AreRowsInOrder}
-use Rattle.gathered.specs.Gathered.{netlist_of, wanted_for}
-use Rattle.gathered.proofs.CellsFound.{wanted_found}
-use Rattle.prime_rows.specs.Correct.{IsAssignedCell}
+use Rattle.netlist_laws.specs.Gathered.{netlist_of, wanted_for}
+use Rattle.netlist_laws.proofs.CellsFound.{wanted_found}
+use Rattle.netlist_laws.specs.PrimeCorrect.{IsAssignedCell}
 
 module _ (t : Table) (m : ModuleTree) (net : Netlist) (fitted : Fitted) (laws : IsDevice t) (same : plain_netlist net ≡ netlist_of t m) (fits : IsFitOf t net fitted) (c : ℕ) (low : c < length t.cells)
     (assigned : IsAssignedCell (design_of t m).context c) where

@@ -11,12 +11,12 @@ use Rattle.abel_tree.specs.Tree.{ModuleTree}
 use Rattle.abel_meaning.specs.Designs.{design_of}
 use Rattle.abel_meaning.specs.Kinds.{names_of}
 use Rattle.abel_meaning.specs.Vectors.{source_vectors}
-use Rattle.fitted.specs.Correct.{DoesWhatItSays}
+use Rattle.netlist_laws.specs.FittedCorrect.{DoesWhatItSays}
 use Rattle.fuse_listing.specs.Listing.{listing_text}
 use Rattle.summary_line.specs.Summary.{design_cells, summary_of}
 use Rattle.fitter.specs.declared.answer.Fitted.{Fitted}
 use Rattle.fitter.specs.Answers.{IsFitOf}
-use Rattle.gathered.specs.Takeable.{IsTakeable}
+use Rattle.netlist_laws.specs.Takeable.{IsTakeable}
 use Rattle.abel_compile.specs.declared.compiled.Compiled.{Compiled}
 use Rattle.abel_compile.specs.Correct.{AreFusesOf}
 use Rattle.abel_compile.specs.Statement.{fuses_and_vectors}

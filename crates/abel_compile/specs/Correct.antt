@@ -14,13 +14,13 @@ use Rattle.abel_meaning.specs.Designs.{design_of}
 use Rattle.abel_meaning.specs.Kinds.{names_of}
 use Rattle.abel_meaning.specs.Vectors.{source_vectors}
 use Rattle.module_reader.specs.Texts.{SpellsModule, IsRead}
-use Rattle.gathered.specs.Takeable.{IsTakeable}
-use Rattle.fitted.specs.Fitting.{IsSpareCell}
+use Rattle.netlist_laws.specs.Takeable.{IsTakeable}
+use Rattle.netlist_laws.specs.Fitting.{IsSpareCell}
 use Rattle.fitter.specs.Order.{AreRowsInOrder}
 use Rattle.fuse_listing.specs.Listing.{listing_text}
-use Rattle.prime_rows.specs.Controls.{HasControlRows}
-use Rattle.prime_rows.specs.Correct.{IsAssignedCell, IsUnassignedCell}
-use Rattle.prime_rows.specs.Covers.{HasPrimeRows}
+use Rattle.netlist_laws.specs.Controls.{HasControlRows}
+use Rattle.netlist_laws.specs.PrimeCorrect.{IsAssignedCell, IsUnassignedCell}
+use Rattle.netlist_laws.specs.ModuleCovers.{HasPrimeRows}
 use Rattle.summary_line.specs.Summary.{design_cells, summary_of}
 use Rattle.abel_compile.specs.declared.compiled.Compiled.{Compiled}
 use Rattle.abel_compile.specs.Statement.{IsRightFile}

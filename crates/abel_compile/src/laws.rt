@@ -3,9 +3,10 @@
 ghost use Rattle.abel_compile.specs.Compiling.{FitsAreRight};
 
 use device_sim::vectors_disagree_alike;
-use fitted::through_a_netlist;
-use fitted_files::{fitted_has_no_loop, fitted_has_no_reset_path};
-use prime_rows::{fitted_controls_are_own, fitted_rows_are_prime, fitted_spares_are_unused};
+use netlist_laws::{
+    fitted_controls_are_own, fitted_has_no_loop, fitted_has_no_reset_path, fitted_rows_are_prime,
+    fitted_spares_are_unused, through_a_netlist,
+};
 
 /// The fuses of a module's netlist are those of the module. Does nothing.
 pub(crate) fn fits_are_right()

@@ -23,9 +23,9 @@ use Rattle.abel_meaning.specs.Targets.{targets_of, all_targets, some_signals}
 use Rattle.abel_meaning.specs.Terms.{Term, Terms, term_of}
 use Rattle.abel_meaning.specs.Terms as term
 use Rattle.abel_meaning.specs.Values.{constant_of}
-use Rattle.gathered.specs.Gathered.{cell_of}
-use Rattle.gathered.specs.SignalUses.{SignalUse, term_uses, all_term_uses, reads_of_terms}
-use Rattle.gathered.specs.Takeable.{is_kept, is_enabled_by_row, is_row}
+use Rattle.netlist_laws.specs.Gathered.{cell_of}
+use Rattle.netlist_laws.specs.SignalUses.{SignalUse, term_uses, all_term_uses, reads_of_terms}
+use Rattle.netlist_laws.specs.Takeable.{is_kept, is_enabled_by_row, is_row}
 use Rattle.design_uses.specs.LocatedUses.{PlacedUse}
 use Rattle.design_uses.specs.SectionUses.{is_by_pin, is_cell_by_pin, is_enabled_by_pin, is_compared_by, is_compared, expression_uses, statement_uses, else_uses, statements_uses, with_uses, branch_uses, other_uses, choices_uses, branches_uses, states_uses, section_uses, sections_uses}
 use Rattle.design_uses.proofs.UsesRead.{uses_read}

@@ -19,8 +19,8 @@ use Rattle.set_expr.specs.declared.contributions.Contribution as code
 use Rattle.set_expr.specs.Given.{view_contribution}
 use Rattle.design_refusals.specs.declared.rules.Rule.TheVariants as rule
 use Rattle.design_refusals.specs.Refused.{lacks_control, all_refused}
-use Rattle.gathered.specs.SignalUses.{SignalUse, given_uses}
-use Rattle.gathered.proofs.SourcedFormulas.{Sourced, sourced_contributions, formulas_are, uses_are}
+use Rattle.netlist_laws.specs.SignalUses.{SignalUse, given_uses}
+use Rattle.netlist_laws.proofs.SourcedFormulas.{Sourced, sourced_contributions, formulas_are, uses_are}
 use Rattle.design_uses.specs.LocatedUses.{PlacedUse}
 use Rattle.design_uses.specs.SectionUses.{design_uses}
 use Rattle.accepted_designs.specs.Accepted.{HaveBareHeaders}

@@ -9,7 +9,7 @@ use Rattle.abel_meaning.specs.Designs.{Context, Design, name_at, is_stored, foll
 use Rattle.abel_meaning.specs.Functions.{is_data_to}
 use Rattle.abel_meaning.specs.SignalReads.{given_formulas}
 use Rattle.abel_meaning.specs.Terms.{Term, Terms, Read, Set, NoTerm, Before, known_of, term_of}
-use Rattle.gathered.specs.Takeable.{PinsApart, NodesAreFew, MayChoose}
+use Rattle.netlist_laws.specs.Takeable.{PinsApart, NodesAreFew, MayChoose}
 
 -- ---- names
 

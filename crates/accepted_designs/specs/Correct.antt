@@ -4,7 +4,7 @@ use Rattle.pld_device.specs.Laws.{IsDevice}
 use Rattle.bit_expr.specs.Formulas.{Formula}
 use Rattle.abel_meaning.specs.Designs.{Design}
 use Rattle.abel_meaning.specs.SignalReads.{given_formulas}
-use Rattle.gathered.specs.Takeable.{IsTakeable}
+use Rattle.netlist_laws.specs.Takeable.{IsTakeable}
 use Rattle.set_expr.specs.declared.contributions.Contribution.{Contribution}
 use Rattle.set_expr.specs.Given.{view_contribution}
 use Rattle.accepted_designs.specs.Accepted.{IsAccepted}

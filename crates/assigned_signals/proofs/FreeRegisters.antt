@@ -27,7 +27,7 @@ use Rattle.abel_meaning.specs.Targets.{targets_of, all_targets, some_signals, is
 use Rattle.abel_meaning.specs.Terms.{Term, Terms, Number, X, Pulse, Release, Read, Set, UnaryOf, BinaryOf, NoTerm, Before, term_of}
 use Rattle.section_targets.specs.TargetSignals.{names_signals, all_name_signals}
 use Rattle.section_targets.proofs.SignalLists.{some_append}
-use Rattle.gathered.specs.Takeable.{HasNoEquation, MayChoose}
+use Rattle.netlist_laws.specs.Takeable.{HasNoEquation, MayChoose}
 use Rattle.accepted_designs.specs.Accepted.{FreeMayChoose}
 use Rattle.name_kinds.proofs.Spreading.{among}
 use Rattle.assigned_signals.specs.Correct.{bare_signals, all_bare_signals}

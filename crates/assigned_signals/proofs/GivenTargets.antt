@@ -19,7 +19,7 @@ use Rattle.abel_meaning.specs.Statements.{sign_gives, given_each, statement_give
 use Rattle.abel_meaning.specs.Tables.{row_matches, level_gives, match_of, outputs_given, rows_give, no_matches, table_gives}
 use Rattle.abel_meaning.specs.Targets.{targets_of, some_signals}
 use Rattle.abel_meaning.specs.Terms.{Term, term_of}
-use Rattle.gathered.proofs.SourcedFormulas.{word_length}
+use Rattle.netlist_laws.proofs.SourcedFormulas.{word_length}
 use Rattle.assigned_signals.proofs.NamedTerms.{signals_in}
 
 or_none : (b : Bool) → (b || false) ≡ b

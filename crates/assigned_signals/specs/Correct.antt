@@ -7,7 +7,7 @@ use Rattle.abel_tree.specs.Entries.{Entry}
 use Rattle.abel_tree.specs.Tree.{Tree, ModuleTree}
 use Rattle.abel_meaning.specs.Designs.{Context, Design, design_of}
 use Rattle.abel_meaning.specs.Terms.{Term, Terms, Read, Set, NoTerm, Before, known_of, term_of}
-use Rattle.gathered.specs.Takeable.{PinsApart, NodesAreFew}
+use Rattle.netlist_laws.specs.Takeable.{PinsApart, NodesAreFew}
 use Rattle.source_sections.specs.SectionAnswers.{sections_refused}
 use Rattle.accepted_designs.specs.Accepted.{SignalsAreAssigned, BuffersAreBehind, AssignedAreOnCells, AssignedHaveData, IsAccepted}
 

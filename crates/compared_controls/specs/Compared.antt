@@ -12,7 +12,7 @@ use Rattle.abel_tree.specs.declared.words.Extension.{Extension}
 use Rattle.abel_tree.specs.declared.words.Extension.TheVariants as extension
 use Rattle.abel_tree.specs.Entries.{Entry}
 use Rattle.abel_meaning.specs.Designs.{no_name}
-use Rattle.gathered.specs.Gathered.{cell_of}
+use Rattle.netlist_laws.specs.Gathered.{cell_of}
 use Rattle.design_uses.specs.SectionUses.{is_cell_by_pin}
 use Rattle.set_expr.specs.declared.contributions.Contribution.{Contribution}
 use Rattle.use_refusals.specs.declared.refused.RefusedUse.{RefusedUse}

@@ -4,7 +4,7 @@ ghost use Rattle.std.specs.Prelude.{◌≡◌};
 ghost use Rattle.abel_tree.specs.Entries.{view_declared};
 ghost use Rattle.abel_meaning.specs.Designs.{cell_on};
 ghost use Rattle.design_uses.specs.SectionUses.{is_by_pin, is_cell_by_pin};
-ghost use Rattle.gathered.specs.Gathered.{cell_of};
+ghost use Rattle.netlist_laws.specs.Gathered.{cell_of};
 ghost use Rattle.compared_controls.specs.Compared.{is_compared_of};
 
 use abel_tree::{Declared, Extension, Meaning};

@@ -4,7 +4,7 @@ ghost use Rattle.std.specs.Prelude.{◌≡◌, ◌<◌, All, length};
 ghost use Rattle.bit_expr.specs.Arena.{arena, formula_at};
 ghost use Rattle.abel_tree.specs.Entries.{entries_of, view_declared};
 ghost use Rattle.abel_tree.specs.FirstRefusal.{first_refusal};
-ghost use Rattle.gathered.specs.Gathered.{cell_of};
+ghost use Rattle.netlist_laws.specs.Gathered.{cell_of};
 ghost use Rattle.abel_meaning.specs.Designs.{cell_on};
 ghost use Rattle.design_refusals.specs.Refused.{AreToNames};
 ghost use Rattle.set_expr.specs.declared.contributions.Contribution as code;

@@ -21,7 +21,7 @@ use Rattle.abel_meaning.specs.SoundIds.{IsSoundNetlist}
 use Rattle.covers.specs.declared.cube.Cube.{Cube}
 use Rattle.sop_lowering.specs.Products.{Products}
 use Rattle.sop_lowering.specs.Written.{written, bit_list}
-use Rattle.fitted.specs.Fitting.{AreShared}
+use Rattle.netlist_laws.specs.Fitting.{AreShared}
 use Rattle.fit_plans.specs.Tries.{needed_of, allowed_of, one_or_any}
 use Rattle.fit_laws.specs.Coverable.{IsSoundId}
 use Rattle.fit_laws.specs.Plans.{bit_or, cell_wanted, enable_bit}

@@ -17,7 +17,7 @@ use Rattle.abel_meaning.specs.Soundness.{IsReadable, IsSoundFormula}
 use Rattle.covers.specs.Cubes.{literal_cube}
 use Rattle.sop_lowering.specs.Products.{Products}
 use Rattle.sop_lowering.specs.Written.{function_of_node, node_formula, leaf_list, list_of, node_list, written, bit_list}
-use Rattle.fitted.proofs.FormulaLeaves.{same_leaf-refl}
+use Rattle.netlist_laws.proofs.FormulaLeaves.{same_leaf-refl}
 use Rattle.fit_laws.specs.Coverable.{IsSoundId}
 use Rattle.fit_laws.proofs.LeafPairs.{pin_pair, cell_pair}
 use Rattle.fit_laws.proofs.Reached.{nodes_count, node_is, one_sound}

@@ -26,7 +26,7 @@ use Rattle.accepted_designs.specs.Accepted.{IsAccepted}
 use Rattle.design_checks.specs.declared.fault.DesignFault.{DesignFault}
 use Rattle.design_lines.specs.Designs.{design_text}
 use Rattle.design_lines.specs.Fits.{fit_text}
-use Rattle.fitted.specs.Correct.{MeansTheSame}
+use Rattle.netlist_laws.specs.FittedCorrect.{MeansTheSame}
 use Rattle.cell_covers.specs.Width.{IsFirstWide}
 use Rattle.fitter.specs.declared.answer.Fitted.{Fitted}
 use Rattle.fitter.specs.declared.fault.FitFault.{FitFault}

@@ -20,7 +20,7 @@ use Rattle.set_expr.specs.declared.contributions.Contributions.{Contributions}
 use Rattle.set_expr.specs.SectionOrder.{section_order}
 use Rattle.module_reader.specs.declared.fault.ReadFault.TheVariants as reading
 use Rattle.module_reader.specs.Texts.{IsRead, IsUnread}
-use Rattle.gathered.specs.Gathered.{netlist_of}
+use Rattle.netlist_laws.specs.Gathered.{netlist_of}
 use Rattle.gathering.specs.Placed.{IsPlaced}
 use Rattle.design_checks.specs.declared.fault.DesignFault.{DesignFault}
 use Rattle.design.specs.Answers.{HasNoRefusal, IsDesignRefused}

@@ -12,7 +12,7 @@ ghost use Rattle.decls.specs.NameRefusals.{first_name_refusal};
 ghost use Rattle.set_expr.specs.SectionOrder.{section_order};
 ghost use Rattle.source_sections.specs.SectionAnswers.{AreContributed};
 ghost use Rattle.source_vectors.specs.AllSections.{AreSections, all_sections_refused};
-ghost use Rattle.gathered.specs.Takeable.{IsTakeable};
+ghost use Rattle.netlist_laws.specs.Takeable.{IsTakeable};
 ghost use Rattle.fitter.specs.Answers.{IsFitOf};
 ghost use Rattle.placer.specs.Following.{HasNumberedNames};
 ghost use Rattle.placer.specs.Placements.{IsPlacedModule};

@@ -15,9 +15,9 @@ use Rattle.abel_meaning.specs.Designs.{design_of}
 use Rattle.abel_meaning.specs.DeviceStrings.{device_named}
 use Rattle.abel_meaning.specs.NetlistLogic.{netlist_logic}
 use Rattle.abel_meaning.specs.SourceLogic.{source_logic, source_values}
-use Rattle.fitted.specs.Correct.{DoesWhatItSays, MeansTheSame}
-use Rattle.gathered.specs.Gathered.{netlist_of}
-use Rattle.gathered.proofs.Meaning.{gathered_means_the_same}
+use Rattle.netlist_laws.specs.FittedCorrect.{DoesWhatItSays, MeansTheSame}
+use Rattle.netlist_laws.specs.Gathered.{netlist_of}
+use Rattle.netlist_laws.proofs.Meaning.{gathered_means_the_same}
 use Rattle.module_reader.specs.Texts.{IsRead, SpellsModule}
 use Rattle.devices.specs.DeviceLaws.{table_sound}
 use Rattle.devices.specs.Devices.{table_of}

@@ -25,11 +25,11 @@ use Rattle.abel_meaning.specs.Netlists.{PlainNetlist, Wanted, own_of, own_or_sha
 use Rattle.abel_meaning.specs.SignalReads.{given_formulas}
 use Rattle.abel_meaning.specs.SourceLogic.{is_negated, is_node_number, node_signal}
 use Rattle.abel_meaning.specs.Targets.{is_raw}
-use Rattle.gathered.specs.Gathered.{by_row, netlist_of, wanted_for}
-use Rattle.gathered.proofs.CellsFound.{wanted_found}
-use Rattle.gathered.proofs.NodeNumbers.{names_numbered}
-use Rattle.gathered.proofs.NodesFound.{function_here, node_found}
-use Rattle.gathered.proofs.SharedControls.{shared_is}
+use Rattle.netlist_laws.specs.Gathered.{by_row, netlist_of, wanted_for}
+use Rattle.netlist_laws.proofs.CellsFound.{wanted_found}
+use Rattle.netlist_laws.proofs.NodeNumbers.{names_numbered}
+use Rattle.netlist_laws.proofs.NodesFound.{function_here, node_found}
+use Rattle.netlist_laws.proofs.SharedControls.{shared_is}
 use Rattle.pin_sources.specs.declared.sum_line.SumLine.{SumLine}
 use Rattle.pin_trees.specs.SourceTrees.{IsSourceTree}
 use Rattle.pin_meanings.specs.LineGives.{is_data_line, line_gives}

@@ -14,9 +14,9 @@ use Rattle.abel_tree.specs.Tree.{ModuleTree}
 use Rattle.abel_meaning.specs.Controls.{is_pin, signal_on}
 use Rattle.abel_meaning.specs.Designs.{cell_on, design_of, is_stored, name_at, no_name}
 use Rattle.abel_meaning.specs.Kinds.{names_of}
-use Rattle.gathered.specs.Gathered.{cell_by, cell_of}
-use Rattle.gathered.specs.Takeable.{RegistersHaveCells}
-use Rattle.gathered.proofs.SoundLeaves.{only_place}
+use Rattle.netlist_laws.specs.Gathered.{cell_by, cell_of}
+use Rattle.netlist_laws.specs.Takeable.{RegistersHaveCells}
+use Rattle.netlist_laws.proofs.SoundLeaves.{only_place}
 use Rattle.pin_sources.specs.declared.sum_line.SumLine.{SumLine}
 use Rattle.pin_trees.specs.SourceTrees.{IsSourceTree}
 use Rattle.decompiled.specs.Sources.{cell_lines, first_register, has_lines, lines_of, names_pin, pins_of, shared_lines, source_of}

@@ -21,7 +21,7 @@ use Rattle.abel_meaning.specs.FormulaBits.{formulas}
 use Rattle.abel_meaning.specs.Sections.{section_gives, sections_give}
 use Rattle.abel_meaning.specs.SignalReads.{given_formulas}
 use Rattle.abel_meaning.specs.Sources.{Source, Held, on_pin, register_source, source_by, source_of as read_of}
-use Rattle.gathered.proofs.CellsFound.{is_cell, is_cell_on}
+use Rattle.netlist_laws.proofs.CellsFound.{is_cell, is_cell_on}
 use Rattle.pin_sources.specs.declared.literal.PinLiteral.{PinLiteral}
 use Rattle.pin_sources.specs.declared.sum_line.SumLine.{SumLine}
 use Rattle.pin_sources.specs.SourceText.{q_if}

@@ -20,7 +20,7 @@ use Rattle.pld_device.specs.Rows.{row_value}
 use Rattle.pld_device.specs.Table.{Table, cell_at}
 use Rattle.abel_meaning.specs.NetlistLogic.{netlist_logic, netlist_values}
 use Rattle.abel_meaning.specs.Netlists.{PlainNetlist}
-use Rattle.fitted.proofs.CellValues.{row_as}
+use Rattle.netlist_laws.proofs.CellValues.{row_as}
 
 -- one value passes
 one_level : (x : Bool) → AllowsOne (λ v. same_level v x)

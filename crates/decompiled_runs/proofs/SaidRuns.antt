@@ -24,10 +24,10 @@ use Rattle.abel_meaning.specs.Designs.{design_of}
 use Rattle.abel_meaning.specs.NetlistLogic.{netlist_logic, netlist_values}
 use Rattle.abel_meaning.specs.Netlists.{PlainNetlist}
 use Rattle.abel_meaning.specs.SourceLogic.{source_logic, source_values}
-use Rattle.fitted.specs.Correct.{DoesWhatItSays, MeansTheSame}
-use Rattle.fitted.proofs.BoolLaws.{both_ways}
-use Rattle.gathered.specs.Gathered.{netlist_of}
-use Rattle.gathered.proofs.Meaning.{gathered_means_the_same}
+use Rattle.netlist_laws.specs.FittedCorrect.{DoesWhatItSays, MeansTheSame}
+use Rattle.netlist_laws.proofs.BoolLaws.{both_ways}
+use Rattle.netlist_laws.specs.Gathered.{netlist_of}
+use Rattle.netlist_laws.proofs.Meaning.{gathered_means_the_same}
 use Rattle.pin_trees.specs.SourceTrees.{IsSourceTree}
 use Rattle.decompiled.specs.Sources.{has_lines, source_of}
 use Rattle.decompiled.proofs.RowSizes.{row_size}

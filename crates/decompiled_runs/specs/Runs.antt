@@ -8,7 +8,7 @@ use Rattle.device_logic.specs.CellReads.{cell_reads}
 use Rattle.device_logic.specs.ResetPaths.{HasNoResetPath}
 use Rattle.abel_tree.specs.Tree.{ModuleTree}
 use Rattle.abel_meaning.specs.SourceLogic.{source_logic}
-use Rattle.fitted.specs.Correct.{DoesWhatItSays}
+use Rattle.netlist_laws.specs.FittedCorrect.{DoesWhatItSays}
 use Rattle.pin_trees.specs.SourceTrees.{IsSourceTree}
 use Rattle.decompiled.specs.Sources.{source_of}
 

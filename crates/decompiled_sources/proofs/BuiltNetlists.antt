@@ -15,9 +15,9 @@ use Rattle.abel_meaning.specs.Netlists.{PlainNetlist, Wanted, plain_netlist}
 use Rattle.abel_meaning.specs.SoundIds.{IsCellIn, IsFunctionIn, no_pair, pair_of_cell, pair_of_pin}
 use Rattle.abel_meaning.specs.Soundness.{IsSound}
 use Rattle.set_expr.specs.declared.contributions.Contributions.{Contributions}
-use Rattle.gathered.specs.Gathered.{netlist_of}
-use Rattle.gathered.specs.Takeable.{IsTakeable}
-use Rattle.gathered.proofs.Sound.{is_sound}
+use Rattle.netlist_laws.specs.Gathered.{netlist_of}
+use Rattle.netlist_laws.specs.Takeable.{IsTakeable}
+use Rattle.netlist_laws.proofs.Sound.{is_sound}
 use Rattle.gathering.specs.Placed.{IsPlaced}
 use Rattle.source_sections.specs.SectionAnswers.{AreContributed}
 use Rattle.decompiled_sources.specs.Held.{IsHeld, all_nodes_of}

@@ -22,7 +22,7 @@ use Rattle.set_expr.specs.declared.contributions.Contributions.{Contributions}
 use Rattle.set_expr.specs.Given.{given, view_contribution}
 use Rattle.signal_sums.specs.Amounts.{first_target, target_place}
 use Rattle.signal_sums.specs.Parts.{is_to}
-use Rattle.gathered.specs.Gathered.{and_cell, by_row, cell_of, cells_from, wanted_for}
+use Rattle.netlist_laws.specs.Gathered.{and_cell, by_row, cell_of, cells_from, wanted_for}
 
 -- there is a first target, at some place
 abbrev pub IsTargeted : List Contribution → ℕ → Extension → Type 0

@@ -20,7 +20,7 @@ use Rattle.abel_tree.specs.Tree.{ModuleTree}
 use Rattle.abel_meaning.specs.Contributions as meant
 use Rattle.abel_meaning.specs.Designs.{Design, cell_on, design_of, is_stored, no_name}
 use Rattle.abel_meaning.specs.Targets.{is_data}
-use Rattle.gathered.specs.Gathered.{cell_by, cell_of}
+use Rattle.netlist_laws.specs.Gathered.{cell_by, cell_of}
 use Rattle.set_expr.specs.declared.contributions.Contribution.{Contribution}
 use Rattle.set_expr.specs.declared.contributions.Gives.{Gives}
 use Rattle.set_expr.specs.declared.contributions.Gives.TheVariants as gives

@@ -24,8 +24,8 @@ use Rattle.abel_meaning.specs.Controls.{must_register}
 use Rattle.abel_meaning.specs.Designs.{Design, cell_on, design_of, is_stored, name_at}
 use Rattle.abel_meaning.specs.SoundIds.{carries_cell}
 use Rattle.abel_meaning.specs.Terms.{Term, Read, extended_if, term_named, term_of}
-use Rattle.gathered.specs.SignalUses.{term_uses}
-use Rattle.gathered.proofs.CellsFound.{first_place}
+use Rattle.netlist_laws.specs.SignalUses.{term_uses}
+use Rattle.netlist_laws.proofs.CellsFound.{first_place}
 use Rattle.design_uses.specs.LocatedUses.{PlacedUse, all_at, located}
 use Rattle.design_uses.specs.RefusedUses.{carries_level, carries_q, has_by, has_extension, has_read_path, is_missing, is_unread, missing_uses, reads_by, unread_uses}
 use Rattle.design_uses.specs.SectionUses.{design_uses, expression_uses, is_compared, sections_uses, statement_uses, statements_uses}

@@ -16,7 +16,7 @@ use Rattle.bit_expr.specs.Arena.{arena, formula_at}
 use Rattle.bit_expr.specs.Formulas.{Formula, Const, formula_value}
 use Rattle.abel_meaning.specs.Netlists.{Wanted, first_with, own_of, own_or_shared, plain_control, plain_netlist, plain_wanted, shared_function}
 use Rattle.abel_meaning.specs.SoundIds.{IsSoundNetlist}
-use Rattle.fitted.specs.Fitting.{AreShared}
+use Rattle.netlist_laws.specs.Fitting.{AreShared}
 use Rattle.sop_lowering.specs.Written.{bit_list}
 use Rattle.fit_laws.specs.Plans.{cell_wanted}
 use Rattle.fit_laws.proofs.WantedIds.{found_id, sound_id_at, wanted_is, zero_is, zero_sound}

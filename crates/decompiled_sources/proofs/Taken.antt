@@ -13,7 +13,7 @@ use Rattle.abel_tree.specs.Tree.{ModuleTree}
 use Rattle.abel_meaning.specs.Controls.{is_pin}
 use Rattle.abel_meaning.specs.Designs.{Design, design_of, follows_q, name_at}
 use Rattle.abel_meaning.specs.SignalReads.{HasNoSignalLoop, HasNoSignalPath}
-use Rattle.gathered.specs.Takeable.{NodesAreFew, PinsApart}
+use Rattle.netlist_laws.specs.Takeable.{NodesAreFew, PinsApart}
 use Rattle.accepted_designs.specs.Accepted.{BuffersAreBehind}
 use Rattle.accepted_designs.specs.Unrefused.{IsUnrefused}
 use Rattle.accepted_designs.specs.Correct.{UnrefusedIsTakeable}

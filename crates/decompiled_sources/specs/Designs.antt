@@ -8,7 +8,7 @@ use Rattle.device_logic.specs.CellReads.{cell_reads}
 use Rattle.device_logic.specs.ResetPaths.{HasNoResetPath}
 use Rattle.abel_tree.specs.Tree.{ModuleTree}
 use Rattle.abel_meaning.specs.Designs.{design_of}
-use Rattle.gathered.specs.Takeable.{IsTakeable}
+use Rattle.netlist_laws.specs.Takeable.{IsTakeable}
 use Rattle.set_expr.specs.declared.contributions.Contributions.{Contributions}
 use Rattle.source_sections.specs.SectionAnswers.{AreContributed}
 use Rattle.design.specs.Answers.{HasNoRefusal}

@@ -5,7 +5,7 @@ use Rattle.bit_expr.specs.declared.netlist.Netlist.{Netlist}
 use Rattle.abel_tree.specs.Tree.{ModuleTree}
 use Rattle.abel_meaning.specs.Designs.{design_of}
 use Rattle.set_expr.specs.declared.contributions.Contributions.{Contributions}
-use Rattle.gathered.specs.Takeable.{IsTakeable}
+use Rattle.netlist_laws.specs.Takeable.{IsTakeable}
 use Rattle.source_sections.specs.SectionAnswers.{AreContributed}
 use Rattle.compile_phases.specs.SourceRefusals.{IsNetlistOf}
 

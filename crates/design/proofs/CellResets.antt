@@ -21,9 +21,9 @@ use Rattle.abel_meaning.specs.Netlists.{Wanted, plain_control, plain_wanted}
 use Rattle.abel_meaning.specs.SignalReads.{given_formulas, leaf_of, names_if_any, is_one_of, HasNoSignalPath}
 use Rattle.set_expr.specs.declared.contributions.Contribution.{Contribution}
 use Rattle.signal_chains.specs.declared.link.Link.{Link}
-use Rattle.gathered.specs.Gathered.{wanted_for, cell_of, and_cell, cells_from}
-use Rattle.gathered.proofs.SoundCells.{IsFor, each_for}
-use Rattle.gathered.proofs.SoundLeaves.{inside}
+use Rattle.netlist_laws.specs.Gathered.{wanted_for, cell_of, and_cell, cells_from}
+use Rattle.netlist_laws.proofs.SoundCells.{IsFor, each_for}
+use Rattle.netlist_laws.proofs.SoundLeaves.{inside}
 use Rattle.gathering.specs.Linked.{AreLinks}
 use Rattle.gathering.specs.Placed.{IsPlaced}
 use Rattle.design_refusals.specs.Refused.{lacks_by, lacks_control}

@@ -18,16 +18,16 @@ use Rattle.abel_meaning.specs.SignalReads.{given_formulas, HasNoSignalLoop, HasN
 use Rattle.abel_meaning.specs.SoundIds.{no_pair, pair_of_pin, pair_of_cell, IsSoundNetlist}
 use Rattle.abel_meaning.specs.Soundness.{IsSound}
 use Rattle.abel_meaning.specs.Terms.{known_of}
-use Rattle.fitted.specs.Correct.{MeansTheSame}
+use Rattle.netlist_laws.specs.FittedCorrect.{MeansTheSame}
 use Rattle.set_expr.specs.declared.contributions.Contribution.{Contribution}
 use Rattle.set_expr.specs.declared.contributions.Contributions.{Contributions}
 use Rattle.set_expr.specs.Answer.{IsContextOf}
 use Rattle.set_expr.specs.Given.{given, view_contribution}
 use Rattle.signal_chains.specs.declared.link.Link.{Link}
 use Rattle.signal_chains.specs.Links.{AreLeaves}
-use Rattle.gathered.specs.Gathered.{cells_from, gathered_from, netlist_of}
-use Rattle.gathered.proofs.NodeNumbers.{names_numbered}
-use Rattle.gathered.proofs.SoundLeaves.{inside}
+use Rattle.netlist_laws.specs.Gathered.{cells_from, gathered_from, netlist_of}
+use Rattle.netlist_laws.proofs.NodeNumbers.{names_numbered}
+use Rattle.netlist_laws.proofs.SoundLeaves.{inside}
 use Rattle.gathering.specs.declared.netlist.Gathered.{Gathered}
 use Rattle.gathering.specs.Linked.{AreLinks}
 use Rattle.gathering.specs.Placed.{AreIdsIn, IsPlaced}

@@ -19,9 +19,9 @@ use Rattle.abel_tree.specs.Tree.{Tree}
 use Rattle.abel_meaning.specs.Controls.{is_pin}
 use Rattle.abel_meaning.specs.Designs.{Design, name_at, no_name, is_stored, cell_on}
 use Rattle.abel_meaning.specs.SignalReads.{given_formulas, settles, leaf_by}
-use Rattle.gathered.specs.Takeable.{PinsApart, NodesAreFew}
-use Rattle.gathered.proofs.CellsFound.{has_pin}
-use Rattle.gathered.proofs.NodesFound.{next_number, AreNumbered}
+use Rattle.netlist_laws.specs.Takeable.{PinsApart, NodesAreFew}
+use Rattle.netlist_laws.proofs.CellsFound.{has_pin}
+use Rattle.netlist_laws.proofs.NodesFound.{next_number, AreNumbered}
 use Rattle.signal_chains.specs.declared.link.Link.{Link}
 use Rattle.signal_chains.specs.Links.{leaf_in, AreLeaves}
 use Rattle.signal_chains.proofs.LinkSets.{leaf_there}

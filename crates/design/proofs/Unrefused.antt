@@ -9,7 +9,7 @@ use Rattle.design_uses.specs.RefusedUses.{missing_uses, unread_uses}
 use Rattle.compared_controls.specs.Compared.{other_levels}
 use Rattle.written_controls.specs.Written.{unwritten}
 use Rattle.use_refusals.specs.Refused.{told}
-use Rattle.gathered.specs.Correct.{GatheredIsSound, GatheredMeansTheSame}
+use Rattle.netlist_laws.specs.GatheredCorrect.{GatheredIsSound, GatheredMeansTheSame}
 use Rattle.accepted_designs.specs.Correct.{UnrefusedIsTakeable}
 use Rattle.accepted_designs.specs.Unrefused.{IsUnrefused}
 use Rattle.accepted_designs.proofs.Unlisted.{front_empty, back_empty}

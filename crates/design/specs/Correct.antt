@@ -7,10 +7,10 @@ use Rattle.abel_tree.specs.Tree.{ModuleTree}
 use Rattle.abel_meaning.specs.Designs.{design_of}
 use Rattle.abel_meaning.specs.SignalReads.{given_formulas}
 use Rattle.abel_meaning.specs.Soundness.{IsSound}
-use Rattle.fitted.specs.Correct.{MeansTheSame}
+use Rattle.netlist_laws.specs.FittedCorrect.{MeansTheSame}
 use Rattle.set_expr.specs.declared.contributions.Contribution.{Contribution}
 use Rattle.set_expr.specs.Given.{view_contribution}
-use Rattle.gathered.specs.Gathered.{netlist_of}
+use Rattle.netlist_laws.specs.Gathered.{netlist_of}
 use Rattle.accepted_designs.specs.Accepted.{IsAccepted}
 use Rattle.accepted_designs.specs.Unrefused.{IsUnrefused}
 

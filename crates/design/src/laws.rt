@@ -3,7 +3,7 @@
 ghost use Rattle.design.specs.Correct.{UnrefusedIsSound};
 
 use accepted_designs::unrefused_is_takeable;
-use gathered::{netlist_is_sound, netlist_means_the_same};
+use netlist_laws::{netlist_is_sound, netlist_means_the_same};
 
 /// Where nothing is refused of an accepted design, its netlist is sound for the device, and means the same as the
 /// module. Does nothing.

@@ -14,7 +14,7 @@ use Rattle.bit_expr.specs.Reading.{AreReads}
 use Rattle.abel_tree.specs.Entries.{Kind, APin, ANode, AConstant, ADeviceName, Entry}
 use Rattle.abel_meaning.specs.Designs.{Design, name_at, no_name, is_stored, cell_on}
 use Rattle.abel_meaning.specs.SignalReads.{given_formulas, leaf_by, leaf_of, settles, settles_by, signal_names, signal_reads, is_one_of, reset_equation_reads, is_stored_signal, IsSignalLoop, HasNoSignalLoop, IsSignalPath, HasNoSignalPath}
-use Rattle.gathered.specs.Gathered.{cell_by}
+use Rattle.netlist_laws.specs.Gathered.{cell_by}
 use Rattle.signal_chains.specs.declared.link.Link.{Link}
 use Rattle.signal_chains.specs.Links.{has_leaf, has_if_any, leaf_in, is_read_by, link_reads, is_stored_in, AreLeaves, IsFirstChain, HasNoChain, IsRegisterPath, HasNoRegisterPath}
 use Rattle.signal_chains.proofs.LinkSets.{leaf_there, stored_there, reads_there}

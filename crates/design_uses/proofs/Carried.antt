@@ -20,9 +20,9 @@ use Rattle.abel_meaning.specs.Controls.{is_pin, signal_on, cell_stores_for, must
 use Rattle.abel_meaning.specs.Designs.{Context, name_at, no_name, is_stored, follows_q, cell_on}
 use Rattle.abel_meaning.specs.SoundIds.{carries_cell}
 use Rattle.abel_meaning.specs.Sources.{Held, pin_source, register_source, node_source, on_pin, source_by}
-use Rattle.gathered.specs.SignalUses.{holds_leaf}
-use Rattle.gathered.specs.Takeable.{PinsApart, HasColumns}
-use Rattle.gathered.proofs.SoundLeaves.{inside, some_place}
+use Rattle.netlist_laws.specs.SignalUses.{holds_leaf}
+use Rattle.netlist_laws.specs.Takeable.{PinsApart, HasColumns}
+use Rattle.netlist_laws.proofs.SoundLeaves.{inside, some_place}
 use Rattle.design_uses.specs.RefusedUses.{carries_level, carries_q, reads_register, reads_pin, reads_by, has_read_path}
 
 -- a first place that there is

@@ -9,7 +9,7 @@ use Rattle.abel_tree.specs.declared.words.Binary.{Binary}
 use Rattle.abel_tree.specs.Ranges.{range_names}
 use Rattle.abel_tree.specs.Tree.{Tree, ANumber, ASpecial, AName, ASet, AParen, AUnary, ABinary, SetMember, OneMember, SpanMember, Members, NoMember, MoreMembers}
 use Rattle.abel_meaning.specs.Terms.{Term, Terms, Number, X, Pulse, Release, Read, Set, UnaryOf, BinaryOf, NoTerm, Before, Known, term_named, term_of, terms_of, member_before, named_before, extended, extended_each, extended_if, special_term}
-use Rattle.gathered.specs.SignalUses.{SignalUse, term_uses, all_term_uses}
+use Rattle.netlist_laws.specs.SignalUses.{SignalUse, term_uses, all_term_uses}
 use Rattle.design_uses.specs.Correct.{UsesAreRead}
 use Rattle.design_uses.specs.LocatedUses.{PlacedUse, all_at, own_or_outer, range_located, located, members_located, member_located}
 

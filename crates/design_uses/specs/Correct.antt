@@ -4,8 +4,8 @@ use Rattle.bit_expr.specs.declared.node.Leaf.{Leaf}
 use Rattle.abel_tree.specs.Tree.{Tree}
 use Rattle.abel_meaning.specs.Designs.{Context}
 use Rattle.abel_meaning.specs.Terms.{term_of}
-use Rattle.gathered.specs.SignalUses.{term_uses, use_reads}
-use Rattle.gathered.specs.Takeable.{PinsApart, HasColumns}
+use Rattle.netlist_laws.specs.SignalUses.{term_uses, use_reads}
+use Rattle.netlist_laws.specs.Takeable.{PinsApart, HasColumns}
 use Rattle.design_uses.specs.Example.{example_design, example_missing, example_unread}
 use Rattle.design_uses.specs.LocatedUses.{PlacedUse}
 use Rattle.design_uses.specs.RefusedUses.{is_missing, is_unread, missing_uses, unread_uses}

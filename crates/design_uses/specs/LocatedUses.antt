@@ -6,7 +6,7 @@ use Rattle.abel_tree.specs.declared.words.Extension.{Extension}
 use Rattle.abel_tree.specs.Ranges.{range_names}
 use Rattle.abel_tree.specs.Tree.{Tree, ANumber, ASpecial, AName, ASet, AParen, AUnary, ABinary, SetMember, OneMember, SpanMember, Members, NoMember, MoreMembers}
 use Rattle.abel_meaning.specs.Terms.{Known, term_named, extended_if}
-use Rattle.gathered.specs.SignalUses.{SignalUse, term_uses}
+use Rattle.netlist_laws.specs.SignalUses.{SignalUse, term_uses}
 
 -- a signal where an expression reads it, with what is asked of it, and its place in the expanded text
 pub record PlacedUse : Type 0 where

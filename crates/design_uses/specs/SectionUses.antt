@@ -12,7 +12,7 @@ use Rattle.abel_tree.specs.Tree.{Tree, Statement, AnAssign, AWhen, AGroup, ADont
 use Rattle.abel_meaning.specs.Designs.{Context, Design, name_at}
 use Rattle.abel_meaning.specs.Targets.{targets_of, some_signals}
 use Rattle.abel_meaning.specs.Terms.{term_of}
-use Rattle.gathered.specs.Gathered.{cell_of}
+use Rattle.netlist_laws.specs.Gathered.{cell_of}
 use Rattle.design_uses.specs.LocatedUses.{PlacedUse, located}
 
 -- ---- what is compared

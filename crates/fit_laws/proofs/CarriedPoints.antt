@@ -16,8 +16,8 @@ use Rattle.abel_meaning.specs.Functions.{value_with_any_0}
 use Rattle.abel_meaning.specs.Netlists.{function_at, plain_netlist}
 use Rattle.abel_meaning.specs.SoundIds.{IsSoundNetlist}
 use Rattle.abel_meaning.specs.Soundness.{IsReadable, IsSoundFormula}
-use Rattle.fitted.specs.Covers.{IsValuedFor, IsValuedOfFor}
-use Rattle.fitted.proofs.Valuing.{is_valued_of, valued, valued_node}
+use Rattle.netlist_laws.specs.RowCovers.{IsValuedFor, IsValuedOfFor}
+use Rattle.netlist_laws.proofs.Valuing.{is_valued_of, valued, valued_node}
 use Rattle.sop_lowering.specs.Values.{AreNodesValued, Carries, CarriesLeaf}
 use Rattle.sop_lowering.specs.Written.{pair_of}
 use Rattle.fit_laws.proofs.LeafPairs.{pin_has, q_has}

@@ -23,10 +23,10 @@ use Rattle.covers.proofs.CubeBits.{bit_at_without, literal_below, literal_other,
 use Rattle.abel_meaning.specs.Netlists.{PlainNetlist}
 use Rattle.abel_meaning.specs.NetlistReads.{netlist_waits, signal_count}
 use Rattle.abel_meaning.specs.Soundness.{IsSound}
-use Rattle.fitted.specs.Covers.{IsPrimeCover, IsPrimeRow, IsValuedFor, any_other, is_used, value_without}
-use Rattle.fitted.proofs.BoolLaws.{both_ways}
-use Rattle.fitted.proofs.RowLiterals.{HasPair, column_of, pair_of}
-use Rattle.fitted.proofs.UnusedRows.{unused_value}
+use Rattle.netlist_laws.specs.RowCovers.{IsPrimeCover, IsPrimeRow, IsValuedFor, any_other, is_used, value_without}
+use Rattle.netlist_laws.proofs.BoolLaws.{both_ways}
+use Rattle.netlist_laws.proofs.RowLiterals.{HasPair, column_of, pair_of}
+use Rattle.netlist_laws.proofs.UnusedRows.{unused_value}
 use Rattle.fit_plans.specs.RowCubes.{HoldsCubes, fuse_at, row_of, zeros}
 use Rattle.fit_laws.specs.Plans.{IsFunctionOf}
 use Rattle.fit_laws.proofs.PairPoints.{point_of}

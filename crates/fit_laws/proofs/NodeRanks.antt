@@ -7,7 +7,7 @@ use Rattle.bit_expr.specs.Formulas.{names}
 use Rattle.abel_meaning.specs.Netlists.{PlainNetlist, node_at}
 use Rattle.abel_meaning.specs.NetlistReads.{netlist_waits, signal_count}
 use Rattle.abel_meaning.specs.Soundness.{IsSound}
-use Rattle.fitted.proofs.Valuing.{node_falls}
+use Rattle.netlist_laws.proofs.Valuing.{node_falls}
 
 -- the first node's `one` names the second
 abbrev pub node_names_node : PlainNetlist → ℕ → ℕ → Bool

@@ -25,7 +25,7 @@ use Rattle.abel_meaning.specs.SoundIds.{IsSoundNetlist}
 use Rattle.abel_meaning.specs.Soundness.{IsReadable, IsSoundFormula}
 use Rattle.covers.specs.declared.cube.Cube.{Cube}
 use Rattle.covers.specs.Cubes.{covers}
-use Rattle.fitted.specs.Covers.{IsValuedFor}
+use Rattle.netlist_laws.specs.RowCovers.{IsValuedFor}
 use Rattle.sop_lowering.specs.Products.{Products}
 use Rattle.sop_lowering.specs.Values.{Carries, HasValue}
 use Rattle.sop_lowering.specs.Written.{pair_of, written}
@@ -42,9 +42,9 @@ use Rattle.fit_laws.proofs.Coverable.{either_sound}
 use Rattle.fit_laws.proofs.LeafPairs.{cell_pair, pair_low, pin_at, pin_pair}
 use Rattle.pld_machine.specs.Exchanged.{exchanged_at, in_sense}
 use Rattle.pld_machine.proofs.ExchangedPoints.{point_exchanged}
-use Rattle.free_netlists.specs.ExchangedNets.{MayExchangeIn, netlist_exchanged}
-use Rattle.free_netlists.proofs.ExchangedFormulas.{q_at}
-use Rattle.free_netlists.proofs.ExchangedLogic.{exchanged_means_so}
+use Rattle.netlist_laws.specs.ExchangedNets.{MayExchangeIn, netlist_exchanged}
+use Rattle.netlist_laws.proofs.ExchangedFormulas.{q_at}
+use Rattle.netlist_laws.proofs.ExchangedLogic.{exchanged_means_so}
 
 turned_from : (mask v : ℕ) (levels : List Bool) (i w : ℕ) → w ≡ v + i → i < length levels
     → is_on (levels_turned mask v levels) i ≡ (if bit_at mask w == 1 then not (is_on levels i) else is_on levels i)

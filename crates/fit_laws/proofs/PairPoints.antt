@@ -13,13 +13,13 @@ use Rattle.pld_device.specs.Rows.{carried, pair_values}
 use Rattle.pld_device.proofs.OwnPins.{pairs_apart}
 use Rattle.bit_expr.specs.Formulas.{same_leaf}
 use Rattle.abel_meaning.specs.Netlists.{PlainNetlist}
-use Rattle.fitted.specs.Covers.{IsValuedFor, IsValuedOfFor}
+use Rattle.netlist_laws.specs.RowCovers.{IsValuedFor, IsValuedOfFor}
 use Rattle.abel_meaning.specs.NetlistReads.{netlist_waits, signal_count}
 use Rattle.abel_meaning.specs.Soundness.{IsSound}
 use Rattle.pld_order.proofs.Ranks.{Ranked}
-use Rattle.fitted.proofs.Valuing.{valued, is_valued_of}
-use Rattle.fitted.proofs.CoverReads.{leaf_of, is_flipped, carried_leaf, same_pin, get_map, leaf_is, set_leaf, IsWire, set_point, set_same, set_other, twice, wire_of}
-use Rattle.fitted.proofs.CellValues.{pairs_same, carried_same}
+use Rattle.netlist_laws.proofs.Valuing.{valued, is_valued_of}
+use Rattle.netlist_laws.proofs.CoverReads.{leaf_of, is_flipped, carried_leaf, same_pin, get_map, leaf_is, set_leaf, IsWire, set_point, set_same, set_other, twice, wire_of}
+use Rattle.netlist_laws.proofs.CellValues.{pairs_same, carried_same}
 
 module _ (t : Table) (fuses : List Bool) where
   -- the point with these levels on these pairs

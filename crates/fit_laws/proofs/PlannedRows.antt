@@ -17,7 +17,7 @@ use Rattle.bit_expr.specs.declared.netlist.Netlist.{Netlist}
 use Rattle.bit_expr.specs.declared.node.ExprId.{ExprId}
 use Rattle.covers.specs.declared.cube.Cube.{Cube}
 use Rattle.covers.specs.Cubes.{full_cube}
-use Rattle.fitted.specs.Covers.{is_used}
+use Rattle.netlist_laws.specs.RowCovers.{is_used}
 use Rattle.fit_plans.specs.Columns.{all_turned}
 use Rattle.fit_plans.specs.Covering.{IsCoverBetween}
 use Rattle.sop_lowering.specs.Products.{Products}

@@ -29,9 +29,9 @@ use Rattle.abel_meaning.specs.NetlistLogic.{enable_of, netlist_stores, registers
 use Rattle.abel_meaning.specs.SoundIds.{IsSoundNetlist}
 use Rattle.abel_meaning.specs.Soundness.{IsSound, IsSoundFormula, IsSoundFree, MayRegister}
 use Rattle.covers.specs.declared.cube.Cube.{Cube}
-use Rattle.fitted.specs.Covers.{IsExactRow, IsPrimeCover, is_used}
-use Rattle.fitted.specs.Fitting.{IsFitted, IsFittedAs, IsFittedCell, IsFittedEnable, IsFittedShared, IsSpareCell, or_complements, or_may_be}
-use Rattle.fitted.proofs.UnusedRows.{data_row_below}
+use Rattle.netlist_laws.specs.RowCovers.{IsExactRow, IsPrimeCover, is_used}
+use Rattle.netlist_laws.specs.Fitting.{IsFitted, IsFittedAs, IsFittedCell, IsFittedEnable, IsFittedShared, IsSpareCell, or_complements, or_may_be}
+use Rattle.netlist_laws.proofs.UnusedRows.{data_row_below}
 use Rattle.fit_plans.specs.Columns.{all_turned}
 use Rattle.fit_plans.specs.Tries.{one_of, one_or_any}
 use Rattle.fit_plans.specs.Covered.{control_function}
@@ -44,13 +44,13 @@ use Rattle.fit_plans.specs.Owners.{planned}
 use Rattle.fit_laws.specs.Coverable.{IsSoundId}
 use Rattle.fit_laws.specs.Plans.{IsFunctionOf, PlansAs, PlansCell, PlansControl, PlansFit, PlansNetlist, PlansShared, PlansSpare, cell_wanted, enable_bit, is_chosen, is_free_cell}
 use Rattle.pld_machine.specs.Exchanged.{exchanged_at, in_sense}
-use Rattle.free_netlists.specs.ExchangedNets.{MayExchangeIn, formula_exchanged, function_exchanged, is_free_wanted, netlist_exchanged, shown, wanted_exchanged}
-use Rattle.free_netlists.proofs.ExchangedCells.{shared_exchanged, wanted_at_exchanged}
-use Rattle.free_netlists.proofs.ExchangedFormulas.{function_value_exchanged, value_exchanged}
-use Rattle.free_netlists.proofs.ExchangedSound.{exchanged_is_sound}
-use Rattle.free_netlists.proofs.FoundCells.{found as found_cell}
-use Rattle.free_netlists.proofs.FreeCells.{free_may_exchange}
-use Rattle.free_netlists.proofs.SameChoices.{same_netlist}
+use Rattle.netlist_laws.specs.ExchangedNets.{MayExchangeIn, formula_exchanged, function_exchanged, is_free_wanted, netlist_exchanged, shown, wanted_exchanged}
+use Rattle.netlist_laws.proofs.ExchangedCells.{shared_exchanged, wanted_at_exchanged}
+use Rattle.netlist_laws.proofs.ExchangedFormulas.{function_value_exchanged, value_exchanged}
+use Rattle.netlist_laws.proofs.ExchangedSound.{exchanged_is_sound}
+use Rattle.netlist_laws.proofs.FoundCells.{found as found_cell}
+use Rattle.netlist_laws.proofs.FreeCells.{free_may_exchange}
+use Rattle.netlist_laws.proofs.SameChoices.{same_netlist}
 use Rattle.fit_laws.proofs.BurnedControls.{fixed_levels, others_off, says_inverted, says_registered}
 use Rattle.fit_laws.proofs.CubeRows.{cubes_cover}
 use Rattle.fit_laws.proofs.NodeRanks.{signal_ranks}

@@ -13,7 +13,7 @@ use Rattle.bit_expr.specs.Formulas.{Formula, Const, Read, Not, And, Or, Xor, nam
 use Rattle.abel_meaning.specs.Netlists.{no_function, node_at, plain_function, plain_netlist}
 use Rattle.abel_meaning.specs.SoundIds.{IsSoundNetlist}
 use Rattle.abel_meaning.specs.Soundness.{IsReadable, IsSoundFormula}
-use Rattle.fitted.proofs.FormulaLeaves.{same_leaf-refl}
+use Rattle.netlist_laws.proofs.FormulaLeaves.{same_leaf-refl}
 use Rattle.sop_lowering.specs.Through.{EachLeaf, OfLeaf, Reaches, ReachesThrough}
 use Rattle.sop_lowering.specs.Written.{function_of_node, node_formula}
 use Rattle.fit_laws.proofs.NodeRanks.{node_names_node, node_ranks}

@@ -16,7 +16,7 @@ use Rattle.abel_meaning.specs.Netlists.{PlainNetlist, plain_netlist}
 use Rattle.abel_meaning.specs.NetlistLogic.{netlist_stores}
 use Rattle.abel_meaning.specs.SoundIds.{IsSoundNetlist}
 use Rattle.abel_meaning.specs.Soundness.{IsReadable, IsSoundFormula}
-use Rattle.fitted.specs.Covers.{IsValuedFor}
+use Rattle.netlist_laws.specs.RowCovers.{IsValuedFor}
 use Rattle.sop_lowering.specs.Values.{Carries}
 use Rattle.sop_lowering.specs.Written.{pair_of}
 use Rattle.fit_laws.proofs.CarriedPoints.{carries_all}

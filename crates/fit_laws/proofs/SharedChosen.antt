@@ -8,12 +8,12 @@ use Rattle.pld_device.specs.Laws.{IsDevice}
 use Rattle.pld_device.specs.Table.{Table}
 use Rattle.bit_expr.specs.Formulas.{Formula, formula_value}
 use Rattle.abel_meaning.specs.Netlists.{PlainNetlist, Wanted, shared_function, wanted_at}
-use Rattle.free_netlists.specs.ExchangedNets.{MayExchangeIn, formula_exchanged, netlist_exchanged, wanted_exchanged}
-use Rattle.free_netlists.proofs.ExchangedCells.{shared_exchanged, wanted_at_exchanged}
-use Rattle.free_netlists.proofs.ExchangedFormulas.{value_exchanged}
-use Rattle.free_netlists.proofs.ExchangedLogic.{exchanged_means_so}
-use Rattle.fitted.specs.Covers.{IsValuedFor}
-use Rattle.fitted.specs.Fitting.{AreShared}
+use Rattle.netlist_laws.specs.ExchangedNets.{MayExchangeIn, formula_exchanged, netlist_exchanged, wanted_exchanged}
+use Rattle.netlist_laws.proofs.ExchangedCells.{shared_exchanged, wanted_at_exchanged}
+use Rattle.netlist_laws.proofs.ExchangedFormulas.{value_exchanged}
+use Rattle.netlist_laws.proofs.ExchangedLogic.{exchanged_means_so}
+use Rattle.netlist_laws.specs.RowCovers.{IsValuedFor}
+use Rattle.netlist_laws.specs.Fitting.{AreShared}
 
 module _ (t : Table) (laws : IsDevice t) (net : PlainNetlist) (x : ℕ → Bool) (may : MayExchangeIn t net x) where
   -- a point whose nodes are valued under the choice has them valued for the netlist where it sees it

@@ -17,8 +17,8 @@ use Rattle.abel_meaning.specs.Netlists.{Wanted, plain_control, plain_netlist, pl
 use Rattle.abel_meaning.specs.NetlistLogic.{enable_of}
 use Rattle.abel_meaning.specs.SoundIds.{IsCellIn, IsControlIn, IsSoundNetlist}
 use Rattle.abel_meaning.specs.Soundness.{IsSoundCell, IsSoundFormula, IsSoundShared}
-use Rattle.fitted.proofs.SharedFunctions.{shared_has}
-use Rattle.fitted.proofs.WantedCells.{IsSoundAt, sound_at}
+use Rattle.netlist_laws.proofs.SharedFunctions.{shared_has}
+use Rattle.netlist_laws.proofs.WantedCells.{IsSoundAt, sound_at}
 use Rattle.fit_laws.specs.Coverable.{IsSoundId}
 use Rattle.fit_laws.specs.Plans.{bit_or, cell_wanted, enable_bit}
 

@@ -19,7 +19,7 @@ use Rattle.bit_expr.specs.Formulas.{Formula}
 use Rattle.abel_meaning.specs.Netlists.{PlainNetlist, Wanted, plain_netlist, shared_function}
 use Rattle.abel_meaning.specs.NetlistLogic.{netlist_stores}
 use Rattle.abel_meaning.specs.SoundIds.{IsSoundNetlist}
-use Rattle.free_netlists.specs.ExchangedNets.{netlist_exchanged, netlist_shown}
+use Rattle.netlist_laws.specs.ExchangedNets.{netlist_exchanged, netlist_shown}
 use Rattle.covers.specs.declared.cube.Cube.{Cube}
 use Rattle.covers.specs.Cubes.{covers}
 use Rattle.fit_plans.specs.Covering.{IsCoverBetween}
@@ -30,8 +30,8 @@ use Rattle.fit_plans.specs.declared.control_fuses.CellForm.{CellForm}
 use Rattle.fit_plans.specs.declared.plan.CellPlan.{CellPlan}
 use Rattle.fit_plans.specs.declared.plan.Plan.{Plan}
 use Rattle.fit_plans.specs.Controls.{IsBurned, form_at}
-use Rattle.fitted.specs.Covers.{IsValuedFor}
-use Rattle.fitted.specs.Fitting.{AreShared, IsFitted}
+use Rattle.netlist_laws.specs.RowCovers.{IsValuedFor}
+use Rattle.netlist_laws.specs.Fitting.{AreShared, IsFitted}
 
 -- ---- what the columns carry
 

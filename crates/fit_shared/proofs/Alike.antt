@@ -23,10 +23,10 @@ use Rattle.abel_meaning.specs.Soundness.{IsReadable, IsSoundCell}
 use Rattle.covers.specs.declared.cube.Cube.{Cube}
 use Rattle.covers.specs.Covers.{CoversList}
 use Rattle.covers.specs.Cubes.{covers}
-use Rattle.fitted.specs.Covers.{IsValuedFor}
-use Rattle.fitted.specs.Fitting.{AreShared}
-use Rattle.fitted.proofs.BoolLaws.{both_ways}
-use Rattle.fitted.proofs.WantedCells.{found}
+use Rattle.netlist_laws.specs.RowCovers.{IsValuedFor}
+use Rattle.netlist_laws.specs.Fitting.{AreShared}
+use Rattle.netlist_laws.proofs.BoolLaws.{both_ways}
+use Rattle.netlist_laws.proofs.WantedCells.{found}
 use Rattle.sop_lowering.specs.Values.{Carries}
 use Rattle.sop_lowering.specs.Written.{bit_list, pair_of, written}
 use Rattle.fit_laws.specs.Coverable.{IsSoundId}

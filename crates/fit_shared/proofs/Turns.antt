@@ -16,9 +16,9 @@ use Rattle.bit_expr.specs.Formulas.{formula_value, leaf_value, names}
 use Rattle.abel_meaning.specs.Netlists.{plain_netlist}
 use Rattle.abel_meaning.specs.SoundIds.{IsSoundNetlist}
 use Rattle.abel_meaning.specs.Soundness.{IsReadable, IsSoundFormula}
-use Rattle.fitted.specs.Covers.{IsValuedFor, IsValuedOfFor}
-use Rattle.fitted.proofs.FormulaLeaves.{value_same}
-use Rattle.fitted.proofs.Valuing.{is_valued_of, valued, valued_past}
+use Rattle.netlist_laws.specs.RowCovers.{IsValuedFor, IsValuedOfFor}
+use Rattle.netlist_laws.proofs.FormulaLeaves.{value_same}
+use Rattle.netlist_laws.proofs.Valuing.{is_valued_of, valued, valued_past}
 use Rattle.sop_lowering.specs.Written.{function_of_node, node_formula}
 use Rattle.fit_laws.proofs.CarriedPoints.{nodes_valued}
 use Rattle.fit_laws.proofs.NodeRanks.{node_names_node, node_ranks, signal_ranks}

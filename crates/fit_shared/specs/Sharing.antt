@@ -13,8 +13,8 @@ use Rattle.bit_expr.specs.Formulas.{Formula, formula_value}
 use Rattle.abel_meaning.specs.Netlists.{PlainNetlist, Wanted, first_with, plain_netlist, plain_wanted, shared_function, wanted_at}
 use Rattle.covers.specs.declared.cube.Cube.{Cube}
 use Rattle.covers.specs.Covers.{CoversList}
-use Rattle.fitted.specs.Covers.{IsValuedFor}
-use Rattle.fitted.specs.Fitting.{AreShared}
+use Rattle.netlist_laws.specs.RowCovers.{IsValuedFor}
+use Rattle.netlist_laws.specs.Fitting.{AreShared}
 use Rattle.sop_lowering.specs.Written.{bit_list}
 use Rattle.fit_laws.specs.Coverable.{IsSoundId}
 use Rattle.fit_laws.specs.Plans.{cell_wanted}

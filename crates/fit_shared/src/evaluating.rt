@@ -6,7 +6,7 @@ ghost use Rattle.pld_base.specs.Points.{levels_of};
 ghost use Rattle.pld_device.specs.Macrocells.{complement_if};
 ghost use Rattle.bit_expr.specs.Arena.{arena, formula_at};
 ghost use Rattle.bit_expr.specs.Formulas.{formula_value};
-ghost use Rattle.fitted.specs.Covers.{IsValuedFor};
+ghost use Rattle.netlist_laws.specs.RowCovers.{IsValuedFor};
 ghost use Rattle.abel_meaning.specs.Netlists.{plain_netlist};
 ghost use Rattle.abel_meaning.specs.SoundIds.{IsSoundNetlist};
 ghost use Rattle.fit_shared.specs.Evaluating.{AreNext, AreWired, CanEvaluate, HasValues, IsLastOf, IsWired};

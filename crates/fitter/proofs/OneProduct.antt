@@ -11,8 +11,8 @@ use Rattle.covers.specs.Cubes.{asks, covers, fits, full_cube, has_point, literal
 use Rattle.covers.specs.Prime.{IsPrimeIrredundant}
 use Rattle.covers.proofs.CubePoints.{fits_at, has_point_each, point_one, point_zero}
 use Rattle.covers.proofs.RowsOthers.{other_covers}
-use Rattle.fitted.proofs.BoolLaws.{both_ways}
-use Rattle.fitted.proofs.RowLiterals.{column_of}
+use Rattle.netlist_laws.proofs.BoolLaws.{both_ways}
+use Rattle.netlist_laws.proofs.RowLiterals.{column_of}
 use Rattle.fit_plans.specs.Columns.{all_turned, turned}
 use Rattle.fit_plans.specs.Points.{levels_turned}
 use Rattle.fit_plans.proofs.TurnedCubes.{covers_turned, length_turned, turned_points}

@@ -4,8 +4,8 @@ use Rattle.pld_device.specs.Table.{Table}
 use Rattle.bit_expr.specs.declared.netlist.CellWanted.{CellWanted}
 use Rattle.bit_expr.specs.declared.netlist.Netlist.{Netlist}
 use Rattle.abel_meaning.specs.Netlists.{plain_netlist}
-use Rattle.free_netlists.specs.ExchangedNets.{netlist_shown}
-use Rattle.fitted.specs.Fitting.{AreShared, IsFitted}
+use Rattle.netlist_laws.specs.ExchangedNets.{netlist_shown}
+use Rattle.netlist_laws.specs.Fitting.{AreShared, IsFitted}
 use Rattle.fit_laws.specs.Plans.{IsTurnMask, cell_wanted}
 use Rattle.fit_shared.specs.declared.shared.SharedControl.TheVariants.{Preset, Reset}
 use Rattle.fit_shared.specs.Sharing.{own_formula}

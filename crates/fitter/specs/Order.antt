@@ -3,7 +3,7 @@ use Rattle.std.specs.Prelude.{◌≡◌, ℕ, zero, suc, ◌+◌, ◌*◌, ◌<�
 use Rattle.pld_base.specs.Bits.{is_on}
 use Rattle.pld_device.specs.Rows.{row_fuses}
 use Rattle.pld_device.specs.Table.{Table, cell_at}
-use Rattle.fitted.specs.Covers.{is_used}
+use Rattle.netlist_laws.specs.RowCovers.{is_used}
 
 -- the first fuses of a row, read as a binary number: rows that rise as text rise by it
 unfoldable pub fuse_number : (columns : ℕ) → List Bool → ℕ

@@ -13,7 +13,7 @@ use Rattle.fit_laws.specs.Plans.{PlansControl, cell_wanted}
 use Rattle.fit_plans.specs.declared.control_fuses.CellForm.{CellForm}
 use Rattle.fit_plans.specs.declared.plan.CellPlan.{CellPlan}
 use Rattle.fit_plans.specs.Controls.{form_at}
-use Rattle.fitted.specs.Fitting.{AreShared}
+use Rattle.netlist_laws.specs.Fitting.{AreShared}
 use Rattle.abel_meaning.specs.Netlists.{plain_netlist}
 use Rattle.fit_shared.specs.declared.shared.SharedControl.{SharedControl}
 use Rattle.fit_shared.specs.declared.shared.SharedControl.TheVariants.{Preset, Reset}

@@ -14,7 +14,7 @@ use Rattle.fit_laws.specs.Plans.{cell_wanted, enable_bit}
 use Rattle.fit_shared.specs.declared.shared.SharedControl.{SharedControl}
 use Rattle.fit_shared.specs.declared.shared.SharedControl.TheVariants.{Preset, Reset}
 use Rattle.fit_shared.specs.Sharing.{AreNotShared, IsSharedBit, own_formula}
-use Rattle.fitted.specs.Fitting.{AreShared}
+use Rattle.netlist_laws.specs.Fitting.{AreShared}
 
 -- the written products have the points of one product, or none
 abbrev pub IsOneProduct : (vars : ℕ) → List Cube → Type 0

@@ -11,7 +11,7 @@ use Rattle.abel_tree.specs.Entries.{Kind, APin, ANode, AConstant, ADeviceName, E
 use Rattle.abel_meaning.specs.Contributions as meant
 use Rattle.abel_meaning.specs.Designs.{Context, is_stored, cell_on}
 use Rattle.abel_meaning.specs.SignalReads.{leaf_by, settles, settles_by, signal_names, function_names, names_if_any}
-use Rattle.gathered.specs.Gathered.{cell_by, cell_of}
+use Rattle.netlist_laws.specs.Gathered.{cell_by, cell_of}
 use Rattle.set_expr.specs.declared.contributions.Contribution.{Contribution}
 use Rattle.signal_chains.specs.declared.link.Link.{Link}
 use Rattle.signal_sums.specs.declared.signal.Totals.{Totals}

@@ -26,7 +26,7 @@ use Rattle.signal_sums.specs.declared.signal.Totals.{Totals}
 use Rattle.signal_sums.specs.Amounts.{contributions_in, AreGiven, first_target, target_place, control_place}
 use Rattle.signal_sums.specs.Parts.{AllLieIn, Stands}
 use Rattle.signal_sums.proofs.GrowingSums.{same_formula}
-use Rattle.gathered.specs.Gathered.{by_row, wanted_for, cell_of, cell_by, and_cell, cells_from, and_node, nodes_from}
+use Rattle.netlist_laws.specs.Gathered.{by_row, wanted_for, cell_of, cell_by, and_cell, cells_from, and_node, nodes_from}
 use Rattle.gathering.specs.declared.asked.Asked.{Asked}
 use Rattle.signal_chains.specs.declared.link.Link.{Link}
 use Rattle.gathering.specs.Linked.{is_node_kind, is_linked, IsLinkOf, AreLinksFrom}

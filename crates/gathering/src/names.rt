@@ -5,7 +5,7 @@ ghost use Rattle.abel_tree.specs.Entries.{has, view_declared, view_meaning};
 ghost use Rattle.abel_meaning.specs.Choices.{is_free};
 ghost use Rattle.abel_meaning.specs.Designs.{cell_on, is_stored};
 ghost use Rattle.abel_meaning.specs.SourceLogic.{is_negated};
-ghost use Rattle.gathered.specs.Gathered.{cell_of};
+ghost use Rattle.netlist_laws.specs.Gathered.{cell_of};
 ghost use Rattle.gathering.specs.Linked.{is_node_kind};
 
 use abel_tree::{Attributes, Declared, Meaning};

@@ -9,7 +9,7 @@ ghost use Rattle.abel_meaning.specs.SoundIds.{no_pair, pair_of_cell, pair_of_pin
 ghost use Rattle.set_expr.specs.Answer.{IsContextOf};
 ghost use Rattle.set_expr.specs.Given.{given};
 ghost use Rattle.signal_sums.specs.Parts.{AllLieIn, Stands};
-ghost use Rattle.gathered.specs.Gathered.{gathered_from};
+ghost use Rattle.netlist_laws.specs.Gathered.{gathered_from};
 ghost use Rattle.gathering.specs.Asking.{Asks};
 ghost use Rattle.gathering.specs.Linked.{AreLinks};
 ghost use Rattle.gathering.specs.Placed.{AreIdsIn, IsPlaced};

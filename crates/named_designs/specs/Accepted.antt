@@ -2,7 +2,7 @@
 use Rattle.std.specs.Prelude.{◌≡◌}
 use Rattle.abel_meaning.specs.Designs.{Context}
 use Rattle.abel_meaning.specs.Terms.{known_of}
-use Rattle.gathered.specs.Takeable.{PinsApart, NodesAreFew}
+use Rattle.netlist_laws.specs.Takeable.{PinsApart, NodesAreFew}
 use Rattle.accepted_designs.specs.Accepted.{SignalsAreAssigned, BuffersAreBehind}
 
 -- the names of the design are accepted: no two are one pin, nodes are few, only signals are assigned, and no register

@@ -10,7 +10,7 @@ use Rattle.abel_meaning.specs.Designs.{Design, design_of}
 use Rattle.set_expr.specs.declared.contributions.Contribution.{Contribution}
 use Rattle.set_expr.specs.Given.{view_contribution}
 use Rattle.section_targets.proofs.KnownTargets.{IsSignalOf}
-use Rattle.gathered.proofs.SoundLeaves.{inside}
+use Rattle.netlist_laws.proofs.SoundLeaves.{inside}
 use Rattle.accepted_designs.proofs.GivenSignals.{EachSignal, given_signals}
 use Rattle.design_refusals.specs.Refused.{AreToNames}
 use Rattle.netlist_rows.specs.declared.drawing.Drawn.{Drawn}

@@ -5,8 +5,8 @@ ghost use Rattle.pld_device.specs.SampleTable.{sample};
 ghost use Rattle.abel_tree.specs.Tree.{ModuleTree};
 ghost use Rattle.abel_meaning.specs.Netlists.{plain_netlist};
 ghost use Rattle.abel_meaning.specs.SoundIds.{IsSoundNetlist};
-ghost use Rattle.fitted.specs.Correct.{MeansTheSame};
-ghost use Rattle.gathered.specs.Gathered.{netlist_of};
+ghost use Rattle.netlist_laws.specs.FittedCorrect.{MeansTheSame};
+ghost use Rattle.netlist_laws.specs.Gathered.{netlist_of};
 
 use crate::drawing::{ModuleNet, draw, gathered};
 use crate::places::{put_number, put_word};

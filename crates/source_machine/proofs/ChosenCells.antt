@@ -6,7 +6,7 @@ use Rattle.pld_base.specs.Bits.{bits, is_on}
 use Rattle.pld_base.proofs.BitLemmas.{is_on-zero, length-bits}
 use Rattle.pld_device.specs.Table.{Table}
 use Rattle.abel_meaning.specs.Netlists.{PlainNetlist, wanted_at}
-use Rattle.free_netlists.specs.ExchangedNets.{is_free_wanted}
+use Rattle.netlist_laws.specs.ExchangedNets.{is_free_wanted}
 use Rattle.source_machine.specs.Choices.{AreChosen, chosen}
 
 -- the levels of the first places, and 0 behind them

@@ -21,9 +21,9 @@ use Rattle.abel_meaning.specs.Designs.{design_of}
 use Rattle.abel_meaning.specs.Netlists.{PlainNetlist, wanted_at}
 use Rattle.abel_meaning.specs.Soundness.{IsSound}
 use Rattle.abel_meaning.specs.SourceLogic.{logic_with_any_0}
-use Rattle.fitted.specs.Correct.{MeansTheSame}
-use Rattle.free_netlists.specs.ExchangedNets.{is_free_wanted}
-use Rattle.gathered.specs.Gathered.{netlist_of}
+use Rattle.netlist_laws.specs.FittedCorrect.{MeansTheSame}
+use Rattle.netlist_laws.specs.ExchangedNets.{is_free_wanted}
+use Rattle.netlist_laws.specs.Gathered.{netlist_of}
 use Rattle.source_machine.specs.AnyAs0.{netlist_with_any_0}
 use Rattle.source_machine.specs.Choices.{AreChosen, chosen, inverts_by, module_as_chosen, netlist_as_chosen}
 use Rattle.source_machine.specs.Correct.{AllowTheSame}

@@ -25,12 +25,12 @@ use Rattle.abel_meaning.specs.NetlistLogic.{netlist_stores}
 use Rattle.abel_meaning.specs.NetlistReads.{is_register_signal, netlist_passes, netlist_reset_reads, netlist_waits, signal_count, signal_leaf}
 use Rattle.abel_meaning.specs.SignalReads.{names_if_any}
 use Rattle.abel_meaning.specs.Soundness.{IsReadable, IsSound}
-use Rattle.fitted.proofs.CleanSignals.{IsCleanSignal, Clean, clean_named, reset_known}
-use Rattle.fitted.proofs.FormulaLeaves.{value_same}
-use Rattle.fitted.proofs.SharedFunctions.{OwnHas}
-use Rattle.fitted.proofs.SignalLeaves.{pin_leaf, q_leaf, pin_is_plain}
-use Rattle.fitted.proofs.Valuing.{node_leaf, node_is_plain}
-use Rattle.fitted.proofs.WantedCells.{found}
+use Rattle.netlist_laws.proofs.CleanSignals.{IsCleanSignal, Clean, clean_named, reset_known}
+use Rattle.netlist_laws.proofs.FormulaLeaves.{value_same}
+use Rattle.netlist_laws.proofs.SharedFunctions.{OwnHas}
+use Rattle.netlist_laws.proofs.SignalLeaves.{pin_leaf, q_leaf, pin_is_plain}
+use Rattle.netlist_laws.proofs.Valuing.{node_leaf, node_is_plain}
+use Rattle.netlist_laws.proofs.WantedCells.{found}
 use Rattle.source_machine.specs.NetlistLookups.{IsSignalOrder, netlist_lookups, signal_slot}
 use Rattle.source_machine.proofs.NetlistOrdered.{unset_enable}
 use Rattle.source_machine.proofs.SameSignals.{AgreesAt, cell_same, node_same}

@@ -13,8 +13,8 @@ use Rattle.pld_device.specs.Table.{Table, cell_at, no_cell}
 use Rattle.bit_expr.specs.declared.node.Leaf.TheVariants as leaf
 use Rattle.abel_meaning.specs.Netlists.{PlainNetlist}
 use Rattle.abel_meaning.specs.Soundness.{IsSound}
-use Rattle.fitted.proofs.SignalLeaves.{waits_for_pin}
-use Rattle.fitted.proofs.Valuing.{waits_for_node}
+use Rattle.netlist_laws.proofs.SignalLeaves.{waits_for_pin}
+use Rattle.netlist_laws.proofs.Valuing.{waits_for_node}
 use Rattle.source_machine.specs.NetlistLookups.{IsSignalOrder, netlist_lookups}
 use Rattle.source_machine.proofs.SameSignals.{AgreesAt, cell_same, node_same}
 use Rattle.source_machine.proofs.SignalPlaces.{in_signals, none_waits, pin_later, node_later}

@@ -17,8 +17,8 @@ use Rattle.abel_meaning.specs.Netlists.{Wanted, PlainNetlist, as_named, function
 use Rattle.abel_meaning.specs.NetlistLogic.{may_drive, may_store, netlist_logic, netlist_values}
 use Rattle.abel_meaning.specs.Soundness.{IsSound}
 use Rattle.abel_meaning.specs.SourceLogic.{source_logic}
-use Rattle.fitted.specs.Correct.{MeansTheSame}
-use Rattle.fitted.proofs.BoolLaws.{level_is}
+use Rattle.netlist_laws.specs.FittedCorrect.{MeansTheSame}
+use Rattle.netlist_laws.proofs.BoolLaws.{level_is}
 use Rattle.source_machine.specs.AnyAs0.{data_with_any_0, level_with_any_0, next_with_any_0, netlist_with_any_0}
 use Rattle.source_machine.specs.NetlistLookups.{IsSignalOrder, netlist_lookups}
 use Rattle.source_machine.proofs.CleanSlots.{resets_free}

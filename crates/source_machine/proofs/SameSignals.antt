@@ -17,10 +17,10 @@ use Rattle.abel_meaning.specs.NetlistLogic.{drives, enable_of, netlist_stores, n
 use Rattle.abel_meaning.specs.NetlistReads.{netlist_names}
 use Rattle.abel_meaning.specs.SignalReads.{function_names, names_if_any}
 use Rattle.abel_meaning.specs.Soundness.{IsReadable, IsSound}
-use Rattle.fitted.proofs.CellRanks.{enable_names, wanted_enable_sound}
-use Rattle.fitted.proofs.FormulaLeaves.{value_same}
-use Rattle.fitted.proofs.Valuing.{cell_named, node_names}
-use Rattle.fitted.proofs.WantedCells.{sound_at}
+use Rattle.netlist_laws.proofs.CellRanks.{enable_names, wanted_enable_sound}
+use Rattle.netlist_laws.proofs.FormulaLeaves.{value_same}
+use Rattle.netlist_laws.proofs.Valuing.{cell_named, node_names}
+use Rattle.netlist_laws.proofs.WantedCells.{sound_at}
 use Rattle.source_machine.specs.AnyAs0.{data_with_any_0, level_with_any_0}
 use Rattle.source_machine.specs.NetlistLookups.{netlist_lookups}
 

@@ -23,10 +23,10 @@ use Rattle.abel_meaning.specs.SignalReads.{given_formulas}
 use Rattle.abel_meaning.specs.SourceLogic.{is_negated, logic_with_any_0, next_allows, node_allows, node_signal, node_value_by, pin_allows, q_complements, takes_any_as_0}
 use Rattle.abel_meaning.proofs.FormulasFollow.{formulas_have_values}
 use Rattle.abel_meaning.proofs.FunctionValues.{formula_function}
-use Rattle.fitted.specs.Correct.{MeansTheSame}
-use Rattle.gathered.specs.Gathered.{netlist_of, wanted_for}
-use Rattle.gathered.proofs.CellsFound.{wanted_found}
-use Rattle.gathered.proofs.Meaning.{gathered_means_the_same, value_as}
+use Rattle.netlist_laws.specs.FittedCorrect.{MeansTheSame}
+use Rattle.netlist_laws.specs.Gathered.{netlist_of, wanted_for}
+use Rattle.netlist_laws.proofs.CellsFound.{wanted_found}
+use Rattle.netlist_laws.proofs.Meaning.{gathered_means_the_same, value_as}
 use Rattle.source_machine.specs.AnyAs0.{data_with_any_0, level_with_any_0, next_with_any_0, netlist_with_any_0}
 use Rattle.source_machine.specs.Correct.{AllowTheSame, GatheredAs0}
 use Rattle.source_machine.proofs.SameSignals.{alone}

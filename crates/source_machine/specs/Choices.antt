@@ -10,7 +10,7 @@ use Rattle.abel_meaning.specs.Choices.{inverting}
 use Rattle.abel_meaning.specs.Designs.{design_of}
 use Rattle.abel_meaning.specs.Netlists.{PlainNetlist, wanted_at}
 use Rattle.abel_meaning.specs.SourceLogic.{logic_with_any_0}
-use Rattle.free_netlists.specs.ExchangedNets.{is_free_wanted}
+use Rattle.netlist_laws.specs.ExchangedNets.{is_free_wanted}
 use Rattle.source_machine.specs.AnyAs0.{netlist_with_any_0}
 
 -- the cells of a device whose bits are 1

@@ -6,8 +6,8 @@ use Rattle.pld_device.specs.Table.{Table}
 use Rattle.abel_tree.specs.Tree.{ModuleTree}
 use Rattle.abel_meaning.specs.Designs.{design_of}
 use Rattle.abel_meaning.specs.SourceLogic.{logic_with_any_0}
-use Rattle.gathered.specs.Gathered.{netlist_of}
-use Rattle.gathered.specs.Takeable.{RegistersHaveCells}
+use Rattle.netlist_laws.specs.Gathered.{netlist_of}
+use Rattle.netlist_laws.specs.Takeable.{RegistersHaveCells}
 use Rattle.source_machine.specs.AnyAs0.{netlist_with_any_0}
 
 -- each of the two allows no more than the other

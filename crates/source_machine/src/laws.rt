@@ -6,7 +6,7 @@ ghost use Rattle.abel_tree.specs.Tree.{ModuleTree};
 ghost use Rattle.abel_meaning.specs.Netlists.{PlainNetlist};
 ghost use Rattle.abel_meaning.specs.NetlistLogic.{netlist_logic};
 ghost use Rattle.abel_meaning.specs.SourceLogic.{source_logic};
-ghost use Rattle.fitted.specs.Correct.{MeansTheSame};
+ghost use Rattle.netlist_laws.specs.FittedCorrect.{MeansTheSame};
 ghost use Rattle.source_machine.specs.AnyAs0.{netlist_with_any_0};
 ghost use Rattle.source_machine.specs.Correct.{GatheredAs0};
 

@@ -14,8 +14,8 @@ use Rattle.abel_meaning.specs.Netlists.{Wanted, plain_netlist, plain_wanted, wan
 use Rattle.abel_meaning.specs.SignalReads.{given_formulas}
 use Rattle.fit_laws.specs.Plans.{cell_wanted}
 use Rattle.fit_laws.proofs.WantedIds.{wanted_is}
-use Rattle.gathered.proofs.CellsFound.{wanted_found, wanted_here}
-use Rattle.gathered.specs.Gathered.{netlist_of}
+use Rattle.netlist_laws.proofs.CellsFound.{wanted_found, wanted_here}
+use Rattle.netlist_laws.specs.Gathered.{netlist_of}
 use Rattle.summary_line.specs.Summary.{SummaryCountsTheDesign, assigned_cells}
 
 -- what a Bool counts for

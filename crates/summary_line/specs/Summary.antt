@@ -14,8 +14,8 @@ use Rattle.abel_tree.specs.Tree.{ModuleTree}
 use Rattle.abel_meaning.specs.Controls.{signal_on}
 use Rattle.abel_meaning.specs.Designs.{Context, design_of}
 use Rattle.abel_meaning.specs.Netlists.{PlainNetlist, wanted_at}
-use Rattle.fitted.specs.Covers.{is_used}
-use Rattle.gathered.specs.Gathered.{netlist_of}
+use Rattle.netlist_laws.specs.RowCovers.{is_used}
+use Rattle.netlist_laws.specs.Gathered.{netlist_of}
 
 -- how many data rows of a cell aren't all 0
 unfoldable pub rows_used : Table → List Bool → (cell : ℕ) → ℕ

@@ -8,7 +8,7 @@ use Rattle.abel_tree.specs.Entries.{Entry}
 use Rattle.abel_meaning.specs.Designs.{Context, no_name}
 use Rattle.abel_meaning.specs.Terms.{Term, Known, Number, known_of, term_meant, term_named, extended_if}
 use Rattle.abel_meaning.specs.Targets.{targets_of, some_signals}
-use Rattle.gathered.specs.SignalUses.{SignalUse, term_uses}
+use Rattle.netlist_laws.specs.SignalUses.{SignalUse, term_uses}
 use Rattle.design_uses.specs.LocatedUses.{own_or_outer}
 use Rattle.design_uses.specs.SectionUses.{is_enabled_by_pin}
 use Rattle.design_uses.proofs.UsesRead.{twice}

@@ -6,7 +6,7 @@ use Rattle.pld_base.specs.declared.place.Place.{Place}
 use Rattle.abel_tree.specs.FirstRefusal.{sooner, earlier}
 use Rattle.abel_tree.proofs.FirstRefusals.{earlier_assoc, earlier_none}
 use Rattle.abel_meaning.specs.Designs.{Context}
-use Rattle.gathered.specs.SignalUses.{SignalUse}
+use Rattle.netlist_laws.specs.SignalUses.{SignalUse}
 use Rattle.design_uses.specs.LocatedUses.{PlacedUse, all_at}
 use Rattle.use_refusals.specs.declared.refused.RefusedUse.{RefusedUse}
 use Rattle.use_refusals.specs.declared.rule.Rule.{Rule}

@@ -14,7 +14,7 @@ use Rattle.abel_meaning.specs.Designs.{Context}
 use Rattle.abel_meaning.specs.Terms.{Known}
 use Rattle.design_uses.specs.LocatedUses.{PlacedUse, range_located, all_at}
 use Rattle.design_uses.specs.SectionUses.{expression_uses, statement_uses, branch_uses, branches_uses, states_uses, section_uses, sections_uses}
-use Rattle.gathered.specs.SignalUses.{term_uses}
+use Rattle.netlist_laws.specs.SignalUses.{term_uses}
 use Rattle.abel_meaning.specs.Terms.{extended_if, term_named}
 use Rattle.set_expr.proofs.FoundMembers.{front_more}
 use Rattle.use_refusals.specs.declared.refused.RefusedUse.{RefusedUse}

@@ -19,8 +19,8 @@ use Rattle.pld_device.specs.Table.{Table}
 use Rattle.abel_meaning.specs.Designs.{Context, name_at}
 use Rattle.abel_meaning.specs.Targets.{targets_of, some_signals}
 use Rattle.abel_meaning.specs.Terms.{Term, Known, known_of, extended_if}
-use Rattle.gathered.specs.Gathered.{cell_of}
-use Rattle.gathered.specs.SignalUses.{SignalUse, term_uses}
+use Rattle.netlist_laws.specs.Gathered.{cell_of}
+use Rattle.netlist_laws.specs.SignalUses.{SignalUse, term_uses}
 use Rattle.design_uses.specs.LocatedUses.{PlacedUse, members_located}
 use Rattle.design_uses.specs.RefusedUses.{has_extension, has_read_path}
 use Rattle.design_uses.specs.SectionUses.{is_enabled_by_pin, is_cell_by_pin, is_compared, expression_uses, statements_uses, branch_uses, branches_uses, choices_uses, states_uses, with_uses}

@@ -5,7 +5,7 @@ ghost use Rattle.abel_tree.specs.Entries.{Entry, view_declared, view_meaning};
 ghost use Rattle.abel_tree.specs.View.{view};
 ghost use Rattle.abel_meaning.specs.Designs.{Context, name_at};
 ghost use Rattle.abel_meaning.specs.Terms.{Number, Read, extended_if, term_meant, term_of};
-ghost use Rattle.gathered.specs.SignalUses.{term_uses};
+ghost use Rattle.netlist_laws.specs.SignalUses.{term_uses};
 ghost use Rattle.set_expr.specs.Answer.{IsContextOf};
 ghost use Rattle.use_refusals.specs.Walked.{Asking, IsUsesOf, IsReadOf, IsControlOf, Knows, anywhere, asking, first_read, is_asked_of};
 

@@ -3,7 +3,7 @@
 ghost use Rattle.std.specs.Prelude.{◌≡◌, ◌<◌, Bool, Option, length};
 ghost use Rattle.abel_tree.specs.Entries.{APin, Kind, has, view_declared, view_meaning};
 ghost use Rattle.abel_meaning.specs.Designs.{cell_on, is_stored};
-ghost use Rattle.gathered.specs.Gathered.{cell_of};
+ghost use Rattle.netlist_laws.specs.Gathered.{cell_of};
 ghost use Rattle.design_uses.specs.RefusedUses.{carries_level, carries_q, has_by, has_extension, has_read_path, has_read_path_on, pin_has, reads_by, reads_pin, reads_register, register_has};
 ghost use Rattle.design_uses.specs.SectionUses.{is_by_pin, is_cell_by_pin};
 ghost use Rattle.use_refusals.specs.Walked.{is_asked_of, is_by_pin_of};

@@ -6,7 +6,7 @@ ghost use Rattle.abel_tree.specs.Ranges.{range_names};
 ghost use Rattle.abel_tree.specs.View.{view, view_member};
 ghost use Rattle.abel_meaning.specs.Targets.{targets_of, all_targets};
 ghost use Rattle.abel_meaning.specs.Terms.{NoTerm, extended_if, member_before, named_before, term_named, term_of};
-ghost use Rattle.gathered.specs.SignalUses.{term_uses};
+ghost use Rattle.netlist_laws.specs.SignalUses.{term_uses};
 ghost use Rattle.design_uses.specs.LocatedUses.{all_at, located, member_located, own_or_outer, range_located};
 ghost use Rattle.use_refusals.specs.Walked.{Asking, Knows, Shows, are_by_pin, first_read, members_in, met};
 

@@ -4,8 +4,8 @@ use Rattle.pld_device.specs.Registers.{is_inverted}
 use Rattle.abel_meaning.specs.Choices.{source_logic_under, source_values_under}
 use Rattle.abel_meaning.specs.Netlists.{plain_netlist}
 use Rattle.abel_meaning.specs.Vectors.{source_vectors}
-use Rattle.free_netlists.specs.ExchangedNets.{netlist_shown}
-use Rattle.free_netlists.proofs.FreeCells.{shown_is_sound}
+use Rattle.netlist_laws.specs.ExchangedNets.{netlist_shown}
+use Rattle.netlist_laws.proofs.FreeCells.{shown_is_sound}
 use Rattle.compile_phases.proofs.NarrowVectors.{vectors_narrow}
 use Rattle.abel_compile.proofs.OrderedRows.{rows_ordered}
 use Rattle.abel_compile.proofs.laws.fits_are_right.Goals as goal

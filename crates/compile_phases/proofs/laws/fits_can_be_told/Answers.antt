@@ -1,6 +1,6 @@
 -- What is known of fitted netlists, put together.
 use Rattle.abel_meaning.specs.Netlists.{plain_netlist}
-use Rattle.free_netlists.specs.ExchangedNets.{netlist_shown}
+use Rattle.netlist_laws.specs.ExchangedNets.{netlist_shown}
 use Rattle.compile_phases.proofs.laws.fits_can_be_told.Goals as goal
 
 pub returns : goal.returns

@@ -2,7 +2,7 @@ use Rattle.std.proofs.Common.{◌≡◌, ◌+◌, ◌∙◌, ap, arith}
 use Rattle.std.specs.List.{count_by, range_with_len}
 use Rattle.pld_device.specs.declared.cell.Cell.{Cell}
 use Rattle.device_logic.proofs.Ranges.{cell_found}
-use Rattle.fitted.specs.Covers.{is_used}
+use Rattle.netlist_laws.specs.RowCovers.{is_used}
 use Rattle.summary_line.specs.Summary.{rows_used}
 use Rattle.summary_line.proofs.Counts.{counted_is, counted_most, one_more}
 use Rattle.summary_line.proofs.counting.rows_used.Goals as goal

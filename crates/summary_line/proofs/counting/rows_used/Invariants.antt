@@ -1,7 +1,7 @@
 -- Those of the rows so far.
 use Rattle.std.proofs.Common.{◌≡◌, ◌≤◌}
 use Rattle.std.specs.List.{count_by, range_with_len}
-use Rattle.fitted.specs.Covers.{is_used}
+use Rattle.netlist_laws.specs.RowCovers.{is_used}
 use Rattle.summary_line.proofs.counting.rows_used.Given as goal
 
 abbrev pub invariant-loop-offset : goal.invariant-loop-offset

@@ -2,7 +2,7 @@
 use Rattle.std.proofs.Common.{sym, ap₂, subst, fold, ◌∙◌}
 use Rattle.abel_meaning.specs.Terms.{extended_if, term_named}
 use Rattle.design_uses.specs.LocatedUses.{all_at}
-use Rattle.gathered.specs.SignalUses.{term_uses}
+use Rattle.netlist_laws.specs.SignalUses.{term_uses}
 use Rattle.use_refusals.specs.Walked.{Shows, met}
 use Rattle.use_refusals.proofs.Learnt.{doubly}
 use Rattle.use_refusals.proofs.walk.UseWalk.visit_name.Goals as goal

@@ -4,7 +4,7 @@ use Rattle.std.specs.Prelude.{unwrap_or}
 use Rattle.abel_tree.specs.FirstRefusal.{earlier}
 use Rattle.abel_tree.proofs.FirstRefusals.{earlier_none}
 use Rattle.abel_meaning.specs.Terms.{extended_if, term_named}
-use Rattle.gathered.specs.SignalUses.{term_uses}
+use Rattle.netlist_laws.specs.SignalUses.{term_uses}
 use Rattle.use_refusals.specs.Refused.{use_order}
 use Rattle.use_refusals.proofs.Learnt.{kept_name, no_kept_name, no_reads, under_is}
 use Rattle.use_refusals.proofs.MetUses.{kept_met, told_if}

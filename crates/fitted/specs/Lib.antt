@@ -1,4 +1,0 @@
-pub mod Correct
-pub mod Covers
-pub mod Example
-pub mod Fitting

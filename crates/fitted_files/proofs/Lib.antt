@@ -1,2 +1,0 @@
-pub mod FittedReads
-pub mod PastLines

@@ -1,2 +1,0 @@
-pub mod Correct
-pub mod ExchangedNets

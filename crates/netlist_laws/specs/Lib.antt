@@ -1,0 +1,16 @@
+pub mod Controls
+pub mod ExchangedCorrect
+pub mod ExchangedNets
+pub mod FileLaws
+pub mod FittedCorrect
+pub mod FittedExample
+pub mod Fitting
+pub mod Gathered
+pub mod GatheredCorrect
+pub mod GatheredExample
+pub mod ModuleCovers
+pub mod PrimeCorrect
+pub mod PrimeExample
+pub mod RowCovers
+pub mod SignalUses
+pub mod Takeable

@@ -1,4 +1,0 @@
-pub mod Controls
-pub mod Correct
-pub mod Covers
-pub mod Example
