@@ -10,8 +10,8 @@ use Rattle.abel_tree.specs.Tree.{ModuleTree}
 use Rattle.abel_meaning.specs.Designs.{design_of, name_at}
 use Rattle.abel_meaning.specs.Netlists.{Wanted, plain_netlist, plain_wanted, wanted_at}
 use Rattle.abel_meaning.specs.SignalReads.{given_formulas}
-use Rattle.fit_laws.specs.Plans.{cell_wanted}
-use Rattle.fit_laws.proofs.WantedIds.{wanted_is}
+use Rattle.fitter.specs.Plans.{cell_wanted}
+use Rattle.fitter.proofs.WantedIds.{wanted_is}
 use Rattle.fitter.specs.declared.answer.Fitted.{Fitted}
 use Rattle.fitter.specs.Answers.{IsFitOf}
 use Rattle.fitter.specs.Order.{AreRowsInOrder}

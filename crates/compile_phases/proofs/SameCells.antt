@@ -23,15 +23,15 @@ use Rattle.sop_lowering.specs.Products.{Products}
 use Rattle.sop_lowering.specs.Written.{written, bit_list}
 use Rattle.netlist_laws.specs.Fitting.{AreShared}
 use Rattle.fit_plans.specs.Tries.{needed_of, allowed_of, one_or_any}
-use Rattle.fit_laws.specs.Coverable.{IsSoundId}
-use Rattle.fit_laws.specs.Plans.{bit_or, cell_wanted, enable_bit}
-use Rattle.fit_laws.proofs.Coverable.{either_sound}
-use Rattle.fit_laws.proofs.WantedIds.{wanted_is, one_is, IsSoundIdCell, sound_id_at, function_ids, enable_id, reset_id, preset_id}
+use Rattle.fitter.specs.Coverable.{IsSoundId}
+use Rattle.fitter.specs.Plans.{bit_or, cell_wanted, enable_bit}
+use Rattle.fitter.proofs.Coverable.{either_sound}
+use Rattle.fitter.proofs.WantedIds.{wanted_is, one_is, IsSoundIdCell, sound_id_at, function_ids, enable_id, reset_id, preset_id}
 use Rattle.fit_plans.specs.Forms.{may_be_inverted_as, or_is_complement, rows_are_positive}
-use Rattle.fit_shared.specs.declared.shared.SharedControl.{SharedControl}
-use Rattle.fit_shared.specs.declared.shared.SharedControl.TheVariants.{Preset, Reset}
-use Rattle.fit_shared.specs.Sharing.{AreNotShared, own_formula}
-use Rattle.cell_covers.specs.Width.{IsControlTooWide, IsTooWide, NoneWide, IsFirstWide}
+use Rattle.fitter.specs.declared.shared.SharedControl.{SharedControl}
+use Rattle.fitter.specs.declared.shared.SharedControl.TheVariants.{Preset, Reset}
+use Rattle.fitter.specs.Sharing.{AreNotShared, own_formula}
+use Rattle.fitter.specs.Width.{IsControlTooWide, IsTooWide, NoneWide, IsFirstWide}
 use Rattle.fitter.specs.declared.fault.FitFault.{FitFault}
 use Rattle.fitter.specs.declared.fault.FitFault.TheVariants as fit
 use Rattle.fitter.specs.Answers.{FitAnswers, HasControls}

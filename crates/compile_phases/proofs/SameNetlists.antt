@@ -18,9 +18,9 @@ use Rattle.covers.specs.Cubes.{literal_cube}
 use Rattle.sop_lowering.specs.Products.{Products}
 use Rattle.sop_lowering.specs.Written.{function_of_node, node_formula, leaf_list, list_of, node_list, written, bit_list}
 use Rattle.netlist_laws.proofs.FormulaLeaves.{same_leaf-refl}
-use Rattle.fit_laws.specs.Coverable.{IsSoundId}
-use Rattle.fit_laws.proofs.LeafPairs.{pin_pair, cell_pair}
-use Rattle.fit_laws.proofs.Reached.{nodes_count, node_is, one_sound}
+use Rattle.fitter.specs.Coverable.{IsSoundId}
+use Rattle.fitter.proofs.LeafPairs.{pin_pair, cell_pair}
+use Rattle.fitter.proofs.Reached.{nodes_count, node_is, one_sound}
 
 -- a list is that of its leaves
 list_same : (A B : Leaf → Bool → Products) (f : Formula) → ((l : Leaf) → names f l ≡ true → (p : Bool) → A l p ≡ B l p)

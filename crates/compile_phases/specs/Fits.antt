@@ -8,7 +8,7 @@ use Rattle.abel_meaning.specs.Kinds.{names_of}
 use Rattle.covers.specs.declared.cube.Cube.{Cube}
 use Rattle.design_lines.specs.Fits.{fit_text}
 use Rattle.fit_plans.specs.Tries.{allowed_of, needed_of}
-use Rattle.fit_laws.specs.Plans.{cell_wanted}
+use Rattle.fitter.specs.Plans.{cell_wanted}
 use Rattle.fit_plans.specs.Forms.{may_be_inverted_as, rows_are_positive}
 use Rattle.fitter.specs.declared.fault.FitFault.{FitFault}
 use Rattle.fitter.specs.declared.fault.FitFault.TheVariants as fit

@@ -27,7 +27,7 @@ use Rattle.design_checks.specs.declared.fault.DesignFault.{DesignFault}
 use Rattle.design_lines.specs.Designs.{design_text}
 use Rattle.design_lines.specs.Fits.{fit_text}
 use Rattle.netlist_laws.specs.FittedCorrect.{MeansTheSame}
-use Rattle.cell_covers.specs.Width.{IsFirstWide}
+use Rattle.fitter.specs.Width.{IsFirstWide}
 use Rattle.fitter.specs.declared.answer.Fitted.{Fitted}
 use Rattle.fitter.specs.declared.fault.FitFault.{FitFault}
 use Rattle.fitter.specs.declared.fault.FitFault.TheVariants as fit

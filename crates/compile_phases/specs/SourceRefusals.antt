@@ -28,7 +28,7 @@ use Rattle.design_lines.specs.Designs.{design_text}
 use Rattle.design_lines.specs.Fits.{fit_text}
 use Rattle.source_sections.specs.SectionAnswers.{AreContributed}
 use Rattle.source_vectors.specs.AllSections.{all_sections_refused}
-use Rattle.cell_covers.specs.Width.{IsFirstWide, NoneWide}
+use Rattle.fitter.specs.Width.{IsFirstWide, NoneWide}
 use Rattle.fitter.specs.declared.fault.FitFault.TheVariants as fit
 use Rattle.compile_phases.specs.declared.fault.SourceFault.{SourceFault}
 use Rattle.compile_phases.specs.declared.fault.SourceFault.TheVariants.{Expand, Scan, Parse, Names, Sections, Design, Width}

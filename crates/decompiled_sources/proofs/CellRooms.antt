@@ -26,11 +26,11 @@ use Rattle.covers.specs.declared.cube.Cube.{Cube}
 use Rattle.sop_lowering.specs.Products.{Products, sum_of}
 use Rattle.sop_lowering.specs.Written.{bit_list, written}
 use Rattle.fit_plans.specs.Tries.{allowed_of, needed_of, one_of}
-use Rattle.fit_laws.specs.Plans.{cell_wanted, enable_bit}
-use Rattle.fit_laws.proofs.WantedIds.{enable_is, sound_id_at, wanted_is}
+use Rattle.fitter.specs.Plans.{cell_wanted, enable_bit}
+use Rattle.fitter.proofs.WantedIds.{enable_is, sound_id_at, wanted_is}
 use Rattle.fit_plans.specs.Forms.{rows_are_positive}
-use Rattle.cell_covers.specs.Width.{IsFunctionTooWide}
-use Rattle.cell_covers.proofs.Widths.{cell_low}
+use Rattle.fitter.specs.Width.{IsFunctionTooWide}
+use Rattle.fitter.proofs.Widths.{cell_low}
 use Rattle.fitter.specs.Products.{IsProduct}
 use Rattle.compile_phases.specs.Fits.{HasRoom}
 use Rattle.decompiled_sources.specs.Bounds.{IsShort}

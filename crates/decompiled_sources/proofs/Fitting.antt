@@ -11,8 +11,8 @@ use Rattle.abel_tree.specs.Tree.{ModuleTree}
 use Rattle.abel_meaning.specs.Designs.{cell_on}
 use Rattle.abel_meaning.specs.Netlists.{plain_netlist}
 use Rattle.abel_meaning.specs.SoundIds.{IsSoundNetlist}
-use Rattle.fit_shared.specs.declared.shared.SharedControl.TheVariants.{Preset, Reset}
-use Rattle.cell_covers.specs.Width.{IsControlTooWide, NoneWide}
+use Rattle.fitter.specs.declared.shared.SharedControl.TheVariants.{Preset, Reset}
+use Rattle.fitter.specs.Width.{IsControlTooWide, NoneWide}
 use Rattle.sop_lowering.specs.Written.{bit_list}
 use Rattle.compile_phases.specs.SourceRefusals.{IsNetlistOf}
 use Rattle.decompiled_sources.specs.Bounds.{IsNoNode}

@@ -18,13 +18,13 @@ use Rattle.abel_meaning.specs.Netlists.{Wanted, first_with, own_of, own_or_share
 use Rattle.abel_meaning.specs.SoundIds.{IsSoundNetlist}
 use Rattle.netlist_laws.specs.Fitting.{AreShared}
 use Rattle.sop_lowering.specs.Written.{bit_list}
-use Rattle.fit_laws.specs.Plans.{cell_wanted}
-use Rattle.fit_laws.proofs.WantedIds.{found_id, sound_id_at, wanted_is, zero_is, zero_sound}
-use Rattle.fit_shared.specs.declared.shared.SharedControl.{SharedControl}
-use Rattle.fit_shared.specs.declared.shared.SharedControl.TheVariants.{Preset, Reset}
-use Rattle.fit_shared.specs.Sharing.{IsSharedBit, own_control, own_formula}
-use Rattle.fit_shared.proofs.Alike.{first_wanted, own_id}
-use Rattle.fit_shared.proofs.FirstNames.{none_first, own_is}
+use Rattle.fitter.specs.Plans.{cell_wanted}
+use Rattle.fitter.proofs.WantedIds.{found_id, sound_id_at, wanted_is, zero_is, zero_sound}
+use Rattle.fitter.specs.declared.shared.SharedControl.{SharedControl}
+use Rattle.fitter.specs.declared.shared.SharedControl.TheVariants.{Preset, Reset}
+use Rattle.fitter.specs.Sharing.{IsSharedBit, own_control, own_formula}
+use Rattle.fitter.proofs.Alike.{first_wanted, own_id}
+use Rattle.fitter.proofs.FirstNames.{none_first, own_is}
 use Rattle.fitter.specs.Products.{IsProduct, IsSharedProduct}
 use Rattle.pin_sources.specs.declared.literal.PinLiteral.{PinLiteral}
 use Rattle.decompiled_logic.specs.Alike.{IsFusesNetlist, shared_formula}

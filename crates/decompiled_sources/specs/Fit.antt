@@ -8,8 +8,8 @@ use Rattle.bit_expr.specs.declared.node.Leaf.{Leaf}
 use Rattle.abel_tree.specs.Tree.{ModuleTree}
 use Rattle.abel_meaning.specs.Netlists.{plain_netlist}
 use Rattle.abel_meaning.specs.SoundIds.{IsSoundNetlist}
-use Rattle.fit_laws.specs.Plans.{cell_wanted}
-use Rattle.cell_covers.specs.Width.{NoneWide}
+use Rattle.fitter.specs.Plans.{cell_wanted}
+use Rattle.fitter.specs.Width.{NoneWide}
 use Rattle.fitter.specs.Answers.{HasControls}
 use Rattle.compile_phases.specs.Fits.{FitsAsWritten, HasRoom}
 use Rattle.compile_phases.specs.SourceRefusals.{IsNetlistOf}

@@ -7,8 +7,8 @@ use Rattle.abel_tree.specs.FirstRefusal.{earlier, first_refusal, is_before, soon
 use Rattle.abel_tree.proofs.FirstRefusals.{first_append}
 use Rattle.bit_expr.specs.declared.netlist.CellWanted.{CellWanted}
 use Rattle.bit_expr.specs.declared.netlist.Control.{Control}
-use Rattle.fit_shared.specs.declared.shared.SharedControl.{SharedControl}
-use Rattle.fit_shared.specs.Sharing.{own_control}
+use Rattle.fitter.specs.declared.shared.SharedControl.{SharedControl}
+use Rattle.fitter.specs.Sharing.{own_control}
 use Rattle.design_lines.specs.Fits.{control_order, own_controls}
 
 pub before_by : (c d : Control) → is_before control_order c d ≡ sooner c.place.line c.place.column 0 d.place.line d.place.column 0

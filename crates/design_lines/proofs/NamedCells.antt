@@ -6,9 +6,9 @@ use Rattle.pld_device.specs.Table.{Table, cell_at, no_cell}
 use Rattle.bit_expr.specs.declared.netlist.CellWanted.{CellWanted}
 use Rattle.bit_expr.specs.declared.netlist.Netlist.{Netlist}
 use Rattle.abel_meaning.specs.SoundIds.{IsSoundNetlist}
-use Rattle.fit_laws.specs.Plans.{cell_wanted}
-use Rattle.fit_laws.proofs.WantedIds.{sound_id_at}
-use Rattle.cell_covers.proofs.Widths.{cell_low}
+use Rattle.fitter.specs.Plans.{cell_wanted}
+use Rattle.fitter.proofs.WantedIds.{sound_id_at}
+use Rattle.fitter.proofs.Widths.{cell_low}
 
 pub wanted_low : (t : Table) (net : Netlist) → IsSoundNetlist t net → (c : ℕ) (o : Option CellWanted) → o ≡ cell_wanted net c → (w : CellWanted) → o ≡ Some w → w.cell < length t.cells
 wanted_low t net sound c o is w some =

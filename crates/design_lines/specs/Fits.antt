@@ -12,10 +12,10 @@ use Rattle.abel_tree.specs.Entries.{Entry}
 use Rattle.abel_tree.specs.FirstRefusal.{Ranks, first_refusal}
 use Rattle.covers.specs.declared.cube.Cube.{Cube}
 use Rattle.fit_plans.specs.declared.choosing.Tried.{Tried}
-use Rattle.fit_laws.specs.Plans.{cell_wanted}
-use Rattle.fit_shared.specs.declared.shared.SharedControl.{SharedControl}
-use Rattle.fit_shared.specs.declared.shared.SharedControl.TheVariants.{Preset, Reset}
-use Rattle.fit_shared.specs.Sharing.{own_control}
+use Rattle.fitter.specs.Plans.{cell_wanted}
+use Rattle.fitter.specs.declared.shared.SharedControl.{SharedControl}
+use Rattle.fitter.specs.declared.shared.SharedControl.TheVariants.{Preset, Reset}
+use Rattle.fitter.specs.Sharing.{own_control}
 use Rattle.fitter.specs.declared.fault.FitFault.{FitFault}
 use Rattle.fitter.specs.declared.fault.FitFault.TheVariants as fault
 use Rattle.refusal_lines.specs.Told.{line_head}

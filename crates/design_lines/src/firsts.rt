@@ -6,7 +6,7 @@ ghost use Rattle.abel_tree.specs.FirstRefusal as first;
 ghost use Rattle.design_lines.specs.Fits.{control_order, first_own};
 
 use bit_expr::{Control, Netlist};
-use fit_shared::{SharedControl, own_control};
+use fitter::{SharedControl, own_control};
 
 /// Whether a control's first target stands before that of another.
 #[tactic(auto, using(crate::proofs::ControlOrder::before_by))]

@@ -17,25 +17,25 @@ use Rattle.abel_meaning.specs.SoundIds.{IsSoundNetlist}
 use Rattle.covers.specs.declared.cube.Cube.{Cube}
 use Rattle.fit_plans.specs.Columns.{all_turned, turned}
 use Rattle.fit_plans.specs.declared.choosing.Tried.{Tried}
-use Rattle.fit_laws.specs.Plans.{HasCellPlan, IsTurnMask, PlansNetlist, PlansRows, cell_wanted, enable_bit, is_chosen}
-use Rattle.fit_laws.proofs.BurnedControls.{says_inverted}
-use Rattle.fit_laws.proofs.PlannedRows.{cell_single}
-use Rattle.fit_laws.proofs.PlansFit.{may_choose, plans_fit}
-use Rattle.fit_laws.proofs.SharedChosen.{shared_chosen}
+use Rattle.fitter.specs.Plans.{HasCellPlan, IsTurnMask, PlansNetlist, PlansRows, cell_wanted, enable_bit, is_chosen}
+use Rattle.fitter.proofs.BurnedControls.{says_inverted}
+use Rattle.fitter.proofs.PlannedRows.{cell_single}
+use Rattle.fitter.proofs.PlansFit.{may_choose, plans_fit}
+use Rattle.fitter.proofs.SharedChosen.{shared_chosen}
 use Rattle.fit_plans.specs.Covered.{control_function}
 use Rattle.fit_plans.specs.declared.plan.CellPlan.{CellPlan}
 use Rattle.fit_plans.specs.declared.plan.Plan.{Plan}
 use Rattle.fit_plans.specs.Controls.{form_at}
 use Rattle.fit_plans.specs.RowCubes.{HoldsCubes}
-use Rattle.fit_shared.specs.declared.shared.SharedControl.{SharedControl}
-use Rattle.fit_shared.specs.declared.shared.SharedControl.TheVariants.{Preset, Reset}
-use Rattle.cell_covers.specs.declared.covering.CellCovers.{CellCovers}
-use Rattle.cell_covers.specs.Covered.{HasCheckedAs, HasCoversAs}
+use Rattle.fitter.specs.declared.shared.SharedControl.{SharedControl}
+use Rattle.fitter.specs.declared.shared.SharedControl.TheVariants.{Preset, Reset}
+use Rattle.fitter.specs.declared.cell_covering.CellCovers.{CellCovers}
+use Rattle.fitter.specs.CellCovered.{HasCheckedAs, HasCoversAs}
 use Rattle.fitter.specs.declared.answer.Fitted.{Fitted}
 use Rattle.fitter.specs.declared.answer.FittedCell.{FittedCell}
 use Rattle.fitter.specs.declared.planning.AllRows.{AllRows}
 use Rattle.fitter.specs.declared.planning.CellRows.{CellRows}
-use Rattle.fitter.specs.declared.sharing.SharedRows.{SharedRows}
+use Rattle.fitter.specs.declared.shared_rows.SharedRows.{SharedRows}
 use Rattle.fitter.specs.Answers.{HasControls, IsFitOf, IsTooMany}
 use Rattle.fitter.specs.Covered.{CoversBelow}
 use Rattle.fitter.specs.Fitting.{IsBurnedPlan, plan_of}

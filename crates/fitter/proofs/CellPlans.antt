@@ -14,15 +14,15 @@ use Rattle.covers.specs.declared.cube.Cube.{Cube}
 use Rattle.fit_plans.specs.declared.choosing.Tried.{Tried}
 use Rattle.fit_plans.specs.Choices.{FitsRoom}
 use Rattle.fit_plans.specs.Tries.{allowed_of, needed_of}
-use Rattle.fit_laws.specs.Plans.{PlansAs, PlansCell, PlansRows, cell_wanted, enable_bit}
-use Rattle.fit_laws.proofs.WantedIds.{found_id}
+use Rattle.fitter.specs.Plans.{PlansAs, PlansCell, PlansRows, cell_wanted, enable_bit}
+use Rattle.fitter.proofs.WantedIds.{found_id}
 use Rattle.fit_plans.specs.Covered.{IsTriedAs, IsTriedCell, control_function}
 use Rattle.fit_plans.specs.Forms.{may_be_inverted_as, rows_are_positive}
 use Rattle.fit_plans.specs.declared.control_fuses.CellForm.{CellForm}
 use Rattle.fit_plans.specs.declared.plan.CellPlan.{CellPlan}
 use Rattle.fit_plans.specs.Controls.{form_at}
-use Rattle.cell_covers.specs.declared.covering.CellCovers.{CellCovers}
-use Rattle.cell_covers.specs.Covered.{HasCovers, HasCoversAs}
+use Rattle.fitter.specs.declared.cell_covering.CellCovers.{CellCovers}
+use Rattle.fitter.specs.CellCovered.{HasCovers, HasCoversAs}
 use Rattle.fitter.specs.declared.planning.CellRows.{CellRows}
 use Rattle.fitter.specs.declared.fault.FitFault.{FitFault}
 use Rattle.fitter.specs.declared.fault.FitFault.TheVariants as fault

@@ -9,7 +9,7 @@ use Rattle.pld_device.specs.Laws.{IsDevice}
 use Rattle.pld_device.specs.Table.{Table}
 use Rattle.bit_expr.specs.declared.netlist.Netlist.{Netlist}
 use Rattle.fit_plans.specs.declared.control_fuses.CellForm.{CellForm}
-use Rattle.fit_shared.proofs.Stepping.{LevelsBelow}
+use Rattle.fitter.proofs.Stepping.{LevelsBelow}
 use Rattle.fitter.specs.Turning.{IsChoiceMask, carries_choice}
 
 -- what a pair carries, by its entry

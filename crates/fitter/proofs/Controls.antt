@@ -6,9 +6,9 @@ use Rattle.covers.specs.Prime.{IsPrimeIrredundant}
 use Rattle.bit_expr.specs.declared.netlist.Netlist.{Netlist}
 use Rattle.bit_expr.specs.declared.node.ExprId.{ExprId}
 use Rattle.fit_plans.specs.Columns.{all_turned}
-use Rattle.fit_laws.specs.Plans.{PlansControl, PlansRows}
+use Rattle.fitter.specs.Plans.{PlansControl, PlansRows}
 use Rattle.fit_plans.specs.Covered.{control_function}
-use Rattle.cell_covers.proofs.ControlLists.{control_allowed}
+use Rattle.fitter.proofs.ControlLists.{control_allowed}
 use Rattle.fitter.specs.Products.{IsNoProduct, IsProduct}
 use Rattle.fitter.proofs.OneProduct.{many_rows, one_row_is}
 

@@ -9,14 +9,14 @@ use Rattle.bit_expr.specs.declared.netlist.Netlist.{Netlist}
 use Rattle.abel_meaning.specs.SoundIds.{IsSoundNetlist}
 use Rattle.sop_lowering.specs.declared.fault.LowerFault.{LowerFault}
 use Rattle.sop_lowering.specs.declared.fault.LowerFault.TheVariants as lower
-use Rattle.fit_laws.specs.Plans.{cell_wanted}
-use Rattle.fit_shared.specs.declared.shared.SharedControl.{SharedControl}
-use Rattle.fit_shared.specs.declared.shared.SharedControl.TheVariants.{Preset, Reset}
-use Rattle.fit_shared.specs.Sharing.{AllListed}
-use Rattle.cell_covers.specs.declared.covering.CellCovers.{CellCovers}
-use Rattle.cell_covers.specs.Covered.{HasCheckedAs, HasCoversAs, IsCheckedAt, IsCoveredAt, IsFirstNumber, IsWideAt}
-use Rattle.cell_covers.specs.Width.{IsControlTooWide, IsTooWide, NoneWide}
-use Rattle.cell_covers.proofs.Widths.{cell_low, checked_not_wide, covered_checked}
+use Rattle.fitter.specs.Plans.{cell_wanted}
+use Rattle.fitter.specs.declared.shared.SharedControl.{SharedControl}
+use Rattle.fitter.specs.declared.shared.SharedControl.TheVariants.{Preset, Reset}
+use Rattle.fitter.specs.Sharing.{AllListed}
+use Rattle.fitter.specs.declared.cell_covering.CellCovers.{CellCovers}
+use Rattle.fitter.specs.CellCovered.{HasCheckedAs, HasCoversAs, IsCheckedAt, IsCoveredAt, IsFirstNumber, IsWideAt}
+use Rattle.fitter.specs.Width.{IsControlTooWide, IsTooWide, NoneWide}
+use Rattle.fitter.proofs.Widths.{cell_low, checked_not_wide, covered_checked}
 use Rattle.fitter.specs.Covered.{CoversBelow}
 use Rattle.fitter.specs.Planned.{EachFitsBelow, OneFitsAt}
 

@@ -9,7 +9,7 @@ use Rattle.pld_device.specs.Table.{Table}
 use Rattle.bit_expr.specs.declared.netlist.CellWanted.{CellWanted}
 use Rattle.bit_expr.specs.declared.netlist.Netlist.{Netlist}
 use Rattle.bit_expr.proofs.ArenaLists.{get_kept}
-use Rattle.fit_laws.specs.Plans.{cell_wanted}
+use Rattle.fitter.specs.Plans.{cell_wanted}
 use Rattle.fit_plans.specs.declared.control_fuses.CellForm.{CellForm}
 use Rattle.fit_plans.specs.declared.plan.CellPlan.{CellPlan}
 use Rattle.fitter.specs.declared.answer.FittedCell.{FittedCell}

@@ -4,12 +4,12 @@ use Rattle.std.proofs.lemmas.Option.{same_Some}
 use Rattle.pld_device.specs.Table.{Table}
 use Rattle.bit_expr.specs.declared.netlist.CellWanted.{CellWanted}
 use Rattle.bit_expr.specs.declared.netlist.Netlist.{Netlist}
-use Rattle.fit_laws.specs.Plans.{cell_wanted}
+use Rattle.fitter.specs.Plans.{cell_wanted}
 use Rattle.fit_plans.specs.declared.control_fuses.CellForm.{CellForm}
 use Rattle.fit_plans.specs.declared.plan.CellPlan.{CellPlan}
 use Rattle.fit_plans.specs.Controls.{form_at}
-use Rattle.cell_covers.specs.declared.covering.CellCovers.{CellCovers}
-use Rattle.cell_covers.specs.Covered.{HasCoversAs}
+use Rattle.fitter.specs.declared.cell_covering.CellCovers.{CellCovers}
+use Rattle.fitter.specs.CellCovered.{HasCoversAs}
 use Rattle.fitter.specs.declared.planning.CellRows.{CellRows}
 use Rattle.fitter.specs.Planned.{AreChosen, AreRowsOf, EachFitsBelow, OneFitsAt, RowsBelow}
 use Rattle.fitter.specs.Rows.{HasFittingCover}

@@ -16,8 +16,8 @@ use Rattle.netlist_laws.proofs.RowLiterals.{column_of}
 use Rattle.fit_plans.specs.Columns.{all_turned, turned}
 use Rattle.fit_plans.specs.Points.{levels_turned}
 use Rattle.fit_plans.proofs.TurnedCubes.{covers_turned, length_turned, turned_points}
-use Rattle.fit_laws.proofs.CubeRows.{dropped_other}
-use Rattle.fit_laws.proofs.CubeWitness.{asks_one_level}
+use Rattle.fitter.proofs.CubeRows.{dropped_other}
+use Rattle.fitter.proofs.CubeWitness.{asks_one_level}
 use Rattle.fitter.specs.Products.{IsOneProduct}
 
 same_bits : (c : Cube) (v : ℕ) (level : Bool) (w : ℕ) → v < 32 → w < 32 → w ≢ v

@@ -8,7 +8,7 @@ use Rattle.pld_device.specs.Rows.{row_fuses}
 use Rattle.pld_device.specs.Table.{Table, cell_at}
 use Rattle.covers.specs.declared.cube.Cube.{Cube}
 use Rattle.covers.specs.Cubes.{full_cube}
-use Rattle.fit_laws.proofs.PlannedRows.{IsSingle, row_used, zeros_unused}
+use Rattle.fitter.proofs.PlannedRows.{IsSingle, row_used, zeros_unused}
 use Rattle.fit_plans.specs.RowCubes.{HoldsCubes, fuse_at, row_of}
 use Rattle.fitter.specs.Order.{AreRowsInOrder, fuse_number}
 use Rattle.fitter.specs.Rows.{Rises, row_number}

@@ -8,16 +8,16 @@ use Rattle.bit_expr.specs.declared.node.ExprId.{ExprId}
 use Rattle.abel_meaning.specs.Netlists.{plain_netlist}
 use Rattle.abel_meaning.specs.SoundIds.{IsSoundNetlist}
 use Rattle.covers.specs.declared.cube.Cube.{Cube}
-use Rattle.fit_laws.specs.Plans.{IsTurnMask, PlansControl, PlansRows}
+use Rattle.fitter.specs.Plans.{IsTurnMask, PlansControl, PlansRows}
 use Rattle.fit_plans.specs.Covered.{control_function}
-use Rattle.fit_shared.specs.declared.shared.SharedControl.{SharedControl}
-use Rattle.fit_shared.specs.declared.shared.SharedControl.TheVariants.{Preset, Reset}
-use Rattle.fit_shared.specs.Sharing.{IsSharedBit}
-use Rattle.cell_covers.specs.declared.covering.CellCovers.{CellCovers}
-use Rattle.cell_covers.specs.Width.{NoneWide}
+use Rattle.fitter.specs.declared.shared.SharedControl.{SharedControl}
+use Rattle.fitter.specs.declared.shared.SharedControl.TheVariants.{Preset, Reset}
+use Rattle.fitter.specs.Sharing.{IsSharedBit}
+use Rattle.fitter.specs.declared.cell_covering.CellCovers.{CellCovers}
+use Rattle.fitter.specs.Width.{NoneWide}
 use Rattle.fitter.specs.declared.fault.FitFault.{FitFault}
 use Rattle.fitter.specs.declared.fault.FitFault.TheVariants.{EnableTooWide, NotShared, OutOfMemory, PresetTooWide, ResetTooWide, TooManyProducts, TooWide}
-use Rattle.fitter.specs.declared.sharing.SharedRows.{SharedRows}
+use Rattle.fitter.specs.declared.shared_rows.SharedRows.{SharedRows}
 use Rattle.fitter.specs.Answers.{FitAnswers}
 use Rattle.fitter.specs.Covered.{AreCovered, CoversBelow}
 use Rattle.fitter.specs.Planned.{ArePlanned, AreSharedRows, AreSingle, HasSharedRow, IsRowOf, IsSharedBitOf, SingleBelow}

@@ -20,8 +20,8 @@ use Rattle.abel_meaning.specs.NetlistLogic.{netlist_stores, registers_as}
 use Rattle.abel_meaning.specs.SoundIds.{IsSoundNetlist}
 use Rattle.covers.specs.declared.cube.Cube.{Cube}
 use Rattle.fit_plans.specs.Columns.{all_turned, turned}
-use Rattle.fit_laws.specs.Plans.{IsChosenMask, IsTurnMask, PlansAs, PlansCell, PlansRows, carries_chosen, carries_complement, enable_bit, is_chosen}
-use Rattle.fit_laws.proofs.PlansFit.{may_choose}
+use Rattle.fitter.specs.Plans.{IsChosenMask, IsTurnMask, PlansAs, PlansCell, PlansRows, carries_chosen, carries_complement, enable_bit, is_chosen}
+use Rattle.fitter.proofs.PlansFit.{may_choose}
 use Rattle.fit_plans.specs.Covered.{control_function}
 use Rattle.fit_plans.specs.declared.control_fuses.CellForm.{CellForm}
 use Rattle.fit_plans.specs.declared.plan.CellPlan.{CellPlan}

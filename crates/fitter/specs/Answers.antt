@@ -6,11 +6,11 @@ use Rattle.bit_expr.specs.declared.netlist.Netlist.{Netlist}
 use Rattle.abel_meaning.specs.Netlists.{plain_netlist}
 use Rattle.netlist_laws.specs.ExchangedNets.{netlist_shown}
 use Rattle.netlist_laws.specs.Fitting.{AreShared, IsFitted}
-use Rattle.fit_laws.specs.Plans.{IsTurnMask, cell_wanted}
-use Rattle.fit_shared.specs.declared.shared.SharedControl.TheVariants.{Preset, Reset}
-use Rattle.fit_shared.specs.Sharing.{own_formula}
+use Rattle.fitter.specs.Plans.{IsTurnMask, cell_wanted}
+use Rattle.fitter.specs.declared.shared.SharedControl.TheVariants.{Preset, Reset}
+use Rattle.fitter.specs.Sharing.{own_formula}
 use Rattle.fit_plans.specs.declared.choosing.Tried.{Tried}
-use Rattle.cell_covers.specs.Width.{IsFirstWide, NoneWide}
+use Rattle.fitter.specs.Width.{IsFirstWide, NoneWide}
 use Rattle.fitter.specs.declared.fault.FitFault.{FitFault}
 use Rattle.fitter.specs.declared.fault.FitFault.TheVariants.{EnableTooWide, NotShared, OutOfMemory, PresetTooWide, ResetTooWide, TooManyProducts, TooWide}
 use Rattle.fitter.specs.declared.answer.Fitted.{Fitted}

@@ -3,10 +3,10 @@ use Rattle.std.specs.Prelude.{◌≡◌, ℕ, ◌<◌, Option, None, List, lengt
 use Rattle.std.specs.Global.{Vec}
 use Rattle.pld_device.specs.Table.{Table}
 use Rattle.bit_expr.specs.declared.netlist.Netlist.{Netlist}
-use Rattle.fit_laws.specs.Plans.{cell_wanted}
-use Rattle.cell_covers.specs.declared.covering.CellCovers.{CellCovers}
-use Rattle.cell_covers.specs.Covered.{HasCheckedAs, HasCoversAs}
-use Rattle.cell_covers.specs.Width.{IsFirstWide}
+use Rattle.fitter.specs.Plans.{cell_wanted}
+use Rattle.fitter.specs.declared.cell_covering.CellCovers.{CellCovers}
+use Rattle.fitter.specs.CellCovered.{HasCheckedAs, HasCoversAs}
+use Rattle.fitter.specs.Width.{IsFirstWide}
 use Rattle.fitter.specs.declared.fault.FitFault.{FitFault}
 use Rattle.fitter.specs.declared.fault.FitFault.TheVariants as fault
 use Rattle.fitter.specs.Planned.{EachFitsBelow}

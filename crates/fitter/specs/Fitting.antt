@@ -9,7 +9,7 @@ use Rattle.fit_plans.specs.declared.plan.Plan.{Plan}
 use Rattle.fit_plans.specs.Controls.{IsBurned}
 use Rattle.fitter.specs.declared.answer.Fitted.{Fitted}
 use Rattle.fitter.specs.declared.planning.AllRows.{AllRows}
-use Rattle.fitter.specs.declared.sharing.SharedRows.{SharedRows}
+use Rattle.fitter.specs.declared.shared_rows.SharedRows.{SharedRows}
 use Rattle.fitter.specs.Planned.{EntriesBelow}
 use Rattle.fitter.specs.Turning.{AreTurned, IsChoiceMask}
 

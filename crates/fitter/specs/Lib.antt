@@ -1,9 +1,16 @@
 pub mod Answers
+pub mod CellCovered
+pub mod Coverable
 pub mod Covered
+pub mod Evaluating
 pub mod Fitting
+pub mod Missing
 pub mod Order
 pub mod Planned
+pub mod Plans
 pub mod Products
 pub mod Rooms
 pub mod Rows
+pub mod Sharing
 pub mod Turning
+pub mod Width

@@ -9,22 +9,22 @@ use Rattle.bit_expr.specs.declared.node.ExprId.{ExprId}
 use Rattle.covers.specs.declared.cube.Cube.{Cube}
 use Rattle.fit_plans.specs.declared.choosing.Tried.{Tried}
 use Rattle.fit_plans.specs.Choices.{FitsRoom}
-use Rattle.fit_laws.specs.Plans.{PlansControl, cell_wanted}
+use Rattle.fitter.specs.Plans.{PlansControl, cell_wanted}
 use Rattle.fit_plans.specs.declared.control_fuses.CellForm.{CellForm}
 use Rattle.fit_plans.specs.declared.plan.CellPlan.{CellPlan}
 use Rattle.fit_plans.specs.Controls.{form_at}
 use Rattle.netlist_laws.specs.Fitting.{AreShared}
 use Rattle.abel_meaning.specs.Netlists.{plain_netlist}
-use Rattle.fit_shared.specs.declared.shared.SharedControl.{SharedControl}
-use Rattle.fit_shared.specs.declared.shared.SharedControl.TheVariants.{Preset, Reset}
-use Rattle.fit_shared.specs.Sharing.{AreNotShared, IsSharedBit, own_formula}
-use Rattle.cell_covers.specs.declared.covering.CellCovers.{CellCovers}
+use Rattle.fitter.specs.declared.shared.SharedControl.{SharedControl}
+use Rattle.fitter.specs.declared.shared.SharedControl.TheVariants.{Preset, Reset}
+use Rattle.fitter.specs.Sharing.{AreNotShared, IsSharedBit, own_formula}
+use Rattle.fitter.specs.declared.cell_covering.CellCovers.{CellCovers}
 use Rattle.fitter.specs.declared.fault.FitFault.{FitFault}
 use Rattle.fitter.specs.declared.fault.FitFault.TheVariants as fault
 use Rattle.fitter.specs.declared.answer.FittedCell.{FittedCell}
 use Rattle.fitter.specs.declared.planning.AllRows.{AllRows}
 use Rattle.fitter.specs.declared.planning.CellRows.{CellRows}
-use Rattle.fitter.specs.declared.sharing.SharedRows.{SharedRows}
+use Rattle.fitter.specs.declared.shared_rows.SharedRows.{SharedRows}
 use Rattle.fitter.specs.Products.{DifferIn, IsNoProduct, IsSharedSum}
 
 -- ---- one cell

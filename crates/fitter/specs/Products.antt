@@ -10,10 +10,10 @@ use Rattle.bit_expr.specs.declared.node.ExprId.{ExprId}
 use Rattle.covers.specs.declared.cube.Cube.{Cube}
 use Rattle.covers.specs.Cubes.{covers}
 use Rattle.sop_lowering.specs.Written.{bit_list}
-use Rattle.fit_laws.specs.Plans.{cell_wanted, enable_bit}
-use Rattle.fit_shared.specs.declared.shared.SharedControl.{SharedControl}
-use Rattle.fit_shared.specs.declared.shared.SharedControl.TheVariants.{Preset, Reset}
-use Rattle.fit_shared.specs.Sharing.{AreNotShared, IsSharedBit, own_formula}
+use Rattle.fitter.specs.Plans.{cell_wanted, enable_bit}
+use Rattle.fitter.specs.declared.shared.SharedControl.{SharedControl}
+use Rattle.fitter.specs.declared.shared.SharedControl.TheVariants.{Preset, Reset}
+use Rattle.fitter.specs.Sharing.{AreNotShared, IsSharedBit, own_formula}
 use Rattle.netlist_laws.specs.Fitting.{AreShared}
 
 -- the written products have the points of one product, or none

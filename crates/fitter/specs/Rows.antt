@@ -14,7 +14,7 @@ use Rattle.fit_plans.specs.Choices.{FitsRoom}
 use Rattle.fit_plans.specs.Tries.{allowed_of, needed_of}
 use Rattle.sop_lowering.specs.Products.{Products}
 use Rattle.abel_meaning.specs.Netlists.{plain_netlist}
-use Rattle.fit_laws.specs.Plans.{IsTurnMask, cell_wanted}
+use Rattle.fitter.specs.Plans.{IsTurnMask, cell_wanted}
 use Rattle.fit_plans.specs.Covered.{IsTriedAs, IsTriedCell}
 use Rattle.fit_plans.specs.Forms.{may_be_inverted_as, rows_are_positive}
 use Rattle.fit_plans.specs.RowCubes.{HoldsCubes, fuse_at}

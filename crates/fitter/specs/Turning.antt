@@ -8,7 +8,7 @@ use Rattle.pld_device.specs.declared.carry.Carry.TheVariants as carry
 use Rattle.pld_device.specs.Table.{Table}
 use Rattle.bit_expr.specs.declared.netlist.Netlist.{Netlist}
 use Rattle.fit_plans.specs.Columns.{all_turned, turned}
-use Rattle.fit_laws.specs.Plans.{is_chosen}
+use Rattle.fitter.specs.Plans.{is_chosen}
 use Rattle.fit_plans.specs.declared.control_fuses.CellForm.{CellForm}
 use Rattle.fit_plans.specs.declared.plan.CellPlan.{CellPlan}
 use Rattle.fitter.specs.Rows.{Rises}

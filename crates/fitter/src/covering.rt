@@ -2,14 +2,15 @@
 
 ghost use Rattle.std.specs.Prelude.{◌≡◌, ◌⊎◌, ◌<◌, ◌≤◌, Ok, false, length, true};
 ghost use Rattle.abel_meaning.specs.SoundIds.{IsSoundNetlist};
-ghost use Rattle.cell_covers.specs.Covered.{IsCheckedAt, IsCoveredAt};
+ghost use Rattle.fitter.specs.CellCovered.{IsCheckedAt, IsCoveredAt};
 ghost use Rattle.fit_plans.specs.Choices.{FitsRoom};
 ghost use Rattle.fitter.specs.Covered.{AreCovered};
 ghost use Rattle.fitter.specs.Planned.{OneFitsAt};
 
+use crate::cell_covering::{CellCovers, check_at, cover_at};
 use crate::fault::FitFault;
+use crate::widest::first_wide;
 use bit_expr::Netlist;
-use cell_covers::{CellCovers, check_at, cover_at, first_wide};
 use covers::{Cube, CubePool};
 use pld_device::Device;
 use sop_lowering::LowerFault;

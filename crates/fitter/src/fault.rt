@@ -1,7 +1,7 @@
 //! Why a netlist does not fit.
 
+use crate::shared::SharedControl;
 use fit_plans::Tried;
-use fit_shared::SharedControl;
 use pld_base::{OutOfMemory, Point};
 use std::alloc::{AllocError, AllocFailed};
 use std::fmt::{self, Debug, Formatter};

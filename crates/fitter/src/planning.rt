@@ -3,8 +3,8 @@
 ghost use Rattle.std.specs.Prelude.{ℕ, ◌≡◌, ◌<◌, ◌≤◌, None, Some, get_or, length};
 ghost use Rattle.fitter.specs.Planned.{AreNoRows, ArePlanned, ArePlannedAt, AreSingle};
 
+use crate::cell_covering::CellCovers;
 use crate::fault::FitFault;
-use cell_covers::CellCovers;
 use fit_plans::{CellForm, CellPlan, choose};
 use pld_base::ListOf;
 use pld_device::Device;

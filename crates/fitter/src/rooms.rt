@@ -6,12 +6,13 @@ ghost use Rattle.abel_meaning.specs.SoundIds.{IsSoundNetlist};
 ghost use Rattle.fit_plans.specs.Choices.{FitsRoom};
 ghost use Rattle.fitter.specs.Rooms.{IsOver};
 
+use crate::cell_covering::CellCovers;
 use crate::covering::cover_cells;
 use crate::fault::FitFault;
 use crate::fitting::POOL;
+use crate::masks::turn_mask;
 use crate::planning::taken;
 use bit_expr::Netlist;
-use cell_covers::{CellCovers, turn_mask};
 use covers::CubePool;
 use fit_plans::{Tried, choose};
 use pld_base::{ListOf, OutOfMemory};

@@ -1,101 +1,154 @@
-//! The rows of the reset and the preset that all registers share.
+//! The reset, or the preset, that all registers share.
 
-ghost use Rattle.std.specs.Prelude.{◌≡◌, ◌≤◌, None, true};
+ghost use Rattle.std.specs.Prelude.{◌≡◌, ◌≤◌, Contains, IfOk, IfSome, None, true, length};
 ghost use Rattle.abel_meaning.specs.SoundIds.{IsSoundNetlist};
-ghost use Rattle.fit_laws.specs.Coverable.{IsSoundId};
 ghost use Rattle.sop_lowering.specs.Written.{bit_list};
-ghost use Rattle.cell_covers.specs.Width.{NoneWide};
-ghost use Rattle.fitter.specs.Planned.{AreSharedRows, IsRowOf, IsSharedBitOf, no_product};
-ghost use Rattle.fit_shared.specs.Sharing.{AllListed};
+ghost use Rattle.fitter.specs.Coverable.{IsSoundId};
+ghost use Rattle.fitter.specs.Sharing.{AllListed, FindsApartAt, IsFirstOf, IsFirstWith, IsListedBit, Shares, better_of};
 
-use crate::fault::FitFault;
-use bit_expr::{ExprId, Netlist};
-use cell_covers::control_rows;
+use crate::apart::point_apart;
+use crate::evaluating::valued_point;
+use crate::shared::{SharedControl, cell_wanted, own_control, pair_count};
+use bit_expr::{CellWanted, ExprId, Netlist};
 use covers::{Cube, CubePool};
-use fit_shared::{ShareFault, SharedControl, shared_bit};
+use pld_base::Point;
 use pld_device::Device;
-use sop_lowering::LowerFault;
-use std::alloc::Global;
+use sop_lowering::{LowerFault, lower};
+use std::alloc::{AllocError, Global};
 
-/// The rows that reset and preset all registers; None for a row of zeros.
-#[derive(Drop)]
-pub(crate) struct SharedRows {
-    pub(crate) reset: Option<Cube>,
-    pub(crate) preset: Option<Cube>,
+/// Why no shared bit was answered.
+#[derive(Clone, Copy, PartialEq, Eq)]
+pub enum ShareFault {
+    /// The equation of the second cell differs from that of the first at the point.
+    NotShared(u8, u8, Point),
+    /// Memory ran out.
+    OutOfMemory,
 }
 
-/// The bit that all registers share.
-fn bit_of<D: Device>(
-    alloc: Global,
-    pool: &mut CubePool,
-    net: &Netlist,
-    which: SharedControl,
-) -> Result<ExprId, FitFault>
-    requires sound { IsSoundNetlist D.table net.now }
-    requires listed { AllListed net.now which }
-    requires spare { 27672 ≤ pool.old.spare }
-    ensures same { pool.new ≡ pool.old }
-    ensures answer { IsSharedBitOf D.table net.now which result }
-{
-    match shared_bit::<D>(alloc, pool, net, which) {
-        Ok(bit) => Ok(bit),
-        Err(ShareFault::NotShared(first, second, at)) => {
-            Err(FitFault::NotShared(which, first, second, at))
-        }
-        Err(ShareFault::OutOfMemory) => Err(FitFault::OutOfMemory),
+impl From<AllocError> for ShareFault {
+    ghost use Rattle.std.specs.Prelude.{◌≡◌};
+    ghost use Rattle.fitter.specs.declared.sharing.ShareFault.TheVariants.{OutOfMemory};
+
+    ghost from_gives = { λ _ e. e ≡ OutOfMemory };
+
+    fn from(_error: AllocError) -> ShareFault {
+        ShareFault::OutOfMemory
     }
 }
 
-/// What is refused where a control that all registers share is no product.
-fn no_product(which: SharedControl) -> FitFault
-    ensures { result ≡ no_product which }
+/// The best so far, once a cell more was seen: one with such an equation of its own, of the least name.
+fn better(which: SharedControl, best: Option<CellWanted>, wanted: &CellWanted) -> Option<CellWanted>
+    ensures { result ≡ better_of which best wanted.now }
 {
-    match which {
-        SharedControl::Reset => FitFault::ResetTooWide,
-        SharedControl::Preset => FitFault::PresetTooWide,
+    let earlier = match best {
+        None => true,
+        Some(found) => wanted.name < found.name,
+    };
+    if own_control(which, wanted).is_some() && earlier {
+        Some(*wanted)
+    } else {
+        best
     }
 }
 
-/// The one row of a control, if any; refused where it is no product.
-fn row_of<D: Device>(
-    alloc: Global,
-    pool: &mut CubePool,
-    net: &Netlist,
-    bit: ExprId,
-    turned: u32,
-    which: SharedControl,
-) -> Result<Option<Cube>, FitFault>
+/// The cell of the least name that has such an equation of its own.
+fn first_with(net: &Netlist, which: SharedControl) -> Option<CellWanted>
+    ensures first { IsFirstWith net.now which result }
+    ensures among { IfSome result (Contains net.now.cells) }
+{
+    let mut best = None;
+    for wanted in net.cells.as_slice() {
+        best = better(which, best, wanted);
+    }
+    best
+}
+
+/// The written list of a bit that has one.
+fn listed<D: Device>(alloc: Global, net: &Netlist, bit: ExprId) -> Result<Vec<Cube>, AllocError>
     requires sound { IsSoundNetlist D.table net.now }
     requires id { IsSoundId D.table net.now bit }
-    requires listed { bit_list net.now bit true ≡ None → ⊥ }
-    requires spare { 27672 ≤ pool.old.spare }
-    ensures same { pool.new ≡ pool.old }
-    ensures row { IsRowOf D.table turned net.now bit which result }
+    requires some { bit_list net.now bit true ≡ None → ⊥ }
+    ensures { IfOk result (λ rows. IsListedBit D.table net.now bit rows.items) }
 {
-    match control_rows::<D>(alloc, pool, net, bit, turned) {
-        Ok(rows) if rows.len() <= 1 => Ok(rows.first().copied()),
-        Ok(_) => Err(no_product(which)),
-        Err(LowerFault::OutOfMemory) => Err(FitFault::OutOfMemory),
+    match lower(alloc, net, bit, true) {
+        Ok(rows) => Ok(rows),
+        Err(LowerFault::OutOfMemory) => Err(AllocError),
         Err(LowerFault::TooWide) => unreachable!(),
     }
 }
 
-/// The rows of the reset and the preset that all registers share.
-pub(crate) fn shared_rows<D: Device>(
+/// A point at which a cell's own equation, where it has one, differs from a written list.
+fn apart_at<D: Device>(
     alloc: Global,
     pool: &mut CubePool,
     net: &Netlist,
-    turned: u32,
-) -> Result<SharedRows, FitFault>
+    which: SharedControl,
+    cell: u8,
+    bit: ExprId,
+    rows: &[Cube],
+) -> Result<Option<u32>, AllocError>
     requires sound { IsSoundNetlist D.table net.now }
-    requires wide { NoneWide D.table net.now }
+    requires listed { AllListed net.now which }
+    requires rows { IsListedBit D.table net.now bit rows.now }
     requires spare { 27672 ≤ pool.old.spare }
     ensures same { pool.new ≡ pool.old }
-    ensures rows { AreSharedRows D.table turned net.now result }
+    ensures answer { IfOk result (FindsApartAt net.now which cell (length D.table.pairs) rows.now) }
 {
-    let reset_bit = bit_of::<D>(alloc, pool, net, SharedControl::Reset)?;
-    let preset_bit = bit_of::<D>(alloc, pool, net, SharedControl::Preset)?;
-    let reset = row_of::<D>(alloc, pool, net, reset_bit, turned, SharedControl::Reset)?;
-    let preset = row_of::<D>(alloc, pool, net, preset_bit, turned, SharedControl::Preset)?;
-    Ok(SharedRows { reset, preset })
+    let Some(wanted) = cell_wanted(net, cell) else {
+        return Ok(None);
+    };
+    let Some(control) = own_control(which, &wanted) else {
+        return Ok(None);
+    };
+    let own = listed::<D>(alloc, net, control.bit)?;
+    Ok(point_apart(pool, rows, &own, pair_count::<D>()))
+}
+
+/// The bit of the first cell's equation, where that of each cell has its value.
+fn same_for_all<D: Device>(
+    alloc: Global,
+    pool: &mut CubePool,
+    net: &Netlist,
+    which: SharedControl,
+    first: CellWanted,
+    bit: ExprId,
+) -> Result<ExprId, ShareFault>
+    requires sound { IsSoundNetlist D.table net.now }
+    requires listed { AllListed net.now which }
+    requires first { IsFirstOf D.table net.now which first bit }
+    requires spare { 27672 ≤ pool.old.spare }
+    ensures same { pool.new ≡ pool.old }
+    ensures answer { Shares D.table net.now which result }
+{
+    let rows = listed::<D>(alloc, net, bit)?;
+    for cell in 0..D::CELLS {
+        if let Some(levels) = apart_at::<D>(alloc, pool, net, which, cell, bit, &rows)? {
+            let point = valued_point::<D>(alloc, net, levels)?;
+            return Err(ShareFault::NotShared(first.cell, cell, point));
+        }
+    }
+    Ok(bit)
+}
+
+/// The bit of the reset, or the preset, that all registers share: that of the cell of the least name that has one, else 0.
+/// Of cells whose own equations differ from it the first in the device's order is answered, with a point.
+pub fn shared_bit<D: Device>(
+    alloc: Global,
+    pool: &mut CubePool,
+    net: &Netlist,
+    which: SharedControl,
+) -> Result<ExprId, ShareFault>
+    requires sound { IsSoundNetlist D.table net.now }
+    requires listed { AllListed net.now which }
+    requires spare { 27672 ≤ pool.old.spare }
+    ensures same { pool.new ≡ pool.old }
+    ensures answer { Shares D.table net.now which result }
+{
+    let Some(first) = first_with(net, which) else {
+        return Ok(ExprId(0));
+    };
+    match own_control(which, &first) {
+        Some(control) => same_for_all::<D>(alloc, pool, net, which, first, control.bit),
+        None => unreachable!(),
+    }
 }

@@ -7,15 +7,15 @@ ghost use Rattle.std.specs.Prelude.{◌≡◌, ◌<◌, IfOk, get_or, length};
 ghost use Rattle.std.specs.Option.{option_map};
 ghost use Rattle.pld_device.specs.declared.carry.Carry.TheVariants as carry;
 ghost use Rattle.fit_plans.specs.Columns.{turned};
-ghost use Rattle.fit_laws.specs.Plans.{is_chosen};
+ghost use Rattle.fitter.specs.Plans.{is_chosen};
 ghost use Rattle.fit_plans.specs.Controls.{form_at};
 ghost use Rattle.fitter.specs.Turning.{AreTurned, IsChoiceMask, IsTurnedCell, carries_choice};
 
 use crate::rising::risen;
+use crate::shared::{cell_wanted, pair_count};
 use bit_expr::Netlist;
 use covers::Cube;
 use fit_plans::{CellForm, CellPlan, all_turned, turned};
-use fit_shared::{cell_wanted, pair_count};
 use pld_base::{ListOf, with_level};
 use pld_device::{Carry, Device};
 use std::alloc::{AllocError, Global};

@@ -3,14 +3,13 @@
 ghost use Rattle.std.specs.Prelude.{◌≡◌, ◌<◌, ◌≤◌, IfOk, IfSome, length, true, ◌*◌};
 ghost use Rattle.std.specs.List.{All};
 ghost use Rattle.abel_meaning.specs.SoundIds.{IsSoundNetlist};
-ghost use Rattle.cell_covers.specs.Covered.{CanCoverCell};
+ghost use Rattle.fitter.specs.CellCovered.{CanCoverCell};
 ghost use Rattle.polarity_costs.specs.Costly.{IsCostly};
 
 use bit_expr::{CellWanted, Netlist};
-use cell_covers::turn_mask;
 use covers::CubePool;
 use fit_plans::try_form;
-use fit_shared::{cell_wanted, pair_count};
+use fitter::{cell_wanted, pair_count, turn_mask};
 use pld_base::{ListOf, OutOfMemory, level_at};
 use pld_device::{Cell, Device};
 use std::alloc::Global;

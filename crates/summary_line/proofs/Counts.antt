@@ -12,8 +12,8 @@ use Rattle.abel_meaning.specs.Controls.{signal_on}
 use Rattle.abel_meaning.specs.Designs.{design_of}
 use Rattle.abel_meaning.specs.Netlists.{Wanted, plain_netlist, plain_wanted, wanted_at}
 use Rattle.abel_meaning.specs.SignalReads.{given_formulas}
-use Rattle.fit_laws.specs.Plans.{cell_wanted}
-use Rattle.fit_laws.proofs.WantedIds.{wanted_is}
+use Rattle.fitter.specs.Plans.{cell_wanted}
+use Rattle.fitter.proofs.WantedIds.{wanted_is}
 use Rattle.netlist_laws.proofs.CellsFound.{wanted_found, wanted_here}
 use Rattle.netlist_laws.specs.Gathered.{netlist_of}
 use Rattle.summary_line.specs.Summary.{SummaryCountsTheDesign, assigned_cells}

@@ -7,7 +7,7 @@ ghost use Rattle.netlist_laws.specs.RowCovers.{is_used};
 ghost use Rattle.summary_line.specs.Summary.{assigned_cells, products_used, rows_used};
 
 use bit_expr::Netlist;
-use fit_shared::cell_wanted;
+use fitter::cell_wanted;
 use pld_device::Device;
 
 /// Whether the netlist asks something of a cell.

@@ -1,7 +1,7 @@
 use Rattle.std.proofs.Common.{List, ◌<◌, length, get_or, sym, ap, ap₂, subst, ◌∙◌}
 use Rattle.abel_tree.specs.FirstRefusal.{earlier}
 use Rattle.bit_expr.specs.declared.netlist.CellWanted.{CellWanted}
-use Rattle.fit_shared.specs.Sharing.{own_control}
+use Rattle.fitter.specs.Sharing.{own_control}
 use Rattle.design_lines.specs.Fits.{control_order}
 use Rattle.design_lines.proofs.ControlOrder.{one_cell_more}
 use Rattle.design_lines.proofs.firsts.first_own.Goals as goal

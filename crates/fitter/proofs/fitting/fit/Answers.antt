@@ -1,7 +1,7 @@
 use Rattle.std.proofs.Common.{List, Option, Err, length, subst}
 use Rattle.std.proofs.lemmas.Result.{err_from_is_err_and}
 use Rattle.abel_meaning.specs.Netlists.{plain_netlist}
-use Rattle.cell_covers.specs.declared.covering.CellCovers.{CellCovers}
+use Rattle.fitter.specs.declared.cell_covering.CellCovers.{CellCovers}
 use Rattle.fitter.specs.Answers.{FitAnswers}
 use Rattle.fitter.specs.Planned.{AreSingle, SingleBelow}
 use Rattle.fitter.proofs.Answering.{fit_of}

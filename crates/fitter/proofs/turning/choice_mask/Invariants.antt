@@ -2,7 +2,7 @@
 use Rattle.std.proofs.Common.{◌<◌, ◌^◌, get_or}
 use Rattle.pld_base.specs.Bits.{bits}
 use Rattle.pld_device.specs.declared.carry.Carry.TheVariants as carry
-use Rattle.fit_shared.proofs.Stepping.{LevelsBelow}
+use Rattle.fitter.proofs.Stepping.{LevelsBelow}
 use Rattle.fitter.specs.Turning.{carries_choice}
 use Rattle.fitter.proofs.turning.choice_mask.Given as goal
 

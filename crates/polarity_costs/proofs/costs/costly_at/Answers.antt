@@ -1,6 +1,6 @@
 -- An assigned cell can be covered.
 use Rattle.std.proofs.Common.{sym, ◌∙◌}
-use Rattle.cell_covers.proofs.Widths.{can_cover_cell}
+use Rattle.fitter.proofs.Widths.{can_cover_cell}
 use Rattle.polarity_costs.proofs.costs.costly_at.Goals as goal
 
 pub rows_in-requires-clause-can : goal.rows_in-requires-clause-can

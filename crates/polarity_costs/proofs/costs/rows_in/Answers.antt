@@ -1,5 +1,5 @@
 -- The function of a cell can be covered.
-use Rattle.cell_covers.proofs.Widths.{can_cover, pairs_few}
+use Rattle.fitter.proofs.Widths.{can_cover, pairs_few}
 use Rattle.polarity_costs.proofs.costs.rows_in.Goals as goal
 
 pub try_form-requires-clause-vars : goal.try_form-requires-clause-vars

@@ -1,4 +1,0 @@
-pub mod ControlLists
-mod TurnBits
-mod WidthOrder
-pub mod Widths

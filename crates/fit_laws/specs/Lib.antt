@@ -1,2 +1,0 @@
-pub mod Coverable
-pub mod Plans

@@ -1,5 +1,0 @@
-use Rattle.fit_laws.proofs.Coverable.{can_lower}
-use Rattle.fit_shared.proofs.sharing.listed.Goals as goal
-
-pub lower-requires : goal.lower-requires
-lower-requires g c = can_lower g.D.Device.table c.args.net.now c.args.bit g.met.D.Device.sound c.requires.sound c.requires.id

@@ -1,3 +1,0 @@
-pub mod Evaluating
-pub mod Sharing
-pub mod Missing

@@ -1,0 +1,11 @@
+-- The values so far.
+use Rattle.std.proofs.Common.{◌≡◌, length}
+use Rattle.pld_base.specs.Points.{levels_of}
+use Rattle.fitter.specs.Evaluating.{HasValues}
+use Rattle.fitter.proofs.evaluating.values_of.Given as goal
+
+abbrev pub invariant-loop-id : goal.invariant-loop-id
+invariant-loop-id l = record {
+  count : length l.values.items ≡ l.id;
+  values : HasValues l.exprs (levels_of l.at) l.values.items;
+}

@@ -1,0 +1,27 @@
+use Rattle.std.proofs.Common.{false, sym, ap, ◌∙◌}
+use Rattle.std.specs.Option.{option_map}
+use Rattle.std.specs.Prelude.{Option}
+use Rattle.std.proofs.lemmas.Option.{get_or_from_slice_get}
+use Rattle.pld_device.specs.declared.cell.Cell.{Cell}
+use Rattle.pld_device.specs.Registers.{stores_by}
+use Rattle.pld_device.specs.Table.{cell_at, no_cell}
+use Rattle.bit_expr.specs.declared.netlist.CellWanted.{CellWanted}
+use Rattle.bit_expr.specs.Arena.{arena}
+use Rattle.abel_meaning.specs.Netlists.{plain_wanted}
+use Rattle.abel_meaning.specs.NetlistLogic.{registers_as}
+use Rattle.fitter.proofs.TurnBits.{stores_is}
+use Rattle.fitter.proofs.masks.is_register.Goals as goal
+
+pub returns-in-Some : goal.returns-in-Some
+returns-in-Some g c =
+    let t = g.D.Device.table in
+    sym (stores_is t c.args.net.now c.args.cell
+    ∙ ap (λ (o : Option CellWanted). registers_as (cell_at t c.args.cell).kinds (option_map (plain_wanted (arena c.args.net.now.exprs)) o)) (sym c.cell_wanted.ensures ∙ c.in-Some.is))
+
+pub returns-in-None : goal.returns-in-None
+returns-in-None g c =
+    let t = g.D.Device.table in
+    c.must_register.ensures
+    ∙ (ap (λ (x : Cell). stores_by x.kinds false) (sym (get_or_from_slice_get t.cells c.args.cell c.cell.result no_cell c.cell.ensures))
+    ∙ sym (stores_is t c.args.net.now c.args.cell
+    ∙ ap (λ (o : Option CellWanted). registers_as (cell_at t c.args.cell).kinds (option_map (plain_wanted (arena c.args.net.now.exprs)) o)) (sym c.cell_wanted.ensures ∙ c.in-None.is)))

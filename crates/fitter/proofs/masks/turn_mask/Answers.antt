@@ -1,0 +1,27 @@
+use Rattle.std.proofs.Common.{arith}
+use Rattle.pld_base.specs.Bits.{bits}
+use Rattle.pld_base.proofs.BitLemmas.{length-bits}
+use Rattle.abel_meaning.specs.Netlists.{plain_netlist}
+use Rattle.fitter.proofs.Stepping.{levels_more, no_levels}
+use Rattle.fitter.proofs.TurnBits.{is_mask}
+use Rattle.fitter.proofs.masks.turn_mask.Goals as goal
+
+pub loop-pair-init : goal.loop-pair-init
+loop-pair-init g c = record { low = omega arith; below = no_levels _ 32 }
+
+pub with_level-mask-requires : goal.with_level-mask-requires
+with_level-mask-requires g c =
+    omega (arith, c.loop-pair-test.true, c.pair_count-pair-end.ensures, g.met.D.Device.sound.sizes.columns_even, g.met.D.Device.sound.sizes.columns_high)
+
+pub loop-pair-preserved : goal.loop-pair-preserved
+loop-pair-preserved g c = record {
+  low = omega (arith, c.with_level-mask.type_inv);
+  below = levels_more _ 32 c.loop-pair.pair (bits 32 c.loop-pair.mask) (bits 32 c.with_level-mask.result) c.is_turned-on.result (length-bits 32 c.loop-pair.mask)
+      (omega (arith, c.loop-pair-test.true, c.pair_count-pair-end.ensures, g.met.D.Device.sound.sizes.columns_even, g.met.D.Device.sound.sizes.columns_high))
+      c.loop-pair.invariant.below c.with_level-mask.ensures c.is_turned-on.ensures;
+}
+
+pub returns : goal.returns
+returns g c =
+    is_mask g.D.Device.table g.met.D.Device.sound (plain_netlist c.args.net.now) c.loop-pair.pair c.loop-pair.mask c.loop-pair.invariant.low
+    (omega (arith, c.loop-pair-test.false, c.pair_count-pair-end.ensures)) c.loop-pair.invariant.below

@@ -1,0 +1,206 @@
+//! The covers of a cell and of its enable.
+
+ghost use Rattle.std.specs.Prelude.{◌≡◌, ◌≤◌, None, Ok, Some, false, true};
+ghost use Rattle.bit_expr.specs.declared.netlist.Control.{Control};
+ghost use Rattle.abel_meaning.specs.SoundIds.{IsSoundNetlist};
+ghost use Rattle.fitter.specs.Coverable.{IsSoundId};
+ghost use Rattle.fitter.specs.Plans.{enable_bit};
+ghost use Rattle.fitter.specs.CellCovered.{CanCoverCell, HasRows, IsChecked, IsCheckedAt, IsCovered, IsCoveredAt, IsListed};
+ghost use Rattle.fitter.specs.Width.{IsFunctionTooWide};
+
+use crate::shared::{cell_wanted, pair_count};
+use bit_expr::{CellWanted, Control, ExprId, Netlist};
+use covers::{Cube, CubePool};
+use fit_plans::{Tried, control_cover, has_lists, try_cell};
+use pld_device::Device;
+use sop_lowering::{LowerFault, lower};
+use std::alloc::{AllocError, Global};
+
+/// What is found of an assigned cell: the covers in the forms that it may have, and that of its enable.
+#[derive(Drop)]
+pub struct CellCovers {
+    pub wanted: CellWanted,
+    pub tried: Tried,
+    pub enable: Vec<Cube>,
+}
+
+/// The bit of the cell's enable; always 1 where it has none of its own.
+fn enable_bit(wanted: &CellWanted) -> ExprId
+    ensures { result ≡ enable_bit wanted.now }
+{
+    match wanted.enable {
+        Some(control) => control.bit,
+        None => ExprId(1),
+    }
+}
+
+/// The cover of a control; TooWide where it has no written list.
+pub fn control_rows<D: Device>(
+    alloc: Global,
+    pool: &mut CubePool,
+    net: &Netlist,
+    bit: ExprId,
+    turned: u32,
+) -> Result<Vec<Cube>, LowerFault>
+    requires sound { IsSoundNetlist D.table net.now }
+    requires id { IsSoundId D.table net.now bit }
+    requires spare { 27672 ≤ pool.old.spare }
+    ensures same { pool.new ≡ pool.old }
+    ensures rows { HasRows D.table turned net.now bit result }
+{
+    let pairs = pair_count::<D>();
+    let found = control_cover(alloc, pool, net, bit, turned, pairs)?;
+    match found {
+        Some(rows) => Ok(rows),
+        None => Err(LowerFault::TooWide),
+    }
+}
+
+/// Whether the equation of a control that there may be has a written list: TooWide where it has none.
+fn listed<D: Device>(
+    alloc: Global,
+    net: &Netlist,
+    control: Option<Control>,
+) -> Result<(), LowerFault>
+    requires sound { IsSoundNetlist D.table net.now }
+    requires id { (k : Control) → control ≡ Some k → IsSoundId D.table net.now k.bit }
+    ensures { IsListed net.now control result }
+{
+    let Some(found) = control else {
+        return Ok(());
+    };
+    match lower(alloc, net, found.bit, true) {
+        Ok(_) => Ok(()),
+        Err(fault) => Err(fault),
+    }
+}
+
+/// Whether a cell has no cover in any form.
+fn has_none(tried: &Tried) -> bool
+    ensures none { result ≡ true → (tried.now.direct ≡ None) × (tried.now.inverted ≡ None) }
+    ensures some { result ≡ false → tried.now.direct ≡ None → tried.now.inverted ≡ None → ⊥ }
+{
+    tried.direct.is_none() && tried.inverted.is_none()
+}
+
+/// The covers of a cell; TooWide where its function has none in any form, or a control of it none.
+pub(crate) fn cover_cell<D: Device>(
+    alloc: Global,
+    pool: &mut CubePool,
+    net: &Netlist,
+    wanted: CellWanted,
+    turned: u32,
+) -> Result<CellCovers, LowerFault>
+    requires sound { IsSoundNetlist D.table net.now }
+    requires can { CanCoverCell D.table net.now wanted }
+    requires spare { 27672 ≤ pool.old.spare }
+    ensures same { pool.new ≡ pool.old }
+    ensures covered { IsCovered D.table turned net.now wanted result }
+{
+    let pairs = pair_count::<D>();
+    let room = D::cell(wanted.cell).room as usize;
+    let tried = try_cell(alloc, pool, net, &wanted, D::FLIP, room, turned, pairs)?;
+    if has_none(&tried) {
+        return Err(LowerFault::TooWide);
+    }
+    let enable = control_rows::<D>(alloc, pool, net, enable_bit(&wanted), turned)?;
+    listed::<D>(alloc, net, wanted.reset)?;
+    listed::<D>(alloc, net, wanted.preset)?;
+    Ok(CellCovers {
+        wanted,
+        tried,
+        enable,
+    })
+}
+
+/// Whether the cell's function has written lists in some form that the cell may have.
+fn has_form<D: Device>(
+    alloc: Global,
+    net: &Netlist,
+    wanted: &CellWanted,
+) -> Result<bool, AllocError>
+    requires sound { IsSoundNetlist D.table net.now }
+    requires can { CanCoverCell D.table net.now wanted.now }
+    ensures fits { result ≡ Ok true → IsFunctionTooWide D.table net.now wanted.now → ⊥ }
+    ensures wide { result ≡ Ok false → IsFunctionTooWide D.table net.now wanted.now }
+{
+    let direct = has_lists(alloc, net, wanted, D::FLIP, false)?;
+    if direct {
+        return Ok(true);
+    }
+    has_lists(alloc, net, wanted, D::FLIP, true)
+}
+
+/// The cover of a cell's enable, without those of its function; TooWide where this has no written lists in any form, or a
+/// control of the cell none.
+fn check_cell<D: Device>(
+    alloc: Global,
+    pool: &mut CubePool,
+    net: &Netlist,
+    wanted: CellWanted,
+    turned: u32,
+) -> Result<CellCovers, LowerFault>
+    requires sound { IsSoundNetlist D.table net.now }
+    requires can { CanCoverCell D.table net.now wanted }
+    requires spare { 27672 ≤ pool.old.spare }
+    ensures same { pool.new ≡ pool.old }
+    ensures checked { IsChecked D.table turned net.now wanted result }
+{
+    let fits = has_form::<D>(alloc, net, &wanted)?;
+    if !fits {
+        return Err(LowerFault::TooWide);
+    }
+    let enable = control_rows::<D>(alloc, pool, net, enable_bit(&wanted), turned)?;
+    listed::<D>(alloc, net, wanted.reset)?;
+    listed::<D>(alloc, net, wanted.preset)?;
+    let tried = Tried {
+        direct: None,
+        inverted: None,
+    };
+    Ok(CellCovers {
+        wanted,
+        tried,
+        enable,
+    })
+}
+
+/// The covers of the cell of a number, if it is assigned.
+pub fn cover_at<D: Device>(
+    alloc: Global,
+    pool: &mut CubePool,
+    net: &Netlist,
+    cell: u8,
+    turned: u32,
+) -> Result<Option<CellCovers>, LowerFault>
+    requires sound { IsSoundNetlist D.table net.now }
+    requires spare { 27672 ≤ pool.old.spare }
+    ensures same { pool.new ≡ pool.old }
+    ensures covered { IsCoveredAt D.table turned net.now cell result }
+{
+    let Some(wanted) = cell_wanted(net, cell) else {
+        return Ok(None);
+    };
+    let covers = cover_cell::<D>(alloc, pool, net, wanted, turned)?;
+    Ok(Some(covers))
+}
+
+/// Of the cell of a number, if it is assigned, that it is not too wide, and the cover of its enable alone: for the cells
+/// that come after one which is refused.
+pub fn check_at<D: Device>(
+    alloc: Global,
+    pool: &mut CubePool,
+    net: &Netlist,
+    cell: u8,
+    turned: u32,
+) -> Result<Option<CellCovers>, LowerFault>
+    requires sound { IsSoundNetlist D.table net.now }
+    requires spare { 27672 ≤ pool.old.spare }
+    ensures same { pool.new ≡ pool.old }
+    ensures checked { IsCheckedAt D.table turned net.now cell result }
+{
+    let Some(wanted) = cell_wanted(net, cell) else {
+        return Ok(None);
+    };
+    let covers = check_cell::<D>(alloc, pool, net, wanted, turned)?;
+    Ok(Some(covers))
+}

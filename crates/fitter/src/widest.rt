@@ -1,0 +1,101 @@
+//! Which of the cells that are too wide is told.
+
+ghost use Rattle.std.specs.Prelude.{◌≡◌, ◌+◌, ◌≤◌, IfOk, Ok, false, true};
+ghost use Rattle.abel_tree.specs.FirstRefusal.{is_before};
+ghost use Rattle.abel_meaning.specs.SoundIds.{IsSoundNetlist};
+ghost use Rattle.fitter.specs.CellCovered.{CanCoverCell, IsFirstBelow, IsFirstNumber};
+ghost use Rattle.fitter.specs.Width.{IsFirstWide, IsTooWide, width_order};
+
+use crate::cell_covering::cover_cell;
+use crate::shared::cell_wanted;
+use bit_expr::{CellWanted, Netlist};
+use covers::CubePool;
+use pld_device::Device;
+use sop_lowering::LowerFault;
+use std::alloc::{AllocError, Global};
+
+/// Whether a cell comes before another: by the line of its first data target, by the column, and at one place by number.
+#[tactic(auto, using(crate::proofs::WidthOrder::before_by))]
+fn is_before(here: &CellWanted, there: &CellWanted) -> bool
+    ensures { result ≡ is_before width_order here.now there.now }
+{
+    if here.place.line != there.place.line {
+        return here.place.line < there.place.line;
+    }
+    if here.place.column != there.place.column {
+        return here.place.column < there.place.column;
+    }
+    here.cell < there.cell
+}
+
+/// Whether a cell is too wide.
+fn is_wide<D: Device>(
+    alloc: Global,
+    pool: &mut CubePool,
+    net: &Netlist,
+    wanted: CellWanted,
+    turned: u32,
+) -> Result<bool, AllocError>
+    requires sound { IsSoundNetlist D.table net.now }
+    requires can { CanCoverCell D.table net.now wanted }
+    requires spare { 27672 ≤ pool.old.spare }
+    ensures same { pool.new ≡ pool.old }
+    ensures wide { result ≡ Ok true → IsTooWide D.table net.now wanted }
+    ensures fits { result ≡ Ok false → IsTooWide D.table net.now wanted → ⊥ }
+{
+    match cover_cell::<D>(alloc, pool, net, wanted, turned) {
+        Ok(_) => Ok(false),
+        Err(LowerFault::TooWide) => Ok(true),
+        Err(LowerFault::OutOfMemory) => Err(AllocError),
+    }
+}
+
+/// The cell of the number, where it is too wide and comes before the first of the cells below it; else that one.
+fn earlier<D: Device>(
+    alloc: Global,
+    pool: &mut CubePool,
+    net: &Netlist,
+    first: CellWanted,
+    cell: u8,
+    turned: u32,
+) -> Result<CellWanted, AllocError>
+    requires sound { IsSoundNetlist D.table net.now }
+    requires first { IsFirstBelow D.table net.now cell first }
+    requires spare { 27672 ≤ pool.old.spare }
+    ensures same { pool.new ≡ pool.old }
+    ensures first { IfOk result (IsFirstBelow D.table net.now (cell + 1)) }
+{
+    let Some(wanted) = cell_wanted(net, cell) else {
+        return Ok(first);
+    };
+    if !is_before(&wanted, &first) {
+        return Ok(first);
+    }
+    let wide = is_wide::<D>(alloc, pool, net, wanted, turned)?;
+    if wide { Ok(wanted) } else { Ok(first) }
+}
+
+/// The first in the source of the cells that are too wide; `cell` is the first by number. Of the cells behind it those are
+/// covered that come before it in the source.
+pub fn first_wide<D: Device>(
+    alloc: Global,
+    pool: &mut CubePool,
+    net: &Netlist,
+    cell: u8,
+    turned: u32,
+) -> Result<u8, AllocError>
+    requires sound { IsSoundNetlist D.table net.now }
+    requires wide { IsFirstNumber D.table net.now cell }
+    requires spare { 27672 ≤ pool.old.spare }
+    ensures same { pool.new ≡ pool.old }
+    ensures first { IfOk result (IsFirstWide D.table net.now) }
+{
+    let Some(wanted) = cell_wanted(net, cell) else {
+        unreachable!()
+    };
+    let mut first = wanted;
+    for later in cell..D::CELLS {
+        first = earlier::<D>(alloc, pool, net, first, later, turned)?;
+    }
+    Ok(first.cell)
+}
