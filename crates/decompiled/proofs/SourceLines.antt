@@ -11,8 +11,8 @@ use Rattle.pld_device.specs.Rows.{row_fuses}
 use Rattle.pld_device.specs.Table.{Table, cell_at}
 use Rattle.abel_tree.specs.declared.words.Extension.{Extension}
 use Rattle.abel_tree.specs.declared.words.Extension.TheVariants as extension
-use Rattle.pin_sources.specs.declared.literal.PinLiteral.{PinLiteral}
-use Rattle.pin_sources.specs.declared.sum_line.SumLine.{SumLine}
+use Rattle.decompiled.specs.declared.literal.PinLiteral.{PinLiteral}
+use Rattle.decompiled.specs.declared.sum_line.SumLine.{SumLine}
 use Rattle.decompiled.specs.RowLiterals.{ColumnLiteral, if_intact, literal, literals_of, row_literals}
 use Rattle.decompiled.specs.Sources.{named, named_by, product_of, live_rows, control_products, has_lines, data_line, control_line, enable_lines, cell_lines, shared_lines, first_register, lines_of}
 use Rattle.decompiled.proofs.Each.{each_at, each_append, each_map, each_flat_map, each_always, each_in_range, found_below}

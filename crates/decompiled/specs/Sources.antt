@@ -13,11 +13,11 @@ use Rattle.pld_device.specs.Registers.{is_inverted, stores}
 use Rattle.pld_device.specs.Table.{Table, cell_at}
 use Rattle.abel_tree.specs.declared.words.Extension.{Extension}
 use Rattle.abel_tree.specs.declared.words.Extension.TheVariants as extension
-use Rattle.pin_sources.specs.declared.literal.PinLiteral.{PinLiteral}
-use Rattle.pin_sources.specs.declared.pin_line.PinLine.{PinLine}
-use Rattle.pin_sources.specs.declared.sum_line.SumLine.{SumLine}
-use Rattle.pin_sources.specs.declared.source.PinSource.{PinSource}
-use Rattle.pin_sources.specs.SourceText.{source_text}
+use Rattle.decompiled.specs.declared.literal.PinLiteral.{PinLiteral}
+use Rattle.decompiled.specs.declared.pin_line.PinLine.{PinLine}
+use Rattle.decompiled.specs.declared.sum_line.SumLine.{SumLine}
+use Rattle.decompiled.specs.declared.source.PinSource.{PinSource}
+use Rattle.decompiled.specs.SourceText.{source_text}
 use Rattle.decompiled.specs.RowLiterals.{ColumnLiteral, row_literals}
 
 -- ---- products

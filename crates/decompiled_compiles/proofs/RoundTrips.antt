@@ -25,7 +25,7 @@ use Rattle.abel_compile.specs.Statement.{IsRightFile}
 use Rattle.abel_compile.proofs.NeverRefused.{spelled}
 use Rattle.placer.specs.Placements.{IsPlacedModule}
 use Rattle.compile_phases.proofs.PlacedRefusals.{one_placed}
-use Rattle.pin_trees.specs.SourceTrees.{IsSourceTree}
+use Rattle.decompiled.specs.SourceTrees.{IsSourceTree}
 use Rattle.decompiled.specs.Sources.{decompiled_text, has_lines, source_of}
 use Rattle.decompiled_netlists.proofs.FusesNetlists.{is_of_fuses}
 use Rattle.decompiled_netlists.proofs.PinWords.{cell_name}

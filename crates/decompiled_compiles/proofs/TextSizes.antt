@@ -13,12 +13,12 @@ use Rattle.pld_device.specs.Laws.{IsDevice}
 use Rattle.pld_device.specs.Table.{Table}
 use Rattle.abel_tree.specs.declared.words.Extension.{Extension}
 use Rattle.abel_tree.specs.declared.words.Extension.TheVariants as extension
-use Rattle.pin_sources.specs.declared.literal.PinLiteral.{PinLiteral}
-use Rattle.pin_sources.specs.declared.pin_line.PinLine.{PinLine}
-use Rattle.pin_sources.specs.declared.sum_line.SumLine.{SumLine}
-use Rattle.pin_sources.specs.SourceText.{attributes_text, extension_text, head_text, line_text, literal_text, name_text, pin_text, product_text, q_if, sign_text, sum_text, target_text}
-use Rattle.pin_trees.specs.Reading.{IsLow, IsLowLine, IsLowProduct}
-use Rattle.pin_trees.proofs.PinNumbers.{pin_number}
+use Rattle.decompiled.specs.declared.literal.PinLiteral.{PinLiteral}
+use Rattle.decompiled.specs.declared.pin_line.PinLine.{PinLine}
+use Rattle.decompiled.specs.declared.sum_line.SumLine.{SumLine}
+use Rattle.decompiled.specs.SourceText.{attributes_text, extension_text, head_text, line_text, literal_text, name_text, pin_text, product_text, q_if, sign_text, sum_text, target_text}
+use Rattle.decompiled.specs.Reading.{IsLow, IsLowLine, IsLowProduct}
+use Rattle.decompiled.proofs.PinNumbers.{pin_number}
 use Rattle.decompiled.specs.Sources.{decompiled_text, lines_of, names_pin, pin_line, pins_of, source_of}
 use Rattle.decompiled.proofs.Each.{each_weaker}
 use Rattle.decompiled_sources.proofs.OwnLines.{IsOwnLine, IsShortProduct, few_lines, own_lines}

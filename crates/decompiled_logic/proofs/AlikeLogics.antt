@@ -17,7 +17,7 @@ use Rattle.bit_expr.specs.Formulas.{Formula, formula_value}
 use Rattle.abel_meaning.specs.Functions.{Function, allows}
 use Rattle.abel_meaning.specs.NetlistLogic.{drives, may_drive, may_store, netlist_logic, netlist_stores, registers_as}
 use Rattle.abel_meaning.specs.Netlists.{PlainNetlist, Wanted, function_at, node_at, own_or_shared, wanted_at}
-use Rattle.pin_sources.specs.declared.literal.PinLiteral.{PinLiteral}
+use Rattle.decompiled.specs.declared.literal.PinLiteral.{PinLiteral}
 use Rattle.decompiled.specs.Sources.{has_lines}
 use Rattle.decompiled_logic.specs.RowSums.{HasRowSizes, ReadsPairs}
 use Rattle.decompiled_logic.specs.Alike.{IsFusesNetlist, LogicsAreAlike}

@@ -21,7 +21,7 @@ use Rattle.abel_meaning.specs.Functions.{Function, allows}
 use Rattle.abel_meaning.specs.NetlistLogic.{drives, may_drive, may_store, registers_as}
 use Rattle.abel_meaning.specs.Netlists.{Wanted, as_named, function_at}
 use Rattle.decompiled.proofs.RowValues.{products}
-use Rattle.pin_sources.specs.declared.literal.PinLiteral.{PinLiteral}
+use Rattle.decompiled.specs.declared.literal.PinLiteral.{PinLiteral}
 use Rattle.pin_meanings.specs.SumFormulas.{sum_formula}
 use Rattle.decompiled.specs.Sources.{control_products, data_line, has_lines, product_of}
 use Rattle.decompiled_logic.specs.RowSums.{HasRowSizes, ReadsPairs}

@@ -12,7 +12,7 @@ use Rattle.bit_expr.specs.declared.node.Leaf.{Leaf}
 use Rattle.bit_expr.specs.declared.node.Leaf.TheVariants as leaf
 use Rattle.bit_expr.specs.Formulas.{formula_value}
 use Rattle.decompiled.specs.RowLiterals.{literal}
-use Rattle.pin_sources.specs.declared.literal.PinLiteral.{PinLiteral}
+use Rattle.decompiled.specs.declared.literal.PinLiteral.{PinLiteral}
 use Rattle.pin_meanings.specs.SumFormulas.{sum_formula}
 use Rattle.decompiled.specs.Sources.{live_rows, named, product_of}
 

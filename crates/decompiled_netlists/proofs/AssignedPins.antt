@@ -19,9 +19,9 @@ use Rattle.abel_meaning.specs.Targets.{is_data, is_raw}
 use Rattle.abel_meaning.specs.Terms.{Term, extended_if}
 use Rattle.assigned_signals.specs.Correct.{bare_signals}
 use Rattle.assigned_signals.proofs.AssignedNames.{same_targets}
-use Rattle.pin_sources.specs.declared.sum_line.SumLine.{SumLine}
-use Rattle.pin_sources.specs.SourceText.{name_text}
-use Rattle.pin_trees.specs.SourceTrees.{word, IsLine, AreLines, IsSourceTree}
+use Rattle.decompiled.specs.declared.sum_line.SumLine.{SumLine}
+use Rattle.decompiled.specs.SourceText.{name_text}
+use Rattle.decompiled.specs.SourceTrees.{word, IsLine, AreLines, IsSourceTree}
 use Rattle.pin_meanings.specs.LineGives.{is_data_line}
 use Rattle.decompiled.specs.Sources.{data_line, has_lines, lines_of, source_of}
 use Rattle.decompiled.proofs.Each.{each_weaker}

@@ -30,8 +30,8 @@ use Rattle.netlist_laws.proofs.CellsFound.{wanted_found}
 use Rattle.netlist_laws.proofs.NodeNumbers.{names_numbered}
 use Rattle.netlist_laws.proofs.NodesFound.{function_here, node_found}
 use Rattle.netlist_laws.proofs.SharedControls.{shared_is}
-use Rattle.pin_sources.specs.declared.sum_line.SumLine.{SumLine}
-use Rattle.pin_trees.specs.SourceTrees.{IsSourceTree}
+use Rattle.decompiled.specs.declared.sum_line.SumLine.{SumLine}
+use Rattle.decompiled.specs.SourceTrees.{IsSourceTree}
 use Rattle.pin_meanings.specs.LineGives.{is_data_line, line_gives}
 use Rattle.pin_meanings.specs.SumFormulas.{sum_formula}
 use Rattle.pin_meanings.proofs.OneLine.{says}

@@ -18,8 +18,8 @@ use Rattle.abel_meaning.specs.Declarations.{entry}
 use Rattle.abel_meaning.specs.Designs.{design_of, follows_q, is_stored, name_at}
 use Rattle.abel_meaning.specs.Held.{Holds}
 use Rattle.abel_meaning.specs.Kinds.{with_kind}
-use Rattle.pin_sources.specs.SourceText.{name_text}
-use Rattle.pin_trees.specs.SourceTrees.{IsSourceTree}
+use Rattle.decompiled.specs.SourceText.{name_text}
+use Rattle.decompiled.specs.SourceTrees.{IsSourceTree}
 use Rattle.pin_meanings.specs.PinNames.{said}
 use Rattle.decompiled.specs.Sources.{follows_by, has_lines, is_register_on, register_on, source_of}
 use Rattle.decompiled_netlists.specs.Signals.{signal_of}

@@ -17,8 +17,8 @@ use Rattle.abel_meaning.specs.Contributions.{Contribution}
 use Rattle.abel_meaning.specs.Controls.{control_if_stored, control_of, is_the_control, shared_from}
 use Rattle.abel_meaning.specs.Designs.{Context}
 use Rattle.abel_meaning.specs.FormulaBits.{formulas}
-use Rattle.pin_sources.specs.declared.literal.PinLiteral.{PinLiteral}
-use Rattle.pin_sources.specs.declared.sum_line.SumLine.{SumLine}
+use Rattle.decompiled.specs.declared.literal.PinLiteral.{PinLiteral}
+use Rattle.decompiled.specs.declared.sum_line.SumLine.{SumLine}
 use Rattle.pin_meanings.specs.LineGives.{is_control_line, line_gives}
 use Rattle.pin_meanings.proofs.OneLine.{says}
 use Rattle.decompiled.specs.Sources.{cell_lines, control_line, data_line, enable_lines, first_register, has_lines, lines_of, shared_lines}

@@ -17,8 +17,8 @@ use Rattle.abel_meaning.specs.Kinds.{names_of}
 use Rattle.netlist_laws.specs.Gathered.{cell_by, cell_of}
 use Rattle.netlist_laws.specs.Takeable.{RegistersHaveCells}
 use Rattle.netlist_laws.proofs.SoundLeaves.{only_place}
-use Rattle.pin_sources.specs.declared.sum_line.SumLine.{SumLine}
-use Rattle.pin_trees.specs.SourceTrees.{IsSourceTree}
+use Rattle.decompiled.specs.declared.sum_line.SumLine.{SumLine}
+use Rattle.decompiled.specs.SourceTrees.{IsSourceTree}
 use Rattle.decompiled.specs.Sources.{cell_lines, first_register, has_lines, lines_of, names_pin, pins_of, shared_lines, source_of}
 use Rattle.decompiled_netlists.specs.Signals.{place_of, signal_of}
 use Rattle.decompiled_netlists.proofs.PinPlaces.{taken_once}

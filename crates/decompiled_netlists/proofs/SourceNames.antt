@@ -15,9 +15,9 @@ use Rattle.abel_meaning.specs.Designs.{design_of, is_stored, name_at, no_name}
 use Rattle.abel_meaning.specs.Held.{Holds, holds_of}
 use Rattle.abel_meaning.specs.Kinds.{names_of, with_kind, with_kinds}
 use Rattle.abel_meaning.specs.Terms.{Known, Number, Read, known_after, known_of, term_meant, term_named}
-use Rattle.pin_sources.specs.declared.pin_line.PinLine.{PinLine}
-use Rattle.pin_sources.specs.SourceText.{name_text}
-use Rattle.pin_trees.specs.SourceTrees.{IsSourceTree}
+use Rattle.decompiled.specs.declared.pin_line.PinLine.{PinLine}
+use Rattle.decompiled.specs.SourceText.{name_text}
+use Rattle.decompiled.specs.SourceTrees.{IsSourceTree}
 use Rattle.pin_meanings.specs.PinNames.{said, ArePinEntries}
 use Rattle.pin_meanings.proofs.Declared.{declares}
 use Rattle.pin_meanings.proofs.KnownPins.{knows}

@@ -9,9 +9,9 @@ use Rattle.pld_device.specs.declared.carry.Carry.{Carry}
 use Rattle.pld_device.specs.declared.carry.Carry.TheVariants as carry
 use Rattle.pld_device.specs.Laws.{IsSignalPin, IsPair, IsDevice}
 use Rattle.pld_device.specs.Table.{Table, cell_at, no_cell}
-use Rattle.pin_sources.specs.declared.literal.PinLiteral.{PinLiteral}
-use Rattle.pin_sources.specs.declared.pin_line.PinLine.{PinLine}
-use Rattle.pin_sources.specs.declared.sum_line.SumLine.{SumLine}
+use Rattle.decompiled.specs.declared.literal.PinLiteral.{PinLiteral}
+use Rattle.decompiled.specs.declared.pin_line.PinLine.{PinLine}
+use Rattle.decompiled.specs.declared.sum_line.SumLine.{SumLine}
 use Rattle.decompiled.specs.Sources.{lines_of, named_by, names_pin, pin_line, pins_of, product_names, source_of}
 use Rattle.decompiled.proofs.Each.{each_member, each_weaker}
 use Rattle.decompiled.proofs.SourceLines.{IsPairLiteral, IsCellLine, lines_on}

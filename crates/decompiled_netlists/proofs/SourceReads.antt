@@ -22,10 +22,10 @@ use Rattle.abel_meaning.specs.Sections.{section_gives, sections_give}
 use Rattle.abel_meaning.specs.SignalReads.{given_formulas}
 use Rattle.abel_meaning.specs.Sources.{Source, Held, on_pin, register_source, source_by, source_of as read_of}
 use Rattle.netlist_laws.proofs.CellsFound.{is_cell, is_cell_on}
-use Rattle.pin_sources.specs.declared.literal.PinLiteral.{PinLiteral}
-use Rattle.pin_sources.specs.declared.sum_line.SumLine.{SumLine}
-use Rattle.pin_sources.specs.SourceText.{q_if}
-use Rattle.pin_trees.specs.SourceTrees.{IsSourceTree}
+use Rattle.decompiled.specs.declared.literal.PinLiteral.{PinLiteral}
+use Rattle.decompiled.specs.declared.sum_line.SumLine.{SumLine}
+use Rattle.decompiled.specs.SourceText.{q_if}
+use Rattle.decompiled.specs.SourceTrees.{IsSourceTree}
 use Rattle.pin_meanings.specs.LineGives.{IsKnownLine, line_gives}
 use Rattle.pin_meanings.specs.SumFormulas.{ReadsLeaf}
 use Rattle.pin_meanings.proofs.Giving.{gives}

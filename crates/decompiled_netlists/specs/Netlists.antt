@@ -4,7 +4,7 @@ use Rattle.pld_device.specs.Laws.{IsDevice}
 use Rattle.pld_device.specs.Table.{Table}
 use Rattle.abel_tree.specs.Tree.{ModuleTree}
 use Rattle.netlist_laws.specs.Gathered.{netlist_of}
-use Rattle.pin_trees.specs.SourceTrees.{IsSourceTree}
+use Rattle.decompiled.specs.SourceTrees.{IsSourceTree}
 use Rattle.decompiled.specs.Sources.{source_of}
 use Rattle.decompiled_logic.specs.Alike.{IsFusesNetlist}
 use Rattle.decompiled_netlists.specs.Signals.{leaf_of}

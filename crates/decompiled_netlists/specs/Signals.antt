@@ -4,7 +4,7 @@ use Rattle.pld_device.specs.Table.{Table}
 use Rattle.bit_expr.specs.declared.node.Leaf.{Leaf}
 use Rattle.bit_expr.specs.declared.node.Leaf.TheVariants as leaf
 use Rattle.abel_meaning.specs.Designs.{cell_on}
-use Rattle.pin_sources.specs.declared.literal.PinLiteral.{PinLiteral}
+use Rattle.decompiled.specs.declared.literal.PinLiteral.{PinLiteral}
 use Rattle.decompiled.specs.Sources.{pins_of}
 
 -- the place of a pin in a list of pins; past it where it isn't there

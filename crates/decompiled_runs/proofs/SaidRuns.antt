@@ -28,7 +28,7 @@ use Rattle.netlist_laws.specs.FittedCorrect.{DoesWhatItSays, MeansTheSame}
 use Rattle.netlist_laws.proofs.BoolLaws.{both_ways}
 use Rattle.netlist_laws.specs.Gathered.{netlist_of}
 use Rattle.netlist_laws.proofs.Meaning.{gathered_means_the_same}
-use Rattle.pin_trees.specs.SourceTrees.{IsSourceTree}
+use Rattle.decompiled.specs.SourceTrees.{IsSourceTree}
 use Rattle.decompiled.specs.Sources.{has_lines, source_of}
 use Rattle.decompiled.proofs.RowSizes.{row_size}
 use Rattle.decompiled_logic.specs.Alike.{AreAlike}

@@ -9,7 +9,7 @@ use Rattle.device_logic.specs.ResetPaths.{HasNoResetPath}
 use Rattle.abel_tree.specs.Tree.{ModuleTree}
 use Rattle.abel_meaning.specs.SourceLogic.{source_logic}
 use Rattle.netlist_laws.specs.FittedCorrect.{DoesWhatItSays}
-use Rattle.pin_trees.specs.SourceTrees.{IsSourceTree}
+use Rattle.decompiled.specs.SourceTrees.{IsSourceTree}
 use Rattle.decompiled.specs.Sources.{source_of}
 
 -- each set of values of the module is one value at every point, so it has one run; and that is what the device with the

@@ -8,7 +8,7 @@ use Rattle.bit_expr.specs.declared.netlist.Netlist.{Netlist}
 use Rattle.device_logic.specs.CellReads.{cell_reads}
 use Rattle.device_logic.specs.ResetPaths.{HasNoResetPath}
 use Rattle.abel_tree.specs.Tree.{ModuleTree}
-use Rattle.pin_trees.specs.SourceTrees.{IsSourceTree}
+use Rattle.decompiled.specs.SourceTrees.{IsSourceTree}
 use Rattle.decompiled_sources.proofs.BuiltNetlists.{netlists_there}
 use Rattle.compile_phases.specs.SourceRefusals.{HasDesign, IsNetlistOf}
 use Rattle.decompiled.specs.Sources.{source_of}

@@ -26,8 +26,8 @@ use Rattle.abel_meaning.specs.FormulaBits.{formulas}
 use Rattle.abel_meaning.specs.Functions.{Function, function_of}
 use Rattle.abel_meaning.specs.SignalReads.{HasNoSignalLoop, HasNoSignalPath, function_names, given_formulas, is_one_of, is_stored_signal, names_if_any, reset_equation_reads, settles, signal_names, signal_reads}
 use Rattle.abel_meaning.specs.SignalReads.{leaf_of as leaf_of_signal}
-use Rattle.pin_sources.specs.declared.sum_line.SumLine.{SumLine}
-use Rattle.pin_trees.specs.SourceTrees.{IsSourceTree}
+use Rattle.decompiled.specs.declared.sum_line.SumLine.{SumLine}
+use Rattle.decompiled.specs.SourceTrees.{IsSourceTree}
 use Rattle.pin_meanings.specs.LineGives.{is_control_line, line_gives}
 use Rattle.pin_meanings.specs.SumFormulas.{sum_formula}
 use Rattle.pin_meanings.proofs.OneLine.{says}

@@ -23,9 +23,9 @@ use Rattle.source_sections.specs.SectionAnswers.{AreContributed, source_units}
 use Rattle.source_sections.specs.SectionUnits.{sections_places}
 use Rattle.equations.specs.StatementUnits.{statements_places}
 use Rattle.abel_tree.specs.Tree.{statements_of}
-use Rattle.pin_sources.specs.declared.literal.PinLiteral.{PinLiteral}
-use Rattle.pin_sources.specs.declared.sum_line.SumLine.{SumLine}
-use Rattle.pin_trees.specs.SourceTrees.{IsSourceTree}
+use Rattle.decompiled.specs.declared.literal.PinLiteral.{PinLiteral}
+use Rattle.decompiled.specs.declared.sum_line.SumLine.{SumLine}
+use Rattle.decompiled.specs.SourceTrees.{IsSourceTree}
 use Rattle.pin_meanings.specs.LineGives.{line_gives}
 use Rattle.pin_meanings.specs.SumFormulas.{sum_formula}
 use Rattle.decompiled.specs.Sources.{lines_of, source_of}

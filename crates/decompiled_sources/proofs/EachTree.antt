@@ -5,9 +5,9 @@ use Rattle.pld_base.specs.declared.place.Place.{Place}
 use Rattle.abel_tree.specs.declared.words.Unary.TheVariants as unary
 use Rattle.abel_tree.specs.declared.words.Binary.TheVariants as binary
 use Rattle.abel_tree.specs.Tree.{Tree, ANumber, AName, AUnary, ABinary}
-use Rattle.pin_sources.specs.declared.literal.PinLiteral.{PinLiteral}
-use Rattle.pin_sources.specs.SourceText.{q_if, name_text}
-use Rattle.pin_trees.specs.SourceTrees.{word, IsLiteral, IsNumber, IsProduct, IsSigned, IsSum, IsJoined}
+use Rattle.decompiled.specs.declared.literal.PinLiteral.{PinLiteral}
+use Rattle.decompiled.specs.SourceText.{q_if, name_text}
+use Rattle.decompiled.specs.SourceTrees.{word, IsLiteral, IsNumber, IsProduct, IsSigned, IsSum, IsJoined}
 
 -- where K holds of each literal
 pub record HoldsBySteps (K : PinLiteral → Type 0) (P : Tree → Type 0) : Type 0 where

@@ -16,8 +16,8 @@ use Rattle.fitter.specs.Width.{IsControlTooWide, NoneWide}
 use Rattle.sop_lowering.specs.Written.{bit_list}
 use Rattle.compile_phases.specs.SourceRefusals.{IsNetlistOf}
 use Rattle.decompiled_sources.specs.Bounds.{IsNoNode}
-use Rattle.pin_sources.specs.declared.literal.PinLiteral.{PinLiteral}
-use Rattle.pin_trees.specs.SourceTrees.{IsSourceTree}
+use Rattle.decompiled.specs.declared.literal.PinLiteral.{PinLiteral}
+use Rattle.decompiled.specs.SourceTrees.{IsSourceTree}
 use Rattle.decompiled.specs.Sources.{source_of}
 use Rattle.decompiled_logic.specs.Alike.{IsFusesNetlist}
 use Rattle.decompiled_netlists.specs.Signals.{leaf_of}

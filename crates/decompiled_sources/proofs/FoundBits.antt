@@ -11,8 +11,8 @@ use Rattle.set_expr.specs.declared.fault.SectionFault.{SectionFault}
 use Rattle.set_expr.specs.FoundNames.{NameFound, found_of, found_value, name_found, one_position}
 use Rattle.set_expr.specs.Refusals.{Found, found_both, found_under, operands_refused, specials_refused, unequal, unless_refused, value_of_both, value_or_none}
 use Rattle.section_targets.specs.ValueWidths.{value_refused, value_width, wrong_width}
-use Rattle.pin_sources.specs.declared.literal.PinLiteral.{PinLiteral}
-use Rattle.pin_sources.specs.SourceText.{name_text}
+use Rattle.decompiled.specs.declared.literal.PinLiteral.{PinLiteral}
+use Rattle.decompiled.specs.SourceText.{name_text}
 use Rattle.decompiled_sources.proofs.EachTree.{HoldsBySteps}
 use Rattle.decompiled_sources.proofs.PlainNames.{IsSignalFound, use_found}
 

@@ -13,8 +13,8 @@ use Rattle.abel_tree.specs.Tree.{Declaration}
 use Rattle.abel_meaning.specs.Declarations.{GivenName, all_said}
 use Rattle.decls.specs.NameRefusals.{all_buffered, always_inverts, buffered}
 use Rattle.decls.specs.NamesBefore.{names_behind}
-use Rattle.pin_sources.specs.declared.pin_line.PinLine.{PinLine}
-use Rattle.pin_trees.specs.SourceTrees.{attributes_in, IsPinLine, ArePins}
+use Rattle.decompiled.specs.declared.pin_line.PinLine.{PinLine}
+use Rattle.decompiled.specs.SourceTrees.{attributes_in, IsPinLine, ArePins}
 use Rattle.decompiled.specs.Sources.{follows_by, pin_line, register_on}
 
 complements_always : (flip : Flip) (inverted : Bool) → pin_complements flip true false ≡ true → pin_complements flip true inverted ≡ true

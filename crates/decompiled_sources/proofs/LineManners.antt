@@ -22,9 +22,9 @@ use Rattle.set_expr.specs.Refusals.{Found}
 use Rattle.section_targets.specs.declared.manner.Manner.{Manner}
 use Rattle.section_targets.specs.Manners.{differs_from, first_manner, is_against_kind, is_cell_pin, is_output, is_output_kind, is_same_part, may_be_assigned, part_of}
 use Rattle.section_targets.specs.TargetSignals.{TargetFound, left_side, start_of, target_use}
-use Rattle.pin_sources.specs.declared.sum_line.SumLine.{SumLine}
-use Rattle.pin_sources.specs.SourceText.{name_text}
-use Rattle.pin_trees.specs.SourceTrees.{word, IsNamed, IsSourceTree}
+use Rattle.decompiled.specs.declared.sum_line.SumLine.{SumLine}
+use Rattle.decompiled.specs.SourceText.{name_text}
+use Rattle.decompiled.specs.SourceTrees.{word, IsNamed, IsSourceTree}
 use Rattle.decompiled.specs.Sources.{source_of}
 use Rattle.decompiled_netlists.specs.Signals.{signal_of}
 use Rattle.decompiled_netlists.proofs.SourcePins.{IsDeclared, IsDeclaredLine, own_signal}

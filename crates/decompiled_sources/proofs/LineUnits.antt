@@ -22,10 +22,10 @@ use Rattle.section_targets.specs.Manners.{aims_refused, is_against_kind, mixed, 
 use Rattle.section_targets.specs.TargetSignals.{TargetFound, left_side}
 use Rattle.section_targets.specs.Units.{CountedUnit}
 use Rattle.equations.specs.StatementUnits.{assign_refused, assigned_aims, assigned_manners, statement_manners, statement_places, units_of_statement}
-use Rattle.pin_sources.specs.declared.literal.PinLiteral.{PinLiteral}
-use Rattle.pin_sources.specs.declared.sum_line.SumLine.{SumLine}
-use Rattle.pin_sources.specs.SourceText.{name_text}
-use Rattle.pin_trees.specs.SourceTrees.{word, IsLine, IsSourceTree}
+use Rattle.decompiled.specs.declared.literal.PinLiteral.{PinLiteral}
+use Rattle.decompiled.specs.declared.sum_line.SumLine.{SumLine}
+use Rattle.decompiled.specs.SourceText.{name_text}
+use Rattle.decompiled.specs.SourceTrees.{word, IsLine, IsSourceTree}
 use Rattle.decompiled.specs.Sources.{source_of}
 use Rattle.decompiled.proofs.Each.{each_weaker}
 use Rattle.decompiled_netlists.specs.Signals.{signal_of}

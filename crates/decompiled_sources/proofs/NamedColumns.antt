@@ -16,7 +16,7 @@ use Rattle.bit_expr.specs.declared.node.Leaf.TheVariants as leaf
 use Rattle.bit_expr.specs.Folding.{Made, make_and, make_or}
 use Rattle.bit_expr.specs.Formulas.{Formula, Read, Not, names, same_leaf}
 use Rattle.device_logic.specs.CellReads.{carries_cell, pairs_read, row_reads_cell}
-use Rattle.pin_sources.specs.declared.literal.PinLiteral.{PinLiteral}
+use Rattle.decompiled.specs.declared.literal.PinLiteral.{PinLiteral}
 use Rattle.pin_meanings.specs.SumFormulas.{literal_formula, product_formula, sum_formula}
 use Rattle.decompiled.specs.RowLiterals.{ColumnLiteral, row_literals, some_read}
 use Rattle.decompiled.specs.Sources.{control_products, live_rows, named, product_of}

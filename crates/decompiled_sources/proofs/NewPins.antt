@@ -17,9 +17,9 @@ use Rattle.decls.specs.declared.fault.NameFault.{NameFault}
 use Rattle.decls.specs.Attributes.{strings_refused}
 use Rattle.decls.specs.NamesBefore.{added, is_on_pin, is_taken, names_behind}
 use Rattle.decls.specs.Refused.{declaration_refused, declarations_refused, given_count, is_signal_pin, name_refused, names_refused, parts_refused}
-use Rattle.pin_sources.specs.declared.pin_line.PinLine.{PinLine}
-use Rattle.pin_sources.specs.SourceText.{name_text}
-use Rattle.pin_trees.specs.SourceTrees.{attributes_in, word, IsPinLine, ArePins}
+use Rattle.decompiled.specs.declared.pin_line.PinLine.{PinLine}
+use Rattle.decompiled.specs.SourceText.{name_text}
+use Rattle.decompiled.specs.SourceTrees.{attributes_in, word, IsPinLine, ArePins}
 use Rattle.pin_meanings.specs.PinNames.{said, ArePinEntries, ArePinsApart}
 
 pub signal_pin_passes : (t : Table) (pin : ℕ) → IsSignalPin t pin → is_signal_pin t pin ≡ true

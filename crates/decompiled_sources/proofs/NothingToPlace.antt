@@ -14,9 +14,9 @@ use Rattle.abel_meaning.specs.Kinds.{is_buffer_by_default, names_of, with_kind, 
 use Rattle.design_refusals.specs.Refused.{is_registered_node}
 use Rattle.placer.specs.Signals.{is_buried_register, needs_pin, to_place, to_place_from}
 use Rattle.placer.proofs.MadeModules.{itself}
-use Rattle.pin_sources.specs.declared.pin_line.PinLine.{PinLine}
-use Rattle.pin_sources.specs.SourceText.{name_text}
-use Rattle.pin_trees.specs.SourceTrees.{IsSourceTree}
+use Rattle.decompiled.specs.declared.pin_line.PinLine.{PinLine}
+use Rattle.decompiled.specs.SourceText.{name_text}
+use Rattle.decompiled.specs.SourceTrees.{IsSourceTree}
 use Rattle.pin_meanings.specs.PinNames.{said, IsPinEntry, ArePinEntries}
 use Rattle.pin_meanings.proofs.Declared.{declares}
 use Rattle.decompiled.specs.Sources.{source_of}

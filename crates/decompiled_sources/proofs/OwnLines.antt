@@ -15,8 +15,8 @@ use Rattle.abel_tree.specs.declared.words.Extension.{Extension}
 use Rattle.abel_tree.specs.declared.words.Extension.TheVariants as extension
 use Rattle.abel_meaning.specs.Targets.{is_data}
 use Rattle.section_targets.specs.Manners.{may_be_assigned}
-use Rattle.pin_sources.specs.declared.literal.PinLiteral.{PinLiteral}
-use Rattle.pin_sources.specs.declared.sum_line.SumLine.{SumLine}
+use Rattle.decompiled.specs.declared.literal.PinLiteral.{PinLiteral}
+use Rattle.decompiled.specs.declared.sum_line.SumLine.{SumLine}
 use Rattle.decompiled.specs.RowLiterals.{ColumnLiteral, if_intact, literal, literals_of, row_literals}
 use Rattle.decompiled.specs.Sources.{cell_lines, control_line, control_products, data_line, enable_lines, first_register, has_lines, lines_of, live_rows, named, product_of, shared_lines}
 use Rattle.decompiled.proofs.Each.{each_always, each_append, each_flat_map, each_in_range, each_map}

@@ -15,7 +15,7 @@ use Rattle.abel_meaning.specs.Numbers.{Shape, Number, Single, Set, meeting, widt
 use Rattle.abel_meaning.specs.Sources.{Source, Zero, Held, source_of}
 use Rattle.abel_meaning.specs.Terms.{Term, Read as ReadTerm, UnaryOf, BinaryOf, extended_if, term_of}
 use Rattle.abel_meaning.specs.Values.{constant_of}
-use Rattle.pin_sources.specs.SourceText.{q_if}
+use Rattle.decompiled.specs.SourceText.{q_if}
 use Rattle.decompiled_sources.proofs.EachTree.{HoldsBySteps}
 use Rattle.decompiled_sources.proofs.FoundBits.{IsNarrow, narrow_met}
 use Rattle.decompiled_sources.proofs.SmallBits.{IsKnownPin, IsSmall, and_gives, and_small, met_few, not_gives, not_small, or_gives, or_small, read_small, weight}

@@ -13,8 +13,8 @@ use Rattle.abel_meaning.specs.Terms.{term_of}
 use Rattle.section_targets.specs.declared.manner.Manner.{Manner}
 use Rattle.section_targets.specs.Units.{CountedUnit, units_nodes}
 use Rattle.equations.specs.StatementUnits.{statement_manners, statements_places, units_of_statements}
-use Rattle.pin_sources.specs.declared.sum_line.SumLine.{SumLine}
-use Rattle.pin_trees.specs.SourceTrees.{AreLines, IsLine, IsSourceTree}
+use Rattle.decompiled.specs.declared.sum_line.SumLine.{SumLine}
+use Rattle.decompiled.specs.SourceTrees.{AreLines, IsLine, IsSourceTree}
 use Rattle.pin_meanings.specs.SumFormulas.{sum_formula}
 use Rattle.pin_meanings.proofs.SumBits.{sums}
 use Rattle.decompiled.specs.Sources.{source_of}

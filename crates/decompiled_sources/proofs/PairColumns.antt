@@ -6,8 +6,8 @@ use Rattle.pld_device.specs.Laws.{IsPair, IsDevice}
 use Rattle.pld_device.specs.Reads.{is_never_true}
 use Rattle.pld_device.specs.Rows.{row_fuses}
 use Rattle.pld_device.specs.Table.{Table}
-use Rattle.pin_sources.specs.declared.literal.PinLiteral.{PinLiteral}
-use Rattle.pin_sources.specs.declared.sum_line.SumLine.{SumLine}
+use Rattle.decompiled.specs.declared.literal.PinLiteral.{PinLiteral}
+use Rattle.decompiled.specs.declared.sum_line.SumLine.{SumLine}
 use Rattle.decompiled.specs.RowLiterals.{ColumnLiteral, if_intact, literal, literals_of, row_literals}
 use Rattle.decompiled.specs.Sources.{control_products, live_rows, named, named_by, product_of}
 use Rattle.decompiled.proofs.Each.{each_always, each_append, each_at, each_map, each_member, each_weaker}

@@ -32,8 +32,8 @@ use Rattle.design_refusals.specs.declared.rules.Rule.{Rule}
 use Rattle.design_refusals.specs.declared.rules.Rule.TheVariants as rule
 use Rattle.design_refusals.specs.Refused.{all_refused, has_wrong_kind, has_wrong_kind_by, has_wrong_kind_on, is_any, is_wrong_cell, is_wrong_kind, lacks_by, lacks_control, node_refused, pin_lacks, registered_nodes, rule_refused}
 use Rattle.use_refusals.specs.declared.refused.RefusedUse.{RefusedUse}
-use Rattle.pin_sources.specs.declared.sum_line.SumLine.{SumLine}
-use Rattle.pin_trees.specs.SourceTrees.{IsSourceTree}
+use Rattle.decompiled.specs.declared.sum_line.SumLine.{SumLine}
+use Rattle.decompiled.specs.SourceTrees.{IsSourceTree}
 use Rattle.decompiled.specs.Sources.{source_of}
 use Rattle.decompiled_netlists.specs.Signals.{leaf_of, signal_of}
 use Rattle.decompiled_netlists.proofs.PinWords.{cell_name, name}

@@ -14,8 +14,8 @@ use Rattle.set_expr.specs.declared.fault.SectionFault.{SectionFault}
 use Rattle.set_expr.specs.FoundNames.{NameFound, constants_refused, found_after, found_entry, found_kind, found_refusals, found_use, found_value, at_name, is_pulse_kind, name_found, named, names_found, nothing_found, one_position, refused_there}
 use Rattle.set_expr.specs.declared.fault.SectionFault.TheVariants.{MisplacedSpecial}
 use Rattle.set_expr.specs.Refusals.{Found}
-use Rattle.pin_sources.specs.SourceText.{name_text}
-use Rattle.pin_trees.specs.SourceTrees.{IsSourceTree}
+use Rattle.decompiled.specs.SourceText.{name_text}
+use Rattle.decompiled.specs.SourceTrees.{IsSourceTree}
 use Rattle.decompiled.specs.Sources.{source_of}
 use Rattle.decompiled_netlists.specs.Signals.{signal_of}
 use Rattle.decompiled_netlists.proofs.SourcePins.{IsDeclared}

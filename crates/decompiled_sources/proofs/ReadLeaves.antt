@@ -14,9 +14,9 @@ use Rattle.abel_tree.specs.Tree.{ModuleTree}
 use Rattle.abel_meaning.specs.Designs.{Design, design_of, follows_q, is_stored}
 use Rattle.abel_meaning.specs.Sources.{Source, Held, on_pin, register_source, source_by, source_of as read_of}
 use Rattle.abel_meaning.specs.Designs.{cell_on}
-use Rattle.pin_sources.specs.declared.literal.PinLiteral.{PinLiteral}
-use Rattle.pin_sources.specs.SourceText.{q_if}
-use Rattle.pin_trees.specs.SourceTrees.{IsSourceTree}
+use Rattle.decompiled.specs.declared.literal.PinLiteral.{PinLiteral}
+use Rattle.decompiled.specs.SourceText.{q_if}
+use Rattle.decompiled.specs.SourceTrees.{IsSourceTree}
 use Rattle.pin_meanings.specs.SumFormulas.{ReadsLeaf}
 use Rattle.decompiled.specs.Sources.{named_by, source_of}
 use Rattle.decompiled.proofs.Each.{each_weaker}

@@ -33,10 +33,10 @@ use Rattle.section_targets.specs.TargetSignals.{TargetFound, left_side}
 use Rattle.compared_controls.specs.Compared.{is_compared_of}
 use Rattle.written_controls.specs.Written.{Written, aims_refused, is_written_at, narrow, sections_refused, statement_refused, statements_refused, unwritten, written_if}
 use Rattle.use_refusals.specs.declared.refused.RefusedUse.{RefusedUse}
-use Rattle.pin_sources.specs.declared.literal.PinLiteral.{PinLiteral}
-use Rattle.pin_sources.specs.declared.sum_line.SumLine.{SumLine}
-use Rattle.pin_sources.specs.SourceText.{name_text, q_if}
-use Rattle.pin_trees.specs.SourceTrees.{AreLines, IsLine, IsSourceTree}
+use Rattle.decompiled.specs.declared.literal.PinLiteral.{PinLiteral}
+use Rattle.decompiled.specs.declared.sum_line.SumLine.{SumLine}
+use Rattle.decompiled.specs.SourceText.{name_text, q_if}
+use Rattle.decompiled.specs.SourceTrees.{AreLines, IsLine, IsSourceTree}
 use Rattle.decompiled.specs.Sources.{lines_of, named_by, source_of}
 use Rattle.decompiled_netlists.specs.Signals.{signal_of}
 use Rattle.decompiled_netlists.proofs.PinWords.{HasNoCell, cell_name, free_plain, kind_is, name}

@@ -7,7 +7,7 @@ use Rattle.pld_base.specs.DeviceNames.{device_text, named_device}
 use Rattle.pld_device.specs.Table.{Table}
 use Rattle.abel_tree.specs.Tree.{ModuleTree}
 use Rattle.abel_meaning.specs.DeviceStrings.{device_named, unquoted}
-use Rattle.pin_trees.specs.SourceTrees.{IsSourceTree}
+use Rattle.decompiled.specs.SourceTrees.{IsSourceTree}
 use Rattle.decompiled.specs.Sources.{source_of}
 use Rattle.decompiled_runs.proofs.SaidRuns.{say_what_they_do}
 use Rattle.decompiled_sources.specs.Designs.{DesignsAreTakeable}

@@ -26,7 +26,7 @@ use Rattle.fitter.specs.Sharing.{IsSharedBit, own_control, own_formula}
 use Rattle.fitter.proofs.Alike.{first_wanted, own_id}
 use Rattle.fitter.proofs.FirstNames.{none_first, own_is}
 use Rattle.fitter.specs.Products.{IsProduct, IsSharedProduct}
-use Rattle.pin_sources.specs.declared.literal.PinLiteral.{PinLiteral}
+use Rattle.decompiled.specs.declared.literal.PinLiteral.{PinLiteral}
 use Rattle.decompiled_logic.specs.Alike.{IsFusesNetlist, shared_formula}
 use Rattle.decompiled_sources.specs.ShortSums.{ReadNoNode}
 use Rattle.decompiled_sources.proofs.CellRooms.{IsOneOrNone, asked, bit_product, control_few, plain_is, some_is_none, within}

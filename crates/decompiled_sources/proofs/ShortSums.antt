@@ -7,7 +7,7 @@ use Rattle.bit_expr.specs.Formulas.{Formula, Const, Read, Not, And, Or}
 use Rattle.sop_lowering.specs.Through.{EachLeaf}
 use Rattle.decompiled_sources.specs.Bounds.{IsNoNode, StaysBelow, bound}
 use Rattle.decompiled_sources.proofs.ShortLists.{all_short}
-use Rattle.pin_sources.specs.declared.literal.PinLiteral.{PinLiteral}
+use Rattle.decompiled.specs.declared.literal.PinLiteral.{PinLiteral}
 use Rattle.pin_meanings.specs.SumFormulas.{literal_formula, product_formula, sum_formula}
 use Rattle.decompiled_sources.specs.ShortSums.{ReadNoNode, SumsAreShort}
 

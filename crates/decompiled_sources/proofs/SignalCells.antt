@@ -12,7 +12,7 @@ use Rattle.abel_tree.specs.Entries.{Kind, APin, ANode, AConstant, ADeviceName}
 use Rattle.abel_tree.specs.Tree.{ModuleTree}
 use Rattle.abel_meaning.specs.Designs.{Design, cell_on, design_of, is_stored, name_at}
 use Rattle.abel_meaning.specs.SignalReads.{is_one_of, leaf_by, leaf_of, settles, settles_by}
-use Rattle.pin_trees.specs.SourceTrees.{IsSourceTree}
+use Rattle.decompiled.specs.SourceTrees.{IsSourceTree}
 use Rattle.decompiled.specs.Sources.{has_lines, pins_of, source_of}
 use Rattle.decompiled_netlists.specs.Signals.{place_of, signal_of}
 use Rattle.decompiled_netlists.proofs.PinPlaces.{taken_once}

@@ -16,8 +16,8 @@ use Rattle.abel_meaning.specs.Numbers.{Shape, Number, Single, Set, meeting, widt
 use Rattle.abel_meaning.specs.Sources.{Source, Zero, Held, source_of}
 use Rattle.abel_meaning.specs.Terms.{Term, Read as ReadTerm, UnaryOf, BinaryOf, extended_if, term_named, term_of}
 use Rattle.abel_meaning.specs.Values.{constant_of}
-use Rattle.pin_sources.specs.declared.literal.PinLiteral.{PinLiteral}
-use Rattle.pin_sources.specs.SourceText.{name_text, q_if}
+use Rattle.decompiled.specs.declared.literal.PinLiteral.{PinLiteral}
+use Rattle.decompiled.specs.SourceText.{name_text, q_if}
 use Rattle.decompiled_sources.proofs.EachTree.{HoldsBySteps}
 use Rattle.decompiled_sources.proofs.FoundBits.{IsNarrow, narrow_met}
 

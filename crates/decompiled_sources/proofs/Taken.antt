@@ -22,7 +22,7 @@ use Rattle.assigned_signals.proofs.SoundModules.{all_accepted}
 use Rattle.set_expr.specs.declared.contributions.Contributions.{Contributions}
 use Rattle.source_sections.specs.SectionAnswers.{AreContributed}
 use Rattle.design_refusals.specs.declared.rules.Rule.TheVariants as rule
-use Rattle.pin_trees.specs.SourceTrees.{IsSourceTree}
+use Rattle.decompiled.specs.SourceTrees.{IsSourceTree}
 use Rattle.decompiled.specs.Sources.{pins_of, source_of}
 use Rattle.decompiled_netlists.proofs.PinPlaces.{taken_once}
 use Rattle.decompiled_netlists.proofs.PinWords.{cell_name}

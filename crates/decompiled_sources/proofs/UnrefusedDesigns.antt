@@ -19,7 +19,7 @@ use Rattle.design_uses.specs.RefusedUses.{missing_uses}
 use Rattle.use_refusals.specs.declared.refused.RefusedUse.{RefusedUse}
 use Rattle.use_refusals.specs.Refused.{told}
 use Rattle.written_controls.specs.Written.{unwritten}
-use Rattle.pin_trees.specs.SourceTrees.{IsSourceTree}
+use Rattle.decompiled.specs.SourceTrees.{IsSourceTree}
 use Rattle.decompiled.specs.Sources.{lines_of, source_of}
 use Rattle.decompiled_netlists.specs.Signals.{leaf_of, signal_of}
 use Rattle.decompiled_netlists.proofs.SourceReads.{given_is}

@@ -14,11 +14,11 @@ use Rattle.decls.specs.declared.fault.NameFault.{NameFault}
 use Rattle.decls.specs.NameRefusals.{all_buffered, always_inverts, buffers_refused, module_buffers_refused, name_refusals, names_once, read_refusals, sections_refused}
 use Rattle.decls.specs.NamesBefore.{names_behind}
 use Rattle.decls.specs.Refused.{declarations_refused, uses_refused}
-use Rattle.pin_sources.specs.declared.literal.PinLiteral.{PinLiteral}
-use Rattle.pin_sources.specs.declared.pin_line.PinLine.{PinLine}
-use Rattle.pin_sources.specs.declared.sum_line.SumLine.{SumLine}
-use Rattle.pin_sources.specs.SourceText.{name_text}
-use Rattle.pin_trees.specs.SourceTrees.{word, IsSourceTree}
+use Rattle.decompiled.specs.declared.literal.PinLiteral.{PinLiteral}
+use Rattle.decompiled.specs.declared.pin_line.PinLine.{PinLine}
+use Rattle.decompiled.specs.declared.sum_line.SumLine.{SumLine}
+use Rattle.decompiled.specs.SourceText.{name_text}
+use Rattle.decompiled.specs.SourceTrees.{word, IsSourceTree}
 use Rattle.decompiled.specs.Sources.{lines_of, pin_line, source_of}
 use Rattle.decompiled.proofs.Each.{each_weaker}
 use Rattle.decompiled_netlists.proofs.SourcePins.{IsDeclared, IsDeclaredLine, IsDeclaredLiteral, declared_at, line_there, lines_declared, pins_apart, pins_low}

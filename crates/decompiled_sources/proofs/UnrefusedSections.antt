@@ -17,8 +17,8 @@ use Rattle.source_sections.specs.SectionAnswers.{sections_refused, source_units}
 use Rattle.source_sections.specs.SectionUnits.{units_of_sections}
 use Rattle.source_vectors.specs.AllSections.{all_sections_refused}
 use Rattle.source_vectors.specs.SourceVectors.{refused_behind}
-use Rattle.pin_sources.specs.declared.sum_line.SumLine.{SumLine}
-use Rattle.pin_trees.specs.SourceTrees.{AreLines, IsSourceTree}
+use Rattle.decompiled.specs.declared.sum_line.SumLine.{SumLine}
+use Rattle.decompiled.specs.SourceTrees.{AreLines, IsSourceTree}
 use Rattle.decompiled.specs.Sources.{lines_of, source_of}
 use Rattle.decompiled.proofs.Each.{each_append}
 use Rattle.decompiled_netlists.proofs.SourcePins.{IsDeclaredLine, lines_declared}

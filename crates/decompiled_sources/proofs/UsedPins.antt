@@ -12,11 +12,11 @@ use Rattle.abel_tree.specs.Uses.{Use, list_uses, statement_uses, uses}
 use Rattle.abel_meaning.specs.Declarations.{entry}
 use Rattle.decls.specs.declared.fault.NameFault.{NameFault}
 use Rattle.decls.specs.Refused.{use_refused, uses_refused}
-use Rattle.pin_sources.specs.declared.literal.PinLiteral.{PinLiteral}
-use Rattle.pin_sources.specs.declared.pin_line.PinLine.{PinLine}
-use Rattle.pin_sources.specs.declared.sum_line.SumLine.{SumLine}
-use Rattle.pin_sources.specs.SourceText.{name_text, q_if}
-use Rattle.pin_trees.specs.SourceTrees.{word, IsLine, AreLines}
+use Rattle.decompiled.specs.declared.literal.PinLiteral.{PinLiteral}
+use Rattle.decompiled.specs.declared.pin_line.PinLine.{PinLine}
+use Rattle.decompiled.specs.declared.sum_line.SumLine.{SumLine}
+use Rattle.decompiled.specs.SourceText.{name_text, q_if}
+use Rattle.decompiled.specs.SourceTrees.{word, IsLine, AreLines}
 use Rattle.pin_meanings.specs.PinNames.{said, ArePinEntries}
 use Rattle.decompiled_netlists.proofs.PinPlaces.{same_some}
 use Rattle.decompiled_sources.proofs.EachTree.{HoldsBySteps, sum_holds}

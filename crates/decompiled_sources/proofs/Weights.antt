@@ -4,9 +4,9 @@ use Rattle.std.specs.List.{AllByRecursion}
 use Rattle.abel_tree.specs.declared.words.Extension.{Extension}
 use Rattle.abel_tree.specs.declared.words.Binary.TheVariants as binary
 use Rattle.abel_tree.specs.Tree.{Tree, ABinary}
-use Rattle.pin_sources.specs.declared.literal.PinLiteral.{PinLiteral}
-use Rattle.pin_sources.specs.SourceText.{q_if}
-use Rattle.pin_trees.specs.SourceTrees.{IsJoined, IsLiteral, IsNamed, IsNumber, IsProduct, IsSigned, IsSum}
+use Rattle.decompiled.specs.declared.literal.PinLiteral.{PinLiteral}
+use Rattle.decompiled.specs.SourceText.{q_if}
+use Rattle.decompiled.specs.SourceTrees.{IsJoined, IsLiteral, IsNamed, IsNumber, IsProduct, IsSigned, IsSum}
 use Rattle.decompiled_sources.proofs.OwnLines.{IsShortProduct}
 use Rattle.decompiled_sources.proofs.SmallBits.{weight}
 

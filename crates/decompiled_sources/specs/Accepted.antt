@@ -6,7 +6,7 @@ use Rattle.pld_device.specs.Table.{Table}
 use Rattle.device_logic.specs.CellReads.{cell_reads}
 use Rattle.device_logic.specs.ResetPaths.{HasNoResetPath}
 use Rattle.abel_tree.specs.Tree.{ModuleTree}
-use Rattle.pin_trees.specs.SourceTrees.{IsSourceTree}
+use Rattle.decompiled.specs.SourceTrees.{IsSourceTree}
 use Rattle.decompiled.specs.Sources.{source_of}
 use Rattle.compile_phases.specs.Fits.{FitsAsWritten}
 use Rattle.compile_phases.specs.SourceRefusals.{IsAcceptedFor}

@@ -12,7 +12,7 @@ use Rattle.netlist_laws.specs.Takeable.{IsTakeable}
 use Rattle.set_expr.specs.declared.contributions.Contributions.{Contributions}
 use Rattle.source_sections.specs.SectionAnswers.{AreContributed}
 use Rattle.design.specs.Answers.{HasNoRefusal}
-use Rattle.pin_trees.specs.SourceTrees.{IsSourceTree}
+use Rattle.decompiled.specs.SourceTrees.{IsSourceTree}
 use Rattle.decompiled.specs.Sources.{source_of}
 
 -- nothing is refused of the design of a module that is the fuses' source, where these have no loop and no reset path

@@ -13,8 +13,8 @@ use Rattle.fitter.specs.Width.{NoneWide}
 use Rattle.fitter.specs.Answers.{HasControls}
 use Rattle.compile_phases.specs.Fits.{FitsAsWritten, HasRoom}
 use Rattle.compile_phases.specs.SourceRefusals.{IsNetlistOf}
-use Rattle.pin_sources.specs.declared.literal.PinLiteral.{PinLiteral}
-use Rattle.pin_trees.specs.SourceTrees.{IsSourceTree}
+use Rattle.decompiled.specs.declared.literal.PinLiteral.{PinLiteral}
+use Rattle.decompiled.specs.SourceTrees.{IsSourceTree}
 use Rattle.decompiled.specs.Sources.{source_of}
 use Rattle.decompiled_logic.specs.Alike.{IsFusesNetlist}
 use Rattle.decompiled_sources.specs.ShortSums.{ReadNoNode}

@@ -8,7 +8,7 @@ use Rattle.device_logic.specs.ResetPaths.{HasNoResetPath}
 use Rattle.abel_tree.specs.Tree.{ModuleTree}
 use Rattle.abel_meaning.specs.DeviceStrings.{device_named}
 use Rattle.placer.specs.Placements.{IsPlacedModule}
-use Rattle.pin_trees.specs.SourceTrees.{IsSourceTree}
+use Rattle.decompiled.specs.SourceTrees.{IsSourceTree}
 use Rattle.compile_phases.specs.Fits.{FitsAsWritten}
 use Rattle.compile_phases.specs.SourceRefusals.{IsAcceptedFor}
 use Rattle.decompiled.specs.Sources.{source_of}

@@ -4,7 +4,7 @@ use Rattle.bit_expr.specs.declared.netlist.Netlist.{Netlist}
 use Rattle.bit_expr.specs.declared.node.Leaf.{Leaf}
 use Rattle.sop_lowering.specs.Written.{written}
 use Rattle.decompiled_sources.specs.Bounds.{IsNoNode, IsShort}
-use Rattle.pin_sources.specs.declared.literal.PinLiteral.{PinLiteral}
+use Rattle.decompiled.specs.declared.literal.PinLiteral.{PinLiteral}
 use Rattle.pin_meanings.specs.SumFormulas.{sum_formula}
 
 -- no literal reads a node

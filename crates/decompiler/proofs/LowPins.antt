@@ -5,10 +5,10 @@ use Rattle.pld_device.specs.declared.carry.Carry.{Carry}
 use Rattle.pld_device.specs.declared.carry.Carry.TheVariants as carry
 use Rattle.pld_device.specs.Laws.{IsPair, IsDevice}
 use Rattle.pld_device.specs.Table.{Table, cell_at, no_cell}
-use Rattle.pin_sources.specs.declared.literal.PinLiteral.{PinLiteral}
-use Rattle.pin_sources.specs.declared.pin_line.PinLine.{PinLine}
-use Rattle.pin_sources.specs.declared.sum_line.SumLine.{SumLine}
-use Rattle.pin_trees.specs.Reading.{IsLow, IsLowProduct, IsLowLine, HasLowPins}
+use Rattle.decompiled.specs.declared.literal.PinLiteral.{PinLiteral}
+use Rattle.decompiled.specs.declared.pin_line.PinLine.{PinLine}
+use Rattle.decompiled.specs.declared.sum_line.SumLine.{SumLine}
+use Rattle.decompiled.specs.Reading.{IsLow, IsLowProduct, IsLowLine, HasLowPins}
 use Rattle.decompiled.specs.Sources.{named_by, lines_of, names_pin, pin_line, source_of}
 use Rattle.decompiled.proofs.Each.{each_filter, each_map, each_in_range, each_weaker}
 use Rattle.decompiled.proofs.SourceLines.{IsPairLiteral, IsCellLine, lines_on}

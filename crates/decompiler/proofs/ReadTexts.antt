@@ -6,7 +6,7 @@ use Rattle.pld_device.specs.Laws.{IsDevice}
 use Rattle.pld_device.specs.Table.{Table}
 use Rattle.device_logic.specs.CellReads.{cell_reads}
 use Rattle.device_logic.specs.ResetPaths.{HasNoResetPath}
-use Rattle.pin_trees.proofs.ReadTexts.{read}
+use Rattle.decompiled.proofs.ReadTexts.{read}
 use Rattle.decompiled.specs.Sources.{decompiled_text, source_of}
 use Rattle.decompiled_sources.specs.Right.{SourcesAreRight}
 use Rattle.decompiler.specs.Reading.{IsDecompiled, IsReadAsSource}

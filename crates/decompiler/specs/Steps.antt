@@ -4,9 +4,9 @@ use Rattle.std.specs.List.{list_any}
 use Rattle.pld_base.specs.Bits.{is_on}
 use Rattle.pld_device.specs.declared.carry.Carry.{Carry}
 use Rattle.pld_device.specs.Table.{Table}
-use Rattle.pin_sources.specs.declared.literal.PinLiteral.{PinLiteral}
-use Rattle.pin_sources.specs.declared.pin_line.PinLine.{PinLine}
-use Rattle.pin_sources.specs.declared.sum_line.SumLine.{SumLine}
+use Rattle.decompiled.specs.declared.literal.PinLiteral.{PinLiteral}
+use Rattle.decompiled.specs.declared.pin_line.PinLine.{PinLine}
+use Rattle.decompiled.specs.declared.sum_line.SumLine.{SumLine}
 use Rattle.decompiled.specs.RowLiterals.{ColumnLiteral, if_intact, literal}
 use Rattle.decompiled.specs.Sources.{named, names_pin, pin_line}
 

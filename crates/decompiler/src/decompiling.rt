@@ -9,9 +9,9 @@ ghost use Rattle.decompiled.specs.Sources.{decompiled_text, source_of};
 ghost use Rattle.decompiler.specs.Reading.{IsDecompiled, IsReadAsSource};
 
 use crate::device_fuses::DeviceFuses;
+use decompiled::PinSource;
 use decompiled_sources::sources_are_right;
 use device_logic::{SimFault, load};
-use pin_sources::PinSource;
 use pld_base::{ListOf, OutOfMemory};
 use pld_device::{Device, Fuses};
 use std::alloc::Global;

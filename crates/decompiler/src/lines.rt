@@ -7,8 +7,8 @@ ghost use Rattle.decompiled.specs.Sources.{cell_lines, data_line, enable_lines, 
 
 use crate::device_fuses::DeviceFuses;
 use abel_tree::Extension;
+use decompiled::SumLine;
 use device_logic::cell_of;
-use pin_sources::SumLine;
 use pld_base::OutOfMemory;
 use pld_device::{Device, Enable, Flip};
 use std::alloc::Global;

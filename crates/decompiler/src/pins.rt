@@ -7,8 +7,8 @@ ghost use Rattle.decompiler.specs.Steps.{pin_if_named};
 
 use crate::device_fuses::DeviceFuses;
 use crate::lines::pin_complements;
+use decompiled::{PinLine, PinLiteral, SumLine};
 use device_logic::cell_of;
-use pin_sources::{PinLine, PinLiteral, SumLine};
 use pld_base::{ListOf, OutOfMemory};
 use pld_device::Device;
 use std::alloc::Global;

@@ -7,8 +7,8 @@ ghost use Rattle.decompiled.specs.Sources.{control_products, named_by, product_o
 ghost use Rattle.decompiler.specs.Steps.{pair_literals};
 
 use crate::device_fuses::DeviceFuses;
+use decompiled::PinLiteral;
 use device_logic::{carry_of, cell_of};
-use pin_sources::PinLiteral;
 use pld_base::{ListOf, OutOfMemory};
 use pld_device::{Carry, Cell, Device};
 use std::alloc::Global;

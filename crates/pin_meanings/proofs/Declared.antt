@@ -5,9 +5,9 @@ use Rattle.pld_base.specs.declared.place.Place.{Place}
 use Rattle.abel_tree.specs.Entries.{APin, ADeviceName, Entry, Words}
 use Rattle.abel_tree.specs.Tree.{Declaration}
 use Rattle.abel_meaning.specs.Declarations.{all_said, declared, declared_names, entry, no_words}
-use Rattle.pin_sources.specs.declared.pin_line.PinLine.{PinLine}
-use Rattle.pin_sources.specs.SourceText.{name_text}
-use Rattle.pin_trees.specs.SourceTrees.{attributes_in, IsPinLine, ArePins}
+use Rattle.decompiled.specs.declared.pin_line.PinLine.{PinLine}
+use Rattle.decompiled.specs.SourceText.{name_text}
+use Rattle.decompiled.specs.SourceTrees.{attributes_in, IsPinLine, ArePins}
 use Rattle.pin_meanings.specs.PinNames.{said, ArePinEntries, PinsAreDeclared}
 
 -- where a string stands says nothing

@@ -14,10 +14,10 @@ use Rattle.abel_meaning.specs.Sections.{unguarded}
 use Rattle.abel_meaning.specs.Statements.{given_each, statement_gives, statements_give}
 use Rattle.abel_meaning.specs.Targets.{targets_of}
 use Rattle.abel_meaning.specs.Terms.{Term, Read, extended_if, term_of}
-use Rattle.pin_sources.specs.declared.literal.PinLiteral.{PinLiteral}
-use Rattle.pin_sources.specs.declared.sum_line.SumLine.{SumLine}
-use Rattle.pin_sources.specs.SourceText.{name_text}
-use Rattle.pin_trees.specs.SourceTrees.{word, IsLine, AreLines}
+use Rattle.decompiled.specs.declared.literal.PinLiteral.{PinLiteral}
+use Rattle.decompiled.specs.declared.sum_line.SumLine.{SumLine}
+use Rattle.decompiled.specs.SourceText.{name_text}
+use Rattle.decompiled.specs.SourceTrees.{word, IsLine, AreLines}
 use Rattle.pin_meanings.specs.SumFormulas.{sum_formula}
 use Rattle.pin_meanings.proofs.SumBits.{sums}
 use Rattle.pin_meanings.specs.LineGives.{line_gives, IsKnownLine, LinesGive}

@@ -7,8 +7,8 @@ use Rattle.std.proofs.lemmas.Slice.Eq.{bytes_eq-Decides}
 use Rattle.abel_tree.specs.Entries.{APin, Entry}
 use Rattle.abel_meaning.specs.Declarations.{entry}
 use Rattle.abel_meaning.specs.Terms.{Term, Known, Read, known_after, term_meant, term_named}
-use Rattle.pin_sources.specs.declared.pin_line.PinLine.{PinLine}
-use Rattle.pin_sources.specs.SourceText.{name_text}
+use Rattle.decompiled.specs.declared.pin_line.PinLine.{PinLine}
+use Rattle.decompiled.specs.SourceText.{name_text}
 use Rattle.pin_meanings.specs.PinNames.{said, ArePinsApart, PinsAreKnown}
 
 -- names are apart as their pins are

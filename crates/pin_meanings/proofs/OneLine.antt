@@ -13,8 +13,8 @@ use Rattle.abel_meaning.specs.Controls.{control_by, control_of, is_control}
 use Rattle.abel_meaning.specs.Designs.{Context}
 use Rattle.abel_meaning.specs.FormulaBits.{formulas}
 use Rattle.abel_meaning.specs.Functions.{Function, any_of, both_function, function_of, gives_some, is_both, is_complement, is_data_in, is_data_to, is_free_elsewhere, same_gives, single_function, some_holds}
-use Rattle.pin_sources.specs.declared.literal.PinLiteral.{PinLiteral}
-use Rattle.pin_sources.specs.declared.sum_line.SumLine.{SumLine}
+use Rattle.decompiled.specs.declared.literal.PinLiteral.{PinLiteral}
+use Rattle.decompiled.specs.declared.sum_line.SumLine.{SumLine}
 use Rattle.pin_meanings.specs.SumFormulas.{sum_formula}
 use Rattle.pin_meanings.specs.LineGives.{line_gives, is_data_line, is_control_line, OneLineIsAFunction}
 

@@ -16,9 +16,9 @@ use Rattle.abel_meaning.specs.Numbers.{Shape, Number, Single, Value, one_bit, me
 use Rattle.abel_meaning.specs.Sources.{Source, Held, source_of}
 use Rattle.abel_meaning.specs.Terms.{Term, Read as ReadTerm, UnaryOf, BinaryOf, term_of, extended_if}
 use Rattle.abel_meaning.specs.Values.{constant_of, operator_number, computes_numbers}
-use Rattle.pin_sources.specs.declared.literal.PinLiteral.{PinLiteral}
-use Rattle.pin_sources.specs.SourceText.{q_if}
-use Rattle.pin_trees.specs.SourceTrees.{IsNumber, IsNamed, IsSigned, IsLiteral, IsJoined, IsProduct, IsSum}
+use Rattle.decompiled.specs.declared.literal.PinLiteral.{PinLiteral}
+use Rattle.decompiled.specs.SourceText.{q_if}
+use Rattle.decompiled.specs.SourceTrees.{IsNumber, IsNamed, IsSigned, IsLiteral, IsJoined, IsProduct, IsSum}
 use Rattle.pin_meanings.specs.SumFormulas.{ReadsLeaf, literal_formula, product_formula, sum_formula, SumsHaveFormulas}
 
 -- one bit with this formula

@@ -14,10 +14,10 @@ use Rattle.abel_meaning.specs.Sections.{unguarded}
 use Rattle.abel_meaning.specs.Statements.{statements_give}
 use Rattle.abel_meaning.specs.Targets.{is_data}
 use Rattle.abel_meaning.specs.Terms.{Read, term_named}
-use Rattle.pin_sources.specs.declared.literal.PinLiteral.{PinLiteral}
-use Rattle.pin_sources.specs.declared.sum_line.SumLine.{SumLine}
-use Rattle.pin_sources.specs.SourceText.{name_text}
-use Rattle.pin_trees.specs.SourceTrees.{AreLines}
+use Rattle.decompiled.specs.declared.literal.PinLiteral.{PinLiteral}
+use Rattle.decompiled.specs.declared.sum_line.SumLine.{SumLine}
+use Rattle.decompiled.specs.SourceText.{name_text}
+use Rattle.decompiled.specs.SourceTrees.{AreLines}
 use Rattle.pin_meanings.specs.SumFormulas.{ReadsLeaf, sum_formula}
 
 -- what a line gives to the signal of its pin

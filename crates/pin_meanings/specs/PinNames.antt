@@ -5,10 +5,10 @@ use Rattle.abel_tree.specs.Entries.{APin, ADeviceName, Entry, Words}
 use Rattle.abel_tree.specs.Tree.{ModuleTree}
 use Rattle.abel_meaning.specs.Declarations.{all_said, declared_names, entry, no_words}
 use Rattle.abel_meaning.specs.Terms.{Known, Read, known_after, term_named}
-use Rattle.pin_sources.specs.declared.pin_line.PinLine.{PinLine}
-use Rattle.pin_sources.specs.declared.source.PinSource.{PinSource}
-use Rattle.pin_sources.specs.SourceText.{name_text}
-use Rattle.pin_trees.specs.SourceTrees.{attributes_in, IsSourceTree}
+use Rattle.decompiled.specs.declared.pin_line.PinLine.{PinLine}
+use Rattle.decompiled.specs.declared.source.PinSource.{PinSource}
+use Rattle.decompiled.specs.SourceText.{name_text}
+use Rattle.decompiled.specs.SourceTrees.{attributes_in, IsSourceTree}
 
 -- what the string of a declaration says
 abbrev pub said : Option Bool → Words

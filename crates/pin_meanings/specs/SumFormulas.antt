@@ -9,9 +9,9 @@ use Rattle.abel_meaning.specs.Designs.{Context}
 use Rattle.abel_meaning.specs.FormulaBits.{formulas}
 use Rattle.abel_meaning.specs.Sources.{Held, source_of}
 use Rattle.abel_meaning.specs.Terms.{Read as ReadTerm, term_named, term_of}
-use Rattle.pin_sources.specs.declared.literal.PinLiteral.{PinLiteral}
-use Rattle.pin_sources.specs.SourceText.{q_if, name_text}
-use Rattle.pin_trees.specs.SourceTrees.{IsSum}
+use Rattle.decompiled.specs.declared.literal.PinLiteral.{PinLiteral}
+use Rattle.decompiled.specs.SourceText.{q_if, name_text}
+use Rattle.decompiled.specs.SourceTrees.{IsSum}
 
 -- a literal's name is a signal, and reads this leaf
 pub record ReadsLeaf (d : Context) (leaf_of : PinLiteral → Leaf) (l : PinLiteral) : Type 0 where

@@ -1,5 +1,5 @@
 use Rattle.std.proofs.Common.{ap, ◌∙◌}
-use Rattle.pin_sources.specs.SourceText.{source_text}
+use Rattle.decompiled.specs.SourceText.{source_text}
 use Rattle.decompiled.specs.Sources.{source_of}
 use Rattle.decompiler.proofs.ReadTexts.{is_decompiled, read_as_source}
 use Rattle.decompiler.proofs.decompiling.decompile.Goals as goal

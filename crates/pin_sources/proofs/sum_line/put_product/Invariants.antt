@@ -1,8 +1,0 @@
-use Rattle.std.proofs.Common.{◌≡◌, ◌++◌, take, flat_map}
-use Rattle.std.specs.Prelude.{codes}
-use Rattle.pin_sources.specs.SourceText.{literal_text}
-use Rattle.pin_sources.proofs.sum_line.put_product.Given as goal
-
-abbrev pub invariant-loop-literal : goal.invariant-loop-literal
-invariant-loop-literal l =
-    l.out.items ≡ l.initial.out.items ++ flat_map (λ k. codes " & " ++ literal_text k) (take l.literal-index l.rest)

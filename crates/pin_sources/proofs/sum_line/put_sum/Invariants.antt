@@ -1,8 +1,0 @@
-use Rattle.std.proofs.Common.{◌≡◌, ◌++◌, take, flat_map}
-use Rattle.std.specs.Prelude.{codes}
-use Rattle.pin_sources.specs.SourceText.{product_text}
-use Rattle.pin_sources.proofs.sum_line.put_sum.Given as goal
-
-abbrev pub invariant-loop-product : goal.invariant-loop-product
-invariant-loop-product l =
-    l.out.items ≡ l.initial.out.items ++ flat_map (λ p. codes " # " ++ product_text p) (take l.product-index l.rest)

@@ -1,9 +1,0 @@
-pub mod Expressions
-pub mod Statements
-pub mod Modules
-pub mod Apart
-pub mod PieceTexts
-pub mod PinNumbers
-pub mod PlainWords
-pub mod PlainPieces
-pub mod ReadTexts

@@ -1,3 +1,0 @@
-pub mod SourcePieces
-pub mod SourceTrees
-pub mod Reading
