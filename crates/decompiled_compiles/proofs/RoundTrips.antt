@@ -27,10 +27,10 @@ use Rattle.placer.specs.Placements.{IsPlacedModule}
 use Rattle.compile_phases.proofs.PlacedRefusals.{one_placed}
 use Rattle.decompiled.specs.SourceTrees.{IsSourceTree}
 use Rattle.decompiled.specs.Sources.{decompiled_text, has_lines, source_of}
-use Rattle.decompiled_netlists.proofs.FusesNetlists.{is_of_fuses}
-use Rattle.decompiled_netlists.proofs.PinWords.{cell_name}
-use Rattle.decompiled_netlists.proofs.SignalsOn.{lines_declare, on_it, on_none, registers_have_cells}
-use Rattle.decompiled_runs.proofs.SaidRuns.{say_what_they_do}
+use Rattle.decompiled_logic.proofs.FusesNetlists.{is_of_fuses}
+use Rattle.decompiled_logic.proofs.PinWords.{cell_name}
+use Rattle.decompiled_logic.proofs.SignalsOn.{lines_declare, on_it, on_none, registers_have_cells}
+use Rattle.decompiled_logic.proofs.SaidRuns.{say_what_they_do}
 use Rattle.decompiled_sources.specs.Right.{SourcesAreRight}
 use Rattle.decompiler.specs.Reading.{IsDecompiled}
 use Rattle.decompiler.proofs.ReadTexts.{is_decompiled, read_as_source}

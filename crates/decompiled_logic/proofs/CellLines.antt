@@ -13,7 +13,7 @@ use Rattle.abel_tree.specs.declared.words.Extension.TheVariants as extension
 use Rattle.abel_meaning.specs.Controls.{is_the_control}
 use Rattle.abel_meaning.specs.Targets.{is_data}
 use Rattle.decompiled.specs.declared.sum_line.SumLine.{SumLine}
-use Rattle.pin_meanings.specs.LineGives.{is_data_line, is_control_line}
+use Rattle.decompiled_logic.specs.LineGives.{is_data_line, is_control_line}
 use Rattle.decompiled.specs.Sources.{cell_lines, lines_of, control_line, data_line, enable_lines, first_register, has_lines, shared_lines}
 use Rattle.decompiled_logic.specs.OwnLines.{IsOwnSignal, CellsHaveTheirLines}
 

@@ -22,7 +22,7 @@ use Rattle.decompiled.specs.RowLiterals.{ColumnLiteral, literal, literal_value, 
 use Rattle.decompiled.proofs.Each.{each_in_range}
 use Rattle.decompiled.proofs.RowValues.{products}
 use Rattle.decompiled.specs.declared.literal.PinLiteral.{PinLiteral}
-use Rattle.pin_meanings.specs.SumFormulas.{literal_formula, product_formula, sum_formula}
+use Rattle.decompiled_logic.specs.SumFormulas.{literal_formula, product_formula, sum_formula}
 use Rattle.decompiled.specs.Sources.{live_rows, named, product_of}
 use Rattle.decompiled_logic.specs.RowSums.{HasRowSizes, ReadsPairs, SumsHaveRows}
 

@@ -22,7 +22,7 @@ use Rattle.abel_meaning.specs.NetlistLogic.{drives, may_drive, may_store, regist
 use Rattle.abel_meaning.specs.Netlists.{Wanted, as_named, function_at}
 use Rattle.decompiled.proofs.RowValues.{products}
 use Rattle.decompiled.specs.declared.literal.PinLiteral.{PinLiteral}
-use Rattle.pin_meanings.specs.SumFormulas.{sum_formula}
+use Rattle.decompiled_logic.specs.SumFormulas.{sum_formula}
 use Rattle.decompiled.specs.Sources.{control_products, data_line, has_lines, product_of}
 use Rattle.decompiled_logic.specs.RowSums.{HasRowSizes, ReadsPairs}
 use Rattle.decompiled_logic.proofs.SumValues.{row_is, sums_have}

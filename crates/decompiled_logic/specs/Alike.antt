@@ -13,7 +13,7 @@ use Rattle.bit_expr.specs.Formulas.{Formula, Const}
 use Rattle.abel_meaning.specs.NetlistLogic.{netlist_logic}
 use Rattle.abel_meaning.specs.Netlists.{PlainNetlist, Wanted, own_or_shared, wanted_at}
 use Rattle.decompiled.specs.declared.literal.PinLiteral.{PinLiteral}
-use Rattle.pin_meanings.specs.SumFormulas.{sum_formula}
+use Rattle.decompiled_logic.specs.SumFormulas.{sum_formula}
 use Rattle.decompiled.specs.Sources.{control_products, data_line, has_lines, live_rows, product_of}
 use Rattle.decompiled_logic.specs.RowSums.{HasRowSizes, ReadsPairs}
 

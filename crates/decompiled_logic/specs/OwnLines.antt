@@ -2,7 +2,7 @@
 use Rattle.std.specs.Prelude.{◌≡◌, ℕ, ◌<◌, Bool, List, [], ◌∷◌, filter, length, if◌then◌else◌}
 use Rattle.pld_device.specs.Table.{Table, cell_at}
 use Rattle.abel_tree.specs.declared.words.Extension.TheVariants as extension
-use Rattle.pin_meanings.specs.LineGives.{is_data_line, is_control_line}
+use Rattle.decompiled_logic.specs.LineGives.{is_data_line, is_control_line}
 use Rattle.decompiled.specs.Sources.{lines_of, data_line, enable_lines, has_lines}
 
 -- the signal of the cell's pin is no other cell's

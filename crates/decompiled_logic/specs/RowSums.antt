@@ -13,7 +13,7 @@ use Rattle.bit_expr.specs.declared.node.Leaf.TheVariants as leaf
 use Rattle.bit_expr.specs.Formulas.{formula_value}
 use Rattle.decompiled.specs.RowLiterals.{literal}
 use Rattle.decompiled.specs.declared.literal.PinLiteral.{PinLiteral}
-use Rattle.pin_meanings.specs.SumFormulas.{sum_formula}
+use Rattle.decompiled_logic.specs.SumFormulas.{sum_formula}
 use Rattle.decompiled.specs.Sources.{live_rows, named, product_of}
 
 -- the leaf that a pair carries

@@ -28,20 +28,20 @@ use Rattle.abel_meaning.specs.SignalReads.{HasNoSignalLoop, HasNoSignalPath, fun
 use Rattle.abel_meaning.specs.SignalReads.{leaf_of as leaf_of_signal}
 use Rattle.decompiled.specs.declared.sum_line.SumLine.{SumLine}
 use Rattle.decompiled.specs.SourceTrees.{IsSourceTree}
-use Rattle.pin_meanings.specs.LineGives.{is_control_line, line_gives}
-use Rattle.pin_meanings.specs.SumFormulas.{sum_formula}
-use Rattle.pin_meanings.proofs.OneLine.{says}
+use Rattle.decompiled_logic.specs.LineGives.{is_control_line, line_gives}
+use Rattle.decompiled_logic.specs.SumFormulas.{sum_formula}
+use Rattle.decompiled_logic.proofs.OneLine.{says}
 use Rattle.decompiled.specs.Sources.{control_line, control_products, data_line, enable_lines, first_register, lines_of, source_of}
 use Rattle.decompiled.proofs.RowSizes.{row_size}
 use Rattle.decompiled_logic.specs.Alike.{shared_formula}
 use Rattle.decompiled_logic.specs.OwnLines.{HasOwnLines}
 use Rattle.decompiled_logic.specs.RowSums.{HasRowSizes}
 use Rattle.decompiled_logic.proofs.CellLines.{have}
-use Rattle.decompiled_netlists.specs.Signals.{leaf_of, signal_of}
-use Rattle.decompiled_netlists.proofs.AssignedPins.{own}
-use Rattle.decompiled_netlists.proofs.PinWords.{none_passes}
-use Rattle.decompiled_netlists.proofs.SharedRows.{HasOne, Resets, controls}
-use Rattle.decompiled_netlists.proofs.SourceReads.{given_is}
+use Rattle.decompiled_logic.specs.Signals.{leaf_of, signal_of}
+use Rattle.decompiled_logic.proofs.AssignedPins.{own}
+use Rattle.decompiled_logic.proofs.PinWords.{none_passes}
+use Rattle.decompiled_logic.proofs.SharedRows.{HasOne, Resets, controls}
+use Rattle.decompiled_logic.proofs.SourceReads.{given_is}
 use Rattle.decompiled_sources.proofs.OwnLines.{IsForm, IsOwnLine, LineForm, DataForm, EnableForm, ResetForm, PresetForm, own_lines}
 use Rattle.decompiled_sources.proofs.Mapped.{no_loop, no_path}
 use Rattle.decompiled_sources.proofs.NamedColumns.{control_reads_it, data_read_it, sum_named}

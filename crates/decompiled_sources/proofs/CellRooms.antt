@@ -35,7 +35,7 @@ use Rattle.fitter.specs.Products.{IsProduct}
 use Rattle.compile_phases.specs.Fits.{HasRoom}
 use Rattle.decompiled_sources.specs.Bounds.{IsShort}
 use Rattle.decompiled.specs.declared.literal.PinLiteral.{PinLiteral}
-use Rattle.pin_meanings.specs.SumFormulas.{sum_formula}
+use Rattle.decompiled_logic.specs.SumFormulas.{sum_formula}
 use Rattle.decompiled.specs.Sources.{control_products, has_lines, live_rows, product_of}
 use Rattle.decompiled_logic.specs.Alike.{IsCellAsked, IsFusesNetlist, enable_formula}
 use Rattle.decompiled_sources.specs.ShortSums.{ReadNoNode}

@@ -26,11 +26,11 @@ use Rattle.abel_tree.specs.Tree.{statements_of}
 use Rattle.decompiled.specs.declared.literal.PinLiteral.{PinLiteral}
 use Rattle.decompiled.specs.declared.sum_line.SumLine.{SumLine}
 use Rattle.decompiled.specs.SourceTrees.{IsSourceTree}
-use Rattle.pin_meanings.specs.LineGives.{line_gives}
-use Rattle.pin_meanings.specs.SumFormulas.{sum_formula}
+use Rattle.decompiled_logic.specs.LineGives.{line_gives}
+use Rattle.decompiled_logic.specs.SumFormulas.{sum_formula}
 use Rattle.decompiled.specs.Sources.{lines_of, source_of}
-use Rattle.decompiled_netlists.specs.Signals.{leaf_of, signal_of}
-use Rattle.decompiled_netlists.proofs.SourceReads.{given_is}
+use Rattle.decompiled_logic.specs.Signals.{leaf_of, signal_of}
+use Rattle.decompiled_logic.proofs.SourceReads.{given_is}
 use Rattle.decompiled_sources.proofs.UnrefusedSections.{good_lines, sections_are, sections_pass, units_are}
 use Rattle.decompiled_sources.specs.Contributions.{ContributionsAreThere}
 use Rattle.decompiled_sources.proofs.PaidLines.{HavePlaces, lines_paid, lines_placed}

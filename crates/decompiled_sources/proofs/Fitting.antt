@@ -20,8 +20,8 @@ use Rattle.decompiled.specs.declared.literal.PinLiteral.{PinLiteral}
 use Rattle.decompiled.specs.SourceTrees.{IsSourceTree}
 use Rattle.decompiled.specs.Sources.{source_of}
 use Rattle.decompiled_logic.specs.Alike.{IsFusesNetlist}
-use Rattle.decompiled_netlists.specs.Signals.{leaf_of}
-use Rattle.decompiled_netlists.proofs.FusesNetlists.{netlists_of_fuses}
+use Rattle.decompiled_logic.specs.Signals.{leaf_of}
+use Rattle.decompiled_logic.proofs.FusesNetlists.{netlists_of_fuses}
 use Rattle.decompiled_sources.specs.Fit.{FusesNetlistsFit, NetlistFits, SourcesAreNarrow, SourcesFit}
 use Rattle.decompiled_sources.specs.ShortSums.{ReadNoNode}
 use Rattle.decompiled_sources.proofs.CellRooms.{enable_one, room, room_narrow, some_is_none}

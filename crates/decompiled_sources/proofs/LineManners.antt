@@ -26,10 +26,10 @@ use Rattle.decompiled.specs.declared.sum_line.SumLine.{SumLine}
 use Rattle.decompiled.specs.SourceText.{name_text}
 use Rattle.decompiled.specs.SourceTrees.{word, IsNamed, IsSourceTree}
 use Rattle.decompiled.specs.Sources.{source_of}
-use Rattle.decompiled_netlists.specs.Signals.{signal_of}
-use Rattle.decompiled_netlists.proofs.SourcePins.{IsDeclared, IsDeclaredLine, own_signal}
-use Rattle.decompiled_netlists.proofs.SourceNames.{known_is}
-use Rattle.decompiled_netlists.proofs.PinWords.{cell_name, name}
+use Rattle.decompiled_logic.specs.Signals.{signal_of}
+use Rattle.decompiled_logic.proofs.SourcePins.{IsDeclared, IsDeclaredLine, own_signal}
+use Rattle.decompiled_logic.proofs.SourceNames.{known_is}
+use Rattle.decompiled_logic.proofs.PinWords.{cell_name, name}
 use Rattle.decompiled_sources.proofs.OwnLines.{IsOwnLine}
 use Rattle.decompiled_sources.proofs.PlainNames.{pin_found, use_found}
 

@@ -7,7 +7,7 @@ use Rattle.set_expr.specs.declared.contributions.Contribution.{Contribution}
 use Rattle.set_expr.specs.Given.{view_contribution}
 use Rattle.decompiled.specs.declared.literal.PinLiteral.{PinLiteral}
 use Rattle.decompiled.specs.declared.sum_line.SumLine.{SumLine}
-use Rattle.pin_meanings.specs.LineGives.{line_gives}
+use Rattle.decompiled_logic.specs.LineGives.{line_gives}
 
 module _ (signal_of : ℕ → ℕ) (leaf_of : PinLiteral → Leaf) (Good : SumLine → Type 0) (fs : List Formula) where
   -- it is that of a good line

@@ -28,9 +28,9 @@ use Rattle.decompiled.specs.SourceText.{name_text}
 use Rattle.decompiled.specs.SourceTrees.{word, IsLine, IsSourceTree}
 use Rattle.decompiled.specs.Sources.{source_of}
 use Rattle.decompiled.proofs.Each.{each_weaker}
-use Rattle.decompiled_netlists.specs.Signals.{signal_of}
-use Rattle.decompiled_netlists.proofs.SourcePins.{IsDeclaredLiteral}
-use Rattle.decompiled_netlists.proofs.SourceNames.{known_is}
+use Rattle.decompiled_logic.specs.Signals.{signal_of}
+use Rattle.decompiled_logic.proofs.SourcePins.{IsDeclaredLiteral}
+use Rattle.decompiled_logic.proofs.SourceNames.{known_is}
 use Rattle.decompiled_sources.proofs.EachTree.{sum_holds}
 use Rattle.decompiled_sources.proofs.FoundBits.{IsFoundBit, IsFoundPin, IsFoundTree, found_steps, value_passes}
 use Rattle.decompiled_sources.proofs.PlainNames.{pin_found}

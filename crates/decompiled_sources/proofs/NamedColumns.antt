@@ -17,13 +17,13 @@ use Rattle.bit_expr.specs.Folding.{Made, make_and, make_or}
 use Rattle.bit_expr.specs.Formulas.{Formula, Read, Not, names, same_leaf}
 use Rattle.device_logic.specs.CellReads.{carries_cell, pairs_read, row_reads_cell}
 use Rattle.decompiled.specs.declared.literal.PinLiteral.{PinLiteral}
-use Rattle.pin_meanings.specs.SumFormulas.{literal_formula, product_formula, sum_formula}
+use Rattle.decompiled_logic.specs.SumFormulas.{literal_formula, product_formula, sum_formula}
 use Rattle.decompiled.specs.RowLiterals.{ColumnLiteral, row_literals, some_read}
 use Rattle.decompiled.specs.Sources.{control_products, live_rows, named, product_of}
 use Rattle.decompiled.proofs.PairReads.{reads}
 use Rattle.decompiled_logic.specs.RowSums.{HasRowSizes, pair_leaf}
-use Rattle.decompiled_netlists.specs.Signals.{leaf_of}
-use Rattle.decompiled_netlists.proofs.SourceReads.{reads_pairs}
+use Rattle.decompiled_logic.specs.Signals.{leaf_of}
+use Rattle.decompiled_logic.proofs.SourceReads.{reads_pairs}
 use Rattle.decompiled_sources.proofs.SmallBits.{and_gives, or_gives}
 use Rattle.decompiled_sources.proofs.PairColumns.{IsDevicePair, row_pairs}
 

@@ -20,7 +20,7 @@ use Rattle.decls.specs.Refused.{declaration_refused, declarations_refused, given
 use Rattle.decompiled.specs.declared.pin_line.PinLine.{PinLine}
 use Rattle.decompiled.specs.SourceText.{name_text}
 use Rattle.decompiled.specs.SourceTrees.{attributes_in, word, IsPinLine, ArePins}
-use Rattle.pin_meanings.specs.PinNames.{said, ArePinEntries, ArePinsApart}
+use Rattle.decompiled_logic.specs.PinNames.{said, ArePinEntries, ArePinsApart}
 
 pub signal_pin_passes : (t : Table) (pin : ℕ) → IsSignalPin t pin → is_signal_pin t pin ≡ true
 signal_pin_passes t pin is =

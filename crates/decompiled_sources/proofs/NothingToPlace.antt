@@ -17,10 +17,10 @@ use Rattle.placer.proofs.MadeModules.{itself}
 use Rattle.decompiled.specs.declared.pin_line.PinLine.{PinLine}
 use Rattle.decompiled.specs.SourceText.{name_text}
 use Rattle.decompiled.specs.SourceTrees.{IsSourceTree}
-use Rattle.pin_meanings.specs.PinNames.{said, IsPinEntry, ArePinEntries}
-use Rattle.pin_meanings.proofs.Declared.{declares}
+use Rattle.decompiled_logic.specs.PinNames.{said, IsPinEntry, ArePinEntries}
+use Rattle.decompiled_logic.proofs.Declared.{declares}
 use Rattle.decompiled.specs.Sources.{source_of}
-use Rattle.decompiled_netlists.proofs.SourceNames.{found, held}
+use Rattle.decompiled_logic.proofs.SourceNames.{found, held}
 use Rattle.decompiled_sources.specs.Placed.{SourcesArePlaced}
 use Rattle.decompiled_sources.proofs.SignalPins.{pins_signal}
 use Rattle.decompiled_sources.proofs.UnrefusedNames.{names_unrefused}

@@ -20,7 +20,7 @@ use Rattle.decompiled.specs.declared.sum_line.SumLine.{SumLine}
 use Rattle.decompiled.specs.RowLiterals.{ColumnLiteral, if_intact, literal, literals_of, row_literals}
 use Rattle.decompiled.specs.Sources.{cell_lines, control_line, control_products, data_line, enable_lines, first_register, has_lines, lines_of, live_rows, named, product_of, shared_lines}
 use Rattle.decompiled.proofs.Each.{each_always, each_append, each_flat_map, each_in_range, each_map}
-use Rattle.decompiled_netlists.proofs.PinWords.{found_passes}
+use Rattle.decompiled_logic.proofs.PinWords.{found_passes}
 
 -- ---- lengths
 

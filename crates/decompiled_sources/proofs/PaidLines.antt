@@ -15,12 +15,12 @@ use Rattle.section_targets.specs.Units.{CountedUnit, units_nodes}
 use Rattle.equations.specs.StatementUnits.{statement_manners, statements_places, units_of_statements}
 use Rattle.decompiled.specs.declared.sum_line.SumLine.{SumLine}
 use Rattle.decompiled.specs.SourceTrees.{AreLines, IsLine, IsSourceTree}
-use Rattle.pin_meanings.specs.SumFormulas.{sum_formula}
-use Rattle.pin_meanings.proofs.SumBits.{sums}
+use Rattle.decompiled_logic.specs.SumFormulas.{sum_formula}
+use Rattle.decompiled_logic.proofs.SumBits.{sums}
 use Rattle.decompiled.specs.Sources.{source_of}
 use Rattle.decompiled.proofs.Each.{each_append, each_weaker}
-use Rattle.decompiled_netlists.specs.Signals.{leaf_of}
-use Rattle.decompiled_netlists.proofs.SourcePins.{IsDeclaredLiteral}
+use Rattle.decompiled_logic.specs.Signals.{leaf_of}
+use Rattle.decompiled_logic.proofs.SourcePins.{IsDeclaredLiteral}
 use Rattle.decompiled_sources.proofs.EachTree.{sum_holds}
 use Rattle.decompiled_sources.proofs.LineManners.{IsGoodLine, IsLineManner, line_manner}
 use Rattle.decompiled_sources.proofs.LineUnits.{known_pin, manner_is, place_is, unit_is}

@@ -35,10 +35,10 @@ use Rattle.use_refusals.specs.declared.refused.RefusedUse.{RefusedUse}
 use Rattle.decompiled.specs.declared.sum_line.SumLine.{SumLine}
 use Rattle.decompiled.specs.SourceTrees.{IsSourceTree}
 use Rattle.decompiled.specs.Sources.{source_of}
-use Rattle.decompiled_netlists.specs.Signals.{leaf_of, signal_of}
-use Rattle.decompiled_netlists.proofs.PinWords.{cell_name, name}
-use Rattle.decompiled_netlists.proofs.SourcePins.{IsDeclared}
-use Rattle.decompiled_netlists.proofs.SourceReads.{cell_here}
+use Rattle.decompiled_logic.specs.Signals.{leaf_of, signal_of}
+use Rattle.decompiled_logic.proofs.PinWords.{cell_name, name}
+use Rattle.decompiled_logic.proofs.SourcePins.{IsDeclared}
+use Rattle.decompiled_logic.proofs.SourceReads.{cell_here}
 use Rattle.decompiled_sources.proofs.LineManners.{IsGoodLine}
 use Rattle.decompiled_sources.proofs.OwnLines.{IsForm, LineForm, DataForm, EnableForm, ResetForm, PresetForm}
 use Rattle.decompiled_sources.proofs.PlainNames.{ArePlain, IsPlain, IsPlainKind}

@@ -17,9 +17,9 @@ use Rattle.set_expr.specs.Refusals.{Found}
 use Rattle.decompiled.specs.SourceText.{name_text}
 use Rattle.decompiled.specs.SourceTrees.{IsSourceTree}
 use Rattle.decompiled.specs.Sources.{source_of}
-use Rattle.decompiled_netlists.specs.Signals.{signal_of}
-use Rattle.decompiled_netlists.proofs.SourcePins.{IsDeclared}
-use Rattle.decompiled_netlists.proofs.SourceNames.{IsNameAt, known_is, names_at}
+use Rattle.decompiled_logic.specs.Signals.{signal_of}
+use Rattle.decompiled_logic.proofs.SourcePins.{IsDeclared}
+use Rattle.decompiled_logic.proofs.SourceNames.{IsNameAt, known_is, names_at}
 
 -- a pin or the device's name
 abbrev pub IsPlainKind : Kind → Type 0

@@ -17,14 +17,14 @@ use Rattle.abel_meaning.specs.Designs.{cell_on}
 use Rattle.decompiled.specs.declared.literal.PinLiteral.{PinLiteral}
 use Rattle.decompiled.specs.SourceText.{q_if}
 use Rattle.decompiled.specs.SourceTrees.{IsSourceTree}
-use Rattle.pin_meanings.specs.SumFormulas.{ReadsLeaf}
+use Rattle.decompiled_logic.specs.SumFormulas.{ReadsLeaf}
 use Rattle.decompiled.specs.Sources.{named_by, source_of}
 use Rattle.decompiled.proofs.Each.{each_weaker}
-use Rattle.decompiled_netlists.specs.Signals.{leaf_of, signal_of}
-use Rattle.decompiled_netlists.proofs.PinWords.{HasNoCell, cell_name, free_plain, kind_is, name}
-use Rattle.decompiled_netlists.proofs.SourceNames.{known_is}
-use Rattle.decompiled_netlists.proofs.SourcePins.{IsDeclared, IsDeclaredLiteral}
-use Rattle.decompiled_netlists.proofs.SourceReads.{cell_here}
+use Rattle.decompiled_logic.specs.Signals.{leaf_of, signal_of}
+use Rattle.decompiled_logic.proofs.PinWords.{HasNoCell, cell_name, free_plain, kind_is, name}
+use Rattle.decompiled_logic.proofs.SourceNames.{known_is}
+use Rattle.decompiled_logic.proofs.SourcePins.{IsDeclared, IsDeclaredLiteral}
+use Rattle.decompiled_logic.proofs.SourceReads.{cell_here}
 
 module _ (t : Table) (fuses : List Bool) (laws : IsDevice t) (m : ModuleTree) (is : IsSourceTree (source_of t fuses) m) where
   abbrev d : Design

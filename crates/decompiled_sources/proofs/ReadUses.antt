@@ -38,11 +38,11 @@ use Rattle.decompiled.specs.declared.sum_line.SumLine.{SumLine}
 use Rattle.decompiled.specs.SourceText.{name_text, q_if}
 use Rattle.decompiled.specs.SourceTrees.{AreLines, IsLine, IsSourceTree}
 use Rattle.decompiled.specs.Sources.{lines_of, named_by, source_of}
-use Rattle.decompiled_netlists.specs.Signals.{signal_of}
-use Rattle.decompiled_netlists.proofs.PinWords.{HasNoCell, cell_name, free_plain, kind_is, name}
-use Rattle.decompiled_netlists.proofs.SourceNames.{known_is}
-use Rattle.decompiled_netlists.proofs.SourcePins.{IsDeclared, IsDeclaredLiteral}
-use Rattle.decompiled_netlists.proofs.SourceReads.{cell_here}
+use Rattle.decompiled_logic.specs.Signals.{signal_of}
+use Rattle.decompiled_logic.proofs.PinWords.{HasNoCell, cell_name, free_plain, kind_is, name}
+use Rattle.decompiled_logic.proofs.SourceNames.{known_is}
+use Rattle.decompiled_logic.proofs.SourcePins.{IsDeclared, IsDeclaredLiteral}
+use Rattle.decompiled_logic.proofs.SourceReads.{cell_here}
 use Rattle.decompiled_sources.proofs.EachTree.{HoldsBySteps, sum_holds}
 use Rattle.decompiled_sources.proofs.LineManners.{IsGoodLine, aimed}
 use Rattle.decompiled_sources.proofs.PairColumns.{IsAmong, IsColumn, IsDevicePair, line_columns}

@@ -9,7 +9,7 @@ use Rattle.abel_tree.specs.Tree.{ModuleTree}
 use Rattle.abel_meaning.specs.DeviceStrings.{device_named, unquoted}
 use Rattle.decompiled.specs.SourceTrees.{IsSourceTree}
 use Rattle.decompiled.specs.Sources.{source_of}
-use Rattle.decompiled_runs.proofs.SaidRuns.{say_what_they_do}
+use Rattle.decompiled_logic.proofs.SaidRuns.{say_what_they_do}
 use Rattle.decompiled_sources.specs.Designs.{DesignsAreTakeable}
 use Rattle.decompiled_sources.specs.Right.{SourcesAreRight}
 use Rattle.decompiled_sources.proofs.Accepted.{sources_accepted, sources_fit_as_written}

@@ -8,7 +8,7 @@ use Rattle.sop_lowering.specs.Through.{EachLeaf}
 use Rattle.decompiled_sources.specs.Bounds.{IsNoNode, StaysBelow, bound}
 use Rattle.decompiled_sources.proofs.ShortLists.{all_short}
 use Rattle.decompiled.specs.declared.literal.PinLiteral.{PinLiteral}
-use Rattle.pin_meanings.specs.SumFormulas.{literal_formula, product_formula, sum_formula}
+use Rattle.decompiled_logic.specs.SumFormulas.{literal_formula, product_formula, sum_formula}
 use Rattle.decompiled_sources.specs.ShortSums.{ReadNoNode, SumsAreShort}
 
 -- a formula of pins and Qs that stays below the limit, with at most so many products

@@ -14,12 +14,12 @@ use Rattle.abel_meaning.specs.Designs.{Design, cell_on, design_of, is_stored, na
 use Rattle.abel_meaning.specs.SignalReads.{is_one_of, leaf_by, leaf_of, settles, settles_by}
 use Rattle.decompiled.specs.SourceTrees.{IsSourceTree}
 use Rattle.decompiled.specs.Sources.{has_lines, pins_of, source_of}
-use Rattle.decompiled_netlists.specs.Signals.{place_of, signal_of}
-use Rattle.decompiled_netlists.proofs.PinPlaces.{taken_once}
-use Rattle.decompiled_netlists.proofs.PinWords.{HasNoCell, cell_name, free_plain, free_unassigned_name, kind_is, on_cell}
-use Rattle.decompiled_netlists.proofs.SourceNames.{IsNameAt, names_at}
-use Rattle.decompiled_netlists.proofs.SourcePins.{IsDeclared, declared_there, is_named}
-use Rattle.decompiled_netlists.proofs.SourceReads.{cell_here}
+use Rattle.decompiled_logic.specs.Signals.{place_of, signal_of}
+use Rattle.decompiled_logic.proofs.PinPlaces.{taken_once}
+use Rattle.decompiled_logic.proofs.PinWords.{HasNoCell, cell_name, free_plain, free_unassigned_name, kind_is, on_cell}
+use Rattle.decompiled_logic.proofs.SourceNames.{IsNameAt, names_at}
+use Rattle.decompiled_logic.proofs.SourcePins.{IsDeclared, declared_there, is_named}
+use Rattle.decompiled_logic.proofs.SourceReads.{cell_here}
 
 -- the pin of a name, 0 where it has none
 abbrev pub pin_of : Kind → ℕ

@@ -12,8 +12,8 @@ use Rattle.decompiled.specs.declared.pin_line.PinLine.{PinLine}
 use Rattle.decompiled.specs.declared.sum_line.SumLine.{SumLine}
 use Rattle.decompiled.specs.Sources.{lines_of, named_by, names_pin, product_names, source_of}
 use Rattle.decompiled.proofs.SourceLines.{IsPairLiteral, IsCellLine, lines_on}
-use Rattle.decompiled_netlists.proofs.PinPlaces.{IsTaken, was_taken}
-use Rattle.decompiled_netlists.proofs.SourcePins.{cell_pin, declared_at, is_named}
+use Rattle.decompiled_logic.proofs.PinPlaces.{IsTaken, was_taken}
+use Rattle.decompiled_logic.proofs.SourcePins.{cell_pin, declared_at, is_named}
 
 -- what follows from each element that passes, where some does
 some_gives : {A : Type 0} (P : A → Type 0) (test : A → Bool) (G : Type 0) → ((x : A) → P x → test x ≡ true → G) → (xs : List A) → AllByRecursion P xs → list_any test xs ≡ true → G

@@ -24,10 +24,10 @@ use Rattle.source_sections.specs.SectionAnswers.{AreContributed}
 use Rattle.design_refusals.specs.declared.rules.Rule.TheVariants as rule
 use Rattle.decompiled.specs.SourceTrees.{IsSourceTree}
 use Rattle.decompiled.specs.Sources.{pins_of, source_of}
-use Rattle.decompiled_netlists.proofs.PinPlaces.{taken_once}
-use Rattle.decompiled_netlists.proofs.PinWords.{cell_name}
-use Rattle.decompiled_netlists.proofs.SourceNames.{IsNameAt, names_at}
-use Rattle.decompiled_netlists.proofs.SourcePins.{is_named}
+use Rattle.decompiled_logic.proofs.PinPlaces.{taken_once}
+use Rattle.decompiled_logic.proofs.PinWords.{cell_name}
+use Rattle.decompiled_logic.proofs.SourceNames.{IsNameAt, names_at}
+use Rattle.decompiled_logic.proofs.SourcePins.{is_named}
 use Rattle.decompiled_sources.proofs.PlainNames.{names_plain}
 use Rattle.decompiled_sources.proofs.UnrefusedSections.{good_lines, sections_pass}
 use Rattle.decompiled_sources.specs.Designs.{DesignsAreTakeable}

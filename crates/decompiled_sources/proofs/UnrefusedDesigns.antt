@@ -21,8 +21,8 @@ use Rattle.use_refusals.specs.Refused.{told}
 use Rattle.written_controls.specs.Written.{unwritten}
 use Rattle.decompiled.specs.SourceTrees.{IsSourceTree}
 use Rattle.decompiled.specs.Sources.{lines_of, source_of}
-use Rattle.decompiled_netlists.specs.Signals.{leaf_of, signal_of}
-use Rattle.decompiled_netlists.proofs.SourceReads.{given_is}
+use Rattle.decompiled_logic.specs.Signals.{leaf_of, signal_of}
+use Rattle.decompiled_logic.proofs.SourceReads.{given_is}
 use Rattle.decompiled_sources.proofs.LineManners.{IsGoodLine}
 use Rattle.decompiled_sources.proofs.PlainNames.{names_plain}
 use Rattle.decompiled_sources.proofs.UnrefusedSections.{good_lines}

@@ -21,7 +21,7 @@ use Rattle.decompiled.specs.SourceText.{name_text}
 use Rattle.decompiled.specs.SourceTrees.{word, IsSourceTree}
 use Rattle.decompiled.specs.Sources.{lines_of, pin_line, source_of}
 use Rattle.decompiled.proofs.Each.{each_weaker}
-use Rattle.decompiled_netlists.proofs.SourcePins.{IsDeclared, IsDeclaredLine, IsDeclaredLiteral, declared_at, line_there, lines_declared, pins_apart, pins_low}
+use Rattle.decompiled_logic.proofs.SourcePins.{IsDeclared, IsDeclaredLine, IsDeclaredLiteral, declared_at, line_there, lines_declared, pins_apart, pins_low}
 use Rattle.decompiled_sources.proofs.SignalPins.{pins_signal}
 use Rattle.decompiled_sources.specs.Names.{NamesAreUnrefused}
 use Rattle.decompiled_sources.proofs.NewPins.{IsGoodPin, IsNew, behind_pins, declarations_pass}

@@ -21,7 +21,7 @@ use Rattle.decompiled.specs.declared.sum_line.SumLine.{SumLine}
 use Rattle.decompiled.specs.SourceTrees.{AreLines, IsSourceTree}
 use Rattle.decompiled.specs.Sources.{lines_of, source_of}
 use Rattle.decompiled.proofs.Each.{each_append}
-use Rattle.decompiled_netlists.proofs.SourcePins.{IsDeclaredLine, lines_declared}
+use Rattle.decompiled_logic.proofs.SourcePins.{IsDeclaredLine, lines_declared}
 use Rattle.decompiled_sources.specs.Sections.{SectionsAreUnrefused}
 use Rattle.decompiled_sources.proofs.LineManners.{IsGoodLine, IsLineManner, line_manner}
 use Rattle.decompiled_sources.proofs.LineUnits.{manner_is, unit_is}

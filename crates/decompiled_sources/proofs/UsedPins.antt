@@ -17,8 +17,8 @@ use Rattle.decompiled.specs.declared.pin_line.PinLine.{PinLine}
 use Rattle.decompiled.specs.declared.sum_line.SumLine.{SumLine}
 use Rattle.decompiled.specs.SourceText.{name_text, q_if}
 use Rattle.decompiled.specs.SourceTrees.{word, IsLine, AreLines}
-use Rattle.pin_meanings.specs.PinNames.{said, ArePinEntries}
-use Rattle.decompiled_netlists.proofs.PinPlaces.{same_some}
+use Rattle.decompiled_logic.specs.PinNames.{said, ArePinEntries}
+use Rattle.decompiled_logic.proofs.PinPlaces.{same_some}
 use Rattle.decompiled_sources.proofs.EachTree.{HoldsBySteps, sum_holds}
 
 -- the name of a pin that is declared is a value's

@@ -12,7 +12,7 @@ use Rattle.decompiled.specs.SourceTrees.{IsSourceTree}
 use Rattle.compile_phases.specs.Fits.{FitsAsWritten}
 use Rattle.compile_phases.specs.SourceRefusals.{IsAcceptedFor}
 use Rattle.decompiled.specs.Sources.{source_of}
-use Rattle.decompiled_runs.specs.Runs.{SaysWhatItDoes}
+use Rattle.decompiled_logic.specs.Runs.{SaysWhatItDoes}
 
 -- it names the device and has nothing to place, nothing is refused of it and it fits as it is written, so it is compiled; and
 -- it says what the device with the fuses does

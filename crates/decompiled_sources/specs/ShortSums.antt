@@ -5,7 +5,7 @@ use Rattle.bit_expr.specs.declared.node.Leaf.{Leaf}
 use Rattle.sop_lowering.specs.Written.{written}
 use Rattle.decompiled_sources.specs.Bounds.{IsNoNode, IsShort}
 use Rattle.decompiled.specs.declared.literal.PinLiteral.{PinLiteral}
-use Rattle.pin_meanings.specs.SumFormulas.{sum_formula}
+use Rattle.decompiled_logic.specs.SumFormulas.{sum_formula}
 
 -- no literal reads a node
 abbrev pub ReadNoNode : (PinLiteral → Leaf) → Type 0

@@ -1,9 +1,0 @@
-pub mod PinPlaces
-pub mod SourcePins
-pub mod SourceNames
-pub mod AssignedPins
-pub mod PinWords
-pub mod SourceReads
-pub mod SignalsOn
-pub mod SharedRows
-pub mod FusesNetlists

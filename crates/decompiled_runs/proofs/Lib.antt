@@ -1,2 +1,0 @@
-pub mod NetlistRuns
-pub mod SaidRuns

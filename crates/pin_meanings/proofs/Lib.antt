@@ -1,5 +1,0 @@
-pub mod Declared
-pub mod Giving
-pub mod KnownPins
-pub mod OneLine
-pub mod SumBits

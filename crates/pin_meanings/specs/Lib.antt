@@ -1,3 +1,0 @@
-pub mod LineGives
-pub mod PinNames
-pub mod SumFormulas
