@@ -8,7 +8,7 @@ use Rattle.device_logic.specs.CellReads.{cell_reads}
 use Rattle.device_logic.specs.ResetPaths.{HasNoResetPath}
 use Rattle.decompiled.proofs.ReadTexts.{read}
 use Rattle.decompiled.specs.Sources.{decompiled_text, source_of}
-use Rattle.decompiled_sources.specs.Right.{SourcesAreRight}
+use Rattle.decompiler.specs.Right.{SourcesAreRight}
 use Rattle.decompiler.specs.Reading.{IsDecompiled, IsReadAsSource}
 use Rattle.decompiler.proofs.LowPins.{source_low}
 

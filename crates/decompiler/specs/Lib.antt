@@ -1,2 +1,16 @@
+pub mod Accepted
+pub mod Bounds
+pub mod Compiling
+pub mod Contributions
+pub mod Designs
+pub mod Fit
+pub mod Held
+pub mod Names
+pub mod Netlists
+pub mod Placed
 pub mod Reading
+pub mod Recompiled
+pub mod Right
+pub mod Sections
+pub mod ShortSums
 pub mod Steps

@@ -5,7 +5,7 @@ use Rattle.abel_tree.specs.Tree.{ModuleTree}
 use Rattle.module_reader.specs.Texts.{IsRead}
 use Rattle.decompiled.specs.SourceTrees.{IsSourceTree}
 use Rattle.decompiled.specs.Sources.{source_of}
-use Rattle.decompiled_sources.specs.Right.{IsRightSource}
+use Rattle.decompiler.specs.Right.{IsRightSource}
 
 -- the text is read as the module of the fuses' source
 abbrev pub IsReadAsSource : Table → List Bool → List ℕ → Type 0

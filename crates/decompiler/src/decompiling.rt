@@ -9,8 +9,8 @@ ghost use Rattle.decompiled.specs.Sources.{decompiled_text, source_of};
 ghost use Rattle.decompiler.specs.Reading.{IsDecompiled, IsReadAsSource};
 
 use crate::device_fuses::DeviceFuses;
+use crate::source_laws::sources_are_right;
 use decompiled::PinSource;
-use decompiled_sources::sources_are_right;
 use device_logic::{SimFault, load};
 use pld_base::{ListOf, OutOfMemory};
 use pld_device::{Device, Fuses};

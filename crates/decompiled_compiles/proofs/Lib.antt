@@ -1,5 +1,0 @@
-mod TextSizes
-pub mod NeverRefused
-pub mod Unexchanged
-pub mod OneSource
-pub mod RoundTrips

@@ -1,0 +1,233 @@
+-- Nothing is refused of what the lines of a decompiled source assign: each cell may be what its signal is, and has the
+-- controls that are assigned.
+use Rattle.std.proofs.Common.{◌≡◌, ℕ, suc, ◌<◌, inl, inr, Bool, true, false, not, is_none, if◌then◌else◌, Option, Some, None, List, [], ◌∷◌, ◌++◌, length, get_or, refl, sym, ap, subst, ◌∙◌, arith, eqb-true}
+use Rattle.std.specs.Prelude.{◌==◌, ◌||◌}
+use Rattle.std.specs.List.{AllByRecursion, list_any}
+use Rattle.std.proofs.lemmas.Bool.{and_right, cases_Bool, or_from}
+use Rattle.pld_device.specs.declared.enable.Enable.{Enable}
+use Rattle.pld_device.specs.declared.kinds.Kinds.{Kinds}
+use Rattle.pld_device.specs.declared.kinds.Kinds.TheVariants.{Combinational, Registered, Either}
+use Rattle.pld_device.specs.Laws.{IsDevice}
+use Rattle.pld_device.specs.Registers.{says, stores, stores_by}
+use Rattle.pld_device.specs.Table.{Table, cell_at, no_cell, registered_at}
+use Rattle.pld_device.proofs.OwnPins.{own_pins}
+use Rattle.bit_expr.specs.Arena.{formula_at}
+use Rattle.bit_expr.specs.Formulas.{Formula}
+use Rattle.abel_tree.specs.declared.words.Extension.{Extension}
+use Rattle.abel_tree.specs.declared.words.Extension.TheVariants as extension
+use Rattle.abel_tree.specs.Entries.{Kind, APin, ANode, AConstant, ADeviceName, Entry}
+use Rattle.abel_tree.specs.Tree.{ModuleTree}
+use Rattle.abel_meaning.specs.Contributions as meant
+use Rattle.abel_meaning.specs.Designs.{Design, cell_on, design_of, is_stored, no_name}
+use Rattle.abel_meaning.specs.Targets.{is_data}
+use Rattle.netlist_laws.specs.Gathered.{cell_by, cell_of}
+use Rattle.set_expr.specs.declared.contributions.Contribution.{Contribution}
+use Rattle.set_expr.specs.declared.contributions.Gives.{Gives}
+use Rattle.set_expr.specs.declared.contributions.Gives.TheVariants as gives
+use Rattle.set_expr.specs.Given.{view_gives}
+use Rattle.compared_controls.specs.Compared.{cell_enables_so, enables_so, is_compared_of, other_level, other_levels, says_always, says_so}
+use Rattle.design_uses.specs.SectionUses.{is_by_pin, is_cell_by_pin}
+use Rattle.design_refusals.specs.declared.fault.SignalFault.{SignalFault}
+use Rattle.design_refusals.specs.declared.rules.Rule.{Rule}
+use Rattle.design_refusals.specs.declared.rules.Rule.TheVariants as rule
+use Rattle.design_refusals.specs.Refused.{all_refused, has_wrong_kind, has_wrong_kind_by, has_wrong_kind_on, is_any, is_wrong_cell, is_wrong_kind, lacks_by, lacks_control, node_refused, pin_lacks, registered_nodes, rule_refused}
+use Rattle.use_refusals.specs.declared.refused.RefusedUse.{RefusedUse}
+use Rattle.decompiled.specs.declared.sum_line.SumLine.{SumLine}
+use Rattle.decompiled.specs.SourceTrees.{IsSourceTree}
+use Rattle.decompiled.specs.Sources.{source_of}
+use Rattle.decompiled_logic.specs.Signals.{leaf_of, signal_of}
+use Rattle.decompiled_logic.proofs.PinWords.{cell_name, name}
+use Rattle.decompiled_logic.proofs.SourcePins.{IsDeclared}
+use Rattle.decompiled_logic.proofs.SourceReads.{cell_here}
+use Rattle.decompiler.proofs.LineManners.{IsGoodLine}
+use Rattle.decompiler.proofs.OwnLines.{IsForm, LineForm, DataForm, EnableForm, ResetForm, PresetForm}
+use Rattle.decompiler.proofs.PlainNames.{ArePlain, IsPlain, IsPlainKind}
+use Rattle.decompiler.proofs.LineTargets.{IsOfLine}
+
+-- ---- lists
+
+pub none_at : {A : Type 0} (test : A → Bool) (xs : List A) (d : A) → ((i : ℕ) → i < length xs → test (get_or xs i d) ≡ false) → list_any test xs ≡ false
+none_at test [] d none = refl
+none_at test (x ∷ xs) d none = or_from (test x) (list_any test xs) (none 0 (omega arith)) (none_at test xs d (λ i within. none (suc i) (omega (arith, within))))
+
+-- ---- nodes
+
+plain_node : (s : ℕ) (x : Entry) → IsPlain x → node_refused s x ≡ []
+plain_node s x plain = by_kind x.kind refl plain
+  where
+    by_kind : (k : Kind) → x.kind ≡ k → IsPlainKind k → node_refused s x ≡ []
+    by_kind (APin pin negated) e plain = rw e refl
+    by_kind ADeviceName e plain = rw e refl
+    by_kind (ANode number) e plain = absurd plain
+    by_kind (AConstant value) e plain = absurd plain
+
+pub no_nodes : (s : ℕ) (xs : List Entry) → ArePlain xs → registered_nodes s xs ≡ []
+no_nodes s [] plain = refl
+no_nodes s (x ∷ xs) plain = ap (λ (fs : List SignalFault). fs ++ registered_nodes (suc s) xs) (plain_node s x plain.0) ∙ no_nodes (suc s) xs plain.1
+
+-- ---- a line's signal
+
+module _ (t : Table) (fuses : List Bool) (laws : IsDevice t) (m : ModuleTree) (is : IsSourceTree (source_of t fuses) m) where
+  abbrev d : Design
+  d = design_of t m
+
+  abbrev pub IsGood : SumLine → Type 0
+  IsGood l = IsGoodLine t fuses laws m is l
+
+  -- the name of a line's pin, with its cell
+  pub record IsLineName (l : SumLine) (cell : ℕ) (x : Entry) : Type 0 where
+    pub kind : x.kind ≡ APin l.pin false
+    pub stored : is_stored x ≡ stores t fuses cell
+    pub on : cell_of t x ≡ Some cell
+
+  pub line_name : (l : SumLine) (good : IsGood l) → IsLineName l good.0.cell (name t fuses laws m is l.pin)
+  line_name l good =
+      let own = good.0 in
+      let dec : IsDeclared t fuses laws (cell_at t own.cell).pin = subst (IsDeclared t fuses laws) own.pin good.1.pin in
+      let c = cell_name t fuses laws m is own.cell own.within dec in
+      let same : name t fuses laws m is (cell_at t own.cell).pin ≡ name t fuses laws m is l.pin = ap (name t fuses laws m is) (sym own.pin) in
+      let kind : (name t fuses laws m is l.pin).kind ≡ APin l.pin false = ap (λ (y : Entry). y.kind) (sym same) ∙ c.kind ∙ ap (λ (pin : ℕ). APin pin false) (sym own.pin) in
+      record {
+        kind = kind;
+        stored = ap is_stored (sym same) ∙ c.stored;
+        on = ap (cell_by t (name t fuses laws m is l.pin)) kind
+            ∙ ap (λ (b : Bool). if b then cell_on t l.pin else None) (ap (λ (y : Entry). y.assigned) (sym same) ∙ c.assigned ∙ own.has)
+            ∙ ap (cell_on t) own.pin
+            ∙ cell_here t laws own.cell own.within;
+      }
+
+  -- ---- kinds
+
+  kind_fits : (k : Kinds) (chosen : Bool) → is_wrong_kind k (stores_by k chosen) ≡ false
+  kind_fits Combinational chosen = refl
+  kind_fits Registered chosen = refl
+  kind_fits Either chosen = refl
+
+  module _ (l : SumLine) (good : IsGood l) where
+    abbrev c : ℕ
+    c = good.0.cell
+
+    abbrev x : Entry
+    x = name t fuses laws m is l.pin
+
+    abbrev of : IsLineName l c x
+    of = line_name l good
+
+    no_wrong_cell : (i : ℕ) → i < length t.cells → is_wrong_cell l.pin (stores t fuses c) (cell_at t i) ≡ false
+    no_wrong_cell i within = elim (cases_Bool ((cell_at t i).pin == l.pin)) [
+      | inl here ↦
+          let same : i ≡ c = (own_pins t laws).apart i c within good.0.within (eqb-true (cell_at t i).pin l.pin here ∙ good.0.pin) in
+          and_right ((cell_at t i).pin == l.pin) (is_wrong_kind (cell_at t i).kinds (stores t fuses c))
+          (ap (λ (j : ℕ). is_wrong_kind (cell_at t i).kinds (stores t fuses j)) (sym same) ∙ kind_fits (cell_at t i).kinds (says fuses (registered_at t i)))
+      | inr other ↦ rw other refl
+    ]
+
+    kind_right : has_wrong_kind t x ≡ false
+    kind_right =
+        ap (has_wrong_kind_by t (is_stored x)) of.kind
+        ∙ ap (has_wrong_kind_on t l.pin) of.stored
+        ∙ none_at (is_wrong_cell l.pin (stores t fuses c)) t.cells no_cell no_wrong_cell
+
+    -- ---- controls
+
+    lacks_none : (form : LineForm) → IsForm t fuses form c l → pin_lacks t (stores t fuses c) l.extension ≡ false
+    lacks_none DataForm is_line = ap (λ (k : SumLine). pin_lacks t (stores t fuses c) k.extension) is_line ∙ by_kind (stores t fuses c)
+      where
+        by_kind : (b : Bool) → pin_lacks t b (if b then Some extension.D else None) ≡ false
+        by_kind true = refl
+        by_kind false = refl
+    lacks_none EnableForm is_line = ap (λ (k : SumLine). pin_lacks t (stores t fuses c) k.extension) is_line.2
+    lacks_none ResetForm is_line =
+        ap (λ (k : SumLine). pin_lacks t (stores t fuses c) k.extension) is_line.3
+        ∙ ap (λ (b : Bool). not b || is_none t.reset) is_line.2 ∙ ap is_none is_line.1
+    lacks_none PresetForm is_line =
+        ap (λ (k : SumLine). pin_lacks t (stores t fuses c) k.extension) is_line.3
+        ∙ ap (λ (b : Bool). not b || is_none t.preset) is_line.2 ∙ ap is_none is_line.1
+
+    control_there : lacks_control t x l.extension ≡ false
+    control_there =
+        ap (λ (k : Kind). lacks_by t (is_stored x) k l.extension) of.kind
+        ∙ ap (λ (b : Bool). pin_lacks t b l.extension) of.stored ∙ lacks_none good.0.form good.0.is
+
+    -- none is compared with what the device does anyway
+    row_compared : (form : LineForm) → IsForm t fuses form c l → is_compared_of t l.extension x ≡ false
+    row_compared DataForm is_line = ap (λ (k : SumLine). is_compared_of t k.extension x) is_line ∙ by_kind (stores t fuses c)
+      where
+        by_kind : (b : Bool) → is_compared_of t (if b then Some extension.D else None) x ≡ false
+        by_kind true = refl
+        by_kind false = refl
+    row_compared EnableForm is_line =
+        ap (λ (k : SumLine). is_compared_of t k.extension x) is_line.2
+        ∙ ap (is_cell_by_pin t) of.on ∙ ap is_by_pin is_line.1
+    row_compared ResetForm is_line = ap (λ (k : SumLine). is_compared_of t k.extension x) is_line.3
+    row_compared PresetForm is_line = ap (λ (k : SumLine). is_compared_of t k.extension x) is_line.3
+
+    pub not_compared : is_compared_of t l.extension x ≡ false
+    not_compared = row_compared good.0.form good.0.is
+
+    row_says : (form : LineForm) → IsForm t fuses form c l → (f : Formula) → says_so t x l.extension l.negated f ≡ true
+    row_says DataForm is_line f = ap (λ (e : Option Extension). says_so t x e l.negated f) (ap (λ (k : SumLine). k.extension) is_line) ∙ by_kind (stores t fuses c)
+      where
+        by_kind : (b : Bool) → says_so t x (if b then Some extension.D else None) l.negated f ≡ true
+        by_kind true = refl
+        by_kind false = refl
+    row_says EnableForm is_line f =
+        ap (λ (e : Option Extension). says_so t x e l.negated f) (ap (λ (k : SumLine). k.extension) is_line.2)
+        ∙ ap (λ (o : Option ℕ). cell_enables_so t o l.negated f) of.on
+        ∙ ap (λ (e : Enable). enables_so e l.negated f) is_line.1
+    row_says ResetForm is_line f = ap (λ (e : Option Extension). says_so t x e l.negated f) (ap (λ (k : SumLine). k.extension) is_line.3)
+    row_says PresetForm is_line f = ap (λ (e : Option Extension). says_so t x e l.negated f) (ap (λ (k : SumLine). k.extension) is_line.3)
+
+  -- ---- contributions
+
+  module _ (fs : List Formula) where
+    abbrev pub IsOf : Contribution → Type 0
+    IsOf c = IsOfLine (signal_of t fuses) (leaf_of t) IsGood fs c
+
+    abbrev entry_of : Contribution → Entry
+    entry_of c = get_or d.context.names c.target.signal no_name
+
+    entry_is : (c : Contribution) (o : IsOf c) → entry_of c ≡ name t fuses laws m is o.line.pin
+    entry_is c o = ap (λ (g : meant.Contribution Formula). get_or d.context.names g.signal no_name) o.is
+
+    extension_is : (c : Contribution) (o : IsOf c) → c.target.extension ≡ o.line.extension
+    extension_is c o = ap (λ (g : meant.Contribution Formula). g.extension) o.is
+
+    gives_one : (g : Gives) → view_gives g ≡ meant.One → is_any g ≡ false
+    gives_one gives.One e = refl
+    gives_one gives.Any e = absurd cc
+    gives_one gives.Match e = absurd cc
+
+    rule_passes : (r : Rule) (c : Contribution) → IsOf c → rule_refused t r (entry_of c) c ≡ []
+    rule_passes rule.Kinds c o =
+        let right : has_wrong_kind t (entry_of c) ≡ false = ap (has_wrong_kind t) (entry_is c o) ∙ kind_right o.line o.good in
+        (rw (and_right (is_data c.target.extension) (has_wrong_kind t (entry_of c)) right) refl)
+    rule_passes rule.Controls c o =
+        let there : lacks_control t (entry_of c) c.target.extension ≡ false =
+        ap (λ (y : Entry). lacks_control t y c.target.extension) (entry_is c o)
+        ∙ ap (lacks_control t (name t fuses laws m is o.line.pin)) (extension_is c o) ∙ control_there o.line o.good in
+        (rw there refl)
+    rule_passes rule.DontCares c o =
+        let one : is_any c.what ≡ false = gives_one c.what (ap (λ (g : meant.Contribution Formula). g.gives) o.is) in
+        (rw (and_right (not (is_data c.target.extension)) (is_any c.what) one) refl)
+
+    pub targets_pass : (r : Rule) (cs : List Contribution) → AllByRecursion IsOf cs → all_refused t d.context.names r cs ≡ []
+    targets_pass r [] all = refl
+    targets_pass r (c ∷ cs) all = ap (λ (xs : List SignalFault). xs ++ all_refused t d.context.names r cs) (rule_passes r c all.0) ∙ targets_pass r cs all.1
+
+    says_as : (c : Contribution) → (o : IsOf c) → says_always t (entry_of c) c.target.extension c.block c.complement (formula_at fs c.when) ≡ true
+    says_as c o =
+        ap (λ (b : Option ℕ). says_always t (entry_of c) c.target.extension b c.complement (formula_at fs c.when)) (ap (λ (g : meant.Contribution Formula). g.block) o.is)
+        ∙ ap (λ (y : Entry). says_so t y c.target.extension c.complement (formula_at fs c.when)) (entry_is c o)
+        ∙ ap (λ (e : Option Extension). says_so t (name t fuses laws m is o.line.pin) e c.complement (formula_at fs c.when)) (extension_is c o)
+        ∙ ap (λ (b : Bool). says_so t (name t fuses laws m is o.line.pin) o.line.extension b (formula_at fs c.when)) (ap (λ (g : meant.Contribution Formula). g.complement) o.is)
+        ∙ row_says o.line o.good o.good.0.form o.good.0.is (formula_at fs c.when)
+
+    pub levels_pass : (cs : List Contribution) → AllByRecursion IsOf cs → other_levels t fs d.context.names cs ≡ []
+    levels_pass [] all = refl
+    levels_pass (c ∷ cs) all =
+        ap (λ (xs : List RefusedUse). xs ++ other_levels t fs d.context.names cs) (level_passes (says_as c all.0))
+        ∙ levels_pass cs all.1
+      where
+        level_passes : says_always t (entry_of c) c.target.extension c.block c.complement (formula_at fs c.when) ≡ true → other_level t fs (entry_of c) c ≡ []
+        level_passes so = rw so refl

@@ -1,0 +1,75 @@
+-- Nothing is refused of the design of a decompiled source.
+use Rattle.std.proofs.Common.{◌≡◌, Bool, List, [], ◌++◌, map, ap, ◌∙◌}
+use Rattle.std.specs.List.{AllByRecursion}
+use Rattle.pld_device.specs.Laws.{IsDevice}
+use Rattle.pld_device.specs.Table.{Table}
+use Rattle.bit_expr.specs.Arena.{arena}
+use Rattle.bit_expr.specs.Formulas.{Formula}
+use Rattle.abel_tree.specs.Tree.{ModuleTree}
+use Rattle.abel_meaning.specs.Designs.{Design, design_of}
+use Rattle.set_expr.specs.declared.contributions.Contribution.{Contribution}
+use Rattle.set_expr.specs.declared.contributions.Contributions.{Contributions}
+use Rattle.source_sections.specs.SectionAnswers.{AreContributed}
+use Rattle.compared_controls.specs.Compared.{other_levels}
+use Rattle.design_checks.specs.Refused.{no_controls, plain, targets_refused}
+use Rattle.design_checks.specs.Verdict.{HasSoundSignals}
+use Rattle.design_refusals.specs.declared.rules.Rule.{Rule}
+use Rattle.design_refusals.specs.declared.rules.Rule.TheVariants as rule
+use Rattle.design_uses.specs.RefusedUses.{missing_uses}
+use Rattle.use_refusals.specs.declared.refused.RefusedUse.{RefusedUse}
+use Rattle.use_refusals.specs.Refused.{told}
+use Rattle.written_controls.specs.Written.{unwritten}
+use Rattle.decompiled.specs.SourceTrees.{IsSourceTree}
+use Rattle.decompiled.specs.Sources.{lines_of, source_of}
+use Rattle.decompiled_logic.specs.Signals.{leaf_of, signal_of}
+use Rattle.decompiled_logic.proofs.SourceReads.{given_is}
+use Rattle.decompiler.proofs.LineManners.{IsGoodLine}
+use Rattle.decompiler.proofs.PlainNames.{names_plain}
+use Rattle.decompiler.proofs.UnrefusedSections.{good_lines}
+use Rattle.decompiler.specs.Designs.{DesignsAreUnrefused}
+use Rattle.decompiler.proofs.CellChains.{no_signal_loop, no_signal_path}
+use Rattle.decompiler.proofs.LineTargets.{each_of_line}
+use Rattle.decompiler.proofs.PinTargets.{IsOf, levels_pass, no_nodes, targets_pass}
+use Rattle.decompiler.proofs.ReadUses.{all_written, none_missing, none_unread}
+
+module _ (t : Table) (fuses : List Bool) (laws : IsDevice t) (m : ModuleTree) (is : IsSourceTree (source_of t fuses) m) (found : Contributions)
+    (of : AreContributed (design_of t m) found) where
+  abbrev d : Design
+  d = design_of t m
+
+  abbrev fs : List Formula
+  fs = arena found.exprs
+
+  abbrev cs : List Contribution
+  cs = found.list
+
+  pub all_of : AllByRecursion (IsOf t fuses laws m is fs) cs
+  all_of =
+      each_of_line (signal_of t fuses) (leaf_of t) (IsGoodLine t fuses laws m is) fs cs (lines_of t fuses)
+      (of.gives ∙ given_is t fuses laws m is) (good_lines t fuses laws m is)
+
+  rule_passes : (r : Rule) → targets_refused t d.context.names r cs ≡ []
+  rule_passes r = ap (map plain) (targets_pass t fuses laws m is fs r cs all_of)
+
+  controls_pass : no_controls d fs cs ≡ []
+  controls_pass =
+      ap (λ (rs : List RefusedUse). (rs ++ other_levels t fs d.context.names cs) ++ (unwritten d ++ map told (missing_uses d))) (rule_passes rule.Controls)
+      ∙ ap (λ (rs : List RefusedUse). rs ++ (unwritten d ++ map told (missing_uses d))) (levels_pass t fuses laws m is fs cs all_of)
+      ∙ ap (λ (rs : List RefusedUse). rs ++ map told (missing_uses d)) (all_written t fuses laws m is (good_lines t fuses laws m is))
+      ∙ ap (map told) (none_missing t fuses laws m is (good_lines t fuses laws m is))
+
+  pub sound : HasSoundSignals d fs cs
+  sound = record {
+    kinds = record { kinds = rule_passes rule.Kinds; nodes = ap (map plain) (no_nodes 0 d.context.names (names_plain t fuses laws m is)) };
+    uses = record {
+      controls = record { controls = controls_pass; any = rule_passes rule.DontCares };
+      paths = ap (map told) (none_unread t fuses laws m is (good_lines t fuses laws m is));
+    };
+  }
+
+pub designs_unrefused : DesignsAreUnrefused
+designs_unrefused t fuses m laws long is no_loop no_path found of = record {
+  signals = sound t fuses laws m is found of;
+  no_loop = no_signal_loop t fuses laws long m is no_loop;
+  no_path = λ s. no_signal_path t fuses laws long m is s no_path;
+}
