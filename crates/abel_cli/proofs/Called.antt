@@ -6,14 +6,14 @@ use Rattle.std.proofs.lemmas.List.{length-replicate, get_or-map, get_or-replicat
 use Rattle.outside.specs.Causes.{Rose}
 use Rattle.outside.specs.Outside.{Map, SameFiles, SameBut, bytes_at}
 use Rattle.abel_cli.specs.Call.{Asked}
-use Rattle.source_files.specs.Counts.{HasRisen, HasStayed}
+use Rattle.abel_commands.specs.Counts.{HasRisen, HasStayed}
 use Rattle.abel_commands.specs.Ending.{Ending, file_fault}
 use Rattle.abel_cli.specs.Telling.{Puts}
-use Rattle.source_files.specs.Limit.{limit}
-use Rattle.source_files.specs.Reading.{HasLongName}
+use Rattle.abel_commands.specs.Limit.{limit}
+use Rattle.abel_commands.specs.Reading.{HasLongName}
 use Rattle.abel_cli.specs.Run.{Comes, CallsFor, Ends, EndsOn}
 use Rattle.abel_cli.specs.Sources.{HasLongSource, sources_of}
-use Rattle.source_files.specs.Sources.{source_at}
+use Rattle.abel_commands.specs.Sources.{source_at}
 use Rattle.abel_commands.specs.Words.{Command, command_of, source_count}
 
 -- ---- some sources are too long, and they are a command's own where the files tell them

@@ -4,14 +4,14 @@ use Rattle.std.proofs.lemmas.Option.{none-some}
 use Rattle.outside.specs.Outside.{bytes_at, SameFiles}
 use Rattle.pld_base.specs.declared.device_name.DeviceName.{DeviceName}
 use Rattle.abel_cli.specs.Call.{Asked, Heard}
-use Rattle.source_files.specs.Counts.{HasStayed}
+use Rattle.abel_commands.specs.Counts.{HasStayed}
 use Rattle.devices.specs.Devices.{table_of}
 use Rattle.abel_commands.specs.Ending.{Ending}
 use Rattle.abel_cli.specs.Promises.{MeansOn, Promises}
 use Rattle.abel_cli.specs.Run.{Means}
 use Rattle.abel_commands.specs.Simulating.{Disagrees}
 use Rattle.abel_commands.specs.SourceCommands.{IsRefused}
-use Rattle.source_files.specs.Sources.{source_at}
+use Rattle.abel_commands.specs.Sources.{source_at}
 use Rattle.abel_commands.specs.Words.{Command, Task, Compile, ListSource, Simulate, Check, Demo, Decompile, Compare, IsCompile, IsNoCommand, command_of, on_file}
 
 module _ (a : Asked) (h : Heard) (p : Promises a h) where

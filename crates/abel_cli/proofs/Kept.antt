@@ -6,7 +6,7 @@ use Rattle.outside.specs.Outside.{Map, bytes_at}
 use Rattle.abel_compile.specs.declared.compiled.Compiled.{Compiled}
 use Rattle.abel_compile.specs.Correct.{IsCompiled}
 use Rattle.abel_cli.specs.Call.{Asked, Heard}
-use Rattle.source_files.specs.Counts.{HasRisen, HasStayed}
+use Rattle.abel_commands.specs.Counts.{HasRisen, HasStayed}
 use Rattle.devices.specs.Devices.{table_of}
 use Rattle.abel_commands.specs.Ending.{Ending, Output, memory_line, file_fault}
 use Rattle.abel_cli.specs.Telling.{Puts, TakesFront, TakesFrontAndMemory}
@@ -15,13 +15,13 @@ use Rattle.abel_cli.specs.Further.{HasCompiled, IsRightOrOld}
 use Rattle.abel_cli.specs.Right.{IsRight}
 use Rattle.abel_cli.specs.Run.{Ends, Means, CallsFor, IsCalledFor, Comes, Runs}
 use Rattle.abel_commands.specs.SourceCommands.{written, listed}
-use Rattle.source_files.specs.Sources.{source_at}
+use Rattle.abel_commands.specs.Sources.{source_at}
 use Rattle.abel_commands.specs.Words.{Command, Task, Compile, ListSource, Simulate, Check, Demo, Decompile, Compare, IsCompile, command_of}
 use Rattle.abel_commands.proofs.CheckMeaning.{check_means}
 use Rattle.abel_commands.proofs.Commands.{inputs_counted, one_only}
 use Rattle.abel_commands.proofs.CompareMeaning.{compare_means}
 use Rattle.abel_commands.proofs.DecompileMeaning.{decompile_means}
-use Rattle.demo_command.proofs.DemoMeaning.{demo_means}
+use Rattle.abel_commands.proofs.DemoMeaning.{demo_means}
 use Rattle.abel_commands.proofs.SimulateMeaning.{simulate_means}
 use Rattle.abel_commands.proofs.SourceMeaning.{source_means}
 

@@ -3,7 +3,7 @@ use Rattle.std.specs.Prelude.{Contains}
 use Rattle.outside.specs.Outside.{Map}
 use Rattle.abel_commands.specs.declared.ending.Outcome.{Outcome}
 use Rattle.abel_commands.specs.declared.ending.Outcome.TheVariants as outcome
-use Rattle.source_files.specs.Counts.{Count, HasRisen, HasStayed}
+use Rattle.abel_commands.specs.Counts.{Count, HasRisen, HasStayed}
 use Rattle.abel_cli.specs.Run.{EndsOn}
 use Rattle.abel_commands.specs.View.{ending_seen}
 use Rattle.abel_commands.specs.Words.{Command}

@@ -2,7 +2,7 @@
 use Rattle.std.specs.Prelude.{◌≡◌, ℕ, ◌≤◌, ◌⊎◌, List, ◌++◌, Option, Some, None}
 use Rattle.outside.specs.Outside.{Map, SameFiles, SameBut}
 use Rattle.abel_cli.specs.Call.{Asked, Heard}
-use Rattle.source_files.specs.Counts.{HasRisen, HasStayed}
+use Rattle.abel_commands.specs.Counts.{HasRisen, HasStayed}
 use Rattle.abel_commands.specs.Ending.{Ending, Output, memory_line, usage_ending, file_fault}
 use Rattle.abel_cli.specs.Telling.{Puts, TakesFront, TakesFrontAndMemory}
 use Rattle.abel_cli.specs.Run.{Comes, IsCalledFor, Means}

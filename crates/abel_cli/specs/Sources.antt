@@ -1,8 +1,8 @@
 -- The sources of a command, and of a task those that are too long (this project's rule).
 use Rattle.std.specs.Prelude.{ℕ, ◌<◌, List, map}
 use Rattle.outside.specs.Outside.{Map, bytes_at}
-use Rattle.source_files.specs.Limit.{IsTooLong}
-use Rattle.source_files.specs.Sources.{source_at}
+use Rattle.abel_commands.specs.Limit.{IsTooLong}
+use Rattle.abel_commands.specs.Sources.{source_at}
 use Rattle.abel_commands.specs.Words.{Command, Task, source_count}
 
 -- the sources of a command, in order

@@ -3,7 +3,7 @@ use Rattle.std.specs.Prelude.{◌≡◌, ℕ, ◌⊎◌, List, ◌++◌, Option,
 use Rattle.outside.specs.Causes.{Begins}
 use Rattle.outside.specs.Outside.{Map, SameFiles, SameBut}
 use Rattle.abel_cli.specs.Call.{Heard}
-use Rattle.source_files.specs.Counts.{HasRisen, HasStayed}
+use Rattle.abel_commands.specs.Counts.{HasRisen, HasStayed}
 use Rattle.abel_commands.specs.Ending.{Ending, Output, memory_line}
 
 -- all files are as they were, but for the output, which has its bytes

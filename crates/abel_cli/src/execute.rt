@@ -3,24 +3,22 @@
 ghost use Rattle.std.specs.Prelude.{◌≡◌, ◌≤◌, ℕ, All, List, IfOk, OnErr, length};
 ghost use Rattle.outside.specs.Outside.{SameFiles};
 ghost use Rattle.abel_cli.specs.Call.{asked};
-ghost use Rattle.source_files.specs.Limit.{limit};
+ghost use Rattle.abel_commands.specs.Limit.{limit};
 ghost use Rattle.abel_cli.specs.Found.{IsFound};
-ghost use Rattle.source_files.specs.Counts.{count};
+ghost use Rattle.abel_commands.specs.Counts.{count};
 ghost use Rattle.abel_cli.specs.Run.{Comes, Ends};
 ghost use Rattle.abel_cli.specs.Sources.{HasLongSource};
 ghost use Rattle.abel_commands.specs.View.{command_seen, ending_seen, task_seen, view};
-ghost use Rattle.source_files.specs.Sources.{sources_seen, texts};
+ghost use Rattle.abel_commands.specs.Sources.{sources_seen, texts};
 ghost use Rattle.abel_commands.specs.Words.{command_of, source_count, IsNoCommand};
 
 use abel_commands::ending::{Ending, Outcome, line};
 use abel_commands::{
-    Command, Task, check_ending, command_of, compare_ending, compile_ending, decompile_ending,
-    list_ending, simulate_ending,
+    Command, SourceFault, Task, check_ending, command_of, compare_ending, compile_ending,
+    decompile_ending, demo_ending, list_ending, read_sources, simulate_ending, source_at,
 };
-use demo_command::demo_ending;
 use outside::{Files, WriteFault};
 use pld_base::OutOfMemory;
-use source_files::{SourceFault, read_sources, source_at};
 use std::alloc::Global;
 
 /// How a task ends with its sources.

@@ -10,7 +10,7 @@ ghost use Rattle.abel_cli.specs.Promises.{Promises};
 ghost use Rattle.abel_cli.specs.Right.{IsRight};
 ghost use Rattle.abel_cli.specs.Run.{Runs};
 ghost use Rattle.abel_commands.specs.View.{view};
-ghost use Rattle.source_files.specs.Sources.{texts};
+ghost use Rattle.abel_commands.specs.Sources.{texts};
 
 use crate::execute::execute;
 use abel_commands::ending::{Outcome, status, text};

@@ -5,7 +5,7 @@ use Rattle.abel_compile.specs.Correct.{IsCompiled}
 use Rattle.abel_compile.proofs.Exclusive as one
 use Rattle.abel_commands.specs.SourceCommands.{SourceEnds, SourceMeans, Fits, IsRefused, IsUnfit}
 use Rattle.abel_commands.specs.Ending.{Ending, ends}
-use Rattle.source_files.specs.Limit.{limit}
+use Rattle.abel_commands.specs.Limit.{limit}
 
 module _ (text : List ℕ) where
   -- ---- a text has one fate

@@ -8,7 +8,7 @@ use Rattle.jedec_file.specs.declared.jedec_fault.JedecFault.{JedecFault}
 use Rattle.jedec_file.specs.declared.jedec_fault.JedecFault.TheVariants as fault
 use Rattle.jedec_file.specs.FuseFile.{FuseFile, file_of}
 use Rattle.jedec_reader.specs.Contents.{contents}
-use Rattle.source_files.specs.Limit.{limit, IsTooLong}
+use Rattle.abel_commands.specs.Limit.{limit, IsTooLong}
 use Rattle.abel_commands.specs.declared.taken.Taken.{Taken}
 use Rattle.abel_commands.specs.declared.taken.Taken.TheVariants as taken
 use Rattle.abel_commands.specs.Ending.{too_long_line}

@@ -9,7 +9,7 @@ use Rattle.abel_compile.specs.Correct.{IsCompiled}
 use Rattle.compile_phases.specs.Placings.{IsPlacedFor, IsUnplacedFor}
 use Rattle.compile_phases.specs.SourceRefusals.{IsAcceptedFor, IsReadFor, IsSourceRefused}
 use Rattle.abel_commands.specs.Ending.{Ending, ends, too_long_line}
-use Rattle.source_files.specs.Limit.{limit, IsTooLong}
+use Rattle.abel_commands.specs.Limit.{limit, IsTooLong}
 
 -- ---- of a source; what its bytes come to, and which report they have, is for the compiler to say
 

@@ -9,7 +9,7 @@ use Rattle.abel_commands.specs.declared.ending.Outcome.{Outcome}
 use Rattle.abel_commands.specs.declared.ending.Outcome.TheVariants as outcome
 use Rattle.abel_commands.specs.Ending.{Ending, Output, usage_ending, file_fault}
 use Rattle.abel_commands.specs.Words.{Command, Task, Compile, ListSource, Simulate, Check, Demo, Decompile, Compare}
-use Rattle.source_files.specs.Sources.{texts}
+use Rattle.abel_commands.specs.Sources.{texts}
 
 -- what is to be done
 abbrev pub task_seen : code_task.Task → Task

@@ -3,7 +3,7 @@
 ghost use Rattle.std.specs.Prelude.{◌≤◌, IfOk, length};
 ghost use Rattle.abel_commands.specs.CheckCommand.{CheckEnds};
 ghost use Rattle.devices.specs.Devices.{table_of};
-ghost use Rattle.source_files.specs.Limit.{limit};
+ghost use Rattle.abel_commands.specs.Limit.{limit};
 ghost use Rattle.abel_commands.specs.View.{ending_seen};
 
 use crate::checked_line::checked_line;

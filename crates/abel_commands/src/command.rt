@@ -3,7 +3,7 @@
 ghost use Rattle.std.specs.Prelude.{◌≡◌, IfSome, length, option_map};
 ghost use Rattle.abel_commands.specs.View.{command_seen, task_seen};
 ghost use Rattle.abel_commands.specs.Words.{command_of, device_task, seed_of, source_count};
-ghost use Rattle.source_files.specs.Sources.{texts};
+ghost use Rattle.abel_commands.specs.Sources.{texts};
 
 use crate::digits::are_few_digits;
 use pld_base::DeviceName;

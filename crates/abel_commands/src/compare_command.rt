@@ -3,7 +3,7 @@
 ghost use Rattle.std.specs.Prelude.{◌≡◌, ◌≤◌, ℕ, IfOk, List, length};
 ghost use Rattle.devices.specs.Devices.{table_of};
 ghost use Rattle.jedec_reader.specs.Contents.{contents};
-ghost use Rattle.source_files.specs.Limit.{limit};
+ghost use Rattle.abel_commands.specs.Limit.{limit};
 ghost use Rattle.abel_commands.specs.CompareCommand.{CompareEnds};
 ghost use Rattle.abel_commands.specs.FuseFiles.{IsFileOf};
 ghost use Rattle.abel_commands.specs.View.{ending_seen};

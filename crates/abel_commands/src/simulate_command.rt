@@ -2,7 +2,7 @@
 
 ghost use Rattle.std.specs.Prelude.{◌≡◌, ◌≤◌, IfOk, length};
 ghost use Rattle.devices.specs.Devices.{table_of};
-ghost use Rattle.source_files.specs.Limit.{limit};
+ghost use Rattle.abel_commands.specs.Limit.{limit};
 ghost use Rattle.abel_commands.specs.SimulateCommand.{SimulateEnds};
 ghost use Rattle.abel_commands.specs.View.{ending_seen};
 ghost use Rattle.jedec_reader.specs.Contents.{contents};

@@ -2,7 +2,7 @@
 
 ghost use Rattle.std.specs.Prelude.{◌≤◌, ℕ, Err, IfOk, List, length};
 ghost use Rattle.abel_compile.specs.Answers.{CompileAnswers};
-ghost use Rattle.source_files.specs.Limit.{limit};
+ghost use Rattle.abel_commands.specs.Limit.{limit};
 ghost use Rattle.abel_commands.specs.SourceCommands.{EndsUncompiled, SourceEnds, listed, written};
 ghost use Rattle.abel_commands.specs.View.{ending_seen};
 

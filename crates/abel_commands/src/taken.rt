@@ -4,7 +4,7 @@ ghost use Rattle.std.specs.Prelude.{◌≡◌, ◌≤◌, IfOk, Ok, length};
 ghost use Rattle.abel_commands.specs.FuseFiles.{IsTaken};
 ghost use Rattle.jedec_file.specs.FuseFile.{file_of};
 ghost use Rattle.jedec_reader.specs.Contents.{contents};
-ghost use Rattle.source_files.specs.Limit.{limit};
+ghost use Rattle.abel_commands.specs.Limit.{limit};
 
 use crate::fault_line::{fault_line, wrong_mode_line};
 use jedec_reader::{FuseFile, read};

@@ -1,7 +1,7 @@
 //! The page of a fuse file.
 
 ghost use Rattle.std.specs.Prelude.{◌≡◌, ◌≤◌, ◌<◌, ◌^◌, length};
-ghost use Rattle.source_files.specs.Limit.{limit};
+ghost use Rattle.abel_commands.specs.Limit.{limit};
 
 use crate::drawn::{Parts, drawn_page};
 use crate::made::{Input, Made, without_end};

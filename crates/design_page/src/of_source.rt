@@ -1,7 +1,7 @@
 //! The page of a source.
 
 ghost use Rattle.std.specs.Prelude.{◌≡◌, ◌≤◌, ◌<◌, ◌^◌, length};
-ghost use Rattle.source_files.specs.Limit.{limit};
+ghost use Rattle.abel_commands.specs.Limit.{limit};
 
 use crate::costly::put_costly_outputs;
 use crate::drawn::{Parts, drawn_page};
@@ -12,7 +12,7 @@ use crate::refused::made_refused;
 use crate::telling::put_vectors;
 use crate::unfit::put_unfit;
 use crate::warned::put_warnings;
-use abel_commands::{Taken, read_files_have_few_vectors, take_file};
+use abel_commands::{LIMIT, Taken, read_files_have_few_vectors, take_file};
 use abel_compile::{CompileFault, Compiled, compile};
 use abel_tree::{Module, Names};
 use compile_phases::{module_of, names_of};
@@ -21,7 +21,6 @@ use devices::on_device;
 use jedec_reader::FuseFile;
 use pld_base::OutOfMemory;
 use pld_device::Device;
-use source_files::LIMIT;
 use std::alloc::Global;
 
 /// The bytes of a string without its quotes.

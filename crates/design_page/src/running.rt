@@ -1,14 +1,14 @@
 //! The top call of the program `abel-page`.
 
 ghost use Rattle.std.specs.Prelude.{◌≤◌, length};
-ghost use Rattle.source_files.specs.Limit.{limit};
+ghost use Rattle.abel_commands.specs.Limit.{limit};
 
 use crate::made::{Input, Made};
 use crate::of_file::page_of_file;
 use crate::of_source::page_of_source;
+use abel_commands::{SourceFault, read_sources, source_at};
 use outside::{Files, Sink, SinkFault, WriteFault};
 use pld_base::{DeviceName, OutOfMemory};
-use source_files::{SourceFault, read_sources, source_at};
 use std::alloc::Global;
 
 /// The words that the program takes.

@@ -1,7 +1,7 @@
 -- The source of a task is the first of its list; of two files they are the first and the second.
 use Rattle.std.proofs.Common.{ℕ, List, IfOk, subst}
 use Rattle.devices.specs.Devices.{table_of}
-use Rattle.source_files.specs.Sources.{source_at, sources_seen}
+use Rattle.abel_commands.specs.Sources.{source_at, sources_seen}
 use Rattle.abel_commands.specs.CompareCommand.{CompareEnds}
 use Rattle.abel_commands.specs.View.{ending_seen}
 use Rattle.abel_cli.proofs.execute.ending.Goals as goal

@@ -8,7 +8,7 @@ use Rattle.abel_cli.specs.Call.{asked}
 use Rattle.abel_cli.specs.Telling.{Puts}
 use Rattle.abel_commands.specs.View.{command_seen, ending_seen, output_seen}
 use Rattle.abel_cli.proofs.Called.{ended, unwritten, rose_later}
-use Rattle.source_files.proofs.Settled.{settled}
+use Rattle.abel_commands.proofs.Settled.{settled}
 use Rattle.abel_cli.proofs.execute.obey.Goals as goal
 
 pub returns-in-Ok-clause-comes : goal.returns-in-Ok-clause-comes

@@ -4,7 +4,7 @@ use Rattle.std.specs.Prelude.{unwrap_or}
 use Rattle.abel_cli.specs.Further.{HasCompiled}
 use Rattle.abel_cli.specs.Right.{IsRight}
 use Rattle.abel_cli.specs.Start.{words_of}
-use Rattle.source_files.specs.Sources.{texts}
+use Rattle.abel_commands.specs.Sources.{texts}
 use Rattle.abel_cli.proofs.starting.start.Goals as goal
 
 pub returns-in-Words-clause-right : goal.returns-in-Words-clause-right

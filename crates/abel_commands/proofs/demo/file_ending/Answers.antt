@@ -1,0 +1,42 @@
+-- The table of a device's name is the device's.
+use Rattle.std.proofs.Common.{◌≡◌, ℕ, ◌^◌, ◌<◌, Bool, List, sym, subst}
+use Rattle.std.specs.Prelude.{IfOk, Result}
+use Rattle.pld_base.specs.declared.device_name.DeviceName.{DeviceName}
+use Rattle.summary_line.specs.Summary.{summary_of}
+use Rattle.devices.specs.Devices.{table_of}
+use Rattle.abel_commands.specs.declared.ending.Ending as kept
+use Rattle.abel_commands.specs.DemoCommand.{FileEnds}
+use Rattle.abel_commands.specs.View.{ending_seen}
+use Rattle.abel_commands.proofs.demo.file_ending.Goals as goal
+
+abbrev Tells : {E : Type 0} → (seed : ℕ) → (bytes summary : List ℕ) → Result (kept.Ending) E → DeviceName → Type 0
+Tells seed bytes summary r d =
+    (cells : ℕ) (fuses : List Bool) → cells < 2 ^ 64 → summary ≡ summary_of (table_of d) cells fuses
+    → IfOk r (λ e. FileEnds seed cells (table_of d) bytes (ending_seen e))
+
+pub returns-in-P16L8-on_device : goal.returns-in-P16L8-on_device
+returns-in-P16L8-on_device c = subst (Tells c.args.seed c.args.bytes.now c.args.summary.now c.on_device-ending_for.result) (sym c.in-P16L8-on_device.is) c.on_device-ending_for.ensures
+
+pub returns-in-P16R4-on_device : goal.returns-in-P16R4-on_device
+returns-in-P16R4-on_device c = subst (Tells c.args.seed c.args.bytes.now c.args.summary.now c.on_device-ending_for-2.result) (sym c.in-P16R4-on_device.is) c.on_device-ending_for-2.ensures
+
+pub returns-in-P16R6-on_device : goal.returns-in-P16R6-on_device
+returns-in-P16R6-on_device c = subst (Tells c.args.seed c.args.bytes.now c.args.summary.now c.on_device-ending_for-3.result) (sym c.in-P16R6-on_device.is) c.on_device-ending_for-3.ensures
+
+pub returns-in-P16R8-on_device : goal.returns-in-P16R8-on_device
+returns-in-P16R8-on_device c = subst (Tells c.args.seed c.args.bytes.now c.args.summary.now c.on_device-ending_for-4.result) (sym c.in-P16R8-on_device.is) c.on_device-ending_for-4.ensures
+
+pub returns-in-GAL22V10-on_device : goal.returns-in-GAL22V10-on_device
+returns-in-GAL22V10-on_device c = subst (Tells c.args.seed c.args.bytes.now c.args.summary.now c.on_device-ending_for-5.result) (sym c.in-GAL22V10-on_device.is) c.on_device-ending_for-5.ensures
+
+pub returns-in-GAL16V8C-on_device : goal.returns-in-GAL16V8C-on_device
+returns-in-GAL16V8C-on_device c = subst (Tells c.args.seed c.args.bytes.now c.args.summary.now c.on_device-ending_for-6.result) (sym c.in-GAL16V8C-on_device.is) c.on_device-ending_for-6.ensures
+
+pub returns-in-GAL16V8R4-on_device : goal.returns-in-GAL16V8R4-on_device
+returns-in-GAL16V8R4-on_device c = subst (Tells c.args.seed c.args.bytes.now c.args.summary.now c.on_device-ending_for-7.result) (sym c.in-GAL16V8R4-on_device.is) c.on_device-ending_for-7.ensures
+
+pub returns-in-GAL16V8R6-on_device : goal.returns-in-GAL16V8R6-on_device
+returns-in-GAL16V8R6-on_device c = subst (Tells c.args.seed c.args.bytes.now c.args.summary.now c.on_device-ending_for-8.result) (sym c.in-GAL16V8R6-on_device.is) c.on_device-ending_for-8.ensures
+
+pub returns-in-GAL16V8R8-on_device : goal.returns-in-GAL16V8R8-on_device
+returns-in-GAL16V8R8-on_device c = subst (Tells c.args.seed c.args.bytes.now c.args.summary.now c.on_device-ending_for-9.result) (sym c.in-GAL16V8R8-on_device.is) c.on_device-ending_for-9.ensures

@@ -1,0 +1,117 @@
+//! `demo N`.
+
+ghost use Rattle.std.specs.Prelude.{◌≡◌, ◌<◌, ◌≤◌, ◌^◌, ℕ, Bool, List, IfOk, Ok, length};
+ghost use Rattle.device_sim.specs.Simulated.{IsSimulated, IsTheOnlyList};
+ghost use Rattle.jedec_file.specs.FuseFile.{file_of};
+ghost use Rattle.jedec_reader.specs.Contents.{contents};
+ghost use Rattle.summary_line.specs.Summary.{summary_of};
+ghost use Rattle.devices.specs.Devices.{table_of};
+ghost use Rattle.abel_commands.specs.DemoCommand.{DemoEnds, DemoEndsWithin, FileEnds};
+ghost use Rattle.abel_commands.specs.Limit.{limit};
+ghost use Rattle.abel_commands.specs.View.{ending_seen};
+
+use crate::demo_line::{cells_told, demo_line};
+use crate::ending::{Ending, line};
+use crate::source_commands::refused_ending;
+use crate::sources::LIMIT;
+use abel_compile::compile;
+use demo_source::demo_text;
+use device_sim::{Report, simulate};
+use devices::on_device;
+use jedec_file::fuse_sum;
+use jedec_reader::{FuseFile, read};
+use pld_base::{DeviceName, OutOfMemory};
+use pld_device::Device;
+use std::alloc::Global;
+
+/// The fuse file of a compiled source, read back.
+///
+/// Such a file is never refused; one of 4 GiB or more, which the reader does not take, is answered as want of memory.
+fn read_back<D: Device>(alloc: Global, bytes: &[u8]) -> Result<FuseFile, OutOfMemory>
+    ensures file { IfOk result (λ file. file_of D.table bytes.now ≡ Ok (contents D.table file)) }
+    ensures fuses { IfOk result (λ file. length file.fuses ≡ D.table.fuses) }
+{
+    if bytes.len() > u32::MAX as usize {
+        return Err(OutOfMemory);
+    }
+    match read::<D>(alloc, bytes) {
+        Ok(file) => Ok(file),
+        Err(_) => Err(OutOfMemory),
+    }
+}
+
+/// The run of a fuse file's vectors on the device with its fuses. That of a compiled source is never refused.
+fn run_of<D: Device>(alloc: Global, file: &FuseFile) -> Result<Report, OutOfMemory>
+    requires size { length file.now.fuses ≡ D.table.fuses }
+    requires few { length file.now.vectors < 2 ^ 32 }
+    ensures simulated { IfOk result (λ r. IsSimulated D.table (contents D.table file.now) r) }
+    ensures only { IfOk result (λ r. IsTheOnlyList D.table (contents D.table file.now) r.list) }
+{
+    match simulate::<D>(alloc, file) {
+        Ok(report) => Ok(report),
+        Err(_) => Err(OutOfMemory),
+    }
+}
+
+/// How a demo ends with the fuse file and the summary of its source: the file is read back, and its vectors are run.
+fn ending_for<'a, D: Device>(
+    alloc: Global,
+    seed: u16,
+    bytes: &[u8],
+    summary: &[u8],
+) -> Result<Ending<'a>, OutOfMemory>
+    ensures { (cells : ℕ) (fuses : List Bool) → cells < 2 ^ 64 → summary.now ≡ summary_of D.table cells fuses
+        → IfOk result (λ e. FileEnds seed cells D.table bytes.now (ending_seen e)) }
+{
+    let file = read_back::<D>(alloc, bytes)?;
+    let report = run_of::<D>(alloc, &file)?;
+    let cells = cells_told::<D>(summary);
+    let line = demo_line(alloc, seed, cells, &report, fuse_sum(file.fuses.levels()))?;
+    if report.list.as_slice().is_empty() {
+        Ok(Ending::plain(0, line))
+    } else {
+        Ok(Ending::plain(5, line))
+    }
+}
+
+/// The same for a device of this name.
+fn file_ending<'a>(
+    alloc: Global,
+    seed: u16,
+    device: DeviceName,
+    bytes: &[u8],
+    summary: &[u8],
+) -> Result<Ending<'a>, OutOfMemory>
+    ensures { (cells : ℕ) (fuses : List Bool) → cells < 2 ^ 64 → summary.now ≡ summary_of (table_of device) cells fuses
+        → IfOk result (λ e. FileEnds seed cells (table_of device) bytes.now (ending_seen e)) }
+{
+    on_device!(device, ending_for(alloc, seed, bytes, summary))
+}
+
+/// How a demo ends with its source: it is compiled, and the fuse file is run.
+fn source_ending<'a>(alloc: Global, seed: u16, source: &[u8]) -> Result<Ending<'a>, OutOfMemory>
+    requires { length source.now ≤ limit }
+    ensures { IfOk result (λ e. DemoEndsWithin seed source.now (ending_seen e)) }
+{
+    match compile(alloc, source) {
+        Ok(compiled) => file_ending(
+            alloc,
+            seed,
+            compiled.device,
+            &compiled.file,
+            &compiled.summary,
+        ),
+        Err(fault) => refused_ending(fault),
+    }
+}
+
+/// How `demo` ends with a number: its source is made, and then compiled.
+pub fn demo_ending<'a>(alloc: Global, seed: u16) -> Result<Ending<'a>, OutOfMemory>
+    ensures { IfOk result (λ e. DemoEnds seed (ending_seen e)) }
+{
+    let text = demo_text(alloc, seed)?;
+    if text.len() > LIMIT {
+        return Ok(Ending::plain(2, line(alloc, b"error TooLong", b"")?));
+    }
+    source_ending(alloc, seed, &text)
+}

@@ -1,3 +1,0 @@
-pub mod DemoCells
-pub mod DemoMeaning
-pub mod DemoRuns

@@ -1,4 +1,0 @@
-pub mod Counts
-pub mod Limit
-pub mod Reading
-pub mod Sources
