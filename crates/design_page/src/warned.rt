@@ -7,9 +7,9 @@ use crate::places::{Origins, origins_of};
 use crate::telling::put_place;
 use abel_tree::{Declared, Meaning, Module};
 use design_drawings::{Design, Flow, flow_of, is_low_register};
+use placer::seen_in;
 use pld_base::{NameText, OutOfMemory, level_at};
 use pld_device::Device;
-use read_signals::seen_in;
 use source_warnings::{Cause, Warning, warnings};
 use std::alloc::Global;
 

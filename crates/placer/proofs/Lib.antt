@@ -1,3 +1,4 @@
+pub mod Bits
 pub mod Counts
 pub mod DeclarationParts
 pub mod DeclaredAt
@@ -8,9 +9,12 @@ pub mod FittingPins
 pub mod Free
 pub mod GivenPins
 pub mod Items
+pub mod Joins
+pub mod Known
 pub mod Located
 pub mod MadeModules
 pub mod Mapped
+pub mod Names
 pub mod Needed
 pub mod Others
 pub mod PinLists
@@ -23,3 +27,7 @@ pub mod PlacedSignals
 pub mod Promise
 pub mod Reading
 pub mod Released
+pub mod Rows
+pub mod SectionParts
+pub mod Signals
+pub mod Whens

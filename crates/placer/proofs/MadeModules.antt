@@ -17,7 +17,7 @@ use Rattle.decls.specs.NameRefusals.{name_refusals}
 use Rattle.declared_names.proofs.Exact.{entries_sound}
 use Rattle.declared_names.proofs.Placed.{kind_at}
 use Rattle.pin_matching.specs.Assignments.{IsKept, IsTaken}
-use Rattle.read_signals.specs.Reads.{has_enable, is_read}
+use Rattle.placer.specs.Reads.{has_enable, is_read}
 use Rattle.placer.specs.declared.fault.PlaceFault.{PlaceFault}
 use Rattle.placer.specs.declared.fault.PlaceFault.TheVariants.{NoPlacement, OutOfMemory}
 use Rattle.placer.specs.Faults.{IsToldOf, IsUnplaced}

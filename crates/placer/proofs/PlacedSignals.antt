@@ -20,7 +20,7 @@ use Rattle.decls.specs.NameRefusals.{name_refusals}
 use Rattle.design_refusals.specs.Refused.{has_wrong_kind, has_wrong_kind_by, is_registered_by, is_registered_node}
 use Rattle.design_uses.specs.RefusedUses.{has_read_path, reads_by}
 use Rattle.pin_matching.specs.Assignments.{IsAssignment}
-use Rattle.read_signals.specs.Reads.{has_enable, is_read}
+use Rattle.placer.specs.Reads.{has_enable, is_read}
 use Rattle.placer.specs.Following.{IsFollowed}
 use Rattle.placer.specs.PlacedModule.{placed_module}
 use Rattle.placer.specs.Placements.{Pins, with_pins, is_node, pin_of, node_pin_of, dc_of, all_released, module_wishes, placed_with, IsPlacedModule}

@@ -14,7 +14,7 @@ use Rattle.abel_meaning.specs.Kinds.{with_kinds, names_of}
 use Rattle.decls.specs.NameRefusals.{name_refusals, read_refusals, module_buffers_refused}
 use Rattle.decls.proofs.NoRefusals.{none_left, none_right}
 use Rattle.pin_matching.specs.Assignments.{IsAssignment}
-use Rattle.read_signals.specs.Reads.{has_enable, is_read}
+use Rattle.placer.specs.Reads.{has_enable, is_read}
 use Rattle.placer.specs.Following.{HasNumberedNames}
 use Rattle.placer.specs.PlacedModule.{placed_module}
 use Rattle.placer.specs.Placements.{Pins, with_pins, pin_of, node_pin_of, dc_of, all_released, module_wishes, placed_with, IsPlacedModule}

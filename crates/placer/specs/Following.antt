@@ -14,7 +14,7 @@ use Rattle.design_refusals.specs.Refused.{has_wrong_kind}
 use Rattle.design_uses.specs.LocatedUses.{PlacedUse}
 use Rattle.design_uses.specs.RefusedUses.{has_read_path}
 use Rattle.design_uses.specs.SectionUses.{design_uses}
-use Rattle.read_signals.specs.Reads.{is_read}
+use Rattle.placer.specs.Reads.{is_read}
 use Rattle.placer.specs.Placements.{IsPlacedModule}
 use Rattle.placer.specs.Signals.{is_free, pin_fits, to_place, wishes}
 

@@ -1,7 +1,10 @@
 pub mod Faults
 pub mod Following
 pub mod Given
+pub mod Marks
+pub mod NamedSignals
 pub mod PlacedModule
 pub mod Placements
+pub mod Reads
 pub mod Signals
 pub mod Wanted

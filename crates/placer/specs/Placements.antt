@@ -7,7 +7,7 @@ use Rattle.abel_meaning.specs.Designs.{no_name}
 use Rattle.abel_meaning.specs.Kinds.{names_of}
 use Rattle.decls.specs.NameRefusals.{name_refusals}
 use Rattle.pin_matching.specs.Assignments.{IsTaken, IsKept}
-use Rattle.read_signals.specs.Reads.{is_read, has_enable}
+use Rattle.placer.specs.Reads.{is_read, has_enable}
 use Rattle.placer.specs.PlacedModule.{Pinned, placed_module, released}
 use Rattle.placer.specs.Signals.{to_place, wishes}
 

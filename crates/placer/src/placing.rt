@@ -8,8 +8,8 @@ ghost use Rattle.abel_meaning.specs.Kinds.{names_of};
 ghost use Rattle.decls.specs.NameRefusals.{name_refusals};
 ghost use Rattle.pin_matching.specs.Assignments.{IsKept};
 ghost use Rattle.pin_matching.specs.Refusals.{IsRefusal};
-ghost use Rattle.read_signals.specs.Marks.{HasMarks};
-ghost use Rattle.read_signals.specs.Reads.{has_enable, is_read};
+ghost use Rattle.placer.specs.Marks.{HasMarks};
+ghost use Rattle.placer.specs.Reads.{has_enable, is_read};
 ghost use Rattle.placer.specs.Faults.{IsToldOf, IsUnplaced};
 ghost use Rattle.placer.specs.Following.{AreFollowed, HasNumberedNames};
 ghost use Rattle.placer.specs.Placements.{IsPlacedModule};
@@ -18,12 +18,12 @@ ghost use Rattle.placer.specs.Signals.{to_place, wish};
 use crate::fault::PlaceFault;
 use crate::needing::to_place;
 use crate::pins::PlacedPins;
+use crate::seen_in;
 use crate::wishing::wishes_of;
 use abel_tree::{Declared, Module, Names};
 use pin_matching::{Unplaced, Wish, first_assignment};
 use pld_base::OutOfMemory;
 use pld_device::Device;
-use read_signals::seen_in;
 use std::alloc::Global;
 
 /// The number at a place.

@@ -4,7 +4,7 @@ ghost use Rattle.std.specs.Prelude.{◌≡◌, ◌≤◌, ◌++◌, ◌&&◌, �
 ghost use Rattle.abel_tree.specs.Entries.{view_declared};
 ghost use Rattle.abel_tree.specs.Tree.{Declarations};
 ghost use Rattle.abel_tree.specs.View.{view_decl, view_module, view_section, view_stmt};
-ghost use Rattle.read_signals.specs.Marks.{HasMarks};
+ghost use Rattle.placer.specs.Marks.{HasMarks};
 ghost use Rattle.placer.specs.Given.{AreKnown, IsEachPinned, module_given, pins_given, released_if, section_given};
 ghost use Rattle.placer.specs.PlacedModule.{with_equations};
 ghost use Rattle.placer.specs.Placements.{all_released, is_node};

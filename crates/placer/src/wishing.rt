@@ -4,7 +4,7 @@ ghost use Rattle.std.specs.Prelude.{◌≡◌, ◌<◌, ◌≤◌, ◌&&◌, ℕ
 ghost use Rattle.pld_base.specs.Bits.{bits, is_on};
 ghost use Rattle.abel_tree.specs.Entries.{Entry, view_declared};
 ghost use Rattle.abel_meaning.specs.Designs.{no_name};
-ghost use Rattle.read_signals.specs.Marks.{HasMarks};
+ghost use Rattle.placer.specs.Marks.{HasMarks};
 ghost use Rattle.placer.specs.Signals.{is_free, pin_fits, wish};
 ghost use Rattle.placer.specs.Wanted.{AreFree, wanted_of};
 

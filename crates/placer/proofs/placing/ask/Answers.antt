@@ -3,8 +3,8 @@ use Rattle.std.proofs.Common.{List, map, sym, ap, subst}
 use Rattle.abel_tree.specs.declared.sections.Section.{Section}
 use Rattle.abel_tree.specs.Entries.{view_declared}
 use Rattle.abel_tree.specs.View.{view_section}
-use Rattle.read_signals.specs.Marks.{HasMarks}
-use Rattle.read_signals.specs.Reads.{has_enable, is_read}
+use Rattle.placer.specs.Marks.{HasMarks}
+use Rattle.placer.specs.Reads.{has_enable, is_read}
 use Rattle.placer.proofs.placing.ask.Goals as goal
 
 pub returns-clause-wishes : goal.returns-clause-wishes

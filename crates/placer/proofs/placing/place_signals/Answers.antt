@@ -6,8 +6,8 @@ use Rattle.abel_tree.specs.View.{view_module}
 use Rattle.abel_meaning.specs.Designs.{no_name}
 use Rattle.pin_matching.specs.Assignments.{IsTaken}
 use Rattle.pin_matching.specs.Refusals.{IsRefusal}
-use Rattle.read_signals.specs.Marks.{HasMarks}
-use Rattle.read_signals.specs.Reads.{has_enable, is_read}
+use Rattle.placer.specs.Marks.{HasMarks}
+use Rattle.placer.specs.Reads.{has_enable, is_read}
 use Rattle.placer.specs.Faults.{IsToldOf}
 use Rattle.placer.specs.Given.{AreKnown}
 use Rattle.placer.specs.Placements.{all_released, with_pins}

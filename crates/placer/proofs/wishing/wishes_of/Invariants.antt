@@ -2,7 +2,7 @@
 use Rattle.std.proofs.Common.{◌≡◌, ℕ, Bool, get_or, map, take}
 use Rattle.abel_tree.specs.Entries.{view_declared}
 use Rattle.abel_meaning.specs.Designs.{no_name}
-use Rattle.read_signals.specs.Marks.{HasMarks}
+use Rattle.placer.specs.Marks.{HasMarks}
 use Rattle.placer.specs.Signals.{wish}
 use Rattle.placer.proofs.wishing.wishes_of.Given as goal
 

@@ -2,7 +2,7 @@
 use Rattle.std.proofs.Common.{◌≡◌, ℕ, Bool, ◌++◌, drop, map}
 use Rattle.abel_tree.specs.Entries.{view_declared}
 use Rattle.abel_tree.specs.View.{view_stmt}
-use Rattle.read_signals.specs.Marks.{HasMarks}
+use Rattle.placer.specs.Marks.{HasMarks}
 use Rattle.placer.specs.Given.{pins_given}
 use Rattle.placer.specs.Placements.{all_released, with_pins}
 use Rattle.placer.proofs.pins.PlacedPins.all_released.Given as goal

@@ -1,0 +1,26 @@
+-- What a name stands for where it is named by a target.
+use Rattle.std.proofs.Common.{List, ◌==◌, sym, subst}
+use Rattle.std.proofs.lemmas.Result.{IfOk-weaker}
+use Rattle.abel_tree.specs.Assigned.{Named}
+use Rattle.abel_tree.specs.Entries.{view_meaning}
+use Rattle.abel_tree.specs.View.{view}
+use Rattle.placer.specs.Marks.{AreMarks, HasMark, IsMarkOf}
+use Rattle.abel_tree.specs.Assigned.{meant, signals_of}
+use Rattle.placer.proofs.Joins.{none_marked}
+use Rattle.placer.proofs.read_names.Naming.target_mark.Goals as goal
+
+pub returns-in-Pin : goal.returns-in-Pin
+returns-in-Pin c = λ ks are. subst (λ m. HasMark c.args.signals.now (meant ks c.args.number (view_meaning m)) c.mark_of.result) (sym c.in-Pin.is) c.mark_of.ensures
+
+pub returns-in-Node : goal.returns-in-Node
+returns-in-Node c = λ ks are. subst (λ m. HasMark c.args.signals.now (meant ks c.args.number (view_meaning m)) c.mark_of-in-Node.result) (sym c.in-Node.is) c.mark_of-in-Node.ensures
+
+pub returns-in-Constant : goal.returns-in-Constant
+returns-in-Constant c =
+    IfOk-weaker c.of_target.result (IsMarkOf c.args.self.now.targets (λ ks. signals_of ks (view c.in-Constant.value)))
+    (λ mark. (ks : List Named) → AreMarks c.args.signals.now ks c.args.self.now.targets → HasMark c.args.signals.now (meant ks c.args.number (view_meaning c.args.meaning.now)) mark)
+    (λ mark is ks are. subst (λ m. HasMark c.args.signals.now (meant ks c.args.number (view_meaning m)) mark) (sym c.in-Constant.is) (is c.args.signals.now ks c.requires are))
+    c.of_target.ensures
+
+pub returns-in-DeviceName : goal.returns-in-DeviceName
+returns-in-DeviceName c = λ ks are. subst (λ m. HasMark c.args.signals.now (meant ks c.args.number (view_meaning m)) 0) (sym c.in-DeviceName.is) (none_marked c.args.signals.now c.requires (λ s n. n == s))

@@ -1,3 +1,0 @@
-pub mod Marks
-pub mod NamedSignals
-pub mod Reads
