@@ -2,7 +2,7 @@
 
 use crate::asked::{Ask, ask_rows};
 use crate::numbers::put_number;
-use pal16_device::Pal16L8;
+use devices::Pal16L8;
 use std::alloc::Global;
 use test_rows::{Found, Report, Section};
 

@@ -2,10 +2,10 @@
 use Rattle.pld_base.specs.declared.device_name.DeviceName.{DeviceName}
 use Rattle.pld_base.specs.declared.device_name.DeviceName.TheVariants.{P16L8, P16R4, P16R6, P16R8, GAL22V10, GAL16V8C, GAL16V8R4, GAL16V8R6, GAL16V8R8}
 use Rattle.pld_device.specs.Laws.{IsDevice}
-use Rattle.pal16_device.specs.Pal16L8Laws.{pal16l8_sound}
-use Rattle.pal16_device.specs.Pal16RLaws.{pal16r4_sound, pal16r6_sound, pal16r8_sound}
-use Rattle.gal22v10_device.specs.Gal22V10Laws.{gal22v10_sound}
-use Rattle.gal16v8_device.specs.Gal16V8Laws.{gal16v8c_sound, gal16v8r4_sound, gal16v8r6_sound, gal16v8r8_sound}
+use Rattle.devices.specs.Pal16L8Laws.{pal16l8_sound}
+use Rattle.devices.specs.Pal16RLaws.{pal16r4_sound, pal16r6_sound, pal16r8_sound}
+use Rattle.devices.specs.Gal22V10Laws.{gal22v10_sound}
+use Rattle.devices.specs.Gal16V8Laws.{gal16v8c_sound, gal16v8r4_sound, gal16v8r6_sound, gal16v8r8_sound}
 use Rattle.devices.specs.Devices.{table_of}
 
 -- each table is that of a device

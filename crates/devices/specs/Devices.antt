@@ -2,10 +2,10 @@
 use Rattle.pld_base.specs.declared.device_name.DeviceName.{DeviceName}
 use Rattle.pld_base.specs.declared.device_name.DeviceName.TheVariants.{P16L8, P16R4, P16R6, P16R8, GAL22V10, GAL16V8C, GAL16V8R4, GAL16V8R6, GAL16V8R8}
 use Rattle.pld_device.specs.Table.{Table}
-use Rattle.pal16_device.specs.Pal16L8Table.{pal16l8}
-use Rattle.pal16_device.specs.Pal16RTables.{pal16r4, pal16r6, pal16r8}
-use Rattle.gal22v10_device.specs.Gal22V10Table.{gal22v10}
-use Rattle.gal16v8_device.specs.Gal16V8Tables.{gal16v8c, gal16v8r4, gal16v8r6, gal16v8r8}
+use Rattle.devices.specs.Pal16L8Table.{pal16l8}
+use Rattle.devices.specs.Pal16RTables.{pal16r4, pal16r6, pal16r8}
+use Rattle.devices.specs.Gal22V10Table.{gal22v10}
+use Rattle.devices.specs.Gal16V8Tables.{gal16v8c, gal16v8r4, gal16v8r6, gal16v8r8}
 
 -- the table of a device
 abbrev pub table_of : DeviceName → Table

@@ -1,11 +1,34 @@
-//! The devices by their names: the table of each, and code for all devices called with the type of one.
+//! The devices by their names: their tables, and what tells one from another.
 #![tactic(auto)]
 
-mod laws;
+mod cells;
+mod control;
+mod device_laws;
+mod gal16v8_laws;
+mod gal16v8c;
+mod gal16v8r4;
+mod gal16v8r6;
+mod gal16v8r8;
+mod gal22v10;
+mod gal22v10_laws;
 mod on_device;
+mod pal16_laws;
+mod pal16l8;
+mod pal16r4;
+mod pal16r6;
+mod pal16r8;
 
-pub use gal16v8_device::{Gal16V8C, Gal16V8R4, Gal16V8R6, Gal16V8R8};
-pub use gal22v10_device::Gal22V10;
-pub use laws::{chosen, each_is_a_device};
-pub use pal16_device::{Pal16L8, Pal16R4, Pal16R6, Pal16R8};
+pub use device_laws::{chosen, each_is_a_device};
+pub use gal16v8_laws::mixed_cells;
+pub use gal16v8c::Gal16V8C;
+pub use gal16v8r4::Gal16V8R4;
+pub use gal16v8r6::Gal16V8R6;
+pub use gal16v8r8::Gal16V8R8;
+pub use gal22v10::Gal22V10;
+pub use gal22v10_laws::{both_kinds, gal22v10_counters};
+pub use pal16_laws::{layout, pal16_counters};
+pub use pal16l8::Pal16L8;
+pub use pal16r4::Pal16R4;
+pub use pal16r6::Pal16R6;
+pub use pal16r8::Pal16R8;
 pub use pld_base::DeviceName;

@@ -17,7 +17,7 @@ use Rattle.abel_tree.specs.Tree.{ModuleTree, Equations}
 use Rattle.abel_meaning.specs.Designs.{Design, design_of}
 use Rattle.meaning_points.specs.ByHand.{points_of, may_be, next_may_be, at_each}
 use Rattle.meaning_points.specs.Constructs.{assign, not_assign, not_assign_any, goto, item, pin, device, pins, row, table, state, diagram, module_of}
-use Rattle.gal22v10_device.specs.Gal22V10Table.{gal22v10}
+use Rattle.devices.specs.Gal22V10Table.{gal22v10}
 use Rattle.meaning_points.specs.Trees.{word, number, name, dotted, both}
 
 -- the module as a tree

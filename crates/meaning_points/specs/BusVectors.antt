@@ -18,7 +18,7 @@ use Rattle.abel_meaning.specs.Designs.{Design, design_of}
 use Rattle.abel_meaning.specs.Vectors.{design_vectors}
 use Rattle.meaning_points.specs.ByHand.{points_of, may_be, is_driven, at_each}
 use Rattle.meaning_points.specs.Constructs.{assign, item, low_item, pin, device, pins, row, test_vectors, module_of}
-use Rattle.pal16_device.specs.Pal16L8Table.{pal16l8}
+use Rattle.devices.specs.Pal16L8Table.{pal16l8}
 use Rattle.meaning_points.specs.Trees.{number, unknown, pulse, released, name, dotted, set, one}
 
 -- the module as a tree

@@ -15,7 +15,7 @@ use Rattle.abel_meaning.specs.Designs.{Design, design_of}
 use Rattle.abel_meaning.specs.Vectors.{design_vectors}
 use Rattle.meaning_points.specs.ByHand.{points_of, next_may_be, at_each}
 use Rattle.meaning_points.specs.Constructs.{clocked, item, pin, device, pins, row, test_vectors, module_of}
-use Rattle.pal16_device.specs.Pal16RTables.{pal16r4}
+use Rattle.devices.specs.Pal16RTables.{pal16r4}
 use Rattle.meaning_points.specs.Trees.{word, number, pulse, released, name, set, one, complement, differ}
 
 -- the module as a tree

@@ -13,7 +13,7 @@ use Rattle.abel_tree.specs.Tree.{ModuleTree}
 use Rattle.abel_meaning.specs.Designs.{Design, design_of}
 use Rattle.abel_meaning.specs.Vectors.{design_vectors}
 use Rattle.meaning_points.specs.Constructs.{item, pins_to, device, pins, constants, row, test_vectors, module_of}
-use Rattle.pal16_device.specs.Pal16L8Table.{pal16l8}
+use Rattle.devices.specs.Pal16L8Table.{pal16l8}
 use Rattle.meaning_points.specs.Trees.{word, number, unknown, name, set, one}
 
 -- the module as a tree

@@ -21,7 +21,7 @@ use Rattle.abel_tree.specs.Tree.{ModuleTree, Equations}
 use Rattle.abel_meaning.specs.Designs.{Design, design_of}
 use Rattle.meaning_points.specs.ByHand.{points_of, may_be, at_each}
 use Rattle.meaning_points.specs.Constructs.{assign, item, pin, device, pins, dc_set_for, row, table, dc_set_from, on_set_from, module_of}
-use Rattle.gal22v10_device.specs.Gal22V10Table.{gal22v10}
+use Rattle.devices.specs.Gal22V10Table.{gal22v10}
 use Rattle.meaning_points.specs.Trees.{number, name, set, one, both}
 
 -- the module as a tree

@@ -13,7 +13,7 @@ use Rattle.abel_tree.specs.Tree.{ModuleTree, Equations}
 use Rattle.abel_meaning.specs.Designs.{Design, design_of}
 use Rattle.meaning_points.specs.ByHand.{points_of, pin_may_be, next_may_be, is_driven, at_each}
 use Rattle.meaning_points.specs.Constructs.{assign, clocked, item, pin, device, pins, module_of}
-use Rattle.pal16_device.specs.Pal16RTables.{pal16r4}
+use Rattle.devices.specs.Pal16RTables.{pal16r4}
 use Rattle.meaning_points.specs.Trees.{word, name, dotted}
 
 -- the module as a tree

@@ -17,7 +17,7 @@ use Rattle.abel_meaning.specs.SourceLogic.{source_logic}
 use Rattle.meaning_points.specs.Answers.{logic_answers}
 use Rattle.meaning_points.specs.ByHand.{points_of}
 use Rattle.meaning_points.specs.Constructs.{assign, clocked, when_then, item, low_item, pin, device, pins, nodes, module_of}
-use Rattle.gal22v10_device.specs.Gal22V10Table.{gal22v10}
+use Rattle.devices.specs.Gal22V10Table.{gal22v10}
 use Rattle.meaning_points.specs.Trees.{word, name, dotted, complement, both, either, differ}
 
 -- the module as a tree, with these words for q and s

@@ -17,7 +17,7 @@ use Rattle.abel_meaning.specs.Designs.{design_of}
 use Rattle.abel_meaning.specs.SourceLogic.{source_logic}
 use Rattle.abel_meaning.specs.CountedBlocks.{units_of}
 use Rattle.meaning_points.specs.Answers.{all_reads, all_trees, answers, logic_answers, name_codes, point}
-use Rattle.pal16_device.specs.Pal16RTables.{pal16r6}
+use Rattle.devices.specs.Pal16RTables.{pal16r6}
 use Rattle.meaning_points.specs.Constructs.{module_of, assign, clocked, clocked_any, constants, device, group, item, low_item, not_assign, not_assign_any, pin, pins, when_else, when_then}
 use Rattle.meaning_points.specs.Trees.{both, either, equal, name, number, one, plus, set, word}
 

@@ -12,7 +12,7 @@ use Rattle.abel_tree.specs.Tree.{ModuleTree, Equations}
 use Rattle.abel_meaning.specs.Designs.{Design, design_of}
 use Rattle.meaning_points.specs.ByHand.{points_of, may_be, pin_may_be, at_each}
 use Rattle.meaning_points.specs.Constructs.{assign, not_assign, item, low_item, pin, device, pins, module_of}
-use Rattle.pal16_device.specs.Pal16L8Table.{pal16l8}
+use Rattle.devices.specs.Pal16L8Table.{pal16l8}
 use Rattle.meaning_points.specs.Trees.{name, both}
 
 -- the module as a tree

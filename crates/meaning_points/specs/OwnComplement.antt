@@ -14,7 +14,7 @@ use Rattle.abel_meaning.specs.Designs.{design_of}
 use Rattle.abel_meaning.specs.SourceLogic.{source_logic}
 use Rattle.abel_meaning.specs.CountedBlocks.{units_of}
 use Rattle.meaning_points.specs.Answers.{all_reads, all_trees, answers, logic_answers, name_codes, point}
-use Rattle.pal16_device.specs.Pal16L8Table.{pal16l8}
+use Rattle.devices.specs.Pal16L8Table.{pal16l8}
 use Rattle.meaning_points.specs.Constructs.{module_of, assign, device, item, pin, pins}
 use Rattle.meaning_points.specs.Trees.{both, complement, name}
 

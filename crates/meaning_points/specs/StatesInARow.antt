@@ -21,7 +21,7 @@ use Rattle.abel_meaning.specs.Designs.{design_of}
 use Rattle.abel_meaning.specs.SourceLogic.{source_logic}
 use Rattle.abel_meaning.specs.CountedBlocks.{units_of}
 use Rattle.meaning_points.specs.Answers.{all_reads, all_trees, answers, logic_answers, name_codes, point}
-use Rattle.gal22v10_device.specs.Gal22V10Table.{gal22v10}
+use Rattle.devices.specs.Gal22V10Table.{gal22v10}
 use Rattle.meaning_points.specs.Constructs.{module_of, assign, assign_any, clocked, clocked_any, dc_set, device, diagram, goto, goto_with, if_then, item, low_item, on_set, pin, pins, row, state, table}
 use Rattle.meaning_points.specs.Trees.{dotted, equal, minus, name, number, one, plus, set, span, word}
 

@@ -17,7 +17,7 @@ use Rattle.abel_meaning.specs.Designs.{design_of}
 use Rattle.abel_meaning.specs.SourceLogic.{source_logic}
 use Rattle.abel_meaning.specs.CountedBlocks.{units_of}
 use Rattle.meaning_points.specs.Answers.{all_reads, all_trees, answers, logic_answers, name_codes, point}
-use Rattle.gal22v10_device.specs.Gal22V10Table.{gal22v10}
+use Rattle.devices.specs.Gal22V10Table.{gal22v10}
 use Rattle.meaning_points.specs.Constructs.{module_of, assign, constants, device, item, pin, pins, pins_to}
 use Rattle.meaning_points.specs.Trees.{at_least, at_most, both, complement, equal, less, minus, more, name, number, one, paren, same, set, unknown, word}
 

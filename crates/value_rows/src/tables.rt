@@ -4,7 +4,7 @@ use crate::places::{put_blank, put_fault, put_place};
 use crate::sources::source_of;
 use abel_tree::{Module, Section, Table};
 use bit_expr::{ExprId, Exprs};
-use pal16_device::Pal16L8;
+use devices::Pal16L8;
 use section_targets::Assigned;
 use set_expr::{Contribution, Gives, Guard, Scope};
 use std::alloc::Global;

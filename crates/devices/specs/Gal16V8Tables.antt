@@ -1,0 +1,72 @@
+-- The tables of the GAL16V8 in complex mode, and in registered mode with the registers of the PAL16R devices (GAL16V8 datasheet,
+-- logic diagrams and pinout; which of its control fuses means what is this project's table).
+use Rattle.std.specs.Prelude.{ℕ, suc, Bool, true, false, not, Option, None, Some, List, [], ◌∷◌, ◌++◌, map}
+use Rattle.std.specs.List.{range_with_len}
+use Rattle.pld_base.specs.declared.device_name.DeviceName.{DeviceName}
+use Rattle.pld_base.specs.declared.device_name.DeviceName.TheVariants.{GAL16V8C, GAL16V8R4, GAL16V8R6, GAL16V8R8}
+use Rattle.pld_device.specs.declared.carry.Carry.{Carry}
+use Rattle.pld_device.specs.declared.cell.Cell.{Cell}
+use Rattle.pld_device.specs.declared.flip.Flip.TheVariants.{BeforeRegister}
+use Rattle.pld_device.specs.declared.fuse_bit.FuseBit.{FuseBit}
+use Rattle.pld_device.specs.Registers.{stores_by}
+use Rattle.pld_device.specs.Table.{Table}
+use Rattle.devices.specs.Pal16L8Table.{pal16l8_cells, pal16l8_pairs}
+use Rattle.devices.specs.Pal16RTables.{pal16r4_cells, pal16r6_cells, pal16r8_cells, registered_pairs}
+
+-- the fuse, and the level that has the meaning
+abbrev pub bit : ℕ → Bool → FuseBit
+bit fuse level = record { fuse = fuse; level = level }
+
+-- XOR of each cell, from pin 19 on: inverted while it is 0
+abbrev pub xors : List (Option FuseBit)
+xors = map (λ fuse. Some (bit fuse false)) (range_with_len 2048 8)
+
+-- AC1 of each cell, from this fuse on: 0 for a register, else 1
+abbrev pub ac1 : (fuse : ℕ) → List Cell → List FuseBit
+ac1 fuse [] = []
+ac1 fuse (cell ∷ cells) = bit fuse (not (stores_by cell.kinds false)) ∷ ac1 (suc fuse) cells
+
+-- AC1 of each cell, from pin 19 on, then SYN, which tells complex mode from registered mode, and AC0
+abbrev pub mode_fuses : (syn : Bool) → List Cell → List FuseBit
+mode_fuses syn cells = ac1 2120 cells ++ bit 2192 syn ∷ bit 2193 true ∷ []
+
+-- PTD of each row: the row is there while it is 1
+abbrev pub switches : List ℕ
+switches = range_with_len 2128 64
+
+-- the whole table of a mode: its name, its clock (0 where there is none), SYN, its cells and what its columns carry. Fuses
+-- 2056 to 2119 are the signature
+abbrev pub gal16v8 : DeviceName → (clock : ℕ) → (syn : Bool) → List Cell → List Carry → Table
+gal16v8 name clock syn cells pairs = record {
+  name = name;
+  pins = 20;
+  ground_pin = 10;
+  fuses = 2194;
+  short = 2194;
+  columns = 32;
+  rows = 64;
+  clock = clock;
+  reset = None;
+  preset = None;
+  flip = BeforeRegister;
+  cells = cells;
+  pairs = pairs;
+  inverted = xors;
+  registered = [];
+  row_switches = switches;
+  fixed = mode_fuses syn cells;
+}
+
+-- complex mode: the cells and columns of a PAL16L8
+abbrev pub gal16v8c : Table
+gal16v8c = gal16v8 GAL16V8C 0 true pal16l8_cells pal16l8_pairs
+
+-- registered mode: the cells and columns of a PAL16R4, of a PAL16R6 and of a PAL16R8; pin 1 is the clock
+abbrev pub gal16v8r4 : Table
+gal16v8r4 = gal16v8 GAL16V8R4 1 false pal16r4_cells registered_pairs
+
+abbrev pub gal16v8r6 : Table
+gal16v8r6 = gal16v8 GAL16V8R6 1 false pal16r6_cells registered_pairs
+
+abbrev pub gal16v8r8 : Table
+gal16v8r8 = gal16v8 GAL16V8R8 1 false pal16r8_cells registered_pairs

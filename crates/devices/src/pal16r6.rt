@@ -1,0 +1,66 @@
+//! The PAL16R6: six registers on pins 18 to 13 and two combinational cells, over 64 rows of 32 columns.
+
+use crate::cells::{combinational, registered, registered_pair};
+use pld_base::DeviceName;
+use pld_device::{Carry, Cell, Chip, Flip, FuseBit, Part};
+
+/// The PAL16R6, as a type without values of its own.
+#[derive(Clone, Copy, PartialEq, Eq)]
+pub struct Pal16R6;
+
+impl Part for Pal16R6 {
+    ghost use Rattle.std.specs.Prelude.{refl};
+    ghost use Rattle.pld_device.specs.Table.{chip_of};
+    ghost use Rattle.devices.specs.Pal16RLaws.{pal16r6_sound};
+    ghost use Rattle.devices.specs.Pal16RTables.{pal16r6};
+
+    const CHIP: Chip = Chip {
+        name: DeviceName::P16R6,
+        pins: 20,
+        ground_pin: 10,
+        fuses: 2048,
+        short: 2048,
+        columns: 32,
+        rows: 64,
+        cells: 8,
+        clock: 1,
+        reset: None,
+        preset: None,
+        flip: Flip::Always,
+    };
+
+    ghost CHIP = { chip_of pal16r6 };
+
+    ghost table = { pal16r6 };
+
+    ghost chip_is = { refl };
+
+    ghost sound = { pal16r6_sound };
+
+    fn carries(pair: u16) -> Carry {
+        registered_pair(pair)
+    }
+
+    fn cell(index: u8) -> Cell {
+        match index {
+            1..=6 => registered(index),
+            _ => combinational(index),
+        }
+    }
+
+    fn inverted_at(cell: u8) -> Option<FuseBit> {
+        None
+    }
+
+    fn registered_at(cell: u8) -> Option<FuseBit> {
+        None
+    }
+
+    fn row_switch(row: u16) -> Option<u16> {
+        None
+    }
+
+    fn fixed(index: u16) -> Option<FuseBit> {
+        None
+    }
+}

@@ -1,3 +1,0 @@
-pub mod Gal22V10Laws
-pub mod Gal22V10Table
-pub mod SmallCells
