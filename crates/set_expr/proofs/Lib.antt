@@ -5,3 +5,4 @@ pub mod NamesMore
 pub mod SetMembers
 pub mod Spine
 pub mod SummedUp
+pub mod WholeNumbers

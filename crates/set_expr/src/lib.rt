@@ -1,4 +1,4 @@
-//! Set expressions as bits, and what the sections of a source contribute.
+//! Set expressions by their shapes and refusals, over the names of a source.
 #![tactic(auto)]
 
 mod checked;
@@ -8,9 +8,11 @@ mod fault;
 mod known;
 mod known_name;
 mod learning;
+mod numbers;
 mod rules;
 mod scope;
 mod shaped;
+mod signs;
 mod walking;
 
 pub use checked::Checked;
@@ -19,5 +21,7 @@ pub use fault::{SectionFault, earlier};
 pub use known::KnownNames;
 pub use known_name::KnownName;
 pub use learning::known_names;
+pub use numbers::{number_of, number_under};
 pub use scope::Scope;
 pub use shaped::{Shape, Shaped};
+pub use signs::is_relation;

@@ -12,10 +12,11 @@ ghost use Rattle.set_expr.specs.SectionOrder.{section_order};
 
 use crate::checked::Checked;
 use crate::fault::{SectionFault, earlier};
+use crate::numbers::{number_of, number_under};
 use crate::shaped::Shape;
+use crate::signs::is_relation;
 use abel_tree::{Binary, Unary};
 use pld_base::Place;
-use whole_numbers::{is_relation, number_of, number_under};
 
 /// The shape of what an operator gives.
 pub(crate) fn shape_of_both(sign: Binary, left: Shape, right: Shape) -> Shape

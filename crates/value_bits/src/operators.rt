@@ -17,8 +17,8 @@ use abel_tree::{Binary, Unary};
 use bit_expr::{ExprFault, ExprId, Exprs};
 use bit_words::{kept_relation, operator_word, unary_word};
 use pld_base::ListOf;
+use set_expr::{is_relation, number_of, number_under};
 use std::alloc::Global;
-use whole_numbers::{is_relation, number_of, number_under};
 
 /// The form of a complement, or of two's complement.
 fn form_under(sign: Unary, form: Form) -> Form

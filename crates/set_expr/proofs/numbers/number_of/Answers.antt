@@ -1,5 +1,5 @@
-use Rattle.whole_numbers.proofs.WholeNumbers.{and_by_position, or_by_position, xor_by_position, xnor_by_position}
-use Rattle.whole_numbers.proofs.numbers.number_of.Goals as goal
+use Rattle.set_expr.proofs.WholeNumbers.{and_by_position, or_by_position, xor_by_position, xnor_by_position}
+use Rattle.set_expr.proofs.numbers.number_of.Goals as goal
 
 pub returns-in-And : goal.returns-in-And
 returns-in-And c = rw c.in-And.is (and_by_position c.args.left c.args.right c.ranges.left.fits c.ranges.right.fits)
