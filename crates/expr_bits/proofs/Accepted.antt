@@ -11,18 +11,18 @@ use Rattle.abel_meaning.specs.FormulaBits.{bits_of}
 use Rattle.abel_meaning.specs.Numbers.{Value, width_of}
 use Rattle.abel_meaning.specs.Terms.{Term, known_of, term_of}
 use Rattle.abel_meaning.specs.Values.{constant_of}
-use Rattle.bit_words.specs.Making.{IsMade}
+use Rattle.expr_bits.specs.Making.{IsMade}
 use Rattle.set_expr.specs.Answer.{IsShaped, IsAccepted, IsAnswer, refusal_of}
 use Rattle.set_expr.specs.declared.fault.SectionFault.{SectionFault}
 use Rattle.set_expr.specs.declared.fault.SectionFault.TheVariants as fault
 use Rattle.set_expr.specs.declared.shaped.Shaped.{Shaped}
 use Rattle.set_expr.specs.FoundNames.{expression_found}
 use Rattle.set_expr.specs.SectionOrder.{section_order}
-use Rattle.value_bits.specs.declared.bits.Bits.{Bits}
-use Rattle.value_bits.specs.declared.bits.Form.{Form}
-use Rattle.value_bits.specs.declared.bits.Form.TheVariants as form
-use Rattle.value_bits.specs.Parts.{IsPart}
-use Rattle.value_bits.specs.Showing.{HasForm, IsBits}
+use Rattle.expr_bits.specs.declared.forms.Bits.{Bits}
+use Rattle.expr_bits.specs.declared.forms.Form.{Form}
+use Rattle.expr_bits.specs.declared.forms.Form.TheVariants as form
+use Rattle.expr_bits.specs.Parts.{IsPart}
+use Rattle.expr_bits.specs.Showing.{HasForm, IsBits}
 use Rattle.expr_bits.specs.Shaping.{IsBlank}
 use Rattle.expr_bits.specs.Steps.{term_part}
 use Rattle.expr_bits.proofs.Blank.{blank}

@@ -9,7 +9,7 @@ use Rattle.abel_tree.specs.Entries.{Entry}
 use Rattle.abel_meaning.specs.Designs.{Context}
 use Rattle.abel_meaning.specs.Terms.{Term, Terms, extended_if, special_term}
 use Rattle.abel_meaning.specs.Terms as term
-use Rattle.value_bits.specs.Parts.{Part}
+use Rattle.expr_bits.specs.Parts.{Part}
 use Rattle.expr_bits.specs.declared.step.Step.TheVariants as step
 use Rattle.expr_bits.specs.declared.work.Work.{Work}
 use Rattle.expr_bits.specs.declared.work.Work.TheVariants as work

@@ -1,8 +1,8 @@
 -- Members of a set, one more at a time.
 use Rattle.std.proofs.Common.{◌≡◌, ℕ, suc, ◌+◌, ◌-◌, ◌<◌, ◌≤◌, List, ◌∷◌, sym, ap, ◌∙◌, arith}
 use Rattle.bit_expr.specs.Formulas.{Formula}
-use Rattle.value_bits.specs.declared.bits.Bits.{Bits}
-use Rattle.value_bits.specs.Parts.{Part, IsPart, no_part, joined_part}
+use Rattle.expr_bits.specs.declared.forms.Bits.{Bits}
+use Rattle.expr_bits.specs.Parts.{Part, IsPart, no_part, joined_part}
 use Rattle.expr_bits.specs.Stacks.{AreStacked}
 use Rattle.expr_bits.specs.Steps.{top, below, joins}
 

@@ -12,7 +12,7 @@ use Rattle.set_expr.specs.declared.known_name.KnownName.{KnownName}
 use Rattle.set_expr.specs.declared.shaped.Shape.TheVariants as shape
 use Rattle.set_expr.specs.FoundNames.{NameFound, named, names_found, name_found, nothing_found}
 use Rattle.set_expr.specs.KnownNames.{IsKnownIf, IsKnownName, HasShapeIf}
-use Rattle.value_bits.specs.Parts.{Part, number_part}
+use Rattle.expr_bits.specs.Parts.{Part, number_part}
 use Rattle.expr_bits.specs.declared.step.Step.TheVariants as step
 use Rattle.expr_bits.specs.Named.{KnowsNumber}
 use Rattle.expr_bits.specs.Steps.{after_task, term_part, Push, Do}

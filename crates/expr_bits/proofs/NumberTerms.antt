@@ -11,7 +11,7 @@ use Rattle.abel_meaning.specs.Numbers.{Shape, Number, Single, Set, Value, width_
 use Rattle.abel_meaning.specs.Terms.{Term}
 use Rattle.abel_meaning.specs.Terms as term
 use Rattle.abel_meaning.specs.Values.{constant_of, is_relation, binary_by, plain_value}
-use Rattle.value_bits.specs.Parts.{number_part, with_value}
+use Rattle.expr_bits.specs.Parts.{number_part, with_value}
 use Rattle.expr_bits.specs.Steps.{normal_by, term_part}
 use Rattle.expr_bits.proofs.Links.{left_number, right_number}
 

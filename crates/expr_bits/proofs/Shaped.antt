@@ -6,15 +6,15 @@ use Rattle.bit_expr.specs.Arena.{formula_at}
 use Rattle.bit_expr.specs.Formulas.{Formula}
 use Rattle.abel_meaning.specs.BitWords.{Word}
 use Rattle.abel_meaning.specs.Numbers.{Value}
-use Rattle.bit_words.specs.Making.{AllIn, word_at}
+use Rattle.expr_bits.specs.Making.{AllIn, word_at}
 use Rattle.set_expr.specs.Answer.{IsShaped, AreIn, bits_at, unknown_at, positions}
 use Rattle.set_expr.specs.Answer as answer
 use Rattle.set_expr.specs.Shapes.{HasShape}
 use Rattle.set_expr.specs.declared.shaped.Shaped.{Shaped}
-use Rattle.value_bits.specs.declared.bits.Bits.{Bits}
-use Rattle.value_bits.specs.declared.bits.Form.{Form}
-use Rattle.value_bits.specs.declared.bits.Form.TheVariants as form
-use Rattle.value_bits.specs.Showing.{HasForm, HasUnknown, IsBits}
+use Rattle.expr_bits.specs.declared.forms.Bits.{Bits}
+use Rattle.expr_bits.specs.declared.forms.Form.{Form}
+use Rattle.expr_bits.specs.declared.forms.Form.TheVariants as form
+use Rattle.expr_bits.specs.Showing.{HasForm, HasUnknown, IsBits}
 use Rattle.expr_bits.specs.Shaping.{IsBlank, place_of, places_of, shape_of}
 
 -- ---- loops: what is there, and what is left

@@ -6,12 +6,12 @@ use Rattle.bit_expr.specs.Arena.{arena, Grew}
 use Rattle.bit_expr.specs.Folding.{Made}
 use Rattle.bit_expr.specs.Formulas.{Formula}
 use Rattle.abel_meaning.specs.Numbers.{Shape, Number, Single, Set}
-use Rattle.bit_words.specs.Making.{IsMade}
-use Rattle.bit_words.proofs.Making.{in_kept, word_kept}
-use Rattle.value_bits.specs.declared.bits.Bits.{Bits}
-use Rattle.value_bits.specs.Parts.{Part, IsPart}
-use Rattle.value_bits.specs.Showing.{IsBits}
-use Rattle.value_bits.proofs.TwoValues.{number_shown}
+use Rattle.expr_bits.specs.Making.{IsMade}
+use Rattle.expr_bits.proofs.Making.{in_kept, word_kept}
+use Rattle.expr_bits.specs.declared.forms.Bits.{Bits}
+use Rattle.expr_bits.specs.Parts.{Part, IsPart}
+use Rattle.expr_bits.specs.Showing.{IsBits}
+use Rattle.expr_bits.proofs.TwoValues.{number_shown}
 use Rattle.expr_bits.specs.Stacks.{AreParts, AreStacked, ShowsStack}
 use Rattle.expr_bits.specs.Steps.{normal, normal_by, made_normal, pushed}
 

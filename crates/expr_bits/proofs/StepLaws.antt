@@ -11,8 +11,8 @@ use Rattle.abel_meaning.specs.Numbers.{Shape, Number, Single, Set, Value, meetin
 use Rattle.abel_meaning.specs.Terms.{Term, Terms, extended, extended_each, extended_if}
 use Rattle.abel_meaning.specs.Terms as term
 use Rattle.abel_meaning.specs.Values.{constant_of, set_value, nowhere, is_relation, binary_by, binary_value, unary_value}
-use Rattle.bit_words.proofs.Making.{made_is}
-use Rattle.value_bits.specs.Parts.{Part, no_part, joined_part}
+use Rattle.expr_bits.proofs.Making.{made_is}
+use Rattle.expr_bits.specs.Parts.{Part, no_part, joined_part}
 use Rattle.expr_bits.specs.declared.step.Step.TheVariants as step
 use Rattle.expr_bits.specs.Members.{list_of}
 use Rattle.expr_bits.specs.Steps.{normal, normal_by, term_part, joins, Task, Push, Do, after_all}

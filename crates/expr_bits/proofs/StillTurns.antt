@@ -13,10 +13,10 @@ use Rattle.abel_meaning.specs.Numbers.{member_width}
 use Rattle.abel_meaning.specs.Sources.{Source, Zero, Held, source_of}
 use Rattle.abel_meaning.specs.Terms.{Term}
 use Rattle.abel_meaning.specs.Values.{is_relation}
-use Rattle.bit_words.specs.Making.{AllIn, word_at, Makes}
-use Rattle.bit_words.proofs.Making.{made_is, nothing_made}
-use Rattle.value_bits.specs.declared.bits.Bits.{Bits}
-use Rattle.value_bits.specs.Parts.{Part, IsPart, no_part, joined_part}
+use Rattle.expr_bits.specs.Making.{AllIn, word_at, Makes}
+use Rattle.expr_bits.proofs.Making.{made_is, nothing_made}
+use Rattle.expr_bits.specs.declared.forms.Bits.{Bits}
+use Rattle.expr_bits.specs.Parts.{Part, IsPart, no_part, joined_part}
 use Rattle.expr_bits.specs.declared.kept.Row.{Row}
 use Rattle.expr_bits.specs.declared.step.Step.{Step}
 use Rattle.expr_bits.specs.declared.step.Step.TheVariants as step

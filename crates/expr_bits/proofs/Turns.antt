@@ -16,11 +16,11 @@ use Rattle.abel_tree.specs.Entries.{Entry, entries_of}
 use Rattle.abel_tree.specs.View.{view}
 use Rattle.abel_meaning.specs.Designs.{Context, context_of}
 use Rattle.abel_meaning.specs.Terms.{Term, known_of, term_of}
-use Rattle.bit_words.specs.Making.{IsMade, Makes}
-use Rattle.bit_words.proofs.Making.{made_is, Going, going_start, going_on, going_stop, going_done}
+use Rattle.expr_bits.specs.Making.{IsMade, Makes}
+use Rattle.expr_bits.proofs.Making.{made_is, Going, going_start, going_on, going_stop, going_done}
 use Rattle.set_expr.specs.Answer.{IsContextOf}
-use Rattle.value_bits.specs.declared.bits.Bits.{Bits}
-use Rattle.value_bits.specs.Parts.{Part, IsPart}
+use Rattle.expr_bits.specs.declared.forms.Bits.{Bits}
+use Rattle.expr_bits.specs.Parts.{Part, IsPart}
 use Rattle.expr_bits.specs.declared.turn.Turn.{Turn}
 use Rattle.expr_bits.specs.declared.work.Work.{Work}
 use Rattle.expr_bits.specs.Stacks.{AreStacked, ShowsStack, Standing, task_of, tasks_of, after_turn, then_all}

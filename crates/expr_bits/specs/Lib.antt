@@ -1,7 +1,14 @@
+pub mod Along
 pub mod Held
+pub mod Making
 pub mod Members
 pub mod Named
+pub mod Operators
+pub mod Parts
+pub mod Pieces
+pub mod Positions
 pub mod Shaping
+pub mod Showing
 pub mod Stacks
-pub mod Still
 pub mod Steps
+pub mod Still

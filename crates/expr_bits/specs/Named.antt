@@ -6,7 +6,7 @@ use Rattle.abel_meaning.specs.Designs.{Context}
 use Rattle.abel_meaning.specs.Terms.{Term}
 use Rattle.set_expr.specs.declared.known_name.KnownName.{KnownName}
 use Rattle.set_expr.specs.declared.shaped.Shape.TheVariants as shape
-use Rattle.value_bits.specs.Parts.{Part, number_part}
+use Rattle.expr_bits.specs.Parts.{Part, number_part}
 use Rattle.expr_bits.specs.declared.work.Work.{Work}
 use Rattle.expr_bits.specs.Stacks.{task_of}
 use Rattle.expr_bits.specs.Steps.{Push, after_task, term_part}

@@ -5,8 +5,8 @@ use Rattle.bit_expr.specs.declared.node.ExprId.{ExprId}
 use Rattle.abel_meaning.specs.BitWords.{Word}
 use Rattle.set_expr.specs.declared.shaped.Shape.{Shape}
 use Rattle.set_expr.specs.declared.shaped.Shape.TheVariants as shape
-use Rattle.value_bits.specs.declared.bits.Form.{Form}
-use Rattle.value_bits.specs.declared.bits.Form.TheVariants as form
+use Rattle.expr_bits.specs.declared.forms.Form.{Form}
+use Rattle.expr_bits.specs.declared.forms.Form.TheVariants as form
 
 -- the shape of so many positions
 abbrev pub shape_of : Form → ℕ → Shape

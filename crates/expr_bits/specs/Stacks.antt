@@ -9,8 +9,8 @@ use Rattle.abel_tree.specs.View.{view}
 use Rattle.abel_meaning.specs.Designs.{Context}
 use Rattle.abel_meaning.specs.Terms.{Term, known_of, term_of, term_meant, extended_if}
 use Rattle.abel_meaning.specs.Terms as term
-use Rattle.value_bits.specs.declared.bits.Bits.{Bits}
-use Rattle.value_bits.specs.Parts.{Part, IsPart}
+use Rattle.expr_bits.specs.declared.forms.Bits.{Bits}
+use Rattle.expr_bits.specs.Parts.{Part, IsPart}
 use Rattle.expr_bits.specs.declared.work.Work.{Work}
 use Rattle.expr_bits.specs.declared.work.Work.TheVariants as work
 use Rattle.expr_bits.specs.declared.turn.Turn.{Turn}

@@ -9,7 +9,7 @@ use Rattle.abel_meaning.specs.Numbers.{Shape, Number, Single, Set, Value}
 use Rattle.abel_meaning.specs.Terms.{Term}
 use Rattle.abel_meaning.specs.Terms as term
 use Rattle.abel_meaning.specs.Values.{plain_value, constant_of}
-use Rattle.value_bits.specs.Parts.{Part, with_value, number_part, under_part, both_part, no_part, joined_part}
+use Rattle.expr_bits.specs.Parts.{Part, with_value, number_part, under_part, both_part, no_part, joined_part}
 use Rattle.expr_bits.specs.declared.step.Step.{Step}
 use Rattle.expr_bits.specs.declared.step.Step.TheVariants as step
 

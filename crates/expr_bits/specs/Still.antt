@@ -10,8 +10,8 @@ use Rattle.abel_meaning.specs.Designs.{Context}
 use Rattle.abel_meaning.specs.FormulaBits.{bits_of}
 use Rattle.abel_meaning.specs.Sources.{Zero, source_of}
 use Rattle.abel_meaning.specs.Terms.{Term}
-use Rattle.value_bits.specs.declared.bits.Bits.{Bits}
-use Rattle.value_bits.specs.Parts.{Part, IsPart}
+use Rattle.expr_bits.specs.declared.forms.Bits.{Bits}
+use Rattle.expr_bits.specs.Parts.{Part, IsPart}
 use Rattle.expr_bits.specs.declared.kept.Row.{Row}
 use Rattle.expr_bits.specs.declared.step.Step.{Step}
 use Rattle.expr_bits.specs.declared.step.Step.TheVariants as step

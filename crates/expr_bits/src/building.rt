@@ -5,21 +5,24 @@ ghost use Rattle.bit_expr.specs.declared.node.Node.{Node as ANode};
 ghost use Rattle.bit_expr.specs.Arena.{arena};
 ghost use Rattle.bit_expr.specs.Formulas.{Formula};
 ghost use Rattle.abel_meaning.specs.Designs.{Context};
-ghost use Rattle.bit_words.specs.Making.{Makes};
+ghost use Rattle.expr_bits.specs.Making.{Makes};
 ghost use Rattle.set_expr.specs.Answer.{IsContextOf};
-ghost use Rattle.value_bits.specs.Parts.{Part, IsPart, under_part, both_part, no_part};
+ghost use Rattle.expr_bits.specs.Parts.{Part, IsPart, under_part, both_part, no_part};
 ghost use Rattle.expr_bits.specs.Stacks.{AreStacked, ShowsStack, Standing};
 ghost use Rattle.expr_bits.specs.Steps.{top, below, pushed, made_normal, joins, after_step, read_part};
 
+use crate::forms::Bits;
+use crate::leaves::{number_bits, one_bit};
 use crate::reading::read;
+use crate::sets::{empty_set, with_member};
 use crate::step::Step;
+use crate::value_operators::{both, under};
 use abel_tree::{Binary, Extension, Unary};
 use bit_expr::{ExprFault, ExprId, Exprs};
 use pld_base::{ListOf, OutOfMemory};
 use pld_device::Device;
 use set_expr::Scope;
 use std::alloc::Global;
-use value_bits::{Bits, both, empty_set, number_bits, one_bit, under, with_member};
 
 /// Takes the value on top; the number 0 where there is none.
 pub(crate) fn taken(alloc: Global, values: &mut Vec<Bits>) -> Bits

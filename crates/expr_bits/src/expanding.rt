@@ -8,7 +8,7 @@ ghost use Rattle.abel_tree.specs.View.{view, view_member};
 ghost use Rattle.abel_meaning.specs.Designs.{Context};
 ghost use Rattle.abel_meaning.specs.Terms.{Term, extended_if, known_of, member_before, named_before, special_term, term_of, terms_of};
 ghost use Rattle.abel_meaning.specs.Terms as term;
-ghost use Rattle.value_bits.specs.Parts.{Part};
+ghost use Rattle.expr_bits.specs.Parts.{Part};
 ghost use Rattle.expr_bits.specs.Named.{ComeTo};
 ghost use Rattle.expr_bits.specs.Members.{each_extended, list_of};
 ghost use Rattle.expr_bits.specs.Stacks.{tasks_of};

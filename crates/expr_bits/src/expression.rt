@@ -5,10 +5,11 @@ ghost use Rattle.abel_tree.specs.View.{view};
 ghost use Rattle.abel_meaning.specs.Designs.{Context};
 ghost use Rattle.set_expr.specs.Answer.{IsContextOf, IsAnswer, first_place, refusal_of};
 ghost use Rattle.abel_meaning.specs.Terms.{term_of};
-ghost use Rattle.bit_words.specs.Making.{Makes};
-ghost use Rattle.value_bits.specs.Parts.{IsPart};
+ghost use Rattle.expr_bits.specs.Making.{Makes};
+ghost use Rattle.expr_bits.specs.Parts.{IsPart};
 ghost use Rattle.expr_bits.specs.Steps.{term_part};
 
+use crate::forms::Bits;
 use crate::needed::kept_for;
 use crate::shaping::shaped;
 use crate::walking::walk;
@@ -18,7 +19,6 @@ use pld_base::Place;
 use pld_device::Device;
 use set_expr::{Scope, SectionFault, Shaped};
 use std::alloc::Global;
-use value_bits::Bits;
 
 /// The place of an expression's first token.
 fn first_place(expr: &Expr) -> Place

@@ -11,6 +11,7 @@ ghost use Rattle.expr_bits.specs.Stacks.{named_term};
 ghost use Rattle.expr_bits.specs.Steps.{Push};
 ghost use Rattle.expr_bits.specs.Still.{AreKept, IsKept, IsQuietTurn, KeepStill};
 
+use crate::forms::Bits;
 use crate::kept::{EXTENSIONS, Kept, Row};
 use crate::reading::signal_source;
 use crate::step::Step;
@@ -23,7 +24,6 @@ use pld_base::OutOfMemory;
 use pld_device::Device;
 use set_expr::{Scope, Shape};
 use std::alloc::Global;
-use value_bits::Bits;
 
 /// Whether a turn may make a node. That a constant of which nothing is kept does saves going through it here.
 fn may_make<D: Device>(scope: &Scope<'_>, next: Work, turn: Turn) -> bool

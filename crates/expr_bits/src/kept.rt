@@ -6,9 +6,9 @@ ghost use Rattle.abel_meaning.specs.Designs.{Context};
 ghost use Rattle.expr_bits.specs.Stacks.{named_term};
 ghost use Rattle.expr_bits.specs.Still.{AreKept, IsKept};
 
+use crate::forms::Bits;
 use abel_tree::Extension;
 use std::alloc::Global;
-use value_bits::Bits;
 
 /// The bits of a constant of this number, with this extension at its signals.
 #[derive(Drop)]

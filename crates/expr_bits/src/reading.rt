@@ -5,19 +5,20 @@ ghost use Rattle.bit_expr.specs.Arena.{IsLeaf};
 ghost use Rattle.abel_meaning.specs.Designs.{Context};
 ghost use Rattle.abel_meaning.specs.FormulaBits.{make_held, make_source};
 ghost use Rattle.abel_meaning.specs.Sources.{source_of};
-ghost use Rattle.bit_words.specs.Making.{Makes, ShowsOne};
+ghost use Rattle.expr_bits.specs.Making.{Makes, ShowsOne};
 ghost use Rattle.set_expr.specs.Answer.{IsContextOf};
-ghost use Rattle.value_bits.specs.Parts.{IsPart};
+ghost use Rattle.expr_bits.specs.Parts.{IsPart};
 ghost use Rattle.expr_bits.specs.Held.{HasLeaf, view_reading};
 ghost use Rattle.expr_bits.specs.Steps.{read_part};
 
+use crate::forms::Bits;
+use crate::leaves::one_bit;
 use crate::sources::{Reading, source_of};
 use abel_tree::Extension;
 use bit_expr::{ExprFault, ExprId, Exprs, Node};
 use pld_device::Device;
 use set_expr::Scope;
 use std::alloc::Global;
-use value_bits::{Bits, one_bit};
 
 /// A leaf, with a Not where it reads the complement.
 fn held_bit(exprs: &mut Exprs, reading: Reading) -> Result<ExprId, ExprFault>

@@ -5,14 +5,14 @@ ghost use Rattle.bit_expr.specs.Formulas.{Formula};
 ghost use Rattle.abel_meaning.specs.BitWords.{Word};
 ghost use Rattle.abel_meaning.specs.Numbers.{Value};
 ghost use Rattle.set_expr.specs.Answer.{IsShaped};
-ghost use Rattle.value_bits.specs.Showing.{IsBits};
+ghost use Rattle.expr_bits.specs.Showing.{IsBits};
 ghost use Rattle.expr_bits.specs.Shaping.{IsBlank, place_of, places_of, shape_of};
 
+use crate::forms::{Bits, Form};
 use bit_expr::ExprId;
 use pld_base::{ListOf, OutOfMemory};
 use set_expr::{Shape, Shaped};
 use std::alloc::Global;
-use value_bits::{Bits, Form};
 
 /// The shape of bits, of which there are few.
 fn shape_of(bits: &Bits) -> Shape

@@ -4,17 +4,17 @@ ghost use Rattle.std.specs.Prelude.{◌≡◌, List, take};
 ghost use Rattle.abel_tree.specs.Entries.{Entry, entries_of, view_meaning};
 ghost use Rattle.abel_meaning.specs.Designs.{Context};
 ghost use Rattle.abel_meaning.specs.Terms.{extended_if, known_of, term_meant};
-ghost use Rattle.value_bits.specs.Parts.{Part};
+ghost use Rattle.expr_bits.specs.Parts.{Part};
 ghost use Rattle.expr_bits.specs.Stacks.{named_term, task_of, task_of_turn};
 ghost use Rattle.expr_bits.specs.Steps.{Push, after_task};
 ghost use Rattle.expr_bits.specs.Still.{AreKept, IsHeld};
 
+use crate::forms::Bits;
 use crate::kept::Kept;
 use crate::step::Step;
 use crate::work::Work;
 use abel_tree::{Expr, Extension, Meaning};
 use set_expr::Scope;
-use value_bits::Bits;
 
 /// An expression comes to its parts, a step is done, or the bits that are kept of a name are taken.
 #[derive(Clone, Copy)]

@@ -6,15 +6,16 @@ ghost use Rattle.abel_tree.specs.Entries.{entries_of};
 ghost use Rattle.abel_tree.specs.View.{view};
 ghost use Rattle.abel_meaning.specs.Designs.{Context};
 ghost use Rattle.abel_meaning.specs.Terms.{extended_if, known_of, term_of};
-ghost use Rattle.bit_words.specs.Making.{Makes};
+ghost use Rattle.expr_bits.specs.Making.{Makes};
 ghost use Rattle.set_expr.specs.Answer.{IsContextOf};
-ghost use Rattle.value_bits.specs.Parts.{IsPart, Part};
+ghost use Rattle.expr_bits.specs.Parts.{IsPart, Part};
 ghost use Rattle.expr_bits.specs.Stacks.{AreStacked, ShowsStack, Standing, after_turn, task_of_turn, tasks_of, then_all};
 ghost use Rattle.expr_bits.specs.Steps.{after_all, term_part};
 ghost use Rattle.expr_bits.specs.Still.{AreKept, IsHeld};
 
 use crate::building::{build, put_copy, taken};
 use crate::expanding::expand;
+use crate::forms::Bits;
 use crate::kept::Kept;
 use crate::turn::{Turn, turn_of};
 use crate::work::Work;
@@ -24,7 +25,6 @@ use pld_base::OutOfMemory;
 use pld_device::Device;
 use set_expr::Scope;
 use std::alloc::Global;
-use value_bits::Bits;
 
 /// An expression's parts in its place; a step changes nothing of the work.
 pub(crate) fn expanded<'a>(

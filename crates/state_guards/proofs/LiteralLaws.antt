@@ -11,8 +11,8 @@ use Rattle.abel_meaning.specs.Designs.{Context}
 use Rattle.set_expr.specs.declared.fault.SectionFault.{SectionFault}
 use Rattle.set_expr.specs.declared.fault.SectionFault.TheVariants as fault
 use Rattle.set_expr.specs.Answer.{Keeps}
-use Rattle.bit_words.specs.Making.{ShowsOne, IsMade, IsPast}
-use Rattle.bit_words.proofs.Making.{made_is, grew_none}
+use Rattle.expr_bits.specs.Making.{ShowsOne, IsMade, IsPast}
+use Rattle.expr_bits.proofs.Making.{made_is, grew_none}
 use Rattle.section_targets.specs.declared.aim.Aim.{Aim}
 use Rattle.section_targets.proofs.MetWords.{high_bit}
 use Rattle.section_targets.proofs.OneUnit.{two_parts}

@@ -6,14 +6,13 @@ ghost use Rattle.bit_expr.specs.Arena.{arena};
 use crate::places::put_blank;
 use abel_tree::{Binary, Unary};
 use bit_expr::{ExprId, Exprs, Leaf, Node};
-use bit_words::{
-    complement_word, difference_word, digit_word, kept_relation, kept_word, operator_word,
-    relation_word, resized_word, spread_word, unary_word,
+use expr_bits::{
+    Bits, Form, complement_word, difference_word, digit_word, dropped, kept_relation, kept_word,
+    meet_word, operator_word, relation_word, resized_word, spread_word, unary_word, width_of_both,
 };
 use pld_base::{ListOf, Point};
 use std::alloc::Global;
 use test_rows::Found;
-use value_bits::{Bits, Form, dropped, meet_word, width_of_both};
 
 /// Pin 0 alone is high.
 const HERE: Point = Point {

@@ -2,8 +2,8 @@
 use Rattle.std.proofs.Common.{false, ◌∷◌, refl}
 use Rattle.bit_expr.specs.Arena.{arena}
 use Rattle.bit_expr.specs.Formulas.{Const}
-use Rattle.bit_words.proofs.AlongWords.{zero_there, zero_is}
-use Rattle.bit_words.proofs.Making.{nothing_made}
+use Rattle.expr_bits.proofs.AlongWords.{zero_there, zero_is}
+use Rattle.expr_bits.proofs.Making.{nothing_made}
 use Rattle.expr_bits.specs.Stacks.{ShowsStack}
 use Rattle.expr_bits.specs.Steps.{unknown_part}
 use Rattle.expr_bits.proofs.building.build.Goals as goal

@@ -1,7 +1,7 @@
 -- What is made stands in place of the two values on top.
 use Rattle.std.proofs.Common.{reverse}
 use Rattle.bit_expr.specs.Arena.{arena}
-use Rattle.value_bits.specs.Parts.{both_part}
+use Rattle.expr_bits.specs.Parts.{both_part}
 use Rattle.expr_bits.specs.Steps.{made_normal, top, below}
 use Rattle.expr_bits.proofs.StackLaws.{parts_kept, normal_top}
 use Rattle.expr_bits.proofs.building.build_both.Goals as goal

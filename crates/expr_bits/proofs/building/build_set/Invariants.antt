@@ -2,8 +2,8 @@
 use Rattle.std.proofs.Common.{◌≡◌, List}
 use Rattle.bit_expr.specs.declared.node.Node.{Node}
 use Rattle.bit_expr.specs.Arena.{arena}
-use Rattle.value_bits.specs.declared.bits.Form.TheVariants as form
-use Rattle.value_bits.specs.Parts.{Part}
+use Rattle.expr_bits.specs.declared.forms.Form.TheVariants as form
+use Rattle.expr_bits.specs.Parts.{Part}
 use Rattle.expr_bits.specs.Stacks.{AreStacked}
 use Rattle.expr_bits.proofs.Joining.{Joining}
 use Rattle.expr_bits.proofs.building.build_set.Given as goal

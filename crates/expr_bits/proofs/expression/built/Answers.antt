@@ -1,8 +1,8 @@
 -- The bits of the walk, of which there are few.
 use Rattle.bit_expr.specs.declared.fault.ExprFault.{ExprFault}
-use Rattle.bit_words.specs.Making.{Makes}
-use Rattle.value_bits.specs.declared.bits.Bits.{Bits}
-use Rattle.value_bits.specs.Parts.{IsPart}
+use Rattle.expr_bits.specs.Making.{Makes}
+use Rattle.expr_bits.specs.declared.forms.Bits.{Bits}
+use Rattle.expr_bits.specs.Parts.{IsPart}
 use Rattle.expr_bits.specs.Steps.{term_part}
 use Rattle.std.proofs.Common.{◌≡◌, Result, Err, sym, ap, ◌∙◌, subst}
 use Rattle.std.proofs.lemmas.Result.{err_from_is_err_and}

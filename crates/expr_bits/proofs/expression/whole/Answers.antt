@@ -1,7 +1,7 @@
 -- All names are those of the design.
 use Rattle.std.proofs.Common.{sym, subst}
-use Rattle.bit_words.specs.Making.{Makes}
-use Rattle.value_bits.specs.Parts.{IsPart}
+use Rattle.expr_bits.specs.Making.{Makes}
+use Rattle.expr_bits.specs.Parts.{IsPart}
 use Rattle.expr_bits.specs.Steps.{term_part}
 use Rattle.expr_bits.proofs.NamesBefore.{entries_long}
 use Rattle.expr_bits.proofs.Turns.{whole_term}

@@ -3,8 +3,8 @@ use Rattle.std.proofs.Common.{take, Ok, subst}
 use Rattle.abel_tree.specs.Entries.{entries_of}
 use Rattle.abel_tree.specs.View.{view}
 use Rattle.abel_meaning.specs.Terms.{extended_if, known_of, term_of}
-use Rattle.bit_words.specs.Making.{Makes}
-use Rattle.value_bits.specs.Parts.{IsPart}
+use Rattle.expr_bits.specs.Making.{Makes}
+use Rattle.expr_bits.specs.Parts.{IsPart}
 use Rattle.expr_bits.specs.Steps.{term_part}
 use Rattle.expr_bits.proofs.StillTurns.{kept_alone}
 use Rattle.expr_bits.proofs.keeping.bits_alone.Goals as goal

@@ -6,7 +6,7 @@ use Rattle.abel_tree.specs.View.{view}
 use Rattle.abel_meaning.specs.Designs.{Context}
 use Rattle.abel_meaning.specs.Terms.{extended_if, known_of, term_of}
 use Rattle.set_expr.specs.Answer.{IsContextOf}
-use Rattle.value_bits.specs.declared.bits.Bits.{Bits}
+use Rattle.expr_bits.specs.declared.forms.Bits.{Bits}
 use Rattle.expr_bits.specs.declared.kept.Row.{Row}
 use Rattle.expr_bits.specs.Still.{AreKept, IsKept}
 use Rattle.expr_bits.proofs.StillTurns.{kept_more}

@@ -4,7 +4,7 @@ use Rattle.abel_meaning.specs.FormulaBits.{make_source}
 use Rattle.abel_meaning.specs.Sources.{source_of}
 use Rattle.abel_meaning.specs.Terms as term
 use Rattle.abel_meaning.specs.Values.{constant_of}
-use Rattle.value_bits.proofs.TwoValues.{one_made}
+use Rattle.expr_bits.proofs.TwoValues.{one_made}
 use Rattle.expr_bits.proofs.reading.read.Goals as goal
 
 pub returns : goal.returns

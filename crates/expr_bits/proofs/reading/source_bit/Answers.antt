@@ -1,9 +1,9 @@
 -- The constant 0 is there.
 use Rattle.std.proofs.Common.{false}
 use Rattle.bit_expr.specs.Formulas.{Const}
-use Rattle.bit_words.specs.Making.{ShowsOne}
-use Rattle.bit_words.proofs.AlongWords.{zero_there, zero_is}
-use Rattle.bit_words.proofs.Making.{nothing_made}
+use Rattle.expr_bits.specs.Making.{ShowsOne}
+use Rattle.expr_bits.proofs.AlongWords.{zero_there, zero_is}
+use Rattle.expr_bits.proofs.Making.{nothing_made}
 use Rattle.expr_bits.proofs.reading.source_bit.Goals as goal
 
 pub returns-in-None : goal.returns-in-None

@@ -6,9 +6,9 @@ use Rattle.bit_expr.specs.Arena.{arena}
 use Rattle.abel_tree.specs.Entries.{entries_of}
 use Rattle.abel_tree.specs.View.{view}
 use Rattle.abel_meaning.specs.Terms.{extended_if, known_of, term_of}
-use Rattle.bit_words.specs.Making.{Makes}
-use Rattle.value_bits.specs.declared.bits.Bits.{Bits}
-use Rattle.value_bits.specs.Parts.{IsPart}
+use Rattle.expr_bits.specs.Making.{Makes}
+use Rattle.expr_bits.specs.declared.forms.Bits.{Bits}
+use Rattle.expr_bits.specs.Parts.{IsPart}
 use Rattle.expr_bits.specs.declared.work.Work.TheVariants as work
 use Rattle.expr_bits.specs.Stacks.{task_of, task_of_turn, tasks_of}
 use Rattle.expr_bits.specs.Steps.{Push, term_part}

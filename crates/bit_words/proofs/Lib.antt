@@ -1,4 +1,0 @@
-pub mod AlongWords
-pub mod Making
-pub mod Places
-pub mod PositionWords

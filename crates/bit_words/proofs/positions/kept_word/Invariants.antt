@@ -1,7 +1,0 @@
--- What is kept so far.
-use Rattle.std.proofs.Common.{◌≡◌, ◌++◌, drop}
-use Rattle.bit_words.specs.Positions.{kept_ids}
-use Rattle.bit_words.proofs.positions.kept_word.Given as goal
-
-abbrev pub invariant-loop-index : goal.invariant-loop-index
-invariant-loop-index l = l.ids.items ++ kept_ids (drop l.index l.dropped) (drop l.index l.word) ≡ kept_ids l.dropped l.word

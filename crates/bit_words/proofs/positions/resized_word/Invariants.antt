@@ -1,7 +1,0 @@
--- So many positions are there.
-use Rattle.std.proofs.Common.{◌≡◌, ◌-◌, ◌++◌, drop}
-use Rattle.bit_words.specs.Positions.{resized_ids}
-use Rattle.bit_words.proofs.positions.resized_word.Given as goal
-
-abbrev pub invariant-loop-index : goal.invariant-loop-index
-invariant-loop-index l = l.ids.items ++ resized_ids (l.width - l.index) (drop l.index l.word) ≡ resized_ids l.width l.word

@@ -1,4 +1,0 @@
-pub mod Along
-pub mod Making
-pub mod Pieces
-pub mod Positions

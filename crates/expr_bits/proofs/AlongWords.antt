@@ -1,0 +1,97 @@
+-- The operators of the language are those that go along two words.
+use Rattle.std.proofs.Common.{◌≡◌, suc, ◌<◌, Bool, List, [], ◌∷◌, length, map, true, false, refl, sym, ap, ◌∙◌, arith}
+use Rattle.bit_expr.specs.Arena.{arena, formula_at}
+use Rattle.bit_expr.specs.Folding.{Made, free, ◌>>=◌, make_not, make_and, make_or, make_xor}
+use Rattle.bit_expr.specs.Formulas.{Formula, Const}
+use Rattle.bit_expr.specs.declared.node.Node.{Node}
+use Rattle.bit_expr.proofs.ArenaLists.{arena_count, low_formula}
+use Rattle.abel_tree.specs.declared.words.Binary.{Binary}
+use Rattle.abel_tree.specs.declared.words.Binary.TheVariants as binary
+use Rattle.abel_meaning.specs.BitWords.{Word, word_by_position, each_not, sum_bit, next_carry, sum_bits, relation_bit, operator_bits}
+use Rattle.expr_bits.specs.declared.steps.Step.{Step}
+use Rattle.expr_bits.specs.declared.steps.Step.TheVariants as step
+use Rattle.expr_bits.specs.Along.{step_by, along}
+use Rattle.expr_bits.proofs.Making.{made_is}
+
+-- a step that carries nothing on
+position_step : (g : Step) (f : Formula → Formula → Made Formula) (c : Formula) → ((last : Bool) (x y : Formula) → step_by g last x y c ≡ record { what = ((f x y).what, c); nodes = (f x y).nodes }) → (xs ys : Word) → along g c xs ys ≡ word_by_position f xs ys
+position_step g f c by [] ys = refl
+position_step g f c by (x ∷ xs) [] = refl
+position_step g f c by (x ∷ xs) (y ∷ ys) =
+    ap (λ m. m >>= λ p. along g p.1 xs ys >>= λ us. free (p.0 ∷ us)) (by _ x y)
+    ∙ ap (λ m. f x y >>= λ z. m >>= λ us. free (z ∷ us)) (position_step g f c by xs ys)
+
+abbrev carried : Formula → Formula → Made (Formula × Formula)
+carried c s = free (s, c)
+
+kept_nodes : (m : Made Formula) (c : Formula) → ◌≡◌ {A = Made (Formula × Formula)} (m >>= carried c) (record { what = (m.what, c); nodes = m.nodes })
+kept_nodes m c = made_is _ _ refl (omega arith)
+
+pub and_along : (c : Formula) (xs ys : Word) → along step.And c xs ys ≡ word_by_position make_and xs ys
+and_along c xs ys = position_step step.And make_and c (λ last x y. kept_nodes (make_and x y) c) xs ys
+
+pub or_along : (c : Formula) (xs ys : Word) → along step.Or c xs ys ≡ word_by_position make_or xs ys
+or_along c xs ys = position_step step.Or make_or c (λ last x y. kept_nodes (make_or x y) c) xs ys
+
+pub xor_along : (c : Formula) (xs ys : Word) → along step.Xor c xs ys ≡ word_by_position make_xor xs ys
+xor_along c xs ys = position_step step.Xor make_xor c (λ last x y. kept_nodes (make_xor x y) c) xs ys
+
+pub xnor_along : (c : Formula) (xs ys : Word) → along step.Xnor c xs ys ≡ word_by_position (λ x y. make_xor x y >>= make_not) xs ys
+xnor_along c xs ys = position_step step.Xnor (λ x y. make_xor x y >>= make_not) c (λ last x y. kept_nodes (make_xor x y >>= make_not) c) xs ys
+
+pub not_along : (c : Formula) (xs : Word) → along step.Not c xs xs ≡ each_not xs
+not_along c [] = refl
+not_along c (x ∷ xs) =
+    ap (λ m. m >>= λ p. along step.Not p.1 xs xs >>= λ us. free (p.0 ∷ us)) (kept_nodes (make_not x) c)
+    ∙ ap (λ m. make_not x >>= λ z. m >>= λ us. free (z ∷ us)) (not_along c xs)
+
+pub sum_along : (c : Formula) (xs ys : Word) → along step.Sum c xs ys ≡ sum_bits xs ys c
+sum_along c [] ys = refl
+sum_along c (x ∷ xs) [] = no_right c x xs
+  where
+    no_right : (c x : Formula) (xs : Word) → free [] ≡ sum_bits (x ∷ xs) [] c
+    no_right c x [] = refl
+    no_right c x (x1 ∷ xs) = refl
+sum_along c (x ∷ []) (y ∷ ys) = made_is _ _ refl (omega arith)
+sum_along c (x ∷ x1 ∷ xs) (y ∷ ys) =
+    made_is _ _ refl (omega arith)
+    ∙ ap (λ m. sum_bit x y c >>= λ s. next_carry x y c >>= λ d. record { what = m.what; nodes = m.nodes } >>= λ ss. free (s ∷ ss)) (sum_along (next_carry x y c).what (x1 ∷ xs) ys)
+
+-- ---- the constants
+
+pub zero_there : (ns : List Node) → 0 < length (arena ns)
+zero_there ns = omega (arith, arena_count ns)
+
+pub one_there : (ns : List Node) → 1 < length (arena ns)
+one_there ns = omega (arith, arena_count ns)
+
+-- ---- answers
+
+pub zero_is : (ns : List Node) → formula_at (arena ns) (record { 0 = 0 }) ≡ Const false
+zero_is ns = sym (low_formula ns 0 (omega arith))
+
+pub one_is : (ns : List Node) → formula_at (arena ns) (record { 0 = 1 }) ≡ Const true
+one_is ns = sym (low_formula ns 1 (omega arith))
+
+pub length_not : (w : Word) → length (each_not w).what ≡ length w
+length_not [] = refl
+length_not (x ∷ w) = ap suc (length_not w)
+
+-- what is none of the operators that go along words makes zeros
+pub no_operator : (s : Binary) (xs ys : Word) → (s ≡ binary.And → ⊥) → (s ≡ binary.Or → ⊥) → (s ≡ binary.Xor → ⊥) → (s ≡ binary.Xnor → ⊥) → (s ≡ binary.Minus → ⊥) → (s ≡ binary.Plus → ⊥) → operator_bits s xs ys ≡ free (map (λ x. Const false) xs)
+no_operator binary.And xs ys a o x n m p = absurd (a refl)
+no_operator binary.Or xs ys a o x n m p = absurd (o refl)
+no_operator binary.Xor xs ys a o x n m p = absurd (x refl)
+no_operator binary.Xnor xs ys a o x n m p = absurd (n refl)
+no_operator binary.Minus xs ys a o x n m p = absurd (m refl)
+no_operator binary.Plus xs ys a o x n m p = absurd (p refl)
+no_operator _ xs ys a o x n m p = refl
+
+pub no_relation : (s : Binary) (xs ys : Word) → (s ≡ binary.Equal → ⊥) → (s ≡ binary.Unequal → ⊥) → (s ≡ binary.Less → ⊥) → (s ≡ binary.LessEqual → ⊥) → (s ≡ binary.Greater → ⊥) → (s ≡ binary.GreaterEqual → ⊥) → relation_bit s xs ys ≡ free (Const false)
+no_relation binary.Equal xs ys a b c d e f = absurd (a refl)
+no_relation binary.Unequal xs ys a b c d e f = absurd (b refl)
+no_relation binary.Less xs ys a b c d e f = absurd (c refl)
+no_relation binary.LessEqual xs ys a b c d e f = absurd (d refl)
+no_relation binary.Greater xs ys a b c d e f = absurd (e refl)
+no_relation binary.GreaterEqual xs ys a b c d e f = absurd (f refl)
+no_relation _ xs ys a b c d e f = refl

@@ -1,0 +1,98 @@
+-- Values in so many positions.
+use Rattle.std.proofs.Common.{◌≡◌, ℕ, zero, suc, ◌+◌, ◌/◌, ◌<◌, ◌≤◌, max, Bool, true, false, ◌||◌, List, [], ◌∷◌, ◌++◌, length, get_or, drop, replicate, Result, Ok, Err, IfOk, refl, sym, ap, ap₂, ◌∙◌, subst, arith, append_assoc, append-nil}
+use Rattle.std.proofs.lemmas.List.{drop_all}
+use Rattle.bit_expr.specs.declared.node.ExprId.{ExprId}
+use Rattle.bit_expr.specs.declared.node.Node.{Node}
+use Rattle.bit_expr.specs.Arena.{arena}
+use Rattle.bit_expr.specs.Formulas.{Formula}
+use Rattle.abel_meaning.specs.BitWords.{Word}
+use Rattle.abel_meaning.specs.FormulaBits.{met_by, met_word}
+use Rattle.abel_meaning.specs.Numbers.{Value, either_unknown}
+use Rattle.abel_meaning.specs.Numbers as number
+use Rattle.expr_bits.specs.Making.{AllIn, word_at, ShowsAll}
+use Rattle.expr_bits.specs.Positions.{digit_ids, resized_ids}
+use Rattle.expr_bits.proofs.PositionWords.{digits_in, digits_at, resized_in, resized_at, spread_in, spread_at}
+use Rattle.expr_bits.specs.declared.forms.Bits.{Bits}
+use Rattle.expr_bits.specs.declared.forms.Form.TheVariants as form
+use Rattle.expr_bits.specs.Showing.{HasForm, IsBits}
+
+-- ---- loops: what is there, and what is left
+
+pub grows : (flags left rest all : List Bool) (b : Bool) → left ≡ b ∷ rest → flags ++ left ≡ all → (flags ++ b ∷ []) ++ rest ≡ all
+grows flags left rest all b e f = append_assoc flags (b ∷ []) rest ∙ ap (λ xs. flags ++ xs) (sym e) ∙ f
+
+pub ends : (flags left all : List Bool) → left ≡ [] → flags ++ left ≡ all → flags ≡ all
+ends flags left all e f = sym (append-nil flags) ∙ ap (λ xs. flags ++ xs) (sym e) ∙ f
+
+-- ---- widths
+
+pub digits_length : (w n : ℕ) → length (digit_ids w n) ≡ w
+digits_length zero n = refl
+digits_length (suc w) n = ap suc (digits_length w (n / 2))
+
+pub resized_length : (w : ℕ) (xs : List ExprId) → length (resized_ids w xs) ≡ w
+resized_length zero xs = refl
+resized_length (suc w) [] = ap suc (resized_length w [])
+resized_length (suc w) (x ∷ xs) = ap suc (resized_length w xs)
+
+-- ---- bits by form
+
+pub met_number : (ns : List Node) (b : Bits) (v : Value) (w : Word) (k n : ℕ) → b.form ≡ form.Number n → IsBits (arena ns) b v w → ShowsAll (arena ns) (digit_ids k n) (met_word k v w)
+met_number ns b v w k n e is =
+    let h = subst (λ f. HasForm f v (length b.word)) e is.form in
+    (digits_in ns k n, digits_at ns k n ∙ sym (ap₂ (λ s m. met_by k s m w) h.0.0 h.0.1))
+
+met_first : (fs : List Formula) (k n : ℕ) (ids : List ExprId) → length ids ≡ 1 → AllIn (length fs) ids → ShowsAll fs (replicate k (get_or ids 0 (record { 0 = 0 }))) (met_by k number.Single n (word_at fs ids))
+met_first fs k n [] e a = absurd (omega (arith, e))
+met_first fs k n (x ∷ xs) e a = (spread_in (length fs) k x a.0, spread_at fs k x)
+
+pub met_single : (ns : List Node) (b : Bits) (v : Value) (w : Word) (k : ℕ) → b.form ≡ form.Single → IsBits (arena ns) b v w → ShowsAll (arena ns) (replicate k (get_or b.word 0 (record { 0 = 0 }))) (met_word k v w)
+met_single ns b v w k e is =
+    let h = subst (λ f. HasForm f v (length b.word)) e is.form in
+    let met = met_first (arena ns) k v.number b.word h.1 is.word.0 in
+    (met.0, met.1 ∙ ap₂ (λ s x. met_by k s v.number x) (sym h.0) is.word.1)
+
+pub met_set : (ns : List Node) (b : Bits) (v : Value) (w : Word) (k : ℕ) → b.form ≡ form.Set → IsBits (arena ns) b v w → ShowsAll (arena ns) (resized_ids k b.word) (met_word k v w)
+met_set ns b v w k e is =
+    let h = subst (λ f. HasForm f v (length b.word)) e is.form in
+    (resized_in ns k b.word is.word.0, resized_at ns k b.word ∙ ap₂ (λ s x. met_by k s v.number x) (sym h) is.word.1)
+
+pub if_ok_map : {T E : Type 0} {P Q : T → Type 0} (r : Result T E) → ((x : T) → P x → Q x) → IfOk r P → IfOk r Q
+if_ok_map (Ok x) f h = f x h
+if_ok_map (Err e) f h = tt
+
+-- ---- X on either side
+
+either_none : (xs : List Bool) → either_unknown xs [] ≡ xs
+either_none [] = refl
+either_none (x ∷ xs) = refl
+
+or_false : (b : Bool) → (b || false) ≡ b
+or_false true = refl
+or_false false = refl
+
+none_left : (ys : List Bool) (i : ℕ) → i < length ys → drop i ys ≡ get_or ys i false ∷ drop (i + 1) ys
+none_left [] i h = absurd (omega (arith, h))
+none_left (y ∷ ys) zero h = refl
+none_left (y ∷ ys) (suc i) h =
+    let place : suc (i + 1) ≡ suc i + 1 = omega arith in
+    none_left ys i (omega (arith, h)) ∙ ap (λ n. get_or ys i false ∷ drop n (y ∷ ys)) place
+
+pub either_next : (xs ys : List Bool) (i : ℕ) → i < max (length xs) (length ys) → either_unknown (drop i xs) (drop i ys) ≡ (get_or xs i false || get_or ys i false) ∷ either_unknown (drop (i + 1) xs) (drop (i + 1) ys)
+either_next [] ys i h =
+    ap (λ zs. either_unknown zs (drop i ys)) (drop_all i [] (omega arith))
+    ∙ none_left ys i (omega (arith, h))
+    ∙ ap (λ zs. get_or ys i false ∷ either_unknown zs (drop (i + 1) ys)) (sym (drop_all (i + 1) [] (omega arith)))
+either_next (x ∷ xs) [] i h =
+    ap (λ zs. either_unknown (drop i (x ∷ xs)) zs) (drop_all i [] (omega arith))
+    ∙ either_none (drop i (x ∷ xs))
+    ∙ none_left (x ∷ xs) i (omega (arith, h))
+    ∙ ap₂ (λ b zs. b ∷ zs) (sym (or_false (get_or (x ∷ xs) i false))) (sym (ap (λ zs. either_unknown (drop (i + 1) (x ∷ xs)) zs) (drop_all (i + 1) [] (omega arith)) ∙ either_none (drop (i + 1) (x ∷ xs))))
+either_next (x ∷ xs) (y ∷ ys) zero h = refl
+either_next (x ∷ xs) (y ∷ ys) (suc i) h =
+    let place : suc (i + 1) ≡ suc i + 1 = omega arith in
+    either_next xs ys i (omega (arith, h))
+    ∙ ap (λ n. (get_or xs i false || get_or ys i false) ∷ either_unknown (drop n (x ∷ xs)) (drop n (y ∷ ys))) place
+
+pub either_past : (xs ys : List Bool) (i : ℕ) → max (length xs) (length ys) ≤ i → either_unknown (drop i xs) (drop i ys) ≡ []
+either_past xs ys i h = ap₂ either_unknown (drop_all i xs (omega (arith, h))) (drop_all i ys (omega (arith, h)))

@@ -1,0 +1,124 @@
+-- Operators on two values make the bits of values.
+use Rattle.std.proofs.Common.{◌≡◌, ℕ, zero, suc, ◌+◌, Bool, false, List, [], ◌∷◌, length, map, replicate, Result, Ok, Err, refl, sym, ap, ap₂, ◌∙◌, subst, arith}
+use Rattle.std.proofs.lemmas.List.{length-map, length-replicate}
+use Rattle.std.specs.Global.{Vec}
+use Rattle.bit_expr.specs.declared.node.ExprId.{ExprId}
+use Rattle.bit_expr.specs.declared.node.Node.{Node}
+use Rattle.bit_expr.specs.Arena.{arena, Grew}
+use Rattle.bit_expr.specs.Folding.{Made, free, ◌>>=◌}
+use Rattle.bit_expr.specs.Formulas.{Formula, Const}
+use Rattle.abel_tree.specs.declared.words.Binary.{Binary}
+use Rattle.abel_meaning.specs.BitWords.{Word, operator_bits}
+use Rattle.abel_meaning.specs.FormulaBits.{met_by, met_word, resized, operator_word}
+use Rattle.abel_meaning.specs.Numbers.{Shape, Value, meeting, width_of, digits_low_first}
+use Rattle.abel_meaning.specs.Numbers as number
+use Rattle.abel_meaning.proofs.DigitLaws.{length_digits}
+use Rattle.expr_bits.specs.Making.{ShowsAll, ShowsItems, ShowsOne, IsMade}
+use Rattle.expr_bits.proofs.Making.{grew_none}
+use Rattle.expr_bits.specs.declared.forms.Bits.{Bits}
+use Rattle.expr_bits.specs.declared.forms.Form.{Form}
+use Rattle.expr_bits.specs.declared.forms.Form.TheVariants as form
+use Rattle.expr_bits.specs.Operators.{HasPositions, MeetsAs, operated_part, computed_part, positions_of}
+use Rattle.expr_bits.specs.Parts.{Part, IsPart, with_value, number_part, width_of_two, word_in, computed_value}
+use Rattle.expr_bits.specs.Showing.{HasForm, HasUnknown, IsBits}
+use Rattle.expr_bits.proofs.OperatedBits.{shown_length}
+use Rattle.expr_bits.proofs.WordLengths.{operator_length}
+
+-- ---- how long a word in so many positions is
+
+resized_long : (w : ℕ) (x : Word) → length (resized w x) ≡ w
+resized_long zero x = refl
+resized_long (suc w) [] = ap suc (resized_long w [])
+resized_long (suc w) (x ∷ xs) = ap suc (resized_long w xs)
+
+met_long : (w : ℕ) (s : Shape) (n : ℕ) (x : Word) → (s ≡ number.Single → length x ≡ 1) → length (met_by w s n x) ≡ w
+met_long w number.Number n x h = length-map (digits_low_first w n) Const ∙ length_digits w n
+met_long w number.Single n [] h = let e = h refl in absurd (omega (arith, e))
+met_long w number.Single n (x ∷ xs) h = length-replicate w x
+met_long w (number.Set v) n x h = resized_long w x
+
+one_long : (f : Form) (v : Value) (k : ℕ) → HasForm f v k → v.shape ≡ number.Single → k ≡ 1
+one_long (form.Number n) v k h e = let p = h.0.0 in absurd (cc)
+one_long form.Single v k h e = h.1
+one_long form.Set v k h e = absurd (cc)
+
+pub word_long : (fs : List Formula) (b : Bits) (p : Part) (w : ℕ) → IsPart fs b p → length (word_in w p) ≡ w
+word_long fs b p w is =
+    met_long w p.value.shape p.value.number p.word
+    (λ e. sym (shown_length fs b.word p.word is.word) ∙ one_long b.form p.value (length b.word) is.form e)
+
+-- ---- values that have bits
+
+width_positions : (f : Form) (v : Value) → MeetsAs f v → HasPositions f → width_of v.shape ≡ positions_of v.shape
+width_positions (form.Number n) v h p = absurd p
+width_positions form.Single v h p = ap width_of h.0 ∙ sym (ap positions_of h.0)
+width_positions form.Set v h p = ap width_of h
+
+flags_are : (f : Form) (v : Value) (xs : List Bool) → HasPositions f → xs ≡ v.unknown → HasUnknown f v xs
+flags_are (form.Number n) v xs p e = absurd p
+flags_are form.Single v xs p e = e
+flags_are form.Set v xs p e = e
+
+pub operated_made : (old new : List Node) (left right made : Bits) (sign : Binary) (ids : Vec ExprId) (p q : Part) (width : ℕ) → width ≡ width_of_two p q → IsPart (arena old) left p → IsPart (arena old) right q
+    → IsMade ShowsItems (arena old) (arena new) ids (operator_bits sign (word_in width p) (word_in width q)) → made.word ≡ ids.items → made.unknown ≡ replicate width false → MeetsAs made.form (computed_value sign p q) → HasPositions made.form
+    → IsMade IsPart (arena old) (arena new) made (operated_part sign p q)
+operated_made old new left right made sign ids p q width w l r m words flags meets has =
+    let n = subst (λ k. IsMade ShowsItems (arena old) (arena new) ids (operator_bits sign (word_in k p) (word_in k q))) w m in
+    let wide = width_of_two p q in
+    let pl = word_long (arena old) left p wide l in
+    let ql = word_long (arena old) right q wide r in
+    let long : length made.word ≡ wide = ap length words ∙ shown_length (arena new) ids.items (operator_bits sign (word_in wide p) (word_in wide q)).what n.shows ∙ operator_length sign (word_in wide p) (word_in wide q) (pl ∙ sym ql) ∙ pl in
+    let at : positions_of (computed_value sign p q).shape ≡ length made.word = sym (width_positions made.form (computed_value sign p q) meets has) ∙ sym long in
+    let known : made.unknown ≡ replicate wide false = flags ∙ ap (λ k. replicate k false) w in
+    record {
+      shows = record {
+        form = subst (λ k. HasForm made.form (computed_value sign p q) k) at meets;
+        unknown = flags_are made.form (computed_value sign p q) made.unknown has known;
+        positions = ap length known ∙ length-replicate wide false ∙ sym long;
+        word = (subst (λ xs. ShowsAll (arena new) xs (operator_bits sign (word_in wide p) (word_in wide q)).what) (sym words) n.shows);
+      };
+      grew = n.grew;
+      within = n.within;
+    }
+
+-- ---- one bit
+
+pub one_made : (old new : List Node) (bit : ExprId) (b : Bits) (m : Made Formula) (v : Value) → IsMade ShowsOne (arena old) (arena new) bit m
+    → ((fs : List Formula) (f : Formula) (u : Value) → u.shape ≡ number.Single → u.unknown ≡ false ∷ [] → ShowsOne fs bit f → IsBits fs b u (f ∷ []))
+    → v.shape ≡ number.Single → v.unknown ≡ false ∷ [] → IsMade IsPart (arena old) (arena new) b (with_value v (m >>= λ f. free (f ∷ [])))
+one_made old new bit b m v made by s u =
+    let none : m.nodes ≡ m.nodes + 0 = omega arith in
+    record {
+      shows = by (arena new) m.what v s u made.shows;
+      grew = subst (λ n. Grew (arena old) (arena new) n) none made.grew;
+      within = λ past. made.within (omega (arith, past.0), omega (arith, past.1));
+    }
+
+-- ---- numbers
+
+same_form : (f : Form) (v u : Value) (k : ℕ) → u.shape ≡ v.shape → u.number ≡ v.number → HasForm f v k → HasForm f u k
+same_form (form.Number n) v u k e g h = ((e ∙ h.0.0, g ∙ h.0.1), h.1)
+same_form form.Single v u k e g h = (e ∙ h.0, h.1)
+same_form form.Set v u k e g h = e ∙ h
+
+any_flags : (f : Form) (v u : Value) (k : ℕ) (xs : List Bool) → v.shape ≡ number.Number → HasForm f v k → HasUnknown f u xs
+any_flags (form.Number n) v u k xs e h = tt
+any_flags form.Single v u k xs e h = let p = h.0 in absurd (cc)
+any_flags form.Set v u k xs e h = absurd (cc)
+
+-- the bits of a number say nothing of X positions
+pub number_shown : (fs : List Formula) (b : Bits) (v u : Value) (w : Word) → v.shape ≡ number.Number → u.shape ≡ v.shape → u.number ≡ v.number → IsBits fs b v w → IsBits fs b u w
+number_shown fs b v u w n e g is =
+    record {
+      form = same_form b.form v u (length b.word) e g is.form;
+      unknown = any_flags b.form v u (length b.word) b.unknown n is.form;
+      positions = is.positions;
+      word = is.word;
+    }
+
+pub number_made : (ns : List Node) (b : Bits) (n : ℕ) (sign : Binary) (p q : Part) → IsPart (arena ns) b (number_part n) → MeetsAs (form.Number n) (computed_value sign p q) → IsMade IsPart (arena ns) (arena ns) b (computed_part sign p q)
+number_made ns b n sign p q is meets =
+    let word : operator_word sign (meeting p.value.shape q.value.shape) (word_in (width_of_two p q) p) (word_in (width_of_two p q) q) ≡ free [] = ap (λ s. operator_word sign s (word_in (width_of s) p) (word_in (width_of s) q)) meets.0.0 in
+    let shown = number_shown (arena ns) b (number_part n).value (computed_value sign p q) [] refl meets.0.0 meets.0.1 is in
+    subst (λ m. IsMade IsPart (arena ns) (arena ns) b (with_value (computed_value sign p q) m)) (sym word)
+    (record { shows = shown; grew = grew_none (arena ns); within = λ past. omega (arith, past.0) })

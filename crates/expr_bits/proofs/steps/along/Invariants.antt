@@ -1,0 +1,13 @@
+-- The bits so far with the carry, and what is left.
+use Rattle.bit_expr.specs.Arena.{arena, formula_at}
+use Rattle.expr_bits.specs.Along.{along}
+use Rattle.expr_bits.specs.Making.{word_at}
+use Rattle.expr_bits.proofs.Making.{Going}
+use Rattle.expr_bits.proofs.WordPlaces.{Running, left}
+use Rattle.expr_bits.proofs.steps.along.Given as goal
+
+abbrev pub invariant-loop-i : goal.invariant-loop-i
+invariant-loop-i l =
+    let xs = word_at (arena l.fn.exprs) l.first in
+    let ys = word_at (arena l.fn.exprs) l.second in
+    Going Running l.fn.exprs l.exprs (l.found, l.carry) (left l.step xs ys l.i) (along l.step (formula_at (arena l.fn.exprs) l.fn.carry) xs ys)

@@ -1,0 +1,38 @@
+//! Numbers and single bits.
+
+ghost use Rattle.std.specs.Prelude.{◌≡◌, List, [], ◌∷◌, IfOk};
+ghost use Rattle.bit_expr.specs.Formulas.{Formula};
+ghost use Rattle.abel_meaning.specs.Numbers.{Value};
+ghost use Rattle.abel_meaning.specs.Numbers as number;
+ghost use Rattle.expr_bits.specs.Making.{ShowsOne};
+ghost use Rattle.expr_bits.specs.Parts.{IsPart, number_part};
+ghost use Rattle.expr_bits.specs.Showing.{IsBits};
+
+use crate::forms::{Bits, Form};
+use bit_expr::ExprId;
+use pld_base::{ListOf, OutOfMemory};
+use std::alloc::Global;
+
+/// A number without a width. Takes no memory.
+pub fn number_bits(alloc: Global, number: u32) -> Bits
+    ensures { (fs : List Formula) → IsPart fs result (number_part number) }
+{
+    Bits {
+        form: Form::Number(number),
+        word: ListOf::from_vec(Vec::new(alloc)),
+        unknown: ListOf::from_vec(Vec::new(alloc)),
+    }
+}
+
+/// One bit, X or not.
+pub fn one_bit(alloc: Global, bit: ExprId, unknown: bool) -> Result<Bits, OutOfMemory>
+    ensures { IfOk result (λ b. (fs : List Formula) (f : Formula) (v : Value) → v.shape ≡ number.Single → v.unknown ≡ unknown ∷ [] → ShowsOne fs bit f → IsBits fs b v (f ∷ [])) }
+{
+    let word = vec![in alloc; bit]?;
+    let flags = vec![in alloc; unknown]?;
+    Ok(Bits {
+        form: Form::Single,
+        word: ListOf::from_vec(word),
+        unknown: ListOf::from_vec(flags),
+    })
+}

@@ -1,4 +1,0 @@
-pub mod MetWords
-pub mod OperatedBits
-pub mod TwoValues
-pub mod WordLengths
