@@ -26,12 +26,12 @@ use Rattle.set_expr.specs.declared.contributions.Guard.{Guard}
 use Rattle.set_expr.specs.declared.fault.SectionFault.{SectionFault}
 use Rattle.set_expr.specs.Given.{view_guard, view_gives}
 use Rattle.section_targets.specs.declared.aim.Aim.{Aim}
-use Rattle.guarded_values.specs.declared.giving.Giving.{Giving}
+use Rattle.section_targets.specs.declared.giving.Giving.{Giving}
 use Rattle.section_targets.specs.declared.manner.Manner.{Manner}
 use Rattle.set_expr.specs.Refusals.{Found}
 use Rattle.set_expr.specs.SectionOrder.{section_order}
 use Rattle.section_targets.specs.Building.{StopsWith, IsBuilt, Builds, AreBits}
-use Rattle.guarded_values.specs.GivenUnits.{one_given, each_given, each_part, guard_bit}
+use Rattle.section_targets.specs.GivenUnits.{one_given, each_given, each_part, guard_bit}
 use Rattle.section_targets.specs.Given.{places_of}
 use Rattle.section_targets.specs.Manners.{aims_refused}
 use Rattle.section_targets.specs.TargetSignals.{TargetFound}

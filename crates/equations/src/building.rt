@@ -13,9 +13,8 @@ use crate::conditions::{is_clocked, sign_gives, target_extension};
 use crate::values::value_bits;
 use abel_tree::{Assign, Stmt, When};
 use bit_expr::Exprs;
-use guarded_values::{Giving, give_all};
 use pld_device::Device;
-use section_targets::{Assigned, NamedSignals, left_side};
+use section_targets::{Assigned, Giving, NamedSignals, give_all, left_side};
 use set_expr::{Contribution, Guard, Scope, SectionFault};
 use std::alloc::Global;
 

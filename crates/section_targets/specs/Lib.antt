@@ -1,6 +1,8 @@
 pub mod Appending
 pub mod Building
 pub mod Given
+pub mod GivenUnits
+pub mod Gives
 pub mod Manners
 pub mod NamedTargets
 pub mod TargetSignals

@@ -1,9 +1,10 @@
-//! The signals of targets, how they are assigned, and the nodes and units that sections share.
+//! What equations, tables and diagrams share: targets, units of nodes, and what is given under a guard.
 #![tactic(auto)]
 
 mod aim;
 mod answers;
 mod assigned;
+mod giving;
 mod guards;
 mod manner;
 mod named;
@@ -17,6 +18,7 @@ mod words;
 pub use aim::Aim;
 pub use answers::answer_units;
 pub use assigned::Assigned;
+pub use giving::{Giving, give, give_all};
 pub use guards::guard_else;
 pub use manner::Manner;
 pub use named::NamedSignals;

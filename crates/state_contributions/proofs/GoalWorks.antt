@@ -21,7 +21,7 @@ use Rattle.set_expr.specs.declared.contributions.Contributions.{Contributions}
 use Rattle.set_expr.specs.declared.contributions.Guard.{Guard}
 use Rattle.set_expr.specs.Answer.{Keeps}
 use Rattle.set_expr.specs.Given.{view_guard}
-use Rattle.guarded_values.proofs.Gives.{stops_nodes}
+use Rattle.section_targets.proofs.Gives.{stops_nodes}
 use Rattle.equations.proofs.BuiltParts.{stops_longer}
 use Rattle.equations.proofs.BuiltUnits.{guard_kept}
 use Rattle.set_expr.specs.declared.fault.SectionFault.{SectionFault}

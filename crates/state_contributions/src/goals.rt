@@ -11,10 +11,9 @@ ghost use Rattle.state_contributions.specs.Goals.{GivesRegister, GivesRegisters,
 use abel_tree::Goal;
 use bit_expr::{ExprId, Exprs};
 use equations::{refuse_value, refused_unit, value_bits};
-use guarded_values::{Giving, give};
 use pld_base::Place;
 use pld_device::Device;
-use section_targets::Aim;
+use section_targets::{Aim, Giving, give};
 use set_expr::{Contribution, Gives, Guard, Scope, SectionFault};
 use std::alloc::Global;
 use table_contributions::{Assigning, give_output};

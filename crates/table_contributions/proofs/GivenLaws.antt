@@ -19,10 +19,10 @@ use Rattle.set_expr.specs.declared.contributions.Guard.{Guard}
 use Rattle.set_expr.specs.declared.fault.SectionFault.{SectionFault}
 use Rattle.set_expr.specs.Given.{view_gives, view_guard}
 use Rattle.section_targets.specs.declared.aim.Aim.{Aim}
-use Rattle.guarded_values.specs.declared.giving.Giving.{Giving}
+use Rattle.section_targets.specs.declared.giving.Giving.{Giving}
 use Rattle.section_targets.specs.Building.{StopsWith, IsBuilt, Builds}
 use Rattle.section_targets.specs.Given.{AreNamed}
-use Rattle.guarded_values.specs.Gives.{GivesOne}
+use Rattle.section_targets.specs.Gives.{GivesOne}
 use Rattle.section_targets.specs.Units.{part}
 use Rattle.section_targets.proofs.Built.{builds_then, builds_stop}
 use Rattle.section_targets.proofs.MetWords.{low_bit, high_bit}

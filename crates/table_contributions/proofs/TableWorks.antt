@@ -28,7 +28,7 @@ use Rattle.section_targets.specs.declared.manner.Manner.{Manner}
 use Rattle.section_targets.specs.Building.{AtRefusal, stop_of, StopsWith, Builds}
 use Rattle.section_targets.specs.Units.{CountedUnit}
 use Rattle.section_targets.proofs.Built.{left_empty, right_empty}
-use Rattle.guarded_values.proofs.Gives.{stops_nodes}
+use Rattle.section_targets.proofs.Gives.{stops_nodes}
 use Rattle.section_targets.proofs.Parts.{leaves_nodes}
 use Rattle.truth_tables.specs.OutputHeaders.{output_header}
 use Rattle.truth_tables.specs.TableUnits.{header_refused, if_none, outputs_refused, places_of, row_units, rows_places, some_aims, units_behind}

@@ -9,9 +9,8 @@ ghost use Rattle.truth_tables.specs.TableUnits.{some_aims};
 ghost use Rattle.table_contributions.specs.Gives.{GivesOutput, GivesValue, GivesPosition};
 
 use bit_expr::{ExprId, Exprs};
-use guarded_values::{Giving, give};
 use pld_base::Place;
-use section_targets::Aim;
+use section_targets::{Aim, Giving, give};
 use set_expr::{Contribution, Gives, Guard, Scope, SectionFault};
 
 /// How the unit at a place gives values to outputs, on the clock or not. The guard's bit doesn't count.

@@ -13,7 +13,7 @@ use Rattle.section_targets.specs.declared.aim.Aim.{Aim}
 use Rattle.section_targets.specs.Given.{AreNamed}
 use Rattle.section_targets.specs.Manners.{AreFirsts}
 use Rattle.section_targets.specs.TargetSignals.{target_member}
-use Rattle.guarded_values.proofs.Gives.{stops_nodes}
+use Rattle.section_targets.proofs.Gives.{stops_nodes}
 use Rattle.section_targets.proofs.Parts.{leaves_nodes}
 use Rattle.equations.proofs.BuiltParts.{some_design, is_some_design}
 use Rattle.equations.proofs.BuiltUnits.{at}

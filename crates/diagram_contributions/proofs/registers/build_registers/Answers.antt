@@ -8,7 +8,7 @@ use Rattle.set_expr.specs.declared.fault.SectionFault.TheVariants as fault
 use Rattle.set_expr.specs.Given.{view_guard}
 use Rattle.section_targets.specs.Given.{AreNamed}
 use Rattle.section_targets.proofs.Built.{keeps_on}
-use Rattle.guarded_values.proofs.Gives.{stops_nodes}
+use Rattle.section_targets.proofs.Gives.{stops_nodes}
 use Rattle.section_targets.proofs.Parts.{leaves_nodes}
 use Rattle.equations.proofs.BuiltUnits.{at}
 use Rattle.truth_tables.specs.TableUnits.{some_aims}

@@ -8,7 +8,7 @@ use Rattle.abel_tree.specs.View.{view}
 use Rattle.set_expr.specs.FoundNames.{expression_found}
 use Rattle.set_expr.specs.SectionOrder.{section_order}
 use Rattle.section_targets.specs.TargetSignals.{left_side}
-use Rattle.guarded_values.proofs.Gives.{stops_nodes}
+use Rattle.section_targets.proofs.Gives.{stops_nodes}
 use Rattle.section_targets.proofs.Parts.{leaves_nodes}
 use Rattle.set_expr.specs.Answer.{IsContextOf}
 use Rattle.abel_meaning.specs.Designs.{Context}

@@ -14,7 +14,7 @@ use Rattle.section_targets.specs.Building.{AreBits}
 use Rattle.section_targets.specs.Given.{AreNamed}
 use Rattle.section_targets.specs.TargetSignals.{left_side}
 use Rattle.section_targets.proofs.Built.{kept_formula, kept_inside, keeps_on}
-use Rattle.guarded_values.proofs.Gives.{stops_nodes}
+use Rattle.section_targets.proofs.Gives.{stops_nodes}
 use Rattle.section_targets.proofs.SideTerms.{side_positions}
 use Rattle.section_targets.proofs.SmallTargets.{side_few}
 use Rattle.equations.proofs.BuiltParts.{some_design, is_some_design, stops_longer, keeps_longer}

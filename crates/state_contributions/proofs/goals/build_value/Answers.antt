@@ -12,7 +12,7 @@ use Rattle.set_expr.specs.Given.{view_guard}
 use Rattle.set_expr.specs.SectionOrder.{section_order}
 use Rattle.section_targets.specs.ValueWidths.{value_refused, value_width}
 use Rattle.section_targets.proofs.Built.{left_empty}
-use Rattle.guarded_values.proofs.Gives.{stops_nodes}
+use Rattle.section_targets.proofs.Gives.{stops_nodes}
 use Rattle.section_targets.proofs.Parts.{leaves_nodes}
 use Rattle.equations.proofs.BuiltParts.{refused_whole, value_accepted}
 use Rattle.equations.proofs.BuiltUnits.{at}

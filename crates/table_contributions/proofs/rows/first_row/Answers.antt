@@ -7,7 +7,7 @@ use Rattle.abel_meaning.specs.CountedNodes.{term_nodes}
 use Rattle.row_entries.specs.EntryTerms.{IsOver}
 use Rattle.set_expr.specs.declared.fault.SectionFault.TheVariants.{BadRow, OutOfMemory}
 use Rattle.set_expr.specs.Given.{view_guard}
-use Rattle.guarded_values.proofs.Gives.{stops_nodes}
+use Rattle.section_targets.proofs.Gives.{stops_nodes}
 use Rattle.section_targets.proofs.Parts.{leaves_nodes}
 use Rattle.equations.proofs.BuiltUnits.{at}
 use Rattle.table_contributions.specs.Rows.{row_work}

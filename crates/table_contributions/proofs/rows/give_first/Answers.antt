@@ -9,7 +9,7 @@ use Rattle.abel_meaning.specs.Terms.{term_of}
 use Rattle.set_expr.specs.Answer.{AreIn}
 use Rattle.set_expr.specs.Given.{view_guard}
 use Rattle.section_targets.proofs.Built.{keeps_on}
-use Rattle.guarded_values.proofs.Gives.{stops_nodes}
+use Rattle.section_targets.proofs.Gives.{stops_nodes}
 use Rattle.equations.proofs.BuiltParts.{some_design, is_some_design, stops_longer, keeps_longer}
 use Rattle.equations.proofs.BuiltUnits.{at}
 use Rattle.row_products.specs.Products.{header_literals}

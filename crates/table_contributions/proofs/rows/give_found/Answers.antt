@@ -7,7 +7,7 @@ use Rattle.set_expr.specs.Given.{view_guard}
 use Rattle.section_targets.specs.Building.{BuildsNodes, IsBit}
 use Rattle.section_targets.specs.Units.{part}
 use Rattle.section_targets.proofs.Built.{keeps_on}
-use Rattle.guarded_values.proofs.Gives.{stops_nodes}
+use Rattle.section_targets.proofs.Gives.{stops_nodes}
 use Rattle.bit_expr.specs.declared.node.ExprId.{ExprId}
 use Rattle.equations.proofs.BuiltUnits.{at}
 use Rattle.table_contributions.specs.Gives.{GivesPositions}

@@ -9,9 +9,9 @@ use Rattle.abel_meaning.specs.Designs.{Context}
 use Rattle.set_expr.specs.declared.contributions.Contribution.{Contribution}
 use Rattle.set_expr.specs.declared.fault.SectionFault.{SectionFault}
 use Rattle.section_targets.specs.declared.aim.Aim.{Aim}
-use Rattle.guarded_values.specs.declared.giving.Giving.{Giving}
+use Rattle.section_targets.specs.declared.giving.Giving.{Giving}
 use Rattle.section_targets.specs.Building.{Builds}
-use Rattle.guarded_values.specs.GivenUnits.{one_given, one_part, each_given, each_part}
+use Rattle.section_targets.specs.GivenUnits.{one_given, one_part, each_given, each_part}
 use Rattle.section_targets.specs.Given.{places_of}
 
 -- one signal, over every design of these names

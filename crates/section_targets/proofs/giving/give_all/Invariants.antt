@@ -5,9 +5,9 @@ use Rattle.abel_tree.specs.Entries.{entries_of}
 use Rattle.abel_meaning.specs.Designs.{Context}
 use Rattle.set_expr.specs.Answer.{Keeps}
 use Rattle.section_targets.specs.Building.{IsBuilt}
-use Rattle.guarded_values.specs.GivenUnits.{each_given, each_part}
+use Rattle.section_targets.specs.GivenUnits.{each_given, each_part}
 use Rattle.section_targets.specs.Given.{places_of}
-use Rattle.guarded_values.proofs.giving.give_all.Given as goal
+use Rattle.section_targets.proofs.giving.give_all.Given as goal
 
 abbrev pub invariant-loop-index : goal.invariant-loop-index
 invariant-loop-index l =

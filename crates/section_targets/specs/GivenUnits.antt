@@ -9,7 +9,7 @@ use Rattle.abel_meaning.specs.Designs.{Context}
 use Rattle.set_expr.specs.Given.{view_gives, view_guard}
 use Rattle.section_targets.specs.declared.aim.Aim.{Aim}
 use Rattle.section_targets.specs.Units.{CountedUnit, part}
-use Rattle.guarded_values.specs.declared.giving.Giving.{Giving}
+use Rattle.section_targets.specs.declared.giving.Giving.{Giving}
 
 -- the guard's formula
 abbrev pub guard_bit : List Formula → Giving → Formula

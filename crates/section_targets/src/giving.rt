@@ -9,13 +9,14 @@ ghost use Rattle.abel_meaning.specs.Designs.{Context, name_at};
 ghost use Rattle.set_expr.specs.Answer.{Keeps};
 ghost use Rattle.set_expr.specs.Given.{view_guard};
 ghost use Rattle.section_targets.specs.Given.{AreNamed, AreIn};
-ghost use Rattle.guarded_values.specs.Gives.{GivesOne, GivesAll};
+ghost use Rattle.section_targets.specs.Gives.{GivesOne, GivesAll};
 
+use crate::aim::Aim;
+use crate::nodes::add_node;
 use abel_tree::{Attributes, Extension};
 use bit_expr::{ExprId, Exprs, Node};
 use bitflags::Flags;
 use pld_base::Place;
-use section_targets::{Aim, add_node};
 use set_expr::{Contribution, Gives, Guard, Scope, SectionFault, Target};
 
 /// How the unit at a place gives values to signals: under a guard, to what an extension names of them or to the

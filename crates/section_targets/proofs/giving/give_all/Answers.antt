@@ -2,8 +2,8 @@ use Rattle.std.proofs.Common.{◌+◌, sym, Ok, Err, arith}
 use Rattle.std.proofs.lemmas.Result.{err_from_is_err_and}
 use Rattle.bit_expr.specs.Arena.{arena}
 use Rattle.section_targets.proofs.Built.{kept_inside, keeps_on}
-use Rattle.guarded_values.proofs.Gives.{each_next, each_stops_at, each_all}
-use Rattle.guarded_values.proofs.giving.give_all.Goals as goal
+use Rattle.section_targets.proofs.Gives.{each_next, each_stops_at, each_all}
+use Rattle.section_targets.proofs.giving.give_all.Goals as goal
 
 pub give-requires-clause-guard : goal.give-requires-clause-guard
 give-requires-clause-guard c = kept_inside _ _ c.args.giving.guard.when c.loop-index.invariant.0 c.requires.guard

@@ -1,8 +1,8 @@
 use Rattle.std.proofs.Common.{refl}
 use Rattle.std.proofs.lemmas.Result.{err_from_is_err_and}
 use Rattle.bit_expr.specs.Arena.{arena}
-use Rattle.guarded_values.proofs.Gives.{stops_nodes, memory_after, given_after}
-use Rattle.guarded_values.proofs.giving.give.Goals as goal
+use Rattle.section_targets.proofs.Gives.{stops_nodes, memory_after, given_after}
+use Rattle.section_targets.proofs.giving.give.Goals as goal
 
 pub returns-in_err-when-clause-builds : goal.returns-in_err-when-clause-builds
 returns-in_err-when-clause-builds c = λ d e.

@@ -14,8 +14,8 @@ use Rattle.set_expr.specs.Answer.{Keeps}
 use Rattle.set_expr.specs.Given.{view_contribution}
 use Rattle.abel_meaning.specs.Designs.{Context}
 use Rattle.section_targets.specs.declared.aim.Aim.{Aim}
-use Rattle.guarded_values.specs.declared.giving.Giving.{Giving}
-use Rattle.guarded_values.specs.GivenUnits.{one_given, one_part, each_given, each_part}
+use Rattle.section_targets.specs.declared.giving.Giving.{Giving}
+use Rattle.section_targets.specs.GivenUnits.{one_given, one_part, each_given, each_part}
 use Rattle.section_targets.specs.Given.{places_of}
 use Rattle.std.proofs.lemmas.List.{map-append, length-map, take-append-drop, length-take-le}
 use Rattle.std.proofs.Math.Seq.{take-suc, take-length}

@@ -1,2 +1,0 @@
-pub mod GivenUnits
-pub mod Gives
