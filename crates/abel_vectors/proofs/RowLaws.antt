@@ -17,11 +17,11 @@ use Rattle.set_expr.specs.Answer.{IsContextOf}
 use Rattle.set_expr.specs.declared.fault.SectionFault.{SectionFault}
 use Rattle.set_expr.specs.declared.fault.SectionFault.TheVariants.{BadVector}
 use Rattle.set_expr.specs.SectionOrder.{section_order}
-use Rattle.row_entries.specs.declared.entries.Entry.{Entry}
-use Rattle.row_entries.specs.declared.entries.Entry.TheVariants as entry
-use Rattle.row_entries.specs.EntryMarks.{IsRead}
-use Rattle.row_entries.specs.EntryTerms.{IsOver}
-use Rattle.row_entries.specs.RowEntries.{entry_refused}
+use Rattle.truth_tables.specs.declared.entries.Entry.{Entry}
+use Rattle.truth_tables.specs.declared.entries.Entry.TheVariants as entry
+use Rattle.truth_tables.specs.EntryMarks.{IsRead}
+use Rattle.truth_tables.specs.EntryTerms.{IsOver}
+use Rattle.truth_tables.specs.RowEntries.{entry_refused}
 use Rattle.abel_vectors.specs.declared.given.Given.{Given}
 use Rattle.abel_vectors.specs.declared.rows.Row.{Row}
 use Rattle.abel_vectors.specs.declared.rows.Row.TheVariants as row

@@ -13,8 +13,8 @@ use Rattle.set_expr.specs.declared.fault.SectionFault.{SectionFault}
 use Rattle.set_expr.specs.declared.fault.SectionFault.TheVariants.{BadVector}
 use Rattle.set_expr.specs.FoundNames.{expression_found}
 use Rattle.set_expr.specs.SectionOrder.{section_order}
-use Rattle.row_entries.specs.HeaderSignals.{names_positions, all_name_positions}
-use Rattle.row_entries.proofs.ReadLaws.{inside_first, none_unmet, none_met}
+use Rattle.truth_tables.specs.HeaderSignals.{names_positions, all_name_positions}
+use Rattle.truth_tables.proofs.ReadLaws.{inside_first, none_unmet, none_met}
 use Rattle.abel_vectors.specs.HeaderSides.{is_pin_or_unknown}
 use Rattle.abel_vectors.specs.VectorRefusals.{names_pins, all_name_pins, side_refused}
 

@@ -17,8 +17,8 @@ use Rattle.abel_meaning.specs.Vectors.{input_char, output_char, char_given, char
 use Rattle.set_expr.specs.declared.fault.SectionFault.{SectionFault}
 use Rattle.set_expr.specs.declared.fault.SectionFault.TheVariants.{BadVector}
 use Rattle.set_expr.specs.SectionOrder.{section_order}
-use Rattle.row_entries.specs.declared.entries.Entry.{Entry}
-use Rattle.row_entries.specs.declared.entries.Entry.TheVariants as entry
+use Rattle.truth_tables.specs.declared.entries.Entry.{Entry}
+use Rattle.truth_tables.specs.declared.entries.Entry.TheVariants as entry
 use Rattle.abel_vectors.specs.declared.headers.Side.{Side}
 use Rattle.abel_vectors.specs.declared.rows.Row.{Row}
 use Rattle.abel_vectors.specs.declared.rows.Row.TheVariants as row

@@ -14,7 +14,7 @@ use Rattle.abel_meaning.specs.Vectors.{input_char, output_char}
 use Rattle.set_expr.specs.declared.fault.SectionFault.{SectionFault}
 use Rattle.set_expr.specs.declared.fault.SectionFault.TheVariants.{BadVector}
 use Rattle.set_expr.specs.FoundNames.{expression_found}
-use Rattle.row_entries.specs.RowEntries.{unless_met, entry_refused}
+use Rattle.truth_tables.specs.RowEntries.{unless_met, entry_refused}
 
 -- ---- headers
 

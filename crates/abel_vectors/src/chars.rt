@@ -3,10 +3,10 @@
 ghost use Rattle.std.specs.Prelude.{◌≡◌};
 ghost use Rattle.pld_device.specs.Macrocells.{complement_if};
 ghost use Rattle.abel_meaning.specs.Vectors as meant;
-ghost use Rattle.row_entries.specs.EntryMarks.{view_mark};
+ghost use Rattle.truth_tables.specs.EntryMarks.{view_mark};
 ghost use Rattle.abel_vectors.specs.GivenChars.{char_in};
 
-use row_entries::Mark;
+use truth_tables::Mark;
 
 /// Whether positions are driven, as inputs, or tested, as outputs.
 #[derive(Clone, Copy, PartialEq, Eq)]

@@ -3,7 +3,7 @@
 ghost use Rattle.std.specs.Prelude.{◌≡◌, ◌∷◌, Option, IfOk, [], map, option_map};
 ghost use Rattle.abel_tree.specs.Entries.{entries_of, view_meaning};
 ghost use Rattle.abel_meaning.specs.Designs.{Context, name_at};
-ghost use Rattle.row_entries.specs.EntryMarks.{view_mark};
+ghost use Rattle.truth_tables.specs.EntryMarks.{view_mark};
 ghost use Rattle.abel_vectors.specs.GivenChars.{Adds, IsGiven, char_in, found_at, pair_of, pairs_of, position_gives};
 ghost use Rattle.abel_vectors.specs.VectorRefusals.{char_for, char_if, chars_for};
 
@@ -12,9 +12,9 @@ use crate::headers::both;
 use crate::pulses::{either, mark_at, tests_pulse};
 use abel_tree::Meaning;
 use pld_base::OutOfMemory;
-use row_entries::Mark;
 use set_expr::Scope;
 use std::alloc::Global;
+use truth_tables::Mark;
 
 /// A pin with the character that is given to it.
 #[derive(Clone, Copy, PartialEq, Eq)]

@@ -6,15 +6,15 @@ ghost use Rattle.abel_tree.specs.Entries.{entries_of, view_meaning};
 ghost use Rattle.abel_tree.specs.View.{view};
 ghost use Rattle.abel_meaning.specs.Designs.{Context, name_at};
 ghost use Rattle.set_expr.specs.FoundNames.{expression_found};
-ghost use Rattle.row_entries.specs.EntryTerms.{IsOver};
+ghost use Rattle.truth_tables.specs.EntryTerms.{IsOver};
 ghost use Rattle.abel_vectors.specs.HeaderSides.{IsSide, is_pin_or_unknown};
 ghost use Rattle.abel_vectors.specs.VectorRefusals.{is_pin};
 
 use abel_tree::{Expr, Meaning};
 use pld_base::{OutOfMemory, Place};
-use row_entries::header_signals;
 use set_expr::{Scope, SectionFault};
 use std::alloc::Global;
+use truth_tables::header_signals;
 
 /// What is found of a side of a header: its first refusal, or its pins from the left as numbers of names, None at X.
 #[derive(Drop)]

@@ -1,11 +1,11 @@
 //! `.C.` at a pin that is tested.
 
 ghost use Rattle.std.specs.Prelude.{◌≡◌, ◌||◌, map, option_map, slice_get};
-ghost use Rattle.row_entries.specs.EntryMarks.{view_mark};
+ghost use Rattle.truth_tables.specs.EntryMarks.{view_mark};
 ghost use Rattle.abel_vectors.specs.GivenChars.{position_pulses};
 ghost use Rattle.abel_vectors.specs.VectorRefusals as meant;
 
-use row_entries::Mark;
+use truth_tables::Mark;
 
 /// Whether a mark is `.C.` at a position that is a pin, if there is one.
 fn is_pulsed(signal: Option<u32>, mark: Option<Mark>) -> bool

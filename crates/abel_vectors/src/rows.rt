@@ -7,7 +7,7 @@ ghost use Rattle.abel_meaning.specs.Designs.{Context};
 ghost use Rattle.abel_meaning.specs.Targets.{targets_of};
 ghost use Rattle.set_expr.specs.Answer.{IsContextOf};
 ghost use Rattle.set_expr.specs.SectionOrder.{section_order};
-ghost use Rattle.row_entries.specs.EntryMarks.{view_mark};
+ghost use Rattle.truth_tables.specs.EntryMarks.{view_mark};
 ghost use Rattle.abel_vectors.specs.ReadRows.{AddsRow, AreRead, IsMarkedRow, IsReadRow, entry_fault, header_term, room_fault};
 
 use crate::given::row_chars;
@@ -15,9 +15,9 @@ use crate::pins::vector_of;
 use abel_tree::{VectorRow, Vectors};
 use pld_base::{OutOfMemory, Place, Vector};
 use pld_device::Device;
-use row_entries::{Entry, Mark, read_entry};
 use set_expr::{Scope, SectionFault, earlier};
 use std::alloc::Global;
+use truth_tables::{Entry, Mark, read_entry};
 
 /// The most vectors of a source.
 const MOST: u32 = 9_999;

@@ -25,9 +25,9 @@ use Rattle.section_targets.specs.Units.{CountedUnit}
 use Rattle.equations.proofs.BuiltUnits.{at}
 use Rattle.state_diagrams.specs.DiagramUnits.{signals_of, units_of_states}
 use Rattle.truth_tables.specs.TableUnits as tables
-use Rattle.table_contributions.specs.Gives as header
-use Rattle.table_contributions.specs.Works.{Work, before, given_freely}
-use Rattle.table_contributions.proofs.WorkLaws.{DoesWork, step_stops, step_then}
+use Rattle.truth_tables.specs.Gives as header
+use Rattle.truth_tables.specs.Works.{Work, before, given_freely}
+use Rattle.truth_tables.proofs.WorkLaws.{DoesWork, step_stops, step_then}
 use Rattle.state_matches.specs.Matches.{GivesMatches, matches_beside, other_firsts, other_places}
 use Rattle.state_matches.proofs.GuardsOfStates.{others_matched, places_of_any}
 use Rattle.diagram_contributions.specs.DiagramPlaces.{no_block, states_places}

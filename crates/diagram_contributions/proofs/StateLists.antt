@@ -24,8 +24,8 @@ use Rattle.state_diagrams.specs.DiagramUnits.{signals_of, state_manners, states_
 use Rattle.state_diagrams.specs.StateValues.{listed_after}
 use Rattle.state_refusals.specs.Checks.{listed_behind}
 use Rattle.state_refusals.proofs.StateLaws.{listed_more, states_noted}
-use Rattle.table_contributions.specs.Works.{Work, before, nothing, IsBegun}
-use Rattle.table_contributions.proofs.WorkLaws.{DoesWork, before_none, begun_next, begun_stops}
+use Rattle.truth_tables.specs.Works.{Work, before, nothing, IsBegun}
+use Rattle.truth_tables.proofs.WorkLaws.{DoesWork, before_none, begun_next, begun_stops}
 use Rattle.diagram_contributions.specs.DiagramWorks.{state_work, states_work}
 use Rattle.diagram_contributions.proofs.StateWorks.{sized}
 

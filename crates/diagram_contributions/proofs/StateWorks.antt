@@ -28,8 +28,8 @@ use Rattle.equations.proofs.BuiltUnits.{at}
 use Rattle.state_diagrams.specs.DiagramUnits.{signals_of, state_guard, units_within}
 use Rattle.state_diagrams.specs.StateValues.{state_number, state_refused}
 use Rattle.state_guards.specs.StateGuards.{number_guard}
-use Rattle.table_contributions.specs.Works.{Work}
-use Rattle.table_contributions.proofs.WorkLaws.{DoesWork, step_stops, step_then}
+use Rattle.truth_tables.specs.Works.{Work}
+use Rattle.truth_tables.proofs.WorkLaws.{DoesWork, step_stops, step_then}
 use Rattle.diagram_contributions.specs.DiagramPlaces.{state_places}
 use Rattle.diagram_contributions.specs.DiagramWorks.{number_work, state_bit, state_work, where_holds, within_work}
 

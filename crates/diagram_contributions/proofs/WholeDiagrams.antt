@@ -29,8 +29,8 @@ use Rattle.equations.proofs.BuiltUnits.{at}
 use Rattle.state_diagrams.specs.DiagramUnits.{register_manners, registers_refused, signals_of, units_behind, units_of_states}
 use Rattle.state_diagrams.specs.StateValues.{if_none}
 use Rattle.state_refusals.specs.Checks.{units_of}
-use Rattle.table_contributions.proofs.TableWorks.{header_stops}
-use Rattle.table_contributions.proofs.WorkLaws.{DoesWork}
+use Rattle.truth_tables.proofs.TableWorks.{header_stops}
+use Rattle.truth_tables.proofs.WorkLaws.{DoesWork}
 use Rattle.diagram_contributions.specs.DiagramAnswers.{given_by, places_by}
 use Rattle.diagram_contributions.specs.DiagramPlaces.{aims_places}
 use Rattle.diagram_contributions.specs.DiagramWorks.{registers_work}

@@ -27,8 +27,8 @@ use Rattle.section_targets.specs.Units.{part}
 use Rattle.equations.specs.StatementUnits.{statements_places, units_of_statements}
 use Rattle.state_diagrams.specs.DiagramUnits.{signals_of, state_guard, units_of_state, units_of_states, units_within}
 use Rattle.state_diagrams.specs.StateValues.{state_refused}
-use Rattle.table_contributions.specs.Rows.{Does}
-use Rattle.table_contributions.specs.Works.{Work}
+use Rattle.truth_tables.specs.Rows.{Does}
+use Rattle.truth_tables.specs.Works.{Work}
 use Rattle.state_guards.specs.StateGuards.{number_guard}
 use Rattle.state_matches.specs.Matches.{other_places}
 use Rattle.diagram_contributions.specs.DiagramPlaces.{aims_places, state_places, states_places}

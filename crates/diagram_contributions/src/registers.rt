@@ -19,7 +19,7 @@ use section_targets::{Aim, Assigned, NamedSignals};
 use set_expr::{Contribution, Guard, Scope, SectionFault};
 use state_matches::give_matches;
 use std::alloc::{AllocError, Global};
-use table_contributions::{Assigning, give_no_matches};
+use truth_tables::{Assigning, give_no_matches};
 
 /// Registers as the outputs of a header without X.
 fn outputs_of(alloc: Global, registers: &[Aim]) -> Result<Vec<Option<Aim>>, AllocError>

@@ -14,7 +14,7 @@ use pld_device::Device;
 use section_targets::{Assigned, NamedSignals};
 use set_expr::{Contribution, Guard, Scope, SectionFault};
 use std::alloc::Global;
-use table_contributions::build_table;
+use truth_tables::build_table;
 
 /// What stands round a table, a diagram or the statements of a section: no condition.
 fn unguarded(dontcare: bool, block: Option<u32>) -> Guard

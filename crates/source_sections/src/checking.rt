@@ -13,7 +13,7 @@ use section_targets::{Assigned, NamedSignals};
 use set_expr::{Scope, SectionFault, earlier};
 use state_refusals::check_diagram;
 use std::alloc::Global;
-use table_refusals::check_table;
+use truth_tables::check_table;
 
 /// The first refusal, by place, of a section behind what was assigned before; how it assigns signals is noted.
 fn check_section<D: Device>(

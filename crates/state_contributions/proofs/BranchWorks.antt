@@ -36,8 +36,8 @@ use Rattle.section_targets.proofs.Built.{builds_none, builds_then, builds_stop, 
 use Rattle.equations.specs.Builds.{condition_unit}
 use Rattle.equations.specs.StatementUnits.{statements_places, units_of_statements}
 use Rattle.state_diagrams.specs.DiagramUnits.{branch_manners, branches_manners, choices_manners, choices_refused, signals_of, units_of_choices}
-use Rattle.table_contributions.specs.Works.{Work, before, nothing}
-use Rattle.table_contributions.proofs.WorkLaws.{DoesWork, before_none, step_stops, step_then}
+use Rattle.truth_tables.specs.Works.{Work, before, nothing}
+use Rattle.truth_tables.proofs.WorkLaws.{DoesWork, before_none, step_stops, step_then}
 use Rattle.state_contributions.specs.Branches.{branch_work, branches_work, choices_work, guard_of}
 use Rattle.state_contributions.specs.Places.{choices_places, goal_places}
 

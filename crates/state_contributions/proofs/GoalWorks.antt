@@ -31,8 +31,8 @@ use Rattle.section_targets.specs.Units.{part, units_nodes}
 use Rattle.section_targets.proofs.Built.{builds_then, builds_stop, kept_formula}
 use Rattle.section_targets.proofs.OneUnit.{AreParts, one_unit}
 use Rattle.state_diagrams.specs.DiagramUnits.{signals_of}
-use Rattle.table_contributions.specs.Works.{before, nothing}
-use Rattle.table_contributions.proofs.WorkLaws.{DoesWork}
+use Rattle.truth_tables.specs.Works.{before, nothing}
+use Rattle.truth_tables.proofs.WorkLaws.{DoesWork}
 use Rattle.state_contributions.specs.Goals.{goal_parts, goal_unit, goal_work}
 use Rattle.state_contributions.specs.Places.{goal_places}
 

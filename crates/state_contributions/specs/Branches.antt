@@ -25,8 +25,8 @@ use Rattle.section_targets.specs.Building.{BuildsNodes, IsBit}
 use Rattle.section_targets.specs.Manners.{AreFirsts}
 use Rattle.section_targets.specs.Units.{part}
 use Rattle.state_diagrams.specs.DiagramUnits.{choices_refused, signals_of, units_of_branch, units_of_branches, units_of_choices}
-use Rattle.table_contributions.specs.Rows.{Does}
-use Rattle.table_contributions.specs.Works.{Work}
+use Rattle.truth_tables.specs.Rows.{Does}
+use Rattle.truth_tables.specs.Works.{Work}
 use Rattle.state_contributions.specs.Places.{branch_places, branches_places, choices_places}
 
 -- ---- units with what they give to these registers, under a guard of formulas and behind what was assigned

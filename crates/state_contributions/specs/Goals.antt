@@ -27,8 +27,8 @@ use Rattle.section_targets.specs.declared.aim.Aim.{Aim}
 use Rattle.section_targets.specs.Units.{CountedUnit, part}
 use Rattle.section_targets.specs.ValueWidths.{value_refused}
 use Rattle.state_diagrams.specs.DiagramUnits.{signals_of}
-use Rattle.table_contributions.specs.Rows.{Does}
-use Rattle.table_contributions.specs.Works.{Work}
+use Rattle.truth_tables.specs.Rows.{Does}
+use Rattle.truth_tables.specs.Works.{Work}
 use Rattle.state_contributions.specs.Places.{goal_places}
 
 -- the parts of the unit at a place that give registers their bits, from the left

@@ -16,7 +16,7 @@ use pld_device::Device;
 use section_targets::{Aim, Giving, give};
 use set_expr::{Contribution, Gives, Guard, Scope, SectionFault};
 use std::alloc::Global;
-use table_contributions::{Assigning, give_output};
+use truth_tables::{Assigning, give_output};
 
 /// A register is given its bit of a goal under a guard, and a match, as parts of the unit at this place.
 fn give_register(

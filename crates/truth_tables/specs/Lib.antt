@@ -1,2 +1,17 @@
+pub mod Checks
+pub mod EntryMarks
+pub mod EntryTerms
+pub mod Gives
+pub mod HeaderSignals
+pub mod Headers
 pub mod OutputHeaders
+pub mod PairTerms
+pub mod PartTerms
+pub mod Products
+pub mod RowEntries
+pub mod RowLevels
+pub mod Rows
+pub mod SignalTerms
+pub mod TableAnswers
 pub mod TableUnits
+pub mod Works

@@ -16,7 +16,7 @@ use Rattle.set_expr.specs.FoundNames.{name_found, names_found, found_use}
 use Rattle.set_expr.specs.Refusals.{too_wide}
 use Rattle.section_targets.specs.declared.aim.Aim.{Aim}
 use Rattle.section_targets.specs.TargetSignals.{first_name}
-use Rattle.row_entries.specs.HeaderSignals.{names_positions}
+use Rattle.truth_tables.specs.HeaderSignals.{names_positions}
 
 -- what is found of an output header: its refusals, and its positions from the left, none at X
 pub record HeaderFound : Type 0 where

@@ -11,7 +11,7 @@ use Rattle.abel_meaning.specs.Terms.{Term, term_of}
 use Rattle.set_expr.specs.declared.fault.SectionFault.{SectionFault}
 use Rattle.set_expr.specs.declared.fault.SectionFault.TheVariants.{BadRow}
 use Rattle.set_expr.specs.FoundNames.{names_found, expression_found}
-use Rattle.row_entries.specs.RowEntries.{holds_pulse, entry_refused}
+use Rattle.truth_tables.specs.RowEntries.{holds_pulse, entry_refused}
 use Rattle.section_targets.specs.declared.aim.Aim.{Aim}
 use Rattle.section_targets.specs.declared.manner.Manner.{Manner}
 use Rattle.section_targets.specs.Manners.{manner_of, aims_refused}

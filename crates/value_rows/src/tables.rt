@@ -8,9 +8,8 @@ use devices::Pal16L8;
 use section_targets::Assigned;
 use set_expr::{Contribution, Gives, Guard, Scope};
 use std::alloc::Global;
-use table_contributions::build_table;
-use table_refusals::check_table;
 use test_rows::Found;
+use truth_tables::{build_table, check_table};
 
 /// The table is the first block.
 const FIRST: Guard = Guard {

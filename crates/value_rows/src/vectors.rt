@@ -6,10 +6,10 @@ use abel_tree::{Expr, Module, Section, Vectors};
 use abel_vectors::{Side, read_side, vectors};
 use pld_base::Place;
 use pld_device::Sample;
-use row_entries::{Entry, Mark, read_entry};
 use set_expr::{Scope, SectionFault};
 use std::alloc::Global;
 use test_rows::Found;
+use truth_tables::{Entry, Mark, read_entry};
 
 /// Where the text of a row begins.
 const HERE: Place = Place {

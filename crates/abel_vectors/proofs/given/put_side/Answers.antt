@@ -1,7 +1,7 @@
 -- One position more, and all.
 use Rattle.std.proofs.Common.{None, get_or, map, ap, ◌∙◌, subst, arith}
 use Rattle.std.proofs.lemmas.List.{take_all}
-use Rattle.row_entries.specs.EntryMarks.{view_mark}
+use Rattle.truth_tables.specs.EntryMarks.{view_mark}
 use Rattle.abel_vectors.specs.GivenChars.{Adds, char_in, position_gives}
 use Rattle.abel_vectors.specs.VectorRefusals.{chars_for}
 use Rattle.abel_vectors.proofs.PositionLaws.{side_more}

@@ -2,7 +2,7 @@
 use Rattle.std.proofs.Common.{◌≡◌, map, take}
 use Rattle.abel_tree.specs.Entries.{entries_of}
 use Rattle.abel_meaning.specs.Designs.{Context}
-use Rattle.row_entries.specs.EntryMarks.{view_mark}
+use Rattle.truth_tables.specs.EntryMarks.{view_mark}
 use Rattle.abel_vectors.specs.GivenChars.{Adds, char_in}
 use Rattle.abel_vectors.specs.VectorRefusals.{chars_for}
 use Rattle.abel_vectors.proofs.given.put_side.Given as goal

@@ -1,6 +1,6 @@
 -- A row that is no vector's, and one that is.
 use Rattle.std.proofs.Common.{not, ◌||◌, [], map, ap, ◌∙◌, subst}
-use Rattle.row_entries.specs.EntryMarks.{view_mark}
+use Rattle.truth_tables.specs.EntryMarks.{view_mark}
 use Rattle.abel_vectors.specs.declared.chars.Role.TheVariants as role
 use Rattle.abel_vectors.specs.GivenChars.{Adds, char_in}
 use Rattle.abel_vectors.specs.VectorRefusals.{chars_for}

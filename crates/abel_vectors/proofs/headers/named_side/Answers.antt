@@ -3,7 +3,7 @@ use Rattle.std.proofs.Common.{◌≡◌, true, false, sym, ap, ◌∙◌, subst}
 use Rattle.std.specs.List.{list_all}
 use Rattle.abel_tree.specs.View.{view}
 use Rattle.abel_meaning.specs.Terms.{term_of}
-use Rattle.row_entries.specs.HeaderSignals.{AreSignals}
+use Rattle.truth_tables.specs.HeaderSignals.{AreSignals}
 use Rattle.abel_vectors.specs.HeaderSides.{is_pin_or_unknown}
 use Rattle.abel_vectors.proofs.SideLaws.{side_unnamed, side_others, side_pins}
 use Rattle.abel_vectors.proofs.headers.named_side.Goals as goal

@@ -4,7 +4,7 @@ use Rattle.std.proofs.lemmas.Result.{IfOk-weaker}
 use Rattle.abel_tree.specs.View.{view}
 use Rattle.set_expr.specs.FoundNames.{expression_found}
 use Rattle.set_expr.specs.KnownNames.{SumsUp}
-use Rattle.row_entries.proofs.PartLaws.{none_refused}
+use Rattle.truth_tables.proofs.PartLaws.{none_refused}
 use Rattle.abel_vectors.proofs.SideLaws.{side_fault}
 use Rattle.abel_vectors.proofs.headers.read_side.Goals as goal
 

@@ -1,6 +1,6 @@
 -- One position more.
 use Rattle.std.proofs.Common.{◌||◌, None, get_or, map, sym, ap, ap₂, ◌∙◌}
-use Rattle.row_entries.specs.EntryMarks.{view_mark}
+use Rattle.truth_tables.specs.EntryMarks.{view_mark}
 use Rattle.abel_vectors.specs.GivenChars.{position_pulses}
 use Rattle.abel_vectors.proofs.PositionLaws.{pulse_more}
 use Rattle.abel_vectors.proofs.pulses.tests_pulse.Goals as goal

@@ -1,6 +1,6 @@
 -- The positions so far.
 use Rattle.std.proofs.Common.{◌≡◌, map, take}
-use Rattle.row_entries.specs.EntryMarks.{view_mark}
+use Rattle.truth_tables.specs.EntryMarks.{view_mark}
 use Rattle.abel_vectors.specs.VectorRefusals.{tests_pulse}
 use Rattle.abel_vectors.proofs.pulses.tests_pulse.Given as goal
 

@@ -1,6 +1,6 @@
 -- A vector, and none.
 use Rattle.std.proofs.Common.{map, refl, subst}
-use Rattle.row_entries.specs.EntryMarks.{view_mark}
+use Rattle.truth_tables.specs.EntryMarks.{view_mark}
 use Rattle.abel_vectors.specs.GivenChars.{IsGiven}
 use Rattle.abel_vectors.proofs.RowLaws.{marked_vector}
 use Rattle.abel_vectors.proofs.rows.marked_row.Goals as goal

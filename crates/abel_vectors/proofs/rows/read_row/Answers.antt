@@ -5,8 +5,8 @@ use Rattle.abel_tree.specs.FirstRefusal.{earlier}
 use Rattle.abel_tree.specs.View.{view_vector_row}
 use Rattle.set_expr.specs.declared.fault.SectionFault.TheVariants.{BadVector}
 use Rattle.set_expr.specs.SectionOrder.{section_order}
-use Rattle.row_entries.specs.EntryMarks.{IsRead, view_mark}
-use Rattle.row_entries.specs.RowEntries.{entry_refused}
+use Rattle.truth_tables.specs.EntryMarks.{IsRead, view_mark}
+use Rattle.truth_tables.specs.RowEntries.{entry_refused}
 use Rattle.abel_vectors.specs.ReadRows.{entry_fault, header_term}
 use Rattle.abel_vectors.proofs.RowLaws.{both_nil, entries_first, marked_read, over}
 use Rattle.abel_vectors.proofs.rows.read_row.Goals as goal

@@ -3,7 +3,7 @@ use Rattle.bit_expr.specs.Arena.{arena}
 use Rattle.abel_tree.specs.View.{view_module}
 use Rattle.abel_meaning.specs.Designs.{design_of}
 use Rattle.design.proofs.Unrefused.{unrefused}
-use Rattle.row_entries.proofs.NamesInOrder.{sound_in_order}
+use Rattle.truth_tables.proofs.NamesInOrder.{sound_in_order}
 use Rattle.compile_phases.proofs.PlacedNames.{sound_placed}
 use Rattle.compile_phases.proofs.phases.netlist_of.Goals as goal
 

@@ -1,5 +1,5 @@
 -- Names that are sound are placed and in order.
-use Rattle.row_entries.proofs.NamesInOrder.{sound_in_order}
+use Rattle.truth_tables.proofs.NamesInOrder.{sound_in_order}
 use Rattle.compile_phases.proofs.PlacedNames.{sound_placed}
 use Rattle.compile_phases.proofs.phases.sections_of.Goals as goal
 

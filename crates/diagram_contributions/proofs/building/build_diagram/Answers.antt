@@ -19,7 +19,7 @@ use Rattle.equations.proofs.BuiltParts.{some_design, is_some_design}
 use Rattle.equations.proofs.BuiltUnits.{at}
 use Rattle.state_diagrams.specs.DiagramUnits.{register_manners, registers_refused, signals_of, states_manners, units_of_states}
 use Rattle.state_refusals.proofs.StateLaws.{manners_accepted}
-use Rattle.table_contributions.proofs.WorkLaws.{DoesWork}
+use Rattle.truth_tables.proofs.WorkLaws.{DoesWork}
 use Rattle.diagram_contributions.specs.DiagramAnswers.{given_by, places_by}
 use Rattle.diagram_contributions.specs.DiagramWorks.{registers_work}
 use Rattle.diagram_contributions.proofs.WholeDiagrams.{diagram_built, diagram_stops}

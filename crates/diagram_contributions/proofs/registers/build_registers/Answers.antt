@@ -12,8 +12,8 @@ use Rattle.section_targets.proofs.Gives.{stops_nodes}
 use Rattle.section_targets.proofs.Parts.{leaves_nodes}
 use Rattle.equations.proofs.BuiltUnits.{at}
 use Rattle.truth_tables.specs.TableUnits.{some_aims}
-use Rattle.table_contributions.specs.Works.{Work}
-use Rattle.table_contributions.proofs.WorkLaws.{DoesWork}
+use Rattle.truth_tables.specs.Works.{Work}
+use Rattle.truth_tables.proofs.WorkLaws.{DoesWork}
 use Rattle.diagram_contributions.proofs.DiagramBuilt.{header_aims, others_any, registers_stop, registers_then}
 use Rattle.diagram_contributions.proofs.registers.build_registers.Goals as goal
 

@@ -17,8 +17,8 @@ use Rattle.state_diagrams.specs.StateValues.{state_refused}
 use Rattle.state_refusals.specs.States.{IsState}
 use Rattle.state_refusals.proofs.StateLaws.{listed_as}
 use Rattle.state_guards.specs.StateGuards.{number_guard}
-use Rattle.table_contributions.specs.Works.{Work}
-use Rattle.table_contributions.proofs.WorkLaws.{DoesWork}
+use Rattle.truth_tables.specs.Works.{Work}
+use Rattle.truth_tables.proofs.WorkLaws.{DoesWork}
 use Rattle.state_guards.proofs.StatesHold.{guard_is_state}
 use Rattle.diagram_contributions.proofs.StateWorks.{state_stops, state_there}
 use Rattle.diagram_contributions.proofs.states.build_state.Goals as goal

@@ -16,8 +16,8 @@ use Rattle.state_diagrams.specs.DiagramUnits.{states_manners}
 use Rattle.state_diagrams.specs.StateValues.{listed_after}
 use Rattle.state_refusals.specs.Checks.{NotesStates, listed_behind}
 use Rattle.state_refusals.proofs.StateLaws.{listed_more, states_noted}
-use Rattle.table_contributions.specs.Works.{IsBegun}
-use Rattle.table_contributions.proofs.WorkLaws.{begun_all, begun_done}
+use Rattle.truth_tables.specs.Works.{IsBegun}
+use Rattle.truth_tables.proofs.WorkLaws.{begun_all, begun_done}
 use Rattle.diagram_contributions.specs.DiagramWorks.{AreStates, state_bits, states_work}
 use Rattle.diagram_contributions.proofs.StateBits.{states_more}
 use Rattle.diagram_contributions.proofs.StateLists.{begun_memory, front, rest_work, states_begun, states_left, states_stop}

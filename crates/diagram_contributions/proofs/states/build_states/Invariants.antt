@@ -8,7 +8,7 @@ use Rattle.section_targets.specs.Manners.{AreFirsts}
 use Rattle.set_expr.specs.Answer.{IsContextOf, Keeps}
 use Rattle.set_expr.specs.Given.{view_guard}
 use Rattle.state_refusals.specs.Checks.{NotesStates, listed_behind}
-use Rattle.table_contributions.specs.Works.{IsBegun}
+use Rattle.truth_tables.specs.Works.{IsBegun}
 use Rattle.diagram_contributions.specs.DiagramWorks.{AreStates, states_work}
 use Rattle.diagram_contributions.proofs.StateLists.{front, rest_work}
 use Rattle.diagram_contributions.proofs.states.build_states.Given as goal

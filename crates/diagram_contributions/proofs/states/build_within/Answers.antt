@@ -13,7 +13,7 @@ use Rattle.equations.specs.Checks.{view_list}
 use Rattle.equations.specs.StatementUnits.{statements_manners}
 use Rattle.equations.proofs.BuiltUnits.{at, guard_kept}
 use Rattle.state_diagrams.specs.DiagramUnits.{branches_manners}
-use Rattle.table_contributions.proofs.WorkLaws.{DoesWork, step_stops, step_then}
+use Rattle.truth_tables.proofs.WorkLaws.{DoesWork, step_stops, step_then}
 use Rattle.state_contributions.specs.Branches.{branches_work}
 use Rattle.diagram_contributions.specs.DiagramWorks.{statements_work}
 use Rattle.diagram_contributions.proofs.states.build_within.Goals as goal

@@ -3,7 +3,7 @@ use Rattle.std.proofs.Common.{length, sym, subst, arith}
 use Rattle.pld_device.specs.SampleTable.{sample}
 use Rattle.abel_tree.specs.declared.names.Names.{Names}
 use Rattle.abel_tree.specs.Entries.{entries_of}
-use Rattle.row_entries.proofs.NamesInOrder.{sound_in_order}
+use Rattle.truth_tables.proofs.NamesInOrder.{sound_in_order}
 use Rattle.design_refusals.specs.Refused.{AreToNames}
 use Rattle.netlist_rows.proofs.DrawnNames.{drawn_to_names}
 use Rattle.netlist_rows.proofs.PlacedNames.{sound_placed}

@@ -24,8 +24,8 @@ use Rattle.equations.proofs.BuiltUnits.{at, guard_view}
 use Rattle.state_diagrams.specs.DiagramUnits.{branch_manners, choices_manners}
 use Rattle.state_refusals.specs.Arms.{NotesBranch, NotesChoices, view_choices}
 use Rattle.state_refusals.proofs.ArmViews.{if_alone, if_both, view_goaled, view_iffed}
-use Rattle.table_contributions.specs.Works.{IsBegun}
-use Rattle.table_contributions.proofs.WorkLaws.{DoesWork, begun_all, begun_done, begun_next, begun_stops}
+use Rattle.truth_tables.specs.Works.{IsBegun}
+use Rattle.truth_tables.proofs.WorkLaws.{DoesWork, begun_all, begun_done, begun_next, begun_stops}
 use Rattle.state_contributions.specs.Branches.{AreGuardsOf, BuildsBranch, branch_work, choices_work, guard_of}
 use Rattle.state_contributions.proofs.BranchWorks.{Choice, arm_guard, arm_noted, arm_there, case_built, case_stops, case_there, choice_here, choice_next, choices_left, if_alone_built, if_both_built, if_both_stops, if_stops, if_then_stops}
 use Rattle.state_contributions.proofs.GuardLaws.{guard_at, guards_each, guards_inside}

@@ -11,7 +11,7 @@ use Rattle.section_targets.specs.Manners.{AreFirsts}
 use Rattle.set_expr.specs.Answer.{IsContextOf, Keeps}
 use Rattle.state_diagrams.specs.DiagramUnits.{choices_manners}
 use Rattle.state_refusals.specs.Arms.{NotesChoices}
-use Rattle.table_contributions.specs.Works.{IsBegun}
+use Rattle.truth_tables.specs.Works.{IsBegun}
 use Rattle.state_contributions.specs.Branches.{AreGuardsOf, choices_work, guard_of}
 use Rattle.state_contributions.proofs.arms.+builds.Given as goal
 

@@ -13,8 +13,8 @@ use Rattle.equations.proofs.BuiltUnits.{at, guard_kept}
 use Rattle.state_diagrams.specs.DiagramUnits.{branches_manners}
 use Rattle.state_refusals.specs.Arms.{NotesBranches, view_arms}
 use Rattle.state_refusals.proofs.ArmLaws.{branches_noted}
-use Rattle.table_contributions.specs.Works.{IsBegun}
-use Rattle.table_contributions.proofs.WorkLaws.{DoesWork, begun_all, begun_done, begun_next, begun_stops}
+use Rattle.truth_tables.specs.Works.{IsBegun}
+use Rattle.truth_tables.proofs.WorkLaws.{DoesWork, begun_all, begun_done, begun_next, begun_stops}
 use Rattle.state_contributions.specs.Branches.{branch_work, branches_work}
 use Rattle.state_contributions.proofs.BranchWorks.{arm_next, arms_left}
 use Rattle.state_contributions.proofs.arms.build_arms.Goals as goal

@@ -9,7 +9,7 @@ use Rattle.set_expr.specs.Answer.{IsContextOf, Keeps}
 use Rattle.set_expr.specs.Given.{view_guard}
 use Rattle.state_diagrams.specs.DiagramUnits.{branches_manners}
 use Rattle.state_refusals.specs.Arms.{NotesBranches}
-use Rattle.table_contributions.specs.Works.{IsBegun}
+use Rattle.truth_tables.specs.Works.{IsBegun}
 use Rattle.state_contributions.specs.Branches.{branches_work}
 use Rattle.state_contributions.proofs.arms.build_arms.Given as goal
 

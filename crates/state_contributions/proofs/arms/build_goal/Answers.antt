@@ -13,7 +13,7 @@ use Rattle.equations.specs.Builds.{BuildsStatements}
 use Rattle.equations.specs.Checks.{view_list}
 use Rattle.equations.specs.StatementUnits.{statements_manners}
 use Rattle.state_refusals.proofs.ArmViews.{goal_alone, goal_with}
-use Rattle.table_contributions.proofs.WorkLaws.{DoesWork}
+use Rattle.truth_tables.proofs.WorkLaws.{DoesWork}
 use Rattle.state_diagrams.specs.DiagramUnits.{branch_manners}
 use Rattle.state_contributions.specs.Branches.{branch_work}
 use Rattle.state_contributions.proofs.BranchWorks.{goal_alone_built, goal_stops, goal_then_built}

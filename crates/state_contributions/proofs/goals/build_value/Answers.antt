@@ -16,7 +16,7 @@ use Rattle.section_targets.proofs.Gives.{stops_nodes}
 use Rattle.section_targets.proofs.Parts.{leaves_nodes}
 use Rattle.equations.proofs.BuiltParts.{refused_whole, value_accepted}
 use Rattle.equations.proofs.BuiltUnits.{at}
-use Rattle.table_contributions.proofs.WorkLaws.{DoesWork}
+use Rattle.truth_tables.proofs.WorkLaws.{DoesWork}
 use Rattle.state_contributions.specs.Goals.{goal_unit}
 use Rattle.state_contributions.proofs.goals.build_value.Goals as goal
 

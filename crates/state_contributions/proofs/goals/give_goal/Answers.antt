@@ -13,7 +13,7 @@ use Rattle.section_targets.specs.Building.{AreBits}
 use Rattle.section_targets.proofs.Built.{kept_formula, kept_inside, keeps_on}
 use Rattle.equations.proofs.BuiltParts.{some_design, is_some_design}
 use Rattle.equations.proofs.BuiltUnits.{at, guard_kept}
-use Rattle.table_contributions.proofs.WorkLaws.{DoesWork}
+use Rattle.truth_tables.proofs.WorkLaws.{DoesWork}
 use Rattle.state_contributions.specs.Goals.{goal_work}
 use Rattle.state_contributions.proofs.GoalWorks.{goal_built, value_stops}
 use Rattle.state_contributions.proofs.goals.give_goal.Goals as goal

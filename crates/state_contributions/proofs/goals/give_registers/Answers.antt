@@ -9,8 +9,8 @@ use Rattle.set_expr.specs.Given.{view_guard}
 use Rattle.section_targets.proofs.Built.{kept_inside, keeps_on}
 use Rattle.equations.proofs.BuiltUnits.{at}
 use Rattle.state_contributions.specs.Goals.{goal_work}
-use Rattle.table_contributions.specs.Works.{IsBegun}
-use Rattle.table_contributions.proofs.WorkLaws.{begun_all, begun_done, begun_next, begun_stops}
+use Rattle.truth_tables.specs.Works.{IsBegun}
+use Rattle.truth_tables.proofs.WorkLaws.{begun_all, begun_done, begun_next, begun_stops}
 use Rattle.state_contributions.proofs.GoalWorks.{bit_here, goals_left, goals_next, one_kept}
 use Rattle.state_contributions.proofs.goals.give_registers.Goals as goal
 

@@ -5,7 +5,7 @@ use Rattle.abel_tree.specs.Entries.{entries_of}
 use Rattle.abel_meaning.specs.Designs.{Context}
 use Rattle.set_expr.specs.Answer.{Keeps}
 use Rattle.set_expr.specs.Given.{view_guard}
-use Rattle.table_contributions.specs.Works.{IsBegun}
+use Rattle.truth_tables.specs.Works.{IsBegun}
 use Rattle.state_contributions.specs.Goals.{goal_work}
 use Rattle.state_contributions.proofs.goals.give_registers.Given as goal
 

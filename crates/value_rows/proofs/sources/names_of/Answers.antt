@@ -1,6 +1,6 @@
 -- Names in which each pin has a number are sound.
 use Rattle.std.proofs.Common.{sym, ◌∙◌}
-use Rattle.row_entries.proofs.NamesInOrder.{sound_in_order}
+use Rattle.truth_tables.proofs.NamesInOrder.{sound_in_order}
 use Rattle.value_rows.proofs.PlacedNames.{sound_placed}
 use Rattle.value_rows.proofs.sources.names_of.Goals as goal
 

@@ -1,7 +1,0 @@
-use Rattle.std.proofs.Common.{sym, ◌∙◌, subst}
-use Rattle.set_expr.specs.KnownNames.{HasShapeIf}
-use Rattle.row_entries.proofs.PartLaws.{none_refused}
-use Rattle.row_entries.proofs.part.shape_of.Goals as goal
-
-pub returns-in-Some-shape : goal.returns-in-Some-shape
-returns-in-Some-shape c f s = (none_refused f.refusals (sym s.fault ∙ c.in-None.is), subst (λ o. HasShapeIf o f.value) c.in-Some-shape.is s.shape)

@@ -1,8 +1,0 @@
-use Rattle.std.proofs.Common.{sym, subst}
-use Rattle.table_contributions.specs.Gives.{GivesPosition}
-use Rattle.table_contributions.proofs.giving.give_position.Goals as goal
-
-pub returns-in-Some-clause-gives : goal.returns-in-Some-clause-gives
-returns-in-Some-clause-gives c =
-    subst (λ x. GivesPosition c.args.scope.now c.args.assigning x c.args.level c.args.matched c.args.exprs.now c.give_level.new.exprs c.args.list.now.items c.give_level.new.list.items c.give_level.result)
-    (sym c.in-Some.is) c.give_level.ensures.gives

@@ -1,4 +1,0 @@
-pub mod Gives
-pub mod Rows
-pub mod TableAnswers
-pub mod Works

@@ -1,0 +1,182 @@
+-- What outputs are given, position by position.
+use Rattle.std.proofs.Common.{◌≡◌, ℕ, zero, suc, ◌+◌, ◌<◌, ◌≤◌, min, Bool, true, false, Option, None, Some, List, [], ◌∷◌, ◌++◌, Result, length, drop, get_or, refl, sym, ap, ap₂, ◌∙◌, subst, arith, append_assoc, append-nil, add-one}
+use Rattle.std.proofs.Math.Seq.{drop-cons}
+use Rattle.bit_expr.specs.declared.node.ExprId.{ExprId}
+use Rattle.bit_expr.specs.declared.node.Node.{Node}
+use Rattle.bit_expr.specs.Arena.{arena, formula_at}
+use Rattle.bit_expr.specs.Folding.{Made, free, make_and}
+use Rattle.bit_expr.specs.Formulas.{Formula, Const}
+use Rattle.abel_tree.specs.declared.names.Names.{Names}
+use Rattle.abel_meaning.specs.Contributions as meant
+use Rattle.abel_meaning.specs.Contributions.{contribution}
+use Rattle.abel_meaning.specs.Designs.{Context}
+use Rattle.abel_meaning.specs.FormulaBits.{formulas}
+use Rattle.abel_meaning.specs.Tables.{level_gives, match_of, no_matches, outputs_given}
+use Rattle.set_expr.specs.declared.contributions.Contribution.{Contribution}
+use Rattle.set_expr.specs.declared.contributions.Contributions.{Contributions}
+use Rattle.set_expr.specs.declared.contributions.Gives.{Gives}
+use Rattle.set_expr.specs.declared.contributions.Guard.{Guard}
+use Rattle.set_expr.specs.declared.fault.SectionFault.{SectionFault}
+use Rattle.set_expr.specs.Given.{view_gives, view_guard}
+use Rattle.section_targets.specs.declared.aim.Aim.{Aim}
+use Rattle.section_targets.specs.declared.giving.Giving.{Giving}
+use Rattle.section_targets.specs.Building.{StopsWith, IsBuilt, Builds}
+use Rattle.section_targets.specs.Given.{AreNamed}
+use Rattle.section_targets.specs.Gives.{GivesOne}
+use Rattle.section_targets.specs.Units.{part}
+use Rattle.section_targets.proofs.Built.{builds_then, builds_stop}
+use Rattle.section_targets.proofs.MetWords.{low_bit, high_bit}
+use Rattle.truth_tables.specs.TableUnits.{some_aims, places_for, places_of, row_places}
+use Rattle.truth_tables.specs.declared.giving.Assigning.{Assigning}
+use Rattle.truth_tables.specs.Gives.{signals_of, matched_guard, value_places, GivesOutput}
+use Rattle.truth_tables.specs.Works.{Work, before, given_freely, nothing}
+use Rattle.truth_tables.proofs.WorkLaws.{free_part}
+
+-- ---- one output
+
+true_and : (f : Formula) → make_and (Const true) f ≡ free f
+unfolding make_and
+true_and f = refl
+
+other_holds : (d : Context) (a b : Formula) (dontcare : Bool) (block : Option ℕ) (clocked : Bool) (what : meant.Gives) (s : ℕ) (w : Formula)
+    → contribution d (record { holds = a; dontcare = dontcare; block = block }) None false clocked what s w
+    ≡ contribution d (record { holds = b; dontcare = dontcare; block = block }) None false clocked what s w
+other_holds d a b dontcare None clocked what s w = refl
+other_holds d a b dontcare (Some n) clocked what s w = refl
+
+-- under the guard that always holds
+abbrev pub giving_of : Assigning → Gives → Giving
+giving_of m what =
+    record {
+      unit = m.unit;
+      guard = record { when = record { 0 = 1 }; dontcare = m.guard.dontcare; block = m.guard.block };
+      extension = None;
+      complement = false;
+      clocked = m.clocked;
+      what = what;
+    }
+
+pub output_given : (n : Names) (m : Assigning) (what : Gives) (a : Aim) (id : ExprId) (old new : List Node) (list more : List Contribution) (r : Result Unit SectionFault) → GivesOne n (giving_of m what) a id old new list more r → GivesOutput n m what a id old new list more r
+output_given n m what a id old new list more r h = λ d e.
+    let f = formula_at (arena old) id in
+    let one : ExprId = record { 0 = 1 } in
+    let alone : make_and (formula_at (arena old) one) f ≡ free f = ap (λ x. make_and x f) (high_bit old one refl).1 ∙ true_and f in
+    free_part m.unit (contribution d (matched_guard (arena old) m.guard id) None false m.clocked (view_gives what) a.signal f ∷ []) (a.place ∷ []) (record { exprs = old; list = list }) (record { exprs = new; list = more }) r
+    (subst (λ (x : meant.Contribution Formula). Builds (part m.unit 0 ∷ []) (x ∷ []) (a.place ∷ []) (record { exprs = old; list = list }) (record { exprs = new; list = more }) r)
+    (other_holds d (formula_at (arena old) one) f m.guard.dontcare m.guard.block m.clocked (view_gives what) a.signal f)
+    (subst (λ (x : Made Formula). Builds (part m.unit x.nodes ∷ []) (contribution d (view_guard (arena old) (giving_of m what).guard) None false m.clocked (view_gives what) a.signal x.what ∷ []) (a.place ∷ []) (record { exprs = old; list = list }) (record { exprs = new; list = more }) r)
+    alone (h d e)))
+
+-- ---- one position
+
+level_places : (a : Aim) (l : Option Bool) → value_places a l ++ a.place ∷ [] ≡ row_places (Some a ∷ []) (l ∷ [])
+level_places a None = refl
+level_places a (Some true) = refl
+level_places a (Some false) = refl
+
+-- a match behind what a level gives
+pub level_given : (d : Context) (g : Guard) (clocked : Bool) (a : Aim) (l : Option Bool) (id : ExprId) (old mid new : Contributions) (r : Result Unit SectionFault) → formula_at (arena mid.exprs) id ≡ formula_at (arena old.exprs) id
+    → IsBuilt [] (level_gives d (matched_guard (arena old.exprs) g id) clocked a.signal l) (value_places a l) old mid
+    → Builds [] (contribution d (matched_guard (arena mid.exprs) g id) None false clocked meant.Match a.signal (formula_at (arena mid.exprs) id) ∷ []) (a.place ∷ []) mid new r
+    → Builds [] (outputs_given d (matched_guard (arena old.exprs) g id) clocked (signals_of (Some a ∷ [])) (l ∷ [])) (row_places (Some a ∷ []) (l ∷ [])) old new r
+level_given d g clocked a l id old mid new r k b c =
+    let h = matched_guard (arena old.exprs) g id in
+    subst (λ ps. Builds [] (outputs_given d h clocked (Some a.signal ∷ []) (l ∷ [])) ps old new r) (level_places a l)
+    (builds_then [] [] (level_gives d h clocked a.signal l) (match_of d h false clocked a.signal ∷ []) (value_places a l) (a.place ∷ []) old mid new r b
+    (subst (λ f. Builds [] (contribution d (record { holds = f; dontcare = g.dontcare; block = g.block }) None false clocked meant.Match a.signal f ∷ []) (a.place ∷ []) mid new r) k c))
+
+pub level_stops : (d : Context) (g : Guard) (clocked : Bool) (a : Aim) (l : Option Bool) (id : ExprId) (old new : Contributions) (f : SectionFault)
+    → StopsWith [] (level_gives d (matched_guard (arena old.exprs) g id) clocked a.signal l) (value_places a l) old new f
+    → StopsWith [] (outputs_given d (matched_guard (arena old.exprs) g id) clocked (signals_of (Some a ∷ [])) (l ∷ [])) (row_places (Some a ∷ []) (l ∷ [])) old new f
+level_stops d g clocked a l id old new f s =
+    let h = matched_guard (arena old.exprs) g id in
+    subst (λ ps. StopsWith [] (outputs_given d h clocked (Some a.signal ∷ []) (l ∷ [])) ps old new f) (level_places a l)
+    (builds_stop [] [] (level_gives d h clocked a.signal l) (match_of d h false clocked a.signal ∷ []) (value_places a l) (a.place ∷ []) old new f s)
+
+-- ---- all positions
+
+abbrev pub positions_work : Context → meant.Guard Formula → (clocked : Bool) → List (Option Aim) → List (Option Bool) → Work
+positions_work d h k xs ls = given_freely (outputs_given d h k (signals_of xs) ls) (row_places xs ls)
+
+positions_step : (d : Context) (h : meant.Guard Formula) (k : Bool) (x : Option Aim) (xs : List (Option Aim)) (l : Option Bool) (ls : List (Option Bool)) → positions_work d h k (x ∷ xs) (l ∷ ls) ≡ before (positions_work d h k (x ∷ []) (l ∷ [])) (positions_work d h k xs ls)
+positions_step d h k None xs l ls = refl
+positions_step d h k (Some a) xs l ls =
+    ap₂ given_freely
+    (sym (append_assoc (level_gives d h k a.signal l) (match_of d h false k a.signal ∷ []) (outputs_given d h k (signals_of xs) ls)))
+    (ap (λ ps. ps ++ row_places xs ls) (sym (append-nil (places_for a l))))
+
+pub positions_next : (d : Context) (h : meant.Guard Formula) (k : Bool) (i : ℕ) (xs : List (Option Aim)) (ls : List (Option Bool)) → i < min (length xs) (length ls)
+    → positions_work d h k (drop i xs) (drop i ls) ≡ before (positions_work d h k (get_or xs i None ∷ []) (get_or ls i None ∷ [])) (positions_work d h k (drop (i + 1) xs) (drop (i + 1) ls))
+positions_next d h k i xs ls lt =
+    ap₂ (positions_work d h k) (drop-cons xs i None (omega (arith, lt))) (drop-cons ls i None (omega (arith, lt)))
+    ∙ positions_step d h k (get_or xs i None) (drop (suc i) xs) (get_or ls i None) (drop (suc i) ls)
+    ∙ ap (λ n. before (positions_work d h k (get_or xs i None ∷ []) (get_or ls i None ∷ [])) (positions_work d h k (drop n xs) (drop n ls))) (sym (add-one i))
+
+pub positions_left : (d : Context) (h : meant.Guard Formula) (k : Bool) (i : ℕ) (xs : List (Option Aim)) (ls : List (Option Bool)) → min (length xs) (length ls) ≤ i → positions_work d h k (drop i xs) (drop i ls) ≡ nothing
+positions_left d h k zero [] ls e = refl
+positions_left d h k zero (None ∷ xs) [] e = refl
+positions_left d h k zero (Some a ∷ xs) [] e = refl
+positions_left d h k zero (x ∷ xs) (l ∷ ls) e = absurd (omega (arith, e))
+positions_left d h k (suc i) [] ls e = refl
+positions_left d h k (suc i) (x ∷ xs) [] e = no_level (drop i xs)
+  where
+    no_level : (ys : List (Option Aim)) → positions_work d h k ys [] ≡ nothing
+    no_level [] = refl
+    no_level (None ∷ ys) = refl
+    no_level (Some a ∷ ys) = refl
+positions_left d h k (suc i) (x ∷ xs) (l ∷ ls) e = positions_left d h k i xs ls (omega (arith, e))
+
+-- ---- no matches
+
+abbrev pub no_work : Context → meant.Guard Formula → (clocked : Bool) → List (Option Aim) → Work
+no_work d g k xs = given_freely (no_matches (formulas d) d g false k (signals_of xs)) (places_of (some_aims xs))
+
+no_step : (d : Context) (g : meant.Guard Formula) (k : Bool) (x : Option Aim) (xs : List (Option Aim)) → no_work d g k (x ∷ xs) ≡ before (no_work d g k (x ∷ [])) (no_work d g k xs)
+no_step d g k None xs = refl
+no_step d g k (Some a) xs = refl
+
+pub no_next : (d : Context) (g : meant.Guard Formula) (k : Bool) (i : ℕ) (xs : List (Option Aim)) → i < length xs
+    → no_work d g k (drop i xs) ≡ before (no_work d g k (get_or xs i None ∷ [])) (no_work d g k (drop (i + 1) xs))
+no_next d g k i xs lt =
+    ap (no_work d g k) (drop-cons xs i None lt)
+    ∙ no_step d g k (get_or xs i None) (drop (suc i) xs)
+    ∙ ap (λ n. before (no_work d g k (get_or xs i None ∷ [])) (no_work d g k (drop n xs))) (sym (add-one i))
+
+pub no_left : (d : Context) (g : meant.Guard Formula) (k : Bool) (i : ℕ) (xs : List (Option Aim)) → length xs ≤ i → no_work d g k (drop i xs) ≡ nothing
+no_left d g k zero [] e = refl
+no_left d g k zero (x ∷ xs) e = absurd (omega (arith, e))
+no_left d g k (suc i) [] e = refl
+no_left d g k (suc i) (x ∷ xs) e = no_left d g k i xs (omega (arith, e))
+
+-- no match for one output, over any arena
+pub no_match : (d : Context) (g : Guard) (clocked : Bool) (a : Aim) (id : ExprId) (fs : List Formula) (old new : Contributions) (r : Result Unit SectionFault) → id.0 ≡ 0
+    → Builds [] (contribution d (matched_guard (arena old.exprs) g id) None false clocked meant.Match a.signal (formula_at (arena old.exprs) id) ∷ []) (a.place ∷ []) old new r
+    → Builds [] (no_matches (formulas d) d (view_guard fs g) false clocked (signals_of (Some a ∷ []))) (places_of (some_aims (Some a ∷ []))) old new r
+no_match d g clocked a id fs old new r e b =
+    subst (λ f. Builds [] (contribution d (record { holds = f; dontcare = g.dontcare; block = g.block }) None false clocked meant.Match a.signal f ∷ []) (a.place ∷ []) old new r) (low_bit old.exprs id e).1 b
+
+-- ---- names
+
+pub named_at : (count : ℕ) (xs : List (Option Aim)) (i : ℕ) → i < length xs → AreNamed count (some_aims xs) → AreNamed count (some_aims (get_or xs i None ∷ []))
+named_at count [] i lt h = absurd (omega (arith, lt))
+named_at count (None ∷ xs) zero lt h = λ k d le. absurd (omega (arith, le))
+named_at count (Some a ∷ xs) zero lt h = only
+  where
+    only : AreNamed count (a ∷ [])
+    only zero d le = h zero d (omega arith)
+    only (suc k) d le = absurd (omega (arith, le))
+named_at count (None ∷ xs) (suc i) lt h = named_at count xs i (omega (arith, lt)) h
+named_at count (Some a ∷ xs) (suc i) lt h = named_at count xs i (omega (arith, lt)) (λ k d le. h (suc k) d (omega (arith, le)))
+
+-- a position over a longer arena
+pub position_kept : (d : Context) (g : Guard) (clocked : Bool) (xs : List (Option Aim)) (ls : List (Option Bool)) (id : ExprId) (fs hs : List Formula) (old new : Contributions) (r : Result Unit SectionFault) → formula_at hs id ≡ formula_at fs id
+    → Builds [] (outputs_given d (matched_guard hs g id) clocked (signals_of xs) ls) (row_places xs ls) old new r → Builds [] (outputs_given d (matched_guard fs g id) clocked (signals_of xs) ls) (row_places xs ls) old new r
+position_kept d g clocked xs ls id fs hs old new r e b =
+    subst (λ f. Builds [] (outputs_given d (record { holds = f; dontcare = g.dontcare; block = g.block }) clocked (signals_of xs) ls) (row_places xs ls) old new r) e b
+
+-- no match for one position, over any arena
+pub no_match_any : (d : Context) (g : Guard) (clocked : Bool) (x : Option Aim) (fs hs : List Formula) (old new : Contributions) (r : Result Unit SectionFault)
+    → Builds [] (no_matches (formulas d) d (view_guard hs g) false clocked (signals_of (x ∷ []))) (places_of (some_aims (x ∷ []))) old new r
+    → Builds [] (no_matches (formulas d) d (view_guard fs g) false clocked (signals_of (x ∷ []))) (places_of (some_aims (x ∷ []))) old new r
+no_match_any d g clocked None fs hs old new r b = b
+no_match_any d g clocked (Some a) fs hs old new r b = b

@@ -1,0 +1,100 @@
+-- What is found of a header, part by part.
+use Rattle.std.proofs.Common.{◌≡◌, ℕ, true, false, Option, None, Some, List, [], ◌∷◌, ◌++◌, length, refl, sym, ap, ap₂, ◌∙◌, append_assoc, append-nil}
+use Rattle.pld_base.specs.declared.place.Place.{Place}
+use Rattle.abel_tree.specs.FirstRefusal.{earlier, first_refusal}
+use Rattle.abel_tree.proofs.FirstRefusals.{first_append, none_refused}
+use Rattle.abel_tree.specs.Tree.{SetMember, members_of}
+use Rattle.abel_meaning.specs.Designs.{Context}
+use Rattle.abel_meaning.specs.Targets.{targets_of}
+use Rattle.abel_meaning.specs.Terms.{Term}
+use Rattle.set_expr.specs.declared.fault.SectionFault.{SectionFault}
+use Rattle.set_expr.specs.declared.fault.SectionFault.TheVariants.{NotAnOutput}
+use Rattle.set_expr.specs.Refusals.{too_wide}
+use Rattle.set_expr.specs.SectionOrder.{section_order}
+use Rattle.section_targets.specs.declared.aim.Aim.{Aim}
+use Rattle.truth_tables.specs.HeaderSignals.{names_positions}
+use Rattle.truth_tables.specs.OutputHeaders.{HeaderFound, header_of, refused_header, outputs_at, named_outputs, header_name, both_headers, header_set, header_range, output_member, output_members}
+use Rattle.truth_tables.specs.TableUnits.{some_aims, if_none, unless_refused}
+use Rattle.truth_tables.specs.declared.header.Header.{Header}
+use Rattle.truth_tables.specs.Headers.{IsHeader}
+
+abbrev pub first : List SectionFault → Option SectionFault
+first rs = first_refusal section_order rs
+
+-- ---- lists
+
+pub outputs_append : (p : Place) (ss ts : List (Option ℕ)) → outputs_at p (ss ++ ts) ≡ outputs_at p ss ++ outputs_at p ts
+outputs_append p [] ts = refl
+outputs_append p (s ∷ ss) ts = ap (λ xs. outputs_at p (s ∷ []) ++ xs) (outputs_append p ss ts)
+
+pub aims_append : (xs ys : List (Option Aim)) → some_aims (xs ++ ys) ≡ some_aims xs ++ some_aims ys
+aims_append [] ys = refl
+aims_append (None ∷ xs) ys = aims_append xs ys
+aims_append (Some a ∷ xs) ys = ap (λ zs. a ∷ zs) (aims_append xs ys)
+
+-- ---- parts
+
+pub header_joined : (a b n : Header) (x y : HeaderFound) → IsHeader a x → IsHeader b y → n.fault ≡ earlier section_order a.fault b.fault → n.outputs ≡ a.outputs ++ b.outputs → IsHeader n (both_headers x y)
+header_joined a b n x y h k fault list =
+    record {
+      fault = fault ∙ ap₂ (earlier section_order) h.fault k.fault ∙ sym (first_append section_order x.refusals y.refusals);
+      outputs = list ∙ ap₂ (λ us vs. us ++ vs) h.outputs k.outputs;
+    }
+
+pub header_whole : (p : Place) (a n : Header) (x : HeaderFound) (f : Option SectionFault) → IsHeader a x → f ≡ first (too_wide p (length a.outputs)) → n.fault ≡ earlier section_order a.fault f → n.outputs ≡ a.outputs → IsHeader n (header_set p x)
+header_whole p a n x f h e fault list =
+    record {
+      fault = fault
+          ∙ ap₂ (earlier section_order) h.fault (e ∙ ap (λ xs. first (too_wide p (length xs))) h.outputs)
+          ∙ sym (first_append section_order x.refusals (too_wide p (length x.outputs)));
+      outputs = list ∙ h.outputs;
+    }
+
+both_assoc : (x y z : HeaderFound) → both_headers (both_headers x y) z ≡ both_headers x (both_headers y z)
+both_assoc x y z = rw (append_assoc x.refusals y.refusals z.refusals, append_assoc x.outputs y.outputs z.outputs) refl
+
+pub both_none : (x : HeaderFound) → both_headers x (header_of []) ≡ x
+both_none x = rw (append-nil x.refusals, append-nil x.outputs) refl
+
+pub members_more : (d : Context) (ms : List SetMember) (m : SetMember) → output_members d (members_of (ms ++ m ∷ [])) ≡ both_headers (output_members d (members_of ms)) (output_member d m)
+members_more d [] m = both_none (output_member d m)
+members_more d (x ∷ ms) m =
+    ap (both_headers (output_member d x)) (members_more d ms m) ∙ sym (both_assoc (output_member d x) (output_members d (members_of ms)) (output_member d m))
+
+pub range_more : (d : Context) (x : HeaderFound) (p : Place) (names : List (List ℕ)) (n : List ℕ) → both_headers (both_headers x (header_range d p names)) (header_name d p n) ≡ both_headers x (header_range d p (names ++ n ∷ []))
+range_more d x p names n = both_assoc x (header_range d p names) (header_name d p n) ∙ ap (both_headers x) (sym (ranged names))
+  where
+    ranged : (names : List (List ℕ)) → header_range d p (names ++ n ∷ []) ≡ both_headers (header_range d p names) (header_name d p n)
+    ranged [] = both_none (header_name d p n)
+    ranged (y ∷ names) = ap (both_headers (header_name d p y)) (ranged names) ∙ sym (both_assoc (header_name d p y) (header_range d p names) (header_name d p n))
+
+-- ---- names
+
+pub named_refused : (rs : List SectionFault) (p : Place) (name : Option ℕ) (t : Term) (f : SectionFault) → Some f ≡ first rs → (first (named_outputs rs p name t).refusals ≡ Some f) × ((named_outputs rs p name t).outputs ≡ [])
+named_refused [] p name t f e = absurd cc
+named_refused (r ∷ rs) p name t f e = (sym e, refl)
+
+pub named_free : (rs : List SectionFault) (p : Place) (name : Option ℕ) (t : Term) → None ≡ first rs → named_outputs [] p name t ≡ named_outputs rs p name t
+named_free rs p name t e = ap (λ xs. named_outputs xs p name t) (sym (none_refused section_order rs e))
+
+pub named_other : (p : Place) (name : Option ℕ) (t : Term) → names_positions t ≡ false → named_outputs [] p name t ≡ refused_header (NotAnOutput p name)
+named_other p name t e = rw e refl
+
+pub named_listed : (p : Place) (name : Option ℕ) (t : Term) (ss : List (Option ℕ)) → names_positions t ≡ true → ss ≡ targets_of t → named_outputs [] p name t ≡ header_of (outputs_at p ss)
+named_listed p name t ss e h = rw (e, h) refl
+
+-- ---- outputs that are assigned
+
+pub outputs_first : (rs more : List SectionFault) (f : SectionFault) → Some f ≡ first rs → Some f ≡ first (if_none rs more)
+outputs_first [] more f e = absurd cc
+outputs_first (r ∷ rs) more f e = e
+
+pub outputs_free : (rs more : List SectionFault) → None ≡ first rs → if_none rs more ≡ more
+outputs_free rs more e = ap (λ xs. if_none xs more) (none_refused section_order rs e)
+
+pub assigned_none : (rs : List SectionFault) (aims : List Aim) (f : SectionFault) → Some f ≡ first rs → unless_refused rs aims ≡ []
+assigned_none [] aims f e = absurd cc
+assigned_none (r ∷ rs) aims f e = refl
+
+pub assigned_all : (rs : List SectionFault) (aims : List Aim) → None ≡ first rs → unless_refused rs aims ≡ aims
+assigned_all rs aims e = ap (λ xs. unless_refused xs aims) (none_refused section_order rs e)

@@ -1,0 +1,86 @@
+-- The outputs of a header that isn't refused are the signals of its term, position by position.
+use Rattle.std.proofs.Common.{◌≡◌, ℕ, Bool, true, false, Option, None, Some, List, [], ◌∷◌, ◌++◌, if◌then◌else◌, length, bytes_eq, append_assoc, refl, sym, ap, ap₂, ◌∙◌}
+use Rattle.std.specs.Prelude.{codes}
+use Rattle.std.specs.Option.{option_map}
+use Rattle.std.proofs.lemmas.List.{map-append}
+use Rattle.pld_base.specs.declared.place.Place.{Place}
+use Rattle.abel_tree.specs.Entries.{find}
+use Rattle.abel_tree.specs.Ranges.{range_names}
+use Rattle.abel_tree.specs.Tree.{Tree, ANumber, ASpecial, AName, ASet, AParen, AUnary, ABinary, OneMember, SpanMember, Members, NoMember, MoreMembers}
+use Rattle.abel_meaning.specs.Designs.{Context}
+use Rattle.abel_meaning.specs.Targets.{targets_of, all_targets}
+use Rattle.abel_meaning.specs.Terms.{Term, Terms, X, Pulse, Release, term_named, term_of, terms_of, named_before, special_term}
+use Rattle.set_expr.specs.declared.fault.SectionFault.{SectionFault}
+use Rattle.set_expr.specs.declared.fault.SectionFault.TheVariants.{MisplacedSpecial, NotAnOutput}
+use Rattle.set_expr.specs.FoundNames.{found_use, name_found, names_found}
+use Rattle.set_expr.specs.Refusals.{too_wide}
+use Rattle.section_targets.specs.declared.aim.Aim.{Aim}
+use Rattle.section_targets.proofs.Built.{left_empty, right_empty}
+use Rattle.truth_tables.specs.HeaderSignals.{names_positions}
+use Rattle.truth_tables.specs.OutputHeaders.{header_of, refused_header, outputs_at, named_outputs, header_name, header_range, header_special, output_header, output_members}
+use Rattle.truth_tables.specs.Gives.{signals_of}
+
+signals_append : (xs ys : List (Option Aim)) → signals_of (xs ++ ys) ≡ signals_of xs ++ signals_of ys
+signals_append xs ys = map-append (λ (x : Option Aim). option_map (λ (a : Aim). a.signal) x) xs ys
+
+listed_signals : (p : Place) (ss : List (Option ℕ)) → ss ≡ signals_of (outputs_at p ss)
+listed_signals p [] = refl
+listed_signals p (None ∷ ss) = ap (λ xs. None ∷ xs) (listed_signals p ss)
+listed_signals p (Some s ∷ ss) = ap (λ xs. Some s ∷ xs) (listed_signals p ss)
+
+name_signals : (d : Context) (p : Place) (w : List ℕ) → (header_name d p w).refusals ≡ [] → targets_of (term_named d.known w) ≡ signals_of (header_name d p w).outputs
+name_signals d p w e = by_refusals (found_use p (name_found (names_found d.names) w)).refusals e
+  where
+    t : Term
+    t = term_named d.known w
+
+    by_names : (b : Bool) → (if b then header_of (outputs_at p (targets_of t)) else refused_header (NotAnOutput p (find d.names w))).refusals ≡ []
+        → targets_of t ≡ signals_of (if b then header_of (outputs_at p (targets_of t)) else refused_header (NotAnOutput p (find d.names w))).outputs
+    by_names true e = listed_signals p (targets_of t)
+    by_names false e = absurd cc
+
+    by_refusals : (rs : List SectionFault) → (named_outputs rs p (find d.names w) t).refusals ≡ [] → targets_of t ≡ signals_of (named_outputs rs p (find d.names w) t).outputs
+    by_refusals [] e = by_names (names_positions t) e
+    by_refusals (r ∷ rs) e = absurd cc
+
+range_signals : (d : Context) (p : Place) (names : List (List ℕ)) (ts : Terms) (xs : List (Option Aim)) → all_targets ts ≡ signals_of xs → (header_range d p names).refusals ≡ []
+    → all_targets (named_before d.known names ts) ≡ signals_of ((header_range d p names).outputs ++ xs)
+range_signals d p [] ts xs h e = h
+range_signals d p (n ∷ names) ts xs h e =
+    let a = header_name d p n in
+    let b = header_range d p names in
+    ap₂ (λ us vs. us ++ vs) (name_signals d p n (left_empty a.refusals b.refusals e)) (range_signals d p names ts xs h (right_empty a.refusals b.refusals e))
+    ∙ sym (signals_append a.outputs (b.outputs ++ xs))
+    ∙ ap signals_of (sym (append_assoc a.outputs b.outputs xs))
+
+special_signals : (d : Context) (letter : ℕ) (p : Place) → (header_special letter p).refusals ≡ [] → targets_of (special_term letter) ≡ signals_of (header_special letter p).outputs
+special_signals d letter p e = by_letter (bytes_eq (letter ∷ []) (codes "X")) (bytes_eq (letter ∷ []) (codes "C")) e
+  where
+    by_letter : (a b : Bool) → (if a then header_of (None ∷ []) else refused_header (MisplacedSpecial p)).refusals ≡ []
+        → targets_of (if a then X else if b then Pulse else Release) ≡ signals_of (if a then header_of (None ∷ []) else refused_header (MisplacedSpecial p)).outputs
+    by_letter true b e = refl
+    by_letter false b e = absurd cc
+
+mutual
+  pub header_signals : (d : Context) (t : Tree) → (output_header d t).refusals ≡ [] → targets_of (term_of d.known t) ≡ signals_of (output_header d t).outputs
+  header_signals d (ANumber n) e = absurd cc
+  header_signals d (ASpecial letter p) e = special_signals d letter p e
+  header_signals d (AName word None) e = name_signals d word.place word.text e
+  header_signals d (AName word (Some x)) e = absurd cc
+  header_signals d (ASet p ms None) e = members_signals d ms (left_empty (output_members d ms).refusals (too_wide p (length (output_members d ms).outputs)) e)
+  header_signals d (ASet p ms (Some x)) e = absurd cc
+  header_signals d (AParen p t) e = header_signals d t e
+  header_signals d (AUnary sign p t) e = absurd cc
+  header_signals d (ABinary sign p t u) e = absurd cc
+
+  members_signals : (d : Context) (ms : Members) → (output_members d ms).refusals ≡ [] → all_targets (terms_of d.known ms) ≡ signals_of (output_members d ms).outputs
+  members_signals d NoMember e = refl
+  members_signals d (MoreMembers (OneMember t) ms) e =
+      let a = output_header d t in
+      let b = output_members d ms in
+      ap₂ (λ us vs. us ++ vs) (header_signals d t (left_empty a.refusals b.refusals e)) (members_signals d ms (right_empty a.refusals b.refusals e))
+      ∙ sym (signals_append a.outputs b.outputs)
+  members_signals d (MoreMembers (SpanMember first last) ms) e =
+      let a = header_range d first.place (range_names first.text last.text) in
+      let b = output_members d ms in
+      range_signals d first.place (range_names first.text last.text) (terms_of d.known ms) b.outputs (members_signals d ms (right_empty a.refusals b.refusals e)) (left_empty a.refusals b.refusals e)

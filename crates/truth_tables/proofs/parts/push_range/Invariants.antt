@@ -1,0 +1,13 @@
+-- The names that were looked up have their parts.
+use Rattle.std.proofs.Common.{ℕ, List, ◌++◌, map, take}
+use Rattle.std.specs.Global.{Vec}
+use Rattle.abel_meaning.specs.Designs.{Context}
+use Rattle.abel_meaning.specs.Terms.{Term, NoTerm, named_before}
+use Rattle.truth_tables.specs.EntryTerms.{IsOver, listed, extended_list}
+use Rattle.truth_tables.specs.PartTerms.{AreParts}
+use Rattle.truth_tables.proofs.parts.push_range.Given as goal
+
+abbrev pub invariant-loop-name : goal.invariant-loop-name
+invariant-loop-name l =
+    (d : Context) (ts : List Term) → IsOver l.scope d → AreParts d l.sized l.fn.parts.items ts
+    → AreParts d l.sized l.parts.items (ts ++ extended_list l.outer (listed (named_before d.known (map (λ (n : Vec ℕ). n.items) (take l.name-index l.name-items)) NoTerm)))

@@ -1,0 +1,30 @@
+-- One member more, and all members.
+use Rattle.std.proofs.Common.{◌≡◌, ◌+◌, ◌||◌, [], ◌∷◌, ◌++◌, map, take, sym, ap, ap₂, ◌∙◌}
+use Rattle.abel_tree.specs.Entries.{entries_of}
+use Rattle.abel_tree.specs.Tree.{members_of}
+use Rattle.abel_tree.specs.View.{view, view_member}
+use Rattle.set_expr.specs.FoundNames.{names_found}
+use Rattle.set_expr.proofs.FoundMembers.{front_more, whole_front}
+use Rattle.truth_tables.specs.RowEntries.{holds_pulse, any_holds_pulse}
+use Rattle.truth_tables.proofs.EntryParts.{holds_more, holds_set}
+use Rattle.truth_tables.proofs.pulses.+pulses.Goals as goal
+
+pub level_holds-loop-member-preserved : goal.level_holds-loop-member-preserved
+level_holds-loop-member-preserved t c =
+    let ns = names_found (entries_of c.args.scope.now) in
+    let ms = c.as_slice-member-items.result.now in
+    let i = c.loop-member.member-index in
+    let m = view_member c.member-item.result in
+    let here : map view_member (take (i + 1) ms) ≡ map view_member (take i ms) ++ m ∷ [] = front_more view_member ms i c.member-item.result c.loop-member-test.true c.member-item.is in
+    c.either-found.ensures
+    ∙ ap₂ (λ a b. a || b) (c.loop-member.invariant) (c.in_ok-holds-in-Set.ensures)
+    ∙ sym (ap (λ xs. any_holds_pulse ns (members_of xs)) here ∙ holds_more ns (map view_member (take i ms)) m)
+
+pub level_holds-returns-after-loop-member : goal.level_holds-returns-after-loop-member
+level_holds-returns-after-loop-member t c =
+    let ns = names_found (entries_of c.args.scope.now) in
+    let ms = c.as_slice-member-items.result.now in
+    let all : map view_member (take c.loop-member.member-index ms) ≡ map view_member c.in-Set.members = whole_front view_member ms c.loop-member.member-index c.loop-member-test.false ∙ ap (map view_member) c.as_slice-member-items.ensures in
+    c.loop-member.invariant
+    ∙ ap (λ xs. any_holds_pulse ns (members_of xs)) all
+    ∙ sym (ap (λ e. holds_pulse ns (view e)) c.in-Set.is ∙ holds_set c.in-Set.place c.in-Set.members c.in-Set.extension ns)

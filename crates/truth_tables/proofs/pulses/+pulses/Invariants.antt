@@ -1,0 +1,30 @@
+-- What holds one of them on the way down, and among a set's members.
+use Rattle.std.proofs.Common.{◌≡◌, ◌||◌, ◌+◌, ◌*◌, ◌≤◌, List, map, take}
+use Rattle.abel_tree.specs.declared.expressions.Expr.{size-Expr}
+use Rattle.abel_tree.specs.declared.expressions.Member.{size-Member}
+use Rattle.abel_tree.specs.Entries.{entries_of}
+use Rattle.abel_tree.specs.Tree.{members_of}
+use Rattle.abel_tree.specs.View.{view, view_member}
+use Rattle.set_expr.specs.FoundNames.{names_found}
+use Rattle.truth_tables.specs.RowEntries.{holds_pulse, any_holds_pulse}
+use Rattle.truth_tables.proofs.pulses.+pulses.Given as goal
+
+abbrev pub decreases-holds_pulse : goal.decreases-holds_pulse
+decreases-holds_pulse l = 2 * size-Expr l.expr.now + 1
+
+abbrev pub decreases-level_holds : goal.decreases-level_holds
+decreases-level_holds l = 2 * size-Expr l.expr.now
+
+abbrev pub decreases-member_holds : goal.decreases-member_holds
+decreases-member_holds l = 2 * size-Member l.member.now
+
+abbrev pub invariant-holds_pulse-down : goal.invariant-holds_pulse-down
+invariant-holds_pulse-down l =
+    record {
+      holds : (l.found || holds_pulse (names_found (entries_of l.scope)) (view l.first)) ≡ holds_pulse (names_found (entries_of l.scope)) (view l.expr);
+      size : size-Expr l.first ≤ size-Expr l.expr;
+    }
+
+abbrev pub invariant-level_holds-loop-member : goal.invariant-level_holds-loop-member
+invariant-level_holds-loop-member l =
+    l.found ≡ any_holds_pulse (names_found (entries_of l.scope)) (members_of (map view_member (take l.member-index l.member-items)))

@@ -1,0 +1,76 @@
+-- What is left by giving outputs their bits (ABEL-HDL Reference Manual, truth tables).
+use Rattle.std.specs.Prelude.{◌≡◌, ℕ, Bool, true, false, Option, None, Some, List, [], ◌∷◌, map, Result}
+use Rattle.std.specs.Option.{option_map}
+use Rattle.pld_base.specs.declared.place.Place.{Place}
+use Rattle.bit_expr.specs.declared.node.ExprId.{ExprId}
+use Rattle.bit_expr.specs.declared.node.Node.{Node}
+use Rattle.bit_expr.specs.Arena.{arena, formula_at}
+use Rattle.bit_expr.specs.Formulas.{Formula}
+use Rattle.abel_tree.specs.declared.names.Names.{Names}
+use Rattle.abel_tree.specs.Entries.{entries_of}
+use Rattle.abel_meaning.specs.Contributions.{contribution}
+use Rattle.abel_meaning.specs.Contributions as meant
+use Rattle.abel_meaning.specs.Designs.{Context}
+use Rattle.abel_meaning.specs.FormulaBits.{formulas}
+use Rattle.abel_meaning.specs.Tables.{level_gives, no_matches, outputs_given}
+use Rattle.set_expr.specs.declared.contributions.Contribution.{Contribution}
+use Rattle.set_expr.specs.declared.contributions.Gives.{Gives}
+use Rattle.set_expr.specs.declared.contributions.Guard.{Guard}
+use Rattle.set_expr.specs.declared.fault.SectionFault.{SectionFault}
+use Rattle.set_expr.specs.Given.{view_gives, view_guard}
+use Rattle.section_targets.specs.declared.aim.Aim.{Aim}
+use Rattle.section_targets.specs.Building.{Builds}
+use Rattle.truth_tables.specs.TableUnits.{some_aims, places_of, row_places}
+use Rattle.truth_tables.specs.declared.giving.Assigning.{Assigning}
+
+-- the signals of positions, none at X
+abbrev pub signals_of : List (Option Aim) → List (Option ℕ)
+signals_of xs = map (λ (x : Option Aim). option_map (λ (a : Aim). a.signal) x) xs
+
+-- the guard of a row, by the bit of its match
+abbrev pub matched_guard : List Formula → Guard → ExprId → meant.Guard Formula
+matched_guard fs g id = record { holds = formula_at fs id; dontcare = g.dontcare; block = g.block }
+
+-- where what a level gives stands
+abbrev pub value_places : Aim → Option Bool → List Place
+value_places a None = a.place ∷ []
+value_places a (Some true) = a.place ∷ []
+value_places a (Some false) = []
+
+-- what is left by building no nodes, over every design of these names
+abbrev pub GivesFreely : Names → (Context → List (meant.Contribution Formula)) → List Place → (old new : List Node)
+    → (list more : List Contribution) → Result Unit SectionFault → Type 0
+GivesFreely n gs ps old new list more r =
+    (d : Context) → d.names ≡ entries_of n
+    → Builds [] (gs d) ps (record { exprs = old; list = list }) (record { exprs = new; list = more }) r
+
+abbrev pub GivesOutput : Names → Assigning → Gives → Aim → ExprId → (old new : List Node)
+    → (list more : List Contribution) → Result Unit SectionFault → Type 0
+GivesOutput n m what a id old new list more r =
+    GivesFreely n
+    (λ d. contribution d (matched_guard (arena old) m.guard id) None false m.clocked (view_gives what) a.signal (formula_at (arena old) id) ∷ [])
+    (a.place ∷ []) old new list more r
+
+abbrev pub GivesValue : Names → Assigning → Aim → Option Bool → ExprId → (old new : List Node)
+    → (list more : List Contribution) → Result Unit SectionFault → Type 0
+GivesValue n m a level id old new list more r =
+    GivesFreely n (λ d. level_gives d (matched_guard (arena old) m.guard id) m.clocked a.signal level) (value_places a level)
+    old new list more r
+
+abbrev pub GivesPositions : Names → Assigning → List (Option Aim) → List (Option Bool) → ExprId → (old new : List Node)
+    → (list more : List Contribution) → Result Unit SectionFault → Type 0
+GivesPositions n m outputs levels id old new list more r =
+    GivesFreely n (λ d. outputs_given d (matched_guard (arena old) m.guard id) m.clocked (signals_of outputs) levels)
+    (row_places outputs levels) old new list more r
+
+abbrev pub GivesPosition : Names → Assigning → Option Aim → Option Bool → ExprId → (old new : List Node)
+    → (list more : List Contribution) → Result Unit SectionFault → Type 0
+GivesPosition n m output level id old new list more r =
+    GivesPositions n m (output ∷ []) (level ∷ []) id old new list more r
+
+-- no match for each output
+abbrev pub GivesNoMatches : Names → Assigning → List (Option Aim) → (old new : List Node)
+    → (list more : List Contribution) → Result Unit SectionFault → Type 0
+GivesNoMatches n m outputs old new list more r =
+    GivesFreely n (λ d. no_matches (formulas d) d (view_guard (arena old) m.guard) false m.clocked (signals_of outputs))
+    (places_of (some_aims outputs)) old new list more r

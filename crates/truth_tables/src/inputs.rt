@@ -1,0 +1,162 @@
+//! The bits of an input header.
+
+ghost use Rattle.std.specs.Prelude.{◌≡◌, ℕ, None, Some, List, [], ◌∷◌, map, reverse, IfOk};
+ghost use Rattle.bit_expr.specs.declared.node.Node.{Node};
+ghost use Rattle.bit_expr.specs.Arena.{arena};
+ghost use Rattle.abel_tree.specs.Entries.{view_meaning};
+ghost use Rattle.abel_tree.specs.View.{view};
+ghost use Rattle.abel_meaning.specs.CountedNodes.{term_nodes};
+ghost use Rattle.abel_meaning.specs.Designs.{Context};
+ghost use Rattle.abel_meaning.specs.Terms.{term_meant, term_named, term_of};
+ghost use Rattle.set_expr.specs.Answer.{Keeps, IsContextOf, refusal_of};
+ghost use Rattle.truth_tables.specs.EntryTerms.{IsOver};
+ghost use Rattle.section_targets.specs.Building.{BuildsNodes};
+ghost use Rattle.section_targets.specs.Units.{part};
+ghost use Rattle.truth_tables.specs.Products.{StandForInputs, IsConstantIf, IsShapedTerm, IsShapedNumber, is_computed};
+
+use abel_tree::{Expr, Meaning};
+use bit_expr::{ExprId, Exprs};
+use equations::unit_bits;
+use pld_base::{OutOfMemory, Place};
+use pld_device::Device;
+use section_targets::meet;
+use set_expr::{Scope, SectionFault, Shape, Shaped};
+use std::alloc::Global;
+
+/// The expression of a name that is declared a constant.
+fn constant_meant(meaning: &Meaning) -> Option<&Expr>
+    ensures { (d : Context) (k : ℕ) → IsConstantIf d result (term_meant d.known k (view_meaning meaning.now)) }
+{
+    match meaning {
+        Meaning::Constant(value) => Some(value),
+        Meaning::Pin { pin: _, negated: _ } => None,
+        Meaning::Node(_) => None,
+        Meaning::DeviceName => None,
+    }
+}
+
+/// The constant that the name with this text stands for.
+fn constant_named<'a>(scope: &Scope<'a>, text: &[u8]) -> Option<&'a Expr>
+    ensures { (d : Context) → IsOver scope.now d → IsConstantIf d result (term_named d.known text.now) }
+{
+    scope.are_in_order();
+    match scope.get(text) {
+        None => None,
+        Some(name) => {
+            let declared = &scope.list()[name.number as usize];
+            constant_meant(&declared.meaning)
+        }
+    }
+}
+
+/// Whether an expression is an operator of two operands, behind signs, parentheses and constants' names.
+fn has_operator<'a>(scope: &Scope<'a>, expr: &'a Expr) -> Result<bool, OutOfMemory>
+    ensures { IfOk result (λ b. (d : Context) → IsOver scope.now d → b ≡ is_computed (term_of d.known (view expr.now))) }
+{
+    let mut at = expr;
+    for _step in 0..u64::MAX {
+        match at {
+            Expr::Name { word, extension: _ } => {
+                match constant_named(scope, word.text.bytes()) {
+                    Some(value) => at = value,
+                    None => return Ok(false),
+                }
+            }
+            Expr::Paren { place: _, inner } => at = inner.get(),
+            Expr::Unary {
+                sign: _,
+                place: _,
+                inner,
+            } => at = inner.get(),
+            Expr::Binary {
+                sign: _,
+                place: _,
+                left: _,
+                right: _,
+            } => return Ok(true),
+            Expr::Number(_) => return Ok(false),
+            Expr::Special {
+                letter: _,
+                place: _,
+            } => return Ok(false),
+            Expr::Set {
+                place: _,
+                members: _,
+                extension: _,
+            } => return Ok(false),
+        }
+    }
+    Err(OutOfMemory)
+}
+
+/// Bits as positions, in the other order.
+fn list_positions(alloc: Global, bits: &[ExprId]) -> Result<Vec<Option<ExprId>>, OutOfMemory>
+    ensures { IfOk result (λ ps. ps.items ≡ reverse (map Some bits.now)) }
+{
+    let mut positions = Vec::new(alloc);
+    for index in 0..bits.len() {
+        positions.push(Some(bits[index]))?;
+    }
+    positions.reverse();
+    Ok(positions)
+}
+
+/// The positions of a header that is a number: the 32 bits of what an operator makes, and none otherwise.
+fn number_positions(
+    alloc: Global,
+    scope: &Scope<'_>,
+    header: &Expr,
+    shaped: &Shaped,
+) -> Result<Vec<Option<ExprId>>, OutOfMemory>
+    ensures { IfOk result (λ ps. (d : Context) (ns : List Node) → IsOver scope.now d → IsShapedNumber d (arena ns) (term_of d.known (view header.now)) shaped.now → StandForInputs d (term_of d.known (view header.now)) (arena ns) ps.items) }
+{
+    if has_operator(scope, header)? {
+        let bits = meet(alloc, shaped, 32)?;
+        list_positions(alloc, &bits)
+    } else {
+        Ok(Vec::new(alloc))
+    }
+}
+
+/// Positions in the other order.
+fn turned(positions: Vec<Option<ExprId>>) -> Vec<Option<ExprId>>
+    ensures { result.items ≡ reverse positions.items }
+{
+    let mut positions = positions;
+    positions.reverse();
+    positions
+}
+
+/// The positions of a header from the left.
+fn shaped_positions(
+    alloc: Global,
+    scope: &Scope<'_>,
+    header: &Expr,
+    shaped: Shaped,
+) -> Result<Vec<Option<ExprId>>, OutOfMemory>
+    ensures { IfOk result (λ ps. (d : Context) (ns : List Node) → IsOver scope.now d → IsShapedTerm d (arena ns) (term_of d.known (view header.now)) shaped → StandForInputs d (term_of d.known (view header.now)) (arena ns) ps.items) }
+{
+    match shaped.shape {
+        Shape::Number(_) => number_positions(alloc, scope, header, &shaped),
+        Shape::Single => Ok(turned(shaped.places.into_vec())),
+        Shape::Set(_) => Ok(turned(shaped.places.into_vec())),
+    }
+}
+
+/// The positions of an input header from the left, None at X, as nodes of the unit at this place.
+pub fn header_bits<D: Device>(
+    alloc: Global,
+    scope: &Scope<'_>,
+    header: &Expr,
+    unit: Place,
+    exprs: &mut Exprs,
+) -> Result<Vec<Option<ExprId>>, SectionFault>
+    requires accepted { refusal_of scope.now (view header.now) ≡ None }
+    ensures keeps { Keeps (arena exprs.old) (arena exprs.new) }
+    ensures builds { (d : Context) → IsContextOf D.table scope.now d → BuildsNodes (part unit (term_nodes d (view header.now)) ∷ []) exprs.old exprs.new result }
+    ensures inputs { IfOk result (λ ps. (d : Context) → IsContextOf D.table scope.now d → StandForInputs d (term_of d.known (view header.now)) (arena exprs.new) ps.items) }
+{
+    let shaped = unit_bits::<D>(alloc, scope, header, unit, exprs)?;
+    let positions = shaped_positions(alloc, scope, header, shaped)?;
+    Ok(positions)
+}

@@ -1,0 +1,121 @@
+//! What is refused inside an entry.
+
+ghost use Rattle.std.specs.Prelude.{◌≡◌, IfOk};
+ghost use Rattle.abel_tree.specs.Entries.{entries_of};
+ghost use Rattle.abel_tree.specs.FirstRefusal.{first_refusal};
+ghost use Rattle.abel_tree.specs.Ranges.{range_names};
+ghost use Rattle.abel_tree.specs.View.{view, view_member};
+ghost use Rattle.set_expr.specs.FoundNames.{name_found, names_found};
+ghost use Rattle.set_expr.specs.SectionOrder.{section_order};
+ghost use Rattle.truth_tables.specs.RowEntries.{operator_refused, names_refused, refused_inside, member_refused_inside};
+
+use crate::pulses::holds_pulse;
+use abel_tree::{Expr, Member, Word};
+use name_ranges::range_list;
+use pld_base::OutOfMemory;
+use set_expr::{Scope, SectionFault, earlier};
+use std::alloc::Global;
+
+/// What is refused of the declaration of a name.
+fn refuse_name(scope: &Scope<'_>, text: &[u8]) -> Option<SectionFault>
+    ensures { result ≡ first_refusal section_order (name_found (names_found (entries_of scope.now)) text.now).found.refusals }
+{
+    match scope.get(text) {
+        Some(name) => name.checked.fault,
+        None => None,
+    }
+}
+
+/// What is refused of the names of a range.
+fn refuse_range(
+    alloc: Global,
+    scope: &Scope<'_>,
+    first: &Word,
+    last: &Word,
+) -> Result<Option<SectionFault>, OutOfMemory>
+    ensures { IfOk result (λ f. f ≡ first_refusal section_order (names_refused (names_found (entries_of scope.now)) (range_names first.now.text last.now.text))) }
+{
+    let names = range_list(alloc, first.text.bytes(), last.text.bytes())?;
+    let mut fault = None;
+    for name in &names {
+        fault = earlier(fault, refuse_name(scope, name.as_slice()));
+    }
+    Ok(fault)
+}
+
+/// What is refused of an operator in a row that is refused so.
+fn refuse_operator(
+    alloc: Global,
+    scope: &Scope<'_>,
+    row: SectionFault,
+    expr: &Expr,
+) -> Result<Option<SectionFault>, OutOfMemory>
+    ensures { IfOk result (λ f. f ≡ first_refusal section_order (operator_refused (names_found (entries_of scope.now)) row (view expr.now))) }
+{
+    if holds_pulse(alloc, scope, expr)? {
+        return Ok(Some(row));
+    }
+    let found = scope.check(alloc, expr)?;
+    Ok(found.fault)
+}
+
+/// What is refused inside a member.
+#[cycle(inside)]
+fn refuse_member(
+    alloc: Global,
+    scope: &Scope<'_>,
+    row: SectionFault,
+    member: &Member,
+) -> Result<Option<SectionFault>, OutOfMemory>
+    ensures { IfOk result (λ f. f ≡ first_refusal section_order (member_refused_inside (names_found (entries_of scope.now)) row (view_member member.now))) }
+{
+    match member {
+        Member::One(expr) => refuse_inside(alloc, scope, row, expr),
+        Member::Span { first, last } => refuse_range(alloc, scope, first, last),
+    }
+}
+
+/// The first refusal inside an entry of a row that is refused so, whose sets are taken member by member. Calls go as
+/// deep as the nestings of sets and parentheses; constants are looked up.
+#[cycle(inside)]
+pub fn refuse_inside(
+    alloc: Global,
+    scope: &Scope<'_>,
+    row: SectionFault,
+    entry: &Expr,
+) -> Result<Option<SectionFault>, OutOfMemory>
+    ensures { IfOk result (λ f. f ≡ first_refusal section_order (refused_inside (names_found (entries_of scope.now)) row (view entry.now))) }
+{
+    match entry {
+        Expr::Number(_) => Ok(None),
+        Expr::Special {
+            letter: _,
+            place: _,
+        } => Ok(None),
+        Expr::Name { word, extension: _ } => Ok(refuse_name(scope, word.text.bytes())),
+        Expr::Set {
+            place: _,
+            members,
+            extension: _,
+        } => {
+            let mut fault = None;
+            for member in members.as_slice() {
+                let found = refuse_member(alloc, scope, row, member)?;
+                fault = earlier(fault, found);
+            }
+            Ok(fault)
+        }
+        Expr::Paren { place: _, inner } => refuse_inside(alloc, scope, row, inner.get()),
+        Expr::Unary {
+            sign: _,
+            place: _,
+            inner: _,
+        } => refuse_operator(alloc, scope, row, entry),
+        Expr::Binary {
+            sign: _,
+            place: _,
+            left: _,
+            right: _,
+        } => refuse_operator(alloc, scope, row, entry),
+    }
+}

@@ -1,0 +1,71 @@
+//! The marks of an entry at the positions of its header.
+
+ghost use Rattle.std.specs.Prelude.{◌≡◌, [], IfOk, reverse};
+ghost use Rattle.abel_tree.specs.View.{view};
+ghost use Rattle.abel_meaning.specs.Designs.{Context};
+ghost use Rattle.abel_meaning.specs.Terms.{term_of};
+ghost use Rattle.truth_tables.specs.EntryMarks.{IsMarked};
+ghost use Rattle.truth_tables.specs.EntryTerms.{IsOver};
+ghost use Rattle.truth_tables.specs.PairTerms.{Walked};
+
+use crate::mark::Mark;
+use crate::pairs::{Pair, step};
+use crate::parts::part_of;
+use abel_tree::Expr;
+use pld_base::OutOfMemory;
+use set_expr::Scope;
+use std::alloc::Global;
+
+/// A header beside an entry.
+fn begun<'a>(
+    alloc: Global,
+    scope: &Scope<'a>,
+    header: &'a Expr,
+    entry: &'a Expr,
+) -> Result<Vec<Pair<'a>>, OutOfMemory>
+    ensures { IfOk result (λ stack. (d : Context) → IsOver scope.now d → Walked d (term_of d.known (view header.now)) (term_of d.known (view entry.now)) stack.items []) }
+{
+    let header = part_of(alloc, scope, header, None, true)?;
+    let entry = part_of(alloc, scope, entry, None, false)?;
+    let mut stack = Vec::new(alloc);
+    stack.push(Pair {
+        header,
+        given: entry,
+    })?;
+    Ok(stack)
+}
+
+/// Marks in the other order.
+fn turned(marks: Vec<Mark>) -> Vec<Mark>
+    ensures { result.items ≡ reverse marks.items }
+{
+    let mut marks = marks;
+    marks.reverse();
+    marks
+}
+
+/// What an entry says of each position of its header, from the left; None where it doesn't meet the header. It is
+/// asked only of headers and entries in which nothing is refused. Sets and names of constants are followed by a
+/// stack, so that no call goes as deep as constants nest.
+pub(crate) fn entry_marks(
+    alloc: Global,
+    scope: &Scope<'_>,
+    header: &Expr,
+    entry: &Expr,
+) -> Result<Option<Vec<Mark>>, OutOfMemory>
+    ensures { IfOk result (λ ms. (d : Context) → IsOver scope.now d → IsMarked d (term_of d.known (view header.now)) (term_of d.known (view entry.now)) ms) }
+{
+    let mut marks = Vec::new(alloc);
+    let mut stack = begun(alloc, scope, header, entry)?;
+    for _step in 0..u64::MAX {
+        match stack.pop() {
+            None => return Ok(Some(turned(marks))),
+            Some(pair) => {
+                if !step(alloc, scope, pair, &mut stack, &mut marks)? {
+                    return Ok(None);
+                }
+            }
+        }
+    }
+    Err(OutOfMemory)
+}

@@ -1,0 +1,78 @@
+//! The product of a row: the literals of its inputs.
+
+ghost use Rattle.std.specs.Prelude.{◌<◌, true, Some, [], ◌∷◌, length, IfOk};
+ghost use Rattle.bit_expr.specs.Arena.{arena, formula_at};
+ghost use Rattle.bit_expr.specs.Formulas.{Const};
+ghost use Rattle.abel_meaning.specs.CountedBlocks.{row_literals};
+ghost use Rattle.set_expr.specs.Answer.{AreIn, bits_at, unknown_at};
+ghost use Rattle.section_targets.specs.Building.{BuildsNodes, IsBit};
+ghost use Rattle.section_targets.specs.Units.{part};
+ghost use Rattle.truth_tables.specs.Products.{position_literal};
+
+use bit_expr::{ExprId, Exprs, Node};
+use pld_base::Place;
+use section_targets::{add_node, guard_else};
+use set_expr::SectionFault;
+
+/// What was found before, and a bit at a level; X matches both levels.
+fn with_level(
+    exprs: &mut Exprs,
+    found: ExprId,
+    bit: ExprId,
+    level: Option<bool>,
+    unit: Place,
+) -> Result<ExprId, SectionFault>
+    requires found { found.0 < length (arena exprs.old) }
+    requires bit { bit.0 < length (arena exprs.old) }
+    ensures builds { BuildsNodes (part unit (position_literal (arena exprs.old) (formula_at (arena exprs.old) found) (Some bit) level).nodes ∷ []) exprs.old exprs.new result }
+    ensures bit { IfOk result (λ id. IsBit (arena exprs.new) id (position_literal (arena exprs.old) (formula_at (arena exprs.old) found) (Some bit) level).what) }
+{
+    match level {
+        None => Ok(found),
+        Some(on) => {
+            if on {
+                add_node(exprs, Node::And(found, bit), unit)
+            } else {
+                guard_else(exprs, found, bit, unit)
+            }
+        }
+    }
+}
+
+/// What was found before, and a position of the header at a level; one that is X counts for nothing.
+fn with_position(
+    exprs: &mut Exprs,
+    found: ExprId,
+    position: Option<ExprId>,
+    level: Option<bool>,
+    unit: Place,
+) -> Result<ExprId, SectionFault>
+    requires found { found.0 < length (arena exprs.old) }
+    requires position { AreIn (length (arena exprs.old)) (position ∷ []) }
+    ensures builds { BuildsNodes (part unit (position_literal (arena exprs.old) (formula_at (arena exprs.old) found) position level).nodes ∷ []) exprs.old exprs.new result }
+    ensures bit { IfOk result (λ id. IsBit (arena exprs.new) id (position_literal (arena exprs.old) (formula_at (arena exprs.old) found) position level).what) }
+{
+    match position {
+        None => Ok(found),
+        Some(bit) => with_level(exprs, found, bit, level, unit),
+    }
+}
+
+/// The product of the literals of a row's levels at the positions of the input header, both from the left.
+pub fn row_product(
+    exprs: &mut Exprs,
+    header: &[Option<ExprId>],
+    levels: &[Option<bool>],
+    unit: Place,
+) -> Result<ExprId, SectionFault>
+    requires { AreIn (length (arena exprs.old)) header.now }
+    ensures builds { BuildsNodes (part unit (row_literals (Const true) (unknown_at header.now) (bits_at (arena exprs.old) header.now) levels.now).nodes ∷ []) exprs.old exprs.new result }
+    ensures bit { IfOk result (λ id. IsBit (arena exprs.new) id (row_literals (Const true) (unknown_at header.now) (bits_at (arena exprs.old) header.now) levels.now).what) }
+{
+    let mut found = ExprId(1);
+    let count = header.len().min(levels.len());
+    for index in 0..count {
+        found = with_position(exprs, found, header[index], levels[index], unit)?;
+    }
+    Ok(found)
+}

@@ -1,0 +1,123 @@
+//! Whether `.C.` or `.Z.` stands in an expression.
+
+ghost use Rattle.std.specs.Prelude.{◌≡◌, ◌||◌, IfOk};
+ghost use Rattle.std.specs.List.{list_any};
+ghost use Rattle.abel_tree.specs.Entries.{entries_of};
+ghost use Rattle.abel_tree.specs.Ranges.{range_names};
+ghost use Rattle.abel_tree.specs.View.{view, view_member};
+ghost use Rattle.set_expr.specs.FoundNames.{names_found};
+ghost use Rattle.truth_tables.specs.RowEntries.{is_pulse_named, holds_pulse, member_holds_pulse};
+
+use abel_tree::{Expr, Member, Word};
+use name_ranges::range_list;
+use pld_base::OutOfMemory;
+use set_expr::Scope;
+use std::alloc::Global;
+
+/// Whether a name stands for one of them.
+fn names_pulse(scope: &Scope<'_>, text: &[u8]) -> bool
+    ensures { result ≡ is_pulse_named (names_found (entries_of scope.now)) text.now }
+{
+    match scope.get(text) {
+        Some(name) => name.pulse,
+        None => false,
+    }
+}
+
+/// Whether one of two facts holds.
+fn either(first: bool, second: bool) -> bool
+    ensures { result ≡ (first || second) }
+{
+    first || second
+}
+
+/// Whether some name of a range stands for one of them.
+fn range_holds_pulse(
+    alloc: Global,
+    scope: &Scope<'_>,
+    first: &Word,
+    last: &Word,
+) -> Result<bool, OutOfMemory>
+    ensures { IfOk result (λ b. b ≡ list_any (is_pulse_named (names_found (entries_of scope.now))) (range_names first.now.text last.now.text)) }
+{
+    let names = range_list(alloc, first.text.bytes(), last.text.bytes())?;
+    let mut found = false;
+    for name in &names {
+        found = either(found, names_pulse(scope, name.as_slice()));
+    }
+    Ok(found)
+}
+
+/// Whether one of them stands in a member.
+#[cycle(pulses)]
+fn member_holds(alloc: Global, scope: &Scope<'_>, member: &Member) -> Result<bool, OutOfMemory>
+    ensures { IfOk result (λ b. b ≡ member_holds_pulse (names_found (entries_of scope.now)) (view_member member.now)) }
+{
+    match member {
+        Member::One(expr) => holds_pulse(alloc, scope, expr),
+        Member::Span { first, last } => range_holds_pulse(alloc, scope, first, last),
+    }
+}
+
+/// Whether one of them stands in what is no operator of two operands.
+#[cycle(pulses)]
+fn level_holds(alloc: Global, scope: &Scope<'_>, expr: &Expr) -> Result<bool, OutOfMemory>
+    ensures { IfOk result (λ b. b ≡ holds_pulse (names_found (entries_of scope.now)) (view expr.now)) }
+{
+    match expr {
+        Expr::Number(_) => Ok(false),
+        Expr::Special { letter, place: _ } => Ok(*letter != b'X'),
+        Expr::Name { word, extension: _ } => Ok(names_pulse(scope, word.text.bytes())),
+        Expr::Set {
+            place: _,
+            members,
+            extension: _,
+        } => {
+            let mut found = false;
+            for member in members.as_slice() {
+                let holds = member_holds(alloc, scope, member)?;
+                found = either(found, holds);
+            }
+            Ok(found)
+        }
+        Expr::Paren { place: _, inner } => holds_pulse(alloc, scope, inner.get()),
+        Expr::Unary {
+            sign: _,
+            place: _,
+            inner,
+        } => holds_pulse(alloc, scope, inner.get()),
+        Expr::Binary {
+            sign: _,
+            place: _,
+            left,
+            right,
+        } => {
+            let left = holds_pulse(alloc, scope, left.get())?;
+            let right = holds_pulse(alloc, scope, right.get())?;
+            Ok(left || right)
+        }
+    }
+}
+
+/// Whether `.C.` or `.Z.` stands in an expression, or a name of one. Goes down the left side of operators in a loop,
+/// and deeper by the nestings alone.
+#[cycle(pulses)]
+pub fn holds_pulse(alloc: Global, scope: &Scope<'_>, expr: &Expr) -> Result<bool, OutOfMemory>
+    ensures { IfOk result (λ b. b ≡ holds_pulse (names_found (entries_of scope.now)) (view expr.now)) }
+{
+    let mut first = expr;
+    let mut found = false;
+    'down: while let Expr::Binary {
+        sign: _,
+        place: _,
+        left,
+        right,
+    } = first
+    {
+        let holds = holds_pulse(alloc, scope, right.get())?;
+        found = either(found, holds);
+        first = left.get();
+    }
+    let holds = level_holds(alloc, scope, first)?;
+    Ok(found || holds)
+}
