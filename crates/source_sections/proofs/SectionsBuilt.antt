@@ -24,8 +24,8 @@ use Rattle.equations.specs.Checks.{view_list}
 use Rattle.equations.specs.StatementUnits.{statements_places, units_of_statements}
 use Rattle.truth_tables.specs.Checks.{units_of}
 use Rattle.truth_tables.specs.TableAnswers.{given_by, places_by}
-use Rattle.state_refusals.specs.Checks as diagram_checks
-use Rattle.diagram_contributions.specs.DiagramAnswers as diagram_answers
+use Rattle.state_diagrams.specs.Checks as diagram_checks
+use Rattle.state_diagrams.specs.DiagramAnswers as diagram_answers
 use Rattle.source_sections.specs.SectionUnits.{section_places, units_of_section}
 
 -- no condition stands round a block or statements

@@ -12,7 +12,7 @@ use Rattle.equations.specs.StatementUnits.{statements_manners, statements_places
 use Rattle.truth_tables.specs.OutputHeaders.{output_header}
 use Rattle.truth_tables.specs.TableUnits.{assigned_by, table_places, units_of_table}
 use Rattle.state_diagrams.specs.DiagramUnits.{diagram_manners, units_of_diagram}
-use Rattle.diagram_contributions.specs.DiagramPlaces.{diagram_places}
+use Rattle.state_diagrams.specs.DiagramPlaces.{diagram_places}
 
 -- how a section assigns signals behind what was assigned before, in order; vectors assign none
 abbrev pub section_manners : Context → List Manner → SectionTree → List Manner

@@ -8,11 +8,11 @@ ghost use Rattle.source_sections.specs.Reading.{NotesSection, BuildsSection, Bui
 use crate::behind::{after_section, block_after};
 use abel_tree::Section;
 use bit_expr::{ExprId, Exprs};
-use diagram_contributions::build_diagram;
 use equations::build_statements;
 use pld_device::Device;
 use section_targets::{Assigned, NamedSignals};
 use set_expr::{Contribution, Guard, Scope, SectionFault};
+use state_diagrams::build_diagram;
 use std::alloc::Global;
 use truth_tables::build_table;
 

@@ -11,7 +11,7 @@ use pld_base::OutOfMemory;
 use pld_device::Device;
 use section_targets::{Assigned, NamedSignals};
 use set_expr::{Scope, SectionFault, earlier};
-use state_refusals::check_diagram;
+use state_diagrams::check_diagram;
 use std::alloc::Global;
 use truth_tables::check_table;
 

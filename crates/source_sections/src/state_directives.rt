@@ -3,7 +3,7 @@
 ghost use Rattle.std.specs.Prelude.{◌≡◌, [], ◌∷◌, map};
 ghost use Rattle.abel_tree.specs.View.{view_arm, view_state};
 ghost use Rattle.abel_meaning.specs.Directives as directives;
-ghost use Rattle.state_refusals.specs.Arms.{view_goal, view_if, view_arms, view_choices};
+ghost use Rattle.state_diagrams.specs.Arms.{view_goal, view_if, view_arms, view_choices};
 
 use crate::directives::after_statements;
 use abel_tree::{Arm, CaseArm, Goal, If, State};

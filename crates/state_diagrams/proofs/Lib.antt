@@ -1,1 +1,20 @@
+pub mod ArmLaws
+pub mod ArmViews
+pub mod BranchWorks
+pub mod DiagramBuilt
 mod DiagramExamples
+pub mod GoalWorks
+pub mod GuardLaws
+pub mod GuardsOfStates
+pub mod LiteralLaws
+pub mod MatchLaws
+pub mod NumberLaws
+pub mod PushedLaws
+pub mod ReadLaws
+pub mod RegisterLaws
+pub mod StateBits
+pub mod StateLaws
+pub mod StateLists
+pub mod StateWorks
+pub mod StatesHold
+pub mod WholeDiagrams

@@ -4,7 +4,7 @@ use Rattle.abel_tree.specs.Tree.{choices_of}
 use Rattle.abel_tree.specs.View.{view_choice}
 use Rattle.abel_meaning.specs.Directives.{after_branch, after_choices}
 use Rattle.set_expr.proofs.FoundMembers.{front_more}
-use Rattle.state_refusals.proofs.ArmViews.{choice_parts}
+use Rattle.state_diagrams.proofs.ArmViews.{choice_parts}
 use Rattle.source_sections.proofs.DirectiveLists.{choices_push}
 use Rattle.source_sections.proofs.state_directives.+arms.Goals as goal
 

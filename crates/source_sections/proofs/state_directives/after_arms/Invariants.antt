@@ -1,7 +1,7 @@
 -- The directive behind so many transitions.
 use Rattle.std.proofs.Common.{◌≡◌, take}
 use Rattle.abel_meaning.specs.Directives.{after_branches}
-use Rattle.state_refusals.specs.Arms.{view_arms}
+use Rattle.state_diagrams.specs.Arms.{view_arms}
 use Rattle.source_sections.proofs.state_directives.after_arms.Given as goal
 
 abbrev pub invariant-loop-arm : goal.invariant-loop-arm

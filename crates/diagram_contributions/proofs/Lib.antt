@@ -1,5 +1,0 @@
-pub mod DiagramBuilt
-pub mod StateBits
-pub mod StateLists
-pub mod StateWorks
-pub mod WholeDiagrams

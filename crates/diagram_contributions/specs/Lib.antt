@@ -1,3 +1,0 @@
-pub mod DiagramAnswers
-pub mod DiagramPlaces
-pub mod DiagramWorks

@@ -1,3 +1,0 @@
-pub mod BranchWorks
-pub mod GoalWorks
-pub mod GuardLaws

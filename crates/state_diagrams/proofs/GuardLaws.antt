@@ -1,0 +1,137 @@
+-- The guards of the arms of CASE, and the unit of their conditions.
+use Rattle.std.proofs.Common.{◌≡◌, ℕ, zero, suc, ◌+◌, ◌<◌, false, true, Bool, Option, None, Some, List, [], ◌∷◌, ◌++◌, All, if◌then◌else◌, Result, Ok, length, get_or, refl, sym, ap, ◌∙◌, subst, arith}
+use Rattle.std.specs.Prelude.{◌==◌}
+use Rattle.pld_base.specs.declared.place.Place.{Place}
+use Rattle.bit_expr.specs.declared.node.ExprId.{ExprId}
+use Rattle.bit_expr.specs.Formulas.{Formula}
+use Rattle.abel_tree.specs.declared.diagrams.CaseArm.{CaseArm}
+use Rattle.abel_tree.specs.View.{view, view_choice}
+use Rattle.state_diagrams.proofs.ArmViews.{choice_parts}
+use Rattle.abel_tree.specs.Tree.{choices_of, Choices}
+use Rattle.abel_meaning.specs.CountedBlocks.{choices_nodes}
+use Rattle.abel_meaning.specs.CountedNodes.{choice_nodes, condition_of, guard_then}
+use Rattle.abel_meaning.specs.Designs.{Context}
+use Rattle.abel_meaning.specs.Numbers.{Shape, Number, Single, Set, Value}
+use Rattle.set_expr.specs.declared.contributions.Contributions.{Contributions}
+use Rattle.set_expr.specs.declared.fault.SectionFault.{SectionFault}
+use Rattle.set_expr.specs.declared.fault.SectionFault.TheVariants.{BadWidth}
+use Rattle.set_expr.specs.Answer.{Keeps}
+use Rattle.set_expr.specs.FoundNames.{expression_found}
+use Rattle.set_expr.specs.Refusals.{Found}
+use Rattle.section_targets.specs.Building.{IsBit, IsBuilt, StopsWith, Builds}
+use Rattle.section_targets.specs.Units.{part}
+use Rattle.section_targets.specs.ValueWidths.{value_refused, value_width, wrong_width}
+use Rattle.section_targets.proofs.Built.{builds_none, both_empty, left_empty, right_empty}
+use Rattle.section_targets.proofs.OneUnit.{one_unit, two_parts}
+use Rattle.equations.specs.Builds.{condition_unit}
+use Rattle.equations.specs.StatementUnits.{condition_refused}
+use Rattle.equations.proofs.BuiltParts.{kept_bit, stops_longer}
+use Rattle.state_diagrams.specs.DiagramUnits.{choices_refused}
+use Rattle.state_diagrams.specs.Branches.{AreGuardsOf}
+use Rattle.state_diagrams.proofs.BranchWorks.{Choice}
+
+-- ---- guards
+
+pub guards_kept : (d : Context) (old new : List Formula) (g : Formula) (cs : List Choice) (ids : List ExprId) → Keeps old new → AreGuardsOf d old g (choices_of cs) ids → AreGuardsOf d new g (choices_of cs) ids
+guards_kept d old new g [] [] k h = tt
+guards_kept d old new g [] (id ∷ ids) k h = absurd h
+guards_kept d old new g (c ∷ cs) [] k h = absurd h
+guards_kept d old new g (c ∷ cs) (id ∷ ids) k h = (kept_bit old new id (guard_then g (condition_of d c.0)).what k h.0, guards_kept d old new g cs ids k h.1)
+
+pub guards_more : (d : Context) (fs : List Formula) (g : Formula) (cs : List Choice) (ids : List ExprId) (c : Choice) (id : ExprId) → AreGuardsOf d fs g (choices_of cs) ids → IsBit fs id (guard_then g (condition_of d c.0)).what → AreGuardsOf d fs g (choices_of (cs ++ c ∷ [])) (ids ++ id ∷ [])
+guards_more d fs g [] [] c id h b = (b, tt)
+guards_more d fs g [] (x ∷ ids) c id h b = absurd h
+guards_more d fs g (y ∷ cs) [] c id h b = absurd h
+guards_more d fs g (y ∷ cs) (x ∷ ids) c id h b = (h.0, guards_more d fs g cs ids c id h.1 b)
+
+pub guard_at : (d : Context) (fs : List Formula) (g : Formula) (cs : List Choice) (ids : List ExprId) (i : ℕ) (c : Choice) (id : ExprId) → AreGuardsOf d fs g (choices_of cs) ids → i < length ids → IsBit fs (get_or ids i id) (guard_then g (condition_of d (get_or cs i c).0)).what
+guard_at d fs g [] [] i c id h lt = absurd (omega (arith, lt))
+guard_at d fs g [] (x ∷ ids) i c id h lt = absurd h
+guard_at d fs g (y ∷ cs) [] i c id h lt = absurd h
+guard_at d fs g (y ∷ cs) (x ∷ ids) zero c id h lt = h.0
+guard_at d fs g (y ∷ cs) (x ∷ ids) (suc i) c id h lt = guard_at d fs g cs ids i c id h.1 (omega (arith, lt))
+
+pub guards_inside : (d : Context) (fs : List Formula) (g : Formula) (cs : List Choice) (ids : List ExprId) → AreGuardsOf d fs g (choices_of cs) ids → All (λ (id : ExprId). id.0 < length fs) ids
+guards_inside d fs g [] [] h = λ k x lt. absurd (omega (arith, lt))
+guards_inside d fs g [] (id ∷ ids) h = absurd h
+guards_inside d fs g (c ∷ cs) [] h = absurd h
+guards_inside d fs g (c ∷ cs) (id ∷ ids) h = by h.0.0 (guards_inside d fs g cs ids h.1)
+  where
+    by : id.0 < length fs → All (λ (y : ExprId). y.0 < length fs) ids → All (λ (y : ExprId). y.0 < length fs) (id ∷ ids)
+    by a b zero x lt = a
+    by a b (suc k) x lt = b k x (omega (arith, lt))
+
+pub guards_each : (d : Context) (fs : List Formula) (g : Formula) (cs : List Choice) (ids : List ExprId) → AreGuardsOf d fs g (choices_of cs) ids → length ids ≡ length cs
+guards_each d fs g [] [] h = refl
+guards_each d fs g [] (id ∷ ids) h = absurd h
+guards_each d fs g (c ∷ cs) [] h = absurd h
+guards_each d fs g (c ∷ cs) (id ∷ ids) h = ap suc (guards_each d fs g cs ids h.1)
+
+-- ---- conditions
+
+-- where a condition stands changes nothing where it isn't refused
+anywhere : (p q : Place) (f : Found) → value_refused p 1 f ≡ [] → value_refused q 1 f ≡ []
+anywhere p q f e =
+    let more = f.specials ++ value_width p 1 f.value in
+    let rest = right_empty f.refusals more e in
+    both_empty f.refusals (f.specials ++ value_width q 1 f.value) (left_empty f.refusals more e)
+    (both_empty f.specials (value_width q 1 f.value) (left_empty f.specials (value_width p 1 f.value) rest) (by f.value (right_empty f.specials (value_width p 1 f.value) rest)))
+  where
+    by_width : (b : Bool) → (if b then [] else BadWidth p ∷ []) ≡ [] → (if b then [] else BadWidth q ∷ []) ≡ []
+    by_width true e = refl
+    by_width false e = absurd cc
+
+    by_shape : (s : Shape) → wrong_width p 1 s ≡ [] → wrong_width q 1 s ≡ []
+    by_shape Number e = refl
+    by_shape Single e = refl
+    by_shape (Set w) e = by_width (w == 1) e
+
+    by : (v : Option Value) → value_width p 1 v ≡ [] → value_width q 1 v ≡ []
+    by None e = refl
+    by (Some v) e = by_shape v.shape e
+
+pub clear_at : (d : Context) (cs : List Choice) (i : ℕ) (c : Choice) (p : Place) → choices_refused d (choices_of cs) ≡ [] → i < length cs → condition_refused d p (get_or cs i c).0 ≡ []
+clear_at d [] i c p e lt = absurd (omega (arith, lt))
+clear_at d (x ∷ cs) zero c p e lt = anywhere x.1.0 p (expression_found d.names x.0) (left_empty (condition_refused d x.1.0 x.0) (choices_refused d (choices_of cs)) e)
+clear_at d (x ∷ cs) (suc i) c p e lt = clear_at d cs i c p (right_empty (condition_refused d x.1.0 x.0) (choices_refused d (choices_of cs)) e) (omega (arith, lt))
+
+nodes_more : (d : Context) (g : Formula) (cs : List Choice) (c : Choice) → choices_nodes d g (choices_of (cs ++ c ∷ [])) ≡ choices_nodes d g (choices_of cs) + choice_nodes d g c.0 false
+nodes_more d g [] c = omega arith
+nodes_more d g (x ∷ cs) c = omega (arith, nodes_more d g cs c)
+
+nodes_append : (d : Context) (g : Formula) (cs ds : List Choice) → choices_nodes d g (choices_of (cs ++ ds)) ≡ choices_nodes d g (choices_of cs) + choices_nodes d g (choices_of ds)
+nodes_append d g [] ds = omega arith
+nodes_append d g (x ∷ cs) ds = omega (arith, nodes_append d g cs ds)
+
+-- no arm makes no node
+pub no_nodes : (p : Place) (out : Contributions) → IsBuilt (part p 0 ∷ []) [] [] out out
+no_nodes p out = one_unit {R = Unit} p [] [] [] out out (Ok tt) tt (builds_none out)
+
+-- the condition of one arm more, of which nothing is refused
+pub conditions_next : {R : Type 0} (d : Context) (g h : Formula) (p : Place) (cs ds : List Choice) (c : Choice) (old mid new : Contributions) (r : Result R SectionFault) → ds ≡ cs ++ c ∷ [] → h ≡ g → condition_refused d p c.0 ≡ []
+    → IsBuilt (part p (choices_nodes d g (choices_of cs)) ∷ []) [] [] old mid
+    → Builds (condition_unit d p c.0 (choice_nodes d h c.0 false) ∷ []) [] [] mid new r
+    → Builds (part p (choices_nodes d g (choices_of ds)) ∷ []) [] [] old new r
+conditions_next d g h p cs ds c old mid new r e same clear b a =
+    let n = choice_nodes d g c.0 false in
+    subst (λ m. Builds (part p m ∷ []) [] [] old new r) (sym (ap (λ xs. choices_nodes d g (choices_of xs)) e ∙ nodes_more d g cs c))
+    (two_parts p (choices_nodes d g (choices_of cs)) n old mid new r b
+    (subst (λ (f : Formula). Builds (part p (choice_nodes d f c.0 false) ∷ []) [] [] mid new r) same
+    (subst (λ rs. Builds (record { place = p; refusals = rs; nodes = choice_nodes d h c.0 false } ∷ []) [] [] mid new r) clear a)))
+
+-- where one stops, those behind it aren't made
+pub conditions_stop : (d : Context) (g : Formula) (p : Place) (cs ds es : List Choice) (old new : Contributions) (f : SectionFault) → es ≡ cs ++ ds
+    → StopsWith (part p (choices_nodes d g (choices_of cs)) ∷ []) [] [] old new f → StopsWith (part p (choices_nodes d g (choices_of es)) ∷ []) [] [] old new f
+conditions_stop d g p cs ds es old new f e s =
+    subst (λ m. StopsWith (part p m ∷ []) [] [] old new f) (sym (ap (λ xs. choices_nodes d g (choices_of xs)) e ∙ nodes_append d g cs ds))
+    (stops_longer p [] (choices_nodes d g (choices_of cs)) (choices_nodes d g (choices_of ds)) old new f s)
+
+-- the unit of conditions of which nothing is refused, and of refused ones
+pub conditions_clear : {R : Type 0} (d : Context) (g : Formula) (p : Place) (cs : Choices) (old new : Contributions) (r : Result R SectionFault) → choices_refused d cs ≡ [] → Builds (part p (choices_nodes d g cs) ∷ []) [] [] old new r
+    → Builds (record { place = p; refusals = choices_refused d cs; nodes = choices_nodes d g cs } ∷ []) [] [] old new r
+conditions_clear d g p cs old new r e b = subst (λ rs. Builds (record { place = p; refusals = rs; nodes = choices_nodes d g cs } ∷ []) [] [] old new r) (sym e) b
+
+-- the condition of an arm of the code
+pub condition_there : {R : Type 0} (d : Context) (p : Place) (x : CaseArm) (g : Formula) (old new : Contributions) (r : Result R SectionFault) → Builds (condition_unit d p (view x.condition) (choice_nodes d g (view x.condition) false) ∷ []) [] [] old new r
+    → Builds (condition_unit d p (view_choice x).0 (choice_nodes d g (view_choice x).0 false) ∷ []) [] [] old new r
+condition_there d p x g old new r b = subst (λ (z : Choice). Builds (condition_unit d p z.0 (choice_nodes d g z.0 false) ∷ []) [] [] old new r) (sym (choice_parts x)) b

@@ -1,0 +1,47 @@
+-- The bits of states in an arena that grows.
+use Rattle.std.proofs.Common.{◌≡◌, zero, suc, ◌<◌, List, [], ◌∷◌, ◌++◌, All, length, map, get_or, refl, sym, ap, ap₂, ◌∙◌, subst, arith}
+use Rattle.std.proofs.lemmas.List.{length-map, map-append}
+use Rattle.std.proofs.lemmas.List.Elements.{All-append}
+use Rattle.bit_expr.specs.declared.node.ExprId.{ExprId}
+use Rattle.bit_expr.specs.Arena.{formula_at}
+use Rattle.bit_expr.specs.Formulas.{Formula}
+use Rattle.abel_tree.specs.Tree.{StateTree}
+use Rattle.abel_meaning.specs.Designs.{Context}
+use Rattle.set_expr.specs.Answer.{Keeps}
+use Rattle.section_targets.specs.declared.aim.Aim.{Aim}
+use Rattle.section_targets.specs.Building.{IsBit, AreBits}
+use Rattle.section_targets.proofs.Built.{kept_formula, kept_inside}
+use Rattle.state_diagrams.specs.DiagramWorks.{state_bit, state_bits}
+
+abbrev InArena : List Formula → List ExprId → Type 0
+InArena fs ids = All (λ (id : ExprId). id.0 < length fs) ids
+
+kept_bits : (old new : List Formula) (ids : List ExprId) → Keeps old new → InArena old ids → map (formula_at new) ids ≡ map (formula_at old) ids
+kept_bits old new [] k h = refl
+kept_bits old new (id ∷ ids) k h =
+    ap₂ (λ f fs. f ∷ fs) (kept_formula old new id k (h 0 id (omega arith))) (kept_bits old new ids k (λ i x lt. h (suc i) x (omega (arith, lt))))
+
+-- what was added changes no bit
+pub bits_kept : (old new : List Formula) (ids : List ExprId) (fs : List Formula) → Keeps old new → AreBits old ids fs → AreBits new ids fs
+bits_kept old new ids fs k b = (λ i x lt. kept_inside old new (get_or ids i x) k (b.0 i x lt), kept_bits old new ids k b.0 ∙ b.1)
+
+alone : (fs : List Formula) (id : ExprId) → id.0 < length fs → InArena fs (id ∷ [])
+alone fs id h zero x lt = h
+alone fs id h (suc i) x lt = absurd (omega (arith, lt))
+
+bits_more : (fs : List Formula) (ids : List ExprId) (gs : List Formula) (id : ExprId) (g : Formula) → AreBits fs ids gs → IsBit fs id g → AreBits fs (ids ++ id ∷ []) (gs ++ g ∷ [])
+bits_more fs ids gs id g b o = (
+  All-append (λ (x : ExprId). x.0 < length fs) ids (id ∷ []) b.0 (alone fs id o.0),
+  map-append (formula_at fs) ids (id ∷ []) ∙ ap₂ (λ xs x. xs ++ x ∷ []) b.1 o.1,
+)
+
+-- the bit of one state more
+pub states_more : (d : Context) (xs : List Aim) (old new : List Formula) (ids : List ExprId) (id : ExprId) (ss ts : List StateTree) (s : StateTree) → ts ≡ ss ++ s ∷ [] → Keeps old new
+    → AreBits old ids (state_bits d xs ss) → IsBit new id (state_bit d xs s) → AreBits new (ids ++ id ∷ []) (state_bits d xs ts)
+states_more d xs old new ids id ss ts s e k b o =
+    subst (AreBits new (ids ++ id ∷ [])) (sym (ap (state_bits d xs) e ∙ map-append (λ (x : StateTree). state_bit d xs x) ss (s ∷ [])))
+    (bits_more new ids (state_bits d xs ss) id (state_bit d xs s) (bits_kept old new ids (state_bits d xs ss) k b) o)
+
+-- there is a bit for each state
+pub states_counted : (d : Context) (xs : List Aim) (fs : List Formula) (ids : List ExprId) (ss : List StateTree) → AreBits fs ids (state_bits d xs ss) → length ids ≡ length ss
+states_counted d xs fs ids ss b = sym (length-map ids (formula_at fs)) ∙ ap length b.1 ∙ length-map ss (λ (s : StateTree). state_bit d xs s)

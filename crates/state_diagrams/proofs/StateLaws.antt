@@ -1,0 +1,146 @@
+-- The first refusal of the units of states, part by part.
+use Rattle.std.proofs.Common.{◌≡◌, ℕ, ◌^◌, Bool, true, false, not, ◌&&◌, nat_lt, Option, None, Some, List, [], ◌∷◌, ◌++◌, if◌then◌else◌, length, refl, sym, ap, ap₂, ◌∙◌, append_assoc, append-nil}
+use Rattle.std.specs.Prelude.{◌==◌}
+use Rattle.std.specs.List.{list_any}
+use Rattle.pld_base.specs.declared.place.Place.{Place}
+use Rattle.bit_expr.specs.Formulas.{Formula}
+use Rattle.abel_tree.specs.FirstRefusal.{earlier}
+use Rattle.abel_tree.specs.Tree.{Tree, StateTree, statements_of}
+use Rattle.abel_tree.proofs.FirstRefusals.{first_append, none_refused}
+use Rattle.abel_meaning.specs.Designs.{Context}
+use Rattle.abel_meaning.specs.Terms.{term_of}
+use Rattle.set_expr.specs.declared.fault.SectionFault.{SectionFault}
+use Rattle.set_expr.specs.declared.fault.SectionFault.TheVariants.{BadState}
+use Rattle.set_expr.specs.Refusals.{Found}
+use Rattle.set_expr.specs.SectionOrder.{section_order}
+use Rattle.section_targets.specs.declared.manner.Manner.{Manner}
+use Rattle.section_targets.specs.Units.{CountedUnit, units_refused}
+use Rattle.equations.specs.StatementUnits.{statements_manners, units_of_statements}
+use Rattle.state_diagrams.specs.DiagramUnits.{manners_behind, state_guard, state_manners, states_manners, units_behind, units_of_branches, units_of_state, units_of_states, units_within}
+use Rattle.state_diagrams.specs.StateValues.{if_none, is_empty, is_state_of, listed_after, listed_with, reads_signal, state_number, state_refused, state_value_refused}
+use Rattle.state_diagrams.specs.Checks.{listed_behind, listed_if}
+use Rattle.state_diagrams.proofs.ArmLaws.{first, refused, first_both}
+
+-- ---- values
+
+-- refused inside
+pub inside_refused : (d : Context) (p : Place) (n : ℕ) (listed : List ℕ) (f : Found) (v : Tree) (x : SectionFault) → Some x ≡ first f.refusals → Some x ≡ first (state_value_refused d p n listed f v)
+inside_refused d p n listed f v x e = by f.refusals e
+  where
+    by : (rs : List SectionFault) → Some x ≡ first rs → Some x ≡ first (if_none rs (if is_state_of d n listed f.specials v then [] else BadState p ∷ []))
+    by [] e = absurd cc
+    by (r ∷ rs) e = e
+
+at_state : (d : Context) (p : Place) (n : ℕ) (listed : List ℕ) (f : Found) (v : Tree) (b : Bool) → None ≡ first f.refusals → is_state_of d n listed f.specials v ≡ b → (if b then None else Some (BadState p)) ≡ first (state_value_refused d p n listed f v)
+at_state d p n listed f v b e h = by f.refusals (none_refused section_order f.refusals e) b h
+  where
+    by : (rs : List SectionFault) → rs ≡ [] → (b : Bool) → is_state_of d n listed f.specials v ≡ b → (if b then None else Some (BadState p)) ≡ first (if_none rs (if is_state_of d n listed f.specials v then [] else BadState p ∷ []))
+    by [] e true h = rw h refl
+    by [] e false h = rw h refl
+    by (r ∷ rs) e b h = absurd cc
+
+-- an X stands in it
+pub unknown_refused : (d : Context) (p : Place) (n : ℕ) (listed : List ℕ) (f : Found) (v : Tree) (x : SectionFault) → None ≡ first f.refusals → Some x ≡ first f.specials → Some (BadState p) ≡ first (state_value_refused d p n listed f v)
+unknown_refused d p n listed f v x e h = at_state d p n listed f v false e (by f.specials h)
+  where
+    by : (rs : List SectionFault) → Some x ≡ first rs → is_state_of d n listed rs v ≡ false
+    by [] h = absurd cc
+    by (r ∷ rs) h = refl
+
+-- it reads a signal
+pub read_refused : (d : Context) (p : Place) (n : ℕ) (listed : List ℕ) (f : Found) (v : Tree) → None ≡ first f.refusals → reads_signal (term_of d.known v) ≡ true → Some (BadState p) ≡ first (state_value_refused d p n listed f v)
+read_refused d p n listed f v e h = at_state d p n listed f v false e (by (is_empty f.specials) (reads_signal (term_of d.known v)) h)
+  where
+    by : (a b : Bool) → b ≡ true → (a && (not b && (nat_lt (state_number d v) (2 ^ n) && not (list_any (λ m. m == state_number d v) listed)))) ≡ false
+    by a false h = absurd cc
+    by true true h = refl
+    by false true h = refl
+
+-- it is a number that the registers hold or not, and is listed or not
+pub number_refused : (d : Context) (p : Place) (n : ℕ) (listed : List ℕ) (f : Found) (v : Tree) (m : ℕ) (b : Bool) → f.refusals ≡ [] → f.specials ≡ [] → reads_signal (term_of d.known v) ≡ false → m ≡ state_number d v
+    → (nat_lt m (2 ^ n) && not (list_any (λ k. k == m) listed)) ≡ b
+    → (if b then None else Some (BadState p)) ≡ first (state_value_refused d p n listed f v)
+number_refused d p n listed f v m b r s h e k =
+    at_state d p n listed f v b (sym (ap first r))
+    (ap₂ (λ xs y. is_empty xs && (not y && (nat_lt (state_number d v) (2 ^ n) && not (list_any (λ i. i == state_number d v) listed)))) s h
+    ∙ ap (λ j. nat_lt j (2 ^ n) && not (list_any (λ i. i == j) listed)) (sym e) ∙ k)
+
+-- a state that isn't refused is listed
+pub listed_as : (d : Context) (n : ℕ) (listed : List ℕ) (s : StateTree) (m : ℕ) (f : Option SectionFault) → f ≡ first (state_refused d n listed s) → (f ≡ None → m ≡ state_number d s.value) → listed_if f listed m ≡ listed_after d n listed s
+listed_as d n listed s m f e h = by f (state_refused d n listed s) e h
+  where
+    by : (f : Option SectionFault) (rs : List SectionFault) → f ≡ first rs → (f ≡ None → m ≡ state_number d s.value) → listed_if f listed m ≡ listed_with rs listed (state_number d s.value)
+    by None [] e h = ap (λ k. listed ++ k ∷ []) (h refl)
+    by (Some x) [] e h = absurd cc
+    by (Some x) (r ∷ rs) e h = refl
+    by None (r ∷ rs) e h = absurd (never (none_refused section_order (r ∷ rs) e))
+      where
+        never : r ∷ rs ≡ [] → ⊥
+        never e = cc
+
+-- ---- states
+
+pub within_refused : (d : Context) (g : Formula) (n : ℕ) (all : List Manner) (s : StateTree)
+    → earlier section_order (refused (units_of_statements d g all (statements_of s.statements))) (refused (units_of_branches d g n (all ++ statements_manners d (statements_of s.statements)) s.transitions))
+    ≡ refused (units_within d g n all s)
+within_refused d g n all s =
+    first_both (units_of_statements d g all (statements_of s.statements)) (units_of_branches d g n (all ++ statements_manners d (statements_of s.statements)) s.transitions)
+
+pub state_both : (d : Context) (ss : List ℕ) (n : ℕ) (all : List Manner) (rs : List SectionFault) (s : StateTree) → length ss ≡ n
+    → earlier section_order (first rs) (refused (units_within d (state_guard d ss s.value).what n all s)) ≡ refused (units_of_state d ss all rs s (state_guard d ss s.value))
+state_both d ss n all rs s e =
+    ap (λ m. earlier section_order (first rs) (refused (units_within d (state_guard d ss s.value).what m all s))) (sym e)
+    ∙ sym (first_append section_order rs (units_refused (units_within d (state_guard d ss s.value).what (length ss) all s)))
+
+abbrev pub unit_of : Context → List ℕ → List Manner → List ℕ → StateTree → List CountedUnit
+unit_of d ss all listed s = units_of_state d ss all (state_refused d (length ss) listed s) s (state_guard d ss s.value)
+
+pub states_more : (d : Context) (ss : List ℕ) (all : List Manner) (listed : List ℕ) (xs : List StateTree) (x : StateTree) → units_of_states d ss all listed (xs ++ x ∷ []) ≡ units_of_states d ss all listed xs ++ unit_of d ss (all ++ states_manners d xs) (listed_behind d (length ss) listed xs) x
+states_more d ss all listed [] x =
+    append-nil (unit_of d ss all listed x) ∙ ap (λ ms. unit_of d ss ms listed x) (sym (append-nil all))
+states_more d ss all listed (y ∷ xs) x =
+    let us = unit_of d ss all listed y in
+    let ms = state_manners d y in
+    let after = listed_after d (length ss) listed y in
+    ap (λ vs. us ++ vs) (states_more d ss (all ++ ms) after xs x)
+    ∙ sym (append_assoc us (units_of_states d ss (all ++ ms) after xs) (unit_of d ss ((all ++ ms) ++ states_manners d xs) (listed_behind d (length ss) after xs) x))
+    ∙ ap (λ ns. units_of_states d ss all listed (y ∷ xs) ++ unit_of d ss ns (listed_behind d (length ss) after xs) x) (append_assoc all ms (states_manners d xs))
+
+pub listed_more : (d : Context) (n : ℕ) (listed : List ℕ) (xs : List StateTree) (x : StateTree) → listed_behind d n listed (xs ++ x ∷ []) ≡ listed_after d n (listed_behind d n listed xs) x
+listed_more d n listed [] x = refl
+listed_more d n listed (y ∷ xs) x = listed_more d n (listed_after d n listed y) xs x
+
+state_manners_more : (d : Context) (xs : List StateTree) (x : StateTree) → states_manners d (xs ++ x ∷ []) ≡ states_manners d xs ++ state_manners d x
+state_manners_more d [] x = append-nil (state_manners d x)
+state_manners_more d (y ∷ xs) x =
+    ap (λ ms. state_manners d y ++ ms) (state_manners_more d xs x) ∙ sym (append_assoc (state_manners d y) (states_manners d xs) (state_manners d x))
+
+-- the states of a longer front
+pub states_next : (d : Context) (ss : List ℕ) (all : List Manner) (listed : List ℕ) (xs ys : List StateTree) (x : StateTree) → ys ≡ xs ++ x ∷ []
+    → earlier section_order (refused (units_of_states d ss all listed xs)) (refused (unit_of d ss (all ++ states_manners d xs) (listed_behind d (length ss) listed xs) x)) ≡ refused (units_of_states d ss all listed ys)
+states_next d ss all listed xs ys x e =
+    first_both (units_of_states d ss all listed xs) (unit_of d ss (all ++ states_manners d xs) (listed_behind d (length ss) listed xs) x)
+    ∙ sym (ap (λ zs. refused (units_of_states d ss all listed zs)) e ∙ ap refused (states_more d ss all listed xs x))
+
+pub states_noted : (d : Context) (all : List Manner) (xs ys : List StateTree) (x : StateTree) → ys ≡ xs ++ x ∷ []
+    → (all ++ states_manners d xs) ++ state_manners d x ≡ all ++ states_manners d ys
+states_noted d all xs ys x e =
+    append_assoc all (states_manners d xs) (state_manners d x) ∙ ap (λ ms. all ++ ms) (sym (ap (states_manners d) e ∙ state_manners_more d xs x))
+
+-- ---- behind the registers
+
+pub behind_refused : (rs : List SectionFault) (p : Place) (us : List CountedUnit) (f : SectionFault) → Some f ≡ first rs → Some f ≡ refused (units_behind rs p us)
+behind_refused [] p us f e = absurd cc
+behind_refused (r ∷ rs) p us f e = e ∙ ap first (sym (append-nil (r ∷ rs)))
+
+pub behind_accepted : (rs : List SectionFault) (p : Place) (us : List CountedUnit) → rs ≡ [] → refused us ≡ refused (units_behind rs p us)
+behind_accepted [] p us e = refl
+behind_accepted (r ∷ rs) p us e = absurd cc
+
+pub manners_refused : (rs : List SectionFault) (ms ns : List Manner) (f : SectionFault) → Some f ≡ first rs → ms ≡ ms ++ manners_behind rs ns
+manners_refused [] ms ns f e = absurd cc
+manners_refused (r ∷ rs) ms ns f e = sym (append-nil ms)
+
+pub manners_accepted : (rs : List SectionFault) (ms ns : List Manner) → rs ≡ [] → ms ++ ns ≡ ms ++ manners_behind rs ns
+manners_accepted [] ms ns e = refl
+manners_accepted (r ∷ rs) ms ns e = absurd cc

@@ -1,0 +1,17 @@
+-- The answer of reading a signal, as a part of a unit.
+use Rattle.state_diagrams.specs.Literals.{bare_read}
+use Rattle.state_diagrams.proofs.LiteralLaws.{bit_made, bit_past, no_memory}
+use Rattle.state_diagrams.proofs.literals.bare_bit.Goals as goal
+
+pub returns-in-Ok : goal.returns-in-Ok
+returns-in-Ok g c = λ d is. bit_made c.args.unit _ _ c.in-Ok.id (bare_read d c.args.signal) (c.in-Ok.ensures d is)
+
+pub returns-in-Err-NodeLimit : goal.returns-in-Err-NodeLimit
+returns-in-Err-NodeLimit g c = λ d is.
+    let h = rw c.in-Err-NodeLimit.field-0-is at (c.in-Err-NodeLimit.ensures d is) in
+    bit_past c.args.unit c.args.exprs.now c.read_signal.new.exprs (bare_read d c.args.signal) h.0 h.1
+
+pub returns-in-Err-OutOfMemory : goal.returns-in-Err-OutOfMemory
+returns-in-Err-OutOfMemory g c = λ d is.
+    let h = rw c.in-Err-OutOfMemory.field-0-is at (c.in-Err-OutOfMemory.ensures d is) in
+    no_memory c.args.unit c.args.exprs.now c.read_signal.new.exprs (bare_read d c.args.signal) h

@@ -1,0 +1,66 @@
+//! A register's literal: its bare name, plain or complemented.
+
+ghost use Rattle.std.specs.Prelude.{◌<◌, length};
+ghost use Rattle.bit_expr.specs.Arena.{arena, formula_at};
+ghost use Rattle.abel_meaning.specs.CountedBlocks.{make_literal};
+ghost use Rattle.abel_meaning.specs.Designs.{Context};
+ghost use Rattle.set_expr.specs.Answer.{IsContextOf};
+ghost use Rattle.state_diagrams.specs.Literals.{MakesBit, bare_read, register_literal};
+
+use bit_expr::{ExprFault, ExprId, Exprs, Node};
+use expr_bits::read_signal;
+use pld_base::Place;
+use pld_device::Device;
+use section_targets::{add_node, guard_else};
+use set_expr::{Scope, SectionFault};
+
+/// The bit that the bare name of a signal reads, as a part of the unit at a place.
+fn bare_bit<D: Device>(
+    scope: &Scope<'_>,
+    signal: u32,
+    unit: Place,
+    exprs: &mut Exprs,
+) -> Result<ExprId, SectionFault>
+    ensures { (d : Context) → IsContextOf D.table scope.now d → MakesBit unit (bare_read d signal) exprs.old exprs.new result }
+{
+    match read_signal::<D>(scope, exprs, signal, None) {
+        Ok(id) => Ok(id),
+        Err(ExprFault::NodeLimit) => Err(SectionFault::NodeLimit(unit)),
+        Err(ExprFault::OutOfMemory) => Err(SectionFault::OutOfMemory),
+    }
+}
+
+/// What was found before, and a bit that is to be a digit.
+fn with_digit(
+    found: ExprId,
+    bit: ExprId,
+    digit: bool,
+    unit: Place,
+    exprs: &mut Exprs,
+) -> Result<ExprId, SectionFault>
+    requires found { found.0 < length (arena exprs.old) }
+    requires bit { bit.0 < length (arena exprs.old) }
+    ensures { MakesBit unit (make_literal (formula_at (arena exprs.old) found) digit (formula_at (arena exprs.old) bit)) exprs.old exprs.new result }
+{
+    if digit {
+        add_node(exprs, Node::And(found, bit), unit)
+    } else {
+        guard_else(exprs, found, bit, unit)
+    }
+}
+
+/// What was found before, and a register that is to read a digit.
+pub(crate) fn with_register<D: Device>(
+    scope: &Scope<'_>,
+    found: ExprId,
+    signal: u32,
+    digit: bool,
+    unit: Place,
+    exprs: &mut Exprs,
+) -> Result<ExprId, SectionFault>
+    requires found { found.0 < length (arena exprs.old) }
+    ensures { (d : Context) → IsContextOf D.table scope.now d → MakesBit unit (register_literal d (formula_at (arena exprs.old) found) signal digit) exprs.old exprs.new result }
+{
+    let bit = bare_bit::<D>(scope, signal, unit, exprs)?;
+    with_digit(found, bit, digit, unit, exprs)
+}

@@ -1,0 +1,115 @@
+//! Matches beside contributions.
+
+ghost use Rattle.std.specs.Prelude.{◌≡◌, ◌≤◌, true, OnOk, length};
+ghost use Rattle.abel_meaning.specs.Targets.{is_data};
+ghost use Rattle.state_diagrams.specs.DiagramUnits.{signals_of};
+ghost use Rattle.state_diagrams.specs.Matches.{GivesMatches};
+ghost use Rattle.state_diagrams.specs.Pushed.{is_among, is_first, pushed_beside, pushed_if, seen_if, Pushes};
+
+use abel_tree::Extension;
+use bit_expr::ExprId;
+use section_targets::Aim;
+use set_expr::{Contribution, Gives, SectionFault, Target};
+use std::alloc::Global;
+
+/// Whether a target with this extension is data: the name itself, or the raw input of its register.
+fn is_data(extension: Option<Extension>) -> bool
+    ensures { result ≡ is_data extension }
+{
+    matches!(extension, None | Some(Extension::D))
+}
+
+/// Whether the signal is a register.
+fn is_register(registers: &[Aim], signal: u32) -> bool
+    ensures { result ≡ is_among (signals_of registers.now) signal }
+{
+    registers
+        .iter()
+        .map(|aim| aim.signal)
+        .any(|other| signal == other)
+}
+
+/// Whether the signal was seen.
+fn is_seen(seen: &[u32], signal: u32) -> bool
+    ensures { result ≡ is_among seen.now signal }
+{
+    seen.iter().any(|other| signal == *other)
+}
+
+/// Whether it is the first data to a signal that is no register.
+fn is_first(registers: &[Aim], seen: &[u32], given: Contribution) -> bool
+    ensures { result ≡ is_first (signals_of registers.now) seen.now given }
+{
+    is_data(given.target.extension)
+        && !is_register(registers, given.target.signal)
+        && !is_seen(seen, given.target.signal)
+}
+
+/// A match beside a contribution, where the bit is 1.
+fn match_beside(given: Contribution, state: ExprId) -> Contribution
+    ensures { result ≡ pushed_beside given state }
+{
+    Contribution {
+        target: Target {
+            signal: given.target.signal,
+            extension: None,
+        },
+        what: Gives::Match,
+        when: state,
+        ..given
+    }
+}
+
+/// Appends a match beside a contribution where each of these bits is 1.
+fn give_beside(
+    states: &[ExprId],
+    given: Contribution,
+    list: &mut Vec<Contribution>,
+) -> Result<(), SectionFault>
+    ensures { Pushes (pushed_if true states.now given) list.old.items list.new.items result }
+{
+    for index in 0..states.len() {
+        list.push(match_beside(given, states[index]))?;
+    }
+    Ok(())
+}
+
+/// Appends the matches for a contribution, if it is the first data to a signal that is no register; that signal then counts
+/// as seen.
+fn give_if_first(
+    registers: &[Aim],
+    states: &[ExprId],
+    given: Contribution,
+    seen: &mut Vec<u32>,
+    list: &mut Vec<Contribution>,
+) -> Result<(), SectionFault>
+    ensures seen { OnOk result (seen.new.items ≡ seen_if (is_first (signals_of registers.now) seen.old.items given) seen.old.items given) }
+    ensures pushes { Pushes (pushed_if (is_first (signals_of registers.now) seen.old.items given) states.now given) list.old.items list.new.items result }
+{
+    if is_first(registers, seen.as_slice(), given) {
+        seen.push(given.target.signal)?;
+        give_beside(states, given, list)?;
+    }
+    Ok(())
+}
+
+/// Appends, for each signal but the registers that some contribution behind `start` gives data to, a match where each of these
+/// bits is 1, from the first contribution to the signal, which says on the clock or not, complement and place.
+pub fn give_matches(
+    alloc: Global,
+    registers: &[Aim],
+    states: &[ExprId],
+    start: usize,
+    list: &mut Vec<Contribution>,
+) -> Result<(), SectionFault>
+    requires start { start ≤ length list.old.items }
+    ensures gives { GivesMatches registers.now states.now start list.old.items list.new.items result }
+{
+    let end = list.len();
+    let mut seen = Vec::new(alloc);
+    for index in start..end {
+        let given = list.as_slice()[index];
+        give_if_first(registers, states, given, &mut seen, list)?;
+    }
+    Ok(())
+}

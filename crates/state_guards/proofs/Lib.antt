@@ -1,2 +1,0 @@
-pub mod LiteralLaws
-pub mod StatesHold

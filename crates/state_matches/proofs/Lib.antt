@@ -1,3 +1,0 @@
-pub mod GuardsOfStates
-pub mod MatchLaws
-pub mod PushedLaws

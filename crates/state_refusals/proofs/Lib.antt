@@ -1,4 +1,0 @@
-pub mod ArmLaws
-pub mod ArmViews
-pub mod RegisterLaws
-pub mod StateLaws

@@ -1,4 +1,0 @@
-pub mod Arms
-pub mod Checks
-pub mod Registers
-pub mod States
