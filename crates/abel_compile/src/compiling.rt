@@ -9,7 +9,7 @@ ghost use Rattle.abel_tree.specs.View.{view_module};
 ghost use Rattle.abel_meaning.specs.Designs.{design_of};
 ghost use Rattle.abel_meaning.specs.Kinds.{names_of};
 ghost use Rattle.module_reader.specs.Texts.{SpellsModule};
-ghost use Rattle.source_vectors.specs.AllSections.{AreSections};
+ghost use Rattle.abel_vectors.specs.AllSections.{AreSections};
 ghost use Rattle.abel_compile.specs.Answers.{CompileAnswers, IsNeverRefused};
 ghost use Rattle.abel_compile.specs.Statement.{IsRightFile};
 ghost use Rattle.devices.specs.Devices.{table_of};
@@ -22,6 +22,7 @@ use crate::laws::fits_are_right;
 use crate::placed::PlacedModule;
 use crate::telling::compiled_of;
 use abel_tree::Module;
+use abel_vectors::SourceSections;
 use compile_phases::{
     CompileFault, declared_of, device_named, fitted_of, module_of, names_of, netlist_of, placed_of,
     read_names_are_plain, sections_of,
@@ -29,7 +30,6 @@ use compile_phases::{
 use devices::on_device;
 use pld_base::DeviceName;
 use pld_device::Device;
-use source_vectors::SourceSections;
 use std::alloc::Global;
 
 /// The fuse file of a placed module for a device.

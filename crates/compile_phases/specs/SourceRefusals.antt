@@ -27,7 +27,7 @@ use Rattle.design.specs.Answers.{HasNoRefusal, IsDesignRefused}
 use Rattle.design_lines.specs.Designs.{design_text}
 use Rattle.design_lines.specs.Fits.{fit_text}
 use Rattle.source_sections.specs.SectionAnswers.{AreContributed}
-use Rattle.source_vectors.specs.AllSections.{all_sections_refused}
+use Rattle.abel_vectors.specs.AllSections.{all_sections_refused}
 use Rattle.fitter.specs.Width.{IsFirstWide, NoneWide}
 use Rattle.fitter.specs.declared.fault.FitFault.TheVariants as fit
 use Rattle.compile_phases.specs.declared.fault.SourceFault.{SourceFault}

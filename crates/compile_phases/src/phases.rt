@@ -11,7 +11,7 @@ ghost use Rattle.abel_meaning.specs.SoundIds.{IsSoundNetlist};
 ghost use Rattle.decls.specs.NameRefusals.{first_name_refusal};
 ghost use Rattle.set_expr.specs.SectionOrder.{section_order};
 ghost use Rattle.source_sections.specs.SectionAnswers.{AreContributed};
-ghost use Rattle.source_vectors.specs.AllSections.{AreSections, all_sections_refused};
+ghost use Rattle.abel_vectors.specs.AllSections.{AreSections, all_sections_refused};
 ghost use Rattle.netlist_laws.specs.Takeable.{IsTakeable};
 ghost use Rattle.fitter.specs.Answers.{IsFitOf};
 ghost use Rattle.placer.specs.Following.{HasNumberedNames};
@@ -25,6 +25,7 @@ use crate::fault::CompileFault;
 use crate::laws::sections_are_accepted;
 use crate::refusing::{uncontributed, undesigned, unfit, unnamed, unplaced, unread};
 use abel_tree::{Module, Names};
+use abel_vectors::{SourceSections, all_sections};
 use accepted_designs::unrefused_is_takeable;
 use bit_expr::Netlist;
 use declared_names::{declare, numbered_names};
@@ -36,7 +37,6 @@ use placer::place;
 use pld_base::DeviceName;
 use pld_device::Device;
 use set_expr::{Contributions, Scope};
-use source_vectors::{SourceSections, all_sections};
 use std::alloc::Global;
 
 /// The module of a text.

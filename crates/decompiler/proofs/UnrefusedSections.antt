@@ -15,8 +15,8 @@ use Rattle.section_targets.specs.Units.{CountedUnit, all_refused, is_past, limit
 use Rattle.equations.specs.StatementUnits.{statement_manners, units_of_statements}
 use Rattle.source_sections.specs.SectionAnswers.{sections_refused, source_units}
 use Rattle.source_sections.specs.SectionUnits.{units_of_sections}
-use Rattle.source_vectors.specs.AllSections.{all_sections_refused}
-use Rattle.source_vectors.specs.SourceVectors.{refused_behind}
+use Rattle.abel_vectors.specs.AllSections.{all_sections_refused}
+use Rattle.abel_vectors.specs.SourceVectors.{refused_behind}
 use Rattle.decompiled.specs.declared.sum_line.SumLine.{SumLine}
 use Rattle.decompiled.specs.SourceTrees.{AreLines, IsSourceTree}
 use Rattle.decompiled.specs.Sources.{lines_of, source_of}

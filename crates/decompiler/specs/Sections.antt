@@ -6,7 +6,7 @@ use Rattle.abel_tree.specs.Tree.{ModuleTree}
 use Rattle.abel_meaning.specs.Designs.{design_of}
 use Rattle.decompiled.specs.SourceTrees.{IsSourceTree}
 use Rattle.decompiled.specs.Sources.{source_of}
-use Rattle.source_vectors.specs.AllSections.{all_sections_refused}
+use Rattle.abel_vectors.specs.AllSections.{all_sections_refused}
 
 -- nothing is refused of the constants, sections and vectors of a module that is the fuses' source
 abbrev pub SectionsAreUnrefused : Type 0

@@ -8,12 +8,12 @@ use crate::made::Input;
 use crate::places::origins_of;
 use crate::telling::put_place;
 use abel_tree::{Meaning, Module, Names};
+use abel_vectors::SourceSections;
 use compile_phases::{CompileFault, netlist_of, sections_of};
 use fuse_listing::name_on;
 use pld_base::{ListOf, OutOfMemory, put_decimal, with_level};
 use pld_device::Device;
 use polarity_costs::{CostlyPolarity, costly_polarities};
-use source_vectors::SourceSections;
 use std::alloc::Global;
 
 /// The pins that have an active-low name, bit p for pin p.

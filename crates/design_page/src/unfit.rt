@@ -7,12 +7,12 @@ ghost use Rattle.compile_phases.specs.Phases.{AreNamesFor};
 use crate::pin_names::name_of_pin;
 use crate::placed::placed_module;
 use abel_tree::{Module, Names};
+use abel_vectors::SourceSections;
 use compile_phases::{CompileFault, device_named, module_of, names_of, netlist_of, sections_of};
 use devices::on_device;
 use fitter::{FitFault, Overfull, cells_over_room};
 use pld_base::{ListOf, OutOfMemory, put_decimal};
 use pld_device::Device;
-use source_vectors::SourceSections;
 use std::alloc::Global;
 
 /// The cells that are over their room, none where the fit has another fault.

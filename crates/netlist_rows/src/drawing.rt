@@ -7,11 +7,12 @@ ghost use Rattle.abel_meaning.specs.Netlists.{plain_netlist};
 ghost use Rattle.abel_meaning.specs.SoundIds.{IsSoundNetlist};
 ghost use Rattle.netlist_laws.specs.FittedCorrect.{MeansTheSame};
 ghost use Rattle.netlist_laws.specs.Gathered.{netlist_of};
-ghost use Rattle.source_vectors.specs.AllSections.{AreSections};
+ghost use Rattle.abel_vectors.specs.AllSections.{AreSections};
 ghost use Rattle.netlist_rows.specs.Drawn.{IsDrawn};
 ghost use Rattle.netlist_rows.specs.Named.{AreNamesFor};
 
 use abel_tree::{Module, Names};
+use abel_vectors::{SourceSections, all_sections};
 use assigned_signals::sound_modules_are_accepted;
 use bit_expr::Netlist;
 use declared_names::{are_numbered, declare, numbered_names};
@@ -20,7 +21,6 @@ use named_designs::names_are_accepted;
 use pld_base::Vector;
 use pld_device::Device;
 use set_expr::{Contributions, Scope};
-use source_vectors::{SourceSections, all_sections};
 use std::alloc::Global;
 
 /// A module with its names, what its sections contribute, and its test vectors.

@@ -4,7 +4,7 @@ use Rattle.std.proofs.lemmas.List.{length-map}
 use Rattle.abel_tree.specs.View.{view, view_section, view_vector_row}
 use Rattle.abel_meaning.specs.Terms.{term_of}
 use Rattle.abel_meaning.specs.Vectors.{row_chars, section_vectors}
-use Rattle.source_vectors.proofs.counting.rows_of.Goals as goal
+use Rattle.abel_vectors.proofs.counting.rows_of.Goals as goal
 
 pub returns-in-Vectors : goal.returns-in-Vectors
 returns-in-Vectors c = λ d.

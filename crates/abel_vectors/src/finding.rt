@@ -2,7 +2,7 @@
 
 ghost use Rattle.std.specs.Prelude.{◌≡◌, ◌≢◌, IfOk, OnOk};
 ghost use Rattle.set_expr.specs.declared.fault.SectionFault.TheVariants as faults;
-ghost use Rattle.source_vectors.specs.FoundVectors.{Adds};
+ghost use Rattle.abel_vectors.specs.FoundVectors.{Adds};
 
 use pld_base::{OutOfMemory, Vector};
 use set_expr::{SectionFault, earlier};

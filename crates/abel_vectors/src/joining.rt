@@ -9,10 +9,10 @@ ghost use Rattle.abel_meaning.specs.Designs.{Design, design_for};
 ghost use Rattle.set_expr.specs.declared.fault.SectionFault.{SectionFault};
 ghost use Rattle.set_expr.specs.SectionOrder.{section_order};
 ghost use Rattle.source_sections.specs.SectionAnswers.{IsTold, sections_refused};
-ghost use Rattle.source_vectors.specs.AllSections.{AnswersAll, all_sections_refused};
-ghost use Rattle.source_vectors.specs.SourceVectors.{AnswersVectors};
+ghost use Rattle.abel_vectors.specs.AllSections.{AnswersAll, all_sections_refused};
+ghost use Rattle.abel_vectors.specs.SourceVectors.{AnswersVectors};
 
-use crate::reading::all_vectors;
+use crate::sections::all_vectors;
 use abel_tree::Module;
 use pld_base::Vector;
 use pld_device::Device;

@@ -11,8 +11,8 @@ use Rattle.set_expr.specs.declared.fault.SectionFault.TheVariants.{BadVector}
 use Rattle.section_targets.proofs.Built.{left_empty, right_empty}
 use Rattle.abel_vectors.specs.VectorRefusals.{header_refused, if_none, row_refused, rows_refused, vectors_refused}
 use Rattle.abel_vectors.proofs.RowsLaws.{rows_few}
-use Rattle.source_vectors.specs.FoundVectors.{capped}
-use Rattle.source_vectors.specs.SourceVectors.{refused_behind}
+use Rattle.abel_vectors.specs.FoundVectors.{capped}
+use Rattle.abel_vectors.specs.SourceVectors.{refused_behind}
 
 -- ---- counts
 

@@ -1,9 +1,9 @@
 -- Vectors of which nothing is refused, and those of which something is.
 use Rattle.std.proofs.Common.{subst}
 use Rattle.source_sections.specs.SectionAnswers.{sections_refused}
-use Rattle.source_vectors.specs.SourceVectors.{AnswersVectors, all_vectors_refused}
-use Rattle.source_vectors.proofs.AllAnswers.{told_alone}
-use Rattle.source_vectors.proofs.joining.first_with.Goals as goal
+use Rattle.abel_vectors.specs.SourceVectors.{AnswersVectors, all_vectors_refused}
+use Rattle.abel_vectors.proofs.AllAnswers.{told_alone}
+use Rattle.abel_vectors.proofs.joining.first_with.Goals as goal
 
 pub returns-in-Ok : goal.returns-in-Ok
 returns-in-Ok c = λ d h k. told_alone (sections_refused d) (all_vectors_refused d) c.args.section (subst (AnswersVectors d) c.in-Ok.is k).accepted h

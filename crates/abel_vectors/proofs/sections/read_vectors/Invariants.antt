@@ -6,8 +6,8 @@ use Rattle.abel_meaning.specs.Designs.{Context}
 use Rattle.abel_meaning.specs.Vectors.{sections_vectors}
 use Rattle.set_expr.specs.Answer.{IsContextOf}
 use Rattle.source_sections.specs.Reading.{view_sections}
-use Rattle.source_vectors.specs.FoundVectors.{AreFound, capped}
-use Rattle.source_vectors.proofs.reading.read_vectors.Given as goal
+use Rattle.abel_vectors.specs.FoundVectors.{AreFound, capped}
+use Rattle.abel_vectors.proofs.sections.read_vectors.Given as goal
 
 abbrev pub invariant-loop-section : goal.invariant-loop-section
 invariant-loop-section g l =

@@ -6,10 +6,10 @@ use Rattle.abel_tree.specs.View.{view_section}
 use Rattle.abel_meaning.specs.Vectors.{section_vectors, sections_vectors}
 use Rattle.set_expr.proofs.FoundMembers.{front_more}
 use Rattle.source_sections.specs.Reading.{view_sections}
-use Rattle.source_vectors.specs.FoundVectors.{AreFound, capped}
-use Rattle.source_vectors.proofs.SectionCounts.{capped_more}
-use Rattle.source_vectors.proofs.VectorLists.{chars_next, count_push, found_next}
-use Rattle.source_vectors.proofs.reading.read_vectors.Goals as goal
+use Rattle.abel_vectors.specs.FoundVectors.{AreFound, capped}
+use Rattle.abel_vectors.proofs.SectionCounts.{capped_more}
+use Rattle.abel_vectors.proofs.VectorLists.{chars_next, count_push, found_next}
+use Rattle.abel_vectors.proofs.sections.read_vectors.Goals as goal
 
 pub loop-section-preserved : goal.loop-section-preserved
 loop-section-preserved g c =

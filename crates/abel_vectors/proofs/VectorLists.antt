@@ -18,10 +18,10 @@ use Rattle.set_expr.specs.SectionOrder.{section_order}
 use Rattle.abel_vectors.specs.VectorAnswers.{Answers}
 use Rattle.abel_vectors.specs.VectorRefusals.{vectors_refused}
 use Rattle.abel_vectors.proofs.RowsLaws.{both_none}
-use Rattle.source_vectors.specs.declared.finding.Found.{Found}
-use Rattle.source_vectors.specs.FoundVectors.{Adds, AreFound, capped, section_fault, section_list}
-use Rattle.source_vectors.specs.SourceVectors.{AreVectors, refused_behind}
-use Rattle.source_vectors.proofs.SectionCounts.{all_few, vectors_capped}
+use Rattle.abel_vectors.specs.declared.finding.Found.{Found}
+use Rattle.abel_vectors.specs.FoundVectors.{Adds, AreFound, capped, section_fault, section_list}
+use Rattle.abel_vectors.specs.SourceVectors.{AreVectors, refused_behind}
+use Rattle.abel_vectors.proofs.SectionCounts.{all_few, vectors_capped}
 
 -- ---- lists
 

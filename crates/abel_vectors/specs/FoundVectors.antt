@@ -10,8 +10,8 @@ use Rattle.abel_meaning.specs.Vectors.{sections_vectors}
 use Rattle.set_expr.specs.declared.fault.SectionFault.{SectionFault}
 use Rattle.set_expr.specs.declared.fault.SectionFault.TheVariants.{OutOfMemory}
 use Rattle.set_expr.specs.SectionOrder.{section_order}
-use Rattle.source_vectors.specs.declared.finding.Found.{Found}
-use Rattle.source_vectors.specs.SourceVectors.{refused_behind}
+use Rattle.abel_vectors.specs.declared.finding.Found.{Found}
+use Rattle.abel_vectors.specs.SourceVectors.{refused_behind}
 
 -- so many vectors, up to the most of a source
 abbrev pub capped : ℕ → ℕ

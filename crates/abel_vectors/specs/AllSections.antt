@@ -4,8 +4,8 @@ use Rattle.std.specs.Prelude.{List, ◌++◌, Result, Ok, Err}
 use Rattle.abel_meaning.specs.Designs.{Design}
 use Rattle.set_expr.specs.declared.fault.SectionFault.{SectionFault}
 use Rattle.source_sections.specs.SectionAnswers.{AreContributed, IsTold, sections_refused}
-use Rattle.source_vectors.specs.declared.joining.SourceSections.{SourceSections}
-use Rattle.source_vectors.specs.SourceVectors.{AreVectors, all_vectors_refused}
+use Rattle.abel_vectors.specs.declared.joining.SourceSections.{SourceSections}
+use Rattle.abel_vectors.specs.SourceVectors.{AreVectors, all_vectors_refused}
 
 -- all that is refused of constants, sections and vectors
 abbrev pub all_sections_refused : Design → List SectionFault

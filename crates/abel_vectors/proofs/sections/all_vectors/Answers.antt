@@ -4,10 +4,10 @@ use Rattle.abel_tree.specs.declared.sections.Section.{Section}
 use Rattle.source_sections.specs.Reading.{view_sections}
 use Rattle.source_sections.proofs.SectionsAnswered.{told_of}
 use Rattle.source_sections.proofs.SourceAnswers.{designed, is_designed}
-use Rattle.source_vectors.specs.FoundVectors.{AreFound}
-use Rattle.source_vectors.specs.SourceVectors.{all_vectors_refused}
-use Rattle.source_vectors.proofs.VectorLists.{all_found, found_few}
-use Rattle.source_vectors.proofs.reading.all_vectors.Goals as goal
+use Rattle.abel_vectors.specs.FoundVectors.{AreFound}
+use Rattle.abel_vectors.specs.SourceVectors.{all_vectors_refused}
+use Rattle.abel_vectors.proofs.VectorLists.{all_found, found_few}
+use Rattle.abel_vectors.proofs.sections.all_vectors.Goals as goal
 
 pub returns-in-None-clause-answers : goal.returns-in-None-clause-answers
 returns-in-None-clause-answers g c =

@@ -2,7 +2,7 @@
 use Rattle.std.proofs.Common.{subst}
 use Rattle.source_sections.specs.SectionAnswers.{AnswersSections}
 use Rattle.source_sections.proofs.SourceAnswers.{designed}
-use Rattle.source_vectors.proofs.joining.all_sections.Goals as goal
+use Rattle.abel_vectors.proofs.joining.all_sections.Goals as goal
 
 pub returns-in-Err-clause-answers : goal.returns-in-Err-clause-answers
 returns-in-Err-clause-answers g c =

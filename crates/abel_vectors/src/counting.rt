@@ -4,7 +4,7 @@ ghost use Rattle.std.specs.Prelude.{◌≡◌, ◌+◌, ◌≤◌, length};
 ghost use Rattle.abel_tree.specs.View.{view_section};
 ghost use Rattle.abel_meaning.specs.Designs.{Context};
 ghost use Rattle.abel_meaning.specs.Vectors.{section_vectors};
-ghost use Rattle.source_vectors.specs.FoundVectors.{capped};
+ghost use Rattle.abel_vectors.specs.FoundVectors.{capped};
 
 use abel_tree::Section;
 

@@ -7,13 +7,13 @@ ghost use Rattle.abel_tree.specs.View.{view_module};
 ghost use Rattle.abel_meaning.specs.Designs.{Context, design_for};
 ghost use Rattle.set_expr.specs.Answer.{IsContextOf};
 ghost use Rattle.source_sections.specs.Reading.{view_sections};
-ghost use Rattle.source_vectors.specs.FoundVectors.{AreFound};
-ghost use Rattle.source_vectors.specs.SourceVectors.{AnswersVectors};
+ghost use Rattle.abel_vectors.specs.FoundVectors.{AreFound};
+ghost use Rattle.abel_vectors.specs.SourceVectors.{AnswersVectors};
 
 use crate::counting::count_after;
 use crate::finding::{Found, add_section};
+use crate::reading::vectors;
 use abel_tree::{Module, Section};
-use abel_vectors::vectors;
 use pld_base::{OutOfMemory, Vector};
 use pld_device::Device;
 use set_expr::{Scope, SectionFault};

@@ -1,3 +1,0 @@
-mod AllAnswers
-mod SectionCounts
-pub mod VectorLists

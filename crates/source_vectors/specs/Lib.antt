@@ -1,3 +1,0 @@
-pub mod AllSections
-pub mod FoundVectors
-pub mod SourceVectors
