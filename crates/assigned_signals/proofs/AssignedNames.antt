@@ -11,8 +11,8 @@ use Rattle.abel_meaning.specs.Designs.{Design, design_of, name_at, no_name}
 use Rattle.abel_meaning.specs.Held.{Holds, holds_of}
 use Rattle.abel_meaning.specs.Kinds.{with_kinds, names_of}
 use Rattle.abel_meaning.specs.Terms.{term_of}
-use Rattle.name_kinds.proofs.Settling.{is_no_target}
-use Rattle.name_kinds.proofs.Spreading.{among}
+use Rattle.declared_names.proofs.Settling.{is_no_target}
+use Rattle.declared_names.proofs.Spreading.{among}
 use Rattle.assigned_signals.specs.Correct.{bare_signals}
 use Rattle.assigned_signals.proofs.NamedTerms.{IsWithin, same_signals, bare_among}
 

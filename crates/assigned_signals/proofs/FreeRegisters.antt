@@ -29,7 +29,7 @@ use Rattle.section_targets.specs.TargetSignals.{names_signals, all_name_signals}
 use Rattle.section_targets.proofs.SignalLists.{some_append}
 use Rattle.netlist_laws.specs.Takeable.{HasNoEquation, MayChoose}
 use Rattle.accepted_designs.specs.Accepted.{FreeMayChoose}
-use Rattle.name_kinds.proofs.Spreading.{among}
+use Rattle.declared_names.proofs.Spreading.{among}
 use Rattle.assigned_signals.specs.Correct.{bare_signals, all_bare_signals}
 use Rattle.assigned_signals.proofs.AssignedNames.{own_names, own_held, same_targets, signal_there}
 use Rattle.assigned_signals.proofs.BareTargets.{IsBare, AreBare}

@@ -15,7 +15,7 @@ use Rattle.decls.specs.NamesBefore.{names_behind, added}
 use Rattle.decls.specs.Refused.{names_refused, given_count, parts_refused, declaration_refused, declarations_refused, uses_refused}
 use Rattle.decls.proofs.DeclarationsGo.{added_is}
 use Rattle.decls.proofs.NoRefusals.{none_left, none_right, Sure, RestIsUnnumbered, no_rest, pins_rest, declarations_sure}
-use Rattle.declared_names.proofs.Alike.{Extends, extends_same, extends_then, extends_append, extends_alike, alike_told, named_more}
+use Rattle.declared_names.proofs.NamesAlike.{Extends, extends_same, extends_then, extends_append, extends_alike, alike_told, named_more}
 use Rattle.declared_names.proofs.Named.{uses_known, named_append}
 use Rattle.declared_names.proofs.SoundEntries.{AreSound, AreNamedKinds, sound_append, sound_alike, new_sound, pins_named, nodes_named, constants_named}
 

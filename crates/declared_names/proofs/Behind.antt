@@ -17,7 +17,7 @@ use Rattle.abel_meaning.specs.Declarations.{GivenName, declared_names}
 use Rattle.abel_meaning.specs.Designs.{no_name, is_stored, follows_q}
 use Rattle.abel_meaning.specs.Held.{Holds, holds_of, is_held}
 use Rattle.abel_meaning.specs.Kinds.{is_buffer_by_default, is_registered, words_with_kind, with_kind, with_kinds, names_of}
-use Rattle.name_kinds.proofs.Settling.{is_no_target}
+use Rattle.declared_names.proofs.Settling.{is_no_target}
 use Rattle.decls.specs.declared.fault.NameFault.TheVariants as fault
 use Rattle.decls.specs.AllDeclarations.{all_declarations}
 use Rattle.decls.specs.NameRefusals.{always_inverts, all_buffered, is_register_at, buffers_refused, module_buffers_refused, names_once, read_refusals, name_refusals}

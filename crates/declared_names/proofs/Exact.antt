@@ -28,7 +28,7 @@ use Rattle.declared_names.specs.AcceptedNames.{AreDeclaredFor, NumbersAreApart, 
 use Rattle.declared_names.specs.Registers.{refused_for}
 use Rattle.declared_names.proofs.Buffers.{refused_same}
 use Rattle.declared_names.proofs.Accepted.{Accepted, module_accepted}
-use Rattle.declared_names.proofs.Alike.{alike_settled, extends_alike, named_more}
+use Rattle.declared_names.proofs.NamesAlike.{alike_settled, extends_alike, named_more}
 use Rattle.declared_names.proofs.Behind.{module_buffers}
 use Rattle.declared_names.proofs.Placed.{numbers_apart}
 use Rattle.declared_names.proofs.SoundEntries.{AreSound, sound_alike, sound_at}

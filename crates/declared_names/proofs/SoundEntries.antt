@@ -17,7 +17,7 @@ use Rattle.decls.specs.declared.fault.NameFault.TheVariants as fault
 use Rattle.decls.specs.NamesBefore.{is_on_pin, is_taken}
 use Rattle.decls.specs.Refused.{refused_if, is_signal_pin, number_refused, name_refused, names_refused}
 use Rattle.decls.proofs.NoRefusals.{none_left, none_right, not_refused, RestIsUnnumbered}
-use Rattle.declared_names.proofs.Alike.{Alike, alike_kinds, alike_push, Extends, extends_alike, extends_append, extends_then, named_more, both_true}
+use Rattle.declared_names.proofs.NamesAlike.{Alike, alike_kinds, alike_push, Extends, extends_alike, extends_append, extends_then, named_more, both_true}
 
 -- no earlier name has the pin, if it has a number
 abbrev pub IsNewPin : (earlier : List Entry) → Kind → Type 0

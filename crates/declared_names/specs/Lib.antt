@@ -1,2 +1,6 @@
 pub mod AcceptedNames
+pub mod Marking
+pub mod Numbered
+pub mod Reading
 pub mod Registers
+pub mod Settled

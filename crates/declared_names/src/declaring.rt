@@ -9,10 +9,10 @@ ghost use Rattle.decls.specs.declared.fault.NameFault.TheVariants.{OutOfMemory};
 ghost use Rattle.decls.specs.NameRefusals.{first_name_refusal, name_refusals};
 ghost use Rattle.declared_names.specs.AcceptedNames.{AreDeclaredFor, BuffersAreAllowed, NumbersAreApart};
 
+use crate::kinds::settle;
 use crate::registers::{first_refused, open_fault};
 use abel_tree::{Module, Names};
 use decls::{NameFault, NamesRead, read_names};
-use name_kinds::settle;
 use pld_base::ListOf;
 use pld_device::Device;
 use std::alloc::Global;

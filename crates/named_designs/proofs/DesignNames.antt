@@ -14,7 +14,7 @@ use Rattle.abel_meaning.specs.Designs.{no_name, design_of}
 use Rattle.abel_meaning.specs.Held.{Holds, holds_of}
 use Rattle.abel_meaning.specs.Kinds.{names_of}
 use Rattle.accepted_designs.specs.Accepted.{SignalsAreAssigned}
-use Rattle.name_kinds.proofs.Settling.{is_no_target}
+use Rattle.declared_names.proofs.Settling.{is_no_target}
 use Rattle.declared_names.specs.AcceptedNames.{PinsAreApart, BuffersAreAllowed}
 use Rattle.declared_names.proofs.Behind.{name_at_or}
 use Rattle.named_designs.specs.Correct.{NamesAreAccepted}

@@ -16,7 +16,7 @@ use Rattle.decls.specs.Refused.{refused_if, is_signal_pin, node_limit, number_re
 use Rattle.decls.proofs.FirstNames.{kind_append, or_else}
 use Rattle.decls.proofs.Folded.{any_append}
 use Rattle.decls.proofs.NoRefusals.{none_left, none_right, not_refused}
-use Rattle.declared_names.proofs.Alike.{Extends}
+use Rattle.declared_names.proofs.NamesAlike.{Extends}
 use Rattle.declared_names.proofs.Placed.{same_name}
 use Rattle.placer.specs.PlacedModule.{Pinned}
 use Rattle.placer.specs.Placements.{is_node}

@@ -23,7 +23,7 @@ use Rattle.decls.specs.NameRefusals.{always_inverts, name_refusals}
 use Rattle.decls.specs.NamesBefore.{is_taken}
 use Rattle.decls.specs.Refused.{is_signal_pin, uses_refused}
 use Rattle.decls.proofs.FirstNames.{same_bytes}
-use Rattle.declared_names.proofs.Alike.{Alike, alike_kinds, alike_settled}
+use Rattle.declared_names.proofs.NamesAlike.{Alike, alike_kinds, alike_settled}
 use Rattle.declared_names.proofs.Exact.{entries_sound}
 use Rattle.declared_names.proofs.Placed.{found_at, kind_at, same_name}
 use Rattle.declared_names.proofs.SoundEntries.{AreSound, taken_alike}

@@ -6,8 +6,8 @@ use Rattle.std.specs.Global.{Vec}
 use Rattle.std.proofs.lemmas.Bool.{true≢false}
 use Rattle.decls.proofs.FirstNames.{same_bytes}
 use Rattle.abel_tree.specs.Assigned.{Named, signals_of_name}
-use Rattle.name_kinds.specs.Numbered.{number_in, earlier_number, number_of_name}
-use Rattle.name_kinds.proofs.Numbering.{number_behind}
+use Rattle.declared_names.specs.Numbered.{number_in, earlier_number, number_of_name}
+use Rattle.declared_names.proofs.Numbering.{number_behind}
 use Rattle.placer.specs.Marks.{HasMark, HasSameMark, numbers_named}
 use Rattle.placer.proofs.Joins.{none_marked}
 

@@ -12,8 +12,8 @@ use Rattle.abel_tree.specs.declared.statements.Stmt as stmt
 use Rattle.abel_tree.specs.declared.statements.When.{When}
 use Rattle.abel_tree.specs.View.{view, view_arm, view_choice, view_stmt}
 use Rattle.abel_meaning.specs.Held.{AValue, branch_parts, list_parts, statement_parts, with_parts}
-use Rattle.name_kinds.specs.Marking.{if_tree, when_tree}
-use Rattle.name_kinds.specs.Reading.{choice_parts}
+use Rattle.declared_names.specs.Marking.{if_tree, when_tree}
+use Rattle.declared_names.specs.Reading.{choice_parts}
 
 -- ---- statements
 

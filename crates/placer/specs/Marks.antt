@@ -5,7 +5,7 @@ use Rattle.std.specs.List.{list_any}
 use Rattle.pld_base.specs.Bits.{bits, is_on}
 use Rattle.abel_tree.specs.Assigned.{Named}
 use Rattle.abel_meaning.specs.Held.{Part}
-use Rattle.name_kinds.specs.Numbered.{number_in}
+use Rattle.declared_names.specs.Numbered.{number_in}
 use Rattle.placer.specs.declared.marks.Marks.{Marks}
 use Rattle.placer.specs.declared.read_names.Naming.{Naming}
 use Rattle.placer.specs.declared.seen.Seen.{Seen}

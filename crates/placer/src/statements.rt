@@ -4,7 +4,7 @@ ghost use Rattle.std.specs.Prelude.{◌≡◌, IfOk, map, ◌∷◌, []};
 ghost use Rattle.abel_tree.specs.Assigned.{target_extension};
 ghost use Rattle.abel_tree.specs.View.{view, view_stmt};
 ghost use Rattle.abel_meaning.specs.Held.{ATarget, AValue, list_parts, statement_parts};
-ghost use Rattle.name_kinds.specs.Marking.{when_tree};
+ghost use Rattle.declared_names.specs.Marking.{when_tree};
 ghost use Rattle.placer.specs.Marks.{AreSeen};
 ghost use Rattle.placer.specs.Reads.{is_enable};
 

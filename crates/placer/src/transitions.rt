@@ -4,8 +4,8 @@ ghost use Rattle.std.specs.Prelude.{IfOk, map, option_map};
 ghost use Rattle.abel_tree.specs.Tree.{choices_of};
 ghost use Rattle.abel_tree.specs.View.{view_arm, view_choice, view_stmt};
 ghost use Rattle.abel_meaning.specs.Held.{branch_parts, branches_parts, choices_parts, with_parts};
-ghost use Rattle.name_kinds.specs.Marking.{if_tree};
-ghost use Rattle.name_kinds.specs.Reading.{choice_parts, goal_parts};
+ghost use Rattle.declared_names.specs.Marking.{if_tree};
+ghost use Rattle.declared_names.specs.Reading.{choice_parts, goal_parts};
 ghost use Rattle.placer.specs.Marks.{AreSeen};
 
 use crate::read_names::Naming;

@@ -1,7 +1,7 @@
 -- The mark of the members so far.
 use Rattle.std.proofs.Common.{map, take}
 use Rattle.abel_tree.specs.View.{view_member}
-use Rattle.name_kinds.proofs.Pushes.{listed_members}
+use Rattle.declared_names.proofs.Pushes.{listed_members}
 use Rattle.placer.specs.Marks.{IsMarkOf}
 use Rattle.placer.proofs.marks.Marks.+targets.Given as goal
 

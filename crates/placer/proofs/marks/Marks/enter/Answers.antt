@@ -3,8 +3,8 @@ use Rattle.std.proofs.Common.{◌≡◌, true, None, ◌∷◌, [], ◌++◌, sy
 use Rattle.std.specs.Prelude.{is_some, bytes_eq}
 use Rattle.std.specs.Map.{lookup}
 use Rattle.indexmap.proofs.CallerLemmas.{insert_entry-new}
-use Rattle.name_kinds.specs.Numbered.{number_in}
-use Rattle.name_kinds.proofs.Numbering.{none_found}
+use Rattle.declared_names.specs.Numbered.{number_in}
+use Rattle.declared_names.proofs.Numbering.{none_found}
 use Rattle.placer.specs.Marks.{HasSameMark, numbers_named}
 use Rattle.placer.proofs.Known.{known_name, new_name, some_found}
 use Rattle.placer.proofs.marks.Marks.enter.Goals as goal

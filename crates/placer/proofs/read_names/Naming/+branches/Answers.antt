@@ -4,9 +4,9 @@ use Rattle.abel_tree.specs.declared.diagrams.Arm.{the_lemmas}
 use Rattle.abel_tree.specs.Tree.{choices_of}
 use Rattle.abel_tree.specs.View.{view, view_arm, view_choice}
 use Rattle.abel_meaning.specs.Held.{AValue, branch_parts, choices_parts}
-use Rattle.name_kinds.specs.Marking.{if_tree}
-use Rattle.name_kinds.specs.Reading.{choice_parts}
-use Rattle.name_kinds.proofs.PartsFound.{choices_push, listed_choices}
+use Rattle.declared_names.specs.Marking.{if_tree}
+use Rattle.declared_names.specs.Reading.{choice_parts}
+use Rattle.declared_names.proofs.PartsFound.{choices_push, listed_choices}
 use Rattle.placer.proofs.Joins.{no_parts, parts_all, parts_answer, parts_join, parts_more, parts_same}
 use Rattle.placer.proofs.Whens.{arm_parts, if_both, if_one}
 use Rattle.placer.proofs.read_names.Naming.+branches.Goals as goal

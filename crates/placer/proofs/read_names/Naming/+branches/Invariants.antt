@@ -1,7 +1,7 @@
 -- What the items so far hold.
 use Rattle.std.proofs.Common.{map, take}
 use Rattle.abel_tree.specs.View.{view_choice}
-use Rattle.name_kinds.proofs.PartsFound.{listed_choices}
+use Rattle.declared_names.proofs.PartsFound.{listed_choices}
 use Rattle.placer.specs.Marks.{AreSeen}
 use Rattle.placer.proofs.read_names.Naming.+branches.Given as goal
 

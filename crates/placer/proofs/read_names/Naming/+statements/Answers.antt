@@ -2,8 +2,8 @@
 use Rattle.std.proofs.Common.{[], ◌∷◌, ◌++◌, map, refl, ap, ◌∙◌, arith}
 use Rattle.abel_tree.specs.View.{view, view_stmt}
 use Rattle.abel_meaning.specs.Held.{AValue, list_parts, statement_parts}
-use Rattle.name_kinds.specs.Marking.{when_tree}
-use Rattle.name_kinds.proofs.PartsFound.{list_push, parts_of_group}
+use Rattle.declared_names.specs.Marking.{when_tree}
+use Rattle.declared_names.proofs.PartsFound.{list_push, parts_of_group}
 use Rattle.placer.proofs.Joins.{no_parts, parts_all, parts_answer, parts_join, parts_more, parts_same}
 use Rattle.placer.proofs.Whens.{directive_parts, when_both, when_one}
 use Rattle.placer.proofs.read_names.Naming.+statements.Goals as goal

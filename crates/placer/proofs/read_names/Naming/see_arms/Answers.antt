@@ -2,7 +2,7 @@
 use Rattle.std.proofs.Common.{refl, arith}
 use Rattle.abel_tree.specs.View.{view_arm}
 use Rattle.abel_meaning.specs.Held.{branch_parts, branches_parts}
-use Rattle.name_kinds.proofs.PartsFound.{branches_push}
+use Rattle.declared_names.proofs.PartsFound.{branches_push}
 use Rattle.placer.proofs.Joins.{no_parts, parts_all, parts_more}
 use Rattle.placer.proofs.read_names.Naming.see_arms.Goals as goal
 

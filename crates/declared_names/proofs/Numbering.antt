@@ -1,0 +1,127 @@
+-- The names' numbers: in a map, and in a list in which each name stands for its own.
+use Rattle.std.proofs.Common.{◌≡◌, ℕ, zero, suc, ◌+◌, ◌<◌, ◌≤◌, Bool, true, false, Option, Some, None, List, [], ◌∷◌, ◌++◌, map, take, length, get_or, if◌then◌else◌, refl, sym, ap, ◌∙◌, arith, cond}
+use Rattle.std.specs.Prelude.{is_some, min, option_copied}
+use Rattle.std.specs.Global.{Vec}
+use Rattle.std.specs.List.{position_from}
+use denote.Ref.{Bor}
+use Rattle.std.specs.Str.{bytes_eq}
+use Rattle.std.proofs.lemmas.Bool.{lt-ltb, le-ltb}
+use Rattle.std.proofs.lemmas.List.{length-map, length-take}
+use Rattle.std.proofs.lemmas.Slice.Eq.{bytes_eq-Decides}
+use Rattle.std.proofs.lemmas.Iterator.Adapters.{position_from-zero}
+use Rattle.abel_tree.specs.Assigned.{signals_of_name}
+use Rattle.abel_tree.specs.declared.names.Declared.{Declared}
+use Rattle.abel_tree.specs.Entries.{Entry, find, view_declared}
+use Rattle.declared_names.specs.declared.marks.Mark.{Mark}
+use Rattle.declared_names.specs.Marking.{hit, hits}
+use Rattle.declared_names.proofs.Hits.{mapped_more}
+use Rattle.declared_names.specs.Numbered.{numbered, numbered_from, below_limit, number_in, earlier_number, number_of_name}
+
+abbrev is_name : List ℕ → Entry → Bool
+is_name name e = bytes_eq name e.name
+
+-- a number that is found is not below the place where the search began
+not_before : (limit : ℕ) (b : Bool) (i : ℕ) (o : Option ℕ) → limit ≤ i → [] ≡ below_limit limit o → [] ≡ below_limit limit (cond b (Some i) o)
+not_before limit true i o h e = rw (le-ltb i limit h) refl
+not_before limit false i o h e = e
+
+none_before : (name : List ℕ) (limit i : ℕ) (es : List Entry) → limit ≤ i → [] ≡ below_limit limit (position_from (is_name name) i es)
+none_before name limit i [] h = refl
+none_before name limit i (e ∷ es) h = not_before limit (bytes_eq name e.name) i _ h (none_before name limit (i + 1) es (omega (arith, h)))
+
+chosen : (b : Bool) (i limit : ℕ) (xs : List ℕ) (o : Option ℕ) → i < limit → xs ≡ below_limit limit o → (if b then i ∷ [] else xs) ≡ below_limit limit (cond b (Some i) o)
+chosen true i limit xs o h e = rw (lt-ltb i limit h) refl
+chosen false i limit xs o h e = e
+
+found_from : (name : List ℕ) (k i limit : ℕ) (es : List Entry) → limit ≡ i + k → signals_of_name (numbered_from i (take k es)) name ≡ below_limit limit (position_from (is_name name) i es)
+found_from name zero i limit es h = none_before name limit i es (omega (arith, h))
+found_from name (suc k) i limit [] h = refl
+found_from name (suc k) i limit (e ∷ es) h =
+    let n : suc i ≡ i + 1 = omega arith in
+    chosen (bytes_eq name e.name) i limit (signals_of_name (numbered_from (suc i) (take k es)) name) (position_from (is_name name) (i + 1) es) (omega (arith, h))
+    (ap (λ j. signals_of_name (numbered_from j (take k es)) name) n ∙ found_from name k (i + 1) limit es (omega (arith, h)))
+
+pub found : (name : List ℕ) (limit : ℕ) (es : List Entry) → signals_of_name (numbered limit es) name ≡ below_limit limit (find es name)
+found name limit es = found_from name limit 0 limit es (omega arith) ∙ ap (below_limit limit) (sym (position_from-zero (is_name name) es))
+
+-- ---- a name is marked
+
+hit_below : (c : Bool) (ms : List Mark) (n limit : ℕ) (o : Option ℕ) → o ≡ Some n → n < limit → hit c ms n ≡ hits c ms (below_limit limit o)
+hit_below c ms n limit o e h = rw (e, lt-ltb n limit h) refl
+
+not_hit : (c : Bool) (ms : List Mark) (n limit : ℕ) (o : Option ℕ) → o ≡ Some n → limit ≤ n → ms ≡ hits c ms (below_limit limit o)
+not_hit c ms n limit o e h = rw (e, le-ltb n limit h) refl
+
+pub hit_name : (c : Bool) (ms ns : List Mark) (n limit : ℕ) (name : List ℕ) (es : List Entry) → find es name ≡ Some n → n < limit → ns ≡ hit c ms n → ns ≡ hits c ms (signals_of_name (numbered limit es) name)
+hit_name c ms ns n limit name es e h f = f ∙ (hit_below c ms n limit (find es name) e h ∙ ap (hits c ms) (sym (found name limit es)))
+
+pub no_hit : (c : Bool) (ms : List Mark) (n limit : ℕ) (name : List ℕ) (es : List Entry) → find es name ≡ Some n → limit ≤ n → ms ≡ hits c ms (signals_of_name (numbered limit es) name)
+no_hit c ms n limit name es e h = not_hit c ms n limit (find es name) e h ∙ ap (hits c ms) (sym (found name limit es))
+
+pub none_hit : (c : Bool) (ms : List Mark) (limit : ℕ) (name : List ℕ) (es : List Entry) → find es name ≡ None → ms ≡ hits c ms (signals_of_name (numbered limit es) name)
+none_hit c ms limit name es e = sym (ap (hits c ms) (found name limit es ∙ ap (below_limit limit) e))
+
+-- ---- the map
+
+behind : (b : Bool) (v : ℕ) (o p q : Option ℕ) → o ≡ earlier_number p q → cond b (Some v) o ≡ earlier_number (cond b (Some v) p) q
+behind true v o p q e = refl
+behind false v o p q e = e
+
+pub number_behind : (rows : List (Vec ℕ × ℕ)) (key : Vec ℕ) (n : ℕ) (other : List ℕ) → number_in (rows ++ (key, n) ∷ []) other ≡ earlier_number (number_in rows other) (number_of_name key.items n other)
+number_behind [] key n other = only (bytes_eq other key.items)
+  where
+    only : (b : Bool) → cond b (Some n) None ≡ earlier_number None (if b then Some n else None)
+    only true = refl
+    only false = refl
+number_behind (x ∷ rows) key n other = behind (bytes_eq other x.0.items) x.1 _ _ _ (number_behind rows key n other)
+
+-- ---- one name more
+
+more_from : (name : List ℕ) (i : ℕ) (es : List Entry) (e : Entry) → position_from (is_name name) i (es ++ e ∷ []) ≡ earlier_number (position_from (is_name name) i es) (number_of_name e.name (i + length es) name)
+more_from name i [] e = only (bytes_eq name e.name)
+  where
+    only : (b : Bool) → cond b (Some i) None ≡ earlier_number None (if b then Some (i + 0) else None)
+    only true = ap Some (omega arith)
+    only false = refl
+more_from name i (x ∷ es) e =
+    let n : i + 1 + length es ≡ i + length (x ∷ es) = omega arith in
+    behind (bytes_eq name x.name) i _ _ _ (more_from name (i + 1) es e ∙ ap (λ k. earlier_number (position_from (is_name name) (i + 1) es) (number_of_name e.name k name)) n)
+
+plain : (n : ℕ) → 0 + n ≡ n
+plain n = omega arith
+
+pub find_more : (name : List ℕ) (es : List Entry) (e : Entry) → find (es ++ e ∷ []) name ≡ earlier_number (find es name) (number_of_name e.name (length es) name)
+find_more name es e =
+    position_from-zero (is_name name) (es ++ e ∷ [])
+    ∙ (more_from name 0 es e
+    ∙ (ap (λ k. earlier_number (position_from (is_name name) 0 es) (number_of_name e.name k name)) (plain (length es))
+    ∙ ap (λ o. earlier_number o (number_of_name e.name (length es) name)) (sym (position_from-zero (is_name name) es))))
+
+-- a name that has a number keeps it
+bytes_same : (xs ys : List ℕ) → bytes_eq xs ys ≡ true → xs ≡ ys
+bytes_same xs ys e = (bytes_eq-Decides xs ys).0 e
+
+again : (name other : List ℕ) (n k : ℕ) (rows : List (Vec ℕ × ℕ)) (b : Bool) → bytes_eq other name ≡ b → number_in rows name ≡ Some k → number_in rows other ≡ earlier_number (number_in rows other) (if b then Some n else None)
+again name other n k rows true e f = let same : other ≡ name = bytes_same other name e in rw (same, f) refl
+again name other n k rows false e f = earlier_none (number_in rows other)
+  where
+    earlier_none : (o : Option ℕ) → o ≡ earlier_number o None
+    earlier_none None = refl
+    earlier_none (Some m) = refl
+
+pub keeps : (name other : List ℕ) (n k : ℕ) (rows : List (Vec ℕ × ℕ)) → number_in rows name ≡ Some k → number_in rows other ≡ earlier_number (number_in rows other) (number_of_name name n other)
+keeps name other n k rows f = again name other n k rows (bytes_eq other name) refl f
+
+pub none_found : (r : Option (Bor ℕ)) → is_some r ≡ false → option_copied r ≡ None
+none_found None e = refl
+none_found (Some x) e = absurd cc
+
+pub names_more : (name : List ℕ) (ds : List Declared) (k : ℕ) (d : Declared) → k < length ds → d ≡ get_or ds k d → find (map view_declared (take (k + 1) ds)) name ≡ earlier_number (find (map view_declared (take k ds)) name) (number_of_name d.name k name)
+names_more name ds k d h i =
+    let n : length (map view_declared (take k ds)) ≡ k = length-map (take k ds) view_declared ∙ (length-take k ds ∙ min_less k (length ds) (omega (arith, h))) in
+    ap (λ es. find es name) (mapped_more view_declared ds k d h i)
+    ∙ (find_more name (map view_declared (take k ds)) (view_declared d)
+    ∙ ap (λ m. earlier_number (find (map view_declared (take k ds)) name) (number_of_name d.name m name)) n)
+  where
+    min_less : (a b : ℕ) → a ≤ b → min a b ≡ a
+    min_less a b h = omega (arith, h)

@@ -1,0 +1,206 @@
+//! Names with their kinds.
+
+ghost use Rattle.std.specs.Prelude.{◌≡◌, OnOk, IfOk, List, ℕ, map, replicate};
+ghost use Rattle.abel_meaning.specs.Kinds.{with_assigned, is_buffer, is_buffer_by_default, is_open, is_registered};
+ghost use Rattle.abel_tree.specs.Entries.{is_signal, view_attributes, view_declared, view_meaning};
+ghost use Rattle.abel_tree.specs.View.{view_section};
+ghost use Rattle.declared_names.specs.declared.marks.Mark.TheVariants.{Clear};
+ghost use Rattle.declared_names.specs.Settled.{all_found, attribute_words, is_held_at, kind_by, kinds_by, words_by};
+ghost use Rattle.declared_names.specs.Marking.{is_strong};
+ghost use Rattle.declared_names.specs.Numbered.{IsNumbering};
+ghost use Rattle.declared_names.specs.Reading.{holding_of};
+
+use crate::marks::Mark;
+use crate::numbers::{Numbers, numbers_of};
+use crate::parts::Found;
+use crate::sweep::mark_of;
+use abel_tree::{Attributes, Declared, Meaning, Section};
+use bitflags::Flags;
+use pld_base::OutOfMemory;
+use pld_device::Flip;
+use std::alloc::Global;
+
+/// The names with their kinds, by what the sections assign. A signal's attributes become COM or REG, BUFFER or
+/// INVERT, and DC; what was said of it before decides where it said something.
+pub fn settle(
+    alloc: Global,
+    flip: Flip,
+    names: Vec<Declared>,
+    sections: &[Section],
+) -> Result<Vec<Declared>, OutOfMemory>
+    ensures { IfOk result (λ list. map view_declared list.items ≡ with_assigned flip (map view_section sections.now) (map view_declared names.items)) }
+{
+    let count = names.len();
+    let numbers = numbers_of(alloc, names.as_slice())?;
+    let mut marks = clear_marks(alloc, count)?;
+    numbers.mark_sections(alloc, &mut marks, count, sections)?;
+    numbers.sweep(alloc, &mut marks, names.as_slice())?;
+    let held = held_names(alloc, &numbers, names.as_slice(), sections)?;
+    settle_all(alloc, flip, names, marks.as_slice(), &held)
+}
+
+/// What the sections hold: all registers, or those whose Q is read or whose raw input is set.
+fn held_names(
+    alloc: Global,
+    numbers: &Numbers,
+    names: &[Declared],
+    sections: &[Section],
+) -> Result<Found, OutOfMemory>
+    requires { IsNumbering numbers.now (map view_declared names.now) }
+    ensures { IfOk result (λ found. holding_of found ≡ all_found (map view_declared names.now) (map view_section sections.now)) }
+{
+    let count = names.len();
+    let marks = clear_marks(alloc, count)?;
+    let mut found = Found { all: false, marks };
+    numbers.hold_sections(alloc, &mut found, count, sections)?;
+    numbers.read_through(alloc, &mut found.marks, names)?;
+    Ok(found)
+}
+
+/// No name is marked.
+fn clear_marks(alloc: Global, count: usize) -> Result<Vec<Mark>, OutOfMemory>
+    ensures { IfOk result (λ ms. ms.items ≡ replicate count Clear) }
+{
+    let mut marks = Vec::new(alloc);
+    for _ in 0..count {
+        marks.push(Mark::Clear)?;
+    }
+    Ok(marks)
+}
+
+/// The names with their kinds, by their marks.
+fn settle_all(
+    alloc: Global,
+    flip: Flip,
+    names: Vec<Declared>,
+    marks: &[Mark],
+    held: &Found,
+) -> Result<Vec<Declared>, OutOfMemory>
+    ensures { IfOk result (λ list. map view_declared list.items ≡ kinds_by flip marks.now (holding_of held.now) 0 (map view_declared names.items)) }
+{
+    let mut settled = Vec::new(alloc);
+    for declared in names {
+        let number = settled.len();
+        let mark = mark_of(marks, number);
+        let is_held = is_held(held, number);
+        settled.push(settled_by(flip, declared, mark, is_held))?;
+    }
+    Ok(settled)
+}
+
+/// Whether the name of this number is held.
+fn is_held(held: &Found, number: usize) -> bool
+    ensures { result ≡ is_held_at (holding_of held.now) number }
+{
+    held.all || mark_of(held.marks.as_slice(), number).is_strong()
+}
+
+/// A name with its kind, by its mark.
+fn settled_by(flip: Flip, declared: Declared, mark: Mark, held: bool) -> Declared
+    ensures { view_declared result ≡ kind_by flip mark held (view_declared declared) }
+{
+    let Declared {
+        name,
+        place,
+        meaning,
+        attributes,
+        assigned: _,
+    } = declared;
+    if is_signal(&meaning) {
+        let attributes = settled_attributes(flip, attributes, mark, held);
+        let assigned = mark != Mark::Clear;
+        return Declared {
+            name,
+            place,
+            meaning,
+            attributes,
+            assigned,
+        };
+    }
+    Declared {
+        name,
+        place,
+        meaning,
+        attributes,
+        assigned: false,
+    }
+}
+
+/// Whether a name is a signal.
+fn is_signal(meaning: &Meaning) -> bool
+    ensures { result ≡ is_signal (view_meaning meaning.now) }
+{
+    match meaning {
+        Meaning::Pin { pin: _, negated: _ } => true,
+        Meaning::Node(_) => true,
+        Meaning::Constant(_) => false,
+        Meaning::DeviceName => false,
+    }
+}
+
+/// The attributes of a signal: its kind, its polarity and DC; neither polarity where it is free.
+fn settled_attributes(flip: Flip, said: Attributes, mark: Mark, held: bool) -> Attributes
+    ensures { view_attributes result ≡ words_by flip held (view_attributes said) (is_registered (view_attributes said) (is_strong mark)) }
+{
+    let registered = is_registered(said, mark.is_strong());
+    let buffer = is_buffer(flip, said);
+    let free = registered && is_open(flip, said) && !held;
+    attributes_of(registered, buffer, free, said.contains(Attributes::DC))
+}
+
+/// Whether a register's pin equals Q where no word says its polarity.
+fn is_buffer_by_default(flip: Flip) -> bool
+    ensures { result ≡ is_buffer_by_default flip }
+{
+    match flip {
+        Flip::Always => false,
+        Flip::AfterRegister => true,
+        Flip::BeforeRegister => false,
+    }
+}
+
+/// Whether neither polarity is said, and the device leaves it to the fitter.
+fn is_open(flip: Flip, said: Attributes) -> bool
+    ensures { result ≡ is_open flip (view_attributes said) }
+{
+    !said.contains(Attributes::BUFFER)
+        && !said.contains(Attributes::INVERT)
+        && is_buffer_by_default(flip)
+}
+
+/// Whether a signal is a register.
+fn is_registered(said: Attributes, clocked: bool) -> bool
+    ensures { result ≡ is_registered (view_attributes said) clocked }
+{
+    said.contains(Attributes::REG) || (!said.contains(Attributes::COM) && clocked)
+}
+
+/// Whether a register's pin equals Q.
+fn is_buffer(flip: Flip, said: Attributes) -> bool
+    ensures { result ≡ is_buffer flip (view_attributes said) }
+{
+    said.contains(Attributes::BUFFER)
+        || (!said.contains(Attributes::INVERT) && is_buffer_by_default(flip))
+}
+
+/// The set of one kind, one polarity or none, and perhaps DC.
+fn attributes_of(registered: bool, buffer: bool, free: bool, dc: bool) -> Attributes
+    ensures { view_attributes result ≡ attribute_words registered buffer free dc }
+{
+    let kind = if registered {
+        Attributes::REG
+    } else {
+        Attributes::COM
+    };
+    let polarity = if buffer {
+        Attributes::BUFFER
+    } else {
+        Attributes::INVERT
+    };
+    let settled = if free { kind } else { kind.union(polarity) };
+    if dc {
+        settled.union(Attributes::DC)
+    } else {
+        settled
+    }
+}

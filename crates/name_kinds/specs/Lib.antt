@@ -1,4 +1,0 @@
-pub mod Marking
-pub mod Numbered
-pub mod Reading
-pub mod Settled
