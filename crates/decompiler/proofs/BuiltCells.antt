@@ -16,7 +16,7 @@ use Rattle.abel_meaning.specs.Netlists.{Wanted, plain_control, plain_function, p
 use Rattle.abel_meaning.specs.SoundIds.{IsCellIn, IsControlIn, IsFunctionIn, IsIn}
 use Rattle.gathering.specs.Placed.{IsControlPlaced, IsPlaced}
 use Rattle.set_expr.specs.declared.contributions.Contribution.{Contribution}
-use Rattle.signal_sums.specs.Amounts.{first_data, first_target, target_place}
+use Rattle.gathering.specs.Amounts.{first_data, first_target, target_place}
 use Rattle.decompiler.proofs.ControlTargets.{AreTargeted, IsTargeted}
 
 -- what holds of each in turn holds at each place

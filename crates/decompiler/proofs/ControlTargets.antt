@@ -20,8 +20,8 @@ use Rattle.abel_meaning.specs.SignalReads.{given_formulas}
 use Rattle.set_expr.specs.declared.contributions.Contribution.{Contribution}
 use Rattle.set_expr.specs.declared.contributions.Contributions.{Contributions}
 use Rattle.set_expr.specs.Given.{given, view_contribution}
-use Rattle.signal_sums.specs.Amounts.{first_target, target_place}
-use Rattle.signal_sums.specs.Parts.{is_to}
+use Rattle.gathering.specs.Amounts.{first_target, target_place}
+use Rattle.gathering.specs.Parts.{is_to}
 use Rattle.netlist_laws.specs.Gathered.{and_cell, by_row, cell_of, cells_from, wanted_for}
 
 -- there is a first target, at some place

@@ -9,9 +9,9 @@ use Rattle.bit_expr.specs.Reading.{AreReads}
 use Rattle.abel_meaning.specs.Designs.{Design}
 use Rattle.abel_meaning.specs.Netlists.{plain_control}
 use Rattle.abel_meaning.specs.SignalReads.{given_formulas, names_if_any, IsSignalPath, HasNoSignalPath}
-use Rattle.signal_chains.specs.declared.link.Link.{Link}
+use Rattle.gathering.specs.declared.link.Link.{Link}
 use Rattle.gathering.specs.Linked.{AreLinks}
-use Rattle.design_chains.specs.Resets.{AssignedHaveCells, reset_names}
+use Rattle.gathering.specs.Resets.{AssignedHaveCells, reset_names}
 use Rattle.design.specs.declared.resets.ResetPath.{ResetPath}
 use Rattle.design.specs.Resets.{IsResetOf, LeadsNowhereAt, AnyPlace, IsPathOf}
 

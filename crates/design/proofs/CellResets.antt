@@ -20,14 +20,14 @@ use Rattle.abel_meaning.specs.FormulaBits.{formulas}
 use Rattle.abel_meaning.specs.Netlists.{Wanted, plain_control, plain_wanted}
 use Rattle.abel_meaning.specs.SignalReads.{given_formulas, leaf_of, names_if_any, is_one_of, HasNoSignalPath}
 use Rattle.set_expr.specs.declared.contributions.Contribution.{Contribution}
-use Rattle.signal_chains.specs.declared.link.Link.{Link}
+use Rattle.gathering.specs.declared.link.Link.{Link}
 use Rattle.netlist_laws.specs.Gathered.{wanted_for, cell_of, and_cell, cells_from}
 use Rattle.netlist_laws.proofs.SoundCells.{IsFor, each_for}
 use Rattle.netlist_laws.proofs.SoundLeaves.{inside}
 use Rattle.gathering.specs.Linked.{AreLinks}
 use Rattle.gathering.specs.Placed.{IsPlaced}
 use Rattle.design_refusals.specs.Refused.{lacks_by, lacks_control}
-use Rattle.design_chains.specs.Resets.{AssignedHaveCells}
+use Rattle.gathering.specs.Resets.{AssignedHaveCells}
 use Rattle.section_targets.proofs.KnownTargets.{IsSignalOf}
 use Rattle.design.specs.Answers.{is_sooner, IsResetAt, IsFirstPath}
 use Rattle.design.specs.Resets.{IsResetOf, LeadsNowhereAt, AnyPlace, Before, IsFirstOf, AllLeadNowhere}

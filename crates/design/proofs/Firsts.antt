@@ -9,7 +9,7 @@ use Rattle.pld_base.specs.declared.place.Place.{Place}
 use Rattle.bit_expr.specs.declared.netlist.CellWanted.{CellWanted}
 use Rattle.bit_expr.specs.declared.netlist.Control.{Control}
 use Rattle.bit_expr.specs.Formulas.{Formula}
-use Rattle.signal_chains.specs.declared.link.Link.{Link}
+use Rattle.gathering.specs.declared.link.Link.{Link}
 use Rattle.design.specs.declared.resets.ResetPath.{ResetPath}
 use Rattle.design.specs.Answers.{is_sooner}
 use Rattle.design.specs.Resets.{LeadsNowhereAt, AnyPlace, Before, IsPathOf, IsFoundOf, IsFirstOf, IsFirstFound, first_of}

@@ -23,8 +23,8 @@ use Rattle.set_expr.specs.declared.contributions.Contribution.{Contribution}
 use Rattle.set_expr.specs.declared.contributions.Contributions.{Contributions}
 use Rattle.set_expr.specs.Answer.{IsContextOf}
 use Rattle.set_expr.specs.Given.{given, view_contribution}
-use Rattle.signal_chains.specs.declared.link.Link.{Link}
-use Rattle.signal_chains.specs.Links.{AreLeaves}
+use Rattle.gathering.specs.declared.link.Link.{Link}
+use Rattle.gathering.specs.Links.{AreLeaves}
 use Rattle.netlist_laws.specs.Gathered.{cells_from, gathered_from, netlist_of}
 use Rattle.netlist_laws.proofs.NodeNumbers.{names_numbered}
 use Rattle.netlist_laws.proofs.SoundLeaves.{inside}

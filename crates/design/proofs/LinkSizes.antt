@@ -22,12 +22,12 @@ use Rattle.abel_meaning.specs.SignalReads.{given_formulas, settles, leaf_by}
 use Rattle.netlist_laws.specs.Takeable.{PinsApart, NodesAreFew}
 use Rattle.netlist_laws.proofs.CellsFound.{has_pin}
 use Rattle.netlist_laws.proofs.NodesFound.{next_number, AreNumbered}
-use Rattle.signal_chains.specs.declared.link.Link.{Link}
-use Rattle.signal_chains.specs.Links.{leaf_in, AreLeaves}
-use Rattle.signal_chains.proofs.LinkSets.{leaf_there}
+use Rattle.gathering.specs.declared.link.Link.{Link}
+use Rattle.gathering.specs.Links.{leaf_in, AreLeaves}
+use Rattle.gathering.proofs.LinkSets.{leaf_there}
 use Rattle.gathering.specs.Linked.{is_linked, IsLinkOf, AreLinks}
-use Rattle.design_chains.proofs.Graphed.{no_link}
-use Rattle.design_chains.proofs.LinkFacts.{Facts, facts}
+use Rattle.gathering.proofs.Graphed.{no_link}
+use Rattle.gathering.proofs.LinkFacts.{Facts, facts}
 
 -- ---- numbers of nodes
 

@@ -7,7 +7,7 @@ use Rattle.abel_tree.specs.FirstRefusal.{Ranks, is_before}
 use Rattle.abel_meaning.specs.Designs.{Design, name_at}
 use Rattle.abel_meaning.specs.SignalReads.{IsSignalLoop, HasNoSignalLoop, IsSignalPath, HasNoSignalPath}
 use Rattle.set_expr.specs.declared.contributions.Contribution.{Contribution}
-use Rattle.signal_sums.specs.Amounts.{first_target, target_place}
+use Rattle.gathering.specs.Amounts.{first_target, target_place}
 use Rattle.design_checks.specs.declared.fault.DesignFault.{DesignFault}
 use Rattle.design_checks.specs.declared.fault.DesignFault.TheVariants as fault
 use Rattle.design_checks.specs.Verdict.{HasSoundSignals, IsSignalRefused}

@@ -4,14 +4,13 @@ ghost use Rattle.std.specs.Prelude.{◌≡◌, ◌<◌, ◌≤◌, IfOk, IfErr, 
 ghost use Rattle.abel_tree.specs.Entries.{entries_of};
 ghost use Rattle.abel_meaning.specs.Designs.{Design, no_name};
 ghost use Rattle.abel_meaning.specs.SignalReads.{HasNoSignalLoop};
-ghost use Rattle.signal_chains.specs.Links.{AreLeaves};
+ghost use Rattle.gathering.specs.Links.{AreLeaves};
 ghost use Rattle.design.specs.Told.{IsLinkedDesign, IsLoopTold};
 
 use abel_tree::Names;
-use design_chains::signal_loop;
 use design_checks::DesignFault;
+use gathering::{Link, signal_loop};
 use pld_base::{ListOf, Place};
-use signal_chains::Link;
 use std::alloc::Global;
 
 /// Where the first name of a chain is declared.

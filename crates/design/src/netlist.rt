@@ -12,8 +12,8 @@ ghost use Rattle.abel_meaning.specs.SoundIds.{IsCellIn, IsSoundNetlist};
 ghost use Rattle.netlist_laws.specs.FittedCorrect.{MeansTheSame};
 ghost use Rattle.set_expr.specs.Given.{given};
 ghost use Rattle.netlist_laws.specs.Gathered.{netlist_of};
-ghost use Rattle.signal_chains.specs.Links.{AreLeaves};
-ghost use Rattle.signal_sums.specs.Parts.{AllLieIn};
+ghost use Rattle.gathering.specs.Links.{AreLeaves};
+ghost use Rattle.gathering.specs.Parts.{AllLieIn};
 ghost use Rattle.gathering.specs.Placed.{IsPlaced};
 ghost use Rattle.accepted_designs.specs.Accepted.{IsAccepted};
 ghost use Rattle.design.specs.Answers.{HasNoRefusal, IsDesignRefused};
@@ -26,10 +26,9 @@ use crate::resets::check_resets;
 use abel_tree::{Module, Names};
 use bit_expr::Netlist;
 use design_checks::{DesignFault, check_signals};
-use gathering::{Gathered, gather_up};
+use gathering::{Gathered, Link, gather_up};
 use pld_device::Device;
 use set_expr::{Contributions, Scope};
-use signal_chains::Link;
 use std::alloc::Global;
 
 /// Refused for a loop of signals, else for a path from a reset to a register.

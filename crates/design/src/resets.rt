@@ -3,15 +3,14 @@
 ghost use Rattle.std.specs.Prelude.{◌≡◌, ◌≤◌, All, IfOk, IfErr, length};
 ghost use Rattle.bit_expr.specs.Arena.{arena};
 ghost use Rattle.abel_meaning.specs.SoundIds.{IsCellIn};
-ghost use Rattle.signal_chains.specs.Links.{AreLeaves};
+ghost use Rattle.gathering.specs.Links.{AreLeaves};
 ghost use Rattle.design.specs.Answers.{is_sooner};
 ghost use Rattle.design.specs.Resets.{AllLeadNowhere, IsFirstFound, IsFoundOf, IsPathTold, first_of};
 
 use bit_expr::{CellWanted, Exprs};
-use design_chains::reset_path;
 use design_checks::DesignFault;
+use gathering::{Link, reset_path};
 use pld_base::{ListOf, OutOfMemory, Place};
-use signal_chains::Link;
 use std::alloc::Global;
 
 /// Signals from a reset to a register, with the reset's first target.

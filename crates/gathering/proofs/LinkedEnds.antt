@@ -13,9 +13,9 @@ use Rattle.abel_meaning.specs.Designs.{Context, is_stored, cell_on}
 use Rattle.abel_meaning.specs.SignalReads.{leaf_by, settles, settles_by, signal_names, function_names, names_if_any}
 use Rattle.netlist_laws.specs.Gathered.{cell_by, cell_of}
 use Rattle.set_expr.specs.declared.contributions.Contribution.{Contribution}
-use Rattle.signal_chains.specs.declared.link.Link.{Link}
-use Rattle.signal_sums.specs.declared.signal.Totals.{Totals}
-use Rattle.signal_sums.specs.Amounts.{contributions_in, AreGiven}
+use Rattle.gathering.specs.declared.link.Link.{Link}
+use Rattle.gathering.specs.declared.signal.Totals.{Totals}
+use Rattle.gathering.specs.Amounts.{contributions_in, AreGiven}
 use Rattle.gathering.specs.Linked.{is_node_kind, is_linked, IsLinkOf, StartsIf, AreLinksFrom}
 use Rattle.gathering.specs.Linking.{totals_name, node_leaf, cell_leaf, IsNodeLink, IsCellLink}
 

@@ -22,13 +22,13 @@ use Rattle.abel_meaning.specs.Functions as meant_function
 use Rattle.abel_meaning.specs.Netlists.{Wanted, plain_function, plain_control, plain_wanted}
 use Rattle.abel_meaning.specs.SoundIds.{IsFunctionIn, IsControlIn, IsCellIn}
 use Rattle.set_expr.specs.declared.contributions.Contribution.{Contribution}
-use Rattle.signal_sums.specs.declared.signal.Totals.{Totals}
-use Rattle.signal_sums.specs.Amounts.{contributions_in, AreGiven, first_target, target_place, control_place}
-use Rattle.signal_sums.specs.Parts.{AllLieIn, Stands}
-use Rattle.signal_sums.proofs.GrowingSums.{same_formula}
+use Rattle.gathering.specs.declared.signal.Totals.{Totals}
+use Rattle.gathering.specs.Amounts.{contributions_in, AreGiven, first_target, target_place, control_place}
+use Rattle.gathering.specs.Parts.{AllLieIn, Stands}
+use Rattle.gathering.proofs.GrowingSums.{same_formula}
 use Rattle.netlist_laws.specs.Gathered.{by_row, wanted_for, cell_of, cell_by, and_cell, cells_from, and_node, nodes_from}
 use Rattle.gathering.specs.declared.asked.Asked.{Asked}
-use Rattle.signal_chains.specs.declared.link.Link.{Link}
+use Rattle.gathering.specs.declared.link.Link.{Link}
 use Rattle.gathering.specs.Linked.{is_node_kind, is_linked, IsLinkOf, AreLinksFrom}
 use Rattle.gathering.specs.Linking.{IsNodeLink, IsCellLink}
 use Rattle.gathering.proofs.LinkedEnds.{links_kept, links_more, node_linked, cell_linked, linked_node, linked_cell, not_linked}

@@ -13,8 +13,8 @@ use Rattle.abel_meaning.specs.Netlists.{plain_function, plain_wanted}
 use Rattle.abel_meaning.specs.SoundIds.{IsFunctionIn, IsCellIn}
 use Rattle.abel_meaning.specs.SourceLogic.{is_negated}
 use Rattle.set_expr.specs.declared.contributions.Contribution.{Contribution}
-use Rattle.signal_sums.specs.declared.signal.Totals.{Totals}
-use Rattle.signal_sums.specs.Amounts.{contributions_in}
+use Rattle.gathering.specs.declared.signal.Totals.{Totals}
+use Rattle.gathering.specs.Amounts.{contributions_in}
 use Rattle.netlist_laws.specs.Gathered.{cells_from, nodes_from}
 use Rattle.gathering.specs.declared.asked.Asked.{Asked}
 use Rattle.gathering.specs.Linked.{AreLinksFrom}

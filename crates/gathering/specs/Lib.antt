@@ -1,4 +1,9 @@
+pub mod Amounts
 pub mod Asking
 pub mod Linked
 pub mod Linking
+pub mod Links
+pub mod Parts
 pub mod Placed
+pub mod Resets
+pub mod Totals

@@ -8,7 +8,7 @@ use Rattle.abel_meaning.specs.Contributions.{Contribution}
 use Rattle.abel_meaning.specs.Designs.{Context, is_stored}
 use Rattle.abel_meaning.specs.SignalReads.{leaf_by, settles, signal_names}
 use Rattle.netlist_laws.specs.Gathered.{cell_of}
-use Rattle.signal_chains.specs.declared.link.Link.{Link}
+use Rattle.gathering.specs.declared.link.Link.{Link}
 
 -- the name is a node
 abbrev pub is_node_kind : Kind → Bool

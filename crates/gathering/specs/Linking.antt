@@ -9,8 +9,8 @@ use Rattle.abel_meaning.specs.Designs.{is_stored}
 use Rattle.abel_meaning.specs.Netlists.{plain_control, plain_function}
 use Rattle.abel_meaning.specs.SignalReads.{function_names, names_if_any}
 use Rattle.abel_meaning.specs.SoundIds.{IsControlIn, IsFunctionIn}
-use Rattle.signal_chains.specs.declared.link.Link.{Link}
-use Rattle.signal_sums.specs.declared.signal.Totals.{Totals}
+use Rattle.gathering.specs.declared.link.Link.{Link}
+use Rattle.gathering.specs.declared.signal.Totals.{Totals}
 
 -- the ids of a function and an enable lie in an arena of that many formulas
 pub record AreTotalsIn (count : ℕ) (totals : Totals) : Type 0 where

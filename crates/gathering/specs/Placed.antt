@@ -9,7 +9,7 @@ use Rattle.abel_tree.specs.declared.words.Extension.{Extension}
 use Rattle.abel_tree.specs.declared.words.Extension.TheVariants as extension
 use Rattle.abel_meaning.specs.SoundIds.{IsFunctionIn, IsCellIn}
 use Rattle.set_expr.specs.declared.contributions.Contribution.{Contribution}
-use Rattle.signal_sums.specs.Amounts.{first_data, first_target, target_place}
+use Rattle.gathering.specs.Amounts.{first_data, first_target, target_place}
 
 -- all ids of a netlist lie in its arena
 pub record AreIdsIn (net : Netlist) : Type 0 where

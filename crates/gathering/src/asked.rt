@@ -4,18 +4,18 @@ ghost use Rattle.std.specs.Prelude.{◌≡◌, ◌<◌, ◌++◌, ◌∷◌, [],
 ghost use Rattle.bit_expr.specs.Arena.{arena};
 ghost use Rattle.bit_expr.specs.Formulas.{Formula};
 ghost use Rattle.abel_tree.specs.Entries.{Entry, view_declared};
-ghost use Rattle.signal_sums.specs.Parts.{AllLieIn, Stands};
+ghost use Rattle.gathering.specs.Parts.{AllLieIn, Stands};
 ghost use Rattle.gathering.specs.Asking.{Asks, asked_cell, control_by_row, control_if};
 
+use crate::link::Link;
 use crate::links::{cell_link, node_link};
 use crate::names::{cell_of, follows_q, is_free, is_negated, is_node, is_stored};
+use crate::signal::{Totals, sum_up};
 use abel_tree::Declared;
 use bit_expr::{CellWanted, Control, Exprs, Function};
 use pld_base::OutOfMemory;
 use pld_device::{Device, Enable};
 use set_expr::Contribution;
-use signal_chains::Link;
-use signal_sums::{Totals, sum_up};
 use std::alloc::Global;
 
 /// What the names that were passed ask of nodes and cells, and these signals by their numbers, each with what it

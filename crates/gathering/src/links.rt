@@ -4,14 +4,15 @@ ghost use Rattle.std.specs.Prelude.{◌≡◌, ◌<◌, Some, length};
 ghost use Rattle.bit_expr.specs.Arena.{arena};
 ghost use Rattle.bit_expr.specs.Reading.{AreReads};
 ghost use Rattle.abel_tree.specs.Entries.{view_declared, view_meaning};
-ghost use Rattle.signal_sums.specs.declared.signal.Totals.{Totals};
+ghost use Rattle.gathering.specs.declared.signal.Totals.{Totals};
 ghost use Rattle.gathering.specs.Linking.{IsCellLink, IsNodeLink, node_leaf, cell_leaf, totals_name, AreTotalsIn};
 
+use crate::link::Link;
 use crate::names::is_stored;
+use crate::reads::{both, control_reads, function_reads, nothing};
+use crate::signal::Totals;
 use abel_tree::{Declared, Meaning};
 use bit_expr::{Exprs, Leaf, Reads};
-use signal_chains::{Link, both, control_reads, function_reads, nothing};
-use signal_sums::Totals;
 
 /// What a signal reads in its function and its enable.
 fn totals_read(exprs: &Exprs, totals: &Totals) -> Reads

@@ -8,20 +8,20 @@ ghost use Rattle.abel_meaning.specs.Netlists.{plain_netlist};
 ghost use Rattle.abel_meaning.specs.SoundIds.{no_pair, pair_of_cell, pair_of_pin};
 ghost use Rattle.set_expr.specs.Answer.{IsContextOf};
 ghost use Rattle.set_expr.specs.Given.{given};
-ghost use Rattle.signal_sums.specs.Parts.{AllLieIn, Stands};
+ghost use Rattle.gathering.specs.Parts.{AllLieIn, Stands};
 ghost use Rattle.netlist_laws.specs.Gathered.{gathered_from};
 ghost use Rattle.gathering.specs.Asking.{Asks};
 ghost use Rattle.gathering.specs.Linked.{AreLinks};
 ghost use Rattle.gathering.specs.Placed.{AreIdsIn, IsPlaced};
 
 use crate::asked::{Asked, ask};
+use crate::link::Link;
 use crate::pairs::{pairs_of_cells, pairs_of_pins};
 use abel_tree::Names;
 use bit_expr::{Exprs, Netlist};
 use pld_base::{ListOf, OutOfMemory};
 use pld_device::Device;
 use set_expr::{Contribution, Contributions};
-use signal_chains::Link;
 use std::alloc::Global;
 
 /// The next number of a name; so many names that there is none are more than memory holds.

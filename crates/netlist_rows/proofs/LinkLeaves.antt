@@ -3,8 +3,8 @@ use Rattle.std.proofs.Common.{zero, suc, List, [], ◌∷◌, subst}
 use Rattle.std.specs.Prelude.{All, IfSome}
 use Rattle.std.proofs.lemmas.List.Elements.{All-head, All-tail}
 use Rattle.bit_expr.specs.Arena.{IsLeaf}
-use Rattle.signal_chains.specs.declared.link.Link.{Link}
-use Rattle.signal_chains.specs.Links.{AreLeaves}
+use Rattle.gathering.specs.declared.link.Link.{Link}
+use Rattle.gathering.specs.Links.{AreLeaves}
 use Rattle.netlist_rows.specs.Leaves.{HasLeaf}
 
 pub are_leaves : (rs : List Link) → All HasLeaf rs → AreLeaves rs

@@ -10,7 +10,7 @@ use Rattle.abel_meaning.specs.Designs.{design_of}
 use Rattle.abel_meaning.specs.Kinds.{names_of}
 use Rattle.abel_meaning.specs.SignalReads.{given_formulas}
 use Rattle.set_expr.specs.Given.{given}
-use Rattle.signal_sums.specs.Parts.{AllLieIn}
+use Rattle.gathering.specs.Parts.{AllLieIn}
 use Rattle.netlist_rows.specs.declared.drawing.Drawn.{Drawn}
 
 -- its names are sound and those of its module, which is accepted, and its contributions those of the module's sections

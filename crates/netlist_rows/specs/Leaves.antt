@@ -1,7 +1,7 @@
 -- Links with leaves that may be there (this project's rule).
 use Rattle.std.specs.Prelude.{IfSome}
 use Rattle.bit_expr.specs.Arena.{IsLeaf}
-use Rattle.signal_chains.specs.declared.link.Link.{Link}
+use Rattle.gathering.specs.declared.link.Link.{Link}
 
 -- its leaf, if it has one, has a number that leaves may have
 abbrev pub HasLeaf : Link → Type 0

@@ -2,8 +2,7 @@
 
 use crate::links::{links_of, reads_of};
 use crate::places::{put_number, put_word};
-use design_chains::{reset_path, signal_loop};
-use signal_chains::{first_loop, path_to_register};
+use gathering::{first_loop, path_to_register, reset_path, signal_loop};
 use std::alloc::Global;
 use test_rows::Found;
 

@@ -5,7 +5,7 @@ ghost use Rattle.bit_expr.specs.Arena.{IsLeaf};
 ghost use Rattle.netlist_rows.specs.Leaves.{HasLeaf};
 
 use bit_expr::{Leaf, Reads};
-use signal_chains::Link;
+use gathering::Link;
 use std::alloc::Global;
 
 const NOTHING: Reads = Reads {

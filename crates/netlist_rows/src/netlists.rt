@@ -7,9 +7,8 @@ use crate::drawing::{Drawn, draw};
 use crate::places::{put_number, put_place, put_word};
 use crate::sources::row_module;
 use bit_expr::{CellWanted, Leaf, Netlist};
-use gathering::{Gathered, gather_up};
+use gathering::{Gathered, Link, gather_up};
 use pld_device::Sample;
-use signal_chains::Link;
 use std::alloc::Global;
 use test_rows::Found;
 

@@ -4,9 +4,9 @@ use crate::places::{put_number, put_place, put_word};
 use crate::sources::ROW;
 use abel_tree::Extension;
 use bit_expr::{Control, ExprId, Exprs};
+use gathering::{Totals, sum_up};
 use pld_base::Place;
 use set_expr::{Contribution, Gives, Target};
-use signal_sums::{Totals, sum_up};
 use std::alloc::Global;
 use test_rows::Found;
 

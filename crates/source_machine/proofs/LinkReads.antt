@@ -18,9 +18,9 @@ use Rattle.abel_meaning.specs.Netlists.{PlainNetlist}
 use Rattle.abel_meaning.specs.NetlistLogic.{netlist_stores}
 use Rattle.abel_meaning.specs.NetlistReads.{is_register_signal, netlist_names, netlist_waits, signal_count, signal_leaf}
 use Rattle.abel_meaning.specs.Soundness.{IsSound}
-use Rattle.signal_chains.specs.declared.link.Link.{Link}
-use Rattle.signal_chains.specs.Links.{AreLeaves, HasNoChain, IsReadOrder, has_leaf, has_if_any, leaf_in, link_reads}
-use Rattle.signal_chains.proofs.LinkSets.{leaf_there, reads_there}
+use Rattle.gathering.specs.declared.link.Link.{Link}
+use Rattle.gathering.specs.Links.{AreLeaves, HasNoChain, IsReadOrder, has_leaf, has_if_any, leaf_in, link_reads}
+use Rattle.gathering.proofs.LinkSets.{leaf_there, reads_there}
 use Rattle.source_machine.specs.NetlistLookups.{IsSignalOrder}
 use Rattle.source_machine.specs.SignalLinks.{IsLinkOf, AreFirstLinks, AreSignalLinks, waited_leaf}
 

@@ -5,7 +5,7 @@ use Rattle.bit_expr.specs.declared.node.Leaf.{Leaf}
 use Rattle.bit_expr.specs.Reading.{AreReads}
 use Rattle.abel_meaning.specs.Netlists.{PlainNetlist}
 use Rattle.abel_meaning.specs.NetlistReads.{is_register_signal, netlist_names, signal_count, signal_leaf}
-use Rattle.signal_chains.specs.declared.link.Link.{Link}
+use Rattle.gathering.specs.declared.link.Link.{Link}
 
 -- the leaf by which others wait for a signal: none for a register
 abbrev pub waited_leaf : Table → PlainNetlist → ℕ → Option Leaf

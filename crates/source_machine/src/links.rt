@@ -12,9 +12,9 @@ ghost use Rattle.source_machine.specs.SignalLinks.{IsLinkOf, AreSignalLinks};
 use crate::cells::{cell_of, cell_wanted, node_function, stores};
 use arrayvec::ArrayVec;
 use bit_expr::{CellWanted, Exprs, Leaf, Netlist, Reads};
+use gathering::{Link, both, control_reads, function_reads, nothing, read_order};
 use pld_base::OutOfMemory;
 use pld_device::Device;
-use signal_chains::{Link, both, control_reads, function_reads, nothing, read_order};
 use std::alloc::Global;
 
 /// What an assigned cell reads while it comes to rest; a register reads by its enable alone.

@@ -18,7 +18,7 @@ use Rattle.set_expr.specs.SectionOrder.{section_order}
 use Rattle.section_targets.specs.Appending.{AnswersUnits}
 use Rattle.section_targets.specs.Units.{CountedUnit, all_refused}
 use Rattle.section_targets.proofs.Built.{both_empty}
-use Rattle.signal_sums.specs.Parts.{AllLieIn}
+use Rattle.gathering.specs.Parts.{AllLieIn}
 use Rattle.equations.proofs.BuiltUnits.{at}
 use Rattle.source_sections.specs.SectionAnswers.{AreContributed, IsTold, source_units}
 use Rattle.source_sections.specs.SectionUnits.{sections_places}

@@ -17,7 +17,7 @@ use Rattle.set_expr.specs.FoundNames.{constants_refused}
 use Rattle.set_expr.specs.Given.{given}
 use Rattle.set_expr.specs.SectionOrder.{section_order}
 use Rattle.section_targets.specs.Units.{CountedUnit, units_nodes, all_refused}
-use Rattle.signal_sums.specs.Parts.{AllLieIn}
+use Rattle.gathering.specs.Parts.{AllLieIn}
 use Rattle.source_sections.specs.SectionUnits.{units_of_sections, sections_places}
 
 -- all units of a source

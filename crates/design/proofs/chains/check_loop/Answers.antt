@@ -3,7 +3,7 @@ use Rattle.abel_tree.specs.Entries.{entries_of}
 use Rattle.abel_meaning.specs.Designs.{Design}
 use Rattle.abel_meaning.specs.SignalReads.{given_formulas, IsSignalLoop}
 use Rattle.gathering.specs.Linked.{AreLinks}
-use Rattle.design_chains.specs.Resets.{AssignedHaveCells}
+use Rattle.gathering.specs.Resets.{AssignedHaveCells}
 use Rattle.design.proofs.LoopPlaces.{some_there, first_inside}
 use Rattle.design.proofs.chains.check_loop.Goals as goal
 

@@ -5,7 +5,7 @@ use Rattle.abel_meaning.specs.Designs.{Design}
 use Rattle.abel_meaning.specs.SignalReads.{given_formulas, HasNoSignalPath}
 use Rattle.abel_meaning.specs.SoundIds.{IsControlIn}
 use Rattle.gathering.specs.Linked.{AreLinks}
-use Rattle.design_chains.specs.Resets.{AssignedHaveCells, reset_names}
+use Rattle.gathering.specs.Resets.{AssignedHaveCells, reset_names}
 use Rattle.design.proofs.CellPaths.{leads_nowhere}
 use Rattle.design.proofs.resets.path_of.Goals as goal
 

@@ -2,7 +2,7 @@
 use Rattle.std.proofs.Common.{◌≡◌, map, take}
 use Rattle.bit_expr.specs.Arena.{arena}
 use Rattle.abel_tree.specs.Entries.{view_declared}
-use Rattle.signal_sums.specs.Parts.{Stands}
+use Rattle.gathering.specs.Parts.{Stands}
 use Rattle.gathering.specs.Asking.{Asks}
 use Rattle.gathering.proofs.netlist.ask_all.Given as goal
 

@@ -1,3 +1,0 @@
-pub mod Graphed
-pub mod LinkFacts
-mod Renamed

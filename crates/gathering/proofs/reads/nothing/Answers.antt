@@ -1,0 +1,5 @@
+use Rattle.pld_base.proofs.BitLemmas.{is_on-zero}
+use Rattle.gathering.proofs.reads.nothing.Goals as goal
+
+pub returns : goal.returns
+returns c = record { pins = is_on-zero 32; q = is_on-zero 32; nodes = is_on-zero 128 }

@@ -1,0 +1,26 @@
+use Rattle.std.proofs.Common.{◌<◌, take, length, ap, sym, ◌∙◌, arith}
+use Rattle.std.proofs.lemmas.List.{take_more}
+use Rattle.bit_expr.specs.Arena.{arena, formula_at}
+use Rattle.bit_expr.proofs.ArenaLists.{arena_count, first_formula}
+use Rattle.gathering.specs.Parts.{part_sum}
+use Rattle.gathering.proofs.GrowingSums.{stands_same, stands_on, sum_on}
+use Rattle.gathering.proofs.sums.part_sum.Goals as goal
+
+pub loop-given-init : goal.loop-given-init
+loop-given-init c = record {
+  sum = first_formula c.args.exprs.now 0 (omega arith);
+  inside = omega (arith, arena_count c.args.exprs.now);
+  stands = stands_same (arena c.args.exprs.now);
+}
+
+pub loop-given-preserved : goal.loop-given-preserved
+loop-given-preserved c =
+    let within : c.loop-given.given-index < length c.args.list.now = omega arith in
+    record {
+      sum =
+          c.in_ok-sum.ensures.sum
+          ∙ sum_on (arena c.args.exprs.now) (arena c.loop-given.exprs) c.args.part (take c.loop-given.given-index c.args.list.now) _ (formula_at (arena c.loop-given.exprs) c.loop-given.sum) c.loop-given.invariant.stands (c.requires c.loop-given.given-index _ within) c.loop-given.invariant.sum
+          ∙ ap (λ cs. part_sum (arena c.args.exprs.now) c.args.part cs) (sym (take_more c.args.list.now c.loop-given.given-index _ within));
+      inside = c.in_ok-sum.ensures.inside;
+      stands = stands_on (arena c.args.exprs.now) (arena c.loop-given.exprs) (arena c.with_one.new.exprs) c.loop-given.invariant.stands c.in_ok-sum.ensures.stands;
+    }

@@ -1,0 +1,49 @@
+//! A signal as others read it, and what it reads.
+
+ghost use Rattle.std.specs.Prelude.{◌≡◌, ◌<◌, IfSome};
+ghost use Rattle.pld_base.specs.Bits.{bits, is_on};
+ghost use Rattle.bit_expr.specs.Arena.{IsLeaf};
+ghost use Rattle.gathering.specs.Links.{has_leaf, has_if_any};
+
+use bit_expr::{Leaf, Reads};
+use pld_base::level_at;
+
+/// A signal: the leaf by which it is read, if it can be; the leaves that it reads while it comes to rest, which a
+/// register does not; and whether it is a register.
+#[derive(Clone, Copy, PartialEq, Eq)]
+pub struct Link {
+    pub leaf: Option<Leaf>,
+    pub reads: Reads,
+    pub stored: bool,
+}
+
+/// Whether the node of that number is one of these.
+fn has_node(nodes: u128, node: u8) -> bool
+    requires { node < 128 }
+    ensures { result ≡ is_on (bits 128 nodes) node }
+{
+    nodes >> node & 1 == 1
+}
+
+/// Whether the leaf is one of those that are read.
+fn has_leaf(reads: &Reads, leaf: Leaf) -> bool
+    requires { IsLeaf leaf }
+    ensures { result ≡ has_leaf reads.now leaf }
+{
+    match leaf {
+        Leaf::Pin(pin) => level_at(reads.pins, pin),
+        Leaf::Q(cell) => level_at(reads.q, cell),
+        Leaf::Node(node) => has_node(reads.nodes, node),
+    }
+}
+
+/// Whether there is a leaf, and it is one of those.
+pub(crate) fn has_if_any(reads: &Reads, leaf: Option<Leaf>) -> bool
+    requires { IfSome leaf IsLeaf }
+    ensures { result ≡ has_if_any reads.now leaf }
+{
+    match leaf {
+        None => false,
+        Some(leaf) => has_leaf(reads, leaf),
+    }
+}

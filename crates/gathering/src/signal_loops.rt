@@ -1,0 +1,72 @@
+//! Loops of signals, and paths from a reset to a register, by the numbers of their names.
+
+ghost use Rattle.std.specs.Prelude.{◌≡◌, ◌<◌, ◌≤◌, ℕ, All, length, map, get_or, IfOk, IfSome, IfNone};
+ghost use Rattle.bit_expr.specs.Reading.{AreReads};
+ghost use Rattle.abel_meaning.specs.Designs.{Design};
+ghost use Rattle.abel_meaning.specs.SignalReads.{given_formulas, IsSignalLoop, HasNoSignalLoop, IsSignalPath, HasNoSignalPath};
+ghost use Rattle.gathering.specs.Links.{AreLeaves};
+ghost use Rattle.gathering.specs.Linked.{AreLinks};
+ghost use Rattle.gathering.specs.Resets.{AssignedHaveCells, reset_names};
+
+use crate::chains::{first_loop, path_to_register};
+use crate::link::Link;
+use bit_expr::Reads;
+use pld_base::OutOfMemory;
+use std::alloc::Global;
+
+/// The numbers of signals by their places.
+fn numbers_at(alloc: Global, signals: &[u32], places: &[u8]) -> Result<Vec<u32>, OutOfMemory>
+    requires { All (λ (v : ℕ). v < length signals.now) places.now }
+    ensures { IfOk result (λ r. r.items ≡ map (λ (v : ℕ). get_or signals.now v 0) places.now) }
+{
+    let mut numbers = Vec::new(alloc);
+    for place in places {
+        numbers.push(signals[*place as usize])?;
+    }
+    Ok(numbers)
+}
+
+/// Signals by their numbers in the order of declaration, each of which reads the next, and the last the first; the
+/// first is the earliest declared of all that lie on such a loop. None where there is none.
+pub fn signal_loop(
+    alloc: Global,
+    signals: &[u32],
+    links: &[Link],
+) -> Result<Option<Vec<u32>>, OutOfMemory>
+    requires few { length links.now ≤ 256 }
+    requires leaves { AreLeaves links.now }
+    requires count { length signals.now ≡ length links.now }
+    ensures found { IfOk result (λ r. IfSome r (λ chain. (d : Design) → AssignedHaveCells d.context
+        → AreLinks d.context (given_formulas d) signals.now links.now → IsSignalLoop d chain.items)) }
+    ensures none { IfOk result (λ r. IfNone r ((d : Design) → AssignedHaveCells d.context
+        → AreLinks d.context (given_formulas d) signals.now links.now → HasNoSignalLoop d)) }
+{
+    match first_loop(alloc, links)? {
+        None => Ok(None),
+        Some(chain) => Ok(Some(numbers_at(alloc, signals, &chain)?)),
+    }
+}
+
+/// Signals by their numbers: the first is read by the leaves of a reset, each reads the next, and the last is a
+/// register. None where there are none.
+pub fn reset_path(
+    alloc: Global,
+    signals: &[u32],
+    links: &[Link],
+    reset: &Reads,
+) -> Result<Option<Vec<u32>>, OutOfMemory>
+    requires few { length links.now ≤ 256 }
+    requires leaves { AreLeaves links.now }
+    requires count { length signals.now ≡ length links.now }
+    ensures found { IfOk result (λ r. IfSome r (λ path. (d : Design) (s : ℕ) → AssignedHaveCells d.context
+        → AreLinks d.context (given_formulas d) signals.now links.now → AreReads (reset_names d s) reset.now
+        → IsSignalPath d s path.items)) }
+    ensures none { IfOk result (λ r. IfNone r ((d : Design) (s : ℕ) → AssignedHaveCells d.context
+        → AreLinks d.context (given_formulas d) signals.now links.now → AreReads (reset_names d s) reset.now
+        → HasNoSignalPath d s)) }
+{
+    match path_to_register(alloc, links, reset)? {
+        None => Ok(None),
+        Some(path) => Ok(Some(numbers_at(alloc, signals, &path)?)),
+    }
+}

@@ -1,2 +1,0 @@
-pub mod LinkSets
-pub mod SameChains

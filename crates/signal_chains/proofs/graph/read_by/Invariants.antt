@@ -1,7 +1,0 @@
-use Rattle.std.proofs.Common.{◌≡◌, ℕ, ◌&&◌, nat_lt}
-use Rattle.pld_base.specs.Bits.{is_on}
-use Rattle.signal_chains.specs.Links.{is_read_by}
-use Rattle.signal_chains.proofs.graph.read_by.Given as goal
-
-abbrev pub invariant-loop-v : goal.invariant-loop-v
-invariant-loop-v l = (w : ℕ) → is_on l.set w ≡ (nat_lt w l.v && is_read_by l.reads l.links w)

@@ -1,7 +1,0 @@
-use Rattle.std.proofs.Common.{sym}
-use Rattle.std.proofs.lemmas.Nat.Bits.{shr_and_one}
-use Rattle.pld_base.proofs.BitLemmas.{is_on-bits}
-use Rattle.signal_chains.proofs.link.has_node.Goals as goal
-
-pub returns : goal.returns
-returns c = rw shr_and_one (sym (is_on-bits 128 c.args.nodes c.args.node c.requires))

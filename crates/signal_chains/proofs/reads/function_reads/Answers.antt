@@ -1,4 +1,0 @@
-use Rattle.signal_chains.proofs.reads.function_reads.Goals as goal
-
-pub returns : goal.returns
-returns c = c.both.ensures _ _ c.reads.ensures c.reads-2.ensures

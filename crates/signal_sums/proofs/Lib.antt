@@ -1,4 +1,0 @@
-pub mod GivenAmounts
-pub mod GrowingSums
-pub mod LaterTotals
-pub mod SeenLists
