@@ -26,9 +26,9 @@ use Rattle.abel_meaning.specs.Values.{constant_of}
 use Rattle.netlist_laws.specs.Gathered.{cell_of}
 use Rattle.netlist_laws.specs.SignalUses.{SignalUse, term_uses, all_term_uses, reads_of_terms}
 use Rattle.netlist_laws.specs.Takeable.{is_kept, is_enabled_by_row, is_row}
-use Rattle.design_uses.specs.LocatedUses.{PlacedUse}
-use Rattle.design_uses.specs.SectionUses.{is_by_pin, is_cell_by_pin, is_enabled_by_pin, is_compared_by, is_compared, expression_uses, statement_uses, else_uses, statements_uses, with_uses, branch_uses, other_uses, choices_uses, branches_uses, states_uses, section_uses, sections_uses}
-use Rattle.design_uses.proofs.UsesRead.{uses_read}
+use Rattle.design_checks.specs.LocatedUses.{PlacedUse}
+use Rattle.design_checks.specs.SectionUses.{is_by_pin, is_cell_by_pin, is_enabled_by_pin, is_compared_by, is_compared, expression_uses, statement_uses, else_uses, statements_uses, with_uses, branch_uses, other_uses, choices_uses, branches_uses, states_uses, section_uses, sections_uses}
+use Rattle.design_checks.proofs.UsesRead.{uses_read}
 use Rattle.accepted_designs.specs.Accepted.{is_bare, are_bare, HasBareHeader, HaveBareHeaders}
 use Rattle.section_targets.proofs.KnownTargets.{EachTarget}
 

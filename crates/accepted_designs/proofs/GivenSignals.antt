@@ -17,12 +17,12 @@ use Rattle.abel_meaning.specs.Targets.{targets_of}
 use Rattle.abel_meaning.specs.Terms.{known_of, term_of}
 use Rattle.set_expr.specs.declared.contributions.Contribution as code
 use Rattle.set_expr.specs.Given.{view_contribution}
-use Rattle.design_refusals.specs.declared.rules.Rule.TheVariants as rule
-use Rattle.design_refusals.specs.Refused.{lacks_control, all_refused}
+use Rattle.design_checks.specs.declared.rules.Rule.TheVariants as rule
+use Rattle.design_checks.specs.SignalsRefused.{lacks_control, all_refused}
 use Rattle.netlist_laws.specs.SignalUses.{SignalUse, given_uses}
 use Rattle.netlist_laws.proofs.SourcedFormulas.{Sourced, sourced_contributions, formulas_are, uses_are}
-use Rattle.design_uses.specs.LocatedUses.{PlacedUse}
-use Rattle.design_uses.specs.SectionUses.{design_uses}
+use Rattle.design_checks.specs.LocatedUses.{PlacedUse}
+use Rattle.design_checks.specs.SectionUses.{design_uses}
 use Rattle.accepted_designs.specs.Accepted.{HaveBareHeaders}
 use Rattle.accepted_designs.proofs.GivenReads.{EachUse, EachGood, sections_good}
 use Rattle.section_targets.proofs.KnownTargets.{EachTarget, IsSignalOf, signal_targets}

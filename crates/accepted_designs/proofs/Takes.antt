@@ -24,14 +24,14 @@ use Rattle.abel_meaning.specs.Targets.{targets_of, is_data}
 use Rattle.abel_meaning.specs.Terms.{term_of}
 use Rattle.set_expr.specs.declared.contributions.Contribution as code
 use Rattle.set_expr.specs.Given.{view_contribution}
-use Rattle.design_refusals.specs.Refused.{is_wrong_kind, is_wrong_cell, has_wrong_kind, has_wrong_kind_by, has_wrong_kind_on, lacks_by, is_registered_by}
+use Rattle.design_checks.specs.SignalsRefused.{is_wrong_kind, is_wrong_cell, has_wrong_kind, has_wrong_kind_by, has_wrong_kind_on, lacks_by, is_registered_by}
 use Rattle.netlist_laws.specs.Gathered.{cell_by}
 use Rattle.netlist_laws.specs.SignalUses.{SignalUse, use_reads, uses_read, given_uses}
 use Rattle.netlist_laws.specs.Takeable.{HasColumns, IsAllowedOn, ControlIsThere, IsTakeable}
-use Rattle.design_uses.specs.LocatedUses.{PlacedUse}
-use Rattle.design_uses.specs.RefusedUses.{is_missing, is_unread}
-use Rattle.design_uses.specs.SectionUses.{design_uses}
-use Rattle.design_uses.specs.Correct.{UsesHaveColumns}
+use Rattle.design_checks.specs.LocatedUses.{PlacedUse}
+use Rattle.design_checks.specs.RefusedUses.{is_missing, is_unread}
+use Rattle.design_checks.specs.SectionUses.{design_uses}
+use Rattle.design_checks.specs.Correct.{UsesHaveColumns}
 use Rattle.accepted_designs.specs.Accepted.{IsAccepted}
 use Rattle.accepted_designs.specs.Correct.{UnrefusedIsTakeable}
 use Rattle.accepted_designs.specs.Unrefused.{IsUnrefused}

@@ -9,11 +9,11 @@ use Rattle.abel_meaning.specs.Designs.{Context, name_at}
 use Rattle.abel_meaning.specs.Targets.{is_data}
 use Rattle.set_expr.specs.declared.contributions.Contribution.{Contribution}
 use Rattle.set_expr.specs.Given.{view_contribution}
-use Rattle.design_refusals.specs.declared.fault.SignalFault.{SignalFault}
-use Rattle.design_refusals.specs.declared.fault.SignalFault.TheVariants as fault
-use Rattle.design_refusals.specs.declared.rules.Rule.TheVariants as rule
-use Rattle.design_refusals.specs.Refused.{refused_if, has_wrong_kind, is_registered_node, registered_nodes, lacks_control, rule_refused, all_refused}
-use Rattle.design_uses.specs.LocatedUses.{PlacedUse}
+use Rattle.design_checks.specs.declared.signal_fault.SignalFault.{SignalFault}
+use Rattle.design_checks.specs.declared.signal_fault.SignalFault.TheVariants as fault
+use Rattle.design_checks.specs.declared.rules.Rule.TheVariants as rule
+use Rattle.design_checks.specs.SignalsRefused.{refused_if, has_wrong_kind, is_registered_node, registered_nodes, lacks_control, rule_refused, all_refused}
+use Rattle.design_checks.specs.LocatedUses.{PlacedUse}
 
 pub front_empty : {A : Type 0} (xs ys : List A) → xs ++ ys ≡ [] → xs ≡ []
 front_empty [] ys e = refl

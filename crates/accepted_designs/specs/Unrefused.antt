@@ -3,9 +3,9 @@ use Rattle.std.specs.Prelude.{◌≡◌, ℕ, List, []}
 use Rattle.abel_meaning.specs.Designs.{Design}
 use Rattle.abel_meaning.specs.SignalReads.{HasNoSignalLoop, HasNoSignalPath}
 use Rattle.set_expr.specs.declared.contributions.Contribution.{Contribution}
-use Rattle.design_refusals.specs.declared.rules.Rule.TheVariants as rule
-use Rattle.design_refusals.specs.Refused.{all_refused, registered_nodes}
-use Rattle.design_uses.specs.RefusedUses.{missing_uses, unread_uses}
+use Rattle.design_checks.specs.declared.rules.Rule.TheVariants as rule
+use Rattle.design_checks.specs.SignalsRefused.{all_refused, registered_nodes}
+use Rattle.design_checks.specs.RefusedUses.{missing_uses, unread_uses}
 
 -- nothing is refused of the design, to whose targets this is contributed
 pub record IsUnrefused (d : Design) (cs : List Contribution) : Type 0 where

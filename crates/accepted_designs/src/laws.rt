@@ -2,7 +2,7 @@
 
 ghost use Rattle.accepted_designs.specs.Correct.{UnrefusedIsTakeable};
 
-use design_uses::uses_have_columns;
+use design_checks::uses_have_columns;
 
 /// Where nothing is refused of a design whose names and sections are accepted, the device can take its netlist. Does
 /// nothing.

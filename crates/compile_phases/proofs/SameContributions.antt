@@ -11,21 +11,21 @@ use Rattle.set_expr.specs.declared.contributions.Contribution.{Contribution}
 use Rattle.set_expr.specs.declared.contributions.Gives.{Gives}
 use Rattle.set_expr.specs.declared.contributions.Gives.TheVariants as gives
 use Rattle.set_expr.specs.Given.{view_contribution, view_gives}
-use Rattle.compared_controls.specs.Compared.{says_always, told_if, other_level, other_levels}
-use Rattle.written_controls.specs.Written.{unwritten}
+use Rattle.design_checks.specs.Compared.{says_always, told_if, other_level, other_levels}
+use Rattle.design_checks.specs.Written.{unwritten}
 use Rattle.design.specs.Answers.{HasNoRefusal, IsDesignRefused}
 use Rattle.design_checks.specs.declared.fault.DesignFault.{DesignFault}
 use Rattle.design_checks.specs.declared.fault.DesignFault.TheVariants as designing
 use Rattle.design_checks.specs.Refused.{plain, wrong_kinds, no_controls, any_controls}
 use Rattle.design_checks.specs.Verdict.{IsFirst}
-use Rattle.design_refusals.specs.declared.fault.SignalFault.{SignalFault}
-use Rattle.design_refusals.specs.declared.fault.SignalFault.TheVariants as signal
-use Rattle.design_refusals.specs.declared.rules.Rule.{Rule}
-use Rattle.design_refusals.specs.declared.rules.Rule.TheVariants as rule
-use Rattle.design_refusals.specs.Refused.{refused_if, has_wrong_kind, lacks_control, is_any, rule_refused, all_refused}
-use Rattle.design_uses.specs.RefusedUses.{missing_uses}
-use Rattle.use_refusals.specs.declared.refused.RefusedUse.{RefusedUse}
-use Rattle.use_refusals.specs.Refused.{told}
+use Rattle.design_checks.specs.declared.signal_fault.SignalFault.{SignalFault}
+use Rattle.design_checks.specs.declared.signal_fault.SignalFault.TheVariants as signal
+use Rattle.design_checks.specs.declared.rules.Rule.{Rule}
+use Rattle.design_checks.specs.declared.rules.Rule.TheVariants as rule
+use Rattle.design_checks.specs.SignalsRefused.{refused_if, has_wrong_kind, lacks_control, is_any, rule_refused, all_refused}
+use Rattle.design_checks.specs.RefusedUses.{missing_uses}
+use Rattle.design_checks.specs.declared.refused.RefusedUse.{RefusedUse}
+use Rattle.design_checks.specs.UsesRefused.{told}
 
 abbrev places_of : List Contribution → List Place
 places_of cs = map (λ (c : Contribution). c.place) cs

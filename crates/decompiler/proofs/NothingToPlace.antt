@@ -11,7 +11,7 @@ use Rattle.abel_tree.specs.Tree.{ModuleTree}
 use Rattle.abel_meaning.specs.Declarations.{entry, no_words, is_unnumbered}
 use Rattle.abel_meaning.specs.Held.{Holds}
 use Rattle.abel_meaning.specs.Kinds.{is_buffer_by_default, names_of, with_kind, with_kinds}
-use Rattle.design_refusals.specs.Refused.{is_registered_node}
+use Rattle.design_checks.specs.SignalsRefused.{is_registered_node}
 use Rattle.placer.specs.Signals.{is_buried_register, needs_pin, to_place, to_place_from}
 use Rattle.placer.proofs.MadeModules.{itself}
 use Rattle.decompiled.specs.declared.pin_line.PinLine.{PinLine}

@@ -25,13 +25,13 @@ use Rattle.set_expr.specs.declared.contributions.Contribution.{Contribution}
 use Rattle.set_expr.specs.declared.contributions.Gives.{Gives}
 use Rattle.set_expr.specs.declared.contributions.Gives.TheVariants as gives
 use Rattle.set_expr.specs.Given.{view_gives}
-use Rattle.compared_controls.specs.Compared.{cell_enables_so, enables_so, is_compared_of, other_level, other_levels, says_always, says_so}
-use Rattle.design_uses.specs.SectionUses.{is_by_pin, is_cell_by_pin}
-use Rattle.design_refusals.specs.declared.fault.SignalFault.{SignalFault}
-use Rattle.design_refusals.specs.declared.rules.Rule.{Rule}
-use Rattle.design_refusals.specs.declared.rules.Rule.TheVariants as rule
-use Rattle.design_refusals.specs.Refused.{all_refused, has_wrong_kind, has_wrong_kind_by, has_wrong_kind_on, is_any, is_wrong_cell, is_wrong_kind, lacks_by, lacks_control, node_refused, pin_lacks, registered_nodes, rule_refused}
-use Rattle.use_refusals.specs.declared.refused.RefusedUse.{RefusedUse}
+use Rattle.design_checks.specs.Compared.{cell_enables_so, enables_so, is_compared_of, other_level, other_levels, says_always, says_so}
+use Rattle.design_checks.specs.SectionUses.{is_by_pin, is_cell_by_pin}
+use Rattle.design_checks.specs.declared.signal_fault.SignalFault.{SignalFault}
+use Rattle.design_checks.specs.declared.rules.Rule.{Rule}
+use Rattle.design_checks.specs.declared.rules.Rule.TheVariants as rule
+use Rattle.design_checks.specs.SignalsRefused.{all_refused, has_wrong_kind, has_wrong_kind_by, has_wrong_kind_on, is_any, is_wrong_cell, is_wrong_kind, lacks_by, lacks_control, node_refused, pin_lacks, registered_nodes, rule_refused}
+use Rattle.design_checks.specs.declared.refused.RefusedUse.{RefusedUse}
 use Rattle.decompiled.specs.declared.sum_line.SumLine.{SumLine}
 use Rattle.decompiled.specs.SourceTrees.{IsSourceTree}
 use Rattle.decompiled.specs.Sources.{source_of}

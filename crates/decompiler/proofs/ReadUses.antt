@@ -26,13 +26,13 @@ use Rattle.abel_meaning.specs.SoundIds.{carries_cell}
 use Rattle.abel_meaning.specs.Terms.{Term, Read, extended_if, term_named, term_of}
 use Rattle.netlist_laws.specs.SignalUses.{term_uses}
 use Rattle.netlist_laws.proofs.CellsFound.{first_place}
-use Rattle.design_uses.specs.LocatedUses.{PlacedUse, all_at, located}
-use Rattle.design_uses.specs.RefusedUses.{carries_level, carries_q, has_by, has_extension, has_read_path, is_missing, is_unread, missing_uses, reads_by, unread_uses}
-use Rattle.design_uses.specs.SectionUses.{design_uses, expression_uses, is_compared, sections_uses, statement_uses, statements_uses}
+use Rattle.design_checks.specs.LocatedUses.{PlacedUse, all_at, located}
+use Rattle.design_checks.specs.RefusedUses.{carries_level, carries_q, has_by, has_extension, has_read_path, is_missing, is_unread, missing_uses, reads_by, unread_uses}
+use Rattle.design_checks.specs.SectionUses.{design_uses, expression_uses, is_compared, sections_uses, statement_uses, statements_uses}
 use Rattle.section_targets.specs.TargetSignals.{TargetFound, left_side}
-use Rattle.compared_controls.specs.Compared.{is_compared_of}
-use Rattle.written_controls.specs.Written.{Written, aims_refused, is_written_at, narrow, sections_refused, statement_refused, statements_refused, unwritten, written_if}
-use Rattle.use_refusals.specs.declared.refused.RefusedUse.{RefusedUse}
+use Rattle.design_checks.specs.Compared.{is_compared_of}
+use Rattle.design_checks.specs.Written.{Written, aims_refused, is_written_at, narrow, sections_refused, statement_refused, statements_refused, unwritten, written_if}
+use Rattle.design_checks.specs.declared.refused.RefusedUse.{RefusedUse}
 use Rattle.decompiled.specs.declared.literal.PinLiteral.{PinLiteral}
 use Rattle.decompiled.specs.declared.sum_line.SumLine.{SumLine}
 use Rattle.decompiled.specs.SourceText.{name_text, q_if}

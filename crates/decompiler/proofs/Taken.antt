@@ -21,7 +21,7 @@ use Rattle.assigned_signals.specs.Correct.{HasSoundDeclarations}
 use Rattle.assigned_signals.proofs.SoundModules.{all_accepted}
 use Rattle.set_expr.specs.declared.contributions.Contributions.{Contributions}
 use Rattle.source_sections.specs.SectionAnswers.{AreContributed}
-use Rattle.design_refusals.specs.declared.rules.Rule.TheVariants as rule
+use Rattle.design_checks.specs.declared.rules.Rule.TheVariants as rule
 use Rattle.decompiled.specs.SourceTrees.{IsSourceTree}
 use Rattle.decompiled.specs.Sources.{pins_of, source_of}
 use Rattle.decompiled_logic.proofs.PinPlaces.{taken_once}

@@ -10,15 +10,15 @@ use Rattle.abel_meaning.specs.Designs.{Design, design_of}
 use Rattle.set_expr.specs.declared.contributions.Contribution.{Contribution}
 use Rattle.set_expr.specs.declared.contributions.Contributions.{Contributions}
 use Rattle.source_sections.specs.SectionAnswers.{AreContributed}
-use Rattle.compared_controls.specs.Compared.{other_levels}
+use Rattle.design_checks.specs.Compared.{other_levels}
 use Rattle.design_checks.specs.Refused.{no_controls, plain, targets_refused}
 use Rattle.design_checks.specs.Verdict.{HasSoundSignals}
-use Rattle.design_refusals.specs.declared.rules.Rule.{Rule}
-use Rattle.design_refusals.specs.declared.rules.Rule.TheVariants as rule
-use Rattle.design_uses.specs.RefusedUses.{missing_uses}
-use Rattle.use_refusals.specs.declared.refused.RefusedUse.{RefusedUse}
-use Rattle.use_refusals.specs.Refused.{told}
-use Rattle.written_controls.specs.Written.{unwritten}
+use Rattle.design_checks.specs.declared.rules.Rule.{Rule}
+use Rattle.design_checks.specs.declared.rules.Rule.TheVariants as rule
+use Rattle.design_checks.specs.RefusedUses.{missing_uses}
+use Rattle.design_checks.specs.declared.refused.RefusedUse.{RefusedUse}
+use Rattle.design_checks.specs.UsesRefused.{told}
+use Rattle.design_checks.specs.Written.{unwritten}
 use Rattle.decompiled.specs.SourceTrees.{IsSourceTree}
 use Rattle.decompiled.specs.Sources.{lines_of, source_of}
 use Rattle.decompiled_logic.specs.Signals.{leaf_of, signal_of}

@@ -26,7 +26,7 @@ use Rattle.netlist_laws.proofs.SoundCells.{IsFor, each_for}
 use Rattle.netlist_laws.proofs.SoundLeaves.{inside}
 use Rattle.gathering.specs.Linked.{AreLinks}
 use Rattle.gathering.specs.Placed.{IsPlaced}
-use Rattle.design_refusals.specs.Refused.{lacks_by, lacks_control}
+use Rattle.design_checks.specs.SignalsRefused.{lacks_by, lacks_control}
 use Rattle.gathering.specs.Resets.{AssignedHaveCells}
 use Rattle.section_targets.proofs.KnownTargets.{IsSignalOf}
 use Rattle.design.specs.Answers.{is_sooner, IsResetAt, IsFirstPath}

@@ -34,7 +34,7 @@ use Rattle.gathering.specs.Placed.{AreIdsIn, IsPlaced}
 use Rattle.accepted_designs.specs.Accepted.{IsAccepted}
 use Rattle.accepted_designs.proofs.GivenSignals.{EachSignal, given_signals, reset_had}
 use Rattle.section_targets.proofs.KnownTargets.{IsSignalOf}
-use Rattle.design_refusals.specs.Refused.{AreToNames}
+use Rattle.design_checks.specs.SignalsRefused.{AreToNames}
 use Rattle.design_checks.specs.declared.fault.DesignFault.{DesignFault}
 use Rattle.design_checks.specs.declared.fault.DesignFault.TheVariants as fault
 use Rattle.design_checks.specs.Verdict.{IsDesignFor, HasSoundSignals, IsSignalRefused}

@@ -3,12 +3,12 @@ use Rattle.std.proofs.Common.{◌≡◌, List, [], ◌∷◌, ◌++◌, map, ref
 use Rattle.bit_expr.specs.Formulas.{Formula}
 use Rattle.abel_meaning.specs.Designs.{Design, design_of}
 use Rattle.set_expr.specs.declared.contributions.Contribution.{Contribution}
-use Rattle.design_refusals.specs.declared.rules.Rule.TheVariants as rule
-use Rattle.design_refusals.specs.Refused.{all_refused, registered_nodes}
-use Rattle.design_uses.specs.RefusedUses.{missing_uses, unread_uses}
-use Rattle.compared_controls.specs.Compared.{other_levels}
-use Rattle.written_controls.specs.Written.{unwritten}
-use Rattle.use_refusals.specs.Refused.{told}
+use Rattle.design_checks.specs.declared.rules.Rule.TheVariants as rule
+use Rattle.design_checks.specs.SignalsRefused.{all_refused, registered_nodes}
+use Rattle.design_checks.specs.RefusedUses.{missing_uses, unread_uses}
+use Rattle.design_checks.specs.Compared.{other_levels}
+use Rattle.design_checks.specs.Written.{unwritten}
+use Rattle.design_checks.specs.UsesRefused.{told}
 use Rattle.netlist_laws.specs.GatheredCorrect.{GatheredIsSound, GatheredMeansTheSame}
 use Rattle.accepted_designs.specs.Correct.{UnrefusedIsTakeable}
 use Rattle.accepted_designs.specs.Unrefused.{IsUnrefused}

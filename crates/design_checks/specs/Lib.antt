@@ -1,2 +1,14 @@
+pub mod Compared
+pub mod Correct
+pub mod Example
+pub mod Fronts
+pub mod LocatedUses
+pub mod Order
 pub mod Refused
+pub mod RefusedUses
+pub mod SectionUses
+pub mod SignalsRefused
+pub mod UsesRefused
 pub mod Verdict
+pub mod Walked
+pub mod Written

@@ -6,16 +6,16 @@ use Rattle.bit_expr.specs.Formulas.{Formula}
 use Rattle.abel_tree.specs.Entries.{Entry}
 use Rattle.abel_meaning.specs.Designs.{Design}
 use Rattle.set_expr.specs.declared.contributions.Contribution.{Contribution}
-use Rattle.design_refusals.specs.declared.fault.SignalFault.{SignalFault}
-use Rattle.design_refusals.specs.declared.fault.SignalFault.TheVariants as signal
-use Rattle.design_refusals.specs.declared.rules.Rule.{Rule}
-use Rattle.design_refusals.specs.declared.rules.Rule.TheVariants as rule
-use Rattle.design_refusals.specs.Refused.{all_refused, registered_nodes}
-use Rattle.design_uses.specs.RefusedUses.{missing_uses, unread_uses}
-use Rattle.compared_controls.specs.Compared.{other_levels}
-use Rattle.written_controls.specs.Written.{unwritten}
-use Rattle.use_refusals.specs.declared.refused.RefusedUse.{RefusedUse}
-use Rattle.use_refusals.specs.Refused.{told}
+use Rattle.design_checks.specs.declared.signal_fault.SignalFault.{SignalFault}
+use Rattle.design_checks.specs.declared.signal_fault.SignalFault.TheVariants as signal
+use Rattle.design_checks.specs.declared.rules.Rule.{Rule}
+use Rattle.design_checks.specs.declared.rules.Rule.TheVariants as rule
+use Rattle.design_checks.specs.SignalsRefused.{all_refused, registered_nodes}
+use Rattle.design_checks.specs.RefusedUses.{missing_uses, unread_uses}
+use Rattle.design_checks.specs.Compared.{other_levels}
+use Rattle.design_checks.specs.Written.{unwritten}
+use Rattle.design_checks.specs.declared.refused.RefusedUse.{RefusedUse}
+use Rattle.design_checks.specs.UsesRefused.{told}
 
 -- a refusal without its kind
 abbrev pub plain : SignalFault → RefusedUse

@@ -14,8 +14,8 @@ use Rattle.set_expr.specs.declared.contributions.Contribution.{Contribution}
 use Rattle.set_expr.specs.declared.contributions.Contributions.{Contributions}
 use Rattle.set_expr.specs.Answer.{IsContextOf}
 use Rattle.set_expr.specs.Given.{given}
-use Rattle.use_refusals.specs.declared.refused.RefusedUse.{RefusedUse}
-use Rattle.use_refusals.specs.Refused.{use_order}
+use Rattle.design_checks.specs.declared.refused.RefusedUse.{RefusedUse}
+use Rattle.design_checks.specs.UsesRefused.{use_order}
 use Rattle.design_checks.specs.declared.fault.DesignFault.{DesignFault}
 use Rattle.design_checks.specs.declared.fault.DesignFault.TheVariants as fault
 use Rattle.design_checks.specs.Refused.{wrong_kinds, stored_nodes, no_controls, any_controls, no_paths}

@@ -1,8 +1,40 @@
-//! The first refusal of a design's signals: of their kinds, nodes, controls and uses.
+//! What is refused of a design on its device: names, targets, uses and controls.
 #![tactic(auto)]
 
+mod branches;
+mod by_pin;
+mod calls;
+mod columns;
+mod compared;
 mod fault;
+mod front;
+mod fronts;
+mod laws;
+mod learning;
+mod levels;
+mod name_facts;
+mod names;
+mod refused;
+mod rule;
+mod rules;
+mod sections;
+mod signal_fault;
 mod signals;
+mod statements;
+mod walk;
+mod walks;
+mod written;
 
+pub use by_pin::is_compared;
+pub use calls::{missing_use, unread_use};
+pub use columns::cell_on;
+pub use compared::other_level;
 pub use fault::DesignFault;
+pub use laws::{example_is_refused, uses_are_read, uses_have_columns};
+pub use name_facts::{has_wrong_kind_on, is_registered_node, is_stored};
+pub use refused::{RefusedUse, earlier};
+pub use rule::has_read_path_on;
+pub use signal_fault::SignalFault;
 pub use signals::check_signals;
+pub use walks::{dont_care_control, missing_control, registered_node, wrong_kind};
+pub use written::other_spelling;

@@ -6,24 +6,24 @@ ghost use Rattle.bit_expr.specs.Formulas.{Formula};
 ghost use Rattle.abel_tree.specs.Entries.{entries_of};
 ghost use Rattle.abel_tree.specs.FirstRefusal.{first_refusal};
 ghost use Rattle.abel_meaning.specs.Designs.{Design};
-ghost use Rattle.design_refusals.specs.Refused.{AreToNames};
+ghost use Rattle.design_checks.specs.SignalsRefused.{AreToNames};
 ghost use Rattle.set_expr.specs.declared.contributions.Contribution as code;
-ghost use Rattle.use_refusals.specs.Refused.{use_order};
+ghost use Rattle.design_checks.specs.UsesRefused.{use_order};
 ghost use Rattle.design_checks.specs.Refused.{any_controls, no_controls, no_paths, plain, stored_nodes, target_controls, wrong_kinds};
 ghost use Rattle.design_checks.specs.Verdict.{ControlsPass, HasSoundSignals, IsAnyRefused, IsCellRefused, IsControlRefused, IsDesignFor, IsNodeRefused, IsPathRefused, IsSignalRefused, KindsPass, UsesPass};
 
+use crate::calls::{missing_use, unread_use};
+use crate::compared::other_level;
 use crate::fault::DesignFault;
+use crate::refused::{RefusedUse, earlier};
+use crate::signal_fault::SignalFault;
+use crate::walks::{dont_care_control, missing_control, registered_node, wrong_kind};
+use crate::written::other_spelling;
 use abel_tree::{Module, Names};
-use compared_controls::other_level;
-use design_refusals::{
-    SignalFault, dont_care_control, missing_control, registered_node, wrong_kind,
-};
 use pld_base::OutOfMemory;
 use pld_device::Device;
 use set_expr::{Contribution, Contributions, Scope};
 use std::alloc::Global;
-use use_refusals::{RefusedUse, earlier, missing_use, unread_use};
-use written_controls::other_spelling;
 
 /// A refusal without its kind.
 fn plain(fault: SignalFault) -> RefusedUse

@@ -8,16 +8,14 @@ ghost use Rattle.netlist_rows.specs.Drawn.{IsDrawn};
 use crate::drawing::{Drawn, draw, names_of};
 use crate::places::{put_refusal, put_word};
 use crate::sources::row_module;
-use compared_controls::other_level;
-use design_checks::{DesignFault, check_signals};
-use design_refusals::{
-    SignalFault, dont_care_control, missing_control, registered_node, wrong_kind,
+use design_checks::{
+    DesignFault, RefusedUse, SignalFault, check_signals, dont_care_control, missing_control,
+    missing_use, other_level, registered_node, unread_use, wrong_kind,
 };
 use pld_device::Sample;
 use set_expr::Scope;
 use std::alloc::Global;
 use test_rows::Found;
-use use_refusals::{RefusedUse, missing_use, unread_use};
 
 /// The refusal of a signal, or `none`.
 fn put_fault(fault: Option<SignalFault>, found: &mut Found) {

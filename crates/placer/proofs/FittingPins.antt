@@ -11,8 +11,8 @@ use Rattle.abel_meaning.specs.Designs.{is_stored, cell_on, no_name}
 use Rattle.pld_order.specs.Graphs.{has}
 use Rattle.pin_matching.specs.Assignments.{IsAssignment, wish_of}
 use Rattle.placer.specs.Following.{HasFittingPin}
-use Rattle.design_refusals.specs.Refused.{has_wrong_kind, has_wrong_kind_on}
-use Rattle.design_uses.specs.RefusedUses.{has_read_path, has_read_path_on, reads_by}
+use Rattle.design_checks.specs.SignalsRefused.{has_wrong_kind, has_wrong_kind_on}
+use Rattle.design_checks.specs.RefusedUses.{has_read_path, has_read_path_on, reads_by}
 use Rattle.placer.specs.Signals.{has_cell_for, is_free, pin_fits, preferred, to_place, wish, wishes}
 
 not_true : (b : Bool) → not b ≡ true → b ≡ false

@@ -27,7 +27,7 @@ use Rattle.declared_names.proofs.NamesAlike.{Alike, alike_kinds, alike_settled}
 use Rattle.declared_names.proofs.Exact.{entries_sound}
 use Rattle.declared_names.proofs.Placed.{found_at, kind_at, same_name}
 use Rattle.declared_names.proofs.SoundEntries.{AreSound, taken_alike}
-use Rattle.design_refusals.specs.Refused.{is_registered_node}
+use Rattle.design_checks.specs.SignalsRefused.{is_registered_node}
 use Rattle.pin_matching.specs.Assignments.{IsAssignment}
 use Rattle.pin_matching.proofs.Lists.{same_place}
 use Rattle.placer.specs.PlacedModule.{Pinned, released}

@@ -12,7 +12,7 @@ use Rattle.abel_tree.specs.Tree.{Tree, ANumber, ASpecial, AName, ASet, AParen, A
 use Rattle.abel_tree.specs.Uses.{Use, OneName, Range, uses, member_uses, one_member_uses}
 use Rattle.abel_meaning.specs.Terms.{Term, Terms, Number, X, Pulse, Release, Read, Set, NoTerm, Before, UnaryOf, BinaryOf, Known, term_named, extended, extended_each, extended_if, named_before, special_term, term_of, terms_of, member_before, term_meant, known_after, known_of}
 use Rattle.netlist_laws.specs.SignalUses.{SignalUse, term_uses, all_term_uses}
-use Rattle.design_uses.specs.LocatedUses.{PlacedUse, all_at, own_or_outer, range_located, located, members_located, member_located}
+use Rattle.design_checks.specs.LocatedUses.{PlacedUse, all_at, own_or_outer, range_located, located, members_located, member_located}
 use Rattle.placer.specs.NamedSignals.{signals_used, signals_in, stands_for, read_after, read_names_of}
 
 or_assoc : (a b c : Bool) → ((a || b) || c) ≡ (a || (b || c))

@@ -17,8 +17,8 @@ use Rattle.abel_meaning.specs.Designs.{is_stored, no_name}
 use Rattle.abel_meaning.specs.Held.{Holds, holds_of}
 use Rattle.abel_meaning.specs.Kinds.{is_registered, is_buffer_by_default, words_with_kind, with_kind, with_kinds, names_of}
 use Rattle.decls.specs.NameRefusals.{name_refusals}
-use Rattle.design_refusals.specs.Refused.{has_wrong_kind, has_wrong_kind_by, is_registered_by, is_registered_node}
-use Rattle.design_uses.specs.RefusedUses.{has_read_path, reads_by}
+use Rattle.design_checks.specs.SignalsRefused.{has_wrong_kind, has_wrong_kind_by, is_registered_by, is_registered_node}
+use Rattle.design_checks.specs.RefusedUses.{has_read_path, reads_by}
 use Rattle.pin_matching.specs.Assignments.{IsAssignment}
 use Rattle.placer.specs.Reads.{has_enable, is_read}
 use Rattle.placer.specs.Following.{IsFollowed}

@@ -7,10 +7,10 @@ use Rattle.abel_tree.specs.Tree.{Tree, Statement, AnAssign, AWhen, AGroup, ADont
 use Rattle.abel_meaning.specs.Designs.{Context}
 use Rattle.abel_meaning.specs.Held.{Part, ATarget, AValue, statement_parts, else_parts, statements_parts, list_parts, with_parts, branch_parts, other_parts, choices_parts, branches_parts, states_parts}
 use Rattle.abel_meaning.specs.Terms.{known_of}
-use Rattle.design_uses.specs.LocatedUses.{PlacedUse, located}
+use Rattle.design_checks.specs.LocatedUses.{PlacedUse, located}
 use Rattle.placer.specs.NamedSignals.{read_names_of}
 use Rattle.placer.specs.Reads.{read_parts, reads}
-use Rattle.design_uses.specs.SectionUses.{is_compared, expression_uses, statement_uses, else_uses, statements_uses, with_uses, branch_uses, other_uses, choices_uses, branches_uses, states_uses, section_uses, sections_uses}
+use Rattle.design_checks.specs.SectionUses.{is_compared, expression_uses, statement_uses, else_uses, statements_uses, with_uses, branch_uses, other_uses, choices_uses, branches_uses, states_uses, section_uses, sections_uses}
 use Rattle.placer.proofs.Located.{located_same}
 
 split : {X : Type 0} (p : X → Bool) (xs ys : List X) → list_any p (xs ++ ys) ≡ true → (list_any p xs ≡ true) ⊎ (list_any p ys ≡ true)

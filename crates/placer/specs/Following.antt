@@ -10,10 +10,10 @@ use Rattle.abel_meaning.specs.Kinds.{names_of}
 use Rattle.abel_meaning.specs.Terms.{known_of}
 use Rattle.decls.specs.NameRefusals.{name_refusals}
 use Rattle.pin_matching.specs.Assignments.{IsAssignment}
-use Rattle.design_refusals.specs.Refused.{has_wrong_kind}
-use Rattle.design_uses.specs.LocatedUses.{PlacedUse}
-use Rattle.design_uses.specs.RefusedUses.{has_read_path}
-use Rattle.design_uses.specs.SectionUses.{design_uses}
+use Rattle.design_checks.specs.SignalsRefused.{has_wrong_kind}
+use Rattle.design_checks.specs.LocatedUses.{PlacedUse}
+use Rattle.design_checks.specs.RefusedUses.{has_read_path}
+use Rattle.design_checks.specs.SectionUses.{design_uses}
 use Rattle.placer.specs.Reads.{is_read}
 use Rattle.placer.specs.Placements.{IsPlacedModule}
 use Rattle.placer.specs.Signals.{is_free, pin_fits, to_place, wishes}

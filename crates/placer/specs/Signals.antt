@@ -12,8 +12,8 @@ use Rattle.abel_meaning.specs.Designs.{is_stored, cell_on, no_name}
 use Rattle.abel_meaning.specs.Kinds.{is_buffer_by_default}
 use Rattle.decls.specs.NamesBefore.{is_taken}
 use Rattle.decls.specs.Refused.{is_signal_pin}
-use Rattle.design_refusals.specs.Refused.{has_wrong_kind_on, is_registered_node}
-use Rattle.design_uses.specs.RefusedUses.{has_read_path_on}
+use Rattle.design_checks.specs.SignalsRefused.{has_wrong_kind_on, is_registered_node}
+use Rattle.design_checks.specs.RefusedUses.{has_read_path_on}
 
 -- ---- signals
 

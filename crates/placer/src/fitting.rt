@@ -11,10 +11,9 @@ ghost use Rattle.placer.specs.Signals.{has_cell_for, is_enabled_by, is_free, pin
 ghost use Rattle.placer.specs.Wanted.{AreFree};
 
 use abel_tree::{Declared, Meaning};
-use design_refusals::{has_wrong_kind_on, is_stored};
+use design_checks::{cell_on, has_read_path_on, has_wrong_kind_on, is_stored};
 use pld_base::with_level;
 use pld_device::{Device, Enable};
-use use_refusals::{cell_on, has_read_path_on};
 
 /// Whether a pin may have a name: it is neither ground nor the supply.
 fn is_signal_pin<D: Device>(pin: u8) -> bool

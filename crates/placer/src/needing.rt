@@ -8,7 +8,7 @@ ghost use Rattle.placer.specs.Wanted.{with_signal};
 
 use abel_tree::Declared;
 use declared_names::is_unnumbered;
-use design_refusals::is_registered_node;
+use design_checks::is_registered_node;
 use pld_base::OutOfMemory;
 use pld_device::{Device, Flip};
 use std::alloc::Global;

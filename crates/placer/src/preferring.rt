@@ -4,10 +4,10 @@ ghost use Rattle.std.specs.Prelude.{◌≡◌, ◌==◌, ◌++◌, IfOk, OnOk, i
 ghost use Rattle.abel_meaning.specs.Designs.{cell_on};
 ghost use Rattle.placer.specs.Signals.{cells_of_room, large_cells, plain_pins, preferred, small_cells};
 
+use design_checks::cell_on;
 use pld_base::OutOfMemory;
 use pld_device::{Cell, Device};
 use std::alloc::Global;
-use use_refusals::cell_on;
 
 /// Whether the cell has so many rows.
 fn is_of_room(cell: &Cell, room: u16) -> bool

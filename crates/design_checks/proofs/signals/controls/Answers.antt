@@ -6,9 +6,9 @@ use Rattle.abel_tree.specs.FirstRefusal.{earlier, first_refusal}
 use Rattle.abel_tree.specs.View.{view_section}
 use Rattle.abel_tree.proofs.FirstRefusals.{first_append}
 use Rattle.set_expr.specs.Answer.{IsContextOf}
-use Rattle.design_uses.specs.RefusedUses.{missing_uses}
-use Rattle.use_refusals.specs.Refused.{told, use_order}
-use Rattle.written_controls.specs.Written.{unwritten}
+use Rattle.design_checks.specs.RefusedUses.{missing_uses}
+use Rattle.design_checks.specs.UsesRefused.{told, use_order}
+use Rattle.design_checks.specs.Written.{unwritten}
 use Rattle.design_checks.specs.Refused.{target_controls}
 use Rattle.design_checks.proofs.signals.controls.Goals as goal
 

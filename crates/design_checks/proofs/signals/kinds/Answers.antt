@@ -1,8 +1,8 @@
 use Rattle.std.proofs.Common.{◌≡◌, sym, ap, ◌∙◌}
 use Rattle.std.specs.Prelude.{option_map}
 use Rattle.abel_tree.specs.Entries.{entries_of}
-use Rattle.design_refusals.specs.declared.rules.Rule.TheVariants as rule
-use Rattle.design_refusals.specs.Refused.{all_refused}
+use Rattle.design_checks.specs.declared.rules.Rule.TheVariants as rule
+use Rattle.design_checks.specs.SignalsRefused.{all_refused}
 use Rattle.design_checks.specs.Refused.{plain}
 use Rattle.design_checks.proofs.PlainOnes.{first_plain}
 use Rattle.design_checks.proofs.signals.kinds.Goals as goal

@@ -1,7 +1,7 @@
 use Rattle.std.proofs.Common.{◌≡◌, sym, ap, ◌∙◌}
 use Rattle.std.specs.Prelude.{option_map}
 use Rattle.abel_tree.specs.Entries.{entries_of}
-use Rattle.design_refusals.specs.Refused.{registered_nodes}
+use Rattle.design_checks.specs.SignalsRefused.{registered_nodes}
 use Rattle.design_checks.specs.Refused.{plain}
 use Rattle.design_checks.proofs.PlainOnes.{first_plain}
 use Rattle.design_checks.proofs.signals.nodes.Goals as goal

@@ -4,10 +4,10 @@ use Rattle.bit_expr.specs.Arena.{arena}
 use Rattle.abel_tree.specs.Entries.{entries_of}
 use Rattle.abel_tree.specs.FirstRefusal.{earlier, first_refusal}
 use Rattle.abel_tree.proofs.FirstRefusals.{first_append}
-use Rattle.design_refusals.specs.declared.rules.Rule.TheVariants as rule
-use Rattle.design_refusals.specs.Refused.{all_refused}
-use Rattle.compared_controls.specs.Compared.{other_levels}
-use Rattle.use_refusals.specs.Refused.{use_order}
+use Rattle.design_checks.specs.declared.rules.Rule.TheVariants as rule
+use Rattle.design_checks.specs.SignalsRefused.{all_refused}
+use Rattle.design_checks.specs.Compared.{other_levels}
+use Rattle.design_checks.specs.UsesRefused.{use_order}
 use Rattle.design_checks.specs.Refused.{plain, target_controls, targets_refused}
 use Rattle.design_checks.proofs.PlainOnes.{first_plain}
 use Rattle.design_checks.proofs.signals.target_controls.Goals as goal

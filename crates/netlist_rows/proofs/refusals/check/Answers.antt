@@ -4,7 +4,7 @@ use Rattle.pld_device.specs.SampleTable.{sample}
 use Rattle.abel_tree.specs.declared.names.Names.{Names}
 use Rattle.abel_tree.specs.Entries.{entries_of}
 use Rattle.truth_tables.proofs.NamesInOrder.{sound_in_order}
-use Rattle.design_refusals.specs.Refused.{AreToNames}
+use Rattle.design_checks.specs.SignalsRefused.{AreToNames}
 use Rattle.netlist_rows.proofs.DrawnNames.{drawn_to_names}
 use Rattle.netlist_rows.proofs.PlacedNames.{sound_placed}
 use Rattle.netlist_rows.proofs.refusals.check.Goals as goal

@@ -1,7 +1,7 @@
 use Rattle.std.proofs.Common.{length, sym, subst}
 use Rattle.pld_device.specs.SampleTable.{sample}
 use Rattle.abel_tree.specs.Entries.{entries_of}
-use Rattle.design_refusals.specs.Refused.{AreToNames}
+use Rattle.design_checks.specs.SignalsRefused.{AreToNames}
 use Rattle.netlist_rows.proofs.DrawnNames.{drawn_to_names}
 use Rattle.netlist_rows.proofs.refusals.put_faults.Goals as goal
 

@@ -1,0 +1,146 @@
+-- A use that isn't refused reads a leaf for which the device has columns.
+use Rattle.std.proofs.Common.{◌≡◌, ℕ, ◌<◌, ◌==◌, Bool, true, false, not, ◌&&◌, ◌||◌, List, length, get_or, Option, Some, None, refl, sym, ap, ◌∙◌, subst, inl, inr}
+use Rattle.std.specs.Prelude.{position, is_some}
+use Rattle.std.specs.List.{list_any}
+use Rattle.std.proofs.lemmas.Bool.{cases_Bool, true≢false, eqb-true, eq-eqb, and_parts}
+use Rattle.std.proofs.lemmas.List.Folds.{list_any_at}
+use Rattle.std.proofs.lemmas.List.Quantifiers.{position-Some}
+use Rattle.std.proofs.lemmas.Option.{slice_get-get_or}
+use Rattle.pld_device.specs.declared.carry.Carry.{Carry}
+use Rattle.pld_device.specs.declared.carry.Carry.TheVariants as carry
+use Rattle.pld_device.specs.declared.cell.Cell.{Cell}
+use Rattle.pld_device.specs.Pins.{pair_pins}
+use Rattle.pld_device.specs.Table.{cell_at, no_cell}
+use Rattle.bit_expr.specs.declared.node.Leaf.{Leaf}
+use Rattle.bit_expr.specs.declared.node.Leaf.TheVariants as leaf
+use Rattle.abel_tree.specs.declared.words.Extension.{Extension}
+use Rattle.abel_tree.specs.declared.words.Extension.TheVariants as extension
+use Rattle.abel_tree.specs.Entries.{Kind, APin, ANode, AConstant, ADeviceName, Entry}
+use Rattle.abel_meaning.specs.Controls.{is_pin, signal_on, cell_stores_for, must_register}
+use Rattle.abel_meaning.specs.Designs.{Context, name_at, no_name, is_stored, follows_q, cell_on}
+use Rattle.abel_meaning.specs.SoundIds.{carries_cell}
+use Rattle.abel_meaning.specs.Sources.{Held, pin_source, register_source, node_source, on_pin, source_by}
+use Rattle.netlist_laws.specs.SignalUses.{holds_leaf}
+use Rattle.netlist_laws.specs.Takeable.{PinsApart, HasColumns}
+use Rattle.netlist_laws.proofs.SoundLeaves.{inside, some_place}
+use Rattle.design_checks.specs.RefusedUses.{carries_level, carries_q, reads_register, reads_pin, reads_by, has_read_path}
+
+-- a first place that there is
+placed : {X : Type 0} (p : X → Bool) (xs : List X) → is_some (position p xs) ≡ true → (k : ℕ) × (position p xs ≡ Some k)
+placed p xs there = by (position p xs) refl there
+  where
+    by : (found : Option ℕ) → position p xs ≡ found → is_some found ≡ true → (k : ℕ) × (position p xs ≡ Some k)
+    by None is some = absurd cc
+    by (Some k) is some = (k, is)
+
+same_cell : (x : Carry) (c : ℕ) → carries_cell c x ≡ true → x ≡ carry.Cell c
+same_cell (carry.Pin p) c is = absurd cc
+same_cell (carry.Cell e) c is = ap (λ n. carry.Cell n) (eqb-true e c is)
+
+module _ (d : Context) (apart : PinsApart d) where
+  -- ---- registers
+
+  q_carried : (c : ℕ) → carries_q d.device (Some c) ≡ true → HasColumns d (leaf.Q c)
+  q_carried c there =
+      let at = placed (carries_cell c) d.device.pairs there in
+      let is = position-Some (carries_cell c) d.device.pairs at.0 (carry.Pin 0) at.1 in
+      (at.0, slice_get-get_or d.device.pairs at.0 (carry.Pin 0) is.0 ∙ ap (λ x. Some x) (same_cell (get_or d.device.pairs at.0 (carry.Pin 0)) c is.1))
+
+  of_q : (c : ℕ) (l : Leaf) → carries_q d.device (Some c) ≡ true → holds_leaf (Held true (leaf.Q c)) l ≡ true → HasColumns d l
+  of_q c (leaf.Pin p) there is = absurd cc
+  of_q c (leaf.Q e) there is = subst (λ n. HasColumns d (leaf.Q n)) (eqb-true c e is) (q_carried c there)
+  of_q c (leaf.Node n) there is = absurd cc
+
+  register_read : (pin : ℕ) (negated buffer : Bool) (cell : Option ℕ) (e : Option Extension) (l : Leaf) → cell_on d.device pin ≡ cell → reads_register d.device pin e ≡ true → holds_leaf (register_source negated buffer cell e) l ≡ true → HasColumns d l
+  register_read pin negated buffer None e l on there is = absurd cc
+  register_read pin negated buffer (Some c) None l on there is = of_q c l (sym (ap (carries_q d.device) on) ∙ there) is
+  register_read pin negated buffer (Some c) (Some extension.Fb) l on there is = of_q c l (sym (ap (carries_q d.device) on) ∙ there) is
+  register_read pin negated buffer (Some c) (Some extension.Q) l on there is = of_q c l (sym (ap (carries_q d.device) on) ∙ there) is
+  register_read pin negated buffer (Some c) (Some extension.Pin) l on there is = absurd cc
+  register_read pin negated buffer (Some c) (Some extension.Clk) l on there is = absurd cc
+  register_read pin negated buffer (Some c) (Some extension.Oe) l on there is = absurd cc
+  register_read pin negated buffer (Some c) (Some extension.Ar) l on there is = absurd cc
+  register_read pin negated buffer (Some c) (Some extension.Sp) l on there is = absurd cc
+  register_read pin negated buffer (Some c) (Some extension.D) l on there is = absurd cc
+
+  -- ---- levels
+
+  module _ (s pin : ℕ) (negated : Bool) (kind : (name_at d s).kind ≡ APin pin negated) (loose : is_stored (name_at d s) ≡ false) where
+    abbrev needs : Cell → Bool
+    needs c = (c.pin == pin) && must_register c.kinds
+
+    here : (c : ℕ) → (cell_at d.device c).pin ≡ pin → is_pin (cell_at d.device c).pin (name_at d s).kind ≡ true
+    here c on = rw kind (eq-eqb pin (cell_at d.device c).pin (sym on))
+
+    within : s < length d.names
+    within = inside d s (λ e. let same : APin pin negated ≡ ADeviceName = sym kind ∙ e in cc)
+
+    -- what is assigned on the cell is this signal
+    stores : (c : ℕ) → c < length d.device.cells → (cell_at d.device c).pin ≡ pin → (found : Option ℕ) → signal_on d c ≡ found → ((name_at d s).assigned || not (list_any needs d.device.cells)) ≡ true → cell_stores_for d c found ≡ false
+    stores c low on (Some r) is free =
+        let at = position-Some (λ (x : Entry). x.assigned && is_pin (cell_at d.device c).pin x.kind) d.names r no_name is in
+        let same : r ≡ s = apart (cell_at d.device c).pin r s (and_parts (name_at d r).assigned (is_pin (cell_at d.device c).pin (name_at d r).kind) at.1).1 (here c on) in
+        ap (λ n. is_stored (name_at d n)) same ∙ loose
+    stores c low on None is free =
+        elim (cases_Bool (name_at d s).assigned) [
+          | inl assigned ↦
+              let first = some_place (λ (x : Entry). x.assigned && is_pin (cell_at d.device c).pin x.kind) no_name d.names s within (rw assigned (here c on)) in
+              absurd (let no : Some first.0 ≡ None = sym first.1 ∙ is in cc)
+          | inr other ↦
+              elim (cases_Bool (must_register (cell_at d.device c).kinds)) [
+                | inl must ↦ absurd (true≢false (sym (rw other at free) ∙ ap not (list_any_at needs d.device.cells c no_cell low (rw must (both c on)))))
+                | inr may ↦ may
+              ]
+        ]
+      where
+        both : (c : ℕ) → (cell_at d.device c).pin ≡ pin → (((cell_at d.device c).pin == pin) && true) ≡ true
+        both c on = rw (eq-eqb (cell_at d.device c).pin pin on) refl
+
+    level_carried : carries_level d.device (name_at d s) pin ≡ true → HasColumns d (leaf.Pin pin)
+    level_carried there =
+        let parts = and_parts (is_some (position (λ p. p == pin) (pair_pins d.device))) ((name_at d s).assigned || not (list_any needs d.device.cells)) there in
+        let at = placed (λ p. p == pin) (pair_pins d.device) parts.0 in
+        let is = position-Some (λ p. p == pin) (pair_pins d.device) at.0 0 at.1 in (
+          (at.0, slice_get-get_or (pair_pins d.device) at.0 0 is.0 ∙ ap (λ x. Some x) (eqb-true (get_or (pair_pins d.device) at.0 0) pin is.1)),
+          λ c low on. stores c low on (signal_on d c) refl parts.1,
+        )
+
+    of_pin : (l : Leaf) → carries_level d.device (name_at d s) pin ≡ true → holds_leaf (Held true (leaf.Pin pin)) l ≡ true → HasColumns d l
+    of_pin (leaf.Pin p) there is = subst (λ n. HasColumns d (leaf.Pin n)) (eqb-true pin p is) (level_carried there)
+    of_pin (leaf.Q c) there is = absurd cc
+    of_pin (leaf.Node n) there is = absurd cc
+
+    pin_read : (e : Option Extension) (l : Leaf) → reads_pin d.device (name_at d s) pin e ≡ true → holds_leaf (pin_source pin negated e) l ≡ true → HasColumns d l
+    pin_read None l there is = of_pin l there is
+    pin_read (Some extension.Pin) l there is = of_pin l there is
+    pin_read (Some extension.Clk) l there is = absurd cc
+    pin_read (Some extension.Oe) l there is = absurd cc
+    pin_read (Some extension.Ar) l there is = absurd cc
+    pin_read (Some extension.Sp) l there is = absurd cc
+    pin_read (Some extension.D) l there is = absurd cc
+    pin_read (Some extension.Q) l there is = absurd cc
+    pin_read (Some extension.Fb) l there is = absurd cc
+
+  -- ---- by what the name is declared as
+
+  of_node : (n : ℕ) (l : Leaf) → holds_leaf (Held true (leaf.Node n)) l ≡ true → HasColumns d l
+  of_node n (leaf.Pin p) is = absurd cc
+  of_node n (leaf.Q c) is = absurd cc
+  of_node n (leaf.Node m) is = tt
+
+  node_read : (n : ℕ) (e : Option Extension) (l : Leaf) → holds_leaf (node_source n e) l ≡ true → HasColumns d l
+  node_read n None l is = of_node n l is
+  node_read n (Some e) l is = absurd cc
+
+  by_stored : (s pin : ℕ) (negated stored : Bool) (e : Option Extension) (l : Leaf) → (name_at d s).kind ≡ APin pin negated → is_stored (name_at d s) ≡ stored → reads_by d.device (name_at d s) stored (APin pin negated) e ≡ true → holds_leaf (on_pin d.device (name_at d s) pin negated stored e) l ≡ true → HasColumns d l
+  by_stored s pin negated true e l kind stored there is = register_read pin negated (follows_q (name_at d s)) (cell_on d.device pin) e l refl there is
+  by_stored s pin negated false e l kind stored there is = pin_read s pin negated kind stored e l there is
+
+  by_kind : (s : ℕ) (kind : Kind) (e : Option Extension) (l : Leaf) → (name_at d s).kind ≡ kind → reads_by d.device (name_at d s) (is_stored (name_at d s)) kind e ≡ true → holds_leaf (source_by d.device (name_at d s) kind e) l ≡ true → HasColumns d l
+  by_kind s (APin pin negated) e l kind there is = by_stored s pin negated (is_stored (name_at d s)) e l kind refl there is
+  by_kind s (ANode n) e l kind there is = node_read n e l is
+  by_kind s (AConstant value) e l kind there is = absurd cc
+  by_kind s ADeviceName e l kind there is = absurd cc
+
+  pub carried : (s : ℕ) (e : Option Extension) (l : Leaf) → has_read_path d.device (name_at d s) e ≡ true → holds_leaf (source_by d.device (name_at d s) (name_at d s).kind e) l ≡ true → HasColumns d l
+  carried s e l there is = by_kind s (name_at d s).kind e l refl there is

@@ -1,0 +1,13 @@
+-- The members so far.
+use Rattle.std.proofs.Common.{◌≡◌, map, take}
+use Rattle.abel_tree.specs.Tree.{members_of}
+use Rattle.abel_tree.specs.View.{view_member}
+use Rattle.abel_meaning.specs.Targets.{all_targets}
+use Rattle.abel_meaning.specs.Terms.{terms_of}
+use Rattle.design_checks.specs.Walked.{Asking, Knows, are_by_pin}
+use Rattle.design_checks.proofs.walk.+by_pin.Given as goal
+
+abbrev pub invariant-is_target_by_pin-loop-member : goal.invariant-is_target_by_pin-loop-member
+invariant-is_target_by_pin-loop-member l =
+    (a : Asking) → Knows a l.names
+    → l.by_pin ≡ are_by_pin a.design (all_targets (terms_of a.design.known (members_of (map view_member (take l.member-index l.member-items)))))

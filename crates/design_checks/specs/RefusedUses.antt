@@ -1,0 +1,94 @@
+-- Which uses a device can't follow: an extension that the signal doesn't have, and what no column carries (the devices'
+-- datasheets, macrocell diagrams; what is refused is this project's rule).
+use Rattle.std.specs.Prelude.{ℕ, ◌==◌, Bool, true, false, not, ◌&&◌, ◌||◌, Option, None, Some, is_some, is_none, List, filter, position}
+use Rattle.std.specs.List.{list_any}
+use Rattle.pld_device.specs.declared.cell.Cell.{Cell}
+use Rattle.pld_device.specs.Pins.{pair_pins}
+use Rattle.pld_device.specs.Table.{Table}
+use Rattle.abel_tree.specs.declared.words.Extension.{Extension}
+use Rattle.abel_tree.specs.declared.words.Extension.TheVariants as extension
+use Rattle.abel_tree.specs.Entries.{Kind, APin, ANode, Entry}
+use Rattle.abel_meaning.specs.Controls.{must_register}
+use Rattle.abel_meaning.specs.Designs.{Context, Design, name_at, is_stored, cell_on}
+use Rattle.abel_meaning.specs.SoundIds.{carries_cell}
+use Rattle.design_checks.specs.LocatedUses.{PlacedUse}
+use Rattle.design_checks.specs.SectionUses.{design_uses}
+
+-- ---- extensions that a signal doesn't have
+
+-- a combinational signal is read by its pin alone; it has an enable, which can't be read
+abbrev pub pin_has : Option Extension → Bool
+pin_has None = true
+pin_has (Some extension.Pin) = true
+pin_has (Some extension.Oe) = true
+pin_has (Some _) = false
+
+-- a register has all but the controls that the device lacks
+abbrev pub register_has : Table → Option Extension → Bool
+register_has t (Some extension.Ar) = is_some t.reset
+register_has t (Some extension.Sp) = is_some t.preset
+register_has t _ = true
+
+-- a node has its value alone
+abbrev pub has_by : Table → (stored : Bool) → Kind → Option Extension → Bool
+has_by t true (APin pin negated) e = register_has t e
+has_by t false (APin pin negated) e = pin_has e
+has_by t stored (ANode n) e = is_none e
+has_by t stored _ e = true
+
+abbrev pub has_extension : Table → Entry → Option Extension → Bool
+has_extension t x e = has_by t (is_stored x) x.kind e
+
+-- ---- what no column carries
+
+-- a pair of columns carries the pin's level: not so where the cell on it must register and nothing is assigned
+abbrev pub carries_level : Table → Entry → (pin : ℕ) → Bool
+carries_level t x pin =
+    is_some (position (λ p. p == pin) (pair_pins t))
+    && (x.assigned || not (list_any (λ (c : Cell). (c.pin == pin) && must_register c.kinds) t.cells))
+
+-- a pair of columns carries the Q of the cell that there may be
+abbrev pub carries_q : Table → Option ℕ → Bool
+carries_q t None = false
+carries_q t (Some c) = is_some (position (carries_cell c) t.pairs)
+
+-- a register can be read as Q, or in its pin polarity
+abbrev pub reads_register : Table → (pin : ℕ) → Option Extension → Bool
+reads_register t pin None = carries_q t (cell_on t pin)
+reads_register t pin (Some extension.Fb) = carries_q t (cell_on t pin)
+reads_register t pin (Some extension.Q) = carries_q t (cell_on t pin)
+reads_register t pin (Some _) = false
+
+-- a combinational signal as its level
+abbrev pub reads_pin : Table → Entry → (pin : ℕ) → Option Extension → Bool
+reads_pin t x pin None = carries_level t x pin
+reads_pin t x pin (Some extension.Pin) = carries_level t x pin
+reads_pin t x pin (Some _) = false
+
+abbrev pub reads_by : Table → Entry → (stored : Bool) → Kind → Option Extension → Bool
+reads_by t x true (APin pin negated) e = reads_register t pin e
+reads_by t x false (APin pin negated) e = reads_pin t x pin e
+reads_by t x stored _ e = true
+
+-- so it would be on this pin
+abbrev pub has_read_path_on : Table → Entry → (pin : ℕ) → Option Extension → Bool
+has_read_path_on t x pin e = reads_by t x (is_stored x) (APin pin false) e
+
+abbrev pub has_read_path : Table → Entry → Option Extension → Bool
+has_read_path t x e = reads_by t x (is_stored x) x.kind e
+
+-- ---- uses that are refused
+
+-- NoSuchControl: the signal doesn't have the extension
+abbrev pub is_missing : Context → PlacedUse → Bool
+is_missing d u = not (has_extension d.device (name_at d u.read.signal) u.read.extension)
+
+-- NoReadPath: it has it, and no column carries it
+abbrev pub is_unread : Context → PlacedUse → Bool
+is_unread d u = not (is_missing d u) && not (has_read_path d.device (name_at d u.read.signal) u.read.extension)
+
+abbrev pub missing_uses : Design → List PlacedUse
+missing_uses d = filter (is_missing d.context) (design_uses d)
+
+abbrev pub unread_uses : Design → List PlacedUse
+unread_uses d = filter (is_unread d.context) (design_uses d)

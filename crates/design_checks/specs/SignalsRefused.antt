@@ -1,0 +1,109 @@
+-- What of a design is refused by its names and its targets (the devices' datasheets, macrocell diagrams; what is refused,
+-- and where, is this project's rule).
+use Rattle.std.specs.Prelude.{ℕ, suc, ◌<◌, ◌==◌, Bool, true, false, not, ◌&&◌, ◌||◌, Option, Some, is_some, is_none, List, [], ◌∷◌, ◌++◌, All, get_or}
+use Rattle.std.specs.List.{list_any}
+use Rattle.pld_device.specs.declared.cell.Cell.{Cell}
+use Rattle.pld_device.specs.declared.kinds.Kinds.{Kinds}
+use Rattle.pld_device.specs.declared.kinds.Kinds.TheVariants.{Combinational, Registered, Either}
+use Rattle.pld_device.specs.Table.{Table}
+use Rattle.abel_tree.specs.declared.words.Extension.{Extension}
+use Rattle.abel_tree.specs.declared.words.Extension.TheVariants as extension
+use Rattle.abel_tree.specs.Entries.{Kind, APin, ANode, Entry}
+use Rattle.abel_meaning.specs.Designs.{is_stored, no_name}
+use Rattle.abel_meaning.specs.Targets.{is_data}
+use Rattle.set_expr.specs.declared.contributions.Contribution.{Contribution}
+use Rattle.set_expr.specs.declared.contributions.Gives.{Gives}
+use Rattle.set_expr.specs.declared.contributions.Gives.TheVariants as gives
+use Rattle.design_checks.specs.declared.signal_fault.SignalFault.{SignalFault}
+use Rattle.design_checks.specs.declared.signal_fault.SignalFault.TheVariants as fault
+use Rattle.design_checks.specs.declared.rules.Rule.{Rule}
+use Rattle.design_checks.specs.declared.rules.Rule.TheVariants as rule
+
+abbrev pub refused_if : Bool → SignalFault → List SignalFault
+refused_if true f = f ∷ []
+refused_if false f = []
+
+-- ---- names
+
+-- a cell of these kinds can't be what the signal is
+abbrev pub is_wrong_kind : Kinds → (stored : Bool) → Bool
+is_wrong_kind Combinational stored = stored
+is_wrong_kind Registered stored = not stored
+is_wrong_kind Either stored = false
+
+-- a cell is on the pin, and can't be what the signal is
+abbrev pub is_wrong_cell : (pin : ℕ) → (stored : Bool) → Cell → Bool
+is_wrong_cell pin stored c = (c.pin == pin) && is_wrong_kind c.kinds stored
+
+-- the cell on a pin can't be what the signal is
+abbrev pub has_wrong_kind_on : Table → (pin : ℕ) → (stored : Bool) → Bool
+has_wrong_kind_on t pin stored = list_any (is_wrong_cell pin stored) t.cells
+
+-- so for a signal, by what its name is declared as
+abbrev pub has_wrong_kind_by : Table → (stored : Bool) → Kind → Bool
+has_wrong_kind_by t stored (APin pin negated) = has_wrong_kind_on t pin stored
+has_wrong_kind_by t stored _ = false
+
+abbrev pub has_wrong_kind : Table → Entry → Bool
+has_wrong_kind t x = has_wrong_kind_by t (is_stored x) x.kind
+
+-- a node is no register, whether an attribute or an assignment on the clock says so
+abbrev pub is_registered_by : (registered : Bool) → Kind → Bool
+is_registered_by registered (ANode n) = registered
+is_registered_by registered _ = false
+
+abbrev pub is_registered_node : Entry → Bool
+is_registered_node x = is_registered_by x.words.registered x.kind
+
+-- one name, which has this number
+abbrev pub node_refused : ℕ → Entry → List SignalFault
+node_refused s x = refused_if (is_registered_node x) (fault.RegisteredNode x.place s)
+
+-- all of them, at their declarations; the first name has this number
+abbrev pub registered_nodes : ℕ → List Entry → List SignalFault
+registered_nodes s [] = []
+registered_nodes s (x ∷ xs) = node_refused s x ++ registered_nodes (suc s) xs
+
+-- ---- targets
+
+-- a combinational signal has its enable alone; a register its clock and raw input too, and reset and preset where the
+-- device has them
+abbrev pub pin_lacks : Table → (stored : Bool) → Option Extension → Bool
+pin_lacks t stored (Some extension.Ar) = not stored || is_none t.reset
+pin_lacks t stored (Some extension.Sp) = not stored || is_none t.preset
+pin_lacks t stored (Some extension.Clk) = not stored
+pin_lacks t stored (Some extension.D) = not stored
+pin_lacks t stored _ = false
+
+-- a node has nothing but its value
+abbrev pub lacks_by : Table → (stored : Bool) → Kind → Option Extension → Bool
+lacks_by t stored (APin pin negated) e = pin_lacks t stored e
+lacks_by t stored (ANode n) e = is_some e
+lacks_by t stored _ e = false
+
+abbrev pub lacks_control : Table → Entry → Option Extension → Bool
+lacks_control t x e = lacks_by t (is_stored x) x.kind e
+
+-- it gives any
+abbrev pub is_any : Gives → Bool
+is_any gives.Any = true
+is_any _ = false
+
+-- a control is assigned by `?=`
+abbrev pub is_control_by_any : Contribution → Bool
+is_control_by_any c = not (is_data c.target.extension) && is_any c.what
+
+-- what a rule refuses of a contribution to a name, at its target
+abbrev pub rule_refused : Table → Rule → Entry → Contribution → List SignalFault
+rule_refused t rule.Kinds x c = refused_if (is_data c.target.extension && has_wrong_kind t x) (fault.WrongKind c.place c.target.signal)
+rule_refused t rule.Controls x c = refused_if (lacks_control t x c.target.extension) (fault.NoSuchControl c.place c.target.signal)
+rule_refused t rule.DontCares x c = refused_if (is_control_by_any c) (fault.DontCareControl c.place c.target.signal)
+
+-- what it refuses of all contributions to names
+abbrev pub all_refused : Table → List Entry → Rule → List Contribution → List SignalFault
+all_refused t xs rule [] = []
+all_refused t xs rule (c ∷ cs) = rule_refused t rule (get_or xs c.target.signal no_name) c ++ all_refused t xs rule cs
+
+-- each contribution is to one of so many names
+abbrev pub AreToNames : (count : ℕ) → List Contribution → Type 0
+AreToNames count cs = All (λ (c : Contribution). c.target.signal < count) cs

@@ -1,2 +1,0 @@
-pub mod FaultsInOrder
-mod Pushed

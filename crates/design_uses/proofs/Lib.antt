@@ -1,3 +1,0 @@
-mod Carried
-mod Columns
-pub mod UsesRead

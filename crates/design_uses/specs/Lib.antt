@@ -1,5 +1,0 @@
-pub mod Correct
-pub mod Example
-pub mod LocatedUses
-pub mod RefusedUses
-pub mod SectionUses

@@ -1,3 +1,0 @@
-mod FrontNames
-mod Statements
-mod WrittenTerms

@@ -1,9 +1,0 @@
--- The names so far.
-use Rattle.std.proofs.Common.{◌≡◌, map, take}
-use Rattle.abel_tree.specs.Entries.{view_declared}
-use Rattle.abel_meaning.specs.Terms.{known_of}
-use Rattle.written_controls.specs.Fronts.{fronts_of}
-use Rattle.written_controls.proofs.fronts.all_fronts.Given as goal
-
-abbrev pub invariant-loop-declared : goal.invariant-loop-declared
-invariant-loop-declared l = l.fronts.items ≡ fronts_of (known_of (map view_declared (take l.declared-index l.declared-items)))
