@@ -22,7 +22,7 @@ use Rattle.decls.specs.NameRefusals.{name_refusals}
 use Rattle.declared_names.specs.AcceptedNames.{PinsAreApart, BuffersAreAllowed}
 use Rattle.set_expr.specs.declared.fault.SectionFault.{SectionFault}
 use Rattle.source_sections.specs.SectionAnswers.{sections_refused}
-use Rattle.accepted_designs.specs.Accepted.{IsAccepted}
+use Rattle.design.specs.Accepted.{IsAccepted}
 use Rattle.design_checks.specs.declared.fault.DesignFault.{DesignFault}
 use Rattle.design_lines.specs.Designs.{design_text}
 use Rattle.design_lines.specs.Fits.{fit_text}

@@ -2,9 +2,8 @@
 
 ghost use Rattle.compile_phases.specs.Phases.{FitsCanBeTold, ReadNamesArePlain, SectionsAreAccepted};
 
-use assigned_signals::sound_modules_are_accepted;
+use design::{names_are_accepted, sound_modules_are_accepted};
 use module_reader::module_names_are_plain;
-use named_designs::names_are_accepted;
 use netlist_laws::fitted_is_intact;
 use summary_line::summary_counts_the_design;
 

@@ -17,8 +17,8 @@ use Rattle.abel_tree.specs.Tree.{Tree, AName, Statement, AnAssign, SectionTree, 
 use Rattle.abel_meaning.specs.Declarations.{declared_names}
 use Rattle.abel_meaning.specs.Targets.{is_data, is_raw}
 use Rattle.abel_meaning.specs.Terms.{Term, extended_if}
-use Rattle.assigned_signals.specs.Correct.{bare_signals}
-use Rattle.assigned_signals.proofs.AssignedNames.{same_targets}
+use Rattle.design.specs.AssignedCorrect.{bare_signals}
+use Rattle.design.proofs.AssignedNames.{same_targets}
 use Rattle.decompiled.specs.declared.sum_line.SumLine.{SumLine}
 use Rattle.decompiled.specs.SourceText.{name_text}
 use Rattle.decompiled.specs.SourceTrees.{word, IsLine, AreLines, IsSourceTree}

@@ -14,11 +14,11 @@ use Rattle.abel_meaning.specs.Controls.{is_pin}
 use Rattle.abel_meaning.specs.Designs.{Design, design_of, follows_q, name_at}
 use Rattle.abel_meaning.specs.SignalReads.{HasNoSignalLoop, HasNoSignalPath}
 use Rattle.netlist_laws.specs.Takeable.{NodesAreFew, PinsApart}
-use Rattle.accepted_designs.specs.Accepted.{BuffersAreBehind}
-use Rattle.accepted_designs.specs.Unrefused.{IsUnrefused}
-use Rattle.accepted_designs.specs.Correct.{UnrefusedIsTakeable}
-use Rattle.assigned_signals.specs.Correct.{HasSoundDeclarations}
-use Rattle.assigned_signals.proofs.SoundModules.{all_accepted}
+use Rattle.design.specs.Accepted.{BuffersAreBehind}
+use Rattle.design.specs.Unrefused.{IsUnrefused}
+use Rattle.design.specs.AcceptedCorrect.{UnrefusedIsTakeable}
+use Rattle.design.specs.AssignedCorrect.{HasSoundDeclarations}
+use Rattle.design.proofs.SoundModules.{all_accepted}
 use Rattle.set_expr.specs.declared.contributions.Contributions.{Contributions}
 use Rattle.source_sections.specs.SectionAnswers.{AreContributed}
 use Rattle.design_checks.specs.declared.rules.Rule.TheVariants as rule

@@ -2,7 +2,7 @@
 
 ghost use Rattle.decompiler.specs.Right.{SourcesAreRight};
 
-use accepted_designs::unrefused_is_takeable;
+use design::unrefused_is_takeable;
 
 /// The source of a device's fuses is compiled as it is, and says what the fuses do. Does nothing.
 pub fn sources_are_right()

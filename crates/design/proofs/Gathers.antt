@@ -31,15 +31,15 @@ use Rattle.netlist_laws.proofs.SoundLeaves.{inside}
 use Rattle.gathering.specs.declared.netlist.Gathered.{Gathered}
 use Rattle.gathering.specs.Linked.{AreLinks}
 use Rattle.gathering.specs.Placed.{AreIdsIn, IsPlaced}
-use Rattle.accepted_designs.specs.Accepted.{IsAccepted}
-use Rattle.accepted_designs.proofs.GivenSignals.{EachSignal, given_signals, reset_had}
+use Rattle.design.specs.Accepted.{IsAccepted}
+use Rattle.design.proofs.GivenSignals.{EachSignal, given_signals, reset_had}
 use Rattle.section_targets.proofs.KnownTargets.{IsSignalOf}
 use Rattle.design_checks.specs.SignalsRefused.{AreToNames}
 use Rattle.design_checks.specs.declared.fault.DesignFault.{DesignFault}
 use Rattle.design_checks.specs.declared.fault.DesignFault.TheVariants as fault
 use Rattle.design_checks.specs.Verdict.{IsDesignFor, HasSoundSignals, IsSignalRefused}
 use Rattle.design.specs.Answers.{HasNoRefusal, IsDesignRefused}
-use Rattle.design.specs.Correct.{UnrefusedIsSound}
+use Rattle.design.specs.DesignCorrect.{UnrefusedIsSound}
 use Rattle.design.specs.Resets.{AllLeadNowhere}
 use Rattle.design.specs.Told.{IsLinkedDesign, IsChainTold}
 use Rattle.design.proofs.CellResets.{none_leads, first_leads}

@@ -10,13 +10,13 @@ use Rattle.design_checks.specs.Compared.{other_levels}
 use Rattle.design_checks.specs.Written.{unwritten}
 use Rattle.design_checks.specs.UsesRefused.{told}
 use Rattle.netlist_laws.specs.GatheredCorrect.{GatheredIsSound, GatheredMeansTheSame}
-use Rattle.accepted_designs.specs.Correct.{UnrefusedIsTakeable}
-use Rattle.accepted_designs.specs.Unrefused.{IsUnrefused}
-use Rattle.accepted_designs.proofs.Unlisted.{front_empty, back_empty}
+use Rattle.design.specs.AcceptedCorrect.{UnrefusedIsTakeable}
+use Rattle.design.specs.Unrefused.{IsUnrefused}
+use Rattle.design.proofs.Unlisted.{front_empty, back_empty}
 use Rattle.design_checks.specs.Refused.{plain, targets_refused, target_controls}
 use Rattle.design_checks.specs.Verdict.{HasSoundSignals}
 use Rattle.design.specs.Answers.{HasNoRefusal}
-use Rattle.design.specs.Correct.{UnrefusedIsSound}
+use Rattle.design.specs.DesignCorrect.{UnrefusedIsSound}
 
 mapped_empty : {X Y : Type 0} (f : X → Y) (xs : List X) → map f xs ≡ [] → xs ≡ []
 mapped_empty f [] e = refl

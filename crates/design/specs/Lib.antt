@@ -1,4 +1,10 @@
+pub mod Accepted
+pub mod AcceptedCorrect
+pub mod AcceptedNames
 pub mod Answers
-pub mod Correct
+pub mod AssignedCorrect
+pub mod DesignCorrect
+pub mod NamedCorrect
 pub mod Resets
 pub mod Told
+pub mod Unrefused

@@ -15,13 +15,13 @@ ghost use Rattle.netlist_laws.specs.Gathered.{netlist_of};
 ghost use Rattle.gathering.specs.Links.{AreLeaves};
 ghost use Rattle.gathering.specs.Parts.{AllLieIn};
 ghost use Rattle.gathering.specs.Placed.{IsPlaced};
-ghost use Rattle.accepted_designs.specs.Accepted.{IsAccepted};
+ghost use Rattle.design.specs.Accepted.{IsAccepted};
 ghost use Rattle.design.specs.Answers.{HasNoRefusal, IsDesignRefused};
 ghost use Rattle.design.specs.Resets.{AllLeadNowhere};
 ghost use Rattle.design.specs.Told.{IsLinkedDesign, IsChainTold};
 
 use crate::chains::check_loop;
-use crate::laws::unrefused_is_sound;
+use crate::design_laws::unrefused_is_sound;
 use crate::resets::check_resets;
 use abel_tree::{Module, Names};
 use bit_expr::Netlist;

@@ -11,7 +11,7 @@ use Rattle.set_expr.specs.declared.contributions.Contribution.{Contribution}
 use Rattle.set_expr.specs.Given.{view_contribution}
 use Rattle.section_targets.proofs.KnownTargets.{IsSignalOf}
 use Rattle.netlist_laws.proofs.SoundLeaves.{inside}
-use Rattle.accepted_designs.proofs.GivenSignals.{EachSignal, given_signals}
+use Rattle.design.proofs.GivenSignals.{EachSignal, given_signals}
 use Rattle.design_checks.specs.SignalsRefused.{AreToNames}
 use Rattle.netlist_rows.specs.declared.drawing.Drawn.{Drawn}
 use Rattle.netlist_rows.specs.Drawn.{IsDrawn}

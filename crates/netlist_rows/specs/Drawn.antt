@@ -5,7 +5,7 @@ use Rattle.bit_expr.specs.Arena.{arena}
 use Rattle.abel_tree.specs.Entries.{entries_of}
 use Rattle.abel_tree.specs.SoundNames.{SoundNames}
 use Rattle.abel_tree.specs.View.{view_module}
-use Rattle.accepted_designs.specs.Accepted.{IsAccepted}
+use Rattle.design.specs.Accepted.{IsAccepted}
 use Rattle.abel_meaning.specs.Designs.{design_of}
 use Rattle.abel_meaning.specs.Kinds.{names_of}
 use Rattle.abel_meaning.specs.SignalReads.{given_formulas}

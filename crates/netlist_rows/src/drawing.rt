@@ -13,11 +13,9 @@ ghost use Rattle.netlist_rows.specs.Named.{AreNamesFor};
 
 use abel_tree::{Module, Names};
 use abel_vectors::{SourceSections, all_sections};
-use assigned_signals::sound_modules_are_accepted;
 use bit_expr::Netlist;
 use declared_names::{are_numbered, declare, numbered_names};
-use design::gather;
-use named_designs::names_are_accepted;
+use design::{gather, names_are_accepted, sound_modules_are_accepted};
 use pld_base::Vector;
 use pld_device::Device;
 use set_expr::{Contributions, Scope};

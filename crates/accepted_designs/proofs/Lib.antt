@@ -1,4 +1,0 @@
-mod GivenReads
-pub mod GivenSignals
-mod Takes
-pub mod Unlisted

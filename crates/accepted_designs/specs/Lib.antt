@@ -1,3 +1,0 @@
-pub mod Accepted
-pub mod Correct
-pub mod Unrefused

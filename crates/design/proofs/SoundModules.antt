@@ -1,0 +1,91 @@
+-- A module is accepted whose declarations and sections are.
+use Rattle.std.proofs.Common.{◌≡◌, ℕ, ◌+◌, ◌==◌, Bool, true, false, ◌||◌, cond, Some, List, [], ◌∷◌, ◌++◌, length, refl, sym, subst}
+use Rattle.std.specs.Prelude.{IsSome}
+use Rattle.std.specs.List.{list_any, position_from}
+use Rattle.std.proofs.lemmas.Iterator.Adapters.{position_from-zero}
+use Rattle.pld_device.specs.declared.cell.Cell.{Cell}
+use Rattle.pld_device.specs.Table.{Table}
+use Rattle.bit_expr.specs.Arena.{arena}
+use Rattle.abel_tree.specs.Tree.{SectionTree, Declarations, Equations, ATable, ADiagram, SomeVectors, DontCareSection, ModuleTree}
+use Rattle.abel_meaning.specs.Designs.{Context, Design, design_of, cell_on}
+use Rattle.set_expr.specs.FoundNames.{constants_refused}
+use Rattle.section_targets.specs.declared.manner.Manner.{Manner}
+use Rattle.section_targets.specs.Manners.{is_cell_pin, is_output_kind}
+use Rattle.section_targets.specs.Units.{units_refused, all_refused, limit_refused}
+use Rattle.section_targets.proofs.Built.{left_empty, right_empty}
+use Rattle.source_sections.specs.SectionAnswers.{source_units}
+use Rattle.source_sections.specs.SectionUnits.{section_manners, units_of_section, units_of_sections}
+use Rattle.design.specs.Accepted.{AssignedAreOnCells, AssignedHaveData, HasBareHeader, HaveBareHeaders, IsAccepted}
+use Rattle.design.specs.AssignedCorrect.{AreGiven, HasSoundSections, HasSoundDeclarations}
+use Rattle.design.proofs.AssignedSections.{sections_data}
+use Rattle.design.proofs.AssignedNames.{own_names, names_within, by_sections, signal_there}
+use Rattle.design.proofs.BareRegisters.{registers_bare}
+use Rattle.design.proofs.BareTargets.{sections_bare}
+use Rattle.design.proofs.FreeRegisters.{free_may_choose}
+use Rattle.design.proofs.SectionOutputs.{sections_output}
+use Rattle.design.proofs.StatementOutputs.{first_units, last_units}
+
+-- ---- cells
+
+some_from : (test : Cell → Bool) (i : ℕ) (cs : List Cell) → list_any test cs ≡ true → IsSome (position_from test i cs)
+some_from test i [] h = absurd cc
+some_from test i (c ∷ cs) h = by (test c) h (some_from test (i + 1) cs)
+  where
+    by : (b : Bool) → (b || list_any test cs) ≡ true → (list_any test cs ≡ true → IsSome (position_from test (i + 1) cs)) → IsSome (cond b (Some i) (position_from test (i + 1) cs))
+    by true h more = refl
+    by false h more = more h
+
+cell_there : (t : Table) (pin : ℕ) → is_cell_pin t pin ≡ true → IsSome (cell_on t pin)
+cell_there t pin h = subst IsSome (sym (position_from-zero (λ (c : Cell). c.pin == pin) t.cells)) (some_from (λ (c : Cell). c.pin == pin) 0 t.cells h)
+
+-- ---- sections
+
+header_bare : (d : Context) (before : List Manner) (x : SectionTree) → units_refused (units_of_section d before x) ≡ [] → HasBareHeader d x
+header_bare d before (Declarations ds) h = tt
+header_bare d before (Equations xs) h = tt
+header_bare d before (ATable place inputs k outputs rows) h = tt
+header_bare d before (ADiagram place registers states) h = registers_bare d before place registers states h
+header_bare d before (SomeVectors _ place inputs outputs rows) h = tt
+header_bare d before (DontCareSection directive) h = tt
+
+headers_bare : (d : Context) (before : List Manner) (ss : List SectionTree) → units_refused (units_of_sections d before ss) ≡ [] → HaveBareHeaders d ss
+headers_bare d before [] h = tt
+headers_bare d before (x ∷ ss) h =
+    let more = before ++ section_manners d before x in
+    let us = units_of_section d before x in
+    let vs = units_of_sections d more ss in
+    (header_bare d before x (first_units us vs h), headers_bare d more ss (last_units us vs h))
+
+-- nothing is refused of the units of sound sections
+units_clear : (d : Design) → HasSoundSections d → units_refused (source_units d) ≡ []
+units_clear d h =
+    let base = length (arena []) in
+    left_empty (units_refused (source_units d)) (limit_refused base (source_units d)) (right_empty (constants_refused d.context.names) (all_refused base (source_units d)) h)
+
+module _ (t : Table) (m : ModuleTree) where
+  abbrev d : Design
+  d = design_of t m
+
+  data_there : AssignedHaveData d
+  data_there s h = sections_data d.context s (own_names t m) (names_within t m s) d.starts_dontcare 0 m.sections (by_sections t m s h)
+
+  on_cells : HasSoundSections d → AssignedAreOnCells d.context
+  on_cells r s pin negated kind h =
+      cell_there t pin
+      (subst (λ k. is_output_kind t k ≡ true) kind
+      (sections_output d.context s (own_names t m) (names_within t m s) [] m.sections (units_clear d r) (by_sections t m s h)))
+
+pub all_given : (t : Table) (m : ModuleTree) → AreGiven (design_of t m)
+all_given t m = record { signals = signal_there t m; data_given = data_there t m }
+
+pub all_on_cells : (t : Table) (m : ModuleTree) → HasSoundSections (design_of t m) → AssignedAreOnCells (design_of t m).context
+all_on_cells t m = on_cells t m
+
+pub all_accepted : (t : Table) (m : ModuleTree) → HasSoundDeclarations (design_of t m).context → HasSoundSections (design_of t m) → IsAccepted (design_of t m)
+all_accepted t m n r =
+    record {
+      names = record { known = refl; pins = n.pins; nodes = n.nodes; signals = signal_there t m; buffers = n.buffers; cells = on_cells t m r };
+      free = free_may_choose t m (sections_bare (design_of t m).context [] m.sections (units_clear (design_of t m) r));
+      data_given = data_there t m;
+      headers = headers_bare (design_of t m).context [] m.sections (units_clear (design_of t m) r);
+    }

@@ -1,0 +1,206 @@
+-- A device can take the netlist of a design of which nothing is refused.
+use Rattle.std.proofs.Common.{◌≡◌, ◌≢◌, ℕ, ◌==◌, Bool, true, false, not, ◌&&◌, ◌||◌, Option, None, Some, List, [], ◌∷◌, map, refl, sym, ap, subst, ◌∙◌, if◌then◌else◌, inl, inr}
+use Rattle.std.specs.Prelude.{slice_get, IsSome, is_none}
+use Rattle.std.proofs.lemmas.Bool.{cases_Bool, and_parts, eqb-true, true≢false}
+use Rattle.std.proofs.lemmas.List.Elements.{All-get_or}
+use Rattle.std.proofs.lemmas.List.Folds.{list_any_at}
+use Rattle.std.proofs.lemmas.List.Quantifiers.{position-Some}
+use Rattle.std.proofs.lemmas.Option.{get_or_from_slice_get}
+use Rattle.bit_expr.specs.declared.node.Leaf.{Leaf}
+use Rattle.bit_expr.specs.Formulas.{Formula}
+use Rattle.pld_device.specs.declared.cell.Cell.{Cell}
+use Rattle.pld_device.specs.declared.kinds.Kinds.{Kinds}
+use Rattle.pld_device.specs.declared.kinds.Kinds.TheVariants.{Combinational, Registered, Either}
+use Rattle.pld_device.specs.Laws.{IsCell, IsDevice}
+use Rattle.pld_device.specs.Table.{Table, cell_at, no_cell}
+use Rattle.abel_tree.specs.declared.words.Extension.TheVariants as extension
+use Rattle.abel_tree.specs.Entries.{Kind, APin, ANode, AConstant, ADeviceName, Entry, is_signal}
+use Rattle.abel_tree.specs.Tree.{Tree}
+use Rattle.abel_meaning.specs.Designs.{Design, name_at, no_name, is_stored, cell_on}
+use Rattle.abel_meaning.specs.Functions.{is_data_to}
+use Rattle.abel_meaning.specs.SignalReads.{given_formulas}
+use Rattle.abel_meaning.specs.Soundness.{MayRegister}
+use Rattle.abel_meaning.specs.Targets.{targets_of, is_data}
+use Rattle.abel_meaning.specs.Terms.{term_of}
+use Rattle.set_expr.specs.declared.contributions.Contribution as code
+use Rattle.set_expr.specs.Given.{view_contribution}
+use Rattle.design_checks.specs.SignalsRefused.{is_wrong_kind, is_wrong_cell, has_wrong_kind, has_wrong_kind_by, has_wrong_kind_on, lacks_by, is_registered_by}
+use Rattle.netlist_laws.specs.Gathered.{cell_by}
+use Rattle.netlist_laws.specs.SignalUses.{SignalUse, use_reads, uses_read, given_uses}
+use Rattle.netlist_laws.specs.Takeable.{HasColumns, IsAllowedOn, ControlIsThere, IsTakeable}
+use Rattle.design_checks.specs.LocatedUses.{PlacedUse}
+use Rattle.design_checks.specs.RefusedUses.{is_missing, is_unread}
+use Rattle.design_checks.specs.SectionUses.{design_uses}
+use Rattle.design_checks.specs.Correct.{UsesHaveColumns}
+use Rattle.design.specs.Accepted.{IsAccepted}
+use Rattle.design.specs.AcceptedCorrect.{UnrefusedIsTakeable}
+use Rattle.design.specs.Unrefused.{IsUnrefused}
+use Rattle.design.proofs.GivenReads.{Each, EachUse, EachGood, sections_good, good_at}
+use Rattle.design.proofs.GivenSignals.{reset_had, preset_had}
+use Rattle.section_targets.proofs.KnownTargets.{EachTarget, IsSignalOf, signal_targets}
+use Rattle.design.proofs.Unlisted.{EachOf, FitsKind, kinds_fit, some_of, no_registered, AllUses, none_passes}
+
+-- ---- kinds
+
+may_be : (kinds : Kinds) (stored : Bool) → is_wrong_kind kinds stored ≡ false → MayRegister kinds stored
+may_be Combinational stored right = right
+may_be Registered true right = refl
+may_be Registered false right = absurd cc
+may_be Either stored right = tt
+
+may_register : (kinds : Kinds) (stored : Bool) → stored ≡ true → MayRegister kinds stored → kinds ≢ Combinational
+may_register Combinational stored is may same = true≢false (sym is ∙ may)
+may_register Registered stored is may same = absurd cc
+may_register Either stored is may same = absurd cc
+
+-- ---- rows of the device
+
+row_there : (stored : Bool) (row : Option ℕ) → (not stored || is_none row) ≡ false → IsSome row
+row_there true None is = absurd cc
+row_there true (Some r) is = refl
+row_there false row is = absurd cc
+
+reset_there : (t : Table) (x : Entry) (kind : Kind) → is_signal kind ≡ true → lacks_by t (is_stored x) kind (Some extension.Ar) ≡ false → IsSome t.reset
+reset_there t x (APin pin negated) signal has = row_there (is_stored x) t.reset has
+reset_there t x (ANode n) signal has = absurd cc
+reset_there t x (AConstant value) signal has = absurd cc
+reset_there t x ADeviceName signal has = absurd cc
+
+preset_there : (t : Table) (x : Entry) (kind : Kind) → is_signal kind ≡ true → lacks_by t (is_stored x) kind (Some extension.Sp) ≡ false → IsSome t.preset
+preset_there t x (APin pin negated) signal has = row_there (is_stored x) t.preset has
+preset_there t x (ANode n) signal has = absurd cc
+preset_there t x (AConstant value) signal has = absurd cc
+preset_there t x ADeviceName signal has = absurd cc
+
+module _ (uses_have_columns : UsesHaveColumns) (d : Design) (fs : List Formula) (cs : List code.Contribution) (laws : IsDevice d.context.device) (accepted : IsAccepted d) (same : map (view_contribution fs) cs ≡ given_formulas d) (unrefused : IsUnrefused d cs) where
+  -- ---- names
+
+  stored_on_cell : (s : ℕ) (x : Entry) (kind : Kind) → slice_get d.context.names s ≡ Some x → x.kind ≡ kind → is_stored x ≡ true → IsSome (cell_by d.context.device x kind)
+  stored_on_cell s x (APin pin negated) is kind stored =
+      let here : name_at d.context s ≡ x = get_or_from_slice_get d.context.names s x no_name is in
+      let parts = and_parts x.words.registered x.assigned stored in
+      on_cell x.assigned (cell_on d.context.device pin) parts.1 (accepted.names.cells s pin negated (ap (λ (y : Entry). y.kind) here ∙ kind) (ap (λ (y : Entry). y.assigned) here ∙ parts.1))
+    where
+      on_cell : (b : Bool) (o : Option ℕ) → b ≡ true → IsSome o → IsSome (if b then o else None)
+      on_cell true o e some = some
+      on_cell false o e some = absurd cc
+  stored_on_cell s x (ANode n) is kind stored =
+      let parts = and_parts x.words.registered x.assigned stored in
+      absurd (true≢false (sym parts.0 ∙ sym (ap (is_registered_by x.words.registered) kind) ∙ no_registered 0 d.context.names unrefused.nodes s x is))
+  stored_on_cell s x (AConstant value) is kind stored = absurd (not_signal (AConstant value) s x is kind stored refl)
+    where
+      not_signal : (kind : Kind) (s : ℕ) (x : Entry) → slice_get d.context.names s ≡ Some x → x.kind ≡ kind → is_stored x ≡ true → is_signal kind ≡ false → ⊥
+      not_signal kind s x is said stored no_signal =
+          let here : name_at d.context s ≡ x = get_or_from_slice_get d.context.names s x no_name is in
+          true≢false (sym (accepted.names.signals s (ap (λ (y : Entry). y.assigned) here ∙ (and_parts x.words.registered x.assigned stored).1)) ∙ ap (λ (y : Entry). is_signal y.kind) here ∙ ap is_signal said ∙ no_signal)
+  stored_on_cell s x ADeviceName is kind stored = absurd (not_signal ADeviceName s x is kind stored refl)
+    where
+      not_signal : (kind : Kind) (s : ℕ) (x : Entry) → slice_get d.context.names s ≡ Some x → x.kind ≡ kind → is_stored x ≡ true → is_signal kind ≡ false → ⊥
+      not_signal kind s x is said stored no_signal =
+          let here : name_at d.context s ≡ x = get_or_from_slice_get d.context.names s x no_name is in
+          true≢false (sym (accepted.names.signals s (ap (λ (y : Entry). y.assigned) here ∙ (and_parts x.words.registered x.assigned stored).1)) ∙ ap (λ (y : Entry). is_signal y.kind) here ∙ ap is_signal said ∙ no_signal)
+
+  -- ---- cells
+
+  kinds_here : EachOf (FitsKind d.context fs) (given_formulas d)
+  kinds_here = subst (EachOf (FitsKind d.context fs)) same (kinds_fit d.context fs cs unrefused.kinds)
+
+  right_kind : (s : ℕ) → (name_at d.context s).assigned ≡ true → has_wrong_kind d.context.device (name_at d.context s) ≡ false
+  right_kind s assigned =
+      let some = some_of (FitsKind d.context fs) (is_data_to s) (given_formulas d) kinds_here (accepted.data_given s assigned) in
+      let parts = and_parts (some.0.signal == s) (is_data some.0.extension) some.2 in
+      let fits : has_wrong_kind d.context.device (name_at d.context some.0.signal) ≡ false = and_right (is_data some.0.extension) (has_wrong_kind d.context.device (name_at d.context some.0.signal)) parts.1 some.1 in
+      sym (ap (λ n. has_wrong_kind d.context.device (name_at d.context n)) (eqb-true some.0.signal s parts.0)) ∙ fits
+    where
+      and_right : (a b : Bool) → a ≡ true → (a && b) ≡ false → b ≡ false
+      and_right true b e f = f
+      and_right false b e f = absurd cc
+
+  cell_kind : (pin c : ℕ) (stored : Bool) → cell_on d.context.device pin ≡ Some c → has_wrong_kind_on d.context.device pin stored ≡ false → is_wrong_kind (cell_at d.context.device c).kinds stored ≡ false
+  cell_kind pin c stored on right =
+      let at = position-Some (λ (x : Cell). x.pin == pin) d.context.device.cells c no_cell on in
+      elim (cases_Bool (is_wrong_kind (cell_at d.context.device c).kinds stored)) [
+        | inl wrong ↦ absurd (true≢false (sym (list_any_at (is_wrong_cell pin stored) d.context.device.cells c no_cell at.0 (both ((cell_at d.context.device c).pin == pin) (is_wrong_kind (cell_at d.context.device c).kinds stored) at.1 wrong)) ∙ right))
+        | inr fits ↦ fits
+      ]
+    where
+      both : (a b : Bool) → a ≡ true → b ≡ true → (a && b) ≡ true
+      both true b e f = f
+      both false b e f = absurd cc
+
+  -- a device on which a cell may be a register has a clock
+  clocked : (pin c : ℕ) → cell_on d.context.device pin ≡ Some c → (cell_at d.context.device c).kinds ≢ Combinational → d.context.device.clock ≢ 0
+  clocked pin c on =
+      let at = position-Some (λ (x : Cell). x.pin == pin) d.context.device.cells c no_cell on in
+      (All-get_or (IsCell d.context.device) d.context.device.cells c no_cell at.0 laws.cells).clocked
+
+  allowed : (s c : ℕ) (kind : Kind) → (name_at d.context s).kind ≡ kind → cell_by d.context.device (name_at d.context s) kind ≡ Some c → IsAllowedOn d.context s c
+  allowed s c (APin pin negated) kind on =
+      let parts = on_cell (name_at d.context s).assigned (cell_on d.context.device pin) on in
+      let may = may_be (cell_at d.context.device c).kinds (is_stored (name_at d.context s)) (cell_kind pin c (is_stored (name_at d.context s)) parts.1 (sym (ap (has_wrong_kind_by d.context.device (is_stored (name_at d.context s))) kind) ∙ right_kind s parts.0)) in
+      record {
+        kind = may;
+        buffer = λ stored follows. accepted.names.buffers s stored follows (clocked pin c parts.1 (may_register (cell_at d.context.device c).kinds (is_stored (name_at d.context s)) stored may));
+      }
+    where
+      on_cell : (b : Bool) (o : Option ℕ) → (if b then o else None) ≡ Some c → (b ≡ true) × (o ≡ Some c)
+      on_cell true o e = (refl, e)
+      on_cell false o e = absurd cc
+  allowed s c (ANode n) kind on = absurd cc
+  allowed s c (AConstant value) kind on = absurd cc
+  allowed s c ADeviceName kind on = absurd cc
+
+  -- ---- reads
+
+  abbrev Carried : SignalUse → Type 0
+  Carried u = (l : Leaf) → use_reads d.context l u ≡ true → HasColumns d.context l
+
+  targets : (t : Tree) → EachTarget (IsSignalOf d.context) (targets_of (term_of d.context.known t))
+  targets = signal_targets d.context accepted.names.known
+
+  carried : (us : List PlacedUse) → AllUses (λ u. is_missing d.context u ≡ false) us → AllUses (λ u. is_unread d.context u ≡ false) us → EachUse d.context Carried (IsSignalOf d.context) targets us
+  carried [] missing unread = tt
+  carried (u ∷ us) missing unread = (λ l is. uses_have_columns d.context u l accepted.names.pins missing.0 unread.0 is, carried us missing.1 unread.1)
+
+  given_good : EachGood d.context Carried (IsSignalOf d.context) targets (given_uses d)
+  given_good =
+      sections_good d.context Carried (IsSignalOf d.context) targets d.starts_dontcare 0 d.sections accepted.headers
+      (carried (design_uses d) (none_passes (is_missing d.context) (design_uses d) unrefused.missing) (none_passes (is_unread d.context) (design_uses d) unrefused.unread))
+
+  some_carried : (us : List SignalUse) (l : Leaf) → Each d.context Carried (IsSignalOf d.context) targets us → uses_read d.context us l ≡ true → HasColumns d.context l
+  some_carried [] l h is = absurd cc
+  some_carried (u ∷ us) l h is = by (use_reads d.context l u) refl (λ g. some_carried us l h.1 g) is
+    where
+      by : (b : Bool) → use_reads d.context l u ≡ b → (uses_read d.context us l ≡ true → HasColumns d.context l) → (b || uses_read d.context us l) ≡ true → HasColumns d.context l
+      by true e more is = h.0 l e
+      by false e more is = more is
+
+  -- ---- controls
+
+  resets : ControlIsThere d extension.Ar d.context.device.reset
+  resets s f is =
+      let has = reset_had d accepted.names.known accepted.headers fs cs same unrefused.controls s f is in
+      reset_there d.context.device (name_at d.context s) (name_at d.context s).kind has.1 has.0
+
+  presets : ControlIsThere d extension.Sp d.context.device.preset
+  presets s f is =
+      let has = preset_had d accepted.names.known accepted.headers fs cs same unrefused.controls s f is in
+      preset_there d.context.device (name_at d.context s) (name_at d.context s).kind has.1 has.0
+
+  takes : IsTakeable d
+  takes =
+      record {
+        registers = λ s x is stored. stored_on_cell s x x.kind is refl stored;
+        pins = accepted.names.pins;
+        nodes = accepted.names.nodes;
+        cells = λ s c on. allowed s c (name_at d.context s).kind refl on;
+        free = accepted.free;
+        resets = resets;
+        presets = presets;
+        reads = λ k c is kept l read. some_carried c.holds l ((good_at d.context Carried (IsSignalOf d.context) targets (given_uses d) k c given_good is).reads kept) read;
+        no_loop = unrefused.no_loop;
+        no_path = unrefused.no_path;
+      }
+
+pub unrefused_takes : UsesHaveColumns → UnrefusedIsTakeable
+unrefused_takes columns d fs cs laws accepted same unrefused = takes columns d fs cs laws accepted same unrefused

@@ -1,0 +1,17 @@
+-- What holds of a design whose names are declared (this project's rule).
+use Rattle.std.specs.Prelude.{◌≡◌}
+use Rattle.pld_device.specs.Table.{Table}
+use Rattle.abel_tree.specs.declared.names.Names.{Names}
+use Rattle.abel_tree.specs.Entries.{entries_of}
+use Rattle.abel_tree.specs.SoundNames.{SoundNames}
+use Rattle.abel_tree.specs.Tree.{ModuleTree}
+use Rattle.abel_meaning.specs.Designs.{design_of}
+use Rattle.abel_meaning.specs.Kinds.{names_of}
+use Rattle.declared_names.specs.AcceptedNames.{PinsAreApart, BuffersAreAllowed}
+use Rattle.design.specs.AcceptedNames.{HasAcceptedNames}
+
+-- where these are the names of a module for a device, and what is answered with them holds, they are accepted in its design
+abbrev pub NamesAreAccepted : Type 0
+NamesAreAccepted =
+    (t : Table) (m : ModuleTree) (names : Names) → entries_of names ≡ names_of t m → SoundNames t.name t.pins names
+    → PinsAreApart (entries_of names) → BuffersAreAllowed t (entries_of names) → HasAcceptedNames (design_of t m).context

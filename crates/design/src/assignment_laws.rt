@@ -1,0 +1,26 @@
+//! Laws of what a module assigns, as the contracts of calls that do nothing.
+
+ghost use Rattle.design.specs.AssignedCorrect.{TargetsNameAlike, AssignedAreGiven, AssignedHaveCells, SoundModulesAreAccepted};
+
+/// The signals that a target names by its names alone are those of its term that have no extension. Does nothing.
+pub fn targets_name_alike()
+    ensures { TargetsNameAlike }
+{}
+
+/// What a module assigns is a signal, and some contribution of the module is data to it, for every module and whatever
+/// is refused of it. Does nothing.
+pub fn assigned_are_given()
+    ensures { AssignedAreGiven }
+{}
+
+/// Where nothing is refused of the sections, each pin that is assigned is that of a cell. Does nothing.
+pub fn assigned_have_cells()
+    ensures { AssignedHaveCells }
+{}
+
+/// A module is accepted for a device where nothing is refused of its sections, and its declarations are sound: no two
+/// names are one pin, nodes are few, and no register follows Q, or may, where the device can't complement behind it. Does
+/// nothing.
+pub fn sound_modules_are_accepted()
+    ensures { SoundModulesAreAccepted }
+{}
