@@ -18,7 +18,7 @@ use Rattle.jedec_file.specs.FuseSums.{fuse_sum_of}
 use Rattle.abel_tree.specs.Tree.{ModuleTree}
 use Rattle.abel_meaning.specs.Controls.{signal_on}
 use Rattle.abel_meaning.specs.Designs.{design_of}
-use Rattle.summary_line.specs.Summary.{design_cells, products_used, summary_of}
+use Rattle.reports.specs.Summary.{design_cells, products_used, summary_of}
 use Rattle.devices.specs.DeviceLaws.{table_sound}
 use Rattle.devices.specs.Devices.{table_of}
 use Rattle.abel_commands.proofs.Seeds.{digits_are}

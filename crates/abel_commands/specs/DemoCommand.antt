@@ -6,7 +6,7 @@ use Rattle.jedec_file.specs.FileText.{four_hex}
 use Rattle.jedec_file.specs.FuseFile.{FuseFile, file_of}
 use Rattle.jedec_file.specs.FuseSums.{fuse_sum_of}
 use Rattle.abel_meaning.specs.Designs.{design_of}
-use Rattle.summary_line.specs.Summary.{design_cells}
+use Rattle.reports.specs.Summary.{design_cells}
 use Rattle.device_sim.specs.declared.report.Mismatch.{Mismatch}
 use Rattle.device_sim.specs.Simulated.{CanBeSimulated, IsTheOnlyList}
 use Rattle.demo_source.specs.SourceText.{IsDemoSource}

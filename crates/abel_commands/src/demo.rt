@@ -4,7 +4,7 @@ ghost use Rattle.std.specs.Prelude.{◌≡◌, ◌<◌, ◌≤◌, ◌^◌, ℕ,
 ghost use Rattle.device_sim.specs.Simulated.{IsSimulated, IsTheOnlyList};
 ghost use Rattle.jedec_file.specs.FuseFile.{file_of};
 ghost use Rattle.jedec_reader.specs.Contents.{contents};
-ghost use Rattle.summary_line.specs.Summary.{summary_of};
+ghost use Rattle.reports.specs.Summary.{summary_of};
 ghost use Rattle.devices.specs.Devices.{table_of};
 ghost use Rattle.abel_commands.specs.DemoCommand.{DemoEnds, DemoEndsWithin, FileEnds};
 ghost use Rattle.abel_commands.specs.Limit.{limit};

@@ -2,7 +2,7 @@
 
 ghost use Rattle.std.specs.Prelude.{◌≡◌, ◌<◌, ◌^◌, ℕ, Bool, List, IfOk, drop, length};
 ghost use Rattle.std.specs.Fmt.{decimal};
-ghost use Rattle.summary_line.specs.Summary.{summary_of};
+ghost use Rattle.reports.specs.Summary.{summary_of};
 ghost use Rattle.abel_commands.specs.DemoCommand.{demo_told};
 
 use crate::leading_digits::first_digits;

@@ -9,7 +9,7 @@ use Rattle.abel_meaning.specs.Designs.{design_of}
 use Rattle.abel_meaning.specs.Kinds.{names_of}
 use Rattle.abel_meaning.specs.Vectors.{source_vectors}
 use Rattle.fuse_listing.specs.Listing.{listing_text}
-use Rattle.summary_line.specs.Summary.{design_cells, summary_of}
+use Rattle.reports.specs.Summary.{design_cells, summary_of}
 use Rattle.abel_compile.specs.declared.compiled.Compiled.{Compiled}
 use Rattle.abel_compile.specs.Compiling.{IsToldOf}
 use Rattle.abel_compile.specs.Statement.{fuses_and_vectors}

@@ -13,7 +13,7 @@ use Rattle.abel_meaning.specs.Kinds.{names_of}
 use Rattle.abel_meaning.specs.Vectors.{source_vectors}
 use Rattle.netlist_laws.specs.FittedCorrect.{DoesWhatItSays}
 use Rattle.fuse_listing.specs.Listing.{listing_text}
-use Rattle.summary_line.specs.Summary.{design_cells, summary_of}
+use Rattle.reports.specs.Summary.{design_cells, summary_of}
 use Rattle.fitter.specs.declared.answer.Fitted.{Fitted}
 use Rattle.fitter.specs.Answers.{IsFitOf}
 use Rattle.netlist_laws.specs.Takeable.{IsTakeable}

@@ -21,7 +21,7 @@ use Rattle.fuse_listing.specs.Listing.{listing_text}
 use Rattle.netlist_laws.specs.Controls.{HasControlRows}
 use Rattle.netlist_laws.specs.PrimeCorrect.{IsAssignedCell, IsUnassignedCell}
 use Rattle.netlist_laws.specs.ModuleCovers.{HasPrimeRows}
-use Rattle.summary_line.specs.Summary.{design_cells, summary_of}
+use Rattle.reports.specs.Summary.{design_cells, summary_of}
 use Rattle.abel_compile.specs.declared.compiled.Compiled.{Compiled}
 use Rattle.abel_compile.specs.Statement.{IsRightFile}
 use Rattle.devices.specs.Devices.{table_of}

@@ -19,8 +19,8 @@ use fuse_listing::listing;
 use jedec_writer::write;
 use pld_base::{OutOfMemory, Vector};
 use pld_device::Device;
+use reports::summary;
 use std::alloc::Global;
-use summary_line::summary;
 
 /// The file, the listing and the summary of the fuses of a source.
 pub(crate) fn compiled_of<D: Device>(

@@ -10,7 +10,7 @@ use Rattle.abel_meaning.specs.Kinds.{names_of}
 use Rattle.decls.specs.FaultOrder.{name_order}
 use Rattle.design_checks.specs.declared.fault.DesignFault.{DesignFault}
 use Rattle.design_checks.specs.declared.fault.DesignFault.TheVariants as designing
-use Rattle.design_lines.specs.Designs.{design_text}
+use Rattle.reports.specs.Designs.{design_text}
 use Rattle.set_expr.specs.SectionOrder.{section_order}
 use Rattle.fitter.specs.declared.fault.FitFault.{FitFault}
 use Rattle.fitter.specs.declared.fault.FitFault.TheVariants as fit

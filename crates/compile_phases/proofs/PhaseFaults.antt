@@ -5,7 +5,7 @@ use Rattle.bit_expr.specs.declared.netlist.Netlist.{Netlist}
 use Rattle.abel_tree.specs.Entries.{Entry}
 use Rattle.abel_tree.specs.Tree.{ModuleTree}
 use Rattle.abel_meaning.specs.Kinds.{names_of}
-use Rattle.design_lines.specs.Fits.{fit_text}
+use Rattle.reports.specs.Fits.{fit_text}
 use Rattle.fitter.specs.Width.{NoneWide}
 use Rattle.fitter.specs.declared.fault.FitFault.{FitFault}
 use Rattle.fitter.specs.declared.fault.FitFault.TheVariants as fit

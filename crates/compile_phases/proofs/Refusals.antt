@@ -5,7 +5,7 @@ use Rattle.pld_device.specs.Table.{Table}
 use Rattle.bit_expr.specs.declared.netlist.Netlist.{Netlist}
 use Rattle.abel_tree.specs.Entries.{Entry}
 use Rattle.source_sections.specs.SectionAnswers.{IsTold}
-use Rattle.design_lines.specs.Fits.{fit_text}
+use Rattle.reports.specs.Fits.{fit_text}
 use Rattle.fitter.specs.declared.fault.FitFault.{FitFault}
 use Rattle.fitter.specs.declared.fault.FitFault.TheVariants as fit
 use Rattle.fitter.specs.Answers.{FitAnswers}

@@ -6,7 +6,7 @@ use Rattle.bit_expr.specs.declared.netlist.Netlist.{Netlist}
 use Rattle.abel_tree.specs.Tree.{ModuleTree}
 use Rattle.abel_meaning.specs.Kinds.{names_of}
 use Rattle.covers.specs.declared.cube.Cube.{Cube}
-use Rattle.design_lines.specs.Fits.{fit_text}
+use Rattle.reports.specs.Fits.{fit_text}
 use Rattle.fit_plans.specs.Tries.{allowed_of, needed_of}
 use Rattle.fitter.specs.Plans.{cell_wanted}
 use Rattle.fit_plans.specs.Forms.{may_be_inverted_as, rows_are_positive}

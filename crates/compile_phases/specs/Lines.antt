@@ -5,8 +5,8 @@ use Rattle.abel_tree.specs.Entries.{Entry}
 use Rattle.decls.specs.declared.fault.NameFault.{NameFault}
 use Rattle.set_expr.specs.declared.fault.SectionFault.{SectionFault}
 use Rattle.module_reader.specs.declared.fault.ReadFault.{ReadFault}
-use Rattle.refusal_lines.specs.SourceLines.{read_telling, name_telling, section_telling}
-use Rattle.refusal_lines.specs.Told.{told_line}
+use Rattle.reports.specs.SourceLines.{read_telling, name_telling, section_telling}
+use Rattle.reports.specs.RefusalTold.{told_line}
 
 -- on a text that is no module
 abbrev pub read_text : ReadFault → Option (List ℕ)

@@ -24,8 +24,8 @@ use Rattle.set_expr.specs.declared.fault.SectionFault.{SectionFault}
 use Rattle.source_sections.specs.SectionAnswers.{sections_refused}
 use Rattle.design.specs.Accepted.{IsAccepted}
 use Rattle.design_checks.specs.declared.fault.DesignFault.{DesignFault}
-use Rattle.design_lines.specs.Designs.{design_text}
-use Rattle.design_lines.specs.Fits.{fit_text}
+use Rattle.reports.specs.Designs.{design_text}
+use Rattle.reports.specs.Fits.{fit_text}
 use Rattle.netlist_laws.specs.FittedCorrect.{MeansTheSame}
 use Rattle.fitter.specs.Width.{IsFirstWide}
 use Rattle.fitter.specs.declared.answer.Fitted.{Fitted}
@@ -35,7 +35,7 @@ use Rattle.fitter.specs.Answers.{FitAnswers, IsFitOf}
 use Rattle.module_reader.specs.declared.fault.ReadFault.TheVariants as reading
 use Rattle.placer.specs.declared.fault.PlaceFault.{PlaceFault}
 use Rattle.module_reader.specs.Texts.{SpellsModule, IsRead, IsUnread}
-use Rattle.summary_line.specs.Summary.{assigned_cells, design_cells}
+use Rattle.reports.specs.Summary.{assigned_cells, design_cells}
 use Rattle.compile_phases.specs.declared.fault.CompileFault.{CompileFault}
 use Rattle.compile_phases.specs.declared.fault.CompileFault.TheVariants.{Source, Place, Fit, OutOfMemory}
 use Rattle.compile_phases.specs.declared.fault.SourceFault.{SourceFault}

@@ -3,7 +3,7 @@ use Rattle.std.specs.Prelude.{◌≡◌, ℕ, Some, List}
 use Rattle.pld_device.specs.Table.{Table}
 use Rattle.abel_tree.specs.Tree.{ModuleTree}
 use Rattle.abel_meaning.specs.Kinds.{names_of}
-use Rattle.design_lines.specs.Placings.{placing_text}
+use Rattle.reports.specs.Placings.{placing_text}
 use Rattle.placer.specs.declared.fault.PlaceFault.{PlaceFault}
 use Rattle.placer.specs.declared.fault.PlaceFault.TheVariants as placing
 use Rattle.placer.specs.Placements.{HasNoPlacement, IsPlacedModule}

@@ -24,8 +24,8 @@ use Rattle.netlist_laws.specs.Gathered.{netlist_of}
 use Rattle.gathering.specs.Placed.{IsPlaced}
 use Rattle.design_checks.specs.declared.fault.DesignFault.{DesignFault}
 use Rattle.design.specs.Answers.{HasNoRefusal, IsDesignRefused}
-use Rattle.design_lines.specs.Designs.{design_text}
-use Rattle.design_lines.specs.Fits.{fit_text}
+use Rattle.reports.specs.Designs.{design_text}
+use Rattle.reports.specs.Fits.{fit_text}
 use Rattle.source_sections.specs.SectionAnswers.{AreContributed}
 use Rattle.abel_vectors.specs.AllSections.{all_sections_refused}
 use Rattle.fitter.specs.Width.{IsFirstWide, NoneWide}

@@ -5,7 +5,7 @@ ghost use Rattle.compile_phases.specs.Phases.{FitsCanBeTold, ReadNamesArePlain, 
 use design::{names_are_accepted, sound_modules_are_accepted};
 use module_reader::module_names_are_plain;
 use netlist_laws::fitted_is_intact;
-use summary_line::summary_counts_the_design;
+use reports::summary_counts_the_design;
 
 /// The name of a module that is read can stand in a fuse file. Does nothing.
 pub fn read_names_are_plain()

@@ -10,7 +10,7 @@ use design_drawings::{Design, Flow, flow_of, is_low_register};
 use placer::seen_in;
 use pld_base::{NameText, OutOfMemory, level_at};
 use pld_device::Device;
-use source_warnings::{Cause, Warning, warnings};
+use reports::{Cause, Warning, warnings};
 use std::alloc::Global;
 
 /// What a warning says, with its name between the two halves.

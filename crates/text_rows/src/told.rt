@@ -7,7 +7,7 @@ use abel_tree::{Attributes, Declared, Meaning, Names};
 use decls::NameFault;
 use module_reader::{ReadFault, read_module};
 use pld_base::{DeviceName, ListOf, NameText, OutOfMemory, Place};
-use refusal_lines::{name_line, read_line, section_line};
+use reports::{name_line, read_line, section_line};
 use set_expr::SectionFault;
 use std::alloc::Global;
 use test_rows::Found;

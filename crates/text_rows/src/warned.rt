@@ -4,7 +4,7 @@ use crate::declared::{declared, put_name_fault};
 use crate::faults::put_refusal;
 use crate::sources::{framed, module_of};
 use abel_tree::{Module, Names};
-use source_warnings::{Cause, Warning, warnings};
+use reports::{Cause, Warning, warnings};
 use std::alloc::Global;
 use test_rows::Found;
 

@@ -2,7 +2,7 @@
 use Rattle.std.proofs.Common.{◌≡◌, ℕ, ◌^◌, ◌<◌, Bool, List, sym, subst}
 use Rattle.std.specs.Prelude.{IfOk, Result}
 use Rattle.pld_base.specs.declared.device_name.DeviceName.{DeviceName}
-use Rattle.summary_line.specs.Summary.{summary_of}
+use Rattle.reports.specs.Summary.{summary_of}
 use Rattle.devices.specs.Devices.{table_of}
 use Rattle.abel_commands.specs.declared.ending.Ending as kept
 use Rattle.abel_commands.specs.DemoCommand.{FileEnds}

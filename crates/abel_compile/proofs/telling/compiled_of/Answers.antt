@@ -3,7 +3,7 @@ use Rattle.jedec_file.specs.TestVectors.{all_chars}
 use Rattle.abel_tree.specs.Entries.{entries_of}
 use Rattle.abel_tree.specs.View.{view_module}
 use Rattle.abel_meaning.specs.Netlists.{plain_netlist}
-use Rattle.summary_line.specs.Summary.{assigned_cells}
+use Rattle.reports.specs.Summary.{assigned_cells}
 use Rattle.abel_compile.proofs.ToldFuses.{told_of}
 use Rattle.abel_compile.proofs.telling.compiled_of.Goals as goal
 

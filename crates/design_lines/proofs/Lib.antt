@@ -1,2 +1,0 @@
-pub mod ControlOrder
-pub mod NamedCells

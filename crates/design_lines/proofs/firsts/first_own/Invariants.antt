@@ -1,8 +1,0 @@
--- The first of the cells so far.
-use Rattle.std.proofs.Common.{◌≡◌, take}
-use Rattle.abel_tree.specs.FirstRefusal.{first_refusal}
-use Rattle.design_lines.specs.Fits.{control_order, own_controls}
-use Rattle.design_lines.proofs.firsts.first_own.Given as goal
-
-abbrev pub invariant-loop-wanted : goal.invariant-loop-wanted
-invariant-loop-wanted l = l.found ≡ first_refusal control_order (own_controls l.which (take l.wanted-index l.net.cells))

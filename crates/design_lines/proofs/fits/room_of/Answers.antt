@@ -1,6 +1,0 @@
-use Rattle.std.proofs.Common.{◌∙◌}
-use Rattle.design_lines.proofs.NamedCells.{room_at}
-use Rattle.design_lines.proofs.fits.room_of.Goals as goal
-
-pub returns : goal.returns
-returns g c = c.from.ensures ∙ room_at g.D.Device.table c.args.cell c.cell.result c.cell.ensures

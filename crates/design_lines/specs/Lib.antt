@@ -1,4 +1,0 @@
-pub mod Designs
-pub mod Fits
-pub mod Placings
-pub mod Told

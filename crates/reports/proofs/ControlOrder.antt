@@ -1,0 +1,34 @@
+-- The first control of a source, one cell more.
+use Rattle.std.proofs.Common.{◌≡◌, ℕ, ◌+◌, ◌<◌, List, [], ◌∷◌, length, get_or, take, Option, None, Some, refl, ap, ◌∙◌}
+use Rattle.std.specs.Option.{option_to_list}
+use Rattle.std.proofs.lemmas.List.{append-nil, take_more}
+use Rattle.std.proofs.lemmas.List.Concat.{flat_map-append}
+use Rattle.abel_tree.specs.FirstRefusal.{earlier, first_refusal, is_before, sooner}
+use Rattle.abel_tree.proofs.FirstRefusals.{first_append}
+use Rattle.bit_expr.specs.declared.netlist.CellWanted.{CellWanted}
+use Rattle.bit_expr.specs.declared.netlist.Control.{Control}
+use Rattle.fitter.specs.declared.shared.SharedControl.{SharedControl}
+use Rattle.fitter.specs.Sharing.{own_control}
+use Rattle.reports.specs.Fits.{control_order, own_controls}
+
+pub before_by : (c d : Control) → is_before control_order c d ≡ sooner c.place.line c.place.column 0 d.place.line d.place.column 0
+unfolding is_before
+before_by c d = refl
+
+first_of_one : (o : Option Control) → first_refusal control_order (option_to_list o) ≡ o
+first_of_one None = refl
+first_of_one (Some c) = refl
+
+abbrev owns : SharedControl → CellWanted → List Control
+owns which v = option_to_list (own_control which v)
+
+pub one_cell_more : (which : SharedControl) (cells : List CellWanted) (i : ℕ) (w : CellWanted) → i < length cells
+    → first_refusal control_order (own_controls which (take (i + 1) cells))
+    ≡ earlier control_order (first_refusal control_order (own_controls which (take i cells))) (own_control which (get_or cells i w))
+one_cell_more which cells i w low =
+    let x = get_or cells i w in
+    ap (λ (ws : List CellWanted). first_refusal control_order (own_controls which ws)) (take_more cells i w low)
+    ∙ (ap (first_refusal control_order) (flat_map-append (owns which) (take i cells) (x ∷ []))
+    ∙ (first_append control_order (own_controls which (take i cells)) (own_controls which (x ∷ []))
+    ∙ ap (earlier control_order (first_refusal control_order (own_controls which (take i cells))))
+    (ap (first_refusal control_order) (append-nil (owns which x)) ∙ first_of_one (own_control which x))))

@@ -1,0 +1,3 @@
+pub mod ControlOrder
+pub mod Counts
+pub mod NamedCells

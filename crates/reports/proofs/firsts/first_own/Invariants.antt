@@ -1,0 +1,8 @@
+-- The first of the cells so far.
+use Rattle.std.proofs.Common.{◌≡◌, take}
+use Rattle.abel_tree.specs.FirstRefusal.{first_refusal}
+use Rattle.reports.specs.Fits.{control_order, own_controls}
+use Rattle.reports.proofs.firsts.first_own.Given as goal
+
+abbrev pub invariant-loop-wanted : goal.invariant-loop-wanted
+invariant-loop-wanted l = l.found ≡ first_refusal control_order (own_controls l.which (take l.wanted-index l.net.cells))

@@ -1,0 +1,7 @@
+pub mod DesignTold
+pub mod Designs
+pub mod Fits
+pub mod Placings
+pub mod RefusalTold
+pub mod SourceLines
+pub mod Summary

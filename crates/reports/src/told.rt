@@ -1,0 +1,43 @@
+//! A line that tells a word, a place and names.
+
+ghost use Rattle.std.specs.Prelude.{◌≡◌, ◌++◌, Some, IfOk, OnOk};
+ghost use Rattle.abel_tree.specs.Entries.{entries_of};
+ghost use Rattle.reports.specs.DesignTold.{names_text, told};
+
+use crate::telling::{begin_line, put_tail};
+use crate::words::name_of;
+use abel_tree::Names;
+use pld_base::{OutOfMemory, Place};
+use std::alloc::Global;
+
+/// Appends the names of these numbers, each behind a blank.
+pub(crate) fn put_names(
+    text: &mut Vec<u8>,
+    names: &Names,
+    numbers: &[u32],
+) -> Result<(), OutOfMemory>
+    ensures { OnOk result (text.new.items
+        ≡ text.old.items ++ names_text (entries_of names.now) numbers.now) }
+{
+    for number in numbers {
+        put_tail(text, name_of(names, *number))?;
+    }
+    Ok(())
+}
+
+/// The line that tells the names of these numbers.
+pub(crate) fn told(
+    alloc: Global,
+    names: &Names,
+    word: &[u8],
+    place: Place,
+    numbers: &[u32],
+) -> Result<Vec<u8>, OutOfMemory>
+    ensures { IfOk result (λ line.
+        told (entries_of names.now) word.now place numbers.now ≡ Some line.items) }
+{
+    let mut line = begin_line(alloc, word, place)?;
+    put_names(&mut line, names, numbers)?;
+    line.push(b'\n')?;
+    Ok(line)
+}
