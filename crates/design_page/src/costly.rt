@@ -4,6 +4,7 @@ ghost use Rattle.std.specs.Prelude.{◌≤◌, length};
 ghost use Rattle.abel_tree.specs.View.{view_module};
 ghost use Rattle.compile_phases.specs.Phases.{AreNamesFor};
 
+use crate::costs::{CostlyPolarity, costly_polarities};
 use crate::made::Input;
 use crate::places::origins_of;
 use crate::telling::put_place;
@@ -13,7 +14,6 @@ use compile_phases::{CompileFault, netlist_of, sections_of};
 use fuse_listing::name_on;
 use pld_base::{ListOf, OutOfMemory, put_decimal, with_level};
 use pld_device::Device;
-use polarity_costs::{CostlyPolarity, costly_polarities};
 use std::alloc::Global;
 
 /// The pins that have an active-low name, bit p for pin p.

@@ -1,3 +1,0 @@
-pub mod Disagreements
-pub mod Equations
-pub mod PinNames

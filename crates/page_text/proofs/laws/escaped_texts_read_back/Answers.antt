@@ -1,5 +1,0 @@
-use Rattle.page_text.proofs.ReadBack as read_back
-use Rattle.page_text.proofs.laws.escaped_texts_read_back.Goals as goal
-
-pub returns : goal.returns
-returns c = read_back.escaped_texts_read_back
