@@ -58,7 +58,7 @@ limit_passed [] p q true later more h k = h
 limit_passed [] p q false later more h k = k h
 limit_passed (r ∷ rs) p q past later more h k = absurd cc
 
-limit_stays : (count : ℕ) (us vs : List CountedUnit) (q : Place) → limit_refused count us ≡ fault.NodeLimit q ∷ [] → limit_refused count (us ++ vs) ≡ fault.NodeLimit q ∷ []
+pub limit_stays : (count : ℕ) (us vs : List CountedUnit) (q : Place) → limit_refused count us ≡ fault.NodeLimit q ∷ [] → limit_refused count (us ++ vs) ≡ fault.NodeLimit q ∷ []
 limit_stays count [] vs q h = absurd cc
 limit_stays count (u ∷ us) vs q h = limit_passed u.refusals u.place q (is_past count u.nodes) (limit_refused (count + u.nodes) us) (limit_refused (count + u.nodes) (us ++ vs)) h (limit_stays (count + u.nodes) us vs q)
 
@@ -68,7 +68,7 @@ refused_first [] more later later1 p true h e k = absurd cc
 refused_first [] more later later1 p false h e k = k h e
 refused_first (r ∷ rs) more later later1 p past h e k = refl
 
-refused_stays : (count : ℕ) (us vs : List CountedUnit) → (units_refused us ≡ [] → ⊥) → limit_refused count us ≡ [] → limit_refused count (us ++ vs) ≡ []
+pub refused_stays : (count : ℕ) (us vs : List CountedUnit) → (units_refused us ≡ [] → ⊥) → limit_refused count us ≡ [] → limit_refused count (us ++ vs) ≡ []
 refused_stays count [] vs h e = absurd (h refl)
 refused_stays count (u ∷ us) vs h e =
     refused_first u.refusals (units_refused us) (limit_refused (count + u.nodes) us) (limit_refused (count + u.nodes) (us ++ vs)) u.place (is_past count u.nodes) h e (refused_stays (count + u.nodes) us vs)
@@ -177,7 +177,7 @@ grew_then : (old mid new : List Formula) (m n : ℕ) → Grew old mid m → Grew
 grew_then old mid new m n g h =
     record { keeps = keeps_on old mid new g.keeps h.keeps; count = omega (arith, g.count, h.count) }
 
-made_then : (old mid new : Contributions) (gs hs : List (meant.Contribution Formula)) (ps qs : List Place) (m n : ℕ) → Contributed old mid gs ps m → Contributed mid new hs qs n → Contributed old new (gs ++ hs) (ps ++ qs) (m + n)
+pub made_then : (old mid new : Contributions) (gs hs : List (meant.Contribution Formula)) (ps qs : List Place) (m n : ℕ) → Contributed old mid gs ps m → Contributed mid new hs qs n → Contributed old new (gs ++ hs) (ps ++ qs) (m + n)
 made_then old mid new gs hs ps qs m n c e =
     record {
       grew = grew_then (arena old.exprs) (arena mid.exprs) (arena new.exprs) m n c.grew e.grew;

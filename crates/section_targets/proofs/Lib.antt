@@ -8,8 +8,8 @@ pub mod OneUnit
 pub mod OverNames
 pub mod Parts
 pub mod Refused
-pub mod Settled
 pub mod SideTerms
 pub mod SignalLists
 pub mod SmallTargets
 pub mod Views
+pub mod WalksBehind

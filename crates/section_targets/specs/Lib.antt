@@ -1,5 +1,6 @@
 pub mod Appending
 pub mod Building
+pub mod Contexts
 pub mod Given
 pub mod GivenUnits
 pub mod Gives
@@ -8,3 +9,4 @@ pub mod NamedTargets
 pub mod TargetSignals
 pub mod Units
 pub mod ValueWidths
+pub mod Walking

@@ -1,11 +1,12 @@
 -- The signals that names stand for as targets, and those of a target (ABEL-HDL Reference Manual, equations, sets and
 -- constants).
 use Rattle.std.specs.Prelude.{◌≡◌, ℕ, ◌<◌, ◌≤◌, Bool, Option, None, Some, List, [], ◌∷◌, ◌++◌, All, length, map, min}
-use Rattle.abel_tree.specs.Entries.{Entry}
+use Rattle.abel_tree.specs.declared.names.Names.{Names}
+use Rattle.abel_tree.specs.Entries.{Entry, entries_of}
 use Rattle.abel_tree.specs.FirstRefusal.{first_refusal}
 use Rattle.abel_meaning.specs.Designs.{Context}
 use Rattle.abel_meaning.specs.Targets.{targets_of, some_signals}
-use Rattle.abel_meaning.specs.Terms.{Term, Number, Known}
+use Rattle.abel_meaning.specs.Terms.{Term, Number, Known, known_of}
 use Rattle.set_expr.specs.SectionOrder.{section_order}
 use Rattle.section_targets.specs.declared.named.NamedSignals.{NamedSignals}
 use Rattle.section_targets.specs.declared.sides.Side.{Side}
@@ -39,6 +40,10 @@ pub record StandFor (count : ℕ) (es : List Entry) (ns : List NamedSignals) (ks
   pub later : List (List ℕ)
   pub names : map (λ (e : Entry). e.name) es ≡ map (λ (k : Known). k.name) ks ++ later
   pub terms : AreOfTerms count ns ks
+
+-- the signals of all names of a source
+abbrev pub AreNames : Names → List NamedSignals → Type 0
+AreNames n ns = StandFor (length (entries_of n)) (entries_of n) ns (known_of (entries_of n))
 
 -- what all names of a design stand for
 abbrev pub AreTargets : Context → List NamedSignals → Type 0

@@ -2,7 +2,6 @@
 #![tactic(auto)]
 
 mod aim;
-mod answers;
 mod assigned;
 mod giving;
 mod guards;
@@ -11,12 +10,13 @@ mod named;
 mod naming;
 mod nodes;
 mod outputs;
+mod section_scope;
 mod sides;
 mod siding;
+mod walked;
 mod words;
 
 pub use aim::Aim;
-pub use answers::answer_units;
 pub use assigned::Assigned;
 pub use giving::{Giving, give, give_all};
 pub use guards::guard_else;
@@ -25,6 +25,8 @@ pub use named::NamedSignals;
 pub use naming::target_names;
 pub use nodes::add_node;
 pub use outputs::check_aims;
+pub use section_scope::SectionScope;
 pub use sides::{Side, number_of};
-pub use siding::{left_side, member_side, refuse_operator};
+pub use siding::{left_side, refuse_operator};
+pub use walked::Walked;
 pub use words::meet;

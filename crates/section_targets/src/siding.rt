@@ -182,7 +182,7 @@ fn with_range(
 /// A member of a target, or a header of registers, which takes no extension. Calls go as deep as the nestings of sets and
 /// parentheses.
 #[cycle(siding)]
-pub fn member_side(
+pub(crate) fn member_side(
     alloc: Global,
     scope: &Scope<'_>,
     named: &[NamedSignals],

@@ -1,0 +1,293 @@
+-- Walks one after another, and the walk over one unit.
+use Rattle.std.proofs.Common.{◌≡◌, ℕ, ◌+◌, Bool, true, false, if◌then◌else◌, Option, None, Some, List, [], ◌∷◌, ◌++◌, Result, Ok, Err, length, refl, sym, ap, ap₂, ◌∙◌, subst, arith, append_assoc, append-nil, ◌==◌, nat_lt}
+use Rattle.std.specs.Option.{is_some}
+use Rattle.std.proofs.lemmas.Bool.Decides.{nat_tests}
+use Rattle.pld_base.specs.declared.place.Place.{Place}
+use Rattle.bit_expr.specs.Arena.{arena, Grew}
+use Rattle.bit_expr.specs.Formulas.{Formula}
+use Rattle.abel_tree.specs.FirstRefusal.{sooner, is_before, earlier, first_refusal}
+use Rattle.abel_tree.proofs.FirstRefusals.{earlier_assoc, earlier_none, first_append, none_refused}
+use Rattle.abel_meaning.specs.Contributions as meant
+use Rattle.set_expr.specs.declared.contributions.Contributions.{Contributions}
+use Rattle.set_expr.specs.declared.fault.SectionFault.{SectionFault}
+use Rattle.set_expr.specs.declared.fault.SectionFault.TheVariants as fault
+use Rattle.set_expr.specs.Answer.{Keeps}
+use Rattle.set_expr.specs.SectionOrder.{section_order, place_of, rank_of}
+use Rattle.set_expr.proofs.FaultOrder.{before_by}
+use Rattle.section_targets.specs.declared.walked.Walked.{Walked}
+use Rattle.section_targets.specs.declared.manner.Manner.{Manner}
+use Rattle.section_targets.specs.Appending.{Contributed}
+use Rattle.section_targets.specs.Building.{IsBuilt, Builds}
+use Rattle.section_targets.specs.Manners.{AreFirsts}
+use Rattle.section_targets.specs.Units.{CountedUnit, part, is_past, limit_at, limit_refused, units_refused, units_nodes, all_refused}
+use Rattle.section_targets.specs.Walking.{AfterMaking, Walks, fault_behind, standing}
+use Rattle.section_targets.proofs.Built.{left_empty, right_empty, both_empty, refused_append, nodes_append, limit_append, limit_stays, refused_stays, keeps_on, made_then, builds_none}
+
+-- ---- the limit among refusals
+
+-- the limit changes place with another refusal: at one place it comes last
+same_fault : (p : Place) (g : SectionFault) → nat_lt (rank_of g) 9 ≡ false → nat_lt 9 (rank_of g) ≡ false → (place_of g).line ≡ p.line → (place_of g).column ≡ p.column → g ≡ fault.NodeLimit p
+same_fault p (fault.NodeLimit q) h k l c = ap₂ (λ m n. fault.NodeLimit (record { line = m; column = n })) l c
+same_fault p (fault.MisplacedSpecial q) h k l c = absurd cc
+same_fault p (fault.NotConstant q) h k l c = absurd cc
+same_fault p (fault.ZeroDivisor q) h k l c = absurd cc
+same_fault p (fault.BadWidth q) h k l c = absurd cc
+same_fault p (fault.NotAnOutput q name) h k l c = absurd cc
+same_fault p (fault.MixedAssignment q name) h k l c = absurd cc
+same_fault p (fault.BadRow q) h k l c = absurd cc
+same_fault p (fault.BadState q) h k l c = absurd cc
+same_fault p (fault.BadVector q) h k l c = absurd cc
+same_fault p fault.OutOfMemory h k l c = absurd cc
+
+-- by which of two comes before the other
+not_both : (a b c x y z : ℕ) → sooner a b c x y z ≡ true → sooner x y z a b c ≡ true → ⊥
+not_both a b c x y z h k = grind (arith, nat_tests, h, k)
+
+neither : (a b c x y z : ℕ) → sooner a b c x y z ≡ false → sooner x y z a b c ≡ false → (a ≡ x) × ((b ≡ y) × ((nat_lt c z ≡ false) × (nat_lt z c ≡ false)))
+neither a b c x y z h k = (grind (arith, nat_tests, h, k), (grind (arith, nat_tests, h, k), (grind (arith, nat_tests, h, k), grind (arith, nat_tests, h, k))))
+
+limit_swaps : (p : Place) (g : Option SectionFault) → earlier section_order (Some (fault.NodeLimit p)) g ≡ earlier section_order g (Some (fault.NodeLimit p))
+limit_swaps p None = refl
+limit_swaps p (Some g) = by_order (is_before section_order g (fault.NodeLimit p)) (is_before section_order (fault.NodeLimit p) g) refl refl
+  where
+    l : SectionFault
+    l = fault.NodeLimit p
+
+    by_order : (a b : Bool) → is_before section_order g l ≡ a → is_before section_order l g ≡ b → ◌≡◌ {A = Option SectionFault} (if a then Some g else Some l) (if b then Some l else Some g)
+    by_order true true e f = absurd (not_both (place_of g).line (place_of g).column (rank_of g) p.line p.column 9 (sym (before_by g l) ∙ e) (sym (before_by l g) ∙ f))
+    by_order true false e f = refl
+    by_order false true e f = refl
+    by_order false false e f =
+        let n = neither (place_of g).line (place_of g).column (rank_of g) p.line p.column 9 (sym (before_by g l) ∙ e) (sym (before_by l g) ∙ f) in
+        ap Some (sym (same_fault p g n.1.1.0 n.1.1.1 n.0 n.1.0))
+
+-- ---- the first refusal of units behind others
+
+-- units pass the limit once at most
+abbrev IsLimit : List SectionFault → Type 0
+IsLimit [] = Unit {0}
+IsLimit (fault.NodeLimit p ∷ []) = Unit {0}
+IsLimit _ = ⊥
+
+limit_shape : (count : ℕ) (us : List CountedUnit) → IsLimit (limit_refused count us)
+limit_shape count [] = tt
+limit_shape count (u ∷ us) = by_unit u.refusals u.place (is_past count u.nodes) (limit_refused (count + u.nodes) us) (limit_shape (count + u.nodes) us)
+  where
+    by_unit : (rs : List SectionFault) (p : Place) (past : Bool) (later : List SectionFault) → IsLimit later → IsLimit (limit_at rs p past later)
+    by_unit [] p true later h = tt
+    by_unit [] p false later h = h
+    by_unit (r ∷ rs) p past later h = tt
+
+-- the first refusal of two lists of units, of which something of the first is refused
+refused_front : (count : ℕ) (us vs : List CountedUnit) (y : SectionFault) → Some y ≡ first_refusal section_order (all_refused count us)
+    → earlier section_order (Some y) (first_refusal section_order (units_refused vs)) ≡ first_refusal section_order (all_refused count (us ++ vs))
+refused_front count us vs y e = by_limit (limit_refused count us) refl (limit_shape count us)
+  where
+    a : Option SectionFault
+    a = first_refusal section_order (units_refused us)
+
+    b : Option SectionFault
+    b = first_refusal section_order (units_refused vs)
+
+    whole : (ls : List SectionFault) → limit_refused count (us ++ vs) ≡ ls → first_refusal section_order (all_refused count (us ++ vs)) ≡ earlier section_order (earlier section_order a b) (first_refusal section_order ls)
+    whole ls h = first_append section_order (units_refused (us ++ vs)) (limit_refused count (us ++ vs))
+        ∙ ap₂ (earlier section_order) (ap (first_refusal section_order) (refused_append us vs) ∙ first_append section_order (units_refused us) (units_refused vs)) (ap (first_refusal section_order) h)
+
+    front : (ls : List SectionFault) → limit_refused count us ≡ ls → Some y ≡ earlier section_order a (first_refusal section_order ls)
+    front ls h = e ∙ first_append section_order (units_refused us) (limit_refused count us) ∙ ap (λ xs. earlier section_order a (first_refusal section_order xs)) h
+
+    clear : limit_refused count us ≡ [] → units_refused us ≡ [] → ⊥
+    clear h r = absurd_some (e ∙ ap (first_refusal section_order) (both_empty (units_refused us) (limit_refused count us) r h))
+      where
+        absurd_some : ◌≡◌ {A = Option SectionFault} (Some y) None → ⊥
+        absurd_some k = cc
+
+    by_limit : (ls : List SectionFault) → limit_refused count us ≡ ls → IsLimit ls → earlier section_order (Some y) b ≡ first_refusal section_order (all_refused count (us ++ vs))
+    by_limit [] h s =
+        ap (λ x. earlier section_order x b) (front [] h ∙ earlier_none section_order a)
+        ∙ sym (whole [] (refused_stays count us vs (clear h) h) ∙ earlier_none section_order (earlier section_order a b))
+    by_limit (fault.NodeLimit p ∷ []) h s =
+        let l : Option SectionFault = Some (fault.NodeLimit p) in
+        ap (λ x. earlier section_order x b) (front (fault.NodeLimit p ∷ []) h)
+        ∙ earlier_assoc section_order a l b ∙ ap (earlier section_order a) (limit_swaps p b) ∙ sym (earlier_assoc section_order a b l)
+        ∙ sym (whole (fault.NodeLimit p ∷ []) (limit_stays count us vs p h))
+    by_limit (fault.NodeLimit p ∷ (q ∷ qs)) h s = absurd s
+    by_limit (fault.MisplacedSpecial p ∷ ls) h s = absurd s
+    by_limit (fault.NotConstant p ∷ ls) h s = absurd s
+    by_limit (fault.ZeroDivisor p ∷ ls) h s = absurd s
+    by_limit (fault.BadWidth p ∷ ls) h s = absurd s
+    by_limit (fault.NotAnOutput p name ∷ ls) h s = absurd s
+    by_limit (fault.MixedAssignment p name ∷ ls) h s = absurd s
+    by_limit (fault.BadRow p ∷ ls) h s = absurd s
+    by_limit (fault.BadState p ∷ ls) h s = absurd s
+    by_limit (fault.BadVector p ∷ ls) h s = absurd s
+    by_limit (fault.OutOfMemory ∷ ls) h s = absurd s
+
+-- nothing of the first units is refused
+accepted_front : (count : ℕ) (us vs : List CountedUnit) → None ≡ first_refusal section_order (all_refused count us)
+    → all_refused (count + units_nodes us) vs ≡ all_refused count (us ++ vs)
+accepted_front count us vs e =
+    let clear = none_refused section_order (all_refused count us) e in
+    let a = left_empty (units_refused us) (limit_refused count us) clear in
+    let l = right_empty (units_refused us) (limit_refused count us) clear in
+    ap₂ (λ rs ls. rs ++ ls) (sym (refused_append us vs ∙ ap (λ rs. rs ++ units_refused vs) a)) (sym (limit_append count us vs a l))
+
+fault_append : (f m : Option SectionFault) (count later : ℕ) (us vs : List CountedUnit) → m ≡ fault_behind f count us → (m ≡ None → later ≡ count + units_nodes us)
+    → fault_behind m later vs ≡ fault_behind f count (us ++ vs)
+fault_append None None count later us vs e h =
+    ap (λ n. first_refusal section_order (all_refused n vs)) (h refl) ∙ ap (first_refusal section_order) (accepted_front count us vs e)
+fault_append None (Some y) count later us vs e h = refused_front count us vs y e
+fault_append (Some x) None count later us vs e h = absurd (never (first_refusal section_order (units_refused us)) e)
+  where
+    never : (g : Option SectionFault) → ◌≡◌ {A = Option SectionFault} None (earlier section_order (Some x) g) → ⊥
+    never None k = cc
+    never (Some g) k = chosen (is_before section_order g x) k
+      where
+        chosen : (b : Bool) → ◌≡◌ {A = Option SectionFault} None (if b then Some g else Some x) → ⊥
+        chosen true i = cc
+        chosen false i = cc
+fault_append (Some x) (Some y) count later us vs e h =
+    let a = first_refusal section_order (units_refused us) in
+    let b = first_refusal section_order (units_refused vs) in
+    ap (λ z. earlier section_order z b) e ∙ earlier_assoc section_order (Some x) a b
+    ∙ ap (earlier section_order (Some x)) (sym (ap (first_refusal section_order) (refused_append us vs) ∙ first_append section_order (units_refused us) (units_refused vs)))
+
+-- ---- walks one after another
+
+-- nothing was refused before what is not refused
+pub clear_before : (f : Option SectionFault) (count : ℕ) (us : List CountedUnit) → None ≡ fault_behind f count us → f ≡ None
+clear_before None count us e = refl
+clear_before (Some x) count us e = absurd (never (first_refusal section_order (units_refused us)) e)
+  where
+    never : (g : Option SectionFault) → ◌≡◌ {A = Option SectionFault} None (earlier section_order (Some x) g) → ⊥
+    never None k = cc
+    never (Some g) k = chosen (is_before section_order g x) k
+      where
+        chosen : (b : Bool) → ◌≡◌ {A = Option SectionFault} None (if b then Some g else Some x) → ⊥
+        chosen true i = cc
+        chosen false i = cc
+
+-- units behind others
+pub walks_then : (all ms ns : List Manner) (us vs : List CountedUnit) (gs hs : List (meant.Contribution Formula)) (ps qs : List Place) (old mid new : Walked)
+    → Walks all us gs ps ms old mid → Walks (all ++ ms) vs hs qs ns mid new → Walks all (us ++ vs) (gs ++ hs) (ps ++ qs) (ms ++ ns) old new
+walks_then all ms ns us vs gs hs ps qs old mid new a b =
+    record {
+      keeps = keeps_on (arena old.exprs) (arena mid.exprs) (arena new.exprs) a.keeps b.keeps;
+      fault = b.fault ∙ fault_append old.fault mid.fault (length (arena old.exprs)) (length (arena mid.exprs)) us vs a.fault (λ e. (a.given e).grew.count);
+      manners = subst (AreFirsts new.before) (append_assoc all ms ns) b.manners;
+      given = λ e. subst (Contributed (standing old) (standing new) (gs ++ hs) (ps ++ qs)) (sym (nodes_append us vs))
+          (made_then (standing old) (standing mid) (standing new) gs hs ps qs (units_nodes us) (units_nodes vs) (a.given (clear_before mid.fault (length (arena mid.exprs)) vs (sym e ∙ b.fault))) (b.given e));
+    }
+
+-- no unit
+stands : (f : Option SectionFault) (count : ℕ) → f ≡ fault_behind f count []
+stands None count = refl
+stands (Some x) count = refl
+
+pub walks_none : (all : List Manner) (out : Walked) → AreFirsts out.before all → Walks all [] [] [] [] out out
+walks_none all out a =
+    record {
+      keeps = λ i f e. e;
+      fault = stands out.fault (length (arena out.exprs));
+      manners = subst (AreFirsts out.before) (sym (append-nil all)) a;
+      given = λ e. (builds_none (standing out)).made;
+    }
+
+-- behind what is refused only refusals count
+pub walks_alike : (all ms : List Manner) (us vs : List CountedUnit) (gs hs : List (meant.Contribution Formula)) (ps qs : List Place) (old new : Walked) (f : SectionFault)
+    → old.fault ≡ Some f → units_refused us ≡ units_refused vs → Walks all us gs ps ms old new → Walks all vs hs qs ms old new
+walks_alike all ms us vs gs hs ps qs old new f e r w =
+    record {
+      keeps = w.keeps;
+      fault = told;
+      manners = w.manners;
+      given = λ n. absurd (some_none (sym e ∙ clear_before old.fault (length (arena old.exprs)) vs (sym n ∙ told)));
+    }
+  where
+    some_none : ◌≡◌ {A = Option SectionFault} (Some f) None → ⊥
+    some_none k = cc
+
+    told : new.fault ≡ fault_behind old.fault (length (arena old.exprs)) vs
+    told = w.fault ∙ ap (λ x. fault_behind x (length (arena old.exprs)) us) e
+        ∙ ap (λ rs. earlier section_order (Some f) (first_refusal section_order rs)) r
+        ∙ ap (λ x. fault_behind x (length (arena old.exprs)) vs) (sym e)
+
+-- ---- one unit
+
+-- a unit that is refused, or one behind what is refused
+unit_fault : (f : Option SectionFault) (count : ℕ) (u : CountedUnit) → is_some (earlier section_order f (first_refusal section_order (units_refused (u ∷ [])))) ≡ true
+    → earlier section_order f (first_refusal section_order (units_refused (u ∷ []))) ≡ fault_behind f count (u ∷ [])
+unit_fault (Some x) count u h = refl
+unit_fault None count u h = by_refusals u.refusals refl
+  where
+    by_refusals : (rs : List SectionFault) → u.refusals ≡ rs → first_refusal section_order (units_refused (u ∷ [])) ≡ first_refusal section_order (all_refused count (u ∷ []))
+    by_refusals [] e = absurd (never (sym h ∙ ap (λ rs. is_some (first_refusal section_order (rs ++ []))) e))
+      where
+        never : ◌≡◌ {A = Bool} true false → ⊥
+        never k = cc
+    by_refusals (r ∷ rs) e =
+        ap (first_refusal section_order)
+        (sym (append-nil (units_refused (u ∷ []))) ∙ ap (λ ls. units_refused (u ∷ []) ++ ls) (sym (ap (λ xs. limit_at xs u.place (is_past count u.nodes) []) e)))
+
+pub walks_refused : (all ms : List Manner) (u : CountedUnit) (gs : List (meant.Contribution Formula)) (ps : List Place) (fault : Option SectionFault) (old new : Walked)
+    → fault ≡ first_refusal section_order (units_refused (u ∷ [])) → new.fault ≡ earlier section_order old.fault fault → is_some new.fault ≡ true → new.exprs ≡ old.exprs → AreFirsts new.before (all ++ ms)
+    → Walks all (u ∷ []) gs ps ms old new
+walks_refused all ms u gs ps fault old new e h s x a =
+    record {
+      keeps = subst (λ es. Keeps (arena old.exprs) (arena es)) (sym x) (λ i f k. k);
+      fault = told ∙ unit_fault old.fault (length (arena old.exprs)) u (sym (ap is_some told) ∙ s);
+      manners = a;
+      given = λ n. absurd (never (sym s ∙ ap is_some n));
+    }
+  where
+    told : new.fault ≡ earlier section_order old.fault (first_refusal section_order (units_refused (u ∷ [])))
+    told = h ∙ ap (earlier section_order old.fault) e
+
+    never : ◌≡◌ {A = Bool} true false → ⊥
+    never k = cc
+
+-- where nothing is refused so far, and nothing of a unit, neither was before
+pub both_clear : (f g : Option SectionFault) → is_some (earlier section_order f g) ≡ false → (f ≡ None) × (g ≡ None)
+both_clear None None h = (refl, refl)
+both_clear None (Some y) h = absurd cc
+both_clear (Some x) None h = absurd cc
+both_clear (Some x) (Some y) h = absurd (chosen (is_before section_order y x) h)
+  where
+    chosen : (b : Bool) → is_some (if b then Some y else Some x) ≡ false → ⊥
+    chosen true k = cc
+    chosen false k = cc
+
+-- units of which nothing is refused are made, or the first that passes the limit is refused
+pub walks_made : (all ms : List Manner) (us : List CountedUnit) (gs : List (meant.Contribution Formula)) (ps : List Place) (old made new : Walked) (r : Result Unit SectionFault)
+    → old.fault ≡ None → made.fault ≡ None → units_refused us ≡ [] → AreFirsts made.before (all ++ ms)
+    → Builds us gs ps (standing old) (standing made) r → AfterMaking r made new
+    → Walks all us gs ps ms old new
+walks_made all ms us gs ps old made new (Ok t) o m e a b k =
+    subst (Walks all us gs ps ms old) (sym k)
+    (record {
+      keeps = b.made.grew.keeps;
+      fault = m ∙ sym (ap (λ f. fault_behind f (length (arena old.exprs)) us) o ∙ ap (first_refusal section_order) (both_empty (units_refused us) (limit_refused (length (arena old.exprs)) us) b.accepted b.within));
+      manners = a;
+      given = λ n. b.made;
+    })
+walks_made all ms us gs ps old made new (Err (fault.NodeLimit p)) o m e a b k =
+    subst (Walks all us gs ps ms old) (sym k)
+    (record {
+      keeps = b.1.keeps;
+      fault = sym (ap (λ f. fault_behind f (length (arena old.exprs)) us) o ∙ ap (first_refusal section_order) (ap (λ rs. rs ++ limit_refused (length (arena old.exprs)) us) e ∙ b.0));
+      manners = a;
+      given = λ n. absurd (never n);
+    })
+  where
+    never : ◌≡◌ {A = Option SectionFault} (Some (fault.NodeLimit p)) None → ⊥
+    never h = cc
+walks_made all ms us gs ps old made new (Err fault.OutOfMemory) o m e a b k = absurd k
+walks_made all ms us gs ps old made new (Err (fault.MisplacedSpecial p)) o m e a b k = absurd (b.0.0 e)
+walks_made all ms us gs ps old made new (Err (fault.NotConstant p)) o m e a b k = absurd (b.0.0 e)
+walks_made all ms us gs ps old made new (Err (fault.ZeroDivisor p)) o m e a b k = absurd (b.0.0 e)
+walks_made all ms us gs ps old made new (Err (fault.BadWidth p)) o m e a b k = absurd (b.0.0 e)
+walks_made all ms us gs ps old made new (Err (fault.NotAnOutput p name)) o m e a b k = absurd (b.0.0 e)
+walks_made all ms us gs ps old made new (Err (fault.MixedAssignment p name)) o m e a b k = absurd (b.0.0 e)
+walks_made all ms us gs ps old made new (Err (fault.BadRow p)) o m e a b k = absurd (b.0.0 e)
+walks_made all ms us gs ps old made new (Err (fault.BadState p)) o m e a b k = absurd (b.0.0 e)
+walks_made all ms us gs ps old made new (Err (fault.BadVector p)) o m e a b k = absurd (b.0.0 e)

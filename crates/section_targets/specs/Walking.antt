@@ -1,0 +1,41 @@
+-- What a walk over the units of sections leaves: each is checked, and made where nothing is refused so far (this project's
+-- rule).
+use Rattle.std.specs.Prelude.{◌≡◌, ℕ, Option, None, Some, List, ◌++◌, length, Result, Ok, Err}
+use Rattle.pld_base.specs.declared.place.Place.{Place}
+use Rattle.bit_expr.specs.Arena.{arena}
+use Rattle.bit_expr.specs.Formulas.{Formula}
+use Rattle.abel_tree.specs.FirstRefusal.{earlier, first_refusal}
+use Rattle.abel_meaning.specs.Contributions as meant
+use Rattle.set_expr.specs.declared.contributions.Contributions.{Contributions}
+use Rattle.set_expr.specs.declared.fault.SectionFault.{SectionFault}
+use Rattle.set_expr.specs.declared.fault.SectionFault.TheVariants as fault
+use Rattle.set_expr.specs.Answer.{Keeps}
+use Rattle.set_expr.specs.SectionOrder.{section_order}
+use Rattle.section_targets.specs.declared.walked.Walked.{Walked}
+use Rattle.section_targets.specs.declared.manner.Manner.{Manner}
+use Rattle.section_targets.specs.Appending.{Contributed}
+use Rattle.section_targets.specs.Manners.{AreFirsts}
+use Rattle.section_targets.specs.Units.{CountedUnit, units_refused, units_nodes, all_refused}
+
+-- the first refusal of units behind others, of which this is the first; behind a refused unit no nodes are counted
+abbrev pub fault_behind : Option SectionFault → (count : ℕ) → List CountedUnit → Option SectionFault
+fault_behind None count us = first_refusal section_order (all_refused count us)
+fault_behind (Some f) count us = earlier section_order (Some f) (first_refusal section_order (units_refused us))
+
+-- what stands there
+abbrev pub standing : Walked → Contributions
+standing b = record { exprs = b.exprs; list = b.list.items }
+
+-- what units leave that give this at these places and assign signals in these manners, behind all those before
+pub record Walks (all : List Manner) (us : List CountedUnit) (gs : List (meant.Contribution Formula)) (ps : List Place)
+    (ms : List Manner) (old new : Walked) : Type 0 where
+  pub keeps : Keeps (arena old.exprs) (arena new.exprs)
+  pub fault : new.fault ≡ fault_behind old.fault (length (arena old.exprs)) us
+  pub manners : AreFirsts new.before (all ++ ms)
+  pub given : new.fault ≡ None → Contributed (standing old) (standing new) gs ps (units_nodes us)
+
+-- the limit is kept where making a unit passes it; want of memory ends the walk
+abbrev pub AfterMaking : Result Unit SectionFault → (old new : Walked) → Type 0
+AfterMaking (Ok r) old new = new ≡ old
+AfterMaking (Err fault.OutOfMemory) old new = ⊥
+AfterMaking (Err f) old new = new ≡ record old { fault = Some f }
