@@ -1,11 +1,10 @@
 -- The parts of units that statements make.
-use Rattle.std.proofs.Common.{◌≡◌, ℕ, zero, suc, ◌+◌, ◌<◌, ◌≤◌, false, Option, None, Some, List, [], ◌∷◌, ◌++◌, All, Result, Ok, Err, length, reverse, get_or, refl, sym, ap, ◌∙◌, subst, arith}
+use Rattle.std.proofs.Common.{◌≡◌, ℕ, zero, suc, ◌+◌, ◌<◌, ◌≤◌, Bool, true, false, Option, None, Some, List, [], ◌∷◌, All, Result, Ok, Err, length, reverse, get_or, refl, sym, ap, ◌∙◌, subst, arith}
 use Rattle.std.proofs.lemmas.List.{length-map, length-replicate}
 use Rattle.std.proofs.lemmas.Option.{none-some, slice_get-get_or, slice_get_within}
 use Rattle.std.proofs.lemmas.List.Sorted.{IsPermutation-reverse, All-permutation}
 use Rattle.pld_base.specs.declared.place.Place.{Place}
 use Rattle.pld_device.specs.Table.{Table}
-use Rattle.abel_tree.proofs.FirstRefusals.{none_refused}
 use Rattle.bit_expr.specs.declared.node.ExprId.{ExprId}
 use Rattle.bit_expr.specs.declared.node.Node.{Node}
 use Rattle.bit_expr.specs.Arena.{arena, formula_at}
@@ -15,7 +14,7 @@ use Rattle.abel_tree.specs.Entries.{entries_of}
 use Rattle.abel_tree.specs.FirstRefusal.{first_refusal}
 use Rattle.abel_tree.specs.Tree.{Tree}
 use Rattle.abel_meaning.specs.Contributions as meant
-use Rattle.abel_meaning.specs.CountedNodes.{term_nodes}
+use Rattle.abel_meaning.specs.CountedNodes.{term_nodes, choice_nodes, condition_of, guard_else}
 use Rattle.abel_meaning.specs.Designs.{Context, context_of}
 use Rattle.abel_meaning.specs.BitWords.{Word}
 use Rattle.abel_meaning.specs.FormulaBits.{resized, met_by, met_word}
@@ -35,12 +34,11 @@ use Rattle.set_expr.specs.Shapes.{HasShape}
 use Rattle.set_expr.specs.Answer.{IsContextOf, IsAnswer, IsShaped, Keeps, refusal_of, bits_at, positions}
 use Rattle.section_targets.specs.Building.{Stop, AtLimit, NoMemory, AtRefusal, stop_of, Stops, StopsWith, IsBuilt, Builds, IsBit, AreBits}
 use Rattle.section_targets.specs.Units.{CountedUnit, part}
-use Rattle.section_targets.specs.ValueWidths.{value_width}
 use Rattle.section_targets.proofs.Built.{left_empty, builds_stop, kept_inside, kept_formula}
+use Rattle.section_targets.specs.Contexts.{context_for}
 use Rattle.section_targets.proofs.OneUnit.{one_unit, two_parts}
 use Rattle.section_targets.proofs.Parts.{leaves_nodes, limit_here}
-use Rattle.equations.specs.Builds.{at_unit, condition_unit}
-use Rattle.equations.specs.StatementUnits.{condition_refused}
+use Rattle.equations.specs.Builds.{at_unit}
 
 -- some design of these names, since what stands doesn't depend on it
 abbrev pub some_design : Table → Names → Context
@@ -49,6 +47,13 @@ some_design t n =
 
 pub is_some_design : (t : Table) (n : Names) → IsContextOf t n (some_design t n)
 is_some_design t n = record { device = refl; names = refl; known = refl }
+
+pub is_context : (t : Table) (n : Names) → IsContextOf t n (context_for t n)
+is_context t n = record { device = refl; names = refl; known = refl }
+
+-- the names of a scope are those of the scope that was asked for them
+pub same_context : (t : Table) (m n : Names) → m ≡ n → IsContextOf t m (context_for t n)
+same_context t m n e = subst (λ k. IsContextOf t m (context_for t k)) e (is_context t m)
 
 -- ---- expressions
 
@@ -144,6 +149,11 @@ parts_longer p rs m k old mid new r b a =
     subst (λ xs. Builds (whole p xs (m + k) ∷ []) [] [] old new r) (sym e)
     (two_parts p m k old mid new r (subst (λ xs. IsBuilt (whole p xs m ∷ []) [] [] old mid) e b) a)
 
+-- what stops a condition with its And stops its unit, with an ELSE or without one
+pub choice_stops : (p : Place) (d : Context) (g : Formula) (c : Tree) (other : Bool) (old new : Contributions) (f : SectionFault) → StopsWith (part p (choice_nodes d g c false) ∷ []) [] [] old new f → StopsWith (part p (choice_nodes d g c other) ∷ []) [] [] old new f
+choice_stops p d g c false old new f s = s
+choice_stops p d g c true old new f s = stops_longer p [] (choice_nodes d g c false) (guard_else g (condition_of d c)).nodes old new f s
+
 -- a unit of which something is refused
 pub refused_whole : (p : Place) (rs : List SectionFault) (m count : ℕ) (stop : Stop) → stop ≡ AtRefusal → (rs ≡ [] → ⊥) → Stops stop count (whole p rs m ∷ [])
 refused_whole p rs m count stop e h = subst (λ s. Stops s count (whole p rs m ∷ [])) (sym e) (by_refusals rs h)
@@ -156,19 +166,6 @@ refused_whole p rs m count stop e h = subst (λ s. Stops s count (whole p rs m �
 pub first_bit : (fs : List Formula) (ids : List ExprId) (id : ExprId) (gs : List Formula) → 0 < length ids → AreBits fs ids gs → IsBit fs (get_or ids 0 id) (get_or gs 0 (Const false))
 first_bit fs [] id gs lt h = absurd (omega (arith, lt))
 first_bit fs (x ∷ ids) id gs lt h = (h.0 0 x (omega arith), ap (λ xs. get_or xs 0 (Const false)) h.1)
-
--- ---- conditions
-
--- a condition of which nothing is refused is an expression of which nothing is refused
-pub accepted_condition : (d : Context) (n : Names) (p : Place) (c : Tree) → d.names ≡ entries_of n → None ≡ first_refusal section_order (condition_refused d p c) → (condition_refused d p c ≡ []) × (refusal_of n c ≡ None)
-accepted_condition d n p c e h =
-    let rs = none_refused section_order (condition_refused d p c) h in
-    let f = expression_found d.names c in
-    (rs, ap (λ es. first_refusal section_order (expression_found es c).refusals) (sym e) ∙ ap (first_refusal section_order) (left_empty f.refusals (f.specials ++ value_width p 1 f.value) rs))
-
--- so its unit is that of its nodes
-pub accepted_unit : {R : Type 0} (d : Context) (p : Place) (c : Tree) (m : ℕ) (old new : Contributions) (r : Result R SectionFault) → condition_refused d p c ≡ [] → Builds (part p m ∷ []) [] [] old new r → Builds (condition_unit d p c m ∷ []) [] [] old new r
-accepted_unit d p c m old new r e b = subst (λ rs. Builds (whole p rs m ∷ []) [] [] old new r) (sym e) b
 
 -- a bit stays where its node stands
 pub kept_bit : (old new : List Formula) (id : ExprId) (f : Formula) → Keeps old new → IsBit old id f → IsBit new id f

@@ -12,12 +12,10 @@ use Rattle.abel_tree.specs.declared.statements.When.{When}
 use Rattle.abel_tree.specs.declared.words.Extension.{Extension}
 use Rattle.abel_tree.specs.declared.words.Sign.{Sign}
 use Rattle.abel_tree.specs.Assigned.{is_clocked}
-use Rattle.abel_tree.specs.Entries.{entries_of}
 use Rattle.abel_tree.specs.FirstRefusal.{earlier, first_refusal}
-use Rattle.abel_tree.proofs.FirstRefusals.{first_append, earlier_assoc}
-use Rattle.abel_tree.specs.Tree.{Tree, Statement, AGroup, AWhen, NoElse, AnElse, statements_of, otherwise_of}
+use Rattle.abel_tree.proofs.FirstRefusals.{first_append}
+use Rattle.abel_tree.specs.Tree.{Statement, AGroup, AWhen, NoElse, AnElse, statements_of, otherwise_of}
 use Rattle.abel_tree.specs.View.{view, view_stmt}
-use Rattle.abel_meaning.specs.CountedNodes.{guard_then, guard_else, condition_of}
 use Rattle.abel_meaning.specs.Designs.{Context}
 use Rattle.abel_meaning.specs.Terms.{known_of}
 use Rattle.set_expr.specs.declared.checked.Checked.{Checked}
@@ -28,15 +26,12 @@ use Rattle.set_expr.specs.Refusals.{Found}
 use Rattle.set_expr.specs.SectionOrder.{section_order}
 use Rattle.section_targets.specs.declared.aim.Aim.{Aim}
 use Rattle.section_targets.specs.declared.manner.Manner.{Manner}
-use Rattle.section_targets.specs.declared.named.NamedSignals.{NamedSignals}
 use Rattle.section_targets.specs.Manners.{aims_refused}
-use Rattle.section_targets.specs.NamedTargets.{StandFor, AreTargets}
 use Rattle.section_targets.specs.TargetSignals.{TargetFound}
 use Rattle.section_targets.specs.Units.{CountedUnit, units_refused}
 use Rattle.section_targets.specs.ValueWidths.{value_refused}
-use Rattle.section_targets.proofs.Built.{refused_append}
-use Rattle.equations.specs.Checks.{AreNames, view_assign, view_list, view_when}
-use Rattle.equations.specs.StatementUnits.{assign_refused, assigned_aims, assigned_manners, taken_refused, unless_any, condition_refused, units_of_statement, units_of_statements, statement_manners, statements_manners}
+use Rattle.equations.specs.Checks.{view_assign, view_list, view_when}
+use Rattle.equations.specs.StatementUnits.{assign_refused, assigned_aims, assigned_manners, taken_refused, unless_any, units_of_statement, units_of_statements, statement_manners, statements_manners}
 
 abbrev first : List SectionFault → Option SectionFault
 first rs = first_refusal section_order rs
@@ -46,18 +41,14 @@ refused us = first (units_refused us)
 
 -- ---- designs
 
-pub names_of_design : (t : Table) (n : Names) (d : Context) (ns : List NamedSignals) → IsContextOf t n d → AreNames n ns → AreTargets d ns
-names_of_design t n d ns is h =
-    subst (λ ks. StandFor (length d.names) d.names ns ks) (sym is.known) (subst (λ es. StandFor (length es) es ns (known_of (entries_of n))) (sym is.names) h)
-
 pub known_by_names : (t : Table) (n : Names) (d : Context) → IsContextOf t n d → d.known ≡ known_of d.names
 known_by_names t n d is = is.known ∙ ap known_of (sym is.names)
 
 -- ---- assignments
 
 pub behind_refused : (d : Context) (before : List Manner) (e : Option Extension) (c : Bool) (s : Sign) (q : Place) (t : TargetFound) (f : Found) (x : SectionFault) (v : Checked) → Some x ≡ first t.refusals → SumsUp v f
-    → earlier section_order (Some x) (earlier section_order v.fault v.special) ≡ first (assign_refused d before e c s q t f ++ [])
-behind_refused d before e c s q t f x v h k = by_refusals t.refusals h ∙ ap first (sym (append-nil (assign_refused d before e c s q t f)))
+    → earlier section_order (Some x) (earlier section_order v.fault v.special) ≡ first (assign_refused d before e c s q t f)
+behind_refused d before e c s q t f x v h k = by_refusals t.refusals h
   where
     by_refusals : (rs : List SectionFault) → Some x ≡ first rs → earlier section_order (Some x) (earlier section_order v.fault v.special) ≡ first (rs ++ (taken_refused rs q (length t.aims) f ++ aims_refused d before e c (is_clocked s) (unless_any rs t.aims)))
     by_refusals [] h = absurd cc
@@ -66,11 +57,10 @@ behind_refused d before e c s q t f x v h k = by_refusals t.refusals h ∙ ap fi
         ∙ sym (first_append section_order (r ∷ rs) ((f.refusals ++ f.specials) ++ []))
 
 pub accepted_refused : (d : Context) (before : List Manner) (e : Option Extension) (c : Bool) (s : Sign) (q : Place) (t : TargetFound) (f : Found) (aims : List Aim) → t.refusals ≡ [] → aims ≡ t.aims
-    → first (value_refused q (length aims) f ++ aims_refused d before e c (is_clocked s) aims) ≡ first (assign_refused d before e c s q t f ++ [])
+    → first (value_refused q (length aims) f ++ aims_refused d before e c (is_clocked s) aims) ≡ first (assign_refused d before e c s q t f)
 accepted_refused d before e c s q t f aims h a =
     ap (λ xs. first (value_refused q (length xs) f ++ aims_refused d before e c (is_clocked s) xs)) a
     ∙ subst (λ rs. first (value_refused q (length t.aims) f ++ aims_refused d before e c (is_clocked s) t.aims) ≡ first (rs ++ (taken_refused rs q (length t.aims) f ++ aims_refused d before e c (is_clocked s) (unless_any rs t.aims)))) (sym h) refl
-    ∙ ap first (sym (append-nil (assign_refused d before e c s q t f)))
 
 pub accepted_manners : (e : Option Extension) (c : Bool) (s : Sign) (t : TargetFound) (aims : List Aim) → t.refusals ≡ [] → aims ≡ t.aims → assigned_manners e c s aims ≡ assigned_manners e c s (assigned_aims t)
 accepted_manners e c s t aims h a = ap (assigned_manners e c s) (a ∙ ap (λ rs. unless_any rs t.aims) (sym h))
@@ -79,25 +69,6 @@ accepted_manners e c s t aims h a = ap (assigned_manners e c s) (a ∙ ap (λ rs
 
 pub view_parts : (w : When) → view_when w ≡ AWhen w.place (view w.condition) (view_stmt w.then) (otherwise_of (option_map view_stmt w.otherwise))
 view_parts w = search (rules, the_lemmas)
-
-pub when_alone : (d : Context) (g : Formula) (all : List Manner) (p : Place) (c : Tree) (s : Statement) →
-    earlier section_order (first (condition_refused d p c)) (refused (units_of_statement d (guard_then g (condition_of d c)).what all s))
-    ≡ refused (units_of_statement d g all (AWhen p c s NoElse))
-when_alone d g all p c s =
-    let us = units_of_statement d (guard_then g (condition_of d c)).what all s in
-    sym (first_append section_order (condition_refused d p c) (units_refused (us ++ []))
-    ∙ ap (λ vs. earlier section_order (first (condition_refused d p c)) (refused vs)) (append-nil us))
-
-pub when_else : (d : Context) (g : Formula) (all : List Manner) (p : Place) (c : Tree) (s u : Statement) →
-    earlier section_order (earlier section_order (first (condition_refused d p c)) (refused (units_of_statement d (guard_then g (condition_of d c)).what all s)))
-    (refused (units_of_statement d (guard_else g (condition_of d c)).what (all ++ statement_manners d s) u))
-    ≡ refused (units_of_statement d g all (AWhen p c s (AnElse u)))
-when_else d g all p c s u =
-    let us = units_of_statement d (guard_then g (condition_of d c)).what all s in
-    let vs = units_of_statement d (guard_else g (condition_of d c)).what (all ++ statement_manners d s) u in
-    earlier_assoc section_order (first (condition_refused d p c)) (refused us) (refused vs)
-    ∙ ap (earlier section_order (first (condition_refused d p c))) (sym (ap first (refused_append us vs) ∙ first_append section_order (units_refused us) (units_refused vs)))
-    ∙ sym (first_append section_order (condition_refused d p c) (units_refused (us ++ vs)))
 
 -- ---- lists
 
@@ -111,18 +82,6 @@ units_more d g all (x ∷ ss) s =
 pub manners_more : (d : Context) (ss : List Statement) (s : Statement) → statements_manners d (statements_of (ss ++ s ∷ [])) ≡ statements_manners d (statements_of ss) ++ statement_manners d s
 manners_more d [] s = append-nil (statement_manners d s)
 manners_more d (x ∷ ss) s = ap (λ ms. statement_manners d x ++ ms) (manners_more d ss s) ∙ sym (append_assoc (statement_manners d x) (statements_manners d (statements_of ss)) (statement_manners d s))
-
--- the statements of a longer front
-pub refused_more : (d : Context) (g : Formula) (all : List Manner) (ss ts : List Statement) (s : Statement) → ts ≡ ss ++ s ∷ []
-    → earlier section_order (refused (units_of_statements d g all (statements_of ss))) (refused (units_of_statement d g (all ++ statements_manners d (statements_of ss)) s)) ≡ refused (units_of_statements d g all (statements_of ts))
-refused_more d g all ss ts s e =
-    let us = units_of_statements d g all (statements_of ss) in
-    let vs = units_of_statement d g (all ++ statements_manners d (statements_of ss)) s in
-    sym (ap (λ xs. refused (units_of_statements d g all (statements_of xs))) e ∙ ap refused (units_more d g all ss s) ∙ ap first (refused_append us vs) ∙ first_append section_order (units_refused us) (units_refused vs))
-
-pub noted_more : (d : Context) (all : List Manner) (ss ts : List Statement) (s : Statement) → ts ≡ ss ++ s ∷ [] → (all ++ statements_manners d (statements_of ss)) ++ statement_manners d s ≡ all ++ statements_manners d (statements_of ts)
-noted_more d all ss ts s e =
-    append_assoc all (statements_manners d (statements_of ss)) (statement_manners d s) ∙ ap (λ ms. all ++ ms) (sym (ap (λ xs. statements_manners d (statements_of xs)) e ∙ manners_more d ss s))
 
 -- ---- statements by their kinds
 

@@ -1,4 +1,4 @@
 pub mod Builds
 pub mod Checks
-pub mod StatementAnswers
 pub mod StatementUnits
+pub mod StatementWalks

@@ -1,48 +1,32 @@
-//! The guards of the statements of a WHEN.
+//! Conditions, and the guards of what stands under them.
 
-ghost use Rattle.std.specs.Prelude.{◌≡◌, ◌<◌, true, false, [], ◌∷◌, length, IfOk};
+ghost use Rattle.std.specs.Prelude.{◌≡◌, ◌<◌, None, true, false, [], ◌∷◌, length, IfOk};
 ghost use Rattle.bit_expr.specs.Arena.{arena, formula_at};
 ghost use Rattle.abel_tree.specs.View.{view};
 ghost use Rattle.abel_meaning.specs.CountedNodes as counted;
-ghost use Rattle.abel_meaning.specs.CountedNodes.{condition_of, term_nodes, choice_nodes};
-ghost use Rattle.abel_meaning.specs.Designs.{Context};
-ghost use Rattle.set_expr.specs.Answer.{Keeps, IsContextOf};
-ghost use Rattle.section_targets.specs.Building.{BuildsNodes, IsBit, stop_of, AtRefusal};
-ghost use Rattle.equations.specs.Builds.{condition_unit};
+ghost use Rattle.abel_meaning.specs.CountedNodes.{condition_of, choice_nodes};
+ghost use Rattle.set_expr.specs.Answer.{Keeps, refusal_of};
+ghost use Rattle.section_targets.specs.Building.{BuildsNodes, IsBit};
+ghost use Rattle.section_targets.specs.Contexts.{context_for};
+ghost use Rattle.section_targets.specs.Units.{part};
+ghost use Rattle.equations.specs.StatementWalks.{WalksCondition, AreBothGuards};
 
 use crate::conditions::check_condition;
 use crate::values::condition_bit;
 use abel_tree::Expr;
 use bit_expr::{ExprId, Exprs, Node};
-use pld_base::Place;
+use pld_base::{OutOfMemory, Place};
 use pld_device::Device;
-use section_targets::{add_node, guard_else};
+use section_targets::{Walked, add_node, guard_else};
 use set_expr::{Scope, SectionFault};
 use std::alloc::Global;
 
-/// That something of the unit at this place is refused; what it is, the check says.
-pub fn refused_unit(unit: Place) -> SectionFault
-    ensures { stop_of result ≡ AtRefusal }
-{
-    SectionFault::BadWidth(unit)
-}
-
-/// The bit of a condition that may be refused, in the unit at this place.
-fn accepted_bit<D: Device>(
-    alloc: Global,
-    scope: &Scope<'_>,
-    unit: Place,
-    condition: &Expr,
-    exprs: &mut Exprs,
-) -> Result<ExprId, SectionFault>
-    ensures keeps { Keeps (arena exprs.old) (arena exprs.new) }
-    ensures builds { (d : Context) → IsContextOf D.table scope.now d → BuildsNodes (condition_unit d unit (view condition.now) (term_nodes d (view condition.now)) ∷ []) exprs.old exprs.new result }
-    ensures bit { IfOk result (λ id. (d : Context) → IsContextOf D.table scope.now d → IsBit (arena exprs.new) id (condition_of d (view condition.now))) }
-{
-    match check_condition(alloc, scope, unit, condition)? {
-        Some(_) => Err(refused_unit(unit)),
-        None => condition_bit::<D>(alloc, scope, condition, unit, exprs),
-    }
+/// A condition as a unit at its place, with an ELSE or without one.
+#[derive(Drop)]
+pub struct Condition<'a> {
+    pub unit: Place,
+    pub expr: &'a Expr,
+    pub otherwise: bool,
 }
 
 /// A condition, and the guard of what counts where it is 1.
@@ -52,7 +36,7 @@ pub struct Chosen {
     pub then: ExprId,
 }
 
-/// The condition of a WHEN and the guard of its statement, in the unit of the condition.
+/// A condition of which nothing is refused and the guard of what stands under it, in its unit.
 pub fn then_guard<D: Device>(
     alloc: Global,
     scope: &Scope<'_>,
@@ -62,13 +46,14 @@ pub fn then_guard<D: Device>(
     exprs: &mut Exprs,
 ) -> Result<Chosen, SectionFault>
     requires guard { guard.0 < length (arena exprs.old) }
+    requires accepted { refusal_of scope.now (view condition.now) ≡ None }
     ensures keeps { Keeps (arena exprs.old) (arena exprs.new) }
-    ensures builds { (d : Context) → IsContextOf D.table scope.now d → BuildsNodes (condition_unit d unit (view condition.now) (choice_nodes d (formula_at (arena exprs.old) guard) (view condition.now) false) ∷ []) exprs.old exprs.new result }
+    ensures builds { BuildsNodes (part unit (choice_nodes (context_for D.table scope.now) (formula_at (arena exprs.old) guard) (view condition.now) false) ∷ []) exprs.old exprs.new result }
     ensures inside { IfOk result (λ g. (g.condition.0 < length (arena exprs.new)) × (g.then.0 < length (arena exprs.new))) }
-    ensures condition { IfOk result (λ g. (d : Context) → IsContextOf D.table scope.now d → IsBit (arena exprs.new) g.condition (condition_of d (view condition.now))) }
-    ensures then { IfOk result (λ g. (d : Context) → IsContextOf D.table scope.now d → IsBit (arena exprs.new) g.then (counted.guard_then (formula_at (arena exprs.old) guard) (condition_of d (view condition.now))).what) }
+    ensures condition { IfOk result (λ g. IsBit (arena exprs.new) g.condition (condition_of (context_for D.table scope.now) (view condition.now))) }
+    ensures then { IfOk result (λ g. IsBit (arena exprs.new) g.then (counted.guard_then (formula_at (arena exprs.old) guard) (condition_of (context_for D.table scope.now) (view condition.now))).what) }
 {
-    let bit = accepted_bit::<D>(alloc, scope, unit, condition, exprs)?;
+    let bit = condition_bit::<D>(alloc, scope, condition, unit, exprs)?;
     let then = add_node(exprs, Node::And(guard, bit), unit)?;
     Ok(Chosen {
         condition: bit,
@@ -76,33 +61,70 @@ pub fn then_guard<D: Device>(
     })
 }
 
-/// The guards of both statements of a WHEN.
+/// The guards of what stands under a condition and of its ELSE; without an ELSE the second is that of the condition.
 #[derive(Clone, Copy, PartialEq, Eq)]
 pub struct BothGuards {
     pub then: ExprId,
     pub otherwise: ExprId,
 }
 
-/// The guards of both statements of a WHEN, in the unit of its condition.
-pub fn both_guards<D: Device>(
+/// Both guards of a condition of which nothing is refused, in its unit.
+fn both_guards<D: Device>(
     alloc: Global,
     scope: &Scope<'_>,
     guard: ExprId,
-    unit: Place,
-    condition: &Expr,
+    condition: &Condition<'_>,
     exprs: &mut Exprs,
 ) -> Result<BothGuards, SectionFault>
     requires guard { guard.0 < length (arena exprs.old) }
+    requires accepted { refusal_of scope.now (view condition.now.expr.now) ≡ None }
     ensures keeps { Keeps (arena exprs.old) (arena exprs.new) }
-    ensures builds { (d : Context) → IsContextOf D.table scope.now d → BuildsNodes (condition_unit d unit (view condition.now) (choice_nodes d (formula_at (arena exprs.old) guard) (view condition.now) true) ∷ []) exprs.old exprs.new result }
-    ensures inside { IfOk result (λ g. (g.then.0 < length (arena exprs.new)) × (g.otherwise.0 < length (arena exprs.new))) }
-    ensures then { IfOk result (λ g. (d : Context) → IsContextOf D.table scope.now d → IsBit (arena exprs.new) g.then (counted.guard_then (formula_at (arena exprs.old) guard) (condition_of d (view condition.now))).what) }
-    ensures otherwise { IfOk result (λ g. (d : Context) → IsContextOf D.table scope.now d → IsBit (arena exprs.new) g.otherwise (counted.guard_else (formula_at (arena exprs.old) guard) (condition_of d (view condition.now))).what) }
+    ensures builds { BuildsNodes (part condition.now.unit (choice_nodes (context_for D.table scope.now) (formula_at (arena exprs.old) guard) (view condition.now.expr.now) condition.now.otherwise) ∷ []) exprs.old exprs.new result }
+    ensures then { IfOk result (λ g. IsBit (arena exprs.new) g.then (counted.guard_then (formula_at (arena exprs.old) guard) (condition_of (context_for D.table scope.now) (view condition.now.expr.now))).what) }
+    ensures inside { IfOk result (λ g. g.otherwise.0 < length (arena exprs.new)) }
+    ensures otherwise { IfOk result (λ g. condition.now.otherwise ≡ true → IsBit (arena exprs.new) g.otherwise (counted.guard_else (formula_at (arena exprs.old) guard) (condition_of (context_for D.table scope.now) (view condition.now.expr.now))).what) }
 {
-    let chosen = then_guard::<D>(alloc, scope, guard, unit, condition, exprs)?;
-    let otherwise = guard_else(exprs, guard, chosen.condition, unit)?;
-    Ok(BothGuards {
-        then: chosen.then,
-        otherwise,
-    })
+    let chosen = then_guard::<D>(alloc, scope, guard, condition.unit, condition.expr, exprs)?;
+    if condition.otherwise {
+        let otherwise = guard_else(exprs, guard, chosen.condition, condition.unit)?;
+        Ok(BothGuards {
+            then: chosen.then,
+            otherwise,
+        })
+    } else {
+        Ok(BothGuards {
+            then: chosen.then,
+            otherwise: chosen.then,
+        })
+    }
+}
+
+/// A condition and its guards. Where something is refused, what stands under it is only checked, so that any guard
+/// serves.
+pub fn walk_condition<D: Device>(
+    alloc: Global,
+    scope: &Scope<'_>,
+    guard: ExprId,
+    condition: &Condition<'_>,
+    out: &mut Walked,
+) -> Result<BothGuards, OutOfMemory>
+    requires guard { guard.0 < length (arena out.old.exprs) }
+    ensures walks { IfOk result (λ g. WalksCondition D.table scope.now guard condition.now.unit (view condition.now.expr.now) condition.now.otherwise out.old out.new) }
+    ensures guards { IfOk result (AreBothGuards D.table scope.now guard (view condition.now.expr.now) condition.now.otherwise out.old out.new) }
+{
+    let same = BothGuards {
+        then: guard,
+        otherwise: guard,
+    };
+    let fault = check_condition(alloc, scope, condition.unit, condition.expr)?;
+    if out.refuse(fault) {
+        return Ok(same);
+    }
+    match both_guards::<D>(alloc, scope, guard, condition, &mut out.exprs) {
+        Ok(guards) => Ok(guards),
+        Err(fault) => {
+            out.keep_limit(Err(fault))?;
+            Ok(same)
+        }
+    }
 }

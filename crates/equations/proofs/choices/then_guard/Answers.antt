@@ -3,31 +3,32 @@ use Rattle.std.proofs.Common.{[], ◌∷◌, Ok, Err, ap₂, ◌∙◌, subst₂
 use Rattle.std.proofs.lemmas.Result.{err_from_is_err_and}
 use Rattle.bit_expr.specs.declared.node.ExprId.{ExprId}
 use Rattle.bit_expr.specs.Folding.{make_and}
-use Rattle.abel_tree.specs.View.{view}
 use Rattle.section_targets.specs.Building.{IsBuilt, Builds}
+use Rattle.section_targets.specs.Contexts.{context_for}
 use Rattle.section_targets.specs.Units.{part}
 use Rattle.section_targets.proofs.Built.{kept_formula, kept_inside, keeps_on}
-use Rattle.equations.specs.StatementUnits.{condition_refused}
-use Rattle.equations.proofs.BuiltParts.{some_design, is_some_design, kept_bit, stops_longer, parts_longer}
+use Rattle.equations.proofs.BuiltParts.{is_context, kept_bit, stops_longer, parts_longer}
 use Rattle.equations.proofs.choices.then_guard.Goals as goal
 
 pub returns-in_err-bit-clause-builds : goal.returns-in_err-bit-clause-builds
-returns-in_err-bit-clause-builds g c = λ d is list.
+returns-in_err-bit-clause-builds g c = λ list.
     let p = err_from_is_err_and c.from_residual.result c.from_residual.ensures.1 in
-    rw (p.1, p.2) (stops_longer c.args.unit (condition_refused d c.args.unit (view c.args.condition.now)) _ _ _ _ c.in_err-bit.field-0.0 (c.in_err-bit.ensures.builds d is list))
+    rw (p.1, p.2) (stops_longer c.args.unit [] _ _ _ _ c.in_err-bit.field-0.0 (c.in_err-bit.ensures.builds (context_for g.D.Device.table c.args.scope.now) (is_context g.D.Device.table c.args.scope.now) list))
 
 pub add_node-requires : goal.add_node-requires
 add_node-requires g c = (
   kept_inside _ _ c.args.guard c.in_ok-bit.ensures.keeps c.requires.guard,
-  (c.in_ok-bit.ensures.bit (some_design g.D.Device.table c.args.scope.now) (is_some_design g.D.Device.table c.args.scope.now)).0,
+  (c.in_ok-bit.ensures.bit (context_for g.D.Device.table c.args.scope.now) (is_context g.D.Device.table c.args.scope.now)).0,
 )
 
 pub returns-in_err-then-clause-builds : goal.returns-in_err-then-clause-builds
-returns-in_err-then-clause-builds g c = λ d is list.
+returns-in_err-then-clause-builds g c = λ list.
+    let d = context_for g.D.Device.table c.args.scope.now in
+    let is = is_context g.D.Device.table c.args.scope.now in
     let p = err_from_is_err_and c.from_residual-in_err-then.result c.from_residual-in_err-then.ensures.1 in
     rw (p.1, p.2)
-    (parts_longer {R = ExprId} c.args.unit (condition_refused d c.args.unit (view c.args.condition.now)) _ _ _ _ _ (Err c.in_err-then.field-0.0) (c.in_ok-bit.ensures.builds d is list)
-    (subst₂ (λ f h. Builds {R = ExprId} (part c.args.unit (make_and f h).nodes ∷ []) [] [] (record { exprs = c.accepted_bit.new.exprs; list = list }) (record { exprs = c.add_node.new.exprs; list = list }) (Err c.in_err-then.field-0.0))
+    (parts_longer {R = ExprId} c.args.unit [] _ _ _ _ _ (Err c.in_err-then.field-0.0) (c.in_ok-bit.ensures.builds d is list)
+    (subst₂ (λ f h. Builds {R = ExprId} (part c.args.unit (make_and f h).nodes ∷ []) [] [] (record { exprs = c.condition_bit.new.exprs; list = list }) (record { exprs = c.add_node.new.exprs; list = list }) (Err c.in_err-then.field-0.0))
     (kept_formula _ _ c.args.guard c.in_ok-bit.ensures.keeps c.requires.guard) (c.in_ok-bit.ensures.bit d is).1 (c.in_err-then.ensures.builds list)))
 
 pub returns-in_err-then-clause-keeps : goal.returns-in_err-then-clause-keeps
@@ -37,23 +38,26 @@ pub returns-clause-keeps : goal.returns-clause-keeps
 returns-clause-keeps g c = keeps_on _ _ _ c.in_ok-bit.ensures.keeps (c.in_ok-then.ensures.builds []).made.grew.keeps
 
 pub returns-clause-builds : goal.returns-clause-builds
-returns-clause-builds g c = λ d is list.
-    parts_longer {R = ExprId} c.args.unit (condition_refused d c.args.unit (view c.args.condition.now)) _ _ _ _ _ (Ok c.in_ok-then.then) (c.in_ok-bit.ensures.builds d is list)
-    (subst₂ (λ f h. IsBuilt (part c.args.unit (make_and f h).nodes ∷ []) [] [] (record { exprs = c.accepted_bit.new.exprs; list = list }) (record { exprs = c.add_node.new.exprs; list = list }))
+returns-clause-builds g c = λ list.
+    let d = context_for g.D.Device.table c.args.scope.now in
+    let is = is_context g.D.Device.table c.args.scope.now in
+    parts_longer {R = ExprId} c.args.unit [] _ _ _ _ _ (Ok c.in_ok-then.then) (c.in_ok-bit.ensures.builds d is list)
+    (subst₂ (λ f h. IsBuilt (part c.args.unit (make_and f h).nodes ∷ []) [] [] (record { exprs = c.condition_bit.new.exprs; list = list }) (record { exprs = c.add_node.new.exprs; list = list }))
     (kept_formula _ _ c.args.guard c.in_ok-bit.ensures.keeps c.requires.guard) (c.in_ok-bit.ensures.bit d is).1 (c.in_ok-then.ensures.builds list))
 
 pub returns-clause-condition : goal.returns-clause-condition
-returns-clause-condition g c = λ d is. kept_bit _ _ c.in_ok-bit.bit _ (c.in_ok-then.ensures.builds []).made.grew.keeps (c.in_ok-bit.ensures.bit d is)
+returns-clause-condition g c =
+    kept_bit _ _ c.in_ok-bit.bit _ (c.in_ok-then.ensures.builds []).made.grew.keeps (c.in_ok-bit.ensures.bit (context_for g.D.Device.table c.args.scope.now) (is_context g.D.Device.table c.args.scope.now))
 
 pub returns-clause-then : goal.returns-clause-then
-returns-clause-then g c = λ d is. (
+returns-clause-then g c = (
   c.in_ok-then.ensures.bit.0,
-  c.in_ok-then.ensures.bit.1 ∙ ap₂ (λ f h. (make_and f h).what) (kept_formula _ _ c.args.guard c.in_ok-bit.ensures.keeps c.requires.guard) (c.in_ok-bit.ensures.bit d is).1,
+  c.in_ok-then.ensures.bit.1
+      ∙ ap₂ (λ f h. (make_and f h).what) (kept_formula _ _ c.args.guard c.in_ok-bit.ensures.keeps c.requires.guard) (c.in_ok-bit.ensures.bit (context_for g.D.Device.table c.args.scope.now) (is_context g.D.Device.table c.args.scope.now)).1,
 )
 
 pub returns-clause-inside : goal.returns-clause-inside
-returns-clause-inside g c =
-    let d = some_design g.D.Device.table c.args.scope.now in (
-      kept_inside _ _ c.in_ok-bit.bit (c.in_ok-then.ensures.builds []).made.grew.keeps (c.in_ok-bit.ensures.bit d (is_some_design g.D.Device.table c.args.scope.now)).0,
-      c.in_ok-then.ensures.bit.0,
-    )
+returns-clause-inside g c = (
+  kept_inside _ _ c.in_ok-bit.bit (c.in_ok-then.ensures.builds []).made.grew.keeps (c.in_ok-bit.ensures.bit (context_for g.D.Device.table c.args.scope.now) (is_context g.D.Device.table c.args.scope.now)).0,
+  c.in_ok-then.ensures.bit.0,
+)

@@ -1,0 +1,107 @@
+-- Walks over statements, part by part.
+use Rattle.std.proofs.Common.{◌≡◌, Option, None, Some, List, [], ◌∷◌, ◌++◌, refl, sym, ap, ap₂, ◌∙◌, subst, append-nil}
+use Rattle.pld_base.specs.declared.place.Place.{Place}
+use Rattle.bit_expr.specs.Formulas.{Formula}
+use Rattle.abel_tree.specs.Tree.{Tree, Statement, AnAssign, AWhen, AGroup, ADontCare, Otherwise, NoElse, AnElse, Statements, NoStatement, MoreStatements, statements_of}
+use Rattle.abel_meaning.specs.Contributions as meant
+use Rattle.abel_meaning.specs.Contributions.{guarded}
+use Rattle.abel_meaning.specs.CountedNodes.{choice_nodes, condition_of, guard_then, guard_else, has_else}
+use Rattle.abel_meaning.specs.Designs.{Context}
+use Rattle.abel_meaning.specs.FormulaBits.{formulas}
+use Rattle.abel_meaning.specs.Statements.{statement_gives, else_gives, statements_give}
+use Rattle.set_expr.specs.declared.fault.SectionFault.{SectionFault}
+use Rattle.section_targets.specs.declared.manner.Manner.{Manner}
+use Rattle.section_targets.specs.declared.walked.Walked.{Walked}
+use Rattle.section_targets.specs.Units.{units_refused}
+use Rattle.section_targets.specs.Walking.{Walks}
+use Rattle.section_targets.proofs.Built.{refused_append}
+use Rattle.section_targets.proofs.WalksBehind.{walks_then, walks_alike}
+use Rattle.equations.specs.Builds.{condition_unit}
+use Rattle.equations.specs.StatementUnits.{condition_refused, units_of_statement, units_of_else, units_of_statements, statement_manners, else_manners, statements_manners, statement_places, else_places, statements_places}
+use Rattle.equations.proofs.BuiltUnits.{gives_append, places_append}
+use Rattle.equations.proofs.CheckedUnits.{units_more, manners_more}
+
+-- what a walk over a statement under a guard of formulas leaves
+abbrev pub Under : Context → List Manner → meant.Guard Formula → Statement → (old new : Walked) → Type 0
+Under d all g s old new =
+    Walks all (units_of_statement d g.holds all s) (statement_gives (formulas d) d g s) (statement_places d s) (statement_manners d s) old new
+
+abbrev pub ElseUnder : Context → List Manner → meant.Guard Formula → Otherwise → (old new : Walked) → Type 0
+ElseUnder d all g o old new =
+    Walks all (units_of_else d g.holds all o) (else_gives (formulas d) d g o) (else_places d o) (else_manners d o) old new
+
+abbrev pub AllUnder : Context → List Manner → meant.Guard Formula → Statements → (old new : Walked) → Type 0
+AllUnder d all g ss old new =
+    Walks all (units_of_statements d g.holds all ss) (statements_give (formulas d) d g ss) (statements_places d ss) (statements_manners d ss) old new
+
+-- ---- refusals don't depend on the guard
+
+mutual
+  pub any_guard : (d : Context) (g h : Formula) (all : List Manner) (s : Statement) → units_refused (units_of_statement d g all s) ≡ units_refused (units_of_statement d h all s)
+  any_guard d g h all (AnAssign place complement target sign q value) = refl
+  any_guard d g h all (AWhen place c s other) =
+      ap (λ rs. condition_refused d place c ++ rs)
+      (refused_append (units_of_statement d (guard_then g (condition_of d c)).what all s) (units_of_else d (guard_else g (condition_of d c)).what (all ++ statement_manners d s) other)
+      ∙ ap₂ (λ xs ys. xs ++ ys) (any_guard d (guard_then g (condition_of d c)).what (guard_then h (condition_of d c)).what all s)
+      (any_else d (guard_else g (condition_of d c)).what (guard_else h (condition_of d c)).what (all ++ statement_manners d s) other)
+      ∙ sym (refused_append (units_of_statement d (guard_then h (condition_of d c)).what all s) (units_of_else d (guard_else h (condition_of d c)).what (all ++ statement_manners d s) other)))
+  any_guard d g h all (AGroup ss) = any_guards d g h all ss
+  any_guard d g h all (ADontCare directive) = refl
+
+  pub any_else : (d : Context) (g h : Formula) (all : List Manner) (o : Otherwise) → units_refused (units_of_else d g all o) ≡ units_refused (units_of_else d h all o)
+  any_else d g h all NoElse = refl
+  any_else d g h all (AnElse s) = any_guard d g h all s
+
+  pub any_guards : (d : Context) (g h : Formula) (all : List Manner) (ss : Statements) → units_refused (units_of_statements d g all ss) ≡ units_refused (units_of_statements d h all ss)
+  any_guards d g h all NoStatement = refl
+  any_guards d g h all (MoreStatements s ss) =
+      refused_append (units_of_statement d g all s) (units_of_statements d g (all ++ statement_manners d s) ss)
+      ∙ ap₂ (λ xs ys. xs ++ ys) (any_guard d g h all s) (any_guards d g h (all ++ statement_manners d s) ss)
+      ∙ sym (refused_append (units_of_statement d h all s) (units_of_statements d h (all ++ statement_manners d s) ss))
+
+-- so a guard counts only where nothing was refused before
+pub under_guard : (d : Context) (all : List Manner) (s : Statement) (g h : meant.Guard Formula) (old new : Walked) → (old.fault ≡ None → g ≡ h) → Under d all g s old new → Under d all h s old new
+under_guard d all s g h old new e w = by_fault old.fault refl
+  where
+    by_fault : (f : Option SectionFault) → old.fault ≡ f → Under d all h s old new
+    by_fault None k = subst (λ v. Under d all v s old new) (e k) w
+    by_fault (Some f) k =
+        walks_alike all (statement_manners d s) (units_of_statement d g.holds all s) (units_of_statement d h.holds all s) (statement_gives (formulas d) d g s) (statement_gives (formulas d) d h s) (statement_places d s) (statement_places d s) old new f k (any_guard d g.holds h.holds all s) w
+
+-- ---- WHEN
+
+-- its condition, its statement, and that of its ELSE
+pub when_walks : (d : Context) (all : List Manner) (g : meant.Guard Formula) (p : Place) (c : Tree) (s : Statement) (o : Otherwise) (old mid then new : Walked)
+    → Walks all (condition_unit d p c (choice_nodes d g.holds c (has_else o)) ∷ []) [] [] [] old mid
+    → Under d all (guarded (formulas d) g (condition_of d c)) s mid then
+    → ElseUnder d (all ++ statement_manners d s) (guarded (formulas d) g ((formulas d).not (condition_of d c))) o then new
+    → Under d all g (AWhen p c s o) old new
+when_walks d all g p c s o old mid then new w x y =
+    let k = guarded (formulas d) g (condition_of d c) in
+    let j = guarded (formulas d) g ((formulas d).not (condition_of d c)) in
+    let us = units_of_statement d k.holds all s in
+    let gs = statement_gives (formulas d) d k s in
+    let behind = walks_then all (statement_manners d s) (else_manners d o) us (units_of_else d j.holds (all ++ statement_manners d s) o) gs (else_gives (formulas d) d j o) (statement_places d s) (else_places d o) mid then new x y in
+    walks_then all [] (statement_manners d s ++ else_manners d o) (condition_unit d p c (choice_nodes d g.holds c (has_else o)) ∷ []) (us ++ units_of_else d j.holds (all ++ statement_manners d s) o) [] (gs ++ else_gives (formulas d) d j o) [] (statement_places d s ++ else_places d o) old mid new w
+    (subst (λ ms. Walks ms (us ++ units_of_else d j.holds (all ++ statement_manners d s) o) (gs ++ else_gives (formulas d) d j o) (statement_places d s ++ else_places d o) (statement_manners d s ++ else_manners d o) mid new) (sym (append-nil all)) behind)
+
+-- ---- lists
+
+-- one statement more
+pub more_walked : (d : Context) (all : List Manner) (g : meant.Guard Formula) (ss ts : List Statement) (s : Statement) (old mid new : Walked) → ts ≡ ss ++ s ∷ []
+    → AllUnder d all g (statements_of ss) old mid → Under d (all ++ statements_manners d (statements_of ss)) g s mid new → AllUnder d all g (statements_of ts) old new
+more_walked d all g ss ts s old mid new e w x =
+    let before = all ++ statements_manners d (statements_of ss) in
+    let us = units_of_statements d g.holds all (statements_of ss) ++ units_of_statement d g.holds before s in
+    let gs = statements_give (formulas d) d g (statements_of ss) ++ statement_gives (formulas d) d g s in
+    let ps = statements_places d (statements_of ss) ++ statement_places d s in
+    let ms = statements_manners d (statements_of ss) ++ statement_manners d s in
+    let u = ap (λ xs. units_of_statements d g.holds all (statements_of xs)) e ∙ units_more d g.holds all ss s in
+    let v = ap (λ xs. statements_give (formulas d) d g (statements_of xs)) e ∙ gives_append d g ss (s ∷ []) ∙ ap (λ xs. statements_give (formulas d) d g (statements_of ss) ++ xs) (append-nil (statement_gives (formulas d) d g s)) in
+    let p = ap (λ xs. statements_places d (statements_of xs)) e ∙ places_append d ss (s ∷ []) ∙ ap (λ xs. statements_places d (statements_of ss) ++ xs) (append-nil (statement_places d s)) in
+    let m = ap (λ xs. statements_manners d (statements_of xs)) e ∙ manners_more d ss s in
+    subst (λ xs. Walks all xs (statements_give (formulas d) d g (statements_of ts)) (statements_places d (statements_of ts)) (statements_manners d (statements_of ts)) old new) (sym u)
+    (subst (λ xs. Walks all us xs (statements_places d (statements_of ts)) (statements_manners d (statements_of ts)) old new) (sym v)
+    (subst (λ xs. Walks all us gs xs (statements_manners d (statements_of ts)) old new) (sym p)
+    (subst (λ xs. Walks all us gs ps xs old new) (sym m)
+    (walks_then all (statements_manners d (statements_of ss)) (statement_manners d s) (units_of_statements d g.holds all (statements_of ss)) (units_of_statement d g.holds before s) (statements_give (formulas d) d g (statements_of ss)) (statement_gives (formulas d) d g s) (statements_places d (statements_of ss)) (statement_places d s) old mid new w x))))

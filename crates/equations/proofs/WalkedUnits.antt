@@ -1,0 +1,67 @@
+-- The walk over one unit that assigns no signal.
+use Rattle.std.proofs.Common.{◌≡◌, ℕ, false, true, Option, None, Some, List, [], ◌∷◌, ◌++◌, Result, Err, refl, sym, ap, ◌∙◌, subst, subst₂, append-nil}
+use Rattle.std.specs.Option.{is_some}
+use Rattle.pld_base.specs.declared.place.Place.{Place}
+use Rattle.bit_expr.specs.Formulas.{Formula}
+use Rattle.abel_tree.specs.FirstRefusal.{earlier, first_refusal}
+use Rattle.abel_tree.proofs.FirstRefusals.{none_refused}
+use Rattle.abel_meaning.specs.Contributions as meant
+use Rattle.set_expr.specs.declared.fault.SectionFault.{SectionFault}
+use Rattle.set_expr.specs.declared.fault.SectionFault.TheVariants as fault
+use Rattle.set_expr.specs.SectionOrder.{section_order}
+use Rattle.section_targets.specs.declared.manner.Manner.{Manner}
+use Rattle.section_targets.specs.declared.walked.Walked.{Walked}
+use Rattle.section_targets.specs.Building.{Builds}
+use Rattle.section_targets.specs.Manners.{AreFirsts}
+use Rattle.section_targets.specs.Units.{CountedUnit, part}
+use Rattle.section_targets.specs.Walking.{AfterMaking, Walks, standing}
+use Rattle.section_targets.proofs.WalksBehind.{both_clear, walks_made, walks_refused}
+use Rattle.equations.proofs.BuiltParts.{accepted_whole, whole}
+
+-- how signals were assigned doesn't change
+still : (all : List Manner) (old new : Walked) → new.before ≡ old.before → AreFirsts old.before all → AreFirsts new.before (all ++ [])
+still all old new e a = subst (λ ms. AreFirsts ms (all ++ [])) (sym e) (subst (AreFirsts old.before) (sym (append-nil all)) a)
+
+-- one that is refused, or stands behind what is
+pub unit_refused : (all : List Manner) (u : CountedUnit) (gs : List (meant.Contribution Formula)) (ps : List Place) (f : Option SectionFault) (old new : Walked)
+    → f ≡ first_refusal section_order u.refusals → new ≡ record old { fault = earlier section_order old.fault f } → is_some new.fault ≡ true → AreFirsts old.before all
+    → Walks all (u ∷ []) gs ps [] old new
+unit_refused all u gs ps f old new e k s a =
+    walks_refused all [] u gs ps f old new (e ∙ ap (first_refusal section_order) (sym (append-nil u.refusals))) (ap (λ (w : Walked). w.fault) k) s (ap (λ (w : Walked). w.exprs) k)
+    (still all old new (ap (λ (w : Walked). w.before) k) a)
+
+-- where nothing is refused so far
+pub unit_clear : (rs : List SectionFault) (f : Option SectionFault) (old kept : Walked)
+    → f ≡ first_refusal section_order rs → kept ≡ record old { fault = earlier section_order old.fault f } → is_some kept.fault ≡ false
+    → (old.fault ≡ None) × ((f ≡ None) × (rs ≡ []))
+unit_clear rs f old kept e k s =
+    let c = both_clear old.fault f (sym (ap (λ (w : Walked). is_some w.fault) k) ∙ s) in
+    (c.0, (c.1, none_refused section_order rs (sym c.1 ∙ e)))
+
+-- one that is made
+pub unit_made : (all : List Manner) (p : Place) (rs : List SectionFault) (n : ℕ) (gs : List (meant.Contribution Formula)) (ps : List Place) (f : Option SectionFault) (old kept made new : Walked) (r : Result Unit SectionFault)
+    → f ≡ first_refusal section_order rs → kept ≡ record old { fault = earlier section_order old.fault f } → is_some kept.fault ≡ false → AreFirsts old.before all
+    → made.fault ≡ kept.fault → made.before ≡ kept.before → Builds (part p n ∷ []) gs ps (standing old) (standing made) r → AfterMaking r made new
+    → Walks all (whole p rs n ∷ []) gs ps [] old new
+unit_made all p rs n gs ps f old kept made new r e k s a mf mb b m =
+    let c = unit_clear rs f old kept e k s in
+    walks_made all [] (whole p rs n ∷ []) gs ps old made new r c.0
+    (mf ∙ ap (λ (w : Walked). w.fault) k ∙ subst₂ (λ x i. earlier section_order x i ≡ None) (sym c.0) (sym c.1.0) refl) (append-nil rs ∙ c.1.1)
+    (still all old made (mb ∙ ap (λ (w : Walked). w.before) k) a) (accepted_whole p rs n gs ps (standing old) (standing made) r c.1.1 b) m
+
+never : (f : SectionFault) → ◌≡◌ {A = Option SectionFault} (Some f) None → ⊥
+never f e = cc
+
+-- where making a unit failed, something is refused
+pub limit_kept : (f : SectionFault) (made new : Walked) → AfterMaking (Err f) made new → new.fault ≡ None → ⊥
+limit_kept fault.OutOfMemory made new k e = k
+limit_kept (fault.NodeLimit p) made new k e = never (fault.NodeLimit p) (sym (ap (λ (w : Walked). w.fault) k) ∙ e)
+limit_kept (fault.MisplacedSpecial p) made new k e = never (fault.MisplacedSpecial p) (sym (ap (λ (w : Walked). w.fault) k) ∙ e)
+limit_kept (fault.NotConstant p) made new k e = never (fault.NotConstant p) (sym (ap (λ (w : Walked). w.fault) k) ∙ e)
+limit_kept (fault.ZeroDivisor p) made new k e = never (fault.ZeroDivisor p) (sym (ap (λ (w : Walked). w.fault) k) ∙ e)
+limit_kept (fault.BadWidth p) made new k e = never (fault.BadWidth p) (sym (ap (λ (w : Walked). w.fault) k) ∙ e)
+limit_kept (fault.NotAnOutput p s) made new k e = never (fault.NotAnOutput p s) (sym (ap (λ (w : Walked). w.fault) k) ∙ e)
+limit_kept (fault.MixedAssignment p s) made new k e = never (fault.MixedAssignment p s) (sym (ap (λ (w : Walked). w.fault) k) ∙ e)
+limit_kept (fault.BadRow p) made new k e = never (fault.BadRow p) (sym (ap (λ (w : Walked). w.fault) k) ∙ e)
+limit_kept (fault.BadState p) made new k e = never (fault.BadState p) (sym (ap (λ (w : Walked). w.fault) k) ∙ e)
+limit_kept (fault.BadVector p) made new k e = never (fault.BadVector p) (sym (ap (λ (w : Walked). w.fault) k) ∙ e)

@@ -1,0 +1,54 @@
+-- What a walk over statements under a guard leaves (ABEL-HDL Reference Manual, equations and WHEN-THEN-ELSE).
+use Rattle.std.specs.Prelude.{◌≡◌, ◌<◌, Bool, true, None, List, [], ◌∷◌, length}
+use Rattle.pld_base.specs.declared.place.Place.{Place}
+use Rattle.pld_device.specs.Table.{Table}
+use Rattle.bit_expr.specs.declared.node.ExprId.{ExprId}
+use Rattle.bit_expr.specs.Arena.{arena, formula_at}
+use Rattle.abel_tree.specs.declared.names.Names.{Names}
+use Rattle.abel_tree.specs.Tree.{Tree, Statement, Statements}
+use Rattle.abel_meaning.specs.CountedNodes.{condition_of, choice_nodes, guard_then, guard_else}
+use Rattle.abel_meaning.specs.FormulaBits.{formulas}
+use Rattle.abel_meaning.specs.Statements.{statement_gives, statements_give}
+use Rattle.set_expr.specs.declared.contributions.Guard.{Guard}
+use Rattle.set_expr.specs.Given.{view_guard}
+use Rattle.section_targets.specs.declared.manner.Manner.{Manner}
+use Rattle.section_targets.specs.declared.walked.Walked.{Walked}
+use Rattle.section_targets.specs.Contexts.{context_for}
+use Rattle.section_targets.specs.Manners.{AreFirsts}
+use Rattle.section_targets.specs.Walking.{Walks}
+use Rattle.equations.specs.declared.choices.BothGuards.{BothGuards}
+use Rattle.equations.specs.Builds.{condition_unit}
+use Rattle.equations.specs.StatementUnits.{units_of_statement, units_of_statements, statement_manners, statements_manners, statement_places, statements_places}
+
+-- a statement behind what was walked before
+abbrev pub WalksStatement : Table → Names → Guard → Statement → (old new : Walked) → Type 0
+WalksStatement t n g s old new =
+    (all : List Manner) → AreFirsts old.before all
+    → Walks all (units_of_statement (context_for t n) (formula_at (arena old.exprs) g.when) all s)
+    (statement_gives (formulas (context_for t n)) (context_for t n) (view_guard (arena old.exprs) g) s)
+    (statement_places (context_for t n) s) (statement_manners (context_for t n) s) old new
+
+-- statements one after another
+abbrev pub WalksStatements : Table → Names → Guard → Statements → (old new : Walked) → Type 0
+WalksStatements t n g ss old new =
+    (all : List Manner) → AreFirsts old.before all
+    → Walks all (units_of_statements (context_for t n) (formula_at (arena old.exprs) g.when) all ss)
+    (statements_give (formulas (context_for t n)) (context_for t n) (view_guard (arena old.exprs) g) ss)
+    (statements_places (context_for t n) ss) (statements_manners (context_for t n) ss) old new
+
+-- a condition as a unit at its place, with an ELSE or without one
+abbrev pub WalksCondition : Table → Names → (guard : ExprId) → Place → Tree → (other : Bool) → (old new : Walked) → Type 0
+WalksCondition t n g p c other old new =
+    (all : List Manner) → AreFirsts old.before all
+    → Walks all
+    (condition_unit (context_for t n) p c (choice_nodes (context_for t n) (formula_at (arena old.exprs) g) c other) ∷ [])
+    [] [] [] old new
+
+-- the guards of what stands under a condition and of its ELSE, where nothing is refused
+pub record AreBothGuards (t : Table) (n : Names) (g : ExprId) (c : Tree) (other : Bool) (old new : Walked) (gs : BothGuards) : Type 0 where
+  pub then_inside : gs.then.0 < length (arena new.exprs)
+  pub else_inside : gs.otherwise.0 < length (arena new.exprs)
+  pub then : new.fault ≡ None
+      → formula_at (arena new.exprs) gs.then ≡ (guard_then (formula_at (arena old.exprs) g) (condition_of (context_for t n) c)).what
+  pub otherwise : new.fault ≡ None → other ≡ true
+      → formula_at (arena new.exprs) gs.otherwise ≡ (guard_else (formula_at (arena old.exprs) g) (condition_of (context_for t n) c)).what
