@@ -15,6 +15,7 @@ pub mod ReadLaws
 mod RowExamples
 pub mod RowLaws
 pub mod RowWorks
+pub mod RowsWalked
 pub mod SignalLaws
 mod TableExamples
 pub mod TableWorks

@@ -1,20 +1,16 @@
 -- What rows make and give, and a whole table.
-use Rattle.std.proofs.Common.{◌≡◌, ℕ, zero, suc, ◌+◌, ◌<◌, ◌≤◌, Bool, true, false, Option, None, Some, List, [], ◌∷◌, ◌++◌, Result, length, map, reverse, drop, get_or, refl, sym, ap, ap₂, ◌∙◌, subst, arith, add-one}
-use Rattle.std.proofs.Math.Seq.{drop-cons}
+use Rattle.std.proofs.Common.{◌≡◌, ℕ, ◌+◌, ◌≤◌, Bool, true, false, Option, None, Some, List, [], ◌∷◌, ◌++◌, Result, length, reverse, refl, sym, ap, ap₂, ◌∙◌, subst, arith}
 use Rattle.pld_base.specs.declared.place.Place.{Place}
 use Rattle.bit_expr.specs.declared.node.ExprId.{ExprId}
-use Rattle.bit_expr.specs.declared.node.Node.{Node}
 use Rattle.bit_expr.specs.Arena.{arena, formula_at}
 use Rattle.bit_expr.specs.Folding.{Made, make_and, make_not}
 use Rattle.bit_expr.specs.Formulas.{Formula, Const}
-use Rattle.abel_tree.specs.declared.tables.Row.{Row}
 use Rattle.abel_tree.specs.declared.tables.Table.{Table}
-use Rattle.abel_tree.specs.FirstRefusal.{first_refusal}
 use Rattle.abel_tree.proofs.FirstRefusals.{none_refused}
 use Rattle.abel_tree.specs.Tree.{RowTree}
-use Rattle.abel_tree.specs.View.{view, view_row}
+use Rattle.abel_tree.specs.View.{view}
 use Rattle.abel_meaning.specs.Contributions as meant
-use Rattle.abel_meaning.specs.CountedBlocks.{row_literals, row_nodes, rows_units}
+use Rattle.abel_meaning.specs.CountedBlocks.{row_literals, rows_units}
 use Rattle.abel_meaning.specs.Designs.{Context}
 use Rattle.abel_meaning.specs.FormulaBits.{formulas}
 use Rattle.abel_meaning.specs.Numbers.{width_of}
@@ -23,7 +19,6 @@ use Rattle.abel_meaning.specs.Tables.{agrees, outputs_given, rows_give}
 use Rattle.abel_meaning.specs.Targets.{targets_of}
 use Rattle.abel_meaning.specs.Terms.{Term, term_of}
 use Rattle.abel_meaning.specs.Values.{constant_of}
-use Rattle.set_expr.specs.declared.contributions.Contribution.{Contribution}
 use Rattle.set_expr.specs.declared.contributions.Contributions.{Contributions}
 use Rattle.set_expr.specs.declared.contributions.Guard.{Guard}
 use Rattle.set_expr.specs.declared.fault.SectionFault.{SectionFault}
@@ -31,14 +26,10 @@ use Rattle.set_expr.specs.Answer.{Keeps, AreIn, bits_at, unknown_at}
 use Rattle.set_expr.specs.Given.{view_guard}
 use Rattle.set_expr.specs.SectionOrder.{section_order}
 use Rattle.section_targets.specs.declared.aim.Aim.{Aim}
-use Rattle.section_targets.specs.Building.{AtRefusal, stop_of, StopsWith, IsBuilt, Builds}
+use Rattle.section_targets.specs.Building.{IsBuilt, Builds}
 use Rattle.section_targets.specs.Units.{part}
 use Rattle.section_targets.proofs.Built.{builds_then, kept_formula}
-use Rattle.section_targets.proofs.Gives.{stops_nodes}
 use Rattle.section_targets.proofs.OneUnit.{one_unit}
-use Rattle.section_targets.proofs.Parts.{leaves_nodes}
-use Rattle.equations.proofs.BuiltParts.{refused_whole}
-use Rattle.equations.proofs.BuiltUnits.{at}
 use Rattle.truth_tables.specs.TableUnits.{row_places, row_refused, row_units, rows_places}
 use Rattle.truth_tables.specs.declared.checked_rows.RowFound.{RowFound}
 use Rattle.truth_tables.specs.RowLevels.{IsRow}
@@ -46,9 +37,9 @@ use Rattle.truth_tables.specs.declared.giving.Assigning.{Assigning}
 use Rattle.truth_tables.specs.Gives.{matched_guard, signals_of}
 use Rattle.truth_tables.specs.Products.{StandForInputs, header_literals, literals}
 use Rattle.truth_tables.specs.Rows.{found_work, product_work, row_work, rows_work, NamesOutputs}
-use Rattle.truth_tables.specs.Works.{Work, before, nothing}
+use Rattle.truth_tables.specs.Works.{Work, before}
 use Rattle.truth_tables.proofs.ProductLaws.{in_longer}
-use Rattle.truth_tables.proofs.WorkLaws.{DoesWork}
+use Rattle.truth_tables.proofs.WorkLaws.{DoesWork, before_none, before_assoc}
 
 -- ---- products
 
@@ -141,32 +132,20 @@ row_built d fs guard t xs ps row f old new r names i e s b =
     (subst (λ (x : Made Formula). DoesWork (product_work d (view_guard fs guard) m 0 x xs f) old new r) (sym (s.same f.inputs))
     (subst (λ n. DoesWork (found_work d (view_guard fs guard) m n made.what xs f) old new r) counted b))
 
--- a row of which something is refused
-pub row_stops : (d : Context) (g : meant.Guard Formula) (t : Table) (xs : List (Option Aim)) (n : ℕ) (row : RowTree) (f : RowFound) (x y : SectionFault) (ns : List Node) (list : List Contribution)
-    → IsRow d t.clocked (term_of d.known (view t.inputs)) (term_of d.known (view t.outputs)) row f → f.fault ≡ Some x → stop_of y ≡ AtRefusal
-    → StopsWith (row_work d g t xs n row).units (row_work d g t xs n row).gives (row_work d g t xs n row).places (at ns list) (at ns list) y
-row_stops d g t xs n row f x y ns list r e s =
-    let w = row_work d g t xs n row in
-    let rs = row_refused d t.clocked (term_of d.known (view t.inputs)) (term_of d.known (view t.outputs)) row in
-    stops_nodes w.units w.gives w.places (at ns list) (at ns list) y (
-      refused_whole row.place rs (n + row_nodes d (term_of d.known (view t.inputs)) row) (length (arena ns)) (stop_of y) s (λ z. none_some x (sym (ap (first_refusal section_order) z) ∙ sym r.fault ∙ e)),
-      leaves_nodes ns ns list (λ i f e. e),
-    )
+-- rows give the same over any arena
+pub rows_any : (d : Context) (fs hs : List Formula) (g : Guard) (t : Table) (xs : List (Option Aim)) (n : ℕ) (rows : List RowTree) → rows_work d (view_guard fs g) t xs n rows ≡ rows_work d (view_guard hs g) t xs n rows
+rows_any d fs hs g t xs n [] = refl
+rows_any d fs hs g t xs n (row ∷ rows) = ap (before (row_work d (view_guard fs g) t xs n row)) (rows_any d fs hs g t xs 0 rows)
+
+-- one row more
+pub rows_more : (d : Context) (g : meant.Guard Formula) (t : Table) (xs : List (Option Aim)) (rows more : List RowTree) (row : RowTree) → more ≡ rows ++ row ∷ [] → rows_work d g t xs 0 more ≡ before (rows_work d g t xs 0 rows) (row_work d g t xs 0 row)
+rows_more d g t xs rows more row e = ap (rows_work d g t xs 0) e ∙ by_rows rows
   where
-    none_some : (x : SectionFault) → None ≡ Some x → ⊥
-    none_some x e = absurd cc
-
--- rows from one on
-pub rows_next : (d : Context) (g : meant.Guard Formula) (t : Table) (xs : List (Option Aim)) (i : ℕ) (rows : List Row) (row : Row) → i < length rows → row ≡ get_or rows i row
-    → rows_work d g t xs 0 (map view_row (drop i rows)) ≡ before (row_work d g t xs 0 (view_row row)) (rows_work d g t xs 0 (map view_row (drop (i + 1) rows)))
-rows_next d g t xs i rows row lt is =
-    ap (λ rs. rows_work d g t xs 0 (map view_row rs)) (drop-cons rows i row lt ∙ ap₂ (λ r rs. r ∷ rs) (sym is) (ap (λ n. drop n rows) (sym (add-one i))))
-
-pub rows_left : (d : Context) (g : meant.Guard Formula) (t : Table) (xs : List (Option Aim)) (i : ℕ) (rows : List Row) → length rows ≤ i → rows_work d g t xs 0 (map view_row (drop i rows)) ≡ nothing
-rows_left d g t xs zero [] e = refl
-rows_left d g t xs zero (r ∷ rows) e = absurd (omega (arith, e))
-rows_left d g t xs (suc i) [] e = refl
-rows_left d g t xs (suc i) (r ∷ rows) e = rows_left d g t xs i rows (omega (arith, e))
+    by_rows : (rs : List RowTree) → rows_work d g t xs 0 (rs ++ row ∷ []) ≡ before (rows_work d g t xs 0 rs) (row_work d g t xs 0 row)
+    by_rows [] = before_none (row_work d g t xs 0 row)
+    by_rows (r ∷ rs) =
+        ap (before (row_work d g t xs 0 r)) (by_rows rs)
+        ∙ sym (before_assoc (row_work d g t xs 0 r) (rows_work d g t xs 0 rs) (row_work d g t xs 0 row))
 
 -- ---- all rows
 

@@ -1,13 +1,10 @@
 -- What a whole table makes and gives, behind its header.
-use Rattle.std.proofs.Common.{◌≡◌, ℕ, false, None, Some, Option, List, [], ◌∷◌, ◌++◌, Result, length, map, refl, sym, ap, ap₂, ◌∙◌, subst}
+use Rattle.std.proofs.Common.{◌≡◌, false, None, Option, List, [], ◌∷◌, ◌++◌, map, refl, sym, ap, ap₂, ◌∙◌, subst}
 use Rattle.pld_base.specs.declared.place.Place.{Place}
-use Rattle.bit_expr.specs.declared.node.Node.{Node}
-use Rattle.bit_expr.specs.Arena.{arena}
 use Rattle.bit_expr.specs.Formulas.{Formula}
 use Rattle.abel_tree.specs.declared.tables.Table.{Table}
 use Rattle.abel_tree.specs.FirstRefusal.{first_refusal}
 use Rattle.abel_tree.proofs.FirstRefusals.{none_refused}
-use Rattle.abel_tree.specs.Tree.{RowTree}
 use Rattle.abel_tree.specs.View.{view, view_row}
 use Rattle.abel_meaning.specs.Contributions as meant
 use Rattle.abel_meaning.specs.CountedBlocks.{table_units}
@@ -16,8 +13,6 @@ use Rattle.abel_meaning.specs.Designs.{Context}
 use Rattle.abel_meaning.specs.FormulaBits.{formulas}
 use Rattle.abel_meaning.specs.Tables.{no_matches}
 use Rattle.abel_meaning.specs.Terms.{term_of}
-use Rattle.set_expr.specs.declared.contributions.Contribution.{Contribution}
-use Rattle.set_expr.specs.declared.contributions.Contributions.{Contributions}
 use Rattle.set_expr.specs.declared.contributions.Guard.{Guard}
 use Rattle.set_expr.specs.declared.fault.SectionFault.{SectionFault}
 use Rattle.set_expr.specs.FoundNames.{expression_found}
@@ -25,28 +20,16 @@ use Rattle.set_expr.specs.Given.{view_guard}
 use Rattle.set_expr.specs.SectionOrder.{section_order}
 use Rattle.section_targets.specs.declared.aim.Aim.{Aim}
 use Rattle.section_targets.specs.declared.manner.Manner.{Manner}
-use Rattle.section_targets.specs.Building.{AtRefusal, stop_of, StopsWith, Builds}
 use Rattle.section_targets.specs.Units.{CountedUnit}
 use Rattle.section_targets.proofs.Built.{left_empty, right_empty}
-use Rattle.section_targets.proofs.Gives.{stops_nodes}
-use Rattle.section_targets.proofs.Parts.{leaves_nodes}
 use Rattle.truth_tables.specs.OutputHeaders.{output_header}
 use Rattle.truth_tables.specs.TableUnits.{header_refused, if_none, outputs_refused, places_of, row_units, rows_places, some_aims, units_behind}
-use Rattle.truth_tables.specs.Checks.{units_of}
-use Rattle.equations.proofs.BuiltParts.{refused_whole}
-use Rattle.equations.proofs.BuiltUnits.{at}
 use Rattle.truth_tables.specs.Gives.{signals_of}
-use Rattle.truth_tables.specs.Rows.{NamesOutputs, row_work, rows_work}
-use Rattle.truth_tables.specs.TableAnswers.{given_by, places_by}
-use Rattle.truth_tables.specs.Works.{before, given_freely}
+use Rattle.truth_tables.specs.Rows.{NamesOutputs, rows_work}
+use Rattle.truth_tables.specs.TableWalks.{given_by, places_by, units_of}
+use Rattle.truth_tables.specs.Works.{before}
 use Rattle.truth_tables.proofs.OutputPositions.{header_signals}
 use Rattle.truth_tables.proofs.RowWorks.{rows_gives_of, rows_places_of, rows_units_of}
-use Rattle.truth_tables.proofs.WorkLaws.{DoesWork}
-
--- rows give the same over any arena
-pub rows_any : (d : Context) (fs hs : List Formula) (g : Guard) (t : Table) (xs : List (Option Aim)) (n : ℕ) (rows : List RowTree) → rows_work d (view_guard fs g) t xs n rows ≡ rows_work d (view_guard hs g) t xs n rows
-rows_any d fs hs g t xs n [] = refl
-rows_any d fs hs g t xs n (row ∷ rows) = ap (before (row_work d (view_guard fs g) t xs n row)) (rows_any d fs hs g t xs 0 rows)
 
 -- a header of which nothing is refused
 pub inputs_clear : (d : Context) (before : List Manner) (t : Table) → None ≡ first_refusal section_order (header_refused d before t.clocked (view t.inputs) (view t.outputs)) → (expression_found d.names (view t.inputs)).refusals ≡ []
@@ -66,22 +49,14 @@ outputs_named d before t xs h e =
     (none_refused section_order (header_refused d before t.clocked (view t.inputs) (view t.outputs)) e)))
     ∙ ap signals_of (sym h)
 
--- a refused header
-pub header_stops : (rs : List SectionFault) (p : Place) (us : List CountedUnit) (gs : List (meant.Contribution Formula)) (ps : List Place) (x y : SectionFault) (ns : List Node) (list : List Contribution) → Some x ≡ first_refusal section_order rs → stop_of y ≡ AtRefusal
-    → StopsWith (units_behind rs p us) gs ps (at ns list) (at ns list) y
-header_stops [] p us gs ps x y ns list e s = absurd cc
-header_stops (r ∷ rs) p us gs ps x y ns list e s =
-    stops_nodes (record { place = p; refusals = r ∷ rs; nodes = 0 } ∷ []) gs ps (at ns list) (at ns list) y (
-      refused_whole p (r ∷ rs) 0 (length (arena ns)) (stop_of y) s (λ z. absurd cc),
-      leaves_nodes ns ns list (λ i f e. e),
-    )
-
 -- the works of a table are its units, and what it gives
-pub table_built : (d : Context) (all : List Manner) (fs : List Formula) (g : Guard) (t : Table) (xs : List (Option Aim)) (old new : Contributions) (r : Result Unit SectionFault) → NamesOutputs d t xs → xs ≡ (output_header d (view t.outputs)).outputs
+pub table_works : (P : List CountedUnit → List (meant.Contribution Formula) → List Place → Type 0) (d : Context) (all : List Manner) (fs : List Formula) (g : Guard) (t : Table) (xs : List (Option Aim)) → NamesOutputs d t xs → xs ≡ (output_header d (view t.outputs)).outputs
     → None ≡ first_refusal section_order (header_refused d all t.clocked (view t.inputs) (view t.outputs))
-    → DoesWork (before (given_freely (no_matches (formulas d) d (view_guard fs g) false t.clocked (signals_of xs)) (places_of (some_aims xs))) (rows_work d (view_guard fs g) t xs (term_nodes d (view t.inputs)) (map view_row t.rows))) old new r
-    → Builds (units_of d all t) (given_by d g t fs) (places_by d t) old new r
-table_built d all fs g t xs old new r names outputs e b =
+    → P (rows_work d (view_guard fs g) t xs (term_nodes d (view t.inputs)) (map view_row t.rows)).units
+    (no_matches (formulas d) d (view_guard fs g) false t.clocked (signals_of xs) ++ (rows_work d (view_guard fs g) t xs (term_nodes d (view t.inputs)) (map view_row t.rows)).gives)
+    (places_of (some_aims xs) ++ (rows_work d (view_guard fs g) t xs (term_nodes d (view t.inputs)) (map view_row t.rows)).places)
+    → P (units_of d all t) (given_by d g t fs) (places_by d t)
+table_works P d all fs g t xs names outputs e b =
     let n = term_nodes d (view t.inputs) in
     let i = term_of d.known (view t.inputs) in
     let o = term_of d.known (view t.outputs) in
@@ -92,6 +67,6 @@ table_built d all fs g t xs old new r names outputs e b =
     let units : (rows_work d h t xs n rows).units ≡ units_of d all t = rows_units_of d h t xs n rows ∙ sym free in
     let gives = ap₂ (λ ss gs. no_matches (formulas d) d h false t.clocked ss ++ gs) (sym names) (rows_gives_of d h t xs n rows) in
     let places : places_of (some_aims xs) ++ (rows_work d h t xs n rows).places ≡ places_by d t = ap (λ ps. places_of (some_aims xs) ++ ps) (rows_places_of d h t xs n rows) ∙ ap (λ ys. places_of (some_aims ys) ++ rows_places d ys o rows) outputs in
-    subst (λ ps. Builds (units_of d all t) (given_by d g t fs) ps old new r) places
-    (subst (λ gs. Builds (units_of d all t) gs (places_of (some_aims xs) ++ (rows_work d h t xs n rows).places) old new r) gives
-    (subst (λ vs. Builds vs (no_matches (formulas d) d h false t.clocked (signals_of xs) ++ (rows_work d h t xs n rows).gives) (places_of (some_aims xs) ++ (rows_work d h t xs n rows).places) old new r) units b))
+    subst (λ ps. P (units_of d all t) (given_by d g t fs) ps) places
+    (subst (λ gs. P (units_of d all t) gs (places_of (some_aims xs) ++ (rows_work d h t xs n rows).places)) gives
+    (subst (λ vs. P vs (no_matches (formulas d) d h false t.clocked (signals_of xs) ++ (rows_work d h t xs n rows).gives) (places_of (some_aims xs) ++ (rows_work d h t xs n rows).places)) units b))

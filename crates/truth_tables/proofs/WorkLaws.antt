@@ -14,7 +14,7 @@ use Rattle.truth_tables.specs.Works.{Work, before, nothing, IsDone, IsBegun}
 pub before_none : (w : Work) → before w nothing ≡ w
 before_none w = rw (append-nil w.units, append-nil w.gives, append-nil w.places) refl
 
-before_assoc : (u v w : Work) → before (before u v) w ≡ before u (before v w)
+pub before_assoc : (u v w : Work) → before (before u v) w ≡ before u (before v w)
 before_assoc u v w = rw (append_assoc u.units v.units w.units, append_assoc u.gives v.gives w.gives, append_assoc u.places v.places w.places) refl
 
 -- what is left by building a work

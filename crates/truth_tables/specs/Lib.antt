@@ -1,4 +1,3 @@
-pub mod Checks
 pub mod EntryMarks
 pub mod EntryTerms
 pub mod Gives
@@ -10,8 +9,9 @@ pub mod PartTerms
 pub mod Products
 pub mod RowEntries
 pub mod RowLevels
+pub mod RowWalks
 pub mod Rows
 pub mod SignalTerms
-pub mod TableAnswers
 pub mod TableUnits
+pub mod TableWalks
 pub mod Works

@@ -1,5 +1,5 @@
 -- What is found of the rows of a table (ABEL-HDL Reference Manual, truth tables).
-use Rattle.std.specs.Prelude.{◌≡◌, Bool, Option, None, List, [], ◌∷◌, ◌++◌, map}
+use Rattle.std.specs.Prelude.{◌≡◌, Bool, Option, None, List, map}
 use Rattle.abel_tree.specs.FirstRefusal.{first_refusal}
 use Rattle.abel_tree.specs.Tree.{Tree, RowTree}
 use Rattle.abel_meaning.specs.Designs.{Context}
@@ -27,9 +27,3 @@ pub record IsRow (d : Context) (clocked : Bool) (inputs outputs : Term) (row : R
   pub fault : f.fault ≡ first_refusal section_order (row_refused d clocked inputs outputs row)
   pub inputs_given : f.fault ≡ None → f.inputs ≡ entry_levels d inputs (term_of d.known row.inputs)
   pub outputs_given : f.fault ≡ None → f.outputs ≡ entry_levels d outputs (term_of d.known row.outputs)
-
--- what is refused of rows
-abbrev pub rows_refused : Context → (clocked : Bool) → (inputs outputs : Term) → List RowTree → List SectionFault
-rows_refused d clocked inputs outputs [] = []
-rows_refused d clocked inputs outputs (row ∷ rows) =
-    row_refused d clocked inputs outputs row ++ rows_refused d clocked inputs outputs rows

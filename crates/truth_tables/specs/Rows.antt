@@ -1,5 +1,5 @@
--- Private: what is left by building the rows of a table (ABEL-HDL Reference Manual, truth tables).
-use Rattle.std.specs.Prelude.{◌≡◌, ℕ, ◌+◌, true, false, Option, List, [], ◌∷◌, map, Result}
+-- Private: the rows of a table with what they give, and what is left by making a row (ABEL-HDL Reference Manual, truth tables).
+use Rattle.std.specs.Prelude.{◌≡◌, ℕ, ◌+◌, true, Option, List, [], ◌∷◌, Result}
 use Rattle.pld_device.specs.Table as device
 use Rattle.bit_expr.specs.declared.node.ExprId.{ExprId}
 use Rattle.bit_expr.specs.declared.node.Node.{Node}
@@ -7,35 +7,32 @@ use Rattle.bit_expr.specs.Arena.{arena}
 use Rattle.bit_expr.specs.Folding.{Made}
 use Rattle.bit_expr.specs.Formulas.{Formula, Const}
 use Rattle.abel_tree.specs.declared.names.Names.{Names}
-use Rattle.abel_tree.specs.declared.tables.Row.{Row}
 use Rattle.abel_tree.specs.declared.tables.Table.{Table}
 use Rattle.abel_tree.specs.Entries.{entries_of}
 use Rattle.abel_tree.specs.Tree.{Tree, RowTree}
-use Rattle.abel_tree.specs.View.{view, view_row}
+use Rattle.abel_tree.specs.View.{view}
 use Rattle.abel_meaning.specs.Contributions as meant
 use Rattle.abel_meaning.specs.CountedBlocks.{row_nodes}
 use Rattle.abel_meaning.specs.CountedNodes.{term_nodes}
 use Rattle.abel_meaning.specs.Designs.{Context}
 use Rattle.abel_meaning.specs.FormulaBits.{formulas}
 use Rattle.abel_meaning.specs.Rows.{entry_levels}
-use Rattle.abel_meaning.specs.Tables.{no_matches, outputs_given, row_matches}
+use Rattle.abel_meaning.specs.Tables.{outputs_given, row_matches}
 use Rattle.abel_meaning.specs.Targets.{targets_of}
 use Rattle.abel_meaning.specs.Terms.{term_of}
 use Rattle.set_expr.specs.declared.contributions.Contribution.{Contribution}
-use Rattle.set_expr.specs.declared.contributions.Guard.{Guard}
 use Rattle.set_expr.specs.declared.fault.SectionFault.{SectionFault}
 use Rattle.set_expr.specs.Answer.{IsContextOf}
 use Rattle.set_expr.specs.Given.{view_guard}
 use Rattle.section_targets.specs.declared.aim.Aim.{Aim}
 use Rattle.section_targets.specs.Building.{Builds}
 use Rattle.section_targets.specs.Units.{part}
-use Rattle.truth_tables.specs.EntryTerms.{IsOver}
-use Rattle.truth_tables.specs.TableUnits.{places_of, row_places, row_refused, some_aims}
+use Rattle.truth_tables.specs.TableUnits.{row_places, row_refused}
 use Rattle.truth_tables.specs.declared.checked_rows.RowFound.{RowFound}
 use Rattle.truth_tables.specs.declared.giving.Assigning.{Assigning}
 use Rattle.truth_tables.specs.Gives.{signals_of}
-use Rattle.truth_tables.specs.Products.{StandForInputs, header_literals, literals}
-use Rattle.truth_tables.specs.Works.{Work, before, given_freely, nothing}
+use Rattle.truth_tables.specs.Products.{header_literals, literals}
+use Rattle.truth_tables.specs.Works.{Work, before, nothing}
 
 -- what is left by building a work
 abbrev pub Does : {R : Type 0} → Work → (old new : List Node) → (list more : List Contribution) → Result R SectionFault → Type 0
@@ -99,37 +96,3 @@ GivesFirst t n m h xs f old new list more r =
 -- a table names these outputs
 abbrev pub NamesOutputs : Context → Table → List (Option Aim) → Type 0
 NamesOutputs d t xs = targets_of (term_of d.known (view t.outputs)) ≡ signals_of xs
-
-abbrev pub BuildsRow : Names → Guard → Table → List (Option ExprId) → List (Option Aim) → Row → (old new : List Node)
-    → (list more : List Contribution) → Result Unit SectionFault → Type 0
-BuildsRow n g t ps xs row old new list more r =
-    (d : Context) → IsOver n d → StandForInputs d (term_of d.known (view t.inputs)) (arena old) ps → NamesOutputs d t xs
-    → Does (row_work d (view_guard (arena old) g) t xs 0 (view_row row)) old new list more r
-
-abbrev pub BuildsRows : Names → Guard → Table → List (Option ExprId) → List (Option Aim) → List Row → (old new : List Node)
-    → (list more : List Contribution) → Result Unit SectionFault → Type 0
-BuildsRows n g t ps xs rows old new list more r =
-    (d : Context) → IsOver n d → StandForInputs d (term_of d.known (view t.inputs)) (arena old) ps → NamesOutputs d t xs
-    → Does (rows_work d (view_guard (arena old) g) t xs 0 (map view_row rows)) old new list more r
-
-abbrev pub BuildsFirst : {R : Type 0} → device.Table → Names → Guard → Table → List (Option Aim) → Row
-    → (old new : List Node) → (list more : List Contribution) → Result R SectionFault → Type 0
-BuildsFirst v n g t xs row old new list more r =
-    (d : Context) → IsContextOf v n d → NamesOutputs d t xs
-    → Does (row_work d (view_guard (arena old) g) t xs (term_nodes d (view t.inputs)) (view_row row)) old new list more r
-
-abbrev pub BuildsListed : device.Table → Names → Guard → Table → List (Option Aim) → List Row → (old new : List Node)
-    → (list more : List Contribution) → Result Unit SectionFault → Type 0
-BuildsListed v n g t xs rows old new list more r =
-    (d : Context) → IsContextOf v n d → NamesOutputs d t xs
-    → Does (rows_work d (view_guard (arena old) g) t xs (term_nodes d (view t.inputs)) (map view_row rows)) old new list more r
-
--- the rows behind a header that isn't refused
-abbrev pub BuildsAccepted : device.Table → Names → Guard → Table → List (Option Aim) → (old new : List Node)
-    → (list more : List Contribution) → Result Unit SectionFault → Type 0
-BuildsAccepted v n g t xs old new list more r =
-    (d : Context) → IsContextOf v n d → NamesOutputs d t xs
-    → Does (before
-    (given_freely (no_matches (formulas d) d (view_guard (arena old) g) false t.clocked (signals_of xs)) (places_of (some_aims xs)))
-    (rows_work d (view_guard (arena old) g) t xs (term_nodes d (view t.inputs)) (map view_row t.rows)))
-    old new list more r

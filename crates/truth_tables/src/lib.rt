@@ -1,9 +1,7 @@
 //! Truth tables: entries of rows, what is refused, and what the rows contribute.
 #![tactic(auto)]
 
-mod building;
 mod checked_rows;
-mod checking;
 mod entries;
 mod giving;
 mod header;
@@ -21,10 +19,10 @@ mod products;
 mod pulses;
 mod rows;
 mod signals;
+mod tables;
+mod walking;
 
-pub use building::build_table;
 pub use checked_rows::{RowFound, read_row};
-pub use checking::check_table;
 pub use entries::{Entry, read_entry};
 pub use giving::{Assigning, give_output};
 pub use header::{Header, list_aims};
@@ -37,3 +35,4 @@ pub use positions::give_no_matches;
 pub use products::row_product;
 pub use pulses::holds_pulse;
 pub use signals::header_signals;
+pub use tables::walk_table;

@@ -1,5 +1,5 @@
 -- What holds one of them on the way down, and among a set's members.
-use Rattle.std.proofs.Common.{◌≡◌, ◌||◌, ◌+◌, ◌*◌, ◌≤◌, List, map, take}
+use Rattle.std.proofs.Common.{◌≡◌, ◌||◌, ◌+◌, ◌*◌, ◌≤◌, map, take}
 use Rattle.abel_tree.specs.declared.expressions.Expr.{size-Expr}
 use Rattle.abel_tree.specs.declared.expressions.Member.{size-Member}
 use Rattle.abel_tree.specs.Entries.{entries_of}

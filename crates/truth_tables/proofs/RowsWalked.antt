@@ -1,0 +1,171 @@
+-- Walks over the rows of a table, part by part.
+use Rattle.std.proofs.Common.{◌≡◌, ℕ, ◌+◌, ◌<◌, Bool, true, false, Option, None, Some, List, [], ◌∷◌, ◌++◌, if◌then◌else◌, Result, Err, length, refl, sym, ap, ◌∙◌, subst, arith, append-nil}
+use Rattle.std.specs.Option.{is_some}
+use Rattle.pld_base.specs.declared.place.Place.{Place}
+use Rattle.pld_device.specs.Table as device
+use Rattle.bit_expr.specs.Arena.{arena}
+use Rattle.bit_expr.specs.Formulas.{Formula}
+use Rattle.abel_tree.specs.declared.names.Names.{Names}
+use Rattle.abel_tree.specs.declared.tables.Row.{Row}
+use Rattle.abel_tree.specs.declared.tables.Table.{Table}
+use Rattle.abel_tree.specs.FirstRefusal.{earlier, first_refusal, is_before}
+use Rattle.abel_tree.proofs.FirstRefusals.{none_refused}
+use Rattle.abel_tree.specs.Tree.{RowTree}
+use Rattle.abel_tree.specs.View.{view}
+use Rattle.abel_meaning.specs.CountedBlocks.{row_nodes}
+use Rattle.abel_meaning.specs.Contributions as meant
+use Rattle.abel_meaning.specs.Designs.{Context}
+use Rattle.abel_meaning.specs.Terms.{term_of}
+use Rattle.set_expr.specs.declared.fault.SectionFault.{SectionFault}
+use Rattle.set_expr.specs.declared.fault.SectionFault.TheVariants as fault
+use Rattle.set_expr.specs.Answer.{Keeps}
+use Rattle.set_expr.specs.SectionOrder.{section_order}
+use Rattle.section_targets.specs.declared.aim.Aim.{Aim}
+use Rattle.section_targets.specs.declared.manner.Manner.{Manner}
+use Rattle.section_targets.specs.declared.walked.Walked.{Walked}
+use Rattle.section_targets.specs.Contexts.{context_for}
+use Rattle.section_targets.specs.Manners.{AreFirsts}
+use Rattle.section_targets.specs.Units.{CountedUnit, units_refused}
+use Rattle.section_targets.specs.Walking.{AfterMaking, Walks, standing}
+use Rattle.section_targets.proofs.WalksBehind.{both_clear, clear_before, walks_alike, walks_made, walks_none, walks_refused, walks_then}
+use Rattle.equations.proofs.BuiltParts.{whole}
+use Rattle.truth_tables.specs.EntryTerms.{IsOver}
+use Rattle.truth_tables.specs.declared.walking.Headed.{Headed}
+use Rattle.truth_tables.specs.RowWalks.{WalksRows, WalksWork}
+use Rattle.truth_tables.specs.Rows.{row_work}
+use Rattle.truth_tables.specs.TableUnits.{row_refused, units_behind}
+use Rattle.truth_tables.specs.Works.{Work, before, given_freely, nothing}
+use Rattle.truth_tables.proofs.WorkLaws.{DoesWork}
+
+pub is_over : (v : device.Table) (n : Names) → IsOver n (context_for v n)
+is_over v n = record { names = refl; known = refl }
+
+pub no_fault : (f : Option SectionFault) → is_some f ≡ false → f ≡ None
+no_fault None e = refl
+no_fault (Some f) e = absurd cc
+
+pub not_clear : {A : Type 0} (f : Option SectionFault) → is_some f ≡ true → f ≡ None → A
+not_clear None e h = absurd cc
+not_clear (Some f) e h = absurd cc
+
+-- where a refusal is told, something is refused
+pub some_refused : (f : Option SectionFault) (x : SectionFault) → is_some (earlier section_order f (Some x)) ≡ true
+some_refused None x = refl
+some_refused (Some f) x = by_order (is_before section_order x f)
+  where
+    by_order : (b : Bool) → is_some (if b then Some x else Some f) ≡ true
+    by_order true = refl
+    by_order false = refl
+
+-- where a unit passes the limit, something is refused
+pub never_kept : {A : Type 0} (f : SectionFault) (made new : Walked) → AfterMaking (Err f) made new → new.fault ≡ None → A
+never_kept {A = A} f made new k e = by_fault f k
+  where
+    told : (x : SectionFault) → new ≡ record made { fault = Some x } → A
+    told x h = absurd (none_some x (sym (ap (λ (w : Walked). w.fault) h) ∙ e))
+      where
+        none_some : (y : SectionFault) → ◌≡◌ {A = Option SectionFault} (Some y) None → ⊥
+        none_some y i = cc
+
+    by_fault : (x : SectionFault) → AfterMaking (Err x) made new → A
+    by_fault (fault.NodeLimit p) h = told (fault.NodeLimit p) h
+    by_fault fault.OutOfMemory h = absurd h
+    by_fault (fault.MisplacedSpecial p) h = told (fault.MisplacedSpecial p) h
+    by_fault (fault.NotConstant p) h = told (fault.NotConstant p) h
+    by_fault (fault.ZeroDivisor p) h = told (fault.ZeroDivisor p) h
+    by_fault (fault.BadWidth p) h = told (fault.BadWidth p) h
+    by_fault (fault.NotAnOutput p name) h = told (fault.NotAnOutput p name) h
+    by_fault (fault.MixedAssignment p name) h = told (fault.MixedAssignment p name) h
+    by_fault (fault.BadRow p) h = told (fault.BadRow p) h
+    by_fault (fault.BadState p) h = told (fault.BadState p) h
+    by_fault (fault.BadVector p) h = told (fault.BadVector p) h
+
+-- ---- works
+
+pub work_none : (out : Walked) → WalksWork nothing out out
+work_none out = λ all a. walks_none all out a
+
+pub work_then : (v w : Work) (old mid new : Walked) → WalksWork v old mid → WalksWork w mid new → WalksWork (before v w) old new
+work_then v w old mid new a b = λ all x.
+    let front = a all x in
+    walks_then all [] [] v.units w.units v.gives w.gives v.places w.places old mid new front (b (all ++ []) front.manners)
+
+-- nothing was refused before a work of which nothing is refused
+pub work_clear : (w : Work) (old new : Walked) → WalksWork w old new → new.fault ≡ None → old.fault ≡ None
+work_clear w old new a e = clear_before old.fault _ w.units (sym e ∙ (a old.before (λ s p. refl)).fault)
+
+-- the nodes before it stand
+pub work_keeps : (w : Work) (old new : Walked) → WalksWork w old new → Keeps (arena old.exprs) (arena new.exprs)
+work_keeps w old new a = (a old.before (λ s p. refl)).keeps
+
+-- what is given without nodes counts only where nothing is refused
+pub free_refused : (gs : List (meant.Contribution Formula)) (ps : List Place) (out : Walked) → is_some out.fault ≡ true → WalksWork (given_freely gs ps) out out
+free_refused gs ps out e = by_fault out.fault refl e
+  where
+    by_fault : (f : Option SectionFault) → out.fault ≡ f → is_some f ≡ true → WalksWork (given_freely gs ps) out out
+    by_fault None k h = absurd cc
+    by_fault (Some f) k h = λ all a. walks_alike all [] [] [] [] gs [] ps out out f k refl (walks_none all out a)
+
+-- a work of which nothing is refused
+pub work_made : (w : Work) (old made new : Walked) (r : Result Unit SectionFault) → old.fault ≡ None → made.fault ≡ None → units_refused w.units ≡ [] → made.before ≡ old.before
+    → DoesWork w (standing old) (standing made) r → AfterMaking r made new → WalksWork w old new
+work_made w old made new r o m e b h k = λ all a.
+    walks_made all [] w.units w.gives w.places old made new r o m e
+    (subst (λ ms. AreFirsts ms (all ++ [])) (sym b) (subst (AreFirsts old.before) (sym (append-nil all)) a)) h k
+
+-- ---- rows
+
+-- what is left behind the check of a row
+abbrev pub Refused : Walked → Option SectionFault → Walked → Type 0
+Refused old fault now = now ≡ record old { fault = earlier section_order old.fault fault }
+
+abbrev pub IsFound : Context → Table → RowTree → Option SectionFault → Type 0
+IsFound d t row fault =
+    fault ≡ first_refusal section_order (row_refused d t.clocked (term_of d.known (view t.inputs)) (term_of d.known (view t.outputs)) row)
+
+-- a row that is refused, or stands behind what is
+pub row_stands : (d : Context) (g : meant.Guard Formula) (t : Table) (xs : List (Option Aim)) (n : ℕ) (row : RowTree) (fault : Option SectionFault) (old new : Walked)
+    → IsFound d t row fault → Refused old fault new → is_some new.fault ≡ true → WalksWork (row_work d g t xs n row) old new
+row_stands d g t xs n row fault old new e kept s = λ all a.
+    let i = term_of d.known (view t.inputs) in
+    let rs = row_refused d t.clocked i (term_of d.known (view t.outputs)) row in
+    let w = row_work d g t xs n row in
+    walks_refused all [] (whole row.place rs (n + row_nodes d i row)) w.gives w.places fault old new
+    (e ∙ ap (first_refusal section_order) (sym (append-nil rs)))
+    (ap (λ (x : Walked). x.fault) kept) s (ap (λ (x : Walked). x.exprs) kept)
+    (subst (λ (x : Walked). AreFirsts x.before (all ++ [])) (sym kept) (subst (AreFirsts old.before) (sym (append-nil all)) a))
+
+-- a row of which nothing is refused, nor of what stands before it
+pub row_accepted : (fault : Option SectionFault) (old now : Walked) → Refused old fault now → is_some now.fault ≡ false → (old.fault ≡ None) × (fault ≡ None)
+row_accepted fault old now kept e = both_clear old.fault fault (sym (ap (λ (x : Walked). is_some x.fault) kept) ∙ e)
+
+pub row_made : (d : Context) (g : meant.Guard Formula) (t : Table) (xs : List (Option Aim)) (n : ℕ) (row : RowTree) (fault : Option SectionFault) (old now made new : Walked) (r : Result Unit SectionFault)
+    → IsFound d t row fault → Refused old fault now → is_some now.fault ≡ false → made.fault ≡ now.fault → made.before ≡ now.before
+    → DoesWork (row_work d g t xs n row) (standing now) (standing made) r → AfterMaking r made new → WalksWork (row_work d g t xs n row) old new
+row_made d g t xs n row fault old now made new r e kept s f b h k =
+    let rs = row_refused d t.clocked (term_of d.known (view t.inputs)) (term_of d.known (view t.outputs)) row in
+    let clear = row_accepted fault old now kept s in
+    work_made (row_work d g t xs n row) old made new r clear.0 (f ∙ no_fault now.fault s)
+    (append-nil rs ∙ none_refused section_order rs (sym clear.1 ∙ e))
+    (b ∙ ap (λ (x : Walked). x.before) kept)
+    (subst (λ c. DoesWork (row_work d g t xs n row) c (standing made) r) (ap standing kept) h) k
+
+-- no row at all
+pub no_row : (v : device.Table) (n : Names) (h : Headed) (nodes : ℕ) (rows : List Row) (out : Walked) → length rows < 1 → WalksRows v n h nodes rows out out
+no_row v n h nodes [] out e = work_none out
+no_row v n h nodes (row ∷ rows) out e = absurd (omega (arith, e))
+
+-- ---- a header
+
+-- a header that is refused is the one unit
+pub header_stands : (all ms : List Manner) (rs : List SectionFault) (p : Place) (us : List CountedUnit) (gs : List (meant.Contribution Formula)) (ps : List Place) (fault : SectionFault) (old new : Walked)
+    → Some fault ≡ first_refusal section_order rs → new.fault ≡ earlier section_order old.fault (Some fault) → is_some new.fault ≡ true → new.exprs ≡ old.exprs → AreFirsts new.before (all ++ ms)
+    → Walks all (units_behind rs p us) gs ps ms old new
+header_stands all ms [] p us gs ps fault old new e f s x a = absurd cc
+header_stands all ms (r ∷ rs) p us gs ps fault old new e f s x a =
+    walks_refused all ms (whole p (r ∷ rs) 0) gs ps (Some fault) old new (e ∙ ap (first_refusal section_order) (sym (append-nil (r ∷ rs)))) f s x a
+
+-- its manners were noted before the rows
+pub header_noted : (all ms firsts : List Manner) (us : List CountedUnit) (gs : List (meant.Contribution Formula)) (ps : List Place) (old new : Walked) → Walks (all ++ ms) us gs ps [] (record old { before = firsts }) new → Walks all us gs ps ms old new
+header_noted all ms firsts us gs ps old new w =
+    record { keeps = w.keeps; fault = w.fault; manners = subst (AreFirsts new.before) (append-nil (all ++ ms)) w.manners; given = w.given }

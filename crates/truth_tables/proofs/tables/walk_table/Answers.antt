@@ -1,0 +1,80 @@
+-- A table whose header is refused, and one whose header isn't.
+use Rattle.std.proofs.Common.{◌++◌, List, Option, map, refl, sym, ap, ◌∙◌, subst, length}
+use Rattle.std.specs.Option.{is_some}
+use Rattle.std.proofs.lemmas.Result.{on_ok_weaker}
+use Rattle.bit_expr.specs.Arena.{arena}
+use Rattle.abel_tree.specs.declared.names.Names.{Names}
+use Rattle.abel_tree.specs.Entries.{entries_of}
+use Rattle.abel_tree.specs.View.{view, view_row}
+use Rattle.abel_meaning.specs.CountedBlocks.{table_units}
+use Rattle.abel_meaning.specs.Terms.{term_of}
+use Rattle.section_targets.specs.declared.aim.Aim.{Aim}
+use Rattle.section_targets.specs.declared.walked.Walked.{Walked}
+use Rattle.section_targets.specs.Contexts.{context_for}
+use Rattle.section_targets.specs.Given.{AreNamed}
+use Rattle.section_targets.specs.Manners.{AreFirsts}
+use Rattle.section_targets.specs.Walking.{Walks}
+use Rattle.equations.proofs.BuiltParts.{is_context, value_accepted}
+use Rattle.truth_tables.specs.OutputHeaders.{output_header}
+use Rattle.truth_tables.specs.TableUnits.{assigned_by, header_refused, row_units, some_aims}
+use Rattle.truth_tables.specs.TableWalks.{WalksTable, given_by, places_by}
+use Rattle.truth_tables.proofs.HeaderNames.{header_inside}
+use Rattle.truth_tables.proofs.RowsWalked.{header_noted, header_stands, some_refused}
+use Rattle.truth_tables.proofs.TableWorks.{inputs_clear, outputs_named, table_works}
+use Rattle.truth_tables.proofs.tables.walk_table.Goals as goal
+
+pub returns-in-Some : goal.returns-in-Some
+returns-in-Some g c =
+    let v = g.D.Device.table in
+    let n = c.scope-names.result.now in
+    let d = context_for v n in
+    let t = c.args.table.now in
+    let rows = map view_row t.rows in
+    let kept = c.refuse.ensures.first in
+    let old = c.args.out.now in
+    subst (λ (names : Names). WalksTable v names c.args.guard t old c.refuse.new.self) c.scope-names.ensures
+    (λ all a.
+    header_stands all (assigned_by t.clocked (output_header d (view t.outputs))) (header_refused d all t.clocked (view t.inputs) (view t.outputs)) t.place (row_units d t.clocked (term_of d.known (view t.inputs)) (term_of d.known (view t.outputs)) rows (table_units d (view t.inputs) rows))
+    (given_by d c.args.guard t (arena old.exprs)) (places_by d t) c.in-Some.fault old c.refuse.new.self
+    (sym c.in-Some.is ∙ (c.in_ok-header.ensures.header d all (is_context v n) a).fault)
+    (ap (λ (w : Walked). w.fault) kept) (ap (λ (w : Walked). is_some w.fault) kept ∙ some_refused old.fault c.in-Some.fault) (ap (λ (w : Walked). w.exprs) kept)
+    (subst (λ (w : Walked). AreFirsts w.before (all ++ assigned_by t.clocked (output_header d (view t.outputs)))) (sym kept) (c.in_ok-header.ensures.before d all (is_context v n) a)))
+
+pub walk_headed-requires : goal.walk_headed-requires
+walk_headed-requires g c =
+    let n = c.scope-names.result.now in
+    let v = g.D.Device.table in
+    let d = context_for v n in
+    let t = c.args.table.now in
+    let before = c.args.out.now.before in
+    let header = c.in_ok-header.ensures.header d before (is_context v n) (λ s p. refl) in
+    let outputs = c.as_slice.ensures ∙ header.outputs in
+    let clear = sym c.in-None.is ∙ header.fault in
+    record {
+      accepted = record {
+        inputs = value_accepted n (view t.inputs) (inputs_clear d before t clear);
+        signals = subst (λ (xs : List (Option Aim)). AreNamed (length (entries_of n)) (some_aims xs)) (sym outputs) (header_inside d refl (view t.outputs));
+        named = outputs_named d before t c.as_slice.result.now outputs clear;
+      };
+    }
+
+pub returns : goal.returns
+returns g c =
+    on_ok_weaker c.walk_headed.result
+    (λ k.
+    let n = c.scope-names.result.now in
+    let v = g.D.Device.table in
+    let d = context_for v n in
+    let t = c.args.table.now in
+    let old = c.args.out.now in
+    subst (λ (names : Names). WalksTable v names c.args.guard t old c.walk_headed.new.out) c.scope-names.ensures
+    (λ all a.
+    let xs = c.as_slice.result.now in
+    let header = c.in_ok-header.ensures.header d all (is_context v n) a in
+    let outputs = c.as_slice.ensures ∙ header.outputs in
+    let clear = sym c.in-None.is ∙ header.fault in
+    let ms = assigned_by t.clocked (output_header d (view t.outputs)) in
+    table_works (λ us gs ps. Walks all us gs ps ms old c.walk_headed.new.out) d all (arena old.exprs) c.args.guard t xs (outputs_named d all t xs outputs clear) outputs clear
+    (header_noted all ms c.read_header.new.before _ _ _ old c.walk_headed.new.out
+    (k (all ++ ms) (c.in_ok-header.ensures.before d all (is_context v n) a)))))
+    c.walk_headed.ensures
