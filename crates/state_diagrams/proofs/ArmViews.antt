@@ -3,13 +3,14 @@ use Rattle.std.proofs.Common.{◌≡◌, Option, None, Some, List, map, ap, ◌�
 use Rattle.std.specs.Prelude.{option_map}
 use Rattle.abel_tree.specs.declared.diagrams.Arm.{Arm, the_lemmas}
 use Rattle.abel_tree.specs.declared.diagrams.Arm.TheVariants as arm
+use Rattle.abel_tree.specs.declared.diagrams.Case.{Case}
 use Rattle.abel_tree.specs.declared.diagrams.CaseArm.{CaseArm}
 use Rattle.abel_tree.specs.declared.diagrams.Goal.{Goal}
 use Rattle.abel_tree.specs.declared.diagrams.If.{If}
 use Rattle.abel_tree.specs.declared.statements.Stmt.{Stmt}
-use Rattle.abel_tree.specs.Tree.{AGoal, AnIf, NoBranch, ABranch, other_of}
+use Rattle.abel_tree.specs.Tree.{AGoal, AnIf, ACase, NoBranch, ABranch, other_of}
 use Rattle.abel_tree.specs.View.{view, view_stmt, view_arm, view_choice}
-use Rattle.state_diagrams.specs.Arms.{view_goal, view_if}
+use Rattle.state_diagrams.specs.Arms.{case_choices, case_place, view_goal, view_if}
 
 pub view_goaled : (g : Goal) → view_arm (arm.Goal g) ≡ view_goal g
 view_goaled g = search (rules, the_lemmas)
@@ -34,3 +35,6 @@ goal_alone g e = ap (λ (o : Option (List Stmt)). AGoal g.place (view g.value) (
 
 pub goal_with : (g : Goal) (list : List Stmt) → g.with ≡ Some list → view_goal g ≡ AGoal g.place (view g.value) (Some (map view_stmt list))
 goal_with g list e = ap (λ (o : Option (List Stmt)). AGoal g.place (view g.value) (option_map (λ l. map view_stmt l) o)) e
+
+pub view_cased : (x : Case) → view_arm (arm.Case x) ≡ ACase (case_place x) (case_choices x)
+view_cased x = search (rules, the_lemmas)

@@ -1,5 +1,5 @@
 -- States with the matches of other signals, and a whole diagram behind its registers.
-use Rattle.std.proofs.Common.{◌≡◌, ℕ, false, true, Option, Some, List, [], ◌∷◌, ◌++◌, Result, Ok, Err, length, map, drop, refl, sym, ap, ◌∙◌, subst, append_assoc, append-nil}
+use Rattle.std.proofs.Common.{◌≡◌, ℕ, false, true, Option, Some, List, [], ◌∷◌, ◌++◌, Result, length, map, drop, refl, sym, ap, ◌∙◌, subst, append_assoc, append-nil}
 use Rattle.std.proofs.Math.Seq.{drop-append_seam}
 use Rattle.pld_base.specs.declared.place.Place.{Place}
 use Rattle.bit_expr.specs.declared.node.ExprId.{ExprId}
@@ -27,11 +27,11 @@ use Rattle.state_diagrams.specs.DiagramUnits.{signals_of, units_of_states}
 use Rattle.truth_tables.specs.TableUnits as tables
 use Rattle.truth_tables.specs.Gives as header
 use Rattle.truth_tables.specs.Works.{Work, before, given_freely}
-use Rattle.truth_tables.proofs.WorkLaws.{DoesWork, step_stops, step_then}
+use Rattle.truth_tables.proofs.WorkLaws.{DoesWork, step_then}
 use Rattle.state_diagrams.specs.Matches.{GivesMatches, matches_beside, other_firsts, other_places}
 use Rattle.state_diagrams.proofs.GuardsOfStates.{others_matched, places_of_any}
 use Rattle.state_diagrams.specs.DiagramPlaces.{no_block, states_places}
-use Rattle.state_diagrams.specs.DiagramWorks.{others_work, registers_work, state_bits, states_work}
+use Rattle.state_diagrams.specs.DiagramWorks.{header_work, others_work, registers_work, state_bits, states_work}
 use Rattle.state_diagrams.proofs.StateBits.{states_counted}
 
 -- ---- other signals
@@ -59,12 +59,6 @@ others_split : (d : Context) (h : meant.Guard Formula) (xs : List Aim) (all : Li
 others_split d h xs all ss =
     ap (λ us. both_work d xs ss us (gives_of d h xs ss) (other_matches (formulas d) d h (signals_of xs) ss (other_firsts (signals_of xs) (gives_of d h xs ss))))
     (append-nil (units_of_states d (signals_of xs) all [] ss))
-
--- where the states stop
-pub others_stop : (d : Context) (h : meant.Guard Formula) (xs : List Aim) (all : List Manner) (ss : List StateTree) (old new : Contributions) (f : SectionFault)
-    → DoesWork {R = List ExprId} (states_work d h xs all [] ss) old new (Err f) → DoesWork {R = Unit} (others_work d h xs all ss) old new (Err f)
-others_stop d h xs all ss old new f s =
-    subst (λ (w : Work). DoesWork {R = Unit} w old new (Err f)) (others_split d h xs all ss) (step_stops (states_work d h xs all [] ss) (matches_work d h xs ss) old new f s)
 
 -- the states are what stands behind the start of the list
 behind_start : (d : Context) (h : meant.Guard Formula) (xs : List Aim) (all : List Manner) (ss : List StateTree) (old mid : Contributions) → IsBuilt (states_work d h xs all [] ss).units (gives_of d h xs ss) (states_places d xs ss) old mid
@@ -113,16 +107,12 @@ others_any d fs hs g xs all ss =
     ap (λ ds. both_work d xs ss us ds (other_matches (formulas d) d (view_guard fs g) sig ss (other_firsts sig ds))) (states_any d fs hs g xs ss)
     ∙ ap (both_work d xs ss us cs) (matches_any d fs hs g sig ss (other_firsts sig cs))
 
--- no match for each register
-abbrev header_work : Context → meant.Guard Formula → List Aim → Work
-header_work d h xs = given_freely (no_matches (formulas d) d h false true (map Some (signals_of xs))) (places_of xs)
-
 -- what a diagram gives, at these places
 abbrev placed_work : Context → meant.Guard Formula → List Aim → List Manner → List StateTree → List Place → Work
 placed_work d h xs all ss ps =
     record { units = units_of_states d (signals_of xs) all [] ss; gives = registers_given (formulas d) d h (signals_of xs) ss; places = ps }
 
-registers_split : (d : Context) (h : meant.Guard Formula) (xs : List Aim) (all : List Manner) (ss : List StateTree) → before (header_work d h xs) (others_work d h xs all ss) ≡ registers_work d h xs all ss
+pub registers_split : (d : Context) (h : meant.Guard Formula) (xs : List Aim) (all : List Manner) (ss : List StateTree) → before (header_work d h xs) (others_work d h xs all ss) ≡ registers_work d h xs all ss
 registers_split d h xs all ss =
     let sig = signals_of xs in
     let ps = states_places d xs ss in
@@ -143,22 +133,8 @@ pub header_aims : (xs : List Aim) → tables.some_aims (map Some xs) ≡ xs
 header_aims [] = refl
 header_aims (x ∷ xs) = ap (λ ys. x ∷ ys) (header_aims xs)
 
-header_there : (d : Context) (h : meant.Guard Formula) (xs : List Aim) (outputs : List (Option Aim)) (old new : Contributions) (r : Result Unit SectionFault) → outputs ≡ map Some xs
+pub header_there : (d : Context) (h : meant.Guard Formula) (xs : List Aim) (outputs : List (Option Aim)) (old new : Contributions) (r : Result Unit SectionFault) → outputs ≡ map Some xs
     → Builds [] (no_matches (formulas d) d h false true (header.signals_of outputs)) (tables.places_of (tables.some_aims outputs)) old new r → DoesWork (header_work d h xs) old new r
 header_there d h xs outputs old new r e b =
     subst (λ ps. Builds [] (no_matches (formulas d) d h false true (map Some (signals_of xs))) ps old new r) (ap (λ ys. tables.places_of (tables.some_aims ys)) e ∙ header_places xs)
     (subst (λ ss. Builds [] (no_matches (formulas d) d h false true ss) (tables.places_of (tables.some_aims outputs)) old new r) (ap header.signals_of e ∙ header_signals xs) b)
-
--- where they stop
-pub registers_stop : (d : Context) (h : meant.Guard Formula) (xs : List Aim) (outputs : List (Option Aim)) (all : List Manner) (ss : List StateTree) (old new : Contributions) (f : SectionFault) → outputs ≡ map Some xs
-    → Builds {R = Unit} [] (no_matches (formulas d) d h false true (header.signals_of outputs)) (tables.places_of (tables.some_aims outputs)) old new (Err f) → DoesWork {R = Unit} (registers_work d h xs all ss) old new (Err f)
-registers_stop d h xs outputs all ss old new f e b =
-    subst (λ (w : Work). DoesWork {R = Unit} w old new (Err f)) (registers_split d h xs all ss)
-    (step_stops (header_work d h xs) (others_work d h xs all ss) old new f (header_there d h xs outputs old new (Err f) e b))
-
-pub registers_then : (d : Context) (h : meant.Guard Formula) (xs : List Aim) (outputs : List (Option Aim)) (all : List Manner) (ss : List StateTree) (old mid new : Contributions) (r : Result Unit SectionFault) → outputs ≡ map Some xs
-    → Builds {R = Unit} [] (no_matches (formulas d) d h false true (header.signals_of outputs)) (tables.places_of (tables.some_aims outputs)) old mid (Ok tt) → DoesWork (others_work d h xs all ss) mid new r
-    → DoesWork (registers_work d h xs all ss) old new r
-registers_then d h xs outputs all ss old mid new r e b w =
-    subst (λ (v : Work). DoesWork v old new r) (registers_split d h xs all ss)
-    (step_then (header_work d h xs) (others_work d h xs all ss) old mid new r (header_there d h xs outputs old mid (Ok tt) e b) w)

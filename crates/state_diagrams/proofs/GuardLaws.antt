@@ -1,34 +1,43 @@
 -- The guards of the arms of CASE, and the unit of their conditions.
-use Rattle.std.proofs.Common.{◌≡◌, ℕ, zero, suc, ◌+◌, ◌<◌, false, true, Bool, Option, None, Some, List, [], ◌∷◌, ◌++◌, All, if◌then◌else◌, Result, Ok, length, get_or, refl, sym, ap, ◌∙◌, subst, arith}
+use Rattle.std.proofs.Common.{◌≡◌, ℕ, zero, suc, ◌+◌, ◌<◌, false, true, Bool, Option, None, Some, List, [], ◌∷◌, ◌++◌, All, if◌then◌else◌, Result, Ok, length, map, get_or, refl, sym, ap, ◌∙◌, subst, arith}
 use Rattle.std.specs.Prelude.{◌==◌}
+use Rattle.std.proofs.lemmas.List.{get_or-map, length-map}
 use Rattle.pld_base.specs.declared.place.Place.{Place}
 use Rattle.bit_expr.specs.declared.node.ExprId.{ExprId}
+use Rattle.bit_expr.specs.Arena.{formula_at}
 use Rattle.bit_expr.specs.Formulas.{Formula}
+use Rattle.abel_tree.specs.declared.names.Names.{Names}
+use Rattle.abel_tree.specs.Entries.{entries_of}
+use Rattle.abel_tree.specs.FirstRefusal.{first_refusal}
 use Rattle.abel_tree.specs.declared.diagrams.CaseArm.{CaseArm}
-use Rattle.abel_tree.specs.View.{view, view_choice}
+use Rattle.abel_tree.specs.View.{view, view_arm, view_choice}
 use Rattle.state_diagrams.proofs.ArmViews.{choice_parts}
-use Rattle.abel_tree.specs.Tree.{choices_of, Choices}
+use Rattle.abel_tree.specs.Tree.{choices_of}
+use Rattle.abel_meaning.specs.Contributions.{guarded}
 use Rattle.abel_meaning.specs.CountedBlocks.{choices_nodes}
 use Rattle.abel_meaning.specs.CountedNodes.{choice_nodes, condition_of, guard_then}
 use Rattle.abel_meaning.specs.Designs.{Context}
+use Rattle.abel_meaning.specs.FormulaBits.{formulas}
 use Rattle.abel_meaning.specs.Numbers.{Shape, Number, Single, Set, Value}
 use Rattle.set_expr.specs.declared.contributions.Contributions.{Contributions}
 use Rattle.set_expr.specs.declared.fault.SectionFault.{SectionFault}
 use Rattle.set_expr.specs.declared.fault.SectionFault.TheVariants.{BadWidth}
-use Rattle.set_expr.specs.Answer.{Keeps}
+use Rattle.set_expr.specs.declared.contributions.Guard.{Guard}
+use Rattle.set_expr.specs.Answer.{Keeps, refusal_of}
+use Rattle.set_expr.specs.Given.{view_guard}
+use Rattle.set_expr.specs.SectionOrder.{section_order}
 use Rattle.set_expr.specs.FoundNames.{expression_found}
 use Rattle.set_expr.specs.Refusals.{Found}
 use Rattle.section_targets.specs.Building.{IsBit, IsBuilt, StopsWith, Builds}
 use Rattle.section_targets.specs.Units.{part}
 use Rattle.section_targets.specs.ValueWidths.{value_refused, value_width, wrong_width}
-use Rattle.section_targets.proofs.Built.{builds_none, both_empty, left_empty, right_empty}
+use Rattle.section_targets.proofs.Built.{builds_none, both_empty, kept_formula, left_empty, right_empty}
 use Rattle.section_targets.proofs.OneUnit.{one_unit, two_parts}
-use Rattle.equations.specs.Builds.{condition_unit}
 use Rattle.equations.specs.StatementUnits.{condition_refused}
 use Rattle.equations.proofs.BuiltParts.{kept_bit, stops_longer}
 use Rattle.state_diagrams.specs.DiagramUnits.{choices_refused}
-use Rattle.state_diagrams.specs.Branches.{AreGuardsOf}
-use Rattle.state_diagrams.proofs.BranchWorks.{Choice}
+use Rattle.state_diagrams.specs.ArmGuards.{AreGuardsOf}
+use Rattle.state_diagrams.proofs.ArmLaws.{Choice}
 
 -- ---- guards
 
@@ -108,16 +117,15 @@ pub no_nodes : (p : Place) (out : Contributions) → IsBuilt (part p 0 ∷ []) [
 no_nodes p out = one_unit {R = Unit} p [] [] [] out out (Ok tt) tt (builds_none out)
 
 -- the condition of one arm more, of which nothing is refused
-pub conditions_next : {R : Type 0} (d : Context) (g h : Formula) (p : Place) (cs ds : List Choice) (c : Choice) (old mid new : Contributions) (r : Result R SectionFault) → ds ≡ cs ++ c ∷ [] → h ≡ g → condition_refused d p c.0 ≡ []
+pub conditions_next : {R : Type 0} (d : Context) (g h : Formula) (p : Place) (cs ds : List Choice) (c : Choice) (old mid new : Contributions) (r : Result R SectionFault) → ds ≡ cs ++ c ∷ [] → h ≡ g
     → IsBuilt (part p (choices_nodes d g (choices_of cs)) ∷ []) [] [] old mid
-    → Builds (condition_unit d p c.0 (choice_nodes d h c.0 false) ∷ []) [] [] mid new r
+    → Builds (part p (choice_nodes d h c.0 false) ∷ []) [] [] mid new r
     → Builds (part p (choices_nodes d g (choices_of ds)) ∷ []) [] [] old new r
-conditions_next d g h p cs ds c old mid new r e same clear b a =
+conditions_next d g h p cs ds c old mid new r e same b a =
     let n = choice_nodes d g c.0 false in
     subst (λ m. Builds (part p m ∷ []) [] [] old new r) (sym (ap (λ xs. choices_nodes d g (choices_of xs)) e ∙ nodes_more d g cs c))
     (two_parts p (choices_nodes d g (choices_of cs)) n old mid new r b
-    (subst (λ (f : Formula). Builds (part p (choice_nodes d f c.0 false) ∷ []) [] [] mid new r) same
-    (subst (λ rs. Builds (record { place = p; refusals = rs; nodes = choice_nodes d h c.0 false } ∷ []) [] [] mid new r) clear a)))
+    (subst (λ (f : Formula). Builds (part p (choice_nodes d f c.0 false) ∷ []) [] [] mid new r) same a))
 
 -- where one stops, those behind it aren't made
 pub conditions_stop : (d : Context) (g : Formula) (p : Place) (cs ds es : List Choice) (old new : Contributions) (f : SectionFault) → es ≡ cs ++ ds
@@ -126,12 +134,33 @@ conditions_stop d g p cs ds es old new f e s =
     subst (λ m. StopsWith (part p m ∷ []) [] [] old new f) (sym (ap (λ xs. choices_nodes d g (choices_of xs)) e ∙ nodes_append d g cs ds))
     (stops_longer p [] (choices_nodes d g (choices_of cs)) (choices_nodes d g (choices_of ds)) old new f s)
 
--- the unit of conditions of which nothing is refused, and of refused ones
-pub conditions_clear : {R : Type 0} (d : Context) (g : Formula) (p : Place) (cs : Choices) (old new : Contributions) (r : Result R SectionFault) → choices_refused d cs ≡ [] → Builds (part p (choices_nodes d g cs) ∷ []) [] [] old new r
-    → Builds (record { place = p; refusals = choices_refused d cs; nodes = choices_nodes d g cs } ∷ []) [] [] old new r
-conditions_clear d g p cs old new r e b = subst (λ rs. Builds (record { place = p; refusals = rs; nodes = choices_nodes d g cs } ∷ []) [] [] old new r) (sym e) b
-
 -- the condition of an arm of the code
-pub condition_there : {R : Type 0} (d : Context) (p : Place) (x : CaseArm) (g : Formula) (old new : Contributions) (r : Result R SectionFault) → Builds (condition_unit d p (view x.condition) (choice_nodes d g (view x.condition) false) ∷ []) [] [] old new r
-    → Builds (condition_unit d p (view_choice x).0 (choice_nodes d g (view_choice x).0 false) ∷ []) [] [] old new r
-condition_there d p x g old new r b = subst (λ (z : Choice). Builds (condition_unit d p z.0 (choice_nodes d g z.0 false) ∷ []) [] [] old new r) (sym (choice_parts x)) b
+pub condition_there : {R : Type 0} (d : Context) (p : Place) (x : CaseArm) (g : Formula) (old new : Contributions) (r : Result R SectionFault) → Builds (part p (choice_nodes d g (view x.condition) false) ∷ []) [] [] old new r
+    → Builds (part p (choice_nodes d g (view_choice x).0 false) ∷ []) [] [] old new r
+condition_there d p x g old new r b = subst (λ (z : Choice). Builds (part p (choice_nodes d g z.0 false) ∷ []) [] [] old new r) (sym (choice_parts x)) b
+
+-- the condition of an arm of which nothing is refused is an expression of which nothing is refused
+pub arm_clear : (d : Context) (n : Names) (arms : List CaseArm) (i : ℕ) (x : CaseArm) → d.names ≡ entries_of n → choices_refused d (choices_of (map view_choice arms)) ≡ [] → i < length arms → x ≡ get_or arms i x → refusal_of n (view x.condition) ≡ None
+arm_clear d n arms i x k e lt at_x =
+    let y = view_choice x in
+    let here : get_or (map view_choice arms) i y ≡ y = get_or-map view_choice arms i x y lt ∙ ap view_choice (sym at_x) in
+    let clear = ap (λ (z : Choice). condition_refused d x.colon z.0) (sym (choice_parts x) ∙ sym here) ∙ clear_at d (map view_choice arms) i y x.colon e (omega (arith, lt, length-map arms view_choice)) in
+    let f = expression_found d.names (view x.condition) in
+    ap (λ es. first_refusal section_order (expression_found es (view x.condition)).refusals) (sym k)
+    ∙ ap (first_refusal section_order) (left_empty f.refusals (f.specials ++ value_width x.colon 1 f.value) clear)
+
+-- the guard of an arm
+pub arm_guard : (d : Context) (g : Guard) (fs hs : List Formula) (c : Formula) (id : ExprId) (k : Guard) → Keeps fs hs → IsBit fs id (guard_then (formula_at fs g.when) c).what → k.when ≡ id → k.dontcare ≡ g.dontcare → k.block ≡ g.block → view_guard hs k ≡ guarded (formulas d) (view_guard fs g) c
+arm_guard d g fs hs c id k kept b e f w = rw (e, f, w, kept_formula fs hs id kept b.0, b.1) refl
+
+-- the guard of the arm of the code at a place
+pub arm_holds : (d : Context) (g k : Guard) (fs hs : List Formula) (arms : List CaseArm) (ids : List ExprId) (i : ℕ) (x : CaseArm) → Keeps fs hs → AreGuardsOf d fs (formula_at fs g.when) (choices_of (map view_choice arms)) ids → i < length arms → x ≡ get_or arms i x
+    → k.when ≡ get_or ids i g.when → k.dontcare ≡ g.dontcare → k.block ≡ g.block → view_guard hs k ≡ guarded (formulas d) (view_guard fs g) (condition_of d (view x.condition))
+arm_holds d g k fs hs arms ids i x kept h lt at_x w e b =
+    let f = formula_at fs g.when in
+    let cs = map view_choice arms in
+    let y = view_choice x in
+    let same : get_or cs i y ≡ (view x.condition, (x.colon, view_arm x.result)) = get_or-map view_choice arms i x y lt ∙ ap view_choice (sym at_x) ∙ choice_parts x in
+    let le : i < length ids = omega (arith, lt, guards_each d fs f cs ids h, length-map arms view_choice) in
+    let bit = subst (λ (z : Choice). IsBit fs (get_or ids i g.when) (guard_then f (condition_of d z.0)).what) same (guard_at d fs f cs ids i y g.when h le) in
+    arm_guard d g fs hs (condition_of d (view x.condition)) (get_or ids i g.when) k kept bit w e b

@@ -1,6 +1,6 @@
+pub mod AnyGuards
 pub mod ArmLaws
 pub mod ArmViews
-pub mod BranchWorks
 pub mod DiagramBuilt
 mod DiagramExamples
 pub mod GoalWorks
@@ -14,7 +14,7 @@ pub mod ReadLaws
 pub mod RegisterLaws
 pub mod StateBits
 pub mod StateLaws
-pub mod StateLists
-pub mod StateWorks
 pub mod StatesHold
-pub mod WholeDiagrams
+pub mod WalkedBranches
+pub mod WalkedDiagrams
+pub mod WalkedStates

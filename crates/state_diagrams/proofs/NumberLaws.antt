@@ -15,7 +15,7 @@ use Rattle.abel_tree.proofs.FirstRefusals.{none_refused}
 use Rattle.abel_meaning.specs.BitWords.{Word}
 use Rattle.abel_meaning.specs.Designs.{Context}
 use Rattle.abel_meaning.specs.FormulaBits.{bits_of}
-use Rattle.abel_meaning.specs.Numbers.{Value, width_of, met_number, number_with, digits_low_first}
+use Rattle.abel_meaning.specs.Numbers.{Value, width_of, met_number, number_with}
 use Rattle.abel_meaning.specs.Numbers as number
 use Rattle.abel_meaning.specs.Terms.{Term, Terms, known_of, term_of}
 use Rattle.abel_meaning.specs.Terms as term

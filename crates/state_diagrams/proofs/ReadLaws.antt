@@ -12,7 +12,7 @@ use Rattle.abel_tree.specs.Ranges.{range_names}
 use Rattle.pld_base.specs.declared.place.Place.{Place}
 use Rattle.abel_tree.specs.declared.words.Binary.{Binary}
 use Rattle.abel_tree.specs.Tree.{Tree, ABinary, SetMember, OneMember, SpanMember, members_of}
-use Rattle.abel_meaning.specs.Terms.{Term, Terms, NoTerm, Known, term_named, term_meant, term_of, terms_of, member_before, named_before, extended, extended_each, extended_if, known_after, known_of}
+use Rattle.abel_meaning.specs.Terms.{Term, Terms, NoTerm, Known, term_named, term_meant, term_of, terms_of, member_before, named_before, extended, extended_each, extended_if, known_of}
 use Rattle.abel_meaning.specs.Terms as term
 use Rattle.section_targets.proofs.NameTerms.{position_past, known_more, known_names}
 use Rattle.state_diagrams.specs.StateValues.{reads_signal, any_reads_signal}

@@ -1,12 +1,10 @@
--- The first refusal of the units of states, part by part.
+-- The first refusal of a state's value, and the units of states one after another.
 use Rattle.std.proofs.Common.{◌≡◌, ℕ, ◌^◌, Bool, true, false, not, ◌&&◌, nat_lt, Option, None, Some, List, [], ◌∷◌, ◌++◌, if◌then◌else◌, length, refl, sym, ap, ap₂, ◌∙◌, append_assoc, append-nil}
 use Rattle.std.specs.Prelude.{◌==◌}
 use Rattle.std.specs.List.{list_any}
 use Rattle.pld_base.specs.declared.place.Place.{Place}
-use Rattle.bit_expr.specs.Formulas.{Formula}
-use Rattle.abel_tree.specs.FirstRefusal.{earlier}
-use Rattle.abel_tree.specs.Tree.{Tree, StateTree, statements_of}
-use Rattle.abel_tree.proofs.FirstRefusals.{first_append, none_refused}
+use Rattle.abel_tree.specs.Tree.{Tree, StateTree}
+use Rattle.abel_tree.proofs.FirstRefusals.{none_refused}
 use Rattle.abel_meaning.specs.Designs.{Context}
 use Rattle.abel_meaning.specs.Terms.{term_of}
 use Rattle.set_expr.specs.declared.fault.SectionFault.{SectionFault}
@@ -14,12 +12,11 @@ use Rattle.set_expr.specs.declared.fault.SectionFault.TheVariants.{BadState}
 use Rattle.set_expr.specs.Refusals.{Found}
 use Rattle.set_expr.specs.SectionOrder.{section_order}
 use Rattle.section_targets.specs.declared.manner.Manner.{Manner}
-use Rattle.section_targets.specs.Units.{CountedUnit, units_refused}
-use Rattle.equations.specs.StatementUnits.{statements_manners, units_of_statements}
-use Rattle.state_diagrams.specs.DiagramUnits.{manners_behind, state_guard, state_manners, states_manners, units_behind, units_of_branches, units_of_state, units_of_states, units_within}
+use Rattle.section_targets.specs.Units.{CountedUnit}
+use Rattle.state_diagrams.specs.DiagramUnits.{manners_behind, state_guard, state_manners, states_manners, units_of_state, units_of_states}
 use Rattle.state_diagrams.specs.StateValues.{if_none, is_empty, is_state_of, listed_after, listed_with, reads_signal, state_number, state_refused, state_value_refused}
-use Rattle.state_diagrams.specs.Checks.{listed_behind, listed_if}
-use Rattle.state_diagrams.proofs.ArmLaws.{first, refused, first_both}
+use Rattle.state_diagrams.specs.States.{listed_behind, listed_if}
+use Rattle.state_diagrams.proofs.ArmLaws.{first}
 
 -- ---- values
 
@@ -80,18 +77,6 @@ listed_as d n listed s m f e h = by f (state_refused d n listed s) e h
 
 -- ---- states
 
-pub within_refused : (d : Context) (g : Formula) (n : ℕ) (all : List Manner) (s : StateTree)
-    → earlier section_order (refused (units_of_statements d g all (statements_of s.statements))) (refused (units_of_branches d g n (all ++ statements_manners d (statements_of s.statements)) s.transitions))
-    ≡ refused (units_within d g n all s)
-within_refused d g n all s =
-    first_both (units_of_statements d g all (statements_of s.statements)) (units_of_branches d g n (all ++ statements_manners d (statements_of s.statements)) s.transitions)
-
-pub state_both : (d : Context) (ss : List ℕ) (n : ℕ) (all : List Manner) (rs : List SectionFault) (s : StateTree) → length ss ≡ n
-    → earlier section_order (first rs) (refused (units_within d (state_guard d ss s.value).what n all s)) ≡ refused (units_of_state d ss all rs s (state_guard d ss s.value))
-state_both d ss n all rs s e =
-    ap (λ m. earlier section_order (first rs) (refused (units_within d (state_guard d ss s.value).what m all s))) (sym e)
-    ∙ sym (first_append section_order rs (units_refused (units_within d (state_guard d ss s.value).what (length ss) all s)))
-
 abbrev pub unit_of : Context → List ℕ → List Manner → List ℕ → StateTree → List CountedUnit
 unit_of d ss all listed s = units_of_state d ss all (state_refused d (length ss) listed s) s (state_guard d ss s.value)
 
@@ -110,36 +95,12 @@ pub listed_more : (d : Context) (n : ℕ) (listed : List ℕ) (xs : List StateTr
 listed_more d n listed [] x = refl
 listed_more d n listed (y ∷ xs) x = listed_more d n (listed_after d n listed y) xs x
 
-state_manners_more : (d : Context) (xs : List StateTree) (x : StateTree) → states_manners d (xs ++ x ∷ []) ≡ states_manners d xs ++ state_manners d x
+pub state_manners_more : (d : Context) (xs : List StateTree) (x : StateTree) → states_manners d (xs ++ x ∷ []) ≡ states_manners d xs ++ state_manners d x
 state_manners_more d [] x = append-nil (state_manners d x)
 state_manners_more d (y ∷ xs) x =
     ap (λ ms. state_manners d y ++ ms) (state_manners_more d xs x) ∙ sym (append_assoc (state_manners d y) (states_manners d xs) (state_manners d x))
 
--- the states of a longer front
-pub states_next : (d : Context) (ss : List ℕ) (all : List Manner) (listed : List ℕ) (xs ys : List StateTree) (x : StateTree) → ys ≡ xs ++ x ∷ []
-    → earlier section_order (refused (units_of_states d ss all listed xs)) (refused (unit_of d ss (all ++ states_manners d xs) (listed_behind d (length ss) listed xs) x)) ≡ refused (units_of_states d ss all listed ys)
-states_next d ss all listed xs ys x e =
-    first_both (units_of_states d ss all listed xs) (unit_of d ss (all ++ states_manners d xs) (listed_behind d (length ss) listed xs) x)
-    ∙ sym (ap (λ zs. refused (units_of_states d ss all listed zs)) e ∙ ap refused (states_more d ss all listed xs x))
-
-pub states_noted : (d : Context) (all : List Manner) (xs ys : List StateTree) (x : StateTree) → ys ≡ xs ++ x ∷ []
-    → (all ++ states_manners d xs) ++ state_manners d x ≡ all ++ states_manners d ys
-states_noted d all xs ys x e =
-    append_assoc all (states_manners d xs) (state_manners d x) ∙ ap (λ ms. all ++ ms) (sym (ap (states_manners d) e ∙ state_manners_more d xs x))
-
 -- ---- behind the registers
-
-pub behind_refused : (rs : List SectionFault) (p : Place) (us : List CountedUnit) (f : SectionFault) → Some f ≡ first rs → Some f ≡ refused (units_behind rs p us)
-behind_refused [] p us f e = absurd cc
-behind_refused (r ∷ rs) p us f e = e ∙ ap first (sym (append-nil (r ∷ rs)))
-
-pub behind_accepted : (rs : List SectionFault) (p : Place) (us : List CountedUnit) → rs ≡ [] → refused us ≡ refused (units_behind rs p us)
-behind_accepted [] p us e = refl
-behind_accepted (r ∷ rs) p us e = absurd cc
-
-pub manners_refused : (rs : List SectionFault) (ms ns : List Manner) (f : SectionFault) → Some f ≡ first rs → ms ≡ ms ++ manners_behind rs ns
-manners_refused [] ms ns f e = absurd cc
-manners_refused (r ∷ rs) ms ns f e = sym (append-nil ms)
 
 pub manners_accepted : (rs : List SectionFault) (ms ns : List Manner) → rs ≡ [] → ms ++ ns ≡ ms ++ manners_behind rs ns
 manners_accepted [] ms ns e = refl

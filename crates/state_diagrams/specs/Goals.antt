@@ -20,12 +20,12 @@ use Rattle.abel_meaning.specs.Terms.{term_of}
 use Rattle.set_expr.specs.declared.contributions.Contribution.{Contribution}
 use Rattle.set_expr.specs.declared.contributions.Guard.{Guard}
 use Rattle.set_expr.specs.declared.fault.SectionFault.{SectionFault}
-use Rattle.set_expr.specs.Answer.{IsContextOf}
-use Rattle.set_expr.specs.FoundNames.{expression_found}
 use Rattle.set_expr.specs.Given.{view_guard}
 use Rattle.section_targets.specs.declared.aim.Aim.{Aim}
+use Rattle.section_targets.specs.declared.walked.Walked.{Walked}
+use Rattle.section_targets.specs.Contexts.{context_for}
 use Rattle.section_targets.specs.Units.{CountedUnit, part}
-use Rattle.section_targets.specs.ValueWidths.{value_refused}
+use Rattle.state_diagrams.specs.declared.machine.Machine.{Machine}
 use Rattle.state_diagrams.specs.DiagramUnits.{signals_of}
 use Rattle.truth_tables.specs.Rows.{Does}
 use Rattle.truth_tables.specs.Works.{Work}
@@ -61,14 +61,6 @@ goal_unit d h aims g rs =
       places = goal_places aims;
     }
 
-abbrev pub GivesGoal : Table → Names → Guard → List Aim → Goal → (old new : List Node)
-    → (list more : List Contribution) → Result Unit SectionFault → Type 0
-GivesGoal t n g aims x old new list more r =
-    (d : Context) → IsContextOf t n d → Does (goal_unit d (view_guard (arena old) g) aims x []) old new list more r
-
-abbrev pub BuildsValue : Table → Names → Guard → List Aim → Goal → (old new : List Node)
-    → (list more : List Contribution) → Result Unit SectionFault → Type 0
-BuildsValue t n g aims x old new list more r =
-    (d : Context) → IsContextOf t n d
-    → Does (goal_unit d (view_guard (arena old) g) aims x (value_refused x.place (length aims) (expression_found d.names (view x.value))))
-    old new list more r
+abbrev pub GivesGoal : Table → Machine → Guard → Goal → (old new : Walked) → Result Unit SectionFault → Type 0
+GivesGoal t m g x old new r =
+    Does (goal_unit (context_for t m.scope.now) (view_guard (arena old.exprs) g) m.registers.now x []) old.exprs new.exprs old.list.items new.list.items r

@@ -1,9 +1,8 @@
+pub mod ArmGuards
 pub mod Arms
-pub mod Branches
-pub mod Checks
-pub mod DiagramAnswers
 pub mod DiagramPlaces
 pub mod DiagramUnits
+pub mod DiagramWalks
 pub mod DiagramWorks
 pub mod Goals
 pub mod Literals

@@ -1,5 +1,5 @@
 -- What the check of a state finds (ABEL-HDL Reference Manual, state diagrams).
-use Rattle.std.specs.Prelude.{◌≡◌, ℕ, false, None, List, []}
+use Rattle.std.specs.Prelude.{◌≡◌, ℕ, false, Option, None, Some, List, [], ◌∷◌, ◌++◌}
 use Rattle.pld_device.specs.Table.{Table}
 use Rattle.abel_tree.specs.declared.diagrams.State.{State}
 use Rattle.abel_tree.specs.declared.names.Names.{Names}
@@ -9,10 +9,11 @@ use Rattle.abel_tree.specs.Tree.{StateTree}
 use Rattle.abel_tree.specs.View.{view}
 use Rattle.abel_meaning.specs.Designs.{Context}
 use Rattle.abel_meaning.specs.Terms.{term_of}
+use Rattle.set_expr.specs.declared.fault.SectionFault.{SectionFault}
 use Rattle.set_expr.specs.Answer.{IsContextOf}
 use Rattle.set_expr.specs.FoundNames.{expression_found}
 use Rattle.set_expr.specs.SectionOrder.{section_order}
-use Rattle.state_diagrams.specs.StateValues.{reads_signal, state_number, state_refused}
+use Rattle.state_diagrams.specs.StateValues.{listed_after, reads_signal, state_number, state_refused}
 use Rattle.state_diagrams.specs.declared.values.StateFound.{StateFound}
 
 -- the refusal of a state's value among n registers, behind those that are listed, and where it isn't refused its number
@@ -25,3 +26,13 @@ pub record IsStill (t : Table) (n : Names) (s : State) : Type 0 where
   pub refusals : (expression_found (entries_of n) (view s.value)).refusals ≡ []
   pub specials : (expression_found (entries_of n) (view s.value)).specials ≡ []
   pub still : (d : Context) → IsContextOf t n d → reads_signal (term_of d.known (view s.value)) ≡ false
+
+-- a state is listed where it isn't refused
+abbrev pub listed_if : Option SectionFault → (listed : List ℕ) → ℕ → List ℕ
+listed_if None listed m = listed ++ m ∷ []
+listed_if (Some f) listed m = listed
+
+-- the states that are listed behind these
+abbrev pub listed_behind : Context → (n : ℕ) → (listed : List ℕ) → List StateTree → List ℕ
+listed_behind d n listed [] = listed
+listed_behind d n listed (s ∷ states) = listed_behind d n (listed_after d n listed s) states

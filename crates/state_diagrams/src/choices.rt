@@ -1,19 +1,38 @@
-//! The guards of the arms of CASE.
+//! The conditions of CASE, and the guards of its arms.
 
-ghost use Rattle.std.specs.Prelude.{◌<◌, length, IfOk};
-ghost use Rattle.bit_expr.specs.Arena.{arena};
+ghost use Rattle.std.specs.Prelude.{◌≡◌, ◌<◌, ℕ, None, get_or, length, IfOk};
+ghost use Rattle.bit_expr.specs.Arena.{arena, formula_at};
 ghost use Rattle.set_expr.specs.Answer.{Keeps};
-ghost use Rattle.state_diagrams.specs.Arms.{view_choices};
-ghost use Rattle.state_diagrams.specs.Branches.{AreGuards, AreClear, MakesGuards, BuildsConditions};
+ghost use Rattle.section_targets.specs.Contexts.{context_for};
+ghost use Rattle.section_targets.specs.Given.{AreIn};
+ghost use Rattle.state_diagrams.specs.Arms.{case_choices, case_place, view_choices};
+ghost use Rattle.state_diagrams.specs.ArmGuards.{AreGuardsOf, AreClear, MakesGuards, RefusesConditions};
+ghost use Rattle.state_diagrams.specs.DiagramWalks.{WalksConditions};
 
-use crate::checked_arms::check_conditions;
-use abel_tree::CaseArm;
+use abel_tree::{Case, CaseArm};
 use bit_expr::{ExprId, Exprs};
-use equations::{refused_unit, then_guard};
-use pld_base::Place;
+use equations::{check_condition, then_guard};
+use pld_base::{OutOfMemory, Place};
 use pld_device::Device;
-use set_expr::{Scope, SectionFault};
+use section_targets::Walked;
+use set_expr::{Guard, Scope, SectionFault, earlier};
 use std::alloc::Global;
+
+/// The first refusal of the conditions of CASE, each at its colon.
+fn check_conditions(
+    alloc: Global,
+    scope: &Scope<'_>,
+    arms: &[CaseArm],
+) -> Result<Option<SectionFault>, OutOfMemory>
+    ensures { IfOk result (λ f. RefusesConditions scope.now (view_choices arms.now) f) }
+{
+    let mut fault = None;
+    for arm in arms {
+        let found = check_condition(alloc, scope, arm.colon, &arm.condition)?;
+        fault = earlier(fault, found);
+    }
+    Ok(fault)
+}
 
 /// The guards of arms whose conditions aren't refused, as nodes of the unit at this place.
 fn make_guards<D: Device>(
@@ -28,7 +47,7 @@ fn make_guards<D: Device>(
     requires accepted { AreClear D.table scope.now (view_choices arms.now) }
     ensures keeps { Keeps (arena exprs.old) (arena exprs.new) }
     ensures builds { MakesGuards D.table scope.now guard unit (view_choices arms.now) exprs.old exprs.new result }
-    ensures guards { IfOk result (λ ids. AreGuards D.table scope.now (arena exprs.old) (arena exprs.new) guard (view_choices arms.now) ids.items) }
+    ensures guards { IfOk result (λ ids. AreGuardsOf (context_for D.table scope.now) (arena exprs.new) (formula_at (arena exprs.old) guard) (view_choices arms.now) ids.items) }
 {
     let mut guards = Vec::new(alloc);
     for arm in arms {
@@ -38,22 +57,45 @@ fn make_guards<D: Device>(
     Ok(guards)
 }
 
-/// The conditions of CASE as one unit at this place, and the guard of each arm.
-pub(crate) fn arm_guards<D: Device>(
+/// The conditions of CASE as one unit: the guard of each arm, and none where something is refused.
+pub(crate) fn walk_conditions<D: Device>(
     alloc: Global,
     scope: &Scope<'_>,
     guard: ExprId,
-    unit: Place,
-    arms: &[CaseArm],
-    exprs: &mut Exprs,
-) -> Result<Vec<ExprId>, SectionFault>
-    requires guard { guard.0 < length (arena exprs.old) }
-    ensures keeps { Keeps (arena exprs.old) (arena exprs.new) }
-    ensures builds { BuildsConditions D.table scope.now guard unit (view_choices arms.now) exprs.old exprs.new result }
-    ensures guards { IfOk result (λ ids. AreGuards D.table scope.now (arena exprs.old) (arena exprs.new) guard (view_choices arms.now) ids.items) }
+    case: &Case,
+    out: &mut Walked,
+) -> Result<Vec<ExprId>, OutOfMemory>
+    requires guard { guard.0 < length (arena out.old.exprs) }
+    ensures walks { IfOk result (λ ids. WalksConditions D.table scope.now guard (case_place case.now) (case_choices case.now) out.old out.new) }
+    ensures inside { IfOk result (λ ids. AreIn (length (arena out.new.exprs)) ids.items) }
+    ensures guards { IfOk result (λ ids. out.new.fault ≡ None → AreGuardsOf (context_for D.table scope.now) (arena out.new.exprs) (formula_at (arena out.old.exprs) guard) (case_choices case.now) ids.items) }
 {
-    match check_conditions(alloc, scope, arms)? {
-        Some(_) => Err(refused_unit(unit)),
-        None => make_guards::<D>(alloc, scope, guard, unit, arms, exprs),
+    let arms = case.arms.as_slice();
+    let fault = check_conditions(alloc, scope, arms)?;
+    if out.refuse(fault) {
+        return Ok(Vec::new(alloc));
+    }
+    match make_guards::<D>(alloc, scope, guard, case.place, arms, &mut out.exprs) {
+        Ok(guards) => Ok(guards),
+        Err(fault) => {
+            out.keep_limit(Err(fault))?;
+            Ok(Vec::new(alloc))
+        }
+    }
+}
+
+/// The guard of an arm by its bit; where there is none any guard serves.
+pub(crate) fn under_arm(guard: Guard, guards: &[ExprId], index: usize) -> Guard
+    ensures when { result.when ≡ get_or guards.now index guard.when }
+    ensures dontcare { result.dontcare ≡ guard.dontcare }
+    ensures block { result.block ≡ guard.block }
+    ensures inside { (count : ℕ) → guard.when.0 < count → AreIn count guards.now → result.when.0 < count }
+{
+    match guards.get(index) {
+        Some(when) => Guard {
+            when: *when,
+            ..guard
+        },
+        None => guard,
     }
 }

@@ -1,19 +1,21 @@
 //! Goals.
 
-ghost use Rattle.std.specs.Prelude.{◌≡◌, ◌<◌, ◌≤◌, None, length};
+ghost use Rattle.std.specs.Prelude.{◌≡◌, ◌<◌, None, length, OnOk};
 ghost use Rattle.bit_expr.specs.Arena.{arena};
 ghost use Rattle.abel_tree.specs.Entries.{entries_of};
 ghost use Rattle.abel_tree.specs.View.{view};
 ghost use Rattle.set_expr.specs.Answer.{Keeps, refusal_of};
 ghost use Rattle.section_targets.specs.Given.{AreNamed, AreIn};
-ghost use Rattle.state_diagrams.specs.Goals.{GivesRegister, GivesRegisters, GivesGoal, BuildsValue};
+ghost use Rattle.state_diagrams.specs.Goals.{GivesRegister, GivesRegisters, GivesGoal};
+ghost use Rattle.state_diagrams.specs.DiagramWalks.{WalksValue};
 
+use crate::machine::Machine;
 use abel_tree::Goal;
 use bit_expr::{ExprId, Exprs};
-use equations::{refuse_value, refused_unit, value_bits};
-use pld_base::Place;
+use equations::{refuse_value, value_bits};
+use pld_base::{OutOfMemory, Place};
 use pld_device::Device;
-use section_targets::{Aim, Giving, give};
+use section_targets::{Aim, Giving, Walked, give};
 use set_expr::{Contribution, Gives, Guard, Scope, SectionFault};
 use std::alloc::Global;
 use truth_tables::{Assigning, give_output};
@@ -85,43 +87,51 @@ fn give_registers(
 /// A goal of which nothing is refused.
 fn give_goal<D: Device>(
     alloc: Global,
-    scope: &Scope<'_>,
+    machine: &Machine<'_>,
     guard: Guard,
-    registers: &[Aim],
     goal: &Goal,
-    exprs: &mut Exprs,
-    list: &mut Vec<Contribution>,
+    out: &mut Walked,
 ) -> Result<(), SectionFault>
-    requires signals { AreNamed (length (entries_of scope.now)) registers.now }
-    requires guard { guard.when.0 < length (arena exprs.old) }
-    requires accepted { refusal_of scope.now (view goal.now.value) ≡ None }
-    ensures keeps { Keeps (arena exprs.old) (arena exprs.new) }
-    ensures gives { GivesGoal D.table scope.now guard registers.now goal.now exprs.old exprs.new list.old.items list.new.items result }
+    requires signals { AreNamed (length (entries_of machine.now.scope.now)) machine.now.registers.now }
+    requires guard { guard.when.0 < length (arena out.old.exprs) }
+    requires accepted { refusal_of machine.now.scope.now (view goal.now.value) ≡ None }
+    ensures before { out.new.before ≡ out.old.before }
+    ensures fault { out.new.fault ≡ out.old.fault }
+    ensures gives { GivesGoal D.table machine.now guard goal.now out.old out.new result }
 {
     let unit = goal.place;
+    let names = machine.scope.scope();
+    let registers = machine.registers;
     let width = registers.len();
-    let bits = value_bits::<D>(alloc, scope, &goal.value, width, unit, exprs)?;
-    give_registers(scope, guard, unit, registers, &bits, exprs, list)
+    let bits = value_bits::<D>(alloc, names, &goal.value, width, unit, &mut out.exprs)?;
+    give_registers(
+        names,
+        guard,
+        unit,
+        registers,
+        &bits,
+        &mut out.exprs,
+        &mut out.list,
+    )
 }
 
 /// A goal without the statements behind it.
-pub(crate) fn build_value<D: Device>(
+pub(crate) fn walk_value<D: Device>(
     alloc: Global,
-    scope: &Scope<'_>,
+    machine: &Machine<'_>,
     guard: Guard,
-    registers: &[Aim],
     goal: &Goal,
-    exprs: &mut Exprs,
-    list: &mut Vec<Contribution>,
-) -> Result<(), SectionFault>
-    requires signals { AreNamed (length (entries_of scope.now)) registers.now }
-    requires guard { guard.when.0 < length (arena exprs.old) }
-    ensures keeps { Keeps (arena exprs.old) (arena exprs.new) }
-    ensures builds { BuildsValue D.table scope.now guard registers.now goal.now exprs.old exprs.new list.old.items list.new.items result }
+    out: &mut Walked,
+) -> Result<(), OutOfMemory>
+    requires signals { AreNamed (length (entries_of machine.now.scope.now)) machine.now.registers.now }
+    requires guard { guard.when.0 < length (arena out.old.exprs) }
+    ensures { OnOk result (WalksValue D.table machine.now guard goal.now out.old out.new) }
 {
-    let value = scope.check(alloc, &goal.value)?;
-    match refuse_value(goal.place, registers.len(), value) {
-        Some(_) => Err(refused_unit(goal.place)),
-        None => give_goal::<D>(alloc, scope, guard, registers, goal, exprs, list),
+    let value = machine.scope.scope().check(alloc, &goal.value)?;
+    let fault = refuse_value(goal.place, machine.registers.len(), value);
+    if out.refuse(fault) {
+        return Ok(());
     }
+    let made = give_goal::<D>(alloc, machine, guard, goal, out);
+    out.keep_limit(made)
 }

@@ -1,6 +1,6 @@
 -- One guard more, and all guards.
-use Rattle.std.proofs.Common.{◌≡◌, ◌+◌, ◌<◌, ◌++◌, List, [], ◌∷◌, Ok, Err, length, map, take, drop, sym, ap, ◌∙◌, subst, arith}
-use Rattle.std.proofs.lemmas.List.{map-append, take-append-drop, length-map}
+use Rattle.std.proofs.Common.{◌≡◌, ◌+◌, ◌++◌, List, [], ◌∷◌, Ok, Err, map, take, drop, refl, sym, ap, ◌∙◌, subst, arith}
+use Rattle.std.proofs.lemmas.List.{map-append, take-append-drop}
 use Rattle.std.proofs.lemmas.Result.{err_from_is_err_and}
 use Rattle.std.proofs.Math.Seq.{take-length}
 use Rattle.bit_expr.specs.Arena.{arena, formula_at}
@@ -11,25 +11,35 @@ use Rattle.abel_tree.specs.View.{view, view_choice}
 use Rattle.abel_meaning.specs.CountedNodes.{condition_of, guard_then}
 use Rattle.set_expr.proofs.FoundMembers.{front_more}
 use Rattle.section_targets.specs.Building.{IsBit}
+use Rattle.section_targets.specs.Contexts.{context_for}
 use Rattle.section_targets.proofs.Built.{kept_formula, kept_inside, keeps_on}
 use Rattle.section_targets.proofs.Parts.{leaves_nodes}
-use Rattle.equations.specs.StatementUnits.{condition_refused}
 use Rattle.equations.proofs.BuiltUnits.{at}
 use Rattle.equations.specs.declared.choices.Chosen.{Chosen}
+use Rattle.state_diagrams.proofs.ArmLaws.{Choice}
 use Rattle.state_diagrams.proofs.ArmViews.{choice_parts}
-use Rattle.state_diagrams.specs.Branches.{AreGuardsOf, MakesGuards, AreGuards}
-use Rattle.state_diagrams.proofs.BranchWorks.{Choice, choice_here}
-use Rattle.state_diagrams.proofs.GuardLaws.{clear_at, condition_there, conditions_next, conditions_stop, guards_kept, guards_more, no_nodes}
+use Rattle.state_diagrams.specs.ArmGuards.{AreGuardsOf, MakesGuards}
+use Rattle.state_diagrams.proofs.GuardLaws.{arm_clear, condition_there, conditions_next, conditions_stop, guards_kept, guards_more, no_nodes}
 use Rattle.state_diagrams.proofs.choices.make_guards.Goals as goal
 
 pub loop-arm-init : goal.loop-arm-init
-loop-arm-init g c = record { keeps = λ i f e. e; built = λ d is list. no_nodes c.args.unit (at c.args.exprs.now list); guards = λ d is. subst (λ (ids : List ExprId). AreGuardsOf d (arena c.args.exprs.now) (formula_at (arena c.args.exprs.now) c.args.guard) (choices_of []) ids) (sym c.new-guards.ensures.items) tt }
+loop-arm-init g c =
+    record {
+      keeps = λ i f e. e;
+      built = λ list. no_nodes c.args.unit (at c.args.exprs.now list);
+      guards = subst (λ (ids : List ExprId). AreGuardsOf (context_for g.D.Device.table c.args.scope.now) (arena c.args.exprs.now) (formula_at (arena c.args.exprs.now) c.args.guard) (choices_of []) ids) (sym c.new-guards.ensures.items) tt;
+    }
 
 pub then_guard-requires : goal.then_guard-requires
-then_guard-requires g c = record { guard = kept_inside _ _ c.args.guard c.loop-arm.invariant.keeps c.requires.guard }
+then_guard-requires g c =
+    record {
+      guard = kept_inside _ _ c.args.guard c.loop-arm.invariant.keeps c.requires.guard;
+      accepted = arm_clear (context_for g.D.Device.table c.args.scope.now) c.args.scope.now c.args.arms.now c.loop-arm.arm-index c.arm-item.result refl c.requires.accepted c.loop-arm-test.true c.arm-item.is;
+    }
 
 pub loop-arm-preserved : goal.loop-arm-preserved
 loop-arm-preserved g c =
+    let d = context_for g.D.Device.table c.args.scope.now in
     let arms = c.args.arms.now in
     let i = c.loop-arm.arm-index in
     let x = c.arm-item.result in
@@ -43,27 +53,26 @@ loop-arm-preserved g c =
     let gf = formula_at fs c.args.guard in
     let same : formula_at hs c.args.guard ≡ gf = kept_formula fs hs c.args.guard v.keeps c.requires.guard in
     let here : ds ≡ cs ++ y ∷ [] = front_more view_choice arms i x c.loop-arm-test.true c.arm-item.is in
-    let lt : i < length (map view_choice arms) = omega (arith, c.loop-arm-test.true, length-map arms view_choice) in
     record {
       keeps = keeps_on _ _ _ v.keeps c.in_ok-chosen.ensures.keeps;
-      built = λ d is list.
-          let clear = ap (λ (z : Choice). condition_refused d c.args.unit z.0) (sym (choice_here arms i x y c.loop-arm-test.true c.arm-item.is)) ∙ clear_at d (map view_choice arms) i y c.args.unit (c.requires.accepted d is) lt in
-          let told = condition_there {R = Chosen} d c.args.unit x (formula_at hs c.args.guard) (at c.loop-arm.exprs list) (at c.then_guard.new.exprs list) (Ok c.in_ok-chosen.chosen) (c.in_ok-chosen.ensures.builds d is list) in
-          conditions_next d gf (formula_at hs c.args.guard) c.args.unit cs ds y (at c.args.exprs.now list) (at c.loop-arm.exprs list) (at c.then_guard.new.exprs list) (Ok c.in_ok-chosen.chosen) here same clear (v.built d is list) told;
-      guards = λ d is.
+      built = λ list.
+          let told = condition_there {R = Chosen} d c.args.unit x (formula_at hs c.args.guard) (at c.loop-arm.exprs list) (at c.then_guard.new.exprs list) (Ok c.in_ok-chosen.chosen) (c.in_ok-chosen.ensures.builds list) in
+          conditions_next d gf (formula_at hs c.args.guard) c.args.unit cs ds y (at c.args.exprs.now list) (at c.loop-arm.exprs list) (at c.then_guard.new.exprs list) (Ok c.in_ok-chosen.chosen) here same (v.built list) told;
+      guards =
           subst (λ zs. AreGuardsOf d ns gf (choices_of zs) c.push.new.self.items) (sym here)
           (subst (λ (ids : List ExprId). AreGuardsOf d ns gf (choices_of (cs ++ y ∷ [])) ids) (sym c.in_ok-push.ensures.items)
-          (guards_more d ns gf cs c.loop-arm.guards.items y c.in_ok-chosen.chosen.then (guards_kept d hs ns gf cs c.loop-arm.guards.items c.in_ok-chosen.ensures.keeps (v.guards d is))
+          (guards_more d ns gf cs c.loop-arm.guards.items y c.in_ok-chosen.chosen.then (guards_kept d hs ns gf cs c.loop-arm.guards.items c.in_ok-chosen.ensures.keeps v.guards)
           (subst (λ (z : Choice). IsBit ns c.in_ok-chosen.chosen.then (guard_then gf (condition_of d z.0)).what) (sym (choice_parts x))
-          (subst (λ f. IsBit ns c.in_ok-chosen.chosen.then (guard_then f (condition_of d (view x.condition))).what) same (c.in_ok-chosen.ensures.then d is)))));
+          (subst (λ f. IsBit ns c.in_ok-chosen.chosen.then (guard_then f (condition_of d (view x.condition))).what) same c.in_ok-chosen.ensures.then))));
     }
 
 pub returns-in_err-chosen-clause-keeps : goal.returns-in_err-chosen-clause-keeps
 returns-in_err-chosen-clause-keeps g c = keeps_on _ _ _ c.loop-arm.invariant.keeps c.in_err-chosen.ensures.keeps
 
 pub returns-in_err-chosen-clause-builds : goal.returns-in_err-chosen-clause-builds
-returns-in_err-chosen-clause-builds g c = λ d is list.
+returns-in_err-chosen-clause-builds g c = λ list.
     let p = err_from_is_err_and c.from_residual.result c.from_residual.ensures.1 in
+    let d = context_for g.D.Device.table c.args.scope.now in
     let arms = c.args.arms.now in
     let i = c.loop-arm.arm-index in
     let x = c.arm-item.result in
@@ -79,13 +88,11 @@ returns-in_err-chosen-clause-builds g c = λ d is list.
     let new = at c.then_guard.new.exprs list in
     let same : formula_at hs c.args.guard ≡ gf = kept_formula fs hs c.args.guard v.keeps c.requires.guard in
     let here : ds ≡ cs ++ y ∷ [] = front_more view_choice arms i x c.loop-arm-test.true c.arm-item.is in
-    let lt : i < length (map view_choice arms) = omega (arith, c.loop-arm-test.true, length-map arms view_choice) in
     let all_of : map view_choice arms ≡ ds ++ map view_choice (drop (i + 1) arms) = ap (map view_choice) (sym (take-append-drop (i + 1) arms)) ∙ map-append view_choice (take (i + 1) arms) (drop (i + 1) arms) in
-    let clear = ap (λ (z : Choice). condition_refused d c.args.unit z.0) (sym (choice_here arms i x y c.loop-arm-test.true c.arm-item.is)) ∙ clear_at d (map view_choice arms) i y c.args.unit (c.requires.accepted d is) lt in
     rw (p.1, p.2)
     (conditions_stop d gf c.args.unit ds (map view_choice (drop (i + 1) arms)) (map view_choice arms) old new f all_of
-    (conditions_next {R = Unit} d gf (formula_at hs c.args.guard) c.args.unit cs ds y old (at c.loop-arm.exprs list) new (Err f) here same clear (v.built d is list)
-    (condition_there {R = Unit} d c.args.unit x (formula_at hs c.args.guard) (at c.loop-arm.exprs list) new (Err f) (c.in_err-chosen.ensures.builds d is list))))
+    (conditions_next {R = Unit} d gf (formula_at hs c.args.guard) c.args.unit cs ds y old (at c.loop-arm.exprs list) new (Err f) here same (v.built list)
+    (condition_there {R = Unit} d c.args.unit x (formula_at hs c.args.guard) (at c.loop-arm.exprs list) new (Err f) (c.in_err-chosen.ensures.builds list))))
 
 pub returns-clause-keeps : goal.returns-clause-keeps
 returns-clause-keeps g c = c.loop-arm.invariant.keeps
@@ -97,10 +104,10 @@ returns-clause-builds g c =
 
 pub returns-clause-guards : goal.returns-clause-guards
 returns-clause-guards g c =
-    subst (λ (xs : List CaseArm). AreGuards g.D.Device.table c.args.scope.now (arena c.args.exprs.now) (arena c.loop-arm.exprs) c.args.guard (choices_of (map view_choice xs)) c.loop-arm.guards.items)
+    subst (λ (xs : List CaseArm). AreGuardsOf (context_for g.D.Device.table c.args.scope.now) (arena c.loop-arm.exprs) (formula_at (arena c.args.exprs.now) c.args.guard) (choices_of (map view_choice xs)) c.loop-arm.guards.items)
     (ap (λ n. take n c.args.arms.now) (omega (arith, c.loop-arm-test.false, c.loop-arm.auto.arm-index-end)) ∙ take-length c.args.arms.now) c.loop-arm.invariant.guards
 
 pub returns-in_err-push-clause-builds : goal.returns-in_err-push-clause-builds
-returns-in_err-push-clause-builds g c = λ d is list.
+returns-in_err-push-clause-builds g c = λ list.
     let p = err_from_is_err_and c.from_residual-in_err-push.result c.from_residual-in_err-push.ensures.1 in
     rw (p.1, p.2) (tt, leaves_nodes c.args.exprs.now c.then_guard.new.exprs list (keeps_on _ _ _ c.loop-arm.invariant.keeps c.in_ok-chosen.ensures.keeps))

@@ -1,0 +1,135 @@
+-- The walk over a whole diagram, part by part.
+use Rattle.std.proofs.Common.{◌≡◌, false, true, Bool, Option, None, Some, List, [], ◌∷◌, ◌++◌, length, map, refl, sym, ap, ◌∙◌, if◌then◌else◌, subst, append_assoc, append-nil}
+use Rattle.std.specs.Option.{is_some}
+use Rattle.pld_base.specs.declared.place.Place.{Place}
+use Rattle.bit_expr.specs.Arena.{arena}
+use Rattle.bit_expr.specs.Formulas.{Formula}
+use Rattle.abel_tree.specs.declared.diagrams.Diagram.{Diagram}
+use Rattle.abel_tree.specs.FirstRefusal.{earlier, first_refusal, is_before}
+use Rattle.abel_tree.proofs.FirstRefusals.{none_refused}
+use Rattle.abel_tree.specs.Tree.{Tree, StateTree}
+use Rattle.abel_tree.specs.View.{view, view_state}
+use Rattle.abel_meaning.specs.Contributions as meant
+use Rattle.abel_meaning.specs.Designs.{Context}
+use Rattle.abel_meaning.specs.Diagrams.{registers_given}
+use Rattle.abel_meaning.specs.FormulaBits.{formulas}
+use Rattle.abel_meaning.specs.Targets.{some_signals, targets_of}
+use Rattle.abel_meaning.specs.Terms.{term_of}
+use Rattle.set_expr.specs.declared.contributions.Guard.{Guard}
+use Rattle.set_expr.specs.declared.fault.SectionFault.{SectionFault}
+use Rattle.set_expr.specs.SectionOrder.{section_order}
+use Rattle.set_expr.specs.Given.{view_guard}
+use Rattle.section_targets.specs.declared.aim.Aim.{Aim}
+use Rattle.section_targets.specs.declared.manner.Manner.{Manner}
+use Rattle.section_targets.specs.declared.walked.Walked.{Walked}
+use Rattle.section_targets.specs.Building.{IsBuilt}
+use Rattle.section_targets.specs.Manners.{AreFirsts}
+use Rattle.section_targets.specs.TargetSignals.{target_member}
+use Rattle.section_targets.specs.Units.{CountedUnit, all_refused, limit_refused, units_refused}
+use Rattle.section_targets.specs.Walking.{Walks, fault_behind, standing}
+use Rattle.section_targets.proofs.Built.{left_empty, right_empty}
+use Rattle.section_targets.proofs.SideTerms.{member_positions, positions_of}
+use Rattle.section_targets.proofs.WalksBehind.{clear_before, walks_none, walks_refused, walks_then}
+use Rattle.state_diagrams.specs.DiagramPlaces.{aims_places}
+use Rattle.state_diagrams.specs.DiagramUnits.{diagram_manners, manners_behind, register_manners, registers_refused, signals_of, states_manners, units_behind, units_of_states}
+use Rattle.state_diagrams.specs.DiagramWalks.{WalksWork, given_by, places_by, units_of}
+use Rattle.state_diagrams.specs.DiagramWorks.{header_work, others_work, registers_work}
+use Rattle.state_diagrams.specs.StateValues.{if_none}
+use Rattle.state_diagrams.proofs.DiagramBuilt.{registers_split}
+use Rattle.state_diagrams.proofs.StateLaws.{manners_accepted}
+use Rattle.truth_tables.specs.Works.{Work}
+
+-- ---- where something is refused, what is given doesn't count
+
+pub walks_refusing : (all ms : List Manner) (us : List CountedUnit) (gs hs : List (meant.Contribution Formula)) (ps qs : List Place) (old new : Walked) → is_some new.fault ≡ true → Walks all us gs ps ms old new → Walks all us hs qs ms old new
+walks_refusing all ms us gs hs ps qs old new s w =
+    record { keeps = w.keeps; fault = w.fault; manners = w.manners; given = λ e. absurd (never (sym s ∙ ap is_some e)) }
+  where
+    never : ◌≡◌ {A = Bool} true false → ⊥
+    never k = cc
+
+-- and where nothing is, all units are made
+pub walks_built : (all ms : List Manner) (us : List CountedUnit) (gs : List (meant.Contribution Formula)) (ps : List Place) (old new : Walked) → new.fault ≡ None → Walks all us gs ps ms old new → (old.fault ≡ None) × IsBuilt us gs ps (standing old) (standing new)
+walks_built all ms us gs ps old new e w =
+    let count = length (arena old.exprs) in
+    let clear = clear_before old.fault count us (sym e ∙ w.fault) in
+    let none = none_refused section_order (all_refused count us) (sym e ∙ w.fault ∙ ap (λ f. fault_behind f count us) clear) in (
+      clear,
+      record { accepted = left_empty (units_refused us) (limit_refused count us) none; within = right_empty (units_refused us) (limit_refused count us) none; made = w.given e },
+    )
+
+pub no_fault : (f : Option SectionFault) → is_some f ≡ false → f ≡ None
+no_fault None e = refl
+no_fault (Some x) e = absurd cc
+
+-- nothing is given behind what is refused
+pub header_refused : (all : List Manner) (gs : List (meant.Contribution Formula)) (ps : List Place) (out : Walked) → is_some out.fault ≡ true → AreFirsts out.before all → Walks all [] gs ps [] out out
+header_refused all gs ps out s a = walks_refusing all [] [] [] gs [] ps out out s (walks_none all out a)
+
+-- ---- registers
+
+-- no match for each register, and the states
+pub registers_walk : (d : Context) (all : List Manner) (h : meant.Guard Formula) (xs : List Aim) (ss : List StateTree) (old mid new : Walked)
+    → WalksWork all (header_work d h xs) [] old mid → WalksWork all (others_work d h xs all ss) (states_manners d ss) mid new
+    → WalksWork all (registers_work d h xs all ss) (states_manners d ss) old new
+registers_walk d all h xs ss old mid new a b =
+    let v = header_work d h xs in
+    let w = others_work d h xs all ss in
+    subst (λ (x : Work). WalksWork all x (states_manners d ss) old new) (registers_split d h xs all ss)
+    (walks_then all [] (states_manners d ss) v.units w.units v.gives w.gives v.places w.places old mid new a
+    (subst (λ ns. WalksWork ns w (states_manners d ss) mid new) (sym (append-nil all)) b))
+
+-- registers of which nothing is refused are those of their term
+registers_clear : (rs more : List SectionFault) → if_none rs more ≡ [] → rs ≡ []
+registers_clear [] more e = refl
+registers_clear (r ∷ rs) more e = absurd cc
+
+some_positions : (xs : List Aim) → some_signals (positions_of xs) ≡ signals_of xs
+some_positions [] = refl
+some_positions (x ∷ xs) = ap (λ ss. x.signal ∷ ss) (some_positions xs)
+
+register_signals : (d : Context) (t : Tree) → (target_member d t).refusals ≡ [] → some_signals (targets_of (term_of d.known t)) ≡ signals_of (target_member d t).aims
+register_signals d t e = ap some_signals (member_positions d t e) ∙ some_positions (target_member d t).aims
+
+-- ---- diagrams
+
+-- behind registers that were noted
+noted_walks : (all ms ns before : List Manner) (us : List CountedUnit) (gs : List (meant.Contribution Formula)) (ps : List Place) (old new : Walked) → Walks (all ++ ms) us gs ps ns (record old { before = before }) new → Walks all us gs ps (ms ++ ns) old new
+noted_walks all ms ns before us gs ps old new w =
+    record { keeps = w.keeps; fault = w.fault; manners = subst (AreFirsts new.before) (append_assoc all ms ns) w.manners; given = w.given }
+
+-- a diagram of registers that aren't refused
+pub diagram_walks : (d : Context) (all before : List Manner) (fs : List Formula) (g : Guard) (x : Diagram) (xs : List Aim) (old new : Walked)
+    → registers_refused d all (target_member d (view x.registers)) ≡ [] → xs ≡ (target_member d (view x.registers)).aims
+    → WalksWork (all ++ register_manners (target_member d (view x.registers))) (registers_work d (view_guard fs g) xs (all ++ register_manners (target_member d (view x.registers))) (map view_state x.states)) (states_manners d (map view_state x.states)) (record old { before = before }) new
+    → Walks all (units_of d all x) (given_by d g x fs) (places_by d x) (diagram_manners d all (target_member d (view x.registers)) (map view_state x.states)) old new
+diagram_walks d all before fs g x xs old new clear e w =
+    let t = target_member d (view x.registers) in
+    let h = view_guard fs g in
+    let ss = map view_state x.states in
+    let ms = all ++ register_manners t in
+    let us = units_of_states d (signals_of t.aims) ms [] ss in
+    let mid : Walked = record old { before = before } in
+    let named = subst (λ ys. WalksWork ms (registers_work d h ys ms ss) (states_manners d ss) mid new) e w in
+    let behind = subst (λ vs. Walks ms vs (given_by d g x fs) (places_by d x) (states_manners d ss) mid new) (sym (ap (λ rs. units_behind rs x.place us) clear))
+    (subst (λ ys. Walks ms us (registers_given (formulas d) d h ys ss) (aims_places d t.aims ss) (states_manners d ss) mid new) (sym (register_signals d (view x.registers) (registers_clear t.refusals _ clear))) named) in
+    subst (λ ns. Walks all (units_of d all x) (given_by d g x fs) (places_by d x) ns old new) (manners_accepted (registers_refused d all t) (register_manners t) (states_manners d ss) clear)
+    (noted_walks all (register_manners t) (states_manners d ss) before (units_of d all x) (given_by d g x fs) (places_by d x) old new behind)
+
+-- something is refused where a refusal is kept
+some_earlier : (f : Option SectionFault) (g : SectionFault) → is_some (earlier section_order f (Some g)) ≡ true
+some_earlier None g = refl
+some_earlier (Some x) g = chosen (is_before section_order g x)
+  where
+    chosen : (b : Bool) → is_some (if b then Some g else Some x) ≡ true
+    chosen true = refl
+    chosen false = refl
+
+-- a diagram whose registers are refused
+pub diagram_refused : (all ms ns : List Manner) (rs : List SectionFault) (p : Place) (us : List CountedUnit) (gs : List (meant.Contribution Formula)) (ps : List Place) (f : SectionFault) (old new : Walked)
+    → Some f ≡ first_refusal section_order rs → new.fault ≡ earlier section_order old.fault (Some f) → new.exprs ≡ old.exprs → AreFirsts new.before (all ++ ms)
+    → Walks all (units_behind rs p us) gs ps (ms ++ manners_behind rs ns) old new
+diagram_refused all ms ns [] p us gs ps f old new e k x a = absurd cc
+diagram_refused all ms ns (r ∷ rs) p us gs ps f old new e k x a =
+    walks_refused all (ms ++ []) (record { place = p; refusals = r ∷ rs; nodes = 0 }) gs ps (Some f) old new (e ∙ ap (first_refusal section_order) (sym (append-nil (r ∷ rs)))) k (ap is_some k ∙ some_earlier old.fault f) x
+    (subst (λ xs. AreFirsts new.before (all ++ xs)) (sym (append-nil ms)) a)

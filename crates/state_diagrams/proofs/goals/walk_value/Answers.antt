@@ -1,0 +1,64 @@
+-- A value that is refused or stands behind what is, and one that is made.
+use Rattle.std.proofs.Common.{[], ◌++◌, length, sym, ◌∙◌, subst}
+use Rattle.std.proofs.lemmas.Result.{on_ok_weaker}
+use Rattle.bit_expr.specs.Arena.{arena}
+use Rattle.abel_tree.specs.declared.names.Names.{Names}
+use Rattle.abel_tree.specs.Entries.{entries_of}
+use Rattle.abel_tree.specs.View.{view}
+use Rattle.abel_meaning.specs.CountedNodes.{value_nodes}
+use Rattle.set_expr.specs.FoundNames.{expression_found}
+use Rattle.set_expr.specs.KnownNames.{SumsUp}
+use Rattle.set_expr.specs.Given.{view_guard}
+use Rattle.section_targets.specs.declared.walked.Walked.{Walked}
+use Rattle.section_targets.specs.Building.{Builds}
+use Rattle.section_targets.specs.Contexts.{context_for}
+use Rattle.section_targets.specs.ValueWidths.{value_refused, value_width}
+use Rattle.section_targets.specs.Walking.{standing}
+use Rattle.section_targets.proofs.Built.{left_empty}
+use Rattle.equations.proofs.BuiltParts.{value_accepted, whole}
+use Rattle.equations.proofs.WalkedUnits.{unit_clear, unit_made, unit_refused}
+use Rattle.state_diagrams.specs.Goals.{goal_unit}
+use Rattle.state_diagrams.proofs.goals.walk_value.Goals as goal
+
+pub returns-then-refuse : goal.returns-then-refuse
+returns-then-refuse g c = λ all a.
+    let m = c.args.machine.now in
+    let d = context_for g.D.Device.table m.scope.now in
+    let x = c.args.goal.now in
+    let xs = m.registers.now in
+    let old = c.args.out.now in
+    let f = expression_found d.names (view x.value) in
+    let rs = value_refused x.place (length xs) f in
+    let w = goal_unit d (view_guard (arena old.exprs) c.args.guard) xs x rs in
+    unit_refused all (whole x.place rs (value_nodes d (view_guard (arena old.exprs) c.args.guard).holds (length xs) (view x.value))) w.gives w.places c.refuse_value-fault.result old c.refuse.new.self
+    (c.refuse_value-fault.ensures f (subst (λ (k : Names). SumsUp c.in_ok-value.value (expression_found (entries_of k) (view x.value))) c.scope.ensures c.in_ok-value.ensures)) c.refuse.ensures.first (sym c.refuse.ensures.refused ∙ c.if-refuse.true) a
+
+pub give_goal-made-requires-clause-accepted : goal.give_goal-made-requires-clause-accepted
+give_goal-made-requires-clause-accepted g c =
+    let m = c.args.machine.now in
+    let n = m.scope.now in
+    let x = c.args.goal.now in
+    let k = length m.registers.now in
+    let f = expression_found (entries_of n) (view x.value) in
+    let clear = unit_clear (value_refused x.place k f) c.refuse_value-fault.result c.args.out.now c.refuse.new.self (c.refuse_value-fault.ensures f (subst (λ (k : Names). SumsUp c.in_ok-value.value (expression_found (entries_of k) (view x.value))) c.scope.ensures c.in_ok-value.ensures)) c.refuse.ensures.first (sym c.refuse.ensures.refused ∙ c.if-refuse.false) in
+    value_accepted n (view x.value) (left_empty f.refusals (f.specials ++ value_width x.place k f.value) clear.1.1)
+
+pub returns : goal.returns
+returns g c =
+    on_ok_weaker c.keep_limit.result
+    (λ k all a.
+    let m = c.args.machine.now in
+    let d = context_for g.D.Device.table m.scope.now in
+    let x = c.args.goal.now in
+    let xs = m.registers.now in
+    let old = c.args.out.now in
+    let made = c.give_goal-made.new.out in
+    let h = view_guard (arena old.exprs) c.args.guard in
+    let f = expression_found d.names (view x.value) in
+    let rs = value_refused x.place (length xs) f in
+    let w = goal_unit d h xs x rs in
+    let here = subst (λ (y : Walked). Builds (goal_unit d (view_guard (arena y.exprs) c.args.guard) xs x []).units (goal_unit d (view_guard (arena y.exprs) c.args.guard) xs x []).gives w.places (standing y) (standing made) c.give_goal-made.result) c.refuse.ensures.first c.give_goal-made.ensures.gives in
+    unit_made all x.place rs (value_nodes d h.holds (length xs) (view x.value)) w.gives w.places c.refuse_value-fault.result old c.refuse.new.self made c.keep_limit.new.self c.give_goal-made.result
+    (c.refuse_value-fault.ensures f (subst (λ (k : Names). SumsUp c.in_ok-value.value (expression_found (entries_of k) (view x.value))) c.scope.ensures c.in_ok-value.ensures)) c.refuse.ensures.first (sym c.refuse.ensures.refused ∙ c.if-refuse.false) a
+    c.give_goal-made.ensures.fault c.give_goal-made.ensures.before here k)
+    c.keep_limit.ensures

@@ -1,0 +1,46 @@
+-- Behind what is refused, and where nothing is.
+use Rattle.std.proofs.Common.{[], length, refl, sym, ap, ◌∙◌, subst, append-nil}
+use Rattle.std.proofs.lemmas.Result.{on_ok_weaker}
+use Rattle.bit_expr.specs.Arena.{arena}
+use Rattle.abel_tree.specs.declared.names.Names.{Names}
+use Rattle.abel_tree.specs.Entries.{entries_of}
+use Rattle.set_expr.specs.Given.{view_guard}
+use Rattle.section_targets.specs.declared.walked.Walked.{Walked}
+use Rattle.section_targets.specs.Contexts.{context_for}
+use Rattle.section_targets.specs.Given.{AreNamed}
+use Rattle.section_targets.specs.Manners.{AreFirsts}
+use Rattle.section_targets.specs.Walking.{standing}
+use Rattle.section_targets.proofs.WalksBehind.{walks_made}
+use Rattle.truth_tables.specs.TableUnits.{some_aims}
+use Rattle.state_diagrams.specs.DiagramWorks.{header_work}
+use Rattle.state_diagrams.proofs.DiagramBuilt.{header_aims, header_there}
+use Rattle.state_diagrams.proofs.WalkedDiagrams.{header_refused, no_fault}
+use Rattle.state_diagrams.proofs.walking.walk_header.Goals as goal
+
+pub returns-then-is_some : goal.returns-then-is_some
+returns-then-is_some g c = λ all a.
+    let m = c.args.machine.now in
+    let w = header_work (context_for g.D.Device.table m.scope.now) (view_guard (arena c.args.out.now.exprs) c.args.guard) m.registers.now in
+    header_refused all w.gives w.places c.args.out.now (sym c.is_some.ensures ∙ c.if-is_some.true) a
+
+pub give_no_matches-made-requires : goal.give_no_matches-made-requires
+give_no_matches-made-requires g c =
+    let m = c.args.machine.now in
+    subst (λ (n : Names). AreNamed (length (entries_of n)) (some_aims c.deref.result.now)) (sym c.scope-names.ensures)
+    (subst (AreNamed (length (entries_of m.scope.now))) (sym (ap some_aims (c.deref.ensures.value ∙ c.in_ok-outputs.ensures) ∙ header_aims m.registers.now)) c.requires.signals)
+
+pub returns : goal.returns
+returns g c =
+    on_ok_weaker c.keep_limit.result
+    (λ k all a.
+    let m = c.args.machine.now in
+    let d = context_for g.D.Device.table m.scope.now in
+    let xs = m.registers.now in
+    let old = c.args.out.now in
+    let h = view_guard (arena old.exprs) c.args.guard in
+    let w = header_work d h xs in
+    let made : Walked = record old { exprs = c.give_no_matches-made.new.exprs; list = c.give_no_matches-made.new.list } in
+    let clear = no_fault old.fault (sym c.is_some.ensures ∙ c.if-is_some.false) in
+    walks_made all [] [] w.gives w.places old made c.keep_limit.new.self c.give_no_matches-made.result clear clear refl (subst (AreFirsts old.before) (sym (append-nil all)) a)
+    (header_there d h xs c.deref.result.now (standing old) (standing made) c.give_no_matches-made.result (c.deref.ensures.value ∙ c.in_ok-outputs.ensures) (c.give_no_matches-made.ensures.gives d (ap entries_of (sym c.scope-names.ensures)))) k)
+    c.keep_limit.ensures

@@ -1,0 +1,162 @@
+-- What a walk over a state diagram leaves (ABEL-HDL Reference Manual, state diagrams).
+use Rattle.std.specs.Prelude.{ℕ, List, [], ◌∷◌, length, map}
+use Rattle.pld_base.specs.declared.place.Place.{Place}
+use Rattle.pld_device.specs.Table.{Table}
+use Rattle.bit_expr.specs.declared.node.ExprId.{ExprId}
+use Rattle.bit_expr.specs.Arena.{arena, formula_at}
+use Rattle.bit_expr.specs.Formulas.{Formula}
+use Rattle.abel_tree.specs.declared.diagrams.Diagram.{Diagram}
+use Rattle.abel_tree.specs.declared.diagrams.Goal.{Goal}
+use Rattle.abel_tree.specs.declared.names.Names.{Names}
+use Rattle.abel_tree.specs.Tree.{Branch, Choices, StateTree}
+use Rattle.abel_tree.specs.View.{view, view_state}
+use Rattle.abel_meaning.specs.Contributions as meant
+use Rattle.abel_meaning.specs.Designs.{Context}
+use Rattle.abel_meaning.specs.Diagrams.{diagram_gives}
+use Rattle.abel_meaning.specs.FormulaBits.{formulas}
+use Rattle.abel_meaning.specs.Terms.{term_of}
+use Rattle.set_expr.specs.declared.contributions.Guard.{Guard}
+use Rattle.set_expr.specs.FoundNames.{expression_found}
+use Rattle.set_expr.specs.Given.{view_guard}
+use Rattle.section_targets.specs.declared.manner.Manner.{Manner}
+use Rattle.section_targets.specs.declared.walked.Walked.{Walked}
+use Rattle.section_targets.specs.Contexts.{context_for}
+use Rattle.section_targets.specs.Manners.{AreFirsts}
+use Rattle.section_targets.specs.TargetSignals.{target_member}
+use Rattle.section_targets.specs.Units.{CountedUnit}
+use Rattle.section_targets.specs.ValueWidths.{value_refused}
+use Rattle.section_targets.specs.Walking.{Walks}
+use Rattle.state_diagrams.specs.declared.machine.Machine.{Machine}
+use Rattle.state_diagrams.specs.declared.states.Valued.{Valued}
+use Rattle.state_diagrams.specs.ArmGuards.{case_unit}
+use Rattle.state_diagrams.specs.DiagramPlaces.{diagram_places}
+use Rattle.state_diagrams.specs.DiagramUnits.{branch_manners, branches_manners, choices_manners, diagram_manners, signals_of, state_guard, state_manners, states_manners, units_of_diagram}
+use Rattle.state_diagrams.specs.DiagramWorks.{branch_work, branches_work, choices_work, header_work, others_work, registers_work, state_work, states_work, within_work}
+use Rattle.state_diagrams.specs.Goals.{goal_unit}
+use Rattle.state_diagrams.specs.States.{IsState}
+use Rattle.state_diagrams.specs.StateValues.{state_refused}
+use Rattle.truth_tables.specs.Works.{Work}
+
+-- the context of a machine
+abbrev pub context_of_machine : Table → Machine → Context
+context_of_machine t m = context_for t m.scope.now
+
+-- units with what they give, behind all that assigned signals before
+abbrev pub WalksWork : List Manner → Work → List Manner → (old new : Walked) → Type 0
+WalksWork all w ms old new = Walks all w.units w.gives w.places ms old new
+
+-- ---- transitions
+
+-- a goal without the statements behind it
+abbrev pub WalksValue : Table → Machine → Guard → Goal → (old new : Walked) → Type 0
+WalksValue t m g x old new =
+    (all : List Manner) → AreFirsts old.before all
+    → WalksWork all
+    (goal_unit (context_of_machine t m) (view_guard (arena old.exprs) g) m.registers.now x
+    (value_refused x.place (length m.registers.now) (expression_found (context_of_machine t m).names (view x.value))))
+    [] old new
+
+-- the conditions of CASE as a unit at its place
+abbrev pub WalksConditions : Table → Names → (guard : ExprId) → Place → Choices → (old new : Walked) → Type 0
+WalksConditions t n g p cs old new =
+    (all : List Manner) → AreFirsts old.before all
+    → Walks all (case_unit (context_for t n) (formula_at (arena old.exprs) g) p cs ∷ []) [] [] [] old new
+
+abbrev pub WalksBranch : Table → Machine → Guard → Branch → (old new : Walked) → Type 0
+WalksBranch t m g b old new =
+    (all : List Manner) → AreFirsts old.before all
+    → WalksWork all (branch_work (context_of_machine t m) (view_guard (arena old.exprs) g) m.registers.now all b)
+    (branch_manners (context_of_machine t m) b) old new
+
+-- the arms of CASE without their conditions
+abbrev pub WalksChoices : Table → Machine → Guard → Choices → (old new : Walked) → Type 0
+WalksChoices t m g cs old new =
+    (all : List Manner) → AreFirsts old.before all
+    → WalksWork all (choices_work (context_of_machine t m) (view_guard (arena old.exprs) g) m.registers.now all cs)
+    (choices_manners (context_of_machine t m) cs) old new
+
+abbrev pub WalksBranches : Table → Machine → Guard → List Branch → (old new : Walked) → Type 0
+WalksBranches t m g bs old new =
+    (all : List Manner) → AreFirsts old.before all
+    → WalksWork all (branches_work (context_of_machine t m) (view_guard (arena old.exprs) g) m.registers.now all bs)
+    (branches_manners (context_of_machine t m) bs) old new
+
+-- ---- states
+
+-- what was found is the value of the state behind those that are listed
+abbrev pub HasValue : Table → Machine → (listed : List ℕ) → Valued → Type 0
+HasValue t m listed v =
+    IsState (context_of_machine t m) (length m.registers.now) listed (view_state v.state.now) v.found
+
+-- a state's own unit
+abbrev pub state_unit : Context → List ℕ → (listed : List ℕ) → StateTree → CountedUnit
+state_unit d ss listed s =
+    record { place = s.place; refusals = state_refused d (length ss) listed s; nodes = (state_guard d ss s.value).nodes }
+
+abbrev pub WalksUnit : Table → Machine → (listed : List ℕ) → StateTree → (old new : Walked) → Type 0
+WalksUnit t m listed s old new =
+    (all : List Manner) → AreFirsts old.before all
+    → Walks all (state_unit (context_of_machine t m) (signals_of m.registers.now) listed s ∷ []) [] [] [] old new
+
+-- what stands in a state, under its guard
+abbrev pub WalksWithin : Table → Machine → Guard → StateTree → (old new : Walked) → Type 0
+WalksWithin t m g s old new =
+    (all : List Manner) → AreFirsts old.before all
+    → WalksWork all (within_work (context_of_machine t m) (view_guard (arena old.exprs) g) m.registers.now all s)
+    (state_manners (context_of_machine t m) s) old new
+
+-- a state behind those that are listed
+abbrev pub WalksState : Table → Machine → Guard → (listed : List ℕ) → StateTree → (old new : Walked) → Type 0
+WalksState t m g listed s old new =
+    (all : List Manner) → AreFirsts old.before all
+    → WalksWork all (state_work (context_of_machine t m) (view_guard (arena old.exprs) g) m.registers.now all listed s)
+    (state_manners (context_of_machine t m) s) old new
+
+abbrev pub WalksStates : Table → Machine → Guard → List StateTree → (old new : Walked) → Type 0
+WalksStates t m g states old new =
+    (all : List Manner) → AreFirsts old.before all
+    → WalksWork all (states_work (context_of_machine t m) (view_guard (arena old.exprs) g) m.registers.now all [] states)
+    (states_manners (context_of_machine t m) states) old new
+
+-- ---- diagrams
+
+-- no match for each register
+abbrev pub WalksHeader : Table → Machine → Guard → (old new : Walked) → Type 0
+WalksHeader t m g old new =
+    (all : List Manner) → AreFirsts old.before all
+    → WalksWork all (header_work (context_of_machine t m) (view_guard (arena old.exprs) g) m.registers.now) [] old new
+
+-- states with the matches of signals that are no registers
+abbrev pub WalksOthers : Table → Machine → Guard → List StateTree → (old new : Walked) → Type 0
+WalksOthers t m g states old new =
+    (all : List Manner) → AreFirsts old.before all
+    → WalksWork all (others_work (context_of_machine t m) (view_guard (arena old.exprs) g) m.registers.now all states)
+    (states_manners (context_of_machine t m) states) old new
+
+-- a diagram of registers that aren't refused
+abbrev pub WalksRegisters : Table → Machine → Guard → List StateTree → (old new : Walked) → Type 0
+WalksRegisters t m g states old new =
+    (all : List Manner) → AreFirsts old.before all
+    → WalksWork all (registers_work (context_of_machine t m) (view_guard (arena old.exprs) g) m.registers.now all states)
+    (states_manners (context_of_machine t m) states) old new
+
+-- the units of a diagram behind what was assigned before
+abbrev pub units_of : Context → (before : List Manner) → Diagram → List CountedUnit
+units_of d before x = units_of_diagram d before x.place (view x.registers) (map view_state x.states)
+
+-- what a diagram gives under a guard over these formulas
+abbrev pub given_by : Context → Guard → Diagram → List Formula → List (meant.Contribution Formula)
+given_by d g x fs = diagram_gives (formulas d) d (view_guard fs g) (term_of d.known (view x.registers)) (map view_state x.states)
+
+-- at which places
+abbrev pub places_by : Context → Diagram → List Place
+places_by d x = diagram_places d (view x.registers) (map view_state x.states)
+
+-- a diagram behind what was walked before
+abbrev pub WalksDiagram : Table → Names → Guard → Diagram → (old new : Walked) → Type 0
+WalksDiagram t n g x old new =
+    (all : List Manner) → AreFirsts old.before all
+    → Walks all (units_of (context_for t n) all x) (given_by (context_for t n) g x (arena old.exprs))
+    (places_by (context_for t n) x)
+    (diagram_manners (context_for t n) all (target_member (context_for t n) (view x.registers)) (map view_state x.states))
+    old new

@@ -1,0 +1,171 @@
+//! The walk over transitions: each unit is checked, and made where nothing is refused so far.
+
+ghost use Rattle.std.specs.Prelude.{◌≡◌, ◌<◌, None, length, OnOk};
+ghost use Rattle.bit_expr.specs.Arena.{arena, formula_at};
+ghost use Rattle.abel_tree.specs.Entries.{entries_of};
+ghost use Rattle.abel_tree.specs.Tree.{ACase};
+ghost use Rattle.abel_tree.specs.View.{view_arm};
+ghost use Rattle.section_targets.specs.Contexts.{context_for};
+ghost use Rattle.section_targets.specs.Given.{AreNamed, AreIn};
+ghost use Rattle.state_diagrams.specs.Arms.{case_choices, case_place, view_goal, view_if, view_arms, view_choices};
+ghost use Rattle.state_diagrams.specs.ArmGuards.{AreGuardsOf};
+ghost use Rattle.state_diagrams.specs.DiagramWalks.{WalksBranch, WalksBranches, WalksChoices};
+
+use crate::choices::{under_arm, walk_conditions};
+use crate::goals::walk_value;
+use crate::machine::Machine;
+use abel_tree::{Arm, Case, CaseArm, Goal, If};
+use bit_expr::ExprId;
+use equations::{Condition, walk_condition, walk_statements};
+use pld_base::OutOfMemory;
+use pld_device::Device;
+use section_targets::Walked;
+use set_expr::Guard;
+use std::alloc::Global;
+
+/// The guard of a CASE, with the bits of those of its arms.
+#[derive(Drop)]
+struct Guards<'a> {
+    outer: Guard,
+    bits: &'a [ExprId],
+}
+
+/// A goal with the statements behind it.
+fn walk_goal<D: Device>(
+    alloc: Global,
+    machine: &Machine<'_>,
+    guard: Guard,
+    goal: &Goal,
+    out: &mut Walked,
+) -> Result<(), OutOfMemory>
+    requires signals { AreNamed (length (entries_of machine.now.scope.now)) machine.now.registers.now }
+    requires guard { guard.when.0 < length (arena out.old.exprs) }
+    ensures { OnOk result (WalksBranch D.table machine.now guard (view_goal goal.now) out.old out.new) }
+{
+    walk_value::<D>(alloc, machine, guard, goal, out)?;
+    match &goal.with {
+        None => Ok(()),
+        Some(list) => walk_statements::<D>(alloc, machine.scope, guard, list.as_slice(), out),
+    }
+}
+
+/// IF: the unit of its condition, its branch and that of its ELSE.
+#[cycle(walks)]
+fn walk_if<D: Device>(
+    alloc: Global,
+    machine: &Machine<'_>,
+    guard: Guard,
+    choice: &If,
+    out: &mut Walked,
+) -> Result<(), OutOfMemory>
+    requires signals { AreNamed (length (entries_of machine.now.scope.now)) machine.now.registers.now }
+    requires guard { guard.when.0 < length (arena out.old.exprs) }
+    ensures { OnOk result (WalksBranch D.table machine.now guard (view_if choice.now) out.old out.new) }
+{
+    let condition = Condition {
+        unit: choice.place,
+        expr: &choice.condition,
+        otherwise: choice.otherwise.is_some(),
+    };
+    let names = machine.scope.scope();
+    let chosen = walk_condition::<D>(alloc, names, guard.when, &condition, out)?;
+    let then = Guard {
+        when: chosen.then,
+        ..guard
+    };
+    walk_arm::<D>(alloc, machine, then, choice.then.get(), out)?;
+    match &choice.otherwise {
+        None => Ok(()),
+        Some(other) => {
+            let otherwise = Guard {
+                when: chosen.otherwise,
+                ..guard
+            };
+            walk_arm::<D>(alloc, machine, otherwise, other.get(), out)
+        }
+    }
+}
+
+/// The arms of CASE, each under its guard.
+#[cycle(walks)]
+fn walk_choices<D: Device>(
+    alloc: Global,
+    machine: &Machine<'_>,
+    guards: &Guards<'_>,
+    arms: &[CaseArm],
+    out: &mut Walked,
+) -> Result<(), OutOfMemory>
+    requires signals { AreNamed (length (entries_of machine.now.scope.now)) machine.now.registers.now }
+    requires guard { guards.now.outer.when.0 < length (arena out.old.exprs) }
+    requires inside { AreIn (length (arena out.old.exprs)) guards.now.bits.now }
+    requires bits { out.old.fault ≡ None → AreGuardsOf (context_for D.table machine.now.scope.now) (arena out.old.exprs) (formula_at (arena out.old.exprs) guards.now.outer.when) (view_choices arms.now) guards.now.bits.now }
+    ensures { OnOk result (WalksChoices D.table machine.now guards.now.outer (view_choices arms.now) out.old out.new) }
+{
+    for index in 0..arms.len() {
+        let then = under_arm(guards.outer, guards.bits, index);
+        let inner = &arms[index].result;
+        walk_arm::<D>(alloc, machine, then, inner, out)?;
+    }
+    Ok(())
+}
+
+/// CASE: the unit of all its conditions, and its arms.
+#[cycle(walks)]
+fn walk_case<D: Device>(
+    alloc: Global,
+    machine: &Machine<'_>,
+    guard: Guard,
+    case: &Case,
+    out: &mut Walked,
+) -> Result<(), OutOfMemory>
+    requires signals { AreNamed (length (entries_of machine.now.scope.now)) machine.now.registers.now }
+    requires guard { guard.when.0 < length (arena out.old.exprs) }
+    ensures { OnOk result (WalksBranch D.table machine.now guard (ACase (case_place case.now) (case_choices case.now)) out.old out.new) }
+{
+    let names = machine.scope.scope();
+    let bits = walk_conditions::<D>(alloc, names, guard.when, case, out)?;
+    let guards = Guards {
+        outer: guard,
+        bits: &bits,
+    };
+    walk_choices::<D>(alloc, machine, &guards, case.arms.as_slice(), out)
+}
+
+/// A transition under a guard, behind what was walked before. Calls go as deep as the nestings of transitions and
+/// statements.
+#[cycle(walks)]
+fn walk_arm<D: Device>(
+    alloc: Global,
+    machine: &Machine<'_>,
+    guard: Guard,
+    arm: &Arm,
+    out: &mut Walked,
+) -> Result<(), OutOfMemory>
+    requires signals { AreNamed (length (entries_of machine.now.scope.now)) machine.now.registers.now }
+    requires guard { guard.when.0 < length (arena out.old.exprs) }
+    ensures { OnOk result (WalksBranch D.table machine.now guard (view_arm arm.now) out.old out.new) }
+{
+    match arm {
+        Arm::Goal(goal) => walk_goal::<D>(alloc, machine, guard, goal, out),
+        Arm::If(choice) => walk_if::<D>(alloc, machine, guard, choice, out),
+        Arm::Case(case) => walk_case::<D>(alloc, machine, guard, case, out),
+    }
+}
+
+/// Transitions one after another.
+pub(crate) fn walk_arms<D: Device>(
+    alloc: Global,
+    machine: &Machine<'_>,
+    guard: Guard,
+    arms: &[Arm],
+    out: &mut Walked,
+) -> Result<(), OutOfMemory>
+    requires signals { AreNamed (length (entries_of machine.now.scope.now)) machine.now.registers.now }
+    requires guard { guard.when.0 < length (arena out.old.exprs) }
+    ensures { OnOk result (WalksBranches D.table machine.now guard (view_arms arms.now) out.old out.new) }
+{
+    for arm in arms {
+        walk_arm::<D>(alloc, machine, guard, arm, out)?;
+    }
+    Ok(())
+}

@@ -1,0 +1,41 @@
+//! The registers of a diagram.
+
+ghost use Rattle.std.specs.Prelude.{◌≡◌, ◌++◌, None, List, IfOk, OnOk};
+ghost use Rattle.abel_tree.specs.View.{view};
+ghost use Rattle.section_targets.specs.declared.manner.Manner.{Manner};
+ghost use Rattle.section_targets.specs.Contexts.{context_for};
+ghost use Rattle.section_targets.specs.Manners.{AreFirsts};
+ghost use Rattle.section_targets.specs.TargetSignals.{target_member};
+ghost use Rattle.state_diagrams.specs.DiagramUnits.{register_manners};
+ghost use Rattle.state_diagrams.specs.Registers.{AreRegisters};
+
+use abel_tree::Expr;
+use pld_base::OutOfMemory;
+use pld_device::Device;
+use section_targets::{Assigned, SectionScope, Side, check_aims};
+use std::alloc::Global;
+
+/// What is found of the registers of a diagram: the first refusal, or the registers from the left.
+pub(crate) fn check_registers<D: Device>(
+    alloc: Global,
+    scope: &SectionScope<'_>,
+    registers: &Expr,
+    before: &mut Assigned,
+) -> Result<Side, OutOfMemory>
+    ensures found { IfOk result (λ s. (all : List Manner) → AreFirsts before.old all → AreRegisters (context_for D.table scope.now) all (view registers.now) s) }
+    ensures before { OnOk result ((all : List Manner) → AreFirsts before.old all → AreFirsts before.new (all ++ register_manners (target_member (context_for D.table scope.now) (view registers.now)))) }
+{
+    let side = scope.registers(alloc, registers)?;
+    match side.fault {
+        Some(_) => Ok(side),
+        None => {
+            let names = scope.scope();
+            let mixed = check_aims::<D>(names, None, false, true, side.aims.as_slice(), before)?;
+            Ok(Side {
+                aims: side.aims,
+                width: side.width,
+                fault: mixed,
+            })
+        }
+    }
+}

@@ -1,0 +1,161 @@
+//! The walk over the states of a diagram, each under its guard.
+
+ghost use Rattle.std.specs.Prelude.{◌≡◌, ◌<◌, ◌≤◌, List, ℕ, None, length, map, IfOk, OnOk};
+ghost use Rattle.bit_expr.specs.Arena.{arena};
+ghost use Rattle.abel_tree.specs.Entries.{entries_of};
+ghost use Rattle.abel_tree.specs.View.{view_state};
+ghost use Rattle.section_targets.specs.Building.{AreBits, IsBit};
+ghost use Rattle.section_targets.specs.Contexts.{context_for};
+ghost use Rattle.section_targets.specs.Given.{AreNamed};
+ghost use Rattle.state_diagrams.specs.DiagramWalks.{HasValue, WalksState, WalksStates, WalksUnit, WalksWithin};
+ghost use Rattle.state_diagrams.specs.DiagramWorks.{state_bit, state_bits};
+ghost use Rattle.state_diagrams.specs.Reads.{AreRead};
+ghost use Rattle.state_diagrams.specs.States.{IsState, listed_if};
+ghost use Rattle.state_diagrams.specs.StateValues.{listed_after};
+
+use crate::arms::walk_arms;
+use crate::guards::state_guard;
+use crate::machine::Machine;
+use crate::naming::reading_names;
+use crate::values::{StateFound, check_value};
+use abel_tree::State;
+use bit_expr::ExprId;
+use equations::walk_statements;
+use pld_base::OutOfMemory;
+use pld_device::Device;
+use section_targets::Walked;
+use set_expr::Guard;
+use std::alloc::Global;
+
+/// A state with what is found of its value.
+#[derive(Drop)]
+pub(crate) struct Valued<'a> {
+    pub state: &'a State,
+    pub found: StateFound,
+}
+
+/// A state that isn't refused is listed.
+fn list_state(listed: &mut Vec<u32>, found: StateFound) -> Result<(), OutOfMemory>
+    ensures { OnOk result (listed.new.items ≡ listed_if found.fault listed.old.items found.number) }
+{
+    match found.fault {
+        Some(_) => Ok(()),
+        None => {
+            listed.push(found.number)?;
+            Ok(())
+        }
+    }
+}
+
+/// The value of a state behind those that are listed; it is listed where it isn't refused.
+fn read_state<D: Device>(
+    alloc: Global,
+    machine: &Machine<'_>,
+    reading: &[bool],
+    listed: &mut Vec<u32>,
+    state: &State,
+) -> Result<StateFound, OutOfMemory>
+    requires reading { AreRead machine.now.scope.now reading.now }
+    requires few { length machine.now.registers.now ≤ 32 }
+    ensures state { IfOk result (λ f. IsState (context_for D.table machine.now.scope.now) (length machine.now.registers.now) listed.old.items (view_state state.now) f) }
+    ensures listed { OnOk result (listed.new.items ≡ listed_after (context_for D.table machine.now.scope.now) (length machine.now.registers.now) listed.old.items (view_state state.now)) }
+{
+    let names = machine.scope.scope();
+    let width = machine.registers.len();
+    let found = check_value::<D>(alloc, names, reading, width, listed, state)?;
+    list_state(listed, found)?;
+    Ok(found)
+}
+
+/// The unit of a state: its bit; where something is refused any bit serves.
+fn walk_unit<D: Device>(
+    alloc: Global,
+    machine: &Machine<'_>,
+    valued: &Valued<'_>,
+    out: &mut Walked,
+) -> Result<ExprId, OutOfMemory>
+    ensures walks { IfOk result (λ id. (listed : List ℕ) → HasValue D.table machine.now listed valued.now → WalksUnit D.table machine.now listed (view_state valued.now.state.now) out.old out.new) }
+    ensures inside { IfOk result (λ id. id.0 < length (arena out.new.exprs)) }
+    ensures bit { IfOk result (λ id. (listed : List ℕ) → HasValue D.table machine.now listed valued.now → out.new.fault ≡ None → IsBit (arena out.new.exprs) id (state_bit (context_for D.table machine.now.scope.now) machine.now.registers.now (view_state valued.now.state.now))) }
+{
+    if out.refuse(valued.found.fault) {
+        return Ok(ExprId(1));
+    }
+    let number = valued.found.number;
+    let unit = valued.state.place;
+    let names = machine.scope.scope();
+    match state_guard::<D>(
+        alloc,
+        names,
+        machine.registers,
+        number,
+        unit,
+        &mut out.exprs,
+    ) {
+        Ok(bit) => Ok(bit),
+        Err(fault) => {
+            out.keep_limit(Err(fault))?;
+            Ok(ExprId(1))
+        }
+    }
+}
+
+/// What stands in a state, under its guard.
+fn walk_within<D: Device>(
+    alloc: Global,
+    machine: &Machine<'_>,
+    guard: Guard,
+    state: &State,
+    out: &mut Walked,
+) -> Result<(), OutOfMemory>
+    requires signals { AreNamed (length (entries_of machine.now.scope.now)) machine.now.registers.now }
+    requires guard { guard.when.0 < length (arena out.old.exprs) }
+    ensures { OnOk result (WalksWithin D.table machine.now guard (view_state state.now) out.old out.new) }
+{
+    let stmts = state.statements.as_slice();
+    walk_statements::<D>(alloc, machine.scope, guard, stmts, out)?;
+    walk_arms::<D>(alloc, machine, guard, state.transitions.as_slice(), out)
+}
+
+/// A state: its unit, and what stands in it; its bit.
+fn walk_state<D: Device>(
+    alloc: Global,
+    machine: &Machine<'_>,
+    guard: Guard,
+    valued: &Valued<'_>,
+    out: &mut Walked,
+) -> Result<ExprId, OutOfMemory>
+    requires signals { AreNamed (length (entries_of machine.now.scope.now)) machine.now.registers.now }
+    ensures walks { IfOk result (λ id. (listed : List ℕ) → HasValue D.table machine.now listed valued.now → WalksState D.table machine.now guard listed (view_state valued.now.state.now) out.old out.new) }
+    ensures bit { IfOk result (λ id. (listed : List ℕ) → HasValue D.table machine.now listed valued.now → out.new.fault ≡ None → IsBit (arena out.new.exprs) id (state_bit (context_for D.table machine.now.scope.now) machine.now.registers.now (view_state valued.now.state.now))) }
+{
+    let when = walk_unit::<D>(alloc, machine, valued, out)?;
+    let inside = Guard { when, ..guard };
+    walk_within::<D>(alloc, machine, inside, valued.state, out)?;
+    Ok(when)
+}
+
+/// The states one after another: their bits.
+pub(crate) fn walk_states<D: Device>(
+    alloc: Global,
+    machine: &Machine<'_>,
+    guard: Guard,
+    states: &[State],
+    out: &mut Walked,
+) -> Result<Vec<ExprId>, OutOfMemory>
+    requires signals { AreNamed (length (entries_of machine.now.scope.now)) machine.now.registers.now }
+    requires few { length machine.now.registers.now ≤ 32 }
+    ensures walks { IfOk result (λ ids. WalksStates D.table machine.now guard (map view_state states.now) out.old out.new) }
+    ensures bits { IfOk result (λ ids. out.new.fault ≡ None → AreBits (arena out.new.exprs) ids.items (state_bits (context_for D.table machine.now.scope.now) machine.now.registers.now (map view_state states.now))) }
+{
+    let reading = reading_names(alloc, machine.scope.scope())?;
+    let mut listed = Vec::new(alloc);
+    let mut bits = Vec::new(alloc);
+    for state in states {
+        let found = read_state::<D>(alloc, machine, &reading, &mut listed, state)?;
+        let valued = Valued { state, found };
+        let bit = walk_state::<D>(alloc, machine, guard, &valued, out)?;
+        bits.push(bit)?;
+    }
+    Ok(bits)
+}
