@@ -1,5 +1,5 @@
 mod DirectiveLists
 pub mod SectionLists
 pub mod SectionsAnswered
-mod SectionsBuilt
+mod SectionsWalked
 pub mod SourceAnswers

@@ -2,10 +2,9 @@
 #![tactic(auto)]
 
 mod behind;
-mod building;
-mod checking;
 mod directives;
 mod joining;
 mod state_directives;
+mod walking;
 
 pub use joining::contributions;

@@ -1,17 +1,18 @@
--- All units are contributed, a constant is refused, or a unit is.
-use Rattle.std.proofs.Common.{[], List, sym, subst, ◌∙◌}
-use Rattle.abel_tree.proofs.FirstRefusals.{none_refused}
-use Rattle.abel_meaning.specs.SignalReads.{given_formulas}
+-- Nothing is refused, and the first refusal.
+use Rattle.std.proofs.Common.{[], List, length, sym, ap, ap₂, subst, ◌∙◌}
+use Rattle.bit_expr.specs.Arena.{arena}
+use Rattle.abel_tree.specs.declared.names.Names.{Names}
+use Rattle.abel_tree.specs.Entries.{entries_of}
+use Rattle.abel_tree.specs.FirstRefusal.{first_refusal}
 use Rattle.set_expr.specs.declared.contributions.Contribution.{Contribution}
 use Rattle.set_expr.specs.FoundNames.{constants_refused}
 use Rattle.set_expr.specs.SectionOrder.{section_order}
-use Rattle.section_targets.specs.Appending.{AnswersUnits}
 use Rattle.section_targets.specs.Units.{all_refused}
+use Rattle.section_targets.specs.Walking.{fault_behind, standing}
 use Rattle.equations.proofs.BuiltUnits.{at}
-use Rattle.source_sections.specs.SectionAnswers.{AreContributed, source_units}
-use Rattle.source_sections.specs.SectionUnits.{sections_places}
-use Rattle.source_sections.proofs.SectionsAnswered.{both_told, constant_told, contributed, units_told}
-use Rattle.source_sections.proofs.SourceAnswers.{designed, is_designed, source_builds, source_refused}
+use Rattle.source_sections.specs.SectionAnswers.{AreContributed, sections_refused, source_units}
+use Rattle.source_sections.proofs.SectionsAnswered.{accepted_right, contributed, first_of, told_of}
+use Rattle.source_sections.proofs.SourceAnswers.{designed, source_walked}
 use Rattle.source_sections.proofs.joining.contributions.Goals as goal
 
 pub returns-in-None : goal.returns-in-None
@@ -20,38 +21,27 @@ returns-in-None g c =
     let n = c.args.scope.now in
     let m = c.args.source.now in
     let d = designed t n m in
-    let new = at c.build_sections-built.new.exprs c.build_sections-built.new.list.items in
-    let answer = c.answer_units.ensures (source_units d) (given_formulas d) (sections_places d.context d.sections) (at [] []) new
-    (source_refused t n m c.as_slice-sections.result.now c.in_ok-fault.fault c.as_slice-sections.ensures (c.in_ok-fault.ensures d.context (is_designed t n m)))
-    (source_builds t n m c.as_slice-sections.result.now c.as_slice.result.now c.after_declarations-starts_dontcare.result (at [] []) new c.build_sections-built.result c.as_slice-sections.ensures c.as_slice.ensures c.after_declarations-starts_dontcare.ensures (c.build_sections-built.ensures d.context (is_designed t n m))) in
-    let ok = subst (AnswersUnits (source_units d) (given_formulas d) (sections_places d.context d.sections) (at [] []) new) c.in-Ok.is answer in
-    subst (λ (cs : List Contribution). AreContributed d (at c.build_sections-built.new.exprs cs)) (sym c.from_vec.ensures)
-    (contributed d new (none_refused section_order (constants_refused d.context.names) (sym c.in-None.is ∙ c.refused_constant-constant.ensures)) ok)
+    let old = c.new-out.result in
+    let new = c.walk_sections.new.out in
+    let w = source_walked t n m c.as_slice-sections.result.now c.as_slice.result.now c.after_declarations-starts_dontcare.result old new c.as_slice-sections.ensures c.as_slice.ensures c.after_declarations-starts_dontcare.ensures c.in_ok-walk_sections.ensures in
+    let told = w.fault ∙ ap₂ (λ f es. fault_behind f (length (arena es)) (source_units d)) c.new-out.ensures.fault c.new-out.ensures.exprs in
+    let constant = c.refused_constant-constant.ensures ∙ ap (λ (names : Names). first_refusal section_order (constants_refused (entries_of names))) c.scope.ensures in
+    let first = first_of (constants_refused d.context.names) (all_refused (length (arena [])) (source_units d)) c.refused_constant-constant.result new.fault constant told in
+    let none = sym c.in-None.is ∙ c.earlier.ensures ∙ first in
+    subst (λ (cs : List Contribution). AreContributed d (at new.exprs cs)) (sym c.from_vec.ensures)
+    (contributed d (standing old) (standing new) (ap₂ at c.new-out.ensures.exprs c.new-out.ensures.list) none
+    (w.given (accepted_right c.refused_constant-constant.result new.fault (sym c.earlier.ensures ∙ c.in-None.is))))
 
-pub returns-in-Ok : goal.returns-in-Ok
-returns-in-Ok g c =
+pub returns-in-Some : goal.returns-in-Some
+returns-in-Some g c =
     let t = g.D.Device.table in
     let n = c.args.scope.now in
     let m = c.args.source.now in
     let d = designed t n m in
-    let new = at c.build_sections-built.new.exprs c.build_sections-built.new.list.items in
-    let answer = c.answer_units.ensures (source_units d) (given_formulas d) (sections_places d.context d.sections) (at [] []) new
-    (source_refused t n m c.as_slice-sections.result.now c.in_ok-fault.fault c.as_slice-sections.ensures (c.in_ok-fault.ensures d.context (is_designed t n m)))
-    (source_builds t n m c.as_slice-sections.result.now c.as_slice.result.now c.after_declarations-starts_dontcare.result (at [] []) new c.build_sections-built.result c.as_slice-sections.ensures c.as_slice.ensures c.after_declarations-starts_dontcare.ensures (c.build_sections-built.ensures d.context (is_designed t n m))) in
-    let ok = subst (AnswersUnits (source_units d) (given_formulas d) (sections_places d.context d.sections) (at [] []) new) c.in-Ok.is answer in
-    constant_told (constants_refused d.context.names) (all_refused _ (source_units d)) c.in-Some.fault (sym c.refused_constant-constant.ensures ∙ c.in-Some.is) ok.0
-
-pub returns : goal.returns
-returns g c =
-    let t = g.D.Device.table in
-    let n = c.args.scope.now in
-    let m = c.args.source.now in
-    let d = designed t n m in
-    let new = at c.build_sections-built.new.exprs c.build_sections-built.new.list.items in
-    let answer = c.answer_units.ensures (source_units d) (given_formulas d) (sections_places d.context d.sections) (at [] []) new
-    (source_refused t n m c.as_slice-sections.result.now c.in_ok-fault.fault c.as_slice-sections.ensures (c.in_ok-fault.ensures d.context (is_designed t n m)))
-    (source_builds t n m c.as_slice-sections.result.now c.as_slice.result.now c.after_declarations-starts_dontcare.result (at [] []) new c.build_sections-built.result c.as_slice-sections.ensures c.as_slice.ensures c.after_declarations-starts_dontcare.ensures (c.build_sections-built.ensures d.context (is_designed t n m))) in
-    let err = subst (AnswersUnits (source_units d) (given_formulas d) (sections_places d.context d.sections) (at [] []) new) c.in-Err.is answer in
-    both_told (constants_refused d.context.names) (all_refused _ (source_units d)) c.refused_constant-constant.result c.in-Err.fault c.first_of.result c.refused_constant-constant.ensures
-    (units_told (source_units d) (given_formulas d) (sections_places d.context d.sections) (at [] []) new c.in-Err.fault err)
-    c.first_of.ensures.memory c.first_of.ensures.refused
+    let old = c.new-out.result in
+    let new = c.walk_sections.new.out in
+    let w = source_walked t n m c.as_slice-sections.result.now c.as_slice.result.now c.after_declarations-starts_dontcare.result old new c.as_slice-sections.ensures c.as_slice.ensures c.after_declarations-starts_dontcare.ensures c.in_ok-walk_sections.ensures in
+    let told = w.fault ∙ ap₂ (λ f es. fault_behind f (length (arena es)) (source_units d)) c.new-out.ensures.fault c.new-out.ensures.exprs in
+    let constant = c.refused_constant-constant.ensures ∙ ap (λ (names : Names). first_refusal section_order (constants_refused (entries_of names))) c.scope.ensures in
+    let first = first_of (constants_refused d.context.names) (all_refused (length (arena [])) (source_units d)) c.refused_constant-constant.result new.fault constant told in
+    told_of (sections_refused d) c.in-Some.fault (sym first ∙ sym c.earlier.ensures ∙ c.in-Some.is)
