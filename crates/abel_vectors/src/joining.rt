@@ -16,7 +16,8 @@ use crate::sections::all_vectors;
 use abel_tree::Module;
 use pld_base::Vector;
 use pld_device::Device;
-use set_expr::{Contributions, Scope, SectionFault, earlier};
+use section_targets::SectionScope;
+use set_expr::{Contributions, SectionFault, earlier};
 use source_sections::contributions;
 use std::alloc::Global;
 
@@ -64,7 +65,7 @@ fn first_with(section: SectionFault, tested: &Result<Vec<Vector>, SectionFault>)
 /// and its vectors. Else the first refusal by place.
 pub fn all_sections<D: Device>(
     alloc: Global,
-    scope: &Scope<'_>,
+    scope: &SectionScope<'_>,
     source: &Module,
 ) -> Result<SourceSections, SectionFault>
     ensures answers { AnswersAll (design_for D.table (entries_of scope.now) (view_module source.now)) result }
@@ -73,7 +74,7 @@ pub fn all_sections<D: Device>(
     ensures chars { IfOk result (λ found. All (IsTestVector D.table) found.vectors.items) }
 {
     let given = contributions::<D>(alloc, scope, source);
-    let tested = all_vectors::<D>(alloc, scope, source);
+    let tested = all_vectors::<D>(alloc, scope.scope(), source);
     match given {
         Ok(contributions) => match tested {
             Ok(vectors) => Ok(SourceSections {
