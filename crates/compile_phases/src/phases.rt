@@ -35,6 +35,7 @@ use module_reader::read_module;
 use placer::place;
 use pld_base::DeviceName;
 use pld_device::Device;
+use section_targets::SectionScope;
 use set_expr::{Contributions, Scope};
 use std::alloc::Global;
 
@@ -117,7 +118,8 @@ pub fn sections_of<D: Device>(
     ensures err { IfErr result (IsOfSource (IsSectionFault (entries_of names.now) (λ f. first_refusal section_order
         (all_sections_refused (design_of D.table (view_module source.now))) ≡ Some f))) }
 {
-    let scope = Scope::new(alloc, names)?;
+    let known = Scope::new(alloc, names)?;
+    let scope = SectionScope::new(alloc, known)?;
     match all_sections::<D>(alloc, &scope, source) {
         Ok(found) => Ok(found),
         Err(fault) => Err(uncontributed(alloc, names, fault)),
