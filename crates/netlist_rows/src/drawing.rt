@@ -1,10 +1,12 @@
 //! From a module to its netlist for a device.
 
-ghost use Rattle.std.specs.Prelude.{◌≡◌, ◌≤◌, IfSome, length};
+ghost use Rattle.std.specs.Prelude.{◌≡◌, ◌≤◌, IfOk, IfSome, length};
+ghost use Rattle.abel_tree.specs.Entries.{entries_of};
 ghost use Rattle.abel_tree.specs.View.{view_module};
 ghost use Rattle.abel_meaning.specs.Designs.{design_of};
 ghost use Rattle.abel_meaning.specs.Netlists.{plain_netlist};
 ghost use Rattle.abel_meaning.specs.SoundIds.{IsSoundNetlist};
+ghost use Rattle.set_expr.specs.Scopes.{AreInOrder, ArePlaced};
 ghost use Rattle.netlist_laws.specs.FittedCorrect.{MeansTheSame};
 ghost use Rattle.netlist_laws.specs.Gathered.{netlist_of};
 ghost use Rattle.abel_vectors.specs.AllSections.{AreSections};
@@ -16,8 +18,9 @@ use abel_vectors::{SourceSections, all_sections};
 use bit_expr::Netlist;
 use declared_names::{are_numbered, declare, numbered_names};
 use design::{gather, names_are_accepted, sound_modules_are_accepted};
-use pld_base::Vector;
+use pld_base::{OutOfMemory, Vector};
 use pld_device::Device;
+use section_targets::SectionScope;
 use set_expr::{Contributions, Scope};
 use std::alloc::Global;
 
@@ -47,12 +50,22 @@ pub(crate) fn names_of<D: Device>(alloc: Global, source: &Module) -> Option<Name
     }
 }
 
+/// The names with the signals that each stands for.
+fn scope_of(alloc: Global, names: &Names) -> Result<SectionScope<'_>, OutOfMemory>
+    requires placed { ArePlaced names.now }
+    requires order { AreInOrder (entries_of names.now) }
+    ensures { IfOk result (λ s. s ≡ names.now) }
+{
+    let known = Scope::new(alloc, names)?;
+    SectionScope::new(alloc, known)
+}
+
 fn sections_of<D: Device>(alloc: Global, source: &Module, names: &Names) -> Option<SourceSections>
     requires { AreNamesFor D.table (view_module source.now) names.now }
     ensures found { IfSome result (AreSections (design_of D.table (view_module source.now))) }
     ensures few { IfSome result (λ found. length found.vectors.items ≤ 9999) }
 {
-    let scope = Scope::new(alloc, names).ok()?;
+    let scope = scope_of(alloc, names).ok()?;
     match all_sections::<D>(alloc, &scope, source) {
         Ok(found) => Some(found),
         Err(_) => None,
