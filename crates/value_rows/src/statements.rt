@@ -3,10 +3,10 @@
 use crate::places::{put_blank, put_fault, put_place};
 use crate::sources::source_of;
 use abel_tree::{Module, Section, Stmt};
-use bit_expr::{ExprId, Exprs};
-use equations::{check_statements, statements};
+use bit_expr::ExprId;
+use equations::walk_statements;
 use pld_device::Sample;
-use section_targets::{Assigned, target_names};
+use section_targets::{SectionScope, Walked};
 use set_expr::{Contribution, Guard, Scope};
 use std::alloc::Global;
 use test_rows::Found;
@@ -24,19 +24,6 @@ fn statements_of(module: &Module) -> Option<&[Stmt]> {
         [Section::Equations(list)] => Some(list.as_slice()),
         _ => None,
     }
-}
-
-/// The first refusal of the statements.
-fn put_refusal(alloc: Global, module: &Module, scope: &Scope<'_>, found: &mut Found) -> Option<()> {
-    let list = statements_of(module)?;
-    let named = target_names(alloc, scope).ok()?;
-    let mut before = Assigned::new(alloc);
-    let named = named.as_slice();
-    match check_statements::<Sample>(alloc, scope, named, list, &mut before) {
-        Ok(fault) => put_fault(fault, found),
-        Err(_) => return None,
-    }
-    Some(())
 }
 
 /// A contribution's signal, whether it is to the complement, and its place.
@@ -66,20 +53,7 @@ fn put_both(list: &[Contribution], found: &mut Found) -> Option<()> {
     Some(())
 }
 
-/// What two contributions of the statements are.
-fn put_given(alloc: Global, module: &Module, scope: &Scope<'_>, found: &mut Found) -> Option<()> {
-    let stmts = statements_of(module)?;
-    let named = target_names(alloc, scope).ok()?;
-    let mut exprs = Exprs::new(alloc);
-    let mut list = Vec::new(alloc);
-    let named = named.as_slice();
-    match statements::<Sample>(alloc, scope, named, ALWAYS, stmts, &mut exprs, &mut list) {
-        Ok(()) => put_both(list.as_slice(), found),
-        Err(_) => None,
-    }
-}
-
-/// Puts what is asked of statements.
+/// Puts what is asked of statements: their first refusal, or what their two contributions are.
 pub(crate) fn ask(
     alloc: Global,
     question: &str,
@@ -88,10 +62,19 @@ pub(crate) fn ask(
     found: &mut Found,
 ) -> Option<()> {
     let source = source_of::<Sample>(alloc, names, "equations", text, "")?;
-    let scope = Scope::new(alloc, &source.names).ok()?;
-    let module = &source.module;
+    let known = Scope::new(alloc, &source.names).ok()?;
+    let scope = SectionScope::new(alloc, known).ok()?;
+    let stmts = statements_of(&source.module)?;
+    let mut walked = Walked::new(alloc);
+    walk_statements::<Sample>(alloc, &scope, ALWAYS, stmts, &mut walked).ok()?;
     match question {
-        "refusals" => put_refusal(alloc, module, &scope, found),
-        _ => put_given(alloc, module, &scope, found),
+        "refusals" => {
+            put_fault(walked.fault, found);
+            Some(())
+        }
+        _ => match walked.fault {
+            None => put_both(walked.list.as_slice(), found),
+            Some(_) => None,
+        },
     }
 }

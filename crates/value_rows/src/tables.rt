@@ -3,13 +3,13 @@
 use crate::places::{put_blank, put_fault, put_place};
 use crate::sources::source_of;
 use abel_tree::{Module, Section, Table};
-use bit_expr::{ExprId, Exprs};
+use bit_expr::ExprId;
 use devices::Pal16L8;
-use section_targets::Assigned;
+use section_targets::{SectionScope, Walked};
 use set_expr::{Contribution, Gives, Guard, Scope};
 use std::alloc::Global;
 use test_rows::Found;
-use truth_tables::{build_table, check_table};
+use truth_tables::walk_table;
 
 /// The table is the first block.
 const FIRST: Guard = Guard {
@@ -24,17 +24,6 @@ fn table_of(module: &Module) -> Option<&Table> {
         [Section::Table(table)] => Some(table),
         _ => None,
     }
-}
-
-/// The first refusal of the table.
-fn put_refusal(alloc: Global, module: &Module, scope: &Scope<'_>, found: &mut Found) -> Option<()> {
-    let table = table_of(module)?;
-    let mut before = Assigned::new(alloc);
-    match check_table::<Pal16L8>(alloc, scope, table, &mut before) {
-        Ok(fault) => put_fault(fault, found),
-        Err(_) => return None,
-    }
-    Some(())
 }
 
 /// What a contribution says: its signal, its kind, its bit and its place.
@@ -52,29 +41,15 @@ fn put_contribution(given: &Contribution, found: &mut Found) {
     found.text(";")
 }
 
-/// What the table contributes.
-fn put_given(alloc: Global, module: &Module, scope: &Scope<'_>, found: &mut Found) -> Option<()> {
-    let table = table_of(module)?;
-    let mut exprs = Exprs::new(alloc);
-    let mut list: Vec<Contribution> = Vec::new(alloc);
-    let mut before = Assigned::new(alloc);
-    match build_table::<Pal16L8>(
-        alloc,
-        scope,
-        FIRST,
-        table,
-        &mut before,
-        &mut exprs,
-        &mut list,
-    ) {
-        Ok(()) => {
-            for given in list.as_slice() {
-                put_contribution(given, found);
-            }
-            Some(())
-        }
-        Err(_) => None,
+/// What the table contributes, where nothing is refused of it.
+fn put_given(walked: &Walked, found: &mut Found) -> Option<()> {
+    if walked.fault.is_some() {
+        return None;
     }
+    for given in walked.list.as_slice() {
+        put_contribution(given, found);
+    }
+    Some(())
 }
 
 /// Puts what is asked of a table.
@@ -86,10 +61,16 @@ pub(crate) fn ask(
     found: &mut Found,
 ) -> Option<()> {
     let source = source_of::<Pal16L8>(alloc, names, "", text, "")?;
-    let scope = Scope::new(alloc, &source.names).ok()?;
-    let module = &source.module;
+    let known = Scope::new(alloc, &source.names).ok()?;
+    let scope = SectionScope::new(alloc, known).ok()?;
+    let table = table_of(&source.module)?;
+    let mut walked = Walked::new(alloc);
+    walk_table::<Pal16L8>(alloc, &scope, FIRST, table, &mut walked).ok()?;
     match question {
-        "refusals" => put_refusal(alloc, module, &scope, found),
-        _ => put_given(alloc, module, &scope, found),
+        "refusals" => {
+            put_fault(walked.fault, found);
+            Some(())
+        }
+        _ => put_given(&walked, found),
     }
 }
