@@ -1,5 +1,5 @@
 -- Operators in a row, from their first operand on: what is found of the whole, and that each right side lies less deep.
-use Rattle.std.proofs.Common.{◌≡◌, ℕ, ◌<◌, ◌≤◌, List, [], ◌∷◌, ◌++◌, refl, sym, ap, subst, ◌∙◌, arith, rules, Bor}
+use Rattle.std.proofs.Common.{◌≡◌, ℕ, ◌<◌, ◌≤◌, List, [], ◌∷◌, ◌++◌, refl, sym, ap, ◌∙◌, arith, rules, Bor}
 use Rattle.pld_base.specs.declared.place.Place.{Place}
 use Rattle.abel_tree.specs.declared.words.Binary.{Binary}
 use Rattle.abel_tree.specs.declared.expressions.Expr.{Expr, size-Expr, the_lemmas}
@@ -57,9 +57,6 @@ pub record Down (first : Expr) (xs : List Link) (whole : Expr) : Type 0 where
   pub below : EachBelow (size-Expr whole) xs
   pub size : size-Expr first ≤ size-Expr whole
 
-pub down_start : (e : Expr) → Down e [] e
-down_start e = record { same = λ ns. refl; below = tt; size = omega arith }
-
 -- one operator further down
 pub goes_down : (s : Binary) (p : Place) (l r : Expr) (xs : List Link) (whole : Expr) → Down (expr.Binary s p l r) xs whole → Down l (xs ++ (s, p, r) ∷ []) whole
 goes_down s p l r xs whole d =
@@ -103,6 +100,3 @@ goes_up known c o n xs s p r whole u by both =
 
 pub up_right : (known : Table) (c : Checked) (xs : List Link) (s : Binary) (p : Place) (r whole : Expr) → Up known c (xs ++ (s, p, r) ∷ []) whole → size-Expr r < size-Expr whole
 up_right known c xs s p r whole u = (below_pop (size-Expr whole) xs (s, p, r) u.below).0
-
-pub up_done : (known : Table) (c : Checked) (whole : Expr) → Up known c [] whole → (es : List Entry) → IsKnown es known → SumsUp c (found_of (names_found es) (view whole))
-up_done known c whole u es k = let x = u.risen es k in subst (λ f. SumsUp c f) x.same x.sums

@@ -1,5 +1,5 @@
--- What the bits of an expression are, and when which answer comes (ABEL-HDL Reference Manual, sets and operators; the
--- limit is this project's rule).
+-- What the bits of an expression are, and what is refused of it (ABEL-HDL Reference Manual, sets and operators; the limit
+-- is this project's rule).
 use Rattle.std.specs.Prelude.{◌≡◌, ℕ, ◌<◌, Bool, true, false, Option, None, Some, List, [], ◌∷◌, length, slice_get, Result, Ok, Err}
 use Rattle.pld_base.specs.declared.place.Place.{Place}
 use Rattle.pld_device.specs.Table.{Table}
@@ -74,7 +74,7 @@ pub record IsShaped (fs : List Formula) (s : Shaped) (v : number.Value) (w : Wor
   pub inside : AreIn (length fs) s.places
   pub bits : bits_at fs s.places ≡ w
 
--- ---- answers
+-- ---- refusals
 
 -- the place of an expression's first token
 abbrev pub first_place : Tree → Place
@@ -93,28 +93,3 @@ Keeps old new = (i : ℕ) (f : Formula) → slice_get old i ≡ Some f → slice
 -- the first refusal of an expression, none where nothing is refused
 abbrev pub refusal_of : Names → Tree → Option SectionFault
 refusal_of n t = first_refusal section_order (expression_found (entries_of n) t).refusals
-
--- making so many nodes in an arena of these formulas passes the limit
-abbrev pub IsPast : List Formula → ℕ → Type 0
-IsPast old nodes = PassesLimit MOST (length old) nodes
-
--- an expression is accepted: nothing is refused, just its nodes were made, and these do not pass the limit
-pub record IsAccepted (n : Names) (d : Context) (t : Tree) (old new : List Formula) (s : Shaped) : Type 0 where
-  pub accepted : refusal_of n t ≡ None
-  pub shaped : IsShaped new s (constant_of d (term_of d.known t)) (bits_of d (term_of d.known t)).what
-  pub grew : Grew old new (bits_of d (term_of d.known t)).nodes
-  pub within : IsPast old (bits_of d (term_of d.known t)).nodes → ⊥
-
--- its nodes pass the limit, and nothing else is refused
-pub record IsPastLimit (n : Names) (d : Context) (t : Tree) (old new : List Formula) (p : Place) : Type 0 where
-  pub accepted : refusal_of n t ≡ None
-  pub past : IsPast old (bits_of d (term_of d.known t)).nodes
-  pub place : p ≡ first_place t
-  pub keeps : Keeps old new
-
--- the answer for an expression over the names of a design
-abbrev pub IsAnswer : Names → Context → Tree → (old new : List Node) → Result Shaped SectionFault → Type 0
-IsAnswer n d t old new (Ok s) = IsAccepted n d t (arena old) (arena new) s
-IsAnswer n d t old new (Err (fault.NodeLimit p)) = IsPastLimit n d t (arena old) (arena new) p
-IsAnswer n d t old new (Err fault.OutOfMemory) = Keeps (arena old) (arena new)
-IsAnswer n d t old new (Err f) = (refusal_of n t ≡ Some f) × (new ≡ old)

@@ -1,4 +1,5 @@
 pub mod Answer
+pub mod Contexts
 pub mod FoundNames
 pub mod Given
 pub mod Kept
