@@ -1,5 +1,5 @@
 -- What an accepted expression comes to.
-use Rattle.std.proofs.Common.{◌≡◌, ℕ, ◌<◌, ◌≤◌, Bool, true, false, Option, None, Some, List, [], ◌∷◌, if◌then◌else◌, length, Err, refl, sym, subst, arith}
+use Rattle.std.proofs.Common.{◌≡◌, ℕ, ◌<◌, ◌≤◌, Bool, true, false, Option, None, Some, List, [], ◌∷◌, if◌then◌else◌, length, Ok, refl, sym, subst, arith}
 use Rattle.bit_expr.specs.declared.node.Node.{Node}
 use Rattle.bit_expr.specs.Arena.{arena}
 use Rattle.abel_tree.specs.declared.names.Names.{Names}
@@ -11,10 +11,10 @@ use Rattle.abel_meaning.specs.FormulaBits.{bits_of}
 use Rattle.abel_meaning.specs.Numbers.{Value, width_of}
 use Rattle.abel_meaning.specs.Terms.{Term, known_of, term_of}
 use Rattle.abel_meaning.specs.Values.{constant_of}
+use Rattle.expr_bits.specs.ExpressionBits.{MakesBits}
 use Rattle.expr_bits.specs.Making.{IsMade}
-use Rattle.set_expr.specs.Answer.{IsShaped, IsAccepted, IsAnswer, refusal_of}
+use Rattle.set_expr.specs.Answer.{IsShaped, refusal_of}
 use Rattle.set_expr.specs.declared.fault.SectionFault.{SectionFault}
-use Rattle.set_expr.specs.declared.fault.SectionFault.TheVariants as fault
 use Rattle.set_expr.specs.declared.shaped.Shaped.{Shaped}
 use Rattle.set_expr.specs.FoundNames.{expression_found}
 use Rattle.set_expr.specs.SectionOrder.{section_order}
@@ -28,7 +28,6 @@ use Rattle.expr_bits.specs.Steps.{term_part}
 use Rattle.expr_bits.proofs.Blank.{blank}
 use Rattle.expr_bits.proofs.Linked.{IsLinkedIf, expression_linked}
 use Rattle.expr_bits.proofs.Links.{SameKind, Sound}
-use Rattle.expr_bits.proofs.OfExpressions.{IsOfExpression, first_of}
 use Rattle.expr_bits.proofs.StackLaws.{normal_is}
 
 -- ---- refusals
@@ -77,33 +76,9 @@ few n d t old new b e known m =
 
 pub accepted : (n : Names) (d : Context) (t : Tree) (old new : List Node) (b : Bits) (s : Shaped) → refusal_of n t ≡ None → d.known ≡ known_of (entries_of n) → IsMade IsPart (arena old) (arena new) b (term_part d (term_of d.known t))
     → ((v : Value) → IsBits (arena new) b v (bits_of d (term_of d.known t)).what → IsBlank v.unknown (bits_of d (term_of d.known t)).what → IsShaped (arena new) s v (bits_of d (term_of d.known t)).what)
-    → IsAccepted n d t (arena old) (arena new) s
+    → MakesBits d t old new (Ok s)
 accepted n d t old new b s e known m shaped =
     let x = subst (λ ks. IsFound d (term_of ks t)) (sym known) (found n d t e) in
     let c = constant_of d (term_of d.known t) in
     let is = normal_is (arena new) b (record { value = c; word = (bits_of d (term_of d.known t)).what }) m.shows in
-    record {
-      accepted = e;
-      shaped = shaped c is (blank d (term_of d.known t) x.sound);
-      grew = m.grew;
-      within = m.within;
-    }
-
--- ---- a refusal
-
-answer_by : (n : Names) (d : Context) (t : Tree) (old : List Node) (f : SectionFault) → IsOfExpression f → refusal_of n t ≡ Some f → IsAnswer n d t old old (Err f)
-answer_by n d t old (fault.MisplacedSpecial p) h e = (e, refl)
-answer_by n d t old (fault.NotConstant p) h e = (e, refl)
-answer_by n d t old (fault.ZeroDivisor p) h e = (e, refl)
-answer_by n d t old (fault.BadWidth p) h e = (e, refl)
-answer_by n d t old (fault.NotAnOutput p k) h e = absurd h
-answer_by n d t old (fault.MixedAssignment p k) h e = absurd h
-answer_by n d t old (fault.BadRow p) h e = absurd h
-answer_by n d t old (fault.BadState p) h e = absurd h
-answer_by n d t old (fault.BadVector p) h e = absurd h
-answer_by n d t old (fault.NodeLimit p) h e = absurd h
-answer_by n d t old fault.OutOfMemory h e = absurd h
-
-pub refused : (n : Names) (d : Context) (t : Tree) (old : List Node) (f : SectionFault) → refusal_of n t ≡ Some f → IsAnswer n d t old old (Err f)
-refused n d t old f e =
-    answer_by n d t old f (first_of section_order (expression_found (entries_of n) t).refusals f (expression_linked d (entries_of n) t).refusals e) e
+    record { shows = shaped c is (blank d (term_of d.known t) x.sound); grew = m.grew; within = m.within }

@@ -10,15 +10,14 @@ use Rattle.abel_tree.specs.Ranges.{range_names}
 use Rattle.abel_tree.specs.Tree.{Tree, ANumber, ASpecial, AName, ASet, AParen, AUnary, ABinary, SetMember, OneMember, SpanMember, Members, NoMember, MoreMembers}
 use Rattle.abel_meaning.specs.Designs.{Context}
 use Rattle.abel_meaning.specs.Numbers.{Shape, Number, Single, Set, Value, width_of, member_width, meeting}
-use Rattle.abel_meaning.specs.Terms.{Term, Terms, Known, term_named, term_of, terms_of, member_before, named_before, term_meant, known_after, known_of, extended_if, special_term}
+use Rattle.abel_meaning.specs.Terms.{Term, Terms, Known, term_named, term_of, terms_of, member_before, named_before, term_meant, known_after, known_of, extended_if}
 use Rattle.abel_meaning.specs.Terms as term
 use Rattle.abel_meaning.specs.Values.{constant_of, set_value, nowhere, plain_value, unary_value, binary_value, binary_by, is_relation}
 use Rattle.set_expr.specs.declared.fault.SectionFault.{SectionFault}
 use Rattle.set_expr.specs.declared.fault.SectionFault.TheVariants.{MisplacedSpecial, BadWidth}
 use Rattle.set_expr.specs.FoundNames.{NameFound, found_value, found_use, refused_there, at_name, name_found, named, nothing_found, one_position, range_found, found_of, all_found, found_before, found_constant, found_kind, found_entry, found_after, names_found, expression_found, is_pulse, is_pulse_kind}
-use Rattle.set_expr.specs.Refusals.{Found, unless_refused, found_both, found_under, found_set, members_refused, members_specials, members_value, members_width, too_wide, value_of_both, value_or_none, large_member, specials_refused, width_with}
+use Rattle.set_expr.specs.Refusals.{Found, unless_refused, found_both, found_under, found_set, members_refused, members_specials, members_value, members_width, too_wide, value_of_both, value_or_none, large_member, width_with}
 use Rattle.set_expr.proofs.SummedUp.{left_empty, right_empty}
-use Rattle.expr_bits.proofs.OfExpressions.{OfExpressions, of_append, of_operands, of_specials, of_large_member, of_too_wide, of_name}
 use Rattle.expr_bits.proofs.Links.{SameKind, same_kind, kind_then, unary_kind, binary_kind, AllKnown, known_append, known_met, known_binary, Sound, AllSound, extended_alike, extended_sound}
 
 -- what is found of a value and its X positions, and a term
@@ -30,8 +29,6 @@ IsLinkedIf d (Some v) xs t = SameKind v (constant_of d t) × (xs ≡ [] → AllK
 pub record IsLinked (d : Context) (f : Found) (t : Term) : Type 0 where
   pub valued : f.refusals ≡ [] → f.value ≡ None → ⊥
   pub linked : IsLinkedIf d f.value f.specials t
-  pub refusals : OfExpressions f.refusals
-  pub specials : OfExpressions f.specials
 
 -- ---- values that are found
 
@@ -45,9 +42,9 @@ there d (Some v) xs t h l = l
 
 -- ---- what is refused says nothing
 
-unless : (d : Context) (rs xs : List SectionFault) (v : Value) (t : Term) → OfExpressions rs → OfExpressions xs → (rs ≡ [] → SameKind v (constant_of d t) × (xs ≡ [] → AllKnown (constant_of d t).unknown) × Sound d t × (width_of v.shape ≤ 32)) → IsLinked d (unless_refused rs xs v) t
-unless d [] xs v t a b h = record { valued = λ e f. absurd cc; linked = h refl; refusals = tt; specials = b }
-unless d (r ∷ rs) xs v t a b h = record { valued = λ e f. absurd cc; linked = tt; refusals = a; specials = tt }
+unless : (d : Context) (rs xs : List SectionFault) (v : Value) (t : Term) → (rs ≡ [] → SameKind v (constant_of d t) × (xs ≡ [] → AllKnown (constant_of d t).unknown) × Sound d t × (width_of v.shape ≤ 32)) → IsLinked d (unless_refused rs xs v) t
+unless d [] xs v t h = record { valued = λ e f. absurd cc; linked = h refl }
+unless d (r ∷ rs) xs v t h = record { valued = λ e f. absurd cc; linked = tt }
 
 -- ---- operators
 
@@ -57,7 +54,7 @@ under_kind sign (Some v) c h = unary_kind sign v c h
 
 linked_under : (d : Context) (sign : Unary) (f : Found) (t : Term) → IsLinked d f t → IsLinked d (found_under sign f) (term.UnaryOf sign t)
 linked_under d sign f t l =
-    unless d (f.refusals ++ f.specials) [] (unary_value sign (value_or_none f.value)) (term.UnaryOf sign t) (of_append f.refusals f.specials l.refusals l.specials) tt
+    unless d (f.refusals ++ f.specials) [] (unary_value sign (value_or_none f.value)) (term.UnaryOf sign t)
     (λ e.
     let h = there d f.value f.specials t (l.valued (left_empty f.refusals f.specials e)) l.linked in
     let known = h.1 (right_empty f.refusals f.specials e) in
@@ -87,8 +84,6 @@ both_narrow sign (Some v) (Some u) a b = narrow_by (is_relation sign) sign v u a
 linked_both : (d : Context) (sign : Binary) (p : Place) (f g : Found) (t u : Term) → IsLinked d f t → IsLinked d g u → IsLinked d (found_both sign p f g) (term.BinaryOf sign t u)
 linked_both d sign p f g t u l m =
     unless d _ [] (value_of_both sign f.value g.value) (term.BinaryOf sign t u)
-    (of_append (f.refusals ++ g.refusals) _ (of_append f.refusals g.refusals l.refusals m.refusals)
-    (of_append (specials_refused (is_relation sign) f.specials g.specials) _ (of_specials (is_relation sign) f.specials g.specials l.specials m.specials) (of_operands sign p f.value g.value))) tt
     (λ e.
     let both = left_empty (f.refusals ++ g.refusals) _ e in
     let h = there d f.value f.specials t (l.valued (left_empty f.refusals g.refusals both)) l.linked in
@@ -137,13 +132,6 @@ set_number : (d : Context) (fs : List Found) (ts : Terms) → (set_value d nowhe
 set_number d [] ts e = record { shape = e; number = λ n. absurd cc }
 set_number d (f ∷ fs) ts e = record { shape = e; number = λ n. absurd cc }
 
-of_members : (d : Context) (p : Place) (fs : List Found) (ts : Terms) → AreLinked d fs ts → OfExpressions (members_refused p fs) × OfExpressions (members_specials fs)
-of_members d p [] ts l = (tt, tt)
-of_members d p (f ∷ fs) term.NoTerm l = absurd l
-of_members d p (f ∷ fs) (term.Before t ts) l =
-    let more = of_members d p fs ts l.1 in
-    (of_append (f.refusals ++ large_member p f.value) _ (of_append f.refusals _ l.0.refusals (of_large_member p f.value)) more.0, of_append f.specials _ l.0.specials more.1)
-
 narrow_from : (p : Place) (w : ℕ) → too_wide p w ≡ [] → w ≤ 32
 narrow_from p w e = by (nat_lt 32 w) refl e
   where
@@ -153,9 +141,7 @@ narrow_from p w e = by (nat_lt 32 w) refl e
 
 linked_set : (d : Context) (p : Place) (fs : List Found) (ts : Terms) → AreLinked d fs ts → IsLinked d (found_set p fs) (term.Set ts)
 linked_set d p fs ts l =
-    let of = of_members d p fs ts l in
     unless d _ (members_specials fs) (members_value fs) (term.Set ts)
-    (of_append (members_refused p fs) _ of.0 (of_too_wide p (members_width fs))) of.1
     (λ e.
     let s = linked_members d p fs ts l (left_empty (members_refused p fs) (too_wide p (members_width fs)) e) in
     (set_number d fs ts s.shape, s.known, s.sound, subst (λ k. width_of k ≤ 32) (sym s.width) (narrow_from p (members_width fs) (right_empty (members_refused p fs) (too_wide p (members_width fs)) e))))
@@ -176,7 +162,7 @@ linked_extended d e (Some v) xs t l = (
 
 pub linked_if : (d : Context) (e : Option Extension) (f : Found) (t : Term) → IsLinked d f t → IsLinked d f (extended_if e t)
 linked_if d None f t l = l
-linked_if d (Some e) f t l = record { valued = l.valued; linked = linked_extended d e f.value f.specials t l.linked; refusals = l.refusals; specials = l.specials }
+linked_if d (Some e) f t l = record { valued = l.valued; linked = linked_extended d e f.value f.specials t l.linked }
 
 -- ---- names
 
@@ -197,7 +183,7 @@ NamesLinked d (n ∷ ns) (k ∷ ks) = NameLinked d n k × NamesLinked d ns ks
 NamesLinked d _ _ = ⊥
 
 linked_value : (d : Context) (v : Value) (t : Term) → SameKind v (constant_of d t) → AllKnown (constant_of d t).unknown → Sound d t → width_of v.shape ≤ 32 → IsLinked d (found_value v) t
-linked_value d v t k a s n = record { valued = λ e f. absurd cc; linked = (k, λ x. a, s, n); refusals = tt; specials = tt }
+linked_value d v t k a s n = record { valued = λ e f. absurd cc; linked = (k, λ x. a, s, n) }
 
 -- a name's find, and its term
 record IsFoundTerm (d : Context) (n : NameFound) (t : Term) : Type 0 where
@@ -231,14 +217,14 @@ used : (d : Context) (p : Place) (n : NameFound) (t : Term) → IsFoundTerm d n 
 used d p n t l = by n.is_pulse
   where
     by : (b : Bool) → IsLinked d (if b then refused_there (MisplacedSpecial p) else record n.found { specials = at_name p n.found.specials }) t
-    by true = record { valued = λ e f. absurd cc; linked = tt; refusals = (tt, tt); specials = tt }
-    by false = record { valued = l.found.valued; linked = used_if d p n.found.value n.found.specials t l.found.linked; refusals = l.found.refusals; specials = of_name p n.found.specials }
+    by true = record { valued = λ e f. absurd cc; linked = tt }
+    by false = record { valued = l.found.valued; linked = used_if d p n.found.value n.found.specials t l.found.linked }
 
 -- ---- specials
 
 special_linked : (d : Context) (p : Place) (b c : Bool) → IsLinked d (if b then record { refusals = []; specials = MisplacedSpecial p ∷ []; value = Some (one_position true) } else refused_there (MisplacedSpecial p)) (if b then term.X else if c then term.Pulse else term.Release)
-special_linked d p true c = record { valued = λ e f. absurd cc; linked = (same_kind _, λ e. absurd cc, tt, omega arith); refusals = tt; specials = (tt, tt) }
-special_linked d p false c = record { valued = λ e f. absurd cc; linked = tt; refusals = (tt, tt); specials = tt }
+special_linked d p true c = record { valued = λ e f. absurd cc; linked = (same_kind _, λ e. absurd cc, tt, omega arith) }
+special_linked d p false c = record { valued = λ e f. absurd cc; linked = tt }
 
 -- ---- expressions
 

@@ -5,7 +5,7 @@ use Rattle.abel_tree.specs.declared.words.Extension.{Extension}
 use Rattle.abel_tree.specs.declared.words.Unary.{Unary}
 use Rattle.abel_meaning.specs.Designs.{Context}
 use Rattle.abel_meaning.specs.Numbers.{Shape, Number, Single, Set, Value, width_of, member_width, meeting, met_number, met_unknown_by}
-use Rattle.abel_meaning.specs.Terms.{Term, Terms, extended, extended_each, extended_if}
+use Rattle.abel_meaning.specs.Terms.{Term, Terms, extended, extended_each}
 use Rattle.abel_meaning.specs.Terms as term
 use Rattle.abel_meaning.specs.Values.{constant_of, set_value, nowhere, is_relation, binary_by, binary_value, unary_value, operator_number, unary_number}
 
@@ -111,9 +111,6 @@ abbrev mutual
   AllSound d (term.Before t ts) = Sound d t × AllSound d ts
 
 -- ---- an extension changes no shape
-
-unary_flags : (sign : Unary) (v c : Value) → c.unknown ≡ v.unknown → (unary_value sign c).unknown ≡ (unary_value sign v).unknown
-unary_flags sign v c e = e
 
 flags_by : (relation : Bool) (sign : Binary) (v c u e : Value) → SameKind v c → SameKind u e → (binary_by relation sign c e).unknown ≡ (binary_by relation sign v u).unknown
 flags_by true sign v c u e k l = refl

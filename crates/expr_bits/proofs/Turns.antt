@@ -9,16 +9,11 @@ use Rattle.bit_expr.specs.declared.node.Node.{Node}
 use Rattle.bit_expr.specs.Arena.{arena}
 use Rattle.bit_expr.specs.Folding.{Made, free, ◌>>=◌}
 use Rattle.bit_expr.specs.Formulas.{Formula}
-use Rattle.pld_device.specs.Table.{Table}
-use Rattle.abel_tree.specs.declared.expressions.Expr.{Expr}
-use Rattle.abel_tree.specs.declared.names.Names.{Names}
-use Rattle.abel_tree.specs.Entries.{Entry, entries_of}
-use Rattle.abel_tree.specs.View.{view}
-use Rattle.abel_meaning.specs.Designs.{Context, context_of}
-use Rattle.abel_meaning.specs.Terms.{Term, known_of, term_of}
+use Rattle.abel_tree.specs.Entries.{Entry}
+use Rattle.abel_meaning.specs.Designs.{Context}
+use Rattle.abel_meaning.specs.Terms.{Term}
 use Rattle.expr_bits.specs.Making.{IsMade, Makes}
 use Rattle.expr_bits.proofs.Making.{made_is, Going, going_start, going_on, going_stop, going_done}
-use Rattle.set_expr.specs.Answer.{IsContextOf}
 use Rattle.expr_bits.specs.declared.forms.Bits.{Bits}
 use Rattle.expr_bits.specs.Parts.{Part, IsPart}
 use Rattle.expr_bits.specs.declared.turn.Turn.{Turn}
@@ -88,17 +83,3 @@ walking_done d old now vs b ts t e g is =
 
 pub all_names : (es : List Entry) (n : ℕ) → n ≡ length es → take n es ≡ es
 all_names es n e = ap (λ k. take k es) e ∙ take-length es
-
--- ---- a design of these names
-
-pub plain_design : Table → Names → Context
-plain_design t n = context_of t (entries_of n)
-
-pub is_plain : (t : Table) (n : Names) → IsContextOf t n (plain_design t n)
-unfolding plain_design
-is_plain t n = record { device = refl; names = refl; known = refl }
-
--- what an expression over all names stands for
-pub whole_term : (t : Table) (n : Names) (d : Context) (e : Expr) (count : ℕ) → IsContextOf t n d → count ≡ length (entries_of n) → term_of (known_of (take count (entries_of n))) (view e) ≡ term_of d.known (view e)
-whole_term t n d e count is all =
-    ap (λ es. term_of (known_of es) (view e)) (all_names (entries_of n) count all) ∙ ap (λ ks. term_of ks (view e)) (sym is.known)

@@ -1,4 +1,5 @@
 pub mod Along
+pub mod ExpressionBits
 pub mod Held
 pub mod Making
 pub mod Members
@@ -7,6 +8,7 @@ pub mod Operators
 pub mod Parts
 pub mod Pieces
 pub mod Positions
+pub mod Reads
 pub mod Shaping
 pub mod Showing
 pub mod Stacks

@@ -1,238 +1,141 @@
-//! Which constants make no node, and their bits.
+//! The rows of all names, each by those before it.
 
-ghost use Rattle.std.specs.Prelude.{◌≡◌, ◌+◌, true, false, slice_get, take, Option, Some, IfOk, IfSome, [], ◌∷◌, ◌++◌};
-ghost use Rattle.abel_tree.specs.declared.words.Extension.{Extension as AnExtension};
+ghost use Rattle.std.specs.Prelude.{◌≡◌, ◌<◌, ℕ, false, None, Some, IfOk, length, slice_get, take};
 ghost use Rattle.abel_tree.specs.Entries.{entries_of, view_declared};
 ghost use Rattle.abel_tree.specs.View.{view};
-ghost use Rattle.abel_meaning.specs.Designs.{Context};
-ghost use Rattle.abel_meaning.specs.Terms.{extended_if, known_of, term_of};
-ghost use Rattle.set_expr.specs.Answer.{IsContextOf};
-ghost use Rattle.expr_bits.specs.Stacks.{named_term};
-ghost use Rattle.expr_bits.specs.Steps.{Push};
-ghost use Rattle.expr_bits.specs.Still.{AreKept, IsKept, IsQuietTurn, KeepStill};
+ghost use Rattle.abel_meaning.specs.Designs.{Context, name_at};
+ghost use Rattle.abel_meaning.specs.Sources.{source_by};
+ghost use Rattle.abel_meaning.specs.Terms.{Read, known_of, term_of};
+ghost use Rattle.set_expr.specs.Contexts.{context_for};
+ghost use Rattle.expr_bits.specs.Reads.{IsReads, is_leaf, reads_leaf};
+ghost use Rattle.expr_bits.specs.Stacks.{here_term};
+ghost use Rattle.expr_bits.specs.Still.{AreRows, IsKeptIf, IsRow};
 
 use crate::forms::Bits;
-use crate::kept::{EXTENSIONS, Kept, Row};
-use crate::reading::signal_source;
-use crate::step::Step;
-use crate::turn::{Turn, turn_of};
-use crate::walking::{expanded, walk};
-use crate::work::Work;
+use crate::reading_names::expr_reads;
+use crate::reads::Reads;
+use crate::rows::Row;
+use crate::sources::source_of;
+use crate::walking::walk;
 use abel_tree::{Declared, Expr, Extension, Meaning};
 use bit_expr::{ExprFault, Exprs};
 use pld_base::OutOfMemory;
 use pld_device::Device;
-use set_expr::{Scope, Shape};
+use set_expr::Scope;
 use std::alloc::Global;
 
-/// Whether a turn may make a node. That a constant of which nothing is kept does saves going through it here.
-fn may_make<D: Device>(scope: &Scope<'_>, next: Work, turn: Turn) -> bool
-    ensures { result ≡ false → (d : Context) → IsContextOf D.table scope.now d → IsQuietTurn d turn.entry }
+/// Operators and members of a constant that is built anew wherever it is named. One of more is kept, if it can be.
+const FEW: u32 = 16;
+
+/// Whether a declared signal reads a leaf, bare or with an extension.
+fn is_leaf<D: Device>(declared: &Declared, extension: Option<Extension>) -> bool
+    ensures { result ≡ is_leaf (source_by D.table (view_declared declared.now) (view_declared declared.now).kind extension) }
 {
-    match turn {
-        Turn::Does(Step::Read(signal, extension)) => {
-            signal_source::<D>(scope, signal, extension).is_some()
-        }
-        Turn::Expands(_, _, _) => matches!(next, Work::Named(_, _)),
-        _ => false,
+    source_of::<D>(declared, extension).is_some()
+}
+
+/// What a signal reads.
+fn signal_reads<D: Device>(declared: &Declared) -> Reads
+    ensures { (d : Context) (k : ℕ) → d.device ≡ D.table → name_at d k ≡ view_declared declared.now → IsReads d result (Read k None) }
+{
+    Reads {
+        signal: true,
+        bare: is_leaf::<D>(declared, None),
+        q: is_leaf::<D>(declared, Some(Extension::Q)),
+        fb: is_leaf::<D>(declared, Some(Extension::Fb)),
+        pin: is_leaf::<D>(declared, Some(Extension::Pin)),
+        control: false,
+        parts: 0,
     }
 }
 
-/// Whether an expression over the names before this one makes no node, as far as is kept of those. Takes no stack.
-fn makes_none<'a, D: Device>(
-    alloc: Global,
-    scope: &Scope<'a>,
-    kept: &Kept,
-    expr: &'a Expr,
-    extension: Option<Extension>,
-    number: u32,
-) -> Result<bool, OutOfMemory>
-    requires kept { (d : Context) → IsContextOf D.table scope.now d → AreKept (entries_of scope.now) d kept.now.rows.items }
-    ensures { IfOk result (λ b. b ≡ true → (d : Context) → IsContextOf D.table scope.now d → KeepStill d (Push (extended_if extension (term_of (known_of (take number (entries_of scope.now))) (view expr.now))) ∷ [])) }
-{
-    let mut work = Vec::new(alloc);
-    work.push(Work::Whole(expr, extension, number as usize))?;
-    'turns: for _ in 0..u64::MAX {
-        let Some(next) = work.pop() else {
-            return Ok(true);
-        };
-        let turn = turn_of(scope, kept, next);
-        if may_make::<D>(scope, next, turn) {
-            return Ok(false);
-        }
-        work = expanded(alloc, scope, turn, work)?;
-    }
-    Err(OutOfMemory)
-}
-
-/// The bits of an expression in an arena of its own.
+/// The bits of a constant, which makes no node with this extension at its signals.
 fn bits_alone<D: Device>(
     alloc: Global,
     scope: &Scope<'_>,
-    kept: &Kept,
+    rows: &[Row],
     expr: &Expr,
     extension: Option<Extension>,
-    number: u32,
 ) -> Result<Option<Bits>, OutOfMemory>
-    requires kept { (d : Context) → IsContextOf D.table scope.now d → AreKept (entries_of scope.now) d kept.now.rows.items }
-    requires still { (d : Context) → IsContextOf D.table scope.now d → KeepStill d (Push (extended_if extension (term_of (known_of (take number (entries_of scope.now))) (view expr.now))) ∷ []) }
-    ensures { IfOk result (λ o. IfSome o (λ b. (d : Context) → IsContextOf D.table scope.now d → IsKept d b (extended_if extension (term_of (known_of (take number (entries_of scope.now))) (view expr.now))))) }
+    requires rows { AreRows (entries_of scope.now) (context_for D.table scope.now) 0 rows.now }
+    requires still { reads_leaf (context_for D.table scope.now) extension (term_of (known_of (take (length rows.now) (entries_of scope.now))) (view expr.now)) ≡ false }
+    ensures { IfOk result (λ o. IsKeptIf (context_for D.table scope.now) o (term_of (known_of (take (length rows.now) (entries_of scope.now))) (view expr.now))) }
 {
     let mut exprs = Exprs::new(alloc);
-    match walk::<D>(
-        alloc,
-        scope,
-        kept,
-        expr,
-        extension,
-        number as usize,
-        &mut exprs,
-    ) {
+    match walk::<D>(alloc, scope, rows, expr, extension, &mut exprs) {
         Ok(bits) => Ok(Some(bits)),
         Err(ExprFault::NodeLimit) => Ok(None),
         Err(ExprFault::OutOfMemory) => Err(OutOfMemory),
     }
 }
 
-/// The bits of a constant's expression, if it makes no node.
-fn bits_of<D: Device>(
+/// The bits of a constant that reads this, if they are kept.
+fn constant_bits<D: Device>(
     alloc: Global,
     scope: &Scope<'_>,
-    kept: &Kept,
+    rows: &[Row],
     expr: &Expr,
-    extension: Option<Extension>,
-    number: u32,
+    reads: Reads,
 ) -> Result<Option<Bits>, OutOfMemory>
-    requires kept { (d : Context) → IsContextOf D.table scope.now d → AreKept (entries_of scope.now) d kept.now.rows.items }
-    ensures { IfOk result (λ o. IfSome o (λ b. (d : Context) → IsContextOf D.table scope.now d → IsKept d b (extended_if extension (term_of (known_of (take number (entries_of scope.now))) (view expr.now))))) }
+    requires rows { AreRows (entries_of scope.now) (context_for D.table scope.now) 0 rows.now }
+    requires reads { IsReads (context_for D.table scope.now) reads (term_of (known_of (take (length rows.now) (entries_of scope.now))) (view expr.now)) }
+    ensures { IfOk result (λ o. IsKeptIf (context_for D.table scope.now) o (term_of (known_of (take (length rows.now) (entries_of scope.now))) (view expr.now))) }
 {
-    if makes_none::<D>(alloc, scope, kept, expr, extension, number)? {
-        bits_alone::<D>(alloc, scope, kept, expr, extension, number)
-    } else {
-        Ok(None)
+    if reads.parts <= FEW {
+        return Ok(None);
     }
+    if !reads.bare {
+        return bits_alone::<D>(alloc, scope, rows, expr, None);
+    }
+    if !reads.control {
+        return bits_alone::<D>(alloc, scope, rows, expr, Some(Extension::Clk));
+    }
+    Ok(None)
 }
 
-/// One row more.
-fn with_row(kept: Kept, row: Row) -> Result<Kept, OutOfMemory>
-    ensures { IfOk result (λ k. k.rows.items ≡ kept.rows.items ++ row ∷ []) }
-{
-    let mut kept = kept;
-    kept.rows.push(row)?;
-    Ok(kept)
-}
-
-/// A constant's expression with this extension, if it makes no node.
-fn with_extension<D: Device>(
+/// The row of a constant.
+fn constant_row<D: Device>(
     alloc: Global,
     scope: &Scope<'_>,
+    rows: &[Row],
     expr: &Expr,
-    extension: Option<Extension>,
-    number: u32,
-    kept: Kept,
-) -> Result<Kept, OutOfMemory>
-    requires kept { (d : Context) → IsContextOf D.table scope.now d → AreKept (entries_of scope.now) d kept.rows.items }
-    requires here { named_term (entries_of scope.now) number extension ≡ extended_if extension (term_of (known_of (take number (entries_of scope.now))) (view expr.now)) }
-    ensures { IfOk result (λ k. (d : Context) → IsContextOf D.table scope.now d → AreKept (entries_of scope.now) d k.rows.items) }
+) -> Result<Row, OutOfMemory>
+    requires rows { AreRows (entries_of scope.now) (context_for D.table scope.now) 0 rows.now }
+    ensures { IfOk result (λ r. IsRow (context_for D.table scope.now) r (term_of (known_of (take (length rows.now) (entries_of scope.now))) (view expr.now))) }
 {
-    let found = bits_of::<D>(alloc, scope, &kept, expr, extension, number)?;
-    match found {
-        Some(bits) => with_row(
-            kept,
-            Row {
-                number,
-                extension,
-                bits,
-            },
-        ),
-        None => Ok(kept),
-    }
+    let reads = expr_reads(alloc, scope, rows, expr)?;
+    let bits = constant_bits::<D>(alloc, scope, rows, expr, reads)?;
+    Ok(Row { reads, bits })
 }
 
-/// A constant's expression with each extension.
-fn with_each<D: Device>(
+/// The row of the next name.
+fn row_of<D: Device>(
     alloc: Global,
     scope: &Scope<'_>,
-    expr: &Expr,
-    number: u32,
-    before: Kept,
-) -> Result<Kept, OutOfMemory>
-    requires kept { (d : Context) → IsContextOf D.table scope.now d → AreKept (entries_of scope.now) d before.rows.items }
-    requires here { (e : Option AnExtension) → named_term (entries_of scope.now) number e ≡ extended_if e (term_of (known_of (take number (entries_of scope.now))) (view expr.now)) }
-    ensures { IfOk result (λ k. (d : Context) → IsContextOf D.table scope.now d → AreKept (entries_of scope.now) d k.rows.items) }
-{
-    let mut kept = before;
-    for extension in EXTENSIONS.as_slice() {
-        kept = with_extension::<D>(alloc, scope, expr, *extension, number, kept)?;
-    }
-    Ok(kept)
-}
-
-/// Whether a name's value has positions; what is a number is known without a row.
-fn has_positions(scope: &Scope<'_>, name: &[u8]) -> bool {
-    match scope.get(name) {
-        Some(name) => matches!(
-            name.checked.shape,
-            Some(Shape::Single) | Some(Shape::Set(_))
-        ),
-        None => false,
-    }
-}
-
-/// One name more.
-fn with_name<D: Device>(
-    alloc: Global,
-    scope: &Scope<'_>,
+    rows: &[Row],
     declared: &Declared,
-    number: u32,
-    before: Kept,
-) -> Result<Kept, OutOfMemory>
-    requires kept { (d : Context) → IsContextOf D.table scope.now d → AreKept (entries_of scope.now) d before.rows.items }
-    requires here { slice_get (entries_of scope.now) number ≡ Some (view_declared declared.now) }
-    ensures { IfOk result (λ k. (d : Context) → IsContextOf D.table scope.now d → AreKept (entries_of scope.now) d k.rows.items) }
+) -> Result<Row, OutOfMemory>
+    requires rows { AreRows (entries_of scope.now) (context_for D.table scope.now) 0 rows.now }
+    requires here { slice_get (entries_of scope.now) (length rows.now) ≡ Some (view_declared declared.now) }
+    ensures { IfOk result (λ r. IsRow (context_for D.table scope.now) r (here_term (entries_of scope.now) (length rows.now) (slice_get (entries_of scope.now) (length rows.now)))) }
 {
     match &declared.meaning {
-        Meaning::Constant(expr) => {
-            if has_positions(scope, declared.name.bytes()) {
-                with_each::<D>(alloc, scope, expr, number, before)
-            } else {
-                Ok(before)
-            }
-        }
-        _ => Ok(before),
+        Meaning::Pin { pin: _, negated: _ } => Ok(Row::of(signal_reads::<D>(declared))),
+        Meaning::Node(_) => Ok(Row::of(signal_reads::<D>(declared))),
+        Meaning::Constant(expr) => constant_row::<D>(alloc, scope, rows, expr),
+        Meaning::DeviceName => Ok(Row::of(Reads::none())),
     }
 }
 
-/// Where the rows of one name more begin.
-fn begun(kept: Kept) -> Result<Kept, OutOfMemory>
-    ensures { IfOk result (λ k. k.rows.items ≡ kept.rows.items) }
+/// The rows of all names. Each constant is gone through once, and built once where it is kept.
+pub(crate) fn rows_of<D: Device>(alloc: Global, scope: &Scope<'_>) -> Result<Vec<Row>, OutOfMemory>
+    ensures rows { IfOk result (λ rs. AreRows (entries_of scope.now) (context_for D.table scope.now) 0 rs.items) }
+    ensures all { IfOk result (λ rs. length rs.items ≡ length (entries_of scope.now)) }
 {
-    let mut kept = kept;
-    let start = kept.rows.len();
-    kept.starts.push(start)?;
-    Ok(kept)
-}
-
-/// The next number of a name; so many names that there is none are more than memory holds.
-fn next(number: u32) -> Result<u32, OutOfMemory>
-    ensures { IfOk result (λ n. n ≡ number + 1) }
-{
-    match number.checked_add(1) {
-        Some(next) => Ok(next),
-        None => Err(OutOfMemory),
-    }
-}
-
-/// The constants that make no node, each by those before it.
-pub(crate) fn kept_of<D: Device>(alloc: Global, scope: &Scope<'_>) -> Result<Kept, OutOfMemory>
-    ensures { IfOk result (λ k. (d : Context) → IsContextOf D.table scope.now d → AreKept (entries_of scope.now) d k.rows.items) }
-{
-    let mut kept = Kept::new(alloc);
-    let mut number = 0u32;
+    let mut rows = Vec::new(alloc);
     for declared in scope.list() {
-        let here = begun(kept)?;
-        kept = with_name::<D>(alloc, scope, declared, number, here)?;
-        number = next(number)?;
+        let row = row_of::<D>(alloc, scope, rows.as_slice(), declared)?;
+        rows.push(row)?;
     }
-    Ok(kept)
+    Ok(rows)
 }

@@ -7,10 +7,10 @@ ghost use Rattle.abel_meaning.specs.Terms.{extended_if, known_of, term_meant};
 ghost use Rattle.expr_bits.specs.Parts.{Part};
 ghost use Rattle.expr_bits.specs.Stacks.{named_term, task_of, task_of_turn};
 ghost use Rattle.expr_bits.specs.Steps.{Push, after_task};
-ghost use Rattle.expr_bits.specs.Still.{AreKept, IsHeld};
+ghost use Rattle.expr_bits.specs.Still.{AreRows, IsHeld};
 
 use crate::forms::Bits;
-use crate::kept::Kept;
+use crate::rows::{Row, bits_at};
 use crate::step::Step;
 use crate::work::Work;
 use abel_tree::{Expr, Extension, Meaning};
@@ -59,14 +59,14 @@ fn named_turn<'a, 'kept>(
 /// The name of this number, by the bits that are kept of it where there are some.
 fn kept_turn<'a, 'kept>(
     scope: &Scope<'a>,
-    kept: &'kept Kept,
+    rows: &'kept [Row],
     number: u32,
     extension: Option<Extension>,
 ) -> Turn<'a, 'kept>
     ensures task { (d : Context) (ps : List Part) → after_task d (task_of_turn (entries_of scope.now) result) ps ≡ after_task d (Push (named_term (entries_of scope.now) number extension)) ps }
-    ensures held { (d : Context) → AreKept (entries_of scope.now) d kept.now.rows.items → IsHeld (entries_of scope.now) d result }
+    ensures held { (d : Context) → AreRows (entries_of scope.now) d 0 rows.now → IsHeld (entries_of scope.now) d result }
 {
-    match kept.get(number, extension) {
+    match bits_at(rows, number, extension) {
         Some(bits) => Turn::Keeps(bits, number, extension),
         None => named_turn(scope, number, extension),
     }
@@ -75,15 +75,15 @@ fn kept_turn<'a, 'kept>(
 /// What is done of the work.
 pub(crate) fn turn_of<'a, 'kept>(
     scope: &Scope<'a>,
-    kept: &'kept Kept,
+    rows: &'kept [Row],
     next: Work<'a>,
 ) -> Turn<'a, 'kept>
     ensures task { (d : Context) (ps : List Part) → after_task d (task_of_turn (entries_of scope.now) result) ps ≡ after_task d (task_of (entries_of scope.now) next.entry) ps }
-    ensures held { (d : Context) → AreKept (entries_of scope.now) d kept.now.rows.items → IsHeld (entries_of scope.now) d result }
+    ensures held { (d : Context) → AreRows (entries_of scope.now) d 0 rows.now → IsHeld (entries_of scope.now) d result }
 {
     match next {
         Work::Whole(expr, extension, count) => Turn::Expands(expr, extension, count),
-        Work::Named(number, extension) => kept_turn(scope, kept, number, extension),
+        Work::Named(number, extension) => kept_turn(scope, rows, number, extension),
         Work::Do(step) => Turn::Does(step),
     }
 }

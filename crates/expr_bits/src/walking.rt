@@ -1,6 +1,6 @@
 //! The walk over an expression.
 
-ghost use Rattle.std.specs.Prelude.{◌≡◌, List, ◌∷◌, IfOk, take};
+ghost use Rattle.std.specs.Prelude.{◌≡◌, List, ◌∷◌, IfOk, length, take};
 ghost use Rattle.bit_expr.specs.Arena.{arena};
 ghost use Rattle.abel_tree.specs.Entries.{entries_of};
 ghost use Rattle.abel_tree.specs.View.{view};
@@ -11,12 +11,12 @@ ghost use Rattle.set_expr.specs.Answer.{IsContextOf};
 ghost use Rattle.expr_bits.specs.Parts.{IsPart, Part};
 ghost use Rattle.expr_bits.specs.Stacks.{AreStacked, ShowsStack, Standing, after_turn, task_of_turn, tasks_of, then_all};
 ghost use Rattle.expr_bits.specs.Steps.{after_all, term_part};
-ghost use Rattle.expr_bits.specs.Still.{AreKept, IsHeld};
+ghost use Rattle.expr_bits.specs.Still.{AreRows, IsHeld};
 
 use crate::building::{build, put_copy, taken};
 use crate::expanding::expand;
 use crate::forms::Bits;
-use crate::kept::Kept;
+use crate::rows::Row;
 use crate::turn::{Turn, turn_of};
 use crate::work::Work;
 use abel_tree::{Expr, Extension};
@@ -62,28 +62,28 @@ fn done<D: Device>(
     }
 }
 
-/// The bits of an expression over so many names, with an extension at its signals, in just the counted nodes. Takes no stack, however deep or long the expression is.
+/// The bits of an expression over the names that have rows, with an extension at its signals, in just the counted nodes.
+/// Takes no stack, however deep or long the expression is.
 pub(crate) fn walk<'a, D: Device>(
     alloc: Global,
     scope: &Scope<'a>,
-    kept: &Kept,
+    rows: &[Row],
     expr: &'a Expr,
     extension: Option<Extension>,
-    count: usize,
     exprs: &mut Exprs,
 ) -> Result<Bits, ExprFault>
-    requires kept { (d : Context) → IsContextOf D.table scope.now d → AreKept (entries_of scope.now) d kept.now.rows.items }
-    ensures { (d : Context) → IsContextOf D.table scope.now d → Makes IsPart exprs.old exprs.new result (term_part d (extended_if extension (term_of (known_of (take count (entries_of scope.now))) (view expr.now)))) }
+    requires rows { (d : Context) → IsContextOf D.table scope.now d → AreRows (entries_of scope.now) d 0 rows.now }
+    ensures { (d : Context) → IsContextOf D.table scope.now d → Makes IsPart exprs.old exprs.new result (term_part d (extended_if extension (term_of (known_of (take (length rows.now) (entries_of scope.now))) (view expr.now)))) }
 {
     let mut work = Vec::new(alloc);
     let mut values = Vec::new(alloc);
-    work.push(Work::Whole(expr, extension, count))?;
+    work.push(Work::Whole(expr, extension, rows.len()))?;
     // An expression of so many turns is none that a run could live to build.
     'turns: for _ in 0..u64::MAX {
         let Some(next) = work.pop() else {
             return Ok(taken(alloc, &mut values));
         };
-        let turn = turn_of(scope, kept, next);
+        let turn = turn_of(scope, rows, next);
         work = expanded(alloc, scope, turn, work)?;
         values = done::<D>(alloc, scope, exprs, turn, values)?;
     }

@@ -4,7 +4,7 @@ use Rattle.std.proofs.lemmas.Option.{get_or_from_slice_get}
 use Rattle.std.proofs.lemmas.Bool.Decides.{nat_tests}
 use Rattle.pld_device.specs.declared.cell.Cell.{Cell}
 use Rattle.pld_device.specs.Table.{no_cell}
-use Rattle.expr_bits.proofs.FirstPlaces.{place_first, place_here, place_later, place_none}
+use Rattle.expr_bits.proofs.CellPlaces.{place_first, place_here, place_later, place_none}
 use Rattle.expr_bits.proofs.sources.cell_on.Goals as goal
 
 pub loop-index-init : goal.loop-index-init

@@ -1,0 +1,46 @@
+-- Bits that are kept: built alone, and put on a stack.
+use Rattle.std.proofs.Common.{◌≡◌, ◌<◌, List, [], ◌∷◌, length, Ok, refl, sym, ap, ◌∙◌, ap₂, subst, arith}
+use Rattle.std.specs.Global.{Vec}
+use Rattle.bit_expr.specs.declared.node.ExprId.{ExprId}
+use Rattle.bit_expr.specs.declared.node.Node.{Node}
+use Rattle.bit_expr.specs.Arena.{arena}
+use Rattle.bit_expr.specs.Folding.{free}
+use Rattle.bit_expr.proofs.ArenaLists.{arena_count, low_formula}
+use Rattle.abel_meaning.specs.Designs.{Context}
+use Rattle.abel_meaning.specs.FormulaBits.{bits_of}
+use Rattle.abel_meaning.specs.Terms.{Term}
+use Rattle.expr_bits.specs.Making.{AllIn, word_at, Makes}
+use Rattle.expr_bits.proofs.Making.{made_is, nothing_made}
+use Rattle.expr_bits.specs.declared.forms.Bits.{Bits}
+use Rattle.expr_bits.specs.Parts.{Part, IsPart}
+use Rattle.expr_bits.specs.Stacks.{ShowsStack}
+use Rattle.expr_bits.specs.Steps.{pushed, term_part}
+use Rattle.expr_bits.specs.Still.{AreConstant, IsFree, IsKept}
+
+-- ---- bits of an arena without nodes
+
+low_in : (ns : List Node) (ids : List ExprId) → AllIn 2 ids → AllIn (length (arena ns)) ids
+low_in ns [] h = tt
+low_in ns (i ∷ is) h = (omega (arith, arena_count ns, h.0), low_in ns is h.1)
+
+low_word : (old ns : List Node) (ids : List ExprId) → AllIn 2 ids → word_at (arena ns) ids ≡ word_at (arena old) ids
+low_word old ns [] h = refl
+low_word old ns (i ∷ is) h = ap₂ (λ f fs. f ∷ fs) (sym (low_formula ns i.0 h.0) ∙ low_formula old i.0 h.0) (low_word old ns is h.1)
+
+anywhere : (old ns : List Node) (b : Bits) (p : Part) → length (arena old) ≡ 2 → IsPart (arena old) b p → IsPart (arena ns) b p
+anywhere old ns b p e is =
+    let low : AllIn 2 b.word = subst (λ n. AllIn n b.word) e is.word.0 in
+    record {
+      form = is.form;
+      unknown = is.unknown;
+      positions = is.positions;
+      word = (low_in ns b.word low, low_word old ns b.word low ∙ is.word.1);
+    }
+
+-- what is built alone without a node is kept
+pub kept_alone : (d : Context) (new : List Node) (b : Bits) (t : Term) → IsFree AreConstant (bits_of d t) → Makes IsPart [] new (Ok b) (term_part d t) → IsKept d b t
+kept_alone d new b t still made =
+    record {
+      free = still;
+      shows = λ ns. anywhere new ns b (term_part d t).what (omega (arith, made.grew.count, arena_count [], still.0)) made.shows;
+    }

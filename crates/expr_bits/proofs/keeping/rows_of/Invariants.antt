@@ -1,0 +1,13 @@
+-- The rows so far are those of the first names, one each.
+use Rattle.std.proofs.Common.{◌≡◌, length}
+use Rattle.abel_tree.specs.Entries.{entries_of}
+use Rattle.set_expr.specs.Contexts.{context_for}
+use Rattle.expr_bits.specs.Still.{AreRows}
+use Rattle.expr_bits.proofs.keeping.rows_of.Given as goal
+
+abbrev pub invariant-loop-declared : goal.invariant-loop-declared
+invariant-loop-declared g l =
+    record {
+      rows : AreRows (entries_of l.scope) (context_for g.D.Device.table l.scope) 0 l.rows.items;
+      count : length l.rows.items ≡ l.declared-index;
+    }

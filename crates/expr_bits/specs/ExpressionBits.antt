@@ -1,0 +1,18 @@
+-- The bits of an expression of which nothing is refused (ABEL-HDL Reference Manual, sets and operators; the limit is this
+-- project's rule).
+use Rattle.std.specs.Prelude.{List, Result}
+use Rattle.bit_expr.specs.declared.fault.ExprFault.{ExprFault}
+use Rattle.bit_expr.specs.declared.node.Node.{Node}
+use Rattle.abel_tree.specs.Tree.{Tree}
+use Rattle.abel_meaning.specs.Designs.{Context}
+use Rattle.abel_meaning.specs.FormulaBits.{bits_of}
+use Rattle.abel_meaning.specs.Terms.{term_of}
+use Rattle.abel_meaning.specs.Values.{constant_of}
+use Rattle.set_expr.specs.Answer.{IsShaped}
+use Rattle.set_expr.specs.declared.shaped.Shaped.{Shaped}
+use Rattle.expr_bits.specs.Making.{Makes}
+
+-- a shape, the X positions and the bits of the value, in just the counted nodes
+abbrev pub MakesBits : Context → Tree → (old new : List Node) → Result Shaped ExprFault → Type 0
+MakesBits d t old new r =
+    Makes (λ fs s w. IsShaped fs s (constant_of d (term_of d.known t)) w) old new r (bits_of d (term_of d.known t))

@@ -1,0 +1,110 @@
+//! The names of a source on a device.
+
+ghost use Rattle.std.specs.Prelude.{◌≡◌, None, IfOk, length};
+ghost use Rattle.abel_tree.specs.Entries.{entries_of};
+ghost use Rattle.abel_tree.specs.View.{view};
+ghost use Rattle.abel_meaning.specs.Terms.{known_of, term_of};
+ghost use Rattle.set_expr.specs.Answer.{refusal_of};
+ghost use Rattle.set_expr.specs.Contexts.{context_for};
+ghost use Rattle.expr_bits.specs.ExpressionBits.{MakesBits};
+ghost use Rattle.expr_bits.specs.Making.{Makes};
+ghost use Rattle.expr_bits.specs.Parts.{IsPart};
+ghost use Rattle.expr_bits.specs.Reads.{reads_signal};
+ghost use Rattle.expr_bits.specs.Steps.{term_part};
+ghost use Rattle.expr_bits.specs.Still.{AreRows};
+
+use crate::forms::Bits;
+use crate::keeping::rows_of;
+use crate::reading_names::expr_reads;
+use crate::rows::Row;
+use crate::shaping::shaped;
+use crate::walking::walk;
+use abel_tree::Expr;
+use bit_expr::{ExprFault, Exprs};
+use pld_base::{ListOf, OutOfMemory};
+use pld_device::Device;
+use set_expr::{Scope, Shaped};
+use std::alloc::Global;
+use std::marker::{Model, PhantomData};
+
+/// The names of a source on a device, with what each of them reads there and the bits of long constants, learnt once for
+/// all its expressions. A contract sees the names.
+#[derive(Drop)]
+pub struct DeviceScope<'a, D: Device> {
+    scope: Scope<'a>,
+    rows: ListOf<Row>,
+    device: PhantomData<D>,
+}
+
+impl<'a, D: Device> Model for DeviceScope<'a, D> {
+    ghost use Rattle.abel_tree.specs.Entries.{entries_of};
+    ghost use Rattle.abel_tree.specs.contracts.expressions.Expr as expression;
+    ghost use Rattle.abel_tree.specs.declared.names.Names.{Names};
+    ghost use Rattle.expr_bits.specs.Still.{AreRows};
+    ghost use Rattle.set_expr.specs.Contexts.{context_for};
+    ghost use Rattle.std.specs.Coded.{codes};
+    ghost use Rattle.std.specs.Prelude.{◌≡◌, length};
+
+    ghost Value = { Names };
+
+    ghost coded = { Prim.hlevel (codes, expression.the_row.coded) };
+
+    ghost view = { λ s. s.scope };
+
+    ghost invariant = { λ s. AreRows (entries_of s.scope) (context_for D.table s.scope) 0 s.rows × (length s.rows ≡ length (entries_of s.scope)) };
+}
+
+impl<'a, D: Device> DeviceScope<'a, D> {
+    /// The names of a scope on the device.
+    pub fn new(alloc: Global, scope: Scope<'a>) -> Result<DeviceScope<'a, D>, OutOfMemory>
+        ensures { IfOk result (λ s. s ≡ scope.entry) }
+    {
+        let rows = rows_of::<D>(alloc, &scope)?;
+        Ok(DeviceScope {
+            scope,
+            rows: ListOf::from_vec(rows),
+            device: PhantomData,
+        })
+    }
+
+    /// The names alone.
+    pub fn scope(&self) -> &Scope<'a>
+        ensures { result.now ≡ self.now }
+    {
+        &self.scope
+    }
+
+    /// What is kept of the names.
+    fn rows(&self) -> &[Row]
+        ensures rows { AreRows (entries_of self.now) (context_for D.table self.now) 0 result.now }
+        ensures all { length result.now ≡ length (entries_of self.now) }
+    {
+        self.rows.as_slice()
+    }
+
+    /// Whether an expression reads a signal, whether or not its value depends on it.
+    pub fn reads_signal(&self, alloc: Global, expr: &Expr) -> Result<bool, OutOfMemory>
+        ensures { IfOk result (λ b. b ≡ reads_signal (term_of (known_of (entries_of self.now)) (view expr.now))) }
+    {
+        let reads = expr_reads(alloc, &self.scope, self.rows(), expr)?;
+        Ok(reads.signal)
+    }
+
+    /// The bits of an expression, in just the counted nodes.
+    fn whole(&self, alloc: Global, expr: &Expr, exprs: &mut Exprs) -> Result<Bits, ExprFault>
+        ensures { Makes IsPart exprs.old exprs.new result (term_part (context_for D.table self.now) (term_of (known_of (entries_of self.now)) (view expr.now))) }
+    {
+        walk::<D>(alloc, &self.scope, self.rows(), expr, None, exprs)
+    }
+
+    /// The bits of an expression of which nothing is refused, so that only `NodeLimit` or want of memory can come. Each read
+    /// of a signal and each operator makes its nodes anew, also of equal operands.
+    pub fn bits(&self, alloc: Global, expr: &Expr, exprs: &mut Exprs) -> Result<Shaped, ExprFault>
+        requires accepted { refusal_of self.now (view expr.now) ≡ None }
+        ensures { MakesBits (context_for D.table self.now) (view expr.now) exprs.old exprs.new result }
+    {
+        let bits = self.whole(alloc, expr, exprs)?;
+        let shaped = shaped(alloc, &bits)?;
+        Ok(shaped)
+    }
+}

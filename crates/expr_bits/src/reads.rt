@@ -1,0 +1,91 @@
+//! What a value reads.
+
+ghost use Rattle.std.specs.Prelude.{◌≡◌, ◌||◌, Option};
+ghost use Rattle.abel_tree.specs.declared.words.Extension.{Extension as AnExtension};
+ghost use Rattle.abel_meaning.specs.Designs.{Context};
+ghost use Rattle.abel_meaning.specs.Terms.{Term, extended_if};
+ghost use Rattle.expr_bits.specs.Reads.{IsReads, leaf_under, no_reads};
+
+use abel_tree::Extension;
+
+/// Whether a value reads a signal at all, and under which extension at its bare signals it reads a leaf, and so makes
+/// nodes.
+#[derive(Clone, Copy, PartialEq, Eq)]
+pub(crate) struct Reads {
+    pub signal: bool,
+    pub bare: bool,
+    pub q: bool,
+    pub fb: bool,
+    pub pin: bool,
+    /// Under `.CLK`, `.OE`, `.AR`, `.SP` or `.D`, as which no signal has a value.
+    pub control: bool,
+    /// How many operators and members it has, with those of the constants in it; `u32::MAX` stands for more.
+    pub parts: u32,
+}
+
+impl Reads {
+    /// Nothing is read.
+    pub(crate) fn none() -> Reads
+        ensures { result ≡ no_reads }
+    {
+        Reads {
+            signal: false,
+            bare: false,
+            q: false,
+            fb: false,
+            pin: false,
+            control: false,
+            parts: 0,
+        }
+    }
+
+    /// Whether it reads a leaf with this extension at its bare signals.
+    pub(crate) fn leaf(self, extension: Option<Extension>) -> bool
+        ensures { result ≡ leaf_under self extension }
+    {
+        match extension {
+            None => self.bare,
+            Some(Extension::Q) => self.q,
+            Some(Extension::Fb) => self.fb,
+            Some(Extension::Pin) => self.pin,
+            Some(_) => self.control,
+        }
+    }
+
+    /// With an extension, which no other takes the place of.
+    pub(crate) fn under(self, extension: Option<Extension>) -> Reads
+        ensures { (d : Context) (t : Term) → IsReads d self t → IsReads d result (extended_if extension t) }
+    {
+        match extension {
+            None => self,
+            Some(_) => {
+                let leaf = self.leaf(extension);
+                Reads {
+                    signal: self.signal,
+                    bare: leaf,
+                    q: leaf,
+                    fb: leaf,
+                    pin: leaf,
+                    control: leaf,
+                    parts: self.parts,
+                }
+            }
+        }
+    }
+
+    /// What both read.
+    pub(crate) fn with(self, other: Reads) -> Reads
+        ensures signal { result.signal ≡ (self.signal || other.signal) }
+        ensures leaf { (e : Option AnExtension) → leaf_under result e ≡ (leaf_under self e || leaf_under other e) }
+    {
+        Reads {
+            signal: self.signal || other.signal,
+            bare: self.bare || other.bare,
+            q: self.q || other.q,
+            fb: self.fb || other.fb,
+            pin: self.pin || other.pin,
+            control: self.control || other.control,
+            parts: self.parts.saturating_add(other.parts).saturating_add(1),
+        }
+    }
+}

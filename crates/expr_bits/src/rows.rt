@@ -1,0 +1,68 @@
+//! What is kept of each name: what it reads, and the bits of a constant that makes no node.
+
+ghost use Rattle.std.specs.Prelude.{◌≡◌, List, None, IfSome};
+ghost use Rattle.abel_tree.specs.Entries.{Entry};
+ghost use Rattle.abel_meaning.specs.Designs.{Context};
+ghost use Rattle.abel_meaning.specs.Terms.{Term};
+ghost use Rattle.expr_bits.specs.Stacks.{named_term};
+ghost use Rattle.expr_bits.specs.Still.{AreRows, IsKept, IsKeptIf, IsKeptUnder, reads_at};
+
+use crate::forms::Bits;
+use crate::reads::Reads;
+use abel_tree::Extension;
+
+/// What a name reads; the bits of a constant, under each extension with which it reads no leaf, where they are kept.
+#[derive(Drop)]
+pub(crate) struct Row {
+    pub reads: Reads,
+    pub bits: Option<Bits>,
+}
+
+impl Row {
+    /// Nothing is kept.
+    pub(crate) fn of(reads: Reads) -> Row
+        ensures { result ≡ record { reads = reads; bits = None } }
+    {
+        Row { reads, bits: None }
+    }
+}
+
+/// What the name with this number reads, of the names that have rows.
+pub(crate) fn reads_at(rows: &[Row], number: u32) -> Reads
+    ensures { result ≡ reads_at rows.now number }
+{
+    match rows.get(number as usize) {
+        Some(row) => row.reads,
+        None => Reads::none(),
+    }
+}
+
+/// The bits of a row.
+fn bits_of(row: &Row) -> Option<&Bits>
+    ensures { (d : Context) (t : Term) → IsKeptIf d row.now.bits t → IfSome result (λ b. IsKeptUnder d b.now t) }
+{
+    match &row.bits {
+        Some(bits) => Some(bits),
+        None => None,
+    }
+}
+
+/// The bits that are kept of a name under an extension.
+pub(crate) fn bits_at<'a>(
+    rows: &'a [Row],
+    number: u32,
+    extension: Option<Extension>,
+) -> Option<&'a Bits>
+    ensures { (es : List Entry) (d : Context) → AreRows es d 0 rows.now → IfSome result (λ b. IsKept d b.now (named_term es number extension)) }
+{
+    match rows.get(number as usize) {
+        Some(row) => {
+            if row.reads.leaf(extension) {
+                None
+            } else {
+                bits_of(row)
+            }
+        }
+        None => None,
+    }
+}
