@@ -11,5 +11,4 @@ pub mod Refused
 pub mod SideTerms
 pub mod SignalLists
 pub mod SmallTargets
-pub mod Views
 pub mod WalksBehind

@@ -1,14 +1,13 @@
 -- Look-ups from the front.
-use Rattle.std.proofs.Common.{◌≡◌, ℕ, zero, suc, ◌+◌, ◌<◌, ◌≤◌, Bool, true, false, ◌||◌, List, [], ◌∷◌, ◌++◌, Option, None, Some, Result, Ok, Err, OnOk, length, get_or, take, drop, if◌then◌else◌, refl, sym, ap, ap₂, ◌∙◌, subst, arith, add-one}
+use Rattle.std.proofs.Common.{◌≡◌, ℕ, zero, suc, ◌+◌, ◌<◌, ◌≤◌, Bool, true, false, ◌||◌, List, [], ◌∷◌, ◌++◌, Option, None, Some, Result, Ok, Err, OnOk, length, get_or, drop, if◌then◌else◌, refl, sym, ap, ap₂, ◌∙◌, subst, arith, add-one}
 use Rattle.std.specs.List.{list_any}
-use Rattle.std.proofs.Math.Seq.{drop-cons, take-suc}
-use Rattle.set_expr.specs.declared.contributions.Contribution.{Contribution}
-use Rattle.std.proofs.lemmas.List.{drop_all, map-append}
+use Rattle.std.proofs.Math.Seq.{drop-cons}
+use Rattle.std.proofs.lemmas.List.{drop_all}
 use Rattle.section_targets.specs.declared.aim.Aim.{Aim}
 use Rattle.section_targets.specs.declared.manner.Manner.{Manner}
 use Rattle.section_targets.specs.Given.{AreNamed}
 use Rattle.std.proofs.lemmas.Bool.Decides.{nat_tests}
-use Rattle.section_targets.specs.Manners.{first_manner, is_same_part, part_of, AreFirsts, manner_of_contribution, manners_of}
+use Rattle.section_targets.specs.Manners.{first_manner, is_same_part, part_of, AreFirsts}
 
 next_of : {X : Type 0} (xs : List X) (k : ℕ) (d : X) → k < length xs → drop k xs ≡ get_or xs k d ∷ drop (k + 1) xs
 next_of xs k d lt = drop-cons xs k d lt ∙ ap (λ n. get_or xs k d ∷ drop n xs) (sym (add-one k))
@@ -79,12 +78,6 @@ firsts_stay firsts all m f h e s part =
     stays (Some y) b x p q = refl
     stays None false x p q = refl
     stays None true x p q = absurd (missing m s part firsts f q e p)
-
--- one contribution more
-pub contributions_next : (cs : List Contribution) (i : ℕ) (x : Contribution) (firsts : List Manner) → i < length cs → AreFirsts firsts (manners_of (take i cs) ++ manner_of_contribution (get_or cs i x) ∷ []) → AreFirsts firsts (manners_of (take (i + 1) cs))
-contributions_next cs i x firsts lt h =
-    let t : take (i + 1) cs ≡ take i cs ++ get_or cs i x ∷ [] = ap (λ n. take n cs) (add-one i) ∙ take-suc cs i x lt in
-    subst (AreFirsts firsts) (sym (ap manners_of t ∙ map-append manner_of_contribution (take i cs) (get_or cs i x ∷ []))) h
 
 pub on_ok_map : {T E : Type 0} {A B : Type 0} (r : Result T E) → (A → B) → OnOk r A → OnOk r B
 on_ok_map (Ok x) f h = f h

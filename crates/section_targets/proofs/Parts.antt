@@ -1,21 +1,17 @@
 -- The parts of a unit: nodes that are added one after another.
-use Rattle.std.proofs.Common.{◌≡◌, ℕ, ◌+◌, nat_lt, Bool, true, false, ◌&&◌, List, [], ◌∷◌, length, refl, sym, ap, ◌∙◌, subst, arith}
+use Rattle.std.proofs.Common.{◌≡◌, ℕ, ◌+◌, nat_lt, Bool, true, false, ◌&&◌, List, [], ◌∷◌, length, refl, sym, ap, ◌∙◌, arith}
 use Rattle.std.proofs.lemmas.Bool.Decides.{nat_tests}
 use Rattle.std.proofs.lemmas.List.{append-nil}
-use Rattle.std.proofs.lemmas.Option.{get_or_from_slice_get, slice_get_within}
 use Rattle.pld_base.specs.declared.place.Place.{Place}
-use Rattle.bit_expr.specs.declared.node.ExprId.{ExprId}
 use Rattle.bit_expr.specs.declared.node.Node.{Node}
-use Rattle.bit_expr.specs.Arena.{arena, MOST, Grew, PassesLimit, IsAdded}
-use Rattle.bit_expr.specs.Folding.{Made}
-use Rattle.bit_expr.specs.Formulas.{Formula, Const}
+use Rattle.bit_expr.specs.Arena.{arena, MOST, Grew, PassesLimit}
 use Rattle.set_expr.specs.declared.contributions.Contribution.{Contribution}
 use Rattle.set_expr.specs.declared.contributions.Contributions.{Contributions}
 use Rattle.set_expr.specs.declared.fault.SectionFault.TheVariants as fault
 use Rattle.set_expr.specs.Answer.{Keeps}
 use Rattle.section_targets.specs.Appending.{Appends, Leaves}
-use Rattle.section_targets.specs.Building.{StopsWith, IsBuilt, IsBit}
-use Rattle.section_targets.specs.Units.{CountedUnit, part, is_past, limit_at, limit_refused}
+use Rattle.section_targets.specs.Building.{IsBuilt}
+use Rattle.section_targets.specs.Units.{part, is_past, limit_at, limit_refused}
 
 pub not_past : (count n : ℕ) → (PassesLimit MOST count n → ⊥) → is_past count n ≡ false
 not_past count n h = past_by (nat_lt 0 n) (nat_lt MOST (count + n)) refl refl
@@ -50,22 +46,5 @@ built_nodes p n old new list g h =
       };
     }
 
-same_keeps : (old new : List Node) → new ≡ old → Keeps (arena old) (arena new)
-same_keeps old new e = subst (λ ns. Keeps (arena old) (arena ns)) (sym e) (λ i f h. h)
-
 pub limit_here : (p : Place) (n count : ℕ) → PassesLimit MOST count n → limit_refused count (part p n ∷ []) ≡ fault.NodeLimit p ∷ []
 limit_here p n count h = ap (λ b. limit_at [] p b []) (past count n h)
-
--- a node that is added is a part of its unit
-pub added_part : (p : Place) (old new : List Node) (id : ExprId) (m : Made Formula) → IsAdded MOST (arena old) (arena new) id m → (list : List Contribution) → IsBuilt (part p m.nodes ∷ []) [] [] (record { exprs = old; list = list }) (record { exprs = new; list = list })
-added_part p old new id m a list = built_nodes p m.nodes old new list a.grew a.within
-
-pub added_bit : (old new : List Node) (id : ExprId) (m : Made Formula) → IsAdded MOST (arena old) (arena new) id m → IsBit (arena new) id m.what
-added_bit old new id m a =
-    (slice_get_within (arena new) id.0 m.what a.formula, get_or_from_slice_get (arena new) id.0 m.what (Const false) a.formula)
-
-pub limit_part : (p : Place) (n : ℕ) (old new : List Node) → new ≡ old → PassesLimit MOST (length (arena old)) n → (list : List Contribution) → StopsWith (part p n ∷ []) [] [] (record { exprs = old; list = list }) (record { exprs = new; list = list }) (fault.NodeLimit p)
-limit_part p n old new e h list = (limit_here p n (length (arena old)) h, leaves_nodes old new list (same_keeps old new e))
-
-pub memory_part : (us : List CountedUnit) (old new : List Node) → new ≡ old → (list : List Contribution) → StopsWith us [] [] (record { exprs = old; list = list }) (record { exprs = new; list = list }) fault.OutOfMemory
-memory_part us old new e list = (tt, leaves_nodes old new list (same_keeps old new e))

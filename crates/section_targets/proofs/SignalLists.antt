@@ -21,27 +21,6 @@ use Rattle.section_targets.specs.TargetSignals.{TargetFound, aims_at, names_sign
 
 -- ---- signals
 
--- what is in a list and what isn't whole
-pub signals_joined : (count : ℕ) (a b n : NamedSignals) (xs ys : List ℕ) (p q : Bool) → AreSignals count a xs p → AreSignals count b ys q
-    → n.alone ≡ a.alone && b.alone → n.width ≡ min (a.width + b.width) 255 → n.signals ≡ a.signals ++ b.signals → AreSignals count n (xs ++ ys) (p && q)
-signals_joined count a b n xs ys p q h k alone width list =
-    record {
-      width = omega (arith, width, h.width, k.width, length-append xs ys);
-      alone = alone ∙ ap₂ (λ u v. u && v) h.alone k.alone;
-      signals = λ le. list ∙ ap₂ (λ us vs. us ++ vs) (h.signals (omega (arith, le, length-append xs ys))) (k.signals (omega (arith, le, length-append xs ys)));
-      inside = subst (All (λ (s : ℕ). s < count)) (sym list) (All-append (λ (s : ℕ). s < count) a.signals b.signals h.inside k.inside);
-    }
-
-pub signals_cut : (count : ℕ) (a b n : NamedSignals) (xs ys : List ℕ) (p q : Bool) → AreSignals count a xs p → AreSignals count b ys q
-    → n.alone ≡ a.alone && b.alone → n.width ≡ min (a.width + b.width) 255 → 32 < n.width → n.signals ≡ a.signals → AreSignals count n (xs ++ ys) (p && q)
-signals_cut count a b n xs ys p q h k alone width wide list =
-    record {
-      width = omega (arith, width, h.width, k.width, length-append xs ys);
-      alone = alone ∙ ap₂ (λ u v. u && v) h.alone k.alone;
-      signals = λ le. absurd (omega (arith, le, wide, width, h.width, k.width, length-append xs ys));
-      inside = subst (All (λ (s : ℕ). s < count)) (sym list) h.inside;
-    }
-
 pub some_append : (xs ys : List (Option ℕ)) → some_signals (xs ++ ys) ≡ some_signals xs ++ some_signals ys
 some_append [] ys = refl
 some_append (None ∷ xs) ys = some_append xs ys

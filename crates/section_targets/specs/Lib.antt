@@ -1,6 +1,5 @@
 pub mod Appending
 pub mod Building
-pub mod Contexts
 pub mod Given
 pub mod GivenUnits
 pub mod Gives

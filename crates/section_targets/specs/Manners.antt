@@ -1,6 +1,6 @@
 -- How signals are assigned, and what may not differ (ABEL-HDL Reference Manual, equations; one kind for each signal and one
 -- polarity for each control are this project's rule).
-use Rattle.std.specs.Prelude.{◌≡◌, ℕ, ◌==◌, Bool, true, false, ◌&&◌, ◌||◌, Option, None, Some, List, [], ◌∷◌, ◌++◌, if◌then◌else◌, map}
+use Rattle.std.specs.Prelude.{◌≡◌, ℕ, ◌==◌, Bool, true, false, ◌&&◌, ◌||◌, Option, None, Some, List, [], ◌∷◌, ◌++◌, if◌then◌else◌}
 use Rattle.pld_base.specs.declared.place.Place.{Place}
 use Rattle.std.specs.List.{list_any}
 use Rattle.pld_device.specs.declared.cell.Cell.{Cell}
@@ -11,7 +11,6 @@ use Rattle.abel_tree.specs.declared.words.Extension.TheVariants as extension
 use Rattle.abel_tree.specs.Entries.{Kind, APin, ANode, AConstant, ADeviceName, Entry}
 use Rattle.abel_meaning.specs.Designs.{Context, name_at}
 use Rattle.abel_meaning.specs.Targets.{is_data, is_raw}
-use Rattle.set_expr.specs.declared.contributions.Contribution.{Contribution}
 use Rattle.set_expr.specs.declared.fault.SectionFault.{SectionFault}
 use Rattle.set_expr.specs.declared.fault.SectionFault.TheVariants.{NotAnOutput, MixedAssignment}
 use Rattle.section_targets.specs.declared.aim.Aim.{Aim}
@@ -94,14 +93,6 @@ no_output t x p m = if is_output t x m.extension then [] else NotAnOutput p (Som
 abbrev pub manner_of : Option Extension → (complement clocked : Bool) → Aim → Manner
 manner_of e complement clocked a =
     record { signal = a.signal; extension = e; complement = complement; clocked = clocked }
-
--- and how the signals of contributions were
-abbrev pub manner_of_contribution : Contribution → Manner
-manner_of_contribution c =
-    record { signal = c.target.signal; extension = c.target.extension; complement = c.complement; clocked = c.clocked }
-
-abbrev pub manners_of : List Contribution → List Manner
-manners_of cs = map manner_of_contribution cs
 
 -- what is refused of the signals of a target, one after another
 abbrev pub aims_refused : Context → List Manner → Option Extension → (complement clocked : Bool) → List Aim

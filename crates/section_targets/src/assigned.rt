@@ -1,12 +1,11 @@
 //! How signals were assigned before.
 
-ghost use Rattle.std.specs.Prelude.{◌≡◌, List, [], ◌∷◌, ◌++◌, IfOk, OnOk};
-ghost use Rattle.section_targets.specs.Manners.{first_manner, part_of, manners_of, AreFirsts};
+ghost use Rattle.std.specs.Prelude.{◌≡◌, List, [], ◌∷◌, ◌++◌, OnOk};
+ghost use Rattle.section_targets.specs.Manners.{first_manner, part_of, AreFirsts};
 ghost use Rattle.section_targets.specs.declared.manner.Manner.{Manner};
 
 use crate::manner::Manner;
 use pld_base::OutOfMemory;
-use set_expr::Contribution;
 use std::alloc::Global;
 use std::marker::Model;
 
@@ -33,22 +32,6 @@ impl Assigned {
         Assigned {
             firsts: Vec::new(alloc),
         }
-    }
-
-    /// How the contributions assign signals.
-    pub fn by(alloc: Global, list: &[Contribution]) -> Result<Assigned, OutOfMemory>
-        ensures { IfOk result (λ a. AreFirsts a (manners_of list.now)) }
-    {
-        let mut assigned = Assigned::new(alloc);
-        for contribution in list {
-            assigned.note(Manner {
-                signal: contribution.target.signal,
-                extension: contribution.target.extension,
-                complement: contribution.complement,
-                clocked: contribution.clocked,
-            })?;
-        }
-        Ok(assigned)
     }
 
     /// How the same part of the signal is assigned first. Takes no memory, and no longer where a part is assigned

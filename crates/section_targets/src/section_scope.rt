@@ -1,9 +1,13 @@
 //! What the sections of a source are over.
 
-ghost use Rattle.std.specs.Prelude.{◌≡◌, IfOk, length};
+ghost use Rattle.std.specs.Prelude.{◌≡◌, IfOk, None, length};
 ghost use Rattle.abel_tree.specs.Entries.{entries_of};
 ghost use Rattle.abel_tree.specs.View.{view};
-ghost use Rattle.section_targets.specs.Contexts.{context_for};
+ghost use Rattle.abel_meaning.specs.Terms.{known_of, term_of};
+ghost use Rattle.set_expr.specs.Answer.{refusal_of};
+ghost use Rattle.set_expr.specs.Contexts.{context_for};
+ghost use Rattle.expr_bits.specs.ExpressionBits.{MakesBits};
+ghost use Rattle.expr_bits.specs.Reads.{reads_signal};
 ghost use Rattle.section_targets.specs.NamedTargets.{AreNames, IsSide};
 ghost use Rattle.section_targets.specs.TargetSignals.{left_side, target_member};
 ghost use Rattle.pld_device.specs.Table.{Table};
@@ -13,20 +17,23 @@ use crate::naming::target_names;
 use crate::sides::Side;
 use crate::siding::{left_side, member_side};
 use abel_tree::Expr;
+use bit_expr::{ExprFault, Exprs};
+use expr_bits::DeviceScope;
 use pld_base::{ListOf, OutOfMemory, Place};
-use set_expr::Scope;
+use pld_device::Device;
+use set_expr::{Scope, Shaped};
 use std::alloc::Global;
 use std::marker::Model;
 
-/// The names of a source, and the signals that each stands for as a target, learnt once for all its sections. A contract
-/// sees the names.
+/// The names of a source on a device, and the signals that each stands for as a target, learnt once for all its sections.
+/// A contract sees the names.
 #[derive(Drop)]
-pub struct SectionScope<'a> {
-    scope: Scope<'a>,
+pub struct SectionScope<'a, D: Device> {
+    names: DeviceScope<'a, D>,
     named: ListOf<NamedSignals>,
 }
 
-impl<'a> Model for SectionScope<'a> {
+impl<'a, D: Device> Model for SectionScope<'a, D> {
     ghost use Rattle.abel_tree.specs.contracts.expressions.Expr as expression;
     ghost use Rattle.abel_tree.specs.declared.names.Names.{Names};
     ghost use Rattle.section_targets.specs.NamedTargets.{AreNames};
@@ -36,25 +43,26 @@ impl<'a> Model for SectionScope<'a> {
 
     ghost coded = { Prim.hlevel (codes, expression.the_row.coded) };
 
-    ghost view = { λ s. s.scope };
+    ghost view = { λ s. s.names };
 
-    ghost invariant = { λ s. AreNames s.scope s.named };
+    ghost invariant = { λ s. AreNames s.names s.named };
 }
 
-impl<'a> SectionScope<'a> {
-    /// The names of a scope, each with its signals.
-    pub fn new(alloc: Global, scope: Scope<'a>) -> Result<SectionScope<'a>, OutOfMemory>
+impl<'a, D: Device> SectionScope<'a, D> {
+    /// The names of a scope on the device, each with its signals.
+    pub fn new(alloc: Global, scope: Scope<'a>) -> Result<SectionScope<'a, D>, OutOfMemory>
         ensures { IfOk result (λ s. s ≡ scope.entry) }
     {
         let named = target_names(alloc, &scope)?;
-        Ok(SectionScope { scope, named })
+        let names = DeviceScope::new(alloc, scope)?;
+        Ok(SectionScope { names, named })
     }
 
     /// The names alone.
     pub fn scope(&self) -> &Scope<'a>
         ensures { result.now ≡ self.now }
     {
-        &self.scope
+        self.names.scope()
     }
 
     /// The signals that each name stands for.
@@ -68,13 +76,29 @@ impl<'a> SectionScope<'a> {
     pub fn target(&self, alloc: Global, place: Place, target: &Expr) -> Result<Side, OutOfMemory>
         ensures { IfOk result (λ s. (t : Table) → IsSide (length (entries_of self.now)) s (left_side (context_for t self.now) place (view target.now))) }
     {
-        left_side(alloc, &self.scope, self.named(), place, target)
+        left_side(alloc, self.scope(), self.named(), place, target)
     }
 
     /// The registers of a state diagram, or what is refused of them.
     pub fn registers(&self, alloc: Global, registers: &Expr) -> Result<Side, OutOfMemory>
         ensures { IfOk result (λ s. (t : Table) → IsSide (length (entries_of self.now)) s (target_member (context_for t self.now) (view registers.now))) }
     {
-        member_side(alloc, &self.scope, self.named(), registers)
+        member_side(alloc, self.scope(), self.named(), registers)
+    }
+
+    /// Whether an expression reads a signal, whether or not its value depends on it.
+    pub fn reads_signal(&self, alloc: Global, expr: &Expr) -> Result<bool, OutOfMemory>
+        ensures { IfOk result (λ b. b ≡ reads_signal (term_of (known_of (entries_of self.now)) (view expr.now))) }
+    {
+        self.names.reads_signal(alloc, expr)
+    }
+
+    /// The bits of an expression of which nothing is refused, in just the counted nodes. Only `NodeLimit` or want of memory
+    /// can come.
+    pub fn bits(&self, alloc: Global, expr: &Expr, exprs: &mut Exprs) -> Result<Shaped, ExprFault>
+        requires accepted { refusal_of self.now (view expr.now) ≡ None }
+        ensures { MakesBits (context_for D.table self.now) (view expr.now) exprs.old exprs.new result }
+    {
+        self.names.bits(alloc, expr, exprs)
     }
 }

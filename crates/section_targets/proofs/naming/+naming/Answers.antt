@@ -11,7 +11,7 @@ use Rattle.section_targets.specs.TargetSignals.{all_name_signals}
 use Rattle.section_targets.proofs.NameTerms.{one_member, targets_more, alone_more}
 use Rattle.section_targets.proofs.SignalLists.{some_append, special_none}
 use Rattle.set_expr.proofs.FoundMembers.{front_more, whole_front}
-use Rattle.section_targets.proofs.Views.{view_one, view_span, view_number, view_special, view_name, view_set, view_paren, view_unary, view_binary}
+use Rattle.expr_bits.proofs.Views.{view_one, view_span, view_number, view_special, view_name, view_set, view_paren, view_unary, view_binary}
 use Rattle.section_targets.proofs.naming.+naming.Goals as goal
 
 pub named_member-returns-in_ok-signals-in-One : goal.named_member-returns-in_ok-signals-in-One

@@ -9,7 +9,7 @@ use Rattle.set_expr.proofs.FoundMembers.{front_more, whole_front}
 use Rattle.section_targets.specs.NamedTargets.{IsSide}
 use Rattle.section_targets.specs.TargetSignals.{target_member, target_members, target_one, target_set, targets_both, no_target, first_name}
 use Rattle.section_targets.proofs.NameTerms.{members_more}
-use Rattle.section_targets.proofs.Views.{view_number, view_special, view_set, view_unary, view_binary, view_one}
+use Rattle.expr_bits.proofs.Views.{view_number, view_special, view_set, view_unary, view_binary, view_one}
 use Rattle.section_targets.proofs.siding.+siding.Goals as goal
 
 pub member_side-returns-in-Number : goal.member_side-returns-in-Number
