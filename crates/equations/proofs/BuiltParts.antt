@@ -1,12 +1,14 @@
 -- The parts of units that statements make.
-use Rattle.std.proofs.Common.{◌≡◌, ℕ, zero, suc, ◌+◌, ◌<◌, ◌≤◌, Bool, true, false, Option, None, Some, List, [], ◌∷◌, All, Result, Ok, Err, length, reverse, get_or, refl, sym, ap, ◌∙◌, subst, arith}
+use Rattle.std.proofs.Common.{◌≡◌, ℕ, zero, suc, ◌+◌, ◌<◌, ◌≤◌, Bool, true, false, Option, None, Some, List, [], ◌∷◌, All, Result, Err, length, reverse, get_or, refl, sym, ap, ◌∙◌, subst, arith}
 use Rattle.std.proofs.lemmas.List.{length-map, length-replicate}
-use Rattle.std.proofs.lemmas.Option.{none-some, slice_get-get_or, slice_get_within}
+use Rattle.std.proofs.lemmas.Option.{slice_get-get_or, slice_get_within}
 use Rattle.std.proofs.lemmas.List.Sorted.{IsPermutation-reverse, All-permutation}
 use Rattle.pld_base.specs.declared.place.Place.{Place}
 use Rattle.pld_device.specs.Table.{Table}
 use Rattle.bit_expr.specs.declared.node.ExprId.{ExprId}
 use Rattle.bit_expr.specs.declared.node.Node.{Node}
+use Rattle.bit_expr.specs.declared.fault.ExprFault.{ExprFault}
+use Rattle.bit_expr.specs.declared.fault.ExprFault.TheVariants as made
 use Rattle.bit_expr.specs.Arena.{arena, formula_at}
 use Rattle.bit_expr.specs.Formulas.{Formula, Const}
 use Rattle.abel_tree.specs.declared.names.Names.{Names}
@@ -15,7 +17,7 @@ use Rattle.abel_tree.specs.FirstRefusal.{first_refusal}
 use Rattle.abel_tree.specs.Tree.{Tree}
 use Rattle.abel_meaning.specs.Contributions as meant
 use Rattle.abel_meaning.specs.CountedNodes.{term_nodes, choice_nodes, condition_of, guard_else}
-use Rattle.abel_meaning.specs.Designs.{Context, context_of}
+use Rattle.abel_meaning.specs.Designs.{Context}
 use Rattle.abel_meaning.specs.BitWords.{Word}
 use Rattle.abel_meaning.specs.FormulaBits.{resized, met_by, met_word}
 use Rattle.abel_meaning.specs.Numbers.{Value, Single, digits_low_first}
@@ -24,29 +26,21 @@ use Rattle.abel_meaning.proofs.RelationWords.{map_reverse}
 use Rattle.set_expr.specs.declared.contributions.Contribution.{Contribution}
 use Rattle.set_expr.specs.declared.contributions.Contributions.{Contributions}
 use Rattle.set_expr.specs.declared.fault.SectionFault.{SectionFault}
-use Rattle.set_expr.specs.declared.fault.SectionFault.TheVariants as fault
 use Rattle.set_expr.specs.declared.shaped.Shape.{Shape}
 use Rattle.set_expr.specs.declared.shaped.Shape.TheVariants as shape
 use Rattle.set_expr.specs.declared.shaped.Shaped.{Shaped}
 use Rattle.set_expr.specs.FoundNames.{expression_found}
 use Rattle.set_expr.specs.SectionOrder.{section_order}
 use Rattle.set_expr.specs.Shapes.{HasShape}
-use Rattle.set_expr.specs.Answer.{IsContextOf, IsAnswer, IsShaped, Keeps, refusal_of, bits_at, positions}
+use Rattle.set_expr.specs.Answer.{IsContextOf, IsShaped, Keeps, refusal_of, bits_at, positions}
+use Rattle.set_expr.specs.Contexts.{context_for}
+use Rattle.expr_bits.specs.ExpressionBits.{MakesBits}
 use Rattle.section_targets.specs.Building.{Stop, AtLimit, NoMemory, AtRefusal, stop_of, Stops, StopsWith, IsBuilt, Builds, IsBit, AreBits}
 use Rattle.section_targets.specs.Units.{CountedUnit, part}
 use Rattle.section_targets.proofs.Built.{left_empty, builds_stop, kept_inside, kept_formula}
-use Rattle.section_targets.specs.Contexts.{context_for}
 use Rattle.section_targets.proofs.OneUnit.{one_unit, two_parts}
 use Rattle.section_targets.proofs.Parts.{leaves_nodes, limit_here}
 use Rattle.equations.specs.Builds.{at_unit}
-
--- some design of these names, since what stands doesn't depend on it
-abbrev pub some_design : Table → Names → Context
-some_design t n =
-    context_of t (entries_of n)
-
-pub is_some_design : (t : Table) (n : Names) → IsContextOf t n (some_design t n)
-is_some_design t n = record { device = refl; names = refl; known = refl }
 
 pub is_context : (t : Table) (n : Names) → IsContextOf t n (context_for t n)
 is_context t n = record { device = refl; names = refl; known = refl }
@@ -57,36 +51,16 @@ same_context t m n e = subst (λ k. IsContextOf t m (context_for t k)) e (is_con
 
 -- ---- expressions
 
-refused_not : {A : Type 0} (n : Names) (t : Tree) (f : SectionFault) → refusal_of n t ≡ None → refusal_of n t ≡ Some f → A
-refused_not n t f e h = absurd (none-some f (sym e ∙ h))
+-- what failed to be made left what was there
+pub bits_keep : (d : Context) (t : Tree) (old new : List Node) (f : ExprFault) → MakesBits d t old new (Err f) → Keeps (arena old) (arena new)
+bits_keep d t old new made.NodeLimit m = m.0
+bits_keep d t old new made.OutOfMemory m = m
 
-pub answer_keeps : (n : Names) (d : Context) (t : Tree) (old new : List Node) (r : Result Shaped SectionFault) → refusal_of n t ≡ None → IsAnswer n d t old new r → Keeps (arena old) (arena new)
-answer_keeps n d t old new (Ok s) e a = a.grew.keeps
-answer_keeps n d t old new (Err (fault.NodeLimit p)) e a = a.keeps
-answer_keeps n d t old new (Err fault.OutOfMemory) e a = a
-answer_keeps n d t old new (Err (fault.MisplacedSpecial p)) e a = refused_not n t (fault.MisplacedSpecial p) e a.0
-answer_keeps n d t old new (Err (fault.NotConstant p)) e a = refused_not n t (fault.NotConstant p) e a.0
-answer_keeps n d t old new (Err (fault.ZeroDivisor p)) e a = refused_not n t (fault.ZeroDivisor p) e a.0
-answer_keeps n d t old new (Err (fault.BadWidth p)) e a = refused_not n t (fault.BadWidth p) e a.0
-answer_keeps n d t old new (Err (fault.NotAnOutput p s)) e a = refused_not n t (fault.NotAnOutput p s) e a.0
-answer_keeps n d t old new (Err (fault.MixedAssignment p s)) e a = refused_not n t (fault.MixedAssignment p s) e a.0
-answer_keeps n d t old new (Err (fault.BadRow p)) e a = refused_not n t (fault.BadRow p) e a.0
-answer_keeps n d t old new (Err (fault.BadState p)) e a = refused_not n t (fault.BadState p) e a.0
-answer_keeps n d t old new (Err (fault.BadVector p)) e a = refused_not n t (fault.BadVector p) e a.0
-
-pub answer_stops : (n : Names) (d : Context) (t : Tree) (p : Place) (old new : List Node) (f : SectionFault) → refusal_of n t ≡ None → IsAnswer n d t old new (Err f)
+-- and stops its unit
+pub bits_stop : (d : Context) (t : Tree) (p : Place) (old new : List Node) (f : ExprFault) → MakesBits d t old new (Err f)
     → (list : List Contribution) → StopsWith (part p (term_nodes d t) ∷ []) [] [] (record { exprs = old; list = list }) (record { exprs = new; list = list }) (at_unit p f)
-answer_stops n d t p old new (fault.NodeLimit q) e a = λ list. (limit_here p (term_nodes d t) (length (arena old)) a.past, leaves_nodes old new list a.keeps)
-answer_stops n d t p old new fault.OutOfMemory e a = λ list. (tt, leaves_nodes old new list a)
-answer_stops n d t p old new (fault.MisplacedSpecial q) e a = refused_not n t (fault.MisplacedSpecial q) e a.0
-answer_stops n d t p old new (fault.NotConstant q) e a = refused_not n t (fault.NotConstant q) e a.0
-answer_stops n d t p old new (fault.ZeroDivisor q) e a = refused_not n t (fault.ZeroDivisor q) e a.0
-answer_stops n d t p old new (fault.BadWidth q) e a = refused_not n t (fault.BadWidth q) e a.0
-answer_stops n d t p old new (fault.NotAnOutput q s) e a = refused_not n t (fault.NotAnOutput q s) e a.0
-answer_stops n d t p old new (fault.MixedAssignment q s) e a = refused_not n t (fault.MixedAssignment q s) e a.0
-answer_stops n d t p old new (fault.BadRow q) e a = refused_not n t (fault.BadRow q) e a.0
-answer_stops n d t p old new (fault.BadState q) e a = refused_not n t (fault.BadState q) e a.0
-answer_stops n d t p old new (fault.BadVector q) e a = refused_not n t (fault.BadVector q) e a.0
+bits_stop d t p old new made.NodeLimit m list = (limit_here p (term_nodes d t) (length (arena old)) m.1, leaves_nodes old new list m.0)
+bits_stop d t p old new made.OutOfMemory m list = (tt, leaves_nodes old new list m)
 
 -- ---- bits
 
@@ -153,14 +127,6 @@ parts_longer p rs m k old mid new r b a =
 pub choice_stops : (p : Place) (d : Context) (g : Formula) (c : Tree) (other : Bool) (old new : Contributions) (f : SectionFault) → StopsWith (part p (choice_nodes d g c false) ∷ []) [] [] old new f → StopsWith (part p (choice_nodes d g c other) ∷ []) [] [] old new f
 choice_stops p d g c false old new f s = s
 choice_stops p d g c true old new f s = stops_longer p [] (choice_nodes d g c false) (guard_else g (condition_of d c)).nodes old new f s
-
--- a unit of which something is refused
-pub refused_whole : (p : Place) (rs : List SectionFault) (m count : ℕ) (stop : Stop) → stop ≡ AtRefusal → (rs ≡ [] → ⊥) → Stops stop count (whole p rs m ∷ [])
-refused_whole p rs m count stop e h = subst (λ s. Stops s count (whole p rs m ∷ [])) (sym e) (by_refusals rs h)
-  where
-    by_refusals : (xs : List SectionFault) → (xs ≡ [] → ⊥) → Stops AtRefusal count (whole p xs m ∷ [])
-    by_refusals [] k = absurd (k refl)
-    by_refusals (x ∷ xs) k = (λ z. absurd cc, refl)
 
 -- the first bit of a word
 pub first_bit : (fs : List Formula) (ids : List ExprId) (id : ExprId) (gs : List Formula) → 0 < length ids → AreBits fs ids gs → IsBit fs (get_or ids 0 id) (get_or gs 0 (Const false))

@@ -2,6 +2,8 @@
 use Rattle.std.specs.Prelude.{◌≡◌, ℕ, None, [], ◌∷◌, length, Result}
 use Rattle.pld_base.specs.declared.place.Place.{Place}
 use Rattle.pld_device.specs.Table.{Table}
+use Rattle.bit_expr.specs.declared.fault.ExprFault.{ExprFault}
+use Rattle.bit_expr.specs.declared.fault.ExprFault.TheVariants as made
 use Rattle.bit_expr.specs.Arena.{arena, formula_at}
 use Rattle.abel_tree.specs.declared.names.Names.{Names}
 use Rattle.abel_tree.specs.declared.statements.Assign.{Assign}
@@ -21,7 +23,7 @@ use Rattle.set_expr.specs.Answer.{refusal_of}
 use Rattle.set_expr.specs.Given.{view_guard}
 use Rattle.section_targets.specs.declared.walked.Walked.{Walked}
 use Rattle.section_targets.specs.Building.{Builds}
-use Rattle.section_targets.specs.Contexts.{context_for}
+use Rattle.set_expr.specs.Contexts.{context_for}
 use Rattle.section_targets.specs.TargetSignals.{left_side}
 use Rattle.section_targets.specs.Units.{CountedUnit, part}
 use Rattle.section_targets.specs.Walking.{standing}
@@ -29,9 +31,9 @@ use Rattle.equations.specs.Checks.{view_assign}
 use Rattle.equations.specs.StatementUnits.{condition_refused, statement_places}
 
 -- the limit is told at the place of its unit
-abbrev pub at_unit : Place → SectionFault → SectionFault
-at_unit p (fault.NodeLimit q) = fault.NodeLimit p
-at_unit p f = f
+abbrev pub at_unit : Place → ExprFault → SectionFault
+at_unit p made.NodeLimit = fault.NodeLimit p
+at_unit p made.OutOfMemory = fault.OutOfMemory
 
 -- the unit of a condition at its place, with so many nodes
 abbrev pub condition_unit : Context → Place → Tree → (nodes : ℕ) → CountedUnit

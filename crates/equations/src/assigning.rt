@@ -5,7 +5,7 @@ ghost use Rattle.abel_tree.specs.Assigned as assigned;
 ghost use Rattle.abel_tree.specs.Entries.{entries_of};
 ghost use Rattle.abel_tree.specs.FirstRefusal.{first_refusal};
 ghost use Rattle.abel_tree.specs.FirstRefusal as first;
-ghost use Rattle.abel_tree.specs.View.{view, view_stmt};
+ghost use Rattle.abel_tree.specs.View.{view};
 ghost use Rattle.set_expr.specs.KnownNames.{SumsUp};
 ghost use Rattle.set_expr.specs.Refusals.{Found};
 ghost use Rattle.set_expr.specs.SectionOrder.{section_order};
@@ -13,7 +13,7 @@ ghost use Rattle.section_targets.specs.declared.manner.Manner.{Manner};
 ghost use Rattle.section_targets.specs.Given.{AreNamed};
 ghost use Rattle.section_targets.specs.Manners.{AreFirsts, aims_refused};
 ghost use Rattle.section_targets.specs.ValueWidths.{value_refused};
-ghost use Rattle.section_targets.specs.Contexts.{context_for};
+ghost use Rattle.set_expr.specs.Contexts.{context_for};
 ghost use Rattle.section_targets.specs.TargetSignals.{left_side};
 ghost use Rattle.set_expr.specs.FoundNames.{expression_found};
 ghost use Rattle.equations.specs.Checks.{view_assign};
@@ -36,7 +36,7 @@ fn refuse_behind(side: SectionFault, value: Checked) -> Option<SectionFault>
 
 /// An assignment to a target that isn't refused.
 fn check_side<D: Device>(
-    scope: &SectionScope<'_>,
+    scope: &SectionScope<'_, D>,
     assign: &Assign,
     side: &Side,
     value: Checked,
@@ -58,7 +58,7 @@ fn check_side<D: Device>(
 /// The first refusal, by place, of an assignment behind what was assigned before; how it assigns signals is noted.
 pub(crate) fn check_assign<D: Device>(
     alloc: Global,
-    scope: &SectionScope<'_>,
+    scope: &SectionScope<'_, D>,
     assign: &Assign,
     before: &mut Assigned,
 ) -> Result<Option<SectionFault>, OutOfMemory>

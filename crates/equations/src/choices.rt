@@ -7,7 +7,7 @@ ghost use Rattle.abel_meaning.specs.CountedNodes as counted;
 ghost use Rattle.abel_meaning.specs.CountedNodes.{condition_of, choice_nodes};
 ghost use Rattle.set_expr.specs.Answer.{Keeps, refusal_of};
 ghost use Rattle.section_targets.specs.Building.{BuildsNodes, IsBit};
-ghost use Rattle.section_targets.specs.Contexts.{context_for};
+ghost use Rattle.set_expr.specs.Contexts.{context_for};
 ghost use Rattle.section_targets.specs.Units.{part};
 ghost use Rattle.equations.specs.StatementWalks.{WalksCondition, AreBothGuards};
 
@@ -17,8 +17,8 @@ use abel_tree::Expr;
 use bit_expr::{ExprId, Exprs, Node};
 use pld_base::{OutOfMemory, Place};
 use pld_device::Device;
-use section_targets::{Walked, add_node, guard_else};
-use set_expr::{Scope, SectionFault};
+use section_targets::{SectionScope, Walked, add_node, guard_else};
+use set_expr::SectionFault;
 use std::alloc::Global;
 
 /// A condition as a unit at its place, with an ELSE or without one.
@@ -39,21 +39,21 @@ pub struct Chosen {
 /// A condition of which nothing is refused and the guard of what stands under it, in its unit.
 pub fn then_guard<D: Device>(
     alloc: Global,
-    scope: &Scope<'_>,
+    scope: &SectionScope<'_, D>,
     guard: ExprId,
-    unit: Place,
-    condition: &Expr,
+    condition: &Condition<'_>,
     exprs: &mut Exprs,
 ) -> Result<Chosen, SectionFault>
     requires guard { guard.0 < length (arena exprs.old) }
-    requires accepted { refusal_of scope.now (view condition.now) ≡ None }
+    requires accepted { refusal_of scope.now (view condition.now.expr.now) ≡ None }
     ensures keeps { Keeps (arena exprs.old) (arena exprs.new) }
-    ensures builds { BuildsNodes (part unit (choice_nodes (context_for D.table scope.now) (formula_at (arena exprs.old) guard) (view condition.now) false) ∷ []) exprs.old exprs.new result }
+    ensures builds { BuildsNodes (part condition.now.unit (choice_nodes (context_for D.table scope.now) (formula_at (arena exprs.old) guard) (view condition.now.expr.now) false) ∷ []) exprs.old exprs.new result }
     ensures inside { IfOk result (λ g. (g.condition.0 < length (arena exprs.new)) × (g.then.0 < length (arena exprs.new))) }
-    ensures condition { IfOk result (λ g. IsBit (arena exprs.new) g.condition (condition_of (context_for D.table scope.now) (view condition.now))) }
-    ensures then { IfOk result (λ g. IsBit (arena exprs.new) g.then (counted.guard_then (formula_at (arena exprs.old) guard) (condition_of (context_for D.table scope.now) (view condition.now))).what) }
+    ensures condition { IfOk result (λ g. IsBit (arena exprs.new) g.condition (condition_of (context_for D.table scope.now) (view condition.now.expr.now))) }
+    ensures then { IfOk result (λ g. IsBit (arena exprs.new) g.then (counted.guard_then (formula_at (arena exprs.old) guard) (condition_of (context_for D.table scope.now) (view condition.now.expr.now))).what) }
 {
-    let bit = condition_bit::<D>(alloc, scope, condition, unit, exprs)?;
+    let unit = condition.unit;
+    let bit = condition_bit::<D>(alloc, scope, condition.expr, unit, exprs)?;
     let then = add_node(exprs, Node::And(guard, bit), unit)?;
     Ok(Chosen {
         condition: bit,
@@ -71,7 +71,7 @@ pub struct BothGuards {
 /// Both guards of a condition of which nothing is refused, in its unit.
 fn both_guards<D: Device>(
     alloc: Global,
-    scope: &Scope<'_>,
+    scope: &SectionScope<'_, D>,
     guard: ExprId,
     condition: &Condition<'_>,
     exprs: &mut Exprs,
@@ -84,7 +84,7 @@ fn both_guards<D: Device>(
     ensures inside { IfOk result (λ g. g.otherwise.0 < length (arena exprs.new)) }
     ensures otherwise { IfOk result (λ g. condition.now.otherwise ≡ true → IsBit (arena exprs.new) g.otherwise (counted.guard_else (formula_at (arena exprs.old) guard) (condition_of (context_for D.table scope.now) (view condition.now.expr.now))).what) }
 {
-    let chosen = then_guard::<D>(alloc, scope, guard, condition.unit, condition.expr, exprs)?;
+    let chosen = then_guard::<D>(alloc, scope, guard, condition, exprs)?;
     if condition.otherwise {
         let otherwise = guard_else(exprs, guard, chosen.condition, condition.unit)?;
         Ok(BothGuards {
@@ -103,7 +103,7 @@ fn both_guards<D: Device>(
 /// serves.
 pub fn walk_condition<D: Device>(
     alloc: Global,
-    scope: &Scope<'_>,
+    scope: &SectionScope<'_, D>,
     guard: ExprId,
     condition: &Condition<'_>,
     out: &mut Walked,
@@ -116,7 +116,7 @@ pub fn walk_condition<D: Device>(
         then: guard,
         otherwise: guard,
     };
-    let fault = check_condition(alloc, scope, condition.unit, condition.expr)?;
+    let fault = check_condition(alloc, scope.scope(), condition.unit, condition.expr)?;
     if out.refuse(fault) {
         return Ok(same);
     }

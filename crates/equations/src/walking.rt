@@ -10,7 +10,7 @@ ghost use Rattle.equations.specs.StatementWalks.{WalksStatement, WalksStatements
 use crate::assigning::check_assign;
 use crate::choices::{Condition, walk_condition};
 use crate::conditions::{is_clocked, sign_gives, target_extension};
-use crate::values::value_bits;
+use crate::values::{Meets, value_bits};
 use abel_tree::{Assign, Stmt, When};
 use pld_base::OutOfMemory;
 use pld_device::Device;
@@ -21,7 +21,7 @@ use std::alloc::Global;
 /// The contributions of an assignment of which nothing is refused.
 fn give_assign<D: Device>(
     alloc: Global,
-    scope: &SectionScope<'_>,
+    scope: &SectionScope<'_, D>,
     guard: Guard,
     assign: &Assign,
     out: &mut Walked,
@@ -35,14 +35,11 @@ fn give_assign<D: Device>(
     let side = scope.target(alloc, assign.place, &assign.target)?;
     let aims = side.aims.as_slice();
     let names = scope.scope();
-    let bits = value_bits::<D>(
-        alloc,
-        names,
-        &assign.value,
-        aims.len(),
-        assign.place,
-        &mut out.exprs,
-    )?;
+    let meets = Meets {
+        unit: assign.place,
+        signals: aims.len(),
+    };
+    let bits = value_bits::<D>(alloc, scope, &assign.value, meets, &mut out.exprs)?;
     let giving = Giving {
         unit: assign.place,
         guard,
@@ -57,7 +54,7 @@ fn give_assign<D: Device>(
 /// An assignment.
 fn walk_assign<D: Device>(
     alloc: Global,
-    scope: &SectionScope<'_>,
+    scope: &SectionScope<'_, D>,
     guard: Guard,
     assign: &Assign,
     out: &mut Walked,
@@ -77,7 +74,7 @@ fn walk_assign<D: Device>(
 #[cycle(walks)]
 fn walk_when<D: Device>(
     alloc: Global,
-    scope: &SectionScope<'_>,
+    scope: &SectionScope<'_, D>,
     guard: Guard,
     when: &When,
     out: &mut Walked,
@@ -90,7 +87,7 @@ fn walk_when<D: Device>(
         expr: &when.condition,
         otherwise: when.otherwise.is_some(),
     };
-    let chosen = walk_condition::<D>(alloc, scope.scope(), guard.when, &condition, out)?;
+    let chosen = walk_condition::<D>(alloc, scope, guard.when, &condition, out)?;
     let then = Guard {
         when: chosen.then,
         ..guard
@@ -112,7 +109,7 @@ fn walk_when<D: Device>(
 #[cycle(walks)]
 fn walk_statement<D: Device>(
     alloc: Global,
-    scope: &SectionScope<'_>,
+    scope: &SectionScope<'_, D>,
     guard: Guard,
     stmt: &Stmt,
     out: &mut Walked,
@@ -133,7 +130,7 @@ fn walk_statement<D: Device>(
 #[cycle(walks)]
 pub fn walk_statements<D: Device>(
     alloc: Global,
-    scope: &SectionScope<'_>,
+    scope: &SectionScope<'_, D>,
     guard: Guard,
     stmts: &[Stmt],
     out: &mut Walked,

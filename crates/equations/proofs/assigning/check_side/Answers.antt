@@ -7,7 +7,7 @@ use Rattle.abel_tree.proofs.FirstRefusals.{first_append}
 use Rattle.abel_tree.specs.View.{view}
 use Rattle.set_expr.specs.SectionOrder.{section_order}
 use Rattle.section_targets.specs.declared.aim.Aim.{Aim}
-use Rattle.section_targets.specs.Contexts.{context_for}
+use Rattle.set_expr.specs.Contexts.{context_for}
 use Rattle.section_targets.specs.Given.{AreNamed}
 use Rattle.section_targets.specs.Manners.{aims_refused}
 use Rattle.section_targets.specs.ValueWidths.{value_refused}

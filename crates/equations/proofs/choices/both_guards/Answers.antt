@@ -7,7 +7,7 @@ use Rattle.abel_tree.specs.View.{view}
 use Rattle.abel_meaning.specs.CountedNodes as counted
 use Rattle.abel_meaning.specs.CountedNodes.{choice_nodes, condition_of}
 use Rattle.section_targets.specs.Building.{StopsWith, IsBuilt, Builds}
-use Rattle.section_targets.specs.Contexts.{context_for}
+use Rattle.set_expr.specs.Contexts.{context_for}
 use Rattle.section_targets.specs.Units.{part}
 use Rattle.section_targets.proofs.Built.{kept_formula, kept_inside, keeps_on}
 use Rattle.equations.proofs.BuiltParts.{kept_bit, parts_longer, choice_stops}

@@ -4,32 +4,29 @@ use Rattle.std.proofs.lemmas.Result.{err_from_is_err_and}
 use Rattle.bit_expr.specs.declared.node.ExprId.{ExprId}
 use Rattle.bit_expr.specs.Folding.{make_and}
 use Rattle.section_targets.specs.Building.{IsBuilt, Builds}
-use Rattle.section_targets.specs.Contexts.{context_for}
 use Rattle.section_targets.specs.Units.{part}
 use Rattle.section_targets.proofs.Built.{kept_formula, kept_inside, keeps_on}
-use Rattle.equations.proofs.BuiltParts.{is_context, kept_bit, stops_longer, parts_longer}
+use Rattle.equations.proofs.BuiltParts.{kept_bit, stops_longer, parts_longer}
 use Rattle.equations.proofs.choices.then_guard.Goals as goal
 
 pub returns-in_err-bit-clause-builds : goal.returns-in_err-bit-clause-builds
 returns-in_err-bit-clause-builds g c = λ list.
     let p = err_from_is_err_and c.from_residual.result c.from_residual.ensures.1 in
-    rw (p.1, p.2) (stops_longer c.args.unit [] _ _ _ _ c.in_err-bit.field-0.0 (c.in_err-bit.ensures.builds (context_for g.D.Device.table c.args.scope.now) (is_context g.D.Device.table c.args.scope.now) list))
+    rw (p.1, p.2) (stops_longer c.args.condition.now.unit [] _ _ _ _ c.in_err-bit.field-0.0 (c.in_err-bit.ensures.builds list))
 
 pub add_node-requires : goal.add_node-requires
 add_node-requires g c = (
   kept_inside _ _ c.args.guard c.in_ok-bit.ensures.keeps c.requires.guard,
-  (c.in_ok-bit.ensures.bit (context_for g.D.Device.table c.args.scope.now) (is_context g.D.Device.table c.args.scope.now)).0,
+  c.in_ok-bit.ensures.bit.0,
 )
 
 pub returns-in_err-then-clause-builds : goal.returns-in_err-then-clause-builds
 returns-in_err-then-clause-builds g c = λ list.
-    let d = context_for g.D.Device.table c.args.scope.now in
-    let is = is_context g.D.Device.table c.args.scope.now in
     let p = err_from_is_err_and c.from_residual-in_err-then.result c.from_residual-in_err-then.ensures.1 in
     rw (p.1, p.2)
-    (parts_longer {R = ExprId} c.args.unit [] _ _ _ _ _ (Err c.in_err-then.field-0.0) (c.in_ok-bit.ensures.builds d is list)
-    (subst₂ (λ f h. Builds {R = ExprId} (part c.args.unit (make_and f h).nodes ∷ []) [] [] (record { exprs = c.condition_bit.new.exprs; list = list }) (record { exprs = c.add_node.new.exprs; list = list }) (Err c.in_err-then.field-0.0))
-    (kept_formula _ _ c.args.guard c.in_ok-bit.ensures.keeps c.requires.guard) (c.in_ok-bit.ensures.bit d is).1 (c.in_err-then.ensures.builds list)))
+    (parts_longer {R = ExprId} c.args.condition.now.unit [] _ _ _ _ _ (Err c.in_err-then.field-0.0) (c.in_ok-bit.ensures.builds list)
+    (subst₂ (λ f h. Builds {R = ExprId} (part c.args.condition.now.unit (make_and f h).nodes ∷ []) [] [] (record { exprs = c.condition_bit.new.exprs; list = list }) (record { exprs = c.add_node.new.exprs; list = list }) (Err c.in_err-then.field-0.0))
+    (kept_formula _ _ c.args.guard c.in_ok-bit.ensures.keeps c.requires.guard) c.in_ok-bit.ensures.bit.1 (c.in_err-then.ensures.builds list)))
 
 pub returns-in_err-then-clause-keeps : goal.returns-in_err-then-clause-keeps
 returns-in_err-then-clause-keeps g c = keeps_on _ _ _ c.in_ok-bit.ensures.keeps (c.in_err-then.ensures.builds []).1.keeps
@@ -39,25 +36,23 @@ returns-clause-keeps g c = keeps_on _ _ _ c.in_ok-bit.ensures.keeps (c.in_ok-the
 
 pub returns-clause-builds : goal.returns-clause-builds
 returns-clause-builds g c = λ list.
-    let d = context_for g.D.Device.table c.args.scope.now in
-    let is = is_context g.D.Device.table c.args.scope.now in
-    parts_longer {R = ExprId} c.args.unit [] _ _ _ _ _ (Ok c.in_ok-then.then) (c.in_ok-bit.ensures.builds d is list)
-    (subst₂ (λ f h. IsBuilt (part c.args.unit (make_and f h).nodes ∷ []) [] [] (record { exprs = c.condition_bit.new.exprs; list = list }) (record { exprs = c.add_node.new.exprs; list = list }))
-    (kept_formula _ _ c.args.guard c.in_ok-bit.ensures.keeps c.requires.guard) (c.in_ok-bit.ensures.bit d is).1 (c.in_ok-then.ensures.builds list))
+    parts_longer {R = ExprId} c.args.condition.now.unit [] _ _ _ _ _ (Ok c.in_ok-then.then) (c.in_ok-bit.ensures.builds list)
+    (subst₂ (λ f h. IsBuilt (part c.args.condition.now.unit (make_and f h).nodes ∷ []) [] [] (record { exprs = c.condition_bit.new.exprs; list = list }) (record { exprs = c.add_node.new.exprs; list = list }))
+    (kept_formula _ _ c.args.guard c.in_ok-bit.ensures.keeps c.requires.guard) c.in_ok-bit.ensures.bit.1 (c.in_ok-then.ensures.builds list))
 
 pub returns-clause-condition : goal.returns-clause-condition
 returns-clause-condition g c =
-    kept_bit _ _ c.in_ok-bit.bit _ (c.in_ok-then.ensures.builds []).made.grew.keeps (c.in_ok-bit.ensures.bit (context_for g.D.Device.table c.args.scope.now) (is_context g.D.Device.table c.args.scope.now))
+    kept_bit _ _ c.in_ok-bit.bit _ (c.in_ok-then.ensures.builds []).made.grew.keeps c.in_ok-bit.ensures.bit
 
 pub returns-clause-then : goal.returns-clause-then
 returns-clause-then g c = (
   c.in_ok-then.ensures.bit.0,
   c.in_ok-then.ensures.bit.1
-      ∙ ap₂ (λ f h. (make_and f h).what) (kept_formula _ _ c.args.guard c.in_ok-bit.ensures.keeps c.requires.guard) (c.in_ok-bit.ensures.bit (context_for g.D.Device.table c.args.scope.now) (is_context g.D.Device.table c.args.scope.now)).1,
+      ∙ ap₂ (λ f h. (make_and f h).what) (kept_formula _ _ c.args.guard c.in_ok-bit.ensures.keeps c.requires.guard) c.in_ok-bit.ensures.bit.1,
 )
 
 pub returns-clause-inside : goal.returns-clause-inside
 returns-clause-inside g c = (
-  kept_inside _ _ c.in_ok-bit.bit (c.in_ok-then.ensures.builds []).made.grew.keeps (c.in_ok-bit.ensures.bit (context_for g.D.Device.table c.args.scope.now) (is_context g.D.Device.table c.args.scope.now)).0,
+  kept_inside _ _ c.in_ok-bit.bit (c.in_ok-then.ensures.builds []).made.grew.keeps c.in_ok-bit.ensures.bit.0,
   c.in_ok-then.ensures.bit.0,
 )

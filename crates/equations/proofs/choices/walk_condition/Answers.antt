@@ -1,12 +1,13 @@
 -- A condition that is refused or stands behind what is, and one whose guards are made.
-use Rattle.std.proofs.Common.{[], ◌∷◌, ◌++◌, Ok, Err, refl, sym, ◌∙◌, subst}
+use Rattle.std.proofs.Common.{[], ◌∷◌, ◌++◌, Ok, Err, refl, sym, ap, ◌∙◌, subst}
 use Rattle.bit_expr.specs.Arena.{arena, formula_at}
+use Rattle.abel_tree.specs.Entries.{entries_of}
 use Rattle.abel_tree.specs.View.{view}
 use Rattle.abel_meaning.specs.CountedNodes.{choice_nodes}
 use Rattle.set_expr.specs.FoundNames.{expression_found}
 use Rattle.section_targets.specs.declared.walked.Walked.{Walked}
 use Rattle.section_targets.specs.Building.{Builds}
-use Rattle.section_targets.specs.Contexts.{context_for}
+use Rattle.set_expr.specs.Contexts.{context_for}
 use Rattle.section_targets.specs.Units.{part}
 use Rattle.section_targets.specs.ValueWidths.{value_width}
 use Rattle.section_targets.specs.Walking.{standing}
@@ -22,14 +23,14 @@ returns-then-refuse-clause-walks g c = λ all a.
     let d = context_for g.D.Device.table c.args.scope.now in
     let x = c.args.condition.now in
     unit_refused all (condition_unit d x.unit (view x.expr.now) (choice_nodes d (formula_at (arena c.args.out.now.exprs) c.args.guard) (view x.expr.now) x.otherwise)) [] [] c.in_ok-fault.fault c.args.out.now c.refuse.new.self
-    (c.in_ok-fault.ensures d refl) c.refuse.ensures.first (sym c.refuse.ensures.refused ∙ c.if-refuse.true) a
+    (c.in_ok-fault.ensures d (ap entries_of (sym c.scope.ensures))) c.refuse.ensures.first (sym c.refuse.ensures.refused ∙ c.if-refuse.true) a
 
 pub both_guards-requires-clause-accepted : goal.both_guards-requires-clause-accepted
 both_guards-requires-clause-accepted g c =
     let d = context_for g.D.Device.table c.args.scope.now in
     let x = c.args.condition.now in
     let f = expression_found d.names (view x.expr.now) in
-    let clear = unit_clear (condition_refused d x.unit (view x.expr.now)) c.in_ok-fault.fault c.args.out.now c.refuse.new.self (c.in_ok-fault.ensures d refl) c.refuse.ensures.first (sym c.refuse.ensures.refused ∙ c.if-refuse.false) in
+    let clear = unit_clear (condition_refused d x.unit (view x.expr.now)) c.in_ok-fault.fault c.args.out.now c.refuse.new.self (c.in_ok-fault.ensures d (ap entries_of (sym c.scope.ensures))) c.refuse.ensures.first (sym c.refuse.ensures.refused ∙ c.if-refuse.false) in
     value_accepted c.args.scope.now (view x.expr.now) (left_empty f.refusals (f.specials ++ value_width x.unit 1 f.value) clear.1.1)
 
 pub returns-in-Ok-clause-walks : goal.returns-in-Ok-clause-walks
@@ -41,7 +42,7 @@ returns-in-Ok-clause-walks g c = λ all a.
     let made : Walked = record now { exprs = c.both_guards.new.exprs } in
     let here = subst (λ (w : Walked). Builds {R = Unit} (part x.unit (choice_nodes d (formula_at (arena w.exprs) c.args.guard) (view x.expr.now) x.otherwise) ∷ []) [] [] (standing w) (standing made) (Ok tt)) c.refuse.ensures.first (c.in-Ok.ensures.builds now.list.items) in
     unit_made all x.unit (condition_refused d x.unit (view x.expr.now)) (choice_nodes d (formula_at (arena old.exprs) c.args.guard) (view x.expr.now) x.otherwise) [] [] c.in_ok-fault.fault old now made made (Ok tt)
-    (c.in_ok-fault.ensures d refl) c.refuse.ensures.first (sym c.refuse.ensures.refused ∙ c.if-refuse.false) a refl refl here refl
+    (c.in_ok-fault.ensures d (ap entries_of (sym c.scope.ensures))) c.refuse.ensures.first (sym c.refuse.ensures.refused ∙ c.if-refuse.false) a refl refl here refl
 
 pub returns-in_ok-keep_limit-in-Err-clause-walks : goal.returns-in_ok-keep_limit-in-Err-clause-walks
 returns-in_ok-keep_limit-in-Err-clause-walks g c = λ all a.
@@ -52,7 +53,7 @@ returns-in_ok-keep_limit-in-Err-clause-walks g c = λ all a.
     let made : Walked = record now { exprs = c.both_guards.new.exprs } in
     let here = subst (λ (w : Walked). Builds {R = Unit} (part x.unit (choice_nodes d (formula_at (arena w.exprs) c.args.guard) (view x.expr.now) x.otherwise) ∷ []) [] [] (standing w) (standing made) (Err c.in-Err.fault)) c.refuse.ensures.first (c.in-Err.ensures.builds now.list.items) in
     unit_made all x.unit (condition_refused d x.unit (view x.expr.now)) (choice_nodes d (formula_at (arena old.exprs) c.args.guard) (view x.expr.now) x.otherwise) [] [] c.in_ok-fault.fault old now made c.keep_limit.new.self (Err c.in-Err.fault)
-    (c.in_ok-fault.ensures d refl) c.refuse.ensures.first (sym c.refuse.ensures.refused ∙ c.if-refuse.false) a refl refl here c.in_ok-keep_limit-in-Err.ensures
+    (c.in_ok-fault.ensures d (ap entries_of (sym c.scope.ensures))) c.refuse.ensures.first (sym c.refuse.ensures.refused ∙ c.if-refuse.false) a refl refl here c.in_ok-keep_limit-in-Err.ensures
 
 pub returns-in_ok-keep_limit-in-Err-clause-guards : goal.returns-in_ok-keep_limit-in-Err-clause-guards
 returns-in_ok-keep_limit-in-Err-clause-guards g c =

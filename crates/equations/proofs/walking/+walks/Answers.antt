@@ -5,7 +5,6 @@ use Rattle.std.specs.Prelude.{OnOk}
 use Rattle.std.proofs.lemmas.Result.{on_ok_weaker}
 use Rattle.std.proofs.Math.Seq.{take-length}
 use Rattle.bit_expr.specs.Arena.{arena}
-use Rattle.abel_tree.specs.declared.names.Names.{Names}
 use Rattle.abel_tree.specs.declared.statements.Stmt.{Stmt, the_lemmas}
 use Rattle.abel_tree.specs.Tree.{Statement, NoElse, AnElse}
 use Rattle.abel_tree.specs.View.{view, view_stmt}
@@ -15,7 +14,7 @@ use Rattle.abel_meaning.specs.FormulaBits.{formulas}
 use Rattle.set_expr.specs.declared.contributions.Guard.{Guard}
 use Rattle.set_expr.specs.Given.{view_guard}
 use Rattle.set_expr.proofs.FoundMembers.{front_more}
-use Rattle.section_targets.specs.Contexts.{context_for}
+use Rattle.set_expr.specs.Contexts.{context_for}
 use Rattle.section_targets.specs.Manners.{AreFirsts}
 use Rattle.section_targets.specs.Walking.{Walks}
 use Rattle.section_targets.proofs.Built.{kept_formula, kept_inside}
@@ -23,7 +22,7 @@ use Rattle.section_targets.proofs.WalksBehind.{clear_before, walks_none}
 use Rattle.equations.specs.Builds.{condition_unit}
 use Rattle.equations.specs.Checks.{view_list}
 use Rattle.equations.specs.StatementUnits.{statement_manners, statements_manners}
-use Rattle.equations.specs.StatementWalks.{AreBothGuards, WalksCondition, WalksStatement, WalksStatements}
+use Rattle.equations.specs.StatementWalks.{WalksStatement, WalksStatements}
 use Rattle.equations.proofs.BuiltUnits.{guard_view, guard_kept}
 use Rattle.equations.proofs.CheckedUnits.{view_alone, view_both, view_assigned, view_whened, view_grouped}
 use Rattle.equations.proofs.WalkedStatements.{Under, under_guard, when_walks, more_walked}
@@ -97,8 +96,8 @@ walk_when-returns-in-None g t c = λ all a.
     let fs = arena old.exprs in
     let h = view_guard fs c.args.guard in
     let then : Guard = record c.args.guard { when = c.in_ok-chosen.chosen.then } in
-    let one = subst (λ (m : Names). WalksCondition tb m c.args.guard.when w.place k c.is_some.result old mid) c.scope.ensures c.in_ok-chosen.ensures.walks all a in
-    let guards = subst (λ (m : Names). AreBothGuards tb m c.args.guard.when k c.is_some.result old mid c.in_ok-chosen.chosen) c.scope.ensures c.in_ok-chosen.ensures.guards in
+    let one = c.in_ok-chosen.ensures.walks all a in
+    let guards = c.in_ok-chosen.ensures.guards in
     let alone = c.is_some.ensures ∙ ap is_some c.in-None.is in
     let inner = subst (λ (s : Stmt). WalksStatement tb n then (view_stmt s) mid new) c.get.ensures c.in_ok-walk_statement.ensures in
     let inside = under_guard d all (view_stmt w.then) (view_guard (arena mid.exprs) then) (guarded (formulas d) h (condition_of d k)) mid new
@@ -127,8 +126,8 @@ walk_when-returns-in-Some g t c =
     let h = view_guard fs c.args.guard in
     let then : Guard = record c.args.guard { when = c.in_ok-chosen.chosen.then } in
     let else : Guard = record c.args.guard { when = c.in_ok-chosen.chosen.otherwise } in
-    let one = subst (λ (m : Names). WalksCondition tb m c.args.guard.when w.place k c.is_some.result old mid) c.scope.ensures c.in_ok-chosen.ensures.walks all a in
-    let guards = subst (λ (m : Names). AreBothGuards tb m c.args.guard.when k c.is_some.result old mid c.in_ok-chosen.chosen) c.scope.ensures c.in_ok-chosen.ensures.guards in
+    let one = c.in_ok-chosen.ensures.walks all a in
+    let guards = c.in_ok-chosen.ensures.guards in
     let both = c.is_some.ensures ∙ ap is_some c.in-Some.is in
     let inner = subst (λ (s : Stmt). WalksStatement tb n then (view_stmt s) mid far) c.get.ensures c.in_ok-walk_statement.ensures in
     let outer = subst (λ (s : Stmt). WalksStatement tb n else (view_stmt s) far new) c.get-in-Some.ensures last in

@@ -13,7 +13,7 @@ use Rattle.abel_meaning.specs.Terms.{term_of}
 use Rattle.set_expr.specs.declared.fault.SectionFault.TheVariants as fault
 use Rattle.section_targets.specs.declared.aim.Aim.{Aim}
 use Rattle.section_targets.specs.Building.{AreBits}
-use Rattle.section_targets.specs.Contexts.{context_for}
+use Rattle.set_expr.specs.Contexts.{context_for}
 use Rattle.section_targets.specs.Given.{AreNamed}
 use Rattle.section_targets.specs.TargetSignals.{left_side}
 use Rattle.section_targets.proofs.Built.{kept_formula, kept_inside}
@@ -21,7 +21,7 @@ use Rattle.section_targets.proofs.Gives.{stops_nodes}
 use Rattle.section_targets.proofs.Parts.{leaves_nodes}
 use Rattle.section_targets.proofs.SideTerms.{side_positions}
 use Rattle.section_targets.proofs.SmallTargets.{side_few}
-use Rattle.equations.proofs.BuiltParts.{is_context, same_context, stops_longer}
+use Rattle.equations.proofs.BuiltParts.{is_context, stops_longer}
 use Rattle.equations.proofs.BuiltUnits.{assign_built}
 use Rattle.equations.proofs.CheckedUnits.{known_by_names}
 use Rattle.equations.proofs.walking.give_assign.Goals as goal
@@ -35,14 +35,13 @@ returns-in_err-side-clause-gives g c =
 pub returns-in_err-bits-clause-gives : goal.returns-in_err-bits-clause-gives
 returns-in_err-bits-clause-gives g c =
     let p = err_from_is_err_and c.from_residual-in_err-bits.result c.from_residual-in_err-bits.ensures.1 in
-    let is = same_context g.D.Device.table c.scope-names.result.now c.args.scope.now c.scope-names.ensures in
     let a = c.args.assign.now in
     let d = context_for g.D.Device.table c.args.scope.now in
     let n = length (targets_of (term_of d.known (view a.target))) in
     rw (p.1, p.2)
     (stops_nodes _ _ _ _ _ c.in_err-bits.field-0.0
     (stops_longer a.place [] (term_nodes d (view a.value)) (guard_nodes (formula_at (arena c.args.out.now.exprs) c.args.guard.when) ((formulas d).word n (term_of d.known (view a.value)))) _ _ c.in_err-bits.field-0.0
-    (c.in_err-bits.ensures.builds d is c.args.out.now.list.items)))
+    (c.in_err-bits.ensures.builds c.args.out.now.list.items)))
 
 pub give_all-requires-clause-signals : goal.give_all-requires-clause-signals
 give_all-requires-clause-signals g c =
@@ -55,20 +54,19 @@ give_all-requires-clause-guard g c = kept_inside _ _ c.args.guard.when c.in_ok-b
 pub give_all-requires-clause-bits : goal.give_all-requires-clause-bits
 give_all-requires-clause-bits g c =
     subst (λ (xs : List ExprId). All (λ (id : ExprId). id.0 < length (arena c.value_bits.new.exprs)) xs) (sym c.deref.ensures.value)
-    (c.in_ok-bits.ensures.bits (context_for g.D.Device.table c.args.scope.now) (same_context g.D.Device.table c.scope-names.result.now c.args.scope.now c.scope-names.ensures)).0
+    c.in_ok-bits.ensures.bits.0
 
 pub returns-clause-gives : goal.returns-clause-gives
 returns-clause-gives g c =
     let n = c.args.scope.now in
     let t = g.D.Device.table in
     let d = context_for t n in
-    let is = same_context t c.scope-names.result.now n c.scope-names.ensures in
     let a = c.args.assign.now in
     let side = c.in_ok-side.ensures t in
     let clear = c.requires.accepted.target in
     let aims = c.as_slice-aims.ensures ∙ side.aims (side_few d a.place (view a.target) (known_by_names t n d (is_context t n)) clear) in
     assign_built d _ _ _ _ (view a.target) (view a.value) (left_side d a.place (view a.target)) c.as_slice-aims.result.now c.deref.result.now _ _ _ c.give_all.result
     clear aims (side_positions d a.place (view a.target) clear) c.target_extension.ensures c.is_clocked.ensures c.sign_gives.ensures
-    (c.in_ok-bits.ensures.builds d is c.args.out.now.list.items) (kept_formula _ _ c.args.guard.when c.in_ok-bits.ensures.keeps c.requires.guard)
-    (subst (λ (xs : List ExprId). AreBits (arena c.value_bits.new.exprs) xs ((formulas d).word (length c.as_slice-aims.result.now) (term_of d.known (view a.value)))) (sym c.deref.ensures.value) (c.in_ok-bits.ensures.bits d is))
+    (c.in_ok-bits.ensures.builds c.args.out.now.list.items) (kept_formula _ _ c.args.guard.when c.in_ok-bits.ensures.keeps c.requires.guard)
+    (subst (λ (xs : List ExprId). AreBits (arena c.value_bits.new.exprs) xs ((formulas d).word (length c.as_slice-aims.result.now) (term_of d.known (view a.value)))) (sym c.deref.ensures.value) c.in_ok-bits.ensures.bits)
     (c.give_all.ensures.builds d (ap entries_of (sym c.scope-names.ensures)))

@@ -17,7 +17,7 @@ use Rattle.set_expr.specs.Given.{view_guard}
 use Rattle.set_expr.specs.SectionOrder.{section_order}
 use Rattle.section_targets.specs.declared.walked.Walked.{Walked}
 use Rattle.section_targets.specs.Building.{Builds}
-use Rattle.section_targets.specs.Contexts.{context_for}
+use Rattle.set_expr.specs.Contexts.{context_for}
 use Rattle.section_targets.specs.Manners.{AreFirsts}
 use Rattle.section_targets.specs.TargetSignals.{left_side}
 use Rattle.section_targets.specs.Units.{part}
