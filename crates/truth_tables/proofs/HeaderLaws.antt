@@ -2,7 +2,7 @@
 use Rattle.std.proofs.Common.{◌≡◌, ℕ, true, false, Option, None, Some, List, [], ◌∷◌, ◌++◌, length, refl, sym, ap, ap₂, ◌∙◌, append_assoc, append-nil}
 use Rattle.pld_base.specs.declared.place.Place.{Place}
 use Rattle.abel_tree.specs.FirstRefusal.{earlier, first_refusal}
-use Rattle.abel_tree.proofs.FirstRefusals.{first_append, none_refused}
+use Rattle.abel_tree.proofs.FirstRefusals.{first_append}
 use Rattle.abel_tree.specs.Tree.{SetMember, members_of}
 use Rattle.abel_meaning.specs.Designs.{Context}
 use Rattle.abel_meaning.specs.Targets.{targets_of}
@@ -74,9 +74,6 @@ pub named_refused : (rs : List SectionFault) (p : Place) (name : Option ℕ) (t 
 named_refused [] p name t f e = absurd cc
 named_refused (r ∷ rs) p name t f e = (sym e, refl)
 
-pub named_free : (rs : List SectionFault) (p : Place) (name : Option ℕ) (t : Term) → None ≡ first rs → named_outputs [] p name t ≡ named_outputs rs p name t
-named_free rs p name t e = ap (λ xs. named_outputs xs p name t) (sym (none_refused section_order rs e))
-
 pub named_other : (p : Place) (name : Option ℕ) (t : Term) → names_positions t ≡ false → named_outputs [] p name t ≡ refused_header (NotAnOutput p name)
 named_other p name t e = rw e refl
 
@@ -89,12 +86,6 @@ pub outputs_first : (rs more : List SectionFault) (f : SectionFault) → Some f 
 outputs_first [] more f e = absurd cc
 outputs_first (r ∷ rs) more f e = e
 
-pub outputs_free : (rs more : List SectionFault) → None ≡ first rs → if_none rs more ≡ more
-outputs_free rs more e = ap (λ xs. if_none xs more) (none_refused section_order rs e)
-
 pub assigned_none : (rs : List SectionFault) (aims : List Aim) (f : SectionFault) → Some f ≡ first rs → unless_refused rs aims ≡ []
 assigned_none [] aims f e = absurd cc
 assigned_none (r ∷ rs) aims f e = refl
-
-pub assigned_all : (rs : List SectionFault) (aims : List Aim) → None ≡ first rs → unless_refused rs aims ≡ aims
-assigned_all rs aims e = ap (λ xs. unless_refused xs aims) (none_refused section_order rs e)

@@ -3,6 +3,7 @@ use Rattle.std.proofs.Common.{◌≡◌, Bool, true, false, Option, None, Some, 
 use Rattle.abel_tree.specs.declared.names.Names.{Names}
 use Rattle.abel_tree.specs.Entries.{entries_of}
 use Rattle.abel_tree.specs.FirstRefusal.{first_refusal}
+use Rattle.abel_tree.proofs.FirstRefusals.{none_refused}
 use Rattle.abel_tree.specs.Tree.{Tree}
 use Rattle.abel_meaning.specs.Designs.{Context}
 use Rattle.abel_meaning.specs.Terms.{Term, term_of}
@@ -11,7 +12,6 @@ use Rattle.set_expr.specs.FoundNames.{names_found}
 use Rattle.set_expr.specs.SectionOrder.{section_order}
 use Rattle.truth_tables.specs.EntryTerms.{IsOver}
 use Rattle.truth_tables.specs.RowEntries.{refused_inside, meets, unless_met, entry_refused}
-use Rattle.truth_tables.proofs.PartLaws.{none_refused}
 
 pub inside_first : (rs : List SectionFault) (r f : SectionFault) (b : Bool) → Some f ≡ first_refusal section_order rs → first_refusal section_order (unless_met rs r b) ≡ Some f
 inside_first [] r f b e = absurd cc
@@ -35,9 +35,9 @@ read_refused n d is r f h t o e s =
 pub read_unmet : (n : Names) (d : Context) → IsOver n d → (r : SectionFault) (h : Term) (t : Tree) (o : Option SectionFault) → o ≡ first_refusal section_order (refused_inside (names_found (entries_of n)) r t) → o ≡ None → meets d h (term_of d.known t) ≡ false → first_refusal section_order (entry_refused d r h t) ≡ Some r
 read_unmet n d is r h t o e s m =
     subst (λ es. first_refusal section_order (unless_met (refused_inside (names_found es) r t) r (meets d h (term_of d.known t))) ≡ Some r) (sym is.names)
-    (ap (first_refusal section_order) (none_unmet (refused_inside (names_found (entries_of n)) r t) r (meets d h (term_of d.known t)) (none_refused (refused_inside (names_found (entries_of n)) r t) (sym e ∙ s)) m))
+    (ap (first_refusal section_order) (none_unmet (refused_inside (names_found (entries_of n)) r t) r (meets d h (term_of d.known t)) (none_refused section_order (refused_inside (names_found (entries_of n)) r t) (sym s ∙ e)) m))
 
 pub read_met : (n : Names) (d : Context) → IsOver n d → (r : SectionFault) (h : Term) (t : Tree) (o : Option SectionFault) → o ≡ first_refusal section_order (refused_inside (names_found (entries_of n)) r t) → o ≡ None → meets d h (term_of d.known t) ≡ true → entry_refused d r h t ≡ []
 read_met n d is r h t o e s m =
     subst (λ es. unless_met (refused_inside (names_found es) r t) r (meets d h (term_of d.known t)) ≡ []) (sym is.names)
-    (none_met (refused_inside (names_found (entries_of n)) r t) r (meets d h (term_of d.known t)) (none_refused (refused_inside (names_found (entries_of n)) r t) (sym e ∙ s)) m)
+    (none_met (refused_inside (names_found (entries_of n)) r t) r (meets d h (term_of d.known t)) (none_refused section_order (refused_inside (names_found (entries_of n)) r t) (sym s ∙ e)) m)

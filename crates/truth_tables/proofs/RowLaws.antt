@@ -16,9 +16,6 @@ use Rattle.truth_tables.specs.RowLevels.{levels_of}
 
 -- ---- entries
 
-pub level_pulse : (d : Context) (r : SectionFault) (h : Term) (t : Tree) → holds_pulse (names_found d.names) t ≡ true → level_refused d r h t ≡ r ∷ []
-level_pulse d r h t e = rw e refl
-
 pub level_plain : (d : Context) (r : SectionFault) (h : Term) (t : Tree) → holds_pulse (names_found d.names) t ≡ false → level_refused d r h t ≡ entry_refused d r h t
 level_plain d r h t e = rw e refl
 

@@ -1,5 +1,5 @@
 -- Walks over the rows of a table, part by part.
-use Rattle.std.proofs.Common.{◌≡◌, ℕ, ◌+◌, ◌<◌, Bool, true, false, Option, None, Some, List, [], ◌∷◌, ◌++◌, if◌then◌else◌, Result, Err, length, refl, sym, ap, ◌∙◌, subst, arith, append-nil}
+use Rattle.std.proofs.Common.{◌≡◌, ℕ, ◌+◌, ◌<◌, Bool, true, false, Option, None, Some, List, [], ◌∷◌, ◌++◌, if◌then◌else◌, Result, length, refl, sym, ap, ◌∙◌, subst, arith, append-nil}
 use Rattle.std.specs.Option.{is_some}
 use Rattle.pld_base.specs.declared.place.Place.{Place}
 use Rattle.pld_device.specs.Table as device
@@ -17,20 +17,19 @@ use Rattle.abel_meaning.specs.Contributions as meant
 use Rattle.abel_meaning.specs.Designs.{Context}
 use Rattle.abel_meaning.specs.Terms.{term_of}
 use Rattle.set_expr.specs.declared.fault.SectionFault.{SectionFault}
-use Rattle.set_expr.specs.declared.fault.SectionFault.TheVariants as fault
 use Rattle.set_expr.specs.Answer.{Keeps}
 use Rattle.set_expr.specs.SectionOrder.{section_order}
 use Rattle.section_targets.specs.declared.aim.Aim.{Aim}
 use Rattle.section_targets.specs.declared.manner.Manner.{Manner}
 use Rattle.section_targets.specs.declared.walked.Walked.{Walked}
-use Rattle.section_targets.specs.Contexts.{context_for}
+use Rattle.set_expr.specs.Contexts.{context_for}
 use Rattle.section_targets.specs.Manners.{AreFirsts}
 use Rattle.section_targets.specs.Units.{CountedUnit, units_refused}
 use Rattle.section_targets.specs.Walking.{AfterMaking, Walks, standing}
 use Rattle.section_targets.proofs.WalksBehind.{both_clear, clear_before, walks_alike, walks_made, walks_none, walks_refused, walks_then}
 use Rattle.equations.proofs.BuiltParts.{whole}
 use Rattle.truth_tables.specs.EntryTerms.{IsOver}
-use Rattle.truth_tables.specs.declared.walking.Headed.{Headed}
+use Rattle.truth_tables.specs.declared.row_walks.Headed.{Headed}
 use Rattle.truth_tables.specs.RowWalks.{WalksRows, WalksWork}
 use Rattle.truth_tables.specs.Rows.{row_work}
 use Rattle.truth_tables.specs.TableUnits.{row_refused, units_behind}
@@ -56,29 +55,6 @@ some_refused (Some f) x = by_order (is_before section_order x f)
     by_order : (b : Bool) → is_some (if b then Some x else Some f) ≡ true
     by_order true = refl
     by_order false = refl
-
--- where a unit passes the limit, something is refused
-pub never_kept : {A : Type 0} (f : SectionFault) (made new : Walked) → AfterMaking (Err f) made new → new.fault ≡ None → A
-never_kept {A = A} f made new k e = by_fault f k
-  where
-    told : (x : SectionFault) → new ≡ record made { fault = Some x } → A
-    told x h = absurd (none_some x (sym (ap (λ (w : Walked). w.fault) h) ∙ e))
-      where
-        none_some : (y : SectionFault) → ◌≡◌ {A = Option SectionFault} (Some y) None → ⊥
-        none_some y i = cc
-
-    by_fault : (x : SectionFault) → AfterMaking (Err x) made new → A
-    by_fault (fault.NodeLimit p) h = told (fault.NodeLimit p) h
-    by_fault fault.OutOfMemory h = absurd h
-    by_fault (fault.MisplacedSpecial p) h = told (fault.MisplacedSpecial p) h
-    by_fault (fault.NotConstant p) h = told (fault.NotConstant p) h
-    by_fault (fault.ZeroDivisor p) h = told (fault.ZeroDivisor p) h
-    by_fault (fault.BadWidth p) h = told (fault.BadWidth p) h
-    by_fault (fault.NotAnOutput p name) h = told (fault.NotAnOutput p name) h
-    by_fault (fault.MixedAssignment p name) h = told (fault.MixedAssignment p name) h
-    by_fault (fault.BadRow p) h = told (fault.BadRow p) h
-    by_fault (fault.BadState p) h = told (fault.BadState p) h
-    by_fault (fault.BadVector p) h = told (fault.BadVector p) h
 
 -- ---- works
 

@@ -15,11 +15,11 @@ use Rattle.set_expr.specs.Answer.{refusal_of}
 use Rattle.set_expr.specs.Given.{view_guard}
 use Rattle.section_targets.specs.declared.manner.Manner.{Manner}
 use Rattle.section_targets.specs.declared.walked.Walked.{Walked}
-use Rattle.section_targets.specs.Contexts.{context_for}
+use Rattle.set_expr.specs.Contexts.{context_for}
 use Rattle.section_targets.specs.Given.{AreNamed}
 use Rattle.section_targets.specs.Manners.{AreFirsts}
 use Rattle.section_targets.specs.Walking.{Walks}
-use Rattle.truth_tables.specs.declared.walking.Headed.{Headed}
+use Rattle.truth_tables.specs.declared.row_walks.Headed.{Headed}
 use Rattle.truth_tables.specs.Gives.{signals_of}
 use Rattle.truth_tables.specs.Products.{StandForInputs}
 use Rattle.truth_tables.specs.Rows.{NamesOutputs, row_work, rows_work}

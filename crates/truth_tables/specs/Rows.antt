@@ -22,7 +22,7 @@ use Rattle.abel_meaning.specs.Targets.{targets_of}
 use Rattle.abel_meaning.specs.Terms.{term_of}
 use Rattle.set_expr.specs.declared.contributions.Contribution.{Contribution}
 use Rattle.set_expr.specs.declared.fault.SectionFault.{SectionFault}
-use Rattle.set_expr.specs.Answer.{IsContextOf}
+use Rattle.set_expr.specs.Contexts.{context_for}
 use Rattle.set_expr.specs.Given.{view_guard}
 use Rattle.section_targets.specs.declared.aim.Aim.{Aim}
 use Rattle.section_targets.specs.Building.{Builds}
@@ -89,8 +89,9 @@ GivesFound n m ps xs f old new list more r =
 abbrev pub GivesFirst : {R : Type 0} → device.Table → Names → Assigning → (header : Tree) → List (Option Aim) → RowFound
     → (old new : List Node) → (list more : List Contribution) → Result R SectionFault → Type 0
 GivesFirst t n m h xs f old new list more r =
-    (d : Context) → IsContextOf t n d
-    → Does (product_work d (view_guard (arena old) m.guard) m (term_nodes d h) (header_literals d (term_of d.known h) f.inputs) xs f)
+    Does
+    (product_work (context_for t n) (view_guard (arena old) m.guard) m (term_nodes (context_for t n) h)
+    (header_literals (context_for t n) (term_of (context_for t n).known h) f.inputs) xs f)
     old new list more r
 
 -- a table names these outputs

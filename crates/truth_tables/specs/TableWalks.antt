@@ -16,7 +16,7 @@ use Rattle.set_expr.specs.declared.contributions.Guard.{Guard}
 use Rattle.set_expr.specs.Given.{view_guard}
 use Rattle.section_targets.specs.declared.manner.Manner.{Manner}
 use Rattle.section_targets.specs.declared.walked.Walked.{Walked}
-use Rattle.section_targets.specs.Contexts.{context_for}
+use Rattle.set_expr.specs.Contexts.{context_for}
 use Rattle.section_targets.specs.Manners.{AreFirsts}
 use Rattle.section_targets.specs.Units.{CountedUnit}
 use Rattle.section_targets.specs.Walking.{Walks}

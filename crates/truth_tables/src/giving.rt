@@ -21,21 +21,28 @@ pub struct Assigning {
     pub clocked: bool,
 }
 
-/// Appends what an output is given where a bit is 1; makes no node.
+/// What gives values to outputs where its bit is 1, as a row that matches, over the names of its source.
+#[derive(Drop)]
+pub struct Matching<'a> {
+    pub scope: &'a Scope<'a>,
+    pub assigning: Assigning,
+    pub bit: ExprId,
+}
+
+/// Appends what an output is given where the bit is 1; makes no node.
 pub fn give_output(
-    scope: &Scope<'_>,
-    assigning: Assigning,
+    matching: &Matching<'_>,
     what: Gives,
     aim: Aim,
-    bit: ExprId,
     exprs: &mut Exprs,
     list: &mut Vec<Contribution>,
 ) -> Result<(), SectionFault>
-    requires signal { aim.signal < length (entries_of scope.now) }
-    requires bit { bit.0 < length (arena exprs.old) }
+    requires signal { aim.signal < length (entries_of matching.now.scope.now) }
+    requires bit { matching.now.bit.0 < length (arena exprs.old) }
     ensures keeps { Keeps (arena exprs.old) (arena exprs.new) }
-    ensures gives { GivesOutput scope.now assigning what aim bit exprs.old exprs.new list.old.items list.new.items result }
+    ensures gives { GivesOutput matching.now.scope.now matching.now.assigning what aim matching.now.bit exprs.old exprs.new list.old.items list.new.items result }
 {
+    let assigning = matching.assigning;
     let giving = Giving {
         unit: assigning.unit,
         guard: Guard {
@@ -48,29 +55,27 @@ pub fn give_output(
         clocked: assigning.clocked,
         what,
     };
-    give(scope, giving, aim, bit, exprs, list)
+    give(matching.scope, giving, aim, matching.bit, exprs, list)
 }
 
-/// What a level gives where the row matches: one for 1, any for X and nothing for 0.
+/// What a level gives: one for 1, any for X and nothing for 0.
 fn give_value(
-    scope: &Scope<'_>,
-    assigning: Assigning,
+    matching: &Matching<'_>,
     aim: Aim,
     level: Option<bool>,
-    matched: ExprId,
     exprs: &mut Exprs,
     list: &mut Vec<Contribution>,
 ) -> Result<(), SectionFault>
-    requires signal { aim.signal < length (entries_of scope.now) }
-    requires bit { matched.0 < length (arena exprs.old) }
+    requires signal { aim.signal < length (entries_of matching.now.scope.now) }
+    requires bit { matching.now.bit.0 < length (arena exprs.old) }
     ensures keeps { Keeps (arena exprs.old) (arena exprs.new) }
-    ensures gives { GivesValue scope.now assigning aim level matched exprs.old exprs.new list.old.items list.new.items result }
+    ensures gives { GivesValue matching.now.scope.now matching.now.assigning aim level matching.now.bit exprs.old exprs.new list.old.items list.new.items result }
 {
     match level {
-        None => give_output(scope, assigning, Gives::Any, aim, matched, exprs, list),
+        None => give_output(matching, Gives::Any, aim, exprs, list),
         Some(on) => {
             if on {
-                give_output(scope, assigning, Gives::One, aim, matched, exprs, list)
+                give_output(matching, Gives::One, aim, exprs, list)
             } else {
                 Ok(())
             }
@@ -80,40 +85,36 @@ fn give_value(
 
 /// An output of a row: what its level gives, and a match.
 fn give_level(
-    scope: &Scope<'_>,
-    assigning: Assigning,
+    matching: &Matching<'_>,
     aim: Aim,
     level: Option<bool>,
-    matched: ExprId,
     exprs: &mut Exprs,
     list: &mut Vec<Contribution>,
 ) -> Result<(), SectionFault>
-    requires signal { aim.signal < length (entries_of scope.now) }
-    requires bit { matched.0 < length (arena exprs.old) }
+    requires signal { aim.signal < length (entries_of matching.now.scope.now) }
+    requires bit { matching.now.bit.0 < length (arena exprs.old) }
     ensures keeps { Keeps (arena exprs.old) (arena exprs.new) }
-    ensures gives { GivesPosition scope.now assigning (Some aim) level matched exprs.old exprs.new list.old.items list.new.items result }
+    ensures gives { GivesPosition matching.now.scope.now matching.now.assigning (Some aim) level matching.now.bit exprs.old exprs.new list.old.items list.new.items result }
 {
-    give_value(scope, assigning, aim, level, matched, exprs, list)?;
-    give_output(scope, assigning, Gives::Match, aim, matched, exprs, list)
+    give_value(matching, aim, level, exprs, list)?;
+    give_output(matching, Gives::Match, aim, exprs, list)
 }
 
 /// A position of a row; X is given nothing.
 pub(crate) fn give_position(
-    scope: &Scope<'_>,
-    assigning: Assigning,
+    matching: &Matching<'_>,
     output: Option<Aim>,
     level: Option<bool>,
-    matched: ExprId,
     exprs: &mut Exprs,
     list: &mut Vec<Contribution>,
 ) -> Result<(), SectionFault>
-    requires signal { AreNamed (length (entries_of scope.now)) (some_aims (output ∷ [])) }
-    requires bit { matched.0 < length (arena exprs.old) }
+    requires signal { AreNamed (length (entries_of matching.now.scope.now)) (some_aims (output ∷ [])) }
+    requires bit { matching.now.bit.0 < length (arena exprs.old) }
     ensures keeps { Keeps (arena exprs.old) (arena exprs.new) }
-    ensures gives { GivesPosition scope.now assigning output level matched exprs.old exprs.new list.old.items list.new.items result }
+    ensures gives { GivesPosition matching.now.scope.now matching.now.assigning output level matching.now.bit exprs.old exprs.new list.old.items list.new.items result }
 {
     match output {
         None => Ok(()),
-        Some(aim) => give_level(scope, assigning, aim, level, matched, exprs, list),
+        Some(aim) => give_level(matching, aim, level, exprs, list),
     }
 }

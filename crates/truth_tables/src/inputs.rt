@@ -8,7 +8,8 @@ ghost use Rattle.abel_tree.specs.View.{view};
 ghost use Rattle.abel_meaning.specs.CountedNodes.{term_nodes};
 ghost use Rattle.abel_meaning.specs.Designs.{Context};
 ghost use Rattle.abel_meaning.specs.Terms.{term_meant, term_named, term_of};
-ghost use Rattle.set_expr.specs.Answer.{Keeps, IsContextOf, refusal_of};
+ghost use Rattle.set_expr.specs.Answer.{Keeps, refusal_of};
+ghost use Rattle.set_expr.specs.Contexts.{context_for};
 ghost use Rattle.truth_tables.specs.EntryTerms.{IsOver};
 ghost use Rattle.section_targets.specs.Building.{BuildsNodes};
 ghost use Rattle.section_targets.specs.Units.{part};
@@ -19,7 +20,7 @@ use bit_expr::{ExprId, Exprs};
 use equations::unit_bits;
 use pld_base::{OutOfMemory, Place};
 use pld_device::Device;
-use section_targets::meet;
+use section_targets::{SectionScope, meet};
 use set_expr::{Scope, SectionFault, Shape, Shaped};
 use std::alloc::Global;
 
@@ -146,17 +147,17 @@ fn shaped_positions(
 /// The positions of an input header from the left, None at X, as nodes of the unit at this place.
 pub fn header_bits<D: Device>(
     alloc: Global,
-    scope: &Scope<'_>,
+    scope: &SectionScope<'_, D>,
     header: &Expr,
     unit: Place,
     exprs: &mut Exprs,
 ) -> Result<Vec<Option<ExprId>>, SectionFault>
     requires accepted { refusal_of scope.now (view header.now) ≡ None }
     ensures keeps { Keeps (arena exprs.old) (arena exprs.new) }
-    ensures builds { (d : Context) → IsContextOf D.table scope.now d → BuildsNodes (part unit (term_nodes d (view header.now)) ∷ []) exprs.old exprs.new result }
-    ensures inputs { IfOk result (λ ps. (d : Context) → IsContextOf D.table scope.now d → StandForInputs d (term_of d.known (view header.now)) (arena exprs.new) ps.items) }
+    ensures builds { BuildsNodes (part unit (term_nodes (context_for D.table scope.now) (view header.now)) ∷ []) exprs.old exprs.new result }
+    ensures inputs { IfOk result (λ ps. StandForInputs (context_for D.table scope.now) (term_of (context_for D.table scope.now).known (view header.now)) (arena exprs.new) ps.items) }
 {
     let shaped = unit_bits::<D>(alloc, scope, header, unit, exprs)?;
-    let positions = shaped_positions(alloc, scope, header, shaped)?;
+    let positions = shaped_positions(alloc, scope.scope(), header, shaped)?;
     Ok(positions)
 }

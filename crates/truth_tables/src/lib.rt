@@ -17,6 +17,7 @@ mod parts;
 mod positions;
 mod products;
 mod pulses;
+mod row_walks;
 mod rows;
 mod signals;
 mod tables;
@@ -24,7 +25,7 @@ mod walking;
 
 pub use checked_rows::{RowFound, read_row};
 pub use entries::{Entry, read_entry};
-pub use giving::{Assigning, give_output};
+pub use giving::{Assigning, Matching, give_output};
 pub use header::{Header, list_aims};
 pub use headings::read_header;
 pub use inputs::header_bits;

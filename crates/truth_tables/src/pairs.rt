@@ -1,6 +1,6 @@
 //! Parts of headers beside what stands for them in entries, met one by one from the last on.
 
-ghost use Rattle.std.specs.Prelude.{◌≡◌, ◌++◌, true, false, [], length, map, replicate, IfOk, OnOk};
+ghost use Rattle.std.specs.Prelude.{◌≡◌, ◌++◌, true, false, length, map, replicate, IfOk, OnOk};
 ghost use Rattle.abel_tree.specs.Tree.{members_of};
 ghost use Rattle.abel_tree.specs.View.{view_member};
 ghost use Rattle.abel_meaning.specs.Designs.{Context};
@@ -27,6 +27,15 @@ use std::alloc::Global;
 pub(crate) struct Pair<'a> {
     pub header: Part<'a>,
     pub given: Part<'a>,
+}
+
+/// A set of a header beside a set of an entry, with what extends the members of each.
+#[derive(Clone, Copy)]
+struct SetPair<'a> {
+    headers: &'a [Member],
+    outer: Option<Extension>,
+    entries: &'a [Member],
+    inner: Option<Extension>,
 }
 
 /// The same mark at so many positions.
@@ -101,16 +110,13 @@ fn push_pairs<'a>(
 fn push_sets<'a>(
     alloc: Global,
     scope: &Scope<'a>,
-    headers: &'a [Member],
-    outer: Option<Extension>,
-    entries: &'a [Member],
-    inner: Option<Extension>,
+    sets: &SetPair<'a>,
     stack: &mut Vec<Pair<'a>>,
 ) -> Result<bool, OutOfMemory>
-    ensures { IfOk result (λ b. (d : Context) → IsOver scope.now d → IsPush d (extended_if outer (term.Set (terms_of d.known (members_of (map view_member headers.now))))) (extended_if inner (term.Set (terms_of d.known (members_of (map view_member entries.now))))) b stack.old.items stack.new.items) }
+    ensures { IfOk result (λ b. (d : Context) → IsOver scope.now d → IsPush d (extended_if sets.now.outer (term.Set (terms_of d.known (members_of (map view_member sets.now.headers.now))))) (extended_if sets.now.inner (term.Set (terms_of d.known (members_of (map view_member sets.now.entries.now))))) b stack.old.items stack.new.items) }
 {
-    let header_parts = parts_of(alloc, scope, headers, outer, true)?;
-    let entry_parts = parts_of(alloc, scope, entries, inner, false)?;
+    let header_parts = parts_of(alloc, scope, sets.headers, sets.outer, true)?;
+    let entry_parts = parts_of(alloc, scope, sets.entries, sets.inner, false)?;
     let headers = header_parts.as_slice();
     let entries = entry_parts.as_slice();
     if headers.len() != entries.len() {
@@ -133,7 +139,13 @@ pub(crate) fn step<'a>(
     match pair.header.content {
         Content::Set(headers, outer) => match pair.given.content {
             Content::Set(entries, inner) => {
-                push_sets(alloc, scope, headers, outer, entries, inner, stack)
+                let sets = SetPair {
+                    headers,
+                    outer,
+                    entries,
+                    inner,
+                };
+                push_sets(alloc, scope, &sets, stack)
             }
             _ => put_whole(marks, pair.header.width, pair.given.content),
         },

@@ -1,6 +1,6 @@
 //! The parts of headers and entries, one by one.
 
-ghost use Rattle.std.specs.Prelude.{◌≡◌, ◌++◌, [], ◌∷◌, List, Option, true, map, IfOk, OnOk};
+ghost use Rattle.std.specs.Prelude.{◌≡◌, ◌++◌, [], List, Option, true, map, IfOk, OnOk};
 ghost use Rattle.abel_tree.specs.declared.words.Extension.{Extension as Dot};
 ghost use Rattle.abel_tree.specs.Ranges.{range_names};
 ghost use Rattle.abel_tree.specs.Tree.{members_of};
@@ -143,37 +143,41 @@ pub(crate) fn part_of<'a>(
     Ok(Part { content, width })
 }
 
-/// The part that the name with this text is under an extension.
-fn named_part<'a>(
-    alloc: Global,
-    scope: &Scope<'a>,
-    text: &[u8],
-    place: Place,
+/// How the members of a set become parts: under an extension, with their positions where these are asked for.
+#[derive(Drop)]
+struct Reading<'s, 'a> {
+    scope: &'s Scope<'a>,
     outer: Option<Extension>,
     sized: bool,
+}
+
+/// The part that the name with this text is.
+fn named_part<'a>(
+    alloc: Global,
+    reading: &Reading<'_, 'a>,
+    text: &[u8],
+    place: Place,
 ) -> Result<Part<'a>, OutOfMemory>
-    ensures { IfOk result (λ p. (d : Context) → IsOver scope.now d → IsPart d sized p (extended_if outer (term_named d.known text.now))) }
+    ensures { IfOk result (λ p. (d : Context) → IsOver reading.now.scope.now d → IsPart d reading.now.sized p (extended_if reading.now.outer (term_named d.known text.now))) }
 {
-    let width = named_width(scope, text, place, sized)?;
-    let content = named_content(alloc, scope, text, outer)?;
+    let width = named_width(reading.scope, text, place, reading.sized)?;
+    let content = named_content(alloc, reading.scope, text, reading.outer)?;
     Ok(Part { content, width })
 }
 
 /// Appends a part for each name of a range.
 fn push_range<'a>(
     alloc: Global,
-    scope: &Scope<'a>,
+    reading: &Reading<'_, 'a>,
     first: &Word,
     last: &Word,
-    outer: Option<Extension>,
-    sized: bool,
     parts: &mut Vec<Part<'a>>,
 ) -> Result<(), OutOfMemory>
-    ensures { OnOk result ((d : Context) (ts : List Term) → IsOver scope.now d → AreParts d sized parts.old.items ts → AreParts d sized parts.new.items (ts ++ extended_list outer (listed (named_before d.known (range_names first.now.text last.now.text) NoTerm)))) }
+    ensures { OnOk result ((d : Context) (ts : List Term) → IsOver reading.now.scope.now d → AreParts d reading.now.sized parts.old.items ts → AreParts d reading.now.sized parts.new.items (ts ++ extended_list reading.now.outer (listed (named_before d.known (range_names first.now.text last.now.text) NoTerm)))) }
 {
     let list = range_list(alloc, first.text.bytes(), last.text.bytes())?;
     for name in &list {
-        let part = named_part(alloc, scope, name.as_slice(), first.place, outer, sized)?;
+        let part = named_part(alloc, reading, name.as_slice(), first.place)?;
         parts.push(part)?;
     }
     Ok(())
@@ -182,23 +186,19 @@ fn push_range<'a>(
 /// Appends the parts of a member.
 fn push_member<'a>(
     alloc: Global,
-    scope: &Scope<'a>,
+    reading: &Reading<'_, 'a>,
     member: &'a Member,
-    outer: Option<Extension>,
-    sized: bool,
     parts: &mut Vec<Part<'a>>,
 ) -> Result<(), OutOfMemory>
-    ensures { OnOk result ((d : Context) (ts : List Term) → IsOver scope.now d → AreParts d sized parts.old.items ts → AreParts d sized parts.new.items (ts ++ extended_list outer (listed (member_before d.known (view_member member.now) NoTerm)))) }
+    ensures { OnOk result ((d : Context) (ts : List Term) → IsOver reading.now.scope.now d → AreParts d reading.now.sized parts.old.items ts → AreParts d reading.now.sized parts.new.items (ts ++ extended_list reading.now.outer (listed (member_before d.known (view_member member.now) NoTerm)))) }
 {
     match member {
         Member::One(expr) => {
-            let part = part_of(alloc, scope, expr, outer, sized)?;
+            let part = part_of(alloc, reading.scope, expr, reading.outer, reading.sized)?;
             parts.push(part)?;
             Ok(())
         }
-        Member::Span { first, last } => {
-            push_range(alloc, scope, first, last, outer, sized, parts)
-        }
+        Member::Span { first, last } => push_range(alloc, reading, first, last, parts),
     }
 }
 
@@ -212,9 +212,14 @@ pub(crate) fn parts_of<'a>(
 ) -> Result<Vec<Part<'a>>, OutOfMemory>
     ensures { IfOk result (λ ps. (d : Context) → IsOver scope.now d → AreParts d sized ps.items (extended_list outer (listed (terms_of d.known (members_of (map view_member members.now)))))) }
 {
+    let reading = Reading {
+        scope,
+        outer,
+        sized,
+    };
     let mut parts = Vec::new(alloc);
     for member in members {
-        push_member(alloc, scope, member, outer, sized, &mut parts)?;
+        push_member(alloc, &reading, member, &mut parts)?;
     }
     Ok(parts)
 }

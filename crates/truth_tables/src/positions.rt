@@ -8,37 +8,27 @@ ghost use Rattle.section_targets.specs.Given.{AreNamed};
 ghost use Rattle.truth_tables.specs.TableUnits.{some_aims};
 ghost use Rattle.truth_tables.specs.Gives.{GivesPositions, GivesNoMatches};
 
-use crate::giving::{Assigning, give_output, give_position};
+use crate::giving::{Assigning, Matching, give_output, give_position};
 use bit_expr::{ExprId, Exprs};
 use section_targets::Aim;
 use set_expr::{Contribution, Gives, Scope, SectionFault};
 
-/// The positions of a row, where it matches.
+/// The positions of a row.
 pub(crate) fn give_positions(
-    scope: &Scope<'_>,
-    assigning: Assigning,
+    matching: &Matching<'_>,
     outputs: &[Option<Aim>],
     levels: &[Option<bool>],
-    matched: ExprId,
     exprs: &mut Exprs,
     list: &mut Vec<Contribution>,
 ) -> Result<(), SectionFault>
-    requires signals { AreNamed (length (entries_of scope.now)) (some_aims outputs.now) }
-    requires bit { matched.0 < length (arena exprs.old) }
+    requires signals { AreNamed (length (entries_of matching.now.scope.now)) (some_aims outputs.now) }
+    requires bit { matching.now.bit.0 < length (arena exprs.old) }
     ensures keeps { Keeps (arena exprs.old) (arena exprs.new) }
-    ensures gives { GivesPositions scope.now assigning outputs.now levels.now matched exprs.old exprs.new list.old.items list.new.items result }
+    ensures gives { GivesPositions matching.now.scope.now matching.now.assigning outputs.now levels.now matching.now.bit exprs.old exprs.new list.old.items list.new.items result }
 {
     let count = outputs.len().min(levels.len());
     for index in 0..count {
-        give_position(
-            scope,
-            assigning,
-            outputs[index],
-            levels[index],
-            matched,
-            exprs,
-            list,
-        )?;
+        give_position(matching, outputs[index], levels[index], exprs, list)?;
     }
     Ok(())
 }
@@ -57,7 +47,14 @@ fn give_no_match(
 {
     match output {
         None => Ok(()),
-        Some(aim) => give_output(scope, assigning, Gives::Match, aim, ExprId(0), exprs, list),
+        Some(aim) => {
+            let matching = Matching {
+                scope,
+                assigning,
+                bit: ExprId(0),
+            };
+            give_output(&matching, Gives::Match, aim, exprs, list)
+        }
     }
 }
 

@@ -4,7 +4,8 @@ ghost use Rattle.std.specs.Prelude.{OnOk};
 ghost use Rattle.truth_tables.specs.TableWalks.{WalksTable};
 
 use crate::headings::read_header;
-use crate::walking::{Headed, walk_headed};
+use crate::row_walks::Headed;
+use crate::walking::walk_headed;
 use abel_tree::Table;
 use pld_base::OutOfMemory;
 use pld_device::Device;
@@ -16,7 +17,7 @@ use std::alloc::Global;
 /// the guard count its block and whether that is don't-care. Calls go as deep as the nestings of sets and parentheses.
 pub fn walk_table<D: Device>(
     alloc: Global,
-    scope: &SectionScope<'_>,
+    scope: &SectionScope<'_, D>,
     guard: Guard,
     table: &Table,
     out: &mut Walked,
@@ -36,7 +37,7 @@ pub fn walk_table<D: Device>(
                 outputs: header.outputs.as_slice(),
                 guard,
             };
-            walk_headed::<D>(alloc, names, &headed, out)
+            walk_headed::<D>(alloc, scope, &headed, out)
         }
     }
 }

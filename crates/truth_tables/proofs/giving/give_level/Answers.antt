@@ -10,16 +10,16 @@ pub returns-in_err-give_value-clause-gives : goal.returns-in_err-give_value-clau
 returns-in_err-give_value-clause-gives c = λ d e.
     let p = err_from_is_err_and c.from_residual.result c.from_residual.ensures.1 in
     rw (p.1, p.2)
-    (level_stops d c.args.assigning.guard c.args.assigning.clocked c.args.aim c.args.level c.args.matched (at c.args.exprs.now c.args.list.now.items) (at c.give_value.new.exprs c.give_value.new.list.items) c.in_err-give_value.field-0.0 (c.in_err-give_value.ensures.gives d e))
+    (level_stops d c.args.matching.now.assigning.guard c.args.matching.now.assigning.clocked c.args.aim c.args.level c.args.matching.now.bit (at c.args.exprs.now c.args.list.now.items) (at c.give_value.new.exprs c.give_value.new.list.items) c.in_err-give_value.field-0.0 (c.in_err-give_value.ensures.gives d e))
 
 pub give_output-requires-clause-bit : goal.give_output-requires-clause-bit
-give_output-requires-clause-bit c = kept_inside _ _ c.args.matched c.in_ok-give_value.ensures.keeps c.requires.bit
+give_output-requires-clause-bit c = kept_inside _ _ c.args.matching.now.bit c.in_ok-give_value.ensures.keeps c.requires.bit
 
 pub returns-clause-keeps : goal.returns-clause-keeps
 returns-clause-keeps c = keeps_on _ _ _ c.in_ok-give_value.ensures.keeps c.give_output.ensures.keeps
 
 pub returns-clause-gives : goal.returns-clause-gives
 returns-clause-gives c = λ d e.
-    level_given d c.args.assigning.guard c.args.assigning.clocked c.args.aim c.args.level c.args.matched (at c.args.exprs.now c.args.list.now.items) (at c.give_value.new.exprs c.give_value.new.list.items) (at c.give_output.new.exprs c.give_output.new.list.items) c.give_output.result
-    (kept_formula (arena c.args.exprs.now) (arena c.give_value.new.exprs) c.args.matched c.in_ok-give_value.ensures.keeps c.requires.bit)
+    level_given d c.args.matching.now.assigning.guard c.args.matching.now.assigning.clocked c.args.aim c.args.level c.args.matching.now.bit (at c.args.exprs.now c.args.list.now.items) (at c.give_value.new.exprs c.give_value.new.list.items) (at c.give_output.new.exprs c.give_output.new.list.items) c.give_output.result
+    (kept_formula (arena c.args.exprs.now) (arena c.give_value.new.exprs) c.args.matching.now.bit c.in_ok-give_value.ensures.keeps c.requires.bit)
     (c.in_ok-give_value.ensures.gives d e) (c.give_output.ensures.gives d e)

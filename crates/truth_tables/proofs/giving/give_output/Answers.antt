@@ -8,4 +8,4 @@ pub give-requires-clause-guard : goal.give-requires-clause-guard
 give-requires-clause-guard c = (high_bit c.args.exprs.now (record { 0 = 1 }) refl).0
 
 pub returns-clause-gives : goal.returns-clause-gives
-returns-clause-gives c = output_given c.args.scope.now c.args.assigning c.args.what c.args.aim c.args.bit c.args.exprs.now c.give.new.exprs c.args.list.now.items c.give.new.list.items c.give.result c.give.ensures.builds
+returns-clause-gives c = output_given c.args.matching.now.scope.now c.args.matching.now.assigning c.args.what c.args.aim c.args.matching.now.bit c.args.exprs.now c.give.new.exprs c.args.list.now.items c.give.new.list.items c.give.result c.give.ensures.builds

@@ -4,5 +4,5 @@ use Rattle.truth_tables.proofs.giving.give_position.Goals as goal
 
 pub returns-in-Some-clause-gives : goal.returns-in-Some-clause-gives
 returns-in-Some-clause-gives c =
-    subst (λ x. GivesPosition c.args.scope.now c.args.assigning x c.args.level c.args.matched c.args.exprs.now c.give_level.new.exprs c.args.list.now.items c.give_level.new.list.items c.give_level.result)
+    subst (λ x. GivesPosition c.args.matching.now.scope.now c.args.matching.now.assigning x c.args.level c.args.matching.now.bit c.args.exprs.now c.give_level.new.exprs c.args.list.now.items c.give_level.new.list.items c.give_level.result)
     (sym c.in-Some.is) c.give_level.ensures.gives

@@ -7,7 +7,7 @@ use Rattle.abel_tree.specs.Entries.{find}
 use Rattle.abel_tree.specs.View.{view}
 use Rattle.abel_meaning.specs.Terms.{term_named, term_of}
 use Rattle.set_expr.specs.declared.fault.SectionFault.TheVariants.{NotAnOutput}
-use Rattle.section_targets.proofs.Views.{view_name}
+use Rattle.expr_bits.proofs.Views.{view_name}
 use Rattle.truth_tables.specs.HeaderSignals.{AreSignals}
 use Rattle.truth_tables.specs.OutputHeaders.{refused_header}
 use Rattle.truth_tables.specs.Headers.{IsHeader}

@@ -7,7 +7,7 @@ use Rattle.set_expr.specs.declared.fault.SectionFault.TheVariants.{NotAnOutput}
 use Rattle.set_expr.specs.Answer.{first_place}
 use Rattle.set_expr.proofs.FoundMembers.{front_more}
 use Rattle.section_targets.specs.TargetSignals.{first_name}
-use Rattle.section_targets.proofs.Views.{view_number, view_set, view_unary, view_binary, view_one}
+use Rattle.expr_bits.proofs.Views.{view_number, view_set, view_unary, view_binary, view_one}
 use Rattle.truth_tables.specs.OutputHeaders.{refused_header, header_set, both_headers, output_header, output_member, output_members}
 use Rattle.truth_tables.specs.Headers.{IsHeader}
 use Rattle.truth_tables.proofs.HeaderLaws.{members_more}

@@ -5,7 +5,7 @@ use Rattle.abel_tree.specs.declared.expressions.Expr.{Expr}
 use Rattle.abel_tree.specs.Tree.{members_of}
 use Rattle.abel_tree.specs.View.{view, view_member}
 use Rattle.abel_meaning.specs.Terms.{Set, term_named, term_of, terms_of}
-use Rattle.section_targets.proofs.Views.{view_binary, view_name, view_number, view_paren, view_set, view_special, view_unary}
+use Rattle.expr_bits.proofs.Views.{view_binary, view_name, view_number, view_paren, view_set, view_special, view_unary}
 use Rattle.truth_tables.specs.Products.{IsConstantIf, is_computed}
 use Rattle.truth_tables.proofs.InputLaws.{computed_extended, special_plain}
 use Rattle.truth_tables.proofs.inputs.has_operator.Goals.{in-Name+in-Some, in-Paren, in-Unary}

@@ -1,8 +1,14 @@
 -- The bits of the header in the other order.
+use Rattle.std.proofs.Common.{sym, subst}
+use Rattle.abel_tree.specs.declared.names.Names.{Names}
+use Rattle.set_expr.specs.Contexts.{context_for}
 use Rattle.truth_tables.specs.EntryTerms.{IsOver}
+use Rattle.truth_tables.proofs.RowsWalked.{is_over}
 use Rattle.truth_tables.proofs.inputs.header_bits.Goals as goal
 
 pub returns-clause-inputs : goal.returns-clause-inputs
-returns-clause-inputs g c = λ d is.
-    let over : IsOver c.args.scope.now d = record { names = is.names; known = is.known } in
-    c.in_ok-positions.ensures d c.unit_bits.new.exprs over (c.in_ok-shaped.ensures.shaped d is)
+returns-clause-inputs g c =
+    let v = g.D.Device.table in
+    let n = c.args.scope.now in
+    let over = subst (λ (m : Names). IsOver m (context_for v n)) (sym c.scope.ensures) (is_over v n) in
+    c.in_ok-positions.ensures (context_for v n) c.unit_bits.new.exprs over c.in_ok-shaped.ensures.shaped

@@ -9,17 +9,17 @@ use Rattle.truth_tables.proofs.pairs.push_sets.Goals as goal
 
 pub returns-then-headers-entries : goal.returns-then-headers-entries
 returns-then-headers-entries c d is =
-    let ts = terms_of d.known (members_of (map view_member c.args.headers.now)) in
-    let us = terms_of d.known (members_of (map view_member c.args.entries.now)) in
+    let ts = terms_of d.known (members_of (map view_member c.args.sets.now.headers.now)) in
+    let us = terms_of d.known (members_of (map view_member c.args.sets.now.entries.now)) in
     let hs = c.as_slice-headers.ensures.value in
     let es = c.as_slice-entries.ensures.value in
-    sets_unmet d c.args.outer c.args.inner ts us c.in_ok-header_parts.header_parts.items c.in_ok-entry_parts.entry_parts.items (c.in_ok-header_parts.ensures d is) (c.in_ok-entry_parts.ensures d is)
+    sets_unmet d c.args.sets.now.outer c.args.sets.now.inner ts us c.in_ok-header_parts.header_parts.items c.in_ok-entry_parts.entry_parts.items (c.in_ok-header_parts.ensures d is) (c.in_ok-entry_parts.ensures d is)
     (λ e. c.if-headers-entries.true (ap length hs ∙ e ∙ sym (ap length es)))
 
 pub returns : goal.returns
 returns c d is ms =
-    let ts = terms_of d.known (members_of (map view_member c.args.headers.now)) in
-    let us = terms_of d.known (members_of (map view_member c.args.entries.now)) in
+    let ts = terms_of d.known (members_of (map view_member c.args.sets.now.headers.now)) in
+    let us = terms_of d.known (members_of (map view_member c.args.sets.now.entries.now)) in
     let xs = c.in_ok-header_parts.header_parts.items in
     let ys = c.in_ok-entry_parts.entry_parts.items in
     let hs = c.as_slice-headers.ensures.value in
@@ -28,5 +28,5 @@ returns c d is ms =
     record {
       more = paired xs ys;
       pushed = c.in_ok-push_pairs.ensures ∙ ap₂ (λ us vs. c.args.stack.now.items ++ paired us vs) hs es;
-      met = sets_met d c.args.outer c.args.inner ts us xs ys (c.in_ok-header_parts.ensures d is) (c.in_ok-entry_parts.ensures d is) same ms;
+      met = sets_met d c.args.sets.now.outer c.args.sets.now.inner ts us xs ys (c.in_ok-header_parts.ensures d is) (c.in_ok-entry_parts.ensures d is) same ms;
     }

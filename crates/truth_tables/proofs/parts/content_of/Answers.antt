@@ -4,7 +4,7 @@ use Rattle.std.proofs.lemmas.Result.{IfOk-weaker}
 use Rattle.abel_tree.specs.View.{view}
 use Rattle.abel_meaning.specs.Terms.{term_of}
 use Rattle.truth_tables.specs.PartTerms.{IsContent, is_operand}
-use Rattle.truth_tables.proofs.PartLaws.{view_unary, view_binary}
+use Rattle.expr_bits.proofs.Views.{view_unary, view_binary}
 use Rattle.truth_tables.proofs.parts.content_of.Goals as goal
 
 pub returns-in-Unary : goal.returns-in-Unary

@@ -11,4 +11,4 @@ use Rattle.truth_tables.proofs.parts.parts_of.Given as goal
 abbrev pub invariant-loop-member : goal.invariant-loop-member
 invariant-loop-member l =
     (d : Context) → IsOver l.scope d
-    → AreParts d l.sized l.parts.items (extended_list l.outer (listed (terms_of d.known (members_of (map view_member (take l.member-index l.members))))))
+    → AreParts d l.sized l.parts.items (extended_list l.fn.outer (listed (terms_of d.known (members_of (map view_member (take l.member-index l.members))))))

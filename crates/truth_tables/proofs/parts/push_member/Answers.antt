@@ -4,14 +4,14 @@ use Rattle.abel_tree.specs.View.{view, view_member}
 use Rattle.abel_meaning.specs.Terms.{NoTerm, term_of, member_before, extended_if}
 use Rattle.truth_tables.specs.EntryTerms.{listed, extended_list}
 use Rattle.truth_tables.specs.PartTerms.{AreParts}
-use Rattle.truth_tables.proofs.PartLaws.{view_one}
+use Rattle.expr_bits.proofs.Views.{view_one}
 use Rattle.truth_tables.proofs.PartLists.{parts_push}
 use Rattle.truth_tables.proofs.parts.push_member.Goals as goal
 
 pub returns-in_ok-push-in-One : goal.returns-in_ok-push-in-One
 returns-in_ok-push-in-One c d ts is h =
-    let s = c.args.sized in
-    let o = c.args.outer in
+    let s = c.args.reading.now.sized in
+    let o = c.args.reading.now.outer in
     let old = c.args.parts.now.items in
     let p = c.in_ok-part-in-One.part in
     subst (λ ps. AreParts d s ps (ts ++ extended_list o (listed (member_before d.known (view_member c.args.member.now) NoTerm)))) (sym c.in_ok-push-in-One.ensures.items)

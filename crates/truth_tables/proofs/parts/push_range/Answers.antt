@@ -10,7 +10,7 @@ use Rattle.truth_tables.proofs.PartLists.{parts_push, range_listed, extended_mor
 use Rattle.truth_tables.proofs.parts.push_range.Goals as goal
 
 pub loop-name-init : goal.loop-name-init
-loop-name-init c d ts is h = subst (AreParts d c.args.sized c.args.parts.now.items) (sym (append-nil ts)) h
+loop-name-init c d ts is h = subst (AreParts d c.args.reading.now.sized c.args.parts.now.items) (sym (append-nil ts)) h
 
 pub loop-name-preserved : goal.loop-name-preserved
 loop-name-preserved c d ts is h =
@@ -19,8 +19,8 @@ loop-name-preserved c d ts is h =
     let i = c.loop-name.name-index in
     let before = map text (take i items) in
     let n = text c.name-item.result in
-    let o = c.args.outer in
-    let s = c.args.sized in
+    let o = c.args.reading.now.outer in
+    let s = c.args.reading.now.sized in
     let here : map text (take (i + 1) items) ≡ before ++ n ∷ [] = front_more text items i c.name-item.result c.loop-name-test.true c.name-item.is in
     let all = extended_list o (listed (named_before d.known before NoTerm)) in
     let one = subst (λ w. IsPart d s c.in_ok-part.part (extended_if o (term_named d.known w))) c.as_slice.ensures.value (c.in_ok-part.ensures d is) in
@@ -38,4 +38,4 @@ returns c d ts is h =
     let all : map text (take c.loop-name.name-index c.deref-name-items.result.now) ≡ range_names c.args.first.now.text c.args.last.now.text =
     whole_front text c.deref-name-items.result.now c.loop-name.name-index c.loop-name-test.false
     ∙ (ap (map text) c.deref-name-items.ensures.value ∙ (c.in_ok-list.ensures ∙ ap₂ range_names c.bytes.ensures c.bytes-2.ensures)) in
-    subst (λ names. AreParts d c.args.sized c.loop-name.parts.items (ts ++ extended_list c.args.outer (listed (named_before d.known names NoTerm)))) all (c.loop-name.invariant d ts is h)
+    subst (λ names. AreParts d c.args.reading.now.sized c.loop-name.parts.items (ts ++ extended_list c.args.reading.now.outer (listed (named_before d.known names NoTerm)))) all (c.loop-name.invariant d ts is h)

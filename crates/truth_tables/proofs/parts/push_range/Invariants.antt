@@ -9,5 +9,5 @@ use Rattle.truth_tables.proofs.parts.push_range.Given as goal
 
 abbrev pub invariant-loop-name : goal.invariant-loop-name
 invariant-loop-name l =
-    (d : Context) (ts : List Term) → IsOver l.scope d → AreParts d l.sized l.fn.parts.items ts
-    → AreParts d l.sized l.parts.items (ts ++ extended_list l.outer (listed (named_before d.known (map (λ (n : Vec ℕ). n.items) (take l.name-index l.name-items)) NoTerm)))
+    (d : Context) (ts : List Term) → IsOver l.reading.scope.now d → AreParts d l.reading.sized l.fn.parts.items ts
+    → AreParts d l.reading.sized l.parts.items (ts ++ extended_list l.reading.outer (listed (named_before d.known (map (λ (n : Vec ℕ). n.items) (take l.name-index l.name-items)) NoTerm)))

@@ -12,7 +12,7 @@ use Rattle.truth_tables.proofs.positions.give_positions.Given as goal
 abbrev pub invariant-loop-index : goal.invariant-loop-index
 invariant-loop-index l =
     Keeps (arena l.fn.exprs) (arena l.exprs)
-    × ((d : Context) → d.names ≡ entries_of l.scope
-    → IsBegun (positions_work d (matched_guard (arena l.fn.exprs) l.assigning.guard l.matched) l.assigning.clocked l.outputs l.levels)
-    (positions_work d (matched_guard (arena l.fn.exprs) l.assigning.guard l.matched) l.assigning.clocked (drop l.index l.outputs) (drop l.index l.levels))
+    × ((d : Context) → d.names ≡ entries_of l.matching.scope.now
+    → IsBegun (positions_work d (matched_guard (arena l.fn.exprs) l.matching.assigning.guard l.matching.bit) l.matching.assigning.clocked l.outputs l.levels)
+    (positions_work d (matched_guard (arena l.fn.exprs) l.matching.assigning.guard l.matching.bit) l.matching.assigning.clocked (drop l.index l.outputs) (drop l.index l.levels))
     (record { exprs = l.fn.exprs; list = l.fn.list.items }) (record { exprs = l.exprs; list = l.list.items }))

@@ -16,32 +16,32 @@ use Rattle.truth_tables.specs.Rows.{found_work}
 use Rattle.truth_tables.proofs.RowWorks.{found_built}
 use Rattle.truth_tables.proofs.rows.give_found.Goals as goal
 
-pub returns-in_err-matched-clause-keeps : goal.returns-in_err-matched-clause-keeps
-returns-in_err-matched-clause-keeps c = (c.in_err-matched.ensures.builds []).1.keeps
+pub returns-in_err-bit-clause-keeps : goal.returns-in_err-bit-clause-keeps
+returns-in_err-bit-clause-keeps c = (c.in_err-bit.ensures.builds []).1.keeps
 
-pub returns-in_err-matched-clause-gives : goal.returns-in_err-matched-clause-gives
-returns-in_err-matched-clause-gives c = λ d e.
+pub returns-in_err-bit-clause-gives : goal.returns-in_err-bit-clause-gives
+returns-in_err-bit-clause-gives c = λ d e.
     let p = err_from_is_err_and c.from_residual.result c.from_residual.ensures.1 in
-    let f = c.args.found.now in
-    let m = c.args.assigning in
-    let made = λ (ls : List (Option Bool)). literals (arena c.args.exprs.now) (Const true) c.args.inputs.now ls in
-    let told = subst (λ (ls : List (Option Bool)). BuildsNodes {R = ExprId} (part m.unit (made ls).nodes ∷ []) c.args.exprs.now c.row_product.new.exprs (Err c.in_err-matched.field-0.0)) c.as_slice-levels.ensures c.in_err-matched.ensures.builds in
-    let w = found_work d (view_guard (arena c.args.exprs.now) m.guard) m (made f.inputs).nodes (made f.inputs).what c.args.outputs.now f in
+    let f = c.args.row.now.found.now in
+    let m = c.args.row.now.assigning in
+    let made = λ (ls : List (Option Bool)). literals (arena c.args.exprs.now) (Const true) c.args.bits.now ls in
+    let told = subst (λ (ls : List (Option Bool)). BuildsNodes {R = ExprId} (part m.unit (made ls).nodes ∷ []) c.args.exprs.now c.row_product.new.exprs (Err c.in_err-bit.field-0.0)) c.as_slice-levels.ensures c.in_err-bit.ensures.builds in
+    let w = found_work d (view_guard (arena c.args.exprs.now) m.guard) m (made f.inputs).nodes (made f.inputs).what c.args.row.now.outputs.now f in
     rw (p.1, p.2)
-    (stops_nodes w.units w.gives w.places (at c.args.exprs.now c.args.list.now.items) (at c.row_product.new.exprs c.args.list.now.items) c.in_err-matched.field-0.0 (told c.args.list.now.items))
+    (stops_nodes w.units w.gives w.places (at c.args.exprs.now c.args.list.now.items) (at c.row_product.new.exprs c.args.list.now.items) c.in_err-bit.field-0.0 (told c.args.list.now.items))
 
 pub give_positions-requires-clause-bit : goal.give_positions-requires-clause-bit
-give_positions-requires-clause-bit c = c.in_ok-matched.ensures.bit.0
+give_positions-requires-clause-bit c = c.in_ok-bit.ensures.bit.0
 
 pub returns-clause-keeps : goal.returns-clause-keeps
-returns-clause-keeps c = keeps_on _ _ _ (c.in_ok-matched.ensures.builds []).made.grew.keeps c.give_positions.ensures.keeps
+returns-clause-keeps c = keeps_on _ _ _ (c.in_ok-bit.ensures.builds []).made.grew.keeps c.give_positions.ensures.keeps
 
 pub returns-clause-gives : goal.returns-clause-gives
 returns-clause-gives c = λ d e.
-    let f = c.args.found.now in
-    let m = c.args.assigning in
-    let made = λ (ls : List (Option Bool)). literals (arena c.args.exprs.now) (Const true) c.args.inputs.now ls in
-    let built = subst (λ (ls : List (Option Bool)). BuildsNodes (part m.unit (made ls).nodes ∷ []) c.args.exprs.now c.row_product.new.exprs (Ok c.in_ok-matched.matched)) c.as_slice-levels.ensures c.in_ok-matched.ensures.builds in
-    let bit = subst (λ (ls : List (Option Bool)). IsBit (arena c.row_product.new.exprs) c.in_ok-matched.matched (made ls).what) c.as_slice-levels.ensures c.in_ok-matched.ensures.bit in
-    let outs = subst (λ (ls : List (Option Bool)). GivesPositions c.args.scope.now m c.args.outputs.now ls c.in_ok-matched.matched c.row_product.new.exprs c.give_positions.new.exprs c.args.list.now.items c.give_positions.new.list.items c.give_positions.result) c.as_slice-given.ensures c.give_positions.ensures.gives in
-    found_built d m.guard m (made f.inputs) c.in_ok-matched.matched c.args.outputs.now f (at c.args.exprs.now c.args.list.now.items) (at c.row_product.new.exprs c.args.list.now.items) (at c.give_positions.new.exprs c.give_positions.new.list.items) c.give_positions.result (built c.args.list.now.items) bit.1 (outs d e)
+    let f = c.args.row.now.found.now in
+    let m = c.args.row.now.assigning in
+    let made = λ (ls : List (Option Bool)). literals (arena c.args.exprs.now) (Const true) c.args.bits.now ls in
+    let built = subst (λ (ls : List (Option Bool)). BuildsNodes (part m.unit (made ls).nodes ∷ []) c.args.exprs.now c.row_product.new.exprs (Ok c.in_ok-bit.bit)) c.as_slice-levels.ensures c.in_ok-bit.ensures.builds in
+    let bit = subst (λ (ls : List (Option Bool)). IsBit (arena c.row_product.new.exprs) c.in_ok-bit.bit (made ls).what) c.as_slice-levels.ensures c.in_ok-bit.ensures.bit in
+    let outs = subst (λ (ls : List (Option Bool)). GivesPositions c.args.scope.now m c.args.row.now.outputs.now ls c.in_ok-bit.bit c.row_product.new.exprs c.give_positions.new.exprs c.args.list.now.items c.give_positions.new.list.items c.give_positions.result) c.as_slice-given.ensures c.give_positions.ensures.gives in
+    found_built d m.guard m (made f.inputs) c.in_ok-bit.bit c.args.row.now.outputs.now f (at c.args.exprs.now c.args.list.now.items) (at c.row_product.new.exprs c.args.list.now.items) (at c.give_positions.new.exprs c.give_positions.new.list.items) c.give_positions.result (built c.args.list.now.items) bit.1 (outs d e)

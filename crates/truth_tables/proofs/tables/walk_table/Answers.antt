@@ -10,11 +10,11 @@ use Rattle.abel_meaning.specs.CountedBlocks.{table_units}
 use Rattle.abel_meaning.specs.Terms.{term_of}
 use Rattle.section_targets.specs.declared.aim.Aim.{Aim}
 use Rattle.section_targets.specs.declared.walked.Walked.{Walked}
-use Rattle.section_targets.specs.Contexts.{context_for}
+use Rattle.set_expr.specs.Contexts.{context_for}
 use Rattle.section_targets.specs.Given.{AreNamed}
 use Rattle.section_targets.specs.Manners.{AreFirsts}
 use Rattle.section_targets.specs.Walking.{Walks}
-use Rattle.equations.proofs.BuiltParts.{is_context, value_accepted}
+use Rattle.equations.proofs.BuiltParts.{is_context, same_context, value_accepted}
 use Rattle.truth_tables.specs.OutputHeaders.{output_header}
 use Rattle.truth_tables.specs.TableUnits.{assigned_by, header_refused, row_units, some_aims}
 use Rattle.truth_tables.specs.TableWalks.{WalksTable, given_by, places_by}
@@ -42,12 +42,12 @@ returns-in-Some g c =
 
 pub walk_headed-requires : goal.walk_headed-requires
 walk_headed-requires g c =
-    let n = c.scope-names.result.now in
+    let n = c.args.scope.now in
     let v = g.D.Device.table in
     let d = context_for v n in
     let t = c.args.table.now in
     let before = c.args.out.now.before in
-    let header = c.in_ok-header.ensures.header d before (is_context v n) (λ s p. refl) in
+    let header = c.in_ok-header.ensures.header d before (same_context v c.scope-names.result.now n c.scope-names.ensures) (λ s p. refl) in
     let outputs = c.as_slice.ensures ∙ header.outputs in
     let clear = sym c.in-None.is ∙ header.fault in
     record {
@@ -62,19 +62,18 @@ pub returns : goal.returns
 returns g c =
     on_ok_weaker c.walk_headed.result
     (λ k.
-    let n = c.scope-names.result.now in
+    let n = c.args.scope.now in
     let v = g.D.Device.table in
     let d = context_for v n in
     let t = c.args.table.now in
     let old = c.args.out.now in
-    subst (λ (names : Names). WalksTable v names c.args.guard t old c.walk_headed.new.out) c.scope-names.ensures
-    (λ all a.
+    λ all a.
     let xs = c.as_slice.result.now in
-    let header = c.in_ok-header.ensures.header d all (is_context v n) a in
+    let header = c.in_ok-header.ensures.header d all (same_context v c.scope-names.result.now n c.scope-names.ensures) a in
     let outputs = c.as_slice.ensures ∙ header.outputs in
     let clear = sym c.in-None.is ∙ header.fault in
     let ms = assigned_by t.clocked (output_header d (view t.outputs)) in
     table_works (λ us gs ps. Walks all us gs ps ms old c.walk_headed.new.out) d all (arena old.exprs) c.args.guard t xs (outputs_named d all t xs outputs clear) outputs clear
     (header_noted all ms c.read_header.new.before _ _ _ old c.walk_headed.new.out
-    (k (all ++ ms) (c.in_ok-header.ensures.before d all (is_context v n) a)))))
+    (k (all ++ ms) (c.in_ok-header.ensures.before d all (same_context v c.scope-names.result.now n c.scope-names.ensures) a))))
     c.walk_headed.ensures

@@ -2,11 +2,12 @@
 use Rattle.std.proofs.Common.{map, subst, ap, ◌∙◌}
 use Rattle.std.proofs.lemmas.Result.{on_ok_weaker}
 use Rattle.bit_expr.specs.Arena.{arena}
+use Rattle.abel_tree.specs.declared.names.Names.{Names}
 use Rattle.abel_tree.specs.View.{view, view_row}
 use Rattle.abel_meaning.specs.CountedNodes.{term_nodes}
 use Rattle.set_expr.specs.Given.{view_guard}
-use Rattle.section_targets.specs.Contexts.{context_for}
-use Rattle.truth_tables.specs.RowWalks.{WalksWork, no_matches_work}
+use Rattle.set_expr.specs.Contexts.{context_for}
+use Rattle.truth_tables.specs.RowWalks.{WalksNoMatches, WalksWork, no_matches_work}
 use Rattle.truth_tables.specs.Rows.{rows_work}
 use Rattle.truth_tables.proofs.RowWorks.{rows_any}
 use Rattle.truth_tables.proofs.RowsWalked.{work_then}
@@ -23,7 +24,7 @@ returns g c =
     let d = context_for v c.args.scope.now in
     let nodes = term_nodes d (view h.table.now.inputs) in
     work_then (no_matches_work v c.args.scope.now h old) (rows_work d (view_guard (arena old.exprs) h.guard) h.table.now h.outputs.now nodes (map view_row h.table.now.rows)) old mid c.walk_rows.new.out
-    c.in_ok-walk_outputs.ensures
+    (subst (λ (n : Names). WalksNoMatches v n h old mid) c.scope.ensures c.in_ok-walk_outputs.ensures)
     (subst (λ w. WalksWork w mid c.walk_rows.new.out)
     (ap (λ rs. rows_work d (view_guard (arena mid.exprs) h.guard) h.table.now h.outputs.now nodes (map view_row rs)) c.as_slice.ensures ∙ rows_any d (arena mid.exprs) (arena old.exprs) h.guard h.table.now h.outputs.now nodes (map view_row h.table.now.rows)) k))
     c.walk_rows.ensures

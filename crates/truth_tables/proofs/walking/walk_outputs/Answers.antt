@@ -5,7 +5,7 @@ use Rattle.bit_expr.specs.Arena.{arena}
 use Rattle.abel_meaning.specs.FormulaBits.{formulas}
 use Rattle.abel_meaning.specs.Tables.{no_matches}
 use Rattle.set_expr.specs.Given.{view_guard}
-use Rattle.section_targets.specs.Contexts.{context_for}
+use Rattle.set_expr.specs.Contexts.{context_for}
 use Rattle.truth_tables.specs.Gives.{signals_of}
 use Rattle.truth_tables.specs.RowWalks.{no_matches_work}
 use Rattle.truth_tables.specs.TableUnits.{places_of, some_aims}

@@ -7,12 +7,12 @@ use Rattle.abel_meaning.specs.Terms.{term_of}
 use Rattle.set_expr.specs.Answer.{AreIn}
 use Rattle.set_expr.specs.Given.{view_guard}
 use Rattle.section_targets.specs.declared.walked.Walked.{Walked}
-use Rattle.section_targets.specs.Contexts.{context_for}
+use Rattle.set_expr.specs.Contexts.{context_for}
 use Rattle.section_targets.specs.Walking.{standing}
 use Rattle.truth_tables.specs.Products.{StandForInputs}
 use Rattle.truth_tables.proofs.RowWorks.{row_built}
 use Rattle.truth_tables.proofs.RowsWalked.{is_over, row_accepted, row_made, row_stands}
-use Rattle.truth_tables.proofs.walking.walk_row.Goals as goal
+use Rattle.truth_tables.proofs.row_walks.walk_row.Goals as goal
 
 pub returns-then-refuse : goal.returns-then-refuse
 returns-then-refuse g c =
@@ -24,8 +24,8 @@ returns-then-refuse g c =
 pub give_found-made-requires-clause-signals : goal.give_found-made-requires-clause-signals
 give_found-made-requires-clause-signals g c = c.requires.accepted.signals
 
-pub give_found-made-requires-clause-inputs : goal.give_found-made-requires-clause-inputs
-give_found-made-requires-clause-inputs g c =
+pub give_found-made-requires-clause-bits : goal.give_found-made-requires-clause-bits
+give_found-made-requires-clause-bits g c =
     let clear = row_accepted c.in_ok-found.found.fault c.args.out.now c.refuse.new.self c.refuse.ensures.first (sym c.refuse.ensures.refused ∙ c.if-refuse.false) in
     subst (λ (w : Walked). AreIn (length (arena w.exprs)) c.args.begun.now.inputs.now) (sym c.refuse.ensures.first) (c.requires.inputs clear.0).inside
 

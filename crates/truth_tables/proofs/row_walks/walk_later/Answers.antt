@@ -5,14 +5,14 @@ use Rattle.abel_tree.specs.View.{view, view_row}
 use Rattle.abel_meaning.specs.Terms.{term_of}
 use Rattle.set_expr.specs.Given.{view_guard}
 use Rattle.set_expr.proofs.FoundMembers.{front_more, whole_front}
-use Rattle.section_targets.specs.Contexts.{context_for}
+use Rattle.set_expr.specs.Contexts.{context_for}
 use Rattle.equations.proofs.BuiltParts.{keeps_longer}
 use Rattle.truth_tables.specs.RowWalks.{WalksWork}
 use Rattle.truth_tables.specs.Rows.{row_work, rows_work}
 use Rattle.truth_tables.specs.Works.{Work}
 use Rattle.truth_tables.proofs.RowWorks.{inputs_kept, rows_more}
 use Rattle.truth_tables.proofs.RowsWalked.{work_clear, work_keeps, work_none, work_then}
-use Rattle.truth_tables.proofs.walking.walk_later.Goals as goal
+use Rattle.truth_tables.proofs.row_walks.walk_later.Goals as goal
 
 pub loop-row-init : goal.loop-row-init
 loop-row-init g c = work_none c.args.out.now
