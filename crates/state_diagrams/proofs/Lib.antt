@@ -10,7 +10,6 @@ pub mod LiteralLaws
 pub mod MatchLaws
 pub mod NumberLaws
 pub mod PushedLaws
-pub mod ReadLaws
 pub mod RegisterLaws
 pub mod StateBits
 pub mod StateLaws

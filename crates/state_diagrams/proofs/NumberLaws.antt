@@ -32,7 +32,7 @@ use Rattle.set_expr.specs.SectionOrder.{section_order}
 use Rattle.set_expr.specs.Shapes.{HasShape}
 use Rattle.section_targets.specs.Building.{AreBits}
 use Rattle.expr_bits.proofs.Linked.{IsLinkedIf, expression_linked}
-use Rattle.state_diagrams.specs.StateValues.{reads_signal, any_reads_signal}
+use Rattle.expr_bits.specs.Reads.{reads_signal, any_reads_signal}
 use Rattle.state_diagrams.specs.Still.{all_zero, level_of, met_levels, HasDigits, HasDigitsBy, HasFew}
 
 -- ---- what reads no signal has one value at all points

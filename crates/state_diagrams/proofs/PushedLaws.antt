@@ -25,15 +25,6 @@ use Rattle.state_diagrams.proofs.MatchLaws.{places, Inside, front_inside, pushed
 pub pushed_none : (all list : List Contribution) → IsPushed all all list list
 pushed_none all list = record { front = []; whole = refl; pushed = sym (append-nil list) }
 
--- some more behind what is pushed
-pub pushed_next : (all some rest list mid more : List Contribution) → IsPushed all (some ++ rest) list mid → more ≡ mid ++ some → IsPushed all rest list more
-pushed_next all some rest list mid more p e =
-    record {
-      front = p.front ++ some;
-      whole = p.whole ∙ sym (append_assoc p.front some rest);
-      pushed = e ∙ ap (λ xs. xs ++ some) p.pushed ∙ append_assoc list p.front some;
-    }
-
 -- a front of some more
 pub pushed_front : (all some rest list mid more : List Contribution) → IsPushed all (some ++ rest) list mid → (f : SectionFault) → Pushes some mid more (Err f) → Pushes all list more (Err f)
 pushed_front all some rest list mid more p fault.OutOfMemory q = (

@@ -1,5 +1,5 @@
 -- The first refusal of a state's value, and the units of states one after another.
-use Rattle.std.proofs.Common.{◌≡◌, ℕ, ◌^◌, Bool, true, false, not, ◌&&◌, nat_lt, Option, None, Some, List, [], ◌∷◌, ◌++◌, if◌then◌else◌, length, refl, sym, ap, ap₂, ◌∙◌, append_assoc, append-nil}
+use Rattle.std.proofs.Common.{◌≡◌, ℕ, ◌^◌, Bool, true, false, not, ◌&&◌, nat_lt, Option, None, Some, List, [], ◌∷◌, ◌++◌, if◌then◌else◌, length, refl, sym, ap, ◌∙◌, append_assoc, append-nil}
 use Rattle.std.specs.Prelude.{◌==◌}
 use Rattle.std.specs.List.{list_any}
 use Rattle.pld_base.specs.declared.place.Place.{Place}
@@ -11,22 +11,15 @@ use Rattle.set_expr.specs.declared.fault.SectionFault.{SectionFault}
 use Rattle.set_expr.specs.declared.fault.SectionFault.TheVariants.{BadState}
 use Rattle.set_expr.specs.Refusals.{Found}
 use Rattle.set_expr.specs.SectionOrder.{section_order}
+use Rattle.expr_bits.specs.Reads.{reads_signal}
 use Rattle.section_targets.specs.declared.manner.Manner.{Manner}
 use Rattle.section_targets.specs.Units.{CountedUnit}
 use Rattle.state_diagrams.specs.DiagramUnits.{manners_behind, state_guard, state_manners, states_manners, units_of_state, units_of_states}
-use Rattle.state_diagrams.specs.StateValues.{if_none, is_empty, is_state_of, listed_after, listed_with, reads_signal, state_number, state_refused, state_value_refused}
+use Rattle.state_diagrams.specs.StateValues.{if_none, is_empty, is_state_of, listed_after, listed_with, state_number, state_refused, state_value_refused}
 use Rattle.state_diagrams.specs.States.{listed_behind, listed_if}
 use Rattle.state_diagrams.proofs.ArmLaws.{first}
 
 -- ---- values
-
--- refused inside
-pub inside_refused : (d : Context) (p : Place) (n : ℕ) (listed : List ℕ) (f : Found) (v : Tree) (x : SectionFault) → Some x ≡ first f.refusals → Some x ≡ first (state_value_refused d p n listed f v)
-inside_refused d p n listed f v x e = by f.refusals e
-  where
-    by : (rs : List SectionFault) → Some x ≡ first rs → Some x ≡ first (if_none rs (if is_state_of d n listed f.specials v then [] else BadState p ∷ []))
-    by [] e = absurd cc
-    by (r ∷ rs) e = e
 
 at_state : (d : Context) (p : Place) (n : ℕ) (listed : List ℕ) (f : Found) (v : Tree) (b : Bool) → None ≡ first f.refusals → is_state_of d n listed f.specials v ≡ b → (if b then None else Some (BadState p)) ≡ first (state_value_refused d p n listed f v)
 at_state d p n listed f v b e h = by f.refusals (none_refused section_order f.refusals e) b h
@@ -36,14 +29,6 @@ at_state d p n listed f v b e h = by f.refusals (none_refused section_order f.re
     by [] e false h = rw h refl
     by (r ∷ rs) e b h = absurd cc
 
--- an X stands in it
-pub unknown_refused : (d : Context) (p : Place) (n : ℕ) (listed : List ℕ) (f : Found) (v : Tree) (x : SectionFault) → None ≡ first f.refusals → Some x ≡ first f.specials → Some (BadState p) ≡ first (state_value_refused d p n listed f v)
-unknown_refused d p n listed f v x e h = at_state d p n listed f v false e (by f.specials h)
-  where
-    by : (rs : List SectionFault) → Some x ≡ first rs → is_state_of d n listed rs v ≡ false
-    by [] h = absurd cc
-    by (r ∷ rs) h = refl
-
 -- it reads a signal
 pub read_refused : (d : Context) (p : Place) (n : ℕ) (listed : List ℕ) (f : Found) (v : Tree) → None ≡ first f.refusals → reads_signal (term_of d.known v) ≡ true → Some (BadState p) ≡ first (state_value_refused d p n listed f v)
 read_refused d p n listed f v e h = at_state d p n listed f v false e (by (is_empty f.specials) (reads_signal (term_of d.known v)) h)
@@ -52,15 +37,6 @@ read_refused d p n listed f v e h = at_state d p n listed f v false e (by (is_em
     by a false h = absurd cc
     by true true h = refl
     by false true h = refl
-
--- it is a number that the registers hold or not, and is listed or not
-pub number_refused : (d : Context) (p : Place) (n : ℕ) (listed : List ℕ) (f : Found) (v : Tree) (m : ℕ) (b : Bool) → f.refusals ≡ [] → f.specials ≡ [] → reads_signal (term_of d.known v) ≡ false → m ≡ state_number d v
-    → (nat_lt m (2 ^ n) && not (list_any (λ k. k == m) listed)) ≡ b
-    → (if b then None else Some (BadState p)) ≡ first (state_value_refused d p n listed f v)
-number_refused d p n listed f v m b r s h e k =
-    at_state d p n listed f v b (sym (ap first r))
-    (ap₂ (λ xs y. is_empty xs && (not y && (nat_lt (state_number d v) (2 ^ n) && not (list_any (λ i. i == state_number d v) listed)))) s h
-    ∙ ap (λ j. nat_lt j (2 ^ n) && not (list_any (λ i. i == j) listed)) (sym e) ∙ k)
 
 -- a state that isn't refused is listed
 pub listed_as : (d : Context) (n : ℕ) (listed : List ℕ) (s : StateTree) (m : ℕ) (f : Option SectionFault) → f ≡ first (state_refused d n listed s) → (f ≡ None → m ≡ state_number d s.value) → listed_if f listed m ≡ listed_after d n listed s

@@ -1,11 +1,11 @@
 -- The walk over a whole diagram, part by part.
-use Rattle.std.proofs.Common.{◌≡◌, false, true, Bool, Option, None, Some, List, [], ◌∷◌, ◌++◌, length, map, refl, sym, ap, ◌∙◌, if◌then◌else◌, subst, append_assoc, append-nil}
+use Rattle.std.proofs.Common.{◌≡◌, false, true, Bool, None, Some, List, [], ◌∷◌, ◌++◌, length, map, refl, sym, ap, ◌∙◌, subst, append_assoc, append-nil}
 use Rattle.std.specs.Option.{is_some}
 use Rattle.pld_base.specs.declared.place.Place.{Place}
 use Rattle.bit_expr.specs.Arena.{arena}
 use Rattle.bit_expr.specs.Formulas.{Formula}
 use Rattle.abel_tree.specs.declared.diagrams.Diagram.{Diagram}
-use Rattle.abel_tree.specs.FirstRefusal.{earlier, first_refusal, is_before}
+use Rattle.abel_tree.specs.FirstRefusal.{earlier, first_refusal}
 use Rattle.abel_tree.proofs.FirstRefusals.{none_refused}
 use Rattle.abel_tree.specs.Tree.{Tree, StateTree}
 use Rattle.abel_tree.specs.View.{view, view_state}
@@ -38,6 +38,7 @@ use Rattle.state_diagrams.specs.StateValues.{if_none}
 use Rattle.state_diagrams.proofs.DiagramBuilt.{registers_split}
 use Rattle.state_diagrams.proofs.StateLaws.{manners_accepted}
 use Rattle.truth_tables.specs.Works.{Work}
+use Rattle.truth_tables.proofs.RowsWalked.{some_refused}
 
 -- ---- where something is refused, what is given doesn't count
 
@@ -57,10 +58,6 @@ walks_built all ms us gs ps old new e w =
       clear,
       record { accepted = left_empty (units_refused us) (limit_refused count us) none; within = right_empty (units_refused us) (limit_refused count us) none; made = w.given e },
     )
-
-pub no_fault : (f : Option SectionFault) → is_some f ≡ false → f ≡ None
-no_fault None e = refl
-no_fault (Some x) e = absurd cc
 
 -- nothing is given behind what is refused
 pub header_refused : (all : List Manner) (gs : List (meant.Contribution Formula)) (ps : List Place) (out : Walked) → is_some out.fault ≡ true → AreFirsts out.before all → Walks all [] gs ps [] out out
@@ -116,20 +113,11 @@ diagram_walks d all before fs g x xs old new clear e w =
     subst (λ ns. Walks all (units_of d all x) (given_by d g x fs) (places_by d x) ns old new) (manners_accepted (registers_refused d all t) (register_manners t) (states_manners d ss) clear)
     (noted_walks all (register_manners t) (states_manners d ss) before (units_of d all x) (given_by d g x fs) (places_by d x) old new behind)
 
--- something is refused where a refusal is kept
-some_earlier : (f : Option SectionFault) (g : SectionFault) → is_some (earlier section_order f (Some g)) ≡ true
-some_earlier None g = refl
-some_earlier (Some x) g = chosen (is_before section_order g x)
-  where
-    chosen : (b : Bool) → is_some (if b then Some g else Some x) ≡ true
-    chosen true = refl
-    chosen false = refl
-
 -- a diagram whose registers are refused
 pub diagram_refused : (all ms ns : List Manner) (rs : List SectionFault) (p : Place) (us : List CountedUnit) (gs : List (meant.Contribution Formula)) (ps : List Place) (f : SectionFault) (old new : Walked)
     → Some f ≡ first_refusal section_order rs → new.fault ≡ earlier section_order old.fault (Some f) → new.exprs ≡ old.exprs → AreFirsts new.before (all ++ ms)
     → Walks all (units_behind rs p us) gs ps (ms ++ manners_behind rs ns) old new
 diagram_refused all ms ns [] p us gs ps f old new e k x a = absurd cc
 diagram_refused all ms ns (r ∷ rs) p us gs ps f old new e k x a =
-    walks_refused all (ms ++ []) (record { place = p; refusals = r ∷ rs; nodes = 0 }) gs ps (Some f) old new (e ∙ ap (first_refusal section_order) (sym (append-nil (r ∷ rs)))) k (ap is_some k ∙ some_earlier old.fault f) x
+    walks_refused all (ms ++ []) (record { place = p; refusals = r ∷ rs; nodes = 0 }) gs ps (Some f) old new (e ∙ ap (first_refusal section_order) (sym (append-nil (r ∷ rs)))) k (ap is_some k ∙ some_refused old.fault f) x
     (subst (λ xs. AreFirsts new.before (all ++ xs)) (sym (append-nil ms)) a)

@@ -16,7 +16,7 @@ use Rattle.abel_meaning.specs.Designs.{Context}
 use Rattle.set_expr.specs.declared.fault.SectionFault.{SectionFault}
 use Rattle.set_expr.specs.SectionOrder.{section_order}
 use Rattle.section_targets.specs.Building.{BuildsNodes, IsBit}
-use Rattle.section_targets.specs.Contexts.{context_for}
+use Rattle.set_expr.specs.Contexts.{context_for}
 use Rattle.section_targets.specs.Units.{CountedUnit, part}
 use Rattle.state_diagrams.specs.DiagramUnits.{choices_refused}
 

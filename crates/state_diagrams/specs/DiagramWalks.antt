@@ -20,7 +20,7 @@ use Rattle.set_expr.specs.FoundNames.{expression_found}
 use Rattle.set_expr.specs.Given.{view_guard}
 use Rattle.section_targets.specs.declared.manner.Manner.{Manner}
 use Rattle.section_targets.specs.declared.walked.Walked.{Walked}
-use Rattle.section_targets.specs.Contexts.{context_for}
+use Rattle.set_expr.specs.Contexts.{context_for}
 use Rattle.section_targets.specs.Manners.{AreFirsts}
 use Rattle.section_targets.specs.TargetSignals.{target_member}
 use Rattle.section_targets.specs.Units.{CountedUnit}
@@ -38,7 +38,7 @@ use Rattle.state_diagrams.specs.StateValues.{state_refused}
 use Rattle.truth_tables.specs.Works.{Work}
 
 -- the context of a machine
-abbrev pub context_of_machine : Table → Machine → Context
+abbrev pub context_of_machine : {D : Type 0} → Table → Machine D → Context
 context_of_machine t m = context_for t m.scope.now
 
 -- units with what they give, behind all that assigned signals before
@@ -48,7 +48,7 @@ WalksWork all w ms old new = Walks all w.units w.gives w.places ms old new
 -- ---- transitions
 
 -- a goal without the statements behind it
-abbrev pub WalksValue : Table → Machine → Guard → Goal → (old new : Walked) → Type 0
+abbrev pub WalksValue : {D : Type 0} → Table → Machine D → Guard → Goal → (old new : Walked) → Type 0
 WalksValue t m g x old new =
     (all : List Manner) → AreFirsts old.before all
     → WalksWork all
@@ -62,20 +62,20 @@ WalksConditions t n g p cs old new =
     (all : List Manner) → AreFirsts old.before all
     → Walks all (case_unit (context_for t n) (formula_at (arena old.exprs) g) p cs ∷ []) [] [] [] old new
 
-abbrev pub WalksBranch : Table → Machine → Guard → Branch → (old new : Walked) → Type 0
+abbrev pub WalksBranch : {D : Type 0} → Table → Machine D → Guard → Branch → (old new : Walked) → Type 0
 WalksBranch t m g b old new =
     (all : List Manner) → AreFirsts old.before all
     → WalksWork all (branch_work (context_of_machine t m) (view_guard (arena old.exprs) g) m.registers.now all b)
     (branch_manners (context_of_machine t m) b) old new
 
 -- the arms of CASE without their conditions
-abbrev pub WalksChoices : Table → Machine → Guard → Choices → (old new : Walked) → Type 0
+abbrev pub WalksChoices : {D : Type 0} → Table → Machine D → Guard → Choices → (old new : Walked) → Type 0
 WalksChoices t m g cs old new =
     (all : List Manner) → AreFirsts old.before all
     → WalksWork all (choices_work (context_of_machine t m) (view_guard (arena old.exprs) g) m.registers.now all cs)
     (choices_manners (context_of_machine t m) cs) old new
 
-abbrev pub WalksBranches : Table → Machine → Guard → List Branch → (old new : Walked) → Type 0
+abbrev pub WalksBranches : {D : Type 0} → Table → Machine D → Guard → List Branch → (old new : Walked) → Type 0
 WalksBranches t m g bs old new =
     (all : List Manner) → AreFirsts old.before all
     → WalksWork all (branches_work (context_of_machine t m) (view_guard (arena old.exprs) g) m.registers.now all bs)
@@ -84,7 +84,7 @@ WalksBranches t m g bs old new =
 -- ---- states
 
 -- what was found is the value of the state behind those that are listed
-abbrev pub HasValue : Table → Machine → (listed : List ℕ) → Valued → Type 0
+abbrev pub HasValue : {D : Type 0} → Table → Machine D → (listed : List ℕ) → Valued → Type 0
 HasValue t m listed v =
     IsState (context_of_machine t m) (length m.registers.now) listed (view_state v.state.now) v.found
 
@@ -93,26 +93,26 @@ abbrev pub state_unit : Context → List ℕ → (listed : List ℕ) → StateTr
 state_unit d ss listed s =
     record { place = s.place; refusals = state_refused d (length ss) listed s; nodes = (state_guard d ss s.value).nodes }
 
-abbrev pub WalksUnit : Table → Machine → (listed : List ℕ) → StateTree → (old new : Walked) → Type 0
+abbrev pub WalksUnit : {D : Type 0} → Table → Machine D → (listed : List ℕ) → StateTree → (old new : Walked) → Type 0
 WalksUnit t m listed s old new =
     (all : List Manner) → AreFirsts old.before all
     → Walks all (state_unit (context_of_machine t m) (signals_of m.registers.now) listed s ∷ []) [] [] [] old new
 
 -- what stands in a state, under its guard
-abbrev pub WalksWithin : Table → Machine → Guard → StateTree → (old new : Walked) → Type 0
+abbrev pub WalksWithin : {D : Type 0} → Table → Machine D → Guard → StateTree → (old new : Walked) → Type 0
 WalksWithin t m g s old new =
     (all : List Manner) → AreFirsts old.before all
     → WalksWork all (within_work (context_of_machine t m) (view_guard (arena old.exprs) g) m.registers.now all s)
     (state_manners (context_of_machine t m) s) old new
 
 -- a state behind those that are listed
-abbrev pub WalksState : Table → Machine → Guard → (listed : List ℕ) → StateTree → (old new : Walked) → Type 0
+abbrev pub WalksState : {D : Type 0} → Table → Machine D → Guard → (listed : List ℕ) → StateTree → (old new : Walked) → Type 0
 WalksState t m g listed s old new =
     (all : List Manner) → AreFirsts old.before all
     → WalksWork all (state_work (context_of_machine t m) (view_guard (arena old.exprs) g) m.registers.now all listed s)
     (state_manners (context_of_machine t m) s) old new
 
-abbrev pub WalksStates : Table → Machine → Guard → List StateTree → (old new : Walked) → Type 0
+abbrev pub WalksStates : {D : Type 0} → Table → Machine D → Guard → List StateTree → (old new : Walked) → Type 0
 WalksStates t m g states old new =
     (all : List Manner) → AreFirsts old.before all
     → WalksWork all (states_work (context_of_machine t m) (view_guard (arena old.exprs) g) m.registers.now all [] states)
@@ -121,20 +121,20 @@ WalksStates t m g states old new =
 -- ---- diagrams
 
 -- no match for each register
-abbrev pub WalksHeader : Table → Machine → Guard → (old new : Walked) → Type 0
+abbrev pub WalksHeader : {D : Type 0} → Table → Machine D → Guard → (old new : Walked) → Type 0
 WalksHeader t m g old new =
     (all : List Manner) → AreFirsts old.before all
     → WalksWork all (header_work (context_of_machine t m) (view_guard (arena old.exprs) g) m.registers.now) [] old new
 
 -- states with the matches of signals that are no registers
-abbrev pub WalksOthers : Table → Machine → Guard → List StateTree → (old new : Walked) → Type 0
+abbrev pub WalksOthers : {D : Type 0} → Table → Machine D → Guard → List StateTree → (old new : Walked) → Type 0
 WalksOthers t m g states old new =
     (all : List Manner) → AreFirsts old.before all
     → WalksWork all (others_work (context_of_machine t m) (view_guard (arena old.exprs) g) m.registers.now all states)
     (states_manners (context_of_machine t m) states) old new
 
 -- a diagram of registers that aren't refused
-abbrev pub WalksRegisters : Table → Machine → Guard → List StateTree → (old new : Walked) → Type 0
+abbrev pub WalksRegisters : {D : Type 0} → Table → Machine D → Guard → List StateTree → (old new : Walked) → Type 0
 WalksRegisters t m g states old new =
     (all : List Manner) → AreFirsts old.before all
     → WalksWork all (registers_work (context_of_machine t m) (view_guard (arena old.exprs) g) m.registers.now all states)

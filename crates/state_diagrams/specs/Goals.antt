@@ -3,7 +3,6 @@ use Rattle.std.specs.Prelude.{◌≡◌, List, [], ◌∷◌, length, map, Resul
 use Rattle.pld_base.specs.declared.place.Place.{Place}
 use Rattle.pld_device.specs.Table.{Table}
 use Rattle.bit_expr.specs.declared.node.ExprId.{ExprId}
-use Rattle.bit_expr.specs.declared.node.Node.{Node}
 use Rattle.bit_expr.specs.Arena.{arena, formula_at}
 use Rattle.bit_expr.specs.Folding.{make_and}
 use Rattle.bit_expr.specs.Formulas.{Formula}
@@ -17,14 +16,14 @@ use Rattle.abel_meaning.specs.Designs.{Context}
 use Rattle.abel_meaning.specs.Diagrams.{goal_gives}
 use Rattle.abel_meaning.specs.FormulaBits.{formulas}
 use Rattle.abel_meaning.specs.Terms.{term_of}
-use Rattle.set_expr.specs.declared.contributions.Contribution.{Contribution}
 use Rattle.set_expr.specs.declared.contributions.Guard.{Guard}
 use Rattle.set_expr.specs.declared.fault.SectionFault.{SectionFault}
 use Rattle.set_expr.specs.Given.{view_guard}
 use Rattle.section_targets.specs.declared.aim.Aim.{Aim}
 use Rattle.section_targets.specs.declared.walked.Walked.{Walked}
-use Rattle.section_targets.specs.Contexts.{context_for}
+use Rattle.set_expr.specs.Contexts.{context_for}
 use Rattle.section_targets.specs.Units.{CountedUnit, part}
+use Rattle.state_diagrams.specs.declared.goals.GoalUnit.{GoalUnit}
 use Rattle.state_diagrams.specs.declared.machine.Machine.{Machine}
 use Rattle.state_diagrams.specs.DiagramUnits.{signals_of}
 use Rattle.truth_tables.specs.Rows.{Does}
@@ -42,15 +41,14 @@ abbrev pub goal_work : Context → meant.Guard Formula → Place → List Aim �
 goal_work d h p aims ws =
     record { units = goal_parts p h.holds aims ws; gives = goal_gives (formulas d) d h (signals_of aims) ws; places = goal_places aims }
 
-abbrev pub GivesRegisters : Names → Guard → Place → List Aim → List ExprId → (old new : List Node)
-    → (list more : List Contribution) → Result Unit SectionFault → Type 0
-GivesRegisters n g p aims ids old new list more r =
+abbrev pub GivesRegisters : Names → GoalUnit → List Aim → List ExprId → (old new : Walked) → Result Unit SectionFault → Type 0
+GivesRegisters n u aims ids old new r =
     (d : Context) → d.names ≡ entries_of n
-    → Does (goal_work d (view_guard (arena old) g) p aims (map (formula_at (arena old)) ids)) old new list more r
+    → Does (goal_work d (view_guard (arena old.exprs) u.guard) u.place aims (map (formula_at (arena old.exprs)) ids))
+    old.exprs new.exprs old.list.items new.list.items r
 
-abbrev pub GivesRegister : Names → Guard → Place → Aim → ExprId → (old new : List Node)
-    → (list more : List Contribution) → Result Unit SectionFault → Type 0
-GivesRegister n g p a id old new list more r = GivesRegisters n g p (a ∷ []) (id ∷ []) old new list more r
+abbrev pub GivesRegister : Names → GoalUnit → Aim → ExprId → (old new : Walked) → Result Unit SectionFault → Type 0
+GivesRegister n u a id old new r = GivesRegisters n u (a ∷ []) (id ∷ []) old new r
 
 -- a goal as a unit with these refusals
 abbrev pub goal_unit : Context → meant.Guard Formula → List Aim → Goal → List SectionFault → Work
@@ -61,6 +59,6 @@ goal_unit d h aims g rs =
       places = goal_places aims;
     }
 
-abbrev pub GivesGoal : Table → Machine → Guard → Goal → (old new : Walked) → Result Unit SectionFault → Type 0
+abbrev pub GivesGoal : {D : Type 0} → Table → Machine D → Guard → Goal → (old new : Walked) → Result Unit SectionFault → Type 0
 GivesGoal t m g x old new r =
     Does (goal_unit (context_for t m.scope.now) (view_guard (arena old.exprs) g) m.registers.now x []) old.exprs new.exprs old.list.items new.list.items r

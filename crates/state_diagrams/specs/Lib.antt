@@ -9,7 +9,6 @@ pub mod Literals
 pub mod Matches
 pub mod Places
 pub mod Pushed
-pub mod Reads
 pub mod Registers
 pub mod StateGuards
 pub mod StateValues

@@ -1,13 +1,13 @@
 -- The value of a state: a constant without X that the registers hold, listed once (ABEL-HDL Reference Manual, state
 -- diagrams; which values are states is this project's rule).
-use Rattle.std.specs.Prelude.{ℕ, ◌^◌, ◌==◌, nat_lt, Bool, true, false, not, ◌&&◌, ◌||◌, List, [], ◌∷◌, ◌++◌, if◌then◌else◌}
+use Rattle.std.specs.Prelude.{ℕ, ◌^◌, ◌==◌, nat_lt, Bool, true, false, not, ◌&&◌, List, [], ◌∷◌, ◌++◌, if◌then◌else◌}
 use Rattle.std.specs.List.{list_any}
 use Rattle.pld_base.specs.declared.place.Place.{Place}
 use Rattle.abel_tree.specs.Tree.{Tree, StateTree}
 use Rattle.abel_meaning.specs.Designs.{Context}
-use Rattle.abel_meaning.specs.Terms.{Term, Terms, term_of}
-use Rattle.abel_meaning.specs.Terms as term
+use Rattle.abel_meaning.specs.Terms.{term_of}
 use Rattle.abel_meaning.specs.Values.{constant_of}
+use Rattle.expr_bits.specs.Reads.{reads_signal}
 use Rattle.set_expr.specs.declared.fault.SectionFault.{SectionFault}
 use Rattle.set_expr.specs.declared.fault.SectionFault.TheVariants.{BadState}
 use Rattle.set_expr.specs.FoundNames.{expression_found}
@@ -17,22 +17,6 @@ use Rattle.set_expr.specs.Refusals.{Found}
 abbrev pub if_none : List SectionFault → List SectionFault → List SectionFault
 if_none [] more = more
 if_none (x ∷ xs) more = x ∷ xs
-
--- some signal is read, whether or not the value depends on it
-abbrev mutual
-  pub reads_signal : Term → Bool
-  reads_signal (term.Number n) = false
-  reads_signal term.X = false
-  reads_signal term.Pulse = false
-  reads_signal term.Release = false
-  reads_signal (term.Read s e) = true
-  reads_signal (term.Set ts) = any_reads_signal ts
-  reads_signal (term.UnaryOf sign t) = reads_signal t
-  reads_signal (term.BinaryOf sign t u) = reads_signal t || reads_signal u
-
-  pub any_reads_signal : Terms → Bool
-  any_reads_signal term.NoTerm = false
-  any_reads_signal (term.Before t ts) = reads_signal t || any_reads_signal ts
 
 abbrev pub is_empty : List SectionFault → Bool
 is_empty [] = true

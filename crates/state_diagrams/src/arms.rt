@@ -5,7 +5,7 @@ ghost use Rattle.bit_expr.specs.Arena.{arena, formula_at};
 ghost use Rattle.abel_tree.specs.Entries.{entries_of};
 ghost use Rattle.abel_tree.specs.Tree.{ACase};
 ghost use Rattle.abel_tree.specs.View.{view_arm};
-ghost use Rattle.section_targets.specs.Contexts.{context_for};
+ghost use Rattle.set_expr.specs.Contexts.{context_for};
 ghost use Rattle.section_targets.specs.Given.{AreNamed, AreIn};
 ghost use Rattle.state_diagrams.specs.Arms.{case_choices, case_place, view_goal, view_if, view_arms, view_choices};
 ghost use Rattle.state_diagrams.specs.ArmGuards.{AreGuardsOf};
@@ -33,7 +33,7 @@ struct Guards<'a> {
 /// A goal with the statements behind it.
 fn walk_goal<D: Device>(
     alloc: Global,
-    machine: &Machine<'_>,
+    machine: &Machine<'_, D>,
     guard: Guard,
     goal: &Goal,
     out: &mut Walked,
@@ -53,7 +53,7 @@ fn walk_goal<D: Device>(
 #[cycle(walks)]
 fn walk_if<D: Device>(
     alloc: Global,
-    machine: &Machine<'_>,
+    machine: &Machine<'_, D>,
     guard: Guard,
     choice: &If,
     out: &mut Walked,
@@ -67,8 +67,7 @@ fn walk_if<D: Device>(
         expr: &choice.condition,
         otherwise: choice.otherwise.is_some(),
     };
-    let names = machine.scope.scope();
-    let chosen = walk_condition::<D>(alloc, names, guard.when, &condition, out)?;
+    let chosen = walk_condition::<D>(alloc, machine.scope, guard.when, &condition, out)?;
     let then = Guard {
         when: chosen.then,
         ..guard
@@ -90,7 +89,7 @@ fn walk_if<D: Device>(
 #[cycle(walks)]
 fn walk_choices<D: Device>(
     alloc: Global,
-    machine: &Machine<'_>,
+    machine: &Machine<'_, D>,
     guards: &Guards<'_>,
     arms: &[CaseArm],
     out: &mut Walked,
@@ -113,7 +112,7 @@ fn walk_choices<D: Device>(
 #[cycle(walks)]
 fn walk_case<D: Device>(
     alloc: Global,
-    machine: &Machine<'_>,
+    machine: &Machine<'_, D>,
     guard: Guard,
     case: &Case,
     out: &mut Walked,
@@ -122,8 +121,7 @@ fn walk_case<D: Device>(
     requires guard { guard.when.0 < length (arena out.old.exprs) }
     ensures { OnOk result (WalksBranch D.table machine.now guard (ACase (case_place case.now) (case_choices case.now)) out.old out.new) }
 {
-    let names = machine.scope.scope();
-    let bits = walk_conditions::<D>(alloc, names, guard.when, case, out)?;
+    let bits = walk_conditions::<D>(alloc, machine.scope, guard.when, case, out)?;
     let guards = Guards {
         outer: guard,
         bits: &bits,
@@ -136,7 +134,7 @@ fn walk_case<D: Device>(
 #[cycle(walks)]
 fn walk_arm<D: Device>(
     alloc: Global,
-    machine: &Machine<'_>,
+    machine: &Machine<'_, D>,
     guard: Guard,
     arm: &Arm,
     out: &mut Walked,
@@ -155,7 +153,7 @@ fn walk_arm<D: Device>(
 /// Transitions one after another.
 pub(crate) fn walk_arms<D: Device>(
     alloc: Global,
-    machine: &Machine<'_>,
+    machine: &Machine<'_, D>,
     guard: Guard,
     arms: &[Arm],
     out: &mut Walked,

@@ -3,7 +3,7 @@
 ghost use Rattle.std.specs.Prelude.{◌≡◌, ◌<◌, ℕ, None, get_or, length, IfOk};
 ghost use Rattle.bit_expr.specs.Arena.{arena, formula_at};
 ghost use Rattle.set_expr.specs.Answer.{Keeps};
-ghost use Rattle.section_targets.specs.Contexts.{context_for};
+ghost use Rattle.set_expr.specs.Contexts.{context_for};
 ghost use Rattle.section_targets.specs.Given.{AreIn};
 ghost use Rattle.state_diagrams.specs.Arms.{case_choices, case_place, view_choices};
 ghost use Rattle.state_diagrams.specs.ArmGuards.{AreGuardsOf, AreClear, MakesGuards, RefusesConditions};
@@ -11,10 +11,10 @@ ghost use Rattle.state_diagrams.specs.DiagramWalks.{WalksConditions};
 
 use abel_tree::{Case, CaseArm};
 use bit_expr::{ExprId, Exprs};
-use equations::{check_condition, then_guard};
-use pld_base::{OutOfMemory, Place};
+use equations::{Condition, check_condition, then_guard};
+use pld_base::OutOfMemory;
 use pld_device::Device;
-use section_targets::Walked;
+use section_targets::{SectionScope, Walked};
 use set_expr::{Guard, Scope, SectionFault, earlier};
 use std::alloc::Global;
 
@@ -34,24 +34,28 @@ fn check_conditions(
     Ok(fault)
 }
 
-/// The guards of arms whose conditions aren't refused, as nodes of the unit at this place.
+/// The guards of the arms of CASE, where no condition is refused, as nodes of its unit.
 fn make_guards<D: Device>(
     alloc: Global,
-    scope: &Scope<'_>,
+    scope: &SectionScope<'_, D>,
     guard: ExprId,
-    unit: Place,
-    arms: &[CaseArm],
+    case: &Case,
     exprs: &mut Exprs,
 ) -> Result<Vec<ExprId>, SectionFault>
     requires guard { guard.0 < length (arena exprs.old) }
-    requires accepted { AreClear D.table scope.now (view_choices arms.now) }
+    requires accepted { AreClear D.table scope.now (case_choices case.now) }
     ensures keeps { Keeps (arena exprs.old) (arena exprs.new) }
-    ensures builds { MakesGuards D.table scope.now guard unit (view_choices arms.now) exprs.old exprs.new result }
-    ensures guards { IfOk result (λ ids. AreGuardsOf (context_for D.table scope.now) (arena exprs.new) (formula_at (arena exprs.old) guard) (view_choices arms.now) ids.items) }
+    ensures builds { MakesGuards D.table scope.now guard (case_place case.now) (case_choices case.now) exprs.old exprs.new result }
+    ensures guards { IfOk result (λ ids. AreGuardsOf (context_for D.table scope.now) (arena exprs.new) (formula_at (arena exprs.old) guard) (case_choices case.now) ids.items) }
 {
     let mut guards = Vec::new(alloc);
-    for arm in arms {
-        let chosen = then_guard::<D>(alloc, scope, guard, unit, &arm.condition, exprs)?;
+    for arm in case.arms.as_slice() {
+        let condition = Condition {
+            unit: case.place,
+            expr: &arm.condition,
+            otherwise: false,
+        };
+        let chosen = then_guard::<D>(alloc, scope, guard, &condition, exprs)?;
         guards.push(chosen.then)?;
     }
     Ok(guards)
@@ -60,7 +64,7 @@ fn make_guards<D: Device>(
 /// The conditions of CASE as one unit: the guard of each arm, and none where something is refused.
 pub(crate) fn walk_conditions<D: Device>(
     alloc: Global,
-    scope: &Scope<'_>,
+    scope: &SectionScope<'_, D>,
     guard: ExprId,
     case: &Case,
     out: &mut Walked,
@@ -70,12 +74,11 @@ pub(crate) fn walk_conditions<D: Device>(
     ensures inside { IfOk result (λ ids. AreIn (length (arena out.new.exprs)) ids.items) }
     ensures guards { IfOk result (λ ids. out.new.fault ≡ None → AreGuardsOf (context_for D.table scope.now) (arena out.new.exprs) (formula_at (arena out.old.exprs) guard) (case_choices case.now) ids.items) }
 {
-    let arms = case.arms.as_slice();
-    let fault = check_conditions(alloc, scope, arms)?;
+    let fault = check_conditions(alloc, scope.scope(), case.arms.as_slice())?;
     if out.refuse(fault) {
         return Ok(Vec::new(alloc));
     }
-    match make_guards::<D>(alloc, scope, guard, case.place, arms, &mut out.exprs) {
+    match make_guards::<D>(alloc, scope, guard, case, &mut out.exprs) {
         Ok(guards) => Ok(guards),
         Err(fault) => {
             out.keep_limit(Err(fault))?;

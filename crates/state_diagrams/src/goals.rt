@@ -11,75 +11,79 @@ ghost use Rattle.state_diagrams.specs.DiagramWalks.{WalksValue};
 
 use crate::machine::Machine;
 use abel_tree::Goal;
-use bit_expr::{ExprId, Exprs};
-use equations::{refuse_value, value_bits};
+use bit_expr::ExprId;
+use equations::{Meets, refuse_value, value_bits};
 use pld_base::{OutOfMemory, Place};
 use pld_device::Device;
 use section_targets::{Aim, Giving, Walked, give};
-use set_expr::{Contribution, Gives, Guard, Scope, SectionFault};
+use set_expr::{Gives, Guard, Scope, SectionFault};
 use std::alloc::Global;
-use truth_tables::{Assigning, give_output};
+use truth_tables::{Assigning, Matching, give_output};
 
-/// A register is given its bit of a goal under a guard, and a match, as parts of the unit at this place.
+/// The unit of a goal at its place, under its guard.
+#[derive(Clone, Copy, PartialEq, Eq)]
+pub(crate) struct GoalUnit {
+    pub place: Place,
+    pub guard: Guard,
+}
+
+/// A register is given its bit of a goal, and a match, as parts of its unit.
 fn give_register(
     scope: &Scope<'_>,
-    guard: Guard,
-    unit: Place,
+    goal: GoalUnit,
     aim: Aim,
     bit: ExprId,
-    exprs: &mut Exprs,
-    list: &mut Vec<Contribution>,
+    out: &mut Walked,
 ) -> Result<(), SectionFault>
     requires signal { aim.signal < length (entries_of scope.now) }
-    requires guard { guard.when.0 < length (arena exprs.old) }
-    requires bit { bit.0 < length (arena exprs.old) }
-    ensures keeps { Keeps (arena exprs.old) (arena exprs.new) }
-    ensures gives { GivesRegister scope.now guard unit aim bit exprs.old exprs.new list.old.items list.new.items result }
+    requires guard { goal.guard.when.0 < length (arena out.old.exprs) }
+    requires bit { bit.0 < length (arena out.old.exprs) }
+    ensures before { out.new.before ≡ out.old.before }
+    ensures fault { out.new.fault ≡ out.old.fault }
+    ensures keeps { Keeps (arena out.old.exprs) (arena out.new.exprs) }
+    ensures gives { GivesRegister scope.now goal aim bit out.old out.new result }
 {
     let giving = Giving {
-        unit,
-        guard,
+        unit: goal.place,
+        guard: goal.guard,
         extension: None,
         complement: false,
         clocked: true,
         what: Gives::One,
     };
-    give(scope, giving, aim, bit, exprs, list)?;
+    give(scope, giving, aim, bit, &mut out.exprs, &mut out.list)?;
     let assigning = Assigning {
-        unit,
-        guard,
+        unit: goal.place,
+        guard: goal.guard,
         clocked: true,
     };
-    give_output(scope, assigning, Gives::Match, aim, guard.when, exprs, list)
+    let matching = Matching {
+        scope,
+        assigning,
+        bit: goal.guard.when,
+    };
+    give_output(&matching, Gives::Match, aim, &mut out.exprs, &mut out.list)
 }
 
 /// Each register is given its bit of a goal, from the left.
-fn give_registers(
-    scope: &Scope<'_>,
-    guard: Guard,
-    unit: Place,
-    registers: &[Aim],
+fn give_registers<D: Device>(
+    machine: &Machine<'_, D>,
+    goal: GoalUnit,
     bits: &[ExprId],
-    exprs: &mut Exprs,
-    list: &mut Vec<Contribution>,
+    out: &mut Walked,
 ) -> Result<(), SectionFault>
-    requires signals { AreNamed (length (entries_of scope.now)) registers.now }
-    requires guard { guard.when.0 < length (arena exprs.old) }
-    requires bits { AreIn (length (arena exprs.old)) bits.now }
-    requires each { length bits.now ≡ length registers.now }
-    ensures keeps { Keeps (arena exprs.old) (arena exprs.new) }
-    ensures gives { GivesRegisters scope.now guard unit registers.now bits.now exprs.old exprs.new list.old.items list.new.items result }
+    requires signals { AreNamed (length (entries_of machine.now.scope.now)) machine.now.registers.now }
+    requires guard { goal.guard.when.0 < length (arena out.old.exprs) }
+    requires bits { AreIn (length (arena out.old.exprs)) bits.now }
+    requires each { length bits.now ≡ length machine.now.registers.now }
+    ensures before { out.new.before ≡ out.old.before }
+    ensures fault { out.new.fault ≡ out.old.fault }
+    ensures gives { GivesRegisters machine.now.scope.now goal machine.now.registers.now bits.now out.old out.new result }
 {
-    for index in 0..registers.len() {
-        give_register(
-            scope,
-            guard,
-            unit,
-            registers[index],
-            bits[index],
-            exprs,
-            list,
-        )?;
+    let names = machine.scope.scope();
+    for index in 0..machine.registers.len() {
+        let aim = machine.registers[index];
+        give_register(names, goal, aim, bits[index], out)?;
     }
     Ok(())
 }
@@ -87,7 +91,7 @@ fn give_registers(
 /// A goal of which nothing is refused.
 fn give_goal<D: Device>(
     alloc: Global,
-    machine: &Machine<'_>,
+    machine: &Machine<'_, D>,
     guard: Guard,
     goal: &Goal,
     out: &mut Walked,
@@ -99,26 +103,22 @@ fn give_goal<D: Device>(
     ensures fault { out.new.fault ≡ out.old.fault }
     ensures gives { GivesGoal D.table machine.now guard goal.now out.old out.new result }
 {
-    let unit = goal.place;
-    let names = machine.scope.scope();
-    let registers = machine.registers;
-    let width = registers.len();
-    let bits = value_bits::<D>(alloc, names, &goal.value, width, unit, &mut out.exprs)?;
-    give_registers(
-        names,
+    let meets = Meets {
+        unit: goal.place,
+        signals: machine.registers.len(),
+    };
+    let bits = value_bits::<D>(alloc, machine.scope, &goal.value, meets, &mut out.exprs)?;
+    let unit = GoalUnit {
+        place: goal.place,
         guard,
-        unit,
-        registers,
-        &bits,
-        &mut out.exprs,
-        &mut out.list,
-    )
+    };
+    give_registers::<D>(machine, unit, &bits, out)
 }
 
 /// A goal without the statements behind it.
 pub(crate) fn walk_value<D: Device>(
     alloc: Global,
-    machine: &Machine<'_>,
+    machine: &Machine<'_, D>,
     guard: Guard,
     goal: &Goal,
     out: &mut Walked,

@@ -95,7 +95,7 @@ fn give_if_first(
 
 /// Appends, for each signal but the registers that some contribution behind `start` gives data to, a match where each of these
 /// bits is 1, from the first contribution to the signal, which says on the clock or not, complement and place.
-pub fn give_matches(
+pub(crate) fn give_matches(
     alloc: Global,
     registers: &[Aim],
     states: &[ExprId],

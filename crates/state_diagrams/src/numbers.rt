@@ -3,22 +3,23 @@
 ghost use Rattle.std.specs.Prelude.{◌≡◌, ◌<◌, ◌≤◌, ◌+◌, ◌*◌, false, None, All, length, map, IfOk};
 ghost use Rattle.bit_expr.specs.declared.node.ExprId.{ExprId};
 ghost use Rattle.bit_expr.specs.Arena.{arena};
+ghost use Rattle.abel_tree.specs.Entries.{entries_of};
 ghost use Rattle.abel_tree.specs.View.{view};
 ghost use Rattle.abel_meaning.specs.BitWords.{Word};
-ghost use Rattle.abel_meaning.specs.Designs.{Context};
 ghost use Rattle.abel_meaning.specs.Numbers.{Value, number_with, one_bit};
-ghost use Rattle.abel_meaning.specs.Terms.{term_of};
-ghost use Rattle.set_expr.specs.Answer.{IsContextOf, IsShaped, refusal_of};
-ghost use Rattle.state_diagrams.specs.StateValues.{reads_signal, state_number};
+ghost use Rattle.abel_meaning.specs.Terms.{known_of, term_of};
+ghost use Rattle.set_expr.specs.Answer.{IsShaped, refusal_of};
+ghost use Rattle.set_expr.specs.Contexts.{context_for};
+ghost use Rattle.expr_bits.specs.Reads.{reads_signal};
+ghost use Rattle.state_diagrams.specs.StateValues.{state_number};
 ghost use Rattle.state_diagrams.specs.Still.{level_of, met_levels, HasFew, HasDigits, Shows};
 
 use abel_tree::Expr;
 use bit_expr::{ExprId, Exprs};
-use expr_bits::bits;
 use pld_base::{OutOfMemory, Point};
 use pld_device::Device;
-use section_targets::meet;
-use set_expr::{Scope, Shape, Shaped};
+use section_targets::{SectionScope, meet};
+use set_expr::{Shape, Shaped};
 use std::alloc::Global;
 
 /// A digit more on the right of a number.
@@ -79,17 +80,17 @@ fn shaped_number(alloc: Global, exprs: &Exprs, shaped: &Shaped) -> Result<u32, O
 
 /// The number of an expression that reads no signal and of which nothing is refused. Its bits are built in an arena of
 /// their own, which want of memory alone can end, since no node is made.
-pub fn state_number<D: Device>(
+pub(crate) fn state_number<D: Device>(
     alloc: Global,
-    scope: &Scope<'_>,
+    scope: &SectionScope<'_, D>,
     value: &Expr,
 ) -> Result<u32, OutOfMemory>
     requires accepted { refusal_of scope.now (view value.now) ≡ None }
-    requires still { (d : Context) → IsContextOf D.table scope.now d → reads_signal (term_of d.known (view value.now)) ≡ false }
-    ensures { IfOk result (λ n. (d : Context) → IsContextOf D.table scope.now d → n ≡ state_number d (view value.now)) }
+    requires still { reads_signal (term_of (known_of (entries_of scope.now)) (view value.now)) ≡ false }
+    ensures { IfOk result (λ n. n ≡ state_number (context_for D.table scope.now) (view value.now)) }
 {
     let mut exprs = Exprs::new(alloc);
-    match bits::<D>(alloc, scope, value, &mut exprs) {
+    match scope.bits(alloc, value, &mut exprs) {
         Ok(shaped) => shaped_number(alloc, &exprs, &shaped),
         Err(_) => Err(OutOfMemory),
     }

@@ -1,9 +1,9 @@
 //! The registers of a diagram.
 
-ghost use Rattle.std.specs.Prelude.{◌≡◌, ◌++◌, None, List, IfOk, OnOk};
+ghost use Rattle.std.specs.Prelude.{◌++◌, None, List, IfOk, OnOk};
 ghost use Rattle.abel_tree.specs.View.{view};
 ghost use Rattle.section_targets.specs.declared.manner.Manner.{Manner};
-ghost use Rattle.section_targets.specs.Contexts.{context_for};
+ghost use Rattle.set_expr.specs.Contexts.{context_for};
 ghost use Rattle.section_targets.specs.Manners.{AreFirsts};
 ghost use Rattle.section_targets.specs.TargetSignals.{target_member};
 ghost use Rattle.state_diagrams.specs.DiagramUnits.{register_manners};
@@ -18,7 +18,7 @@ use std::alloc::Global;
 /// What is found of the registers of a diagram: the first refusal, or the registers from the left.
 pub(crate) fn check_registers<D: Device>(
     alloc: Global,
-    scope: &SectionScope<'_>,
+    scope: &SectionScope<'_, D>,
     registers: &Expr,
     before: &mut Assigned,
 ) -> Result<Side, OutOfMemory>

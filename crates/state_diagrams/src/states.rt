@@ -5,18 +5,16 @@ ghost use Rattle.bit_expr.specs.Arena.{arena};
 ghost use Rattle.abel_tree.specs.Entries.{entries_of};
 ghost use Rattle.abel_tree.specs.View.{view_state};
 ghost use Rattle.section_targets.specs.Building.{AreBits, IsBit};
-ghost use Rattle.section_targets.specs.Contexts.{context_for};
+ghost use Rattle.set_expr.specs.Contexts.{context_for};
 ghost use Rattle.section_targets.specs.Given.{AreNamed};
 ghost use Rattle.state_diagrams.specs.DiagramWalks.{HasValue, WalksState, WalksStates, WalksUnit, WalksWithin};
 ghost use Rattle.state_diagrams.specs.DiagramWorks.{state_bit, state_bits};
-ghost use Rattle.state_diagrams.specs.Reads.{AreRead};
 ghost use Rattle.state_diagrams.specs.States.{IsState, listed_if};
 ghost use Rattle.state_diagrams.specs.StateValues.{listed_after};
 
 use crate::arms::walk_arms;
 use crate::guards::state_guard;
 use crate::machine::Machine;
-use crate::naming::reading_names;
 use crate::values::{StateFound, check_value};
 use abel_tree::State;
 use bit_expr::ExprId;
@@ -50,19 +48,16 @@ fn list_state(listed: &mut Vec<u32>, found: StateFound) -> Result<(), OutOfMemor
 /// The value of a state behind those that are listed; it is listed where it isn't refused.
 fn read_state<D: Device>(
     alloc: Global,
-    machine: &Machine<'_>,
-    reading: &[bool],
+    machine: &Machine<'_, D>,
     listed: &mut Vec<u32>,
     state: &State,
 ) -> Result<StateFound, OutOfMemory>
-    requires reading { AreRead machine.now.scope.now reading.now }
     requires few { length machine.now.registers.now ≤ 32 }
     ensures state { IfOk result (λ f. IsState (context_for D.table machine.now.scope.now) (length machine.now.registers.now) listed.old.items (view_state state.now) f) }
     ensures listed { OnOk result (listed.new.items ≡ listed_after (context_for D.table machine.now.scope.now) (length machine.now.registers.now) listed.old.items (view_state state.now)) }
 {
-    let names = machine.scope.scope();
     let width = machine.registers.len();
-    let found = check_value::<D>(alloc, names, reading, width, listed, state)?;
+    let found = check_value::<D>(alloc, machine.scope, width, listed, state)?;
     list_state(listed, found)?;
     Ok(found)
 }
@@ -70,7 +65,7 @@ fn read_state<D: Device>(
 /// The unit of a state: its bit; where something is refused any bit serves.
 fn walk_unit<D: Device>(
     alloc: Global,
-    machine: &Machine<'_>,
+    machine: &Machine<'_, D>,
     valued: &Valued<'_>,
     out: &mut Walked,
 ) -> Result<ExprId, OutOfMemory>
@@ -83,15 +78,7 @@ fn walk_unit<D: Device>(
     }
     let number = valued.found.number;
     let unit = valued.state.place;
-    let names = machine.scope.scope();
-    match state_guard::<D>(
-        alloc,
-        names,
-        machine.registers,
-        number,
-        unit,
-        &mut out.exprs,
-    ) {
+    match state_guard::<D>(alloc, machine, number, unit, &mut out.exprs) {
         Ok(bit) => Ok(bit),
         Err(fault) => {
             out.keep_limit(Err(fault))?;
@@ -103,7 +90,7 @@ fn walk_unit<D: Device>(
 /// What stands in a state, under its guard.
 fn walk_within<D: Device>(
     alloc: Global,
-    machine: &Machine<'_>,
+    machine: &Machine<'_, D>,
     guard: Guard,
     state: &State,
     out: &mut Walked,
@@ -120,7 +107,7 @@ fn walk_within<D: Device>(
 /// A state: its unit, and what stands in it; its bit.
 fn walk_state<D: Device>(
     alloc: Global,
-    machine: &Machine<'_>,
+    machine: &Machine<'_, D>,
     guard: Guard,
     valued: &Valued<'_>,
     out: &mut Walked,
@@ -138,7 +125,7 @@ fn walk_state<D: Device>(
 /// The states one after another: their bits.
 pub(crate) fn walk_states<D: Device>(
     alloc: Global,
-    machine: &Machine<'_>,
+    machine: &Machine<'_, D>,
     guard: Guard,
     states: &[State],
     out: &mut Walked,
@@ -148,11 +135,10 @@ pub(crate) fn walk_states<D: Device>(
     ensures walks { IfOk result (λ ids. WalksStates D.table machine.now guard (map view_state states.now) out.old out.new) }
     ensures bits { IfOk result (λ ids. out.new.fault ≡ None → AreBits (arena out.new.exprs) ids.items (state_bits (context_for D.table machine.now.scope.now) machine.now.registers.now (map view_state states.now))) }
 {
-    let reading = reading_names(alloc, machine.scope.scope())?;
     let mut listed = Vec::new(alloc);
     let mut bits = Vec::new(alloc);
     for state in states {
-        let found = read_state::<D>(alloc, machine, &reading, &mut listed, state)?;
+        let found = read_state::<D>(alloc, machine, &mut listed, state)?;
         let valued = Valued { state, found };
         let bit = walk_state::<D>(alloc, machine, guard, &valued, out)?;
         bits.push(bit)?;

@@ -3,22 +3,20 @@
 ghost use Rattle.std.specs.Prelude.{◌≡◌, ◌==◌, ◌≤◌, ◌^◌, ◌||◌, ℕ, nat_lt, Some, IfOk};
 ghost use Rattle.std.specs.List.{list_any};
 ghost use Rattle.abel_tree.specs.View.{view_state};
-ghost use Rattle.abel_meaning.specs.Designs.{Context};
-ghost use Rattle.set_expr.specs.Answer.{IsContextOf};
-ghost use Rattle.state_diagrams.specs.Reads.{AreRead};
+ghost use Rattle.set_expr.specs.Contexts.{context_for};
 ghost use Rattle.state_diagrams.specs.States.{IsState, IsStill};
 
 use crate::numbers::state_number;
-use crate::reading::reads_signal;
 use abel_tree::State;
 use pld_base::OutOfMemory;
 use pld_device::Device;
-use set_expr::{Scope, SectionFault};
+use section_targets::SectionScope;
+use set_expr::SectionFault;
 use std::alloc::Global;
 
 /// What is found of the value of a state: its refusal, or its number.
 #[derive(Clone, Copy, PartialEq, Eq)]
-pub struct StateFound {
+pub(crate) struct StateFound {
     pub number: u32,
     pub fault: Option<SectionFault>,
 }
@@ -63,14 +61,14 @@ fn refused(fault: SectionFault) -> StateFound
 /// A value of which nothing is refused and that reads no signal, at its word.
 fn still_value<D: Device>(
     alloc: Global,
-    scope: &Scope<'_>,
+    scope: &SectionScope<'_, D>,
     width: usize,
     listed: &[u32],
     state: &State,
 ) -> Result<StateFound, OutOfMemory>
     requires few { width ≤ 32 }
-    requires still { IsStill D.table scope.now state.now }
-    ensures { IfOk result (λ f. (d : Context) → IsContextOf D.table scope.now d → IsState d width listed.now (view_state state.now) f) }
+    requires still { IsStill scope.now state.now }
+    ensures { IfOk result (λ f. IsState (context_for D.table scope.now) width listed.now (view_state state.now) f) }
 {
     let number = state_number::<D>(alloc, scope, &state.value)?;
     if fits(number, width) && !is_listed(listed, number) {
@@ -84,19 +82,17 @@ fn still_value<D: Device>(
 }
 
 /// The value of a state of so many registers, behind those that are listed: its refusal, or its number.
-pub fn check_value<D: Device>(
+pub(crate) fn check_value<D: Device>(
     alloc: Global,
-    scope: &Scope<'_>,
-    reading: &[bool],
+    scope: &SectionScope<'_, D>,
     width: usize,
     listed: &[u32],
     state: &State,
 ) -> Result<StateFound, OutOfMemory>
-    requires reading { AreRead scope.now reading.now }
     requires few { width ≤ 32 }
-    ensures { IfOk result (λ f. (d : Context) → IsContextOf D.table scope.now d → IsState d width listed.now (view_state state.now) f) }
+    ensures { IfOk result (λ f. IsState (context_for D.table scope.now) width listed.now (view_state state.now) f) }
 {
-    let found = scope.check(alloc, &state.value)?;
+    let found = scope.scope().check(alloc, &state.value)?;
     match found.fault {
         Some(fault) => Ok(refused(fault)),
         None => {
@@ -104,7 +100,7 @@ pub fn check_value<D: Device>(
             match found.special {
                 Some(_) => Ok(refused(bad)),
                 None => {
-                    if reads_signal(alloc, scope, reading, &state.value)? {
+                    if scope.reads_signal(alloc, &state.value)? {
                         Ok(refused(bad))
                     } else {
                         still_value::<D>(alloc, scope, width, listed, state)

@@ -28,7 +28,7 @@ fn outputs_of(alloc: Global, registers: &[Aim]) -> Result<Vec<Option<Aim>>, Allo
 /// No match for each register, so that each has some contribution of the diagram.
 fn walk_header<D: Device>(
     alloc: Global,
-    machine: &Machine<'_>,
+    machine: &Machine<'_, D>,
     guard: Guard,
     unit: Place,
     out: &mut Walked,
@@ -53,7 +53,7 @@ fn walk_header<D: Device>(
 /// The states, and the matches of signals that are no registers.
 fn walk_others<D: Device>(
     alloc: Global,
-    machine: &Machine<'_>,
+    machine: &Machine<'_, D>,
     guard: Guard,
     states: &[State],
     out: &mut Walked,
@@ -74,7 +74,7 @@ fn walk_others<D: Device>(
 /// A diagram whose registers aren't refused.
 fn walk_registers<D: Device>(
     alloc: Global,
-    machine: &Machine<'_>,
+    machine: &Machine<'_, D>,
     guard: Guard,
     diagram: &Diagram,
     out: &mut Walked,
@@ -94,7 +94,7 @@ fn walk_registers<D: Device>(
 /// ABEL-HDL Reference Manual, state diagrams.
 pub fn walk_diagram<D: Device>(
     alloc: Global,
-    scope: &SectionScope<'_>,
+    scope: &SectionScope<'_, D>,
     guard: Guard,
     diagram: &Diagram,
     out: &mut Walked,

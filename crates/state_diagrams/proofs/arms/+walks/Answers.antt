@@ -8,7 +8,6 @@ use Rattle.bit_expr.specs.declared.node.ExprId.{ExprId}
 use Rattle.bit_expr.specs.Arena.{arena, formula_at}
 use Rattle.abel_tree.specs.declared.diagrams.Arm.{Arm, the_lemmas}
 use Rattle.abel_tree.specs.declared.diagrams.CaseArm.{CaseArm}
-use Rattle.abel_tree.specs.declared.names.Names.{Names}
 use Rattle.abel_tree.specs.Tree.{Branch, NoBranch, ABranch, choices_of}
 use Rattle.abel_tree.specs.View.{view, view_arm, view_choice}
 use Rattle.abel_meaning.specs.Contributions.{guarded}
@@ -17,18 +16,17 @@ use Rattle.abel_meaning.specs.FormulaBits.{formulas}
 use Rattle.set_expr.specs.declared.contributions.Guard.{Guard}
 use Rattle.set_expr.specs.Given.{view_guard}
 use Rattle.set_expr.proofs.FoundMembers.{front_more}
-use Rattle.section_targets.specs.Contexts.{context_for}
+use Rattle.set_expr.specs.Contexts.{context_for}
 use Rattle.section_targets.specs.Given.{AreIn}
 use Rattle.section_targets.specs.Walking.{Walks}
 use Rattle.section_targets.proofs.Built.{kept_formula, kept_inside}
 use Rattle.section_targets.proofs.WalksBehind.{clear_before, walks_none}
 use Rattle.equations.specs.Builds.{condition_unit}
-use Rattle.equations.specs.StatementWalks.{AreBothGuards, WalksCondition}
 use Rattle.equations.proofs.BuiltUnits.{guard_view, guard_kept}
 use Rattle.state_diagrams.specs.ArmGuards.{AreGuardsOf}
 use Rattle.state_diagrams.specs.Arms.{case_choices, case_place, view_choices}
 use Rattle.state_diagrams.specs.DiagramUnits.{branch_manners, choices_manners}
-use Rattle.state_diagrams.specs.DiagramWalks.{WalksBranch, WalksChoices, WalksConditions, WalksWork}
+use Rattle.state_diagrams.specs.DiagramWalks.{WalksBranch, WalksChoices, WalksWork}
 use Rattle.state_diagrams.specs.DiagramWorks.{branch_work}
 use Rattle.state_diagrams.proofs.AnyGuards.{still_firsts, under_branch}
 use Rattle.state_diagrams.proofs.ArmLaws.{Choice}
@@ -71,8 +69,8 @@ walk_if-returns-in-None g t c = λ all a.
     let fs = arena old.exprs in
     let h = view_guard fs c.args.guard in
     let then : Guard = record c.args.guard { when = c.in_ok-chosen.chosen.then } in
-    let one = subst (λ (n : Names). WalksCondition tb n c.args.guard.when w.place k c.is_some.result old mid) c.scope-names.ensures c.in_ok-chosen.ensures.walks all a in
-    let guards = subst (λ (n : Names). AreBothGuards tb n c.args.guard.when k c.is_some.result old mid c.in_ok-chosen.chosen) c.scope-names.ensures c.in_ok-chosen.ensures.guards in
+    let one = c.in_ok-chosen.ensures.walks all a in
+    let guards = c.in_ok-chosen.ensures.guards in
     let alone = c.is_some.ensures ∙ ap is_some c.in-None.is in
     let inner = subst (λ (b : Arm). WalksBranch tb m then (view_arm b) mid new) c.get.ensures c.in_ok-walk_arm.ensures in
     let inside = under_branch d all xs (view_arm w.then) (view_guard (arena mid.exprs) then) (guarded (formulas d) h (condition_of d k)) mid new
@@ -101,8 +99,8 @@ walk_if-returns-in-Some g t c =
     let h = view_guard fs c.args.guard in
     let then : Guard = record c.args.guard { when = c.in_ok-chosen.chosen.then } in
     let else : Guard = record c.args.guard { when = c.in_ok-chosen.chosen.otherwise } in
-    let one = subst (λ (n : Names). WalksCondition tb n c.args.guard.when w.place k c.is_some.result old mid) c.scope-names.ensures c.in_ok-chosen.ensures.walks all a in
-    let guards = subst (λ (n : Names). AreBothGuards tb n c.args.guard.when k c.is_some.result old mid c.in_ok-chosen.chosen) c.scope-names.ensures c.in_ok-chosen.ensures.guards in
+    let one = c.in_ok-chosen.ensures.walks all a in
+    let guards = c.in_ok-chosen.ensures.guards in
     let both = c.is_some.ensures ∙ ap is_some c.in-Some.is in
     let inner = subst (λ (b : Arm). WalksBranch tb m then (view_arm b) mid far) c.get.ensures c.in_ok-walk_arm.ensures in
     let outer = subst (λ (b : Arm). WalksBranch tb m else (view_arm b) far new) c.get-in-Some.ensures last in
@@ -133,7 +131,7 @@ walk_case-walk_choices-requires g t c κs within =
     subst (λ (xs : List CaseArm). AreGuardsOf (context_for tb m.scope.now) (arena mid.exprs) (formula_at (arena mid.exprs) c.args.guard.when) (view_choices xs) c.deref.result.now) (sym c.as_slice.ensures)
     (subst (λ (ids : List ExprId). AreGuardsOf (context_for tb m.scope.now) (arena mid.exprs) (formula_at (arena mid.exprs) c.args.guard.when) (case_choices c.args.case.now) ids) (sym c.deref.ensures.value)
     (subst (λ f. AreGuardsOf (context_for tb m.scope.now) (arena mid.exprs) f (case_choices c.args.case.now) c.in_ok-bits.bits.items) (sym (kept_formula _ _ c.args.guard.when walks.keeps c.requires.guard))
-    (subst (λ (k : Names). AreGuardsOf (context_for tb k) (arena mid.exprs) (formula_at (arena old.exprs) c.args.guard.when) (case_choices c.args.case.now) c.in_ok-bits.bits.items) c.scope-names.ensures (c.in_ok-bits.ensures.guards e)))) in
+    (c.in_ok-bits.ensures.guards e))) in
     (search (rules, the_lemmas), (within, (c.requires.signals, (there, (inside, guards)))))
 
 pub walk_case-returns : goal.walk_case-returns
@@ -147,7 +145,7 @@ walk_case-returns g t c =
     let old = c.args.out.now in
     let mid = c.walk_conditions.new.out in
     let new = c.walk_choices.new.out in
-    let one = subst (λ (n : Names). WalksConditions tb n c.args.guard.when (case_place x) (case_choices x) old mid) c.scope-names.ensures c.in_ok-bits.ensures.walks all a in
+    let one = c.in_ok-bits.ensures.walks all a in
     let arms = subst (λ (xs : List CaseArm). WalksChoices tb m c.args.guard (view_choices xs) mid new) c.as_slice.ensures k in
     case_walks d all (view_guard (arena old.exprs) c.args.guard) (view_guard (arena mid.exprs) c.args.guard) m.registers.now (case_place x) (case_choices x) old mid new
     (guard_kept (arena old.exprs) (arena mid.exprs) c.args.guard (kept_formula _ _ c.args.guard.when one.keeps c.requires.guard))

@@ -8,7 +8,7 @@ use Rattle.abel_tree.specs.declared.diagrams.Arm.{Arm}
 use Rattle.abel_tree.specs.View.{view_arm}
 use Rattle.set_expr.specs.Given.{view_guard}
 use Rattle.set_expr.proofs.FoundMembers.{front_more}
-use Rattle.section_targets.specs.Contexts.{context_for}
+use Rattle.set_expr.specs.Contexts.{context_for}
 use Rattle.section_targets.proofs.Built.{kept_formula, kept_inside}
 use Rattle.section_targets.proofs.WalksBehind.{walks_none}
 use Rattle.equations.proofs.BuiltUnits.{guard_kept}

@@ -8,10 +8,12 @@ use Rattle.bit_expr.specs.declared.node.ExprId.{ExprId}
 use Rattle.abel_tree.specs.declared.diagrams.CaseArm.{CaseArm}
 use Rattle.abel_tree.specs.Tree.{choices_of}
 use Rattle.abel_tree.specs.View.{view, view_choice}
+use Rattle.abel_meaning.specs.CountedBlocks.{choices_nodes}
 use Rattle.abel_meaning.specs.CountedNodes.{condition_of, guard_then}
 use Rattle.set_expr.proofs.FoundMembers.{front_more}
-use Rattle.section_targets.specs.Building.{IsBit}
-use Rattle.section_targets.specs.Contexts.{context_for}
+use Rattle.section_targets.specs.Building.{IsBit, StopsWith}
+use Rattle.set_expr.specs.Contexts.{context_for}
+use Rattle.section_targets.specs.Units.{part}
 use Rattle.section_targets.proofs.Built.{kept_formula, kept_inside, keeps_on}
 use Rattle.section_targets.proofs.Parts.{leaves_nodes}
 use Rattle.equations.proofs.BuiltUnits.{at}
@@ -19,6 +21,8 @@ use Rattle.equations.specs.declared.choices.Chosen.{Chosen}
 use Rattle.state_diagrams.proofs.ArmLaws.{Choice}
 use Rattle.state_diagrams.proofs.ArmViews.{choice_parts}
 use Rattle.state_diagrams.specs.ArmGuards.{AreGuardsOf, MakesGuards}
+use Rattle.state_diagrams.specs.Arms.{case_place, view_choices}
+use Rattle.state_diagrams.specs.DiagramUnits.{choices_refused}
 use Rattle.state_diagrams.proofs.GuardLaws.{arm_clear, condition_there, conditions_next, conditions_stop, guards_kept, guards_more, no_nodes}
 use Rattle.state_diagrams.proofs.choices.make_guards.Goals as goal
 
@@ -26,21 +30,24 @@ pub loop-arm-init : goal.loop-arm-init
 loop-arm-init g c =
     record {
       keeps = λ i f e. e;
-      built = λ list. no_nodes c.args.unit (at c.args.exprs.now list);
+      built = λ list. no_nodes (case_place c.args.case.now) (at c.args.exprs.now list);
       guards = subst (λ (ids : List ExprId). AreGuardsOf (context_for g.D.Device.table c.args.scope.now) (arena c.args.exprs.now) (formula_at (arena c.args.exprs.now) c.args.guard) (choices_of []) ids) (sym c.new-guards.ensures.items) tt;
     }
 
 pub then_guard-requires : goal.then_guard-requires
 then_guard-requires g c =
+    let n = c.args.scope.now in
+    let d = context_for g.D.Device.table n in
     record {
       guard = kept_inside _ _ c.args.guard c.loop-arm.invariant.keeps c.requires.guard;
-      accepted = arm_clear (context_for g.D.Device.table c.args.scope.now) c.args.scope.now c.args.arms.now c.loop-arm.arm-index c.arm-item.result refl c.requires.accepted c.loop-arm-test.true c.arm-item.is;
+      accepted = arm_clear d n c.as_slice-arm-items.result.now c.loop-arm.arm-index c.arm-item.result refl
+          (subst (λ (xs : List CaseArm). choices_refused d (view_choices xs) ≡ []) (sym c.as_slice-arm-items.ensures) c.requires.accepted) c.loop-arm-test.true c.arm-item.is;
     }
 
 pub loop-arm-preserved : goal.loop-arm-preserved
 loop-arm-preserved g c =
     let d = context_for g.D.Device.table c.args.scope.now in
-    let arms = c.args.arms.now in
+    let arms = c.as_slice-arm-items.result.now in
     let i = c.loop-arm.arm-index in
     let x = c.arm-item.result in
     let v = c.loop-arm.invariant in
@@ -56,8 +63,8 @@ loop-arm-preserved g c =
     record {
       keeps = keeps_on _ _ _ v.keeps c.in_ok-chosen.ensures.keeps;
       built = λ list.
-          let told = condition_there {R = Chosen} d c.args.unit x (formula_at hs c.args.guard) (at c.loop-arm.exprs list) (at c.then_guard.new.exprs list) (Ok c.in_ok-chosen.chosen) (c.in_ok-chosen.ensures.builds list) in
-          conditions_next d gf (formula_at hs c.args.guard) c.args.unit cs ds y (at c.args.exprs.now list) (at c.loop-arm.exprs list) (at c.then_guard.new.exprs list) (Ok c.in_ok-chosen.chosen) here same (v.built list) told;
+          let told = condition_there {R = Chosen} d (case_place c.args.case.now) x (formula_at hs c.args.guard) (at c.loop-arm.exprs list) (at c.then_guard.new.exprs list) (Ok c.in_ok-chosen.chosen) (c.in_ok-chosen.ensures.builds list) in
+          conditions_next d gf (formula_at hs c.args.guard) (case_place c.args.case.now) cs ds y (at c.args.exprs.now list) (at c.loop-arm.exprs list) (at c.then_guard.new.exprs list) (Ok c.in_ok-chosen.chosen) here same (v.built list) told;
       guards =
           subst (λ zs. AreGuardsOf d ns gf (choices_of zs) c.push.new.self.items) (sym here)
           (subst (λ (ids : List ExprId). AreGuardsOf d ns gf (choices_of (cs ++ y ∷ [])) ids) (sym c.in_ok-push.ensures.items)
@@ -73,7 +80,7 @@ pub returns-in_err-chosen-clause-builds : goal.returns-in_err-chosen-clause-buil
 returns-in_err-chosen-clause-builds g c = λ list.
     let p = err_from_is_err_and c.from_residual.result c.from_residual.ensures.1 in
     let d = context_for g.D.Device.table c.args.scope.now in
-    let arms = c.args.arms.now in
+    let arms = c.as_slice-arm-items.result.now in
     let i = c.loop-arm.arm-index in
     let x = c.arm-item.result in
     let v = c.loop-arm.invariant in
@@ -90,22 +97,23 @@ returns-in_err-chosen-clause-builds g c = λ list.
     let here : ds ≡ cs ++ y ∷ [] = front_more view_choice arms i x c.loop-arm-test.true c.arm-item.is in
     let all_of : map view_choice arms ≡ ds ++ map view_choice (drop (i + 1) arms) = ap (map view_choice) (sym (take-append-drop (i + 1) arms)) ∙ map-append view_choice (take (i + 1) arms) (drop (i + 1) arms) in
     rw (p.1, p.2)
-    (conditions_stop d gf c.args.unit ds (map view_choice (drop (i + 1) arms)) (map view_choice arms) old new f all_of
-    (conditions_next {R = Unit} d gf (formula_at hs c.args.guard) c.args.unit cs ds y old (at c.loop-arm.exprs list) new (Err f) here same (v.built list)
-    (condition_there {R = Unit} d c.args.unit x (formula_at hs c.args.guard) (at c.loop-arm.exprs list) new (Err f) (c.in_err-chosen.ensures.builds list))))
+    (subst (λ (xs : List CaseArm). StopsWith (part (case_place c.args.case.now) (choices_nodes d gf (view_choices xs)) ∷ []) [] [] old new f) c.as_slice-arm-items.ensures
+    (conditions_stop d gf (case_place c.args.case.now) ds (map view_choice (drop (i + 1) arms)) (map view_choice arms) old new f all_of
+    (conditions_next {R = Unit} d gf (formula_at hs c.args.guard) (case_place c.args.case.now) cs ds y old (at c.loop-arm.exprs list) new (Err f) here same (v.built list)
+    (condition_there {R = Unit} d (case_place c.args.case.now) x (formula_at hs c.args.guard) (at c.loop-arm.exprs list) new (Err f) (c.in_err-chosen.ensures.builds list)))))
 
 pub returns-clause-keeps : goal.returns-clause-keeps
 returns-clause-keeps g c = c.loop-arm.invariant.keeps
 
 pub returns-clause-builds : goal.returns-clause-builds
 returns-clause-builds g c =
-    subst (λ (xs : List CaseArm). MakesGuards g.D.Device.table c.args.scope.now c.args.guard c.args.unit (choices_of (map view_choice xs)) c.args.exprs.now c.loop-arm.exprs (Ok c.loop-arm.guards))
-    (ap (λ n. take n c.args.arms.now) (omega (arith, c.loop-arm-test.false, c.loop-arm.auto.arm-index-end)) ∙ take-length c.args.arms.now) c.loop-arm.invariant.built
+    subst (λ (xs : List CaseArm). MakesGuards g.D.Device.table c.args.scope.now c.args.guard (case_place c.args.case.now) (view_choices xs) c.args.exprs.now c.loop-arm.exprs (Ok c.loop-arm.guards))
+    (ap (λ n. take n c.as_slice-arm-items.result.now) (omega (arith, c.loop-arm-test.false, c.loop-arm.auto.arm-index-end)) ∙ take-length c.as_slice-arm-items.result.now ∙ c.as_slice-arm-items.ensures) c.loop-arm.invariant.built
 
 pub returns-clause-guards : goal.returns-clause-guards
 returns-clause-guards g c =
-    subst (λ (xs : List CaseArm). AreGuardsOf (context_for g.D.Device.table c.args.scope.now) (arena c.loop-arm.exprs) (formula_at (arena c.args.exprs.now) c.args.guard) (choices_of (map view_choice xs)) c.loop-arm.guards.items)
-    (ap (λ n. take n c.args.arms.now) (omega (arith, c.loop-arm-test.false, c.loop-arm.auto.arm-index-end)) ∙ take-length c.args.arms.now) c.loop-arm.invariant.guards
+    subst (λ (xs : List CaseArm). AreGuardsOf (context_for g.D.Device.table c.args.scope.now) (arena c.loop-arm.exprs) (formula_at (arena c.args.exprs.now) c.args.guard) (view_choices xs) c.loop-arm.guards.items)
+    (ap (λ n. take n c.as_slice-arm-items.result.now) (omega (arith, c.loop-arm-test.false, c.loop-arm.auto.arm-index-end)) ∙ take-length c.as_slice-arm-items.result.now ∙ c.as_slice-arm-items.ensures) c.loop-arm.invariant.guards
 
 pub returns-in_err-push-clause-builds : goal.returns-in_err-push-clause-builds
 returns-in_err-push-clause-builds g c = λ list.

@@ -2,15 +2,17 @@
 use Rattle.std.proofs.Common.{◌≡◌, true, false, List, [], ◌∷◌, Ok, Err, map, refl, sym, ap, ◌∙◌, subst}
 use Rattle.std.specs.Option.{is_some}
 use Rattle.bit_expr.specs.Arena.{arena, formula_at}
+use Rattle.abel_tree.specs.declared.diagrams.Case.{out-Case}
 use Rattle.abel_tree.specs.declared.diagrams.CaseArm.{CaseArm}
+use Rattle.abel_tree.specs.Entries.{entries_of}
+use Rattle.abel_tree.specs.View.{view_choice}
 use Rattle.abel_meaning.specs.CountedBlocks.{choices_nodes}
+use Rattle.set_expr.specs.Contexts.{context_for}
 use Rattle.section_targets.specs.declared.walked.Walked.{Walked}
 use Rattle.section_targets.specs.Building.{Builds}
-use Rattle.section_targets.specs.Contexts.{context_for}
 use Rattle.section_targets.specs.Units.{part}
-use Rattle.section_targets.specs.Walking.{Walks, standing}
+use Rattle.section_targets.specs.Walking.{standing}
 use Rattle.equations.proofs.WalkedUnits.{limit_kept, unit_clear, unit_made, unit_refused}
-use Rattle.abel_tree.specs.View.{view_choice}
 use Rattle.state_diagrams.specs.ArmGuards.{AreGuardsOf, RefusesConditions, case_unit}
 use Rattle.state_diagrams.specs.Arms.{case_choices, case_place, view_choices}
 use Rattle.state_diagrams.specs.DiagramUnits.{choices_refused}
@@ -21,7 +23,7 @@ pub returns-then-refuse-clause-walks : goal.returns-then-refuse-clause-walks
 returns-then-refuse-clause-walks g c = λ all a.
     let d = context_for g.D.Device.table c.args.scope.now in
     let x = c.args.case.now in
-    let told = subst (λ (xs : List CaseArm). RefusesConditions c.args.scope.now (view_choices xs) c.in_ok-fault.fault) c.as_slice-arms.ensures c.in_ok-fault.ensures d refl in
+    let told = subst (λ (xs : List CaseArm). RefusesConditions c.scope.result.now (view_choices xs) c.in_ok-fault.fault) c.as_slice.ensures c.in_ok-fault.ensures d (ap entries_of (sym c.scope.ensures)) in
     unit_refused all (case_unit d (formula_at (arena c.args.out.now.exprs) c.args.guard) (case_place x) (case_choices x)) [] [] c.in_ok-fault.fault c.args.out.now c.refuse.new.self
     told c.refuse.ensures.first (sym c.refuse.ensures.refused ∙ c.if-refuse.true) a
 
@@ -34,45 +36,42 @@ returns-then-refuse-clause-guards g c = λ e. absurd (never (sym (sym c.refuse.e
 pub make_guards-requires-clause-accepted : goal.make_guards-requires-clause-accepted
 make_guards-requires-clause-accepted g c =
     let d = context_for g.D.Device.table c.args.scope.now in
-    let cs = view_choices c.as_slice-arms.result.now in
-    (unit_clear (choices_refused d cs) c.in_ok-fault.fault c.args.out.now c.refuse.new.self (c.in_ok-fault.ensures d refl) c.refuse.ensures.first (sym c.refuse.ensures.refused ∙ c.if-refuse.false)).1.1
+    let told = subst (λ (xs : List CaseArm). RefusesConditions c.scope.result.now (view_choices xs) c.in_ok-fault.fault) c.as_slice.ensures c.in_ok-fault.ensures d (ap entries_of (sym c.scope.ensures)) in
+    (unit_clear (choices_refused d (case_choices c.args.case.now)) c.in_ok-fault.fault c.args.out.now c.refuse.new.self told c.refuse.ensures.first (sym c.refuse.ensures.refused ∙ c.if-refuse.false)).1.1
 
 pub returns-in-Ok-clause-walks : goal.returns-in-Ok-clause-walks
 returns-in-Ok-clause-walks g c = λ all a.
     let d = context_for g.D.Device.table c.args.scope.now in
     let x = c.args.case.now in
-    let cs = view_choices c.as_slice-arms.result.now in
+    let cs = case_choices x in
     let old = c.args.out.now in
     let now = c.refuse.new.self in
     let made : Walked = record now { exprs = c.make_guards.new.exprs } in
+    let told = subst (λ (xs : List CaseArm). RefusesConditions c.scope.result.now (view_choices xs) c.in_ok-fault.fault) c.as_slice.ensures c.in_ok-fault.ensures d (ap entries_of (sym c.scope.ensures)) in
     let here = subst (λ (w : Walked). Builds {R = Unit} (part (case_place x) (choices_nodes d (formula_at (arena w.exprs) c.args.guard) cs) ∷ []) [] [] (standing w) (standing made) (Ok tt)) c.refuse.ensures.first (c.in-Ok.ensures.builds now.list.items) in
-    subst (λ (xs : List CaseArm). Walks all (case_unit d (formula_at (arena old.exprs) c.args.guard) (case_place x) (view_choices xs) ∷ []) [] [] [] old made) c.as_slice-arms.ensures
-    (unit_made all (case_place x) (choices_refused d cs) (choices_nodes d (formula_at (arena old.exprs) c.args.guard) cs) [] [] c.in_ok-fault.fault old now made made (Ok tt)
-    (c.in_ok-fault.ensures d refl) c.refuse.ensures.first (sym c.refuse.ensures.refused ∙ c.if-refuse.false) a refl refl here refl)
+    unit_made all (case_place x) (choices_refused d cs) (choices_nodes d (formula_at (arena old.exprs) c.args.guard) cs) [] [] c.in_ok-fault.fault old now made made (Ok tt)
+    told c.refuse.ensures.first (sym c.refuse.ensures.refused ∙ c.if-refuse.false) a refl refl here refl
 
 pub returns-in-Ok-clause-inside : goal.returns-in-Ok-clause-inside
 returns-in-Ok-clause-inside g c =
-    guards_inside (context_for g.D.Device.table c.args.scope.now) (arena c.make_guards.new.exprs) (formula_at (arena c.refuse.new.self.exprs) c.args.guard) (map view_choice c.as_slice-arms.result.now) c.in-Ok.guards.items c.in-Ok.ensures.guards
+    guards_inside (context_for g.D.Device.table c.args.scope.now) (arena c.make_guards.new.exprs) (formula_at (arena c.refuse.new.self.exprs) c.args.guard) (map view_choice (out-Case c.args.case.now).arms) c.in-Ok.guards.items c.in-Ok.ensures.guards
 
 pub returns-in-Ok-clause-guards : goal.returns-in-Ok-clause-guards
 returns-in-Ok-clause-guards g c = λ e.
-    let d = context_for g.D.Device.table c.args.scope.now in
-    let fs = arena c.make_guards.new.exprs in
-    subst (λ (w : Walked). AreGuardsOf d fs (formula_at (arena w.exprs) c.args.guard) (case_choices c.args.case.now) c.in-Ok.guards.items) c.refuse.ensures.first
-    (subst (λ (xs : List CaseArm). AreGuardsOf d fs (formula_at (arena c.refuse.new.self.exprs) c.args.guard) (view_choices xs) c.in-Ok.guards.items) c.as_slice-arms.ensures c.in-Ok.ensures.guards)
+    subst (λ (w : Walked). AreGuardsOf (context_for g.D.Device.table c.args.scope.now) (arena c.make_guards.new.exprs) (formula_at (arena w.exprs) c.args.guard) (case_choices c.args.case.now) c.in-Ok.guards.items) c.refuse.ensures.first c.in-Ok.ensures.guards
 
 pub returns-in_ok-keep_limit-in-Err-clause-walks : goal.returns-in_ok-keep_limit-in-Err-clause-walks
 returns-in_ok-keep_limit-in-Err-clause-walks g c = λ all a.
     let d = context_for g.D.Device.table c.args.scope.now in
     let x = c.args.case.now in
-    let cs = view_choices c.as_slice-arms.result.now in
+    let cs = case_choices x in
     let old = c.args.out.now in
     let now = c.refuse.new.self in
     let made : Walked = record now { exprs = c.make_guards.new.exprs } in
+    let told = subst (λ (xs : List CaseArm). RefusesConditions c.scope.result.now (view_choices xs) c.in_ok-fault.fault) c.as_slice.ensures c.in_ok-fault.ensures d (ap entries_of (sym c.scope.ensures)) in
     let here = subst (λ (w : Walked). Builds {R = Unit} (part (case_place x) (choices_nodes d (formula_at (arena w.exprs) c.args.guard) cs) ∷ []) [] [] (standing w) (standing made) (Err c.in-Err.fault)) c.refuse.ensures.first (c.in-Err.ensures.builds now.list.items) in
-    subst (λ (xs : List CaseArm). Walks all (case_unit d (formula_at (arena old.exprs) c.args.guard) (case_place x) (view_choices xs) ∷ []) [] [] [] old c.keep_limit.new.self) c.as_slice-arms.ensures
-    (unit_made all (case_place x) (choices_refused d cs) (choices_nodes d (formula_at (arena old.exprs) c.args.guard) cs) [] [] c.in_ok-fault.fault old now made c.keep_limit.new.self (Err c.in-Err.fault)
-    (c.in_ok-fault.ensures d refl) c.refuse.ensures.first (sym c.refuse.ensures.refused ∙ c.if-refuse.false) a refl refl here c.in_ok-keep_limit-in-Err.ensures)
+    unit_made all (case_place x) (choices_refused d cs) (choices_nodes d (formula_at (arena old.exprs) c.args.guard) cs) [] [] c.in_ok-fault.fault old now made c.keep_limit.new.self (Err c.in-Err.fault)
+    told c.refuse.ensures.first (sym c.refuse.ensures.refused ∙ c.if-refuse.false) a refl refl here c.in_ok-keep_limit-in-Err.ensures
 
 pub returns-in_ok-keep_limit-in-Err-clause-guards : goal.returns-in_ok-keep_limit-in-Err-clause-guards
 returns-in_ok-keep_limit-in-Err-clause-guards g c = λ e. absurd (limit_kept c.in-Err.fault (record c.refuse.new.self { exprs = c.make_guards.new.exprs }) c.keep_limit.new.self c.in_ok-keep_limit-in-Err.ensures e)

@@ -11,7 +11,7 @@ use Rattle.set_expr.specs.KnownNames.{SumsUp}
 use Rattle.set_expr.specs.Given.{view_guard}
 use Rattle.section_targets.specs.declared.walked.Walked.{Walked}
 use Rattle.section_targets.specs.Building.{Builds}
-use Rattle.section_targets.specs.Contexts.{context_for}
+use Rattle.set_expr.specs.Contexts.{context_for}
 use Rattle.section_targets.specs.ValueWidths.{value_refused, value_width}
 use Rattle.section_targets.specs.Walking.{standing}
 use Rattle.section_targets.proofs.Built.{left_empty}

@@ -1,29 +1,37 @@
 -- One register more, and all registers.
 use Rattle.std.proofs.Common.{◌<◌, ◌≤◌, min, length, refl, arith}
 use Rattle.std.proofs.lemmas.Result.{err_from_is_err_and}
-use Rattle.equations.proofs.BuiltParts.{some_design, is_some_design}
+use Rattle.set_expr.specs.Contexts.{context_for}
 use Rattle.state_diagrams.proofs.LiteralLaws.{joined_start, joined_index, joined_done, stops_index}
 use Rattle.state_diagrams.proofs.guards.registers_guard.Goals as goal
 
 pub loop-index-init : goal.loop-index-init
-loop-index-init g c = λ d is. joined_start d c.args.exprs.now c.args.unit _ c.args.registers.now c.args.digits.now refl
+loop-index-init g c =
+    let m = c.args.machine.now in
+    joined_start (context_for g.D.Device.table m.scope.now) c.args.exprs.now c.args.unit _ m.registers.now c.args.digits.now refl
 
 pub with_register-requires : goal.with_register-requires
-with_register-requires g c = record { found = (c.loop-index.invariant (some_design g.D.Device.table c.args.scope.now) (is_some_design g.D.Device.table c.args.scope.now)).bit.1.0 }
+with_register-requires g c = record { found = c.loop-index.invariant.bit.1.0 }
 
 pub loop-index-preserved : goal.loop-index-preserved
-loop-index-preserved g c = λ d is.
-    let lt : c.loop-index.index < min (length c.args.registers.now) (length c.args.digits.now) = omega (arith, c.loop-index-test.true, c.min-count.ensures) in
-    joined_index d c.args.exprs.now c.loop-index.exprs c.with_register.new.exprs c.args.unit c.loop-index.found c.in_ok-found.found _ c.args.registers.now _ c.args.digits.now _ c.loop-index.index lt (c.loop-index.invariant d is) (c.in_ok-found.ensures d is)
+loop-index-preserved g c =
+    let m = c.args.machine.now in
+    let xs = m.registers.now in
+    let lt : c.loop-index.index < min (length xs) (length c.args.digits.now) = omega (arith, c.loop-index-test.true, c.min-count.ensures) in
+    joined_index (context_for g.D.Device.table m.scope.now) c.args.exprs.now c.loop-index.exprs c.with_register.new.exprs c.args.unit c.loop-index.found c.in_ok-found.found _ xs _ c.args.digits.now _ c.loop-index.index lt c.loop-index.invariant c.in_ok-found.ensures
 
 pub returns-in_err-found : goal.returns-in_err-found
-returns-in_err-found g c = λ d is.
+returns-in_err-found g c =
+    let m = c.args.machine.now in
+    let xs = m.registers.now in
     let p = err_from_is_err_and c.from_residual.result c.from_residual.ensures.1 in
-    let lt : c.loop-index.index < min (length c.args.registers.now) (length c.args.digits.now) = omega (arith, c.loop-index-test.true, c.min-count.ensures) in
+    let lt : c.loop-index.index < min (length xs) (length c.args.digits.now) = omega (arith, c.loop-index-test.true, c.min-count.ensures) in
     rw (p.1, p.2)
-    (stops_index d c.args.exprs.now c.loop-index.exprs c.with_register.new.exprs c.args.unit c.loop-index.found _ c.args.registers.now _ c.args.digits.now _ c.loop-index.index c.in_err-found.field-0.0 lt (c.loop-index.invariant d is) (c.in_err-found.ensures d is))
+    (stops_index (context_for g.D.Device.table m.scope.now) c.args.exprs.now c.loop-index.exprs c.with_register.new.exprs c.args.unit c.loop-index.found _ xs _ c.args.digits.now _ c.loop-index.index c.in_err-found.field-0.0 lt c.loop-index.invariant c.in_err-found.ensures)
 
 pub returns : goal.returns
-returns g c = λ d is.
-    let le : min (length c.args.registers.now) (length c.args.digits.now) ≤ c.loop-index.index = omega (arith, c.loop-index-test.false, c.min-count.ensures) in
-    joined_done d c.args.exprs.now c.loop-index.exprs c.args.unit c.loop-index.found _ c.args.registers.now c.args.digits.now c.loop-index.index le (c.loop-index.invariant d is)
+returns g c =
+    let m = c.args.machine.now in
+    let xs = m.registers.now in
+    let le : min (length xs) (length c.args.digits.now) ≤ c.loop-index.index = omega (arith, c.loop-index-test.false, c.min-count.ensures) in
+    joined_done (context_for g.D.Device.table m.scope.now) c.args.exprs.now c.loop-index.exprs c.args.unit c.loop-index.found _ xs c.args.digits.now c.loop-index.index le c.loop-index.invariant

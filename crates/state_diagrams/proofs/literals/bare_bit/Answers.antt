@@ -1,17 +1,29 @@
 -- The answer of reading a signal, as a part of a unit.
+use Rattle.set_expr.specs.Contexts.{context_for}
+use Rattle.equations.proofs.BuiltParts.{same_context}
 use Rattle.state_diagrams.specs.Literals.{bare_read}
 use Rattle.state_diagrams.proofs.LiteralLaws.{bit_made, bit_past, no_memory}
 use Rattle.state_diagrams.proofs.literals.bare_bit.Goals as goal
 
 pub returns-in-Ok : goal.returns-in-Ok
-returns-in-Ok g c = λ d is. bit_made c.args.unit _ _ c.in-Ok.id (bare_read d c.args.signal) (c.in-Ok.ensures d is)
+returns-in-Ok g c =
+    let t = g.D.Device.table in
+    let n = c.args.scope.now in
+    let d = context_for t n in
+    bit_made c.args.unit _ _ c.in-Ok.id (bare_read d c.args.signal) (c.in-Ok.ensures d (same_context t c.scope.result.now n c.scope.ensures))
 
 pub returns-in-Err-NodeLimit : goal.returns-in-Err-NodeLimit
-returns-in-Err-NodeLimit g c = λ d is.
-    let h = rw c.in-Err-NodeLimit.field-0-is at (c.in-Err-NodeLimit.ensures d is) in
+returns-in-Err-NodeLimit g c =
+    let t = g.D.Device.table in
+    let n = c.args.scope.now in
+    let d = context_for t n in
+    let h = rw c.in-Err-NodeLimit.field-0-is at (c.in-Err-NodeLimit.ensures d (same_context t c.scope.result.now n c.scope.ensures)) in
     bit_past c.args.unit c.args.exprs.now c.read_signal.new.exprs (bare_read d c.args.signal) h.0 h.1
 
 pub returns-in-Err-OutOfMemory : goal.returns-in-Err-OutOfMemory
-returns-in-Err-OutOfMemory g c = λ d is.
-    let h = rw c.in-Err-OutOfMemory.field-0-is at (c.in-Err-OutOfMemory.ensures d is) in
+returns-in-Err-OutOfMemory g c =
+    let t = g.D.Device.table in
+    let n = c.args.scope.now in
+    let d = context_for t n in
+    let h = rw c.in-Err-OutOfMemory.field-0-is at (c.in-Err-OutOfMemory.ensures d (same_context t c.scope.result.now n c.scope.ensures)) in
     no_memory c.args.unit c.args.exprs.now c.read_signal.new.exprs (bare_read d c.args.signal) h

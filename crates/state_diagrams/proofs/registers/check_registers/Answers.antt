@@ -6,7 +6,7 @@ use Rattle.abel_tree.specs.FirstRefusal.{first_refusal}
 use Rattle.abel_tree.specs.View.{view}
 use Rattle.set_expr.specs.SectionOrder.{section_order}
 use Rattle.section_targets.specs.declared.aim.Aim.{Aim}
-use Rattle.section_targets.specs.Contexts.{context_for}
+use Rattle.set_expr.specs.Contexts.{context_for}
 use Rattle.section_targets.specs.Given.{AreNamed}
 use Rattle.section_targets.specs.Manners.{AreFirsts, aims_refused, manner_of}
 use Rattle.section_targets.specs.TargetSignals.{target_member}

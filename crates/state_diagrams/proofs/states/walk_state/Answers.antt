@@ -5,7 +5,7 @@ use Rattle.abel_meaning.specs.Terms.{term_of}
 use Rattle.abel_tree.specs.View.{view_state}
 use Rattle.set_expr.specs.declared.contributions.Guard.{Guard}
 use Rattle.set_expr.specs.Given.{view_guard}
-use Rattle.section_targets.specs.Contexts.{context_for}
+use Rattle.set_expr.specs.Contexts.{context_for}
 use Rattle.section_targets.proofs.WalksBehind.{clear_before}
 use Rattle.equations.proofs.BuiltParts.{kept_bit}
 use Rattle.state_diagrams.specs.DiagramUnits.{signals_of, state_guard}

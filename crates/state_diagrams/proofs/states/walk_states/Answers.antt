@@ -8,7 +8,7 @@ use Rattle.abel_tree.specs.View.{view_state}
 use Rattle.set_expr.specs.Given.{view_guard}
 use Rattle.set_expr.proofs.FoundMembers.{front_more}
 use Rattle.section_targets.specs.Building.{AreBits}
-use Rattle.section_targets.specs.Contexts.{context_for}
+use Rattle.set_expr.specs.Contexts.{context_for}
 use Rattle.section_targets.proofs.WalksBehind.{clear_before, walks_none}
 use Rattle.state_diagrams.specs.DiagramUnits.{states_manners}
 use Rattle.state_diagrams.specs.DiagramWalks.{WalksStates}

@@ -3,7 +3,7 @@ use Rattle.std.proofs.Common.{◌≡◌, None, [], length, map, take}
 use Rattle.bit_expr.specs.Arena.{arena}
 use Rattle.abel_tree.specs.View.{view_state}
 use Rattle.section_targets.specs.Building.{AreBits}
-use Rattle.section_targets.specs.Contexts.{context_for}
+use Rattle.set_expr.specs.Contexts.{context_for}
 use Rattle.state_diagrams.specs.DiagramWalks.{WalksStates}
 use Rattle.state_diagrams.specs.DiagramWorks.{state_bits}
 use Rattle.state_diagrams.specs.States.{listed_behind}

@@ -8,11 +8,10 @@ use Rattle.abel_meaning.specs.Terms.{term_of}
 use Rattle.set_expr.specs.SectionOrder.{section_order}
 use Rattle.section_targets.specs.declared.walked.Walked.{Walked}
 use Rattle.section_targets.specs.Building.{Builds, IsBit}
-use Rattle.section_targets.specs.Contexts.{context_for}
+use Rattle.set_expr.specs.Contexts.{context_for}
 use Rattle.section_targets.specs.Units.{part}
 use Rattle.section_targets.specs.Walking.{standing}
 use Rattle.section_targets.proofs.MetWords.{high_bit}
-use Rattle.equations.proofs.BuiltParts.{same_context}
 use Rattle.equations.proofs.WalkedUnits.{limit_kept, unit_clear, unit_made, unit_refused}
 use Rattle.state_diagrams.specs.DiagramUnits.{signals_of, state_guard}
 use Rattle.state_diagrams.specs.DiagramWalks.{state_unit}
@@ -40,9 +39,8 @@ returns-then-refuse-clause-bit g c = λ listed value e. absurd (never (sym (sym 
 
 pub returns-in-Ok-clause-walks : goal.returns-in-Ok-clause-walks
 returns-in-Ok-clause-walks g c = λ listed value all a.
-    let t = g.D.Device.table in
     let m = c.args.machine.now in
-    let d = context_for t m.scope.now in
+    let d = context_for g.D.Device.table m.scope.now in
     let xs = m.registers.now in
     let ss = signals_of xs in
     let v = c.args.valued.now in
@@ -54,36 +52,31 @@ returns-in-Ok-clause-walks g c = λ listed value all a.
     let made : Walked = record now { exprs = c.state_guard.new.exprs } in
     let told = value.fault ∙ ap (λ n. first_refusal section_order (state_refused d n listed s)) (sized xs) in
     let clear = unit_clear (state_refused d (length ss) listed s) v.found.fault old now told kept off in
-    let bit = (c.in-Ok.ensures.makes d (same_context t c.scope-names.result.now m.scope.now c.scope-names.ensures)).0 now.list.items in
+    let bit = c.in-Ok.ensures.makes.0 now.list.items in
     let here = subst (λ (n : ℕ). Builds {R = Unit} (part s.place (number_guard d ss n).nodes ∷ []) [] [] (standing now) (standing made) (Ok tt)) (value.number clear.1.0) bit in
     unit_made all s.place (state_refused d (length ss) listed s) (state_guard d ss s.value).nodes [] [] v.found.fault old now made made (Ok tt) told kept off a refl refl
     (subst (λ (w : Walked). Builds {R = Unit} (part s.place (state_guard d ss s.value).nodes ∷ []) [] [] (standing w) (standing made) (Ok tt)) kept here) refl
 
 pub returns-in-Ok-clause-inside : goal.returns-in-Ok-clause-inside
-returns-in-Ok-clause-inside g c =
-    let t = g.D.Device.table in
-    let n = c.args.machine.now.scope.now in
-    (c.in-Ok.ensures.makes (context_for t n) (same_context t c.scope-names.result.now n c.scope-names.ensures)).1.0
+returns-in-Ok-clause-inside g c = c.in-Ok.ensures.makes.1.0
 
 pub returns-in-Ok-clause-bit : goal.returns-in-Ok-clause-bit
 returns-in-Ok-clause-bit g c = λ listed value e.
-    let t = g.D.Device.table in
     let m = c.args.machine.now in
-    let d = context_for t m.scope.now in
+    let d = context_for g.D.Device.table m.scope.now in
     let xs = m.registers.now in
     let v = c.args.valued.now in
     let s = view_state v.state.now in
     let told = value.fault ∙ ap (λ n. first_refusal section_order (state_refused d n listed s)) (sized xs) in
     let clear = unit_clear (state_refused d (length (signals_of xs)) listed s) v.found.fault c.args.out.now c.refuse.new.self told c.refuse.ensures.first (sym c.refuse.ensures.refused ∙ c.if-refuse.false) in
-    let bit = (c.in-Ok.ensures.makes d (same_context t c.scope-names.result.now m.scope.now c.scope-names.ensures)).1 in
+    let bit = c.in-Ok.ensures.makes.1 in
     subst (IsBit (arena c.state_guard.new.exprs) c.in-Ok.bit) (guard_is_state d (signals_of xs) (term_of d.known s.value))
     (subst (λ (n : ℕ). IsBit (arena c.state_guard.new.exprs) c.in-Ok.bit (number_guard d (signals_of xs) n).what) (value.number clear.1.0) bit)
 
 pub returns-in_ok-keep_limit-in-Err-clause-walks : goal.returns-in_ok-keep_limit-in-Err-clause-walks
 returns-in_ok-keep_limit-in-Err-clause-walks g c = λ listed value all a.
-    let t = g.D.Device.table in
     let m = c.args.machine.now in
-    let d = context_for t m.scope.now in
+    let d = context_for g.D.Device.table m.scope.now in
     let xs = m.registers.now in
     let ss = signals_of xs in
     let v = c.args.valued.now in
@@ -95,7 +88,7 @@ returns-in_ok-keep_limit-in-Err-clause-walks g c = λ listed value all a.
     let made : Walked = record now { exprs = c.state_guard.new.exprs } in
     let told = value.fault ∙ ap (λ n. first_refusal section_order (state_refused d n listed s)) (sized xs) in
     let clear = unit_clear (state_refused d (length ss) listed s) v.found.fault old now told kept off in
-    let bit = (c.in-Err.ensures.makes d (same_context t c.scope-names.result.now m.scope.now c.scope-names.ensures)).0 now.list.items in
+    let bit = c.in-Err.ensures.makes.0 now.list.items in
     let here = subst (λ (n : ℕ). Builds {R = Unit} (part s.place (number_guard d ss n).nodes ∷ []) [] [] (standing now) (standing made) (Err c.in-Err.fault)) (value.number clear.1.0) bit in
     unit_made all s.place (state_refused d (length ss) listed s) (state_guard d ss s.value).nodes [] [] v.found.fault old now made c.keep_limit.new.self (Err c.in-Err.fault) told kept off a refl refl
     (subst (λ (w : Walked). Builds {R = Unit} (part s.place (state_guard d ss s.value).nodes ∷ []) [] [] (standing w) (standing made) (Err c.in-Err.fault)) kept here) c.in_ok-keep_limit-in-Err.ensures

@@ -6,7 +6,7 @@ use Rattle.abel_tree.specs.declared.diagrams.Arm.{Arm}
 use Rattle.abel_tree.specs.declared.statements.Stmt.{Stmt}
 use Rattle.abel_tree.specs.View.{view_state}
 use Rattle.set_expr.specs.Given.{view_guard}
-use Rattle.section_targets.specs.Contexts.{context_for}
+use Rattle.set_expr.specs.Contexts.{context_for}
 use Rattle.section_targets.proofs.Built.{kept_formula, kept_inside}
 use Rattle.equations.specs.Checks.{view_list}
 use Rattle.equations.specs.StatementWalks.{WalksStatements}

@@ -6,15 +6,16 @@ use Rattle.abel_tree.specs.declared.names.Names.{Names}
 use Rattle.abel_tree.specs.Entries.{entries_of}
 use Rattle.set_expr.specs.Given.{view_guard}
 use Rattle.section_targets.specs.declared.walked.Walked.{Walked}
-use Rattle.section_targets.specs.Contexts.{context_for}
+use Rattle.set_expr.specs.Contexts.{context_for}
 use Rattle.section_targets.specs.Given.{AreNamed}
 use Rattle.section_targets.specs.Manners.{AreFirsts}
 use Rattle.section_targets.specs.Walking.{standing}
 use Rattle.section_targets.proofs.WalksBehind.{walks_made}
 use Rattle.truth_tables.specs.TableUnits.{some_aims}
+use Rattle.truth_tables.proofs.RowsWalked.{no_fault}
 use Rattle.state_diagrams.specs.DiagramWorks.{header_work}
 use Rattle.state_diagrams.proofs.DiagramBuilt.{header_aims, header_there}
-use Rattle.state_diagrams.proofs.WalkedDiagrams.{header_refused, no_fault}
+use Rattle.state_diagrams.proofs.WalkedDiagrams.{header_refused}
 use Rattle.state_diagrams.proofs.walking.walk_header.Goals as goal
 
 pub returns-then-is_some : goal.returns-then-is_some

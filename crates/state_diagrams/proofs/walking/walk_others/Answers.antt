@@ -6,13 +6,14 @@ use Rattle.bit_expr.specs.Arena.{arena}
 use Rattle.abel_tree.specs.View.{view_state}
 use Rattle.set_expr.specs.Given.{view_guard}
 use Rattle.section_targets.specs.declared.walked.Walked.{Walked}
-use Rattle.section_targets.specs.Contexts.{context_for}
+use Rattle.set_expr.specs.Contexts.{context_for}
 use Rattle.section_targets.proofs.WalksBehind.{walks_made}
+use Rattle.truth_tables.proofs.RowsWalked.{no_fault}
 use Rattle.state_diagrams.specs.DiagramUnits.{states_manners}
 use Rattle.state_diagrams.specs.DiagramWorks.{others_work, states_work}
 use Rattle.state_diagrams.specs.Matches.{GivesMatches}
 use Rattle.state_diagrams.proofs.DiagramBuilt.{others_built}
-use Rattle.state_diagrams.proofs.WalkedDiagrams.{no_fault, walks_built, walks_refusing}
+use Rattle.state_diagrams.proofs.WalkedDiagrams.{walks_built, walks_refusing}
 use Rattle.state_diagrams.proofs.walking.walk_others.Goals as goal
 
 pub returns-then-is_some : goal.returns-then-is_some

@@ -5,7 +5,7 @@ use Rattle.bit_expr.specs.Arena.{arena}
 use Rattle.abel_tree.specs.declared.diagrams.State.{State}
 use Rattle.abel_tree.specs.View.{view_state}
 use Rattle.set_expr.specs.Given.{view_guard}
-use Rattle.section_targets.specs.Contexts.{context_for}
+use Rattle.set_expr.specs.Contexts.{context_for}
 use Rattle.state_diagrams.specs.DiagramUnits.{states_manners}
 use Rattle.state_diagrams.specs.DiagramWalks.{WalksOthers, WalksWork}
 use Rattle.state_diagrams.proofs.AnyGuards.{still_firsts}
