@@ -9,7 +9,7 @@ use Rattle.abel_meaning.specs.FormulaBits.{formulas}
 use Rattle.abel_meaning.specs.Sections.{section_gives, sections_give}
 use Rattle.section_targets.specs.declared.manner.Manner.{Manner}
 use Rattle.section_targets.specs.declared.walked.Walked.{Walked}
-use Rattle.section_targets.specs.Contexts.{context_for}
+use Rattle.set_expr.specs.Contexts.{context_for}
 use Rattle.section_targets.specs.Manners.{AreFirsts}
 use Rattle.section_targets.specs.Walking.{Walks}
 use Rattle.source_sections.specs.SectionUnits.{section_manners, sections_manners, section_places, sections_places, units_of_section, units_of_sections}

@@ -32,7 +32,7 @@ fn refused_constant(scope: &Scope<'_>) -> Option<SectionFault>
 /// gone over once: each unit is checked, and made where no unit is refused so far.
 pub fn contributions<D: Device>(
     alloc: Global,
-    scope: &SectionScope<'_>,
+    scope: &SectionScope<'_, D>,
     source: &Module,
 ) -> Result<Contributions, SectionFault>
     ensures { AnswersModule D.table scope.now (view_module source.now) result }

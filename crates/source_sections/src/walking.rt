@@ -39,7 +39,7 @@ fn unguarded(dontcare: bool, block: Option<u32>) -> Guard
 /// A section behind what was walked before.
 fn walk_section<D: Device>(
     alloc: Global,
-    scope: &SectionScope<'_>,
+    scope: &SectionScope<'_, D>,
     setting: Setting,
     section: &Section,
     out: &mut Walked,
@@ -68,7 +68,7 @@ fn walk_section<D: Device>(
 /// The sections of a source, where `@DCSET` is in force before them or not. Nothing is assigned before them.
 pub(crate) fn walk_sections<D: Device>(
     alloc: Global,
-    scope: &SectionScope<'_>,
+    scope: &SectionScope<'_, D>,
     starts_dontcare: bool,
     sections: &[Section],
     out: &mut Walked,

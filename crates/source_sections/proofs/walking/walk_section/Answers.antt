@@ -3,7 +3,7 @@ use Rattle.std.proofs.Common.{ap, map, subst, sym, ◌∙◌}
 use Rattle.std.proofs.lemmas.Result.{on_ok_weaker}
 use Rattle.abel_tree.specs.Tree.{Equations}
 use Rattle.abel_tree.specs.View.{view_section, view_stmt}
-use Rattle.section_targets.specs.Contexts.{context_for}
+use Rattle.set_expr.specs.Contexts.{context_for}
 use Rattle.section_targets.proofs.MetWords.{high_bit}
 use Rattle.section_targets.proofs.WalksBehind.{walks_none}
 use Rattle.source_sections.specs.Reading.{WalksSection}

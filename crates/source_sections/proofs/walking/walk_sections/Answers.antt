@@ -5,7 +5,7 @@ use Rattle.abel_meaning.specs.Directives.{after_section}
 use Rattle.abel_meaning.specs.Sections.{next_block}
 use Rattle.set_expr.proofs.FoundMembers.{front_more, whole_front}
 use Rattle.section_targets.specs.declared.manner.Manner.{Manner}
-use Rattle.section_targets.specs.Contexts.{context_for}
+use Rattle.set_expr.specs.Contexts.{context_for}
 use Rattle.section_targets.specs.Manners.{AreFirsts}
 use Rattle.section_targets.proofs.WalksBehind.{walks_none}
 use Rattle.source_sections.specs.SectionUnits.{sections_manners}
