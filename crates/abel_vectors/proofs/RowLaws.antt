@@ -4,7 +4,6 @@ use Rattle.std.specs.List.{range_with_len}
 use Rattle.pld_base.specs.declared.point.Vector.{Vector}
 use Rattle.pld_device.specs.Table.{Table}
 use Rattle.jedec_file.specs.TestVectors.{chars_of}
-use Rattle.abel_tree.specs.declared.names.Names.{Names}
 use Rattle.abel_tree.specs.FirstRefusal.{first_refusal, earlier}
 use Rattle.abel_tree.specs.Tree.{Tree, RowTree}
 use Rattle.abel_tree.proofs.FirstRefusals.{first_append}
@@ -13,14 +12,12 @@ use Rattle.abel_meaning.specs.Rows.{Mark, marks_of}
 use Rattle.abel_meaning.specs.Targets.{targets_of}
 use Rattle.abel_meaning.specs.Terms.{Term, term_of}
 use Rattle.abel_meaning.specs.Vectors.{char_or_plain}
-use Rattle.set_expr.specs.Answer.{IsContextOf}
 use Rattle.set_expr.specs.declared.fault.SectionFault.{SectionFault}
 use Rattle.set_expr.specs.declared.fault.SectionFault.TheVariants.{BadVector}
 use Rattle.set_expr.specs.SectionOrder.{section_order}
 use Rattle.truth_tables.specs.declared.entries.Entry.{Entry}
 use Rattle.truth_tables.specs.declared.entries.Entry.TheVariants as entry
 use Rattle.truth_tables.specs.EntryMarks.{IsRead}
-use Rattle.truth_tables.specs.EntryTerms.{IsOver}
 use Rattle.truth_tables.specs.RowEntries.{entry_refused}
 use Rattle.abel_vectors.specs.declared.given.Given.{Given}
 use Rattle.abel_vectors.specs.declared.rows.Row.{Row}
@@ -29,10 +26,6 @@ use Rattle.abel_vectors.specs.GivenChars.{HasFirsts, all_given, gives_no_vector,
 use Rattle.abel_vectors.specs.ReadRows.{IsMarkedRow, IsReadRow, entry_fault, marked_char, row_fault}
 use Rattle.abel_vectors.specs.VectorRefusals.{entries_refused, if_none, is_no_vector, marks_refused, row_refused}
 use Rattle.abel_vectors.proofs.PositionLaws.{all_found}
-
--- a design of the names for a device is one for any device
-pub over : (t : Table) (n : Names) (d : Context) → IsContextOf t n d → IsOver n d
-over t n d is = record { names = is.names; known = is.known }
 
 map_same : (f g : ℕ → ℕ) (xs : List ℕ) → ((x : ℕ) → f x ≡ g x) → map f xs ≡ map g xs
 map_same f g [] h = refl

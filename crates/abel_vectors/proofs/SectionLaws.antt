@@ -10,17 +10,14 @@ use Rattle.pld_base.specs.declared.point.Vector.{Vector}
 use Rattle.pld_device.specs.Table.{Table}
 use Rattle.jedec_file.specs.Fields.{is_test_char}
 use Rattle.jedec_file.specs.TestVectors.{IsTestVector, all_chars, chars_of}
-use Rattle.abel_tree.specs.declared.names.Names.{Names}
 use Rattle.abel_tree.specs.declared.tables.Vectors.{Vectors}
-use Rattle.abel_tree.specs.Entries.{entries_of}
 use Rattle.abel_tree.specs.FirstRefusal.{first_refusal, earlier}
 use Rattle.abel_tree.specs.Tree.{Tree, SectionTree, Declarations, Equations, ATable, ADiagram, SomeVectors, DontCareSection}
 use Rattle.abel_tree.specs.View.{view, view_vector_row}
 use Rattle.abel_tree.proofs.FirstRefusals.{first_append, none_refused}
-use Rattle.abel_meaning.specs.Designs.{Context, context_of}
+use Rattle.abel_meaning.specs.Designs.{Context}
 use Rattle.abel_meaning.specs.Terms.{term_of}
 use Rattle.abel_meaning.specs.Vectors.{row_chars, section_vectors}
-use Rattle.set_expr.specs.Answer.{IsContextOf}
 use Rattle.set_expr.specs.declared.fault.SectionFault.{SectionFault}
 use Rattle.set_expr.specs.declared.fault.SectionFault.TheVariants as fault
 use Rattle.set_expr.specs.SectionOrder.{section_order}
@@ -72,13 +69,7 @@ rows_answer d n v found a b is = by_fault found.fault refl
     by_fault None e = (same ∙ none_refused section_order (rows_refused d n (header_term d v.inputs) (header_term d v.outputs) (map view_vector_row v.rows)) (sym e ∙ is.fault), is.list e)
     by_fault (Some f) e = refused_answer d n (view_vectors v) f (ap (first_refusal section_order) same ∙ sym is.fault ∙ e)
 
--- ---- over some design of the names
-
-abbrev some_design : Table → Names → Context
-some_design t n = context_of t (entries_of n)
-
-some_design_of : (t : Table) (n : Names) → IsContextOf t n (some_design t n)
-some_design_of t n = record { device = refl; names = refl; known = refl }
+-- ---- how many there are, and which characters
 
 if_none_parts : (xs ys : List SectionFault) → if_none xs ys ≡ [] → ys ≡ []
 if_none_parts [] ys e = e
@@ -88,18 +79,18 @@ if_none_parts (x ∷ xs) ys e = absurd cc
 count : (t : Table) (vs : List Vector) (css : List (List ℕ)) → all_chars t vs ≡ css → length vs ≡ length css
 count t vs css e = sym (length-map vs (chars_of t)) ∙ ap length e
 
-few_in : (d : Context) (n : ℕ) (s : SectionTree) (r : Result (Vec Vector) SectionFault) → n ≤ 9999 → Answers d n s r → IfOk r (λ list. n + length list.items ≤ 9999)
-few_in d n s (Err f) le h = tt
-few_in d n (SomeVectors _ p a b rs) (Ok list) le h =
+pub answers_few : (d : Context) (n : ℕ) (s : SectionTree) (r : Result (Vec Vector) SectionFault) → n ≤ 9999 → Answers d n s r → IfOk r (λ list. n + length list.items ≤ 9999)
+answers_few d n s (Err f) le h = tt
+answers_few d n (SomeVectors _ p a b rs) (Ok list) le h =
     let rows : n + length rs ≤ 9999 = rows_few d n (term_of d.known a) (term_of d.known b) rs le (if_none_parts (header_refused d p a b) (rows_refused d n (term_of d.known a) (term_of d.known b) rs) h.0) in
     let same = count d.device list.items (map (row_chars d (term_of d.known a) (term_of d.known b)) rs) h.1 in
     let mapped = length-map rs (row_chars d (term_of d.known a) (term_of d.known b)) in
     omega arith
-few_in d n (Declarations ds) (Ok list) le h = let same = count d.device list.items [] h.1 in omega arith
-few_in d n (Equations ss) (Ok list) le h = let same = count d.device list.items [] h.1 in omega arith
-few_in d n (ATable p a c b rs) (Ok list) le h = let same = count d.device list.items [] h.1 in omega arith
-few_in d n (ADiagram p t ss) (Ok list) le h = let same = count d.device list.items [] h.1 in omega arith
-few_in d n (DontCareSection c) (Ok list) le h = let same = count d.device list.items [] h.1 in omega arith
+answers_few d n (Declarations ds) (Ok list) le h = let same = count d.device list.items [] h.1 in omega arith
+answers_few d n (Equations ss) (Ok list) le h = let same = count d.device list.items [] h.1 in omega arith
+answers_few d n (ATable p a c b rs) (Ok list) le h = let same = count d.device list.items [] h.1 in omega arith
+answers_few d n (ADiagram p t ss) (Ok list) le h = let same = count d.device list.items [] h.1 in omega arith
+answers_few d n (DontCareSection c) (Ok list) le h = let same = count d.device list.items [] h.1 in omega arith
 
 section_test : (d : Context) (s : SectionTree) → AllTest (section_vectors d s)
 section_test d (SomeVectors _ p a b rs) = rows_test d (term_of d.known a) (term_of d.known b) rs
@@ -109,16 +100,6 @@ section_test d (ATable p a c b rs) = All-nil (λ (cs : List ℕ). list_all is_te
 section_test d (ADiagram p t ss) = All-nil (λ (cs : List ℕ). list_all is_test_char cs ≡ true)
 section_test d (DontCareSection c) = All-nil (λ (cs : List ℕ). list_all is_test_char cs ≡ true)
 
-chars_in : (d : Context) (n : ℕ) (s : SectionTree) (r : Result (Vec Vector) SectionFault) → Answers d n s r → IfOk r (λ list. All (IsTestVector d.device) list.items)
-chars_in d n s (Err f) h = tt
-chars_in d n s (Ok list) h = all_test d.device list.items (subst AllTest (sym h.1) (section_test d s))
-
--- the answer for all designs of the names
-abbrev AnswersAll : Table → Names → ℕ → SectionTree → Result (Vec Vector) SectionFault → Type 0
-AnswersAll t n count s r = (d : Context) → IsContextOf t n d → Answers d count s r
-
-pub answers_few : (t : Table) (n : Names) (before : ℕ) (s : SectionTree) (r : Result (Vec Vector) SectionFault) → before ≤ 9999 → AnswersAll t n before s r → IfOk r (λ list. before + length list.items ≤ 9999)
-answers_few t n before s r le h = few_in (some_design t n) before s r le (h (some_design t n) (some_design_of t n))
-
-pub answers_test : (t : Table) (n : Names) (before : ℕ) (s : SectionTree) (r : Result (Vec Vector) SectionFault) → AnswersAll t n before s r → IfOk r (λ list. All (IsTestVector t) list.items)
-answers_test t n before s r h = chars_in (some_design t n) before s r (h (some_design t n) (some_design_of t n))
+pub answers_test : (d : Context) (n : ℕ) (s : SectionTree) (r : Result (Vec Vector) SectionFault) → Answers d n s r → IfOk r (λ list. All (IsTestVector d.device) list.items)
+answers_test d n s (Err f) h = tt
+answers_test d n s (Ok list) h = all_test d.device list.items (subst AllTest (sym h.1) (section_test d s))

@@ -23,6 +23,20 @@ pub(crate) struct Given {
     pub char: u8,
 }
 
+/// The names at the positions of a header from the left, None at X.
+#[derive(Drop)]
+pub(crate) struct Positions<'a> {
+    pub inputs: &'a [Option<u32>],
+    pub outputs: &'a [Option<u32>],
+}
+
+/// The marks of a row under its header.
+#[derive(Drop)]
+pub(crate) struct RowMarks<'a> {
+    pub inputs: &'a [Mark],
+    pub outputs: &'a [Mark],
+}
+
 /// A character for a pin, where there is one.
 fn given_if(pin: u8, char: Option<u8>) -> Option<Given>
     ensures { pairs_of result ≡ char_if pin char }
@@ -128,17 +142,22 @@ fn put_side(
 pub(crate) fn row_chars(
     alloc: Global,
     scope: &Scope<'_>,
-    inputs: &[Option<u32>],
-    given: &[Mark],
-    outputs: &[Option<u32>],
-    tested: &[Mark],
+    positions: &Positions<'_>,
+    marks: &RowMarks<'_>,
 ) -> Result<Option<Vec<Given>>, OutOfMemory>
-    ensures { IfOk result (λ found. (d : Context) → d.names ≡ entries_of scope.now → IsGiven d inputs.now (map view_mark given.now) outputs.now (map view_mark tested.now) found) }
+    ensures { IfOk result (λ found. (d : Context) → d.names ≡ entries_of scope.now → IsGiven d positions.now.inputs.now (map view_mark marks.now.inputs.now) positions.now.outputs.now (map view_mark marks.now.outputs.now) found) }
 {
     let mut list = Vec::new(alloc);
-    let driven = put_side(scope, Role::Driven, inputs, given, &mut list)?;
-    let agree = put_side(scope, Role::Tested, outputs, tested, &mut list)?;
-    if either(tests_pulse(outputs, tested), !both(driven, agree)) {
+    let outputs = positions.outputs;
+    let driven = put_side(
+        scope,
+        Role::Driven,
+        positions.inputs,
+        marks.inputs,
+        &mut list,
+    )?;
+    let agree = put_side(scope, Role::Tested, outputs, marks.outputs, &mut list)?;
+    if either(tests_pulse(outputs, marks.outputs), !both(driven, agree)) {
         Ok(None)
     } else {
         Ok(Some(list))

@@ -65,7 +65,7 @@ fn first_with(section: SectionFault, tested: &Result<Vec<Vector>, SectionFault>)
 /// and its vectors. Else the first refusal by place.
 pub fn all_sections<D: Device>(
     alloc: Global,
-    scope: &SectionScope<'_>,
+    scope: &SectionScope<'_, D>,
     source: &Module,
 ) -> Result<SourceSections, SectionFault>
     ensures answers { AnswersAll (design_for D.table (entries_of scope.now) (view_module source.now)) result }

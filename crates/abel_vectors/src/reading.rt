@@ -3,12 +3,12 @@
 ghost use Rattle.std.specs.Prelude.{◌≡◌, ◌+◌, ◌≤◌, All, IfOk, length};
 ghost use Rattle.jedec_file.specs.TestVectors.{IsTestVector};
 ghost use Rattle.abel_tree.specs.View.{view_section};
-ghost use Rattle.abel_meaning.specs.Designs.{Context};
-ghost use Rattle.set_expr.specs.Answer.{IsContextOf};
+ghost use Rattle.set_expr.specs.Contexts.{context_for};
 ghost use Rattle.abel_vectors.specs.HeaderSides.{side_fault};
 ghost use Rattle.abel_vectors.specs.ReadRows.{AreSides, answer_of, view_vectors};
 ghost use Rattle.abel_vectors.specs.VectorAnswers.{Answers};
 
+use crate::given::Positions;
 use crate::headers::{Side, read_side};
 use crate::rows::{Rows, first_of, read_rows};
 use abel_tree::{Section, Vectors};
@@ -16,6 +16,13 @@ use pld_base::Vector;
 use pld_device::Device;
 use set_expr::{Scope, SectionFault};
 use std::alloc::Global;
+
+/// Both sides of a header.
+#[derive(Drop)]
+struct Sides {
+    inputs: Side,
+    outputs: Side,
+}
 
 /// The refusal of a side of a header, if there is one.
 fn fault_of(side: &Side) -> Option<SectionFault>
@@ -42,19 +49,23 @@ fn read_under<D: Device>(
     alloc: Global,
     scope: &Scope<'_>,
     section: &Vectors,
-    inputs: Side,
-    outputs: Side,
+    sides: Sides,
     before: u32,
 ) -> Result<Vec<Vector>, SectionFault>
-    ensures { (d : Context) → IsContextOf D.table scope.now d → AreSides d section.now inputs outputs → Answers d before (view_vectors section.now) result }
+    ensures { AreSides (context_for D.table scope.now) section.now sides.inputs sides.outputs → Answers (context_for D.table scope.now) before (view_vectors section.now) result }
 {
+    let inputs = sides.inputs;
+    let outputs = sides.outputs;
     match inputs {
         Side::Refused(first) => Err(first_of(first, fault_of(&outputs))),
         Side::Pins(inputs) => match outputs {
             Side::Refused(second) => Err(second),
             Side::Pins(outputs) => {
-                let (inputs, outputs) = (inputs.as_slice(), outputs.as_slice());
-                answer(read_rows::<D>(alloc, scope, section, inputs, outputs, before)?)
+                let positions = Positions {
+                    inputs: inputs.as_slice(),
+                    outputs: outputs.as_slice(),
+                };
+                answer(read_rows::<D>(alloc, scope, section, &positions, before)?)
             }
         },
     }
@@ -67,11 +78,12 @@ fn read_vectors<D: Device>(
     section: &Vectors,
     before: u32,
 ) -> Result<Vec<Vector>, SectionFault>
-    ensures { (d : Context) → IsContextOf D.table scope.now d → Answers d before (view_vectors section.now) result }
+    ensures { Answers (context_for D.table scope.now) before (view_vectors section.now) result }
 {
     let inputs = read_side(alloc, scope, section.place, &section.inputs)?;
     let outputs = read_side(alloc, scope, section.place, &section.outputs)?;
-    read_under::<D>(alloc, scope, section, inputs, outputs, before)
+    let sides = Sides { inputs, outputs };
+    read_under::<D>(alloc, scope, section, sides, before)
 }
 
 /// The vectors of a section, which is one of TEST_VECTORS or has none, as the characters of the device's pins; `before`
@@ -84,7 +96,7 @@ pub fn vectors<D: Device>(
     before: u32,
 ) -> Result<Vec<Vector>, SectionFault>
     requires before { before ≤ 9999 }
-    ensures answers { (d : Context) → IsContextOf D.table scope.now d → Answers d before (view_section section.now) result }
+    ensures answers { Answers (context_for D.table scope.now) before (view_section section.now) result }
     // So many are the vectors of the sections up to this one.
     ensures few { IfOk result (λ list. before + length list.items ≤ 9999) }
     // A fuse file may have them.

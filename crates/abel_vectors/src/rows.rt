@@ -3,21 +3,20 @@
 ghost use Rattle.std.specs.Prelude.{◌≡◌, ◌+◌, Some, IfOk, OnOk, map};
 ghost use Rattle.abel_tree.specs.FirstRefusal as refusal;
 ghost use Rattle.abel_tree.specs.View.{view_vector_row};
-ghost use Rattle.abel_meaning.specs.Designs.{Context};
 ghost use Rattle.abel_meaning.specs.Targets.{targets_of};
-ghost use Rattle.set_expr.specs.Answer.{IsContextOf};
+ghost use Rattle.set_expr.specs.Contexts.{context_for};
 ghost use Rattle.set_expr.specs.SectionOrder.{section_order};
 ghost use Rattle.truth_tables.specs.EntryMarks.{view_mark};
 ghost use Rattle.abel_vectors.specs.ReadRows.{AddsRow, AreRead, IsMarkedRow, IsReadRow, entry_fault, header_term, room_fault};
 
-use crate::given::row_chars;
+use crate::given::{Positions, RowMarks, row_chars};
 use crate::pins::vector_of;
 use abel_tree::{VectorRow, Vectors};
 use pld_base::{OutOfMemory, Place, Vector};
 use pld_device::Device;
 use set_expr::{Scope, SectionFault, earlier};
 use std::alloc::Global;
-use truth_tables::{Entry, Mark, read_entry};
+use truth_tables::{Entry, read_entry};
 
 /// The most vectors of a source.
 const MOST: u32 = 9_999;
@@ -67,14 +66,12 @@ fn marked_row<D: Device>(
     alloc: Global,
     scope: &Scope<'_>,
     place: Place,
-    inputs: &[Option<u32>],
-    given: &[Mark],
-    outputs: &[Option<u32>],
-    tested: &[Mark],
+    positions: &Positions<'_>,
+    marks: &RowMarks<'_>,
 ) -> Result<Row, OutOfMemory>
-    ensures { IfOk result (λ row. (d : Context) → IsContextOf D.table scope.now d → IsMarkedRow d place inputs.now (map view_mark given.now) outputs.now (map view_mark tested.now) row) }
+    ensures { IfOk result (λ row. IsMarkedRow (context_for D.table scope.now) place positions.now.inputs.now (map view_mark marks.now.inputs.now) positions.now.outputs.now (map view_mark marks.now.outputs.now) row) }
 {
-    match row_chars(alloc, scope, inputs, given, outputs, tested)? {
+    match row_chars(alloc, scope, positions, marks)? {
         Some(list) => Ok(Row::Read(vector_of::<D>(list.as_slice()))),
         None => Ok(Row::Refused(SectionFault::BadVector(place))),
     }
@@ -85,11 +82,10 @@ fn read_row<D: Device>(
     alloc: Global,
     scope: &Scope<'_>,
     section: &Vectors,
-    inputs: &[Option<u32>],
-    outputs: &[Option<u32>],
+    positions: &Positions<'_>,
     row: &VectorRow,
 ) -> Result<Row, OutOfMemory>
-    ensures { IfOk result (λ found. (d : Context) → IsContextOf D.table scope.now d → inputs.now ≡ targets_of (header_term d section.now.inputs) → outputs.now ≡ targets_of (header_term d section.now.outputs) → IsReadRow d (header_term d section.now.inputs) (header_term d section.now.outputs) (view_vector_row row.now) found) }
+    ensures { IfOk result (λ found. positions.now.inputs.now ≡ targets_of (header_term (context_for D.table scope.now) section.now.inputs) → positions.now.outputs.now ≡ targets_of (header_term (context_for D.table scope.now) section.now.outputs) → IsReadRow (context_for D.table scope.now) (header_term (context_for D.table scope.now) section.now.inputs) (header_term (context_for D.table scope.now) section.now.outputs) (view_vector_row row.now) found) }
 {
     let fault = SectionFault::BadVector(row.place);
     let given = read_entry(alloc, scope, fault, &section.inputs, &row.inputs)?;
@@ -98,15 +94,13 @@ fn read_row<D: Device>(
         Entry::Refused(first) => Ok(Row::Refused(first_of(first, fault_of(&tested)))),
         Entry::Marks(given) => match tested {
             Entry::Refused(second) => Ok(Row::Refused(second)),
-            Entry::Marks(tested) => marked_row::<D>(
-                alloc,
-                scope,
-                row.place,
-                inputs,
-                given.as_slice(),
-                outputs,
-                tested.as_slice(),
-            ),
+            Entry::Marks(tested) => {
+                let marks = RowMarks {
+                    inputs: given.as_slice(),
+                    outputs: tested.as_slice(),
+                };
+                marked_row::<D>(alloc, scope, row.place, positions, &marks)
+            }
         },
     }
 }
@@ -144,11 +138,10 @@ pub(crate) fn read_rows<D: Device>(
     alloc: Global,
     scope: &Scope<'_>,
     section: &Vectors,
-    inputs: &[Option<u32>],
-    outputs: &[Option<u32>],
+    positions: &Positions<'_>,
     before: u32,
 ) -> Result<Rows, OutOfMemory>
-    ensures { IfOk result (λ found. (d : Context) → IsContextOf D.table scope.now d → inputs.now ≡ targets_of (header_term d section.now.inputs) → outputs.now ≡ targets_of (header_term d section.now.outputs) → AreRead d before (header_term d section.now.inputs) (header_term d section.now.outputs) (map view_vector_row section.now.rows) found) }
+    ensures { IfOk result (λ found. positions.now.inputs.now ≡ targets_of (header_term (context_for D.table scope.now) section.now.inputs) → positions.now.outputs.now ≡ targets_of (header_term (context_for D.table scope.now) section.now.outputs) → AreRead (context_for D.table scope.now) before (header_term (context_for D.table scope.now) section.now.inputs) (header_term (context_for D.table scope.now) section.now.outputs) (map view_vector_row section.now.rows) found) }
 {
     let rows = section.rows.as_slice();
     let mut found = Rows {
@@ -158,7 +151,7 @@ pub(crate) fn read_rows<D: Device>(
     for index in 0..rows.len() {
         let row = &rows[index];
         let room = refuse_room(before, index, row.place);
-        let read = read_row::<D>(alloc, scope, section, inputs, outputs, row)?;
+        let read = read_row::<D>(alloc, scope, section, positions, row)?;
         add_row(&mut found, room, read)?;
     }
     Ok(found)

@@ -1,11 +1,11 @@
 //! The vectors of all sections of a source.
 
-ghost use Rattle.std.specs.Prelude.{◌≡◌, ◌≤◌, All, IfOk, length};
+ghost use Rattle.std.specs.Prelude.{◌≤◌, All, IfOk, length};
 ghost use Rattle.jedec_file.specs.TestVectors.{IsTestVector};
 ghost use Rattle.abel_tree.specs.Entries.{entries_of};
 ghost use Rattle.abel_tree.specs.View.{view_module};
-ghost use Rattle.abel_meaning.specs.Designs.{Context, design_for};
-ghost use Rattle.set_expr.specs.Answer.{IsContextOf};
+ghost use Rattle.abel_meaning.specs.Designs.{design_for};
+ghost use Rattle.set_expr.specs.Contexts.{context_for};
 ghost use Rattle.source_sections.specs.Reading.{view_sections};
 ghost use Rattle.abel_vectors.specs.FoundVectors.{AreFound};
 ghost use Rattle.abel_vectors.specs.SourceVectors.{AnswersVectors};
@@ -26,7 +26,7 @@ fn read_vectors<D: Device>(
     scope: &Scope<'_>,
     sections: &[Section],
 ) -> Result<Found, OutOfMemory>
-    ensures found { IfOk result (λ found. (d : Context) → IsContextOf D.table scope.now d → AreFound d (view_sections sections.now) found) }
+    ensures found { IfOk result (λ found. AreFound (context_for D.table scope.now) (view_sections sections.now) found) }
     ensures chars { IfOk result (λ found. All (IsTestVector D.table) found.list.items) }
 {
     let mut found = Found {

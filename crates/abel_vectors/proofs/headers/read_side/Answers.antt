@@ -1,10 +1,11 @@
 -- An expression that is refused, and one that isn't.
 use Rattle.std.proofs.Common.{sym, ◌∙◌, subst}
 use Rattle.std.proofs.lemmas.Result.{IfOk-weaker}
+use Rattle.abel_tree.proofs.FirstRefusals.{none_refused}
 use Rattle.abel_tree.specs.View.{view}
 use Rattle.set_expr.specs.FoundNames.{expression_found}
 use Rattle.set_expr.specs.KnownNames.{SumsUp}
-use Rattle.truth_tables.proofs.PartLaws.{none_refused}
+use Rattle.set_expr.specs.SectionOrder.{section_order}
 use Rattle.abel_vectors.proofs.SideLaws.{side_fault}
 use Rattle.abel_vectors.proofs.headers.read_side.Goals as goal
 
@@ -20,5 +21,5 @@ returns-in-None c =
     (λ r h d is.
     let t = view c.args.side.now in
     let s = subst (λ es. SumsUp c.in_ok-found.found (expression_found es t)) (sym is.names) c.in_ok-found.ensures in
-    h d is (none_refused (expression_found d.names t).refusals (sym s.fault ∙ c.in-None.is)))
+    h d is (none_refused section_order (expression_found d.names t).refusals (sym c.in-None.is ∙ s.fault)))
     c.named_side.ensures

@@ -2,6 +2,7 @@
 use Rattle.std.proofs.Common.{sym, ap, ap₂, ◌∙◌, subst}
 use Rattle.abel_tree.specs.FirstRefusal.{earlier}
 use Rattle.abel_tree.specs.View.{view}
+use Rattle.set_expr.specs.Contexts.{context_for}
 use Rattle.set_expr.specs.SectionOrder.{section_order}
 use Rattle.abel_vectors.specs.HeaderSides.{IsSide, side_fault}
 use Rattle.abel_vectors.specs.ReadRows.{view_vectors}
@@ -10,21 +11,24 @@ use Rattle.abel_vectors.proofs.SectionLaws.{header_answer, rows_answer}
 use Rattle.abel_vectors.proofs.reading.read_under.Goals as goal
 
 pub returns-in-Refused : goal.returns-in-Refused
-returns-in-Refused g c d is sides =
-    header_answer d c.args.before c.args.section.now c.args.inputs c.args.outputs c.first_of.result sides.inputs sides.outputs
+returns-in-Refused g c sides =
+    let d = context_for g.D.Device.table c.args.scope.now in
+    header_answer d c.args.before c.args.section.now c.args.sides.inputs c.args.sides.outputs c.first_of.result sides.inputs sides.outputs
     (ap₂ (earlier section_order) (ap side_fault c.in-Refused.is) (sym c.fault_of.ensures) ∙ sym c.first_of.ensures)
 
 pub returns-in-Refused-outputs : goal.returns-in-Refused-outputs
-returns-in-Refused-outputs g c d is sides =
-    header_answer d c.args.before c.args.section.now c.args.inputs c.args.outputs c.in-Refused-outputs.second sides.inputs sides.outputs
+returns-in-Refused-outputs g c sides =
+    let d = context_for g.D.Device.table c.args.scope.now in
+    header_answer d c.args.before c.args.section.now c.args.sides.inputs c.args.sides.outputs c.in-Refused-outputs.second sides.inputs sides.outputs
     (ap₂ (earlier section_order) (ap side_fault c.in-Pins.is) (ap side_fault c.in-Refused-outputs.is))
 
 pub returns : goal.returns
-returns g c d is sides =
+returns g c sides =
+    let d = context_for g.D.Device.table c.args.scope.now in
     let v = c.args.section.now in
     let p = subst (IsSide d v.place (view v.inputs)) c.in-Pins.is sides.inputs in
     let q = subst (IsSide d v.place (view v.outputs)) c.in-Pins-outputs.is sides.outputs in
     let found = c.in_ok-read_rows-in-Pins-outputs.field-0 in
     subst (Answers d c.args.before (view_vectors v)) (sym c.answer.ensures)
     (rows_answer d c.args.before v found p.0 q.0
-    (c.in_ok-read_rows-in-Pins-outputs.ensures d is (c.as_slice-inputs.ensures.value ∙ p.1) (c.as_slice-outputs.ensures.value ∙ q.1)))
+    (c.in_ok-read_rows-in-Pins-outputs.ensures (c.as_slice.ensures.value ∙ p.1) (c.as_slice-in-Pins-outputs.ensures.value ∙ q.1)))

@@ -3,7 +3,7 @@ use Rattle.std.proofs.Common.{sym, subst, ◌∙◌, List}
 use Rattle.abel_tree.specs.declared.sections.Section.{Section}
 use Rattle.source_sections.specs.Reading.{view_sections}
 use Rattle.source_sections.proofs.SectionsAnswered.{told_of}
-use Rattle.source_sections.proofs.SourceAnswers.{designed, is_designed}
+use Rattle.source_sections.proofs.SourceAnswers.{designed}
 use Rattle.abel_vectors.specs.FoundVectors.{AreFound}
 use Rattle.abel_vectors.specs.SourceVectors.{all_vectors_refused}
 use Rattle.abel_vectors.proofs.VectorLists.{all_found, found_few}
@@ -16,7 +16,7 @@ returns-in-None-clause-answers g c =
     let m = c.args.source.now in
     let d = designed t n m in
     let found = c.in_ok-found.found in
-    all_found d found c.in-None.is (subst (λ (xs : List Section). AreFound d.context (view_sections xs) found) c.as_slice.ensures (c.in_ok-found.ensures.found d.context (is_designed t n m)))
+    all_found d found c.in-None.is (subst (λ (xs : List Section). AreFound d.context (view_sections xs) found) c.as_slice.ensures c.in_ok-found.ensures.found)
 
 pub returns-in-None-clause-few : goal.returns-in-None-clause-few
 returns-in-None-clause-few g c =
@@ -25,7 +25,7 @@ returns-in-None-clause-few g c =
     let m = c.args.source.now in
     let d = designed t n m in
     let found = c.in_ok-found.found in
-    found_few d found.list.items (all_found d found c.in-None.is (subst (λ (xs : List Section). AreFound d.context (view_sections xs) found) c.as_slice.ensures (c.in_ok-found.ensures.found d.context (is_designed t n m))))
+    found_few d found.list.items (all_found d found c.in-None.is (subst (λ (xs : List Section). AreFound d.context (view_sections xs) found) c.as_slice.ensures c.in_ok-found.ensures.found))
 
 pub returns-in-Some-clause-answers : goal.returns-in-Some-clause-answers
 returns-in-Some-clause-answers g c =
@@ -35,4 +35,4 @@ returns-in-Some-clause-answers g c =
     let d = designed t n m in
     let found = c.in_ok-found.found in
     told_of (all_vectors_refused d) c.in-Some.fault
-    (sym (subst (λ (xs : List Section). AreFound d.context (view_sections xs) found) c.as_slice.ensures (c.in_ok-found.ensures.found d.context (is_designed t n m))).fault ∙ c.in-Some.is)
+    (sym (subst (λ (xs : List Section). AreFound d.context (view_sections xs) found) c.as_slice.ensures c.in_ok-found.ensures.found).fault ∙ c.in-Some.is)
