@@ -1,5 +1,5 @@
 -- Where nothing is refused, a register follows Q, or may, only where the device complements behind it.
-use Rattle.std.proofs.Common.{◌≡◌, ◌≢◌, ℕ, zero, suc, ◌+◌, ◌==◌, Bool, true, false, not, ◌&&◌, ◌||◌, if◌then◌else◌, Option, Some, None, List, [], ◌∷◌, ◌++◌, get_or, option_map, refl, sym, ap, ap₂, subst, ◌∙◌, arith}
+use Rattle.std.proofs.Common.{◌≡◌, ◌≢◌, ℕ, zero, suc, ◌+◌, ◌==◌, Bool, true, false, not, ◌&&◌, ◌||◌, if◌then◌else◌, Option, Some, None, List, [], ◌∷◌, ◌++◌, get_or, option_map, refl, sym, ap, ap₂, subst, ◌∙◌, arith, add-zero, suc-add, add-suc, zero-add}
 use Rattle.std.specs.Prelude.{slice_get, unwrap_or}
 use Rattle.std.specs.List.{All, list_all}
 use Rattle.std.proofs.lemmas.Bool.{and_parts, true≢false}
@@ -17,15 +17,15 @@ use Rattle.abel_meaning.specs.Declarations.{GivenName, declared_names}
 use Rattle.abel_meaning.specs.Designs.{no_name, is_stored, follows_q}
 use Rattle.abel_meaning.specs.Held.{Holds, holds_of, is_held}
 use Rattle.abel_meaning.specs.Kinds.{is_buffer_by_default, is_registered, words_with_kind, with_kind, with_kinds, names_of}
+use Rattle.decls.proofs.NoRefusals.{none_left, none_right}
 use Rattle.declared_names.proofs.Settling.{is_no_target}
 use Rattle.decls.specs.declared.fault.NameFault.TheVariants as fault
 use Rattle.decls.specs.AllDeclarations.{all_declarations}
 use Rattle.decls.specs.NameRefusals.{always_inverts, all_buffered, is_register_at, buffers_refused, module_buffers_refused, names_once, read_refusals, name_refusals}
-use Rattle.decls.proofs.NoRefusals.{none_left, none_right}
 use Rattle.declared_names.specs.AcceptedNames.{BuffersAreAllowed}
 use Rattle.declared_names.proofs.Accepted.{module_accepted}
 use Rattle.declared_names.proofs.Among.{of_among}
-use Rattle.declared_names.proofs.Buffers.{no_plus, registered_by, declared_at}
+use Rattle.declared_names.proofs.Buffers.{registered_by, declared_at}
 use Rattle.declared_names.proofs.Placed.{found_at}
 use Rattle.declared_names.proofs.SaidBuffers.{IsTold, declarations_told}
 use Rattle.declared_names.proofs.SoundEntries.{AreSound}
@@ -45,21 +45,15 @@ none_registered found es (x ∷ xs) h = by (is_register_at found es (find es x.n
 kinds_at : (flip : Flip) (held : Holds) (found : List Assigned) (k : ℕ) (es : List Entry) (s : ℕ) → slice_get (with_kinds flip held found k es) s ≡ option_map (with_kind flip held found (k + s)) (slice_get es s)
 kinds_at flip held found k [] zero = refl
 kinds_at flip held found k [] (suc s) = refl
-kinds_at flip held found k (e ∷ es) zero = ap (λ n. Some (with_kind flip held found n e)) (start k)
-  where
-    start : (n : ℕ) → n ≡ n + 0
-    start n = omega arith
-kinds_at flip held found k (e ∷ es) (suc s) = kinds_at flip held found (suc k) es s ∙ ap (λ n. option_map (with_kind flip held found n) (slice_get es s)) (step k s)
-  where
-    step : (n j : ℕ) → suc n + j ≡ n + suc j
-    step n j = omega arith
+kinds_at flip held found k (e ∷ es) zero = ap (λ n. Some (with_kind flip held found n e)) (sym (add-zero k))
+kinds_at flip held found k (e ∷ es) (suc s) = kinds_at flip held found (suc k) es s ∙ ap (λ n. option_map (with_kind flip held found n) (slice_get es s)) (suc-add k s ∙ sym (add-suc k s))
 
 -- a settled name, or what stands past the end
 pub name_at_or : (flip : Flip) (held : Holds) (found : List Assigned) (es : List Entry) (s : ℕ) (o : Option Entry) → slice_get es s ≡ o
     → get_or (with_kinds flip held found 0 es) s no_name ≡ unwrap_or (option_map (with_kind flip held found s) o) no_name
 name_at_or flip held found es s o is =
     sym (unwrap_or-slice_get (with_kinds flip held found 0 es) s no_name)
-    ∙ ap (λ (x : Option Entry). unwrap_or x no_name) (kinds_at flip held found 0 es s ∙ ap₂ (λ n (x : Option Entry). option_map (with_kind flip held found n) x) (no_plus s) is)
+    ∙ ap (λ (x : Option Entry). unwrap_or x no_name) (kinds_at flip held found 0 es s ∙ ap₂ (λ n (x : Option Entry). option_map (with_kind flip held found n) x) (zero-add s) is)
 
 inverts : (t : Table) → t.clock ≢ 0 → pin_complements t.flip true false ≡ true → always_inverts t ≡ true
 inverts t clock complements = ap₂ (λ a b. not a && b) (other t.clock clock) complements

@@ -1,30 +1,18 @@
 -- What the marks say of one name.
 use Rattle.std.proofs.Common.{◌≡◌, ◌≢◌, ℕ, zero, suc, ◌==◌, ◌<◌, ◌≤◌, Bool, true, false, ◌||◌, ◌&&◌, List, [], ◌∷◌, length, get_or, refl, sym, ap, ap₂, ◌∙◌, arith}
-use Rattle.std.proofs.lemmas.Bool.Decides.{nat_tests}
 use Rattle.std.proofs.lemmas.Grind.{get_or-set_at}
 use Rattle.std.proofs.lemmas.List.{get_or-set_other, length-set}
+use Rattle.std.proofs.Math.Bool.{or-true, or-false, or_assoc}
 use Rattle.abel_tree.specs.Assigned.{Assigned, is_assigned, is_clocked_target}
 use Rattle.abel_tree.specs.Entries.{Entry}
 use Rattle.declared_names.specs.declared.marks.Mark.{Mark}
 use Rattle.declared_names.specs.declared.marks.Mark.TheVariants as mark
 use Rattle.declared_names.specs.Marking.{is_marked, is_strong, raised, hit, hits, all_marked}
 use Rattle.declared_names.specs.Numbered.{direct, spread_by, spread_from, swept}
-use Rattle.declared_names.proofs.Spreading.{among, spread, sweep, same_number, or_false}
+use Rattle.declared_names.proofs.Spreading.{among, spread, sweep, same_number, is_same}
 
 abbrev pub at : List Mark → ℕ → Mark
 at ms s = get_or ms s mark.Clear
-
-or_true : (a : Bool) → (a || true) ≡ true
-or_true true = refl
-or_true false = refl
-
-or_assoc : (a b c : Bool) → ((a || b) || c) ≡ (a || (b || c))
-or_assoc true b c = refl
-or_assoc false b c = refl
-
-and_true : (a : Bool) → (a && true) ≡ a
-and_true true = refl
-and_true false = refl
 
 raised_marked : (c : Bool) (m : Mark) → is_marked (raised c m) ≡ true
 raised_marked true m = refl
@@ -40,11 +28,8 @@ raised_strong false mark.Clear = refl
 raised_strong false mark.Plain = refl
 raised_strong false mark.Strong = refl
 
-same_is : (k s : ℕ) → s ≡ k → (k == s) ≡ true
-same_is k s e = grind (arith, nat_tests)
-
 different : (k s : ℕ) → (k == s) ≡ false → s ≢ k
-different k s e = λ i. (let bad : false ≡ true = sym e ∙ same_is k s i in cc)
+different k s e = λ i. (let bad : false ≡ true = sym e ∙ is_same k s (sym i) in cc)
 
 pub here : (c : Bool) (ms : List Mark) (k s : ℕ) → s < length ms → (k == s) ≡ true → at (hit c ms k) s ≡ raised c (at ms s)
 here c ms k s h e =
@@ -58,15 +43,15 @@ hit_marked : (c : Bool) (ms : List Mark) (k s : ℕ) → s < length ms → is_ma
 hit_marked c ms k s h = by (k == s) refl
   where
     by : (b : Bool) → (k == s) ≡ b → is_marked (at (hit c ms k) s) ≡ (is_marked (at ms s) || b)
-    by true e = ap is_marked (here c ms k s h e) ∙ (raised_marked c (at ms s) ∙ sym (or_true (is_marked (at ms s))))
-    by false e = ap is_marked (there c ms k s e) ∙ sym (or_false (is_marked (at ms s)))
+    by true e = ap is_marked (here c ms k s h e) ∙ (raised_marked c (at ms s) ∙ sym (or-true (is_marked (at ms s))))
+    by false e = ap is_marked (there c ms k s e) ∙ sym (or-false (is_marked (at ms s)))
 
 hit_strong : (c : Bool) (ms : List Mark) (k s : ℕ) → s < length ms → is_strong (at (hit c ms k) s) ≡ (is_strong (at ms s) || ((k == s) && c))
 hit_strong c ms k s h = by (k == s) refl
   where
     by : (b : Bool) → (k == s) ≡ b → is_strong (at (hit c ms k) s) ≡ (is_strong (at ms s) || (b && c))
     by true e = ap is_strong (here c ms k s h e) ∙ raised_strong c (at ms s)
-    by false e = ap is_strong (there c ms k s e) ∙ sym (or_false (is_strong (at ms s)))
+    by false e = ap is_strong (there c ms k s e) ∙ sym (or-false (is_strong (at ms s)))
 
 still : (c : Bool) (ms : List Mark) (k s : ℕ) → s < length ms → s < length (hit c ms k)
 still c ms k s h = omega (arith, h, length-set ms k (raised c (at ms k)))
@@ -74,21 +59,21 @@ still c ms k s h = omega (arith, h, length-set ms k (raised c (at ms k)))
 -- ---- several names
 
 pub all_marked_at : (found : List Assigned) (ms : List Mark) (s : ℕ) → s < length ms → is_marked (at (all_marked ms found) s) ≡ (is_marked (at ms s) || is_assigned found s)
-all_marked_at [] ms s h = sym (or_false (is_marked (at ms s)))
+all_marked_at [] ms s h = sym (or-false (is_marked (at ms s)))
 all_marked_at (a ∷ found) ms s h =
     all_marked_at found (hit a.clocked ms a.signal) s (still a.clocked ms a.signal s h)
     ∙ (ap (λ b. b || is_assigned found s) (hit_marked a.clocked ms a.signal s h)
     ∙ or_assoc (is_marked (at ms s)) (a.signal == s) (is_assigned found s))
 
 pub all_strong_at : (found : List Assigned) (ms : List Mark) (s : ℕ) → s < length ms → is_strong (at (all_marked ms found) s) ≡ (is_strong (at ms s) || is_clocked_target found s)
-all_strong_at [] ms s h = sym (or_false (is_strong (at ms s)))
+all_strong_at [] ms s h = sym (or-false (is_strong (at ms s)))
 all_strong_at (a ∷ found) ms s h =
     all_strong_at found (hit a.clocked ms a.signal) s (still a.clocked ms a.signal s h)
     ∙ (ap (λ b. b || is_clocked_target found s) (hit_strong a.clocked ms a.signal s h)
     ∙ or_assoc (is_strong (at ms s)) (a.signal == s && a.clocked) (is_clocked_target found s))
 
 hits_marked : (c : Bool) (ds : List ℕ) (ms : List Mark) (s : ℕ) → s < length ms → is_marked (at (hits c ms ds) s) ≡ (is_marked (at ms s) || among s ds)
-hits_marked c [] ms s h = sym (or_false (is_marked (at ms s)))
+hits_marked c [] ms s h = sym (or-false (is_marked (at ms s)))
 hits_marked c (d ∷ ds) ms s h =
     hits_marked c ds (hit c ms d) s (still c ms d s h)
     ∙ (ap (λ b. b || among s ds) (hit_marked c ms d s h) ∙ or_assoc (is_marked (at ms s)) (d == s) (among s ds))
@@ -122,12 +107,12 @@ length_hits c (d ∷ ds) ms = length_hits c ds (hit c ms d) ∙ length-set ms d 
 -- ---- what a marked constant names
 
 spread_marked : (m : Mark) (ds : List ℕ) (ms : List Mark) (s : ℕ) → s < length ms → is_marked (at (spread_by m ds ms) s) ≡ (is_marked (at ms s) || (is_marked m && among s ds))
-spread_marked mark.Clear ds ms s h = sym (or_false (is_marked (at ms s)))
+spread_marked mark.Clear ds ms s h = sym (or-false (is_marked (at ms s)))
 spread_marked mark.Plain ds ms s h = hits_marked false ds ms s h
 spread_marked mark.Strong ds ms s h = hits_marked true ds ms s h
 
 spread_strong : (m : Mark) (ds : List ℕ) (ms : List Mark) (s : ℕ) → s < length ms → is_strong (at (spread_by m ds ms) s) ≡ (is_strong (at ms s) || (is_strong m && among s ds))
-spread_strong mark.Clear ds ms s h = sym (or_false (is_strong (at ms s)))
+spread_strong mark.Clear ds ms s h = sym (or-false (is_strong (at ms s)))
 spread_strong mark.Plain ds ms s h = hits_strong false ds ms s h
 spread_strong mark.Strong ds ms s h = hits_strong true ds ms s h
 

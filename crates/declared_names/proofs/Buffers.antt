@@ -1,5 +1,5 @@
 -- The registers of the names as the table keeps them are those of the names as they are declared.
-use Rattle.std.proofs.Common.{◌≡◌, ℕ, zero, suc, ◌+◌, Bool, false, ◌&&◌, if◌then◌else◌, Option, Some, None, List, [], ◌∷◌, ◌++◌, ◌<◌, map, take, length, get_or, refl, sym, ap, ap₂, ◌∙◌, append_assoc, arith}
+use Rattle.std.proofs.Common.{◌≡◌, ℕ, zero, suc, ◌+◌, Bool, false, ◌&&◌, if◌then◌else◌, Option, Some, None, List, [], ◌∷◌, ◌++◌, ◌<◌, map, take, length, get_or, refl, sym, ap, ap₂, ◌∙◌, append_assoc, add-zero, suc-add, add-suc, zero-add}
 use Rattle.std.specs.Prelude.{slice_get}
 use Rattle.std.proofs.lemmas.List.{append-nil, get_or_default, take_more}
 use Rattle.pld_base.specs.declared.place.Place.{Place}
@@ -46,24 +46,15 @@ registered_kept t (ANode number) w r b f = refl
 registered_kept t (AConstant value) w r b f = refl
 registered_kept t ADeviceName w r b f = refl
 
-plus_zero : (n : ℕ) → n ≡ n + 0
-plus_zero n = omega arith
-
-plus_suc : (s n : ℕ) → suc s + n ≡ s + suc n
-plus_suc s n = omega arith
-
 settled_at : (t : Table) (flip : Flip) (held : Holds) (found : List Assigned) (s : ℕ) (es : List Entry) (n : ℕ) → is_register (slice_get (with_kinds flip held found s (map (kept t) es)) n) ≡ registered_by found (s + n) (slice_get es n)
 settled_at t flip held found s [] zero = refl
 settled_at t flip held found s [] (suc n) = refl
 settled_at t flip held found s (e ∷ es) zero =
     let registered = is_registered e.words (is_clocked_target found s) in
     registered_kept t e.kind e.words registered (is_buffer flip e.words) (stays_free flip held s e.words registered)
-    ∙ ap (λ k. is_signal e.kind && is_registered e.words (is_clocked_target found k)) (plus_zero s)
+    ∙ ap (λ k. is_signal e.kind && is_registered e.words (is_clocked_target found k)) (sym (add-zero s))
 settled_at t flip held found s (e ∷ es) (suc n) =
-    settled_at t flip held found (suc s) es n ∙ ap (λ k. registered_by found k (slice_get es n)) (plus_suc s n)
-
-pub no_plus : (n : ℕ) → 0 + n ≡ n
-no_plus n = omega arith
+    settled_at t flip held found (suc s) es n ∙ ap (λ k. registered_by found k (slice_get es n)) (suc-add s n ∙ sym (add-suc s n))
 
 pub declared_at : (found : List Assigned) (es : List Entry) (n : ℕ) → registered_by found n (slice_get es n) ≡ is_register_at found es (Some n)
 declared_at found es n = by (slice_get es n) refl
@@ -101,7 +92,7 @@ module _ (t : Table) (flip : Flip) (held : Holds) (found : List Assigned) (es : 
   one_same p None = refl
   one_same p (Some n) =
       append-nil (if is_register (slice_get settled n) then fault.BadAttribute p ∷ [] else [])
-      ∙ ap (λ b. if b then fault.BadAttribute p ∷ [] else []) (settled_at t flip held found 0 es n ∙ (ap (λ k. registered_by found k (slice_get es n)) (no_plus n) ∙ declared_at found es n))
+      ∙ ap (λ b. if b then fault.BadAttribute p ∷ [] else []) (settled_at t flip held found 0 es n ∙ (ap (λ k. registered_by found k (slice_get es n)) (zero-add n) ∙ declared_at found es n))
 
   buffers_same : (xs : List GivenName) → registers_refused settled (numbered es xs) ≡ buffers_refused found es xs
   buffers_same [] = refl

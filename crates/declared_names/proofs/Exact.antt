@@ -1,7 +1,8 @@
 -- What is answered where nothing is refused.
-use Rattle.std.proofs.Common.{◌≡◌, Bool, true, false, ◌&&◌, ◌||◌, if◌then◌else◌, Option, None, List, [], ◌∷◌, ◌++◌, map, refl, sym, ap, ap₂, subst, ◌∙◌}
+use Rattle.std.proofs.Common.{◌≡◌, Bool, true, false, ◌&&◌, if◌then◌else◌, Option, None, List, [], ◌∷◌, ◌++◌, map, refl, sym, ap, ap₂, subst, ◌∙◌}
 use Rattle.std.specs.List.{list_any}
 use Rattle.std.proofs.lemmas.List.{append-nil}
+use Rattle.std.proofs.lemmas.Bool.{or_parts}
 use Rattle.pld_device.specs.declared.flip.Flip.{Flip}
 use Rattle.pld_device.specs.Table.{Table}
 use Rattle.abel_tree.specs.declared.names.Names.{Names}
@@ -56,15 +57,11 @@ quiet_declaration es (SomeConstants names values) h = refl
 quiet_declaration es (SomeOptions words) h = refl
 quiet_declaration es (DontCareFor directive) h = refl
 
-neither : (a b : Bool) → (a || b) ≡ false → (a ≡ false) × (b ≡ false)
-neither true b h = absurd cc
-neither false b h = (refl, h)
-
 -- where no string says `buffer`, there is no name that such a string is for
 quiet_declarations : (before ds : List Declaration) → list_any says_buffer ds ≡ false → all_buffered before ds ≡ []
 quiet_declarations before [] h = refl
 quiet_declarations before (d ∷ ds) h =
-    let both = neither (says_buffer d) (list_any says_buffer ds) h in
+    let both = or_parts (says_buffer d) (list_any says_buffer ds) h in
     ap₂ (λ xs ys. xs ++ ys) (quiet_declaration (names_behind before) d both.0) (quiet_declarations (before ++ d ∷ []) ds both.1)
 
 none_wait : (t : Table) (m : ModuleTree) → registers_wait t m ≡ false → module_buffers_refused t m ≡ []

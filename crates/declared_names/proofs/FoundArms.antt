@@ -1,5 +1,5 @@
 -- What an IF holds, by its parts.
-use Rattle.std.proofs.Common.{◌≡◌, ℕ, Bool, Option, Some, List, ◌∷◌, ◌++◌, rules, ap, ◌∙◌}
+use Rattle.std.proofs.Common.{◌≡◌, ℕ, Bool, Some, List, ◌∷◌, ◌++◌, rules, ap, ◌∙◌}
 use Rattle.abel_tree.specs.declared.diagrams.Arm.{Arm, the_lemmas}
 use Rattle.abel_tree.specs.declared.diagrams.If.{If}
 use Rattle.abel_tree.specs.Assigned.{Assigned}

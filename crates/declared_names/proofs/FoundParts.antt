@@ -1,5 +1,5 @@
 -- What a WHEN holds, by its parts.
-use Rattle.std.proofs.Common.{◌≡◌, ℕ, Bool, Option, Some, List, [], ◌∷◌, ◌++◌, rules, ap, ◌∙◌}
+use Rattle.std.proofs.Common.{◌≡◌, ℕ, Bool, Some, List, ◌∷◌, ◌++◌, rules, ap, ◌∙◌}
 use Rattle.abel_tree.specs.declared.statements.Stmt.{Stmt, the_lemmas}
 use Rattle.abel_tree.specs.declared.statements.When.{When}
 use Rattle.abel_tree.specs.Assigned.{Assigned}

@@ -1,11 +1,12 @@
 -- Both passes find which registers are held.
-use Rattle.std.proofs.Common.{◌≡◌, ℕ, zero, suc, ◌+◌, ◌==◌, ◌<◌, ◌≤◌, Bool, true, false, ◌||◌, ◌&&◌, List, [], ◌∷◌, ◌++◌, take, length, refl, sym, ap, ap₂, subst, ◌∙◌, Some, arith}
+use Rattle.std.proofs.Common.{◌≡◌, ℕ, zero, suc, ◌==◌, ◌<◌, ◌≤◌, Bool, true, false, ◌||◌, ◌&&◌, List, [], ◌∷◌, length, refl, sym, ap, ap₂, subst, ◌∙◌, Some, arith}
 use Rattle.std.specs.Prelude.{replicate, slice_get}
 use Rattle.std.specs.List.{list_any}
 use Rattle.std.proofs.lemmas.List.{get_or-replicate, length-replicate}
 use Rattle.std.proofs.lemmas.List.Sums.{fold-append}
 use Rattle.std.proofs.lemmas.Option.{slice_get_within}
 use Rattle.std.proofs.Math.Seq.{take-length}
+use Rattle.std.proofs.Math.Bool.{or-false, or_assoc}
 use Rattle.abel_tree.specs.Assigned.{Assigned}
 use Rattle.abel_tree.specs.Entries.{Entry, is_signal}
 use Rattle.abel_tree.specs.Tree.{SectionTree}
@@ -13,22 +14,18 @@ use Rattle.abel_meaning.specs.Held.{Part, held_by, held_of, holds_of, is_held, p
 use Rattle.declared_names.specs.declared.marks.Mark.{Mark}
 use Rattle.declared_names.specs.declared.marks.Mark.TheVariants as mark
 use Rattle.declared_names.specs.Marking.{all_marked, is_strong, marked}
-use Rattle.declared_names.specs.Reading.{Holding, numbers_read, part_found, parts_found, read_through}
+use Rattle.declared_names.specs.Reading.{Holding, numbers_read, parts_found, read_through}
 use Rattle.declared_names.specs.Settled.{all_found, first_found, is_held_at}
 use Rattle.declared_names.proofs.Bits.{all_strong_at, at, length_all_marked}
-use Rattle.declared_names.proofs.HeldNames.{all_low, held_alike, low_read, reads, reads_by_name, reads_it, reads_low, reads_more}
+use Rattle.declared_names.proofs.HeldNames.{held_alike, low_read, reads, reads_by_name, reads_it, reads_low, reads_more}
 use Rattle.declared_names.proofs.ReadMarks.{AllLow, mark_reads, on_reads, read_all, total, total_found}
 use Rattle.declared_names.proofs.ReadsAlike.{ReadsAlike, parts_alike}
-use Rattle.declared_names.proofs.Spreading.{or_false}
-
-or_assoc : (a b c : Bool) → ((a || b) || c) ≡ (a || (b || c))
-or_assoc true b c = refl
-or_assoc false b c = refl
+use Rattle.declared_names.proofs.Spreading.{nothing, all_under}
 
 -- what parts hold together
 pub found_is : (of : List ℕ → Bool → List Assigned) (all : Bool) (ms : List Mark) (ps : List Part)
     → parts_found of (record { all = all; marks = ms }) ps ≡ record { all = all || list_any part_shares ps; marks = all_marked ms (parts_read of ps) }
-found_is of all ms [] = ap (λ b. let h : Holding = record { all = b; marks = ms } in h) (sym (or_false all))
+found_is of all ms [] = ap (λ b. let h : Holding = record { all = b; marks = ms } in h) (sym (or-false all))
 found_is of all ms (p ∷ ps) =
     found_is of (all || part_shares p) (all_marked ms (part_reads of p)) ps
     ∙ ap₂ (λ b xs. let h : Holding = record { all = b; marks = xs } in h) (or_assoc all (part_shares p) (list_any part_shares ps))
@@ -62,13 +59,9 @@ module _ (es : List Entry) (xs : List SectionTree) where
     none_read (suc k) few =
         ap₂ (λ m b. mark_reads (reads es s k) m || b) (get_or-replicate (length es) k mark.Clear mark.Clear (omega (arith, few))) (none_read k (omega (arith, few)))
 
-    nothing : (found : List Assigned) → list_any (λ (a : Assigned). false) found ≡ false
-    nothing [] = refl
-    nothing (a ∷ found) = nothing found
-
     low : AllLow (length es) own_numbers
     low =
-        all_low (length es) own_numbers
+        all_under (λ (a : Assigned). a.signal) (length es) own_numbers
         (parts_alike _ (λ (a : Assigned). false) (numbers_read (length es) es) (numbers_read (length es) es) (low_read es (length es)) (sections_parts xs) ∙ nothing own_numbers)
 
     absorbed : (o y : Bool) → (o ≡ true → y ≡ true) → ((false || o) || (false || y)) ≡ y

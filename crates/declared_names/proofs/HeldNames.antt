@@ -1,19 +1,19 @@
 -- What names read by a Q, followed through constants, and each name with its own number.
-use Rattle.std.proofs.Common.{◌≡◌, ℕ, zero, suc, ◌+◌, ◌==◌, ◌<◌, nat_le, Bool, true, false, ◌||◌, ◌&&◌, if◌then◌else◌, Option, Some, None, List, [], ◌∷◌, ◌++◌, take, length, refl, sym, ap, subst, ◌∙◌, append_assoc, arith}
+use Rattle.std.proofs.Common.{◌≡◌, ℕ, zero, suc, ◌+◌, ◌==◌, nat_le, Bool, true, false, ◌||◌, ◌&&◌, if◌then◌else◌, Option, Some, None, List, [], ◌∷◌, ◌++◌, take, length, refl, sym, ap, subst, ◌∙◌, append_assoc, add-zero, suc-add, add-suc, zero-add}
 use Rattle.std.specs.Prelude.{slice_get, bytes_eq}
 use Rattle.std.specs.List.{list_any}
-use Rattle.std.proofs.lemmas.Bool.Decides.{nat_tests}
 use Rattle.std.proofs.lemmas.List.{append-nil}
 use Rattle.std.proofs.Math.Seq.{take-append_seam}
+use Rattle.std.proofs.Math.Bool.{or-false}
 use Rattle.abel_tree.specs.Assigned.{Assigned, Named, assigned_each, signals_of_name}
 use Rattle.abel_tree.specs.Entries.{Kind, APin, ANode, AConstant, ADeviceName, Entry, is_signal}
 use Rattle.abel_meaning.specs.Held.{Held, held_after, held_by, held_meant, held_of, read_in}
-use Rattle.declared_names.specs.Numbered.{numbered, numbered_from}
-use Rattle.declared_names.specs.Reading.{numbers_read, reads_at, reads_by, reads_of}
+use Rattle.declared_names.specs.Numbered.{numbered, numbered_from, value_at, value_of}
+use Rattle.declared_names.specs.Reading.{numbers_read, reads_in, reads_of}
 use Rattle.declared_names.proofs.ReadMarks.{AllLow}
 use Rattle.declared_names.proofs.ReadsAlike.{ReadsAlike, ReadsMore, read_alike, read_more}
-use Rattle.declared_names.proofs.Related.{get_behind, low_alike, none, not_here, number_push}
-use Rattle.declared_names.proofs.Spreading.{among, or_false}
+use Rattle.declared_names.proofs.Related.{get_behind, low_alike, not_here, number_push}
+use Rattle.declared_names.proofs.Spreading.{all_under, among, nothing}
 
 -- ---- what a name reads
 
@@ -61,29 +61,20 @@ abbrev meaning_held : List Held → ℕ → Entry → Held
 meaning_held ks s e = record { name = e.name; signals = held_meant ks s e.kind }
 
 held_after_push : (ks : List Held) (s : ℕ) (l : List Entry) (e : Entry) → held_after ks s (l ++ e ∷ []) ≡ held_after ks s l ++ meaning_held (held_after ks s l) (s + length l) e ∷ []
-held_after_push ks s [] e = ap (λ n. ks ++ meaning_held ks n e ∷ []) (plus_zero s)
-  where
-    plus_zero : (s : ℕ) → s ≡ s + 0
-    plus_zero s = omega arith
+held_after_push ks s [] e = ap (λ n. ks ++ meaning_held ks n e ∷ []) (sym (add-zero s))
 held_after_push ks s (x ∷ l) e =
     held_after_push (ks ++ meaning_held ks s x ∷ []) (suc s) l e
-    ∙ ap (λ n. held_after ks s (x ∷ l) ++ meaning_held (held_after ks s (x ∷ l)) n e ∷ []) (plus_suc s (length l))
-  where
-    plus_suc : (s n : ℕ) → suc s + n ≡ s + suc n
-    plus_suc s n = omega arith
+    ∙ ap (λ n. held_after ks s (x ∷ l) ++ meaning_held (held_after ks s (x ∷ l)) n e ∷ []) (suc-add s (length l) ∙ sym (add-suc s (length l)))
 
 held_push : (l : List Entry) (e : Entry) → held_of (l ++ e ∷ []) ≡ held_of l ++ meaning_held (held_of l) (length l) e ∷ []
-held_push l e = held_after_push [] 0 l e ∙ ap (λ n. held_of l ++ meaning_held (held_of l) n e ∷ []) (no_plus (length l))
-  where
-    no_plus : (n : ℕ) → 0 + n ≡ n
-    no_plus n = omega arith
+held_push l e = held_after_push [] 0 l e ∙ ap (λ n. held_of l ++ meaning_held (held_of l) n e ∷ []) (zero-add (length l))
 
 module _ (es : List Entry) (s : ℕ) where
   own_number : (l : List Entry) (e : Entry) (r : List Entry) → es ≡ l ++ e ∷ r → (c : Bool) → among s (held_meant (held_of l) (length l) e.kind c) ≡ list_any (reads_it es s) (assigned_each c (length l ∷ []))
   own_number l e r i c =
       let t : take (length l) es ≡ l = ap (take (length l)) i ∙ take-append_seam l (e ∷ r) in
       let g : slice_get es (length l) ≡ Some e = ap (λ xs. slice_get xs (length l)) i ∙ get_behind l e r in
-      sym (or_false (reads es s (length l) c) ∙ (ap (λ o. among s (held_entry es (length l) o c)) g ∙ ap (λ xs. among s (held_meant (held_of xs) (length l) e.kind c)) t))
+      sym (or-false (reads es s (length l) c) ∙ (ap (λ o. among s (held_entry es (length l) o c)) g ∙ ap (λ xs. among s (held_meant (held_of xs) (length l) e.kind c)) t))
 
   next : (l : List Entry) (e : Entry) (r : List Entry) → es ≡ l ++ e ∷ r → Related s (reads_it es s) (held_of l) (numbered_from 0 l) → Related s (reads_it es s) (held_of (l ++ e ∷ [])) (numbered_from 0 (l ++ e ∷ []))
   next l e r i h =
@@ -121,7 +112,7 @@ module _ (es : List Entry) (s : ℕ) where
     none_left : (k : ℕ) (c b : Bool) → (k == s) ≡ false → b ≡ (((k == s) && c) || b)
     none_left k c b off = rw off refl
 
-    by_kind : (k : ℕ) (e : Entry) (kd : Kind) (c : Bool) → slice_get es k ≡ Some e → e.kind ≡ kd → among s (held_meant (held_of (take k es)) k kd c) ≡ (((k == s) && c) || list_any (reads_it es s) (reads_by k es c kd))
+    by_kind : (k : ℕ) (e : Entry) (kd : Kind) (c : Bool) → slice_get es k ≡ Some e → e.kind ≡ kd → among s (held_meant (held_of (take k es)) k kd c) ≡ (((k == s) && c) || list_any (reads_it es s) (reads_in k es c (value_of kd)))
     by_kind k e (APin pin negated) c i f = at_pin k c
     by_kind k e (ANode node) c i f = at_pin k c
     by_kind k e (AConstant value) c i f =
@@ -130,7 +121,7 @@ module _ (es : List Entry) (s : ℕ) where
         (not_same k (Some e) i (λ e2 h. let same : e ≡ e2 = cc in ap (λ (y : Entry). is_signal y.kind) (sym same) ∙ ap is_signal f))
     by_kind k e ADeviceName c i f = none_left k c false (not_same k (Some e) i (λ e2 h. let same : e ≡ e2 = cc in ap (λ (y : Entry). is_signal y.kind) (sym same) ∙ ap is_signal f))
 
-    by_entry : (k : ℕ) (o : Option Entry) (c : Bool) → slice_get es k ≡ o → among s (held_entry es k o c) ≡ (((k == s) && c) || list_any (reads_it es s) (reads_at k es c o))
+    by_entry : (k : ℕ) (o : Option Entry) (c : Bool) → slice_get es k ≡ o → among s (held_entry es k o c) ≡ (((k == s) && c) || list_any (reads_it es s) (reads_in k es c (value_at o)))
     by_entry k None c i = none_left k c false (not_same k None i (λ e h. absurd cc))
     by_entry k (Some e) c i = by_kind k e e.kind c i refl
 
@@ -178,37 +169,22 @@ each_low : (limit : ℕ) (c : Bool) (ss : List ℕ) → list_any (λ (a : Assign
 each_low limit c [] = refl
 each_low limit c (j ∷ ss) = ap (λ b. nat_le limit j || b) (each_low limit c ss)
 
-nothing : {A : Type 0} (xs : List A) → list_any (λ x. false) xs ≡ false
-nothing [] = refl
-nothing (x ∷ xs) = nothing xs
-
 pub low_read : (es : List Entry) (limit : ℕ) → ReadsAlike (λ (a : Assigned). nat_le limit a.signal) (λ (a : Assigned). false) (numbers_read limit es) (numbers_read limit es)
 low_read es limit name c =
     each_low limit c (signals_of_name (numbered limit es) name)
-    ∙ (low_alike es limit name ∙ (none (signals_of_name (numbered limit es) name) ∙ sym (nothing (assigned_each c (signals_of_name (numbered limit es) name)))))
-
-pub all_low : (limit : ℕ) (found : List Assigned) → list_any (λ (a : Assigned). nat_le limit a.signal) found ≡ false → AllLow limit found
-all_low limit [] e = tt
-all_low limit (a ∷ found) e = by (nat_le limit a.signal) refl (all_low limit found)
-  where
-    is_low : nat_le limit a.signal ≡ false → a.signal < limit
-    is_low f = grind (arith, nat_tests)
-
-    by : (b : Bool) → nat_le limit a.signal ≡ b → (list_any (λ (x : Assigned). nat_le limit x.signal) found ≡ false → AllLow limit found) → (a.signal < limit) × AllLow limit found
-    by true f h = absurd (let bad : true ≡ false = sym (ap (λ c. c || list_any (λ (x : Assigned). nat_le limit x.signal) found) f) ∙ e in cc)
-    by false f h = (is_low f, h (sym (ap (λ c. c || list_any (λ (x : Assigned). nat_le limit x.signal) found) f) ∙ e))
+    ∙ (low_alike es limit name ∙ (nothing (signals_of_name (numbered limit es) name) ∙ sym (nothing (assigned_each c (signals_of_name (numbered limit es) name)))))
 
 pub reads_low : (es : List Entry) (k : ℕ) (c : Bool) → AllLow k (reads_of es k c)
 reads_low es k c = of (slice_get es k)
   where
-    of_kind : (kd : Kind) → AllLow k (reads_by k es c kd)
+    of_kind : (kd : Kind) → AllLow k (reads_in k es c (value_of kd))
     of_kind (APin pin negated) = tt
     of_kind (ANode node) = tt
     of_kind (AConstant value) =
-        all_low k (read_in (numbers_read k es) c value)
+        all_under (λ (a : Assigned). a.signal) k (read_in (numbers_read k es) c value)
         (read_alike (λ (a : Assigned). nat_le k a.signal) (λ (a : Assigned). false) (numbers_read k es) (numbers_read k es) (low_read es k) c value ∙ nothing (read_in (numbers_read k es) c value))
     of_kind ADeviceName = tt
 
-    of : (o : Option Entry) → AllLow k (reads_at k es c o)
+    of : (o : Option Entry) → AllLow k (reads_in k es c (value_at o))
     of None = tt
     of (Some e) = of_kind e.kind

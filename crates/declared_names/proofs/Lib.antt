@@ -3,7 +3,6 @@ pub mod Among
 pub mod Behind
 pub mod Bits
 pub mod Buffers
-pub mod Direct
 pub mod Exact
 pub mod FoundArms
 pub mod FoundParts
@@ -15,12 +14,12 @@ pub mod NamesAlike
 pub mod NumberedNames
 pub mod Numbering
 pub mod PartsFound
+pub mod Passes
 pub mod Placed
 pub mod Pushes
 pub mod ReadMarks
 pub mod ReadRows
 pub mod ReadsAlike
-pub mod ReadsOf
 pub mod Related
 pub mod SaidBuffers
 pub mod Settling

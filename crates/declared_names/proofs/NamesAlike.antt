@@ -1,7 +1,8 @@
 -- Names that stand for the same, and lists with more names.
-use Rattle.std.proofs.Common.{◌≡◌, ℕ, suc, Bool, true, false, ◌&&◌, if◌then◌else◌, Option, Some, None, List, [], ◌∷◌, ◌++◌, map, refl, sym, ap, ap₂, ◌∙◌}
+use Rattle.std.proofs.Common.{◌≡◌, ℕ, suc, Bool, true, ◌&&◌, if◌then◌else◌, Option, Some, None, List, [], ◌∷◌, ◌++◌, map, refl, sym, ap, ap₂, ◌∙◌}
 use Rattle.std.specs.List.{list_all}
 use Rattle.std.specs.Str.{bytes_eq}
+use Rattle.std.proofs.lemmas.Bool.{and_parts}
 use Rattle.pld_device.specs.declared.flip.Flip.{Flip}
 use Rattle.abel_tree.specs.Assigned.{Assigned}
 use Rattle.abel_tree.specs.Entries.{Kind, Words, Entry, kind_of, passes, is_value, names_any}
@@ -61,11 +62,6 @@ extends_alike es fs a name k e = sym (alike_kinds es fs a name) ∙ e
 
 -- ---- names that are used
 
-pub both_true : (a b : Bool) → (a && b) ≡ true → (a ≡ true) × (b ≡ true)
-both_true true true e = (refl, refl)
-both_true true false e = absurd cc
-both_true false b e = absurd cc
-
 any_more : (test : Kind → Bool) (es fs : List Entry) (name : List ℕ) → Extends es fs → names_any test es name ≡ true → names_any test fs name ≡ true
 any_more test es fs name f h = by (kind_of es name) refl h
   where
@@ -76,7 +72,7 @@ any_more test es fs name f h = by (kind_of es name) refl h
 all_more : {A : Type 0} (p q : A → Bool) (xs : List A) → ((x : A) → p x ≡ true → q x ≡ true) → list_all p xs ≡ true → list_all q xs ≡ true
 all_more p q [] f h = refl
 all_more p q (x ∷ xs) f h =
-    let b = both_true (p x) (list_all p xs) h in
+    let b = and_parts (p x) (list_all p xs) h in
     ap₂ (λ c d. c && d) (f x b.0) (all_more p q xs f b.1)
 
 pub named_more : (es fs : List Entry) (us : List Use) → Extends es fs → are_named es us ≡ true → are_named fs us ≡ true

@@ -1,5 +1,5 @@
 -- The names' numbers: in a map, and in a list in which each name stands for its own.
-use Rattle.std.proofs.Common.{◌≡◌, ℕ, zero, suc, ◌+◌, ◌<◌, ◌≤◌, Bool, true, false, Option, Some, None, List, [], ◌∷◌, ◌++◌, map, take, length, get_or, if◌then◌else◌, refl, sym, ap, ◌∙◌, arith, cond}
+use Rattle.std.proofs.Common.{◌≡◌, ℕ, zero, suc, ◌+◌, ◌<◌, ◌≤◌, Bool, true, false, Option, Some, None, List, [], ◌∷◌, ◌++◌, map, take, length, get_or, if◌then◌else◌, refl, sym, ap, ◌∙◌, arith, cond, zero-add}
 use Rattle.std.specs.Prelude.{is_some, min, option_copied}
 use Rattle.std.specs.Global.{Vec}
 use Rattle.std.specs.List.{position_from}
@@ -7,17 +7,16 @@ use denote.Ref.{Bor}
 use Rattle.std.specs.Str.{bytes_eq}
 use Rattle.std.proofs.lemmas.Bool.{lt-ltb, le-ltb}
 use Rattle.std.proofs.lemmas.List.{length-map, length-take}
-use Rattle.std.proofs.lemmas.Slice.Eq.{bytes_eq-Decides}
 use Rattle.std.proofs.lemmas.Iterator.Adapters.{position_from-zero}
 use Rattle.abel_tree.specs.Assigned.{signals_of_name}
 use Rattle.abel_tree.specs.declared.names.Declared.{Declared}
 use Rattle.abel_tree.specs.Entries.{Entry, find, view_declared}
+use Rattle.decls.proofs.Rows.{mapped_more}
 use Rattle.declared_names.specs.declared.marks.Mark.{Mark}
 use Rattle.declared_names.specs.Marking.{hit, hits}
-use Rattle.declared_names.proofs.Hits.{mapped_more}
 use Rattle.declared_names.specs.Numbered.{numbered, numbered_from, below_limit, number_in, earlier_number, number_of_name}
 
-abbrev is_name : List ℕ → Entry → Bool
+abbrev pub is_name : List ℕ → Entry → Bool
 is_name name e = bytes_eq name e.name
 
 -- a number that is found is not below the place where the search began
@@ -87,30 +86,12 @@ more_from name i (x ∷ es) e =
     let n : i + 1 + length es ≡ i + length (x ∷ es) = omega arith in
     behind (bytes_eq name x.name) i _ _ _ (more_from name (i + 1) es e ∙ ap (λ k. earlier_number (position_from (is_name name) (i + 1) es) (number_of_name e.name k name)) n)
 
-plain : (n : ℕ) → 0 + n ≡ n
-plain n = omega arith
-
 pub find_more : (name : List ℕ) (es : List Entry) (e : Entry) → find (es ++ e ∷ []) name ≡ earlier_number (find es name) (number_of_name e.name (length es) name)
 find_more name es e =
     position_from-zero (is_name name) (es ++ e ∷ [])
     ∙ (more_from name 0 es e
-    ∙ (ap (λ k. earlier_number (position_from (is_name name) 0 es) (number_of_name e.name k name)) (plain (length es))
+    ∙ (ap (λ k. earlier_number (position_from (is_name name) 0 es) (number_of_name e.name k name)) (zero-add (length es))
     ∙ ap (λ o. earlier_number o (number_of_name e.name (length es) name)) (sym (position_from-zero (is_name name) es))))
-
--- a name that has a number keeps it
-bytes_same : (xs ys : List ℕ) → bytes_eq xs ys ≡ true → xs ≡ ys
-bytes_same xs ys e = (bytes_eq-Decides xs ys).0 e
-
-again : (name other : List ℕ) (n k : ℕ) (rows : List (Vec ℕ × ℕ)) (b : Bool) → bytes_eq other name ≡ b → number_in rows name ≡ Some k → number_in rows other ≡ earlier_number (number_in rows other) (if b then Some n else None)
-again name other n k rows true e f = let same : other ≡ name = bytes_same other name e in rw (same, f) refl
-again name other n k rows false e f = earlier_none (number_in rows other)
-  where
-    earlier_none : (o : Option ℕ) → o ≡ earlier_number o None
-    earlier_none None = refl
-    earlier_none (Some m) = refl
-
-pub keeps : (name other : List ℕ) (n k : ℕ) (rows : List (Vec ℕ × ℕ)) → number_in rows name ≡ Some k → number_in rows other ≡ earlier_number (number_in rows other) (number_of_name name n other)
-keeps name other n k rows f = again name other n k rows (bytes_eq other name) refl f
 
 pub none_found : (r : Option (Bor ℕ)) → is_some r ≡ false → option_copied r ≡ None
 none_found None e = refl

@@ -1,5 +1,5 @@
 -- Lists of parts with one item more, and what is found in them.
-use Rattle.std.proofs.Common.{◌≡◌, ℕ, ◌+◌, ◌<◌, Bool, List, [], ◌∷◌, ◌++◌, map, take, length, get_or, refl, sym, ap, ◌∙◌, append_assoc}
+use Rattle.std.proofs.Common.{◌≡◌, ℕ, Bool, List, [], ◌∷◌, ◌++◌, map, refl, sym, ap, ◌∙◌, append_assoc}
 use Rattle.std.proofs.lemmas.List.{append-nil}
 use Rattle.std.proofs.lemmas.List.Sums.{fold-append}
 use Rattle.pld_base.specs.declared.place.Place.{Place}
@@ -9,16 +9,8 @@ use Rattle.abel_tree.specs.Assigned.{Assigned}
 use Rattle.abel_tree.specs.Tree.{Tree, Statement, statements_of, Branch, choices_of, StateTree, SectionTree}
 use Rattle.abel_tree.specs.View.{view_stmt}
 use Rattle.abel_meaning.specs.Held.{Part, branch_parts, branches_parts, choices_parts, list_parts, section_parts, sections_parts, statement_parts, statements_parts, states_parts}
+use Rattle.decls.proofs.Walks.{view_group}
 use Rattle.declared_names.specs.Reading.{Holding, choice_parts, part_found, parts_found}
-use Rattle.declared_names.proofs.Hits.{mapped_more}
-use Rattle.declared_names.proofs.Pushes.{view_group}
-
--- what is found in one item more
-pub found_more : {A B : Type 0} (of : List ℕ → Bool → List Assigned) (f : List B → List Part) (g : B → List Part) → ((xs : List B) (x : B) → f (xs ++ x ∷ []) ≡ f xs ++ g x) → (v : A → B) (h : Holding) (es : List A) (k : ℕ) (e : A)
-    → k < length es → e ≡ get_or es k e → parts_found of (parts_found of h (f (map v (take k es)))) (g (v e)) ≡ parts_found of h (f (map v (take (k + 1) es)))
-found_more of f g push v h es k e low i =
-    sym (fold-append (part_found of) h (f (map v (take k es))) (g (v e)))
-    ∙ ap (parts_found of h) (sym (ap f (mapped_more v es k e low i) ∙ push (map v (take k es)) (v e)))
 
 -- what is found in two lists
 pub found_both : (of : List ℕ → Bool → List Assigned) (h : Holding) (xs ys : List Part) → parts_found of (parts_found of h xs) ys ≡ parts_found of h (xs ++ ys)

@@ -1,5 +1,5 @@
 -- Names that are sound behind those before them: no two have one number, and each is the first of its name.
-use Rattle.std.proofs.Common.{◌≡◌, ℕ, zero, suc, ◌+◌, ◌<◌, Bool, true, false, Some, List, [], ◌∷◌, take, length, get_or, cond, refl, sym, ap, ◌∙◌, inl, inr, arith, ◌==◌}
+use Rattle.std.proofs.Common.{◌≡◌, ℕ, zero, suc, ◌+◌, ◌<◌, Bool, true, false, Some, List, [], ◌∷◌, take, length, get_or, cond, refl, sym, ap, ◌∙◌, inl, inr, arith, ◌==◌, zero-add}
 use Rattle.std.specs.Prelude.{is_some, slice_get}
 use Rattle.std.specs.List.{position_from}
 use Rattle.std.specs.Str.{bytes_eq}
@@ -14,6 +14,7 @@ use Rattle.abel_meaning.specs.Controls.{is_pin}
 use Rattle.abel_meaning.specs.Designs.{no_name}
 use Rattle.decls.specs.NamesBefore.{is_on_pin, is_taken}
 use Rattle.declared_names.specs.AcceptedNames.{NumbersAreApart}
+use Rattle.declared_names.proofs.Numbering.{is_name}
 use Rattle.declared_names.proofs.SoundEntries.{IsNewPin, AreSound, sound_at}
 
 -- ---- pins
@@ -62,9 +63,6 @@ module _ (pins : ℕ) (es : List Entry) (sound : AreSound pins [] es) where
 
 -- ---- names
 
-abbrev is_name : List ℕ → Entry → Bool
-is_name name e = bytes_eq name e.name
-
 pub same_name : (name : List ℕ) → bytes_eq name name ≡ true
 same_name name = (bytes_eq-Decides name name).1 refl
 
@@ -96,10 +94,7 @@ module _ (pins : ℕ) (es : List Entry) (sound : AreSound pins [] es) (k : ℕ) 
   first = first_from e.name 0 k es e is refl (sound_at pins [] es sound k e is).name
 
   pub found_at : find es e.name ≡ Some k
-  found_at = position_from-zero (is_name e.name) es ∙ (first.0 ∙ ap (λ (n : ℕ). Some n) (no_plus k))
-    where
-      no_plus : (n : ℕ) → 0 + n ≡ n
-      no_plus n = omega arith
+  found_at = position_from-zero (is_name e.name) es ∙ (first.0 ∙ ap (λ (n : ℕ). Some n) (zero-add k))
 
   pub kind_at : kind_of es e.name ≡ Some e.kind
   kind_at = first.1

@@ -4,11 +4,10 @@ use Rattle.std.proofs.lemmas.List.{append-nil}
 use Rattle.pld_base.specs.declared.place.Place.{Place}
 use Rattle.abel_tree.specs.declared.statements.Stmt.{Stmt}
 use Rattle.abel_tree.specs.declared.statements.Stmt as stmt
-use Rattle.abel_tree.specs.declared.statements.Stmt.TheFolds.{fold-roll-Stmt}
-use Rattle.abel_tree.specs.declared.statements.Stmt.TheOpen as open_stmt
-use Rattle.abel_tree.specs.View.{view_stmt, stmt_layer, when_layer}
-use Rattle.abel_tree.specs.Tree.{Tree, Statement, AGroup, statements_of, Branch, choices_of, SetMember, members_of, StateTree, SectionTree}
+use Rattle.abel_tree.specs.View.{view_stmt}
+use Rattle.abel_tree.specs.Tree.{Tree, Statement, statements_of, Branch, choices_of, SetMember, members_of, StateTree, SectionTree}
 use Rattle.abel_tree.specs.Assigned.{Named, Assigned, signals_of_name, signals_of_names, signals_of_member, signals_of_members, statement_assigns, statements_assign, list_assigns, branch_assigns, branches_assign, choices_assign, states_assign, section_assigns, sections_assign}
+use Rattle.decls.proofs.Walks.{view_group}
 use Rattle.declared_names.specs.Marking.{choice_assigns}
 
 pub names_push : (ks : List Named) (xs : List (List ℕ)) (x : List ℕ) → signals_of_names ks (xs ++ x ∷ []) ≡ signals_of_names ks xs ++ signals_of_name ks x
@@ -29,10 +28,6 @@ list_push ks (y ∷ xs) x = ap (λ us. statement_assigns ks y ++ us) (list_push 
 pub group_assigns : (ks : List Named) (xs : List Statement) → statements_assign ks (statements_of xs) ≡ list_assigns ks xs
 group_assigns ks [] = refl
 group_assigns ks (x ∷ xs) = ap (λ us. statement_assigns ks x ++ us) (group_assigns ks xs)
-
-pub view_group : (list : List Stmt) → view_stmt (stmt.Group list) ≡ AGroup (statements_of (map view_stmt list))
-unfolding stmt.roll-Stmt denote.Hole.Carrier.roll
-view_group list = fold-roll-Stmt Statement Statement stmt_layer when_layer (open_stmt.Group list)
 
 pub assigns_of_group : (ks : List Named) (x : Stmt) (list : List Stmt) → x ≡ stmt.Group list → list_assigns ks (map view_stmt list) ≡ statement_assigns ks (view_stmt x)
 assigns_of_group ks x list e = sym (ap (λ y. statement_assigns ks (view_stmt y)) e ∙ (ap (statement_assigns ks) (view_group list) ∙ group_assigns ks (map view_stmt list)))

@@ -1,19 +1,19 @@
 -- Marks of what is read, from the last constant to the first: in the end a signal is marked as on the clock where some mark at
 -- the beginning reads its Q.
-use Rattle.std.proofs.Common.{◌≡◌, ◌≢◌, ℕ, zero, suc, ◌+◌, ◌==◌, ◌<◌, ◌≤◌, Bool, true, false, ◌||◌, ◌&&◌, if◌then◌else◌, List, [], ◌∷◌, length, get_or, refl, sym, ap, ap₂, ◌∙◌, arith, inl, inr}
-use Rattle.std.specs.Prelude.{set}
+use Rattle.std.proofs.Common.{◌≡◌, ℕ, zero, suc, ◌==◌, ◌<◌, ◌≤◌, Bool, true, false, ◌||◌, ◌&&◌, List, [], ◌∷◌, length, refl, sym, ap, ap₂, ◌∙◌, arith, inl, inr}
 use Rattle.std.specs.List.{list_any}
 use Rattle.std.proofs.lemmas.Bool.{cases_lt}
 use Rattle.std.proofs.lemmas.Bool.Decides.{nat_tests}
 use Rattle.std.proofs.lemmas.List.{length-set}
+use Rattle.std.proofs.Math.Bool.{or-true, or-false, or_assoc, or_self}
 use Rattle.abel_tree.specs.Assigned.{Assigned}
 use Rattle.abel_tree.specs.Entries.{Entry}
 use Rattle.declared_names.specs.declared.marks.Mark.{Mark}
 use Rattle.declared_names.specs.declared.marks.Mark.TheVariants as mark
-use Rattle.declared_names.specs.Marking.{all_marked, hit, is_strong, marked, raised}
-use Rattle.declared_names.specs.Reading.{read_on, read_on_by, read_through, reads_of}
+use Rattle.declared_names.specs.Marking.{all_marked, hit, is_strong, raised}
+use Rattle.declared_names.specs.Reading.{read_on_by, read_through, reads_of}
 use Rattle.declared_names.proofs.Bits.{at, all_strong_at, here, length_all_marked, there}
-use Rattle.declared_names.proofs.Spreading.{or_false, same_number}
+use Rattle.declared_names.proofs.Spreading.{AllUnder, absorbed, is_same, other_number, same_number}
 
 -- what a mark reads, by what the name reads with `.Q` behind it and without
 abbrev pub mark_reads : (reads : Bool → Bool) → Mark → Bool
@@ -23,28 +23,16 @@ mark_reads reads mark.Strong = reads true
 
 raised_reads : (reads : Bool → Bool) → (reads false ≡ true → reads true ≡ true) → (c : Bool) (m : Mark) → mark_reads reads (raised c m) ≡ (mark_reads reads m || reads c)
 raised_reads reads more true mark.Clear = refl
-raised_reads reads more true mark.Plain = absorbed (reads false) (reads true) more
-  where
-    absorbed : (a b : Bool) → (a ≡ true → b ≡ true) → b ≡ (a || b)
-    absorbed true b f = f refl
-    absorbed false b f = refl
-raised_reads reads more true mark.Strong = twice (reads true)
-  where
-    twice : (b : Bool) → b ≡ (b || b)
-    twice true = refl
-    twice false = refl
+raised_reads reads more true mark.Plain = sym (absorbed (reads false) (reads true) more)
+raised_reads reads more true mark.Strong = sym (or_self (reads true))
 raised_reads reads more false mark.Clear = refl
-raised_reads reads more false mark.Plain = twice (reads false)
+raised_reads reads more false mark.Plain = sym (or_self (reads false))
+raised_reads reads more false mark.Strong = covered (reads true) (reads false) more
   where
-    twice : (b : Bool) → b ≡ (b || b)
-    twice true = refl
-    twice false = refl
-raised_reads reads more false mark.Strong = absorbed (reads true) (reads false) more
-  where
-    absorbed : (a b : Bool) → (b ≡ true → a ≡ true) → a ≡ (a || b)
-    absorbed true b f = refl
-    absorbed false true f = f refl
-    absorbed false false f = refl
+    covered : (a b : Bool) → (b ≡ true → a ≡ true) → a ≡ (a || b)
+    covered true b f = refl
+    covered false true f = f refl
+    covered false false f = refl
 
 swap_last : (a b c : Bool) → ((a || b) || c) ≡ ((a || c) || b)
 swap_last true b c = refl
@@ -53,14 +41,9 @@ swap_last false true false = refl
 swap_last false false true = refl
 swap_last false false false = refl
 
-or_assoc : (a b c : Bool) → (a || (b || c)) ≡ ((a || b) || c)
-or_assoc true b c = refl
-or_assoc false b c = refl
-
 -- all numbers are below one
 abbrev pub AllLow : ℕ → List Assigned → Type 0
-AllLow n [] = Unit {0}
-AllLow n (a ∷ found) = (a.signal < n) × AllLow n found
+AllLow n found = AllUnder (λ (a : Assigned). a.signal) n found
 
 -- ---- one signal
 
@@ -76,10 +59,7 @@ module _ (reads : ℕ → Bool → Bool) (more : (k : ℕ) → reads k false ≡
   past : (n : ℕ) (c : Bool) (ms : List Mark) (d : ℕ) → n ≤ d → total n (hit c ms d) ≡ total n ms
   past zero c ms d high = refl
   past (suc k) c ms d high =
-      ap₂ (λ m b. mark_reads (reads k) m || b) (there c ms d k (other d k (omega (arith, high)))) (past k c ms d (omega (arith, high)))
-    where
-      other : (d k : ℕ) → k < d → (d == k) ≡ false
-      other d k h = grind (arith, nat_tests)
+      ap₂ (λ m b. mark_reads (reads k) m || b) (there c ms d k (other_number d k (omega (arith, high)))) (past k c ms d (omega (arith, high)))
 
   below : (n : ℕ) (c : Bool) (ms : List Mark) (d : ℕ) → d < n → n ≤ length ms → total n (hit c ms d) ≡ (total n ms || reads d c)
   below zero c ms d low few = absurd (omega (arith, low))
@@ -87,7 +67,7 @@ module _ (reads : ℕ → Bool → Bool) (more : (k : ℕ) → reads k false ≡
       elim (cases_lt d k) [
         | inl less ↦
             ap₂ (λ m b. mark_reads (reads k) m || b) (there c ms d k (other d k less)) (below k c ms d less (omega (arith, few)))
-            ∙ or_assoc (mark_reads (reads k) (at ms k)) (total k ms) (reads d c)
+            ∙ sym (or_assoc (mark_reads (reads k) (at ms k)) (total k ms) (reads d c))
         | inr most ↦
             let same : d ≡ k = omega (arith, low, most) in
             ap₂ (λ m b. mark_reads (reads k) m || b) (here c ms d k (omega (arith, few)) (is_same d k same)) (past k c ms d (omega (arith, most)))
@@ -98,15 +78,12 @@ module _ (reads : ℕ → Bool → Bool) (more : (k : ℕ) → reads k false ≡
       other : (d k : ℕ) → d < k → (d == k) ≡ false
       other d k h = grind (arith, nat_tests)
 
-      is_same : (d k : ℕ) → d ≡ k → (d == k) ≡ true
-      is_same d k h = grind (arith, nat_tests)
-
   -- what is found adds what it reads
   pub total_found : (n : ℕ) (found : List Assigned) (ms : List Mark) → AllLow n found → n ≤ length ms → total n (all_marked ms found) ≡ (total n ms || list_any some_reads found)
-  total_found n [] ms low few = sym (or_false (total n ms))
+  total_found n [] ms low few = sym (or-false (total n ms))
   total_found n (a ∷ found) ms low few =
       total_found n found (hit a.clocked ms a.signal) low.1 (omega (arith, few, length-set ms a.signal (raised a.clocked (at ms a.signal))))
-      ∙ (ap (λ b. b || list_any some_reads found) (below n a.clocked ms a.signal low.0 few) ∙ sym (or_assoc (total n ms) (reads a.signal a.clocked) (list_any some_reads found)))
+      ∙ (ap (λ b. b || list_any some_reads found) (below n a.clocked ms a.signal low.0 few) ∙ or_assoc (total n ms) (reads a.signal a.clocked) (list_any some_reads found))
 
   -- ---- the constants, from the last to the first
 
@@ -123,13 +100,9 @@ module _ (reads : ℕ → Bool → Bool) (more : (k : ℕ) → reads k false ≡
     on_reads [] e = absurd cc
     on_reads (a ∷ found) e = by ((a.signal == s) && a.clocked) refl e (on_reads found)
       where
-        right : (b : Bool) → (b || true) ≡ true
-        right true = refl
-        right false = refl
-
         by : (b : Bool) → ((a.signal == s) && a.clocked) ≡ b → (b || on found) ≡ true → (on found ≡ true → list_any some_reads found ≡ true) → (some_reads a || list_any some_reads found) ≡ true
         by true is h rest = rw (own a is) refl
-        by false is h rest = rw (rest h) (right (some_reads a))
+        by false is h rest = rw (rest h) (or-true (some_reads a))
 
     joins : (c o t y : Bool) → (o ≡ true → y ≡ true) → ((c || o) || (t || y)) ≡ (c || (y || t))
     joins true o t y f = refl
@@ -144,7 +117,7 @@ module _ (reads : ℕ → Bool → Bool) (more : (k : ℕ) → reads k false ≡
     Earlier k = (ns : List Mark) → k ≤ length ns → s < length ns → is_strong (at (read_through es k ns) s) ≡ (is_strong (at ns s) || total k ns)
 
     pub read_all : (n : ℕ) (ms : List Mark) → n ≤ length ms → s < length ms → is_strong (at (read_through es n ms) s) ≡ (is_strong (at ms s) || total n ms)
-    read_all zero ms few low = sym (or_false (is_strong (at ms s)))
+    read_all zero ms few low = sym (or-false (is_strong (at ms s)))
     read_all (suc k) ms few low = by (at ms k) refl (read_all k)
       where
         by_reads : Earlier k → (c : Bool) → mark_reads (reads k) (at ms k) ≡ reads k c → (((k == s) && c) ≡ true → is_strong (at ms s) ≡ true)

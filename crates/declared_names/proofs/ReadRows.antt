@@ -1,24 +1,22 @@
 -- Operators in a row: what their right sides read stands behind what the first operand reads.
-use Rattle.std.proofs.Common.{◌≡◌, ℕ, ◌<◌, ◌≤◌, ◌+◌, Bool, List, [], ◌∷◌, ◌++◌, map, sym, ap, ◌∙◌, arith, rules, append_assoc, Bor, take, length, get_or, refl}
+use Rattle.std.proofs.Common.{◌≡◌, ℕ, ◌<◌, ◌≤◌, Bool, List, [], ◌∷◌, ◌++◌, sym, ap, ◌∙◌, arith, rules, append_assoc, refl}
 use Rattle.std.proofs.lemmas.List.Sums.{fold-append}
 use Rattle.std.proofs.lemmas.List.{append-nil}
 use Rattle.pld_base.specs.declared.place.Place.{Place}
 use Rattle.abel_tree.specs.declared.words.Binary.{Binary}
 use Rattle.abel_tree.specs.declared.expressions.Expr.{Expr, size-Expr, the_lemmas}
 use Rattle.abel_tree.specs.declared.expressions.Expr as expr
-use Rattle.abel_tree.specs.declared.expressions.Expr.TheFolds.{fold-roll-Expr}
-use Rattle.abel_tree.specs.declared.expressions.Expr.TheOpen as open_expr
-use Rattle.abel_tree.specs.declared.expressions.Member.{Member}
 use Rattle.abel_tree.specs.Assigned.{Assigned, assigned_each, signals_of_name, signals_of_names}
 use Rattle.abel_tree.specs.Entries.{Entry}
-use Rattle.abel_tree.specs.Tree.{Tree, ABinary, SetMember, members_of}
-use Rattle.abel_tree.specs.View.{view, view_member, expr_layer, member_layer}
+use Rattle.abel_tree.specs.Tree.{SetMember, members_of}
+use Rattle.abel_tree.specs.View.{view}
 use Rattle.abel_meaning.specs.Held.{read_in, read_in_member, read_in_members, read_names}
+use Rattle.decls.proofs.Rows.{EachBelow}
 use Rattle.declared_names.specs.declared.marks.Mark.{Mark}
 use Rattle.declared_names.specs.Marking.{all_marked, marked}
 use Rattle.declared_names.specs.Numbered.{numbered}
 use Rattle.declared_names.specs.Reading.{numbers_read}
-use Rattle.declared_names.proofs.Hits.{mapped_more}
+use Rattle.declared_names.proofs.ViewedParts.{view_binary}
 
 -- what names give, read with `.Q` behind them or without
 abbrev pub Reads : Type 0
@@ -28,14 +26,6 @@ Reads = List ℕ → Bool → List Assigned
 abbrev pub rights_read : Reads → Bool → List Expr → List Assigned
 rights_read of as_q [] = []
 rights_read of as_q (e ∷ es) = rights_read of as_q es ++ read_in of as_q (view e)
-
-abbrev pub EachBelow : ℕ → List Expr → Type 0
-EachBelow n [] = Unit {0}
-EachBelow n (e ∷ es) = (size-Expr e < n) × EachBelow n es
-
--- a right side that is read elsewhere
-abbrev pub expr_at : Bor Expr → Expr
-expr_at r = r.now
 
 -- what is at hand and the right sides behind it are the whole
 pub record Unrolls (as_q : Bool) (e : Expr) (rights : List Expr) (whole : Expr) : Type 0 where
@@ -56,14 +46,6 @@ rights_push of as_q (x ∷ rs) r =
 below_push : (n : ℕ) (rs : List Expr) (r : Expr) → EachBelow n rs → size-Expr r < n → EachBelow n (rs ++ r ∷ [])
 below_push n [] r b h = (h, tt)
 below_push n (x ∷ rs) r b h = (b.0, below_push n rs r b.1 h)
-
-pub below_pop : (n : ℕ) (rs : List Expr) (r : Expr) → EachBelow n (rs ++ r ∷ []) → (size-Expr r < n) × EachBelow n rs
-below_pop n [] r b = (b.0, tt)
-below_pop n (x ∷ rs) r b = let p = below_pop n rs r b.1 in (p.0, (b.0, p.1))
-
-view_binary : (s : Binary) (p : Place) (l r : Expr) → view (expr.Binary s p l r) ≡ ABinary s p (view l) (view r)
-unfolding expr.roll-Expr denote.Hole.Carrier.roll
-view_binary s p l r = fold-roll-Expr Tree SetMember expr_layer member_layer (open_expr.Binary s p l r)
 
 pub goes_down : (as_q : Bool) (s : Binary) (p : Place) (l r : Expr) (rs : List Expr) (whole : Expr) → Unrolls as_q (expr.Binary s p l r) rs whole → size-Expr (expr.Binary s p l r) ≤ size-Expr whole
     → Unrolls as_q l (rs ++ r ∷ []) whole × (size-Expr l ≤ size-Expr whole)

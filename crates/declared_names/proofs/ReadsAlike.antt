@@ -1,6 +1,7 @@
 -- What two readings of names say of an expression, where they say the same of each name.
-use Rattle.std.proofs.Common.{◌≡◌, ℕ, Bool, true, false, ◌||◌, if◌then◌else◌, Option, Some, None, List, [], ◌∷◌, ◌++◌, refl, sym, ap, ap₂, ◌∙◌}
+use Rattle.std.proofs.Common.{◌≡◌, ℕ, Bool, true, false, ◌||◌, if◌then◌else◌, Option, Some, None, List, [], ◌∷◌, ◌++◌, refl, sym, ◌∙◌}
 use Rattle.std.specs.List.{list_any}
+use Rattle.std.proofs.lemmas.List.Folds.{list_any-append}
 use Rattle.abel_tree.specs.Assigned.{target_extension, without_extension}
 use Rattle.abel_tree.specs.declared.words.Extension.{Extension}
 use Rattle.abel_tree.specs.declared.words.Extension.TheVariants as ext
@@ -8,10 +9,7 @@ use Rattle.abel_tree.specs.Ranges.{range_names}
 use Rattle.abel_tree.specs.Tree.{Tree, ANumber, ASpecial, AName, ASet, AParen, AUnary, ABinary, SetMember, OneMember, SpanMember, Members, NoMember, MoreMembers}
 use Rattle.abel_meaning.specs.Held.{ATarget, AValue, Part, asks_q, part_reads, parts_read, read_in, read_in_member, read_in_members, read_names}
 use Rattle.abel_meaning.specs.Targets.{is_raw}
-use Rattle.declared_names.proofs.TargetsAlike.{any_append}
-
-joined : {A B : Type 0} (p : A → Bool) (q : B → Bool) (xs xt : List A) (ys yt : List B) → list_any p xs ≡ list_any q ys → list_any p xt ≡ list_any q yt → list_any p (xs ++ xt) ≡ list_any q (ys ++ yt)
-joined p q xs xt ys yt e f = any_append p xs xt ∙ (ap₂ (λ a b. a || b) e f ∙ sym (any_append q ys yt))
+use Rattle.declared_names.proofs.TargetsAlike.{joined}
 
 -- of each name, read with `.Q` behind it and without
 abbrev pub ReadsAlike : {A B : Type 0} → (A → Bool) → (B → Bool) → (List ℕ → Bool → List A) → (List ℕ → Bool → List B) → Type 0
@@ -65,7 +63,7 @@ either_more false b false d f g e = g e
 
 module _ {A : Type 0} (p : A → Bool) (of : List ℕ → Bool → List A) (more : ReadsMore p of) where
   joined_more : (xs ys us vs : List A) → (list_any p xs ≡ true → list_any p us ≡ true) → (list_any p ys ≡ true → list_any p vs ≡ true) → list_any p (xs ++ ys) ≡ true → list_any p (us ++ vs) ≡ true
-  joined_more xs ys us vs f g e = any_append p us vs ∙ either_more (list_any p xs) (list_any p ys) (list_any p us) (list_any p vs) f g (sym (any_append p xs ys) ∙ e)
+  joined_more xs ys us vs f g e = list_any-append p us vs ∙ either_more (list_any p xs) (list_any p ys) (list_any p us) (list_any p vs) f g (sym (list_any-append p xs ys) ∙ e)
 
   asked_more : (e : Option Extension) (name : List ℕ) → list_any p (of name (asks_q false e)) ≡ true → list_any p (of name (asks_q true e)) ≡ true
   asked_more None name h = more name h

@@ -1,16 +1,17 @@
 -- The names as targets, and each name with its own number.
-use Rattle.std.proofs.Common.{◌≡◌, ℕ, zero, suc, ◌+◌, ◌==◌, ◌<◌, nat_le, nat_lt, Bool, true, false, ◌||◌, if◌then◌else◌, Option, Some, None, List, [], ◌∷◌, ◌++◌, take, length, refl, sym, ap, subst, ◌∙◌, append_assoc, arith}
+use Rattle.std.proofs.Common.{◌≡◌, ℕ, zero, suc, ◌+◌, ◌==◌, nat_le, nat_lt, Bool, true, false, ◌||◌, if◌then◌else◌, Option, Some, None, List, [], ◌∷◌, ◌++◌, take, length, refl, sym, ap, subst, ◌∙◌, append_assoc, arith, add-zero, suc-add, add-suc, zero-add}
 use Rattle.std.specs.Prelude.{slice_get, bytes_eq}
 use Rattle.std.specs.List.{list_any}
 use Rattle.std.proofs.lemmas.Bool.Decides.{nat_tests}
 use Rattle.std.proofs.lemmas.List.{append-nil}
 use Rattle.std.proofs.Math.Seq.{take-append_seam}
+use Rattle.std.proofs.Math.Bool.{or-false}
 use Rattle.abel_tree.specs.Assigned.{Named, signals_of, signals_of_name, meant, named_of, named_after}
 use Rattle.abel_tree.specs.Entries.{Kind, APin, ANode, AConstant, ADeviceName, Entry, find, is_signal}
-use Rattle.declared_names.specs.Numbered.{numbered, numbered_from, below_limit, direct, named_at, named_by}
+use Rattle.declared_names.specs.Numbered.{numbered, numbered_from, below_limit, direct, named_in, value_at, value_of}
 use Rattle.declared_names.proofs.TargetsAlike.{NamesAlike, targets_alike}
 use Rattle.declared_names.proofs.Numbering.{found}
-use Rattle.declared_names.proofs.Spreading.{among, AllBelow, or_false}
+use Rattle.declared_names.proofs.Spreading.{among, AllBelow, all_under, is_same, nothing}
 
 -- ---- what a name stands for
 
@@ -54,31 +55,22 @@ meaning_named ks s e = record { name = e.name; signals = meant ks s e.kind }
 abbrev number_named : ℕ → Entry → Named
 number_named s e = record { name = e.name; signals = s ∷ [] }
 
-plus_zero : (s : ℕ) → s ≡ s + 0
-plus_zero s = omega arith
-
-plus_suc : (s n : ℕ) → suc s + n ≡ s + suc n
-plus_suc s n = omega arith
-
-no_plus : (n : ℕ) → 0 + n ≡ n
-no_plus n = omega arith
-
 after_push : (ks : List Named) (s : ℕ) (l : List Entry) (e : Entry) → named_after ks s (l ++ e ∷ []) ≡ named_after ks s l ++ meaning_named (named_after ks s l) (s + length l) e ∷ []
-after_push ks s [] e = ap (λ n. ks ++ meaning_named ks n e ∷ []) (plus_zero s)
+after_push ks s [] e = ap (λ n. ks ++ meaning_named ks n e ∷ []) (sym (add-zero s))
 after_push ks s (x ∷ l) e =
     after_push (ks ++ meaning_named ks s x ∷ []) (suc s) l e
-    ∙ ap (λ n. named_after ks s (x ∷ l) ++ meaning_named (named_after ks s (x ∷ l)) n e ∷ []) (plus_suc s (length l))
+    ∙ ap (λ n. named_after ks s (x ∷ l) ++ meaning_named (named_after ks s (x ∷ l)) n e ∷ []) (suc-add s (length l) ∙ sym (add-suc s (length l)))
 
 named_push : (l : List Entry) (e : Entry) → named_of (l ++ e ∷ []) ≡ named_of l ++ meaning_named (named_of l) (length l) e ∷ []
-named_push l e = after_push [] 0 l e ∙ ap (λ n. named_of l ++ meaning_named (named_of l) n e ∷ []) (no_plus (length l))
+named_push l e = after_push [] 0 l e ∙ ap (λ n. named_of l ++ meaning_named (named_of l) n e ∷ []) (zero-add (length l))
 
 from_push : (s : ℕ) (l : List Entry) (e : Entry) → numbered_from s (l ++ e ∷ []) ≡ numbered_from s l ++ number_named (s + length l) e ∷ []
-from_push s [] e = ap (λ n. number_named n e ∷ []) (plus_zero s)
+from_push s [] e = ap (λ n. number_named n e ∷ []) (sym (add-zero s))
 from_push s (x ∷ l) e =
-    ap (λ ks. number_named s x ∷ ks) (from_push (suc s) l e ∙ ap (λ n. numbered_from (suc s) l ++ number_named n e ∷ []) (plus_suc s (length l)))
+    ap (λ ks. number_named s x ∷ ks) (from_push (suc s) l e ∙ ap (λ n. numbered_from (suc s) l ++ number_named n e ∷ []) (suc-add s (length l) ∙ sym (add-suc s (length l))))
 
 pub number_push : (l : List Entry) (e : Entry) → numbered_from 0 (l ++ e ∷ []) ≡ numbered_from 0 l ++ number_named (length l) e ∷ []
-number_push l e = from_push 0 l e ∙ ap (λ n. numbered_from 0 l ++ number_named n e ∷ []) (no_plus (length l))
+number_push l e = from_push 0 l e ∙ ap (λ n. numbered_from 0 l ++ number_named n e ∷ []) (zero-add (length l))
 
 -- ---- all beginnings of a list of names
 
@@ -111,11 +103,7 @@ stands_alike es s k = all_alike (λ j. j == s) (λ j. stands es j s) es (λ l e 
     one l e r i =
         let t : take (length l) es ≡ l = ap (take (length l)) i ∙ take-append_seam l (e ∷ r) in
         let g : slice_get es (length l) ≡ Some e = ap (λ xs. slice_get xs (length l)) i ∙ get_behind l e r in
-        sym (or_false (stands es (length l) s) ∙ (ap (λ o. among s (meant_entry es (length l) o)) g ∙ ap (λ xs. among s (meant (named_of xs) (length l) e.kind)) t))
-
-pub none : (ds : List ℕ) → list_any (λ j. false) ds ≡ false
-none [] = refl
-none (d ∷ ds) = none ds
+        sym (or-false (stands es (length l) s) ∙ (ap (λ o. among s (meant_entry es (length l) o)) g ∙ ap (λ xs. among s (meant (named_of xs) (length l) e.kind)) t))
 
 -- no name stands for what is no signal
 pub not_here : (k s : ℕ) → (k ≡ s → ⊥) → (k == s) ≡ false
@@ -132,9 +120,9 @@ no_signal_alike es s k no_signal = all_alike (λ j. j == s) (λ j. false) es one
     is_other l e r i sig = not_here (length l) s (λ n. let f : is_signal e.kind ≡ false = no_signal e (ap (slice_get es) (sym n) ∙ (ap (λ xs. slice_get xs (length l)) i ∙ get_behind l e r)) in let bad : true ≡ false = sym sig ∙ f in cc)
 
     by : (kd : Kind) (l : List Entry) → (is_signal kd ≡ true → (length l == s) ≡ false) → NamesAlike (λ j. j == s) (λ j. false) (named_of l) (numbered_from 0 l) → among s (meant (named_of l) (length l) kd) ≡ false
-    by (APin pin negated) l f h = or_false (length l == s) ∙ f refl
-    by (ANode node) l f h = or_false (length l == s) ∙ f refl
-    by (AConstant value) l f h = targets_alike (λ j. j == s) (λ j. false) (named_of l) (numbered_from 0 l) h value ∙ none (signals_of (numbered_from 0 l) value)
+    by (APin pin negated) l f h = or-false (length l == s) ∙ f refl
+    by (ANode node) l f h = or-false (length l == s) ∙ f refl
+    by (AConstant value) l f h = targets_alike (λ j. j == s) (λ j. false) (named_of l) (numbered_from 0 l) h value ∙ nothing (signals_of (numbered_from 0 l) value)
     by ADeviceName l f h = refl
 
     one : (l : List Entry) (e : Entry) (r : List Entry) → es ≡ l ++ e ∷ r → NamesAlike (λ j. j == s) (λ j. false) (named_of l) (numbered_from 0 l) → among s (meant (named_of l) (length l) e.kind) ≡ (false || false)
@@ -154,29 +142,18 @@ low_numbers limit (Some j) = by (nat_lt j limit) refl
     by false e = refl
 
 pub low_alike : (es : List Entry) (limit : ℕ) → NamesAlike (λ j. nat_le limit j) (λ j. false) (numbered limit es) (numbered limit es)
-low_alike es limit name = ap (list_any (λ j. nat_le limit j)) (found name limit es) ∙ (low_numbers limit (find es name) ∙ sym (none (signals_of_name (numbered limit es) name)))
-
-pub all_low : (limit : ℕ) (ds : List ℕ) → list_any (λ j. nat_le limit j) ds ≡ false → AllBelow limit ds
-all_low limit [] e = tt
-all_low limit (d ∷ ds) e = by (nat_le limit d) refl (all_low limit ds)
-  where
-    is_low : nat_le limit d ≡ false → d < limit
-    is_low f = grind (arith, nat_tests)
-
-    by : (b : Bool) → nat_le limit d ≡ b → (list_any (λ j. nat_le limit j) ds ≡ false → AllBelow limit ds) → (d < limit) × AllBelow limit ds
-    by true f g = absurd (let bad : true ≡ false = sym (ap (λ c. c || list_any (λ j. nat_le limit j) ds) f) ∙ e in cc)
-    by false f g = (is_low f, g (sym (ap (λ c. c || list_any (λ j. nat_le limit j) ds) f) ∙ e))
+low_alike es limit name = ap (list_any (λ j. nat_le limit j)) (found name limit es) ∙ (low_numbers limit (find es name) ∙ sym (nothing (signals_of_name (numbered limit es) name)))
 
 pub direct_low : (es : List Entry) (k : ℕ) → AllBelow k (direct es k)
 direct_low es k = of (slice_get es k)
   where
-    of_kind : (kd : Kind) → AllBelow k (named_by (numbered k es) kd)
+    of_kind : (kd : Kind) → AllBelow k (named_in (numbered k es) (value_of kd))
     of_kind (APin pin negated) = tt
     of_kind (ANode node) = tt
-    of_kind (AConstant value) = all_low k (signals_of (numbered k es) value) (targets_alike (λ j. nat_le k j) (λ j. false) (numbered k es) (numbered k es) (low_alike es k) value ∙ none (signals_of (numbered k es) value))
+    of_kind (AConstant value) = all_under (λ j. j) k (signals_of (numbered k es) value) (targets_alike (λ j. nat_le k j) (λ j. false) (numbered k es) (numbered k es) (low_alike es k) value ∙ nothing (signals_of (numbered k es) value))
     of_kind ADeviceName = tt
 
-    of : (o : Option Entry) → AllBelow k (named_at (numbered k es) o)
+    of : (o : Option Entry) → AllBelow k (named_in (numbered k es) (value_at o))
     of None = tt
     of (Some e) = of_kind e.kind
 
@@ -188,7 +165,7 @@ stands_by es s x g sig k = of (slice_get es k) refl
     not_same : (o : Option Entry) → slice_get es k ≡ o → ((e : Entry) → o ≡ Some e → is_signal e.kind ≡ false) → (k == s) ≡ false
     not_same o i f = not_here k s (λ n. let h : is_signal x.kind ≡ false = f x (sym i ∙ (ap (slice_get es) n ∙ g)) in let bad : true ≡ false = sym sig ∙ h in cc)
 
-    of_kind : (e : Entry) (kd : Kind) → slice_get es k ≡ Some e → e.kind ≡ kd → among s (meant (named_of (take k es)) k kd) ≡ ((k == s) || list_any (λ j. stands es j s) (named_by (numbered k es) kd))
+    of_kind : (e : Entry) (kd : Kind) → slice_get es k ≡ Some e → e.kind ≡ kd → among s (meant (named_of (take k es)) k kd) ≡ ((k == s) || list_any (λ j. stands es j s) (named_in (numbered k es) (value_of kd)))
     of_kind e (APin pin negated) i f = refl
     of_kind e (ANode node) i f = refl
     of_kind e (AConstant value) i f =
@@ -196,12 +173,9 @@ stands_by es s x g sig k = of (slice_get es k) refl
         ∙ ap (λ b. b || list_any (λ j. stands es j s) (signals_of (numbered k es) value)) (sym (not_same (Some e) i (λ e2 h. let same : e ≡ e2 = cc in ap (λ (y : Entry). is_signal y.kind) (sym same) ∙ ap is_signal f)))
     of_kind e ADeviceName i f = ap (λ b. b || false) (sym (not_same (Some e) i (λ e2 h. let same : e ≡ e2 = cc in ap (λ (y : Entry). is_signal y.kind) (sym same) ∙ ap is_signal f)))
 
-    of : (o : Option Entry) → slice_get es k ≡ o → among s (meant_entry es k o) ≡ ((k == s) || list_any (λ j. stands es j s) (named_at (numbered k es) o))
+    of : (o : Option Entry) → slice_get es k ≡ o → among s (meant_entry es k o) ≡ ((k == s) || list_any (λ j. stands es j s) (named_in (numbered k es) (value_at o)))
     of None i = ap (λ b. b || false) (sym (not_same None i (λ e h. absurd cc)))
     of (Some e) i = of_kind e e.kind i refl
 
-self : (k s : ℕ) → k ≡ s → (k == s) ≡ true
-self k s e = grind (arith, nat_tests)
-
 pub stands_self : (es : List Entry) (s : ℕ) (x : Entry) → slice_get es s ≡ Some x → is_signal x.kind ≡ true → stands es s s ≡ true
-stands_self es s x g sig = stands_by es s x g sig s ∙ ap (λ b. b || list_any (λ j. stands es j s) (direct es s)) (self s s refl)
+stands_self es s x g sig = stands_by es s x g sig s ∙ ap (λ b. b || list_any (λ j. stands es j s) (direct es s)) (is_same s s refl)

@@ -46,9 +46,6 @@ told_if w xs es all =
     All-weaker (IsFrom w xs) (IsTold (if w.buffer then xs else []))
     (λ e from said. ((from said).1.0, ap (λ b. is_among (if b then xs else []) e.name) (from said).0 ∙ (from said).1.1)) es all
 
-silent : (w : Words) (xs : List GivenName) (e : Entry) → e.words.buffer ≡ false → IsFrom w xs e
-silent w xs e none said = absurd (true≢false (sym said ∙ none))
-
 pins_from : (w : Words) (all xs : List GivenName) (ns : List ℕ) → AreAmong all xs → All (IsFrom w all) (pin_entries w xs ns)
 pins_from w all [] ns are = All-nil (IsFrom w all)
 pins_from w all (x ∷ xs) [] are =

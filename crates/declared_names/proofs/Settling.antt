@@ -1,11 +1,13 @@
 -- Two passes find what the sections assign, and whether on the clock.
-use Rattle.std.proofs.Common.{◌≡◌, ℕ, zero, suc, ◌+◌, ◌==◌, ◌<◌, ◌≤◌, nat_le, Bool, true, false, ◌||◌, ◌&&◌, Option, Some, List, [], ◌∷◌, take, length, refl, sym, ap, ap₂, subst, ◌∙◌, arith}
+use Rattle.std.proofs.Common.{◌≡◌, ℕ, zero, suc, ◌+◌, ◌==◌, ◌<◌, ◌≤◌, nat_le, Bool, true, false, ◌||◌, ◌&&◌, Option, Some, List, [], ◌∷◌, take, length, refl, sym, ap, ap₂, subst, ◌∙◌, arith, add-zero, suc-add, add-suc, zero-add}
 use Rattle.std.specs.Prelude.{slice_get, replicate}
 use Rattle.std.specs.List.{list_any}
+use Rattle.std.proofs.lemmas.Bool.{or_parts}
 use Rattle.std.proofs.lemmas.Bool.Decides.{nat_tests}
 use Rattle.std.proofs.lemmas.List.{get_or-replicate, length-replicate}
 use Rattle.std.proofs.Math.Seq.{take-length}
 use Rattle.std.proofs.lemmas.Option.{slice_get_within}
+use Rattle.std.proofs.Math.Bool.{and-true, and-false}
 use Rattle.pld_device.specs.declared.flip.Flip.{Flip}
 use Rattle.abel_tree.specs.Assigned.{Assigned, signals_of_name, named_of, sections_assign, is_assigned, is_clocked_target}
 use Rattle.abel_tree.specs.Entries.{Entry, is_signal}
@@ -17,11 +19,11 @@ use Rattle.declared_names.specs.declared.marks.Mark.TheVariants as mark
 use Rattle.declared_names.specs.Marking.{is_marked, is_strong, all_marked}
 use Rattle.declared_names.specs.Numbered.{numbered, direct, swept as swept_marks}
 use Rattle.declared_names.specs.Settled.{all_found, is_held_at, kind_by, kinds_by, words_by}
-use Rattle.declared_names.proofs.TargetsAlike.{NamesAlike, tells, sections_alike}
+use Rattle.declared_names.proofs.TargetsAlike.{NamesAlike, sections_alike}
 use Rattle.declared_names.proofs.Bits.{at, all_marked_at, all_strong_at, swept_marked, swept_strong, length_all_marked}
 use Rattle.declared_names.proofs.HeldFound.{held_is}
 use Rattle.declared_names.proofs.Related.{stands, stands_alike, no_signal_alike, low_alike, direct_low, stands_by, stands_self}
-use Rattle.declared_names.proofs.Spreading.{sweep, below, below_none, below_or, below_one, swept, same_number}
+use Rattle.declared_names.proofs.Spreading.{sweep, below, below_none, below_or, below_one, swept, same_number, nothing, absorbed}
 
 -- ---- what stands below
 
@@ -31,30 +33,19 @@ module _ (st : ℕ → ℕ → Bool) (s : ℕ) where
   below_same (suc k) m p f = ap₂ (λ a b. (a && st k s) || b) (f k (omega arith)) (below_same k m p (λ j h. f j (omega (arith, h))))
 
   weighed : (n d : ℕ) (w : Bool) → d < n → below st n (λ k. (d == k) && w) s ≡ (st d s && w)
-  weighed n d true h = below_same n (λ k. (d == k) && true) (λ k. d == k) (λ j l. and_true (d == j)) ∙ (below_one st s n d h ∙ sym (and_true (st d s)))
-    where
-      and_true : (a : Bool) → (a && true) ≡ a
-      and_true true = refl
-      and_true false = refl
-  weighed n d false h = below_same n (λ k. (d == k) && false) (λ k. false) (λ j l. and_false (d == j)) ∙ (below_none st s n ∙ sym (and_false (st d s)))
-    where
-      and_false : (a : Bool) → (a && false) ≡ false
-      and_false true = refl
-      and_false false = refl
+  weighed n d true h = below_same n (λ k. (d == k) && true) (λ k. d == k) (λ j l. and-true (d == j)) ∙ (below_one st s n d h ∙ sym (and-true (st d s)))
+  weighed n d false h = below_same n (λ k. (d == k) && false) (λ k. false) (λ j l. and-false (d == j)) ∙ (below_none st s n ∙ sym (and-false (st d s)))
 
   module _ (w : Assigned → Bool) (n : ℕ) where
     below_found : (found : List Assigned) → list_any (λ (a : Assigned). nat_le n a.signal) found ≡ false → below st n (λ k. list_any (λ (a : Assigned). (a.signal == k) && w a) found) s ≡ list_any (λ (a : Assigned). st a.signal s && w a) found
     below_found [] h = below_none st s n
-    below_found (a ∷ found) h = by (nat_le n a.signal) refl (below_found found)
+    below_found (a ∷ found) h =
+        let parts = or_parts (nat_le n a.signal) (list_any (λ (x : Assigned). nat_le n x.signal) found) h in
+        below_or st s n (λ k. (a.signal == k) && w a) (λ k. list_any (λ (x : Assigned). (x.signal == k) && w x) found)
+        ∙ ap₂ (λ c d. c || d) (weighed n a.signal (w a) (lower parts.0)) (below_found found parts.1)
       where
         lower : nat_le n a.signal ≡ false → a.signal < n
         lower f = grind (arith, nat_tests)
-
-        by : (b : Bool) → nat_le n a.signal ≡ b → (list_any (λ (x : Assigned). nat_le n x.signal) found ≡ false → below st n (λ k. list_any (λ (x : Assigned). (x.signal == k) && w x) found) s ≡ list_any (λ (x : Assigned). st x.signal s && w x) found) → below st n (λ k. ((a.signal == k) && w a) || list_any (λ (x : Assigned). (x.signal == k) && w x) found) s ≡ ((st a.signal s && w a) || list_any (λ (x : Assigned). st x.signal s && w x) found)
-        by true f g = absurd (let bad : true ≡ false = sym (ap (λ c. c || list_any (λ (x : Assigned). nat_le n x.signal) found) f) ∙ h in cc)
-        by false f g =
-            below_or st s n (λ k. (a.signal == k) && w a) (λ k. list_any (λ (x : Assigned). (x.signal == k) && w x) found)
-            ∙ ap₂ (λ c d. c || d) (weighed n a.signal (w a) (lower f)) (g (sym (ap (λ c. c || list_any (λ (x : Assigned). nat_le n x.signal) found) f) ∙ h))
 
   -- what is marked itself stands below
   module _ (w : Assigned → Bool) (own : st s s ≡ true) where
@@ -76,10 +67,6 @@ module _ (st : ℕ → ℕ → Bool) (s : ℕ) where
     included : (found : List Assigned) → list_any (λ (a : Assigned). (a.signal == s) && w a) found ≡ true → list_any (λ (a : Assigned). st a.signal s && w a) found ≡ true
     included [] e = absurd cc
     included (a ∷ found) e = covered ((a.signal == s) && w a) (st a.signal s && w a) (list_any (λ (x : Assigned). (x.signal == s) && w x) found) (list_any (λ (x : Assigned). st x.signal s && w x) found) (each (w a) (a.signal == s) a refl refl) (included found) e
-
-absorbed : (b x : Bool) → (b ≡ true → x ≡ true) → (b || x) ≡ x
-absorbed true x f = sym (f refl)
-absorbed false x f = refl
 
 -- ---- the passes
 
@@ -115,12 +102,8 @@ module _ (es : List Entry) (xs : List SectionTree) where
   whole : take (length es) es ≡ es
   whole = take-length es
 
-  no_any : (found : List Assigned) → list_any (tells (λ c j. false)) found ≡ false
-  no_any [] = refl
-  no_any (a ∷ found) = no_any found
-
   none_high : list_any (λ (a : Assigned). nat_le (length es) a.signal) own_numbers ≡ false
-  none_high = sections_alike (λ c j. nat_le (length es) j) (λ c j. false) (numbered (length es) es) (numbered (length es) es) (λ c. low_alike es (length es)) xs ∙ no_any own_numbers
+  none_high = sections_alike (λ c j. nat_le (length es) j) (λ c j. false) (numbered (length es) es) (numbered (length es) es) (λ c. low_alike es (length es)) xs ∙ nothing own_numbers
 
   -- a signal
   module _ (s : ℕ) (x : Entry) (g : slice_get es s ≡ Some x) (sig : is_signal x.kind ≡ true) where
@@ -174,7 +157,7 @@ module _ (es : List Entry) (xs : List SectionTree) where
   is_no_target s x g sig =
       sections_alike (λ c j. j == s) (λ c j. false) (named_of es) (numbered (length es) es)
       (λ c. subst (λ l. NamesAlike (λ j. j == s) (λ j. false) (named_of l) (numbered (length es) es)) whole (no_signal_alike es s (length es) (λ e h. let same : x ≡ e = the_same x e (sym g ∙ h) in ap (λ (y : Entry). is_signal y.kind) (sym same) ∙ sig))) xs
-      ∙ no_any own_numbers
+      ∙ nothing own_numbers
     where
       the_same : (y e : Entry) → ◌≡◌ {A = Option Entry} (Some y) (Some e) → y ≡ e
       the_same y e h = cc
@@ -201,18 +184,9 @@ module _ (es : List Entry) (xs : List SectionTree) where
   all_settled flip i [] f = refl
   all_settled flip i (e ∷ l) f =
       ap₂ (λ y ys. y ∷ ys)
-      (subst (λ k. settled_by flip k e ≡ kind_of flip k e) (plus_zero i) (f 0 e refl))
-      (all_settled flip (suc i) l (λ j y h. subst (λ k. settled_by flip k y ≡ kind_of flip k y) (plus_suc i j) (f (suc j) y h)))
-    where
-      plus_zero : (n : ℕ) → n + 0 ≡ n
-      plus_zero n = omega arith
-
-      plus_suc : (n j : ℕ) → n + suc j ≡ suc n + j
-      plus_suc n j = omega arith
+      (subst (λ k. settled_by flip k e ≡ kind_of flip k e) (add-zero i) (f 0 e refl))
+      (all_settled flip (suc i) l (λ j y h. subst (λ k. settled_by flip k y ≡ kind_of flip k y) (add-suc i j ∙ sym (suc-add i j)) (f (suc j) y h)))
 
   -- the names with their kinds
   pub settled : (flip : Flip) → kinds_by flip (swept_marks es (length es) first_pass) (all_found es xs) 0 es ≡ with_assigned flip xs es
-  settled flip = all_settled flip 0 es (λ j e h. subst (λ k. settled_by flip k e ≡ kind_of flip k e) (no_plus j) (settled_one flip j e h))
-    where
-      no_plus : (n : ℕ) → n ≡ 0 + n
-      no_plus n = omega arith
+  settled flip = all_settled flip 0 es (λ j e h. subst (λ k. settled_by flip k e ≡ kind_of flip k e) (sym (zero-add j)) (settled_one flip j e h))

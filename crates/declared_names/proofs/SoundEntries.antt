@@ -1,7 +1,7 @@
 -- Names that are sound by the names before them.
 use Rattle.std.proofs.Common.{◌≡◌, ℕ, zero, suc, ◌<◌, ◌≤◌, ◌==◌, nat_le, nat_lt, Bool, true, false, not, ◌&&◌, ◌||◌, if◌then◌else◌, Some, List, [], ◌∷◌, ◌++◌, zip, take, refl, sym, ap, ap₂, subst, ◌∙◌, append_assoc, arith}
 use Rattle.std.specs.Prelude.{is_some, slice_get}
-use Rattle.std.proofs.lemmas.Bool.{true≢false}
+use Rattle.std.proofs.lemmas.Bool.{true≢false, and_parts}
 use Rattle.std.proofs.lemmas.Bool.Decides.{nat_tests}
 use Rattle.std.proofs.lemmas.List.{append-nil}
 use Rattle.std.proofs.lemmas.List.Folds.{list_all-append}
@@ -17,7 +17,7 @@ use Rattle.decls.specs.declared.fault.NameFault.TheVariants as fault
 use Rattle.decls.specs.NamesBefore.{is_on_pin, is_taken}
 use Rattle.decls.specs.Refused.{refused_if, is_signal_pin, number_refused, name_refused, names_refused}
 use Rattle.decls.proofs.NoRefusals.{none_left, none_right, not_refused, RestIsUnnumbered}
-use Rattle.declared_names.proofs.NamesAlike.{Alike, alike_kinds, alike_push, Extends, extends_alike, extends_append, extends_then, named_more, both_true}
+use Rattle.declared_names.proofs.NamesAlike.{Alike, alike_kinds, alike_push, Extends, extends_alike, extends_append, extends_then, named_more}
 
 -- no earlier name has the pin, if it has a number
 abbrev pub IsNewPin : (earlier : List Entry) → Kind → Type 0
@@ -174,5 +174,5 @@ pub constants_named : (es : List Entry) (names : List Word) (values : List Tree)
 constants_named es [] values h = tt
 constants_named es (name ∷ names) [] h = tt
 constants_named es (name ∷ names) (v ∷ values) h =
-    let b = both_true (are_named es (uses v)) (are_named es (all_uses values)) (sym (list_all-append (is_named es) (uses v) (all_uses values)) ∙ h) in
+    let b = and_parts (are_named es (uses v)) (are_named es (all_uses values)) (sym (list_all-append (is_named es) (uses v) (all_uses values)) ∙ h) in
     (b.0, constants_named es names values b.1)

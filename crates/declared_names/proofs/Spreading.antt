@@ -1,7 +1,9 @@
 -- Marking what targets name, from the last name to the first: each name is looked at once.
-use Rattle.std.proofs.Common.{◌≡◌, ℕ, zero, suc, ◌==◌, ◌<◌, ◌≤◌, Bool, true, false, ◌||◌, ◌&&◌, List, [], ◌∷◌, refl, sym, ap, ap₂, ◌∙◌, arith}
+use Rattle.std.proofs.Common.{◌≡◌, ℕ, zero, suc, ◌==◌, ◌<◌, ◌≤◌, Bool, true, false, ◌||◌, ◌&&◌, List, [], ◌∷◌, refl, sym, ap, ap₂, ◌∙◌, arith, nat_le}
 use Rattle.std.proofs.lemmas.Bool.Decides.{nat_tests}
 use Rattle.std.specs.List.{list_any}
+use Rattle.std.proofs.Math.Bool.{or-false}
+use Rattle.std.proofs.lemmas.Bool.{or_parts}
 
 -- s is among the numbers
 abbrev pub among : ℕ → List ℕ → Bool
@@ -20,9 +22,30 @@ abbrev pub below : (stands : ℕ → ℕ → Bool) → ℕ → (ℕ → Bool) �
 below stands zero m s = false
 below stands (suc k) m s = (m k && stands k s) || below stands k m s
 
+-- the numbers of these are below one
+abbrev pub AllUnder : {A : Type 0} → (A → ℕ) → ℕ → List A → Type 0
+AllUnder f n [] = Unit {0}
+AllUnder f n (x ∷ xs) = (f x < n) × AllUnder f n xs
+
 abbrev pub AllBelow : ℕ → List ℕ → Type 0
-AllBelow n [] = Unit {0}
-AllBelow n (j ∷ js) = (j < n) × AllBelow n js
+AllBelow n js = AllUnder (λ j. j) n js
+
+pub nothing : {A : Type 0} (xs : List A) → list_any (λ x. false) xs ≡ false
+nothing [] = refl
+nothing (x ∷ xs) = nothing xs
+
+pub all_under : {A : Type 0} (f : A → ℕ) (limit : ℕ) (xs : List A) → list_any (λ x. nat_le limit (f x)) xs ≡ false → AllUnder f limit xs
+all_under f limit [] e = tt
+all_under f limit (x ∷ xs) e =
+    let parts = or_parts (nat_le limit (f x)) (list_any (λ y. nat_le limit (f y)) xs) e in
+    (is_low parts.0, all_under f limit xs parts.1)
+  where
+    is_low : nat_le limit (f x) ≡ false → f x < limit
+    is_low g = grind (arith, nat_tests)
+
+pub absorbed : (b x : Bool) → (b ≡ true → x ≡ true) → (b || x) ≡ x
+absorbed true x f = sym (f refl)
+absorbed false x f = refl
 
 or_mixed : (a b c x y : Bool) → (((a || b) && c) || (x || y)) ≡ (((a && c) || x) || ((b && c) || y))
 or_mixed true true true x y = refl
@@ -35,13 +58,9 @@ or_mixed true false false x y = refl
 or_mixed false true false x y = refl
 or_mixed false false false x y = refl
 
-pub or_false : (a : Bool) → (a || false) ≡ a
-or_false true = refl
-or_false false = refl
-
 unmarked : (a b : Bool) → ((a || false) || (b || false)) ≡ (a || b)
 unmarked true b = refl
-unmarked false b = or_false b
+unmarked false b = or-false b
 
 marked : (ms d a b ks : Bool) → (d ≡ true → a ≡ true) → (ks ≡ true → ms ≡ true) → ((ms || d) || (b || a)) ≡ (ms || ((ks || a) || b))
 marked true d a b ks f g = refl
@@ -54,6 +73,9 @@ marked false false false false false f g = refl
 
 pub same_number : (d k : ℕ) → (d == k) ≡ true → d ≡ k
 same_number d k e = grind (arith, nat_tests)
+
+pub is_same : (d k : ℕ) → d ≡ k → (d == k) ≡ true
+is_same d k h = grind (arith, nat_tests)
 
 pub other_number : (d k : ℕ) → k < d → (d == k) ≡ false
 other_number d k h = grind (arith, nat_tests)
@@ -79,7 +101,7 @@ module _ (stands : ℕ → ℕ → Bool) (s : ℕ) where
   below_one (suc k) d h = chosen (d == k) refl (below_one k d)
     where
       chosen : (b : Bool) → (d == k) ≡ b → (d < k → below stands k (λ j. d == j) s ≡ stands d s) → below stands (suc k) (λ j. d == j) s ≡ stands d s
-      chosen true e f = rw e (ap (λ x. stands k s || x) (below_past k d (omega (arith, same_number d k e))) ∙ (or_false (stands k s) ∙ ap (λ j. stands j s) (sym (same_number d k e))))
+      chosen true e f = rw e (ap (λ x. stands k s || x) (below_past k d (omega (arith, same_number d k e))) ∙ (or-false (stands k s) ∙ ap (λ j. stands j s) (sym (same_number d k e))))
       chosen false e f = rw e (f (still_below d k h e))
 
   below_among : (n : ℕ) (ds : List ℕ) → AllBelow n ds → below stands n (λ j. among j ds) s ≡ list_any (λ j. stands j s) ds
@@ -100,7 +122,7 @@ module _ (stands : ℕ → ℕ → Bool) (s : ℕ) where
 
   module _ (direct : ℕ → List ℕ) (earlier : (k : ℕ) → AllBelow k (direct k)) (meaning : (k : ℕ) → stands k s ≡ ((k == s) || list_any (λ j. stands j s) (direct k))) (self : stands s s ≡ true) where
     pub swept : (n : ℕ) (m : ℕ → Bool) → sweep direct n m s ≡ (m s || below stands n m s)
-    swept zero m = sym (or_false (m s))
+    swept zero m = sym (or-false (m s))
     swept (suc k) m = swept k (spread m (direct k) (m k)) ∙ (ap (λ x. spread m (direct k) (m k) s || x) (below_or k m (λ j. m k && among j (direct k))) ∙ by (m k) refl)
       where
         by : (b : Bool) → m k ≡ b → (spread m (direct k) (m k) s || (below stands k m s || below stands k (λ j. m k && among j (direct k)) s)) ≡ (m s || below stands (suc k) m s)

@@ -1,22 +1,15 @@
 -- What two lists of named signals say of a target, where they say the same of each name.
-use Rattle.std.proofs.Common.{◌≡◌, ℕ, Bool, true, false, ◌||◌, Option, Some, None, List, [], ◌∷◌, ◌++◌, refl, sym, ap, ap₂, ◌∙◌}
+use Rattle.std.proofs.Common.{◌≡◌, ℕ, Bool, true, ◌||◌, Option, Some, None, List, [], ◌∷◌, ◌++◌, refl, sym, ap, ap₂, ◌∙◌}
 use Rattle.std.specs.List.{list_any}
+use Rattle.std.proofs.lemmas.List.Folds.{list_any-append}
 use Rattle.abel_tree.specs.declared.words.Extension.{Extension}
 use Rattle.abel_tree.specs.declared.words.Extension.TheVariants as ext
 use Rattle.abel_tree.specs.Assigned.{Named, Assigned, signals_of_name, signals_of_names, signals_of, signals_of_member, signals_of_members, target_extension, without_extension, is_clocked, assigned_each, assigned_by, statement_assigns, else_assigns, statements_assign, list_assigns, with_assigns, branch_assigns, other_assigns, choices_assign, branches_assign, states_assign, section_assigns, sections_assign}
 use Rattle.abel_tree.specs.Ranges.{range_names}
 use Rattle.abel_tree.specs.Tree.{Tree, ANumber, ASpecial, AName, ASet, AParen, AUnary, ABinary, SetMember, OneMember, SpanMember, Members, NoMember, MoreMembers, Statement, AnAssign, AWhen, AGroup, ADontCare, Otherwise, NoElse, AnElse, Statements, NoStatement, MoreStatements, Branch, AGoal, AnIf, ACase, OtherBranch, NoBranch, ABranch, Choices, NoChoice, MoreChoices, StateTree, SectionTree, Declarations, Equations, ATable, ADiagram, SomeVectors, DontCareSection}
 
-or_assoc : (a b c : Bool) → ((a || b) || c) ≡ (a || (b || c))
-or_assoc true b c = refl
-or_assoc false b c = refl
-
-pub any_append : {A : Type 0} (p : A → Bool) (xs ys : List A) → list_any p (xs ++ ys) ≡ (list_any p xs || list_any p ys)
-any_append p [] ys = refl
-any_append p (x ∷ xs) ys = ap (λ b. p x || b) (any_append p xs ys) ∙ sym (or_assoc (p x) (list_any p xs) (list_any p ys))
-
-joined : {A B : Type 0} (p : A → Bool) (q : B → Bool) (xs xt : List A) (ys yt : List B) → list_any p xs ≡ list_any q ys → list_any p xt ≡ list_any q yt → list_any p (xs ++ xt) ≡ list_any q (ys ++ yt)
-joined p q xs xt ys yt e f = any_append p xs xt ∙ (ap₂ (λ a b. a || b) e f ∙ sym (any_append q ys yt))
+pub joined : {A B : Type 0} (p : A → Bool) (q : B → Bool) (xs xt : List A) (ys yt : List B) → list_any p xs ≡ list_any q ys → list_any p xt ≡ list_any q yt → list_any p (xs ++ xt) ≡ list_any q (ys ++ yt)
+joined p q xs xt ys yt e f = list_any-append p xs xt ∙ (ap₂ (λ a b. a || b) e f ∙ sym (list_any-append q ys yt))
 
 -- of each name
 abbrev pub NamesAlike : (p q : ℕ → Bool) → (ks ls : List Named) → Type 0

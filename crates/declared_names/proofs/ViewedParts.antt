@@ -1,5 +1,5 @@
 -- What trees of the code read and hold, at each variant.
-use Rattle.std.proofs.Common.{◌≡◌, ℕ, Bool, true, Option, Some, List, [], ◌∷◌, ◌++◌, map, rules, sym, ap, ◌∙◌}
+use Rattle.std.proofs.Common.{◌≡◌, ℕ, Bool, true, Option, List, ◌++◌, map, rules, sym, ap, ◌∙◌}
 use Rattle.pld_base.specs.declared.place.Place.{Place}
 use Rattle.abel_tree.specs.declared.words.Binary.{Binary}
 use Rattle.abel_tree.specs.declared.words.Extension.{Extension}
@@ -20,7 +20,7 @@ view_name w x = search (rules, the_lemmas)
 view_set : (p : Place) (ms : List Member) (x : Option Extension) → view (expr.Set p ms x) ≡ ASet p (members_of (map view_member ms)) x
 view_set p ms x = search (rules, the_lemmas)
 
-view_binary : (sign : Binary) (p : Place) (t u : Expr) → view (expr.Binary sign p t u) ≡ ABinary sign p (view t) (view u)
+pub view_binary : (sign : Binary) (p : Place) (t u : Expr) → view (expr.Binary sign p t u) ≡ ABinary sign p (view t) (view u)
 view_binary sign p t u = search (rules, the_lemmas)
 
 view_span : (first last : Word) → view_member (member.Span first last) ≡ SpanMember first last

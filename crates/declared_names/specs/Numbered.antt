@@ -4,6 +4,7 @@ use Rattle.std.specs.Global.{Vec}
 use Rattle.std.specs.Map.{lookup}
 use Rattle.abel_tree.specs.Assigned.{Named, signals_of}
 use Rattle.abel_tree.specs.Entries.{Kind, APin, ANode, AConstant, ADeviceName, Entry, find}
+use Rattle.abel_tree.specs.Tree.{Tree}
 use Rattle.declared_names.specs.declared.marks.Mark.{Mark}
 use Rattle.declared_names.specs.declared.numbers.Numbers.{Numbers}
 use Rattle.declared_names.specs.declared.marks.Mark.TheVariants as mark
@@ -18,20 +19,25 @@ numbered_from s (e ∷ es) = record { name = e.name; signals = s ∷ [] } ∷ nu
 abbrev pub numbered : (limit : ℕ) → List Entry → List Named
 numbered limit es = numbered_from 0 (take limit es)
 
--- the numbers that a constant names itself
-abbrev pub named_by : List Named → Kind → List ℕ
-named_by ks (APin pin negated) = []
-named_by ks (ANode number) = []
-named_by ks (AConstant value) = signals_of ks value
-named_by ks ADeviceName = []
+-- the value of a name, if it is a constant
+abbrev pub value_of : Kind → Option Tree
+value_of (APin pin negated) = None
+value_of (ANode number) = None
+value_of (AConstant value) = Some value
+value_of ADeviceName = None
 
-abbrev pub named_at : List Named → Option Entry → List ℕ
-named_at ks None = []
-named_at ks (Some e) = named_by ks e.kind
+abbrev pub value_at : Option Entry → Option Tree
+value_at None = None
+value_at (Some e) = value_of e.kind
+
+-- the numbers that a constant names itself
+abbrev pub named_in : List Named → Option Tree → List ℕ
+named_in ks None = []
+named_in ks (Some value) = signals_of ks value
 
 -- the numbers that the name of this number names, if it is a constant: they are earlier
 abbrev pub direct : List Entry → ℕ → List ℕ
-direct es k = named_at (numbered k es) (slice_get es k)
+direct es k = named_in (numbered k es) (value_at (slice_get es k))
 
 -- a constant that is marked marks what it names
 abbrev pub spread_by : Mark → List ℕ → List Mark → List Mark

@@ -3,7 +3,7 @@
 use Rattle.std.specs.Prelude.{ℕ, zero, suc, Bool, true, false, ◌||◌, Option, None, Some, List, [], ◌∷◌, fold, get_or, map, option_map, slice_get}
 use Rattle.pld_base.specs.declared.place.Place.{Place}
 use Rattle.abel_tree.specs.Assigned.{Assigned, assigned_each, signals_of_name}
-use Rattle.abel_tree.specs.Entries.{Kind, APin, ANode, AConstant, ADeviceName, Entry}
+use Rattle.abel_tree.specs.Entries.{Entry}
 use Rattle.abel_tree.specs.declared.diagrams.Goal.{Goal}
 use Rattle.abel_tree.specs.Tree.{Branch, Tree}
 use Rattle.abel_tree.specs.View.{view, view_stmt}
@@ -12,7 +12,7 @@ use Rattle.declared_names.specs.declared.marks.Mark.{Mark}
 use Rattle.declared_names.specs.declared.marks.Mark.TheVariants as mark
 use Rattle.declared_names.specs.declared.parts.Found.{Found}
 use Rattle.declared_names.specs.Marking.{all_marked}
-use Rattle.declared_names.specs.Numbered.{numbered}
+use Rattle.declared_names.specs.Numbered.{numbered, value_at}
 
 -- ---- names
 
@@ -23,19 +23,13 @@ numbers_read limit es name as_q = assigned_each as_q (signals_of_name (numbered 
 -- ---- constants
 
 -- what a constant reads itself, read with `.Q` behind it or without
-abbrev pub reads_by : (limit : ℕ) → List Entry → (as_q : Bool) → Kind → List Assigned
-reads_by limit es as_q (APin pin negated) = []
-reads_by limit es as_q (ANode number) = []
-reads_by limit es as_q (AConstant value) = read_in (numbers_read limit es) as_q value
-reads_by limit es as_q ADeviceName = []
-
-abbrev pub reads_at : (limit : ℕ) → List Entry → (as_q : Bool) → Option Entry → List Assigned
-reads_at limit es as_q None = []
-reads_at limit es as_q (Some e) = reads_by limit es as_q e.kind
+abbrev pub reads_in : (limit : ℕ) → List Entry → (as_q : Bool) → Option Tree → List Assigned
+reads_in limit es as_q None = []
+reads_in limit es as_q (Some value) = read_in (numbers_read limit es) as_q value
 
 -- what the name of this number reads, if it is a constant: names of earlier numbers
 abbrev pub reads_of : List Entry → ℕ → (as_q : Bool) → List Assigned
-reads_of es k as_q = reads_at k es as_q (slice_get es k)
+reads_of es k as_q = reads_in k es as_q (value_at (slice_get es k))
 
 -- a constant that is read reads what it names
 abbrev pub read_on_by : Mark → (Bool → List Assigned) → List Mark → List Mark

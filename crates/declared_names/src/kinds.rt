@@ -1,21 +1,20 @@
 //! Names with their kinds.
 
-ghost use Rattle.std.specs.Prelude.{◌≡◌, OnOk, IfOk, List, ℕ, map, replicate};
-ghost use Rattle.abel_meaning.specs.Kinds.{with_assigned, is_buffer, is_buffer_by_default, is_open, is_registered};
-ghost use Rattle.abel_tree.specs.Entries.{is_signal, view_attributes, view_declared, view_meaning};
+ghost use Rattle.std.specs.Prelude.{◌≡◌, IfOk, map, replicate};
+ghost use Rattle.abel_meaning.specs.Kinds.{with_assigned};
+ghost use Rattle.abel_tree.specs.Entries.{is_signal, view_declared, view_meaning};
 ghost use Rattle.abel_tree.specs.View.{view_section};
 ghost use Rattle.declared_names.specs.declared.marks.Mark.TheVariants.{Clear};
-ghost use Rattle.declared_names.specs.Settled.{all_found, attribute_words, is_held_at, kind_by, kinds_by, words_by};
-ghost use Rattle.declared_names.specs.Marking.{is_strong};
+ghost use Rattle.declared_names.specs.Settled.{all_found, is_held_at, kind_by, kinds_by};
 ghost use Rattle.declared_names.specs.Numbered.{IsNumbering};
 ghost use Rattle.declared_names.specs.Reading.{holding_of};
 
+use crate::attributes::settled_attributes;
 use crate::marks::Mark;
-use crate::numbers::{Numbers, numbers_of};
+use crate::numbers::{FirstNames, Numbers, numbers_of};
 use crate::parts::Found;
 use crate::sweep::mark_of;
-use abel_tree::{Attributes, Declared, Meaning, Section};
-use bitflags::Flags;
+use abel_tree::{Declared, Meaning, Section};
 use pld_base::OutOfMemory;
 use pld_device::Flip;
 use std::alloc::Global;
@@ -33,7 +32,11 @@ pub fn settle(
     let count = names.len();
     let numbers = numbers_of(alloc, names.as_slice())?;
     let mut marks = clear_marks(alloc, count)?;
-    numbers.mark_sections(alloc, &mut marks, count, sections)?;
+    let all = FirstNames {
+        numbers: &numbers,
+        limit: count,
+    };
+    all.mark_sections(alloc, &mut marks, sections)?;
     numbers.sweep(alloc, &mut marks, names.as_slice())?;
     let held = held_names(alloc, &numbers, names.as_slice(), sections)?;
     settle_all(alloc, flip, names, marks.as_slice(), &held)
@@ -52,7 +55,11 @@ fn held_names(
     let count = names.len();
     let marks = clear_marks(alloc, count)?;
     let mut found = Found { all: false, marks };
-    numbers.hold_sections(alloc, &mut found, count, sections)?;
+    let all = FirstNames {
+        numbers,
+        limit: count,
+    };
+    all.hold_sections(alloc, &mut found, sections)?;
     numbers.read_through(alloc, &mut found.marks, names)?;
     Ok(found)
 }
@@ -127,7 +134,7 @@ fn settled_by(flip: Flip, declared: Declared, mark: Mark, held: bool) -> Declare
 }
 
 /// Whether a name is a signal.
-fn is_signal(meaning: &Meaning) -> bool
+pub(crate) fn is_signal(meaning: &Meaning) -> bool
     ensures { result ≡ is_signal (view_meaning meaning.now) }
 {
     match meaning {
@@ -135,72 +142,5 @@ fn is_signal(meaning: &Meaning) -> bool
         Meaning::Node(_) => true,
         Meaning::Constant(_) => false,
         Meaning::DeviceName => false,
-    }
-}
-
-/// The attributes of a signal: its kind, its polarity and DC; neither polarity where it is free.
-fn settled_attributes(flip: Flip, said: Attributes, mark: Mark, held: bool) -> Attributes
-    ensures { view_attributes result ≡ words_by flip held (view_attributes said) (is_registered (view_attributes said) (is_strong mark)) }
-{
-    let registered = is_registered(said, mark.is_strong());
-    let buffer = is_buffer(flip, said);
-    let free = registered && is_open(flip, said) && !held;
-    attributes_of(registered, buffer, free, said.contains(Attributes::DC))
-}
-
-/// Whether a register's pin equals Q where no word says its polarity.
-fn is_buffer_by_default(flip: Flip) -> bool
-    ensures { result ≡ is_buffer_by_default flip }
-{
-    match flip {
-        Flip::Always => false,
-        Flip::AfterRegister => true,
-        Flip::BeforeRegister => false,
-    }
-}
-
-/// Whether neither polarity is said, and the device leaves it to the fitter.
-fn is_open(flip: Flip, said: Attributes) -> bool
-    ensures { result ≡ is_open flip (view_attributes said) }
-{
-    !said.contains(Attributes::BUFFER)
-        && !said.contains(Attributes::INVERT)
-        && is_buffer_by_default(flip)
-}
-
-/// Whether a signal is a register.
-fn is_registered(said: Attributes, clocked: bool) -> bool
-    ensures { result ≡ is_registered (view_attributes said) clocked }
-{
-    said.contains(Attributes::REG) || (!said.contains(Attributes::COM) && clocked)
-}
-
-/// Whether a register's pin equals Q.
-fn is_buffer(flip: Flip, said: Attributes) -> bool
-    ensures { result ≡ is_buffer flip (view_attributes said) }
-{
-    said.contains(Attributes::BUFFER)
-        || (!said.contains(Attributes::INVERT) && is_buffer_by_default(flip))
-}
-
-/// The set of one kind, one polarity or none, and perhaps DC.
-fn attributes_of(registered: bool, buffer: bool, free: bool, dc: bool) -> Attributes
-    ensures { view_attributes result ≡ attribute_words registered buffer free dc }
-{
-    let kind = if registered {
-        Attributes::REG
-    } else {
-        Attributes::COM
-    };
-    let polarity = if buffer {
-        Attributes::BUFFER
-    } else {
-        Attributes::INVERT
-    };
-    let settled = if free { kind } else { kind.union(polarity) };
-    if dc {
-        settled.union(Attributes::DC)
-    } else {
-        settled
     }
 }

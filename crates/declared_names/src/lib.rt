@@ -1,6 +1,8 @@
 //! The names that a source declares, and what each stands for.
 #![tactic(auto)]
 
+mod attributes;
+mod constants;
 mod declaring;
 mod held_sections;
 mod held_transitions;

@@ -15,6 +15,13 @@ pub(crate) struct Numbers {
     pub(crate) map: IndexMap<Vec<u8>, usize>,
 }
 
+/// The first so many names, by the numbers of all: a constant names earlier ones alone.
+#[derive(Clone, Copy)]
+pub(crate) struct FirstNames<'a> {
+    pub(crate) numbers: &'a Numbers,
+    pub(crate) limit: usize,
+}
+
 /// Numbers the names.
 pub(crate) fn numbers_of(alloc: Global, names: &[Declared]) -> Result<Numbers, OutOfMemory>
     ensures { IfOk result (λ ns. (name : List ℕ) → number_in ns.map.entries name ≡ find (map view_declared names.now) name) }

@@ -1,15 +1,16 @@
 //! From the last constant to the first: what a constant that is read reads itself.
 
-ghost use Rattle.std.specs.Prelude.{◌≡◌, OnOk, List, ℕ, length, map};
+ghost use Rattle.std.specs.Prelude.{◌≡◌, OnOk, length, map};
 ghost use Rattle.abel_tree.specs.Entries.{view_declared};
 ghost use Rattle.declared_names.specs.Marking.{all_marked};
 ghost use Rattle.declared_names.specs.Numbered.{IsNumbering};
 ghost use Rattle.declared_names.specs.Reading.{read_on, read_through, reads_of};
 
+use crate::constants::constant_at;
 use crate::marks::Mark;
-use crate::numbers::Numbers;
+use crate::numbers::{FirstNames, Numbers};
 use crate::sweep::mark_of;
-use abel_tree::{Declared, Meaning};
+use abel_tree::Declared;
 use pld_base::OutOfMemory;
 use std::alloc::Global;
 
@@ -26,50 +27,47 @@ impl Numbers {
         let mut number = names.len();
         while 0 < number {
             number -= 1;
-            self.read_on(alloc, marks, names, number)?;
+            let earlier = FirstNames {
+                numbers: self,
+                limit: number,
+            };
+            earlier.read_on(alloc, marks, names)?;
         }
         Ok(())
     }
+}
 
-    /// Marks what the name of this number reads, if it is a constant that is read.
+impl FirstNames<'_> {
+    /// Marks what the name behind them reads, if it is a constant that is read.
     fn read_on(
         &self,
         alloc: Global,
         marks: &mut Vec<Mark>,
         names: &[Declared],
-        number: usize,
     ) -> Result<(), OutOfMemory>
-        ensures { OnOk result (IsNumbering self.now (map view_declared names.now) → marks.new.items ≡ read_on (map view_declared names.now) number marks.old.items) }
+        ensures { OnOk result (IsNumbering self.now.numbers.now (map view_declared names.now) → marks.new.items ≡ read_on (map view_declared names.now) self.now.limit marks.old.items) }
     {
-        let mark = mark_of(marks.as_slice(), number);
+        let mark = mark_of(marks.as_slice(), self.limit);
         match mark {
             Mark::Clear => Ok(()),
-            Mark::Plain => self.read_as(alloc, marks, names, number, false),
-            Mark::Strong => self.read_as(alloc, marks, names, number, true),
+            Mark::Plain => self.read_as(alloc, marks, names, false),
+            Mark::Strong => self.read_as(alloc, marks, names, true),
         }
     }
 
-    /// Marks what the name of this number reads, if it is a constant.
+    /// Marks what the name behind them reads, if it is a constant.
     fn read_as(
         &self,
         alloc: Global,
         marks: &mut Vec<Mark>,
         names: &[Declared],
-        number: usize,
         as_q: bool,
     ) -> Result<(), OutOfMemory>
-        ensures { OnOk result (IsNumbering self.now (map view_declared names.now) → marks.new.items ≡ all_marked marks.old.items (reads_of (map view_declared names.now) number as_q)) }
+        ensures { OnOk result (IsNumbering self.now.numbers.now (map view_declared names.now) → marks.new.items ≡ all_marked marks.old.items (reads_of (map view_declared names.now) self.now.limit as_q)) }
     {
-        if number < names.len() {
-            match &names[number].meaning {
-                Meaning::Constant(value) => {
-                    return self.mark_read(alloc, marks, number, as_q, value);
-                }
-                Meaning::Pin { pin: _, negated: _ } => {}
-                Meaning::Node(_) => {}
-                Meaning::DeviceName => {}
-            }
+        match constant_at(names, self.limit) {
+            Some(value) => self.mark_read(alloc, marks, as_q, value),
+            None => Ok(()),
         }
-        Ok(())
     }
 }

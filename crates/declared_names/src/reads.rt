@@ -1,6 +1,6 @@
 //! The names that expressions read, with `.Q` behind them or without.
 
-ghost use Rattle.std.specs.Prelude.{◌≡◌, OnOk, List, ℕ, true, map};
+ghost use Rattle.std.specs.Prelude.{◌≡◌, OnOk, List, true, map};
 ghost use Rattle.abel_tree.specs.Assigned.{without_extension};
 ghost use Rattle.abel_tree.specs.Entries.{Entry};
 ghost use Rattle.abel_tree.specs.Tree.{members_of};
@@ -11,7 +11,7 @@ ghost use Rattle.declared_names.specs.Numbered.{IsNumbering};
 ghost use Rattle.declared_names.specs.Reading.{numbers_read};
 
 use crate::marks::Mark;
-use crate::numbers::Numbers;
+use crate::numbers::FirstNames;
 use abel_tree::{Expr, Extension, Member};
 use name_ranges::range_list;
 use pld_base::OutOfMemory;
@@ -34,7 +34,7 @@ fn asks_q(as_q: bool, extension: Option<Extension>) -> bool
     }
 }
 
-impl Numbers {
+impl FirstNames<'_> {
     /// Marks what an expression reads, strongly a name that has `.Q` behind it. Calls go as deep as the nestings,
     /// however many operators stand in a row.
     #[cycle(reads)]
@@ -42,11 +42,10 @@ impl Numbers {
         &self,
         alloc: Global,
         marks: &mut Vec<Mark>,
-        limit: usize,
         as_q: bool,
         expr: &Expr,
     ) -> Result<(), OutOfMemory>
-        ensures { OnOk result ((es : List Entry) → IsNumbering self.now es → marks.new.items ≡ all_marked marks.old.items (read_in (numbers_read limit es) as_q (view expr.now))) }
+        ensures { OnOk result ((es : List Entry) → IsNumbering self.now.numbers.now es → marks.new.items ≡ all_marked marks.old.items (read_in (numbers_read self.now.limit es) as_q (view expr.now))) }
     {
         let mut rights = Vec::new(alloc);
         let mut first = expr;
@@ -60,9 +59,9 @@ impl Numbers {
             rights.push(right.get())?;
             first = left.get();
         }
-        self.mark_read_level(alloc, marks, limit, as_q, first)?;
+        self.mark_read_level(alloc, marks, as_q, first)?;
         'up: while let Some(right) = rights.pop() {
-            self.mark_read(alloc, marks, limit, as_q, right)?;
+            self.mark_read(alloc, marks, as_q, right)?;
         }
         Ok(())
     }
@@ -73,47 +72,32 @@ impl Numbers {
         &self,
         alloc: Global,
         marks: &mut Vec<Mark>,
-        limit: usize,
         as_q: bool,
         expr: &Expr,
     ) -> Result<(), OutOfMemory>
-        ensures { OnOk result ((es : List Entry) → IsNumbering self.now es → marks.new.items ≡ all_marked marks.old.items (read_in (numbers_read limit es) as_q (view expr.now))) }
+        ensures { OnOk result ((es : List Entry) → IsNumbering self.now.numbers.now es → marks.new.items ≡ all_marked marks.old.items (read_in (numbers_read self.now.limit es) as_q (view expr.now))) }
     {
         match expr {
             Expr::Number(_) => Ok(()),
-            Expr::Special {
-                letter: _,
-                place: _,
-            } => Ok(()),
+            Expr::Special { .. } => Ok(()),
             Expr::Name { word, extension } => {
                 let own = asks_q(as_q, *extension);
-                self.mark_name(marks, limit, own, word.text.bytes());
+                self.mark_name(marks, own, word.text.bytes());
                 Ok(())
             }
             Expr::Set {
-                place: _,
                 members,
                 extension,
+                ..
             } => {
                 let own = asks_q(as_q, *extension);
-                self.mark_read_members(alloc, marks, limit, own, members.as_slice())
+                self.mark_read_members(alloc, marks, own, members.as_slice())
             }
-            Expr::Paren { place: _, inner } => {
-                self.mark_read(alloc, marks, limit, as_q, inner.get())
-            }
-            Expr::Unary {
-                sign: _,
-                place: _,
-                inner,
-            } => self.mark_read(alloc, marks, limit, as_q, inner.get()),
-            Expr::Binary {
-                sign: _,
-                place: _,
-                left,
-                right,
-            } => {
-                self.mark_read(alloc, marks, limit, as_q, left.get())?;
-                self.mark_read(alloc, marks, limit, as_q, right.get())
+            Expr::Paren { inner, .. } => self.mark_read(alloc, marks, as_q, inner.get()),
+            Expr::Unary { inner, .. } => self.mark_read(alloc, marks, as_q, inner.get()),
+            Expr::Binary { left, right, .. } => {
+                self.mark_read(alloc, marks, as_q, left.get())?;
+                self.mark_read(alloc, marks, as_q, right.get())
             }
         }
     }
@@ -124,14 +108,13 @@ impl Numbers {
         &self,
         alloc: Global,
         marks: &mut Vec<Mark>,
-        limit: usize,
         as_q: bool,
         members: &[Member],
     ) -> Result<(), OutOfMemory>
-        ensures { OnOk result ((es : List Entry) → IsNumbering self.now es → marks.new.items ≡ all_marked marks.old.items (read_in_members (numbers_read limit es) as_q (members_of (map view_member members.now)))) }
+        ensures { OnOk result ((es : List Entry) → IsNumbering self.now.numbers.now es → marks.new.items ≡ all_marked marks.old.items (read_in_members (numbers_read self.now.limit es) as_q (members_of (map view_member members.now)))) }
     {
         for member in members {
-            self.mark_read_member(alloc, marks, limit, as_q, member)?;
+            self.mark_read_member(alloc, marks, as_q, member)?;
         }
         Ok(())
     }
@@ -142,17 +125,16 @@ impl Numbers {
         &self,
         alloc: Global,
         marks: &mut Vec<Mark>,
-        limit: usize,
         as_q: bool,
         member: &Member,
     ) -> Result<(), OutOfMemory>
-        ensures { OnOk result ((es : List Entry) → IsNumbering self.now es → marks.new.items ≡ all_marked marks.old.items (read_in_member (numbers_read limit es) as_q (view_member member.now))) }
+        ensures { OnOk result ((es : List Entry) → IsNumbering self.now.numbers.now es → marks.new.items ≡ all_marked marks.old.items (read_in_member (numbers_read self.now.limit es) as_q (view_member member.now))) }
     {
         match member {
-            Member::One(expr) => self.mark_read(alloc, marks, limit, as_q, expr),
+            Member::One(expr) => self.mark_read(alloc, marks, as_q, expr),
             Member::Span { first, last } => {
                 let names = range_list(alloc, first.text.bytes(), last.text.bytes())?;
-                self.mark_names(marks, limit, as_q, names.as_slice());
+                self.mark_names(marks, as_q, names.as_slice());
                 Ok(())
             }
         }
@@ -163,22 +145,21 @@ impl Numbers {
         &self,
         alloc: Global,
         marks: &mut Vec<Mark>,
-        limit: usize,
         target: &Expr,
     ) -> Result<(), OutOfMemory>
-        ensures { OnOk result ((es : List Entry) → IsNumbering self.now es → marks.new.items ≡ all_marked marks.old.items (read_in (numbers_read limit es) true (without_extension (view target.now)))) }
+        ensures { OnOk result ((es : List Entry) → IsNumbering self.now.numbers.now es → marks.new.items ≡ all_marked marks.old.items (read_in (numbers_read self.now.limit es) true (without_extension (view target.now)))) }
     {
         match target {
             Expr::Name { word, extension: _ } => {
-                self.mark_name(marks, limit, true, word.text.bytes());
+                self.mark_name(marks, true, word.text.bytes());
                 Ok(())
             }
             Expr::Set {
                 place: _,
                 members,
                 extension: _,
-            } => self.mark_read_members(alloc, marks, limit, true, members.as_slice()),
-            _ => self.mark_read(alloc, marks, limit, true, target),
+            } => self.mark_read_members(alloc, marks, true, members.as_slice()),
+            _ => self.mark_read(alloc, marks, true, target),
         }
     }
 }

@@ -1,29 +1,18 @@
 //! Registers that a device can't buffer.
 
 ghost use Rattle.std.specs.Prelude.{◌≡◌, is_some, ◌++◌, IfErr, IfOk, List, Some, false, map, slice_get, true};
-ghost use Rattle.abel_tree.specs.Entries.{view_declared, view_meaning, is_signal};
+ghost use Rattle.abel_tree.specs.Entries.{view_declared};
 ghost use Rattle.abel_tree.specs.FirstRefusal.{first_refusal};
 ghost use Rattle.decls.specs.declared.fault.NameFault.{NameFault};
 ghost use Rattle.decls.specs.FaultOrder.{name_order};
 ghost use Rattle.decls.specs.Passed.{wants_names};
 ghost use Rattle.declared_names.specs.Registers.{is_register, register_refused, registers_refused, refused_for};
 
-use abel_tree::{Attributes, Declared, Meaning};
+use crate::kinds::is_signal;
+use abel_tree::{Attributes, Declared};
 use bitflags::Flags;
 use decls::{Buffered, NameFault, always_inverts, first_of};
 use pld_device::Device;
-
-/// Whether a name is a signal.
-fn is_signal(meaning: &Meaning) -> bool
-    ensures { result ≡ is_signal (view_meaning meaning.now) }
-{
-    match meaning {
-        Meaning::Pin { pin: _, negated: _ } => true,
-        Meaning::Node(_) => true,
-        Meaning::Constant(_) => false,
-        Meaning::DeviceName => false,
-    }
-}
 
 /// Whether the name of a number is a register.
 fn is_register(list: &[Declared], number: usize) -> bool

@@ -1,6 +1,6 @@
 //! What sections assign.
 
-ghost use Rattle.std.specs.Prelude.{◌≡◌, OnOk, List, ℕ, true, map, ◌++◌};
+ghost use Rattle.std.specs.Prelude.{◌≡◌, OnOk, List, true, map, ◌++◌};
 ghost use Rattle.abel_tree.specs.Entries.{Entry};
 ghost use Rattle.abel_tree.specs.Assigned.{section_assigns, sections_assign, states_assign, list_assigns, branches_assign, assigned_each, signals_of};
 ghost use Rattle.abel_tree.specs.View.{view, view_arm, view_section, view_state, view_stmt};
@@ -8,24 +8,23 @@ ghost use Rattle.declared_names.specs.Marking.{all_marked};
 ghost use Rattle.declared_names.specs.Numbered.{numbered, IsNumbering};
 
 use crate::marks::Mark;
-use crate::numbers::Numbers;
+use crate::numbers::FirstNames;
 use abel_tree::{Diagram, Expr, Section, State};
 use pld_base::OutOfMemory;
 use std::alloc::Global;
 
-impl Numbers {
+impl FirstNames<'_> {
     /// Marks what sections assign.
     pub(crate) fn mark_sections(
         &self,
         alloc: Global,
         marks: &mut Vec<Mark>,
-        limit: usize,
         sections: &[Section],
     ) -> Result<(), OutOfMemory>
-        ensures { OnOk result ((es : List Entry) → IsNumbering self.now es → marks.new.items ≡ all_marked marks.old.items (sections_assign (numbered limit es) (map view_section sections.now))) }
+        ensures { OnOk result ((es : List Entry) → IsNumbering self.now.numbers.now es → marks.new.items ≡ all_marked marks.old.items (sections_assign (numbered self.now.limit es) (map view_section sections.now))) }
     {
         for section in sections {
-            self.mark_section(alloc, marks, limit, section)?;
+            self.mark_section(alloc, marks, section)?;
         }
         Ok(())
     }
@@ -35,18 +34,17 @@ impl Numbers {
         &self,
         alloc: Global,
         marks: &mut Vec<Mark>,
-        limit: usize,
         section: &Section,
     ) -> Result<(), OutOfMemory>
-        ensures { OnOk result ((es : List Entry) → IsNumbering self.now es → marks.new.items ≡ all_marked marks.old.items (section_assigns (numbered limit es) (view_section section.now))) }
+        ensures { OnOk result ((es : List Entry) → IsNumbering self.now.numbers.now es → marks.new.items ≡ all_marked marks.old.items (section_assigns (numbered self.now.limit es) (view_section section.now))) }
     {
         match section {
             Section::Declarations(_) => Ok(()),
-            Section::Equations(list) => self.mark_stmts(alloc, marks, limit, list.as_slice()),
+            Section::Equations(list) => self.mark_stmts(alloc, marks, list.as_slice()),
             Section::Table(table) => {
-                self.mark_target(alloc, marks, limit, table.clocked, &table.outputs)
+                self.mark_target(alloc, marks, table.clocked, &table.outputs)
             }
-            Section::Diagram(diagram) => self.mark_diagram(alloc, marks, limit, diagram),
+            Section::Diagram(diagram) => self.mark_diagram(alloc, marks, diagram),
             Section::Vectors(_) => Ok(()),
             Section::DontCare(_) => Ok(()),
         }
@@ -57,13 +55,12 @@ impl Numbers {
         &self,
         alloc: Global,
         marks: &mut Vec<Mark>,
-        limit: usize,
         clocked: bool,
         target: &Expr,
     ) -> Result<(), OutOfMemory>
-        ensures { OnOk result ((es : List Entry) → IsNumbering self.now es → marks.new.items ≡ all_marked marks.old.items (assigned_each clocked (signals_of (numbered limit es) (view target.now)))) }
+        ensures { OnOk result ((es : List Entry) → IsNumbering self.now.numbers.now es → marks.new.items ≡ all_marked marks.old.items (assigned_each clocked (signals_of (numbered self.now.limit es) (view target.now)))) }
     {
-        self.mark_expr(alloc, marks, limit, clocked, target)
+        self.mark_expr(alloc, marks, clocked, target)
     }
 
     /// Marks what a diagram assigns.
@@ -71,13 +68,12 @@ impl Numbers {
         &self,
         alloc: Global,
         marks: &mut Vec<Mark>,
-        limit: usize,
         diagram: &Diagram,
     ) -> Result<(), OutOfMemory>
-        ensures { OnOk result ((es : List Entry) → IsNumbering self.now es → marks.new.items ≡ all_marked marks.old.items (assigned_each true (signals_of (numbered limit es) (view diagram.now.registers)) ++ states_assign (numbered limit es) (map view_state diagram.now.states))) }
+        ensures { OnOk result ((es : List Entry) → IsNumbering self.now.numbers.now es → marks.new.items ≡ all_marked marks.old.items (assigned_each true (signals_of (numbered self.now.limit es) (view diagram.now.registers)) ++ states_assign (numbered self.now.limit es) (map view_state diagram.now.states))) }
     {
-        self.mark_target(alloc, marks, limit, true, &diagram.registers)?;
-        self.mark_states(alloc, marks, limit, diagram.states.as_slice())
+        self.mark_target(alloc, marks, true, &diagram.registers)?;
+        self.mark_states(alloc, marks, diagram.states.as_slice())
     }
 
     /// Marks what states assign.
@@ -85,13 +81,12 @@ impl Numbers {
         &self,
         alloc: Global,
         marks: &mut Vec<Mark>,
-        limit: usize,
         states: &[State],
     ) -> Result<(), OutOfMemory>
-        ensures { OnOk result ((es : List Entry) → IsNumbering self.now es → marks.new.items ≡ all_marked marks.old.items (states_assign (numbered limit es) (map view_state states.now))) }
+        ensures { OnOk result ((es : List Entry) → IsNumbering self.now.numbers.now es → marks.new.items ≡ all_marked marks.old.items (states_assign (numbered self.now.limit es) (map view_state states.now))) }
     {
         for state in states {
-            self.mark_state(alloc, marks, limit, state)?;
+            self.mark_state(alloc, marks, state)?;
         }
         Ok(())
     }
@@ -101,12 +96,11 @@ impl Numbers {
         &self,
         alloc: Global,
         marks: &mut Vec<Mark>,
-        limit: usize,
         state: &State,
     ) -> Result<(), OutOfMemory>
-        ensures { OnOk result ((es : List Entry) → IsNumbering self.now es → marks.new.items ≡ all_marked marks.old.items (list_assigns (numbered limit es) (map view_stmt state.now.statements) ++ branches_assign (numbered limit es) (map view_arm state.now.transitions))) }
+        ensures { OnOk result ((es : List Entry) → IsNumbering self.now.numbers.now es → marks.new.items ≡ all_marked marks.old.items (list_assigns (numbered self.now.limit es) (map view_stmt state.now.statements) ++ branches_assign (numbered self.now.limit es) (map view_arm state.now.transitions))) }
     {
-        self.mark_stmts(alloc, marks, limit, state.statements.as_slice())?;
-        self.mark_arms(alloc, marks, limit, state.transitions.as_slice())
+        self.mark_stmts(alloc, marks, state.statements.as_slice())?;
+        self.mark_arms(alloc, marks, state.transitions.as_slice())
     }
 }

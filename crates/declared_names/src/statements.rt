@@ -1,6 +1,6 @@
 //! What statements assign.
 
-ghost use Rattle.std.specs.Prelude.{◌≡◌, OnOk, List, ℕ, map, option_map, ◌++◌};
+ghost use Rattle.std.specs.Prelude.{◌≡◌, OnOk, List, map};
 ghost use Rattle.abel_tree.specs.Entries.{Entry};
 ghost use Rattle.abel_tree.specs.Assigned.{statement_assigns, list_assigns, target_extension, is_clocked, assigned_by, signals_of, without_extension};
 ghost use Rattle.abel_tree.specs.View.{view, view_stmt};
@@ -8,7 +8,7 @@ ghost use Rattle.declared_names.specs.Marking.{all_marked, when_tree, clocked_by
 ghost use Rattle.declared_names.specs.Numbered.{numbered, IsNumbering};
 
 use crate::marks::Mark;
-use crate::numbers::Numbers;
+use crate::numbers::FirstNames;
 use abel_tree::{Assign, Expr, Extension, Sign, Stmt, When};
 use pld_base::OutOfMemory;
 use std::alloc::Global;
@@ -73,20 +73,19 @@ fn clocked_by(extension: Option<Extension>, clocked: bool) -> Option<bool>
     }
 }
 
-impl Numbers {
+impl FirstNames<'_> {
     /// Marks what an assignment assigns.
     fn mark_assign(
         &self,
         alloc: Global,
         marks: &mut Vec<Mark>,
-        limit: usize,
         assign: &Assign,
     ) -> Result<(), OutOfMemory>
-        ensures { OnOk result ((es : List Entry) → IsNumbering self.now es → marks.new.items ≡ all_marked marks.old.items (assigned_by (target_extension (view assign.now.target)) (is_clocked assign.now.sign) (signals_of (numbered limit es) (without_extension (view assign.now.target))))) }
+        ensures { OnOk result ((es : List Entry) → IsNumbering self.now.numbers.now es → marks.new.items ≡ all_marked marks.old.items (assigned_by (target_extension (view assign.now.target)) (is_clocked assign.now.sign) (signals_of (numbered self.now.limit es) (without_extension (view assign.now.target))))) }
     {
         let clocked = is_clocked(assign.sign);
         match clocked_by(extension_of(&assign.target), clocked) {
-            Some(clocked) => self.mark_left_side(alloc, marks, limit, clocked, &assign.target),
+            Some(clocked) => self.mark_left_side(alloc, marks, clocked, &assign.target),
             None => Ok(()),
         }
     }
@@ -97,15 +96,14 @@ impl Numbers {
         &self,
         alloc: Global,
         marks: &mut Vec<Mark>,
-        limit: usize,
         stmt: &Stmt,
     ) -> Result<(), OutOfMemory>
-        ensures { OnOk result ((es : List Entry) → IsNumbering self.now es → marks.new.items ≡ all_marked marks.old.items (statement_assigns (numbered limit es) (view_stmt stmt.now))) }
+        ensures { OnOk result ((es : List Entry) → IsNumbering self.now.numbers.now es → marks.new.items ≡ all_marked marks.old.items (statement_assigns (numbered self.now.limit es) (view_stmt stmt.now))) }
     {
         match stmt {
-            Stmt::Assign(assign) => self.mark_assign(alloc, marks, limit, assign),
-            Stmt::When(when) => self.mark_when(alloc, marks, limit, when),
-            Stmt::Group(list) => self.mark_stmts(alloc, marks, limit, list.as_slice()),
+            Stmt::Assign(assign) => self.mark_assign(alloc, marks, assign),
+            Stmt::When(when) => self.mark_when(alloc, marks, when),
+            Stmt::Group(list) => self.mark_stmts(alloc, marks, list.as_slice()),
             Stmt::DontCare(_) => Ok(()),
         }
     }
@@ -116,14 +114,13 @@ impl Numbers {
         &self,
         alloc: Global,
         marks: &mut Vec<Mark>,
-        limit: usize,
         when: &When,
     ) -> Result<(), OutOfMemory>
-        ensures { OnOk result ((es : List Entry) → IsNumbering self.now es → marks.new.items ≡ all_marked marks.old.items (statement_assigns (numbered limit es) (when_tree when.now))) }
+        ensures { OnOk result ((es : List Entry) → IsNumbering self.now.numbers.now es → marks.new.items ≡ all_marked marks.old.items (statement_assigns (numbered self.now.limit es) (when_tree when.now))) }
     {
-        self.mark_stmt(alloc, marks, limit, when.then.get())?;
+        self.mark_stmt(alloc, marks, when.then.get())?;
         match &when.otherwise {
-            Some(other) => self.mark_stmt(alloc, marks, limit, other.get()),
+            Some(other) => self.mark_stmt(alloc, marks, other.get()),
             None => Ok(()),
         }
     }
@@ -134,13 +131,12 @@ impl Numbers {
         &self,
         alloc: Global,
         marks: &mut Vec<Mark>,
-        limit: usize,
         list: &[Stmt],
     ) -> Result<(), OutOfMemory>
-        ensures { OnOk result ((es : List Entry) → IsNumbering self.now es → marks.new.items ≡ all_marked marks.old.items (list_assigns (numbered limit es) (map view_stmt list.now))) }
+        ensures { OnOk result ((es : List Entry) → IsNumbering self.now.numbers.now es → marks.new.items ≡ all_marked marks.old.items (list_assigns (numbered self.now.limit es) (map view_stmt list.now))) }
     {
         for stmt in list {
-            self.mark_stmt(alloc, marks, limit, stmt)?;
+            self.mark_stmt(alloc, marks, stmt)?;
         }
         Ok(())
     }

@@ -1,14 +1,15 @@
 //! From the last constant to the first: what a marked constant names is marked.
 
-ghost use Rattle.std.specs.Prelude.{◌≡◌, OnOk, List, ℕ, length, map, get_or};
+ghost use Rattle.std.specs.Prelude.{◌≡◌, OnOk, length, map, get_or};
 ghost use Rattle.abel_tree.specs.Entries.{view_declared};
 ghost use Rattle.declared_names.specs.declared.marks.Mark.TheVariants.{Clear};
 ghost use Rattle.declared_names.specs.Marking.{hits};
 ghost use Rattle.declared_names.specs.Numbered.{IsNumbering, direct, spread_from, swept};
 
+use crate::constants::constant_at;
 use crate::marks::Mark;
-use crate::numbers::Numbers;
-use abel_tree::{Declared, Meaning};
+use crate::numbers::{FirstNames, Numbers};
+use abel_tree::Declared;
 use pld_base::OutOfMemory;
 use std::alloc::Global;
 
@@ -25,51 +26,48 @@ impl Numbers {
         let mut number = names.len();
         while 0 < number {
             number -= 1;
-            self.spread(alloc, marks, names, number)?;
+            let earlier = FirstNames {
+                numbers: self,
+                limit: number,
+            };
+            earlier.spread(alloc, marks, names)?;
         }
         Ok(())
     }
+}
 
-    /// Marks what the name of this number names, if it is a constant that is marked.
+impl FirstNames<'_> {
+    /// Marks what the name behind them names, if it is a constant that is marked.
     fn spread(
         &self,
         alloc: Global,
         marks: &mut Vec<Mark>,
         names: &[Declared],
-        number: usize,
     ) -> Result<(), OutOfMemory>
-        ensures { OnOk result (IsNumbering self.now (map view_declared names.now) → marks.new.items ≡ spread_from (map view_declared names.now) number marks.old.items) }
+        ensures { OnOk result (IsNumbering self.now.numbers.now (map view_declared names.now) → marks.new.items ≡ spread_from (map view_declared names.now) self.now.limit marks.old.items) }
     {
-        let mark = mark_of(marks.as_slice(), number);
+        let mark = mark_of(marks.as_slice(), self.limit);
         match mark {
             Mark::Clear => Ok(()),
-            Mark::Plain => self.spread_as(alloc, marks, names, number, false),
-            Mark::Strong => self.spread_as(alloc, marks, names, number, true),
+            Mark::Plain => self.spread_as(alloc, marks, names, false),
+            Mark::Strong => self.spread_as(alloc, marks, names, true),
         }
     }
 
-    /// Marks what the name of this number names, if it is a constant.
+    /// Marks what the name behind them names, if it is a constant.
     fn spread_as(
         &self,
         alloc: Global,
         marks: &mut Vec<Mark>,
         names: &[Declared],
-        number: usize,
         clocked: bool,
     ) -> Result<(), OutOfMemory>
-        ensures { OnOk result (IsNumbering self.now (map view_declared names.now) → marks.new.items ≡ hits clocked marks.old.items (direct (map view_declared names.now) number)) }
+        ensures { OnOk result (IsNumbering self.now.numbers.now (map view_declared names.now) → marks.new.items ≡ hits clocked marks.old.items (direct (map view_declared names.now) self.now.limit)) }
     {
-        if number < names.len() {
-            match &names[number].meaning {
-                Meaning::Constant(value) => {
-                    return self.mark_expr(alloc, marks, number, clocked, value);
-                }
-                Meaning::Pin { pin: _, negated: _ } => {}
-                Meaning::Node(_) => {}
-                Meaning::DeviceName => {}
-            }
+        match constant_at(names, self.limit) {
+            Some(value) => self.mark_expr(alloc, marks, clocked, value),
+            None => Ok(()),
         }
-        Ok(())
     }
 }
 

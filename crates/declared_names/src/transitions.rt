@@ -1,6 +1,6 @@
 //! What transitions assign.
 
-ghost use Rattle.std.specs.Prelude.{◌≡◌, OnOk, List, ℕ, map, option_map, ◌++◌};
+ghost use Rattle.std.specs.Prelude.{◌≡◌, OnOk, List, map, option_map};
 ghost use Rattle.abel_tree.specs.Entries.{Entry};
 ghost use Rattle.abel_tree.specs.Assigned.{branch_assigns, branches_assign, choices_assign, with_assigns};
 ghost use Rattle.abel_tree.specs.Tree.{choices_of};
@@ -9,44 +9,32 @@ ghost use Rattle.declared_names.specs.Marking.{all_marked, choice_assigns, if_tr
 ghost use Rattle.declared_names.specs.Numbered.{numbered, IsNumbering};
 
 use crate::marks::Mark;
-use crate::numbers::Numbers;
+use crate::numbers::FirstNames;
 use abel_tree::{Arm, CaseArm, If, Stmt};
 use pld_base::{ListOf, OutOfMemory};
 use std::alloc::Global;
 
-impl Numbers {
+impl FirstNames<'_> {
     /// Marks what a transition assigns.
     #[cycle(branches)]
-    fn mark_arm(
-        &self,
-        alloc: Global,
-        marks: &mut Vec<Mark>,
-        limit: usize,
-        arm: &Arm,
-    ) -> Result<(), OutOfMemory>
-        ensures { OnOk result ((es : List Entry) → IsNumbering self.now es → marks.new.items ≡ all_marked marks.old.items (branch_assigns (numbered limit es) (view_arm arm.now))) }
+    fn mark_arm(&self, alloc: Global, marks: &mut Vec<Mark>, arm: &Arm) -> Result<(), OutOfMemory>
+        ensures { OnOk result ((es : List Entry) → IsNumbering self.now.numbers.now es → marks.new.items ≡ all_marked marks.old.items (branch_assigns (numbered self.now.limit es) (view_arm arm.now))) }
     {
         match arm {
-            Arm::Goal(goal) => self.mark_with(alloc, marks, limit, &goal.with),
-            Arm::If(branch) => self.mark_if(alloc, marks, limit, branch),
-            Arm::Case(case) => self.mark_choices(alloc, marks, limit, case.arms.as_slice()),
+            Arm::Goal(goal) => self.mark_with(alloc, marks, &goal.with),
+            Arm::If(branch) => self.mark_if(alloc, marks, branch),
+            Arm::Case(case) => self.mark_choices(alloc, marks, case.arms.as_slice()),
         }
     }
 
     /// Marks what an IF assigns.
     #[cycle(branches)]
-    fn mark_if(
-        &self,
-        alloc: Global,
-        marks: &mut Vec<Mark>,
-        limit: usize,
-        branch: &If,
-    ) -> Result<(), OutOfMemory>
-        ensures { OnOk result ((es : List Entry) → IsNumbering self.now es → marks.new.items ≡ all_marked marks.old.items (branch_assigns (numbered limit es) (if_tree branch.now))) }
+    fn mark_if(&self, alloc: Global, marks: &mut Vec<Mark>, branch: &If) -> Result<(), OutOfMemory>
+        ensures { OnOk result ((es : List Entry) → IsNumbering self.now.numbers.now es → marks.new.items ≡ all_marked marks.old.items (branch_assigns (numbered self.now.limit es) (if_tree branch.now))) }
     {
-        self.mark_arm(alloc, marks, limit, branch.then.get())?;
+        self.mark_arm(alloc, marks, branch.then.get())?;
         match &branch.otherwise {
-            Some(other) => self.mark_arm(alloc, marks, limit, other.get()),
+            Some(other) => self.mark_arm(alloc, marks, other.get()),
             None => Ok(()),
         }
     }
@@ -57,13 +45,12 @@ impl Numbers {
         &self,
         alloc: Global,
         marks: &mut Vec<Mark>,
-        limit: usize,
         arms: &[CaseArm],
     ) -> Result<(), OutOfMemory>
-        ensures { OnOk result ((es : List Entry) → IsNumbering self.now es → marks.new.items ≡ all_marked marks.old.items (choices_assign (numbered limit es) (choices_of (map view_choice arms.now)))) }
+        ensures { OnOk result ((es : List Entry) → IsNumbering self.now.numbers.now es → marks.new.items ≡ all_marked marks.old.items (choices_assign (numbered self.now.limit es) (choices_of (map view_choice arms.now)))) }
     {
         for arm in arms {
-            self.mark_choice(alloc, marks, limit, arm)?;
+            self.mark_choice(alloc, marks, arm)?;
         }
         Ok(())
     }
@@ -74,12 +61,11 @@ impl Numbers {
         &self,
         alloc: Global,
         marks: &mut Vec<Mark>,
-        limit: usize,
         arm: &CaseArm,
     ) -> Result<(), OutOfMemory>
-        ensures { OnOk result ((es : List Entry) → IsNumbering self.now es → marks.new.items ≡ all_marked marks.old.items (choice_assigns (numbered limit es) (view_choice arm.now))) }
+        ensures { OnOk result ((es : List Entry) → IsNumbering self.now.numbers.now es → marks.new.items ≡ all_marked marks.old.items (choice_assigns (numbered self.now.limit es) (view_choice arm.now))) }
     {
-        self.mark_arm(alloc, marks, limit, &arm.result)
+        self.mark_arm(alloc, marks, &arm.result)
     }
 
     /// Marks what the statements behind WITH assign.
@@ -87,13 +73,12 @@ impl Numbers {
         &self,
         alloc: Global,
         marks: &mut Vec<Mark>,
-        limit: usize,
         with: &Option<ListOf<Stmt>>,
     ) -> Result<(), OutOfMemory>
-        ensures { OnOk result ((es : List Entry) → IsNumbering self.now es → marks.new.items ≡ all_marked marks.old.items (with_assigns (numbered limit es) (option_map (λ l. map view_stmt l) with.now))) }
+        ensures { OnOk result ((es : List Entry) → IsNumbering self.now.numbers.now es → marks.new.items ≡ all_marked marks.old.items (with_assigns (numbered self.now.limit es) (option_map (λ l. map view_stmt l) with.now))) }
     {
         match with {
-            Some(list) => self.mark_stmts(alloc, marks, limit, list.as_slice()),
+            Some(list) => self.mark_stmts(alloc, marks, list.as_slice()),
             None => Ok(()),
         }
     }
@@ -103,13 +88,12 @@ impl Numbers {
         &self,
         alloc: Global,
         marks: &mut Vec<Mark>,
-        limit: usize,
         arms: &[Arm],
     ) -> Result<(), OutOfMemory>
-        ensures { OnOk result ((es : List Entry) → IsNumbering self.now es → marks.new.items ≡ all_marked marks.old.items (branches_assign (numbered limit es) (map view_arm arms.now))) }
+        ensures { OnOk result ((es : List Entry) → IsNumbering self.now.numbers.now es → marks.new.items ≡ all_marked marks.old.items (branches_assign (numbered self.now.limit es) (map view_arm arms.now))) }
     {
         for arm in arms {
-            self.mark_arm(alloc, marks, limit, arm)?;
+            self.mark_arm(alloc, marks, arm)?;
         }
         Ok(())
     }

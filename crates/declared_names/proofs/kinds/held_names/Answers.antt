@@ -1,5 +1,5 @@
 -- Both passes over what is read.
-use Rattle.std.proofs.Common.{◌≡◌, false, map, length, sym, ap, ◌∙◌, arith}
+use Rattle.std.proofs.Common.{◌≡◌, false, map, length, sym, ap, ◌∙◌}
 use Rattle.std.specs.Prelude.{replicate}
 use Rattle.std.proofs.lemmas.List.{length-map}
 use Rattle.abel_tree.specs.Entries.{view_declared}
@@ -7,7 +7,7 @@ use Rattle.abel_tree.specs.View.{view_section}
 use Rattle.abel_meaning.specs.Held.{sections_parts}
 use Rattle.declared_names.specs.declared.marks.Mark.TheVariants.{Clear}
 use Rattle.declared_names.specs.Reading.{Holding, holding_of, numbers_read, parts_found, read_through}
-use Rattle.declared_names.specs.Settled.{all_found, first_found}
+use Rattle.declared_names.specs.Settled.{first_found}
 use Rattle.declared_names.proofs.kinds.held_names.Goals as goal
 
 pub returns : goal.returns

@@ -12,7 +12,7 @@ use Rattle.declared_names.specs.Marking.{all_marked}
 use Rattle.declared_names.specs.Numbered.{IsNumbering, numbered, swept}
 use Rattle.declared_names.specs.Reading.{holding_of}
 use Rattle.declared_names.specs.Settled.{all_found, kinds_by}
-use Rattle.declared_names.proofs.Direct.{marks_passed}
+use Rattle.declared_names.proofs.Passes.{marks_passed}
 use Rattle.declared_names.proofs.Settling.{settled}
 use Rattle.declared_names.proofs.kinds.settle.Goals as goal
 

@@ -6,7 +6,7 @@ use Rattle.std.proofs.lemmas.Iterator.Adapters.{YieldsList-from_vec}
 use Rattle.abel_tree.specs.Entries.{view_declared}
 use Rattle.declared_names.specs.Reading.{holding_of}
 use Rattle.declared_names.specs.Settled.{kind_by, kinds_by}
-use Rattle.declared_names.proofs.Direct.{kinds_more}
+use Rattle.declared_names.proofs.Passes.{kinds_more}
 use Rattle.declared_names.proofs.kinds.settle_all.Goals as goal
 
 pub loop-declared-preserved : goal.loop-declared-preserved

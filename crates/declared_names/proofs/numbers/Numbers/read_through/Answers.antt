@@ -1,16 +1,15 @@
 -- One name less is left.
-use Rattle.std.proofs.Common.{◌-◌, map, ap, ◌∙◌, arith}
+use Rattle.std.proofs.Common.{◌≡◌, suc, ◌-◌, map, ap, ◌∙◌, arith}
 use Rattle.abel_tree.specs.Entries.{view_declared}
 use Rattle.declared_names.specs.Reading.{read_through}
-use Rattle.declared_names.proofs.ReadsOf.{through_step}
 use Rattle.declared_names.proofs.numbers.Numbers.read_through.Goals as goal
 
 pub loop-number-preserved : goal.loop-number-preserved
 loop-number-preserved c =
     let l = c.loop-number in
+    let es = map view_declared c.args.names.now in
+    let one : suc (l.number - 1) ≡ l.number = omega (arith, c.loop-number-test.true) in
     record {
       within = omega (arith, l.invariant.within);
-      left = λ num.
-          ap (read_through (map view_declared c.args.names.now) (l.number - 1)) (c.in_ok-read_on.ensures num)
-          ∙ (through_step (map view_declared c.args.names.now) l.number l.marks.items c.loop-number-test.true ∙ l.invariant.left num);
+      left = λ num. ap (read_through es (l.number - 1)) (c.in_ok-read_on.ensures num) ∙ (ap (λ k. read_through es k l.marks.items) one ∙ l.invariant.left num);
     }

@@ -1,16 +1,15 @@
 -- One name less is left.
-use Rattle.std.proofs.Common.{◌-◌, map, ap, ◌∙◌, arith}
+use Rattle.std.proofs.Common.{◌≡◌, suc, ◌-◌, map, ap, ◌∙◌, arith}
 use Rattle.abel_tree.specs.Entries.{view_declared}
 use Rattle.declared_names.specs.Numbered.{swept}
-use Rattle.declared_names.proofs.Direct.{sweep_step}
 use Rattle.declared_names.proofs.numbers.Numbers.sweep.Goals as goal
 
 pub loop-number-preserved : goal.loop-number-preserved
 loop-number-preserved c =
     let l = c.loop-number in
+    let es = map view_declared c.args.names.now in
+    let one : suc (l.number - 1) ≡ l.number = omega (arith, c.loop-number-test.true) in
     record {
       within = omega (arith, l.invariant.within);
-      left = λ num.
-          ap (swept (map view_declared c.args.names.now) (l.number - 1)) (c.in_ok-spread.ensures num)
-          ∙ (sweep_step (map view_declared c.args.names.now) l.number l.marks.items c.loop-number-test.true ∙ l.invariant.left num);
+      left = λ num. ap (swept es (l.number - 1)) (c.in_ok-spread.ensures num) ∙ (ap (λ k. swept es k l.marks.items) one ∙ l.invariant.left num);
     }

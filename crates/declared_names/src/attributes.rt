@@ -1,0 +1,79 @@
+//! What is said of a signal, and what its attributes become.
+
+ghost use Rattle.std.specs.Prelude.{◌≡◌};
+ghost use Rattle.abel_meaning.specs.Kinds.{is_buffer, is_buffer_by_default, is_open, is_registered};
+ghost use Rattle.abel_tree.specs.Entries.{view_attributes};
+ghost use Rattle.declared_names.specs.Settled.{attribute_words, words_by};
+ghost use Rattle.declared_names.specs.Marking.{is_strong};
+
+use crate::marks::Mark;
+use abel_tree::Attributes;
+use bitflags::Flags;
+use pld_device::Flip;
+
+/// The attributes of a signal: its kind, its polarity and DC; neither polarity where it is free.
+pub(crate) fn settled_attributes(flip: Flip, said: Attributes, mark: Mark, held: bool) -> Attributes
+    ensures { view_attributes result ≡ words_by flip held (view_attributes said) (is_registered (view_attributes said) (is_strong mark)) }
+{
+    let registered = is_registered(said, mark.is_strong());
+    let buffer = is_buffer(flip, said);
+    let free = registered && is_open(flip, said) && !held;
+    attributes_of(registered, buffer, free, said.contains(Attributes::DC))
+}
+
+/// Whether a register's pin equals Q where no word says its polarity.
+fn is_buffer_by_default(flip: Flip) -> bool
+    ensures { result ≡ is_buffer_by_default flip }
+{
+    match flip {
+        Flip::Always => false,
+        Flip::AfterRegister => true,
+        Flip::BeforeRegister => false,
+    }
+}
+
+/// Whether neither polarity is said, and the device leaves it to the fitter.
+fn is_open(flip: Flip, said: Attributes) -> bool
+    ensures { result ≡ is_open flip (view_attributes said) }
+{
+    !said.contains(Attributes::BUFFER)
+        && !said.contains(Attributes::INVERT)
+        && is_buffer_by_default(flip)
+}
+
+/// Whether a signal is a register.
+fn is_registered(said: Attributes, clocked: bool) -> bool
+    ensures { result ≡ is_registered (view_attributes said) clocked }
+{
+    said.contains(Attributes::REG) || (!said.contains(Attributes::COM) && clocked)
+}
+
+/// Whether a register's pin equals Q.
+fn is_buffer(flip: Flip, said: Attributes) -> bool
+    ensures { result ≡ is_buffer flip (view_attributes said) }
+{
+    said.contains(Attributes::BUFFER)
+        || (!said.contains(Attributes::INVERT) && is_buffer_by_default(flip))
+}
+
+/// The set of one kind, one polarity or none, and perhaps DC.
+fn attributes_of(registered: bool, buffer: bool, free: bool, dc: bool) -> Attributes
+    ensures { view_attributes result ≡ attribute_words registered buffer free dc }
+{
+    let kind = if registered {
+        Attributes::REG
+    } else {
+        Attributes::COM
+    };
+    let polarity = if buffer {
+        Attributes::BUFFER
+    } else {
+        Attributes::INVERT
+    };
+    let settled = if free { kind } else { kind.union(polarity) };
+    if dc {
+        settled.union(Attributes::DC)
+    } else {
+        settled
+    }
+}
