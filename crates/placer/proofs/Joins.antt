@@ -11,7 +11,7 @@ use Rattle.pld_base.proofs.BitLemmas.{is_on-zero}
 use Rattle.abel_tree.specs.Assigned.{Named, signals_of, target_extension, without_extension}
 use Rattle.abel_tree.specs.Tree.{Tree}
 use Rattle.abel_meaning.specs.Held.{Part, ATarget, AValue}
-use Rattle.declared_names.proofs.Hits.{mapped_more}
+use Rattle.decls.proofs.Rows.{mapped_more}
 use Rattle.placer.specs.declared.marks.Marks.{Marks}
 use Rattle.placer.specs.declared.read_names.Naming.{Naming}
 use Rattle.placer.specs.declared.seen.Seen.{Seen}

@@ -4,7 +4,7 @@ use Rattle.std.proofs.lemmas.List.{length-map, length-take}
 use Rattle.abel_tree.specs.declared.names.Declared.{Declared}
 use Rattle.abel_tree.specs.Assigned.{Named, meant, named_after, named_of}
 use Rattle.abel_tree.specs.Entries.{Entry, view_declared}
-use Rattle.declared_names.proofs.Hits.{mapped_more}
+use Rattle.decls.proofs.Rows.{mapped_more}
 use Rattle.placer.specs.NamedSignals.{read_after, read_names_of, stands_for}
 
 start : (n : ℕ) → n ≡ n + 0
