@@ -7,6 +7,7 @@ use Rattle.abel_tree.specs.Tree.{SetMember, members_of}
 use Rattle.abel_meaning.specs.Designs.{Context}
 use Rattle.abel_meaning.specs.Targets.{targets_of, all_targets, some_signals}
 use Rattle.abel_meaning.specs.Terms.{Known, Term, NoTerm, extended_if, named_before, member_before, term_named, terms_of}
+use Rattle.design_checks.specs.Fronts.{may_be_compared}
 use Rattle.design_checks.specs.SectionUses.{is_compared_by, is_enabled_by_pin}
 use Rattle.section_targets.proofs.NameTerms.{targets_more, range_targets}
 use Rattle.section_targets.proofs.SignalLists.{some_append, extended_targets}
@@ -53,3 +54,15 @@ compared_so d (Some extension.D) ss = refl
 compared_so d (Some extension.Q) ss = refl
 compared_so d (Some extension.Fb) ss = refl
 compared_so d (Some extension.Pin) ss = refl
+
+-- where nothing is compared, whatever the signals are
+pub never_compared : (d : Context) (e : Option Extension) (ss : List ℕ) → may_be_compared e ≡ false → is_compared_by d e ss ≡ false
+never_compared d None ss never = refl
+never_compared d (Some extension.Clk) ss never = absurd cc
+never_compared d (Some extension.Oe) ss never = absurd cc
+never_compared d (Some extension.Ar) ss never = refl
+never_compared d (Some extension.Sp) ss never = refl
+never_compared d (Some extension.D) ss never = refl
+never_compared d (Some extension.Q) ss never = refl
+never_compared d (Some extension.Fb) ss never = refl
+never_compared d (Some extension.Pin) ss never = refl

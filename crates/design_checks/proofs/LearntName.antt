@@ -9,16 +9,18 @@ use Rattle.abel_meaning.specs.Designs.{Context, no_name}
 use Rattle.abel_meaning.specs.Terms.{Term, Known, Number, known_of, term_meant, term_named, extended_if}
 use Rattle.abel_meaning.specs.Targets.{targets_of, some_signals}
 use Rattle.netlist_laws.specs.SignalUses.{SignalUse, term_uses}
+use Rattle.design_checks.specs.Firsts.{signal_by}
 use Rattle.design_checks.specs.LocatedUses.{own_or_outer}
+use Rattle.design_checks.specs.declared.firsts.FirstSignals.{FirstSignals}
 use Rattle.design_checks.specs.SectionUses.{is_enabled_by_pin}
 use Rattle.design_checks.proofs.UsesRead.{twice}
 use Rattle.section_targets.proofs.NameTerms.{known_more}
 use Rattle.design_checks.specs.declared.names.NameUses.{NameUses}
 use Rattle.design_checks.specs.declared.rule.Rule.{Rule}
-use Rattle.design_checks.specs.Walked.{is_asked_of, is_by_pin_of, Asking, IsUsesOf, IsUsesIf, Kept, Knows, asking, learning, under, uses_under, first_read, term_known, or_new, with_new}
+use Rattle.design_checks.specs.Walked.{is_asked_of, is_by_pin_of, Asking, IsFirstUnder, IsUsesOf, IsUsesIf, Kept, Knows, asking, learning, under, uses_under, first_read, term_known, or_new, with_new}
 
 -- what is kept for an extension
-pub under_is : (a : Asking) (n : NameUses) (t : Term) → IsUsesOf a n t → (e : Option Extension) → uses_under n e ≡ first_read a (term_uses (extended_if e t))
+pub under_is : (a : Asking) (n : NameUses) (t : Term) → IsUsesOf a n t → (e : Option Extension) → signal_by a.rule (uses_under n e) ≡ first_read a (term_uses (extended_if e t))
 under_is a n t h None = h.read.bare
 under_is a n t h (Some extension.Q) = h.read.q
 under_is a n t h (Some extension.Fb) = h.read.fb
@@ -51,20 +53,21 @@ looked a k (x ∷ ks) name t new w i j = first (bytes_eq w x.name) (λ h. looked
 -- what is kept is about the design and what is asked of it, wherever its uses stand
 same_uses : (a b : Asking) (n : NameUses) (t : Term) → b.design.device ≡ a.design.device → b.design.names ≡ a.design.names → b.rule ≡ a.rule → IsUsesOf a n t → IsUsesOf b n t
 same_uses a b n t d m r h =
-    let same : (us : List SignalUse) → first_read a us ≡ first_read b us = first_same a b (sym d) (sym m) (sym r) in
+    let same : (k : FirstSignals) (e : Option Extension) → IsFirstUnder a k e t → IsFirstUnder b k e t =
+    λ k e is. ap (λ q. signal_by q k) r ∙ is ∙ first_same a b (sym d) (sym m) (sym r) (term_uses (extended_if e t)) in
     record {
       read = record {
-        bare = h.read.bare ∙ same (term_uses (extended_if None t));
-        q = h.read.q ∙ same (term_uses (extended_if (Some extension.Q) t));
-        fb = h.read.fb ∙ same (term_uses (extended_if (Some extension.Fb) t));
-        pin = h.read.pin ∙ same (term_uses (extended_if (Some extension.Pin) t));
+        bare = same n.read.bare None h.read.bare;
+        q = same n.read.q (Some extension.Q) h.read.q;
+        fb = same n.read.fb (Some extension.Fb) h.read.fb;
+        pin = same n.read.pin (Some extension.Pin) h.read.pin;
       };
       control = record {
-        clk = h.control.clk ∙ same (term_uses (extended_if (Some extension.Clk) t));
-        oe = h.control.oe ∙ same (term_uses (extended_if (Some extension.Oe) t));
-        ar = h.control.ar ∙ same (term_uses (extended_if (Some extension.Ar) t));
-        sp = h.control.sp ∙ same (term_uses (extended_if (Some extension.Sp) t));
-        d = h.control.d ∙ same (term_uses (extended_if (Some extension.D) t));
+        clk = same n.control.clk (Some extension.Clk) h.control.clk;
+        oe = same n.control.oe (Some extension.Oe) h.control.oe;
+        ar = same n.control.ar (Some extension.Ar) h.control.ar;
+        sp = same n.control.sp (Some extension.Sp) h.control.sp;
+        d = same n.control.d (Some extension.D) h.control.d;
       };
       by_pin = h.by_pin ∙ pins_same a b (sym d) (sym m) (some_signals (targets_of t));
     }

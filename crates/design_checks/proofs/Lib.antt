@@ -1,4 +1,5 @@
 mod ByPin
+mod ByRule
 mod Carried
 mod ColumnLaw
 pub mod FaultsInOrder
@@ -17,4 +18,5 @@ mod Stages
 pub mod UsesInOrder
 pub mod UsesRead
 mod Viewed
+mod WalkedUses
 mod WrittenTerms

@@ -1,11 +1,10 @@
 -- The first of refusals without their kind.
-use Rattle.std.proofs.Common.{◌≡◌, Bool, true, false, if◌then◌else◌, Option, None, Some, List, [], ◌∷◌, map, refl, sym, ap, ◌∙◌}
+use Rattle.std.proofs.Common.{◌≡◌, Bool, true, false, if◌then◌else◌, Option, None, Some, List, [], ◌∷◌, map, refl, ap, ◌∙◌}
 use Rattle.std.specs.Prelude.{option_map}
 use Rattle.abel_tree.specs.FirstRefusal.{sooner, is_before, earlier, first_refusal}
 use Rattle.design_checks.specs.declared.signal_fault.SignalFault.{SignalFault}
 use Rattle.design_checks.specs.declared.signal_fault.SignalFault.TheVariants as signal
 use Rattle.design_checks.specs.Order.{signal_order, place_of}
-use Rattle.design_checks.specs.declared.refused.RefusedUse.{RefusedUse}
 use Rattle.design_checks.specs.UsesRefused.{use_order}
 use Rattle.design_checks.specs.Refused.{plain}
 

@@ -1,5 +1,5 @@
 -- Equations that are refused, one more.
-use Rattle.std.proofs.Common.{◌≡◌, ℕ, suc, ◌+◌, ◌<◌, ◌≤◌, nat_lt, Bool, true, false, List, [], ◌∷◌, ◌++◌, length, map, take, get_or, refl, rules, sym, ap, ◌∙◌, arith, append_assoc, append-nil, Option}
+use Rattle.std.proofs.Common.{◌≡◌, ℕ, suc, ◌+◌, ◌<◌, ◌≤◌, nat_lt, Bool, true, false, List, [], ◌∷◌, ◌++◌, length, map, take, get_or, refl, rules, sym, ap, ◌∙◌, arith, append_assoc, append-nil, Option, Some, None, not, ◌&&◌}
 use Rattle.std.specs.Prelude.{option_map}
 use Rattle.std.proofs.lemmas.Bool.Decides.{nat_tests}
 use Rattle.std.proofs.lemmas.List.{length-take-le, take_more}
@@ -9,16 +9,20 @@ use Rattle.abel_tree.specs.declared.statements.Stmt.TheFolds.{fold-roll-Stmt}
 use Rattle.abel_tree.specs.declared.statements.Stmt.TheOpen as open_stmt
 use Rattle.abel_tree.specs.declared.statements.When.{When}
 use Rattle.abel_tree.specs.declared.words.Extension.{Extension}
+use Rattle.abel_tree.specs.declared.words.Extension.TheVariants as extension
+use Rattle.abel_tree.specs.Entries.{Entry}
 use Rattle.abel_tree.specs.FirstRefusal.{earlier, first_refusal}
 use Rattle.abel_tree.specs.Tree.{AWhen, Statement, AGroup, SectionTree, statements_of, otherwise_of}
 use Rattle.abel_tree.specs.View.{view, view_stmt, stmt_layer, when_layer}
 use Rattle.abel_tree.proofs.FirstRefusals.{first_append}
-use Rattle.abel_meaning.specs.Designs.{Context}
+use Rattle.pld_device.specs.Table.{Table}
+use Rattle.abel_meaning.specs.Designs.{Context, name_at}
 use Rattle.section_targets.specs.declared.aim.Aim.{Aim}
 use Rattle.set_expr.proofs.FoundMembers.{front_more}
 use Rattle.design_checks.specs.declared.refused.RefusedUse.{RefusedUse}
 use Rattle.design_checks.specs.UsesRefused.{use_order}
-use Rattle.design_checks.specs.Fronts.{list_refused, view_when}
+use Rattle.design_checks.specs.Compared.{is_compared_of, told_if}
+use Rattle.design_checks.specs.Fronts.{list_refused, may_be_compared, view_when}
 use Rattle.design_checks.specs.Written.{Written, aim_refused, aims_refused, is_written_at, narrow, section_refused, sections_refused, statement_refused}
 
 -- ---- signals of a target
@@ -44,6 +48,28 @@ aims_more d e w aims i a low =
     ∙ (ap (first_refusal use_order) (aims_push d e w 0 (take i aims) x)
     ∙ (first_append use_order (aims_refused d e w 0 (take i aims)) (aim_at d e w (0 + length (take i aims)) x)
     ∙ ap (λ (n : ℕ). earlier use_order (first_refusal use_order (aims_refused d e w 0 (take i aims))) (first_refusal use_order (aim_at d e w n x))) (omega (arith, length-take-le i aims (omega (arith, low))))))
+
+-- where nothing is compared, nothing is refused
+pub none_compared : (d : Context) (e : Option Extension) (w : Written) (i : ℕ) (aims : List Aim) → may_be_compared e ≡ false → aims_refused d e w i aims ≡ []
+none_compared d e w i [] never = refl
+none_compared d e w i (a ∷ aims) never =
+    ap (λ b. told_if b (record { place = a.place; name = a.signal }) ++ aims_refused d e w (suc i) aims) (both_false (not (is_written_at w i)) (is_compared_of d.device e (name_at d a.signal)) (not_compared e d.device (name_at d a.signal) never))
+    ∙ none_compared d e w (suc i) aims never
+  where
+    both_false : (b c : Bool) → c ≡ false → (b && c) ≡ false
+    both_false true c is = is
+    both_false false c is = refl
+
+    not_compared : (e : Option Extension) (t : Table) (x : Entry) → may_be_compared e ≡ false → is_compared_of t e x ≡ false
+    not_compared None t x never = refl
+    not_compared (Some extension.D) t x never = refl
+    not_compared (Some extension.Q) t x never = refl
+    not_compared (Some extension.Fb) t x never = refl
+    not_compared (Some extension.Pin) t x never = refl
+    not_compared (Some extension.Ar) t x never = refl
+    not_compared (Some extension.Sp) t x never = refl
+    not_compared (Some extension.Clk) t x never = absurd cc
+    not_compared (Some extension.Oe) t x never = absurd cc
 
 pub narrow_all : (aims : List Aim) → length aims ≤ 32 → narrow aims ≡ aims
 narrow_all aims low = by (nat_lt 32 (length aims)) refl

@@ -12,7 +12,7 @@ use Rattle.abel_tree.specs.Tree.{SetMember, members_of}
 use Rattle.abel_tree.specs.View.{view, view_member}
 use Rattle.abel_meaning.specs.Terms.{Known}
 use Rattle.design_checks.specs.LocatedUses.{PlacedUse, located, members_located, member_located}
-use Rattle.section_targets.proofs.Views.{view_binary}
+use Rattle.expr_bits.proofs.Views.{view_binary}
 use Rattle.set_expr.proofs.FoundMembers.{front_more}
 use Rattle.design_checks.specs.declared.refused.RefusedUse.{RefusedUse}
 use Rattle.design_checks.specs.Walked.{Asking, met, members_in}

@@ -1,10 +1,7 @@
 -- One kind of refusal after another.
-use Rattle.std.proofs.Common.{◌≡◌, ℕ, List, [], Some, refl, sym, ap, subst, ◌∙◌}
+use Rattle.std.proofs.Common.{◌≡◌, List, [], subst}
 use Rattle.std.specs.Prelude.{Result, Ok, Err, IfOk, IfErr}
-use Rattle.pld_base.specs.declared.place.Place.{Place}
-use Rattle.pld_device.specs.Table.{Table}
 use Rattle.bit_expr.specs.Formulas.{Formula}
-use Rattle.abel_tree.specs.Entries.{Entry}
 use Rattle.abel_meaning.specs.Designs.{Design}
 use Rattle.set_expr.specs.declared.contributions.Contribution.{Contribution}
 use Rattle.design_checks.specs.declared.fault.DesignFault.{DesignFault}

@@ -1,15 +1,16 @@
 -- Private: how the values of names are written, as far as it is counted (this project's rule).
-use Rattle.std.specs.Prelude.{◌≡◌, ℕ, Bool, List, ◌++◌, map, min}
+use Rattle.std.specs.Prelude.{◌≡◌, ℕ, Bool, true, false, Option, Some, List, ◌++◌, map, min}
 use Rattle.abel_tree.specs.declared.statements.Stmt.TheFolds.{fold-When}
 use Rattle.abel_tree.specs.declared.statements.When.{When}
-use Rattle.abel_tree.specs.Entries.{Entry}
+use Rattle.abel_tree.specs.declared.names.Names.{Names}
+use Rattle.abel_tree.specs.declared.words.Extension.{Extension}
+use Rattle.abel_tree.specs.declared.words.Extension.TheVariants as extension
+use Rattle.abel_tree.specs.Entries.{Entry, entries_of}
 use Rattle.abel_tree.specs.Tree.{Statement, statements_of}
 use Rattle.abel_tree.specs.View.{stmt_layer, when_layer}
 use Rattle.abel_meaning.specs.Designs.{Context}
-use Rattle.abel_meaning.specs.Terms.{Known}
-use Rattle.section_targets.specs.NamedTargets.{AreTargets}
+use Rattle.abel_meaning.specs.Terms.{Known, known_of}
 use Rattle.design_checks.specs.declared.front.Front.{Front}
-use Rattle.design_checks.specs.declared.fronts.Learnt.{Learnt}
 use Rattle.design_checks.specs.Written.{Written, written_of, statements_refused}
 use Rattle.design_checks.specs.declared.refused.RefusedUse.{RefusedUse}
 
@@ -26,10 +27,15 @@ pub record AreFronts (es : List Entry) (fs : List Front) (ks : List Known) : Typ
   pub names : map (λ (e : Entry). e.name) es ≡ map (λ (k : Known). k.name) ks ++ later
   pub fronts : fs ≡ fronts_of ks
 
--- what is learnt of all names of a design
-pub record IsLearnt (d : Context) (l : Learnt) : Type 0 where
-  pub named : AreTargets d l.named
-  pub fronts : AreFronts d.names l.fronts d.known
+-- of all names of a source
+abbrev pub AreAllFronts : Names → List Front → Type 0
+AreAllFronts n fs = AreFronts (entries_of n) fs (known_of (entries_of n))
+
+-- an equation for such a part may be compared with what the device does
+abbrev pub may_be_compared : Option Extension → Bool
+may_be_compared (Some extension.Clk) = true
+may_be_compared (Some extension.Oe) = true
+may_be_compared _ = false
 
 abbrev pub list_refused : Context → (guarded : Bool) → List Statement → List RefusedUse
 list_refused d guarded ss = statements_refused d guarded (statements_of ss)

@@ -1,6 +1,7 @@
 pub mod Compared
 pub mod Correct
 pub mod Example
+pub mod Firsts
 pub mod Fronts
 pub mod LocatedUses
 pub mod Order

@@ -1,6 +1,6 @@
 -- What is refused of a design, kind by kind, each refusal at its place with the number of the name that is told (this
 -- project's rule).
-use Rattle.std.specs.Prelude.{ℕ, List, ◌++◌, map}
+use Rattle.std.specs.Prelude.{List, ◌++◌, map}
 use Rattle.pld_device.specs.Table.{Table}
 use Rattle.bit_expr.specs.Formulas.{Formula}
 use Rattle.abel_tree.specs.Entries.{Entry}

@@ -21,9 +21,11 @@ use Rattle.abel_meaning.specs.Targets.{targets_of, some_signals}
 use Rattle.abel_meaning.specs.Terms.{Term, Known, known_of, extended_if}
 use Rattle.netlist_laws.specs.Gathered.{cell_of}
 use Rattle.netlist_laws.specs.SignalUses.{SignalUse, term_uses}
+use Rattle.design_checks.specs.Firsts.{no_uses, signal_by, use_by}
 use Rattle.design_checks.specs.LocatedUses.{PlacedUse, members_located}
 use Rattle.design_checks.specs.RefusedUses.{has_extension, has_read_path}
 use Rattle.design_checks.specs.SectionUses.{is_enabled_by_pin, is_cell_by_pin, is_compared, expression_uses, statements_uses, branch_uses, branches_uses, choices_uses, states_uses, with_uses}
+use Rattle.design_checks.specs.declared.firsts.FirstSignals.{FirstSignals}
 use Rattle.design_checks.specs.declared.names.NameUses.{NameUses}
 use Rattle.design_checks.specs.declared.names.ReadUses.{ReadUses}
 use Rattle.design_checks.specs.declared.names.ControlUses.{ControlUses}
@@ -59,6 +61,13 @@ asking d r = record { design = d; rule = r; at = None }
 abbrev pub anywhere : Place
 anywhere = record { line = 1; column = 1 }
 
+-- a signal as far as its use with this extension is refused
+abbrev pub number_if : Bool → ℕ → Option ℕ
+number_if refused s = if refused then Some s else None
+
+abbrev pub signals_if : Table → Entry → ℕ → Option Extension → FirstSignals
+signals_if t x s e = record { missing = number_if (is_asked_of t rule.Missing x e) s; unread = number_if (is_asked_of t rule.Unread x e) s }
+
 -- while constants are learnt, over the names so far
 abbrev pub learning : Context → Rule → List Entry → Asking
 learning d r es = record { design = record d { known = known_of es }; rule = r; at = Some anywhere }
@@ -81,7 +90,7 @@ first_read a [] = None
 first_read a (u ∷ us) = if is_asked a.design a.rule u then Some u.signal else first_read a us
 
 -- what is kept of a name for an extension
-abbrev pub uses_under : NameUses → Option Extension → Option ℕ
+abbrev pub uses_under : NameUses → Option Extension → FirstSignals
 uses_under n None = n.read.bare
 uses_under n (Some extension.Q) = n.read.q
 uses_under n (Some extension.Fb) = n.read.fb
@@ -97,8 +106,8 @@ abbrev pub are_by_pin : Context → List (Option ℕ) → Bool
 are_by_pin d ss = list_all (is_enabled_by_pin d) (some_signals ss)
 
 -- what is kept of a name that stands for this, for an extension
-abbrev pub IsFirstUnder : Asking → Option ℕ → Option Extension → Term → Type 0
-IsFirstUnder a o e t = o ≡ first_read a (term_uses (extended_if e t))
+abbrev pub IsFirstUnder : Asking → FirstSignals → Option Extension → Term → Type 0
+IsFirstUnder a s e t = signal_by a.rule s ≡ first_read a (term_uses (extended_if e t))
 
 pub record IsReadOf (a : Asking) (r : ReadUses) (t : Term) : Type 0 where
   pub bare : IsFirstUnder a r.bare None t
@@ -157,7 +166,10 @@ Knows a kept = (w : List ℕ) → IsUsesIf a (under kept w) (term_known a.design
 pub record Shows (a : Asking) (kept : Kept) (w : UseWalk) (f : Option RefusedUse) : Type 0 where
   pub knows : Knows a kept
   pub at : w.at ≡ a.at
-  pub first : w.first ≡ f
+  pub first : use_by a.rule w.first ≡ f
+
+abbrev pub no_walk : Option Place → UseWalk
+no_walk at = record { at = at; first = no_uses }
 
 -- ---- lists of the tree, as the code has them
 

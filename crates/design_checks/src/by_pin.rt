@@ -29,7 +29,7 @@ fn is_cell_by_pin<D: Device>(pin: u8) -> bool
 }
 
 /// Whether the signal is assigned on a cell that a pin enables.
-fn is_enabled_by_pin<D: Device>(declared: &Declared) -> bool
+pub(crate) fn is_enabled_by_pin<D: Device>(declared: &Declared) -> bool
     ensures { result ≡ is_cell_by_pin D.table (cell_of D.table (view_declared declared.now)) }
 {
     match &declared.meaning {

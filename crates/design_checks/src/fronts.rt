@@ -1,30 +1,19 @@
 //! How the values of names and of expressions are written.
 
 ghost use Rattle.std.specs.Prelude.{◌≡◌, ℕ, List, IfOk, get_or};
-ghost use Rattle.pld_device.specs.Table.{Table};
 ghost use Rattle.abel_tree.specs.Entries.{entries_of, view_meaning};
 ghost use Rattle.abel_tree.specs.Ranges.{range_names};
 ghost use Rattle.abel_tree.specs.View.{view, view_member};
-ghost use Rattle.abel_meaning.specs.Designs.{Context};
-ghost use Rattle.abel_meaning.specs.Terms.{Known, NoTerm, known_of, member_before, named_before, term_meant, term_named, term_of};
-ghost use Rattle.set_expr.specs.Answer.{IsContextOf};
-ghost use Rattle.design_checks.specs.Fronts.{AreFronts, IsLearnt, counted};
+ghost use Rattle.abel_meaning.specs.Terms.{Known, NoTerm, member_before, named_before, term_meant, term_named, term_of};
+ghost use Rattle.design_checks.specs.Fronts.{AreAllFronts, AreFronts, counted};
 ghost use Rattle.design_checks.specs.Written.{not_written, written_of, written_of_all};
 
 use crate::front::Front;
 use abel_tree::{Expr, Meaning, Member, Unary, Word};
 use name_ranges::range_list;
 use pld_base::{ListOf, OutOfMemory};
-use section_targets::{NamedSignals, target_names};
 use set_expr::Scope;
 use std::alloc::Global;
-
-/// What is learnt of the names of a source: the signals of each as a target, and how its value is written.
-#[derive(Drop)]
-pub(crate) struct Learnt {
-    pub(crate) named: ListOf<NamedSignals>,
-    pub(crate) fronts: ListOf<Front>,
-}
 
 /// How the value of the name with this number is written, where it is one of these.
 fn front_at(fronts: &[Front], number: usize) -> Front
@@ -152,9 +141,9 @@ fn front_meaning(
     }
 }
 
-/// How the values of all names are written, in the order of the names.
-fn all_fronts(alloc: Global, scope: &Scope<'_>) -> Result<ListOf<Front>, OutOfMemory>
-    ensures { IfOk result (λ fronts. AreFronts (entries_of scope.now) fronts (known_of (entries_of scope.now))) }
+/// How the values of all names of a source are written, in the order of the names, each constant by the names before it.
+pub(crate) fn all_fronts(alloc: Global, scope: &Scope<'_>) -> Result<ListOf<Front>, OutOfMemory>
+    ensures { IfOk result (AreAllFronts scope.now) }
 {
     let mut fronts = Vec::new(alloc);
     for declared in scope.list() {
@@ -162,13 +151,4 @@ fn all_fronts(alloc: Global, scope: &Scope<'_>) -> Result<ListOf<Front>, OutOfMe
         fronts.push(front)?;
     }
     Ok(ListOf::from_vec(fronts))
-}
-
-/// What is learnt of all names of a source, each constant by the names before it.
-pub(crate) fn learn(alloc: Global, scope: &Scope<'_>) -> Result<Learnt, OutOfMemory>
-    ensures { IfOk result (λ l. (t : Table) (d : Context) → IsContextOf t scope.now d → IsLearnt d l) }
-{
-    let named = target_names(alloc, scope)?;
-    let fronts = all_fronts(alloc, scope)?;
-    Ok(Learnt { named, fronts })
 }

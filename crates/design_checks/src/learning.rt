@@ -1,16 +1,19 @@
 //! What is kept of names, learnt from their declarations.
 
-ghost use Rattle.std.specs.Prelude.{◌≡◌, ◌+◌, List, Some, None, IfOk, if◌then◌else◌};
-ghost use Rattle.abel_tree.specs.Entries.{Entry, view_declared, view_meaning};
+ghost use Rattle.std.specs.Prelude.{◌≡◌, ◌+◌, Some, None, IfOk};
+ghost use Rattle.abel_tree.specs.Entries.{view_declared, view_meaning};
 ghost use Rattle.abel_tree.specs.View.{view};
-ghost use Rattle.abel_meaning.specs.Designs.{Context, name_at};
+ghost use Rattle.abel_meaning.specs.Designs.{name_at};
 ghost use Rattle.abel_meaning.specs.Terms.{Number, Read, extended_if, term_meant, term_of};
 ghost use Rattle.netlist_laws.specs.SignalUses.{term_uses};
-ghost use Rattle.set_expr.specs.Answer.{IsContextOf};
-ghost use Rattle.design_checks.specs.Walked.{Asking, IsUsesOf, IsReadOf, IsControlOf, Knows, anywhere, asking, first_read, is_asked_of};
+ghost use Rattle.set_expr.specs.Contexts.{context_for};
+ghost use Rattle.design_checks.specs.Firsts.{signal_by};
+ghost use Rattle.design_checks.specs.Walked.{Asking, IsControlOf, IsReadOf, IsUsesOf, Knows, anywhere, asking, first_read, number_if, signals_if};
 
+use crate::by_pin::is_enabled_by_pin;
+use crate::firsts::FirstSignals;
 use crate::names::{ControlUses, KeptUses, NameUses, ReadUses};
-use crate::rule::{Rule, is_enabled_by_pin, is_refused};
+use crate::rule::{Rule, is_refused};
 use crate::walk::{UseWalk, is_target_by_pin};
 use abel_tree::{Declared, Expr, Extension, Meaning, Names};
 use pld_base::{OutOfMemory, Place};
@@ -19,6 +22,12 @@ use std::alloc::Global;
 
 /// No place in particular: what a constant reads stands at the constant's name.
 const ANYWHERE: Place = Place { line: 1, column: 1 };
+
+/// Nothing that is refused.
+const NO_SIGNAL: FirstSignals = FirstSignals {
+    missing: None,
+    unread: None,
+};
 
 /// The next number of a name; so many names that there is none are more than memory holds.
 fn next(number: u32) -> Result<u32, OutOfMemory>
@@ -30,85 +39,85 @@ fn next(number: u32) -> Result<u32, OutOfMemory>
     }
 }
 
-/// The number of a signal whose use is refused.
-fn number_if<D: Device>(
-    rule: Rule,
+/// The number of a signal, where its use is refused.
+fn number_if(refused: bool, number: u32) -> Option<u32>
+    ensures { result ≡ number_if refused number }
+{
+    if refused { Some(number) } else { None }
+}
+
+/// A signal, as far as its use with this extension is refused.
+fn signals_if<D: Device>(
     declared: &Declared,
     number: u32,
     extension: Option<Extension>,
-) -> Option<u32>
-    ensures { result ≡ (if is_asked_of D.table rule
-        (view_declared declared.now) extension then Some number else None) }
+) -> FirstSignals
+    ensures { result ≡ signals_if D.table (view_declared declared.now) number extension }
 {
-    if is_refused::<D>(rule, declared, extension) {
-        Some(number)
-    } else {
-        None
+    let missing = is_refused::<D>(Rule::Missing, declared, extension);
+    let unread = is_refused::<D>(Rule::Unread, declared, extension);
+    FirstSignals {
+        missing: number_if(missing, number),
+        unread: number_if(unread, number),
     }
 }
 
 /// How a signal can't be read.
-fn signal_reads<D: Device>(rule: Rule, declared: &Declared, number: u32) -> ReadUses
-    ensures { (a : Asking) → a.design.device ≡ D.table → a.rule ≡ rule → name_at a.design number
+fn signal_reads<D: Device>(declared: &Declared, number: u32) -> ReadUses
+    ensures { (a : Asking) → a.design.device ≡ D.table → name_at a.design number
         ≡ view_declared declared.now
         → IsReadOf a result (Read number None) }
 {
     ReadUses {
-        bare: number_if::<D>(rule, declared, number, None),
-        q: number_if::<D>(rule, declared, number, Some(Extension::Q)),
-        fb: number_if::<D>(rule, declared, number, Some(Extension::Fb)),
-        pin: number_if::<D>(rule, declared, number, Some(Extension::Pin)),
+        bare: signals_if::<D>(declared, number, None),
+        q: signals_if::<D>(declared, number, Some(Extension::Q)),
+        fb: signals_if::<D>(declared, number, Some(Extension::Fb)),
+        pin: signals_if::<D>(declared, number, Some(Extension::Pin)),
     }
 }
 
 /// Which controls of a signal can't be read.
-fn signal_controls<D: Device>(rule: Rule, declared: &Declared, number: u32) -> ControlUses
-    ensures { (a : Asking) → a.design.device ≡ D.table → a.rule ≡ rule → name_at a.design number
+fn signal_controls<D: Device>(declared: &Declared, number: u32) -> ControlUses
+    ensures { (a : Asking) → a.design.device ≡ D.table → name_at a.design number
         ≡ view_declared declared.now
         → IsControlOf a result (Read number None) }
 {
     ControlUses {
-        clk: number_if::<D>(rule, declared, number, Some(Extension::Clk)),
-        oe: number_if::<D>(rule, declared, number, Some(Extension::Oe)),
-        ar: number_if::<D>(rule, declared, number, Some(Extension::Ar)),
-        sp: number_if::<D>(rule, declared, number, Some(Extension::Sp)),
-        d: number_if::<D>(rule, declared, number, Some(Extension::D)),
+        clk: signals_if::<D>(declared, number, Some(Extension::Clk)),
+        oe: signals_if::<D>(declared, number, Some(Extension::Oe)),
+        ar: signals_if::<D>(declared, number, Some(Extension::Ar)),
+        sp: signals_if::<D>(declared, number, Some(Extension::Sp)),
+        d: signals_if::<D>(declared, number, Some(Extension::D)),
     }
 }
 
 /// What is kept of a signal.
-fn signal_uses<D: Device>(rule: Rule, declared: &Declared, number: u32) -> NameUses
-    ensures { (a : Asking) → a.design.device ≡ D.table → a.rule ≡ rule → name_at a.design number
+fn signal_uses<D: Device>(declared: &Declared, number: u32) -> NameUses
+    ensures { (a : Asking) → a.design.device ≡ D.table → name_at a.design number
         ≡ view_declared declared.now
         → IsUsesOf a result (Read number None) }
 {
     NameUses {
-        read: signal_reads::<D>(rule, declared, number),
-        control: signal_controls::<D>(rule, declared, number),
+        read: signal_reads::<D>(declared, number),
+        control: signal_controls::<D>(declared, number),
         by_pin: is_enabled_by_pin::<D>(declared),
     }
 }
 
-/// The first signal that an expression reads in vain, where it stands with this extension.
+/// The first signals that an expression reads in vain, where it stands with this extension.
 fn first_in(
     alloc: Global,
     names: &KeptUses,
     extension: Option<Extension>,
     expr: &Expr,
-) -> Result<Option<u32>, OutOfMemory>
-    ensures { IfOk result (λ r. (a : Asking) → a.at ≡ Some anywhere → Knows a names.now
-        → r ≡ first_read a (term_uses (extended_if extension (term_of a.design.known
+) -> Result<FirstSignals, OutOfMemory>
+    ensures { IfOk result (λ s. (a : Asking) → a.at ≡ Some anywhere → Knows a names.now
+        → signal_by a.rule s ≡ first_read a (term_uses (extended_if extension (term_of a.design.known
         (view expr.now))))) }
 {
-    let mut walk = UseWalk {
-        at: Some(ANYWHERE),
-        first: None,
-    };
+    let mut walk = UseWalk::new(Some(ANYWHERE));
     walk.visit_expr(alloc, names, extension, expr)?;
-    match walk.first {
-        Some(found) => Ok(Some(found.name)),
-        None => Ok(None),
-    }
+    Ok(walk.first.names())
 }
 
 /// How a constant can't be read.
@@ -161,17 +170,17 @@ fn no_uses() -> NameUses
 {
     NameUses {
         read: ReadUses {
-            bare: None,
-            q: None,
-            fb: None,
-            pin: None,
+            bare: NO_SIGNAL,
+            q: NO_SIGNAL,
+            fb: NO_SIGNAL,
+            pin: NO_SIGNAL,
         },
         control: ControlUses {
-            clk: None,
-            oe: None,
-            ar: None,
-            sp: None,
-            d: None,
+            clk: NO_SIGNAL,
+            oe: NO_SIGNAL,
+            ar: NO_SIGNAL,
+            sp: NO_SIGNAL,
+            d: NO_SIGNAL,
         },
         by_pin: true,
     }
@@ -181,18 +190,16 @@ fn no_uses() -> NameUses
 fn learn<D: Device>(
     alloc: Global,
     names: &KeptUses,
-    rule: Rule,
     declared: &Declared,
     number: u32,
 ) -> Result<NameUses, OutOfMemory>
     ensures { IfOk result (λ n. (a : Asking) → a.at ≡ Some anywhere → a.design.device ≡ D.table
-        → a.rule ≡ rule
         → name_at a.design number ≡ view_declared declared.now → Knows a names.now
         → IsUsesOf a n (term_meant a.design.known number (view_meaning declared.now.meaning))) }
 {
     match &declared.meaning {
-        Meaning::Pin { pin: _, negated: _ } => Ok(signal_uses::<D>(rule, declared, number)),
-        Meaning::Node(_) => Ok(signal_uses::<D>(rule, declared, number)),
+        Meaning::Pin { pin: _, negated: _ } => Ok(signal_uses::<D>(declared, number)),
+        Meaning::Node(_) => Ok(signal_uses::<D>(declared, number)),
         Meaning::Constant(expr) => constant_uses(alloc, names, expr),
         Meaning::DeviceName => Ok(no_uses()),
     }
@@ -200,18 +207,14 @@ fn learn<D: Device>(
 
 /// What is kept of all names, once for all expressions of a source. Each constant is gone through a few times,
 /// however often it is named.
-pub(crate) fn learn_names<D: Device>(
-    alloc: Global,
-    names: &Names,
-    rule: Rule,
-) -> Result<KeptUses, OutOfMemory>
-    ensures { IfOk result (λ kept. (d : Context) → IsContextOf D.table names.now d → Knows
-        (asking d rule) kept) }
+pub(crate) fn learn_names<D: Device>(alloc: Global, names: &Names) -> Result<KeptUses, OutOfMemory>
+    ensures { IfOk result (λ kept. (r : Rule) → Knows
+        (asking (context_for D.table names.now) r) kept) }
 {
     let mut kept = KeptUses::new(alloc);
     let mut number = 0u32;
     for declared in names.list.as_slice() {
-        let uses = learn::<D>(alloc, &kept, rule, declared, number)?;
+        let uses = learn::<D>(alloc, &kept, declared, number)?;
         kept.keep(alloc, declared.name.bytes(), uses)?;
         number = next(number)?;
     }

@@ -1,31 +1,32 @@
-//! What is kept of each name: its first refused use, by the extension that it stands with.
+//! What is kept of each name: its first refused uses, by the extension that it stands with.
 
 ghost use Rattle.std.specs.Prelude.{◌≡◌, ℕ, List, [], None, OnOk};
 ghost use Rattle.design_checks.specs.Walked.{under, uses_under, with_new};
 
+use crate::firsts::FirstSignals;
 use abel_tree::Extension;
 use indexmap::IndexMap;
 use pld_base::OutOfMemory;
 use std::alloc::Global;
 use std::marker::Model;
 
-/// Signals by their numbers: the first whose use is refused where the name stands so, none where none is.
+/// The first signals whose use is refused where the name stands so.
 #[derive(Clone, Copy, PartialEq, Eq)]
 pub(crate) struct ReadUses {
-    pub(crate) bare: Option<u32>,
-    pub(crate) q: Option<u32>,
-    pub(crate) fb: Option<u32>,
-    pub(crate) pin: Option<u32>,
+    pub(crate) bare: FirstSignals,
+    pub(crate) q: FirstSignals,
+    pub(crate) fb: FirstSignals,
+    pub(crate) pin: FirstSignals,
 }
 
 /// The same where the name stands as a control.
 #[derive(Clone, Copy, PartialEq, Eq)]
 pub(crate) struct ControlUses {
-    pub(crate) clk: Option<u32>,
-    pub(crate) oe: Option<u32>,
-    pub(crate) ar: Option<u32>,
-    pub(crate) sp: Option<u32>,
-    pub(crate) d: Option<u32>,
+    pub(crate) clk: FirstSignals,
+    pub(crate) oe: FirstSignals,
+    pub(crate) ar: FirstSignals,
+    pub(crate) sp: FirstSignals,
+    pub(crate) d: FirstSignals,
 }
 
 /// What is kept of a name; `by_pin` says that a pin enables each signal that it stands for as a target.
@@ -37,8 +38,8 @@ pub(crate) struct NameUses {
 }
 
 impl NameUses {
-    /// The first signal whose use is refused where the name stands with this extension.
-    pub(crate) fn under(&self, extension: Option<Extension>) -> Option<u32>
+    /// The first signals whose use is refused where the name stands with this extension.
+    pub(crate) fn under(&self, extension: Option<Extension>) -> FirstSignals
         ensures { result ≡ uses_under self.now extension }
     {
         match extension {

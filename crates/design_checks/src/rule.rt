@@ -1,17 +1,15 @@
 //! For which uses a design is refused.
 
-ghost use Rattle.std.specs.Prelude.{◌≡◌, ◌<◌, Bool, Option, length};
-ghost use Rattle.abel_tree.specs.Entries.{APin, Kind, has, view_declared, view_meaning};
-ghost use Rattle.abel_meaning.specs.Designs.{cell_on, is_stored};
-ghost use Rattle.netlist_laws.specs.Gathered.{cell_of};
-ghost use Rattle.design_checks.specs.RefusedUses.{carries_level, carries_q, has_by, has_extension, has_read_path, has_read_path_on, pin_has, reads_by, reads_pin, reads_register, register_has};
-ghost use Rattle.design_checks.specs.SectionUses.{is_by_pin, is_cell_by_pin};
-ghost use Rattle.design_checks.specs.Walked.{is_asked_of, is_by_pin_of};
+ghost use Rattle.std.specs.Prelude.{◌≡◌};
+ghost use Rattle.abel_tree.specs.Entries.{view_declared, view_meaning};
+ghost use Rattle.abel_meaning.specs.Designs.{cell_on};
+ghost use Rattle.design_checks.specs.RefusedUses.{carries_level, carries_q, has_by, has_extension, has_read_path, has_read_path_on, pin_has, reads_pin, reads_register, register_has};
+ghost use Rattle.design_checks.specs.Walked.{is_asked_of};
 
 use crate::columns::{cell_on, has_register_on, is_cell_carried, is_pin_carried};
-use abel_tree::{Attributes, Declared, Extension, Meaning};
-use bitflags::Flags;
-use pld_device::{Device, Enable};
+use crate::name_facts::is_stored;
+use abel_tree::{Declared, Extension, Meaning};
+use pld_device::Device;
 
 /// What is asked of each use.
 #[derive(Clone, Copy, PartialEq, Eq)]
@@ -20,20 +18,6 @@ pub enum Rule {
     Missing,
     /// It has it, and no column carries it.
     Unread,
-}
-
-/// Whether the attributes say registered.
-fn has_reg(attributes: Attributes) -> bool
-    ensures { result ≡ has 2 attributes }
-{
-    attributes.contains(Attributes::REG)
-}
-
-/// Whether the signal is stored in a register.
-fn is_stored(declared: &Declared) -> bool
-    ensures { result ≡ is_stored (view_declared declared.now) }
-{
-    has_reg(declared.attributes) && declared.assigned
 }
 
 /// Whether a combinational signal on a pin has what the extension names.
@@ -155,34 +139,5 @@ pub(crate) fn is_refused<D: Device>(
     match rule {
         Rule::Missing => !has,
         Rule::Unread => has && !has_read_path::<D>(declared, extension),
-    }
-}
-
-/// Whether a pin enables.
-fn is_by_pin(enable: Enable) -> bool
-    ensures { result ≡ is_by_pin enable }
-{
-    matches!(enable, Enable::PinLow(_))
-}
-
-/// Whether there is a cell on the pin that a pin enables.
-fn is_cell_by_pin<D: Device>(pin: u8) -> bool
-    ensures { result ≡ is_cell_by_pin D.table (cell_on D.table pin) }
-{
-    match cell_on::<D>(pin) {
-        Some(cell) => is_by_pin(D::cell(cell).enable),
-        None => false,
-    }
-}
-
-/// Whether the signal is assigned on a cell that a pin enables.
-pub(crate) fn is_enabled_by_pin<D: Device>(declared: &Declared) -> bool
-    ensures { result ≡ is_by_pin_of D.table (view_declared declared.now) }
-{
-    match &declared.meaning {
-        Meaning::Pin { pin, negated: _ } => declared.assigned && is_cell_by_pin::<D>(*pin),
-        Meaning::Node(_) => false,
-        Meaning::Constant(_) => false,
-        Meaning::DeviceName => false,
     }
 }

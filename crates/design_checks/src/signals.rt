@@ -1,6 +1,6 @@
 //! The first refusal of a design's kinds, nodes, controls and uses.
 
-ghost use Rattle.std.specs.Prelude.{◌≡◌, ◌<◌, All, List, length, IfOk, IfErr, map, option_map, []};
+ghost use Rattle.std.specs.Prelude.{◌≡◌, ◌<◌, All, List, length, IfOk, IfErr, option_map, []};
 ghost use Rattle.bit_expr.specs.Arena.{arena};
 ghost use Rattle.bit_expr.specs.Formulas.{Formula};
 ghost use Rattle.abel_tree.specs.Entries.{entries_of};
@@ -8,11 +8,12 @@ ghost use Rattle.abel_tree.specs.FirstRefusal.{first_refusal};
 ghost use Rattle.abel_meaning.specs.Designs.{Design};
 ghost use Rattle.design_checks.specs.SignalsRefused.{AreToNames};
 ghost use Rattle.set_expr.specs.declared.contributions.Contribution as code;
-ghost use Rattle.design_checks.specs.UsesRefused.{use_order};
+ghost use Rattle.design_checks.specs.RefusedUses.{missing_uses};
+ghost use Rattle.design_checks.specs.UsesRefused.{first_use, use_order};
 ghost use Rattle.design_checks.specs.Refused.{any_controls, no_controls, no_paths, plain, stored_nodes, target_controls, wrong_kinds};
 ghost use Rattle.design_checks.specs.Verdict.{ControlsPass, HasSoundSignals, IsAnyRefused, IsCellRefused, IsControlRefused, IsDesignFor, IsNodeRefused, IsPathRefused, IsSignalRefused, KindsPass, UsesPass};
 
-use crate::calls::{missing_use, unread_use};
+use crate::calls::first_uses;
 use crate::compared::other_level;
 use crate::fault::DesignFault;
 use crate::refused::{RefusedUse, earlier};
@@ -22,7 +23,8 @@ use crate::written::other_spelling;
 use abel_tree::{Module, Names};
 use pld_base::OutOfMemory;
 use pld_device::Device;
-use set_expr::{Contribution, Contributions, Scope};
+use section_targets::SectionScope;
+use set_expr::{Contribution, Contributions};
 use std::alloc::Global;
 
 /// A refusal without its kind.
@@ -77,24 +79,24 @@ fn target_controls<D: Device>(names: &Names, found: &Contributions) -> Option<Re
     earlier(missing, other_level::<D>(names, &found.exprs, list))
 }
 
-/// The first extension that a signal does not have, as a target or where it is used, or equation that says otherwise
-/// than the device does, or is written otherwise.
+/// The first extension that a signal does not have, as a target or where it is used first, or equation that says
+/// otherwise than the device does, or is written otherwise.
 fn controls<D: Device>(
     alloc: Global,
     source: &Module,
-    scope: &Scope<'_>,
+    scope: &SectionScope<'_, D>,
     found: &Contributions,
+    used: Option<RefusedUse>,
 ) -> Result<Option<RefusedUse>, OutOfMemory>
     requires names { AreToNames (length (entries_of scope.now)) found.now.list }
     requires inside { All (λ (c : code.Contribution). c.when.0 < length
         (arena found.now.exprs)) found.now.list }
     ensures { IfOk result (λ r. (d : Design) → IsDesignFor D.table scope.now source.now found.now d
+        → used ≡ first_use (missing_uses d)
         → r ≡ first_refusal use_order (no_controls d (arena found.now.exprs) found.now.list)) }
 {
-    let names = scope.names();
-    let sections = source.sections.as_slice();
-    let used = missing_use::<D>(alloc, names, sections)?;
-    let unwritten = other_spelling::<D>(alloc, scope, sections)?;
+    let names = scope.scope().names();
+    let unwritten = other_spelling::<D>(alloc, scope, source.sections.as_slice())?;
     let both = earlier(unwritten, used);
     Ok(earlier(target_controls::<D>(names, found), both))
 }
@@ -106,19 +108,6 @@ fn any_controls<D: Device>(names: &Names, list: &[Contribution]) -> Option<Refus
         (entries_of names.now) list.now) }
 {
     plain_if(dont_care_control::<D>(names, list))
-}
-
-/// The first use of what no column carries.
-fn paths<D: Device>(
-    alloc: Global,
-    source: &Module,
-    names: &Names,
-    found: &Contributions,
-) -> Result<Option<RefusedUse>, OutOfMemory>
-    ensures { IfOk result (λ r. (d : Design) → IsDesignFor D.table names.now source.now found.now d
-        → r ≡ first_refusal use_order (no_paths d)) }
-{
-    unread_use::<D>(alloc, names, source.sections.as_slice())
 }
 
 /// Refused for the first signal on a cell that can't be what it is.
@@ -151,20 +140,23 @@ fn check_nodes(names: &Names) -> Result<(), DesignFault>
 fn check_there<D: Device>(
     alloc: Global,
     source: &Module,
-    scope: &Scope<'_>,
+    scope: &SectionScope<'_, D>,
     found: &Contributions,
+    used: Option<RefusedUse>,
 ) -> Result<(), DesignFault>
     requires names { AreToNames (length (entries_of scope.now)) found.now.list }
     requires inside { All (λ (c : code.Contribution). c.when.0 < length
         (arena found.now.exprs)) found.now.list }
     ensures ok { IfOk result (λ _. (d : Design)
         → IsDesignFor D.table scope.now source.now found.now d
+        → used ≡ first_use (missing_uses d)
         → no_controls d (arena found.now.exprs) found.now.list ≡ []) }
     ensures err { IfErr result (λ f. (d : Design)
         → IsDesignFor D.table scope.now source.now found.now d
+        → used ≡ first_use (missing_uses d)
         → IsControlRefused d (arena found.now.exprs) found.now.list f) }
 {
-    match controls::<D>(alloc, source, scope, found)? {
+    match controls::<D>(alloc, source, scope, found, used)? {
         None => Ok(()),
         Some(refused) => Err(DesignFault::NoSuchControl(refused.place, refused.name)),
     }
@@ -183,21 +175,15 @@ fn check_any<D: Device>(names: &Names, list: &[Contribution]) -> Result<(), Desi
     }
 }
 
-/// Refused for the first use of what no column carries.
+/// Refused for the first use of what no column carries, where there is one.
 #[tactic(auto, using(abel_tree::proofs::FirstRefusals::none_refused))]
-fn check_paths<D: Device>(
-    alloc: Global,
-    source: &Module,
-    names: &Names,
-    found: &Contributions,
-) -> Result<(), DesignFault>
-    ensures ok { IfOk result (λ _. (d : Design)
-        → IsDesignFor D.table names.now source.now found.now d → no_paths d ≡ []) }
-    ensures err { IfErr result (λ f. (d : Design)
-        → IsDesignFor D.table names.now source.now found.now d
+fn check_paths(unread: Option<RefusedUse>) -> Result<(), DesignFault>
+    ensures ok { IfOk result (λ _. (d : Design) → unread ≡ first_refusal use_order (no_paths d)
+        → no_paths d ≡ []) }
+    ensures err { IfErr result (λ f. (d : Design) → unread ≡ first_refusal use_order (no_paths d)
         → IsPathRefused d f) }
 {
-    match paths::<D>(alloc, source, names, found)? {
+    match unread {
         None => Ok(()),
         Some(refused) => Err(DesignFault::NoReadPath(refused.place, refused.name)),
     }
@@ -221,23 +207,26 @@ fn check_kinds<D: Device>(names: &Names, list: &[Contribution]) -> Result<(), De
 fn check_controls<D: Device>(
     alloc: Global,
     source: &Module,
-    scope: &Scope<'_>,
+    scope: &SectionScope<'_, D>,
     found: &Contributions,
+    used: Option<RefusedUse>,
 ) -> Result<(), DesignFault>
     requires names { AreToNames (length (entries_of scope.now)) found.now.list }
     requires inside { All (λ (c : code.Contribution). c.when.0 < length
         (arena found.now.exprs)) found.now.list }
     ensures ok { IfOk result (λ _. (d : Design)
         → IsDesignFor D.table scope.now source.now found.now d
+        → used ≡ first_use (missing_uses d)
         → ControlsPass d (arena found.now.exprs) found.now.list) }
     ensures err { IfErr result (λ f. (d : Design)
         → IsDesignFor D.table scope.now source.now found.now d
+        → used ≡ first_use (missing_uses d)
         → KindsPass d.context.device d.context.names found.now.list
         → IsSignalRefused d (arena found.now.exprs) found.now.list f) }
 {
-    match check_there::<D>(alloc, source, scope, found) {
+    match check_there::<D>(alloc, source, scope, found, used) {
         Err(fault) => Err(fault),
-        Ok(()) => check_any::<D>(scope.names(), found.list.as_slice()),
+        Ok(()) => check_any::<D>(scope.scope().names(), found.list.as_slice()),
     }
 }
 
@@ -245,7 +234,7 @@ fn check_controls<D: Device>(
 fn check_uses<D: Device>(
     alloc: Global,
     source: &Module,
-    scope: &Scope<'_>,
+    scope: &SectionScope<'_, D>,
     found: &Contributions,
 ) -> Result<(), DesignFault>
     requires names { AreToNames (length (entries_of scope.now)) found.now.list }
@@ -259,9 +248,11 @@ fn check_uses<D: Device>(
         → KindsPass d.context.device d.context.names found.now.list
         → IsSignalRefused d (arena found.now.exprs) found.now.list f) }
 {
-    match check_controls::<D>(alloc, source, scope, found) {
+    let names = scope.scope().names();
+    let first = first_uses::<D>(alloc, names, source.sections.as_slice())?;
+    match check_controls::<D>(alloc, source, scope, found, first.missing) {
         Err(fault) => Err(fault),
-        Ok(()) => check_paths::<D>(alloc, source, scope.names(), found),
+        Ok(()) => check_paths(first.unread),
     }
 }
 
@@ -269,7 +260,7 @@ fn check_uses<D: Device>(
 pub fn check_signals<D: Device>(
     alloc: Global,
     source: &Module,
-    scope: &Scope<'_>,
+    scope: &SectionScope<'_, D>,
     found: &Contributions,
 ) -> Result<(), DesignFault>
     requires names { AreToNames (length (entries_of scope.now)) found.now.list }
@@ -282,7 +273,7 @@ pub fn check_signals<D: Device>(
         → IsDesignFor D.table scope.now source.now found.now d
         → IsSignalRefused d (arena found.now.exprs) found.now.list f) }
 {
-    match check_kinds::<D>(scope.names(), found.list.as_slice()) {
+    match check_kinds::<D>(scope.scope().names(), found.list.as_slice()) {
         Err(fault) => Err(fault),
         Ok(()) => check_uses::<D>(alloc, source, scope, found),
     }

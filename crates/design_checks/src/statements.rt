@@ -1,8 +1,9 @@
 //! The walk of statements.
 
-ghost use Rattle.std.specs.Prelude.{◌≡◌, List, Option, OnOk, IfOk, fold, map};
+ghost use Rattle.std.specs.Prelude.{◌≡◌, Option, OnOk, IfOk, fold, map};
 ghost use Rattle.abel_tree.specs.Assigned.{target_extension};
 ghost use Rattle.abel_tree.specs.View.{view, view_stmt};
+ghost use Rattle.design_checks.specs.Fronts.{may_be_compared};
 ghost use Rattle.design_checks.specs.SectionUses.{expression_uses, is_compared, statement_uses};
 ghost use Rattle.design_checks.specs.declared.refused.RefusedUse.{RefusedUse};
 ghost use Rattle.design_checks.specs.Walked.{Asking, Knows, Shows, assign_uses, compares, list_uses, met, view_when};
@@ -14,7 +15,7 @@ use pld_base::OutOfMemory;
 use std::alloc::Global;
 
 /// The extension of a target.
-fn target_extension(target: &Expr) -> Option<Extension>
+pub(crate) fn target_extension(target: &Expr) -> Option<Extension>
     ensures { result ≡ target_extension (view target.now) }
 {
     match target {
@@ -28,6 +29,13 @@ fn target_extension(target: &Expr) -> Option<Extension>
     }
 }
 
+/// Whether an assignment with this extension may be compared with what the device does.
+pub(crate) fn may_be_compared(extension: Option<Extension>) -> bool
+    ensures { result ≡ may_be_compared extension }
+{
+    matches!(extension, Some(Extension::Clk | Extension::Oe))
+}
+
 /// Whether an assignment with this extension only says what the device does anyway.
 fn compares(extension: Option<Extension>, by_pin: bool) -> bool
     ensures { result ≡ compares extension by_pin }
@@ -39,13 +47,17 @@ fn compares(extension: Option<Extension>, by_pin: bool) -> bool
     }
 }
 
-/// Whether an assignment to this target only says what the device does anyway.
+/// Whether an assignment to this target only says what the device does anyway. An ordinary target isn't gone through.
 fn is_compared(alloc: Global, names: &KeptUses, target: &Expr) -> Result<bool, OutOfMemory>
     ensures { IfOk result (λ b. (a : Asking) → Knows a names.now → b ≡ is_compared a.design
         (view target.now)) }
 {
+    let extension = target_extension(target);
+    if !may_be_compared(extension) {
+        return Ok(false);
+    }
     let by_pin = is_target_by_pin(alloc, names, target)?;
-    Ok(compares(target_extension(target), by_pin))
+    Ok(compares(extension, by_pin))
 }
 
 impl UseWalk {

@@ -1,27 +1,29 @@
 //! The walk of expressions.
 
-ghost use Rattle.std.specs.Prelude.{◌≡◌, ℕ, Bool, List, Option, OnOk, IfOk, fold, map, ◌&&◌};
+ghost use Rattle.std.specs.Prelude.{◌≡◌, Option, OnOk, IfOk, fold, map, ◌&&◌};
 ghost use Rattle.pld_base.specs.declared.place.Place.{Place};
 ghost use Rattle.abel_tree.specs.Ranges.{range_names};
 ghost use Rattle.abel_tree.specs.View.{view, view_member};
 ghost use Rattle.abel_meaning.specs.Targets.{targets_of, all_targets};
 ghost use Rattle.abel_meaning.specs.Terms.{NoTerm, extended_if, member_before, named_before, term_named, term_of};
+ghost use Rattle.name_ranges.specs.RangeParts.{name_items};
 ghost use Rattle.netlist_laws.specs.SignalUses.{term_uses};
 ghost use Rattle.design_checks.specs.LocatedUses.{all_at, located, member_located, own_or_outer, range_located};
-ghost use Rattle.design_checks.specs.Walked.{Asking, Knows, Shows, are_by_pin, first_read, members_in, met};
+ghost use Rattle.design_checks.specs.Walked.{Asking, Knows, Shows, are_by_pin, members_in, met, no_walk};
+ghost use Rattle.design_checks.specs.declared.refused.RefusedUse.{RefusedUse};
 
+use crate::firsts::FirstUses;
 use crate::names::KeptUses;
-use crate::refused::{RefusedUse, earlier};
 use abel_tree::{Expr, Extension, Member, Word};
 use name_ranges::range_list;
 use pld_base::{OutOfMemory, Place};
 use std::alloc::Global;
 
-/// The first refused use so far. All uses stand at one place, if there is one here.
+/// The first refused uses so far. All uses stand at one place, if there is one here.
 #[derive(Clone, Copy, PartialEq, Eq)]
 pub(crate) struct UseWalk {
     pub(crate) at: Option<Place>,
-    pub(crate) first: Option<RefusedUse>,
+    pub(crate) first: FirstUses,
 }
 
 /// An extension of its own, or that of the set round it.
@@ -35,6 +37,16 @@ fn own_or_outer(own: Option<Extension>, outer: Option<Extension>) -> Option<Exte
 }
 
 impl UseWalk {
+    /// Nothing was met.
+    pub(crate) fn new(at: Option<Place>) -> UseWalk
+        ensures { result ≡ no_walk at }
+    {
+        UseWalk {
+            at,
+            first: FirstUses::none(),
+        }
+    }
+
     /// The name with this text, used at a place.
     fn visit_text(
         &mut self,
@@ -49,13 +61,11 @@ impl UseWalk {
     {
         match names.get(text) {
             None => {}
-            Some(uses) => match uses.under(extension) {
-                None => {}
-                Some(name) => {
-                    let place = self.at.unwrap_or(place);
-                    self.first = earlier(self.first, Some(RefusedUse { place, name }));
-                }
-            },
+            Some(uses) => {
+                let place = self.at.unwrap_or(place);
+                let signals = uses.under(extension);
+                self.first = self.first.with(place, signals);
+            }
         }
     }
 
@@ -79,25 +89,21 @@ impl UseWalk {
         );
     }
 
-    /// The names of a range, all at its first end.
+    /// The names of a range, all used at one place, in a set with this extension.
     fn visit_range(
         &mut self,
-        alloc: Global,
         names: &KeptUses,
         outer: Option<Extension>,
-        first: &Word,
-        last: &Word,
-    ) -> Result<(), OutOfMemory>
-        ensures { OnOk result ((a : Asking) (f : Option RefusedUse) → Shows a names.now self.old f
+        place: Place,
+        list: &[Vec<u8>],
+    )
+        ensures { (a : Asking) (f : Option RefusedUse) → Shows a names.now self.old f
             → Shows a names.now self.new (fold (met a) f
-            (range_located a.design.known outer first.now.place
-            (range_names first.now.text last.now.text)))) }
+            (range_located a.design.known outer place (map name_items list.now))) }
     {
-        let list = range_list(alloc, first.text.bytes(), last.text.bytes())?;
-        for name in &list {
-            self.visit_text(names, name.as_slice(), first.place, outer);
+        for name in list {
+            self.visit_text(names, name.as_slice(), place, outer);
         }
-        Ok(())
     }
 
     /// A member of a set with this extension.
@@ -115,7 +121,11 @@ impl UseWalk {
     {
         match member {
             Member::One(expr) => self.visit_expr(alloc, names, outer, expr),
-            Member::Span { first, last } => self.visit_range(alloc, names, outer, first, last),
+            Member::Span { first, last } => {
+                let list = range_list(alloc, first.text.bytes(), last.text.bytes())?;
+                self.visit_range(names, outer, first.place, list.as_slice());
+                Ok(())
+            }
         }
     }
 

@@ -4,29 +4,30 @@ ghost use Rattle.std.specs.Prelude.{◌≡◌, ◌≤◌, Bool, Option, IfOk, le
 ghost use Rattle.abel_tree.specs.Entries.{entries_of};
 ghost use Rattle.abel_tree.specs.FirstRefusal.{first_refusal};
 ghost use Rattle.abel_tree.specs.View.{view, view_section, view_stmt};
-ghost use Rattle.abel_tree.specs.Assigned.{target_extension};
-ghost use Rattle.abel_meaning.specs.Designs.{Context, Design, name_at};
-ghost use Rattle.abel_meaning.specs.Terms.{term_of};
+ghost use Rattle.abel_meaning.specs.Designs.{Design, name_at};
+ghost use Rattle.abel_meaning.specs.Terms.{known_of, term_of};
 ghost use Rattle.set_expr.specs.Answer.{IsContextOf};
+ghost use Rattle.set_expr.specs.Contexts.{context_for};
 ghost use Rattle.design_checks.specs.UsesRefused.{use_order};
 ghost use Rattle.design_checks.specs.Compared.{is_compared_of};
-ghost use Rattle.design_checks.specs.Fronts.{IsLearnt, counted, list_refused, view_when};
-ghost use Rattle.design_checks.specs.Written.{Written, aim_refused, aims_refused, assign_refused, section_refused, sections_refused, statement_refused, unwritten, written_if};
+ghost use Rattle.design_checks.specs.Fronts.{AreAllFronts, counted, list_refused, view_when};
+ghost use Rattle.design_checks.specs.Written.{Written, aim_refused, aims_refused, assign_refused, section_refused, statement_refused, unwritten, written_if};
 
 use crate::by_pin::is_compared;
 use crate::front::Front;
-use crate::fronts::{Learnt, front_expr, learn};
+use crate::fronts::{all_fronts, front_expr};
 use crate::refused::{RefusedUse, earlier};
+use crate::statements::{may_be_compared, target_extension};
 use abel_tree::{Assign, Expr, Extension, Section, Stmt, When};
 use pld_base::OutOfMemory;
 use pld_device::Device;
-use section_targets::{Aim, left_side};
+use section_targets::{Aim, SectionScope};
 use set_expr::Scope;
 use std::alloc::Global;
 
 /// Whether an equation for the signal with this number is compared.
 fn is_compared_at<D: Device>(scope: &Scope<'_>, extension: Option<Extension>, signal: u32) -> bool
-    ensures { (d : Context) → IsContextOf D.table scope.now d → result ≡ is_compared_of d.device extension (name_at d signal) }
+    ensures { result ≡ is_compared_of D.table extension (name_at (context_for D.table scope.now) signal) }
 {
     let list = scope.list();
     if (signal as usize) < list.len() {
@@ -43,8 +44,7 @@ fn refused_aim<D: Device>(
     written: bool,
     aim: Aim,
 ) -> Option<RefusedUse>
-    ensures { (d : Context) → IsContextOf D.table scope.now d
-        → result ≡ first_refusal use_order (aim_refused d extension written aim) }
+    ensures { result ≡ first_refusal use_order (aim_refused (context_for D.table scope.now) extension written aim) }
 {
     if !written && is_compared_at::<D>(scope, extension, aim.signal) {
         Some(RefusedUse {
@@ -63,8 +63,8 @@ fn refused_aims<D: Device>(
     front: Front,
     aims: &[Aim],
 ) -> Option<RefusedUse>
-    ensures { (d : Context) (w : Written) → IsContextOf D.table scope.now d → front ≡ counted w → length aims.now ≤ 32
-        → result ≡ first_refusal use_order (aims_refused d extension w 0 aims.now) }
+    ensures { (w : Written) → front ≡ counted w → length aims.now ≤ 32
+        → result ≡ first_refusal use_order (aims_refused (context_for D.table scope.now) extension w 0 aims.now) }
 {
     let mut first = None;
     let mut position = 0u8;
@@ -76,75 +76,65 @@ fn refused_aims<D: Device>(
     first
 }
 
-/// The extension of a target.
-fn target_extension(target: &Expr) -> Option<Extension>
-    ensures { result ≡ target_extension (view target.now) }
-{
-    match target {
-        Expr::Name { word: _, extension } => *extension,
-        Expr::Set {
-            place: _,
-            members: _,
-            extension,
-        } => *extension,
-        _ => None,
-    }
-}
-
 /// How a value is written, which is not as a level under a guard.
 fn front_if(
     alloc: Global,
     scope: &Scope<'_>,
-    learnt: &Learnt,
+    fronts: &[Front],
     guarded: bool,
     value: &Expr,
 ) -> Result<Front, OutOfMemory>
-    ensures { IfOk result (λ f. (d : Context) → d.names ≡ entries_of scope.now → IsLearnt d learnt.now → f ≡ counted (written_if guarded (term_of d.known (view value.now)))) }
+    ensures { IfOk result (λ f. AreAllFronts scope.now fronts.now
+        → f ≡ counted (written_if guarded (term_of (known_of (entries_of scope.now)) (view value.now)))) }
 {
     if guarded {
         Ok(Front::other())
     } else {
-        front_expr(alloc, scope, learnt.fronts.as_slice(), value)
+        front_expr(alloc, scope, fronts, value)
     }
 }
 
-/// The first refusal of an assignment.
+/// The first refusal of an assignment. Where nothing is compared, neither its target nor its value is gone through.
 fn refused_assign<D: Device>(
     alloc: Global,
-    scope: &Scope<'_>,
-    learnt: &Learnt,
+    scope: &SectionScope<'_, D>,
+    fronts: &[Front],
     guarded: bool,
     assign: &Assign,
 ) -> Result<Option<RefusedUse>, OutOfMemory>
-    ensures { IfOk result (λ r. (d : Context) → IsContextOf D.table scope.now d → IsLearnt d learnt.now
-        → r ≡ first_refusal use_order (assign_refused d guarded assign.now.place (view assign.now.target) (view assign.now.value))) }
+    ensures { IfOk result (λ r. AreAllFronts scope.now fronts.now
+        → r ≡ first_refusal use_order (assign_refused (context_for D.table scope.now) guarded assign.now.place (view assign.now.target) (view assign.now.value))) }
 {
-    let named = learnt.named.as_slice();
-    let side = left_side(alloc, scope, named, assign.place, &assign.target)?;
+    let extension = target_extension(&assign.target);
+    if !may_be_compared(extension) {
+        return Ok(None);
+    }
+    let side = scope.target(alloc, assign.place, &assign.target)?;
     if side.width > 32 {
         return Ok(None);
     }
-    let front = front_if(alloc, scope, learnt, guarded, &assign.value)?;
-    let extension = target_extension(&assign.target);
-    Ok(refused_aims::<D>(scope, extension, front, side.aims.as_slice()))
+    let names = scope.scope();
+    let front = front_if(alloc, names, fronts, guarded, &assign.value)?;
+    let aims = side.aims.as_slice();
+    Ok(refused_aims::<D>(names, extension, front, aims))
 }
 
 /// The first refusal of a statement, under a guard or not.
 #[cycle(statements)]
 fn refused_stmt<D: Device>(
     alloc: Global,
-    scope: &Scope<'_>,
-    learnt: &Learnt,
+    scope: &SectionScope<'_, D>,
+    fronts: &[Front],
     guarded: bool,
     stmt: &Stmt,
 ) -> Result<Option<RefusedUse>, OutOfMemory>
-    ensures { IfOk result (λ r. (d : Context) → IsContextOf D.table scope.now d → IsLearnt d learnt.now
-        → r ≡ first_refusal use_order (statement_refused d guarded (view_stmt stmt.now))) }
+    ensures { IfOk result (λ r. AreAllFronts scope.now fronts.now
+        → r ≡ first_refusal use_order (statement_refused (context_for D.table scope.now) guarded (view_stmt stmt.now))) }
 {
     match stmt {
-        Stmt::Assign(assign) => refused_assign::<D>(alloc, scope, learnt, guarded, assign),
-        Stmt::When(when) => refused_when::<D>(alloc, scope, learnt, when),
-        Stmt::Group(list) => refused_list::<D>(alloc, scope, learnt, guarded, list.as_slice()),
+        Stmt::Assign(assign) => refused_assign::<D>(alloc, scope, fronts, guarded, assign),
+        Stmt::When(when) => refused_when::<D>(alloc, scope, fronts, when),
+        Stmt::Group(list) => refused_list::<D>(alloc, scope, fronts, guarded, list.as_slice()),
         Stmt::DontCare(_) => Ok(None),
     }
 }
@@ -153,18 +143,18 @@ fn refused_stmt<D: Device>(
 #[cycle(statements)]
 fn refused_when<D: Device>(
     alloc: Global,
-    scope: &Scope<'_>,
-    learnt: &Learnt,
+    scope: &SectionScope<'_, D>,
+    fronts: &[Front],
     when: &When,
 ) -> Result<Option<RefusedUse>, OutOfMemory>
-    ensures { IfOk result (λ r. (d : Context) (guarded : Bool) → IsContextOf D.table scope.now d → IsLearnt d learnt.now
-        → r ≡ first_refusal use_order (statement_refused d guarded (view_when when.now))) }
+    ensures { IfOk result (λ r. (guarded : Bool) → AreAllFronts scope.now fronts.now
+        → r ≡ first_refusal use_order (statement_refused (context_for D.table scope.now) guarded (view_when when.now))) }
 {
-    let then = refused_stmt::<D>(alloc, scope, learnt, true, when.then.get())?;
+    let then = refused_stmt::<D>(alloc, scope, fronts, true, when.then.get())?;
     match &when.otherwise {
         None => Ok(then),
         Some(other) => {
-            let other = refused_stmt::<D>(alloc, scope, learnt, true, other.get())?;
+            let other = refused_stmt::<D>(alloc, scope, fronts, true, other.get())?;
             Ok(earlier(then, other))
         }
     }
@@ -174,19 +164,19 @@ fn refused_when<D: Device>(
 #[cycle(statements)]
 fn refused_list<D: Device>(
     alloc: Global,
-    scope: &Scope<'_>,
-    learnt: &Learnt,
+    scope: &SectionScope<'_, D>,
+    fronts: &[Front],
     guarded: bool,
     list: &[Stmt],
 ) -> Result<Option<RefusedUse>, OutOfMemory>
-    ensures { IfOk result (λ r. (d : Context) → IsContextOf D.table scope.now d → IsLearnt d learnt.now
-        → r ≡ first_refusal use_order (list_refused d guarded (map view_stmt list.now))) }
+    ensures { IfOk result (λ r. AreAllFronts scope.now fronts.now
+        → r ≡ first_refusal use_order (list_refused (context_for D.table scope.now) guarded (map view_stmt list.now))) }
 {
     let mut first = None;
     for stmt in list {
         first = earlier(
             first,
-            refused_stmt::<D>(alloc, scope, learnt, guarded, stmt)?,
+            refused_stmt::<D>(alloc, scope, fronts, guarded, stmt)?,
         );
     }
     Ok(first)
@@ -195,16 +185,16 @@ fn refused_list<D: Device>(
 /// Of a section.
 fn refused_section<D: Device>(
     alloc: Global,
-    scope: &Scope<'_>,
-    learnt: &Learnt,
+    scope: &SectionScope<'_, D>,
+    fronts: &[Front],
     section: &Section,
 ) -> Result<Option<RefusedUse>, OutOfMemory>
-    ensures { IfOk result (λ r. (d : Context) → IsContextOf D.table scope.now d → IsLearnt d learnt.now
-        → r ≡ first_refusal use_order (section_refused d (view_section section.now))) }
+    ensures { IfOk result (λ r. AreAllFronts scope.now fronts.now
+        → r ≡ first_refusal use_order (section_refused (context_for D.table scope.now) (view_section section.now))) }
 {
     match section {
         Section::Equations(list) => {
-            refused_list::<D>(alloc, scope, learnt, false, list.as_slice())
+            refused_list::<D>(alloc, scope, fronts, false, list.as_slice())
         }
         Section::Declarations(_) => Ok(None),
         Section::Table(_) => Ok(None),
@@ -219,16 +209,19 @@ fn refused_section<D: Device>(
 /// is told. None where there is none; the only refusal is want of memory.
 pub fn other_spelling<D: Device>(
     alloc: Global,
-    scope: &Scope<'_>,
+    scope: &SectionScope<'_, D>,
     sections: &[Section],
 ) -> Result<Option<RefusedUse>, OutOfMemory>
     ensures { IfOk result (λ r. (d : Design) → IsContextOf D.table scope.now d.context → d.sections ≡ map view_section sections.now
         → r ≡ first_refusal use_order (unwritten d)) }
 {
-    let learnt = learn(alloc, scope)?;
+    let fronts = all_fronts(alloc, scope.scope())?;
     let mut first = None;
     for section in sections {
-        first = earlier(first, refused_section::<D>(alloc, scope, &learnt, section)?);
+        first = earlier(
+            first,
+            refused_section::<D>(alloc, scope, fronts.as_slice(), section)?,
+        );
     }
     Ok(first)
 }

@@ -4,7 +4,7 @@ use Rattle.std.proofs.lemmas.Result.{IfOk-weaker}
 use Rattle.abel_tree.specs.Tree.{AParen, AUnary, members_of}
 use Rattle.abel_tree.specs.View.{view, view_member}
 use Rattle.abel_meaning.specs.Terms.{NoTerm, Set, member_before, term_named, term_of, terms_of}
-use Rattle.section_targets.proofs.Views.{view_name, view_one, view_paren, view_set, view_span, view_special, view_unary}
+use Rattle.expr_bits.proofs.Views.{view_name, view_one, view_paren, view_set, view_span, view_special, view_unary}
 use Rattle.set_expr.proofs.FoundMembers.{front_more, whole_front}
 use Rattle.design_checks.specs.Fronts.{counted}
 use Rattle.design_checks.specs.Written.{written_of, written_of_all}

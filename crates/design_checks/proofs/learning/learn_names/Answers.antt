@@ -4,6 +4,7 @@ use Rattle.std.proofs.lemmas.List.{length-map, length-take-le}
 use Rattle.abel_tree.specs.Entries.{entries_of, view_declared}
 use Rattle.abel_meaning.specs.Designs.{name_at, no_name}
 use Rattle.abel_meaning.specs.Terms.{known_of, term_meant}
+use Rattle.set_expr.specs.Contexts.{context_for}
 use Rattle.set_expr.proofs.FoundMembers.{front_more, whole_front}
 use Rattle.design_checks.specs.Walked.{IsUsesOf, Knows, learning, under, with_new}
 use Rattle.design_checks.proofs.LearntName.{knows_more, knows_all, knows_none, name_here}
@@ -11,12 +12,15 @@ use Rattle.design_checks.proofs.learning.learn_names.Goals as goal
 
 pub loop-declared-init : goal.loop-declared-init
 loop-declared-init g c = record {
-  knows = λ d of. subst (Knows (learning d c.args.rule [])) (sym c.new-kept.ensures) (knows_none d c.args.rule);
+  knows = λ r.
+      let d = context_for g.D.Device.table c.args.names.now in
+      subst (Knows (learning d r [])) (sym c.new-kept.ensures) (knows_none d r);
   number = refl;
 }
 
 pub loop-declared-preserved : goal.loop-declared-preserved
 loop-declared-preserved g c =
+    let d = context_for g.D.Device.table c.args.names.now in
     let ds = c.as_slice-declared-items.result.now in
     let i = c.loop-declared.declared-index in
     let x = c.declared-item.result in
@@ -24,26 +28,27 @@ loop-declared-preserved g c =
     let here : map view_declared (take (i + 1) ds) ≡ es ++ view_declared x ∷ [] = front_more view_declared ds i x c.loop-declared-test.true c.declared-item.is in
     let size : length es ≡ i = length-map (take i ds) view_declared ∙ length-take-le i ds (omega (arith, c.loop-declared-test.true)) in
     let all : map view_declared ds ≡ entries_of c.args.names.now = ap (map view_declared) c.as_slice-declared-items.ensures in
+    let named : name_at d c.loop-declared.number ≡ view_declared x =
+    ap (λ xs. get_or xs c.loop-declared.number no_name) (sym all)
+    ∙ ap (λ n. get_or (map view_declared ds) n no_name) (c.loop-declared.invariant.number ∙ size)
+    ∙ name_here view_declared ds i x no_name c.loop-declared-test.true c.declared-item.is in
     record {
-      knows = λ d of.
-          let a = learning d c.args.rule es in
-          let kept = c.loop-declared.invariant.knows d of in
-          let named : name_at d c.loop-declared.number ≡ view_declared x =
-          ap (λ xs. get_or xs c.loop-declared.number no_name) (of.names ∙ sym all)
-          ∙ ap (λ n. get_or (map view_declared ds) n no_name) (c.loop-declared.invariant.number ∙ size)
-          ∙ name_here view_declared ds i x no_name c.loop-declared-test.true c.declared-item.is in
-          let one = c.in_ok-uses.ensures a refl of.device refl named kept in
-          subst (λ xs. Knows (learning d c.args.rule xs) c.keep.new.self) (sym here)
-          (knows_more d c.args.rule es (view_declared x) c.loop-declared.kept c.keep.new.self c.in_ok-uses.uses kept
+      knows = λ r.
+          let a = learning d r es in
+          let kept = c.loop-declared.invariant.knows r in
+          let one = c.in_ok-uses.ensures a refl refl named kept in
+          subst (λ xs. Knows (learning d r xs) c.keep.new.self) (sym here)
+          (knows_more d r es (view_declared x) c.loop-declared.kept c.keep.new.self c.in_ok-uses.uses kept
           (subst (λ n. IsUsesOf a c.in_ok-uses.uses (term_meant (known_of es) n (view_declared x).kind)) c.loop-declared.invariant.number one)
           (λ w. c.in_ok-keep.ensures w ∙ ap (λ t. with_new t c.in_ok-uses.uses (under c.loop-declared.kept) w) c.bytes.ensures));
       number = omega (arith, c.in_ok-number.ensures, c.loop-declared.invariant.number, ap length here, length-append es (view_declared x ∷ []));
     }
 
 pub returns : goal.returns
-returns g c d of =
+returns g c r =
+    let n = c.args.names.now in
     let ds = c.as_slice-declared-items.result.now in
-    let all : map view_declared (take c.loop-declared.declared-index ds) ≡ entries_of c.args.names.now =
+    let all : map view_declared (take c.loop-declared.declared-index ds) ≡ entries_of n =
     whole_front view_declared ds c.loop-declared.declared-index c.loop-declared-test.false ∙ ap (map view_declared) c.as_slice-declared-items.ensures in
-    knows_all d c.args.rule (entries_of c.args.names.now) c.loop-declared.kept of.known
-    (subst (λ xs. Knows (learning d c.args.rule xs) c.loop-declared.kept) all (c.loop-declared.invariant.knows d of))
+    knows_all (context_for g.D.Device.table n) r (entries_of n) c.loop-declared.kept refl
+    (subst (λ xs. Knows (learning (context_for g.D.Device.table n) r xs) c.loop-declared.kept) all (c.loop-declared.invariant.knows r))

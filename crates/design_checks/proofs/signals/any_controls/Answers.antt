@@ -1,4 +1,4 @@
-use Rattle.std.proofs.Common.{◌≡◌, sym, ap, ◌∙◌}
+use Rattle.std.proofs.Common.{sym, ap, ◌∙◌}
 use Rattle.std.specs.Prelude.{option_map}
 use Rattle.abel_tree.specs.Entries.{entries_of}
 use Rattle.design_checks.specs.declared.rules.Rule.TheVariants as rule

@@ -10,7 +10,7 @@ pub returns-in-Err-clause-err : goal.returns-in-Err-clause-err
 returns-in-Err-clause-err g c d of =
     let fs = arena c.args.found.now.exprs in
     subst (λ cs. IsSignalRefused d fs cs c.in-Err.fault) c.as_slice.ensures
-    (at_err c.check_kinds.result c.in-Err.fault _ c.in-Err.is c.check_kinds.ensures.err d fs of.design.device (of.design.names ∙ ap entries_of (sym c.names.ensures)))
+    (at_err c.check_kinds.result c.in-Err.fault _ c.in-Err.is c.check_kinds.ensures.err d fs of.design.device (of.design.names ∙ ap entries_of (sym (c.names.ensures ∙ c.scope.ensures))))
 
 pub returns-in-Ok-clause-ok : goal.returns-in-Ok-clause-ok
 returns-in-Ok-clause-ok g c =
@@ -18,7 +18,7 @@ returns-in-Ok-clause-ok g c =
     let cs = c.args.found.now.list in
     ok_then c.check_uses.result _ _
     (λ _ uses d of. record {
-      kinds = subst (λ u. KindsPass u d.context.names cs) (sym of.design.device) (subst (λ ys. KindsPass t ys cs) (sym of.design.names) (subst₂ (λ (n : Names) es. KindsPass t (entries_of n) es) c.names.ensures c.as_slice.ensures (at_ok c.check_kinds.result _ _ c.in-Ok.is c.check_kinds.ensures.ok)));
+      kinds = subst (λ u. KindsPass u d.context.names cs) (sym of.design.device) (subst (λ ys. KindsPass t ys cs) (sym of.design.names) (subst₂ (λ (n : Names) es. KindsPass t (entries_of n) es) (c.names.ensures ∙ c.scope.ensures) c.as_slice.ensures (at_ok c.check_kinds.result _ _ c.in-Ok.is c.check_kinds.ensures.ok)));
       uses = uses d of;
     })
     c.check_uses.ensures.ok
@@ -30,5 +30,5 @@ returns-in-Ok-clause-err g c =
     err_then c.check_uses.result _ _
     (λ f h d of.
     h d of
-    (subst (λ u. KindsPass u d.context.names cs) (sym of.design.device) (subst (λ ys. KindsPass t ys cs) (sym of.design.names) (subst₂ (λ (n : Names) es. KindsPass t (entries_of n) es) c.names.ensures c.as_slice.ensures (at_ok c.check_kinds.result _ _ c.in-Ok.is c.check_kinds.ensures.ok)))))
+    (subst (λ u. KindsPass u d.context.names cs) (sym of.design.device) (subst (λ ys. KindsPass t ys cs) (sym of.design.names) (subst₂ (λ (n : Names) es. KindsPass t (entries_of n) es) (c.names.ensures ∙ c.scope.ensures) c.as_slice.ensures (at_ok c.check_kinds.result _ _ c.in-Ok.is c.check_kinds.ensures.ok)))))
     c.check_uses.ensures.err

@@ -1,11 +1,10 @@
-use Rattle.std.proofs.Common.{◌≡◌, ◌++◌, map, sym, ap, ap₂, subst, ◌∙◌}
+use Rattle.std.proofs.Common.{◌++◌, map, sym, ap, ap₂, ◌∙◌}
 use Rattle.bit_expr.specs.Arena.{arena}
 use Rattle.abel_tree.specs.declared.names.Names.{Names}
 use Rattle.abel_tree.specs.Entries.{entries_of}
 use Rattle.abel_tree.specs.FirstRefusal.{earlier, first_refusal}
 use Rattle.abel_tree.specs.View.{view_section}
 use Rattle.abel_tree.proofs.FirstRefusals.{first_append}
-use Rattle.set_expr.specs.Answer.{IsContextOf}
 use Rattle.design_checks.specs.RefusedUses.{missing_uses}
 use Rattle.design_checks.specs.UsesRefused.{told, use_order}
 use Rattle.design_checks.specs.Written.{unwritten}
@@ -13,16 +12,15 @@ use Rattle.design_checks.specs.Refused.{target_controls}
 use Rattle.design_checks.proofs.signals.controls.Goals as goal
 
 pub returns : goal.returns
-returns g c d of =
+returns g c d of first =
     let t = g.D.Device.table in
     let xs = entries_of c.args.scope.now in
     let fs = arena c.args.found.now.exprs in
     let cs = c.args.found.now.list in
     let used = map told (missing_uses d) in
-    let design : IsContextOf t c.names-names.result.now d.context = subst (λ n. IsContextOf t n d.context) (sym c.names-names.ensures) of.design in
-    let same = of.sections ∙ ap (map view_section) (sym c.as_slice-sections.ensures) in
+    let same = of.sections ∙ ap (map view_section) (sym c.as_slice.ensures) in
     c.earlier.ensures
-    ∙ ap₂ (earlier use_order) (c.target_controls.ensures ∙ ap (λ (n : Names). first_refusal use_order (target_controls t fs (entries_of n) cs)) c.names-names.ensures)
-    (c.earlier-both.ensures ∙ ap₂ (earlier use_order) (c.in_ok-unwritten.ensures d of.design same) (c.in_ok-used.ensures d design same) ∙ sym (first_append use_order (unwritten d) used))
+    ∙ ap₂ (earlier use_order) (c.target_controls.ensures ∙ ap (λ (n : Names). first_refusal use_order (target_controls t fs (entries_of n) cs)) (c.names-names.ensures ∙ c.scope.ensures))
+    (c.earlier-both.ensures ∙ ap₂ (earlier use_order) (c.in_ok-unwritten.ensures d of.design same) first ∙ sym (first_append use_order (unwritten d) used))
     ∙ sym (first_append use_order (target_controls t fs xs cs) (unwritten d ++ used))
     ∙ ap (λ rs. first_refusal use_order (rs ++ (unwritten d ++ used))) (ap₂ (λ u ys. target_controls u fs ys cs) (sym of.design.device) (sym of.design.names))

@@ -4,7 +4,7 @@ use Rattle.abel_tree.specs.Tree.{members_of}
 use Rattle.abel_tree.specs.View.{view, view_member}
 use Rattle.abel_meaning.specs.Targets.{all_targets, targets_of}
 use Rattle.abel_meaning.specs.Terms.{Set, term_named, term_of, terms_of}
-use Rattle.section_targets.proofs.Views.{view_name, view_set}
+use Rattle.expr_bits.proofs.Views.{view_name, view_set}
 use Rattle.set_expr.proofs.FoundMembers.{front_more, whole_front}
 use Rattle.design_checks.specs.Walked.{are_by_pin}
 use Rattle.design_checks.proofs.ByPin.{members_by_pin, extended_by_pin}

@@ -2,13 +2,11 @@
 use Rattle.std.proofs.Common.{◌≡◌, map, take}
 use Rattle.abel_tree.specs.FirstRefusal.{first_refusal}
 use Rattle.abel_tree.specs.View.{view_section}
-use Rattle.abel_meaning.specs.Designs.{Context}
-use Rattle.set_expr.specs.Answer.{IsContextOf}
+use Rattle.set_expr.specs.Contexts.{context_for}
 use Rattle.design_checks.specs.UsesRefused.{use_order}
 use Rattle.design_checks.specs.Written.{sections_refused}
 use Rattle.design_checks.proofs.written.other_spelling.Given as goal
 
 abbrev pub invariant-loop-section : goal.invariant-loop-section
 invariant-loop-section g l =
-    (d : Context) → IsContextOf g.D.Device.table l.scope d
-    → l.first ≡ first_refusal use_order (sections_refused d (map view_section (take l.section-index l.sections)))
+    l.first ≡ first_refusal use_order (sections_refused (context_for g.D.Device.table l.scope) (map view_section (take l.section-index l.sections)))

@@ -1,32 +1,47 @@
--- A target that is too wide is refused before; any other has its signals.
-use Rattle.std.proofs.Common.{◌<◌, ◌≤◌, length, sym, ap, subst, ◌∙◌, arith}
+-- Where nothing is compared, nothing is refused; a target that is too wide is refused before; any other has its signals.
+use Rattle.std.proofs.Common.{◌≡◌, ◌<◌, ◌≤◌, length, sym, ap, subst, ◌∙◌, arith}
+use Rattle.abel_tree.specs.declared.names.Names.{Names}
 use Rattle.abel_tree.specs.Assigned.{target_extension}
+use Rattle.abel_tree.specs.Entries.{entries_of}
 use Rattle.abel_tree.specs.FirstRefusal.{first_refusal}
 use Rattle.abel_tree.specs.View.{view}
-use Rattle.abel_meaning.specs.Terms.{term_of}
-use Rattle.section_targets.specs.NamedTargets.{AreTargets}
+use Rattle.abel_meaning.specs.Terms.{known_of, term_of}
+use Rattle.set_expr.specs.Contexts.{context_for}
 use Rattle.section_targets.specs.TargetSignals.{left_side}
+use Rattle.design_checks.specs.Fronts.{AreAllFronts, counted, may_be_compared}
 use Rattle.design_checks.specs.UsesRefused.{use_order}
 use Rattle.design_checks.specs.Written.{aims_refused, narrow, written_if}
-use Rattle.design_checks.proofs.RefusedStatements.{narrow_all, narrow_none}
+use Rattle.design_checks.proofs.RefusedStatements.{narrow_all, narrow_none, none_compared}
 use Rattle.design_checks.proofs.written.refused_assign.Goals as goal
 
+pub returns-then-not-may_be_compared : goal.returns-then-not-may_be_compared
+returns-then-not-may_be_compared g c l =
+    let d = context_for g.D.Device.table c.args.scope.now in
+    let a = c.args.assign.now in
+    let w = written_if c.args.guarded (term_of d.known (view a.value)) in
+    let never = sym (ap may_be_compared c.target_extension-extension.ensures) ∙ sym c.may_be_compared.ensures ∙ c.if-not-may_be_compared.true in
+    sym (ap (first_refusal use_order) (none_compared d (target_extension (view a.target)) w 0 (narrow (left_side d a.place (view a.target)).aims) never))
+
 pub returns-then-side-gt32 : goal.returns-then-side-gt32
-returns-then-side-gt32 g c d of l =
+returns-then-side-gt32 g c l =
+    let d = context_for g.D.Device.table c.args.scope.now in
     let a = c.args.assign.now in
     let x = left_side d a.place (view a.target) in
-    let s = c.in_ok-side.ensures d of.names (subst (AreTargets d) (sym c.as_slice-named.ensures) l.named) in
+    let s = c.in_ok-side.ensures g.D.Device.table in
     let wide : 32 < length x.aims = omega (arith, c.if-side-gt32.true, s.width) in
     sym (ap (λ xs. first_refusal use_order (aims_refused d (target_extension (view a.target)) (written_if c.args.guarded (term_of d.known (view a.value))) 0 xs)) (narrow_none x.aims wide))
 
 pub returns : goal.returns
-returns g c d of l =
+returns g c l =
+    let d = context_for g.D.Device.table c.args.scope.now in
     let a = c.args.assign.now in
     let x = left_side d a.place (view a.target) in
     let w = written_if c.args.guarded (term_of d.known (view a.value)) in
-    let s = c.in_ok-side.ensures d of.names (subst (AreTargets d) (sym c.as_slice-named.ensures) l.named) in
+    let s = c.in_ok-side.ensures g.D.Device.table in
     let low : length x.aims ≤ 32 = omega (arith, c.if-side-gt32.false, s.width) in
-    let aims = c.as_slice.ensures ∙ s.aims low in
-    c.refused_aims.ensures d w of (c.in_ok-front.ensures d of.names l) (subst (λ xs. length xs ≤ 32) (sym aims) low)
+    let aims = c.as_slice-aims.ensures ∙ s.aims low in
+    let front = subst (λ (n : Names). AreAllFronts n c.args.fronts.now → c.in_ok-front.front ≡ counted (written_if c.args.guarded (term_of (known_of (entries_of n)) (view a.value)))) c.scope-names.ensures c.in_ok-front.ensures l in
+    c.refused_aims.ensures w front (subst (λ xs. length xs ≤ 32) (sym aims) low)
+    ∙ ap (λ (n : Names). first_refusal use_order (aims_refused (context_for g.D.Device.table n) c.target_extension-extension.result w 0 c.as_slice-aims.result.now)) c.scope-names.ensures
     ∙ ap (λ xs. first_refusal use_order (aims_refused d c.target_extension-extension.result w 0 xs)) (aims ∙ sym (narrow_all x.aims low))
     ∙ ap (λ e. first_refusal use_order (aims_refused d e w 0 (narrow x.aims))) c.target_extension-extension.ensures

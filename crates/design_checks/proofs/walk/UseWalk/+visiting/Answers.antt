@@ -5,10 +5,12 @@ use Rattle.std.proofs.lemmas.List.{map_push}
 use Rattle.std.proofs.lemmas.List.Sums.{fold-append}
 use Rattle.abel_tree.specs.declared.expressions.Expr.{size-Expr}
 use Rattle.abel_tree.specs.declared.expressions.Expr as expr
-use Rattle.abel_tree.specs.View.{view}
-use Rattle.design_checks.specs.LocatedUses.{located}
+use Rattle.abel_tree.specs.Ranges.{range_names}
+use Rattle.abel_tree.specs.View.{view, view_member}
+use Rattle.name_ranges.specs.RangeParts.{name_items}
+use Rattle.design_checks.specs.LocatedUses.{located, member_located, range_located}
 use Rattle.design_checks.specs.Walked.{Shows, members_in, met}
-use Rattle.section_targets.proofs.Views.{view_binary, view_set}
+use Rattle.expr_bits.proofs.Views.{view_binary, view_set, view_span}
 use Rattle.design_checks.proofs.Viewed.{both_met}
 use Rattle.design_checks.proofs.Rows.{expr_at, EachBelow, Unrolls, rights_located, goes_down, goes_up, below_pop, members_more}
 use Rattle.design_checks.proofs.walk.UseWalk.+visiting.Goals as goal
@@ -51,6 +53,15 @@ visit_expr-up-init t c = record {
   below = c.down.invariant.0.below;
   shows = λ a f sh. (located a.design.known c.args.outer (view c.down.first.now), c.down.invariant.0.same a.design.known, c.in_ok-visit_level.ensures a f sh);
 }
+
+pub visit_member-returns-in_ok-list-in-Span : goal.visit_member-returns-in_ok-list-in-Span
+visit_member-returns-in_ok-list-in-Span t c a f sh =
+    let m = c.in-Span in
+    let names = ap (map name_items) c.as_slice.ensures.value ∙ c.in_ok-list-in-Span.ensures ∙ ap₂ range_names c.bytes.ensures c.bytes-in-Span.ensures in
+    subst (λ us. Shows a c.args.names.now c.visit_range.new.self (fold (met a) f us))
+    (ap (range_located a.design.known c.args.outer m.first.place) names
+    ∙ sym (ap (member_located a.design.known c.args.outer) (ap view_member m.is ∙ view_span m.first m.last)))
+    (c.visit_range.ensures a f sh)
 
 pub visit_level-returns-in-Set : goal.visit_level-returns-in-Set
 visit_level-returns-in-Set t c =

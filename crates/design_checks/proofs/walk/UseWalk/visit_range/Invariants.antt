@@ -1,6 +1,6 @@
 -- The names that were met.
-use Rattle.std.proofs.Common.{ℕ, fold, map, take, Option}
-use Rattle.std.specs.Global.{Vec}
+use Rattle.std.proofs.Common.{fold, map, take, Option}
+use Rattle.name_ranges.specs.RangeParts.{name_items}
 use Rattle.design_checks.specs.LocatedUses.{range_located}
 use Rattle.design_checks.specs.declared.refused.RefusedUse.{RefusedUse}
 use Rattle.design_checks.specs.Walked.{Asking, Shows, met}
@@ -9,4 +9,4 @@ use Rattle.design_checks.proofs.walk.UseWalk.visit_range.Given as goal
 abbrev pub invariant-loop-name : goal.invariant-loop-name
 invariant-loop-name l =
     (a : Asking) (f : Option RefusedUse) → Shows a l.names l.fn.self f
-    → Shows a l.names l.self (fold (met a) f (range_located a.design.known l.outer l.first.place (map (λ (n : Vec ℕ). n.items) (take l.name-index l.name-items))))
+    → Shows a l.names l.self (fold (met a) f (range_located a.design.known l.outer l.place (map name_items (take l.name-index l.list))))
