@@ -28,7 +28,8 @@ use bit_expr::Netlist;
 use design_checks::{DesignFault, check_signals};
 use gathering::{Gathered, Link, gather_up};
 use pld_device::Device;
-use set_expr::{Contributions, Scope};
+use section_targets::SectionScope;
+use set_expr::Contributions;
 use std::alloc::Global;
 
 /// Refused for a loop of signals, else for a path from a reset to a register.
@@ -65,7 +66,7 @@ fn check_chains(
 pub fn gather<D: Device>(
     alloc: Global,
     source: &Module,
-    scope: &Scope<'_>,
+    scope: &SectionScope<'_, D>,
     found: Contributions,
 ) -> Result<Netlist, DesignFault>
     requires names { entries_of scope.now ≡ names_of D.table (view_module source.now) }
@@ -88,7 +89,7 @@ pub fn gather<D: Device>(
         (design_of D.table (view_module source.now)) (arena found.exprs) found.list f) }
 {
     unrefused_is_sound();
-    let names = scope.names();
+    let names = scope.scope().names();
     match check_signals::<D>(alloc, source, scope, &found) {
         Err(fault) => Err(fault),
         Ok(()) => {
