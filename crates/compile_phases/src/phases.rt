@@ -4,6 +4,7 @@ ghost use Rattle.std.specs.Prelude.{◌≡◌, ◌≤◌, [], Some, IfOk, IfErr,
 ghost use Rattle.jedec_file.specs.TestVectors.{IsTestVector};
 ghost use Rattle.abel_tree.specs.Entries.{entries_of};
 ghost use Rattle.abel_tree.specs.FirstRefusal.{first_refusal};
+ghost use Rattle.abel_tree.specs.Tree.{ModuleTree};
 ghost use Rattle.abel_tree.specs.View.{view_module};
 ghost use Rattle.abel_meaning.specs.Designs.{design_of};
 ghost use Rattle.abel_meaning.specs.DeviceStrings as strings;
@@ -105,24 +106,36 @@ pub fn names_of<D: Device>(alloc: Global, placed: &Module) -> Result<Names, Comp
     }
 }
 
+/// The names of a placed source on its device, for all phases behind.
+pub fn scope_of<D: Device>(
+    alloc: Global,
+    names: &Names,
+) -> Result<SectionScope<'_, D>, CompileFault>
+    requires source { (m : ModuleTree) × AreNamesFor D.table m names.now }
+    ensures ok { IfOk result (λ s. s ≡ names.now) }
+    ensures err { IfErr result (λ e. e ≡ OutOfMemory) }
+{
+    let scope = Scope::new(alloc, names)?;
+    let scope = SectionScope::new(alloc, scope)?;
+    Ok(scope)
+}
+
 /// What the sections of a module say.
 pub fn sections_of<D: Device>(
     alloc: Global,
     source: &Module,
-    names: &Names,
+    scope: &SectionScope<'_, D>,
 ) -> Result<SourceSections, CompileFault>
-    requires { AreNamesFor D.table (view_module source.now) names.now }
+    requires { AreNamesFor D.table (view_module source.now) scope.now }
     ensures ok { IfOk result (λ found. AreSections (design_of D.table (view_module source.now)) found) }
     ensures few { IfOk result (λ found. length found.vectors.items ≤ 9999) }
     ensures chars { IfOk result (λ found. All (IsTestVector D.table) found.vectors.items) }
-    ensures err { IfErr result (IsOfSource (IsSectionFault (entries_of names.now) (λ f. first_refusal section_order
+    ensures err { IfErr result (IsOfSource (IsSectionFault (entries_of scope.now) (λ f. first_refusal section_order
         (all_sections_refused (design_of D.table (view_module source.now))) ≡ Some f))) }
 {
-    let known = Scope::new(alloc, names)?;
-    let scope = SectionScope::new(alloc, known)?;
-    match all_sections::<D>(alloc, &scope, source) {
+    match all_sections::<D>(alloc, scope, source) {
         Ok(found) => Ok(found),
-        Err(fault) => Err(uncontributed(alloc, names, fault)),
+        Err(fault) => Err(uncontributed(alloc, scope.scope().names(), fault)),
     }
 }
 
@@ -130,23 +143,22 @@ pub fn sections_of<D: Device>(
 pub fn netlist_of<D: Device>(
     alloc: Global,
     source: &Module,
-    names: &Names,
+    scope: &SectionScope<'_, D>,
     found: Contributions,
 ) -> Result<Netlist, CompileFault>
-    requires names { AreNamesFor D.table (view_module source.now) names.now }
+    requires names { AreNamesFor D.table (view_module source.now) scope.now }
     requires sections { all_sections_refused (design_of D.table (view_module source.now)) ≡ [] }
     requires found { AreContributed (design_of D.table (view_module source.now)) found }
     ensures ok { IfOk result (λ net. IsNetlistFor D.table (view_module source.now) net) }
     ensures takeable { IfOk result (λ _. IsTakeable (design_of D.table (view_module source.now))) }
-    ensures err { IfErr result (IsOfSource (IsDesignFault (entries_of names.now)
+    ensures err { IfErr result (IsOfSource (IsDesignFault (entries_of scope.now)
         (IsDesignRefusedFor D.table (view_module source.now)))) }
 {
     sections_are_accepted();
     unrefused_is_takeable();
-    let scope = Scope::new(alloc, names)?;
-    match gather::<D>(alloc, source, &scope, found) {
+    match gather::<D>(alloc, source, scope, found) {
         Ok(net) => Ok(net),
-        Err(fault) => Err(undesigned(alloc, names, fault)),
+        Err(fault) => Err(undesigned(alloc, scope.scope().names(), fault)),
     }
 }
 

@@ -3,26 +3,16 @@ use Rattle.bit_expr.specs.Arena.{arena}
 use Rattle.abel_tree.specs.View.{view_module}
 use Rattle.abel_meaning.specs.Designs.{design_of}
 use Rattle.design.proofs.Unrefused.{unrefused}
-use Rattle.truth_tables.proofs.NamesInOrder.{sound_in_order}
-use Rattle.compile_phases.proofs.PlacedNames.{sound_placed}
 use Rattle.compile_phases.proofs.phases.netlist_of.Goals as goal
-
-pub new-requires-clause-placed : goal.new-requires-clause-placed
-new-requires-clause-placed g c =
-    sound_placed g.D.Device.table.name g.D.Device.table.pins c.args.names.now g.met.D.Device.sound.sizes.pins_high c.requires.names.sound
-
-pub new-requires-clause-order : goal.new-requires-clause-order
-new-requires-clause-order g c =
-    sound_in_order g.D.Device.table.name g.D.Device.table.pins c.args.names.now c.requires.names.sound
 
 pub gather-requires-clause-accepted : goal.gather-requires-clause-accepted
 gather-requires-clause-accepted g c =
-    c.sections_are_accepted.ensures g.D.Device.table (view_module c.args.source.now) c.args.names.now g.met.D.Device.sound c.requires.names
+    c.sections_are_accepted.ensures g.D.Device.table (view_module c.args.source.now) c.args.scope.now g.met.D.Device.sound c.requires.names
     c.requires.found.accepted
 
 pub returns-in-Ok-clause-takeable : goal.returns-in-Ok-clause-takeable
 returns-in-Ok-clause-takeable g c =
     let d = design_of g.D.Device.table (view_module c.args.source.now) in
     c.unrefused_is_takeable.ensures d (arena c.args.found.exprs) c.args.found.list g.met.D.Device.sound
-    (c.sections_are_accepted.ensures g.D.Device.table (view_module c.args.source.now) c.args.names.now g.met.D.Device.sound c.requires.names c.requires.found.accepted)
+    (c.sections_are_accepted.ensures g.D.Device.table (view_module c.args.source.now) c.args.scope.now g.met.D.Device.sound c.requires.names c.requires.found.accepted)
     c.requires.found.gives (unrefused d (arena c.args.found.exprs) c.args.found.list c.in-Ok.ensures.unrefused)
