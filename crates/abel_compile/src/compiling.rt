@@ -25,7 +25,7 @@ use abel_tree::Module;
 use abel_vectors::SourceSections;
 use compile_phases::{
     CompileFault, declared_of, device_named, fitted_of, module_of, names_of, netlist_of, placed_of,
-    read_names_are_plain, sections_of,
+    read_names_are_plain, scope_of, sections_of,
 };
 use devices::on_device;
 use pld_base::DeviceName;
@@ -40,11 +40,12 @@ fn compile_placed<D: Device>(alloc: Global, placed: &PlacedModule) -> Result<Com
     ensures err { IfErr result (IsRefusedFor D.table (view_module placed.now.module)) }
 {
     fits_are_right();
+    let scope = scope_of::<D>(alloc, &placed.names)?;
     let SourceSections {
         contributions,
         vectors,
-    } = sections_of::<D>(alloc, &placed.module, &placed.names)?;
-    let net = netlist_of::<D>(alloc, &placed.module, &placed.names, contributions)?;
+    } = sections_of::<D>(alloc, &placed.module, &scope)?;
+    let net = netlist_of::<D>(alloc, &placed.module, &scope, contributions)?;
     let fitted = fitted_of::<D>(alloc, &placed.names, &net)?;
     let compiled = compiled_of::<D>(alloc, placed, &net, &fitted, vectors.as_slice())?;
     Ok(compiled)
