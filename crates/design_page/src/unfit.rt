@@ -8,7 +8,9 @@ use crate::pin_names::name_of_pin;
 use crate::placed::placed_module;
 use abel_tree::{Module, Names};
 use abel_vectors::SourceSections;
-use compile_phases::{CompileFault, device_named, module_of, names_of, netlist_of, sections_of};
+use compile_phases::{
+    CompileFault, device_named, module_of, names_of, netlist_of, scope_of, sections_of,
+};
 use devices::on_device;
 use fitter::{FitFault, Overfull, cells_over_room};
 use pld_base::{ListOf, OutOfMemory, put_decimal};
@@ -23,11 +25,12 @@ fn overfull_cells<D: Device>(
 ) -> Result<ListOf<Overfull>, CompileFault>
     requires { AreNamesFor D.table (view_module module.now) names.now }
 {
+    let scope = scope_of::<D>(alloc, names)?;
     let SourceSections {
         contributions,
         vectors: _,
-    } = sections_of::<D>(alloc, module, names)?;
-    let net = netlist_of::<D>(alloc, module, names, contributions)?;
+    } = sections_of::<D>(alloc, module, &scope)?;
+    let net = netlist_of::<D>(alloc, module, &scope, contributions)?;
     match cells_over_room::<D>(alloc, &net) {
         Ok(list) => Ok(list),
         Err(FitFault::OutOfMemory) => Err(CompileFault::OutOfMemory),
