@@ -51,7 +51,10 @@ pub(crate) fn names_of<D: Device>(alloc: Global, source: &Module) -> Option<Name
 }
 
 /// The names with the signals that each stands for.
-fn scope_of(alloc: Global, names: &Names) -> Result<SectionScope<'_>, OutOfMemory>
+pub(crate) fn scope_of<D: Device>(
+    alloc: Global,
+    names: &Names,
+) -> Result<SectionScope<'_, D>, OutOfMemory>
     requires placed { ArePlaced names.now }
     requires order { AreInOrder (entries_of names.now) }
     ensures { IfOk result (λ s. s ≡ names.now) }
@@ -65,7 +68,7 @@ fn sections_of<D: Device>(alloc: Global, source: &Module, names: &Names) -> Opti
     ensures found { IfSome result (AreSections (design_of D.table (view_module source.now))) }
     ensures few { IfSome result (λ found. length found.vectors.items ≤ 9999) }
 {
-    let scope = scope_of(alloc, names).ok()?;
+    let scope = scope_of::<D>(alloc, names).ok()?;
     match all_sections::<D>(alloc, &scope, source) {
         Ok(found) => Some(found),
         Err(_) => None,
@@ -116,7 +119,7 @@ pub(crate) fn gathered<D: Device>(alloc: Global, drawn: Drawn) -> Option<(Module
         contributions,
         vectors,
     } = drawn;
-    let scope = Scope::new(alloc, &names).ok()?;
+    let scope = scope_of::<D>(alloc, &names).ok()?;
     match gather::<D>(alloc, &module, &scope, contributions) {
         Ok(net) => Some((ModuleNet { module, net }, vectors)),
         Err(_) => None,

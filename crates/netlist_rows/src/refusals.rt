@@ -1,19 +1,16 @@
 //! What is refused of a few names of the sample device.
 
-ghost use Rattle.std.specs.Prelude.{length};
 ghost use Rattle.pld_device.specs.SampleTable.{sample};
-ghost use Rattle.abel_tree.specs.Entries.{entries_of};
 ghost use Rattle.netlist_rows.specs.Drawn.{IsDrawn};
 
-use crate::drawing::{Drawn, draw, names_of};
+use crate::drawing::{Drawn, draw, names_of, scope_of};
 use crate::places::{put_refusal, put_word};
 use crate::sources::row_module;
 use design_checks::{
-    DesignFault, RefusedUse, SignalFault, check_signals, dont_care_control, missing_control,
-    missing_use, other_level, registered_node, unread_use, wrong_kind,
+    DesignFault, RefusedUse, SignalFault, check_signals, dont_care_control, first_uses,
+    missing_control, other_level, registered_node, wrong_kind,
 };
 use pld_device::Sample;
-use set_expr::Scope;
 use std::alloc::Global;
 use test_rows::Found;
 
@@ -74,9 +71,10 @@ pub(crate) fn put_uses(alloc: Global, names: &Found, text: &str, found: &mut Fou
     let module = row_module(alloc, names, front, text, ";")?;
     let names = names_of::<Sample>(alloc, &module)?;
     let sections = module.sections.as_slice();
-    put_use(missing_use::<Sample>(alloc, &names, sections).ok()?, found);
+    let first = first_uses::<Sample>(alloc, &names, sections).ok()?;
+    put_use(first.missing, found);
     found.text(";");
-    put_use(unread_use::<Sample>(alloc, &names, sections).ok()?, found);
+    put_use(first.unread, found);
     Some(())
 }
 
@@ -108,7 +106,7 @@ pub(crate) fn put_levels(
 fn check(alloc: Global, drawn: &Drawn) -> Result<(), DesignFault>
     requires { IsDrawn sample drawn.now }
 {
-    let scope = Scope::new(alloc, &drawn.names)?;
+    let scope = scope_of::<Sample>(alloc, &drawn.names)?;
     check_signals::<Sample>(alloc, &drawn.module, &scope, &drawn.contributions)
 }
 

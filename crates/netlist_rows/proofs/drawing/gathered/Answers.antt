@@ -3,10 +3,10 @@ use Rattle.truth_tables.proofs.NamesInOrder.{sound_in_order}
 use Rattle.netlist_rows.proofs.PlacedNames.{sound_placed}
 use Rattle.netlist_rows.proofs.drawing.gathered.Goals as goal
 
-pub new-requires-clause-placed : goal.new-requires-clause-placed
-new-requires-clause-placed g c =
+pub scope_of-requires-clause-placed : goal.scope_of-requires-clause-placed
+scope_of-requires-clause-placed g c =
     sound_placed g.D.Device.table.name g.D.Device.table.pins c.args.drawn.names g.met.D.Device.sound.sizes.pins_high c.requires.drawn.sound
 
-pub new-requires-clause-order : goal.new-requires-clause-order
-new-requires-clause-order g c =
+pub scope_of-requires-clause-order : goal.scope_of-requires-clause-order
+scope_of-requires-clause-order g c =
     sound_in_order g.D.Device.table.name g.D.Device.table.pins c.args.drawn.names c.requires.drawn.sound

@@ -9,11 +9,11 @@ use Rattle.netlist_rows.proofs.DrawnNames.{drawn_to_names}
 use Rattle.netlist_rows.proofs.PlacedNames.{sound_placed}
 use Rattle.netlist_rows.proofs.refusals.check.Goals as goal
 
-pub new-requires-clause-placed : goal.new-requires-clause-placed
-new-requires-clause-placed c = sound_placed sample.name sample.pins c.args.drawn.now.names (omega arith) c.requires.sound
+pub scope_of-requires-clause-placed : goal.scope_of-requires-clause-placed
+scope_of-requires-clause-placed c = sound_placed sample.name sample.pins c.args.drawn.now.names (omega arith) c.requires.sound
 
-pub new-requires-clause-order : goal.new-requires-clause-order
-new-requires-clause-order c = sound_in_order sample.name sample.pins c.args.drawn.now.names c.requires.sound
+pub scope_of-requires-clause-order : goal.scope_of-requires-clause-order
+scope_of-requires-clause-order c = sound_in_order sample.name sample.pins c.args.drawn.now.names c.requires.sound
 
 pub check_signals-requires-clause-names : goal.check_signals-requires-clause-names
 check_signals-requires-clause-names c =
