@@ -1,18 +1,19 @@
 //! Expressions: their shapes, their bits at a point, and their refusals.
 
-ghost use Rattle.std.specs.Prelude.{length};
+ghost use Rattle.std.specs.Prelude.{◌≡◌, IfOk, None, length};
 ghost use Rattle.bit_expr.specs.Arena.{arena};
-ghost use Rattle.set_expr.specs.Answer.{AreIn};
+ghost use Rattle.abel_tree.specs.View.{view};
+ghost use Rattle.set_expr.specs.Answer.{AreIn, refusal_of};
 
 use crate::places::{put_blank, put_fault, put_shape};
 use crate::sources::source_of;
 use abel_tree::{Expr, Module, Section, Stmt};
-use bit_expr::{ExprId, Exprs};
-use expr_bits::bits;
-use pld_base::Point;
+use bit_expr::{ExprFault, ExprId, Exprs};
+use expr_bits::DeviceScope;
+use pld_base::{Place, Point};
 use pld_device::Sample;
 use section_targets::meet;
-use set_expr::{Scope, Shaped};
+use set_expr::{Scope, SectionFault, Shaped};
 use std::alloc::Global;
 use test_rows::Found;
 
@@ -25,6 +26,9 @@ const HERE: Point = Point {
     q: 0,
     nodes: 32,
 };
+
+/// Where the unit of the value is said to stand.
+const UNIT: Place = Place { line: 1, column: 1 };
 
 /// The value of the one equation.
 fn value_of(module: &Module) -> Option<&Expr> {
@@ -86,11 +90,49 @@ fn unknown_at(places: &[Option<ExprId>]) -> u32 {
     unknown
 }
 
+/// The bits of an expression of which nothing is refused.
+fn made_bits(
+    alloc: Global,
+    names: &DeviceScope<'_, Sample>,
+    expr: &Expr,
+    exprs: &mut Exprs,
+) -> Result<Shaped, SectionFault>
+    requires accepted { refusal_of names.now (view expr.now) ≡ None }
+    ensures { IfOk result (λ s. AreIn (length (arena exprs.new)) s.places) }
+{
+    match names.bits(alloc, expr, exprs) {
+        Ok(shaped) => Ok(shaped),
+        Err(ExprFault::NodeLimit) => Err(SectionFault::NodeLimit(UNIT)),
+        Err(ExprFault::OutOfMemory) => Err(SectionFault::OutOfMemory),
+    }
+}
+
+/// The bits of an expression, or its first refusal.
+fn bits_of(
+    alloc: Global,
+    names: &DeviceScope<'_, Sample>,
+    expr: &Expr,
+    exprs: &mut Exprs,
+) -> Result<Shaped, SectionFault>
+    ensures { IfOk result (λ s. AreIn (length (arena exprs.new)) s.places) }
+{
+    let checked = names.scope().check(alloc, expr)?;
+    match checked.fault {
+        Some(fault) => Err(fault),
+        None => made_bits(alloc, names, expr, exprs),
+    }
+}
+
 /// The shape of an expression, its number at the point, and its X positions; or its first refusal.
-fn put_value(alloc: Global, module: &Module, scope: &Scope<'_>, found: &mut Found) -> Option<()> {
+fn put_value(
+    alloc: Global,
+    module: &Module,
+    names: &DeviceScope<'_, Sample>,
+    found: &mut Found,
+) -> Option<()> {
     let expr = value_of(module)?;
     let mut exprs = Exprs::new(alloc);
-    match bits::<Sample>(alloc, scope, expr, &mut exprs) {
+    match bits_of(alloc, names, expr, &mut exprs) {
         Ok(shaped) => {
             let number = number_at(&exprs, shaped.places.as_slice());
             let unknown = unknown_at(shaped.places.as_slice());
@@ -106,18 +148,20 @@ fn put_value(alloc: Global, module: &Module, scope: &Scope<'_>, found: &mut Foun
 }
 
 /// The bits of an expression that isn't refused.
-fn shaped_of(alloc: Global, module: &Module, scope: &Scope<'_>) -> Option<Shaped> {
+fn shaped_of(alloc: Global, module: &Module, names: &DeviceScope<'_, Sample>) -> Option<Shaped> {
     let expr = value_of(module)?;
     let mut exprs = Exprs::new(alloc);
-    match bits::<Sample>(alloc, scope, expr, &mut exprs) {
-        Ok(shaped) => Some(shaped),
-        Err(_) => None,
-    }
+    bits_of(alloc, names, expr, &mut exprs).ok()
 }
 
 /// The shape of the bits of an expression. They are made and not valued, since they may share their nodes.
-fn put_width(alloc: Global, module: &Module, scope: &Scope<'_>, found: &mut Found) -> Option<()> {
-    let shaped = shaped_of(alloc, module, scope)?;
+fn put_width(
+    alloc: Global,
+    module: &Module,
+    names: &DeviceScope<'_, Sample>,
+    found: &mut Found,
+) -> Option<()> {
+    let shaped = shaped_of(alloc, module, names)?;
     put_shape(shaped.shape, found);
     Some(())
 }
@@ -126,11 +170,11 @@ fn put_width(alloc: Global, module: &Module, scope: &Scope<'_>, found: &mut Foun
 fn put_met(
     alloc: Global,
     module: &Module,
-    scope: &Scope<'_>,
+    names: &DeviceScope<'_, Sample>,
     width: usize,
     found: &mut Found,
 ) -> Option<()> {
-    let shaped = shaped_of(alloc, module, scope)?;
+    let shaped = shaped_of(alloc, module, names)?;
     match meet(alloc, &shaped, width) {
         Ok(ids) => {
             for id in ids.as_slice() {
@@ -163,17 +207,19 @@ pub(crate) fn ask(
         return put_constants(alloc, names, text, found);
     }
     let source = source_of::<Sample>(alloc, names, FRONT, text, ";")?;
-    let scope = Scope::new(alloc, &source.names).ok()?;
+    let known = Scope::new(alloc, &source.names).ok()?;
+    let names = DeviceScope::new(alloc, known).ok()?;
+    let scope = names.scope();
     let module = &source.module;
     if let Some(width) = question.strip_prefix("ids in positions, ") {
-        return put_met(alloc, module, &scope, width.parse::<usize>().ok()?, found);
+        return put_met(alloc, module, &names, width.parse::<usize>().ok()?, found);
     }
     match question {
-        "shapes" => put_checked(alloc, module, &scope, found),
-        "refusals" => put_checked(alloc, module, &scope, found),
-        "sums that double" => put_checked(alloc, module, &scope, found),
-        "first X" => put_special(alloc, module, &scope, found),
-        "widths of bits" => put_width(alloc, module, &scope, found),
-        _ => put_value(alloc, module, &scope, found),
+        "shapes" => put_checked(alloc, module, scope, found),
+        "refusals" => put_checked(alloc, module, scope, found),
+        "sums that double" => put_checked(alloc, module, scope, found),
+        "first X" => put_special(alloc, module, scope, found),
+        "widths of bits" => put_width(alloc, module, &names, found),
+        _ => put_value(alloc, module, &names, found),
     }
 }

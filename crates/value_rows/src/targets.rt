@@ -119,9 +119,7 @@ fn put_refused(
     clocked: bool,
     found: &mut Found,
 ) -> Option<()> {
-    let Ok(mut before) = Assigned::by(alloc, &[]) else {
-        return None;
-    };
+    let mut before = Assigned::new(alloc);
     put_data(scope, false, false, &mut before, found)?;
     put_data(scope, complement, clocked, &mut before, found)
 }
