@@ -13,7 +13,7 @@ ghost use Rattle.declared_names.specs.Reading.{numbers_read};
 use crate::marks::Mark;
 use crate::numbers::FirstNames;
 use abel_tree::{Expr, Extension, Member};
-use name_ranges::range_list;
+use name_uses::range_list;
 use pld_base::OutOfMemory;
 use std::alloc::Global;
 

@@ -7,12 +7,12 @@ ghost use Rattle.abel_tree.specs.Tree.{members_of};
 ghost use Rattle.abel_tree.specs.View.{view, view_member};
 ghost use Rattle.declared_names.specs.Marking.{hits};
 ghost use Rattle.declared_names.specs.Numbered.{numbered, IsNumbering};
-ghost use Rattle.name_ranges.specs.RangeParts.{name_items};
+ghost use Rattle.name_uses.specs.RangeParts.{name_items};
 
 use crate::marks::{Mark, mark_number};
 use crate::numbers::FirstNames;
 use abel_tree::{Expr, Member};
-use name_ranges::range_list;
+use name_uses::range_list;
 use pld_base::OutOfMemory;
 use std::alloc::Global;
 

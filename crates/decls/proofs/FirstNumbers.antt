@@ -16,7 +16,7 @@ use Rattle.abel_tree.specs.declared.words.Span.{Span}
 use Rattle.abel_tree.specs.Entries.{Words}
 use Rattle.abel_tree.specs.Ranges.{span_count, span_numbers, numbers_of, item_names}
 use Rattle.abel_meaning.specs.Declarations.{GivenName, given_names}
-use Rattle.name_ranges.specs.RangeParts.{number_at}
+use Rattle.name_uses.specs.RangeParts.{number_at}
 use Rattle.decls.specs.Passed.{HasNumbers}
 use Rattle.decls.specs.Shown.{given_by}
 use Rattle.decls.specs.Steps.{Progress}

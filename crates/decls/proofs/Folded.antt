@@ -16,7 +16,7 @@ use Rattle.decls.specs.declared.fault.NameFault.TheVariants as fault
 use Rattle.decls.specs.NamesBefore.{words_named, words_of_names}
 use Rattle.decls.specs.Refused.{refused_if, ranges_refused, item_refused, items_refused}
 use Rattle.decls.specs.Shown.{given_by}
-use Rattle.name_ranges.specs.RangeParts.{number_at}
+use Rattle.name_uses.specs.RangeParts.{number_at}
 use Rattle.decls.specs.Spans.{range_length}
 use Rattle.decls.specs.Steps.{Progress, refuse_all}
 use Rattle.decls.specs.Walked.{with_numbers}

@@ -7,7 +7,7 @@ use Rattle.abel_tree.specs.declared.words.Word.{Word}
 use Rattle.abel_tree.specs.Entries.{Kind, is_value, names_any}
 use Rattle.abel_tree.specs.Ranges.{ends_agree, names_between}
 use Rattle.decls.specs.declared.fault.NameFault.TheVariants as fault
-use Rattle.name_ranges.specs.RangeParts.{name_items, names_if_agree}
+use Rattle.name_uses.specs.RangeParts.{name_items, names_if_agree}
 use Rattle.decls.specs.Steps.{Progress, refuse, all_known, range_used}
 
 abbrev pub known_from : (Kind → Bool) → Place → List (Vec ℕ) → Progress → Progress

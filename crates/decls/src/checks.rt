@@ -22,7 +22,7 @@ use crate::saying::all_in;
 use crate::spans::is_count;
 use crate::table::NameTable;
 use abel_tree::{Item, Span, Word};
-use name_ranges::{is_bad_item, item_list};
+use name_uses::{is_bad_item, item_list};
 use pld_base::{NameText, OutOfMemory};
 use std::alloc::Global;
 

@@ -5,10 +5,10 @@ ghost use Rattle.std.specs.List.{list_any};
 ghost use Rattle.abel_tree.specs.Ranges.{is_bad, item_names};
 ghost use Rattle.abel_meaning.specs.Declarations.{given_names};
 ghost use Rattle.decls.specs.Shown.{view_given, given_by};
-ghost use Rattle.name_ranges.specs.RangeParts.{name_items};
+ghost use Rattle.name_uses.specs.RangeParts.{name_items};
 
 use abel_tree::Item;
-use name_ranges::{is_bad_item, item_count, item_list};
+use name_uses::{is_bad_item, item_count, item_list};
 use pld_base::{OutOfMemory, Place};
 use std::alloc::Global;
 

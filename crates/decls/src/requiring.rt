@@ -5,12 +5,12 @@ ghost use Rattle.pld_device.specs.Table.{Table};
 ghost use Rattle.abel_tree.specs.Ranges.{ends_agree};
 ghost use Rattle.decls.specs.Shown.{Shows, wanted};
 ghost use Rattle.decls.specs.Steps.{Progress, range_used, all_known};
-ghost use Rattle.name_ranges.specs.RangeParts.{name_items};
+ghost use Rattle.name_uses.specs.RangeParts.{name_items};
 
 use crate::fault::NameFault;
 use crate::table::NameTable;
 use abel_tree::Word;
-use name_ranges::names_of_range;
+use name_uses::names_of_range;
 use pld_base::{NameText, OutOfMemory, Place};
 use std::alloc::Global;
 

@@ -4,7 +4,7 @@ ghost use Rattle.std.specs.Prelude.{◌≡◌, ◌≤◌, ◌+◌, ◌-◌, ◌<
 ghost use Rattle.std.specs.List.{list_any, range_with_len};
 ghost use Rattle.abel_tree.specs.Ranges.{count_numbers, numbers_of, span_count, span_numbers};
 ghost use Rattle.decls.specs.Spans.{range_length};
-ghost use Rattle.name_ranges.specs.RangeParts.{number_at};
+ghost use Rattle.name_uses.specs.RangeParts.{number_at};
 
 use abel_tree::Span;
 use pld_base::OutOfMemory;

@@ -10,7 +10,7 @@ ghost use Rattle.design_checks.specs.Written.{not_written, written_of, written_o
 
 use crate::front::Front;
 use abel_tree::{Expr, Meaning, Member, Unary, Word};
-use name_ranges::range_list;
+use name_uses::range_list;
 use pld_base::{ListOf, OutOfMemory};
 use set_expr::Scope;
 use std::alloc::Global;

@@ -6,7 +6,7 @@ ghost use Rattle.abel_tree.specs.Ranges.{range_names};
 ghost use Rattle.abel_tree.specs.View.{view, view_member};
 ghost use Rattle.abel_meaning.specs.Targets.{targets_of, all_targets};
 ghost use Rattle.abel_meaning.specs.Terms.{NoTerm, extended_if, member_before, named_before, term_named, term_of};
-ghost use Rattle.name_ranges.specs.RangeParts.{name_items};
+ghost use Rattle.name_uses.specs.RangeParts.{name_items};
 ghost use Rattle.netlist_laws.specs.SignalUses.{term_uses};
 ghost use Rattle.design_checks.specs.LocatedUses.{all_at, located, member_located, own_or_outer, range_located};
 ghost use Rattle.design_checks.specs.Walked.{Asking, Knows, Shows, are_by_pin, members_in, met, no_walk};
@@ -15,7 +15,7 @@ ghost use Rattle.design_checks.specs.declared.refused.RefusedUse.{RefusedUse};
 use crate::firsts::FirstUses;
 use crate::names::KeptUses;
 use abel_tree::{Expr, Extension, Member, Word};
-use name_ranges::range_list;
+use name_uses::range_list;
 use pld_base::{OutOfMemory, Place};
 use std::alloc::Global;
 

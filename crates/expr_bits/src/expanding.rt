@@ -18,7 +18,7 @@ use crate::naming::name_work;
 use crate::step::Step;
 use crate::work::Work;
 use abel_tree::{Expr, Extension, Member, Word};
-use name_ranges::range_list;
+use name_uses::range_list;
 use pld_base::OutOfMemory;
 use set_expr::Scope;
 use std::alloc::Global;

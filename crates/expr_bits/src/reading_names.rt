@@ -13,7 +13,7 @@ ghost use Rattle.expr_bits.specs.Still.{AreRows};
 use crate::reads::Reads;
 use crate::rows::{Row, reads_at};
 use abel_tree::{Expr, Member, Word};
-use name_ranges::range_list;
+use name_uses::range_list;
 use pld_base::OutOfMemory;
 use set_expr::Scope;
 use std::alloc::Global;

@@ -11,7 +11,7 @@ ghost use Rattle.placer.specs.NamedSignals.{signals_in, signals_used};
 
 use crate::marks::{Marks, joined};
 use abel_tree::{Expr, Member};
-use name_ranges::range_list;
+use name_uses::range_list;
 use pld_base::OutOfMemory;
 use std::alloc::Global;
 

@@ -5,7 +5,7 @@
 ghost use Rattle.std.specs.Prelude.{◌≡◌, ◌≤◌, ℕ, List, OnOk, length, map, ◌++◌, ◌∷◌, []};
 ghost use Rattle.std.specs.Int.Bits.{bit_or};
 ghost use Rattle.abel_tree.specs.Assigned.{Named, signals_of_name, signals_of_names};
-ghost use Rattle.name_ranges.specs.RangeParts.{name_items};
+ghost use Rattle.name_uses.specs.RangeParts.{name_items};
 ghost use Rattle.placer.specs.Marks.{AreMarks, HasMark, IsMarkOf};
 
 use indexmap::IndexMap;

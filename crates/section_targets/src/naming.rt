@@ -12,7 +12,7 @@ ghost use Rattle.section_targets.specs.TargetSignals.{all_name_signals};
 
 use crate::named::NamedSignals;
 use abel_tree::{Expr, Meaning, Member, Word};
-use name_ranges::range_list;
+use name_uses::range_list;
 use pld_base::{ListOf, OutOfMemory};
 use set_expr::Scope;
 use std::alloc::Global;

@@ -15,7 +15,7 @@ ghost use Rattle.section_targets.specs.TargetSignals.{TargetFound, targets_both,
 use crate::named::{NamedSignals, is_itself};
 use crate::sides::{Side, number_of};
 use abel_tree::{Expr, Extension, Member, Word};
-use name_ranges::range_list;
+use name_uses::range_list;
 use pld_base::{OutOfMemory, Place};
 use set_expr::{Scope, SectionFault};
 use std::alloc::Global;

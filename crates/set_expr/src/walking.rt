@@ -17,7 +17,7 @@ use crate::known::KnownNames;
 use crate::rules::{check_both, check_under};
 use crate::shaped::Shape;
 use abel_tree::{Expr, Member, Word};
-use name_ranges::range_list;
+use name_uses::range_list;
 use pld_base::{OutOfMemory, Place};
 use std::alloc::Global;
 

@@ -1,6 +1,6 @@
 //! Ranges of names.
 
-use name_ranges::range_list;
+use name_uses::range_list;
 use std::alloc::Global;
 use test_rows::Found;
 

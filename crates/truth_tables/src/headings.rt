@@ -19,7 +19,7 @@ ghost use Rattle.truth_tables.specs.Headers.{IsHeader, IsWholeHeader};
 
 use crate::header::{Header, list_aims, name_header};
 use abel_tree::{Expr, Extension, Member, Table, Word};
-use name_ranges::range_list;
+use name_uses::range_list;
 use pld_base::{OutOfMemory, Place};
 use pld_device::Device;
 use section_targets::{Assigned, check_aims, number_of, refuse_operator};

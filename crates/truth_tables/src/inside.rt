@@ -11,7 +11,7 @@ ghost use Rattle.truth_tables.specs.RowEntries.{operator_refused, names_refused,
 
 use crate::pulses::holds_pulse;
 use abel_tree::{Expr, Member, Word};
-use name_ranges::range_list;
+use name_uses::range_list;
 use pld_base::OutOfMemory;
 use set_expr::{Scope, SectionFault, earlier};
 use std::alloc::Global;

@@ -16,7 +16,7 @@ ghost use Rattle.truth_tables.specs.PartTerms.{HasWidth, IsContent, IsPart, AreP
 
 use crate::part::{Content, Part, Stand, innermost, shape_of, special, stand_of};
 use abel_tree::{Expr, Extension, Member, Word};
-use name_ranges::range_list;
+use name_uses::range_list;
 use pld_base::{OutOfMemory, Place};
 use set_expr::{Checked, Scope, Shape};
 use std::alloc::Global;

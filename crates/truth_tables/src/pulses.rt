@@ -9,7 +9,7 @@ ghost use Rattle.set_expr.specs.FoundNames.{names_found};
 ghost use Rattle.truth_tables.specs.RowEntries.{is_pulse_named, holds_pulse, member_holds_pulse};
 
 use abel_tree::{Expr, Member, Word};
-use name_ranges::range_list;
+use name_uses::range_list;
 use pld_base::OutOfMemory;
 use set_expr::Scope;
 use std::alloc::Global;

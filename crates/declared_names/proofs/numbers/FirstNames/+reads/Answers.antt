@@ -3,7 +3,7 @@ use Rattle.std.proofs.Common.{◌≡◌, ◌<◌, ◌≤◌, ◌-◌, [], ◌∷
 use Rattle.std.proofs.lemmas.List.{map_push}
 use Rattle.std.proofs.lemmas.List.Sums.{fold-append}
 use Rattle.std.proofs.lemmas.Result.{on_ok_weaker}
-use Rattle.name_ranges.specs.RangeParts.{name_items}
+use Rattle.name_uses.specs.RangeParts.{name_items}
 use Rattle.abel_tree.specs.Assigned.{signals_of_name, signals_of_names}
 use Rattle.abel_tree.specs.Ranges.{range_names}
 use Rattle.abel_tree.specs.Tree.{members_of}

@@ -1,7 +1,7 @@
 -- One item more.
 use Rattle.std.proofs.Common.{ap, ◌∙◌}
 use Rattle.abel_tree.specs.Assigned.{signals_of_name, signals_of_names}
-use Rattle.name_ranges.specs.RangeParts.{name_items}
+use Rattle.name_uses.specs.RangeParts.{name_items}
 use Rattle.declared_names.proofs.Pushes.{names_push}
 use Rattle.declared_names.specs.Marking.{hits, hit}
 use Rattle.declared_names.specs.Numbered.{numbered}

@@ -2,7 +2,7 @@
 use Rattle.std.proofs.Common.{◌≡◌, List, map, take}
 use Rattle.abel_tree.specs.Entries.{Entry}
 use Rattle.abel_tree.specs.Assigned.{signals_of_names}
-use Rattle.name_ranges.specs.RangeParts.{name_items}
+use Rattle.name_uses.specs.RangeParts.{name_items}
 use Rattle.declared_names.specs.Marking.{hits}
 use Rattle.declared_names.specs.Numbered.{numbered, IsNumbering}
 use Rattle.declared_names.proofs.numbers.FirstNames.mark_names.Given as goal

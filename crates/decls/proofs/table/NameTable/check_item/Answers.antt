@@ -7,7 +7,7 @@ use Rattle.decls.specs.Steps.{all_known, refuse_all}
 use Rattle.decls.specs.Refused.{refused_if, item_refused}
 use Rattle.decls.specs.declared.fault.NameFault.TheVariants as fault
 use Rattle.abel_tree.specs.Ranges.{is_bad}
-use Rattle.name_ranges.specs.RangeParts.{name_items}
+use Rattle.name_uses.specs.RangeParts.{name_items}
 use Rattle.decls.proofs.FirstStays.{at_behind, at_item}
 use Rattle.decls.proofs.LeftOut.{shows_behind}
 use Rattle.decls.proofs.Unknown.{item_known}

@@ -2,7 +2,7 @@
 use Rattle.std.proofs.Common.{map, subst, sym, ap, ap₂, ◌∙◌}
 use Rattle.std.specs.Prelude.{option_map}
 use Rattle.abel_tree.specs.Entries.{is_value}
-use Rattle.name_ranges.specs.RangeParts.{name_items, names_if_agree}
+use Rattle.name_uses.specs.RangeParts.{name_items, names_if_agree}
 use Rattle.decls.specs.Steps.{all_known}
 use Rattle.decls.specs.Shown.{Shows}
 use Rattle.decls.proofs.Required.{range_known, range_bad}

@@ -7,7 +7,7 @@ use Rattle.abel_tree.specs.declared.expressions.Expr.{size-Expr}
 use Rattle.abel_tree.specs.declared.expressions.Expr as expr
 use Rattle.abel_tree.specs.Ranges.{range_names}
 use Rattle.abel_tree.specs.View.{view, view_member}
-use Rattle.name_ranges.specs.RangeParts.{name_items}
+use Rattle.name_uses.specs.RangeParts.{name_items}
 use Rattle.design_checks.specs.LocatedUses.{located, member_located, range_located}
 use Rattle.design_checks.specs.Walked.{Shows, members_in, met}
 use Rattle.expr_bits.proofs.Views.{view_binary, view_set, view_span}

@@ -1,6 +1,6 @@
 -- One name more.
 use Rattle.std.proofs.Common.{fold, map, take, subst}
-use Rattle.name_ranges.specs.RangeParts.{name_items}
+use Rattle.name_uses.specs.RangeParts.{name_items}
 use Rattle.design_checks.specs.LocatedUses.{range_located}
 use Rattle.design_checks.specs.Walked.{Shows, met}
 use Rattle.design_checks.proofs.ItemWalks.{uses_more, name_located, range_push}

@@ -1,6 +1,6 @@
 -- The names that were met.
 use Rattle.std.proofs.Common.{fold, map, take, Option}
-use Rattle.name_ranges.specs.RangeParts.{name_items}
+use Rattle.name_uses.specs.RangeParts.{name_items}
 use Rattle.design_checks.specs.LocatedUses.{range_located}
 use Rattle.design_checks.specs.declared.refused.RefusedUse.{RefusedUse}
 use Rattle.design_checks.specs.Walked.{Asking, Shows, met}

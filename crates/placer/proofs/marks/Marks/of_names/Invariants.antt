@@ -1,7 +1,7 @@
 -- The mark of the names so far.
 use Rattle.std.proofs.Common.{map, take}
 use Rattle.abel_tree.specs.Assigned.{signals_of_names}
-use Rattle.name_ranges.specs.RangeParts.{name_items}
+use Rattle.name_uses.specs.RangeParts.{name_items}
 use Rattle.placer.specs.Marks.{IsMarkOf}
 use Rattle.placer.proofs.marks.Marks.of_names.Given as goal
 

@@ -1,8 +1,8 @@
 -- Both ends are runs of digits behind one stem.
 use Rattle.std.proofs.Common.{◌+◌, sym, ap, ap₂, ◌∙◌}
 use Rattle.std.specs.Str.{bytes_eq}
-use Rattle.name_ranges.proofs.Digits.{counted_range}
-use Rattle.name_ranges.proofs.ranges.range_count.Goals as goal
+use Rattle.name_uses.proofs.Digits.{counted_range}
+use Rattle.name_uses.proofs.ranges.range_count.Goals as goal
 
 pub returns-then-has_names : goal.returns-then-has_names
 returns-then-has_names c =

@@ -2,8 +2,8 @@
 use Rattle.std.proofs.Common.{◌≡◌, ◌++◌, map}
 use Rattle.std.specs.Fmt.{decimal}
 use Rattle.std.specs.List.{range_with_len}
-use Rattle.name_ranges.specs.RangeParts.{number_at, name_items}
-use Rattle.name_ranges.proofs.ranges.names_with.Given as goal
+use Rattle.name_uses.specs.RangeParts.{number_at, name_items}
+use Rattle.name_uses.proofs.ranges.names_with.Given as goal
 
 abbrev pub invariant-loop-place : goal.invariant-loop-place
 invariant-loop-place l = map name_items l.names.items ≡ map (λ k. l.stem ++ decimal (number_at l.first l.last k)) (range_with_len 0 l.place)

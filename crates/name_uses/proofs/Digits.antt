@@ -8,7 +8,7 @@ use Rattle.std.proofs.lemmas.List.Sums.{take_while-cons}
 use Rattle.std.proofs.Math.Seq.{drop-append_seam}
 use Rattle.std.specs.List.{range_with_len, take_while, prefix_len}
 use Rattle.abel_tree.specs.Ranges.{is_digit, last_digits, stem, is_run, number_of, numbers_between, ends_agree, names_between, range_names}
-use Rattle.name_ranges.specs.RangeParts.{number_at, end_number, names_if_agree}
+use Rattle.name_uses.specs.RangeParts.{number_at, end_number, names_if_agree}
 
 -- one byte more
 digits_chosen : (b : Bool) (x : ℕ) (xs ys : List ℕ) → reverse ys ≡ xs → reverse (cond b (x ∷ ys) []) ≡ cond b (xs ++ x ∷ []) []

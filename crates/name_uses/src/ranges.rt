@@ -3,7 +3,7 @@
 ghost use Rattle.std.specs.Prelude.{◌≡◌, ◌≤◌, ◌-◌, Option, Some, None, IfOk, IfSome, if◌then◌else◌, option_map, map, length, ◌++◌, nat_le, bytes_eq, [], ◌∷◌};
 ghost use Rattle.std.specs.Fmt.{decimal};
 ghost use Rattle.abel_tree.specs.Ranges.{last_digits, stem, is_run, number_of, range_names, ends_agree, numbers_between, is_bad, item_names};
-ghost use Rattle.name_ranges.specs.RangeParts.{end_number, number_at, names_if_agree, name_items};
+ghost use Rattle.name_uses.specs.RangeParts.{end_number, number_at, names_if_agree, name_items};
 
 use abel_tree::Item;
 use pld_base::{OutOfMemory, put_decimal};

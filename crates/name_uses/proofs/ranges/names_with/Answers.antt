@@ -3,9 +3,9 @@ use Rattle.std.proofs.Common.{[], ◌∷◌, ◌++◌, map, sym, ap, ap₂, ◌�
 use Rattle.std.specs.Fmt.{decimal}
 use Rattle.std.proofs.lemmas.List.{map-append}
 use Rattle.std.proofs.lemmas.List.FromFn.{map-range_with_len_more}
-use Rattle.name_ranges.specs.RangeParts.{number_at, name_items}
-use Rattle.name_ranges.proofs.Digits.{names_by_place}
-use Rattle.name_ranges.proofs.ranges.names_with.Goals as goal
+use Rattle.name_uses.specs.RangeParts.{number_at, name_items}
+use Rattle.name_uses.proofs.Digits.{names_by_place}
+use Rattle.name_uses.proofs.ranges.names_with.Goals as goal
 
 pub loop-place-preserved : goal.loop-place-preserved
 loop-place-preserved c =

@@ -1,8 +1,8 @@
 -- The digits stand behind the stem.
 use Rattle.std.proofs.Common.{Some, None, if◌then◌else◌, ap, ◌∙◌}
 use Rattle.abel_tree.specs.Ranges.{is_run, number_of}
-use Rattle.name_ranges.proofs.Digits.{digits_sliced}
-use Rattle.name_ranges.proofs.ranges.end_value.Goals as goal
+use Rattle.name_uses.proofs.Digits.{digits_sliced}
+use Rattle.name_uses.proofs.ranges.end_value.Goals as goal
 
 pub returns-clause-value : goal.returns-clause-value
 returns-clause-value c =

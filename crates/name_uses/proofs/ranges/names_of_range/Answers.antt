@@ -3,9 +3,9 @@ use Rattle.std.proofs.Common.{◌++◌, map, sym, ap, ap₂, ◌∙◌}
 use Rattle.std.specs.Fmt.{decimal}
 use Rattle.std.specs.Str.{bytes_eq}
 use Rattle.abel_tree.specs.Ranges.{numbers_between}
-use Rattle.name_ranges.specs.RangeParts.{name_items}
-use Rattle.name_ranges.proofs.Digits.{agreed}
-use Rattle.name_ranges.proofs.ranges.names_of_range.Goals as goal
+use Rattle.name_uses.specs.RangeParts.{name_items}
+use Rattle.name_uses.proofs.Digits.{agreed}
+use Rattle.name_uses.proofs.ranges.names_of_range.Goals as goal
 
 pub returns-then-is_same : goal.returns-then-is_same
 returns-then-is_same c =
