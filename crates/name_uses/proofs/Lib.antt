@@ -1,2 +1,4 @@
 pub mod Digits
 pub mod Listed
+mod Lists
+mod Unrolled

@@ -1,1 +1,5 @@
+pub mod NamesUsed
+pub mod Parts
 pub mod RangeParts
+pub mod Rolls
+pub mod Viewed

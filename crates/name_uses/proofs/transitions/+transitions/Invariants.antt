@@ -1,0 +1,10 @@
+-- The parts of those so far stand behind what was there.
+use Rattle.std.proofs.Common.{◌≡◌, ◌++◌, map, take}
+use Rattle.std.specs.List.{flat_map}
+use Rattle.abel_tree.specs.View.{view_choice}
+use Rattle.name_uses.specs.Parts.{parts_in_choice}
+use Rattle.name_uses.specs.Viewed.{view_part}
+use Rattle.name_uses.proofs.transitions.+transitions.Given as goal
+
+abbrev pub invariant-put_choices-loop-arm : goal.invariant-put_choices-loop-arm
+invariant-put_choices-loop-arm l = map view_part l.parts.items ≡ map view_part l.fn.parts.items ++ flat_map parts_in_choice (map view_choice (take l.arm-index l.arms))
