@@ -3,9 +3,9 @@
 ghost use Rattle.std.specs.Prelude.{◌≡◌, ℕ, List, [], ◌++◌, map, IfOk, OnOk};
 ghost use Rattle.pld_base.specs.declared.place.Place.{Place};
 ghost use Rattle.abel_tree.specs.Entries.{Entry};
-ghost use Rattle.abel_tree.specs.Ranges.{range_names};
 ghost use Rattle.abel_tree.specs.Tree.{members_of};
 ghost use Rattle.abel_tree.specs.View.{view, view_member};
+ghost use Rattle.name_uses.specs.RangeParts.{name_items};
 ghost use Rattle.set_expr.specs.FoundNames.{found_of, found_before, range_found, names_found};
 ghost use Rattle.set_expr.specs.KnownNames.{IsKnown, SumsUp};
 ghost use Rattle.set_expr.specs.Members.{AreSummedUp};
@@ -16,28 +16,27 @@ use crate::checking::{Members, check_special, checked_name, plain};
 use crate::known::KnownNames;
 use crate::rules::{check_both, check_under};
 use crate::shaped::Shape;
-use abel_tree::{Expr, Member, Word};
+use abel_tree::{Expr, Member};
 use name_uses::range_list;
 use pld_base::{OutOfMemory, Place};
 use std::alloc::Global;
 
-/// The names of a range as members of the set at this place.
-fn check_range(
-    alloc: Global,
+/// The names of a range, used at its first end, as members of the set at this place. Takes no memory.
+fn check_names(
     known: &KnownNames,
-    first: &Word,
-    last: &Word,
+    names: &[Vec<u8>],
+    at: Place,
     place: Place,
     before: Members,
-) -> Result<Members, OutOfMemory>
-    ensures { IfOk result (λ m. (es : List Entry) (fs : List Found) → IsKnown es known.now → AreSummedUp place before fs → AreSummedUp place m (fs ++ range_found (names_found es) first.now.place (range_names first.now.text last.now.text) [])) }
+) -> Members
+    ensures { (es : List Entry) (fs : List Found) → IsKnown es known.now → AreSummedUp place before fs
+        → AreSummedUp place result (fs ++ range_found (names_found es) at (map name_items names.now) []) }
 {
-    let names = range_list(alloc, first.text.bytes(), last.text.bytes())?;
     let mut members = before;
-    for name in &names {
-        members = members.with(place, checked_name(known, name.as_slice(), first.place));
+    for name in names {
+        members = members.with(place, checked_name(known, name.as_slice(), at));
     }
-    Ok(members)
+    members
 }
 
 /// One member more of the set at this place.
@@ -56,7 +55,10 @@ fn check_member(
             let part = check_expr(alloc, known, expr)?;
             Ok(before.with(place, part))
         }
-        Member::Span { first, last } => check_range(alloc, known, first, last, place, before),
+        Member::Span { first, last } => {
+            let names = range_list(alloc, first.text.bytes(), last.text.bytes())?;
+            Ok(check_names(known, names.as_slice(), first.place, place, before))
+        }
     }
 }
 
