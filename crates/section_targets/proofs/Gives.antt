@@ -66,7 +66,7 @@ one_kept d old new g a id e f = rw (e, f) refl
 part_kept : (old new : List Formula) (g : Giving) (id : ExprId) → formula_at new g.guard.when ≡ formula_at old g.guard.when → formula_at new id ≡ formula_at old id → one_part new g (formula_at new id) ≡ one_part old g (formula_at old id)
 part_kept old new g id e f = rw (e, f) refl
 
-pub each_append : (d : Context) (fs : List Formula) (g : Giving) (xs ys : List Aim) (bs cs : List Formula) → length xs ≡ length bs → each_given d fs g (xs ++ ys) (bs ++ cs) ≡ each_given d fs g xs bs ++ each_given d fs g ys cs
+each_append : (d : Context) (fs : List Formula) (g : Giving) (xs ys : List Aim) (bs cs : List Formula) → length xs ≡ length bs → each_given d fs g (xs ++ ys) (bs ++ cs) ≡ each_given d fs g xs bs ++ each_given d fs g ys cs
 each_append d fs g [] ys [] cs e = refl
 each_append d fs g [] ys (b ∷ bs) cs e = absurd (omega (arith, e))
 each_append d fs g (x ∷ xs) ys [] cs e = absurd (omega (arith, e))
@@ -89,7 +89,7 @@ each_parts d fs g xs ys ids more old new r e b =
     (subst (λ vs. Builds vs (each_given d fs g xs (map (formula_at fs) ids) ++ each_given d fs g ys (map (formula_at fs) more)) (places_of xs ++ places_of ys) old new r) (sym us) b))
 
 -- one signal more
-pub each_more : (d : Context) (fs : List Formula) (g : Giving) (xs : List Aim) (x : Aim) (ids : List ExprId) (id : ExprId) (old mid new : Contributions) (r : Result Unit SectionFault)
+each_more : (d : Context) (fs : List Formula) (g : Giving) (xs : List Aim) (x : Aim) (ids : List ExprId) (id : ExprId) (old mid new : Contributions) (r : Result Unit SectionFault)
     → Keeps fs (arena mid.exprs) → g.guard.when.0 < length fs → id.0 < length fs → length xs ≡ length ids
     → IsBuilt (each_part fs g (map (formula_at fs) ids)) (each_given d fs g xs (map (formula_at fs) ids)) (places_of xs) old mid
     → Builds (one_part (arena mid.exprs) g (formula_at (arena mid.exprs) id) ∷ []) (one_given d (arena mid.exprs) g x (formula_at (arena mid.exprs) id) ∷ []) (x.place ∷ []) mid new r
@@ -103,7 +103,7 @@ each_more d fs g xs x ids id old mid new r k h i e b c =
     (builds_then (each_part fs g (map (formula_at fs) ids)) (one_part fs g (formula_at fs id) ∷ []) (each_given d fs g xs (map (formula_at fs) ids)) (one_given d fs g x (formula_at fs id) ∷ []) (places_of xs) (x.place ∷ []) old mid new r b s)
 
 -- where one stops, those behind it aren't given
-pub each_stops : (d : Context) (fs : List Formula) (g : Giving) (xs ys : List Aim) (ids more : List ExprId) (old new : Contributions) (f : SectionFault) → length xs ≡ length ids
+each_stops : (d : Context) (fs : List Formula) (g : Giving) (xs ys : List Aim) (ids more : List ExprId) (old new : Contributions) (f : SectionFault) → length xs ≡ length ids
     → GivesEach d fs g xs ids old new (Err f) → GivesEach d fs g (xs ++ ys) (ids ++ more) old new (Err f)
 each_stops d fs g xs ys ids more old new f e s =
     each_parts d fs g xs ys ids more old new (Err f) e

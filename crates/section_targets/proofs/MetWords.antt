@@ -142,7 +142,7 @@ met_spread fs [] k n e = absurd cc
 met_spread fs (None ∷ ps) k n e = refl
 met_spread fs (Some id ∷ ps) k n e = refl
 
-pub met_single : (fs : List Formula) (s : Shaped) (v : Value) (w : List Formula) (k : ℕ) → s.shape ≡ shape.Single → answer.IsShaped fs s v w → met_word k v w ≡ replicate k (get_or (bits_at fs s.places) 0 (Const false))
+met_single : (fs : List Formula) (s : Shaped) (v : Value) (w : List Formula) (k : ℕ) → s.shape ≡ shape.Single → answer.IsShaped fs s v w → met_word k v w ≡ replicate k (get_or (bits_at fs s.places) 0 (Const false))
 met_single fs s v w k e is =
     let h = subst (λ (x : Shape). shapes.HasShape x v) e is.shape in
     ap₂ (λ a xs. met_by k a v.number xs) h (sym is.bits) ∙ met_spread fs s.places k v.number (is.positions ∙ ap answer.positions e)

@@ -189,7 +189,7 @@ stand_all count es ns h = subst (λ xs. StandFor count xs ns (known_of es)) (app
 both_assoc : (x y z : TargetFound) → targets_both (targets_both x y) z ≡ targets_both x (targets_both y z)
 both_assoc x y z = rw (append_assoc x.refusals y.refusals z.refusals, append_assoc x.aims y.aims z.aims) refl
 
-pub both_none : (x : TargetFound) → targets_both x (record { refusals = []; aims = [] }) ≡ x
+both_none : (x : TargetFound) → targets_both x (record { refusals = []; aims = [] }) ≡ x
 both_none x = rw (append-nil x.refusals, append-nil x.aims) refl
 
 pub members_more : (d : Context) (ms : List SetMember) (m : SetMember) → target_members d (members_of (ms ++ m ∷ [])) ≡ targets_both (target_members d (members_of ms)) (target_one d m)
@@ -197,12 +197,10 @@ members_more d [] m = both_none (target_one d m)
 members_more d (x ∷ ms) m =
     ap (targets_both (target_one d x)) (members_more d ms m) ∙ sym (both_assoc (target_one d x) (target_members d (members_of ms)) (target_one d m))
 
-pub range_more : (d : Context) (x : TargetFound) (p : Place) (names : List (List ℕ)) (n : List ℕ) → targets_both (targets_both x (target_range d p names)) (target_name d p p n) ≡ targets_both x (target_range d p (names ++ n ∷ []))
-range_more d x p names n = both_assoc x (target_range d p names) (target_name d p p n) ∙ ap (targets_both x) (sym (ranged names))
-  where
-    ranged : (names : List (List ℕ)) → target_range d p (names ++ n ∷ []) ≡ targets_both (target_range d p names) (target_name d p p n)
-    ranged [] = both_none (target_name d p p n)
-    ranged (y ∷ names) = ap (targets_both (target_name d p p y)) (ranged names) ∙ sym (both_assoc (target_name d p p y) (target_range d p names) (target_name d p p n))
+pub range_more : (d : Context) (p : Place) (names : List (List ℕ)) (n : List ℕ) → target_range d p (names ++ n ∷ []) ≡ targets_both (target_range d p names) (target_name d p p n)
+range_more d p [] n = both_none (target_name d p p n)
+range_more d p (x ∷ names) n =
+    ap (targets_both (target_name d p p x)) (range_more d p names n) ∙ sym (both_assoc (target_name d p p x) (target_range d p names) (target_name d p p n))
 
 -- nothing behind signals that are there
 pub signals_none : (count : ℕ) (n : NamedSignals) (xs : List ℕ) (b : Bool) → AreSignals count n xs b → AreSignals count n (xs ++ []) (b && true)

@@ -13,7 +13,7 @@ use Rattle.section_targets.specs.Appending.{Appends, Leaves}
 use Rattle.section_targets.specs.Building.{IsBuilt}
 use Rattle.section_targets.specs.Units.{part, is_past, limit_at, limit_refused}
 
-pub not_past : (count n : ℕ) → (PassesLimit MOST count n → ⊥) → is_past count n ≡ false
+not_past : (count n : ℕ) → (PassesLimit MOST count n → ⊥) → is_past count n ≡ false
 not_past count n h = past_by (nat_lt 0 n) (nat_lt MOST (count + n)) refl refl
   where
     past_by : (a b : Bool) → nat_lt 0 n ≡ a → nat_lt MOST (count + n) ≡ b → (a && b) ≡ false
@@ -21,7 +21,7 @@ not_past count n h = past_by (nat_lt 0 n) (nat_lt MOST (count + n)) refl refl
     past_by true false p q = refl
     past_by true true p q = absurd (h (grind (arith, nat_tests), grind (arith, nat_tests)))
 
-pub past : (count n : ℕ) → PassesLimit MOST count n → is_past count n ≡ true
+past : (count n : ℕ) → PassesLimit MOST count n → is_past count n ≡ true
 past count n h = grind (arith, nat_tests, h.0, h.1)
 
 -- nothing is appended where nodes alone are made

@@ -51,7 +51,7 @@ empty_append : (xs ys : List ℕ) → is_empty (xs ++ ys) ≡ is_empty xs && is_
 empty_append [] ys = refl
 empty_append (x ∷ xs) ys = refl
 
-pub empty_width : (xs : List ℕ) (w : ℕ) → w ≡ min (length xs) 255 → is_empty xs ≡ (w == 0)
+empty_width : (xs : List ℕ) (w : ℕ) → w ≡ min (length xs) 255 → is_empty xs ≡ (w == 0)
 empty_width [] w e = rw e refl
 empty_width (x ∷ xs) zero e = absurd (omega (arith, e))
 empty_width (x ∷ xs) (suc w) e = grind (arith, nat_tests)

@@ -11,7 +11,7 @@ use Rattle.abel_tree.proofs.FirstRefusals.{none_refused}
 use Rattle.abel_meaning.specs.Designs.{Context}
 use Rattle.abel_meaning.specs.Numbers.{Value, Set, member_width, width_of}
 use Rattle.abel_meaning.specs.Targets.{targets_of, all_targets, some_signals}
-use Rattle.abel_meaning.specs.Terms.{Term, Terms, X, Pulse, Release, NoTerm, Before, Known, extended_if, special_term, term_named, term_of, terms_of, member_before, named_before, term_meant, known_after, known_of}
+use Rattle.abel_meaning.specs.Terms.{Term, Terms, X, Pulse, Release, Before, Known, extended_if, special_term, term_named, term_of, terms_of, named_before, term_meant, known_after, known_of}
 use Rattle.abel_meaning.specs.Terms as term
 use Rattle.set_expr.specs.declared.fault.SectionFault.{SectionFault}
 use Rattle.set_expr.specs.declared.fault.SectionFault.TheVariants.{BadWidth, MisplacedSpecial}
@@ -173,7 +173,7 @@ names_few ns ks s (e ∷ es) h =
     names_few (ns ++ found_entry ns e ∷ []) (ks ++ record { name = e.name; term = term_meant ks s e.kind } ∷ []) (suc s) es
     (pushed_few ns ks (found_entry ns e) (record { name = e.name; term = term_meant ks s e.kind }) h refl (kind_few ns ks s e.kind (looked_few ns ks h)))
 
-pub all_few : (es : List Entry) → AreFewOf (names_found es) (known_of es)
+all_few : (es : List Entry) → AreFewOf (names_found es) (known_of es)
 all_few es = looked_few (names_found es) (known_of es) (names_few [] [] 0 es tt)
 
 -- ---- targets

@@ -31,6 +31,13 @@ pub struct Giving {
     pub what: Gives,
 }
 
+/// How signals are given values, over the names of their source.
+#[derive(Clone, Copy)]
+pub struct Giver<'a> {
+    pub scope: &'a Scope<'a>,
+    pub giving: Giving,
+}
+
 /// Whether the signal has `dc`.
 fn has_dc(attributes: Attributes) -> bool
     ensures { result ≡ has 16 attributes }
@@ -51,19 +58,20 @@ fn is_free(scope: &Scope<'_>, guard: Guard, signal: u32) -> bool
 
 /// Appends what a signal is given where the guard and this bit are 1.
 pub fn give(
-    scope: &Scope<'_>,
-    giving: Giving,
+    giver: &Giver<'_>,
     aim: Aim,
     bit: ExprId,
     exprs: &mut Exprs,
     list: &mut Vec<Contribution>,
 ) -> Result<(), SectionFault>
-    requires signal { aim.signal < length (entries_of scope.now) }
-    requires guard { giving.guard.when.0 < length (arena exprs.old) }
+    requires signal { aim.signal < length (entries_of giver.now.scope.now) }
+    requires guard { giver.now.giving.guard.when.0 < length (arena exprs.old) }
     requires bit { bit.0 < length (arena exprs.old) }
     ensures keeps { Keeps (arena exprs.old) (arena exprs.new) }
-    ensures builds { GivesOne scope.now giving aim bit exprs.old exprs.new list.old.items list.new.items result }
+    ensures builds { GivesOne giver.now.scope.now giver.now.giving aim bit
+        exprs.old exprs.new list.old.items list.new.items result }
 {
+    let giving = giver.giving;
     let when = add_node(exprs, Node::And(giving.guard.when, bit), giving.unit)?;
     list.push(Contribution {
         target: Target {
@@ -73,7 +81,7 @@ pub fn give(
         complement: giving.complement,
         clocked: giving.clocked,
         block: giving.guard.block,
-        dontcare: is_free(scope, giving.guard, aim.signal),
+        dontcare: is_free(giver.scope, giving.guard, aim.signal),
         what: giving.what,
         when,
         place: aim.place,
@@ -83,22 +91,22 @@ pub fn give(
 
 /// Appends what the signals of a target are given, each its bit, from the left.
 pub fn give_all(
-    scope: &Scope<'_>,
-    giving: Giving,
+    giver: &Giver<'_>,
     aims: &[Aim],
     bits: &[ExprId],
     exprs: &mut Exprs,
     list: &mut Vec<Contribution>,
 ) -> Result<(), SectionFault>
-    requires signals { AreNamed (length (entries_of scope.now)) aims.now }
-    requires guard { giving.guard.when.0 < length (arena exprs.old) }
+    requires signals { AreNamed (length (entries_of giver.now.scope.now)) aims.now }
+    requires guard { giver.now.giving.guard.when.0 < length (arena exprs.old) }
     requires bits { AreIn (length (arena exprs.old)) bits.now }
     requires each { length bits.now ≡ length aims.now }
     ensures keeps { Keeps (arena exprs.old) (arena exprs.new) }
-    ensures builds { GivesAll scope.now giving aims.now bits.now exprs.old exprs.new list.old.items list.new.items result }
+    ensures builds { GivesAll giver.now.scope.now giver.now.giving aims.now bits.now
+        exprs.old exprs.new list.old.items list.new.items result }
 {
     for index in 0..aims.len() {
-        give(scope, giving, aims[index], bits[index], exprs, list)?;
+        give(giver, aims[index], bits[index], exprs, list)?;
     }
     Ok(())
 }

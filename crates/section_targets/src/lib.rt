@@ -18,9 +18,9 @@ mod words;
 
 pub use aim::Aim;
 pub use assigned::Assigned;
-pub use giving::{Giving, give, give_all};
+pub use giving::{Giver, Giving, give, give_all};
 pub use guards::guard_else;
-pub use manner::Manner;
+pub use manner::{Manner, Way};
 pub use nodes::add_node;
 pub use outputs::check_aims;
 pub use section_scope::SectionScope;

@@ -15,6 +15,14 @@ pub struct Manner {
     pub clocked: bool,
 }
 
+/// How the signals of a target are assigned, or what its extension names of them.
+#[derive(Clone, Copy, PartialEq, Eq)]
+pub struct Way {
+    pub extension: Option<Extension>,
+    pub complement: bool,
+    pub clocked: bool,
+}
+
 /// What an extension names of a signal as a target: 0 is its data, the others are its controls.
 fn part(extension: Option<Extension>) -> u8
     ensures { result ≡ said.part_of extension }

@@ -1,17 +1,17 @@
 //! The signals of all names of a source, made once for all its targets.
 
-ghost use Rattle.std.specs.Prelude.{◌≡◌, ◌+◌, ◌<◌, ℕ, Bool, List, [], ◌∷◌, ◌++◌, ◌&&◌, IfOk, length};
+ghost use Rattle.std.specs.Prelude.{◌≡◌, ◌+◌, ◌<◌, ℕ, Bool, List, ◌++◌, ◌&&◌, IfOk, length, map};
 ghost use Rattle.abel_tree.specs.Entries.{entries_of, view_meaning};
-ghost use Rattle.abel_tree.specs.Ranges.{range_names};
 ghost use Rattle.abel_tree.specs.View.{view, view_member};
 ghost use Rattle.abel_meaning.specs.Targets.{some_signals, all_targets};
 ghost use Rattle.abel_meaning.specs.Terms.{Known, term_of, term_meant, known_of, named_before, member_before};
 ghost use Rattle.abel_meaning.specs.Terms as term;
+ghost use Rattle.name_uses.specs.RangeParts.{name_items};
 ghost use Rattle.section_targets.specs.NamedTargets.{AreSignals, IsOfTerm, StandFor};
 ghost use Rattle.section_targets.specs.TargetSignals.{all_name_signals};
 
 use crate::named::NamedSignals;
-use abel_tree::{Expr, Meaning, Member, Word};
+use abel_tree::{Expr, Meaning, Member};
 use name_uses::range_list;
 use pld_base::{ListOf, OutOfMemory};
 use set_expr::Scope;
@@ -123,24 +123,28 @@ fn named_member(
             let signals = named_expr(alloc, scope, named, expr)?;
             before.with(&signals)
         }
-        Member::Span { first, last } => named_range(alloc, scope, named, first, last, before),
+        Member::Span { first, last } => {
+            let names = range_list(alloc, first.text.bytes(), last.text.bytes())?;
+            with_names(scope, named, names.as_slice(), before)
+        }
     }
 }
 
-/// The names of a range more.
-fn named_range(
-    alloc: Global,
+/// These names more.
+fn with_names(
     scope: &Scope<'_>,
     named: &[NamedSignals],
-    first: &Word,
-    last: &Word,
+    names: &[Vec<u8>],
     before: NamedSignals,
 ) -> Result<NamedSignals, OutOfMemory>
-    ensures { IfOk result (λ n. (count : ℕ) (ks : List Known) (xs : List ℕ) (b : Bool) → StandFor count (entries_of scope.now) named.now ks → AreSignals count before xs b → AreSignals count n (xs ++ some_signals (all_targets (named_before ks (range_names first.now.text last.now.text) term.NoTerm))) (b && all_name_signals (named_before ks (range_names first.now.text last.now.text) term.NoTerm))) }
+    ensures { IfOk result (λ n. (count : ℕ) (ks : List Known) (xs : List ℕ) (b : Bool)
+        → StandFor count (entries_of scope.now) named.now ks → AreSignals count before xs b
+        → AreSignals count n
+        (xs ++ some_signals (all_targets (named_before ks (map name_items names.now) term.NoTerm)))
+        (b && all_name_signals (named_before ks (map name_items names.now) term.NoTerm))) }
 {
-    let names = range_list(alloc, first.text.bytes(), last.text.bytes())?;
     let mut signals = before;
-    for name in &names {
+    for name in names {
         signals = signals.with_name(scope, named, name.as_slice())?;
     }
     Ok(signals)

@@ -12,7 +12,7 @@ ghost use Rattle.section_targets.specs.Given.{AreNamed};
 
 use crate::aim::Aim;
 use crate::assigned::Assigned;
-use crate::manner::{Manner, names_data, takes_values};
+use crate::manner::{Manner, Way, names_data, takes_values};
 use abel_tree::{Attributes, Declared, Extension, Meaning};
 use bitflags::Flags;
 use pld_base::{OutOfMemory, Place};
@@ -127,27 +127,30 @@ fn refuse_aim<D: Device>(
     )
 }
 
-/// Checks the signals of a target, what an extension names of them or of their complement, on the clock or not,
-/// against what was assigned before, and notes how they are assigned. The first refusal by place comes.
+/// Checks the signals of a target that are assigned in this way against what was assigned before, and notes how they
+/// are assigned. The first refusal by place comes.
 pub fn check_aims<D: Device>(
     scope: &Scope<'_>,
-    extension: Option<Extension>,
-    complement: bool,
-    clocked: bool,
+    way: Way,
     aims: &[Aim],
     before: &mut Assigned,
 ) -> Result<Option<SectionFault>, OutOfMemory>
     requires { AreNamed (length (entries_of scope.now)) aims.now }
-    ensures fault { IfOk result (λ f. (d : Context) (all : List Manner) → IsContextOf D.table scope.now d → AreFirsts before.old all → f ≡ first_refusal section_order (aims_refused d all extension complement clocked aims.now)) }
-    ensures before { OnOk result ((all : List Manner) → AreFirsts before.old all → AreFirsts before.new (all ++ map (manner_of extension complement clocked) aims.now)) }
+    ensures fault { IfOk result (λ f. (d : Context) (all : List Manner)
+        → IsContextOf D.table scope.now d → AreFirsts before.old all
+        → f ≡ first_refusal section_order
+        (aims_refused d all way.extension way.complement way.clocked aims.now)) }
+    ensures before { OnOk result ((all : List Manner) → AreFirsts before.old all
+        → AreFirsts before.new
+        (all ++ map (manner_of way.extension way.complement way.clocked) aims.now)) }
 {
     let mut fault = None;
     for aim in aims {
         let manner = Manner {
             signal: aim.signal,
-            extension,
-            complement,
-            clocked,
+            extension: way.extension,
+            complement: way.complement,
+            clocked: way.clocked,
         };
         let declared = &scope.list()[aim.signal as usize];
         fault = earlier(fault, refuse_aim::<D>(before, declared, aim.place, manner));

@@ -69,6 +69,13 @@ fn refuse_wide(place: Place, width: u8) -> Option<SectionFault>
     }
 }
 
+/// Where a name is used, and where its signals stand.
+#[derive(Clone, Copy)]
+pub(crate) struct NamePlace {
+    pub(crate) used: Place,
+    pub(crate) signals: Place,
+}
+
 impl Side {
     /// No signal.
     pub(crate) fn none(alloc: Global) -> Side
@@ -109,23 +116,23 @@ impl Side {
         })
     }
 
-    /// The name with this text, used at a place, where its signals stand at another.
+    /// The name with this text, used at this place.
     pub(crate) fn of_name(
         alloc: Global,
         scope: &Scope<'_>,
         named: &[NamedSignals],
         text: &[u8],
-        place: Place,
-        signal_place: Place,
+        place: NamePlace,
     ) -> Result<Side, OutOfMemory>
-        ensures { IfOk result (λ s. (d : Context) → d.names ≡ entries_of scope.now → AreTargets d named.now → IsSide (length d.names) s (target_name d place signal_place text.now)) }
+        ensures { IfOk result (λ s. (d : Context) → d.names ≡ entries_of scope.now → AreTargets d named.now
+            → IsSide (length d.names) s (target_name d place.used place.signals text.now)) }
     {
-        let found = scope.check_name(text, place);
+        let found = scope.check_name(text, place.used);
         let none = NamedSignals::none(alloc, true);
         let signals = none.with_name(scope, named, text)?;
-        let mixed = refuse_mixed(signals.alone, signal_place, number_of(scope, text));
+        let mixed = refuse_mixed(signals.alone, place.signals, number_of(scope, text));
         let fault = earlier(found.fault, earlier(found.special, mixed));
-        Side::named(alloc, &signals, fault, signal_place)
+        Side::named(alloc, &signals, fault, place.signals)
     }
 
     /// With what is found of a member behind it.

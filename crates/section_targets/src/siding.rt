@@ -3,17 +3,17 @@
 ghost use Rattle.std.specs.Prelude.{◌≡◌, IfOk, length, map};
 ghost use Rattle.abel_tree.specs.Entries.{entries_of, find};
 ghost use Rattle.abel_meaning.specs.Terms.{term_named};
-ghost use Rattle.abel_tree.specs.Ranges.{range_names};
 ghost use Rattle.abel_tree.specs.Tree.{AName, members_of};
 ghost use Rattle.abel_tree.specs.View.{view, view_member};
 ghost use Rattle.abel_meaning.specs.Designs.{Context};
 ghost use Rattle.set_expr.specs.declared.fault.SectionFault.TheVariants.{NotAnOutput};
 ghost use Rattle.set_expr.specs.Answer.{first_place};
+ghost use Rattle.name_uses.specs.RangeParts.{name_items};
 ghost use Rattle.section_targets.specs.NamedTargets.{IsSide, AreTargets};
 ghost use Rattle.section_targets.specs.TargetSignals.{TargetFound, targets_both, target_range, target_one, target_member, target_members, target_set, left_side, first_name, is_itself, start_of};
 
 use crate::named::{NamedSignals, is_itself};
-use crate::sides::{Side, number_of};
+use crate::sides::{NamePlace, Side, number_of};
 use abel_tree::{Expr, Extension, Member, Word};
 use name_uses::range_list;
 use pld_base::{OutOfMemory, Place};
@@ -55,8 +55,11 @@ pub fn left_side(
 {
     match target {
         Expr::Name { word, extension: _ } => {
-            let at = start_of(scope, named, word, place);
-            Side::of_name(alloc, scope, named, word.text.bytes(), word.place, at)
+            let place = NamePlace {
+                used: word.place,
+                signals: start_of(scope, named, word, place),
+            };
+            Side::of_name(alloc, scope, named, word.text.bytes(), place)
         }
         Expr::Set {
             place: bracket,
@@ -112,7 +115,13 @@ fn name_side(
 {
     let text = word.text.bytes();
     match extension {
-        None => Side::of_name(alloc, scope, named, text, word.place, word.place),
+        None => {
+            let place = NamePlace {
+                used: word.place,
+                signals: word.place,
+            };
+            Side::of_name(alloc, scope, named, text, place)
+        }
         Some(_) => {
             let fault = SectionFault::NotAnOutput(word.place, number_of(scope, text));
             Ok(Side::refused(alloc, fault))
@@ -154,26 +163,32 @@ fn with_member(
             let side = member_side(alloc, scope, named, expr)?;
             before.with(&side)
         }
-        Member::Span { first, last } => with_range(alloc, scope, named, first, last, before),
+        Member::Span { first, last } => {
+            let names = range_list(alloc, first.text.bytes(), last.text.bytes())?;
+            let side = names_side(alloc, scope, named, names.as_slice(), first.place)?;
+            before.with(&side)
+        }
     }
 }
 
-/// The names of a range more, which all stand at its first end.
-fn with_range(
+/// Names that are all used at one place, where their signals stand.
+fn names_side(
     alloc: Global,
     scope: &Scope<'_>,
     named: &[NamedSignals],
-    first: &Word,
-    last: &Word,
-    before: Side,
+    names: &[Vec<u8>],
+    place: Place,
 ) -> Result<Side, OutOfMemory>
-    ensures { IfOk result (λ s. (d : Context) (x : TargetFound) → d.names ≡ entries_of scope.now → AreTargets d named.now → IsSide (length d.names) before x → IsSide (length d.names) s (targets_both x (target_range d first.now.place (range_names first.now.text last.now.text)))) }
+    ensures { IfOk result (λ s. (d : Context) → d.names ≡ entries_of scope.now → AreTargets d named.now
+        → IsSide (length d.names) s (target_range d place (map name_items names.now))) }
 {
-    let names = range_list(alloc, first.text.bytes(), last.text.bytes())?;
-    let mut side = before;
-    for name in &names {
-        let place = first.place;
-        let one = Side::of_name(alloc, scope, named, name.as_slice(), place, place)?;
+    let place = NamePlace {
+        used: place,
+        signals: place,
+    };
+    let mut side = Side::none(alloc);
+    for name in names {
+        let one = Side::of_name(alloc, scope, named, name.as_slice(), place)?;
         side = side.with(&one)?;
     }
     Ok(side)

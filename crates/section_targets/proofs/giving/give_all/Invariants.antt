@@ -12,4 +12,4 @@ use Rattle.section_targets.proofs.giving.give_all.Given as goal
 abbrev pub invariant-loop-index : goal.invariant-loop-index
 invariant-loop-index l =
     Keeps (arena l.initial.exprs) (arena l.exprs) ×
-    ((d : Context) → d.names ≡ entries_of l.scope → IsBuilt (each_part (arena l.initial.exprs) l.giving (map (formula_at (arena l.initial.exprs)) (take l.index l.bits))) (each_given d (arena l.initial.exprs) l.giving (take l.index l.aims) (map (formula_at (arena l.initial.exprs)) (take l.index l.bits))) (places_of (take l.index l.aims)) (record { exprs = l.initial.exprs; list = l.initial.list.items }) (record { exprs = l.exprs; list = l.list.items }))
+    ((d : Context) → d.names ≡ entries_of l.giver.scope.now → IsBuilt (each_part (arena l.initial.exprs) l.giver.giving (map (formula_at (arena l.initial.exprs)) (take l.index l.bits))) (each_given d (arena l.initial.exprs) l.giver.giving (take l.index l.aims) (map (formula_at (arena l.initial.exprs)) (take l.index l.bits))) (places_of (take l.index l.aims)) (record { exprs = l.initial.exprs; list = l.initial.list.items }) (record { exprs = l.exprs; list = l.list.items }))

@@ -1,11 +1,13 @@
 -- One member more.
-use Rattle.std.proofs.Common.{◌≡◌, ◌+◌, ◌++◌, ◌&&◌, [], ◌∷◌, true, ap, sym, ◌∙◌, subst, subst₂, take, map}
+use Rattle.std.proofs.Common.{◌≡◌, ◌+◌, ◌++◌, ◌&&◌, [], ◌∷◌, true, ap, ap₂, sym, ◌∙◌, subst, subst₂, take, map}
 use Rattle.std.proofs.lemmas.Result.{IfOk-weaker}
+use Rattle.abel_tree.specs.Ranges.{range_names}
 use Rattle.abel_tree.specs.Tree.{AParen, members_of}
 use Rattle.abel_tree.specs.View.{view, view_member}
 use Rattle.abel_meaning.specs.Targets.{all_targets, some_signals}
-use Rattle.abel_meaning.specs.Terms.{term_of, term_named, terms_of, member_before}
+use Rattle.abel_meaning.specs.Terms.{term_of, term_named, terms_of, member_before, named_before}
 use Rattle.abel_meaning.specs.Terms as term
+use Rattle.name_uses.specs.RangeParts.{name_items}
 use Rattle.section_targets.specs.NamedTargets.{AreSignals, IsOfTerm}
 use Rattle.section_targets.specs.TargetSignals.{all_name_signals}
 use Rattle.section_targets.proofs.NameTerms.{one_member, targets_more, alone_more}
@@ -22,13 +24,14 @@ named_member-returns-in_ok-signals-in-One t c =
     (one_member count n xs b (term_of ks (view c.in-One.expr)) (f count xs _ b _ s (c.in_ok-signals-in-One.ensures count ks h))))
     c.with.ensures
 
-pub named_member-returns-in-Span : goal.named_member-returns-in-Span
-named_member-returns-in-Span t c =
-    IfOk-weaker c.named_range.result _ _
+pub named_member-returns-in_ok-names-in-Span : goal.named_member-returns-in_ok-names-in-Span
+named_member-returns-in_ok-names-in-Span t c =
+    let whole = ap (map name_items) c.as_slice.ensures.value ∙ (c.in_ok-names-in-Span.ensures ∙ ap₂ range_names c.bytes.ensures c.bytes-in-Span.ensures) in
+    IfOk-weaker c.with_names.result _ _
     (λ n f count ks xs b h s.
     subst (λ m. AreSignals count n (xs ++ some_signals (all_targets (member_before ks m term.NoTerm))) (b && all_name_signals (member_before ks m term.NoTerm))) (sym (ap view_member c.in-Span.is ∙ view_span c.in-Span.first c.in-Span.last))
-    (f count ks xs b h s))
-    c.named_range.ensures
+    (subst (λ names. AreSignals count n (xs ++ some_signals (all_targets (named_before ks names term.NoTerm))) (b && all_name_signals (named_before ks names term.NoTerm))) whole (f count ks xs b h s)))
+    c.with_names.ensures
 
 pub named_expr-loop-member-init : goal.named_expr-loop-member-init
 named_expr-loop-member-init t c count ks h = c.none-signals.ensures count

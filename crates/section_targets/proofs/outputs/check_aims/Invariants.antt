@@ -10,5 +10,5 @@ use Rattle.section_targets.proofs.outputs.check_aims.Given as goal
 
 abbrev pub invariant-loop-aim : goal.invariant-loop-aim
 invariant-loop-aim g l =
-    ((all : List Manner) → AreFirsts l.initial.before all → AreFirsts l.before (all ++ map (manner_of l.extension l.complement l.clocked) (take l.aim-index l.aims)))
-    × ((d : Context) (all : List Manner) → IsContextOf g.D.Device.table l.scope d → AreFirsts l.initial.before all → l.fault ≡ first_refusal section_order (aims_refused d all l.extension l.complement l.clocked (take l.aim-index l.aims)))
+    ((all : List Manner) → AreFirsts l.initial.before all → AreFirsts l.before (all ++ map (manner_of l.way.extension l.way.complement l.way.clocked) (take l.aim-index l.aims)))
+    × ((d : Context) (all : List Manner) → IsContextOf g.D.Device.table l.scope d → AreFirsts l.initial.before all → l.fault ≡ first_refusal section_order (aims_refused d all l.way.extension l.way.complement l.way.clocked (take l.aim-index l.aims)))

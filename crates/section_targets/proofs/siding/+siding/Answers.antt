@@ -1,15 +1,17 @@
 -- What each variant is refused as, and one member more.
-use Rattle.std.proofs.Common.{◌≡◌, ◌+◌, ◌++◌, [], ◌∷◌, ap, sym, ◌∙◌, subst, length, take, map}
+use Rattle.std.proofs.Common.{◌≡◌, ◌+◌, ◌++◌, [], ◌∷◌, ap, ap₂, sym, ◌∙◌, subst, length, take, map}
 use Rattle.std.proofs.lemmas.Result.{IfOk-weaker}
+use Rattle.abel_tree.specs.Ranges.{range_names}
 use Rattle.abel_tree.specs.Tree.{ASet, members_of}
 use Rattle.abel_tree.specs.View.{view, view_member}
+use Rattle.name_uses.specs.RangeParts.{name_items}
 use Rattle.set_expr.specs.declared.fault.SectionFault.TheVariants.{NotAnOutput}
 use Rattle.set_expr.specs.Answer.{first_place}
 use Rattle.set_expr.proofs.FoundMembers.{front_more, whole_front}
 use Rattle.section_targets.specs.NamedTargets.{IsSide}
-use Rattle.section_targets.specs.TargetSignals.{target_member, target_members, target_one, target_set, targets_both, no_target, first_name}
+use Rattle.section_targets.specs.TargetSignals.{target_member, target_members, target_one, target_set, target_range, targets_both, no_target, first_name}
 use Rattle.section_targets.proofs.NameTerms.{members_more}
-use Rattle.expr_bits.proofs.Views.{view_number, view_special, view_set, view_unary, view_binary, view_one}
+use Rattle.expr_bits.proofs.Views.{view_number, view_special, view_set, view_unary, view_binary, view_one, view_span}
 use Rattle.section_targets.proofs.siding.+siding.Goals as goal
 
 pub member_side-returns-in-Number : goal.member_side-returns-in-Number
@@ -45,6 +47,16 @@ with_member-returns-in_ok-side-in-One t c =
     subst (λ m. IsSide (length d.names) s (targets_both x (target_one d m))) (sym (ap view_member c.in-One.is ∙ view_one c.in-One.expr))
     (f (length d.names) x (target_member d (view c.in-One.expr)) g (c.in_ok-side-in-One.ensures d k h)))
     c.with.ensures
+
+pub with_member-returns-in_ok-side-in-Span : goal.with_member-returns-in_ok-side-in-Span
+with_member-returns-in_ok-side-in-Span t c =
+    let whole = ap (map name_items) c.as_slice.ensures.value ∙ (c.in_ok-names-in-Span.ensures ∙ ap₂ range_names c.bytes.ensures c.bytes-in-Span.ensures) in
+    IfOk-weaker c.with-in-Span.result _ _
+    (λ s f d x k h g.
+    subst (λ m. IsSide (length d.names) s (targets_both x (target_one d m))) (sym (ap view_member c.in-Span.is ∙ view_span c.in-Span.first c.in-Span.last))
+    (f (length d.names) x (target_range d c.in-Span.first.place (range_names c.in-Span.first.text c.in-Span.last.text)) g
+    (subst (λ names. IsSide (length d.names) c.in_ok-side-in-Span.side (target_range d c.in-Span.first.place names)) whole (c.in_ok-side-in-Span.ensures d k h))))
+    c.with-in-Span.ensures
 
 pub set_side-loop-member-init : goal.set_side-loop-member-init
 set_side-loop-member-init t c d k h = c.none-side.ensures (length d.names)

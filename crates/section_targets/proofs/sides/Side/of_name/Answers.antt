@@ -20,14 +20,14 @@ returns c =
     IfOk-weaker c.named.result _ _
     (λ s f d k h.
     let w = c.args.text.now in
-    let q = c.args.signal_place in
+    let q = c.args.place.signals in
     let t = term_named d.known w in
-    let x = found_use c.args.place (name_found (names_found d.names) w) in
+    let x = found_use c.args.place.used (name_found (names_found d.names) w) in
     let n = c.in_ok-signals.ensures (length d.names) d.known [] true (subst (λ es. StandFor (length d.names) es c.args.named.now d.known) k h) (c.none-none.ensures (length d.names)) in
-    let found = subst (λ es. SumsUp c.check_name-found.result (found_use c.args.place (name_found (names_found es) w))) (sym k) c.check_name-found.ensures in
+    let found = subst (λ es. SumsUp c.check_name-found.result (found_use c.args.place.used (name_found (names_found es) w))) (sym k) c.check_name-found.ensures in
     let mixed = c.refuse_mixed-mixed.ensures ∙ ap₂ (λ b i. first_refusal section_order (if b then [] else NotAnOutput q i ∷ [])) n.alone (found_in w k c.number_of.ensures) in
     let inner = c.earlier.ensures ∙ ap₂ (earlier section_order) found.special mixed ∙ sym (first_append section_order x.specials (no_signals q (find d.names w) t)) in
-    f (length d.names) (target_name d c.args.place q w) (some_signals (targets_of t)) (names_signals t)
+    f (length d.names) (target_name d c.args.place.used q w) (some_signals (targets_of t)) (names_signals t)
     (c.earlier-fault.ensures ∙ ap₂ (earlier section_order) found.fault inner ∙ sym (first_append section_order x.refusals (x.specials ++ no_signals q (find d.names w) t)))
     refl n)
     c.named.ensures
