@@ -1,16 +1,15 @@
 -- What operators and sets make of bits are the bits of values.
-use Rattle.std.proofs.Common.{◌≡◌, ℕ, ◌+◌, ◌<◌, Bool, false, List, [], ◌∷◌, ◌++◌, length, map, replicate, Result, Ok, Err, refl, sym, ap, ap₂, ◌∙◌, subst, arith, length-append}
-use Rattle.std.proofs.lemmas.List.{length-map, length-replicate, map-append}
+use Rattle.std.proofs.Common.{◌≡◌, ℕ, ◌+◌, Bool, List, [], ◌∷◌, ◌++◌, length, Result, refl, sym, ap, ap₂, ◌∙◌, subst, arith, length-append}
+use Rattle.std.proofs.lemmas.List.{length-map, map-append}
 use Rattle.std.specs.Global.{Vec}
 use Rattle.bit_expr.specs.declared.fault.ExprFault.{ExprFault}
 use Rattle.bit_expr.specs.declared.node.ExprId.{ExprId}
 use Rattle.bit_expr.specs.declared.node.Node.{Node}
 use Rattle.bit_expr.specs.Arena.{arena, formula_at}
-use Rattle.bit_expr.specs.Folding.{Made}
 use Rattle.bit_expr.specs.Formulas.{Formula}
 use Rattle.abel_tree.specs.declared.words.Binary.{Binary}
 use Rattle.abel_tree.specs.declared.words.Unary.{Unary}
-use Rattle.abel_meaning.specs.BitWords.{Word, unary_word, relation_bit, operator_bits}
+use Rattle.abel_meaning.specs.BitWords.{Word, unary_word, relation_bit}
 use Rattle.abel_meaning.specs.FormulaBits.{kept_bits}
 use Rattle.abel_meaning.specs.Numbers.{Shape, Value, member_width, width_of, met_unknown, met_unknown_by, either_unknown}
 use Rattle.abel_meaning.specs.Numbers as number
@@ -19,10 +18,9 @@ use Rattle.expr_bits.specs.Making.{AllIn, word_at, ShowsAll, ShowsItems, ShowsOn
 use Rattle.expr_bits.specs.declared.forms.Bits.{Bits}
 use Rattle.expr_bits.specs.declared.forms.Form.{Form}
 use Rattle.expr_bits.specs.declared.forms.Form.TheVariants as form
-use Rattle.expr_bits.specs.Operators.{HasPositions, MeetsAs, operated_part, positions_of}
-use Rattle.expr_bits.specs.Parts.{Part, IsPart, under_part, width_of_two, word_in, relation_of, computed_value, joined_part}
-use Rattle.expr_bits.specs.Showing.{HasForm, HasUnknown, IsBits}
-use Rattle.expr_bits.proofs.WordLengths.{unary_length, operator_length}
+use Rattle.expr_bits.specs.Parts.{Part, IsPart, under_part, width_of_two, word_in, relation_of, joined_part}
+use Rattle.expr_bits.specs.Showing.{HasForm, HasUnknown}
+use Rattle.expr_bits.proofs.WordLengths.{unary_length}
 
 pub shown_length : (fs : List Formula) (ids : List ExprId) (w : Word) → ShowsAll fs ids w → length ids ≡ length w
 shown_length fs ids w s = sym (length-map ids (λ id. formula_at fs id)) ∙ ap length s.1

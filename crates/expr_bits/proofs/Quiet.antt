@@ -1,5 +1,5 @@
 -- What reads no leaf makes no node and is constant, and is the same under each extension with which it reads none.
-use Rattle.std.proofs.Common.{◌≡◌, ℕ, ◌||◌, Bool, true, false, Option, None, Some, [], ◌∷◌, ◌++◌, refl, sym, ap, ap₂, ◌∙◌, subst, arith}
+use Rattle.std.proofs.Common.{◌≡◌, ℕ, ◌||◌, Bool, true, false, Option, None, Some, [], ◌∷◌, ◌++◌, refl, sym, ap, ap₂, ◌∙◌, subst}
 use Rattle.bit_expr.specs.Arena.{arena}
 use Rattle.bit_expr.specs.Folding.{Made, free, ◌>>=◌}
 use Rattle.abel_tree.specs.declared.words.Binary.{Binary}

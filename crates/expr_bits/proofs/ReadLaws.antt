@@ -1,12 +1,12 @@
 -- What terms read, alone and one after another.
-use Rattle.std.proofs.Common.{◌≡◌, ℕ, ◌||◌, Bool, true, false, Option, None, Some, List, [], ◌∷◌, ◌++◌, refl, sym, ap, ap₂, ◌∙◌, append-nil}
+use Rattle.std.proofs.Common.{◌≡◌, ℕ, ◌||◌, Bool, false, Option, None, Some, List, [], ◌∷◌, ◌++◌, refl, sym, ap, ap₂, ◌∙◌}
 use Rattle.std.specs.List.{list_any}
 use Rattle.std.proofs.lemmas.List.Folds.{list_any-append}
 use Rattle.std.proofs.Math.Bool.{or-false}
 use Rattle.abel_tree.specs.declared.words.Extension.{Extension}
 use Rattle.abel_tree.specs.declared.words.Extension.TheVariants as extension
 use Rattle.abel_meaning.specs.Designs.{Context}
-use Rattle.abel_meaning.specs.Terms.{Term, Terms, NoTerm, Before, extended, extended_each, extended_if}
+use Rattle.abel_meaning.specs.Terms.{Term, Terms, NoTerm, Before, extended, extended_each}
 use Rattle.abel_meaning.specs.Terms as term
 use Rattle.expr_bits.specs.declared.reads.Reads.{Reads}
 use Rattle.expr_bits.specs.Members.{list_of}

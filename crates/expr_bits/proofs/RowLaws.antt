@@ -1,12 +1,11 @@
 -- Rows, by the places of their names.
-use Rattle.std.proofs.Common.{◌≡◌, ℕ, zero, suc, ◌+◌, ◌<◌, ◌≤◌, Option, None, Some, List, [], ◌∷◌, ◌++◌, IfSome, false, get_or, length, slice_get, take, refl, sym, ap, ◌∙◌, subst, arith}
+use Rattle.std.proofs.Common.{◌≡◌, ℕ, zero, suc, ◌+◌, ◌<◌, ◌≤◌, Option, None, Some, List, [], ◌∷◌, ◌++◌, IfSome, get_or, length, slice_get, take, refl, sym, ap, ◌∙◌, subst, arith}
 use Rattle.std.proofs.lemmas.Option.{slice_get_within, slice_get-get_or}
-use Rattle.abel_tree.specs.declared.words.Extension.{Extension}
 use Rattle.pld_device.specs.Table.{Table}
 use Rattle.abel_tree.specs.declared.names.Names.{Names}
 use Rattle.abel_tree.specs.Entries.{Entry, entries_of, find}
 use Rattle.abel_meaning.specs.Designs.{Context, name_at, no_name}
-use Rattle.abel_meaning.specs.Terms.{Number, Read, known_of, term_meant, term_named}
+use Rattle.abel_meaning.specs.Terms.{Read, known_of, term_meant, term_named}
 use Rattle.set_expr.specs.Contexts.{context_for}
 use Rattle.expr_bits.specs.declared.reads.Reads.{Reads}
 use Rattle.expr_bits.specs.declared.rows.Row.{Row}

@@ -25,16 +25,16 @@ pub tasks_last : (es : List Entry) (ws : List Work) (w : Work) → tasks_of es (
 tasks_last es ws w = ap (map (task_of es)) (reverse-append ws (w ∷ []))
 
 -- the values so far, and these tasks
-abbrev pub Walking : Context → (old now : List Node) → Vec Bits → List Task → Term → Type 0
-Walking d old now vs ts t = Going ShowsStack old now vs (after_all d ts) (pushed (term_part d t) [])
+abbrev pub Walking : Context → (old now : List Node) → Vec Bits → List Task → (whole : Task) → Type 0
+Walking d old now vs ts x = Going ShowsStack old now vs (after_all d ts) (after_task d x [])
 
-pub walking_start : (d : Context) (old : List Node) (vs : Vec Bits) (t : Term) → vs.items ≡ [] → Walking d old old vs (Push t ∷ []) t
-walking_start d old vs t e =
-    going_start ShowsStack old vs (after_all d (Push t ∷ [])) (pushed (term_part d t) []) []
+pub walking_start : (d : Context) (old : List Node) (vs : Vec Bits) (x : Task) → vs.items ≡ [] → Walking d old old vs (x ∷ []) x
+walking_start d old vs x e =
+    going_start ShowsStack old vs (after_all d (x ∷ [])) (after_task d x []) []
     (subst (λ bs. AreStacked (arena old) bs []) (sym e) tt) refl (omega arith)
 
-pub walking_standing : (d : Context) (old now : List Node) (vs : Vec Bits) (ts : List Task) (t : Term) → Walking d old now vs ts t → Standing (arena now) vs.items
-walking_standing d old now vs ts t g = record { parts = g.made; are = g.shows }
+pub walking_standing : (d : Context) (old now : List Node) (vs : Vec Bits) (ts : List Task) (x : Task) → Walking d old now vs ts x → Standing (arena now) vs.items
+walking_standing d old now vs ts x g = record { parts = g.made; are = g.shows }
 
 -- an expression in parts
 pub whole_turn : (d : Context) (us ts : List Task) (ps : List Part) → after_all d us ps ≡ after_all d ts ps → after_all d ts ps ≡ then_all d (free ps) us
@@ -42,8 +42,8 @@ whole_turn d us ts ps e =
     made_is _ _ (ap (λ (m : Made (List Part)). m.what) (sym e)) (omega (arith, ap (λ (m : Made (List Part)). m.nodes) e))
 
 -- the first task as another one that comes to the same
-pub walking_as : (d : Context) (old now : List Node) (vs : Vec Bits) (a b : Task) (ts : List Task) (t : Term) → ((ps : List Part) → after_task d a ps ≡ after_task d b ps) → Walking d old now vs (b ∷ ts) t → Walking d old now vs (a ∷ ts) t
-walking_as d old now vs a b ts t same g =
+pub walking_as : (d : Context) (old now : List Node) (vs : Vec Bits) (a b : Task) (ts : List Task) (x : Task) → ((ps : List Part) → after_task d a ps ≡ after_task d b ps) → Walking d old now vs (b ∷ ts) x → Walking d old now vs (a ∷ ts) x
+walking_as d old now vs a b ts x same g =
     let here : after_all d (b ∷ ts) g.made ≡ after_all d (a ∷ ts) g.made = ap (λ m. m >>= after_all d ts) (sym (same g.made)) in
     record {
       made = g.made;
@@ -56,12 +56,12 @@ walking_as d old now vs a b ts t same g =
     }
 
 -- a turn
-pub walking_turn : (d : Context) (old now new : List Node) (vs ws : Vec Bits) (es : List Entry) (next : Turn) (ts us : List Task) (t : Term) → (g : Walking d old now vs ts t) → ((ps : List Part) → after_all d ts ps ≡ then_all d (after_turn d es next ps) us) → Makes ShowsStack now new (Ok ws) (after_turn d es next g.made) → Walking d old new ws us t
-walking_turn d old now new vs ws es next ts us t g law m =
-    going_on ShowsStack ShowsStack ShowsStack old now new vs ws ws (after_all d ts) (pushed (term_part d t) []) (after_turn d es next g.made) (after_all d us) (after_turn d es next g.made).what
+pub walking_turn : (d : Context) (old now new : List Node) (vs ws : Vec Bits) (es : List Entry) (next : Turn) (ts us : List Task) (x : Task) → (g : Walking d old now vs ts x) → ((ps : List Part) → after_all d ts ps ≡ then_all d (after_turn d es next ps) us) → Makes ShowsStack now new (Ok ws) (after_turn d es next g.made) → Walking d old new ws us x
+walking_turn d old now new vs ws es next ts us x g law m =
+    going_on ShowsStack ShowsStack ShowsStack old now new vs ws ws (after_all d ts) (after_task d x []) (after_turn d es next g.made) (after_all d us) (after_turn d es next g.made).what
     g m m.shows (ap (λ (x : Made (List Part)). x.what) (law g.made)) (ap (λ (x : Made (List Part)). x.nodes) (law g.made))
 
-pub walking_stops : (d : Context) (old now new : List Node) (vs : Vec Bits) (e : ExprFault) (es : List Entry) (next : Turn) (ts us : List Task) (t : Term) → (g : Walking d old now vs ts t) → ((ps : List Part) → after_all d ts ps ≡ then_all d (after_turn d es next ps) us) → Makes {R = Vec Bits} ShowsStack now new (Err e) (after_turn d es next g.made) → Makes {R = Bits} IsPart old new (Err e) (term_part d t)
+pub walking_stops : (d : Context) (old now new : List Node) (vs : Vec Bits) (e : ExprFault) (es : List Entry) (next : Turn) (ts us : List Task) (t : Term) → (g : Walking d old now vs ts (Push t)) → ((ps : List Part) → after_all d ts ps ≡ then_all d (after_turn d es next ps) us) → Makes {R = Vec Bits} ShowsStack now new (Err e) (after_turn d es next g.made) → Makes {R = Bits} IsPart old new (Err e) (term_part d t)
 walking_stops d old now new vs e es next ts us t g law m =
     as_part e (going_stop ShowsStack ShowsStack ShowsStack old now new vs e (after_all d ts) (pushed (term_part d t) []) (after_turn d es next g.made) g m (omega (arith, ap (λ (x : Made (List Part)). x.nodes) (law g.made))))
   where
@@ -73,7 +73,7 @@ walking_stops d old now new vs e es next ts us t g law m =
 abbrev ShowsTop : List Formula → Bits → List Part → Type 0
 ShowsTop fs b ps = IsPart fs b (top ps)
 
-pub walking_done : (d : Context) (old now : List Node) (vs : Vec Bits) (b : Bits) (ts : List Task) (t : Term) → ts ≡ [] → (g : Walking d old now vs ts t) → IsPart (arena now) b (top g.made) → Makes IsPart old now (Ok b) (term_part d t)
+pub walking_done : (d : Context) (old now : List Node) (vs : Vec Bits) (b : Bits) (ts : List Task) (t : Term) → ts ≡ [] → (g : Walking d old now vs ts (Push t)) → IsPart (arena now) b (top g.made) → Makes IsPart old now (Ok b) (term_part d t)
 walking_done d old now vs b ts t e g is =
     let none : after_all d ts g.made ≡ free g.made = ap (λ us. after_all d us g.made) e in
     let whole : IsMade ShowsTop (arena old) (arena now) b (pushed (term_part d t) []) =

@@ -1,7 +1,8 @@
 -- Operators on two values make the bits of values.
-use Rattle.std.proofs.Common.{◌≡◌, ℕ, zero, suc, ◌+◌, Bool, false, List, [], ◌∷◌, length, map, replicate, Result, Ok, Err, refl, sym, ap, ap₂, ◌∙◌, subst, arith}
+use Rattle.std.proofs.Common.{◌≡◌, ℕ, zero, suc, ◌+◌, Bool, false, List, [], ◌∷◌, length, replicate, Err, refl, sym, ap, ◌∙◌, subst, arith}
 use Rattle.std.proofs.lemmas.List.{length-map, length-replicate}
 use Rattle.std.specs.Global.{Vec}
+use Rattle.bit_expr.specs.declared.fault.ExprFault.{ExprFault}
 use Rattle.bit_expr.specs.declared.node.ExprId.{ExprId}
 use Rattle.bit_expr.specs.declared.node.Node.{Node}
 use Rattle.bit_expr.specs.Arena.{arena, Grew}
@@ -9,16 +10,16 @@ use Rattle.bit_expr.specs.Folding.{Made, free, ◌>>=◌}
 use Rattle.bit_expr.specs.Formulas.{Formula, Const}
 use Rattle.abel_tree.specs.declared.words.Binary.{Binary}
 use Rattle.abel_meaning.specs.BitWords.{Word, operator_bits}
-use Rattle.abel_meaning.specs.FormulaBits.{met_by, met_word, resized, operator_word}
+use Rattle.abel_meaning.specs.FormulaBits.{met_by, resized, operator_word}
 use Rattle.abel_meaning.specs.Numbers.{Shape, Value, meeting, width_of, digits_low_first}
 use Rattle.abel_meaning.specs.Numbers as number
 use Rattle.abel_meaning.proofs.DigitLaws.{length_digits}
-use Rattle.expr_bits.specs.Making.{ShowsAll, ShowsItems, ShowsOne, IsMade}
-use Rattle.expr_bits.proofs.Making.{grew_none}
+use Rattle.expr_bits.specs.Making.{ShowsAll, ShowsItems, ShowsOne, IsMade, Makes}
+use Rattle.expr_bits.proofs.Making.{grew_none, stopped}
 use Rattle.expr_bits.specs.declared.forms.Bits.{Bits}
 use Rattle.expr_bits.specs.declared.forms.Form.{Form}
 use Rattle.expr_bits.specs.declared.forms.Form.TheVariants as form
-use Rattle.expr_bits.specs.Operators.{HasPositions, MeetsAs, operated_part, computed_part, positions_of}
+use Rattle.expr_bits.specs.Operators.{MeetsAs, computed_part, positions_of}
 use Rattle.expr_bits.specs.Parts.{Part, IsPart, with_value, number_part, width_of_two, word_in, computed_value}
 use Rattle.expr_bits.specs.Showing.{HasForm, HasUnknown, IsBits}
 use Rattle.expr_bits.proofs.OperatedBits.{shown_length}
@@ -49,28 +50,46 @@ word_long fs b p w is =
 
 -- ---- values that have bits
 
-width_positions : (f : Form) (v : Value) → MeetsAs f v → HasPositions f → width_of v.shape ≡ positions_of v.shape
-width_positions (form.Number n) v h p = absurd p
+-- not the form of a number
+abbrev IsNoNumber : Form → Type 0
+IsNoNumber f = (n : ℕ) → f ≡ form.Number n → ⊥
+
+no_number : (f : Form) (v : Value) → MeetsAs f v → IsNoNumber f → v.shape ≡ number.Number → ⊥
+no_number (form.Number n) v h p e = p n refl
+no_number form.Single v h p e = let s = h.0 in cc
+no_number form.Set v h p e = cc
+
+-- an operator on values that meet in positions works on their words
+by_shape : (sign : Binary) (s : Shape) (x y : Word) → (s ≡ number.Number → ⊥) → operator_bits sign x y ≡ operator_word sign s x y
+by_shape sign number.Number x y h = absurd (h refl)
+by_shape sign number.Single x y h = refl
+by_shape sign (number.Set w) x y h = refl
+
+operated_word : (sign : Binary) (f : Form) (p q : Part) → MeetsAs f (computed_value sign p q) → IsNoNumber f
+    → operator_bits sign (word_in (width_of_two p q) p) (word_in (width_of_two p q) q) ≡ operator_word sign (meeting p.value.shape q.value.shape) (word_in (width_of_two p q) p) (word_in (width_of_two p q) q)
+operated_word sign f p q meets plain = by_shape sign (meeting p.value.shape q.value.shape) _ _ (no_number f (computed_value sign p q) meets plain)
+
+width_positions : (f : Form) (v : Value) → MeetsAs f v → IsNoNumber f → width_of v.shape ≡ positions_of v.shape
+width_positions (form.Number n) v h p = absurd (p n refl)
 width_positions form.Single v h p = ap width_of h.0 ∙ sym (ap positions_of h.0)
 width_positions form.Set v h p = ap width_of h
 
-flags_are : (f : Form) (v : Value) (xs : List Bool) → HasPositions f → xs ≡ v.unknown → HasUnknown f v xs
-flags_are (form.Number n) v xs p e = absurd p
+flags_are : (f : Form) (v : Value) (xs : List Bool) → IsNoNumber f → xs ≡ v.unknown → HasUnknown f v xs
+flags_are (form.Number n) v xs p e = absurd (p n refl)
 flags_are form.Single v xs p e = e
 flags_are form.Set v xs p e = e
 
-pub operated_made : (old new : List Node) (left right made : Bits) (sign : Binary) (ids : Vec ExprId) (p q : Part) (width : ℕ) → width ≡ width_of_two p q → IsPart (arena old) left p → IsPart (arena old) right q
-    → IsMade ShowsItems (arena old) (arena new) ids (operator_bits sign (word_in width p) (word_in width q)) → made.word ≡ ids.items → made.unknown ≡ replicate width false → MeetsAs made.form (computed_value sign p q) → HasPositions made.form
-    → IsMade IsPart (arena old) (arena new) made (operated_part sign p q)
-operated_made old new left right made sign ids p q width w l r m words flags meets has =
-    let n = subst (λ k. IsMade ShowsItems (arena old) (arena new) ids (operator_bits sign (word_in k p) (word_in k q))) w m in
+pub operated_made : (old new : List Node) (left right made : Bits) (sign : Binary) (ids : Vec ExprId) (p q : Part) → IsPart (arena old) left p → IsPart (arena old) right q
+    → IsMade ShowsItems (arena old) (arena new) ids (operator_bits sign (word_in (width_of_two p q) p) (word_in (width_of_two p q) q)) → made.word ≡ ids.items → made.unknown ≡ replicate (width_of_two p q) false → MeetsAs made.form (computed_value sign p q) → IsNoNumber made.form
+    → IsMade IsPart (arena old) (arena new) made (computed_part sign p q)
+operated_made old new left right made sign ids p q l r n words known meets has =
     let wide = width_of_two p q in
     let pl = word_long (arena old) left p wide l in
     let ql = word_long (arena old) right q wide r in
     let long : length made.word ≡ wide = ap length words ∙ shown_length (arena new) ids.items (operator_bits sign (word_in wide p) (word_in wide q)).what n.shows ∙ operator_length sign (word_in wide p) (word_in wide q) (pl ∙ sym ql) ∙ pl in
     let at : positions_of (computed_value sign p q).shape ≡ length made.word = sym (width_positions made.form (computed_value sign p q) meets has) ∙ sym long in
-    let known : made.unknown ≡ replicate wide false = flags ∙ ap (λ k. replicate k false) w in
-    record {
+    subst (λ m. IsMade IsPart (arena old) (arena new) made (with_value (computed_value sign p q) m)) (operated_word sign made.form p q meets has)
+    (record {
       shows = record {
         form = subst (λ k. HasForm made.form (computed_value sign p q) k) at meets;
         unknown = flags_are made.form (computed_value sign p q) made.unknown has known;
@@ -79,7 +98,13 @@ operated_made old new left right made sign ids p q width w l r m words flags mee
       };
       grew = n.grew;
       within = n.within;
-    }
+    })
+
+pub operated_stops : (old new : List Node) (sign : Binary) (f : Form) (p q : Part) (e : ExprFault) → MeetsAs f (computed_value sign p q) → IsNoNumber f
+    → Makes {R = Vec ExprId} ShowsItems old new (Err e) (operator_bits sign (word_in (width_of_two p q) p) (word_in (width_of_two p q) q)) → Makes {R = Bits} IsPart old new (Err e) (computed_part sign p q)
+operated_stops old new sign f p q e meets plain m =
+    let word = operated_word sign f p q meets plain in
+    stopped ShowsItems IsPart old new e _ (computed_part sign p q) m (omega (arith, ap (λ (x : Made Word). x.nodes) word))
 
 -- ---- one bit
 

@@ -1,5 +1,5 @@
 -- How long the words are that operators make.
-use Rattle.std.proofs.Common.{◌≡◌, suc, List, [], ◌∷◌, false, true, length, map, refl, sym, ap, ◌∙◌, arith}
+use Rattle.std.proofs.Common.{◌≡◌, suc, [], ◌∷◌, false, true, length, map, refl, sym, ap, ◌∙◌, arith}
 use Rattle.std.proofs.lemmas.List.{length-map}
 use Rattle.bit_expr.specs.Folding.{Made, ◌>>=◌, make_not, make_and, make_or, make_xor}
 use Rattle.bit_expr.specs.Formulas.{Formula, Const}

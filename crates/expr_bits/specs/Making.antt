@@ -1,5 +1,5 @@
 -- What making bits in the arena leaves (this project's rule).
-use Rattle.std.specs.Prelude.{◌≡◌, ℕ, ◌<◌, List, [], ◌∷◌, length, map, slice_get, Some, Result, Ok, Err}
+use Rattle.std.specs.Prelude.{◌≡◌, ℕ, ◌<◌, List, [], ◌∷◌, length, map, Result, Ok, Err}
 use Rattle.std.specs.Global.{Vec}
 use Rattle.bit_expr.specs.Arena.{arena, formula_at, MOST, Grew, PassesLimit}
 use Rattle.bit_expr.specs.Folding.{Made}
@@ -9,10 +9,7 @@ use Rattle.bit_expr.specs.declared.fault.ExprFault.TheVariants as fault
 use Rattle.bit_expr.specs.declared.node.ExprId.{ExprId}
 use Rattle.bit_expr.specs.declared.node.Node.{Node}
 use Rattle.abel_meaning.specs.BitWords.{Word}
-
--- what was there stands under its id
-abbrev pub Keeps : (old new : List Formula) → Type 0
-Keeps old new = (i : ℕ) (f : Formula) → slice_get old i ≡ Some f → slice_get new i ≡ Some f
+use Rattle.set_expr.specs.Answer.{Keeps}
 
 -- making so many nodes in an arena of these formulas passes the limit
 abbrev pub IsPast : List Formula → ℕ → Type 0

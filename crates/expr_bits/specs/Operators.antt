@@ -1,14 +1,12 @@
 -- Private: operators on two values by kind (this project's rule).
-use Rattle.std.specs.Prelude.{ℕ, false, true, [], ◌∷◌}
+use Rattle.std.specs.Prelude.{ℕ, false, true}
 use Rattle.bit_expr.specs.Folding.{Made}
 use Rattle.abel_tree.specs.declared.words.Binary.{Binary}
-use Rattle.abel_meaning.specs.BitWords.{operator_bits}
 use Rattle.abel_meaning.specs.FormulaBits.{binary_word}
 use Rattle.abel_meaning.specs.Numbers.{Shape, Number, Single, Set, Value, meeting}
 use Rattle.abel_meaning.specs.Values.{binary_by}
 use Rattle.expr_bits.specs.declared.forms.Form.{Form}
-use Rattle.expr_bits.specs.declared.forms.Form.TheVariants as form
-use Rattle.expr_bits.specs.Parts.{Part, with_value, width_of_two, word_in, computed_value}
+use Rattle.expr_bits.specs.Parts.{Part, with_value}
 use Rattle.expr_bits.specs.Showing.{HasForm}
 
 -- how many positions the bits of a shape have
@@ -21,12 +19,6 @@ positions_of (Set w) = w
 abbrev pub MeetsAs : Form → Value → Type 0
 MeetsAs f v = HasForm f v (positions_of v.shape)
 
--- a number has no position
-abbrev pub HasPositions : Form → Type 0
-HasPositions (form.Number n) = ⊥
-HasPositions form.Single = Unit {0}
-HasPositions form.Set = Unit {0}
-
 -- a relation
 abbrev pub related_part : Binary → Part → Part → Made Part
 related_part sign p q =
@@ -38,9 +30,3 @@ abbrev pub computed_part : Binary → Part → Part → Made Part
 computed_part sign p q =
     with_value (binary_by false sign p.value q.value)
     (binary_word false sign (meeting p.value.shape q.value.shape) p.value q.value p.word q.word)
-
--- and of values that have bits
-abbrev pub operated_part : Binary → Part → Part → Made Part
-operated_part sign p q =
-    with_value (computed_value sign p q)
-    (operator_bits sign (word_in (width_of_two p q) p) (word_in (width_of_two p q) q))

@@ -5,7 +5,7 @@ use Rattle.bit_expr.specs.Folding.{Made}
 use Rattle.bit_expr.specs.Formulas.{Formula}
 use Rattle.abel_tree.specs.declared.words.Binary.{Binary}
 use Rattle.abel_tree.specs.declared.words.Unary.{Unary}
-use Rattle.abel_meaning.specs.BitWords.{Word, unary_word, relation_bit, operator_bits}
+use Rattle.abel_meaning.specs.BitWords.{Word, unary_word, relation_bit}
 use Rattle.abel_meaning.specs.FormulaBits.{binary_word, kept_bits, met_word}
 use Rattle.abel_meaning.specs.Numbers.{Value, meeting, member_width, width_of, met_unknown, either_unknown}
 use Rattle.abel_meaning.specs.Values.{is_relation, plain_value, binary_value, unary_value, operator_value, joined_value, no_position}

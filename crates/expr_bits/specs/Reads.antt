@@ -1,6 +1,6 @@
 -- What values read: a signal at all, and a leaf under an extension at the signals that have none (ABEL-HDL Reference
 -- Manual, constants and extensions; that only leaves make nodes is this project's rule).
-use Rattle.std.specs.Prelude.{◌≡◌, ℕ, Bool, true, false, ◌||◌, Option, None, Some, List}
+use Rattle.std.specs.Prelude.{◌≡◌, Bool, true, false, ◌||◌, Option, None, Some, List}
 use Rattle.std.specs.List.{list_any}
 use Rattle.abel_tree.specs.declared.words.Extension.{Extension}
 use Rattle.abel_tree.specs.declared.words.Extension.TheVariants as extension

@@ -46,13 +46,13 @@ named_term es k e = extended_if e (here_term es k (slice_get es k))
 
 -- what work over these names is
 abbrev pub task_of : List Entry → Work → Task
-task_of es (work.Whole expr extension count) = Push (extended_if extension (term_of (known_of (take count es)) (view expr.now)))
+task_of es (work.Whole expr o) = Push (extended_if o.extension (term_of (known_of (take o.count es)) (view expr.now)))
 task_of es (work.Named k e) = Push (named_term es k e)
 task_of es (work.Do s) = Do s
 
 -- and what a turn is
 abbrev pub task_of_turn : List Entry → Turn → Task
-task_of_turn es (turn.Expands expr extension count) = Push (extended_if extension (term_of (known_of (take count es)) (view expr.now)))
+task_of_turn es (turn.Expands expr o) = Push (extended_if o.extension (term_of (known_of (take o.count es)) (view expr.now)))
 task_of_turn es (turn.Does s) = Do s
 task_of_turn es (turn.Keeps b k e) = Push (named_term es k e)
 
@@ -62,7 +62,7 @@ tasks_of es ws = map (task_of es) (reverse ws)
 
 -- the values after a turn: an expression alone adds none
 abbrev pub after_turn : Context → List Entry → Turn → List Part → Made (List Part)
-after_turn d es (turn.Expands expr extension count) ps = free ps
+after_turn d es (turn.Expands expr o) ps = free ps
 after_turn d es (turn.Does s) ps = after_step d s ps
 after_turn d es (turn.Keeps b k e) ps = pushed (term_part d (named_term es k e)) ps
 

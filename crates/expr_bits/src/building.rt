@@ -1,15 +1,14 @@
 //! Steps over a stack of values.
 
-ghost use Rattle.std.specs.Prelude.{◌≡◌, List, ◌∷◌, IfOk};
+ghost use Rattle.std.specs.Prelude.{List, ◌∷◌, IfOk};
 ghost use Rattle.bit_expr.specs.declared.node.Node.{Node as ANode};
 ghost use Rattle.bit_expr.specs.Arena.{arena};
 ghost use Rattle.bit_expr.specs.Formulas.{Formula};
-ghost use Rattle.abel_meaning.specs.Designs.{Context};
 ghost use Rattle.expr_bits.specs.Making.{Makes};
-ghost use Rattle.set_expr.specs.Answer.{IsContextOf};
+ghost use Rattle.set_expr.specs.Contexts.{context_for};
 ghost use Rattle.expr_bits.specs.Parts.{Part, IsPart, under_part, both_part, no_part};
 ghost use Rattle.expr_bits.specs.Stacks.{AreStacked, ShowsStack, Standing};
-ghost use Rattle.expr_bits.specs.Steps.{top, below, pushed, made_normal, joins, after_step, read_part};
+ghost use Rattle.expr_bits.specs.Steps.{top, below, pushed, made_normal, joins, after_step};
 
 use crate::forms::Bits;
 use crate::leaves::{number_bits, one_bit};
@@ -17,7 +16,7 @@ use crate::reading::read;
 use crate::sets::{empty_set, with_member};
 use crate::step::Step;
 use crate::value_operators::{both, under};
-use abel_tree::{Binary, Extension, Unary};
+use abel_tree::{Binary, Unary};
 use bit_expr::{ExprFault, ExprId, Exprs};
 use pld_base::{ListOf, OutOfMemory};
 use pld_device::Device;
@@ -117,23 +116,6 @@ fn build_set(alloc: Global, count: usize, values: Vec<Bits>) -> Result<Vec<Bits>
     put(values, whole)
 }
 
-/// What a name reads, on top.
-fn build_read<D: Device>(
-    alloc: Global,
-    scope: &Scope<'_>,
-    exprs: &mut Exprs,
-    signal: u32,
-    extension: Option<Extension>,
-    values: Vec<Bits>,
-) -> Result<Vec<Bits>, ExprFault>
-    requires values { Standing (arena exprs.old) values.items }
-    ensures { (d : Context) (ps : List Part) → IsContextOf D.table scope.now d → AreStacked (arena exprs.old) values.items ps → Makes ShowsStack exprs.old exprs.new result (pushed (read_part d signal extension) ps) }
-{
-    let bits = read::<D>(alloc, scope, exprs, signal, extension)?;
-    let values = put(values, bits)?;
-    Ok(values)
-}
-
 /// The values after a step.
 pub(crate) fn build<D: Device>(
     alloc: Global,
@@ -143,7 +125,8 @@ pub(crate) fn build<D: Device>(
     values: Vec<Bits>,
 ) -> Result<Vec<Bits>, ExprFault>
     requires values { Standing (arena exprs.old) values.items }
-    ensures { (d : Context) (ps : List Part) → IsContextOf D.table scope.now d → AreStacked (arena exprs.old) values.items ps → Makes ShowsStack exprs.old exprs.new result (after_step d step ps) }
+    ensures { (ps : List Part) → AreStacked (arena exprs.old) values.items ps
+        → Makes ShowsStack exprs.old exprs.new result (after_step (context_for D.table scope.now) step ps) }
 {
     match step {
         Step::Number(number) => Ok(put(values, number_bits(alloc, number))?),
@@ -152,7 +135,8 @@ pub(crate) fn build<D: Device>(
             Ok(put(values, bits)?)
         }
         Step::Read(signal, extension) => {
-            build_read::<D>(alloc, scope, exprs, signal, extension, values)
+            let bits = read::<D>(alloc, scope, exprs, signal, extension)?;
+            Ok(put(values, bits)?)
         }
         Step::Under(sign) => build_under(alloc, exprs, sign, values),
         Step::Both(sign) => build_both(alloc, exprs, sign, values),

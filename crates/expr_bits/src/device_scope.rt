@@ -19,6 +19,7 @@ use crate::reading_names::expr_reads;
 use crate::rows::Row;
 use crate::shaping::shaped;
 use crate::walking::walk;
+use crate::work::{Outer, Work};
 use abel_tree::Expr;
 use bit_expr::{ExprFault, Exprs};
 use pld_base::{ListOf, OutOfMemory};
@@ -94,7 +95,12 @@ impl<'a, D: Device> DeviceScope<'a, D> {
     fn whole(&self, alloc: Global, expr: &Expr, exprs: &mut Exprs) -> Result<Bits, ExprFault>
         ensures { Makes IsPart exprs.old exprs.new result (term_part (context_for D.table self.now) (term_of (known_of (entries_of self.now)) (view expr.now))) }
     {
-        walk::<D>(alloc, &self.scope, self.rows(), expr, None, exprs)
+        let rows = self.rows();
+        let outer = Outer {
+            extension: None,
+            count: rows.len(),
+        };
+        walk::<D>(alloc, &self.scope, rows, Work::Whole(expr, outer), exprs)
     }
 
     /// The bits of an expression of which nothing is refused, so that only `NodeLimit` or want of memory can come. Each read

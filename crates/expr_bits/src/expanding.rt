@@ -2,12 +2,12 @@
 
 ghost use Rattle.std.specs.Prelude.{◌≡◌, List, [], ◌∷◌, ◌++◌, map, take, IfOk};
 ghost use Rattle.abel_tree.specs.Entries.{entries_of};
-ghost use Rattle.abel_tree.specs.Ranges.{range_names};
 ghost use Rattle.abel_tree.specs.Tree.{members_of};
 ghost use Rattle.abel_tree.specs.View.{view, view_member};
 ghost use Rattle.abel_meaning.specs.Designs.{Context};
 ghost use Rattle.abel_meaning.specs.Terms.{Term, extended_if, known_of, member_before, named_before, special_term, term_of, terms_of};
 ghost use Rattle.abel_meaning.specs.Terms as term;
+ghost use Rattle.name_uses.specs.RangeParts.{name_items};
 ghost use Rattle.expr_bits.specs.Parts.{Part};
 ghost use Rattle.expr_bits.specs.Named.{ComeTo};
 ghost use Rattle.expr_bits.specs.Members.{each_extended, list_of};
@@ -16,8 +16,8 @@ ghost use Rattle.expr_bits.specs.Steps.{Do, Push, after_all, after_task};
 
 use crate::naming::name_work;
 use crate::step::Step;
-use crate::work::Work;
-use abel_tree::{Expr, Extension, Member, Word};
+use crate::work::{Outer, Work};
+use abel_tree::{Expr, Extension, Member};
 use name_uses::range_list;
 use pld_base::OutOfMemory;
 use set_expr::Scope;
@@ -33,22 +33,20 @@ fn inner_first(inner: Option<Extension>, outer: Option<Extension>) -> Option<Ext
     }
 }
 
-/// The names of a range behind other members.
-fn with_range<'a>(
-    alloc: Global,
+/// Names behind other members.
+fn with_names<'a>(
     scope: &Scope<'a>,
-    first: &Word,
-    last: &Word,
-    extension: Option<Extension>,
-    count: usize,
+    names: &[Vec<u8>],
+    outer: Outer,
     before: Vec<Work<'a>>,
 ) -> Result<Vec<Work<'a>>, OutOfMemory>
-    ensures { IfOk result (λ ws. (ts : List Term) → ComeTo (entries_of scope.now) before.entry.items ts → ComeTo (entries_of scope.now) ws.items (ts ++ each_extended extension (list_of (named_before (known_of (take count (entries_of scope.now))) (range_names first.now.text last.now.text) term.NoTerm)))) }
+    ensures { IfOk result (λ ws. (ts : List Term) → ComeTo (entries_of scope.now) before.entry.items ts
+        → ComeTo (entries_of scope.now) ws.items (ts ++ each_extended outer.extension (list_of (named_before
+        (known_of (take outer.count (entries_of scope.now))) (map name_items names.now) term.NoTerm)))) }
 {
-    let list = range_list(alloc, first.text.bytes(), last.text.bytes())?;
     let mut works = before;
-    for name in &list {
-        works.push(name_work(scope, name.as_slice(), extension, count))?;
+    for name in names {
+        works.push(name_work(scope, name.as_slice(), outer))?;
     }
     Ok(works)
 }
@@ -58,20 +56,22 @@ fn with_member<'a>(
     alloc: Global,
     scope: &Scope<'a>,
     member: &'a Member,
-    extension: Option<Extension>,
-    count: usize,
+    outer: Outer,
     before: Vec<Work<'a>>,
 ) -> Result<Vec<Work<'a>>, OutOfMemory>
-    ensures { IfOk result (λ ws. (ts : List Term) → ComeTo (entries_of scope.now) before.entry.items ts → ComeTo (entries_of scope.now) ws.items (ts ++ each_extended extension (list_of (member_before (known_of (take count (entries_of scope.now))) (view_member member.now) term.NoTerm)))) }
+    ensures { IfOk result (λ ws. (ts : List Term) → ComeTo (entries_of scope.now) before.entry.items ts
+        → ComeTo (entries_of scope.now) ws.items (ts ++ each_extended outer.extension (list_of (member_before
+        (known_of (take outer.count (entries_of scope.now))) (view_member member.now) term.NoTerm)))) }
 {
     match member {
         Member::One(expr) => {
             let mut works = before;
-            works.push(Work::Whole(expr, extension, count))?;
+            works.push(Work::Whole(expr, outer))?;
             Ok(works)
         }
         Member::Span { first, last } => {
-            with_range(alloc, scope, first, last, extension, count, before)
+            let names = range_list(alloc, first.text.bytes(), last.text.bytes())?;
+            with_names(scope, names.as_slice(), outer, before)
         }
     }
 }
@@ -81,14 +81,15 @@ fn member_works<'a>(
     alloc: Global,
     scope: &Scope<'a>,
     members: &'a [Member],
-    extension: Option<Extension>,
-    count: usize,
+    outer: Outer,
 ) -> Result<Vec<Work<'a>>, OutOfMemory>
-    ensures { IfOk result (λ ws. ComeTo (entries_of scope.now) ws.items (each_extended extension (list_of (terms_of (known_of (take count (entries_of scope.now))) (members_of (map view_member members.now)))))) }
+    ensures { IfOk result (λ ws. ComeTo (entries_of scope.now) ws.items (each_extended outer.extension (list_of
+        (terms_of (known_of (take outer.count (entries_of scope.now)))
+        (members_of (map view_member members.now)))))) }
 {
     let mut works = Vec::new(alloc);
     for member in members {
-        works = with_member(alloc, scope, member, extension, count, works)?;
+        works = with_member(alloc, scope, member, outer, works)?;
     }
     Ok(works)
 }
@@ -107,13 +108,16 @@ fn expand_set<'a>(
     alloc: Global,
     scope: &Scope<'a>,
     members: &'a [Member],
-    extension: Option<Extension>,
-    count: usize,
+    outer: Outer,
     work: Vec<Work<'a>>,
 ) -> Result<Vec<Work<'a>>, OutOfMemory>
-    ensures { IfOk result (λ new. (d : Context) (ps : List Part) → after_all d (tasks_of (entries_of scope.now) new.items) ps ≡ after_all d (Push (extended_if extension (term.Set (terms_of (known_of (take count (entries_of scope.now))) (members_of (map view_member members.now))))) ∷ tasks_of (entries_of scope.now) work.entry.items) ps) }
+    ensures { IfOk result (λ new. (d : Context) (ps : List Part)
+        → after_all d (tasks_of (entries_of scope.now) new.items) ps
+        ≡ after_all d (Push (extended_if outer.extension (term.Set
+        (terms_of (known_of (take outer.count (entries_of scope.now))) (members_of (map view_member members.now)))))
+        ∷ tasks_of (entries_of scope.now) work.entry.items) ps) }
 {
-    let mut parts = member_works(alloc, scope, members, extension, count)?;
+    let mut parts = member_works(alloc, scope, members, outer)?;
     let mut work = first_of(work, Work::Do(Step::Joins(parts.as_slice().len())))?;
     parts.reverse();
     work.extend_from_slice(parts.as_slice())?;
@@ -125,11 +129,14 @@ pub(crate) fn expand<'a>(
     alloc: Global,
     scope: &Scope<'a>,
     expr: &'a Expr,
-    extension: Option<Extension>,
-    count: usize,
+    outer: Outer,
     work: Vec<Work<'a>>,
 ) -> Result<Vec<Work<'a>>, OutOfMemory>
-    ensures { IfOk result (λ new. (d : Context) (ps : List Part) → after_all d (tasks_of (entries_of scope.now) new.items) ps ≡ after_all d (Push (extended_if extension (term_of (known_of (take count (entries_of scope.now))) (view expr.now))) ∷ tasks_of (entries_of scope.now) work.entry.items) ps) }
+    ensures { IfOk result (λ new. (d : Context) (ps : List Part)
+        → after_all d (tasks_of (entries_of scope.now) new.items) ps
+        ≡ after_all d (Push (extended_if outer.extension
+        (term_of (known_of (take outer.count (entries_of scope.now))) (view expr.now)))
+        ∷ tasks_of (entries_of scope.now) work.entry.items) ps) }
 {
     match expr {
         Expr::Number(number) => first_of(work, Work::Do(Step::Number(number.value))),
@@ -138,8 +145,11 @@ pub(crate) fn expand<'a>(
             word,
             extension: own,
         } => {
-            let extension = inner_first(*own, extension);
-            let next = name_work(scope, word.text.bytes(), extension, count);
+            let outer = Outer {
+                extension: inner_first(*own, outer.extension),
+                count: outer.count,
+            };
+            let next = name_work(scope, word.text.bytes(), outer);
             first_of(work, next)
         }
         Expr::Set {
@@ -147,19 +157,20 @@ pub(crate) fn expand<'a>(
             members,
             extension: own,
         } => {
-            let extension = inner_first(*own, extension);
-            expand_set(alloc, scope, members.as_slice(), extension, count, work)
+            let outer = Outer {
+                extension: inner_first(*own, outer.extension),
+                count: outer.count,
+            };
+            expand_set(alloc, scope, members.as_slice(), outer, work)
         }
-        Expr::Paren { place: _, inner } => {
-            first_of(work, Work::Whole(inner.get(), extension, count))
-        }
+        Expr::Paren { place: _, inner } => { first_of(work, Work::Whole(inner.get(), outer)) }
         Expr::Unary {
             sign,
             place: _,
             inner,
         } => {
             let work = first_of(work, Work::Do(Step::Under(*sign)))?;
-            first_of(work, Work::Whole(inner.get(), extension, count))
+            first_of(work, Work::Whole(inner.get(), outer))
         }
         Expr::Binary {
             sign,
@@ -168,8 +179,8 @@ pub(crate) fn expand<'a>(
             right,
         } => {
             let work = first_of(work, Work::Do(Step::Both(*sign)))?;
-            let work = first_of(work, Work::Whole(right.get(), extension, count))?;
-            first_of(work, Work::Whole(left.get(), extension, count))
+            let work = first_of(work, Work::Whole(right.get(), outer))?;
+            first_of(work, Work::Whole(left.get(), outer))
         }
     }
 }

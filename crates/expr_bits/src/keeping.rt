@@ -17,6 +17,7 @@ use crate::reads::Reads;
 use crate::rows::Row;
 use crate::sources::source_of;
 use crate::walking::walk;
+use crate::work::{Outer, Work};
 use abel_tree::{Declared, Expr, Extension, Meaning};
 use bit_expr::{ExprFault, Exprs};
 use pld_base::OutOfMemory;
@@ -62,7 +63,11 @@ fn bits_alone<D: Device>(
     ensures { IfOk result (λ o. IsKeptIf (context_for D.table scope.now) o (term_of (known_of (take (length rows.now) (entries_of scope.now))) (view expr.now))) }
 {
     let mut exprs = Exprs::new(alloc);
-    match walk::<D>(alloc, scope, rows, expr, extension, &mut exprs) {
+    let outer = Outer {
+        extension,
+        count: rows.len(),
+    };
+    match walk::<D>(alloc, scope, rows, Work::Whole(expr, outer), &mut exprs) {
         Ok(bits) => Ok(Some(bits)),
         Err(ExprFault::NodeLimit) => Ok(None),
         Err(ExprFault::OutOfMemory) => Err(OutOfMemory),

@@ -30,7 +30,7 @@ mod work;
 
 pub use compare::relation_word;
 pub use device_scope::DeviceScope;
-pub use dropping::kept_relation;
+pub use dropping::{Compared, kept_relation};
 pub use forms::{Bits, Form};
 pub use leaves::one_bit;
 pub use meeting::{dropped, meet_word, width_of_both};

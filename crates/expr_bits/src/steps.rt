@@ -20,19 +20,31 @@ pub(crate) enum Step {
     Sum,
 }
 
-/// A sum's bit and the carry that goes on; no carry leaves the last position.
-fn sum_step(
-    exprs: &mut Exprs,
-    last: bool,
+/// What is made along two words, and what is carried to their first position.
+#[derive(Clone, Copy)]
+pub(crate) struct Sweep {
+    pub step: Step,
+    pub carry: ExprId,
+}
+
+/// The bits of two words at one position, and what is carried to it.
+#[derive(Clone, Copy)]
+struct Column {
     x: ExprId,
     y: ExprId,
     carry: ExprId,
-) -> Result<(ExprId, ExprId), ExprFault>
-    requires x { x.0 < length (arena exprs.old) }
-    requires y { y.0 < length (arena exprs.old) }
-    requires carry { carry.0 < length (arena exprs.old) }
-    ensures { Makes ShowsTwo exprs.old exprs.new result (sum_step last (formula_at (arena exprs.old) x) (formula_at (arena exprs.old) y) (formula_at (arena exprs.old) carry)) }
+}
+
+/// A sum's bit and the carry that goes on; no carry leaves the last position.
+fn sum_step(exprs: &mut Exprs, last: bool, column: Column) -> Result<(ExprId, ExprId), ExprFault>
+    requires x { column.x.0 < length (arena exprs.old) }
+    requires y { column.y.0 < length (arena exprs.old) }
+    requires carry { column.carry.0 < length (arena exprs.old) }
+    ensures { Makes ShowsTwo exprs.old exprs.new result (sum_step last
+        (formula_at (arena exprs.old) column.x) (formula_at (arena exprs.old) column.y)
+        (formula_at (arena exprs.old) column.carry)) }
 {
+    let Column { x, y, carry } = column;
     let bit = sum_bit(exprs, x, y, carry)?;
     if last {
         Ok((bit, carry))
@@ -47,15 +59,16 @@ fn step_by(
     exprs: &mut Exprs,
     step: Step,
     last: bool,
-    x: ExprId,
-    y: ExprId,
-    carry: ExprId,
+    column: Column,
 ) -> Result<(ExprId, ExprId), ExprFault>
-    requires x { x.0 < length (arena exprs.old) }
-    requires y { y.0 < length (arena exprs.old) }
-    requires carry { carry.0 < length (arena exprs.old) }
-    ensures { Makes ShowsTwo exprs.old exprs.new result (step_by step last (formula_at (arena exprs.old) x) (formula_at (arena exprs.old) y) (formula_at (arena exprs.old) carry)) }
+    requires x { column.x.0 < length (arena exprs.old) }
+    requires y { column.y.0 < length (arena exprs.old) }
+    requires carry { column.carry.0 < length (arena exprs.old) }
+    ensures { Makes ShowsTwo exprs.old exprs.new result (step_by step last
+        (formula_at (arena exprs.old) column.x) (formula_at (arena exprs.old) column.y)
+        (formula_at (arena exprs.old) column.carry)) }
 {
+    let Column { x, y, carry } = column;
     match step {
         Step::Not => {
             let bit = exprs.add(Node::Not(x))?;
@@ -77,7 +90,7 @@ fn step_by(
             let bit = same_bit(exprs, x, y)?;
             Ok((bit, carry))
         }
-        Step::Sum => sum_step(exprs, last, x, y, carry),
+        Step::Sum => sum_step(exprs, last, column),
     }
 }
 
@@ -85,28 +98,27 @@ fn step_by(
 pub(crate) fn along(
     alloc: Global,
     exprs: &mut Exprs,
-    step: Step,
-    carry: ExprId,
+    sweep: Sweep,
     first: &[ExprId],
     second: &[ExprId],
 ) -> Result<Vec<ExprId>, ExprFault>
-    requires carry { carry.0 < length (arena exprs.old) }
+    requires carry { sweep.carry.0 < length (arena exprs.old) }
     requires first { AllIn (length (arena exprs.old)) first.now }
     requires second { AllIn (length (arena exprs.old)) second.now }
     requires same { length first.now ≡ length second.now }
-    ensures { Makes ShowsItems exprs.old exprs.new result (along step (formula_at (arena exprs.old) carry) (word_at (arena exprs.old) first.now) (word_at (arena exprs.old) second.now)) }
+    ensures { Makes ShowsItems exprs.old exprs.new result (along sweep.step
+        (formula_at (arena exprs.old) sweep.carry)
+        (word_at (arena exprs.old) first.now) (word_at (arena exprs.old) second.now)) }
 {
     let mut found = Vec::new(alloc);
-    let mut carry = carry;
+    let mut carry = sweep.carry;
     for i in 0..first.len() {
-        let made = step_by(
-            exprs,
-            step,
-            i + 1 == first.len(),
-            first[i],
-            second[i],
+        let column = Column {
+            x: first[i],
+            y: second[i],
             carry,
-        )?;
+        };
+        let made = step_by(exprs, sweep.step, i + 1 == first.len(), column)?;
         found.push(made.0)?;
         carry = made.1;
     }

@@ -12,14 +12,14 @@ ghost use Rattle.expr_bits.specs.Still.{AreRows, IsHeld};
 use crate::forms::Bits;
 use crate::rows::{Row, bits_at};
 use crate::step::Step;
-use crate::work::Work;
+use crate::work::{Outer, Work};
 use abel_tree::{Expr, Extension, Meaning};
 use set_expr::Scope;
 
 /// An expression comes to its parts, a step is done, or the bits that are kept of a name are taken.
 #[derive(Clone, Copy)]
 pub(crate) enum Turn<'a, 'kept> {
-    Expands(&'a Expr, Option<Extension>, usize),
+    Expands(&'a Expr, Outer),
     Does(Step),
     Keeps(&'kept Bits, u32, Option<Extension>),
 }
@@ -36,7 +36,10 @@ fn declared_turn<'a, 'kept>(
     match meaning {
         Meaning::Pin { pin: _, negated: _ } => Turn::Does(Step::Read(number, extension)),
         Meaning::Node(_) => Turn::Does(Step::Read(number, extension)),
-        Meaning::Constant(expr) => Turn::Expands(expr, extension, number as usize),
+        Meaning::Constant(expr) => {
+            let count = number as usize;
+            Turn::Expands(expr, Outer { extension, count })
+        }
         Meaning::DeviceName => Turn::Does(Step::Number(0)),
     }
 }
@@ -82,7 +85,7 @@ pub(crate) fn turn_of<'a, 'kept>(
     ensures held { (d : Context) → AreRows (entries_of scope.now) d 0 rows.now → IsHeld (entries_of scope.now) d result }
 {
     match next {
-        Work::Whole(expr, extension, count) => Turn::Expands(expr, extension, count),
+        Work::Whole(expr, outer) => Turn::Expands(expr, outer),
         Work::Named(number, extension) => kept_turn(scope, rows, number, extension),
         Work::Do(step) => Turn::Does(step),
     }

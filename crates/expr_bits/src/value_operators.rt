@@ -1,16 +1,16 @@
 //! Operators on values as bits.
 
-ghost use Rattle.std.specs.Prelude.{◌≡◌, ℕ, Bool, List, false, length};
+ghost use Rattle.std.specs.Prelude.{ℕ, Bool, List, false};
 ghost use Rattle.bit_expr.specs.Arena.{arena};
 ghost use Rattle.abel_meaning.specs.BitWords.{operator_bits};
 ghost use Rattle.abel_meaning.specs.Numbers.{Value};
 ghost use Rattle.abel_meaning.specs.Values.{unary_value};
 ghost use Rattle.expr_bits.specs.Making.{Makes, ShowsItems, ShowsOne};
 ghost use Rattle.expr_bits.specs.Showing.{HasForm, HasUnknown};
-ghost use Rattle.expr_bits.specs.Operators.{HasPositions, MeetsAs, related_part, computed_part, operated_part};
-ghost use Rattle.expr_bits.specs.Parts.{Part, IsPart, Stands, under_part, both_part, relation_of, word_in, computed_value};
+ghost use Rattle.expr_bits.specs.Operators.{MeetsAs, related_part, computed_part};
+ghost use Rattle.expr_bits.specs.Parts.{Part, IsPart, Stands, under_part, both_part, relation_of, width_of_two, word_in, computed_value};
 
-use crate::dropping::kept_relation;
+use crate::dropping::{Compared, kept_relation};
 use crate::forms::{Bits, Form};
 use crate::leaves::{number_bits, one_bit};
 use crate::meeting::{dropped, meet_word, spread_flag, width_of_both};
@@ -62,14 +62,12 @@ fn related_bit(
     let first = meet_word(alloc, left, width)?;
     let second = meet_word(alloc, right, width)?;
     let flags = dropped(alloc, left, right, width)?;
-    kept_relation(
-        alloc,
-        exprs,
-        sign,
-        flags.as_slice(),
-        first.as_slice(),
-        second.as_slice(),
-    )
+    let words = Compared {
+        dropped: flags.as_slice(),
+        first: first.as_slice(),
+        second: second.as_slice(),
+    };
+    kept_relation(alloc, exprs, sign, &words)
 }
 
 /// A relation of two values.
@@ -89,45 +87,24 @@ fn related(
     Ok(bits)
 }
 
-/// The word of two values that have bits.
+/// The word of two values that have bits, in the positions that they meet in.
 fn computed_word(
     alloc: Global,
     exprs: &mut Exprs,
     sign: Binary,
     left: &Bits,
     right: &Bits,
-    width: usize,
 ) -> Result<Vec<ExprId>, ExprFault>
     requires left { Stands (arena exprs.old) left.now }
     requires right { Stands (arena exprs.old) right.now }
-    ensures { (p q : Part) → IsPart (arena exprs.old) left.now p → IsPart (arena exprs.old) right.now q → Makes ShowsItems exprs.old exprs.new result (operator_bits sign (word_in width p) (word_in width q)) }
+    ensures { (p q : Part) → IsPart (arena exprs.old) left.now p → IsPart (arena exprs.old) right.now q
+        → Makes ShowsItems exprs.old exprs.new result
+        (operator_bits sign (word_in (width_of_two p q) p) (word_in (width_of_two p q) q)) }
 {
+    let width = width_of_both(left, right);
     let first = meet_word(alloc, left, width)?;
     let second = meet_word(alloc, right, width)?;
     operator_word(alloc, exprs, sign, first.as_slice(), second.as_slice())
-}
-
-/// An operator on values that have bits, in so many positions.
-fn computed_bits(
-    alloc: Global,
-    exprs: &mut Exprs,
-    sign: Binary,
-    form: Form,
-    left: &Bits,
-    right: &Bits,
-) -> Result<Bits, ExprFault>
-    requires left { Stands (arena exprs.old) left.now }
-    requires right { Stands (arena exprs.old) right.now }
-    ensures { (p q : Part) → IsPart (arena exprs.old) left.now p → IsPart (arena exprs.old) right.now q → MeetsAs form (computed_value sign p q) → HasPositions form → Makes IsPart exprs.old exprs.new result (operated_part sign p q) }
-{
-    let width = width_of_both(left, right);
-    let flags = spread_flag(alloc, false, width)?;
-    let word = computed_word(alloc, exprs, sign, left, right, width)?;
-    Ok(Bits {
-        form,
-        word: ListOf::from_vec(word),
-        unknown: ListOf::from_vec(flags),
-    })
 }
 
 /// The form of two operands that meet.
@@ -161,10 +138,18 @@ fn computed(
     requires right { Stands (arena exprs.old) right.now }
     ensures { (p q : Part) → IsPart (arena exprs.old) left.now p → IsPart (arena exprs.old) right.now q → Makes IsPart exprs.old exprs.new result (computed_part sign p q) }
 {
-    match form_of_both(sign, left.form, right.form) {
+    let form = form_of_both(sign, left.form, right.form);
+    match form {
         Form::Number(number) => Ok(number_bits(alloc, number)),
-        Form::Single => computed_bits(alloc, exprs, sign, Form::Single, left, right),
-        Form::Set => computed_bits(alloc, exprs, sign, Form::Set, left, right),
+        _ => {
+            let unknown = spread_flag(alloc, false, width_of_both(left, right))?;
+            let word = computed_word(alloc, exprs, sign, left, right)?;
+            Ok(Bits {
+                form,
+                word: ListOf::from_vec(word),
+                unknown: ListOf::from_vec(unknown),
+            })
+        }
     }
 }
 

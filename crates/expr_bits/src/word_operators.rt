@@ -7,7 +7,7 @@ ghost use Rattle.abel_meaning.specs.BitWords.{each_not, difference_bits, operato
 ghost use Rattle.expr_bits.specs.Making.{Makes, ShowsItems, AllIn, word_at};
 
 use crate::positions::spread_word;
-use crate::steps::{Step, along};
+use crate::steps::{Step, Sweep, along};
 use abel_tree::{Binary, Unary};
 use bit_expr::{ExprFault, ExprId, Exprs};
 use std::alloc::Global;
@@ -16,6 +16,43 @@ use std::alloc::Global;
 pub(crate) const ZERO: ExprId = ExprId(0);
 
 pub(crate) const ONE: ExprId = ExprId(1);
+
+/// What goes along two words with nothing carried to the first position.
+const NOT: Sweep = Sweep {
+    step: Step::Not,
+    carry: ZERO,
+};
+
+const AND: Sweep = Sweep {
+    step: Step::And,
+    carry: ZERO,
+};
+
+const OR: Sweep = Sweep {
+    step: Step::Or,
+    carry: ZERO,
+};
+
+const XOR: Sweep = Sweep {
+    step: Step::Xor,
+    carry: ZERO,
+};
+
+const XNOR: Sweep = Sweep {
+    step: Step::Xnor,
+    carry: ZERO,
+};
+
+const SUM: Sweep = Sweep {
+    step: Step::Sum,
+    carry: ZERO,
+};
+
+/// A sum and 1 more.
+const SUM_AND_ONE: Sweep = Sweep {
+    step: Step::Sum,
+    carry: ONE,
+};
 
 /// The complement of each position.
 pub fn complement_word(
@@ -26,7 +63,7 @@ pub fn complement_word(
     requires { AllIn (length (arena exprs.old)) word.now }
     ensures { Makes ShowsItems exprs.old exprs.new result (each_not (word_at (arena exprs.old) word.now)) }
 {
-    along(alloc, exprs, Step::Not, ZERO, word, word)
+    along(alloc, exprs, NOT, word, word)
 }
 
 /// So many zeros.
@@ -51,7 +88,7 @@ pub fn difference_word(
     ensures { Makes ShowsItems exprs.old exprs.new result (difference_bits (word_at (arena exprs.old) first.now) (word_at (arena exprs.old) second.now)) }
 {
     let complement = complement_word(alloc, exprs, second)?;
-    along(alloc, exprs, Step::Sum, ONE, first, complement.as_slice())
+    along(alloc, exprs, SUM_AND_ONE, first, complement.as_slice())
 }
 
 /// The complement of each position, or two's complement.
@@ -87,12 +124,12 @@ pub fn operator_word(
     ensures { Makes ShowsItems exprs.old exprs.new result (operator_bits sign (word_at (arena exprs.old) first.now) (word_at (arena exprs.old) second.now)) }
 {
     match sign {
-        Binary::And => along(alloc, exprs, Step::And, ZERO, first, second),
-        Binary::Or => along(alloc, exprs, Step::Or, ZERO, first, second),
-        Binary::Xor => along(alloc, exprs, Step::Xor, ZERO, first, second),
-        Binary::Xnor => along(alloc, exprs, Step::Xnor, ZERO, first, second),
+        Binary::And => along(alloc, exprs, AND, first, second),
+        Binary::Or => along(alloc, exprs, OR, first, second),
+        Binary::Xor => along(alloc, exprs, XOR, first, second),
+        Binary::Xnor => along(alloc, exprs, XNOR, first, second),
         Binary::Minus => difference_word(alloc, exprs, first, second),
-        Binary::Plus => along(alloc, exprs, Step::Sum, ZERO, first, second),
+        Binary::Plus => along(alloc, exprs, SUM, first, second),
         _ => zeros(alloc, first.len()),
     }
 }

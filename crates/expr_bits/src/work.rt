@@ -3,11 +3,18 @@
 use crate::step::Step;
 use abel_tree::{Expr, Extension};
 
-/// An expression over so many of the names, with an extension at each signal that has none, the name of a number with
-/// an extension, or a step.
+/// What an expression takes from outside: an extension for each signal that has none, and how many of the names it is
+/// over.
+#[derive(Clone, Copy)]
+pub(crate) struct Outer {
+    pub extension: Option<Extension>,
+    pub count: usize,
+}
+
+/// An expression with what it takes from outside, the name of a number with an extension, or a step.
 #[derive(Clone, Copy)]
 pub(crate) enum Work<'a> {
-    Whole(&'a Expr, Option<Extension>, usize),
+    Whole(&'a Expr, Outer),
     Named(u32, Option<Extension>),
     Do(Step),
 }

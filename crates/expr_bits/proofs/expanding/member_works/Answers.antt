@@ -14,8 +14,8 @@ use Rattle.expr_bits.proofs.expanding.member_works.Goals as goal
 pub loop-member-preserved : goal.loop-member-preserved
 loop-member-preserved c =
     let es = entries_of c.args.scope.now in
-    let ks = known_of (take c.args.count es) in
-    let e = c.args.extension in
+    let ks = known_of (take c.args.outer.count es) in
+    let e = c.args.outer.extension in
     let ms = c.args.members.now in
     let i = c.loop-member.member-index in
     let before = map view_member (take i ms) in
@@ -28,5 +28,5 @@ loop-member-preserved c =
 pub returns : goal.returns
 returns c =
     let es = entries_of c.args.scope.now in
-    subst (λ xs. ComeTo es c.loop-member.works.items (each_extended c.args.extension (list_of (terms_of (known_of (take c.args.count es)) (members_of xs)))))
+    subst (λ xs. ComeTo es c.loop-member.works.items (each_extended c.args.outer.extension (list_of (terms_of (known_of (take c.args.outer.count es)) (members_of xs)))))
     (whole_front view_member c.args.members.now c.loop-member.member-index c.loop-member-test.false) c.loop-member.invariant

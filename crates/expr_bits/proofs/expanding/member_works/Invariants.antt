@@ -10,4 +10,4 @@ use Rattle.expr_bits.proofs.expanding.member_works.Given as goal
 
 abbrev pub invariant-loop-member : goal.invariant-loop-member
 invariant-loop-member l =
-    ComeTo (entries_of l.scope) l.works.items (each_extended l.extension (list_of (terms_of (known_of (take l.count (entries_of l.scope))) (members_of (map view_member (take l.member-index l.members))))))
+    ComeTo (entries_of l.scope) l.works.items (each_extended l.outer.extension (list_of (terms_of (known_of (take l.outer.count (entries_of l.scope))) (members_of (map view_member (take l.member-index l.members))))))

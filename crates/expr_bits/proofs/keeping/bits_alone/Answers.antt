@@ -1,5 +1,5 @@
 -- What was built alone without a node.
-use Rattle.std.proofs.Common.{length, take, Ok, subst}
+use Rattle.std.proofs.Common.{length, take, Ok, refl, subst}
 use Rattle.abel_tree.specs.Entries.{entries_of}
 use Rattle.abel_tree.specs.View.{view}
 use Rattle.abel_meaning.specs.Terms.{extended_if, known_of, term_of}
@@ -7,17 +7,9 @@ use Rattle.set_expr.specs.Contexts.{context_for}
 use Rattle.expr_bits.specs.Making.{Makes}
 use Rattle.expr_bits.specs.Parts.{IsPart}
 use Rattle.expr_bits.specs.Steps.{term_part}
-use Rattle.expr_bits.specs.Still.{AreRows}
-use Rattle.expr_bits.proofs.Contexts.{context_is, is_context}
 use Rattle.expr_bits.proofs.KeptBits.{kept_alone}
 use Rattle.expr_bits.proofs.Quiet.{kept_under, quiet_free}
 use Rattle.expr_bits.proofs.keeping.bits_alone.Goals as goal
-
-pub walk-requires : goal.walk-requires
-walk-requires g c =
-    let t = g.D.Device.table in
-    let n = c.args.scope.now in
-    record { rows = λ d is. subst (λ x. AreRows (entries_of n) x 0 c.args.rows.now) (context_is t n d is) c.requires.rows }
 
 pub returns-in-Ok : goal.returns-in-Ok
 returns-in-Ok g c e k =
@@ -25,5 +17,5 @@ returns-in-Ok g c e k =
     let d = context_for g.D.Device.table n in
     let x = c.args.extension in
     let t = term_of (known_of (take (length c.args.rows.now) (entries_of n))) (view c.args.expr.now) in
-    let made = subst (λ old. Makes IsPart old c.walk.new.exprs (Ok c.in-Ok.bits) (term_part d (extended_if x t))) c.new-exprs.ensures (c.in-Ok.ensures d (is_context g.D.Device.table n)) in
+    let made = subst (λ old. Makes IsPart old c.walk.new.exprs (Ok c.in-Ok.bits) (term_part d (extended_if x t))) c.new-exprs.ensures (c.in-Ok.ensures (extended_if x t) refl) in
     kept_under d x e t c.in-Ok.bits c.requires.still (kept_alone d c.walk.new.exprs c.in-Ok.bits (extended_if x t) (quiet_free d x t c.requires.still) made) k

@@ -1,5 +1,5 @@
 -- One row more.
-use Rattle.std.proofs.Common.{◌≡◌, ◌+◌, length, [], ◌∷◌, ◌++◌, sym, ap, ◌∙◌, subst, arith, length-append}
+use Rattle.std.proofs.Common.{◌+◌, length, [], ◌∷◌, sym, ap, ◌∙◌, subst, arith, length-append}
 use Rattle.abel_tree.specs.Entries.{entries_of}
 use Rattle.set_expr.specs.Contexts.{context_for}
 use Rattle.expr_bits.specs.Still.{AreRows}

@@ -3,7 +3,7 @@ use Rattle.std.proofs.Common.{◌≡◌, ◌+◌, [], ◌∷◌, ◌++◌, lengt
 use Rattle.abel_tree.specs.Entries.{entries_of}
 use Rattle.abel_tree.specs.Tree.{members_of}
 use Rattle.abel_tree.specs.View.{view, view_member}
-use Rattle.abel_meaning.specs.Terms.{NoTerm, Set, extended_if, known_of, member_before, term_named, term_of, terms_of}
+use Rattle.abel_meaning.specs.Terms.{NoTerm, Set, known_of, member_before, term_named, term_of, terms_of}
 use Rattle.set_expr.proofs.FoundMembers.{front_more, whole_front}
 use Rattle.expr_bits.specs.Members.{list_of}
 use Rattle.expr_bits.specs.Reads.{AllRead, IsReads}

@@ -1,5 +1,5 @@
 -- The member's positions stand behind the others.
-use Rattle.std.proofs.Common.{◌++◌, sym, ap, ◌∙◌, refl}
+use Rattle.std.proofs.Common.{◌++◌, ap, ◌∙◌, refl}
 use Rattle.expr_bits.proofs.OperatedBits.{joined_shown}
 use Rattle.expr_bits.proofs.sets.with_member.Goals as goal
 

@@ -10,4 +10,4 @@ abbrev pub invariant-loop-i : goal.invariant-loop-i
 invariant-loop-i l =
     let xs = word_at (arena l.fn.exprs) l.first in
     let ys = word_at (arena l.fn.exprs) l.second in
-    Going Running l.fn.exprs l.exprs (l.found, l.carry) (left l.step xs ys l.i) (along l.step (formula_at (arena l.fn.exprs) l.fn.carry) xs ys)
+    Going Running l.fn.exprs l.exprs (l.found, l.carry) (left l.sweep.step xs ys l.i) (along l.sweep.step (formula_at (arena l.fn.exprs) l.sweep.carry) xs ys)

@@ -17,5 +17,5 @@ returns-in-Expands c =
     IfOk-weaker c.expand.result _ _
     (λ new has d ps.
     subst (λ (x : Turn). after_all d (task_of_turn es x ∷ tasks_of es old) ps ≡ then_all d (after_turn d es x ps) (tasks_of es new.items)) (sym c.in-Expands.is)
-    (whole_turn d (tasks_of es new.items) (Push (extended_if c.in-Expands.extension (term_of (known_of (take c.in-Expands.count es)) (view c.in-Expands.expr.now))) ∷ tasks_of es old) ps (has d ps)))
+    (whole_turn d (tasks_of es new.items) (Push (extended_if c.in-Expands.outer.extension (term_of (known_of (take c.in-Expands.outer.count es)) (view c.in-Expands.expr.now))) ∷ tasks_of es old) ps (has d ps)))
     c.expand.ensures
