@@ -1,6 +1,6 @@
 //! What signals ask of nodes and cells.
 
-ghost use Rattle.std.specs.Prelude.{◌≡◌, ◌<◌, ◌++◌, ◌∷◌, [], List, length, OnOk, if◌then◌else◌, None};
+ghost use Rattle.std.specs.Prelude.{◌≡◌, ◌<◌, ◌++◌, ◌∷◌, [], List, length, OnOk, None};
 ghost use Rattle.bit_expr.specs.Arena.{arena};
 ghost use Rattle.bit_expr.specs.Formulas.{Formula};
 ghost use Rattle.abel_tree.specs.Entries.{Entry, view_declared};
@@ -26,6 +26,13 @@ pub(crate) struct Asked {
     pub(crate) cells: Vec<CellWanted>,
     pub(crate) signals: Vec<u32>,
     pub(crate) links: Vec<Link>,
+}
+
+/// A declared name with its number.
+#[derive(Clone, Copy)]
+pub(crate) struct Named<'a> {
+    pub(crate) number: u32,
+    pub(crate) declared: &'a Declared,
 }
 
 /// The enable of a cell that a row enables.
@@ -72,17 +79,18 @@ pub(crate) fn ask<D: Device>(
     alloc: Global,
     exprs: &mut Exprs,
     list: &[Contribution],
-    name: u32,
-    declared: &Declared,
+    named: &Named<'_>,
     asked: &mut Asked,
 ) -> Result<(), OutOfMemory>
     requires { AllLieIn (length (arena exprs.old)) list.now }
     ensures asks { OnOk result ((first : List Formula) (xs : List Entry) → Stands first (arena exprs.old)
-        → AllLieIn (length first) list.now → name ≡ length xs
+        → AllLieIn (length first) list.now → named.now.number ≡ length xs
         → Asks D.table first (arena exprs.old) list.now xs asked.old
-        → Asks D.table first (arena exprs.new) list.now (xs ++ view_declared declared.now ∷ []) asked.new) }
+        → Asks D.table first (arena exprs.new) list.now (xs ++ view_declared named.now.declared.now ∷ []) asked.new) }
     ensures stands { OnOk result (Stands (arena exprs.old) (arena exprs.new)) }
 {
+    let name = named.number;
+    let declared = named.declared;
     if is_node(&declared.meaning) {
         let totals = sum_up(alloc, exprs, list, name)?;
         asked.links.push(node_link(exprs, declared, &totals))?;

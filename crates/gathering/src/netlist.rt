@@ -1,6 +1,6 @@
 //! The netlist of all names.
 
-ghost use Rattle.std.specs.Prelude.{◌≡◌, ◌<◌, ◌+◌, All, [], ℕ, length, IfOk, OnOk, get_or};
+ghost use Rattle.std.specs.Prelude.{◌≡◌, ◌<◌, ◌+◌, All, ℕ, length, IfOk, get_or};
 ghost use Rattle.bit_expr.specs.Arena.{arena};
 ghost use Rattle.abel_tree.specs.Entries.{entries_of};
 ghost use Rattle.abel_meaning.specs.Designs.{Context};
@@ -8,13 +8,13 @@ ghost use Rattle.abel_meaning.specs.Netlists.{plain_netlist};
 ghost use Rattle.abel_meaning.specs.SoundIds.{no_pair, pair_of_cell, pair_of_pin};
 ghost use Rattle.set_expr.specs.Answer.{IsContextOf};
 ghost use Rattle.set_expr.specs.Given.{given};
-ghost use Rattle.gathering.specs.Parts.{AllLieIn, Stands};
+ghost use Rattle.gathering.specs.Parts.{AllLieIn};
 ghost use Rattle.netlist_laws.specs.Gathered.{gathered_from};
 ghost use Rattle.gathering.specs.Asking.{Asks};
 ghost use Rattle.gathering.specs.Linked.{AreLinks};
 ghost use Rattle.gathering.specs.Placed.{AreIdsIn, IsPlaced};
 
-use crate::asked::{Asked, ask};
+use crate::asked::{Asked, Named, ask};
 use crate::link::Link;
 use crate::pairs::{pairs_of_cells, pairs_of_pins};
 use abel_tree::Names;
@@ -53,7 +53,8 @@ fn ask_all<D: Device>(
     };
     let mut number = 0u32;
     for declared in names.list.as_slice() {
-        ask::<D>(alloc, exprs, list, number, declared, &mut asked)?;
+        let named = Named { number, declared };
+        ask::<D>(alloc, exprs, list, &named, &mut asked)?;
         number = next(number)?;
     }
     Ok(asked)
