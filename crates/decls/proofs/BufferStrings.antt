@@ -5,7 +5,6 @@ use Rattle.std.proofs.lemmas.List.{append-nil}
 use Rattle.std.proofs.lemmas.List.Folds.{list_any-append}
 use Rattle.abel_tree.specs.declared.declarations.Decl.{Decl}
 use Rattle.abel_tree.specs.declared.sections.Section.{Section}
-use Rattle.abel_tree.specs.Tree.{Declaration}
 use Rattle.abel_tree.specs.View.{view_decl, view_section}
 use Rattle.abel_meaning.specs.Declarations.{section_declarations}
 use Rattle.decls.specs.Buffers.{says_buffer}

@@ -20,6 +20,7 @@ pub mod NamesExamplesA
 pub mod NamesExamplesB
 pub mod NoRefusals
 pub mod Numbering
+pub mod PartsUsed
 pub mod PinTakenExamples
 pub mod RedeclaredExamples
 pub mod Required
@@ -33,6 +34,5 @@ pub mod UndeclaredExamplesA
 pub mod UndeclaredExamplesB
 pub mod Unknown
 pub mod Values
-pub mod Walks
 pub mod Words
 pub mod WrittenModules

@@ -6,6 +6,7 @@ pub mod FaultOrder
 pub mod NameRefusals
 pub mod NamesBefore
 pub mod Numbers
+pub mod PartUses
 pub mod Passed
 pub mod Pieces
 pub mod Refused

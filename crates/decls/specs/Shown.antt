@@ -1,19 +1,11 @@
 -- What the table of the code shows of the declarations so far.
-use Rattle.std.specs.Prelude.{◌≡◌, ℕ, Bool, true, false, Option, None, Some, List, [], ◌∷◌, ◌++◌, if◌then◌else◌, bytes_eq, map, nat_lt, min}
+use Rattle.std.specs.Prelude.{◌≡◌, ℕ, Bool, true, false, Option, None, Some, List, [], ◌∷◌, if◌then◌else◌, bytes_eq, map, nat_lt, min}
 use Rattle.std.specs.Global.{Vec}
 use Rattle.pld_base.specs.declared.place.Place.{Place}
 use Rattle.pld_device.specs.Table.{Table}
 use Rattle.abel_tree.specs.Entries.{Kind, APin, ANode, Words, Entry, view_meaning, is_signal, is_value}
 use Rattle.abel_tree.specs.declared.words.Item.{Item}
 use Rattle.abel_tree.specs.FirstRefusal.{first_refusal}
-use Rattle.abel_tree.specs.declared.expressions.Member.{Member}
-use Rattle.abel_tree.specs.declared.statements.When.{When}
-use Rattle.abel_tree.specs.declared.statements.Stmt.TheFolds.{fold-When}
-use Rattle.abel_tree.specs.declared.diagrams.If.{If}
-use Rattle.abel_tree.specs.declared.diagrams.Arm.TheFolds.{fold-If}
-use Rattle.abel_tree.specs.Tree.{Tree, Statement, Branch, StateTree, members_of}
-use Rattle.abel_tree.specs.Uses.{Use, uses, member_uses, list_uses, branch_uses, branches_uses}
-use Rattle.abel_tree.specs.View.{view_member, stmt_layer, when_layer, arm_layer, case_layer, case_arm_layer, if_layer}
 use Rattle.abel_meaning.specs.Declarations.{GivenName, entry}
 use Rattle.decls.specs.declared.items.Given.{Given}
 use Rattle.decls.specs.declared.said.Said.{Said}
@@ -74,24 +66,3 @@ pub record Shows (t : Table) (d : NameTable) (s : Progress) : Type 0 where
   pub taken : d.taken.items ≡ s.taken
   pub waiting : map view_given d.waiting.items ≡ s.waiting
   pub first : d.fault ≡ first_refusal name_order s.faults
-
--- ---- lists of the tree, as the code has them
-
--- the uses of the members of a set
-abbrev pub members_in : List Member → List Use
-members_in ms = member_uses (members_of (map view_member ms))
-
--- a WHEN and an IF
-abbrev pub view_when : When → Statement
-view_when = fold-When Statement Statement stmt_layer when_layer
-
-abbrev pub view_if : If → Branch
-view_if = fold-If Branch Branch (Tree × (Place × Branch)) Branch arm_layer case_layer case_arm_layer if_layer
-
--- the uses of an arm of CASE
-abbrev pub choice_uses : Tree × (Place × Branch) → List Use
-choice_uses c = uses c.0 ++ branch_uses c.1.1
-
--- those of a state
-abbrev pub state_uses : StateTree → List Use
-state_uses s = uses s.value ++ (list_uses s.statements ++ branches_uses s.transitions)

@@ -1,10 +1,9 @@
-//! Values of constants, and the names that get them.
+//! The names of constants, which get their values.
 
 ghost use Rattle.std.specs.Prelude.{◌≡◌, OnOk, Option, List, ℕ, fold, map, zip, slice_get};
-ghost use Rattle.abel_tree.specs.Uses.{all_uses};
 ghost use Rattle.abel_tree.specs.View.{view};
 ghost use Rattle.decls.specs.Passed.{Follows, Way};
-ghost use Rattle.decls.specs.Steps.{Progress, used};
+ghost use Rattle.decls.specs.Steps.{Progress};
 ghost use Rattle.decls.specs.Walked.{constant_at, constant_step};
 
 use crate::pass::Pass;
@@ -13,16 +12,6 @@ use pld_base::OutOfMemory;
 use std::alloc::Global;
 
 impl Pass {
-    /// Refuses the names of expressions that aren't known.
-    pub(crate) fn use_values(&mut self, alloc: Global, values: &[Expr]) -> Result<(), OutOfMemory>
-        ensures { OnOk result ((w : Way) (s : Progress) → Follows w self.old s → Follows w self.new (fold used s (all_uses (map view values.now)))) }
-    {
-        for value in values {
-            self.use_expr(alloc, value)?;
-        }
-        Ok(())
-    }
-
     /// Declares constants, as many as there are values.
     pub(crate) fn declare_values(
         &mut self,

@@ -2,7 +2,6 @@
 #![tactic(auto)]
 
 mod behind;
-mod branches;
 mod buffers;
 mod checks;
 mod constant_values;
@@ -18,9 +17,7 @@ mod reading;
 mod requiring;
 mod said;
 mod saying;
-mod sections;
 mod spans;
-mod statements;
 mod strings;
 mod table;
 mod uses;

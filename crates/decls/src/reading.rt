@@ -19,9 +19,10 @@ use crate::items::Given;
 use crate::said::Said;
 use crate::table::{Known, NameTable};
 use crate::walk::names_read;
-use abel_tree::{Attributes, Declared, Module};
+use abel_tree::{Attributes, Declared};
 use bitflags::Flags;
 use indexmap::IndexMap;
+use name_uses::ModuleParts;
 use pld_base::{NameText, OutOfMemory, Place};
 use pld_device::Device;
 use std::alloc::Global;
@@ -136,7 +137,10 @@ fn list_of(alloc: Global, names: IndexMap<Vec<u8>, Known>) -> Result<Vec<Declare
 /// declared and used. A pin or node that is refused has the number 0. Whether a register may be
 /// `buffer` isn't looked at. Once something is refused, names behind it may be missing, unless
 /// registers wait, of which one may be refused before it.
-pub fn read_names<D: Device>(alloc: Global, source: &Module) -> Result<NamesRead, OutOfMemory>
+pub fn read_names<D: Device>(
+    alloc: Global,
+    source: &ModuleParts<'_>,
+) -> Result<NamesRead, OutOfMemory>
     ensures list { IfOk result (λ r. wants_names (registers_wait D.table (view_module source.now)) r.fault ≡ true → map view_declared r.list.items
         ≡ map (kept D.table) (names_once (view_module source.now))) }
     ensures buffered { IfOk result (λ r. wants_names (registers_wait D.table (view_module source.now)) r.fault ≡ true → r.buffered.items
@@ -145,7 +149,7 @@ pub fn read_names<D: Device>(alloc: Global, source: &Module) -> Result<NamesRead
         ≡ first_refusal name_order (read_refusals D.table (view_module source.now))) }
     ensures wait { IfOk result (λ r. r.registers_wait ≡ registers_wait D.table (view_module source.now)) }
 {
-    let wait = registers_wait::<D>(source);
+    let wait = registers_wait::<D>(source.module());
     let table = names_read::<D>(alloc, source, wait)?;
     let buffered = table.buffered(alloc, table.waiting.as_slice())?;
     let NameTable {

@@ -1,97 +1,78 @@
-//! Names that expressions use.
+//! Names that expressions and sections use.
 
-ghost use Rattle.std.specs.Prelude.{◌≡◌, OnOk, List, ℕ, fold, map};
-ghost use Rattle.abel_tree.specs.View.{view, view_member};
-ghost use Rattle.abel_tree.specs.Uses.{uses, one_member_uses};
-ghost use Rattle.decls.specs.Steps.{Progress, used};
+ghost use Rattle.std.specs.Prelude.{◌≡◌, OnOk, fold, map};
+ghost use Rattle.abel_tree.specs.Uses.{all_uses};
+ghost use Rattle.abel_tree.specs.View.{view};
+ghost use Rattle.name_uses.specs.Viewed.{view_part, view_use};
+ghost use Rattle.decls.specs.PartUses.{name_step, part_step, value_step};
 ghost use Rattle.decls.specs.Passed.{Follows, Way};
-ghost use Rattle.decls.specs.Shown.{members_in};
+ghost use Rattle.decls.specs.Steps.{Progress, used};
 
 use crate::pass::Pass;
-use abel_tree::{Expr, Member};
+use abel_tree::Expr;
+use name_uses::{NameUse, Part, names_used};
 use pld_base::OutOfMemory;
 use std::alloc::Global;
 
 impl Pass {
-    /// Refuses the names of an expression that aren't known. Calls go as deep as the nestings, however many
-    /// operators stand in a row.
-    #[cycle(uses)]
-    pub(crate) fn use_expr(&mut self, alloc: Global, expr: &Expr) -> Result<(), OutOfMemory>
-        ensures { OnOk result ((w : Way) (s : Progress) → Follows w self.old s → Follows w self.new (fold used s (uses (view expr.now)))) }
+    /// Refuses a name that isn't known, or a range.
+    fn use_one(&mut self, alloc: Global, name: &NameUse<'_>) -> Result<(), OutOfMemory>
+        ensures { OnOk result ((w : Way) (s : Progress) → Follows w self.old s
+            → Follows w self.new (name_step s (view_use name.now))) }
     {
-        let mut rights = Vec::new(alloc);
-        let mut first = expr;
-        'down: while let Expr::Binary {
-            sign: _,
-            place: _,
-            left,
-            right,
-        } = first
-        {
-            rights.push(right.get())?;
-            first = left.get();
+        match name.last {
+            None => self.use_name(alloc, name.first),
+            Some(last) => self.use_range(alloc, name.first, last),
         }
-        self.use_level(alloc, first)?;
-        'up: while let Some(right) = rights.pop() {
-            self.use_expr(alloc, right)?;
+    }
+
+    /// Refuses names that aren't known, and ranges.
+    fn use_names(&mut self, alloc: Global, names: &[NameUse<'_>]) -> Result<(), OutOfMemory>
+        ensures { OnOk result ((w : Way) (s : Progress) → Follows w self.old s
+            → Follows w self.new (fold name_step s (map view_use names.now))) }
+    {
+        for name in names {
+            self.use_one(alloc, name)?;
         }
         Ok(())
     }
 
-    /// Refuses the names of an expression, by its parts.
-    #[cycle(uses)]
-    fn use_level(&mut self, alloc: Global, expr: &Expr) -> Result<(), OutOfMemory>
-        ensures { OnOk result ((w : Way) (s : Progress) → Follows w self.old s → Follows w self.new (fold used s (uses (view expr.now)))) }
+    /// Refuses the names of an expression that aren't known.
+    fn use_value(&mut self, alloc: Global, value: &Expr) -> Result<(), OutOfMemory>
+        ensures { OnOk result ((w : Way) (s : Progress) → Follows w self.old s
+            → Follows w self.new (value_step s (view value.now))) }
     {
-        match expr {
-            Expr::Number(_) => Ok(()),
-            Expr::Special {
-                letter: _,
-                place: _,
-            } => Ok(()),
-            Expr::Name { word, extension: _ } => self.use_name(alloc, word),
-            Expr::Set {
-                place: _,
-                members,
-                extension: _,
-            } => self.use_members(alloc, members.as_slice()),
-            Expr::Paren { place: _, inner } => self.use_expr(alloc, inner.get()),
-            Expr::Unary {
-                sign: _,
-                place: _,
-                inner,
-            } => self.use_expr(alloc, inner.get()),
-            Expr::Binary {
-                sign: _,
-                place: _,
-                left,
-                right,
-            } => {
-                self.use_expr(alloc, left.get())?;
-                self.use_expr(alloc, right.get())
-            }
-        }
+        let names = names_used(alloc, value)?;
+        self.use_names(alloc, names.as_slice())
     }
 
-    /// Refuses the names of the members of a set.
-    #[cycle(uses)]
-    fn use_members(&mut self, alloc: Global, members: &[Member]) -> Result<(), OutOfMemory>
-        ensures { OnOk result ((w : Way) (s : Progress) → Follows w self.old s → Follows w self.new (fold used s (members_in members.now))) }
+    /// Refuses the names of expressions that aren't known.
+    pub(crate) fn use_values(&mut self, alloc: Global, values: &[Expr]) -> Result<(), OutOfMemory>
+        ensures { OnOk result ((w : Way) (s : Progress) → Follows w self.old s
+            → Follows w self.new (fold used s (all_uses (map view values.now)))) }
     {
-        for member in members {
-            self.use_member(alloc, member)?;
+        for value in values {
+            self.use_value(alloc, value)?;
         }
         Ok(())
     }
 
-    /// Refuses the names of a member of a set.
-    #[cycle(uses)]
-    fn use_member(&mut self, alloc: Global, member: &Member) -> Result<(), OutOfMemory>
-        ensures { OnOk result ((w : Way) (s : Progress) → Follows w self.old s → Follows w self.new (fold used s (one_member_uses (view_member member.now)))) }
+    /// Refuses the names of a part of a section that aren't known.
+    fn use_part(&mut self, alloc: Global, part: &Part<'_>) -> Result<(), OutOfMemory>
+        ensures { OnOk result ((w : Way) (s : Progress) → Follows w self.old s
+            → Follows w self.new (part_step s (view_part part.now))) }
     {
-        match member {
-            Member::One(expr) => self.use_expr(alloc, expr),
-            Member::Span { first, last } => self.use_range(alloc, first, last),
+        self.use_names(alloc, part.uses.as_slice())
+    }
+
+    /// Refuses the names of the parts of a section that aren't known.
+    pub(crate) fn use_parts(&mut self, alloc: Global, parts: &[Part<'_>]) -> Result<(), OutOfMemory>
+        ensures { OnOk result ((w : Way) (s : Progress) → Follows w self.old s
+            → Follows w self.new (fold part_step s (map view_part parts.now))) }
+    {
+        for part in parts {
+            self.use_part(alloc, part)?;
         }
+        Ok(())
     }
 }

@@ -3,18 +3,21 @@
 ghost use Rattle.std.specs.Prelude.{◌≡◌, IfOk, OnOk, true, fold, map};
 ghost use Rattle.pld_device.specs.Table.{Table};
 ghost use Rattle.abel_tree.specs.FirstRefusal.{first_refusal};
-ghost use Rattle.abel_tree.specs.View.{view_decl, view_module, view_section};
+ghost use Rattle.abel_tree.specs.View.{view_decl, view_module};
+ghost use Rattle.name_uses.specs.Viewed.{view_section_parts};
 ghost use Rattle.decls.specs.FaultOrder.{name_order};
 ghost use Rattle.decls.specs.NameRefusals.{read_refusals};
+ghost use Rattle.decls.specs.PartUses.{parted_step};
 ghost use Rattle.decls.specs.Passed.{Follows, Way, wants_names, way};
 ghost use Rattle.decls.specs.Shown.{Shows};
 ghost use Rattle.decls.specs.Steps.{Progress, nothing};
-ghost use Rattle.decls.specs.Walked.{declaration_step, module_steps, section_step};
+ghost use Rattle.decls.specs.Walked.{declaration_step, module_steps};
 
 use crate::pass::Pass;
 use crate::table::NameTable;
-use abel_tree::{Decl, Module, Section};
+use abel_tree::{Decl, Section};
 use indexmap::IndexMap;
+use name_uses::{ModuleParts, SectionParts};
 use pld_base::OutOfMemory;
 use pld_device::Device;
 use std::alloc::Global;
@@ -69,22 +72,28 @@ impl Pass {
     }
 
     /// Declares what a section declares, or refuses what it uses.
-    fn read_section(&mut self, alloc: Global, section: &Section) -> Result<(), OutOfMemory>
-        ensures { OnOk result ((w : Way) (s : Progress) → Follows w self.old s → Follows w self.new (section_step w.table s (view_section section.now))) }
+    fn read_section(&mut self, alloc: Global, source: &SectionParts<'_>) -> Result<(), OutOfMemory>
+        ensures { OnOk result ((w : Way) (s : Progress) → Follows w self.old s
+            → Follows w self.new (parted_step w.table s (view_section_parts source.now))) }
     {
-        match section {
+        match source.section {
             Section::Declarations(list) => self.declare_all(alloc, list.as_slice()),
-            Section::Equations(_) => self.use_section(alloc, section),
-            Section::Table(_) => self.use_section(alloc, section),
-            Section::Diagram(_) => self.use_section(alloc, section),
-            Section::Vectors(_) => self.use_section(alloc, section),
-            Section::DontCare(_) => self.use_section(alloc, section),
+            Section::Equations(_) => self.use_parts(alloc, source.parts.as_slice()),
+            Section::Table(_) => self.use_parts(alloc, source.parts.as_slice()),
+            Section::Diagram(_) => self.use_parts(alloc, source.parts.as_slice()),
+            Section::Vectors(_) => self.use_parts(alloc, source.parts.as_slice()),
+            Section::DontCare(_) => self.use_parts(alloc, source.parts.as_slice()),
         }
     }
 
     /// Sections one after the other.
-    fn read_sections(&mut self, alloc: Global, sections: &[Section]) -> Result<(), OutOfMemory>
-        ensures { OnOk result ((w : Way) (s : Progress) → Follows w self.old s → Follows w self.new (fold (section_step w.table) s (map view_section sections.now))) }
+    fn read_sections(
+        &mut self,
+        alloc: Global,
+        sections: &[SectionParts<'_>],
+    ) -> Result<(), OutOfMemory>
+        ensures { OnOk result ((w : Way) (s : Progress) → Follows w self.old s
+            → Follows w self.new (fold (parted_step w.table) s (map view_section_parts sections.now))) }
     {
         for section in sections {
             self.read_section(alloc, section)?;
@@ -93,11 +102,12 @@ impl Pass {
     }
 
     /// A whole module.
-    fn read_module(&mut self, alloc: Global, source: &Module) -> Result<(), OutOfMemory>
-        ensures { OnOk result ((w : Way) → Follows w self.old nothing → Follows w self.new (module_steps w.table (view_module source.now))) }
+    fn read_module(&mut self, alloc: Global, source: &ModuleParts<'_>) -> Result<(), OutOfMemory>
+        ensures { OnOk result ((w : Way) → Follows w self.old nothing
+            → Follows w self.new (module_steps w.table (view_module source.now))) }
     {
-        self.declare_all(alloc, source.decls.as_slice())?;
-        self.read_sections(alloc, source.sections.as_slice())
+        self.declare_all(alloc, source.module().decls.as_slice())?;
+        self.read_sections(alloc, source.sections())
     }
 }
 
@@ -118,7 +128,11 @@ fn empty_table(alloc: Global, pins: u8, ground: u8) -> NameTable
 }
 
 /// A pass over a module for a device.
-fn pass_over<D: Device>(alloc: Global, source: &Module, skips: bool) -> Result<Pass, OutOfMemory>
+fn pass_over<D: Device>(
+    alloc: Global,
+    source: &ModuleParts<'_>,
+    skips: bool,
+) -> Result<Pass, OutOfMemory>
     ensures { IfOk result (λ d. Follows (way D.table skips) d (module_steps D.table (view_module source.now))) }
 {
     let mut pass = Pass {
@@ -136,7 +150,7 @@ fn pass_over<D: Device>(alloc: Global, source: &Module, skips: bool) -> Result<P
 /// refusal too where registers wait.
 pub(crate) fn names_read<D: Device>(
     alloc: Global,
-    source: &Module,
+    source: &ModuleParts<'_>,
     wait: bool,
 ) -> Result<NameTable, OutOfMemory>
     ensures steps { IfOk result (λ d. wants_names wait d.fault ≡ true

@@ -1,17 +1,21 @@
--- Declarations, and then sections.
-use Rattle.std.proofs.Common.{fold, map, subst, ap₂}
+-- Declarations, and then sections, by their parts.
+use Rattle.std.proofs.Common.{fold, map, subst, ap, ap₂, ◌∙◌}
 use Rattle.std.proofs.lemmas.Result.{on_ok_weaker}
-use Rattle.abel_tree.specs.View.{view_decl, view_section}
+use Rattle.abel_tree.specs.View.{view_decl, view_module}
+use Rattle.decls.specs.PartUses.{parted_step}
 use Rattle.decls.specs.Passed.{Follows}
 use Rattle.decls.specs.Steps.{nothing}
-use Rattle.decls.specs.Walked.{declaration_step, section_step}
+use Rattle.decls.specs.Walked.{declaration_step}
+use Rattle.decls.proofs.PartsUsed.{sections_are_used}
 use Rattle.decls.proofs.pass.Pass.read_module.Goals as goal
 
 pub returns : goal.returns
 returns c =
+    let m = view_module c.args.source.now in
     on_ok_weaker c.read_sections.result
     (λ h t sh.
     subst (Follows t c.read_sections.new.self)
-    (ap₂ (λ xs ys. fold (section_step t.table) (fold (declaration_step t.table) nothing (map view_decl xs)) (map view_section ys)) c.as_slice.ensures c.as_slice-2.ensures)
+    (ap₂ (λ xs ys. fold (parted_step t.table) (fold (declaration_step t.table) nothing (map view_decl xs)) ys) (c.as_slice.ensures ∙ ap (λ s. s.decls) c.module.ensures) c.sections.ensures
+    ∙ sections_are_used t.table (fold (declaration_step t.table) nothing m.decls) m.sections)
     (h t (fold (declaration_step t.table) nothing (map view_decl c.as_slice.result.now)) (c.in_ok-declare_all.ensures t nothing sh)))
     c.read_sections.ensures
