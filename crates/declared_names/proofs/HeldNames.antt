@@ -10,10 +10,10 @@ use Rattle.abel_tree.specs.Entries.{Kind, APin, ANode, AConstant, ADeviceName, E
 use Rattle.abel_meaning.specs.Held.{Held, held_after, held_by, held_meant, held_of, read_in}
 use Rattle.declared_names.specs.Numbered.{numbered, numbered_from, value_at, value_of}
 use Rattle.declared_names.specs.Reading.{numbers_read, reads_in, reads_of}
-use Rattle.declared_names.proofs.ReadMarks.{AllLow}
+use Rattle.declared_names.proofs.Passing.{AllLow}
 use Rattle.declared_names.proofs.ReadsAlike.{ReadsAlike, ReadsMore, read_alike, read_more}
 use Rattle.declared_names.proofs.Related.{get_behind, low_alike, not_here, number_push}
-use Rattle.declared_names.proofs.Spreading.{all_under, among, nothing}
+use Rattle.declared_names.proofs.AmongNumbers.{all_under, among, nothing}
 
 -- ---- what a name reads
 

@@ -5,8 +5,8 @@ use Rattle.std.proofs.lemmas.List.{length-map, map-append}
 use Rattle.abel_tree.specs.declared.names.Declared.{Declared}
 use Rattle.abel_tree.specs.Assigned.{Assigned}
 use Rattle.abel_tree.specs.Entries.{Entry, view_declared}
-use Rattle.declared_names.specs.Marking.{all_marked}
-use Rattle.declared_names.specs.Numbered.{swept}
+use Rattle.declared_names.specs.Marking.{all_marked, passed}
+use Rattle.declared_names.specs.Numbered.{assigns_of}
 use Rattle.declared_names.specs.Reading.{Holding}
 use Rattle.declared_names.specs.Settled.{is_held_at, kind_by, kinds_by}
 use Rattle.declared_names.specs.declared.marks.Mark.{Mark}
@@ -30,5 +30,6 @@ kinds_more flip ms held ys d n h =
     ∙ (kinds_from flip ms held 0 (map view_declared ys) (view_declared d) ∙ ap (λ k. kinds_by flip ms held 0 (map view_declared ys) ++ kind_by flip (get_or ms k mark.Clear) (is_held_at held k) (view_declared d) ∷ []) m)
 
 -- both passes
-pub marks_passed : (es : List Entry) (found : List Assigned) (free first last : List Mark) → free ≡ replicate (length es) mark.Clear → first ≡ all_marked free found → last ≡ swept es (length es) first → last ≡ swept es (length es) (all_marked (replicate (length es) mark.Clear) found)
-marks_passed es found free first last e f g = g ∙ ap (swept es (length es)) (f ∙ ap (λ ms. all_marked ms found) e)
+pub marks_passed : (es : List Entry) (found : List Assigned) (free first last : List Mark) → free ≡ replicate (length es) mark.Clear → first ≡ all_marked free found → last ≡ passed (assigns_of es) (length es) first
+    → last ≡ passed (assigns_of es) (length es) (all_marked (replicate (length es) mark.Clear) found)
+marks_passed es found free first last e f g = g ∙ ap (passed (assigns_of es) (length es)) (f ∙ ap (λ ms. all_marked ms found) e)

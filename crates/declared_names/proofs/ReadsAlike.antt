@@ -1,15 +1,19 @@
 -- What two readings of names say of an expression, where they say the same of each name.
-use Rattle.std.proofs.Common.{◌≡◌, ℕ, Bool, true, false, ◌||◌, if◌then◌else◌, Option, Some, None, List, [], ◌∷◌, ◌++◌, refl, sym, ◌∙◌}
-use Rattle.std.specs.List.{list_any}
+use Rattle.std.proofs.Common.{◌≡◌, ℕ, Bool, true, false, ◌||◌, if◌then◌else◌, Option, Some, None, List, [], ◌∷◌, ◌++◌, refl, sym, ap, ◌∙◌}
+use Rattle.std.specs.List.{flat_map, list_any}
 use Rattle.std.proofs.lemmas.List.Folds.{list_any-append}
 use Rattle.abel_tree.specs.Assigned.{target_extension, without_extension}
 use Rattle.abel_tree.specs.declared.words.Extension.{Extension}
 use Rattle.abel_tree.specs.declared.words.Extension.TheVariants as ext
+use Rattle.abel_tree.specs.declared.words.Word.{Word}
 use Rattle.abel_tree.specs.Ranges.{range_names}
-use Rattle.abel_tree.specs.Tree.{Tree, ANumber, ASpecial, AName, ASet, AParen, AUnary, ABinary, SetMember, OneMember, SpanMember, Members, NoMember, MoreMembers}
-use Rattle.abel_meaning.specs.Held.{ATarget, AValue, Part, asks_q, part_reads, parts_read, read_in, read_in_member, read_in_members, read_names}
+use Rattle.abel_tree.specs.Tree.{Tree}
+use Rattle.abel_meaning.specs.Held.{ATarget, AValue, Part, asks_q, part_reads, parts_read, read_in, read_names}
 use Rattle.abel_meaning.specs.Targets.{is_raw}
+use Rattle.declared_names.specs.Reading.{reads_to, use_reads}
 use Rattle.declared_names.proofs.TargetsAlike.{joined}
+use Rattle.declared_names.proofs.UsedNames.{read_used}
+use Rattle.name_uses.specs.NamesUsed.{UsedName, names_used}
 
 -- of each name, read with `.Q` behind it and without
 abbrev pub ReadsAlike : {A B : Type 0} → (A → Bool) → (B → Bool) → (List ℕ → Bool → List A) → (List ℕ → Bool → List B) → Type 0
@@ -20,24 +24,17 @@ module _ {A B : Type 0} (p : A → Bool) (q : B → Bool) (of : List ℕ → Boo
   names_alike as_q [] = refl
   names_alike as_q (n ∷ ns) = joined p q (of n as_q) (read_names of as_q ns) (by n as_q) (read_names by as_q ns) (alike n as_q) (names_alike as_q ns)
 
-  mutual
-    pub read_alike : (as_q : Bool) (t : Tree) → list_any p (read_in of as_q t) ≡ list_any q (read_in by as_q t)
-    read_alike as_q (ANumber n) = refl
-    read_alike as_q (ASpecial letter pl) = refl
-    read_alike as_q (AName word e) = alike word.text (asks_q as_q e)
-    read_alike as_q (ASet pl ms e) = members_alike (asks_q as_q e) ms
-    read_alike as_q (AParen pl t) = read_alike as_q t
-    read_alike as_q (AUnary sign pl t) = read_alike as_q t
-    read_alike as_q (ABinary sign pl t u) = joined p q (read_in of as_q t) (read_in of as_q u) (read_in by as_q t) (read_in by as_q u) (read_alike as_q t) (read_alike as_q u)
+  use_alike : (as_q : Bool) (first : Word) (last : Option Word) → list_any p (reads_to of as_q first last) ≡ list_any q (reads_to by as_q first last)
+  use_alike as_q first None = alike first.text as_q
+  use_alike as_q first (Some last) = names_alike as_q (range_names first.text last.text)
 
-    members_alike : (as_q : Bool) (ms : Members) → list_any p (read_in_members of as_q ms) ≡ list_any q (read_in_members by as_q ms)
-    members_alike as_q NoMember = refl
-    members_alike as_q (MoreMembers m ms) =
-        joined p q (read_in_member of as_q m) (read_in_members of as_q ms) (read_in_member by as_q m) (read_in_members by as_q ms) (member_alike as_q m) (members_alike as_q ms)
+  uses_alike : (as_q : Bool) (us : List UsedName) → list_any p (flat_map (use_reads of as_q) us) ≡ list_any q (flat_map (use_reads by as_q) us)
+  uses_alike as_q [] = refl
+  uses_alike as_q (u ∷ us) =
+      joined p q (use_reads of as_q u) (flat_map (use_reads of as_q) us) (use_reads by as_q u) (flat_map (use_reads by as_q) us) (use_alike (asks_q as_q u.extension) u.first u.last) (uses_alike as_q us)
 
-    member_alike : (as_q : Bool) (m : SetMember) → list_any p (read_in_member of as_q m) ≡ list_any q (read_in_member by as_q m)
-    member_alike as_q (OneMember t) = read_alike as_q t
-    member_alike as_q (SpanMember first last) = names_alike as_q (range_names first.text last.text)
+  pub read_alike : (as_q : Bool) (t : Tree) → list_any p (read_in of as_q t) ≡ list_any q (read_in by as_q t)
+  read_alike as_q t = ap (list_any p) (read_used of as_q None t) ∙ (uses_alike as_q (names_used None t) ∙ sym (ap (list_any q) (read_used by as_q None t)))
 
   part_alike : (x : Part) → list_any p (part_reads of x) ≡ list_any q (part_reads by x)
   part_alike (ATarget t) = by_raw (is_raw (target_extension t))
@@ -65,45 +62,29 @@ module _ {A : Type 0} (p : A → Bool) (of : List ℕ → Bool → List A) (more
   joined_more : (xs ys us vs : List A) → (list_any p xs ≡ true → list_any p us ≡ true) → (list_any p ys ≡ true → list_any p vs ≡ true) → list_any p (xs ++ ys) ≡ true → list_any p (us ++ vs) ≡ true
   joined_more xs ys us vs f g e = list_any-append p us vs ∙ either_more (list_any p xs) (list_any p ys) (list_any p us) (list_any p vs) f g (sym (list_any-append p xs ys) ∙ e)
 
-  asked_more : (e : Option Extension) (name : List ℕ) → list_any p (of name (asks_q false e)) ≡ true → list_any p (of name (asks_q true e)) ≡ true
-  asked_more None name h = more name h
-  asked_more (Some ext.Q) name h = h
-  asked_more (Some ext.D) name h = h
-  asked_more (Some ext.Clk) name h = h
-  asked_more (Some ext.Oe) name h = h
-  asked_more (Some ext.Ar) name h = h
-  asked_more (Some ext.Sp) name h = h
-  asked_more (Some ext.Fb) name h = h
-  asked_more (Some ext.Pin) name h = h
+  asked_more : (e : Option Extension) (give : Bool → List A) → (list_any p (give false) ≡ true → list_any p (give true) ≡ true) → list_any p (give (asks_q false e)) ≡ true → list_any p (give (asks_q true e)) ≡ true
+  asked_more None give f h = f h
+  asked_more (Some ext.Q) give f h = h
+  asked_more (Some ext.D) give f h = h
+  asked_more (Some ext.Clk) give f h = h
+  asked_more (Some ext.Oe) give f h = h
+  asked_more (Some ext.Ar) give f h = h
+  asked_more (Some ext.Sp) give f h = h
+  asked_more (Some ext.Fb) give f h = h
+  asked_more (Some ext.Pin) give f h = h
 
   names_more : (names : List (List ℕ)) → list_any p (read_names of false names) ≡ true → list_any p (read_names of true names) ≡ true
   names_more [] h = h
   names_more (n ∷ ns) h = joined_more (of n false) (read_names of false ns) (of n true) (read_names of true ns) (more n) (names_more ns) h
 
-  mutual
-    pub read_more : (t : Tree) → list_any p (read_in of false t) ≡ true → list_any p (read_in of true t) ≡ true
-    read_more (ANumber n) h = h
-    read_more (ASpecial letter pl) h = h
-    read_more (AName word None) h = more word.text h
-    read_more (AName word (Some e)) h = asked_more (Some e) word.text h
-    read_more (ASet pl ms None) h = members_more ms h
-    read_more (ASet pl ms (Some ext.Q)) h = h
-    read_more (ASet pl ms (Some ext.D)) h = h
-    read_more (ASet pl ms (Some ext.Clk)) h = h
-    read_more (ASet pl ms (Some ext.Oe)) h = h
-    read_more (ASet pl ms (Some ext.Ar)) h = h
-    read_more (ASet pl ms (Some ext.Sp)) h = h
-    read_more (ASet pl ms (Some ext.Fb)) h = h
-    read_more (ASet pl ms (Some ext.Pin)) h = h
-    read_more (AParen pl t) h = read_more t h
-    read_more (AUnary sign pl t) h = read_more t h
-    read_more (ABinary sign pl t u) h = joined_more (read_in of false t) (read_in of false u) (read_in of true t) (read_in of true u) (read_more t) (read_more u) h
+  use_more : (e : Option Extension) (first : Word) (last : Option Word) → list_any p (reads_to of (asks_q false e) first last) ≡ true → list_any p (reads_to of (asks_q true e) first last) ≡ true
+  use_more e first None h = asked_more e (of first.text) (more first.text) h
+  use_more e first (Some last) h = asked_more e (λ as_q. read_names of as_q (range_names first.text last.text)) (names_more (range_names first.text last.text)) h
 
-    members_more : (ms : Members) → list_any p (read_in_members of false ms) ≡ true → list_any p (read_in_members of true ms) ≡ true
-    members_more NoMember h = h
-    members_more (MoreMembers m ms) h =
-        joined_more (read_in_member of false m) (read_in_members of false ms) (read_in_member of true m) (read_in_members of true ms) (member_more m) (members_more ms) h
+  uses_more : (us : List UsedName) → list_any p (flat_map (use_reads of false) us) ≡ true → list_any p (flat_map (use_reads of true) us) ≡ true
+  uses_more [] h = h
+  uses_more (u ∷ us) h =
+      joined_more (use_reads of false u) (flat_map (use_reads of false) us) (use_reads of true u) (flat_map (use_reads of true) us) (use_more u.extension u.first u.last) (uses_more us) h
 
-    member_more : (m : SetMember) → list_any p (read_in_member of false m) ≡ true → list_any p (read_in_member of true m) ≡ true
-    member_more (OneMember t) h = read_more t h
-    member_more (SpanMember first last) h = names_more (range_names first.text last.text) h
+  pub read_more : (t : Tree) → list_any p (read_in of false t) ≡ true → list_any p (read_in of true t) ≡ true
+  read_more t h = ap (list_any p) (read_used of true None t) ∙ uses_more (names_used None t) (sym (ap (list_any p) (read_used of false None t)) ∙ h)

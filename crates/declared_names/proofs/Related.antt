@@ -11,7 +11,7 @@ use Rattle.abel_tree.specs.Entries.{Kind, APin, ANode, AConstant, ADeviceName, E
 use Rattle.declared_names.specs.Numbered.{numbered, numbered_from, below_limit, direct, named_in, value_at, value_of}
 use Rattle.declared_names.proofs.TargetsAlike.{NamesAlike, targets_alike}
 use Rattle.declared_names.proofs.Numbering.{found}
-use Rattle.declared_names.proofs.Spreading.{among, AllBelow, all_under, is_same, nothing}
+use Rattle.declared_names.proofs.AmongNumbers.{among, AllBelow, all_under, nothing}
 
 -- ---- what a name stands for
 
@@ -133,7 +133,7 @@ no_signal_alike es s k no_signal = all_alike (λ j. j == s) (λ j. false) es one
 low : (limit j : ℕ) → nat_lt j limit ≡ true → nat_le limit j ≡ false
 low limit j e = grind (arith, nat_tests)
 
-pub low_numbers : (limit : ℕ) (o : Option ℕ) → list_any (λ j. nat_le limit j) (below_limit limit o) ≡ false
+low_numbers : (limit : ℕ) (o : Option ℕ) → list_any (λ j. nat_le limit j) (below_limit limit o) ≡ false
 low_numbers limit None = refl
 low_numbers limit (Some j) = by (nat_lt j limit) refl
   where
@@ -176,6 +176,3 @@ stands_by es s x g sig k = of (slice_get es k) refl
     of : (o : Option Entry) → slice_get es k ≡ o → among s (meant_entry es k o) ≡ ((k == s) || list_any (λ j. stands es j s) (named_in (numbered k es) (value_at o)))
     of None i = ap (λ b. b || false) (sym (not_same None i (λ e h. absurd cc)))
     of (Some e) i = of_kind e e.kind i refl
-
-pub stands_self : (es : List Entry) (s : ℕ) (x : Entry) → slice_get es s ≡ Some x → is_signal x.kind ≡ true → stands es s s ≡ true
-stands_self es s x g sig = stands_by es s x g sig s ∙ ap (λ b. b || list_any (λ j. stands es j s) (direct es s)) (is_same s s refl)

@@ -1,12 +1,16 @@
 -- What two lists of named signals say of a target, where they say the same of each name.
 use Rattle.std.proofs.Common.{◌≡◌, ℕ, Bool, true, ◌||◌, Option, Some, None, List, [], ◌∷◌, ◌++◌, refl, sym, ap, ap₂, ◌∙◌}
-use Rattle.std.specs.List.{list_any}
+use Rattle.std.specs.List.{flat_map, list_any}
 use Rattle.std.proofs.lemmas.List.Folds.{list_any-append}
 use Rattle.abel_tree.specs.declared.words.Extension.{Extension}
 use Rattle.abel_tree.specs.declared.words.Extension.TheVariants as ext
-use Rattle.abel_tree.specs.Assigned.{Named, Assigned, signals_of_name, signals_of_names, signals_of, signals_of_member, signals_of_members, target_extension, without_extension, is_clocked, assigned_each, assigned_by, statement_assigns, else_assigns, statements_assign, list_assigns, with_assigns, branch_assigns, other_assigns, choices_assign, branches_assign, states_assign, section_assigns, sections_assign}
+use Rattle.abel_tree.specs.Assigned.{Named, Assigned, signals_of_name, signals_of_names, signals_of, signals_of_member, signals_of_members, target_extension, without_extension, is_clocked, assigned_each, assigned_by, section_assigns, sections_assign}
 use Rattle.abel_tree.specs.Ranges.{range_names}
-use Rattle.abel_tree.specs.Tree.{Tree, ANumber, ASpecial, AName, ASet, AParen, AUnary, ABinary, SetMember, OneMember, SpanMember, Members, NoMember, MoreMembers, Statement, AnAssign, AWhen, AGroup, ADontCare, Otherwise, NoElse, AnElse, Statements, NoStatement, MoreStatements, Branch, AGoal, AnIf, ACase, OtherBranch, NoBranch, ABranch, Choices, NoChoice, MoreChoices, StateTree, SectionTree, Declarations, Equations, ATable, ADiagram, SomeVectors, DontCareSection}
+use Rattle.abel_tree.specs.Tree.{Tree, ANumber, ASpecial, AName, ASet, AParen, AUnary, ABinary, SetMember, OneMember, SpanMember, Members, NoMember, MoreMembers, SectionTree}
+use Rattle.declared_names.specs.Marking.{assigned_as, part_assigns}
+use Rattle.declared_names.proofs.AssignedParts.{section_assigned}
+use Rattle.name_uses.specs.Parts as role
+use Rattle.name_uses.specs.Parts.{PartRole, PartTree, parts_in_section}
 
 pub joined : {A B : Type 0} (p : A → Bool) (q : B → Bool) (xs xt : List A) (ys yt : List B) → list_any p xs ≡ list_any q ys → list_any p xt ≡ list_any q yt → list_any p (xs ++ xt) ≡ list_any q (ys ++ yt)
 joined p q xs xt ys yt e f = list_any-append p xs xt ∙ (ap₂ (λ a b. a || b) e f ∙ sym (list_any-append q ys yt))
@@ -44,7 +48,7 @@ module _ (p q : ℕ → Bool) (ks ls : List Named) (alike : NamesAlike p q ks ls
 abbrev pub tells : (Bool → ℕ → Bool) → Assigned → Bool
 tells p a = p a.clocked a.signal
 
-any_each : (p : Bool → ℕ → Bool) (c : Bool) (ss : List ℕ) → list_any (tells p) (assigned_each c ss) ≡ list_any (p c) ss
+pub any_each : (p : Bool → ℕ → Bool) (c : Bool) (ss : List ℕ) → list_any (tells p) (assigned_each c ss) ≡ list_any (p c) ss
 any_each p c [] = refl
 any_each p c (s ∷ ss) = ap (λ b. p c s || b) (any_each p c ss)
 
@@ -63,61 +67,23 @@ module _ (p q : Bool → ℕ → Bool) (ks ls : List Named) (alike : (c : Bool) 
   by_alike (Some ext.Fb) c t = refl
   by_alike (Some ext.Pin) c t = refl
 
-  mutual
-    statement_alike : (x : Statement) → list_any (tells p) (statement_assigns ks x) ≡ list_any (tells q) (statement_assigns ls x)
-    statement_alike (AnAssign pl complement target sign r value) = by_alike (target_extension target) (is_clocked sign) (without_extension target)
-    statement_alike (AWhen pl c s other) = joined (tells p) (tells q) (statement_assigns ks s) (else_assigns ks other) (statement_assigns ls s) (else_assigns ls other) (statement_alike s) (else_alike other)
-    statement_alike (AGroup ss) = statements_alike ss
-    statement_alike (ADontCare d) = refl
+  part_alike : (x : PartTree) → list_any (tells p) (part_assigns ks x) ≡ list_any (tells q) (part_assigns ls x)
+  part_alike x = by x.role x.tree
+    where
+      by : (r : PartRole) (t : Tree) → list_any (tells p) (assigned_as ks r t) ≡ list_any (tells q) (assigned_as ls r t)
+      by (role.Target sign) t = by_alike (target_extension t) (is_clocked sign) (without_extension t)
+      by (role.Value target) t = refl
+      by role.Read t = refl
+      by (role.Outputs clocked) t = each_alike clocked t
+      by role.Registers t = each_alike true t
+      by role.Entry t = refl
 
-    else_alike : (x : Otherwise) → list_any (tells p) (else_assigns ks x) ≡ list_any (tells q) (else_assigns ls x)
-    else_alike NoElse = refl
-    else_alike (AnElse s) = statement_alike s
-
-    statements_alike : (x : Statements) → list_any (tells p) (statements_assign ks x) ≡ list_any (tells q) (statements_assign ls x)
-    statements_alike NoStatement = refl
-    statements_alike (MoreStatements s ss) = joined (tells p) (tells q) (statement_assigns ks s) (statements_assign ks ss) (statement_assigns ls s) (statements_assign ls ss) (statement_alike s) (statements_alike ss)
-
-  list_alike : (xs : List Statement) → list_any (tells p) (list_assigns ks xs) ≡ list_any (tells q) (list_assigns ls xs)
-  list_alike [] = refl
-  list_alike (s ∷ ss) = joined (tells p) (tells q) (statement_assigns ks s) (list_assigns ks ss) (statement_assigns ls s) (list_assigns ls ss) (statement_alike s) (list_alike ss)
-
-  with_alike : (o : Option (List Statement)) → list_any (tells p) (with_assigns ks o) ≡ list_any (tells q) (with_assigns ls o)
-  with_alike None = refl
-  with_alike (Some ss) = list_alike ss
-
-  mutual
-    branch_alike : (x : Branch) → list_any (tells p) (branch_assigns ks x) ≡ list_any (tells q) (branch_assigns ls x)
-    branch_alike (AGoal pl value ss) = with_alike ss
-    branch_alike (AnIf pl c b other) = joined (tells p) (tells q) (branch_assigns ks b) (other_assigns ks other) (branch_assigns ls b) (other_assigns ls other) (branch_alike b) (other_alike other)
-    branch_alike (ACase pl cs) = choices_alike cs
-
-    other_alike : (x : OtherBranch) → list_any (tells p) (other_assigns ks x) ≡ list_any (tells q) (other_assigns ls x)
-    other_alike NoBranch = refl
-    other_alike (ABranch b) = branch_alike b
-
-    choices_alike : (x : Choices) → list_any (tells p) (choices_assign ks x) ≡ list_any (tells q) (choices_assign ls x)
-    choices_alike NoChoice = refl
-    choices_alike (MoreChoices c pl b cs) = joined (tells p) (tells q) (branch_assigns ks b) (choices_assign ks cs) (branch_assigns ls b) (choices_assign ls cs) (branch_alike b) (choices_alike cs)
-
-  branches_alike : (xs : List Branch) → list_any (tells p) (branches_assign ks xs) ≡ list_any (tells q) (branches_assign ls xs)
-  branches_alike [] = refl
-  branches_alike (b ∷ bs) = joined (tells p) (tells q) (branch_assigns ks b) (branches_assign ks bs) (branch_assigns ls b) (branches_assign ls bs) (branch_alike b) (branches_alike bs)
-
-  states_alike : (xs : List StateTree) → list_any (tells p) (states_assign ks xs) ≡ list_any (tells q) (states_assign ls xs)
-  states_alike [] = refl
-  states_alike (s ∷ ss) =
-      joined (tells p) (tells q) (list_assigns ks s.statements) (branches_assign ks s.transitions ++ states_assign ks ss) (list_assigns ls s.statements) (branches_assign ls s.transitions ++ states_assign ls ss) (list_alike s.statements)
-      (joined (tells p) (tells q) (branches_assign ks s.transitions) (states_assign ks ss) (branches_assign ls s.transitions) (states_assign ls ss) (branches_alike s.transitions) (states_alike ss))
+  parts_alike : (xs : List PartTree) → list_any (tells p) (flat_map (part_assigns ks) xs) ≡ list_any (tells q) (flat_map (part_assigns ls) xs)
+  parts_alike [] = refl
+  parts_alike (x ∷ xs) = joined (tells p) (tells q) (part_assigns ks x) (flat_map (part_assigns ks) xs) (part_assigns ls x) (flat_map (part_assigns ls) xs) (part_alike x) (parts_alike xs)
 
   section_alike : (x : SectionTree) → list_any (tells p) (section_assigns ks x) ≡ list_any (tells q) (section_assigns ls x)
-  section_alike (Declarations ds) = refl
-  section_alike (Equations ss) = list_alike ss
-  section_alike (ATable pl inputs clocked outputs rows) = each_alike clocked outputs
-  section_alike (ADiagram pl registers states) =
-      joined (tells p) (tells q) (assigned_each true (signals_of ks registers)) (states_assign ks states) (assigned_each true (signals_of ls registers)) (states_assign ls states) (each_alike true registers) (states_alike states)
-  section_alike (SomeVectors text pl inputs outputs rows) = refl
-  section_alike (DontCareSection d) = refl
+  section_alike x = sym (ap (list_any (tells p)) (section_assigned ks x)) ∙ (parts_alike (parts_in_section x) ∙ ap (list_any (tells q)) (section_assigned ls x))
 
   pub sections_alike : (xs : List SectionTree) → list_any (tells p) (sections_assign ks xs) ≡ list_any (tells q) (sections_assign ls xs)
   sections_alike [] = refl

@@ -1,18 +1,14 @@
 -- Marks of names: a target on the clock and a read of Q mark strongly, any other plainly (ABEL-HDL Reference Manual, equations
 -- and dot extensions).
-use Rattle.std.specs.Prelude.{ℕ, Bool, true, false, Option, None, Some, List, fold, set, get_or}
+use Rattle.std.specs.Prelude.{ℕ, zero, suc, Bool, true, false, Option, None, Some, List, [], fold, set, get_or}
 use Rattle.abel_tree.specs.declared.words.Extension.{Extension}
 use Rattle.abel_tree.specs.declared.words.Extension.TheVariants.{D}
-use Rattle.abel_tree.specs.Assigned.{Assigned, Named, branch_assigns}
-use Rattle.abel_tree.specs.Tree.{Tree, Statement, Branch}
-use Rattle.abel_tree.specs.declared.statements.When.{When}
-use Rattle.abel_tree.specs.declared.statements.Stmt.TheFolds.{fold-When}
-use Rattle.abel_tree.specs.declared.diagrams.If.{If}
-use Rattle.abel_tree.specs.declared.diagrams.Arm.TheFolds.{fold-If}
-use Rattle.abel_tree.specs.View.{stmt_layer, when_layer, arm_layer, case_layer, case_arm_layer, if_layer}
-use Rattle.pld_base.specs.declared.place.Place.{Place}
+use Rattle.abel_tree.specs.Assigned.{Assigned, Named, assigned_by, assigned_each, is_clocked, signals_of, target_extension, without_extension}
+use Rattle.abel_tree.specs.Tree.{Tree}
 use Rattle.declared_names.specs.declared.marks.Mark.{Mark}
 use Rattle.declared_names.specs.declared.marks.Mark.TheVariants as mark
+use Rattle.name_uses.specs.Parts as role
+use Rattle.name_uses.specs.Parts.{PartRole, PartTree}
 
 -- something names it
 abbrev pub is_marked : Mark → Bool
@@ -48,12 +44,16 @@ marked ms a = hit a.clocked ms a.signal
 abbrev pub all_marked : List Mark → List Assigned → List Mark
 all_marked ms found = fold marked ms found
 
--- a WHEN and an IF
-abbrev pub when_tree : When → Statement
-when_tree = fold-When Statement Statement stmt_layer when_layer
+-- what a name gives by its mark, plainly or strongly
+abbrev pub pass_by : Mark → (gives : Bool → List Assigned) → List Mark → List Mark
+pass_by mark.Clear gives ms = ms
+pass_by mark.Plain gives ms = all_marked ms (gives false)
+pass_by mark.Strong gives ms = all_marked ms (gives true)
 
-abbrev pub if_tree : If → Branch
-if_tree = fold-If Branch Branch (Tree × (Place × Branch)) Branch arm_layer case_layer case_arm_layer if_layer
+-- what all names below a number give, the last one first
+abbrev pub passed : (gives : ℕ → Bool → List Assigned) → ℕ → List Mark → List Mark
+passed gives zero ms = ms
+passed gives (suc k) ms = passed gives k (pass_by (get_or ms k mark.Clear) (gives k) ms)
 
 -- whether a target with this extension is data, and then whether it is assigned on the clock
 abbrev pub clocked_by : Option Extension → (clocked : Bool) → Option Bool
@@ -61,6 +61,14 @@ clocked_by None clocked = Some clocked
 clocked_by (Some D) clocked = Some true
 clocked_by (Some _) clocked = None
 
--- what an arm of CASE assigns
-abbrev pub choice_assigns : List Named → Tree × (Place × Branch) → List Assigned
-choice_assigns ks c = branch_assigns ks c.1.1
+-- what a part of a section assigns: a target of data, the outputs of a table, the registers of a diagram
+abbrev pub assigned_as : List Named → PartRole → Tree → List Assigned
+assigned_as ks (role.Target sign) t = assigned_by (target_extension t) (is_clocked sign) (signals_of ks (without_extension t))
+assigned_as ks (role.Value target) t = []
+assigned_as ks role.Read t = []
+assigned_as ks (role.Outputs clocked) t = assigned_each clocked (signals_of ks t)
+assigned_as ks role.Registers t = assigned_each true (signals_of ks t)
+assigned_as ks role.Entry t = []
+
+abbrev pub part_assigns : List Named → PartTree → List Assigned
+part_assigns ks p = assigned_as ks p.role p.tree

@@ -1,14 +1,14 @@
--- The names with their own numbers, and from the last constant to the first what it names.
-use Rattle.std.specs.Prelude.{◌≡◌, ℕ, zero, suc, Option, None, Some, List, [], ◌∷◌, if◌then◌else◌, nat_lt, take, bytes_eq, get_or, slice_get}
+-- The names with their own numbers, what a constant names, and what is marked of names.
+use Rattle.std.specs.Prelude.{◌≡◌, ℕ, suc, Option, None, Some, List, [], ◌∷◌, Bool, if◌then◌else◌, nat_lt, take, bytes_eq, slice_get}
 use Rattle.std.specs.Global.{Vec}
 use Rattle.std.specs.Map.{lookup}
-use Rattle.abel_tree.specs.Assigned.{Named, signals_of}
+use Rattle.abel_tree.specs.Assigned.{Assigned, Named, assigned_each, signals_of}
 use Rattle.abel_tree.specs.Entries.{Kind, APin, ANode, AConstant, ADeviceName, Entry, find}
 use Rattle.abel_tree.specs.Tree.{Tree}
 use Rattle.declared_names.specs.declared.marks.Mark.{Mark}
+use Rattle.declared_names.specs.declared.numbers.FirstNames.{FirstNames}
 use Rattle.declared_names.specs.declared.numbers.Numbers.{Numbers}
-use Rattle.declared_names.specs.declared.marks.Mark.TheVariants as mark
-use Rattle.declared_names.specs.Marking.{is_marked, is_strong, hits}
+use Rattle.declared_names.specs.Marking.{all_marked, hits}
 
 -- a name that stands for its own number alone
 abbrev pub numbered_from : ℕ → List Entry → List Named
@@ -39,17 +39,9 @@ named_in ks (Some value) = signals_of ks value
 abbrev pub direct : List Entry → ℕ → List ℕ
 direct es k = named_in (numbered k es) (value_at (slice_get es k))
 
--- a constant that is marked marks what it names
-abbrev pub spread_by : Mark → List ℕ → List Mark → List Mark
-spread_by m ds ms = if is_marked m then hits (is_strong m) ms ds else ms
-
-abbrev pub spread_from : List Entry → ℕ → List Mark → List Mark
-spread_from es k ms = spread_by (get_or ms k mark.Clear) (direct es k) ms
-
--- all constants below a number, the last one first
-abbrev pub swept : List Entry → ℕ → List Mark → List Mark
-swept es zero ms = ms
-swept es (suc k) ms = swept es k (spread_from es k ms)
+-- these are assigned where it is, on the clock or not
+abbrev pub assigns_of : List Entry → ℕ → (clocked : Bool) → List Assigned
+assigns_of es k clocked = assigned_each clocked (direct es k)
 
 -- the number, if it is below the limit
 abbrev pub below_limit : (limit : ℕ) → Option ℕ → List ℕ
@@ -72,3 +64,15 @@ number_of_name name n other = if bytes_eq other name then Some n else None
 -- the numbers are those of these names
 abbrev pub IsNumbering : Numbers → List Entry → Type 0
 IsNumbering ns es = (name : List ℕ) → number_in ns.map.entries name ≡ find es name
+
+-- ---- what the first names mark, whatever names have their numbers
+
+-- the numbers that they give are marked, plainly or strongly
+abbrev pub AreNamed : FirstNames → (strong : Bool) → (old new : List Mark) → (gives : List Named → List ℕ) → Type 0
+AreNamed names strong old new gives =
+    (es : List Entry) → IsNumbering names.numbers.now es → new ≡ hits strong old (gives (numbered names.limit es))
+
+-- what they give is marked as assigned
+abbrev pub AreAssigned : FirstNames → (old new : List Mark) → (gives : List Named → List Assigned) → Type 0
+AreAssigned names old new gives =
+    (es : List Entry) → IsNumbering names.numbers.now es → new ≡ all_marked old (gives (numbered names.limit es))

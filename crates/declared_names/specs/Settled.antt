@@ -7,8 +7,8 @@ use Rattle.abel_meaning.specs.Held.{sections_parts}
 use Rattle.abel_meaning.specs.Kinds.{is_registered, is_buffer, is_open, settled_words}
 use Rattle.declared_names.specs.declared.marks.Mark.{Mark}
 use Rattle.declared_names.specs.declared.marks.Mark.TheVariants as mark
-use Rattle.declared_names.specs.Marking.{is_marked, is_strong}
-use Rattle.declared_names.specs.Reading.{Holding, numbers_read, parts_found, read_through}
+use Rattle.declared_names.specs.Marking.{is_marked, is_strong, passed}
+use Rattle.declared_names.specs.Reading.{Holding, numbers_read, parts_found, reads_of}
 
 -- one kind, one polarity or none, and perhaps DC
 abbrev pub attribute_words : (registered buffer free dc : Bool) → Words
@@ -23,7 +23,7 @@ first_found es sections =
 -- and what they hold through constants
 abbrev pub all_found : List Entry → List SectionTree → Holding
 all_found es sections =
-    record { all = (first_found es sections).all; marks = read_through es (length es) (first_found es sections).marks }
+    record { all = (first_found es sections).all; marks = passed (reads_of es) (length es) (first_found es sections).marks }
 
 -- the name of this number is held
 abbrev pub is_held_at : Holding → ℕ → Bool

@@ -11,15 +11,16 @@ ghost use Rattle.declared_names.specs.AcceptedNames.{AreDeclaredFor, BuffersAreA
 
 use crate::kinds::settle;
 use crate::registers::{first_refused, open_fault};
-use abel_tree::{Module, Names};
+use abel_tree::Names;
 use decls::{NameFault, NamesRead, read_names};
+use name_uses::ModuleParts;
 use pld_base::ListOf;
 use pld_device::Device;
 use std::alloc::Global;
 
 /// The names that a module declares for a device, with their kinds and polarities; a register that is free has neither
 /// polarity, and a pin without a number has the number 0. Which device the module itself names is not looked at.
-pub fn declare<D: Device>(alloc: Global, source: &Module) -> Result<Names, NameFault>
+pub fn declare<D: Device>(alloc: Global, source: &ModuleParts<'_>) -> Result<Names, NameFault>
     ensures names { IfOk result (λ n. entries_of n ≡ names_of D.table (view_module source.now)) }
     ensures accepted { IfOk result (λ n. name_refusals D.table (view_module source.now) ≡ []) }
     ensures sound { IfOk result (λ n. AreDeclaredFor D.table.name D.table.pins n) }
@@ -41,7 +42,7 @@ pub fn declare<D: Device>(alloc: Global, source: &Module) -> Result<Names, NameF
         Ok(fault) => fault,
         Err(fault) => return Err(fault),
     };
-    let list = settle(alloc, D::FLIP, list, source.sections.as_slice())?;
+    let list = settle(alloc, D::FLIP, list, source)?;
     match first_refused::<D>(fault, list.as_slice(), buffered.as_slice()) {
         Some(fault) => Err(fault),
         None => Ok(Names {

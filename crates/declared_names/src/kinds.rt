@@ -3,18 +3,19 @@
 ghost use Rattle.std.specs.Prelude.{◌≡◌, IfOk, map, replicate};
 ghost use Rattle.abel_meaning.specs.Kinds.{with_assigned};
 ghost use Rattle.abel_tree.specs.Entries.{is_signal, view_declared, view_meaning};
-ghost use Rattle.abel_tree.specs.View.{view_section};
+ghost use Rattle.abel_tree.specs.View.{view_module};
 ghost use Rattle.declared_names.specs.declared.marks.Mark.TheVariants.{Clear};
 ghost use Rattle.declared_names.specs.Settled.{all_found, is_held_at, kind_by, kinds_by};
 ghost use Rattle.declared_names.specs.Numbered.{IsNumbering};
 ghost use Rattle.declared_names.specs.Reading.{holding_of};
 
 use crate::attributes::settled_attributes;
+use crate::held::Found;
 use crate::marks::Mark;
 use crate::numbers::{FirstNames, Numbers, numbers_of};
-use crate::parts::Found;
 use crate::sweep::mark_of;
-use abel_tree::{Declared, Meaning, Section};
+use abel_tree::{Declared, Meaning};
+use name_uses::ModuleParts;
 use pld_base::OutOfMemory;
 use pld_device::Flip;
 use std::alloc::Global;
@@ -25,9 +26,10 @@ pub fn settle(
     alloc: Global,
     flip: Flip,
     names: Vec<Declared>,
-    sections: &[Section],
+    source: &ModuleParts<'_>,
 ) -> Result<Vec<Declared>, OutOfMemory>
-    ensures { IfOk result (λ list. map view_declared list.items ≡ with_assigned flip (map view_section sections.now) (map view_declared names.items)) }
+    ensures { IfOk result (λ list. map view_declared list.items
+        ≡ with_assigned flip (view_module source.now).sections (map view_declared names.items)) }
 {
     let count = names.len();
     let numbers = numbers_of(alloc, names.as_slice())?;
@@ -36,9 +38,9 @@ pub fn settle(
         numbers: &numbers,
         limit: count,
     };
-    all.mark_sections(alloc, &mut marks, sections)?;
+    all.mark_sections(alloc, &mut marks, source)?;
     numbers.sweep(alloc, &mut marks, names.as_slice())?;
-    let held = held_names(alloc, &numbers, names.as_slice(), sections)?;
+    let held = held_names(alloc, &numbers, names.as_slice(), source)?;
     settle_all(alloc, flip, names, marks.as_slice(), &held)
 }
 
@@ -47,10 +49,11 @@ fn held_names(
     alloc: Global,
     numbers: &Numbers,
     names: &[Declared],
-    sections: &[Section],
+    source: &ModuleParts<'_>,
 ) -> Result<Found, OutOfMemory>
     requires { IsNumbering numbers.now (map view_declared names.now) }
-    ensures { IfOk result (λ found. holding_of found ≡ all_found (map view_declared names.now) (map view_section sections.now)) }
+    ensures { IfOk result (λ found. holding_of found
+        ≡ all_found (map view_declared names.now) (view_module source.now).sections) }
 {
     let count = names.len();
     let marks = clear_marks(alloc, count)?;
@@ -59,7 +62,7 @@ fn held_names(
         numbers,
         limit: count,
     };
-    all.hold_sections(alloc, &mut found, sections)?;
+    all.hold_sections(alloc, &mut found, source)?;
     numbers.read_through(alloc, &mut found.marks, names)?;
     Ok(found)
 }
@@ -83,7 +86,8 @@ fn settle_all(
     marks: &[Mark],
     held: &Found,
 ) -> Result<Vec<Declared>, OutOfMemory>
-    ensures { IfOk result (λ list. map view_declared list.items ≡ kinds_by flip marks.now (holding_of held.now) 0 (map view_declared names.items)) }
+    ensures { IfOk result (λ list. map view_declared list.items
+        ≡ kinds_by flip marks.now (holding_of held.now) 0 (map view_declared names.items)) }
 {
     let mut settled = Vec::new(alloc);
     for declared in names {

@@ -1,16 +1,18 @@
 //! From the last constant to the first: what a constant that is read reads itself.
 
-ghost use Rattle.std.specs.Prelude.{◌≡◌, OnOk, length, map};
+ghost use Rattle.std.specs.Prelude.{◌≡◌, OnOk, get_or, length, map};
 ghost use Rattle.abel_tree.specs.Entries.{view_declared};
-ghost use Rattle.declared_names.specs.Marking.{all_marked};
+ghost use Rattle.declared_names.specs.declared.marks.Mark.TheVariants.{Clear};
+ghost use Rattle.declared_names.specs.Marking.{all_marked, pass_by, passed};
 ghost use Rattle.declared_names.specs.Numbered.{IsNumbering};
-ghost use Rattle.declared_names.specs.Reading.{read_on, read_through, reads_of};
+ghost use Rattle.declared_names.specs.Reading.{reads_of};
 
 use crate::constants::constant_at;
 use crate::marks::Mark;
 use crate::numbers::{FirstNames, Numbers};
 use crate::sweep::mark_of;
 use abel_tree::Declared;
+use name_uses::names_used;
 use pld_base::OutOfMemory;
 use std::alloc::Global;
 
@@ -22,7 +24,10 @@ impl Numbers {
         marks: &mut Vec<Mark>,
         names: &[Declared],
     ) -> Result<(), OutOfMemory>
-        ensures { OnOk result (IsNumbering self.now (map view_declared names.now) → marks.new.items ≡ read_through (map view_declared names.now) (length names.now) marks.old.items) }
+        ensures { OnOk result (IsNumbering self.now (map view_declared names.now)
+            → marks.new.items
+            ≡ passed (reads_of (map view_declared names.now)) (length names.now)
+            marks.old.items) }
     {
         let mut number = names.len();
         while 0 < number {
@@ -45,7 +50,10 @@ impl FirstNames<'_> {
         marks: &mut Vec<Mark>,
         names: &[Declared],
     ) -> Result<(), OutOfMemory>
-        ensures { OnOk result (IsNumbering self.now.numbers.now (map view_declared names.now) → marks.new.items ≡ read_on (map view_declared names.now) self.now.limit marks.old.items) }
+        ensures { OnOk result (IsNumbering self.now.numbers.now (map view_declared names.now)
+            → marks.new.items
+            ≡ pass_by (get_or marks.old.items self.now.limit Clear)
+            (reads_of (map view_declared names.now) self.now.limit) marks.old.items) }
     {
         let mark = mark_of(marks.as_slice(), self.limit);
         match mark {
@@ -63,10 +71,16 @@ impl FirstNames<'_> {
         names: &[Declared],
         as_q: bool,
     ) -> Result<(), OutOfMemory>
-        ensures { OnOk result (IsNumbering self.now.numbers.now (map view_declared names.now) → marks.new.items ≡ all_marked marks.old.items (reads_of (map view_declared names.now) self.now.limit as_q)) }
+        ensures { OnOk result (IsNumbering self.now.numbers.now (map view_declared names.now)
+            → marks.new.items
+            ≡ all_marked marks.old.items
+            (reads_of (map view_declared names.now) self.now.limit as_q)) }
     {
         match constant_at(names, self.limit) {
-            Some(value) => self.mark_read(alloc, marks, as_q, value),
+            Some(value) => {
+                let uses = names_used(alloc, value)?;
+                self.mark_uses(alloc, marks, as_q, uses.as_slice())
+            }
             None => Ok(()),
         }
     }

@@ -3,8 +3,8 @@
 ghost use Rattle.std.specs.Prelude.{◌≡◌, OnOk, length, map, get_or};
 ghost use Rattle.abel_tree.specs.Entries.{view_declared};
 ghost use Rattle.declared_names.specs.declared.marks.Mark.TheVariants.{Clear};
-ghost use Rattle.declared_names.specs.Marking.{hits};
-ghost use Rattle.declared_names.specs.Numbered.{IsNumbering, direct, spread_from, swept};
+ghost use Rattle.declared_names.specs.Marking.{all_marked, pass_by, passed};
+ghost use Rattle.declared_names.specs.Numbered.{IsNumbering, assigns_of};
 
 use crate::constants::constant_at;
 use crate::marks::Mark;
@@ -21,7 +21,10 @@ impl Numbers {
         marks: &mut Vec<Mark>,
         names: &[Declared],
     ) -> Result<(), OutOfMemory>
-        ensures { OnOk result (IsNumbering self.now (map view_declared names.now) → marks.new.items ≡ swept (map view_declared names.now) (length names.now) marks.old.items) }
+        ensures { OnOk result (IsNumbering self.now (map view_declared names.now)
+            → marks.new.items
+            ≡ passed (assigns_of (map view_declared names.now)) (length names.now)
+            marks.old.items) }
     {
         let mut number = names.len();
         while 0 < number {
@@ -44,7 +47,10 @@ impl FirstNames<'_> {
         marks: &mut Vec<Mark>,
         names: &[Declared],
     ) -> Result<(), OutOfMemory>
-        ensures { OnOk result (IsNumbering self.now.numbers.now (map view_declared names.now) → marks.new.items ≡ spread_from (map view_declared names.now) self.now.limit marks.old.items) }
+        ensures { OnOk result (IsNumbering self.now.numbers.now (map view_declared names.now)
+            → marks.new.items
+            ≡ pass_by (get_or marks.old.items self.now.limit Clear)
+            (assigns_of (map view_declared names.now) self.now.limit) marks.old.items) }
     {
         let mark = mark_of(marks.as_slice(), self.limit);
         match mark {
@@ -62,7 +68,10 @@ impl FirstNames<'_> {
         names: &[Declared],
         clocked: bool,
     ) -> Result<(), OutOfMemory>
-        ensures { OnOk result (IsNumbering self.now.numbers.now (map view_declared names.now) → marks.new.items ≡ hits clocked marks.old.items (direct (map view_declared names.now) self.now.limit)) }
+        ensures { OnOk result (IsNumbering self.now.numbers.now (map view_declared names.now)
+            → marks.new.items
+            ≡ all_marked marks.old.items
+            (assigns_of (map view_declared names.now) self.now.limit clocked)) }
     {
         match constant_at(names, self.limit) {
             Some(value) => self.mark_expr(alloc, marks, clocked, value),

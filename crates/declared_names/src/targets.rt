@@ -1,12 +1,10 @@
 //! The names of targets.
 
-ghost use Rattle.std.specs.Prelude.{◌≡◌, OnOk, List, map};
+ghost use Rattle.std.specs.Prelude.{OnOk, map};
 ghost use Rattle.abel_tree.specs.Assigned.{signals_of, signals_of_name, signals_of_member, signals_of_members, signals_of_names, without_extension};
-ghost use Rattle.abel_tree.specs.Entries.{Entry};
 ghost use Rattle.abel_tree.specs.Tree.{members_of};
 ghost use Rattle.abel_tree.specs.View.{view, view_member};
-ghost use Rattle.declared_names.specs.Marking.{hits};
-ghost use Rattle.declared_names.specs.Numbered.{numbered, IsNumbering};
+ghost use Rattle.declared_names.specs.Numbered.{AreNamed};
 ghost use Rattle.name_uses.specs.RangeParts.{name_items};
 
 use crate::marks::{Mark, mark_number};
@@ -19,7 +17,8 @@ use std::alloc::Global;
 impl FirstNames<'_> {
     /// Marks a name, if its number is below the limit.
     pub(crate) fn mark_name(&self, marks: &mut Vec<Mark>, strong: bool, name: &[u8])
-        ensures { (es : List Entry) → IsNumbering self.now.numbers.now es → marks.new.items ≡ hits strong marks.old.items (signals_of_name (numbered self.now.limit es) name.now) }
+        ensures { AreNamed self.now strong marks.old.items marks.new.items
+            (λ ks. signals_of_name ks name.now) }
     {
         if let Some(number) = self.numbers.map.get(name) {
             if *number < self.limit {
@@ -30,7 +29,8 @@ impl FirstNames<'_> {
 
     /// Marks names.
     pub(crate) fn mark_names(&self, marks: &mut Vec<Mark>, strong: bool, names: &[Vec<u8>])
-        ensures { (es : List Entry) → IsNumbering self.now.numbers.now es → marks.new.items ≡ hits strong marks.old.items (signals_of_names (numbered self.now.limit es) (map name_items names.now)) }
+        ensures { AreNamed self.now strong marks.old.items marks.new.items
+            (λ ks. signals_of_names ks (map name_items names.now)) }
     {
         for name in names {
             self.mark_name(marks, strong, name.as_slice());
@@ -45,7 +45,8 @@ impl FirstNames<'_> {
         clocked: bool,
         target: &Expr,
     ) -> Result<(), OutOfMemory>
-        ensures { OnOk result ((es : List Entry) → IsNumbering self.now.numbers.now es → marks.new.items ≡ hits clocked marks.old.items (signals_of (numbered self.now.limit es) (without_extension (view target.now)))) }
+        ensures { OnOk result (AreNamed self.now clocked marks.old.items marks.new.items
+            (λ ks. signals_of ks (without_extension (view target.now)))) }
     {
         match target {
             Expr::Name { word, extension: _ } => {
@@ -70,7 +71,8 @@ impl FirstNames<'_> {
         clocked: bool,
         expr: &Expr,
     ) -> Result<(), OutOfMemory>
-        ensures { OnOk result ((es : List Entry) → IsNumbering self.now.numbers.now es → marks.new.items ≡ hits clocked marks.old.items (signals_of (numbered self.now.limit es) (view expr.now))) }
+        ensures { OnOk result (AreNamed self.now clocked marks.old.items marks.new.items
+            (λ ks. signals_of ks (view expr.now))) }
     {
         match expr {
             Expr::Name {
@@ -101,7 +103,8 @@ impl FirstNames<'_> {
         clocked: bool,
         members: &[Member],
     ) -> Result<(), OutOfMemory>
-        ensures { OnOk result ((es : List Entry) → IsNumbering self.now.numbers.now es → marks.new.items ≡ hits clocked marks.old.items (signals_of_members (numbered self.now.limit es) (members_of (map view_member members.now)))) }
+        ensures { OnOk result (AreNamed self.now clocked marks.old.items marks.new.items
+            (λ ks. signals_of_members ks (members_of (map view_member members.now)))) }
     {
         for member in members {
             self.mark_member(alloc, marks, clocked, member)?;
@@ -118,7 +121,8 @@ impl FirstNames<'_> {
         clocked: bool,
         member: &Member,
     ) -> Result<(), OutOfMemory>
-        ensures { OnOk result ((es : List Entry) → IsNumbering self.now.numbers.now es → marks.new.items ≡ hits clocked marks.old.items (signals_of_member (numbered self.now.limit es) (view_member member.now))) }
+        ensures { OnOk result (AreNamed self.now clocked marks.old.items marks.new.items
+            (λ ks. signals_of_member ks (view_member member.now))) }
     {
         match member {
             Member::One(expr) => self.mark_expr(alloc, marks, clocked, expr),

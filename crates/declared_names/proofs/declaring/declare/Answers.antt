@@ -2,7 +2,7 @@
 use Rattle.std.proofs.Common.{◌≡◌, ◌++◌, map, inr, sym, ap, ◌∙◌}
 use Rattle.abel_tree.specs.Entries.{view_declared}
 use Rattle.abel_tree.specs.FirstRefusal.{first_refusal}
-use Rattle.abel_tree.specs.View.{view_module, view_section}
+use Rattle.abel_tree.specs.View.{view_module}
 use Rattle.abel_meaning.specs.Kinds.{with_assigned}
 use Rattle.decls.specs.FaultOrder.{name_order}
 use Rattle.decls.specs.NameRefusals.{first_name_refusal}
@@ -19,9 +19,9 @@ returns g c =
     let read = map view_declared c.in_ok-list.field-0.list.items in
     let settled = map view_declared c.in_ok-list-2.list.items in
     let flip = c.FLIP.ensures ∙ g.met.D.Device.flip_is in
-    let kinds : settled ≡ with_assigned c.FLIP.result m.sections read = c.in_ok-list-2.ensures ∙ ap (λ xs. with_assigned c.FLIP.result (map view_section xs) read) c.as_slice.ensures in
-    let first : c.first_refused.result ≡ first_name_refusal t m = first_same t m c.FLIP.result read settled c.as_slice-3.result.now c.in_ok-list.field-0.fault c.first_refused.result flip (c.in_ok-list.ensures.list wanted) kinds (c.as_slice-3.ensures.value ∙ c.in_ok-list.ensures.buffered wanted) c.in_ok-list.ensures.fault
-    (λ fs e. c.first_refused.ensures fs (c.in-Ok.ensures.open.0 ∙ e) ∙ ap (λ ds. first_refusal name_order (fs ++ refused_for t (map view_declared ds) c.as_slice-3.result.now)) c.as_slice-2.ensures.value) in
+    let kinds : settled ≡ with_assigned c.FLIP.result m.sections read = c.in_ok-list-2.ensures in
+    let first : c.first_refused.result ≡ first_name_refusal t m = first_same t m c.FLIP.result read settled c.as_slice-2.result.now c.in_ok-list.field-0.fault c.first_refused.result flip (c.in_ok-list.ensures.list wanted) kinds (c.as_slice-2.ensures.value ∙ c.in_ok-list.ensures.buffered wanted) c.in_ok-list.ensures.fault
+    (λ fs e. c.first_refused.ensures fs (c.in-Ok.ensures.open.0 ∙ e) ∙ ap (λ ds. first_refusal name_order (fs ++ refused_for t (map view_declared ds) c.as_slice-2.result.now)) c.as_slice.ensures.value) in
     let none = nothing_refused t m (sym c.in-None.is ∙ first) in
     let names = ap (map view_declared) c.from_vec.ensures ∙ settled_same t m none c.FLIP.result read settled flip (c.in_ok-list.ensures.list wanted) kinds in
     record {
@@ -41,9 +41,9 @@ returns-in-Some-clause-refused g c =
     let wanted = ap (λ w. wants_names w c.in_ok-list.field-0.fault) (sym c.in_ok-list.ensures.wait) ∙ c.in-Ok.ensures.open.1 in
     let read = map view_declared c.in_ok-list.field-0.list.items in
     let settled = map view_declared c.in_ok-list-2.list.items in
-    let kinds : settled ≡ with_assigned c.FLIP.result m.sections read = c.in_ok-list-2.ensures ∙ ap (λ xs. with_assigned c.FLIP.result (map view_section xs) read) c.as_slice.ensures in
-    let first : c.first_refused.result ≡ first_name_refusal t m = first_same t m c.FLIP.result read settled c.as_slice-3.result.now c.in_ok-list.field-0.fault c.first_refused.result (c.FLIP.ensures ∙ g.met.D.Device.flip_is) (c.in_ok-list.ensures.list wanted) kinds (c.as_slice-3.ensures.value ∙ c.in_ok-list.ensures.buffered wanted) c.in_ok-list.ensures.fault
-    (λ fs e. c.first_refused.ensures fs (c.in-Ok.ensures.open.0 ∙ e) ∙ ap (λ ds. first_refusal name_order (fs ++ refused_for t (map view_declared ds) c.as_slice-3.result.now)) c.as_slice-2.ensures.value) in
+    let kinds : settled ≡ with_assigned c.FLIP.result m.sections read = c.in_ok-list-2.ensures in
+    let first : c.first_refused.result ≡ first_name_refusal t m = first_same t m c.FLIP.result read settled c.as_slice-2.result.now c.in_ok-list.field-0.fault c.first_refused.result (c.FLIP.ensures ∙ g.met.D.Device.flip_is) (c.in_ok-list.ensures.list wanted) kinds (c.as_slice-2.ensures.value ∙ c.in_ok-list.ensures.buffered wanted) c.in_ok-list.ensures.fault
+    (λ fs e. c.first_refused.ensures fs (c.in-Ok.ensures.open.0 ∙ e) ∙ ap (λ ds. first_refusal name_order (fs ++ refused_for t (map view_declared ds) c.as_slice-2.result.now)) c.as_slice.ensures.value) in
     inr (sym first ∙ c.in-Some.is)
 
 pub returns-in-Err-clause-refused : goal.returns-in-Err-clause-refused

@@ -1,11 +1,9 @@
--- What is found in the items so far.
-use Rattle.std.proofs.Common.{◌≡◌, List, map, take}
-use Rattle.abel_tree.specs.Entries.{Entry}
-use Rattle.abel_tree.specs.View.{view_section}
-use Rattle.declared_names.specs.Numbered.{IsNumbering}
-use Rattle.declared_names.specs.Reading.{holding_of, numbers_read, parts_found}
-use Rattle.abel_meaning.specs.Held.{sections_parts}
+-- What the sections so far hold.
+use Rattle.std.proofs.Common.{fold, map, take}
+use Rattle.declared_names.specs.Reading.{IsHeld, holding_of, part_holds}
+use Rattle.declared_names.proofs.HeldParts.{parted}
 use Rattle.declared_names.proofs.numbers.FirstNames.hold_sections.Given as goal
+use Rattle.name_uses.specs.Viewed.{view_section_parts}
 
 abbrev pub invariant-loop-section : goal.invariant-loop-section
-invariant-loop-section l = (es : List Entry) → IsNumbering l.self.numbers.now es → holding_of l.found ≡ parts_found (numbers_read l.self.limit es) (holding_of l.fn.found) (sections_parts (map view_section (take l.section-index l.sections)))
+invariant-loop-section l = IsHeld l.self (holding_of l.fn.found) (holding_of l.found) (λ of held. fold (parted (part_holds of)) held (map view_section_parts (take l.section-index l.sections)))

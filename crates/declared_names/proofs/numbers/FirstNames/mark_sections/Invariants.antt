@@ -1,11 +1,10 @@
--- What the items so far mark.
-use Rattle.std.proofs.Common.{◌≡◌, List, map, take}
-use Rattle.abel_tree.specs.Entries.{Entry}
-use Rattle.abel_tree.specs.Assigned.{sections_assign}
-use Rattle.abel_tree.specs.View.{view_section}
-use Rattle.declared_names.specs.Marking.{all_marked}
-use Rattle.declared_names.specs.Numbered.{numbered, IsNumbering}
+-- What the sections so far assign.
+use Rattle.std.proofs.Common.{map, take}
+use Rattle.std.specs.List.{flat_map}
+use Rattle.declared_names.specs.Numbered.{AreAssigned}
+use Rattle.declared_names.proofs.AssignedParts.{parted_assigns}
 use Rattle.declared_names.proofs.numbers.FirstNames.mark_sections.Given as goal
+use Rattle.name_uses.specs.Viewed.{view_section_parts}
 
 abbrev pub invariant-loop-section : goal.invariant-loop-section
-invariant-loop-section l = (es : List Entry) → IsNumbering l.self.numbers.now es → l.marks.items ≡ all_marked l.fn.marks.items (sections_assign (numbered l.self.limit es) (map view_section (take l.section-index l.sections)))
+invariant-loop-section l = AreAssigned l.self l.fn.marks.items l.marks.items (λ ks. flat_map (parted_assigns ks) (map view_section_parts (take l.section-index l.sections)))

@@ -1,7 +1,8 @@
 -- One name less is left.
 use Rattle.std.proofs.Common.{◌≡◌, suc, ◌-◌, map, ap, ◌∙◌, arith}
 use Rattle.abel_tree.specs.Entries.{view_declared}
-use Rattle.declared_names.specs.Reading.{read_through}
+use Rattle.declared_names.specs.Marking.{passed}
+use Rattle.declared_names.specs.Reading.{reads_of}
 use Rattle.declared_names.proofs.numbers.Numbers.read_through.Goals as goal
 
 pub loop-number-preserved : goal.loop-number-preserved
@@ -11,5 +12,5 @@ loop-number-preserved c =
     let one : suc (l.number - 1) ≡ l.number = omega (arith, c.loop-number-test.true) in
     record {
       within = omega (arith, l.invariant.within);
-      left = λ num. ap (read_through es (l.number - 1)) (c.in_ok-read_on.ensures num) ∙ (ap (λ k. read_through es k l.marks.items) one ∙ l.invariant.left num);
+      left = λ num. ap (passed (reads_of es) (l.number - 1)) (c.in_ok-read_on.ensures num) ∙ (ap (λ k. passed (reads_of es) k l.marks.items) one ∙ l.invariant.left num);
     }

@@ -1,7 +1,8 @@
 -- One name less is left.
 use Rattle.std.proofs.Common.{◌≡◌, suc, ◌-◌, map, ap, ◌∙◌, arith}
 use Rattle.abel_tree.specs.Entries.{view_declared}
-use Rattle.declared_names.specs.Numbered.{swept}
+use Rattle.declared_names.specs.Marking.{passed}
+use Rattle.declared_names.specs.Numbered.{assigns_of}
 use Rattle.declared_names.proofs.numbers.Numbers.sweep.Goals as goal
 
 pub loop-number-preserved : goal.loop-number-preserved
@@ -11,5 +12,5 @@ loop-number-preserved c =
     let one : suc (l.number - 1) ≡ l.number = omega (arith, c.loop-number-test.true) in
     record {
       within = omega (arith, l.invariant.within);
-      left = λ num. ap (swept es (l.number - 1)) (c.in_ok-spread.ensures num) ∙ (ap (λ k. swept es k l.marks.items) one ∙ l.invariant.left num);
+      left = λ num. ap (passed (assigns_of es) (l.number - 1)) (c.in_ok-spread.ensures num) ∙ (ap (λ k. passed (assigns_of es) k l.marks.items) one ∙ l.invariant.left num);
     }
