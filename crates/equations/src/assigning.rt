@@ -23,7 +23,7 @@ use crate::conditions::{is_clocked, refuse_value, target_extension};
 use abel_tree::Assign;
 use pld_base::OutOfMemory;
 use pld_device::Device;
-use section_targets::{Assigned, SectionScope, Side, check_aims};
+use section_targets::{Assigned, SectionScope, Side, Way, check_aims};
 use set_expr::{Checked, SectionFault, earlier};
 use std::alloc::Global;
 
@@ -48,10 +48,12 @@ fn check_side<D: Device>(
 {
     let aims = side.aims.as_slice();
     let refused = refuse_value(assign.sign_place, aims.len(), value);
-    let extension = target_extension(&assign.target);
-    let clocked = is_clocked(assign.sign);
-    let names = scope.scope();
-    let mixed = check_aims::<D>(names, extension, assign.complement, clocked, aims, before)?;
+    let way = Way {
+        extension: target_extension(&assign.target),
+        complement: assign.complement,
+        clocked: is_clocked(assign.sign),
+    };
+    let mixed = check_aims::<D>(scope.scope(), way, aims, before)?;
     Ok(earlier(refused, mixed))
 }
 

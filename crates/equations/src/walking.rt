@@ -14,7 +14,7 @@ use crate::values::{Meets, value_bits};
 use abel_tree::{Assign, Stmt, When};
 use pld_base::OutOfMemory;
 use pld_device::Device;
-use section_targets::{Giving, SectionScope, Walked, give_all};
+use section_targets::{Giver, Giving, SectionScope, Walked, give_all};
 use set_expr::{Guard, SectionFault};
 use std::alloc::Global;
 
@@ -34,7 +34,6 @@ fn give_assign<D: Device>(
 {
     let side = scope.target(alloc, assign.place, &assign.target)?;
     let aims = side.aims.as_slice();
-    let names = scope.scope();
     let meets = Meets {
         unit: assign.place,
         signals: aims.len(),
@@ -48,7 +47,11 @@ fn give_assign<D: Device>(
         clocked: is_clocked(assign.sign),
         what: sign_gives(assign.sign),
     };
-    give_all(names, giving, aims, &bits, &mut out.exprs, &mut out.list)
+    let giver = Giver {
+        scope: scope.scope(),
+        giving,
+    };
+    give_all(&giver, aims, &bits, &mut out.exprs, &mut out.list)
 }
 
 /// An assignment.

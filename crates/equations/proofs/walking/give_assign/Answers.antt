@@ -45,7 +45,7 @@ returns-in_err-bits-clause-gives g c =
 
 pub give_all-requires-clause-signals : goal.give_all-requires-clause-signals
 give_all-requires-clause-signals g c =
-    subst (λ (n : Names). AreNamed (length (entries_of n)) c.as_slice-aims.result.now) (sym c.scope-names.ensures)
+    subst (λ (n : Names). AreNamed (length (entries_of n)) c.as_slice-aims.result.now) (sym c.scope.ensures)
     (subst (λ (xs : List Aim). AreNamed (length (entries_of c.args.scope.now)) xs) (sym c.as_slice-aims.ensures) (c.in_ok-side.ensures g.D.Device.table).inside)
 
 pub give_all-requires-clause-guard : goal.give_all-requires-clause-guard
@@ -69,4 +69,4 @@ returns-clause-gives g c =
     clear aims (side_positions d a.place (view a.target) clear) c.target_extension.ensures c.is_clocked.ensures c.sign_gives.ensures
     (c.in_ok-bits.ensures.builds c.args.out.now.list.items) (kept_formula _ _ c.args.guard.when c.in_ok-bits.ensures.keeps c.requires.guard)
     (subst (λ (xs : List ExprId). AreBits (arena c.value_bits.new.exprs) xs ((formulas d).word (length c.as_slice-aims.result.now) (term_of d.known (view a.value)))) (sym c.deref.ensures.value) c.in_ok-bits.ensures.bits)
-    (c.give_all.ensures.builds d (ap entries_of (sym c.scope-names.ensures)))
+    (c.give_all.ensures.builds d (ap entries_of (sym c.scope.ensures)))
