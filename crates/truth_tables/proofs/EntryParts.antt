@@ -1,11 +1,11 @@
 -- What is found in sets and ranges, one member or name more at a time.
-use Rattle.std.proofs.Common.{◌≡◌, ℕ, Bool, true, false, ◌||◌, List, [], ◌∷◌, ◌++◌, map, refl, sym, ap, ◌∙◌, append_assoc, append-nil, rules}
+use Rattle.std.proofs.Common.{◌≡◌, ℕ, Bool, ◌||◌, List, [], ◌∷◌, ◌++◌, map, sym, ap, ◌∙◌, append_assoc, append-nil, rules}
 use Rattle.std.specs.List.{list_any}
 use Rattle.std.proofs.lemmas.List.Folds.{list_any-append}
-use Rattle.std.proofs.Math.Bool.{or_assoc}
+use Rattle.std.proofs.Math.Bool.{or_assoc, or-false}
 use Rattle.std.specs.Prelude.{Option}
 use Rattle.pld_base.specs.declared.place.Place.{Place}
-use Rattle.abel_tree.specs.declared.expressions.Expr.{Expr, size-Expr, the_lemmas}
+use Rattle.abel_tree.specs.declared.expressions.Expr.{the_lemmas}
 use Rattle.abel_tree.specs.declared.expressions.Expr as expr
 use Rattle.abel_tree.specs.declared.expressions.Member.{Member}
 use Rattle.abel_tree.specs.declared.words.Extension.{Extension}
@@ -15,26 +15,11 @@ use Rattle.set_expr.specs.declared.fault.SectionFault.{SectionFault}
 use Rattle.set_expr.specs.FoundNames.{NameFound, name_found}
 use Rattle.truth_tables.specs.RowEntries.{holds_pulse, any_holds_pulse, member_holds_pulse, names_refused, refused_inside, all_refused_inside, member_refused_inside}
 
-pub or_false : (a : Bool) → (a || false) ≡ a
-or_false true = refl
-or_false false = refl
-
-pub or_comm : (a b : Bool) → (a || b) ≡ (b || a)
-or_comm true true = refl
-or_comm true false = refl
-or_comm false true = refl
-or_comm false false = refl
-
--- the last of three before the other two
-pub or_last : (a b c : Bool) → ((a || c) || b) ≡ (a || (b || c))
-or_last true b c = refl
-or_last false b c = or_comm c b
-
 pub any_more : {A : Type 0} (f : A → Bool) (xs : List A) (x : A) → list_any f (xs ++ x ∷ []) ≡ (list_any f xs || f x)
-any_more f xs x = list_any-append f xs (x ∷ []) ∙ ap (λ b. list_any f xs || b) (or_false (f x))
+any_more f xs x = list_any-append f xs (x ∷ []) ∙ ap (λ b. list_any f xs || b) (or-false (f x))
 
 pub holds_more : (ns : List NameFound) (ms : List SetMember) (m : SetMember) → any_holds_pulse ns (members_of (ms ++ m ∷ [])) ≡ (any_holds_pulse ns (members_of ms) || member_holds_pulse ns m)
-holds_more ns [] m = or_false (member_holds_pulse ns m)
+holds_more ns [] m = or-false (member_holds_pulse ns m)
 holds_more ns (x ∷ ms) m =
     ap (λ b. member_holds_pulse ns x || b) (holds_more ns ms m)
     ∙ sym (or_assoc (member_holds_pulse ns x) (any_holds_pulse ns (members_of ms)) (member_holds_pulse ns m))

@@ -14,7 +14,7 @@ use Rattle.set_expr.specs.SectionOrder.{section_order}
 use Rattle.section_targets.specs.declared.aim.Aim.{Aim}
 use Rattle.truth_tables.specs.HeaderSignals.{names_positions}
 use Rattle.truth_tables.specs.OutputHeaders.{HeaderFound, header_of, refused_header, outputs_at, named_outputs, header_name, both_headers, header_set, header_range, output_member, output_members}
-use Rattle.truth_tables.specs.TableUnits.{some_aims, if_none, unless_refused}
+use Rattle.truth_tables.specs.TableUnits.{some_aims}
 use Rattle.truth_tables.specs.declared.header.Header.{Header}
 use Rattle.truth_tables.specs.Headers.{IsHeader}
 
@@ -79,13 +79,3 @@ named_other p name t e = rw e refl
 
 pub named_listed : (p : Place) (name : Option ℕ) (t : Term) (ss : List (Option ℕ)) → names_positions t ≡ true → ss ≡ targets_of t → named_outputs [] p name t ≡ header_of (outputs_at p ss)
 named_listed p name t ss e h = rw (e, h) refl
-
--- ---- outputs that are assigned
-
-pub outputs_first : (rs more : List SectionFault) (f : SectionFault) → Some f ≡ first rs → Some f ≡ first (if_none rs more)
-outputs_first [] more f e = absurd cc
-outputs_first (r ∷ rs) more f e = e
-
-pub assigned_none : (rs : List SectionFault) (aims : List Aim) (f : SectionFault) → Some f ≡ first rs → unless_refused rs aims ≡ []
-assigned_none [] aims f e = absurd cc
-assigned_none (r ∷ rs) aims f e = refl

@@ -1,7 +1,6 @@
 -- The positions of an input header stand for its bits.
-use Rattle.std.proofs.Common.{◌≡◌, ℕ, zero, suc, ◌<◌, Bool, true, false, Option, None, Some, List, [], ◌∷◌, All, length, map, reverse, replicate, if◌then◌else◌, bytes_eq, refl, sym, ap, ap₂, ◌∙◌, subst, arith}
-use Rattle.std.specs.Prelude.{codes}
-use Rattle.std.proofs.lemmas.List.Sorted.{IsPermutation-reverse, All-permutation}
+use Rattle.std.proofs.Common.{◌≡◌, ℕ, zero, suc, ◌<◌, Bool, true, false, Option, None, Some, List, [], ◌∷◌, ◌++◌, All, length, map, reverse, replicate, if◌then◌else◌, refl, sym, ap, ap₂, ◌∙◌, subst, arith}
+use Rattle.std.proofs.lemmas.List.{reverse-append}
 use Rattle.bit_expr.specs.declared.node.ExprId.{ExprId}
 use Rattle.bit_expr.specs.Arena.{formula_at}
 use Rattle.bit_expr.specs.Formulas.{Formula, Const}
@@ -12,7 +11,7 @@ use Rattle.abel_meaning.specs.CountedBlocks.{row_literals}
 use Rattle.abel_meaning.specs.Designs.{Context}
 use Rattle.abel_meaning.specs.FormulaBits.{bits_of, formulas, met_by, met_word, resized}
 use Rattle.abel_meaning.specs.Numbers.{Number, Single, Set, Value, width_of}
-use Rattle.abel_meaning.specs.Terms.{Term, NoTerm, Before, extended, extended_if, special_term}
+use Rattle.abel_meaning.specs.Terms.{Term, NoTerm, Before, extended, extended_if}
 use Rattle.abel_meaning.specs.Terms as term
 use Rattle.abel_meaning.specs.Values.{binary_by, constant_of, is_relation}
 use Rattle.abel_meaning.proofs.RelationWords.{map_reverse}
@@ -22,7 +21,8 @@ use Rattle.set_expr.specs.Answer.{AreIn, HasUnknown, bits_at, positions, unknown
 use Rattle.set_expr.specs.Shapes.{HasShape}
 use Rattle.section_targets.specs.Building.{AreBits}
 use Rattle.equations.proofs.BuiltParts.{met_length, bits_length}
-use Rattle.truth_tables.specs.Products.{IsShapedTerm, IsShapedNumber, StandForInputs, is_computed}
+use Rattle.truth_tables.specs.PartTerms.{is_computed}
+use Rattle.truth_tables.specs.Products.{IsShapedTerm, IsShapedNumber, StandForInputs}
 
 -- ---- positions in the other order
 
@@ -50,30 +50,15 @@ unknown_reverse ps = unknown_each (reverse ps) ∙ map_reverse is_unknown ps ∙
 bits_reverse : (fs : List Formula) (ps : List (Option ExprId)) → bits_at fs (reverse ps) ≡ reverse (bits_at fs ps)
 bits_reverse fs ps = bits_each fs (reverse ps) ∙ map_reverse (bit_of fs) ps ∙ ap reverse (sym (bits_each fs ps))
 
-abbrev InOne : ℕ → Option ExprId → Type 0
-InOne count None = Unit {0}
-InOne count (Some id) = id.0 < count
-
-each_in : (count : ℕ) (ps : List (Option ExprId)) → AreIn count ps → All (InOne count) ps
-each_in count [] h = λ k d lt. absurd (omega (arith, lt))
-each_in count (None ∷ ps) h = first (each_in count ps h)
-  where
-    first : All (InOne count) ps → All (InOne count) (None ∷ ps)
-    first more zero d lt = tt
-    first more (suc k) d lt = more k d (omega (arith, lt))
-each_in count (Some id ∷ ps) h = first (each_in count ps h.1)
-  where
-    first : All (InOne count) ps → All (InOne count) (Some id ∷ ps)
-    first more zero d lt = h.0
-    first more (suc k) d lt = more k d (omega (arith, lt))
-
-all_in : (count : ℕ) (ps : List (Option ExprId)) → All (InOne count) ps → AreIn count ps
-all_in count [] h = tt
-all_in count (None ∷ ps) h = all_in count ps (λ k d lt. h (suc k) d (omega (arith, lt)))
-all_in count (Some id ∷ ps) h = (h zero None (omega arith), all_in count ps (λ k d lt. h (suc k) d (omega (arith, lt))))
+in_more : (count : ℕ) (ps qs : List (Option ExprId)) → AreIn count ps → AreIn count qs → AreIn count (ps ++ qs)
+in_more count [] qs h g = g
+in_more count (None ∷ ps) qs h g = in_more count ps qs h g
+in_more count (Some id ∷ ps) qs h g = (h.0, in_more count ps qs h.1 g)
 
 in_reverse : (count : ℕ) (ps : List (Option ExprId)) → AreIn count ps → AreIn count (reverse ps)
-in_reverse count ps h = all_in count (reverse ps) (All-permutation (InOne count) ps (reverse ps) (IsPermutation-reverse ps) (each_in count ps h))
+in_reverse count [] h = tt
+in_reverse count (None ∷ ps) h = subst (AreIn count) (sym (reverse-append (None ∷ []) ps)) (in_more count (reverse ps) (None ∷ []) (in_reverse count ps h) tt)
+in_reverse count (Some id ∷ ps) h = subst (AreIn count) (sym (reverse-append (Some id ∷ []) ps)) (in_more count (reverse ps) (Some id ∷ []) (in_reverse count ps h.1) (h.0, tt))
 
 -- positions that have the flags and the bits of a header, from the right
 pub stand_reversed : (d : Context) (h : Term) (fs : List Formula) (ps : List (Option ExprId)) → AreIn (length fs) ps → (constant_of d h).unknown ≡ unknown_at ps
@@ -157,14 +142,6 @@ computed_extended (Some e) t = each t
     each (term.Set ts) = refl
     each (term.UnaryOf sign t) = each t
     each (term.BinaryOf sign t u) = refl
-
-pub special_plain : (letter : ℕ) → is_computed (special_term letter) ≡ false
-special_plain letter = by_letter (bytes_eq (letter ∷ []) (codes "X")) (bytes_eq (letter ∷ []) (codes "C"))
-  where
-    by_letter : (a b : Bool) → is_computed (if a then term.X else if b then term.Pulse else term.Release) ≡ false
-    by_letter true b = refl
-    by_letter false true = refl
-    by_letter false false = refl
 
 -- a number that no operator makes has no position
 pub stand_none : (d : Context) (fs : List Formula) (h : Term) (s : Shaped) → IsShapedNumber d fs h s → is_computed h ≡ false → StandForInputs d h fs []

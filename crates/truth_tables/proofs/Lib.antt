@@ -1,15 +1,16 @@
-pub mod ConstantShapes
+pub mod ConstantSteps
 pub mod EntryParts
-pub mod FoundValues
 pub mod GivenLaws
 pub mod HeaderLaws
 pub mod HeaderNames
 pub mod InputLaws
 pub mod NamesInOrder
+pub mod Operands
 pub mod OutputPositions
 pub mod PairLaws
 pub mod PartLaws
 pub mod PartLists
+pub mod PartSums
 pub mod ProductLaws
 pub mod ReadLaws
 mod RowExamples

@@ -1,27 +1,38 @@
 -- Headers and entries met pair by pair.
-use Rattle.std.proofs.Common.{◌≡◌, ℕ, zero, suc, ◌+◌, ◌-◌, ◌/◌, ◌%◌, ◌==◌, ◌<◌, Bool, true, false, ◌&&◌, Option, List, [], ◌∷◌, ◌++◌, length, map, reverse, replicate, refl, sym, ap, ap₂, ◌∙◌, subst, arith, append_assoc, append-nil, Bor}
+use Rattle.std.proofs.Common.{◌≡◌, ℕ, zero, suc, ◌+◌, ◌-◌, ◌/◌, ◌%◌, ◌==◌, ◌<◌, ◌≤◌, Bool, true, false, ◌&&◌, Option, List, [], ◌∷◌, ◌++◌, length, map, reverse, replicate, refl, sym, ap, ap₂, ◌∙◌, subst, arith, append_assoc, append-nil, Bor}
+use Rattle.std.proofs.Math.Bool.{and_assoc, and-false, and-true}
 use Rattle.std.proofs.lemmas.List.{map-append, reverse-append, replicate-append-replicate}
+use Rattle.abel_tree.specs.declared.expressions.Expr.{Expr}
 use Rattle.abel_tree.specs.declared.expressions.Member.{Member}
 use Rattle.abel_tree.specs.declared.words.Extension.{Extension}
+use Rattle.abel_tree.specs.View.{view}
 use Rattle.abel_meaning.proofs.RelationWords.{map_reverse}
 use Rattle.abel_meaning.specs.Designs.{Context}
 use Rattle.abel_meaning.specs.Numbers.{digits, digits_low_first}
 use Rattle.abel_meaning.specs.Rows.{part_marks, part_width, marks_of, all_marks}
 use Rattle.abel_meaning.specs.Rows as meant
-use Rattle.abel_meaning.specs.Terms.{Term, Terms, extended_if}
+use Rattle.abel_meaning.specs.Terms.{Term, Terms, extended_if, term_of}
 use Rattle.abel_meaning.specs.Terms as term
 use Rattle.abel_meaning.specs.Values.{constant_of}
+use Rattle.set_expr.specs.declared.shaped.Shape.TheVariants as shape
+use Rattle.set_expr.specs.Shapes.{HasShape}
 use Rattle.truth_tables.specs.declared.mark.Mark.{Mark}
 use Rattle.truth_tables.specs.declared.pairs.Pair.{Pair}
 use Rattle.truth_tables.specs.declared.part.Content.{Content}
 use Rattle.truth_tables.specs.declared.part.Content.TheVariants as content
 use Rattle.truth_tables.specs.declared.part.Part.{Part}
 use Rattle.truth_tables.specs.EntryMarks.{view_mark}
-use Rattle.truth_tables.specs.EntryTerms.{listed, extended_list}
-use Rattle.truth_tables.specs.PairTerms.{seen, both_sets, pairs_meet, pairs_marks, ArePairs, paired, Met, Whole, Stepped, IsStep, IsPush, Walked}
-use Rattle.truth_tables.specs.PartTerms.{IsContent, IsNumeral, IsPart, AreParts, is_operand}
+use Rattle.expr_bits.specs.Members.{list_of, each_extended}
+use Rattle.truth_tables.specs.PairTerms.{seen, is_set, both_sets, pairs_meet, pairs_marks, ArePairs, paired, Met, Whole, Stepped, IsStep, IsPush, Walked}
+use Rattle.truth_tables.specs.PartCounts.{all_parts, headers_of, pair_headers, stack_parts}
+use Rattle.truth_tables.specs.PartTerms.{IsContent, IsNumeral, IsOperator, IsPart, AreParts, is_operand}
 use Rattle.truth_tables.specs.RowEntries.{is_number, meets, all_meet, meets_whole}
-use Rattle.truth_tables.proofs.PartLists.{parts_length, each_if, set_members, each_listed}
+use Rattle.truth_tables.proofs.Operands.{operand_case, operator_operand}
+use Rattle.truth_tables.proofs.NamesInOrder.{right_true}
+use Rattle.truth_tables.proofs.PartLaws.{operator_shape}
+use Rattle.expr_bits.proofs.Extensions.{all_extended, set_extended, list_extended}
+use Rattle.truth_tables.proofs.PartLists.{parts_length}
+use Rattle.truth_tables.proofs.PartSums.{parts_counted, parts_more, set_fewer, some_parts}
 
 -- ---- marks
 
@@ -49,59 +60,32 @@ digits_left w i n h =
 
 -- ---- as a whole
 
-whole_meets : (d : Context) (h e : Term) → both_sets h e ≡ false → meets d h e ≡ meets_whole d e
-whole_meets d (term.Set hs) (term.Set es) k = absurd cc
-whole_meets d (term.Set hs) (term.Number n) k = refl
-whole_meets d (term.Set hs) term.X k = refl
-whole_meets d (term.Set hs) term.Pulse k = refl
-whole_meets d (term.Set hs) term.Release k = refl
-whole_meets d (term.Set hs) (term.Read s x) k = refl
-whole_meets d (term.Set hs) (term.UnaryOf sign t) k = refl
-whole_meets d (term.Set hs) (term.BinaryOf sign t u) k = refl
-whole_meets d (term.Number n) e k = refl
-whole_meets d term.X e k = refl
-whole_meets d term.Pulse e k = refl
-whole_meets d term.Release e k = refl
-whole_meets d (term.Read s x) e k = refl
-whole_meets d (term.UnaryOf sign t) e k = refl
-whole_meets d (term.BinaryOf sign t u) e k = refl
+-- what is no set on both sides meets as a whole
+abbrev AsWhole : Context → (h e : Term) → Type 0
+AsWhole d h e = (meets d h e ≡ meets_whole d e) × (marks_of d h e ≡ part_marks d (part_width d h) e)
 
-whole_marks : (d : Context) (h e : Term) → both_sets h e ≡ false → marks_of d h e ≡ part_marks d (part_width d h) e
-whole_marks d (term.Set hs) (term.Set es) k = absurd cc
-whole_marks d (term.Set hs) (term.Number n) k = refl
-whole_marks d (term.Set hs) term.X k = refl
-whole_marks d (term.Set hs) term.Pulse k = refl
-whole_marks d (term.Set hs) term.Release k = refl
-whole_marks d (term.Set hs) (term.Read s x) k = refl
-whole_marks d (term.Set hs) (term.UnaryOf sign t) k = refl
-whole_marks d (term.Set hs) (term.BinaryOf sign t u) k = refl
-whole_marks d (term.Number n) e k = refl
-whole_marks d term.X e k = refl
-whole_marks d term.Pulse e k = refl
-whole_marks d term.Release e k = refl
-whole_marks d (term.Read s x) e k = refl
-whole_marks d (term.UnaryOf sign t) e k = refl
-whole_marks d (term.BinaryOf sign t u) e k = refl
+as_whole : (d : Context) (h e : Term) → both_sets h e ≡ false → AsWhole d h e
+as_whole d (term.Set hs) (term.Set es) k = absurd cc
+as_whole d (term.Set hs) (term.Number n) k = (refl, refl)
+as_whole d (term.Set hs) term.X k = (refl, refl)
+as_whole d (term.Set hs) term.Pulse k = (refl, refl)
+as_whole d (term.Set hs) term.Release k = (refl, refl)
+as_whole d (term.Set hs) (term.Read s x) k = (refl, refl)
+as_whole d (term.Set hs) (term.UnaryOf sign t) k = (refl, refl)
+as_whole d (term.Set hs) (term.BinaryOf sign t u) k = (refl, refl)
+as_whole d (term.Number n) e k = (refl, refl)
+as_whole d term.X e k = (refl, refl)
+as_whole d term.Pulse e k = (refl, refl)
+as_whole d term.Release e k = (refl, refl)
+as_whole d (term.Read s x) e k = (refl, refl)
+as_whole d (term.UnaryOf sign t) e k = (refl, refl)
+as_whole d (term.BinaryOf sign t u) e k = (refl, refl)
 
 operand_whole : (d : Context) (e : Term) → is_operand e ≡ true → meets_whole d e ≡ is_number (constant_of d e).shape
-operand_whole d (term.Number n) k = refl
-operand_whole d (term.UnaryOf sign t) k = refl
-operand_whole d (term.BinaryOf sign t u) k = refl
-operand_whole d term.X k = absurd cc
-operand_whole d term.Pulse k = absurd cc
-operand_whole d term.Release k = absurd cc
-operand_whole d (term.Read s x) k = absurd cc
-operand_whole d (term.Set ts) k = absurd cc
+operand_whole d e k = operand_case (λ t. meets_whole d t ≡ is_number (constant_of d t).shape) (λ n. refl) (λ sign t. refl) (λ sign t u. refl) e k
 
 operand_marks : (d : Context) (w : ℕ) (e : Term) → is_operand e ≡ true → part_marks d w e ≡ map meant.Level (digits w (constant_of d e).number)
-operand_marks d w (term.Number n) k = refl
-operand_marks d w (term.UnaryOf sign t) k = refl
-operand_marks d w (term.BinaryOf sign t u) k = refl
-operand_marks d w term.X k = absurd cc
-operand_marks d w term.Pulse k = absurd cc
-operand_marks d w term.Release k = absurd cc
-operand_marks d w (term.Read s x) k = absurd cc
-operand_marks d w (term.Set ts) k = absurd cc
+operand_marks d w e k = operand_case (λ t. part_marks d w t ≡ map meant.Level (digits w (constant_of d t).number)) (λ n. refl) (λ sign t. refl) (λ sign t u. refl) e k
 
 -- marks that were put make a whole
 met_whole : (d : Context) (h e : Term) (w : ℕ) (old new : List Mark) → both_sets h e ≡ false → w ≡ part_width d h → meets_whole d e ≡ true → part_marks d w e ++ seen old ≡ seen new → Met d h e [] old new
@@ -109,8 +93,9 @@ met_whole d h e w old new k p m s =
     record {
       pairs = [];
       stand = tt;
-      meets = whole_meets d h e k ∙ m;
-      marks = λ _. ap (λ xs. xs ++ seen old) (whole_marks d h e k ∙ ap (λ n. part_marks d n e) (sym p)) ∙ s;
+      meets = (as_whole d h e k).0 ∙ m;
+      marks = λ _. ap (λ xs. xs ++ seen old) ((as_whole d h e k).1 ∙ ap (λ n. part_marks d n e) (sym p)) ∙ s;
+      fewer = some_parts h;
     }
 
 pub put_number : (d : Context) (h e : Term) (w n : ℕ) (old new : List Mark) → IsNumeral d e n → both_sets h e ≡ false → w ≡ part_width d h → map view_mark new ≡ map view_mark old ++ map meant.Level (digits_low_first w n) → Met d h e [] old new
@@ -135,9 +120,19 @@ put_pulsed d h e w m old new t q k p s = put_same d h e w m old new (ap (meets_w
 pub put_released : (d : Context) (h e : Term) (w : ℕ) (m : Mark) (old new : List Mark) → e ≡ term.Release → view_mark m ≡ meant.Released → both_sets h e ≡ false → w ≡ part_width d h → new ≡ old ++ replicate w m → Met d h e [] old new
 put_released d h e w m old new t q k p s = put_same d h e w m old new (ap (meets_whole d) t) (ap (part_marks d w) t ∙ ap (replicate w) (sym q)) k p s
 
+-- an operator that has bits meets nothing as a whole
+bits_unmet : (d : Context) (h : Term) (x : Expr) (e : Term) → IsOperator d x e → both_sets h e ≡ false → is_number (constant_of d (term_of d.known (view x))).shape ≡ false → meets d h e ≡ false
+bits_unmet d h x e o k n = (as_whole d h e k).0 ∙ operand_whole d e (operator_operand d x e o) ∙ ap is_number (operator_shape d x e o) ∙ n
+
+pub single_unmet : (d : Context) (h : Term) (x : Expr) (e : Term) → IsOperator d x e → both_sets h e ≡ false → HasShape shape.Single (constant_of d (term_of d.known (view x))) → meets d h e ≡ false
+single_unmet d h x e o k s = bits_unmet d h x e o k (ap is_number s)
+
+pub set_unmet : (d : Context) (h : Term) (x : Expr) (e : Term) (w : ℕ) → IsOperator d x e → both_sets h e ≡ false → HasShape (shape.Set w) (constant_of d (term_of d.known (view x))) → meets d h e ≡ false
+set_unmet d h x e w o k s = bits_unmet d h x e o k (ap is_number s)
+
 -- a signal meets nothing as a whole
 pub no_signal : (d : Context) (h e : Term) (s : ℕ) (x : Option Extension) → e ≡ term.Read s x → both_sets h e ≡ false → meets d h e ≡ false
-no_signal d h e s x t k = whole_meets d h e k ∙ ap (meets_whole d) t
+no_signal d h e s x t k = (as_whole d h e k).0 ∙ ap (meets_whole d) t
 
 -- ---- a set beside a set
 
@@ -161,56 +156,50 @@ paired_stand d (x ∷ hs) [] (t ∷ ts) (u ∷ us) h k = absurd k
 paired_stand d (x ∷ hs) (y ∷ es) (t ∷ ts) [] h k = absurd k
 paired_stand d (x ∷ hs) (y ∷ es) (t ∷ ts) (u ∷ us) h k = ((h.0, k.0), paired_stand d hs es ts us h.1 k.1)
 
-sets_meet : (d : Context) (us vs : Terms) → length (listed us) ≡ length (listed vs) → all_meet d us vs ≡ pairs_meet d (zipped (listed us) (listed vs))
+sets_meet : (d : Context) (us vs : Terms) → length (list_of us) ≡ length (list_of vs) → all_meet d us vs ≡ pairs_meet d (zipped (list_of us) (list_of vs))
 sets_meet d term.NoTerm term.NoTerm e = refl
 sets_meet d term.NoTerm (term.Before v vs) e = absurd cc
 sets_meet d (term.Before u us) term.NoTerm e = absurd cc
 sets_meet d (term.Before u us) (term.Before v vs) e = ap (λ b. meets d u v && b) (sets_meet d us vs (omega (arith, e)))
 
-and_none : (a : Bool) → (a && false) ≡ false
-and_none true = refl
-and_none false = refl
-
-sets_differ : (d : Context) (us vs : Terms) → (length (listed us) ≡ length (listed vs) → ⊥) → all_meet d us vs ≡ false
+sets_differ : (d : Context) (us vs : Terms) → (length (list_of us) ≡ length (list_of vs) → ⊥) → all_meet d us vs ≡ false
 sets_differ d term.NoTerm term.NoTerm e = absurd (e refl)
 sets_differ d term.NoTerm (term.Before v vs) e = refl
 sets_differ d (term.Before u us) term.NoTerm e = refl
-sets_differ d (term.Before u us) (term.Before v vs) e = ap (λ b. meets d u v && b) (sets_differ d us vs (λ h. e (ap suc h))) ∙ and_none (meets d u v)
+sets_differ d (term.Before u us) (term.Before v vs) e = ap (λ b. meets d u v && b) (sets_differ d us vs (λ h. e (ap suc h))) ∙ and-false (meets d u v)
 
-sets_marks : (d : Context) (us vs : Terms) → all_marks d us vs ≡ pairs_marks d (zipped (listed us) (listed vs))
+sets_marks : (d : Context) (us vs : Terms) → all_marks d us vs ≡ pairs_marks d (zipped (list_of us) (list_of vs))
 sets_marks d term.NoTerm vs = refl
 sets_marks d (term.Before u us) term.NoTerm = refl
 sets_marks d (term.Before u us) (term.Before v vs) = ap (λ xs. marks_of d u v ++ xs) (sets_marks d us vs)
 
-pub sets_met : (d : Context) (o i : Option Extension) (ts us : Terms) (hs es : List Part) → AreParts d true hs (extended_list o (listed ts)) → AreParts d false es (extended_list i (listed us)) → length hs ≡ length es
+zipped_parts : (ts us : List Term) → all_parts (headers_of (zipped ts us)) ≤ all_parts ts
+zipped_parts [] us = omega arith
+zipped_parts (t ∷ ts) [] = omega arith
+zipped_parts (t ∷ ts) (u ∷ us) = omega (arith, zipped_parts ts us)
+
+pub sets_met : (d : Context) (o i : Option Extension) (ts us : Terms) (hs es : List Part) → AreParts d true hs (each_extended o (list_of ts)) → AreParts d false es (each_extended i (list_of us)) → length hs ≡ length es
     → (ms : List Mark) → Met d (extended_if o (term.Set ts)) (extended_if i (term.Set us)) (paired hs es) ms ms
 sets_met d o i ts us hs es h k e ms =
-    let xs = each_if o ts in
-    let ys = each_if i us in
-    let lengths : length (listed xs) ≡ length (listed ys) = ap length (each_listed o ts) ∙ sym (parts_length d true hs (extended_list o (listed ts)) h) ∙ e ∙ parts_length d false es (extended_list i (listed us)) k ∙ sym (ap length (each_listed i us)) in
+    let xs = all_extended o ts in
+    let ys = all_extended i us in
+    let lengths : length (list_of xs) ≡ length (list_of ys) = ap length (list_extended o ts) ∙ sym (parts_length d true hs (each_extended o (list_of ts)) h) ∙ e ∙ parts_length d false es (each_extended i (list_of us)) k ∙ sym (ap length (list_extended i us)) in
     record {
-      pairs = zipped (listed xs) (listed ys);
-      stand = paired_stand d hs es (listed xs) (listed ys) (subst (AreParts d true hs) (sym (each_listed o ts)) h) (subst (AreParts d false es) (sym (each_listed i us)) k);
-      meets = ap₂ (meets d) (set_members o ts) (set_members i us) ∙ sets_meet d xs ys lengths;
-      marks = λ _. ap (λ zs. zs ++ seen ms) (ap₂ (marks_of d) (set_members o ts) (set_members i us) ∙ sets_marks d xs ys);
+      pairs = zipped (list_of xs) (list_of ys);
+      stand = paired_stand d hs es (list_of xs) (list_of ys) (subst (AreParts d true hs) (sym (list_extended o ts)) h) (subst (AreParts d false es) (sym (list_extended i us)) k);
+      meets = ap₂ (meets d) (set_extended o ts) (set_extended i us) ∙ sets_meet d xs ys lengths;
+      marks = λ _. ap (λ zs. zs ++ seen ms) (ap₂ (marks_of d) (set_extended o ts) (set_extended i us) ∙ sets_marks d xs ys);
+      fewer = omega (arith, zipped_parts (list_of xs) (list_of ys), ap all_parts (list_extended o ts), set_fewer (extended_if o (term.Set ts)) o ts refl);
     }
 
-pub sets_unmet : (d : Context) (o i : Option Extension) (ts us : Terms) (hs es : List Part) → AreParts d true hs (extended_list o (listed ts)) → AreParts d false es (extended_list i (listed us)) → (length hs ≡ length es → ⊥)
+pub sets_unmet : (d : Context) (o i : Option Extension) (ts us : Terms) (hs es : List Part) → AreParts d true hs (each_extended o (list_of ts)) → AreParts d false es (each_extended i (list_of us)) → (length hs ≡ length es → ⊥)
     → meets d (extended_if o (term.Set ts)) (extended_if i (term.Set us)) ≡ false
 sets_unmet d o i ts us hs es h k n =
-    ap₂ (meets d) (set_members o ts) (set_members i us)
-    ∙ sets_differ d (each_if o ts) (each_if i us)
-    (λ e. n (parts_length d true hs (extended_list o (listed ts)) h ∙ sym (ap length (each_listed o ts)) ∙ e ∙ ap length (each_listed i us) ∙ sym (parts_length d false es (extended_list i (listed us)) k)))
+    ap₂ (meets d) (set_extended o ts) (set_extended i us)
+    ∙ sets_differ d (all_extended o ts) (all_extended i us)
+    (λ e. n (parts_length d true hs (each_extended o (list_of ts)) h ∙ sym (ap length (list_extended o ts)) ∙ e ∙ ap length (list_extended i us) ∙ sym (parts_length d false es (each_extended i (list_of us)) k)))
 
 -- ---- walks
-
-and_assoc : (a b c : Bool) → ((a && b) && c) ≡ (a && (b && c))
-and_assoc true b c = refl
-and_assoc false b c = refl
-
-and_true : (a : Bool) → (a && true) ≡ a
-and_true true = refl
-and_true false = refl
 
 meet_append : (d : Context) (xs ys : List (Term × Term)) → pairs_meet d (xs ++ ys) ≡ (pairs_meet d xs && pairs_meet d ys)
 meet_append d [] ys = refl
@@ -244,17 +233,9 @@ last_pair d (q ∷ ps) p (x ∷ xs) h =
     let l = last_pair d ps p xs h.1 in
     record { front = x ∷ l.front; header = l.header; entry = l.entry; is = ap (λ ys. x ∷ ys) l.is; stand = (h.0, l.stand); one = l.one; other = l.other }
 
-left_true : (a b : Bool) → (a && b) ≡ true → a ≡ true
-left_true true b e = refl
-left_true false b e = absurd cc
-
-right_true : (a b : Bool) → (a && b) ≡ true → b ≡ true
-right_true true b e = e
-right_true false b e = absurd cc
-
 -- the pairs with the last one apart
 apart : (d : Context) (front : List (Term × Term)) (x y : Term) → pairs_meet d (front ++ (x, y) ∷ []) ≡ (pairs_meet d front && meets d x y)
-apart d front x y = meet_append d front ((x, y) ∷ []) ∙ ap (λ b. pairs_meet d front && b) (and_true (meets d x y))
+apart d front x y = meet_append d front ((x, y) ∷ []) ∙ ap (λ b. pairs_meet d front && b) (and-true (meets d x y))
 
 pub walk_on : (d : Context) (h e : Term) (rest later : List Pair) (p : Pair) (old new : List Mark) → Walked d h e (rest ++ p ∷ []) old
     → ((x y : Term) → IsPart d true p.header x → IsPart d false p.given y → Stepped d x y rest later old new) → Walked d h e later new
@@ -276,11 +257,36 @@ walk_on d h e rest later p old new w by =
           ∙ ap (λ xs. xs ++ seen new) (sym (marks_append d l.front s.met.pairs));
     }
 
+header_parts : (d : Context) (ps : List Pair) (xs : List (Term × Term)) → ArePairs d ps xs → AreParts d true (pair_headers ps) (headers_of xs)
+header_parts d [] [] h = tt
+header_parts d [] (x ∷ xs) h = absurd h
+header_parts d (p ∷ ps) [] h = absurd h
+header_parts d (p ∷ ps) (x ∷ xs) h = (h.0.0, header_parts d ps xs h.1)
+
+headers_counted : (d : Context) (ps : List Pair) (xs ys : List (Term × Term)) → ArePairs d ps (xs ++ ys) → stack_parts d.known (pair_headers ps) ≡ all_parts (headers_of xs) + all_parts (headers_of ys)
+headers_counted d ps xs ys h =
+    parts_counted d true (pair_headers ps) (headers_of (xs ++ ys)) (header_parts d ps (xs ++ ys) h)
+    ∙ ap all_parts (map-append (λ (x : Term × Term). x.0) xs ys) ∙ parts_more (headers_of xs) (headers_of ys)
+
+-- a step leaves fewer parts of the header
+pub walk_fewer : (d : Context) (h e : Term) (rest later : List Pair) (p : Pair) (old new : List Mark) → Walked d h e (rest ++ p ∷ []) old
+    → ((x y : Term) → IsPart d true p.header x → IsPart d false p.given y → Stepped d x y rest later old new)
+    → stack_parts d.known (pair_headers later) < stack_parts d.known (pair_headers (rest ++ p ∷ []))
+walk_fewer d h e rest later p old new w by =
+    let l = last_pair d rest p w.pairs w.stand in
+    let s = by l.header l.entry l.one l.other in
+    let after : stack_parts d.known (pair_headers later) ≡ all_parts (headers_of l.front) + all_parts (headers_of s.met.pairs) =
+    ap (λ ps. stack_parts d.known (pair_headers ps)) s.pushed
+    ∙ headers_counted d (rest ++ s.more) l.front s.met.pairs (pairs_append d rest s.more l.front s.met.pairs l.stand s.met.stand) in
+    let before : stack_parts d.known (pair_headers (rest ++ p ∷ [])) ≡ all_parts (headers_of l.front) + all_parts (l.header ∷ []) =
+    headers_counted d (rest ++ p ∷ []) l.front ((l.header, l.entry) ∷ []) (subst (ArePairs d (rest ++ p ∷ [])) l.is w.stand) in
+    omega (arith, s.met.fewer)
+
 pub walk_stops : (d : Context) (h e : Term) (rest : List Pair) (p : Pair) (old : List Mark) → Walked d h e (rest ++ p ∷ []) old
     → ((x y : Term) → IsPart d true p.header x → IsPart d false p.given y → meets d x y ≡ false) → meets d h e ≡ false
 walk_stops d h e rest p old w by =
     let l = last_pair d rest p w.pairs w.stand in
-    w.meets ∙ ap (pairs_meet d) l.is ∙ apart d l.front l.header l.entry ∙ ap (λ b. pairs_meet d l.front && b) (by l.header l.entry l.one l.other) ∙ and_none (pairs_meet d l.front)
+    w.meets ∙ ap (pairs_meet d) l.is ∙ apart d l.front l.header l.entry ∙ ap (λ b. pairs_meet d l.front && b) (by l.header l.entry l.one l.other) ∙ and-false (pairs_meet d l.front)
 
 pub walk_done : (d : Context) (h e : Term) (out : List Mark) → Walked d h e [] out → (meets d h e ≡ true) × (seen out ≡ marks_of d h e)
 walk_done d h e out w = by_pairs w.pairs w.stand w.meets w.marks
@@ -294,7 +300,7 @@ walk_begun d h e p q a b =
     record {
       pairs = (h, e) ∷ [];
       stand = ((a, b), tt);
-      meets = sym (and_true (meets d h e));
+      meets = sym (and-true (meets d h e));
       marks = λ _. sym (append-nil (marks_of d h e ++ []) ∙ append-nil (marks_of d h e));
     }
 
@@ -312,62 +318,20 @@ pub step_whole : (d : Context) (h e : Term) (b : Bool) (stack : List Pair) (old 
 step_whole d h e false stack old new p = p
 step_whole d h e true stack old new p = record { more = []; pushed = sym (append-nil stack); met = p }
 
-not_set : Term → Bool
-not_set (term.Set ts) = false
-not_set _ = true
+operand_not : (t : Term) → is_operand t ≡ true → is_set t ≡ false
+operand_not t k = operand_case (λ u. is_set u ≡ false) (λ n. refl) (λ sign u. refl) (λ sign u v. refl) t k
 
-no_header : (h e : Term) → not_set h ≡ true → both_sets h e ≡ false
-unfolding not_set
-no_header (term.Set ts) e k = absurd cc
-no_header (term.Number n) e k = refl
-no_header term.X e k = refl
-no_header term.Pulse e k = refl
-no_header term.Release e k = refl
-no_header (term.Read s x) e k = refl
-no_header (term.UnaryOf sign t) e k = refl
-no_header (term.BinaryOf sign t u) e k = refl
-
-no_given : (h e : Term) → not_set e ≡ true → both_sets h e ≡ false
-unfolding not_set
-no_given (term.Set ts) (term.Set us) k = absurd cc
-no_given (term.Set ts) (term.Number n) k = refl
-no_given (term.Set ts) term.X k = refl
-no_given (term.Set ts) term.Pulse k = refl
-no_given (term.Set ts) term.Release k = refl
-no_given (term.Set ts) (term.Read s x) k = refl
-no_given (term.Set ts) (term.UnaryOf sign t) k = refl
-no_given (term.Set ts) (term.BinaryOf sign t u) k = refl
-no_given (term.Number n) e k = refl
-no_given term.X e k = refl
-no_given term.Pulse e k = refl
-no_given term.Release e k = refl
-no_given (term.Read s x) e k = refl
-no_given (term.UnaryOf sign t) e k = refl
-no_given (term.BinaryOf sign t u) e k = refl
-
-operand_not : (t : Term) → is_operand t ≡ true → not_set t ≡ true
-unfolding not_set
-operand_not (term.Set ts) k = absurd cc
-operand_not (term.Number n) k = refl
-operand_not term.X k = refl
-operand_not term.Pulse k = refl
-operand_not term.Release k = refl
-operand_not (term.Read s x) k = refl
-operand_not (term.UnaryOf sign t) k = refl
-operand_not (term.BinaryOf sign t u) k = refl
-
-content_not : (d : Context) (x : Content) (t : Term) → ((ms : Bor (List Member)) (e : Option Extension) → x ≡ content.Set ms e → ⊥) → IsContent d x t → not_set t ≡ true
-unfolding not_set
+content_not : (d : Context) (x : Content) (t : Term) → ((ms : Bor (List Member)) (e : Option Extension) → x ≡ content.Set ms e → ⊥) → IsContent d x t → is_set t ≡ false
 content_not d (content.Set ms e) t n i = absurd (n ms e refl)
-content_not d (content.Signal s e) t n i = ap not_set i
+content_not d (content.Signal s e) t n i = ap is_set i
 content_not d (content.Number m) t n i = operand_not t i.operand
-content_not d content.Unknown t n i = ap not_set i
-content_not d content.Pulsed t n i = ap not_set i
-content_not d content.Released t n i = ap not_set i
-content_not d content.Bits t n i = operand_not t i.operand
+content_not d content.Unknown t n i = ap is_set i
+content_not d content.Pulsed t n i = ap is_set i
+content_not d content.Released t n i = ap is_set i
+content_not d (content.Operator y) t n i = operand_not t (operator_operand d y.now t i)
 
 pub header_not : (d : Context) (x : Content) (h e : Term) → ((ms : Bor (List Member)) (e : Option Extension) → x ≡ content.Set ms e → ⊥) → IsContent d x h → both_sets h e ≡ false
-header_not d x h e n i = no_header h e (content_not d x h n i)
+header_not d x h e n i = ap (λ b. b && is_set e) (content_not d x h n i)
 
 pub given_not : (d : Context) (x : Content) (h e : Term) → ((ms : Bor (List Member)) (e : Option Extension) → x ≡ content.Set ms e → ⊥) → IsContent d x e → both_sets h e ≡ false
-given_not d x h e n i = no_given h e (content_not d x e n i)
+given_not d x h e n i = ap (λ b. is_set h && b) (content_not d x e n i) ∙ and-false (is_set h)

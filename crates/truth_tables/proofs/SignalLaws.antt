@@ -1,39 +1,45 @@
 -- The signals of headers, part by part.
-use Rattle.std.proofs.Common.{◌≡◌, ℕ, Bool, true, false, ◌&&◌, Option, None, Some, List, [], ◌∷◌, ◌++◌, reverse, refl, sym, ap, ◌∙◌, subst, append_assoc, append-nil}
+use Rattle.std.proofs.Common.{◌≡◌, ℕ, ◌+◌, ◌<◌, true, false, ◌&&◌, Option, None, Some, List, [], ◌∷◌, ◌++◌, reverse, refl, sym, ap, ◌∙◌, subst, arith, append_assoc, append-nil}
 use Rattle.std.proofs.lemmas.List.{reverse-append}
+use Rattle.std.proofs.Math.Bool.{and_assoc, and-false, and-true}
 use Rattle.abel_tree.specs.declared.words.Extension.{Extension}
 use Rattle.abel_meaning.specs.Designs.{Context}
 use Rattle.abel_meaning.specs.Targets.{targets_of, all_targets}
 use Rattle.abel_meaning.specs.Terms.{Term, Terms, extended_if}
 use Rattle.abel_meaning.specs.Terms as term
 use Rattle.truth_tables.specs.declared.part.Part.{Part}
-use Rattle.truth_tables.specs.EntryTerms.{listed, extended_list}
+use Rattle.expr_bits.specs.Members.{list_of, each_extended}
 use Rattle.truth_tables.specs.HeaderSignals.{names_positions, all_name_positions}
+use Rattle.truth_tables.specs.PartCounts.{all_parts, stack_parts}
 use Rattle.truth_tables.specs.PartTerms.{IsPart, AreParts, is_operand}
 use Rattle.truth_tables.specs.SignalTerms.{all_named, all_signals, Put, Listing}
-use Rattle.truth_tables.proofs.PartLists.{each_if, set_members, each_listed}
+use Rattle.truth_tables.proofs.Operands.{operand_case}
+use Rattle.truth_tables.proofs.NamesInOrder.{right_true}
+use Rattle.expr_bits.proofs.Extensions.{all_extended, set_extended, list_extended}
+use Rattle.truth_tables.proofs.PartSums.{parts_counted, parts_more, set_fewer, some_parts}
 
 -- ---- what one part is
 
-listed_named : (ts : Terms) → all_name_positions ts ≡ all_named (listed ts)
+listed_named : (ts : Terms) → all_name_positions ts ≡ all_named (list_of ts)
 listed_named term.NoTerm = refl
 listed_named (term.Before t ts) = ap (λ b. names_positions t && b) (listed_named ts)
 
-listed_signals : (ts : Terms) → all_targets ts ≡ all_signals (listed ts)
+listed_signals : (ts : Terms) → all_targets ts ≡ all_signals (list_of ts)
 listed_signals term.NoTerm = refl
 listed_signals (term.Before t ts) = ap (λ ss. targets_of t ++ ss) (listed_signals ts)
 
-pub put_set : (d : Context) (t : Term) (e : Option Extension) (ts : Terms) (ps stack later : List Part) (ss : List (Option ℕ)) → t ≡ extended_if e (term.Set ts) → AreParts d false ps (extended_list e (listed ts)) → later ≡ stack ++ ps → Put d t stack later ss ss
+pub put_set : (d : Context) (t : Term) (e : Option Extension) (ts : Terms) (ps stack later : List Part) (ss : List (Option ℕ)) → t ≡ extended_if e (term.Set ts) → AreParts d false ps (each_extended e (list_of ts)) → later ≡ stack ++ ps → Put d t stack later ss ss
 put_set d t e ts ps stack later ss h k p =
-    let us = each_if e ts in
-    let all : listed us ≡ extended_list e (listed ts) = each_listed e ts in
+    let us = all_extended e ts in
+    let all : list_of us ≡ each_extended e (list_of ts) = list_extended e ts in
     record {
       more = ps;
-      terms = extended_list e (listed ts);
+      terms = each_extended e (list_of ts);
       pushed = p;
       stand = k;
-      named = ap names_positions (h ∙ set_members e ts) ∙ listed_named us ∙ ap all_named all;
-      signals = λ _. ap (λ xs. xs ++ reverse ss) (ap targets_of (h ∙ set_members e ts) ∙ listed_signals us ∙ ap all_signals all);
+      named = ap names_positions (h ∙ set_extended e ts) ∙ listed_named us ∙ ap all_named all;
+      signals = λ _. ap (λ xs. xs ++ reverse ss) (ap targets_of (h ∙ set_extended e ts) ∙ listed_signals us ∙ ap all_signals all);
+      fewer = set_fewer t e ts h;
     }
 
 -- one position
@@ -46,6 +52,7 @@ put_one d t s stack old new n k p =
       stand = tt;
       named = n;
       signals = λ _. ap (λ xs. xs ++ reverse old) k ∙ sym (ap reverse p ∙ reverse-append old (s ∷ []));
+      fewer = some_parts t;
     }
 
 pub put_unknown : (d : Context) (t : Term) (stack : List Part) (old new : List (Option ℕ)) → t ≡ term.X → new ≡ old ++ None ∷ [] → Put d t stack stack old new
@@ -55,32 +62,9 @@ pub put_read : (d : Context) (t : Term) (s : ℕ) (stack : List Part) (old new :
 put_read d t s stack old new h p = put_one d t (Some s) stack old new (ap names_positions h) (ap targets_of h) p
 
 pub operand_unnamed : (t : Term) → is_operand t ≡ true → names_positions t ≡ false
-operand_unnamed (term.Number n) k = refl
-operand_unnamed (term.UnaryOf sign t) k = refl
-operand_unnamed (term.BinaryOf sign t u) k = refl
-operand_unnamed term.X k = absurd cc
-operand_unnamed term.Pulse k = absurd cc
-operand_unnamed term.Release k = absurd cc
-operand_unnamed (term.Read s x) k = absurd cc
-operand_unnamed (term.Set ts) k = absurd cc
+operand_unnamed t k = operand_case (λ u. names_positions u ≡ false) (λ n. refl) (λ sign u. refl) (λ sign u v. refl) t k
 
 -- ---- walks
-
-and_assoc : (a b c : Bool) → ((a && b) && c) ≡ (a && (b && c))
-and_assoc true b c = refl
-and_assoc false b c = refl
-
-and_true : (a : Bool) → (a && true) ≡ a
-and_true true = refl
-and_true false = refl
-
-and_none : (a : Bool) → (a && false) ≡ false
-and_none true = refl
-and_none false = refl
-
-right_true : (a b : Bool) → (a && b) ≡ true → b ≡ true
-right_true true b e = e
-right_true false b e = absurd cc
 
 named_append : (xs ys : List Term) → all_named (xs ++ ys) ≡ (all_named xs && all_named ys)
 named_append [] ys = refl
@@ -113,7 +97,7 @@ last_part d (q ∷ ps) p (x ∷ xs) h =
     record { front = x ∷ l.front; last = l.last; is = ap (λ ys. x ∷ ys) l.is; stand = (h.0, l.stand); one = l.one }
 
 apart : (front : List Term) (t : Term) → all_named (front ++ t ∷ []) ≡ (all_named front && names_positions t)
-apart front t = named_append front (t ∷ []) ∙ ap (λ b. all_named front && b) (and_true (names_positions t))
+apart front t = named_append front (t ∷ []) ∙ ap (λ b. all_named front && b) (and-true (names_positions t))
 
 pub list_on : (d : Context) (h : Term) (rest later : List Part) (p : Part) (old new : List (Option ℕ)) → Listing d h (rest ++ p ∷ []) old
     → ((t : Term) → IsPart d false p t → Put d t rest later old new) → Listing d h later new
@@ -135,24 +119,31 @@ list_on d h rest later p old new w by =
           ∙ ap (λ xs. xs ++ reverse new) (sym (signals_append l.front s.terms));
     }
 
+-- and leaves fewer parts
+pub list_fewer : (d : Context) (h : Term) (rest later : List Part) (p : Part) (old new : List (Option ℕ)) → Listing d h (rest ++ p ∷ []) old
+    → ((t : Term) → IsPart d false p t → Put d t rest later old new) → stack_parts d.known later < stack_parts d.known (rest ++ p ∷ [])
+list_fewer d h rest later p old new w by =
+    let l = last_part d rest p w.terms w.stand in
+    let s = by l.last l.one in
+    let after : stack_parts d.known later ≡ all_parts l.front + all_parts s.terms =
+    ap (stack_parts d.known) s.pushed
+    ∙ parts_counted d false (rest ++ s.more) (l.front ++ s.terms) (parts_append d rest s.more l.front s.terms l.stand s.stand)
+    ∙ parts_more l.front s.terms in
+    let before : stack_parts d.known (rest ++ p ∷ []) ≡ all_parts l.front + all_parts (l.last ∷ []) =
+    parts_counted d false (rest ++ p ∷ []) w.terms w.stand ∙ ap all_parts l.is ∙ parts_more l.front (l.last ∷ []) in
+    omega (arith, s.fewer)
+
 pub list_stops : (d : Context) (h : Term) (rest : List Part) (p : Part) (old : List (Option ℕ)) → Listing d h (rest ++ p ∷ []) old
     → ((t : Term) → IsPart d false p t → names_positions t ≡ false) → names_positions h ≡ false
 list_stops d h rest p old w by =
     let l = last_part d rest p w.terms w.stand in
-    w.named ∙ ap all_named l.is ∙ apart l.front l.last ∙ ap (λ b. all_named l.front && b) (by l.last l.one) ∙ and_none (all_named l.front)
-
-pub list_done : (d : Context) (h : Term) (out : List (Option ℕ)) → Listing d h [] out → (names_positions h ≡ true) × (reverse out ≡ targets_of h)
-list_done d h out w = by_terms w.terms w.stand w.named w.signals
-  where
-    by_terms : (xs : List Term) → AreParts d false [] xs → names_positions h ≡ all_named xs → (all_named xs ≡ true → targets_of h ≡ all_signals xs ++ reverse out) → (names_positions h ≡ true) × (reverse out ≡ targets_of h)
-    by_terms [] s m g = (m, sym (g refl))
-    by_terms (x ∷ xs) s m g = absurd s
+    w.named ∙ ap all_named l.is ∙ apart l.front l.last ∙ ap (λ b. all_named l.front && b) (by l.last l.one) ∙ and-false (all_named l.front)
 
 pub list_begun : (d : Context) (h : Term) (p : Part) → IsPart d false p h → Listing d h (p ∷ []) []
 list_begun d h p a =
     record {
       terms = h ∷ [];
       stand = (a, tt);
-      named = sym (and_true (names_positions h));
+      named = sym (and-true (names_positions h));
       signals = λ _. sym (append-nil (targets_of h ++ []) ∙ append-nil (targets_of h));
     }

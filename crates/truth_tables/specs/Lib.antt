@@ -5,6 +5,7 @@ pub mod HeaderSignals
 pub mod Headers
 pub mod OutputHeaders
 pub mod PairTerms
+pub mod PartCounts
 pub mod PartTerms
 pub mod Products
 pub mod RowEntries
@@ -12,6 +13,7 @@ pub mod RowLevels
 pub mod RowWalks
 pub mod Rows
 pub mod SignalTerms
+pub mod StepsLeft
 pub mod TableUnits
 pub mod TableWalks
 pub mod Works

@@ -1,5 +1,5 @@
 -- Private: parts of headers beside what stands for them in entries, as pairs of terms.
-use Rattle.std.specs.Prelude.{◌≡◌, Bool, true, false, ◌&&◌, List, [], ◌∷◌, ◌++◌, map, reverse}
+use Rattle.std.specs.Prelude.{◌≡◌, ◌<◌, Bool, true, false, ◌&&◌, List, [], ◌∷◌, ◌++◌, map, reverse}
 use Rattle.abel_meaning.specs.Designs.{Context}
 use Rattle.abel_meaning.specs.Rows.{marks_of}
 use Rattle.abel_meaning.specs.Rows as meant
@@ -9,6 +9,7 @@ use Rattle.truth_tables.specs.declared.mark.Mark.{Mark}
 use Rattle.truth_tables.specs.declared.pairs.Pair.{Pair}
 use Rattle.truth_tables.specs.declared.part.Part.{Part}
 use Rattle.truth_tables.specs.EntryMarks.{view_mark}
+use Rattle.truth_tables.specs.PartCounts.{all_parts, headers_of, term_parts}
 use Rattle.truth_tables.specs.PartTerms.{IsPart}
 use Rattle.truth_tables.specs.RowEntries.{meets}
 
@@ -16,9 +17,12 @@ use Rattle.truth_tables.specs.RowEntries.{meets}
 abbrev pub seen : List Mark → List meant.Mark
 seen ms = reverse (map view_mark ms)
 
+abbrev pub is_set : Term → Bool
+is_set (term.Set ts) = true
+is_set _ = false
+
 abbrev pub both_sets : Term → Term → Bool
-both_sets (term.Set hs) (term.Set es) = true
-both_sets _ _ = false
+both_sets h e = is_set h && is_set e
 
 -- ---- pairs
 
@@ -49,6 +53,7 @@ pub record Met (d : Context) (h e : Term) (more : List Pair) (old new : List Mar
   pub stand : ArePairs d more pairs
   pub meets : meets d h e ≡ pairs_meet d pairs
   pub marks : pairs_meet d pairs ≡ true → marks_of d h e ++ seen old ≡ pairs_marks d pairs ++ seen new
+  pub fewer : all_parts (headers_of pairs) < term_parts h
 
 -- what is no set on both sides meets as a whole or not
 abbrev pub Whole : Context → (h e : Term) → Bool → (old new : List Mark) → Type 0

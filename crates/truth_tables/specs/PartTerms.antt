@@ -1,5 +1,6 @@
 -- Private: the terms that the parts of headers and entries stand for.
 use Rattle.std.specs.Prelude.{◌≡◌, ℕ, Bool, true, false, Option, None, Some, List, [], ◌∷◌, map}
+use Rattle.abel_tree.specs.declared.expressions.Expr.{Expr}
 use Rattle.abel_tree.specs.declared.words.Extension.{Extension}
 use Rattle.abel_tree.specs.Tree.{members_of}
 use Rattle.abel_tree.specs.View.{view, view_member}
@@ -14,7 +15,6 @@ use Rattle.truth_tables.specs.declared.part.Content.TheVariants as content
 use Rattle.truth_tables.specs.declared.part.Part.{Part}
 use Rattle.truth_tables.specs.declared.part.Stand.{Stand}
 use Rattle.truth_tables.specs.declared.part.Stand.TheVariants as stand
-use Rattle.truth_tables.specs.RowEntries.{is_number}
 
 -- a number or an operator
 abbrev pub is_operand : Term → Bool
@@ -29,10 +29,11 @@ pub record IsNumeral (d : Context) (t : Term) (n : ℕ) : Type 0 where
   pub shape : (constant_of d t).shape ≡ number.Number
   pub number : (constant_of d t).number ≡ n
 
--- an operand that has bits
-pub record IsBits (d : Context) (t : Term) : Type 0 where
-  pub operand : is_operand t ≡ true
-  pub shape : is_number (constant_of d t).shape ≡ false
+-- an operator's expression under an extension
+pub record IsOperator (d : Context) (x : Expr) (t : Term) : Type 0 where
+  pub extension : Option Extension
+  pub is : t ≡ extended_if extension (term_of d.known (view x))
+  pub operand : is_operand (term_of d.known (view x)) ≡ true
 
 -- what a term is
 abbrev pub IsContent : Context → Content → Term → Type 0
@@ -42,12 +43,23 @@ IsContent d (content.Number n) t = IsNumeral d t n
 IsContent d content.Unknown t = t ≡ term.X
 IsContent d content.Pulsed t = t ≡ term.Pulse
 IsContent d content.Released t = t ≡ term.Release
-IsContent d content.Bits t = IsBits d t
+IsContent d (content.Operator x) t = IsOperator d x.now t
 
--- what a name stands for under an extension
+-- an operator of two operands, behind signs
+abbrev pub is_computed : Term → Bool
+is_computed (term.Number n) = false
+is_computed term.X = false
+is_computed term.Pulse = false
+is_computed term.Release = false
+is_computed (term.Read s e) = false
+is_computed (term.Set ts) = false
+is_computed (term.UnaryOf sign t) = is_computed t
+is_computed (term.BinaryOf sign t u) = true
+
+-- what a name stands for under an extension: a constant's expression, or what is no operator
 abbrev pub IsStand : Context → Option Extension → Stand → Term → Type 0
 IsStand d e (stand.Constant x) t = t ≡ extended_if e (term_of d.known (view x.now))
-IsStand d e (stand.Content c) t = IsContent d c t
+IsStand d e (stand.Content c) t = IsContent d c t × (is_computed t ≡ false)
 
 -- a value that may be there has so many positions as a part
 abbrev pub HasWidth : ℕ → Option Value → Type 0

@@ -1,20 +1,16 @@
 -- Private: the product of a row, position by position (ABEL-HDL Reference Manual, truth tables).
-use Rattle.std.specs.Prelude.{◌≡◌, ◌+◌, ℕ, Bool, true, false, length, Option, None, Some, List, [], ◌∷◌, reverse}
-use Rattle.std.specs.Borrow.{Bor}
+use Rattle.std.specs.Prelude.{◌≡◌, ◌+◌, ℕ, Bool, true, length, Option, None, Some, List, [], ◌∷◌, reverse}
 use Rattle.pld_base.specs.declared.place.Place.{Place}
 use Rattle.bit_expr.specs.declared.node.ExprId.{ExprId}
 use Rattle.bit_expr.specs.declared.node.Node.{Node}
 use Rattle.bit_expr.specs.Arena.{arena, formula_at}
 use Rattle.bit_expr.specs.Folding.{Made, free}
 use Rattle.bit_expr.specs.Formulas.{Formula, Const}
-use Rattle.abel_tree.specs.declared.expressions.Expr.{Expr}
-use Rattle.abel_tree.specs.View.{view}
 use Rattle.abel_meaning.specs.CountedBlocks.{make_literal, row_literals}
 use Rattle.abel_meaning.specs.Designs.{Context}
 use Rattle.abel_meaning.specs.FormulaBits.{bits_of, formulas}
 use Rattle.abel_meaning.specs.Numbers.{Number, width_of}
-use Rattle.abel_meaning.specs.Terms.{Term, term_of}
-use Rattle.abel_meaning.specs.Terms as term
+use Rattle.abel_meaning.specs.Terms.{Term}
 use Rattle.abel_meaning.specs.Values.{constant_of}
 use Rattle.set_expr.specs.declared.contributions.Contribution.{Contribution}
 use Rattle.set_expr.specs.declared.shaped.Shaped.{Shaped}
@@ -55,17 +51,6 @@ pub record StandForInputs (d : Context) (h : Term) (fs : List Formula) (ps : Lis
   pub same : (ls : List (Option Bool)) → header_literals d h ls ≡ literals fs (Const true) ps ls
 
 -- ---- headers
-
--- an operator of two operands, behind signs
-abbrev pub is_computed : Term → Bool
-is_computed (term.UnaryOf sign t) = is_computed t
-is_computed (term.BinaryOf sign t u) = true
-is_computed _ = false
-
--- what a name stands for is a constant's expression, or no operator
-abbrev pub IsConstantIf : Context → Option (Bor Expr) → Term → Type 0
-IsConstantIf d None t = is_computed t ≡ false
-IsConstantIf d (Some x) t = t ≡ term_of d.known (view x.now)
 
 -- the bits of a term in an arena
 abbrev pub IsShapedTerm : Context → List Formula → Term → Shaped → Type 0

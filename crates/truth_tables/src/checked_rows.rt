@@ -19,7 +19,7 @@ use std::alloc::Global;
 /// What is found of a row: its first refusal, and where nothing is refused the levels of its entries at the positions of
 /// the header from the left, None at X.
 #[derive(Drop)]
-pub struct RowFound {
+pub(crate) struct RowFound {
     pub inputs: ListOf<Option<bool>>,
     pub outputs: ListOf<Option<bool>>,
     pub fault: Option<SectionFault>,
@@ -37,7 +37,7 @@ fn refuse_arrow(row: SectionFault, clocked: bool, row_clocked: bool) -> Option<S
 }
 
 /// A row of a table whose header isn't refused: its first refusal, or the levels of its entries.
-pub fn read_row(
+pub(crate) fn read_row(
     alloc: Global,
     scope: &Scope<'_>,
     table: &Table,

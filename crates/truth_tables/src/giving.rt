@@ -10,7 +10,7 @@ ghost use Rattle.truth_tables.specs.Gives.{GivesOutput, GivesValue, GivesPositio
 
 use bit_expr::{ExprId, Exprs};
 use pld_base::Place;
-use section_targets::{Aim, Giving, give};
+use section_targets::{Aim, Giver, Giving, give};
 use set_expr::{Contribution, Gives, Guard, Scope, SectionFault};
 
 /// How the unit at a place gives values to outputs, on the clock or not. The guard's bit doesn't count.
@@ -55,7 +55,11 @@ pub fn give_output(
         clocked: assigning.clocked,
         what,
     };
-    give(matching.scope, giving, aim, matching.bit, exprs, list)
+    let giver = Giver {
+        scope: matching.scope,
+        giving,
+    };
+    give(&giver, aim, matching.bit, exprs, list)
 }
 
 /// What a level gives: one for 1, any for X and nothing for 0.

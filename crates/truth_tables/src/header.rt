@@ -1,27 +1,20 @@
 //! The outputs of headers.
 
-ghost use Rattle.std.specs.Prelude.{◌≡◌, None, [], ◌∷◌, ◌++◌, IfOk, OnOk};
-ghost use Rattle.abel_tree.specs.Entries.{find};
+ghost use Rattle.std.specs.Prelude.{◌≡◌, None, [], ◌∷◌, IfOk};
 ghost use Rattle.abel_tree.specs.FirstRefusal.{first_refusal};
-ghost use Rattle.abel_meaning.specs.Designs.{Context};
-ghost use Rattle.abel_meaning.specs.Terms.{term_named};
 ghost use Rattle.set_expr.specs.Refusals.{too_wide};
 ghost use Rattle.set_expr.specs.SectionOrder.{section_order};
-ghost use Rattle.truth_tables.specs.EntryTerms.{IsOver};
-ghost use Rattle.truth_tables.specs.OutputHeaders.{HeaderFound, header_of, refused_header, header_name, header_set, both_headers, named_outputs, outputs_at};
-ghost use Rattle.truth_tables.specs.TableUnits.{some_aims};
+ghost use Rattle.truth_tables.specs.OutputHeaders.{HeaderFound, header_of, refused_header, header_set, both_headers, outputs_at};
 ghost use Rattle.truth_tables.specs.Headers.{IsHeader};
 
-use crate::signals::header_signals;
-use abel_tree::{Expr, Word};
-use pld_base::{ListOf, NameText, OutOfMemory, Place};
-use section_targets::{Aim, number_of};
-use set_expr::{Scope, SectionFault, earlier};
+use pld_base::{ListOf, OutOfMemory, Place};
+use section_targets::Aim;
+use set_expr::{SectionFault, earlier};
 use std::alloc::Global;
 
 /// What is found of a header: its first refusal, and its outputs position by position from the left, None at X.
 #[derive(Drop)]
-pub struct Header {
+pub(crate) struct Header {
     pub outputs: ListOf<Option<Aim>>,
     pub fault: Option<SectionFault>,
 }
@@ -49,30 +42,6 @@ fn list_outputs(
         outputs.push(output_at(signals[index], place))?;
     }
     Ok(outputs)
-}
-
-/// An output more; X is none.
-fn push_aim(aims: &mut Vec<Aim>, output: Option<Aim>) -> Result<(), OutOfMemory>
-    ensures { OnOk result (aims.new.items ≡ aims.old.items ++ some_aims (output ∷ [])) }
-{
-    match output {
-        None => Ok(()),
-        Some(aim) => {
-            aims.push(aim)?;
-            Ok(())
-        }
-    }
-}
-
-/// The outputs alone.
-pub fn list_aims(alloc: Global, outputs: &[Option<Aim>]) -> Result<Vec<Aim>, OutOfMemory>
-    ensures { IfOk result (λ aims. aims.items ≡ some_aims outputs.now) }
-{
-    let mut aims = Vec::new(alloc);
-    for index in 0..outputs.len() {
-        push_aim(&mut aims, outputs[index])?;
-    }
-    Ok(aims)
 }
 
 /// Refused where a set has more than 32 positions.
@@ -120,7 +89,11 @@ impl Header {
     }
 
     /// Signals and X, all at one place.
-    fn listed(alloc: Global, signals: &[Option<u32>], place: Place) -> Result<Header, OutOfMemory>
+    pub(crate) fn listed(
+        alloc: Global,
+        signals: &[Option<u32>],
+        place: Place,
+    ) -> Result<Header, OutOfMemory>
         ensures { IfOk result (λ h. IsHeader h (header_of (outputs_at place signals.now))) }
     {
         let outputs = list_outputs(alloc, signals, place)?;
@@ -154,47 +127,5 @@ impl Header {
             outputs: self.outputs,
             fault,
         }
-    }
-}
-
-/// A name of which nothing is refused, used at a place.
-fn accepted_name(
-    alloc: Global,
-    scope: &Scope<'_>,
-    text: &[u8],
-    place: Place,
-) -> Result<Header, OutOfMemory>
-    ensures { IfOk result (λ h. (d : Context) → IsOver scope.now d → IsHeader h (named_outputs [] place (find d.names text.now) (term_named d.known text.now))) }
-{
-    let name = Expr::Name {
-        word: Word {
-            text: NameText::new(alloc, text)?,
-            place,
-        },
-        extension: None,
-    };
-    let found = header_signals(alloc, scope, &name)?;
-    match found {
-        None => {
-            let fault = SectionFault::NotAnOutput(place, number_of(scope, text));
-            Ok(Header::refused(alloc, fault))
-        }
-        Some(signals) => Header::listed(alloc, signals.as_slice(), place),
-    }
-}
-
-/// The name with this text, used at a place.
-pub(crate) fn name_header(
-    alloc: Global,
-    scope: &Scope<'_>,
-    text: &[u8],
-    place: Place,
-) -> Result<Header, OutOfMemory>
-    ensures { IfOk result (λ h. (d : Context) → IsOver scope.now d → IsHeader h (header_name d place text.now)) }
-{
-    let found = scope.check_name(text, place);
-    match found.fault {
-        Some(fault) => Ok(Header::refused(alloc, fault)),
-        None => accepted_name(alloc, scope, text, place),
     }
 }

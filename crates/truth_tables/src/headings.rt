@@ -1,29 +1,21 @@
-//! The walk of an output header, and what is refused of both sides of a header.
+//! The walk of an output header.
 
-ghost use Rattle.std.specs.Prelude.{◌≡◌, List, ◌++◌, length, IfOk, OnOk, map};
-ghost use Rattle.abel_tree.specs.Entries.{entries_of};
-ghost use Rattle.abel_tree.specs.FirstRefusal.{first_refusal};
+ghost use Rattle.std.specs.Prelude.{IfOk, map};
 ghost use Rattle.abel_tree.specs.Ranges.{range_names};
 ghost use Rattle.abel_tree.specs.Tree.{AName, members_of};
 ghost use Rattle.abel_tree.specs.View.{view, view_member};
 ghost use Rattle.abel_meaning.specs.Designs.{Context};
-ghost use Rattle.set_expr.specs.Answer.{IsContextOf};
-ghost use Rattle.set_expr.specs.SectionOrder.{section_order};
-ghost use Rattle.section_targets.specs.declared.manner.Manner.{Manner};
-ghost use Rattle.section_targets.specs.Given.{AreNamed};
-ghost use Rattle.section_targets.specs.Manners.{AreFirsts};
 ghost use Rattle.truth_tables.specs.EntryTerms.{IsOver};
 ghost use Rattle.truth_tables.specs.OutputHeaders.{HeaderFound, both_headers, header_set, header_range, header_special, output_header, output_member, output_members};
-ghost use Rattle.truth_tables.specs.TableUnits.{assigned_by, outputs_refused, some_aims};
-ghost use Rattle.truth_tables.specs.Headers.{IsHeader, IsWholeHeader};
+ghost use Rattle.truth_tables.specs.Headers.{IsHeader};
 
-use crate::header::{Header, list_aims, name_header};
-use abel_tree::{Expr, Extension, Member, Table, Word};
+use crate::header::Header;
+use crate::header_names::name_header;
+use abel_tree::{Expr, Extension, Member, Word};
 use name_uses::range_list;
 use pld_base::{OutOfMemory, Place};
-use pld_device::Device;
-use section_targets::{Assigned, check_aims, number_of, refuse_operator};
-use set_expr::{Scope, SectionFault, earlier};
+use section_targets::{number_of, refuse_operator};
+use set_expr::{Scope, SectionFault};
 use std::alloc::Global;
 
 /// `.X.` is a position, `.C.` and `.Z.` are none.
@@ -113,7 +105,11 @@ fn set_header(
 
 /// An output header, or a member of one.
 #[cycle(headings)]
-fn expr_header(alloc: Global, scope: &Scope<'_>, expr: &Expr) -> Result<Header, OutOfMemory>
+pub(crate) fn expr_header(
+    alloc: Global,
+    scope: &Scope<'_>,
+    expr: &Expr,
+) -> Result<Header, OutOfMemory>
     ensures { IfOk result (λ h. (d : Context) → IsOver scope.now d → IsHeader h (output_header d (view expr.now))) }
 {
     match expr {
@@ -150,45 +146,4 @@ fn expr_header(alloc: Global, scope: &Scope<'_>, expr: &Expr) -> Result<Header, 
             right: _,
         } => Ok(Header::refused(alloc, refuse_operator(scope, expr))),
     }
-}
-
-/// What is refused of outputs that are assigned on the clock or not, behind what was assigned before.
-fn check_outputs<D: Device>(
-    alloc: Global,
-    scope: &Scope<'_>,
-    clocked: bool,
-    header: &Header,
-    before: &mut Assigned,
-) -> Result<Option<SectionFault>, OutOfMemory>
-    requires { AreNamed (length (entries_of scope.now)) (some_aims header.now.outputs) }
-    ensures fault { IfOk result (λ f. (d : Context) (all : List Manner) (x : HeaderFound) → IsContextOf D.table scope.now d → AreFirsts before.old all → IsHeader header.now x → f ≡ first_refusal section_order (outputs_refused d all clocked x)) }
-    ensures before { OnOk result ((all : List Manner) (x : HeaderFound) → AreFirsts before.old all → IsHeader header.now x → AreFirsts before.new (all ++ assigned_by clocked x)) }
-{
-    match header.fault {
-        Some(fault) => Ok(Some(fault)),
-        None => {
-            let aims = list_aims(alloc, header.outputs.as_slice())?;
-            check_aims::<D>(scope, None, false, clocked, aims.as_slice(), before)
-        }
-    }
-}
-
-/// Both sides of a table's header, whose outputs are assigned behind what was assigned before: the first refusal, and
-/// the outputs. How they are assigned is noted. Calls go as deep as the nestings of sets and parentheses.
-pub fn read_header<D: Device>(
-    alloc: Global,
-    scope: &Scope<'_>,
-    table: &Table,
-    before: &mut Assigned,
-) -> Result<Header, OutOfMemory>
-    ensures header { IfOk result (λ h. (d : Context) (all : List Manner) → IsContextOf D.table scope.now d → AreFirsts before.old all → IsWholeHeader d all table.now h) }
-    ensures before { OnOk result ((d : Context) (all : List Manner) → IsContextOf D.table scope.now d → AreFirsts before.old all → AreFirsts before.new (all ++ assigned_by table.now.clocked (output_header d (view table.now.outputs)))) }
-{
-    let inputs = scope.check(alloc, &table.inputs)?;
-    let outputs = expr_header(alloc, scope, &table.outputs)?;
-    let mixed = check_outputs::<D>(alloc, scope, table.clocked, &outputs, before)?;
-    Ok(Header {
-        outputs: outputs.outputs,
-        fault: earlier(inputs.fault, mixed),
-    })
 }

@@ -1,21 +1,23 @@
 //! The bits of an input header.
 
-ghost use Rattle.std.specs.Prelude.{◌≡◌, ℕ, None, Some, List, [], ◌∷◌, map, reverse, IfOk};
+ghost use Rattle.std.specs.Prelude.{◌≡◌, None, Some, List, [], ◌∷◌, map, reverse, IfOk};
 ghost use Rattle.bit_expr.specs.declared.node.Node.{Node};
 ghost use Rattle.bit_expr.specs.Arena.{arena};
-ghost use Rattle.abel_tree.specs.Entries.{view_meaning};
 ghost use Rattle.abel_tree.specs.View.{view};
 ghost use Rattle.abel_meaning.specs.CountedNodes.{term_nodes};
 ghost use Rattle.abel_meaning.specs.Designs.{Context};
-ghost use Rattle.abel_meaning.specs.Terms.{term_meant, term_named, term_of};
+ghost use Rattle.abel_meaning.specs.Terms.{term_of};
 ghost use Rattle.set_expr.specs.Answer.{Keeps, refusal_of};
 ghost use Rattle.set_expr.specs.Contexts.{context_for};
 ghost use Rattle.truth_tables.specs.EntryTerms.{IsOver};
 ghost use Rattle.section_targets.specs.Building.{BuildsNodes};
 ghost use Rattle.section_targets.specs.Units.{part};
-ghost use Rattle.truth_tables.specs.Products.{StandForInputs, IsConstantIf, IsShapedTerm, IsShapedNumber, is_computed};
+ghost use Rattle.truth_tables.specs.PartTerms.{is_computed};
+ghost use Rattle.truth_tables.specs.Products.{StandForInputs, IsShapedTerm, IsShapedNumber};
 
-use abel_tree::{Expr, Meaning};
+use crate::part::{Stand, stand_of};
+use crate::turned::turned;
+use abel_tree::Expr;
 use bit_expr::{ExprId, Exprs};
 use equations::unit_bits;
 use pld_base::{OutOfMemory, Place};
@@ -24,43 +26,17 @@ use section_targets::{SectionScope, meet};
 use set_expr::{Scope, SectionFault, Shape, Shaped};
 use std::alloc::Global;
 
-/// The expression of a name that is declared a constant.
-fn constant_meant(meaning: &Meaning) -> Option<&Expr>
-    ensures { (d : Context) (k : ℕ) → IsConstantIf d result (term_meant d.known k (view_meaning meaning.now)) }
-{
-    match meaning {
-        Meaning::Constant(value) => Some(value),
-        Meaning::Pin { pin: _, negated: _ } => None,
-        Meaning::Node(_) => None,
-        Meaning::DeviceName => None,
-    }
-}
-
-/// The constant that the name with this text stands for.
-fn constant_named<'a>(scope: &Scope<'a>, text: &[u8]) -> Option<&'a Expr>
-    ensures { (d : Context) → IsOver scope.now d → IsConstantIf d result (term_named d.known text.now) }
-{
-    scope.are_in_order();
-    match scope.get(text) {
-        None => None,
-        Some(name) => {
-            let declared = &scope.list()[name.number as usize];
-            constant_meant(&declared.meaning)
-        }
-    }
-}
-
 /// Whether an expression is an operator of two operands, behind signs, parentheses and constants' names.
-fn has_operator<'a>(scope: &Scope<'a>, expr: &'a Expr) -> Result<bool, OutOfMemory>
-    ensures { IfOk result (λ b. (d : Context) → IsOver scope.now d → b ≡ is_computed (term_of d.known (view expr.now))) }
+fn has_operator<'a>(scope: &Scope<'a>, expr: &'a Expr) -> bool
+    ensures { (d : Context) → IsOver scope.now d → result ≡ is_computed (term_of d.known (view expr.now)) }
 {
     let mut at = expr;
-    for _step in 0..u64::MAX {
+    loop {
         match at {
             Expr::Name { word, extension: _ } => {
-                match constant_named(scope, word.text.bytes()) {
-                    Some(value) => at = value,
-                    None => return Ok(false),
+                match stand_of(scope, word.text.bytes(), None) {
+                    Stand::Constant(value) => at = value,
+                    Stand::Content(_) => return false,
                 }
             }
             Expr::Paren { place: _, inner } => at = inner.get(),
@@ -74,20 +50,19 @@ fn has_operator<'a>(scope: &Scope<'a>, expr: &'a Expr) -> Result<bool, OutOfMemo
                 place: _,
                 left: _,
                 right: _,
-            } => return Ok(true),
-            Expr::Number(_) => return Ok(false),
+            } => return true,
+            Expr::Number(_) => return false,
             Expr::Special {
                 letter: _,
                 place: _,
-            } => return Ok(false),
+            } => return false,
             Expr::Set {
                 place: _,
                 members: _,
                 extension: _,
-            } => return Ok(false),
+            } => return false,
         }
     }
-    Err(OutOfMemory)
 }
 
 /// Bits as positions, in the other order.
@@ -111,21 +86,12 @@ fn number_positions(
 ) -> Result<Vec<Option<ExprId>>, OutOfMemory>
     ensures { IfOk result (λ ps. (d : Context) (ns : List Node) → IsOver scope.now d → IsShapedNumber d (arena ns) (term_of d.known (view header.now)) shaped.now → StandForInputs d (term_of d.known (view header.now)) (arena ns) ps.items) }
 {
-    if has_operator(scope, header)? {
+    if has_operator(scope, header) {
         let bits = meet(alloc, shaped, 32)?;
         list_positions(alloc, &bits)
     } else {
         Ok(Vec::new(alloc))
     }
-}
-
-/// Positions in the other order.
-fn turned(positions: Vec<Option<ExprId>>) -> Vec<Option<ExprId>>
-    ensures { result.items ≡ reverse positions.items }
-{
-    let mut positions = positions;
-    positions.reverse();
-    positions
 }
 
 /// The positions of a header from the left.
@@ -145,7 +111,7 @@ fn shaped_positions(
 }
 
 /// The positions of an input header from the left, None at X, as nodes of the unit at this place.
-pub fn header_bits<D: Device>(
+pub(crate) fn header_bits<D: Device>(
     alloc: Global,
     scope: &SectionScope<'_, D>,
     header: &Expr,

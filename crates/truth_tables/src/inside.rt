@@ -78,7 +78,7 @@ fn refuse_member(
 /// The first refusal inside an entry of a row that is refused so, whose sets are taken member by member. Calls go as
 /// deep as the nestings of sets and parentheses; constants are looked up.
 #[cycle(inside)]
-pub fn refuse_inside(
+pub(crate) fn refuse_inside(
     alloc: Global,
     scope: &Scope<'_>,
     row: SectionFault,

@@ -22,7 +22,7 @@ use std::alloc::Global;
 /// What is found of an entry of a table: its first refusal, and where nothing is refused its level at each position of the
 /// header from the left, None at X.
 #[derive(Drop)]
-pub struct Levels {
+pub(crate) struct Levels {
     pub levels: ListOf<Option<bool>>,
     pub fault: Option<SectionFault>,
 }

@@ -1,10 +1,13 @@
 //! Truth tables: entries of rows, what is refused, and what the rows contribute.
 #![tactic(auto)]
 
+mod checked_headers;
 mod checked_rows;
+mod contents;
 mod entries;
 mod giving;
 mod header;
+mod header_names;
 mod headings;
 mod inputs;
 mod inside;
@@ -21,19 +24,14 @@ mod row_walks;
 mod rows;
 mod signals;
 mod tables;
+mod turned;
 mod walking;
+mod wholes;
+mod widths;
 
-pub use checked_rows::{RowFound, read_row};
 pub use entries::{Entry, read_entry};
 pub use giving::{Assigning, Matching, give_output};
-pub use header::{Header, list_aims};
-pub use headings::read_header;
-pub use inputs::header_bits;
-pub use inside::refuse_inside;
-pub use levels::Levels;
 pub use mark::Mark;
 pub use positions::give_no_matches;
-pub use products::row_product;
-pub use pulses::holds_pulse;
 pub use signals::header_signals;
 pub use tables::walk_table;

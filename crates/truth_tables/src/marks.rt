@@ -1,6 +1,6 @@
 //! The marks of an entry at the positions of its header.
 
-ghost use Rattle.std.specs.Prelude.{◌≡◌, [], IfOk, reverse};
+ghost use Rattle.std.specs.Prelude.{[], IfOk};
 ghost use Rattle.abel_tree.specs.View.{view};
 ghost use Rattle.abel_meaning.specs.Designs.{Context};
 ghost use Rattle.abel_meaning.specs.Terms.{term_of};
@@ -11,6 +11,7 @@ ghost use Rattle.truth_tables.specs.PairTerms.{Walked};
 use crate::mark::Mark;
 use crate::pairs::{Pair, step};
 use crate::parts::part_of;
+use crate::turned::turned;
 use abel_tree::Expr;
 use pld_base::OutOfMemory;
 use set_expr::Scope;
@@ -35,15 +36,6 @@ fn begun<'a>(
     Ok(stack)
 }
 
-/// Marks in the other order.
-fn turned(marks: Vec<Mark>) -> Vec<Mark>
-    ensures { result.items ≡ reverse marks.items }
-{
-    let mut marks = marks;
-    marks.reverse();
-    marks
-}
-
 /// What an entry says of each position of its header, from the left; None where it doesn't meet the header. It is
 /// asked only of headers and entries in which nothing is refused. Sets and names of constants are followed by a
 /// stack, so that no call goes as deep as constants nest.
@@ -57,15 +49,10 @@ pub(crate) fn entry_marks(
 {
     let mut marks = Vec::new(alloc);
     let mut stack = begun(alloc, scope, header, entry)?;
-    for _step in 0..u64::MAX {
-        match stack.pop() {
-            None => return Ok(Some(turned(marks))),
-            Some(pair) => {
-                if !step(alloc, scope, pair, &mut stack, &mut marks)? {
-                    return Ok(None);
-                }
-            }
+    while let Some(pair) = stack.pop() {
+        if !step(alloc, scope, pair, &mut stack, &mut marks)? {
+            return Ok(None);
         }
     }
-    Err(OutOfMemory)
+    Ok(Some(turned(marks)))
 }

@@ -1,22 +1,19 @@
 //! Parts of headers beside what stands for them in entries, met one by one from the last on.
 
-ghost use Rattle.std.specs.Prelude.{◌≡◌, ◌++◌, true, false, length, map, replicate, IfOk, OnOk};
+ghost use Rattle.std.specs.Prelude.{◌≡◌, ◌++◌, true, false, length, map, IfOk, OnOk};
 ghost use Rattle.abel_tree.specs.Tree.{members_of};
 ghost use Rattle.abel_tree.specs.View.{view_member};
 ghost use Rattle.abel_meaning.specs.Designs.{Context};
-ghost use Rattle.abel_meaning.specs.Numbers.{digits_low_first, member_width};
-ghost use Rattle.abel_meaning.specs.Rows as meant;
 ghost use Rattle.abel_meaning.specs.Terms.{Term, terms_of, extended_if};
 ghost use Rattle.abel_meaning.specs.Terms as term;
-ghost use Rattle.abel_meaning.specs.Values.{constant_of};
-ghost use Rattle.truth_tables.specs.EntryMarks.{view_mark};
 ghost use Rattle.truth_tables.specs.EntryTerms.{IsOver};
-ghost use Rattle.truth_tables.specs.PairTerms.{both_sets, paired, Whole, IsStep, IsPush};
-ghost use Rattle.truth_tables.specs.PartTerms.{IsContent, IsPart};
+ghost use Rattle.truth_tables.specs.PairTerms.{paired, IsStep, IsPush};
+ghost use Rattle.truth_tables.specs.PartTerms.{IsPart};
 
 use crate::mark::Mark;
 use crate::part::{Content, Part};
 use crate::parts::parts_of;
+use crate::wholes::put_whole;
 use abel_tree::{Extension, Member};
 use pld_base::OutOfMemory;
 use set_expr::Scope;
@@ -36,56 +33,6 @@ struct SetPair<'a> {
     outer: Option<Extension>,
     entries: &'a [Member],
     inner: Option<Extension>,
-}
-
-/// The same mark at so many positions.
-fn push_same(marks: &mut Vec<Mark>, width: u8, mark: Mark) -> Result<(), OutOfMemory>
-    ensures { OnOk result (marks.new.items ≡ marks.old.items ++ replicate width mark) }
-{
-    for _position in 0..width {
-        marks.push(mark)?;
-    }
-    Ok(())
-}
-
-/// The bits of a number in so many positions, the lowest first.
-fn push_levels(marks: &mut Vec<Mark>, width: u8, number: u32) -> Result<(), OutOfMemory>
-    ensures { OnOk result (map view_mark marks.new.items ≡ map view_mark marks.old.items ++ map meant.Level (digits_low_first width number)) }
-{
-    let mut rest = number;
-    for _position in 0..width {
-        marks.push(Mark::Level(rest % 2 == 1))?;
-        rest /= 2;
-    }
-    Ok(())
-}
-
-/// The marks of an entry that meets a part of so many positions as a whole, from the last position on; false for one
-/// that doesn't.
-fn put_whole(marks: &mut Vec<Mark>, width: u8, content: Content<'_>) -> Result<bool, OutOfMemory>
-    ensures { IfOk result (λ b. (d : Context) (h e : Term) → IsContent d content.entry e → both_sets h e ≡ false → width ≡ member_width (constant_of d h).shape → Whole d h e b marks.old.items marks.new.items) }
-{
-    match content {
-        Content::Number(number) => {
-            push_levels(marks, width, number)?;
-            Ok(true)
-        }
-        Content::Unknown => {
-            push_same(marks, width, Mark::Unknown)?;
-            Ok(true)
-        }
-        Content::Pulsed => {
-            push_same(marks, width, Mark::Pulsed)?;
-            Ok(true)
-        }
-        Content::Released => {
-            push_same(marks, width, Mark::Released)?;
-            Ok(true)
-        }
-        Content::Set(_, _) => Ok(false),
-        Content::Signal(_, _) => Ok(false),
-        Content::Bits => Ok(false),
-    }
 }
 
 /// Puts each part of a header with what stands for it onto the stack.
@@ -147,8 +94,8 @@ pub(crate) fn step<'a>(
                 };
                 push_sets(alloc, scope, &sets, stack)
             }
-            _ => put_whole(marks, pair.header.width, pair.given.content),
+            _ => put_whole(alloc, scope, marks, pair.header.width, pair.given.content),
         },
-        _ => put_whole(marks, pair.header.width, pair.given.content),
+        _ => put_whole(alloc, scope, marks, pair.header.width, pair.given.content),
     }
 }

@@ -8,12 +8,13 @@ ghost use Rattle.set_expr.specs.KnownNames.{SumsUp, HasShapeIf};
 ghost use Rattle.set_expr.specs.Refusals.{Found};
 ghost use Rattle.truth_tables.specs.EntryTerms.{IsOver};
 ghost use Rattle.truth_tables.specs.PartTerms.{IsContent, IsStand};
+ghost use Rattle.truth_tables.specs.StepsLeft.{IsOfKind, LeadsBack};
 
 use abel_tree::{Expr, Extension, Meaning, Member};
 use pld_base::OutOfMemory;
 use set_expr::{Checked, Scope, Shape};
 
-/// A set with what extends its members, a signal, a number, a special, or bits that are no number.
+/// A set with what extends its members, a signal, a number, a special, or an operator.
 #[derive(Clone, Copy)]
 pub(crate) enum Content<'a> {
     Set(&'a [Member], Option<Extension>),
@@ -22,7 +23,7 @@ pub(crate) enum Content<'a> {
     Unknown,
     Pulsed,
     Released,
-    Bits,
+    Operator(&'a Expr),
 }
 
 /// A part with the positions that it has, 0 where they aren't asked for.
@@ -41,7 +42,9 @@ pub(crate) enum Stand<'a> {
 
 /// What a declared name of this number stands for.
 fn meaning_stand(meaning: &Meaning, number: u32, extension: Option<Extension>) -> Stand<'_>
-    ensures { (d : Context) → IsStand d extension result (extended_if extension (term_meant d.known number (view_meaning meaning.now))) }
+    ensures stand { (d : Context)
+        → IsStand d extension result (extended_if extension (term_meant d.known number (view_meaning meaning.now))) }
+    ensures kind { IsOfKind result (view_meaning meaning.now) }
 {
     match meaning {
         Meaning::Pin { pin: _, negated: _ } => Stand::Content(Content::Signal(number, extension)),
@@ -57,7 +60,9 @@ pub(crate) fn stand_of<'a>(
     text: &[u8],
     extension: Option<Extension>,
 ) -> Stand<'a>
-    ensures { (d : Context) → IsOver scope.now d → IsStand d extension result (extended_if extension (term_named d.known text.now)) }
+    ensures stand { (d : Context) → IsOver scope.now d
+        → IsStand d extension result (extended_if extension (term_named d.known text.now)) }
+    ensures back { LeadsBack scope.now text.now result }
 {
     scope.are_in_order();
     match scope.get(text) {

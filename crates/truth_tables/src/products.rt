@@ -59,7 +59,7 @@ fn with_position(
 }
 
 /// The product of the literals of a row's levels at the positions of the input header, both from the left.
-pub fn row_product(
+pub(crate) fn row_product(
     exprs: &mut Exprs,
     header: &[Option<ExprId>],
     levels: &[Option<bool>],

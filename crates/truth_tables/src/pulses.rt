@@ -102,7 +102,11 @@ fn level_holds(alloc: Global, scope: &Scope<'_>, expr: &Expr) -> Result<bool, Ou
 /// Whether `.C.` or `.Z.` stands in an expression, or a name of one. Goes down the left side of operators in a loop,
 /// and deeper by the nestings alone.
 #[cycle(pulses)]
-pub fn holds_pulse(alloc: Global, scope: &Scope<'_>, expr: &Expr) -> Result<bool, OutOfMemory>
+pub(crate) fn holds_pulse(
+    alloc: Global,
+    scope: &Scope<'_>,
+    expr: &Expr,
+) -> Result<bool, OutOfMemory>
     ensures { IfOk result (λ b. b ≡ holds_pulse (names_found (entries_of scope.now)) (view expr.now)) }
 {
     let mut first = expr;

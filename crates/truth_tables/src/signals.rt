@@ -1,6 +1,6 @@
 //! The signals that a header names.
 
-ghost use Rattle.std.specs.Prelude.{◌≡◌, ◌++◌, false, List, [], IfOk, OnOk, reverse};
+ghost use Rattle.std.specs.Prelude.{◌≡◌, ◌++◌, false, List, [], IfOk, OnOk};
 ghost use Rattle.abel_tree.specs.View.{view};
 ghost use Rattle.abel_meaning.specs.Designs.{Context};
 ghost use Rattle.abel_meaning.specs.Terms.{Term, term_of};
@@ -13,6 +13,7 @@ ghost use Rattle.truth_tables.specs.SignalTerms.{IsPut, Listing};
 
 use crate::part::{Content, Part};
 use crate::parts::{part_of, parts_of};
+use crate::turned::turned;
 use abel_tree::{Expr, Extension};
 use pld_base::OutOfMemory;
 use set_expr::Scope;
@@ -69,7 +70,7 @@ fn put_part<'a>(
         Content::Number(_) => Ok(false),
         Content::Pulsed => Ok(false),
         Content::Released => Ok(false),
-        Content::Bits => Ok(false),
+        Content::Operator(_) => Ok(false),
     }
 }
 
@@ -87,15 +88,6 @@ fn begun<'a>(
     Ok(stack)
 }
 
-/// Signals in the other order.
-fn turned(signals: Vec<Option<u32>>) -> Vec<Option<u32>>
-    ensures { result.items ≡ reverse signals.items }
-{
-    let mut signals = signals;
-    signals.reverse();
-    signals
-}
-
 /// The signals of a header from the left, None at X; None where it names something else than signals without
 /// extension, X and sets of these. It is asked only of headers in which nothing is refused. Sets and names of constants
 /// are followed by a stack.
@@ -108,15 +100,10 @@ pub fn header_signals(
 {
     let mut signals = Vec::new(alloc);
     let mut stack = begun(alloc, scope, header)?;
-    for _step in 0..u64::MAX {
-        match stack.pop() {
-            None => return Ok(Some(turned(signals))),
-            Some(part) => {
-                if !put_part(alloc, scope, part, &mut stack, &mut signals)? {
-                    return Ok(None);
-                }
-            }
+    while let Some(part) = stack.pop() {
+        if !put_part(alloc, scope, part, &mut stack, &mut signals)? {
+            return Ok(None);
         }
     }
-    Err(OutOfMemory)
+    Ok(Some(turned(signals)))
 }

@@ -3,7 +3,7 @@
 ghost use Rattle.std.specs.Prelude.{OnOk};
 ghost use Rattle.truth_tables.specs.TableWalks.{WalksTable};
 
-use crate::headings::read_header;
+use crate::checked_headers::read_header;
 use crate::row_walks::Headed;
 use crate::walking::walk_headed;
 use abel_tree::Table;

@@ -1,13 +1,14 @@
 -- A row by its arrow and both entries.
-use Rattle.std.proofs.Common.{◌++◌, ap₂, sym, ◌∙◌}
+use Rattle.std.proofs.Common.{◌≡◌, ◌++◌, None, ap, ap₂, sym, ◌∙◌}
+use Rattle.std.specs.Option.{is_some}
 use Rattle.abel_tree.specs.FirstRefusal.{earlier}
 use Rattle.abel_tree.proofs.FirstRefusals.{first_append}
 use Rattle.abel_tree.specs.View.{view}
 use Rattle.abel_meaning.specs.Terms.{term_of}
 use Rattle.set_expr.specs.declared.fault.SectionFault.TheVariants.{BadRow}
 use Rattle.set_expr.specs.SectionOrder.{section_order}
+use Rattle.section_targets.proofs.WalksBehind.{both_clear}
 use Rattle.truth_tables.specs.TableUnits.{arrow_refused, level_refused}
-use Rattle.truth_tables.proofs.RowLaws.{none_left, none_right}
 use Rattle.truth_tables.proofs.checked_rows.read_row.Goals as goal
 
 pub returns : goal.returns
@@ -20,11 +21,14 @@ returns c d is =
     let outs = c.in_ok-outputs.ensures d is in
     let us = level_refused d (BadRow row.place) i (view row.inputs) in
     let vs = level_refused d (BadRow row.place) o (view row.outputs) in
+    let entries = λ (e : c.earlier.result ≡ None).
+    both_clear c.in_ok-inputs.inputs.fault c.in_ok-outputs.outputs.fault
+    (ap is_some (sym c.earlier-entries.ensures ∙ (both_clear c.refuse_arrow-arrow.result c.earlier-entries.result (ap is_some (sym c.earlier.ensures ∙ e))).1)) in
     record {
       fault = c.earlier.ensures
           ∙ ap₂ (earlier section_order) c.refuse_arrow-arrow.ensures
           (c.earlier-entries.ensures ∙ ap₂ (earlier section_order) ins.fault outs.fault ∙ sym (first_append section_order us vs))
           ∙ sym (first_append section_order (arrow_refused (BadRow row.place) t.clocked row.clocked) (us ++ vs));
-      inputs_given = λ e. ins.given (none_left _ _ (sym c.earlier-entries.ensures ∙ none_right _ _ (sym c.earlier.ensures ∙ e)));
-      outputs_given = λ e. outs.given (none_right _ _ (sym c.earlier-entries.ensures ∙ none_right _ _ (sym c.earlier.ensures ∙ e)));
+      inputs_given = λ e. ins.given (entries e).0;
+      outputs_given = λ e. outs.given (entries e).1;
     }

@@ -1,12 +1,17 @@
 -- What was begun with is an operator where what is looked at is one.
 use Rattle.std.proofs.Common.{◌≡◌}
+use Rattle.abel_tree.specs.Entries.{entries_of}
 use Rattle.abel_tree.specs.View.{view}
 use Rattle.abel_meaning.specs.Designs.{Context}
 use Rattle.abel_meaning.specs.Terms.{term_of}
 use Rattle.truth_tables.specs.EntryTerms.{IsOver}
-use Rattle.truth_tables.specs.Products.{is_computed}
+use Rattle.truth_tables.specs.PartTerms.{is_computed}
+use Rattle.truth_tables.specs.StepsLeft.{steps_left}
 use Rattle.truth_tables.proofs.inputs.has_operator.Given as goal
 
-abbrev pub invariant-loop-step : goal.invariant-loop-step
-invariant-loop-step l =
+abbrev pub invariant-loop-at : goal.invariant-loop-at
+invariant-loop-at l =
     (d : Context) → IsOver l.scope d → is_computed (term_of d.known (view l.fn.expr)) ≡ is_computed (term_of d.known (view l.at))
+
+abbrev pub decreases-loop-at : goal.decreases-loop-at
+decreases-loop-at l = steps_left (entries_of l.scope) (view l.at)

@@ -7,7 +7,8 @@ use Rattle.abel_tree.specs.View.{view}
 use Rattle.abel_meaning.specs.FormulaBits.{bits_of}
 use Rattle.abel_meaning.specs.Terms.{term_of}
 use Rattle.abel_meaning.specs.Values.{constant_of}
-use Rattle.truth_tables.specs.Products.{StandForInputs, is_computed}
+use Rattle.truth_tables.specs.PartTerms.{is_computed}
+use Rattle.truth_tables.specs.Products.{StandForInputs}
 use Rattle.truth_tables.proofs.InputLaws.{stand_all, stand_none}
 use Rattle.truth_tables.proofs.inputs.number_positions.Goals as goal
 
@@ -16,14 +17,14 @@ returns-in_ok-bits c =
     IfOk-weaker c.list_positions.result _ _
     (λ ps h d ns is s.
     let t = term_of d.known (view c.args.header.now) in
-    let yes : is_computed t ≡ true = sym (c.in_ok-has_operator.ensures d is) ∙ c.if-branch.true in
+    let yes : is_computed t ≡ true = sym (c.has_operator.ensures d is) ∙ c.if-has_operator.true in
     subst (λ (qs : List (Option ExprId)). StandForInputs d t (arena ns) qs)
     (sym (h ∙ ap (λ (ids : List ExprId). reverse (map Some ids)) c.deref.ensures.value))
     (stand_all d (arena ns) t c.args.shaped.now c.in_ok-bits.bits.items s yes (c.in_ok-bits.ensures ns (constant_of d t) (bits_of d t).what s.0)))
     c.list_positions.ensures
 
-pub returns-else-branch : goal.returns-else-branch
-returns-else-branch c d ns is s =
+pub returns-else-has_operator : goal.returns-else-has_operator
+returns-else-has_operator c d ns is s =
     let t = term_of d.known (view c.args.header.now) in
-    let no : is_computed t ≡ false = sym (c.in_ok-has_operator.ensures d is) ∙ c.if-branch.false in
+    let no : is_computed t ≡ false = sym (c.has_operator.ensures d is) ∙ c.if-has_operator.false in
     subst (λ (qs : List (Option ExprId)). StandForInputs d t (arena ns) qs) (sym c.new.ensures.items) (stand_none d (arena ns) t c.args.shaped.now s no)

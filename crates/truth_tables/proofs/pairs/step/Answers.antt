@@ -22,7 +22,7 @@ returns-in_default-content c =
     IfOk-weaker c.put_whole.result _ _
     (λ b p d h e is x y.
     step_whole d h e b c.args.stack.now.items c.args.marks.now.items c.put_whole.new.marks.items
-    (p d h e y.content (given_not d c.args.pair.given.content h e c.in_default-content.not-Set y.content) (x.width refl)))
+    (p d h e is y.content (given_not d c.args.pair.given.content h e c.in_default-content.not-Set y.content) (x.width refl)))
     c.put_whole.ensures
 
 pub returns-in_default : goal.returns-in_default
@@ -30,5 +30,5 @@ returns-in_default c =
     IfOk-weaker c.put_whole-in_default.result _ _
     (λ b p d h e is x y.
     step_whole d h e b c.args.stack.now.items c.args.marks.now.items c.put_whole-in_default.new.marks.items
-    (p d h e y.content (header_not d c.args.pair.header.content h e c.in_default.not-Set x.content) (x.width refl)))
+    (p d h e is y.content (header_not d c.args.pair.header.content h e c.in_default.not-Set x.content) (x.width refl)))
     c.put_whole-in_default.ensures

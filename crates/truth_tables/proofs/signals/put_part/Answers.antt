@@ -7,6 +7,7 @@ use Rattle.abel_meaning.specs.Terms.{terms_of}
 use Rattle.truth_tables.specs.HeaderSignals.{names_positions}
 use Rattle.truth_tables.specs.PartTerms.{IsContent}
 use Rattle.truth_tables.specs.SignalTerms.{IsPut}
+use Rattle.truth_tables.proofs.Operands.{operator_operand}
 use Rattle.truth_tables.proofs.SignalLaws.{put_set, put_unknown, operand_unnamed}
 use Rattle.truth_tables.proofs.signals.put_part.Goals as goal
 
@@ -34,10 +35,10 @@ returns-in-Number c d t is x =
     let k = subst (λ z. IsContent d z t) c.in-Number.is x.content in
     operand_unnamed t k.operand
 
-pub returns-in-Bits : goal.returns-in-Bits
-returns-in-Bits c d t is x =
-    let k = subst (λ z. IsContent d z t) c.in-Bits.is x.content in
-    operand_unnamed t k.operand
+pub returns-in-Operator : goal.returns-in-Operator
+returns-in-Operator c d t is x =
+    let k = subst (λ z. IsContent d z t) c.in-Operator.is x.content in
+    operand_unnamed t (operator_operand d _ t k)
 
 pub returns-in-Pulsed : goal.returns-in-Pulsed
 returns-in-Pulsed c d t is x = ap names_positions (subst (λ z. IsContent d z t) c.in-Pulsed.is x.content)

@@ -1,0 +1,81 @@
+-- Each step of a walk over parts leaves fewer of them.
+use Rattle.std.proofs.Common.{◌≡◌, suc, ◌+◌, ◌<◌, Bool, true, Option, None, Some, List, [], ◌∷◌, ◌++◌, map, refl, sym, ap, ap₂, ◌∙◌, arith}
+use Rattle.abel_tree.specs.declared.words.Extension.{Extension}
+use Rattle.abel_tree.specs.Tree.{members_of}
+use Rattle.abel_tree.specs.View.{view_member}
+use Rattle.abel_meaning.specs.Designs.{Context}
+use Rattle.abel_meaning.specs.Terms.{Term, Terms, extended, extended_each, extended_if, terms_of}
+use Rattle.abel_meaning.specs.Terms as term
+use Rattle.truth_tables.specs.declared.part.Content.{Content}
+use Rattle.truth_tables.specs.declared.part.Content.TheVariants as content
+use Rattle.truth_tables.specs.declared.part.Part.{Part}
+use Rattle.expr_bits.specs.Members.{list_of, each_extended}
+use Rattle.truth_tables.specs.PartCounts.{term_parts, terms_parts, all_parts, content_parts, stack_parts}
+use Rattle.truth_tables.specs.PartTerms.{IsContent, AreParts, is_operand}
+use Rattle.truth_tables.proofs.Operands.{operand_case, operator_operand}
+use Rattle.expr_bits.proofs.Extensions.{all_extended, set_extended, list_extended}
+
+-- an extension changes none
+mutual
+  extended_parts : (e : Extension) (t : Term) → term_parts (extended e t) ≡ term_parts t
+  extended_parts e (term.Number n) = refl
+  extended_parts e term.X = refl
+  extended_parts e term.Pulse = refl
+  extended_parts e term.Release = refl
+  extended_parts e (term.Read s None) = refl
+  extended_parts e (term.Read s (Some f)) = refl
+  extended_parts e (term.Set ts) = ap suc (each_parts e ts)
+  extended_parts e (term.UnaryOf sign t) = refl
+  extended_parts e (term.BinaryOf sign t u) = refl
+
+  each_parts : (e : Extension) (ts : Terms) → terms_parts (extended_each e ts) ≡ terms_parts ts
+  each_parts e term.NoTerm = refl
+  each_parts e (term.Before t ts) = ap₂ (λ m n. m + n) (extended_parts e t) (each_parts e ts)
+
+parts_if : (e : Option Extension) (t : Term) → term_parts (extended_if e t) ≡ term_parts t
+parts_if None t = refl
+parts_if (Some e) t = extended_parts e t
+
+pub some_parts : (t : Term) → 0 < term_parts t
+some_parts (term.Number n) = omega arith
+some_parts term.X = omega arith
+some_parts term.Pulse = omega arith
+some_parts term.Release = omega arith
+some_parts (term.Read s e) = omega arith
+some_parts (term.Set ts) = omega arith
+some_parts (term.UnaryOf sign t) = omega arith
+some_parts (term.BinaryOf sign t u) = omega arith
+
+operand_parts : (t : Term) → is_operand t ≡ true → term_parts t ≡ 1
+operand_parts t k = operand_case (λ u. term_parts u ≡ 1) (λ n. refl) (λ sign u. refl) (λ sign u v. refl) t k
+
+content_counted : (d : Context) (x : Content) (t : Term) → IsContent d x t → content_parts d.known x ≡ term_parts t
+content_counted d (content.Set ms e) t i = sym (ap term_parts i ∙ parts_if e (term.Set (terms_of d.known (members_of (map view_member ms.now)))))
+content_counted d (content.Signal s e) t i = sym (ap term_parts i)
+content_counted d (content.Number n) t i = sym (operand_parts t i.operand)
+content_counted d content.Unknown t i = sym (ap term_parts i)
+content_counted d content.Pulsed t i = sym (ap term_parts i)
+content_counted d content.Released t i = sym (ap term_parts i)
+content_counted d (content.Operator x) t i = sym (operand_parts t (operator_operand d x.now t i))
+
+-- a stack has those of its terms
+pub parts_counted : (d : Context) (s : Bool) (ps : List Part) (ts : List Term) → AreParts d s ps ts → stack_parts d.known ps ≡ all_parts ts
+parts_counted d s [] [] h = refl
+parts_counted d s [] (t ∷ ts) h = absurd h
+parts_counted d s (p ∷ ps) [] h = absurd h
+parts_counted d s (p ∷ ps) (t ∷ ts) h = ap₂ (λ m n. m + n) (content_counted d p.content t h.0.content) (parts_counted d s ps ts h.1)
+
+pub parts_more : (ts us : List Term) → all_parts (ts ++ us) ≡ all_parts ts + all_parts us
+parts_more [] us = omega arith
+parts_more (t ∷ ts) us = omega (arith, parts_more ts us)
+
+listed_parts : (ts : Terms) → all_parts (list_of ts) ≡ terms_parts ts
+listed_parts term.NoTerm = refl
+listed_parts (term.Before t ts) = ap (λ n. term_parts t + n) (listed_parts ts)
+
+-- the members of a set have fewer than the set
+pub set_fewer : (t : Term) (e : Option Extension) (ts : Terms) → t ≡ extended_if e (term.Set ts) → all_parts (each_extended e (list_of ts)) < term_parts t
+set_fewer t e ts h =
+    let members : all_parts (each_extended e (list_of ts)) ≡ terms_parts (all_extended e ts) = ap all_parts (sym (list_extended e ts)) ∙ listed_parts (all_extended e ts) in
+    let whole : term_parts t ≡ suc (terms_parts (all_extended e ts)) = ap term_parts (h ∙ set_extended e ts) in
+    omega arith

@@ -1,0 +1,94 @@
+//! What is refused of both sides of a header.
+
+ghost use Rattle.std.specs.Prelude.{◌≡◌, List, [], ◌∷◌, ◌++◌, length, IfOk, OnOk};
+ghost use Rattle.abel_tree.specs.Entries.{entries_of};
+ghost use Rattle.abel_tree.specs.FirstRefusal.{first_refusal};
+ghost use Rattle.abel_tree.specs.View.{view};
+ghost use Rattle.abel_meaning.specs.Designs.{Context};
+ghost use Rattle.set_expr.specs.Answer.{IsContextOf};
+ghost use Rattle.set_expr.specs.SectionOrder.{section_order};
+ghost use Rattle.section_targets.specs.declared.manner.Manner.{Manner};
+ghost use Rattle.section_targets.specs.Given.{AreNamed};
+ghost use Rattle.section_targets.specs.Manners.{AreFirsts};
+ghost use Rattle.truth_tables.specs.OutputHeaders.{HeaderFound, output_header};
+ghost use Rattle.truth_tables.specs.TableUnits.{assigned_by, outputs_refused, some_aims};
+ghost use Rattle.truth_tables.specs.Headers.{IsHeader, IsWholeHeader};
+
+use crate::header::Header;
+use crate::headings::expr_header;
+use abel_tree::Table;
+use pld_base::OutOfMemory;
+use pld_device::Device;
+use section_targets::{Aim, Assigned, Way, check_aims};
+use set_expr::{Scope, SectionFault, earlier};
+use std::alloc::Global;
+
+/// An output more; X is none.
+fn push_aim(aims: &mut Vec<Aim>, output: Option<Aim>) -> Result<(), OutOfMemory>
+    ensures { OnOk result (aims.new.items ≡ aims.old.items ++ some_aims (output ∷ [])) }
+{
+    match output {
+        None => Ok(()),
+        Some(aim) => {
+            aims.push(aim)?;
+            Ok(())
+        }
+    }
+}
+
+/// The outputs alone.
+fn list_aims(alloc: Global, outputs: &[Option<Aim>]) -> Result<Vec<Aim>, OutOfMemory>
+    ensures { IfOk result (λ aims. aims.items ≡ some_aims outputs.now) }
+{
+    let mut aims = Vec::new(alloc);
+    for index in 0..outputs.len() {
+        push_aim(&mut aims, outputs[index])?;
+    }
+    Ok(aims)
+}
+
+/// What is refused of outputs that are assigned on the clock or not, behind what was assigned before.
+fn check_outputs<D: Device>(
+    alloc: Global,
+    scope: &Scope<'_>,
+    clocked: bool,
+    header: &Header,
+    before: &mut Assigned,
+) -> Result<Option<SectionFault>, OutOfMemory>
+    requires { AreNamed (length (entries_of scope.now)) (some_aims header.now.outputs) }
+    ensures fault { IfOk result (λ f. (d : Context) (all : List Manner) (x : HeaderFound) → IsContextOf D.table scope.now d → AreFirsts before.old all → IsHeader header.now x → f ≡ first_refusal section_order (outputs_refused d all clocked x)) }
+    ensures before { OnOk result ((all : List Manner) (x : HeaderFound) → AreFirsts before.old all → IsHeader header.now x → AreFirsts before.new (all ++ assigned_by clocked x)) }
+{
+    match header.fault {
+        Some(fault) => Ok(Some(fault)),
+        None => {
+            let aims = list_aims(alloc, header.outputs.as_slice())?;
+            let way = Way {
+                extension: None,
+                complement: false,
+                clocked,
+            };
+            check_aims::<D>(scope, way, aims.as_slice(), before)
+        }
+    }
+}
+
+/// Both sides of a table's header, whose outputs are assigned behind what was assigned before: the first refusal, and
+/// the outputs. How they are assigned is noted. Calls go as deep as the nestings of sets and parentheses.
+pub(crate) fn read_header<D: Device>(
+    alloc: Global,
+    scope: &Scope<'_>,
+    table: &Table,
+    before: &mut Assigned,
+) -> Result<Header, OutOfMemory>
+    ensures header { IfOk result (λ h. (d : Context) (all : List Manner) → IsContextOf D.table scope.now d → AreFirsts before.old all → IsWholeHeader d all table.now h) }
+    ensures before { OnOk result ((d : Context) (all : List Manner) → IsContextOf D.table scope.now d → AreFirsts before.old all → AreFirsts before.new (all ++ assigned_by table.now.clocked (output_header d (view table.now.outputs)))) }
+{
+    let inputs = scope.check(alloc, &table.inputs)?;
+    let outputs = expr_header(alloc, scope, &table.outputs)?;
+    let mixed = check_outputs::<D>(alloc, scope, table.clocked, &outputs, before)?;
+    Ok(Header {
+        outputs: outputs.outputs,
+        fault: earlier(inputs.fault, mixed),
+    })
+}
