@@ -15,7 +15,7 @@ use bit_expr::ExprId;
 use equations::{Meets, refuse_value, value_bits};
 use pld_base::{OutOfMemory, Place};
 use pld_device::Device;
-use section_targets::{Aim, Giving, Walked, give};
+use section_targets::{Aim, Giver, Giving, Walked, give};
 use set_expr::{Gives, Guard, Scope, SectionFault};
 use std::alloc::Global;
 use truth_tables::{Assigning, Matching, give_output};
@@ -51,7 +51,8 @@ fn give_register(
         clocked: true,
         what: Gives::One,
     };
-    give(scope, giving, aim, bit, &mut out.exprs, &mut out.list)?;
+    let giver = Giver { scope, giving };
+    give(&giver, aim, bit, &mut out.exprs, &mut out.list)?;
     let assigning = Assigning {
         unit: goal.place,
         guard: goal.guard,

@@ -12,7 +12,7 @@ ghost use Rattle.state_diagrams.specs.Registers.{AreRegisters};
 use abel_tree::Expr;
 use pld_base::OutOfMemory;
 use pld_device::Device;
-use section_targets::{Assigned, SectionScope, Side, check_aims};
+use section_targets::{Assigned, SectionScope, Side, Way, check_aims};
 use std::alloc::Global;
 
 /// What is found of the registers of a diagram: the first refusal, or the registers from the left.
@@ -29,8 +29,12 @@ pub(crate) fn check_registers<D: Device>(
     match side.fault {
         Some(_) => Ok(side),
         None => {
-            let names = scope.scope();
-            let mixed = check_aims::<D>(names, None, false, true, side.aims.as_slice(), before)?;
+            let way = Way {
+                extension: None,
+                complement: false,
+                clocked: true,
+            };
+            let mixed = check_aims::<D>(scope.scope(), way, side.aims.as_slice(), before)?;
             Ok(Side {
                 aims: side.aims,
                 width: side.width,

@@ -25,7 +25,7 @@ returns-in-Some-clause-before g c = λ all a.
 
 pub check_aims-requires : goal.check_aims-requires
 check_aims-requires g c =
-    subst (λ (n : Names). AreNamed (length (entries_of n)) c.as_slice.result.now) (sym c.scope-names.ensures)
+    subst (λ (n : Names). AreNamed (length (entries_of n)) c.as_slice.result.now) (sym c.scope.ensures)
     (subst (λ (xs : List Aim). AreNamed (length (entries_of c.args.scope.now)) xs) (sym c.as_slice.ensures) (c.in_ok-side.ensures g.D.Device.table).inside)
 
 pub returns-in_ok-mixed-in-None-clause-found : goal.returns-in_ok-mixed-in-None-clause-found
@@ -34,7 +34,7 @@ returns-in_ok-mixed-in-None-clause-found g c = λ all a.
     let n = c.args.scope.now in
     let d = context_for t n in
     some_registers d all (view c.args.registers.now) c.in_ok-side.side _ (known_by_names t n d (is_context t n)) (c.in_ok-side.ensures t) c.in-None.is refl
-    (c.in_ok-mixed-in-None.ensures.fault d all (same_context t c.scope-names.result.now n c.scope-names.ensures) a ∙ ap (λ (xs : List Aim). first_refusal section_order (aims_refused d all None false true xs)) c.as_slice.ensures)
+    (c.in_ok-mixed-in-None.ensures.fault d all (same_context t c.scope.result.now n c.scope.ensures) a ∙ ap (λ (xs : List Aim). first_refusal section_order (aims_refused d all None false true xs)) c.as_slice.ensures)
 
 pub returns-in_ok-mixed-in-None-clause-before : goal.returns-in_ok-mixed-in-None-clause-before
 returns-in_ok-mixed-in-None-clause-before g c = λ all a.
