@@ -1,6 +1,7 @@
 -- Whether a pin enables the signals of several targets.
-use Rattle.std.proofs.Common.{◌≡◌, ℕ, Bool, true, false, ◌&&◌, Option, None, Some, List, [], ◌∷◌, ◌++◌, refl, sym, ap, ◌∙◌}
+use Rattle.std.proofs.Common.{◌≡◌, ℕ, Bool, true, false, ◌&&◌, Option, None, Some, List, [], ◌∷◌, ◌++◌, refl, ap, ◌∙◌}
 use Rattle.std.specs.List.{list_all}
+use Rattle.std.proofs.lemmas.List.Folds.{list_all-append}
 use Rattle.abel_tree.specs.declared.words.Extension.{Extension}
 use Rattle.abel_tree.specs.declared.words.Extension.TheVariants as extension
 use Rattle.abel_tree.specs.Tree.{SetMember, members_of}
@@ -11,18 +12,10 @@ use Rattle.design_checks.specs.Fronts.{may_be_compared}
 use Rattle.design_checks.specs.SectionUses.{is_compared_by, is_enabled_by_pin}
 use Rattle.section_targets.proofs.NameTerms.{targets_more, range_targets}
 use Rattle.section_targets.proofs.SignalLists.{some_append, extended_targets}
-use Rattle.design_checks.specs.Walked.{are_by_pin, compares}
-
-all_append : (p : ℕ → Bool) (xs ys : List ℕ) → list_all p (xs ++ ys) ≡ list_all p xs && list_all p ys
-all_append p [] ys = refl
-all_append p (x ∷ xs) ys = ap (λ b. p x && b) (all_append p xs ys) ∙ sym (and_assoc (p x) (list_all p xs) (list_all p ys))
-  where
-    and_assoc : (a b c : Bool) → (a && b) && c ≡ a && (b && c)
-    and_assoc true b c = refl
-    and_assoc false b c = refl
+use Rattle.design_checks.specs.Learnt.{are_by_pin, compares}
 
 by_pin_append : (d : Context) (xs ys : List (Option ℕ)) → are_by_pin d (xs ++ ys) ≡ are_by_pin d xs && are_by_pin d ys
-by_pin_append d xs ys = ap (list_all (is_enabled_by_pin d)) (some_append xs ys) ∙ all_append (is_enabled_by_pin d) (some_signals xs) (some_signals ys)
+by_pin_append d xs ys = ap (list_all (is_enabled_by_pin d)) (some_append xs ys) ∙ list_all-append (is_enabled_by_pin d) (some_signals xs) (some_signals ys)
 
 and_true : (b : Bool) → b && true ≡ b
 and_true true = refl

@@ -5,7 +5,7 @@ use Rattle.std.specs.Map.{lookup}
 use Rattle.std.specs.Str.{bytes_eq}
 use Rattle.indexmap.specs.IndexMap.{insert_entry}
 use Rattle.design_checks.specs.declared.names.NameUses.{NameUses}
-use Rattle.design_checks.specs.Walked.{by_bytes, under, or_new, with_new}
+use Rattle.design_checks.specs.Learnt.{by_bytes, under, or_new, with_new}
 
 pub looked_up : (es : List (Vec ℕ × NameUses)) (w : List ℕ) → lookup (λ k. bytes_eq w k.items) es ≡ under (by_bytes es) w
 looked_up [] w = refl

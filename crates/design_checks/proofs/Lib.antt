@@ -1,22 +1,18 @@
 mod ByPin
-mod ByRule
 mod Carried
 mod ColumnLaw
 pub mod FaultsInOrder
 mod FrontNames
-mod ItemWalks
+mod JoinedFirsts
 mod KeptNames
 pub mod LearntName
 mod Listed
-mod MetUses
+mod PartedUses
 mod Places
 mod PlainOnes
 mod Pushed
 mod RefusedStatements
-mod Rows
 mod Stages
 pub mod UsesInOrder
 pub mod UsesRead
-mod Viewed
-mod WalkedUses
 mod WrittenTerms

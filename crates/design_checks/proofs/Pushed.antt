@@ -1,10 +1,7 @@
--- One name, one contribution and one cell more.
-use Rattle.std.proofs.Common.{◌≡◌, ℕ, zero, suc, ◌+◌, ◌<◌, ◌≤◌, Bool, false, ◌||◌, List, [], ◌∷◌, ◌++◌, length, take, drop, get_or, map, sym, ap, ◌∙◌, append_assoc, append-nil, add-one, arith}
-use Rattle.std.specs.List.{list_any}
-use Rattle.std.proofs.Math.Seq.{drop-cons}
-use Rattle.std.proofs.lemmas.List.{drop_all, take_more}
-use Rattle.abel_tree.specs.declared.names.Declared.{Declared}
-use Rattle.abel_tree.specs.Entries.{Entry, view_declared}
+-- One name and one contribution more.
+use Rattle.std.proofs.Common.{◌≡◌, ℕ, suc, ◌+◌, ◌<◌, List, [], ◌∷◌, ◌++◌, length, take, get_or, sym, ap, ◌∙◌, append_assoc, append-nil, arith}
+use Rattle.std.proofs.lemmas.List.{take_more}
+use Rattle.abel_tree.specs.Entries.{Entry}
 use Rattle.abel_tree.specs.FirstRefusal.{earlier, first_refusal}
 use Rattle.abel_tree.proofs.FirstRefusals.{first_append}
 use Rattle.abel_meaning.specs.Designs.{no_name}
@@ -46,18 +43,3 @@ node_next i xs x e =
     let at : i ≡ 0 + length xs = omega (arith, e) in
     ap (first_refusal signal_order) (nodes_push 0 i xs x at)
     ∙ first_append signal_order (registered_nodes 0 xs) (refused_if (is_registered_node x) (fault.RegisteredNode x.place i))
-
--- ---- some of a list, from a place on
-
-pub any_from : {X : Type 0} (t : X → Bool) (xs : List X) (k : ℕ) (d : X) → k < length xs → list_any t (drop k xs) ≡ (t (get_or xs k d) || list_any t (drop (k + 1) xs))
-any_from t xs k d low = ap (λ ys. list_any t ys) (drop-cons xs k d low) ∙ ap (λ n. t (get_or xs k d) || list_any t (drop n xs)) (sym (add-one k))
-
-pub any_end : {X : Type 0} (t : X → Bool) (xs : List X) (k : ℕ) → length xs ≤ k → list_any t (drop k xs) ≡ false
-any_end t xs k past = ap (λ ys. list_any t ys) (drop_all k xs past)
-
--- ---- names
-
-pub entry_here : (ds : List Declared) (s : ℕ) (x y : Declared) → s < length ds → y ≡ get_or ds s x → get_or (map view_declared ds) s no_name ≡ view_declared y
-entry_here [] s x y low is = absurd (omega (arith, low))
-entry_here (d ∷ ds) zero x y low is = ap view_declared (sym is)
-entry_here (d ∷ ds) (suc s) x y low is = entry_here ds s x y (omega (arith, low)) is

@@ -16,7 +16,7 @@ use Rattle.design_checks.specs.LocatedUses.{PlacedUse, all_at, own_or_outer, ran
 abbrev pub plain : List PlacedUse → List SignalUse
 plain us = map (λ (u : PlacedUse). u.read) us
 
-plain_at : (p : Place) (us : List SignalUse) → plain (all_at p us) ≡ us
+pub plain_at : (p : Place) (us : List SignalUse) → plain (all_at p us) ≡ us
 plain_at p [] = refl
 plain_at p (u ∷ us) = ap (λ vs. u ∷ vs) (plain_at p us)
 

@@ -3,13 +3,14 @@ pub mod Correct
 pub mod Example
 pub mod Firsts
 pub mod Fronts
+pub mod Learnt
 pub mod LocatedUses
 pub mod Order
+pub mod PartUses
 pub mod Refused
 pub mod RefusedUses
 pub mod SectionUses
 pub mod SignalsRefused
 pub mod UsesRefused
 pub mod Verdict
-pub mod Walked
 pub mod Written

@@ -1,11 +1,12 @@
 -- Where an expression reads signals: a signal that a constant brings stands at the constant's name, and each name of a
 -- range at its first end (this project's rule).
-use Rattle.std.specs.Prelude.{ℕ, Option, None, Some, List, [], ◌∷◌, ◌++◌}
+use Rattle.std.specs.Prelude.{ℕ, Option, List, [], ◌∷◌, ◌++◌}
 use Rattle.pld_base.specs.declared.place.Place.{Place}
 use Rattle.abel_tree.specs.declared.words.Extension.{Extension}
 use Rattle.abel_tree.specs.Ranges.{range_names}
 use Rattle.abel_tree.specs.Tree.{Tree, ANumber, ASpecial, AName, ASet, AParen, AUnary, ABinary, SetMember, OneMember, SpanMember, Members, NoMember, MoreMembers}
 use Rattle.abel_meaning.specs.Terms.{Known, term_named, extended_if}
+use Rattle.name_uses.specs.NamesUsed.{innermost}
 use Rattle.netlist_laws.specs.SignalUses.{SignalUse, term_uses}
 
 -- a signal where an expression reads it, with what is asked of it, and its place in the expanded text
@@ -20,8 +21,7 @@ all_at p (u ∷ us) = record { read = u; place = p } ∷ all_at p us
 
 -- an extension of its own, or that of the set round it
 abbrev pub own_or_outer : Option Extension → Option Extension → Option Extension
-own_or_outer (Some e) outer = Some e
-own_or_outer None outer = outer
+own_or_outer own outer = innermost own outer
 
 -- the names of a range, in a set with this extension
 abbrev pub range_located : List Known → Option Extension → Place → List (List ℕ) → List PlacedUse

@@ -15,7 +15,10 @@ use Rattle.set_expr.specs.declared.contributions.Contributions.{Contributions}
 use Rattle.set_expr.specs.Answer.{IsContextOf}
 use Rattle.set_expr.specs.Given.{given}
 use Rattle.design_checks.specs.declared.refused.RefusedUse.{RefusedUse}
-use Rattle.design_checks.specs.UsesRefused.{use_order}
+use Rattle.design_checks.specs.declared.kinds.UseFaults.{UseFaults}
+use Rattle.design_checks.specs.RefusedUses.{missing_uses, unread_uses}
+use Rattle.design_checks.specs.UsesRefused.{first_use, use_order}
+use Rattle.design_checks.specs.Written.{unwritten}
 use Rattle.design_checks.specs.declared.fault.DesignFault.{DesignFault}
 use Rattle.design_checks.specs.declared.fault.DesignFault.TheVariants as fault
 use Rattle.design_checks.specs.Refused.{wrong_kinds, stored_nodes, no_controls, any_controls, no_paths}
@@ -25,6 +28,13 @@ pub record IsDesignFor (t : Table) (n : Names) (m : Module) (found : Contributio
   pub design : IsContextOf t n d.context
   pub sections : d.sections ≡ map view_section m.sections
   pub gives : given found ≡ given_formulas d
+
+-- the design of these names of whose equations and uses these are refused first
+pub record AreFaultsOf (t : Table) (n : Names) (f : UseFaults) (d : Design) : Type 0 where
+  pub context : IsContextOf t n d.context
+  pub unwritten : f.unwritten ≡ first_refusal use_order (unwritten d)
+  pub missing : f.used.missing ≡ first_use (missing_uses d)
+  pub unread : f.used.unread ≡ first_use (unread_uses d)
 
 -- the first of a list of refusals is this one
 abbrev pub IsFirst : List RefusedUse → Place → ℕ → Type 0

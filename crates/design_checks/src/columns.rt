@@ -1,6 +1,6 @@
 //! What the columns of a device carry.
 
-ghost use Rattle.std.specs.Prelude.{◌≡◌, ◌<◌, ◌==◌, ◌&&◌, ℕ, Some, is_some, length, position, slice_get};
+ghost use Rattle.std.specs.Prelude.{◌≡◌, ◌<◌, ◌==◌, ◌&&◌, Some, is_some, length, position, slice_get};
 ghost use Rattle.std.specs.List.{list_any};
 ghost use Rattle.pld_device.specs.declared.cell.Cell.{Cell};
 ghost use Rattle.pld_device.specs.Pins.{pair_pins};

@@ -1,7 +1,7 @@
 //! The first uses that are refused, as missing and as unread.
 
 ghost use Rattle.std.specs.Prelude.{◌≡◌};
-ghost use Rattle.design_checks.specs.Firsts.{name_if, names_of, no_uses, use_at, uses_with};
+ghost use Rattle.design_checks.specs.Firsts.{first_of, no_signals, no_uses, signals_both, use_at, uses_at, uses_both};
 
 use crate::refused::{RefusedUse, earlier};
 use pld_base::Place;
@@ -22,22 +22,44 @@ pub struct FirstUses {
     pub unread: Option<RefusedUse>,
 }
 
+/// The first of two signals that may be none.
+fn first_of(first: Option<u32>, next: Option<u32>) -> Option<u32>
+    ensures { result ≡ first_of first next }
+{
+    match first {
+        Some(signal) => Some(signal),
+        None => next,
+    }
+}
+
+impl FirstSignals {
+    /// No signal.
+    pub(crate) fn none() -> FirstSignals
+        ensures { result ≡ no_signals }
+    {
+        FirstSignals {
+            missing: None,
+            unread: None,
+        }
+    }
+
+    /// With signals that are read behind these.
+    pub(crate) fn with(self, next: FirstSignals) -> FirstSignals
+        ensures { result ≡ signals_both self next }
+    {
+        FirstSignals {
+            missing: first_of(self.missing, next.missing),
+            unread: first_of(self.unread, next.unread),
+        }
+    }
+}
+
 /// The use of a signal at a place, where there is one.
 fn use_at(place: Place, name: Option<u32>) -> Option<RefusedUse>
     ensures { result ≡ use_at place name }
 {
     match name {
         Some(name) => Some(RefusedUse { place, name }),
-        None => None,
-    }
-}
-
-/// The signal that is used.
-fn name_if(used: Option<RefusedUse>) -> Option<u32>
-    ensures { result ≡ name_if used }
-{
-    match used {
-        Some(used) => Some(used.name),
         None => None,
     }
 }
@@ -53,23 +75,23 @@ impl FirstUses {
         }
     }
 
-    /// With the uses of these signals, which all stand at one place.
-    pub(crate) fn with(self, place: Place, signals: FirstSignals) -> FirstUses
-        ensures { result ≡ uses_with self place signals }
+    /// The uses of these signals, which all stand at one place.
+    pub(crate) fn at(place: Place, signals: FirstSignals) -> FirstUses
+        ensures { result ≡ uses_at place signals }
     {
         FirstUses {
-            missing: earlier(self.missing, use_at(place, signals.missing)),
-            unread: earlier(self.unread, use_at(place, signals.unread)),
+            missing: use_at(place, signals.missing),
+            unread: use_at(place, signals.unread),
         }
     }
 
-    /// The signals that are used.
-    pub(crate) fn names(self) -> FirstSignals
-        ensures { result ≡ names_of self }
+    /// With uses that come behind these.
+    pub(crate) fn with(self, next: FirstUses) -> FirstUses
+        ensures { result ≡ uses_both self next }
     {
-        FirstSignals {
-            missing: name_if(self.missing),
-            unread: name_if(self.unread),
+        FirstUses {
+            missing: earlier(self.missing, next.missing),
+            unread: earlier(self.unread, next.unread),
         }
     }
 }

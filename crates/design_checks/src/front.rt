@@ -1,6 +1,6 @@
 //! How a value is written, position by position.
 
-ghost use Rattle.std.specs.Prelude.{◌≡◌, ◌<◌, ℕ};
+ghost use Rattle.std.specs.Prelude.{◌≡◌, ◌<◌};
 ghost use Rattle.design_checks.specs.Fronts.{counted};
 ghost use Rattle.design_checks.specs.Written.{Written, is_written_at, joined, none_written, not_written, one_written};
 

@@ -1,33 +1,28 @@
 //! What is kept of names, learnt from their declarations.
 
-ghost use Rattle.std.specs.Prelude.{◌≡◌, ◌+◌, Some, None, IfOk};
+ghost use Rattle.std.specs.Prelude.{◌≡◌, ◌+◌, true, IfOk, map};
+ghost use Rattle.std.specs.List.{flat_map};
 ghost use Rattle.abel_tree.specs.Entries.{view_declared, view_meaning};
 ghost use Rattle.abel_tree.specs.View.{view};
-ghost use Rattle.abel_meaning.specs.Designs.{name_at};
-ghost use Rattle.abel_meaning.specs.Terms.{Number, Read, extended_if, term_meant, term_of};
-ghost use Rattle.netlist_laws.specs.SignalUses.{term_uses};
+ghost use Rattle.abel_meaning.specs.Designs.{Context, name_at};
+ghost use Rattle.abel_meaning.specs.Terms.{term_meant, term_of};
+ghost use Rattle.name_uses.specs.Viewed.{view_use};
 ghost use Rattle.set_expr.specs.Contexts.{context_for};
-ghost use Rattle.design_checks.specs.Firsts.{signal_by};
-ghost use Rattle.design_checks.specs.Walked.{Asking, IsControlOf, IsReadOf, IsUsesOf, Knows, anywhere, asking, first_read, number_if, signals_if};
+ghost use Rattle.design_checks.specs.Firsts.{no_signals};
+ghost use Rattle.design_checks.specs.Learnt.{Knows, controls_by, first_signals, is_by_pin_of, kept_by, number_if, reads_by, signals_if, uses_of};
+ghost use Rattle.design_checks.specs.PartUses.{reads_used};
 
 use crate::by_pin::is_enabled_by_pin;
 use crate::firsts::FirstSignals;
 use crate::names::{ControlUses, KeptUses, NameUses, ReadUses};
-use crate::rule::{Rule, is_refused};
-use crate::walk::{UseWalk, is_target_by_pin};
+use crate::reads::first_in;
+use crate::rule::{is_missing, is_unread};
+use crate::targets::is_target_by_pin;
 use abel_tree::{Declared, Expr, Extension, Meaning, Names};
-use pld_base::{OutOfMemory, Place};
+use name_uses::{NameUse, names_used};
+use pld_base::OutOfMemory;
 use pld_device::Device;
 use std::alloc::Global;
-
-/// No place in particular: what a constant reads stands at the constant's name.
-const ANYWHERE: Place = Place { line: 1, column: 1 };
-
-/// Nothing that is refused.
-const NO_SIGNAL: FirstSignals = FirstSignals {
-    missing: None,
-    unread: None,
-};
 
 /// The next number of a name; so many names that there is none are more than memory holds.
 fn next(number: u32) -> Result<u32, OutOfMemory>
@@ -54,108 +49,79 @@ fn signals_if<D: Device>(
 ) -> FirstSignals
     ensures { result ≡ signals_if D.table (view_declared declared.now) number extension }
 {
-    let missing = is_refused::<D>(Rule::Missing, declared, extension);
-    let unread = is_refused::<D>(Rule::Unread, declared, extension);
+    let missing = is_missing::<D>(declared, extension);
+    let unread = is_unread::<D>(declared, extension);
     FirstSignals {
         missing: number_if(missing, number),
         unread: number_if(unread, number),
     }
 }
 
-/// How a signal can't be read.
-fn signal_reads<D: Device>(declared: &Declared, number: u32) -> ReadUses
-    ensures { (a : Asking) → a.design.device ≡ D.table → name_at a.design number
-        ≡ view_declared declared.now
-        → IsReadOf a result (Read number None) }
-{
-    ReadUses {
-        bare: signals_if::<D>(declared, number, None),
-        q: signals_if::<D>(declared, number, Some(Extension::Q)),
-        fb: signals_if::<D>(declared, number, Some(Extension::Fb)),
-        pin: signals_if::<D>(declared, number, Some(Extension::Pin)),
-    }
-}
-
-/// Which controls of a signal can't be read.
-fn signal_controls<D: Device>(declared: &Declared, number: u32) -> ControlUses
-    ensures { (a : Asking) → a.design.device ≡ D.table → name_at a.design number
-        ≡ view_declared declared.now
-        → IsControlOf a result (Read number None) }
-{
-    ControlUses {
-        clk: signals_if::<D>(declared, number, Some(Extension::Clk)),
-        oe: signals_if::<D>(declared, number, Some(Extension::Oe)),
-        ar: signals_if::<D>(declared, number, Some(Extension::Ar)),
-        sp: signals_if::<D>(declared, number, Some(Extension::Sp)),
-        d: signals_if::<D>(declared, number, Some(Extension::D)),
-    }
-}
-
 /// What is kept of a signal.
 fn signal_uses<D: Device>(declared: &Declared, number: u32) -> NameUses
-    ensures { (a : Asking) → a.design.device ≡ D.table → name_at a.design number
-        ≡ view_declared declared.now
-        → IsUsesOf a result (Read number None) }
+    ensures { result ≡ kept_by (signals_if D.table (view_declared declared.now) number)
+        (is_by_pin_of D.table (view_declared declared.now)) }
 {
     NameUses {
-        read: signal_reads::<D>(declared, number),
-        control: signal_controls::<D>(declared, number),
+        read: ReadUses {
+            bare: signals_if::<D>(declared, number, None),
+            q: signals_if::<D>(declared, number, Some(Extension::Q)),
+            fb: signals_if::<D>(declared, number, Some(Extension::Fb)),
+            pin: signals_if::<D>(declared, number, Some(Extension::Pin)),
+        },
+        control: ControlUses {
+            clk: signals_if::<D>(declared, number, Some(Extension::Clk)),
+            oe: signals_if::<D>(declared, number, Some(Extension::Oe)),
+            ar: signals_if::<D>(declared, number, Some(Extension::Ar)),
+            sp: signals_if::<D>(declared, number, Some(Extension::Sp)),
+            d: signals_if::<D>(declared, number, Some(Extension::D)),
+        },
         by_pin: is_enabled_by_pin::<D>(declared),
     }
 }
 
-/// The first signals that an expression reads in vain, where it stands with this extension.
-fn first_in(
+/// How an expression with these names can't be read.
+fn constant_reads(
     alloc: Global,
     names: &KeptUses,
-    extension: Option<Extension>,
-    expr: &Expr,
-) -> Result<FirstSignals, OutOfMemory>
-    ensures { IfOk result (λ s. (a : Asking) → a.at ≡ Some anywhere → Knows a names.now
-        → signal_by a.rule s ≡ first_read a (term_uses (extended_if extension (term_of a.design.known
-        (view expr.now))))) }
+    uses: &[NameUse<'_>],
+) -> Result<ReadUses, OutOfMemory>
+    ensures { IfOk result (λ r. (d : Context) → Knows d names.now → r ≡ reads_by
+        (λ e. first_signals d (flat_map (reads_used d.known e) (map view_use uses.now)))) }
 {
-    let mut walk = UseWalk::new(Some(ANYWHERE));
-    walk.visit_expr(alloc, names, extension, expr)?;
-    Ok(walk.first.names())
-}
-
-/// How a constant can't be read.
-fn constant_reads(alloc: Global, names: &KeptUses, expr: &Expr) -> Result<ReadUses, OutOfMemory>
-    ensures { IfOk result (λ r. (a : Asking) → a.at ≡ Some anywhere → Knows a names.now
-        → IsReadOf a r (term_of a.design.known (view expr.now))) }
-{
-    let bare = first_in(alloc, names, None, expr)?;
-    let q = first_in(alloc, names, Some(Extension::Q), expr)?;
-    let fb = first_in(alloc, names, Some(Extension::Fb), expr)?;
-    let pin = first_in(alloc, names, Some(Extension::Pin), expr)?;
+    let bare = first_in(alloc, names, uses, None)?;
+    let q = first_in(alloc, names, uses, Some(Extension::Q))?;
+    let fb = first_in(alloc, names, uses, Some(Extension::Fb))?;
+    let pin = first_in(alloc, names, uses, Some(Extension::Pin))?;
     Ok(ReadUses { bare, q, fb, pin })
 }
 
-/// Which controls of a constant can't be read.
+/// Which controls of an expression with these names can't be read.
 fn constant_controls(
     alloc: Global,
     names: &KeptUses,
-    expr: &Expr,
+    uses: &[NameUse<'_>],
 ) -> Result<ControlUses, OutOfMemory>
-    ensures { IfOk result (λ r. (a : Asking) → a.at ≡ Some anywhere → Knows a names.now
-        → IsControlOf a r (term_of a.design.known (view expr.now))) }
+    ensures { IfOk result (λ r. (d : Context) → Knows d names.now → r ≡ controls_by
+        (λ e. first_signals d (flat_map (reads_used d.known e) (map view_use uses.now)))) }
 {
-    let clk = first_in(alloc, names, Some(Extension::Clk), expr)?;
-    let oe = first_in(alloc, names, Some(Extension::Oe), expr)?;
-    let ar = first_in(alloc, names, Some(Extension::Ar), expr)?;
-    let sp = first_in(alloc, names, Some(Extension::Sp), expr)?;
-    let d = first_in(alloc, names, Some(Extension::D), expr)?;
+    let clk = first_in(alloc, names, uses, Some(Extension::Clk))?;
+    let oe = first_in(alloc, names, uses, Some(Extension::Oe))?;
+    let ar = first_in(alloc, names, uses, Some(Extension::Ar))?;
+    let sp = first_in(alloc, names, uses, Some(Extension::Sp))?;
+    let d = first_in(alloc, names, uses, Some(Extension::D))?;
     Ok(ControlUses { clk, oe, ar, sp, d })
 }
 
 /// What is kept of a constant.
 fn constant_uses(alloc: Global, names: &KeptUses, expr: &Expr) -> Result<NameUses, OutOfMemory>
-    ensures { IfOk result (λ n. (a : Asking) → a.at ≡ Some anywhere → Knows a names.now
-        → IsUsesOf a n (term_of a.design.known (view expr.now))) }
+    ensures { IfOk result (λ n. (d : Context) → Knows d names.now
+        → n ≡ uses_of d (term_of d.known (view expr.now))) }
 {
-    let read = constant_reads(alloc, names, expr)?;
-    let control = constant_controls(alloc, names, expr)?;
+    let uses = names_used(alloc, expr)?;
+    let list = uses.as_slice();
+    let read = constant_reads(alloc, names, list)?;
+    let control = constant_controls(alloc, names, list)?;
     let by_pin = is_target_by_pin(alloc, names, expr)?;
     Ok(NameUses {
         read,
@@ -166,21 +132,22 @@ fn constant_uses(alloc: Global, names: &KeptUses, expr: &Expr) -> Result<NameUse
 
 /// What is kept of a name that stands for no signal.
 fn no_uses() -> NameUses
-    ensures { (a : Asking) → IsUsesOf a result (Number 0) }
+    ensures { result ≡ kept_by (λ e. no_signals) true }
 {
+    let none = FirstSignals::none();
     NameUses {
         read: ReadUses {
-            bare: NO_SIGNAL,
-            q: NO_SIGNAL,
-            fb: NO_SIGNAL,
-            pin: NO_SIGNAL,
+            bare: none,
+            q: none,
+            fb: none,
+            pin: none,
         },
         control: ControlUses {
-            clk: NO_SIGNAL,
-            oe: NO_SIGNAL,
-            ar: NO_SIGNAL,
-            sp: NO_SIGNAL,
-            d: NO_SIGNAL,
+            clk: none,
+            oe: none,
+            ar: none,
+            sp: none,
+            d: none,
         },
         by_pin: true,
     }
@@ -193,9 +160,9 @@ fn learn<D: Device>(
     declared: &Declared,
     number: u32,
 ) -> Result<NameUses, OutOfMemory>
-    ensures { IfOk result (λ n. (a : Asking) → a.at ≡ Some anywhere → a.design.device ≡ D.table
-        → name_at a.design number ≡ view_declared declared.now → Knows a names.now
-        → IsUsesOf a n (term_meant a.design.known number (view_meaning declared.now.meaning))) }
+    ensures { IfOk result (λ n. (d : Context) → d.device ≡ D.table
+        → name_at d number ≡ view_declared declared.now → Knows d names.now
+        → n ≡ uses_of d (term_meant d.known number (view_meaning declared.now.meaning))) }
 {
     match &declared.meaning {
         Meaning::Pin { pin: _, negated: _ } => Ok(signal_uses::<D>(declared, number)),
@@ -205,11 +172,10 @@ fn learn<D: Device>(
     }
 }
 
-/// What is kept of all names, once for all expressions of a source. Each constant is gone through a few times,
-/// however often it is named.
+/// What is kept of all names, once for all expressions of a source. Each constant is gone through once, however often it
+/// is named.
 pub(crate) fn learn_names<D: Device>(alloc: Global, names: &Names) -> Result<KeptUses, OutOfMemory>
-    ensures { IfOk result (λ kept. (r : Rule) → Knows
-        (asking (context_for D.table names.now) r) kept) }
+    ensures { IfOk result (λ kept. Knows (context_for D.table names.now) kept) }
 {
     let mut kept = KeptUses::new(alloc);
     let mut number = 0u32;

@@ -1,7 +1,7 @@
 //! The level of a pin among bits.
 
 ghost use Rattle.std.specs.Prelude.{◌≡◌, ◌<◌, length};
-ghost use Rattle.bit_expr.specs.Arena.{arena, formula_at, formula_of};
+ghost use Rattle.bit_expr.specs.Arena.{arena, formula_at};
 ghost use Rattle.design_checks.specs.Compared.{is_level, is_level_if, is_other_level, is_pin_leaf};
 
 use bit_expr::{ExprId, Exprs, Leaf, Node};

@@ -1,33 +1,32 @@
 //! What is refused of a design on its device: names, targets, uses and controls.
 #![tactic(auto)]
 
-mod branches;
 mod by_pin;
-mod calls;
 mod columns;
 mod compared;
 mod fault;
 mod firsts;
 mod front;
 mod fronts;
+mod kinds;
 mod laws;
 mod learning;
 mod levels;
 mod name_facts;
 mod names;
+mod reads;
 mod refused;
 mod rule;
 mod rules;
-mod sections;
 mod signal_fault;
 mod signals;
-mod statements;
-mod walk;
+mod spelling;
+mod targets;
+mod uses;
 mod walks;
 mod written;
 
 pub use by_pin::is_compared;
-pub use calls::first_uses;
 pub use columns::cell_on;
 pub use compared::other_level;
 pub use fault::DesignFault;
@@ -38,5 +37,6 @@ pub use refused::{RefusedUse, earlier};
 pub use rule::has_read_path_on;
 pub use signal_fault::SignalFault;
 pub use signals::check_signals;
+pub use spelling::other_spelling;
+pub use uses::first_uses;
 pub use walks::{dont_care_control, missing_control, registered_node, wrong_kind};
-pub use written::other_spelling;

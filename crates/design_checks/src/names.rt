@@ -1,7 +1,10 @@
 //! What is kept of each name: its first refused uses, by the extension that it stands with.
 
 ghost use Rattle.std.specs.Prelude.{◌≡◌, ℕ, List, [], None, OnOk};
-ghost use Rattle.design_checks.specs.Walked.{under, uses_under, with_new};
+ghost use Rattle.abel_meaning.specs.Designs.{Context};
+ghost use Rattle.abel_meaning.specs.Targets.{targets_of};
+ghost use Rattle.abel_meaning.specs.Terms.{term_named};
+ghost use Rattle.design_checks.specs.Learnt.{Knows, are_by_pin, signals_of, under, uses_under, with_new};
 
 use crate::firsts::FirstSignals;
 use abel_tree::Extension;
@@ -63,7 +66,7 @@ pub(crate) struct KeptUses {
 }
 
 impl Model for KeptUses {
-    ghost use Rattle.design_checks.specs.Walked.{Kept, by_bytes};
+    ghost use Rattle.design_checks.specs.Learnt.{Kept, by_bytes};
 
     ghost Value = { Kept };
 
@@ -81,12 +84,34 @@ impl KeptUses {
     }
 
     /// What is kept of a name. Takes no memory.
-    pub(crate) fn get(&self, name: &[u8]) -> Option<NameUses>
+    fn get(&self, name: &[u8]) -> Option<NameUses>
         ensures { result ≡ under self.now name.now }
     {
         match self.names.get(name) {
             Some(uses) => Some(*uses),
             None => None,
+        }
+    }
+
+    /// The first signals that the name reads in vain with this extension.
+    pub(crate) fn signals(&self, name: &[u8], extension: Option<Extension>) -> FirstSignals
+        ensures { (d : Context) → Knows d self.now
+            → result ≡ signals_of d (term_named d.known name.now) extension }
+    {
+        match self.get(name) {
+            Some(uses) => uses.under(extension),
+            None => FirstSignals::none(),
+        }
+    }
+
+    /// Whether a pin enables each signal that the name stands for as a target.
+    pub(crate) fn is_by_pin(&self, name: &[u8]) -> bool
+        ensures { (d : Context) → Knows d self.now
+            → result ≡ are_by_pin d (targets_of (term_named d.known name.now)) }
+    {
+        match self.get(name) {
+            Some(uses) => uses.by_pin,
+            None => true,
         }
     }
 

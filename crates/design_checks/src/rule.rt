@@ -4,21 +4,12 @@ ghost use Rattle.std.specs.Prelude.{◌≡◌};
 ghost use Rattle.abel_tree.specs.Entries.{view_declared, view_meaning};
 ghost use Rattle.abel_meaning.specs.Designs.{cell_on};
 ghost use Rattle.design_checks.specs.RefusedUses.{carries_level, carries_q, has_by, has_extension, has_read_path, has_read_path_on, pin_has, reads_pin, reads_register, register_has};
-ghost use Rattle.design_checks.specs.Walked.{is_asked_of};
+ghost use Rattle.design_checks.specs.Learnt.{is_missing_of, is_unread_of};
 
 use crate::columns::{cell_on, has_register_on, is_cell_carried, is_pin_carried};
 use crate::name_facts::is_stored;
 use abel_tree::{Declared, Extension, Meaning};
 use pld_device::Device;
-
-/// What is asked of each use.
-#[derive(Clone, Copy, PartialEq, Eq)]
-pub enum Rule {
-    /// The signal doesn't have the extension.
-    Missing,
-    /// It has it, and no column carries it.
-    Unread,
-}
 
 /// Whether a combinational signal on a pin has what the extension names.
 fn pin_has(extension: Option<Extension>) -> bool
@@ -127,17 +118,16 @@ fn has_read_path<D: Device>(declared: &Declared, extension: Option<Extension>) -
     }
 }
 
-/// Whether the rule refuses a use of the signal.
-pub(crate) fn is_refused<D: Device>(
-    rule: Rule,
-    declared: &Declared,
-    extension: Option<Extension>,
-) -> bool
-    ensures { result ≡ is_asked_of D.table rule (view_declared declared.now) extension }
+/// Whether the signal doesn't have what the extension names.
+pub(crate) fn is_missing<D: Device>(declared: &Declared, extension: Option<Extension>) -> bool
+    ensures { result ≡ is_missing_of D.table (view_declared declared.now) extension }
 {
-    let has = has_extension::<D>(declared, extension);
-    match rule {
-        Rule::Missing => !has,
-        Rule::Unread => has && !has_read_path::<D>(declared, extension),
-    }
+    !has_extension::<D>(declared, extension)
+}
+
+/// Whether it has it, and no column carries it.
+pub(crate) fn is_unread<D: Device>(declared: &Declared, extension: Option<Extension>) -> bool
+    ensures { result ≡ is_unread_of D.table (view_declared declared.now) extension }
+{
+    !is_missing::<D>(declared, extension) && !has_read_path::<D>(declared, extension)
 }

@@ -1,7 +1,7 @@
 //! For which targets a design is refused.
 
 ghost use Rattle.std.specs.Prelude.{◌≡◌};
-ghost use Rattle.abel_tree.specs.Entries.{view_declared, view_meaning};
+ghost use Rattle.abel_tree.specs.Entries.{view_declared};
 ghost use Rattle.abel_tree.specs.FirstRefusal.{first_refusal};
 ghost use Rattle.abel_meaning.specs.Targets.{is_data};
 ghost use Rattle.design_checks.specs.Order.{signal_order};

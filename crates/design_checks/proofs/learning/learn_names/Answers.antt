@@ -6,15 +6,13 @@ use Rattle.abel_meaning.specs.Designs.{name_at, no_name}
 use Rattle.abel_meaning.specs.Terms.{known_of, term_meant}
 use Rattle.set_expr.specs.Contexts.{context_for}
 use Rattle.set_expr.proofs.FoundMembers.{front_more, whole_front}
-use Rattle.design_checks.specs.Walked.{IsUsesOf, Knows, learning, under, with_new}
-use Rattle.design_checks.proofs.LearntName.{knows_more, knows_all, knows_none, name_here}
+use Rattle.design_checks.specs.Learnt.{Knows, learning, under, uses_of, with_new}
+use Rattle.design_checks.proofs.LearntName.{knows_more, name_here}
 use Rattle.design_checks.proofs.learning.learn_names.Goals as goal
 
 pub loop-declared-init : goal.loop-declared-init
 loop-declared-init g c = record {
-  knows = λ r.
-      let d = context_for g.D.Device.table c.args.names.now in
-      subst (Knows (learning d r [])) (sym c.new-kept.ensures) (knows_none d r);
+  knows = λ w. ap (λ kept. under kept w) c.new-kept.ensures;
   number = refl;
 }
 
@@ -32,23 +30,18 @@ loop-declared-preserved g c =
     ap (λ xs. get_or xs c.loop-declared.number no_name) (sym all)
     ∙ ap (λ n. get_or (map view_declared ds) n no_name) (c.loop-declared.invariant.number ∙ size)
     ∙ name_here view_declared ds i x no_name c.loop-declared-test.true c.declared-item.is in
+    let kept = c.loop-declared.invariant.knows in
     record {
-      knows = λ r.
-          let a = learning d r es in
-          let kept = c.loop-declared.invariant.knows r in
-          let one = c.in_ok-uses.ensures a refl refl named kept in
-          subst (λ xs. Knows (learning d r xs) c.keep.new.self) (sym here)
-          (knows_more d r es (view_declared x) c.loop-declared.kept c.keep.new.self c.in_ok-uses.uses kept
-          (subst (λ n. IsUsesOf a c.in_ok-uses.uses (term_meant (known_of es) n (view_declared x).kind)) c.loop-declared.invariant.number one)
+      knows =
+          subst (λ xs. Knows (learning d xs) c.keep.new.self) (sym here)
+          (knows_more d es (view_declared x) c.loop-declared.kept c.keep.new.self c.in_ok-uses.uses kept
+          (c.in_ok-uses.ensures (learning d es) refl named kept ∙ ap (λ n. uses_of d (term_meant (known_of es) n (view_declared x).kind)) c.loop-declared.invariant.number)
           (λ w. c.in_ok-keep.ensures w ∙ ap (λ t. with_new t c.in_ok-uses.uses (under c.loop-declared.kept) w) c.bytes.ensures));
       number = omega (arith, c.in_ok-number.ensures, c.loop-declared.invariant.number, ap length here, length-append es (view_declared x ∷ []));
     }
 
 pub returns : goal.returns
-returns g c r =
+returns g c =
     let n = c.args.names.now in
     let ds = c.as_slice-declared-items.result.now in
-    let all : map view_declared (take c.loop-declared.declared-index ds) ≡ entries_of n =
-    whole_front view_declared ds c.loop-declared.declared-index c.loop-declared-test.false ∙ ap (map view_declared) c.as_slice-declared-items.ensures in
-    knows_all (context_for g.D.Device.table n) r (entries_of n) c.loop-declared.kept refl
-    (subst (λ xs. Knows (learning (context_for g.D.Device.table n) r xs) c.loop-declared.kept) all (c.loop-declared.invariant.knows r))
+    subst (λ xs. Knows (learning (context_for g.D.Device.table n) xs) c.loop-declared.kept) (whole_front view_declared ds c.loop-declared.declared-index c.loop-declared-test.false ∙ ap (map view_declared) c.as_slice-declared-items.ensures) c.loop-declared.invariant.knows

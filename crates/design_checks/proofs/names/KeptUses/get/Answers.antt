@@ -1,6 +1,6 @@
 use Rattle.std.proofs.Common.{sym, ap, ◌∙◌}
 use Rattle.std.specs.Option.{option_copied}
-use Rattle.design_checks.specs.Walked.{Kept, under}
+use Rattle.design_checks.specs.Learnt.{Kept, under}
 use Rattle.design_checks.proofs.KeptNames.{looked_up}
 use Rattle.design_checks.proofs.names.KeptUses.get.Goals as goal
 

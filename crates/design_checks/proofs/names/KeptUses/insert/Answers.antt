@@ -1,5 +1,5 @@
 use Rattle.std.proofs.Common.{◌≡◌, None, ap, ◌∙◌}
-use Rattle.design_checks.specs.Walked.{Kept, under, by_bytes, with_new}
+use Rattle.design_checks.specs.Learnt.{Kept, under, by_bytes, with_new}
 use Rattle.design_checks.proofs.KeptNames.{inserted}
 use Rattle.design_checks.proofs.names.KeptUses.insert.Goals as goal
 

@@ -1,0 +1,90 @@
+-- What is refused first of several, one behind another.
+use Rattle.std.proofs.Common.{◌≡◌, ℕ, ◌+◌, ◌<◌, Bool, true, false, cond, if◌then◌else◌, Option, Some, None, List, [], ◌∷◌, ◌++◌, length, map, take, get_or, refl, sym, ap, ap₂, ◌∙◌, arith, append-nil}
+use Rattle.std.specs.Prelude.{filter}
+use Rattle.std.specs.List.{flat_map}
+use Rattle.std.proofs.lemmas.Bool.Decides.{nat_tests}
+use Rattle.std.proofs.lemmas.Grind.{flat_map-append}
+use Rattle.std.proofs.lemmas.List.{map-append}
+use Rattle.std.proofs.lemmas.List.Elements.{filter-append}
+use Rattle.pld_base.specs.declared.place.Place.{Place}
+use Rattle.abel_tree.specs.FirstRefusal.{earlier, first_refusal, sooner}
+use Rattle.abel_tree.proofs.FirstRefusals.{first_append}
+use Rattle.abel_meaning.specs.Designs.{Context, name_at}
+use Rattle.netlist_laws.specs.SignalUses.{SignalUse}
+use Rattle.set_expr.proofs.FoundMembers.{front_more}
+use Rattle.design_checks.specs.Firsts.{first_of, firsts, signals_both, use_at, uses_at, uses_both}
+use Rattle.design_checks.specs.Learnt.{first_signal, first_signals, is_missing_of, is_unread_of}
+use Rattle.design_checks.specs.LocatedUses.{PlacedUse, all_at}
+use Rattle.design_checks.specs.RefusedUses.{is_missing, is_unread}
+use Rattle.design_checks.specs.UsesRefused.{first_use, told, use_order}
+use Rattle.design_checks.specs.declared.refused.RefusedUse.{RefusedUse}
+use Rattle.design_checks.proofs.UsesInOrder.{before_by}
+
+-- ---- signals
+
+signal_append : (test : SignalUse → Bool) (us vs : List SignalUse) → first_signal test (us ++ vs) ≡ first_of (first_signal test us) (first_signal test vs)
+signal_append test [] vs = refl
+signal_append test (u ∷ us) vs = by (test u) (signal_append test us vs)
+  where
+    by : (b : Bool) → first_signal test (us ++ vs) ≡ first_of (first_signal test us) (first_signal test vs)
+        → (if b then Some u.signal else first_signal test (us ++ vs)) ≡ first_of (if b then Some u.signal else first_signal test us) (first_signal test vs)
+    by true e = refl
+    by false e = e
+
+pub signals_append : (d : Context) (us vs : List SignalUse) → first_signals d (us ++ vs) ≡ signals_both (first_signals d us) (first_signals d vs)
+signals_append d us vs =
+    ap₂ (λ (m n : Option ℕ). record { missing = m; unread = n })
+    (signal_append (λ (u : SignalUse). is_missing_of d.device (name_at d u.signal) u.extension) us vs)
+    (signal_append (λ (u : SignalUse). is_unread_of d.device (name_at d u.signal) u.extension) us vs)
+
+-- ---- uses
+
+use_append : (test : PlacedUse → Bool) (us vs : List PlacedUse) → first_use (filter test (us ++ vs)) ≡ earlier use_order (first_use (filter test us)) (first_use (filter test vs))
+use_append test us vs =
+    ap first_use (filter-append test us vs)
+    ∙ (ap (first_refusal use_order) (map-append told (filter test us) (filter test vs))
+    ∙ first_append use_order (map told (filter test us)) (map told (filter test vs)))
+
+pub uses_append : (d : Context) (us vs : List PlacedUse) → firsts d (us ++ vs) ≡ uses_both (firsts d us) (firsts d vs)
+uses_append d us vs = ap₂ (λ (m n : Option RefusedUse). record { missing = m; unread = n }) (use_append (is_missing d) us vs) (use_append (is_unread d) us vs)
+
+-- of two at one place the left one stays
+stays : (p : Place) (s : ℕ) (o : Option ℕ) → earlier use_order (Some (record { place = p; name = s })) (use_at p o) ≡ Some (record { place = p; name = s })
+stays p s None = refl
+stays p s (Some r) =
+    let x : RefusedUse = record { place = p; name = s } in
+    let y : RefusedUse = record { place = p; name = r } in
+    ap (λ b. if b then Some y else Some x) (before_by y x ∙ never_sooner p.line p.column)
+  where
+    never_sooner : (a b : ℕ) → sooner a b 0 a b 0 ≡ false
+    never_sooner a b = grind (arith, nat_tests)
+
+use_placed : (p : Place) (test : SignalUse → Bool) (us : List SignalUse) → use_at p (first_signal test us) ≡ first_use (filter (λ (u : PlacedUse). test u.read) (all_at p us))
+use_placed p test [] = refl
+use_placed p test (u ∷ us) = by (test u) (use_placed p test us)
+  where
+    here : PlacedUse
+    here = record { read = u; place = p }
+
+    rest : List PlacedUse
+    rest = filter (λ (u : PlacedUse). test u.read) (all_at p us)
+
+    by : (b : Bool) → use_at p (first_signal test us) ≡ first_use rest → use_at p (if b then Some u.signal else first_signal test us) ≡ first_use (cond b (here ∷ rest) rest)
+    by true e = sym (stays p u.signal (first_signal test us)) ∙ ap (earlier use_order (Some (told here))) e
+    by false e = e
+
+-- what is read at one place
+pub uses_placed : (d : Context) (p : Place) (us : List SignalUse) → uses_at p (first_signals d us) ≡ firsts d (all_at p us)
+uses_placed d p us =
+    ap₂ (λ (m n : Option RefusedUse). record { missing = m; unread = n })
+    (use_placed p (λ (u : SignalUse). is_missing_of d.device (name_at d u.signal) u.extension) us)
+    (use_placed p (λ (u : SignalUse). is_unread_of d.device (name_at d u.signal) u.extension) us)
+
+-- ---- lists
+
+-- one item of a list more
+pub joined_more : {X Y A R : Type 0} (first : List A → R) (join : R → R → R) → ((us vs : List A) → first (us ++ vs) ≡ join (first us) (first vs)) → (v : X → Y) (uses : Y → List A) (xs : List X) (k : ℕ) (x : X) → k < length xs → x ≡ get_or xs k x
+    → join (first (flat_map uses (map v (take k xs)))) (first (uses (v x))) ≡ first (flat_map uses (map v (take (k + 1) xs)))
+joined_more first join append v uses xs k x low is =
+    sym (append (flat_map uses (map v (take k xs))) (uses (v x)))
+    ∙ ap first (sym (ap (flat_map uses) (front_more v xs k x low is) ∙ (flat_map-append uses (map v (take k xs)) (v x ∷ []) ∙ ap (λ us. flat_map uses (map v (take k xs)) ++ us) (append-nil (uses (v x))))))

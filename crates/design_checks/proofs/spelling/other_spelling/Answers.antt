@@ -1,0 +1,25 @@
+-- Sections one after the other.
+use Rattle.std.proofs.Common.{sym, ap₂, subst₂, ◌∙◌}
+use Rattle.abel_tree.specs.FirstRefusal.{earlier, first_refusal}
+use Rattle.abel_tree.specs.View.{view_section}
+use Rattle.set_expr.specs.Contexts.{context_for}
+use Rattle.set_expr.proofs.FoundMembers.{whole_front}
+use Rattle.design_checks.specs.UsesRefused.{use_order}
+use Rattle.design_checks.specs.Fronts.{AreAllFronts}
+use Rattle.design_checks.specs.Written.{section_refused, sections_refused}
+use Rattle.design_checks.proofs.RefusedStatements.{first_more, sections_push}
+use Rattle.design_checks.proofs.LearntName.{is_context_for}
+use Rattle.design_checks.proofs.spelling.other_spelling.Goals as goal
+
+pub loop-section-preserved : goal.loop-section-preserved
+loop-section-preserved g c =
+    let d = context_for g.D.Device.table c.args.scope.now in
+    let fronts = subst₂ AreAllFronts c.scope.ensures (sym c.as_slice.ensures) c.in_ok-fronts.ensures in
+    c.earlier-first.ensures
+    ∙ ap₂ (earlier use_order) c.loop-section.invariant (c.in_ok-refused_section.ensures fronts)
+    ∙ first_more (sections_refused d) (section_refused d) (sections_push d) view_section c.args.sections.now c.loop-section.section-index c.section-item.result c.loop-section-test.true c.section-item.is
+
+pub returns : goal.returns
+returns g c d of same =
+    c.loop-section.invariant
+    ∙ ap₂ (λ e ss. first_refusal use_order (sections_refused e ss)) (is_context_for g.D.Device.table c.args.scope.now d.context of) (whole_front view_section c.args.sections.now c.loop-section.section-index c.loop-section-test.false ∙ sym same)

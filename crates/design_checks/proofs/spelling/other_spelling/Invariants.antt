@@ -1,0 +1,12 @@
+-- Sections one after the other.
+use Rattle.std.proofs.Common.{◌≡◌, map, take}
+use Rattle.abel_tree.specs.FirstRefusal.{first_refusal}
+use Rattle.abel_tree.specs.View.{view_section}
+use Rattle.set_expr.specs.Contexts.{context_for}
+use Rattle.design_checks.specs.UsesRefused.{use_order}
+use Rattle.design_checks.specs.Written.{sections_refused}
+use Rattle.design_checks.proofs.spelling.other_spelling.Given as goal
+
+abbrev pub invariant-loop-section : goal.invariant-loop-section
+invariant-loop-section g l =
+    l.first ≡ first_refusal use_order (sections_refused (context_for g.D.Device.table l.scope) (map view_section (take l.section-index l.sections)))

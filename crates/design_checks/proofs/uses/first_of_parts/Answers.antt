@@ -1,0 +1,14 @@
+-- One part more.
+use Rattle.std.proofs.Common.{ap₂, ◌∙◌}
+use Rattle.name_uses.specs.Viewed.{view_part}
+use Rattle.design_checks.specs.Firsts.{firsts, uses_both}
+use Rattle.design_checks.specs.PartUses.{part_uses}
+use Rattle.design_checks.proofs.JoinedFirsts.{joined_more, uses_append}
+use Rattle.design_checks.proofs.uses.first_of_parts.Goals as goal
+
+pub loop-part-preserved : goal.loop-part-preserved
+loop-part-preserved c d knows =
+    let l = c.loop-part in
+    c.with-first.ensures
+    ∙ ap₂ uses_both (l.invariant d knows) (c.in_ok-first_of_part.ensures d knows)
+    ∙ joined_more (firsts d) uses_both (uses_append d) view_part (part_uses d) c.args.parts.now l.part-index c.part-item.result c.loop-part-test.true c.part-item.is

@@ -1,0 +1,49 @@
+-- Private: the uses of the parts of a section (this project's rule).
+use Rattle.std.specs.Prelude.{ℕ, Bool, true, false, not, Option, None, Some, List, [], ◌∷◌, if◌then◌else◌}
+use Rattle.std.specs.List.{flat_map}
+use Rattle.abel_tree.specs.declared.words.Extension.{Extension}
+use Rattle.abel_tree.specs.declared.words.Word.{Word}
+use Rattle.abel_tree.specs.Ranges.{range_names}
+use Rattle.abel_meaning.specs.Designs.{Context}
+use Rattle.abel_meaning.specs.Terms.{Known, extended_if, term_named}
+use Rattle.name_uses.specs.NamesUsed.{UsedName}
+use Rattle.name_uses.specs.Parts.{PartRole, PartTree, Read, Registers, Value}
+use Rattle.name_uses.specs.Viewed.{PartedSection}
+use Rattle.netlist_laws.specs.SignalUses.{SignalUse, term_uses}
+use Rattle.design_checks.specs.LocatedUses.{PlacedUse, all_at, own_or_outer}
+use Rattle.design_checks.specs.SectionUses.{is_compared}
+
+-- ---- names
+
+-- the names from one to another, or one name
+abbrev pub names_to : Word → Option Word → List (List ℕ)
+names_to first None = first.text ∷ []
+names_to first (Some last) = range_names first.text last.text
+
+-- what names read with this extension
+abbrev pub names_read : List Known → Option Extension → List (List ℕ) → List SignalUse
+names_read known e names = flat_map (λ (n : List ℕ). term_uses (extended_if e (term_named known n))) names
+
+-- what is read where an expression uses names, in a set with this extension
+abbrev pub reads_used : List Known → (outer : Option Extension) → UsedName → List SignalUse
+reads_used known outer u = names_read known (own_or_outer u.extension outer) (names_to u.first u.last)
+
+-- the same at its place
+abbrev pub uses_used : List Known → (outer : Option Extension) → UsedName → List PlacedUse
+uses_used known outer u = all_at u.first.place (reads_used known outer u)
+
+-- ---- parts
+
+-- what is in a section in this role reads signals
+abbrev pub is_read : Context → PartRole → Bool
+is_read d (Value target) = not (is_compared d target)
+is_read d Read = true
+is_read d Registers = true
+is_read d _ = false
+
+abbrev pub part_uses : Context → PartTree → List PlacedUse
+part_uses d p = if is_read d p.role then flat_map (uses_used d.known None) p.uses else []
+
+-- those of a section
+abbrev pub parted_uses : Context → PartedSection → List PlacedUse
+parted_uses d s = flat_map (part_uses d) s.parts
