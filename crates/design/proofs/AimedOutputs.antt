@@ -12,7 +12,7 @@ use Rattle.section_targets.specs.declared.manner.Manner.{Manner}
 use Rattle.section_targets.specs.Manners.{manner_of, is_output_kind, is_output, may_be_assigned, no_output, mixed, aims_refused}
 use Rattle.section_targets.proofs.Built.{left_empty, right_empty}
 use Rattle.section_targets.proofs.SideTerms.{positions_of}
-use Rattle.declared_names.proofs.Spreading.{among}
+use Rattle.declared_names.proofs.AmongNumbers.{among}
 
 -- some aim is at the signal
 abbrev pub is_aimed : ℕ → List Aim → Bool

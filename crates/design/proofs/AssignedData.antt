@@ -17,7 +17,7 @@ use Rattle.abel_meaning.specs.Tables.{no_matches}
 use Rattle.abel_meaning.specs.Targets.{targets_of, some_signals, is_data}
 use Rattle.abel_meaning.specs.Terms.{term_of}
 use Rattle.netlist_laws.proofs.SourcedFormulas.{word_length}
-use Rattle.declared_names.proofs.Spreading.{among}
+use Rattle.declared_names.proofs.AmongNumbers.{among}
 use Rattle.design.proofs.NamedTerms.{IsWithin, without_within}
 
 -- one of what is assigned to the signal

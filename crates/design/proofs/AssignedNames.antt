@@ -12,7 +12,7 @@ use Rattle.abel_meaning.specs.Held.{Holds, holds_of}
 use Rattle.abel_meaning.specs.Kinds.{with_kinds, names_of}
 use Rattle.abel_meaning.specs.Terms.{term_of}
 use Rattle.declared_names.proofs.Settling.{is_no_target}
-use Rattle.declared_names.proofs.Spreading.{among}
+use Rattle.declared_names.proofs.AmongNumbers.{among}
 use Rattle.design.specs.AssignedCorrect.{bare_signals}
 use Rattle.design.proofs.NamedTerms.{IsWithin, same_signals, bare_among}
 

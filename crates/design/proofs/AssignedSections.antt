@@ -14,7 +14,7 @@ use Rattle.abel_meaning.specs.Statements.{statements_give}
 use Rattle.abel_meaning.specs.Tables.{no_matches, rows_give, table_gives}
 use Rattle.abel_meaning.specs.Targets.{targets_of, some_signals}
 use Rattle.abel_meaning.specs.Terms.{term_of}
-use Rattle.declared_names.proofs.Spreading.{among}
+use Rattle.declared_names.proofs.AmongNumbers.{among}
 use Rattle.design.proofs.AssignedData.{assigned_among, has_data, in_front, behind, joined, each_matched, list_data}
 use Rattle.design.proofs.NamedTerms.{signals_in, IsWithin}
 

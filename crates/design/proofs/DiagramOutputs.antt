@@ -19,7 +19,7 @@ use Rattle.equations.specs.StatementUnits.{condition_refused, statements_manners
 use Rattle.state_diagrams.specs.DiagramUnits.{register_manners, state_guard, state_manners, branch_manners, choices_refused, units_of_branch, units_of_other, units_of_choices, units_of_branches, units_within, units_of_state, units_of_states, units_of_diagram}
 use Rattle.state_diagrams.specs.DiagramUnits as diagram
 use Rattle.state_diagrams.specs.StateValues.{state_refused, listed_after}
-use Rattle.declared_names.proofs.Spreading.{among}
+use Rattle.declared_names.proofs.AmongNumbers.{among}
 use Rattle.design.proofs.AimedOutputs.{IsOutput, aimed_among, aimed_output}
 use Rattle.design.proofs.AssignedData.{assigned_among}
 use Rattle.design.proofs.DiagramHeaders.{diagram_clear}

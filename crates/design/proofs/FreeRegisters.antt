@@ -29,7 +29,7 @@ use Rattle.section_targets.specs.TargetSignals.{names_signals, all_name_signals}
 use Rattle.section_targets.proofs.SignalLists.{some_append}
 use Rattle.netlist_laws.specs.Takeable.{HasNoEquation, MayChoose}
 use Rattle.design.specs.Accepted.{FreeMayChoose}
-use Rattle.declared_names.proofs.Spreading.{among}
+use Rattle.declared_names.proofs.AmongNumbers.{among}
 use Rattle.design.specs.AssignedCorrect.{bare_signals, all_bare_signals}
 use Rattle.design.proofs.AssignedNames.{own_names, own_held, same_targets, signal_there}
 use Rattle.design.proofs.BareTargets.{IsBare, AreBare}

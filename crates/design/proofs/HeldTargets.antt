@@ -7,7 +7,7 @@ use Rattle.abel_tree.specs.Entries.{Kind, APin, ANode, AConstant, ADeviceName, E
 use Rattle.abel_tree.specs.Ranges.{range_names}
 use Rattle.abel_tree.specs.Tree.{Tree, ANumber, ASpecial, AName, ASet, AParen, AUnary, ABinary, SetMember, OneMember, SpanMember, Members, NoMember, MoreMembers}
 use Rattle.abel_meaning.specs.Held.{Held, held_by, held_meant, held_after, held_of, read_names, read_in, read_in_members, read_in_member}
-use Rattle.declared_names.proofs.Spreading.{among}
+use Rattle.declared_names.proofs.AmongNumbers.{among}
 
 -- what is among the first of two lists, or the second, stays so
 both_among : (s : ℕ) (xs ys zs ws : List ℕ) → (among s xs ≡ true → among s zs ≡ true) → (among s ys ≡ true → among s ws ≡ true) → among s (xs ++ ys) ≡ true → among s (zs ++ ws) ≡ true

@@ -12,7 +12,7 @@ use Rattle.abel_tree.specs.Tree.{Tree, ANumber, ASpecial, AName, ASet, AParen, A
 use Rattle.abel_meaning.specs.Targets.{targets_of, all_targets, some_signals}
 use Rattle.abel_meaning.specs.Terms.{Term, Terms, Number, X, Pulse, Release, Read, Set, UnaryOf, BinaryOf, NoTerm, Before, Known, term_named, extended, extended_each, extended_if, named_before, member_before, special_term, term_of, terms_of, term_meant, known_after, known_of}
 use Rattle.section_targets.proofs.SignalLists.{some_append, extended_targets}
-use Rattle.declared_names.proofs.Spreading.{among}
+use Rattle.declared_names.proofs.AmongNumbers.{among}
 use Rattle.design.specs.AssignedCorrect.{bare_signals, all_bare_signals}
 
 -- a name with the bare signals of what it stands for

@@ -20,7 +20,7 @@ use Rattle.section_targets.specs.Units.{CountedUnit, units_refused}
 use Rattle.section_targets.proofs.Built.{left_empty, right_empty, refused_append}
 use Rattle.section_targets.proofs.SideTerms.{side_positions}
 use Rattle.equations.specs.StatementUnits.{condition_refused, unless_any, assigned_aims, taken_refused, assign_refused, statement_manners, units_of_statement, units_of_else, units_of_statements}
-use Rattle.declared_names.proofs.Spreading.{among}
+use Rattle.declared_names.proofs.AmongNumbers.{among}
 use Rattle.design.proofs.AssignedData.{assigned_data}
 use Rattle.design.proofs.NamedTerms.{IsWithin, without_within}
 use Rattle.design.proofs.AimedOutputs.{IsOutput, aimed_among, aimed_output}

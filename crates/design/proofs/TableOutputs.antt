@@ -18,7 +18,7 @@ use Rattle.truth_tables.specs.OutputHeaders.{output_header}
 use Rattle.truth_tables.specs.TableUnits.{some_aims, if_none, outputs_refused, header_refused, row_units, units_behind, units_of_table}
 use Rattle.truth_tables.specs.Gives as gives
 use Rattle.truth_tables.proofs.OutputPositions.{header_signals}
-use Rattle.declared_names.proofs.Spreading.{among}
+use Rattle.declared_names.proofs.AmongNumbers.{among}
 use Rattle.design.proofs.AimedOutputs.{is_aimed, IsOutput, aimed_output}
 use Rattle.design.proofs.AssignedData.{assigned_among}
 use Rattle.design.proofs.NamedTerms.{IsWithin}

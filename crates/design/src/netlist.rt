@@ -23,10 +23,11 @@ ghost use Rattle.design.specs.Told.{IsLinkedDesign, IsChainTold};
 use crate::chains::check_loop;
 use crate::design_laws::unrefused_is_sound;
 use crate::resets::check_resets;
-use abel_tree::{Module, Names};
+use abel_tree::Names;
 use bit_expr::Netlist;
 use design_checks::{DesignFault, check_signals};
 use gathering::{Gathered, Link, gather_up};
+use name_uses::ModuleParts;
 use pld_device::Device;
 use section_targets::SectionScope;
 use set_expr::Contributions;
@@ -65,7 +66,7 @@ fn check_chains(
 /// The names are those that `declare` answers for the module, and the contributions those that its sections append.
 pub fn gather<D: Device>(
     alloc: Global,
-    source: &Module,
+    source: &ModuleParts<'_>,
     scope: &SectionScope<'_, D>,
     found: Contributions,
 ) -> Result<Netlist, DesignFault>
