@@ -1,31 +1,26 @@
 -- The mark of two lists is the union of their marks.
-use Rattle.std.proofs.Common.{◌≡◌, ℕ, ◌<◌, ◌≤◌, ◌+◌, ◌==◌, Bool, true, false, ◌||◌, List, [], ◌∷◌, ◌++◌, map, take, length, get_or, refl, sym, ap, ap₂, subst, ◌∙◌, arith}
+use Rattle.std.proofs.Common.{◌≡◌, ℕ, ◌<◌, ◌≤◌, ◌+◌, ◌==◌, Bool, ◌||◌, List, [], ◌∷◌, ◌++◌, map, take, length, get_or, sym, ap, ap₂, subst, ◌∙◌, arith}
 use Rattle.std.specs.Prelude.{IfOk, Result}
 use Rattle.std.specs.Int.Bits.{bit_or}
-use Rattle.std.specs.List.{list_any}
-use Rattle.std.proofs.lemmas.List.{take_all}
+use Rattle.std.specs.List.{flat_map, list_any}
+use Rattle.std.proofs.lemmas.Grind.{flat_map-append}
+use Rattle.std.proofs.lemmas.List.{append-nil, take_all}
 use Rattle.std.proofs.lemmas.List.Folds.{list_any-append}
 use Rattle.std.proofs.lemmas.Result.{IfOk-weaker}
 use Rattle.pld_base.specs.Bits.{bits, is_on}
 use Rattle.pld_base.proofs.BitLemmas.{is_on-zero}
-use Rattle.abel_tree.specs.Assigned.{Named, signals_of, target_extension, without_extension}
-use Rattle.abel_tree.specs.Tree.{Tree}
-use Rattle.abel_meaning.specs.Held.{Part, ATarget, AValue}
+use Rattle.abel_tree.specs.Assigned.{Named}
 use Rattle.decls.proofs.Rows.{mapped_more}
+use Rattle.name_uses.specs.Parts.{PartTree}
 use Rattle.placer.specs.declared.marks.Marks.{Marks}
 use Rattle.placer.specs.declared.read_names.Naming.{Naming}
 use Rattle.placer.specs.declared.seen.Seen.{Seen}
 use Rattle.placer.specs.Marks.{AreSeen, HasMark, HasMarks, IsMarkOf, IsUnion}
-use Rattle.placer.specs.NamedSignals.{signals_in}
-use Rattle.placer.specs.Reads.{enables, is_enable, reads}
+use Rattle.placer.specs.PartReads.{enabled_in, read_in}
 use Rattle.placer.proofs.Bits.{is_on-or}
 
-or_false : (b : Bool) → b ≡ (b || false)
-or_false true = refl
-or_false false = refl
-
 module _ (signals : List ℕ) (small : length signals ≤ 32) where
-  pub tests_join : {P : Type 0} (test : ℕ → P → Bool) (ps qs : List P) (a b mark : ℕ) → mark ≡ bit_or a b
+  tests_join : {P : Type 0} (test : ℕ → P → Bool) (ps qs : List P) (a b mark : ℕ) → mark ≡ bit_or a b
       → HasMarks signals (λ s. list_any (test s) ps) a → HasMarks signals (λ s. list_any (test s) qs) b → HasMarks signals (λ s. list_any (test s) (ps ++ qs)) mark
   tests_join test ps qs a b mark is first second k here =
       ap (λ n. is_on (bits 32 n) k) is
@@ -35,16 +30,13 @@ module _ (signals : List ℕ) (small : length signals ≤ 32) where
   pub none_marked : {P : Type 0} (test : ℕ → P → Bool) → HasMarks signals (λ s. list_any (test s) []) 0
   none_marked test k here = is_on-zero 32 k (omega (arith, small, here))
 
-  pub nothing_passes : (test : ℕ → Bool) → ((s : ℕ) → test s ≡ false) → HasMarks signals test 0
-  nothing_passes test none k here = is_on-zero 32 k (omega (arith, small, here)) ∙ sym (none (get_or signals k 0))
-
--- ---- what trees name
+-- ---- what is named
 
 module _ (m : Marks) where
   pub no_numbers : IsMarkOf m (λ ks. []) 0
   no_numbers signals ks small are = none_marked signals small (λ s n. n == s)
 
-  pub numbers_join : (f g : List Named → List ℕ) (a b mark : ℕ) → mark ≡ bit_or a b → IsMarkOf m f a → IsMarkOf m g b → IsMarkOf m (λ ks. f ks ++ g ks) mark
+  numbers_join : (f g : List Named → List ℕ) (a b mark : ℕ) → mark ≡ bit_or a b → IsMarkOf m f a → IsMarkOf m g b → IsMarkOf m (λ ks. f ks ++ g ks) mark
   numbers_join f g a b mark is first second signals ks small are =
       tests_join signals small (λ s n. n == s) (f ks) (g ks) a b mark is (first signals ks small are) (second signals ks small are)
 
@@ -67,62 +59,44 @@ module _ (m : Marks) where
       (λ ks. sym (ap (f ks) (mapped_more v es k e low at) ∙ push ks (map v (take k es)) (v e)))
       (numbers_join (λ ks. f ks (map v (take k es))) (λ ks. g ks (v e)) a b mark is first second)
 
--- ---- what sections hold
+  -- all items of two lists
+  numbers_both : {P : Type 0} (f : List Named → P → List ℕ) (ps qs : List P) (a b mark : ℕ) → mark ≡ bit_or a b → IsMarkOf m (λ ks. flat_map (f ks) ps) a → IsMarkOf m (λ ks. flat_map (f ks) qs) b → IsMarkOf m (λ ks. flat_map (f ks) (ps ++ qs)) mark
+  numbers_both f ps qs a b mark is first second =
+      numbers_same (λ ks. flat_map (f ks) ps ++ flat_map (f ks) qs) (λ ks. flat_map (f ks) (ps ++ qs)) mark (λ ks. sym (flat_map-append (f ks) ps qs))
+      (numbers_join (λ ks. flat_map (f ks) ps) (λ ks. flat_map (f ks) qs) a b mark is first second)
+
+  numbers_one : {P : Type 0} (f : List Named → P → List ℕ) (p : P) (mark : ℕ) → IsMarkOf m (λ ks. f ks p) mark → IsMarkOf m (λ ks. flat_map (f ks) (p ∷ [])) mark
+  numbers_one f p mark of = numbers_same (λ ks. f ks p) (λ ks. flat_map (f ks) (p ∷ [])) mark (λ ks. sym (append-nil (f ks p))) of
+
+-- ---- what parts read and enable
 
 module _ (n : Naming) where
   pub no_parts : (none : Seen) → none.read ≡ 0 → none.enabled ≡ 0 → AreSeen n [] none
-  no_parts none read enabled signals reading targets small one two = record {
-    read = subst (HasMarks signals (λ s. list_any (reads reading s) [])) (sym read) (none_marked signals small (reads reading));
-    enabled = subst (HasMarks signals (λ s. list_any (enables targets s) [])) (sym enabled) (none_marked signals small (enables targets));
+  no_parts none read enabled = record {
+    read = subst (IsMarkOf n.reading (λ ks. [])) (sym read) (no_numbers n.reading);
+    enabled = subst (IsMarkOf n.targets (λ ks. [])) (sym enabled) (no_numbers n.targets);
   }
 
-  pub parts_same : (ps qs : List Part) (seen : Seen) → ps ≡ qs → AreSeen n ps seen → AreSeen n qs seen
+  pub one_part : (p : PartTree) (seen : Seen) → IsMarkOf n.reading (λ ks. read_in ks p) seen.read → IsMarkOf n.targets (λ ks. enabled_in ks p) seen.enabled → AreSeen n (p ∷ []) seen
+  one_part p seen read enabled = record { read = numbers_one n.reading read_in p seen.read read; enabled = numbers_one n.targets enabled_in p seen.enabled enabled }
+
+  parts_same : (ps qs : List PartTree) (seen : Seen) → ps ≡ qs → AreSeen n ps seen → AreSeen n qs seen
   parts_same ps qs seen same are = subst (λ xs. AreSeen n xs seen) same are
 
-  pub parts_join : (ps qs : List Part) (a b seen : Seen) → IsUnion a b seen → AreSeen n ps a → AreSeen n qs b → AreSeen n (ps ++ qs) seen
-  parts_join ps qs a b seen is first second signals reading targets small one two =
-      let left = first signals reading targets small one two in
-      let right = second signals reading targets small one two in
-      record {
-        read = tests_join signals small (reads reading) ps qs a.read b.read seen.read is.0 left.read right.read;
-        enabled = tests_join signals small (enables targets) ps qs a.enabled b.enabled seen.enabled is.1 left.enabled right.enabled;
-      }
+  parts_join : (ps qs : List PartTree) (a b seen : Seen) → IsUnion a b seen → AreSeen n ps a → AreSeen n qs b → AreSeen n (ps ++ qs) seen
+  parts_join ps qs a b seen is first second = record {
+    read = numbers_both n.reading read_in ps qs a.read b.read seen.read is.0 first.read second.read;
+    enabled = numbers_both n.targets enabled_in ps qs a.enabled b.enabled seen.enabled is.1 first.enabled second.enabled;
+  }
 
   -- all items of a list
-  pub parts_all : {A B : Type 0} (f : List B → List Part) (v : A → B) (es : List A) (k : ℕ) (seen : Seen) → length es ≤ k → AreSeen n (f (map v (take k es))) seen → AreSeen n (f (map v es)) seen
+  pub parts_all : {A B : Type 0} (f : List B → List PartTree) (v : A → B) (es : List A) (k : ℕ) (seen : Seen) → length es ≤ k → AreSeen n (f (map v (take k es))) seen → AreSeen n (f (map v es)) seen
   parts_all f v es k seen past are = parts_same (f (map v (take k es))) (f (map v es)) seen (ap (λ xs. f (map v xs)) (take_all k es past)) are
 
-  -- what an answer says, if it is one
-  pub parts_answer : {E : Type 0} (r : Result Seen E) (ps qs : List Part) → ps ≡ qs → IfOk r (AreSeen n ps) → IfOk r (AreSeen n qs)
-  parts_answer r ps qs same are = IfOk-weaker r (AreSeen n ps) (AreSeen n qs) (λ seen is. parts_same ps qs seen same is) are
-
   -- one item more of a list
-  pub parts_more : {A B : Type 0} (f : List B → List Part) (g : B → List Part) → ((xs : List B) (x : B) → f (xs ++ x ∷ []) ≡ f xs ++ g x) → (v : A → B) (es : List A) (k : ℕ) (e : A) (a b seen : Seen)
+  pub parts_more : {A B : Type 0} (f : List B → List PartTree) (g : B → List PartTree) → ((xs : List B) (x : B) → f (xs ++ x ∷ []) ≡ f xs ++ g x) → (v : A → B) (es : List A) (k : ℕ) (e : A) (a b seen : Seen)
       → k < length es → e ≡ get_or es k e → IsUnion a b seen → AreSeen n (f (map v (take k es))) a → AreSeen n (g (v e)) b → AreSeen n (f (map v (take (k + 1) es))) seen
   parts_more f g push v es k e a b seen low at is first second =
       parts_same (f (map v (take k es)) ++ g (v e)) (f (map v (take (k + 1) es))) seen
       (sym (ap f (mapped_more v es k e low at) ∙ push (map v (take k es)) (v e)))
       (parts_join (f (map v (take k es))) (g (v e)) a b seen is first second)
-
-  -- an expression that is read, and a target
-  pub value_seen : (t : Tree) (seen : Seen) → seen.enabled ≡ 0 → IsMarkOf n.reading (λ ks. signals_in ks t) seen.read → AreSeen n (AValue t ∷ []) seen
-  value_seen t seen none of signals reading targets small one two = record {
-    read = λ k here. of signals reading small one k here ∙ or_false (reads reading (get_or signals k 0) (AValue t));
-    enabled = subst (HasMarks signals (λ s. list_any (enables targets s) (AValue t ∷ []))) (sym none) (nothing_passes signals small (λ s. list_any (enables targets s) (AValue t ∷ [])) (λ s. refl));
-  }
-
-  pub enable_seen : (t : Tree) (seen : Seen) → seen.read ≡ 0 → is_enable (target_extension t) ≡ true → IsMarkOf n.targets (λ ks. signals_of ks (without_extension t)) seen.enabled → AreSeen n (ATarget t ∷ []) seen
-  enable_seen t seen none is of signals reading targets small one two = record {
-    read = subst (HasMarks signals (λ s. list_any (reads reading s) (ATarget t ∷ []))) (sym none) (nothing_passes signals small (λ s. list_any (reads reading s) (ATarget t ∷ [])) (λ s. refl));
-    enabled = λ k here. of signals targets small two k here ∙ by (get_or signals k 0) (is_enable (target_extension t)) refl is;
-  }
-    where
-      by : (s : ℕ) (b : Bool) → is_enable (target_extension t) ≡ b → b ≡ true → list_any (λ n. n == s) (signals_of targets (without_extension t)) ≡ list_any (enables targets s) (ATarget t ∷ [])
-      by s true here same = or_false (list_any (λ n. n == s) (signals_of targets (without_extension t))) ∙ rw here refl
-      by s false here same = absurd cc
-
-  pub plain_seen : (t : Tree) (seen : Seen) → seen.read ≡ 0 → seen.enabled ≡ 0 → is_enable (target_extension t) ≡ false → AreSeen n (ATarget t ∷ []) seen
-  plain_seen t seen none nor other signals reading targets small one two = record {
-    read = subst (HasMarks signals (λ s. list_any (reads reading s) (ATarget t ∷ []))) (sym none) (nothing_passes signals small (λ s. list_any (reads reading s) (ATarget t ∷ [])) (λ s. refl));
-    enabled = subst (HasMarks signals (λ s. list_any (enables targets s) (ATarget t ∷ []))) (sym nor) (nothing_passes signals small (λ s. list_any (enables targets s) (ATarget t ∷ [])) (λ s. rw other refl));
-  }

@@ -17,6 +17,7 @@ pub mod Mapped
 pub mod Names
 pub mod Needed
 pub mod Others
+pub mod PartsRead
 pub mod PinLists
 pub mod Pinned
 pub mod PlacedBuffers
@@ -27,7 +28,6 @@ pub mod PlacedSignals
 pub mod Promise
 pub mod Reading
 pub mod Released
-pub mod Rows
-pub mod SectionParts
 pub mod Signals
-pub mod Whens
+pub mod TargetForms
+pub mod UsedSignals

@@ -3,6 +3,7 @@ pub mod Following
 pub mod Given
 pub mod Marks
 pub mod NamedSignals
+pub mod PartReads
 pub mod PlacedModule
 pub mod Placements
 pub mod Reads

@@ -1,15 +1,15 @@
 -- Marks of names: which of some signals each of them stands for.
 use Rattle.std.specs.Prelude.{◌≡◌, ℕ, ◌<◌, ◌≤◌, ◌==◌, Bool, Option, None, Some, List, [], ◌∷◌, if◌then◌else◌, length, get_or, bytes_eq}
 use Rattle.std.specs.Int.Bits.{bit_or}
-use Rattle.std.specs.List.{list_any}
+use Rattle.std.specs.List.{flat_map, list_any}
 use Rattle.pld_base.specs.Bits.{bits, is_on}
 use Rattle.abel_tree.specs.Assigned.{Named}
-use Rattle.abel_meaning.specs.Held.{Part}
 use Rattle.declared_names.specs.Numbered.{number_in}
+use Rattle.name_uses.specs.Parts.{PartTree}
 use Rattle.placer.specs.declared.marks.Marks.{Marks}
 use Rattle.placer.specs.declared.read_names.Naming.{Naming}
 use Rattle.placer.specs.declared.seen.Seen.{Seen}
-use Rattle.placer.specs.Reads.{enables, reads}
+use Rattle.placer.specs.PartReads.{enabled_in, read_in}
 
 -- bit k of the mark says whether the signal at place k passes a test
 abbrev pub HasMarks : (signals : List ℕ) → (test : ℕ → Bool) → (mark : ℕ) → Type 0
@@ -43,18 +43,12 @@ IsMarkOf m numbers mark =
 
 -- ---- parts
 
--- the two marks say which of the signals these parts read, and of which they assign the enable
-pub record HasSeen (signals : List ℕ) (reading targets : List Named) (parts : List Part) (seen : Seen) : Type 0 where
-  pub read : HasMarks signals (λ s. list_any (reads reading s) parts) seen.read
-  pub enabled : HasMarks signals (λ s. list_any (enables targets s) parts) seen.enabled
+-- the two marks are those of the signals that these parts read, and of those whose enable they assign
+pub record AreSeen (n : Naming) (parts : List PartTree) (seen : Seen) : Type 0 where
+  pub read : IsMarkOf n.reading (λ ks. flat_map (read_in ks) parts) seen.read
+  pub enabled : IsMarkOf n.targets (λ ks. flat_map (enabled_in ks) parts) seen.enabled
 
 -- the marks of two lists of parts make up those of both
 abbrev pub IsUnion : (first second both : Seen) → Type 0
 IsUnion first second both =
     (both.read ≡ bit_or first.read second.read) × (both.enabled ≡ bit_or first.enabled second.enabled)
-
--- so it is whatever names stand for
-abbrev pub AreSeen : Naming → List Part → Seen → Type 0
-AreSeen n parts seen =
-    (signals : List ℕ) (reading targets : List Named) → length signals ≤ 32 → AreMarks signals reading n.reading
-    → AreMarks signals targets n.targets → HasSeen signals reading targets parts seen

@@ -2,13 +2,20 @@
 //!
 //! A mark is a number of 32 bits: bit k is that of the signal at place k of those that are asked for.
 
-ghost use Rattle.std.specs.Prelude.{◌≡◌, ◌≤◌, ℕ, List, OnOk, length, map, ◌++◌, ◌∷◌, []};
+ghost use Rattle.std.specs.Prelude.{◌≡◌, ◌≤◌, ℕ, List, IfOk, OnOk, length, map, ◌++◌, ◌∷◌, []};
 ghost use Rattle.std.specs.Int.Bits.{bit_or};
+ghost use Rattle.std.specs.List.{flat_map};
 ghost use Rattle.abel_tree.specs.Assigned.{Named, signals_of_name, signals_of_names};
+ghost use Rattle.abel_tree.specs.View.{view};
 ghost use Rattle.name_uses.specs.RangeParts.{name_items};
+ghost use Rattle.name_uses.specs.Viewed.{view_use};
 ghost use Rattle.placer.specs.Marks.{AreMarks, HasMark, IsMarkOf};
+ghost use Rattle.placer.specs.NamedSignals.{signals_in};
+ghost use Rattle.placer.specs.PartReads.{signals_at};
 
+use abel_tree::Expr;
 use indexmap::IndexMap;
+use name_uses::{NameUse, names_used, range_list};
 use pld_base::{OutOfMemory, with_level};
 use std::alloc::Global;
 
@@ -71,5 +78,39 @@ impl Marks {
             mark = joined(mark, self.of_name(name.as_slice()));
         }
         mark
+    }
+
+    /// The mark of a name that an expression uses, or of the names of a range.
+    fn of_use(&self, alloc: Global, used: &NameUse<'_>) -> Result<u32, OutOfMemory>
+        ensures { IfOk result (IsMarkOf self.now (λ ks. signals_at ks (view_use used.now))) }
+    {
+        let first = used.first.text.bytes();
+        match used.last {
+            None => Ok(self.of_name(first)),
+            Some(last) => {
+                let names = range_list(alloc, first, last.text.bytes())?;
+                Ok(self.of_names(names.as_slice()))
+            }
+        }
+    }
+
+    /// The marks of the names that an expression uses, joined: under any operator, in any set and with any extension.
+    pub(crate) fn of_uses(&self, alloc: Global, uses: &[NameUse<'_>]) -> Result<u32, OutOfMemory>
+        ensures { IfOk result (IsMarkOf self.now
+            (λ ks. flat_map (signals_at ks) (map view_use uses.now))) }
+    {
+        let mut mark = 0;
+        for used in uses {
+            mark = joined(mark, self.of_use(alloc, used)?);
+        }
+        Ok(mark)
+    }
+
+    /// What an expression names.
+    pub(crate) fn of_expr(&self, alloc: Global, expr: &Expr) -> Result<u32, OutOfMemory>
+        ensures { IfOk result (IsMarkOf self.now (λ ks. signals_in ks (view expr.now))) }
+    {
+        let uses = names_used(alloc, expr)?;
+        self.of_uses(alloc, uses.as_slice())
     }
 }

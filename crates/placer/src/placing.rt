@@ -21,6 +21,7 @@ use crate::pins::PlacedPins;
 use crate::seen_in;
 use crate::wishing::wishes_of;
 use abel_tree::{Declared, Module, Names};
+use name_uses::ModuleParts;
 use pin_matching::{Unplaced, Wish, first_assignment};
 use pld_base::OutOfMemory;
 use pld_device::Device;
@@ -108,7 +109,8 @@ fn ask<D: Device>(
     ensures wishes { IfOk result (λ a. a.wishes.items ≡ map (λ s. wish D.table (map view_declared names.now) (is_read (map view_declared names.now) (view_module source.now).sections s) (get_or (map view_declared names.now) s no_name)) signals.now) }
     ensures enabled { IfOk result (λ a. HasMarks signals.now (has_enable (map view_declared names.now) (view_module source.now).sections) a.enabled) }
 {
-    let seen = seen_in(alloc, names, source.sections.as_slice(), signals)?;
+    let parts = ModuleParts::new(alloc, source)?;
+    let seen = seen_in(alloc, names, &parts, signals)?;
     let wishes = wishes_of::<D>(alloc, names, signals, seen.read)?;
     Ok(Asked {
         wishes,

@@ -1,30 +1,39 @@
 -- The marks of all sections, with the names as the module declares them.
-use Rattle.std.proofs.Common.{map}
-use Rattle.std.specs.List.{flat_map}
+use Rattle.std.proofs.Common.{◌==◌, map, get_or, ap, ◌∙◌}
+use Rattle.std.specs.List.{flat_map, list_any}
 use Rattle.std.proofs.lemmas.Result.{IfOk-weaker}
 use Rattle.abel_tree.specs.Assigned.{named_of}
 use Rattle.abel_tree.specs.Entries.{view_declared}
-use Rattle.abel_tree.specs.View.{view_section}
+use Rattle.abel_tree.specs.View.{view_module}
+use Rattle.name_uses.specs.Viewed.{view_section_parts}
 use Rattle.placer.specs.declared.seen.Seen.{Seen}
-use Rattle.placer.specs.Marks.{AreSeen, HasMarks, HasSeen}
+use Rattle.placer.specs.Marks.{AreSeen, HasMarks}
 use Rattle.placer.specs.NamedSignals.{read_names_of}
-use Rattle.placer.specs.Reads.{has_enable, is_read, read_parts}
+use Rattle.placer.specs.PartReads.{enabled_in, parts_of, read_in}
+use Rattle.placer.specs.Reads.{has_enable, is_read}
+use Rattle.placer.proofs.PartsRead.{sections_enable, sections_read}
 use Rattle.placer.proofs.seen_in.Goals as goal
 
 pub returns-clause-read : goal.returns-clause-read
 returns-clause-read c =
     let es = map view_declared c.args.names.now in
-    let sections = map view_section c.args.sections.now in
-    IfOk-weaker c.see_sections.result (AreSeen c.in_ok-naming.naming (flat_map read_parts sections)) (λ (seen : Seen). HasMarks c.args.signals.now (is_read es sections) seen.read)
-    (λ seen are.
-    let has : HasSeen c.args.signals.now (read_names_of es) (named_of es) (flat_map read_parts sections) seen = are c.args.signals.now (read_names_of es) (named_of es) c.requires c.in_ok-naming.ensures.reading c.in_ok-naming.ensures.targets in
-    has.read) c.see_sections.ensures
+    let signals = c.args.signals.now in
+    let xs = (view_module c.args.source.now).sections in
+    let parts = flat_map parts_of (map view_section_parts c.sections.result.now) in
+    IfOk-weaker c.see_sections.result (AreSeen c.in_ok-naming.naming parts) (λ (seen : Seen). HasMarks signals (is_read es xs) seen.read)
+    (λ seen are k here.
+    are.read signals (read_names_of es) c.requires c.in_ok-naming.ensures.reading k here
+    ∙ (ap (λ ys. list_any (λ n. n == get_or signals k 0) (flat_map (read_in (read_names_of es)) (flat_map parts_of ys))) c.sections.ensures
+    ∙ sections_read (read_names_of es) (get_or signals k 0) xs)) c.see_sections.ensures
 
 pub returns-clause-enabled : goal.returns-clause-enabled
 returns-clause-enabled c =
     let es = map view_declared c.args.names.now in
-    let sections = map view_section c.args.sections.now in
-    IfOk-weaker c.see_sections.result (AreSeen c.in_ok-naming.naming (flat_map read_parts sections)) (λ (seen : Seen). HasMarks c.args.signals.now (has_enable es sections) seen.enabled)
-    (λ seen are.
-    let has : HasSeen c.args.signals.now (read_names_of es) (named_of es) (flat_map read_parts sections) seen = are c.args.signals.now (read_names_of es) (named_of es) c.requires c.in_ok-naming.ensures.reading c.in_ok-naming.ensures.targets in
-    has.enabled) c.see_sections.ensures
+    let signals = c.args.signals.now in
+    let xs = (view_module c.args.source.now).sections in
+    let parts = flat_map parts_of (map view_section_parts c.sections.result.now) in
+    IfOk-weaker c.see_sections.result (AreSeen c.in_ok-naming.naming parts) (λ (seen : Seen). HasMarks signals (has_enable es xs) seen.enabled)
+    (λ seen are k here.
+    are.enabled signals (named_of es) c.requires c.in_ok-naming.ensures.targets k here
+    ∙ (ap (λ ys. list_any (λ n. n == get_or signals k 0) (flat_map (enabled_in (named_of es)) (flat_map parts_of ys))) c.sections.ensures
+    ∙ sections_enable (named_of es) (get_or signals k 0) xs)) c.see_sections.ensures

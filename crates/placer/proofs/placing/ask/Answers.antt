@@ -1,8 +1,8 @@
--- Of the sections as the definitions see them.
-use Rattle.std.proofs.Common.{List, map, sym, ap, subst}
-use Rattle.abel_tree.specs.declared.sections.Section.{Section}
+-- Of the module whose sections were gone through.
+use Rattle.std.proofs.Common.{map, subst}
+use Rattle.abel_tree.specs.declared.sections.Module.{Module}
 use Rattle.abel_tree.specs.Entries.{view_declared}
-use Rattle.abel_tree.specs.View.{view_section}
+use Rattle.abel_tree.specs.View.{view_module}
 use Rattle.placer.specs.Marks.{HasMarks}
 use Rattle.placer.specs.Reads.{has_enable, is_read}
 use Rattle.placer.proofs.placing.ask.Goals as goal
@@ -10,10 +10,10 @@ use Rattle.placer.proofs.placing.ask.Goals as goal
 pub returns-clause-wishes : goal.returns-clause-wishes
 returns-clause-wishes g c =
     let es = map view_declared c.args.names.now in
-    c.in_ok-wishes.ensures (is_read es (map view_section c.args.source.now.sections))
-    (subst (λ (xs : List Section). HasMarks c.args.signals.now (is_read es (map view_section xs)) c.in_ok-seen.seen.read) c.as_slice.ensures c.in_ok-seen.ensures.read)
+    c.in_ok-wishes.ensures (is_read es (view_module c.args.source.now).sections)
+    (subst (λ (m : Module). HasMarks c.args.signals.now (is_read es (view_module m).sections) c.in_ok-seen.seen.read) c.in_ok-parts.ensures c.in_ok-seen.ensures.read)
 
 pub returns-clause-enabled : goal.returns-clause-enabled
 returns-clause-enabled g c =
     let es = map view_declared c.args.names.now in
-    subst (λ (xs : List Section). HasMarks c.args.signals.now (has_enable es (map view_section xs)) c.in_ok-seen.seen.enabled) c.as_slice.ensures c.in_ok-seen.ensures.enabled
+    subst (λ (m : Module). HasMarks c.args.signals.now (has_enable es (view_module m).sections) c.in_ok-seen.seen.enabled) c.in_ok-parts.ensures c.in_ok-seen.ensures.enabled

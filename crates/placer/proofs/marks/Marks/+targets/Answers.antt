@@ -5,7 +5,7 @@ use Rattle.abel_tree.specs.Tree.{members_of}
 use Rattle.abel_tree.specs.View.{view, view_member}
 use Rattle.declared_names.proofs.Pushes.{listed_members, members_push}
 use Rattle.placer.proofs.Joins.{no_numbers, numbers_all, numbers_answer, numbers_more, numbers_same}
-use Rattle.placer.proofs.Rows.{no_binary_target, no_name_target, no_number_target, no_set_target, no_special_target, no_unary_target, set_target}
+use Rattle.placer.proofs.TargetForms.{no_binary_target, no_name_target, no_number_target, no_set_target, no_special_target, no_unary_target, set_target}
 use Rattle.placer.proofs.marks.Marks.+targets.Goals as goal
 
 pub of_targets-loop-member-init : goal.of_targets-loop-member-init

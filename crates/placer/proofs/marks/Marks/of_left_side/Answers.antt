@@ -4,7 +4,7 @@ use Rattle.abel_tree.specs.Assigned.{signals_of, signals_of_members, without_ext
 use Rattle.abel_tree.specs.Tree.{members_of}
 use Rattle.abel_tree.specs.View.{view, view_member}
 use Rattle.placer.proofs.Joins.{numbers_answer}
-use Rattle.placer.proofs.Rows.{set_named}
+use Rattle.placer.proofs.TargetForms.{set_named}
 use Rattle.placer.proofs.marks.Marks.of_left_side.Goals as goal
 
 pub returns-in-Set : goal.returns-in-Set

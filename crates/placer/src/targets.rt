@@ -1,13 +1,10 @@
-//! What expressions and targets name among some signals.
+//! What targets name among some signals.
 
 ghost use Rattle.std.specs.Prelude.{IfOk, map};
-ghost use Rattle.std.specs.List.{flat_map};
 ghost use Rattle.abel_tree.specs.Assigned.{signals_of, signals_of_member, signals_of_members, without_extension};
 ghost use Rattle.abel_tree.specs.Tree.{members_of};
-ghost use Rattle.abel_tree.specs.Uses.{member_uses, one_member_uses};
 ghost use Rattle.abel_tree.specs.View.{view, view_member};
 ghost use Rattle.placer.specs.Marks.{IsMarkOf};
-ghost use Rattle.placer.specs.NamedSignals.{signals_in, signals_used};
 
 use crate::marks::{Marks, joined};
 use abel_tree::{Expr, Member};
@@ -16,91 +13,6 @@ use pld_base::OutOfMemory;
 use std::alloc::Global;
 
 impl Marks {
-    /// What an expression reads. Calls go as deep as the nestings, however many operators stand in a row.
-    #[cycle(reads)]
-    pub(crate) fn of_expr(&self, alloc: Global, expr: &Expr) -> Result<u32, OutOfMemory>
-        ensures { IfOk result (IsMarkOf self.now (λ ks. signals_in ks (view expr.now))) }
-    {
-        let mut rights = Vec::new(alloc);
-        let mut first = expr;
-        'down: while let Expr::Binary {
-            sign: _,
-            place: _,
-            left,
-            right,
-        } = first
-        {
-            rights.push(right.get())?;
-            first = left.get();
-        }
-        let mut mark = self.of_level(alloc, first)?;
-        'up: while let Some(right) = rights.pop() {
-            mark = joined(mark, self.of_expr(alloc, right)?);
-        }
-        Ok(mark)
-    }
-
-    /// What an expression reads, by its parts.
-    #[cycle(reads)]
-    fn of_level(&self, alloc: Global, expr: &Expr) -> Result<u32, OutOfMemory>
-        ensures { IfOk result (IsMarkOf self.now (λ ks. signals_in ks (view expr.now))) }
-    {
-        match expr {
-            Expr::Name { word, extension: _ } => Ok(self.of_name(word.text.bytes())),
-            Expr::Set {
-                place: _,
-                members,
-                extension: _,
-            } => self.of_members(alloc, members.as_slice()),
-            Expr::Paren { place: _, inner } => self.of_expr(alloc, inner.get()),
-            Expr::Unary {
-                sign: _,
-                place: _,
-                inner,
-            } => self.of_expr(alloc, inner.get()),
-            Expr::Binary {
-                sign: _,
-                place: _,
-                left,
-                right,
-            } => {
-                let first = self.of_expr(alloc, left.get())?;
-                Ok(joined(first, self.of_expr(alloc, right.get())?))
-            }
-            Expr::Number(_) => Ok(0),
-            Expr::Special {
-                letter: _,
-                place: _,
-            } => Ok(0),
-        }
-    }
-
-    /// What the members of a set read.
-    #[cycle(reads)]
-    fn of_members(&self, alloc: Global, members: &[Member]) -> Result<u32, OutOfMemory>
-        ensures { IfOk result (IsMarkOf self.now (λ ks. flat_map (signals_used ks) (member_uses (members_of (map view_member members.now))))) }
-    {
-        let mut mark = 0;
-        for member in members {
-            mark = joined(mark, self.of_member(alloc, member)?);
-        }
-        Ok(mark)
-    }
-
-    /// What a member of a set reads.
-    #[cycle(reads)]
-    fn of_member(&self, alloc: Global, member: &Member) -> Result<u32, OutOfMemory>
-        ensures { IfOk result (IsMarkOf self.now (λ ks. flat_map (signals_used ks) (one_member_uses (view_member member.now)))) }
-    {
-        match member {
-            Member::One(expr) => self.of_expr(alloc, expr),
-            Member::Span { first, last } => {
-                let names = range_list(alloc, first.text.bytes(), last.text.bytes())?;
-                Ok(self.of_names(names.as_slice()))
-            }
-        }
-    }
-
     /// What the target of an equation names, whose own extension counts for all of it.
     pub(crate) fn of_left_side(&self, alloc: Global, target: &Expr) -> Result<u32, OutOfMemory>
         ensures { IfOk result (IsMarkOf self.now (λ ks. signals_of ks (without_extension (view target.now)))) }

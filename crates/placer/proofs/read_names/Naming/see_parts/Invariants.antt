@@ -1,0 +1,8 @@
+-- The parts so far.
+use Rattle.std.proofs.Common.{map, take}
+use Rattle.name_uses.specs.Viewed.{view_part}
+use Rattle.placer.specs.Marks.{AreSeen}
+use Rattle.placer.proofs.read_names.Naming.see_parts.Given as goal
+
+abbrev pub invariant-loop-part : goal.invariant-loop-part
+invariant-loop-part l = AreSeen l.self (map view_part (take l.part-index l.parts)) l.seen
