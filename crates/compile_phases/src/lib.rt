@@ -9,6 +9,6 @@ mod refusing;
 pub use fault::{CompileFault, SourceFault};
 pub use laws::{fits_can_be_told, read_names_are_plain};
 pub use phases::{
-    declared_of, device_named, fitted_of, module_of, names_of, netlist_of, placed_of, scope_of,
-    sections_of,
+    declared_of, device_named, fitted_of, module_of, names_of, netlist_of, parts_of, placed_of,
+    scope_of, sections_of,
 };

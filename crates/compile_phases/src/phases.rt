@@ -33,6 +33,7 @@ use decls::device_of;
 use design::{gather, unrefused_is_takeable};
 use fitter::{Fitted, fit};
 use module_reader::read_module;
+use name_uses::ModuleParts;
 use placer::place;
 use pld_base::DeviceName;
 use pld_device::Device;
@@ -63,8 +64,20 @@ pub fn device_named(alloc: Global, source: &Module) -> Result<DeviceName, Compil
     }
 }
 
+/// A module with the parts of its sections, for all phases that ask for names.
+pub fn parts_of(alloc: Global, module: &Module) -> Result<ModuleParts<'_>, CompileFault>
+    ensures ok { IfOk result (λ source. source ≡ module.now) }
+    ensures err { IfErr result (λ e. e ≡ OutOfMemory) }
+{
+    let source = ModuleParts::new(alloc, module)?;
+    Ok(source)
+}
+
 /// The names that a source declares.
-pub fn declared_of<D: Device>(alloc: Global, source: &Module) -> Result<Names, CompileFault>
+pub fn declared_of<D: Device>(
+    alloc: Global,
+    source: &ModuleParts<'_>,
+) -> Result<Names, CompileFault>
     ensures ok { IfOk result (λ n. AreDeclaredBy D.table (view_module source.now) n) }
     ensures err { IfErr result (IsOfSource (IsNameFault (λ f.
         first_name_refusal D.table (view_module source.now) ≡ Some f))) }
@@ -93,7 +106,7 @@ pub fn placed_of<D: Device>(
 }
 
 /// The names of a source that is placed.
-pub fn names_of<D: Device>(alloc: Global, placed: &Module) -> Result<Names, CompileFault>
+pub fn names_of<D: Device>(alloc: Global, placed: &ModuleParts<'_>) -> Result<Names, CompileFault>
     requires { HasNumberedNames D.table (view_module placed.now) }
     ensures ok { IfOk result (λ n. AreNamesFor D.table (view_module placed.now) n) }
     ensures err { IfErr result (λ e. e ≡ OutOfMemory) }
@@ -123,7 +136,7 @@ pub fn scope_of<D: Device>(
 /// What the sections of a module say.
 pub fn sections_of<D: Device>(
     alloc: Global,
-    source: &Module,
+    source: &ModuleParts<'_>,
     scope: &SectionScope<'_, D>,
 ) -> Result<SourceSections, CompileFault>
     requires { AreNamesFor D.table (view_module source.now) scope.now }
@@ -133,7 +146,7 @@ pub fn sections_of<D: Device>(
     ensures err { IfErr result (IsOfSource (IsSectionFault (entries_of scope.now) (λ f. first_refusal section_order
         (all_sections_refused (design_of D.table (view_module source.now))) ≡ Some f))) }
 {
-    match all_sections::<D>(alloc, scope, source) {
+    match all_sections::<D>(alloc, scope, source.module()) {
         Ok(found) => Ok(found),
         Err(fault) => Err(uncontributed(alloc, scope.scope().names(), fault)),
     }
@@ -142,7 +155,7 @@ pub fn sections_of<D: Device>(
 /// The netlist of a source.
 pub fn netlist_of<D: Device>(
     alloc: Global,
-    source: &Module,
+    source: &ModuleParts<'_>,
     scope: &SectionScope<'_, D>,
     found: Contributions,
 ) -> Result<Netlist, CompileFault>
