@@ -1,6 +1,6 @@
 //! From the bytes of a source to its fuse file.
 
-ghost use Rattle.std.specs.Prelude.{◌≤◌, IfOk, IfErr, length, All};
+ghost use Rattle.std.specs.Prelude.{◌≡◌, ◌≤◌, Some, IfOk, IfErr, length, All};
 ghost use Rattle.pld_device.specs.Laws.{IsDevice};
 ghost use Rattle.jedec_file.specs.CanonicalFile.{IsPlainName};
 ghost use Rattle.jedec_file.specs.TestVectors.{IsTestVector};
@@ -13,7 +13,8 @@ ghost use Rattle.abel_vectors.specs.AllSections.{AreSections};
 ghost use Rattle.abel_compile.specs.Answers.{CompileAnswers, IsNeverRefused};
 ghost use Rattle.abel_compile.specs.Statement.{IsRightFile};
 ghost use Rattle.devices.specs.Devices.{table_of};
-ghost use Rattle.compile_phases.specs.Phases.{AreNamesFor, IsNetlistFor, IsRefusedBy, IsRefusedFor};
+ghost use Rattle.decls.specs.NameRefusals.{first_name_refusal};
+ghost use Rattle.compile_phases.specs.Phases.{AreDeclaredBy, AreNamesFor, IsNameFault, IsNetlistFor, IsOfSource, IsRefusedBy, IsRefusedFor};
 ghost use Rattle.compile_phases.specs.Placings.{IsPlacedFor};
 ghost use Rattle.abel_compile.specs.Compiling.{IsCompiledOn};
 
@@ -21,11 +22,11 @@ use crate::compiled::Compiled;
 use crate::laws::fits_are_right;
 use crate::placed::PlacedModule;
 use crate::telling::compiled_of;
-use abel_tree::Module;
+use abel_tree::{Module, Names};
 use abel_vectors::SourceSections;
 use compile_phases::{
-    CompileFault, declared_of, device_named, fitted_of, module_of, names_of, netlist_of, placed_of,
-    read_names_are_plain, scope_of, sections_of,
+    CompileFault, declared_of, device_named, fitted_of, module_of, names_of, netlist_of, parts_of,
+    placed_of, read_names_are_plain, scope_of, sections_of,
 };
 use devices::on_device;
 use pld_base::DeviceName;
@@ -33,7 +34,10 @@ use pld_device::Device;
 use std::alloc::Global;
 
 /// The fuse file of a placed module for a device.
-fn compile_placed<D: Device>(alloc: Global, placed: &PlacedModule) -> Result<Compiled, CompileFault>
+fn compile_placed<D: Device>(
+    alloc: Global,
+    placed: &PlacedModule<'_>,
+) -> Result<Compiled, CompileFault>
     requires name { IsPlainName (view_module placed.now.module).name.text }
     requires names { AreNamesFor D.table (view_module placed.now.module) placed.now.names }
     ensures ok { IfOk result (λ c. IsCompiledOn D.table (entries_of placed.now.declared) D.NAME (view_module placed.now.module) c) }
@@ -51,6 +55,16 @@ fn compile_placed<D: Device>(alloc: Global, placed: &PlacedModule) -> Result<Com
     Ok(compiled)
 }
 
+/// The names that a module declares, before its signals are placed.
+fn names_in<D: Device>(alloc: Global, module: &Module) -> Result<Names, CompileFault>
+    ensures ok { IfOk result (AreDeclaredBy D.table (view_module module.now)) }
+    ensures err { IfErr result (IsOfSource (IsNameFault (λ f.
+        first_name_refusal D.table (view_module module.now) ≡ Some f))) }
+{
+    let source = parts_of(alloc, module)?;
+    declared_of::<D>(alloc, &source)
+}
+
 /// The fuse file of a module for a device: of the placed module.
 fn compile_for<D: Device>(alloc: Global, source: Module) -> Result<Compiled, CompileFault>
     requires { IsPlainName (view_module source).name.text }
@@ -58,11 +72,12 @@ fn compile_for<D: Device>(alloc: Global, source: Module) -> Result<Compiled, Com
     ensures err { IfErr result (IsRefusedBy D.table (view_module source)) }
     ensures device { IsDevice D.table }
 {
-    let declared = declared_of::<D>(alloc, &source)?;
+    let declared = names_in::<D>(alloc, &source)?;
     let module = placed_of::<D>(alloc, source, &declared)?;
-    let names = names_of::<D>(alloc, &module)?;
+    let parts = parts_of(alloc, &module)?;
+    let names = names_of::<D>(alloc, &parts)?;
     let placed = PlacedModule {
-        module,
+        module: parts,
         declared,
         names,
     };

@@ -25,7 +25,7 @@ use std::alloc::Global;
 /// The file, the listing and the summary of the fuses of a source.
 pub(crate) fn compiled_of<D: Device>(
     alloc: Global,
-    placed: &PlacedModule,
+    placed: &PlacedModule<'_>,
     net: &Netlist,
     fitted: &Fitted,
     vectors: &[Vector],
@@ -45,7 +45,7 @@ pub(crate) fn compiled_of<D: Device>(
         device: D::NAME,
         file: write::<D>(
             alloc,
-            placed.module.name.text.bytes(),
+            placed.module.module().name.text.bytes(),
             &fitted.fuses,
             vectors,
         )?,

@@ -3,8 +3,11 @@ use Rattle.std.proofs.Common.{sym, subst}
 use Rattle.std.specs.Prelude.{IfErr, IfOk}
 use Rattle.std.proofs.lemmas.Result.{err_from_is_err_and}
 use Rattle.jedec_file.specs.CanonicalFile.{IsPlainName}
+use Rattle.abel_tree.specs.declared.sections.Module.{Module}
 use Rattle.abel_tree.specs.declared.words.Word.{Word}
 use Rattle.abel_tree.specs.View.{view_module}
+use Rattle.placer.specs.Following.{HasNumberedNames}
+use Rattle.placer.specs.Placements.{IsPlacedModule}
 use Rattle.compile_phases.specs.Phases.{IsRefusedBy}
 use Rattle.compile_phases.proofs.PlacedRefusals.{by_declared, by_placing, placed_name}
 use Rattle.abel_compile.specs.Compiling.{IsCompiledOn}
@@ -25,6 +28,12 @@ returns-in_err-module-clause-err g c =
     (by_placing g.D.Device.table (view_module c.args.source) _ c.in_err-module.ensures.err)
 
 -- only memory can be out behind that
+pub returns-in_err-parts-clause-err : goal.returns-in_err-parts-clause-err
+returns-in_err-parts-clause-err g c =
+    handed (λ r. IfErr r (IsRefusedBy g.D.Device.table (view_module c.args.source))) c.from_residual-in_err-parts.result _
+    (err_from_is_err_and c.from_residual-in_err-parts.result c.from_residual-in_err-parts.ensures.1)
+    (subst (IsRefusedBy g.D.Device.table (view_module c.args.source)) (sym c.in_err-parts.ensures.err) tt)
+
 pub returns-in_err-names-clause-err : goal.returns-in_err-names-clause-err
 returns-in_err-names-clause-err g c =
     handed (λ r. IfErr r (IsRefusedBy g.D.Device.table (view_module c.args.source))) c.from_residual-in_err-names.result _
@@ -33,14 +42,19 @@ returns-in_err-names-clause-err g c =
 
 pub compile_placed-requires-clause-name : goal.compile_placed-requires-clause-name
 compile_placed-requires-clause-name g c =
-    subst (λ (w : Word). IsPlainName w.text) (sym (placed_name g.D.Device.table (view_module c.args.source) (view_module c.in_ok-module.module) c.in_ok-module.ensures.ok)) c.requires
+    subst (λ (m : Module). IsPlainName (view_module m).name.text) (sym c.in_ok-parts.ensures.ok)
+    (subst (λ (w : Word). IsPlainName w.text) (sym (placed_name g.D.Device.table (view_module c.args.source) (view_module c.in_ok-module.module) c.in_ok-module.ensures.ok)) c.requires)
 
 pub returns-clause-ok : goal.returns-clause-ok
 returns-clause-ok g c =
-    compiled_placed g.D.Device.table g.D.Device.NAME (view_module c.args.source) (view_module c.in_ok-module.module) c.compile_placed.result c.in_ok-module.ensures.ok
-    (subst (λ es. IfOk c.compile_placed.result (λ r. IsCompiledOn g.D.Device.table es g.D.Device.NAME (view_module c.in_ok-module.module) r)) c.in_ok-declared.ensures.ok.entries c.compile_placed.ensures.ok)
+    let t = g.D.Device.table in
+    let is = subst (λ m. IsPlacedModule t (view_module c.args.source) (view_module m)) (sym c.in_ok-parts.ensures.ok) c.in_ok-module.ensures.ok in
+    compiled_placed t g.D.Device.NAME (view_module c.args.source) (view_module c.in_ok-parts.parts) c.compile_placed.result is
+    (subst (λ es. IfOk c.compile_placed.result (λ r. IsCompiledOn t es g.D.Device.NAME (view_module c.in_ok-parts.parts) r)) c.in_ok-declared.ensures.ok.entries c.compile_placed.ensures.ok)
 
 pub returns-clause-err : goal.returns-clause-err
 returns-clause-err g c =
-    refused_placed g.D.Device.table (view_module c.args.source) (view_module c.in_ok-module.module) c.compile_placed.result
-    c.in_ok-module.ensures.ok c.in_ok-module.ensures.numbered c.compile_placed.ensures.err
+    let t = g.D.Device.table in
+    let is = subst (λ m. IsPlacedModule t (view_module c.args.source) (view_module m)) (sym c.in_ok-parts.ensures.ok) c.in_ok-module.ensures.ok in
+    let numbered = subst (λ m. HasNumberedNames t (view_module m)) (sym c.in_ok-parts.ensures.ok) c.in_ok-module.ensures.numbered in
+    refused_placed t (view_module c.args.source) (view_module c.in_ok-parts.parts) c.compile_placed.result is numbered c.compile_placed.ensures.err

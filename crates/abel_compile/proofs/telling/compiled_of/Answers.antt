@@ -1,4 +1,5 @@
 -- The file, the listing and the summary are those of the fuses.
+use Rattle.std.proofs.Common.{ap, ◌∙◌}
 use Rattle.jedec_file.specs.TestVectors.{all_chars}
 use Rattle.abel_tree.specs.Entries.{entries_of}
 use Rattle.abel_tree.specs.View.{view_module}
@@ -18,6 +19,6 @@ returns-clause-told g c =
     let fitted = c.args.fitted.now in
     told_of t (entries_of c.args.placed.now.declared) m fitted.fuses c.bytes.result.now (entries_of c.args.placed.now.names) (assigned_cells t (plain_netlist c.args.net.now)) (all_chars t c.args.vectors.now)
     (record { device = c.NAME.result; file = c.in_ok-write.field-0; listing = c.in_ok-listing.field-0; summary = c.in_ok-summary.field-0 })
-    c.requires.vectors c.bytes.ensures c.requires.names.entries
+    c.requires.vectors (c.bytes.ensures ∙ ap (λ x. (view_module x).name.text) c.module.ensures) c.requires.names.entries
     (c.fits_can_be_told.ensures t m c.args.net.now fitted g.met.D.Device.sound c.requires.netlist c.requires.fits).cells
     c.in_ok-write.ensures.canonical c.in_ok-write.ensures.reads_back c.in_ok-listing.ensures c.in_ok-summary.ensures
