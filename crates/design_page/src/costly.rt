@@ -10,7 +10,7 @@ use crate::places::origins_of;
 use crate::telling::put_place;
 use abel_tree::{Meaning, Module, Names};
 use abel_vectors::SourceSections;
-use compile_phases::{CompileFault, netlist_of, scope_of, sections_of};
+use compile_phases::{CompileFault, netlist_of, parts_of, scope_of, sections_of};
 use fuse_listing::name_on;
 use pld_base::{ListOf, OutOfMemory, put_decimal, with_level};
 use pld_device::Device;
@@ -41,12 +41,13 @@ fn costly_outputs<D: Device>(
     if pins == 0 {
         return Ok(ListOf::from_vec(Vec::new(alloc)));
     }
+    let source = parts_of(alloc, module)?;
     let scope = scope_of::<D>(alloc, names)?;
     let SourceSections {
         contributions,
         vectors: _,
-    } = sections_of::<D>(alloc, module, &scope)?;
-    let net = netlist_of::<D>(alloc, module, &scope, contributions)?;
+    } = sections_of::<D>(alloc, &source, &scope)?;
+    let net = netlist_of::<D>(alloc, &source, &scope, contributions)?;
     match costly_polarities::<D>(alloc, &net, pins) {
         Ok(list) => Ok(list),
         Err(OutOfMemory) => Err(CompileFault::OutOfMemory),

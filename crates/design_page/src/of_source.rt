@@ -16,7 +16,7 @@ use crate::warned::put_warnings;
 use abel_commands::{LIMIT, Taken, read_files_have_few_vectors, take_file};
 use abel_compile::{CompileFault, Compiled, compile};
 use abel_tree::{Module, Names};
-use compile_phases::{module_of, names_of};
+use compile_phases::{module_of, names_of, parts_of};
 use devices::on_device;
 use jedec_reader::FuseFile;
 use pld_base::OutOfMemory;
@@ -88,7 +88,8 @@ fn made_for<D: Device>(
 {
     read_files_have_few_vectors();
     let placed = placed_module::<D>(alloc, module)?;
-    let names = names_of::<D>(alloc, &placed)?;
+    let parts = parts_of(alloc, &placed)?;
+    let names = names_of::<D>(alloc, &parts)?;
     let source = Source {
         input,
         compiled,

@@ -2,17 +2,26 @@
 
 ghost use Rattle.std.specs.Prelude.{IfOk};
 ghost use Rattle.abel_tree.specs.View.{view_module};
+ghost use Rattle.compile_phases.specs.Phases.{AreDeclaredBy};
 ghost use Rattle.placer.specs.Following.{HasNumberedNames};
 
-use abel_tree::Module;
-use compile_phases::{CompileFault, declared_of, placed_of};
+use abel_tree::{Module, Names};
+use compile_phases::{CompileFault, declared_of, parts_of, placed_of};
 use pld_device::Device;
 use std::alloc::Global;
+
+/// The names that a module declares, before its signals are placed.
+fn names_in<D: Device>(alloc: Global, module: &Module) -> Result<Names, CompileFault>
+    ensures { IfOk result (AreDeclaredBy D.table (view_module module.now)) }
+{
+    let source = parts_of(alloc, module)?;
+    declared_of::<D>(alloc, &source)
+}
 
 /// The placed module, whose names have numbers.
 pub fn placed_module<D: Device>(alloc: Global, module: Module) -> Result<Module, CompileFault>
     ensures { IfOk result (λ m. HasNumberedNames D.table (view_module m)) }
 {
-    let names = declared_of::<D>(alloc, &module)?;
+    let names = names_in::<D>(alloc, &module)?;
     placed_of::<D>(alloc, module, &names)
 }

@@ -9,10 +9,11 @@ use crate::placed::placed_module;
 use abel_tree::{Module, Names};
 use abel_vectors::SourceSections;
 use compile_phases::{
-    CompileFault, device_named, module_of, names_of, netlist_of, scope_of, sections_of,
+    CompileFault, device_named, module_of, names_of, netlist_of, parts_of, scope_of, sections_of,
 };
 use devices::on_device;
 use fitter::{FitFault, Overfull, cells_over_room};
+use name_uses::ModuleParts;
 use pld_base::{ListOf, OutOfMemory, put_decimal};
 use pld_device::Device;
 use std::alloc::Global;
@@ -20,17 +21,17 @@ use std::alloc::Global;
 /// The cells that are over their room, none where the fit has another fault.
 fn overfull_cells<D: Device>(
     alloc: Global,
-    module: &Module,
+    source: &ModuleParts<'_>,
     names: &Names,
 ) -> Result<ListOf<Overfull>, CompileFault>
-    requires { AreNamesFor D.table (view_module module.now) names.now }
+    requires { AreNamesFor D.table (view_module source.now) names.now }
 {
     let scope = scope_of::<D>(alloc, names)?;
     let SourceSections {
         contributions,
         vectors: _,
-    } = sections_of::<D>(alloc, module, &scope)?;
-    let net = netlist_of::<D>(alloc, module, &scope, contributions)?;
+    } = sections_of::<D>(alloc, source, &scope)?;
+    let net = netlist_of::<D>(alloc, source, &scope, contributions)?;
     match cells_over_room::<D>(alloc, &net) {
         Ok(list) => Ok(list),
         Err(FitFault::OutOfMemory) => Err(CompileFault::OutOfMemory),
@@ -64,8 +65,9 @@ fn put_cells<D: Device>(
     module: Module,
 ) -> Result<(), CompileFault> {
     let placed = placed_module::<D>(alloc, module)?;
-    let names = names_of::<D>(alloc, &placed)?;
-    let cells = overfull_cells::<D>(alloc, &placed, &names)?;
+    let source = parts_of(alloc, &placed)?;
+    let names = names_of::<D>(alloc, &source)?;
+    let cells = overfull_cells::<D>(alloc, &source, &names)?;
     for over in cells.as_slice() {
         put_cell(alloc, text, &names, *over)?;
     }

@@ -8,6 +8,7 @@ use crate::pins::{Flow, flow_of, is_low_register};
 use crate::places::{Origins, origins_of};
 use crate::telling::put_place;
 use abel_tree::{Declared, Meaning, Module};
+use name_uses::ModuleParts;
 use placer::seen_in;
 use pld_base::{NameText, OutOfMemory, level_at};
 use pld_device::Device;
@@ -63,7 +64,8 @@ fn add_unused<D: Device>(
     let names = design.names.list.as_slice();
     let idle = idle_pins::<D>(design)?;
     let (asked, _) = idle.split_at(idle.len().min(MOST_PINS));
-    let seen = seen_in(design.alloc, names, module.sections.as_slice(), asked)?;
+    let source = ModuleParts::new(design.alloc, module)?;
+    let seen = seen_in(design.alloc, names, &source, asked)?;
     for (place, number) in asked.iter().enumerate() {
         if !level_at(seen.read, place as u8) {
             if let Some(declared) = names.get(*number) {
