@@ -18,6 +18,7 @@ use abel_vectors::{SourceSections, all_sections};
 use bit_expr::Netlist;
 use declared_names::{are_numbered, declare, numbered_names};
 use design::{gather, names_are_accepted, sound_modules_are_accepted};
+use name_uses::ModuleParts;
 use pld_base::{OutOfMemory, Vector};
 use pld_device::Device;
 use section_targets::SectionScope;
@@ -38,7 +39,11 @@ pub(crate) fn names_of<D: Device>(alloc: Global, source: &Module) -> Option<Name
     ensures { IfSome result (AreNamesFor D.table (view_module source.now)) }
 {
     numbered_names();
-    match declare::<D>(alloc, source) {
+    let source = match ModuleParts::new(alloc, source) {
+        Ok(source) => source,
+        Err(_) => return None,
+    };
+    match declare::<D>(alloc, &source) {
         Ok(names) => {
             if are_numbered(&names) {
                 Some(names)
@@ -120,8 +125,15 @@ pub(crate) fn gathered<D: Device>(alloc: Global, drawn: Drawn) -> Option<(Module
         vectors,
     } = drawn;
     let scope = scope_of::<D>(alloc, &names).ok()?;
-    match gather::<D>(alloc, &module, &scope, contributions) {
-        Ok(net) => Some((ModuleNet { module, net }, vectors)),
-        Err(_) => None,
-    }
+    let net = {
+        let source = match ModuleParts::new(alloc, &module) {
+            Ok(source) => source,
+            Err(_) => return None,
+        };
+        match gather::<D>(alloc, &source, &scope, contributions) {
+            Ok(net) => net,
+            Err(_) => return None,
+        }
+    };
+    Some((ModuleNet { module, net }, vectors))
 }

@@ -10,6 +10,7 @@ use design_checks::{
     DesignFault, RefusedUse, SignalFault, check_signals, dont_care_control, first_uses,
     missing_control, other_level, registered_node, wrong_kind,
 };
+use name_uses::ModuleParts;
 use pld_device::Sample;
 use std::alloc::Global;
 use test_rows::Found;
@@ -70,8 +71,8 @@ pub(crate) fn put_uses(alloc: Global, names: &Found, text: &str, found: &mut Fou
     let front = "equations n = 1; R := 0; R.OE = !e; Y =";
     let module = row_module(alloc, names, front, text, ";")?;
     let names = names_of::<Sample>(alloc, &module)?;
-    let sections = module.sections.as_slice();
-    let first = first_uses::<Sample>(alloc, &names, sections).ok()?;
+    let source = ModuleParts::new(alloc, &module).ok()?;
+    let first = first_uses::<Sample>(alloc, &names, &source).ok()?;
     put_use(first.missing, found);
     found.text(";");
     put_use(first.unread, found);
@@ -107,7 +108,8 @@ fn check(alloc: Global, drawn: &Drawn) -> Result<(), DesignFault>
     requires { IsDrawn sample drawn.now }
 {
     let scope = scope_of::<Sample>(alloc, &drawn.names)?;
-    check_signals::<Sample>(alloc, &drawn.module, &scope, &drawn.contributions)
+    let source = ModuleParts::new(alloc, &drawn.module)?;
+    check_signals::<Sample>(alloc, &source, &scope, &drawn.contributions)
 }
 
 /// The first refusal of the signals of equations.
