@@ -1,19 +1,18 @@
 //! Expressions: their shapes, their bits at a point, and their refusals.
 
-ghost use Rattle.std.specs.Prelude.{◌≡◌, IfOk, None, length};
+ghost use Rattle.std.specs.Prelude.{length};
 ghost use Rattle.bit_expr.specs.Arena.{arena};
-ghost use Rattle.abel_tree.specs.View.{view};
-ghost use Rattle.set_expr.specs.Answer.{AreIn, refusal_of};
+ghost use Rattle.set_expr.specs.Answer.{AreIn};
 
 use crate::places::{put_blank, put_fault, put_shape};
-use crate::sources::source_of;
+use crate::sources::{ROW, source_of};
 use abel_tree::{Expr, Module, Section, Stmt};
 use bit_expr::{ExprFault, ExprId, Exprs};
 use expr_bits::DeviceScope;
 use pld_base::{Place, Point};
 use pld_device::Sample;
 use section_targets::meet;
-use set_expr::{Scope, SectionFault, Shaped};
+use set_expr::{Scope, SectionFault, Shape, Shaped};
 use std::alloc::Global;
 use test_rows::Found;
 
@@ -28,7 +27,10 @@ const HERE: Point = Point {
 };
 
 /// Where the unit of the value is said to stand.
-const UNIT: Place = Place { line: 1, column: 1 };
+const UNIT: Place = Place {
+    line: ROW,
+    column: 1,
+};
 
 /// The value of the one equation.
 fn value_of(module: &Module) -> Option<&Expr> {
@@ -90,37 +92,13 @@ fn unknown_at(places: &[Option<ExprId>]) -> u32 {
     unknown
 }
 
-/// The bits of an expression of which nothing is refused.
-fn made_bits(
-    alloc: Global,
-    names: &DeviceScope<'_, Sample>,
-    expr: &Expr,
-    exprs: &mut Exprs,
-) -> Result<Shaped, SectionFault>
-    requires accepted { refusal_of names.now (view expr.now) ≡ None }
-    ensures { IfOk result (λ s. AreIn (length (arena exprs.new)) s.places) }
-{
-    match names.bits(alloc, expr, exprs) {
-        Ok(shaped) => Ok(shaped),
-        Err(ExprFault::NodeLimit) => Err(SectionFault::NodeLimit(UNIT)),
-        Err(ExprFault::OutOfMemory) => Err(SectionFault::OutOfMemory),
-    }
-}
-
-/// The bits of an expression, or its first refusal.
-fn bits_of(
-    alloc: Global,
-    names: &DeviceScope<'_, Sample>,
-    expr: &Expr,
-    exprs: &mut Exprs,
-) -> Result<Shaped, SectionFault>
-    ensures { IfOk result (λ s. AreIn (length (arena exprs.new)) s.places) }
-{
-    let checked = names.scope().check(alloc, expr)?;
-    match checked.fault {
-        Some(fault) => Err(fault),
-        None => made_bits(alloc, names, expr, exprs),
-    }
+/// A shape, a number and X positions.
+fn put_number(shape: Shape, number: u32, unknown: u32, found: &mut Found) {
+    put_shape(shape, found);
+    found.text(", ");
+    found.number(number as usize);
+    found.text(", ");
+    found.number(unknown as usize)
 }
 
 /// The shape of an expression, its number at the point, and its X positions; or its first refusal.
@@ -131,18 +109,23 @@ fn put_value(
     found: &mut Found,
 ) -> Option<()> {
     let expr = value_of(module)?;
+    let checked = match names.scope().check(alloc, expr) {
+        Ok(checked) => checked,
+        Err(_) => return None,
+    };
+    if checked.fault.is_some() {
+        put_fault(checked.fault, found);
+        return Some(());
+    }
     let mut exprs = Exprs::new(alloc);
-    match bits_of(alloc, names, expr, &mut exprs) {
+    match names.bits(alloc, expr, &mut exprs) {
         Ok(shaped) => {
             let number = number_at(&exprs, shaped.places.as_slice());
             let unknown = unknown_at(shaped.places.as_slice());
-            put_shape(shaped.shape, found);
-            found.text(", ");
-            found.number(number as usize);
-            found.text(", ");
-            found.number(unknown as usize)
+            put_number(shaped.shape, number, unknown, found)
         }
-        Err(fault) => put_fault(Some(fault), found),
+        Err(ExprFault::NodeLimit) => put_fault(Some(SectionFault::NodeLimit(UNIT)), found),
+        Err(ExprFault::OutOfMemory) => return None,
     }
     Some(())
 }
@@ -150,8 +133,15 @@ fn put_value(
 /// The bits of an expression that isn't refused.
 fn shaped_of(alloc: Global, module: &Module, names: &DeviceScope<'_, Sample>) -> Option<Shaped> {
     let expr = value_of(module)?;
+    let checked = match names.scope().check(alloc, expr) {
+        Ok(checked) => checked,
+        Err(_) => return None,
+    };
+    if checked.fault.is_some() {
+        return None;
+    }
     let mut exprs = Exprs::new(alloc);
-    bits_of(alloc, names, expr, &mut exprs).ok()
+    names.bits(alloc, expr, &mut exprs).ok()
 }
 
 /// The shape of the bits of an expression. They are made and not valued, since they may share their nodes.

@@ -7,6 +7,7 @@ ghost use Rattle.set_expr.specs.Scopes.{AreInOrder, ArePlaced};
 use abel_tree::{Module, Names};
 use declared_names::{are_numbered, declare, numbered_names};
 use module_reader::read_module;
+use name_uses::ModuleParts;
 use pld_device::Device;
 use std::alloc::Global;
 use test_rows::Found;
@@ -48,7 +49,8 @@ fn names_of<D: Device>(alloc: Global, module: &Module) -> Option<Names>
     ensures placed { IfSome result (λ n. ArePlaced n) }
 {
     numbered_names();
-    match declare::<D>(alloc, module) {
+    let source = ModuleParts::new(alloc, module).ok()?;
+    match declare::<D>(alloc, &source) {
         Ok(names) => {
             if are_numbered(&names) {
                 Some(names)

@@ -8,7 +8,7 @@ use crate::sources::{ROW, Source, source_of};
 use bit_expr::{Exprs, Leaf, Node};
 use pld_base::Place;
 use pld_device::Sample;
-use section_targets::{Aim, Assigned, Giving, add_node, check_aims, give};
+use section_targets::{Aim, Assigned, Giver, Giving, Way, add_node, check_aims, give};
 use set_expr::{Contribution, Gives, Guard, Scope};
 use std::alloc::Global;
 use test_rows::Found;
@@ -83,7 +83,11 @@ fn put_given(alloc: Global, scope: &Scope<'_>, found: &mut Found) -> Option<()> 
         return None;
     }
     let mut list: Vec<Contribution> = Vec::new(alloc);
-    match give(scope, giving(guard), THIRD, bit, &mut exprs, &mut list) {
+    let giver = Giver {
+        scope,
+        giving: giving(guard),
+    };
+    match give(&giver, THIRD, bit, &mut exprs, &mut list) {
         Ok(()) => put_contribution(list.as_slice(), found),
         Err(_) => return None,
     }
@@ -103,7 +107,12 @@ fn put_data(
     }
     let aims = [SECOND];
     put_blank(found);
-    match check_aims::<Sample>(scope, None, complement, clocked, &aims, before) {
+    let way = Way {
+        extension: None,
+        complement,
+        clocked,
+    };
+    match check_aims::<Sample>(scope, way, &aims, before) {
         Ok(fault) => put_fault(fault, found),
         Err(_) => return None,
     }

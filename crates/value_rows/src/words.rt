@@ -1,14 +1,14 @@
 //! Words of a few positions: each call once.
 
-ghost use Rattle.std.specs.Prelude.{◌<◌, length};
-ghost use Rattle.bit_expr.specs.Arena.{arena};
+ghost use Rattle.std.specs.Prelude.{◌<◌};
 
 use crate::places::put_blank;
 use abel_tree::{Binary, Unary};
 use bit_expr::{ExprId, Exprs, Leaf, Node};
 use expr_bits::{
-    Bits, Form, complement_word, difference_word, digit_word, dropped, kept_relation, kept_word,
-    meet_word, operator_word, relation_word, resized_word, spread_word, unary_word, width_of_both,
+    Bits, Compared, Form, complement_word, difference_word, digit_word, dropped, kept_relation,
+    kept_word, meet_word, operator_word, relation_word, resized_word, spread_word, unary_word,
+    width_of_both,
 };
 use pld_base::{ListOf, Point};
 use std::alloc::Global;
@@ -50,7 +50,12 @@ fn dropped_relation(alloc: Global) -> Option<Vec<ExprId>> {
     let mut exprs = Exprs::new(alloc);
     let a = exprs.add(Node::Leaf(Leaf::Pin(0))).ok()?;
     let b = exprs.add(Node::Leaf(Leaf::Pin(1))).ok()?;
-    match kept_relation(alloc, &mut exprs, Binary::Equal, &[true], &[a], &[b]) {
+    let words = Compared {
+        dropped: &[true],
+        first: &[a],
+        second: &[b],
+    };
+    match kept_relation(alloc, &mut exprs, Binary::Equal, &words) {
         Ok(equal) => Vec::from_slice(alloc, &[equal]).ok(),
         Err(_) => None,
     }
