@@ -8,13 +8,15 @@ use abel_tree::{Declared, Meaning, Module, Names};
 use declared_names::declare;
 use decls::{NameFault, device_of};
 use devices::on_device;
+use name_uses::ModuleParts;
 use pld_base::{NameText, Place};
 use std::alloc::Global;
 use test_rows::{Found, halves, unescaped};
 
 /// The names for the device that a module names.
 pub fn declared(alloc: Global, module: &Module) -> Result<Names, NameFault> {
-    on_device!(device_of(module)?, declare(alloc, module))
+    let source = ModuleParts::new(alloc, module)?;
+    on_device!(device_of(module)?, declare(alloc, &source))
 }
 
 /// Puts a refusal with its name and its place.
