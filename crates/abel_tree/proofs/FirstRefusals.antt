@@ -9,6 +9,11 @@ sooner_trans a b c x y z p q r h k = grind (arith, nat_tests)
 not_sooner_trans : (a b c x y z p q r : ℕ) → sooner a b c x y z ≡ false → sooner x y z p q r ≡ false → sooner a b c p q r ≡ false
 not_sooner_trans a b c x y z p q r h k = grind (arith, nat_tests)
 
+-- how two are compared
+pub before_by : {F : Type 0} (o : Ranks F) (f g : F) → is_before o f g ≡ sooner (o.place f).line (o.place f).column (o.rank f) (o.place g).line (o.place g).column (o.rank g)
+unfolding is_before
+before_by o f g = refl
+
 -- what comes before an earlier one comes before a later one
 pub before_trans : {F : Type 0} (o : Ranks F) (f g h : F) → is_before o f g ≡ true → is_before o g h ≡ true → is_before o f h ≡ true
 unfolding is_before

@@ -1,5 +1,5 @@
 -- The names that the declarations of a module make (ABEL-HDL Reference Manual, declarations).
-use Rattle.std.specs.Prelude.{ℕ, ◌==◌, Bool, true, false, ◌&&◌, ◌||◌, Option, None, Some, List, [], ◌∷◌, if◌then◌else◌, map, position, bytes_eq}
+use Rattle.std.specs.Prelude.{ℕ, ◌==◌, Bool, true, false, not, ◌&&◌, ◌||◌, Option, None, Some, List, [], ◌∷◌, if◌then◌else◌, map, position, bytes_eq}
 use Rattle.std.specs.Int.RustNames.{bit_and}
 use Rattle.pld_base.specs.declared.place.Place.{Place}
 use Rattle.abel_tree.specs.declared.attributes.Attributes.{Attributes}
@@ -47,6 +47,14 @@ pub record Entry : Type 0 where
 
 abbrev pub view_declared : Declared → Entry
 view_declared d = record { name = d.name; place = d.place; kind = view_meaning d.meaning; words = view_attributes d.attributes; assigned = d.assigned }
+
+-- the signal is stored in a register; one that is assigned nothing counts as combinational
+abbrev pub is_stored : Entry → Bool
+is_stored x = x.words.registered && x.assigned
+
+-- the pin of a register follows Q: so it is of one that doesn't invert, a free one too, until it is chosen
+abbrev pub follows_q : Entry → Bool
+follows_q x = not x.words.invert
 
 -- the names in the order of their declarations
 abbrev pub entries_of : Names → List Entry

@@ -7,6 +7,10 @@ pub record Ranks (F : Type 0) : Type 0 where
   pub place : F → Place
   pub rank : F → ℕ
 
+-- places by themselves
+abbrev pub place_order : Ranks Place
+place_order = record { place = λ p. p; rank = λ p. 0 }
+
 -- three numbers before three others: the first that differ decide
 abbrev pub sooner : (a b c x y z : ℕ) → Bool
 sooner a b c x y z = if a == x then (if b == y then nat_lt c z else nat_lt b y) else nat_lt a x

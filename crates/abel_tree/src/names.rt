@@ -1,7 +1,11 @@
 //! The names that the declarations of a module make.
 
+ghost use Rattle.std.specs.Prelude.{◌≡◌};
+ghost use Rattle.abel_tree.specs.Entries.{follows_q, is_stored, view_declared};
+
 use crate::attributes::Attributes;
 use crate::expressions::Expr;
+use bitflags::Flags;
 use pld_base::{DeviceName, ListOf, NameText, Place};
 
 /// What a name is declared as. A pin is `negated` where the name is the complement of its level.
@@ -22,6 +26,29 @@ pub struct Declared {
     pub meaning: Meaning,
     pub attributes: Attributes,
     pub assigned: bool,
+}
+
+impl Declared {
+    /// Whether its attributes say registered.
+    pub fn is_registered(&self) -> bool
+        ensures { result ≡ (view_declared self.now).words.registered }
+    {
+        self.attributes.contains(Attributes::REG)
+    }
+
+    /// Whether the signal is stored in a register; one that is assigned nothing counts as combinational.
+    pub fn is_stored(&self) -> bool
+        ensures { result ≡ is_stored (view_declared self.now) }
+    {
+        self.is_registered() && self.assigned
+    }
+
+    /// Whether the pin of a register follows Q, as it does where nothing says otherwise.
+    pub fn follows_q(&self) -> bool
+        ensures { result ≡ follows_q (view_declared self.now) }
+    {
+        !self.attributes.contains(Attributes::INVERT)
+    }
 }
 
 /// The names of a module in the order of their declarations, and its device. A number of a name is its

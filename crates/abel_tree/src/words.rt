@@ -1,5 +1,8 @@
 //! The smallest parts of the tree: words, numbers, names and signs.
 
+ghost use Rattle.std.specs.Prelude.{◌≡◌};
+ghost use Rattle.abel_tree.specs.Extensions.{innermost, is_data, is_raw};
+
 use pld_base::{NameText, Place};
 
 /// The text and the place of a token. A string's text keeps its quotes.
@@ -50,6 +53,32 @@ pub enum Extension {
     Q,
     Fb,
     Pin,
+}
+
+impl Extension {
+    /// Whether a target with this extension is data: the name itself, or the raw input of its register.
+    pub fn is_data(extension: Option<Extension>) -> bool
+        ensures { result ≡ is_data extension }
+    {
+        matches!(extension, None | Some(Extension::D))
+    }
+
+    /// Whether it is the raw input of a register.
+    pub fn is_raw(extension: Option<Extension>) -> bool
+        ensures { result ≡ is_raw extension }
+    {
+        matches!(extension, Some(Extension::D))
+    }
+
+    /// The extension that counts of two, of which the first stands inside.
+    pub fn innermost(own: Option<Extension>, outer: Option<Extension>) -> Option<Extension>
+        ensures { result ≡ innermost own outer }
+    {
+        match own {
+            Some(extension) => Some(extension),
+            None => outer,
+        }
+    }
 }
 
 /// The sign of an assignment: `=`, `:=`, `?=`, `?:=`.
