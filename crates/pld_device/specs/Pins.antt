@@ -1,5 +1,5 @@
 -- The pins of a device's pairs and cells (this project's rule).
-use Rattle.std.specs.Prelude.{◌≡◌, ◌≢◌, ℕ, ◌<◌, ◌≤◌, Some, List, length, map, slice_get}
+use Rattle.std.specs.Prelude.{◌≡◌, ◌≢◌, ℕ, Bool, false, ◌==◌, ◌<◌, ◌≤◌, Option, Some, List, length, map, position, slice_get}
 use Rattle.pld_device.specs.declared.carry.Carry.{Carry}
 use Rattle.pld_device.specs.declared.carry.Carry.TheVariants as carry
 use Rattle.pld_device.specs.declared.cell.Cell.{Cell}
@@ -17,6 +17,15 @@ pair_pins t = map (pin_carried t) t.pairs
 -- the pins of the cells, from cell 0
 abbrev pub cell_pins : Table → List ℕ
 cell_pins t = map (λ (cell : Cell). cell.pin) t.cells
+
+-- the cell on a pin
+abbrev pub cell_on : Table → (pin : ℕ) → Option ℕ
+cell_on t pin = position (λ (c : Cell). c.pin == pin) t.cells
+
+-- the pair carries the cell
+abbrev pub carries_cell : ℕ → Carry → Bool
+carries_cell c (carry.Pin p) = false
+carries_cell c (carry.Cell d) = d == c
 
 -- the pair carries the pin, or the cell on the pin
 abbrev pub IsPairOf : Table → (pin pair : ℕ) → Type 0

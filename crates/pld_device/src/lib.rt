@@ -12,6 +12,7 @@ mod fuse_bit;
 mod fuses;
 mod kinds;
 mod laws;
+mod lookups;
 mod part;
 mod sample;
 
@@ -26,5 +27,6 @@ pub use fuse_bit::FuseBit;
 pub use fuses::Fuses;
 pub use kinds::Kinds;
 pub use laws::{rows, tables};
+pub use lookups::{cell_on, pair_of_cell, pair_of_pin};
 pub use part::Part;
 pub use sample::Sample;

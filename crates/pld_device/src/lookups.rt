@@ -1,0 +1,57 @@
+//! Where a device's pins and cells stand in its table.
+
+ghost use Rattle.std.specs.Prelude.{◌≡◌, ◌<◌, ◌==◌, ℕ, IfSome, Some, length, position, slice_get};
+ghost use Rattle.pld_device.specs.Pins.{carries_cell, cell_on, pair_pins};
+
+use crate::carry::Carry;
+use crate::device::Device;
+
+/// The cell on a pin. Takes no memory.
+pub fn cell_on<D: Device>(pin: u8) -> Option<u8>
+    ensures cell { result ≡ cell_on D.table pin }
+    ensures within { IfSome result (λ c. c < length D.table.cells) }
+{
+    for index in 0..D::CELLS {
+        if D::cell(index).pin == pin {
+            return Some(index);
+        }
+    }
+    None
+}
+
+/// The pin that a pair carries, or the pin of the cell.
+fn pin_carried<D: Device>(pair: u16) -> u8
+    requires { pair < length D.table.pairs }
+    ensures { slice_get (pair_pins D.table) pair ≡ Some result }
+{
+    match D::carries(pair) {
+        Carry::Pin(pin) => pin,
+        Carry::Cell(cell) => D::cell(cell).pin,
+    }
+}
+
+/// The pair of columns that carries a pin, or the cell on it. Takes no memory.
+pub fn pair_of_pin<D: Device>(pin: u8) -> Option<u16>
+    ensures pair { result ≡ position (λ (p : ℕ). p == pin) (pair_pins D.table) }
+    ensures within { IfSome result (λ p. p < length D.table.pairs) }
+{
+    for pair in 0..D::COLUMNS / 2 {
+        if pin_carried::<D>(pair) == pin {
+            return Some(pair);
+        }
+    }
+    None
+}
+
+/// The pair of columns that carries a cell. Takes no memory.
+pub fn pair_of_cell<D: Device>(cell: u8) -> Option<u16>
+    ensures pair { result ≡ position (carries_cell cell) D.table.pairs }
+    ensures within { IfSome result (λ p. p < length D.table.pairs) }
+{
+    for pair in 0..D::COLUMNS / 2 {
+        if D::carries(pair).is_cell(cell) {
+            return Some(pair);
+        }
+    }
+    None
+}
