@@ -8,9 +8,10 @@ use Rattle.pld_device.specs.Table.{Table, IsDataRow, cell_at}
 use Rattle.pld_device.specs.Registers.{stores}
 use Rattle.pld_device.specs.Given.{never_drives}
 use Rattle.pld_device.specs.Reads.{row_reads}
+use Rattle.pld_device.specs.Pins.{carries_cell}
 use Rattle.device_logic.specs.PairReads.{pair_reads}
 use Rattle.device_logic.proofs.Runs.{any_at}
-use Rattle.device_logic.specs.CellReads.{carries_cell, pairs_read, row_reads_cell, enable_reads, data_reads, rest_reads, cell_reads}
+use Rattle.device_logic.specs.CellReads.{pairs_read, row_reads_cell, enable_reads, data_reads, rest_reads, cell_reads}
 
 same_carry : (x y : Carry) → Some x ≡ Some y → x ≡ y
 same_carry x y e = cc

@@ -9,14 +9,10 @@ use Rattle.pld_device.specs.declared.enable.Enable.TheVariants.{Row, PinLow}
 use Rattle.pld_device.specs.Table.{Table, cell_at}
 use Rattle.pld_device.specs.Given.{never_drives}
 use Rattle.pld_device.specs.Macrocells.{data_rows}
+use Rattle.pld_device.specs.Pins.{carries_cell}
 use Rattle.pld_device.specs.Reads.{row_reads}
 use Rattle.pld_order.specs.Graphs.{IsOrder}
 use Rattle.pld_device.specs.Registers.{stores}
-
--- the pair carries what the cell feeds back: a register's Q, else the level of the cell's pin
-abbrev pub carries_cell : ℕ → Carry → Bool
-carries_cell d (carry.Pin pin) = false
-carries_cell d (carry.Cell c) = c == d
 
 -- some pair from this number on that the row reads carries it
 abbrev pub pairs_read : Table → List Bool → (row d pair : ℕ) → List Carry → Bool

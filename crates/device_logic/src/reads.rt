@@ -4,24 +4,14 @@ ghost use Rattle.std.specs.Prelude.{◌≡◌, ◌+◌, ◌<◌, ◌≤◌, IfSo
 ghost use Rattle.std.specs.List.{list_any, range_with_len};
 ghost use Rattle.pld_device.specs.Given.{enables_never};
 ghost use Rattle.device_logic.specs.Array.{EnableInRange};
-ghost use Rattle.device_logic.specs.CellReads.{carries_cell, cell_reads, data_reads};
+ghost use Rattle.device_logic.specs.CellReads.{cell_reads, data_reads};
 ghost use Rattle.device_logic.specs.CellReads.{enable_reads, rest_reads, row_reads_cell};
 ghost use Rattle.device_logic.specs.PairReads.{pair_reads};
 ghost use Rattle.device_logic.specs.ResetPaths.{plain_reads, row_reads_if_any};
 
 use crate::array::FuseArray;
 use crate::lookups::{carry_of, cell_of};
-use pld_device::{Carry, Device, Enable};
-
-/// Whether the pair carries what the cell feeds back.
-fn carries_cell(carry: Carry, cell: u8) -> bool
-    ensures { result ≡ carries_cell cell carry }
-{
-    match carry {
-        Carry::Pin(_pin) => false,
-        Carry::Cell(other) => other == cell,
-    }
-}
+use pld_device::{Device, Enable};
 
 /// Whether the row reads the pair, and the pair carries what the cell feeds back.
 fn pair_reads<D: Device>(array: &FuseArray<D>, row: u16, pair: u16, cell: u8) -> bool
@@ -30,7 +20,7 @@ fn pair_reads<D: Device>(array: &FuseArray<D>, row: u16, pair: u16, cell: u8) ->
     requires cell { cell < length D.table.cells }
     ensures { result ≡ pair_reads D.table array.now row cell pair }
 {
-    array.row_reads(row, pair) && carries_cell(carry_of::<D>(pair), cell)
+    array.row_reads(row, pair) && carry_of::<D>(pair).is_cell(cell)
 }
 
 /// Whether the row reads the cell.
