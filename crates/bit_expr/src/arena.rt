@@ -56,6 +56,13 @@ impl Exprs {
         }
     }
 
+    /// How many nodes were made, the constants not counted. Takes no memory.
+    pub fn made(&self) -> usize
+        ensures { result ≡ length self.now }
+    {
+        self.kept.len()
+    }
+
     /// The node of an id, over earlier ids. Takes no memory.
     pub fn get(&self, id: ExprId) -> Node
         requires { id.0 < length (arena self.now) }
