@@ -5,10 +5,10 @@ use Rattle.pld_base.specs.Logic.{Logic}
 use Rattle.pld_machine.specs.Comparison.{NodeValues}
 use Rattle.pld_machine.specs.Exchanged.{exchanged, exchanged_values}
 use Rattle.pld_device.specs.Table.{Table}
-use Rattle.abel_tree.specs.Entries.{Entry}
+use Rattle.abel_tree.specs.Entries.{Entry, is_stored}
 use Rattle.abel_tree.specs.Tree.{ModuleTree}
 use Rattle.abel_meaning.specs.Controls.{signal_on}
-use Rattle.abel_meaning.specs.Designs.{Context, design_of, is_stored, name_at}
+use Rattle.abel_meaning.specs.Designs.{Context, design_of, name_at}
 use Rattle.abel_meaning.specs.SourceLogic.{source_logic, source_values}
 
 -- a register whose words say neither that its pin follows Q nor that it follows the complement

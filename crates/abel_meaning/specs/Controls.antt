@@ -10,8 +10,8 @@ use Rattle.pld_device.specs.declared.kinds.Kinds.TheVariants.{Combinational, Reg
 use Rattle.pld_device.specs.Table.{cell_at}
 use Rattle.abel_tree.specs.declared.words.Extension.{Extension}
 use Rattle.abel_tree.specs.declared.words.Extension.TheVariants as extension
-use Rattle.abel_tree.specs.Entries.{Kind, APin, Entry}
-use Rattle.abel_meaning.specs.Designs.{Context, name_at, is_stored}
+use Rattle.abel_tree.specs.Entries.{Kind, APin, Entry, is_stored}
+use Rattle.abel_meaning.specs.Designs.{Context, name_at}
 use Rattle.abel_meaning.specs.Contributions.{Evaluator, Contribution}
 use Rattle.abel_meaning.specs.Functions.{some_holds}
 

@@ -1,6 +1,5 @@
 -- The design that a module describes for a device (ABEL-HDL Reference Manual, declarations and directives).
-use Rattle.std.specs.Prelude.{ℕ, ◌==◌, Bool, false, not, ◌&&◌, Option, List, [], ◌∷◌, get_or, position}
-use Rattle.pld_device.specs.declared.cell.Cell.{Cell}
+use Rattle.std.specs.Prelude.{ℕ, Bool, false, List, [], ◌∷◌, get_or}
 use Rattle.pld_device.specs.Table.{Table}
 use Rattle.abel_tree.specs.Entries.{ADeviceName, Entry}
 use Rattle.abel_tree.specs.Tree.{Declaration, DontCareFor, SectionTree, ModuleTree}
@@ -50,15 +49,3 @@ no_name = record { name = []; place = record { line = 0; column = 0 }; kind = AD
 -- the name of a number
 abbrev pub name_at : Context → ℕ → Entry
 name_at d s = get_or d.names s no_name
-
--- the signal is stored in a register; one that is assigned nothing counts as combinational
-abbrev pub is_stored : Entry → Bool
-is_stored x = x.words.registered && x.assigned
-
--- the pin of a register follows Q: so it is of one that doesn't invert, a free one too, until it is chosen
-abbrev pub follows_q : Entry → Bool
-follows_q x = not x.words.invert
-
--- the cell on a pin
-abbrev pub cell_on : Table → (pin : ℕ) → Option ℕ
-cell_on t pin = position (λ (c : Cell). c.pin == pin) t.cells

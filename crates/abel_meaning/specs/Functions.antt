@@ -4,7 +4,7 @@ use Rattle.std.specs.Prelude.{ℕ, ◌==◌, Bool, true, false, not, ◌&&◌, �
 use Rattle.std.specs.List.{list_any, list_all}
 use Rattle.pld_base.specs.Bits.{same_level}
 use Rattle.pld_device.specs.Macrocells.{complement_if}
-use Rattle.abel_meaning.specs.Targets.{is_data, is_raw}
+use Rattle.abel_tree.specs.Extensions.{is_data, is_raw}
 use Rattle.abel_meaning.specs.Contributions.{Evaluator, Gives, One, Any, Match, Contribution}
 
 -- where a signal is one, and where it may be anything; said of its complement where `complement` is true

@@ -6,8 +6,9 @@ use Rattle.bit_expr.specs.declared.node.Leaf.{Leaf}
 use Rattle.bit_expr.specs.declared.node.Leaf.TheVariants as leaf
 use Rattle.bit_expr.specs.Formulas.{Formula, names}
 use Rattle.abel_tree.specs.declared.words.Extension.TheVariants as extension
-use Rattle.abel_tree.specs.Entries.{Kind, APin, ANode, Entry}
-use Rattle.abel_meaning.specs.Designs.{Context, Design, name_at, is_stored, cell_on}
+use Rattle.abel_tree.specs.Entries.{Kind, APin, ANode, Entry, is_stored}
+use Rattle.pld_device.specs.Pins.{cell_on}
+use Rattle.abel_meaning.specs.Designs.{Context, Design, name_at}
 use Rattle.abel_meaning.specs.Contributions.{Contribution}
 use Rattle.abel_meaning.specs.Sections.{contributions}
 use Rattle.abel_meaning.specs.Functions.{Function, function_of}

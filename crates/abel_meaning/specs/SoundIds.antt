@@ -1,9 +1,7 @@
 -- Netlists over an arena that a device can take: their ids lie in it, and their pairs are the device's (this
 -- project's rule).
-use Rattle.std.specs.Prelude.{◌≡◌, ℕ, ◌<◌, Bool, false, ◌==◌, Option, Some, None, length, All, get_or, position, unwrap_or}
-use Rattle.pld_device.specs.declared.carry.Carry.{Carry}
-use Rattle.pld_device.specs.declared.carry.Carry.TheVariants as carry
-use Rattle.pld_device.specs.Pins.{pair_pins}
+use Rattle.std.specs.Prelude.{◌≡◌, ℕ, ◌<◌, ◌==◌, Option, Some, None, length, All, get_or, position, unwrap_or}
+use Rattle.pld_device.specs.Pins.{carries_cell, pair_pins}
 use Rattle.pld_device.specs.Table.{Table}
 use Rattle.bit_expr.specs.declared.netlist.CellWanted.{CellWanted}
 use Rattle.bit_expr.specs.declared.netlist.Control.{Control}
@@ -41,11 +39,6 @@ pub record IsCellIn (count : ℕ) (w : CellWanted) : Type 0 where
 -- what stands for a pair where there is none
 abbrev pub no_pair : ℕ
 no_pair = 255
-
--- the pair carries the cell
-abbrev pub carries_cell : ℕ → Carry → Bool
-carries_cell c (carry.Pin p) = false
-carries_cell c (carry.Cell d) = d == c
 
 -- the pair of a pin, or of the cell on it
 abbrev pub pair_of_pin : Table → ℕ → ℕ

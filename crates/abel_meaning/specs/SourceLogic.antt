@@ -7,9 +7,9 @@ use Rattle.pld_machine.specs.Comparison.{NodeValues}
 use Rattle.pld_device.specs.Macrocells.{complement_if}
 use Rattle.pld_device.specs.Table.{Table, cell_at}
 use Rattle.abel_tree.specs.declared.words.Extension.TheVariants as extension
-use Rattle.abel_tree.specs.Entries.{Kind, APin, ANode, Entry}
+use Rattle.abel_tree.specs.Entries.{Kind, APin, ANode, Entry, is_stored, follows_q}
 use Rattle.abel_tree.specs.Tree.{ModuleTree}
-use Rattle.abel_meaning.specs.Designs.{Context, Design, design_of, name_at, is_stored, follows_q}
+use Rattle.abel_meaning.specs.Designs.{Context, Design, design_of, name_at}
 use Rattle.abel_meaning.specs.Contributions.{Contribution}
 use Rattle.abel_meaning.specs.AtPoints.{truth_at, given_at}
 use Rattle.abel_meaning.specs.Functions.{Function, function_of, allows, value_with_any_0, is_raw_signal}
