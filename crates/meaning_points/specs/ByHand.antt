@@ -5,7 +5,8 @@ use Rattle.std.specs.List.{list_any, range_with_len}
 use Rattle.pld_base.specs.Points.{Levels}
 use Rattle.abel_tree.specs.Entries.{Kind, APin, find}
 use Rattle.abel_tree.specs.Tree.{Tree}
-use Rattle.abel_meaning.specs.Designs.{Context, Design, name_at, cell_on}
+use Rattle.pld_device.specs.Pins.{cell_on}
+use Rattle.abel_meaning.specs.Designs.{Context, Design, name_at}
 use Rattle.abel_meaning.specs.Terms.{term_of}
 use Rattle.abel_meaning.specs.Values.{term_value}
 use Rattle.abel_meaning.specs.AtPoints.{truth_at, given_at}
