@@ -11,7 +11,8 @@ use Rattle.abel_tree.specs.declared.expressions.Member.{Member}
 use Rattle.abel_tree.specs.Assigned.{without_extension}
 use Rattle.abel_tree.specs.Tree.{Tree, SetMember, members_of, Statement, statements_of, Branch, choices_of}
 use Rattle.abel_tree.specs.View.{view, view_member, view_stmt}
-use Rattle.name_uses.specs.NamesUsed.{innermost, member_used, members_used, names_used}
+use Rattle.abel_tree.specs.Extensions.{innermost}
+use Rattle.name_uses.specs.NamesUsed.{member_used, members_used, names_used}
 use Rattle.name_uses.specs.Parts.{parts_in_choice, parts_in_choices, parts_in_statement, parts_in_statements}
 
 members_listed : (outer : Option Extension) (ms : List SetMember) → members_used outer (members_of ms) ≡ flat_map (member_used outer) ms

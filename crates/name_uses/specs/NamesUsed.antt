@@ -3,6 +3,7 @@
 use Rattle.std.specs.Prelude.{Option, None, Some, List, [], ◌∷◌, ◌++◌}
 use Rattle.abel_tree.specs.declared.words.Extension.{Extension}
 use Rattle.abel_tree.specs.declared.words.Word.{Word}
+use Rattle.abel_tree.specs.Extensions.{innermost}
 use Rattle.abel_tree.specs.Tree.{Tree, ANumber, ASpecial, AName, ASet, AParen, AUnary, ABinary, SetMember, OneMember, SpanMember, Members, NoMember, MoreMembers}
 
 -- a name, or the names of a range from the first up or down to the last
@@ -10,11 +11,6 @@ pub record UsedName : Type 0 where
   pub first : Word
   pub last : Option Word
   pub extension : Option Extension
-
--- the extension that counts of two, of which the first stands inside
-abbrev pub innermost : (own outer : Option Extension) → Option Extension
-innermost (Some e) outer = Some e
-innermost None outer = outer
 
 -- the names of an expression in a set with this extension
 abbrev mutual

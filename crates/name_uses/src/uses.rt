@@ -4,23 +4,13 @@ ghost use Rattle.std.specs.Prelude.{◌≡◌, ◌++◌, IfOk, None, OnOk, map};
 ghost use Rattle.std.specs.List.{flat_map};
 ghost use Rattle.abel_tree.specs.Assigned.{without_extension};
 ghost use Rattle.abel_tree.specs.View.{view, view_member};
-ghost use Rattle.name_uses.specs.NamesUsed.{innermost, member_used, names_used};
+ghost use Rattle.name_uses.specs.NamesUsed.{member_used, names_used};
 ghost use Rattle.name_uses.specs.Viewed.{view_use};
 
 use crate::name_use::NameUse;
 use abel_tree::{Expr, Extension, Member};
 use pld_base::OutOfMemory;
 use std::alloc::Global;
-
-/// The extension that counts of two, of which the first stands inside.
-fn innermost(own: Option<Extension>, outer: Option<Extension>) -> Option<Extension>
-    ensures { result ≡ innermost own outer }
-{
-    match own {
-        Some(extension) => Some(extension),
-        None => outer,
-    }
-}
 
 /// Appends the names that an expression uses in a set with this extension. Calls go as deep as the nestings, however many
 /// operators stand in a row.
@@ -74,7 +64,7 @@ fn put_level<'a>(
             uses.push(NameUse {
                 first: word,
                 last: None,
-                extension: innermost(*extension, outer),
+                extension: Extension::innermost(*extension, outer),
             })?;
             Ok(())
         }
@@ -85,7 +75,7 @@ fn put_level<'a>(
         } => put_members(
             alloc,
             uses,
-            innermost(*extension, outer),
+            Extension::innermost(*extension, outer),
             members.as_slice(),
         ),
         Expr::Paren { place: _, inner } => put_expr(alloc, uses, outer, inner.get()),
