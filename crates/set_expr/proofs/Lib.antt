@@ -1,4 +1,3 @@
-pub mod FaultOrder
 pub mod FoundMembers
 pub mod Looked
 pub mod NamesMore

@@ -13,11 +13,12 @@ ghost use Rattle.set_expr.specs.Members.{AreSummedUp};
 ghost use Rattle.set_expr.specs.SectionOrder.{section_order};
 
 use crate::checked::Checked;
-use crate::fault::{SectionFault, earlier};
+use crate::fault::SectionFault;
 use crate::known::KnownNames;
 use crate::known_name::KnownName;
 use crate::rules::settled;
 use crate::shaped::Shape;
+use abel_tree::earlier;
 use pld_base::Place;
 
 /// A value of a shape without X positions.

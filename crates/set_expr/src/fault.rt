@@ -1,10 +1,6 @@
 //! Why a section is refused.
 
-ghost use Rattle.std.specs.Prelude.{◌≡◌};
-ghost use Rattle.abel_tree.specs.FirstRefusal.{is_before};
-ghost use Rattle.abel_tree.specs.FirstRefusal as refusal;
-ghost use Rattle.set_expr.specs.SectionOrder.{section_order, place_of, rank_of};
-
+use abel_tree::Ranked;
 use pld_base::{OutOfMemory, Place};
 use std::alloc::{AllocError, AllocFailed};
 use thiserror::Error;
@@ -49,11 +45,13 @@ pub enum SectionFault {
     OutOfMemory,
 }
 
-impl SectionFault {
-    /// Where it stands; want of memory stands at line 0.
-    pub fn place(&self) -> Place
-        ensures { result ≡ place_of self.now }
-    {
+impl Ranked for SectionFault {
+    ghost use Rattle.set_expr.specs.SectionOrder.{section_order};
+
+    ghost ranks = { section_order };
+
+    /// Want of memory stands at line 0.
+    fn place(&self) -> Place {
         match *self {
             SectionFault::MisplacedSpecial(place) => place,
             SectionFault::NotConstant(place) => place,
@@ -69,10 +67,7 @@ impl SectionFault {
         }
     }
 
-    /// Which comes first at one place.
-    fn rank(&self) -> u8
-        ensures { result ≡ rank_of self.now }
-    {
+    fn rank(&self) -> u8 {
         match *self {
             SectionFault::MisplacedSpecial(_) => 0,
             SectionFault::NotConstant(_) => 1,
@@ -86,38 +81,6 @@ impl SectionFault {
             SectionFault::NodeLimit(_) => 9,
             SectionFault::OutOfMemory => 10,
         }
-    }
-
-    /// Whether it comes before another: by line, by column, and at one place by kind.
-    #[tactic(auto, using(crate::proofs::FaultOrder::before_by))]
-    pub fn is_before(&self, other: &SectionFault) -> bool
-        ensures { result ≡ is_before section_order self.now other.now }
-    {
-        let (here, there) = (self.place(), other.place());
-        if here.line != there.line {
-            return here.line < there.line;
-        }
-        if here.column != there.column {
-            return here.column < there.column;
-        }
-        self.rank() < other.rank()
-    }
-}
-
-/// The first of two refusals that may be none.
-pub fn earlier(left: Option<SectionFault>, right: Option<SectionFault>) -> Option<SectionFault>
-    ensures { result ≡ refusal.earlier section_order left right }
-{
-    match (left, right) {
-        (Some(here), Some(there)) => {
-            if there.is_before(&here) {
-                Some(there)
-            } else {
-                Some(here)
-            }
-        }
-        (Some(here), None) => Some(here),
-        (None, right) => right,
     }
 }
 

@@ -6,8 +6,9 @@ ghost use Rattle.set_expr.specs.KnownNames.{under};
 ghost use Rattle.set_expr.specs.Kept.{with_unknown};
 ghost use Rattle.set_expr.specs.SectionOrder.{section_order};
 
-use crate::fault::{SectionFault, earlier};
+use crate::fault::SectionFault;
 use crate::known_name::KnownName;
+use abel_tree::earlier;
 use indexmap::IndexMap;
 use pld_base::OutOfMemory;
 use std::alloc::Global;

@@ -17,7 +17,7 @@ mod walking;
 
 pub use checked::Checked;
 pub use contributions::{Contribution, Contributions, Gives, Guard, Target};
-pub use fault::{SectionFault, earlier};
+pub use fault::SectionFault;
 pub use known::KnownNames;
 pub use known_name::KnownName;
 pub use learning::known_names;

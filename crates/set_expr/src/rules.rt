@@ -11,11 +11,11 @@ ghost use Rattle.set_expr.specs.Shapes.{HasShape, meant, said};
 ghost use Rattle.set_expr.specs.SectionOrder.{section_order};
 
 use crate::checked::Checked;
-use crate::fault::{SectionFault, earlier};
+use crate::fault::SectionFault;
 use crate::numbers::{number_of, number_under};
 use crate::shaped::Shape;
 use crate::signs::is_relation;
-use abel_tree::{Binary, Unary};
+use abel_tree::{Binary, Unary, earlier};
 use pld_base::Place;
 
 /// The shape of what an operator gives.
