@@ -4,7 +4,7 @@ use Rattle.bit_expr.specs.declared.node.Node.{Node}
 use Rattle.bit_expr.specs.Arena.{arena}
 use Rattle.abel_tree.specs.declared.names.Names.{Names}
 use Rattle.abel_tree.specs.Entries.{entries_of}
-use Rattle.abel_tree.specs.FirstRefusal.{Ranks, earlier, first_refusal, is_before}
+use Rattle.abel_tree.proofs.FirstRefusals.{none_refused}
 use Rattle.abel_tree.specs.Tree.{Tree}
 use Rattle.abel_meaning.specs.Designs.{Context}
 use Rattle.abel_meaning.specs.FormulaBits.{bits_of}
@@ -30,20 +30,6 @@ use Rattle.expr_bits.proofs.Linked.{IsLinkedIf, expression_linked}
 use Rattle.expr_bits.proofs.Links.{SameKind, Sound}
 use Rattle.expr_bits.proofs.StackLaws.{normal_is}
 
--- ---- refusals
-
-earlier_some : (o : Ranks SectionFault) (f : SectionFault) (g : Option SectionFault) → earlier o (Some f) g ≡ None → ⊥
-earlier_some o f None e = cc
-earlier_some o f (Some g) e = by (is_before o g f) e
-  where
-    by : (b : Bool) → (if b then Some g else Some f) ≡ None → ⊥
-    by true e = cc
-    by false e = cc
-
-none_refused : (fs : List SectionFault) → first_refusal section_order fs ≡ None → fs ≡ []
-none_refused [] e = refl
-none_refused (f ∷ fs) e = absurd (earlier_some section_order f (first_refusal section_order fs) e)
-
 -- ---- values
 
 record IsFound (d : Context) (t : Term) : Type 0 where
@@ -60,7 +46,7 @@ found : (n : Names) (d : Context) (t : Tree) → refusal_of n t ≡ None → IsF
 found n d t e =
     let l = expression_linked d (entries_of n) t in
     let f = expression_found (entries_of n) t in
-    found_if d f.value f.specials (term_of (known_of (entries_of n)) t) (l.valued (none_refused f.refusals e)) l.linked
+    found_if d f.value f.specials (term_of (known_of (entries_of n)) t) (l.valued (none_refused section_order f.refusals (sym e))) l.linked
 
 few_by : (f : Form) (v : Value) (k : ℕ) → HasForm f v k → width_of v.shape ≤ 32 → k < 256
 few_by (form.Number n) v k h w = omega (arith, h.1)

@@ -1,6 +1,7 @@
 -- An inner extension wins over an outer one; an extension of a set is that of each member.
 use Rattle.std.proofs.Common.{◌≡◌, ℕ, Option, None, Some, List, [], ◌∷◌, ◌++◌, refl, sym, ap, ap₂, ◌∙◌, append_assoc}
 use Rattle.abel_tree.specs.declared.words.Extension.{Extension}
+use Rattle.abel_tree.specs.Extensions.{innermost}
 use Rattle.abel_tree.specs.Tree.{SetMember, OneMember, SpanMember, members_of}
 use Rattle.abel_tree.specs.Ranges.{range_names}
 use Rattle.abel_meaning.specs.Terms.{Term, Terms, NoTerm, Before, Known, extended, extended_each, extended_if, term_named, terms_of, member_before, named_before}
@@ -26,6 +27,10 @@ mutual
 pub inner_wins : (e : Extension) (o : Option Extension) (t : Term) → extended_if (Some e) t ≡ extended_if o (extended_if (Some e) t)
 inner_wins e None t = refl
 inner_wins e (Some f) t = twice e f t
+
+pub innermost_wins : (own outer : Option Extension) (t : Term) → extended_if (innermost own outer) t ≡ extended_if outer (extended_if own t)
+innermost_wins None outer t = refl
+innermost_wins (Some e) outer t = inner_wins e outer t
 
 -- ---- sets
 

@@ -5,13 +5,12 @@ use Rattle.bit_expr.specs.declared.node.Node.{Node}
 use Rattle.bit_expr.specs.Arena.{arena}
 use Rattle.bit_expr.proofs.ArenaLists.{arena_count, low_formula}
 use Rattle.abel_meaning.specs.Designs.{Context}
-use Rattle.abel_meaning.specs.FormulaBits.{bits_of}
 use Rattle.abel_meaning.specs.Terms.{Term}
 use Rattle.expr_bits.specs.Making.{AllIn, word_at, Makes}
 use Rattle.expr_bits.specs.declared.forms.Bits.{Bits}
 use Rattle.expr_bits.specs.Parts.{Part, IsPart}
 use Rattle.expr_bits.specs.Steps.{term_part}
-use Rattle.expr_bits.specs.Still.{AreConstant, IsFree, IsKept}
+use Rattle.expr_bits.specs.Still.{IsKept}
 
 -- ---- bits of an arena without nodes
 
@@ -34,9 +33,9 @@ anywhere old ns b p e is =
     }
 
 -- what is built alone without a node is kept
-pub kept_alone : (d : Context) (new : List Node) (b : Bits) (t : Term) → IsFree AreConstant (bits_of d t) → Makes IsPart [] new (Ok b) (term_part d t) → IsKept d b t
-kept_alone d new b t still made =
+pub kept_alone : (d : Context) (new : List Node) (b : Bits) (t : Term) → length new ≡ 0 → Makes IsPart [] new (Ok b) (term_part d t) → IsKept d b t
+kept_alone d new b t none made =
     record {
-      free = still;
-      shows = λ ns. anywhere new ns b (term_part d t).what (omega (arith, made.grew.count, arena_count [], still.0)) made.shows;
+      free = omega (arith, none, made.grew.count, arena_count [], arena_count new);
+      shows = λ ns. anywhere new ns b (term_part d t).what (omega (arith, none, arena_count new)) made.shows;
     }

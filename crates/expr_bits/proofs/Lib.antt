@@ -1,11 +1,10 @@
 pub mod Accepted
 pub mod AlongWords
 pub mod Blank
-pub mod CellPlaces
 pub mod Coming
-pub mod ConstantWords
 pub mod Contexts
 pub mod Extensions
+pub mod FoldedWords
 pub mod Joining
 pub mod KeptBits
 pub mod Linked

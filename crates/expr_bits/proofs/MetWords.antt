@@ -1,6 +1,7 @@
 -- Values in so many positions.
-use Rattle.std.proofs.Common.{◌≡◌, ℕ, zero, suc, ◌+◌, ◌/◌, ◌<◌, ◌≤◌, max, Bool, true, false, ◌||◌, List, [], ◌∷◌, ◌++◌, length, get_or, drop, replicate, Result, Ok, Err, IfOk, refl, sym, ap, ap₂, ◌∙◌, subst, arith, append_assoc, append-nil}
+use Rattle.std.proofs.Common.{◌≡◌, ℕ, zero, suc, ◌+◌, ◌/◌, ◌<◌, ◌≤◌, max, Bool, true, false, ◌||◌, List, [], ◌∷◌, ◌++◌, length, get_or, drop, replicate, refl, sym, ap, ap₂, ◌∙◌, subst, arith}
 use Rattle.std.proofs.lemmas.List.{drop_all}
+use Rattle.std.proofs.Math.Bool.{or-false}
 use Rattle.bit_expr.specs.declared.node.ExprId.{ExprId}
 use Rattle.bit_expr.specs.declared.node.Node.{Node}
 use Rattle.bit_expr.specs.Arena.{arena}
@@ -15,14 +16,6 @@ use Rattle.expr_bits.proofs.PositionWords.{digits_in, digits_at, resized_in, res
 use Rattle.expr_bits.specs.declared.forms.Bits.{Bits}
 use Rattle.expr_bits.specs.declared.forms.Form.TheVariants as form
 use Rattle.expr_bits.specs.Showing.{HasForm, IsBits}
-
--- ---- loops: what is there, and what is left
-
-pub grows : (flags left rest all : List Bool) (b : Bool) → left ≡ b ∷ rest → flags ++ left ≡ all → (flags ++ b ∷ []) ++ rest ≡ all
-grows flags left rest all b e f = append_assoc flags (b ∷ []) rest ∙ ap (λ xs. flags ++ xs) (sym e) ∙ f
-
-pub ends : (flags left all : List Bool) → left ≡ [] → flags ++ left ≡ all → flags ≡ all
-ends flags left all e f = sym (append-nil flags) ∙ ap (λ xs. flags ++ xs) (sym e) ∙ f
 
 -- ---- widths
 
@@ -57,19 +50,11 @@ met_set ns b v w k e is =
     let h = subst (λ f. HasForm f v (length b.word)) e is.form in
     (resized_in ns k b.word is.word.0, resized_at ns k b.word ∙ ap₂ (λ s x. met_by k s v.number x) (sym h) is.word.1)
 
-pub if_ok_map : {T E : Type 0} {P Q : T → Type 0} (r : Result T E) → ((x : T) → P x → Q x) → IfOk r P → IfOk r Q
-if_ok_map (Ok x) f h = f x h
-if_ok_map (Err e) f h = tt
-
 -- ---- X on either side
 
 either_none : (xs : List Bool) → either_unknown xs [] ≡ xs
 either_none [] = refl
 either_none (x ∷ xs) = refl
-
-or_false : (b : Bool) → (b || false) ≡ b
-or_false true = refl
-or_false false = refl
 
 none_left : (ys : List Bool) (i : ℕ) → i < length ys → drop i ys ≡ get_or ys i false ∷ drop (i + 1) ys
 none_left [] i h = absurd (omega (arith, h))
@@ -87,7 +72,7 @@ either_next (x ∷ xs) [] i h =
     ap (λ zs. either_unknown (drop i (x ∷ xs)) zs) (drop_all i [] (omega arith))
     ∙ either_none (drop i (x ∷ xs))
     ∙ none_left (x ∷ xs) i (omega (arith, h))
-    ∙ ap₂ (λ b zs. b ∷ zs) (sym (or_false (get_or (x ∷ xs) i false))) (sym (ap (λ zs. either_unknown (drop (i + 1) (x ∷ xs)) zs) (drop_all (i + 1) [] (omega arith)) ∙ either_none (drop (i + 1) (x ∷ xs))))
+    ∙ ap₂ (λ b zs. b ∷ zs) (sym (or-false (get_or (x ∷ xs) i false))) (sym (ap (λ zs. either_unknown (drop (i + 1) (x ∷ xs)) zs) (drop_all (i + 1) [] (omega arith)) ∙ either_none (drop (i + 1) (x ∷ xs))))
 either_next (x ∷ xs) (y ∷ ys) zero h = refl
 either_next (x ∷ xs) (y ∷ ys) (suc i) h =
     let place : suc (i + 1) ≡ suc i + 1 = omega arith in

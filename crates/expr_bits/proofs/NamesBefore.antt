@@ -5,6 +5,7 @@ use Rattle.std.proofs.lemmas.Iterator.Adapters.{position_from-zero}
 use Rattle.std.proofs.lemmas.List.{map-append, length-map}
 use Rattle.std.proofs.lemmas.Option.{slice_get_within, slice_get_past, slice_get-get_or, slice_get-map}
 use Rattle.std.proofs.Math.Seq.{get_or-append_seam, take-length}
+use Rattle.bit_expr.proofs.ArenaLists.{get_kept}
 use Rattle.abel_tree.specs.declared.names.Declared.{Declared}
 use Rattle.abel_tree.specs.declared.names.Names.{Names}
 use Rattle.abel_tree.specs.Entries.{Entry, entries_of, find, view_declared}
@@ -98,12 +99,7 @@ named_among n es w =
 
 kept_front : (ks : List Known) (s : ℕ) (es : List Entry) (i : ℕ) (k : Known) → slice_get ks i ≡ Some k → slice_get (known_after ks s es) i ≡ Some k
 kept_front ks s [] i k e = e
-kept_front ks s (x ∷ es) i k e = kept_front (ks ++ record { name = x.name; term = term_meant ks s x.kind } ∷ []) (suc s) es i k (get_more ks (record { name = x.name; term = term_meant ks s x.kind } ∷ []) i k e)
-  where
-    get_more : (xs ys : List Known) (i : ℕ) (k : Known) → slice_get xs i ≡ Some k → slice_get (xs ++ ys) i ≡ Some k
-    get_more [] ys i k e = absurd cc
-    get_more (x ∷ xs) ys zero k e = e
-    get_more (x ∷ xs) ys (suc i) k e = get_more xs ys i k e
+kept_front ks s (x ∷ es) i k e = kept_front (ks ++ record { name = x.name; term = term_meant ks s x.kind } ∷ []) (suc s) es i k (get_kept ks (record { name = x.name; term = term_meant ks s x.kind } ∷ []) i k e)
 
 known_at : (ks : List Known) (s n i : ℕ) (es : List Entry) (e : Entry) → length ks ≡ s → i < n → slice_get es i ≡ Some e
     → slice_get (known_after ks s (take n es)) (s + i) ≡ Some (record { name = e.name; term = term_meant (known_after ks s (take i es)) (s + i) e.kind })
@@ -152,7 +148,7 @@ known_length ks s [] = omega arith
 known_length ks s (e ∷ es) =
     omega (arith, known_length (ks ++ record { name = e.name; term = term_meant ks s e.kind } ∷ []) (suc s) es, length-append ks (record { name = e.name; term = term_meant ks s e.kind } ∷ []))
 
-none_past : (es : List Entry) (k : ℕ) → slice_get es k ≡ None → length es ≤ k
+pub none_past : {A : Type 0} (es : List A) (k : ℕ) → slice_get es k ≡ None → length es ≤ k
 none_past [] k e = omega arith
 none_past (x ∷ es) zero e = absurd cc
 none_past (x ∷ es) (suc k) e = omega (arith, none_past es k e)

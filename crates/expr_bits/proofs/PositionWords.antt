@@ -19,13 +19,13 @@ use Rattle.expr_bits.proofs.AlongWords.{zero_there, one_there, zero_is, one_is}
 
 -- ---- loops: what is there, and what is left
 
-pub begins : (ids left all : List ExprId) → ids ≡ [] → left ≡ all → ids ++ left ≡ all
+pub begins : {A : Type 0} (ids left all : List A) → ids ≡ [] → left ≡ all → ids ++ left ≡ all
 begins ids left all e f = ap (λ xs. xs ++ left) e ∙ f
 
-pub grows : (ids left rest all : List ExprId) (id : ExprId) → left ≡ id ∷ rest → ids ++ left ≡ all → (ids ++ id ∷ []) ++ rest ≡ all
+pub grows : {A : Type 0} (ids left rest all : List A) (id : A) → left ≡ id ∷ rest → ids ++ left ≡ all → (ids ++ id ∷ []) ++ rest ≡ all
 grows ids left rest all id e f = append_assoc ids (id ∷ []) rest ∙ ap (λ xs. ids ++ xs) (sym e) ∙ f
 
-pub ends : (ids left all : List ExprId) → left ≡ [] → ids ++ left ≡ all → ids ≡ all
+pub ends : {A : Type 0} (ids left all : List A) → left ≡ [] → ids ++ left ≡ all → ids ≡ all
 ends ids left all e f = sym (append-nil ids) ∙ ap (λ xs. ids ++ xs) (sym e) ∙ f
 
 pub passed : (ids left rest all : List ExprId) → left ≡ rest → ids ++ left ≡ all → ids ++ rest ≡ all

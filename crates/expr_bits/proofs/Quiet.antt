@@ -1,9 +1,10 @@
--- What reads no leaf makes no node and is constant, and is the same under each extension with which it reads none.
+-- A term is the same under each extension with which it reads no leaf.
 use Rattle.std.proofs.Common.{◌≡◌, ℕ, ◌||◌, Bool, true, false, Option, None, Some, [], ◌∷◌, ◌++◌, refl, sym, ap, ap₂, ◌∙◌, subst}
 use Rattle.bit_expr.specs.Arena.{arena}
 use Rattle.bit_expr.specs.Folding.{Made, free, ◌>>=◌}
 use Rattle.abel_tree.specs.declared.words.Binary.{Binary}
 use Rattle.abel_tree.specs.declared.words.Extension.{Extension}
+use Rattle.abel_tree.specs.Extensions.{innermost}
 use Rattle.abel_meaning.specs.BitWords.{Word, unary_word}
 use Rattle.abel_meaning.specs.Designs.{Context}
 use Rattle.abel_meaning.specs.FormulaBits.{binary_word, bits_of, bits_of_all, make_source, met_word}
@@ -14,10 +15,9 @@ use Rattle.abel_meaning.specs.Terms as term
 use Rattle.abel_meaning.specs.Values.{binary_value, bit_value, constant_of, is_relation, joined_value, nowhere, set_value, unary_value}
 use Rattle.expr_bits.specs.declared.forms.Bits.{Bits}
 use Rattle.expr_bits.specs.Parts.{IsPart, Part, with_value}
-use Rattle.expr_bits.specs.Reads.{any_reads_leaf, inner, is_leaf, reads_leaf}
+use Rattle.expr_bits.specs.Reads.{any_reads_leaf, is_leaf, reads_leaf}
 use Rattle.expr_bits.specs.Steps.{normal, term_part}
-use Rattle.expr_bits.specs.Still.{AreConstant, IsFree, IsKept}
-use Rattle.expr_bits.proofs.ConstantWords.{append_constant, binary_free, free_then, met_constant, unary_free}
+use Rattle.expr_bits.specs.Still.{IsKept}
 
 neither : (a b : Bool) → (a || b) ≡ false → (a ≡ false) × (b ≡ false)
 neither false b h = (refl, h)
@@ -35,7 +35,7 @@ abbrev mutual
   under e term.X = term.X
   under e term.Pulse = term.Pulse
   under e term.Release = term.Release
-  under e (term.Read s own) = term.Read s (inner own e)
+  under e (term.Read s own) = term.Read s (innermost own e)
   under e (term.Set ts) = term.Set (all_under e ts)
   under e (term.UnaryOf sign t) = term.UnaryOf sign (under e t)
   under e (term.BinaryOf sign t u) = term.BinaryOf sign (under e t) (under e u)
@@ -80,43 +80,6 @@ under_is : (e : Option Extension) (t : Term) → under e t ≡ extended_if e t
 under_is None t = under_none t
 under_is (Some e) t = under_some e t
 
--- ---- it is free
-
-zero_free : (s : Source) → is_leaf s ≡ false → IsFree AreConstant (make_source s >>= λ f. free (f ∷ []))
-zero_free Zero h = (refl, (tt, tt))
-zero_free (Held c l) h = absurd cc
-
-mutual
-  free_under : (d : Context) (e : Option Extension) (t : Term) → reads_leaf d e t ≡ false → IsFree AreConstant (bits_of d (under e t))
-  free_under d e (term.Number n) h = (refl, tt)
-  free_under d e term.X h = (refl, (tt, tt))
-  free_under d e term.Pulse h = (refl, tt)
-  free_under d e term.Release h = (refl, tt)
-  free_under d e (term.Read s own) h = zero_free (source_of d s (inner own e)) h
-  free_under d e (term.Set ts) h = all_free d e ts h
-  free_under d e (term.UnaryOf sign t) h =
-      free_then AreConstant AreConstant (bits_of d (under e t)) (unary_word sign) (free_under d e t h) (λ w k. unary_free sign w k)
-  free_under d e (term.BinaryOf sign t u) h =
-      let n = neither (reads_leaf d e t) (reads_leaf d e u) h in
-      let v = constant_of d (under e t) in
-      let w = constant_of d (under e u) in
-      free_then AreConstant AreConstant (bits_of d (under e t)) _ (free_under d e t n.0) (λ xs hx.
-      free_then AreConstant AreConstant (bits_of d (under e u)) _ (free_under d e u n.1) (λ ys hy.
-      binary_free (is_relation sign) sign (meeting v.shape w.shape) v w xs ys hx hy))
-
-  all_free : (d : Context) (e : Option Extension) (ts : Terms) → any_reads_leaf d e ts ≡ false → IsFree AreConstant (bits_of_all d (all_under e ts))
-  all_free d e NoTerm h = (refl, tt)
-  all_free d e (Before t ts) h =
-      let n = neither (reads_leaf d e t) (any_reads_leaf d e ts) h in
-      let v = constant_of d (under e t) in
-      free_then AreConstant AreConstant (bits_of d (under e t)) _ (free_under d e t n.0) (λ xs hx.
-      free_then AreConstant AreConstant (bits_of_all d (all_under e ts)) _ (all_free d e ts n.1) (λ ys hy.
-      (refl, append_constant ys _ hy (met_constant (member_width v.shape) v xs hx))))
-
--- what is so under an extension makes no node
-pub quiet_free : (d : Context) (e : Option Extension) (t : Term) → reads_leaf d e t ≡ false → IsFree AreConstant (bits_of d (extended_if e t))
-quiet_free d e t h = subst (λ u. IsFree AreConstant (bits_of d u)) (under_is e t) (free_under d e t h)
-
 -- ---- it is the same
 
 record Alike (d : Context) (t u : Term) : Type 0 where
@@ -148,7 +111,7 @@ mutual
   alike d e f term.X h k = record { bits = refl; value = refl }
   alike d e f term.Pulse h k = record { bits = refl; value = refl }
   alike d e f term.Release h k = record { bits = refl; value = refl }
-  alike d e f (term.Read s own) h k = read_alike d s (inner own e) (inner own f) h k
+  alike d e f (term.Read s own) h k = read_alike d s (innermost own e) (innermost own f) h k
   alike d e f (term.Set ts) h k = let a = all_alike d e f ts h k in record { bits = a.bits; value = a.value }
   alike d e f (term.UnaryOf sign t) h k =
       let a = alike d e f t h k in
@@ -183,4 +146,4 @@ kept_under d e f t b h kept k =
     let a = alike d e f t h k in
     let part : term_part d (under e t) ≡ term_part d (under f t) = ap₂ (λ v m. with_value (normal v) m) a.value a.bits in
     let same : term_part d (extended_if e t) ≡ term_part d (extended_if f t) = ap (term_part d) (sym (under_is e t)) ∙ part ∙ ap (term_part d) (under_is f t) in
-    record { free = quiet_free d f t k; shows = λ ns. subst (λ (m : Made Part). IsPart (arena ns) b m.what) same (kept.shows ns) }
+    record { free = sym (ap (λ (m : Made Part). m.nodes) same) ∙ kept.free; shows = λ ns. subst (λ (m : Made Part). IsPart (arena ns) b m.what) same (kept.shows ns) }

@@ -1,115 +1,132 @@
--- What terms read, alone and one after another.
-use Rattle.std.proofs.Common.{◌≡◌, ℕ, ◌||◌, Bool, false, Option, None, Some, List, [], ◌∷◌, ◌++◌, refl, sym, ap, ap₂, ◌∙◌}
+-- What terms read: with extensions, and by the names of an expression.
+use Rattle.std.proofs.Common.{◌≡◌, ℕ, ◌||◌, Bool, true, false, Option, None, Some, List, [], ◌∷◌, ◌++◌, if◌then◌else◌, bytes_eq, codes, refl, sym, ap, ap₂, ◌∙◌}
 use Rattle.std.specs.List.{list_any}
 use Rattle.std.proofs.lemmas.List.Folds.{list_any-append}
-use Rattle.std.proofs.Math.Bool.{or-false}
+use Rattle.std.proofs.Math.Bool.{or_assoc, or-false}
 use Rattle.abel_tree.specs.declared.words.Extension.{Extension}
 use Rattle.abel_tree.specs.declared.words.Extension.TheVariants as extension
+use Rattle.abel_tree.specs.Extensions.{innermost}
+use Rattle.abel_tree.specs.Ranges.{range_names}
+use Rattle.abel_tree.specs.Tree.{Tree, ANumber, ASpecial, AName, ASet, AParen, AUnary, ABinary, SetMember, OneMember, SpanMember, Members, NoMember, MoreMembers}
 use Rattle.abel_meaning.specs.Designs.{Context}
-use Rattle.abel_meaning.specs.Terms.{Term, Terms, NoTerm, Before, extended, extended_each}
+use Rattle.abel_meaning.specs.Terms.{Term, Terms, NoTerm, Before, Known, extended, extended_each, extended_if, member_before, named_before, term_named, term_of, terms_of}
 use Rattle.abel_meaning.specs.Terms as term
+use Rattle.name_uses.specs.NamesUsed.{UsedName, names_used, members_used, member_used}
 use Rattle.expr_bits.specs.declared.reads.Reads.{Reads}
-use Rattle.expr_bits.specs.Members.{list_of}
-use Rattle.expr_bits.specs.Reads.{AllRead, IsReads, any_reads_leaf, any_reads_signal, leaf_under, no_reads, reads_leaf, reads_signal}
+use Rattle.expr_bits.specs.Reads.{Finds, IsReads, leaf_under, names_to, no_reads, reads_leaf, reads_signal, some_of_read, some_read, used_leaf, used_signal}
 
--- ---- nothing
+-- ---- as the code has it
 
-no_leaf : (e : Option Extension) → leaf_under no_reads e ≡ false
-no_leaf None = refl
-no_leaf (Some extension.Q) = refl
-no_leaf (Some extension.Fb) = refl
-no_leaf (Some extension.Pin) = refl
-no_leaf (Some extension.Clk) = refl
-no_leaf (Some extension.Oe) = refl
-no_leaf (Some extension.Ar) = refl
-no_leaf (Some extension.Sp) = refl
-no_leaf (Some extension.D) = refl
+-- the same under each extension
+abbrev pub alike : (signal leaf : Bool) → Reads
+alike s l = record { signal = s; bare = l; q = l; fb = l; pin = l; control = l }
 
-pub nothing_read : (d : Context) (t : Term) → reads_signal t ≡ false → ((e : Option Extension) → reads_leaf d e t ≡ false) → IsReads d no_reads t
-nothing_read d t s l = record { signal = sym s; leaf = λ e. no_leaf e ∙ sym (l e) }
+pub alike_leaf : (s l : Bool) (e : Option Extension) → leaf_under (alike s l) e ≡ l
+alike_leaf s l None = refl
+alike_leaf s l (Some extension.Q) = refl
+alike_leaf s l (Some extension.Fb) = refl
+alike_leaf s l (Some extension.Pin) = refl
+alike_leaf s l (Some extension.Clk) = refl
+alike_leaf s l (Some extension.Oe) = refl
+alike_leaf s l (Some extension.Ar) = refl
+alike_leaf s l (Some extension.Sp) = refl
+alike_leaf s l (Some extension.D) = refl
+
+pub nothing_found : Finds no_reads false (λ e. false)
+nothing_found = record { signal = refl; leaf = alike_leaf false false }
 
 pub number_read : (d : Context) (n : ℕ) → IsReads d no_reads (term.Number n)
-number_read d n = nothing_read d (term.Number n) refl (λ e. refl)
+number_read d n = nothing_found
 
-pub none_read : (d : Context) → AllRead d no_reads []
-none_read d = record { signal = refl; leaf = λ e. no_leaf e }
-
--- ---- under an extension
-
-mutual
-  pub leaf_extended : (d : Context) (e : Option Extension) (x : Extension) (t : Term) → reads_leaf d e (extended x t) ≡ reads_leaf d (Some x) t
-  leaf_extended d e x (term.Number n) = refl
-  leaf_extended d e x term.X = refl
-  leaf_extended d e x term.Pulse = refl
-  leaf_extended d e x term.Release = refl
-  leaf_extended d e x (term.Read s None) = refl
-  leaf_extended d e x (term.Read s (Some f)) = refl
-  leaf_extended d e x (term.Set ts) = leaves_extended d e x ts
-  leaf_extended d e x (term.UnaryOf sign t) = leaf_extended d e x t
-  leaf_extended d e x (term.BinaryOf sign t u) = ap₂ (λ a b. a || b) (leaf_extended d e x t) (leaf_extended d e x u)
-
-  leaves_extended : (d : Context) (e : Option Extension) (x : Extension) (ts : Terms) → any_reads_leaf d e (extended_each x ts) ≡ any_reads_leaf d (Some x) ts
-  leaves_extended d e x NoTerm = refl
-  leaves_extended d e x (Before t ts) = ap₂ (λ a b. a || b) (leaf_extended d e x t) (leaves_extended d e x ts)
-
-mutual
-  signal_extended : (x : Extension) (t : Term) → reads_signal (extended x t) ≡ reads_signal t
-  signal_extended x (term.Number n) = refl
-  signal_extended x term.X = refl
-  signal_extended x term.Pulse = refl
-  signal_extended x term.Release = refl
-  signal_extended x (term.Read s None) = refl
-  signal_extended x (term.Read s (Some f)) = refl
-  signal_extended x (term.Set ts) = signals_extended x ts
-  signal_extended x (term.UnaryOf sign t) = signal_extended x t
-  signal_extended x (term.BinaryOf sign t u) = ap₂ (λ a b. a || b) (signal_extended x t) (signal_extended x u)
-
-  signals_extended : (x : Extension) (ts : Terms) → any_reads_signal (extended_each x ts) ≡ any_reads_signal ts
-  signals_extended x NoTerm = refl
-  signals_extended x (Before t ts) = ap₂ (λ a b. a || b) (signal_extended x t) (signals_extended x ts)
-
-same_leaf : (b : Bool) (r : Reads) (e : Option Extension) → r.bare ≡ b → r.q ≡ b → r.fb ≡ b → r.pin ≡ b → r.control ≡ b → leaf_under r e ≡ b
-same_leaf b r None n q f p c = n
-same_leaf b r (Some extension.Q) n q f p c = q
-same_leaf b r (Some extension.Fb) n q f p c = f
-same_leaf b r (Some extension.Pin) n q f p c = p
-same_leaf b r (Some extension.Clk) n q f p c = c
-same_leaf b r (Some extension.Oe) n q f p c = c
-same_leaf b r (Some extension.Ar) n q f p c = c
-same_leaf b r (Some extension.Sp) n q f p c = c
-same_leaf b r (Some extension.D) n q f p c = c
-
--- an extension of its own leaves nothing to others
-pub under_own : (d : Context) (x : Extension) (r s : Reads) (t : Term) (b : Bool) → IsReads d r t → b ≡ leaf_under r (Some x) → s.signal ≡ r.signal → s.bare ≡ b → s.q ≡ b → s.fb ≡ b → s.pin ≡ b → s.control ≡ b → IsReads d s (extended x t)
-under_own d x r s t b h e g n q f p c =
+-- one more of several
+pub more_found : {A : Type 0} (r s u : Reads) (f : A → Bool) (g : Option Extension → A → Bool) (xs ys : List A) (x : A) → ys ≡ xs ++ x ∷ [] → u.signal ≡ (r.signal || s.signal) → ((e : Option Extension) → leaf_under u e ≡ (leaf_under r e || leaf_under s e))
+    → Finds r (list_any f xs) (λ e. list_any (g e) xs) → Finds s (f x) (λ e. g e x) → Finds u (list_any f ys) (λ e. list_any (g e) ys)
+more_found r s u f g xs ys x all signal leaf h k =
     record {
-      signal = g ∙ h.signal ∙ sym (signal_extended x t);
-      leaf = λ o. same_leaf b s o n q f p c ∙ e ∙ h.leaf (Some x) ∙ sym (leaf_extended d o x t);
+      signal = signal ∙ ap₂ (λ a b. a || b) h.signal k.signal ∙ last f;
+      leaf = λ e. leaf e ∙ ap₂ (λ a b. a || b) (h.leaf e) (k.leaf e) ∙ last (g e);
     }
+  where
+    last : (p : _ → Bool) → (list_any p xs || p x) ≡ list_any p ys
+    last p = ap (λ b. list_any p xs || b) (sym (or-false (p x))) ∙ sym (list_any-append p xs (x ∷ [])) ∙ ap (list_any p) (sym all)
 
--- ---- one after another
+-- ---- with an extension of its own, under which each bare read is one under another
 
-pub one_read : (d : Context) (r : Reads) (t : Term) → IsReads d r t → AllRead d r (t ∷ [])
-one_read d r t h =
-    record { signal = h.signal ∙ sym (or-false (reads_signal t)); leaf = λ e. h.leaf e ∙ sym (or-false (reads_leaf d e t)) }
+module _ (passes : ℕ → Option Extension → Bool) (e f : Option Extension) (x : Extension) (same : (s : ℕ) → passes s (Some x) ≡ passes s f) where
+  mutual
+    extended_read : (t : Term) → some_read passes e (extended x t) ≡ some_read passes f t
+    extended_read (term.Number n) = refl
+    extended_read term.X = refl
+    extended_read term.Pulse = refl
+    extended_read term.Release = refl
+    extended_read (term.Read s None) = same s
+    extended_read (term.Read s (Some own)) = refl
+    extended_read (term.Set ts) = each_read ts
+    extended_read (term.UnaryOf sign t) = extended_read t
+    extended_read (term.BinaryOf sign t u) = ap₂ (λ a b. a || b) (extended_read t) (extended_read u)
 
--- what is read together
-pub both_read : (d : Context) (r s u : Reads) (xs ys : List Term) → u.signal ≡ (r.signal || s.signal) → ((e : Option Extension) → leaf_under u e ≡ (leaf_under r e || leaf_under s e)) → AllRead d r xs → AllRead d s ys → AllRead d u (xs ++ ys)
-both_read d r s u xs ys g l h k =
+    each_read : (ts : Terms) → some_of_read passes e (extended_each x ts) ≡ some_of_read passes f ts
+    each_read NoTerm = refl
+    each_read (Before t ts) = ap₂ (λ a b. a || b) (extended_read t) (each_read ts)
+
+-- ---- by the names that an expression uses, where `counts` is the extension of a use that counts
+
+module _ (passes : ℕ → Option Extension → Bool) (counts : Option Extension → Option Extension) (known : List Known) (inside : (o x : Option Extension) (t : Term) → some_read passes (counts o) (extended_if x t) ≡ some_read passes (counts (innermost x o)) t) where
+  abbrev name_passes : Option Extension → List ℕ → Bool
+  name_passes o name = some_read passes (counts o) (term_named known name)
+
+  abbrev use_passes : UsedName → Bool
+  use_passes u = list_any (name_passes u.extension) (names_to u.first u.last)
+
+  special_read : (o : Option Extension) (b c : Bool) → some_read passes (counts o) (if b then term.X else if c then term.Pulse else term.Release) ≡ false
+  special_read o true c = refl
+  special_read o false true = refl
+  special_read o false false = refl
+
+  range_read : (o : Option Extension) (names : List (List ℕ)) (ts : Terms) → some_of_read passes (counts o) (named_before known names ts) ≡ (list_any (name_passes o) names || some_of_read passes (counts o) ts)
+  range_read o [] ts = refl
+  range_read o (n ∷ names) ts =
+      ap (λ b. name_passes o n || b) (range_read o names ts)
+      ∙ sym (or_assoc (name_passes o n) (list_any (name_passes o) names) (some_of_read passes (counts o) ts))
+
+  mutual
+    tree_read : (o : Option Extension) (t : Tree) → some_read passes (counts o) (term_of known t) ≡ list_any use_passes (names_used o t)
+    tree_read o (ANumber n) = refl
+    tree_read o (ASpecial letter place) = special_read o (bytes_eq (letter ∷ []) (codes "X")) (bytes_eq (letter ∷ []) (codes "C"))
+    tree_read o (AName word x) =
+        inside o x (term_named known word.text) ∙ sym (or-false (name_passes (innermost x o) word.text))
+        ∙ sym (or-false (name_passes (innermost x o) word.text || false))
+    tree_read o (ASet place ms x) = inside o x (term.Set (terms_of known ms)) ∙ members_read (innermost x o) ms
+    tree_read o (AParen place t) = tree_read o t
+    tree_read o (AUnary sign place t) = tree_read o t
+    tree_read o (ABinary sign place t u) =
+        ap₂ (λ a b. a || b) (tree_read o t) (tree_read o u) ∙ sym (list_any-append use_passes (names_used o t) (names_used o u))
+
+    members_read : (o : Option Extension) (ms : Members) → some_of_read passes (counts o) (terms_of known ms) ≡ list_any use_passes (members_used o ms)
+    members_read o NoMember = refl
+    members_read o (MoreMembers m ms) =
+        member_read o m (terms_of known ms) ∙ ap (λ b. list_any use_passes (member_used o m) || b) (members_read o ms)
+        ∙ sym (list_any-append use_passes (member_used o m) (members_used o ms))
+
+    member_read : (o : Option Extension) (m : SetMember) (ts : Terms) → some_of_read passes (counts o) (member_before known m ts) ≡ (list_any use_passes (member_used o m) || some_of_read passes (counts o) ts)
+    member_read o (OneMember t) ts = ap (λ b. b || some_of_read passes (counts o) ts) (tree_read o t)
+    member_read o (SpanMember first last) ts =
+        range_read o (range_names first.text last.text) ts
+        ∙ ap (λ b. b || some_of_read passes (counts o) ts) (sym (or-false (list_any (name_passes o) (range_names first.text last.text))))
+
+-- ---- whether a signal is read, and a leaf
+
+signal_inside : (o x : Option Extension) (t : Term) → reads_signal (extended_if x t) ≡ reads_signal t
+signal_inside o None t = refl
+signal_inside o (Some x) t = extended_read (λ s e. true) None None x (λ s. refl) t
+
+leaf_inside : (d : Context) (e o x : Option Extension) (t : Term) → reads_leaf d (innermost o e) (extended_if x t) ≡ reads_leaf d (innermost (innermost x o) e) t
+leaf_inside d e o None t = refl
+leaf_inside d e o (Some x) t = extended_read _ (innermost o e) (Some x) x (λ s. refl) t
+
+pub uses_read : (d : Context) (known : List Known) (r : Reads) (t : Tree) → Finds r (list_any (used_signal known) (names_used None t)) (λ e. list_any (used_leaf d known e) (names_used None t)) → IsReads d r (term_of known t)
+uses_read d known r t h =
     record {
-      signal = g ∙ ap₂ (λ a b. a || b) h.signal k.signal ∙ sym (list_any-append reads_signal xs ys);
-      leaf = λ e. l e ∙ ap₂ (λ a b. a || b) (h.leaf e) (k.leaf e) ∙ sym (list_any-append (reads_leaf d e) xs ys);
+      signal = h.signal ∙ sym (tree_read _ (λ o. None) known signal_inside None t);
+      leaf = λ e. h.leaf e ∙ sym (tree_read _ (λ o. innermost o e) known (leaf_inside d e) None t);
     }
-
-any_signal : (ts : Terms) → any_reads_signal ts ≡ list_any reads_signal (list_of ts)
-any_signal NoTerm = refl
-any_signal (Before t ts) = ap (λ b. reads_signal t || b) (any_signal ts)
-
-any_leaf : (d : Context) (e : Option Extension) (ts : Terms) → any_reads_leaf d e ts ≡ list_any (reads_leaf d e) (list_of ts)
-any_leaf d e NoTerm = refl
-any_leaf d e (Before t ts) = ap (λ b. reads_leaf d e t || b) (any_leaf d e ts)
-
-pub set_read : (d : Context) (r : Reads) (ts : Terms) → AllRead d r (list_of ts) → IsReads d r (term.Set ts)
-set_read d r ts h = record { signal = h.signal ∙ sym (any_signal ts); leaf = λ e. h.leaf e ∙ sym (any_leaf d e ts) }
-
--- ---- operators

@@ -12,7 +12,7 @@ use Rattle.expr_bits.specs.declared.rows.Row.{Row}
 use Rattle.expr_bits.specs.Reads.{IsReads}
 use Rattle.expr_bits.specs.Stacks.{here_term}
 use Rattle.expr_bits.specs.Still.{AreRows, IsRow, reads_at, reads_of_row}
-use Rattle.expr_bits.proofs.NamesBefore.{here_is, named_past}
+use Rattle.expr_bits.proofs.NamesBefore.{here_is, named_past, none_past}
 use Rattle.expr_bits.proofs.ReadLaws.{number_read}
 
 -- what the row of a name is that of
@@ -36,13 +36,8 @@ row_here es d rs i r h lt e = row_got es d rs i r h (slice_get-get_or rs i r lt 
 pub named_reads : (es : List Entry) (d : Context) (rs : List Row) (w : List ℕ) (k : ℕ) → AreRows es d 0 rs → find es w ≡ Some k → IsReads d (reads_at rs k) (term_named (known_of (take (length rs) es)) w)
 named_reads es d rs w k h f = by (slice_get rs k) refl
   where
-    past : (xs : List Row) (i : ℕ) → slice_get xs i ≡ None → length xs ≤ i
-    past [] i e = omega arith
-    past (x ∷ xs) zero e = absurd cc
-    past (x ∷ xs) (suc i) e = omega (arith, past xs i e)
-
     by : (o : Option Row) → slice_get rs k ≡ o → IsReads d (reads_of_row o) (term_named (known_of (take (length rs) es)) w)
-    by None e = subst (IsReads d (reads_of_row None)) (sym (named_past (length rs) k es w f (past rs k e))) (number_read d 0)
+    by None e = subst (IsReads d (reads_of_row None)) (sym (named_past (length rs) k es w f (none_past rs k e))) (number_read d 0)
     by (Some r) e = subst (IsReads d r.reads) (sym (here_is (length rs) k es w f (slice_get_within rs k r e))) (row_got es d rs k r h e).0
 
 -- the row of a signal

@@ -1,5 +1,5 @@
 -- The positions of bits are those of a value.
-use Rattle.std.proofs.Common.{◌≡◌, ℕ, zero, suc, ◌+◌, ◌<◌, ◌≤◌, Bool, true, false, Option, None, Some, List, [], ◌∷◌, ◌++◌, length, get_or, drop, refl, sym, ap, ap₂, ◌∙◌, subst, arith, append_assoc, append-nil}
+use Rattle.std.proofs.Common.{◌≡◌, ℕ, zero, suc, ◌+◌, ◌<◌, ◌≤◌, Bool, true, false, Option, None, Some, List, [], ◌∷◌, ◌++◌, length, get_or, drop, refl, sym, ap, ap₂, ◌∙◌, subst, arith, append-nil}
 use Rattle.std.proofs.lemmas.List.{drop_all}
 use Rattle.bit_expr.specs.declared.node.ExprId.{ExprId}
 use Rattle.bit_expr.specs.Arena.{formula_at}
@@ -18,9 +18,6 @@ use Rattle.expr_bits.specs.Showing.{HasForm, HasUnknown, IsBits}
 use Rattle.expr_bits.specs.Shaping.{IsBlank, place_of, places_of, shape_of}
 
 -- ---- loops: what is there, and what is left
-
-pub grows : (ps left rest all : List (Option ExprId)) (p : Option ExprId) → left ≡ p ∷ rest → ps ++ left ≡ all → (ps ++ p ∷ []) ++ rest ≡ all
-grows ps left rest all p e f = append_assoc ps (p ∷ []) rest ∙ ap (λ xs. ps ++ xs) (sym e) ∙ f
 
 pub places_next : (ids : List ExprId) (xs : List Bool) (i : ℕ) (d : ExprId) (x : Bool) → i < length ids → length xs ≡ length ids → places_of (drop i ids) (drop i xs) ≡ place_of (get_or ids i d) (get_or xs i x) ∷ places_of (drop (i + 1) ids) (drop (i + 1) xs)
 places_next [] xs i d x h e = absurd (omega (arith, h))

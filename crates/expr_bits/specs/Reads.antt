@@ -1,60 +1,75 @@
 -- What values read: a signal at all, and a leaf under an extension at the signals that have none (ABEL-HDL Reference
 -- Manual, constants and extensions; that only leaves make nodes is this project's rule).
-use Rattle.std.specs.Prelude.{◌≡◌, Bool, true, false, ◌||◌, Option, None, Some, List}
+use Rattle.std.specs.Prelude.{◌≡◌, ℕ, Bool, true, false, ◌||◌, Option, None, Some, List, [], ◌∷◌}
 use Rattle.std.specs.List.{list_any}
 use Rattle.abel_tree.specs.declared.words.Extension.{Extension}
 use Rattle.abel_tree.specs.declared.words.Extension.TheVariants as extension
+use Rattle.abel_tree.specs.declared.words.Word.{Word}
+use Rattle.abel_tree.specs.Extensions.{innermost}
+use Rattle.abel_tree.specs.Ranges.{range_names}
 use Rattle.abel_meaning.specs.Designs.{Context}
 use Rattle.abel_meaning.specs.Sources.{Source, Zero, Held, source_of}
-use Rattle.abel_meaning.specs.Terms.{Term, Terms}
+use Rattle.abel_meaning.specs.Terms.{Term, Terms, Known, term_named}
 use Rattle.abel_meaning.specs.Terms as term
+use Rattle.name_uses.specs.NamesUsed.{UsedName}
 use Rattle.expr_bits.specs.declared.reads.Reads.{Reads}
 
--- some signal is read, whether or not the value depends on it
+-- some read passes, by its signal and its extension, or that under which it stands
 abbrev mutual
-  pub reads_signal : Term → Bool
-  reads_signal (term.Number n) = false
-  reads_signal term.X = false
-  reads_signal term.Pulse = false
-  reads_signal term.Release = false
-  reads_signal (term.Read s e) = true
-  reads_signal (term.Set ts) = any_reads_signal ts
-  reads_signal (term.UnaryOf sign t) = reads_signal t
-  reads_signal (term.BinaryOf sign t u) = reads_signal t || reads_signal u
+  pub some_read : (passes : ℕ → Option Extension → Bool) → Option Extension → Term → Bool
+  some_read passes e (term.Number n) = false
+  some_read passes e term.X = false
+  some_read passes e term.Pulse = false
+  some_read passes e term.Release = false
+  some_read passes e (term.Read s own) = passes s (innermost own e)
+  some_read passes e (term.Set ts) = some_of_read passes e ts
+  some_read passes e (term.UnaryOf sign t) = some_read passes e t
+  some_read passes e (term.BinaryOf sign t u) = some_read passes e t || some_read passes e u
 
-  pub any_reads_signal : Terms → Bool
-  any_reads_signal term.NoTerm = false
-  any_reads_signal (term.Before t ts) = reads_signal t || any_reads_signal ts
+  pub some_of_read : (passes : ℕ → Option Extension → Bool) → Option Extension → Terms → Bool
+  some_of_read passes e term.NoTerm = false
+  some_of_read passes e (term.Before t ts) = some_read passes e t || some_of_read passes e ts
+
+-- some signal is read, whether or not the value depends on it
+abbrev pub reads_signal : Term → Bool
+reads_signal t = some_read (λ s e. true) None t
+
+abbrev pub any_reads_signal : Terms → Bool
+any_reads_signal ts = some_of_read (λ s e. true) None ts
 
 abbrev pub is_leaf : Source → Bool
 is_leaf Zero = false
 is_leaf (Held complement leaf) = true
 
--- the extension of a read under another
-abbrev pub inner : (own outer : Option Extension) → Option Extension
-inner None outer = outer
-inner (Some e) outer = Some e
-
 -- some leaf is read under an extension
-abbrev mutual
-  pub reads_leaf : Context → Option Extension → Term → Bool
-  reads_leaf d e (term.Number n) = false
-  reads_leaf d e term.X = false
-  reads_leaf d e term.Pulse = false
-  reads_leaf d e term.Release = false
-  reads_leaf d e (term.Read s own) = is_leaf (source_of d s (inner own e))
-  reads_leaf d e (term.Set ts) = any_reads_leaf d e ts
-  reads_leaf d e (term.UnaryOf sign t) = reads_leaf d e t
-  reads_leaf d e (term.BinaryOf sign t u) = reads_leaf d e t || reads_leaf d e u
+abbrev pub reads_leaf : Context → Option Extension → Term → Bool
+reads_leaf d e t = some_read (λ s f. is_leaf (source_of d s f)) e t
 
-  pub any_reads_leaf : Context → Option Extension → Terms → Bool
-  any_reads_leaf d e term.NoTerm = false
-  any_reads_leaf d e (term.Before t ts) = reads_leaf d e t || any_reads_leaf d e ts
+abbrev pub any_reads_leaf : Context → Option Extension → Terms → Bool
+any_reads_leaf d e ts = some_of_read (λ s f. is_leaf (source_of d s f)) e ts
+
+-- ---- by the names that an expression uses
+
+abbrev pub names_to : Word → Option Word → List (List ℕ)
+names_to first None = first.text ∷ []
+names_to first (Some last) = range_names first.text last.text
+
+abbrev pub named_signal : List Known → List ℕ → Bool
+named_signal known name = reads_signal (term_named known name)
+
+abbrev pub named_leaf : Context → List Known → Option Extension → List ℕ → Bool
+named_leaf d known e name = reads_leaf d e (term_named known name)
+
+abbrev pub used_signal : List Known → UsedName → Bool
+used_signal known u = list_any (named_signal known) (names_to u.first u.last)
+
+abbrev pub used_leaf : Context → List Known → Option Extension → UsedName → Bool
+used_leaf d known e u = list_any (named_leaf d known (innermost u.extension e)) (names_to u.first u.last)
 
 -- ---- as the code has it
 
 abbrev pub no_reads : Reads
-no_reads = record { signal = false; bare = false; q = false; fb = false; pin = false; control = false; parts = 0 }
+no_reads = record { signal = false; bare = false; q = false; fb = false; pin = false; control = false }
 
 abbrev pub leaf_under : Reads → Option Extension → Bool
 leaf_under r None = r.bare
@@ -67,11 +82,9 @@ leaf_under r (Some extension.Ar) = r.control
 leaf_under r (Some extension.Sp) = r.control
 leaf_under r (Some extension.D) = r.control
 
-pub record IsReads (d : Context) (r : Reads) (t : Term) : Type 0 where
-  pub signal : r.signal ≡ reads_signal t
-  pub leaf : (e : Option Extension) → leaf_under r e ≡ reads_leaf d e t
+pub record Finds (r : Reads) (s : Bool) (l : Option Extension → Bool) : Type 0 where
+  pub signal : r.signal ≡ s
+  pub leaf : (e : Option Extension) → leaf_under r e ≡ l e
 
--- of terms, one after another
-pub record AllRead (d : Context) (r : Reads) (ts : List Term) : Type 0 where
-  pub signal : r.signal ≡ list_any reads_signal ts
-  pub leaf : (e : Option Extension) → leaf_under r e ≡ list_any (reads_leaf d e) ts
+abbrev pub IsReads : Context → Reads → Term → Type 0
+IsReads d r t = Finds r (reads_signal t) (λ e. reads_leaf d e t)

@@ -1,12 +1,9 @@
--- Private: constants, which make no node (this project's rule).
+-- Private: constants that make no node (this project's rule).
 use Rattle.std.specs.Prelude.{◌≡◌, ℕ, suc, false, Option, None, Some, List, [], ◌∷◌, slice_get}
 use Rattle.bit_expr.specs.declared.node.Node.{Node}
 use Rattle.bit_expr.specs.Arena.{arena}
-use Rattle.bit_expr.specs.Folding.{Made}
-use Rattle.bit_expr.specs.Formulas.{Formula, Const}
 use Rattle.abel_tree.specs.declared.words.Extension.{Extension}
 use Rattle.abel_tree.specs.Entries.{Entry}
-use Rattle.abel_meaning.specs.BitWords.{Word}
 use Rattle.abel_meaning.specs.Designs.{Context}
 use Rattle.abel_meaning.specs.FormulaBits.{bits_of}
 use Rattle.abel_meaning.specs.Terms.{Term, extended_if}
@@ -20,22 +17,9 @@ use Rattle.expr_bits.specs.Reads.{IsReads, no_reads, reads_leaf}
 use Rattle.expr_bits.specs.Stacks.{here_term, named_term}
 use Rattle.expr_bits.specs.Steps.{term_part}
 
--- 0 or 1
-abbrev pub IsConstant : Formula → Type 0
-IsConstant (Const b) = Unit {0}
-IsConstant _ = ⊥
-
-abbrev pub AreConstant : Word → Type 0
-AreConstant [] = Unit {0}
-AreConstant (f ∷ fs) = IsConstant f × AreConstant fs
-
--- it was made without a node, and is so
-abbrev pub IsFree : {A : Type 0} → (A → Type 0) → Made A → Type 0
-IsFree Is m = (m.nodes ≡ 0) × Is m.what
-
--- in every arena, the bits are those of a term, which is constant
+-- in every arena, the bits are those of a term, which makes no node
 pub record IsKept (d : Context) (b : Bits) (t : Term) : Type 0 where
-  pub free : IsFree AreConstant (bits_of d t)
+  pub free : (bits_of d t).nodes ≡ 0
   pub shows : (ns : List Node) → IsPart (arena ns) b (term_part d t).what
 
 -- under each extension with which a term reads no leaf

@@ -28,8 +28,8 @@ use set_expr::{Scope, Shaped};
 use std::alloc::Global;
 use std::marker::{Model, PhantomData};
 
-/// The names of a source on a device, with what each of them reads there and the bits of long constants, learnt once for
-/// all its expressions. A contract sees the names.
+/// The names of a source on a device, with what each of them reads there and the bits of constants that make no node,
+/// learnt once for all its expressions. A contract sees the names.
 #[derive(Drop)]
 pub struct DeviceScope<'a, D: Device> {
     scope: Scope<'a>,

@@ -23,16 +23,6 @@ use pld_base::OutOfMemory;
 use set_expr::Scope;
 use std::alloc::Global;
 
-/// An inner extension wins over an outer one.
-fn inner_first(inner: Option<Extension>, outer: Option<Extension>) -> Option<Extension>
-    ensures { (t : Term) → extended_if result t ≡ extended_if outer (extended_if inner t) }
-{
-    match inner {
-        Some(_) => inner,
-        None => outer,
-    }
-}
-
 /// Names behind other members.
 fn with_names<'a>(
     scope: &Scope<'a>,
@@ -146,7 +136,7 @@ pub(crate) fn expand<'a>(
             extension: own,
         } => {
             let outer = Outer {
-                extension: inner_first(*own, outer.extension),
+                extension: Extension::innermost(*own, outer.extension),
                 count: outer.count,
             };
             let next = name_work(scope, word.text.bytes(), outer);
@@ -158,7 +148,7 @@ pub(crate) fn expand<'a>(
             extension: own,
         } => {
             let outer = Outer {
-                extension: inner_first(*own, outer.extension),
+                extension: Extension::innermost(*own, outer.extension),
                 count: outer.count,
             };
             expand_set(alloc, scope, members.as_slice(), outer, work)

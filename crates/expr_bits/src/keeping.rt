@@ -1,6 +1,7 @@
 //! The rows of all names, each by those before it.
 
-ghost use Rattle.std.specs.Prelude.{◌≡◌, ◌<◌, ℕ, false, None, Some, IfOk, length, slice_get, take};
+ghost use Rattle.std.specs.Prelude.{◌≡◌, ℕ, false, None, Some, IfOk, length, slice_get, take};
+ghost use Rattle.abel_tree.specs.declared.words.Extension.TheVariants as extension;
 ghost use Rattle.abel_tree.specs.Entries.{entries_of, view_declared};
 ghost use Rattle.abel_tree.specs.View.{view};
 ghost use Rattle.abel_meaning.specs.Designs.{Context, name_at};
@@ -25,9 +26,6 @@ use pld_device::Device;
 use set_expr::Scope;
 use std::alloc::Global;
 
-/// Operators and members of a constant that is built anew wherever it is named. One of more is kept, if it can be.
-const FEW: u32 = 16;
-
 /// Whether a declared signal reads a leaf, bare or with an extension.
 fn is_leaf<D: Device>(declared: &Declared, extension: Option<Extension>) -> bool
     ensures { result ≡ is_leaf (source_by D.table (view_declared declared.now) (view_declared declared.now).kind extension) }
@@ -46,56 +44,37 @@ fn signal_reads<D: Device>(declared: &Declared) -> Reads
         fb: is_leaf::<D>(declared, Some(Extension::Fb)),
         pin: is_leaf::<D>(declared, Some(Extension::Pin)),
         control: false,
-        parts: 0,
     }
 }
 
-/// The bits of a constant, which makes no node with this extension at its signals.
-fn bits_alone<D: Device>(
+/// The bits of a constant whose own extensions read no leaf, built where its other signals stand as `.CLK`, under which
+/// they read none. It is kept where it made no node, and has the same bits under each extension with which it makes none.
+fn still_bits<D: Device>(
     alloc: Global,
     scope: &Scope<'_>,
     rows: &[Row],
     expr: &Expr,
-    extension: Option<Extension>,
 ) -> Result<Option<Bits>, OutOfMemory>
     requires rows { AreRows (entries_of scope.now) (context_for D.table scope.now) 0 rows.now }
-    requires still { reads_leaf (context_for D.table scope.now) extension (term_of (known_of (take (length rows.now) (entries_of scope.now))) (view expr.now)) ≡ false }
+    requires still { reads_leaf (context_for D.table scope.now) (Some extension.Clk) (term_of (known_of (take (length rows.now) (entries_of scope.now))) (view expr.now)) ≡ false }
     ensures { IfOk result (λ o. IsKeptIf (context_for D.table scope.now) o (term_of (known_of (take (length rows.now) (entries_of scope.now))) (view expr.now))) }
 {
     let mut exprs = Exprs::new(alloc);
     let outer = Outer {
-        extension,
+        extension: Some(Extension::Clk),
         count: rows.len(),
     };
     match walk::<D>(alloc, scope, rows, Work::Whole(expr, outer), &mut exprs) {
-        Ok(bits) => Ok(Some(bits)),
+        Ok(bits) => {
+            if exprs.made() == 0 {
+                Ok(Some(bits))
+            } else {
+                Ok(None)
+            }
+        }
         Err(ExprFault::NodeLimit) => Ok(None),
         Err(ExprFault::OutOfMemory) => Err(OutOfMemory),
     }
-}
-
-/// The bits of a constant that reads this, if they are kept.
-fn constant_bits<D: Device>(
-    alloc: Global,
-    scope: &Scope<'_>,
-    rows: &[Row],
-    expr: &Expr,
-    reads: Reads,
-) -> Result<Option<Bits>, OutOfMemory>
-    requires rows { AreRows (entries_of scope.now) (context_for D.table scope.now) 0 rows.now }
-    requires reads { IsReads (context_for D.table scope.now) reads (term_of (known_of (take (length rows.now) (entries_of scope.now))) (view expr.now)) }
-    ensures { IfOk result (λ o. IsKeptIf (context_for D.table scope.now) o (term_of (known_of (take (length rows.now) (entries_of scope.now))) (view expr.now))) }
-{
-    if reads.parts <= FEW {
-        return Ok(None);
-    }
-    if !reads.bare {
-        return bits_alone::<D>(alloc, scope, rows, expr, None);
-    }
-    if !reads.control {
-        return bits_alone::<D>(alloc, scope, rows, expr, Some(Extension::Clk));
-    }
-    Ok(None)
 }
 
 /// The row of a constant.
@@ -109,7 +88,10 @@ fn constant_row<D: Device>(
     ensures { IfOk result (λ r. IsRow (context_for D.table scope.now) r (term_of (known_of (take (length rows.now) (entries_of scope.now))) (view expr.now))) }
 {
     let reads = expr_reads(alloc, scope, rows, expr)?;
-    let bits = constant_bits::<D>(alloc, scope, rows, expr, reads)?;
+    if reads.control {
+        return Ok(Row::of(reads));
+    }
+    let bits = still_bits::<D>(alloc, scope, rows, expr)?;
     Ok(Row { reads, bits })
 }
 

@@ -1,19 +1,20 @@
-//! What expressions read, by what the names read.
+//! What expressions read, by what their names read.
 
-ghost use Rattle.std.specs.Prelude.{◌≡◌, List, length, take, IfOk};
+ghost use Rattle.std.specs.Prelude.{◌≡◌, length, map, take, IfOk};
+ghost use Rattle.std.specs.List.{list_any};
 ghost use Rattle.abel_tree.specs.Entries.{entries_of};
-ghost use Rattle.abel_tree.specs.Ranges.{range_names};
-ghost use Rattle.abel_tree.specs.View.{view, view_member};
+ghost use Rattle.abel_tree.specs.View.{view};
 ghost use Rattle.abel_meaning.specs.Designs.{Context};
-ghost use Rattle.abel_meaning.specs.Terms.{NoTerm, known_of, member_before, named_before, term_named, term_of};
-ghost use Rattle.expr_bits.specs.Members.{list_of};
-ghost use Rattle.expr_bits.specs.Reads.{AllRead, IsReads};
+ghost use Rattle.abel_meaning.specs.Terms.{known_of, term_named, term_of};
+ghost use Rattle.name_uses.specs.RangeParts.{name_items};
+ghost use Rattle.name_uses.specs.Viewed.{view_use};
+ghost use Rattle.expr_bits.specs.Reads.{Finds, IsReads, named_leaf, named_signal, used_leaf, used_signal};
 ghost use Rattle.expr_bits.specs.Still.{AreRows};
 
 use crate::reads::Reads;
 use crate::rows::{Row, reads_at};
-use abel_tree::{Expr, Member, Word};
-use name_uses::range_list;
+use abel_tree::Expr;
+use name_uses::{NameUse, names_used, range_list};
 use pld_base::OutOfMemory;
 use set_expr::Scope;
 use std::alloc::Global;
@@ -28,93 +29,41 @@ fn text_reads(scope: &Scope<'_>, rows: &[Row], text: &[u8]) -> Reads
     }
 }
 
-/// What the names of a range read.
-fn range_reads(
-    alloc: Global,
-    scope: &Scope<'_>,
-    rows: &[Row],
-    first: &Word,
-    last: &Word,
-) -> Result<Reads, OutOfMemory>
-    ensures { IfOk result (λ r. (d : Context) → AreRows (entries_of scope.now) d 0 rows.now → AllRead d r (list_of (named_before (known_of (take (length rows.now) (entries_of scope.now))) (range_names first.now.text last.now.text) NoTerm))) }
+/// What these names read.
+fn list_reads(scope: &Scope<'_>, rows: &[Row], names: &[Vec<u8>]) -> Reads
+    ensures { (d : Context) → AreRows (entries_of scope.now) d 0 rows.now → Finds result
+        (list_any (named_signal (known_of (take (length rows.now) (entries_of scope.now)))) (map name_items names.now))
+        (λ e. list_any (named_leaf d (known_of (take (length rows.now) (entries_of scope.now))) e) (map name_items names.now)) }
 {
-    let names = range_list(alloc, first.text.bytes(), last.text.bytes())?;
     let mut reads = Reads::none();
-    for name in &names {
+    for name in names {
         reads = reads.with(text_reads(scope, rows, name.as_slice()));
     }
-    Ok(reads)
+    reads
 }
 
-/// What a member of a set reads.
-#[cycle(reading)]
-fn member_reads(
+/// What is read where names are used, with the extension that counts for them.
+fn used_reads(
     alloc: Global,
     scope: &Scope<'_>,
     rows: &[Row],
-    member: &Member,
+    used: &NameUse<'_>,
 ) -> Result<Reads, OutOfMemory>
-    ensures { IfOk result (λ r. (d : Context) → AreRows (entries_of scope.now) d 0 rows.now → AllRead d r (list_of (member_before (known_of (take (length rows.now) (entries_of scope.now))) (view_member member.now) NoTerm))) }
+    ensures { IfOk result (λ r. (d : Context) → AreRows (entries_of scope.now) d 0 rows.now → Finds r
+        (used_signal (known_of (take (length rows.now) (entries_of scope.now))) (view_use used.now))
+        (λ e. used_leaf d (known_of (take (length rows.now) (entries_of scope.now))) e (view_use used.now))) }
 {
-    match member {
-        Member::One(expr) => expr_reads(alloc, scope, rows, expr),
-        Member::Span { first, last } => range_reads(alloc, scope, rows, first, last),
-    }
-}
-
-/// What is read by what is no operator of two operands.
-#[cycle(reading)]
-fn level_reads(
-    alloc: Global,
-    scope: &Scope<'_>,
-    rows: &[Row],
-    expr: &Expr,
-) -> Result<Reads, OutOfMemory>
-    ensures { IfOk result (λ r. (d : Context) → AreRows (entries_of scope.now) d 0 rows.now → IsReads d r (term_of (known_of (take (length rows.now) (entries_of scope.now))) (view expr.now))) }
-{
-    match expr {
-        Expr::Number(_) => Ok(Reads::none()),
-        Expr::Special {
-            letter: _,
-            place: _,
-        } => Ok(Reads::none()),
-        Expr::Name { word, extension } => {
-            Ok(text_reads(scope, rows, word.text.bytes()).under(*extension))
-        }
-        Expr::Set {
-            place: _,
-            members,
-            extension,
-        } => {
-            let mut reads = Reads::none();
-            for member in members.as_slice() {
-                let here = member_reads(alloc, scope, rows, member)?;
-                reads = reads.with(here);
-            }
-            Ok(reads.under(*extension))
-        }
-        Expr::Paren { place: _, inner } => expr_reads(alloc, scope, rows, inner.get()),
-        Expr::Unary {
-            sign: _,
-            place: _,
-            inner,
-        } => expr_reads(alloc, scope, rows, inner.get()),
-        Expr::Binary {
-            sign: _,
-            place: _,
-            left,
-            right,
-        } => {
-            let left = expr_reads(alloc, scope, rows, left.get())?;
-            let right = expr_reads(alloc, scope, rows, right.get())?;
-            Ok(left.with(right))
+    let first = used.first.text.bytes();
+    match used.last {
+        None => Ok(text_reads(scope, rows, first).under(used.extension)),
+        Some(last) => {
+            let names = range_list(alloc, first, last.text.bytes())?;
+            Ok(list_reads(scope, rows, names.as_slice()).under(used.extension))
         }
     }
 }
 
-/// What an expression over the names that have rows reads. Goes down the left side of operators in a loop, and deeper by
-/// the nestings alone; constants are looked up.
-#[cycle(reading)]
+/// What an expression over the names that have rows reads; constants are looked up.
 pub(crate) fn expr_reads(
     alloc: Global,
     scope: &Scope<'_>,
@@ -123,19 +72,11 @@ pub(crate) fn expr_reads(
 ) -> Result<Reads, OutOfMemory>
     ensures { IfOk result (λ r. (d : Context) → AreRows (entries_of scope.now) d 0 rows.now → IsReads d r (term_of (known_of (take (length rows.now) (entries_of scope.now))) (view expr.now))) }
 {
-    let mut first = expr;
-    let mut found = Reads::none();
-    'down: while let Expr::Binary {
-        sign: _,
-        place: _,
-        left,
-        right,
-    } = first
-    {
-        let reads = expr_reads(alloc, scope, rows, right.get())?;
-        found = found.with(reads);
-        first = left.get();
+    let uses = names_used(alloc, expr)?;
+    let mut reads = Reads::none();
+    for used in &uses {
+        let here = used_reads(alloc, scope, rows, used)?;
+        reads = reads.with(here);
     }
-    let reads = level_reads(alloc, scope, rows, first)?;
-    Ok(found.with(reads))
+    Ok(reads)
 }

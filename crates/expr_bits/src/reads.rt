@@ -2,9 +2,8 @@
 
 ghost use Rattle.std.specs.Prelude.{◌≡◌, ◌||◌, Option};
 ghost use Rattle.abel_tree.specs.declared.words.Extension.{Extension as AnExtension};
-ghost use Rattle.abel_meaning.specs.Designs.{Context};
-ghost use Rattle.abel_meaning.specs.Terms.{Term, extended_if};
-ghost use Rattle.expr_bits.specs.Reads.{IsReads, leaf_under, no_reads};
+ghost use Rattle.abel_tree.specs.Extensions.{innermost};
+ghost use Rattle.expr_bits.specs.Reads.{leaf_under, no_reads};
 
 use abel_tree::Extension;
 
@@ -19,8 +18,6 @@ pub(crate) struct Reads {
     pub pin: bool,
     /// Under `.CLK`, `.OE`, `.AR`, `.SP` or `.D`, as which no signal has a value.
     pub control: bool,
-    /// How many operators and members it has, with those of the constants in it; `u32::MAX` stands for more.
-    pub parts: u32,
 }
 
 impl Reads {
@@ -35,7 +32,6 @@ impl Reads {
             fb: false,
             pin: false,
             control: false,
-            parts: 0,
         }
     }
 
@@ -54,7 +50,8 @@ impl Reads {
 
     /// With an extension, which no other takes the place of.
     pub(crate) fn under(self, extension: Option<Extension>) -> Reads
-        ensures { (d : Context) (t : Term) → IsReads d self t → IsReads d result (extended_if extension t) }
+        ensures signal { result.signal ≡ self.signal }
+        ensures leaf { (e : Option AnExtension) → leaf_under result e ≡ leaf_under self (innermost extension e) }
     {
         match extension {
             None => self,
@@ -67,7 +64,6 @@ impl Reads {
                     fb: leaf,
                     pin: leaf,
                     control: leaf,
-                    parts: self.parts,
                 }
             }
         }
@@ -85,7 +81,6 @@ impl Reads {
             fb: self.fb || other.fb,
             pin: self.pin || other.pin,
             control: self.control || other.control,
-            parts: self.parts.saturating_add(other.parts).saturating_add(1),
         }
     }
 }

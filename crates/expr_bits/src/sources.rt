@@ -1,17 +1,15 @@
 //! What signals read.
 
-ghost use Rattle.std.specs.Prelude.{◌≡◌, ◌<◌, Some, not, IfSome};
-ghost use Rattle.abel_tree.specs.Entries.{has, view_declared};
-ghost use Rattle.abel_meaning.specs.Designs.{cell_on, is_stored};
-ghost use Rattle.abel_meaning.specs.Sources.{node_source, on_pin, pin_source, register_source, source_by};
+ghost use Rattle.std.specs.Prelude.{◌≡◌, ◌<◌, Some, not};
+ghost use Rattle.abel_tree.specs.Entries.{is_stored, view_declared};
 ghost use Rattle.pld_device.specs.Macrocells.{complement_if};
+ghost use Rattle.abel_meaning.specs.Sources.{node_source, on_pin, pin_source, register_source, source_by};
 ghost use Rattle.expr_bits.specs.Held.{HasLeaf, view_reading};
 ghost use Rattle.set_expr.specs.Scopes.{IsPlacedKind};
 
-use abel_tree::{Attributes, Declared, Extension, Meaning};
+use abel_tree::{Declared, Extension, Meaning};
 use bit_expr::Leaf;
-use bitflags::Flags;
-use pld_device::Device;
+use pld_device::{Device, cell_on};
 
 /// A leaf, or the complement of what it carries.
 #[derive(Clone, Copy, PartialEq, Eq)]
@@ -20,31 +18,16 @@ pub(crate) struct Reading {
     pub leaf: Leaf,
 }
 
-/// The cell on a pin.
-fn cell_on<D: Device>(pin: u8) -> Option<u8>
-    ensures cell { result ≡ cell_on D.table pin }
-    ensures below { IfSome result (λ c. c < 32) }
-{
-    for index in 0..D::CELLS {
-        if D::cell(index).pin == pin {
-            return Some(index);
-        }
-    }
-    None
-}
-
 /// A combinational signal on a pin: its level.
 fn pin_source(pin: u8, negated: bool, extension: Option<Extension>) -> Option<Reading>
     ensures source { view_reading result ≡ pin_source pin negated extension }
     ensures leaf { pin < 32 → HasLeaf result }
 {
-    let level = Reading {
-        complement: negated,
-        leaf: Leaf::Pin(pin),
-    };
     match extension {
-        None => Some(level),
-        Some(Extension::Pin) => Some(level),
+        None | Some(Extension::Pin) => Some(Reading {
+            complement: negated,
+            leaf: Leaf::Pin(pin),
+        }),
         Some(_) => None,
     }
 }
@@ -69,29 +52,12 @@ fn cell_source(
     let leaf = Leaf::Q(cell);
     let complement = is_complement(negated, buffer);
     match extension {
-        None => Some(Reading { complement, leaf }),
-        Some(Extension::Fb) => Some(Reading { complement, leaf }),
+        None | Some(Extension::Fb) => Some(Reading { complement, leaf }),
         Some(Extension::Q) => Some(Reading {
             complement: false,
             leaf,
         }),
         Some(_) => None,
-    }
-}
-
-/// A register on a pin.
-fn register_source<D: Device>(
-    pin: u8,
-    negated: bool,
-    buffer: bool,
-    extension: Option<Extension>,
-) -> Option<Reading>
-    ensures source { view_reading result ≡ register_source negated buffer (cell_on D.table pin) extension }
-    ensures leaf { HasLeaf result }
-{
-    match cell_on::<D>(pin) {
-        Some(cell) => cell_source(negated, buffer, cell, extension),
-        None => None,
     }
 }
 
@@ -109,27 +75,6 @@ fn node_source(node: u8, extension: Option<Extension>) -> Option<Reading>
     }
 }
 
-/// Whether the pin follows Q, as it does where nothing says otherwise.
-fn follows_q(attributes: Attributes) -> bool
-    ensures { result ≡ not (has 8 attributes) }
-{
-    !attributes.contains(Attributes::INVERT)
-}
-
-/// Whether the attributes say registered.
-fn has_reg(attributes: Attributes) -> bool
-    ensures { result ≡ has 2 attributes }
-{
-    attributes.contains(Attributes::REG)
-}
-
-/// Whether the signal is stored in a register.
-fn is_stored(declared: &Declared) -> bool
-    ensures { result ≡ is_stored (view_declared declared.now) }
-{
-    has_reg(declared.attributes) && declared.assigned
-}
-
 /// A signal on a pin.
 fn on_pin<D: Device>(
     declared: &Declared,
@@ -140,10 +85,12 @@ fn on_pin<D: Device>(
     ensures source { view_reading result ≡ on_pin D.table (view_declared declared.now) pin negated (is_stored (view_declared declared.now)) extension }
     ensures leaf { pin < 32 → HasLeaf result }
 {
-    if is_stored(declared) {
-        register_source::<D>(pin, negated, follows_q(declared.attributes), extension)
-    } else {
-        pin_source(pin, negated, extension)
+    if !declared.is_stored() {
+        return pin_source(pin, negated, extension);
+    }
+    match cell_on::<D>(pin) {
+        Some(cell) => cell_source(negated, declared.follows_q(), cell, extension),
+        None => None,
     }
 }
 

@@ -10,6 +10,7 @@ use Rattle.expr_bits.specs.declared.step.Step.TheVariants as step
 use Rattle.expr_bits.specs.declared.work.Work.TheVariants as work
 use Rattle.expr_bits.specs.Steps.{Push}
 use Rattle.expr_bits.proofs.Coming.{first_comes, same_first, number_comes, special_extended, under_work, both_work}
+use Rattle.expr_bits.proofs.Extensions.{innermost_wins}
 use Rattle.expr_bits.proofs.Views.{view_number, view_special, view_name, view_set, view_paren, view_unary, view_binary}
 use Rattle.expr_bits.proofs.expanding.expand.Goals as goal
 
@@ -44,11 +45,11 @@ returns-in-Name c =
     let ks = known_of (take c.args.outer.count es) in
     let e = c.args.outer.extension in
     let old = c.args.work.items in
-    let own = c.inner_first.result in
+    let own = c.innermost.result in
     let word = c.in-Name.word in
     IfOk-weaker c.first_of-in-Name.result _ _
     (λ new has. same_first es new.items old (extended_if own (term_named ks c.bytes.result.now)) _
-    (ap (λ text. extended_if own (term_named ks text)) c.bytes.ensures ∙ c.inner_first.ensures (term_named ks word.text)
+    (ap (λ text. extended_if own (term_named ks text)) c.bytes.ensures ∙ (ap (λ o. extended_if o (term_named ks word.text)) c.innermost.ensures ∙ innermost_wins c.in-Name.own e (term_named ks word.text))
     ∙ ap (λ t. extended_if e (term_of ks t)) (sym (ap view c.in-Name.is ∙ view_name word c.in-Name.own)))
     (first_comes es old new.items c.name_work-next.result (extended_if own (term_named ks c.bytes.result.now)) has c.name_work-next.ensures))
     c.first_of-in-Name.ensures
@@ -59,12 +60,12 @@ returns-in-Set c =
     let ks = known_of (take c.args.outer.count es) in
     let e = c.args.outer.extension in
     let old = c.args.work.items in
-    let own = c.inner_first-in-Set.result in
+    let own = c.innermost-in-Set.result in
     let ms = c.in-Set.members in
     IfOk-weaker c.expand_set.result _ _
     (λ new has. same_first es new.items old (extended_if own (term.Set (terms_of ks (members_of (map view_member c.as_slice.result.now))))) _
     (ap (λ xs. extended_if own (term.Set (terms_of ks (members_of (map view_member xs))))) c.as_slice.ensures
-    ∙ c.inner_first-in-Set.ensures (term.Set (terms_of ks (members_of (map view_member ms))))
+    ∙ (ap (λ o. extended_if o (term.Set (terms_of ks (members_of (map view_member ms))))) c.innermost-in-Set.ensures ∙ innermost_wins c.in-Set.own e (term.Set (terms_of ks (members_of (map view_member ms)))))
     ∙ ap (λ t. extended_if e (term_of ks t)) (sym (ap view c.in-Set.is ∙ view_set c.in-Set.place ms c.in-Set.own)))
     has)
     c.expand_set.ensures

@@ -1,6 +1,7 @@
 -- One position more.
 use Rattle.std.proofs.Common.{◌<◌, ◌≤◌, subst}
-use Rattle.expr_bits.proofs.MetWords.{grows, ends, either_next, either_past}
+use Rattle.expr_bits.proofs.MetWords.{either_next, either_past}
+use Rattle.expr_bits.proofs.PositionWords.{grows, ends}
 use Rattle.expr_bits.proofs.meeting.either_unknown.Goals as goal
 
 pub loop-index-preserved : goal.loop-index-preserved

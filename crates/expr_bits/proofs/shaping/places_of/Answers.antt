@@ -1,6 +1,7 @@
 -- One position more, and all of them.
 use Rattle.std.proofs.Common.{false}
-use Rattle.expr_bits.proofs.Shaped.{grows, places_next, places_end}
+use Rattle.expr_bits.proofs.PositionWords.{grows}
+use Rattle.expr_bits.proofs.Shaped.{places_next, places_end}
 use Rattle.expr_bits.proofs.shaping.places_of.Goals as goal
 
 pub loop-index-preserved : goal.loop-index-preserved

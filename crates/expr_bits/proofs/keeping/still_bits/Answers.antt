@@ -1,5 +1,6 @@
 -- What was built alone without a node.
-use Rattle.std.proofs.Common.{length, take, Ok, refl, subst}
+use Rattle.std.proofs.Common.{length, take, Ok, Some, refl, sym, ◌∙◌, subst}
+use Rattle.abel_tree.specs.declared.words.Extension.TheVariants as extension
 use Rattle.abel_tree.specs.Entries.{entries_of}
 use Rattle.abel_tree.specs.View.{view}
 use Rattle.abel_meaning.specs.Terms.{extended_if, known_of, term_of}
@@ -8,14 +9,14 @@ use Rattle.expr_bits.specs.Making.{Makes}
 use Rattle.expr_bits.specs.Parts.{IsPart}
 use Rattle.expr_bits.specs.Steps.{term_part}
 use Rattle.expr_bits.proofs.KeptBits.{kept_alone}
-use Rattle.expr_bits.proofs.Quiet.{kept_under, quiet_free}
-use Rattle.expr_bits.proofs.keeping.bits_alone.Goals as goal
+use Rattle.expr_bits.proofs.Quiet.{kept_under}
+use Rattle.expr_bits.proofs.keeping.still_bits.Goals as goal
 
-pub returns-in-Ok : goal.returns-in-Ok
-returns-in-Ok g c e k =
+pub returns-then-made-eq0 : goal.returns-then-made-eq0
+returns-then-made-eq0 g c e k =
     let n = c.args.scope.now in
     let d = context_for g.D.Device.table n in
-    let x = c.args.extension in
+    let x = Some extension.Clk in
     let t = term_of (known_of (take (length c.args.rows.now) (entries_of n))) (view c.args.expr.now) in
     let made = subst (λ old. Makes IsPart old c.walk.new.exprs (Ok c.in-Ok.bits) (term_part d (extended_if x t))) c.new-exprs.ensures (c.in-Ok.ensures (extended_if x t) refl) in
-    kept_under d x e t c.in-Ok.bits c.requires.still (kept_alone d c.walk.new.exprs c.in-Ok.bits (extended_if x t) (quiet_free d x t c.requires.still) made) k
+    kept_under d x e t c.in-Ok.bits c.requires.still (kept_alone d c.walk.new.exprs c.in-Ok.bits (extended_if x t) (sym c.made.ensures ∙ c.if-made-eq0.true) made) k

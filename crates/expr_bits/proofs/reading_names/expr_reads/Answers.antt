@@ -1,0 +1,30 @@
+-- One use more, and all uses.
+use Rattle.std.proofs.Common.{None, length, map, take, ap, ◌∙◌, subst}
+use Rattle.std.specs.List.{list_any}
+use Rattle.abel_tree.specs.Entries.{entries_of}
+use Rattle.abel_tree.specs.View.{view}
+use Rattle.abel_meaning.specs.Terms.{known_of}
+use Rattle.name_uses.specs.Viewed.{view_use}
+use Rattle.set_expr.proofs.FoundMembers.{front_more, whole_front}
+use Rattle.expr_bits.specs.Reads.{Finds, used_leaf, used_signal}
+use Rattle.expr_bits.proofs.ReadLaws.{more_found, nothing_found, uses_read}
+use Rattle.expr_bits.proofs.reading_names.expr_reads.Goals as goal
+
+pub loop-used-init : goal.loop-used-init
+loop-used-init c d h = rw c.none-reads.ensures nothing_found
+
+pub loop-used-preserved : goal.loop-used-preserved
+loop-used-preserved c d h =
+    let known = known_of (take (length c.args.rows.now) (entries_of c.args.scope.now)) in
+    let uses = c.deref-used-items.result.now in
+    more_found c.loop-used.reads c.in_ok-here.here c.with-reads.result (used_signal known) (used_leaf d known) _ _ (view_use c.used-item.result)
+    (front_more view_use uses c.loop-used.used-index c.used-item.result c.loop-used-test.true c.used-item.is)
+    c.with-reads.ensures.signal c.with-reads.ensures.leaf (c.loop-used.invariant d h) (c.in_ok-here.ensures d h)
+
+pub returns : goal.returns
+returns c d h =
+    let known = known_of (take (length c.args.rows.now) (entries_of c.args.scope.now)) in
+    let uses = c.deref-used-items.result.now in
+    uses_read d known c.loop-used.reads (view c.args.expr.now)
+    (subst (λ us. Finds c.loop-used.reads (list_any (used_signal known) us) (λ e. list_any (used_leaf d known e) us))
+    (whole_front view_use uses c.loop-used.used-index c.loop-used-test.false ∙ ap (map view_use) c.deref-used-items.ensures.value ∙ c.in_ok-uses.ensures) (c.loop-used.invariant d h))

@@ -1,0 +1,17 @@
+-- What is read so far.
+use Rattle.std.proofs.Common.{length, map, take}
+use Rattle.std.specs.List.{list_any}
+use Rattle.abel_tree.specs.Entries.{entries_of}
+use Rattle.abel_meaning.specs.Designs.{Context}
+use Rattle.abel_meaning.specs.Terms.{known_of}
+use Rattle.name_uses.specs.Viewed.{view_use}
+use Rattle.expr_bits.specs.Reads.{Finds, used_leaf, used_signal}
+use Rattle.expr_bits.specs.Still.{AreRows}
+use Rattle.expr_bits.proofs.reading_names.expr_reads.Given as goal
+
+abbrev pub invariant-loop-used : goal.invariant-loop-used
+invariant-loop-used l =
+    let known = known_of (take (length l.rows) (entries_of l.scope)) in
+    let uses = map view_use (take l.used-index l.used-items) in
+    (d : Context) → AreRows (entries_of l.scope) d 0 l.rows
+    → Finds l.reads (list_any (used_signal known) uses) (λ e. list_any (used_leaf d known e) uses)

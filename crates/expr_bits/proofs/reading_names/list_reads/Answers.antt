@@ -1,0 +1,27 @@
+-- One name more, and all names.
+use Rattle.std.proofs.Common.{length, map, take, sym, ap, subst}
+use Rattle.std.specs.List.{list_any}
+use Rattle.abel_tree.specs.Entries.{entries_of}
+use Rattle.abel_meaning.specs.Terms.{known_of, term_named}
+use Rattle.name_uses.specs.RangeParts.{name_items}
+use Rattle.set_expr.proofs.FoundMembers.{front_more, whole_front}
+use Rattle.expr_bits.specs.Reads.{Finds, IsReads, named_leaf, named_signal}
+use Rattle.expr_bits.proofs.ReadLaws.{more_found, nothing_found}
+use Rattle.expr_bits.proofs.reading_names.list_reads.Goals as goal
+
+pub loop-name-init : goal.loop-name-init
+loop-name-init c d h = rw c.none-reads.ensures nothing_found
+
+pub loop-name-preserved : goal.loop-name-preserved
+loop-name-preserved c d h =
+    let known = known_of (take (length c.args.rows.now) (entries_of c.args.scope.now)) in
+    let here = subst (λ w. IsReads d c.text_reads.result (term_named known w)) c.as_slice.ensures.value (c.text_reads.ensures d h) in
+    more_found c.loop-name.reads c.text_reads.result c.with-reads.result (named_signal known) (named_leaf d known) _ _ (name_items c.name-item.result)
+    (front_more name_items c.args.names.now c.loop-name.name-index c.name-item.result c.loop-name-test.true c.name-item.is)
+    c.with-reads.ensures.signal c.with-reads.ensures.leaf (c.loop-name.invariant d h) here
+
+pub returns : goal.returns
+returns c d h =
+    let known = known_of (take (length c.args.rows.now) (entries_of c.args.scope.now)) in
+    subst (λ names. Finds c.loop-name.reads (list_any (named_signal known) names) (λ e. list_any (named_leaf d known e) names))
+    (whole_front name_items c.args.names.now c.loop-name.name-index c.loop-name-test.false) (c.loop-name.invariant d h)

@@ -1,0 +1,42 @@
+-- One name, and the names of a range.
+use Rattle.std.proofs.Common.{◌≡◌, ◌∷◌, [], Option, None, length, map, option_map, take, sym, ap, ap₂, ◌∙◌, subst}
+use Rattle.std.specs.List.{list_any}
+use Rattle.std.proofs.Math.Bool.{or-false}
+use Rattle.abel_tree.specs.declared.words.Extension.{Extension}
+use Rattle.abel_tree.specs.Entries.{entries_of}
+use Rattle.abel_tree.specs.Extensions.{innermost}
+use Rattle.abel_tree.specs.Ranges.{range_names}
+use Rattle.abel_meaning.specs.Terms.{known_of, term_named}
+use Rattle.name_uses.specs.RangeParts.{name_items}
+use Rattle.name_uses.specs.Viewed.{word_at}
+use Rattle.expr_bits.specs.Reads.{Finds, IsReads, named_leaf, named_signal, names_to}
+use Rattle.expr_bits.proofs.reading_names.used_reads.Goals as goal
+
+pub returns-in-None : goal.returns-in-None
+returns-in-None c d h =
+    let known = known_of (take (length c.args.rows.now) (entries_of c.args.scope.now)) in
+    let used = c.args.used.now in
+    let text = used.first.now.text in
+    let one : names_to used.first.now (option_map word_at used.last) ≡ text ∷ [] = ap (λ o. names_to used.first.now (option_map word_at o)) c.in-None.is in
+    let here = subst (λ w. IsReads d c.text_reads.result (term_named known w)) c.bytes-first.ensures (c.text_reads.ensures d h) in
+    record {
+      signal = c.under.ensures.signal ∙ here.signal ∙ sym (or-false (named_signal known text)) ∙ ap (list_any (named_signal known)) (sym one);
+      leaf = λ (e : Option Extension).
+          let x = innermost used.extension e in
+          c.under.ensures.leaf e ∙ here.leaf x ∙ sym (or-false (named_leaf d known x text)) ∙ ap (list_any (named_leaf d known x)) (sym one);
+    }
+
+pub returns-in_ok-names-in-Some : goal.returns-in_ok-names-in-Some
+returns-in_ok-names-in-Some c d h =
+    let known = known_of (take (length c.args.rows.now) (entries_of c.args.scope.now)) in
+    let used = c.args.used.now in
+    let all : map name_items c.as_slice.result.now ≡ names_to used.first.now (option_map word_at used.last) =
+    ap (map name_items) c.as_slice.ensures.value ∙ (c.in_ok-names-in-Some.ensures ∙ ap₂ range_names c.bytes-first.ensures c.bytes.ensures)
+    ∙ ap (λ o. names_to used.first.now (option_map word_at o)) (sym c.in-Some.is) in
+    let here = c.list_reads.ensures d h in
+    record {
+      signal = c.under-in-Some.ensures.signal ∙ here.signal ∙ ap (list_any (named_signal known)) all;
+      leaf = λ (e : Option Extension).
+          let x = innermost used.extension e in
+          c.under-in-Some.ensures.leaf e ∙ here.leaf x ∙ ap (list_any (named_leaf d known x)) all;
+    }
