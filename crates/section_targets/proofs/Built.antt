@@ -11,10 +11,9 @@ use Rattle.abel_meaning.specs.Contributions as meant
 use Rattle.set_expr.specs.declared.contributions.Contribution.{Contribution}
 use Rattle.set_expr.specs.declared.contributions.Contributions.{Contributions}
 use Rattle.set_expr.specs.declared.fault.SectionFault.{SectionFault}
-use Rattle.set_expr.specs.declared.fault.SectionFault.TheVariants as fault
 use Rattle.set_expr.specs.Answer.{Keeps}
 use Rattle.set_expr.specs.Given.{view_contribution}
-use Rattle.section_targets.specs.Building.{Stop, AtLimit, NoMemory, AtRefusal, stop_of, Stops, StopsWith, IsBuilt, Builds}
+use Rattle.section_targets.specs.Building.{Stops, NoMemory, AtLimit, StopsWith, IsBuilt, Builds}
 use Rattle.section_targets.specs.Appending.{Appends, Leaves, Contributed}
 use Rattle.section_targets.specs.Units.{CountedUnit, is_past, limit_at, limit_refused, units_refused, units_nodes}
 
@@ -53,14 +52,14 @@ limit_append count (u ∷ us) vs e h =
     ∙ ap (λ n. limit_refused n vs) (omega arith)
 
 -- where the limit is passed, what follows changes nothing
-limit_passed : (rs : List SectionFault) (p q : Place) (past : Bool) (later more : List SectionFault) → limit_at rs p past later ≡ fault.NodeLimit q ∷ [] → (later ≡ fault.NodeLimit q ∷ [] → more ≡ fault.NodeLimit q ∷ []) → limit_at rs p past more ≡ fault.NodeLimit q ∷ []
-limit_passed [] p q true later more h k = h
-limit_passed [] p q false later more h k = k h
-limit_passed (r ∷ rs) p q past later more h k = absurd cc
+limit_passed : (rs : List SectionFault) (p : Place) (past : Bool) (later more : List SectionFault) (f : SectionFault) → limit_at rs p past later ≡ f ∷ [] → (later ≡ f ∷ [] → more ≡ f ∷ []) → limit_at rs p past more ≡ f ∷ []
+limit_passed [] p true later more f h k = h
+limit_passed [] p false later more f h k = k h
+limit_passed (r ∷ rs) p past later more f h k = absurd cc
 
-pub limit_stays : (count : ℕ) (us vs : List CountedUnit) (q : Place) → limit_refused count us ≡ fault.NodeLimit q ∷ [] → limit_refused count (us ++ vs) ≡ fault.NodeLimit q ∷ []
-limit_stays count [] vs q h = absurd cc
-limit_stays count (u ∷ us) vs q h = limit_passed u.refusals u.place q (is_past count u.nodes) (limit_refused (count + u.nodes) us) (limit_refused (count + u.nodes) (us ++ vs)) h (limit_stays (count + u.nodes) us vs q)
+pub limit_stays : (count : ℕ) (us vs : List CountedUnit) (f : SectionFault) → limit_refused count us ≡ f ∷ [] → limit_refused count (us ++ vs) ≡ f ∷ []
+limit_stays count [] vs f h = absurd cc
+limit_stays count (u ∷ us) vs f h = limit_passed u.refusals u.place (is_past count u.nodes) (limit_refused (count + u.nodes) us) (limit_refused (count + u.nodes) (us ++ vs)) f h (limit_stays (count + u.nodes) us vs f)
 
 -- behind a refused unit none is counted
 refused_first : (rs more later later1 : List SectionFault) (p : Place) (past : Bool) → (rs ++ more ≡ [] → ⊥) → limit_at rs p past later ≡ [] → ((more ≡ [] → ⊥) → later ≡ [] → later1 ≡ []) → limit_at rs p past later1 ≡ []
@@ -73,15 +72,10 @@ refused_stays count [] vs h e = absurd (h refl)
 refused_stays count (u ∷ us) vs h e =
     refused_first u.refusals (units_refused us) (limit_refused (count + u.nodes) us) (limit_refused (count + u.nodes) (us ++ vs)) u.place (is_past count u.nodes) h e (refused_stays (count + u.nodes) us vs)
 
-stops_stay : (stop : Stop) (count : ℕ) (us vs : List CountedUnit) → Stops stop count us → Stops stop count (us ++ vs)
-stops_stay (AtLimit p) count us vs h = limit_stays count us vs p h
-stops_stay NoMemory count us vs h = tt
-stops_stay AtRefusal count us vs h = (λ e. h.0 (left_empty (units_refused us) (units_refused vs) (sym (refused_append us vs) ∙ e)), refused_stays count us vs h.0 h.1)
-
-stops_later : (stop : Stop) (count : ℕ) (us vs : List CountedUnit) → units_refused us ≡ [] → limit_refused count us ≡ [] → Stops stop (count + units_nodes us) vs → Stops stop count (us ++ vs)
-stops_later (AtLimit p) count us vs e w h = limit_append count us vs e w ∙ h
-stops_later NoMemory count us vs e w h = tt
-stops_later AtRefusal count us vs e w h = (λ r. h.0 (right_empty (units_refused us) (units_refused vs) (sym (refused_append us vs) ∙ r)), limit_append count us vs e w ∙ h.1)
+-- what stops units stops them with more behind them, or behind what was made
+pub stops_on : (f : SectionFault) (count later : ℕ) (us vs : List CountedUnit) → (limit_refused count us ≡ f ∷ [] → limit_refused later vs ≡ f ∷ []) → Stops f count us → Stops f later vs
+stops_on f count later us vs k (NoMemory h) = NoMemory h
+stops_on f count later us vs k (AtLimit h) = AtLimit (k h)
 
 -- ---- what stands
 
@@ -198,14 +192,15 @@ builds_then us vs gs hs ps qs old mid new (Ok r) b a =
           (made_then old mid new gs hs ps qs (units_nodes us) (units_nodes vs) b.made a.made);
     }
 builds_then us vs gs hs ps qs old mid new (Err f) b a = (
-  stops_later (stop_of f) (length (arena old.exprs)) us vs b.accepted b.within (subst (λ n. Stops (stop_of f) n vs) b.made.grew.count a.0),
+  stops_on f (length (arena mid.exprs)) (length (arena old.exprs)) vs (us ++ vs)
+      (λ h. limit_append (length (arena old.exprs)) us vs b.accepted b.within ∙ subst (λ n. limit_refused n vs ≡ f ∷ []) b.made.grew.count h) a.0,
   leaves_then old mid new gs hs ps qs (units_nodes us) b.made a.1,
 )
 
 -- where making stops, what would follow isn't made
 pub builds_stop : (us vs : List CountedUnit) (gs hs : List (meant.Contribution Formula)) (ps qs : List Place) (old new : Contributions) (f : SectionFault) → StopsWith us gs ps old new f → StopsWith (us ++ vs) (gs ++ hs) (ps ++ qs) old new f
 builds_stop us vs gs hs ps qs old new f b =
-    (stops_stay (stop_of f) (length (arena old.exprs)) us vs b.0, leaves_less old new gs hs ps qs b.1)
+    (stops_on f (length (arena old.exprs)) (length (arena old.exprs)) us (us ++ vs) (limit_stays (length (arena old.exprs)) us vs f) b.0, leaves_less old new gs hs ps qs b.1)
 
 -- nothing is made
 pub builds_none : (out : Contributions) → IsBuilt [] [] [] out out

@@ -20,7 +20,7 @@ use Rattle.section_targets.specs.Given.{places_of}
 use Rattle.std.proofs.lemmas.List.{map-append, length-map, take-append-drop, length-take-le}
 use Rattle.std.proofs.Math.Seq.{take-suc, take-length}
 use Rattle.section_targets.specs.Appending.{Leaves}
-use Rattle.section_targets.specs.Building.{StopsWith, IsBuilt, Builds}
+use Rattle.section_targets.specs.Building.{NoMemory, StopsWith, IsBuilt, Builds}
 use Rattle.section_targets.specs.Units.{CountedUnit}
 use Rattle.section_targets.proofs.Parts.{leaves_nodes}
 use Rattle.section_targets.proofs.Built.{builds_stop, builds_then, kept_formula}
@@ -33,7 +33,7 @@ stops_nodes us gs ps old new f s = subst (λ vs. StopsWith vs gs ps old new f) (
 pub memory_after : (us : List CountedUnit) (gs : List (meant.Contribution Formula)) (ps : List Place) (old new : List Node) (list more : List Contribution) → more ≡ list → IsBuilt us [] [] (record { exprs = old; list = list }) (record { exprs = new; list = list }) → StopsWith us gs ps (record { exprs = old; list = list }) (record { exprs = new; list = more }) fault.OutOfMemory
 memory_after us gs ps old new list more e b =
     stops_nodes us gs ps (record { exprs = old; list = list }) (record { exprs = new; list = more }) fault.OutOfMemory
-    (tt, subst (λ (l : List Contribution). Leaves (record { exprs = old; list = list }) (record { exprs = new; list = l }) [] []) (sym e) (leaves_nodes old new list b.made.grew.keeps))
+    (NoMemory refl, subst (λ (l : List Contribution). Leaves (record { exprs = old; list = list }) (record { exprs = new; list = l }) [] []) (sym e) (leaves_nodes old new list b.made.grew.keeps))
 
 -- a contribution behind nodes that were made
 pub given_after : (us : List CountedUnit) (g : meant.Contribution Formula) (p : Place) (old new : List Node) (list more : List Contribution) (c : Contribution) → IsBuilt us [] [] (record { exprs = old; list = list }) (record { exprs = new; list = list }) → more ≡ list ++ c ∷ [] → c.when.0 < length (arena new) → view_contribution (arena new) c ≡ g → c.place ≡ p → IsBuilt us (g ∷ []) (p ∷ []) (record { exprs = old; list = list }) (record { exprs = new; list = more })

@@ -1,6 +1,9 @@
 -- Look-ups from the front.
-use Rattle.std.proofs.Common.{◌≡◌, ℕ, zero, suc, ◌+◌, ◌<◌, ◌≤◌, Bool, true, false, ◌||◌, List, [], ◌∷◌, ◌++◌, Option, None, Some, Result, Ok, Err, OnOk, length, get_or, drop, if◌then◌else◌, refl, sym, ap, ap₂, ◌∙◌, subst, arith, add-one}
-use Rattle.std.specs.List.{list_any}
+use Rattle.std.proofs.Common.{◌≡◌, ℕ, zero, suc, ◌+◌, ◌<◌, ◌≤◌, Bool, true, false, ◌||◌, List, [], ◌∷◌, ◌++◌, Option, None, Some, cond, length, get_or, drop, if◌then◌else◌, refl, sym, ap, ap₂, ◌∙◌, subst, arith, add-one}
+use Rattle.std.specs.List.{list_any, position_from}
+use Rattle.std.specs.Option.{is_some}
+use Rattle.std.specs.Prelude.{position}
+use Rattle.std.proofs.lemmas.Iterator.Adapters.{position_from-zero}
 use Rattle.std.proofs.Math.Seq.{drop-cons}
 use Rattle.std.proofs.lemmas.List.{drop_all}
 use Rattle.section_targets.specs.declared.aim.Aim.{Aim}
@@ -36,11 +39,17 @@ first_in xs ms s part o e f = sym (ap (λ ys. first_manner ys s part) (sym e) �
 pub first_end : (ms : List Manner) (k : ℕ) (s part : ℕ) → length ms ≤ k → first_manner (drop k ms) s part ≡ None
 first_end ms k s part h = ap (λ xs. first_manner xs s part) (drop_all k ms h)
 
-pub any_from : {X : Type 0} (t : X → Bool) (xs : List X) (k : ℕ) (d : X) → k < length xs → list_any t (drop k xs) ≡ (t (get_or xs k d) || list_any t (drop (k + 1) xs))
-any_from t xs k d lt = ap (λ ys. list_any t ys) (next_of xs k d lt)
-
-pub any_end : {X : Type 0} (t : X → Bool) (xs : List X) (k : ℕ) → length xs ≤ k → list_any t (drop k xs) ≡ false
-any_end t xs k h = ap (λ ys. list_any t ys) (drop_all k xs h)
+-- there is a place where some is
+pub placed_any : {X : Type 0} (t : X → Bool) (xs : List X) → is_some (position t xs) ≡ list_any t xs
+placed_any {X = X} t xs = ap is_some (position_from-zero t xs) ∙ from 0 xs
+  where
+    from : (i : ℕ) (ys : List X) → is_some (position_from t i ys) ≡ list_any t ys
+    from i [] = refl
+    from i (y ∷ ys) = by_test (t y) (from (i + 1) ys)
+      where
+        by_test : (b : Bool) → is_some (position_from t (i + 1) ys) ≡ list_any t ys → is_some (cond b (Some i) (position_from t (i + 1) ys)) ≡ (b || list_any t ys)
+        by_test true e = refl
+        by_test false e = e
 
 -- ---- the first of each part
 
@@ -78,10 +87,6 @@ firsts_stay firsts all m f h e s part =
     stays (Some y) b x p q = refl
     stays None false x p q = refl
     stays None true x p q = absurd (missing m s part firsts f q e p)
-
-pub on_ok_map : {T E : Type 0} {A B : Type 0} (r : Result T E) → (A → B) → OnOk r A → OnOk r B
-on_ok_map (Ok x) f h = f h
-on_ok_map (Err e) f h = tt
 
 pub named_one : (n : ℕ) (a : Aim) → a.signal < n → AreNamed n (a ∷ [])
 named_one n a h zero d lt = h

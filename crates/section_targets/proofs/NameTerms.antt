@@ -4,6 +4,7 @@ use Rattle.std.specs.List.{position_from}
 use Rattle.std.proofs.lemmas.Iterator.Adapters.{position_from-zero}
 use Rattle.std.proofs.lemmas.List.{map-append}
 use Rattle.std.proofs.lemmas.Option.{slice_get_past, slice_get-get_or}
+use Rattle.std.proofs.Math.Bool.{and_assoc}
 use Rattle.std.proofs.Math.Seq.{get_or-append_seam}
 use Rattle.pld_base.specs.declared.place.Place.{Place}
 use Rattle.abel_tree.specs.Entries.{Entry, find}
@@ -92,10 +93,6 @@ before_targets ks [] ts = refl
 before_targets ks (n ∷ names) ts =
     ap (λ xs. targets_of (term_named ks n) ++ xs) (before_targets ks names ts)
     ∙ sym (append_assoc (targets_of (term_named ks n)) (all_targets (named_before ks names NoTerm)) (all_targets ts))
-
-and_assoc : (a b c : Bool) → (a && b) && c ≡ a && (b && c)
-and_assoc true b c = refl
-and_assoc false b c = refl
 
 and_true : (a : Bool) → a && true ≡ a
 and_true true = refl

@@ -1,5 +1,5 @@
 -- A unit that is made in parts.
-use Rattle.std.proofs.Common.{◌≡◌, ℕ, ◌+◌, Bool, true, false, List, [], ◌∷◌, ◌++◌, Result, Ok, Err, length, refl, sym, ap, ◌∙◌, subst, arith}
+use Rattle.std.proofs.Common.{◌≡◌, ℕ, ◌+◌, Bool, true, false, List, [], ◌∷◌, Result, Ok, Err, length, refl, sym, ap, ◌∙◌, subst, arith}
 use Rattle.std.proofs.lemmas.Bool.Decides.{nat_tests}
 use Rattle.pld_base.specs.declared.place.Place.{Place}
 use Rattle.bit_expr.specs.Arena.{arena}
@@ -8,18 +8,14 @@ use Rattle.abel_meaning.specs.Contributions as meant
 use Rattle.set_expr.specs.declared.contributions.Contributions.{Contributions}
 use Rattle.set_expr.specs.declared.fault.SectionFault.{SectionFault}
 use Rattle.section_targets.specs.Appending.{Contributed}
-use Rattle.section_targets.specs.Building.{Stop, AtLimit, NoMemory, AtRefusal, stop_of, Stops, IsBuilt, Builds}
-use Rattle.section_targets.proofs.Built.{builds_then}
-use Rattle.section_targets.specs.Units.{CountedUnit, part, is_past, limit_at, limit_refused, units_refused, units_nodes}
+use Rattle.section_targets.specs.Building.{IsBuilt, Builds}
+use Rattle.section_targets.proofs.Built.{stops_on, builds_then}
+use Rattle.section_targets.specs.Units.{CountedUnit, part, is_past, limit_at, limit_refused, units_nodes}
 
 -- parts of a unit at this place
 abbrev pub AreParts : Place → List CountedUnit → Type 0
 AreParts p [] = Unit {0}
 AreParts p (u ∷ us) = (u ≡ part p u.nodes) × AreParts p us
-
-parts_accepted : (p : Place) (us : List CountedUnit) → AreParts p us → units_refused us ≡ []
-parts_accepted p [] h = refl
-parts_accepted p (u ∷ us) h = ap (λ (x : CountedUnit). x.refusals ++ units_refused us) h.0 ∙ parts_accepted p us h.1
 
 past_later : (count m n : ℕ) (b : Bool) → is_past count m ≡ false → is_past (count + m) n ≡ b → is_past count (m + n) ≡ b
 past_later count m n true h k = grind (arith, nat_tests, h, k)
@@ -39,11 +35,6 @@ parts_limit p count (u ∷ us) h =
     by_past true e k = ap (λ b. limit_at [] p b []) (sym (past_here count u.nodes (units_nodes us) e))
     by_past false e k = k ∙ ap (λ b. limit_at [] p b []) (sym (past_later count u.nodes (units_nodes us) (is_past (count + u.nodes) (units_nodes us)) e refl))
 
-unit_stops : (p : Place) (count : ℕ) (us : List CountedUnit) (stop : Stop) → AreParts p us → Stops stop count us → Stops stop count (part p (units_nodes us) ∷ [])
-unit_stops p count us (AtLimit q) h s = sym (parts_limit p count us h) ∙ s
-unit_stops p count us NoMemory h s = tt
-unit_stops p count us AtRefusal h s = absurd (s.0 (parts_accepted p us h))
-
 -- what is left by parts is left by the unit
 pub one_unit : {R : Type 0} (p : Place) (us : List CountedUnit) (gs : List (meant.Contribution Formula)) (ps : List Place) (old new : Contributions) (r : Result R SectionFault) → AreParts p us → Builds us gs ps old new r → Builds (part p (units_nodes us) ∷ []) gs ps old new r
 one_unit p us gs ps old new (Ok r) h b =
@@ -52,7 +43,8 @@ one_unit p us gs ps old new (Ok r) h b =
       within = sym (parts_limit p (length (arena old.exprs)) us h) ∙ b.within;
       made = subst (Contributed old new gs ps) (omega arith) b.made;
     }
-one_unit p us gs ps old new (Err f) h b = (unit_stops p (length (arena old.exprs)) us (stop_of f) h b.0, b.1)
+one_unit p us gs ps old new (Err f) h b =
+    (stops_on f (length (arena old.exprs)) (length (arena old.exprs)) us (part p (units_nodes us) ∷ []) (λ s. sym (parts_limit p (length (arena old.exprs)) us h) ∙ s) b.0, b.1)
 
 -- two parts of nodes alone
 pub two_parts : {R : Type 0} (p : Place) (m n : ℕ) (old mid new : Contributions) (r : Result R SectionFault) → IsBuilt (part p m ∷ []) [] [] old mid → Builds (part p n ∷ []) [] [] mid new r → Builds (part p (m + n) ∷ []) [] [] old new r

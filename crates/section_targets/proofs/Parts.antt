@@ -10,8 +10,8 @@ use Rattle.set_expr.specs.declared.contributions.Contributions.{Contributions}
 use Rattle.set_expr.specs.declared.fault.SectionFault.TheVariants as fault
 use Rattle.set_expr.specs.Answer.{Keeps}
 use Rattle.section_targets.specs.Appending.{Appends, Leaves}
-use Rattle.section_targets.specs.Building.{IsBuilt}
-use Rattle.section_targets.specs.Units.{part, is_past, limit_at, limit_refused}
+use Rattle.section_targets.specs.Building.{Stops, AtLimit, IsBuilt}
+use Rattle.section_targets.specs.Units.{part, is_past, limit_at}
 
 not_past : (count n : ℕ) → (PassesLimit MOST count n → ⊥) → is_past count n ≡ false
 not_past count n h = past_by (nat_lt 0 n) (nat_lt MOST (count + n)) refl refl
@@ -46,5 +46,5 @@ built_nodes p n old new list g h =
       };
     }
 
-pub limit_here : (p : Place) (n count : ℕ) → PassesLimit MOST count n → limit_refused count (part p n ∷ []) ≡ fault.NodeLimit p ∷ []
-limit_here p n count h = ap (λ b. limit_at [] p b []) (past count n h)
+pub limit_here : (p : Place) (n count : ℕ) → PassesLimit MOST count n → Stops (fault.NodeLimit p) count (part p n ∷ [])
+limit_here p n count h = AtLimit (ap (λ b. limit_at [] p b []) (past count n h))

@@ -1,10 +1,12 @@
 -- What is refused of the signals of a target, one more.
-use Rattle.std.proofs.Common.{◌≡◌, ℕ, zero, suc, Bool, List, [], ◌∷◌, ◌++◌, Option, ◌||◌, if◌then◌else◌, length, map, take, get_or, refl, sym, ap, ap₂, ◌∙◌, subst, append_assoc, append-nil, add-one, ◌<◌, ◌+◌, arith}
+use Rattle.std.proofs.Common.{◌≡◌, ℕ, zero, suc, Bool, true, false, List, [], ◌∷◌, ◌++◌, Option, Some, ◌≤◌, ◌||◌, if◌then◌else◌, length, map, take, get_or, refl, sym, ap, ap₂, ◌∙◌, subst, append_assoc, append-nil, add-one, ◌<◌, ◌+◌, arith}
+use Rattle.std.proofs.lemmas.Bool.Decides.{nat_tests}
+use Rattle.pld_base.specs.declared.place.Place.{Place}
 use Rattle.std.proofs.Math.Seq.{take-suc}
 use Rattle.std.proofs.lemmas.List.{map-append, length-map}
 use Rattle.abel_tree.specs.declared.words.Extension.{Extension}
-use Rattle.abel_tree.specs.FirstRefusal.{earlier, first_refusal}
-use Rattle.abel_tree.proofs.FirstRefusals.{first_append}
+use Rattle.abel_tree.specs.FirstRefusal.{sooner, is_before, earlier, first_refusal}
+use Rattle.abel_tree.proofs.FirstRefusals.{before_by, first_append}
 use Rattle.abel_tree.specs.declared.names.Declared.{Declared}
 use Rattle.abel_tree.specs.declared.names.Names.{Names}
 use Rattle.abel_tree.specs.Entries.{Entry, entries_of, view_declared}
@@ -15,11 +17,26 @@ use Rattle.set_expr.specs.declared.fault.SectionFault.{SectionFault}
 use Rattle.set_expr.specs.SectionOrder.{section_order}
 use Rattle.section_targets.specs.declared.aim.Aim.{Aim}
 use Rattle.section_targets.specs.declared.manner.Manner.{Manner}
-use Rattle.set_expr.specs.declared.fault.SectionFault.TheVariants.{MixedAssignment}
-use Rattle.section_targets.specs.Manners.{no_output, mixed, manner_of, aims_refused, AreFirsts, part_of, differs_from, is_against_kind}
+use Rattle.set_expr.specs.declared.fault.SectionFault.TheVariants.{NotAnOutput, MixedAssignment}
+use Rattle.section_targets.specs.Manners.{is_output, no_output, mixed, first_manner, manner_of, aims_refused, AreFirsts, part_of, differs_from, is_against_kind}
 
 pub first_of_both : (fs gs : List SectionFault) → first_refusal section_order (fs ++ gs) ≡ earlier section_order (first_refusal section_order fs) (first_refusal section_order gs)
 first_of_both fs gs = first_append section_order fs gs
+
+ranked_later : (a b c d : ℕ) → d ≤ c → sooner a b c a b d ≡ false
+ranked_later a b c d h = grind (arith, nat_tests, h)
+
+-- at one place no output is told first
+pub output_first : (t : Table) (before : List Manner) (x : Entry) (p : Place) (m : Manner) (b : Bool) → b ≡ is_output t x m.extension → b ≡ false → Some (NotAnOutput p (Some m.signal)) ≡ first_refusal section_order (no_output t x p m ++ mixed before x p m)
+output_first t before x p m true e n = absurd cc
+output_first t before x p m false e n = rw (sym e) (by_mixed (differs_from (first_manner before m.signal (part_of m.extension)) m || is_against_kind x m))
+  where
+    later : is_before section_order (MixedAssignment p m.signal) (NotAnOutput p (Some m.signal)) ≡ false
+    later = before_by section_order (MixedAssignment p m.signal) (NotAnOutput p (Some m.signal)) ∙ ranked_later p.line p.column 5 4 (omega arith)
+
+    by_mixed : (k : Bool) → Some (NotAnOutput p (Some m.signal)) ≡ first_refusal section_order (NotAnOutput p (Some m.signal) ∷ (if k then MixedAssignment p m.signal ∷ [] else []))
+    by_mixed false = refl
+    by_mixed true = rw later refl
 
 -- what is refused of one signal
 abbrev pub aim_refused : Context → List Manner → Option Extension → (complement clocked : Bool) → Aim → List SectionFault

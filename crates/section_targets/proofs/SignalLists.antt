@@ -1,12 +1,18 @@
 -- The signals of several names, one after another.
-use Rattle.std.proofs.Common.{◌≡◌, ℕ, zero, suc, ◌+◌, ◌<◌, ◌≤◌, ◌==◌, min, Bool, true, false, ◌&&◌, Option, None, Some, List, [], ◌∷◌, ◌++◌, All, length, get_or, refl, sym, ap, ap₂, ◌∙◌, subst, arith, length-append, if◌then◌else◌, bytes_eq}
+use Rattle.std.proofs.Common.{◌≡◌, ℕ, zero, suc, ◌+◌, ◌<◌, ◌≤◌, ◌==◌, min, Bool, true, false, ◌&&◌, Option, None, Some, List, [], ◌∷◌, ◌++◌, All, length, take, get_or, refl, sym, ap, ap₂, ◌∙◌, subst, arith, if◌then◌else◌, bytes_eq}
 use Rattle.std.specs.Prelude.{codes}
-use Rattle.std.proofs.lemmas.List.Elements.{All-append}
+use Rattle.std.proofs.lemmas.List.{take-take, take_all, length-take}
+use Rattle.std.proofs.lemmas.List.Elements.{All-append, All-take}
 use Rattle.std.proofs.lemmas.Bool.Decides.{nat_tests}
 use Rattle.pld_base.specs.declared.place.Place.{Place}
 use Rattle.abel_tree.specs.declared.words.Extension.{Extension}
 use Rattle.abel_tree.specs.FirstRefusal.{earlier, first_refusal}
 use Rattle.abel_tree.proofs.FirstRefusals.{first_append}
+use Rattle.abel_tree.specs.Entries.{Entry}
+use Rattle.abel_tree.specs.Tree.{Tree}
+use Rattle.abel_meaning.specs.Designs.{Context}
+use Rattle.set_expr.specs.Answer.{first_place}
+use Rattle.set_expr.specs.declared.fault.SectionFault.TheVariants.{NotAnOutput}
 use Rattle.abel_meaning.specs.Targets.{targets_of, all_targets, some_signals}
 use Rattle.abel_meaning.specs.Terms.{Term, Terms, Number, X, Pulse, Release, Read, Set, UnaryOf, BinaryOf, NoTerm, Before, extended, extended_each, special_term}
 use Rattle.set_expr.specs.declared.fault.SectionFault.{SectionFault}
@@ -17,7 +23,7 @@ use Rattle.section_targets.specs.declared.named.NamedSignals.{NamedSignals}
 use Rattle.section_targets.specs.declared.sides.Side.{Side}
 use Rattle.section_targets.specs.Given.{AreNamed}
 use Rattle.section_targets.specs.NamedTargets.{AreSignals, IsOfTerm, IsSide}
-use Rattle.section_targets.specs.TargetSignals.{TargetFound, aims_at, names_signals, all_name_signals, is_only, targets_both, target_set}
+use Rattle.section_targets.specs.TargetSignals.{TargetFound, aims_at, names_signals, all_name_signals, is_only, first_name, no_target, targets_both, target_set, target_member}
 
 -- ---- signals
 
@@ -32,14 +38,36 @@ only_is n [] = refl
 only_is n (s ∷ []) = refl
 only_is n (s ∷ t ∷ ss) = let e : (length (s ∷ t ∷ ss) == 1) ≡ false = grind (arith, nat_tests) in rw e refl
 
--- a list that is whole where it is short is of that signal alone just where so are the signals
-pub only_by : (count n : ℕ) (a : NamedSignals) (xs : List ℕ) (b : Bool) → AreSignals count a xs b → a.width ≡ 1 → is_only n a.signals ≡ is_only n xs
-only_by count n a xs b h e = ap (is_only n) (h.signals (omega (arith, e, h.width)))
+-- ---- the first 33
 
-pub not_only : (count n : ℕ) (a : NamedSignals) (xs : List ℕ) (b : Bool) → AreSignals count a xs b → (a.width ≡ 1 → ⊥) → is_only n xs ≡ false
-not_only count n a [] b h e = refl
-not_only count n a (x ∷ []) b h e = absurd (e (omega (arith, h.width)))
-not_only count n a (x ∷ y ∷ xs) b h e = refl
+-- of two lists, one behind the other
+listed_both : {A : Type 0} (n m k : ℕ) (xs ys : List A) → n ≤ m → n ≤ k → take n (take m xs ++ take k ys) ≡ take n (xs ++ ys)
+listed_both zero m k xs ys h i = refl
+listed_both (suc n) zero k xs ys h i = absurd (omega (arith, h))
+listed_both (suc n) (suc m) k [] ys h i = take-take (suc n) k ys i
+listed_both (suc n) (suc m) k (x ∷ xs) ys h i = ap (λ zs. x ∷ zs) (listed_both n m k xs ys (omega (arith, h)) (omega (arith, i)))
+
+joined : {A : Type 0} (P : A → Type 0) (list us vs xs ys : List A) → list ≡ take 33 (us ++ vs) → us ≡ take 33 xs → vs ≡ take 33 ys → All P us → All P vs → (list ≡ take 33 (xs ++ ys)) × All P list
+joined P list us vs xs ys l u v a b = (
+  l ∙ ap₂ (λ fs gs. take 33 (fs ++ gs)) u v ∙ listed_both 33 33 33 xs ys (omega arith) (omega arith),
+  subst (All P) (sym l) (All-take P 33 (us ++ vs) (All-append P us vs a b)),
+)
+
+only_listed : (n : ℕ) (xs : List ℕ) → is_only n (take 33 xs) ≡ is_only n xs
+only_listed n [] = refl
+only_listed n (x ∷ []) = refl
+only_listed n (x ∷ y ∷ xs) = refl
+
+-- those of a name are that one alone just where so are those that are listed
+pub only_by : (count n : ℕ) (a : NamedSignals) (xs : List ℕ) (b : Bool) → AreSignals count a xs b → is_only n a.signals ≡ is_only n xs
+only_by count n a xs b h = ap (is_only n) h.signals ∙ only_listed n xs
+
+-- signals behind others
+pub signals_joined : (count : ℕ) (a b n : NamedSignals) (xs ys : List ℕ) (p q : Bool) → AreSignals count a xs p → AreSignals count b ys q
+    → n.alone ≡ a.alone && b.alone → n.signals ≡ take 33 (a.signals ++ b.signals) → AreSignals count n (xs ++ ys) (p && q)
+signals_joined count a b n xs ys p q h k alone list =
+    let l = joined (λ (s : ℕ). s < count) n.signals a.signals b.signals xs ys list h.signals k.signals h.inside k.inside in
+    record { alone = alone ∙ ap₂ (λ x y. x && y) h.alone k.alone; signals = l.0; inside = l.1 }
 
 -- ---- extensions
 
@@ -51,10 +79,12 @@ empty_append : (xs ys : List ℕ) → is_empty (xs ++ ys) ≡ is_empty xs && is_
 empty_append [] ys = refl
 empty_append (x ∷ xs) ys = refl
 
-empty_width : (xs : List ℕ) (w : ℕ) → w ≡ min (length xs) 255 → is_empty xs ≡ (w == 0)
-empty_width [] w e = rw e refl
-empty_width (x ∷ xs) zero e = absurd (omega (arith, e))
-empty_width (x ∷ xs) (suc w) e = grind (arith, nat_tests)
+empty_listed : (xs : List ℕ) → (length (take 33 xs) == 0) ≡ is_empty xs
+empty_listed [] = refl
+empty_listed (x ∷ xs) = some (length (take 32 xs))
+  where
+    some : (n : ℕ) → (suc n == 0) ≡ false
+    some n = grind (arith, nat_tests)
 
 exchange : (a b c d : Bool) → (a && c) && (b && d) ≡ (a && b) && (c && d)
 exchange false b c d = refl
@@ -97,13 +127,12 @@ mutual
       ∙ exchange (names_signals t) (all_name_signals ts) (is_empty (some_signals (targets_of t))) (is_empty (some_signals (all_targets ts)))
       ∙ ap (λ b. (names_signals t && all_name_signals ts) && b) (sym (ap is_empty (some_append (targets_of t) (all_targets ts)) ∙ empty_append (some_signals (targets_of t)) (some_signals (all_targets ts))))
 
-pub signals_extended : (count : ℕ) (e : Extension) (a n : NamedSignals) (t : Term) → IsOfTerm count a t → n.signals ≡ a.signals → n.width ≡ a.width → n.alone ≡ a.alone && (a.width == 0) → IsOfTerm count n (extended e t)
-signals_extended count e a n t h list width alone =
-    let xs = ap some_signals (extended_targets e t) in
+pub signals_extended : (count : ℕ) (e : Extension) (a n : NamedSignals) (t : Term) → IsOfTerm count a t → n.signals ≡ a.signals → n.alone ≡ a.alone && (length a.signals == 0) → IsOfTerm count n (extended e t)
+signals_extended count e a n t h list alone =
+    let xs = some_signals (targets_of t) in
     record {
-      width = width ∙ h.width ∙ ap (λ ss. min (length ss) 255) (sym xs);
-      alone = alone ∙ ap₂ (λ b c. b && c) h.alone (sym (empty_width (some_signals (targets_of t)) a.width h.width)) ∙ sym (extended_names e t);
-      signals = λ le. list ∙ h.signals (subst (λ ss. length ss ≤ 32) xs le) ∙ sym xs;
+      alone = alone ∙ ap₂ (λ b c. b && c) h.alone (ap (λ ss. length ss == 0) h.signals ∙ empty_listed xs) ∙ sym (extended_names e t);
+      signals = list ∙ h.signals ∙ ap (λ ts. take 33 (some_signals ts)) (sym (extended_targets e t));
       inside = subst (All (λ (s : ℕ). s < count)) (sym list) h.inside;
     }
 
@@ -134,42 +163,50 @@ aims_inside count p (s ∷ ss) h = first (h zero s (omega arith)) (aims_inside c
     first lt more zero d le = lt
     first lt more (suc k) d le = more k d (omega (arith, le))
 
+aims_listed : (n : ℕ) (p : Place) (ss : List ℕ) → aims_at p (take n ss) ≡ take n (aims_at p ss)
+aims_listed zero p ss = refl
+aims_listed (suc n) p [] = refl
+aims_listed (suc n) p (s ∷ ss) = ap (λ zs. record { signal = s; place = p } ∷ zs) (aims_listed n p ss)
+
 pub side_named : (count : ℕ) (n : NamedSignals) (s : Side) (x : TargetFound) (p : Place) (xs : List ℕ) (b : Bool) → s.fault ≡ first_refusal section_order x.refusals → x.aims ≡ aims_at p xs → AreSignals count n xs b
-    → s.width ≡ n.width → s.aims ≡ aims_at p n.signals → IsSide count s x
-side_named count n s x p xs b f e h width list =
+    → s.aims ≡ aims_at p n.signals → IsSide count s x
+side_named count n s x p xs b f e h list =
     record {
       fault = f;
-      width = width ∙ h.width ∙ ap (λ k. min k 255) (sym (ap length e ∙ aims_length p xs));
-      aims = λ le. list ∙ ap (aims_at p) (h.signals (omega (arith, le, ap length e, aims_length p xs))) ∙ sym e;
+      aims = list ∙ ap (aims_at p) h.signals ∙ aims_listed 33 p xs ∙ ap (take 33) (sym e);
       inside = subst (AreNamed count) (sym list) (aims_inside count p n.signals h.inside);
     }
 
 pub side_joined : (count : ℕ) (a b n : Side) (x y : TargetFound) → IsSide count a x → IsSide count b y
-    → n.fault ≡ earlier section_order a.fault b.fault → n.width ≡ min (a.width + b.width) 255 → n.aims ≡ a.aims ++ b.aims → IsSide count n (targets_both x y)
-side_joined count a b n x y h k fault width list =
+    → n.fault ≡ earlier section_order a.fault b.fault → n.aims ≡ take 33 (a.aims ++ b.aims) → IsSide count n (targets_both x y)
+side_joined count a b n x y h k fault list =
+    let l = joined (λ (s : Aim). s.signal < count) n.aims a.aims b.aims x.aims y.aims list h.aims k.aims h.inside k.inside in
     record {
       fault = fault ∙ ap₂ (earlier section_order) h.fault k.fault ∙ sym (first_append section_order x.refusals y.refusals);
-      width = omega (arith, width, h.width, k.width, length-append x.aims y.aims);
-      aims = λ le. list ∙ ap₂ (λ us vs. us ++ vs) (h.aims (omega (arith, le, length-append x.aims y.aims))) (k.aims (omega (arith, le, length-append x.aims y.aims)));
-      inside = subst (AreNamed count) (sym list) (All-append (λ (s : Aim). s.signal < count) a.aims b.aims h.inside k.inside);
-    }
-
-pub side_cut : (count : ℕ) (a b n : Side) (x y : TargetFound) → IsSide count a x → IsSide count b y
-    → n.fault ≡ earlier section_order a.fault b.fault → n.width ≡ min (a.width + b.width) 255 → 32 < n.width → n.aims ≡ a.aims → IsSide count n (targets_both x y)
-side_cut count a b n x y h k fault width wide list =
-    record {
-      fault = fault ∙ ap₂ (earlier section_order) h.fault k.fault ∙ sym (first_append section_order x.refusals y.refusals);
-      width = omega (arith, width, h.width, k.width, length-append x.aims y.aims);
-      aims = λ le. absurd (omega (arith, le, wide, width, h.width, k.width, length-append x.aims y.aims));
-      inside = subst (AreNamed count) (sym list) h.inside;
+      aims = l.0;
+      inside = l.1;
     }
 
 pub side_set : (count : ℕ) (p : Place) (a n : Side) (x : TargetFound) (f : Option SectionFault) → IsSide count a x → f ≡ first_refusal section_order (too_wide p (length x.aims))
-    → n.fault ≡ earlier section_order a.fault f → n.width ≡ a.width → n.aims ≡ a.aims → IsSide count n (target_set p x)
-side_set count p a n x f h e fault width list =
+    → n.fault ≡ earlier section_order a.fault f → n.aims ≡ a.aims → IsSide count n (target_set p x)
+side_set count p a n x f h e fault list =
     record {
       fault = fault ∙ ap₂ (earlier section_order) h.fault e ∙ sym (first_append section_order x.refusals (too_wide p (length x.aims)));
-      width = width ∙ h.width;
-      aims = λ le. list ∙ h.aims le;
+      aims = list ∙ h.aims;
       inside = subst (AreNamed count) (sym list) h.inside;
     }
+
+-- how many are listed
+pub side_length : (count : ℕ) (s : Side) (x : TargetFound) → IsSide count s x → length s.aims ≡ min 33 (length x.aims)
+side_length count s x h = ap length h.aims ∙ length-take 33 x.aims
+
+-- all are where no more than 32 are found
+pub side_all : (count : ℕ) (s : Side) (x : TargetFound) → IsSide count s x → length x.aims ≤ 32 → s.aims ≡ x.aims
+side_all count s x h few = h.aims ∙ take_all 33 x.aims (omega (arith, few))
+
+-- what begins with no signal is no target
+pub side_refused : (d : Context) (s : Side) (t u : Tree) (es : List Entry) (r : SectionFault) → d.names ≡ es → r ≡ NotAnOutput (first_place t) (first_name es t) → t ≡ u
+    → target_member d u ≡ no_target (NotAnOutput (first_place u) (first_name d.names u)) → IsSide (length d.names) s (no_target r) → IsSide (length d.names) s (target_member d t)
+side_refused d s t u es r k e v m h =
+    let told = e ∙ ap (λ x. NotAnOutput (first_place x) (first_name es x)) v ∙ sym (ap (λ ns. NotAnOutput (first_place u) (first_name ns u)) k) in
+    subst (λ x. IsSide (length d.names) s (target_member d x)) (sym v) (subst (IsSide (length d.names) s) (ap no_target told ∙ sym m) h)

@@ -22,7 +22,7 @@ use Rattle.section_targets.specs.declared.sides.Side.{Side}
 use Rattle.section_targets.specs.NamedTargets.{IsSide}
 use Rattle.section_targets.specs.TargetSignals.{TargetFound, target_name, target_set, target_member, target_members, left_side, no_signals, start_of}
 use Rattle.section_targets.proofs.Built.{left_empty, right_empty}
-use Rattle.section_targets.proofs.SignalLists.{some_append, extended_targets, aims_length}
+use Rattle.section_targets.proofs.SignalLists.{some_append, extended_targets, aims_length, side_all}
 
 -- how many signals a term has
 abbrev pub many : Term → ℕ
@@ -216,4 +216,4 @@ side_few d p (ABinary sign q t u) k e = member_few d (ABinary sign q t u) k e
 pub side_whole : (d : Context) (count : ℕ) (s : Side) (p : Place) (t : Tree) → d.known ≡ known_of d.names → IsSide count s (left_side d p t) → None ≡ s.fault → ((left_side d p t).refusals ≡ []) × (s.aims ≡ (left_side d p t).aims)
 side_whole d count s p t k h e =
     let r = none_refused section_order (left_side d p t).refusals (e ∙ h.fault) in
-    (r, h.aims (side_few d p t k r))
+    (r, side_all count s (left_side d p t) h (side_few d p t k r))

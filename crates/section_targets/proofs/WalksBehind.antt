@@ -1,27 +1,28 @@
 -- Walks one after another, and the walk over one unit.
-use Rattle.std.proofs.Common.{◌≡◌, ℕ, ◌+◌, Bool, true, false, if◌then◌else◌, Option, None, Some, List, [], ◌∷◌, ◌++◌, Result, Ok, Err, length, refl, sym, ap, ap₂, ◌∙◌, subst, arith, append_assoc, append-nil, ◌==◌, nat_lt}
+use Rattle.std.proofs.Common.{◌≡◌, ℕ, ◌+◌, Bool, true, false, if◌then◌else◌, Option, None, Some, List, [], ◌∷◌, ◌++◌, Result, Ok, Err, ◌⊎◌, inl, inr, length, refl, sym, ap, ap₂, ◌∙◌, subst, arith, append_assoc, append-nil, nat_lt}
 use Rattle.std.specs.Option.{is_some}
 use Rattle.std.proofs.lemmas.Bool.Decides.{nat_tests}
 use Rattle.pld_base.specs.declared.place.Place.{Place}
-use Rattle.bit_expr.specs.Arena.{arena, Grew}
+use Rattle.bit_expr.specs.Arena.{arena}
 use Rattle.bit_expr.specs.Formulas.{Formula}
 use Rattle.abel_tree.specs.FirstRefusal.{sooner, is_before, earlier, first_refusal}
-use Rattle.abel_tree.proofs.FirstRefusals.{earlier_assoc, earlier_none, first_append, none_refused}
+use Rattle.abel_tree.proofs.FirstRefusals.{before_by, earlier_assoc, earlier_none, first_append, none_refused}
 use Rattle.abel_meaning.specs.Contributions as meant
-use Rattle.set_expr.specs.declared.contributions.Contributions.{Contributions}
 use Rattle.set_expr.specs.declared.fault.SectionFault.{SectionFault}
 use Rattle.set_expr.specs.declared.fault.SectionFault.TheVariants as fault
 use Rattle.set_expr.specs.Answer.{Keeps}
 use Rattle.set_expr.specs.SectionOrder.{section_order, place_of, rank_of}
-use Rattle.set_expr.proofs.FaultOrder.{before_by}
 use Rattle.section_targets.specs.declared.walked.Walked.{Walked}
 use Rattle.section_targets.specs.declared.manner.Manner.{Manner}
 use Rattle.section_targets.specs.Appending.{Contributed}
-use Rattle.section_targets.specs.Building.{IsBuilt, Builds}
+use Rattle.section_targets.specs.Building.{Stops, NoMemory, AtLimit, Builds}
 use Rattle.section_targets.specs.Manners.{AreFirsts}
-use Rattle.section_targets.specs.Units.{CountedUnit, part, is_past, limit_at, limit_refused, units_refused, units_nodes, all_refused}
+use Rattle.section_targets.specs.Units.{CountedUnit, is_past, limit_at, limit_refused, units_refused, units_nodes, all_refused}
 use Rattle.section_targets.specs.Walking.{AfterMaking, Walks, fault_behind, standing}
 use Rattle.section_targets.proofs.Built.{left_empty, right_empty, both_empty, refused_append, nodes_append, limit_append, limit_stays, refused_stays, keeps_on, made_then, builds_none}
+
+not_none : (f : SectionFault) → ◌≡◌ {A = Option SectionFault} (Some f) None → ⊥
+not_none f k = cc
 
 -- ---- the limit among refusals
 
@@ -54,34 +55,29 @@ limit_swaps p (Some g) = by_order (is_before section_order g (fault.NodeLimit p)
     l = fault.NodeLimit p
 
     by_order : (a b : Bool) → is_before section_order g l ≡ a → is_before section_order l g ≡ b → ◌≡◌ {A = Option SectionFault} (if a then Some g else Some l) (if b then Some l else Some g)
-    by_order true true e f = absurd (not_both (place_of g).line (place_of g).column (rank_of g) p.line p.column 9 (sym (before_by g l) ∙ e) (sym (before_by l g) ∙ f))
+    by_order true true e f = absurd (not_both (place_of g).line (place_of g).column (rank_of g) p.line p.column 9 (sym (before_by section_order g l) ∙ e) (sym (before_by section_order l g) ∙ f))
     by_order true false e f = refl
     by_order false true e f = refl
     by_order false false e f =
-        let n = neither (place_of g).line (place_of g).column (rank_of g) p.line p.column 9 (sym (before_by g l) ∙ e) (sym (before_by l g) ∙ f) in
+        let n = neither (place_of g).line (place_of g).column (rank_of g) p.line p.column 9 (sym (before_by section_order g l) ∙ e) (sym (before_by section_order l g) ∙ f) in
         ap Some (sym (same_fault p g n.1.1.0 n.1.1.1 n.0 n.1.0))
 
 -- ---- the first refusal of units behind others
 
 -- units pass the limit once at most
-abbrev IsLimit : List SectionFault → Type 0
-IsLimit [] = Unit {0}
-IsLimit (fault.NodeLimit p ∷ []) = Unit {0}
-IsLimit _ = ⊥
-
-limit_shape : (count : ℕ) (us : List CountedUnit) → IsLimit (limit_refused count us)
-limit_shape count [] = tt
+limit_shape : (count : ℕ) (us : List CountedUnit) → (limit_refused count us ≡ []) ⊎ ((p : Place) × (limit_refused count us ≡ fault.NodeLimit p ∷ []))
+limit_shape count [] = inl refl
 limit_shape count (u ∷ us) = by_unit u.refusals u.place (is_past count u.nodes) (limit_refused (count + u.nodes) us) (limit_shape (count + u.nodes) us)
   where
-    by_unit : (rs : List SectionFault) (p : Place) (past : Bool) (later : List SectionFault) → IsLimit later → IsLimit (limit_at rs p past later)
-    by_unit [] p true later h = tt
+    by_unit : (rs : List SectionFault) (p : Place) (past : Bool) (later : List SectionFault) → (later ≡ []) ⊎ ((q : Place) × (later ≡ fault.NodeLimit q ∷ [])) → (limit_at rs p past later ≡ []) ⊎ ((q : Place) × (limit_at rs p past later ≡ fault.NodeLimit q ∷ []))
+    by_unit [] p true later h = inr (p, refl)
     by_unit [] p false later h = h
-    by_unit (r ∷ rs) p past later h = tt
+    by_unit (r ∷ rs) p past later h = inl refl
 
 -- the first refusal of two lists of units, of which something of the first is refused
 refused_front : (count : ℕ) (us vs : List CountedUnit) (y : SectionFault) → Some y ≡ first_refusal section_order (all_refused count us)
     → earlier section_order (Some y) (first_refusal section_order (units_refused vs)) ≡ first_refusal section_order (all_refused count (us ++ vs))
-refused_front count us vs y e = by_limit (limit_refused count us) refl (limit_shape count us)
+refused_front count us vs y e = by_limit (limit_shape count us)
   where
     a : Option SectionFault
     a = first_refusal section_order (units_refused us)
@@ -97,31 +93,17 @@ refused_front count us vs y e = by_limit (limit_refused count us) refl (limit_sh
     front ls h = e ∙ first_append section_order (units_refused us) (limit_refused count us) ∙ ap (λ xs. earlier section_order a (first_refusal section_order xs)) h
 
     clear : limit_refused count us ≡ [] → units_refused us ≡ [] → ⊥
-    clear h r = absurd_some (e ∙ ap (first_refusal section_order) (both_empty (units_refused us) (limit_refused count us) r h))
-      where
-        absurd_some : ◌≡◌ {A = Option SectionFault} (Some y) None → ⊥
-        absurd_some k = cc
+    clear h r = not_none y (e ∙ ap (first_refusal section_order) (both_empty (units_refused us) (limit_refused count us) r h))
 
-    by_limit : (ls : List SectionFault) → limit_refused count us ≡ ls → IsLimit ls → earlier section_order (Some y) b ≡ first_refusal section_order (all_refused count (us ++ vs))
-    by_limit [] h s =
+    by_limit : (limit_refused count us ≡ []) ⊎ ((p : Place) × (limit_refused count us ≡ fault.NodeLimit p ∷ [])) → earlier section_order (Some y) b ≡ first_refusal section_order (all_refused count (us ++ vs))
+    by_limit (inl h) =
         ap (λ x. earlier section_order x b) (front [] h ∙ earlier_none section_order a)
         ∙ sym (whole [] (refused_stays count us vs (clear h) h) ∙ earlier_none section_order (earlier section_order a b))
-    by_limit (fault.NodeLimit p ∷ []) h s =
+    by_limit (inr (p, h)) =
         let l : Option SectionFault = Some (fault.NodeLimit p) in
         ap (λ x. earlier section_order x b) (front (fault.NodeLimit p ∷ []) h)
         ∙ earlier_assoc section_order a l b ∙ ap (earlier section_order a) (limit_swaps p b) ∙ sym (earlier_assoc section_order a b l)
-        ∙ sym (whole (fault.NodeLimit p ∷ []) (limit_stays count us vs p h))
-    by_limit (fault.NodeLimit p ∷ (q ∷ qs)) h s = absurd s
-    by_limit (fault.MisplacedSpecial p ∷ ls) h s = absurd s
-    by_limit (fault.NotConstant p ∷ ls) h s = absurd s
-    by_limit (fault.ZeroDivisor p ∷ ls) h s = absurd s
-    by_limit (fault.BadWidth p ∷ ls) h s = absurd s
-    by_limit (fault.NotAnOutput p name ∷ ls) h s = absurd s
-    by_limit (fault.MixedAssignment p name ∷ ls) h s = absurd s
-    by_limit (fault.BadRow p ∷ ls) h s = absurd s
-    by_limit (fault.BadState p ∷ ls) h s = absurd s
-    by_limit (fault.BadVector p ∷ ls) h s = absurd s
-    by_limit (fault.OutOfMemory ∷ ls) h s = absurd s
+        ∙ sym (whole (fault.NodeLimit p ∷ []) (limit_stays count us vs (fault.NodeLimit p) h))
 
 -- nothing of the first units is refused
 accepted_front : (count : ℕ) (us vs : List CountedUnit) → None ≡ first_refusal section_order (all_refused count us)
@@ -132,20 +114,25 @@ accepted_front count us vs e =
     let l = right_empty (units_refused us) (limit_refused count us) clear in
     ap₂ (λ rs ls. rs ++ ls) (sym (refused_append us vs ∙ ap (λ rs. rs ++ units_refused vs) a)) (sym (limit_append count us vs a l))
 
+-- what is refused stays refused
+never_clear : (x : SectionFault) (g : Option SectionFault) → None ≡ earlier section_order (Some x) g → ⊥
+never_clear x None k = cc
+never_clear x (Some g) k = chosen (is_before section_order g x) k
+  where
+    chosen : (b : Bool) → ◌≡◌ {A = Option SectionFault} None (if b then Some g else Some x) → ⊥
+    chosen true i = cc
+    chosen false i = cc
+
+pub clear_before : (f : Option SectionFault) (count : ℕ) (us : List CountedUnit) → None ≡ fault_behind f count us → f ≡ None
+clear_before None count us e = refl
+clear_before (Some x) count us e = absurd (never_clear x (first_refusal section_order (units_refused us)) e)
+
 fault_append : (f m : Option SectionFault) (count later : ℕ) (us vs : List CountedUnit) → m ≡ fault_behind f count us → (m ≡ None → later ≡ count + units_nodes us)
     → fault_behind m later vs ≡ fault_behind f count (us ++ vs)
 fault_append None None count later us vs e h =
     ap (λ n. first_refusal section_order (all_refused n vs)) (h refl) ∙ ap (first_refusal section_order) (accepted_front count us vs e)
 fault_append None (Some y) count later us vs e h = refused_front count us vs y e
-fault_append (Some x) None count later us vs e h = absurd (never (first_refusal section_order (units_refused us)) e)
-  where
-    never : (g : Option SectionFault) → ◌≡◌ {A = Option SectionFault} None (earlier section_order (Some x) g) → ⊥
-    never None k = cc
-    never (Some g) k = chosen (is_before section_order g x) k
-      where
-        chosen : (b : Bool) → ◌≡◌ {A = Option SectionFault} None (if b then Some g else Some x) → ⊥
-        chosen true i = cc
-        chosen false i = cc
+fault_append (Some x) None count later us vs e h = absurd (never_clear x (first_refusal section_order (units_refused us)) e)
 fault_append (Some x) (Some y) count later us vs e h =
     let a = first_refusal section_order (units_refused us) in
     let b = first_refusal section_order (units_refused vs) in
@@ -153,19 +140,6 @@ fault_append (Some x) (Some y) count later us vs e h =
     ∙ ap (earlier section_order (Some x)) (sym (ap (first_refusal section_order) (refused_append us vs) ∙ first_append section_order (units_refused us) (units_refused vs)))
 
 -- ---- walks one after another
-
--- nothing was refused before what is not refused
-pub clear_before : (f : Option SectionFault) (count : ℕ) (us : List CountedUnit) → None ≡ fault_behind f count us → f ≡ None
-clear_before None count us e = refl
-clear_before (Some x) count us e = absurd (never (first_refusal section_order (units_refused us)) e)
-  where
-    never : (g : Option SectionFault) → ◌≡◌ {A = Option SectionFault} None (earlier section_order (Some x) g) → ⊥
-    never None k = cc
-    never (Some g) k = chosen (is_before section_order g x) k
-      where
-        chosen : (b : Bool) → ◌≡◌ {A = Option SectionFault} None (if b then Some g else Some x) → ⊥
-        chosen true i = cc
-        chosen false i = cc
 
 -- units behind others
 pub walks_then : (all ms ns : List Manner) (us vs : List CountedUnit) (gs hs : List (meant.Contribution Formula)) (ps qs : List Place) (old mid new : Walked)
@@ -201,12 +175,9 @@ walks_alike all ms us vs gs hs ps qs old new f e r w =
       keeps = w.keeps;
       fault = told;
       manners = w.manners;
-      given = λ n. absurd (some_none (sym e ∙ clear_before old.fault (length (arena old.exprs)) vs (sym n ∙ told)));
+      given = λ n. absurd (not_none f (sym e ∙ clear_before old.fault (length (arena old.exprs)) vs (sym n ∙ told)));
     }
   where
-    some_none : ◌≡◌ {A = Option SectionFault} (Some f) None → ⊥
-    some_none k = cc
-
     told : new.fault ≡ fault_behind old.fault (length (arena old.exprs)) vs
     told = w.fault ∙ ap (λ x. fault_behind x (length (arena old.exprs)) us) e
         ∙ ap (λ rs. earlier section_order (Some f) (first_refusal section_order rs)) r
@@ -270,24 +241,15 @@ walks_made all ms us gs ps old made new (Ok t) o m e a b k =
       manners = a;
       given = λ n. b.made;
     })
-walks_made all ms us gs ps old made new (Err (fault.NodeLimit p)) o m e a b k =
-    subst (Walks all us gs ps ms old) (sym k)
+walks_made all ms us gs ps old made new (Err f) o m e a b k =
+    subst (Walks all us gs ps ms old) (sym k.1)
     (record {
       keeps = b.1.keeps;
-      fault = sym (ap (λ f. fault_behind f (length (arena old.exprs)) us) o ∙ ap (first_refusal section_order) (ap (λ rs. rs ++ limit_refused (length (arena old.exprs)) us) e ∙ b.0));
+      fault = stopped b.0;
       manners = a;
-      given = λ n. absurd (never n);
+      given = λ n. absurd (not_none f n);
     })
   where
-    never : ◌≡◌ {A = Option SectionFault} (Some (fault.NodeLimit p)) None → ⊥
-    never h = cc
-walks_made all ms us gs ps old made new (Err fault.OutOfMemory) o m e a b k = absurd k
-walks_made all ms us gs ps old made new (Err (fault.MisplacedSpecial p)) o m e a b k = absurd (b.0.0 e)
-walks_made all ms us gs ps old made new (Err (fault.NotConstant p)) o m e a b k = absurd (b.0.0 e)
-walks_made all ms us gs ps old made new (Err (fault.ZeroDivisor p)) o m e a b k = absurd (b.0.0 e)
-walks_made all ms us gs ps old made new (Err (fault.BadWidth p)) o m e a b k = absurd (b.0.0 e)
-walks_made all ms us gs ps old made new (Err (fault.NotAnOutput p name)) o m e a b k = absurd (b.0.0 e)
-walks_made all ms us gs ps old made new (Err (fault.MixedAssignment p name)) o m e a b k = absurd (b.0.0 e)
-walks_made all ms us gs ps old made new (Err (fault.BadRow p)) o m e a b k = absurd (b.0.0 e)
-walks_made all ms us gs ps old made new (Err (fault.BadState p)) o m e a b k = absurd (b.0.0 e)
-walks_made all ms us gs ps old made new (Err (fault.BadVector p)) o m e a b k = absurd (b.0.0 e)
+    stopped : Stops f (length (arena old.exprs)) us → Some f ≡ fault_behind old.fault (length (arena old.exprs)) us
+    stopped (NoMemory h) = absurd (k.0 h)
+    stopped (AtLimit h) = sym (ap (λ g. fault_behind g (length (arena old.exprs)) us) o ∙ ap (first_refusal section_order) (ap (λ rs. rs ++ limit_refused (length (arena old.exprs)) us) e ∙ h))

@@ -1,5 +1,5 @@
--- What making the units of statements leaves, and why it stops (this project's rule).
-use Rattle.std.specs.Prelude.{◌≡◌, ℕ, ◌<◌, List, [], ◌∷◌, All, length, map, Result, Ok, Err}
+-- What making units leaves, and why it stops (this project's rule).
+use Rattle.std.specs.Prelude.{◌≡◌, ℕ, ◌<◌, Option, List, [], ◌∷◌, All, length, map, unwrap_or, Result, Ok, Err}
 use Rattle.pld_base.specs.declared.place.Place.{Place}
 use Rattle.bit_expr.specs.declared.node.ExprId.{ExprId}
 use Rattle.bit_expr.specs.declared.node.Node.{Node}
@@ -13,21 +13,10 @@ use Rattle.set_expr.specs.declared.fault.SectionFault.TheVariants as fault
 use Rattle.section_targets.specs.Appending.{Leaves, Contributed}
 use Rattle.section_targets.specs.Units.{CountedUnit, units_refused, units_nodes, limit_refused}
 
--- why making stops: a unit passes the limit, memory is out, or a unit is refused
-pub data Stop : Type 0 where
-  AtLimit : Place → Stop
-  NoMemory AtRefusal : Stop
-
-abbrev pub stop_of : SectionFault → Stop
-stop_of (fault.NodeLimit p) = AtLimit p
-stop_of fault.OutOfMemory = NoMemory
-stop_of _ = AtRefusal
-
--- making these units stops for this reason, in an arena of that many formulas
-abbrev pub Stops : Stop → (count : ℕ) → List CountedUnit → Type 0
-Stops (AtLimit p) count us = limit_refused count us ≡ fault.NodeLimit p ∷ []
-Stops NoMemory count us = Unit {0}
-Stops AtRefusal count us = (units_refused us ≡ [] → ⊥) × (limit_refused count us ≡ [])
+-- why making these units in an arena of that many formulas stops: memory is out, or one passes the limit
+pub data Stops (f : SectionFault) (count : ℕ) (us : List CountedUnit) : Type 0 where
+  NoMemory : f ≡ fault.OutOfMemory → Stops f count us
+  AtLimit : limit_refused count us ≡ f ∷ [] → Stops f count us
 
 -- units are made: none is refused or passes the limit
 pub record IsBuilt (us : List CountedUnit) (gs : List (meant.Contribution Formula)) (ps : List Place)
@@ -39,7 +28,7 @@ pub record IsBuilt (us : List CountedUnit) (gs : List (meant.Contribution Formul
 -- making units in order stops with this refusal
 abbrev pub StopsWith : List CountedUnit → List (meant.Contribution Formula) → List Place → (old new : Contributions)
     → SectionFault → Type 0
-StopsWith us gs ps old new f = Stops (stop_of f) (length (arena old.exprs)) us × Leaves old new gs ps
+StopsWith us gs ps old new f = Stops f (length (arena old.exprs)) us × Leaves old new gs ps
 
 -- what is left by making units in order, which give this at these places
 abbrev pub Builds : {R : Type 0} → List CountedUnit → List (meant.Contribution Formula) → List Place
@@ -60,3 +49,7 @@ IsBit fs id f = (id.0 < length fs) × (formula_at fs id ≡ f)
 -- the bits of ids in the arena
 abbrev pub AreBits : List Formula → List ExprId → List Formula → Type 0
 AreBits fs ids gs = All (λ (id : ExprId). id.0 < length fs) ids × (map (formula_at fs) ids ≡ gs)
+
+-- the ids of positions, that of 0 at X
+abbrev pub known_ids : List (Option ExprId) → List ExprId
+known_ids places = map (λ (o : Option ExprId). unwrap_or o (record { 0 = 0 })) places

@@ -1,6 +1,6 @@
 -- The signals that names stand for as targets, and those of a target (ABEL-HDL Reference Manual, equations, sets and
 -- constants).
-use Rattle.std.specs.Prelude.{◌≡◌, ℕ, ◌<◌, ◌≤◌, Bool, Option, None, Some, List, [], ◌∷◌, ◌++◌, All, length, map, min}
+use Rattle.std.specs.Prelude.{◌≡◌, ℕ, ◌<◌, Bool, Option, None, Some, List, [], ◌∷◌, ◌++◌, All, length, map, take}
 use Rattle.abel_tree.specs.declared.names.Names.{Names}
 use Rattle.abel_tree.specs.Entries.{Entry, entries_of}
 use Rattle.abel_tree.specs.FirstRefusal.{first_refusal}
@@ -13,11 +13,10 @@ use Rattle.section_targets.specs.declared.sides.Side.{Side}
 use Rattle.section_targets.specs.Given.{AreNamed}
 use Rattle.section_targets.specs.TargetSignals.{TargetFound, names_signals}
 
--- these signals, of so many names; a set has at most 32 positions, and more are only counted
+-- these signals, of so many names; a set has at most 32 positions, and one more is listed where there are more
 pub record AreSignals (count : ℕ) (n : NamedSignals) (xs : List ℕ) (b : Bool) : Type 0 where
-  pub width : n.width ≡ min (length xs) 255
   pub alone : n.alone ≡ b
-  pub signals : length xs ≤ 32 → n.signals ≡ xs
+  pub signals : n.signals ≡ take 33 xs
   pub inside : All (λ (s : ℕ). s < count) n.signals
 
 -- those of a term
@@ -49,9 +48,8 @@ AreNames n ns = StandFor (length (entries_of n)) (entries_of n) ns (known_of (en
 abbrev pub AreTargets : Context → List NamedSignals → Type 0
 AreTargets d ns = StandFor (length d.names) d.names ns d.known
 
--- what is found of a target; a set has at most 32 positions, and more are only counted
+-- what is found of a target; a set has at most 32 positions, and one more is listed where there are more
 pub record IsSide (count : ℕ) (s : Side) (x : TargetFound) : Type 0 where
   pub fault : s.fault ≡ first_refusal section_order x.refusals
-  pub width : s.width ≡ min (length x.aims) 255
-  pub aims : length x.aims ≤ 32 → s.aims ≡ x.aims
+  pub aims : s.aims ≡ take 33 x.aims
   pub inside : AreNamed count s.aims

@@ -1,6 +1,6 @@
 -- What a walk over the units of sections leaves: each is checked, and made where nothing is refused so far (this project's
 -- rule).
-use Rattle.std.specs.Prelude.{◌≡◌, ℕ, Option, None, Some, List, ◌++◌, length, Result, Ok, Err}
+use Rattle.std.specs.Prelude.{◌≡◌, ◌≢◌, ℕ, Option, None, Some, List, ◌++◌, length, Result, Ok, Err}
 use Rattle.pld_base.specs.declared.place.Place.{Place}
 use Rattle.bit_expr.specs.Arena.{arena}
 use Rattle.bit_expr.specs.Formulas.{Formula}
@@ -34,8 +34,7 @@ pub record Walks (all : List Manner) (us : List CountedUnit) (gs : List (meant.C
   pub manners : AreFirsts new.before (all ++ ms)
   pub given : new.fault ≡ None → Contributed (standing old) (standing new) gs ps (units_nodes us)
 
--- the limit is kept where making a unit passes it; want of memory ends the walk
+-- the limit is kept where making a unit passed it; want of memory ends the walk
 abbrev pub AfterMaking : Result Unit SectionFault → (old new : Walked) → Type 0
 AfterMaking (Ok r) old new = new ≡ old
-AfterMaking (Err fault.OutOfMemory) old new = ⊥
-AfterMaking (Err f) old new = new ≡ record old { fault = Some f }
+AfterMaking (Err f) old new = (f ≢ fault.OutOfMemory) × (new ≡ record old { fault = Some f })

@@ -47,21 +47,16 @@ impl Assigned {
         None
     }
 
-    /// Keeps the first assignment of a part.
-    fn keep(&mut self, manner: Manner) -> Result<(), OutOfMemory>
-        ensures { OnOk result (self.new ≡ self.old ++ manner ∷ []) }
-    {
-        self.firsts.push(manner)?;
-        Ok(())
-    }
-
     /// One assignment more.
     pub fn note(&mut self, manner: Manner) -> Result<(), OutOfMemory>
         ensures { OnOk result ((all : List Manner) → AreFirsts self.old all → AreFirsts self.new (all ++ manner ∷ [])) }
     {
         match self.first(manner) {
             Some(_) => Ok(()),
-            None => self.keep(manner),
+            None => {
+                self.firsts.push(manner)?;
+                Ok(())
+            }
         }
     }
 }

@@ -24,6 +24,5 @@ pub fn guard_else(
     ensures bit { IfOk result (λ id. IsBit (arena exprs.new) id (counted.guard_else (formula_at (arena exprs.old) guard) (formula_at (arena exprs.old) condition)).what) }
 {
     let otherwise = add_node(exprs, Node::Not(condition), unit)?;
-    let both = add_node(exprs, Node::And(guard, otherwise), unit)?;
-    Ok(both)
+    add_node(exprs, Node::And(guard, otherwise), unit)
 }

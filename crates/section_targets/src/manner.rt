@@ -1,7 +1,6 @@
 //! How signals are assigned.
 
 ghost use Rattle.std.specs.Prelude.{◌≡◌, Some};
-ghost use Rattle.abel_meaning.specs.Targets.{is_data, is_raw};
 ghost use Rattle.section_targets.specs.Manners as said;
 
 use abel_tree::Extension;
@@ -28,8 +27,7 @@ fn part(extension: Option<Extension>) -> u8
     ensures { result ≡ said.part_of extension }
 {
     match extension {
-        None => 0,
-        Some(Extension::D) => 0,
+        None | Some(Extension::D) => 0,
         Some(Extension::Clk) => 1,
         Some(Extension::Oe) => 2,
         Some(Extension::Ar) => 3,
@@ -40,34 +38,14 @@ fn part(extension: Option<Extension>) -> u8
     }
 }
 
-/// The raw input of a register.
-fn names_raw(extension: Option<Extension>) -> bool
-    ensures { result ≡ is_raw extension }
-{
-    matches!(extension, Some(Extension::D))
-}
-
-/// The name itself, or the raw input of its register.
-pub(crate) fn names_data(extension: Option<Extension>) -> bool
-    ensures { result ≡ is_data extension }
-{
-    match extension {
-        None => true,
-        Some(Extension::D) => true,
-        Some(_) => false,
-    }
-}
-
 /// `.Q`, `.FB` and `.PIN` are no targets.
 pub(crate) fn takes_values(extension: Option<Extension>) -> bool
     ensures { result ≡ said.may_be_assigned extension }
 {
-    match extension {
-        Some(Extension::Q) => false,
-        Some(Extension::Fb) => false,
-        Some(Extension::Pin) => false,
-        _ => true,
-    }
+    !matches!(
+        extension,
+        Some(Extension::Q | Extension::Fb | Extension::Pin)
+    )
 }
 
 impl Manner {
@@ -75,7 +53,7 @@ impl Manner {
     pub(crate) fn is_clocked(&self) -> bool
         ensures { result ≡ said.on_clock self.now }
     {
-        self.clocked || names_raw(self.extension)
+        self.clocked || Extension::is_raw(self.extension)
     }
 
     /// Whether it is how the same part of the same signal is assigned.
@@ -85,21 +63,14 @@ impl Manner {
         self.signal == other.signal && part(self.extension) == part(other.extension)
     }
 
-    /// Whether later data are on the clock and these aren't, or to the name and these to the raw input, or the
-    /// other way about.
-    fn differs_as_data(&self, later: &Manner) -> bool
-        ensures { result ≡ said.differs_as_data self.now later.now }
-    {
-        self.is_clocked() != later.is_clocked()
-            || names_raw(self.extension) != names_raw(later.extension)
-    }
-
-    /// Whether a later target differs from this first one. Data may be of either polarity.
+    /// Whether a later target differs from this first one. Data may be of either polarity, but on the clock and not, or
+    /// to the name and to the raw input, they differ.
     pub(crate) fn differs(&self, later: &Manner) -> bool
         ensures { result ≡ said.differs_from (Some self.now) later.now }
     {
-        if names_data(later.extension) {
-            self.differs_as_data(later)
+        if Extension::is_data(later.extension) {
+            self.is_clocked() != later.is_clocked()
+                || Extension::is_raw(self.extension) != Extension::is_raw(later.extension)
         } else {
             self.complement != later.complement
         }

@@ -1,6 +1,6 @@
 //! The signals that names stand for as targets.
 
-ghost use Rattle.std.specs.Prelude.{◌≡◌, ◌==◌, ◌<◌, ℕ, Bool, List, [], ◌∷◌, ◌++◌, ◌&&◌, true, false, IfOk, slice_get};
+ghost use Rattle.std.specs.Prelude.{◌≡◌, ◌==◌, ◌<◌, ℕ, Bool, List, [], ◌∷◌, ◌++◌, ◌&&◌, true, false, IfOk, length, slice_get};
 ghost use Rattle.abel_tree.specs.Entries.{entries_of};
 ghost use Rattle.abel_meaning.specs.Targets.{targets_of, some_signals};
 ghost use Rattle.abel_meaning.specs.Terms.{Term, Known, term_named, extended_if};
@@ -12,20 +12,12 @@ use pld_base::{ListOf, OutOfMemory};
 use set_expr::Scope;
 use std::alloc::Global;
 
-/// The signals that a name stands for, from the left, and whether it stands for nothing else. `width` counts them,
-/// 255 where there are more; where there are more than 32 the list isn't whole.
+/// The signals that a name stands for, from the left, and whether it stands for nothing else. A target has at most 32
+/// signals, so that 33 of them tell that there are too many: no more are listed.
 #[derive(Drop)]
 pub struct NamedSignals {
     pub signals: ListOf<u32>,
-    pub width: u8,
     pub alone: bool,
-}
-
-/// Nothing else, and no signal.
-fn is_only(alone: bool, width: u8) -> bool
-    ensures { result ≡ alone && (width == 0) }
-{
-    alone && width == 0
 }
 
 /// Whether these are that signal alone.
@@ -42,7 +34,7 @@ pub(crate) fn is_itself(named: &[NamedSignals], number: u32) -> bool
 {
     let index = number as usize;
     if index < named.len() {
-        named[index].is_signal(number)
+        holds_only(named[index].signals.as_slice(), number)
     } else {
         false
     }
@@ -55,7 +47,6 @@ impl NamedSignals {
     {
         NamedSignals {
             signals: ListOf::from_vec(Vec::new(alloc)),
-            width: 0,
             alone,
         }
     }
@@ -68,7 +59,6 @@ impl NamedSignals {
         signals.push(signal)?;
         Ok(NamedSignals {
             signals: ListOf::from_vec(signals),
-            width: 1,
             alone: true,
         })
     }
@@ -78,9 +68,8 @@ impl NamedSignals {
         ensures { (count : ℕ) (xs : List ℕ) (alone : Bool) → AreSignals count self xs alone → AreSignals count result xs false }
     {
         NamedSignals {
-            signals: self.signals,
-            width: self.width,
             alone: false,
+            ..self
         }
     }
 
@@ -88,15 +77,13 @@ impl NamedSignals {
     pub(crate) fn with(self, other: &NamedSignals) -> Result<NamedSignals, OutOfMemory>
         ensures { IfOk result (λ n. (count : ℕ) (xs ys : List ℕ) (b c : Bool) → AreSignals count self xs b → AreSignals count other.now ys c → AreSignals count n (xs ++ ys) (b && c)) }
     {
+        let alone = self.alone && other.alone;
         let mut signals = self.signals.into_vec();
-        let width = self.width.saturating_add(other.width);
-        if width <= 32 {
-            signals.extend_from_slice(other.signals.as_slice())?;
-        }
+        signals.extend_from_slice(other.signals.as_slice())?;
+        signals.truncate(33);
         Ok(NamedSignals {
             signals: ListOf::from_vec(signals),
-            width,
-            alone: self.alone && other.alone,
+            alone,
         })
     }
 
@@ -133,21 +120,16 @@ impl NamedSignals {
         match extension {
             None => self,
             Some(_) => NamedSignals {
-                signals: self.signals,
-                width: self.width,
-                alone: is_only(self.alone, self.width),
+                alone: self.is_nothing(),
+                ..self
             },
         }
     }
 
-    /// Whether the signals are that one alone.
-    fn is_signal(&self, number: u32) -> bool
-        ensures { (count : ℕ) (t : Term) → IsOfTerm count self.now t → result ≡ is_only number (some_signals (targets_of t)) }
+    /// Whether it stands for nothing at all.
+    fn is_nothing(&self) -> bool
+        ensures { result ≡ self.now.alone && (length self.now.signals == 0) }
     {
-        if self.width == 1 {
-            holds_only(self.signals.as_slice(), number)
-        } else {
-            false
-        }
+        self.alone && self.signals.as_slice().len() == 0
     }
 }

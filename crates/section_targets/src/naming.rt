@@ -77,9 +77,9 @@ fn named_expr(
             Ok(signals.extended(*extension))
         }
         Expr::Set {
-            place: _,
             members,
             extension,
+            ..
         } => {
             let mut signals = NamedSignals::none(alloc, true);
             for member in members.as_slice() {
@@ -87,23 +87,11 @@ fn named_expr(
             }
             Ok(signals.extended(*extension))
         }
-        Expr::Paren { place: _, inner } => named_expr(alloc, scope, named, inner.get()),
-        Expr::Number(_) => Ok(NamedSignals::none(alloc, false)),
-        Expr::Special {
-            letter: _,
-            place: _,
-        } => Ok(NamedSignals::none(alloc, false)),
-        Expr::Unary {
-            sign: _,
-            place: _,
-            inner: _,
-        } => Ok(NamedSignals::none(alloc, false)),
-        Expr::Binary {
-            sign: _,
-            place: _,
-            left: _,
-            right: _,
-        } => Ok(NamedSignals::none(alloc, false)),
+        Expr::Paren { inner, .. } => named_expr(alloc, scope, named, inner.get()),
+        Expr::Special { .. } => Ok(NamedSignals::none(alloc, false)),
+        Expr::Number(_) | Expr::Unary { .. } | Expr::Binary { .. } => {
+            Ok(NamedSignals::none(alloc, false))
+        }
     }
 }
 

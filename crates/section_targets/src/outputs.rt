@@ -1,42 +1,29 @@
 //! What may be assigned, and how.
 
 ghost use Rattle.std.specs.Prelude.{◌≡◌, List, ◌++◌, length, map, IfOk, OnOk};
-ghost use Rattle.abel_tree.specs.Entries.{entries_of, has, view_meaning, view_declared};
+ghost use Rattle.abel_tree.specs.Entries.{entries_of, view_meaning, view_declared};
 ghost use Rattle.abel_tree.specs.FirstRefusal.{first_refusal};
 ghost use Rattle.abel_meaning.specs.Designs.{Context};
 ghost use Rattle.set_expr.specs.Answer.{IsContextOf};
 ghost use Rattle.set_expr.specs.SectionOrder.{section_order};
-ghost use Rattle.section_targets.specs.Manners.{is_cell_pin, is_output_kind, is_output, no_output, mixed, is_against_kind, differs_from, manner_of, aims_refused, AreFirsts};
+ghost use Rattle.section_targets.specs.Manners.{is_output_kind, is_output, no_output, mixed, is_against_kind, differs_from, manner_of, aims_refused, AreFirsts};
 ghost use Rattle.section_targets.specs.declared.manner.Manner.{Manner};
 ghost use Rattle.section_targets.specs.Given.{AreNamed};
 
 use crate::aim::Aim;
 use crate::assigned::Assigned;
-use crate::manner::{Manner, Way, names_data, takes_values};
-use abel_tree::{Attributes, Declared, Extension, Meaning};
-use bitflags::Flags;
+use crate::manner::{Manner, Way, takes_values};
+use abel_tree::{Declared, Extension, Meaning, earlier};
 use pld_base::{OutOfMemory, Place};
-use pld_device::Device;
-use set_expr::{Scope, SectionFault, earlier};
-
-/// Whether a cell of the device has this pin.
-fn has_cell<D: Device>(pin: u8) -> bool
-    ensures { result ≡ is_cell_pin D.table pin }
-{
-    for index in 0..D::CELLS {
-        if D::cell(index).pin == pin {
-            return true;
-        }
-    }
-    false
-}
+use pld_device::{Device, cell_on};
+use set_expr::{Scope, SectionFault};
 
 /// A node, or the pin of a cell.
 fn is_assignable<D: Device>(meaning: &Meaning) -> bool
     ensures { result ≡ is_output_kind D.table (view_meaning meaning.now) }
 {
     match meaning {
-        Meaning::Pin { pin, negated: _ } => has_cell::<D>(*pin),
+        Meaning::Pin { pin, negated: _ } => cell_on::<D>(*pin).is_some(),
         Meaning::Node(_) => true,
         Meaning::Constant(_) => false,
         Meaning::DeviceName => false,
@@ -49,39 +36,17 @@ fn may_take<D: Device>(declared: &Declared, extension: Option<Extension>) -> boo
 {
     is_assignable::<D>(&declared.meaning)
         && takes_values(extension)
-        && (names_data(extension) || declared.assigned)
-}
-
-/// Whether the attributes say registered.
-fn has_reg(attributes: Attributes) -> bool
-    ensures { result ≡ has 2 attributes }
-{
-    attributes.contains(Attributes::REG)
+        && (Extension::is_data(extension) || declared.assigned)
 }
 
 /// Data on the clock of a combinational signal and not of a registered one, or a control on the clock.
 fn opposes_kind(declared: &Declared, manner: Manner) -> bool
     ensures { result ≡ is_against_kind (view_declared declared.now) manner }
 {
-    if names_data(manner.extension) {
-        has_reg(declared.attributes) != manner.is_clocked()
+    if Extension::is_data(manner.extension) {
+        declared.is_registered() != manner.is_clocked()
     } else {
         manner.clocked
-    }
-}
-
-/// Refused as no output.
-fn refuse_output<D: Device>(
-    declared: &Declared,
-    place: Place,
-    manner: Manner,
-) -> Option<SectionFault>
-    ensures { result ≡ first_refusal section_order (no_output D.table (view_declared declared.now) place manner) }
-{
-    if may_take::<D>(declared, manner.extension) {
-        None
-    } else {
-        Some(SectionFault::NotAnOutput(place, Some(manner.signal)))
     }
 }
 
@@ -95,24 +60,7 @@ fn differs_from_first(first: Option<Manner>, manner: Manner) -> bool
     }
 }
 
-/// Refused as assigned in two ways.
-fn refuse_mixed(
-    before: &Assigned,
-    declared: &Declared,
-    place: Place,
-    manner: Manner,
-) -> Option<SectionFault>
-    ensures { result ≡ first_refusal section_order (mixed before.now (view_declared declared.now) place manner) }
-{
-    if differs_from_first(before.first(manner), manner) || opposes_kind(declared, manner) {
-        Some(SectionFault::MixedAssignment(place, manner.signal))
-    } else {
-        None
-    }
-}
-
-/// What is refused of one signal of a target.
-#[tactic(auto, using(crate::proofs::Refused::first_of_both))]
+/// What is refused of one signal of a target: as no output, which comes first at its place, or as assigned in two ways.
 fn refuse_aim<D: Device>(
     before: &Assigned,
     declared: &Declared,
@@ -121,10 +69,13 @@ fn refuse_aim<D: Device>(
 ) -> Option<SectionFault>
     ensures { result ≡ first_refusal section_order (no_output D.table (view_declared declared.now) place manner ++ mixed before.now (view_declared declared.now) place manner) }
 {
-    earlier(
-        refuse_output::<D>(declared, place, manner),
-        refuse_mixed(before, declared, place, manner),
-    )
+    if !may_take::<D>(declared, manner.extension) {
+        return Some(SectionFault::NotAnOutput(place, Some(manner.signal)));
+    }
+    if differs_from_first(before.first(manner), manner) || opposes_kind(declared, manner) {
+        return Some(SectionFault::MixedAssignment(place, manner.signal));
+    }
+    None
 }
 
 /// Checks the signals of a target that are assigned in this way against what was assigned before, and notes how they

@@ -12,16 +12,16 @@ ghost use Rattle.section_targets.specs.TargetSignals.{TargetFound, aims_at, no_t
 
 use crate::aim::Aim;
 use crate::named::NamedSignals;
+use abel_tree::earlier;
 use pld_base::{ListOf, OutOfMemory, Place};
-use set_expr::{Scope, SectionFault, earlier};
+use set_expr::{Scope, SectionFault};
 use std::alloc::Global;
 
-/// What is found of a target: its first refusal, and its signals from the left. `width` counts them, 255 where there
-/// are more; where there are more than 32, which is refused, the list isn't whole.
+/// What is found of a target: its first refusal, and its signals from the left. More than 32 of them are refused, so that
+/// no more than 33 are listed.
 #[derive(Drop)]
 pub struct Side {
     pub aims: ListOf<Aim>,
-    pub width: u8,
     pub fault: Option<SectionFault>,
 }
 
@@ -59,8 +59,8 @@ fn refuse_mixed(alone: bool, place: Place, name: Option<u32>) -> Option<SectionF
 }
 
 /// Refused where a set has more than 32 positions.
-fn refuse_wide(place: Place, width: u8) -> Option<SectionFault>
-    ensures { (n : ℕ) → width ≡ min n 255 → result ≡ first_refusal section_order (too_wide place n) }
+fn refuse_wide(place: Place, width: usize) -> Option<SectionFault>
+    ensures { (n : ℕ) → width ≡ min 33 n → result ≡ first_refusal section_order (too_wide place n) }
 {
     if width > 32 {
         Some(SectionFault::BadWidth(place))
@@ -83,7 +83,6 @@ impl Side {
     {
         Side {
             aims: ListOf::from_vec(Vec::new(alloc)),
-            width: 0,
             fault: None,
         }
     }
@@ -94,7 +93,6 @@ impl Side {
     {
         Side {
             aims: ListOf::from_vec(Vec::new(alloc)),
-            width: 0,
             fault: Some(fault),
         }
     }
@@ -111,7 +109,6 @@ impl Side {
         let aims = list_aims(alloc, signals.signals.as_slice(), place)?;
         Ok(Side {
             aims: ListOf::from_vec(aims),
-            width: signals.width,
             fault,
         })
     }
@@ -141,13 +138,10 @@ impl Side {
         ensures { IfOk result (λ s. (count : ℕ) (x y : TargetFound) → IsSide count self x → IsSide count other.now y → IsSide count s (targets_both x y)) }
     {
         let mut aims = self.aims.into_vec();
-        let width = self.width.saturating_add(other.width);
-        if width <= 32 {
-            aims.extend_from_slice(other.aims.as_slice())?;
-        }
+        aims.extend_from_slice(other.aims.as_slice())?;
+        aims.truncate(33);
         Ok(Side {
             aims: ListOf::from_vec(aims),
-            width,
             fault: earlier(self.fault, other.fault),
         })
     }
@@ -156,11 +150,7 @@ impl Side {
     pub(crate) fn as_set(self, place: Place) -> Side
         ensures { (count : ℕ) (x : TargetFound) → IsSide count self x → IsSide count result (target_set place x) }
     {
-        let fault = earlier(self.fault, refuse_wide(place, self.width));
-        Side {
-            aims: self.aims,
-            width: self.width,
-            fault,
-        }
+        let fault = earlier(self.fault, refuse_wide(place, self.aims.as_slice().len()));
+        Side { fault, ..self }
     }
 }

@@ -3,7 +3,7 @@
 ghost use Rattle.std.specs.Prelude.{◌≡◌, IfOk, length, map};
 ghost use Rattle.abel_tree.specs.Entries.{entries_of, find};
 ghost use Rattle.abel_meaning.specs.Terms.{term_named};
-ghost use Rattle.abel_tree.specs.Tree.{AName, members_of};
+ghost use Rattle.abel_tree.specs.Tree.{members_of};
 ghost use Rattle.abel_tree.specs.View.{view, view_member};
 ghost use Rattle.abel_meaning.specs.Designs.{Context};
 ghost use Rattle.set_expr.specs.declared.fault.SectionFault.TheVariants.{NotAnOutput};
@@ -14,7 +14,7 @@ ghost use Rattle.section_targets.specs.TargetSignals.{TargetFound, targets_both,
 
 use crate::named::{NamedSignals, is_itself};
 use crate::sides::{NamePlace, Side, number_of};
-use abel_tree::{Expr, Extension, Member, Word};
+use abel_tree::{Expr, Member, Word};
 use name_uses::range_list;
 use pld_base::{OutOfMemory, Place};
 use set_expr::{Scope, SectionFault};
@@ -70,61 +70,22 @@ pub fn left_side(
     }
 }
 
-/// What is no name, in a target or header: refused as no output where it begins. Takes no memory.
+/// What is no name alone, in a target or header: refused as no output where it begins. Takes no memory.
 pub fn refuse_operator(scope: &Scope<'_>, expr: &Expr) -> SectionFault
     ensures { result ≡ NotAnOutput (first_place (view expr.now)) (first_name (entries_of scope.now) (view expr.now)) }
 {
     let mut first = expr;
     loop {
         match first {
-            Expr::Binary {
-                sign: _,
-                place: _,
-                left,
-                right: _,
-            } => first = left.get(),
-            Expr::Name { word, extension: _ } => {
+            Expr::Binary { left, .. } => first = left.get(),
+            Expr::Name { word, .. } => {
                 return SectionFault::NotAnOutput(word.place, number_of(scope, word.text.bytes()));
             }
             Expr::Number(number) => return SectionFault::NotAnOutput(number.place, None),
-            Expr::Special { letter: _, place } => return SectionFault::NotAnOutput(*place, None),
-            Expr::Set {
-                place,
-                members: _,
-                extension: _,
-            } => return SectionFault::NotAnOutput(*place, None),
-            Expr::Paren { place, inner: _ } => return SectionFault::NotAnOutput(*place, None),
-            Expr::Unary {
-                sign: _,
-                place,
-                inner: _,
-            } => return SectionFault::NotAnOutput(*place, None),
-        }
-    }
-}
-
-/// A name in a set, which has no extension.
-fn name_side(
-    alloc: Global,
-    scope: &Scope<'_>,
-    named: &[NamedSignals],
-    word: &Word,
-    extension: Option<Extension>,
-) -> Result<Side, OutOfMemory>
-    ensures { IfOk result (λ s. (d : Context) → d.names ≡ entries_of scope.now → AreTargets d named.now → IsSide (length d.names) s (target_member d (AName word.now extension))) }
-{
-    let text = word.text.bytes();
-    match extension {
-        None => {
-            let place = NamePlace {
-                used: word.place,
-                signals: word.place,
-            };
-            Side::of_name(alloc, scope, named, text, place)
-        }
-        Some(_) => {
-            let fault = SectionFault::NotAnOutput(word.place, number_of(scope, text));
-            Ok(Side::refused(alloc, fault))
+            Expr::Special { place, .. }
+            | Expr::Set { place, .. }
+            | Expr::Paren { place, .. }
+            | Expr::Unary { place, .. } => return SectionFault::NotAnOutput(*place, None),
         }
     }
 }
@@ -206,33 +167,30 @@ pub(crate) fn member_side(
     ensures { IfOk result (λ s. (d : Context) → d.names ≡ entries_of scope.now → AreTargets d named.now → IsSide (length d.names) s (target_member d (view expr.now))) }
 {
     match expr {
-        Expr::Number(number) => Ok(Side::refused(
-            alloc,
-            SectionFault::NotAnOutput(number.place, None),
-        )),
-        Expr::Special { letter: _, place } => {
-            Ok(Side::refused(alloc, SectionFault::MisplacedSpecial(*place)))
-        }
-        Expr::Name { word, extension } => name_side(alloc, scope, named, word, *extension),
+        Expr::Name { word, extension } => match extension {
+            Some(_) => Ok(Side::refused(alloc, refuse_operator(scope, expr))),
+            None => {
+                let place = NamePlace {
+                    used: word.place,
+                    signals: word.place,
+                };
+                Side::of_name(alloc, scope, named, word.text.bytes(), place)
+            }
+        },
         Expr::Set {
             place,
             members,
             extension,
         } => match extension {
-            Some(_) => Ok(Side::refused(alloc, SectionFault::NotAnOutput(*place, None))),
+            Some(_) => Ok(Side::refused(alloc, refuse_operator(scope, expr))),
             None => set_side(alloc, scope, named, members.as_slice(), *place),
         },
-        Expr::Paren { place: _, inner } => member_side(alloc, scope, named, inner.get()),
-        Expr::Unary {
-            sign: _,
-            place,
-            inner: _,
-        } => Ok(Side::refused(alloc, SectionFault::NotAnOutput(*place, None))),
-        Expr::Binary {
-            sign: _,
-            place: _,
-            left: _,
-            right: _,
-        } => Ok(Side::refused(alloc, refuse_operator(scope, expr))),
+        Expr::Paren { inner, .. } => member_side(alloc, scope, named, inner.get()),
+        Expr::Special { place, .. } => {
+            Ok(Side::refused(alloc, SectionFault::MisplacedSpecial(*place)))
+        }
+        Expr::Number(_) | Expr::Unary { .. } | Expr::Binary { .. } => {
+            Ok(Side::refused(alloc, refuse_operator(scope, expr)))
+        }
     }
 }

@@ -7,9 +7,10 @@ ghost use Rattle.set_expr.specs.SectionOrder.{section_order};
 ghost use Rattle.section_targets.specs.Walking.{AfterMaking};
 
 use crate::assigned::Assigned;
+use abel_tree::earlier;
 use bit_expr::Exprs;
 use pld_base::OutOfMemory;
-use set_expr::{Contribution, SectionFault, earlier};
+use set_expr::{Contribution, SectionFault};
 use std::alloc::Global;
 
 /// What was walked so far: its nodes and contributions, how it assigns signals, and the first refusal by place. Once

@@ -1,5 +1,5 @@
 -- One member more.
-use Rattle.std.proofs.Common.{◌≡◌, ◌+◌, ◌++◌, ◌&&◌, [], ◌∷◌, true, ap, ap₂, sym, ◌∙◌, subst, subst₂, take, map}
+use Rattle.std.proofs.Common.{◌≡◌, ◌+◌, ◌++◌, ◌&&◌, [], ◌∷◌, true, inl, inr, ap, ap₂, sym, ◌∙◌, subst, subst₂, take, map}
 use Rattle.std.proofs.lemmas.Result.{IfOk-weaker}
 use Rattle.abel_tree.specs.Ranges.{range_names}
 use Rattle.abel_tree.specs.Tree.{AParen, members_of}
@@ -59,21 +59,18 @@ named_expr-returns-after-loop-member t c count ks h =
     (c.extended-in-Set.ensures count (term.Set (terms_of ks (members_of (map view_member c.in-Set.members))))
     (subst (λ xs. AreSignals count c.loop-member.signals (some_signals (all_targets (terms_of ks (members_of xs)))) (all_name_signals (terms_of ks (members_of xs)))) all (c.loop-member.invariant count ks h)))
 
-pub named_expr-returns-in-Binary : goal.named_expr-returns-in-Binary
-named_expr-returns-in-Binary t c count ks h =
-    subst (λ e. IsOfTerm count c.none-in-Binary.result (term_of ks e)) (sym (ap view c.in-Binary.is ∙ view_binary c.in-Binary.sign c.in-Binary.place c.in-Binary.left c.in-Binary.right)) (c.none-in-Binary.ensures count)
-
-pub named_expr-returns-in-Number : goal.named_expr-returns-in-Number
-named_expr-returns-in-Number t c count ks h =
-    subst (λ e. IsOfTerm count c.none.result (term_of ks e)) (sym (ap view c.in-Number.is ∙ view_number c.in-Number.field-0)) (c.none.ensures count)
-
-pub named_expr-returns-in-Unary : goal.named_expr-returns-in-Unary
-named_expr-returns-in-Unary t c count ks h =
-    subst (λ e. IsOfTerm count c.none-in-Unary.result (term_of ks e)) (sym (ap view c.in-Unary.is ∙ view_unary c.in-Unary.sign c.in-Unary.place c.in-Unary.inner)) (c.none-in-Unary.ensures count)
-
 pub named_expr-returns-in-Special : goal.named_expr-returns-in-Special
 named_expr-returns-in-Special t c count ks h =
-    subst (λ e. IsOfTerm count c.none-in-Special.result (term_of ks e)) (sym (ap view c.in-Special.is ∙ view_special c.in-Special.letter c.in-Special.place)) (special_none count c.none-in-Special.result c.in-Special.letter (c.none-in-Special.ensures count))
+    subst (λ e. IsOfTerm count c.none.result (term_of ks e)) (sym (ap view c.in-Special.is ∙ view_special c.in-Special.letter c.in-Special.place)) (special_none count c.none.result c.in-Special.letter (c.none.ensures count))
+
+pub named_expr-returns-in-Number : goal.named_expr-returns-in-Number
+named_expr-returns-in-Number t c count ks h = elim c.in-Number.is [
+  | inl n ↦ subst (λ e. IsOfTerm count c.none-in-Number.result (term_of ks e)) (sym (ap view n.1 ∙ view_number n.0)) (c.none-in-Number.ensures count)
+  | inr m ↦ elim m [
+    | inl u ↦ subst (λ e. IsOfTerm count c.none-in-Number.result (term_of ks e)) (sym (ap view u.3 ∙ view_unary u.0 u.1 u.2)) (c.none-in-Number.ensures count)
+    | inr b ↦ subst (λ e. IsOfTerm count c.none-in-Number.result (term_of ks e)) (sym (ap view b.4 ∙ view_binary b.0 b.1 b.2 b.3)) (c.none-in-Number.ensures count)
+  ]
+]
 
 pub named_expr-returns-in-Paren : goal.named_expr-returns-in-Paren
 named_expr-returns-in-Paren t c =

@@ -1,8 +1,8 @@
 -- What each variant is refused as, and one member more.
-use Rattle.std.proofs.Common.{◌≡◌, ◌+◌, ◌++◌, [], ◌∷◌, ap, ap₂, sym, ◌∙◌, subst, length, take, map}
+use Rattle.std.proofs.Common.{◌≡◌, ◌+◌, ◌++◌, [], ◌∷◌, inl, inr, refl, ap, ap₂, sym, ◌∙◌, subst, length, take, map}
 use Rattle.std.proofs.lemmas.Result.{IfOk-weaker}
 use Rattle.abel_tree.specs.Ranges.{range_names}
-use Rattle.abel_tree.specs.Tree.{ASet, members_of}
+use Rattle.abel_tree.specs.Tree.{Tree, AName, ASet, members_of}
 use Rattle.abel_tree.specs.View.{view, view_member}
 use Rattle.name_uses.specs.RangeParts.{name_items}
 use Rattle.set_expr.specs.declared.fault.SectionFault.TheVariants.{NotAnOutput}
@@ -11,12 +11,9 @@ use Rattle.set_expr.proofs.FoundMembers.{front_more, whole_front}
 use Rattle.section_targets.specs.NamedTargets.{IsSide}
 use Rattle.section_targets.specs.TargetSignals.{target_member, target_members, target_one, target_set, target_range, targets_both, no_target, first_name}
 use Rattle.section_targets.proofs.NameTerms.{members_more}
-use Rattle.expr_bits.proofs.Views.{view_number, view_special, view_set, view_unary, view_binary, view_one, view_span}
+use Rattle.section_targets.proofs.SignalLists.{side_refused}
+use Rattle.expr_bits.proofs.Views.{view_number, view_special, view_name, view_set, view_unary, view_binary, view_one, view_span}
 use Rattle.section_targets.proofs.siding.+siding.Goals as goal
-
-pub member_side-returns-in-Number : goal.member_side-returns-in-Number
-member_side-returns-in-Number t c d k h =
-    subst (λ e. IsSide (length d.names) c.refused.result (target_member d e)) (sym (ap view c.in-Number.is ∙ view_number c.in-Number.number)) (c.refused.ensures (length d.names))
 
 pub member_side-returns-in-Special : goal.member_side-returns-in-Special
 member_side-returns-in-Special t c d k h =
@@ -24,21 +21,24 @@ member_side-returns-in-Special t c d k h =
 
 pub member_side-returns-in-Some : goal.member_side-returns-in-Some
 member_side-returns-in-Some t c d k h =
-    subst (λ e. IsSide (length d.names) c.refused-in-Some.result (target_member d e))
-    (sym (ap view c.in-Set.is ∙ view_set c.in-Set.place c.in-Set.members c.in-Set.extension ∙ ap (λ e. ASet c.in-Set.place (members_of (map view_member c.in-Set.members)) e) c.in-Some.is))
-    (c.refused-in-Some.ensures (length d.names))
+    side_refused d c.refused.result _ _ _ c.refuse_operator.result k c.refuse_operator.ensures
+    (ap view c.in-Name.is ∙ view_name c.in-Name.word c.in-Name.extension ∙ ap (AName c.in-Name.word) c.in-Some.is) refl (c.refused.ensures (length d.names))
 
-pub member_side-returns-in-Unary : goal.member_side-returns-in-Unary
-member_side-returns-in-Unary t c d k h =
-    subst (λ e. IsSide (length d.names) c.refused-in-Unary.result (target_member d e)) (sym (ap view c.in-Unary.is ∙ view_unary c.in-Unary.sign c.in-Unary.place c.in-Unary.inner)) (c.refused-in-Unary.ensures (length d.names))
+pub member_side-returns-in-Some-extension : goal.member_side-returns-in-Some-extension
+member_side-returns-in-Some-extension t c d k h =
+    side_refused d c.refused-in-Some-extension.result _ _ _ c.refuse_operator-in-Some-extension.result k c.refuse_operator-in-Some-extension.ensures
+    (ap view c.in-Set.is ∙ view_set c.in-Set.place c.in-Set.members c.in-Set.extension ∙ ap (ASet c.in-Set.place (members_of (map view_member c.in-Set.members))) c.in-Some-extension.is) refl (c.refused-in-Some-extension.ensures (length d.names))
 
-pub member_side-returns-in-Binary : goal.member_side-returns-in-Binary
-member_side-returns-in-Binary t c d k h =
-    let v = ap view c.in-Binary.is ∙ view_binary c.in-Binary.sign c.in-Binary.place c.in-Binary.left c.in-Binary.right in
-    subst (λ e. IsSide (length d.names) c.refused-in-Binary.result (target_member d e)) (sym v)
-    (subst (λ f. IsSide (length d.names) c.refused-in-Binary.result (no_target f))
-    (c.refuse_operator.ensures ∙ ap (λ es. NotAnOutput (first_place (view c.args.expr.now)) (first_name es (view c.args.expr.now))) (sym k) ∙ ap (λ e. NotAnOutput (first_place e) (first_name d.names e)) v)
-    (c.refused-in-Binary.ensures (length d.names)))
+pub member_side-returns-in-Number : goal.member_side-returns-in-Number
+member_side-returns-in-Number t c d k h =
+    let refused = λ (u : Tree) (v : view c.args.expr.now ≡ u) (m : target_member d u ≡ no_target (NotAnOutput (first_place u) (first_name d.names u))). side_refused d c.refused-in-Number.result _ u _ c.refuse_operator-in-Number.result k c.refuse_operator-in-Number.ensures v m (c.refused-in-Number.ensures (length d.names)) in
+    elim c.in-Number.is [
+      | inl n ↦ refused _ (ap view n.1 ∙ view_number n.0) refl
+      | inr m ↦ elim m [
+        | inl u ↦ refused _ (ap view u.3 ∙ view_unary u.0 u.1 u.2) refl
+        | inr b ↦ refused _ (ap view b.4 ∙ view_binary b.0 b.1 b.2 b.3) refl
+      ]
+    ]
 
 pub with_member-returns-in_ok-side-in-One : goal.with_member-returns-in_ok-side-in-One
 with_member-returns-in_ok-side-in-One t c =

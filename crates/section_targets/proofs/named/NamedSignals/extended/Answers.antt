@@ -7,5 +7,5 @@ use Rattle.section_targets.proofs.named.NamedSignals.extended.Goals as goal
 
 pub returns-in-Some : goal.returns-in-Some
 returns-in-Some c count t h =
-    let n : NamedSignals = record { signals = c.args.self.signals; width = c.args.self.width; alone = c.is_only.result } in
-    subst (λ e. IsOfTerm count n (extended_if e t)) (sym c.in-Some.is) (signals_extended count c.in-Some.field-0 c.args.self n t h refl refl c.is_only.ensures)
+    let n : NamedSignals = record { signals = c.args.self.signals; alone = c.is_nothing.result } in
+    subst (λ e. IsOfTerm count n (extended_if e t)) (sym c.in-Some.is) (signals_extended count c.in-Some.field-0 c.args.self n t h refl c.is_nothing.ensures)
