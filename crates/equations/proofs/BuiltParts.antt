@@ -35,9 +35,9 @@ use Rattle.set_expr.specs.Shapes.{HasShape}
 use Rattle.set_expr.specs.Answer.{IsContextOf, IsShaped, Keeps, refusal_of, bits_at, positions}
 use Rattle.set_expr.specs.Contexts.{context_for}
 use Rattle.expr_bits.specs.ExpressionBits.{MakesBits}
-use Rattle.section_targets.specs.Building.{Stop, AtLimit, NoMemory, AtRefusal, stop_of, Stops, StopsWith, IsBuilt, Builds, IsBit, AreBits}
+use Rattle.section_targets.specs.Building.{NoMemory, StopsWith, IsBuilt, Builds, IsBit, AreBits}
 use Rattle.section_targets.specs.Units.{CountedUnit, part}
-use Rattle.section_targets.proofs.Built.{left_empty, builds_stop, kept_inside, kept_formula}
+use Rattle.section_targets.proofs.Built.{left_empty, builds_stop, stops_on, kept_inside, kept_formula}
 use Rattle.section_targets.proofs.OneUnit.{one_unit, two_parts}
 use Rattle.section_targets.proofs.Parts.{leaves_nodes, limit_here}
 use Rattle.equations.specs.Builds.{at_unit}
@@ -60,7 +60,7 @@ bits_keep d t old new made.OutOfMemory m = m
 pub bits_stop : (d : Context) (t : Tree) (p : Place) (old new : List Node) (f : ExprFault) → MakesBits d t old new (Err f)
     → (list : List Contribution) → StopsWith (part p (term_nodes d t) ∷ []) [] [] (record { exprs = old; list = list }) (record { exprs = new; list = list }) (at_unit p f)
 bits_stop d t p old new made.NodeLimit m list = (limit_here p (term_nodes d t) (length (arena old)) m.1, leaves_nodes old new list m.0)
-bits_stop d t p old new made.OutOfMemory m list = (tt, leaves_nodes old new list m)
+bits_stop d t p old new made.OutOfMemory m list = (NoMemory refl, leaves_nodes old new list m)
 
 -- ---- bits
 
@@ -109,12 +109,8 @@ pub stops_longer : (p : Place) (rs : List SectionFault) (m k : ℕ) (old new : C
 stops_longer p [] m k old new f s =
     subst (λ n. StopsWith (part p n ∷ []) [] [] old new f) (omega arith)
     (one_unit {R = Unit} p (part p m ∷ part p k ∷ []) [] [] old new (Err f) (refl, (refl, tt)) (builds_stop (part p m ∷ []) (part p k ∷ []) [] [] [] [] old new f s))
-stops_longer p (r ∷ rs) m k old new f s = (by_stop (stop_of f) s.0, s.1)
-  where
-    by_stop : (stop : Stop) → Stops stop (length (arena old.exprs)) (whole p (r ∷ rs) m ∷ []) → Stops stop (length (arena old.exprs)) (whole p (r ∷ rs) (m + k) ∷ [])
-    by_stop (AtLimit q) h = absurd cc
-    by_stop NoMemory h = tt
-    by_stop AtRefusal h = h
+stops_longer p (r ∷ rs) m k old new f s =
+    (stops_on f (length (arena old.exprs)) (length (arena old.exprs)) (whole p (r ∷ rs) m ∷ []) (whole p (r ∷ rs) (m + k) ∷ []) (λ h. absurd cc) s.0, s.1)
 
 -- a part behind a front that was made
 pub parts_longer : {R : Type 0} (p : Place) (rs : List SectionFault) (m k : ℕ) (old mid new : Contributions) (r : Result R SectionFault) → IsBuilt (whole p rs m ∷ []) [] [] old mid → Builds (part p k ∷ []) [] [] mid new r → Builds (whole p rs (m + k) ∷ []) [] [] old new r

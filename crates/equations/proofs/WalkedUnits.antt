@@ -7,7 +7,6 @@ use Rattle.abel_tree.specs.FirstRefusal.{earlier, first_refusal}
 use Rattle.abel_tree.proofs.FirstRefusals.{none_refused}
 use Rattle.abel_meaning.specs.Contributions as meant
 use Rattle.set_expr.specs.declared.fault.SectionFault.{SectionFault}
-use Rattle.set_expr.specs.declared.fault.SectionFault.TheVariants as fault
 use Rattle.set_expr.specs.SectionOrder.{section_order}
 use Rattle.section_targets.specs.declared.manner.Manner.{Manner}
 use Rattle.section_targets.specs.declared.walked.Walked.{Walked}
@@ -54,14 +53,4 @@ never f e = cc
 
 -- where making a unit failed, something is refused
 pub limit_kept : (f : SectionFault) (made new : Walked) → AfterMaking (Err f) made new → new.fault ≡ None → ⊥
-limit_kept fault.OutOfMemory made new k e = k
-limit_kept (fault.NodeLimit p) made new k e = never (fault.NodeLimit p) (sym (ap (λ (w : Walked). w.fault) k) ∙ e)
-limit_kept (fault.MisplacedSpecial p) made new k e = never (fault.MisplacedSpecial p) (sym (ap (λ (w : Walked). w.fault) k) ∙ e)
-limit_kept (fault.NotConstant p) made new k e = never (fault.NotConstant p) (sym (ap (λ (w : Walked). w.fault) k) ∙ e)
-limit_kept (fault.ZeroDivisor p) made new k e = never (fault.ZeroDivisor p) (sym (ap (λ (w : Walked). w.fault) k) ∙ e)
-limit_kept (fault.BadWidth p) made new k e = never (fault.BadWidth p) (sym (ap (λ (w : Walked). w.fault) k) ∙ e)
-limit_kept (fault.NotAnOutput p s) made new k e = never (fault.NotAnOutput p s) (sym (ap (λ (w : Walked). w.fault) k) ∙ e)
-limit_kept (fault.MixedAssignment p s) made new k e = never (fault.MixedAssignment p s) (sym (ap (λ (w : Walked). w.fault) k) ∙ e)
-limit_kept (fault.BadRow p) made new k e = never (fault.BadRow p) (sym (ap (λ (w : Walked). w.fault) k) ∙ e)
-limit_kept (fault.BadState p) made new k e = never (fault.BadState p) (sym (ap (λ (w : Walked). w.fault) k) ∙ e)
-limit_kept (fault.BadVector p) made new k e = never (fault.BadVector p) (sym (ap (λ (w : Walked). w.fault) k) ∙ e)
+limit_kept f made new k e = never f (sym (ap (λ (w : Walked). w.fault) k.1) ∙ e)

@@ -1,6 +1,6 @@
 -- Sources of one line written as trees, each token at its column.
 use Prim.Native.String.{String}
-use Rattle.std.specs.Prelude.{ℕ, ◌+◌, Bool, true, false, None, Some, List, [], ◌∷◌, codes}
+use Rattle.std.specs.Prelude.{ℕ, Bool, true, false, None, Some, List, [], ◌∷◌, codes}
 use Rattle.pld_base.specs.declared.device_name.DeviceName.TheVariants.{P16L8}
 use Rattle.pld_base.specs.declared.place.Place.{Place}
 use Rattle.pld_device.specs.declared.cell.Cell.{Cell}
@@ -15,7 +15,7 @@ use Rattle.abel_tree.specs.declared.words.Sign.TheVariants as sign
 use Rattle.abel_tree.specs.declared.words.Unary.TheVariants as unary
 use Rattle.abel_tree.specs.declared.words.Word.{Word}
 use Rattle.abel_tree.specs.Entries.{Kind, APin, ANode, AConstant, Words, Entry}
-use Rattle.abel_tree.specs.Tree.{Tree, ANumber, ASpecial, AName, ASet, AParen, AUnary, ABinary, SetMember, OneMember, SpanMember, members_of, Statement, AnAssign, AWhen, AGroup, NoElse, AnElse, statements_of}
+use Rattle.abel_tree.specs.Tree.{Tree, ANumber, ASpecial, AName, ASet, AParen, AUnary, ABinary, SetMember, OneMember, members_of, Statement, AnAssign, AWhen, NoElse, AnElse}
 use Rattle.abel_meaning.specs.Designs.{Context, context_of}
 
 -- a column of the one line
@@ -49,9 +49,6 @@ set c ts = ASet (at c) (members_of (ones ts)) None
     ones [] = []
     ones (t ∷ ts) = OneMember t ∷ ones ts
 
-abbrev pub span : ℕ → String → ℕ → String → Tree
-span c first k last = ASet (at c) (members_of (SpanMember (word (c + 1) first) (word k last) ∷ [])) None
-
 abbrev pub paren : ℕ → Tree → Tree
 paren c t = AParen (at c) t
 
@@ -72,17 +69,11 @@ not_assign c t q u = AnAssign (at c) true t sign.Equal (at q) u
 abbrev pub clocked : ℕ → Tree → ℕ → Tree → Statement
 clocked c t q u = AnAssign (at c) false t sign.Clocked (at q) u
 
-abbrev pub assign_any : ℕ → Tree → ℕ → Tree → Statement
-assign_any c t q u = AnAssign (at c) false t sign.Any (at q) u
-
 abbrev pub when_then : ℕ → Tree → Statement → Statement
 when_then c t s = AWhen (at c) t s NoElse
 
 abbrev pub when_else : ℕ → Tree → Statement → Statement → Statement
 when_else c t s u = AWhen (at c) t s (AnElse u)
-
-abbrev pub group : List Statement → Statement
-group ss = AGroup (statements_of ss)
 
 -- ---- names: a, b on pins that are no cell, Y, Z, W on those of cells, q a register on one, n a node, and constants
 

@@ -1,10 +1,9 @@
 //! What is refused of assignments.
 
-ghost use Rattle.std.specs.Prelude.{◌≡◌, Some, List, ◌++◌, length, IfOk, OnOk};
+ghost use Rattle.std.specs.Prelude.{◌≡◌, List, ◌++◌, length, IfOk, OnOk};
 ghost use Rattle.abel_tree.specs.Assigned as assigned;
 ghost use Rattle.abel_tree.specs.Entries.{entries_of};
 ghost use Rattle.abel_tree.specs.FirstRefusal.{first_refusal};
-ghost use Rattle.abel_tree.specs.FirstRefusal as first;
 ghost use Rattle.abel_tree.specs.View.{view};
 ghost use Rattle.set_expr.specs.KnownNames.{SumsUp};
 ghost use Rattle.set_expr.specs.Refusals.{Found};
@@ -20,19 +19,12 @@ ghost use Rattle.equations.specs.Checks.{view_assign};
 ghost use Rattle.equations.specs.StatementUnits.{assign_refused, assigned_manners, statement_manners};
 
 use crate::conditions::{is_clocked, refuse_value, target_extension};
-use abel_tree::Assign;
+use abel_tree::{Assign, earlier};
 use pld_base::OutOfMemory;
 use pld_device::Device;
 use section_targets::{Assigned, SectionScope, Side, Way, check_aims};
-use set_expr::{Checked, SectionFault, earlier};
+use set_expr::{Checked, SectionFault};
 use std::alloc::Global;
-
-/// An assignment whose target is refused.
-fn refuse_behind(side: SectionFault, value: Checked) -> Option<SectionFault>
-    ensures { result ≡ first.earlier section_order (Some side) (first.earlier section_order value.fault value.special) }
-{
-    earlier(Some(side), earlier(value.fault, value.special))
-}
 
 /// An assignment to a target that isn't refused.
 fn check_side<D: Device>(
@@ -70,7 +62,7 @@ pub(crate) fn check_assign<D: Device>(
     let side = scope.target(alloc, assign.place, &assign.target)?;
     let value = scope.scope().check(alloc, &assign.value)?;
     match side.fault {
-        Some(fault) => Ok(refuse_behind(fault, value)),
+        Some(fault) => Ok(earlier(Some(fault), earlier(value.fault, value.special))),
         None => check_side::<D>(scope, assign, &side, value, before),
     }
 }

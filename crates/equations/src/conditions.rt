@@ -15,9 +15,9 @@ ghost use Rattle.set_expr.specs.SectionOrder.{section_order};
 ghost use Rattle.section_targets.specs.ValueWidths.{value_width, value_refused};
 ghost use Rattle.equations.specs.StatementUnits.{condition_refused};
 
-use abel_tree::{Expr, Extension, Sign};
+use abel_tree::{Expr, Extension, Sign, earlier};
 use pld_base::{OutOfMemory, Place};
-use set_expr::{Checked, Gives, Scope, SectionFault, Shape, earlier};
+use set_expr::{Checked, Gives, Scope, SectionFault, Shape};
 use std::alloc::Global;
 
 /// The extension of a target, which stands outside.
@@ -25,12 +25,7 @@ pub(crate) fn target_extension(target: &Expr) -> Option<Extension>
     ensures { result ≡ assigned.target_extension (view target.now) }
 {
     match target {
-        Expr::Name { word: _, extension } => *extension,
-        Expr::Set {
-            place: _,
-            members: _,
-            extension,
-        } => *extension,
+        Expr::Name { extension, .. } | Expr::Set { extension, .. } => *extension,
         _ => None,
     }
 }
@@ -39,12 +34,7 @@ pub(crate) fn target_extension(target: &Expr) -> Option<Extension>
 pub(crate) fn is_clocked(sign: Sign) -> bool
     ensures { result ≡ assigned.is_clocked sign }
 {
-    match sign {
-        Sign::Equal => false,
-        Sign::Clocked => true,
-        Sign::Any => false,
-        Sign::ClockedAny => true,
-    }
+    matches!(sign, Sign::Clocked | Sign::ClockedAny)
 }
 
 /// What the sign gives where the value is 1.
@@ -52,10 +42,8 @@ pub(crate) fn sign_gives(sign: Sign) -> Gives
     ensures { view_gives result ≡ given.sign_gives sign }
 {
     match sign {
-        Sign::Equal => Gives::One,
-        Sign::Clocked => Gives::One,
-        Sign::Any => Gives::Any,
-        Sign::ClockedAny => Gives::Any,
+        Sign::Equal | Sign::Clocked => Gives::One,
+        Sign::Any | Sign::ClockedAny => Gives::Any,
     }
 }
 

@@ -1,10 +1,12 @@
 -- An assignment whose target is refused, and one whose target isn't.
-use Rattle.std.proofs.Common.{◌++◌, sym, ◌∙◌, subst, length}
+use Rattle.std.proofs.Common.{◌++◌, Some, ap, sym, ◌∙◌, subst, length}
 use Rattle.std.proofs.lemmas.Result.{IfOk-weaker}
 use Rattle.abel_tree.specs.declared.names.Names.{Names}
 use Rattle.abel_tree.specs.Assigned as assigned
 use Rattle.abel_tree.specs.Entries.{entries_of}
+use Rattle.abel_tree.specs.FirstRefusal.{earlier}
 use Rattle.abel_tree.specs.View.{view}
+use Rattle.set_expr.specs.SectionOrder.{section_order}
 use Rattle.set_expr.specs.FoundNames.{expression_found}
 use Rattle.set_expr.specs.KnownNames.{SumsUp}
 use Rattle.set_expr.specs.Contexts.{context_for}
@@ -21,7 +23,7 @@ returns-in-Some-clause-fault g c = λ all a.
     let t = g.D.Device.table in
     let d = context_for t n in
     let x = c.args.assign.now in
-    c.refuse_behind.ensures
+    c.earlier-in-Some.ensures ∙ ap (earlier section_order (Some c.in-Some.fault)) c.earlier.ensures
     ∙ behind_refused d all (assigned.target_extension (view x.target)) x.complement x.sign x.sign_place (left_side d x.place (view x.target)) (expression_found (entries_of n) (view x.value)) c.in-Some.fault c.in_ok-value.value
     (sym c.in-Some.is ∙ (c.in_ok-side.ensures t).fault) (subst (λ (m : Names). SumsUp c.in_ok-value.value (expression_found (entries_of m) (view x.value))) c.scope.ensures c.in_ok-value.ensures)
 

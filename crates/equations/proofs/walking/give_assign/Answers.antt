@@ -1,5 +1,5 @@
 -- The signals of an assignment are given its value.
-use Rattle.std.proofs.Common.{◌<◌, List, [], All, sym, ap, ◌∙◌, subst, length}
+use Rattle.std.proofs.Common.{◌<◌, List, [], All, refl, sym, ap, ◌∙◌, subst, length}
 use Rattle.std.proofs.lemmas.Result.{err_from_is_err_and}
 use Rattle.bit_expr.specs.declared.node.ExprId.{ExprId}
 use Rattle.bit_expr.specs.Arena.{arena, formula_at}
@@ -12,13 +12,14 @@ use Rattle.abel_meaning.specs.Targets.{targets_of}
 use Rattle.abel_meaning.specs.Terms.{term_of}
 use Rattle.set_expr.specs.declared.fault.SectionFault.TheVariants as fault
 use Rattle.section_targets.specs.declared.aim.Aim.{Aim}
-use Rattle.section_targets.specs.Building.{AreBits}
+use Rattle.section_targets.specs.Building.{NoMemory, AreBits}
 use Rattle.set_expr.specs.Contexts.{context_for}
 use Rattle.section_targets.specs.Given.{AreNamed}
 use Rattle.section_targets.specs.TargetSignals.{left_side}
 use Rattle.section_targets.proofs.Built.{kept_formula, kept_inside}
 use Rattle.section_targets.proofs.Gives.{stops_nodes}
 use Rattle.section_targets.proofs.Parts.{leaves_nodes}
+use Rattle.section_targets.proofs.SignalLists.{side_all}
 use Rattle.section_targets.proofs.SideTerms.{side_positions}
 use Rattle.section_targets.proofs.SmallTargets.{side_few}
 use Rattle.equations.proofs.BuiltParts.{is_context, stops_longer}
@@ -30,7 +31,7 @@ pub returns-in_err-side-clause-gives : goal.returns-in_err-side-clause-gives
 returns-in_err-side-clause-gives g c =
     let p = err_from_is_err_and c.from_residual.result c.from_residual.ensures.1 in
     let old = c.args.out.now in
-    rw (p.1, p.2) (stops_nodes [] _ _ _ _ fault.OutOfMemory (tt, leaves_nodes old.exprs old.exprs old.list.items (λ i f e. e)))
+    rw (p.1, p.2) (stops_nodes _ _ _ _ _ fault.OutOfMemory (NoMemory refl, leaves_nodes old.exprs old.exprs old.list.items (λ i f e. e)))
 
 pub returns-in_err-bits-clause-gives : goal.returns-in_err-bits-clause-gives
 returns-in_err-bits-clause-gives g c =
@@ -64,7 +65,7 @@ returns-clause-gives g c =
     let a = c.args.assign.now in
     let side = c.in_ok-side.ensures t in
     let clear = c.requires.accepted.target in
-    let aims = c.as_slice-aims.ensures ∙ side.aims (side_few d a.place (view a.target) (known_by_names t n d (is_context t n)) clear) in
+    let aims = c.as_slice-aims.ensures ∙ side_all (length d.names) c.in_ok-side.side (left_side d a.place (view a.target)) side (side_few d a.place (view a.target) (known_by_names t n d (is_context t n)) clear) in
     assign_built d _ _ _ _ (view a.target) (view a.value) (left_side d a.place (view a.target)) c.as_slice-aims.result.now c.deref.result.now _ _ _ c.give_all.result
     clear aims (side_positions d a.place (view a.target) clear) c.target_extension.ensures c.is_clocked.ensures c.sign_gives.ensures
     (c.in_ok-bits.ensures.builds c.args.out.now.list.items) (kept_formula _ _ c.args.guard.when c.in_ok-bits.ensures.keeps c.requires.guard)
