@@ -40,4 +40,4 @@ leads_back es w k y t o h g e =
 
 pub stand_back : (n : Names) (w : List ℕ) (k : ℕ) (y : Entry) (s : Stand) → AreInOrder (entries_of n) → find (entries_of n) w ≡ Some k → get_or (entries_of n) k y ≡ y → IsOfKind s y.kind → LeadsBack n w s
 stand_back n w k y (stand.Constant x) o h g e = leads_back (entries_of n) w k y _ o h g e
-stand_back n w k y (stand.Content c) o h g e = tt
+stand_back n w k y (stand.Part p) o h g e = tt

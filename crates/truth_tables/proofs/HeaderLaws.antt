@@ -1,5 +1,6 @@
 -- What is found of a header, part by part.
-use Rattle.std.proofs.Common.{◌≡◌, ℕ, true, false, Option, None, Some, List, [], ◌∷◌, ◌++◌, length, refl, sym, ap, ap₂, ◌∙◌, append_assoc, append-nil}
+use Rattle.std.proofs.Common.{◌≡◌, ℕ, true, false, Option, None, Some, List, [], ◌∷◌, ◌++◌, ◌-◌, length, refl, sym, ap, ap₂, ◌∙◌, append_assoc, append-nil, arith}
+use Rattle.std.proofs.lemmas.List.{length-append}
 use Rattle.pld_base.specs.declared.place.Place.{Place}
 use Rattle.abel_tree.specs.FirstRefusal.{earlier, first_refusal}
 use Rattle.abel_tree.proofs.FirstRefusals.{first_append}
@@ -15,8 +16,8 @@ use Rattle.section_targets.specs.declared.aim.Aim.{Aim}
 use Rattle.truth_tables.specs.HeaderSignals.{names_positions}
 use Rattle.truth_tables.specs.OutputHeaders.{HeaderFound, header_of, refused_header, outputs_at, named_outputs, header_name, both_headers, header_set, header_range, output_member, output_members}
 use Rattle.truth_tables.specs.TableUnits.{some_aims}
-use Rattle.truth_tables.specs.declared.header.Header.{Header}
-use Rattle.truth_tables.specs.Headers.{IsHeader}
+use Rattle.truth_tables.specs.declared.checked_headers.Header.{Header}
+use Rattle.truth_tables.specs.Headers.{IsAdded, IsHeader}
 
 abbrev pub first : List SectionFault → Option SectionFault
 first rs = first_refusal section_order rs
@@ -34,21 +35,31 @@ aims_append (Some a ∷ xs) ys = ap (λ zs. a ∷ zs) (aims_append xs ys)
 
 -- ---- parts
 
-pub header_joined : (a b n : Header) (x y : HeaderFound) → IsHeader a x → IsHeader b y → n.fault ≡ earlier section_order a.fault b.fault → n.outputs ≡ a.outputs ++ b.outputs → IsHeader n (both_headers x y)
-header_joined a b n x y h k fault list =
+pub added_more : (x y : HeaderFound) (f g h : Option SectionFault) (old mid new : List (Option Aim)) → IsAdded x f old mid → IsAdded y g mid new → h ≡ earlier section_order f g → IsAdded (both_headers x y) h old new
+added_more x y f g h old mid new a b e =
     record {
-      fault = fault ∙ ap₂ (earlier section_order) h.fault k.fault ∙ sym (first_append section_order x.refusals y.refusals);
-      outputs = list ∙ ap₂ (λ us vs. us ++ vs) h.outputs k.outputs;
+      fault = e ∙ ap₂ (earlier section_order) a.fault b.fault ∙ sym (first_append section_order x.refusals y.refusals);
+      outputs = b.outputs ∙ ap (λ zs. zs ++ y.outputs) a.outputs ∙ append_assoc old x.outputs y.outputs;
     }
 
-pub header_whole : (p : Place) (a n : Header) (x : HeaderFound) (f : Option SectionFault) → IsHeader a x → f ≡ first (too_wide p (length a.outputs)) → n.fault ≡ earlier section_order a.fault f → n.outputs ≡ a.outputs → IsHeader n (header_set p x)
-header_whole p a n x f h e fault list =
+-- a set, whose positions are counted
+pub added_whole : (p : Place) (x : HeaderFound) (f g h : Option SectionFault) (old new : List (Option Aim)) (w : ℕ) → IsAdded x f old new → w ≡ length new - length old → g ≡ first (too_wide p w) → h ≡ earlier section_order f g → IsAdded (header_set p x) h old new
+added_whole p x f g h old new w a e t q =
+    let more : w ≡ length x.outputs = omega (arith, e, ap length a.outputs, length-append old x.outputs) in
     record {
-      fault = fault
-          ∙ ap₂ (earlier section_order) h.fault (e ∙ ap (λ xs. first (too_wide p (length xs))) h.outputs)
+      fault = q
+          ∙ ap₂ (earlier section_order) a.fault (t ∙ ap (λ n. first (too_wide p n)) more)
           ∙ sym (first_append section_order x.refusals (too_wide p (length x.outputs)));
-      outputs = list ∙ h.outputs;
+      outputs = a.outputs;
     }
+
+-- nothing is appended
+pub added_none : (x : HeaderFound) (f : Option SectionFault) (xs : List (Option Aim)) → f ≡ first x.refusals → x.outputs ≡ [] → IsAdded x f xs xs
+added_none x f xs e o = record { fault = e; outputs = sym (ap (λ ys. xs ++ ys) o ∙ append-nil xs) }
+
+-- all of a header
+pub added_header : (x : HeaderFound) (f : Option SectionFault) (old new : List (Option Aim)) (h : Header) → IsAdded x f old new → old ≡ [] → h.fault ≡ f → h.outputs ≡ new → IsHeader h x
+added_header x f old new h a o e p = record { fault = e ∙ a.fault; outputs = p ∙ a.outputs ∙ ap (λ xs. xs ++ x.outputs) o }
 
 both_assoc : (x y z : HeaderFound) → both_headers (both_headers x y) z ≡ both_headers x (both_headers y z)
 both_assoc x y z = rw (append_assoc x.refusals y.refusals z.refusals, append_assoc x.outputs y.outputs z.outputs) refl
@@ -61,12 +72,9 @@ members_more d [] m = both_none (output_member d m)
 members_more d (x ∷ ms) m =
     ap (both_headers (output_member d x)) (members_more d ms m) ∙ sym (both_assoc (output_member d x) (output_members d (members_of ms)) (output_member d m))
 
-pub range_more : (d : Context) (x : HeaderFound) (p : Place) (names : List (List ℕ)) (n : List ℕ) → both_headers (both_headers x (header_range d p names)) (header_name d p n) ≡ both_headers x (header_range d p (names ++ n ∷ []))
-range_more d x p names n = both_assoc x (header_range d p names) (header_name d p n) ∙ ap (both_headers x) (sym (ranged names))
-  where
-    ranged : (names : List (List ℕ)) → header_range d p (names ++ n ∷ []) ≡ both_headers (header_range d p names) (header_name d p n)
-    ranged [] = both_none (header_name d p n)
-    ranged (y ∷ names) = ap (both_headers (header_name d p y)) (ranged names) ∙ sym (both_assoc (header_name d p y) (header_range d p names) (header_name d p n))
+pub range_more : (d : Context) (p : Place) (names : List (List ℕ)) (n : List ℕ) → both_headers (header_range d p names) (header_name d p n) ≡ header_range d p (names ++ n ∷ [])
+range_more d p [] n = sym (both_none (header_name d p n))
+range_more d p (y ∷ names) n = both_assoc (header_name d p y) (header_range d p names) (header_name d p n) ∙ ap (both_headers (header_name d p y)) (range_more d p names n)
 
 -- ---- names
 

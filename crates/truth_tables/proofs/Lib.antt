@@ -9,7 +9,6 @@ pub mod Operands
 pub mod OutputPositions
 pub mod PairLaws
 pub mod PartLaws
-pub mod PartLists
 pub mod PartSums
 pub mod ProductLaws
 pub mod ReadLaws
@@ -18,6 +17,7 @@ pub mod RowLaws
 pub mod RowWorks
 pub mod RowsWalked
 pub mod SignalLaws
+pub mod StackLaws
 mod TableExamples
 pub mod TableWorks
 pub mod WorkLaws

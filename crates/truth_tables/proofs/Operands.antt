@@ -1,13 +1,15 @@
 -- Numbers and operators, under extensions.
-use Rattle.std.proofs.Common.{◌≡◌, ℕ, true, Option, None, Some, refl, ap, ◌∙◌}
+use Rattle.std.proofs.Common.{◌≡◌, ℕ, true, Option, None, Some, refl, sym, ap, ◌∙◌}
 use Rattle.abel_tree.specs.declared.expressions.Expr.{Expr}
 use Rattle.abel_tree.specs.declared.words.Binary.{Binary}
 use Rattle.abel_tree.specs.declared.words.Extension.{Extension}
 use Rattle.abel_tree.specs.declared.words.Unary.{Unary}
+use Rattle.abel_tree.specs.Extensions.{innermost}
 use Rattle.abel_tree.specs.View.{view}
 use Rattle.abel_meaning.specs.Designs.{Context}
 use Rattle.abel_meaning.specs.Terms.{Term, extended, extended_if, term_of}
 use Rattle.abel_meaning.specs.Terms as term
+use Rattle.expr_bits.proofs.Extensions.{inner_wins}
 use Rattle.truth_tables.specs.PartTerms.{IsOperator, is_operand}
 
 -- what holds of numbers and operators holds of operands
@@ -31,3 +33,8 @@ operator_operand d x t o = ap is_operand o.is ∙ operand_extended o.extension (
 pub number_extended : (d : Context) (e : Option Extension) (n : ℕ) → extended_if e (term.Number n) ≡ term.Number n
 number_extended d None n = refl
 number_extended d (Some e) n = refl
+
+-- an inner extension counts
+pub inner_extended : (own outer : Option Extension) (t : Term) → extended_if outer (extended_if own t) ≡ extended_if (innermost own outer) t
+inner_extended None outer t = refl
+inner_extended (Some e) outer t = sym (inner_wins e outer t)

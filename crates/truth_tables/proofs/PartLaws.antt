@@ -1,29 +1,29 @@
 -- What was checked of a part, as the value of its term.
 use Rattle.std.proofs.Common.{◌≡◌, ℕ, Option, None, Some, List, [], map, get_or, refl, sym, ap, ◌∙◌, subst}
 use Rattle.std.proofs.Math.ListN.{get_or-map}
-use Rattle.pld_base.specs.declared.place.Place.{Place}
 use Rattle.abel_tree.specs.declared.expressions.Expr.{Expr}
 use Rattle.abel_tree.specs.declared.names.Declared.{Declared}
 use Rattle.abel_tree.specs.declared.names.Names.{Names}
 use Rattle.abel_tree.specs.declared.words.Extension.{Extension}
 use Rattle.abel_tree.specs.Entries.{entries_of, view_declared}
-use Rattle.abel_tree.specs.Tree.{Tree, AName}
+use Rattle.abel_tree.specs.Tree.{Tree}
 use Rattle.abel_tree.specs.View.{view}
 use Rattle.abel_meaning.specs.Designs.{Context}
 use Rattle.abel_meaning.specs.Numbers.{Value, member_width}
-use Rattle.abel_meaning.specs.Terms.{Term, term_of, term_named, extended_if}
+use Rattle.abel_meaning.specs.Rows.{part_width}
+use Rattle.abel_meaning.specs.Terms.{Term, Terms, Set, term_of, extended_if}
 use Rattle.abel_meaning.specs.Values.{constant_of}
 use Rattle.set_expr.specs.declared.fault.SectionFault.{SectionFault}
 use Rattle.set_expr.specs.declared.shaped.Shape.{Shape}
 use Rattle.set_expr.specs.declared.shaped.Shape.TheVariants as shape
-use Rattle.set_expr.specs.FoundNames.{expression_found, found_use, name_found, names_found}
+use Rattle.set_expr.specs.FoundNames.{expression_found}
 use Rattle.set_expr.specs.KnownNames.{HasShapeIf}
 use Rattle.set_expr.specs.Refusals.{Found}
 use Rattle.set_expr.specs.Shapes.{HasShape}
 use Rattle.expr_bits.proofs.Linked.{HasKind, IsLinkedIf, expression_linked}
 use Rattle.expr_bits.proofs.Links.{SameKind, same_kind, extended_alike}
 use Rattle.truth_tables.specs.EntryTerms.{IsOver}
-use Rattle.truth_tables.specs.PartTerms.{IsNumeral, IsOperator, HasWidth}
+use Rattle.truth_tables.specs.PartTerms.{IsNumeral, IsOperator, IsSet}
 use Rattle.truth_tables.proofs.Operands.{operator_operand}
 
 kind_shape : (s : Shape) (v u : Value) → SameKind v u → HasShape s v → HasShape s u
@@ -31,13 +31,9 @@ kind_shape (shape.Number n) v u h k = (h.shape ∙ k.0, h.number k.0 ∙ k.1)
 kind_shape shape.Single v u h k = h.shape ∙ k
 kind_shape (shape.Set w) v u h k = h.shape ∙ k
 
-pub value_shape : (s : Shape) (o : Option Value) (u : Value) → HasKind o u → HasShapeIf (Some s) o → HasShape s u
+value_shape : (s : Shape) (o : Option Value) (u : Value) → HasKind o u → HasShapeIf (Some s) o → HasShape s u
 value_shape s None u h k = absurd h
 value_shape s (Some v) u h k = kind_shape s v u h k
-
-pub value_width : (w : ℕ) (o : Option Value) (u : Value) → HasKind o u → HasWidth w o → w ≡ member_width u.shape
-value_width w None u h k = absurd h
-value_width w (Some v) u h k = k ∙ ap member_width (sym h.shape)
 
 -- ---- under an extension
 
@@ -57,8 +53,15 @@ operator_numeral d x t n o k =
 pub operator_shape : (d : Context) (x : Expr) (t : Term) → IsOperator d x t → (constant_of d t).shape ≡ (constant_of d (term_of d.known (view x))).shape
 operator_shape d x t o = (operator_kind d x t o).shape
 
-pub width_extended : (d : Context) (e : Option Extension) (t : Term) (w : ℕ) → w ≡ member_width (constant_of d t).shape → w ≡ member_width (constant_of d (extended_if e t)).shape
-width_extended d e t w h = h ∙ sym (ap member_width (extended_kind d e t).shape)
+-- a set and an operator have as many positions as their expressions
+pub set_width : (d : Context) (x : Expr) (ts : Terms) (e : Option Extension) (t : Term) → IsSet d x ts e t → part_width d (term_of d.known (view x)) ≡ part_width d t
+set_width d x ts e t h =
+    ap (part_width d) h.whole
+    ∙ ap member_width ((extended_kind d h.extension (Set ts)).shape ∙ sym (extended_kind d e (Set ts)).shape)
+    ∙ sym (ap (part_width d) h.is)
+
+pub operator_width : (d : Context) (x : Expr) (t : Term) → IsOperator d x t → part_width d (term_of d.known (view x)) ≡ part_width d t
+operator_width d x t o = sym (ap member_width (operator_shape d x t o))
 
 -- ---- over the names of a design
 
@@ -70,14 +73,15 @@ found_kind d (Some v) xs t h l = l.0
 abbrev pub IsValued : Found → Value → Type 0
 IsValued f u = f.refusals ≡ [] → HasKind f.value u
 
-pub over_valued : (n : Names) (d : Context) → IsOver n d → (t : Tree) → IsValued (expression_found (entries_of n) t) (constant_of d (term_of d.known t))
+over_valued : (n : Names) (d : Context) → IsOver n d → (t : Tree) → IsValued (expression_found (entries_of n) t) (constant_of d (term_of d.known t))
 over_valued n d is t =
     let f = expression_found (entries_of n) t in
     let l = expression_linked d (entries_of n) t in
     subst (λ ks. IsValued f (constant_of d (term_of ks t))) (sym is.known) (λ e. found_kind d f.value f.specials _ (l.valued e) l.linked)
 
-pub over_named : (n : Names) (d : Context) → IsOver n d → (p : Place) (w : List ℕ) → IsValued (found_use p (name_found (names_found (entries_of n)) w)) (constant_of d (term_named d.known w))
-over_named n d is p w = over_valued n d is (AName (record { text = w; place = p }) None)
+-- the shape of an expression of which nothing is refused
+pub over_shape : (n : Names) (d : Context) → IsOver n d → (t : Tree) (s : Shape) → (expression_found (entries_of n) t).refusals ≡ [] → HasShapeIf (Some s) (expression_found (entries_of n) t).value → HasShape s (constant_of d (term_of d.known t))
+over_shape n d is t s e h = value_shape s (expression_found (entries_of n) t).value (constant_of d (term_of d.known t)) (over_valued n d is t e) h
 
 pub entry_at : (ds : List Declared) (k : ℕ) (x : Declared) → x ≡ get_or ds k x → get_or (map view_declared ds) k (view_declared x) ≡ view_declared x
 entry_at ds k x e = get_or-map view_declared ds k x ∙ ap view_declared (sym e)

@@ -1,17 +1,18 @@
 -- Each step of a walk over parts leaves fewer of them.
-use Rattle.std.proofs.Common.{◌≡◌, suc, ◌+◌, ◌<◌, Bool, true, Option, None, Some, List, [], ◌∷◌, ◌++◌, map, refl, sym, ap, ap₂, ◌∙◌, arith}
+use Rattle.std.proofs.Common.{◌≡◌, suc, ◌+◌, ◌<◌, true, Option, None, Some, map, refl, sym, ap, ap₂, ◌∙◌, arith}
+use Rattle.std.specs.List.{sum_by}
+use Rattle.std.proofs.lemmas.List.Sums.{sum_by-cons}
 use Rattle.abel_tree.specs.declared.words.Extension.{Extension}
 use Rattle.abel_tree.specs.Tree.{members_of}
 use Rattle.abel_tree.specs.View.{view_member}
 use Rattle.abel_meaning.specs.Designs.{Context}
 use Rattle.abel_meaning.specs.Terms.{Term, Terms, extended, extended_each, extended_if, terms_of}
 use Rattle.abel_meaning.specs.Terms as term
-use Rattle.truth_tables.specs.declared.part.Content.{Content}
-use Rattle.truth_tables.specs.declared.part.Content.TheVariants as content
 use Rattle.truth_tables.specs.declared.part.Part.{Part}
+use Rattle.truth_tables.specs.declared.part.Part.TheVariants as part
 use Rattle.expr_bits.specs.Members.{list_of, each_extended}
-use Rattle.truth_tables.specs.PartCounts.{term_parts, terms_parts, all_parts, content_parts, stack_parts}
-use Rattle.truth_tables.specs.PartTerms.{IsContent, AreParts, is_operand}
+use Rattle.truth_tables.specs.PartCounts.{term_parts, terms_parts, part_parts}
+use Rattle.truth_tables.specs.PartTerms.{IsPart, is_operand}
 use Rattle.truth_tables.proofs.Operands.{operand_case, operator_operand}
 use Rattle.expr_bits.proofs.Extensions.{all_extended, set_extended, list_extended}
 
@@ -49,33 +50,23 @@ some_parts (term.BinaryOf sign t u) = omega arith
 operand_parts : (t : Term) → is_operand t ≡ true → term_parts t ≡ 1
 operand_parts t k = operand_case (λ u. term_parts u ≡ 1) (λ n. refl) (λ sign u. refl) (λ sign u v. refl) t k
 
-content_counted : (d : Context) (x : Content) (t : Term) → IsContent d x t → content_parts d.known x ≡ term_parts t
-content_counted d (content.Set ms e) t i = sym (ap term_parts i ∙ parts_if e (term.Set (terms_of d.known (members_of (map view_member ms.now)))))
-content_counted d (content.Signal s e) t i = sym (ap term_parts i)
-content_counted d (content.Number n) t i = sym (operand_parts t i.operand)
-content_counted d content.Unknown t i = sym (ap term_parts i)
-content_counted d content.Pulsed t i = sym (ap term_parts i)
-content_counted d content.Released t i = sym (ap term_parts i)
-content_counted d (content.Operator x) t i = sym (operand_parts t (operator_operand d x.now t i))
+-- a part on a stack has those of its term
+pub part_counted : (d : Context) (x : Part) (t : Term) → IsPart d x t → part_parts d.known x ≡ term_parts t
+part_counted d (part.Set x ms e) t i = sym (ap term_parts i.is ∙ parts_if e (term.Set (terms_of d.known (members_of (map view_member ms.now)))))
+part_counted d (part.Signal s e) t i = sym (ap term_parts i)
+part_counted d (part.Number n) t i = sym (operand_parts t i.operand)
+part_counted d part.Unknown t i = sym (ap term_parts i)
+part_counted d part.Pulsed t i = sym (ap term_parts i)
+part_counted d part.Released t i = sym (ap term_parts i)
+part_counted d (part.Operator x) t i = sym (operand_parts t (operator_operand d x.now t i))
 
--- a stack has those of its terms
-pub parts_counted : (d : Context) (s : Bool) (ps : List Part) (ts : List Term) → AreParts d s ps ts → stack_parts d.known ps ≡ all_parts ts
-parts_counted d s [] [] h = refl
-parts_counted d s [] (t ∷ ts) h = absurd h
-parts_counted d s (p ∷ ps) [] h = absurd h
-parts_counted d s (p ∷ ps) (t ∷ ts) h = ap₂ (λ m n. m + n) (content_counted d p.content t h.0.content) (parts_counted d s ps ts h.1)
-
-pub parts_more : (ts us : List Term) → all_parts (ts ++ us) ≡ all_parts ts + all_parts us
-parts_more [] us = omega arith
-parts_more (t ∷ ts) us = omega (arith, parts_more ts us)
-
-listed_parts : (ts : Terms) → all_parts (list_of ts) ≡ terms_parts ts
+listed_parts : (ts : Terms) → sum_by term_parts (list_of ts) ≡ terms_parts ts
 listed_parts term.NoTerm = refl
-listed_parts (term.Before t ts) = ap (λ n. term_parts t + n) (listed_parts ts)
+listed_parts (term.Before t ts) = sum_by-cons term_parts t (list_of ts) ∙ ap (λ n. term_parts t + n) (listed_parts ts)
 
 -- the members of a set have fewer than the set
-pub set_fewer : (t : Term) (e : Option Extension) (ts : Terms) → t ≡ extended_if e (term.Set ts) → all_parts (each_extended e (list_of ts)) < term_parts t
+pub set_fewer : (t : Term) (e : Option Extension) (ts : Terms) → t ≡ extended_if e (term.Set ts) → sum_by term_parts (each_extended e (list_of ts)) < term_parts t
 set_fewer t e ts h =
-    let members : all_parts (each_extended e (list_of ts)) ≡ terms_parts (all_extended e ts) = ap all_parts (sym (list_extended e ts)) ∙ listed_parts (all_extended e ts) in
+    let members : sum_by term_parts (each_extended e (list_of ts)) ≡ terms_parts (all_extended e ts) = ap (sum_by term_parts) (sym (list_extended e ts)) ∙ listed_parts (all_extended e ts) in
     let whole : term_parts t ≡ suc (terms_parts (all_extended e ts)) = ap term_parts (h ∙ set_extended e ts) in
     omega arith

@@ -6,9 +6,9 @@ use Rattle.bit_expr.specs.Formulas.{Formula}
 use Rattle.abel_meaning.specs.Contributions as meant
 use Rattle.set_expr.specs.declared.contributions.Contributions.{Contributions}
 use Rattle.set_expr.specs.declared.fault.SectionFault.{SectionFault}
-use Rattle.section_targets.specs.Building.{Stop, AtLimit, NoMemory, AtRefusal, stop_of, Stops, StopsWith, Builds}
+use Rattle.section_targets.specs.Building.{StopsWith, Builds}
 use Rattle.section_targets.specs.Units.{part}
-use Rattle.section_targets.proofs.Built.{builds_none, builds_then, builds_stop}
+use Rattle.section_targets.proofs.Built.{builds_none, builds_then, builds_stop, stops_on}
 use Rattle.truth_tables.specs.Works.{Work, before, nothing, IsDone, IsBegun}
 
 pub before_none : (w : Work) → before w nothing ≡ w
@@ -49,13 +49,8 @@ begun_done all rest old new e b = subst (λ (w : Work). IsDone w old new) (sym (
 
 -- ---- no nodes
 
-no_limit : (p : Place) (count : ℕ) (stop : Stop) → Stops stop count (part p 0 ∷ []) → Stops stop count []
-no_limit p count (AtLimit q) h = absurd cc
-no_limit p count NoMemory h = tt
-no_limit p count AtRefusal h = (λ e. h.0 refl, refl)
-
 -- a part without nodes is no part
 pub free_part : {R : Type 0} (p : Place) (gs : List (meant.Contribution Formula)) (ps : List Place) (old new : Contributions) (r : Result R SectionFault) → Builds (part p 0 ∷ []) gs ps old new r → Builds [] gs ps old new r
 free_part p gs ps old new (Ok r) b =
     record { accepted = refl; within = refl; made = record { grew = record { keeps = b.made.grew.keeps; count = omega (arith, b.made.grew.count) }; more = b.made.more; whole = b.made.whole } }
-free_part p gs ps old new (Err f) b = (no_limit p (length (arena old.exprs)) (stop_of f) b.0, b.1)
+free_part p gs ps old new (Err f) b = (stops_on f (length (arena old.exprs)) (length (arena old.exprs)) (part p 0 ∷ []) [] (λ h. absurd cc) b.0, b.1)

@@ -13,6 +13,7 @@ pub mod RowLevels
 pub mod RowWalks
 pub mod Rows
 pub mod SignalTerms
+pub mod Stacks
 pub mod StepsLeft
 pub mod TableUnits
 pub mod TableWalks

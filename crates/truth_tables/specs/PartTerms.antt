@@ -1,18 +1,17 @@
 -- Private: the terms that the parts of headers and entries stand for.
-use Rattle.std.specs.Prelude.{◌≡◌, ℕ, Bool, true, false, Option, None, Some, List, [], ◌∷◌, map}
+use Rattle.std.specs.Prelude.{◌≡◌, ℕ, Bool, true, false, Option, List, map}
 use Rattle.abel_tree.specs.declared.expressions.Expr.{Expr}
 use Rattle.abel_tree.specs.declared.words.Extension.{Extension}
 use Rattle.abel_tree.specs.Tree.{members_of}
 use Rattle.abel_tree.specs.View.{view, view_member}
 use Rattle.abel_meaning.specs.Designs.{Context}
-use Rattle.abel_meaning.specs.Numbers.{Value, member_width}
 use Rattle.abel_meaning.specs.Numbers as number
-use Rattle.abel_meaning.specs.Terms.{Term, term_of, terms_of, extended_if}
+use Rattle.abel_meaning.specs.Terms.{Term, Terms, term_of, terms_of, extended_if}
 use Rattle.abel_meaning.specs.Terms as term
 use Rattle.abel_meaning.specs.Values.{constant_of}
-use Rattle.truth_tables.specs.declared.part.Content.{Content}
-use Rattle.truth_tables.specs.declared.part.Content.TheVariants as content
+use Rattle.truth_tables.specs.Stacks.{Each}
 use Rattle.truth_tables.specs.declared.part.Part.{Part}
+use Rattle.truth_tables.specs.declared.part.Part.TheVariants as part
 use Rattle.truth_tables.specs.declared.part.Stand.{Stand}
 use Rattle.truth_tables.specs.declared.part.Stand.TheVariants as stand
 
@@ -35,15 +34,29 @@ pub record IsOperator (d : Context) (x : Expr) (t : Term) : Type 0 where
   pub is : t ≡ extended_if extension (term_of d.known (view x))
   pub operand : is_operand (term_of d.known (view x)) ≡ true
 
+-- a set under an extension, and its expression
+pub record IsSet (d : Context) (x : Expr) (ts : Terms) (e : Option Extension) (t : Term) : Type 0 where
+  pub extension : Option Extension
+  pub whole : term_of d.known (view x) ≡ extended_if extension (term.Set ts)
+  pub is : t ≡ extended_if e (term.Set ts)
+
 -- what a term is
-abbrev pub IsContent : Context → Content → Term → Type 0
-IsContent d (content.Set ms e) t = t ≡ extended_if e (term.Set (terms_of d.known (members_of (map view_member ms.now))))
-IsContent d (content.Signal s e) t = t ≡ term.Read s e
-IsContent d (content.Number n) t = IsNumeral d t n
-IsContent d content.Unknown t = t ≡ term.X
-IsContent d content.Pulsed t = t ≡ term.Pulse
-IsContent d content.Released t = t ≡ term.Release
-IsContent d (content.Operator x) t = IsOperator d x.now t
+abbrev pub IsPart : Context → Part → Term → Type 0
+IsPart d (part.Set x ms e) t = IsSet d x.now (terms_of d.known (members_of (map view_member ms.now))) e t
+IsPart d (part.Signal s e) t = t ≡ term.Read s e
+IsPart d (part.Number n) t = IsNumeral d t n
+IsPart d part.Unknown t = t ≡ term.X
+IsPart d part.Pulsed t = t ≡ term.Pulse
+IsPart d part.Released t = t ≡ term.Release
+IsPart d (part.Operator x) t = IsOperator d x.now t
+
+-- a part stands for some term
+pub record HasTerm (d : Context) (p : Part) : Type 0 where
+  pub term : Term
+  pub is : IsPart d p term
+
+abbrev pub AreParts : Context → List Part → List Term → Type 0
+AreParts d ps ts = Each (IsPart d) ps ts
 
 -- an operator of two operands, behind signs
 abbrev pub is_computed : Term → Bool
@@ -59,19 +72,4 @@ is_computed (term.BinaryOf sign t u) = true
 -- what a name stands for under an extension: a constant's expression, or what is no operator
 abbrev pub IsStand : Context → Option Extension → Stand → Term → Type 0
 IsStand d e (stand.Constant x) t = t ≡ extended_if e (term_of d.known (view x.now))
-IsStand d e (stand.Content c) t = IsContent d c t × (is_computed t ≡ false)
-
--- a value that may be there has so many positions as a part
-abbrev pub HasWidth : ℕ → Option Value → Type 0
-HasWidth w None = ⊥
-HasWidth w (Some v) = w ≡ member_width v.shape
-
--- a part of a term, whose width is asked for or not
-pub record IsPart (d : Context) (sized : Bool) (p : Part) (t : Term) : Type 0 where
-  pub content : IsContent d p.content t
-  pub width : sized ≡ true → p.width ≡ member_width (constant_of d t).shape
-
-abbrev pub AreParts : Context → (sized : Bool) → List Part → List Term → Type 0
-AreParts d sized [] [] = Unit {0}
-AreParts d sized (p ∷ ps) (t ∷ ts) = IsPart d sized p t × AreParts d sized ps ts
-AreParts d sized _ _ = ⊥
+IsStand d e (stand.Part p) t = IsPart d p t × (is_computed t ≡ false)

@@ -55,9 +55,9 @@ steps_left es t = steps_up_to es (names_left es t) + signs_left t
 -- a constant takes fewer steps than its name
 abbrev pub LeadsBack : Names → (text : List ℕ) → Stand → Type 0
 LeadsBack n w (stand.Constant x) = steps_left (entries_of n) (view x.now) < steps_up_to (entries_of n) (up_to (find (entries_of n) w))
-LeadsBack n w (stand.Content c) = Unit {0}
+LeadsBack n w (stand.Part p) = Unit {0}
 
 -- the expression of a stand is that of a constant
 abbrev pub IsOfKind : Stand → Kind → Type 0
 IsOfKind (stand.Constant x) k = k ≡ AConstant (view x.now)
-IsOfKind (stand.Content c) k = Unit {0}
+IsOfKind (stand.Part p) k = Unit {0}

@@ -1,6 +1,6 @@
 //! What is refused of both sides of a header.
 
-ghost use Rattle.std.specs.Prelude.{◌≡◌, List, [], ◌∷◌, ◌++◌, length, IfOk, OnOk};
+ghost use Rattle.std.specs.Prelude.{◌≡◌, None, List, [], ◌∷◌, ◌++◌, length, IfOk, OnOk};
 ghost use Rattle.abel_tree.specs.Entries.{entries_of};
 ghost use Rattle.abel_tree.specs.FirstRefusal.{first_refusal};
 ghost use Rattle.abel_tree.specs.View.{view};
@@ -14,14 +14,20 @@ ghost use Rattle.truth_tables.specs.OutputHeaders.{HeaderFound, output_header};
 ghost use Rattle.truth_tables.specs.TableUnits.{assigned_by, outputs_refused, some_aims};
 ghost use Rattle.truth_tables.specs.Headers.{IsHeader, IsWholeHeader};
 
-use crate::header::Header;
-use crate::headings::expr_header;
-use abel_tree::Table;
-use pld_base::OutOfMemory;
+use crate::headings::push_outputs;
+use abel_tree::{Table, earlier};
+use pld_base::{ListOf, OutOfMemory};
 use pld_device::Device;
 use section_targets::{Aim, Assigned, Way, check_aims};
-use set_expr::{Scope, SectionFault, earlier};
+use set_expr::{Scope, SectionFault};
 use std::alloc::Global;
+
+/// What is found of a header: its first refusal, and its outputs position by position from the left, None at X.
+#[derive(Drop)]
+pub(crate) struct Header {
+    pub outputs: ListOf<Option<Aim>>,
+    pub fault: Option<SectionFault>,
+}
 
 /// An output more; X is none.
 fn push_aim(aims: &mut Vec<Aim>, output: Option<Aim>) -> Result<(), OutOfMemory>
@@ -55,7 +61,7 @@ fn check_outputs<D: Device>(
     header: &Header,
     before: &mut Assigned,
 ) -> Result<Option<SectionFault>, OutOfMemory>
-    requires { AreNamed (length (entries_of scope.now)) (some_aims header.now.outputs) }
+    requires { header.now.fault ≡ None → AreNamed (length (entries_of scope.now)) (some_aims header.now.outputs) }
     ensures fault { IfOk result (λ f. (d : Context) (all : List Manner) (x : HeaderFound) → IsContextOf D.table scope.now d → AreFirsts before.old all → IsHeader header.now x → f ≡ first_refusal section_order (outputs_refused d all clocked x)) }
     ensures before { OnOk result ((all : List Manner) (x : HeaderFound) → AreFirsts before.old all → IsHeader header.now x → AreFirsts before.new (all ++ assigned_by clocked x)) }
 {
@@ -85,10 +91,15 @@ pub(crate) fn read_header<D: Device>(
     ensures before { OnOk result ((d : Context) (all : List Manner) → IsContextOf D.table scope.now d → AreFirsts before.old all → AreFirsts before.new (all ++ assigned_by table.now.clocked (output_header d (view table.now.outputs)))) }
 {
     let inputs = scope.check(alloc, &table.inputs)?;
-    let outputs = expr_header(alloc, scope, &table.outputs)?;
-    let mixed = check_outputs::<D>(alloc, scope, table.clocked, &outputs, before)?;
+    let mut outputs = Vec::new(alloc);
+    let fault = push_outputs(alloc, scope, &table.outputs, &mut outputs)?;
+    let header = Header {
+        outputs: ListOf::from_vec(outputs),
+        fault,
+    };
+    let mixed = check_outputs::<D>(alloc, scope, table.clocked, &header, before)?;
     Ok(Header {
-        outputs: outputs.outputs,
+        outputs: header.outputs,
         fault: earlier(inputs.fault, mixed),
     })
 }

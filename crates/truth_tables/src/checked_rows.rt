@@ -11,9 +11,9 @@ ghost use Rattle.truth_tables.specs.TableUnits.{arrow_refused};
 ghost use Rattle.truth_tables.specs.RowLevels.{IsRow};
 
 use crate::levels::read_levels;
-use abel_tree::{Row, Table};
+use abel_tree::{Row, Table, earlier};
 use pld_base::{ListOf, OutOfMemory};
-use set_expr::{Scope, SectionFault, earlier};
+use set_expr::{Scope, SectionFault};
 use std::alloc::Global;
 
 /// What is found of a row: its first refusal, and where nothing is refused the levels of its entries at the positions of

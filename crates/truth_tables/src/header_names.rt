@@ -1,59 +1,67 @@
 //! The outputs that names in headers stand for.
 
-ghost use Rattle.std.specs.Prelude.{[], IfOk};
-ghost use Rattle.abel_tree.specs.Entries.{find};
+ghost use Rattle.std.specs.Prelude.{◌≡◌, [], ◌∷◌, ◌++◌, IfOk, OnOk};
 ghost use Rattle.abel_meaning.specs.Designs.{Context};
-ghost use Rattle.abel_meaning.specs.Terms.{term_named};
 ghost use Rattle.truth_tables.specs.EntryTerms.{IsOver};
-ghost use Rattle.truth_tables.specs.OutputHeaders.{header_name, named_outputs};
-ghost use Rattle.truth_tables.specs.Headers.{IsHeader};
+ghost use Rattle.truth_tables.specs.OutputHeaders.{header_name, outputs_at};
+ghost use Rattle.truth_tables.specs.Headers.{IsAdded};
 
-use crate::header::Header;
-use crate::signals::header_signals;
-use abel_tree::{Expr, Word};
-use pld_base::{NameText, OutOfMemory, Place};
-use section_targets::number_of;
+use crate::contents::named_part;
+use crate::signals::part_signals;
+use pld_base::{OutOfMemory, Place};
+use section_targets::{Aim, number_of};
 use set_expr::{Scope, SectionFault};
 use std::alloc::Global;
 
-/// A name of which nothing is refused, used at a place.
-fn accepted_name(
-    alloc: Global,
-    scope: &Scope<'_>,
-    text: &[u8],
-    place: Place,
-) -> Result<Header, OutOfMemory>
-    ensures { IfOk result (λ h. (d : Context) → IsOver scope.now d → IsHeader h (named_outputs [] place (find d.names text.now) (term_named d.known text.now))) }
+/// A position at a place.
+fn output_at(signal: Option<u32>, place: Place) -> Option<Aim>
+    ensures { result ∷ [] ≡ outputs_at place (signal ∷ []) }
 {
-    let name = Expr::Name {
-        word: Word {
-            text: NameText::new(alloc, text)?,
-            place,
-        },
-        extension: None,
-    };
-    let found = header_signals(alloc, scope, &name)?;
-    match found {
-        None => {
-            let fault = SectionFault::NotAnOutput(place, number_of(scope, text));
-            Ok(Header::refused(alloc, fault))
-        }
-        Some(signals) => Header::listed(alloc, signals.as_slice(), place),
+    match signal {
+        Some(signal) => Some(Aim { signal, place }),
+        None => None,
     }
 }
 
-/// The name with this text, used at a place.
-pub(crate) fn name_header(
+/// Appends signals and X, all at one place.
+fn push_signals(
+    signals: &[Option<u32>],
+    place: Place,
+    outputs: &mut Vec<Option<Aim>>,
+) -> Result<(), OutOfMemory>
+    ensures { OnOk result (outputs.new.items ≡ outputs.old.items ++ outputs_at place signals.now) }
+{
+    for index in 0..signals.len() {
+        outputs.push(output_at(signals[index], place))?;
+    }
+    Ok(())
+}
+
+/// Appends the outputs of the name with this text, used at a place; a name that is refused has none.
+pub(crate) fn push_name(
     alloc: Global,
     scope: &Scope<'_>,
     text: &[u8],
     place: Place,
-) -> Result<Header, OutOfMemory>
-    ensures { IfOk result (λ h. (d : Context) → IsOver scope.now d → IsHeader h (header_name d place text.now)) }
+    outputs: &mut Vec<Option<Aim>>,
+) -> Result<Option<SectionFault>, OutOfMemory>
+    ensures { IfOk result (λ f. (d : Context) → IsOver scope.now d → IsAdded (header_name d place text.now) f outputs.old.items outputs.new.items) }
 {
     let found = scope.check_name(text, place);
     match found.fault {
-        Some(fault) => Ok(Header::refused(alloc, fault)),
-        None => accepted_name(alloc, scope, text, place),
+        Some(fault) => Ok(Some(fault)),
+        None => {
+            let signals = part_signals(alloc, scope, named_part(scope, text, None))?;
+            match signals {
+                None => {
+                    let number = number_of(scope, text);
+                    Ok(Some(SectionFault::NotAnOutput(place, number)))
+                }
+                Some(signals) => {
+                    push_signals(signals.as_slice(), place, outputs)?;
+                    Ok(None)
+                }
+            }
+        }
     }
 }

@@ -1,149 +1,161 @@
-//! The walk of an output header.
+//! The walk of an output header: its outputs position by position from the left, None at X, and its first refusal.
 
-ghost use Rattle.std.specs.Prelude.{IfOk, map};
+ghost use Rattle.std.specs.Prelude.{◌≡◌, IfOk, map};
+ghost use Rattle.abel_tree.specs.FirstRefusal.{first_refusal};
 ghost use Rattle.abel_tree.specs.Ranges.{range_names};
 ghost use Rattle.abel_tree.specs.Tree.{AName, members_of};
 ghost use Rattle.abel_tree.specs.View.{view, view_member};
 ghost use Rattle.abel_meaning.specs.Designs.{Context};
+ghost use Rattle.set_expr.specs.Refusals.{too_wide};
+ghost use Rattle.set_expr.specs.SectionOrder.{section_order};
 ghost use Rattle.truth_tables.specs.EntryTerms.{IsOver};
-ghost use Rattle.truth_tables.specs.OutputHeaders.{HeaderFound, both_headers, header_set, header_range, header_special, output_header, output_member, output_members};
-ghost use Rattle.truth_tables.specs.Headers.{IsHeader};
+ghost use Rattle.truth_tables.specs.OutputHeaders.{header_set, header_range, header_special, output_header, output_member, output_members};
+ghost use Rattle.truth_tables.specs.Headers.{IsAdded};
 
-use crate::header::Header;
-use crate::header_names::name_header;
-use abel_tree::{Expr, Extension, Member, Word};
+use crate::header_names::push_name;
+use abel_tree::{Expr, Extension, Member, Word, earlier};
 use name_uses::range_list;
 use pld_base::{OutOfMemory, Place};
-use section_targets::{number_of, refuse_operator};
+use section_targets::{Aim, number_of, refuse_operator};
 use set_expr::{Scope, SectionFault};
 use std::alloc::Global;
 
 /// `.X.` is a position, `.C.` and `.Z.` are none.
-fn special_header(alloc: Global, letter: u8, place: Place) -> Result<Header, OutOfMemory>
-    ensures { IfOk result (λ h. IsHeader h (header_special letter place)) }
+fn push_special(
+    letter: u8,
+    place: Place,
+    outputs: &mut Vec<Option<Aim>>,
+) -> Result<Option<SectionFault>, OutOfMemory>
+    ensures { IfOk result (λ f. IsAdded (header_special letter place) f outputs.old.items outputs.new.items) }
 {
     if letter == b'X' {
-        Header::unknown(alloc)
+        outputs.push(None)?;
+        Ok(None)
     } else {
-        Ok(Header::refused(alloc, SectionFault::MisplacedSpecial(place)))
+        Ok(Some(SectionFault::MisplacedSpecial(place)))
     }
 }
 
 /// A name, which has no extension.
-fn word_header(
+fn push_word(
     alloc: Global,
     scope: &Scope<'_>,
     word: &Word,
     extension: Option<Extension>,
-) -> Result<Header, OutOfMemory>
-    ensures { IfOk result (λ h. (d : Context) → IsOver scope.now d → IsHeader h (output_header d (AName word.now extension))) }
+    outputs: &mut Vec<Option<Aim>>,
+) -> Result<Option<SectionFault>, OutOfMemory>
+    ensures { IfOk result (λ f. (d : Context) → IsOver scope.now d → IsAdded (output_header d (AName word.now extension)) f outputs.old.items outputs.new.items) }
 {
     let text = word.text.bytes();
     match extension {
-        None => name_header(alloc, scope, text, word.place),
+        None => push_name(alloc, scope, text, word.place, outputs),
         Some(_) => {
-            let fault = SectionFault::NotAnOutput(word.place, number_of(scope, text));
-            Ok(Header::refused(alloc, fault))
+            let number = number_of(scope, text);
+            Ok(Some(SectionFault::NotAnOutput(word.place, number)))
         }
     }
 }
 
-/// The names of a range more, which all stand at its first end.
-fn with_range(
+/// The names of a range, which all stand at its first end.
+fn push_range(
     alloc: Global,
     scope: &Scope<'_>,
     first: &Word,
     last: &Word,
-    before: Header,
-) -> Result<Header, OutOfMemory>
-    ensures { IfOk result (λ h. (d : Context) (x : HeaderFound) → IsOver scope.now d → IsHeader before x → IsHeader h (both_headers x (header_range d first.now.place (range_names first.now.text last.now.text)))) }
+    outputs: &mut Vec<Option<Aim>>,
+) -> Result<Option<SectionFault>, OutOfMemory>
+    ensures { IfOk result (λ f. (d : Context) → IsOver scope.now d → IsAdded (header_range d first.now.place (range_names first.now.text last.now.text)) f outputs.old.items outputs.new.items) }
 {
     let texts = range_list(alloc, first.text.bytes(), last.text.bytes())?;
-    let mut header = before;
+    let mut fault = None;
     for text in &texts {
-        let one = name_header(alloc, scope, text.as_slice(), first.place)?;
-        header = header.with(&one)?;
+        let found = push_name(alloc, scope, text.as_slice(), first.place, outputs)?;
+        fault = earlier(fault, found);
     }
-    Ok(header)
+    Ok(fault)
 }
 
-/// One member more.
+/// A member of a header.
 #[cycle(headings)]
-fn with_member(
+fn push_member(
     alloc: Global,
     scope: &Scope<'_>,
     member: &Member,
-    before: Header,
-) -> Result<Header, OutOfMemory>
-    ensures { IfOk result (λ h. (d : Context) (x : HeaderFound) → IsOver scope.now d → IsHeader before x → IsHeader h (both_headers x (output_member d (view_member member.now)))) }
+    outputs: &mut Vec<Option<Aim>>,
+) -> Result<Option<SectionFault>, OutOfMemory>
+    ensures { IfOk result (λ f. (d : Context) → IsOver scope.now d → IsAdded (output_member d (view_member member.now)) f outputs.old.items outputs.new.items) }
 {
     match member {
-        Member::One(expr) => {
-            let header = expr_header(alloc, scope, expr)?;
-            before.with(&header)
-        }
-        Member::Span { first, last } => with_range(alloc, scope, first, last, before),
+        Member::One(expr) => push_outputs(alloc, scope, expr, outputs),
+        Member::Span { first, last } => push_range(alloc, scope, first, last, outputs),
+    }
+}
+
+/// Refused where a set has more than 32 positions.
+fn refuse_wide(place: Place, width: usize) -> Option<SectionFault>
+    ensures { result ≡ first_refusal section_order (too_wide place width) }
+{
+    if width > 32 {
+        Some(SectionFault::BadWidth(place))
+    } else {
+        None
     }
 }
 
 /// The set of these members at this bracket.
 #[cycle(headings)]
-fn set_header(
+fn push_set(
     alloc: Global,
     scope: &Scope<'_>,
     members: &[Member],
     place: Place,
-) -> Result<Header, OutOfMemory>
-    ensures { IfOk result (λ h. (d : Context) → IsOver scope.now d → IsHeader h (header_set place (output_members d (members_of (map view_member members.now))))) }
+    outputs: &mut Vec<Option<Aim>>,
+) -> Result<Option<SectionFault>, OutOfMemory>
+    ensures { IfOk result (λ f. (d : Context) → IsOver scope.now d → IsAdded (header_set place (output_members d (members_of (map view_member members.now)))) f outputs.old.items outputs.new.items) }
 {
-    let mut header = Header::none(alloc);
+    let before = outputs.len();
+    let mut fault = None;
     for member in members {
-        header = with_member(alloc, scope, member, header)?;
+        let found = push_member(alloc, scope, member, outputs)?;
+        fault = earlier(fault, found);
     }
-    Ok(header.as_set(place))
+    let wide = refuse_wide(place, outputs.len() - before);
+    Ok(earlier(fault, wide))
 }
 
-/// An output header, or a member of one.
+/// Appends the outputs of a header or of a member of one, and finds its first refusal.
 #[cycle(headings)]
-pub(crate) fn expr_header(
+pub(crate) fn push_outputs(
     alloc: Global,
     scope: &Scope<'_>,
     expr: &Expr,
-) -> Result<Header, OutOfMemory>
-    ensures { IfOk result (λ h. (d : Context) → IsOver scope.now d → IsHeader h (output_header d (view expr.now))) }
+    outputs: &mut Vec<Option<Aim>>,
+) -> Result<Option<SectionFault>, OutOfMemory>
+    ensures { IfOk result (λ f. (d : Context) → IsOver scope.now d → IsAdded (output_header d (view expr.now)) f outputs.old.items outputs.new.items) }
 {
     match expr {
-        Expr::Number(number) => {
-            let fault = SectionFault::NotAnOutput(number.place, None);
-            Ok(Header::refused(alloc, fault))
-        }
-        Expr::Special { letter, place } => special_header(alloc, *letter, *place),
-        Expr::Name { word, extension } => word_header(alloc, scope, word, *extension),
+        Expr::Number(number) => Ok(Some(SectionFault::NotAnOutput(number.place, None))),
+        Expr::Special { letter, place } => push_special(*letter, *place, outputs),
+        Expr::Name { word, extension } => push_word(alloc, scope, word, *extension, outputs),
         Expr::Set {
             place,
             members,
             extension,
         } => match extension {
-            Some(_) => {
-                let fault = SectionFault::NotAnOutput(*place, None);
-                Ok(Header::refused(alloc, fault))
-            }
-            None => set_header(alloc, scope, members.as_slice(), *place),
+            Some(_) => Ok(Some(SectionFault::NotAnOutput(*place, None))),
+            None => push_set(alloc, scope, members.as_slice(), *place, outputs),
         },
-        Expr::Paren { place: _, inner } => expr_header(alloc, scope, inner.get()),
+        Expr::Paren { place: _, inner } => push_outputs(alloc, scope, inner.get(), outputs),
         Expr::Unary {
             sign: _,
             place,
             inner: _,
-        } => {
-            let fault = SectionFault::NotAnOutput(*place, None);
-            Ok(Header::refused(alloc, fault))
-        }
+        } => Ok(Some(SectionFault::NotAnOutput(*place, None))),
         Expr::Binary {
             sign: _,
             place: _,
             left: _,
             right: _,
-        } => Ok(Header::refused(alloc, refuse_operator(scope, expr))),
+        } => Ok(Some(refuse_operator(scope, expr))),
     }
 }

@@ -36,7 +36,7 @@ fn has_operator<'a>(scope: &Scope<'a>, expr: &'a Expr) -> bool
             Expr::Name { word, extension: _ } => {
                 match stand_of(scope, word.text.bytes(), None) {
                     Stand::Constant(value) => at = value,
-                    Stand::Content(_) => return false,
+                    Stand::Part(_) => return false,
                 }
             }
             Expr::Paren { place: _, inner } => at = inner.get(),

@@ -10,10 +10,10 @@ ghost use Rattle.set_expr.specs.SectionOrder.{section_order};
 ghost use Rattle.truth_tables.specs.RowEntries.{operator_refused, names_refused, refused_inside, member_refused_inside};
 
 use crate::pulses::holds_pulse;
-use abel_tree::{Expr, Member, Word};
+use abel_tree::{Expr, Member, Word, earlier};
 use name_uses::range_list;
 use pld_base::OutOfMemory;
-use set_expr::{Scope, SectionFault, earlier};
+use set_expr::{Scope, SectionFault};
 use std::alloc::Global;
 
 /// What is refused of the declaration of a name.

@@ -6,7 +6,6 @@ mod checked_rows;
 mod contents;
 mod entries;
 mod giving;
-mod header;
 mod header_names;
 mod headings;
 mod inputs;
@@ -27,7 +26,6 @@ mod tables;
 mod turned;
 mod walking;
 mod wholes;
-mod widths;
 
 pub use entries::{Entry, read_entry};
 pub use giving::{Assigning, Matching, give_output};

@@ -1,23 +1,26 @@
 //! What a part of a header or of an entry stands for, through the names of constants.
 
-ghost use Rattle.std.specs.Prelude.{◌≡◌, [], Some, IfOk};
+ghost use Rattle.std.specs.Prelude.{IfOk};
 ghost use Rattle.abel_tree.specs.Entries.{view_meaning};
+ghost use Rattle.abel_tree.specs.View.{view};
 ghost use Rattle.abel_meaning.specs.Designs.{Context};
-ghost use Rattle.abel_meaning.specs.Terms.{Term, term_named, term_meant, special_term, extended_if};
-ghost use Rattle.set_expr.specs.KnownNames.{SumsUp, HasShapeIf};
-ghost use Rattle.set_expr.specs.Refusals.{Found};
+ghost use Rattle.abel_meaning.specs.Terms.{term_of, term_named, term_meant, special_term, extended_if};
+ghost use Rattle.abel_meaning.specs.Values.{constant_of};
+ghost use Rattle.set_expr.specs.Shapes.{HasShape};
 ghost use Rattle.truth_tables.specs.EntryTerms.{IsOver};
-ghost use Rattle.truth_tables.specs.PartTerms.{IsContent, IsStand};
+ghost use Rattle.truth_tables.specs.PartTerms.{IsPart, IsStand};
 ghost use Rattle.truth_tables.specs.StepsLeft.{IsOfKind, LeadsBack};
 
 use abel_tree::{Expr, Extension, Meaning, Member};
 use pld_base::OutOfMemory;
-use set_expr::{Checked, Scope, Shape};
+use set_expr::{Scope, Shape};
+use std::alloc::Global;
 
-/// A set with what extends its members, a signal, a number, a special, or an operator.
+/// A set with what extends its members, a signal, a number, a special, or an operator. A set and an operator stand with
+/// their expression, of which the shape is asked.
 #[derive(Clone, Copy)]
-pub(crate) enum Content<'a> {
-    Set(&'a [Member], Option<Extension>),
+pub(crate) enum Part<'a> {
+    Set(&'a Expr, &'a [Member], Option<Extension>),
     Signal(u32, Option<Extension>),
     Number(u32),
     Unknown,
@@ -26,18 +29,18 @@ pub(crate) enum Content<'a> {
     Operator(&'a Expr),
 }
 
-/// A part with the positions that it has, 0 where they aren't asked for.
+/// A part of a header, and what stands for it in an entry.
 #[derive(Clone, Copy)]
-pub(crate) struct Part<'a> {
-    pub content: Content<'a>,
-    pub width: u8,
+pub(crate) struct Pair<'a> {
+    pub header: Part<'a>,
+    pub given: Part<'a>,
 }
 
 /// What a name stands for: an expression, or what it is.
 #[derive(Clone, Copy)]
 pub(crate) enum Stand<'a> {
     Constant(&'a Expr),
-    Content(Content<'a>),
+    Part(Part<'a>),
 }
 
 /// What a declared name of this number stands for.
@@ -47,10 +50,10 @@ fn meaning_stand(meaning: &Meaning, number: u32, extension: Option<Extension>) -
     ensures kind { IsOfKind result (view_meaning meaning.now) }
 {
     match meaning {
-        Meaning::Pin { pin: _, negated: _ } => Stand::Content(Content::Signal(number, extension)),
-        Meaning::Node(_) => Stand::Content(Content::Signal(number, extension)),
+        Meaning::Pin { pin: _, negated: _ } => Stand::Part(Part::Signal(number, extension)),
+        Meaning::Node(_) => Stand::Part(Part::Signal(number, extension)),
         Meaning::Constant(expr) => Stand::Constant(expr),
-        Meaning::DeviceName => Stand::Content(Content::Number(0)),
+        Meaning::DeviceName => Stand::Part(Part::Number(0)),
     }
 }
 
@@ -66,7 +69,7 @@ pub(crate) fn stand_of<'a>(
 {
     scope.are_in_order();
     match scope.get(text) {
-        None => Stand::Content(Content::Number(0)),
+        None => Stand::Part(Part::Number(0)),
         Some(name) => {
             let declared = &scope.list()[name.number as usize];
             meaning_stand(&declared.meaning, name.number, extension)
@@ -75,30 +78,21 @@ pub(crate) fn stand_of<'a>(
 }
 
 /// A special.
-pub(crate) fn special<'a>(letter: u8) -> Content<'a>
-    ensures { (d : Context) → IsContent d result (special_term letter) }
+pub(crate) fn special<'a>(letter: u8) -> Part<'a>
+    ensures { (d : Context) → IsPart d result (special_term letter) }
 {
     match letter {
-        b'X' => Content::Unknown,
-        b'C' => Content::Pulsed,
-        _ => Content::Released,
+        b'X' => Part::Unknown,
+        b'C' => Part::Pulsed,
+        _ => Part::Released,
     }
 }
 
-/// The extension that counts of two, of which the first stands inside.
-pub(crate) fn innermost(own: Option<Extension>, outer: Option<Extension>) -> Option<Extension>
-    ensures { (t : Term) → extended_if outer (extended_if own t) ≡ extended_if result t }
+/// The shape of an expression of which nothing is refused.
+pub(crate) fn shape_of(alloc: Global, scope: &Scope<'_>, expr: &Expr) -> Result<Shape, OutOfMemory>
+    ensures { IfOk result (λ s. (d : Context) → IsOver scope.now d → HasShape s (constant_of d (term_of d.known (view expr.now)))) }
 {
-    match own {
-        Some(extension) => Some(extension),
-        None => outer,
-    }
-}
-
-/// The shape of what isn't refused. What is refused never comes here.
-pub(crate) fn shape_of(found: Checked) -> Result<Shape, OutOfMemory>
-    ensures { IfOk result (λ s. (f : Found) → SumsUp found f → (f.refusals ≡ []) × HasShapeIf (Some s) f.value) }
-{
+    let found = scope.check(alloc, expr)?;
     match found.fault {
         Some(_) => Err(OutOfMemory),
         None => match found.shape {

@@ -1,22 +1,49 @@
 //! Entries that meet a part of a header as a whole.
 
 ghost use Rattle.std.specs.Prelude.{◌≡◌, ◌++◌, false, map, replicate, IfOk, OnOk};
+ghost use Rattle.abel_tree.specs.View.{view};
 ghost use Rattle.abel_meaning.specs.Designs.{Context};
-ghost use Rattle.abel_meaning.specs.Numbers.{digits_low_first, member_width};
+ghost use Rattle.abel_meaning.specs.Numbers.{digits_low_first};
+ghost use Rattle.abel_meaning.specs.Rows.{part_width};
 ghost use Rattle.abel_meaning.specs.Rows as meant;
-ghost use Rattle.abel_meaning.specs.Terms.{Term};
-ghost use Rattle.abel_meaning.specs.Values.{constant_of};
+ghost use Rattle.abel_meaning.specs.Terms.{Term, term_of};
 ghost use Rattle.truth_tables.specs.EntryMarks.{view_mark};
 ghost use Rattle.truth_tables.specs.EntryTerms.{IsOver};
-ghost use Rattle.truth_tables.specs.PairTerms.{both_sets, Whole};
-ghost use Rattle.truth_tables.specs.PartTerms.{IsContent, IsOperator};
+ghost use Rattle.truth_tables.specs.PairTerms.{both_sets, IsPut};
+ghost use Rattle.truth_tables.specs.PartTerms.{IsPart, IsOperator};
 
 use crate::mark::Mark;
-use crate::part::{Content, shape_of};
+use crate::part::{Pair, Part, shape_of};
 use abel_tree::Expr;
 use pld_base::OutOfMemory;
 use set_expr::{Scope, Shape};
 use std::alloc::Global;
+
+/// How many positions an expression has as a part.
+fn expr_width(alloc: Global, scope: &Scope<'_>, expr: &Expr) -> Result<u8, OutOfMemory>
+    ensures { IfOk result (λ w. (d : Context) → IsOver scope.now d → w ≡ part_width d (term_of d.known (view expr.now))) }
+{
+    match shape_of(alloc, scope, expr)? {
+        Shape::Number(_) => Ok(1),
+        Shape::Single => Ok(1),
+        Shape::Set(width) => Ok(width),
+    }
+}
+
+/// How many positions a part has.
+fn width_of(alloc: Global, scope: &Scope<'_>, part: Part<'_>) -> Result<u8, OutOfMemory>
+    ensures { IfOk result (λ w. (d : Context) (t : Term) → IsOver scope.now d → IsPart d part.entry t → w ≡ part_width d t) }
+{
+    match part {
+        Part::Set(expr, _, _) => expr_width(alloc, scope, expr),
+        Part::Operator(expr) => expr_width(alloc, scope, expr),
+        Part::Signal(_, _) => Ok(1),
+        Part::Number(_) => Ok(1),
+        Part::Unknown => Ok(1),
+        Part::Pulsed => Ok(1),
+        Part::Released => Ok(1),
+    }
+}
 
 /// The same mark at so many positions.
 fn push_same(marks: &mut Vec<Mark>, width: u8, mark: Mark) -> Result<(), OutOfMemory>
@@ -49,11 +76,10 @@ fn put_operator(
     expr: &Expr,
 ) -> Result<bool, OutOfMemory>
     ensures { IfOk result (λ b. (d : Context) (h e : Term) → IsOver scope.now d
-        → IsOperator d expr.now e → both_sets h e ≡ false → width ≡ member_width (constant_of d h).shape
-        → Whole d h e b marks.old.items marks.new.items) }
+        → IsOperator d expr.now e → both_sets h e ≡ false → width ≡ part_width d h
+        → IsPut d h e b marks.old.items marks.new.items) }
 {
-    let found = scope.check(alloc, expr)?;
-    match shape_of(found)? {
+    match shape_of(alloc, scope, expr)? {
         Shape::Number(number) => {
             push_levels(marks, width, number)?;
             Ok(true)
@@ -63,38 +89,38 @@ fn put_operator(
     }
 }
 
-/// The marks of an entry that meets a part of so many positions as a whole, from the last position on; false for one
-/// that doesn't.
+/// The marks of an entry that meets a part of a header as a whole, from the last position on; false for one that
+/// doesn't.
 pub(crate) fn put_whole(
     alloc: Global,
     scope: &Scope<'_>,
+    pair: Pair<'_>,
     marks: &mut Vec<Mark>,
-    width: u8,
-    content: Content<'_>,
 ) -> Result<bool, OutOfMemory>
     ensures { IfOk result (λ b. (d : Context) (h e : Term) → IsOver scope.now d
-        → IsContent d content.entry e → both_sets h e ≡ false → width ≡ member_width (constant_of d h).shape
-        → Whole d h e b marks.old.items marks.new.items) }
+        → IsPart d pair.entry.header h → IsPart d pair.entry.given e → both_sets h e ≡ false
+        → IsPut d h e b marks.old.items marks.new.items) }
 {
-    match content {
-        Content::Number(number) => {
+    let width = width_of(alloc, scope, pair.header)?;
+    match pair.given {
+        Part::Number(number) => {
             push_levels(marks, width, number)?;
             Ok(true)
         }
-        Content::Unknown => {
+        Part::Unknown => {
             push_same(marks, width, Mark::Unknown)?;
             Ok(true)
         }
-        Content::Pulsed => {
+        Part::Pulsed => {
             push_same(marks, width, Mark::Pulsed)?;
             Ok(true)
         }
-        Content::Released => {
+        Part::Released => {
             push_same(marks, width, Mark::Released)?;
             Ok(true)
         }
-        Content::Set(_, _) => Ok(false),
-        Content::Signal(_, _) => Ok(false),
-        Content::Operator(expr) => put_operator(alloc, scope, marks, width, expr),
+        Part::Set(_, _, _) => Ok(false),
+        Part::Signal(_, _) => Ok(false),
+        Part::Operator(expr) => put_operator(alloc, scope, marks, width, expr),
     }
 }

@@ -9,4 +9,4 @@ use Rattle.truth_tables.proofs.checked_headers.check_outputs.Goals as goal
 pub check_aims-requires : goal.check_aims-requires
 check_aims-requires g c =
     subst (λ (xs : List Aim). AreNamed (length (entries_of c.args.scope.now)) xs)
-    (sym (c.as_slice-in-None.ensures.value ∙ c.in_ok-aims-in-None.ensures ∙ ap some_aims c.as_slice.ensures)) c.requires
+    (sym (c.as_slice-in-None.ensures.value ∙ c.in_ok-aims-in-None.ensures ∙ ap some_aims c.as_slice.ensures)) (c.requires c.in-None.is)

@@ -1,64 +1,90 @@
 -- What each variant is refused as, and one member more.
-use Rattle.std.proofs.Common.{◌≡◌, ◌+◌, ◌++◌, [], ◌∷◌, ap, sym, ◌∙◌, subst, take, map}
+use Rattle.std.proofs.Common.{◌≡◌, ◌+◌, ◌-◌, ◌++◌, None, Some, [], ◌∷◌, length, refl, ap, ap₂, sym, ◌∙◌, subst, take, map, arith}
+use Rattle.std.proofs.lemmas.List.{length-append}
 use Rattle.std.proofs.lemmas.Result.{IfOk-weaker}
+use Rattle.pld_device.specs.SampleTable.{sample}
 use Rattle.abel_tree.specs.Tree.{ASet, members_of}
 use Rattle.abel_tree.specs.View.{view, view_member}
 use Rattle.set_expr.specs.declared.fault.SectionFault.TheVariants.{NotAnOutput}
 use Rattle.set_expr.specs.Answer.{first_place}
-use Rattle.set_expr.proofs.FoundMembers.{front_more}
+use Rattle.set_expr.specs.Contexts.{context_for}
+use Rattle.set_expr.proofs.FoundMembers.{front_more, whole_front}
 use Rattle.section_targets.specs.TargetSignals.{first_name}
-use Rattle.expr_bits.proofs.Views.{view_number, view_set, view_unary, view_binary, view_one}
-use Rattle.truth_tables.specs.OutputHeaders.{refused_header, header_set, both_headers, output_header, output_member, output_members}
-use Rattle.truth_tables.specs.Headers.{IsHeader}
-use Rattle.truth_tables.proofs.HeaderLaws.{members_more}
+use Rattle.expr_bits.proofs.Views.{view_number, view_set, view_unary, view_binary}
+use Rattle.truth_tables.specs.OutputHeaders.{header_of, refused_header, header_set, output_header, output_member, output_members}
+use Rattle.truth_tables.specs.Headers.{IsAdded}
+use Rattle.truth_tables.proofs.HeaderLaws.{added_more, added_none, added_whole, members_more}
+use Rattle.truth_tables.proofs.RowsWalked.{is_over}
 use Rattle.truth_tables.proofs.headings.+headings.Goals as goal
 
-pub expr_header-returns-in-Number : goal.expr_header-returns-in-Number
-expr_header-returns-in-Number t c d is =
-    subst (λ e. IsHeader c.refused.result (output_header d e)) (sym (ap view c.in-Number.is ∙ view_number c.in-Number.number))
-    c.refused.ensures
+pub push_outputs-returns-in-Number : goal.push_outputs-returns-in-Number
+push_outputs-returns-in-Number t c d is =
+    let xs = c.args.outputs.now.items in
+    subst (λ e. IsAdded (output_header d e) (Some (NotAnOutput c.in-Number.number.place None)) xs xs) (sym (ap view c.in-Number.is ∙ view_number c.in-Number.number))
+    (added_none (refused_header (NotAnOutput c.in-Number.number.place None)) _ xs refl refl)
 
-pub expr_header-returns-in-Some : goal.expr_header-returns-in-Some
-expr_header-returns-in-Some t c d is =
-    subst (λ e. IsHeader c.refused-in-Some.result (output_header d e))
+pub push_outputs-returns-in-Some : goal.push_outputs-returns-in-Some
+push_outputs-returns-in-Some t c d is =
+    let xs = c.args.outputs.now.items in
+    subst (λ e. IsAdded (output_header d e) (Some (NotAnOutput c.in-Set.place None)) xs xs)
     (sym (ap view c.in-Set.is ∙ view_set c.in-Set.place c.in-Set.members c.in-Set.extension ∙ ap (λ e. ASet c.in-Set.place (members_of (map view_member c.in-Set.members)) e) c.in-Some.is))
-    c.refused-in-Some.ensures
+    (added_none (refused_header (NotAnOutput c.in-Set.place None)) _ xs refl refl)
 
-pub expr_header-returns-in-Unary : goal.expr_header-returns-in-Unary
-expr_header-returns-in-Unary t c d is =
-    subst (λ e. IsHeader c.refused-in-Unary.result (output_header d e)) (sym (ap view c.in-Unary.is ∙ view_unary c.in-Unary.sign c.in-Unary.place c.in-Unary.inner))
-    c.refused-in-Unary.ensures
-
-pub expr_header-returns-in-Binary : goal.expr_header-returns-in-Binary
-expr_header-returns-in-Binary t c d is =
-    let v = ap view c.in-Binary.is ∙ view_binary c.in-Binary.sign c.in-Binary.place c.in-Binary.left c.in-Binary.right in
-    subst (λ e. IsHeader c.refused-in-Binary.result (output_header d e)) (sym v)
-    (subst (λ f. IsHeader c.refused-in-Binary.result (refused_header f))
-    (c.refuse_operator.ensures ∙ ap (λ es. NotAnOutput (first_place (view c.args.expr.now)) (first_name es (view c.args.expr.now))) (sym is.names) ∙ ap (λ e. NotAnOutput (first_place e) (first_name d.names e)) v)
-    c.refused-in-Binary.ensures)
-
-pub expr_header-returns-in-None : goal.expr_header-returns-in-None
-expr_header-returns-in-None t c =
-    IfOk-weaker c.set_header.result _ _
-    (λ h k d is.
-    subst (λ e. IsHeader h (output_header d e))
+pub push_outputs-returns-in-None : goal.push_outputs-returns-in-None
+push_outputs-returns-in-None t c =
+    IfOk-weaker c.push_set.result _ _
+    (λ f k d is.
+    let old = c.args.outputs.now.items in
+    let now = c.push_set.new.outputs.items in
+    subst (λ e. IsAdded (output_header d e) f old now)
     (sym (ap view c.in-Set.is ∙ view_set c.in-Set.place c.in-Set.members c.in-Set.extension ∙ ap (λ e. ASet c.in-Set.place (members_of (map view_member c.in-Set.members)) e) c.in-None.is))
-    (subst (λ ms. IsHeader h (header_set c.in-Set.place (output_members d (members_of (map view_member ms))))) c.as_slice.ensures (k d is)))
-    c.set_header.ensures
+    (subst (λ ms. IsAdded (header_set c.in-Set.place (output_members d (members_of (map view_member ms)))) f old now) c.as_slice.ensures (k d is)))
+    c.push_set.ensures
 
-pub with_member-returns-in_ok-header-in-One : goal.with_member-returns-in_ok-header-in-One
-with_member-returns-in_ok-header-in-One t c =
-    IfOk-weaker c.with.result _ _
-    (λ s f d x is h.
-    subst (λ m. IsHeader s (both_headers x (output_member d m))) (sym (ap view_member c.in-One.is ∙ view_one c.in-One.expr))
-    (f x (output_header d (view c.in-One.expr)) h (c.in_ok-header-in-One.ensures d is)))
-    c.with.ensures
+pub push_outputs-returns-in-Unary : goal.push_outputs-returns-in-Unary
+push_outputs-returns-in-Unary t c d is =
+    let xs = c.args.outputs.now.items in
+    subst (λ e. IsAdded (output_header d e) (Some (NotAnOutput c.in-Unary.place None)) xs xs) (sym (ap view c.in-Unary.is ∙ view_unary c.in-Unary.sign c.in-Unary.place c.in-Unary.inner))
+    (added_none (refused_header (NotAnOutput c.in-Unary.place None)) _ xs refl refl)
 
-pub set_header-loop-member-preserved : goal.set_header-loop-member-preserved
-set_header-loop-member-preserved t c d is =
+pub push_outputs-returns-in-Binary : goal.push_outputs-returns-in-Binary
+push_outputs-returns-in-Binary t c d is =
+    let xs = c.args.outputs.now.items in
+    let v = ap view c.in-Binary.is ∙ view_binary c.in-Binary.sign c.in-Binary.place c.in-Binary.left c.in-Binary.right in
+    subst (λ e. IsAdded (output_header d e) (Some c.refuse_operator.result) xs xs) (sym v)
+    (added_none _ _ xs
+    (ap Some (c.refuse_operator.ensures ∙ ap (λ es. NotAnOutput (first_place (view c.args.expr.now)) (first_name es (view c.args.expr.now))) (sym is.names) ∙ ap (λ e. NotAnOutput (first_place e) (first_name d.names e)) v)) refl)
+
+pub push_set-loop-member-init : goal.push_set-loop-member-init
+push_set-loop-member-init t c d is = added_none (header_of []) _ c.args.outputs.now.items refl refl
+
+pub push_set-loop-member-preserved : goal.push_set-loop-member-preserved
+push_set-loop-member-preserved t c d is =
     let ms = c.args.members.now in
     let i = c.loop-member.member-index in
-    let here : map view_member (take (i + 1) ms) ≡ map view_member (take i ms) ++ view_member c.member-item.result ∷ [] = front_more view_member ms i c.member-item.result c.loop-member-test.true c.member-item.is in
-    subst (IsHeader c.in_ok-header.header)
-    (sym (members_more d (map view_member (take i ms)) (view_member c.member-item.result)) ∙ ap (λ xs. output_members d (members_of xs)) (sym here))
-    (c.in_ok-header.ensures d (output_members d (members_of (map view_member (take i ms)))) is (c.loop-member.invariant d is))
+    let m = view_member c.member-item.result in
+    let here : map view_member (take (i + 1) ms) ≡ map view_member (take i ms) ++ m ∷ [] = front_more view_member ms i c.member-item.result c.loop-member-test.true c.member-item.is in
+    let old = c.args.outputs.now.items in
+    let now = c.push_member.new.outputs.items in
+    subst (λ x. IsAdded x c.earlier-fault.result old now)
+    (sym (members_more d (map view_member (take i ms)) m) ∙ ap (λ xs. output_members d (members_of xs)) (sym here))
+    (added_more (output_members d (members_of (map view_member (take i ms)))) (output_member d m) c.loop-member.fault c.in_ok-found.found c.earlier-fault.result old c.loop-member.outputs.items now (c.loop-member.invariant d is) (c.in_ok-found.ensures d is) c.earlier-fault.ensures)
+
+-- the positions before the set stay
+pub push_set-overflow_sub-len : goal.push_set-overflow_sub-len
+push_set-overflow_sub-len t c =
+    let n = c.args.scope.now in
+    let x = output_members (context_for sample n) (members_of (map view_member (take c.loop-member.member-index c.args.members.now))) in
+    let old : c.len-before.result ≡ length c.args.outputs.now.items = c.len-before.ensures ∙ c.args.outputs.now.ok.0 in
+    let now : c.len.result ≡ length c.loop-member.outputs.items = c.len.ensures ∙ c.loop-member.outputs.ok.0 in
+    let more : length c.loop-member.outputs.items ≡ length c.args.outputs.now.items + length x.outputs = ap length (c.loop-member.invariant (context_for sample n) (is_over sample n)).outputs ∙ length-append c.args.outputs.now.items x.outputs in
+    omega (arith, old, now, more)
+
+pub push_set-returns : goal.push_set-returns
+push_set-returns t c d is =
+    let ms = c.args.members.now in
+    let all = whole_front view_member ms c.loop-member.member-index c.loop-member-test.false in
+    let old = c.args.outputs.now.items in
+    let now = c.loop-member.outputs.items in
+    added_whole c.args.place (output_members d (members_of (map view_member ms))) c.loop-member.fault c.refuse_wide-wide.result c.earlier.result old now _
+    (subst (λ xs. IsAdded (output_members d (members_of xs)) c.loop-member.fault old now) all (c.loop-member.invariant d is)) (ap₂ (λ m n. m - n) (c.len.ensures ∙ c.loop-member.outputs.ok.0) (c.len-before.ensures ∙ c.args.outputs.now.ok.0)) c.refuse_wide-wide.ensures c.earlier.ensures

@@ -5,9 +5,10 @@ use Rattle.abel_tree.specs.View.{view_member}
 use Rattle.abel_meaning.specs.Designs.{Context}
 use Rattle.truth_tables.specs.EntryTerms.{IsOver}
 use Rattle.truth_tables.specs.OutputHeaders.{output_members}
-use Rattle.truth_tables.specs.Headers.{IsHeader}
+use Rattle.truth_tables.specs.Headers.{IsAdded}
 use Rattle.truth_tables.proofs.headings.+headings.Given as goal
 
-abbrev pub invariant-set_header-loop-member : goal.invariant-set_header-loop-member
-invariant-set_header-loop-member l =
-    (d : Context) → IsOver l.scope d → IsHeader l.header (output_members d (members_of (map view_member (take l.member-index l.members))))
+abbrev pub invariant-push_set-loop-member : goal.invariant-push_set-loop-member
+invariant-push_set-loop-member l =
+    (d : Context) → IsOver l.scope d
+    → IsAdded (output_members d (members_of (map view_member (take l.member-index l.members)))) l.fault l.fn.outputs.items l.outputs.items

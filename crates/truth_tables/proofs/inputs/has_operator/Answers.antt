@@ -7,10 +7,10 @@ use Rattle.truth_tables.specs.PartTerms.{IsStand, is_computed}
 use Rattle.truth_tables.proofs.InputLaws.{computed_extended}
 use Rattle.truth_tables.proofs.inputs.has_operator.Goals as goal
 
-pub returns-in-Content : goal.returns-in-Content
-returns-in-Content c d is =
+pub returns-in-Part : goal.returns-in-Part
+returns-in-Part c d is =
     let w = c.in-Name.word.text in
-    let none = subst (λ s. IsStand d None s (term_named d.known c.bytes.result.now)) c.in-Content.is (c.stand_of.ensures.stand d is) in
+    let none = subst (λ s. IsStand d None s (term_named d.known c.bytes.result.now)) c.in-Part.is (c.stand_of.ensures.stand d is) in
     sym (c.loop-at.invariant d is
     ∙ ap (λ e. is_computed (term_of d.known e)) (ap view c.in-Name.is ∙ view_name c.in-Name.word c.in-Name.extension)
     ∙ computed_extended c.in-Name.extension (term_named d.known w)

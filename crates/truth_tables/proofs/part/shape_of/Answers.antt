@@ -1,8 +1,16 @@
 use Rattle.std.proofs.Common.{sym, ◌∙◌, subst}
-use Rattle.set_expr.specs.KnownNames.{HasShapeIf}
+use Rattle.abel_tree.specs.Entries.{entries_of}
+use Rattle.abel_tree.specs.View.{view}
 use Rattle.abel_tree.proofs.FirstRefusals.{none_refused}
+use Rattle.set_expr.specs.FoundNames.{expression_found}
+use Rattle.set_expr.specs.KnownNames.{HasShapeIf}
 use Rattle.set_expr.specs.SectionOrder.{section_order}
+use Rattle.truth_tables.proofs.PartLaws.{over_shape}
 use Rattle.truth_tables.proofs.part.shape_of.Goals as goal
 
 pub returns-in-Some-shape : goal.returns-in-Some-shape
-returns-in-Some-shape c f s = (none_refused section_order f.refusals (sym c.in-None.is ∙ s.fault), subst (λ o. HasShapeIf o f.value) c.in-Some-shape.is s.shape)
+returns-in-Some-shape c d is =
+    let t = view c.args.expr.now in
+    let f = expression_found (entries_of c.args.scope.now) t in
+    let s = c.in_ok-found.ensures in
+    over_shape c.args.scope.now d is t c.in-Some-shape.shape (none_refused section_order f.refusals (sym c.in-None.is ∙ s.fault)) (subst (λ o. HasShapeIf o f.value) c.in-Some-shape.is s.shape)

@@ -1,12 +1,13 @@
 -- One member more, and all members.
-use Rattle.std.proofs.Common.{◌≡◌, ◌+◌, [], ◌∷◌, ◌++◌, map, take, sym, ap, ◌∙◌, subst}
+use Rattle.std.proofs.Common.{◌≡◌, ◌+◌, [], ◌∷◌, ◌++◌, map, take, sym, ap, ◌∙◌, subst, subst₂}
 use Rattle.abel_tree.specs.Tree.{members_of}
 use Rattle.abel_tree.specs.View.{view_member}
 use Rattle.abel_meaning.specs.Terms.{NoTerm, terms_of, member_before}
 use Rattle.set_expr.proofs.FoundMembers.{front_more, whole_front}
 use Rattle.expr_bits.specs.Members.{list_of, each_extended}
-use Rattle.truth_tables.specs.PartTerms.{AreParts}
+use Rattle.truth_tables.specs.PartTerms.{IsPart, AreParts}
 use Rattle.expr_bits.proofs.Extensions.{members_more, each_append}
+use Rattle.truth_tables.proofs.StackLaws.{each_append as parts_append}
 use Rattle.truth_tables.proofs.parts.parts_of.Goals as goal
 
 pub loop-member-preserved : goal.loop-member-preserved
@@ -18,13 +19,13 @@ loop-member-preserved c d is =
     let before = map view_member (take i ms) in
     let here : map view_member (take (i + 1) ms) ≡ before ++ m ∷ [] = front_more view_member ms i c.member-item.result c.loop-member-test.true c.member-item.is in
     let all = list_of (terms_of d.known (members_of before)) in
-    subst (AreParts d c.args.sized c.push_member.new.parts.items)
+    subst₂ (AreParts d) (sym (c.in_ok-extend_from_slice.ensures.items ∙ ap (λ ps. c.loop-member.parts.items ++ ps) c.as_slice.ensures.value))
     (sym (ap (λ xs. each_extended o (list_of (terms_of d.known (members_of xs)))) here ∙ ap (each_extended o) (members_more d.known before m) ∙ each_append o all (list_of (member_before d.known m NoTerm))))
-    (c.in_ok-push_member.ensures d (each_extended o all) is (c.loop-member.invariant d is))
+    (parts_append (IsPart d) c.loop-member.parts.items c.in_ok-more.more.items (each_extended o all) (each_extended o (list_of (member_before d.known m NoTerm))) (c.loop-member.invariant d is) (c.in_ok-more.ensures d is))
 
 pub returns : goal.returns
 returns c d is =
     let ms = c.args.members.now in
-    subst (λ xs. AreParts d c.args.sized c.loop-member.parts.items (each_extended c.args.outer (list_of (terms_of d.known (members_of xs)))))
+    subst (λ xs. AreParts d c.loop-member.parts.items (each_extended c.args.outer (list_of (terms_of d.known (members_of xs)))))
     (whole_front view_member ms c.loop-member.member-index c.loop-member-test.false)
     (c.loop-member.invariant d is)

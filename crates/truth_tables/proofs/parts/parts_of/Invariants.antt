@@ -12,4 +12,4 @@ use Rattle.truth_tables.proofs.parts.parts_of.Given as goal
 abbrev pub invariant-loop-member : goal.invariant-loop-member
 invariant-loop-member l =
     (d : Context) → IsOver l.scope d
-    → AreParts d l.sized l.parts.items (each_extended l.fn.outer (list_of (terms_of d.known (members_of (map view_member (take l.member-index l.members))))))
+    → AreParts d l.parts.items (each_extended l.outer (list_of (terms_of d.known (members_of (map view_member (take l.member-index l.members))))))

@@ -1,24 +1,21 @@
 -- A table whose header is refused, and one whose header isn't.
-use Rattle.std.proofs.Common.{◌++◌, List, Option, map, refl, sym, ap, ◌∙◌, subst, length}
+use Rattle.std.proofs.Common.{◌++◌, map, refl, sym, ap, ◌∙◌, subst}
 use Rattle.std.specs.Option.{is_some}
 use Rattle.std.proofs.lemmas.Result.{on_ok_weaker}
 use Rattle.bit_expr.specs.Arena.{arena}
 use Rattle.abel_tree.specs.declared.names.Names.{Names}
-use Rattle.abel_tree.specs.Entries.{entries_of}
 use Rattle.abel_tree.specs.View.{view, view_row}
 use Rattle.abel_meaning.specs.CountedBlocks.{table_units}
 use Rattle.abel_meaning.specs.Terms.{term_of}
-use Rattle.section_targets.specs.declared.aim.Aim.{Aim}
 use Rattle.section_targets.specs.declared.walked.Walked.{Walked}
 use Rattle.set_expr.specs.Contexts.{context_for}
-use Rattle.section_targets.specs.Given.{AreNamed}
 use Rattle.section_targets.specs.Manners.{AreFirsts}
 use Rattle.section_targets.specs.Walking.{Walks}
 use Rattle.equations.proofs.BuiltParts.{is_context, same_context, value_accepted}
 use Rattle.truth_tables.specs.OutputHeaders.{output_header}
-use Rattle.truth_tables.specs.TableUnits.{assigned_by, header_refused, row_units, some_aims}
+use Rattle.truth_tables.specs.TableUnits.{assigned_by, header_refused, row_units}
 use Rattle.truth_tables.specs.TableWalks.{WalksTable, given_by, places_by}
-use Rattle.truth_tables.proofs.HeaderNames.{header_inside}
+use Rattle.truth_tables.proofs.HeaderNames.{outputs_inside}
 use Rattle.truth_tables.proofs.RowsWalked.{header_noted, header_stands, some_refused}
 use Rattle.truth_tables.proofs.TableWorks.{inputs_clear, outputs_named, table_works}
 use Rattle.truth_tables.proofs.tables.walk_table.Goals as goal
@@ -50,11 +47,12 @@ walk_headed-requires g c =
     let header = c.in_ok-header.ensures.header d before (same_context v c.scope-names.result.now n c.scope-names.ensures) (λ s p. refl) in
     let outputs = c.as_slice.ensures ∙ header.outputs in
     let clear = sym c.in-None.is ∙ header.fault in
+    let named = outputs_named d before t c.as_slice.result.now outputs clear in
     record {
       accepted = record {
         inputs = value_accepted n (view t.inputs) (inputs_clear d before t clear);
-        signals = subst (λ (xs : List (Option Aim)). AreNamed (length (entries_of n)) (some_aims xs)) (sym outputs) (header_inside d refl (view t.outputs));
-        named = outputs_named d before t c.as_slice.result.now outputs clear;
+        signals = outputs_inside d refl (view t.outputs) c.as_slice.result.now named;
+        named = named;
       };
     }
 

@@ -2,28 +2,28 @@
 use Rattle.std.proofs.Common.{refl, subst}
 use Rattle.std.proofs.lemmas.Result.{IfOk-weaker}
 use Rattle.truth_tables.specs.declared.mark.Mark.TheVariants as mark
-use Rattle.truth_tables.specs.PartTerms.{IsContent}
+use Rattle.truth_tables.specs.PartTerms.{IsPart}
 use Rattle.truth_tables.proofs.PairLaws.{put_number, put_unknown, put_pulsed, put_released}
 use Rattle.truth_tables.proofs.wholes.put_whole.Goals as goal
 
 pub returns-in_ok-push_levels-in-Number : goal.returns-in_ok-push_levels-in-Number
-returns-in_ok-push_levels-in-Number c d h e is i k p =
-    put_number d h e c.args.width c.in-Number.number c.args.marks.now.items c.push_levels.new.marks.items (subst (λ x. IsContent d x e) c.in-Number.is i) k p c.in_ok-push_levels-in-Number.ensures
+returns-in_ok-push_levels-in-Number c d h e is x i k =
+    put_number d h e c.in_ok-width.width c.in-Number.number c.args.marks.now.items c.push_levels.new.marks.items (subst (λ z. IsPart d z e) c.in-Number.is i) k (c.in_ok-width.ensures d h is x) c.in_ok-push_levels-in-Number.ensures
 
 pub returns-in_ok-push_same-in-Unknown : goal.returns-in_ok-push_same-in-Unknown
-returns-in_ok-push_same-in-Unknown c d h e is i k p =
-    put_unknown d h e c.args.width mark.Unknown c.args.marks.now.items c.push_same.new.marks.items (subst (λ x. IsContent d x e) c.in-Unknown.is i) refl k p c.in_ok-push_same-in-Unknown.ensures
+returns-in_ok-push_same-in-Unknown c d h e is x i k =
+    put_unknown d h e c.in_ok-width.width mark.Unknown c.args.marks.now.items c.push_same.new.marks.items (subst (λ z. IsPart d z e) c.in-Unknown.is i) refl k (c.in_ok-width.ensures d h is x) c.in_ok-push_same-in-Unknown.ensures
 
 pub returns-in_ok-push_same-in-Pulsed : goal.returns-in_ok-push_same-in-Pulsed
-returns-in_ok-push_same-in-Pulsed c d h e is i k p =
-    put_pulsed d h e c.args.width mark.Pulsed c.args.marks.now.items c.push_same-in-Pulsed.new.marks.items (subst (λ x. IsContent d x e) c.in-Pulsed.is i) refl k p c.in_ok-push_same-in-Pulsed.ensures
+returns-in_ok-push_same-in-Pulsed c d h e is x i k =
+    put_pulsed d h e c.in_ok-width.width mark.Pulsed c.args.marks.now.items c.push_same-in-Pulsed.new.marks.items (subst (λ z. IsPart d z e) c.in-Pulsed.is i) refl k (c.in_ok-width.ensures d h is x) c.in_ok-push_same-in-Pulsed.ensures
 
 pub returns-in_ok-push_same-in-Released : goal.returns-in_ok-push_same-in-Released
-returns-in_ok-push_same-in-Released c d h e is i k p =
-    put_released d h e c.args.width mark.Released c.args.marks.now.items c.push_same-in-Released.new.marks.items (subst (λ x. IsContent d x e) c.in-Released.is i) refl k p c.in_ok-push_same-in-Released.ensures
+returns-in_ok-push_same-in-Released c d h e is x i k =
+    put_released d h e c.in_ok-width.width mark.Released c.args.marks.now.items c.push_same-in-Released.new.marks.items (subst (λ z. IsPart d z e) c.in-Released.is i) refl k (c.in_ok-width.ensures d h is x) c.in_ok-push_same-in-Released.ensures
 
 pub returns-in-Operator : goal.returns-in-Operator
 returns-in-Operator c =
     IfOk-weaker c.put_operator.result _ _
-    (λ b w d h e is i k p. w d h e is (subst (λ x. IsContent d x e) c.in-Operator.is i) k p)
+    (λ b w d h e is x i k. w d h e is (subst (λ z. IsPart d z e) c.in-Operator.is i) k (c.in_ok-width.ensures d h is x))
     c.put_operator.ensures

@@ -1,0 +1,67 @@
+-- A name that is refused, one that stands for something else, and one that stands for signals and X.
+use Rattle.std.proofs.Common.{◌≡◌, ℕ, ◌++◌, Option, None, Some, List, [], refl, ap, sym, ◌∙◌, subst}
+use Rattle.abel_tree.specs.Entries.{find}
+use Rattle.abel_tree.proofs.FirstRefusals.{none_refused}
+use Rattle.abel_meaning.specs.Designs.{Context}
+use Rattle.abel_meaning.specs.Terms.{term_named}
+use Rattle.pld_base.specs.declared.place.Place.{Place}
+use Rattle.set_expr.specs.declared.checked.Checked.{Checked}
+use Rattle.set_expr.specs.declared.fault.SectionFault.{SectionFault}
+use Rattle.set_expr.specs.declared.fault.SectionFault.TheVariants.{NotAnOutput}
+use Rattle.set_expr.specs.FoundNames.{found_use, name_found, names_found}
+use Rattle.set_expr.specs.KnownNames.{SumsUp}
+use Rattle.set_expr.specs.SectionOrder.{section_order}
+use Rattle.abel_tree.specs.declared.names.Names.{Names}
+use Rattle.abel_tree.specs.Entries.{entries_of}
+use Rattle.section_targets.specs.declared.aim.Aim.{Aim}
+use Rattle.truth_tables.specs.EntryTerms.{IsOver}
+use Rattle.truth_tables.specs.HeaderSignals.{AreSignals}
+use Rattle.truth_tables.specs.OutputHeaders.{header_name, named_outputs, outputs_at, refused_header}
+use Rattle.truth_tables.specs.Headers.{IsAdded}
+use Rattle.section_targets.proofs.OverNames.{found_in}
+use Rattle.truth_tables.proofs.HeaderLaws.{added_none, named_listed, named_other, named_refused}
+use Rattle.truth_tables.proofs.header_names.push_name.Goals as goal
+
+over : (n : Names) (d : Context) (k : Checked) (p : Place) (w : List ℕ) → IsOver n d → SumsUp k (found_use p (name_found (names_found (entries_of n)) w)) → SumsUp k (found_use p (name_found (names_found d.names) w))
+over n d k p w is s = subst (λ es. SumsUp k (found_use p (name_found (names_found es) w))) (sym is.names) s
+
+-- a name of which nothing is refused
+clear : (d : Context) (k : Checked) (p : Place) (w : List ℕ) (f : Option SectionFault) (old new : List (Option Aim)) → SumsUp k (found_use p (name_found (names_found d.names) w)) → k.fault ≡ None → IsAdded (named_outputs [] p (find d.names w) (term_named d.known w)) f old new → IsAdded (header_name d p w) f old new
+clear d k p w f old new s e a =
+    let rs = (found_use p (name_found (names_found d.names) w)).refusals in
+    subst (λ rs. IsAdded (named_outputs rs p (find d.names w) (term_named d.known w)) f old new) (sym (none_refused section_order rs (sym e ∙ s.fault))) a
+
+pub part_signals-requires : goal.part_signals-requires
+part_signals-requires c = λ d is. record { term = term_named d.known c.args.text.now; is = c.named_part.ensures d is }
+
+pub returns-in-Some : goal.returns-in-Some
+returns-in-Some c d is =
+    let w = c.args.text.now in
+    let p = c.args.place in
+    let found = over c.args.scope.now d c.check_name-found.result p w is c.check_name-found.ensures in
+    let r = named_refused (found_use p (name_found (names_found d.names) w)).refusals p (find d.names w) (term_named d.known w) c.in-Some.fault (sym c.in-Some.is ∙ found.fault) in
+    added_none (header_name d p w) (Some c.in-Some.fault) c.args.outputs.now.items (sym r.0) r.1
+
+pub returns-in-None-signals : goal.returns-in-None-signals
+returns-in-None-signals c d is =
+    let w = c.args.text.now in
+    let p = c.args.place in
+    let t = term_named d.known w in
+    let xs = c.args.outputs.now.items in
+    let s = subst (AreSignals t) c.in-None-signals.is (c.in_ok-signals-in-None.ensures d t is (c.named_part.ensures d is)) in
+    clear d c.check_name-found.result p w _ xs xs (over c.args.scope.now d c.check_name-found.result p w is c.check_name-found.ensures) c.in-None.is
+    (subst (λ x. IsAdded x (Some (NotAnOutput p c.number_of-number.result)) xs xs) (sym (named_other p (find d.names w) t s))
+    (added_none (refused_header (NotAnOutput p (find d.names w))) _ xs (ap (λ n. Some (NotAnOutput p n)) (found_in w is.names c.number_of-number.ensures)) refl))
+
+pub returns-in_ok-push_signals-in-Some-signals : goal.returns-in_ok-push_signals-in-Some-signals
+returns-in_ok-push_signals-in-Some-signals c d is =
+    let w = c.args.text.now in
+    let p = c.args.place in
+    let t = term_named d.known w in
+    let old = c.args.outputs.now.items in
+    let now = c.push_signals.new.outputs.items in
+    let ss = c.in-Some-signals.signals.items in
+    let s = subst (AreSignals t) c.in-Some-signals.is (c.in_ok-signals-in-None.ensures d t is (c.named_part.ensures d is)) in
+    clear d c.check_name-found.result p w None old now (over c.args.scope.now d c.check_name-found.result p w is c.check_name-found.ensures) c.in-None.is
+    (subst (λ x. IsAdded x None old now) (sym (named_listed p (find d.names w) t ss s.0 s.1))
+    (record { fault = refl; outputs = c.in_ok-push_signals-in-Some-signals.ensures ∙ ap (λ zs. old ++ outputs_at p zs) c.as_slice.ensures.value }))

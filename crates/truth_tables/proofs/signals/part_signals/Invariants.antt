@@ -1,0 +1,19 @@
+-- The parts on the stack have their signals before those that were listed; each step leaves fewer parts.
+use Rattle.std.proofs.Common.{reverse}
+use Rattle.std.specs.List.{sum_by}
+use Rattle.abel_tree.specs.Entries.{entries_of}
+use Rattle.abel_meaning.specs.Designs.{Context}
+use Rattle.abel_meaning.specs.Terms.{Term, known_of}
+use Rattle.truth_tables.specs.EntryTerms.{IsOver}
+use Rattle.truth_tables.specs.PartCounts.{part_parts}
+use Rattle.truth_tables.specs.PartTerms.{IsPart}
+use Rattle.truth_tables.specs.SignalTerms.{listing}
+use Rattle.truth_tables.specs.Stacks.{Walked}
+use Rattle.truth_tables.proofs.signals.part_signals.Given as goal
+
+abbrev pub invariant-loop-top : goal.invariant-loop-top
+invariant-loop-top l =
+    (d : Context) (t : Term) → IsOver l.scope d → IsPart d l.part t → Walked (IsPart d) listing t l.stack.items (reverse l.signals.items)
+
+abbrev pub decreases-loop-top : goal.decreases-loop-top
+decreases-loop-top l = sum_by (part_parts (known_of (entries_of l.scope))) l.stack.items

@@ -1,0 +1,37 @@
+-- Sets and operators by their expressions, and what has one position.
+use Rattle.std.proofs.Common.{sym, ap, ◌∙◌, subst}
+use Rattle.std.proofs.lemmas.Result.{IfOk-weaker}
+use Rattle.abel_meaning.specs.Numbers.{member_width}
+use Rattle.abel_meaning.specs.Rows.{part_width}
+use Rattle.truth_tables.specs.PartTerms.{IsPart}
+use Rattle.truth_tables.proofs.PartLaws.{operator_width, set_width}
+use Rattle.truth_tables.proofs.wholes.width_of.Goals as goal
+
+pub returns-in-Set : goal.returns-in-Set
+returns-in-Set c =
+    IfOk-weaker c.expr_width.result _ _
+    (λ w k d t is i. k d is ∙ set_width d c.in-Set.expr.now _ _ t (subst (λ z. IsPart d z t) c.in-Set.is i))
+    c.expr_width.ensures
+
+pub returns-in-Operator : goal.returns-in-Operator
+returns-in-Operator c =
+    IfOk-weaker c.expr_width-in-Operator.result _ _
+    (λ w k d t is i. k d is ∙ operator_width d c.in-Operator.expr.now t (subst (λ z. IsPart d z t) c.in-Operator.is i))
+    c.expr_width-in-Operator.ensures
+
+pub returns-in-Signal : goal.returns-in-Signal
+returns-in-Signal c d t is i = sym (ap (part_width d) (subst (λ z. IsPart d z t) c.in-Signal.is i))
+
+pub returns-in-Number : goal.returns-in-Number
+returns-in-Number c d t is i =
+    let k = subst (λ z. IsPart d z t) c.in-Number.is i in
+    sym (ap member_width k.shape)
+
+pub returns-in-Unknown : goal.returns-in-Unknown
+returns-in-Unknown c d t is i = sym (ap (part_width d) (subst (λ z. IsPart d z t) c.in-Unknown.is i))
+
+pub returns-in-Pulsed : goal.returns-in-Pulsed
+returns-in-Pulsed c d t is i = sym (ap (part_width d) (subst (λ z. IsPart d z t) c.in-Pulsed.is i))
+
+pub returns-in-Released : goal.returns-in-Released
+returns-in-Released c d t is i = sym (ap (part_width d) (subst (λ z. IsPart d z t) c.in-Released.is i))
