@@ -1,69 +1,29 @@
--- What is refused of transitions and states doesn't depend on their guard, which so counts only where nothing was refused
--- before.
-use Rattle.std.proofs.Common.{◌≡◌, ℕ, Option, None, Some, List, [], ◌∷◌, ◌++◌, length, refl, sym, ap, ap₂, ◌∙◌, subst, append-nil}
+-- What is refused of a unit doesn't depend on its guard, which so counts only where nothing was refused before.
+use Rattle.std.proofs.Common.{◌≡◌, Option, None, Some, List, [], ◌∷◌, ◌++◌, ◌<◌, length, refl, sym, ap, ◌∙◌, subst, append-nil}
+use Rattle.pld_base.specs.declared.place.Place.{Place}
+use Rattle.bit_expr.specs.Arena.{arena, formula_at}
 use Rattle.bit_expr.specs.Formulas.{Formula}
-use Rattle.abel_tree.specs.Tree.{statements_of, Branch, AGoal, AnIf, ACase, OtherBranch, NoBranch, ABranch, Choices, NoChoice, MoreChoices, StateTree}
+use Rattle.abel_tree.specs.Tree.{Statements}
 use Rattle.abel_meaning.specs.Contributions as meant
-use Rattle.abel_meaning.specs.CountedNodes.{condition_of, guard_then, guard_else}
+use Rattle.abel_meaning.specs.Contributions.{guarded}
 use Rattle.abel_meaning.specs.Designs.{Context}
-use Rattle.abel_meaning.specs.Diagrams.{with_statements}
+use Rattle.abel_meaning.specs.FormulaBits.{formulas}
+use Rattle.abel_meaning.specs.Statements.{statements_give}
+use Rattle.set_expr.specs.declared.contributions.Guard.{Guard}
 use Rattle.set_expr.specs.declared.fault.SectionFault.{SectionFault}
-use Rattle.set_expr.specs.FoundNames.{expression_found}
-use Rattle.section_targets.specs.declared.aim.Aim.{Aim}
+use Rattle.set_expr.specs.Answer.{Keeps}
 use Rattle.section_targets.specs.declared.manner.Manner.{Manner}
 use Rattle.section_targets.specs.declared.walked.Walked.{Walked}
 use Rattle.section_targets.specs.Manners.{AreFirsts}
 use Rattle.section_targets.specs.Units.{CountedUnit, units_refused}
-use Rattle.section_targets.specs.ValueWidths.{value_refused}
-use Rattle.section_targets.proofs.Built.{refused_append}
-use Rattle.section_targets.proofs.WalksBehind.{walks_alike}
-use Rattle.equations.specs.StatementUnits.{condition_refused, statements_manners, units_of_statements}
-use Rattle.equations.proofs.WalkedStatements.{any_guards}
-use Rattle.state_diagrams.specs.DiagramUnits.{branch_manners, choices_refused, state_manners, units_of_branch, units_of_branches, units_of_choices, units_of_other, units_within}
-use Rattle.state_diagrams.specs.DiagramWalks.{WalksWork}
-use Rattle.state_diagrams.specs.DiagramWorks.{branch_work, within_work}
+use Rattle.section_targets.specs.Walking.{Walks}
+use Rattle.section_targets.proofs.Built.{kept_formula}
+use Rattle.section_targets.proofs.WalksBehind.{clear_before, walks_alike}
+use Rattle.equations.specs.StatementUnits.{statements_manners, statements_places, units_of_statements}
+use Rattle.equations.proofs.BuiltUnits.{guard_kept, guard_view}
+use Rattle.equations.proofs.WalkedStatements.{AllUnder, any_guards}
+use Rattle.state_diagrams.specs.DiagramWalks.{StandsFor, WalksWork}
 use Rattle.truth_tables.specs.Works.{Work}
-
--- two parts of units are refused alike where each is
-both_alike : (us vs ws xs : List CountedUnit) → units_refused us ≡ units_refused ws → units_refused vs ≡ units_refused xs → units_refused (us ++ vs) ≡ units_refused (ws ++ xs)
-both_alike us vs ws xs p q = refused_append us vs ∙ ap₂ (λ rs ss. rs ++ ss) p q ∙ sym (refused_append ws xs)
-
-mutual
-  any_branch : (d : Context) (g h : Formula) (n : ℕ) (all : List Manner) (b : Branch) → units_refused (units_of_branch d g n all b) ≡ units_refused (units_of_branch d h n all b)
-  any_branch d g h n all (AGoal p v ss) = ap (λ rs. value_refused p n (expression_found d.names v) ++ rs) (any_guards d g h all (with_statements ss))
-  any_branch d g h n all (AnIf p c b other) =
-      ap (λ rs. condition_refused d p c ++ rs)
-      (both_alike (units_of_branch d (guard_then g (condition_of d c)).what n all b) (units_of_other d (guard_else g (condition_of d c)).what n (all ++ branch_manners d b) other)
-      (units_of_branch d (guard_then h (condition_of d c)).what n all b) (units_of_other d (guard_else h (condition_of d c)).what n (all ++ branch_manners d b) other)
-      (any_branch d (guard_then g (condition_of d c)).what (guard_then h (condition_of d c)).what n all b)
-      (any_other d (guard_else g (condition_of d c)).what (guard_else h (condition_of d c)).what n (all ++ branch_manners d b) other))
-  any_branch d g h n all (ACase p cs) = ap (λ rs. choices_refused d cs ++ rs) (any_choices d g h n all cs)
-
-  any_other : (d : Context) (g h : Formula) (n : ℕ) (all : List Manner) (o : OtherBranch) → units_refused (units_of_other d g n all o) ≡ units_refused (units_of_other d h n all o)
-  any_other d g h n all NoBranch = refl
-  any_other d g h n all (ABranch b) = any_branch d g h n all b
-
-  any_choices : (d : Context) (g h : Formula) (n : ℕ) (all : List Manner) (cs : Choices) → units_refused (units_of_choices d g n all cs) ≡ units_refused (units_of_choices d h n all cs)
-  any_choices d g h n all NoChoice = refl
-  any_choices d g h n all (MoreChoices c colon b cs) =
-      both_alike (units_of_branch d (guard_then g (condition_of d c)).what n all b) (units_of_choices d g n (all ++ branch_manners d b) cs)
-      (units_of_branch d (guard_then h (condition_of d c)).what n all b) (units_of_choices d h n (all ++ branch_manners d b) cs)
-      (any_branch d (guard_then g (condition_of d c)).what (guard_then h (condition_of d c)).what n all b) (any_choices d g h n (all ++ branch_manners d b) cs)
-
-any_branches : (d : Context) (g h : Formula) (n : ℕ) (all : List Manner) (bs : List Branch) → units_refused (units_of_branches d g n all bs) ≡ units_refused (units_of_branches d h n all bs)
-any_branches d g h n all [] = refl
-any_branches d g h n all (b ∷ bs) =
-    both_alike (units_of_branch d g n all b) (units_of_branches d g n (all ++ branch_manners d b) bs) (units_of_branch d h n all b) (units_of_branches d h n (all ++ branch_manners d b) bs)
-    (any_branch d g h n all b) (any_branches d g h n (all ++ branch_manners d b) bs)
-
-any_within : (d : Context) (g h : Formula) (n : ℕ) (all : List Manner) (s : StateTree) → units_refused (units_within d g n all s) ≡ units_refused (units_within d h n all s)
-any_within d g h n all s =
-    let ss = statements_of s.statements in
-    let ms = all ++ statements_manners d ss in
-    both_alike (units_of_statements d g all ss) (units_of_branches d g n ms s.transitions) (units_of_statements d h all ss) (units_of_branches d h n ms s.transitions)
-    (any_guards d g h all ss) (any_branches d g h n ms s.transitions)
-
--- ---- walks
 
 -- works that are refused alike, and are the same where nothing was refused before
 pub work_alike : (all ms : List Manner) (v w : Work) (old new : Walked) → units_refused v.units ≡ units_refused w.units → (old.fault ≡ None → v ≡ w) → WalksWork all v ms old new → WalksWork all w ms old new
@@ -73,13 +33,35 @@ work_alike all ms v w old new r e k = by_fault old.fault refl
     by_fault None o = subst (λ (x : Work). WalksWork all x ms old new) (e o) k
     by_fault (Some f) o = walks_alike all ms v.units w.units v.gives w.gives v.places w.places old new f o r k
 
-pub under_branch : (d : Context) (all : List Manner) (xs : List Aim) (b : Branch) (g h : meant.Guard Formula) (old new : Walked) → (old.fault ≡ None → g ≡ h) → WalksWork all (branch_work d g xs all b) (branch_manners d b) old new → WalksWork all (branch_work d h xs all b) (branch_manners d b) old new
-under_branch d all xs b g h old new e k =
-    work_alike all (branch_manners d b) (branch_work d g xs all b) (branch_work d h xs all b) old new (any_branch d g.holds h.holds (length xs) all b) (λ o. ap (λ x. branch_work d x xs all b) (e o)) k
+abbrev pub statements_work : Context → List Manner → Statements → meant.Guard Formula → Work
+statements_work d all ss h =
+    record { units = units_of_statements d h.holds all ss; gives = statements_give (formulas d) d h ss; places = statements_places d ss }
 
-pub under_within : (d : Context) (all : List Manner) (xs : List Aim) (s : StateTree) (g h : meant.Guard Formula) (old new : Walked) → (old.fault ≡ None → g ≡ h) → WalksWork all (within_work d g xs all s) (state_manners d s) old new → WalksWork all (within_work d h xs all s) (state_manners d s) old new
-under_within d all xs s g h old new e k =
-    work_alike all (state_manners d s) (within_work d g xs all s) (within_work d h xs all s) old new (any_within d g.holds h.holds (length xs) all s) (λ o. ap (λ x. within_work d x xs all s) (e o)) k
+pub under_statements : (d : Context) (all : List Manner) (ss : Statements) (g h : meant.Guard Formula) (old new : Walked) → (old.fault ≡ None → g ≡ h) → AllUnder d all g ss old new → AllUnder d all h ss old new
+under_statements d all ss g h old new e k =
+    work_alike all (statements_manners d ss) (statements_work d all ss g) (statements_work d all ss h) old new (any_guards d g.holds h.holds all ss) (λ o. ap (statements_work d all ss) (e o)) k
+
+-- units that differ by their nodes alone
+pub under_unit : (all : List Manner) (unit : Formula → CountedUnit) (f k : Formula) (old new : Walked) → (unit f).refusals ≡ (unit k).refusals → (old.fault ≡ None → f ≡ k) → Walks all (unit f ∷ []) [] [] [] old new → Walks all (unit k ∷ []) [] [] [] old new
+under_unit all unit f k old new r e w =
+    work_alike all [] (record { units = unit f ∷ []; gives = []; places = [] }) (record { units = unit k ∷ []; gives = []; places = [] }) old new (ap (λ rs. rs ++ []) r)
+    (λ o. ap (λ (x : Formula). record { units = unit x ∷ []; gives = []; places = [] }) (e o)) w
+
+-- ---- guards behind a walk
+
+-- where nothing is refused behind it, nothing was before
+pub walked_clear : {all ms : List Manner} {us : List CountedUnit} {gs : List (meant.Contribution Formula)} {ps : List Place} (old new : Walked) → Walks all us gs ps ms old new → new.fault ≡ None → old.fault ≡ None
+walked_clear old new w e = clear_before old.fault _ _ (sym e ∙ w.fault)
+
+pub kept_guard : (g : Guard) (h : meant.Guard Formula) (old new : Walked) → Keeps (arena old.exprs) (arena new.exprs) → g.when.0 < length (arena old.exprs) → (new.fault ≡ None → old.fault ≡ None) → StandsFor g old h → StandsFor g new h
+kept_guard g h old new k lt clear e =
+    λ o. guard_kept (arena old.exprs) (arena new.exprs) g (kept_formula (arena old.exprs) (arena new.exprs) g.when k lt) ∙ e (clear o)
+
+-- the guard of what stands under one more condition
+pub chosen_guard : (d : Context) (g k : Guard) (h : meant.Guard Formula) (f : Formula) (old new : Walked) → k.dontcare ≡ g.dontcare → k.block ≡ g.block → (new.fault ≡ None → old.fault ≡ None) → StandsFor g old h
+    → (new.fault ≡ None → formula_at (arena new.exprs) k.when ≡ (formulas d).both (formula_at (arena old.exprs) g.when) f) → StandsFor k new (guarded (formulas d) h f)
+chosen_guard d g k h f old new p q clear e w =
+    λ o. guard_view d (arena new.exprs) (arena old.exprs) g k f p q (w o) ∙ ap (λ (x : meant.Guard Formula). guarded (formulas d) x f) (e (clear o))
 
 -- ---- parts
 

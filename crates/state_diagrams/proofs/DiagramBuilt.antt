@@ -1,5 +1,5 @@
 -- States with the matches of other signals, and a whole diagram behind its registers.
-use Rattle.std.proofs.Common.{◌≡◌, ℕ, false, true, Option, Some, List, [], ◌∷◌, ◌++◌, Result, length, map, drop, refl, sym, ap, ◌∙◌, subst, append_assoc, append-nil}
+use Rattle.std.proofs.Common.{◌≡◌, false, true, Option, Some, List, [], ◌∷◌, ◌++◌, Result, length, map, drop, refl, sym, ap, ◌∙◌, subst, append_assoc, append-nil}
 use Rattle.std.proofs.Math.Seq.{drop-append_seam}
 use Rattle.pld_base.specs.declared.place.Place.{Place}
 use Rattle.bit_expr.specs.declared.node.ExprId.{ExprId}
@@ -9,14 +9,13 @@ use Rattle.bit_expr.specs.Formulas.{Formula}
 use Rattle.abel_tree.specs.Tree.{StateTree}
 use Rattle.abel_meaning.specs.Contributions as meant
 use Rattle.abel_meaning.specs.Designs.{Context}
-use Rattle.abel_meaning.specs.Diagrams.{in_state, other_matches, registers_given, state_gives, state_matches, states_give}
+use Rattle.abel_meaning.specs.Diagrams.{other_matches, registers_given, states_give}
 use Rattle.abel_meaning.specs.FormulaBits.{formulas}
 use Rattle.abel_meaning.specs.Tables.{no_matches}
 use Rattle.set_expr.specs.declared.contributions.Contribution.{Contribution}
 use Rattle.set_expr.specs.declared.contributions.Contributions.{Contributions}
-use Rattle.set_expr.specs.declared.contributions.Guard.{Guard}
 use Rattle.set_expr.specs.declared.fault.SectionFault.{SectionFault}
-use Rattle.set_expr.specs.Given.{view_contribution, view_guard}
+use Rattle.set_expr.specs.Given.{view_contribution}
 use Rattle.section_targets.specs.declared.aim.Aim.{Aim}
 use Rattle.section_targets.specs.declared.manner.Manner.{Manner}
 use Rattle.section_targets.specs.Building.{AreBits, IsBuilt, Builds}
@@ -46,19 +45,9 @@ matches_work d h xs ss =
     given_freely (other_matches (formulas d) d h (signals_of xs) ss (other_firsts (signals_of xs) (gives_of d h xs ss)))
     (other_places (signals_of xs) [] (length ss) (gives_of d h xs ss) (states_places d xs ss))
 
--- what these give together by these units
-abbrev both_work : Context → List Aim → List StateTree → List CountedUnit → (states matches : List (meant.Contribution Formula)) → Work
-both_work d xs ss us cs ms =
-    record {
-      units = us;
-      gives = cs ++ ms;
-      places = states_places d xs ss ++ other_places (signals_of xs) [] (length ss) cs (states_places d xs ss);
-    }
-
 others_split : (d : Context) (h : meant.Guard Formula) (xs : List Aim) (all : List Manner) (ss : List StateTree) → before (states_work d h xs all [] ss) (matches_work d h xs ss) ≡ others_work d h xs all ss
 others_split d h xs all ss =
-    ap (λ us. both_work d xs ss us (gives_of d h xs ss) (other_matches (formulas d) d h (signals_of xs) ss (other_firsts (signals_of xs) (gives_of d h xs ss))))
-    (append-nil (units_of_states d (signals_of xs) all [] ss))
+    ap (λ (us : List CountedUnit). record (others_work d h xs all ss) { units = us }) (append-nil (units_of_states d (signals_of xs) all [] ss))
 
 -- the states are what stands behind the start of the list
 behind_start : (d : Context) (h : meant.Guard Formula) (xs : List Aim) (all : List Manner) (ss : List StateTree) (old mid : Contributions) → IsBuilt (states_work d h xs all [] ss).units (gives_of d h xs ss) (states_places d xs ss) old mid
@@ -89,23 +78,6 @@ others_built d h xs all ss ids ns ms list mids more r b bits g =
     (step_then (states_work d h xs all [] ss) (matches_work d h xs ss) (at ns list) (at ms mids) (at ms more) r b matched)
 
 -- ---- registers
-
--- the guard's own bit doesn't count
-states_any : (d : Context) (fs hs : List Formula) (g : Guard) (xs : List Aim) (ss : List StateTree) → gives_of d (view_guard fs g) xs ss ≡ gives_of d (view_guard hs g) xs ss
-states_any d fs hs g xs [] = refl
-states_any d fs hs g xs (s ∷ ss) = ap (λ cs. state_gives (formulas d) d (signals_of xs) s (in_state (formulas d) d (view_guard fs g) (signals_of xs) s) ++ cs) (states_any d fs hs g xs ss)
-
-matches_any : (d : Context) (fs hs : List Formula) (g : Guard) (ys : List ℕ) (ss : List StateTree) (cs : List (meant.Contribution Formula)) → other_matches (formulas d) d (view_guard fs g) ys ss cs ≡ other_matches (formulas d) d (view_guard hs g) ys ss cs
-matches_any d fs hs g ys ss [] = refl
-matches_any d fs hs g ys ss (c ∷ cs) = ap (λ ms. state_matches (formulas d) d (view_guard fs g) ys ss c ++ ms) (matches_any d fs hs g ys ss cs)
-
-pub others_any : (d : Context) (fs hs : List Formula) (g : Guard) (xs : List Aim) (all : List Manner) (ss : List StateTree) → others_work d (view_guard fs g) xs all ss ≡ others_work d (view_guard hs g) xs all ss
-others_any d fs hs g xs all ss =
-    let sig = signals_of xs in
-    let us = units_of_states d sig all [] ss in
-    let cs = gives_of d (view_guard hs g) xs ss in
-    ap (λ ds. both_work d xs ss us ds (other_matches (formulas d) d (view_guard fs g) sig ss (other_firsts sig ds))) (states_any d fs hs g xs ss)
-    ∙ ap (both_work d xs ss us cs) (matches_any d fs hs g sig ss (other_firsts sig cs))
 
 -- what a diagram gives, at these places
 abbrev placed_work : Context → meant.Guard Formula → List Aim → List Manner → List StateTree → List Place → Work

@@ -104,40 +104,28 @@ clear_at d [] i c p e lt = absurd (omega (arith, lt))
 clear_at d (x ∷ cs) zero c p e lt = anywhere x.1.0 p (expression_found d.names x.0) (left_empty (condition_refused d x.1.0 x.0) (choices_refused d (choices_of cs)) e)
 clear_at d (x ∷ cs) (suc i) c p e lt = clear_at d cs i c p (right_empty (condition_refused d x.1.0 x.0) (choices_refused d (choices_of cs)) e) (omega (arith, lt))
 
-nodes_more : (d : Context) (g : Formula) (cs : List Choice) (c : Choice) → choices_nodes d g (choices_of (cs ++ c ∷ [])) ≡ choices_nodes d g (choices_of cs) + choice_nodes d g c.0 false
-nodes_more d g [] c = omega arith
-nodes_more d g (x ∷ cs) c = omega (arith, nodes_more d g cs c)
-
-nodes_append : (d : Context) (g : Formula) (cs ds : List Choice) → choices_nodes d g (choices_of (cs ++ ds)) ≡ choices_nodes d g (choices_of cs) + choices_nodes d g (choices_of ds)
-nodes_append d g [] ds = omega arith
-nodes_append d g (x ∷ cs) ds = omega (arith, nodes_append d g cs ds)
-
 -- no arm makes no node
 pub no_nodes : (p : Place) (out : Contributions) → IsBuilt (part p 0 ∷ []) [] [] out out
 no_nodes p out = one_unit {R = Unit} p [] [] [] out out (Ok tt) tt (builds_none out)
 
--- the condition of one arm more, of which nothing is refused
-pub conditions_next : {R : Type 0} (d : Context) (g h : Formula) (p : Place) (cs ds : List Choice) (c : Choice) (old mid new : Contributions) (r : Result R SectionFault) → ds ≡ cs ++ c ∷ [] → h ≡ g
-    → IsBuilt (part p (choices_nodes d g (choices_of cs)) ∷ []) [] [] old mid
-    → Builds (part p (choice_nodes d h c.0 false) ∷ []) [] [] mid new r
-    → Builds (part p (choices_nodes d g (choices_of ds)) ∷ []) [] [] old new r
-conditions_next d g h p cs ds c old mid new r e same b a =
-    let n = choice_nodes d g c.0 false in
-    subst (λ m. Builds (part p m ∷ []) [] [] old new r) (sym (ap (λ xs. choices_nodes d g (choices_of xs)) e ∙ nodes_more d g cs c))
-    (two_parts p (choices_nodes d g (choices_of cs)) n old mid new r b
-    (subst (λ (f : Formula). Builds (part p (choice_nodes d f c.0 false) ∷ []) [] [] mid new r) same a))
+-- the condition of an arm of the code, before those of others
+pub conditions_then : {R : Type 0} (d : Context) (g h : Formula) (p : Place) (x : CaseArm) (cs : List Choice) (old mid new : Contributions) (r : Result R SectionFault) → h ≡ g
+    → IsBuilt (part p (choice_nodes d h (view x.condition) false) ∷ []) [] [] old mid
+    → Builds (part p (choices_nodes d g (choices_of cs)) ∷ []) [] [] mid new r
+    → Builds (part p (choices_nodes d g (choices_of (view_choice x ∷ cs))) ∷ []) [] [] old new r
+conditions_then d g h p x cs old mid new r same b a =
+    subst (λ (z : Choice). Builds (part p (choices_nodes d g (choices_of (z ∷ cs))) ∷ []) [] [] old new r) (sym (choice_parts x))
+    (two_parts p (choice_nodes d g (view x.condition) false) (choices_nodes d g (choices_of cs)) old mid new r
+    (subst (λ (f : Formula). IsBuilt (part p (choice_nodes d f (view x.condition) false) ∷ []) [] [] old mid) same b) a)
 
--- where one stops, those behind it aren't made
-pub conditions_stop : (d : Context) (g : Formula) (p : Place) (cs ds es : List Choice) (old new : Contributions) (f : SectionFault) → es ≡ cs ++ ds
-    → StopsWith (part p (choices_nodes d g (choices_of cs)) ∷ []) [] [] old new f → StopsWith (part p (choices_nodes d g (choices_of es)) ∷ []) [] [] old new f
-conditions_stop d g p cs ds es old new f e s =
-    subst (λ m. StopsWith (part p m ∷ []) [] [] old new f) (sym (ap (λ xs. choices_nodes d g (choices_of xs)) e ∙ nodes_append d g cs ds))
-    (stops_longer p [] (choices_nodes d g (choices_of cs)) (choices_nodes d g (choices_of ds)) old new f s)
-
--- the condition of an arm of the code
-pub condition_there : {R : Type 0} (d : Context) (p : Place) (x : CaseArm) (g : Formula) (old new : Contributions) (r : Result R SectionFault) → Builds (part p (choice_nodes d g (view x.condition) false) ∷ []) [] [] old new r
-    → Builds (part p (choice_nodes d g (view_choice x).0 false) ∷ []) [] [] old new r
-condition_there d p x g old new r b = subst (λ (z : Choice). Builds (part p (choice_nodes d g z.0 false) ∷ []) [] [] old new r) (sym (choice_parts x)) b
+-- where it stops, those behind it aren't made
+pub conditions_stop : (d : Context) (g h : Formula) (p : Place) (x : CaseArm) (cs : List Choice) (old new : Contributions) (f : SectionFault) → h ≡ g
+    → StopsWith (part p (choice_nodes d h (view x.condition) false) ∷ []) [] [] old new f
+    → StopsWith (part p (choices_nodes d g (choices_of (view_choice x ∷ cs))) ∷ []) [] [] old new f
+conditions_stop d g h p x cs old new f same s =
+    subst (λ (z : Choice). StopsWith (part p (choices_nodes d g (choices_of (z ∷ cs))) ∷ []) [] [] old new f) (sym (choice_parts x))
+    (stops_longer p [] (choice_nodes d g (view x.condition) false) (choices_nodes d g (choices_of cs)) old new f
+    (subst (λ (k : Formula). StopsWith (part p (choice_nodes d k (view x.condition) false) ∷ []) [] [] old new f) same s))
 
 -- the condition of an arm of which nothing is refused is an expression of which nothing is refused
 pub arm_clear : (d : Context) (n : Names) (arms : List CaseArm) (i : ℕ) (x : CaseArm) → d.names ≡ entries_of n → choices_refused d (choices_of (map view_choice arms)) ≡ [] → i < length arms → x ≡ get_or arms i x → refusal_of n (view x.condition) ≡ None

@@ -1,11 +1,11 @@
 -- A bit that is made in parts, and the literals of registers, one after another.
-use Rattle.std.proofs.Common.{◌≡◌, ℕ, zero, suc, ◌+◌, ◌<◌, ◌≤◌, min, Bool, true, List, [], ◌∷◌, Result, Ok, Err, length, drop, get_or, refl, sym, ap, ◌∙◌, subst, subst₂, arith, add-one}
-use Rattle.std.proofs.Math.Seq.{drop-cons}
+use Rattle.std.proofs.Common.{◌≡◌, ℕ, zero, suc, ◌+◌, ◌<◌, ◌≤◌, min, Bool, true, List, [], ◌∷◌, Result, Ok, Err, length, drop, get_or, refl, sym, ap₂, ◌∙◌, subst, arith}
+use Rattle.std.proofs.lemmas.List.{at_drop_more}
 use Rattle.pld_base.specs.declared.place.Place.{Place}
 use Rattle.bit_expr.specs.declared.node.ExprId.{ExprId}
 use Rattle.bit_expr.specs.declared.node.Node.{Node}
 use Rattle.bit_expr.specs.Arena.{arena, formula_at}
-use Rattle.bit_expr.specs.Folding.{Made, free, with_nodes, ◌>>=◌}
+use Rattle.bit_expr.specs.Folding.{Made, free, ◌>>=◌}
 use Rattle.bit_expr.specs.Formulas.{Formula, Const}
 use Rattle.abel_meaning.specs.Designs.{Context}
 use Rattle.set_expr.specs.declared.fault.SectionFault.{SectionFault}
@@ -16,9 +16,10 @@ use Rattle.expr_bits.proofs.Making.{made_is, grew_none}
 use Rattle.section_targets.specs.declared.aim.Aim.{Aim}
 use Rattle.section_targets.proofs.MetWords.{high_bit}
 use Rattle.section_targets.proofs.OneUnit.{two_parts}
+use Rattle.section_targets.specs.Building.{NoMemory}
 use Rattle.section_targets.proofs.Parts.{built_nodes, leaves_nodes, limit_here}
 use Rattle.equations.proofs.BuiltParts.{stops_longer}
-use Rattle.state_diagrams.specs.Literals.{MakesBit, register_literal, literals, IsJoined}
+use Rattle.state_diagrams.specs.Literals.{MakesBit, register_literal, literals}
 
 -- ---- a bit, by what making it leaves
 
@@ -29,7 +30,7 @@ pub bit_past : (p : Place) (old new : List Node) (m : Made Formula) → Keeps (a
 bit_past p old new m k h = (λ list. (limit_here p m.nodes (length (arena old)) h, leaves_nodes old new list k), tt)
 
 pub no_memory : (p : Place) (old new : List Node) (m : Made Formula) → Keeps (arena old) (arena new) → MakesBit p m old new (Err fault.OutOfMemory)
-no_memory p old new m k = (λ list. (tt, leaves_nodes old new list k), tt)
+no_memory p old new m k = (λ list. (NoMemory refl, leaves_nodes old new list k), tt)
 
 pub bit_keeps : (p : Place) (old new : List Node) (r : Result ExprId SectionFault) (m : Made Formula) → MakesBit p m old new r → Keeps (arena old) (arena new)
 bit_keeps p old new (Ok id) m b = (b.0 []).made.grew.keeps
@@ -52,43 +53,36 @@ bit_stops p old new f m k a =
 literals_first : (d : Context) (f : Formula) (x : Aim) (xs : List Aim) (b : Bool) (bs : List Bool) → literals d f (x ∷ xs) (b ∷ bs) ≡ (register_literal d f x.signal b >>= λ g. literals d g xs bs)
 literals_first d f x xs b bs = made_is (literals d f (x ∷ xs) (b ∷ bs)) (register_literal d f x.signal b >>= λ g. literals d g xs bs) refl (omega arith)
 
-pub joined_start : (d : Context) (ns : List Node) (unit : Place) (found : ExprId) (xs : List Aim) (bs : List Bool) → found.0 ≡ 1 → IsJoined d ns ns unit found (literals d (Const true) xs bs) xs bs
-joined_start d ns unit found xs bs e =
-    record {
-      made = free (Const true);
-      bit = bit_made unit ns ns found (free (Const true)) (record { shows = high_bit ns found e; grew = grew_none (arena ns); within = λ p. omega (arith, p.0) });
-      whole = made_is (literals d (Const true) xs bs) (free (Const true) >>= λ f. literals d f xs bs) refl (omega arith);
-    }
+-- the bit of what is left, behind a bit that is found
+pub literals_start : (d : Context) (ns later : List Node) (unit : Place) (found : ExprId) (xs : List Aim) (bs : List Bool) (r : Result ExprId SectionFault) → found.0 ≡ 1
+    → MakesBit unit (literals d (formula_at (arena ns) found) xs bs) ns later r → MakesBit unit (literals d (Const true) xs bs) ns later r
+literals_start d ns later unit found xs bs r e m = subst (λ (f : Formula). MakesBit unit (literals d f xs bs) ns later r) (high_bit ns found e).1 m
 
--- the literal of one register more
-joined_bit : (d : Context) (old mid new : List Node) (unit : Place) (found : ExprId) (r : Result ExprId SectionFault) (m : Made Formula) (x : Aim) (b : Bool)
-    → MakesBit unit m old mid (Ok found) → MakesBit unit (register_literal d (formula_at (arena mid) found) x.signal b) mid new r
-    → MakesBit unit (m >>= λ f. register_literal d f x.signal b) old new r
-joined_bit d old mid new unit found r m x b a c =
-    bit_then unit old mid new found r m (λ f. register_literal d f x.signal b) a (subst (λ f. MakesBit unit (register_literal d f x.signal b) mid new r) a.1.1 c)
+at_index : (d : Context) (f : Formula) (xs : List Aim) (x : Aim) (bs : List Bool) (b : Bool) (i : ℕ) → i < min (length xs) (length bs)
+    → literals d f (drop i xs) (drop i bs) ≡ (register_literal d f (get_or xs i x).signal (get_or bs i b) >>= λ g. literals d g (drop (i + 1) xs) (drop (i + 1) bs))
+at_index d f xs x bs b i lt =
+    ap₂ (literals d f) (at_drop_more (λ (ys : List Aim). ys) xs i x (omega (arith, lt))) (at_drop_more (λ (cs : List Bool). cs) bs i b (omega (arith, lt)))
+    ∙ literals_first d f (get_or xs i x) (drop (i + 1) xs) (get_or bs i b) (drop (i + 1) bs)
 
-joined_whole : (d : Context) (all m : Made Formula) (x : Aim) (xs : List Aim) (b : Bool) (bs : List Bool) → all ≡ (m >>= λ f. literals d f (x ∷ xs) (b ∷ bs))
-    → all ≡ ((m >>= λ f. register_literal d f x.signal b) >>= λ g. literals d g xs bs)
-joined_whole d all m x xs b bs e =
-    e ∙ ap (λ k. with_nodes m.nodes k) (literals_first d m.what x xs b bs)
-    ∙ made_is (m >>= λ f. (register_literal d f x.signal b >>= λ g. literals d g xs bs)) ((m >>= λ f. register_literal d f x.signal b) >>= λ g. literals d g xs bs) refl (omega arith)
+-- one register more
+pub literals_next : (d : Context) (mid new later : List Node) (unit : Place) (found id : ExprId) (xs : List Aim) (x : Aim) (bs : List Bool) (b : Bool) (i : ℕ) (r : Result ExprId SectionFault) → i < min (length xs) (length bs)
+    → MakesBit unit (register_literal d (formula_at (arena mid) found) (get_or xs i x).signal (get_or bs i b)) mid new (Ok id)
+    → MakesBit unit (literals d (formula_at (arena new) id) (drop (i + 1) xs) (drop (i + 1) bs)) new later r
+    → MakesBit unit (literals d (formula_at (arena mid) found) (drop i xs) (drop i bs)) mid later r
+literals_next d mid new later unit found id xs x bs b i r lt m k =
+    let f = formula_at (arena mid) found in
+    let one = register_literal d f (get_or xs i x).signal (get_or bs i b) in
+    let rest = λ (g : Formula). literals d g (drop (i + 1) xs) (drop (i + 1) bs) in
+    subst (λ (w : Made Formula). MakesBit unit w mid later r) (sym (at_index d f xs x bs b i lt))
+    (bit_then unit mid new later id r one rest m (subst (λ (g : Formula). MakesBit unit (rest g) new later r) m.1.1 k))
 
-joined_next : (d : Context) (old mid new : List Node) (unit : Place) (found id : ExprId) (all : Made Formula) (x : Aim) (xs : List Aim) (b : Bool) (bs : List Bool)
-    → IsJoined d old mid unit found all (x ∷ xs) (b ∷ bs) → MakesBit unit (register_literal d (formula_at (arena mid) found) x.signal b) mid new (Ok id)
-    → IsJoined d old new unit id all xs bs
-joined_next d old mid new unit found id all x xs b bs j c =
-    record {
-      made = j.made >>= λ f. register_literal d f x.signal b;
-      bit = joined_bit d old mid new unit found (Ok id) j.made x b j.bit c;
-      whole = joined_whole d all j.made x xs b bs j.whole;
-    }
-
-joined_stops : (d : Context) (old mid new : List Node) (unit : Place) (found : ExprId) (all : Made Formula) (x : Aim) (xs : List Aim) (b : Bool) (bs : List Bool) (f : SectionFault)
-    → IsJoined d old mid unit found all (x ∷ xs) (b ∷ bs) → MakesBit unit (register_literal d (formula_at (arena mid) found) x.signal b) mid new (Err f)
-    → MakesBit unit all old new (Err f)
-joined_stops d old mid new unit found all x xs b bs f j c =
-    subst (λ m. MakesBit unit m old new (Err f)) (sym (joined_whole d all j.made x xs b bs j.whole))
-    (bit_stops unit old new f (j.made >>= λ g. register_literal d g x.signal b) (λ g. literals d g xs bs) (joined_bit d old mid new unit found (Err f) j.made x b j.bit c))
+pub literals_stop : (d : Context) (mid new : List Node) (unit : Place) (found : ExprId) (xs : List Aim) (x : Aim) (bs : List Bool) (b : Bool) (i : ℕ) (f : SectionFault) → i < min (length xs) (length bs)
+    → MakesBit unit (register_literal d (formula_at (arena mid) found) (get_or xs i x).signal (get_or bs i b)) mid new (Err f)
+    → MakesBit unit (literals d (formula_at (arena mid) found) (drop i xs) (drop i bs)) mid new (Err f)
+literals_stop d mid new unit found xs x bs b i f lt m =
+    let g = formula_at (arena mid) found in
+    subst (λ (w : Made Formula). MakesBit unit w mid new (Err f)) (sym (at_index d g xs x bs b i lt))
+    (bit_stops unit mid new f (register_literal d g (get_or xs i x).signal (get_or bs i b)) (λ (h : Formula). literals d h (drop (i + 1) xs) (drop (i + 1) bs)) m)
 
 -- no register or no digit is left
 none_left : (d : Context) (f : Formula) (xs : List Aim) (bs : List Bool) (i : ℕ) → min (length xs) (length bs) ≤ i → literals d f (drop i xs) (drop i bs) ≡ free f
@@ -103,28 +97,9 @@ none_left d f (x ∷ xs) [] (suc i) h = no_digit (drop i xs)
     no_digit (y ∷ ys) = refl
 none_left d f (x ∷ xs) (b ∷ bs) (suc i) h = none_left d f xs bs i (omega (arith, h))
 
-pub joined_done : (d : Context) (old new : List Node) (unit : Place) (found : ExprId) (all : Made Formula) (xs : List Aim) (bs : List Bool) (i : ℕ) → min (length xs) (length bs) ≤ i
-    → IsJoined d old new unit found all (drop i xs) (drop i bs) → MakesBit unit all old new (Ok found)
-joined_done d old new unit found all xs bs i h j =
-    let e : all ≡ j.made = j.whole ∙ ap (λ k. with_nodes j.made.nodes k) (none_left d j.made.what xs bs i h) ∙ made_is (j.made >>= free) j.made refl (omega arith) in
-    subst (λ m. MakesBit unit m old new (Ok found)) (sym e) j.bit
-
--- ---- at an index
-
-at_index : (d : Context) (old mid : List Node) (unit : Place) (found : ExprId) (all : Made Formula) (xs : List Aim) (x : Aim) (bs : List Bool) (b : Bool) (i : ℕ) → i < min (length xs) (length bs)
-    → IsJoined d old mid unit found all (drop i xs) (drop i bs) → IsJoined d old mid unit found all (get_or xs i x ∷ drop (suc i) xs) (get_or bs i b ∷ drop (suc i) bs)
-at_index d old mid unit found all xs x bs b i lt j =
-    subst₂ (λ ys cs. IsJoined d old mid unit found all ys cs) (drop-cons xs i x (omega (arith, lt))) (drop-cons bs i b (omega (arith, lt))) j
-
-pub joined_index : (d : Context) (old mid new : List Node) (unit : Place) (found id : ExprId) (all : Made Formula) (xs : List Aim) (x : Aim) (bs : List Bool) (b : Bool) (i : ℕ) → i < min (length xs) (length bs)
-    → IsJoined d old mid unit found all (drop i xs) (drop i bs) → MakesBit unit (register_literal d (formula_at (arena mid) found) (get_or xs i x).signal (get_or bs i b)) mid new (Ok id)
-    → IsJoined d old new unit id all (drop (i + 1) xs) (drop (i + 1) bs)
-joined_index d old mid new unit found id all xs x bs b i lt j c =
-    subst (λ n. IsJoined d old new unit id all (drop n xs) (drop n bs)) (sym (add-one i))
-    (joined_next d old mid new unit found id all (get_or xs i x) (drop (suc i) xs) (get_or bs i b) (drop (suc i) bs) (at_index d old mid unit found all xs x bs b i lt j) c)
-
-pub stops_index : (d : Context) (old mid new : List Node) (unit : Place) (found : ExprId) (all : Made Formula) (xs : List Aim) (x : Aim) (bs : List Bool) (b : Bool) (i : ℕ) (f : SectionFault) → i < min (length xs) (length bs)
-    → IsJoined d old mid unit found all (drop i xs) (drop i bs) → MakesBit unit (register_literal d (formula_at (arena mid) found) (get_or xs i x).signal (get_or bs i b)) mid new (Err f)
-    → MakesBit unit all old new (Err f)
-stops_index d old mid new unit found all xs x bs b i f lt j c =
-    joined_stops d old mid new unit found all (get_or xs i x) (drop (suc i) xs) (get_or bs i b) (drop (suc i) bs) f (at_index d old mid unit found all xs x bs b i lt j) c
+pub literals_done : (d : Context) (ns : List Node) (unit : Place) (found : ExprId) (xs : List Aim) (bs : List Bool) (i : ℕ) → min (length xs) (length bs) ≤ i → found.0 < length (arena ns)
+    → MakesBit unit (literals d (formula_at (arena ns) found) (drop i xs) (drop i bs)) ns ns (Ok found)
+literals_done d ns unit found xs bs i h lt =
+    let f = formula_at (arena ns) found in
+    subst (λ (w : Made Formula). MakesBit unit w ns ns (Ok found)) (sym (none_left d f xs bs i h))
+    (bit_made unit ns ns found (free f) (record { shows = (lt, refl); grew = grew_none (arena ns); within = λ p. omega (arith, p.0) }))

@@ -14,7 +14,7 @@ use Rattle.set_expr.specs.declared.fault.SectionFault.TheVariants as fault
 use Rattle.set_expr.specs.Given.{view_contribution}
 use Rattle.section_targets.specs.declared.aim.Aim.{Aim}
 use Rattle.section_targets.specs.Appending.{Leaves}
-use Rattle.section_targets.specs.Building.{IsBuilt, Builds}
+use Rattle.section_targets.specs.Building.{NoMemory, IsBuilt, Builds}
 use Rattle.state_diagrams.specs.DiagramUnits.{signals_of}
 use Rattle.state_diagrams.specs.Matches.{matches_beside, other_firsts, GivesMatches}
 use Rattle.state_diagrams.specs.Pushed.{is_first, pushed_if, seen_if, pushed_for, IsPushed, Pushes}
@@ -94,7 +94,7 @@ module _ (es : List Node) (all list more : List Contribution) (inside : Inside (
 
   all_or_front : (r : Result Unit SectionFault) → Pushes all list more r → Builds [] (views all) (places all) (at es list) (at es more) r
   all_or_front (Ok u) q = all_built q
-  all_or_front (Err fault.OutOfMemory) q = (tt, front_left q.0 q.1)
+  all_or_front (Err fault.OutOfMemory) q = (NoMemory refl, front_left q.0 q.1)
   all_or_front (Err _) q = absurd q
 
 -- all matches, or a front of them

@@ -14,6 +14,7 @@ use Rattle.section_targets.specs.Given.{AreNamed}
 use Rattle.section_targets.specs.Manners.{aims_refused, manner_of}
 use Rattle.section_targets.specs.NamedTargets.{IsSide}
 use Rattle.section_targets.specs.TargetSignals.{TargetFound, target_member}
+use Rattle.section_targets.proofs.SignalLists.{side_all}
 use Rattle.section_targets.proofs.SmallTargets.{member_few}
 use Rattle.equations.specs.StatementUnits.{unless_any}
 use Rattle.state_diagrams.specs.DiagramUnits.{register_manners}
@@ -52,7 +53,7 @@ pub member_whole : (d : Context) (s : Side) (t : Tree) → d.known ≡ known_of 
 member_whole d s t k h e =
     let r = none_refused section_order (target_member d t).refusals (sym e ∙ h.fault) in
     let few = member_few d t k r in
-    let a = h.aims few in
+    let a = side_all (length d.names) s (target_member d t) h few in
     (r, a, subst (λ xs. length xs ≤ 32) (sym a) few)
 
 -- targets that are assigned on the clock

@@ -1,5 +1,5 @@
--- The first refusal of a state's value, and the units of states one after another.
-use Rattle.std.proofs.Common.{◌≡◌, ℕ, ◌^◌, Bool, true, false, not, ◌&&◌, nat_lt, Option, None, Some, List, [], ◌∷◌, ◌++◌, if◌then◌else◌, length, refl, sym, ap, ◌∙◌, append_assoc, append-nil}
+-- The first refusal of a state's value.
+use Rattle.std.proofs.Common.{◌≡◌, ℕ, ◌^◌, Bool, true, false, not, ◌&&◌, nat_lt, Option, None, Some, List, [], ◌∷◌, ◌++◌, if◌then◌else◌, refl, ap}
 use Rattle.std.specs.Prelude.{◌==◌}
 use Rattle.std.specs.List.{list_any}
 use Rattle.pld_base.specs.declared.place.Place.{Place}
@@ -13,10 +13,9 @@ use Rattle.set_expr.specs.Refusals.{Found}
 use Rattle.set_expr.specs.SectionOrder.{section_order}
 use Rattle.expr_bits.specs.Reads.{reads_signal}
 use Rattle.section_targets.specs.declared.manner.Manner.{Manner}
-use Rattle.section_targets.specs.Units.{CountedUnit}
-use Rattle.state_diagrams.specs.DiagramUnits.{manners_behind, state_guard, state_manners, states_manners, units_of_state, units_of_states}
+use Rattle.state_diagrams.specs.DiagramUnits.{manners_behind}
 use Rattle.state_diagrams.specs.StateValues.{if_none, is_empty, is_state_of, listed_after, listed_with, state_number, state_refused, state_value_refused}
-use Rattle.state_diagrams.specs.States.{listed_behind, listed_if}
+use Rattle.state_diagrams.specs.States.{listed_if}
 use Rattle.state_diagrams.proofs.ArmLaws.{first}
 
 -- ---- values
@@ -50,31 +49,6 @@ listed_as d n listed s m f e h = by f (state_refused d n listed s) e h
       where
         never : r ∷ rs ≡ [] → ⊥
         never e = cc
-
--- ---- states
-
-abbrev pub unit_of : Context → List ℕ → List Manner → List ℕ → StateTree → List CountedUnit
-unit_of d ss all listed s = units_of_state d ss all (state_refused d (length ss) listed s) s (state_guard d ss s.value)
-
-pub states_more : (d : Context) (ss : List ℕ) (all : List Manner) (listed : List ℕ) (xs : List StateTree) (x : StateTree) → units_of_states d ss all listed (xs ++ x ∷ []) ≡ units_of_states d ss all listed xs ++ unit_of d ss (all ++ states_manners d xs) (listed_behind d (length ss) listed xs) x
-states_more d ss all listed [] x =
-    append-nil (unit_of d ss all listed x) ∙ ap (λ ms. unit_of d ss ms listed x) (sym (append-nil all))
-states_more d ss all listed (y ∷ xs) x =
-    let us = unit_of d ss all listed y in
-    let ms = state_manners d y in
-    let after = listed_after d (length ss) listed y in
-    ap (λ vs. us ++ vs) (states_more d ss (all ++ ms) after xs x)
-    ∙ sym (append_assoc us (units_of_states d ss (all ++ ms) after xs) (unit_of d ss ((all ++ ms) ++ states_manners d xs) (listed_behind d (length ss) after xs) x))
-    ∙ ap (λ ns. units_of_states d ss all listed (y ∷ xs) ++ unit_of d ss ns (listed_behind d (length ss) after xs) x) (append_assoc all ms (states_manners d xs))
-
-pub listed_more : (d : Context) (n : ℕ) (listed : List ℕ) (xs : List StateTree) (x : StateTree) → listed_behind d n listed (xs ++ x ∷ []) ≡ listed_after d n (listed_behind d n listed xs) x
-listed_more d n listed [] x = refl
-listed_more d n listed (y ∷ xs) x = listed_more d n (listed_after d n listed y) xs x
-
-pub state_manners_more : (d : Context) (xs : List StateTree) (x : StateTree) → states_manners d (xs ++ x ∷ []) ≡ states_manners d xs ++ state_manners d x
-state_manners_more d [] x = append-nil (state_manners d x)
-state_manners_more d (y ∷ xs) x =
-    ap (λ ms. state_manners d y ++ ms) (state_manners_more d xs x) ∙ sym (append_assoc (state_manners d y) (states_manners d xs) (state_manners d x))
 
 -- ---- behind the registers
 

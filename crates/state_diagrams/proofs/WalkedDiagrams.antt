@@ -7,7 +7,7 @@ use Rattle.bit_expr.specs.Formulas.{Formula}
 use Rattle.abel_tree.specs.declared.diagrams.Diagram.{Diagram}
 use Rattle.abel_tree.specs.FirstRefusal.{earlier, first_refusal}
 use Rattle.abel_tree.proofs.FirstRefusals.{none_refused}
-use Rattle.abel_tree.specs.Tree.{Tree, StateTree}
+use Rattle.abel_tree.specs.Tree.{Tree}
 use Rattle.abel_tree.specs.View.{view, view_state}
 use Rattle.abel_meaning.specs.Contributions as meant
 use Rattle.abel_meaning.specs.Designs.{Context}
@@ -29,7 +29,7 @@ use Rattle.section_targets.specs.Units.{CountedUnit, all_refused, limit_refused,
 use Rattle.section_targets.specs.Walking.{Walks, fault_behind, standing}
 use Rattle.section_targets.proofs.Built.{left_empty, right_empty}
 use Rattle.section_targets.proofs.SideTerms.{member_positions, positions_of}
-use Rattle.section_targets.proofs.WalksBehind.{clear_before, walks_none, walks_refused, walks_then}
+use Rattle.section_targets.proofs.WalksBehind.{clear_before, walks_none, walks_refused}
 use Rattle.state_diagrams.specs.DiagramPlaces.{aims_places}
 use Rattle.state_diagrams.specs.DiagramUnits.{diagram_manners, manners_behind, register_manners, registers_refused, signals_of, states_manners, units_behind, units_of_states}
 use Rattle.state_diagrams.specs.DiagramWalks.{WalksWork, given_by, places_by, units_of}
@@ -37,6 +37,7 @@ use Rattle.state_diagrams.specs.DiagramWorks.{header_work, others_work, register
 use Rattle.state_diagrams.specs.StateValues.{if_none}
 use Rattle.state_diagrams.proofs.DiagramBuilt.{registers_split}
 use Rattle.state_diagrams.proofs.StateLaws.{manners_accepted}
+use Rattle.state_diagrams.proofs.WalkedBranches.{unit_then}
 use Rattle.truth_tables.specs.Works.{Work}
 use Rattle.truth_tables.proofs.RowsWalked.{some_refused}
 
@@ -65,17 +66,6 @@ header_refused all gs ps out s a = walks_refusing all [] [] [] gs [] ps out out 
 
 -- ---- registers
 
--- no match for each register, and the states
-pub registers_walk : (d : Context) (all : List Manner) (h : meant.Guard Formula) (xs : List Aim) (ss : List StateTree) (old mid new : Walked)
-    → WalksWork all (header_work d h xs) [] old mid → WalksWork all (others_work d h xs all ss) (states_manners d ss) mid new
-    → WalksWork all (registers_work d h xs all ss) (states_manners d ss) old new
-registers_walk d all h xs ss old mid new a b =
-    let v = header_work d h xs in
-    let w = others_work d h xs all ss in
-    subst (λ (x : Work). WalksWork all x (states_manners d ss) old new) (registers_split d h xs all ss)
-    (walks_then all [] (states_manners d ss) v.units w.units v.gives w.gives v.places w.places old mid new a
-    (subst (λ ns. WalksWork ns w (states_manners d ss) mid new) (sym (append-nil all)) b))
-
 -- registers of which nothing is refused are those of their term
 registers_clear : (rs more : List SectionFault) → if_none rs more ≡ [] → rs ≡ []
 registers_clear [] more e = refl
@@ -95,21 +85,24 @@ noted_walks : (all ms ns before : List Manner) (us : List CountedUnit) (gs : Lis
 noted_walks all ms ns before us gs ps old new w =
     record { keeps = w.keeps; fault = w.fault; manners = subst (AreFirsts new.before) (append_assoc all ms ns) w.manners; given = w.given }
 
--- a diagram of registers that aren't refused
-pub diagram_walks : (d : Context) (all before : List Manner) (fs : List Formula) (g : Guard) (x : Diagram) (xs : List Aim) (old new : Walked)
+-- a diagram of registers that aren't refused: no match for each of them, and the states
+pub diagram_walks : (d : Context) (all before : List Manner) (fs : List Formula) (g : Guard) (x : Diagram) (xs : List Aim) (old mid new : Walked)
     → registers_refused d all (target_member d (view x.registers)) ≡ [] → xs ≡ (target_member d (view x.registers)).aims
-    → WalksWork (all ++ register_manners (target_member d (view x.registers))) (registers_work d (view_guard fs g) xs (all ++ register_manners (target_member d (view x.registers))) (map view_state x.states)) (states_manners d (map view_state x.states)) (record old { before = before }) new
+    → WalksWork (all ++ register_manners (target_member d (view x.registers))) (header_work d (view_guard fs g) xs) [] (record old { before = before }) mid
+    → WalksWork (all ++ register_manners (target_member d (view x.registers))) (others_work d (view_guard fs g) xs (all ++ register_manners (target_member d (view x.registers))) (map view_state x.states)) (states_manners d (map view_state x.states)) mid new
     → Walks all (units_of d all x) (given_by d g x fs) (places_by d x) (diagram_manners d all (target_member d (view x.registers)) (map view_state x.states)) old new
-diagram_walks d all before fs g x xs old new clear e w =
+diagram_walks d all before fs g x xs old mid new clear e a b =
     let t = target_member d (view x.registers) in
     let h = view_guard fs g in
     let ss = map view_state x.states in
     let ms = all ++ register_manners t in
     let us = units_of_states d (signals_of t.aims) ms [] ss in
-    let mid : Walked = record old { before = before } in
-    let named = subst (λ ys. WalksWork ms (registers_work d h ys ms ss) (states_manners d ss) mid new) e w in
-    let behind = subst (λ vs. Walks ms vs (given_by d g x fs) (places_by d x) (states_manners d ss) mid new) (sym (ap (λ rs. units_behind rs x.place us) clear))
-    (subst (λ ys. Walks ms us (registers_given (formulas d) d h ys ss) (aims_places d t.aims ss) (states_manners d ss) mid new) (sym (register_signals d (view x.registers) (registers_clear t.refusals _ clear))) named) in
+    let start : Walked = record old { before = before } in
+    let both = subst (λ (w : Work). WalksWork ms w (states_manners d ss) start new) (registers_split d h xs ms ss)
+    (unit_then ms (states_manners d ss) (header_work d h xs) (others_work d h xs ms ss) start mid new a b) in
+    let named = subst (λ ys. WalksWork ms (registers_work d h ys ms ss) (states_manners d ss) start new) e both in
+    let behind = subst (λ vs. Walks ms vs (given_by d g x fs) (places_by d x) (states_manners d ss) start new) (sym (ap (λ rs. units_behind rs x.place us) clear))
+    (subst (λ ys. Walks ms us (registers_given (formulas d) d h ys ss) (aims_places d t.aims ss) (states_manners d ss) start new) (sym (register_signals d (view x.registers) (registers_clear t.refusals _ clear))) named) in
     subst (λ ns. Walks all (units_of d all x) (given_by d g x fs) (places_by d x) ns old new) (manners_accepted (registers_refused d all t) (register_manners t) (states_manners d ss) clear)
     (noted_walks all (register_manners t) (states_manners d ss) before (units_of d all x) (given_by d g x fs) (places_by d x) old new behind)
 

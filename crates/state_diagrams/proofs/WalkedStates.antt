@@ -1,41 +1,51 @@
 -- Walks over states, part by part.
-use Rattle.std.proofs.Common.{◌≡◌, ℕ, List, [], ◌∷◌, ◌++◌, length, sym, ap, ◌∙◌, subst, append_assoc, append-nil}
+use Rattle.std.proofs.Common.{◌≡◌, ℕ, ◌<◌, None, List, [], ◌∷◌, ◌++◌, length, refl, sym, ◌∙◌, subst}
+use Rattle.pld_device.specs.Table.{Table}
+use Rattle.bit_expr.specs.declared.node.ExprId.{ExprId}
+use Rattle.bit_expr.specs.Arena.{arena, formula_at}
 use Rattle.bit_expr.specs.Formulas.{Formula}
 use Rattle.abel_tree.specs.Tree.{statements_of, StateTree}
 use Rattle.abel_meaning.specs.Contributions as meant
 use Rattle.abel_meaning.specs.Designs.{Context}
-use Rattle.abel_meaning.specs.Diagrams.{in_state, state_gives, states_give}
+use Rattle.abel_meaning.specs.Diagrams.{state_gives}
 use Rattle.abel_meaning.specs.FormulaBits.{formulas}
 use Rattle.abel_meaning.specs.Statements.{statements_give}
 use Rattle.abel_meaning.specs.Terms.{term_of}
+use Rattle.set_expr.specs.declared.contributions.Guard.{Guard}
+use Rattle.set_expr.specs.Given.{view_guard}
 use Rattle.section_targets.specs.declared.aim.Aim.{Aim}
 use Rattle.section_targets.specs.declared.manner.Manner.{Manner}
 use Rattle.section_targets.specs.declared.walked.Walked.{Walked}
-use Rattle.section_targets.specs.Walking.{Walks}
+use Rattle.section_targets.specs.Building.{IsBit}
 use Rattle.section_targets.proofs.WalksBehind.{walks_then}
 use Rattle.equations.specs.StatementUnits.{statements_manners, statements_places, units_of_statements}
-use Rattle.equations.proofs.WalkedStatements.{AllUnder}
-use Rattle.state_diagrams.specs.DiagramPlaces.{state_places, states_places}
-use Rattle.state_diagrams.specs.DiagramUnits.{branches_manners, signals_of, state_guard, state_manners, states_manners, units_of_states, units_within}
-use Rattle.state_diagrams.specs.DiagramWalks.{WalksWork, state_unit}
+use Rattle.equations.specs.StatementWalks.{WalksStatements}
+use Rattle.state_diagrams.specs.declared.machine.Machine.{Machine}
+use Rattle.state_diagrams.specs.DiagramPlaces.{state_places}
+use Rattle.state_diagrams.specs.DiagramUnits.{branches_manners, signals_of, state_guard, state_manners, states_manners, units_within}
+use Rattle.state_diagrams.specs.DiagramWalks.{WalksBranches, WalksStates, WalksUnit, WalksWithin, WalksWork, context_of_machine, state_unit}
 use Rattle.state_diagrams.specs.DiagramWorks.{branches_work, state_bit, state_work, states_work, where_holds, within_work}
-use Rattle.state_diagrams.specs.States.{listed_behind}
-use Rattle.state_diagrams.proofs.StateLaws.{state_manners_more, states_more}
+use Rattle.state_diagrams.specs.StateValues.{listed_after}
+use Rattle.state_diagrams.proofs.AnyGuards.{kept_guard, still_firsts, under_statements, walked_clear}
 use Rattle.state_diagrams.proofs.StatesHold.{guard_is_state}
-use Rattle.state_diagrams.proofs.WalkedBranches.{sized, unit_then, work_same}
-use Rattle.truth_tables.specs.Works.{Work, before}
+use Rattle.state_diagrams.proofs.WalkedBranches.{sized, unit_then}
+use Rattle.truth_tables.specs.Works.{Work}
 
 -- the statements of a state, and its transitions
-pub within_walks : (d : Context) (all : List Manner) (h k : meant.Guard Formula) (xs : List Aim) (s : StateTree) (old mid new : Walked) → k ≡ h
-    → AllUnder d all h (statements_of s.statements) old mid
-    → WalksWork (all ++ statements_manners d (statements_of s.statements)) (branches_work d k xs (all ++ statements_manners d (statements_of s.statements)) s.transitions) (branches_manners d s.transitions) mid new
-    → WalksWork all (within_work d h xs all s) (state_manners d s) old new
-within_walks d all h k xs s old mid new e a b =
+pub within_walk : {D : Type 0} (t : Table) (m : Machine D) (g : Guard) (s : StateTree) (old mid new : Walked) → g.when.0 < length (arena old.exprs)
+    → WalksStatements t m.scope.now g (statements_of s.statements) old mid → WalksBranches t m g s.transitions mid new → WalksWithin t m g s old new
+within_walk t m g s old mid new lt a b = λ h e all f.
+    let d = context_of_machine t m in
     let ss = statements_of s.statements in
-    let ms = all ++ statements_manners d ss in
-    let w = branches_work d h xs ms s.transitions in
-    walks_then all (statements_manners d ss) (branches_manners d s.transitions) (units_of_statements d h.holds all ss) w.units (statements_give (formulas d) d h ss) w.gives (statements_places d ss) w.places old mid new a
-    (subst (λ (x : meant.Guard Formula). WalksWork ms (branches_work d x xs ms s.transitions) (branches_manners d s.transitions) mid new) e b)
+    let v = under_statements d all ss (view_guard (arena old.exprs) g) h old mid e (a all f) in
+    let w = branches_work d h m.registers.now (all ++ statements_manners d ss) s.transitions in
+    walks_then all (statements_manners d ss) (branches_manners d s.transitions) (units_of_statements d h.holds all ss) w.units (statements_give (formulas d) d h ss) w.gives (statements_places d ss) w.places old mid new v
+    (b h (kept_guard g h old mid v.keeps lt (walked_clear old mid v) e) (all ++ statements_manners d ss) v.manners)
+
+-- what stands in a state, under its own guard
+pub within_plain : {D : Type 0} (t : Table) (m : Machine D) (g : Guard) (s : StateTree) (old new : Walked) → WalksWithin t m g s old new
+    → WalksWork old.before (within_work (context_of_machine t m) (view_guard (arena old.exprs) g) m.registers.now old.before s) (state_manners (context_of_machine t m) s) old new
+within_plain t m g s old new w = w (view_guard (arena old.exprs) g) (λ o. refl) old.before (λ k p. refl)
 
 -- what stands in a state of so many registers, with what it gives where this holds
 abbrev inside_work : Context → meant.Guard Formula → List Aim → List Manner → StateTree → (n : ℕ) → (holds : Formula) → Work
@@ -46,47 +56,26 @@ inside_work d h xs all s n f =
       places = state_places d xs s;
     }
 
--- a state's own unit, and what stands in it
-pub state_walks : (d : Context) (all : List Manner) (h : meant.Guard Formula) (xs : List Aim) (listed : List ℕ) (s : StateTree) (old mid new : Walked)
-    → Walks all (state_unit d (signals_of xs) listed s ∷ []) [] [] [] old mid
-    → WalksWork all (within_work d (where_holds h (state_guard d (signals_of xs) s.value).what) xs all s) (state_manners d s) mid new
-    → WalksWork all (state_work d h xs all listed s) (state_manners d s) old new
-state_walks d all h xs listed s old mid new a b =
-    let ss = signals_of xs in
-    let f = (state_guard d ss s.value).what in
-    let counted = subst (λ n. WalksWork all (inside_work d h xs all s n f) (state_manners d s) mid new) (sized xs) b in
-    let held = subst (λ (x : Formula). WalksWork all (inside_work d h xs all s (length ss) x) (state_manners d s) mid new) (guard_is_state d ss (term_of d.known s.value)) counted in
-    unit_then all (state_manners d s) (record { units = state_unit d ss listed s ∷ []; gives = []; places = [] }) (inside_work d h xs all s (length ss) (state_bit d xs s)) old mid new a held
+guard_is : (fs : List Formula) (g : Guard) (h : meant.Guard Formula) (f : Formula) → formula_at fs g.when ≡ f → h.dontcare ≡ g.dontcare → h.block ≡ g.block → view_guard fs g ≡ where_holds h f
+guard_is fs g h f e p q = rw (e, p, q) refl
 
--- ---- lists
-
-states_give_more : (d : Context) (h : meant.Guard Formula) (ss : List ℕ) (xs : List StateTree) (x : StateTree) → states_give (formulas d) d h ss (xs ++ x ∷ []) ≡ states_give (formulas d) d h ss xs ++ state_gives (formulas d) d ss x (in_state (formulas d) d h ss x)
-states_give_more d h ss [] x = append-nil (state_gives (formulas d) d ss x (in_state (formulas d) d h ss x))
-states_give_more d h ss (y ∷ xs) x =
-    let gs = state_gives (formulas d) d ss y (in_state (formulas d) d h ss y) in
-    ap (λ hs. gs ++ hs) (states_give_more d h ss xs x)
-    ∙ sym (append_assoc gs (states_give (formulas d) d h ss xs) (state_gives (formulas d) d ss x (in_state (formulas d) d h ss x)))
-
-states_places_more : (d : Context) (xs : List Aim) (ss : List StateTree) (s : StateTree) → states_places d xs (ss ++ s ∷ []) ≡ states_places d xs ss ++ state_places d xs s
-states_places_more d xs [] s = append-nil (state_places d xs s)
-states_places_more d xs (x ∷ ss) s =
-    ap (λ ps. state_places d xs x ++ ps) (states_places_more d xs ss s) ∙ sym (append_assoc (state_places d xs x) (states_places d xs ss) (state_places d xs s))
-
--- one state more, behind those that are listed
-pub states_walked : (d : Context) (all : List Manner) (h : meant.Guard Formula) (xs : List Aim) (ss ts : List StateTree) (s : StateTree) (listed : List ℕ) (old mid new : Walked) → ts ≡ ss ++ s ∷ []
-    → listed ≡ listed_behind d (length xs) [] ss
-    → WalksWork all (states_work d h xs all [] ss) (states_manners d ss) old mid
-    → WalksWork (all ++ states_manners d ss) (state_work d h xs (all ++ states_manners d ss) listed s) (state_manners d s) mid new
-    → WalksWork all (states_work d h xs all [] ts) (states_manners d ts) old new
-states_walked d all h xs ss ts s listed old mid new e l a b =
+-- a state before others
+pub states_walk : {D : Type 0} (t : Table) (m : Machine D) (g : Guard) (listed : List ℕ) (s : StateTree) (states : List StateTree) (id : ExprId) (old mid far new : Walked)
+    → WalksUnit t m listed s old mid → (mid.fault ≡ None → IsBit (arena mid.exprs) id (state_bit (context_of_machine t m) m.registers.now s)) → WalksWithin t m (record g { when = id }) s mid far
+    → WalksStates t m g (listed_after (context_of_machine t m) (length m.registers.now) listed s) states far new → WalksStates t m g listed (s ∷ states) old new
+states_walk t m g listed s states id old mid far new unit bit within later = λ h p q all a.
+    let d = context_of_machine t m in
+    let xs = m.registers.now in
+    let f = (state_guard d (signals_of xs) s.value).what in
+    let inside : Guard = record g { when = id } in
+    let u = unit all a in
+    let v = within (where_holds h f) (λ o. guard_is (arena mid.exprs) inside h f ((bit o).1 ∙ sym (guard_is_state d (signals_of xs) (term_of d.known s.value))) p q) all (still_firsts all mid u.manners) in
     let sig = signals_of xs in
-    let ms = all ++ states_manners d ss in
-    let v = states_work d h xs all [] ss in
-    let w = state_work d h xs ms (listed_behind d (length sig) [] ss) s in
-    work_same all (states_manners d ss ++ state_manners d s) (states_manners d ts) (before v w) (states_work d h xs all [] ts) old new
-    (sym (ap (units_of_states d sig all []) e ∙ states_more d sig all [] ss s))
-    (sym (ap (states_give (formulas d) d h sig) e ∙ states_give_more d h sig ss s))
-    (sym (ap (states_places d xs) e ∙ states_places_more d xs ss s))
-    (sym (ap (states_manners d) e ∙ state_manners_more d ss s))
-    (walks_then all (states_manners d ss) (state_manners d s) v.units w.units v.gives w.gives v.places w.places old mid new a
-    (subst (λ (ls : List ℕ). WalksWork ms (state_work d h xs ms ls s) (state_manners d s) mid new) (l ∙ ap (λ n. listed_behind d n [] ss) (sized xs)) b))
+    let counted = subst (λ n. WalksWork all (inside_work d h xs all s n f) (state_manners d s) mid far) (sized xs) v in
+    let held = subst (λ (x : Formula). WalksWork all (inside_work d h xs all s (length sig) x) (state_manners d s) mid far) (guard_is_state d sig (term_of d.known s.value)) counted in
+    let one = unit_then all (state_manners d s) (record { units = state_unit d sig listed s ∷ []; gives = []; places = [] }) (inside_work d h xs all s (length sig) (state_bit d xs s)) old mid far u held in
+    let after = listed_after d (length (signals_of xs)) listed s in
+    let rest = subst (λ (n : ℕ). WalksStates t m g (listed_after d n listed s) states far new) (sized xs) later in
+    let w = state_work d h xs all listed s in
+    let ws = states_work d h xs (all ++ state_manners d s) after states in
+    walks_then all (state_manners d s) (states_manners d states) w.units ws.units w.gives ws.gives w.places ws.places old far new one (rest h p q (all ++ state_manners d s) one.manners)

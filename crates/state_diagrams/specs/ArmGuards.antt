@@ -33,10 +33,13 @@ abbrev pub case_unit : Context → (guard : Formula) → Place → Choices → C
 case_unit d g p cs = record { place = p; refusals = choices_refused d cs; nodes = choices_nodes d g cs }
 
 -- what is left by making the guards behind conditions of which nothing is refused
+abbrev pub BuildsConditions : {R : Type 0} → Context → (guard : Formula) → Place → Choices → (old new : List Node)
+    → Result R SectionFault → Type 0
+BuildsConditions d g p cs old new r = BuildsNodes (part p (choices_nodes d g cs) ∷ []) old new r
+
 abbrev pub MakesGuards : {R : Type 0} → Table → Names → (guard : ExprId) → Place → Choices → (old new : List Node)
     → Result R SectionFault → Type 0
-MakesGuards t n g p cs old new r =
-    BuildsNodes (part p (choices_nodes (context_for t n) (formula_at (arena old) g) cs) ∷ []) old new r
+MakesGuards t n g p cs old new r = BuildsConditions (context_for t n) (formula_at (arena old) g) p cs old new r
 
 -- the guard of each, in an arena of these formulas
 abbrev pub AreGuardsOf : Context → List Formula → (guard : Formula) → Choices → List ExprId → Type 0

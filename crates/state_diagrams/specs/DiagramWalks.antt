@@ -1,5 +1,5 @@
 -- What a walk over a state diagram leaves (ABEL-HDL Reference Manual, state diagrams).
-use Rattle.std.specs.Prelude.{ℕ, List, [], ◌∷◌, length, map}
+use Rattle.std.specs.Prelude.{◌≡◌, ℕ, None, List, [], ◌∷◌, length, map}
 use Rattle.pld_base.specs.declared.place.Place.{Place}
 use Rattle.pld_device.specs.Table.{Table}
 use Rattle.bit_expr.specs.declared.node.ExprId.{ExprId}
@@ -27,13 +27,11 @@ use Rattle.section_targets.specs.Units.{CountedUnit}
 use Rattle.section_targets.specs.ValueWidths.{value_refused}
 use Rattle.section_targets.specs.Walking.{Walks}
 use Rattle.state_diagrams.specs.declared.machine.Machine.{Machine}
-use Rattle.state_diagrams.specs.declared.states.Valued.{Valued}
 use Rattle.state_diagrams.specs.ArmGuards.{case_unit}
 use Rattle.state_diagrams.specs.DiagramPlaces.{diagram_places}
 use Rattle.state_diagrams.specs.DiagramUnits.{branch_manners, branches_manners, choices_manners, diagram_manners, signals_of, state_guard, state_manners, states_manners, units_of_diagram}
-use Rattle.state_diagrams.specs.DiagramWorks.{branch_work, branches_work, choices_work, header_work, others_work, registers_work, state_work, states_work, within_work}
+use Rattle.state_diagrams.specs.DiagramWorks.{branch_work, branches_work, choices_work, header_work, others_work, states_work, within_work}
 use Rattle.state_diagrams.specs.Goals.{goal_unit}
-use Rattle.state_diagrams.specs.States.{IsState}
 use Rattle.state_diagrams.specs.StateValues.{state_refused}
 use Rattle.truth_tables.specs.Works.{Work}
 
@@ -44,6 +42,16 @@ context_of_machine t m = context_for t m.scope.now
 -- units with what they give, behind all that assigned signals before
 abbrev pub WalksWork : List Manner → Work → List Manner → (old new : Walked) → Type 0
 WalksWork all w ms old new = Walks all w.units w.gives w.places ms old new
+
+-- a guard stands for this one, where nothing is refused so far
+abbrev pub StandsFor : Guard → Walked → meant.Guard Formula → Type 0
+StandsFor g old h = old.fault ≡ None → view_guard (arena old.exprs) g ≡ h
+
+-- work under any guard that this one stands for, behind all that assigned signals before
+abbrev pub WalksUnder : Guard → (meant.Guard Formula → List Manner → Work) → List Manner → (old new : Walked) → Type 0
+WalksUnder g work ms old new =
+    (h : meant.Guard Formula) → StandsFor g old h
+    → (all : List Manner) → AreFirsts old.before all → WalksWork all (work h all) ms old new
 
 -- ---- transitions
 
@@ -64,29 +72,21 @@ WalksConditions t n g p cs old new =
 
 abbrev pub WalksBranch : {D : Type 0} → Table → Machine D → Guard → Branch → (old new : Walked) → Type 0
 WalksBranch t m g b old new =
-    (all : List Manner) → AreFirsts old.before all
-    → WalksWork all (branch_work (context_of_machine t m) (view_guard (arena old.exprs) g) m.registers.now all b)
+    WalksUnder g (λ h all. branch_work (context_of_machine t m) h m.registers.now all b)
     (branch_manners (context_of_machine t m) b) old new
 
 -- the arms of CASE without their conditions
 abbrev pub WalksChoices : {D : Type 0} → Table → Machine D → Guard → Choices → (old new : Walked) → Type 0
 WalksChoices t m g cs old new =
-    (all : List Manner) → AreFirsts old.before all
-    → WalksWork all (choices_work (context_of_machine t m) (view_guard (arena old.exprs) g) m.registers.now all cs)
+    WalksUnder g (λ h all. choices_work (context_of_machine t m) h m.registers.now all cs)
     (choices_manners (context_of_machine t m) cs) old new
 
 abbrev pub WalksBranches : {D : Type 0} → Table → Machine D → Guard → List Branch → (old new : Walked) → Type 0
 WalksBranches t m g bs old new =
-    (all : List Manner) → AreFirsts old.before all
-    → WalksWork all (branches_work (context_of_machine t m) (view_guard (arena old.exprs) g) m.registers.now all bs)
+    WalksUnder g (λ h all. branches_work (context_of_machine t m) h m.registers.now all bs)
     (branches_manners (context_of_machine t m) bs) old new
 
 -- ---- states
-
--- what was found is the value of the state behind those that are listed
-abbrev pub HasValue : {D : Type 0} → Table → Machine D → (listed : List ℕ) → Valued → Type 0
-HasValue t m listed v =
-    IsState (context_of_machine t m) (length m.registers.now) listed (view_state v.state.now) v.found
 
 -- a state's own unit
 abbrev pub state_unit : Context → List ℕ → (listed : List ℕ) → StateTree → CountedUnit
@@ -101,21 +101,19 @@ WalksUnit t m listed s old new =
 -- what stands in a state, under its guard
 abbrev pub WalksWithin : {D : Type 0} → Table → Machine D → Guard → StateTree → (old new : Walked) → Type 0
 WalksWithin t m g s old new =
-    (all : List Manner) → AreFirsts old.before all
-    → WalksWork all (within_work (context_of_machine t m) (view_guard (arena old.exprs) g) m.registers.now all s)
+    WalksUnder g (λ h all. within_work (context_of_machine t m) h m.registers.now all s)
     (state_manners (context_of_machine t m) s) old new
 
--- a state behind those that are listed
-abbrev pub WalksState : {D : Type 0} → Table → Machine D → Guard → (listed : List ℕ) → StateTree → (old new : Walked) → Type 0
-WalksState t m g listed s old new =
-    (all : List Manner) → AreFirsts old.before all
-    → WalksWork all (state_work (context_of_machine t m) (view_guard (arena old.exprs) g) m.registers.now all listed s)
-    (state_manners (context_of_machine t m) s) old new
+-- work under any guard with the block of this one
+abbrev pub WalksBlock : Guard → (meant.Guard Formula → List Manner → Work) → List Manner → (old new : Walked) → Type 0
+WalksBlock g work ms old new =
+    (h : meant.Guard Formula) → h.dontcare ≡ g.dontcare → h.block ≡ g.block
+    → (all : List Manner) → AreFirsts old.before all → WalksWork all (work h all) ms old new
 
-abbrev pub WalksStates : {D : Type 0} → Table → Machine D → Guard → List StateTree → (old new : Walked) → Type 0
-WalksStates t m g states old new =
-    (all : List Manner) → AreFirsts old.before all
-    → WalksWork all (states_work (context_of_machine t m) (view_guard (arena old.exprs) g) m.registers.now all [] states)
+-- states behind those that are listed
+abbrev pub WalksStates : {D : Type 0} → Table → Machine D → Guard → (listed : List ℕ) → List StateTree → (old new : Walked) → Type 0
+WalksStates t m g listed states old new =
+    WalksBlock g (λ h all. states_work (context_of_machine t m) h m.registers.now all listed states)
     (states_manners (context_of_machine t m) states) old new
 
 -- ---- diagrams
@@ -129,15 +127,7 @@ WalksHeader t m g old new =
 -- states with the matches of signals that are no registers
 abbrev pub WalksOthers : {D : Type 0} → Table → Machine D → Guard → List StateTree → (old new : Walked) → Type 0
 WalksOthers t m g states old new =
-    (all : List Manner) → AreFirsts old.before all
-    → WalksWork all (others_work (context_of_machine t m) (view_guard (arena old.exprs) g) m.registers.now all states)
-    (states_manners (context_of_machine t m) states) old new
-
--- a diagram of registers that aren't refused
-abbrev pub WalksRegisters : {D : Type 0} → Table → Machine D → Guard → List StateTree → (old new : Walked) → Type 0
-WalksRegisters t m g states old new =
-    (all : List Manner) → AreFirsts old.before all
-    → WalksWork all (registers_work (context_of_machine t m) (view_guard (arena old.exprs) g) m.registers.now all states)
+    WalksBlock g (λ h all. others_work (context_of_machine t m) h m.registers.now all states)
     (states_manners (context_of_machine t m) states) old new
 
 -- the units of a diagram behind what was assigned before

@@ -1,5 +1,5 @@
 -- Private: the literals of registers, one after another (ABEL-HDL Reference Manual, state diagrams).
-use Rattle.std.specs.Prelude.{◌≡◌, ℕ, Bool, None, List, [], ◌∷◌, Result, Ok, IfOk}
+use Rattle.std.specs.Prelude.{ℕ, Bool, None, List, [], ◌∷◌, Result, IfOk}
 use Rattle.pld_base.specs.declared.place.Place.{Place}
 use Rattle.bit_expr.specs.declared.node.ExprId.{ExprId}
 use Rattle.bit_expr.specs.declared.node.Node.{Node}
@@ -31,10 +31,3 @@ register_literal d found s b = bare_read d s >>= λ f. make_literal found b f
 -- the literals of several
 abbrev pub literals : Context → (found : Formula) → (registers : List Aim) → (digits : List Bool) → Made Formula
 literals d found xs bs = register_literals d found (signals_of xs) bs
-
--- all literals but those of these registers and digits are joined
-pub record IsJoined (d : Context) (old now : List Node) (unit : Place) (found : ExprId) (all : Made Formula)
-    (registers : List Aim) (digits : List Bool) : Type 0 where
-  pub made : Made Formula
-  pub bit : MakesBit unit made old now (Ok found)
-  pub whole : all ≡ (made >>= λ f. literals d f registers digits)

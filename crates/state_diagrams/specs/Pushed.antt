@@ -2,7 +2,7 @@
 use Rattle.std.specs.Prelude.{◌≡◌, ℕ, ◌==◌, Bool, true, false, not, ◌&&◌, None, List, [], ◌∷◌, ◌++◌, map, Result, Ok, Err}
 use Rattle.std.specs.List.{list_any}
 use Rattle.bit_expr.specs.declared.node.ExprId.{ExprId}
-use Rattle.abel_meaning.specs.Targets.{is_data}
+use Rattle.abel_tree.specs.Extensions.{is_data}
 use Rattle.set_expr.specs.declared.contributions.Contribution.{Contribution}
 use Rattle.set_expr.specs.declared.contributions.Gives.TheVariants as gives
 use Rattle.set_expr.specs.declared.fault.SectionFault.{SectionFault}

@@ -12,7 +12,7 @@ use Rattle.set_expr.specs.declared.fault.SectionFault.{SectionFault}
 use Rattle.set_expr.specs.FoundNames.{expression_found}
 use Rattle.set_expr.specs.SectionOrder.{section_order}
 use Rattle.expr_bits.specs.Reads.{reads_signal}
-use Rattle.state_diagrams.specs.StateValues.{listed_after, state_number, state_refused}
+use Rattle.state_diagrams.specs.StateValues.{state_number, state_refused}
 use Rattle.state_diagrams.specs.declared.values.StateFound.{StateFound}
 
 -- the refusal of a state's value among n registers, behind those that are listed, and where it isn't refused its number
@@ -30,8 +30,3 @@ pub record IsStill (n : Names) (s : State) : Type 0 where
 abbrev pub listed_if : Option SectionFault → (listed : List ℕ) → ℕ → List ℕ
 listed_if None listed m = listed ++ m ∷ []
 listed_if (Some f) listed m = listed
-
--- the states that are listed behind these
-abbrev pub listed_behind : Context → (n : ℕ) → (listed : List ℕ) → List StateTree → List ℕ
-listed_behind d n listed [] = listed
-listed_behind d n listed (s ∷ states) = listed_behind d n (listed_after d n listed s) states

@@ -9,13 +9,13 @@ ghost use Rattle.state_diagrams.specs.Arms.{case_choices, case_place, view_choic
 ghost use Rattle.state_diagrams.specs.ArmGuards.{AreGuardsOf, AreClear, MakesGuards, RefusesConditions};
 ghost use Rattle.state_diagrams.specs.DiagramWalks.{WalksConditions};
 
-use abel_tree::{Case, CaseArm};
+use abel_tree::{Case, CaseArm, earlier};
 use bit_expr::{ExprId, Exprs};
 use equations::{Condition, check_condition, then_guard};
 use pld_base::OutOfMemory;
 use pld_device::Device;
 use section_targets::{SectionScope, Walked};
-use set_expr::{Guard, Scope, SectionFault, earlier};
+use set_expr::{Guard, Scope, SectionFault};
 use std::alloc::Global;
 
 /// The first refusal of the conditions of CASE, each at its colon.

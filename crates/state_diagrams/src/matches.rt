@@ -1,7 +1,6 @@
 //! Matches beside contributions.
 
 ghost use Rattle.std.specs.Prelude.{◌≡◌, ◌≤◌, true, OnOk, length};
-ghost use Rattle.abel_meaning.specs.Targets.{is_data};
 ghost use Rattle.state_diagrams.specs.DiagramUnits.{signals_of};
 ghost use Rattle.state_diagrams.specs.Matches.{GivesMatches};
 ghost use Rattle.state_diagrams.specs.Pushed.{is_among, is_first, pushed_beside, pushed_if, seen_if, Pushes};
@@ -11,13 +10,6 @@ use bit_expr::ExprId;
 use section_targets::Aim;
 use set_expr::{Contribution, Gives, SectionFault, Target};
 use std::alloc::Global;
-
-/// Whether a target with this extension is data: the name itself, or the raw input of its register.
-fn is_data(extension: Option<Extension>) -> bool
-    ensures { result ≡ is_data extension }
-{
-    matches!(extension, None | Some(Extension::D))
-}
 
 /// Whether the signal is a register.
 fn is_register(registers: &[Aim], signal: u32) -> bool
@@ -40,7 +32,7 @@ fn is_seen(seen: &[u32], signal: u32) -> bool
 fn is_first(registers: &[Aim], seen: &[u32], given: Contribution) -> bool
     ensures { result ≡ is_first (signals_of registers.now) seen.now given }
 {
-    is_data(given.target.extension)
+    Extension::is_data(given.target.extension)
         && !is_register(registers, given.target.signal)
         && !is_seen(seen, given.target.signal)
 }

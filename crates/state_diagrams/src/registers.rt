@@ -37,7 +37,6 @@ pub(crate) fn check_registers<D: Device>(
             let mixed = check_aims::<D>(scope.scope(), way, side.aims.as_slice(), before)?;
             Ok(Side {
                 aims: side.aims,
-                width: side.width,
                 fault: mixed,
             })
         }

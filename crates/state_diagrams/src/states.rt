@@ -1,13 +1,13 @@
 //! The walk over the states of a diagram, each under its guard.
 
-ghost use Rattle.std.specs.Prelude.{◌≡◌, ◌<◌, ◌≤◌, List, ℕ, None, length, map, IfOk, OnOk};
+ghost use Rattle.std.specs.Prelude.{◌≡◌, ◌<◌, ◌≤◌, List, [], ℕ, None, length, map, IfOk, OnOk};
 ghost use Rattle.bit_expr.specs.Arena.{arena};
 ghost use Rattle.abel_tree.specs.Entries.{entries_of};
 ghost use Rattle.abel_tree.specs.View.{view_state};
 ghost use Rattle.section_targets.specs.Building.{AreBits, IsBit};
 ghost use Rattle.set_expr.specs.Contexts.{context_for};
 ghost use Rattle.section_targets.specs.Given.{AreNamed};
-ghost use Rattle.state_diagrams.specs.DiagramWalks.{HasValue, WalksState, WalksStates, WalksUnit, WalksWithin};
+ghost use Rattle.state_diagrams.specs.DiagramWalks.{WalksStates, WalksUnit, WalksWithin};
 ghost use Rattle.state_diagrams.specs.DiagramWorks.{state_bit, state_bits};
 ghost use Rattle.state_diagrams.specs.States.{IsState, listed_if};
 ghost use Rattle.state_diagrams.specs.StateValues.{listed_after};
@@ -24,13 +24,6 @@ use pld_device::Device;
 use section_targets::Walked;
 use set_expr::Guard;
 use std::alloc::Global;
-
-/// A state with what is found of its value.
-#[derive(Drop)]
-pub(crate) struct Valued<'a> {
-    pub state: &'a State,
-    pub found: StateFound,
-}
 
 /// A state that isn't refused is listed.
 fn list_state(listed: &mut Vec<u32>, found: StateFound) -> Result<(), OutOfMemory>
@@ -66,19 +59,18 @@ fn read_state<D: Device>(
 fn walk_unit<D: Device>(
     alloc: Global,
     machine: &Machine<'_, D>,
-    valued: &Valued<'_>,
+    state: &State,
+    found: StateFound,
     out: &mut Walked,
 ) -> Result<ExprId, OutOfMemory>
-    ensures walks { IfOk result (λ id. (listed : List ℕ) → HasValue D.table machine.now listed valued.now → WalksUnit D.table machine.now listed (view_state valued.now.state.now) out.old out.new) }
+    ensures walks { IfOk result (λ id. (listed : List ℕ) → IsState (context_for D.table machine.now.scope.now) (length machine.now.registers.now) listed (view_state state.now) found → WalksUnit D.table machine.now listed (view_state state.now) out.old out.new) }
     ensures inside { IfOk result (λ id. id.0 < length (arena out.new.exprs)) }
-    ensures bit { IfOk result (λ id. (listed : List ℕ) → HasValue D.table machine.now listed valued.now → out.new.fault ≡ None → IsBit (arena out.new.exprs) id (state_bit (context_for D.table machine.now.scope.now) machine.now.registers.now (view_state valued.now.state.now))) }
+    ensures bit { IfOk result (λ id. (listed : List ℕ) → IsState (context_for D.table machine.now.scope.now) (length machine.now.registers.now) listed (view_state state.now) found → out.new.fault ≡ None → IsBit (arena out.new.exprs) id (state_bit (context_for D.table machine.now.scope.now) machine.now.registers.now (view_state state.now))) }
 {
-    if out.refuse(valued.found.fault) {
+    if out.refuse(found.fault) {
         return Ok(ExprId(1));
     }
-    let number = valued.found.number;
-    let unit = valued.state.place;
-    match state_guard::<D>(alloc, machine, number, unit, &mut out.exprs) {
+    match state_guard::<D>(alloc, machine, found.number, state.place, &mut out.exprs) {
         Ok(bit) => Ok(bit),
         Err(fault) => {
             out.keep_limit(Err(fault))?;
@@ -104,25 +96,7 @@ fn walk_within<D: Device>(
     walk_arms::<D>(alloc, machine, guard, state.transitions.as_slice(), out)
 }
 
-/// A state: its unit, and what stands in it; its bit.
-fn walk_state<D: Device>(
-    alloc: Global,
-    machine: &Machine<'_, D>,
-    guard: Guard,
-    valued: &Valued<'_>,
-    out: &mut Walked,
-) -> Result<ExprId, OutOfMemory>
-    requires signals { AreNamed (length (entries_of machine.now.scope.now)) machine.now.registers.now }
-    ensures walks { IfOk result (λ id. (listed : List ℕ) → HasValue D.table machine.now listed valued.now → WalksState D.table machine.now guard listed (view_state valued.now.state.now) out.old out.new) }
-    ensures bit { IfOk result (λ id. (listed : List ℕ) → HasValue D.table machine.now listed valued.now → out.new.fault ≡ None → IsBit (arena out.new.exprs) id (state_bit (context_for D.table machine.now.scope.now) machine.now.registers.now (view_state valued.now.state.now))) }
-{
-    let when = walk_unit::<D>(alloc, machine, valued, out)?;
-    let inside = Guard { when, ..guard };
-    walk_within::<D>(alloc, machine, inside, valued.state, out)?;
-    Ok(when)
-}
-
-/// The states one after another: their bits.
+/// The states one after another, each as its unit and what stands in it: their bits.
 pub(crate) fn walk_states<D: Device>(
     alloc: Global,
     machine: &Machine<'_, D>,
@@ -132,16 +106,16 @@ pub(crate) fn walk_states<D: Device>(
 ) -> Result<Vec<ExprId>, OutOfMemory>
     requires signals { AreNamed (length (entries_of machine.now.scope.now)) machine.now.registers.now }
     requires few { length machine.now.registers.now ≤ 32 }
-    ensures walks { IfOk result (λ ids. WalksStates D.table machine.now guard (map view_state states.now) out.old out.new) }
+    ensures walks { IfOk result (λ ids. WalksStates D.table machine.now guard [] (map view_state states.now) out.old out.new) }
     ensures bits { IfOk result (λ ids. out.new.fault ≡ None → AreBits (arena out.new.exprs) ids.items (state_bits (context_for D.table machine.now.scope.now) machine.now.registers.now (map view_state states.now))) }
 {
     let mut listed = Vec::new(alloc);
     let mut bits = Vec::new(alloc);
     for state in states {
         let found = read_state::<D>(alloc, machine, &mut listed, state)?;
-        let valued = Valued { state, found };
-        let bit = walk_state::<D>(alloc, machine, guard, &valued, out)?;
-        bits.push(bit)?;
+        let when = walk_unit::<D>(alloc, machine, state, found, out)?;
+        walk_within::<D>(alloc, machine, Guard { when, ..guard }, state, out)?;
+        bits.push(when)?;
     }
     Ok(bits)
 }

@@ -1,6 +1,6 @@
 //! The values of states.
 
-ghost use Rattle.std.specs.Prelude.{◌≡◌, ◌==◌, ◌≤◌, ◌^◌, ◌||◌, ℕ, nat_lt, Some, IfOk};
+ghost use Rattle.std.specs.Prelude.{◌≡◌, ◌==◌, ◌≤◌, ◌^◌, ℕ, nat_lt, Some, IfOk};
 ghost use Rattle.std.specs.List.{list_any};
 ghost use Rattle.abel_tree.specs.View.{view_state};
 ghost use Rattle.set_expr.specs.Contexts.{context_for};
@@ -29,22 +29,11 @@ fn fits(number: u32, width: usize) -> bool
     (number as u64) < 1u64 << width
 }
 
-/// One of two facts holds.
-fn either(first: bool, second: bool) -> bool
-    ensures { result ≡ (first || second) }
-{
-    first || second
-}
-
 /// A number is one of these.
 fn is_listed(listed: &[u32], number: u32) -> bool
     ensures { result ≡ list_any (λ (m : ℕ). m == number) listed.now }
 {
-    let mut found = false;
-    for index in 0..listed.len() {
-        found = either(found, listed[index] == number);
-    }
-    found
+    listed.iter().any(|other| *other == number)
 }
 
 /// What is found of a refused value.

@@ -4,7 +4,7 @@ ghost use Rattle.std.specs.Prelude.{◌≡◌, ◌≤◌, Some, IfOk, OnOk, leng
 ghost use Rattle.abel_tree.specs.Entries.{entries_of};
 ghost use Rattle.abel_tree.specs.View.{view_state};
 ghost use Rattle.section_targets.specs.Given.{AreNamed};
-ghost use Rattle.state_diagrams.specs.DiagramWalks.{WalksDiagram, WalksHeader, WalksOthers, WalksRegisters};
+ghost use Rattle.state_diagrams.specs.DiagramWalks.{WalksDiagram, WalksHeader, WalksOthers};
 
 use crate::machine::Machine;
 use crate::matches::give_matches;
@@ -71,22 +71,6 @@ fn walk_others<D: Device>(
     out.keep_limit(made)
 }
 
-/// A diagram whose registers aren't refused.
-fn walk_registers<D: Device>(
-    alloc: Global,
-    machine: &Machine<'_, D>,
-    guard: Guard,
-    diagram: &Diagram,
-    out: &mut Walked,
-) -> Result<(), OutOfMemory>
-    requires signals { AreNamed (length (entries_of machine.now.scope.now)) machine.now.registers.now }
-    requires few { length machine.now.registers.now ≤ 32 }
-    ensures { OnOk result (WalksRegisters D.table machine.now guard (map view_state diagram.now.states) out.old out.new) }
-{
-    walk_header::<D>(alloc, machine, guard, diagram.place, out)?;
-    walk_others::<D>(alloc, machine, guard, diagram.states.as_slice(), out)
-}
-
 /// A state diagram behind what was walked before: its registers, which are the one unit where they are refused, and its
 /// states. Of the guard count its block and whether that is don't-care. Calls go as deep as the nestings of transitions,
 /// statements, sets and parentheses.
@@ -112,7 +96,8 @@ pub fn walk_diagram<D: Device>(
                 scope,
                 registers: side.aims.as_slice(),
             };
-            walk_registers::<D>(alloc, &machine, guard, diagram, out)
+            walk_header::<D>(alloc, &machine, guard, diagram.place, out)?;
+            walk_others::<D>(alloc, &machine, guard, diagram.states.as_slice(), out)
         }
     }
 }

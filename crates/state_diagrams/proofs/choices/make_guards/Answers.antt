@@ -1,6 +1,6 @@
 -- One guard more, and all guards.
 use Rattle.std.proofs.Common.{◌≡◌, ◌+◌, ◌++◌, List, [], ◌∷◌, Ok, Err, map, take, drop, refl, sym, ap, ◌∙◌, subst, arith}
-use Rattle.std.proofs.lemmas.List.{map-append, take-append-drop}
+use Rattle.std.proofs.lemmas.List.{drop_all}
 use Rattle.std.proofs.lemmas.Result.{err_from_is_err_and}
 use Rattle.std.proofs.Math.Seq.{take-length}
 use Rattle.bit_expr.specs.Arena.{arena, formula_at}
@@ -8,29 +8,27 @@ use Rattle.bit_expr.specs.declared.node.ExprId.{ExprId}
 use Rattle.abel_tree.specs.declared.diagrams.CaseArm.{CaseArm}
 use Rattle.abel_tree.specs.Tree.{choices_of}
 use Rattle.abel_tree.specs.View.{view, view_choice}
-use Rattle.abel_meaning.specs.CountedBlocks.{choices_nodes}
 use Rattle.abel_meaning.specs.CountedNodes.{condition_of, guard_then}
 use Rattle.set_expr.proofs.FoundMembers.{front_more}
-use Rattle.section_targets.specs.Building.{IsBit, StopsWith}
+use Rattle.section_targets.specs.Building.{NoMemory, IsBit}
 use Rattle.set_expr.specs.Contexts.{context_for}
-use Rattle.section_targets.specs.Units.{part}
 use Rattle.section_targets.proofs.Built.{kept_formula, kept_inside, keeps_on}
 use Rattle.section_targets.proofs.Parts.{leaves_nodes}
 use Rattle.equations.proofs.BuiltUnits.{at}
-use Rattle.equations.specs.declared.choices.Chosen.{Chosen}
 use Rattle.state_diagrams.proofs.ArmLaws.{Choice}
 use Rattle.state_diagrams.proofs.ArmViews.{choice_parts}
-use Rattle.state_diagrams.specs.ArmGuards.{AreGuardsOf, MakesGuards}
+use Rattle.state_diagrams.specs.ArmGuards.{AreGuardsOf, BuildsConditions}
 use Rattle.state_diagrams.specs.Arms.{case_place, view_choices}
 use Rattle.state_diagrams.specs.DiagramUnits.{choices_refused}
-use Rattle.state_diagrams.proofs.GuardLaws.{arm_clear, condition_there, conditions_next, conditions_stop, guards_kept, guards_more, no_nodes}
+use Rattle.state_diagrams.proofs.GuardLaws.{arm_clear, conditions_stop, conditions_then, guards_kept, guards_more, no_nodes}
+use Rattle.state_diagrams.proofs.WalkedBranches.{rest_at}
 use Rattle.state_diagrams.proofs.choices.make_guards.Goals as goal
 
 pub loop-arm-init : goal.loop-arm-init
 loop-arm-init g c =
     record {
       keeps = λ i f e. e;
-      built = λ list. no_nodes (case_place c.args.case.now) (at c.args.exprs.now list);
+      built = λ later r k. k;
       guards = subst (λ (ids : List ExprId). AreGuardsOf (context_for g.D.Device.table c.args.scope.now) (arena c.args.exprs.now) (formula_at (arena c.args.exprs.now) c.args.guard) (choices_of []) ids) (sym c.new-guards.ensures.items) tt;
     }
 
@@ -62,9 +60,10 @@ loop-arm-preserved g c =
     let here : ds ≡ cs ++ y ∷ [] = front_more view_choice arms i x c.loop-arm-test.true c.arm-item.is in
     record {
       keeps = keeps_on _ _ _ v.keeps c.in_ok-chosen.ensures.keeps;
-      built = λ list.
-          let told = condition_there {R = Chosen} d (case_place c.args.case.now) x (formula_at hs c.args.guard) (at c.loop-arm.exprs list) (at c.then_guard.new.exprs list) (Ok c.in_ok-chosen.chosen) (c.in_ok-chosen.ensures.builds list) in
-          conditions_next d gf (formula_at hs c.args.guard) (case_place c.args.case.now) cs ds y (at c.args.exprs.now list) (at c.loop-arm.exprs list) (at c.then_guard.new.exprs list) (Ok c.in_ok-chosen.chosen) here same (v.built list) told;
+      built = λ later r k.
+          v.built later r
+          (subst (λ (zs : List Choice). BuildsConditions d gf (case_place c.args.case.now) (choices_of zs) c.loop-arm.exprs later r) (sym (rest_at view_choice arms i x c.loop-arm-test.true c.arm-item.is))
+          (λ list. conditions_then d gf (formula_at hs c.args.guard) (case_place c.args.case.now) x (map view_choice (drop (i + 1) arms)) (at c.loop-arm.exprs list) (at c.then_guard.new.exprs list) (at later list) r same (c.in_ok-chosen.ensures.builds list) (k list)));
       guards =
           subst (λ zs. AreGuardsOf d ns gf (choices_of zs) c.push.new.self.items) (sym here)
           (subst (λ (ids : List ExprId). AreGuardsOf d ns gf (choices_of (cs ++ y ∷ [])) ids) (sym c.in_ok-push.ensures.items)
@@ -77,38 +76,37 @@ pub returns-in_err-chosen-clause-keeps : goal.returns-in_err-chosen-clause-keeps
 returns-in_err-chosen-clause-keeps g c = keeps_on _ _ _ c.loop-arm.invariant.keeps c.in_err-chosen.ensures.keeps
 
 pub returns-in_err-chosen-clause-builds : goal.returns-in_err-chosen-clause-builds
-returns-in_err-chosen-clause-builds g c = λ list.
+returns-in_err-chosen-clause-builds g c =
     let p = err_from_is_err_and c.from_residual.result c.from_residual.ensures.1 in
     let d = context_for g.D.Device.table c.args.scope.now in
     let arms = c.as_slice-arm-items.result.now in
     let i = c.loop-arm.arm-index in
     let x = c.arm-item.result in
     let v = c.loop-arm.invariant in
-    let cs = map view_choice (take i arms) in
-    let ds = map view_choice (take (i + 1) arms) in
-    let y = view_choice x in
     let fs = arena c.args.exprs.now in
     let hs = arena c.loop-arm.exprs in
     let gf = formula_at fs c.args.guard in
     let f = c.in_err-chosen.field-0.0 in
-    let old = at c.args.exprs.now list in
-    let new = at c.then_guard.new.exprs list in
+    let new = c.then_guard.new.exprs in
     let same : formula_at hs c.args.guard ≡ gf = kept_formula fs hs c.args.guard v.keeps c.requires.guard in
-    let here : ds ≡ cs ++ y ∷ [] = front_more view_choice arms i x c.loop-arm-test.true c.arm-item.is in
-    let all_of : map view_choice arms ≡ ds ++ map view_choice (drop (i + 1) arms) = ap (map view_choice) (sym (take-append-drop (i + 1) arms)) ∙ map-append view_choice (take (i + 1) arms) (drop (i + 1) arms) in
     rw (p.1, p.2)
-    (subst (λ (xs : List CaseArm). StopsWith (part (case_place c.args.case.now) (choices_nodes d gf (view_choices xs)) ∷ []) [] [] old new f) c.as_slice-arm-items.ensures
-    (conditions_stop d gf (case_place c.args.case.now) ds (map view_choice (drop (i + 1) arms)) (map view_choice arms) old new f all_of
-    (conditions_next {R = Unit} d gf (formula_at hs c.args.guard) (case_place c.args.case.now) cs ds y old (at c.loop-arm.exprs list) new (Err f) here same (v.built list)
-    (condition_there {R = Unit} d (case_place c.args.case.now) x (formula_at hs c.args.guard) (at c.loop-arm.exprs list) new (Err f) (c.in_err-chosen.ensures.builds list)))))
+    (subst (λ (xs : List CaseArm). BuildsConditions {R = Unit} d gf (case_place c.args.case.now) (view_choices xs) c.args.exprs.now new (Err f)) c.as_slice-arm-items.ensures
+    (v.built new (Err f)
+    (subst (λ (zs : List Choice). BuildsConditions {R = Unit} d gf (case_place c.args.case.now) (choices_of zs) c.loop-arm.exprs new (Err f)) (sym (rest_at view_choice arms i x c.loop-arm-test.true c.arm-item.is))
+    (λ list. conditions_stop d gf (formula_at hs c.args.guard) (case_place c.args.case.now) x (map view_choice (drop (i + 1) arms)) (at c.loop-arm.exprs list) (at new list) f same (c.in_err-chosen.ensures.builds list)))))
 
 pub returns-clause-keeps : goal.returns-clause-keeps
 returns-clause-keeps g c = c.loop-arm.invariant.keeps
 
 pub returns-clause-builds : goal.returns-clause-builds
 returns-clause-builds g c =
-    subst (λ (xs : List CaseArm). MakesGuards g.D.Device.table c.args.scope.now c.args.guard (case_place c.args.case.now) (view_choices xs) c.args.exprs.now c.loop-arm.exprs (Ok c.loop-arm.guards))
-    (ap (λ n. take n c.as_slice-arm-items.result.now) (omega (arith, c.loop-arm-test.false, c.loop-arm.auto.arm-index-end)) ∙ take-length c.as_slice-arm-items.result.now ∙ c.as_slice-arm-items.ensures) c.loop-arm.invariant.built
+    let d = context_for g.D.Device.table c.args.scope.now in
+    let gf = formula_at (arena c.args.exprs.now) c.args.guard in
+    let arms = c.as_slice-arm-items.result.now in
+    subst (λ (xs : List CaseArm). BuildsConditions {R = Unit} d gf (case_place c.args.case.now) (view_choices xs) c.args.exprs.now c.loop-arm.exprs (Ok tt)) c.as_slice-arm-items.ensures
+    (c.loop-arm.invariant.built c.loop-arm.exprs (Ok tt)
+    (subst (λ (xs : List CaseArm). BuildsConditions {R = Unit} d gf (case_place c.args.case.now) (view_choices xs) c.loop-arm.exprs c.loop-arm.exprs (Ok tt)) (sym (drop_all c.loop-arm.arm-index arms (omega (arith, c.loop-arm-test.false))))
+    (λ list. no_nodes (case_place c.args.case.now) (at c.loop-arm.exprs list))))
 
 pub returns-clause-guards : goal.returns-clause-guards
 returns-clause-guards g c =
@@ -118,4 +116,4 @@ returns-clause-guards g c =
 pub returns-in_err-push-clause-builds : goal.returns-in_err-push-clause-builds
 returns-in_err-push-clause-builds g c = λ list.
     let p = err_from_is_err_and c.from_residual-in_err-push.result c.from_residual-in_err-push.ensures.1 in
-    rw (p.1, p.2) (tt, leaves_nodes c.args.exprs.now c.then_guard.new.exprs list (keeps_on _ _ _ c.loop-arm.invariant.keeps c.in_ok-chosen.ensures.keeps))
+    rw (p.1, p.2) (NoMemory refl, leaves_nodes c.args.exprs.now c.then_guard.new.exprs list (keeps_on _ _ _ c.loop-arm.invariant.keeps c.in_ok-chosen.ensures.keeps))

@@ -1,21 +1,21 @@
--- So many guards are made.
-use Rattle.std.proofs.Common.{List, [], ◌∷◌, take}
+-- What the other arms' conditions build, all build; and the guards so far.
+use Rattle.std.proofs.Common.{List, Result, drop, take}
+use Rattle.bit_expr.specs.declared.node.Node.{Node}
 use Rattle.bit_expr.specs.Arena.{arena, formula_at}
-use Rattle.abel_meaning.specs.CountedBlocks.{choices_nodes}
-use Rattle.set_expr.specs.declared.contributions.Contribution.{Contribution}
+use Rattle.set_expr.specs.declared.fault.SectionFault.{SectionFault}
 use Rattle.set_expr.specs.Answer.{Keeps}
-use Rattle.section_targets.specs.Building.{IsBuilt}
 use Rattle.set_expr.specs.Contexts.{context_for}
-use Rattle.section_targets.specs.Units.{part}
-use Rattle.state_diagrams.specs.ArmGuards.{AreGuardsOf}
+use Rattle.state_diagrams.specs.ArmGuards.{AreGuardsOf, BuildsConditions}
 use Rattle.state_diagrams.specs.Arms.{case_place, view_choices}
 use Rattle.state_diagrams.proofs.choices.make_guards.Given as goal
 
 abbrev pub invariant-loop-arm : goal.invariant-loop-arm
 invariant-loop-arm g l =
+    let d = context_for g.D.Device.table l.scope in
+    let f = formula_at (arena l.fn.exprs) l.guard in
     record {
       keeps : Keeps (arena l.fn.exprs) (arena l.exprs);
-      built : (list : List Contribution)
-          → IsBuilt (part (case_place l.case) (choices_nodes (context_for g.D.Device.table l.scope) (formula_at (arena l.fn.exprs) l.guard) (view_choices (take l.arm-index l.arm-items))) ∷ []) [] [] (record { exprs = l.fn.exprs; list = list }) (record { exprs = l.exprs; list = list });
-      guards : AreGuardsOf (context_for g.D.Device.table l.scope) (arena l.exprs) (formula_at (arena l.fn.exprs) l.guard) (view_choices (take l.arm-index l.arm-items)) l.guards.items;
+      built : (later : List Node) (r : Result Unit SectionFault) → BuildsConditions d f (case_place l.case) (view_choices (drop l.arm-index l.arm-items)) l.exprs later r
+          → BuildsConditions d f (case_place l.case) (view_choices l.arm-items) l.fn.exprs later r;
+      guards : AreGuardsOf d (arena l.exprs) f (view_choices (take l.arm-index l.arm-items)) l.guards.items;
     }

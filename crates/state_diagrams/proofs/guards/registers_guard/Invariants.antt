@@ -1,11 +1,20 @@
--- The literals of so many registers are joined.
-use Rattle.std.proofs.Common.{true, drop}
+-- What the other registers' literals make behind the bit so far, all make.
+use Rattle.std.proofs.Common.{◌<◌, true, List, Result, drop, length}
+use Rattle.bit_expr.specs.declared.node.ExprId.{ExprId}
+use Rattle.bit_expr.specs.declared.node.Node.{Node}
+use Rattle.bit_expr.specs.Arena.{arena, formula_at}
 use Rattle.bit_expr.specs.Formulas.{Const}
+use Rattle.set_expr.specs.declared.fault.SectionFault.{SectionFault}
 use Rattle.set_expr.specs.Contexts.{context_for}
-use Rattle.state_diagrams.specs.Literals.{literals, IsJoined}
+use Rattle.state_diagrams.specs.Literals.{MakesBit, literals}
 use Rattle.state_diagrams.proofs.guards.registers_guard.Given as goal
 
 abbrev pub invariant-loop-index : goal.invariant-loop-index
 invariant-loop-index g l =
-    IsJoined (context_for g.D.Device.table l.machine.scope.now) l.fn.exprs l.exprs l.unit l.found (literals (context_for g.D.Device.table l.machine.scope.now) (Const true) l.machine.registers.now l.digits)
-    (drop l.index l.machine.registers.now) (drop l.index l.digits)
+    let d = context_for g.D.Device.table l.machine.scope.now in
+    let xs = l.machine.registers.now in
+    record {
+      found : l.found.0 < length (arena l.exprs);
+      makes : (later : List Node) (r : Result ExprId SectionFault) → MakesBit l.unit (literals d (formula_at (arena l.exprs) l.found) (drop l.index xs) (drop l.index l.digits)) l.exprs later r
+          → MakesBit l.unit (literals d (Const true) xs l.digits) l.fn.exprs later r;
+    }

@@ -1,32 +1,36 @@
 -- One state more, and all of them.
-use Rattle.std.proofs.Common.{◌≡◌, ℕ, ◌+◌, ◌++◌, None, List, [], ◌∷◌, length, map, take, refl, sym, ap, ◌∙◌, subst, arith}
+use Rattle.std.proofs.Common.{◌≡◌, ℕ, ◌+◌, None, List, [], drop, map, take, refl, sym, ap, ◌∙◌, subst, arith}
+use Rattle.std.proofs.lemmas.List.{drop_all}
 use Rattle.std.proofs.Math.Seq.{take-length}
 use Rattle.bit_expr.specs.declared.node.ExprId.{ExprId}
 use Rattle.bit_expr.specs.Arena.{arena}
 use Rattle.abel_tree.specs.declared.diagrams.State.{State}
+use Rattle.abel_tree.specs.Tree.{StateTree}
 use Rattle.abel_tree.specs.View.{view_state}
-use Rattle.set_expr.specs.Given.{view_guard}
+use Rattle.set_expr.specs.Contexts.{context_for}
+use Rattle.set_expr.specs.declared.contributions.Guard.{Guard}
 use Rattle.set_expr.proofs.FoundMembers.{front_more}
 use Rattle.section_targets.specs.Building.{AreBits}
-use Rattle.set_expr.specs.Contexts.{context_for}
-use Rattle.section_targets.proofs.WalksBehind.{clear_before, walks_none}
-use Rattle.state_diagrams.specs.DiagramUnits.{states_manners}
+use Rattle.section_targets.proofs.WalksBehind.{walks_none}
+use Rattle.equations.proofs.BuiltParts.{kept_bit}
 use Rattle.state_diagrams.specs.DiagramWalks.{WalksStates}
-use Rattle.state_diagrams.specs.DiagramWorks.{state_bits}
-use Rattle.state_diagrams.specs.States.{listed_behind}
-use Rattle.state_diagrams.specs.StateValues.{listed_after}
-use Rattle.state_diagrams.proofs.StateBits.{states_more}
-use Rattle.state_diagrams.proofs.StateLaws.{listed_more}
-use Rattle.state_diagrams.proofs.WalkedStates.{states_walked}
+use Rattle.state_diagrams.specs.DiagramWorks.{state_bit, state_bits}
+use Rattle.state_diagrams.proofs.AnyGuards.{walked_clear}
+use Rattle.state_diagrams.proofs.StateBits.{bits_kept, states_more}
+use Rattle.state_diagrams.proofs.WalkedBranches.{rest_at}
+use Rattle.state_diagrams.proofs.WalkedStates.{states_walk, within_plain}
 use Rattle.state_diagrams.proofs.states.walk_states.Goals as goal
 
 pub loop-state-init : goal.loop-state-init
 loop-state-init g c =
     record {
-      walks = λ all a. walks_none all c.args.out.now a;
-      listed = c.new-listed.ensures.items;
+      walks = λ later k.
+          subst (λ (ls : List ℕ). WalksStates g.D.Device.table c.args.machine.now c.args.guard ls (map view_state c.args.states.now) c.args.out.now later) c.new-listed.ensures.items k;
       bits = λ e. subst (λ (ids : List ExprId). AreBits (arena c.args.out.now.exprs) ids []) (sym c.new-bits.ensures.items) (λ i x lt. absurd (omega (arith, lt)), refl);
     }
+
+pub walk_within-requires-clause-guard : goal.walk_within-requires-clause-guard
+walk_within-requires-clause-guard g c = c.in_ok-when.ensures.inside
 
 pub loop-state-preserved : goal.loop-state-preserved
 loop-state-preserved g c =
@@ -38,35 +42,38 @@ loop-state-preserved g c =
     let i = c.loop-state.state-index in
     let x = c.state-item.result in
     let s = view_state x in
-    let v = c.loop-state.invariant in
-    let ss = map view_state (take i states) in
-    let ts = map view_state (take (i + 1) states) in
-    let old = c.args.out.now in
+    let id = c.in_ok-when.when in
+    let inside : Guard = record c.args.guard { when = id } in
     let mid = c.loop-state.out in
-    let new = c.walk_state.new.out in
+    let far = c.walk_unit.new.out in
+    let new = c.walk_within.new.out in
     let listed : List ℕ = c.loop-state.listed.items in
     let value = c.in_ok-found.ensures.state in
-    let here : ts ≡ ss ++ s ∷ [] = front_more view_state states i x c.loop-state-test.true c.state-item.is in
-    let one = c.in_ok-bit.ensures.walks listed value in
+    let unit = c.in_ok-when.ensures.walks listed value in
+    let bit = c.in_ok-when.ensures.bit listed value in
+    let within = c.in_ok-walk_within.ensures in
+    let v = c.loop-state.invariant in
     record {
-      walks = λ all a.
-          let w = v.walks all a in
-          states_walked d all (view_guard (arena old.exprs) c.args.guard) xs ss ts s listed old mid new here v.listed w
-          (one (all ++ states_manners d ss) w.manners);
-      listed = c.in_ok-found.ensures.listed ∙ ap (λ ls. listed_after d (length xs) ls s) v.listed
-          ∙ sym (ap (listed_behind d (length xs) []) here ∙ listed_more d (length xs) [] ss s);
+      walks = λ later k.
+          v.walks later
+          (subst (λ (zs : List StateTree). WalksStates t m c.args.guard listed zs mid later) (sym (rest_at view_state states i x c.loop-state-test.true c.state-item.is))
+          (states_walk t m c.args.guard listed s (map view_state (drop (i + 1) states)) id mid far new later unit bit within
+          (subst (λ (ls : List ℕ). WalksStates t m c.args.guard ls (map view_state (drop (i + 1) states)) new later) c.in_ok-found.ensures.listed k)));
       bits = λ e.
-          let w = v.walks old.before (λ k p. refl) in
-          let n = one (old.before ++ states_manners d ss) w.manners in
-          let clear = clear_before mid.fault (length (arena mid.exprs)) _ (sym e ∙ n.fault) in
-          subst (λ (ids : List ExprId). AreBits (arena new.exprs) ids (state_bits d xs ts)) (sym c.in_ok-push.ensures.items)
-          (states_more d xs (arena mid.exprs) (arena new.exprs) c.loop-state.bits.items c.in_ok-bit.bit ss ts s here n.keeps (v.bits clear) (c.in_ok-bit.ensures.bit listed value e));
+          let w = within_plain t m inside s far new within in
+          let there : far.fault ≡ None = walked_clear far new w e in
+          let clear : mid.fault ≡ None = walked_clear mid far (unit mid.before (λ k p. refl)) there in
+          let old_bits = bits_kept (arena mid.exprs) (arena far.exprs) c.loop-state.bits.items (state_bits d xs (map view_state (take i states))) (unit mid.before (λ k p. refl)).keeps (v.bits clear) in
+          subst (λ (ids : List ExprId). AreBits (arena new.exprs) ids (state_bits d xs (map view_state (take (i + 1) states)))) (sym c.in_ok-push.ensures.items)
+          (states_more d xs (arena far.exprs) (arena new.exprs) c.loop-state.bits.items id (map view_state (take i states)) (map view_state (take (i + 1) states)) s
+          (front_more view_state states i x c.loop-state-test.true c.state-item.is) w.keeps old_bits (kept_bit _ _ id (state_bit d xs s) w.keeps (bit there)));
     }
 
 pub returns-clause-walks : goal.returns-clause-walks
 returns-clause-walks g c =
-    subst (λ (xs : List State). WalksStates g.D.Device.table c.args.machine.now c.args.guard (map view_state xs) c.args.out.now c.loop-state.out)
-    (ap (λ n. take n c.args.states.now) (omega (arith, c.loop-state-test.false, c.loop-state.auto.state-index-end)) ∙ take-length c.args.states.now) c.loop-state.invariant.walks
+    c.loop-state.invariant.walks c.loop-state.out
+    (subst (λ (xs : List State). WalksStates g.D.Device.table c.args.machine.now c.args.guard c.loop-state.listed.items (map view_state xs) c.loop-state.out c.loop-state.out)
+    (sym (drop_all c.loop-state.state-index c.args.states.now (omega (arith, c.loop-state-test.false)))) (λ h p q all a. walks_none all c.loop-state.out a))
 
 pub returns-clause-bits : goal.returns-clause-bits
 returns-clause-bits g c =

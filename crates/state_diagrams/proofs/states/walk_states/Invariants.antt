@@ -1,18 +1,18 @@
--- So many states were walked and listed, and their bits are there.
-use Rattle.std.proofs.Common.{◌≡◌, None, [], length, map, take}
+-- What the other states leave behind those that are listed, all leave; and the bits so far.
+use Rattle.std.proofs.Common.{◌≡◌, None, [], drop, map, take}
 use Rattle.bit_expr.specs.Arena.{arena}
 use Rattle.abel_tree.specs.View.{view_state}
-use Rattle.section_targets.specs.Building.{AreBits}
 use Rattle.set_expr.specs.Contexts.{context_for}
+use Rattle.section_targets.specs.declared.walked.Walked.{Walked}
+use Rattle.section_targets.specs.Building.{AreBits}
 use Rattle.state_diagrams.specs.DiagramWalks.{WalksStates}
 use Rattle.state_diagrams.specs.DiagramWorks.{state_bits}
-use Rattle.state_diagrams.specs.States.{listed_behind}
 use Rattle.state_diagrams.proofs.states.walk_states.Given as goal
 
 abbrev pub invariant-loop-state : goal.invariant-loop-state
 invariant-loop-state g l =
     record {
-      walks : WalksStates g.D.Device.table l.machine l.guard (map view_state (take l.state-index l.states)) l.fn.out l.out;
-      listed : l.listed.items ≡ listed_behind (context_for g.D.Device.table l.machine.scope.now) (length l.machine.registers.now) [] (map view_state (take l.state-index l.states));
+      walks : (later : Walked) → WalksStates g.D.Device.table l.machine l.guard l.listed.items (map view_state (drop l.state-index l.states)) l.out later
+          → WalksStates g.D.Device.table l.machine l.guard [] (map view_state l.states) l.fn.out later;
       bits : l.out.fault ≡ None → AreBits (arena l.out.exprs) l.bits.items (state_bits (context_for g.D.Device.table l.machine.scope.now) l.machine.registers.now (map view_state (take l.state-index l.states)));
     }

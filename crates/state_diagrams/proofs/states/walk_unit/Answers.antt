@@ -26,9 +26,8 @@ returns-then-refuse-clause-walks g c = λ listed value all a.
     let m = c.args.machine.now in
     let d = context_for g.D.Device.table m.scope.now in
     let xs = m.registers.now in
-    let v = c.args.valued.now in
-    let s = view_state v.state.now in
-    unit_refused all (state_unit d (signals_of xs) listed s) [] [] v.found.fault c.args.out.now c.refuse.new.self
+    let s = view_state c.args.state.now in
+    unit_refused all (state_unit d (signals_of xs) listed s) [] [] c.args.found.fault c.args.out.now c.refuse.new.self
     (value.fault ∙ ap (λ n. first_refusal section_order (state_refused d n listed s)) (sized xs)) c.refuse.ensures.first (sym c.refuse.ensures.refused ∙ c.if-refuse.true) a
 
 pub returns-then-refuse-clause-bit : goal.returns-then-refuse-clause-bit
@@ -43,18 +42,17 @@ returns-in-Ok-clause-walks g c = λ listed value all a.
     let d = context_for g.D.Device.table m.scope.now in
     let xs = m.registers.now in
     let ss = signals_of xs in
-    let v = c.args.valued.now in
-    let s = view_state v.state.now in
+    let s = view_state c.args.state.now in
     let old = c.args.out.now in
     let now = c.refuse.new.self in
     let kept = c.refuse.ensures.first in
     let off = sym c.refuse.ensures.refused ∙ c.if-refuse.false in
     let made : Walked = record now { exprs = c.state_guard.new.exprs } in
     let told = value.fault ∙ ap (λ n. first_refusal section_order (state_refused d n listed s)) (sized xs) in
-    let clear = unit_clear (state_refused d (length ss) listed s) v.found.fault old now told kept off in
+    let clear = unit_clear (state_refused d (length ss) listed s) c.args.found.fault old now told kept off in
     let bit = c.in-Ok.ensures.makes.0 now.list.items in
     let here = subst (λ (n : ℕ). Builds {R = Unit} (part s.place (number_guard d ss n).nodes ∷ []) [] [] (standing now) (standing made) (Ok tt)) (value.number clear.1.0) bit in
-    unit_made all s.place (state_refused d (length ss) listed s) (state_guard d ss s.value).nodes [] [] v.found.fault old now made made (Ok tt) told kept off a refl refl
+    unit_made all s.place (state_refused d (length ss) listed s) (state_guard d ss s.value).nodes [] [] c.args.found.fault old now made made (Ok tt) told kept off a refl refl
     (subst (λ (w : Walked). Builds {R = Unit} (part s.place (state_guard d ss s.value).nodes ∷ []) [] [] (standing w) (standing made) (Ok tt)) kept here) refl
 
 pub returns-in-Ok-clause-inside : goal.returns-in-Ok-clause-inside
@@ -65,10 +63,9 @@ returns-in-Ok-clause-bit g c = λ listed value e.
     let m = c.args.machine.now in
     let d = context_for g.D.Device.table m.scope.now in
     let xs = m.registers.now in
-    let v = c.args.valued.now in
-    let s = view_state v.state.now in
+    let s = view_state c.args.state.now in
     let told = value.fault ∙ ap (λ n. first_refusal section_order (state_refused d n listed s)) (sized xs) in
-    let clear = unit_clear (state_refused d (length (signals_of xs)) listed s) v.found.fault c.args.out.now c.refuse.new.self told c.refuse.ensures.first (sym c.refuse.ensures.refused ∙ c.if-refuse.false) in
+    let clear = unit_clear (state_refused d (length (signals_of xs)) listed s) c.args.found.fault c.args.out.now c.refuse.new.self told c.refuse.ensures.first (sym c.refuse.ensures.refused ∙ c.if-refuse.false) in
     let bit = c.in-Ok.ensures.makes.1 in
     subst (IsBit (arena c.state_guard.new.exprs) c.in-Ok.bit) (guard_is_state d (signals_of xs) (term_of d.known s.value))
     (subst (λ (n : ℕ). IsBit (arena c.state_guard.new.exprs) c.in-Ok.bit (number_guard d (signals_of xs) n).what) (value.number clear.1.0) bit)
@@ -79,18 +76,17 @@ returns-in_ok-keep_limit-in-Err-clause-walks g c = λ listed value all a.
     let d = context_for g.D.Device.table m.scope.now in
     let xs = m.registers.now in
     let ss = signals_of xs in
-    let v = c.args.valued.now in
-    let s = view_state v.state.now in
+    let s = view_state c.args.state.now in
     let old = c.args.out.now in
     let now = c.refuse.new.self in
     let kept = c.refuse.ensures.first in
     let off = sym c.refuse.ensures.refused ∙ c.if-refuse.false in
     let made : Walked = record now { exprs = c.state_guard.new.exprs } in
     let told = value.fault ∙ ap (λ n. first_refusal section_order (state_refused d n listed s)) (sized xs) in
-    let clear = unit_clear (state_refused d (length ss) listed s) v.found.fault old now told kept off in
+    let clear = unit_clear (state_refused d (length ss) listed s) c.args.found.fault old now told kept off in
     let bit = c.in-Err.ensures.makes.0 now.list.items in
     let here = subst (λ (n : ℕ). Builds {R = Unit} (part s.place (number_guard d ss n).nodes ∷ []) [] [] (standing now) (standing made) (Err c.in-Err.fault)) (value.number clear.1.0) bit in
-    unit_made all s.place (state_refused d (length ss) listed s) (state_guard d ss s.value).nodes [] [] v.found.fault old now made c.keep_limit.new.self (Err c.in-Err.fault) told kept off a refl refl
+    unit_made all s.place (state_refused d (length ss) listed s) (state_guard d ss s.value).nodes [] [] c.args.found.fault old now made c.keep_limit.new.self (Err c.in-Err.fault) told kept off a refl refl
     (subst (λ (w : Walked). Builds {R = Unit} (part s.place (state_guard d ss s.value).nodes ∷ []) [] [] (standing w) (standing made) (Err c.in-Err.fault)) kept here) c.in_ok-keep_limit-in-Err.ensures
 
 pub returns-in_ok-keep_limit-in-Err-clause-bit : goal.returns-in_ok-keep_limit-in-Err-clause-bit

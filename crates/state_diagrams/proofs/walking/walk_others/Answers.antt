@@ -17,28 +17,26 @@ use Rattle.state_diagrams.proofs.WalkedDiagrams.{walks_built, walks_refusing}
 use Rattle.state_diagrams.proofs.walking.walk_others.Goals as goal
 
 pub returns-then-is_some : goal.returns-then-is_some
-returns-then-is_some g c = λ all a.
+returns-then-is_some g c = λ h p q all a.
     let m = c.args.machine.now in
     let d = context_for g.D.Device.table m.scope.now in
     let xs = m.registers.now in
     let ss = map view_state c.args.states.now in
-    let old = c.args.out.now in
-    let h = view_guard (arena old.exprs) c.args.guard in
     let v = states_work d h xs all [] ss in
     let w = others_work d h xs all ss in
-    walks_refusing all (states_manners d ss) w.units v.gives w.gives v.places w.places old c.walk_states.new.out (sym c.is_some.ensures ∙ c.if-is_some.true) (c.in_ok-bits.ensures.walks all a)
+    walks_refusing all (states_manners d ss) w.units v.gives w.gives v.places w.places c.args.out.now c.walk_states.new.out (sym c.is_some.ensures ∙ c.if-is_some.true) (c.in_ok-bits.ensures.walks h p q all a)
 
 pub give_matches-made-requires : goal.give_matches-made-requires
 give_matches-made-requires g c =
     let old = c.args.out.now in
     let mid = c.walk_states.new.out in
-    let b = (c.in_ok-bits.ensures.walks old.before (λ s p. refl)).given (no_fault mid.fault (sym c.is_some.ensures ∙ c.if-is_some.false)) in
+    let b = (c.in_ok-bits.ensures.walks (view_guard (arena old.exprs) c.args.guard) refl refl old.before (λ s p. refl)).given (no_fault mid.fault (sym c.is_some.ensures ∙ c.if-is_some.false)) in
     record { start = omega (arith, c.len-start.ensures, ap length b.whole.list, length-append old.list.items b.more) }
 
 pub returns : goal.returns
 returns g c =
     on_ok_weaker c.keep_limit.result
-    (λ k all a.
+    (λ k h p q all a.
     let m = c.args.machine.now in
     let d = context_for g.D.Device.table m.scope.now in
     let xs = m.registers.now in
@@ -47,10 +45,9 @@ returns g c =
     let old = c.args.out.now in
     let mid = c.walk_states.new.out in
     let made : Walked = record mid { list = c.give_matches-made.new.list } in
-    let h = view_guard (arena old.exprs) c.args.guard in
     let v = states_work d h xs all [] ss in
     let w = others_work d h xs all ss in
-    let walks = c.in_ok-bits.ensures.walks all a in
+    let walks = c.in_ok-bits.ensures.walks h p q all a in
     let clear = no_fault mid.fault (sym c.is_some.ensures ∙ c.if-is_some.false) in
     let built = walks_built all (states_manners d ss) v.units v.gives v.places old mid clear walks in
     let more = c.give_matches-made.new.list.items in
