@@ -5,7 +5,7 @@ ghost use Rattle.decls.specs.Passed.{is_behind, items_behind, words_behind};
 
 use crate::fault::stands_before;
 use crate::table::NameTable;
-use abel_tree::{Item, Word};
+use abel_tree::{Item, Ranked, Word};
 use pld_base::Place;
 
 impl NameTable {

@@ -1,10 +1,11 @@
 //! What is refused of the names of a source.
 
 ghost use Rattle.std.specs.Prelude.{◌≡◌, Some};
-ghost use Rattle.abel_tree.specs.FirstRefusal.{is_before, earlier};
-ghost use Rattle.decls.specs.FaultOrder.{name_order, place_of, rank_of};
+ghost use Rattle.abel_tree.specs.FirstRefusal as refusal;
+ghost use Rattle.decls.specs.FaultOrder.{name_order};
 ghost use Rattle.decls.specs.Passed.{stands_before};
 
+use abel_tree::{Ranked, earlier};
 use pld_base::{NameText, OutOfMemory, Place};
 use std::fmt::{self, Debug, Formatter};
 use thiserror::Error;
@@ -43,14 +44,13 @@ pub enum NameFault {
     OutOfMemory,
 }
 
-/// Where want of memory stands in the order.
-const NOWHERE: Place = Place { line: 0, column: 0 };
+impl Ranked for NameFault {
+    ghost use Rattle.decls.specs.FaultOrder.{name_order};
 
-impl NameFault {
-    /// The place, if it has one.
-    pub(crate) fn place(&self) -> Place
-        ensures { result ≡ place_of self.now }
-    {
+    ghost ranks = { name_order };
+
+    /// Want of memory stands at line 0.
+    fn place(&self) -> Place {
         match self {
             NameFault::Redeclared(place, _) => *place,
             NameFault::UnknownDevice(place) => *place,
@@ -60,14 +60,12 @@ impl NameFault {
             NameFault::BadAttribute(place) => *place,
             NameFault::TooManyNodes(place, _) => *place,
             NameFault::Undeclared(place, _) => *place,
-            NameFault::OutOfMemory => NOWHERE,
+            NameFault::OutOfMemory => Place { line: 0, column: 0 },
         }
     }
 
-    /// Its order among the refusals at one place, which is that of the variants.
-    fn rank(&self) -> u8
-        ensures { result ≡ rank_of self.now }
-    {
+    /// The order of the variants.
+    fn rank(&self) -> u8 {
         match self {
             NameFault::Redeclared(_, _) => 0,
             NameFault::UnknownDevice(_) => 1,
@@ -79,21 +77,6 @@ impl NameFault {
             NameFault::Undeclared(_, _) => 7,
             NameFault::OutOfMemory => 8,
         }
-    }
-
-    /// Whether this one comes first, by place and then by rank.
-    #[tactic(auto, unfolding(abel_tree::specs::FirstRefusal::is_before))]
-    fn is_before(&self, other: &NameFault) -> bool
-        ensures { result ≡ is_before name_order self.now other.now }
-    {
-        let (one, two) = (self.place(), other.place());
-        if one.line != two.line {
-            return one.line < two.line;
-        }
-        if one.column != two.column {
-            return one.column < two.column;
-        }
-        self.rank() < other.rank()
     }
 }
 
@@ -107,18 +90,9 @@ pub(crate) fn stands_before(one: Place, other: Place) -> bool
 /// The first of two refusals by place, at one place by kind; `before` is None where there is none
 /// yet. Takes no memory.
 pub fn first_of(before: Option<NameFault>, fault: NameFault) -> Option<NameFault>
-    ensures { result ≡ earlier name_order before (Some fault) }
+    ensures { result ≡ refusal.earlier name_order before (Some fault) }
 {
-    match before {
-        Some(known) => {
-            if fault.is_before(&known) {
-                Some(fault)
-            } else {
-                Some(known)
-            }
-        }
-        None => Some(fault),
-    }
+    earlier(before, Some(fault))
 }
 
 impl Debug for NameFault {
