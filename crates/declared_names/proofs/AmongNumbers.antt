@@ -13,9 +13,6 @@ abbrev pub AllUnder : {A : Type 0} → (A → ℕ) → ℕ → List A → Type 0
 AllUnder f n [] = Unit {0}
 AllUnder f n (x ∷ xs) = (f x < n) × AllUnder f n xs
 
-abbrev pub AllBelow : ℕ → List ℕ → Type 0
-AllBelow n js = AllUnder (λ j. j) n js
-
 pub nothing : {A : Type 0} (xs : List A) → list_any (λ x. false) xs ≡ false
 nothing [] = refl
 nothing (x ∷ xs) = nothing xs
@@ -32,12 +29,6 @@ all_under f limit (x ∷ xs) e =
 pub absorbed : (b x : Bool) → (b ≡ true → x ≡ true) → (b || x) ≡ x
 absorbed true x f = sym (f refl)
 absorbed false x f = refl
-
-pub same_number : (d k : ℕ) → (d == k) ≡ true → d ≡ k
-same_number d k e = grind (arith, nat_tests)
-
-pub is_same : (d k : ℕ) → d ≡ k → (d == k) ≡ true
-is_same d k h = grind (arith, nat_tests)
 
 pub other_number : (d k : ℕ) → k < d → (d == k) ≡ false
 other_number d k h = grind (arith, nat_tests)

@@ -1,28 +1,60 @@
 -- What sections assign is what their parts give.
-use Rattle.std.proofs.Common.{◌≡◌, true, Option, Some, None, List, [], ◌∷◌, ◌++◌, map, refl, ap, ap₂, ◌∙◌, append_assoc}
+use Rattle.std.proofs.Common.{◌≡◌, ℕ, Bool, true, Option, Some, None, List, [], ◌∷◌, ◌++◌, refl, sym, ap, ap₂, ◌∙◌, append_assoc}
 use Rattle.std.specs.List.{flat_map}
 use Rattle.std.proofs.lemmas.List.{append-nil}
 use Rattle.std.proofs.lemmas.List.Concat.{flat_map-append}
-use Rattle.abel_tree.specs.Assigned.{Assigned, Named, assigned_each, branch_assigns, branches_assign, choices_assign, else_assigns, list_assigns, other_assigns, section_assigns, sections_assign, signals_of, statement_assigns, statements_assign, states_assign, with_assigns}
-use Rattle.abel_tree.specs.Tree.{Statement, AnAssign, AWhen, AGroup, ADontCare, Otherwise, NoElse, AnElse, Statements, NoStatement, MoreStatements, Branch, AGoal, AnIf, ACase, OtherBranch, NoBranch, ABranch, Choices, NoChoice, MoreChoices, RowTree, StateTree, SectionTree, Declarations, Equations, ATable, ADiagram, SomeVectors, DontCareSection}
-use Rattle.declared_names.specs.Marking.{part_assigns}
+use Rattle.abel_meaning.specs.Held.{read_names}
+use Rattle.abel_tree.specs.Assigned.{Assigned, Named, assigned_by, assigned_each, branch_assigns, branches_assign, choices_assign, else_assigns, is_clocked, list_assigns, other_assigns, section_assigns, sections_assign, signals_of, signals_of_name, signals_of_names, statement_assigns, statements_assign, states_assign, target_extension, with_assigns, without_extension}
+use Rattle.abel_tree.specs.declared.words.Extension.{Extension}
+use Rattle.abel_tree.specs.declared.words.Extension.TheVariants as ext
+use Rattle.abel_tree.specs.Ranges.{range_names}
+use Rattle.abel_tree.specs.Tree.{Tree, Statement, AnAssign, AWhen, AGroup, ADontCare, Otherwise, NoElse, AnElse, Statements, NoStatement, MoreStatements, Branch, AGoal, AnIf, ACase, OtherBranch, NoBranch, ABranch, Choices, NoChoice, MoreChoices, RowTree, StateTree, SectionTree, Declarations, Equations, ATable, ADiagram, SomeVectors, DontCareSection}
+use Rattle.declared_names.specs.declared.following.Follow.TheVariants.{Targets}
+use Rattle.declared_names.specs.Reading.{part_gives, sections_give, side_gives, use_reads, uses_read}
 use Rattle.name_uses.specs.Parts.{PartTree, parts_in_branch, parts_in_choices, parts_in_else, parts_in_other, parts_in_row, parts_in_section, parts_in_state, parts_in_statement, parts_in_statements, parts_in_with}
-use Rattle.name_uses.specs.Viewed.{PartedSection, with_parts}
+use Rattle.name_uses.specs.Targets.{targets_in}
+use Rattle.name_uses.proofs.TargetSignals.{targets_give}
 
--- what the parts of a section give
-abbrev pub parted_assigns : List Named → PartedSection → List Assigned
-parted_assigns ks x = flat_map (part_assigns ks) x.parts
+each_append : (c : Bool) (xs ys : List ℕ) → assigned_each c (xs ++ ys) ≡ assigned_each c xs ++ assigned_each c ys
+each_append c [] ys = refl
+each_append c (x ∷ xs) ys = ap (λ us. record { signal = x; clocked = c } ∷ us) (each_append c xs ys)
 
 module _ (ks : List Named) where
+  -- what a name assigns
+  abbrev pub named_by : List ℕ → Bool → List Assigned
+  named_by name clocked = assigned_each clocked (signals_of_name ks name)
+
+  each_name : (c : Bool) (names : List (List ℕ)) → read_names named_by c names ≡ assigned_each c (signals_of_names ks names)
+  each_name c [] = refl
+  each_name c (n ∷ ns) = ap (λ us. named_by n c ++ us) (each_name c ns) ∙ sym (each_append c (signals_of_name ks n) (signals_of_names ks ns))
+
+  pub targets_assign : (c : Bool) (t : Tree) → uses_read named_by c (targets_in t) ≡ assigned_each c (signals_of ks t)
+  targets_assign c t =
+      targets_give ks (assigned_each c) refl (each_append c) (use_reads named_by c) (λ w. refl) (λ v w. each_name c (range_names v.text w.text)) t
+
+  side_assigns : (e : Option Extension) (c : Bool) (t : Tree) → side_gives named_by e c (targets_in t) ≡ assigned_by e c (signals_of ks t)
+  side_assigns None c t = targets_assign c t
+  side_assigns (Some ext.D) c t = targets_assign true t
+  side_assigns (Some ext.Clk) c t = refl
+  side_assigns (Some ext.Oe) c t = refl
+  side_assigns (Some ext.Ar) c t = refl
+  side_assigns (Some ext.Sp) c t = refl
+  side_assigns (Some ext.Q) c t = refl
+  side_assigns (Some ext.Fb) c t = refl
+  side_assigns (Some ext.Pin) c t = refl
+
   abbrev given : List PartTree → List Assigned
-  given ps = flat_map (part_assigns ks) ps
+  given ps = flat_map (part_gives Targets named_by) ps
 
   both : (ps qs : List PartTree) (us vs : List Assigned) → given ps ≡ us → given qs ≡ vs → given (ps ++ qs) ≡ us ++ vs
-  both ps qs us vs e f = flat_map-append (part_assigns ks) ps qs ∙ ap₂ (λ x y. x ++ y) e f
+  both ps qs us vs e f = flat_map-append (part_gives Targets named_by) ps qs ∙ ap₂ (λ x y. x ++ y) e f
 
   mutual
     in_statement : (s : Statement) → given (parts_in_statement s) ≡ statement_assigns ks s
-    in_statement (AnAssign place complement target sign sign_place value) = append-nil (statement_assigns ks (AnAssign place complement target sign sign_place value))
+    in_statement (AnAssign place complement target sign sign_place value) =
+        let e = target_extension target in
+        let t = without_extension target in
+        append-nil (side_gives named_by e (is_clocked sign) (targets_in t)) ∙ side_assigns e (is_clocked sign) t
     in_statement (AWhen place c s other) = both (parts_in_statement s) (parts_in_else other) (statement_assigns ks s) (else_assigns ks other) (in_statement s) (in_else other)
     in_statement (AGroup ss) = in_statements ss
     in_statement (ADontCare directive) = refl
@@ -76,15 +108,15 @@ module _ (ks : List Named) where
   in_rows [] = refl
   in_rows (r ∷ rows) = in_rows rows
 
-  pub section_assigned : (x : SectionTree) → flat_map (part_assigns ks) (parts_in_section x) ≡ section_assigns ks x
+  section_assigned : (x : SectionTree) → given (parts_in_section x) ≡ section_assigns ks x
   section_assigned (Declarations ds) = refl
   section_assigned (Equations ss) = in_list ss
   section_assigned (ATable place inputs clocked outputs rows) =
-      ap (λ us. assigned_each clocked (signals_of ks outputs) ++ us) (in_rows rows) ∙ append-nil (assigned_each clocked (signals_of ks outputs))
-  section_assigned (ADiagram place registers states) = ap (λ us. assigned_each true (signals_of ks registers) ++ us) (in_states states)
+      ap₂ (λ us vs. us ++ vs) (targets_assign clocked outputs) (in_rows rows) ∙ append-nil (assigned_each clocked (signals_of ks outputs))
+  section_assigned (ADiagram place registers states) = ap₂ (λ us vs. us ++ vs) (targets_assign true registers) (in_states states)
   section_assigned (SomeVectors text place inputs outputs rows) = in_rows rows
   section_assigned (DontCareSection directive) = refl
 
-  pub sections_assigned : (xs : List SectionTree) → flat_map (parted_assigns ks) (map with_parts xs) ≡ sections_assign ks xs
+  pub sections_assigned : (xs : List SectionTree) → sections_give Targets named_by xs ≡ sections_assign ks xs
   sections_assigned [] = refl
   sections_assigned (x ∷ xs) = ap₂ (λ us vs. us ++ vs) (section_assigned x) (sections_assigned xs)

@@ -11,14 +11,14 @@ use Rattle.pld_device.specs.declared.flip.Flip.TheVariants.{Always, AfterRegiste
 use Rattle.pld_device.specs.Macrocells.{pin_complements}
 use Rattle.pld_device.specs.Table.{Table}
 use Rattle.abel_tree.specs.Assigned.{Assigned, named_of, sections_assign, is_assigned, is_clocked_target}
-use Rattle.abel_tree.specs.Entries.{Entry, find, is_signal}
+use Rattle.abel_tree.specs.Entries.{Entry, find, is_signal, is_stored, follows_q}
 use Rattle.abel_tree.specs.Tree.{SectionTree, ModuleTree}
 use Rattle.abel_meaning.specs.Declarations.{GivenName, declared_names}
-use Rattle.abel_meaning.specs.Designs.{no_name, is_stored, follows_q}
+use Rattle.abel_meaning.specs.Designs.{no_name}
 use Rattle.abel_meaning.specs.Held.{Holds, holds_of, is_held}
 use Rattle.abel_meaning.specs.Kinds.{is_buffer_by_default, is_registered, words_with_kind, with_kind, with_kinds, names_of}
 use Rattle.decls.proofs.NoRefusals.{none_left, none_right}
-use Rattle.declared_names.proofs.Settling.{is_no_target}
+use Rattle.declared_names.proofs.AssignedMarks.{is_no_target}
 use Rattle.decls.specs.declared.fault.NameFault.TheVariants as fault
 use Rattle.decls.specs.AllDeclarations.{all_declarations}
 use Rattle.decls.specs.NameRefusals.{always_inverts, all_buffered, is_register_at, buffers_refused, module_buffers_refused, names_once, read_refusals, name_refusals}

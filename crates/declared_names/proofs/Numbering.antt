@@ -8,12 +8,13 @@ use Rattle.std.specs.Str.{bytes_eq}
 use Rattle.std.proofs.lemmas.Bool.{lt-ltb, le-ltb}
 use Rattle.std.proofs.lemmas.List.{length-map, length-take}
 use Rattle.std.proofs.lemmas.Iterator.Adapters.{position_from-zero}
-use Rattle.abel_tree.specs.Assigned.{signals_of_name}
+use Rattle.abel_tree.specs.Assigned.{assigned_each, signals_of_name}
 use Rattle.abel_tree.specs.declared.names.Declared.{Declared}
 use Rattle.abel_tree.specs.Entries.{Entry, find, view_declared}
 use Rattle.decls.proofs.Rows.{mapped_more}
 use Rattle.declared_names.specs.declared.marks.Mark.{Mark}
-use Rattle.declared_names.specs.Marking.{hit, hits}
+use Rattle.declared_names.specs.Marking.{all_marked, hit}
+use Rattle.declared_names.specs.Reading.{numbers_read}
 use Rattle.declared_names.specs.Numbered.{numbered, numbered_from, below_limit, number_in, earlier_number, number_of_name}
 
 abbrev pub is_name : List ℕ → Entry → Bool
@@ -45,20 +46,19 @@ found name limit es = found_from name limit 0 limit es (omega arith) ∙ ap (bel
 
 -- ---- a name is marked
 
-hit_below : (c : Bool) (ms : List Mark) (n limit : ℕ) (o : Option ℕ) → o ≡ Some n → n < limit → hit c ms n ≡ hits c ms (below_limit limit o)
-hit_below c ms n limit o e h = rw (e, lt-ltb n limit h) refl
+module _ (strong : Bool) (ms : List Mark) (limit : ℕ) (name : List ℕ) (es : List Entry) where
+  -- what a name marks, by its number
+  by_number : (o : Option ℕ) → find es name ≡ o → all_marked ms (numbers_read limit es name strong) ≡ all_marked ms (assigned_each strong (below_limit limit o))
+  by_number o e = ap (λ ss. all_marked ms (assigned_each strong ss)) (found name limit es ∙ ap (below_limit limit) e)
 
-not_hit : (c : Bool) (ms : List Mark) (n limit : ℕ) (o : Option ℕ) → o ≡ Some n → limit ≤ n → ms ≡ hits c ms (below_limit limit o)
-not_hit c ms n limit o e h = rw (e, le-ltb n limit h) refl
+  pub hit_name : (n : ℕ) → find es name ≡ Some n → n < limit → hit strong ms n ≡ all_marked ms (numbers_read limit es name strong)
+  hit_name n e h = sym (by_number (Some n) e ∙ rw (lt-ltb n limit h) refl)
 
-pub hit_name : (c : Bool) (ms ns : List Mark) (n limit : ℕ) (name : List ℕ) (es : List Entry) → find es name ≡ Some n → n < limit → ns ≡ hit c ms n → ns ≡ hits c ms (signals_of_name (numbered limit es) name)
-hit_name c ms ns n limit name es e h f = f ∙ (hit_below c ms n limit (find es name) e h ∙ ap (hits c ms) (sym (found name limit es)))
+  pub no_hit : (n : ℕ) → find es name ≡ Some n → limit ≤ n → ms ≡ all_marked ms (numbers_read limit es name strong)
+  no_hit n e h = sym (by_number (Some n) e ∙ rw (le-ltb n limit h) refl)
 
-pub no_hit : (c : Bool) (ms : List Mark) (n limit : ℕ) (name : List ℕ) (es : List Entry) → find es name ≡ Some n → limit ≤ n → ms ≡ hits c ms (signals_of_name (numbered limit es) name)
-no_hit c ms n limit name es e h = not_hit c ms n limit (find es name) e h ∙ ap (hits c ms) (sym (found name limit es))
-
-pub none_hit : (c : Bool) (ms : List Mark) (limit : ℕ) (name : List ℕ) (es : List Entry) → find es name ≡ None → ms ≡ hits c ms (signals_of_name (numbered limit es) name)
-none_hit c ms limit name es e = sym (ap (hits c ms) (found name limit es ∙ ap (below_limit limit) e))
+  pub none_hit : find es name ≡ None → ms ≡ all_marked ms (numbers_read limit es name strong)
+  none_hit e = sym (by_number None e)
 
 -- ---- the map
 

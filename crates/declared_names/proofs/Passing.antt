@@ -3,7 +3,7 @@
 use Rattle.std.proofs.Common.{◌≡◌, ◌≢◌, ℕ, zero, suc, ◌==◌, ◌<◌, ◌≤◌, Bool, true, false, ◌||◌, ◌&&◌, List, [], ◌∷◌, length, get_or, refl, sym, ap, ap₂, ◌∙◌, arith, inl, inr}
 use Rattle.std.specs.Prelude.{replicate}
 use Rattle.std.specs.List.{list_any}
-use Rattle.std.proofs.lemmas.Bool.{cases_lt}
+use Rattle.std.proofs.lemmas.Bool.{and_parts, cases_lt, eq-eqb, eqb-true}
 use Rattle.std.proofs.lemmas.Bool.Decides.{nat_tests}
 use Rattle.std.proofs.lemmas.Grind.{get_or-set_at}
 use Rattle.std.proofs.lemmas.List.{get_or-replicate, get_or-set_other, length-replicate, length-set}
@@ -12,7 +12,7 @@ use Rattle.abel_tree.specs.Assigned.{Assigned}
 use Rattle.declared_names.specs.declared.marks.Mark.{Mark}
 use Rattle.declared_names.specs.declared.marks.Mark.TheVariants as mark
 use Rattle.declared_names.specs.Marking.{all_marked, hit, is_marked, is_strong, pass_by, passed, raised}
-use Rattle.declared_names.proofs.AmongNumbers.{AllUnder, absorbed, is_same, other_number, same_number}
+use Rattle.declared_names.proofs.AmongNumbers.{AllUnder, absorbed, other_number}
 
 abbrev pub at : List Mark → ℕ → Mark
 at ms s = get_or ms s mark.Clear
@@ -43,11 +43,11 @@ named_counts : (any c : Bool) → (any || c) ≡ true → counts any (raised c m
 named_counts any c e = raised_counts any c mark.Clear ∙ ap (λ b. counts any mark.Clear || b) e ∙ or-true (counts any mark.Clear)
 
 different : (k s : ℕ) → (k == s) ≡ false → s ≢ k
-different k s e = λ i. (let bad : false ≡ true = sym e ∙ is_same k s (sym i) in cc)
+different k s e = λ i. (let bad : false ≡ true = sym e ∙ eq-eqb k s (sym i) in cc)
 
 here : (c : Bool) (ms : List Mark) (k s : ℕ) → s < length ms → (k == s) ≡ true → at (hit c ms k) s ≡ raised c (at ms s)
 here c ms k s h e =
-    let same : k ≡ s = same_number k s e in
+    let same : k ≡ s = eqb-true k s e in
     get_or-set_at ms k s (raised c (at ms k)) mark.Clear (sym same) (omega (arith, h, same)) ∙ ap (λ j. raised c (at ms j)) same
 
 there : (c : Bool) (ms : List Mark) (k s : ℕ) → (k == s) ≡ false → at (hit c ms k) s ≡ at ms s
@@ -130,7 +130,7 @@ module _ (reaches : ℕ → Bool → Bool) (more : (k : ℕ) → reaches k false
             ∙ sym (or_assoc (mark_reaches (reaches k) (at ms k)) (total k ms) (reaches d c))
         | inr most ↦
             let same : d ≡ k = omega (arith, low, most) in
-            ap₂ (λ m b. mark_reaches (reaches k) m || b) (here c ms d k (omega (arith, few)) (is_same d k same)) (past k c ms d (omega (arith, most)))
+            ap₂ (λ m b. mark_reaches (reaches k) m || b) (here c ms d k (omega (arith, few)) (eq-eqb d k same)) (past k c ms d (omega (arith, most)))
             ∙ (ap (λ b. b || total k ms) (raised_reaches (reaches k) (more k) c (at ms k))
             ∙ (swap_last (mark_reaches (reaches k) (at ms k)) (reaches k c) (total k ms) ∙ ap (λ j. (mark_reaches (reaches k) (at ms k) || total k ms) || reaches j c) (sym same)))
       ]
@@ -174,10 +174,6 @@ module _ (reaches : ℕ → Bool → Bool) (more : (k : ℕ) → reaches k false
     with_own false true y t f = absurd (let x = f refl in cc)
     with_own false false y t f = refl
 
-    both_true : (a b : Bool) → (a && b) ≡ true → (a ≡ true) × (b ≡ true)
-    both_true true b e = (refl, e)
-    both_true false b e = absurd cc
-
     -- what the names below a number come to
     abbrev Earlier : ℕ → Type 0
     Earlier k = (ns : List Mark) → k ≤ length ns → s < length ns → counts any (at (passed gives k ns) s) ≡ (counts any (at ns s) || total k ns)
@@ -193,8 +189,8 @@ module _ (reaches : ℕ → Bool → Bool) (more : (k : ℕ) → reaches k false
             let found = gives k c in
             let long = length_all_marked found ms in
             let own_mark : ((k == s) && (any || c)) ≡ true → counts any (at ms s) ≡ true = λ e.
-            let parts = both_true (k == s) (any || c) e in
-            ap (λ j. counts any (at ms j)) (sym (same_number k s parts.0)) ∙ (ap (counts any) is ∙ named_counts any c parts.1) in
+            let parts = and_parts (k == s) (any || c) e in
+            ap (λ j. counts any (at ms j)) (sym (eqb-true k s parts.0)) ∙ (ap (counts any) is ∙ named_counts any c parts.1) in
             before (all_marked ms found) (omega (arith, few, long)) (omega (arith, low, long))
             ∙ (ap₂ (λ a b. a || b) (all_count any found ms s low) (total_found k found ms (earlier k c) (omega (arith, few)))
             ∙ (joins (counts any (at ms s)) (names_it any s found) (total k ms) (list_any some_reaches found) (on_reaches found)

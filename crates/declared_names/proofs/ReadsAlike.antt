@@ -1,54 +1,82 @@
--- What two readings of names say of an expression, where they say the same of each name.
-use Rattle.std.proofs.Common.{◌≡◌, ℕ, Bool, true, false, ◌||◌, if◌then◌else◌, Option, Some, None, List, [], ◌∷◌, ◌++◌, refl, sym, ap, ◌∙◌}
+-- What two readings of names say of what is named, where they say the same of each name.
+use Rattle.std.proofs.Common.{◌≡◌, ℕ, Bool, true, false, ◌||◌, if◌then◌else◌, Option, Some, None, List, [], ◌∷◌, ◌++◌, refl, sym, ap₂, ◌∙◌}
 use Rattle.std.specs.List.{flat_map, list_any}
 use Rattle.std.proofs.lemmas.List.Folds.{list_any-append}
-use Rattle.abel_tree.specs.Assigned.{target_extension, without_extension}
+use Rattle.abel_tree.specs.Assigned.{is_clocked, target_extension, without_extension}
 use Rattle.abel_tree.specs.declared.words.Extension.{Extension}
 use Rattle.abel_tree.specs.declared.words.Extension.TheVariants as ext
 use Rattle.abel_tree.specs.declared.words.Word.{Word}
+use Rattle.abel_tree.specs.Extensions.{is_data, is_raw}
 use Rattle.abel_tree.specs.Ranges.{range_names}
-use Rattle.abel_tree.specs.Tree.{Tree}
-use Rattle.abel_meaning.specs.Held.{ATarget, AValue, Part, asks_q, part_reads, parts_read, read_in, read_names}
-use Rattle.abel_meaning.specs.Targets.{is_raw}
-use Rattle.declared_names.specs.Reading.{reads_to, use_reads}
-use Rattle.declared_names.proofs.TargetsAlike.{joined}
-use Rattle.declared_names.proofs.UsedNames.{read_used}
+use Rattle.abel_tree.specs.Tree.{SectionTree, Tree}
+use Rattle.abel_meaning.specs.Held.{asks_q, read_names}
+use Rattle.declared_names.specs.declared.following.Follow.{Follow}
+use Rattle.declared_names.specs.declared.following.Follow.TheVariants as follow
+use Rattle.declared_names.specs.Reading.{assigned_as, part_gives, read_as, reads_to, sections_give, use_reads, uses_read}
 use Rattle.name_uses.specs.NamesUsed.{UsedName, names_used}
+use Rattle.name_uses.specs.Parts as role
+use Rattle.name_uses.specs.Parts.{PartRole, PartTree, parts_in_section}
+use Rattle.name_uses.specs.Targets.{targets_in}
 
--- of each name, read with `.Q` behind it and without
+pub joined : {A B : Type 0} (p : A → Bool) (q : B → Bool) (xs xt : List A) (ys yt : List B) → list_any p xs ≡ list_any q ys → list_any p xt ≡ list_any q yt → list_any p (xs ++ xt) ≡ list_any q (ys ++ yt)
+joined p q xs xt ys yt e f = list_any-append p xs xt ∙ (ap₂ (λ a b. a || b) e f ∙ sym (list_any-append q ys yt))
+
+-- of each name, named plainly and strongly
 abbrev pub ReadsAlike : {A B : Type 0} → (A → Bool) → (B → Bool) → (List ℕ → Bool → List A) → (List ℕ → Bool → List B) → Type 0
-ReadsAlike p q of by = (name : List ℕ) (as_q : Bool) → list_any p (of name as_q) ≡ list_any q (by name as_q)
+ReadsAlike p q of by = (name : List ℕ) (strong : Bool) → list_any p (of name strong) ≡ list_any q (by name strong)
 
 module _ {A B : Type 0} (p : A → Bool) (q : B → Bool) (of : List ℕ → Bool → List A) (by : List ℕ → Bool → List B) (alike : ReadsAlike p q of by) where
-  names_alike : (as_q : Bool) (names : List (List ℕ)) → list_any p (read_names of as_q names) ≡ list_any q (read_names by as_q names)
-  names_alike as_q [] = refl
-  names_alike as_q (n ∷ ns) = joined p q (of n as_q) (read_names of as_q ns) (by n as_q) (read_names by as_q ns) (alike n as_q) (names_alike as_q ns)
+  names_alike : (strong : Bool) (names : List (List ℕ)) → list_any p (read_names of strong names) ≡ list_any q (read_names by strong names)
+  names_alike strong [] = refl
+  names_alike strong (n ∷ ns) = joined p q (of n strong) (read_names of strong ns) (by n strong) (read_names by strong ns) (alike n strong) (names_alike strong ns)
 
-  use_alike : (as_q : Bool) (first : Word) (last : Option Word) → list_any p (reads_to of as_q first last) ≡ list_any q (reads_to by as_q first last)
-  use_alike as_q first None = alike first.text as_q
-  use_alike as_q first (Some last) = names_alike as_q (range_names first.text last.text)
+  use_alike : (strong : Bool) (first : Word) (last : Option Word) → list_any p (reads_to of strong first last) ≡ list_any q (reads_to by strong first last)
+  use_alike strong first None = alike first.text strong
+  use_alike strong first (Some last) = names_alike strong (range_names first.text last.text)
 
-  uses_alike : (as_q : Bool) (us : List UsedName) → list_any p (flat_map (use_reads of as_q) us) ≡ list_any q (flat_map (use_reads by as_q) us)
-  uses_alike as_q [] = refl
-  uses_alike as_q (u ∷ us) =
-      joined p q (use_reads of as_q u) (flat_map (use_reads of as_q) us) (use_reads by as_q u) (flat_map (use_reads by as_q) us) (use_alike (asks_q as_q u.extension) u.first u.last) (uses_alike as_q us)
+  pub uses_alike : (strong : Bool) (us : List UsedName) → list_any p (uses_read of strong us) ≡ list_any q (uses_read by strong us)
+  uses_alike strong [] = refl
+  uses_alike strong (u ∷ us) =
+      joined p q (use_reads of strong u) (uses_read of strong us) (use_reads by strong u) (uses_read by strong us) (use_alike (asks_q strong u.extension) u.first u.last) (uses_alike strong us)
 
-  pub read_alike : (as_q : Bool) (t : Tree) → list_any p (read_in of as_q t) ≡ list_any q (read_in by as_q t)
-  read_alike as_q t = ap (list_any p) (read_used of as_q None t) ∙ (uses_alike as_q (names_used None t) ∙ sym (ap (list_any q) (read_used by as_q None t)))
+  -- ---- parts of sections
 
-  part_alike : (x : Part) → list_any p (part_reads of x) ≡ list_any q (part_reads by x)
-  part_alike (ATarget t) = by_raw (is_raw (target_extension t))
-    where
-      by_raw : (raw : Bool) → list_any p (if raw then read_in of true (without_extension t) else []) ≡ list_any q (if raw then read_in by true (without_extension t) else [])
-      by_raw true = read_alike true (without_extension t)
-      by_raw false = refl
-  part_alike (AValue t) = read_alike false t
+  uses_if : (b strong : Bool) (us : List UsedName) → list_any p (if b then uses_read of strong us else []) ≡ list_any q (if b then uses_read by strong us else [])
+  uses_if true strong us = uses_alike strong us
+  uses_if false strong us = refl
 
-  pub parts_alike : (xs : List Part) → list_any p (parts_read of xs) ≡ list_any q (parts_read by xs)
-  parts_alike [] = refl
-  parts_alike (x ∷ xs) = joined p q (part_reads of x) (parts_read of xs) (part_reads by x) (parts_read by xs) (part_alike x) (parts_alike xs)
+  assigned_alike : (r : PartRole) (t : Tree) → list_any p (assigned_as of r t) ≡ list_any q (assigned_as by r t)
+  assigned_alike (role.Target sign) t = uses_if (is_data (target_extension t)) (is_raw (target_extension t) || is_clocked sign) (targets_in (without_extension t))
+  assigned_alike (role.Value target) t = refl
+  assigned_alike role.Read t = refl
+  assigned_alike (role.Outputs clocked) t = uses_alike clocked (targets_in t)
+  assigned_alike role.Registers t = uses_alike true (targets_in t)
+  assigned_alike role.Entry t = refl
 
--- ---- what is read without `.Q` behind it is read with it too
+  read_alike : (r : PartRole) (t : Tree) (us : List UsedName) → list_any p (read_as of r t us) ≡ list_any q (read_as by r t us)
+  read_alike (role.Target sign) t us = uses_if (is_raw (target_extension t)) false (names_used (Some ext.Q) (without_extension t))
+  read_alike (role.Value target) t us = uses_alike false us
+  read_alike role.Read t us = uses_alike false us
+  read_alike (role.Outputs clocked) t us = refl
+  read_alike role.Registers t us = refl
+  read_alike role.Entry t us = refl
+
+  part_alike : (way : Follow) (x : PartTree) → list_any p (part_gives way of x) ≡ list_any q (part_gives way by x)
+  part_alike follow.Targets x = assigned_alike x.role x.tree
+  part_alike follow.Reads x = read_alike x.role x.tree x.uses
+
+  parts_alike : (way : Follow) (xs : List PartTree) → list_any p (flat_map (part_gives way of) xs) ≡ list_any q (flat_map (part_gives way by) xs)
+  parts_alike way [] = refl
+  parts_alike way (x ∷ xs) =
+      joined p q (part_gives way of x) (flat_map (part_gives way of) xs) (part_gives way by x) (flat_map (part_gives way by) xs) (part_alike way x) (parts_alike way xs)
+
+  pub sections_alike : (way : Follow) (xs : List SectionTree) → list_any p (sections_give way of xs) ≡ list_any q (sections_give way by xs)
+  sections_alike way [] = refl
+  sections_alike way (x ∷ xs) =
+      let ps = parts_in_section x in
+      joined p q (flat_map (part_gives way of) ps) (sections_give way of xs) (flat_map (part_gives way by) ps) (sections_give way by xs) (parts_alike way ps) (sections_alike way xs)
+
+-- ---- what is named plainly is named strongly too
 
 abbrev pub ReadsMore : {A : Type 0} → (A → Bool) → (List ℕ → Bool → List A) → Type 0
 ReadsMore p of = (name : List ℕ) → list_any p (of name false) ≡ true → list_any p (of name true) ≡ true
@@ -79,12 +107,9 @@ module _ {A : Type 0} (p : A → Bool) (of : List ℕ → Bool → List A) (more
 
   use_more : (e : Option Extension) (first : Word) (last : Option Word) → list_any p (reads_to of (asks_q false e) first last) ≡ true → list_any p (reads_to of (asks_q true e) first last) ≡ true
   use_more e first None h = asked_more e (of first.text) (more first.text) h
-  use_more e first (Some last) h = asked_more e (λ as_q. read_names of as_q (range_names first.text last.text)) (names_more (range_names first.text last.text)) h
+  use_more e first (Some last) h = asked_more e (λ strong. read_names of strong (range_names first.text last.text)) (names_more (range_names first.text last.text)) h
 
-  uses_more : (us : List UsedName) → list_any p (flat_map (use_reads of false) us) ≡ true → list_any p (flat_map (use_reads of true) us) ≡ true
+  pub uses_more : (us : List UsedName) → list_any p (uses_read of false us) ≡ true → list_any p (uses_read of true us) ≡ true
   uses_more [] h = h
   uses_more (u ∷ us) h =
-      joined_more (use_reads of false u) (flat_map (use_reads of false) us) (use_reads of true u) (flat_map (use_reads of true) us) (use_more u.extension u.first u.last) (uses_more us) h
-
-  pub read_more : (t : Tree) → list_any p (read_in of false t) ≡ true → list_any p (read_in of true t) ≡ true
-  read_more t h = ap (list_any p) (read_used of true None t) ∙ uses_more (names_used None t) (sym (ap (list_any p) (read_used of false None t)) ∙ h)
+      joined_more (use_reads of false u) (uses_read of false us) (use_reads of true u) (uses_read of true us) (use_more u.extension u.first u.last) (uses_more us) h

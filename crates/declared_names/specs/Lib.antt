@@ -4,3 +4,4 @@ pub mod Numbered
 pub mod Reading
 pub mod Registers
 pub mod Settled
+pub mod Sharing

@@ -1,14 +1,9 @@
 -- Marks of names: a target on the clock and a read of Q mark strongly, any other plainly (ABEL-HDL Reference Manual, equations
 -- and dot extensions).
-use Rattle.std.specs.Prelude.{ℕ, zero, suc, Bool, true, false, Option, None, Some, List, [], fold, set, get_or}
-use Rattle.abel_tree.specs.declared.words.Extension.{Extension}
-use Rattle.abel_tree.specs.declared.words.Extension.TheVariants.{D}
-use Rattle.abel_tree.specs.Assigned.{Assigned, Named, assigned_by, assigned_each, is_clocked, signals_of, target_extension, without_extension}
-use Rattle.abel_tree.specs.Tree.{Tree}
+use Rattle.std.specs.Prelude.{ℕ, zero, suc, Bool, true, false, Option, None, Some, List, fold, set, get_or}
+use Rattle.abel_tree.specs.Assigned.{Assigned}
 use Rattle.declared_names.specs.declared.marks.Mark.{Mark}
 use Rattle.declared_names.specs.declared.marks.Mark.TheVariants as mark
-use Rattle.name_uses.specs.Parts as role
-use Rattle.name_uses.specs.Parts.{PartRole, PartTree}
 
 -- something names it
 abbrev pub is_marked : Mark → Bool
@@ -22,6 +17,12 @@ is_strong mark.Clear = false
 is_strong mark.Plain = false
 is_strong mark.Strong = true
 
+-- whether it is strong, if something names it
+abbrev pub strength : Mark → Option Bool
+strength mark.Clear = None
+strength mark.Plain = Some false
+strength mark.Strong = Some true
+
 -- it is named once more
 abbrev pub raised : (strong : Bool) → Mark → Mark
 raised true m = mark.Strong
@@ -32,10 +33,6 @@ raised false mark.Strong = mark.Strong
 -- the marks of all names, with one name's raised
 abbrev pub hit : (strong : Bool) → List Mark → ℕ → List Mark
 hit strong ms k = set ms k (raised strong (get_or ms k mark.Clear))
-
--- with those of several names
-abbrev pub hits : (strong : Bool) → List Mark → List ℕ → List Mark
-hits strong ms ks = fold (hit strong) ms ks
 
 -- what is assigned or read is marked: strongly what is told as on the clock
 abbrev pub marked : List Mark → Assigned → List Mark
@@ -54,21 +51,3 @@ pass_by mark.Strong gives ms = all_marked ms (gives true)
 abbrev pub passed : (gives : ℕ → Bool → List Assigned) → ℕ → List Mark → List Mark
 passed gives zero ms = ms
 passed gives (suc k) ms = passed gives k (pass_by (get_or ms k mark.Clear) (gives k) ms)
-
--- whether a target with this extension is data, and then whether it is assigned on the clock
-abbrev pub clocked_by : Option Extension → (clocked : Bool) → Option Bool
-clocked_by None clocked = Some clocked
-clocked_by (Some D) clocked = Some true
-clocked_by (Some _) clocked = None
-
--- what a part of a section assigns: a target of data, the outputs of a table, the registers of a diagram
-abbrev pub assigned_as : List Named → PartRole → Tree → List Assigned
-assigned_as ks (role.Target sign) t = assigned_by (target_extension t) (is_clocked sign) (signals_of ks (without_extension t))
-assigned_as ks (role.Value target) t = []
-assigned_as ks role.Read t = []
-assigned_as ks (role.Outputs clocked) t = assigned_each clocked (signals_of ks t)
-assigned_as ks role.Registers t = assigned_each true (signals_of ks t)
-assigned_as ks role.Entry t = []
-
-abbrev pub part_assigns : List Named → PartTree → List Assigned
-part_assigns ks p = assigned_as ks p.role p.tree

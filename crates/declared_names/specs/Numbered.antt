@@ -1,14 +1,11 @@
--- The names with their own numbers, what a constant names, and what is marked of names.
-use Rattle.std.specs.Prelude.{◌≡◌, ℕ, suc, Option, None, Some, List, [], ◌∷◌, Bool, if◌then◌else◌, nat_lt, take, bytes_eq, slice_get}
+-- The names with their own numbers, and the values of constants.
+use Rattle.std.specs.Prelude.{◌≡◌, ℕ, suc, Option, None, Some, List, [], ◌∷◌, if◌then◌else◌, nat_lt, take, bytes_eq}
 use Rattle.std.specs.Global.{Vec}
 use Rattle.std.specs.Map.{lookup}
-use Rattle.abel_tree.specs.Assigned.{Assigned, Named, assigned_each, signals_of}
+use Rattle.abel_tree.specs.Assigned.{Named}
 use Rattle.abel_tree.specs.Entries.{Kind, APin, ANode, AConstant, ADeviceName, Entry, find}
 use Rattle.abel_tree.specs.Tree.{Tree}
-use Rattle.declared_names.specs.declared.marks.Mark.{Mark}
-use Rattle.declared_names.specs.declared.numbers.FirstNames.{FirstNames}
 use Rattle.declared_names.specs.declared.numbers.Numbers.{Numbers}
-use Rattle.declared_names.specs.Marking.{all_marked, hits}
 
 -- a name that stands for its own number alone
 abbrev pub numbered_from : ℕ → List Entry → List Named
@@ -29,19 +26,6 @@ value_of ADeviceName = None
 abbrev pub value_at : Option Entry → Option Tree
 value_at None = None
 value_at (Some e) = value_of e.kind
-
--- the numbers that a constant names itself
-abbrev pub named_in : List Named → Option Tree → List ℕ
-named_in ks None = []
-named_in ks (Some value) = signals_of ks value
-
--- the numbers that the name of this number names, if it is a constant: they are earlier
-abbrev pub direct : List Entry → ℕ → List ℕ
-direct es k = named_in (numbered k es) (value_at (slice_get es k))
-
--- these are assigned where it is, on the clock or not
-abbrev pub assigns_of : List Entry → ℕ → (clocked : Bool) → List Assigned
-assigns_of es k clocked = assigned_each clocked (direct es k)
 
 -- the number, if it is below the limit
 abbrev pub below_limit : (limit : ℕ) → Option ℕ → List ℕ
@@ -64,15 +48,3 @@ number_of_name name n other = if bytes_eq other name then Some n else None
 -- the numbers are those of these names
 abbrev pub IsNumbering : Numbers → List Entry → Type 0
 IsNumbering ns es = (name : List ℕ) → number_in ns.map.entries name ≡ find es name
-
--- ---- what the first names mark, whatever names have their numbers
-
--- the numbers that they give are marked, plainly or strongly
-abbrev pub AreNamed : FirstNames → (strong : Bool) → (old new : List Mark) → (gives : List Named → List ℕ) → Type 0
-AreNamed names strong old new gives =
-    (es : List Entry) → IsNumbering names.numbers.now es → new ≡ hits strong old (gives (numbered names.limit es))
-
--- what they give is marked as assigned
-abbrev pub AreAssigned : FirstNames → (old new : List Mark) → (gives : List Named → List Assigned) → Type 0
-AreAssigned names old new gives =
-    (es : List Entry) → IsNumbering names.numbers.now es → new ≡ all_marked old (gives (numbered names.limit es))

@@ -1,87 +1,109 @@
--- Marks of what is read, and what holds registers, as it is found: what is read with `.Q` behind it is told as what is assigned
--- on the clock is, and so marks strongly (ABEL-HDL Reference Manual, dot extensions).
-use Rattle.std.specs.Prelude.{◌≡◌, ℕ, Bool, false, ◌||◌, Option, None, Some, List, [], fold, slice_get}
+-- What sections and constants name, as it is marked: what is read with `.Q` behind it is told as what is assigned on the clock
+-- is, and so marks strongly (ABEL-HDL Reference Manual, equations and dot extensions).
+use Rattle.std.specs.Prelude.{◌≡◌, ℕ, Bool, true, false, ◌||◌, Option, None, Some, List, [], if◌then◌else◌, map, length, replicate, slice_get}
 use Rattle.std.specs.List.{flat_map}
-use Rattle.abel_meaning.specs.Held.{ATarget, Part, asks_q, part_reads, part_shares, read_in, read_names}
-use Rattle.abel_tree.specs.Assigned.{Assigned, assigned_each, signals_of_name}
+use Rattle.abel_meaning.specs.Held.{asks_q, read_names}
+use Rattle.abel_tree.specs.Assigned.{Assigned, assigned_each, is_clocked, signals_of_name, target_extension, without_extension}
 use Rattle.abel_tree.specs.Entries.{Entry}
+use Rattle.abel_tree.specs.Extensions.{is_data, is_raw}
 use Rattle.abel_tree.specs.Ranges.{range_names}
-use Rattle.abel_tree.specs.Tree.{Tree}
+use Rattle.abel_tree.specs.Tree.{SectionTree, Tree}
+use Rattle.abel_tree.specs.declared.words.Extension.{Extension}
+use Rattle.abel_tree.specs.declared.words.Extension.TheVariants.{Q}
 use Rattle.abel_tree.specs.declared.words.Word.{Word}
-use Rattle.declared_names.specs.declared.held.Found.{Found}
+use Rattle.declared_names.specs.declared.following.Follow.{Follow}
+use Rattle.declared_names.specs.declared.following.Follow.TheVariants as follow
 use Rattle.declared_names.specs.declared.marks.Mark.{Mark}
+use Rattle.declared_names.specs.declared.marks.Mark.TheVariants as mark
 use Rattle.declared_names.specs.declared.numbers.FirstNames.{FirstNames}
-use Rattle.declared_names.specs.Marking.{all_marked}
+use Rattle.declared_names.specs.Marking.{all_marked, passed}
 use Rattle.declared_names.specs.Numbered.{IsNumbering, numbered, value_at}
-use Rattle.name_uses.specs.NamesUsed.{UsedName}
+use Rattle.name_uses.specs.NamesUsed.{UsedName, names_used}
 use Rattle.name_uses.specs.Parts as role
 use Rattle.name_uses.specs.Parts.{PartRole, PartTree}
+use Rattle.name_uses.specs.Targets.{targets_in}
+use Rattle.name_uses.specs.Viewed.{PartedSection, with_parts}
 
 -- ---- names
 
 -- a name below the limit marks its own number
-abbrev pub numbers_read : (limit : ℕ) → List Entry → List ℕ → (as_q : Bool) → List Assigned
-numbers_read limit es name as_q = assigned_each as_q (signals_of_name (numbered limit es) name)
+abbrev pub numbers_read : (limit : ℕ) → List Entry → List ℕ → (strong : Bool) → List Assigned
+numbers_read limit es name strong = assigned_each strong (signals_of_name (numbered limit es) name)
+
+-- what a name or a range gives
+abbrev pub reads_to : {A : Type 0} → (List ℕ → Bool → List A) → (strong : Bool) → (first : Word) → (last : Option Word) → List A
+reads_to of strong first None = of first.text strong
+reads_to of strong first (Some last) = read_names of strong (range_names first.text last.text)
+
+-- what a use gives: its extension counts, and without one what is asked of all
+abbrev pub use_reads : {A : Type 0} → (List ℕ → Bool → List A) → (strong : Bool) → UsedName → List A
+use_reads of strong u = reads_to of (asks_q strong u.extension) u.first u.last
+
+abbrev pub uses_read : {A : Type 0} → (List ℕ → Bool → List A) → (strong : Bool) → List UsedName → List A
+uses_read of strong us = flat_map (use_reads of strong) us
 
 -- ---- constants
 
--- what a constant reads itself, read with `.Q` behind it or without
-abbrev pub reads_in : (limit : ℕ) → List Entry → (as_q : Bool) → Option Tree → List Assigned
-reads_in limit es as_q None = []
-reads_in limit es as_q (Some value) = read_in (numbers_read limit es) as_q value
+-- the names of an expression: as a target, or as it is read
+abbrev pub uses_in : Follow → Tree → List UsedName
+uses_in follow.Targets t = targets_in t
+uses_in follow.Reads t = names_used None t
 
--- what the name of this number reads, if it is a constant: names of earlier numbers
-abbrev pub reads_of : List Entry → ℕ → (as_q : Bool) → List Assigned
-reads_of es k as_q = reads_in k es as_q (value_at (slice_get es k))
+-- those of a constant
+abbrev pub value_uses : Follow → Option Tree → List UsedName
+value_uses way None = []
+value_uses way (Some value) = uses_in way value
 
--- ---- names that are used
+-- what the name of this number gives, if it is a constant: names of earlier numbers
+abbrev pub given_by : Follow → List Entry → ℕ → (strong : Bool) → List Assigned
+given_by way es k strong = uses_read (numbers_read k es) strong (value_uses way (value_at (slice_get es k)))
 
--- what a name or a range gives
-abbrev pub reads_to : {A : Type 0} → (List ℕ → Bool → List A) → (as_q : Bool) → (first : Word) → (last : Option Word) → List A
-reads_to of as_q first None = of first.text as_q
-reads_to of as_q first (Some last) = read_names of as_q (range_names first.text last.text)
+-- ---- parts of sections
 
--- what a use gives: its extension counts, and without one that around the whole expression
-abbrev pub use_reads : {A : Type 0} → (List ℕ → Bool → List A) → (as_q : Bool) → UsedName → List A
-use_reads of as_q u = reads_to of (asks_q as_q u.extension) u.first u.last
+-- the target of an equation with this extension and sign, if it is data
+abbrev pub side_gives : {A : Type 0} → (List ℕ → Bool → List A) → Option Extension → (clocked : Bool) → List UsedName → List A
+side_gives of e clocked us = if is_data e then uses_read of (is_raw e || clocked) us else []
 
--- ---- what is found
+-- what a part assigns: a target of data, the outputs of a table, the registers of a diagram
+abbrev pub assigned_as : {A : Type 0} → (List ℕ → Bool → List A) → PartRole → Tree → List A
+assigned_as of (role.Target sign) t = side_gives of (target_extension t) (is_clocked sign) (targets_in (without_extension t))
+assigned_as of (role.Value target) t = []
+assigned_as of role.Read t = []
+assigned_as of (role.Outputs clocked) t = uses_read of clocked (targets_in t)
+assigned_as of role.Registers t = uses_read of true (targets_in t)
+assigned_as of role.Entry t = []
 
--- whether all registers are held, and the marks
-pub record Holding : Type 0 where
-  pub all : Bool
-  pub marks : List Mark
+-- the target of a raw input gives what it would read as Q
+abbrev pub raw_reads : {A : Type 0} → (List ℕ → Bool → List A) → Tree → List A
+raw_reads of t = if is_raw (target_extension t) then uses_read of false (names_used (Some Q) (without_extension t)) else []
 
-abbrev pub holding_of : Found → Holding
-holding_of found = record { all = found.all; marks = found.marks.items }
+-- what a part reads: an expression its names
+abbrev pub read_as : {A : Type 0} → (List ℕ → Bool → List A) → PartRole → Tree → List UsedName → List A
+read_as of (role.Target sign) t us = raw_reads of t
+read_as of (role.Value target) t us = uses_read of false us
+read_as of role.Read t us = uses_read of false us
+read_as of (role.Outputs clocked) t us = []
+read_as of role.Registers t us = []
+read_as of role.Entry t us = []
 
--- what one more part holds
-abbrev pub part_found : (List ℕ → Bool → List Assigned) → Holding → Part → Holding
-part_found of found p = record { all = found.all || part_shares p; marks = all_marked found.marks (part_reads of p) }
+abbrev pub part_gives : {A : Type 0} → Follow → (List ℕ → Bool → List A) → PartTree → List A
+part_gives follow.Targets of p = assigned_as of p.role p.tree
+part_gives follow.Reads of p = read_as of p.role p.tree p.uses
 
-abbrev pub parts_found : (List ℕ → Bool → List Assigned) → Holding → List Part → Holding
-parts_found of found ps = fold (part_found of) found ps
+abbrev pub section_gives : {A : Type 0} → Follow → (List ℕ → Bool → List A) → PartedSection → List A
+section_gives way of x = flat_map (part_gives way of) x.parts
 
--- what a part of a section holds: a target, or the names that an expression which is read uses
-abbrev pub held_as : (List ℕ → Bool → List Assigned) → Holding → PartRole → Tree → List UsedName → Holding
-held_as of found (role.Target sign) t us = part_found of found (ATarget t)
-held_as of found (role.Value target) t us = record { all = found.all; marks = all_marked found.marks (flat_map (use_reads of false) us) }
-held_as of found role.Read t us = record { all = found.all; marks = all_marked found.marks (flat_map (use_reads of false) us) }
-held_as of found (role.Outputs clocked) t us = found
-held_as of found role.Registers t us = found
-held_as of found role.Entry t us = found
+abbrev pub sections_give : {A : Type 0} → Follow → (List ℕ → Bool → List A) → List SectionTree → List A
+sections_give way of xs = flat_map (section_gives way of) (map with_parts xs)
 
-abbrev pub part_holds : (List ℕ → Bool → List Assigned) → Holding → PartTree → Holding
-part_holds of found p = held_as of found p.role p.tree p.uses
+-- ---- marks
 
--- ---- what the first names mark, whatever names have their numbers
-
--- what is read is marked
-abbrev pub AreRead : FirstNames → (old new : List Mark) → (gives : (List ℕ → Bool → List Assigned) → List Assigned) → Type 0
-AreRead names old new gives =
+-- what the first names give is marked, whatever names have their numbers
+abbrev pub AreMarked : FirstNames → (old new : List Mark) → (gives : (List ℕ → Bool → List Assigned) → List Assigned) → Type 0
+AreMarked names old new gives =
     (es : List Entry) → IsNumbering names.numbers.now es → new ≡ all_marked old (gives (numbers_read names.limit es))
 
--- what is held is found
-abbrev pub IsHeld : FirstNames → (old new : Holding) → (holds : (List ℕ → Bool → List Assigned) → Holding → Holding) → Type 0
-IsHeld names old new holds =
-    (es : List Entry) → IsNumbering names.numbers.now es → new ≡ holds (numbers_read names.limit es) old
+-- what sections give, also through constants
+abbrev pub all_marks : Follow → List Entry → List SectionTree → List Mark
+all_marks way es xs =
+    passed (given_by way es) (length es) (all_marked (replicate (length es) mark.Clear) (sections_give way (numbers_read (length es) es) xs))

@@ -25,11 +25,7 @@ pub(crate) fn settled_attributes(flip: Flip, said: Attributes, mark: Mark, held:
 fn is_buffer_by_default(flip: Flip) -> bool
     ensures { result ≡ is_buffer_by_default flip }
 {
-    match flip {
-        Flip::Always => false,
-        Flip::AfterRegister => true,
-        Flip::BeforeRegister => false,
-    }
+    matches!(flip, Flip::AfterRegister)
 }
 
 /// Whether neither polarity is said, and the device leaves it to the fitter.

@@ -13,8 +13,6 @@ pub(crate) fn constant_at(names: &[Declared], number: usize) -> Option<&Expr>
 {
     match &names.get(number)?.meaning {
         Meaning::Constant(value) => Some(value),
-        Meaning::Pin { pin: _, negated: _ } => None,
-        Meaning::Node(_) => None,
-        Meaning::DeviceName => None,
+        _ => None,
     }
 }

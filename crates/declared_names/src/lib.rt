@@ -1,21 +1,19 @@
 //! The names that a source declares, and what each stands for.
 #![tactic(auto)]
 
-mod assigned;
 mod attributes;
 mod constants;
 mod declaring;
+mod following;
 mod held;
 mod kinds;
 mod laws;
 mod marks;
 mod numbered;
 mod numbers;
-mod reading;
+mod parts;
 mod reads;
 mod registers;
-mod sweep;
-mod targets;
 
 pub use declaring::declare;
 pub use kinds::settle;

@@ -1,7 +1,8 @@
 //! The marks of names: what targets name, and what is read.
 
-ghost use Rattle.std.specs.Prelude.{◌≡◌};
-ghost use Rattle.declared_names.specs.Marking.{hit, raised, is_strong};
+ghost use Rattle.std.specs.Prelude.{◌≡◌, get_or};
+ghost use Rattle.declared_names.specs.Marking.{hit, is_strong, raised, strength};
+ghost use Rattle.declared_names.specs.declared.marks.Mark.TheVariants.{Clear};
 
 /// Whether something names a name, and whether it does so strongly: a target on the clock, or a read of its Q.
 #[derive(Clone, Copy, PartialEq, Eq)]
@@ -24,15 +25,33 @@ impl Mark {
         }
     }
 
+    /// Whether it is strong, if something names it.
+    pub(crate) fn strength(self) -> Option<bool>
+        ensures { result ≡ strength self }
+    {
+        match self {
+            Mark::Clear => None,
+            Mark::Plain => Some(false),
+            Mark::Strong => Some(true),
+        }
+    }
+
     /// Whether something names it strongly.
     pub(crate) fn is_strong(self) -> bool
         ensures { result ≡ is_strong self }
     {
-        match self {
-            Mark::Clear => false,
-            Mark::Plain => false,
-            Mark::Strong => true,
-        }
+        matches!(self, Mark::Strong)
+    }
+}
+
+/// The mark of a name.
+pub(crate) fn mark_of(marks: &[Mark], number: usize) -> Mark
+    ensures { result ≡ get_or marks.now number Clear }
+{
+    if number < marks.len() {
+        marks[number]
+    } else {
+        Mark::Clear
     }
 }
 

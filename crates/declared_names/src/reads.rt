@@ -1,12 +1,12 @@
-//! The names that expressions read, with `.Q` behind them or without.
+//! The names that are used, marked by their numbers.
 
 ghost use Rattle.std.specs.Prelude.{◌≡◌, OnOk, map};
-ghost use Rattle.std.specs.List.{flat_map};
-ghost use Rattle.abel_meaning.specs.Held.{asks_q};
-ghost use Rattle.declared_names.specs.Reading.{AreRead, use_reads};
+ghost use Rattle.abel_meaning.specs.Held.{asks_q, read_names};
+ghost use Rattle.declared_names.specs.Reading.{AreMarked, use_reads, uses_read};
+ghost use Rattle.name_uses.specs.RangeParts.{name_items};
 ghost use Rattle.name_uses.specs.Viewed.{view_use};
 
-use crate::marks::Mark;
+use crate::marks::{Mark, mark_number};
 use crate::numbers::FirstNames;
 use abel_tree::Extension;
 use name_uses::{NameUse, range_list};
@@ -20,30 +20,24 @@ fn asks_q(as_q: bool, extension: Option<Extension>) -> bool
     match extension {
         None => as_q,
         Some(Extension::Q) => true,
-        Some(Extension::D) => false,
-        Some(Extension::Clk) => false,
-        Some(Extension::Oe) => false,
-        Some(Extension::Ar) => false,
-        Some(Extension::Sp) => false,
-        Some(Extension::Fb) => false,
-        Some(Extension::Pin) => false,
+        Some(_) => false,
     }
 }
 
 impl FirstNames<'_> {
-    /// Marks the names that an expression uses, strongly those that have `.Q` behind them.
+    /// Marks the names that are used, strongly those whose extension says so, or those without one if all are asked so.
     pub(crate) fn mark_uses(
         &self,
         alloc: Global,
         marks: &mut Vec<Mark>,
-        as_q: bool,
+        strong: bool,
         uses: &[NameUse<'_>],
     ) -> Result<(), OutOfMemory>
-        ensures { OnOk result (AreRead self.now marks.old.items marks.new.items
-            (λ of. flat_map (use_reads of as_q) (map view_use uses.now))) }
+        ensures { OnOk result (AreMarked self.now marks.old.items marks.new.items
+            (λ of. uses_read of strong (map view_use uses.now))) }
     {
         for used in uses {
-            self.mark_use(alloc, marks, as_q, used)?;
+            self.mark_use(alloc, marks, strong, used)?;
         }
         Ok(())
     }
@@ -53,13 +47,13 @@ impl FirstNames<'_> {
         &self,
         alloc: Global,
         marks: &mut Vec<Mark>,
-        as_q: bool,
+        strong: bool,
         used: &NameUse<'_>,
     ) -> Result<(), OutOfMemory>
-        ensures { OnOk result (AreRead self.now marks.old.items marks.new.items
-            (λ of. use_reads of as_q (view_use used.now))) }
+        ensures { OnOk result (AreMarked self.now marks.old.items marks.new.items
+            (λ of. use_reads of strong (view_use used.now))) }
     {
-        let strong = asks_q(as_q, used.extension);
+        let strong = asks_q(strong, used.extension);
         let first = used.first.text.bytes();
         match used.last {
             Some(last) => {
@@ -70,6 +64,27 @@ impl FirstNames<'_> {
             None => {
                 self.mark_name(marks, strong, first);
                 Ok(())
+            }
+        }
+    }
+
+    /// Marks names.
+    fn mark_names(&self, marks: &mut Vec<Mark>, strong: bool, names: &[Vec<u8>])
+        ensures { AreMarked self.now marks.old.items marks.new.items
+            (λ of. read_names of strong (map name_items names.now)) }
+    {
+        for name in names {
+            self.mark_name(marks, strong, name.as_slice());
+        }
+    }
+
+    /// Marks a name, if its number is below the limit.
+    fn mark_name(&self, marks: &mut Vec<Mark>, strong: bool, name: &[u8])
+        ensures { AreMarked self.now marks.old.items marks.new.items (λ of. of name.now strong) }
+    {
+        if let Some(number) = self.numbers.map.get(name) {
+            if *number < self.limit {
+                mark_number(marks, *number, strong);
             }
         }
     }

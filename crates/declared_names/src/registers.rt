@@ -1,6 +1,6 @@
 //! Registers that a device can't buffer.
 
-ghost use Rattle.std.specs.Prelude.{◌≡◌, is_some, ◌++◌, IfErr, IfOk, List, Some, false, map, slice_get, true};
+ghost use Rattle.std.specs.Prelude.{◌≡◌, ◌++◌, IfErr, IfOk, List, Some, false, map, slice_get, true};
 ghost use Rattle.abel_tree.specs.Entries.{view_declared};
 ghost use Rattle.abel_tree.specs.FirstRefusal.{first_refusal};
 ghost use Rattle.decls.specs.declared.fault.NameFault.{NameFault};
@@ -51,17 +51,6 @@ fn with_registers(
     first
 }
 
-/// No refusal, or else the answer.
-fn settled(fault: Option<NameFault>) -> Result<Option<NameFault>, NameFault>
-    ensures open { IfOk result (λ f. (f ≡ fault) × (is_some fault ≡ false)) }
-    ensures settled { IfErr result (λ f. fault ≡ Some f) }
-{
-    match fault {
-        Some(fault) => Err(fault),
-        None => Ok(None),
-    }
-}
-
 /// The first refusal so far, if registers wait that may be refused before it. Else it is the answer.
 pub(crate) fn open_fault(
     fault: Option<NameFault>,
@@ -73,7 +62,10 @@ pub(crate) fn open_fault(
     if registers_wait {
         return Ok(fault);
     }
-    settled(fault)
+    match fault {
+        Some(fault) => Err(fault),
+        None => Ok(None),
+    }
 }
 
 /// The first refusal, counting the registers among these names that the device can't buffer.

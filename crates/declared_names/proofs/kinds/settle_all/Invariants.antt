@@ -2,12 +2,11 @@
 use Rattle.std.proofs.Common.{◌≡◌, map, length}
 use Rattle.std.specs.Vec.{vec_len}
 use Rattle.abel_tree.specs.Entries.{view_declared}
-use Rattle.declared_names.specs.Reading.{holding_of}
 use Rattle.declared_names.specs.Settled.{kinds_by}
 use Rattle.declared_names.proofs.kinds.settle_all.Given as goal
 
 abbrev pub invariant-loop-declared : goal.invariant-loop-declared
 invariant-loop-declared l = record {
-  so_far : map view_declared l.settled.items ≡ kinds_by l.flip l.marks (holding_of l.held) 0 (map view_declared l.yielded);
+  so_far : map view_declared l.settled.items ≡ kinds_by l.flip l.marks l.held 0 (map view_declared l.yielded);
   count : vec_len l.settled ≡ length l.yielded;
 }

@@ -2,13 +2,9 @@
 use Rattle.std.proofs.Common.{◌≡◌, map, sym, ap, ap₂, ◌∙◌}
 use Rattle.std.specs.Prelude.{option_map}
 use Rattle.abel_meaning.specs.Held.{asks_q, read_names}
-use Rattle.abel_tree.specs.Assigned.{signals_of_name, signals_of_names}
 use Rattle.abel_tree.specs.Ranges.{range_names}
-use Rattle.declared_names.specs.Marking.{all_marked, hits}
-use Rattle.declared_names.specs.Numbered.{numbered}
+use Rattle.declared_names.specs.Marking.{all_marked}
 use Rattle.declared_names.specs.Reading.{numbers_read, reads_to}
-use Rattle.declared_names.proofs.Hits.{each_marked}
-use Rattle.declared_names.proofs.UsedNames.{each_name}
 use Rattle.declared_names.proofs.numbers.FirstNames.mark_use.Goals as goal
 use Rattle.name_uses.specs.RangeParts.{name_items}
 use Rattle.name_uses.specs.Viewed.{word_at}
@@ -18,22 +14,17 @@ returns-in-None c = λ es num.
     let of = numbers_read c.args.self.now.limit es in
     let u = c.args.used.now in
     c.mark_name.ensures es num
-    ∙ (each_marked c.asks_q-strong.result c.args.marks.now.items (signals_of_name (numbered c.args.self.now.limit es) c.bytes-first.result.now)
     ∙ ap (all_marked c.args.marks.now.items)
     (ap₂ (λ w q. of w q) c.bytes-first.ensures c.asks_q-strong.ensures
-    ∙ ap (λ l. reads_to of (asks_q c.args.as_q u.extension) u.first.now (option_map word_at l)) (sym c.in-None.is)))
+    ∙ ap (λ l. reads_to of (asks_q c.args.strong u.extension) u.first.now (option_map word_at l)) (sym c.in-None.is))
 
 pub returns-in_ok-names-in-Some : goal.returns-in_ok-names-in-Some
 returns-in_ok-names-in-Some c = λ es num.
     let of = numbers_read c.args.self.now.limit es in
     let u = c.args.used.now in
-    let signals = signals_of_names (numbered c.args.self.now.limit es) in
     let names : map name_items c.as_slice.result.now ≡ range_names u.first.now.text c.in-Some.last.now.text =
     ap (map name_items) c.as_slice.ensures.value ∙ (c.in_ok-names-in-Some.ensures ∙ ap₂ range_names c.bytes-first.ensures c.bytes.ensures) in
     c.mark_names.ensures es num
-    ∙ (ap (λ ns. hits c.asks_q-strong.result c.args.marks.now.items (signals ns)) names
-    ∙ (each_marked c.asks_q-strong.result c.args.marks.now.items (signals (range_names u.first.now.text c.in-Some.last.now.text))
     ∙ ap (all_marked c.args.marks.now.items)
-    (each_name c.args.self.now.limit es c.asks_q-strong.result (range_names u.first.now.text c.in-Some.last.now.text)
-    ∙ (ap (λ q. read_names of q (range_names u.first.now.text c.in-Some.last.now.text)) c.asks_q-strong.ensures
-    ∙ ap (λ l. reads_to of (asks_q c.args.as_q u.extension) u.first.now (option_map word_at l)) (sym c.in-Some.is)))))
+    (ap₂ (λ q ns. read_names of q ns) c.asks_q-strong.ensures names
+    ∙ ap (λ l. reads_to of (asks_q c.args.strong u.extension) u.first.now (option_map word_at l)) (sym c.in-Some.is))

@@ -8,5 +8,5 @@ use Rattle.name_uses.specs.Viewed.{view_use}
 pub loop-used-preserved : goal.loop-used-preserved
 loop-used-preserved c = λ es num.
     let l = c.loop-used in
-    flat_next marked (use_reads (numbers_read c.args.self.now.limit es) c.args.as_q) view_use c.args.marks.now.items l.marks.items c.mark_use.new.marks.items c.args.uses.now l.used-index c.used-item.result c.loop-used-test.true c.used-item.is
+    flat_next marked (use_reads (numbers_read c.args.self.now.limit es) c.args.strong) view_use c.args.marks.now.items l.marks.items c.mark_use.new.marks.items c.args.uses.now l.used-index c.used-item.result c.loop-used-test.true c.used-item.is
     (l.invariant es num) (c.in_ok-mark_use.ensures es num)

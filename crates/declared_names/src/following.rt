@@ -1,0 +1,108 @@
+//! From the last constant to the first: what is in a constant that is marked is marked.
+
+ghost use Rattle.std.specs.Prelude.{◌≡◌, IfOk, OnOk, get_or, length, map};
+ghost use Rattle.abel_tree.specs.Entries.{view_declared};
+ghost use Rattle.abel_tree.specs.View.{view, view_module};
+ghost use Rattle.declared_names.specs.Marking.{pass_by, passed};
+ghost use Rattle.declared_names.specs.Numbered.{IsNumbering};
+ghost use Rattle.declared_names.specs.Reading.{all_marks, given_by, uses_in};
+ghost use Rattle.declared_names.specs.declared.marks.Mark.TheVariants.{Clear};
+ghost use Rattle.name_uses.specs.Viewed.{view_use};
+
+use crate::constants::constant_at;
+use crate::marks::{Mark, mark_of};
+use crate::numbers::{FirstNames, Numbers};
+use abel_tree::{Declared, Expr};
+use name_uses::{ModuleParts, NameUse, names_used, targets_in};
+use pld_base::OutOfMemory;
+use std::alloc::Global;
+
+/// What of an expression is marked: what it names as a target, or what it reads.
+#[derive(Clone, Copy)]
+pub(crate) enum Follow {
+    Targets,
+    Reads,
+}
+
+/// The names of an expression that are marked.
+fn uses_in(alloc: Global, expr: &Expr, follow: Follow) -> Result<Vec<NameUse<'_>>, OutOfMemory>
+    ensures { IfOk result (λ uses. map view_use uses.items ≡ uses_in follow (view expr.now)) }
+{
+    match follow {
+        Follow::Targets => targets_in(alloc, expr),
+        Follow::Reads => names_used(alloc, expr),
+    }
+}
+
+impl Numbers {
+    /// The marks of the names by what the sections assign, or by what they read, also through constants.
+    pub(crate) fn marks_by(
+        &self,
+        alloc: Global,
+        names: &[Declared],
+        source: &ModuleParts<'_>,
+        follow: Follow,
+    ) -> Result<Vec<Mark>, OutOfMemory>
+        requires { IsNumbering self.now (map view_declared names.now) }
+        ensures { IfOk result (λ marks. marks.items
+            ≡ all_marks follow (map view_declared names.now) (view_module source.now).sections) }
+    {
+        let mut marks = vec![in alloc; Mark::Clear; names.len()]?;
+        let all = FirstNames {
+            numbers: self,
+            limit: names.len(),
+        };
+        all.mark_sections(alloc, &mut marks, source, follow)?;
+        self.pass_on(alloc, &mut marks, names, follow)?;
+        Ok(marks)
+    }
+
+    /// Marks what is in all constants that are marked, from the last one to the first.
+    fn pass_on(
+        &self,
+        alloc: Global,
+        marks: &mut Vec<Mark>,
+        names: &[Declared],
+        follow: Follow,
+    ) -> Result<(), OutOfMemory>
+        requires { IsNumbering self.now (map view_declared names.now) }
+        ensures { OnOk result (marks.new.items
+            ≡ passed (given_by follow (map view_declared names.now)) (length names.now) marks.old.items) }
+    {
+        let mut number = names.len();
+        while 0 < number {
+            number -= 1;
+            let earlier = FirstNames {
+                numbers: self,
+                limit: number,
+            };
+            earlier.pass_last(alloc, marks, names, follow)?;
+        }
+        Ok(())
+    }
+}
+
+impl FirstNames<'_> {
+    /// Marks what is in the name behind them, if it is a constant that is marked.
+    fn pass_last(
+        &self,
+        alloc: Global,
+        marks: &mut Vec<Mark>,
+        names: &[Declared],
+        follow: Follow,
+    ) -> Result<(), OutOfMemory>
+        requires { IsNumbering self.now.numbers.now (map view_declared names.now) }
+        ensures { OnOk result (marks.new.items ≡ pass_by (get_or marks.old.items self.now.limit Clear)
+            (given_by follow (map view_declared names.now) self.now.limit) marks.old.items) }
+    {
+        let mark = mark_of(marks.as_slice(), self.limit);
+        let Some(strong) = mark.strength() else {
+            return Ok(());
+        };
+        let Some(value) = constant_at(names, self.limit) else {
+            return Ok(());
+        };
+        let uses = uses_in(alloc, value, follow)?;
+        self.mark_uses(alloc, marks, strong, uses.as_slice())
+    }
+}
