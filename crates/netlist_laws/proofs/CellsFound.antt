@@ -12,9 +12,10 @@ use Rattle.pld_device.specs.Table.{Table, cell_at, no_cell}
 use Rattle.pld_device.proofs.OwnPins.{own_pins}
 use Rattle.bit_expr.specs.Formulas.{Formula}
 use Rattle.abel_tree.specs.Entries.{Kind, APin, ANode, AConstant, ADeviceName, Entry}
+use Rattle.pld_device.specs.Pins.{cell_on}
 use Rattle.abel_meaning.specs.Contributions.{Contribution}
 use Rattle.abel_meaning.specs.Controls.{is_pin, signal_on}
-use Rattle.abel_meaning.specs.Designs.{Context, name_at, no_name, cell_on}
+use Rattle.abel_meaning.specs.Designs.{Context, name_at, no_name}
 use Rattle.abel_meaning.specs.Netlists.{Wanted, wanted_at}
 use Rattle.netlist_laws.specs.Gathered.{wanted_for, cell_by, cell_of, and_cell, cells_from, gathered_from}
 

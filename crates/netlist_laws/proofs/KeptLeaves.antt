@@ -8,6 +8,7 @@ use Rattle.bit_expr.specs.Folding.{make_not, make_or}
 use Rattle.bit_expr.specs.Formulas.{Formula, Const}
 use Rattle.abel_tree.specs.declared.words.Extension.{Extension}
 use Rattle.abel_tree.specs.declared.words.Extension.TheVariants as extension
+use Rattle.abel_tree.specs.Extensions.{is_data}
 use Rattle.abel_meaning.specs.Contributions.{Gives, One, Any, Match, Contribution}
 use Rattle.abel_meaning.specs.Controls.{is_the_control, is_control, control_by, control_of}
 use Rattle.abel_meaning.specs.Designs.{Design}
@@ -15,7 +16,6 @@ use Rattle.abel_meaning.specs.Follows.{seen}
 use Rattle.abel_meaning.specs.FormulaBits.{formulas}
 use Rattle.abel_meaning.specs.Functions.{is_data_to, same_gives, some_holds, gives_some, is_free_elsewhere, is_data_in, is_both, gives_in, any_against, both_function, single_function, function_of}
 use Rattle.abel_meaning.specs.SignalReads.{given_formulas}
-use Rattle.abel_meaning.specs.Targets.{is_data}
 use Rattle.netlist_laws.specs.SignalUses.{SignalUse, given_uses, uses_read}
 use Rattle.netlist_laws.specs.Takeable.{is_kept}
 use Rattle.netlist_laws.proofs.NamedLeaves.{NamesOnly, of_constant, of_not, of_or}

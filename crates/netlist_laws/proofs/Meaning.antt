@@ -17,13 +17,13 @@ use Rattle.pld_device.specs.Table.{Table, cell_at, no_cell}
 use Rattle.bit_expr.specs.Formulas.{Formula, Const, formula_value}
 use Rattle.abel_tree.specs.declared.words.Extension.{Extension}
 use Rattle.abel_tree.specs.declared.words.Extension.TheVariants as extension
-use Rattle.abel_tree.specs.Entries.{Entry}
+use Rattle.abel_tree.specs.Entries.{Entry, is_stored, follows_q}
 use Rattle.abel_tree.specs.Tree.{ModuleTree}
 use Rattle.abel_meaning.specs.AtPoints.{truth_at, given_at}
 use Rattle.abel_meaning.specs.Contributions.{Contribution}
 use Rattle.abel_meaning.specs.Controls.{signal_on, must_register, cell_stores_for, cell_stores, cell_enabled_by, control_of, control_if_stored, shared_control, register_control}
 use Rattle.abel_meaning.specs.Choices.{is_free_signal}
-use Rattle.abel_meaning.specs.Designs.{Design, design_of, name_at, is_stored, follows_q}
+use Rattle.abel_meaning.specs.Designs.{Design, design_of, name_at}
 use Rattle.abel_meaning.specs.Follows.{seen}
 use Rattle.abel_meaning.specs.FormulaBits.{formulas}
 use Rattle.abel_meaning.specs.Functions.{Function, function_of, is_raw_signal, allows, value_with_any_0}

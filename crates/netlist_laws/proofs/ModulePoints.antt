@@ -9,10 +9,11 @@ use Rattle.pld_device.specs.Macrocells.{complement_if, data_complements, pin_com
 use Rattle.pld_device.specs.Registers.{stores, is_inverted}
 use Rattle.pld_device.specs.Table.{Table}
 use Rattle.abel_tree.specs.Tree.{ModuleTree}
+use Rattle.abel_tree.specs.Entries.{is_stored}
 use Rattle.abel_meaning.specs.AtPoints.{given_at}
 use Rattle.abel_meaning.specs.Choices.{inverting}
 use Rattle.abel_meaning.specs.Controls.{signal_on}
-use Rattle.abel_meaning.specs.Designs.{Design, design_of, name_at, is_stored}
+use Rattle.abel_meaning.specs.Designs.{Design, design_of, name_at}
 use Rattle.abel_meaning.specs.Functions.{allows}
 use Rattle.abel_meaning.specs.Netlists.{Wanted, as_named, function_at, wanted_at}
 use Rattle.abel_meaning.specs.SignalReads.{given_formulas}

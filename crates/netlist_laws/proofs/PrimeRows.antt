@@ -5,8 +5,9 @@ use Rattle.pld_device.specs.Laws.{IsDevice}
 use Rattle.pld_device.specs.Registers.{stores}
 use Rattle.pld_device.specs.Table.{Table}
 use Rattle.abel_tree.specs.Tree.{ModuleTree}
+use Rattle.abel_tree.specs.Entries.{is_stored}
 use Rattle.abel_meaning.specs.Controls.{signal_on}
-use Rattle.abel_meaning.specs.Designs.{Design, design_of, name_at, is_stored}
+use Rattle.abel_meaning.specs.Designs.{Design, design_of, name_at}
 use Rattle.abel_meaning.specs.Netlists.{Wanted, PlainNetlist, wanted_at}
 use Rattle.abel_meaning.specs.SignalReads.{given_formulas}
 use Rattle.abel_meaning.specs.Soundness.{IsSound}

@@ -6,11 +6,11 @@ use Rattle.std.proofs.lemmas.Bool.{cases_Bool, le-ltb}
 use Rattle.pld_base.specs.Points.{Levels}
 use Rattle.bit_expr.specs.Formulas.{Formula, Const, formula_value}
 use Rattle.abel_tree.specs.declared.words.Extension.{Extension}
-use Rattle.abel_tree.specs.Entries.{Entry}
+use Rattle.abel_tree.specs.Entries.{Entry, is_stored}
 use Rattle.abel_meaning.specs.AtPoints.{truth_at, given_at}
 use Rattle.abel_meaning.specs.Contributions.{Evaluator, Contribution}
 use Rattle.abel_meaning.specs.Controls.{control_if_stored, shared_from}
-use Rattle.abel_meaning.specs.Designs.{Context, Design, is_stored}
+use Rattle.abel_meaning.specs.Designs.{Context, Design}
 use Rattle.abel_meaning.specs.FormulaBits.{formulas}
 use Rattle.abel_meaning.specs.Netlists.{Wanted, earlier_name, first_with, own_of}
 use Rattle.abel_meaning.specs.SignalReads.{given_formulas}

@@ -14,10 +14,11 @@ use Rattle.bit_expr.specs.declared.node.Leaf.{Leaf}
 use Rattle.bit_expr.specs.Formulas.{Formula}
 use Rattle.abel_tree.specs.declared.words.Extension.{Extension}
 use Rattle.abel_tree.specs.declared.words.Extension.TheVariants as extension
-use Rattle.abel_tree.specs.Entries.{Kind, APin, ANode, AConstant, ADeviceName, Entry}
+use Rattle.abel_tree.specs.Entries.{Kind, APin, ANode, AConstant, ADeviceName, Entry, is_stored}
+use Rattle.pld_device.specs.Pins.{cell_on}
 use Rattle.abel_meaning.specs.Choices.{is_free}
 use Rattle.abel_meaning.specs.Controls.{is_pin, control_of, control_if_stored}
-use Rattle.abel_meaning.specs.Designs.{Design, name_at, no_name, is_stored, cell_on}
+use Rattle.abel_meaning.specs.Designs.{Design, name_at, no_name}
 use Rattle.abel_meaning.specs.FormulaBits.{formulas}
 use Rattle.abel_meaning.specs.Functions.{Function, function_of}
 use Rattle.abel_meaning.specs.Netlists.{Wanted}

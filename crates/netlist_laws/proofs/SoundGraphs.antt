@@ -13,8 +13,9 @@ use Rattle.pld_order.proofs.Ranks.{Ranked, ranked, no_loop_by_rank}
 use Rattle.bit_expr.specs.declared.node.Leaf.{Leaf}
 use Rattle.bit_expr.specs.declared.node.Leaf.TheVariants as leaf
 use Rattle.abel_tree.specs.declared.words.Extension.TheVariants as extension
+use Rattle.abel_tree.specs.Entries.{is_stored}
 use Rattle.abel_meaning.specs.Controls.{is_pin, signal_on, control_of, control_if_stored}
-use Rattle.abel_meaning.specs.Designs.{Design, name_at, is_stored}
+use Rattle.abel_meaning.specs.Designs.{Design, name_at}
 use Rattle.abel_meaning.specs.FormulaBits.{formulas}
 use Rattle.abel_meaning.specs.Netlists.{Wanted}
 use Rattle.abel_meaning.specs.NetlistReads.{signal_count, signal_leaf, is_register_signal, netlist_names, netlist_reads, netlist_waits, netlist_passes, netlist_reset_reads, HasNoNetlistLoop, HasNoNetlistPath}

@@ -13,9 +13,10 @@ use Rattle.bit_expr.specs.declared.node.Leaf.{Leaf}
 use Rattle.bit_expr.specs.declared.node.Leaf.TheVariants as leaf
 use Rattle.abel_tree.specs.declared.words.Extension.{Extension}
 use Rattle.abel_tree.specs.declared.words.Extension.TheVariants as extension
-use Rattle.abel_tree.specs.Entries.{Kind, APin, ANode, AConstant, ADeviceName, Entry}
+use Rattle.abel_tree.specs.Entries.{Kind, APin, ANode, AConstant, ADeviceName, Entry, is_stored, follows_q}
+use Rattle.pld_device.specs.Pins.{cell_on}
 use Rattle.abel_meaning.specs.Controls.{is_pin, signal_on, cell_stores}
-use Rattle.abel_meaning.specs.Designs.{Context, Design, name_at, no_name, is_stored, cell_on, follows_q}
+use Rattle.abel_meaning.specs.Designs.{Context, Design, name_at, no_name}
 use Rattle.abel_meaning.specs.Netlists.{wanted_at}
 use Rattle.abel_meaning.specs.NetlistLogic.{registers_as, netlist_stores}
 use Rattle.abel_meaning.specs.SignalReads.{given_formulas}

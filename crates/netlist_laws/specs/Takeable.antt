@@ -12,11 +12,11 @@ use Rattle.bit_expr.specs.declared.node.Leaf.TheVariants as leaf
 use Rattle.bit_expr.specs.Formulas.{Formula}
 use Rattle.abel_tree.specs.declared.words.Extension.{Extension}
 use Rattle.abel_tree.specs.declared.words.Extension.TheVariants as extension
-use Rattle.abel_tree.specs.Entries.{ANode, Entry}
+use Rattle.abel_tree.specs.Entries.{ANode, Entry, is_stored, follows_q}
 use Rattle.abel_meaning.specs.Choices.{is_free}
 use Rattle.abel_meaning.specs.Contributions.{Contribution}
 use Rattle.abel_meaning.specs.Controls.{is_pin, cell_stores, control_of}
-use Rattle.abel_meaning.specs.Designs.{Context, Design, name_at, is_stored, follows_q}
+use Rattle.abel_meaning.specs.Designs.{Context, Design, name_at}
 use Rattle.abel_meaning.specs.FormulaBits.{formulas}
 use Rattle.abel_meaning.specs.Functions.{is_raw_signal}
 use Rattle.abel_meaning.specs.SignalReads.{given_formulas, HasNoSignalLoop, HasNoSignalPath}
