@@ -1,6 +1,6 @@
 -- The operands of a bit that can be lowered can be lowered, and the bit is too wide where one of them is.
-use Rattle.std.proofs.Common.{◌≡◌, ℕ, ◌<◌, ◌⊎◌, inl, inr, Bool, true, false, not, List, [], ◌∷◌, ◌++◌, All, length, slice_get, Option, None, Some, IfSome, refl, subst, sym, ◌∙◌, arith}
-use Rattle.std.proofs.lemmas.List.Elements.{All-append, All-pop, All-push}
+use Rattle.std.proofs.Common.{◌≡◌, ℕ, ◌<◌, ◌⊎◌, inl, inr, Bool, true, false, not, List, [], ◌∷◌, ◌++◌, length, slice_get, Option, None, Some, IfSome, refl, subst, sym, ◌∙◌, arith}
+use Rattle.std.proofs.lemmas.List.Elements.{All-pop, All-push}
 use Rattle.pld_device.specs.Macrocells.{complement_if}
 use Rattle.bit_expr.specs.declared.netlist.Function.{Function}
 use Rattle.bit_expr.specs.declared.netlist.Netlist.{Netlist}
@@ -10,7 +10,9 @@ use Rattle.bit_expr.specs.declared.node.Leaf.TheVariants as leaf
 use Rattle.bit_expr.specs.Arena.{arena, formula_at}
 use Rattle.bit_expr.specs.Formulas.{Formula, Read, Not, And, Or, Xor}
 use Rattle.sop_lowering.specs.declared.kept.SignedBit.{SignedBit}
-use Rattle.sop_lowering.specs.Keeping.{Leads, signed_list}
+use Rattle.sop_lowering.specs.declared.walking.Step.{Step}
+use Rattle.sop_lowering.specs.declared.walking.Step.TheVariants.{Make, Walk}
+use Rattle.sop_lowering.specs.Keeping.{Leads, StepsLead, bit_of, signed_list}
 use Rattle.sop_lowering.specs.Lowering.{CanLower, HasPair}
 use Rattle.sop_lowering.specs.Products.{Products, product_of, sum_of}
 use Rattle.sop_lowering.specs.Through.{Reaches, ReachesThrough}
@@ -120,15 +122,24 @@ module _ (net : Netlist) (bit : SignedBit) (can : CanLower net bit.id) where
       let same = function_written net (HasPair net) (length net.nodes) n f bit.positive there (omega arith) reach in
       rw e ((has.inside, has.leaves), λ none. wide (Read (leaf.Node n)) is (same ∙ none))
 
--- ---- a stack of bits that the root is made of
+-- ---- a stack of steps about bits that the root is made of
 
-pub leads_popped : (net : Netlist) (root bit : SignedBit) (before rest : List SignedBit) → before ≡ rest ++ bit ∷ [] → All (Leads net root) before
-    → All (Leads net root) rest × Leads net root bit
-leads_popped net root bit before rest is all = All-pop (Leads net root) before rest (Some bit) is all
+module _ (net : Netlist) (root : SignedBit) where
+  abbrev StepLeads : Step → Type 0
+  StepLeads step = Leads net root (bit_of step)
 
-pub leads_pushed : (net : Netlist) (root bit operand : SignedBit) (before rest after : List SignedBit) → before ≡ rest ++ bit ∷ [] → All (Leads net root) before
-    → Leads net bit operand → after ≡ rest ++ bit ∷ operand ∷ [] → All (Leads net root) after
-leads_pushed net root bit operand before rest after is all leads put =
-    let parts = leads_popped net root bit before rest is all in
-    rw put (All-append (Leads net root) rest (bit ∷ operand ∷ []) parts.0
-    (All-push (Leads net root) (bit ∷ []) operand (All-push (Leads net root) [] bit (λ k d low. absurd (omega (arith, low))) parts.1) (leads.0, λ none. parts.1.1 (leads.1 none))))
+  pub walk_popped : (bit : SignedBit) (step : Step) (before rest : List Step) → before ≡ rest ++ step ∷ [] → step ≡ Walk bit
+      → StepsLead net root before → StepsLead net root rest × Leads net root bit
+  walk_popped bit step before rest is walk all =
+      let parts = All-pop StepLeads before rest (Some step) is all in
+      (parts.0, subst StepLeads walk parts.1)
+
+  pub make_pushed : (bit : SignedBit) (before after : List Step) → after ≡ before ++ Make bit ∷ [] → Leads net root bit
+      → StepsLead net root before → StepsLead net root after
+  make_pushed bit before after put leads all = rw put (All-push StepLeads before (Make bit) all leads)
+
+  -- what an operand is made of, the root is made of
+  pub walk_pushed : (bit operand : SignedBit) (before after : List Step) → after ≡ before ++ Walk operand ∷ [] → Leads net root bit
+      → Leads net bit operand → StepsLead net root before → StepsLead net root after
+  walk_pushed bit operand before after put leads below all =
+      rw put (All-push StepLeads before (Walk operand) all (below.0, λ none. leads.1 (below.1 none)))

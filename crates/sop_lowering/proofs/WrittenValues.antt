@@ -14,7 +14,7 @@ use Rattle.covers.proofs.CubePoints.{full_has_all, literal_points}
 use Rattle.sop_lowering.specs.Products.{Products, product_of, sum_of}
 use Rattle.sop_lowering.specs.Through.{EachLeaf, OfLeaf, ReachesThrough}
 use Rattle.sop_lowering.specs.Values.{AreNodesValued, CarriesLeaf, HasValue, WrittenValues}
-use Rattle.sop_lowering.specs.Written.{pair_of, constant_list, leaf_list, list_of, node_list, function_of_node, node_formula, written}
+use Rattle.sop_lowering.specs.Written.{pair_of, constant_list, leaf_list, list_of, node_list, function_of_node, node_formula}
 use Rattle.sop_lowering.proofs.InsertedValues.{product_value, sum_value}
 
 or_nil : (a : Bool) → (a || false) ≡ a

@@ -1,5 +1,6 @@
 -- Private: lists kept by id and polarity (this project's rule).
-use Rattle.std.specs.Prelude.{◌≡◌, ◌<◌, ◌≤◌, ◌⊎◌, ℕ, if◌then◌else◌, Option, None, Some, List, length, get_or, All, Result, Ok, Err}
+use Rattle.std.specs.Prelude.{◌≡◌, ◌<◌, ◌≤◌, ◌⊎◌, ℕ, ◌+◌, ◌==◌, if◌then◌else◌, Option, None, Some, List, length, get_or, All, Result, Ok, Err}
+use Rattle.std.specs.List.{count_by}
 use Rattle.std.specs.Option.{option_map}
 use Rattle.std.specs.Global.{Vec}
 use Rattle.bit_expr.specs.declared.netlist.Netlist.{Netlist}
@@ -9,6 +10,9 @@ use Rattle.covers.specs.declared.cube.Cube.{Cube}
 use Rattle.sop_lowering.specs.declared.fault.LowerFault.{LowerFault}
 use Rattle.sop_lowering.specs.declared.kept.Kept.{Kept}
 use Rattle.sop_lowering.specs.declared.kept.SignedBit.{SignedBit}
+use Rattle.sop_lowering.specs.declared.uses.Uses.{Uses}
+use Rattle.sop_lowering.specs.declared.walking.Step.{Step}
+use Rattle.sop_lowering.specs.declared.walking.Step.TheVariants.{Make, Walk}
 use Rattle.sop_lowering.specs.Lowering.{CanLower, Fails, HasPair}
 use Rattle.sop_lowering.specs.Products.{Products}
 use Rattle.sop_lowering.specs.Through.{EachLeaf, OfLeaf, ReachesThrough}
@@ -58,9 +62,22 @@ CanReach net turns id =
 abbrev pub Leads : Netlist → (bit operand : SignedBit) → Type 0
 Leads net bit operand = CanLower net operand.id × (signed_list net operand ≡ None → signed_list net bit ≡ None)
 
--- each bit of a stack can be lowered
-abbrev pub AllCanLower : Netlist → List SignedBit → Type 0
-AllCanLower net bits = All (λ (bit : SignedBit). CanLower net bit.id) bits
+-- the bit that a step is about
+abbrev pub bit_of : Step → SignedBit
+bit_of (Walk bit) = bit
+bit_of (Make bit) = bit
+
+-- the list of the first is made of those of each step's bit
+abbrev pub StepsLead : Netlist → SignedBit → List Step → Type 0
+StepsLead net root steps = All (λ (step : Step). Leads net root (bit_of step)) steps
+
+-- how many lists have no use yet
+abbrev pub unused_in : List ℕ → ℕ
+unused_in uses = count_by (λ n. n == 0) uses
+
+-- in both polarities
+abbrev pub unused : Uses → ℕ
+unused uses = unused_in uses.positive.items + unused_in uses.negative.items
 
 -- an error says that the list is too wide, or nothing
 abbrev pub IsWide : {A : Type 0} → Result A LowerFault → Products → Type 0

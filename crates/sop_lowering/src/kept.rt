@@ -75,16 +75,6 @@ impl Kept {
         Ok(Kept { positive, negative })
     }
 
-    /// Whether the list is kept.
-    pub(crate) fn has(&self, bit: SignedBit) -> bool {
-        let lists = if bit.positive {
-            &self.positive
-        } else {
-            &self.negative
-        };
-        bit.id.0 < lists.len() && lists[bit.id.0].is_some()
-    }
-
     /// A copy of the list.
     pub(crate) fn copy(&self, bit: SignedBit) -> Result<Option<Vec<Cube>>, AllocError>
         ensures { IfOk result (λ copy. products_of copy ≡ kept_at self.now bit) }

@@ -1,4 +1,8 @@
-//! How often a list is still to be used. No contract needs it: it tells when a list can be let go.
+//! How often a list is still to be used, which tells when a list can be let go. Contracts see only how many were not used
+//! yet, by which the walk is seen to end.
+
+ghost use Rattle.std.specs.Prelude.{◌≤◌, ◌+◌, if◌then◌else◌};
+ghost use Rattle.sop_lowering.specs.Keeping.{unused, unused_in};
 
 use crate::kept::SignedBit;
 use std::alloc::{AllocError, Global};
@@ -20,7 +24,9 @@ fn no_uses(alloc: Global, ids: usize) -> Result<Vec<u32>, AllocError> {
 }
 
 /// One use more; whether it is the first.
-fn add_at(uses: &mut [u32], id: usize) -> bool {
+fn add_at(uses: &mut [u32], id: usize) -> bool
+    ensures { unused_in uses.new + (if result then 1 else 0) ≤ unused_in uses.old }
+{
     if id >= uses.len() {
         return false;
     }
@@ -48,7 +54,9 @@ impl Uses {
     }
 
     /// One use more; whether it is the first.
-    pub(crate) fn add(&mut self, bit: SignedBit) -> bool {
+    pub(crate) fn add(&mut self, bit: SignedBit) -> bool
+        ensures { unused self.new + (if result then 1 else 0) ≤ unused self.old }
+    {
         if bit.positive {
             add_at(&mut self.positive, bit.id.0)
         } else {

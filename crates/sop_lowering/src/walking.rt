@@ -1,8 +1,9 @@
 //! The lists below a bit made before its own, so that no call goes as deep as a formula: operands first, each once in a
 //! polarity, and let go after its last use.
 
-ghost use Rattle.std.specs.Prelude.{◌≡◌, ◌≤◌, ◌⊎◌, ◌∷◌, ◌++◌, [], IfOk, IfSome, OnOk, vec_len};
-ghost use Rattle.sop_lowering.specs.Keeping.{AllCanLower, AreRight, IsWide, Leads, signed_list};
+ghost use Rattle.std.specs.Prelude.{◌≡◌, ◌≤◌, ◌⊎◌, ◌+◌, IfOk, IfSome, OnOk, All, vec_len};
+ghost use Rattle.sop_lowering.specs.declared.kept.SignedBit.{SignedBit};
+ghost use Rattle.sop_lowering.specs.Keeping.{AreRight, IsWide, Leads, StepsLead, signed_list};
 ghost use Rattle.sop_lowering.specs.Lowering.{CanLower, IsList};
 ghost use Rattle.sop_lowering.specs.Written.{bit_list};
 
@@ -72,56 +73,54 @@ fn operand(net: &Netlist, bit: SignedBit, index: u8) -> Option<SignedBit>
     }
 }
 
-/// Counts a use of each operand, and puts those that were not met before onto the stack.
-fn count_operands(
-    net: &Netlist,
-    uses: &mut Uses,
-    bit: SignedBit,
-    stack: &mut Vec<SignedBit>,
-) -> Result<(), AllocError>
-    requires can { CanLower net.now bit.id }
-    requires stack { AllCanLower net.now stack.old.items }
-    ensures stack { OnOk result (AllCanLower net.now stack.new.items) }
+/// What is still to be done about a bit: to walk those below it, or, behind them, to make its list.
+#[derive(Clone, Copy)]
+enum Step {
+    Walk(SignedBit),
+    Make(SignedBit),
+}
+
+/// Puts onto the stack that a bit is made behind its operands, the first of which is on top.
+fn put_steps(net: &Netlist, bit: SignedBit, stack: &mut Vec<Step>) -> Result<(), AllocError>
+    requires { CanLower net.now bit.id }
+    ensures lead { (root : SignedBit) → Leads net.now root bit → StepsLead net.now root stack.old.items
+        → OnOk result (StepsLead net.now root stack.new.items) }
+    ensures few { OnOk result (vec_len stack.new ≤ vec_len stack.old + 5) }
 {
-    for index in 0..OPERANDS {
+    stack.push(Step::Make(bit))?;
+    for index in (0..OPERANDS).rev() {
         if let Some(operand) = operand(net, bit, index) {
-            if uses.add(operand) {
-                stack.push(operand)?;
-            }
+            stack.push(Step::Walk(operand))?;
         }
     }
     Ok(())
 }
 
-/// Counts how often each list is used on the way to this one.
-fn count_uses(alloc: Global, net: &Netlist, ids: usize, root: SignedBit) -> Result<Uses, AllocError>
+/// The bits whose lists the list of a root is made of, and the root, each once and behind its operands. Counts how often
+/// each is used.
+fn order_below(
+    alloc: Global,
+    net: &Netlist,
+    uses: &mut Uses,
+    root: SignedBit,
+) -> Result<Vec<SignedBit>, AllocError>
     requires { CanLower net.now root.id }
+    ensures { IfOk result (λ bits. All (Leads net.now root) bits.items) }
 {
-    let mut uses = Uses::for_ids(alloc, ids)?;
+    let mut order = Vec::new(alloc);
     let mut stack = Vec::new(alloc);
-    stack.push(root)?;
-    for _step in 0..u64::MAX {
-        match stack.pop() {
-            Some(bit) => count_operands(net, &mut uses, bit, &mut stack)?,
-            None => break,
-        }
-    }
-    Ok(uses)
-}
-
-/// An operand whose list is not kept.
-fn missing(net: &Netlist, kept: &Kept, bit: SignedBit) -> Option<SignedBit>
-    requires { CanLower net.now bit.id }
-    ensures { IfSome result (Leads net.now bit) }
-{
-    for index in 0..OPERANDS {
-        if let Some(operand) = operand(net, bit, index) {
-            if !kept.has(operand) {
-                return Some(operand);
+    stack.push(Step::Walk(root))?;
+    'steps: while let Some(step) = stack.pop() {
+        match step {
+            Step::Make(bit) => order.push(bit)?,
+            Step::Walk(bit) => {
+                if uses.add(bit) {
+                    put_steps(net, bit, &mut stack)?;
+                }
             }
         }
     }
-    None
+    Ok(order)
 }
 
 /// Lets the lists of operands go that have no further use.
@@ -158,19 +157,6 @@ fn keep(
     Ok(())
 }
 
-/// Puts a bit back onto the stack, and one of its operands on top.
-fn put_above(
-    stack: &mut Vec<SignedBit>,
-    bit: SignedBit,
-    operand: SignedBit,
-) -> Result<(), AllocError>
-    ensures { OnOk result (stack.new.items ≡ stack.old.items ++ bit ∷ operand ∷ []) }
-{
-    stack.push(bit)?;
-    stack.push(operand)?;
-    Ok(())
-}
-
 /// Makes and keeps the lists below a bit, and its own.
 fn make_ahead(
     alloc: Global,
@@ -184,17 +170,9 @@ fn make_ahead(
     ensures right { OnOk result (AreRight net.now kept.new) }
     ensures wide { IsWide result (signed_list net.now root) }
 {
-    let mut stack = Vec::new(alloc);
-    stack.push(root)?;
-    for _step in 0..u64::MAX {
-        let bit = match stack.pop() {
-            Some(bit) => bit,
-            None => break,
-        };
-        match missing(net, kept, bit) {
-            Some(operand) => put_above(&mut stack, bit, operand)?,
-            None => keep(alloc, net, uses, kept, bit)?,
-        }
+    let order = order_below(alloc, net, uses, root)?;
+    for bit in order.as_slice() {
+        keep(alloc, net, uses, kept, *bit)?;
     }
     Ok(())
 }
@@ -223,7 +201,7 @@ pub fn lower(
 {
     let bit = signed(id, positive);
     let ids = ids_reached(net, id);
-    let mut uses = count_uses(alloc, net, ids, bit)?;
+    let mut uses = Uses::for_ids(alloc, ids)?;
     let mut kept = Kept::for_ids(alloc, ids)?;
     make_ahead(alloc, net, &mut uses, &mut kept, bit)?;
     list_now(alloc, net, &kept, bit)
