@@ -1,207 +1,234 @@
--- The sums over the contributions to one signal are what the language says of all contributions.
-use Rattle.std.proofs.Common.{◌≡◌, ℕ, Bool, true, false, not, ◌&&◌, ◌||◌, List, [], ◌∷◌, map, length, Option, Some, None, refl, sym, ap, ap₂, subst, ◌∙◌, inl, inr}
-use Rattle.std.specs.Prelude.{filter, find, fold, is_some, if◌then◌else◌}
-use Rattle.std.specs.List.{list_any}
-use Rattle.std.specs.Option.{option_map}
+-- What is made of contributions, step by step, is what the language says of them; and what it says of the signal's own it
+-- says of all.
+use Rattle.std.proofs.Common.{◌≡◌, ℕ, ◌<◌, ◌≤◌, ◌-◌, Bool, true, false, not, ◌&&◌, ◌||◌, List, [], ◌∷◌, ◌++◌, length, get_or, take, drop, Option, Some, None, refl, sym, ap, ap₂, ◌∙◌, arith, inl, inr}
+use Rattle.std.specs.Prelude.{filter, fold, is_some, if◌then◌else◌}
+use Rattle.std.specs.List.{list_any, list_all}
 use Rattle.std.proofs.lemmas.Bool.{cases_Bool}
-use Rattle.pld_base.specs.Bits.{same_level}
+use Rattle.std.proofs.lemmas.List.{map-append, take_all}
+use Rattle.std.proofs.lemmas.List.Elements.{filter-append}
+use Rattle.std.proofs.lemmas.List.Sums.{fold-append}
 use Rattle.bit_expr.specs.declared.netlist.Control.{Control}
-use Rattle.bit_expr.specs.declared.netlist.Function.{Function}
-use Rattle.bit_expr.specs.Folding.{make_not, make_or}
+use Rattle.bit_expr.specs.declared.node.ExprId.{ExprId}
+use Rattle.bit_expr.specs.Arena.{formula_at}
+use Rattle.bit_expr.specs.Folding.{Made, make_not, make_or}
 use Rattle.bit_expr.specs.Formulas.{Formula, Const}
+use Rattle.bit_expr.proofs.FoldingCases.{or_zero_right}
 use Rattle.abel_tree.specs.declared.words.Extension.{Extension}
 use Rattle.abel_tree.specs.declared.words.Extension.TheVariants as extension
+use Rattle.abel_tree.specs.Extensions.{is_data, is_raw}
 use Rattle.abel_meaning.specs.Contributions as meant
-use Rattle.abel_meaning.specs.Controls.{is_control, control_by, control_of}
+use Rattle.abel_meaning.specs.Controls.{is_control, is_the_control, control_by, control_of}
 use Rattle.abel_meaning.specs.Designs.{Context}
 use Rattle.abel_meaning.specs.FormulaBits.{formulas}
-use Rattle.abel_meaning.specs.Functions.{is_data_to, same_gives, some_holds, gives_some, gives_in, is_free_elsewhere, any_of, any_against, is_complement, is_raw_signal, single_function, both_function, function_of}
+use Rattle.abel_meaning.specs.Functions.{is_data_to, is_data_in, is_free_elsewhere, is_both, is_complement, is_raw_signal, both_function, single_function, function_of}
 use Rattle.abel_meaning.specs.Functions as meant_function
-use Rattle.abel_meaning.specs.Netlists.{plain_function, plain_control}
-use Rattle.abel_meaning.specs.SoundIds.{IsControlIn}
-use Rattle.abel_meaning.specs.Targets.{is_data, is_raw}
-use Rattle.set_expr.specs.Given.{view_gives, view_contribution}
+use Rattle.set_expr.specs.Given.{view_contribution}
 use Rattle.set_expr.specs.declared.contributions.Contribution.{Contribution}
-use Rattle.set_expr.specs.declared.contributions.Gives.{Gives}
 use Rattle.set_expr.specs.declared.contributions.Gives.TheVariants as gives
+use Rattle.gathering.specs.declared.parts.Part.{Part}
 use Rattle.gathering.specs.declared.parts.Part.TheVariants as part
 use Rattle.gathering.specs.declared.signal.Totals.{Totals}
-use Rattle.gathering.specs.Amounts.{IsControlGiven, AreGiven}
-use Rattle.gathering.specs.Parts.{is_to, is_for, is_data_in, is_both, is_free, has_complement, and_one, part_sum, any_sum, both_one, both_any, complement_of}
-use Rattle.gathering.specs.Totals.{IsFunctionBy, IsFunctionOf, IsControlFor, IsControlOf, AreTotalsOf}
-use Rattle.gathering.proofs.SeenLists.{and_grouped, filtered, any_seen, all_seen, in_turn, any_in_turn, all_in_turn, found_in_turn}
+use Rattle.gathering.specs.declared.sums.Step.{Step}
+use Rattle.gathering.specs.declared.sums.Step.TheVariants as step
+use Rattle.gathering.specs.Amounts.{contributions_in, first_target, target_place, IsControlGiven, AreGiven}
+use Rattle.gathering.specs.Parts.{is_for, is_to, is_data_of, is_data_of_polarity, is_free_one, AllLieIn, Stands, part_sum, bit_of, control_steps}
+use Rattle.gathering.specs.Totals.{IsFunctionGiven}
+use Rattle.gathering.proofs.SeenLists.{any_map, all_map, filter_own, any_own, all_own, find_own}
+use Rattle.gathering.proofs.Standing.{same_formula, same_seen, same_contributions}
 
 -- ---- sums
 
-module _ (d : Context) (fs : List Formula) where
-  abbrev seen : Contribution → meant.Contribution Formula
-  seen c = view_contribution fs c
+-- a list with one more
+abbrev and_one : Formula → meant.Contribution Formula → Formula
+and_one f c = (make_or f c.holds).what
 
-  fold_seen : (f : Formula) (cs : List Contribution) → fold (λ (w : Formula) (c : meant.Contribution Formula). (formulas d).either w c.holds) f (map seen cs) ≡ fold (and_one fs) f cs
-  fold_seen f [] = refl
-  fold_seen f (c ∷ cs) = fold_seen (and_one fs f c) cs
+sum_more : (part : Part) (s : ℕ) (cs : List (meant.Contribution Formula)) (c : meant.Contribution Formula) → part_sum part s (cs ++ c ∷ []) ≡ (if is_for part s c then (make_or (part_sum part s cs) c.holds).what else part_sum part s cs)
+sum_more part s cs c =
+    ap (λ xs. fold and_one (Const false) xs) (filter-append (is_for part s) cs (c ∷ []))
+    ∙ fold-append and_one (Const false) (filter (is_for part s) cs) (filter (is_for part s) (c ∷ []))
+    ∙ last (is_for part s c)
+  where
+    last : (b : Bool) → fold and_one (part_sum part s cs) (if b then c ∷ [] else []) ≡ (if b then and_one (part_sum part s cs) c else part_sum part s cs)
+    last true = refl
+    last false = refl
 
-  -- the sum of those that pass a test, of which the signal's own are asked the rest
-  own_sum : (s : ℕ) (p : meant.Contribution Formula → Bool) (q : Contribution → Bool) → ((c : Contribution) → p (seen c) ≡ (is_to s c && q c)) → (cs : List Contribution)
-      → some_holds (formulas d) (filter p (map seen cs)) ≡ fold (and_one fs) (Const false) (filter q (filter (is_to s) cs))
-  own_sum s p q alike cs =
-      ap (λ xs. some_holds (formulas d) xs) (filtered seen p (λ c. is_to s c && q c) alike cs)
-      ∙ fold_seen (Const false) (filter (λ c. is_to s c && q c) cs)
-      ∙ ap (λ xs. fold (and_one fs) (Const false) xs) (in_turn (is_to s) q cs)
+-- one more for its part, though the arena has grown
+pub sum_on : (fs gs : List Formula) (part : Part) (s : ℕ) (cs : List Contribution) (c : Contribution) (f : Formula) → Stands fs gs → c.when.0 < length fs → f ≡ part_sum part s (contributions_in fs cs)
+    → (if is_for part s (view_contribution gs c) then (make_or f (formula_at gs c.when)).what else f) ≡ part_sum part s (contributions_in fs (cs ++ c ∷ []))
+sum_on fs gs part s cs c f stands within is =
+    ap (λ (v : meant.Contribution Formula). if is_for part s v then (make_or f v.holds).what else f) (same_seen fs gs stands c within)
+    ∙ ap (λ g. if is_for part s (view_contribution fs c) then (make_or g (formula_at fs c.when)).what else g) is
+    ∙ sym (sum_more part s (contributions_in fs cs) (view_contribution fs c))
+    ∙ ap (part_sum part s) (sym (map-append (view_contribution fs) cs (c ∷ [])))
 
-  sum_seen : (s : ℕ) (g : Gives) (cs : List Contribution) → gives_some (formulas d) (map seen cs) (view_gives g) s ≡ part_sum fs (part.Data g) (filter (is_to s) cs)
-  sum_seen s g cs =
-      own_sum s (λ c. is_data_to s c && same_gives (view_gives g) c.gives) (is_for (part.Data g))
-      (λ c. and_grouped (is_to s c) (is_data c.target.extension) (same_gives (view_gives g) (view_gives c.what))) cs
+or_nothing : (f : Formula) → (make_or f (Const false)).what ≡ f
+or_nothing f = ap (λ (m : Made Formula). m.what) (or_zero_right f (Const false) refl)
 
-  sum_in : (s : ℕ) (complement : Bool) (g : Gives) (cs : List Contribution) → gives_in (formulas d) (map seen cs) complement (view_gives g) s ≡ part_sum fs (part.DataIn complement g) (filter (is_to s) cs)
-  sum_in s complement g cs =
-      own_sum s (λ c. meant_function.is_data_in complement s c && same_gives (view_gives g) c.gives) (is_for (part.DataIn complement g))
-      (λ c.
-      ap (λ b. b && same_gives (view_gives g) (view_gives c.what)) (and_grouped (is_to s c) (is_data c.target.extension) (same_level c.complement complement))
-      ∙ and_grouped (is_to s c) (is_data_in complement c) (same_gives (view_gives g) (view_gives c.what))) cs
+-- ---- steps
 
-  free_seen : (s : ℕ) (cs : List Contribution) → is_free_elsewhere (map seen cs) s ≡ is_free (filter (is_to s) cs)
-  free_seen s cs =
-      ap₂ (λ a b. a && b)
-      (any_seen seen (is_data_to s) (λ c. is_to s c && is_data c.target.extension) (λ c. refl) cs
-      ∙ any_in_turn (is_to s) (λ (c : Contribution). is_data c.target.extension) cs)
-      (all_seen seen (λ c. not (is_data_to s c) || (is_some c.block && c.dontcare)) (λ c. not (is_to s c && is_data c.target.extension) || (is_some c.block && c.dontcare)) (λ c. refl) cs
-      ∙ all_in_turn (is_to s) (λ (c : Contribution). is_data c.target.extension) (λ (c : Contribution). is_some c.block && c.dontcare) cs)
+pub no_steps : (s : ℕ) (cs : List (meant.Contribution Formula)) (steps : List Step) → length steps < 1 → Const false ≡ bit_of steps s cs
+no_steps s cs [] none = refl
+no_steps s cs (x ∷ steps) none = absurd (omega (arith, none))
 
-  any_is : (s : ℕ) (cs : List Contribution) → any_of (formulas d) (map seen cs) s ≡ any_sum fs (part.Data gives.Any) (filter (is_to s) cs)
-  any_is s cs = rw (free_seen s cs, sum_seen s gives.Any cs, sum_seen s gives.Match cs) refl
+pub first_step : (s : ℕ) (cs : List (meant.Contribution Formula)) (steps : List Step) (x y : Step) → 1 ≤ length steps → get_or steps 0 x ≡ y → bit_of (y ∷ take (length steps - 1) (drop 1 steps)) s cs ≡ bit_of steps s cs
+first_step s cs [] x y some is = absurd (omega (arith, some))
+first_step s cs (z ∷ steps) x y some is = ap₂ (λ v vs. bit_of (v ∷ vs) s cs) (sym is) (take_all (length (z ∷ steps) - 1) steps (omega arith))
 
-  complement_is : (s : ℕ) (cs : List Contribution) → is_complement (map seen cs) s ≡ has_complement (filter (is_to s) cs)
-  complement_is s cs =
-      any_seen seen (λ c. is_data_to s c && c.complement) (λ c. is_to s c && (is_data c.target.extension && c.complement)) (λ c. and_grouped (is_to s c) (is_data c.target.extension) c.complement) cs
-      ∙ any_in_turn (is_to s) (λ (c : Contribution). is_data c.target.extension && c.complement) cs
+-- where don't-care tables and diagrams alone assign the signal, no table or diagram matches
+module _ (fs : List Formula) (s : ℕ) (cs : List Contribution) (steps : List Step) where
+  free_seen : is_free_elsewhere (contributions_in fs cs) s ≡ (list_any (is_data_of s) cs && list_all (is_free_one s) cs)
+  free_seen =
+      ap₂ (λ a b. a && b) (any_map (view_contribution fs) (is_data_to s) cs)
+      (all_map (view_contribution fs) (λ c. not (is_data_to s c) || (is_some c.block && c.dontcare)) cs)
 
-  -- ---- both polarities
+  abbrev unmatched_by : Bool → Formula
+  unmatched_by free = if free then (make_not (part_sum (part.Data gives.Match) s (contributions_in fs cs))).what else bit_of steps s (contributions_in fs cs)
 
-  any_against_is : (s : ℕ) (cs : List Contribution) → any_against (formulas d) (map seen cs) s ≡ any_sum fs (part.DataIn true gives.Any) (filter (is_to s) cs)
-  any_against_is s cs = rw (free_seen s cs, sum_in s true gives.Any cs, sum_seen s gives.Match cs) refl
+  pub when_free : (list_any (is_data_of s) cs && list_all (is_free_one s) cs) ≡ true → (make_not (part_sum (part.Data gives.Match) s (contributions_in fs cs))).what ≡ bit_of (step.Unmatched ∷ steps) s (contributions_in fs cs)
+  when_free free = ap unmatched_by (sym (free_seen ∙ free))
 
-  both_one_is : (s : ℕ) (cs : List Contribution) → (both_function (formulas d) (map seen cs) s).one ≡ both_one fs (filter (is_to s) cs)
-  both_one_is s cs =
-      ap₂ (λ f g. (make_or f (make_not g).what).what) (sum_in s false gives.One cs)
-      (ap₂ (λ f g. (make_or f g).what) (sum_in s true gives.One cs) (any_against_is s cs))
+  pub when_bound : (list_any (is_data_of s) cs && list_all (is_free_one s) cs) ≡ false → bit_of steps s (contributions_in fs cs) ≡ bit_of (step.Unmatched ∷ steps) s (contributions_in fs cs)
+  when_bound bound = ap unmatched_by (sym (free_seen ∙ bound))
 
-  both_any_is : (s : ℕ) (cs : List Contribution) → (both_function (formulas d) (map seen cs) s).any ≡ both_any fs (filter (is_to s) cs)
-  both_any_is s cs = ap₂ (λ f g. (make_or f (make_not g).what).what) (sum_in s false gives.Any cs) (sum_in s true gives.One cs)
+-- ---- functions
 
-  has_data_in : (s : ℕ) (complement : Bool) (cs : List Contribution) → list_any (meant_function.is_data_in complement s) (map seen cs) ≡ list_any (is_data_in complement) (filter (is_to s) cs)
-  has_data_in s complement cs =
-      any_seen seen (meant_function.is_data_in complement s) (λ c. is_to s c && is_data_in complement c) (λ c. and_grouped (is_to s c) (is_data c.target.extension) (same_level c.complement complement)) cs
-      ∙ any_in_turn (is_to s) (is_data_in complement) cs
+abbrev pub both_one : List Step
+both_one = step.Or (part.DataIn false gives.One) ∷ step.Not ∷ step.Or (part.DataIn true gives.One) ∷ step.Or (part.DataIn true gives.Any) ∷ step.Unmatched ∷ []
 
-  both_seen : (s : ℕ) (cs : List Contribution) → meant_function.is_both (map seen cs) s ≡ is_both (filter (is_to s) cs)
-  both_seen s cs = ap₂ (λ a b. a && b) (has_data_in s false cs) (has_data_in s true cs)
+abbrev pub both_any : List Step
+both_any = step.Or (part.DataIn false gives.Any) ∷ step.Not ∷ step.Or (part.DataIn true gives.One) ∷ []
 
-  -- ---- controls
+abbrev pub single_one : List Step
+single_one = step.Or (part.Data gives.One) ∷ []
 
-  -- the first of a list that passes is the first of those that pass
-  by_first : (first : Contribution) (rest : List Contribution) → control_by (formulas d) (map seen (first ∷ rest)) ≡ Some (complement_of first.complement (fold (and_one fs) (Const false) (first ∷ rest)))
-  by_first first rest = ap (λ f. Some f) (by first.complement ∙ ap (λ f. complement_of first.complement f) (fold_seen (Const false) (first ∷ rest)))
-    where
-      by : (b : Bool) → (if b then (formulas d).not (some_holds (formulas d) (map seen (first ∷ rest))) else some_holds (formulas d) (map seen (first ∷ rest))) ≡ complement_of b (some_holds (formulas d) (map seen (first ∷ rest)))
-      by true = refl
-      by false = refl
+abbrev pub single_any : List Step
+single_any = step.Or (part.Data gives.Any) ∷ step.Unmatched ∷ []
 
-  control_by_found : (new : List Formula) (e : Extension) (own : List Contribution) (sum : Formula) (kept : List Contribution) (first : Option Contribution) (control : Option Control)
-      → find (is_for (part.Control e)) kept ≡ first → fold (and_one fs) (Const false) (filter (is_for (part.Control e)) kept) ≡ sum → sum ≡ part_sum fs (part.Control e) own → IsControlFor fs new own e first control
-      → plain_control new control ≡ control_by (formulas d) (map seen (filter (is_for (part.Control e)) kept))
-  control_by_found new e own sum [] None None at folds is for = refl
-  control_by_found new e own sum [] None (Some control) at folds is for = absurd for
-  control_by_found new e own sum [] (Some first) control at folds is for = absurd cc
-  control_by_found new e own sum (c ∷ kept) first control at folds is for =
-      elim (cases_Bool (is_for (part.Control e) c)) [
-        | inl hit ↦ rw hit (given first control (rw hit at at) (rw hit at folds) for)
-        | inr miss ↦ rw miss (control_by_found new e own sum kept first control (rw miss at at) (rw miss at folds) is for)
+unmatched : (free : Bool) (f m : Formula) → (make_or f (if free then (make_not m).what else Const false)).what ≡ (if free then (make_or f (make_not m).what).what else f)
+unmatched true f m = refl
+unmatched false f m = or_nothing f
+
+abbrev with_parts : (one any : Formula) → (complement : Bool) → meant_function.Function Formula
+with_parts one any complement = record { one = one; any = any; complement = complement }
+
+abbrev pub IsMade : (cs : List (meant.Contribution Formula)) → ℕ → (one any : List Step) → (complement : Bool) → Type 0
+IsMade cs s one any complement = (d : Context) → with_parts (bit_of one s cs) (bit_of any s cs) complement ≡ function_of (formulas d) cs s
+
+module _ (cs : List (meant.Contribution Formula)) (s : ℕ) where
+  abbrev by_polarity : Context → Bool → meant_function.Function Formula
+  by_polarity d both = if both then both_function (formulas d) cs s else single_function (formulas d) cs s
+
+  abbrev all_matches : Formula
+  all_matches = part_sum (part.Data gives.Match) s cs
+
+  pub both_made : is_both cs s ≡ true → IsMade cs s both_one both_any false
+  both_made both d =
+      ap₂ (λ x y. with_parts x y false)
+      (ap (λ f. (make_or (part_sum (part.DataIn false gives.One) s cs) (make_not (make_or (part_sum (part.DataIn true gives.One) s cs) f).what).what).what) (unmatched (is_free_elsewhere cs s) (part_sum (part.DataIn true gives.Any) s cs) all_matches))
+      (ap (λ f. (make_or (part_sum (part.DataIn false gives.Any) s cs) (make_not f).what).what) (or_nothing (part_sum (part.DataIn true gives.One) s cs)))
+      ∙ ap (by_polarity d) (sym both)
+
+  pub single_made : is_both cs s ≡ false → IsMade cs s single_one single_any (is_complement cs s)
+  single_made single d =
+      ap₂ (λ x y. with_parts x y (is_complement cs s)) (or_nothing (part_sum (part.Data gives.One) s cs)) (unmatched (is_free_elsewhere cs s) (part_sum (part.Data gives.Any) s cs) all_matches)
+      ∙ ap (by_polarity d) (sym single)
+
+-- what the tests of contributions say of what is seen of them
+pub both_seen : (fs : List Formula) (s : ℕ) (cs : List Contribution) → (list_any (is_data_of_polarity false s) cs && list_any (is_data_of_polarity true s) cs) ≡ is_both (contributions_in fs cs) s
+both_seen fs s cs = sym (ap₂ (λ a b. a && b) (any_map (view_contribution fs) (is_data_in false s) cs) (any_map (view_contribution fs) (is_data_in true s) cs))
+
+pub complement_seen : (fs : List Formula) (s : ℕ) (cs : List Contribution) → list_any (λ (c : Contribution). is_data_of s c && c.complement) cs ≡ is_complement (contributions_in fs cs) s
+complement_seen fs s cs = sym (any_map (view_contribution fs) (λ c. is_data_to s c && c.complement) cs)
+
+pub raw_seen : (fs : List Formula) (s : ℕ) (cs : List Contribution) → list_any (λ (c : Contribution). is_data_of s c && is_raw c.target.extension) cs ≡ is_raw_signal (contributions_in fs cs) s
+raw_seen fs s cs = sym (any_map (view_contribution fs) (λ c. is_data_to s c && is_raw c.extension) cs)
+
+-- a function of two bits, of which the second is made in an arena that the first has grown
+pub function_made : (old mid new : List Formula) (cs : List Contribution) (s : ℕ) (one any : List Step) (complement : Bool) (a b : ExprId) → Stands old mid → Stands mid new → AllLieIn (length old) cs
+    → formula_at mid a ≡ bit_of one s (contributions_in old cs) → a.0 < length mid → formula_at new b ≡ bit_of any s (contributions_in mid cs) → b.0 < length new
+    → IsMade (contributions_in old cs) s one any complement → IsFunctionGiven old new cs s (record { one = a; any = b; complement = complement })
+function_made old mid new cs s one any complement a b first then_ inside is_one a_in is_any b_in made = record {
+  is = λ d. ap₂ (λ x y. with_parts x y complement) (same_formula mid new then_ a a_in ∙ is_one) (is_any ∙ ap (bit_of any s) (same_contributions old mid first cs inside)) ∙ made d;
+  inside = (let longer = then_.longer in omega (arith, a_in, longer), b_in);
+}
+
+-- ---- controls
+
+module _ (d : Context) (fs : List Formula) (s : ℕ) (e : Extension) where
+  signed : (complement : Bool) (cs : List (meant.Contribution Formula)) → bit_of (control_steps e complement) s cs ≡ (if complement then (make_not (part_sum (part.Control e) s cs)).what else part_sum (part.Control e) s cs)
+  signed true cs = ap (λ f. (make_not f).what) (or_nothing (part_sum (part.Control e) s cs))
+  signed false cs = or_nothing (part_sum (part.Control e) s cs)
+
+  pub no_control : (cs : List Contribution) → first_target s e cs ≡ None → None ≡ control_of (formulas d) (contributions_in fs cs) s e
+  no_control [] none = refl
+  no_control (c ∷ cs) none =
+      elim (cases_Bool (is_to s c && is_the_control e c.target.extension)) [
+        | inl hit ↦ absurd (let bad : Some c ≡ None = rw hit at none in cc)
+        | inr miss ↦ rw miss (no_control cs (rw miss at none))
       ]
+
+  signed_control : (cs : List Contribution) (first : Contribution) → first_target s e cs ≡ Some first
+      → Some (if first.complement then (make_not (part_sum (part.Control e) s (contributions_in fs cs))).what else part_sum (part.Control e) s (contributions_in fs cs)) ≡ control_of (formulas d) (contributions_in fs cs) s e
+  signed_control [] first is = absurd cc
+  signed_control (c ∷ cs) first is =
+      elim (cases_Bool (is_to s c && is_the_control e c.target.extension)) [
+        | inl hit ↦ let same : first ≡ c = (let there : Some c ≡ Some first = rw hit at is in cc) in rw (hit, same) refl
+        | inr miss ↦ rw miss (signed_control cs first (rw miss at is))
+      ]
+
+  pub some_control : (cs : List Contribution) (first : Contribution) → first_target s e cs ≡ Some first
+      → Some (bit_of (control_steps e first.complement) s (contributions_in fs cs)) ≡ control_of (formulas d) (contributions_in fs cs) s e
+  some_control cs first is = ap (λ f. Some f) (signed first.complement (contributions_in fs cs)) ∙ signed_control cs first is
+
+-- ---- the signal's own contributions
+
+module _ (fs : List Formula) (s : ℕ) (cs : List Contribution) where
+  abbrev all : List (meant.Contribution Formula)
+  all = contributions_in fs cs
+
+  abbrev own : List (meant.Contribution Formula)
+  own = contributions_in fs (filter (is_to s) cs)
+
+  sum_own : (p : Part) → part_sum p s own ≡ part_sum p s all
+  sum_own p = ap (λ xs. fold and_one (Const false) xs) (filter_own (view_contribution fs) (is_for p s) (is_to s) (outside p) cs)
     where
-      given : (first : Option Contribution) (control : Option Control) → Some c ≡ first → fold (and_one fs) (Const false) (c ∷ filter (is_for (part.Control e)) kept) ≡ sum → IsControlFor fs new own e first control → plain_control new control ≡ control_by (formulas d) (map seen (c ∷ filter (is_for (part.Control e)) kept))
-      given None control same folds for = absurd cc
-      given (Some first) None same folds for = absurd for
-      given (Some first) (Some control) same folds for =
-          let is_first : c ≡ first = cc in
-          ap (λ f. Some f) (for.bit ∙ ap (λ f. complement_of first.complement f) (sym (folds ∙ is)) ∙ ap (λ (x : Contribution). complement_of x.complement (fold (and_one fs) (Const false) (c ∷ filter (is_for (part.Control e)) kept))) (sym is_first))
-          ∙ sym (by_first c (filter (is_for (part.Control e)) kept))
+      outside : (q : Part) (c : Contribution) → is_to s c ≡ false → is_for q s (view_contribution fs c) ≡ false
+      outside (part.Data g) c miss = rw miss refl
+      outside (part.DataIn b g) c miss = rw miss refl
+      outside (part.Control e) c miss = rw miss refl
 
-  pub control_is : (new : List Formula) (s : ℕ) (e : Extension) (cs : List Contribution) (control : Option Control) → IsControlOf fs new (filter (is_to s) cs) e control → plain_control new control ≡ control_of (formulas d) (map seen cs) s e
-  control_is new s e cs control for =
-      control_by_found new e (filter (is_to s) cs) (part_sum fs (part.Control e) (filter (is_to s) cs)) (filter (is_to s) cs) (find (is_for (part.Control e)) (filter (is_to s) cs)) control refl refl refl for
-      ∙ ap (λ xs. control_by (formulas d) (map seen xs)) (sym (in_turn (is_to s) (is_for (part.Control e)) cs))
-      ∙ ap (λ xs. control_by (formulas d) xs) (sym (filtered seen (is_control s e) (λ c. is_to s c && is_for (part.Control e) c) (λ c. refl) cs))
+  any_same : (p : meant.Contribution Formula → Bool) → ((c : Contribution) → is_to s c ≡ false → p (view_contribution fs c) ≡ false) → list_any p own ≡ list_any p all
+  any_same p none = any_own (view_contribution fs) p (is_to s) none cs
 
-  -- ---- functions
+  free_own : is_free_elsewhere own s ≡ is_free_elsewhere all s
+  free_own =
+      ap₂ (λ a b. a && b) (any_same (is_data_to s) (λ c miss. rw miss refl))
+      (all_own (view_contribution fs) (λ c. not (is_data_to s c) || (is_some c.block && c.dontcare)) (is_to s) (λ c miss. rw miss refl) cs)
 
-  abbrev with_parts : (one any : Formula) → (complement : Bool) → meant_function.Function Formula
-  with_parts one any complement = record { one = one; any = any; complement = complement }
+  both_own : is_both own s ≡ is_both all s
+  both_own = ap₂ (λ a b. a && b) (any_same (is_data_in false s) (λ c miss. rw miss refl)) (any_same (is_data_in true s) (λ c miss. rw miss refl))
 
-  same_parts : (a b x y : Formula) (c z : Bool) → a ≡ x → b ≡ y → c ≡ z → with_parts a b c ≡ with_parts x y z
-  same_parts a b x y c z p q r = ap₂ (λ one any. with_parts one any c) p q ∙ ap (λ complement. with_parts x y complement) r
+  complement_own : is_complement own s ≡ is_complement all s
+  complement_own = any_same (λ c. is_data_to s c && c.complement) (λ c miss. rw miss refl)
 
-  function_by : (both : Bool) (new : List Formula) (s : ℕ) (cs own : List Contribution) (f : Function) → own ≡ filter (is_to s) cs
-      → IsFunctionBy new (if both then both_one fs own else part_sum fs (part.Data gives.One) own) (if both then both_any fs own else any_sum fs (part.Data gives.Any) own) (if both then false else has_complement own) f
-      → plain_function new f ≡ (if both then both_function (formulas d) (map seen cs) s else single_function (formulas d) (map seen cs) s)
-  function_by true new s cs own f same is =
-      same_parts _ _ _ _ _ _ (is.one ∙ ap (both_one fs) same ∙ sym (both_one_is s cs)) (is.any ∙ ap (both_any fs) same ∙ sym (both_any_is s cs)) is.complement
-  function_by false new s cs own f same is =
-      same_parts _ _ _ _ _ _ (is.one ∙ ap (part_sum fs (part.Data gives.One)) same ∙ sym (sum_seen s gives.One cs)) (is.any ∙ ap (any_sum fs (part.Data gives.Any)) same ∙ sym (any_is s cs)) (is.complement ∙ ap has_complement same ∙ sym (complement_is s cs))
+  function_own : (d : Context) → function_of (formulas d) own s ≡ function_of (formulas d) all s
+  function_own d =
+      rw (both_own, free_own, complement_own, sum_own (part.DataIn false gives.One), sum_own (part.DataIn true gives.One), sum_own (part.DataIn true gives.Any), sum_own (part.DataIn false gives.Any), sum_own (part.Data gives.One), sum_own (part.Data gives.Any), sum_own (part.Data gives.Match)) refl
 
-  pub function_is : (new : List Formula) (s : ℕ) (cs : List Contribution) (f : Function) → IsFunctionOf fs new (filter (is_to s) cs) f → plain_function new f ≡ function_of (formulas d) (map seen cs) s
-  function_is new s cs f is =
-      subst (λ b. plain_function new f ≡ (if b then both_function (formulas d) (map seen cs) s else single_function (formulas d) (map seen cs) s)) (sym (both_seen s cs))
-      (function_by (is_both (filter (is_to s) cs)) new s cs (filter (is_to s) cs) f refl is)
+  control_own : (new : List Formula) (e : Extension) (control : Option Control) → IsControlGiven fs new (filter (is_to s) cs) s e control → IsControlGiven fs new cs s e control
+  control_own new e control given = record {
+    is = λ d. given.is d ∙ ap (control_by (formulas d)) (filter_own (view_contribution fs) (is_control s e) (is_to s) (λ c miss. rw miss refl) cs);
+    inside = given.inside;
+    place = given.place ∙ ap target_place (find_own (λ (c : Contribution). is_to s c && is_the_control e c.target.extension) (is_to s) (λ c miss. rw miss refl) cs);
+  }
 
--- ---- raw data
-
-raw_data : (e : Option Extension) → (is_data e && is_raw e) ≡ is_raw e
-raw_data None = refl
-raw_data (Some extension.D) = refl
-raw_data (Some extension.Clk) = refl
-raw_data (Some extension.Oe) = refl
-raw_data (Some extension.Ar) = refl
-raw_data (Some extension.Sp) = refl
-raw_data (Some extension.Q) = refl
-raw_data (Some extension.Fb) = refl
-raw_data (Some extension.Pin) = refl
-
-raw_is : (fs : List Formula) (s : ℕ) (cs : List Contribution) → is_raw_signal (map (view_contribution fs) cs) s ≡ list_any (λ (c : Contribution). is_raw c.target.extension) (filter (is_to s) cs)
-raw_is fs s cs =
-    any_seen (view_contribution fs) (λ c. is_data_to s c && is_raw c.extension) (λ c. is_to s c && is_raw c.target.extension) (λ c. and_grouped (is_to s c) (is_data c.target.extension) (is_raw c.target.extension) ∙ ap (λ b. is_to s c && b) (raw_data c.target.extension)) cs
-    ∙ any_in_turn (is_to s) (λ (c : Contribution). is_raw c.target.extension) cs
-
--- ---- ids and places
-
-control_inside : (fs new : List Formula) (own : List Contribution) (e : Extension) (first : Option Contribution) (control : Option Control) → IsControlFor fs new own e first control → IsControlIn (length new) control
-control_inside fs new own e first None for = tt
-control_inside fs new own e None (Some control) for = absurd for
-control_inside fs new own e (Some first) (Some control) for = for.inside
-
-control_placed : (fs new : List Formula) (own : List Contribution) (e : Extension) (first : Option Contribution) (control : Option Control) → IsControlFor fs new own e first control → option_map (λ (c : Control). c.place) control ≡ option_map (λ (c : Contribution). c.place) first
-control_placed fs new own e None None for = refl
-control_placed fs new own e (Some first) None for = absurd for
-control_placed fs new own e None (Some control) for = absurd for
-control_placed fs new own e (Some first) (Some control) for = ap (λ p. Some p) for.place
-
-control_given : (fs new : List Formula) (cs : List Contribution) (s : ℕ) (e : Extension) (control : Option Control) → IsControlOf fs new (filter (is_to s) cs) e control → IsControlGiven fs new cs s e control
-control_given fs new cs s e control for = record {
-  is = λ d. control_is d fs new s e cs control for;
-  inside = control_inside fs new (filter (is_to s) cs) e (find (is_for (part.Control e)) (filter (is_to s) cs)) control for;
-  place = control_placed fs new (filter (is_to s) cs) e (find (is_for (part.Control e)) (filter (is_to s) cs)) control for
-      ∙ ap (λ o. option_map (λ (c : Contribution). c.place) o) (found_in_turn (is_to s) (is_for (part.Control e)) cs);
-}
-
--- the totals of a signal's own contributions are those of all
-pub totals_given : (fs new : List Formula) (cs : List Contribution) (s : ℕ) (totals : Totals) → AreTotalsOf fs new (filter (is_to s) cs) totals → AreGiven fs new cs s totals
-totals_given fs new cs s totals are = record {
-  function = λ d. function_is d fs new s cs totals.function are.function;
-  inside = (are.function.one_inside, are.function.any_inside);
-  raw = are.raw ∙ sym (raw_is fs s cs);
-  enable = control_given fs new cs s extension.Oe totals.controls.enable are.controls.enable;
-  reset = control_given fs new cs s extension.Ar totals.controls.reset are.controls.reset;
-  preset = control_given fs new cs s extension.Sp totals.controls.preset are.controls.preset;
-  place = are.place ∙ ap (λ o. option_map (λ (c : Contribution). c.place) o) (found_in_turn (is_to s) (λ (c : Contribution). is_data c.target.extension) cs);
-}
+  pub totals_own : (new : List Formula) (totals : Totals) → AreGiven fs new (filter (is_to s) cs) s totals → AreGiven fs new cs s totals
+  totals_own new totals given = record {
+    function = λ d. given.function d ∙ function_own d;
+    inside = given.inside;
+    raw = given.raw ∙ any_same (λ c. is_data_to s c && is_raw c.extension) (λ c miss. rw miss refl);
+    enable = control_own new extension.Oe totals.controls.enable given.enable;
+    reset = control_own new extension.Ar totals.controls.reset given.reset;
+    preset = control_own new extension.Sp totals.controls.preset given.preset;
+    place = given.place ∙ ap target_place (find_own (λ (c : Contribution). is_to s c && is_data c.target.extension) (is_to s) (λ c miss. rw miss refl) cs);
+  }

@@ -11,8 +11,9 @@ use Rattle.bit_expr.specs.declared.node.Leaf.TheVariants as leaf
 use Rattle.bit_expr.specs.declared.reads.Reads.{Reads}
 use Rattle.bit_expr.specs.Arena.{IsLeaf}
 use Rattle.bit_expr.specs.Reading.{AreReads}
-use Rattle.abel_tree.specs.Entries.{Kind, APin, ANode, AConstant, ADeviceName, Entry}
-use Rattle.abel_meaning.specs.Designs.{Design, name_at, no_name, is_stored, cell_on}
+use Rattle.abel_tree.specs.Entries.{Kind, APin, ANode, AConstant, ADeviceName, Entry, is_stored}
+use Rattle.pld_device.specs.Pins.{cell_on}
+use Rattle.abel_meaning.specs.Designs.{Design, name_at, no_name}
 use Rattle.abel_meaning.specs.SignalReads.{given_formulas, leaf_by, leaf_of, settles, settles_by, signal_names, signal_reads, is_one_of, reset_equation_reads, is_stored_signal, IsSignalLoop, HasNoSignalLoop, IsSignalPath, HasNoSignalPath}
 use Rattle.netlist_laws.specs.Gathered.{cell_by}
 use Rattle.gathering.specs.declared.link.Link.{Link}

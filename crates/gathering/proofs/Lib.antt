@@ -1,12 +1,10 @@
 pub mod GivenAmounts
 pub mod Graphed
-pub mod GrowingSums
-pub mod LaterTotals
 pub mod LinkFacts
 pub mod LinkSets
 mod LinkedEnds
-mod Places
+pub mod SeenLists
 mod Pushed
 mod Renamed
 pub mod SameChains
-pub mod SeenLists
+pub mod Standing

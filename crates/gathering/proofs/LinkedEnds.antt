@@ -7,9 +7,10 @@ use Rattle.bit_expr.specs.declared.node.Leaf.TheVariants as leaf
 use Rattle.bit_expr.specs.declared.reads.Reads.{Reads}
 use Rattle.bit_expr.specs.Formulas.{Formula}
 use Rattle.bit_expr.specs.Reading.{AreReads}
-use Rattle.abel_tree.specs.Entries.{Kind, APin, ANode, AConstant, ADeviceName, Entry}
+use Rattle.abel_tree.specs.Entries.{Kind, APin, ANode, AConstant, ADeviceName, Entry, is_stored}
+use Rattle.pld_device.specs.Pins.{cell_on}
 use Rattle.abel_meaning.specs.Contributions as meant
-use Rattle.abel_meaning.specs.Designs.{Context, is_stored, cell_on}
+use Rattle.abel_meaning.specs.Designs.{Context}
 use Rattle.abel_meaning.specs.SignalReads.{leaf_by, settles, settles_by, signal_names, function_names, names_if_any}
 use Rattle.netlist_laws.specs.Gathered.{cell_by, cell_of}
 use Rattle.set_expr.specs.declared.contributions.Contribution.{Contribution}

@@ -1,5 +1,5 @@
 -- One name more asks what it asks, over an arena that grows.
-use Rattle.std.proofs.Common.{◌≡◌, ℕ, suc, ◌+◌, ◌<◌, Bool, true, false, List, [], ◌∷◌, ◌++◌, length, map, get_or, Option, Some, None, refl, sym, ap, ap₂, ◌∙◌, subst, arith}
+use Rattle.std.proofs.Common.{◌≡◌, ℕ, suc, ◌+◌, Bool, true, false, List, [], ◌∷◌, ◌++◌, length, map, get_or, Option, Some, None, refl, sym, ap, ap₂, ◌∙◌, subst, arith}
 use Rattle.std.specs.Prelude.{All, option_map, unwrap_or}
 use Rattle.std.proofs.lemmas.List.Elements.{All-head, All-tail, All-cons, All-nil, All-append}
 use Rattle.std.proofs.lemmas.List.{map-append, append-nil}
@@ -12,10 +12,10 @@ use Rattle.bit_expr.specs.declared.netlist.Function.{Function}
 use Rattle.bit_expr.specs.Formulas.{Formula}
 use Rattle.abel_tree.specs.declared.words.Extension.{Extension}
 use Rattle.abel_tree.specs.declared.words.Extension.TheVariants as extension
-use Rattle.abel_tree.specs.Entries.{Kind, APin, ANode, AConstant, ADeviceName, Entry}
+use Rattle.abel_tree.specs.Entries.{Kind, APin, ANode, AConstant, ADeviceName, Entry, is_stored}
 use Rattle.abel_meaning.specs.Contributions as meant
 use Rattle.abel_meaning.specs.Controls.{control_of, control_if_stored}
-use Rattle.abel_meaning.specs.Designs.{Context, is_stored}
+use Rattle.abel_meaning.specs.Designs.{Context}
 use Rattle.abel_meaning.specs.FormulaBits.{formulas}
 use Rattle.abel_meaning.specs.Functions.{function_of, is_raw_signal}
 use Rattle.abel_meaning.specs.Functions as meant_function
@@ -25,7 +25,7 @@ use Rattle.set_expr.specs.declared.contributions.Contribution.{Contribution}
 use Rattle.gathering.specs.declared.signal.Totals.{Totals}
 use Rattle.gathering.specs.Amounts.{contributions_in, AreGiven, first_target, target_place, control_place}
 use Rattle.gathering.specs.Parts.{AllLieIn, Stands}
-use Rattle.gathering.proofs.GrowingSums.{same_formula}
+use Rattle.gathering.proofs.Standing.{same_formula, same_control, same_function, same_contributions, function_still, control_still}
 use Rattle.netlist_laws.specs.Gathered.{by_row, wanted_for, cell_of, cell_by, and_cell, cells_from, and_node, nodes_from}
 use Rattle.gathering.specs.declared.asked.Asked.{Asked}
 use Rattle.gathering.specs.declared.link.Link.{Link}
@@ -79,49 +79,28 @@ module _ (d : Context) (cs : List (meant.Contribution Formula)) where
 -- ---- what stands in an arena that grows
 
 module _ (fs gs : List Formula) (stands : Stands fs gs) where
-  same_control : (control : Option Control) → IsControlIn (length fs) control → plain_control gs control ≡ plain_control fs control
-  same_control None inside = refl
-  same_control (Some control) inside = ap (λ f. Some f) (same_formula fs gs control.bit stands inside)
-
-  same_function : (f : Function) → IsFunctionIn (length fs) f → plain_function gs f ≡ plain_function fs f
-  same_function f inside = rw (same_formula fs gs f.one stands inside.0, same_formula fs gs f.any stands inside.1) refl
-
   same_wanted : (w : CellWanted) → IsCellIn (length fs) w → plain_wanted gs w ≡ plain_wanted fs w
   same_wanted w inside =
-      rw (same_formula fs gs w.function.one stands inside.function.0, same_formula fs gs w.function.any stands inside.function.1, same_control w.enable inside.enable, same_control w.reset inside.reset, same_control w.preset inside.preset) refl
+      rw (same_formula fs gs stands w.function.one inside.function.0, same_formula fs gs stands w.function.any inside.function.1, same_control fs gs stands w.enable inside.enable, same_control fs gs stands w.reset inside.reset, same_control fs gs stands w.preset inside.preset) refl
 
   same_functions : (ws : List Function) → All (IsFunctionIn (length fs)) ws → map (plain_function gs) ws ≡ map (plain_function fs) ws
   same_functions [] inside = refl
-  same_functions (w ∷ ws) inside = ap₂ (λ v vs. v ∷ vs) (same_function w (All-head (IsFunctionIn (length fs)) w ws inside)) (same_functions ws (All-tail (IsFunctionIn (length fs)) w ws inside))
+  same_functions (w ∷ ws) inside = ap₂ (λ v vs. v ∷ vs) (same_function fs gs stands w (All-head (IsFunctionIn (length fs)) w ws inside)) (same_functions ws (All-tail (IsFunctionIn (length fs)) w ws inside))
 
   same_cells : (ws : List CellWanted) → All (IsCellIn (length fs)) ws → map (plain_wanted gs) ws ≡ map (plain_wanted fs) ws
   same_cells [] inside = refl
   same_cells (w ∷ ws) inside = ap₂ (λ v vs. v ∷ vs) (same_wanted w (All-head (IsCellIn (length fs)) w ws inside)) (same_cells ws (All-tail (IsCellIn (length fs)) w ws inside))
 
-  same_contributions : (cs : List Contribution) → AllLieIn (length fs) cs → contributions_in gs cs ≡ contributions_in fs cs
-  same_contributions [] inside = refl
-  same_contributions (c ∷ cs) inside =
-      ap₂ (λ v vs. v ∷ vs)
-      (rw (same_formula fs gs c.when stands (All-head (λ (x : Contribution). x.when.0 < length fs) c cs inside)) refl)
-      (same_contributions cs (All-tail (λ (x : Contribution). x.when.0 < length fs) c cs inside))
-
-  function_still : (f : Function) → IsFunctionIn (length fs) f → IsFunctionIn (length gs) f
-  function_still f inside = (omega (arith, inside.0, stands.longer), omega (arith, inside.1, stands.longer))
-
-  control_still : (control : Option Control) → IsControlIn (length fs) control → IsControlIn (length gs) control
-  control_still None inside = tt
-  control_still (Some control) inside = omega (arith, inside, stands.longer)
-
   cell_still : (w : CellWanted) → IsCellIn (length fs) w → IsCellIn (length gs) w
   cell_still w inside = record {
-    function = function_still w.function inside.function;
-    enable = control_still w.enable inside.enable;
-    reset = control_still w.reset inside.reset;
-    preset = control_still w.preset inside.preset;
+    function = function_still fs gs stands w.function inside.function;
+    enable = control_still fs gs stands w.enable inside.enable;
+    reset = control_still fs gs stands w.reset inside.reset;
+    preset = control_still fs gs stands w.preset inside.preset;
   }
 
   functions_still : (ws : List Function) → All (IsFunctionIn (length fs)) ws → All (IsFunctionIn (length gs)) ws
-  functions_still ws inside k w at = function_still (get_or ws k w) (inside k w at)
+  functions_still ws inside k w at = function_still fs gs stands (get_or ws k w) (inside k w at)
 
   cells_still : (ws : List CellWanted) → All (IsCellIn (length fs)) ws → All (IsCellIn (length gs)) ws
   cells_still ws inside k w at = cell_still (get_or ws k w) (inside k w at)

@@ -6,6 +6,7 @@ use Rattle.bit_expr.specs.declared.netlist.Control.{Control}
 use Rattle.bit_expr.specs.Formulas.{Formula}
 use Rattle.abel_tree.specs.declared.words.Extension.{Extension}
 use Rattle.abel_tree.specs.declared.words.Extension.TheVariants as extension
+use Rattle.abel_tree.specs.Extensions.{is_data}
 use Rattle.abel_meaning.specs.Contributions as meant
 use Rattle.abel_meaning.specs.Controls.{is_the_control, control_of}
 use Rattle.abel_meaning.specs.Designs.{Context}
@@ -13,7 +14,6 @@ use Rattle.abel_meaning.specs.FormulaBits.{formulas}
 use Rattle.abel_meaning.specs.Functions.{function_of, is_raw_signal}
 use Rattle.abel_meaning.specs.Netlists.{plain_function, plain_control}
 use Rattle.abel_meaning.specs.SoundIds.{IsFunctionIn, IsControlIn}
-use Rattle.abel_meaning.specs.Targets.{is_data}
 use Rattle.set_expr.specs.Given.{view_contribution}
 use Rattle.set_expr.specs.declared.contributions.Contribution.{Contribution}
 use Rattle.gathering.specs.Parts.{is_to}

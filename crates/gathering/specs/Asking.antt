@@ -6,9 +6,9 @@ use Rattle.pld_device.specs.Table.{Table, cell_at}
 use Rattle.bit_expr.specs.declared.netlist.CellWanted.{CellWanted}
 use Rattle.bit_expr.specs.declared.netlist.Control.{Control}
 use Rattle.bit_expr.specs.Formulas.{Formula}
-use Rattle.abel_tree.specs.Entries.{Entry}
+use Rattle.abel_tree.specs.Entries.{Entry, is_stored, follows_q}
 use Rattle.abel_meaning.specs.Choices.{is_free}
-use Rattle.abel_meaning.specs.Designs.{Context, is_stored, follows_q}
+use Rattle.abel_meaning.specs.Designs.{Context}
 use Rattle.abel_meaning.specs.Netlists.{plain_function, plain_wanted}
 use Rattle.abel_meaning.specs.SoundIds.{IsFunctionIn, IsCellIn}
 use Rattle.abel_meaning.specs.SourceLogic.{is_negated}

@@ -4,8 +4,7 @@ use Rattle.bit_expr.specs.declared.node.Leaf.{Leaf}
 use Rattle.bit_expr.specs.declared.node.Leaf.TheVariants as leaf
 use Rattle.bit_expr.specs.Formulas.{Formula}
 use Rattle.bit_expr.specs.Reading.{AreReads}
-use Rattle.abel_tree.specs.Entries.{Kind, APin, ANode, Entry}
-use Rattle.abel_meaning.specs.Designs.{is_stored}
+use Rattle.abel_tree.specs.Entries.{Kind, APin, ANode, Entry, is_stored}
 use Rattle.abel_meaning.specs.Netlists.{plain_control, plain_function}
 use Rattle.abel_meaning.specs.SignalReads.{function_names, names_if_any}
 use Rattle.abel_meaning.specs.SoundIds.{IsControlIn, IsFunctionIn}

@@ -3,8 +3,9 @@ use Rattle.std.specs.Prelude.{◌≡◌, ℕ, Bool, true, IsSome}
 use Rattle.bit_expr.specs.declared.node.Leaf.{Leaf}
 use Rattle.abel_tree.specs.declared.words.Extension.TheVariants as extension
 use Rattle.abel_tree.specs.Entries.{APin}
+use Rattle.pld_device.specs.Pins.{cell_on}
 use Rattle.abel_meaning.specs.Controls.{control_of}
-use Rattle.abel_meaning.specs.Designs.{Context, Design, name_at, cell_on}
+use Rattle.abel_meaning.specs.Designs.{Context, Design, name_at}
 use Rattle.abel_meaning.specs.FormulaBits.{formulas}
 use Rattle.abel_meaning.specs.SignalReads.{given_formulas, names_if_any}
 

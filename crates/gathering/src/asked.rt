@@ -9,7 +9,7 @@ ghost use Rattle.gathering.specs.Asking.{Asks, asked_cell, control_by_row, contr
 
 use crate::link::Link;
 use crate::links::{cell_link, node_link};
-use crate::names::{cell_of, follows_q, is_free, is_negated, is_node, is_stored};
+use crate::names::{cell_of, is_free, is_negated, is_node};
 use crate::signal::{Totals, sum_up};
 use abel_tree::Declared;
 use bit_expr::{CellWanted, Control, Exprs, Function};
@@ -57,13 +57,13 @@ fn asked_cell<D: Device>(cell: u8, name: u32, declared: &Declared, totals: &Tota
     requires { cell < length D.table.cells }
     ensures { result ≡ asked_cell D.table cell name (view_declared declared.now) totals.now }
 {
-    let stored = is_stored(declared);
+    let stored = declared.is_stored();
     CellWanted {
         cell,
         name,
         place: totals.place.unwrap_or(declared.place),
         registered: stored,
-        buffer: follows_q(declared.attributes),
+        buffer: declared.follows_q(),
         free: is_free(declared),
         negated: is_negated(&declared.meaning),
         raw: stored && totals.raw,

@@ -1,12 +1,14 @@
 //! The contributions to one signal.
 
-ghost use Rattle.std.specs.Prelude.{◌≡◌, ◌&&◌, ◌||◌, not, is_some, IfOk, filter, find, take, option_map};
+ghost use Rattle.std.specs.Prelude.{◌≡◌, ◌&&◌, true, false, IfOk, filter, find};
 ghost use Rattle.std.specs.List.{list_any, list_all};
-ghost use Rattle.abel_meaning.specs.Targets.{is_data, is_raw};
+ghost use Rattle.abel_tree.specs.Extensions.{is_raw};
 ghost use Rattle.set_expr.specs.declared.contributions.Contribution.{Contribution};
-ghost use Rattle.gathering.specs.Parts.{is_to, is_for, is_data_in, is_both, is_free_one, is_free, has_complement};
+ghost use Rattle.gathering.specs.Amounts.{first_data, first_target, target_place};
+ghost use Rattle.gathering.specs.Parts.{is_to, is_data_of, is_data_of_polarity, is_free_one};
 
-use crate::parts::{Part, is_data, is_data_in, is_for, is_raw};
+use crate::parts::{is_control, is_data_to};
+use abel_tree::Extension;
 use pld_base::{OutOfMemory, Place};
 use set_expr::Contribution;
 use std::alloc::Global;
@@ -27,75 +29,76 @@ pub(crate) fn given_to(
     Ok(own)
 }
 
-/// The first one that is for the part.
-pub(crate) fn first_for(list: &[Contribution], part: Part) -> Option<Contribution>
-    ensures { result ≡ find (is_for part) list.now }
+/// The first one to the control of the signal.
+pub(crate) fn first_for(
+    list: &[Contribution],
+    signal: u32,
+    control: Extension,
+) -> Option<Contribution>
+    ensures { result ≡ first_target signal control list.now }
 {
-    list.iter().copied().find(|given| is_for(part, given))
+    list.iter()
+        .copied()
+        .find(|given| is_control(control, signal, given))
 }
 
-/// Whether it is data of a table or diagram that is don't-care for its signal, or no data.
-fn is_free_one(given: &Contribution) -> bool
-    ensures { result ≡ is_free_one given.now }
+/// Whether some are data to the signal.
+fn has_data(list: &[Contribution], signal: u32) -> bool
+    ensures { result ≡ list_any (is_data_of signal) list.now }
 {
-    !is_data(given.target.extension) || given.block.is_some() && given.dontcare
+    list.iter().any(|given| is_data_to(signal, given))
 }
 
-/// Whether some are data.
-fn has_data(list: &[Contribution]) -> bool
-    ensures { result ≡ list_any (λ (c : Contribution). is_data c.target.extension) list.now }
+/// Whether all that are data to the signal are don't-care by their table or diagram.
+fn all_free(list: &[Contribution], signal: u32) -> bool
+    ensures { result ≡ list_all (is_free_one signal) list.now }
 {
-    list.iter().any(|given| is_data(given.target.extension))
+    list.iter().all(|given| !is_data_to(signal, given) || given.block.is_some() && given.dontcare)
 }
 
-/// Whether all that are data are don't-care by their table or diagram.
-fn all_free(list: &[Contribution]) -> bool
-    ensures { result ≡ list_all is_free_one list.now }
+/// Whether some are data to the signal, and all that are are don't-care by their table or diagram.
+pub(crate) fn is_free(list: &[Contribution], signal: u32) -> bool
+    ensures { result ≡ (list_any (is_data_of signal) list.now && list_all (is_free_one signal) list.now) }
 {
-    list.iter().all(|given| is_free_one(given))
+    has_data(list, signal) && all_free(list, signal)
 }
 
-/// Whether some are data, and all that are are don't-care by their table or diagram.
-pub(crate) fn is_free(list: &[Contribution]) -> bool
-    ensures { result ≡ is_free list.now }
+/// Whether some data are to the complement of the signal.
+pub(crate) fn is_complement(list: &[Contribution], signal: u32) -> bool
+    ensures { result ≡ list_any (λ (c : Contribution). is_data_of signal c && c.complement) list.now }
 {
-    has_data(list) && all_free(list)
+    list.iter()
+        .any(|given| is_data_to(signal, given) && given.complement)
 }
 
-/// Whether some data are to the complement.
-pub(crate) fn is_complement(list: &[Contribution]) -> bool
-    ensures { result ≡ has_complement list.now }
+/// Whether some data are to the complement of the signal, or to its name.
+fn has_data_in(complement: bool, list: &[Contribution], signal: u32) -> bool
+    ensures { result ≡ list_any (is_data_of_polarity complement signal) list.now }
 {
-    list.iter().any(|given| is_data(given.target.extension) && given.complement)
+    list.iter().any(|given| is_data_to(signal, given) && given.complement == complement)
 }
 
-/// Whether some data are to the complement, or to the name.
-fn has_data_in(complement: bool, list: &[Contribution]) -> bool
-    ensures { result ≡ list_any (is_data_in complement) list.now }
+/// Whether some data are to the name of the signal, and some to its complement.
+pub(crate) fn is_both(list: &[Contribution], signal: u32) -> bool
+    ensures { result ≡ (list_any (is_data_of_polarity false signal) list.now
+        && list_any (is_data_of_polarity true signal) list.now) }
 {
-    list.iter().any(|given| is_data_in(complement, given))
-}
-
-/// Whether some data are to the name, and some to the complement.
-pub(crate) fn is_both(list: &[Contribution]) -> bool
-    ensures { result ≡ is_both list.now }
-{
-    has_data_in(false, list) && has_data_in(true, list)
+    has_data_in(false, list, signal) && has_data_in(true, list, signal)
 }
 
 /// Whether some data are for the raw input of the signal's register.
-pub(crate) fn has_raw(list: &[Contribution]) -> bool
-    ensures { result ≡ list_any (λ (c : Contribution). is_raw c.target.extension) list.now }
+pub(crate) fn has_raw(list: &[Contribution], signal: u32) -> bool
+    ensures { result
+        ≡ list_any (λ (c : Contribution). is_data_of signal c && is_raw c.target.extension) list.now }
 {
-    list.iter().any(|given| is_raw(given.target.extension))
+    list.iter().any(|given| is_data_to(signal, given) && Extension::is_raw(given.target.extension))
 }
 
-/// The place of the first data.
-pub(crate) fn first_place(list: &[Contribution]) -> Option<Place>
-    ensures { result ≡ option_map (λ (c : Contribution). c.place)
-        (find (λ (c : Contribution). is_data c.target.extension) list.now) }
+/// The place of the first data to the signal.
+pub(crate) fn first_place(list: &[Contribution], signal: u32) -> Option<Place>
+    ensures { result ≡ target_place (first_data signal list.now) }
 {
     list.iter()
-        .find(|given| is_data(given.target.extension))
+        .find(|given| is_data_to(signal, given))
         .map(|given| given.place)
 }

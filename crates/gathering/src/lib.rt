@@ -2,7 +2,6 @@
 #![tactic(auto)]
 
 mod asked;
-mod both_polarities;
 mod chains;
 mod given;
 mod graph;

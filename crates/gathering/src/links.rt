@@ -8,7 +8,6 @@ ghost use Rattle.gathering.specs.declared.signal.Totals.{Totals};
 ghost use Rattle.gathering.specs.Linking.{IsCellLink, IsNodeLink, node_leaf, cell_leaf, totals_name, AreTotalsIn};
 
 use crate::link::Link;
-use crate::names::is_stored;
 use crate::reads::{both, control_reads, function_reads, nothing};
 use crate::signal::Totals;
 use abel_tree::{Declared, Meaning};
@@ -57,7 +56,7 @@ pub(crate) fn node_link(exprs: &Exprs, declared: &Declared, totals: &Totals) -> 
     Link {
         leaf: node_leaf(&declared.meaning),
         reads: totals_read(exprs, totals),
-        stored: is_stored(declared),
+        stored: declared.is_stored(),
     }
 }
 
@@ -66,7 +65,7 @@ pub(crate) fn cell_link(exprs: &Exprs, cell: u8, declared: &Declared, totals: &T
     requires { AreTotalsIn (length (arena exprs.now)) totals.now }
     ensures { IsCellLink (arena exprs.now) cell (view_declared declared.now) totals.now result }
 {
-    let stored = is_stored(declared);
+    let stored = declared.is_stored();
     Link {
         leaf: cell_leaf(cell, stored, &declared.meaning),
         reads: if stored {

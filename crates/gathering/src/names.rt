@@ -1,16 +1,15 @@
 //! What is declared of a name.
 
-ghost use Rattle.std.specs.Prelude.{◌≡◌, ◌&&◌, not};
-ghost use Rattle.abel_tree.specs.Entries.{has, view_declared, view_meaning};
+ghost use Rattle.std.specs.Prelude.{◌≡◌, ◌<◌, IfSome, length};
+ghost use Rattle.abel_tree.specs.Entries.{view_declared, view_meaning};
 ghost use Rattle.abel_meaning.specs.Choices.{is_free};
-ghost use Rattle.abel_meaning.specs.Designs.{cell_on, is_stored};
 ghost use Rattle.abel_meaning.specs.SourceLogic.{is_negated};
 ghost use Rattle.netlist_laws.specs.Gathered.{cell_of};
 ghost use Rattle.gathering.specs.Linked.{is_node_kind};
 
 use abel_tree::{Attributes, Declared, Meaning};
 use bitflags::Flags;
-use pld_device::Device;
+use pld_device::{Device, cell_on};
 
 /// Whether it is a node.
 pub(crate) fn is_node(meaning: &Meaning) -> bool
@@ -29,65 +28,21 @@ pub(crate) fn is_negated(meaning: &Meaning) -> bool
     }
 }
 
-/// Whether the pin follows Q, as it does where nothing says otherwise.
-pub(crate) fn follows_q(attributes: Attributes) -> bool
-    ensures { result ≡ not (has 8 attributes) }
-{
-    !attributes.contains(Attributes::INVERT)
-}
-
-/// Whether the attributes say neither polarity.
-fn says_neither(attributes: Attributes) -> bool
-    ensures { result ≡ (not (has 4 attributes) && not (has 8 attributes)) }
-{
-    !attributes.contains(Attributes::BUFFER) && !attributes.contains(Attributes::INVERT)
-}
-
-/// Whether the attributes say registered.
-fn has_reg(attributes: Attributes) -> bool
-    ensures { result ≡ has 2 attributes }
-{
-    attributes.contains(Attributes::REG)
-}
-
-/// Whether the signal is stored in a register.
-pub(crate) fn is_stored(declared: &Declared) -> bool
-    ensures { result ≡ is_stored (view_declared declared.now) }
-{
-    has_reg(declared.attributes) && declared.assigned
-}
-
 /// Whether the signal is a register whose polarity is left to the fitter.
 pub(crate) fn is_free(declared: &Declared) -> bool
     ensures { result ≡ is_free (view_declared declared.now) }
 {
-    is_stored(declared) && says_neither(declared.attributes)
-}
-
-/// The cell on a pin.
-fn cell_on<D: Device>(pin: u8) -> Option<u8>
-    ensures { result ≡ cell_on D.table pin }
-{
-    for index in 0..D::CELLS {
-        if D::cell(index).pin == pin {
-            return Some(index);
-        }
-    }
-    None
+    let said = declared.attributes;
+    declared.is_stored() && !said.contains(Attributes::BUFFER) && !said.contains(Attributes::INVERT)
 }
 
 /// The cell of an assigned signal.
 pub(crate) fn cell_of<D: Device>(declared: &Declared) -> Option<u8>
-    ensures { result ≡ cell_of D.table (view_declared declared.now) }
+    ensures cell { result ≡ cell_of D.table (view_declared declared.now) }
+    ensures within { IfSome result (λ c. c < length D.table.cells) }
 {
     match &declared.meaning {
-        Meaning::Pin { pin, negated: _ } => if declared.assigned {
-            cell_on::<D>(*pin)
-        } else {
-            None
-        },
-        Meaning::Node(_) => None,
-        Meaning::Constant(_) => None,
-        Meaning::DeviceName => None,
+        Meaning::Pin { pin, negated: _ } if declared.assigned => cell_on::<D>(*pin),
+        _ => None,
     }
 }

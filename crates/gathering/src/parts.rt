@@ -1,11 +1,12 @@
 //! What a contribution is for.
 
-ghost use Rattle.std.specs.Prelude.{◌≡◌};
-ghost use Rattle.abel_meaning.specs.Targets.{is_data, is_raw};
+ghost use Rattle.std.specs.Prelude.{◌≡◌, ◌==◌, ◌&&◌, List};
+ghost use Rattle.bit_expr.specs.Formulas.{Formula};
+ghost use Rattle.abel_tree.specs.Extensions.{is_data};
 ghost use Rattle.abel_meaning.specs.Controls.{is_the_control};
 ghost use Rattle.abel_meaning.specs.Functions.{same_gives};
-ghost use Rattle.set_expr.specs.Given.{view_gives};
-ghost use Rattle.gathering.specs.Parts.{is_data_in, is_for};
+ghost use Rattle.set_expr.specs.Given.{view_contribution, view_gives};
+ghost use Rattle.gathering.specs.Parts.{is_for};
 
 use abel_tree::Extension;
 use set_expr::{Contribution, Gives};
@@ -19,25 +20,11 @@ pub enum Part {
     Control(Extension),
 }
 
-/// Whether a target with this extension is data: the name itself, or the raw input of its register.
-pub(crate) fn is_data(extension: Option<Extension>) -> bool
-    ensures { result ≡ is_data extension }
+/// Whether the contribution is data to the signal: to the name itself, or to the raw input of its register.
+pub(crate) fn is_data_to(signal: u32, given: &Contribution) -> bool
+    ensures { result ≡ (given.now.target.signal == signal && is_data given.now.target.extension) }
 {
-    matches!(extension, None | Some(Extension::D))
-}
-
-/// Whether it is the raw input of a register.
-pub(crate) fn is_raw(extension: Option<Extension>) -> bool
-    ensures { result ≡ is_raw extension }
-{
-    matches!(extension, Some(Extension::D))
-}
-
-/// Whether it is data to the complement of its signal, or to the name.
-pub(crate) fn is_data_in(complement: bool, given: &Contribution) -> bool
-    ensures { result ≡ is_data_in complement given.now }
-{
-    is_data(given.target.extension) && given.complement == complement
+    given.target.signal == signal && Extension::is_data(given.target.extension)
 }
 
 /// Whether both give the same.
@@ -52,27 +39,30 @@ fn same_gives(a: Gives, b: Gives) -> bool
     }
 }
 
-/// Whether a target with this extension is the control.
-fn is_control(control: Extension, extension: Option<Extension>) -> bool
-    ensures { result ≡ is_the_control control extension }
+/// Whether the contribution is to the control of the signal.
+pub(crate) fn is_control(control: Extension, signal: u32, given: &Contribution) -> bool
+    ensures { result ≡ (given.now.target.signal == signal && is_the_control control given.now.target.extension) }
 {
-    match (control, extension) {
-        (Extension::Oe, Some(Extension::Oe)) => true,
-        (Extension::Ar, Some(Extension::Ar)) => true,
-        (Extension::Sp, Some(Extension::Sp)) => true,
-        _ => false,
-    }
+    given.target.signal == signal
+        && match (control, given.target.extension) {
+            (Extension::Oe, Some(Extension::Oe)) => true,
+            (Extension::Ar, Some(Extension::Ar)) => true,
+            (Extension::Sp, Some(Extension::Sp)) => true,
+            _ => false,
+        }
 }
 
-/// Whether the contribution is for this part of its signal.
-pub(crate) fn is_for(part: Part, given: &Contribution) -> bool
-    ensures { result ≡ is_for part given.now }
+/// Whether the contribution is for this part of the signal.
+pub(crate) fn is_for(part: Part, signal: u32, given: &Contribution) -> bool
+    ensures { (fs : List Formula) → result ≡ is_for part signal (view_contribution fs given.now) }
 {
     match part {
-        Part::Data(gives) => is_data(given.target.extension) && same_gives(gives, given.what),
+        Part::Data(gives) => is_data_to(signal, given) && same_gives(gives, given.what),
         Part::DataIn(complement, gives) => {
-            is_data_in(complement, given) && same_gives(gives, given.what)
+            is_data_to(signal, given)
+                && given.complement == complement
+                && same_gives(gives, given.what)
         }
-        Part::Control(control) => is_control(control, given.target.extension),
+        Part::Control(control) => is_control(control, signal, given),
     }
 }

@@ -1,20 +1,21 @@
 //! What all contributions to a signal amount to.
 
-ghost use Rattle.std.specs.Prelude.{◌≡◌, ◌<◌, length, IfOk, OnOk, find};
-ghost use Rattle.bit_expr.specs.Arena.{arena};
+ghost use Rattle.std.specs.Prelude.{◌≡◌, ◌<◌, length, IfOk, OnOk};
+ghost use Rattle.bit_expr.specs.Arena.{arena, formula_at};
 ghost use Rattle.abel_tree.specs.declared.words.Extension.TheVariants as extension;
-ghost use Rattle.gathering.specs.Amounts.{AreGiven};
-ghost use Rattle.gathering.specs.Parts.{AllLieIn, Stands};
-ghost use Rattle.gathering.specs.Totals.{IsSingleFunction, IsBothFunction, IsFunctionOf, IsControlOf, AreControlsOf, AreTotalsOf};
+ghost use Rattle.gathering.specs.Amounts.{AreGiven, IsControlGiven, contributions_in};
+ghost use Rattle.gathering.specs.Parts.{AllLieIn, Stands, bit_of, control_steps};
+ghost use Rattle.gathering.specs.Totals.{IsFunctionGiven, AreControlsGiven};
 
-use crate::both_polarities::{both_any, both_one};
 use crate::given::{first_for, first_place, given_to, has_raw, is_both, is_complement};
-use crate::parts::{Part, is_data};
-use crate::sums::{any_bit, part_bit, part_sum};
+use crate::parts::Part::{self, Data, DataIn};
+use crate::sums::Step::{Not, Or, Unmatched};
+use crate::sums::bit_of;
 use abel_tree::Extension;
-use bit_expr::{Control, Exprs, Function};
+use bit_expr::{Control, ExprId, Exprs, Function};
 use pld_base::{OutOfMemory, Place};
-use set_expr::{Contribution, Gives};
+use set_expr::Contribution;
+use set_expr::Gives::{Any, One};
 use std::alloc::Global;
 
 /// The controls of a signal that have equations, each with the place of its first target.
@@ -35,67 +36,84 @@ pub struct Totals {
     pub place: Option<Place>,
 }
 
-/// The function by contributions of one polarity, or by none.
-fn single_function(exprs: &mut Exprs, own: &[Contribution]) -> Result<Function, OutOfMemory>
-    requires { AllLieIn (length (arena exprs.old)) own.now }
+/// The function of a signal. Where it is assigned in both polarities this is said of the name, `p or not n` by what
+/// is given to the name and what to the complement; that no don't-care table or diagram matches then frees the
+/// complement and says nothing of the name.
+fn function_of(
+    exprs: &mut Exprs,
+    list: &[Contribution],
+    signal: u32,
+) -> Result<Function, OutOfMemory>
+    requires { AllLieIn (length (arena exprs.old)) list.now }
     ensures function { IfOk result (λ f.
-        IsSingleFunction (arena exprs.old) (arena exprs.new) own.now f) }
+        IsFunctionGiven (arena exprs.old) (arena exprs.new) list.now signal f) }
     ensures stands { OnOk result (Stands (arena exprs.old) (arena exprs.new)) }
 {
-    let one = part_sum(exprs, own, Part::Data(Gives::One))?;
-    let any = any_bit(exprs, own, Part::Data(Gives::Any))?;
-    Ok(Function {
-        one,
-        any,
-        complement: is_complement(own),
-    })
-}
-
-/// The function by contributions of both polarities, which is said of the name.
-fn both_function(exprs: &mut Exprs, own: &[Contribution]) -> Result<Function, OutOfMemory>
-    requires { AllLieIn (length (arena exprs.old)) own.now }
-    ensures function { IfOk result (λ f.
-        IsBothFunction (arena exprs.old) (arena exprs.new) own.now f) }
-    ensures stands { OnOk result (Stands (arena exprs.old) (arena exprs.new)) }
-{
-    let one = both_one(exprs, own)?;
-    let any = both_any(exprs, own)?;
-    Ok(Function {
-        one,
-        any,
-        complement: false,
-    })
-}
-
-/// The function by the contributions to one signal.
-fn function_of(exprs: &mut Exprs, own: &[Contribution]) -> Result<Function, OutOfMemory>
-    requires { AllLieIn (length (arena exprs.old)) own.now }
-    ensures function { IfOk result (λ f. IsFunctionOf (arena exprs.old) (arena exprs.new) own.now f) }
-    ensures stands { OnOk result (Stands (arena exprs.old) (arena exprs.new)) }
-{
-    if is_both(own) {
-        both_function(exprs, own)
+    if is_both(list, signal) {
+        let steps = [
+            Or(DataIn(false, One)),
+            Not,
+            Or(DataIn(true, One)),
+            Or(DataIn(true, Any)),
+            Unmatched,
+        ];
+        let one = bit_of(exprs, list, signal, &steps)?;
+        let steps = [Or(DataIn(false, Any)), Not, Or(DataIn(true, One))];
+        let any = bit_of(exprs, list, signal, &steps)?;
+        Ok(Function {
+            one,
+            any,
+            complement: false,
+        })
     } else {
-        single_function(exprs, own)
+        let one = bit_of(exprs, list, signal, &[Or(Data(One))])?;
+        let any = bit_of(exprs, list, signal, &[Or(Data(Any)), Unmatched])?;
+        Ok(Function {
+            one,
+            any,
+            complement: is_complement(list, signal),
+        })
     }
 }
 
-/// A control by the contributions to one signal.
-fn control_of(
+/// The sum of all equations for a control, or its complement.
+fn control_bit(
     exprs: &mut Exprs,
-    own: &[Contribution],
+    list: &[Contribution],
+    signal: u32,
     control: Extension,
-) -> Result<Option<Control>, OutOfMemory>
-    requires { AllLieIn (length (arena exprs.old)) own.now }
-    ensures control { IfOk result (λ r.
-        IsControlOf (arena exprs.old) (arena exprs.new) own.now control r) }
+    complement: bool,
+) -> Result<ExprId, OutOfMemory>
+    requires { AllLieIn (length (arena exprs.old)) list.now }
+    ensures bit { IfOk result (λ id. formula_at (arena exprs.new) id
+        ≡ bit_of (control_steps control complement) signal (contributions_in (arena exprs.old) list.now)) }
+    ensures inside { IfOk result (λ id. id.0 < length (arena exprs.new)) }
     ensures stands { OnOk result (Stands (arena exprs.old) (arena exprs.new)) }
 {
-    let part = Part::Control(control);
-    match first_for(own, part) {
+    let sum = Or(Part::Control(control));
+    if complement {
+        bit_of(exprs, list, signal, &[Not, sum])
+    } else {
+        bit_of(exprs, list, signal, &[sum])
+    }
+}
+
+/// A control of a signal: the sum of all equations for it, or its complement, as the first says.
+fn control_of(
+    exprs: &mut Exprs,
+    list: &[Contribution],
+    signal: u32,
+    control: Extension,
+) -> Result<Option<Control>, OutOfMemory>
+    requires { AllLieIn (length (arena exprs.old)) list.now }
+    ensures control { IfOk result (λ r.
+        IsControlGiven (arena exprs.old) (arena exprs.new) list.now signal control r) }
+    ensures stands { OnOk result (Stands (arena exprs.old) (arena exprs.new)) }
+{
+    match first_for(list, signal, control) {
         None => Ok(None),
         Some(first) => {
-            let bit = part_bit(exprs, own, part, first.complement)?;
+            let bit = control_bit(exprs, list, signal, control, first.complement)?;
             Ok(Some(Control {
                 bit,
                 place: first.place,
@@ -104,22 +122,20 @@ fn control_of(
     }
 }
 
-/// Reset and preset by the contributions to one signal.
-fn with_reset_and_preset(
+/// All controls of a signal.
+fn controls_of(
     exprs: &mut Exprs,
-    own: &[Contribution],
-    enable: Option<Control>,
+    list: &[Contribution],
+    signal: u32,
 ) -> Result<Controls, OutOfMemory>
-    requires { AllLieIn (length (arena exprs.old)) own.now }
-    ensures enable { IfOk result (λ r. r.enable ≡ enable) }
-    ensures reset { IfOk result (λ r.
-        IsControlOf (arena exprs.old) (arena exprs.new) own.now extension.Ar r.reset) }
-    ensures preset { IfOk result (λ r.
-        IsControlOf (arena exprs.old) (arena exprs.new) own.now extension.Sp r.preset) }
+    requires { AllLieIn (length (arena exprs.old)) list.now }
+    ensures controls { IfOk result (λ r.
+        AreControlsGiven (arena exprs.old) (arena exprs.new) list.now signal r) }
     ensures stands { OnOk result (Stands (arena exprs.old) (arena exprs.new)) }
 {
-    let reset = control_of(exprs, own, Extension::Ar)?;
-    let preset = control_of(exprs, own, Extension::Sp)?;
+    let enable = control_of(exprs, list, signal, Extension::Oe)?;
+    let reset = control_of(exprs, list, signal, Extension::Ar)?;
+    let preset = control_of(exprs, list, signal, Extension::Sp)?;
     Ok(Controls {
         enable,
         reset,
@@ -127,29 +143,19 @@ fn with_reset_and_preset(
     })
 }
 
-/// All controls by the contributions to one signal.
-fn controls_of(exprs: &mut Exprs, own: &[Contribution]) -> Result<Controls, OutOfMemory>
-    requires { AllLieIn (length (arena exprs.old)) own.now }
-    ensures controls { IfOk result (λ r. AreControlsOf (arena exprs.old) (arena exprs.new) own.now r) }
+/// All that is given to a signal.
+fn totals_of(exprs: &mut Exprs, list: &[Contribution], signal: u32) -> Result<Totals, OutOfMemory>
+    requires { AllLieIn (length (arena exprs.old)) list.now }
+    ensures given { IfOk result (λ r. AreGiven (arena exprs.old) (arena exprs.new) list.now signal r) }
     ensures stands { OnOk result (Stands (arena exprs.old) (arena exprs.new)) }
 {
-    let enable = control_of(exprs, own, Extension::Oe)?;
-    with_reset_and_preset(exprs, own, enable)
-}
-
-/// All that is given to a signal, by the contributions to it.
-fn totals_of(exprs: &mut Exprs, own: &[Contribution]) -> Result<Totals, OutOfMemory>
-    requires { AllLieIn (length (arena exprs.old)) own.now }
-    ensures totals { IfOk result (λ r. AreTotalsOf (arena exprs.old) (arena exprs.new) own.now r) }
-    ensures stands { OnOk result (Stands (arena exprs.old) (arena exprs.new)) }
-{
-    let function = function_of(exprs, own)?;
-    let controls = controls_of(exprs, own)?;
+    let function = function_of(exprs, list, signal)?;
+    let controls = controls_of(exprs, list, signal)?;
     Ok(Totals {
         function,
-        raw: has_raw(own),
+        raw: has_raw(list, signal),
         controls,
-        place: first_place(own),
+        place: first_place(list, signal),
     })
 }
 
@@ -166,5 +172,5 @@ pub fn sum_up(
     ensures stands { OnOk result (Stands (arena exprs.old) (arena exprs.new)) }
 {
     let own = given_to(alloc, list, signal)?;
-    totals_of(exprs, &own)
+    totals_of(exprs, &own, signal)
 }

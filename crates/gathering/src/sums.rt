@@ -1,9 +1,11 @@
-//! Sums of bits in the arena.
+//! Bits that are made of the contributions to a signal.
 
-ghost use Rattle.std.specs.Prelude.{◌≡◌, ◌<◌, true, length, IfOk, OnOk, if◌then◌else◌};
+ghost use Rattle.std.specs.Prelude.{◌≡◌, ◌<◌, length, IfOk, OnOk, if◌then◌else◌};
 ghost use Rattle.bit_expr.specs.Arena.{arena, formula_at};
 ghost use Rattle.bit_expr.specs.Folding.{make_or};
-ghost use Rattle.gathering.specs.Parts.{is_for, AllLieIn, Stands, and_one, part_sum, complement_of, any_sum};
+ghost use Rattle.set_expr.specs.Given.{view_contribution};
+ghost use Rattle.gathering.specs.Amounts.{contributions_in};
+ghost use Rattle.gathering.specs.Parts.{is_for, AllLieIn, Stands, part_sum, bit_of};
 
 use crate::given::is_free;
 use crate::parts::{Part, is_for};
@@ -16,18 +18,19 @@ fn with_one(
     exprs: &mut Exprs,
     sum: ExprId,
     part: Part,
+    signal: u32,
     given: &Contribution,
 ) -> Result<ExprId, OutOfMemory>
     requires sum { sum.0 < length (arena exprs.old) }
     requires bit { given.now.when.0 < length (arena exprs.old) }
     ensures sum { IfOk result (λ id. formula_at (arena exprs.new) id
-        ≡ (if is_for part given.now
-        then and_one (arena exprs.old) (formula_at (arena exprs.old) sum) given.now
+        ≡ (if is_for part signal (view_contribution (arena exprs.old) given.now)
+        then (make_or (formula_at (arena exprs.old) sum) (formula_at (arena exprs.old) given.now.when)).what
         else formula_at (arena exprs.old) sum)) }
     ensures inside { IfOk result (λ id. id.0 < length (arena exprs.new)) }
     ensures stands { OnOk result (Stands (arena exprs.old) (arena exprs.new)) }
 {
-    if is_for(part, given) {
+    if is_for(part, signal, given) {
         exprs.add_more(Node::Or(sum, given.when))
     } else {
         Ok(sum)
@@ -35,108 +38,70 @@ fn with_one(
 }
 
 /// The sum of the bits of all contributions that are for the part.
-pub(crate) fn part_sum(
+fn part_sum(
     exprs: &mut Exprs,
     list: &[Contribution],
+    signal: u32,
     part: Part,
 ) -> Result<ExprId, OutOfMemory>
     requires { AllLieIn (length (arena exprs.old)) list.now }
-    ensures sum { IfOk result (λ id.
-        formula_at (arena exprs.new) id ≡ part_sum (arena exprs.old) part list.now) }
+    ensures sum { IfOk result (λ id. formula_at (arena exprs.new) id
+        ≡ part_sum part signal (contributions_in (arena exprs.old) list.now)) }
     ensures inside { IfOk result (λ id. id.0 < length (arena exprs.new)) }
     ensures stands { OnOk result (Stands (arena exprs.old) (arena exprs.new)) }
 {
     let mut sum = ExprId(0);
     for given in list {
-        sum = with_one(exprs, sum, part, given)?;
+        sum = with_one(exprs, sum, part, signal, given)?;
     }
     Ok(sum)
 }
 
-/// The complement of a bit, if `complement` says so.
-pub(crate) fn complemented(
-    exprs: &mut Exprs,
-    bit: ExprId,
-    complement: bool,
-) -> Result<ExprId, OutOfMemory>
-    requires { bit.0 < length (arena exprs.old) }
-    ensures bit { IfOk result (λ id. formula_at (arena exprs.new) id
-        ≡ complement_of complement (formula_at (arena exprs.old) bit)) }
-    ensures inside { IfOk result (λ id. id.0 < length (arena exprs.new)) }
-    ensures stands { OnOk result (Stands (arena exprs.old) (arena exprs.new)) }
-{
-    if complement {
-        exprs.add_more(Node::Not(bit))
-    } else {
-        Ok(bit)
-    }
+/// How a bit is made, from the last step to the first; what comes behind the last one is 0.
+#[derive(Clone, Copy, PartialEq, Eq)]
+pub enum Step {
+    /// It holds where a contribution for the part does, and where what comes behind does.
+    Or(Part),
+    /// It holds where what comes behind doesn't.
+    Not,
+    /// Where don't-care tables and diagrams alone assign the signal, it holds where none of them matches; else it is
+    /// what comes behind.
+    Unmatched,
 }
 
-/// The complement of the sum of all that are for the part, if `complement` says so.
-pub(crate) fn part_bit(
+/// The bit that is made by the steps.
+pub(crate) fn bit_of(
     exprs: &mut Exprs,
     list: &[Contribution],
-    part: Part,
-    complement: bool,
+    signal: u32,
+    steps: &[Step],
 ) -> Result<ExprId, OutOfMemory>
     requires { AllLieIn (length (arena exprs.old)) list.now }
     ensures bit { IfOk result (λ id. formula_at (arena exprs.new) id
-        ≡ complement_of complement (part_sum (arena exprs.old) part list.now)) }
+        ≡ bit_of steps.now signal (contributions_in (arena exprs.old) list.now)) }
     ensures inside { IfOk result (λ id. id.0 < length (arena exprs.new)) }
     ensures stands { OnOk result (Stands (arena exprs.old) (arena exprs.new)) }
 {
-    let sum = part_sum(exprs, list, part)?;
-    complemented(exprs, sum, complement)
-}
-
-/// Either of two bits.
-pub(crate) fn either(exprs: &mut Exprs, a: ExprId, b: ExprId) -> Result<ExprId, OutOfMemory>
-    requires a { a.0 < length (arena exprs.old) }
-    requires b { b.0 < length (arena exprs.old) }
-    ensures bit { IfOk result (λ id. formula_at (arena exprs.new) id
-        ≡ (make_or (formula_at (arena exprs.old) a) (formula_at (arena exprs.old) b)).what) }
-    ensures inside { IfOk result (λ id. id.0 < length (arena exprs.new)) }
-    ensures stands { OnOk result (Stands (arena exprs.old) (arena exprs.new)) }
-{
-    exprs.add_more(Node::Or(a, b))
-}
-
-/// The bit, or where no contribution for the part holds.
-pub(crate) fn or_none(
-    exprs: &mut Exprs,
-    list: &[Contribution],
-    bit: ExprId,
-    part: Part,
-) -> Result<ExprId, OutOfMemory>
-    requires list { AllLieIn (length (arena exprs.old)) list.now }
-    requires bit { bit.0 < length (arena exprs.old) }
-    ensures bit { IfOk result (λ id. formula_at (arena exprs.new) id
-        ≡ (make_or (formula_at (arena exprs.old) bit)
-        (complement_of true (part_sum (arena exprs.old) part list.now))).what) }
-    ensures inside { IfOk result (λ id. id.0 < length (arena exprs.new)) }
-    ensures stands { OnOk result (Stands (arena exprs.old) (arena exprs.new)) }
-{
-    let none = part_bit(exprs, list, part, true)?;
-    either(exprs, bit, none)
-}
-
-/// Where anything may be: where what is for the part holds, and where don't-care tables and diagrams alone assign
-/// the signal and none matches.
-pub(crate) fn any_bit(
-    exprs: &mut Exprs,
-    list: &[Contribution],
-    part: Part,
-) -> Result<ExprId, OutOfMemory>
-    requires { AllLieIn (length (arena exprs.old)) list.now }
-    ensures bit { IfOk result (λ id.
-        formula_at (arena exprs.new) id ≡ any_sum (arena exprs.old) part list.now) }
-    ensures inside { IfOk result (λ id. id.0 < length (arena exprs.new)) }
-    ensures stands { OnOk result (Stands (arena exprs.old) (arena exprs.new)) }
-{
-    let any = part_sum(exprs, list, part)?;
-    if is_free(list) {
-        or_none(exprs, list, any, Part::Data(Gives::Match))
-    } else {
-        Ok(any)
+    match steps {
+        [] => Ok(ExprId(0)),
+        [first, rest @ ..] => match *first {
+            Step::Or(part) => {
+                let sum = part_sum(exprs, list, signal, part)?;
+                let behind = bit_of(exprs, list, signal, rest)?;
+                exprs.add_more(Node::Or(sum, behind))
+            }
+            Step::Not => {
+                let behind = bit_of(exprs, list, signal, rest)?;
+                exprs.add_more(Node::Not(behind))
+            }
+            Step::Unmatched => {
+                if is_free(list, signal) {
+                    let matches = part_sum(exprs, list, signal, Part::Data(Gives::Match))?;
+                    exprs.add_more(Node::Not(matches))
+                } else {
+                    bit_of(exprs, list, signal, rest)
+                }
+            }
+        },
     }
 }

@@ -19,9 +19,9 @@ returns-in_ok-push-6-clause-asks g c = λ first xs standing inside is asks.
     (record { nodes = c.args.asked.now.nodes; cells = c.push-in-Some-3.new.self; signals = c.push-in-Some-2.new.self; links = c.push-in-Some.new.self }) c.in-Some.cell
     c.cell_link.result c.in_ok-push-5.ensures.items c.in_ok-push-4.ensures.items c.cell_link.ensures refl
     (c.in_ok-push-6.ensures.items ∙ ap (λ w. c.args.asked.now.cells.items ++ w ∷ []) c.asked_cell.ensures)
-    (sym c.is_node.ensures ∙ c.if-is_node.false) (sym c.cell_of.ensures ∙ c.in-Some.is)
+    (sym c.is_node.ensures ∙ c.if-is_node.false) (sym c.cell_of.ensures.cell ∙ c.in-Some.is)
 
 pub returns-in_default-clause-asks : goal.returns-in_default-clause-asks
 returns-in_default-clause-asks g c = λ first xs standing inside is asks.
     asks_nothing g.D.Device.table first (arena c.args.exprs.now) c.args.list.now xs (view_declared c.args.named.now.declared.now) c.args.asked.now c.args.named.now.number asks is
-    (sym c.is_node.ensures ∙ c.if-is_node.false) (sym c.cell_of.ensures ∙ c.in_default.is)
+    (sym c.is_node.ensures ∙ c.if-is_node.false) (sym c.cell_of.ensures.cell ∙ c.in_default.is)

@@ -3,7 +3,7 @@ use Rattle.std.proofs.lemmas.List.{length-map, length-take-le}
 use Rattle.bit_expr.specs.Arena.{arena}
 use Rattle.abel_tree.specs.Entries.{view_declared}
 use Rattle.set_expr.proofs.FoundMembers.{front_more}
-use Rattle.gathering.proofs.GrowingSums.{stands_on}
+use Rattle.gathering.proofs.Standing.{stands_on}
 use Rattle.gathering.specs.Asking.{Asks}
 use Rattle.gathering.proofs.netlist.ask_all.Goals as goal
 

@@ -1,22 +1,24 @@
-use Rattle.std.proofs.Common.{false, ◌∙◌, sym, subst}
-use Rattle.std.specs.Prelude.{IfOk, if◌then◌else◌}
+use Rattle.std.proofs.Common.{false, subst, sym, ◌∙◌}
 use Rattle.bit_expr.specs.Arena.{arena}
-use Rattle.set_expr.specs.declared.contributions.Gives.TheVariants as gives
-use Rattle.gathering.specs.declared.parts.Part.TheVariants as part
-use Rattle.gathering.specs.Parts.{part_sum, any_sum, both_one, both_any, has_complement}
-use Rattle.gathering.specs.Totals.{IsFunctionBy}
+use Rattle.gathering.specs.Amounts.{contributions_in}
+use Rattle.gathering.proofs.GivenAmounts.{both_one, both_any, single_one, single_any, IsMade, both_made, single_made, both_seen, complement_seen, function_made}
 use Rattle.gathering.proofs.signal.function_of.Goals as goal
 
-pub returns-then-is_both-clause-function : goal.returns-then-is_both-clause-function
-returns-then-is_both-clause-function c =
+pub returns-in_ok-any-clause-function : goal.returns-in_ok-any-clause-function
+returns-in_ok-any-clause-function c =
     let old = arena c.args.exprs.now in
-    let own = c.args.own.now in
-    subst (λ b. IfOk c.both_function.result (λ f. IsFunctionBy (arena c.both_function.new.exprs) (if b then both_one old own else part_sum old (part.Data gives.One) own) (if b then both_any old own else any_sum old (part.Data gives.Any) own) (if b then false else has_complement own) f))
-    (sym (sym c.is_both.ensures ∙ c.if-is_both.true)) c.both_function.ensures.function
+    let list = c.args.list.now in
+    let s = c.args.signal in
+    function_made old (arena c.bit_of.new.exprs) (arena c.bit_of-then-is_both.new.exprs) list s both_one both_any false c.in_ok-one.one c.in_ok-any.any
+    c.in_ok-one.ensures.stands c.in_ok-any.ensures.stands c.requires c.in_ok-one.ensures.bit c.in_ok-one.ensures.inside c.in_ok-any.ensures.bit c.in_ok-any.ensures.inside
+    (both_made (contributions_in old list) s (sym (both_seen old s list) ∙ sym c.is_both.ensures ∙ c.if-is_both.true))
 
-pub returns-else-is_both-clause-function : goal.returns-else-is_both-clause-function
-returns-else-is_both-clause-function c =
+pub returns-in_ok-any-2-clause-function : goal.returns-in_ok-any-2-clause-function
+returns-in_ok-any-2-clause-function c =
     let old = arena c.args.exprs.now in
-    let own = c.args.own.now in
-    subst (λ b. IfOk c.single_function.result (λ f. IsFunctionBy (arena c.single_function.new.exprs) (if b then both_one old own else part_sum old (part.Data gives.One) own) (if b then both_any old own else any_sum old (part.Data gives.Any) own) (if b then false else has_complement own) f))
-    (sym (sym c.is_both.ensures ∙ c.if-is_both.false)) c.single_function.ensures.function
+    let list = c.args.list.now in
+    let s = c.args.signal in
+    function_made old (arena c.bit_of-else-is_both.new.exprs) (arena c.bit_of-else-is_both-2.new.exprs) list s single_one single_any c.is_complement.result c.in_ok-one-2.one c.in_ok-any-2.any
+    c.in_ok-one-2.ensures.stands c.in_ok-any-2.ensures.stands c.requires c.in_ok-one-2.ensures.bit c.in_ok-one-2.ensures.inside c.in_ok-any-2.ensures.bit c.in_ok-any-2.ensures.inside
+    (subst (IsMade (contributions_in old list) s single_one single_any) (sym (c.is_complement.ensures ∙ complement_seen old s list))
+    (single_made (contributions_in old list) s (sym (both_seen old s list) ∙ sym c.is_both.ensures ∙ c.if-is_both.false)))

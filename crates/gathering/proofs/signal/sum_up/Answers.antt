@@ -8,8 +8,7 @@ use Rattle.set_expr.specs.declared.contributions.Contribution.{Contribution}
 use Rattle.gathering.specs.declared.signal.Totals.{Totals}
 use Rattle.gathering.specs.Amounts.{AreGiven}
 use Rattle.gathering.specs.Parts.{is_to, AllLieIn}
-use Rattle.gathering.specs.Totals.{AreTotalsOf}
-use Rattle.gathering.proofs.GivenAmounts.{totals_given}
+use Rattle.gathering.proofs.GivenAmounts.{totals_own}
 use Rattle.gathering.proofs.signal.sum_up.Goals as goal
 
 pub totals_of-requires : goal.totals_of-requires
@@ -17,10 +16,10 @@ totals_of-requires c =
     subst (λ cs. AllLieIn (length (arena c.args.exprs.now)) cs) (sym (c.deref.ensures.value ∙ c.in_ok-own.ensures))
     (All-filter (is_to c.args.signal) (λ (x : Contribution). x.when.0 < length (arena c.args.exprs.now)) c.args.list.now c.requires)
 
-given_if : (old new : List Formula) (cs own : List Contribution) (s : ℕ) (r : Result Totals OutOfMemory) → own ≡ filter (is_to s) cs → IfOk r (λ x. AreTotalsOf old new own x) → IfOk r (λ x. AreGiven old new cs s x)
-given_if old new cs own s (Ok x) is are = totals_given old new cs s x (subst (λ o. AreTotalsOf old new o x) is are)
+given_if : (old new : List Formula) (cs own : List Contribution) (s : ℕ) (r : Result Totals OutOfMemory) → own ≡ filter (is_to s) cs → IfOk r (λ x. AreGiven old new own s x) → IfOk r (λ x. AreGiven old new cs s x)
+given_if old new cs own s (Ok x) is are = totals_own old s cs new x (subst (λ o. AreGiven old new o s x) is are)
 given_if old new cs own s (Err e) is are = tt
 
 pub returns-clause-given : goal.returns-clause-given
 returns-clause-given c =
-    given_if (arena c.args.exprs.now) (arena c.totals_of.new.exprs) c.args.list.now c.deref.result.now c.args.signal c.totals_of.result (c.deref.ensures.value ∙ c.in_ok-own.ensures) c.totals_of.ensures.totals
+    given_if (arena c.args.exprs.now) (arena c.totals_of.new.exprs) c.args.list.now c.deref.result.now c.args.signal c.totals_of.result (c.deref.ensures.value ∙ c.in_ok-own.ensures) c.totals_of.ensures.given

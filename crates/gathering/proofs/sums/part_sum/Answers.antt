@@ -2,8 +2,10 @@ use Rattle.std.proofs.Common.{◌<◌, take, length, ap, sym, ◌∙◌, arith}
 use Rattle.std.proofs.lemmas.List.{take_more}
 use Rattle.bit_expr.specs.Arena.{arena, formula_at}
 use Rattle.bit_expr.proofs.ArenaLists.{arena_count, first_formula}
+use Rattle.gathering.specs.Amounts.{contributions_in}
 use Rattle.gathering.specs.Parts.{part_sum}
-use Rattle.gathering.proofs.GrowingSums.{stands_same, stands_on, sum_on}
+use Rattle.gathering.proofs.GivenAmounts.{sum_on}
+use Rattle.gathering.proofs.Standing.{stands_same, stands_on}
 use Rattle.gathering.proofs.sums.part_sum.Goals as goal
 
 pub loop-given-init : goal.loop-given-init
@@ -15,12 +17,13 @@ loop-given-init c = record {
 
 pub loop-given-preserved : goal.loop-given-preserved
 loop-given-preserved c =
+    let old = arena c.args.exprs.now in
     let within : c.loop-given.given-index < length c.args.list.now = omega arith in
     record {
       sum =
           c.in_ok-sum.ensures.sum
-          ∙ sum_on (arena c.args.exprs.now) (arena c.loop-given.exprs) c.args.part (take c.loop-given.given-index c.args.list.now) _ (formula_at (arena c.loop-given.exprs) c.loop-given.sum) c.loop-given.invariant.stands (c.requires c.loop-given.given-index _ within) c.loop-given.invariant.sum
-          ∙ ap (λ cs. part_sum (arena c.args.exprs.now) c.args.part cs) (sym (take_more c.args.list.now c.loop-given.given-index _ within));
+          ∙ sum_on old (arena c.loop-given.exprs) c.args.part c.args.signal (take c.loop-given.given-index c.args.list.now) _ (formula_at (arena c.loop-given.exprs) c.loop-given.sum) c.loop-given.invariant.stands (c.requires c.loop-given.given-index _ within) c.loop-given.invariant.sum
+          ∙ ap (λ cs. part_sum c.args.part c.args.signal (contributions_in old cs)) (sym (take_more c.args.list.now c.loop-given.given-index _ within));
       inside = c.in_ok-sum.ensures.inside;
-      stands = stands_on (arena c.args.exprs.now) (arena c.loop-given.exprs) (arena c.with_one.new.exprs) c.loop-given.invariant.stands c.in_ok-sum.ensures.stands;
+      stands = stands_on old (arena c.loop-given.exprs) (arena c.with_one.new.exprs) c.loop-given.invariant.stands c.in_ok-sum.ensures.stands;
     }
