@@ -11,10 +11,11 @@ use Rattle.pld_device.specs.Macrocells.{complement_if}
 use Rattle.pld_device.specs.Table.{Table, cell_at}
 use Rattle.bit_expr.specs.Formulas.{formula_value}
 use Rattle.abel_tree.specs.Tree.{ModuleTree}
+use Rattle.abel_tree.specs.Entries.{is_stored, follows_q}
 use Rattle.abel_meaning.specs.AtPoints.{truth_at, given_at}
 use Rattle.abel_meaning.specs.Contributions.{Contribution}
 use Rattle.abel_meaning.specs.Controls.{signal_on, cell_stores, cell_stores_for}
-use Rattle.abel_meaning.specs.Designs.{Design, design_of, name_at, is_stored, follows_q}
+use Rattle.abel_meaning.specs.Designs.{Design, design_of, name_at}
 use Rattle.abel_meaning.specs.Follows.{seen}
 use Rattle.abel_meaning.specs.Functions.{function_of, is_raw_signal, value_with_any_0}
 use Rattle.abel_meaning.specs.Netlists.{Wanted, PlainNetlist, function_at, wanted_at}
