@@ -1,9 +1,17 @@
 -- Whether the directive is in force, with one construct more.
-use Rattle.std.proofs.Common.{◌≡◌, Bool, List, [], ◌∷◌, ◌++◌, refl}
+use Rattle.std.proofs.Common.{◌≡◌, ℕ, ◌+◌, ◌<◌, Bool, List, [], ◌∷◌, ◌++◌, length, get_or, map, take, refl, sym, ap, ◌∙◌}
+use Rattle.set_expr.proofs.FoundMembers.{front_more}
 use Rattle.pld_base.specs.declared.place.Place.{Place}
 use Rattle.abel_tree.specs.Tree.{Tree, Declaration, ADevice, SomePins, SomeNodes, SomeAttributes, SomeConstants, SomeOptions, DontCareFor, Statement, statements_of, Branch, choices_of, StateTree}
 use Rattle.abel_meaning.specs.Designs.{after_declarations}
 use Rattle.abel_meaning.specs.Directives.{after_statement, after_statements, after_branch, after_branches, after_choices, after_states}
+
+-- behind one construct more of a list, where what holds behind all goes on from what holds behind those before
+pub one_more : {X Y A : Type 0} (after : List Y → A) (step : A → Y → A) (see : X → Y) (list : List X) (i : ℕ) (x : X) {now next : A}
+    → ((ys : List Y) (y : Y) → after (ys ++ y ∷ []) ≡ step (after ys) y) → i < length list → x ≡ get_or list i x
+    → now ≡ after (map see (take i list)) → next ≡ step now (see x) → next ≡ after (map see (take (i + 1) list))
+one_more after step see list i x push lt is h n =
+    n ∙ ap (λ a. step a (see x)) h ∙ sym (push (map see (take i list)) (see x)) ∙ ap after (sym (front_more see list i x lt is))
 
 -- one declaration more
 pub declarations_push : (on : Bool) (ds : List Declaration) (d : Declaration) → after_declarations on (ds ++ d ∷ []) ≡ after_declarations (after_declarations on ds) (d ∷ [])

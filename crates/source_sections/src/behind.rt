@@ -18,9 +18,8 @@ pub(crate) fn after_section(on: bool, section: &Section) -> bool
         Section::Declarations(decls) => after_declarations(on, decls.as_slice()),
         Section::Equations(stmts) => after_statements(on, stmts.as_slice()),
         Section::DontCare(directive) => directive.on,
-        Section::Table(_) => on,
         Section::Diagram(diagram) => after_states(on, diagram.states.as_slice()),
-        Section::Vectors(_) => on,
+        Section::Table(_) | Section::Vectors(_) => on,
     }
 }
 
@@ -39,11 +38,10 @@ pub(crate) fn block_after(block: u32, section: &Section) -> Result<u32, OutOfMem
     ensures { IfOk result (λ b. b ≡ next_block block (view_section section.now)) }
 {
     match section {
-        Section::Declarations(_) => Ok(block),
-        Section::Equations(_) => Ok(block),
-        Section::Table(_) => next(block),
-        Section::Diagram(_) => next(block),
-        Section::Vectors(_) => Ok(block),
-        Section::DontCare(_) => Ok(block),
+        Section::Table(_) | Section::Diagram(_) => next(block),
+        Section::Declarations(_)
+        | Section::Equations(_)
+        | Section::Vectors(_)
+        | Section::DontCare(_) => Ok(block),
     }
 }

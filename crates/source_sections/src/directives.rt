@@ -14,26 +14,12 @@ fn after_declaration(on: bool, decl: &Decl) -> bool
 {
     match decl {
         Decl::DontCare(directive) => directive.on,
-        Decl::Device { name: _, text: _ } => on,
-        Decl::Pins {
-            names: _,
-            numbers: _,
-            attributes: _,
-        } => on,
-        Decl::Nodes {
-            names: _,
-            numbers: _,
-            attributes: _,
-        } => on,
-        Decl::Attributes {
-            names: _,
-            attributes: _,
-        } => on,
-        Decl::Constants {
-            names: _,
-            values: _,
-        } => on,
-        Decl::Options(_) => on,
+        Decl::Device { .. }
+        | Decl::Pins { .. }
+        | Decl::Nodes { .. }
+        | Decl::Attributes { .. }
+        | Decl::Constants { .. }
+        | Decl::Options(_) => on,
     }
 }
 

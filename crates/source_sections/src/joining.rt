@@ -10,11 +10,11 @@ ghost use Rattle.source_sections.specs.SectionAnswers.{AnswersModule};
 
 use crate::directives::after_declarations;
 use crate::walking::walk_sections;
-use abel_tree::Module;
+use abel_tree::{Module, earlier};
 use pld_base::ListOf;
 use pld_device::Device;
 use section_targets::{SectionScope, Walked};
-use set_expr::{Contributions, Scope, SectionFault, earlier};
+use set_expr::{Contributions, Scope, SectionFault};
 use std::alloc::Global;
 
 /// The first refusal, by place, of all constants. Takes no memory.
