@@ -1,4 +1,4 @@
-mod AllAnswers
+pub mod AllAnswers
 pub mod GivenLaws
 pub mod PinLaws
 pub mod PositionLaws

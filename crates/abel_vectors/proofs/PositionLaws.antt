@@ -1,81 +1,48 @@
 -- One position of a side more, and the first character of a pin in a side.
-use Rattle.std.proofs.Common.{◌≡◌, ℕ, zero, suc, ◌+◌, ◌==◌, ◌<◌, Bool, true, false, not, ◌&&◌, ◌||◌, if◌then◌else◌, Option, None, Some, List, [], ◌∷◌, ◌++◌, length, get_or, take, refl, sym, ap, ap₂, ◌∙◌, subst, append_assoc, append-nil, add-one, arith}
-use Rattle.std.specs.List.{slice_get}
-use Rattle.std.proofs.Math.Bool.{or-false, or_assoc}
+use Rattle.std.proofs.Common.{◌≡◌, ℕ, zero, suc, ◌+◌, ◌==◌, ◌<◌, ◌≤◌, min, Bool, true, false, not, ◌&&◌, ◌||◌, if◌then◌else◌, Option, None, Some, List, [], ◌∷◌, ◌++◌, length, map, get_or, drop, refl, sym, ap, ap₂, ◌∙◌, subst, arith}
+use Rattle.std.proofs.Math.Bool.{and_assoc}
+use Rattle.std.proofs.lemmas.List.{at_drop_more, drop_all}
 use Rattle.abel_tree.specs.Entries.{Kind, APin, ANode, AConstant, ADeviceName}
 use Rattle.abel_meaning.specs.Designs.{Context, name_at}
-use Rattle.abel_meaning.specs.Rows.{Mark, Level, Unknown, Pulsed, Released}
+use Rattle.abel_meaning.specs.Rows.{Mark}
 use Rattle.abel_meaning.specs.Vectors.{input_char, output_char, given_to, first_char, char_given}
+use Rattle.truth_tables.specs.declared.mark.Mark as code
+use Rattle.truth_tables.specs.EntryMarks.{view_mark}
 use Rattle.abel_vectors.specs.declared.given.Given.{Given}
-use Rattle.abel_vectors.specs.GivenChars.{position_gives, position_pulses, pairs_of, found_at, all_given, gives_no_vector, HasFirsts, Adds}
-use Rattle.abel_vectors.specs.VectorRefusals.{char_if, char_for, chars_for, tests_pulse}
+use Rattle.abel_vectors.specs.GivenChars.{found_at, all_given, gives_no_vector, HasFirsts, Adds}
+use Rattle.abel_vectors.specs.VectorRefusals.{char_if, char_for, chars_for, position_gives, position_pulses, tests_pulse}
 use Rattle.abel_vectors.proofs.GivenLaws.{found_append, adds_both}
 
 -- ---- one position more
 
-chars_nil : (d : Context) (char : Bool → Mark → Option ℕ) (s : Option ℕ) (ss : List (Option ℕ)) → chars_for d char (s ∷ ss) [] ≡ []
-chars_nil d char None ss = refl
-chars_nil d char (Some s) ss = refl
+-- where the shorter list ends
+pub at_end : {A B Z : Type 0} (f : List A → List B → Z) (z : Z) → ((xs : List A) → f xs [] ≡ z) → ((ys : List B) → f [] ys ≡ z) → (k : ℕ) (xs : List A) (ys : List B) → min (length xs) (length ys) ≤ k → f (drop k xs) (drop k ys) ≡ z
+at_end f z left right k [] ys h = ap (λ (xs : List _). f xs (drop k ys)) (drop_all k [] (omega arith)) ∙ right (drop k ys)
+at_end f z left right k (x ∷ xs) [] h = ap (f (drop k (x ∷ xs))) (drop_all k [] (omega arith)) ∙ left (drop k (x ∷ xs))
+at_end f z left right zero (x ∷ xs) (y ∷ ys) h = absurd (omega (arith, h))
+at_end f z left right (suc k) (x ∷ xs) (y ∷ ys) h = at_end f z left right k xs ys (omega (arith, h))
 
-gives_none : (d : Context) (char : Bool → Mark → Option ℕ) (s : Option ℕ) → position_gives d char s None ≡ []
-gives_none d char None = refl
-gives_none d char (Some s) = refl
+no_chars : (d : Context) (char : Bool → Mark → Option ℕ) (ss : List (Option ℕ)) → chars_for d char ss [] ≡ []
+no_chars d char [] = refl
+no_chars d char (s ∷ ss) = refl
 
-chars_cons : (d : Context) (char : Bool → Mark → Option ℕ) (s : Option ℕ) (ss : List (Option ℕ)) (m : Mark) (ms : List Mark) → chars_for d char (s ∷ ss) (m ∷ ms) ≡ position_gives d char s (Some m) ++ chars_for d char ss ms
-chars_cons d char None ss m ms = refl
-chars_cons d char (Some s) ss m ms = refl
+pub chars_left : (d : Context) (char : Bool → Mark → Option ℕ) (ss : List (Option ℕ)) (ms : List code.Mark) (k : ℕ) → min (length ss) (length ms) ≤ k → chars_for d char (drop k ss) (map view_mark (drop k ms)) ≡ []
+chars_left d char ss ms k h = at_end (λ xs ys. chars_for d char xs (map view_mark ys)) [] (no_chars d char) (λ ys. refl) k ss ms h
 
-chars_step : (d : Context) (char : Bool → Mark → Option ℕ) (ss : List (Option ℕ)) (ms : List Mark) (k : ℕ) (x : Option ℕ) → k < length ss → chars_for d char (take (suc k) ss) ms ≡ chars_for d char (take k ss) ms ++ position_gives d char (get_or ss k x) (slice_get ms k)
-chars_step d char [] ms k x h = absurd (omega arith)
-chars_step d char (s ∷ ss) [] zero x h = chars_nil d char s [] ∙ sym (gives_none d char s)
-chars_step d char (s ∷ ss) [] (suc k) x h =
-    chars_nil d char s (take (suc k) ss)
-    ∙ ap₂ (λ a b. a ++ b) (sym (chars_nil d char s (take k ss))) (sym (gives_none d char (get_or ss k x)))
-chars_step d char (s ∷ ss) (m ∷ ms) zero x h = chars_cons d char s [] m ms ∙ append-nil (position_gives d char s (Some m))
-chars_step d char (s ∷ ss) (m ∷ ms) (suc k) x h =
-    let p = position_gives d char s (Some m) in
-    chars_cons d char s (take (suc k) ss) m ms
-    ∙ ap (λ xs. p ++ xs) (chars_step d char ss ms k x (omega arith))
-    ∙ sym (append_assoc p (chars_for d char (take k ss) ms) (position_gives d char (get_or ss k x) (slice_get ms k)))
-    ∙ ap (λ xs. xs ++ position_gives d char (get_or ss k x) (slice_get ms k)) (sym (chars_cons d char s (take k ss) m ms))
+pub chars_at : (d : Context) (char : Bool → Mark → Option ℕ) (ss : List (Option ℕ)) (ms : List code.Mark) (k : ℕ) (x : Option ℕ) (y : code.Mark) → k < length ss → k < length ms
+    → chars_for d char (drop k ss) (map view_mark (drop k ms)) ≡ position_gives d char (get_or ss k x) (view_mark (get_or ms k y)) ++ chars_for d char (drop (k + 1) ss) (map view_mark (drop (k + 1) ms))
+chars_at d char ss ms k x y h i = ap₂ (λ xs ys. chars_for d char xs (map view_mark ys)) (at_drop_more (λ (xs : List (Option ℕ)). xs) ss k x h) (at_drop_more (λ (ys : List code.Mark). ys) ms k y i)
 
-pub chars_more : (d : Context) (char : Bool → Mark → Option ℕ) (ss : List (Option ℕ)) (ms : List Mark) (k : ℕ) (x : Option ℕ) → k < length ss → chars_for d char (take (k + 1) ss) ms ≡ chars_for d char (take k ss) ms ++ position_gives d char (get_or ss k x) (slice_get ms k)
-chars_more d char ss ms k x h = ap (λ n. chars_for d char (take n ss) ms) (add-one k) ∙ chars_step d char ss ms k x h
+no_pulse : (ss : List (Option ℕ)) → tests_pulse ss [] ≡ false
+no_pulse [] = refl
+no_pulse (s ∷ ss) = refl
 
-pulse_nil : (s : Option ℕ) (ss : List (Option ℕ)) → tests_pulse (s ∷ ss) [] ≡ false
-pulse_nil None ss = refl
-pulse_nil (Some s) ss = refl
+pub pulses_left : (ss : List (Option ℕ)) (ms : List code.Mark) (k : ℕ) → min (length ss) (length ms) ≤ k → tests_pulse (drop k ss) (map view_mark (drop k ms)) ≡ false
+pulses_left ss ms k h = at_end (λ xs ys. tests_pulse xs (map view_mark ys)) false no_pulse (λ ys. refl) k ss ms h
 
-pulses_none : (s : Option ℕ) → position_pulses s None ≡ false
-pulses_none None = refl
-pulses_none (Some s) = refl
-
-pulse_cons : (s : Option ℕ) (ss : List (Option ℕ)) (m : Mark) (ms : List Mark) → tests_pulse (s ∷ ss) (m ∷ ms) ≡ (position_pulses s (Some m) || tests_pulse ss ms)
-pulse_cons None ss (Level on) ms = refl
-pulse_cons None ss Unknown ms = refl
-pulse_cons None ss Pulsed ms = refl
-pulse_cons None ss Released ms = refl
-pulse_cons (Some s) ss (Level on) ms = refl
-pulse_cons (Some s) ss Unknown ms = refl
-pulse_cons (Some s) ss Pulsed ms = refl
-pulse_cons (Some s) ss Released ms = refl
-
-pulse_step : (ss : List (Option ℕ)) (ms : List Mark) (k : ℕ) (x : Option ℕ) → k < length ss → tests_pulse (take (suc k) ss) ms ≡ (tests_pulse (take k ss) ms || position_pulses (get_or ss k x) (slice_get ms k))
-pulse_step [] ms k x h = absurd (omega arith)
-pulse_step (s ∷ ss) [] zero x h = pulse_nil s [] ∙ sym (pulses_none s)
-pulse_step (s ∷ ss) [] (suc k) x h =
-    pulse_nil s (take (suc k) ss)
-    ∙ ap₂ (λ a b. a || b) (sym (pulse_nil s (take k ss))) (sym (pulses_none (get_or ss k x)))
-pulse_step (s ∷ ss) (m ∷ ms) zero x h = pulse_cons s [] m ms ∙ or-false (position_pulses s (Some m))
-pulse_step (s ∷ ss) (m ∷ ms) (suc k) x h =
-    let p = position_pulses s (Some m) in
-    pulse_cons s (take (suc k) ss) m ms
-    ∙ ap (λ b. p || b) (pulse_step ss ms k x (omega arith))
-    ∙ sym (or_assoc p (tests_pulse (take k ss) ms) (position_pulses (get_or ss k x) (slice_get ms k)))
-    ∙ ap (λ b. b || position_pulses (get_or ss k x) (slice_get ms k)) (sym (pulse_cons s (take k ss) m ms))
-
-pub pulse_more : (ss : List (Option ℕ)) (ms : List Mark) (k : ℕ) (x : Option ℕ) → k < length ss → tests_pulse (take (k + 1) ss) ms ≡ (tests_pulse (take k ss) ms || position_pulses (get_or ss k x) (slice_get ms k))
-pulse_more ss ms k x h = ap (λ n. tests_pulse (take n ss) ms) (add-one k) ∙ pulse_step ss ms k x h
+pub pulses_at : (ss : List (Option ℕ)) (ms : List code.Mark) (k : ℕ) (x : Option ℕ) (y : code.Mark) → k < length ss → k < length ms
+    → tests_pulse (drop k ss) (map view_mark (drop k ms)) ≡ (position_pulses (get_or ss k x) (view_mark (get_or ms k y)) || tests_pulse (drop (k + 1) ss) (map view_mark (drop (k + 1) ms)))
+pulses_at ss ms k x y h i = ap₂ (λ xs ys. tests_pulse xs (map view_mark ys)) (at_drop_more (λ (xs : List (Option ℕ)). xs) ss k x h) (at_drop_more (λ (ys : List code.Mark). ys) ms k y i)
 
 -- ---- the character of a pin
 
@@ -105,14 +72,11 @@ all_found d pin ss given ts tested =
     ap₂ first_char (given_found d pin input_char ss given) (given_found d pin output_char ts tested)
     ∙ sym (found_append (chars_for d input_char ss given) (chars_for d output_char ts tested) pin)
 
--- ---- what is added, position by position
+-- ---- what is added
 
-pub side_more : (d : Context) (char : Bool → Mark → Option ℕ) (ss : List (Option ℕ)) (ms : List Mark) (k : ℕ) (x : Option ℕ) (old mid new : List Given) (a b c : Bool) (g : Option Given) → k < length ss → pairs_of g ≡ position_gives d char (get_or ss k x) (slice_get ms k) → c ≡ (a && b) → Adds (chars_for d char (take k ss) ms) old mid a → Adds (pairs_of g) mid new b → Adds (chars_for d char (take (k + 1) ss) ms) old new c
-side_more d char ss ms k x old mid new a b c g lt same both so_far one =
-    let here = position_gives d char (get_or ss k x) (slice_get ms k) in
-    subst (λ t. Adds (chars_for d char (take (k + 1) ss) ms) old new t) (sym both)
-    (subst (λ ys. Adds ys old new (a && b)) (sym (chars_more d char ss ms k x lt))
-    (adds_both (chars_for d char (take k ss) ms) here old mid new a b so_far (subst (λ zs. Adds zs mid new b) same one)))
+-- a position before others
+pub side_more : (gs ys all : List (ℕ × ℕ)) (start old mid new : List Given) (a b c : Bool) → ((e : Bool) → Adds (gs ++ ys) old new e → Adds all start new (a && e)) → Adds gs old mid b → Adds ys mid new c → Adds all start new ((a && b) && c)
+side_more gs ys all start old mid new a b c so_far one rest = subst (Adds all start new) (sym (and_assoc a b c)) (so_far (b && c) (adds_both gs ys old mid new b c one rest))
 
 -- both sides of a row
 pub row_firsts : (d : Context) (ss : List (Option ℕ)) (given : List Mark) (ts : List (Option ℕ)) (tested : List Mark) (mid new : List Given) (a b : Bool) → Adds (chars_for d input_char ss given) [] mid a → Adds (chars_for d output_char ts tested) mid new b → HasFirsts (all_given d ss given ts tested) new

@@ -1,5 +1,5 @@
 -- A row by its entries and their marks.
-use Rattle.std.proofs.Common.{◌≡◌, ℕ, Bool, true, false, if◌then◌else◌, Option, Some, List, [], ◌∷◌, ◌++◌, map, refl, sym, ap, ap₂, ◌∙◌, subst}
+use Rattle.std.proofs.Common.{◌≡◌, ℕ, Bool, true, false, if◌then◌else◌, Option, Some, Result, Ok, Err, List, [], ◌∷◌, ◌++◌, map, refl, sym, ap, ap₂, ◌∙◌, subst}
 use Rattle.std.specs.List.{range_with_len}
 use Rattle.pld_base.specs.declared.point.Vector.{Vector}
 use Rattle.pld_device.specs.Table.{Table}
@@ -20,8 +20,6 @@ use Rattle.truth_tables.specs.declared.entries.Entry.TheVariants as entry
 use Rattle.truth_tables.specs.EntryMarks.{IsRead}
 use Rattle.truth_tables.specs.RowEntries.{entry_refused}
 use Rattle.abel_vectors.specs.declared.given.Given.{Given}
-use Rattle.abel_vectors.specs.declared.rows.Row.{Row}
-use Rattle.abel_vectors.specs.declared.rows.Row.TheVariants as row
 use Rattle.abel_vectors.specs.GivenChars.{HasFirsts, all_given, gives_no_vector, pair_of, found_at}
 use Rattle.abel_vectors.specs.ReadRows.{IsMarkedRow, IsReadRow, entry_fault, marked_char, row_fault}
 use Rattle.abel_vectors.specs.VectorRefusals.{entries_refused, if_none, is_no_vector, marks_refused, row_refused}
@@ -85,12 +83,12 @@ marks_by d h k r b e n =
     if_none_nil (entries_refused d h k r) (marks_refused d h k r) n
     ∙ ap (λ (t : Bool). if t then BadVector r.place ∷ [] else []) e
 
-pub marked_read : (d : Context) (h k : Term) (r : RowTree) (ss : List (Option ℕ)) (given : List Mark) (ts : List (Option ℕ)) (tested : List Mark) (found : Row) → ss ≡ targets_of h → ts ≡ targets_of k → given ≡ marks_of d h (term_of d.known r.inputs) → tested ≡ marks_of d k (term_of d.known r.outputs) → entries_refused d h k r ≡ [] → IsMarkedRow d r.place ss given ts tested found → IsReadRow d h k r found
-marked_read d h k r ss given ts tested (row.Refused f) a b m n e is =
+pub marked_read : (d : Context) (h k : Term) (r : RowTree) (ss : List (Option ℕ)) (given : List Mark) (ts : List (Option ℕ)) (tested : List Mark) (found : Result Vector SectionFault) → ss ≡ targets_of h → ts ≡ targets_of k → given ≡ marks_of d h (term_of d.known r.inputs) → tested ≡ marks_of d k (term_of d.known r.outputs) → entries_refused d h k r ≡ [] → IsMarkedRow d r.place ss given ts tested found → IsReadRow d h k r found
+marked_read d h k r ss given ts tested (Err f) a b m n e is =
     let same : Found d h k r ss given ts tested = record { inputs = a; outputs = b; given = m; tested = n } in
     ap (first_refusal section_order) (marks_by d h k r true (found_by d h k r ss given ts tested (gives_no_vector d) same ∙ is.0) e)
     ∙ ap Some (sym is.1)
-marked_read d h k r ss given ts tested (row.Read v) a b m n e is =
+marked_read d h k r ss given ts tested (Ok v) a b m n e is =
     let same : Found d h k r ss given ts tested = record { inputs = a; outputs = b; given = m; tested = n } in (
       marks_by d h k r false (found_by d h k r ss given ts tested (gives_no_vector d) same ∙ is.0) e,
       is.1 ∙ sym (found_by d h k r ss given ts tested (λ w x y z. map (marked_char d w x y z) (range_with_len 1 d.device.pins)) same),
@@ -99,6 +97,6 @@ marked_read d h k r ss given ts tested (row.Read v) a b m n e is =
 pub both_nil : (xs ys : List SectionFault) → xs ≡ [] → ys ≡ [] → xs ++ ys ≡ []
 both_nil xs ys e f = ap₂ (λ a b. a ++ b) e f
 
-pub row_first : (d : Context) (h k : Term) (r : RowTree) (found : Row) → IsReadRow d h k r found → first_refusal section_order (row_refused d h k r) ≡ row_fault found
-row_first d h k r (row.Refused f) is = is
-row_first d h k r (row.Read v) is = ap (first_refusal section_order) is.0
+pub row_first : (d : Context) (h k : Term) (r : RowTree) (found : Result Vector SectionFault) → IsReadRow d h k r found → first_refusal section_order (row_refused d h k r) ≡ row_fault found
+row_first d h k r (Err f) is = is
+row_first d h k r (Ok v) is = ap (first_refusal section_order) is.0

@@ -1,9 +1,11 @@
 -- One row more, and all.
-use Rattle.std.proofs.Common.{◌≡◌, ℕ, suc, ◌+◌, ◌<◌, ◌≤◌, nat_lt, Bool, true, false, if◌then◌else◌, Option, None, Some, List, [], ◌∷◌, ◌++◌, length, map, get_or, take, refl, sym, ap, ap₂, ◌∙◌, subst, append_assoc, append-nil, arith}
+use Rattle.std.proofs.Common.{◌≡◌, ℕ, suc, ◌+◌, ◌<◌, ◌≤◌, nat_lt, Bool, true, false, if◌then◌else◌, Option, None, Some, Result, Ok, Err, List, [], ◌∷◌, ◌++◌, length, map, get_or, take, refl, sym, ap, ap₂, ◌∙◌, subst, subst₂, append_assoc, append-nil, arith}
 use Rattle.std.proofs.Math.Nat.{add-zero}
 use Rattle.std.proofs.lemmas.Bool.Decides.{nat_tests}
 use Rattle.std.proofs.lemmas.List.{length-map, length-take-le, map-append, map_more}
 use Rattle.pld_base.specs.declared.place.Place.{Place}
+use Rattle.pld_base.specs.declared.point.Vector.{Vector}
+use Rattle.pld_device.specs.Table.{Table}
 use Rattle.jedec_file.specs.TestVectors.{chars_of, all_chars}
 use Rattle.abel_tree.specs.declared.tables.VectorRow.{VectorRow}
 use Rattle.abel_tree.specs.FirstRefusal.{first_refusal, earlier}
@@ -16,9 +18,8 @@ use Rattle.abel_meaning.specs.Vectors.{row_chars}
 use Rattle.set_expr.specs.declared.fault.SectionFault.{SectionFault}
 use Rattle.set_expr.specs.declared.fault.SectionFault.TheVariants.{BadVector}
 use Rattle.set_expr.specs.SectionOrder.{section_order}
-use Rattle.abel_vectors.specs.declared.rows.Row.{Row}
-use Rattle.abel_vectors.specs.declared.rows.Row.TheVariants as row
-use Rattle.abel_vectors.specs.declared.rows.Rows.{Rows}
+use Rattle.abel_vectors.specs.declared.finding.Found.{Found}
+use Rattle.abel_vectors.specs.FoundVectors.{IsFound}
 use Rattle.abel_vectors.specs.ReadRows.{AddsRow, AreRead, IsReadRow, room_fault, row_fault, row_vectors}
 use Rattle.abel_vectors.specs.VectorRefusals.{one_too_many, row_refused, rows_refused}
 use Rattle.abel_vectors.proofs.RowLaws.{row_first}
@@ -47,7 +48,7 @@ room_by : (b : Bool) (p : Place) → first_refusal section_order (if b then [] e
 room_by true p = refl
 room_by false p = refl
 
-here_first : (d : Context) (n : ℕ) (h k : Term) (r : RowTree) (found : Row) → IsReadRow d h k r found → first_refusal section_order (here d n h k r) ≡ earlier section_order (room_fault n r.place) (row_fault found)
+here_first : (d : Context) (n : ℕ) (h k : Term) (r : RowTree) (found : Result Vector SectionFault) → IsReadRow d h k r found → first_refusal section_order (here d n h k r) ≡ earlier section_order (room_fault n r.place) (row_fault found)
 here_first d n h k r found is =
     first_append section_order (one_too_many n r.place) (row_refused d h k r)
     ∙ ap₂ (earlier section_order) (room_by (nat_lt n 9999) r.place) (row_first d h k r found is)
@@ -67,32 +68,30 @@ both_none (Some f) b e = absurd (some_first f b e)
 
 -- ---- one row more
 
-vectors_by : (d : Context) (h k : Term) (r : RowTree) (found : Row) → IsReadRow d h k r found → row_fault found ≡ None → all_chars d.device (row_vectors found) ≡ row_chars d h k r ∷ []
-vectors_by d h k r (row.Refused f) is e = absurd cc
-vectors_by d h k r (row.Read v) is e = ap (λ cs. cs ∷ []) is.1
+vectors_by : (d : Context) (h k : Term) (r : RowTree) (found : Result Vector SectionFault) → IsReadRow d h k r found → row_fault found ≡ None → all_chars d.device (row_vectors found) ≡ row_chars d h k r ∷ []
+vectors_by d h k r (Err f) is e = absurd cc
+vectors_by d h k r (Ok v) is e = ap (λ cs. cs ∷ []) is.1
 
-pub rows_none : (d : Context) (n : ℕ) (h k : Term) (found : Rows) → found.fault ≡ None → found.list.items ≡ [] → AreRead d n h k [] found
-rows_none d n h k found e f = record { fault = e; list = λ _. ap (all_chars d.device) f }
-
-rows_more : (d : Context) (n : ℕ) (h k : Term) (rs : List RowTree) (r : RowTree) (found : Row) (old new : Rows) → IsReadRow d h k r found → AddsRow old new (room_fault (n + length rs) r.place) found → AreRead d n h k rs old → AreRead d n h k (rs ++ r ∷ []) new
-rows_more d n h k rs r found old new is adds so_far =
+-- what is found of some more
+pub found_more : (t : Table) (rs qs : List SectionFault) (cs ds : List (List ℕ)) (old new : Found) (f : Option SectionFault) (more : List Vector) → new.fault ≡ earlier section_order old.fault f → new.list.items ≡ old.list.items ++ more
+    → f ≡ first_refusal section_order qs → (f ≡ None → all_chars t more ≡ ds) → IsFound t rs cs old → IsFound t (rs ++ qs) (cs ++ ds) new
+found_more t rs qs cs ds old new f more e l g h so_far =
     record {
-      fault =
-          adds.fault
-          ∙ ap₂ (earlier section_order) so_far.fault (sym (here_first d (n + length rs) h k r found is))
-          ∙ sym (first_append section_order (rows_refused d n h k rs) (here d (n + length rs) h k r))
-          ∙ ap (first_refusal section_order) (sym (rows_push d n h k rs r));
-      list = λ e.
-          let parts = both_none old.fault (earlier section_order (room_fault (n + length rs) r.place) (row_fault found)) (sym adds.fault ∙ e) in
-          let last = both_none (room_fault (n + length rs) r.place) (row_fault found) parts.1 in
-          ap (all_chars d.device) adds.list
-          ∙ map-append (chars_of d.device) old.list.items (row_vectors found)
-          ∙ ap₂ (λ xs ys. xs ++ ys) (so_far.list parts.0) (vectors_by d h k r found is last.1)
-          ∙ sym (map-append (row_chars d h k) rs (r ∷ []));
+      fault = e ∙ ap₂ (earlier section_order) so_far.fault g ∙ sym (first_append section_order rs qs);
+      list = λ k.
+          let parts = both_none old.fault f (sym e ∙ k) in
+          ap (all_chars t) l ∙ map-append (chars_of t) old.list.items more ∙ ap₂ (λ xs ys. xs ++ ys) (so_far.list parts.0) (h parts.1);
     }
 
+rows_more : (d : Context) (n : ℕ) (h k : Term) (rs : List RowTree) (r : RowTree) (found : Result Vector SectionFault) (old new : Found) → IsReadRow d h k r found → AddsRow old new (room_fault (n + length rs) r.place) found → AreRead d n h k rs old → AreRead d n h k (rs ++ r ∷ []) new
+rows_more d n h k rs r found old new is adds so_far =
+    let room = room_fault (n + length rs) r.place in
+    subst₂ (λ xs cs. IsFound d.device xs cs new) (sym (rows_push d n h k rs r)) (sym (map-append (row_chars d h k) rs (r ∷ [])))
+    (found_more d.device (rows_refused d n h k rs) (here d (n + length rs) h k r) (map (row_chars d h k) rs) (row_chars d h k r ∷ []) old new (earlier section_order room (row_fault found)) (row_vectors found) adds.fault adds.list
+    (sym (here_first d (n + length rs) h k r found is)) (λ e. vectors_by d h k r found is (both_none room (row_fault found) e).1) so_far)
+
 -- at a place of the code's rows
-pub rows_step : (d : Context) (n : ℕ) (h k : Term) (rows : List VectorRow) (i : ℕ) (x : VectorRow) (found : Row) (old new : Rows) (room : Option SectionFault) → i < length rows → x ≡ get_or rows i x → IsReadRow d h k (view_vector_row x) found → room ≡ room_fault (n + i) x.place → AddsRow old new room found → AreRead d n h k (map view_vector_row (take i rows)) old → AreRead d n h k (map view_vector_row (take (i + 1) rows)) new
+pub rows_step : (d : Context) (n : ℕ) (h k : Term) (rows : List VectorRow) (i : ℕ) (x : VectorRow) (found : Result Vector SectionFault) (old new : Found) (room : Option SectionFault) → i < length rows → x ≡ get_or rows i x → IsReadRow d h k (view_vector_row x) found → room ≡ room_fault (n + i) x.place → AddsRow old new room found → AreRead d n h k (map view_vector_row (take i rows)) old → AreRead d n h k (map view_vector_row (take (i + 1) rows)) new
 rows_step d n h k rows i x found old new room lt here is same adds so_far =
     let rs = map view_vector_row (take i rows) in
     let long : length rs ≡ i = length-map (take i rows) view_vector_row ∙ length-take-le i rows (omega arith) in

@@ -19,31 +19,19 @@ use Rattle.abel_meaning.specs.Designs.{Context}
 use Rattle.abel_meaning.specs.Terms.{term_of}
 use Rattle.abel_meaning.specs.Vectors.{row_chars, section_vectors}
 use Rattle.set_expr.specs.declared.fault.SectionFault.{SectionFault}
-use Rattle.set_expr.specs.declared.fault.SectionFault.TheVariants as fault
 use Rattle.set_expr.specs.SectionOrder.{section_order}
 use Rattle.abel_vectors.specs.declared.headers.Side.{Side}
 use Rattle.abel_vectors.specs.declared.headers.Side.TheVariants as side
-use Rattle.abel_vectors.specs.declared.rows.Rows.{Rows}
+use Rattle.abel_vectors.specs.declared.finding.Found.{Found}
+use Rattle.source_sections.proofs.SectionsAnswered.{told_of}
+use Rattle.abel_vectors.specs.FoundVectors.{answer_of}
 use Rattle.abel_vectors.specs.HeaderSides.{IsSide, side_fault}
-use Rattle.abel_vectors.specs.ReadRows.{AreRead, answer_of, header_term, view_vectors}
+use Rattle.abel_vectors.specs.ReadRows.{AreRead, header_term, view_vectors}
 use Rattle.abel_vectors.specs.VectorAnswers.{Answers}
 use Rattle.abel_vectors.specs.VectorRefusals.{header_refused, if_none, rows_refused, side_refused, vectors_refused}
 use Rattle.abel_vectors.proofs.RowLaws.{if_none_first, if_none_nil}
 use Rattle.abel_vectors.proofs.RowsLaws.{rows_few}
 use Rattle.abel_vectors.proofs.TestChars.{AllTest, all_test, rows_test}
-
-pub refused_answer : (d : Context) (n : ℕ) (s : SectionTree) (f : SectionFault) → first_refusal section_order (vectors_refused d n s) ≡ Some f → Answers d n s (Err f)
-refused_answer d n s (fault.BadWidth p) e = e
-refused_answer d n s (fault.NotConstant p) e = e
-refused_answer d n s (fault.ZeroDivisor p) e = e
-refused_answer d n s (fault.MisplacedSpecial p) e = e
-refused_answer d n s (fault.MixedAssignment p name) e = e
-refused_answer d n s (fault.NotAnOutput p name) e = e
-refused_answer d n s (fault.BadRow p) e = e
-refused_answer d n s (fault.BadState p) e = e
-refused_answer d n s (fault.BadVector p) e = e
-refused_answer d n s (fault.NodeLimit p) e = e
-refused_answer d n s fault.OutOfMemory e = tt
 
 side_first : (d : Context) (p : Place) (t : Tree) (s : Side) → IsSide d p t s → first_refusal section_order (side_refused d p t) ≡ side_fault s
 side_first d p t (side.Refused f) is = is
@@ -52,14 +40,14 @@ side_first d p t (side.Pins ss) is = ap (first_refusal section_order) is.0
 -- a header that is refused
 pub header_answer : (d : Context) (n : ℕ) (v : Vectors) (a b : Side) (f : SectionFault) → IsSide d v.place (view v.inputs) a → IsSide d v.place (view v.outputs) b → earlier section_order (side_fault a) (side_fault b) ≡ Some f → Answers d n (view_vectors v) (Err f)
 header_answer d n v a b f p q e =
-    refused_answer d n (view_vectors v) f
+    told_of (vectors_refused d n (view_vectors v)) f
     (if_none_first (header_refused d v.place (view v.inputs) (view v.outputs)) (rows_refused d n (header_term d v.inputs) (header_term d v.outputs) (map view_vector_row v.rows)) f
     (first_append section_order (side_refused d v.place (view v.inputs)) (side_refused d v.place (view v.outputs))
     ∙ ap₂ (earlier section_order) (side_first d v.place (view v.inputs) a p) (side_first d v.place (view v.outputs) b q)
     ∙ e))
 
 -- rows under one that isn't
-pub rows_answer : (d : Context) (n : ℕ) (v : Vectors) (found : Rows) → side_refused d v.place (view v.inputs) ≡ [] → side_refused d v.place (view v.outputs) ≡ [] → AreRead d n (header_term d v.inputs) (header_term d v.outputs) (map view_vector_row v.rows) found → Answers d n (view_vectors v) (answer_of found.fault found.list)
+pub rows_answer : (d : Context) (n : ℕ) (v : Vectors) (found : Found) → side_refused d v.place (view v.inputs) ≡ [] → side_refused d v.place (view v.outputs) ≡ [] → AreRead d n (header_term d v.inputs) (header_term d v.outputs) (map view_vector_row v.rows) found → Answers d n (view_vectors v) (answer_of found.fault found.list)
 rows_answer d n v found a b is = by_fault found.fault refl
   where
     same : vectors_refused d n (view_vectors v) ≡ rows_refused d n (header_term d v.inputs) (header_term d v.outputs) (map view_vector_row v.rows)
@@ -67,7 +55,7 @@ rows_answer d n v found a b is = by_fault found.fault refl
 
     by_fault : (o : Option SectionFault) → found.fault ≡ o → Answers d n (view_vectors v) (answer_of o found.list)
     by_fault None e = (same ∙ none_refused section_order (rows_refused d n (header_term d v.inputs) (header_term d v.outputs) (map view_vector_row v.rows)) (sym e ∙ is.fault), is.list e)
-    by_fault (Some f) e = refused_answer d n (view_vectors v) f (ap (first_refusal section_order) same ∙ sym is.fault ∙ e)
+    by_fault (Some f) e = told_of (vectors_refused d n (view_vectors v)) f (ap (first_refusal section_order) same ∙ sym is.fault ∙ e)
 
 -- ---- how many there are, and which characters
 

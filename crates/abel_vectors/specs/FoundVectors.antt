@@ -2,6 +2,7 @@
 use Rattle.std.specs.Prelude.{◌≡◌, ◌≢◌, ℕ, nat_lt, if◌then◌else◌, Option, None, Some, List, [], ◌++◌, Result, Ok, Err}
 use Rattle.std.specs.Global.{Vec}
 use Rattle.pld_base.specs.declared.point.Vector.{Vector}
+use Rattle.pld_device.specs.Table.{Table}
 use Rattle.jedec_file.specs.TestVectors.{all_chars}
 use Rattle.abel_tree.specs.FirstRefusal.{first_refusal, earlier}
 use Rattle.abel_tree.specs.Tree.{SectionTree}
@@ -16,6 +17,16 @@ use Rattle.abel_vectors.specs.SourceVectors.{refused_behind}
 -- so many vectors, up to the most of a source
 abbrev pub capped : ℕ → ℕ
 capped n = if nat_lt n 9999 then n else 9999
+
+-- the vectors, or their first refusal
+abbrev pub answer_of : Option SectionFault → Vec Vector → Result (Vec Vector) SectionFault
+answer_of (Some f) list = Err f
+answer_of None list = Ok list
+
+-- the first of these refusals, and where there is none vectors of these characters
+pub record IsFound (t : Table) (rs : List SectionFault) (chars : List (List ℕ)) (found : Found) : Type 0 where
+  pub fault : found.fault ≡ first_refusal section_order rs
+  pub list : found.fault ≡ None → all_chars t found.list.items ≡ chars
 
 -- ---- a section
 
@@ -36,6 +47,5 @@ pub record Adds (old new : Found) (r : Result (Vec Vector) SectionFault) : Type 
 -- ---- sections
 
 -- the first refusal of sections, and their vectors where there is none
-pub record AreFound (d : Context) (ss : List SectionTree) (found : Found) : Type 0 where
-  pub fault : found.fault ≡ first_refusal section_order (refused_behind d 0 ss)
-  pub list : found.fault ≡ None → all_chars d.device found.list.items ≡ sections_vectors d ss
+abbrev pub AreFound : Context → List SectionTree → Found → Type 0
+AreFound d ss found = IsFound d.device (refused_behind d 0 ss) (sections_vectors d ss) found

@@ -1,13 +1,13 @@
 -- Private: the characters that the positions of a row give to pins, and the first of each pin as they are gathered.
 use Rattle.std.specs.Prelude.{◌≡◌, ℕ, ◌==◌, Bool, true, false, not, ◌||◌, if◌then◌else◌, Option, None, Some, List, [], ◌∷◌, ◌++◌, map}
 use Rattle.std.specs.Global.{Vec}
-use Rattle.abel_meaning.specs.Designs.{Context, name_at}
-use Rattle.abel_meaning.specs.Rows.{Mark, Pulsed}
+use Rattle.abel_meaning.specs.Designs.{Context}
+use Rattle.abel_meaning.specs.Rows.{Mark}
 use Rattle.abel_meaning.specs.Vectors.{input_char, output_char}
 use Rattle.abel_vectors.specs.declared.chars.Role.{Role}
 use Rattle.abel_vectors.specs.declared.chars.Role.TheVariants as role
 use Rattle.abel_vectors.specs.declared.given.Given.{Given}
-use Rattle.abel_vectors.specs.VectorRefusals.{char_for, chars_for, disagree, tests_pulse}
+use Rattle.abel_vectors.specs.VectorRefusals.{chars_for, disagree, tests_pulse}
 
 -- the character of an input or of an output
 abbrev pub char_in : Role → (negated : Bool) → Mark → Option ℕ
@@ -20,18 +20,6 @@ pair_of g = (g.pin, g.char)
 abbrev pub pairs_of : Option Given → List (ℕ × ℕ)
 pairs_of None = []
 pairs_of (Some g) = pair_of g ∷ []
-
--- what a mark gives at a position, if both are there
-abbrev pub position_gives : Context → (Bool → Mark → Option ℕ) → Option ℕ → Option Mark → List (ℕ × ℕ)
-position_gives d char None mark = []
-position_gives d char (Some s) None = []
-position_gives d char (Some s) (Some m) = char_for (name_at d s).kind char m
-
--- `.C.` at a position that is a pin, if both are there
-abbrev pub position_pulses : Option ℕ → Option Mark → Bool
-position_pulses None mark = false
-position_pulses (Some s) (Some Pulsed) = true
-position_pulses (Some s) mark = false
 
 -- the first character of a pin
 abbrev pub found_at : List (ℕ × ℕ) → (pin : ℕ) → Option ℕ

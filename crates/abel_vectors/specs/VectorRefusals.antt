@@ -51,16 +51,19 @@ abbrev pub char_if : (pin : ℕ) → Option ℕ → List (ℕ × ℕ)
 char_if pin None = []
 char_if pin (Some c) = (pin, c) ∷ []
 
--- the characters that the positions of a side give to pins
+-- the characters that a position gives to pins, and those of a side
 abbrev pub char_for : Kind → (Bool → Mark → Option ℕ) → Mark → List (ℕ × ℕ)
 char_for (APin pin negated) char mark = char_if pin (char negated mark)
 char_for _ char mark = []
 
+abbrev pub position_gives : Context → (Bool → Mark → Option ℕ) → Option ℕ → Mark → List (ℕ × ℕ)
+position_gives d char None mark = []
+position_gives d char (Some s) mark = char_for (name_at d s).kind char mark
+
 abbrev pub chars_for : Context → (Bool → Mark → Option ℕ) → List (Option ℕ) → List Mark → List (ℕ × ℕ)
 chars_for d char [] marks = []
 chars_for d char (s ∷ ss) [] = []
-chars_for d char (None ∷ ss) (m ∷ marks) = chars_for d char ss marks
-chars_for d char (Some s ∷ ss) (m ∷ marks) = char_for (name_at d s).kind char m ++ chars_for d char ss marks
+chars_for d char (s ∷ ss) (m ∷ marks) = position_gives d char s m ++ chars_for d char ss marks
 
 -- some pin has another character than this one
 abbrev pub gives_another : ℕ × ℕ → ℕ × ℕ → Bool
@@ -72,11 +75,15 @@ disagree [] = false
 disagree (x ∷ xs) = list_any (gives_another x) xs || disagree xs
 
 -- `.C.` at a pin that is tested
+abbrev pub position_pulses : Option ℕ → Mark → Bool
+position_pulses None mark = false
+position_pulses (Some s) Pulsed = true
+position_pulses (Some s) mark = false
+
 abbrev pub tests_pulse : List (Option ℕ) → List Mark → Bool
 tests_pulse [] marks = false
 tests_pulse (s ∷ ss) [] = false
-tests_pulse (Some s ∷ ss) (Pulsed ∷ marks) = true
-tests_pulse (s ∷ ss) (m ∷ marks) = tests_pulse ss marks
+tests_pulse (s ∷ ss) (m ∷ marks) = position_pulses s m || tests_pulse ss marks
 
 -- the marks of a row are no vector's
 abbrev pub is_no_vector : Context → (inputs outputs : Term) → (given tested : List Mark) → Bool

@@ -29,36 +29,22 @@ fn pin_level(negated: bool, on: bool) -> bool
     if negated { !on } else { on }
 }
 
-/// The character of a driven pin.
-fn driven_char(negated: bool, mark: Mark) -> Option<u8>
-    ensures { result ≡ meant.input_char negated (view_mark mark) }
-{
-    match mark {
-        Mark::Level(on) => Some(char_by(pin_level(negated, on), b'0', b'1')),
-        Mark::Pulsed => Some(char_by(negated, b'C', b'K')),
-        Mark::Unknown => None,
-        Mark::Released => None,
-    }
-}
-
-/// The character of a tested pin.
-fn tested_char(negated: bool, mark: Mark) -> Option<u8>
-    ensures { result ≡ meant.output_char negated (view_mark mark) }
-{
-    match mark {
-        Mark::Level(on) => Some(char_by(pin_level(negated, on), b'L', b'H')),
-        Mark::Released => Some(b'Z'),
-        Mark::Unknown => None,
-        Mark::Pulsed => None,
-    }
-}
-
 /// The character that a mark gives to a pin whose name is its complement or not; None where it gives none.
 pub(crate) fn role_char(role: Role, negated: bool, mark: Mark) -> Option<u8>
     ensures { result ≡ char_in role negated (view_mark mark) }
 {
     match role {
-        Role::Driven => driven_char(negated, mark),
-        Role::Tested => tested_char(negated, mark),
+        Role::Driven => match mark {
+            Mark::Level(on) => Some(char_by(pin_level(negated, on), b'0', b'1')),
+            Mark::Pulsed => Some(char_by(negated, b'C', b'K')),
+            Mark::Unknown => None,
+            Mark::Released => None,
+        },
+        Role::Tested => match mark {
+            Mark::Level(on) => Some(char_by(pin_level(negated, on), b'L', b'H')),
+            Mark::Released => Some(b'Z'),
+            Mark::Unknown => None,
+            Mark::Pulsed => None,
+        },
     }
 }

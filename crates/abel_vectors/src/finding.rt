@@ -2,16 +2,27 @@
 
 ghost use Rattle.std.specs.Prelude.{◌≡◌, ◌≢◌, IfOk, OnOk};
 ghost use Rattle.set_expr.specs.declared.fault.SectionFault.TheVariants as faults;
-ghost use Rattle.abel_vectors.specs.FoundVectors.{Adds};
+ghost use Rattle.abel_vectors.specs.FoundVectors.{Adds, answer_of};
 
+use abel_tree::earlier;
 use pld_base::{OutOfMemory, Vector};
-use set_expr::{SectionFault, earlier};
+use set_expr::SectionFault;
 
-/// The first refusal of vectors, and the vectors where there is none.
+/// The first refusal of rows or of sections, and their vectors where there is none.
 #[derive(Drop)]
 pub(crate) struct Found {
     pub fault: Option<SectionFault>,
     pub list: Vec<Vector>,
+}
+
+/// The vectors, or their first refusal.
+pub(crate) fn answer(found: Found) -> Result<Vec<Vector>, SectionFault>
+    ensures { result ≡ answer_of found.fault found.list }
+{
+    match found.fault {
+        Some(fault) => Err(fault),
+        None => Ok(found.list),
+    }
 }
 
 /// A refusal; want of memory is none.

@@ -1,15 +1,14 @@
 //! The characters that the entries of a row give to pins.
 
-ghost use Rattle.std.specs.Prelude.{◌≡◌, ◌∷◌, Option, IfOk, [], map, option_map};
+ghost use Rattle.std.specs.Prelude.{◌≡◌, ◌∷◌, Option, IfOk, [], map};
 ghost use Rattle.abel_tree.specs.Entries.{entries_of, view_meaning};
 ghost use Rattle.abel_meaning.specs.Designs.{Context, name_at};
 ghost use Rattle.truth_tables.specs.EntryMarks.{view_mark};
-ghost use Rattle.abel_vectors.specs.GivenChars.{Adds, IsGiven, char_in, found_at, pair_of, pairs_of, position_gives};
-ghost use Rattle.abel_vectors.specs.VectorRefusals.{char_for, char_if, chars_for};
+ghost use Rattle.abel_vectors.specs.GivenChars.{Adds, IsGiven, char_in, found_at, pair_of, pairs_of};
+ghost use Rattle.abel_vectors.specs.VectorRefusals.{char_for, chars_for, position_gives};
 
 use crate::chars::{Role, role_char};
-use crate::headers::both;
-use crate::pulses::{either, mark_at, tests_pulse};
+use crate::pulses::tests_pulse;
 use abel_tree::Meaning;
 use pld_base::OutOfMemory;
 use set_expr::Scope;
@@ -37,22 +36,15 @@ pub(crate) struct RowMarks<'a> {
     pub outputs: &'a [Mark],
 }
 
-/// A character for a pin, where there is one.
-fn given_if(pin: u8, char: Option<u8>) -> Option<Given>
-    ensures { pairs_of result ≡ char_if pin char }
-{
-    match char {
-        Some(char) => Some(Given { pin, char }),
-        None => None,
-    }
-}
-
 /// What a mark gives at a position of a name that means this.
 fn given_by(meaning: &Meaning, role: Role, mark: Mark) -> Option<Given>
     ensures { pairs_of result ≡ char_for (view_meaning meaning.now) (char_in role) (view_mark mark) }
 {
     match meaning {
-        Meaning::Pin { pin, negated } => given_if(*pin, role_char(role, *negated, mark)),
+        Meaning::Pin { pin, negated } => match role_char(role, *negated, mark) {
+            Some(char) => Some(Given { pin: *pin, char }),
+            None => None,
+        },
         Meaning::Node(_) => None,
         Meaning::Constant(_) => None,
         Meaning::DeviceName => None,
@@ -71,16 +63,13 @@ fn given_under(scope: &Scope<'_>, role: Role, number: usize, mark: Mark) -> Opti
     }
 }
 
-/// What a mark gives at a position, if both are there.
-fn given_at(scope: &Scope<'_>, role: Role, signal: Option<u32>, mark: Option<Mark>) -> Option<Given>
-    ensures { (d : Context) → d.names ≡ entries_of scope.now → pairs_of result ≡ position_gives d (char_in role) signal (option_map view_mark mark) }
+/// What a mark gives at a position.
+fn given_at(scope: &Scope<'_>, role: Role, signal: Option<u32>, mark: Mark) -> Option<Given>
+    ensures { (d : Context) → d.names ≡ entries_of scope.now → pairs_of result ≡ position_gives d (char_in role) signal (view_mark mark) }
 {
     match signal {
         None => None,
-        Some(number) => match mark {
-            None => None,
-            Some(mark) => given_under(scope, role, number as usize, mark),
-        },
+        Some(number) => given_under(scope, role, number as usize, mark),
     }
 }
 
@@ -130,10 +119,11 @@ fn put_side(
     ensures { IfOk result (λ agree. (d : Context) → d.names ≡ entries_of scope.now → Adds (chars_for d (char_in role) signals.now (map view_mark marks.now)) list.old.items list.new.items agree) }
 {
     let mut agree = true;
-    for index in 0..signals.len() {
-        let given = given_at(scope, role, signals[index], mark_at(marks, index));
+    let count = signals.len().min(marks.len());
+    for index in 0..count {
+        let given = given_at(scope, role, signals[index], marks[index]);
         let same = put_if(list, given)?;
-        agree = both(agree, same);
+        agree = agree & same;
     }
     Ok(agree)
 }
@@ -157,9 +147,6 @@ pub(crate) fn row_chars(
         &mut list,
     )?;
     let agree = put_side(scope, Role::Tested, outputs, marks.outputs, &mut list)?;
-    if either(tests_pulse(outputs, marks.outputs), !both(driven, agree)) {
-        Ok(None)
-    } else {
-        Ok(Some(list))
-    }
+    let refused = tests_pulse(outputs, marks.outputs) | !(driven & agree);
+    if refused { Ok(None) } else { Ok(Some(list)) }
 }

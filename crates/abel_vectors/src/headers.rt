@@ -1,6 +1,6 @@
 //! The sides of headers of vectors.
 
-ghost use Rattle.std.specs.Prelude.{◌≡◌, ◌&&◌, [], IfOk};
+ghost use Rattle.std.specs.Prelude.{◌≡◌, [], IfOk};
 ghost use Rattle.std.specs.List.{list_all};
 ghost use Rattle.abel_tree.specs.Entries.{entries_of, view_meaning};
 ghost use Rattle.abel_tree.specs.View.{view};
@@ -57,20 +57,13 @@ fn may_stand(scope: &Scope<'_>, signal: Option<u32>) -> bool
     }
 }
 
-/// Whether two facts hold.
-pub(crate) fn both(first: bool, second: bool) -> bool
-    ensures { result ≡ (first && second) }
-{
-    first && second
-}
-
 /// Whether all positions are.
 fn all_may_stand(scope: &Scope<'_>, signals: &[Option<u32>]) -> bool
     ensures { (d : Context) → d.names ≡ entries_of scope.now → result ≡ list_all (is_pin_or_unknown d) signals.now }
 {
     let mut all = true;
     for index in 0..signals.len() {
-        all = both(all, may_stand(scope, signals[index]));
+        all = all & may_stand(scope, signals[index]);
     }
     all
 }

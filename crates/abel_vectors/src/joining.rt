@@ -1,23 +1,22 @@
 //! All that the sections of a source say.
 
-ghost use Rattle.std.specs.Prelude.{◌≡◌, ◌≤◌, ◌++◌, All, IfOk, List, Some, length};
+ghost use Rattle.std.specs.Prelude.{◌≤◌, ◌++◌, All, IfOk, List, length};
 ghost use Rattle.jedec_file.specs.TestVectors.{IsTestVector};
 ghost use Rattle.abel_tree.specs.Entries.{entries_of};
-ghost use Rattle.abel_tree.specs.FirstRefusal as first;
 ghost use Rattle.abel_tree.specs.View.{view_module};
 ghost use Rattle.abel_meaning.specs.Designs.{Design, design_for};
 ghost use Rattle.set_expr.specs.declared.fault.SectionFault.{SectionFault};
-ghost use Rattle.set_expr.specs.SectionOrder.{section_order};
 ghost use Rattle.source_sections.specs.SectionAnswers.{IsTold, sections_refused};
 ghost use Rattle.abel_vectors.specs.AllSections.{AnswersAll, all_sections_refused};
 ghost use Rattle.abel_vectors.specs.SourceVectors.{AnswersVectors};
 
+use crate::rows::first_of;
 use crate::sections::all_vectors;
 use abel_tree::Module;
 use pld_base::Vector;
 use pld_device::Device;
 use section_targets::SectionScope;
-use set_expr::{Contributions, SectionFault, earlier};
+use set_expr::{Contributions, SectionFault};
 use source_sections::contributions;
 use std::alloc::Global;
 
@@ -28,25 +27,15 @@ pub struct SourceSections {
     pub vectors: Vec<Vector>,
 }
 
-/// The first of two refusals.
-fn sooner(section: SectionFault, vector: SectionFault) -> SectionFault
-    ensures { first.earlier section_order (Some section) (Some vector) ≡ Some result }
-{
-    match earlier(Some(section), Some(vector)) {
-        Some(fault) => fault,
-        None => section,
-    }
-}
-
 /// The first of a refusal of the sections and of one of the vectors; want of memory comes before both.
-fn first_of(section: SectionFault, vector: SectionFault) -> SectionFault
+fn told_of_both(section: SectionFault, vector: SectionFault) -> SectionFault
     ensures { (rs ss : List SectionFault) → IsTold rs section → IsTold ss vector → IsTold (rs ++ ss) result }
 {
     match section {
         SectionFault::OutOfMemory => section,
         _ => match vector {
             SectionFault::OutOfMemory => vector,
-            _ => sooner(section, vector),
+            _ => first_of(section, Some(vector)),
         },
     }
 }
@@ -57,7 +46,7 @@ fn first_with(section: SectionFault, tested: &Result<Vec<Vector>, SectionFault>)
 {
     match tested {
         Ok(_) => section,
-        Err(vector) => first_of(section, *vector),
+        Err(vector) => told_of_both(section, *vector),
     }
 }
 

@@ -16,4 +16,3 @@ mod sections;
 pub use headers::{Side, read_side};
 pub use joining::{SourceSections, all_sections};
 pub use reading::vectors;
-pub use sections::all_vectors;

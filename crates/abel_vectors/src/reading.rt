@@ -5,24 +5,18 @@ ghost use Rattle.jedec_file.specs.TestVectors.{IsTestVector};
 ghost use Rattle.abel_tree.specs.View.{view_section};
 ghost use Rattle.set_expr.specs.Contexts.{context_for};
 ghost use Rattle.abel_vectors.specs.HeaderSides.{side_fault};
-ghost use Rattle.abel_vectors.specs.ReadRows.{AreSides, answer_of, view_vectors};
+ghost use Rattle.abel_vectors.specs.ReadRows.{view_vectors};
 ghost use Rattle.abel_vectors.specs.VectorAnswers.{Answers};
 
+use crate::finding::answer;
 use crate::given::Positions;
 use crate::headers::{Side, read_side};
-use crate::rows::{Rows, first_of, read_rows};
+use crate::rows::{first_of, read_rows};
 use abel_tree::{Section, Vectors};
 use pld_base::Vector;
 use pld_device::Device;
 use set_expr::{Scope, SectionFault};
 use std::alloc::Global;
-
-/// Both sides of a header.
-#[derive(Drop)]
-struct Sides {
-    inputs: Side,
-    outputs: Side,
-}
 
 /// The refusal of a side of a header, if there is one.
 fn fault_of(side: &Side) -> Option<SectionFault>
@@ -34,28 +28,17 @@ fn fault_of(side: &Side) -> Option<SectionFault>
     }
 }
 
-/// The vectors of rows, or their first refusal.
-fn answer(rows: Rows) -> Result<Vec<Vector>, SectionFault>
-    ensures { result ≡ answer_of rows.fault rows.list }
-{
-    match rows.fault {
-        Some(fault) => Err(fault),
-        None => Ok(rows.list),
-    }
-}
-
-/// The rows behind the sides of their header.
-fn read_under<D: Device>(
+/// The vectors of a section behind so many vectors: both sides of its header, and then its rows.
+fn read_vectors<D: Device>(
     alloc: Global,
     scope: &Scope<'_>,
     section: &Vectors,
-    sides: Sides,
     before: u32,
 ) -> Result<Vec<Vector>, SectionFault>
-    ensures { AreSides (context_for D.table scope.now) section.now sides.inputs sides.outputs → Answers (context_for D.table scope.now) before (view_vectors section.now) result }
+    ensures { Answers (context_for D.table scope.now) before (view_vectors section.now) result }
 {
-    let inputs = sides.inputs;
-    let outputs = sides.outputs;
+    let inputs = read_side(alloc, scope, section.place, &section.inputs)?;
+    let outputs = read_side(alloc, scope, section.place, &section.outputs)?;
     match inputs {
         Side::Refused(first) => Err(first_of(first, fault_of(&outputs))),
         Side::Pins(inputs) => match outputs {
@@ -69,21 +52,6 @@ fn read_under<D: Device>(
             }
         },
     }
-}
-
-/// The vectors of a section behind so many vectors.
-fn read_vectors<D: Device>(
-    alloc: Global,
-    scope: &Scope<'_>,
-    section: &Vectors,
-    before: u32,
-) -> Result<Vec<Vector>, SectionFault>
-    ensures { Answers (context_for D.table scope.now) before (view_vectors section.now) result }
-{
-    let inputs = read_side(alloc, scope, section.place, &section.inputs)?;
-    let outputs = read_side(alloc, scope, section.place, &section.outputs)?;
-    let sides = Sides { inputs, outputs };
-    read_under::<D>(alloc, scope, section, sides, before)
 }
 
 /// The vectors of a section, which is one of TEST_VECTORS or has none, as the characters of the device's pins; `before`

@@ -9,31 +9,18 @@ ghost use Rattle.set_expr.specs.SectionOrder.{section_order};
 ghost use Rattle.truth_tables.specs.EntryMarks.{view_mark};
 ghost use Rattle.abel_vectors.specs.ReadRows.{AddsRow, AreRead, IsMarkedRow, IsReadRow, entry_fault, header_term, room_fault};
 
+use crate::finding::Found;
 use crate::given::{Positions, RowMarks, row_chars};
 use crate::pins::vector_of;
-use abel_tree::{VectorRow, Vectors};
+use abel_tree::{VectorRow, Vectors, earlier, is_before};
 use pld_base::{OutOfMemory, Place, Vector};
 use pld_device::Device;
-use set_expr::{Scope, SectionFault, earlier};
+use set_expr::{Scope, SectionFault};
 use std::alloc::Global;
 use truth_tables::{Entry, read_entry};
 
 /// The most vectors of a source.
 const MOST: u32 = 9_999;
-
-/// What is found of a row: its first refusal, or its vector.
-#[derive(Drop)]
-pub(crate) enum Row {
-    Refused(SectionFault),
-    Read(Vector),
-}
-
-/// The first refusal of rows, and their vectors where there is none.
-#[derive(Drop)]
-pub(crate) struct Rows {
-    pub fault: Option<SectionFault>,
-    pub list: Vec<Vector>,
-}
 
 /// The first of two refusals of which one is there.
 pub(crate) fn first_of(first: SectionFault, other: Option<SectionFault>) -> SectionFault
@@ -42,7 +29,7 @@ pub(crate) fn first_of(first: SectionFault, other: Option<SectionFault>) -> Sect
     match other {
         None => first,
         Some(other) => {
-            if other.is_before(&first) {
+            if is_before(&other, &first) {
                 other
             } else {
                 first
@@ -61,39 +48,39 @@ fn fault_of(entry: &Entry) -> Option<SectionFault>
     }
 }
 
-/// A row whose entries meet the header.
+/// A row whose entries meet the header: its vector, or its refusal.
 fn marked_row<D: Device>(
     alloc: Global,
     scope: &Scope<'_>,
     place: Place,
     positions: &Positions<'_>,
     marks: &RowMarks<'_>,
-) -> Result<Row, OutOfMemory>
+) -> Result<Result<Vector, SectionFault>, OutOfMemory>
     ensures { IfOk result (λ row. IsMarkedRow (context_for D.table scope.now) place positions.now.inputs.now (map view_mark marks.now.inputs.now) positions.now.outputs.now (map view_mark marks.now.outputs.now) row) }
 {
     match row_chars(alloc, scope, positions, marks)? {
-        Some(list) => Ok(Row::Read(vector_of::<D>(list.as_slice()))),
-        None => Ok(Row::Refused(SectionFault::BadVector(place))),
+        Some(list) => Ok(Ok(vector_of::<D>(list.as_slice()))),
+        None => Ok(Err(SectionFault::BadVector(place))),
     }
 }
 
-/// A row under a header whose sides name these positions.
+/// A row under a header whose sides name these positions: its vector, or its first refusal.
 fn read_row<D: Device>(
     alloc: Global,
     scope: &Scope<'_>,
     section: &Vectors,
     positions: &Positions<'_>,
     row: &VectorRow,
-) -> Result<Row, OutOfMemory>
+) -> Result<Result<Vector, SectionFault>, OutOfMemory>
     ensures { IfOk result (λ found. positions.now.inputs.now ≡ targets_of (header_term (context_for D.table scope.now) section.now.inputs) → positions.now.outputs.now ≡ targets_of (header_term (context_for D.table scope.now) section.now.outputs) → IsReadRow (context_for D.table scope.now) (header_term (context_for D.table scope.now) section.now.inputs) (header_term (context_for D.table scope.now) section.now.outputs) (view_vector_row row.now) found) }
 {
     let fault = SectionFault::BadVector(row.place);
     let given = read_entry(alloc, scope, fault, &section.inputs, &row.inputs)?;
     let tested = read_entry(alloc, scope, fault, &section.outputs, &row.outputs)?;
     match given {
-        Entry::Refused(first) => Ok(Row::Refused(first_of(first, fault_of(&tested)))),
+        Entry::Refused(first) => Ok(Err(first_of(first, fault_of(&tested)))),
         Entry::Marks(given) => match tested {
-            Entry::Refused(second) => Ok(Row::Refused(second)),
+            Entry::Refused(second) => Ok(Err(second)),
             Entry::Marks(tested) => {
                 let marks = RowMarks {
                     inputs: given.as_slice(),
@@ -117,14 +104,18 @@ fn refuse_room(before: u32, index: usize, place: Place) -> Option<SectionFault>
 }
 
 /// A row more.
-fn add_row(rows: &mut Rows, room: Option<SectionFault>, row: Row) -> Result<(), OutOfMemory>
+fn add_row(
+    rows: &mut Found,
+    room: Option<SectionFault>,
+    row: Result<Vector, SectionFault>,
+) -> Result<(), OutOfMemory>
     ensures { OnOk result (AddsRow rows.old rows.new room row) }
 {
     match row {
-        Row::Refused(fault) => {
+        Err(fault) => {
             rows.fault = earlier(rows.fault, earlier(room, Some(fault)));
         }
-        Row::Read(vector) => {
+        Ok(vector) => {
             rows.fault = earlier(rows.fault, room);
             rows.list.push(vector)?;
         }
@@ -140,11 +131,11 @@ pub(crate) fn read_rows<D: Device>(
     section: &Vectors,
     positions: &Positions<'_>,
     before: u32,
-) -> Result<Rows, OutOfMemory>
+) -> Result<Found, OutOfMemory>
     ensures { IfOk result (λ found. positions.now.inputs.now ≡ targets_of (header_term (context_for D.table scope.now) section.now.inputs) → positions.now.outputs.now ≡ targets_of (header_term (context_for D.table scope.now) section.now.outputs) → AreRead (context_for D.table scope.now) before (header_term (context_for D.table scope.now) section.now.inputs) (header_term (context_for D.table scope.now) section.now.outputs) (map view_vector_row section.now.rows) found) }
 {
     let rows = section.rows.as_slice();
-    let mut found = Rows {
+    let mut found = Found {
         fault: None,
         list: Vec::new(alloc),
     };

@@ -11,7 +11,7 @@ ghost use Rattle.abel_vectors.specs.FoundVectors.{AreFound};
 ghost use Rattle.abel_vectors.specs.SourceVectors.{AnswersVectors};
 
 use crate::counting::count_after;
-use crate::finding::{Found, add_section};
+use crate::finding::{Found, add_section, answer};
 use crate::reading::vectors;
 use abel_tree::{Module, Section};
 use pld_base::{OutOfMemory, Vector};
@@ -44,7 +44,7 @@ fn read_vectors<D: Device>(
 
 /// The test vectors of a module as the characters of the device's pins, in order of the source, where nothing of them is
 /// refused; else the first refusal by place.
-pub fn all_vectors<D: Device>(
+pub(crate) fn all_vectors<D: Device>(
     alloc: Global,
     scope: &Scope<'_>,
     source: &Module,
@@ -54,9 +54,5 @@ pub fn all_vectors<D: Device>(
     ensures few { IfOk result (λ list. length list.items ≤ 9999) }
     ensures chars { IfOk result (λ list. All (IsTestVector D.table) list.items) }
 {
-    let found = read_vectors::<D>(alloc, scope, source.sections.as_slice())?;
-    match found.fault {
-        None => Ok(found.list),
-        Some(fault) => Err(fault),
-    }
+    answer(read_vectors::<D>(alloc, scope, source.sections.as_slice())?)
 }

@@ -11,8 +11,7 @@ pub loop-index-preserved : goal.loop-index-preserved
 loop-index-preserved c d e =
     let ss = c.args.signals.now in
     let i = c.loop-index.index in
-    c.both-all.ensures
-    ∙ ap₂ (λ a b. a && b) (c.loop-index.invariant d e) (c.may_stand.ensures d e)
+    ap₂ (λ a b. a && b) (c.loop-index.invariant d e) (c.may_stand-all.ensures d e)
     ∙ sym (list_all_more (is_pin_or_unknown d) ss i None c.loop-index-test.true)
 
 pub returns : goal.returns

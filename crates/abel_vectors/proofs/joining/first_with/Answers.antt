@@ -9,4 +9,4 @@ pub returns-in-Ok : goal.returns-in-Ok
 returns-in-Ok c = λ d h k. told_alone (sections_refused d) (all_vectors_refused d) c.args.section (subst (AnswersVectors d) c.in-Ok.is k).accepted h
 
 pub returns-in-Err : goal.returns-in-Err
-returns-in-Err c = λ d h k. c.first_of.ensures (sections_refused d) (all_vectors_refused d) h (subst (AnswersVectors d) c.in-Err.is k)
+returns-in-Err c = λ d h k. c.told_of_both.ensures (sections_refused d) (all_vectors_refused d) h (subst (AnswersVectors d) c.in-Err.is k)
