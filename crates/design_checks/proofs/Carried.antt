@@ -9,16 +9,15 @@ use Rattle.std.proofs.lemmas.Option.{slice_get-get_or}
 use Rattle.pld_device.specs.declared.carry.Carry.{Carry}
 use Rattle.pld_device.specs.declared.carry.Carry.TheVariants as carry
 use Rattle.pld_device.specs.declared.cell.Cell.{Cell}
-use Rattle.pld_device.specs.Pins.{pair_pins}
+use Rattle.pld_device.specs.Pins.{pair_pins, cell_on, carries_cell}
 use Rattle.pld_device.specs.Table.{cell_at, no_cell}
 use Rattle.bit_expr.specs.declared.node.Leaf.{Leaf}
 use Rattle.bit_expr.specs.declared.node.Leaf.TheVariants as leaf
 use Rattle.abel_tree.specs.declared.words.Extension.{Extension}
 use Rattle.abel_tree.specs.declared.words.Extension.TheVariants as extension
-use Rattle.abel_tree.specs.Entries.{Kind, APin, ANode, AConstant, ADeviceName, Entry}
+use Rattle.abel_tree.specs.Entries.{Kind, APin, ANode, AConstant, ADeviceName, Entry, is_stored, follows_q}
 use Rattle.abel_meaning.specs.Controls.{is_pin, signal_on, cell_stores_for, must_register}
-use Rattle.abel_meaning.specs.Designs.{Context, name_at, no_name, is_stored, follows_q, cell_on}
-use Rattle.abel_meaning.specs.SoundIds.{carries_cell}
+use Rattle.abel_meaning.specs.Designs.{Context, name_at, no_name}
 use Rattle.abel_meaning.specs.Sources.{Held, pin_source, register_source, node_source, on_pin, source_by}
 use Rattle.netlist_laws.specs.SignalUses.{holds_leaf}
 use Rattle.netlist_laws.specs.Takeable.{PinsApart, HasColumns}

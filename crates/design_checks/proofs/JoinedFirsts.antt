@@ -8,7 +8,7 @@ use Rattle.std.proofs.lemmas.List.{map-append}
 use Rattle.std.proofs.lemmas.List.Elements.{filter-append}
 use Rattle.pld_base.specs.declared.place.Place.{Place}
 use Rattle.abel_tree.specs.FirstRefusal.{earlier, first_refusal, sooner}
-use Rattle.abel_tree.proofs.FirstRefusals.{first_append}
+use Rattle.abel_tree.proofs.FirstRefusals.{before_by, first_append}
 use Rattle.abel_meaning.specs.Designs.{Context, name_at}
 use Rattle.netlist_laws.specs.SignalUses.{SignalUse}
 use Rattle.set_expr.proofs.FoundMembers.{front_more}
@@ -18,7 +18,6 @@ use Rattle.design_checks.specs.LocatedUses.{PlacedUse, all_at}
 use Rattle.design_checks.specs.RefusedUses.{is_missing, is_unread}
 use Rattle.design_checks.specs.UsesRefused.{first_use, told, use_order}
 use Rattle.design_checks.specs.declared.refused.RefusedUse.{RefusedUse}
-use Rattle.design_checks.proofs.UsesInOrder.{before_by}
 
 -- ---- signals
 
@@ -54,7 +53,7 @@ stays p s None = refl
 stays p s (Some r) =
     let x : RefusedUse = record { place = p; name = s } in
     let y : RefusedUse = record { place = p; name = r } in
-    ap (λ b. if b then Some y else Some x) (before_by y x ∙ never_sooner p.line p.column)
+    ap (λ b. if b then Some y else Some x) (before_by use_order y x ∙ never_sooner p.line p.column)
   where
     never_sooner : (a b : ℕ) → sooner a b 0 a b 0 ≡ false
     never_sooner a b = grind (arith, nat_tests)

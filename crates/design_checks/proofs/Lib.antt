@@ -1,18 +1,13 @@
 mod ByPin
 mod Carried
 mod ColumnLaw
-pub mod FaultsInOrder
-mod FrontNames
+mod IdleRegisters
 mod JoinedFirsts
-mod KeptNames
 pub mod LearntName
-mod Listed
 mod PartedUses
-mod Places
-mod PlainOnes
-mod Pushed
+mod PlacedNames
+mod RefusedPlaces
 mod RefusedStatements
-mod Stages
-pub mod UsesInOrder
 pub mod UsesRead
+mod Verdicts
 mod WrittenTerms

@@ -11,16 +11,18 @@ use Rattle.abel_tree.specs.declared.names.Names.{Names}
 use Rattle.pld_device.specs.Table.{Table}
 use Rattle.abel_meaning.specs.Designs.{Context, Design}
 use Rattle.abel_meaning.specs.Terms.{Known, Term, extended_if, term_named, term_of}
-use Rattle.name_uses.specs.NamesUsed.{UsedName, innermost, member_used, members_used, names_used}
+use Rattle.abel_tree.specs.Extensions.{innermost}
+use Rattle.name_uses.specs.NamesUsed.{UsedName, member_used, members_used, names_used}
 use Rattle.name_uses.specs.Parts.{PartTree, parts_in_branch, parts_in_choices, parts_in_else, parts_in_other, parts_in_row, parts_in_section, parts_in_state, parts_in_statement, parts_in_statements, parts_in_with}
 use Rattle.name_uses.specs.Viewed.{PartedSection, with_parts}
 use Rattle.netlist_laws.specs.SignalUses.{SignalUse, term_uses}
 use Rattle.set_expr.specs.Answer.{IsContextOf}
 use Rattle.set_expr.specs.Contexts.{context_for}
 use Rattle.design_checks.specs.Firsts.{firsts}
-use Rattle.design_checks.specs.Learnt.{Kept, Knows}
+use Rattle.design_checks.specs.Learnt.{AreUsesOf}
 use Rattle.design_checks.specs.declared.firsts.FirstUses.{FirstUses}
-use Rattle.design_checks.specs.LocatedUses.{PlacedUse, all_at, located, member_located, members_located, own_or_outer, range_located}
+use Rattle.design_checks.specs.declared.names.NameUses.{NameUses}
+use Rattle.design_checks.specs.LocatedUses.{PlacedUse, all_at, located, member_located, members_located, range_located}
 use Rattle.design_checks.specs.PartUses.{names_read, part_uses, parted_uses, reads_used, uses_used}
 use Rattle.design_checks.specs.SectionUses.{branch_uses, branches_uses, choices_uses, design_uses, else_uses, expression_uses, is_compared, other_uses, section_uses, sections_uses, statement_uses, statements_uses, states_uses, with_uses}
 use Rattle.design_checks.proofs.LearntName.{is_context_for}
@@ -29,7 +31,7 @@ use Rattle.design_checks.proofs.UsesRead.{plain, plain_at, reads, twice}
 -- ---- expressions
 
 -- of two extensions the inner one counts
-doubly : (o e : Option Extension) (t : Term) → extended_if o (extended_if e t) ≡ extended_if (own_or_outer e o) t
+doubly : (o e : Option Extension) (t : Term) → extended_if o (extended_if e t) ≡ extended_if (innermost e o) t
 doubly None None t = refl
 doubly None (Some e) t = refl
 doubly (Some f) None t = refl
@@ -175,8 +177,8 @@ module _ (d : Context) where
   sections_parted (x ∷ xs) = ap₂ (λ us vs. us ++ vs) (of_section x) (sections_parted xs)
 
 -- all uses of a design, over the parts of its sections
-pub first_of_design : (t : Table) (n : Names) (d : Design) (kept : Kept) (first : FirstUses) (xs : List PartedSection) → IsContextOf t n d.context → Knows (context_for t n) kept → ((e : Context) → Knows e kept → first ≡ firsts e (flat_map (parted_uses e) xs)) → xs ≡ map with_parts d.sections
+pub first_of_design : (t : Table) (n : Names) (d : Design) (us : List NameUses) (first : FirstUses) (xs : List PartedSection) → IsContextOf t n d.context → AreUsesOf (context_for t n) n us → ((e : Context) → AreUsesOf e n us → first ≡ firsts e (flat_map (parted_uses e) xs)) → xs ≡ map with_parts d.sections
     → first ≡ firsts d.context (design_uses d)
-first_of_design t n d kept first xs of knows found parted =
-    found d.context (subst (λ e. Knows e kept) (is_context_for t n d.context of) knows)
+first_of_design t n d us first xs of knows found parted =
+    found d.context (subst (λ e. AreUsesOf e n us) (is_context_for t n d.context of) knows)
     ∙ ap (firsts d.context) (ap (flat_map (parted_uses d.context)) parted ∙ sym (sections_parted d.context d.sections))

@@ -20,8 +20,8 @@ use Rattle.abel_meaning.specs.Designs.{Context, name_at}
 use Rattle.section_targets.specs.declared.aim.Aim.{Aim}
 use Rattle.set_expr.proofs.FoundMembers.{front_more}
 use Rattle.design_checks.specs.declared.refused.RefusedUse.{RefusedUse}
-use Rattle.design_checks.specs.UsesRefused.{use_order}
-use Rattle.design_checks.specs.Compared.{is_compared_of, told_if}
+use Rattle.design_checks.specs.UsesRefused.{told_if, use_order}
+use Rattle.design_checks.specs.Compared.{is_compared_of}
 use Rattle.design_checks.specs.Fronts.{list_refused, may_be_compared, view_when}
 use Rattle.design_checks.specs.Written.{Written, aim_refused, aims_refused, is_written_at, narrow, section_refused, sections_refused, statement_refused}
 

@@ -6,12 +6,13 @@ use Rattle.pld_base.specs.declared.place.Place.{Place}
 use Rattle.abel_tree.specs.declared.words.Extension.{Extension}
 use Rattle.abel_tree.specs.declared.words.Unary.{Unary}
 use Rattle.abel_tree.specs.declared.words.Binary.{Binary}
+use Rattle.abel_tree.specs.Extensions.{innermost}
 use Rattle.abel_tree.specs.Ranges.{range_names}
 use Rattle.abel_tree.specs.Tree.{Tree, ANumber, ASpecial, AName, ASet, AParen, AUnary, ABinary, SetMember, OneMember, SpanMember, Members, NoMember, MoreMembers}
 use Rattle.abel_meaning.specs.Terms.{Term, Terms, Number, X, Pulse, Release, Read, Set, UnaryOf, BinaryOf, NoTerm, Before, Known, term_named, term_of, terms_of, member_before, named_before, extended, extended_each, extended_if, special_term}
 use Rattle.netlist_laws.specs.SignalUses.{SignalUse, term_uses, all_term_uses}
 use Rattle.design_checks.specs.Correct.{UsesAreRead}
-use Rattle.design_checks.specs.LocatedUses.{PlacedUse, all_at, own_or_outer, range_located, located, members_located, member_located}
+use Rattle.design_checks.specs.LocatedUses.{PlacedUse, all_at, range_located, located, members_located, member_located}
 
 abbrev pub plain : List PlacedUse → List SignalUse
 plain us = map (λ (u : PlacedUse). u.read) us
@@ -47,7 +48,7 @@ number_reads : (o : Option Extension) (n : ℕ) → term_uses (extended_if o (Nu
 number_reads None n = refl
 number_reads (Some e) n = refl
 
-set_reads : (o e : Option Extension) (ts : Terms) → term_uses (extended_if o (extended_if e (Set ts))) ≡ all_term_uses (each_if (own_or_outer e o) ts)
+set_reads : (o e : Option Extension) (ts : Terms) → term_uses (extended_if o (extended_if e (Set ts))) ≡ all_term_uses (each_if (innermost e o) ts)
 set_reads None None ts = refl
 set_reads (Some f) None ts = refl
 set_reads None (Some e) ts = refl
@@ -98,7 +99,7 @@ module _ (known : List Known) where
     reads o (ANumber n) = sym (number_reads o n.value)
     reads o (ASpecial letter p) = sym (special_reads o letter)
     reads o (AName word e) = plain_at word.place (term_uses (extended_if o (extended_if e (term_named known word.text))))
-    reads o (ASet p ms e) = members_read (own_or_outer e o) ms ∙ sym (set_reads o e (terms_of known ms))
+    reads o (ASet p ms e) = members_read (innermost e o) ms ∙ sym (set_reads o e (terms_of known ms))
     reads o (AParen p t) = reads o t
     reads o (AUnary sign p t) = reads o t ∙ sym (under_reads o sign (term_of known t))
     reads o (ABinary sign p t u) =

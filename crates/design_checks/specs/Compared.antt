@@ -1,21 +1,17 @@
 -- What an equation for a clock, or for the enable of a cell that a pin enables, must say: what the device does anyway
 -- (the devices' datasheets, macrocell diagrams); how it must be written is said in `design_checks`.
-use Rattle.std.specs.Prelude.{ℕ, ◌==◌, Bool, true, false, not, Option, None, Some, List, [], ◌∷◌, ◌++◌, get_or}
+use Rattle.std.specs.Prelude.{ℕ, ◌==◌, Bool, true, false, not, Option, None, Some}
 use Rattle.pld_device.specs.declared.enable.Enable.{Enable}
 use Rattle.pld_device.specs.declared.enable.Enable.TheVariants.{Row, PinLow}
 use Rattle.pld_device.specs.Table.{Table, cell_at}
 use Rattle.bit_expr.specs.declared.node.Leaf.{Leaf}
 use Rattle.bit_expr.specs.declared.node.Leaf.TheVariants as leaf
-use Rattle.bit_expr.specs.Arena.{formula_at}
 use Rattle.bit_expr.specs.Formulas.{Formula, Const, Read, Not, And, Or, Xor}
 use Rattle.abel_tree.specs.declared.words.Extension.{Extension}
 use Rattle.abel_tree.specs.declared.words.Extension.TheVariants as extension
 use Rattle.abel_tree.specs.Entries.{Entry}
-use Rattle.abel_meaning.specs.Designs.{no_name}
 use Rattle.netlist_laws.specs.Gathered.{cell_of}
 use Rattle.design_checks.specs.SectionUses.{is_cell_by_pin}
-use Rattle.set_expr.specs.declared.contributions.Contribution.{Contribution}
-use Rattle.design_checks.specs.declared.refused.RefusedUse.{RefusedUse}
 
 -- ---- levels
 
@@ -76,20 +72,3 @@ says_so t x _ complement f = true
 abbrev pub says_always : Table → Entry → Option Extension → (block : Option ℕ) → (complement : Bool) → Formula → Bool
 says_always t x e None complement f = says_so t x e complement f
 says_always t x e (Some block) complement f = not (is_compared_of t e x)
-
--- ---- what is refused
-
-abbrev pub told_if : Bool → RefusedUse → List RefusedUse
-told_if true r = r ∷ []
-told_if false r = []
-
--- one contribution to this name, at its target
-abbrev pub other_level : Table → List Formula → Entry → Contribution → List RefusedUse
-other_level t fs x c =
-    told_if (not (says_always t x c.target.extension c.block c.complement (formula_at fs c.when)))
-    (record { place = c.place; name = c.target.signal })
-
--- all contributions to names, in order of the source
-abbrev pub other_levels : Table → List Formula → List Entry → List Contribution → List RefusedUse
-other_levels t fs xs [] = []
-other_levels t fs xs (c ∷ cs) = other_level t fs (get_or xs c.target.signal no_name) c ++ other_levels t fs xs cs

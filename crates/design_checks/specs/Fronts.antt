@@ -1,5 +1,5 @@
 -- Private: how the values of names are written, as far as it is counted (this project's rule).
-use Rattle.std.specs.Prelude.{◌≡◌, ℕ, Bool, true, false, Option, Some, List, ◌++◌, map, min}
+use Rattle.std.specs.Prelude.{Bool, true, false, Option, Some, List, min}
 use Rattle.abel_tree.specs.declared.statements.Stmt.TheFolds.{fold-When}
 use Rattle.abel_tree.specs.declared.statements.When.{When}
 use Rattle.abel_tree.specs.declared.names.Names.{Names}
@@ -9,8 +9,9 @@ use Rattle.abel_tree.specs.Entries.{Entry, entries_of}
 use Rattle.abel_tree.specs.Tree.{Statement, statements_of}
 use Rattle.abel_tree.specs.View.{stmt_layer, when_layer}
 use Rattle.abel_meaning.specs.Designs.{Context}
-use Rattle.abel_meaning.specs.Terms.{Known, known_of}
+use Rattle.abel_meaning.specs.Terms.{Known, Term, known_of}
 use Rattle.design_checks.specs.declared.front.Front.{Front}
+use Rattle.design_checks.specs.NameValues.{AreOfNames}
 use Rattle.design_checks.specs.Written.{Written, written_of, statements_refused}
 use Rattle.design_checks.specs.declared.refused.RefusedUse.{RefusedUse}
 
@@ -18,14 +19,13 @@ use Rattle.design_checks.specs.declared.refused.RefusedUse.{RefusedUse}
 abbrev pub counted : Written → Front
 counted w = record { count = min w.count 255; whole = w.whole }
 
-abbrev pub fronts_of : List Known → List Front
-fronts_of ks = map (λ (k : Known). counted (written_of k.term)) ks
+-- how the value of a name that stands for this is written
+abbrev pub front_of : Term → Front
+front_of t = counted (written_of t)
 
 -- of the first of these names
-pub record AreFronts (es : List Entry) (fs : List Front) (ks : List Known) : Type 0 where
-  pub later : List (List ℕ)
-  pub names : map (λ (e : Entry). e.name) es ≡ map (λ (k : Known). k.name) ks ++ later
-  pub fronts : fs ≡ fronts_of ks
+abbrev pub AreFronts : List Entry → List Front → List Known → Type 0
+AreFronts es fs ks = AreOfNames Front front_of es fs ks
 
 -- of all names of a source
 abbrev pub AreAllFronts : Names → List Front → Type 0

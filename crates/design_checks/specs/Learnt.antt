@@ -1,21 +1,22 @@
 -- Private: what is kept of each name (this project's rule).
-use Rattle.std.specs.Prelude.{◌≡◌, ℕ, Bool, true, false, not, ◌&&◌, Option, None, Some, List, [], ◌∷◌, map, if◌then◌else◌, bytes_eq, option_map}
+use Rattle.std.specs.Prelude.{ℕ, Bool, true, false, not, ◌&&◌, Option, None, Some, List, [], ◌∷◌, if◌then◌else◌}
 use Rattle.std.specs.List.{list_all}
-use Rattle.std.specs.Global.{Vec}
 use Rattle.abel_tree.specs.declared.words.Extension.{Extension}
 use Rattle.abel_tree.specs.declared.words.Extension.TheVariants as extension
-use Rattle.abel_tree.specs.Entries.{Entry}
+use Rattle.abel_tree.specs.declared.names.Names.{Names}
+use Rattle.abel_tree.specs.Entries.{Entry, entries_of}
 use Rattle.pld_device.specs.Table.{Table}
 use Rattle.abel_meaning.specs.Designs.{Context, name_at}
 use Rattle.abel_meaning.specs.Targets.{targets_of, some_signals}
-use Rattle.abel_meaning.specs.Terms.{Term, Known, known_of, extended_if}
+use Rattle.abel_meaning.specs.Terms.{Term, known_of, extended_if}
 use Rattle.netlist_laws.specs.Gathered.{cell_of}
 use Rattle.netlist_laws.specs.SignalUses.{SignalUse, term_uses}
-use Rattle.design_checks.specs.Firsts.{no_signals}
+use Rattle.design_checks.specs.NameValues.{AreOfNames}
 use Rattle.design_checks.specs.RefusedUses.{has_extension, has_read_path}
 use Rattle.design_checks.specs.SectionUses.{is_cell_by_pin, is_enabled_by_pin}
 use Rattle.design_checks.specs.declared.firsts.FirstSignals.{FirstSignals}
 use Rattle.design_checks.specs.declared.names.ControlUses.{ControlUses}
+use Rattle.design_checks.specs.declared.names.KeptUses.{KeptUses}
 use Rattle.design_checks.specs.declared.names.NameUses.{NameUses}
 use Rattle.design_checks.specs.declared.names.ReadUses.{ReadUses}
 
@@ -104,45 +105,14 @@ uses_under n (Some extension.Ar) = n.control.ar
 uses_under n (Some extension.Sp) = n.control.sp
 uses_under n (Some extension.D) = n.control.d
 
--- of a name that is kept or not
-abbrev pub signals_under : Option NameUses → Option Extension → FirstSignals
-signals_under None e = no_signals
-signals_under (Some n) e = uses_under n e
-
-abbrev pub is_by_pin_if : Option NameUses → Bool
-is_by_pin_if None = true
-is_by_pin_if (Some n) = n.by_pin
-
 -- ---- all names
 
--- names with what is kept of each
-abbrev pub Kept : Type 0
-Kept = List (List ℕ × NameUses)
+-- these are kept of the names of a design, or of the first of them
+abbrev pub AreUsesOf : Context → Names → List NameUses → Type 0
+AreUsesOf d n us = AreOfNames NameUses (uses_of d) (entries_of n) us d.known
 
--- entries by the bytes of their names
-abbrev pub by_bytes : List (Vec ℕ × NameUses) → Kept
-by_bytes es = map (λ e. (e.0.items, e.1)) es
-
-abbrev pub under : Kept → List ℕ → Option NameUses
-under [] name = None
-under (e ∷ es) name = if bytes_eq name e.0 then Some e.1 else under es name
-
-abbrev pub or_new : Option NameUses → Option NameUses → Option NameUses
-or_new None n = n
-or_new (Some n) other = Some n
-
--- what is kept of w with one name more, where it is new
-abbrev pub with_new : (name : List ℕ) → NameUses → (List ℕ → Option NameUses) → List ℕ → Option NameUses
-with_new name n kept w = or_new (kept w) (if bytes_eq w name then Some n else None)
-
--- what a name stands for, if it is known
-abbrev pub term_known : List Known → List ℕ → Option Term
-term_known [] name = None
-term_known (k ∷ ks) name = if bytes_eq name k.name then Some k.term else term_known ks name
-
--- what is kept is that of the names of this design
-abbrev pub Knows : Context → Kept → Type 0
-Knows d kept = (w : List ℕ) → under kept w ≡ option_map (uses_of d) (term_known d.known w)
+abbrev pub Knows : Context → KeptUses → Type 0
+Knows d kept = AreUsesOf d kept.scope.now kept.list.now
 
 -- while names are learnt, over those so far
 abbrev pub learning : Context → List Entry → Context

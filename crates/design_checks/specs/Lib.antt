@@ -5,7 +5,7 @@ pub mod Firsts
 pub mod Fronts
 pub mod Learnt
 pub mod LocatedUses
-pub mod Order
+pub mod NameValues
 pub mod PartUses
 pub mod Refused
 pub mod RefusedUses

@@ -6,7 +6,7 @@ use Rattle.abel_tree.specs.declared.words.Extension.{Extension}
 use Rattle.abel_tree.specs.Ranges.{range_names}
 use Rattle.abel_tree.specs.Tree.{Tree, ANumber, ASpecial, AName, ASet, AParen, AUnary, ABinary, SetMember, OneMember, SpanMember, Members, NoMember, MoreMembers}
 use Rattle.abel_meaning.specs.Terms.{Known, term_named, extended_if}
-use Rattle.name_uses.specs.NamesUsed.{innermost}
+use Rattle.abel_tree.specs.Extensions.{innermost}
 use Rattle.netlist_laws.specs.SignalUses.{SignalUse, term_uses}
 
 -- a signal where an expression reads it, with what is asked of it, and its place in the expanded text
@@ -18,10 +18,6 @@ pub record PlacedUse : Type 0 where
 abbrev pub all_at : Place → List SignalUse → List PlacedUse
 all_at p [] = []
 all_at p (u ∷ us) = record { read = u; place = p } ∷ all_at p us
-
--- an extension of its own, or that of the set round it
-abbrev pub own_or_outer : Option Extension → Option Extension → Option Extension
-own_or_outer own outer = innermost own outer
 
 -- the names of a range, in a set with this extension
 abbrev pub range_located : List Known → Option Extension → Place → List (List ℕ) → List PlacedUse
@@ -35,7 +31,7 @@ abbrev mutual
   located known outer (ANumber n) = []
   located known outer (ASpecial letter p) = []
   located known outer (AName word e) = all_at word.place (term_uses (extended_if outer (extended_if e (term_named known word.text))))
-  located known outer (ASet p ms e) = members_located known (own_or_outer e outer) ms
+  located known outer (ASet p ms e) = members_located known (innermost e outer) ms
   located known outer (AParen p t) = located known outer t
   located known outer (AUnary sign p t) = located known outer t
   located known outer (ABinary sign p t u) = located known outer t ++ located known outer u

@@ -3,6 +3,7 @@ use Rattle.std.specs.Prelude.{ℕ, Bool, true, false, not, Option, None, Some, L
 use Rattle.std.specs.List.{flat_map}
 use Rattle.abel_tree.specs.declared.words.Extension.{Extension}
 use Rattle.abel_tree.specs.declared.words.Word.{Word}
+use Rattle.abel_tree.specs.Extensions.{innermost}
 use Rattle.abel_tree.specs.Ranges.{range_names}
 use Rattle.abel_meaning.specs.Designs.{Context}
 use Rattle.abel_meaning.specs.Terms.{Known, extended_if, term_named}
@@ -10,7 +11,7 @@ use Rattle.name_uses.specs.NamesUsed.{UsedName}
 use Rattle.name_uses.specs.Parts.{PartRole, PartTree, Read, Registers, Value}
 use Rattle.name_uses.specs.Viewed.{PartedSection}
 use Rattle.netlist_laws.specs.SignalUses.{SignalUse, term_uses}
-use Rattle.design_checks.specs.LocatedUses.{PlacedUse, all_at, own_or_outer}
+use Rattle.design_checks.specs.LocatedUses.{PlacedUse, all_at}
 use Rattle.design_checks.specs.SectionUses.{is_compared}
 
 -- ---- names
@@ -26,7 +27,7 @@ names_read known e names = flat_map (λ (n : List ℕ). term_uses (extended_if e
 
 -- what is read where an expression uses names, in a set with this extension
 abbrev pub reads_used : List Known → (outer : Option Extension) → UsedName → List SignalUse
-reads_used known outer u = names_read known (own_or_outer u.extension outer) (names_to u.first u.last)
+reads_used known outer u = names_read known (innermost u.extension outer) (names_to u.first u.last)
 
 -- the same at its place
 abbrev pub uses_used : List Known → (outer : Option Extension) → UsedName → List PlacedUse

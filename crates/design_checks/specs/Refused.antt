@@ -1,52 +1,78 @@
 -- What is refused of a design, kind by kind, each refusal at its place with the number of the name that is told (this
 -- project's rule).
-use Rattle.std.specs.Prelude.{List, ◌++◌, map}
+use Rattle.std.specs.Prelude.{Bool, not, ◌&&◌, List, ◌++◌, map, get_or}
+use Rattle.std.specs.List.{flat_map}
 use Rattle.pld_device.specs.Table.{Table}
+use Rattle.bit_expr.specs.Arena.{formula_at}
 use Rattle.bit_expr.specs.Formulas.{Formula}
 use Rattle.abel_tree.specs.Entries.{Entry}
-use Rattle.abel_meaning.specs.Designs.{Design}
+use Rattle.abel_tree.specs.Extensions.{is_data}
+use Rattle.abel_meaning.specs.Designs.{Design, no_name}
 use Rattle.set_expr.specs.declared.contributions.Contribution.{Contribution}
-use Rattle.design_checks.specs.declared.signal_fault.SignalFault.{SignalFault}
-use Rattle.design_checks.specs.declared.signal_fault.SignalFault.TheVariants as signal
 use Rattle.design_checks.specs.declared.rules.Rule.{Rule}
 use Rattle.design_checks.specs.declared.rules.Rule.TheVariants as rule
-use Rattle.design_checks.specs.SignalsRefused.{all_refused, registered_nodes}
+use Rattle.design_checks.specs.SignalsRefused.{has_wrong_kind, is_control_by_any, lacks_control}
 use Rattle.design_checks.specs.RefusedUses.{missing_uses, unread_uses}
-use Rattle.design_checks.specs.Compared.{other_levels}
+use Rattle.design_checks.specs.Compared.{says_always}
 use Rattle.design_checks.specs.Written.{unwritten}
 use Rattle.design_checks.specs.declared.refused.RefusedUse.{RefusedUse}
-use Rattle.design_checks.specs.UsesRefused.{told}
+use Rattle.design_checks.specs.UsesRefused.{told, told_if}
 
--- a refusal without its kind
-abbrev pub plain : SignalFault → RefusedUse
-plain (signal.WrongKind p s) = record { place = p; name = s }
-plain (signal.RegisteredNode p s) = record { place = p; name = s }
-plain (signal.NoSuchControl p s) = record { place = p; name = s }
-plain (signal.DontCareControl p s) = record { place = p; name = s }
+-- ---- one target
 
--- what a rule refuses of the targets
-abbrev pub targets_refused : Table → List Entry → Rule → List Contribution → List RefusedUse
-targets_refused t xs r cs = map plain (all_refused t xs r cs)
+-- data go to a signal on a cell that can't be what the signal is
+abbrev pub is_wrong_target : Table → Entry → Contribution → Bool
+is_wrong_target t x c = is_data c.target.extension && has_wrong_kind t x
+
+-- the signal doesn't have the control
+abbrev pub is_lacking : Table → Entry → Contribution → Bool
+is_lacking t x c = lacks_control t x c.target.extension
+
+-- an equation says otherwise than the device does
+abbrev pub is_other : Table → List Formula → Entry → Contribution → Bool
+is_other t fs x c = not (says_always t x c.target.extension c.block c.complement (formula_at fs c.when))
+
+-- a control is assigned by `?=`, whatever its signal is
+abbrev pub is_any_control : Entry → Contribution → Bool
+is_any_control x c = is_control_by_any c
+
+-- a rule refuses a contribution to a name
+abbrev pub refuses : Table → List Formula → Rule → Entry → Contribution → Bool
+refuses t fs rule.Kinds = is_wrong_target t
+refuses t fs rule.Controls = is_lacking t
+refuses t fs rule.Levels = is_other t fs
+refuses t fs rule.DontCares = is_any_control
+
+-- what is refused of all contributions to names, each at its target, in order of the source
+abbrev pub targets_refused : (Entry → Contribution → Bool) → List Entry → List Contribution → List RefusedUse
+targets_refused test xs cs =
+    flat_map (λ (c : Contribution). told_if (test (get_or xs c.target.signal no_name) c) (record { place = c.place; name = c.target.signal })) cs
+
+-- ---- kinds
 
 -- signals on cells that can't be what they are
 abbrev pub wrong_kinds : Table → List Entry → List Contribution → List RefusedUse
-wrong_kinds t xs cs = targets_refused t xs rule.Kinds cs
+wrong_kinds t xs cs = targets_refused (is_wrong_target t) xs cs
 
--- nodes that are registered
-abbrev pub stored_nodes : List Entry → List RefusedUse
-stored_nodes xs = map plain (registered_nodes 0 xs)
+-- targets that are no control of their signal
+abbrev pub lacking_controls : Table → List Entry → List Contribution → List RefusedUse
+lacking_controls t xs cs = targets_refused (is_lacking t) xs cs
 
--- targets that are no control of their signal, or say otherwise than the device does
+-- those that say otherwise than the device does
+abbrev pub other_levels : Table → List Formula → List Entry → List Contribution → List RefusedUse
+other_levels t fs xs cs = targets_refused (is_other t fs) xs cs
+
+-- targets of both sorts
 abbrev pub target_controls : Table → List Formula → List Entry → List Contribution → List RefusedUse
-target_controls t fs xs cs = targets_refused t xs rule.Controls cs ++ other_levels t fs xs cs
+target_controls t fs xs cs = lacking_controls t xs cs ++ other_levels t fs xs cs
 
 -- these, equations that are compared and not written as a level is, and uses of what the signal doesn't have
 abbrev pub no_controls : Design → List Formula → List Contribution → List RefusedUse
 no_controls d fs cs = target_controls d.context.device fs d.context.names cs ++ (unwritten d ++ map told (missing_uses d))
 
 -- controls that are assigned by `?=`
-abbrev pub any_controls : Table → List Entry → List Contribution → List RefusedUse
-any_controls t xs cs = targets_refused t xs rule.DontCares cs
+abbrev pub any_controls : List Entry → List Contribution → List RefusedUse
+any_controls xs cs = targets_refused is_any_control xs cs
 
 -- uses of what no column carries
 abbrev pub no_paths : Design → List RefusedUse

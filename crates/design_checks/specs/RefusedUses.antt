@@ -3,14 +3,13 @@
 use Rattle.std.specs.Prelude.{ℕ, ◌==◌, Bool, true, false, not, ◌&&◌, ◌||◌, Option, None, Some, is_some, is_none, List, filter, position}
 use Rattle.std.specs.List.{list_any}
 use Rattle.pld_device.specs.declared.cell.Cell.{Cell}
-use Rattle.pld_device.specs.Pins.{pair_pins}
+use Rattle.pld_device.specs.Pins.{pair_pins, cell_on, carries_cell}
 use Rattle.pld_device.specs.Table.{Table}
 use Rattle.abel_tree.specs.declared.words.Extension.{Extension}
 use Rattle.abel_tree.specs.declared.words.Extension.TheVariants as extension
-use Rattle.abel_tree.specs.Entries.{Kind, APin, ANode, Entry}
+use Rattle.abel_tree.specs.Entries.{Kind, APin, ANode, Entry, is_stored}
 use Rattle.abel_meaning.specs.Controls.{must_register}
-use Rattle.abel_meaning.specs.Designs.{Context, Design, name_at, is_stored, cell_on}
-use Rattle.abel_meaning.specs.SoundIds.{carries_cell}
+use Rattle.abel_meaning.specs.Designs.{Context, Design, name_at}
 use Rattle.design_checks.specs.LocatedUses.{PlacedUse}
 use Rattle.design_checks.specs.SectionUses.{design_uses}
 

@@ -1,6 +1,6 @@
 -- What of a design is refused by its names and its targets (the devices' datasheets, macrocell diagrams; what is refused,
 -- and where, is this project's rule).
-use Rattle.std.specs.Prelude.{ℕ, suc, ◌<◌, ◌==◌, Bool, true, false, not, ◌&&◌, ◌||◌, Option, Some, is_some, is_none, List, [], ◌∷◌, ◌++◌, All, get_or}
+use Rattle.std.specs.Prelude.{ℕ, suc, ◌<◌, ◌==◌, Bool, true, false, not, ◌&&◌, ◌||◌, Option, Some, is_some, is_none, List, [], ◌∷◌, ◌++◌, All}
 use Rattle.std.specs.List.{list_any}
 use Rattle.pld_device.specs.declared.cell.Cell.{Cell}
 use Rattle.pld_device.specs.declared.kinds.Kinds.{Kinds}
@@ -8,20 +8,13 @@ use Rattle.pld_device.specs.declared.kinds.Kinds.TheVariants.{Combinational, Reg
 use Rattle.pld_device.specs.Table.{Table}
 use Rattle.abel_tree.specs.declared.words.Extension.{Extension}
 use Rattle.abel_tree.specs.declared.words.Extension.TheVariants as extension
-use Rattle.abel_tree.specs.Entries.{Kind, APin, ANode, Entry}
-use Rattle.abel_meaning.specs.Designs.{is_stored, no_name}
-use Rattle.abel_meaning.specs.Targets.{is_data}
+use Rattle.abel_tree.specs.Entries.{Kind, APin, ANode, Entry, is_stored}
+use Rattle.abel_tree.specs.Extensions.{is_data}
 use Rattle.set_expr.specs.declared.contributions.Contribution.{Contribution}
 use Rattle.set_expr.specs.declared.contributions.Gives.{Gives}
 use Rattle.set_expr.specs.declared.contributions.Gives.TheVariants as gives
-use Rattle.design_checks.specs.declared.signal_fault.SignalFault.{SignalFault}
-use Rattle.design_checks.specs.declared.signal_fault.SignalFault.TheVariants as fault
-use Rattle.design_checks.specs.declared.rules.Rule.{Rule}
-use Rattle.design_checks.specs.declared.rules.Rule.TheVariants as rule
-
-abbrev pub refused_if : Bool → SignalFault → List SignalFault
-refused_if true f = f ∷ []
-refused_if false f = []
+use Rattle.design_checks.specs.declared.refused.RefusedUse.{RefusedUse}
+use Rattle.design_checks.specs.UsesRefused.{told_if}
 
 -- ---- names
 
@@ -56,11 +49,11 @@ abbrev pub is_registered_node : Entry → Bool
 is_registered_node x = is_registered_by x.words.registered x.kind
 
 -- one name, which has this number
-abbrev pub node_refused : ℕ → Entry → List SignalFault
-node_refused s x = refused_if (is_registered_node x) (fault.RegisteredNode x.place s)
+abbrev pub node_refused : ℕ → Entry → List RefusedUse
+node_refused s x = told_if (is_registered_node x) (record { place = x.place; name = s })
 
 -- all of them, at their declarations; the first name has this number
-abbrev pub registered_nodes : ℕ → List Entry → List SignalFault
+abbrev pub registered_nodes : ℕ → List Entry → List RefusedUse
 registered_nodes s [] = []
 registered_nodes s (x ∷ xs) = node_refused s x ++ registered_nodes (suc s) xs
 
@@ -92,17 +85,6 @@ is_any _ = false
 -- a control is assigned by `?=`
 abbrev pub is_control_by_any : Contribution → Bool
 is_control_by_any c = not (is_data c.target.extension) && is_any c.what
-
--- what a rule refuses of a contribution to a name, at its target
-abbrev pub rule_refused : Table → Rule → Entry → Contribution → List SignalFault
-rule_refused t rule.Kinds x c = refused_if (is_data c.target.extension && has_wrong_kind t x) (fault.WrongKind c.place c.target.signal)
-rule_refused t rule.Controls x c = refused_if (lacks_control t x c.target.extension) (fault.NoSuchControl c.place c.target.signal)
-rule_refused t rule.DontCares x c = refused_if (is_control_by_any c) (fault.DontCareControl c.place c.target.signal)
-
--- what it refuses of all contributions to names
-abbrev pub all_refused : Table → List Entry → Rule → List Contribution → List SignalFault
-all_refused t xs rule [] = []
-all_refused t xs rule (c ∷ cs) = rule_refused t rule (get_or xs c.target.signal no_name) c ++ all_refused t xs rule cs
 
 -- each contribution is to one of so many names
 abbrev pub AreToNames : (count : ℕ) → List Contribution → Type 0

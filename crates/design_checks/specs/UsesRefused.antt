@@ -1,12 +1,17 @@
--- The first use that is refused (this project's rule).
-use Rattle.std.specs.Prelude.{Option, List, map}
+-- The order of what is refused, and the first use that is (this project's rule).
+use Rattle.std.specs.Prelude.{Bool, true, false, Option, List, [], ◌∷◌, map}
 use Rattle.abel_tree.specs.FirstRefusal.{Ranks, first_refusal}
 use Rattle.design_checks.specs.LocatedUses.{PlacedUse}
 use Rattle.design_checks.specs.declared.refused.RefusedUse.{RefusedUse}
 
--- uses come by place; where several stand at one place, the first of the list comes
+-- refusals of one kind come by place; where several stand at one place, the first of the list comes
 abbrev pub use_order : Ranks RefusedUse
 use_order = record { place = λ r. r.place; rank = λ r. 0 }
+
+-- a place that is refused or not
+abbrev pub told_if : Bool → RefusedUse → List RefusedUse
+told_if true r = r ∷ []
+told_if false r = []
 
 -- a use as it is told
 abbrev pub told : PlacedUse → RefusedUse

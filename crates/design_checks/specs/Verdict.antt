@@ -15,26 +15,17 @@ use Rattle.set_expr.specs.declared.contributions.Contributions.{Contributions}
 use Rattle.set_expr.specs.Answer.{IsContextOf}
 use Rattle.set_expr.specs.Given.{given}
 use Rattle.design_checks.specs.declared.refused.RefusedUse.{RefusedUse}
-use Rattle.design_checks.specs.declared.kinds.UseFaults.{UseFaults}
-use Rattle.design_checks.specs.RefusedUses.{missing_uses, unread_uses}
-use Rattle.design_checks.specs.UsesRefused.{first_use, use_order}
-use Rattle.design_checks.specs.Written.{unwritten}
+use Rattle.design_checks.specs.SignalsRefused.{registered_nodes}
+use Rattle.design_checks.specs.UsesRefused.{use_order}
 use Rattle.design_checks.specs.declared.fault.DesignFault.{DesignFault}
 use Rattle.design_checks.specs.declared.fault.DesignFault.TheVariants as fault
-use Rattle.design_checks.specs.Refused.{wrong_kinds, stored_nodes, no_controls, any_controls, no_paths}
+use Rattle.design_checks.specs.Refused.{wrong_kinds, no_controls, any_controls, no_paths}
 
 -- the design of a module's names and sections, to which this is contributed
 pub record IsDesignFor (t : Table) (n : Names) (m : Module) (found : Contributions) (d : Design) : Type 0 where
   pub design : IsContextOf t n d.context
   pub sections : d.sections ≡ map view_section m.sections
   pub gives : given found ≡ given_formulas d
-
--- the design of these names of whose equations and uses these are refused first
-pub record AreFaultsOf (t : Table) (n : Names) (f : UseFaults) (d : Design) : Type 0 where
-  pub context : IsContextOf t n d.context
-  pub unwritten : f.unwritten ≡ first_refusal use_order (unwritten d)
-  pub missing : f.used.missing ≡ first_use (missing_uses d)
-  pub unread : f.used.unread ≡ first_use (unread_uses d)
 
 -- the first of a list of refusals is this one
 abbrev pub IsFirst : List RefusedUse → Place → ℕ → Type 0
@@ -43,57 +34,25 @@ IsFirst rs p s = first_refusal use_order rs ≡ Some (record { place = p; name =
 -- the first two of these, the next two, and the last three
 pub record KindsPass (t : Table) (xs : List Entry) (cs : List Contribution) : Type 0 where
   pub kinds : wrong_kinds t xs cs ≡ []
-  pub nodes : stored_nodes xs ≡ []
+  pub nodes : registered_nodes 0 xs ≡ []
 
 -- no control is refused: each signal has those that are assigned and read, and none is assigned by `?=`
 pub record ControlsPass (d : Design) (fs : List Formula) (cs : List Contribution) : Type 0 where
   pub controls : no_controls d fs cs ≡ []
-  pub any : any_controls d.context.device d.context.names cs ≡ []
+  pub any : any_controls d.context.names cs ≡ []
 
 -- nor is a use of what no column carries
 pub record UsesPass (d : Design) (fs : List Formula) (cs : List Contribution) : Type 0 where
   pub controls : ControlsPass d fs cs
   pub paths : no_paths d ≡ []
 
--- ---- one kind of refusal
-
--- WrongKind of the first signal on a cell that can't be what it is
-abbrev pub IsCellRefused : Table → List Entry → List Contribution → DesignFault → Type 0
-IsCellRefused t xs cs (fault.WrongKind p s) = IsFirst (wrong_kinds t xs cs) p s
-IsCellRefused t xs cs _ = ⊥
-
--- RegisteredNode of the first node that is a register
-abbrev pub IsNodeRefused : List Entry → DesignFault → Type 0
-IsNodeRefused xs (fault.RegisteredNode p s) = IsFirst (stored_nodes xs) p s
-IsNodeRefused xs fault.OutOfMemory = Unit {0}
-IsNodeRefused xs _ = ⊥
-
--- NoSuchControl of the first extension that a signal does not have
-abbrev pub IsControlRefused : Design → List Formula → List Contribution → DesignFault → Type 0
-IsControlRefused d fs cs (fault.NoSuchControl p s) = IsFirst (no_controls d fs cs) p s
-IsControlRefused d fs cs fault.OutOfMemory = Unit {0}
-IsControlRefused d fs cs _ = ⊥
-
--- DontCareControl of the first control that is assigned by `?=`
-abbrev pub IsAnyRefused : Table → List Entry → List Contribution → DesignFault → Type 0
-IsAnyRefused t xs cs (fault.DontCareControl p s) = IsFirst (any_controls t xs cs) p s
-IsAnyRefused t xs cs _ = ⊥
-
--- NoReadPath of the first use of what no column carries
-abbrev pub IsPathRefused : Design → DesignFault → Type 0
-IsPathRefused d (fault.NoReadPath p s) = IsFirst (no_paths d) p s
-IsPathRefused d fault.OutOfMemory = Unit {0}
-IsPathRefused d _ = ⊥
-
--- ---- all kinds
-
 -- what is refused of signals: kinds of refusals come in this order, and those of one kind by place
 abbrev pub IsSignalRefused : Design → List Formula → List Contribution → DesignFault → Type 0
 IsSignalRefused d fs cs (fault.WrongKind p s) = IsFirst (wrong_kinds d.context.device d.context.names cs) p s
-IsSignalRefused d fs cs (fault.RegisteredNode p s) = (wrong_kinds d.context.device d.context.names cs ≡ []) × IsFirst (stored_nodes d.context.names) p s
+IsSignalRefused d fs cs (fault.RegisteredNode p s) = (wrong_kinds d.context.device d.context.names cs ≡ []) × IsFirst (registered_nodes 0 d.context.names) p s
 IsSignalRefused d fs cs (fault.NoSuchControl p s) = KindsPass d.context.device d.context.names cs × IsFirst (no_controls d fs cs) p s
 IsSignalRefused d fs cs (fault.DontCareControl p s) =
-    KindsPass d.context.device d.context.names cs × (no_controls d fs cs ≡ []) × IsFirst (any_controls d.context.device d.context.names cs) p s
+    KindsPass d.context.device d.context.names cs × (no_controls d fs cs ≡ []) × IsFirst (any_controls d.context.names cs) p s
 IsSignalRefused d fs cs (fault.NoReadPath p s) = KindsPass d.context.device d.context.names cs × ControlsPass d fs cs × IsFirst (no_paths d) p s
 IsSignalRefused d fs cs fault.OutOfMemory = Unit {0}
 IsSignalRefused d fs cs _ = ⊥

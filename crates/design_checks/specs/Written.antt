@@ -13,7 +13,8 @@ use Rattle.abel_meaning.specs.Terms.{Term, Terms, Number, X, Pulse, Release, Rea
 use Rattle.section_targets.specs.declared.aim.Aim.{Aim}
 use Rattle.section_targets.specs.TargetSignals.{left_side}
 use Rattle.design_checks.specs.declared.refused.RefusedUse.{RefusedUse}
-use Rattle.design_checks.specs.Compared.{is_compared_of, told_if}
+use Rattle.design_checks.specs.Compared.{is_compared_of}
+use Rattle.design_checks.specs.UsesRefused.{told_if}
 
 -- ---- values
 

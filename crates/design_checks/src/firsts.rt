@@ -3,7 +3,8 @@
 ghost use Rattle.std.specs.Prelude.{◌≡◌};
 ghost use Rattle.design_checks.specs.Firsts.{first_of, no_signals, no_uses, signals_both, use_at, uses_at, uses_both};
 
-use crate::refused::{RefusedUse, earlier};
+use crate::refused::RefusedUse;
+use abel_tree::earlier;
 use pld_base::Place;
 
 /// Signals by their numbers: the first that doesn't have the extension that it is read with, and the first that has it

@@ -1,6 +1,6 @@
 //! What is kept of names, learnt from their declarations.
 
-ghost use Rattle.std.specs.Prelude.{◌≡◌, ◌+◌, true, IfOk, map};
+ghost use Rattle.std.specs.Prelude.{◌≡◌, IfOk, map};
 ghost use Rattle.std.specs.List.{flat_map};
 ghost use Rattle.abel_tree.specs.Entries.{view_declared, view_meaning};
 ghost use Rattle.abel_tree.specs.View.{view};
@@ -8,31 +8,21 @@ ghost use Rattle.abel_meaning.specs.Designs.{Context, name_at};
 ghost use Rattle.abel_meaning.specs.Terms.{term_meant, term_of};
 ghost use Rattle.name_uses.specs.Viewed.{view_use};
 ghost use Rattle.set_expr.specs.Contexts.{context_for};
-ghost use Rattle.design_checks.specs.Firsts.{no_signals};
-ghost use Rattle.design_checks.specs.Learnt.{Knows, controls_by, first_signals, is_by_pin_of, kept_by, number_if, reads_by, signals_if, uses_of};
+ghost use Rattle.design_checks.specs.Learnt.{AreUsesOf, Knows, controls_by, first_signals, is_by_pin_of, kept_by, number_if, reads_by, signals_if, uses_of};
 ghost use Rattle.design_checks.specs.PartUses.{reads_used};
 
 use crate::by_pin::is_enabled_by_pin;
 use crate::firsts::FirstSignals;
-use crate::names::{ControlUses, KeptUses, NameUses, ReadUses};
+use crate::names::{ControlUses, KeptUses, NameUses, ReadUses, next_number, no_uses};
 use crate::reads::first_in;
-use crate::rule::{is_missing, is_unread};
+use crate::rule::{has_extension, has_read_path};
 use crate::targets::is_target_by_pin;
-use abel_tree::{Declared, Expr, Extension, Meaning, Names};
+use abel_tree::{Declared, Expr, Extension, Meaning};
 use name_uses::{NameUse, names_used};
 use pld_base::OutOfMemory;
 use pld_device::Device;
+use set_expr::Scope;
 use std::alloc::Global;
-
-/// The next number of a name; so many names that there is none are more than memory holds.
-fn next(number: u32) -> Result<u32, OutOfMemory>
-    ensures { IfOk result (λ n. n ≡ number + 1) }
-{
-    match number.checked_add(1) {
-        Some(next) => Ok(next),
-        None => Err(OutOfMemory),
-    }
-}
 
 /// The number of a signal, where its use is refused.
 fn number_if(refused: bool, number: u32) -> Option<u32>
@@ -49,10 +39,10 @@ fn signals_if<D: Device>(
 ) -> FirstSignals
     ensures { result ≡ signals_if D.table (view_declared declared.now) number extension }
 {
-    let missing = is_missing::<D>(declared, extension);
-    let unread = is_unread::<D>(declared, extension);
+    let has = has_extension::<D>(declared, extension);
+    let unread = has && !has_read_path::<D>(declared, extension);
     FirstSignals {
-        missing: number_if(missing, number),
+        missing: number_if(!has, number),
         unread: number_if(unread, number),
     }
 }
@@ -83,7 +73,7 @@ fn signal_uses<D: Device>(declared: &Declared, number: u32) -> NameUses
 /// How an expression with these names can't be read.
 fn constant_reads(
     alloc: Global,
-    names: &KeptUses,
+    names: &KeptUses<'_, '_>,
     uses: &[NameUse<'_>],
 ) -> Result<ReadUses, OutOfMemory>
     ensures { IfOk result (λ r. (d : Context) → Knows d names.now → r ≡ reads_by
@@ -99,7 +89,7 @@ fn constant_reads(
 /// Which controls of an expression with these names can't be read.
 fn constant_controls(
     alloc: Global,
-    names: &KeptUses,
+    names: &KeptUses<'_, '_>,
     uses: &[NameUse<'_>],
 ) -> Result<ControlUses, OutOfMemory>
     ensures { IfOk result (λ r. (d : Context) → Knows d names.now → r ≡ controls_by
@@ -114,7 +104,11 @@ fn constant_controls(
 }
 
 /// What is kept of a constant.
-fn constant_uses(alloc: Global, names: &KeptUses, expr: &Expr) -> Result<NameUses, OutOfMemory>
+fn constant_uses(
+    alloc: Global,
+    names: &KeptUses<'_, '_>,
+    expr: &Expr,
+) -> Result<NameUses, OutOfMemory>
     ensures { IfOk result (λ n. (d : Context) → Knows d names.now
         → n ≡ uses_of d (term_of d.known (view expr.now))) }
 {
@@ -130,33 +124,10 @@ fn constant_uses(alloc: Global, names: &KeptUses, expr: &Expr) -> Result<NameUse
     })
 }
 
-/// What is kept of a name that stands for no signal.
-fn no_uses() -> NameUses
-    ensures { result ≡ kept_by (λ e. no_signals) true }
-{
-    let none = FirstSignals::none();
-    NameUses {
-        read: ReadUses {
-            bare: none,
-            q: none,
-            fb: none,
-            pin: none,
-        },
-        control: ControlUses {
-            clk: none,
-            oe: none,
-            ar: none,
-            sp: none,
-            d: none,
-        },
-        by_pin: true,
-    }
-}
-
 /// What is kept of the name with this number, by what is kept of the names before it.
 fn learn<D: Device>(
     alloc: Global,
-    names: &KeptUses,
+    names: &KeptUses<'_, '_>,
     declared: &Declared,
     number: u32,
 ) -> Result<NameUses, OutOfMemory>
@@ -174,15 +145,22 @@ fn learn<D: Device>(
 
 /// What is kept of all names, once for all expressions of a source. Each constant is gone through once, however often it
 /// is named.
-pub(crate) fn learn_names<D: Device>(alloc: Global, names: &Names) -> Result<KeptUses, OutOfMemory>
-    ensures { IfOk result (λ kept. Knows (context_for D.table names.now) kept) }
+pub(crate) fn learn_names<D: Device>(
+    alloc: Global,
+    scope: &Scope<'_>,
+) -> Result<Vec<NameUses>, OutOfMemory>
+    ensures { IfOk result (λ list. AreUsesOf (context_for D.table scope.now) scope.now list.items) }
 {
-    let mut kept = KeptUses::new(alloc);
+    let mut list = Vec::new(alloc);
     let mut number = 0u32;
-    for declared in names.list.as_slice() {
-        let uses = learn::<D>(alloc, &kept, declared, number)?;
-        kept.keep(alloc, declared.name.bytes(), uses)?;
-        number = next(number)?;
+    for declared in scope.list() {
+        let names = KeptUses {
+            scope: &*scope,
+            list: list.as_slice(),
+        };
+        let uses = learn::<D>(alloc, &names, declared, number)?;
+        list.push(uses)?;
+        number = next_number(number)?;
     }
-    Ok(kept)
+    Ok(list)
 }

@@ -1,27 +1,17 @@
 //! What is declared of a name.
 
-ghost use Rattle.std.specs.Prelude.{◌≡◌};
-ghost use Rattle.abel_tree.specs.Entries.{has, view_declared};
-ghost use Rattle.abel_meaning.specs.Designs.{is_stored};
-ghost use Rattle.design_checks.specs.SignalsRefused.{has_wrong_kind, has_wrong_kind_on, is_registered_node, is_wrong_cell, is_wrong_kind};
+ghost use Rattle.std.specs.Prelude.{◌≡◌, IfOk};
+ghost use Rattle.abel_tree.specs.Entries.{entries_of, view_declared};
+ghost use Rattle.abel_tree.specs.FirstRefusal.{first_refusal};
+ghost use Rattle.design_checks.specs.SignalsRefused.{has_wrong_kind, has_wrong_kind_on, is_registered_node, is_wrong_cell, is_wrong_kind, registered_nodes};
+ghost use Rattle.design_checks.specs.UsesRefused.{use_order};
 
-use abel_tree::{Attributes, Declared, Meaning};
-use bitflags::Flags;
+use crate::names::next_number;
+use crate::refused::{RefusedUse, told_if};
+use abel_tree::{Declared, Meaning, earlier};
+use pld_base::OutOfMemory;
 use pld_device::{Cell, Device, Kinds};
-
-/// Whether the attributes say registered.
-fn has_reg(attributes: Attributes) -> bool
-    ensures { result ≡ has 2 attributes }
-{
-    attributes.contains(Attributes::REG)
-}
-
-/// Whether the signal is stored in a register.
-pub fn is_stored(declared: &Declared) -> bool
-    ensures { result ≡ is_stored (view_declared declared.now) }
-{
-    has_reg(declared.attributes) && declared.assigned
-}
+use set_expr::Scope;
 
 /// Whether a cell can't be what the signal is.
 fn is_wrong_kind(kinds: Kinds, stored: bool) -> bool
@@ -58,7 +48,7 @@ pub(crate) fn has_wrong_kind<D: Device>(declared: &Declared) -> bool
     ensures { result ≡ has_wrong_kind D.table (view_declared declared.now) }
 {
     match declared.meaning {
-        Meaning::Pin { pin, negated: _ } => { has_wrong_kind_on::<D>(pin, is_stored(declared)) }
+        Meaning::Pin { pin, negated: _ } => has_wrong_kind_on::<D>(pin, declared.is_stored()),
         _ => false,
     }
 }
@@ -68,7 +58,22 @@ pub fn is_registered_node(declared: &Declared) -> bool
     ensures { result ≡ is_registered_node (view_declared declared.now) }
 {
     match declared.meaning {
-        Meaning::Node(_) => has_reg(declared.attributes),
+        Meaning::Node(_) => declared.is_registered(),
         _ => false,
     }
+}
+
+/// The first declaration of a node that is registered: by its attribute, or by an assignment on the clock.
+pub fn registered_node(scope: &Scope<'_>) -> Result<Option<RefusedUse>, OutOfMemory>
+    ensures { IfOk result (λ f. f ≡ first_refusal use_order
+        (registered_nodes 0 (entries_of scope.now))) }
+{
+    let mut first = None;
+    let mut number = 0u32;
+    for declared in scope.list() {
+        let refused = is_registered_node(declared);
+        first = earlier(first, told_if(refused, declared.place, number));
+        number = next_number(number)?;
+    }
+    Ok(first)
 }

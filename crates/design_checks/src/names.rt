@@ -1,17 +1,16 @@
 //! What is kept of each name: its first refused uses, by the extension that it stands with.
 
-ghost use Rattle.std.specs.Prelude.{◌≡◌, ℕ, List, [], None, OnOk};
+ghost use Rattle.std.specs.Prelude.{◌≡◌, ◌+◌, true, IfOk, get_or};
 ghost use Rattle.abel_meaning.specs.Designs.{Context};
 ghost use Rattle.abel_meaning.specs.Targets.{targets_of};
 ghost use Rattle.abel_meaning.specs.Terms.{term_named};
-ghost use Rattle.design_checks.specs.Learnt.{Knows, are_by_pin, signals_of, under, uses_under, with_new};
+ghost use Rattle.design_checks.specs.Firsts.{no_signals};
+ghost use Rattle.design_checks.specs.Learnt.{Knows, are_by_pin, kept_by, signals_of, uses_of, uses_under};
 
 use crate::firsts::FirstSignals;
 use abel_tree::Extension;
-use indexmap::IndexMap;
 use pld_base::OutOfMemory;
-use std::alloc::Global;
-use std::marker::Model;
+use set_expr::Scope;
 
 /// The first signals whose use is refused where the name stands so.
 #[derive(Clone, Copy, PartialEq, Eq)]
@@ -59,85 +58,81 @@ impl NameUses {
     }
 }
 
-/// What is kept of all names. A look-up takes no longer where there are many.
-#[derive(Drop)]
-pub(crate) struct KeptUses {
-    names: IndexMap<Vec<u8>, NameUses>,
+/// The next number of a name; so many names that there is none are more than memory holds.
+pub(crate) fn next_number(number: u32) -> Result<u32, OutOfMemory>
+    ensures { IfOk result (λ n. n ≡ number + 1) }
+{
+    match number.checked_add(1) {
+        Some(next) => Ok(next),
+        None => Err(OutOfMemory),
+    }
 }
 
-impl Model for KeptUses {
-    ghost use Rattle.design_checks.specs.Learnt.{Kept, by_bytes};
-
-    ghost Value = { Kept };
-
-    ghost view = { λ k. by_bytes k.names.entries };
+/// What is kept of no signal.
+pub(crate) fn no_uses() -> NameUses
+    ensures { result ≡ kept_by (λ e. no_signals) true }
+{
+    let none = FirstSignals::none();
+    NameUses {
+        read: ReadUses {
+            bare: none,
+            q: none,
+            fb: none,
+            pin: none,
+        },
+        control: ControlUses {
+            clk: none,
+            oe: none,
+            ar: none,
+            sp: none,
+            d: none,
+        },
+        by_pin: true,
+    }
 }
 
-impl KeptUses {
-    /// No name.
-    pub(crate) fn new(alloc: Global) -> KeptUses
-        ensures { result ≡ [] }
+/// What is kept of the names of a source, or of the first of them, in the order of the names.
+#[derive(Clone, Copy)]
+pub(crate) struct KeptUses<'a, 'n> {
+    pub(crate) scope: &'a Scope<'n>,
+    pub(crate) list: &'a [NameUses],
+}
+
+impl<'a, 'n> KeptUses<'a, 'n> {
+    /// What is kept of the name with this number, where it is one of these.
+    fn at(&self, number: usize) -> NameUses
+        ensures { result ≡ get_or self.now.list.now number (kept_by (λ e. no_signals) true) }
     {
-        KeptUses {
-            names: IndexMap::new(alloc),
+        if number < self.list.len() {
+            self.list[number]
+        } else {
+            no_uses()
         }
     }
 
-    /// What is kept of a name. Takes no memory.
-    fn get(&self, name: &[u8]) -> Option<NameUses>
-        ensures { result ≡ under self.now name.now }
+    /// What is kept of the name with this text; what isn't one of these names stands for no signal.
+    fn get(&self, text: &[u8]) -> NameUses
+        ensures { (d : Context) → Knows d self.now → result ≡ uses_of d (term_named d.known text.now) }
     {
-        match self.names.get(name) {
-            Some(uses) => Some(*uses),
-            None => None,
+        match self.scope.get(text) {
+            None => no_uses(),
+            Some(name) => self.at(name.number as usize),
         }
     }
 
     /// The first signals that the name reads in vain with this extension.
-    pub(crate) fn signals(&self, name: &[u8], extension: Option<Extension>) -> FirstSignals
+    pub(crate) fn signals(&self, text: &[u8], extension: Option<Extension>) -> FirstSignals
         ensures { (d : Context) → Knows d self.now
-            → result ≡ signals_of d (term_named d.known name.now) extension }
+            → result ≡ signals_of d (term_named d.known text.now) extension }
     {
-        match self.get(name) {
-            Some(uses) => uses.under(extension),
-            None => FirstSignals::none(),
-        }
+        self.get(text).under(extension)
     }
 
     /// Whether a pin enables each signal that the name stands for as a target.
-    pub(crate) fn is_by_pin(&self, name: &[u8]) -> bool
+    pub(crate) fn is_by_pin(&self, text: &[u8]) -> bool
         ensures { (d : Context) → Knows d self.now
-            → result ≡ are_by_pin d (targets_of (term_named d.known name.now)) }
+            → result ≡ are_by_pin d (targets_of (term_named d.known text.now)) }
     {
-        match self.get(name) {
-            Some(uses) => uses.by_pin,
-            None => true,
-        }
-    }
-
-    /// Keeps a name that isn't there.
-    fn insert(&mut self, name: Vec<u8>, uses: NameUses) -> Result<(), OutOfMemory>
-        requires { under self.old name.items ≡ None }
-        ensures { OnOk result ((w : List ℕ) → under self.new w ≡ with_new name.items uses
-            (under self.old) w) }
-    {
-        self.names.insert(name, uses)?;
-        Ok(())
-    }
-
-    /// Keeps one name more; of a name that is there already the older stays.
-    pub(crate) fn keep(
-        &mut self,
-        alloc: Global,
-        name: &[u8],
-        uses: NameUses,
-    ) -> Result<(), OutOfMemory>
-        ensures { OnOk result ((w : List ℕ) → under self.new w ≡ with_new name.now uses
-            (under self.old) w) }
-    {
-        match self.get(name) {
-            Some(_) => Ok(()),
-            None => self.insert(Vec::from_slice(alloc, name)?, uses),
-        }
+        self.get(text).by_pin
     }
 }

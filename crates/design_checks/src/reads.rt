@@ -6,7 +6,6 @@ ghost use Rattle.abel_meaning.specs.Designs.{Context};
 ghost use Rattle.name_uses.specs.RangeParts.{name_items};
 ghost use Rattle.name_uses.specs.Viewed.{view_use};
 ghost use Rattle.design_checks.specs.Learnt.{Knows, first_signals};
-ghost use Rattle.design_checks.specs.LocatedUses.{own_or_outer};
 ghost use Rattle.design_checks.specs.PartUses.{names_read, reads_used};
 
 use crate::firsts::FirstSignals;
@@ -16,18 +15,12 @@ use name_uses::{NameUse, range_list};
 use pld_base::OutOfMemory;
 use std::alloc::Global;
 
-/// An extension of its own, or that of the set round it.
-fn own_or_outer(own: Option<Extension>, outer: Option<Extension>) -> Option<Extension>
-    ensures { result ≡ own_or_outer own outer }
-{
-    match own {
-        Some(extension) => Some(extension),
-        None => outer,
-    }
-}
-
 /// The first signals that these names read in vain with this extension.
-fn signals_named(names: &KeptUses, list: &[Vec<u8>], extension: Option<Extension>) -> FirstSignals
+fn signals_named(
+    names: &KeptUses<'_, '_>,
+    list: &[Vec<u8>],
+    extension: Option<Extension>,
+) -> FirstSignals
     ensures { (d : Context) → Knows d names.now
         → result ≡ first_signals d (names_read d.known extension (map name_items list.now)) }
 {
@@ -41,14 +34,14 @@ fn signals_named(names: &KeptUses, list: &[Vec<u8>], extension: Option<Extension
 /// The first signals that are read in vain where an expression uses names, in a set with this extension.
 pub(crate) fn signals_used(
     alloc: Global,
-    names: &KeptUses,
+    names: &KeptUses<'_, '_>,
     used: &NameUse<'_>,
     outer: Option<Extension>,
 ) -> Result<FirstSignals, OutOfMemory>
     ensures { IfOk result (λ s. (d : Context) → Knows d names.now
         → s ≡ first_signals d (reads_used d.known outer (view_use used.now))) }
 {
-    let extension = own_or_outer(used.extension, outer);
+    let extension = Extension::innermost(used.extension, outer);
     let first = used.first.text.bytes();
     match used.last {
         None => Ok(names.signals(first, extension)),
@@ -62,7 +55,7 @@ pub(crate) fn signals_used(
 /// The first signals that an expression with these names reads in vain, where it stands with this extension.
 pub(crate) fn first_in(
     alloc: Global,
-    names: &KeptUses,
+    names: &KeptUses<'_, '_>,
     uses: &[NameUse<'_>],
     extension: Option<Extension>,
 ) -> Result<FirstSignals, OutOfMemory>

@@ -1,47 +1,41 @@
-//! A use that is refused.
+//! A place of a design that is refused.
 
 ghost use Rattle.std.specs.Prelude.{◌≡◌};
-ghost use Rattle.abel_tree.specs.FirstRefusal.{is_before};
-ghost use Rattle.abel_tree.specs.FirstRefusal as refusal;
-ghost use Rattle.design_checks.specs.UsesRefused.{use_order};
+ghost use Rattle.abel_tree.specs.FirstRefusal.{first_refusal};
+ghost use Rattle.design_checks.specs.UsesRefused.{told_if, use_order};
 
+use abel_tree::Ranked;
 use pld_base::Place;
 
-/// A use that is refused: its place in the expanded text, and the number of the name that is told, from 0 in the
-/// order of declaration.
+/// What is refused: its place in the expanded text, and the number of the name that is told, from 0 in the order of
+/// declaration. Of what rule it is, says the call that answers it.
 #[derive(Clone, Copy, PartialEq, Eq)]
 pub struct RefusedUse {
     pub place: Place,
     pub name: u32,
 }
 
-impl RefusedUse {
-    /// Whether it comes before another: by line, and by column.
-    #[tactic(auto, using(crate::proofs::UsesInOrder::before_by))]
-    fn is_before(&self, other: &RefusedUse) -> bool
-        ensures { result ≡ is_before use_order self.now other.now }
-    {
-        if self.place.line != other.place.line {
-            self.place.line < other.place.line
-        } else {
-            self.place.column < other.place.column
-        }
+impl Ranked for RefusedUse {
+    ghost use Rattle.design_checks.specs.UsesRefused.{use_order};
+
+    ghost ranks = { use_order };
+
+    fn place(&self) -> Place {
+        self.place
+    }
+
+    fn rank(&self) -> u8 {
+        0
     }
 }
 
-/// The first of two that may be none.
-pub fn earlier(left: Option<RefusedUse>, right: Option<RefusedUse>) -> Option<RefusedUse>
-    ensures { result ≡ refusal.earlier use_order left right }
+/// A place, where it is refused.
+pub(crate) fn told_if(refused: bool, place: Place, name: u32) -> Option<RefusedUse>
+    ensures { result ≡ first_refusal use_order (told_if refused (record { place = place; name = name })) }
 {
-    match (left, right) {
-        (Some(here), Some(there)) => {
-            if there.is_before(&here) {
-                Some(there)
-            } else {
-                Some(here)
-            }
-        }
-        (Some(here), None) => Some(here),
-        (None, right) => right,
+    if refused {
+        Some(RefusedUse { place, name })
+    } else {
+        None
     }
 }

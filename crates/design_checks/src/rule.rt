@@ -1,15 +1,16 @@
 //! For which uses a design is refused.
 
-ghost use Rattle.std.specs.Prelude.{◌≡◌};
-ghost use Rattle.abel_tree.specs.Entries.{view_declared, view_meaning};
-ghost use Rattle.abel_meaning.specs.Designs.{cell_on};
-ghost use Rattle.design_checks.specs.RefusedUses.{carries_level, carries_q, has_by, has_extension, has_read_path, has_read_path_on, pin_has, reads_pin, reads_register, register_has};
-ghost use Rattle.design_checks.specs.Learnt.{is_missing_of, is_unread_of};
+ghost use Rattle.std.specs.Prelude.{◌≡◌, ◌==◌, ◌&&◌};
+ghost use Rattle.std.specs.List.{list_any};
+ghost use Rattle.pld_device.specs.declared.cell.Cell.{Cell};
+ghost use Rattle.abel_meaning.specs.Controls.{must_register};
+ghost use Rattle.abel_tree.specs.Entries.{view_declared};
+ghost use Rattle.pld_device.specs.Pins.{cell_on};
+ghost use Rattle.design_checks.specs.RefusedUses.{carries_level, carries_q, has_extension, has_read_path, has_read_path_on, pin_has, reads_pin, reads_register, register_has};
 
-use crate::columns::{cell_on, has_register_on, is_cell_carried, is_pin_carried};
-use crate::name_facts::is_stored;
+use crate::name_facts::has_wrong_kind_on;
 use abel_tree::{Declared, Extension, Meaning};
-use pld_device::Device;
+use pld_device::{Device, cell_on, pair_of_cell, pair_of_pin};
 
 /// Whether a combinational signal on a pin has what the extension names.
 fn pin_has(extension: Option<Extension>) -> bool
@@ -29,35 +30,34 @@ fn register_has<D: Device>(extension: Option<Extension>) -> bool
     }
 }
 
-/// Whether a signal that is stored or not has what the extension names.
-fn has_by<D: Device>(stored: bool, meaning: &Meaning, extension: Option<Extension>) -> bool
-    ensures { result ≡ has_by D.table stored (view_meaning meaning.now) extension }
+/// Whether the signal has what the extension names.
+pub(crate) fn has_extension<D: Device>(declared: &Declared, extension: Option<Extension>) -> bool
+    ensures { result ≡ has_extension D.table (view_declared declared.now) extension }
 {
-    match meaning {
-        Meaning::Pin { pin: _, negated: _ } => {
-            if stored {
-                register_has::<D>(extension)
-            } else {
-                pin_has(extension)
-            }
-        }
+    match declared.meaning {
+        Meaning::Pin { pin: _, negated: _ } => if declared.is_stored() {
+            register_has::<D>(extension)
+        } else {
+            pin_has(extension)
+        },
         Meaning::Node(_) => extension.is_none(),
         _ => true,
     }
 }
 
-/// Whether the signal has what the extension names.
-fn has_extension<D: Device>(declared: &Declared, extension: Option<Extension>) -> bool
-    ensures { result ≡ has_extension D.table (view_declared declared.now) extension }
+/// Whether the cell on the pin must be a register: a combinational signal can't be on it.
+fn has_register_on<D: Device>(pin: u8) -> bool
+    ensures { result ≡ list_any (λ (c : Cell).
+        (c.pin == pin) && must_register c.kinds) D.table.cells }
 {
-    has_by::<D>(is_stored(declared), &declared.meaning, extension)
+    has_wrong_kind_on::<D>(pin, false)
 }
 
 /// Whether columns carry the level of the pin: not so where nothing is assigned to a register on it.
 fn carries_level<D: Device>(declared: &Declared, pin: u8) -> bool
     ensures { result ≡ carries_level D.table (view_declared declared.now) pin }
 {
-    is_pin_carried::<D>(pin) && (declared.assigned || !has_register_on::<D>(pin))
+    pair_of_pin::<D>(pin).is_some() && (declared.assigned || !has_register_on::<D>(pin))
 }
 
 /// Whether columns carry the Q of the cell on the pin.
@@ -65,7 +65,7 @@ fn carries_q<D: Device>(pin: u8) -> bool
     ensures { result ≡ carries_q D.table (cell_on D.table pin) }
 {
     match cell_on::<D>(pin) {
-        Some(cell) => is_cell_carried::<D>(cell),
+        Some(cell) => pair_of_cell::<D>(cell).is_some(),
         None => false,
     }
 }
@@ -101,7 +101,7 @@ pub fn has_read_path_on<D: Device>(
 ) -> bool
     ensures { result ≡ has_read_path_on D.table (view_declared declared.now) pin extension }
 {
-    if is_stored(declared) {
+    if declared.is_stored() {
         reads_register::<D>(pin, extension)
     } else {
         reads_pin::<D>(declared, pin, extension)
@@ -109,25 +109,11 @@ pub fn has_read_path_on<D: Device>(
 }
 
 /// Whether columns carry what the extension names of the signal.
-fn has_read_path<D: Device>(declared: &Declared, extension: Option<Extension>) -> bool
+pub(crate) fn has_read_path<D: Device>(declared: &Declared, extension: Option<Extension>) -> bool
     ensures { result ≡ has_read_path D.table (view_declared declared.now) extension }
 {
     match declared.meaning {
         Meaning::Pin { pin, negated: _ } => has_read_path_on::<D>(declared, pin, extension),
         _ => true,
     }
-}
-
-/// Whether the signal doesn't have what the extension names.
-pub(crate) fn is_missing<D: Device>(declared: &Declared, extension: Option<Extension>) -> bool
-    ensures { result ≡ is_missing_of D.table (view_declared declared.now) extension }
-{
-    !has_extension::<D>(declared, extension)
-}
-
-/// Whether it has it, and no column carries it.
-pub(crate) fn is_unread<D: Device>(declared: &Declared, extension: Option<Extension>) -> bool
-    ensures { result ≡ is_unread_of D.table (view_declared declared.now) extension }
-{
-    !is_missing::<D>(declared, extension) && !has_read_path::<D>(declared, extension)
 }

@@ -1,31 +1,36 @@
 //! For which targets a design is refused.
 
-ghost use Rattle.std.specs.Prelude.{◌≡◌};
-ghost use Rattle.abel_tree.specs.Entries.{view_declared};
+ghost use Rattle.std.specs.Prelude.{◌≡◌, ◌<◌, All, length};
+ghost use Rattle.bit_expr.specs.Arena.{arena};
+ghost use Rattle.abel_tree.specs.Entries.{entries_of, view_declared};
 ghost use Rattle.abel_tree.specs.FirstRefusal.{first_refusal};
-ghost use Rattle.abel_meaning.specs.Targets.{is_data};
-ghost use Rattle.design_checks.specs.Order.{signal_order};
-ghost use Rattle.design_checks.specs.SignalsRefused.{is_control_by_any, lacks_control, pin_lacks, rule_refused};
+ghost use Rattle.set_expr.specs.declared.contributions.Contribution as code;
+ghost use Rattle.design_checks.specs.SignalsRefused.{AreToNames, lacks_control, pin_lacks};
+ghost use Rattle.design_checks.specs.UsesRefused.{use_order};
+ghost use Rattle.design_checks.specs.Refused.{refuses, targets_refused};
 
-use crate::name_facts::{has_wrong_kind, is_stored};
-use crate::signal_fault::SignalFault;
-use abel_tree::{Declared, Extension, Meaning};
+use crate::compared::says_always;
+use crate::name_facts::has_wrong_kind;
+use crate::refused::{RefusedUse, told_if};
+use abel_tree::{Declared, Extension, Meaning, earlier};
+use bit_expr::Exprs;
 use pld_device::Device;
-use set_expr::{Contribution, Gives};
+use section_targets::SectionScope;
+use set_expr::{Contribution, Contributions, Gives};
 
 /// What is asked of each target.
 #[derive(Clone, Copy, PartialEq, Eq)]
 pub enum Rule {
+    /// Data go to a registered signal on a cell that can register, or to a combinational one on a cell that needn't.
     Kinds,
+    /// A control is one that its signal has.
     Controls,
+    /// An equation for a clock is the level of the device's clock, and one for the enable of a cell that a pin enables is
+    /// the complement of that pin's level; neither stands in a diagram. Parentheses, constants and pairs of complements
+    /// have no bit of their own; nor has what folds, which `other_spelling` refuses.
+    Levels,
+    /// No control is assigned by `?=`.
     DontCares,
-}
-
-/// Whether a target with this extension is data.
-fn is_data(extension: Option<Extension>) -> bool
-    ensures { result ≡ is_data extension }
-{
-    matches!(extension, None | Some(Extension::D))
 }
 
 /// Whether a pin's signal lacks what the extension names.
@@ -46,45 +51,45 @@ fn lacks_control<D: Device>(declared: &Declared, extension: Option<Extension>) -
     ensures { result ≡ lacks_control D.table (view_declared declared.now) extension }
 {
     match declared.meaning {
-        Meaning::Pin { pin: _, negated: _ } => pin_lacks::<D>(is_stored(declared), extension),
+        Meaning::Pin { pin: _, negated: _ } => pin_lacks::<D>(declared.is_stored(), extension),
         Meaning::Node(_) => extension.is_some(),
         _ => false,
     }
 }
 
-/// Whether a control is assigned by `?=`.
-fn is_control_by_any(given: &Contribution) -> bool
-    ensures { result ≡ is_control_by_any given.now }
+/// Whether a rule refuses one contribution to this name.
+fn refuses<D: Device>(rule: Rule, exprs: &Exprs, declared: &Declared, given: &Contribution) -> bool
+    requires { given.now.when.0 < length (arena exprs.now) }
+    ensures { result ≡ refuses D.table (arena exprs.now) rule
+        (view_declared declared.now) given.now }
 {
-    !is_data(given.target.extension) && matches!(given.what, Gives::Any)
+    let extension = given.target.extension;
+    match rule {
+        Rule::Kinds => Extension::is_data(extension) && has_wrong_kind::<D>(declared),
+        Rule::Controls => lacks_control::<D>(declared, extension),
+        Rule::Levels => !says_always::<D>(exprs, declared, given),
+        Rule::DontCares => !Extension::is_data(extension) && matches!(given.what, Gives::Any),
+    }
 }
 
-/// What a rule refuses of one contribution to this name.
-pub(crate) fn refused_by<D: Device>(
+/// The first target that a rule refuses of what the sections contribute. Takes no memory.
+pub fn first_refused<D: Device>(
     rule: Rule,
-    declared: &Declared,
-    given: &Contribution,
-) -> Option<SignalFault>
-    ensures { result ≡ first_refusal signal_order
-        (rule_refused D.table rule (view_declared declared.now) given.now) }
+    scope: &SectionScope<'_, D>,
+    found: &Contributions,
+) -> Option<RefusedUse>
+    requires names { AreToNames (length (entries_of scope.now)) found.now.list }
+    requires inside { All (λ (c : code.Contribution). c.when.0 < length
+        (arena found.now.exprs)) found.now.list }
+    ensures { result ≡ first_refusal use_order (targets_refused
+        (refuses D.table (arena found.now.exprs) rule) (entries_of scope.now) found.now.list) }
 {
-    let (place, name) = (given.place, given.target.signal);
-    match rule {
-        Rule::Kinds => {
-            if is_data(given.target.extension) && has_wrong_kind::<D>(declared) {
-                return Some(SignalFault::WrongKind(place, name));
-            }
-        }
-        Rule::Controls => {
-            if lacks_control::<D>(declared, given.target.extension) {
-                return Some(SignalFault::NoSuchControl(place, name));
-            }
-        }
-        Rule::DontCares => {
-            if is_control_by_any(given) {
-                return Some(SignalFault::DontCareControl(place, name));
-            }
-        }
+    let names = scope.scope().list();
+    let mut first = None;
+    for given in found.list.as_slice() {
+        let declared = &names[given.target.signal as usize];
+        let refused = refuses::<D>(rule, &found.exprs, declared, given);
+        first = earlier(first, told_if(refused, given.place, given.target.signal));
     }
-    None
+    first
 }

@@ -12,9 +12,9 @@ ghost use Rattle.design_checks.specs.Written.{section_refused, statement_refused
 
 use crate::front::Front;
 use crate::fronts::all_fronts;
-use crate::refused::{RefusedUse, earlier};
+use crate::refused::RefusedUse;
 use crate::written::refused_assign;
-use abel_tree::{Section, Stmt, When};
+use abel_tree::{Section, Stmt, When, earlier};
 use pld_base::OutOfMemory;
 use pld_device::Device;
 use section_targets::SectionScope;

@@ -53,7 +53,7 @@ fn compares(extension: Option<Extension>, by_pin: bool) -> bool
 /// Whether an assignment to this target only says what the device does anyway. An ordinary target isn't gone through.
 pub(crate) fn is_compared(
     alloc: Global,
-    names: &KeptUses,
+    names: &KeptUses<'_, '_>,
     target: &Expr,
 ) -> Result<bool, OutOfMemory>
     ensures { IfOk result (λ b. (d : Context) → Knows d names.now
@@ -75,7 +75,7 @@ fn both(one: bool, other: bool) -> bool
 }
 
 /// Whether a pin enables each signal of these names as targets.
-fn are_named_by_pin(names: &KeptUses, list: &[Vec<u8>]) -> bool
+fn are_named_by_pin(names: &KeptUses<'_, '_>, list: &[Vec<u8>]) -> bool
     ensures { (d : Context) → Knows d names.now
         → result ≡ are_by_pin d (all_targets (named_before d.known (map name_items list.now) NoTerm)) }
 {
@@ -89,7 +89,11 @@ fn are_named_by_pin(names: &KeptUses, list: &[Vec<u8>]) -> bool
 
 /// Whether a pin enables each signal of a member of a target.
 #[cycle(by_pin)]
-fn is_member_by_pin(alloc: Global, names: &KeptUses, member: &Member) -> Result<bool, OutOfMemory>
+fn is_member_by_pin(
+    alloc: Global,
+    names: &KeptUses<'_, '_>,
+    member: &Member,
+) -> Result<bool, OutOfMemory>
     ensures { IfOk result (λ b. (d : Context) → Knows d names.now
         → b ≡ are_by_pin d (all_targets (member_before d.known (view_member member.now) NoTerm))) }
 {
@@ -106,7 +110,7 @@ fn is_member_by_pin(alloc: Global, names: &KeptUses, member: &Member) -> Result<
 #[cycle(by_pin)]
 pub(crate) fn is_target_by_pin(
     alloc: Global,
-    names: &KeptUses,
+    names: &KeptUses<'_, '_>,
     target: &Expr,
 ) -> Result<bool, OutOfMemory>
     ensures { IfOk result (λ b. (d : Context) → Knows d names.now

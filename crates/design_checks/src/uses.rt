@@ -17,16 +17,16 @@ use crate::learning::learn_names;
 use crate::names::KeptUses;
 use crate::reads::signals_used;
 use crate::targets::is_compared;
-use abel_tree::Names;
 use name_uses::{ModuleParts, NameUse, Part, Role, SectionParts};
 use pld_base::OutOfMemory;
 use pld_device::Device;
+use section_targets::SectionScope;
 use std::alloc::Global;
 
 /// The first refused uses of an expression with these names.
 fn first_of_uses(
     alloc: Global,
-    names: &KeptUses,
+    names: &KeptUses<'_, '_>,
     uses: &[NameUse<'_>],
 ) -> Result<FirstUses, OutOfMemory>
     ensures { IfOk result (λ f. (d : Context) → Knows d names.now
@@ -42,7 +42,7 @@ fn first_of_uses(
 
 /// Whether what stands in a section in this role reads signals: a value that isn't compared, what is read, and the
 /// registers of a diagram.
-fn is_read(alloc: Global, names: &KeptUses, role: Role<'_>) -> Result<bool, OutOfMemory>
+fn is_read(alloc: Global, names: &KeptUses<'_, '_>, role: Role<'_>) -> Result<bool, OutOfMemory>
     ensures { IfOk result (λ b. (d : Context) → Knows d names.now
         → b ≡ is_read d (view_role role.entry)) }
 {
@@ -60,7 +60,11 @@ fn is_read(alloc: Global, names: &KeptUses, role: Role<'_>) -> Result<bool, OutO
 }
 
 /// The first refused uses of a part.
-fn first_of_part(alloc: Global, names: &KeptUses, part: &Part<'_>) -> Result<FirstUses, OutOfMemory>
+fn first_of_part(
+    alloc: Global,
+    names: &KeptUses<'_, '_>,
+    part: &Part<'_>,
+) -> Result<FirstUses, OutOfMemory>
     ensures { IfOk result (λ f. (d : Context) → Knows d names.now
         → f ≡ firsts d (part_uses d (view_part part.now))) }
 {
@@ -74,7 +78,7 @@ fn first_of_part(alloc: Global, names: &KeptUses, part: &Part<'_>) -> Result<Fir
 /// Of the parts of a section.
 fn first_of_parts(
     alloc: Global,
-    names: &KeptUses,
+    names: &KeptUses<'_, '_>,
     parts: &[Part<'_>],
 ) -> Result<FirstUses, OutOfMemory>
     ensures { IfOk result (λ f. (d : Context) → Knows d names.now
@@ -90,7 +94,7 @@ fn first_of_parts(
 /// Of sections.
 fn first_of_sections(
     alloc: Global,
-    names: &KeptUses,
+    names: &KeptUses<'_, '_>,
     sections: &[SectionParts<'_>],
 ) -> Result<FirstUses, OutOfMemory>
     ensures { IfOk result (λ f. (d : Context) → Knows d names.now
@@ -108,16 +112,21 @@ fn first_of_sections(
 /// lacks. Unread is what no column of the device carries. None where there is none; the only refusal is want of memory.
 pub fn first_uses<D: Device>(
     alloc: Global,
-    names: &Names,
+    scope: &SectionScope<'_, D>,
     source: &ModuleParts<'_>,
 ) -> Result<FirstUses, OutOfMemory>
-    ensures missing { IfOk result (λ r. (d : Design) → IsContextOf D.table names.now d.context
+    ensures missing { IfOk result (λ r. (d : Design) → IsContextOf D.table scope.now d.context
         → d.sections ≡ map view_section source.now.sections
         → r.missing ≡ first_use (missing_uses d)) }
-    ensures unread { IfOk result (λ r. (d : Design) → IsContextOf D.table names.now d.context
+    ensures unread { IfOk result (λ r. (d : Design) → IsContextOf D.table scope.now d.context
         → d.sections ≡ map view_section source.now.sections
         → r.unread ≡ first_use (unread_uses d)) }
 {
-    let kept = learn_names::<D>(alloc, names)?;
-    first_of_sections(alloc, &kept, source.sections())
+    let known = scope.scope();
+    let learnt = learn_names::<D>(alloc, known)?;
+    let names = KeptUses {
+        scope: known,
+        list: learnt.as_slice(),
+    };
+    first_of_sections(alloc, &names, source.sections())
 }

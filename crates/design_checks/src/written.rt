@@ -15,9 +15,9 @@ ghost use Rattle.design_checks.specs.Written.{Written, aim_refused, aims_refused
 use crate::by_pin::is_compared;
 use crate::front::Front;
 use crate::fronts::front_expr;
-use crate::refused::{RefusedUse, earlier};
+use crate::refused::{RefusedUse, told_if};
 use crate::targets::{may_be_compared, target_extension};
-use abel_tree::{Assign, Expr, Extension};
+use abel_tree::{Assign, Expr, Extension, earlier};
 use pld_base::OutOfMemory;
 use pld_device::Device;
 use section_targets::{Aim, SectionScope};
@@ -45,14 +45,8 @@ fn refused_aim<D: Device>(
 ) -> Option<RefusedUse>
     ensures { result ≡ first_refusal use_order (aim_refused (context_for D.table scope.now) extension written aim) }
 {
-    if !written && is_compared_at::<D>(scope, extension, aim.signal) {
-        Some(RefusedUse {
-            place: aim.place,
-            name: aim.signal,
-        })
-    } else {
-        None
-    }
+    let refused = !written && is_compared_at::<D>(scope, extension, aim.signal);
+    told_if(refused, aim.place, aim.signal)
 }
 
 /// The first refusal of the signals of a target.
@@ -109,11 +103,11 @@ pub(crate) fn refused_assign<D: Device>(
         return Ok(None);
     }
     let side = scope.target(alloc, assign.place, &assign.target)?;
-    if side.width > 32 {
+    let aims = side.aims.as_slice();
+    if aims.len() > 32 {
         return Ok(None);
     }
     let names = scope.scope();
     let front = front_if(alloc, names, fronts, guarded, &assign.value)?;
-    let aims = side.aims.as_slice();
     Ok(refused_aims::<D>(names, extension, front, aims))
 }

@@ -1,47 +1,48 @@
 -- One name more, and all names.
-use Rattle.std.proofs.Common.{◌≡◌, ◌+◌, ◌∷◌, [], ◌++◌, map, take, length, get_or, refl, sym, ap, subst, ◌∙◌, arith, length-append}
-use Rattle.std.proofs.lemmas.List.{length-map, length-take-le}
+use Rattle.std.proofs.Common.{◌≡◌, ◌+◌, ◌∷◌, [], ◌++◌, map, take, drop, length, get_or, refl, sym, ap, ap₂, subst, ◌∙◌, arith, length-append}
+use Rattle.std.proofs.lemmas.List.{length-map, length-take-le, map-append, take-append-drop}
 use Rattle.abel_tree.specs.Entries.{entries_of, view_declared}
 use Rattle.abel_meaning.specs.Designs.{name_at, no_name}
 use Rattle.abel_meaning.specs.Terms.{known_of, term_meant}
 use Rattle.set_expr.specs.Contexts.{context_for}
 use Rattle.set_expr.proofs.FoundMembers.{front_more, whole_front}
-use Rattle.design_checks.specs.Learnt.{Knows, learning, under, uses_of, with_new}
-use Rattle.design_checks.proofs.LearntName.{knows_more, name_here}
+use Rattle.design_checks.specs.Learnt.{learning, uses_of}
+use Rattle.design_checks.specs.NameValues.{AreOfNames, values_of}
+use Rattle.design_checks.specs.declared.names.NameUses.{NameUses}
+use Rattle.design_checks.proofs.LearntName.{name_here}
+use Rattle.design_checks.proofs.PlacedNames.{all_names, first_names, values_more}
 use Rattle.design_checks.proofs.learning.learn_names.Goals as goal
-
-pub loop-declared-init : goal.loop-declared-init
-loop-declared-init g c = record {
-  knows = λ w. ap (λ kept. under kept w) c.new-kept.ensures;
-  number = refl;
-}
 
 pub loop-declared-preserved : goal.loop-declared-preserved
 loop-declared-preserved g c =
-    let d = context_for g.D.Device.table c.args.names.now in
-    let ds = c.as_slice-declared-items.result.now in
-    let i = c.loop-declared.declared-index in
+    let d = context_for g.D.Device.table c.args.scope.now in
+    let ds = c.list-declared-items.result.now in
+    let l = c.loop-declared in
+    let i = l.declared-index in
     let x = c.declared-item.result in
     let es = map view_declared (take i ds) in
     let here : map view_declared (take (i + 1) ds) ≡ es ++ view_declared x ∷ [] = front_more view_declared ds i x c.loop-declared-test.true c.declared-item.is in
     let size : length es ≡ i = length-map (take i ds) view_declared ∙ length-take-le i ds (omega (arith, c.loop-declared-test.true)) in
-    let all : map view_declared ds ≡ entries_of c.args.names.now = ap (map view_declared) c.as_slice-declared-items.ensures in
-    let named : name_at d c.loop-declared.number ≡ view_declared x =
-    ap (λ xs. get_or xs c.loop-declared.number no_name) (sym all)
-    ∙ ap (λ n. get_or (map view_declared ds) n no_name) (c.loop-declared.invariant.number ∙ size)
+    let all : map view_declared ds ≡ entries_of c.args.scope.now = ap (map view_declared) c.list-declared-items.ensures in
+    let named : name_at d l.number ≡ view_declared x =
+    ap (λ xs. get_or xs l.number no_name) (sym all)
+    ∙ ap (λ n. get_or (map view_declared ds) n no_name) (l.invariant.number ∙ size)
     ∙ name_here view_declared ds i x no_name c.loop-declared-test.true c.declared-item.is in
-    let kept = c.loop-declared.invariant.knows in
+    let split : es ++ map view_declared (drop i ds) ≡ entries_of c.args.scope.now = sym (map-append view_declared (take i ds) (drop i ds)) ∙ ap (map view_declared) (take-append-drop i ds) ∙ all in
+    let kept : AreOfNames NameUses (uses_of d) (entries_of c.args.scope.now) l.list.items (known_of es) = subst (λ xs. AreOfNames NameUses (uses_of d) xs l.list.items (known_of es)) split (first_names (uses_of d) es (map view_declared (drop i ds)) l.list.items l.invariant.list) in
+    let one = c.in_ok-uses.ensures (learning d es) refl named (subst (λ us. AreOfNames NameUses (uses_of d) (entries_of c.args.scope.now) us (known_of es)) (sym c.as_slice.ensures.value) kept) in
     record {
-      knows =
-          subst (λ xs. Knows (learning d xs) c.keep.new.self) (sym here)
-          (knows_more d es (view_declared x) c.loop-declared.kept c.keep.new.self c.in_ok-uses.uses kept
-          (c.in_ok-uses.ensures (learning d es) refl named kept ∙ ap (λ n. uses_of d (term_meant (known_of es) n (view_declared x).kind)) c.loop-declared.invariant.number)
-          (λ w. c.in_ok-keep.ensures w ∙ ap (λ t. with_new t c.in_ok-uses.uses (under c.loop-declared.kept) w) c.bytes.ensures));
-      number = omega (arith, c.in_ok-number.ensures, c.loop-declared.invariant.number, ap length here, length-append es (view_declared x ∷ []));
+      list =
+          c.in_ok-push.ensures.items
+          ∙ ap₂ (λ us u. us ++ u ∷ []) l.invariant.list (one ∙ ap (λ n. uses_of d (term_meant (known_of es) n (view_declared x).kind)) l.invariant.number)
+          ∙ sym (ap (λ xs. values_of (uses_of d) (known_of xs)) here ∙ values_more (uses_of d) es (view_declared x));
+      number = omega (arith, c.in_ok-number.ensures, l.invariant.number, ap length here, length-append es (view_declared x ∷ []));
     }
 
 pub returns : goal.returns
 returns g c =
-    let n = c.args.names.now in
-    let ds = c.as_slice-declared-items.result.now in
-    subst (λ xs. Knows (learning (context_for g.D.Device.table n) xs) c.loop-declared.kept) (whole_front view_declared ds c.loop-declared.declared-index c.loop-declared-test.false ∙ ap (map view_declared) c.as_slice-declared-items.ensures) c.loop-declared.invariant.knows
+    let d = context_for g.D.Device.table c.args.scope.now in
+    let ds = c.list-declared-items.result.now in
+    let l = c.loop-declared in
+    let all : map view_declared (take l.declared-index ds) ≡ entries_of c.args.scope.now = whole_front view_declared ds l.declared-index c.loop-declared-test.false ∙ ap (map view_declared) c.list-declared-items.ensures in
+    all_names (uses_of d) (entries_of c.args.scope.now) l.list.items (subst (λ xs. l.list.items ≡ values_of (uses_of d) (known_of xs)) all l.invariant.list)

@@ -1,13 +1,15 @@
 -- The names that were learnt.
 use Rattle.std.proofs.Common.{◌≡◌, map, take, length}
 use Rattle.abel_tree.specs.Entries.{view_declared}
+use Rattle.abel_meaning.specs.Terms.{known_of}
 use Rattle.set_expr.specs.Contexts.{context_for}
-use Rattle.design_checks.specs.Learnt.{Knows, learning}
+use Rattle.design_checks.specs.Learnt.{uses_of}
+use Rattle.design_checks.specs.NameValues.{values_of}
 use Rattle.design_checks.proofs.learning.learn_names.Given as goal
 
 abbrev pub invariant-loop-declared : goal.invariant-loop-declared
 invariant-loop-declared g l =
     record {
-      knows : Knows (learning (context_for g.D.Device.table l.names) (map view_declared (take l.declared-index l.declared-items))) l.kept;
+      list : l.list.items ≡ values_of (uses_of (context_for g.D.Device.table l.scope)) (known_of (map view_declared (take l.declared-index l.declared-items)));
       number : l.number ≡ length (map view_declared (take l.declared-index l.declared-items));
     }

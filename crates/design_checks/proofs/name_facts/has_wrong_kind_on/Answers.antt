@@ -4,7 +4,7 @@ use Rattle.std.proofs.Common.{drop, ◌+◌}
 use Rattle.std.proofs.lemmas.Option.{get_or_from_slice_get}
 use Rattle.pld_device.specs.Table.{no_cell}
 use Rattle.design_checks.specs.SignalsRefused.{is_wrong_cell}
-use Rattle.design_checks.proofs.Places.{any_here}
+use Rattle.pld_device.proofs.FirstPlaces.{any_here}
 use Rattle.design_checks.proofs.name_facts.has_wrong_kind_on.Goals as goal
 
 pub returns-then-is_wrong_cell : goal.returns-then-is_wrong_cell

@@ -1,34 +1,51 @@
-use Rattle.std.proofs.Common.{sym, ap, subst, subst₂, ◌∙◌}
-use Rattle.bit_expr.specs.Arena.{arena}
+-- One kind after another.
+use Rattle.std.proofs.Common.{◌≡◌, subst}
 use Rattle.abel_tree.specs.declared.names.Names.{Names}
 use Rattle.abel_tree.specs.Entries.{entries_of}
-use Rattle.design_checks.specs.Verdict.{KindsPass, IsSignalRefused}
-use Rattle.design_checks.proofs.Stages.{at_ok, at_err, ok_then, err_then}
+use Rattle.abel_tree.specs.FirstRefusal.{first_refusal}
+use Rattle.design_checks.specs.SignalsRefused.{registered_nodes}
+use Rattle.design_checks.specs.UsesRefused.{use_order}
+use Rattle.design_checks.proofs.Verdicts.{all_sound, any_refused, control_refused, here, is_here, node_refused, path_refused}
 use Rattle.design_checks.proofs.signals.check_signals.Goals as goal
 
-pub returns-in-Err-clause-err : goal.returns-in-Err-clause-err
-returns-in-Err-clause-err g c d of =
-    let fs = arena c.args.found.now.exprs in
-    subst (λ cs. IsSignalRefused d fs cs c.in-Err.fault) c.as_slice.ensures
-    (at_err c.check_kinds.result c.in-Err.fault _ c.in-Err.is c.check_kinds.ensures.err d fs of.design.device (of.design.names ∙ ap entries_of (sym (c.names.ensures ∙ c.scope.ensures))))
+pub returns-in-Some-2-clause-err : goal.returns-in-Some-2-clause-err
+returns-in-Some-2-clause-err g c d of =
+    let node = subst (λ (n : Names). c.in_ok-it.field-0 ≡ first_refusal use_order (registered_nodes 0 (entries_of n))) c.scope.ensures c.in_ok-it.ensures in
+    node_refused g.D.Device.table c.args.scope.now c.args.source.now c.args.found.now d of c.first_refused.result (c.first_refused.ensures, c.in_default.is)
+    c.in_ok-it.field-0 c.in-Some-2.it (node, c.in-Some-2.is)
 
-pub returns-in-Ok-clause-ok : goal.returns-in-Ok-clause-ok
-returns-in-Ok-clause-ok g c =
-    let t = g.D.Device.table in
-    let cs = c.args.found.now.list in
-    ok_then c.check_uses.result _ _
-    (λ _ uses d of. record {
-      kinds = subst (λ u. KindsPass u d.context.names cs) (sym of.design.device) (subst (λ ys. KindsPass t ys cs) (sym of.design.names) (subst₂ (λ (n : Names) es. KindsPass t (entries_of n) es) (c.names.ensures ∙ c.scope.ensures) c.as_slice.ensures (at_ok c.check_kinds.result _ _ c.in-Ok.is c.check_kinds.ensures.ok)));
-      uses = uses d of;
-    })
-    c.check_uses.ensures.ok
+pub returns-in-Some-3-clause-err : goal.returns-in-Some-3-clause-err
+returns-in-Some-3-clause-err g c d of =
+    let node = subst (λ (n : Names). c.in_ok-it.field-0 ≡ first_refusal use_order (registered_nodes 0 (entries_of n))) c.scope.ensures c.in_ok-it.ensures in
+    let it = here g.D.Device.table c.args.scope.now c.args.source.now c.args.found.now d of in
+    let names = is_here g.D.Device.table c.args.scope.now c.args.source.now c.args.found.now d of in
+    let control = c.in_ok-it-2.ensures it names of.sections (c.in_ok-used.ensures.missing it names of.sections) in
+    control_refused g.D.Device.table c.args.scope.now c.args.source.now c.args.found.now d of c.first_refused.result (c.first_refused.ensures, c.in_default.is) c.in_ok-it.field-0 (node, c.in_default-2.is)
+    c.in_ok-it-2.field-0 c.in-Some-3.it (control, c.in-Some-3.is)
 
-pub returns-in-Ok-clause-err : goal.returns-in-Ok-clause-err
-returns-in-Ok-clause-err g c =
-    let t = g.D.Device.table in
-    let cs = c.args.found.now.list in
-    err_then c.check_uses.result _ _
-    (λ f h d of.
-    h d of
-    (subst (λ u. KindsPass u d.context.names cs) (sym of.design.device) (subst (λ ys. KindsPass t ys cs) (sym of.design.names) (subst₂ (λ (n : Names) es. KindsPass t (entries_of n) es) (c.names.ensures ∙ c.scope.ensures) c.as_slice.ensures (at_ok c.check_kinds.result _ _ c.in-Ok.is c.check_kinds.ensures.ok)))))
-    c.check_uses.ensures.err
+pub returns-in-Some-first_refused-clause-err : goal.returns-in-Some-first_refused-clause-err
+returns-in-Some-first_refused-clause-err g c d of =
+    let node = subst (λ (n : Names). c.in_ok-it.field-0 ≡ first_refusal use_order (registered_nodes 0 (entries_of n))) c.scope.ensures c.in_ok-it.ensures in
+    let it = here g.D.Device.table c.args.scope.now c.args.source.now c.args.found.now d of in
+    let names = is_here g.D.Device.table c.args.scope.now c.args.source.now c.args.found.now d of in
+    let control = c.in_ok-it-2.ensures it names of.sections (c.in_ok-used.ensures.missing it names of.sections) in
+    any_refused g.D.Device.table c.args.scope.now c.args.source.now c.args.found.now d of c.first_refused.result (c.first_refused.ensures, c.in_default.is) c.in_ok-it.field-0 (node, c.in_default-2.is) c.in_ok-it-2.field-0 (control, c.in_default-3.is)
+    c.first_refused-2.result c.in-Some-first_refused.it (c.first_refused-2.ensures, c.in-Some-first_refused.is)
+
+pub returns-in-Some-unread-clause-err : goal.returns-in-Some-unread-clause-err
+returns-in-Some-unread-clause-err g c d of =
+    let node = subst (λ (n : Names). c.in_ok-it.field-0 ≡ first_refusal use_order (registered_nodes 0 (entries_of n))) c.scope.ensures c.in_ok-it.ensures in
+    let it = here g.D.Device.table c.args.scope.now c.args.source.now c.args.found.now d of in
+    let names = is_here g.D.Device.table c.args.scope.now c.args.source.now c.args.found.now d of in
+    let control = c.in_ok-it-2.ensures it names of.sections (c.in_ok-used.ensures.missing it names of.sections) in
+    path_refused g.D.Device.table c.args.scope.now c.args.source.now c.args.found.now d of c.first_refused.result (c.first_refused.ensures, c.in_default.is) c.in_ok-it.field-0 (node, c.in_default-2.is) c.in_ok-it-2.field-0 (control, c.in_default-3.is) c.first_refused-2.result (c.first_refused-2.ensures, c.in_default-first_refused.is)
+    c.in_ok-used.used.unread c.in-Some-unread.it (c.in_ok-used.ensures.unread it names of.sections, c.in-Some-unread.is)
+
+pub returns-in-None-clause-ok : goal.returns-in-None-clause-ok
+returns-in-None-clause-ok g c d of =
+    let node = subst (λ (n : Names). c.in_ok-it.field-0 ≡ first_refusal use_order (registered_nodes 0 (entries_of n))) c.scope.ensures c.in_ok-it.ensures in
+    let it = here g.D.Device.table c.args.scope.now c.args.source.now c.args.found.now d of in
+    let names = is_here g.D.Device.table c.args.scope.now c.args.source.now c.args.found.now d of in
+    let control = c.in_ok-it-2.ensures it names of.sections (c.in_ok-used.ensures.missing it names of.sections) in
+    all_sound g.D.Device.table c.args.scope.now c.args.source.now c.args.found.now d of c.first_refused.result (c.first_refused.ensures, c.in_default.is) c.in_ok-it.field-0 (node, c.in_default-2.is) c.in_ok-it-2.field-0 (control, c.in_default-3.is) c.first_refused-2.result (c.first_refused-2.ensures, c.in_default-first_refused.is)
+    c.in_ok-used.used.unread (c.in_ok-used.ensures.unread it names of.sections, c.in-None.is)

@@ -8,6 +8,7 @@ use Rattle.abel_tree.specs.View.{view}
 use Rattle.abel_meaning.specs.Terms.{known_of, term_of}
 use Rattle.set_expr.specs.Contexts.{context_for}
 use Rattle.section_targets.specs.TargetSignals.{left_side}
+use Rattle.section_targets.proofs.SignalLists.{side_all, side_length}
 use Rattle.design_checks.specs.Fronts.{AreAllFronts, counted, may_be_compared}
 use Rattle.design_checks.specs.UsesRefused.{use_order}
 use Rattle.design_checks.specs.Written.{aims_refused, narrow, written_if}
@@ -22,13 +23,13 @@ returns-then-not-may_be_compared g c l =
     let never = sym (ap may_be_compared c.target_extension-extension.ensures) ∙ sym c.may_be_compared.ensures ∙ c.if-not-may_be_compared.true in
     sym (ap (first_refusal use_order) (none_compared d (target_extension (view a.target)) w 0 (narrow (left_side d a.place (view a.target)).aims) never))
 
-pub returns-then-side-gt32 : goal.returns-then-side-gt32
-returns-then-side-gt32 g c l =
+pub returns-then-aims-gt32 : goal.returns-then-aims-gt32
+returns-then-aims-gt32 g c l =
     let d = context_for g.D.Device.table c.args.scope.now in
     let a = c.args.assign.now in
     let x = left_side d a.place (view a.target) in
     let s = c.in_ok-side.ensures g.D.Device.table in
-    let wide : 32 < length x.aims = omega (arith, c.if-side-gt32.true, s.width) in
+    let wide : 32 < length x.aims = omega (arith, c.if-aims-gt32.true, ap length c.as_slice-aims.ensures, side_length (length (entries_of c.args.scope.now)) c.in_ok-side.side x s) in
     sym (ap (λ xs. first_refusal use_order (aims_refused d (target_extension (view a.target)) (written_if c.args.guarded (term_of d.known (view a.value))) 0 xs)) (narrow_none x.aims wide))
 
 pub returns : goal.returns
@@ -38,8 +39,8 @@ returns g c l =
     let x = left_side d a.place (view a.target) in
     let w = written_if c.args.guarded (term_of d.known (view a.value)) in
     let s = c.in_ok-side.ensures g.D.Device.table in
-    let low : length x.aims ≤ 32 = omega (arith, c.if-side-gt32.false, s.width) in
-    let aims = c.as_slice-aims.ensures ∙ s.aims low in
+    let low : length x.aims ≤ 32 = omega (arith, c.if-aims-gt32.false, ap length c.as_slice-aims.ensures, side_length (length (entries_of c.args.scope.now)) c.in_ok-side.side x s) in
+    let aims = c.as_slice-aims.ensures ∙ side_all (length (entries_of c.args.scope.now)) c.in_ok-side.side x s low in
     let front = subst (λ (n : Names). AreAllFronts n c.args.fronts.now → c.in_ok-front.front ≡ counted (written_if c.args.guarded (term_of (known_of (entries_of n)) (view a.value)))) c.scope-names.ensures c.in_ok-front.ensures l in
     c.refused_aims.ensures w front (subst (λ xs. length xs ≤ 32) (sym aims) low)
     ∙ ap (λ (n : Names). first_refusal use_order (aims_refused (context_for g.D.Device.table n) c.target_extension-extension.result w 0 c.as_slice-aims.result.now)) c.scope-names.ensures

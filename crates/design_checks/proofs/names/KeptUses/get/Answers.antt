@@ -1,13 +1,19 @@
-use Rattle.std.proofs.Common.{sym, ap, ◌∙◌}
-use Rattle.std.specs.Option.{option_copied}
-use Rattle.design_checks.specs.Learnt.{Kept, under}
-use Rattle.design_checks.proofs.KeptNames.{looked_up}
+-- What isn't one of the names stands for no signal.
+use Rattle.std.proofs.Common.{◌≡◌, subst, ◌∙◌}
+use Rattle.abel_tree.specs.Entries.{entries_of}
+use Rattle.abel_meaning.specs.Terms.{term_named}
+use Rattle.design_checks.specs.Learnt.{uses_of}
+use Rattle.design_checks.proofs.PlacedNames.{placed, value_in}
 use Rattle.design_checks.proofs.names.KeptUses.get.Goals as goal
 
-pub returns-in-Some : goal.returns-in-Some
-returns-in-Some c =
-    sym (ap option_copied c.in-Some.is) ∙ (c.get.ensures.value ∙ looked_up c.self.inside.names.entries c.args.name.now ∙ ap (λ (t : Kept). under t c.args.name.now) c.self.view_is)
-
 pub returns-in-None : goal.returns-in-None
-returns-in-None c =
-    sym (ap option_copied c.in-None.is) ∙ (c.get.ensures.value ∙ looked_up c.self.inside.names.entries c.args.name.now ∙ ap (λ (t : Kept). under t c.args.name.now) c.self.view_is)
+returns-in-None c d knows =
+    c.no_uses.ensures
+    ∙ subst (λ o. value_in (uses_of d) c.args.self.now.list.now o ≡ uses_of d (term_named d.known c.args.text.now)) c.in-None.ensures.place
+    (placed (uses_of d) (entries_of c.args.self.now.scope.now) c.args.self.now.list.now d.known c.args.text.now knows)
+
+pub returns-in-Some : goal.returns-in-Some
+returns-in-Some c d knows =
+    c.at.ensures
+    ∙ subst (λ o. value_in (uses_of d) c.args.self.now.list.now o ≡ uses_of d (term_named d.known c.args.text.now)) c.in-Some.ensures.place
+    (placed (uses_of d) (entries_of c.args.self.now.scope.now) c.args.self.now.list.now d.known c.args.text.now knows)

@@ -1,11 +1,11 @@
-use Rattle.std.proofs.Common.{None, Some, sym, ◌∙◌}
-use Rattle.design_checks.proofs.LearntName.{kept_signals}
+use Rattle.std.proofs.Common.{ap, ◌∙◌}
+use Rattle.abel_meaning.specs.Targets.{targets_of}
+use Rattle.abel_meaning.specs.Terms.{term_named}
+use Rattle.design_checks.specs.Learnt.{are_by_pin, signals_of, uses_under}
+use Rattle.design_checks.proofs.LearntName.{under_is}
 use Rattle.design_checks.proofs.names.KeptUses.signals.Goals as goal
 
-pub returns-in-Some : goal.returns-in-Some
-returns-in-Some c d knows =
-    c.under.ensures ∙ kept_signals d (Some c.in-Some.uses) c.args.name.now c.args.extension (sym c.in-Some.is ∙ (c.get.ensures ∙ knows c.args.name.now))
-
-pub returns-in-None : goal.returns-in-None
-returns-in-None c d knows =
-    c.none.ensures ∙ kept_signals d None c.args.name.now c.args.extension (sym c.in-None.is ∙ (c.get.ensures ∙ knows c.args.name.now))
+pub returns : goal.returns
+returns c d knows =
+    let t = term_named d.known c.args.text.now in
+    c.under.ensures ∙ ap (λ n. uses_under n c.args.extension) (c.get.ensures d knows) ∙ under_is (signals_of d t) (are_by_pin d (targets_of t)) c.args.extension

@@ -1,0 +1,27 @@
+use Rattle.std.proofs.Common.{◌++◌, map, sym, ap, ap₂, ◌∙◌}
+use Rattle.bit_expr.specs.Arena.{arena}
+use Rattle.abel_tree.specs.declared.sections.Module.{Module}
+use Rattle.abel_tree.specs.Entries.{entries_of}
+use Rattle.abel_tree.specs.FirstRefusal.{earlier, first_refusal}
+use Rattle.abel_tree.specs.View.{view_section}
+use Rattle.abel_tree.proofs.FirstRefusals.{first_append}
+use Rattle.design_checks.specs.Refused.{lacking_controls, other_levels, target_controls}
+use Rattle.design_checks.specs.RefusedUses.{missing_uses}
+use Rattle.design_checks.specs.UsesRefused.{told, use_order}
+use Rattle.design_checks.specs.Written.{unwritten}
+use Rattle.design_checks.proofs.signals.no_control.Goals as goal
+
+pub returns : goal.returns
+returns g c d of same missing =
+    let t = g.D.Device.table in
+    let xs = entries_of c.args.scope.now in
+    let fs = arena c.args.found.now.exprs in
+    let cs = c.args.found.now.list in
+    let used = map told (missing_uses d) in
+    let here = same ∙ ap (map view_section) (sym (c.as_slice.ensures ∙ ap (λ (m : Module). m.sections) c.module.ensures)) in
+    c.earlier.ensures
+    ∙ ap₂ (earlier use_order)
+    (c.earlier-targets.ensures ∙ ap₂ (earlier use_order) c.first_refused-lacking.ensures c.first_refused-others.ensures ∙ sym (first_append use_order (lacking_controls t xs cs) (other_levels t fs xs cs)))
+    (c.earlier-sources.ensures ∙ ap₂ (earlier use_order) (c.in_ok-unwritten.ensures d of here) missing ∙ sym (first_append use_order (unwritten d) used))
+    ∙ sym (first_append use_order (target_controls t fs xs cs) (unwritten d ++ used))
+    ∙ ap (λ rs. first_refusal use_order (rs ++ (unwritten d ++ used))) (ap₂ (λ u ys. target_controls u fs ys cs) (sym of.device) (sym of.names))
