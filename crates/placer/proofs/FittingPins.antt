@@ -6,8 +6,9 @@ use Rattle.std.proofs.lemmas.Bool.{true≢false, and_parts}
 use Rattle.std.proofs.lemmas.List.{get_or-map, length-map}
 use Rattle.std.proofs.lemmas.Map.Made.{is_member-filter}
 use Rattle.pld_device.specs.Table.{Table}
-use Rattle.abel_tree.specs.Entries.{APin, Entry}
-use Rattle.abel_meaning.specs.Designs.{is_stored, cell_on, no_name}
+use Rattle.abel_tree.specs.Entries.{APin, Entry, is_stored}
+use Rattle.pld_device.specs.Pins.{cell_on}
+use Rattle.abel_meaning.specs.Designs.{no_name}
 use Rattle.pld_order.specs.Graphs.{has}
 use Rattle.pin_matching.specs.Assignments.{IsAssignment, wish_of}
 use Rattle.placer.specs.Following.{HasFittingPin}

@@ -29,5 +29,6 @@ pub mod Promise
 pub mod Reading
 pub mod Released
 pub mod Signals
-pub mod TargetForms
+pub mod Targeted
+pub mod ToldSignals
 pub mod UsedSignals

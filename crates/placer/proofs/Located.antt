@@ -7,12 +7,13 @@ use Rattle.pld_base.specs.declared.place.Place.{Place}
 use Rattle.abel_tree.specs.declared.words.Extension.{Extension}
 use Rattle.abel_tree.specs.Assigned.{Named, signals_of_name, signals_of_names}
 use Rattle.abel_tree.specs.Entries.{Kind, APin, ANode, AConstant, ADeviceName, Entry}
+use Rattle.abel_tree.specs.Extensions.{innermost}
 use Rattle.abel_tree.specs.Ranges.{range_names}
 use Rattle.abel_tree.specs.Tree.{Tree, ANumber, ASpecial, AName, ASet, AParen, AUnary, ABinary, SetMember, OneMember, SpanMember, Members, NoMember, MoreMembers}
 use Rattle.abel_tree.specs.Uses.{Use, OneName, Range, uses, member_uses, one_member_uses}
 use Rattle.abel_meaning.specs.Terms.{Term, Terms, Number, X, Pulse, Release, Read, Set, NoTerm, Before, UnaryOf, BinaryOf, Known, term_named, extended, extended_each, extended_if, named_before, special_term, term_of, terms_of, member_before, term_meant, known_after, known_of}
 use Rattle.netlist_laws.specs.SignalUses.{SignalUse, term_uses, all_term_uses}
-use Rattle.design_checks.specs.LocatedUses.{PlacedUse, all_at, own_or_outer, range_located, located, members_located, member_located}
+use Rattle.design_checks.specs.LocatedUses.{PlacedUse, all_at, range_located, located, members_located, member_located}
 use Rattle.placer.specs.NamedSignals.{signals_used, signals_in, stands_for, read_after, read_names_of}
 
 or_assoc : (a b c : Bool) → ((a || b) || c) ≡ (a || (b || c))
@@ -158,7 +159,7 @@ module _ (s : ℕ) where
       placed_same outer (AName word e) =
           at_same word.place (term_uses (extended_if outer (extended_if e (term_named ks word.text))))
           ∙ (extended_if_same outer (extended_if e (term_named ks word.text)) ∙ (extended_if_same e (term_named ks word.text) ∙ (name_same ks ns are word.text ∙ sym (one_use (OneName word)))))
-      placed_same outer (ASet p ms e) = members_same (own_or_outer e outer) ms
+      placed_same outer (ASet p ms e) = members_same (innermost e outer) ms
       placed_same outer (AParen p t) = placed_same outer t
       placed_same outer (AUnary sign p t) = placed_same outer t
       placed_same outer (ABinary sign p t u) =

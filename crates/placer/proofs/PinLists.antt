@@ -7,7 +7,7 @@ use Rattle.std.proofs.lemmas.List.Elements.{filter-append}
 use Rattle.pld_device.specs.declared.cell.Cell.{Cell}
 use Rattle.pld_device.specs.Table.{Table, no_cell}
 use Rattle.abel_tree.specs.Entries.{Entry}
-use Rattle.abel_meaning.specs.Designs.{cell_on}
+use Rattle.pld_device.specs.Pins.{cell_on}
 use Rattle.placer.specs.Signals.{cells_of_room, is_free, large_to, pin_fits, small_to}
 use Rattle.placer.specs.Wanted.{wanted_of}
 

@@ -9,11 +9,11 @@ use Rattle.pld_device.specs.declared.flip.Flip.{Flip}
 use Rattle.pld_device.specs.Pins.{pair_pins}
 use Rattle.pld_device.specs.Table.{Table}
 use Rattle.abel_tree.specs.Assigned.{Assigned, named_of, sections_assign, is_assigned, is_clocked_target}
-use Rattle.abel_tree.specs.Entries.{Kind, APin, ANode, AConstant, ADeviceName, Words, Entry, is_signal, passes, names_any}
+use Rattle.abel_tree.specs.Entries.{Kind, APin, ANode, AConstant, ADeviceName, Words, Entry, is_signal, passes, names_any, is_stored}
 use Rattle.abel_tree.specs.Tree.{ModuleTree}
 use Rattle.abel_meaning.specs.Controls.{must_register}
 use Rattle.abel_meaning.specs.Declarations.{declared_names, is_unnumbered}
-use Rattle.abel_meaning.specs.Designs.{is_stored, no_name}
+use Rattle.abel_meaning.specs.Designs.{no_name}
 use Rattle.abel_meaning.specs.Held.{Holds, holds_of}
 use Rattle.abel_meaning.specs.Kinds.{is_registered, is_buffer_by_default, words_with_kind, with_kind, with_kinds, names_of}
 use Rattle.decls.specs.NameRefusals.{name_refusals}

@@ -6,7 +6,8 @@ use Rattle.abel_tree.specs.declared.words.Extension.{Extension}
 use Rattle.abel_tree.specs.Assigned.{Named}
 use Rattle.abel_tree.specs.Tree.{Tree, ANumber, ASpecial, AName, ASet, AParen, AUnary, ABinary, SetMember, OneMember, SpanMember, Members, NoMember, MoreMembers}
 use Rattle.abel_tree.specs.Uses.{Use, uses, member_uses, one_member_uses}
-use Rattle.name_uses.specs.NamesUsed.{UsedName, innermost, names_used, members_used, member_used}
+use Rattle.abel_tree.specs.Extensions.{innermost}
+use Rattle.name_uses.specs.NamesUsed.{UsedName, names_used, members_used, member_used}
 use Rattle.placer.specs.NamedSignals.{signals_in, signals_used}
 use Rattle.placer.specs.PartReads.{signals_at}
 

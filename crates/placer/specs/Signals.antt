@@ -6,9 +6,10 @@ use Rattle.pld_device.specs.declared.cell.Cell.{Cell}
 use Rattle.pld_device.specs.declared.enable.Enable.{Enable}
 use Rattle.pld_device.specs.declared.enable.Enable.TheVariants.{Row, PinLow}
 use Rattle.pld_device.specs.Table.{Table}
-use Rattle.abel_tree.specs.Entries.{Entry}
+use Rattle.abel_tree.specs.Entries.{Entry, is_stored}
+use Rattle.pld_device.specs.Pins.{cell_on}
 use Rattle.abel_meaning.specs.Declarations.{is_unnumbered}
-use Rattle.abel_meaning.specs.Designs.{is_stored, cell_on, no_name}
+use Rattle.abel_meaning.specs.Designs.{no_name}
 use Rattle.abel_meaning.specs.Kinds.{is_buffer_by_default}
 use Rattle.decls.specs.NamesBefore.{is_taken}
 use Rattle.decls.specs.Refused.{is_signal_pin}

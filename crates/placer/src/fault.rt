@@ -10,7 +10,7 @@ pub enum PlaceFault {
     /// Too few free pins fit these signals, which are told by their numbers, in rising order; `places` is how many fit some
     /// of them.
     #[error("too few pins")]
-    NoPlacement { signals: Vec<u32>, places: u32 },
+    NoPlacement { signals: Vec<usize>, places: usize },
     /// Memory ran out.
     #[error("out of memory")]
     OutOfMemory,

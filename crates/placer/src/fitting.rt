@@ -4,16 +4,16 @@ ghost use Rattle.std.specs.Prelude.{◌≡◌, map, is_some};
 ghost use Rattle.std.specs.List.{list_any};
 ghost use Rattle.pld_device.specs.declared.cell.Cell.{Cell};
 ghost use Rattle.abel_tree.specs.Entries.{view_declared, view_meaning};
-ghost use Rattle.abel_meaning.specs.Designs.{cell_on};
+ghost use Rattle.pld_device.specs.Pins.{cell_on};
 ghost use Rattle.decls.specs.NamesBefore.{is_on_pin, is_taken};
 ghost use Rattle.decls.specs.Refused.{is_signal_pin};
 ghost use Rattle.placer.specs.Signals.{has_cell_for, is_enabled_by, is_free, pin_fits};
 ghost use Rattle.placer.specs.Wanted.{AreFree};
 
 use abel_tree::{Declared, Meaning};
-use design_checks::{cell_on, has_read_path_on, has_wrong_kind_on, is_stored};
+use design_checks::{has_read_path_on, has_wrong_kind_on};
 use pld_base::with_level;
-use pld_device::{Device, Enable};
+use pld_device::{Device, Enable, cell_on};
 
 /// Whether a pin may have a name: it is neither ground nor the supply.
 fn is_signal_pin<D: Device>(pin: u8) -> bool
@@ -93,7 +93,7 @@ pub(crate) fn free_pins<D: Device>(names: &[Declared]) -> u32
 fn has_cell_for<D: Device>(declared: &Declared, pin: u8) -> bool
     ensures { result ≡ has_cell_for D.table (view_declared declared.now) pin }
 {
-    cell_on::<D>(pin).is_some() && !has_wrong_kind_on::<D>(pin, is_stored(declared))
+    cell_on::<D>(pin).is_some() && !has_wrong_kind_on::<D>(pin, declared.is_stored())
 }
 
 /// Whether the pin fits the signal.

@@ -38,24 +38,13 @@ fn number_at(signals: &[usize], place: usize) -> usize
     }
 }
 
-/// The number as it is told; a larger one is of more names than memory holds.
-fn told(number: usize) -> Result<u32, OutOfMemory>
-    ensures { IfOk result (λ n. n ≡ number) }
-{
-    match u32::try_from(number) {
-        Ok(number) => Ok(number),
-        Err(_) => Err(OutOfMemory),
-    }
-}
-
 /// The numbers at these places.
-fn numbers_at(alloc: Global, signals: &[usize], places: &[usize]) -> Result<Vec<u32>, OutOfMemory>
+fn numbers_at(alloc: Global, signals: &[usize], places: &[usize]) -> Result<Vec<usize>, OutOfMemory>
     ensures { IfOk result (λ v. v.items ≡ map (λ k. get_or signals.now k 0) places.now) }
 {
     let mut numbers = Vec::new(alloc);
     for place in places {
-        let number = told(number_at(signals, *place))?;
-        numbers.push(number)?;
+        numbers.push(number_at(signals, *place))?;
     }
     Ok(numbers)
 }
@@ -70,10 +59,9 @@ fn refusal(
     ensures { IfOk result (λ f. (wishes : List (List ℕ)) → IsKept wishes members.now places → IsToldOf signals.now wishes f) }
 {
     let numbers = numbers_at(alloc, signals, members)?;
-    let count = told(places)?;
     Ok(PlaceFault::NoPlacement {
         signals: numbers,
-        places: count,
+        places,
     })
 }
 

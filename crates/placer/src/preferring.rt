@@ -1,12 +1,11 @@
 //! Which pins a signal prefers.
 
 ghost use Rattle.std.specs.Prelude.{◌≡◌, ◌==◌, ◌++◌, IfOk, OnOk, is_none};
-ghost use Rattle.abel_meaning.specs.Designs.{cell_on};
+ghost use Rattle.pld_device.specs.Pins.{cell_on};
 ghost use Rattle.placer.specs.Signals.{cells_of_room, large_cells, plain_pins, preferred, small_cells};
 
-use design_checks::cell_on;
 use pld_base::OutOfMemory;
-use pld_device::{Cell, Device};
+use pld_device::{Cell, Device, cell_on};
 use std::alloc::Global;
 
 /// Whether the cell has so many rows.

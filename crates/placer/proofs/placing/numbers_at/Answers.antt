@@ -8,7 +8,7 @@ pub loop-place-preserved : goal.loop-place-preserved
 loop-place-preserved c =
     let l = c.loop-place in
     c.in_ok-push.ensures.items
-    ∙ (ap₂ (λ xs x. xs ++ x ∷ []) l.invariant (c.in_ok-number.ensures ∙ c.number_at.ensures)
+    ∙ (ap₂ (λ xs x. xs ++ x ∷ []) l.invariant c.number_at.ensures
     ∙ sym (mapped_next (λ k. get_or c.args.signals.now k 0) c.args.places.now l.place-index 0 c.loop-place-test.true))
 
 pub returns : goal.returns

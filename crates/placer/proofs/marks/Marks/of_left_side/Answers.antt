@@ -1,13 +1,15 @@
--- A set without its extension.
+-- The names of the left side.
 use Rattle.std.proofs.Common.{map, ap, ◌∙◌}
-use Rattle.abel_tree.specs.Assigned.{signals_of, signals_of_members, without_extension}
-use Rattle.abel_tree.specs.Tree.{members_of}
-use Rattle.abel_tree.specs.View.{view, view_member}
+use Rattle.std.specs.List.{flat_map}
+use Rattle.abel_tree.specs.Assigned.{signals_of, without_extension}
+use Rattle.abel_tree.specs.View.{view}
+use Rattle.name_uses.specs.Viewed.{view_use}
+use Rattle.placer.specs.PartReads.{signals_at}
 use Rattle.placer.proofs.Joins.{numbers_answer}
-use Rattle.placer.proofs.TargetForms.{set_named}
+use Rattle.placer.proofs.Targeted.{target_signals}
 use Rattle.placer.proofs.marks.Marks.of_left_side.Goals as goal
 
-pub returns-in-Set : goal.returns-in-Set
-returns-in-Set c =
-    numbers_answer c.args.self.now c.of_targets.result (λ ks. signals_of_members ks (members_of (map view_member c.as_slice.result.now))) (λ ks. signals_of ks (without_extension (view c.args.target.now)))
-    (λ ks. ap (λ xs. signals_of_members ks (members_of (map view_member xs))) c.as_slice.ensures ∙ set_named ks c.args.target.now c.in-Set.place c.in-Set.members c.in-Set.extension c.in-Set.is) c.of_targets.ensures
+pub returns : goal.returns
+returns c =
+    numbers_answer c.args.self.now c.of_uses.result (λ ks. flat_map (signals_at ks) (map view_use c.as_slice.result.now)) (λ ks. signals_of ks (without_extension (view c.args.target.now)))
+    (λ ks. ap (flat_map (signals_at ks)) (ap (map view_use) c.as_slice.ensures.value ∙ c.in_ok-uses.ensures) ∙ target_signals ks (without_extension (view c.args.target.now))) c.of_uses.ensures

@@ -1,0 +1,15 @@
+-- The names of the target.
+use Rattle.std.proofs.Common.{map, ap, ◌∙◌}
+use Rattle.std.specs.List.{flat_map}
+use Rattle.abel_tree.specs.Assigned.{signals_of}
+use Rattle.abel_tree.specs.View.{view}
+use Rattle.name_uses.specs.Viewed.{view_use}
+use Rattle.placer.specs.PartReads.{signals_at}
+use Rattle.placer.proofs.Joins.{numbers_answer}
+use Rattle.placer.proofs.Targeted.{target_signals}
+use Rattle.placer.proofs.marks.Marks.of_target.Goals as goal
+
+pub returns : goal.returns
+returns c =
+    numbers_answer c.args.self.now c.of_uses.result (λ ks. flat_map (signals_at ks) (map view_use c.as_slice.result.now)) (λ ks. signals_of ks (view c.args.target.now))
+    (λ ks. ap (flat_map (signals_at ks)) (ap (map view_use) c.as_slice.ensures.value ∙ c.in_ok-uses.ensures) ∙ target_signals ks (view c.args.target.now)) c.of_uses.ensures
