@@ -4,8 +4,9 @@ use Rattle.std.specs.List.{list_any}
 use Rattle.std.proofs.lemmas.Bool.{and_parts, eqb-true, or_cases}
 use Rattle.pld_base.specs.declared.place.Place.{Place}
 use Rattle.abel_tree.specs.declared.words.Extension.{Extension}
+use Rattle.abel_tree.specs.Extensions.{is_data}
 use Rattle.abel_meaning.specs.Designs.{Context, name_at}
-use Rattle.abel_meaning.specs.Targets.{some_signals, is_data}
+use Rattle.abel_meaning.specs.Targets.{some_signals}
 use Rattle.set_expr.specs.declared.fault.SectionFault.TheVariants.{NotAnOutput}
 use Rattle.section_targets.specs.declared.aim.Aim.{Aim}
 use Rattle.section_targets.specs.declared.manner.Manner.{Manner}

@@ -11,7 +11,7 @@ use Rattle.abel_meaning.specs.Designs.{Design, design_of, name_at, no_name}
 use Rattle.abel_meaning.specs.Held.{Holds, holds_of}
 use Rattle.abel_meaning.specs.Kinds.{with_kinds, names_of}
 use Rattle.abel_meaning.specs.Terms.{term_of}
-use Rattle.declared_names.proofs.Settling.{is_no_target}
+use Rattle.declared_names.proofs.AssignedMarks.{is_no_target}
 use Rattle.declared_names.proofs.AmongNumbers.{among}
 use Rattle.design.specs.AssignedCorrect.{bare_signals}
 use Rattle.design.proofs.NamedTerms.{IsWithin, same_signals, bare_among}

@@ -12,10 +12,11 @@ use Rattle.bit_expr.specs.declared.netlist.Control.{Control}
 use Rattle.bit_expr.specs.declared.node.Leaf.{Leaf}
 use Rattle.bit_expr.specs.Formulas.{Formula}
 use Rattle.abel_tree.specs.declared.words.Extension.TheVariants as extension
-use Rattle.abel_tree.specs.Entries.{Kind, APin, ANode, AConstant, ADeviceName, Entry, is_signal}
+use Rattle.abel_tree.specs.Entries.{Kind, APin, ANode, AConstant, ADeviceName, Entry, is_signal, is_stored}
+use Rattle.pld_device.specs.Pins.{cell_on}
 use Rattle.abel_meaning.specs.Contributions as meant
 use Rattle.abel_meaning.specs.Controls.{control_of, control_if_stored}
-use Rattle.abel_meaning.specs.Designs.{Context, Design, name_at, no_name, is_stored, cell_on}
+use Rattle.abel_meaning.specs.Designs.{Context, Design, name_at, no_name}
 use Rattle.abel_meaning.specs.FormulaBits.{formulas}
 use Rattle.abel_meaning.specs.Netlists.{Wanted, plain_control, plain_wanted}
 use Rattle.abel_meaning.specs.SignalReads.{given_formulas, leaf_of, names_if_any, is_one_of, HasNoSignalPath}

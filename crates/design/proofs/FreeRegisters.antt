@@ -1,6 +1,6 @@
 -- Where nothing is refused of the sections, the polarity of a free register may be chosen.
 use Rattle.std.proofs.Common.{◌≡◌, ℕ, zero, suc, ◌+◌, ◌==◌, Bool, true, false, not, ◌&&◌, ◌||◌, if◌then◌else◌, cond, Option, None, Some, List, [], ◌∷◌, ◌++◌, get_or, inl, inr, refl, sym, ap, ap₂, subst, ◌∙◌, arith}
-use Rattle.std.specs.Prelude.{slice_get, filter}
+use Rattle.std.specs.Prelude.{filter}
 use Rattle.std.specs.List.{list_any}
 use Rattle.std.proofs.lemmas.Bool.{and_parts, cases_Bool, or_left, or_right, or_cases, true≢false}
 use Rattle.std.proofs.lemmas.List.Folds.{list_any-append}
@@ -10,30 +10,32 @@ use Rattle.pld_device.specs.declared.flip.Flip.TheVariants.{Always, AfterRegiste
 use Rattle.pld_device.specs.Table.{Table}
 use Rattle.abel_tree.specs.declared.words.Extension.{Extension}
 use Rattle.abel_tree.specs.declared.words.Extension.TheVariants as extension
-use Rattle.abel_tree.specs.Assigned.{Assigned, signals_of, target_extension, without_extension, sections_assign, is_assigned, is_clocked_target}
-use Rattle.abel_tree.specs.Entries.{Entry, is_signal}
+use Rattle.abel_tree.specs.Assigned.{Assigned, target_extension, without_extension, sections_assign, is_assigned, is_clocked_target}
+use Rattle.abel_tree.specs.Entries.{Entry, is_signal, is_stored}
 use Rattle.abel_tree.specs.Tree.{Tree, ModuleTree}
+use Rattle.abel_tree.specs.Extensions.{is_data, is_raw}
 use Rattle.abel_meaning.specs.Choices.{is_free}
 use Rattle.abel_meaning.specs.Contributions.{Contribution}
-use Rattle.abel_meaning.specs.Controls.{is_the_control, is_control, control_by, control_of}
+use Rattle.abel_meaning.specs.Controls.{is_the_control, is_control, control_by}
 use Rattle.abel_meaning.specs.Declarations.{declared_names}
-use Rattle.abel_meaning.specs.Designs.{Context, Design, design_of, name_at, no_name, is_stored}
+use Rattle.abel_meaning.specs.Designs.{Context, Design, design_of, name_at, no_name}
 use Rattle.abel_meaning.specs.FormulaBits.{formulas}
 use Rattle.abel_meaning.specs.Functions.{is_raw_signal}
 use Rattle.abel_meaning.specs.Held.{Part, ATarget, AValue, sections_parts, read_in, part_reads, parts_read, held_by, held_of, is_shared, part_shares, Holds, is_held}
-use Rattle.abel_meaning.specs.Kinds.{is_buffer_by_default, is_registered, is_buffer, is_open, stays_free, words_with_kind, with_kind, with_kinds, names_of}
+use Rattle.abel_meaning.specs.Kinds.{is_buffer_by_default, is_registered, is_buffer, is_open, stays_free, words_with_kind, with_kind, with_kinds}
 use Rattle.abel_meaning.specs.SignalReads.{given_formulas}
-use Rattle.abel_meaning.specs.Targets.{targets_of, all_targets, some_signals, is_data, is_raw}
+use Rattle.abel_meaning.specs.Targets.{targets_of, all_targets, some_signals}
 use Rattle.abel_meaning.specs.Terms.{Term, Terms, Number, X, Pulse, Release, Read, Set, UnaryOf, BinaryOf, NoTerm, Before, term_of}
 use Rattle.section_targets.specs.TargetSignals.{names_signals, all_name_signals}
 use Rattle.section_targets.proofs.SignalLists.{some_append}
-use Rattle.netlist_laws.specs.Takeable.{HasNoEquation, MayChoose}
+use Rattle.netlist_laws.specs.Takeable.{HasNoEquation}
 use Rattle.design.specs.Accepted.{FreeMayChoose}
 use Rattle.declared_names.proofs.AmongNumbers.{among}
 use Rattle.design.specs.AssignedCorrect.{bare_signals, all_bare_signals}
-use Rattle.design.proofs.AssignedNames.{own_names, own_held, same_targets, signal_there}
-use Rattle.design.proofs.BareTargets.{IsBare, AreBare}
-use Rattle.design.proofs.GivenTargets.{some_given, is_named_in, is_named, sections_named}
+use Rattle.design.proofs.AssignedNames.{own_names, own_held, names_within, same_targets, signal_there}
+use Rattle.design.proofs.ClearSections.{IsBare, AreBare}
+use Rattle.design.proofs.GivenSignals.{reset_extension, preset_extension}
+use Rattle.design.proofs.GivenTargets.{is_named_in, is_named, sections_given}
 use Rattle.design.proofs.HeldTargets.{is_read}
 use Rattle.design.proofs.NamedTerms.{signals_in, without_alike}
 
@@ -73,27 +75,12 @@ not_true false h = refl
 
 -- ---- controls
 
-shared_reset : (e : Option Extension) → is_shared e ≡ false → is_the_control extension.Ar e ≡ false
-shared_reset None h = refl
-shared_reset (Some extension.D) h = refl
-shared_reset (Some extension.Clk) h = refl
-shared_reset (Some extension.Oe) h = refl
-shared_reset (Some extension.Ar) h = absurd cc
-shared_reset (Some extension.Sp) h = absurd cc
-shared_reset (Some extension.Q) h = refl
-shared_reset (Some extension.Fb) h = refl
-shared_reset (Some extension.Pin) h = refl
-
-shared_preset : (e : Option Extension) → is_shared e ≡ false → is_the_control extension.Sp e ≡ false
-shared_preset None h = refl
-shared_preset (Some extension.D) h = refl
-shared_preset (Some extension.Clk) h = refl
-shared_preset (Some extension.Oe) h = refl
-shared_preset (Some extension.Ar) h = absurd cc
-shared_preset (Some extension.Sp) h = absurd cc
-shared_preset (Some extension.Q) h = refl
-shared_preset (Some extension.Fb) h = refl
-shared_preset (Some extension.Pin) h = refl
+shared_control : (e : Extension) → is_shared (Some e) ≡ true → ((o : Option Extension) → is_the_control e o ≡ true → o ≡ Some e) → (o : Option Extension) → is_shared o ≡ false → is_the_control e o ≡ false
+shared_control e shared same o other =
+    elim (cases_Bool (is_the_control e o)) [
+      | inl is ↦ absurd (true≢false (sym shared ∙ ap is_shared (sym (same o is)) ∙ other))
+      | inr differs ↦ differs
+    ]
 
 either_false : (a b : Bool) → (a || b) ≡ false → (a ≡ false) × (b ≡ false)
 either_false true b h = absurd cc
@@ -202,7 +189,7 @@ module _ (t : Table) (m : ModuleTree) (bare : AreBare (design_of t m).context (s
   named s free =
       elim (cases_Bool (is_raw_signal (given_formulas d) s)) [
         | inl raw ↦
-            let given = sections_named d.context (is_raw_to s) (raw_plain s) d.starts_dontcare 0 m.sections in
+            let given = (sections_given d.context (is_raw_to s) (raw_plain s) s (own_names t m) (names_within t m s) d.starts_dontcare 0 m.sections).0 in
             let read = parts_held s (sections_parts m.sections) bare (sym given ∙ raw) in
             absurd (true≢false (sym read ∙ (either_false (own_held t m).all (list_any (λ h. h == s) (own_held t m).signals) free).1))
         | inr other ↦ other
@@ -210,7 +197,7 @@ module _ (t : Table) (m : ModuleTree) (bare : AreBare (design_of t m).context (s
 
   none_given : (e : Extension) → ((x : Option Extension) → is_shared x ≡ false → is_the_control e x ≡ false) → (own_held t m).all ≡ false → HasNoEquation d e
   none_given e other none s =
-      let given = sections_named d.context (is_control_to d.context) (λ j. refl) d.starts_dontcare 0 m.sections in
+      let given = (sections_given d.context (is_control_to d.context) (λ j. refl) s (own_names t m) (names_within t m s) d.starts_dontcare 0 m.sections).0 in
       ap (control_by (formulas d.context)) (none_kept s e other (given_formulas d) (given ∙ parts_clear d.context (sections_parts m.sections) none))
 
   stays : (s : ℕ) (x : Entry) → is_signal x.kind ≡ true → is_free (with_kind t.flip (own_held t m) (sections_assign (own_names t m) m.sections) s x) ≡ true
@@ -242,8 +229,8 @@ module _ (t : Table) (m : ModuleTree) (bare : AreBare (design_of t m).context (s
       record {
         named = named s stay.1;
         behind = stay.0;
-        no_reset = none_given extension.Ar shared_reset clear;
-        no_preset = none_given extension.Sp shared_preset clear;
+        no_reset = none_given extension.Ar (shared_control extension.Ar refl reset_extension) clear;
+        no_preset = none_given extension.Sp (shared_control extension.Sp refl preset_extension) clear;
       }
     where
       no_more : (n : ℕ) → 0 + n ≡ n

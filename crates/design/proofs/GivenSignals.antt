@@ -17,8 +17,8 @@ use Rattle.abel_meaning.specs.Targets.{targets_of}
 use Rattle.abel_meaning.specs.Terms.{known_of, term_of}
 use Rattle.set_expr.specs.declared.contributions.Contribution as code
 use Rattle.set_expr.specs.Given.{view_contribution}
-use Rattle.design_checks.specs.declared.rules.Rule.TheVariants as rule
-use Rattle.design_checks.specs.SignalsRefused.{lacks_control, all_refused}
+use Rattle.design_checks.specs.Refused.{lacking_controls}
+use Rattle.design_checks.specs.SignalsRefused.{lacks_control}
 use Rattle.netlist_laws.specs.SignalUses.{SignalUse, given_uses}
 use Rattle.netlist_laws.proofs.SourcedFormulas.{Sourced, sourced_contributions, formulas_are, uses_are}
 use Rattle.design_checks.specs.LocatedUses.{PlacedUse}
@@ -50,7 +50,7 @@ control_given ev test (c ∷ cs) f e = by (test c) (λ g. control_given ev test 
     by true more e = refl
     by false more e = more e
 
-reset_extension : (o : Option Extension) → is_the_control extension.Ar o ≡ true → o ≡ Some extension.Ar
+pub reset_extension : (o : Option Extension) → is_the_control extension.Ar o ≡ true → o ≡ Some extension.Ar
 reset_extension (Some extension.Ar) is = refl
 reset_extension None is = absurd cc
 reset_extension (Some extension.Clk) is = absurd cc
@@ -61,7 +61,7 @@ reset_extension (Some extension.Q) is = absurd cc
 reset_extension (Some extension.Fb) is = absurd cc
 reset_extension (Some extension.Pin) is = absurd cc
 
-preset_extension : (o : Option Extension) → is_the_control extension.Sp o ≡ true → o ≡ Some extension.Sp
+pub preset_extension : (o : Option Extension) → is_the_control extension.Sp o ≡ true → o ≡ Some extension.Sp
 preset_extension (Some extension.Sp) is = refl
 preset_extension None is = absurd cc
 preset_extension (Some extension.Clk) is = absurd cc
@@ -97,7 +97,7 @@ module _ (d : Design) (known : d.context.known ≡ known_of d.context.names) (he
       (same_signals (IsSignalOf d.context) (λ (x : Sourced d.context). x.uses) (λ (x : Sourced d.context). x.formula) (sourced_contributions d)
       (subst (EachSignal (IsSignalOf d.context)) (sym (uses_are d)) (good_signals (given_uses d) given_good)))
 
-  module _ (fs : List Formula) (cs : List code.Contribution) (same : map (view_contribution fs) cs ≡ given_formulas d) (controls : all_refused d.context.device d.context.names rule.Controls cs ≡ []) where
+  module _ (fs : List Formula) (cs : List code.Contribution) (same : map (view_contribution fs) cs ≡ given_formulas d) (controls : lacking_controls d.context.device d.context.names cs ≡ []) where
     controls_here : EachOf (λ c. HasControl d.context fs c × IsSignalOf d.context c.signal) (given_formulas d)
     controls_here =
         with_signals (IsSignalOf d.context) (HasControl d.context fs) (given_formulas d) (subst (EachOf (HasControl d.context fs)) same (controls_there d.context fs cs controls)) given_signals

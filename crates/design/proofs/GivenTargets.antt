@@ -1,11 +1,12 @@
--- What is contributed with an extension, by the targets that have it.
-use Rattle.std.proofs.Common.{◌≡◌, ℕ, Bool, true, false, ◌||◌, Option, None, Some, List, [], ◌∷◌, ◌++◌, map, length, append_assoc, refl, sym, ap, ap₂, ◌∙◌, arith}
+-- What is contributed, by the targets that are assigned: each signal that is gets data, and what has an extension is to a
+-- target that has it.
+use Rattle.std.proofs.Common.{◌≡◌, ℕ, Bool, true, false, ◌||◌, Option, None, Some, List, [], ◌∷◌, ◌++◌, map, length, append_assoc, refl, sym, ap, ap₂, subst, ◌∙◌, arith}
+use Rattle.abel_tree.specs.Assigned.{Named, Assigned, signals_of, target_extension, without_extension, is_clocked, assigned_each, statement_assigns, else_assigns, statements_assign, list_assigns, with_assigns, branch_assigns, other_assigns, choices_assign, branches_assign, states_assign, section_assigns, sections_assign, is_assigned}
 use Rattle.std.specs.Prelude.{filter}
 use Rattle.std.specs.List.{list_any}
 use Rattle.std.proofs.lemmas.List.Folds.{list_any-append}
 use Rattle.bit_expr.specs.Formulas.{Formula}
 use Rattle.abel_tree.specs.declared.words.Extension.{Extension}
-use Rattle.abel_tree.specs.Assigned.{target_extension, is_clocked}
 use Rattle.abel_tree.specs.Tree.{Tree, Statement, AnAssign, AWhen, AGroup, ADontCare, Otherwise, NoElse, AnElse, Statements, NoStatement, MoreStatements, statements_of, Branch, AGoal, AnIf, ACase, OtherBranch, NoBranch, ABranch, Choices, NoChoice, MoreChoices, RowTree, StateTree, SectionTree, Declarations, Equations, ATable, ADiagram, SomeVectors, DontCareSection}
 use Rattle.abel_meaning.specs.Contributions.{condition, Contribution, Gives, Guard, guarded}
 use Rattle.abel_meaning.specs.Designs.{Context}
@@ -20,7 +21,13 @@ use Rattle.abel_meaning.specs.Tables.{row_matches, level_gives, match_of, output
 use Rattle.abel_meaning.specs.Targets.{targets_of, some_signals}
 use Rattle.abel_meaning.specs.Terms.{Term, term_of}
 use Rattle.netlist_laws.proofs.SourcedFormulas.{word_length}
-use Rattle.design.proofs.NamedTerms.{signals_in}
+use Rattle.design.proofs.NamedTerms.{signals_in, IsWithin, without_within}
+use Rattle.declared_names.proofs.AmongNumbers.{among}
+use Rattle.design.proofs.AssignedData.{assigned_among, assigned_data, has_data, in_front, joined, each_data, each_matched}
+
+bare_signals : (ss : List ℕ) → some_signals (map Some ss) ≡ ss
+bare_signals [] = refl
+bare_signals (j ∷ ss) = ap (λ js. j ∷ js) (bare_signals ss)
 
 or_none : (b : Bool) → (b || false) ≡ b
 or_none true = refl
@@ -39,8 +46,8 @@ module _ (d : Context) (test : Option Extension → ℕ → Bool) (plain : (j : 
   is_named ps = list_any is_named_in ps
 
   -- what is contributed one after another
-  joined : (ps qs : List Part) (cs bs : List (Contribution Formula)) → some_given cs ≡ is_named ps → some_given bs ≡ is_named qs → some_given (cs ++ bs) ≡ is_named (ps ++ qs)
-  joined ps qs cs bs f g =
+  joined_named : (ps qs : List Part) (cs bs : List (Contribution Formula)) → some_given cs ≡ is_named ps → some_given bs ≡ is_named qs → some_given (cs ++ bs) ≡ is_named (ps ++ qs)
+  joined_named ps qs cs bs f g =
       list_any-append (λ (c : Contribution Formula). test c.extension c.signal) cs bs
       ∙ ap₂ (λ a b. a || b) f g
       ∙ sym (list_any-append is_named_in ps qs)
@@ -52,40 +59,10 @@ module _ (d : Context) (test : Option Extension → ℕ → Bool) (plain : (j : 
   each_given g e c k what (None ∷ ss) (w ∷ ws) l = each_given g e c k what ss ws (omega (arith, l))
   each_given g e c k what (Some j ∷ ss) (w ∷ ws) l = ap (λ b. test e j || b) (each_given g e c k what ss ws (omega (arith, l)))
 
-  -- ---- statements
-
-  mutual
-    statement_named : (g : Guard Formula) (x : Statement) → some_given (statement_gives (formulas d) d g x) ≡ is_named (statement_parts x)
-    statement_named g (AnAssign place c target sign q value) =
-        let ts = targets_of (term_of d.known target) in
-        each_given g (target_extension target) c (is_clocked sign) (sign_gives sign) ts ((formulas d).word (length ts) (term_of d.known value)) (word_length d (length ts) (term_of d.known value))
-        ∙ sym (or_none (is_named_in (ATarget target)))
-    statement_named g (AWhen place c x other) =
-        let bit = condition (formulas d) (term_of d.known c) in
-        let g1 = guarded (formulas d) g bit in
-        let g2 = guarded (formulas d) g ((formulas d).not bit) in
-        joined (statement_parts x) (else_parts other) (statement_gives (formulas d) d g1 x) (else_gives (formulas d) d g2 other) (statement_named g1 x) (else_named g2 other)
-    statement_named g (AGroup xs) = statements_named g xs
-    statement_named g (ADontCare directive) = refl
-
-    else_named : (g : Guard Formula) (x : Otherwise) → some_given (else_gives (formulas d) d g x) ≡ is_named (else_parts x)
-    else_named g NoElse = refl
-    else_named g (AnElse x) = statement_named g x
-
-    statements_named : (g : Guard Formula) (xs : Statements) → some_given (statements_give (formulas d) d g xs) ≡ is_named (statements_parts xs)
-    statements_named g NoStatement = refl
-    statements_named g (MoreStatements x xs) =
-        joined (statement_parts x) (statements_parts xs) (statement_gives (formulas d) d g x) (statements_give (formulas d) d g xs) (statement_named g x) (statements_named g xs)
-
-  list_named : (g : Guard Formula) (xs : List Statement) → some_given (statements_give (formulas d) d g (statements_of xs)) ≡ is_named (list_parts xs)
-  list_named g [] = refl
-  list_named g (x ∷ xs) =
-      joined (statement_parts x) (list_parts xs) (statement_gives (formulas d) d g x) (statements_give (formulas d) d g (statements_of xs)) (statement_named g x) (list_named g xs)
-
   -- ---- what is given without an extension
 
   both_plain : (cs bs : List (Contribution Formula)) → some_given cs ≡ false → some_given bs ≡ false → some_given (cs ++ bs) ≡ false
-  both_plain cs bs f g = joined [] [] cs bs f g
+  both_plain cs bs f g = joined_named [] [] cs bs f g
 
   goal_plain : (g : Guard Formula) (ss : List ℕ) (ws : List Formula) → some_given (goal_gives (formulas d) d g ss ws) ≡ false
   goal_plain g [] ws = refl
@@ -126,78 +103,136 @@ module _ (d : Context) (test : Option Extension → ℕ → Bool) (plain : (j : 
   others_plain g ss xs [] = refl
   others_plain g ss xs (c ∷ cs) = both_plain (state_matches (formulas d) d g ss xs c) (other_matches (formulas d) d g ss xs cs) (state_plain g ss xs c) (others_plain g ss xs cs)
 
-  -- ---- diagrams
+  module _ (s : ℕ) (ks : List Named) (within : IsWithin s ks d.known) where
+    -- what is contributed has the extensions that the targets have, and is data to the signal where it is assigned
+    abbrev pub IsGiven : List Part → List Assigned → List (Contribution Formula) → Type 0
+    IsGiven ps xs cs = (some_given cs ≡ is_named ps) × (is_assigned xs s ≡ true → has_data d s cs ≡ true)
 
-  with_named : (g : Guard Formula) (o : Option (List Statement)) → some_given (statements_give (formulas d) d g (with_statements o)) ≡ is_named (with_parts o)
-  with_named g None = refl
-  with_named g (Some xs) = list_named g xs
+    nothing : IsGiven [] [] []
+    nothing = (refl, λ h. absurd cc)
 
-  module _ (ss : List ℕ) where
+    both_given : (ps qs : List Part) (xs ys : List Assigned) (cs bs : List (Contribution Formula)) → IsGiven ps xs cs → IsGiven qs ys bs → IsGiven (ps ++ qs) (xs ++ ys) (cs ++ bs)
+    both_given ps qs xs ys cs bs f g = (joined_named ps qs cs bs f.0 g.0, joined d s xs ys cs bs f.1 g.1)
+
+    -- the signals of a header
+    header_data : (k : Bool) (t : Tree) → is_assigned (assigned_each k (signals_of ks t)) s ≡ true → among s (signals_in (term_of d.known t)) ≡ true
+    header_data k t h = within t (sym (assigned_among s k (signals_of ks t)) ∙ h)
+
+    -- ---- statements
+
     mutual
-      branch_named : (g : Guard Formula) (a : Branch) → some_given (branch_gives (formulas d) d g ss a) ≡ is_named (branch_parts a)
-      branch_named g (AGoal place value xs) =
-          let goal = goal_gives (formulas d) d g ss ((formulas d).word (length ss) (term_of d.known value)) in
-          joined [] (with_parts xs) goal (statements_give (formulas d) d g (with_statements xs)) (goal_plain g ss ((formulas d).word (length ss) (term_of d.known value))) (with_named g xs)
-      branch_named g (AnIf place c a other) =
+      statement_given : (g : Guard Formula) (x : Statement) → IsGiven (statement_parts x) (statement_assigns ks x) (statement_gives (formulas d) d g x)
+      statement_given g (AnAssign place c target sign q value) =
+          let e = target_extension target in
+          let ts = targets_of (term_of d.known target) in
+          let ws = (formulas d).word (length ts) (term_of d.known value) in
+          let long = word_length d (length ts) (term_of d.known value) in (
+            each_given g e c (is_clocked sign) (sign_gives sign) ts ws long ∙ sym (or_none (is_named_in (ATarget target))),
+            λ h.
+                let found = assigned_data s e (is_clocked sign) (signals_of ks (without_extension target)) h in
+                each_data d s g e c (is_clocked sign) (sign_gives sign) ts ws long found.0 ∙ without_within s ks d.known within target found.1,
+          )
+      statement_given g (AWhen place c x other) =
           let bit = condition (formulas d) (term_of d.known c) in
           let g1 = guarded (formulas d) g bit in
           let g2 = guarded (formulas d) g ((formulas d).not bit) in
-          joined (branch_parts a) (other_parts other) (branch_gives (formulas d) d g1 ss a) (other_gives (formulas d) d g2 ss other) (branch_named g1 a) (other_named g2 other)
-      branch_named g (ACase place cs) = choices_named g cs
+          both_given (statement_parts x) (else_parts other) (statement_assigns ks x) (else_assigns ks other) (statement_gives (formulas d) d g1 x) (else_gives (formulas d) d g2 other) (statement_given g1 x) (else_given g2 other)
+      statement_given g (AGroup xs) = statements_given g xs
+      statement_given g (ADontCare directive) = nothing
 
-      other_named : (g : Guard Formula) (o : OtherBranch) → some_given (other_gives (formulas d) d g ss o) ≡ is_named (other_parts o)
-      other_named g NoBranch = refl
-      other_named g (ABranch a) = branch_named g a
+      else_given : (g : Guard Formula) (x : Otherwise) → IsGiven (else_parts x) (else_assigns ks x) (else_gives (formulas d) d g x)
+      else_given g NoElse = nothing
+      else_given g (AnElse x) = statement_given g x
 
-      choices_named : (g : Guard Formula) (cs : Choices) → some_given (choices_give (formulas d) d g ss cs) ≡ is_named (choices_parts cs)
-      choices_named g NoChoice = refl
-      choices_named g (MoreChoices c colon a cs) =
-          let g1 = guarded (formulas d) g (condition (formulas d) (term_of d.known c)) in
-          joined (branch_parts a) (choices_parts cs) (branch_gives (formulas d) d g1 ss a) (choices_give (formulas d) d g ss cs) (branch_named g1 a) (choices_named g cs)
+      statements_given : (g : Guard Formula) (xs : Statements) → IsGiven (statements_parts xs) (statements_assign ks xs) (statements_give (formulas d) d g xs)
+      statements_given g NoStatement = nothing
+      statements_given g (MoreStatements x xs) =
+          both_given (statement_parts x) (statements_parts xs) (statement_assigns ks x) (statements_assign ks xs) (statement_gives (formulas d) d g x) (statements_give (formulas d) d g xs) (statement_given g x) (statements_given g xs)
 
-    branches_named : (g : Guard Formula) (arms : List Branch) → some_given (branches_give (formulas d) d g ss arms) ≡ is_named (branches_parts arms)
-    branches_named g [] = refl
-    branches_named g (a ∷ arms) = joined (branch_parts a) (branches_parts arms) (branch_gives (formulas d) d g ss a) (branches_give (formulas d) d g ss arms) (branch_named g a) (branches_named g arms)
+    list_given : (g : Guard Formula) (xs : List Statement) → IsGiven (list_parts xs) (list_assigns ks xs) (statements_give (formulas d) d g (statements_of xs))
+    list_given g [] = nothing
+    list_given g (x ∷ xs) =
+        both_given (statement_parts x) (list_parts xs) (statement_assigns ks x) (list_assigns ks xs) (statement_gives (formulas d) d g x) (statements_give (formulas d) d g (statements_of xs)) (statement_given g x) (list_given g xs)
 
-    states_named : (g : Guard Formula) (xs : List StateTree) → some_given (states_give (formulas d) d g ss xs) ≡ is_named (states_parts xs)
-    states_named g [] = refl
-    states_named g (x ∷ xs) =
-        let g1 = in_state (formulas d) d g ss x in
-        let own = statements_give (formulas d) d g1 (statements_of x.statements) in
-        let next = branches_give (formulas d) d g1 ss x.transitions in
-        let rest = states_give (formulas d) d g ss xs in
-        ap some_given (append_assoc own next rest)
-        ∙ joined (list_parts x.statements) (branches_parts x.transitions ++ states_parts xs) own (next ++ rest) (list_named g1 x.statements)
-        (joined (branches_parts x.transitions) (states_parts xs) next rest (branches_named g1 x.transitions) (states_named g xs))
+    -- ---- diagrams
 
-  diagram_named : (g : Guard Formula) (registers : Tree) (xs : List StateTree) → some_given (diagram_gives (formulas d) d g (term_of d.known registers) xs) ≡ is_named (states_parts xs)
-  diagram_named g registers xs =
-      let ss = signals_in (term_of d.known registers) in
-      let own = states_give (formulas d) d g ss xs in
-      let others = other_matches (formulas d) d g ss xs (first_of_each [] (filter (is_other ss) own)) in
-      joined [] (states_parts xs) (no_matches (formulas d) d g false true (map Some ss)) (own ++ others) (none_plain g false true (map Some ss))
-      (list_any-append (λ (c : Contribution Formula). test c.extension c.signal) own others
-      ∙ (ap₂ (λ a b. a || b) (states_named ss g xs) (others_plain g ss xs (first_of_each [] (filter (is_other ss) own)))
-      ∙ or_none (is_named (states_parts xs))))
+    with_given : (g : Guard Formula) (o : Option (List Statement)) → IsGiven (with_parts o) (with_assigns ks o) (statements_give (formulas d) d g (with_statements o))
+    with_given g None = nothing
+    with_given g (Some xs) = list_given g xs
 
-  table_plain : (g : Guard Formula) (k : Bool) (inputs outputs : Tree) (rows : List RowTree) → some_given (table_gives (formulas d) d g k (term_of d.known inputs) (term_of d.known outputs) rows) ≡ false
-  table_plain g k inputs outputs rows =
-      let ts = targets_of (term_of d.known outputs) in
-      both_plain (no_matches (formulas d) d g false k ts) (rows_give (formulas d) d g k (term_of d.known inputs) (term_of d.known outputs) rows)
-      (none_plain g false k ts) (rows_plain g k (term_of d.known inputs) (term_of d.known outputs) rows)
+    module _ (ss : List ℕ) where
+      mutual
+        branch_given : (g : Guard Formula) (a : Branch) → IsGiven (branch_parts a) (branch_assigns ks a) (branch_gives (formulas d) d g ss a)
+        branch_given g (AGoal place value xs) =
+            let ws = (formulas d).word (length ss) (term_of d.known value) in
+            both_given [] (with_parts xs) [] (with_assigns ks xs) (goal_gives (formulas d) d g ss ws) (statements_give (formulas d) d g (with_statements xs)) (goal_plain g ss ws, λ h. absurd cc) (with_given g xs)
+        branch_given g (AnIf place c a other) =
+            let bit = condition (formulas d) (term_of d.known c) in
+            let g1 = guarded (formulas d) g bit in
+            let g2 = guarded (formulas d) g ((formulas d).not bit) in
+            both_given (branch_parts a) (other_parts other) (branch_assigns ks a) (other_assigns ks other) (branch_gives (formulas d) d g1 ss a) (other_gives (formulas d) d g2 ss other) (branch_given g1 a) (other_given g2 other)
+        branch_given g (ACase place cs) = choices_given g cs
 
-  -- ---- sections
+        other_given : (g : Guard Formula) (o : OtherBranch) → IsGiven (other_parts o) (other_assigns ks o) (other_gives (formulas d) d g ss o)
+        other_given g NoBranch = nothing
+        other_given g (ABranch a) = branch_given g a
 
-  section_named : (on : Bool) (block : ℕ) (x : SectionTree) → some_given (section_gives (formulas d) d on block x) ≡ is_named (section_parts x)
-  section_named on block (Declarations ds) = refl
-  section_named on block (Equations xs) = list_named (unguarded (formulas d) on None) xs
-  section_named on block (ATable place inputs k outputs rows) = table_plain (unguarded (formulas d) on (Some block)) k inputs outputs rows
-  section_named on block (ADiagram place registers xs) = diagram_named (unguarded (formulas d) on (Some block)) registers xs
-  section_named on block (SomeVectors text place inputs outputs rows) = refl
-  section_named on block (DontCareSection directive) = refl
+        choices_given : (g : Guard Formula) (cs : Choices) → IsGiven (choices_parts cs) (choices_assign ks cs) (choices_give (formulas d) d g ss cs)
+        choices_given g NoChoice = nothing
+        choices_given g (MoreChoices c colon a cs) =
+            let g1 = guarded (formulas d) g (condition (formulas d) (term_of d.known c)) in
+            both_given (branch_parts a) (choices_parts cs) (branch_assigns ks a) (choices_assign ks cs) (branch_gives (formulas d) d g1 ss a) (choices_give (formulas d) d g ss cs) (branch_given g1 a) (choices_given g cs)
 
-  pub sections_named : (on : Bool) (block : ℕ) (xs : List SectionTree) → some_given (sections_give (formulas d) d on block xs) ≡ is_named (sections_parts xs)
-  sections_named on block [] = refl
-  sections_named on block (x ∷ xs) =
-      joined (section_parts x) (sections_parts xs) (section_gives (formulas d) d on block x) (sections_give (formulas d) d (after_section on x) (next_block block x) xs)
-      (section_named on block x) (sections_named (after_section on x) (next_block block x) xs)
+      branches_given : (g : Guard Formula) (arms : List Branch) → IsGiven (branches_parts arms) (branches_assign ks arms) (branches_give (formulas d) d g ss arms)
+      branches_given g [] = nothing
+      branches_given g (a ∷ arms) = both_given (branch_parts a) (branches_parts arms) (branch_assigns ks a) (branches_assign ks arms) (branch_gives (formulas d) d g ss a) (branches_give (formulas d) d g ss arms) (branch_given g a) (branches_given g arms)
+
+      states_given : (g : Guard Formula) (xs : List StateTree) → IsGiven (states_parts xs) (states_assign ks xs) (states_give (formulas d) d g ss xs)
+      states_given g [] = nothing
+      states_given g (x ∷ xs) =
+          let g1 = in_state (formulas d) d g ss x in
+          let own = statements_give (formulas d) d g1 (statements_of x.statements) in
+          let next = branches_give (formulas d) d g1 ss x.transitions in
+          let rest = states_give (formulas d) d g ss xs in
+          subst (IsGiven (list_parts x.statements ++ (branches_parts x.transitions ++ states_parts xs)) (list_assigns ks x.statements ++ (branches_assign ks x.transitions ++ states_assign ks xs))) (sym (append_assoc own next rest))
+          (both_given (list_parts x.statements) (branches_parts x.transitions ++ states_parts xs) (list_assigns ks x.statements) (branches_assign ks x.transitions ++ states_assign ks xs) own (next ++ rest) (list_given g1 x.statements)
+          (both_given (branches_parts x.transitions) (states_parts xs) (branches_assign ks x.transitions) (states_assign ks xs) next rest (branches_given g1 x.transitions) (states_given g xs)))
+
+    diagram_given : (g : Guard Formula) (registers : Tree) (xs : List StateTree) → IsGiven (states_parts xs) (assigned_each true (signals_of ks registers) ++ states_assign ks xs) (diagram_gives (formulas d) d g (term_of d.known registers) xs)
+    diagram_given g registers xs =
+        let ss = signals_in (term_of d.known registers) in
+        let own = states_give (formulas d) d g ss xs in
+        let others = other_matches (formulas d) d g ss xs (first_of_each [] (filter (is_other ss) own)) in
+        let states = states_given ss g xs in
+        both_given [] (states_parts xs) (assigned_each true (signals_of ks registers)) (states_assign ks xs) (no_matches (formulas d) d g false true (map Some ss)) (own ++ others)
+        (none_plain g false true (map Some ss), λ e. each_matched d s g false true (map Some ss) ∙ ap (among s) (bare_signals ss) ∙ header_data true registers e) (
+          list_any-append (λ (c : Contribution Formula). test c.extension c.signal) own others
+              ∙ (ap₂ (λ a b. a || b) states.0 (others_plain g ss xs (first_of_each [] (filter (is_other ss) own)))
+              ∙ or_none (is_named (states_parts xs))),
+          λ e. in_front d s own others (states.1 e),
+        )
+
+    table_given : (g : Guard Formula) (k : Bool) (inputs outputs : Tree) (rows : List RowTree) → IsGiven (AValue inputs ∷ []) (assigned_each k (signals_of ks outputs)) (table_gives (formulas d) d g k (term_of d.known inputs) (term_of d.known outputs) rows)
+    table_given g k inputs outputs rows =
+        let ts = targets_of (term_of d.known outputs) in
+        let own = no_matches (formulas d) d g false k ts in
+        let given = rows_give (formulas d) d g k (term_of d.known inputs) (term_of d.known outputs) rows in (
+          both_plain own given (none_plain g false k ts) (rows_plain g k (term_of d.known inputs) (term_of d.known outputs) rows),
+          λ h. in_front d s own given (each_matched d s g false k ts ∙ header_data k outputs h),
+        )
+
+    -- ---- sections
+
+    section_given : (on : Bool) (block : ℕ) (x : SectionTree) → IsGiven (section_parts x) (section_assigns ks x) (section_gives (formulas d) d on block x)
+    section_given on block (Declarations ds) = nothing
+    section_given on block (Equations xs) = list_given (unguarded (formulas d) on None) xs
+    section_given on block (ATable place inputs k outputs rows) = table_given (unguarded (formulas d) on (Some block)) k inputs outputs rows
+    section_given on block (ADiagram place registers xs) = diagram_given (unguarded (formulas d) on (Some block)) registers xs
+    section_given on block (SomeVectors text place inputs outputs rows) = nothing
+    section_given on block (DontCareSection directive) = nothing
+
+    pub sections_given : (on : Bool) (block : ℕ) (xs : List SectionTree) → IsGiven (sections_parts xs) (sections_assign ks xs) (sections_give (formulas d) d on block xs)
+    sections_given on block [] = nothing
+    sections_given on block (x ∷ xs) =
+        both_given (section_parts x) (sections_parts xs) (section_assigns ks x) (sections_assign ks xs) (section_gives (formulas d) d on block x) (sections_give (formulas d) d (after_section on x) (next_block block x) xs)
+        (section_given on block x) (sections_given (after_section on x) (next_block block x) xs)

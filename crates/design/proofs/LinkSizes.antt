@@ -14,10 +14,11 @@ use Rattle.pld_device.specs.Table.{cell_at, no_cell}
 use Rattle.bit_expr.specs.declared.node.Leaf.{Leaf}
 use Rattle.bit_expr.specs.declared.node.Leaf.TheVariants as leaf
 use Rattle.bit_expr.specs.Arena.{IsLeaf}
-use Rattle.abel_tree.specs.Entries.{Kind, APin, ANode, AConstant, ADeviceName, Entry}
+use Rattle.abel_tree.specs.Entries.{Kind, APin, ANode, AConstant, ADeviceName, Entry, is_stored}
 use Rattle.abel_tree.specs.Tree.{Tree}
+use Rattle.pld_device.specs.Pins.{cell_on}
 use Rattle.abel_meaning.specs.Controls.{is_pin}
-use Rattle.abel_meaning.specs.Designs.{Design, name_at, no_name, is_stored, cell_on}
+use Rattle.abel_meaning.specs.Designs.{Design, name_at, no_name}
 use Rattle.abel_meaning.specs.SignalReads.{given_formulas, settles, leaf_by}
 use Rattle.netlist_laws.specs.Takeable.{PinsApart, NodesAreFew}
 use Rattle.netlist_laws.proofs.CellsFound.{has_pin}

@@ -7,7 +7,10 @@ use Rattle.pld_device.specs.declared.cell.Cell.{Cell}
 use Rattle.pld_device.specs.Table.{Table}
 use Rattle.bit_expr.specs.Arena.{arena}
 use Rattle.abel_tree.specs.Tree.{SectionTree, Declarations, Equations, ATable, ADiagram, SomeVectors, DontCareSection, ModuleTree}
-use Rattle.abel_meaning.specs.Designs.{Context, Design, design_of, cell_on}
+use Rattle.pld_device.specs.Pins.{cell_on}
+use Rattle.abel_tree.specs.Assigned.{sections_assign}
+use Rattle.abel_meaning.specs.Designs.{Context, Design, design_of}
+use Rattle.abel_meaning.specs.Held.{sections_parts}
 use Rattle.set_expr.specs.FoundNames.{constants_refused}
 use Rattle.section_targets.specs.declared.manner.Manner.{Manner}
 use Rattle.section_targets.specs.Manners.{is_cell_pin, is_output_kind}
@@ -17,13 +20,12 @@ use Rattle.source_sections.specs.SectionAnswers.{source_units}
 use Rattle.source_sections.specs.SectionUnits.{section_manners, units_of_section, units_of_sections}
 use Rattle.design.specs.Accepted.{AssignedAreOnCells, AssignedHaveData, HasBareHeader, HaveBareHeaders, IsAccepted}
 use Rattle.design.specs.AssignedCorrect.{AreGiven, HasSoundSections, HasSoundDeclarations}
-use Rattle.design.proofs.AssignedSections.{sections_data}
 use Rattle.design.proofs.AssignedNames.{own_names, names_within, by_sections, signal_there}
 use Rattle.design.proofs.BareRegisters.{registers_bare}
-use Rattle.design.proofs.BareTargets.{sections_bare}
+use Rattle.design.proofs.ClearSections.{IsClear, sections_clear}
 use Rattle.design.proofs.FreeRegisters.{free_may_choose}
-use Rattle.design.proofs.SectionOutputs.{sections_output}
-use Rattle.design.proofs.StatementOutputs.{first_units, last_units}
+use Rattle.design.proofs.GivenTargets.{sections_given}
+use Rattle.design.proofs.UnrefusedParts.{first_units, last_units}
 
 -- ---- cells
 
@@ -67,13 +69,16 @@ module _ (t : Table) (m : ModuleTree) where
   d = design_of t m
 
   data_there : AssignedHaveData d
-  data_there s h = sections_data d.context s (own_names t m) (names_within t m s) d.starts_dontcare 0 m.sections (by_sections t m s h)
+  data_there s h = (sections_given d.context (λ e j. false) (λ j. refl) s (own_names t m) (names_within t m s) d.starts_dontcare 0 m.sections).1 (by_sections t m s h)
+
+  clear_for : (s : ℕ) → HasSoundSections d → IsClear d.context s (own_names t m) (names_within t m s) (sections_parts m.sections) (sections_assign (own_names t m) m.sections)
+  clear_for s r = sections_clear d.context s (own_names t m) (names_within t m s) [] m.sections (units_clear d r)
 
   on_cells : HasSoundSections d → AssignedAreOnCells d.context
   on_cells r s pin negated kind h =
       cell_there t pin
       (subst (λ k. is_output_kind t k ≡ true) kind
-      (sections_output d.context s (own_names t m) (names_within t m s) [] m.sections (units_clear d r) (by_sections t m s h)))
+      ((clear_for s r).1 (by_sections t m s h)))
 
 pub all_given : (t : Table) (m : ModuleTree) → AreGiven (design_of t m)
 all_given t m = record { signals = signal_there t m; data_given = data_there t m }
@@ -85,7 +90,7 @@ pub all_accepted : (t : Table) (m : ModuleTree) → HasSoundDeclarations (design
 all_accepted t m n r =
     record {
       names = record { known = refl; pins = n.pins; nodes = n.nodes; signals = signal_there t m; buffers = n.buffers; cells = on_cells t m r };
-      free = free_may_choose t m (sections_bare (design_of t m).context [] m.sections (units_clear (design_of t m) r));
+      free = free_may_choose t m (clear_for t m 0 r).0;
       data_given = data_there t m;
       headers = headers_bare (design_of t m).context [] m.sections (units_clear (design_of t m) r);
     }

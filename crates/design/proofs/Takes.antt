@@ -14,13 +14,15 @@ use Rattle.pld_device.specs.declared.kinds.Kinds.TheVariants.{Combinational, Reg
 use Rattle.pld_device.specs.Laws.{IsCell, IsDevice}
 use Rattle.pld_device.specs.Table.{Table, cell_at, no_cell}
 use Rattle.abel_tree.specs.declared.words.Extension.TheVariants as extension
-use Rattle.abel_tree.specs.Entries.{Kind, APin, ANode, AConstant, ADeviceName, Entry, is_signal}
+use Rattle.abel_tree.specs.Entries.{Kind, APin, ANode, AConstant, ADeviceName, Entry, is_signal, is_stored}
 use Rattle.abel_tree.specs.Tree.{Tree}
-use Rattle.abel_meaning.specs.Designs.{Design, name_at, no_name, is_stored, cell_on}
+use Rattle.pld_device.specs.Pins.{cell_on}
+use Rattle.abel_tree.specs.Extensions.{is_data}
+use Rattle.abel_meaning.specs.Designs.{Design, name_at, no_name}
 use Rattle.abel_meaning.specs.Functions.{is_data_to}
 use Rattle.abel_meaning.specs.SignalReads.{given_formulas}
 use Rattle.abel_meaning.specs.Soundness.{MayRegister}
-use Rattle.abel_meaning.specs.Targets.{targets_of, is_data}
+use Rattle.abel_meaning.specs.Targets.{targets_of}
 use Rattle.abel_meaning.specs.Terms.{term_of}
 use Rattle.set_expr.specs.declared.contributions.Contribution as code
 use Rattle.set_expr.specs.Given.{view_contribution}
@@ -75,6 +77,11 @@ preset_there t x ADeviceName signal has = absurd cc
 module _ (uses_have_columns : UsesHaveColumns) (d : Design) (fs : List Formula) (cs : List code.Contribution) (laws : IsDevice d.context.device) (accepted : IsAccepted d) (same : map (view_contribution fs) cs ≡ given_formulas d) (unrefused : IsUnrefused d cs) where
   -- ---- names
 
+  not_signal : (kind : Kind) (s : ℕ) (x : Entry) → slice_get d.context.names s ≡ Some x → x.kind ≡ kind → is_stored x ≡ true → is_signal kind ≡ false → ⊥
+  not_signal kind s x is said stored no_signal =
+      let here : name_at d.context s ≡ x = get_or_from_slice_get d.context.names s x no_name is in
+      true≢false (sym (accepted.names.signals s (ap (λ (y : Entry). y.assigned) here ∙ (and_parts x.words.registered x.assigned stored).1)) ∙ ap (λ (y : Entry). is_signal y.kind) here ∙ ap is_signal said ∙ no_signal)
+
   stored_on_cell : (s : ℕ) (x : Entry) (kind : Kind) → slice_get d.context.names s ≡ Some x → x.kind ≡ kind → is_stored x ≡ true → IsSome (cell_by d.context.device x kind)
   stored_on_cell s x (APin pin negated) is kind stored =
       let here : name_at d.context s ≡ x = get_or_from_slice_get d.context.names s x no_name is in
@@ -88,17 +95,7 @@ module _ (uses_have_columns : UsesHaveColumns) (d : Design) (fs : List Formula) 
       let parts = and_parts x.words.registered x.assigned stored in
       absurd (true≢false (sym parts.0 ∙ sym (ap (is_registered_by x.words.registered) kind) ∙ no_registered 0 d.context.names unrefused.nodes s x is))
   stored_on_cell s x (AConstant value) is kind stored = absurd (not_signal (AConstant value) s x is kind stored refl)
-    where
-      not_signal : (kind : Kind) (s : ℕ) (x : Entry) → slice_get d.context.names s ≡ Some x → x.kind ≡ kind → is_stored x ≡ true → is_signal kind ≡ false → ⊥
-      not_signal kind s x is said stored no_signal =
-          let here : name_at d.context s ≡ x = get_or_from_slice_get d.context.names s x no_name is in
-          true≢false (sym (accepted.names.signals s (ap (λ (y : Entry). y.assigned) here ∙ (and_parts x.words.registered x.assigned stored).1)) ∙ ap (λ (y : Entry). is_signal y.kind) here ∙ ap is_signal said ∙ no_signal)
   stored_on_cell s x ADeviceName is kind stored = absurd (not_signal ADeviceName s x is kind stored refl)
-    where
-      not_signal : (kind : Kind) (s : ℕ) (x : Entry) → slice_get d.context.names s ≡ Some x → x.kind ≡ kind → is_stored x ≡ true → is_signal kind ≡ false → ⊥
-      not_signal kind s x is said stored no_signal =
-          let here : name_at d.context s ≡ x = get_or_from_slice_get d.context.names s x no_name is in
-          true≢false (sym (accepted.names.signals s (ap (λ (y : Entry). y.assigned) here ∙ (and_parts x.words.registered x.assigned stored).1)) ∙ ap (λ (y : Entry). is_signal y.kind) here ∙ ap is_signal said ∙ no_signal)
 
   -- ---- cells
 

@@ -4,15 +4,15 @@ use Rattle.std.specs.Prelude.{filter, slice_get}
 use Rattle.std.specs.List.{list_any}
 use Rattle.bit_expr.specs.Formulas.{Formula}
 use Rattle.abel_tree.specs.Entries.{Entry}
+use Rattle.abel_tree.specs.Extensions.{is_data}
 use Rattle.abel_meaning.specs.Contributions as meant
 use Rattle.abel_meaning.specs.Designs.{Context, name_at}
-use Rattle.abel_meaning.specs.Targets.{is_data}
 use Rattle.set_expr.specs.declared.contributions.Contribution.{Contribution}
 use Rattle.set_expr.specs.Given.{view_contribution}
-use Rattle.design_checks.specs.declared.signal_fault.SignalFault.{SignalFault}
-use Rattle.design_checks.specs.declared.signal_fault.SignalFault.TheVariants as fault
-use Rattle.design_checks.specs.declared.rules.Rule.TheVariants as rule
-use Rattle.design_checks.specs.SignalsRefused.{refused_if, has_wrong_kind, is_registered_node, registered_nodes, lacks_control, rule_refused, all_refused}
+use Rattle.design_checks.specs.declared.refused.RefusedUse.{RefusedUse}
+use Rattle.design_checks.specs.Refused.{is_lacking, is_wrong_target, lacking_controls, targets_refused, wrong_kinds}
+use Rattle.design_checks.specs.SignalsRefused.{has_wrong_kind, is_registered_node, lacks_control, node_refused, registered_nodes}
+use Rattle.design_checks.specs.UsesRefused.{told_if}
 use Rattle.design_checks.specs.LocatedUses.{PlacedUse}
 
 pub front_empty : {A : Type 0} (xs ys : List A) → xs ++ ys ≡ [] → xs ≡ []
@@ -23,9 +23,9 @@ pub back_empty : {A : Type 0} (xs ys : List A) → xs ++ ys ≡ [] → ys ≡ []
 back_empty [] ys e = e
 back_empty (x ∷ xs) ys e = absurd cc
 
-not_refused : (b : Bool) (f : SignalFault) → refused_if b f ≡ [] → b ≡ false
-not_refused true f e = absurd cc
-not_refused false f e = refl
+not_refused : (b : Bool) (r : RefusedUse) → told_if b r ≡ [] → b ≡ false
+not_refused true r e = absurd cc
+not_refused false r e = refl
 
 -- ---- contributions
 
@@ -43,21 +43,22 @@ module _ (d : Context) (fs : List Formula) where
   abbrev pub HasControl : meant.Contribution Formula → Type 0
   HasControl c = lacks_control d.device (name_at d c.signal) c.extension ≡ false
 
-  pub kinds_fit : (cs : List Contribution) → all_refused d.device d.names rule.Kinds cs ≡ [] → EachOf FitsKind (map (view_contribution fs) cs)
-  kinds_fit [] e = tt
-  kinds_fit (c ∷ cs) e =
-      let own = rule_refused d.device rule.Kinds (name_at d c.target.signal) c in (
-        not_refused (is_data c.target.extension && has_wrong_kind d.device (name_at d c.target.signal)) (fault.WrongKind c.place c.target.signal) (front_empty own (all_refused d.device d.names rule.Kinds cs) e),
-        kinds_fit cs (back_empty own (all_refused d.device d.names rule.Kinds cs) e),
+  -- what a test refuses of none, it refuses of no contribution
+  each_passes : (test : Entry → Contribution → Bool) (P : meant.Contribution Formula → Type 0) → ((c : Contribution) → test (name_at d c.target.signal) c ≡ false → P (view_contribution fs c))
+      → (cs : List Contribution) → targets_refused test d.names cs ≡ [] → EachOf P (map (view_contribution fs) cs)
+  each_passes test P says [] e = tt
+  each_passes test P says (c ∷ cs) e =
+      let told : RefusedUse = record { place = c.place; name = c.target.signal } in
+      let own = told_if (test (name_at d c.target.signal) c) told in (
+        says c (not_refused (test (name_at d c.target.signal) c) told (front_empty own (targets_refused test d.names cs) e)),
+        each_passes test P says cs (back_empty own (targets_refused test d.names cs) e),
       )
 
-  pub controls_there : (cs : List Contribution) → all_refused d.device d.names rule.Controls cs ≡ [] → EachOf HasControl (map (view_contribution fs) cs)
-  controls_there [] e = tt
-  controls_there (c ∷ cs) e =
-      let own = rule_refused d.device rule.Controls (name_at d c.target.signal) c in (
-        not_refused (lacks_control d.device (name_at d c.target.signal) c.target.extension) (fault.NoSuchControl c.place c.target.signal) (front_empty own (all_refused d.device d.names rule.Controls cs) e),
-        controls_there cs (back_empty own (all_refused d.device d.names rule.Controls cs) e),
-      )
+  pub kinds_fit : (cs : List Contribution) → wrong_kinds d.device d.names cs ≡ [] → EachOf FitsKind (map (view_contribution fs) cs)
+  kinds_fit cs e = each_passes (is_wrong_target d.device) FitsKind (λ c fits. fits) cs e
+
+  pub controls_there : (cs : List Contribution) → lacking_controls d.device d.names cs ≡ [] → EachOf HasControl (map (view_contribution fs) cs)
+  controls_there cs e = each_passes (is_lacking d.device) HasControl (λ c has. has) cs e
 
 -- one of several that passes
 pub some_of : (P : meant.Contribution Formula → Type 0) (test : meant.Contribution Formula → Bool) (cs : List (meant.Contribution Formula)) → EachOf P cs → list_any test cs ≡ true
@@ -74,12 +75,12 @@ some_of P test (c ∷ cs) h e = by (test c) refl (λ g. some_of P test cs h.1 g)
 pub no_registered : (s : ℕ) (xs : List Entry) → registered_nodes s xs ≡ [] → (k : ℕ) (x : Entry) → slice_get xs k ≡ Some x → is_registered_node x ≡ false
 no_registered s [] e k x is = absurd cc
 no_registered s (y ∷ xs) e zero x is =
-    subst (λ z. is_registered_node z ≡ false) (some_same is) (not_refused (is_registered_node y) (fault.RegisteredNode y.place s) (front_empty (refused_if (is_registered_node y) (fault.RegisteredNode y.place s)) (registered_nodes (suc s) xs) e))
+    subst (λ z. is_registered_node z ≡ false) (some_same is) (not_refused (is_registered_node y) (record { place = y.place; name = s }) (front_empty (node_refused s y) (registered_nodes (suc s) xs) e))
   where
     some_same : Some y ≡ Some x → y ≡ x
     some_same e = cc
 no_registered s (y ∷ xs) e (suc k) x is =
-    no_registered (suc s) xs (back_empty (refused_if (is_registered_node y) (fault.RegisteredNode y.place s)) (registered_nodes (suc s) xs) e) k x is
+    no_registered (suc s) xs (back_empty (node_refused s y) (registered_nodes (suc s) xs) e) k x is
 
 -- ---- uses
 

@@ -3,17 +3,14 @@ use Rattle.std.proofs.Common.{◌≡◌, List, [], ◌∷◌, ◌++◌, map, ref
 use Rattle.bit_expr.specs.Formulas.{Formula}
 use Rattle.abel_meaning.specs.Designs.{Design, design_of}
 use Rattle.set_expr.specs.declared.contributions.Contribution.{Contribution}
-use Rattle.design_checks.specs.declared.rules.Rule.TheVariants as rule
-use Rattle.design_checks.specs.SignalsRefused.{all_refused, registered_nodes}
 use Rattle.design_checks.specs.RefusedUses.{missing_uses, unread_uses}
-use Rattle.design_checks.specs.Compared.{other_levels}
 use Rattle.design_checks.specs.Written.{unwritten}
 use Rattle.design_checks.specs.UsesRefused.{told}
 use Rattle.netlist_laws.specs.GatheredCorrect.{GatheredIsSound, GatheredMeansTheSame}
 use Rattle.design.specs.AcceptedCorrect.{UnrefusedIsTakeable}
 use Rattle.design.specs.Unrefused.{IsUnrefused}
 use Rattle.design.proofs.Unlisted.{front_empty, back_empty}
-use Rattle.design_checks.specs.Refused.{plain, targets_refused, target_controls}
+use Rattle.design_checks.specs.Refused.{lacking_controls, other_levels, target_controls}
 use Rattle.design_checks.specs.Verdict.{HasSoundSignals}
 use Rattle.design.specs.Answers.{HasNoRefusal}
 use Rattle.design.specs.DesignCorrect.{UnrefusedIsSound}
@@ -27,15 +24,13 @@ module _ (d : Design) (fs : List Formula) (cs : List Contribution) where
   controls_empty sound = front_empty (target_controls d.context.device fs d.context.names cs) (unwritten d ++ map told (missing_uses d)) sound.uses.controls.controls
 
   -- no target names what its signal doesn't have
-  pub had : HasSoundSignals d fs cs → all_refused d.context.device d.context.names rule.Controls cs ≡ []
-  had sound =
-      mapped_empty plain (all_refused d.context.device d.context.names rule.Controls cs)
-      (front_empty (targets_refused d.context.device d.context.names rule.Controls cs) (other_levels d.context.device fs d.context.names cs) (controls_empty sound))
+  pub had : HasSoundSignals d fs cs → lacking_controls d.context.device d.context.names cs ≡ []
+  had sound = front_empty (lacking_controls d.context.device d.context.names cs) (other_levels d.context.device fs d.context.names cs) (controls_empty sound)
 
   pub unrefused : HasNoRefusal d fs cs → IsUnrefused d cs
   unrefused none = record {
-    kinds = mapped_empty plain (all_refused d.context.device d.context.names rule.Kinds cs) none.signals.kinds.kinds;
-    nodes = mapped_empty plain (registered_nodes 0 d.context.names) none.signals.kinds.nodes;
+    kinds = none.signals.kinds.kinds;
+    nodes = none.signals.kinds.nodes;
     controls = had none.signals;
     missing = mapped_empty told (missing_uses d) (back_empty (unwritten d) (map told (missing_uses d)) (back_empty (target_controls d.context.device fs d.context.names cs) (unwritten d ++ map told (missing_uses d)) none.signals.uses.controls.controls));
     unread = mapped_empty told (unread_uses d) none.signals.uses.paths;

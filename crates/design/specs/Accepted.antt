@@ -2,10 +2,11 @@
 use Rattle.std.specs.Prelude.{◌≡◌, ◌≢◌, ℕ, Bool, true, false, ◌&&◌, None, Some, IsSome, List, [], ◌∷◌}
 use Rattle.std.specs.List.{list_any}
 use Rattle.pld_device.specs.declared.flip.Flip.TheVariants.{AfterRegister}
-use Rattle.abel_tree.specs.Entries.{APin, is_signal}
+use Rattle.abel_tree.specs.Entries.{APin, is_signal, is_stored, follows_q}
 use Rattle.abel_tree.specs.Tree.{SectionTree, ADiagram}
+use Rattle.pld_device.specs.Pins.{cell_on}
 use Rattle.abel_meaning.specs.Choices.{is_free}
-use Rattle.abel_meaning.specs.Designs.{Context, Design, name_at, is_stored, follows_q, cell_on}
+use Rattle.abel_meaning.specs.Designs.{Context, Design, name_at}
 use Rattle.abel_meaning.specs.Functions.{is_data_to}
 use Rattle.abel_meaning.specs.SignalReads.{given_formulas}
 use Rattle.abel_meaning.specs.Terms.{Term, Terms, Read, Set, NoTerm, Before, known_of, term_of}

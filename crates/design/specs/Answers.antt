@@ -3,7 +3,7 @@ use Rattle.std.specs.Prelude.{◌≡◌, ℕ, Bool, true, Some, List, get_or}
 use Rattle.pld_base.specs.declared.place.Place.{Place}
 use Rattle.bit_expr.specs.Formulas.{Formula}
 use Rattle.abel_tree.specs.declared.words.Extension.TheVariants as extension
-use Rattle.abel_tree.specs.FirstRefusal.{Ranks, is_before}
+use Rattle.abel_tree.specs.FirstRefusal.{is_before, place_order}
 use Rattle.abel_meaning.specs.Designs.{Design, name_at}
 use Rattle.abel_meaning.specs.SignalReads.{IsSignalLoop, HasNoSignalLoop, IsSignalPath, HasNoSignalPath}
 use Rattle.set_expr.specs.declared.contributions.Contribution.{Contribution}
@@ -29,10 +29,6 @@ pub record IsFirstLoop (d : Design) (p : Place) (chain : List ℕ) : Type 0 wher
 -- the first target of the reset of s stands here
 abbrev pub IsResetAt : List Contribution → (s : ℕ) → Place → Type 0
 IsResetAt cs s p = target_place (first_target s extension.Ar cs) ≡ Some p
-
--- places in order
-abbrev pub place_order : Ranks Place
-place_order = record { place = λ p. p; rank = λ p. 0 }
 
 -- one place stands before another
 abbrev pub is_sooner : Place → Place → Bool

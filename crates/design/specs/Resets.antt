@@ -1,10 +1,11 @@
 -- Private: paths from the resets of a netlist's cells to registers (this project's rule).
-use Rattle.std.specs.Prelude.{◌≡◌, ℕ, ◌<◌, true, Option, None, Some, List, All, length, get_or, if◌then◌else◌}
+use Rattle.std.specs.Prelude.{◌≡◌, ℕ, ◌<◌, true, Option, None, Some, List, All, length, get_or}
 use Rattle.pld_base.specs.declared.place.Place.{Place}
 use Rattle.bit_expr.specs.declared.netlist.CellWanted.{CellWanted}
 use Rattle.bit_expr.specs.declared.netlist.Control.{Control}
 use Rattle.bit_expr.specs.Formulas.{Formula}
 use Rattle.abel_tree.specs.declared.words.Extension.TheVariants as extension
+use Rattle.abel_tree.specs.FirstRefusal.{Ranks}
 use Rattle.abel_meaning.specs.Controls.{control_of}
 use Rattle.abel_meaning.specs.Designs.{Design}
 use Rattle.abel_meaning.specs.FormulaBits.{formulas}
@@ -76,8 +77,6 @@ module _ (fs : List Formula) (ns : List ℕ) (ls : List Link) where
   IsPathTold ws fault.OutOfMemory = Unit {0}
   IsPathTold ws _ = ⊥
 
--- the first of two that may be none
-abbrev pub first_of : Option ResetPath → Option ResetPath → Option ResetPath
-first_of None q = q
-first_of (Some p) None = Some p
-first_of (Some p) (Some q) = if is_sooner q.place p.place then Some q else Some p
+-- paths in order of their resets
+abbrev pub path_order : Ranks ResetPath
+path_order = record { place = λ p. p.place; rank = λ p. 0 }

@@ -3,15 +3,15 @@ use Rattle.std.specs.Prelude.{◌≡◌, ℕ, List, []}
 use Rattle.abel_meaning.specs.Designs.{Design}
 use Rattle.abel_meaning.specs.SignalReads.{HasNoSignalLoop, HasNoSignalPath}
 use Rattle.set_expr.specs.declared.contributions.Contribution.{Contribution}
-use Rattle.design_checks.specs.declared.rules.Rule.TheVariants as rule
-use Rattle.design_checks.specs.SignalsRefused.{all_refused, registered_nodes}
+use Rattle.design_checks.specs.Refused.{lacking_controls, wrong_kinds}
+use Rattle.design_checks.specs.SignalsRefused.{registered_nodes}
 use Rattle.design_checks.specs.RefusedUses.{missing_uses, unread_uses}
 
 -- nothing is refused of the design, to whose targets this is contributed
 pub record IsUnrefused (d : Design) (cs : List Contribution) : Type 0 where
-  pub kinds : all_refused d.context.device d.context.names rule.Kinds cs ≡ []
+  pub kinds : wrong_kinds d.context.device d.context.names cs ≡ []
   pub nodes : registered_nodes 0 d.context.names ≡ []
-  pub controls : all_refused d.context.device d.context.names rule.Controls cs ≡ []
+  pub controls : lacking_controls d.context.device d.context.names cs ≡ []
   pub missing : missing_uses d ≡ []
   pub unread : unread_uses d ≡ []
   pub no_loop : HasNoSignalLoop d

@@ -4,9 +4,9 @@ ghost use Rattle.std.specs.Prelude.{◌≡◌, ◌≤◌, All, IfOk, IfErr, leng
 ghost use Rattle.bit_expr.specs.Arena.{arena};
 ghost use Rattle.abel_meaning.specs.SoundIds.{IsCellIn};
 ghost use Rattle.gathering.specs.Links.{AreLeaves};
-ghost use Rattle.design.specs.Answers.{is_sooner};
-ghost use Rattle.design.specs.Resets.{AllLeadNowhere, IsFirstFound, IsFoundOf, IsPathTold, first_of};
+ghost use Rattle.design.specs.Resets.{AllLeadNowhere, IsFirstFound, IsFoundOf, IsPathTold};
 
+use abel_tree::{Ranked, earlier};
 use bit_expr::{CellWanted, Exprs};
 use design_checks::DesignFault;
 use gathering::{Link, reset_path};
@@ -20,32 +20,17 @@ pub(crate) struct ResetPath {
     pub(crate) path: ListOf<u32>,
 }
 
-/// Whether one place stands before another.
-#[tactic(auto, using(crate::proofs::Sooner::sooner_by))]
-fn is_sooner(here: Place, there: Place) -> bool
-    ensures { result ≡ is_sooner here there }
-{
-    if here.line != there.line {
-        here.line < there.line
-    } else {
-        here.column < there.column
-    }
-}
+impl Ranked for ResetPath {
+    ghost use Rattle.design.specs.Resets.{path_order};
 
-/// The first of two that may be none.
-fn first_of(left: Option<ResetPath>, right: Option<ResetPath>) -> Option<ResetPath>
-    ensures { result ≡ first_of left right }
-{
-    match (left, right) {
-        (Some(here), Some(there)) => {
-            if is_sooner(there.place, here.place) {
-                Some(there)
-            } else {
-                Some(here)
-            }
-        }
-        (Some(here), None) => Some(here),
-        (None, right) => right,
+    ghost ranks = { path_order };
+
+    fn place(&self) -> Place {
+        self.place
+    }
+
+    fn rank(&self) -> u8 {
+        0
     }
 }
 
@@ -93,7 +78,7 @@ fn first_path(
     let mut first = None;
     for wanted in cells {
         let found = path_of(alloc, exprs, signals, links, wanted)?;
-        first = first_of(first, found);
+        first = earlier(first, found);
     }
     Ok(first)
 }

@@ -13,7 +13,7 @@ loop-wanted-preserved c =
     let fs = arena c.args.exprs.now in
     let ns = c.args.signals.now in
     let ls = c.args.links.now in
-    subst (IsFirstFound fs ns ls (take (c.loop-wanted.wanted-index + 1) c.args.cells.now)) (sym c.first_of-first.ensures)
+    subst (IsFirstFound fs ns ls (take (c.loop-wanted.wanted-index + 1) c.args.cells.now)) (sym c.earlier-first.ensures)
     (first_more fs ns ls c.args.cells.now c.loop-wanted.wanted-index _ c.loop-wanted.first c.in_ok-found.found c.loop-wanted-test.true c.loop-wanted.invariant c.in_ok-found.ensures)
 
 pub returns : goal.returns
