@@ -8,13 +8,13 @@ use Rattle.std.proofs.lemmas.Option.{get_or_from_slice_get, slice_get-get_or, sl
 use Rattle.pld_device.specs.declared.carry.Carry.{Carry}
 use Rattle.pld_device.specs.declared.carry.Carry.TheVariants as carry
 use Rattle.pld_device.specs.Laws.{IsDevice, IsPair}
-use Rattle.pld_device.specs.Pins.{IsPairOf, pair_pins, pin_carried}
+use Rattle.pld_device.specs.Pins.{IsPairOf, pair_pins, pin_carried, carries_cell}
 use Rattle.pld_device.specs.Table.{Table, cell_at, no_cell}
 use Rattle.pld_device.proofs.OwnPins.{pairs_apart}
 use Rattle.bit_expr.specs.declared.netlist.Netlist.{Netlist}
 use Rattle.bit_expr.specs.declared.node.Leaf.TheVariants as leaf
 use Rattle.abel_meaning.specs.Netlists.{plain_netlist}
-use Rattle.abel_meaning.specs.SoundIds.{IsSoundNetlist, carries_cell, no_pair, pair_of_cell, pair_of_pin}
+use Rattle.abel_meaning.specs.SoundIds.{IsSoundNetlist, no_pair, pair_of_cell, pair_of_pin}
 use Rattle.abel_meaning.specs.Soundness.{IsReadable}
 use Rattle.sop_lowering.specs.Written.{pair_of}
 
