@@ -14,8 +14,8 @@ use Rattle.abel_tree.specs.declared.words.Extension.TheVariants as extension
 use Rattle.abel_tree.specs.declared.words.Sign.TheVariants as sign
 use Rattle.abel_tree.specs.Assigned.{Assigned, Named, assigned_by, is_assigned, is_clocked_target, list_assigns, named_of, sections_assign, signals_of_name, statement_assigns}
 use Rattle.abel_tree.specs.Tree.{Tree, AName, Statement, AnAssign, SectionTree, ModuleTree}
+use Rattle.abel_tree.specs.Extensions.{is_data, is_raw}
 use Rattle.abel_meaning.specs.Declarations.{declared_names}
-use Rattle.abel_meaning.specs.Targets.{is_data, is_raw}
 use Rattle.abel_meaning.specs.Terms.{Term, extended_if}
 use Rattle.design.specs.AssignedCorrect.{bare_signals}
 use Rattle.design.proofs.AssignedNames.{same_targets}

@@ -10,8 +10,8 @@ use Rattle.pld_device.specs.Registers.{stores}
 use Rattle.pld_device.specs.Table.{Table, cell_at}
 use Rattle.abel_tree.specs.declared.words.Extension.{Extension}
 use Rattle.abel_tree.specs.declared.words.Extension.TheVariants as extension
+use Rattle.abel_tree.specs.Extensions.{is_data}
 use Rattle.abel_meaning.specs.Controls.{is_the_control}
-use Rattle.abel_meaning.specs.Targets.{is_data}
 use Rattle.decompiled.specs.declared.sum_line.SumLine.{SumLine}
 use Rattle.decompiled_logic.specs.LineGives.{is_data_line, is_control_line}
 use Rattle.decompiled.specs.Sources.{cell_lines, lines_of, control_line, data_line, enable_lines, first_register, has_lines, shared_lines}

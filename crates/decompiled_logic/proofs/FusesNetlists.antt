@@ -13,18 +13,18 @@ use Rattle.pld_device.specs.Table.{Table, cell_at}
 use Rattle.bit_expr.specs.Formulas.{Formula, Const}
 use Rattle.abel_tree.specs.declared.words.Extension.{Extension}
 use Rattle.abel_tree.specs.declared.words.Extension.TheVariants as extension
-use Rattle.abel_tree.specs.Entries.{Entry}
+use Rattle.abel_tree.specs.Entries.{Entry, is_stored}
 use Rattle.abel_tree.specs.Tree.{ModuleTree}
+use Rattle.abel_tree.specs.Extensions.{is_raw}
 use Rattle.abel_meaning.specs.Contributions.{Contribution}
 use Rattle.abel_meaning.specs.Controls.{control_if_stored, control_of, shared_from}
-use Rattle.abel_meaning.specs.Designs.{Design, design_of, is_stored, name_at, no_name}
+use Rattle.abel_meaning.specs.Designs.{Design, design_of, name_at, no_name}
 use Rattle.abel_meaning.specs.FormulaBits.{formulas}
 use Rattle.abel_meaning.specs.Functions.{function_of, is_data_to, is_raw_signal}
 use Rattle.abel_meaning.specs.Kinds.{names_of}
 use Rattle.abel_meaning.specs.Netlists.{PlainNetlist, Wanted, own_of, own_or_shared, shared_function, wanted_at}
 use Rattle.abel_meaning.specs.SignalReads.{given_formulas}
 use Rattle.abel_meaning.specs.SourceLogic.{is_negated, is_node_number, node_signal}
-use Rattle.abel_meaning.specs.Targets.{is_raw}
 use Rattle.netlist_laws.specs.Gathered.{by_row, netlist_of, wanted_for}
 use Rattle.netlist_laws.proofs.CellsFound.{wanted_found}
 use Rattle.netlist_laws.proofs.NodeNumbers.{names_numbered}

@@ -11,11 +11,11 @@ use Rattle.pld_device.specs.Registers.{is_inverted, stores}
 use Rattle.pld_device.specs.Table.{Table, cell_at}
 use Rattle.pld_device.proofs.OwnPins.{own_pins}
 use Rattle.abel_tree.specs.Assigned.{Assigned, is_assigned, is_clocked_target}
-use Rattle.abel_tree.specs.Entries.{APin, Entry}
+use Rattle.abel_tree.specs.Entries.{APin, Entry, follows_q, is_stored}
 use Rattle.abel_tree.specs.Tree.{ModuleTree}
 use Rattle.abel_meaning.specs.Choices.{is_free}
 use Rattle.abel_meaning.specs.Declarations.{entry}
-use Rattle.abel_meaning.specs.Designs.{design_of, follows_q, is_stored, name_at}
+use Rattle.abel_meaning.specs.Designs.{design_of, name_at}
 use Rattle.abel_meaning.specs.Held.{Holds}
 use Rattle.abel_meaning.specs.Kinds.{with_kind}
 use Rattle.decompiled.specs.SourceText.{name_text}

@@ -9,10 +9,11 @@ use Rattle.std.proofs.lemmas.Option.{get_or_from_slice_get, slice_get_within}
 use Rattle.pld_device.specs.Laws.{IsDevice}
 use Rattle.pld_device.specs.Table.{Table, cell_at}
 use Rattle.abel_tree.specs.declared.words.Extension.TheVariants as extension
-use Rattle.abel_tree.specs.Entries.{Kind, APin, Entry}
+use Rattle.abel_tree.specs.Entries.{Kind, APin, Entry, is_stored}
 use Rattle.abel_tree.specs.Tree.{ModuleTree}
+use Rattle.pld_device.specs.Pins.{cell_on}
 use Rattle.abel_meaning.specs.Controls.{is_pin, signal_on}
-use Rattle.abel_meaning.specs.Designs.{cell_on, design_of, is_stored, name_at, no_name}
+use Rattle.abel_meaning.specs.Designs.{design_of, name_at, no_name}
 use Rattle.abel_meaning.specs.Kinds.{names_of}
 use Rattle.netlist_laws.specs.Gathered.{cell_by, cell_of}
 use Rattle.netlist_laws.specs.Takeable.{RegistersHaveCells}

@@ -8,10 +8,10 @@ use Rattle.pld_device.specs.declared.flip.Flip.{Flip}
 use Rattle.pld_device.specs.Laws.{IsDevice}
 use Rattle.pld_device.specs.Table.{Table}
 use Rattle.abel_tree.specs.Assigned.{Assigned, named_of, sections_assign}
-use Rattle.abel_tree.specs.Entries.{APin, ADeviceName, Entry}
+use Rattle.abel_tree.specs.Entries.{APin, ADeviceName, Entry, is_stored}
 use Rattle.abel_tree.specs.Tree.{ModuleTree}
 use Rattle.abel_meaning.specs.Declarations.{declared_names, entry, no_words}
-use Rattle.abel_meaning.specs.Designs.{design_of, is_stored, name_at, no_name}
+use Rattle.abel_meaning.specs.Designs.{design_of, name_at, no_name}
 use Rattle.abel_meaning.specs.Held.{Holds, holds_of}
 use Rattle.abel_meaning.specs.Kinds.{names_of, with_kind, with_kinds}
 use Rattle.abel_meaning.specs.Terms.{Known, Number, Read, known_after, known_of, term_meant, term_named}

@@ -13,10 +13,11 @@ use Rattle.bit_expr.specs.declared.node.Leaf.TheVariants as leaf
 use Rattle.bit_expr.specs.Formulas.{Formula}
 use Rattle.abel_tree.specs.declared.words.Extension.{Extension}
 use Rattle.abel_tree.specs.declared.words.Extension.TheVariants as extension
-use Rattle.abel_tree.specs.Entries.{Kind, Entry}
+use Rattle.abel_tree.specs.Entries.{Kind, Entry, follows_q, is_stored}
 use Rattle.abel_tree.specs.Tree.{SectionTree, Equations, ModuleTree}
+use Rattle.pld_device.specs.Pins.{cell_on}
 use Rattle.abel_meaning.specs.Contributions.{Contribution}
-use Rattle.abel_meaning.specs.Designs.{Design, design_of, cell_on, follows_q, is_stored}
+use Rattle.abel_meaning.specs.Designs.{Design, design_of}
 use Rattle.abel_meaning.specs.FormulaBits.{formulas}
 use Rattle.abel_meaning.specs.Sections.{section_gives, sections_give}
 use Rattle.abel_meaning.specs.SignalReads.{given_formulas}

@@ -5,6 +5,7 @@ use Rattle.bit_expr.specs.declared.node.Leaf.{Leaf}
 use Rattle.bit_expr.specs.Formulas.{Formula, Const}
 use Rattle.abel_tree.specs.declared.words.Extension.{Extension}
 use Rattle.abel_tree.specs.Tree.{Statement, statements_of}
+use Rattle.abel_tree.specs.Extensions.{is_data}
 use Rattle.abel_meaning.specs.Contributions.{Contribution, One}
 use Rattle.abel_meaning.specs.Controls.{control_of, is_the_control}
 use Rattle.abel_meaning.specs.Designs.{Context}
@@ -12,7 +13,6 @@ use Rattle.abel_meaning.specs.FormulaBits.{formulas}
 use Rattle.abel_meaning.specs.Functions.{function_of}
 use Rattle.abel_meaning.specs.Sections.{unguarded}
 use Rattle.abel_meaning.specs.Statements.{statements_give}
-use Rattle.abel_meaning.specs.Targets.{is_data}
 use Rattle.abel_meaning.specs.Terms.{Read, term_named}
 use Rattle.decompiled.specs.declared.literal.PinLiteral.{PinLiteral}
 use Rattle.decompiled.specs.declared.sum_line.SumLine.{SumLine}
