@@ -1,3 +1,4 @@
 pub mod ControlOrder
 pub mod Counts
 pub mod NamedCells
+pub mod RefusedCells

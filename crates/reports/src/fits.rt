@@ -1,18 +1,19 @@
 //! The line on a netlist that does not fit.
 
-ghost use Rattle.std.specs.Prelude.{◌≡◌, ◌<◌, ◌++◌, Some, IfOk, OnOk, length};
-ghost use Rattle.std.specs.Option.{option_map};
+ghost use Rattle.std.specs.Prelude.{◌≡◌, ◌<◌, ◌++◌, [], Some, Err, IsSome, IfOk, OnOk, length};
 ghost use Rattle.pld_device.specs.Table.{cell_at};
-ghost use Rattle.bit_expr.specs.declared.netlist.CellWanted.{CellWanted};
 ghost use Rattle.abel_tree.specs.Entries.{entries_of};
 ghost use Rattle.abel_meaning.specs.SoundIds.{IsSoundNetlist};
-ghost use Rattle.reports.specs.Fits.{control_text, count_text, enable_text, fit_text, room_text, tried_text, unshared_text, wide_text};
+ghost use Rattle.fitter.specs.Answers.{FitAnswers};
+ghost use Rattle.fitter.specs.Plans.{cell_wanted};
+ghost use Rattle.fitter.specs.Sharing.{own_control};
+ghost use Rattle.reports.specs.Fits.{control_text, count_text, enable_text, first_own, fit_text, room_text, tried_text, unshared_text};
 
 use crate::firsts::first_own;
 use crate::telling::begin_line;
 use crate::told::{put_names, told};
 use abel_tree::Names;
-use bit_expr::{CellWanted, Control, Netlist};
+use bit_expr::{CellWanted, Netlist};
 use covers::Cube;
 use fit_plans::Tried;
 use fitter::{FitFault, SharedControl, cell_wanted, own_control};
@@ -20,76 +21,59 @@ use pld_base::{OutOfMemory, put_decimal};
 use pld_device::Device;
 use std::alloc::Global;
 
-/// The line on a control, at its first target.
-fn control_line(
-    alloc: Global,
-    names: &Names,
-    word: &[u8],
-    control: Option<Control>,
-    numbers: &[u32],
-) -> Result<Vec<u8>, OutOfMemory>
-    ensures { IfOk result (λ line.
-        control_text (entries_of names.now) word.now control numbers.now ≡ Some line.items) }
+/// What is asked of a cell that is assigned.
+fn named_cell(net: &Netlist, cell: u8) -> CellWanted
+    requires { IsSome (cell_wanted net.now cell) }
+    ensures { cell_wanted net.now cell ≡ Some result }
 {
-    match control {
-        Some(control) => told(alloc, names, word, control.place, numbers),
-        None => Err(OutOfMemory),
-    }
+    cell_wanted(net, cell).unwrap()
 }
 
-/// The line on a cell that is too wide.
-fn wide_line(
-    alloc: Global,
-    names: &Names,
-    wanted: Option<CellWanted>,
-) -> Result<Vec<u8>, OutOfMemory>
-    ensures { IfOk result (λ line. wide_text (entries_of names.now) wanted ≡ Some line.items) }
-{
-    match wanted {
-        Some(wanted) => told(alloc, names, b"TooWide", wanted.place, &[wanted.name]),
-        None => Err(OutOfMemory),
-    }
-}
-
-/// The line on two cells whose resets, or presets, differ.
+/// The line on two cells whose resets, or presets, differ: at the second's own.
 fn unshared_line(
     alloc: Global,
     names: &Names,
     which: SharedControl,
-    first: Option<CellWanted>,
-    second: Option<CellWanted>,
+    first: &CellWanted,
+    second: &CellWanted,
 ) -> Result<Vec<u8>, OutOfMemory>
+    requires { IsSome (own_control which second.now) }
     ensures { IfOk result (λ line.
-        unshared_text (entries_of names.now) which first second ≡ Some line.items) }
+        unshared_text (entries_of names.now) which (Some first.now) (Some second.now) ≡ Some line.items) }
 {
-    let Some(first) = first else {
-        return Err(OutOfMemory);
-    };
-    let Some(second) = second else {
-        return Err(OutOfMemory);
-    };
-    let own = own_control(which, &second);
-    control_line(alloc, names, b"NotShared", own, &[first.name, second.name])
+    let control = own_control(which, second).unwrap();
+    told(
+        alloc,
+        names,
+        b"NotShared",
+        control.place,
+        &[first.name, second.name],
+    )
+}
+
+/// The line on a reset, or preset, that is no product: at the first of a source.
+fn shared_line(
+    alloc: Global,
+    names: &Names,
+    word: &[u8],
+    which: SharedControl,
+    net: &Netlist,
+) -> Result<Vec<u8>, OutOfMemory>
+    requires { IsSome (first_own which net.now) }
+    ensures { IfOk result (λ line.
+        control_text (entries_of names.now) word.now (first_own which net.now) [] ≡ Some line.items) }
+{
+    let control = first_own(net, which).unwrap();
+    told(alloc, names, word, control.place, &[])
 }
 
 /// The line on a cell whose enable is no product.
-fn enable_line(
-    alloc: Global,
-    names: &Names,
-    wanted: Option<CellWanted>,
-) -> Result<Vec<u8>, OutOfMemory>
-    ensures { IfOk result (λ line. enable_text (entries_of names.now) wanted ≡ Some line.items) }
+fn enable_line(alloc: Global, names: &Names, wanted: &CellWanted) -> Result<Vec<u8>, OutOfMemory>
+    requires { IsSome wanted.now.enable }
+    ensures { IfOk result (λ line. enable_text (entries_of names.now) (Some wanted.now) ≡ Some line.items) }
 {
-    match wanted {
-        Some(wanted) => control_line(
-            alloc,
-            names,
-            b"EnableTooWide",
-            wanted.enable,
-            &[wanted.name],
-        ),
-        None => Err(OutOfMemory),
-    }
+    let enable = wanted.enable.unwrap();
+    told(alloc, names, b"EnableTooWide", enable.place, &[wanted.name])
 }
 
 /// Appends how many rows a cover has, `-` where there is none, and a piece behind it.
@@ -137,24 +121,21 @@ fn room_of<D: Device>(cell: u8) -> usize
 fn room_line<D: Device>(
     alloc: Global,
     names: &Names,
-    wanted: Option<CellWanted>,
+    wanted: &CellWanted,
     tried: &Tried,
 ) -> Result<Vec<u8>, OutOfMemory>
-    requires { (w : CellWanted) → wanted ≡ Some w → w.cell < length D.table.cells }
+    requires { wanted.now.cell < length D.table.cells }
     ensures { IfOk result (λ line.
-        room_text D.table (entries_of names.now) tried.now wanted ≡ Some line.items) }
+        room_text D.table (entries_of names.now) tried.now (Some wanted.now) ≡ Some line.items) }
 {
-    let Some(wanted) = wanted else {
-        return Err(OutOfMemory);
-    };
     let mut line = begin_line(alloc, b"TooManyProducts", wanted.place)?;
     put_names(&mut line, names, &[wanted.name])?;
     put_room(alloc, &mut line, room_of::<D>(wanted.cell), tried)?;
     Ok(line)
 }
 
-/// `error NAME at LINE:COLUMN` and what is told with it, over the names of the source and the netlist that does not fit.
-/// Of want of memory there is no line.
+/// `error NAME at LINE:COLUMN` and what is told with it, over the names of the source and the netlist that does not fit,
+/// of which the refusal is. Of want of memory there is no line.
 pub fn fit_line<D: Device>(
     alloc: Global,
     names: &Names,
@@ -162,27 +143,33 @@ pub fn fit_line<D: Device>(
     fault: &FitFault,
 ) -> Result<Vec<u8>, OutOfMemory>
     requires sound { IsSoundNetlist D.table net.now }
+    requires unfit { FitAnswers D.table net.now (Err fault.now) }
     ensures line { IfOk result (λ line.
         fit_text D.table (entries_of names.now) net.now fault.now ≡ Some line.items) }
 {
     match fault {
-        FitFault::TooWide(cell) => wide_line(alloc, names, cell_wanted(net, *cell)),
+        FitFault::TooWide(cell) => {
+            let wanted = named_cell(net, *cell);
+            told(alloc, names, b"TooWide", wanted.place, &[wanted.name])
+        }
         FitFault::NotShared(which, first, second, _) => {
-            let one = cell_wanted(net, *first);
-            let other = cell_wanted(net, *second);
-            unshared_line(alloc, names, *which, one, other)
+            let one = named_cell(net, *first);
+            let other = named_cell(net, *second);
+            unshared_line(alloc, names, *which, &one, &other)
         }
         FitFault::ResetTooWide => {
-            let first = first_own(net, SharedControl::Reset);
-            control_line(alloc, names, b"ResetTooWide", first, &[])
+            shared_line(alloc, names, b"ResetTooWide", SharedControl::Reset, net)
         }
         FitFault::PresetTooWide => {
-            let first = first_own(net, SharedControl::Preset);
-            control_line(alloc, names, b"PresetTooWide", first, &[])
+            shared_line(alloc, names, b"PresetTooWide", SharedControl::Preset, net)
         }
-        FitFault::EnableTooWide(cell) => enable_line(alloc, names, cell_wanted(net, *cell)),
+        FitFault::EnableTooWide(cell) => {
+            let enabled = named_cell(net, *cell);
+            enable_line(alloc, names, &enabled)
+        }
         FitFault::TooManyProducts(cell, tried) => {
-            room_line::<D>(alloc, names, cell_wanted(net, *cell), tried)
+            let full = named_cell(net, *cell);
+            room_line::<D>(alloc, names, &full, tried)
         }
         FitFault::OutOfMemory => Err(OutOfMemory),
     }

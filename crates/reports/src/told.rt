@@ -20,7 +20,7 @@ pub(crate) fn put_names(
         ≡ text.old.items ++ names_text (entries_of names.now) numbers.now) }
 {
     for number in numbers {
-        put_tail(text, name_of(names, *number))?;
+        put_tail(text, name_of(names, *number as usize))?;
     }
     Ok(())
 }

@@ -98,10 +98,10 @@ pub(crate) fn of_names(fault: &NameFault) -> Option<Telling<'_>>
 }
 
 /// The name of a number.
-pub fn name_of(names: &Names, number: u32) -> Option<&[u8]>
+pub fn name_of(names: &Names, number: usize) -> Option<&[u8]>
     ensures { option_map (λ n. n.now) result ≡ name_of (entries_of names.now) number }
 {
-    match names.list.as_slice().get(number as usize) {
+    match names.list.as_slice().get(number) {
         Some(declared) => Some(declared.name.bytes()),
         None => None,
     }
@@ -118,10 +118,10 @@ pub(crate) fn of_sections<'a>(names: &'a Names, fault: &SectionFault) -> Option<
         SectionFault::BadWidth(place) => Some(Telling::plain(b"BadWidth", place)),
         SectionFault::NotAnOutput(place, None) => Some(Telling::plain(b"NotAnOutput", place)),
         SectionFault::NotAnOutput(place, Some(number)) => {
-            Some(Telling::named(b"NotAnOutput", place, name_of(names, number)))
+            Some(Telling::named(b"NotAnOutput", place, name_of(names, number as usize)))
         }
         SectionFault::MixedAssignment(place, number) => {
-            Some(Telling::named(b"MixedAssignment", place, name_of(names, number)))
+            Some(Telling::named(b"MixedAssignment", place, name_of(names, number as usize)))
         }
         SectionFault::BadRow(place) => Some(Telling::plain(b"BadRow", place)),
         SectionFault::BadState(place) => Some(Telling::plain(b"BadState", place)),
