@@ -7,3 +7,5 @@ pub mod Refusals
 pub mod SameCells
 pub mod SameContributions
 pub mod SameNetlists
+pub mod ToldPlacings
+pub mod UnrefusedNames

@@ -24,7 +24,7 @@ ghost use Rattle.compile_phases.specs.SourceRefusals.{IsDesignRefusedFor};
 
 use crate::fault::CompileFault;
 use crate::laws::sections_are_accepted;
-use crate::refusing::{uncontributed, undesigned, unfit, unnamed, unplaced, unread};
+use crate::refusing::{memory_alone, uncontributed, undesigned, unfit, unnamed, unplaced, unread};
 use abel_tree::{Module, Names};
 use abel_vectors::{SourceSections, all_sections};
 use bit_expr::Netlist;
@@ -114,8 +114,7 @@ pub fn names_of<D: Device>(alloc: Global, placed: &ModuleParts<'_>) -> Result<Na
     numbered_names();
     match declare::<D>(alloc, placed) {
         Ok(names) => Ok(names),
-        // Nothing is refused of the names, so that only memory can be out.
-        Err(_) => Err(CompileFault::OutOfMemory),
+        Err(fault) => Err(memory_alone(fault)),
     }
 }
 

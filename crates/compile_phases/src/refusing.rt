@@ -8,7 +8,9 @@ ghost use Rattle.abel_meaning.specs.SoundIds.{IsSoundNetlist};
 ghost use Rattle.reports.specs.Designs.{design_text};
 ghost use Rattle.reports.specs.Fits.{fit_text};
 ghost use Rattle.fitter.specs.Answers.{FitAnswers};
+ghost use Rattle.decls.specs.declared.fault.NameFault.TheVariants as naming;
 ghost use Rattle.module_reader.specs.Texts.{IsUnread};
+ghost use Rattle.compile_phases.specs.declared.fault.CompileFault.TheVariants as compiling;
 ghost use Rattle.compile_phases.specs.declared.fault.SourceFault.TheVariants as source;
 ghost use Rattle.compile_phases.specs.Lines.{name_text, section_text};
 ghost use Rattle.pld_device.specs.Table.{Table};
@@ -61,8 +63,20 @@ pub(crate) fn unnamed(alloc: Global, fault: NameFault) -> CompileFault
     source_refused(SourceFault::Names(fault), line)
 }
 
+/// That memory is out: names of which nothing is refused have no other fault.
+pub(crate) fn memory_alone(fault: NameFault) -> CompileFault
+    requires { fault ≡ naming.OutOfMemory }
+    ensures { result ≡ compiling.OutOfMemory }
+{
+    match fault {
+        NameFault::OutOfMemory => CompileFault::OutOfMemory,
+        _ => unreachable!(),
+    }
+}
+
 /// Why a source can't be placed.
 pub(crate) fn unplaced(alloc: Global, names: &Names, fault: PlaceFault) -> CompileFault
+    requires { (t : Table) × (m : ModuleTree) × (entries_of names.now ≡ names_of t m) × IsUnplaced t m fault }
     ensures { (t : Table) (m : ModuleTree) → entries_of names.now ≡ names_of t m → IsUnplaced t m fault
         → IsOfPlacing (λ f line. IsUnplacedFor f line t m) result }
 {

@@ -1,8 +1,13 @@
--- Names in which each pin has a number are sound, and no two are one pin.
+-- Names in which each pin has a number are sound, and no two are one pin; nothing is refused of them.
 use Rattle.std.proofs.Common.{◌≡◌, true, ap, ◌∙◌}
 use Rattle.abel_tree.specs.Entries.{entries_of}
 use Rattle.abel_meaning.specs.Declarations.{are_numbered}
+use Rattle.abel_tree.specs.View.{view_module}
+use Rattle.compile_phases.proofs.UnrefusedNames.{memory_alone}
 use Rattle.compile_phases.proofs.phases.names_of.Goals as goal
+
+pub memory_alone-requires : goal.memory_alone-requires
+memory_alone-requires g c = memory_alone g.D.Device.table (view_module c.args.placed.now) c.in-Err.fault c.requires.none c.in-Err.ensures.refused
 
 pub returns-in-Ok-clause-ok : goal.returns-in-Ok-clause-ok
 returns-in-Ok-clause-ok g c =
