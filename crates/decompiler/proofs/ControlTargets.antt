@@ -10,10 +10,10 @@ use Rattle.pld_device.specs.Table.{cell_at}
 use Rattle.bit_expr.specs.Formulas.{Formula}
 use Rattle.abel_tree.specs.declared.words.Extension.{Extension}
 use Rattle.abel_tree.specs.declared.words.Extension.TheVariants as extension
-use Rattle.abel_tree.specs.Entries.{Entry}
+use Rattle.abel_tree.specs.Entries.{Entry, is_stored}
 use Rattle.abel_meaning.specs.Contributions as meant
 use Rattle.abel_meaning.specs.Controls.{control_by, control_if_stored, control_of, is_control, is_the_control}
-use Rattle.abel_meaning.specs.Designs.{Design, is_stored}
+use Rattle.abel_meaning.specs.Designs.{Design}
 use Rattle.abel_meaning.specs.FormulaBits.{formulas}
 use Rattle.abel_meaning.specs.Netlists.{Wanted}
 use Rattle.abel_meaning.specs.SignalReads.{given_formulas}

@@ -12,10 +12,11 @@ use Rattle.pld_device.proofs.OwnPins.{own_pins}
 use Rattle.bit_expr.specs.Formulas.{differ}
 use Rattle.abel_tree.specs.declared.words.Extension.{Extension}
 use Rattle.abel_tree.specs.declared.words.Extension.TheVariants as extension
-use Rattle.abel_tree.specs.Entries.{Kind, APin, Entry, find}
+use Rattle.abel_tree.specs.Entries.{Kind, APin, Entry, find, is_stored}
 use Rattle.abel_tree.specs.Tree.{Tree, ModuleTree}
-use Rattle.abel_meaning.specs.Designs.{Design, design_of, is_stored}
-use Rattle.abel_meaning.specs.Targets.{is_data, is_raw, targets_of}
+use Rattle.abel_tree.specs.Extensions.{is_data, is_raw}
+use Rattle.abel_meaning.specs.Designs.{Design, design_of}
+use Rattle.abel_meaning.specs.Targets.{targets_of}
 use Rattle.abel_meaning.specs.Terms.{Term, Read, extended_if, term_named, term_of}
 use Rattle.set_expr.specs.FoundNames.{name_found, names_found, found_value, one_position}
 use Rattle.set_expr.specs.Refusals.{Found}

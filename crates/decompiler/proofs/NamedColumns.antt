@@ -15,7 +15,8 @@ use Rattle.bit_expr.specs.declared.node.Leaf.{Leaf}
 use Rattle.bit_expr.specs.declared.node.Leaf.TheVariants as leaf
 use Rattle.bit_expr.specs.Folding.{Made, make_and, make_or}
 use Rattle.bit_expr.specs.Formulas.{Formula, Read, Not, names, same_leaf}
-use Rattle.device_logic.specs.CellReads.{carries_cell, pairs_read, row_reads_cell}
+use Rattle.pld_device.specs.Pins.{carries_cell}
+use Rattle.device_logic.specs.CellReads.{pairs_read, row_reads_cell}
 use Rattle.decompiled.specs.declared.literal.PinLiteral.{PinLiteral}
 use Rattle.decompiled_logic.specs.SumFormulas.{literal_formula, product_formula, sum_formula}
 use Rattle.decompiled.specs.RowLiterals.{ColumnLiteral, row_literals, some_read}

@@ -13,7 +13,7 @@ use Rattle.pld_device.specs.Rows.{row_fuses}
 use Rattle.pld_device.specs.Table.{Table, cell_at, no_cell}
 use Rattle.abel_tree.specs.declared.words.Extension.{Extension}
 use Rattle.abel_tree.specs.declared.words.Extension.TheVariants as extension
-use Rattle.abel_meaning.specs.Targets.{is_data}
+use Rattle.abel_tree.specs.Extensions.{is_data}
 use Rattle.section_targets.specs.Manners.{may_be_assigned}
 use Rattle.decompiled.specs.declared.literal.PinLiteral.{PinLiteral}
 use Rattle.decompiled.specs.declared.sum_line.SumLine.{SumLine}

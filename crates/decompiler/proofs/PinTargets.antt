@@ -15,22 +15,24 @@ use Rattle.bit_expr.specs.Arena.{formula_at}
 use Rattle.bit_expr.specs.Formulas.{Formula}
 use Rattle.abel_tree.specs.declared.words.Extension.{Extension}
 use Rattle.abel_tree.specs.declared.words.Extension.TheVariants as extension
-use Rattle.abel_tree.specs.Entries.{Kind, APin, ANode, AConstant, ADeviceName, Entry}
+use Rattle.abel_tree.specs.Entries.{Kind, APin, ANode, AConstant, ADeviceName, Entry, is_stored}
 use Rattle.abel_tree.specs.Tree.{ModuleTree}
+use Rattle.pld_device.specs.Pins.{cell_on}
+use Rattle.abel_tree.specs.Extensions.{is_data}
 use Rattle.abel_meaning.specs.Contributions as meant
-use Rattle.abel_meaning.specs.Designs.{Design, cell_on, design_of, is_stored, no_name}
-use Rattle.abel_meaning.specs.Targets.{is_data}
+use Rattle.abel_meaning.specs.Designs.{Design, design_of, no_name}
 use Rattle.netlist_laws.specs.Gathered.{cell_by, cell_of}
 use Rattle.set_expr.specs.declared.contributions.Contribution.{Contribution}
 use Rattle.set_expr.specs.declared.contributions.Gives.{Gives}
 use Rattle.set_expr.specs.declared.contributions.Gives.TheVariants as gives
 use Rattle.set_expr.specs.Given.{view_gives}
-use Rattle.design_checks.specs.Compared.{cell_enables_so, enables_so, is_compared_of, other_level, other_levels, says_always, says_so}
+use Rattle.design_checks.specs.Compared.{cell_enables_so, enables_so, is_compared_of, says_always, says_so}
 use Rattle.design_checks.specs.SectionUses.{is_by_pin, is_cell_by_pin}
-use Rattle.design_checks.specs.declared.signal_fault.SignalFault.{SignalFault}
 use Rattle.design_checks.specs.declared.rules.Rule.{Rule}
 use Rattle.design_checks.specs.declared.rules.Rule.TheVariants as rule
-use Rattle.design_checks.specs.SignalsRefused.{all_refused, has_wrong_kind, has_wrong_kind_by, has_wrong_kind_on, is_any, is_wrong_cell, is_wrong_kind, lacks_by, lacks_control, node_refused, pin_lacks, registered_nodes, rule_refused}
+use Rattle.design_checks.specs.Refused.{refuses, targets_refused}
+use Rattle.design_checks.specs.SignalsRefused.{has_wrong_kind, has_wrong_kind_by, has_wrong_kind_on, is_any, is_wrong_cell, is_wrong_kind, lacks_by, lacks_control, node_refused, pin_lacks, registered_nodes}
+use Rattle.design_checks.specs.UsesRefused.{told_if}
 use Rattle.design_checks.specs.declared.refused.RefusedUse.{RefusedUse}
 use Rattle.decompiled.specs.declared.sum_line.SumLine.{SumLine}
 use Rattle.decompiled.specs.SourceTrees.{IsSourceTree}
@@ -63,7 +65,7 @@ plain_node s x plain = by_kind x.kind refl plain
 
 pub no_nodes : (s : ℕ) (xs : List Entry) → ArePlain xs → registered_nodes s xs ≡ []
 no_nodes s [] plain = refl
-no_nodes s (x ∷ xs) plain = ap (λ (fs : List SignalFault). fs ++ registered_nodes (suc s) xs) (plain_node s x plain.0) ∙ no_nodes (suc s) xs plain.1
+no_nodes s (x ∷ xs) plain = ap (λ (rs : List RefusedUse). rs ++ registered_nodes (suc s) xs) (plain_node s x plain.0) ∙ no_nodes (suc s) xs plain.1
 
 -- ---- a line's signal
 
@@ -198,23 +200,6 @@ module _ (t : Table) (fuses : List Bool) (laws : IsDevice t) (m : ModuleTree) (i
     gives_one gives.Any e = absurd cc
     gives_one gives.Match e = absurd cc
 
-    rule_passes : (r : Rule) (c : Contribution) → IsOf c → rule_refused t r (entry_of c) c ≡ []
-    rule_passes rule.Kinds c o =
-        let right : has_wrong_kind t (entry_of c) ≡ false = ap (has_wrong_kind t) (entry_is c o) ∙ kind_right o.line o.good in
-        (rw (and_right (is_data c.target.extension) (has_wrong_kind t (entry_of c)) right) refl)
-    rule_passes rule.Controls c o =
-        let there : lacks_control t (entry_of c) c.target.extension ≡ false =
-        ap (λ (y : Entry). lacks_control t y c.target.extension) (entry_is c o)
-        ∙ ap (lacks_control t (name t fuses laws m is o.line.pin)) (extension_is c o) ∙ control_there o.line o.good in
-        (rw there refl)
-    rule_passes rule.DontCares c o =
-        let one : is_any c.what ≡ false = gives_one c.what (ap (λ (g : meant.Contribution Formula). g.gives) o.is) in
-        (rw (and_right (not (is_data c.target.extension)) (is_any c.what) one) refl)
-
-    pub targets_pass : (r : Rule) (cs : List Contribution) → AllByRecursion IsOf cs → all_refused t d.context.names r cs ≡ []
-    targets_pass r [] all = refl
-    targets_pass r (c ∷ cs) all = ap (λ (xs : List SignalFault). xs ++ all_refused t d.context.names r cs) (rule_passes r c all.0) ∙ targets_pass r cs all.1
-
     says_as : (c : Contribution) → (o : IsOf c) → says_always t (entry_of c) c.target.extension c.block c.complement (formula_at fs c.when) ≡ true
     says_as c o =
         ap (λ (b : Option ℕ). says_always t (entry_of c) c.target.extension b c.complement (formula_at fs c.when)) (ap (λ (g : meant.Contribution Formula). g.block) o.is)
@@ -223,11 +208,18 @@ module _ (t : Table) (fuses : List Bool) (laws : IsDevice t) (m : ModuleTree) (i
         ∙ ap (λ (b : Bool). says_so t (name t fuses laws m is o.line.pin) o.line.extension b (formula_at fs c.when)) (ap (λ (g : meant.Contribution Formula). g.complement) o.is)
         ∙ row_says o.line o.good o.good.0.form o.good.0.is (formula_at fs c.when)
 
-    pub levels_pass : (cs : List Contribution) → AllByRecursion IsOf cs → other_levels t fs d.context.names cs ≡ []
-    levels_pass [] all = refl
-    levels_pass (c ∷ cs) all =
-        ap (λ (xs : List RefusedUse). xs ++ other_levels t fs d.context.names cs) (level_passes (says_as c all.0))
-        ∙ levels_pass cs all.1
-      where
-        level_passes : says_always t (entry_of c) c.target.extension c.block c.complement (formula_at fs c.when) ≡ true → other_level t fs (entry_of c) c ≡ []
-        level_passes so = rw so refl
+    rule_passes : (r : Rule) (c : Contribution) → IsOf c → refuses t fs r (entry_of c) c ≡ false
+    rule_passes rule.Kinds c o =
+        and_right (is_data c.target.extension) (has_wrong_kind t (entry_of c)) (ap (has_wrong_kind t) (entry_is c o) ∙ kind_right o.line o.good)
+    rule_passes rule.Controls c o =
+        ap (λ (y : Entry). lacks_control t y c.target.extension) (entry_is c o)
+        ∙ ap (lacks_control t (name t fuses laws m is o.line.pin)) (extension_is c o) ∙ control_there o.line o.good
+    rule_passes rule.Levels c o = ap not (says_as c o)
+    rule_passes rule.DontCares c o =
+        and_right (not (is_data c.target.extension)) (is_any c.what) (gives_one c.what (ap (λ (g : meant.Contribution Formula). g.gives) o.is))
+
+    pub targets_pass : (r : Rule) (cs : List Contribution) → AllByRecursion IsOf cs → targets_refused (refuses t fs r) d.context.names cs ≡ []
+    targets_pass r [] all = refl
+    targets_pass r (c ∷ cs) all =
+        ap (λ (b : Bool). told_if b (record { place = c.place; name = c.target.signal }) ++ targets_refused (refuses t fs r) d.context.names cs) (rule_passes r c all.0)
+        ∙ targets_pass r cs all.1

@@ -9,11 +9,11 @@ use Rattle.pld_device.specs.Table.{Table, cell_at, no_cell}
 use Rattle.bit_expr.specs.declared.node.Leaf.TheVariants as leaf
 use Rattle.abel_tree.specs.declared.words.Extension.{Extension}
 use Rattle.abel_tree.specs.declared.words.Extension.TheVariants as extension
-use Rattle.abel_tree.specs.Entries.{Kind, Entry}
+use Rattle.abel_tree.specs.Entries.{Kind, Entry, follows_q, is_stored}
 use Rattle.abel_tree.specs.Tree.{ModuleTree}
-use Rattle.abel_meaning.specs.Designs.{Design, design_of, follows_q, is_stored}
+use Rattle.pld_device.specs.Pins.{cell_on}
+use Rattle.abel_meaning.specs.Designs.{Design, design_of}
 use Rattle.abel_meaning.specs.Sources.{Source, Held, on_pin, register_source, source_by, source_of as read_of}
-use Rattle.abel_meaning.specs.Designs.{cell_on}
 use Rattle.decompiled.specs.declared.literal.PinLiteral.{PinLiteral}
 use Rattle.decompiled.specs.SourceText.{q_if}
 use Rattle.decompiled.specs.SourceTrees.{IsSourceTree}

@@ -11,18 +11,17 @@ use Rattle.pld_device.specs.declared.cell.Cell.{Cell}
 use Rattle.pld_device.specs.declared.kinds.Kinds.{Kinds}
 use Rattle.pld_device.specs.declared.kinds.Kinds.TheVariants.{Combinational, Registered, Either}
 use Rattle.pld_device.specs.Laws.{IsDevice}
-use Rattle.pld_device.specs.Pins.{pair_pins, pin_carried}
+use Rattle.pld_device.specs.Pins.{pair_pins, pin_carried, cell_on, carries_cell}
 use Rattle.pld_device.specs.Registers.{says, stores, stores_by}
 use Rattle.pld_device.specs.Table.{Table, cell_at, no_cell, registered_at}
 use Rattle.pld_device.proofs.OwnPins.{own_pins}
 use Rattle.abel_tree.specs.declared.words.Extension.{Extension}
 use Rattle.abel_tree.specs.declared.words.Extension.TheVariants as extension
 use Rattle.abel_tree.specs.Assigned.{target_extension}
-use Rattle.abel_tree.specs.Entries.{Kind, APin, Entry}
+use Rattle.abel_tree.specs.Entries.{Kind, APin, Entry, is_stored}
 use Rattle.abel_tree.specs.Tree.{Tree, Statement, ModuleTree, Equations, statements_of}
 use Rattle.abel_meaning.specs.Controls.{must_register}
-use Rattle.abel_meaning.specs.Designs.{Design, cell_on, design_of, is_stored, name_at}
-use Rattle.abel_meaning.specs.SoundIds.{carries_cell}
+use Rattle.abel_meaning.specs.Designs.{Design, design_of, name_at}
 use Rattle.abel_meaning.specs.Terms.{Term, Read, extended_if, term_named, term_of}
 use Rattle.netlist_laws.specs.SignalUses.{term_uses}
 use Rattle.netlist_laws.proofs.CellsFound.{first_place}

@@ -8,9 +8,10 @@ use Rattle.pld_device.specs.Registers.{stores}
 use Rattle.pld_device.specs.Table.{Table, cell_at}
 use Rattle.bit_expr.specs.declared.node.Leaf.{Leaf}
 use Rattle.bit_expr.specs.declared.node.Leaf.TheVariants as leaf
-use Rattle.abel_tree.specs.Entries.{Kind, APin, ANode, AConstant, ADeviceName}
+use Rattle.abel_tree.specs.Entries.{Kind, APin, ANode, AConstant, ADeviceName, is_stored}
 use Rattle.abel_tree.specs.Tree.{ModuleTree}
-use Rattle.abel_meaning.specs.Designs.{Design, cell_on, design_of, is_stored, name_at}
+use Rattle.pld_device.specs.Pins.{cell_on}
+use Rattle.abel_meaning.specs.Designs.{Design, design_of, name_at}
 use Rattle.abel_meaning.specs.SignalReads.{is_one_of, leaf_by, leaf_of, settles, settles_by}
 use Rattle.decompiled.specs.SourceTrees.{IsSourceTree}
 use Rattle.decompiled.specs.Sources.{has_lines, pins_of, source_of}

@@ -8,10 +8,10 @@ use Rattle.pld_device.specs.Macrocells.{pin_complements}
 use Rattle.pld_device.specs.Registers.{is_inverted}
 use Rattle.pld_device.specs.Table.{Table}
 use Rattle.bit_expr.specs.Arena.{arena}
-use Rattle.abel_tree.specs.Entries.{Kind, ANode}
+use Rattle.abel_tree.specs.Entries.{Kind, ANode, follows_q}
 use Rattle.abel_tree.specs.Tree.{ModuleTree}
 use Rattle.abel_meaning.specs.Controls.{is_pin}
-use Rattle.abel_meaning.specs.Designs.{Design, design_of, follows_q, name_at}
+use Rattle.abel_meaning.specs.Designs.{Design, design_of, name_at}
 use Rattle.abel_meaning.specs.SignalReads.{HasNoSignalLoop, HasNoSignalPath}
 use Rattle.netlist_laws.specs.Takeable.{NodesAreFew, PinsApart}
 use Rattle.design.specs.Accepted.{BuffersAreBehind}

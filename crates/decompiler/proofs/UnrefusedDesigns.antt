@@ -10,8 +10,7 @@ use Rattle.abel_meaning.specs.Designs.{Design, design_of}
 use Rattle.set_expr.specs.declared.contributions.Contribution.{Contribution}
 use Rattle.set_expr.specs.declared.contributions.Contributions.{Contributions}
 use Rattle.source_sections.specs.SectionAnswers.{AreContributed}
-use Rattle.design_checks.specs.Compared.{other_levels}
-use Rattle.design_checks.specs.Refused.{no_controls, plain, targets_refused}
+use Rattle.design_checks.specs.Refused.{no_controls, other_levels, refuses, targets_refused}
 use Rattle.design_checks.specs.Verdict.{HasSoundSignals}
 use Rattle.design_checks.specs.declared.rules.Rule.{Rule}
 use Rattle.design_checks.specs.declared.rules.Rule.TheVariants as rule
@@ -29,7 +28,7 @@ use Rattle.decompiler.proofs.UnrefusedSections.{good_lines}
 use Rattle.decompiler.specs.Designs.{DesignsAreUnrefused}
 use Rattle.decompiler.proofs.CellChains.{no_signal_loop, no_signal_path}
 use Rattle.decompiler.proofs.LineTargets.{each_of_line}
-use Rattle.decompiler.proofs.PinTargets.{IsOf, levels_pass, no_nodes, targets_pass}
+use Rattle.decompiler.proofs.PinTargets.{IsOf, no_nodes, targets_pass}
 use Rattle.decompiler.proofs.ReadUses.{all_written, none_missing, none_unread}
 
 module _ (t : Table) (fuses : List Bool) (laws : IsDevice t) (m : ModuleTree) (is : IsSourceTree (source_of t fuses) m) (found : Contributions)
@@ -48,19 +47,19 @@ module _ (t : Table) (fuses : List Bool) (laws : IsDevice t) (m : ModuleTree) (i
       each_of_line (signal_of t fuses) (leaf_of t) (IsGoodLine t fuses laws m is) fs cs (lines_of t fuses)
       (of.gives ∙ given_is t fuses laws m is) (good_lines t fuses laws m is)
 
-  rule_passes : (r : Rule) → targets_refused t d.context.names r cs ≡ []
-  rule_passes r = ap (map plain) (targets_pass t fuses laws m is fs r cs all_of)
+  rule_passes : (r : Rule) → targets_refused (refuses t fs r) d.context.names cs ≡ []
+  rule_passes r = targets_pass t fuses laws m is fs r cs all_of
 
   controls_pass : no_controls d fs cs ≡ []
   controls_pass =
       ap (λ (rs : List RefusedUse). (rs ++ other_levels t fs d.context.names cs) ++ (unwritten d ++ map told (missing_uses d))) (rule_passes rule.Controls)
-      ∙ ap (λ (rs : List RefusedUse). rs ++ (unwritten d ++ map told (missing_uses d))) (levels_pass t fuses laws m is fs cs all_of)
+      ∙ ap (λ (rs : List RefusedUse). rs ++ (unwritten d ++ map told (missing_uses d))) (rule_passes rule.Levels)
       ∙ ap (λ (rs : List RefusedUse). rs ++ map told (missing_uses d)) (all_written t fuses laws m is (good_lines t fuses laws m is))
       ∙ ap (map told) (none_missing t fuses laws m is (good_lines t fuses laws m is))
 
   pub sound : HasSoundSignals d fs cs
   sound = record {
-    kinds = record { kinds = rule_passes rule.Kinds; nodes = ap (map plain) (no_nodes 0 d.context.names (names_plain t fuses laws m is)) };
+    kinds = record { kinds = rule_passes rule.Kinds; nodes = no_nodes 0 d.context.names (names_plain t fuses laws m is) };
     uses = record {
       controls = record { controls = controls_pass; any = rule_passes rule.DontCares };
       paths = ap (map told) (none_unread t fuses laws m is (good_lines t fuses laws m is));
