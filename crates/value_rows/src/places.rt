@@ -1,6 +1,7 @@
 //! Places, shapes and refusals as a row tells them.
 
 use crate::sources::ROW;
+use abel_tree::Ranked;
 use pld_base::Place;
 use set_expr::{SectionFault, Shape};
 use test_rows::Found;

@@ -49,7 +49,10 @@ fn names_of<D: Device>(alloc: Global, module: &Module) -> Option<Names>
     ensures placed { IfSome result (λ n. ArePlaced n) }
 {
     numbered_names();
-    let source = ModuleParts::new(alloc, module).ok()?;
+    let source = match ModuleParts::new(alloc, module) {
+        Ok(source) => source,
+        Err(_) => return None,
+    };
     match declare::<D>(alloc, &source) {
         Ok(names) => {
             if are_numbered(&names) {
