@@ -1,50 +1,51 @@
 //! What is refused of a few names of the sample device.
 
 ghost use Rattle.pld_device.specs.SampleTable.{sample};
+ghost use Rattle.abel_tree.specs.View.{view_module};
+ghost use Rattle.netlist_rows.specs.Named.{AreNamesFor};
 ghost use Rattle.netlist_rows.specs.Drawn.{IsDrawn};
 
 use crate::drawing::{Drawn, draw, names_of, scope_of};
 use crate::places::{put_refusal, put_word};
 use crate::sources::row_module;
+use abel_tree::{Module, Names};
 use design_checks::{
-    DesignFault, RefusedUse, SignalFault, check_signals, dont_care_control, first_uses,
-    missing_control, other_level, registered_node, wrong_kind,
+    DesignFault, FirstUses, RefusedUse, Rule, check_signals, first_refused, first_uses,
+    registered_node,
 };
 use name_uses::ModuleParts;
+use pld_base::OutOfMemory;
 use pld_device::Sample;
 use std::alloc::Global;
 use test_rows::Found;
 
-/// The refusal of a signal, or `none`.
-fn put_fault(fault: Option<SignalFault>, found: &mut Found) {
-    match fault {
-        Some(SignalFault::WrongKind(place, name)) => put_refusal("WrongKind", place, name, found),
-        Some(SignalFault::RegisteredNode(place, name)) => {
-            put_refusal("RegisteredNode", place, name, found)
-        }
-        Some(SignalFault::NoSuchControl(place, name)) => {
-            put_refusal("NoSuchControl", place, name, found)
-        }
-        Some(SignalFault::DontCareControl(place, name)) => {
-            put_refusal("DontCareControl", place, name, found)
-        }
+/// What is refused, as a refusal of this kind, or `none`.
+fn put_refused(kind: &str, refused: Option<RefusedUse>, found: &mut Found) {
+    match refused {
+        Some(it) => put_refusal(kind, it.place, it.name, found),
         None => put_word("none", found),
     }
-    found.text(";")
 }
 
 /// What is refused of the signals of a source, one of each kind: a kind, a control that is missing, one that is
 /// don't-care, and a node.
-fn put_faults(drawn: &Drawn, found: &mut Found) -> Option<()>
+fn put_faults(alloc: Global, drawn: &Drawn, found: &mut Found) -> Result<(), OutOfMemory>
     requires { IsDrawn sample drawn.now }
 {
-    let names = &drawn.names;
-    let list = drawn.contributions.list.as_slice();
-    put_fault(wrong_kind::<Sample>(names, list), found);
-    put_fault(missing_control::<Sample>(names, list), found);
-    put_fault(dont_care_control::<Sample>(names, list), found);
-    put_fault(registered_node(names).ok()?, found);
-    Some(())
+    let given = &drawn.contributions;
+    let scope = scope_of::<Sample>(alloc, &drawn.names)?;
+    let wrong = first_refused(Rule::Kinds, &scope, given);
+    put_refused("WrongKind", wrong, found);
+    found.text(";");
+    let lacking = first_refused(Rule::Controls, &scope, given);
+    put_refused("NoSuchControl", lacking, found);
+    found.text(";");
+    let any = first_refused(Rule::DontCares, &scope, given);
+    put_refused("DontCareControl", any, found);
+    found.text(";");
+    put_refused("RegisteredNode", registered_node(scope.scope())?, found);
+    found.text(";");
+    Ok(())
 }
 
 /// What is refused of the signals of equations.
@@ -55,15 +56,16 @@ pub(crate) fn put_signals(
     found: &mut Found,
 ) -> Option<()> {
     let module = row_module(alloc, names, "equations", text, "")?;
-    put_faults(&draw::<Sample>(alloc, module)?, found)
+    put_faults(alloc, &draw::<Sample>(alloc, module)?, found).ok()
 }
 
-/// A refused use, or `none`.
-fn put_use(refused: Option<RefusedUse>, found: &mut Found) {
-    match refused {
-        Some(it) => put_refusal("refused", it.place, it.name, found),
-        None => put_word("none", found),
-    }
+/// The first refused uses of a module with these names.
+fn uses_of(alloc: Global, module: &Module, names: &Names) -> Result<FirstUses, OutOfMemory>
+    requires { AreNamesFor sample (view_module module.now) names.now }
+{
+    let scope = scope_of::<Sample>(alloc, names)?;
+    let source = ModuleParts::new(alloc, module)?;
+    first_uses(alloc, &scope, &source)
 }
 
 /// The first use of a value that is missing, and the first that can't be read.
@@ -71,24 +73,21 @@ pub(crate) fn put_uses(alloc: Global, names: &Found, text: &str, found: &mut Fou
     let front = "equations n = 1; R := 0; R.OE = !e; Y =";
     let module = row_module(alloc, names, front, text, ";")?;
     let names = names_of::<Sample>(alloc, &module)?;
-    let source = ModuleParts::new(alloc, &module).ok()?;
-    let first = first_uses::<Sample>(alloc, &names, &source).ok()?;
-    put_use(first.missing, found);
+    let first = uses_of(alloc, &module, &names).ok()?;
+    put_refused("refused", first.missing, found);
     found.text(";");
-    put_use(first.unread, found);
+    put_refused("refused", first.unread, found);
     Some(())
 }
 
 /// What an equation gives a clock or an enable that is another level than the device's.
-fn put_level(drawn: &Drawn, found: &mut Found)
+fn put_level(alloc: Global, drawn: &Drawn, found: &mut Found) -> Result<(), OutOfMemory>
     requires { IsDrawn sample drawn.now }
 {
-    let contributions = &drawn.contributions;
-    let list = contributions.list.as_slice();
-    put_use(
-        other_level::<Sample>(&drawn.names, &contributions.exprs, list),
-        found,
-    )
+    let scope = scope_of::<Sample>(alloc, &drawn.names)?;
+    let other = first_refused(Rule::Levels, &scope, &drawn.contributions);
+    put_refused("refused", other, found);
+    Ok(())
 }
 
 /// Whether an equation gives another level.
@@ -99,8 +98,7 @@ pub(crate) fn put_levels(
     found: &mut Found,
 ) -> Option<()> {
     let module = row_module(alloc, names, "equations", text, "")?;
-    put_level(&draw::<Sample>(alloc, module)?, found);
-    Some(())
+    put_level(alloc, &draw::<Sample>(alloc, module)?, found).ok()
 }
 
 /// The first refusal of a source's signals.

@@ -1,10 +1,21 @@
-use Rattle.std.proofs.Common.{length, sym, subst}
+-- What a scope asks for, and names of which the contributions are.
+use Rattle.std.proofs.Common.{length, sym, subst, arith}
 use Rattle.pld_device.specs.SampleTable.{sample}
+use Rattle.abel_tree.specs.declared.names.Names.{Names}
 use Rattle.abel_tree.specs.Entries.{entries_of}
+use Rattle.truth_tables.proofs.NamesInOrder.{sound_in_order}
 use Rattle.design_checks.specs.SignalsRefused.{AreToNames}
 use Rattle.netlist_rows.proofs.DrawnNames.{drawn_to_names}
+use Rattle.netlist_rows.proofs.PlacedNames.{sound_placed}
 use Rattle.netlist_rows.proofs.refusals.put_level.Goals as goal
 
-pub other_level-requires-clause-names : goal.other_level-requires-clause-names
-other_level-requires-clause-names c =
-    subst (AreToNames (length (entries_of c.args.drawn.now.names))) (sym c.as_slice-list.ensures) (drawn_to_names sample c.args.drawn.now c.requires)
+pub scope_of-requires-clause-placed : goal.scope_of-requires-clause-placed
+scope_of-requires-clause-placed c = sound_placed sample.name sample.pins c.args.drawn.now.names (omega arith) c.requires.sound
+
+pub scope_of-requires-clause-order : goal.scope_of-requires-clause-order
+scope_of-requires-clause-order c = sound_in_order sample.name sample.pins c.args.drawn.now.names c.requires.sound
+
+pub first_refused-other-requires-clause-names : goal.first_refused-other-requires-clause-names
+first_refused-other-requires-clause-names c =
+    subst (λ (n : Names). AreToNames (length (entries_of n)) c.args.drawn.now.contributions.list) (sym c.in_ok-scope.ensures)
+    (drawn_to_names sample c.args.drawn.now c.requires)
