@@ -5,10 +5,10 @@ ghost use Rattle.std.specs.Prelude.{◌<◌, ◌≤◌, ◌^◌};
 use crate::drawn_design::Design;
 use crate::labels::{label_length, put_label, put_title_if_long};
 use crate::page::{Page, Piece};
-use crate::pins::{Flow, cell_on, flow_of, is_register, name_bytes, pin_at};
+use crate::pins::{Flow, flow_of, is_register, name_bytes, pin_at};
 use fuse_listing::{name_on, names_complement};
 use pld_base::OutOfMemory;
-use pld_device::Device;
+use pld_device::{Device, cell_on};
 
 /// From one pin to the next one below it.
 const PITCH: usize = 26;

@@ -1,6 +1,6 @@
 //! What the pins of a device do in a design.
 
-ghost use Rattle.std.specs.Prelude.{◌≡◌, ◌<◌, ◌≤◌, IfSome, length, option_map};
+ghost use Rattle.std.specs.Prelude.{◌≡◌, ◌<◌, ◌≤◌, length, option_map};
 ghost use Rattle.abel_tree.specs.Entries.{entries_of, view_declared};
 ghost use Rattle.design_page.specs.PinNames.{is_assigned, pin_name};
 
@@ -8,7 +8,7 @@ use crate::drawn_design::Design;
 use crate::rows::{is_column_read, is_open};
 use abel_tree::Declared;
 use fuse_listing::{carry_at, cell_of, complements_output, is_in_use, name_on, pin_of, stores};
-use pld_device::{Device, Enable};
+use pld_device::{Device, Enable, cell_on};
 
 /// Where a pin's level comes from.
 #[derive(Clone, Copy, PartialEq, Eq)]
@@ -34,18 +34,6 @@ pub fn pin_at<D: Device>(place: u8) -> u8
     ensures within { result ≤ D.table.pins }
 {
     place + 1
-}
-
-/// The cell on a pin. Takes no memory.
-pub fn cell_on<D: Device>(pin: u8) -> Option<u8>
-    ensures { IfSome result (λ cell. cell < length D.table.cells) }
-{
-    for cell in 0..D::CELLS {
-        if cell_of::<D>(cell).pin == pin {
-            return Some(cell);
-        }
-    }
-    None
 }
 
 /// Whether some row in use reads a pin. Takes no memory.

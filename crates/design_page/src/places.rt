@@ -3,6 +3,7 @@
 ghost use Rattle.std.specs.Prelude.{◌≤◌, length};
 
 use abel_expand::{Reader, expand};
+use abel_tree::is_before;
 use pld_base::{OutOfMemory, Place};
 use std::alloc::Global;
 
@@ -101,16 +102,11 @@ pub fn origins_of(alloc: Global, text: &[u8]) -> Result<Origins, OutOfMemory>
     Ok(Origins { bytes, end })
 }
 
-/// Whether a place stands before another.
-fn is_before(here: Place, there: Place) -> bool {
-    here.line < there.line || here.line == there.line && here.column < there.column
-}
-
 impl Origins {
     /// Whether the byte of this number stands before a place of the expanded text.
     fn is_passed(&self, index: usize, place: Place) -> bool {
         match self.bytes.get(index) {
-            Some(found) => is_before(found.expanded, place),
+            Some(found) => is_before(&found.expanded, &place),
             None => false,
         }
     }

@@ -6,10 +6,10 @@ use crate::drawn_design::Design;
 use crate::labels::{put_label, put_title_if_long};
 use crate::lanes::put_lane;
 use crate::page::{Page, Piece};
-use crate::pins::{cell_on, name_bytes, pin_at};
+use crate::pins::{name_bytes, pin_at};
 use crate::strips::{LANE, LEFT, Run, STEP, STRIP, STRIPS, Strip, char_at};
 use pld_base::OutOfMemory;
-use pld_device::Device;
+use pld_device::{Device, cell_on};
 
 /// Whether a drawn vector drives or tests a pin.
 fn is_tried(run: Run, pin: u8) -> bool
