@@ -28,7 +28,6 @@ use Rattle.expr_bits.specs.Steps.{term_part}
 use Rattle.expr_bits.proofs.Blank.{blank}
 use Rattle.expr_bits.proofs.Linked.{IsLinkedIf, expression_linked}
 use Rattle.expr_bits.proofs.Links.{SameKind, Sound}
-use Rattle.expr_bits.proofs.StackLaws.{normal_is}
 
 -- ---- values
 
@@ -57,14 +56,11 @@ few_by form.Set v k h w = omega (arith, subst (λ s. width_of s ≤ 32) h w)
 pub few : (n : Names) (d : Context) (t : Tree) (old new : List Node) (b : Bits) → refusal_of n t ≡ None → d.known ≡ known_of (entries_of n) → IsMade IsPart (arena old) (arena new) b (term_part d (term_of d.known t)) → length b.word < 256
 few n d t old new b e known m =
     let x = subst (λ ks. IsFound d (term_of ks t)) (sym known) (found n d t e) in
-    let is = normal_is (arena new) b (record { value = constant_of d (term_of d.known t); word = (bits_of d (term_of d.known t)).what }) m.shows in
-    few_by b.form (constant_of d (term_of d.known t)) (length b.word) is.form (subst (λ s. width_of s ≤ 32) (sym x.kind.shape) x.narrow)
+    few_by b.form (constant_of d (term_of d.known t)) (length b.word) m.shows.form (subst (λ s. width_of s ≤ 32) (sym x.kind.shape) x.narrow)
 
 pub accepted : (n : Names) (d : Context) (t : Tree) (old new : List Node) (b : Bits) (s : Shaped) → refusal_of n t ≡ None → d.known ≡ known_of (entries_of n) → IsMade IsPart (arena old) (arena new) b (term_part d (term_of d.known t))
     → ((v : Value) → IsBits (arena new) b v (bits_of d (term_of d.known t)).what → IsBlank v.unknown (bits_of d (term_of d.known t)).what → IsShaped (arena new) s v (bits_of d (term_of d.known t)).what)
     → MakesBits d t old new (Ok s)
 accepted n d t old new b s e known m shaped =
     let x = subst (λ ks. IsFound d (term_of ks t)) (sym known) (found n d t e) in
-    let c = constant_of d (term_of d.known t) in
-    let is = normal_is (arena new) b (record { value = c; word = (bits_of d (term_of d.known t)).what }) m.shows in
-    record { shows = shaped c is (blank d (term_of d.known t) x.sound); grew = m.grew; within = m.within }
+    record { shows = shaped (constant_of d (term_of d.known t)) m.shows (blank d (term_of d.known t) x.sound); grew = m.grew; within = m.within }

@@ -1,5 +1,5 @@
 -- The operators of the language are those that go along two words.
-use Rattle.std.proofs.Common.{◌≡◌, suc, ◌<◌, Bool, List, [], ◌∷◌, length, map, true, false, refl, sym, ap, ◌∙◌, arith}
+use Rattle.std.proofs.Common.{◌≡◌, suc, ◌<◌, Bool, None, Some, List, [], ◌∷◌, length, map, true, false, refl, sym, ap, ◌∙◌, arith}
 use Rattle.bit_expr.specs.Arena.{arena, formula_at}
 use Rattle.bit_expr.specs.Folding.{Made, free, ◌>>=◌, make_not, make_and, make_or, make_xor}
 use Rattle.bit_expr.specs.Formulas.{Formula, Const}
@@ -10,7 +10,7 @@ use Rattle.abel_tree.specs.declared.words.Binary.TheVariants as binary
 use Rattle.abel_meaning.specs.BitWords.{Word, word_by_position, each_not, sum_bit, next_carry, sum_bits, relation_bit, operator_bits}
 use Rattle.expr_bits.specs.declared.steps.Step.{Step}
 use Rattle.expr_bits.specs.declared.steps.Step.TheVariants as step
-use Rattle.expr_bits.specs.Along.{step_by, along}
+use Rattle.expr_bits.specs.Along.{step_by, step_of, along}
 use Rattle.expr_bits.proofs.Making.{made_is}
 
 -- a step that carries nothing on
@@ -27,16 +27,16 @@ carried c s = free (s, c)
 kept_nodes : (m : Made Formula) (c : Formula) → ◌≡◌ {A = Made (Formula × Formula)} (m >>= carried c) (record { what = (m.what, c); nodes = m.nodes })
 kept_nodes m c = made_is _ _ refl (omega arith)
 
-pub and_along : (c : Formula) (xs ys : Word) → along step.And c xs ys ≡ word_by_position make_and xs ys
+and_along : (c : Formula) (xs ys : Word) → along step.And c xs ys ≡ word_by_position make_and xs ys
 and_along c xs ys = position_step step.And make_and c (λ last x y. kept_nodes (make_and x y) c) xs ys
 
-pub or_along : (c : Formula) (xs ys : Word) → along step.Or c xs ys ≡ word_by_position make_or xs ys
+or_along : (c : Formula) (xs ys : Word) → along step.Or c xs ys ≡ word_by_position make_or xs ys
 or_along c xs ys = position_step step.Or make_or c (λ last x y. kept_nodes (make_or x y) c) xs ys
 
-pub xor_along : (c : Formula) (xs ys : Word) → along step.Xor c xs ys ≡ word_by_position make_xor xs ys
+xor_along : (c : Formula) (xs ys : Word) → along step.Xor c xs ys ≡ word_by_position make_xor xs ys
 xor_along c xs ys = position_step step.Xor make_xor c (λ last x y. kept_nodes (make_xor x y) c) xs ys
 
-pub xnor_along : (c : Formula) (xs ys : Word) → along step.Xnor c xs ys ≡ word_by_position (λ x y. make_xor x y >>= make_not) xs ys
+xnor_along : (c : Formula) (xs ys : Word) → along step.Xnor c xs ys ≡ word_by_position (λ x y. make_xor x y >>= make_not) xs ys
 xnor_along c xs ys = position_step step.Xnor (λ x y. make_xor x y >>= make_not) c (λ last x y. kept_nodes (make_xor x y >>= make_not) c) xs ys
 
 pub not_along : (c : Formula) (xs : Word) → along step.Not c xs xs ≡ each_not xs
@@ -77,15 +77,31 @@ pub length_not : (w : Word) → length (each_not w).what ≡ length w
 length_not [] = refl
 length_not (x ∷ w) = ap suc (length_not w)
 
--- what is none of the operators that go along words makes zeros
-pub no_operator : (s : Binary) (xs ys : Word) → (s ≡ binary.And → ⊥) → (s ≡ binary.Or → ⊥) → (s ≡ binary.Xor → ⊥) → (s ≡ binary.Xnor → ⊥) → (s ≡ binary.Minus → ⊥) → (s ≡ binary.Plus → ⊥) → operator_bits s xs ys ≡ free (map (λ x. Const false) xs)
-no_operator binary.And xs ys a o x n m p = absurd (a refl)
-no_operator binary.Or xs ys a o x n m p = absurd (o refl)
-no_operator binary.Xor xs ys a o x n m p = absurd (x refl)
-no_operator binary.Xnor xs ys a o x n m p = absurd (n refl)
-no_operator binary.Minus xs ys a o x n m p = absurd (m refl)
-no_operator binary.Plus xs ys a o x n m p = absurd (p refl)
-no_operator _ xs ys a o x n m p = refl
+pub no_step : (s : Binary) → (s ≡ binary.And → ⊥) → (s ≡ binary.Or → ⊥) → (s ≡ binary.Xor → ⊥) → (s ≡ binary.Xnor → ⊥) → (s ≡ binary.Plus → ⊥) → None ≡ step_of s
+no_step binary.And a o x n p = absurd (a refl)
+no_step binary.Or a o x n p = absurd (o refl)
+no_step binary.Xor a o x n p = absurd (x refl)
+no_step binary.Xnor a o x n p = absurd (n refl)
+no_step binary.Plus a o x n p = absurd (p refl)
+no_step _ a o x n p = refl
+
+-- an operator goes along words by its step; what has none and is no difference makes zeros
+pub operator_along : (s : Binary) (g : Step) (xs ys : Word) → Some g ≡ step_of s → along g (Const false) xs ys ≡ operator_bits s xs ys
+operator_along binary.And g xs ys e = let is : g ≡ step.And = cc in ap (λ h. along h (Const false) xs ys) is ∙ and_along (Const false) xs ys
+operator_along binary.Or g xs ys e = let is : g ≡ step.Or = cc in ap (λ h. along h (Const false) xs ys) is ∙ or_along (Const false) xs ys
+operator_along binary.Xor g xs ys e = let is : g ≡ step.Xor = cc in ap (λ h. along h (Const false) xs ys) is ∙ xor_along (Const false) xs ys
+operator_along binary.Xnor g xs ys e = let is : g ≡ step.Xnor = cc in ap (λ h. along h (Const false) xs ys) is ∙ xnor_along (Const false) xs ys
+operator_along binary.Plus g xs ys e = let is : g ≡ step.Sum = cc in ap (λ h. along h (Const false) xs ys) is ∙ sum_along (Const false) xs ys
+operator_along _ g xs ys e = absurd cc
+
+pub no_operator : (s : Binary) (xs ys : Word) → None ≡ step_of s → (s ≡ binary.Minus → ⊥) → operator_bits s xs ys ≡ free (map (λ x. Const false) xs)
+no_operator binary.And xs ys e m = absurd cc
+no_operator binary.Or xs ys e m = absurd cc
+no_operator binary.Xor xs ys e m = absurd cc
+no_operator binary.Xnor xs ys e m = absurd cc
+no_operator binary.Plus xs ys e m = absurd cc
+no_operator binary.Minus xs ys e m = absurd (m refl)
+no_operator _ xs ys e m = refl
 
 pub no_relation : (s : Binary) (xs ys : Word) → (s ≡ binary.Equal → ⊥) → (s ≡ binary.Unequal → ⊥) → (s ≡ binary.Less → ⊥) → (s ≡ binary.LessEqual → ⊥) → (s ≡ binary.Greater → ⊥) → (s ≡ binary.GreaterEqual → ⊥) → relation_bit s xs ys ≡ free (Const false)
 no_relation binary.Equal xs ys a b c d e f = absurd (a refl)

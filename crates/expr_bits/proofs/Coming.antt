@@ -1,77 +1,61 @@
 -- Work comes to terms: one more member, and work to be done first.
-use Rattle.std.proofs.Common.{◌≡◌, ℕ, suc, true, false, Bool, Option, None, Some, List, [], ◌∷◌, ◌++◌, if◌then◌else◌, length, map, reverse, bytes_eq, codes, refl, sym, ap, ap₂, ◌∙◌, subst, append_assoc, append-nil}
-use Rattle.std.proofs.lemmas.List.{reverse-append, reverse-reverse, map-append}
+use Rattle.std.proofs.Common.{◌≡◌, ℕ, true, false, Bool, Option, None, Some, List, [], ◌∷◌, ◌++◌, if◌then◌else◌, bytes_eq, codes, refl, sym, ap, ap₂, ◌∙◌, subst}
 use Rattle.bit_expr.specs.Folding.{Made, ◌>>=◌}
 use Rattle.abel_tree.specs.declared.words.Binary.{Binary}
 use Rattle.abel_tree.specs.declared.words.Extension.{Extension}
 use Rattle.abel_tree.specs.declared.words.Unary.{Unary}
 use Rattle.abel_tree.specs.Entries.{Entry}
+use Rattle.abel_tree.specs.Tree.{SetMember, members_of}
 use Rattle.abel_meaning.specs.Designs.{Context}
-use Rattle.abel_meaning.specs.Terms.{Term, Terms, extended_if, special_term}
+use Rattle.abel_meaning.specs.Terms.{Term, Terms, Known, extended_if, member_before, named_before, special_term, term_named, terms_of}
 use Rattle.abel_meaning.specs.Terms as term
 use Rattle.expr_bits.specs.Parts.{Part}
 use Rattle.expr_bits.specs.declared.step.Step.TheVariants as step
 use Rattle.expr_bits.specs.declared.work.Work.{Work}
 use Rattle.expr_bits.specs.declared.work.Work.TheVariants as work
-use Rattle.expr_bits.specs.Members.{list_of, each_extended}
-use Rattle.expr_bits.specs.Named.{ComesTo, ComeTo}
-use Rattle.expr_bits.specs.Stacks.{task_of, tasks_of}
-use Rattle.expr_bits.specs.Steps.{Task, Push, Do, after_task, after_all}
-use Rattle.expr_bits.proofs.Extensions.{all_extended, set_extended, list_extended}
-use Rattle.expr_bits.proofs.StepLaws.{unary_steps, binary_steps, set_steps}
+use Rattle.expr_bits.specs.Stacks.{ComesTo, Precedes, task_of, tasks_of}
+use Rattle.expr_bits.specs.Steps.{Push, Do, term_part, pushed, after_task, after_all}
+use Rattle.expr_bits.proofs.StepLaws.{unary_steps, binary_steps, set_more, set_none}
 use Rattle.expr_bits.proofs.Turns.{tasks_last}
 
 -- ---- members
 
-come_last : (es : List Entry) (ws : List Work) (ts : List Term) (w : Work) (t : Term) → ComeTo es ws ts → ComesTo es w t → ComeTo es (ws ++ w ∷ []) (ts ++ t ∷ [])
-come_last es [] [] w t c h = (h, tt)
-come_last es [] (u ∷ ts) w t c h = absurd c
-come_last es (v ∷ ws) [] w t c h = absurd c
-come_last es (v ∷ ws) (u ∷ ts) w t c h = (c.0, come_last es ws ts w t c.1 h)
+-- a value before the members of the set that is built first
+pub value_precedes : (es : List Entry) (e : Option Extension) (old mid new : List Work) (w : Work) (t : Term) (ts : Terms) → mid ≡ old ++ work.Do step.Member ∷ [] → new ≡ mid ++ w ∷ [] → ComesTo es w (extended_if e t) → Precedes es e new old ts (term.Before t ts)
+value_precedes es e old mid new w t ts m n c d ps =
+    let set = term_part d (extended_if e (term.Set ts)) in
+    let rest = Do step.Member ∷ tasks_of es old in
+    let tasks : tasks_of es new ≡ task_of es w ∷ rest = ap (tasks_of es) n ∙ tasks_last es mid w ∙ ap (λ xs. task_of es w ∷ xs) (ap (tasks_of es) m ∙ tasks_last es old (work.Do step.Member)) in
+    ap (λ xs. after_all d (Push (extended_if e (term.Set ts)) ∷ xs) ps) tasks
+    ∙ ap (λ (m : Made (List Part)). pushed set ps >>= λ qs. m >>= after_all d rest) (c d (set.what ∷ ps))
+    ∙ sym (set_more d e t ts (tasks_of es old) ps)
 
--- one more behind those that come to these
-pub come_more : (es : List Entry) (ws new : List Work) (ts xs ys : List Term) (w : Work) (t : Term) → new ≡ ws ++ w ∷ [] → ys ≡ xs ++ t ∷ [] → ComeTo es ws (ts ++ xs) → ComesTo es w t → ComeTo es new (ts ++ ys)
-come_more es ws new ts xs ys w t e f c h =
-    subst (λ us. ComeTo es new us) (append_assoc ts xs (t ∷ []) ∙ ap (λ us. ts ++ us) (sym f))
-    (subst (λ vs. ComeTo es vs ((ts ++ xs) ++ t ∷ [])) (sym e) (come_last es ws (ts ++ xs) w t c h))
+pub precedes_then : (es : List Entry) (e : Option Extension) (old mid new : List Work) (ts us vs : Terms) → Precedes es e new mid ts us → Precedes es e mid old us vs → Precedes es e new old ts vs
+precedes_then es e old mid new ts us vs a b d ps = a d ps ∙ b d ps
 
-pub come_push : (es : List Entry) (ws new : List Work) (ts : List Term) (w : Work) (t : Term) → new ≡ ws ++ w ∷ [] → ComeTo es ws ts → ComesTo es w t → ComeTo es new (ts ++ t ∷ [])
-come_push es ws new ts w t e c h = subst (λ vs. ComeTo es vs (ts ++ t ∷ [])) (sym e) (come_last es ws ts w t c h)
+pub names_last : (ks : List Known) (names : List (List ℕ)) (n : List ℕ) (ts : Terms) → named_before ks (names ++ n ∷ []) ts ≡ named_before ks names (term.Before (term_named ks n) ts)
+names_last ks [] n ts = refl
+names_last ks (x ∷ names) n ts = ap (term.Before (term_named ks x)) (names_last ks names n ts)
 
-pub come_none : (es : List Entry) (ws : List Work) (ts : List Term) → ComeTo es ws ts → ComeTo es ws (ts ++ [])
-come_none es ws ts c = subst (λ us. ComeTo es ws us) (sym (append-nil ts)) c
+-- members before others, the last of them built first
+abbrev pub members_before : List Known → List SetMember → Terms → Terms
+members_before ks [] ts = ts
+members_before ks (m ∷ ms) ts = member_before ks m (members_before ks ms ts)
 
-come_long : (es : List Entry) (ws : List Work) (ts : List Term) → ComeTo es ws ts → length ws ≡ length ts
-come_long es [] [] c = refl
-come_long es [] (t ∷ ts) c = absurd c
-come_long es (w ∷ ws) [] c = absurd c
-come_long es (w ∷ ws) (t ∷ ts) c = ap suc (come_long es ws ts c.1)
+pub members_last : (ks : List Known) (ms : List SetMember) (m : SetMember) (ts : Terms) → members_before ks (ms ++ m ∷ []) ts ≡ members_before ks ms (member_before ks m ts)
+members_last ks [] m ts = refl
+members_last ks (x ∷ ms) m ts = ap (member_before ks x) (members_last ks ms m ts)
 
-come_all : (es : List Entry) (ws : List Work) (ts : List Term) (ss : List Task) (d : Context) (ps : List Part) → ComeTo es ws ts → after_all d (map (task_of es) ws ++ ss) ps ≡ after_all d (map Push ts ++ ss) ps
-come_all es [] [] ss d ps c = refl
-come_all es [] (t ∷ ts) ss d ps c = absurd c
-come_all es (w ∷ ws) [] ss d ps c = absurd c
-come_all es (w ∷ ws) (t ∷ ts) ss d ps c =
-    ap (λ (m : Made (List Part)). m >>= after_all d (map (task_of es) ws ++ ss)) (c.0 d ps)
-    ∙ after_then (after_task d (Push t) ps) (come_all es ws ts ss d (after_task d (Push t) ps).what c.1)
-  where
-    after_then : (m : Made (List Part)) → after_all d (map (task_of es) ws ++ ss) m.what ≡ after_all d (map Push ts ++ ss) m.what → m >>= after_all d (map (task_of es) ws ++ ss) ≡ m >>= after_all d (map Push ts ++ ss)
-    after_then m e = ap (λ (r : Made (List Part)). m >>= λ qs. r) e
+pub members_all : (ks : List Known) (ms : List SetMember) → members_before ks ms term.NoTerm ≡ terms_of ks (members_of ms)
+members_all ks [] = refl
+members_all ks (m ∷ ms) = ap (member_before ks m) (members_all ks ms)
 
--- ---- sets
-
-pub set_work : (es : List Entry) (e : Option Extension) (ts : Terms) (old parts turned mid new : List Work) (n : ℕ) → ComeTo es parts (each_extended e (list_of ts)) → n ≡ length parts → mid ≡ old ++ work.Do (step.Joins n) ∷ [] → turned ≡ reverse parts → new ≡ mid ++ turned
-    → (d : Context) (ps : List Part) → after_all d (tasks_of es new) ps ≡ after_all d (Push (extended_if e (term.Set ts)) ∷ tasks_of es old) ps
-set_work es e ts old parts turned mid new n c long m t all d ps =
-    let us = all_extended e ts in
-    let list : each_extended e (list_of ts) ≡ list_of us = sym (list_extended e ts) in
-    let come = subst (λ xs. ComeTo es parts xs) list c in
-    let back : reverse new ≡ parts ++ reverse mid = ap reverse all ∙ reverse-append mid turned ∙ ap (λ xs. xs ++ reverse mid) (ap reverse t ∙ reverse-reverse parts) in
-    let tasks : tasks_of es new ≡ map (task_of es) parts ++ Do (step.Joins n) ∷ tasks_of es old = ap (map (task_of es)) back ∙ map-append (task_of es) parts (reverse mid) ∙ ap (λ xs. map (task_of es) parts ++ xs) (ap (tasks_of es) m ∙ tasks_last es old (work.Do (step.Joins n))) in
-    ap (λ xs. after_all d xs ps) tasks
-    ∙ come_all es parts (list_of us) (Do (step.Joins n) ∷ tasks_of es old) d ps come
-    ∙ sym (set_steps d us n (tasks_of es old) ps (long ∙ come_long es parts (list_of us) come))
-    ∙ ap (λ x. after_all d (Push x ∷ tasks_of es old) ps) (sym (set_extended e ts))
+-- and a set without members, built first of all
+pub set_work : (es : List Entry) (old mid new : List Work) (e : Option Extension) (us : Terms) → new ≡ mid ++ work.Do step.Empty ∷ [] → Precedes es e mid old term.NoTerm us
+    → (d : Context) (ps : List Part) → after_all d (tasks_of es new) ps ≡ after_all d (Push (extended_if e (term.Set us)) ∷ tasks_of es old) ps
+set_work es old mid new e us n p d ps =
+    ap (λ ws. after_all d (tasks_of es ws) ps) n ∙ ap (λ xs. after_all d xs ps) (tasks_last es mid (work.Do step.Empty))
+    ∙ ap (λ (m : Made (List Part)). m >>= after_all d (tasks_of es mid)) (set_none d e ps) ∙ p d ps
 
 -- ---- work to be done first
 
@@ -90,6 +74,9 @@ first_comes es old new w t e c d ps =
 pub number_comes : (d : Context) (e : Option Extension) (n : ℕ) (ps : List Part) → after_task d (Do (step.Number n)) ps ≡ after_task d (Push (extended_if e (term.Number n))) ps
 number_comes d None n ps = refl
 number_comes d (Some e) n ps = refl
+
+pub zero_comes : (d : Context) (e : Option Extension) (t : Term) (ps : List Part) → t ≡ term.Number 0 → after_task d (Do (step.Number 0)) ps ≡ after_task d (Push (extended_if e t)) ps
+zero_comes d e t ps h = number_comes d e 0 ps ∙ ap (λ u. after_task d (Push (extended_if e u)) ps) (sym h)
 
 special_by : (e : Extension) (b c : Bool) → extended_if (Some e) (if b then term.X else if c then term.Pulse else term.Release) ≡ (if b then term.X else if c then term.Pulse else term.Release)
 special_by e true c = refl

@@ -5,15 +5,12 @@ pub mod Coming
 pub mod Contexts
 pub mod Extensions
 pub mod FoldedWords
-pub mod Joining
 pub mod KeptBits
 pub mod Linked
 pub mod Links
 pub mod Making
 pub mod MetWords
-pub mod NamedWork
 pub mod NamesBefore
-pub mod NumberTerms
 pub mod OperatedBits
 pub mod PositionWords
 pub mod Quiet

@@ -160,22 +160,19 @@ linked_extended d e (Some v) xs t l = (
   l.3,
 )
 
-pub linked_if : (d : Context) (e : Option Extension) (f : Found) (t : Term) → IsLinked d f t → IsLinked d f (extended_if e t)
+linked_if : (d : Context) (e : Option Extension) (f : Found) (t : Term) → IsLinked d f t → IsLinked d f (extended_if e t)
 linked_if d None f t l = l
 linked_if d (Some e) f t l = record { valued = l.valued; linked = linked_extended d e f.value f.specials t l.linked }
 
 -- ---- names
 
--- `.C.` or `.Z.`
-abbrev pub IsPulseTerm : Term → Type 0
-IsPulseTerm term.Pulse = Unit {0}
-IsPulseTerm term.Release = Unit {0}
-IsPulseTerm _ = ⊥
+-- what is found of a name, where it may be used, and its term
+abbrev IsFoundTerm : Context → NameFound → Term → Type 0
+IsFoundTerm d n t = n.is_pulse ≡ false → IsLinked d n.found t
 
 pub record NameLinked (d : Context) (n : NameFound) (k : Known) : Type 0 where
   pub name : n.name ≡ k.name
-  pub found : IsLinked d n.found k.term
-  pub pulse : n.is_pulse ≡ true → IsPulseTerm k.term
+  pub found : n.is_pulse ≡ false → IsLinked d n.found k.term
 
 abbrev pub NamesLinked : Context → List NameFound → List Known → Type 0
 NamesLinked d [] [] = Unit {0}
@@ -185,22 +182,17 @@ NamesLinked d _ _ = ⊥
 linked_value : (d : Context) (v : Value) (t : Term) → SameKind v (constant_of d t) → AllKnown (constant_of d t).unknown → Sound d t → width_of v.shape ≤ 32 → IsLinked d (found_value v) t
 linked_value d v t k a s n = record { valued = λ e f. absurd cc; linked = (k, λ x. a, s, n) }
 
--- a name's find, and its term
-record IsFoundTerm (d : Context) (n : NameFound) (t : Term) : Type 0 where
-  found : IsLinked d n.found t
-  pulse : n.is_pulse ≡ true → IsPulseTerm t
-
-nothing_linked : (d : Context) → IsFoundTerm d nothing_found (term.Number 0)
-nothing_linked d = record { found = linked_value d (plain_value 0) (term.Number 0) (same_kind (plain_value 0)) tt tt (omega arith); pulse = λ e. absurd cc }
+number_linked : (d : Context) (n : ℕ) → IsLinked d (found_value (plain_value n)) (term.Number n)
+number_linked d n = linked_value d (plain_value n) (term.Number n) (same_kind (plain_value n)) tt tt (omega arith)
 
 looked : (d : Context) (ns : List NameFound) (ks : List Known) (w : List ℕ) → NamesLinked d ns ks → IsFoundTerm d (name_found ns w) (term_named ks w)
-looked d [] [] w l = nothing_linked d
+looked d [] [] w l = λ e. number_linked d 0
 looked d [] (k ∷ ks) w l = absurd l
 looked d (n ∷ ns) [] w l = absurd l
 looked d (n ∷ ns) (k ∷ ks) w l = here (bytes_eq w n.name) (bytes_eq w k.name) (ap (bytes_eq w) l.0.name) (looked d ns ks w l.1)
   where
     here : (b c : Bool) → b ≡ c → IsFoundTerm d (name_found ns w) (term_named ks w) → IsFoundTerm d (unwrap_or (if b then Some n else named ns w) nothing_found) (if c then k.term else term_named ks w)
-    here true true e more = record { found = l.0.found; pulse = l.0.pulse }
+    here true true e more = l.0.found
     here false false e more = more
     here true false e more = absurd cc
     here false true e more = absurd cc
@@ -214,11 +206,11 @@ used_if d p None xs t l = tt
 used_if d p (Some v) xs t l = (l.0, λ e. l.1 (at_none p xs e), l.2, l.3)
 
 used : (d : Context) (p : Place) (n : NameFound) (t : Term) → IsFoundTerm d n t → IsLinked d (found_use p n) t
-used d p n t l = by n.is_pulse
+used d p n t l = by n.is_pulse refl
   where
-    by : (b : Bool) → IsLinked d (if b then refused_there (MisplacedSpecial p) else record n.found { specials = at_name p n.found.specials }) t
-    by true = record { valued = λ e f. absurd cc; linked = tt }
-    by false = record { valued = l.found.valued; linked = used_if d p n.found.value n.found.specials t l.found.linked }
+    by : (b : Bool) → n.is_pulse ≡ b → IsLinked d (if b then refused_there (MisplacedSpecial p) else record n.found { specials = at_name p n.found.specials }) t
+    by true e = record { valued = λ e f. absurd cc; linked = tt }
+    by false e = let h = l e in record { valued = h.valued; linked = used_if d p n.found.value n.found.specials t h.linked }
 
 -- ---- specials
 
@@ -234,7 +226,7 @@ ranged d ns ks p (w ∷ names) fs ts l m = (used d p (name_found ns w) (term_nam
 
 mutual
   pub tree_linked : (d : Context) (ns : List NameFound) (ks : List Known) → NamesLinked d ns ks → (t : Tree) → IsLinked d (found_of ns t) (term_of ks t)
-  tree_linked d ns ks l (ANumber n) = linked_value d (plain_value n.value) (term.Number n.value) (same_kind (plain_value n.value)) tt tt (omega arith)
+  tree_linked d ns ks l (ANumber n) = number_linked d n.value
   tree_linked d ns ks l (ASpecial letter p) = special_linked d p (bytes_eq (letter ∷ []) (codes "X")) (bytes_eq (letter ∷ []) (codes "C"))
   tree_linked d ns ks l (AName word e) = linked_if d e _ (term_named ks word.text) (used d word.place (name_found ns word.text) (term_named ks word.text) (looked d ns ks word.text l))
   tree_linked d ns ks l (ASet p ms e) = linked_if d e _ (term.Set (terms_of ks ms)) (linked_set d p (all_found ns ms) (terms_of ks ms) (members_linked d ns ks l ms))
@@ -252,48 +244,14 @@ mutual
 
 -- ---- constants
 
-special_pulse : (b c : Bool) → (if b then false else true) ≡ true → IsPulseTerm (if b then term.X else if c then term.Pulse else term.Release)
-special_pulse true c e = absurd cc
-special_pulse false true e = tt
-special_pulse false false e = tt
-
-pulse_tree : (d : Context) (ns : List NameFound) (ks : List Known) → NamesLinked d ns ks → (t : Tree) → is_pulse t ≡ true → IsPulseTerm (term_of ks t)
-pulse_tree d ns ks l (ANumber n) e = absurd cc
-pulse_tree d ns ks l (ASpecial letter p) e = special_pulse (bytes_eq (letter ∷ []) (codes "X")) (bytes_eq (letter ∷ []) (codes "C")) e
-pulse_tree d ns ks l (AName word e) h = absurd cc
-pulse_tree d ns ks l (ASet p ms e) h = absurd cc
-pulse_tree d ns ks l (AParen p t) h = pulse_tree d ns ks l t h
-pulse_tree d ns ks l (AUnary sign p t) h = absurd cc
-pulse_tree d ns ks l (ABinary sign p t u) h = absurd cc
-
-pulse_value : (d : Context) (t : Term) → IsPulseTerm t → IsLinked d (found_value (plain_value 0)) t
-pulse_value d term.Pulse h = linked_value d (plain_value 0) term.Pulse (same_kind (plain_value 0)) tt tt (omega arith)
-pulse_value d term.Release h = linked_value d (plain_value 0) term.Release (same_kind (plain_value 0)) tt tt (omega arith)
-pulse_value d (term.Number n) h = absurd h
-pulse_value d term.X h = absurd h
-pulse_value d (term.Read s f) h = absurd h
-pulse_value d (term.Set ts) h = absurd h
-pulse_value d (term.UnaryOf sign t) h = absurd h
-pulse_value d (term.BinaryOf sign t u) h = absurd h
-
-constant_linked : (d : Context) (b : Bool) (f : Found) (t : Term) → (b ≡ true → IsPulseTerm t) → IsLinked d f t → IsLinked d (found_constant b f) t
-constant_linked d true f t h l = pulse_value d t (h refl)
-constant_linked d false f t h l = l
-
 signal_linked : (d : Context) (s : ℕ) → IsLinked d (found_value (one_position false)) (term.Read s None)
 signal_linked d s = linked_value d (one_position false) (term.Read s None) (record { shape = refl; number = λ e. absurd cc }) (refl, tt) tt (omega arith)
 
-kind_linked : (d : Context) (ns : List NameFound) (ks : List Known) (s : ℕ) → NamesLinked d ns ks → (k : Kind) → IsLinked d (found_kind ns k) (term_meant ks s k)
-kind_linked d ns ks s l (APin pin negated) = signal_linked d s
-kind_linked d ns ks s l (ANode number) = signal_linked d s
-kind_linked d ns ks s l (AConstant t) = constant_linked d (is_pulse t) (found_of ns t) (term_of ks t) (pulse_tree d ns ks l t) (tree_linked d ns ks l t)
-kind_linked d ns ks s l ADeviceName = linked_value d (plain_value 0) (term.Number 0) (same_kind (plain_value 0)) tt tt (omega arith)
-
-kind_pulse : (d : Context) (ns : List NameFound) (ks : List Known) (s : ℕ) → NamesLinked d ns ks → (k : Kind) → is_pulse_kind k ≡ true → IsPulseTerm (term_meant ks s k)
-kind_pulse d ns ks s l (APin pin negated) e = absurd cc
-kind_pulse d ns ks s l (ANode number) e = absurd cc
-kind_pulse d ns ks s l (AConstant t) e = pulse_tree d ns ks l t e
-kind_pulse d ns ks s l ADeviceName e = absurd cc
+kind_linked : (d : Context) (ns : List NameFound) (ks : List Known) (s : ℕ) → NamesLinked d ns ks → (k : Kind) → is_pulse_kind k ≡ false → IsLinked d (found_kind ns k) (term_meant ks s k)
+kind_linked d ns ks s l (APin pin negated) e = signal_linked d s
+kind_linked d ns ks s l (ANode number) e = signal_linked d s
+kind_linked d ns ks s l (AConstant t) e = subst (λ b. IsLinked d (found_constant b (found_of ns t)) (term_of ks t)) (sym e) (tree_linked d ns ks l t)
+kind_linked d ns ks s l ADeviceName e = number_linked d 0
 
 one_more : (d : Context) (ns : List NameFound) (ks : List Known) (n : NameFound) (k : Known) → NamesLinked d ns ks → NameLinked d n k → NamesLinked d (ns ++ n ∷ []) (ks ++ k ∷ [])
 one_more d [] [] n k l h = (h, tt)
@@ -306,13 +264,10 @@ after_linked d ns ks s [] l = l
 after_linked d ns ks s (e ∷ es) l =
     after_linked d (ns ++ found_entry ns e ∷ []) (ks ++ record { name = e.name; term = term_meant ks s e.kind } ∷ []) (suc s) es
     (one_more d ns ks (found_entry ns e) (record { name = e.name; term = term_meant ks s e.kind }) l
-    (record { name = refl; found = kind_linked d ns ks s l e.kind; pulse = kind_pulse d ns ks s l e.kind }))
+    (record { name = refl; found = kind_linked d ns ks s l e.kind }))
 
-pub names_linked : (d : Context) (es : List Entry) → NamesLinked d (names_found es) (known_of es)
+names_linked : (d : Context) (es : List Entry) → NamesLinked d (names_found es) (known_of es)
 names_linked d es = after_linked d [] [] 0 es tt
-
-pub name_linked : (d : Context) (es : List Entry) (w : List ℕ) → IsLinked d (name_found (names_found es) w).found (term_named (known_of es) w)
-name_linked d es w = (looked d (names_found es) (known_of es) w (names_linked d es)).found
 
 pub expression_linked : (d : Context) (es : List Entry) (t : Tree) → IsLinked d (expression_found es t) (term_of (known_of es) t)
 expression_linked d es t = tree_linked d (names_found es) (known_of es) (names_linked d es) t

@@ -16,7 +16,7 @@ use Rattle.abel_meaning.specs.Values.{binary_value, bit_value, constant_of, is_r
 use Rattle.expr_bits.specs.declared.forms.Bits.{Bits}
 use Rattle.expr_bits.specs.Parts.{IsPart, Part, with_value}
 use Rattle.expr_bits.specs.Reads.{any_reads_leaf, is_leaf, reads_leaf}
-use Rattle.expr_bits.specs.Steps.{normal, term_part}
+use Rattle.expr_bits.specs.Steps.{term_part}
 use Rattle.expr_bits.specs.Still.{IsKept}
 
 neither : (a b : Bool) → (a || b) ≡ false → (a ≡ false) × (b ≡ false)
@@ -144,6 +144,6 @@ mutual
 pub kept_under : (d : Context) (e f : Option Extension) (t : Term) (b : Bits) → reads_leaf d e t ≡ false → IsKept d b (extended_if e t) → reads_leaf d f t ≡ false → IsKept d b (extended_if f t)
 kept_under d e f t b h kept k =
     let a = alike d e f t h k in
-    let part : term_part d (under e t) ≡ term_part d (under f t) = ap₂ (λ v m. with_value (normal v) m) a.value a.bits in
+    let part : term_part d (under e t) ≡ term_part d (under f t) = ap₂ (λ v m. with_value v m) a.value a.bits in
     let same : term_part d (extended_if e t) ≡ term_part d (extended_if f t) = ap (term_part d) (sym (under_is e t)) ∙ part ∙ ap (term_part d) (under_is f t) in
     record { free = sym (ap (λ (m : Made Part). m.nodes) same) ∙ kept.free; shows = λ ns. subst (λ (m : Made Part). IsPart (arena ns) b m.what) same (kept.shows ns) }

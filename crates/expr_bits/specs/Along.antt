@@ -1,7 +1,9 @@
 -- Private: operators that go along two words, in one form (this project's rule).
-use Rattle.std.specs.Prelude.{Bool, true, false, [], ◌∷◌}
+use Rattle.std.specs.Prelude.{Bool, true, false, Option, None, Some, [], ◌∷◌}
 use Rattle.bit_expr.specs.Folding.{Made, free, ◌>>=◌, make_not, make_and, make_or, make_xor}
 use Rattle.bit_expr.specs.Formulas.{Formula}
+use Rattle.abel_tree.specs.declared.words.Binary.{Binary}
+use Rattle.abel_tree.specs.declared.words.Binary.TheVariants as binary
 use Rattle.abel_meaning.specs.BitWords.{Word, sum_bit, next_carry}
 use Rattle.expr_bits.specs.declared.steps.Step.{Step}
 use Rattle.expr_bits.specs.declared.steps.Step.TheVariants as step
@@ -30,3 +32,12 @@ abbrev pub along : Step → (carry : Formula) → Word → Word → Made Word
 along g c [] ys = free []
 along g c (x ∷ xs) [] = free []
 along g c (x ∷ xs) (y ∷ ys) = step_by g (is_last xs) x y c >>= λ p. along g p.1 xs ys >>= λ us. free (p.0 ∷ us)
+
+-- the step by which an operator goes along two words with nothing carried to the first position
+abbrev pub step_of : Binary → Option Step
+step_of binary.And = Some step.And
+step_of binary.Or = Some step.Or
+step_of binary.Xor = Some step.Xor
+step_of binary.Xnor = Some step.Xnor
+step_of binary.Plus = Some step.Sum
+step_of _ = None

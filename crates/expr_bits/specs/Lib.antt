@@ -3,7 +3,6 @@ pub mod ExpressionBits
 pub mod Held
 pub mod Making
 pub mod Members
-pub mod Named
 pub mod Operators
 pub mod Parts
 pub mod Pieces

@@ -1,5 +1,5 @@
 -- Private: a stack of values in the arena, and what is left to build (this project's rule).
-use Rattle.std.specs.Prelude.{ℕ, Option, None, Some, List, [], ◌∷◌, map, reverse, slice_get, take}
+use Rattle.std.specs.Prelude.{◌≡◌, ℕ, Option, None, Some, List, [], ◌∷◌, map, reverse, slice_get, take}
 use Rattle.std.specs.Global.{Vec}
 use Rattle.bit_expr.specs.Folding.{Made, free, ◌>>=◌}
 use Rattle.bit_expr.specs.Formulas.{Formula}
@@ -7,7 +7,7 @@ use Rattle.abel_tree.specs.declared.words.Extension.{Extension}
 use Rattle.abel_tree.specs.Entries.{Entry}
 use Rattle.abel_tree.specs.View.{view}
 use Rattle.abel_meaning.specs.Designs.{Context}
-use Rattle.abel_meaning.specs.Terms.{Term, known_of, term_of, term_meant, extended_if}
+use Rattle.abel_meaning.specs.Terms.{Term, Terms, known_of, term_of, term_meant, extended_if}
 use Rattle.abel_meaning.specs.Terms as term
 use Rattle.expr_bits.specs.declared.forms.Bits.{Bits}
 use Rattle.expr_bits.specs.Parts.{Part, IsPart}
@@ -15,7 +15,7 @@ use Rattle.expr_bits.specs.declared.work.Work.{Work}
 use Rattle.expr_bits.specs.declared.work.Work.TheVariants as work
 use Rattle.expr_bits.specs.declared.turn.Turn.{Turn}
 use Rattle.expr_bits.specs.declared.turn.Turn.TheVariants as turn
-use Rattle.expr_bits.specs.Steps.{Task, Push, Do, pushed, term_part, after_step, after_all}
+use Rattle.expr_bits.specs.Steps.{Task, Push, Do, pushed, term_part, after_step, after_task, after_all}
 
 -- each of the bits is that of a value
 abbrev pub AreParts : List Formula → List Bits → List Part → Type 0
@@ -69,3 +69,14 @@ after_turn d es (turn.Keeps b k e) ps = pushed (term_part d (named_term es k e))
 -- and then all these tasks
 abbrev pub then_all : Context → Made (List Part) → List Task → Made (List Part)
 then_all d m ts = m >>= after_all d ts
+
+-- ---- work that comes to a term
+
+abbrev pub ComesTo : List Entry → Work → Term → Type 0
+ComesTo es w t = (d : Context) (ps : List Part) → after_task d (task_of es w) ps ≡ after_task d (Push t) ps
+
+-- with the new work in place of the old a set has more members before its own
+abbrev pub Precedes : List Entry → Option Extension → (new old : List Work) → (ts us : Terms) → Type 0
+Precedes es e new old ts us =
+    (d : Context) (ps : List Part)
+    → after_all d (Push (extended_if e (term.Set ts)) ∷ tasks_of es new) ps ≡ after_all d (Push (extended_if e (term.Set us)) ∷ tasks_of es old) ps

@@ -1,17 +1,16 @@
 //! Expressions as work on their parts.
 
-ghost use Rattle.std.specs.Prelude.{◌≡◌, List, [], ◌∷◌, ◌++◌, map, take, IfOk};
-ghost use Rattle.abel_tree.specs.Entries.{entries_of};
+ghost use Rattle.std.specs.Prelude.{◌≡◌, Option, List, [], ◌∷◌, ◌++◌, map, take, IfOk};
+ghost use Rattle.abel_tree.specs.declared.words.Extension.{Extension as AnExtension};
+ghost use Rattle.abel_tree.specs.Entries.{Entry, entries_of};
 ghost use Rattle.abel_tree.specs.Tree.{members_of};
 ghost use Rattle.abel_tree.specs.View.{view, view_member};
 ghost use Rattle.abel_meaning.specs.Designs.{Context};
-ghost use Rattle.abel_meaning.specs.Terms.{Term, extended_if, known_of, member_before, named_before, special_term, term_of, terms_of};
+ghost use Rattle.abel_meaning.specs.Terms.{Term, Terms, extended_if, known_of, member_before, named_before, special_term, term_of, terms_of};
 ghost use Rattle.abel_meaning.specs.Terms as term;
 ghost use Rattle.name_uses.specs.RangeParts.{name_items};
 ghost use Rattle.expr_bits.specs.Parts.{Part};
-ghost use Rattle.expr_bits.specs.Named.{ComeTo};
-ghost use Rattle.expr_bits.specs.Members.{each_extended, list_of};
-ghost use Rattle.expr_bits.specs.Stacks.{tasks_of};
+ghost use Rattle.expr_bits.specs.Stacks.{ComesTo, Precedes, tasks_of};
 ghost use Rattle.expr_bits.specs.Steps.{Do, Push, after_all, after_task};
 
 use crate::naming::name_work;
@@ -23,67 +22,6 @@ use pld_base::OutOfMemory;
 use set_expr::Scope;
 use std::alloc::Global;
 
-/// Names behind other members.
-fn with_names<'a>(
-    scope: &Scope<'a>,
-    names: &[Vec<u8>],
-    outer: Outer,
-    before: Vec<Work<'a>>,
-) -> Result<Vec<Work<'a>>, OutOfMemory>
-    ensures { IfOk result (λ ws. (ts : List Term) → ComeTo (entries_of scope.now) before.entry.items ts
-        → ComeTo (entries_of scope.now) ws.items (ts ++ each_extended outer.extension (list_of (named_before
-        (known_of (take outer.count (entries_of scope.now))) (map name_items names.now) term.NoTerm)))) }
-{
-    let mut works = before;
-    for name in names {
-        works.push(name_work(scope, name.as_slice(), outer))?;
-    }
-    Ok(works)
-}
-
-/// A member behind others.
-fn with_member<'a>(
-    alloc: Global,
-    scope: &Scope<'a>,
-    member: &'a Member,
-    outer: Outer,
-    before: Vec<Work<'a>>,
-) -> Result<Vec<Work<'a>>, OutOfMemory>
-    ensures { IfOk result (λ ws. (ts : List Term) → ComeTo (entries_of scope.now) before.entry.items ts
-        → ComeTo (entries_of scope.now) ws.items (ts ++ each_extended outer.extension (list_of (member_before
-        (known_of (take outer.count (entries_of scope.now))) (view_member member.now) term.NoTerm)))) }
-{
-    match member {
-        Member::One(expr) => {
-            let mut works = before;
-            works.push(Work::Whole(expr, outer))?;
-            Ok(works)
-        }
-        Member::Span { first, last } => {
-            let names = range_list(alloc, first.text.bytes(), last.text.bytes())?;
-            with_names(scope, names.as_slice(), outer, before)
-        }
-    }
-}
-
-/// The members of a set, in order.
-fn member_works<'a>(
-    alloc: Global,
-    scope: &Scope<'a>,
-    members: &'a [Member],
-    outer: Outer,
-) -> Result<Vec<Work<'a>>, OutOfMemory>
-    ensures { IfOk result (λ ws. ComeTo (entries_of scope.now) ws.items (each_extended outer.extension (list_of
-        (terms_of (known_of (take outer.count (entries_of scope.now)))
-        (members_of (map view_member members.now)))))) }
-{
-    let mut works = Vec::new(alloc);
-    for member in members {
-        works = with_member(alloc, scope, member, outer, works)?;
-    }
-    Ok(works)
-}
-
 /// One more, to be done before the others.
 fn first_of<'a>(work: Vec<Work<'a>>, next: Work<'a>) -> Result<Vec<Work<'a>>, OutOfMemory>
     ensures { IfOk result (λ new. new.items ≡ work.entry.items ++ next.entry ∷ []) }
@@ -93,7 +31,53 @@ fn first_of<'a>(work: Vec<Work<'a>>, next: Work<'a>) -> Result<Vec<Work<'a>>, Ou
     Ok(work)
 }
 
-/// The members of a set and its step, to be done before the others.
+/// A value as the member before those of the set that is built first.
+fn with_value<'a>(work: Vec<Work<'a>>, next: Work<'a>) -> Result<Vec<Work<'a>>, OutOfMemory>
+    ensures { IfOk result (λ new. (es : List Entry) (e : Option AnExtension) (t : Term) (ts : Terms) → ComesTo es next.entry (extended_if e t)
+        → Precedes es e new.items work.entry.items ts (term.Before t ts)) }
+{
+    let work = first_of(work, Work::Do(Step::Member))?;
+    first_of(work, next)
+}
+
+/// The names of a range as the members before those of the set that is built first.
+fn with_names<'a>(
+    scope: &Scope<'a>,
+    names: &[Vec<u8>],
+    outer: Outer,
+    work: Vec<Work<'a>>,
+) -> Result<Vec<Work<'a>>, OutOfMemory>
+    ensures { IfOk result (λ new. (ts : Terms) → Precedes (entries_of scope.now) outer.extension new.items work.entry.items ts
+        (named_before (known_of (take outer.count (entries_of scope.now))) (map name_items names.now) ts)) }
+{
+    let mut more = work;
+    for name in names {
+        more = with_value(more, name_work(scope, name.as_slice(), outer))?;
+    }
+    Ok(more)
+}
+
+/// A member before those of the set that is built first.
+fn with_member<'a>(
+    alloc: Global,
+    scope: &Scope<'a>,
+    member: &'a Member,
+    outer: Outer,
+    work: Vec<Work<'a>>,
+) -> Result<Vec<Work<'a>>, OutOfMemory>
+    ensures { IfOk result (λ new. (ts : Terms) → Precedes (entries_of scope.now) outer.extension new.items work.entry.items ts
+        (member_before (known_of (take outer.count (entries_of scope.now))) (view_member member.now) ts)) }
+{
+    match member {
+        Member::One(expr) => with_value(work, Work::Whole(expr, outer)),
+        Member::Span { first, last } => {
+            let names = range_list(alloc, first.text.bytes(), last.text.bytes())?;
+            with_names(scope, names.as_slice(), outer, work)
+        }
+    }
+}
+
+/// The members of a set, the last one first, behind a set without members, to be done before the others.
 fn expand_set<'a>(
     alloc: Global,
     scope: &Scope<'a>,
@@ -107,11 +91,11 @@ fn expand_set<'a>(
         (terms_of (known_of (take outer.count (entries_of scope.now))) (members_of (map view_member members.now)))))
         ∷ tasks_of (entries_of scope.now) work.entry.items) ps) }
 {
-    let mut parts = member_works(alloc, scope, members, outer)?;
-    let mut work = first_of(work, Work::Do(Step::Joins(parts.as_slice().len())))?;
-    parts.reverse();
-    work.extend_from_slice(parts.as_slice())?;
-    Ok(work)
+    let mut more = work;
+    for member in members {
+        more = with_member(alloc, scope, member, outer, more)?;
+    }
+    first_of(more, Work::Do(Step::Empty))
 }
 
 /// An expression as work on its parts, to be done before the others.

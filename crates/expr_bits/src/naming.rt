@@ -1,45 +1,25 @@
 //! What names are to be built as.
 
-ghost use Rattle.std.specs.Prelude.{◌≡◌, ℕ, List, Some, take};
-ghost use Rattle.abel_tree.specs.Entries.{Entry, entries_of, find};
+ghost use Rattle.std.specs.Prelude.{take};
+ghost use Rattle.abel_tree.specs.Entries.{entries_of};
 ghost use Rattle.abel_meaning.specs.Terms.{extended_if, known_of, term_named};
-ghost use Rattle.expr_bits.specs.Named.{ComesTo, KnowsNumber};
+ghost use Rattle.expr_bits.specs.Stacks.{ComesTo};
 
 use crate::step::Step;
 use crate::work::{Outer, Work};
-use abel_tree::Extension;
-use set_expr::{KnownName, Scope, Shape};
+use set_expr::Scope;
 
-/// A name that is known, by its number; where its value is a number, that isn't built anew.
-fn named_work<'a>(name: KnownName, extension: Option<Extension>) -> Work<'a>
-    ensures { (es : List Entry) (w : List ℕ) → find es w ≡ Some name.number → KnowsNumber name (extended_if extension (term_named (known_of es) w)) → ComesTo es result (extended_if extension (term_named (known_of es) w)) }
-{
-    match name.checked.shape {
-        Some(Shape::Number(number)) => Work::Do(Step::Number(number)),
-        _ => Work::Named(name.number, extension),
-    }
-}
-
-/// A name that is known, among the first names; any other is a number.
-fn known_work<'a>(name: KnownName, outer: Outer) -> Work<'a>
-    ensures { (es : List Entry) (w : List ℕ) → find es w ≡ Some name.number
-        → KnowsNumber name (extended_if outer.extension (term_named (known_of es) w))
-        → ComesTo es result (extended_if outer.extension (term_named (known_of (take outer.count es)) w)) }
-{
-    if name.number as usize >= outer.count {
-        Work::Do(Step::Number(0))
-    } else {
-        named_work(name, outer.extension)
-    }
-}
-
-/// What the name with this text is built as.
+/// What the name with this text is built as; one that isn't among the first names is a number.
 pub(crate) fn name_work<'a>(scope: &Scope<'a>, text: &[u8], outer: Outer) -> Work<'a>
     ensures { ComesTo (entries_of scope.now) result (extended_if outer.extension
         (term_named (known_of (take outer.count (entries_of scope.now))) text.now)) }
 {
-    match scope.get(text) {
-        Some(name) => known_work(name, outer),
-        None => Work::Do(Step::Number(0)),
+    let Some(name) = scope.get(text) else {
+        return Work::Do(Step::Number(0));
+    };
+    if name.number as usize >= outer.count {
+        Work::Do(Step::Number(0))
+    } else {
+        Work::Named(name.number, outer.extension)
     }
 }

@@ -5,11 +5,12 @@ ghost use Rattle.bit_expr.specs.Arena.{IsLeaf};
 ghost use Rattle.abel_meaning.specs.Designs.{Context};
 ghost use Rattle.abel_meaning.specs.FormulaBits.{make_held, make_source};
 ghost use Rattle.abel_meaning.specs.Sources.{source_of};
+ghost use Rattle.abel_meaning.specs.Terms as term;
 ghost use Rattle.expr_bits.specs.Making.{Makes, ShowsOne};
 ghost use Rattle.set_expr.specs.Answer.{IsContextOf};
 ghost use Rattle.expr_bits.specs.Parts.{IsPart};
 ghost use Rattle.expr_bits.specs.Held.{HasLeaf, view_reading};
-ghost use Rattle.expr_bits.specs.Steps.{read_part};
+ghost use Rattle.expr_bits.specs.Steps.{term_part};
 
 use crate::forms::Bits;
 use crate::leaves::one_bit;
@@ -82,7 +83,7 @@ pub(crate) fn read<D: Device>(
     signal: u32,
     extension: Option<Extension>,
 ) -> Result<Bits, ExprFault>
-    ensures { (d : Context) → IsContextOf D.table scope.now d → Makes IsPart exprs.old exprs.new result (read_part d signal extension) }
+    ensures { (d : Context) → IsContextOf D.table scope.now d → Makes IsPart exprs.old exprs.new result (term_part d (term.Read signal extension)) }
 {
     let bit = read_signal::<D>(scope, exprs, signal, extension)?;
     let bits = one_bit(alloc, bit, false)?;

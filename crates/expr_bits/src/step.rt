@@ -15,6 +15,8 @@ pub(crate) enum Step {
     Under(Unary),
     /// An operator over two values.
     Both(Binary),
-    /// The set of so many values.
-    Joins(usize),
+    /// A set without members.
+    Empty,
+    /// A value as the member before those of the set below it.
+    Member,
 }

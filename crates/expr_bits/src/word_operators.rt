@@ -4,6 +4,7 @@ ghost use Rattle.std.specs.Prelude.{◌≡◌, length, replicate, IfOk, IfErr};
 ghost use Rattle.bit_expr.specs.Arena.{arena};
 ghost use Rattle.bit_expr.specs.declared.fault.ExprFault.TheVariants as fault;
 ghost use Rattle.abel_meaning.specs.BitWords.{each_not, difference_bits, operator_bits, unary_word};
+ghost use Rattle.expr_bits.specs.Along.{step_of};
 ghost use Rattle.expr_bits.specs.Making.{Makes, ShowsItems, AllIn, word_at};
 
 use crate::positions::spread_word;
@@ -17,43 +18,6 @@ pub(crate) const ZERO: ExprId = ExprId(0);
 
 pub(crate) const ONE: ExprId = ExprId(1);
 
-/// What goes along two words with nothing carried to the first position.
-const NOT: Sweep = Sweep {
-    step: Step::Not,
-    carry: ZERO,
-};
-
-const AND: Sweep = Sweep {
-    step: Step::And,
-    carry: ZERO,
-};
-
-const OR: Sweep = Sweep {
-    step: Step::Or,
-    carry: ZERO,
-};
-
-const XOR: Sweep = Sweep {
-    step: Step::Xor,
-    carry: ZERO,
-};
-
-const XNOR: Sweep = Sweep {
-    step: Step::Xnor,
-    carry: ZERO,
-};
-
-const SUM: Sweep = Sweep {
-    step: Step::Sum,
-    carry: ZERO,
-};
-
-/// A sum and 1 more.
-const SUM_AND_ONE: Sweep = Sweep {
-    step: Step::Sum,
-    carry: ONE,
-};
-
 /// The complement of each position.
 pub fn complement_word(
     alloc: Global,
@@ -63,7 +27,11 @@ pub fn complement_word(
     requires { AllIn (length (arena exprs.old)) word.now }
     ensures { Makes ShowsItems exprs.old exprs.new result (each_not (word_at (arena exprs.old) word.now)) }
 {
-    along(alloc, exprs, NOT, word, word)
+    let sweep = Sweep {
+        step: Step::Not,
+        carry: ZERO,
+    };
+    along(alloc, exprs, sweep, word, word)
 }
 
 /// So many zeros.
@@ -88,7 +56,11 @@ pub fn difference_word(
     ensures { Makes ShowsItems exprs.old exprs.new result (difference_bits (word_at (arena exprs.old) first.now) (word_at (arena exprs.old) second.now)) }
 {
     let complement = complement_word(alloc, exprs, second)?;
-    along(alloc, exprs, SUM_AND_ONE, first, complement.as_slice())
+    let sweep = Sweep {
+        step: Step::Sum,
+        carry: ONE,
+    };
+    along(alloc, exprs, sweep, first, complement.as_slice())
 }
 
 /// The complement of each position, or two's complement.
@@ -110,6 +82,20 @@ pub fn unary_word(
     }
 }
 
+/// The step by which an operator goes along two words with nothing carried to the first position, if it is one that does.
+fn step_of(sign: Binary) -> Option<Step>
+    ensures { result ≡ step_of sign }
+{
+    match sign {
+        Binary::And => Some(Step::And),
+        Binary::Or => Some(Step::Or),
+        Binary::Xor => Some(Step::Xor),
+        Binary::Xnor => Some(Step::Xnor),
+        Binary::Plus => Some(Step::Sum),
+        _ => None,
+    }
+}
+
 /// What an operator makes of two words: `+`, `-`, `&`, `#`, `$` or `!$`; each other one makes zeros.
 pub fn operator_word(
     alloc: Global,
@@ -124,12 +110,10 @@ pub fn operator_word(
     ensures { Makes ShowsItems exprs.old exprs.new result (operator_bits sign (word_at (arena exprs.old) first.now) (word_at (arena exprs.old) second.now)) }
 {
     match sign {
-        Binary::And => along(alloc, exprs, AND, first, second),
-        Binary::Or => along(alloc, exprs, OR, first, second),
-        Binary::Xor => along(alloc, exprs, XOR, first, second),
-        Binary::Xnor => along(alloc, exprs, XNOR, first, second),
         Binary::Minus => difference_word(alloc, exprs, first, second),
-        Binary::Plus => along(alloc, exprs, SUM, first, second),
-        _ => zeros(alloc, first.len()),
+        _ => match step_of(sign) {
+            Some(step) => along(alloc, exprs, Sweep { step, carry: ZERO }, first, second),
+            None => zeros(alloc, first.len()),
+        },
     }
 }

@@ -1,16 +1,23 @@
--- A name that is known has a place; any other is a number.
+-- Among the first names it is what it is among all; any other is a number.
+use Rattle.std.proofs.Common.{sym, ap}
 use Rattle.abel_tree.specs.Entries.{entries_of}
-use Rattle.expr_bits.proofs.NamedWork.{zero_comes, knows}
-use Rattle.expr_bits.proofs.NamesBefore.{named_none}
+use Rattle.abel_meaning.specs.Terms.{extended_if}
+use Rattle.expr_bits.specs.Steps.{Push, after_task}
+use Rattle.expr_bits.proofs.Coming.{zero_comes}
+use Rattle.expr_bits.proofs.NamesBefore.{here_is, named_none, named_past}
 use Rattle.expr_bits.proofs.naming.name_work.Goals as goal
 
-pub returns-in-Some : goal.returns-in-Some
-returns-in-Some c =
+pub returns-in_default : goal.returns-in_default
+returns-in_default c d ps =
     let es = entries_of c.args.scope.now in
-    let w = c.args.text.now in
-    c.known_work.ensures es w c.in-Some.ensures.place (knows es w c.in-Some.name c.args.outer.extension c.in-Some.ensures.found)
+    zero_comes d c.args.outer.extension _ ps (named_none c.args.outer.count es c.args.text.now c.in_default.ensures.place)
 
-pub returns-in-None : goal.returns-in-None
-returns-in-None c d ps =
+pub returns-then-name-outer : goal.returns-then-name-outer
+returns-then-name-outer c d ps =
     let es = entries_of c.args.scope.now in
-    zero_comes d c.args.outer.extension _ ps (named_none c.args.outer.count es c.args.text.now c.in-None.ensures.place)
+    zero_comes d c.args.outer.extension _ ps (named_past c.args.outer.count c.in-Some.name.number es c.args.text.now c.in-Some.ensures.place c.if-name-outer.true)
+
+pub returns-else-name-outer : goal.returns-else-name-outer
+returns-else-name-outer c d ps =
+    let es = entries_of c.args.scope.now in
+    ap (λ t. after_task d (Push (extended_if c.args.outer.extension t)) ps) (sym (here_is c.args.outer.count c.in-Some.name.number es c.args.text.now c.in-Some.ensures.place c.if-name-outer.false))

@@ -6,7 +6,7 @@ use Rattle.abel_tree.specs.Entries.{entries_of}
 use Rattle.abel_meaning.specs.Terms.{extended_if}
 use Rattle.expr_bits.specs.Stacks.{here_term, task_of_turn}
 use Rattle.expr_bits.specs.Steps.{Push, after_task}
-use Rattle.expr_bits.proofs.NamedWork.{zero_comes}
+use Rattle.expr_bits.proofs.Coming.{zero_comes}
 use Rattle.expr_bits.proofs.NamesBefore.{entry_at, entries_long}
 use Rattle.expr_bits.proofs.turn.named_turn.Goals as goal
 
