@@ -1,5 +1,5 @@
 -- What units leave that are made one after another.
-use Rattle.std.proofs.Common.{◌≡◌, ℕ, suc, ◌+◌, ◌<◌, Bool, true, false, List, [], ◌∷◌, ◌++◌, All, Result, Ok, Err, map, length, get_or, refl, sym, ap, ap₂, ◌∙◌, subst, arith, append_assoc, append-nil}
+use Rattle.std.proofs.Common.{◌≡◌, ℕ, suc, ◌+◌, ◌<◌, Bool, true, false, List, [], ◌∷◌, ◌++◌, All, Result, Ok, Err, map, length, get_or, if◌then◌else◌, refl, sym, ap, ap₂, ◌∙◌, subst, arith, append_assoc, append-nil}
 use Rattle.std.proofs.lemmas.List.{map-append}
 use Rattle.std.proofs.lemmas.List.Elements.{All-append}
 use Rattle.std.proofs.lemmas.Option.{slice_get-get_or, get_or_from_slice_get, slice_get_within}
@@ -15,7 +15,7 @@ use Rattle.set_expr.specs.Answer.{Keeps}
 use Rattle.set_expr.specs.Given.{view_contribution}
 use Rattle.section_targets.specs.Building.{Stops, NoMemory, AtLimit, StopsWith, IsBuilt, Builds}
 use Rattle.section_targets.specs.Appending.{Appends, Leaves, Contributed}
-use Rattle.section_targets.specs.Units.{CountedUnit, is_past, limit_at, limit_refused, units_refused, units_nodes}
+use Rattle.section_targets.specs.Units.{CountedUnit, is_past, limit_at, limit_refused, units_refused, units_nodes, all_refused}
 
 pub left_empty : {A : Type 0} (xs ys : List A) → xs ++ ys ≡ [] → xs ≡ []
 left_empty [] ys e = refl
@@ -27,6 +27,10 @@ right_empty (x ∷ xs) ys e = absurd cc
 
 pub both_empty : {A : Type 0} (xs ys : List A) → xs ≡ [] → ys ≡ [] → xs ++ ys ≡ []
 both_empty xs ys e f = rw (e, f) refl
+
+pub none_told : {A : Type 0} (b : Bool) (x : A) → (if b then x ∷ [] else []) ≡ [] → b ≡ false
+none_told true x e = absurd cc
+none_told false x e = refl
 
 -- ---- units in order
 
@@ -51,26 +55,17 @@ limit_append count (u ∷ us) vs e h =
     c.1 ∙ limit_append (count + u.nodes) us vs (right_empty u.refusals (units_refused us) e) c.0
     ∙ ap (λ n. limit_refused n vs) (omega arith)
 
--- where the limit is passed, what follows changes nothing
-limit_passed : (rs : List SectionFault) (p : Place) (past : Bool) (later more : List SectionFault) (f : SectionFault) → limit_at rs p past later ≡ f ∷ [] → (later ≡ f ∷ [] → more ≡ f ∷ []) → limit_at rs p past more ≡ f ∷ []
-limit_passed [] p true later more f h k = h
-limit_passed [] p false later more f h k = k h
-limit_passed (r ∷ rs) p past later more f h k = absurd cc
-
-pub limit_stays : (count : ℕ) (us vs : List CountedUnit) (f : SectionFault) → limit_refused count us ≡ f ∷ [] → limit_refused count (us ++ vs) ≡ f ∷ []
-limit_stays count [] vs f h = absurd cc
-limit_stays count (u ∷ us) vs f h = limit_passed u.refusals u.place (is_past count u.nodes) (limit_refused (count + u.nodes) us) (limit_refused (count + u.nodes) (us ++ vs)) f h (limit_stays (count + u.nodes) us vs f)
-
--- behind a refused unit none is counted
-refused_first : (rs more later later1 : List SectionFault) (p : Place) (past : Bool) → (rs ++ more ≡ [] → ⊥) → limit_at rs p past later ≡ [] → ((more ≡ [] → ⊥) → later ≡ [] → later1 ≡ []) → limit_at rs p past later1 ≡ []
-refused_first [] more later later1 p true h e k = absurd cc
-refused_first [] more later later1 p false h e k = k h e
-refused_first (r ∷ rs) more later later1 p past h e k = refl
-
-pub refused_stays : (count : ℕ) (us vs : List CountedUnit) → (units_refused us ≡ [] → ⊥) → limit_refused count us ≡ [] → limit_refused count (us ++ vs) ≡ []
-refused_stays count [] vs h e = absurd (h refl)
-refused_stays count (u ∷ us) vs h e =
-    refused_first u.refusals (units_refused us) (limit_refused (count + u.nodes) us) (limit_refused (count + u.nodes) (us ++ vs)) u.place (is_past count u.nodes) h e (refused_stays (count + u.nodes) us vs)
+-- where something is refused, what follows changes nothing of the limit
+pub limit_stays : (count : ℕ) (us vs : List CountedUnit) → (all_refused count us ≡ [] → ⊥) → limit_refused count (us ++ vs) ≡ limit_refused count us
+limit_stays count [] vs h = absurd (h refl)
+limit_stays count (u ∷ us) vs h = by_unit u.refusals (is_past count u.nodes) h (limit_stays (count + u.nodes) us vs)
+  where
+    by_unit : (rs : List SectionFault) (past : Bool) → (limit_at rs u.place past (limit_refused (count + u.nodes) us) ++ (rs ++ units_refused us) ≡ [] → ⊥)
+        → ((all_refused (count + u.nodes) us ≡ [] → ⊥) → limit_refused (count + u.nodes) (us ++ vs) ≡ limit_refused (count + u.nodes) us)
+        → limit_at rs u.place past (limit_refused (count + u.nodes) (us ++ vs)) ≡ limit_at rs u.place past (limit_refused (count + u.nodes) us)
+    by_unit [] true h k = refl
+    by_unit [] false h k = k h
+    by_unit (r ∷ rs) past h k = refl
 
 -- what stops units stops them with more behind them, or behind what was made
 pub stops_on : (f : SectionFault) (count later : ℕ) (us vs : List CountedUnit) → (limit_refused count us ≡ f ∷ [] → limit_refused later vs ≡ f ∷ []) → Stops f count us → Stops f later vs
@@ -200,7 +195,13 @@ builds_then us vs gs hs ps qs old mid new (Err f) b a = (
 -- where making stops, what would follow isn't made
 pub builds_stop : (us vs : List CountedUnit) (gs hs : List (meant.Contribution Formula)) (ps qs : List Place) (old new : Contributions) (f : SectionFault) → StopsWith us gs ps old new f → StopsWith (us ++ vs) (gs ++ hs) (ps ++ qs) old new f
 builds_stop us vs gs hs ps qs old new f b =
-    (stops_on f (length (arena old.exprs)) (length (arena old.exprs)) us (us ++ vs) (limit_stays (length (arena old.exprs)) us vs f) b.0, leaves_less old new gs hs ps qs b.1)
+    (stops_on f count count us (us ++ vs) stays b.0, leaves_less old new gs hs ps qs b.1)
+  where
+    count : ℕ
+    count = length (arena old.exprs)
+
+    stays : limit_refused count us ≡ f ∷ [] → limit_refused count (us ++ vs) ≡ f ∷ []
+    stays h = limit_stays count us vs (λ e. let none = left_empty (limit_refused count us) (units_refused us) e in cc) ∙ h
 
 -- nothing is made
 pub builds_none : (out : Contributions) → IsBuilt [] [] [] out out

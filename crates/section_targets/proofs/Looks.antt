@@ -12,26 +12,19 @@ use Rattle.section_targets.specs.Given.{AreNamed}
 use Rattle.std.proofs.lemmas.Bool.Decides.{nat_tests}
 use Rattle.section_targets.specs.Manners.{first_manner, is_same_part, part_of, AreFirsts}
 
-next_of : {X : Type 0} (xs : List X) (k : ℕ) (d : X) → k < length xs → drop k xs ≡ get_or xs k d ∷ drop (k + 1) xs
+-- what is left from k on
+pub next_of : {X : Type 0} (xs : List X) (k : ℕ) (d : X) → k < length xs → drop k xs ≡ get_or xs k d ∷ drop (k + 1) xs
 next_of xs k d lt = drop-cons xs k d lt ∙ ap (λ n. get_or xs k d ∷ drop n xs) (sym (add-one k))
-
-if_is : {X : Type 0} (b : Bool) (x y : X) → b ≡ true → (if b then x else y) ≡ x
-if_is true x y e = refl
-if_is false x y e = absurd cc
-
-if_not : {X : Type 0} (b : Bool) (x y : X) → b ≡ false → (if b then x else y) ≡ y
-if_not false x y e = refl
-if_not true x y e = absurd cc
 
 first_from : (ms : List Manner) (k : ℕ) (d : Manner) (s part : ℕ) → k < length ms → first_manner (drop k ms) s part ≡ (if is_same_part (get_or ms k d) s part then Some (get_or ms k d) else first_manner (drop (k + 1) ms) s part)
 first_from ms k d s part lt = ap (λ xs. first_manner xs s part) (next_of ms k d lt)
 
 -- the one at k is the first, and it is not
 pub first_is : (ms : List Manner) (k : ℕ) (d : Manner) (s part : ℕ) → k < length ms → is_same_part (get_or ms k d) s part ≡ true → first_manner (drop k ms) s part ≡ Some (get_or ms k d)
-first_is ms k d s part lt e = first_from ms k d s part lt ∙ if_is (is_same_part (get_or ms k d) s part) (Some (get_or ms k d)) (first_manner (drop (k + 1) ms) s part) e
+first_is ms k d s part lt e = first_from ms k d s part lt ∙ rw e refl
 
 pub first_not : (ms : List Manner) (k : ℕ) (d : Manner) (s part : ℕ) → k < length ms → is_same_part (get_or ms k d) s part ≡ false → first_manner (drop k ms) s part ≡ first_manner (drop (k + 1) ms) s part
-first_not ms k d s part lt e = first_from ms k d s part lt ∙ if_not (is_same_part (get_or ms k d) s part) (Some (get_or ms k d)) (first_manner (drop (k + 1) ms) s part) e
+first_not ms k d s part lt e = first_from ms k d s part lt ∙ rw e refl
 
 pub first_in : (xs ms : List Manner) (s part : ℕ) (o : Option Manner) → xs ≡ ms → first_manner xs s part ≡ o → o ≡ first_manner ms s part
 first_in xs ms s part o e f = sym (ap (λ ys. first_manner ys s part) (sym e) ∙ f)

@@ -21,7 +21,7 @@ use Rattle.set_expr.specs.SectionOrder.{section_order}
 use Rattle.section_targets.specs.declared.sides.Side.{Side}
 use Rattle.section_targets.specs.NamedTargets.{IsSide}
 use Rattle.section_targets.specs.TargetSignals.{TargetFound, target_name, target_set, target_member, target_members, left_side, no_signals, start_of}
-use Rattle.section_targets.proofs.Built.{left_empty, right_empty}
+use Rattle.section_targets.proofs.Built.{left_empty, right_empty, none_told}
 use Rattle.section_targets.proofs.SignalLists.{some_append, extended_targets, aims_length, side_all}
 
 -- how many signals a term has
@@ -72,17 +72,13 @@ set_width (f ∷ fs) = omega (arith, set_width fs, value_width f.value, same_wid
 set_few : (p : Place) (fs : List Found) (n : ℕ) → (members_refused p fs ≡ [] → n ≤ members_width fs) → AreFew (found_set p fs) n
 set_few p fs n h = by_refusals (members_refused p fs ++ too_wide p (members_width fs)) refl
   where
-    narrow : (b : Bool) → (if b then BadWidth p ∷ [] else []) ≡ [] → b ≡ false
-    narrow true e = absurd cc
-    narrow false e = refl
-
     by_refusals : (rs : List SectionFault) → rs ≡ members_refused p fs ++ too_wide p (members_width fs) → AreFew (unless_refused rs (members_specials fs) (members_value fs)) n
     by_refusals (r ∷ rs) e = record { positions = λ z. absurd cc; few = λ z. absurd cc }
     by_refusals [] e =
         let k = h (left_empty (members_refused p fs) (too_wide p (members_width fs)) (sym e)) in
         record {
           positions = λ z. omega (arith, k, set_width fs);
-          few = λ z. omega (arith, k, ltb-false 32 (members_width fs) (narrow (nat_lt 32 (members_width fs)) (right_empty (members_refused p fs) (too_wide p (members_width fs)) (sym e))));
+          few = λ z. omega (arith, k, ltb-false 32 (members_width fs) (none_told (nat_lt 32 (members_width fs)) (BadWidth p) (right_empty (members_refused p fs) (too_wide p (members_width fs)) (sym e))));
         }
 
 -- ---- expressions
@@ -186,11 +182,7 @@ name_few d p q w k e =
     omega (arith, aims_length q (some_signals (targets_of t)), ap (λ ks. many (term_named ks w)) k, g.few (left_empty f.refusals (f.specials ++ no_signals q (find d.names w) t) e))
 
 wide_none : (p : Place) (x : TargetFound) → (target_set p x).refusals ≡ [] → length (target_set p x).aims ≤ 32
-wide_none p x e = ltb-false 32 (length x.aims) (narrow (nat_lt 32 (length x.aims)) (right_empty x.refusals (too_wide p (length x.aims)) e))
-  where
-    narrow : (b : Bool) → (if b then BadWidth p ∷ [] else []) ≡ [] → b ≡ false
-    narrow true e = absurd cc
-    narrow false e = refl
+wide_none p x e = ltb-false 32 (length x.aims) (none_told (nat_lt 32 (length x.aims)) (BadWidth p) (right_empty x.refusals (too_wide p (length x.aims)) e))
 
 pub member_few : (d : Context) (t : Tree) → d.known ≡ known_of d.names → (target_member d t).refusals ≡ [] → length (target_member d t).aims ≤ 32
 member_few d (ANumber n) k e = omega arith

@@ -1,17 +1,15 @@
 -- Walks one after another, and the walk over one unit.
-use Rattle.std.proofs.Common.{◌≡◌, ℕ, ◌+◌, Bool, true, false, if◌then◌else◌, Option, None, Some, List, [], ◌∷◌, ◌++◌, Result, Ok, Err, ◌⊎◌, inl, inr, length, refl, sym, ap, ap₂, ◌∙◌, subst, arith, append_assoc, append-nil, nat_lt}
+use Rattle.std.proofs.Common.{◌≡◌, ℕ, ◌+◌, Bool, true, false, if◌then◌else◌, Option, None, Some, List, [], ◌∷◌, ◌++◌, Result, Ok, Err, length, refl, sym, ap, ap₂, ◌∙◌, subst, append_assoc, append-nil}
 use Rattle.std.specs.Option.{is_some}
-use Rattle.std.proofs.lemmas.Bool.Decides.{nat_tests}
 use Rattle.pld_base.specs.declared.place.Place.{Place}
 use Rattle.bit_expr.specs.Arena.{arena}
 use Rattle.bit_expr.specs.Formulas.{Formula}
-use Rattle.abel_tree.specs.FirstRefusal.{sooner, is_before, earlier, first_refusal}
-use Rattle.abel_tree.proofs.FirstRefusals.{before_by, earlier_assoc, earlier_none, first_append, none_refused}
+use Rattle.abel_tree.specs.FirstRefusal.{is_before, earlier, first_refusal}
+use Rattle.abel_tree.proofs.FirstRefusals.{earlier_assoc, first_append, none_refused}
 use Rattle.abel_meaning.specs.Contributions as meant
 use Rattle.set_expr.specs.declared.fault.SectionFault.{SectionFault}
-use Rattle.set_expr.specs.declared.fault.SectionFault.TheVariants as fault
 use Rattle.set_expr.specs.Answer.{Keeps}
-use Rattle.set_expr.specs.SectionOrder.{section_order, place_of, rank_of}
+use Rattle.set_expr.specs.SectionOrder.{section_order}
 use Rattle.section_targets.specs.declared.walked.Walked.{Walked}
 use Rattle.section_targets.specs.declared.manner.Manner.{Manner}
 use Rattle.section_targets.specs.Appending.{Contributed}
@@ -19,100 +17,31 @@ use Rattle.section_targets.specs.Building.{Stops, NoMemory, AtLimit, Builds}
 use Rattle.section_targets.specs.Manners.{AreFirsts}
 use Rattle.section_targets.specs.Units.{CountedUnit, is_past, limit_at, limit_refused, units_refused, units_nodes, all_refused}
 use Rattle.section_targets.specs.Walking.{AfterMaking, Walks, fault_behind, standing}
-use Rattle.section_targets.proofs.Built.{left_empty, right_empty, both_empty, refused_append, nodes_append, limit_append, limit_stays, refused_stays, keeps_on, made_then, builds_none}
+use Rattle.section_targets.proofs.Built.{left_empty, right_empty, both_empty, refused_append, nodes_append, limit_append, limit_stays, keeps_on, made_then, builds_none}
 
 not_none : (f : SectionFault) → ◌≡◌ {A = Option SectionFault} (Some f) None → ⊥
 not_none f k = cc
 
--- ---- the limit among refusals
-
--- the limit changes place with another refusal: at one place it comes last
-same_fault : (p : Place) (g : SectionFault) → nat_lt (rank_of g) 9 ≡ false → nat_lt 9 (rank_of g) ≡ false → (place_of g).line ≡ p.line → (place_of g).column ≡ p.column → g ≡ fault.NodeLimit p
-same_fault p (fault.NodeLimit q) h k l c = ap₂ (λ m n. fault.NodeLimit (record { line = m; column = n })) l c
-same_fault p (fault.MisplacedSpecial q) h k l c = absurd cc
-same_fault p (fault.NotConstant q) h k l c = absurd cc
-same_fault p (fault.ZeroDivisor q) h k l c = absurd cc
-same_fault p (fault.BadWidth q) h k l c = absurd cc
-same_fault p (fault.NotAnOutput q name) h k l c = absurd cc
-same_fault p (fault.MixedAssignment q name) h k l c = absurd cc
-same_fault p (fault.BadRow q) h k l c = absurd cc
-same_fault p (fault.BadState q) h k l c = absurd cc
-same_fault p (fault.BadVector q) h k l c = absurd cc
-same_fault p fault.OutOfMemory h k l c = absurd cc
-
--- by which of two comes before the other
-not_both : (a b c x y z : ℕ) → sooner a b c x y z ≡ true → sooner x y z a b c ≡ true → ⊥
-not_both a b c x y z h k = grind (arith, nat_tests, h, k)
-
-neither : (a b c x y z : ℕ) → sooner a b c x y z ≡ false → sooner x y z a b c ≡ false → (a ≡ x) × ((b ≡ y) × ((nat_lt c z ≡ false) × (nat_lt z c ≡ false)))
-neither a b c x y z h k = (grind (arith, nat_tests, h, k), (grind (arith, nat_tests, h, k), (grind (arith, nat_tests, h, k), grind (arith, nat_tests, h, k))))
-
-limit_swaps : (p : Place) (g : Option SectionFault) → earlier section_order (Some (fault.NodeLimit p)) g ≡ earlier section_order g (Some (fault.NodeLimit p))
-limit_swaps p None = refl
-limit_swaps p (Some g) = by_order (is_before section_order g (fault.NodeLimit p)) (is_before section_order (fault.NodeLimit p) g) refl refl
-  where
-    l : SectionFault
-    l = fault.NodeLimit p
-
-    by_order : (a b : Bool) → is_before section_order g l ≡ a → is_before section_order l g ≡ b → ◌≡◌ {A = Option SectionFault} (if a then Some g else Some l) (if b then Some l else Some g)
-    by_order true true e f = absurd (not_both (place_of g).line (place_of g).column (rank_of g) p.line p.column 9 (sym (before_by section_order g l) ∙ e) (sym (before_by section_order l g) ∙ f))
-    by_order true false e f = refl
-    by_order false true e f = refl
-    by_order false false e f =
-        let n = neither (place_of g).line (place_of g).column (rank_of g) p.line p.column 9 (sym (before_by section_order g l) ∙ e) (sym (before_by section_order l g) ∙ f) in
-        ap Some (sym (same_fault p g n.1.1.0 n.1.1.1 n.0 n.1.0))
-
 -- ---- the first refusal of units behind others
-
--- units pass the limit once at most
-limit_shape : (count : ℕ) (us : List CountedUnit) → (limit_refused count us ≡ []) ⊎ ((p : Place) × (limit_refused count us ≡ fault.NodeLimit p ∷ []))
-limit_shape count [] = inl refl
-limit_shape count (u ∷ us) = by_unit u.refusals u.place (is_past count u.nodes) (limit_refused (count + u.nodes) us) (limit_shape (count + u.nodes) us)
-  where
-    by_unit : (rs : List SectionFault) (p : Place) (past : Bool) (later : List SectionFault) → (later ≡ []) ⊎ ((q : Place) × (later ≡ fault.NodeLimit q ∷ [])) → (limit_at rs p past later ≡ []) ⊎ ((q : Place) × (limit_at rs p past later ≡ fault.NodeLimit q ∷ []))
-    by_unit [] p true later h = inr (p, refl)
-    by_unit [] p false later h = h
-    by_unit (r ∷ rs) p past later h = inl refl
 
 -- the first refusal of two lists of units, of which something of the first is refused
 refused_front : (count : ℕ) (us vs : List CountedUnit) (y : SectionFault) → Some y ≡ first_refusal section_order (all_refused count us)
     → earlier section_order (Some y) (first_refusal section_order (units_refused vs)) ≡ first_refusal section_order (all_refused count (us ++ vs))
-refused_front count us vs y e = by_limit (limit_shape count us)
-  where
-    a : Option SectionFault
-    a = first_refusal section_order (units_refused us)
-
-    b : Option SectionFault
-    b = first_refusal section_order (units_refused vs)
-
-    whole : (ls : List SectionFault) → limit_refused count (us ++ vs) ≡ ls → first_refusal section_order (all_refused count (us ++ vs)) ≡ earlier section_order (earlier section_order a b) (first_refusal section_order ls)
-    whole ls h = first_append section_order (units_refused (us ++ vs)) (limit_refused count (us ++ vs))
-        ∙ ap₂ (earlier section_order) (ap (first_refusal section_order) (refused_append us vs) ∙ first_append section_order (units_refused us) (units_refused vs)) (ap (first_refusal section_order) h)
-
-    front : (ls : List SectionFault) → limit_refused count us ≡ ls → Some y ≡ earlier section_order a (first_refusal section_order ls)
-    front ls h = e ∙ first_append section_order (units_refused us) (limit_refused count us) ∙ ap (λ xs. earlier section_order a (first_refusal section_order xs)) h
-
-    clear : limit_refused count us ≡ [] → units_refused us ≡ [] → ⊥
-    clear h r = not_none y (e ∙ ap (first_refusal section_order) (both_empty (units_refused us) (limit_refused count us) r h))
-
-    by_limit : (limit_refused count us ≡ []) ⊎ ((p : Place) × (limit_refused count us ≡ fault.NodeLimit p ∷ [])) → earlier section_order (Some y) b ≡ first_refusal section_order (all_refused count (us ++ vs))
-    by_limit (inl h) =
-        ap (λ x. earlier section_order x b) (front [] h ∙ earlier_none section_order a)
-        ∙ sym (whole [] (refused_stays count us vs (clear h) h) ∙ earlier_none section_order (earlier section_order a b))
-    by_limit (inr (p, h)) =
-        let l : Option SectionFault = Some (fault.NodeLimit p) in
-        ap (λ x. earlier section_order x b) (front (fault.NodeLimit p ∷ []) h)
-        ∙ earlier_assoc section_order a l b ∙ ap (earlier section_order a) (limit_swaps p b) ∙ sym (earlier_assoc section_order a b l)
-        ∙ sym (whole (fault.NodeLimit p ∷ []) (limit_stays count us vs (fault.NodeLimit p) h))
+refused_front count us vs y e =
+    ap (λ x. earlier section_order x (first_refusal section_order (units_refused vs))) e
+    ∙ sym (first_append section_order (all_refused count us) (units_refused vs))
+    ∙ ap (first_refusal section_order)
+    (append_assoc (limit_refused count us) (units_refused us) (units_refused vs)
+    ∙ ap₂ (λ ls rs. ls ++ rs) (sym (limit_stays count us vs (λ k. not_none y (e ∙ ap (first_refusal section_order) k)))) (sym (refused_append us vs)))
 
 -- nothing of the first units is refused
 accepted_front : (count : ℕ) (us vs : List CountedUnit) → None ≡ first_refusal section_order (all_refused count us)
     → all_refused (count + units_nodes us) vs ≡ all_refused count (us ++ vs)
 accepted_front count us vs e =
     let clear = none_refused section_order (all_refused count us) e in
-    let a = left_empty (units_refused us) (limit_refused count us) clear in
-    let l = right_empty (units_refused us) (limit_refused count us) clear in
-    ap₂ (λ rs ls. rs ++ ls) (sym (refused_append us vs ∙ ap (λ rs. rs ++ units_refused vs) a)) (sym (limit_append count us vs a l))
+    let l = left_empty (limit_refused count us) (units_refused us) clear in
+    let a = right_empty (limit_refused count us) (units_refused us) clear in
+    ap₂ (λ ls rs. ls ++ rs) (sym (limit_append count us vs a l)) (sym (refused_append us vs ∙ ap (λ rs. rs ++ units_refused vs) a))
 
 -- what is refused stays refused
 never_clear : (x : SectionFault) (g : Option SectionFault) → None ≡ earlier section_order (Some x) g → ⊥
@@ -197,8 +126,7 @@ unit_fault None count u h = by_refusals u.refusals refl
         never : ◌≡◌ {A = Bool} true false → ⊥
         never k = cc
     by_refusals (r ∷ rs) e =
-        ap (first_refusal section_order)
-        (sym (append-nil (units_refused (u ∷ []))) ∙ ap (λ ls. units_refused (u ∷ []) ++ ls) (sym (ap (λ xs. limit_at xs u.place (is_past count u.nodes) []) e)))
+        ap (λ ls. first_refusal section_order (ls ++ units_refused (u ∷ []))) (sym (ap (λ xs. limit_at xs u.place (is_past count u.nodes) []) e))
 
 pub walks_refused : (all ms : List Manner) (u : CountedUnit) (gs : List (meant.Contribution Formula)) (ps : List Place) (fault : Option SectionFault) (old new : Walked)
     → fault ≡ first_refusal section_order (units_refused (u ∷ [])) → new.fault ≡ earlier section_order old.fault fault → is_some new.fault ≡ true → new.exprs ≡ old.exprs → AreFirsts new.before (all ++ ms)
@@ -237,7 +165,7 @@ walks_made all ms us gs ps old made new (Ok t) o m e a b k =
     subst (Walks all us gs ps ms old) (sym k)
     (record {
       keeps = b.made.grew.keeps;
-      fault = m ∙ sym (ap (λ f. fault_behind f (length (arena old.exprs)) us) o ∙ ap (first_refusal section_order) (both_empty (units_refused us) (limit_refused (length (arena old.exprs)) us) b.accepted b.within));
+      fault = m ∙ sym (ap (λ f. fault_behind f (length (arena old.exprs)) us) o ∙ ap (first_refusal section_order) (both_empty (limit_refused (length (arena old.exprs)) us) (units_refused us) b.within b.accepted));
       manners = a;
       given = λ n. b.made;
     })
@@ -252,4 +180,4 @@ walks_made all ms us gs ps old made new (Err f) o m e a b k =
   where
     stopped : Stops f (length (arena old.exprs)) us → Some f ≡ fault_behind old.fault (length (arena old.exprs)) us
     stopped (NoMemory h) = absurd (k.0 h)
-    stopped (AtLimit h) = sym (ap (λ g. fault_behind g (length (arena old.exprs)) us) o ∙ ap (first_refusal section_order) (ap (λ rs. rs ++ limit_refused (length (arena old.exprs)) us) e ∙ h))
+    stopped (AtLimit h) = sym (ap (λ g. fault_behind g (length (arena old.exprs)) us) o ∙ ap (first_refusal section_order) (ap₂ (λ ls rs. ls ++ rs) h e))

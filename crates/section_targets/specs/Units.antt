@@ -43,4 +43,4 @@ limit_refused count (u ∷ us) = limit_at u.refusals u.place (is_past count u.no
 
 -- all that is refused of units in an arena of that many formulas, the limit too
 abbrev pub all_refused : (count : ℕ) → List CountedUnit → List SectionFault
-all_refused count us = units_refused us ++ limit_refused count us
+all_refused count us = limit_refused count us ++ units_refused us

@@ -25,6 +25,6 @@ pub use nodes::add_node;
 pub use outputs::check_aims;
 pub use section_scope::SectionScope;
 pub use sides::{Side, number_of};
-pub use siding::refuse_operator;
+pub use siding::{refuse_operator, target_extension};
 pub use walked::Walked;
 pub use words::meet;

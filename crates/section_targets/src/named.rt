@@ -20,6 +20,14 @@ pub struct NamedSignals {
     pub alone: bool,
 }
 
+/// The names of a source, with what the first of them stand for.
+#[derive(Clone, Copy)]
+pub(crate) struct Targets<'a> {
+    pub(crate) alloc: Global,
+    pub(crate) scope: &'a Scope<'a>,
+    pub(crate) named: &'a [NamedSignals],
+}
+
 /// Whether these are that signal alone.
 #[tactic(auto, using(crate::proofs::SignalLists::only_is))]
 fn holds_only(signals: &[u32], number: u32) -> bool
@@ -87,18 +95,20 @@ impl NamedSignals {
         })
     }
 
-    /// With those of the name with this text, of these names; what isn't one of them is a number.
+    /// With those of the name with this text; what isn't one of the names is a number.
     pub(crate) fn with_name(
         self,
-        scope: &Scope<'_>,
-        named: &[NamedSignals],
+        targets: &Targets<'_>,
         text: &[u8],
     ) -> Result<NamedSignals, OutOfMemory>
-        ensures { IfOk result (λ n. (count : ℕ) (ks : List Known) (xs : List ℕ) (b : Bool) → StandFor count (entries_of scope.now) named.now ks → AreSignals count self xs b → AreSignals count n (xs ++ some_signals (targets_of (term_named ks text.now))) (b && names_signals (term_named ks text.now))) }
+        ensures { IfOk result (λ n. (count : ℕ) (ks : List Known) (xs : List ℕ) (b : Bool)
+            → StandFor count (entries_of targets.now.scope.now) targets.now.named.now ks → AreSignals count self xs b
+            → AreSignals count n (xs ++ some_signals (targets_of (term_named ks text.now)))
+            (b && names_signals (term_named ks text.now))) }
     {
-        match scope.get(text) {
+        match targets.scope.get(text) {
             None => Ok(self.mixed()),
-            Some(name) => self.with_number(named, name.number as usize),
+            Some(name) => self.with_number(targets.named, name.number as usize),
         }
     }
 

@@ -10,7 +10,7 @@ ghost use Rattle.name_uses.specs.RangeParts.{name_items};
 ghost use Rattle.section_targets.specs.NamedTargets.{AreSignals, IsOfTerm, StandFor};
 ghost use Rattle.section_targets.specs.TargetSignals.{all_name_signals};
 
-use crate::named::NamedSignals;
+use crate::named::{NamedSignals, Targets};
 use abel_tree::{Expr, Meaning, Member};
 use name_uses::range_list;
 use pld_base::{ListOf, OutOfMemory};
@@ -25,7 +25,12 @@ pub fn target_names(alloc: Global, scope: &Scope<'_>) -> Result<ListOf<NamedSign
     let mut named = Vec::new(alloc);
     let mut number = 0u32;
     for declared in scope.list() {
-        let signals = named_meaning(alloc, scope, named.as_slice(), &declared.meaning, number)?;
+        let targets = Targets {
+            alloc,
+            scope: &*scope,
+            named: named.as_slice(),
+        };
+        let signals = named_meaning(&targets, &declared.meaning, number)?;
         named.push(signals)?;
         number = next(number)?;
     }
@@ -44,36 +49,28 @@ fn next(number: u32) -> Result<u32, OutOfMemory>
 
 /// The signals of the name with this number, by those of the names before it.
 fn named_meaning(
-    alloc: Global,
-    scope: &Scope<'_>,
-    named: &[NamedSignals],
+    targets: &Targets<'_>,
     meaning: &Meaning,
     number: u32,
 ) -> Result<NamedSignals, OutOfMemory>
-    ensures { IfOk result (λ n. (count : ℕ) (ks : List Known) → number < count → StandFor count (entries_of scope.now) named.now ks → IsOfTerm count n (term_meant ks number (view_meaning meaning.now))) }
+    ensures { IfOk result (λ n. (count : ℕ) (ks : List Known) → number < count → StandFor count (entries_of targets.now.scope.now) targets.now.named.now ks → IsOfTerm count n (term_meant ks number (view_meaning meaning.now))) }
 {
     match meaning {
-        Meaning::Pin { pin: _, negated: _ } => NamedSignals::one(alloc, number),
-        Meaning::Node(_) => NamedSignals::one(alloc, number),
-        Meaning::Constant(expr) => named_expr(alloc, scope, named, expr),
-        Meaning::DeviceName => Ok(NamedSignals::none(alloc, false)),
+        Meaning::Pin { .. } | Meaning::Node(_) => NamedSignals::one(targets.alloc, number),
+        Meaning::Constant(expr) => named_expr(targets, expr),
+        Meaning::DeviceName => Ok(NamedSignals::none(targets.alloc, false)),
     }
 }
 
 /// The signals of an expression. Calls go as deep as the nestings of sets and parentheses.
 #[cycle(naming)]
-fn named_expr(
-    alloc: Global,
-    scope: &Scope<'_>,
-    named: &[NamedSignals],
-    expr: &Expr,
-) -> Result<NamedSignals, OutOfMemory>
-    ensures { IfOk result (λ n. (count : ℕ) (ks : List Known) → StandFor count (entries_of scope.now) named.now ks → IsOfTerm count n (term_of ks (view expr.now))) }
+fn named_expr(targets: &Targets<'_>, expr: &Expr) -> Result<NamedSignals, OutOfMemory>
+    ensures { IfOk result (λ n. (count : ℕ) (ks : List Known) → StandFor count (entries_of targets.now.scope.now) targets.now.named.now ks → IsOfTerm count n (term_of ks (view expr.now))) }
 {
     match expr {
         Expr::Name { word, extension } => {
-            let none = NamedSignals::none(alloc, true);
-            let signals = none.with_name(scope, named, word.text.bytes())?;
+            let none = NamedSignals::none(targets.alloc, true);
+            let signals = none.with_name(targets, word.text.bytes())?;
             Ok(signals.extended(*extension))
         }
         Expr::Set {
@@ -81,16 +78,16 @@ fn named_expr(
             extension,
             ..
         } => {
-            let mut signals = NamedSignals::none(alloc, true);
+            let mut signals = NamedSignals::none(targets.alloc, true);
             for member in members.as_slice() {
-                signals = named_member(alloc, scope, named, member, signals)?;
+                signals = named_member(targets, member, signals)?;
             }
             Ok(signals.extended(*extension))
         }
-        Expr::Paren { inner, .. } => named_expr(alloc, scope, named, inner.get()),
-        Expr::Special { .. } => Ok(NamedSignals::none(alloc, false)),
+        Expr::Paren { inner, .. } => named_expr(targets, inner.get()),
+        Expr::Special { .. } => Ok(NamedSignals::none(targets.alloc, false)),
         Expr::Number(_) | Expr::Unary { .. } | Expr::Binary { .. } => {
-            Ok(NamedSignals::none(alloc, false))
+            Ok(NamedSignals::none(targets.alloc, false))
         }
     }
 }
@@ -98,42 +95,39 @@ fn named_expr(
 /// One member more.
 #[cycle(naming)]
 fn named_member(
-    alloc: Global,
-    scope: &Scope<'_>,
-    named: &[NamedSignals],
+    targets: &Targets<'_>,
     member: &Member,
     before: NamedSignals,
 ) -> Result<NamedSignals, OutOfMemory>
-    ensures { IfOk result (λ n. (count : ℕ) (ks : List Known) (xs : List ℕ) (b : Bool) → StandFor count (entries_of scope.now) named.now ks → AreSignals count before xs b → AreSignals count n (xs ++ some_signals (all_targets (member_before ks (view_member member.now) term.NoTerm))) (b && all_name_signals (member_before ks (view_member member.now) term.NoTerm))) }
+    ensures { IfOk result (λ n. (count : ℕ) (ks : List Known) (xs : List ℕ) (b : Bool) → StandFor count (entries_of targets.now.scope.now) targets.now.named.now ks → AreSignals count before xs b → AreSignals count n (xs ++ some_signals (all_targets (member_before ks (view_member member.now) term.NoTerm))) (b && all_name_signals (member_before ks (view_member member.now) term.NoTerm))) }
 {
     match member {
         Member::One(expr) => {
-            let signals = named_expr(alloc, scope, named, expr)?;
+            let signals = named_expr(targets, expr)?;
             before.with(&signals)
         }
         Member::Span { first, last } => {
-            let names = range_list(alloc, first.text.bytes(), last.text.bytes())?;
-            with_names(scope, named, names.as_slice(), before)
+            let names = range_list(targets.alloc, first.text.bytes(), last.text.bytes())?;
+            with_names(targets, names.as_slice(), before)
         }
     }
 }
 
 /// These names more.
 fn with_names(
-    scope: &Scope<'_>,
-    named: &[NamedSignals],
+    targets: &Targets<'_>,
     names: &[Vec<u8>],
     before: NamedSignals,
 ) -> Result<NamedSignals, OutOfMemory>
     ensures { IfOk result (λ n. (count : ℕ) (ks : List Known) (xs : List ℕ) (b : Bool)
-        → StandFor count (entries_of scope.now) named.now ks → AreSignals count before xs b
+        → StandFor count (entries_of targets.now.scope.now) targets.now.named.now ks → AreSignals count before xs b
         → AreSignals count n
         (xs ++ some_signals (all_targets (named_before ks (map name_items names.now) term.NoTerm)))
         (b && all_name_signals (named_before ks (map name_items names.now) term.NoTerm))) }
 {
     let mut signals = before;
     for name in names {
-        signals = signals.with_name(scope, named, name.as_slice())?;
+        signals = signals.with_name(targets, name.as_slice())?;
     }
     Ok(signals)
 }

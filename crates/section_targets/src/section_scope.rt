@@ -12,7 +12,7 @@ ghost use Rattle.section_targets.specs.NamedTargets.{AreNames, IsSide};
 ghost use Rattle.section_targets.specs.TargetSignals.{left_side, target_member};
 ghost use Rattle.pld_device.specs.Table.{Table};
 
-use crate::named::NamedSignals;
+use crate::named::{NamedSignals, Targets};
 use crate::naming::target_names;
 use crate::sides::Side;
 use crate::siding::{left_side, member_side};
@@ -65,25 +65,30 @@ impl<'a, D: Device> SectionScope<'a, D> {
         self.names.scope()
     }
 
-    /// The signals that each name stands for.
-    fn named(&self) -> &[NamedSignals]
-        ensures { AreNames self.now result.now }
+    /// The names with the signals that each stands for.
+    fn targets(&self, alloc: Global) -> Targets<'_>
+        ensures scope { result.scope.now ≡ self.now }
+        ensures named { AreNames self.now result.named.now }
     {
-        self.named.as_slice()
+        Targets {
+            alloc,
+            scope: self.names.scope(),
+            named: self.named.as_slice(),
+        }
     }
 
     /// The signals of the target of an assignment at this place, or what is refused of it.
     pub fn target(&self, alloc: Global, place: Place, target: &Expr) -> Result<Side, OutOfMemory>
         ensures { IfOk result (λ s. (t : Table) → IsSide (length (entries_of self.now)) s (left_side (context_for t self.now) place (view target.now))) }
     {
-        left_side(alloc, self.scope(), self.named(), place, target)
+        left_side(&self.targets(alloc), place, target)
     }
 
     /// The registers of a state diagram, or what is refused of them.
     pub fn registers(&self, alloc: Global, registers: &Expr) -> Result<Side, OutOfMemory>
         ensures { IfOk result (λ s. (t : Table) → IsSide (length (entries_of self.now)) s (target_member (context_for t self.now) (view registers.now))) }
     {
-        member_side(alloc, self.scope(), self.named(), registers)
+        member_side(&self.targets(alloc), registers)
     }
 
     /// Whether an expression reads a signal, whether or not its value depends on it.

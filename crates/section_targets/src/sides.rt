@@ -11,7 +11,7 @@ ghost use Rattle.section_targets.specs.NamedTargets.{AreSignals, IsSide, AreTarg
 ghost use Rattle.section_targets.specs.TargetSignals.{TargetFound, aims_at, no_target, targets_both, target_set, target_name};
 
 use crate::aim::Aim;
-use crate::named::NamedSignals;
+use crate::named::{NamedSignals, Targets};
 use abel_tree::earlier;
 use pld_base::{ListOf, OutOfMemory, Place};
 use set_expr::{Scope, SectionFault};
@@ -97,39 +97,25 @@ impl Side {
         }
     }
 
-    /// The signals of a name that is used at this place, with what is refused of it.
-    fn named(
-        alloc: Global,
-        signals: &NamedSignals,
-        fault: Option<SectionFault>,
-        place: Place,
-    ) -> Result<Side, OutOfMemory>
-        ensures { IfOk result (λ s. (count : ℕ) (x : TargetFound) (xs : List ℕ) (alone : Bool) → fault ≡ first_refusal section_order x.refusals → x.aims ≡ aims_at place xs → AreSignals count signals.now xs alone → IsSide count s x) }
-    {
-        let aims = list_aims(alloc, signals.signals.as_slice(), place)?;
-        Ok(Side {
-            aims: ListOf::from_vec(aims),
-            fault,
-        })
-    }
-
     /// The name with this text, used at this place.
     pub(crate) fn of_name(
-        alloc: Global,
-        scope: &Scope<'_>,
-        named: &[NamedSignals],
+        targets: &Targets<'_>,
         text: &[u8],
         place: NamePlace,
     ) -> Result<Side, OutOfMemory>
-        ensures { IfOk result (λ s. (d : Context) → d.names ≡ entries_of scope.now → AreTargets d named.now
+        ensures { IfOk result (λ s. (d : Context) → d.names ≡ entries_of targets.now.scope.now → AreTargets d targets.now.named.now
             → IsSide (length d.names) s (target_name d place.used place.signals text.now)) }
     {
-        let found = scope.check_name(text, place.used);
-        let none = NamedSignals::none(alloc, true);
-        let signals = none.with_name(scope, named, text)?;
-        let mixed = refuse_mixed(signals.alone, place.signals, number_of(scope, text));
-        let fault = earlier(found.fault, earlier(found.special, mixed));
-        Side::named(alloc, &signals, fault, place.signals)
+        let found = targets.scope.check_name(text, place.used);
+        let none = NamedSignals::none(targets.alloc, true);
+        let signals = none.with_name(targets, text)?;
+        let number = number_of(targets.scope, text);
+        let mixed = refuse_mixed(signals.alone, place.signals, number);
+        let aims = list_aims(targets.alloc, signals.signals.as_slice(), place.signals)?;
+        Ok(Side {
+            aims: ListOf::from_vec(aims),
+            fault: earlier(found.fault, earlier(found.special, mixed)),
+        })
     }
 
     /// With what is found of a member behind it.

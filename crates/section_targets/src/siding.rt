@@ -1,6 +1,7 @@
 //! The walk of a target.
 
 ghost use Rattle.std.specs.Prelude.{◌≡◌, IfOk, length, map};
+ghost use Rattle.abel_tree.specs.Assigned.{target_extension};
 ghost use Rattle.abel_tree.specs.Entries.{entries_of, find};
 ghost use Rattle.abel_meaning.specs.Terms.{term_named};
 ghost use Rattle.abel_tree.specs.Tree.{members_of};
@@ -12,30 +13,39 @@ ghost use Rattle.name_uses.specs.RangeParts.{name_items};
 ghost use Rattle.section_targets.specs.NamedTargets.{IsSide, AreTargets};
 ghost use Rattle.section_targets.specs.TargetSignals.{TargetFound, targets_both, target_range, target_one, target_member, target_members, target_set, left_side, first_name, is_itself, start_of};
 
-use crate::named::{NamedSignals, is_itself};
+use crate::named::{Targets, is_itself};
 use crate::sides::{NamePlace, Side, number_of};
-use abel_tree::{Expr, Member, Word};
+use abel_tree::{Expr, Extension, Member, Word};
 use name_uses::range_list;
 use pld_base::{OutOfMemory, Place};
 use set_expr::{Scope, SectionFault};
-use std::alloc::Global;
+
+/// The extension of a target, which stands outside. Takes no memory.
+pub fn target_extension(target: &Expr) -> Option<Extension>
+    ensures { result ≡ target_extension (view target.now) }
+{
+    match target {
+        Expr::Name { extension, .. } | Expr::Set { extension, .. } => *extension,
+        _ => None,
+    }
+}
 
 /// Whether the name with this text stands for itself, as a signal's does, and no constant's.
-fn names_itself(scope: &Scope<'_>, named: &[NamedSignals], text: &[u8]) -> bool
-    ensures { (d : Context) → d.names ≡ entries_of scope.now → AreTargets d named.now → result ≡ is_itself (find d.names text.now) (term_named d.known text.now) }
+fn names_itself(targets: &Targets<'_>, text: &[u8]) -> bool
+    ensures { (d : Context) → d.names ≡ entries_of targets.now.scope.now → AreTargets d targets.now.named.now → result ≡ is_itself (find d.names text.now) (term_named d.known text.now) }
 {
-    match number_of(scope, text) {
+    match number_of(targets.scope, text) {
         None => false,
-        Some(number) => is_itself(named, number),
+        Some(number) => is_itself(targets.named, number),
     }
 }
 
 /// Where the signals of a side stand that is a name, with or without `!` before it: a signal where the side begins, and
 /// what a constant brings at the constant's name.
-fn start_of(scope: &Scope<'_>, named: &[NamedSignals], word: &Word, begin: Place) -> Place
-    ensures { (d : Context) → d.names ≡ entries_of scope.now → AreTargets d named.now → result ≡ start_of d begin word.now }
+fn start_of(targets: &Targets<'_>, word: &Word, begin: Place) -> Place
+    ensures { (d : Context) → d.names ≡ entries_of targets.now.scope.now → AreTargets d targets.now.named.now → result ≡ start_of d begin word.now }
 {
-    if names_itself(scope, named, word.text.bytes()) {
+    if names_itself(targets, word.text.bytes()) {
         begin
     } else {
         word.place
@@ -44,29 +54,27 @@ fn start_of(scope: &Scope<'_>, named: &[NamedSignals], word: &Word, begin: Place
 
 /// The left side of an assignment that begins at this place, whose extension counts outside: its signals, or its first
 /// refusal. Calls go as deep as the nestings of sets and parentheses.
-pub fn left_side(
-    alloc: Global,
-    scope: &Scope<'_>,
-    named: &[NamedSignals],
+pub(crate) fn left_side(
+    targets: &Targets<'_>,
     place: Place,
     target: &Expr,
 ) -> Result<Side, OutOfMemory>
-    ensures { IfOk result (λ s. (d : Context) → d.names ≡ entries_of scope.now → AreTargets d named.now → IsSide (length d.names) s (left_side d place (view target.now))) }
+    ensures { IfOk result (λ s. (d : Context) → d.names ≡ entries_of targets.now.scope.now → AreTargets d targets.now.named.now → IsSide (length d.names) s (left_side d place (view target.now))) }
 {
     match target {
         Expr::Name { word, extension: _ } => {
             let place = NamePlace {
                 used: word.place,
-                signals: start_of(scope, named, word, place),
+                signals: start_of(targets, word, place),
             };
-            Side::of_name(alloc, scope, named, word.text.bytes(), place)
+            Side::of_name(targets, word.text.bytes(), place)
         }
         Expr::Set {
             place: bracket,
             members,
             extension: _,
-        } => set_side(alloc, scope, named, members.as_slice(), *bracket),
-        _ => member_side(alloc, scope, named, target),
+        } => set_side(targets, members.as_slice(), *bracket),
+        _ => member_side(targets, target),
     }
 }
 
@@ -92,64 +100,46 @@ pub fn refuse_operator(scope: &Scope<'_>, expr: &Expr) -> SectionFault
 
 /// The set of these members at this bracket.
 #[cycle(siding)]
-fn set_side(
-    alloc: Global,
-    scope: &Scope<'_>,
-    named: &[NamedSignals],
-    members: &[Member],
-    place: Place,
-) -> Result<Side, OutOfMemory>
-    ensures { IfOk result (λ s. (d : Context) → d.names ≡ entries_of scope.now → AreTargets d named.now → IsSide (length d.names) s (target_set place (target_members d (members_of (map view_member members.now))))) }
+fn set_side(targets: &Targets<'_>, members: &[Member], place: Place) -> Result<Side, OutOfMemory>
+    ensures { IfOk result (λ s. (d : Context) → d.names ≡ entries_of targets.now.scope.now → AreTargets d targets.now.named.now → IsSide (length d.names) s (target_set place (target_members d (members_of (map view_member members.now))))) }
 {
-    let mut side = Side::none(alloc);
+    let mut side = Side::none(targets.alloc);
     for member in members {
-        side = with_member(alloc, scope, named, member, side)?;
+        side = with_member(targets, member, side)?;
     }
     Ok(side.as_set(place))
 }
 
 /// One member more.
 #[cycle(siding)]
-fn with_member(
-    alloc: Global,
-    scope: &Scope<'_>,
-    named: &[NamedSignals],
-    member: &Member,
-    before: Side,
-) -> Result<Side, OutOfMemory>
-    ensures { IfOk result (λ s. (d : Context) (x : TargetFound) → d.names ≡ entries_of scope.now → AreTargets d named.now → IsSide (length d.names) before x → IsSide (length d.names) s (targets_both x (target_one d (view_member member.now)))) }
+fn with_member(targets: &Targets<'_>, member: &Member, before: Side) -> Result<Side, OutOfMemory>
+    ensures { IfOk result (λ s. (d : Context) (x : TargetFound) → d.names ≡ entries_of targets.now.scope.now → AreTargets d targets.now.named.now → IsSide (length d.names) before x → IsSide (length d.names) s (targets_both x (target_one d (view_member member.now)))) }
 {
     match member {
         Member::One(expr) => {
-            let side = member_side(alloc, scope, named, expr)?;
+            let side = member_side(targets, expr)?;
             before.with(&side)
         }
         Member::Span { first, last } => {
-            let names = range_list(alloc, first.text.bytes(), last.text.bytes())?;
-            let side = names_side(alloc, scope, named, names.as_slice(), first.place)?;
+            let names = range_list(targets.alloc, first.text.bytes(), last.text.bytes())?;
+            let side = names_side(targets, names.as_slice(), first.place)?;
             before.with(&side)
         }
     }
 }
 
 /// Names that are all used at one place, where their signals stand.
-fn names_side(
-    alloc: Global,
-    scope: &Scope<'_>,
-    named: &[NamedSignals],
-    names: &[Vec<u8>],
-    place: Place,
-) -> Result<Side, OutOfMemory>
-    ensures { IfOk result (λ s. (d : Context) → d.names ≡ entries_of scope.now → AreTargets d named.now
+fn names_side(targets: &Targets<'_>, names: &[Vec<u8>], place: Place) -> Result<Side, OutOfMemory>
+    ensures { IfOk result (λ s. (d : Context) → d.names ≡ entries_of targets.now.scope.now → AreTargets d targets.now.named.now
         → IsSide (length d.names) s (target_range d place (map name_items names.now))) }
 {
     let place = NamePlace {
         used: place,
         signals: place,
     };
-    let mut side = Side::none(alloc);
+    let mut side = Side::none(targets.alloc);
     for name in names {
-        let one = Side::of_name(alloc, scope, named, name.as_slice(), place)?;
+        let one = Side::of_name(targets, name.as_slice(), place)?;
         side = side.with(&one)?;
     }
     Ok(side)
@@ -158,23 +148,18 @@ fn names_side(
 /// A member of a target, or a header of registers, which takes no extension. Calls go as deep as the nestings of sets and
 /// parentheses.
 #[cycle(siding)]
-pub(crate) fn member_side(
-    alloc: Global,
-    scope: &Scope<'_>,
-    named: &[NamedSignals],
-    expr: &Expr,
-) -> Result<Side, OutOfMemory>
-    ensures { IfOk result (λ s. (d : Context) → d.names ≡ entries_of scope.now → AreTargets d named.now → IsSide (length d.names) s (target_member d (view expr.now))) }
+pub(crate) fn member_side(targets: &Targets<'_>, expr: &Expr) -> Result<Side, OutOfMemory>
+    ensures { IfOk result (λ s. (d : Context) → d.names ≡ entries_of targets.now.scope.now → AreTargets d targets.now.named.now → IsSide (length d.names) s (target_member d (view expr.now))) }
 {
     match expr {
         Expr::Name { word, extension } => match extension {
-            Some(_) => Ok(Side::refused(alloc, refuse_operator(scope, expr))),
+            Some(_) => Ok(Side::refused(targets.alloc, refuse_operator(targets.scope, expr))),
             None => {
                 let place = NamePlace {
                     used: word.place,
                     signals: word.place,
                 };
-                Side::of_name(alloc, scope, named, word.text.bytes(), place)
+                Side::of_name(targets, word.text.bytes(), place)
             }
         },
         Expr::Set {
@@ -182,15 +167,15 @@ pub(crate) fn member_side(
             members,
             extension,
         } => match extension {
-            Some(_) => Ok(Side::refused(alloc, refuse_operator(scope, expr))),
-            None => set_side(alloc, scope, named, members.as_slice(), *place),
+            Some(_) => Ok(Side::refused(targets.alloc, refuse_operator(targets.scope, expr))),
+            None => set_side(targets, members.as_slice(), *place),
         },
-        Expr::Paren { inner, .. } => member_side(alloc, scope, named, inner.get()),
+        Expr::Paren { inner, .. } => member_side(targets, inner.get()),
         Expr::Special { place, .. } => {
-            Ok(Side::refused(alloc, SectionFault::MisplacedSpecial(*place)))
+            Ok(Side::refused(targets.alloc, SectionFault::MisplacedSpecial(*place)))
         }
         Expr::Number(_) | Expr::Unary { .. } | Expr::Binary { .. } => {
-            Ok(Side::refused(alloc, refuse_operator(scope, expr)))
+            Ok(Side::refused(targets.alloc, refuse_operator(targets.scope, expr)))
         }
     }
 }

@@ -11,6 +11,6 @@ use Rattle.section_targets.proofs.naming.+naming.Given as goal
 
 abbrev pub invariant-named_expr-loop-member : goal.invariant-named_expr-loop-member
 invariant-named_expr-loop-member l =
-    (count : ℕ) (ks : List Known) → StandFor count (entries_of l.scope) l.named ks
+    (count : ℕ) (ks : List Known) → StandFor count (entries_of l.targets.scope.now) l.targets.named.now ks
     → AreSignals count l.signals (some_signals (all_targets (terms_of ks (members_of (map view_member (take l.member-index l.member-items))))))
     (all_name_signals (terms_of ks (members_of (map view_member (take l.member-index l.member-items)))))

@@ -11,6 +11,6 @@ use Rattle.section_targets.proofs.naming.with_names.Given as goal
 
 abbrev pub invariant-loop-name : goal.invariant-loop-name
 invariant-loop-name l =
-    (count : ℕ) (ks : List Known) (xs : List ℕ) (b : Bool) → StandFor count (entries_of l.scope) l.named ks → AreSignals count l.fn.before xs b
+    (count : ℕ) (ks : List Known) (xs : List ℕ) (b : Bool) → StandFor count (entries_of l.targets.scope.now) l.targets.named.now ks → AreSignals count l.fn.before xs b
     → AreSignals count l.signals (xs ++ some_signals (all_targets (named_before ks (map name_items (take l.name-index l.names)) term.NoTerm)))
     (b && all_name_signals (named_before ks (map name_items (take l.name-index l.names)) term.NoTerm))

@@ -10,5 +10,5 @@ use Rattle.section_targets.proofs.siding.+siding.Given as goal
 
 abbrev pub invariant-set_side-loop-member : goal.invariant-set_side-loop-member
 invariant-set_side-loop-member l =
-    (d : Context) → d.names ≡ entries_of l.scope → AreTargets d l.named
+    (d : Context) → d.names ≡ entries_of l.targets.scope.now → AreTargets d l.targets.named.now
     → IsSide (length d.names) l.side (target_members d (members_of (map view_member (take l.member-index l.members))))

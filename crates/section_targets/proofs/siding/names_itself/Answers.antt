@@ -14,5 +14,5 @@ pub returns-in-Some : goal.returns-in-Some
 returns-in-Some c d k h =
     let t = term_named d.known c.args.text.now in
     let e = sym (found_in c.args.text.now k c.number_of.ensures) ∙ c.in-Some.is in
-    c.is_itself.ensures (length d.names) t (subst (λ o. IsPlacedAt (length d.names) c.args.named.now o t) e (placed (length d.names) d.names c.args.named.now d.known c.args.text.now h))
+    c.is_itself.ensures (length d.names) t (subst (λ o. IsPlacedAt (length d.names) c.args.targets.now.named.now o t) e (placed (length d.names) d.names c.args.targets.now.named.now d.known c.args.text.now h))
     ∙ sym (ap (λ o. is_itself o t) e)

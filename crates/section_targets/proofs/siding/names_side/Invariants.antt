@@ -9,5 +9,5 @@ use Rattle.section_targets.proofs.siding.names_side.Given as goal
 
 abbrev pub invariant-loop-name : goal.invariant-loop-name
 invariant-loop-name l =
-    (d : Context) → d.names ≡ entries_of l.scope → AreTargets d l.named
+    (d : Context) → d.names ≡ entries_of l.targets.scope.now → AreTargets d l.targets.named.now
     → IsSide (length d.names) l.side (target_range d l.fn.place (map name_items (take l.name-index l.names)))
