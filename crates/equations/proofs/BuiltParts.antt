@@ -1,5 +1,5 @@
 -- The parts of units that statements make.
-use Rattle.std.proofs.Common.{◌≡◌, ℕ, zero, suc, ◌+◌, ◌<◌, ◌≤◌, Bool, true, false, Option, None, Some, List, [], ◌∷◌, All, Result, Err, length, reverse, get_or, refl, sym, ap, ◌∙◌, subst, arith}
+use Rattle.std.proofs.Common.{◌≡◌, ℕ, zero, suc, ◌+◌, ◌<◌, ◌≤◌, Bool, true, false, Option, None, Some, List, [], ◌∷◌, All, Result, Err, length, reverse, get_or, refl, sym, ap, ◌∙◌, subst, subst₂, arith}
 use Rattle.std.proofs.lemmas.List.{length-map, length-replicate}
 use Rattle.std.proofs.lemmas.Option.{slice_get-get_or, slice_get_within}
 use Rattle.std.proofs.lemmas.List.Sorted.{IsPermutation-reverse, All-permutation}
@@ -10,6 +10,7 @@ use Rattle.bit_expr.specs.declared.node.Node.{Node}
 use Rattle.bit_expr.specs.declared.fault.ExprFault.{ExprFault}
 use Rattle.bit_expr.specs.declared.fault.ExprFault.TheVariants as made
 use Rattle.bit_expr.specs.Arena.{arena, formula_at}
+use Rattle.bit_expr.specs.Folding.{Made}
 use Rattle.bit_expr.specs.Formulas.{Formula, Const}
 use Rattle.abel_tree.specs.declared.names.Names.{Names}
 use Rattle.abel_tree.specs.Entries.{entries_of}
@@ -37,7 +38,7 @@ use Rattle.set_expr.specs.Contexts.{context_for}
 use Rattle.expr_bits.specs.ExpressionBits.{MakesBits}
 use Rattle.section_targets.specs.Building.{NoMemory, StopsWith, IsBuilt, Builds, IsBit, AreBits}
 use Rattle.section_targets.specs.Units.{CountedUnit, part}
-use Rattle.section_targets.proofs.Built.{left_empty, builds_stop, stops_on, kept_inside, kept_formula}
+use Rattle.section_targets.proofs.Built.{builds_stop, stops_on, kept_inside, kept_formula}
 use Rattle.section_targets.proofs.OneUnit.{one_unit, two_parts}
 use Rattle.section_targets.proofs.Parts.{leaves_nodes, limit_here}
 use Rattle.equations.specs.Builds.{at_unit}
@@ -112,17 +113,24 @@ stops_longer p [] m k old new f s =
 stops_longer p (r ∷ rs) m k old new f s =
     (stops_on f (length (arena old.exprs)) (length (arena old.exprs)) (whole p (r ∷ rs) m ∷ []) (whole p (r ∷ rs) (m + k) ∷ []) (λ h. absurd cc) s.0, s.1)
 
--- a part behind a front that was made
-pub parts_longer : {R : Type 0} (p : Place) (rs : List SectionFault) (m k : ℕ) (old mid new : Contributions) (r : Result R SectionFault) → IsBuilt (whole p rs m ∷ []) [] [] old mid → Builds (part p k ∷ []) [] [] mid new r → Builds (whole p rs (m + k) ∷ []) [] [] old new r
-parts_longer p rs m k old mid new r b a =
-    let e = left_empty rs [] b.accepted in
-    subst (λ xs. Builds (whole p xs (m + k) ∷ []) [] [] old new r) (sym e)
-    (two_parts p m k old mid new r (subst (λ xs. IsBuilt (whole p xs m ∷ []) [] [] old mid) e b) a)
+-- what is made of a guard and a bit, behind a part of its unit that was made
+pub guard_behind : (p : Place) (m : ℕ) (make : Formula → Formula → Made Formula) (g f g1 f1 : Formula) (old mid new : Contributions) (r : Result ExprId SectionFault)
+    → g1 ≡ g → f1 ≡ f → IsBuilt (part p m ∷ []) [] [] old mid → Builds (part p (make g1 f1).nodes ∷ []) [] [] mid new r → Builds (part p (m + (make g f).nodes) ∷ []) [] [] old new r
+guard_behind p m make g f g1 f1 old mid new r e h a b =
+    two_parts p m (make g f).nodes old mid new r a (subst₂ (λ x y. Builds (part p (make x y).nodes ∷ []) [] [] mid new r) e h b)
 
 -- what stops a condition with its And stops its unit, with an ELSE or without one
 pub choice_stops : (p : Place) (d : Context) (g : Formula) (c : Tree) (other : Bool) (old new : Contributions) (f : SectionFault) → StopsWith (part p (choice_nodes d g c false) ∷ []) [] [] old new f → StopsWith (part p (choice_nodes d g c other) ∷ []) [] [] old new f
 choice_stops p d g c false old new f s = s
 choice_stops p d g c true old new f s = stops_longer p [] (choice_nodes d g c false) (guard_else g (condition_of d c)).nodes old new f s
+
+-- the guard of ELSE, behind a condition with its And
+pub choice_else : (p : Place) (d : Context) (g : Formula) (c : Tree) (other : Bool) (g1 f1 : Formula) (old mid new : Contributions) (r : Result ExprId SectionFault)
+    → other ≡ true → g1 ≡ g → f1 ≡ condition_of d c → IsBuilt (part p (choice_nodes d g c false) ∷ []) [] [] old mid → Builds (part p (guard_else g1 f1).nodes ∷ []) [] [] mid new r
+    → Builds (part p (choice_nodes d g c other) ∷ []) [] [] old new r
+choice_else p d g c other g1 f1 old mid new r o e h a b =
+    subst (λ x. Builds (part p (choice_nodes d g c x) ∷ []) [] [] old new r) (sym o)
+    (guard_behind p (choice_nodes d g c false) guard_else g (condition_of d c) g1 f1 old mid new r e h a b)
 
 -- the first bit of a word
 pub first_bit : (fs : List Formula) (ids : List ExprId) (id : ExprId) (gs : List Formula) → 0 < length ids → AreBits fs ids gs → IsBit fs (get_or ids 0 id) (get_or gs 0 (Const false))

@@ -1,5 +1,5 @@
 -- Units of statements that were built one after another.
-use Rattle.std.proofs.Common.{◌≡◌, ◌+◌, Bool, Option, Some, List, [], ◌∷◌, ◌++◌, Result, length, map, refl, sym, ap, ◌∙◌, subst, arith, append_assoc}
+use Rattle.std.proofs.Common.{◌≡◌, ◌+◌, Bool, Option, Some, List, [], ◌∷◌, ◌++◌, Result, length, map, refl, sym, ap, ◌∙◌, subst, arith}
 use Rattle.std.proofs.lemmas.List.{length-map}
 use Rattle.pld_base.specs.declared.place.Place.{Place}
 use Rattle.bit_expr.specs.declared.node.ExprId.{ExprId}
@@ -9,13 +9,13 @@ use Rattle.bit_expr.specs.Formulas.{Formula}
 use Rattle.abel_tree.specs.declared.words.Extension.{Extension}
 use Rattle.abel_tree.specs.declared.words.Sign.{Sign}
 use Rattle.abel_tree.specs.Assigned.{is_clocked}
-use Rattle.abel_tree.specs.Tree.{Tree, Statement, statements_of}
+use Rattle.abel_tree.specs.Tree.{Tree}
 use Rattle.abel_meaning.specs.Contributions as meant
 use Rattle.abel_meaning.specs.Contributions.{guarded}
 use Rattle.abel_meaning.specs.CountedNodes.{guard_nodes, term_nodes, value_nodes}
 use Rattle.abel_meaning.specs.Designs.{Context}
 use Rattle.abel_meaning.specs.FormulaBits.{formulas}
-use Rattle.abel_meaning.specs.Statements.{given_each, statement_gives, statements_give}
+use Rattle.abel_meaning.specs.Statements.{given_each}
 use Rattle.abel_meaning.specs.Targets.{targets_of}
 use Rattle.abel_meaning.specs.Terms.{term_of}
 use Rattle.set_expr.specs.declared.contributions.Contribution.{Contribution}
@@ -37,7 +37,7 @@ use Rattle.section_targets.specs.Units.{part, units_nodes}
 use Rattle.section_targets.proofs.Built.{left_empty, right_empty, builds_then}
 use Rattle.section_targets.proofs.OneUnit.{AreParts, one_unit}
 use Rattle.section_targets.proofs.SideTerms.{positions_of}
-use Rattle.equations.specs.StatementUnits.{assign_refused, assigned_aims, taken_refused, unless_any, statement_places, statements_places}
+use Rattle.equations.specs.StatementUnits.{assign_refused, assigned_aims, taken_refused, unless_any}
 
 -- an arena and a list of contributions over it
 abbrev pub at : List Node → List Contribution → Contributions
@@ -60,16 +60,6 @@ pub each_parts_of : (fs : List Formula) (g : Giving) (bs : List Formula) → Are
 each_parts_of fs g [] = tt
 each_parts_of fs g (b ∷ bs) = (refl, each_parts_of fs g bs)
 
--- ---- lists
-
-pub gives_append : (d : Context) (g : meant.Guard Formula) (ss ts : List Statement) → statements_give (formulas d) d g (statements_of (ss ++ ts)) ≡ statements_give (formulas d) d g (statements_of ss) ++ statements_give (formulas d) d g (statements_of ts)
-gives_append d g [] ts = refl
-gives_append d g (s ∷ ss) ts = ap (λ xs. statement_gives (formulas d) d g s ++ xs) (gives_append d g ss ts) ∙ sym (append_assoc (statement_gives (formulas d) d g s) (statements_give (formulas d) d g (statements_of ss)) (statements_give (formulas d) d g (statements_of ts)))
-
-pub places_append : (d : Context) (ss ts : List Statement) → statements_places d (statements_of (ss ++ ts)) ≡ statements_places d (statements_of ss) ++ statements_places d (statements_of ts)
-places_append d [] ts = refl
-places_append d (s ∷ ss) ts = ap (λ xs. statement_places d s ++ xs) (places_append d ss ts) ∙ sym (append_assoc (statement_places d s) (statements_places d (statements_of ss)) (statements_places d (statements_of ts)))
-
 -- ---- assignments as units
 
 -- what an assignment's signals are given behind the nodes of its value
@@ -87,19 +77,13 @@ assign_built d old mid new g target value t aims ids e k what r q a s he hk hw b
     let fs = arena mid.exprs in
     let v = term_of d.known value in
     let ws = (formulas d).word (length aims) v in
-    let bit = formula_at (arena old.exprs) g.guard.when in
     let given = subst (λ bs. Builds (each_part fs g bs) (each_given d fs g aims bs) (places_of aims) mid new r) h.1 m in
     let one = one_unit g.unit (part g.unit (term_nodes d value) ∷ each_part fs g ws) (each_given d fs g aims ws) (places_of aims) old new r (refl, each_parts_of fs g ws)
     (builds_then (part g.unit (term_nodes d value) ∷ []) (each_part fs g ws) [] (each_given d fs g aims ws) [] (places_of aims) old mid new r b given) in
-    let counted = subst (λ n. Builds (part g.unit (term_nodes d value + n) ∷ []) (each_given d fs g aims ws) (places_of aims) old new r) (each_nodes fs g ws ∙ ap (λ f. guard_nodes f ws) w) one in
-    let told = subst (λ gs. Builds (part g.unit (term_nodes d value + guard_nodes bit ws) ∷ []) gs (places_of aims) old new r) (sym (each_as_given d fs g aims ws)) counted in
-    let under = subst (λ f. Builds (part g.unit (term_nodes d value + guard_nodes bit ws) ∷ []) (given_each (formulas d) d (record { holds = f; dontcare = g.guard.dontcare; block = g.guard.block }) g.extension g.complement g.clocked (view_gives g.what) (positions_of aims) ws) (places_of aims) old new r) w told in
-    let worded = subst (λ x. Builds (part g.unit (term_nodes d value + guard_nodes bit ws) ∷ []) (given_each (formulas d) d (view_guard (arena old.exprs) g.guard) x g.complement g.clocked (view_gives g.what) (positions_of aims) ws) (places_of aims) old new r) he under in
-    let clocked = subst (λ x. Builds (part g.unit (term_nodes d value + guard_nodes bit ws) ∷ []) (given_each (formulas d) d (view_guard (arena old.exprs) g.guard) e g.complement x (view_gives g.what) (positions_of aims) ws) (places_of aims) old new r) hk worded in
-    let gives = subst (λ x. Builds (part g.unit (term_nodes d value + guard_nodes bit ws) ∷ []) (given_each (formulas d) d (view_guard (arena old.exprs) g.guard) e g.complement k x (positions_of aims) ws) (places_of aims) old new r) hw clocked in
-    let sized = subst (λ n. Builds (part g.unit (value_nodes d bit n value) ∷ []) (given_each (formulas d) d (view_guard (arena old.exprs) g.guard) e g.complement k what (positions_of aims) ((formulas d).word n v)) (places_of aims) old new r) (sym (length-map aims (λ (x : Aim). Some x.signal))) gives in
-    let aimed = subst (λ ts. Builds (part g.unit (value_nodes d bit (length ts) value) ∷ []) (given_each (formulas d) d (view_guard (arena old.exprs) g.guard) e g.complement k what ts ((formulas d).word (length ts) v)) (places_of aims) old new r) (sym (s ∙ ap positions_of (sym a))) sized in
-    subst (λ xs. Builds (part g.unit (value_nodes d bit (length (targets_of (term_of d.known target))) value) ∷ []) (given_each (formulas d) d (view_guard (arena old.exprs) g.guard) e g.complement k what (targets_of (term_of d.known target)) ((formulas d).word (length (targets_of (term_of d.known target))) v)) (places_of xs) old new r) (a ∙ ap (λ rs. unless_any rs t.aims) (sym q)) aimed
+    let counted = subst (λ n. Builds (part g.unit (term_nodes d value + n) ∷ []) (each_given d fs g aims ws) (places_of aims) old new r) (each_nodes fs g ws) one in
+    let named : targets_of (term_of d.known target) ≡ positions_of aims = s ∙ ap positions_of (sym a) in
+    let assigned : assigned_aims t ≡ aims = ap (λ rs. unless_any rs t.aims) q ∙ sym a in
+    rw (named, length-map aims (λ (x : Aim). Some x.signal), assigned, ← he, ← hk, ← hw, ← w, each_as_given d fs g aims ws) counted
 
 -- an assignment of which nothing is refused
 pub accepted_assign : (d : Context) (all : List Manner) (e : Option Extension) (c : Bool) (s : Sign) (q : Place) (t : TargetFound) (f : Found) → assign_refused d all e c s q t f ≡ [] → (t.refusals ≡ []) × (f.refusals ≡ [])

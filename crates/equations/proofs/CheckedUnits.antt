@@ -1,9 +1,8 @@
 -- The first refusal of units of statements, part by part.
-use Rattle.std.proofs.Common.{◌≡◌, Bool, Option, None, Some, List, [], ◌∷◌, ◌++◌, length, refl, sym, ap, ap₂, ◌∙◌, subst, append_assoc, append-nil, rules}
+use Rattle.std.proofs.Common.{◌≡◌, Bool, Option, None, Some, List, [], ◌∷◌, ◌++◌, length, refl, sym, ap, ap₂, ◌∙◌, subst, append-nil, rules}
 use Rattle.std.specs.Prelude.{option_map}
 use Rattle.pld_base.specs.declared.place.Place.{Place}
 use Rattle.pld_device.specs.Table.{Table}
-use Rattle.bit_expr.specs.Formulas.{Formula}
 use Rattle.abel_tree.specs.declared.names.Names.{Names}
 use Rattle.abel_tree.specs.declared.statements.Assign.{Assign}
 use Rattle.abel_tree.specs.declared.statements.Stmt.{Stmt, the_lemmas}
@@ -14,7 +13,7 @@ use Rattle.abel_tree.specs.declared.words.Sign.{Sign}
 use Rattle.abel_tree.specs.Assigned.{is_clocked}
 use Rattle.abel_tree.specs.FirstRefusal.{earlier, first_refusal}
 use Rattle.abel_tree.proofs.FirstRefusals.{first_append}
-use Rattle.abel_tree.specs.Tree.{Statement, AGroup, AWhen, NoElse, AnElse, statements_of, otherwise_of}
+use Rattle.abel_tree.specs.Tree.{AGroup, AWhen, NoElse, AnElse, otherwise_of}
 use Rattle.abel_tree.specs.View.{view, view_stmt}
 use Rattle.abel_meaning.specs.Designs.{Context}
 use Rattle.abel_meaning.specs.Terms.{known_of}
@@ -31,7 +30,7 @@ use Rattle.section_targets.specs.TargetSignals.{TargetFound}
 use Rattle.section_targets.specs.Units.{CountedUnit, units_refused}
 use Rattle.section_targets.specs.ValueWidths.{value_refused}
 use Rattle.equations.specs.Checks.{view_assign, view_list, view_when}
-use Rattle.equations.specs.StatementUnits.{assign_refused, assigned_aims, assigned_manners, taken_refused, unless_any, units_of_statement, units_of_statements, statement_manners, statements_manners}
+use Rattle.equations.specs.StatementUnits.{assign_refused, assigned_aims, assigned_manners, taken_refused, unless_any}
 
 abbrev first : List SectionFault → Option SectionFault
 first rs = first_refusal section_order rs
@@ -69,19 +68,6 @@ accepted_manners e c s t aims h a = ap (assigned_manners e c s) (a ∙ ap (λ rs
 
 pub view_parts : (w : When) → view_when w ≡ AWhen w.place (view w.condition) (view_stmt w.then) (otherwise_of (option_map view_stmt w.otherwise))
 view_parts w = search (rules, the_lemmas)
-
--- ---- lists
-
-pub units_more : (d : Context) (g : Formula) (all : List Manner) (ss : List Statement) (s : Statement) → units_of_statements d g all (statements_of (ss ++ s ∷ [])) ≡ units_of_statements d g all (statements_of ss) ++ units_of_statement d g (all ++ statements_manners d (statements_of ss)) s
-units_more d g all [] s = append-nil (units_of_statement d g all s) ∙ ap (λ ms. units_of_statement d g ms s) (sym (append-nil all))
-units_more d g all (x ∷ ss) s =
-    ap (λ us. units_of_statement d g all x ++ us) (units_more d g (all ++ statement_manners d x) ss s)
-    ∙ sym (append_assoc (units_of_statement d g all x) (units_of_statements d g (all ++ statement_manners d x) (statements_of ss)) (units_of_statement d g ((all ++ statement_manners d x) ++ statements_manners d (statements_of ss)) s))
-    ∙ ap (λ ms. units_of_statements d g all (statements_of (x ∷ ss)) ++ units_of_statement d g ms s) (append_assoc all (statement_manners d x) (statements_manners d (statements_of ss)))
-
-pub manners_more : (d : Context) (ss : List Statement) (s : Statement) → statements_manners d (statements_of (ss ++ s ∷ [])) ≡ statements_manners d (statements_of ss) ++ statement_manners d s
-manners_more d [] s = append-nil (statement_manners d s)
-manners_more d (x ∷ ss) s = ap (λ ms. statement_manners d x ++ ms) (manners_more d ss s) ∙ sym (append_assoc (statement_manners d x) (statements_manners d (statements_of ss)) (statement_manners d s))
 
 -- ---- statements by their kinds
 

@@ -12,14 +12,13 @@ use Rattle.abel_meaning.specs.Statements.{statement_gives, else_gives, statement
 use Rattle.set_expr.specs.declared.fault.SectionFault.{SectionFault}
 use Rattle.section_targets.specs.declared.manner.Manner.{Manner}
 use Rattle.section_targets.specs.declared.walked.Walked.{Walked}
+use Rattle.section_targets.specs.Manners.{AreFirsts}
 use Rattle.section_targets.specs.Units.{units_refused}
 use Rattle.section_targets.specs.Walking.{Walks}
 use Rattle.section_targets.proofs.Built.{refused_append}
-use Rattle.section_targets.proofs.WalksBehind.{walks_then, walks_alike}
+use Rattle.section_targets.proofs.WalksBehind.{walks_then, walks_alike, walks_none}
 use Rattle.equations.specs.Builds.{condition_unit}
 use Rattle.equations.specs.StatementUnits.{condition_refused, units_of_statement, units_of_else, units_of_statements, statement_manners, else_manners, statements_manners, statement_places, else_places, statements_places}
-use Rattle.equations.proofs.BuiltUnits.{gives_append, places_append}
-use Rattle.equations.proofs.CheckedUnits.{units_more, manners_more}
 
 -- what a walk over a statement under a guard of formulas leaves
 abbrev pub Under : Context → List Manner → meant.Guard Formula → Statement → (old new : Walked) → Type 0
@@ -87,21 +86,30 @@ when_walks d all g p c s o old mid then new w x y =
 
 -- ---- lists
 
+-- behind a walk over the first of these statements: whatever one over those that are left leaves, one over all leaves
+pub record LeftBehind (d : Context) (all : List Manner) (g : meant.Guard Formula) (ss left : Statements) (old mid : Walked) : Type 0 where
+  pub seen : List Manner
+  pub firsts : AreFirsts mid.before seen
+  pub rest : (new : Walked) → AllUnder d seen g left mid new → AllUnder d all g ss old new
+
+pub all_behind : (d : Context) (all : List Manner) (g : meant.Guard Formula) (ss : Statements) (old : Walked) → AreFirsts old.before all → LeftBehind d all g ss ss old old
+all_behind d all g ss old a = record { seen = all; firsts = a; rest = λ new w. w }
+
 -- one statement more
-pub more_walked : (d : Context) (all : List Manner) (g : meant.Guard Formula) (ss ts : List Statement) (s : Statement) (old mid new : Walked) → ts ≡ ss ++ s ∷ []
-    → AllUnder d all g (statements_of ss) old mid → Under d (all ++ statements_manners d (statements_of ss)) g s mid new → AllUnder d all g (statements_of ts) old new
-more_walked d all g ss ts s old mid new e w x =
-    let before = all ++ statements_manners d (statements_of ss) in
-    let us = units_of_statements d g.holds all (statements_of ss) ++ units_of_statement d g.holds before s in
-    let gs = statements_give (formulas d) d g (statements_of ss) ++ statement_gives (formulas d) d g s in
-    let ps = statements_places d (statements_of ss) ++ statement_places d s in
-    let ms = statements_manners d (statements_of ss) ++ statement_manners d s in
-    let u = ap (λ xs. units_of_statements d g.holds all (statements_of xs)) e ∙ units_more d g.holds all ss s in
-    let v = ap (λ xs. statements_give (formulas d) d g (statements_of xs)) e ∙ gives_append d g ss (s ∷ []) ∙ ap (λ xs. statements_give (formulas d) d g (statements_of ss) ++ xs) (append-nil (statement_gives (formulas d) d g s)) in
-    let p = ap (λ xs. statements_places d (statements_of xs)) e ∙ places_append d ss (s ∷ []) ∙ ap (λ xs. statements_places d (statements_of ss) ++ xs) (append-nil (statement_places d s)) in
-    let m = ap (λ xs. statements_manners d (statements_of xs)) e ∙ manners_more d ss s in
-    subst (λ xs. Walks all xs (statements_give (formulas d) d g (statements_of ts)) (statements_places d (statements_of ts)) (statements_manners d (statements_of ts)) old new) (sym u)
-    (subst (λ xs. Walks all us xs (statements_places d (statements_of ts)) (statements_manners d (statements_of ts)) old new) (sym v)
-    (subst (λ xs. Walks all us gs xs (statements_manners d (statements_of ts)) old new) (sym p)
-    (subst (λ xs. Walks all us gs ps xs old new) (sym m)
-    (walks_then all (statements_manners d (statements_of ss)) (statement_manners d s) (units_of_statements d g.holds all (statements_of ss)) (units_of_statement d g.holds before s) (statements_give (formulas d) d g (statements_of ss)) (statement_gives (formulas d) d g s) (statements_places d (statements_of ss)) (statement_places d s) old mid new w x))))
+pub next_behind : (d : Context) (all : List Manner) (g : meant.Guard Formula) (ss : Statements) (left more : List Statement) (s : Statement) (old mid new : Walked) → left ≡ s ∷ more
+    → (v : LeftBehind d all g ss (statements_of left) old mid) → Under d v.seen g s mid new → LeftBehind d all g ss (statements_of more) old new
+next_behind d all g ss left more s old mid new e v w =
+    record {
+      seen = v.seen ++ statement_manners d s;
+      firsts = w.manners;
+      rest = λ last x.
+          v.rest last
+          (subst (λ zs. AllUnder d v.seen g (statements_of zs) mid last) (sym e)
+          (walks_then v.seen (statement_manners d s) (statements_manners d (statements_of more)) (units_of_statement d g.holds v.seen s) (units_of_statements d g.holds (v.seen ++ statement_manners d s) (statements_of more)) (statement_gives (formulas d) d g s) (statements_give (formulas d) d g (statements_of more)) (statement_places d s) (statements_places d (statements_of more)) mid new last w x));
+    }
+
+-- none is left
+pub none_behind : (d : Context) (all : List Manner) (g : meant.Guard Formula) (ss : Statements) (left : List Statement) (old new : Walked) → left ≡ []
+    → LeftBehind d all g ss (statements_of left) old new → AllUnder d all g ss old new
+none_behind d all g ss left old new e v =
+    v.rest new (subst (λ zs. AllUnder d v.seen g (statements_of zs) new new) (sym e) (walks_none v.seen new v.firsts))

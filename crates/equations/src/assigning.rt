@@ -18,11 +18,11 @@ ghost use Rattle.set_expr.specs.FoundNames.{expression_found};
 ghost use Rattle.equations.specs.Checks.{view_assign};
 ghost use Rattle.equations.specs.StatementUnits.{assign_refused, assigned_manners, statement_manners};
 
-use crate::conditions::{is_clocked, refuse_value, target_extension};
+use crate::conditions::{is_clocked, refuse_value};
 use abel_tree::{Assign, earlier};
 use pld_base::OutOfMemory;
 use pld_device::Device;
-use section_targets::{Assigned, SectionScope, Side, Way, check_aims};
+use section_targets::{Assigned, SectionScope, Side, Way, check_aims, target_extension};
 use set_expr::{Checked, SectionFault};
 use std::alloc::Global;
 

@@ -15,20 +15,10 @@ ghost use Rattle.set_expr.specs.SectionOrder.{section_order};
 ghost use Rattle.section_targets.specs.ValueWidths.{value_width, value_refused};
 ghost use Rattle.equations.specs.StatementUnits.{condition_refused};
 
-use abel_tree::{Expr, Extension, Sign, earlier};
+use abel_tree::{Expr, Sign, earlier};
 use pld_base::{OutOfMemory, Place};
 use set_expr::{Checked, Gives, Scope, SectionFault, Shape};
 use std::alloc::Global;
-
-/// The extension of a target, which stands outside.
-pub(crate) fn target_extension(target: &Expr) -> Option<Extension>
-    ensures { result ≡ assigned.target_extension (view target.now) }
-{
-    match target {
-        Expr::Name { extension, .. } | Expr::Set { extension, .. } => *extension,
-        _ => None,
-    }
-}
 
 /// Whether the sign assigns on the clock.
 pub(crate) fn is_clocked(sign: Sign) -> bool

@@ -9,12 +9,12 @@ ghost use Rattle.equations.specs.StatementWalks.{WalksStatement, WalksStatements
 
 use crate::assigning::check_assign;
 use crate::choices::{Condition, walk_condition};
-use crate::conditions::{is_clocked, sign_gives, target_extension};
+use crate::conditions::{is_clocked, sign_gives};
 use crate::values::{Meets, value_bits};
 use abel_tree::{Assign, Stmt, When};
 use pld_base::OutOfMemory;
 use pld_device::Device;
-use section_targets::{Giver, Giving, SectionScope, Walked, give_all};
+use section_targets::{Giver, Giving, SectionScope, Walked, give_all, target_extension};
 use set_expr::{Guard, SectionFault};
 use std::alloc::Global;
 

@@ -1,16 +1,15 @@
 -- The guard of ELSE as a part of the condition's unit.
-use Rattle.std.proofs.Common.{false, [], ◌∷◌, Ok, Err, sym, ap₂, ◌∙◌, subst, subst₂}
+use Rattle.std.proofs.Common.{[], ◌∷◌, Ok, Err, sym, ap₂, ◌∙◌, subst}
 use Rattle.std.proofs.lemmas.Result.{err_from_is_err_and}
-use Rattle.bit_expr.specs.declared.node.ExprId.{ExprId}
 use Rattle.bit_expr.specs.Arena.{arena, formula_at}
 use Rattle.abel_tree.specs.View.{view}
 use Rattle.abel_meaning.specs.CountedNodes as counted
-use Rattle.abel_meaning.specs.CountedNodes.{choice_nodes, condition_of}
-use Rattle.section_targets.specs.Building.{StopsWith, IsBuilt, Builds}
+use Rattle.abel_meaning.specs.CountedNodes.{choice_nodes}
+use Rattle.section_targets.specs.Building.{IsBuilt}
 use Rattle.set_expr.specs.Contexts.{context_for}
 use Rattle.section_targets.specs.Units.{part}
 use Rattle.section_targets.proofs.Built.{kept_formula, kept_inside, keeps_on}
-use Rattle.equations.proofs.BuiltParts.{kept_bit, parts_longer, choice_stops}
+use Rattle.equations.proofs.BuiltParts.{kept_bit, choice_else, choice_stops}
 use Rattle.equations.proofs.choices.both_guards.Goals as goal
 
 pub returns-in_err-chosen-clause-builds : goal.returns-in_err-chosen-clause-builds
@@ -34,13 +33,8 @@ pub returns-in_err-otherwise-clause-builds : goal.returns-in_err-otherwise-claus
 returns-in_err-otherwise-clause-builds g c = λ list.
     let p = err_from_is_err_and c.from_residual-in_err-otherwise.result c.from_residual-in_err-otherwise.ensures.1 in
     let x = c.args.condition.now in
-    let d = context_for g.D.Device.table c.args.scope.now in
-    let f = formula_at (arena c.args.exprs.now) c.args.guard in
     rw (p.1, p.2)
-    (subst (λ b. StopsWith (part x.unit (choice_nodes d f (view x.expr.now) b) ∷ []) [] [] (record { exprs = c.args.exprs.now; list = list }) (record { exprs = c.guard_else.new.exprs; list = list }) c.in_err-otherwise.field-0.0) (sym c.if-condition.true)
-    (parts_longer {R = ExprId} x.unit [] (choice_nodes d f (view x.expr.now) false) (counted.guard_else f (condition_of d (view x.expr.now))).nodes _ _ _ (Err c.in_err-otherwise.field-0.0) (c.in_ok-chosen.ensures.builds list)
-    (subst₂ (λ g1 h. Builds {R = ExprId} (part x.unit (counted.guard_else g1 h).nodes ∷ []) [] [] (record { exprs = c.then_guard.new.exprs; list = list }) (record { exprs = c.guard_else.new.exprs; list = list }) (Err c.in_err-otherwise.field-0.0))
-    (kept_formula _ _ c.args.guard c.in_ok-chosen.ensures.keeps c.requires.guard) c.in_ok-chosen.ensures.condition.1 (c.in_err-otherwise.ensures.builds list))))
+    (choice_else x.unit (context_for g.D.Device.table c.args.scope.now) _ (view x.expr.now) x.otherwise _ _ _ _ _ (Err c.in_err-otherwise.field-0.0) c.if-condition.true (kept_formula _ _ c.args.guard c.in_ok-chosen.ensures.keeps c.requires.guard) c.in_ok-chosen.ensures.condition.1 (c.in_ok-chosen.ensures.builds list) (c.in_err-otherwise.ensures.builds list))
 
 pub returns-in_ok-otherwise-clause-keeps : goal.returns-in_ok-otherwise-clause-keeps
 returns-in_ok-otherwise-clause-keeps g c = keeps_on _ _ _ c.in_ok-chosen.ensures.keeps (c.in_ok-otherwise.ensures.builds []).made.grew.keeps
@@ -48,12 +42,7 @@ returns-in_ok-otherwise-clause-keeps g c = keeps_on _ _ _ c.in_ok-chosen.ensures
 pub returns-in_ok-otherwise-clause-builds : goal.returns-in_ok-otherwise-clause-builds
 returns-in_ok-otherwise-clause-builds g c = λ list.
     let x = c.args.condition.now in
-    let d = context_for g.D.Device.table c.args.scope.now in
-    let f = formula_at (arena c.args.exprs.now) c.args.guard in
-    subst (λ b. IsBuilt (part x.unit (choice_nodes d f (view x.expr.now) b) ∷ []) [] [] (record { exprs = c.args.exprs.now; list = list }) (record { exprs = c.guard_else.new.exprs; list = list })) (sym c.if-condition.true)
-    (parts_longer {R = ExprId} x.unit [] (choice_nodes d f (view x.expr.now) false) (counted.guard_else f (condition_of d (view x.expr.now))).nodes _ _ _ (Ok c.in_ok-otherwise.otherwise) (c.in_ok-chosen.ensures.builds list)
-    (subst₂ (λ g1 h. IsBuilt (part x.unit (counted.guard_else g1 h).nodes ∷ []) [] [] (record { exprs = c.then_guard.new.exprs; list = list }) (record { exprs = c.guard_else.new.exprs; list = list }))
-    (kept_formula _ _ c.args.guard c.in_ok-chosen.ensures.keeps c.requires.guard) c.in_ok-chosen.ensures.condition.1 (c.in_ok-otherwise.ensures.builds list)))
+    choice_else x.unit (context_for g.D.Device.table c.args.scope.now) _ (view x.expr.now) x.otherwise _ _ _ _ _ (Ok c.in_ok-otherwise.otherwise) c.if-condition.true (kept_formula _ _ c.args.guard c.in_ok-chosen.ensures.keeps c.requires.guard) c.in_ok-chosen.ensures.condition.1 (c.in_ok-chosen.ensures.builds list) (c.in_ok-otherwise.ensures.builds list)
 
 pub returns-in_ok-otherwise-clause-then : goal.returns-in_ok-otherwise-clause-then
 returns-in_ok-otherwise-clause-then g c = kept_bit _ _ c.in_ok-chosen.chosen.then _ (c.in_ok-otherwise.ensures.builds []).made.grew.keeps c.in_ok-chosen.ensures.then

@@ -1,12 +1,9 @@
 -- The guard as a part of the condition's unit.
-use Rattle.std.proofs.Common.{[], ◌∷◌, Ok, Err, ap₂, ◌∙◌, subst₂}
+use Rattle.std.proofs.Common.{[], Ok, Err, ap₂, ◌∙◌}
 use Rattle.std.proofs.lemmas.Result.{err_from_is_err_and}
-use Rattle.bit_expr.specs.declared.node.ExprId.{ExprId}
 use Rattle.bit_expr.specs.Folding.{make_and}
-use Rattle.section_targets.specs.Building.{IsBuilt, Builds}
-use Rattle.section_targets.specs.Units.{part}
 use Rattle.section_targets.proofs.Built.{kept_formula, kept_inside, keeps_on}
-use Rattle.equations.proofs.BuiltParts.{kept_bit, stops_longer, parts_longer}
+use Rattle.equations.proofs.BuiltParts.{kept_bit, stops_longer, guard_behind}
 use Rattle.equations.proofs.choices.then_guard.Goals as goal
 
 pub returns-in_err-bit-clause-builds : goal.returns-in_err-bit-clause-builds
@@ -24,9 +21,7 @@ pub returns-in_err-then-clause-builds : goal.returns-in_err-then-clause-builds
 returns-in_err-then-clause-builds g c = λ list.
     let p = err_from_is_err_and c.from_residual-in_err-then.result c.from_residual-in_err-then.ensures.1 in
     rw (p.1, p.2)
-    (parts_longer {R = ExprId} c.args.condition.now.unit [] _ _ _ _ _ (Err c.in_err-then.field-0.0) (c.in_ok-bit.ensures.builds list)
-    (subst₂ (λ f h. Builds {R = ExprId} (part c.args.condition.now.unit (make_and f h).nodes ∷ []) [] [] (record { exprs = c.condition_bit.new.exprs; list = list }) (record { exprs = c.add_node.new.exprs; list = list }) (Err c.in_err-then.field-0.0))
-    (kept_formula _ _ c.args.guard c.in_ok-bit.ensures.keeps c.requires.guard) c.in_ok-bit.ensures.bit.1 (c.in_err-then.ensures.builds list)))
+    (guard_behind c.args.condition.now.unit _ make_and _ _ _ _ _ _ _ (Err c.in_err-then.field-0.0) (kept_formula _ _ c.args.guard c.in_ok-bit.ensures.keeps c.requires.guard) c.in_ok-bit.ensures.bit.1 (c.in_ok-bit.ensures.builds list) (c.in_err-then.ensures.builds list))
 
 pub returns-in_err-then-clause-keeps : goal.returns-in_err-then-clause-keeps
 returns-in_err-then-clause-keeps g c = keeps_on _ _ _ c.in_ok-bit.ensures.keeps (c.in_err-then.ensures.builds []).1.keeps
@@ -36,9 +31,7 @@ returns-clause-keeps g c = keeps_on _ _ _ c.in_ok-bit.ensures.keeps (c.in_ok-the
 
 pub returns-clause-builds : goal.returns-clause-builds
 returns-clause-builds g c = λ list.
-    parts_longer {R = ExprId} c.args.condition.now.unit [] _ _ _ _ _ (Ok c.in_ok-then.then) (c.in_ok-bit.ensures.builds list)
-    (subst₂ (λ f h. IsBuilt (part c.args.condition.now.unit (make_and f h).nodes ∷ []) [] [] (record { exprs = c.condition_bit.new.exprs; list = list }) (record { exprs = c.add_node.new.exprs; list = list }))
-    (kept_formula _ _ c.args.guard c.in_ok-bit.ensures.keeps c.requires.guard) c.in_ok-bit.ensures.bit.1 (c.in_ok-then.ensures.builds list))
+    guard_behind c.args.condition.now.unit _ make_and _ _ _ _ _ _ _ (Ok c.in_ok-then.then) (kept_formula _ _ c.args.guard c.in_ok-bit.ensures.keeps c.requires.guard) c.in_ok-bit.ensures.bit.1 (c.in_ok-bit.ensures.builds list) (c.in_ok-then.ensures.builds list)
 
 pub returns-clause-condition : goal.returns-clause-condition
 returns-clause-condition g c =

@@ -1,9 +1,9 @@
 -- Statements by their kinds, WHEN, and one statement more.
-use Rattle.std.proofs.Common.{◌≡◌, ◌+◌, [], ◌∷◌, ◌++◌, List, map, take, refl, ap, sym, ◌∙◌, subst, append-nil, arith, rules}
+use Rattle.std.proofs.Common.{◌+◌, [], ◌∷◌, ◌++◌, map, drop, refl, ap, sym, ◌∙◌, subst, append-nil, rules}
 use Rattle.std.specs.Option.{is_some}
 use Rattle.std.specs.Prelude.{OnOk}
 use Rattle.std.proofs.lemmas.Result.{on_ok_weaker}
-use Rattle.std.proofs.Math.Seq.{take-length}
+use Rattle.std.proofs.lemmas.List.{drop_all}
 use Rattle.bit_expr.specs.Arena.{arena}
 use Rattle.abel_tree.specs.declared.statements.Stmt.{Stmt, the_lemmas}
 use Rattle.abel_tree.specs.Tree.{Statement, NoElse, AnElse}
@@ -13,19 +13,19 @@ use Rattle.abel_meaning.specs.CountedNodes.{choice_nodes, condition_of}
 use Rattle.abel_meaning.specs.FormulaBits.{formulas}
 use Rattle.set_expr.specs.declared.contributions.Guard.{Guard}
 use Rattle.set_expr.specs.Given.{view_guard}
-use Rattle.set_expr.proofs.FoundMembers.{front_more}
 use Rattle.set_expr.specs.Contexts.{context_for}
 use Rattle.section_targets.specs.Manners.{AreFirsts}
 use Rattle.section_targets.specs.Walking.{Walks}
-use Rattle.section_targets.proofs.Built.{kept_formula, kept_inside}
+use Rattle.section_targets.proofs.Built.{keeps_on, kept_formula, kept_inside}
+use Rattle.section_targets.proofs.Looks.{next_of}
 use Rattle.section_targets.proofs.WalksBehind.{clear_before, walks_none}
 use Rattle.equations.specs.Builds.{condition_unit}
 use Rattle.equations.specs.Checks.{view_list}
-use Rattle.equations.specs.StatementUnits.{statement_manners, statements_manners}
-use Rattle.equations.specs.StatementWalks.{WalksStatement, WalksStatements}
+use Rattle.equations.specs.StatementUnits.{statement_manners}
+use Rattle.equations.specs.StatementWalks.{WalksStatement}
 use Rattle.equations.proofs.BuiltUnits.{guard_view, guard_kept}
 use Rattle.equations.proofs.CheckedUnits.{view_alone, view_both, view_assigned, view_whened, view_grouped}
-use Rattle.equations.proofs.WalkedStatements.{Under, under_guard, when_walks, more_walked}
+use Rattle.equations.proofs.WalkedStatements.{Under, under_guard, when_walks, all_behind, next_behind, none_behind}
 use Rattle.equations.proofs.walking.+walks.Goals as goal
 
 pub walk_statement-returns-in-Assign : goal.walk_statement-returns-in-Assign
@@ -46,36 +46,40 @@ walk_statement-returns-in-Group g t c =
 -- ---- lists
 
 pub walk_statements-loop-stmt-init : goal.walk_statements-loop-stmt-init
-walk_statements-loop-stmt-init g t c = record { walks = λ all a. walks_none all c.args.out.now a; inside = c.requires.guard }
+walk_statements-loop-stmt-init g t c =
+    let d = context_for g.D.Device.table c.args.scope.now in
+    let old = c.args.out.now in
+    record { walks = λ all a. all_behind d all (view_guard (arena old.exprs) c.args.guard) (view_list c.args.stmts.now) old a; keeps = λ i f e. e; inside = c.requires.guard }
 
 pub walk_statements-loop-stmt-preserved : goal.walk_statements-loop-stmt-preserved
 walk_statements-loop-stmt-preserved g t c =
     let d = context_for g.D.Device.table c.args.scope.now in
     let list = c.args.stmts.now in
     let i = c.loop-stmt.stmt-index in
-    let ss = map view_stmt (take i list) in
-    let s = view_stmt c.stmt-item.result in
     let old = c.args.out.now in
     let mid = c.loop-stmt.out in
     let new = c.walk_statement.new.out in
     let inv = c.loop-stmt.invariant in
-    let here : map view_stmt (take (i + 1) list) ≡ ss ++ s ∷ [] = front_more view_stmt list i c.stmt-item.result c.loop-stmt-test.true c.stmt-item.is in
+    let item = c.stmt-item.result in
+    let here = next_of list i item c.loop-stmt-test.true ∙ ap (λ (x : Stmt). x ∷ drop (i + 1) list) (sym c.stmt-item.is) in
+    let kept = (c.in_ok-walk_statement.ensures mid.before (λ k p. refl)).keeps in
     record {
       walks = λ all a.
           let v = inv.walks all a in
-          let before = all ++ statements_manners d (view_list (take i list)) in
-          more_walked d all (view_guard (arena old.exprs) c.args.guard) ss (map view_stmt (take (i + 1) list)) s old mid new here v
-          (under_guard d before s (view_guard (arena mid.exprs) c.args.guard) (view_guard (arena old.exprs) c.args.guard) mid new
-          (λ e. guard_kept (arena old.exprs) (arena mid.exprs) c.args.guard (kept_formula _ _ c.args.guard.when v.keeps c.requires.guard))
-          (c.in_ok-walk_statement.ensures before v.manners));
-      inside = kept_inside _ _ c.args.guard.when (c.in_ok-walk_statement.ensures mid.before (λ k p. refl)).keeps inv.inside;
+          next_behind d all (view_guard (arena old.exprs) c.args.guard) (view_list list) (map view_stmt (drop i list)) (map view_stmt (drop (i + 1) list)) (view_stmt item) old mid new (ap (map view_stmt) here) v
+          (under_guard d v.seen (view_stmt item) (view_guard (arena mid.exprs) c.args.guard) (view_guard (arena old.exprs) c.args.guard) mid new
+          (λ e. guard_kept (arena old.exprs) (arena mid.exprs) c.args.guard (kept_formula _ _ c.args.guard.when inv.keeps c.requires.guard))
+          (c.in_ok-walk_statement.ensures v.seen v.firsts));
+      keeps = keeps_on _ _ _ inv.keeps kept;
+      inside = kept_inside _ _ c.args.guard.when kept inv.inside;
     }
 
 pub walk_statements-returns : goal.walk_statements-returns
-walk_statements-returns g t c =
+walk_statements-returns g t c = λ all a.
     let list = c.args.stmts.now in
-    subst (λ (xs : List Stmt). WalksStatements g.D.Device.table c.args.scope.now c.args.guard (view_list xs) c.args.out.now c.loop-stmt.out)
-    (ap (λ n. take n list) (omega (arith, c.loop-stmt-test.false, c.loop-stmt.auto.stmt-index-end)) ∙ take-length list) c.loop-stmt.invariant.walks
+    let old = c.args.out.now in
+    none_behind (context_for g.D.Device.table c.args.scope.now) all (view_guard (arena old.exprs) c.args.guard) (view_list list) (map view_stmt (drop c.loop-stmt.stmt-index list)) old c.loop-stmt.out
+    (ap (map view_stmt) (drop_all c.loop-stmt.stmt-index list c.loop-stmt-test.false)) (c.loop-stmt.invariant.walks all a)
 
 -- ---- WHEN
 

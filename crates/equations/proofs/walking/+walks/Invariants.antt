@@ -1,13 +1,20 @@
--- So many statements were walked, and the guard lies in the arena.
-use Rattle.std.proofs.Common.{◌<◌, length, take}
+-- So many statements were walked, what was there stands, and the guard lies in the arena.
+use Rattle.std.proofs.Common.{List, ◌<◌, drop, length}
 use Rattle.bit_expr.specs.Arena.{arena}
+use Rattle.set_expr.specs.Answer.{Keeps}
+use Rattle.set_expr.specs.Contexts.{context_for}
+use Rattle.set_expr.specs.Given.{view_guard}
+use Rattle.section_targets.specs.declared.manner.Manner.{Manner}
+use Rattle.section_targets.specs.Manners.{AreFirsts}
 use Rattle.equations.specs.Checks.{view_list}
-use Rattle.equations.specs.StatementWalks.{WalksStatements}
+use Rattle.equations.proofs.WalkedStatements.{LeftBehind}
 use Rattle.equations.proofs.walking.+walks.Given as goal
 
 abbrev pub invariant-walk_statements-loop-stmt : goal.invariant-walk_statements-loop-stmt
 invariant-walk_statements-loop-stmt g l =
     record {
-      walks : WalksStatements g.D.Device.table l.scope l.guard (view_list (take l.stmt-index l.stmts)) l.fn.out l.out;
+      walks : (all : List Manner) → AreFirsts l.fn.out.before all
+          → LeftBehind (context_for g.D.Device.table l.scope) all (view_guard (arena l.fn.out.exprs) l.guard) (view_list l.stmts) (view_list (drop l.stmt-index l.stmts)) l.fn.out l.out;
+      keeps : Keeps (arena l.fn.out.exprs) (arena l.out.exprs);
       inside : l.guard.when.0 < length (arena l.out.exprs);
     }
