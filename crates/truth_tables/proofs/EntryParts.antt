@@ -1,7 +1,7 @@
 -- What is found in sets and ranges, one member or name more at a time.
-use Rattle.std.proofs.Common.{◌≡◌, ℕ, Bool, ◌||◌, List, [], ◌∷◌, ◌++◌, map, sym, ap, ◌∙◌, append_assoc, append-nil, rules}
+use Rattle.std.proofs.Common.{◌≡◌, ℕ, Bool, ◌||◌, List, [], ◌∷◌, ◌++◌, map, refl, sym, ap, ◌∙◌, append_assoc, append-nil, rules}
 use Rattle.std.specs.List.{list_any}
-use Rattle.std.proofs.lemmas.List.Folds.{list_any-append}
+use Rattle.std.specs.Global.{Vec}
 use Rattle.std.proofs.Math.Bool.{or_assoc, or-false}
 use Rattle.std.specs.Prelude.{Option}
 use Rattle.pld_base.specs.declared.place.Place.{Place}
@@ -11,12 +11,14 @@ use Rattle.abel_tree.specs.declared.expressions.Member.{Member}
 use Rattle.abel_tree.specs.declared.words.Extension.{Extension}
 use Rattle.abel_tree.specs.Tree.{SetMember, members_of}
 use Rattle.abel_tree.specs.View.{view, view_member}
+use Rattle.name_uses.specs.RangeParts.{name_items}
 use Rattle.set_expr.specs.declared.fault.SectionFault.{SectionFault}
 use Rattle.set_expr.specs.FoundNames.{NameFound, name_found}
 use Rattle.truth_tables.specs.RowEntries.{holds_pulse, any_holds_pulse, member_holds_pulse, names_refused, refused_inside, all_refused_inside, member_refused_inside}
 
-pub any_more : {A : Type 0} (f : A → Bool) (xs : List A) (x : A) → list_any f (xs ++ x ∷ []) ≡ (list_any f xs || f x)
-any_more f xs x = list_any-append f xs (x ∷ []) ∙ ap (λ b. list_any f xs || b) (or-false (f x))
+pub any_named : (test : List ℕ → Bool) (names : List (Vec ℕ)) → list_any (λ (n : Vec ℕ). test (name_items n)) names ≡ list_any test (map name_items names)
+any_named test [] = refl
+any_named test (n ∷ names) = ap (λ b. test (name_items n) || b) (any_named test names)
 
 pub holds_more : (ns : List NameFound) (ms : List SetMember) (m : SetMember) → any_holds_pulse ns (members_of (ms ++ m ∷ [])) ≡ (any_holds_pulse ns (members_of ms) || member_holds_pulse ns m)
 holds_more ns [] m = or-false (member_holds_pulse ns m)

@@ -29,8 +29,8 @@ use Rattle.section_targets.proofs.MetWords.{low_bit, high_bit}
 use Rattle.truth_tables.specs.TableUnits.{some_aims, places_for, places_of, row_places}
 use Rattle.truth_tables.specs.declared.giving.Assigning.{Assigning}
 use Rattle.truth_tables.specs.Gives.{signals_of, matched_guard, value_places, GivesOutput}
-use Rattle.truth_tables.specs.Works.{Work, before, given_freely, nothing}
-use Rattle.truth_tables.proofs.WorkLaws.{free_part}
+use Rattle.truth_tables.specs.Works.{IsBegun, Work, before, given_freely, nothing}
+use Rattle.truth_tables.proofs.WorkLaws.{AfterStep, DoesWork, begun_step, free_part}
 
 -- ---- one output
 
@@ -105,12 +105,21 @@ positions_step d h k (Some a) xs l ls =
     (sym (append_assoc (level_gives d h k a.signal l) (match_of d h false k a.signal ∷ []) (outputs_given d h k (signals_of xs) ls)))
     (ap (λ ps. ps ++ row_places xs ls) (sym (append-nil (places_for a l))))
 
-pub positions_next : (d : Context) (h : meant.Guard Formula) (k : Bool) (i : ℕ) (xs : List (Option Aim)) (ls : List (Option Bool)) → i < min (length xs) (length ls)
-    → positions_work d h k (drop i xs) (drop i ls) ≡ before (positions_work d h k (get_or xs i None ∷ []) (get_or ls i None ∷ [])) (positions_work d h k (drop (i + 1) xs) (drop (i + 1) ls))
-positions_next d h k i xs ls lt =
-    ap₂ (positions_work d h k) (drop-cons xs i None (omega (arith, lt))) (drop-cons ls i None (omega (arith, lt)))
-    ∙ positions_step d h k (get_or xs i None) (drop (suc i) xs) (get_or ls i None) (drop (suc i) ls)
-    ∙ ap (λ n. before (positions_work d h k (get_or xs i None ∷ []) (get_or ls i None ∷ [])) (positions_work d h k (drop n xs) (drop n ls))) (sym (add-one i))
+-- one position more, over any arena in which the bit is the same
+pub positions_step_at : (d : Context) (g : Guard) (k : Bool) (id : ExprId) (i : ℕ) (xs : List (Option Aim)) (ls : List (Option Bool)) (fs : List Formula) (old mid new : Contributions) (r : Result Unit SectionFault)
+    → i < min (length xs) (length ls) → formula_at (arena mid.exprs) id ≡ formula_at fs id
+    → IsBegun (positions_work d (matched_guard fs g id) k xs ls) (positions_work d (matched_guard fs g id) k (drop i xs) (drop i ls)) old mid
+    → DoesWork (positions_work d (matched_guard (arena mid.exprs) g id) k (get_or xs i None ∷ []) (get_or ls i None ∷ [])) mid new r
+    → AfterStep (positions_work d (matched_guard fs g id) k xs ls) (positions_work d (matched_guard fs g id) k (drop (i + 1) xs) (drop (i + 1) ls)) old new r
+positions_step_at d g k id i xs ls fs old mid new r lt kept b s =
+    let h = matched_guard fs g id in
+    let x = get_or xs i None in
+    let l = get_or ls i None in
+    let next = ap₂ (positions_work d h k) (drop-cons xs i None (omega (arith, lt)) ∙ ap (λ n. x ∷ drop n xs) (sym (add-one i))) (drop-cons ls i None (omega (arith, lt)) ∙ ap (λ n. l ∷ drop n ls) (sym (add-one i)))
+    ∙ positions_step d h k x (drop (i + 1) xs) l (drop (i + 1) ls) in
+    begun_step (positions_work d h k xs ls) (positions_work d h k (x ∷ []) (l ∷ [])) (positions_work d h k (drop (i + 1) xs) (drop (i + 1) ls)) old mid new r
+    (subst (λ w. IsBegun (positions_work d h k xs ls) w old mid) next b)
+    (subst (λ f. DoesWork (positions_work d (record { holds = f; dontcare = g.dontcare; block = g.block }) k (x ∷ []) (l ∷ [])) mid new r) kept s)
 
 pub positions_left : (d : Context) (h : meant.Guard Formula) (k : Bool) (i : ℕ) (xs : List (Option Aim)) (ls : List (Option Bool)) → min (length xs) (length ls) ≤ i → positions_work d h k (drop i xs) (drop i ls) ≡ nothing
 positions_left d h k zero [] ls e = refl
@@ -135,12 +144,22 @@ no_step : (d : Context) (g : meant.Guard Formula) (k : Bool) (x : Option Aim) (x
 no_step d g k None xs = refl
 no_step d g k (Some a) xs = refl
 
-pub no_next : (d : Context) (g : meant.Guard Formula) (k : Bool) (i : ℕ) (xs : List (Option Aim)) → i < length xs
-    → no_work d g k (drop i xs) ≡ before (no_work d g k (get_or xs i None ∷ [])) (no_work d g k (drop (i + 1) xs))
-no_next d g k i xs lt =
-    ap (no_work d g k) (drop-cons xs i None lt)
-    ∙ no_step d g k (get_or xs i None) (drop (suc i) xs)
-    ∙ ap (λ n. before (no_work d g k (get_or xs i None ∷ [])) (no_work d g k (drop n xs))) (sym (add-one i))
+-- one output more, by the constant 0 over any arena
+pub no_step_at : (d : Context) (g : Guard) (k : Bool) (id : ExprId) (i : ℕ) (xs : List (Option Aim)) (fs : List Formula) (old mid new : Contributions) (r : Result Unit SectionFault)
+    → i < length xs → id.0 ≡ 0 → IsBegun (no_work d (view_guard fs g) k xs) (no_work d (view_guard fs g) k (drop i xs)) old mid
+    → DoesWork (positions_work d (matched_guard (arena mid.exprs) g id) k (get_or xs i None ∷ []) (Some false ∷ [])) mid new r
+    → AfterStep (no_work d (view_guard fs g) k xs) (no_work d (view_guard fs g) k (drop (i + 1) xs)) old new r
+no_step_at d g k id i xs fs old mid new r lt e b s =
+    let h = view_guard fs g in
+    let x = get_or xs i None in
+    let next = ap (no_work d h k) (drop-cons xs i None lt ∙ ap (λ n. x ∷ drop n xs) (sym (add-one i))) ∙ no_step d h k x (drop (i + 1) xs) in
+    begun_step (no_work d h k xs) (no_work d h k (x ∷ [])) (no_work d h k (drop (i + 1) xs)) old mid new r
+    (subst (λ w. IsBegun (no_work d h k xs) w old mid) next b) (by_output x s)
+  where
+    by_output : (x : Option Aim) → DoesWork (positions_work d (matched_guard (arena mid.exprs) g id) k (x ∷ []) (Some false ∷ [])) mid new r → DoesWork (no_work d (view_guard fs g) k (x ∷ [])) mid new r
+    by_output None s = s
+    by_output (Some a) s =
+        subst (λ f. Builds [] (contribution d (record { holds = f; dontcare = g.dontcare; block = g.block }) None false k meant.Match a.signal f ∷ []) (a.place ∷ []) mid new r) (low_bit mid.exprs id e).1 s
 
 pub no_left : (d : Context) (g : meant.Guard Formula) (k : Bool) (i : ℕ) (xs : List (Option Aim)) → length xs ≤ i → no_work d g k (drop i xs) ≡ nothing
 no_left d g k zero [] e = refl
@@ -148,14 +167,10 @@ no_left d g k zero (x ∷ xs) e = absurd (omega (arith, e))
 no_left d g k (suc i) [] e = refl
 no_left d g k (suc i) (x ∷ xs) e = no_left d g k i xs (omega (arith, e))
 
--- no match for one output, over any arena
-pub no_match : (d : Context) (g : Guard) (clocked : Bool) (a : Aim) (id : ExprId) (fs : List Formula) (old new : Contributions) (r : Result Unit SectionFault) → id.0 ≡ 0
-    → Builds [] (contribution d (matched_guard (arena old.exprs) g id) None false clocked meant.Match a.signal (formula_at (arena old.exprs) id) ∷ []) (a.place ∷ []) old new r
-    → Builds [] (no_matches (formulas d) d (view_guard fs g) false clocked (signals_of (Some a ∷ []))) (places_of (some_aims (Some a ∷ []))) old new r
-no_match d g clocked a id fs old new r e b =
-    subst (λ f. Builds [] (contribution d (record { holds = f; dontcare = g.dontcare; block = g.block }) None false clocked meant.Match a.signal f ∷ []) (a.place ∷ []) old new r) (low_bit old.exprs id e).1 b
-
 -- ---- names
+
+pub named_one : (count : ℕ) (a : Aim) → AreNamed count (some_aims (Some a ∷ [])) → a.signal < count
+named_one count a h = h 0 a (omega arith)
 
 pub named_at : (count : ℕ) (xs : List (Option Aim)) (i : ℕ) → i < length xs → AreNamed count (some_aims xs) → AreNamed count (some_aims (get_or xs i None ∷ []))
 named_at count [] i lt h = absurd (omega (arith, lt))
@@ -167,16 +182,3 @@ named_at count (Some a ∷ xs) zero lt h = only
     only (suc k) d le = absurd (omega (arith, le))
 named_at count (None ∷ xs) (suc i) lt h = named_at count xs i (omega (arith, lt)) h
 named_at count (Some a ∷ xs) (suc i) lt h = named_at count xs i (omega (arith, lt)) (λ k d le. h (suc k) d (omega (arith, le)))
-
--- a position over a longer arena
-pub position_kept : (d : Context) (g : Guard) (clocked : Bool) (xs : List (Option Aim)) (ls : List (Option Bool)) (id : ExprId) (fs hs : List Formula) (old new : Contributions) (r : Result Unit SectionFault) → formula_at hs id ≡ formula_at fs id
-    → Builds [] (outputs_given d (matched_guard hs g id) clocked (signals_of xs) ls) (row_places xs ls) old new r → Builds [] (outputs_given d (matched_guard fs g id) clocked (signals_of xs) ls) (row_places xs ls) old new r
-position_kept d g clocked xs ls id fs hs old new r e b =
-    subst (λ f. Builds [] (outputs_given d (record { holds = f; dontcare = g.dontcare; block = g.block }) clocked (signals_of xs) ls) (row_places xs ls) old new r) e b
-
--- no match for one position, over any arena
-pub no_match_any : (d : Context) (g : Guard) (clocked : Bool) (x : Option Aim) (fs hs : List Formula) (old new : Contributions) (r : Result Unit SectionFault)
-    → Builds [] (no_matches (formulas d) d (view_guard hs g) false clocked (signals_of (x ∷ []))) (places_of (some_aims (x ∷ []))) old new r
-    → Builds [] (no_matches (formulas d) d (view_guard fs g) false clocked (signals_of (x ∷ []))) (places_of (some_aims (x ∷ []))) old new r
-no_match_any d g clocked None fs hs old new r b = b
-no_match_any d g clocked (Some a) fs hs old new r b = b

@@ -1,5 +1,5 @@
 -- What is found of a header, part by part.
-use Rattle.std.proofs.Common.{◌≡◌, ℕ, true, false, Option, None, Some, List, [], ◌∷◌, ◌++◌, ◌-◌, length, refl, sym, ap, ap₂, ◌∙◌, append_assoc, append-nil, arith}
+use Rattle.std.proofs.Common.{◌≡◌, ℕ, true, false, Option, Some, List, [], ◌∷◌, ◌++◌, ◌-◌, length, refl, sym, ap, ap₂, ◌∙◌, append_assoc, append-nil, arith}
 use Rattle.std.proofs.lemmas.List.{length-append}
 use Rattle.pld_base.specs.declared.place.Place.{Place}
 use Rattle.abel_tree.specs.FirstRefusal.{earlier, first_refusal}
@@ -15,23 +15,11 @@ use Rattle.set_expr.specs.SectionOrder.{section_order}
 use Rattle.section_targets.specs.declared.aim.Aim.{Aim}
 use Rattle.truth_tables.specs.HeaderSignals.{names_positions}
 use Rattle.truth_tables.specs.OutputHeaders.{HeaderFound, header_of, refused_header, outputs_at, named_outputs, header_name, both_headers, header_set, header_range, output_member, output_members}
-use Rattle.truth_tables.specs.TableUnits.{some_aims}
 use Rattle.truth_tables.specs.declared.checked_headers.Header.{Header}
 use Rattle.truth_tables.specs.Headers.{IsAdded, IsHeader}
 
 abbrev pub first : List SectionFault → Option SectionFault
 first rs = first_refusal section_order rs
-
--- ---- lists
-
-pub outputs_append : (p : Place) (ss ts : List (Option ℕ)) → outputs_at p (ss ++ ts) ≡ outputs_at p ss ++ outputs_at p ts
-outputs_append p [] ts = refl
-outputs_append p (s ∷ ss) ts = ap (λ xs. outputs_at p (s ∷ []) ++ xs) (outputs_append p ss ts)
-
-pub aims_append : (xs ys : List (Option Aim)) → some_aims (xs ++ ys) ≡ some_aims xs ++ some_aims ys
-aims_append [] ys = refl
-aims_append (None ∷ xs) ys = aims_append xs ys
-aims_append (Some a ∷ xs) ys = ap (λ zs. a ∷ zs) (aims_append xs ys)
 
 -- ---- parts
 

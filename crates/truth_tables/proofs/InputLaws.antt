@@ -10,11 +10,12 @@ use Rattle.abel_meaning.specs.BitWords.{Word}
 use Rattle.abel_meaning.specs.CountedBlocks.{row_literals}
 use Rattle.abel_meaning.specs.Designs.{Context}
 use Rattle.abel_meaning.specs.FormulaBits.{bits_of, formulas, met_by, met_word, resized}
-use Rattle.abel_meaning.specs.Numbers.{Number, Single, Set, Value, width_of}
+use Rattle.abel_meaning.specs.Numbers.{Number, Single, Value, width_of}
 use Rattle.abel_meaning.specs.Terms.{Term, NoTerm, Before, extended, extended_if}
 use Rattle.abel_meaning.specs.Terms as term
 use Rattle.abel_meaning.specs.Values.{binary_by, constant_of, is_relation}
 use Rattle.abel_meaning.proofs.RelationWords.{map_reverse}
+use Rattle.set_expr.specs.declared.shaped.Shape.{Shape}
 use Rattle.set_expr.specs.declared.shaped.Shape.TheVariants as shape
 use Rattle.set_expr.specs.declared.shaped.Shaped.{Shaped}
 use Rattle.set_expr.specs.Answer.{AreIn, HasUnknown, bits_at, positions, unknown_at}
@@ -90,25 +91,27 @@ bits_many fs [] = refl
 bits_many fs (None ∷ ps) = omega (arith, bits_many fs ps)
 bits_many fs (Some id ∷ ps) = omega (arith, bits_many fs ps)
 
-pub stand_single : (d : Context) (fs : List Formula) (h : Term) (s : Shaped) → IsShapedTerm d fs h s → s.shape ≡ shape.Single → StandForInputs d h fs (reverse s.places)
-stand_single d fs h s k e =
-    let v = constant_of d h in
-    let w = (bits_of d h).what in
-    let shaped : v.shape ≡ Single = subst (λ x. HasShape x v) e k.shape in
-    let flags : unknown_at s.places ≡ v.unknown = subst (λ x. HasUnknown x v.unknown s.places) e k.unknown in
-    let one : length w ≡ 1 = ap length (sym k.bits) ∙ bits_many fs s.places ∙ k.positions ∙ ap positions e in
-    stand_reversed d h fs s.places k.inside (sym flags)
-    (ap (λ y. met_by (width_of y) y v.number w) shaped ∙ single_same v.number w one ∙ sym k.bits)
+-- what has positions of its own
+pub stand_places : (d : Context) (fs : List Formula) (h : Term) (s : Shaped) → IsShapedTerm d fs h s → ((n : ℕ) → s.shape ≡ shape.Number n → ⊥) → StandForInputs d h fs (reverse s.places)
+stand_places d fs h s k other = by_shape s.shape refl
+  where
+    v : Value
+    v = constant_of d h
 
-pub stand_set : (d : Context) (fs : List Formula) (h : Term) (s : Shaped) (n : ℕ) → IsShapedTerm d fs h s → s.shape ≡ shape.Set n → StandForInputs d h fs (reverse s.places)
-stand_set d fs h s n k e =
-    let v = constant_of d h in
-    let w = (bits_of d h).what in
-    let shaped : v.shape ≡ Set n = subst (λ x. HasShape x v) e k.shape in
-    let flags : unknown_at s.places ≡ v.unknown = subst (λ x. HasUnknown x v.unknown s.places) e k.unknown in
-    let many : length w ≡ n = ap length (sym k.bits) ∙ bits_many fs s.places ∙ k.positions ∙ ap positions e in
-    stand_reversed d h fs s.places k.inside (sym flags)
-    (ap (λ y. met_by (width_of y) y v.number w) shaped ∙ resized_same n w many ∙ sym k.bits)
+    w : Word
+    w = (bits_of d h).what
+
+    many : (x : Shape) → s.shape ≡ x → length w ≡ positions x
+    many x e = ap length (sym k.bits) ∙ bits_many fs s.places ∙ k.positions ∙ ap positions e
+
+    by_shape : (x : Shape) → s.shape ≡ x → StandForInputs d h fs (reverse s.places)
+    by_shape (shape.Number n) e = absurd (other n e)
+    by_shape shape.Single e =
+        stand_reversed d h fs s.places k.inside (sym (subst (λ x. HasUnknown x v.unknown s.places) e k.unknown))
+        (ap (λ y. met_by (width_of y) y v.number w) (subst (λ x. HasShape x v) e k.shape) ∙ single_same v.number w (many shape.Single e) ∙ sym k.bits)
+    by_shape (shape.Set n) e =
+        stand_reversed d h fs s.places k.inside (sym (subst (λ x. HasUnknown x v.unknown s.places) e k.unknown))
+        (ap (λ y. met_by (width_of y) y v.number w) (subst (λ x. HasShape x v) e k.shape) ∙ resized_same n w (many (shape.Set n) e) ∙ sym k.bits)
 
 -- ---- numbers
 

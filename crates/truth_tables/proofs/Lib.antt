@@ -1,11 +1,9 @@
-pub mod ConstantSteps
 pub mod EntryParts
+mod ExampleTrees
 pub mod GivenLaws
 pub mod HeaderLaws
-pub mod HeaderNames
 pub mod InputLaws
 pub mod NamesInOrder
-pub mod Operands
 pub mod OutputPositions
 pub mod PairLaws
 pub mod PartLaws
@@ -13,11 +11,9 @@ pub mod PartSums
 pub mod ProductLaws
 pub mod ReadLaws
 mod RowExamples
-pub mod RowLaws
 pub mod RowWorks
 pub mod RowsWalked
 pub mod SignalLaws
 pub mod StackLaws
 mod TableExamples
-pub mod TableWorks
 pub mod WorkLaws

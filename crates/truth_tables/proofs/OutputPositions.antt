@@ -1,15 +1,15 @@
--- The outputs of a header that isn't refused are the signals of its term, position by position.
-use Rattle.std.proofs.Common.{◌≡◌, ℕ, Bool, true, false, Option, None, Some, List, [], ◌∷◌, ◌++◌, if◌then◌else◌, length, bytes_eq, append_assoc, refl, sym, ap, ap₂, ◌∙◌}
+-- The outputs of a header that isn't refused are the signals of its term, position by position, and names of the design.
+use Rattle.std.proofs.Common.{◌≡◌, ℕ, Bool, true, false, Option, None, Some, List, [], ◌∷◌, ◌++◌, if◌then◌else◌, length, bytes_eq, append_assoc, refl, sym, ap, ap₂, ◌∙◌, zero, suc, ◌<◌, nat_lt, subst, arith}
 use Rattle.std.specs.Prelude.{codes}
 use Rattle.std.specs.Option.{option_map}
-use Rattle.std.proofs.lemmas.List.{map-append}
+use Rattle.std.proofs.lemmas.List.{map-append, get_or_past}
 use Rattle.pld_base.specs.declared.place.Place.{Place}
-use Rattle.abel_tree.specs.Entries.{find}
+use Rattle.abel_tree.specs.Entries.{find, Entry, is_signal}
 use Rattle.abel_tree.specs.Ranges.{range_names}
 use Rattle.abel_tree.specs.Tree.{Tree, ANumber, ASpecial, AName, ASet, AParen, AUnary, ABinary, OneMember, SpanMember, Members, NoMember, MoreMembers}
-use Rattle.abel_meaning.specs.Designs.{Context}
+use Rattle.abel_meaning.specs.Designs.{Context, no_name}
 use Rattle.abel_meaning.specs.Targets.{targets_of, all_targets}
-use Rattle.abel_meaning.specs.Terms.{Term, Terms, X, Pulse, Release, term_named, term_of, terms_of, named_before, special_term}
+use Rattle.abel_meaning.specs.Terms.{Term, Terms, X, Pulse, Release, term_named, term_of, terms_of, named_before, special_term, known_of}
 use Rattle.set_expr.specs.declared.fault.SectionFault.{SectionFault}
 use Rattle.set_expr.specs.declared.fault.SectionFault.TheVariants.{MisplacedSpecial, NotAnOutput}
 use Rattle.set_expr.specs.FoundNames.{found_use, name_found, names_found}
@@ -19,6 +19,10 @@ use Rattle.section_targets.proofs.Built.{left_empty, right_empty}
 use Rattle.truth_tables.specs.HeaderSignals.{names_positions}
 use Rattle.truth_tables.specs.OutputHeaders.{header_of, refused_header, outputs_at, named_outputs, header_name, header_range, header_special, output_header, output_members}
 use Rattle.truth_tables.specs.Gives.{signals_of}
+use Rattle.std.proofs.lemmas.Bool.{ltb-true, ltb-false}
+use Rattle.section_targets.specs.Given.{AreNamed}
+use Rattle.section_targets.proofs.KnownTargets.{EachTarget, IsSignalOf, signal_targets}
+use Rattle.truth_tables.specs.TableUnits.{some_aims}
 
 signals_append : (xs ys : List (Option Aim)) → signals_of (xs ++ ys) ≡ signals_of xs ++ signals_of ys
 signals_append xs ys = map-append (λ (x : Option Aim). option_map (λ (a : Aim). a.signal) x) xs ys
@@ -84,3 +88,28 @@ mutual
       let a = header_range d first.place (range_names first.text last.text) in
       let b = output_members d ms in
       range_signals d first.place (range_names first.text last.text) (terms_of d.known ms) b.outputs (members_signals d ms (right_empty a.refusals b.refusals e)) (left_empty a.refusals b.refusals e)
+
+signal_within : (d : Context) (s : ℕ) → IsSignalOf d s → s < length d.names
+signal_within d s h = by_test (nat_lt s (length d.names)) refl
+  where
+    by_test : (b : Bool) → nat_lt s (length d.names) ≡ b → s < length d.names
+    by_test true e = ltb-true s (length d.names) e
+    by_test false e =
+        let past = get_or_past d.names s no_name (ltb-false s (length d.names) e) in
+        absurd (no_signal (ap (λ (x : Entry). is_signal x.kind) (sym past) ∙ h))
+      where
+        no_signal : is_signal no_name.kind ≡ true → ⊥
+        no_signal e = absurd cc
+
+signals_inside : (d : Context) (xs : List (Option Aim)) → EachTarget (IsSignalOf d) (signals_of xs) → AreNamed (length d.names) (some_aims xs)
+signals_inside d [] h = λ k a lt. absurd (omega (arith, lt))
+signals_inside d (None ∷ xs) h = signals_inside d xs h
+signals_inside d (Some x ∷ xs) h = more (signal_within d x.signal h.0) (signals_inside d xs h.1)
+  where
+    more : x.signal < length d.names → AreNamed (length d.names) (some_aims xs) → AreNamed (length d.names) (x ∷ some_aims xs)
+    more lt rest zero a le = lt
+    more lt rest (suc k) a le = rest k a (omega (arith, le))
+
+-- outputs that are the signals of a term
+pub outputs_inside : (d : Context) → d.known ≡ known_of d.names → (t : Tree) (xs : List (Option Aim)) → targets_of (term_of d.known t) ≡ signals_of xs → AreNamed (length d.names) (some_aims xs)
+outputs_inside d k t xs e = signals_inside d xs (subst (EachTarget (IsSignalOf d)) e (signal_targets d k t))

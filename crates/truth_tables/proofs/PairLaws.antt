@@ -29,8 +29,7 @@ use Rattle.truth_tables.specs.PartCounts.{term_parts}
 use Rattle.truth_tables.specs.PartTerms.{IsNumeral, IsOperator, IsPart, AreParts, is_operand}
 use Rattle.truth_tables.specs.Stacks.{Each}
 use Rattle.truth_tables.specs.RowEntries.{is_number, meets, all_meet, meets_whole}
-use Rattle.truth_tables.proofs.Operands.{operand_case, operator_operand}
-use Rattle.truth_tables.proofs.PartLaws.{operator_shape}
+use Rattle.truth_tables.proofs.PartLaws.{operand_case, operator_operand, operator_shape}
 use Rattle.expr_bits.proofs.Extensions.{all_extended, set_extended, list_extended}
 use Rattle.truth_tables.proofs.PartSums.{set_fewer, some_parts}
 use Rattle.truth_tables.proofs.StackLaws.{each_length}
@@ -105,15 +104,6 @@ put_same d h e w m old new t q k p s =
     (ap (λ xs. xs ++ seen old) (q ∙ sym (reverse_same w (view_mark m)) ∙ ap reverse (sym (map_same view_mark w m)))
     ∙ sym (ap seen s ∙ seen_append old (replicate w m)))
 
-pub put_unknown : (d : Context) (h e : Term) (w : ℕ) (m : Mark) (old new : List Mark) → e ≡ term.X → view_mark m ≡ meant.Unknown → both_sets h e ≡ false → w ≡ part_width d h → new ≡ old ++ replicate w m → IsPut d h e true old new
-put_unknown d h e w m old new t q k p s = put_same d h e w m old new (ap (meets_whole d) t) (ap (part_marks d w) t ∙ ap (replicate w) (sym q)) k p s
-
-pub put_pulsed : (d : Context) (h e : Term) (w : ℕ) (m : Mark) (old new : List Mark) → e ≡ term.Pulse → view_mark m ≡ meant.Pulsed → both_sets h e ≡ false → w ≡ part_width d h → new ≡ old ++ replicate w m → IsPut d h e true old new
-put_pulsed d h e w m old new t q k p s = put_same d h e w m old new (ap (meets_whole d) t) (ap (part_marks d w) t ∙ ap (replicate w) (sym q)) k p s
-
-pub put_released : (d : Context) (h e : Term) (w : ℕ) (m : Mark) (old new : List Mark) → e ≡ term.Release → view_mark m ≡ meant.Released → both_sets h e ≡ false → w ≡ part_width d h → new ≡ old ++ replicate w m → IsPut d h e true old new
-put_released d h e w m old new t q k p s = put_same d h e w m old new (ap (meets_whole d) t) (ap (part_marks d w) t ∙ ap (replicate w) (sym q)) k p s
-
 -- an operator that has bits meets nothing as a whole
 bits_unmet : (d : Context) (h : Term) (x : Expr) (e : Term) → IsOperator d x e → both_sets h e ≡ false → is_number (constant_of d (term_of d.known (view x))).shape ≡ false → meets d h e ≡ false
 bits_unmet d h x e o k n = (as_whole d h e k).0 ∙ operand_whole d e (operator_operand d x e o) ∙ ap is_number (operator_shape d x e o) ∙ n
@@ -123,10 +113,6 @@ single_unmet d h x e o k s = bits_unmet d h x e o k (ap is_number s)
 
 pub set_unmet : (d : Context) (h : Term) (x : Expr) (e : Term) (w : ℕ) → IsOperator d x e → both_sets h e ≡ false → HasShape (shape.Set w) (constant_of d (term_of d.known (view x))) → meets d h e ≡ false
 set_unmet d h x e w o k s = bits_unmet d h x e o k (ap is_number s)
-
--- a signal meets nothing as a whole
-pub no_signal : (d : Context) (h e : Term) (s : ℕ) (x : Option Extension) → e ≡ term.Read s x → both_sets h e ≡ false → meets d h e ≡ false
-no_signal d h e s x t k = (as_whole d h e k).0 ∙ ap (meets_whole d) t
 
 -- ---- a set beside a set
 
@@ -205,12 +191,6 @@ sets_met d h e o i ts us hs es b stack later ms ih ie sh se p = by b p
           };
           fewer = omega (arith, zipped_parts d (list_of xs) (list_of ys), ap (sum_by term_parts) (list_extended o ts), set_fewer h o ts ih);
         }
-
--- ---- walks
-
--- the same marks in the other order
-pub seen_turned : (out : List Mark) → map view_mark (reverse out) ≡ seen out
-seen_turned out = map_reverse view_mark out
 
 -- ---- steps
 

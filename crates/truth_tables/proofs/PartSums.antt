@@ -13,7 +13,7 @@ use Rattle.truth_tables.specs.declared.part.Part.TheVariants as part
 use Rattle.expr_bits.specs.Members.{list_of, each_extended}
 use Rattle.truth_tables.specs.PartCounts.{term_parts, terms_parts, part_parts}
 use Rattle.truth_tables.specs.PartTerms.{IsPart, is_operand}
-use Rattle.truth_tables.proofs.Operands.{operand_case, operator_operand}
+use Rattle.truth_tables.proofs.PartLaws.{operand_case, operator_operand}
 use Rattle.expr_bits.proofs.Extensions.{all_extended, set_extended, list_extended}
 
 -- an extension changes none

@@ -1,6 +1,7 @@
 -- The literals of a row, position by position.
 use Rattle.std.proofs.Common.{◌≡◌, ℕ, zero, suc, ◌+◌, ◌<◌, ◌≤◌, min, Bool, true, Option, None, Some, List, [], ◌∷◌, Result, Ok, Err, length, drop, get_or, refl, sym, ap, ap₂, ◌∙◌, subst, subst₂, arith, add-one}
 use Rattle.std.proofs.Math.Seq.{drop-cons}
+use Rattle.std.specs.Prelude.{IfOk}
 use Rattle.pld_base.specs.declared.place.Place.{Place}
 use Rattle.bit_expr.specs.declared.node.ExprId.{ExprId}
 use Rattle.bit_expr.specs.declared.node.Node.{Node}
@@ -72,44 +73,48 @@ joined_start ns unit found ps ls e =
       total = omega arith;
     }
 
--- the literal of one position more, as a part of the unit
-pub joined_step : {R : Type 0} (old mid new : List Node) (unit : Place) (found : ExprId) (all : Made Formula) (p : Option ExprId) (ps : List (Option ExprId)) (l : Option Bool) (ls : List (Option Bool)) (r : Result R SectionFault)
-    → (j : IsJoined old mid unit found all (p ∷ ps) (l ∷ ls)) → AreIn (length (arena old)) (p ∷ ps)
+-- what is left by one position more
+abbrev pub AfterLiteral : (old new : List Node) → Place → (all : Made Formula) → List (Option ExprId) → List (Option Bool) → Result ExprId SectionFault → Type 0
+AfterLiteral old new unit all ps ls (Ok id) = IsJoined old new unit id all ps ls
+AfterLiteral old new unit all ps ls (Err f) = BuildsNodes {R = ExprId} (part unit all.nodes ∷ []) old new (Err f)
+
+-- its literal is a part of the unit
+joined_step : (old mid new : List Node) (unit : Place) (found : ExprId) (all : Made Formula) (p : Option ExprId) (ps : List (Option ExprId)) (l : Option Bool) (ls : List (Option Bool)) (r : Result ExprId SectionFault)
+    → IsJoined old mid unit found all (p ∷ ps) (l ∷ ls) → AreIn (length (arena old)) (p ∷ ps)
     → BuildsNodes (part unit (position_literal (arena mid) (formula_at (arena mid) found) p l).nodes ∷ []) mid new r
-    → BuildsNodes (part unit (j.nodes + (position_literal (arena old) j.made p l).nodes) ∷ []) old new r
-joined_step old mid new unit found all p ps l ls r j h b = λ list.
-    let same = literal_kept (arena old) (arena mid) (formula_at (arena mid) found) j.made p l (j.built list).made.grew.keeps (in_first (length (arena old)) p ps h) j.bit.1 in
-    two_parts unit j.nodes (position_literal (arena old) j.made p l).nodes (record { exprs = old; list = list }) (record { exprs = mid; list = list }) (record { exprs = new; list = list }) r (j.built list)
-    (subst (λ (m : Made Formula). Builds (part unit m.nodes ∷ []) [] [] (record { exprs = mid; list = list }) (record { exprs = new; list = list }) r) same (b list))
+    → IfOk r (λ id. IsBit (arena new) id (position_literal (arena mid) (formula_at (arena mid) found) p l).what)
+    → AfterLiteral old new unit all ps ls r
+joined_step old mid new unit found all p ps l ls r j h b i = by_result r b i
+  where
+    one : Made Formula
+    one = position_literal (arena mid) (formula_at (arena mid) found) p l
 
-pub joined_next : (old mid new : List Node) (unit : Place) (found id : ExprId) (all : Made Formula) (p : Option ExprId) (ps : List (Option ExprId)) (l : Option Bool) (ls : List (Option Bool))
-    → IsJoined old mid unit found all (p ∷ ps) (l ∷ ls) → AreIn (length (arena old)) (p ∷ ps)
-    → BuildsNodes (part unit (position_literal (arena mid) (formula_at (arena mid) found) p l).nodes ∷ []) mid new (Ok id)
-    → IsBit (arena new) id (position_literal (arena mid) (formula_at (arena mid) found) p l).what
-    → IsJoined old new unit id all ps ls
-joined_next old mid new unit found id all p ps l ls j h b i =
-    let same = literal_kept (arena old) (arena mid) (formula_at (arena mid) found) j.made p l (j.built []).made.grew.keeps (in_first (length (arena old)) p ps h) j.bit.1 in
-    let m = position_literal (arena old) j.made p l in
-    record {
-      made = m.what;
-      nodes = j.nodes + m.nodes;
-      bit = (i.0, i.1 ∙ ap (λ (x : Made Formula). x.what) same);
-      built = joined_step {R = ExprId} old mid new unit found all p ps l ls (Ok id) j h b;
-      what = j.what ∙ literal_what (arena old) j.made p ps l ls;
-      total = omega (arith, j.total, literal_nodes (arena old) j.made p ps l ls);
-    }
+    m : Made Formula
+    m = position_literal (arena old) j.made p l
 
-pub joined_stops : (old mid new : List Node) (unit : Place) (found : ExprId) (all : Made Formula) (p : Option ExprId) (ps : List (Option ExprId)) (l : Option Bool) (ls : List (Option Bool)) (f : SectionFault)
-    → IsJoined old mid unit found all (p ∷ ps) (l ∷ ls) → AreIn (length (arena old)) (p ∷ ps)
-    → BuildsNodes {R = ExprId} (part unit (position_literal (arena mid) (formula_at (arena mid) found) p l).nodes ∷ []) mid new (Err f)
-    → BuildsNodes {R = ExprId} (part unit all.nodes ∷ []) old new (Err f)
-joined_stops old mid new unit found all p ps l ls f j h b = λ list.
-    let m = position_literal (arena old) j.made p l in
-    let rest = literals (arena old) m.what ps ls in
-    let total : all.nodes ≡ (j.nodes + m.nodes) + rest.nodes = omega (arith, j.total, literal_nodes (arena old) j.made p ps l ls) in
-    subst (λ n. StopsWith (part unit n ∷ []) [] [] (record { exprs = old; list = list }) (record { exprs = new; list = list }) f) (sym total)
-    (stops_longer unit [] (j.nodes + m.nodes) rest.nodes (record { exprs = old; list = list }) (record { exprs = new; list = list }) f
-    (joined_step {R = ExprId} old mid new unit found all p ps l ls (Err f) j h b list))
+    same : one ≡ m
+    same = literal_kept (arena old) (arena mid) (formula_at (arena mid) found) j.made p l (j.built []).made.grew.keeps (in_first (length (arena old)) p ps h) j.bit.1
+
+    built : (r : Result ExprId SectionFault) → BuildsNodes (part unit one.nodes ∷ []) mid new r → BuildsNodes (part unit (j.nodes + m.nodes) ∷ []) old new r
+    built r b = λ list.
+        two_parts unit j.nodes m.nodes (record { exprs = old; list = list }) (record { exprs = mid; list = list }) (record { exprs = new; list = list }) r (j.built list)
+        (subst (λ (x : Made Formula). Builds (part unit x.nodes ∷ []) [] [] (record { exprs = mid; list = list }) (record { exprs = new; list = list }) r) same (b list))
+
+    by_result : (r : Result ExprId SectionFault) → BuildsNodes (part unit one.nodes ∷ []) mid new r → IfOk r (λ id. IsBit (arena new) id one.what) → AfterLiteral old new unit all ps ls r
+    by_result (Ok id) b i =
+        record {
+          made = m.what;
+          nodes = j.nodes + m.nodes;
+          bit = (i.0, i.1 ∙ ap (λ (x : Made Formula). x.what) same);
+          built = built (Ok id) b;
+          what = j.what ∙ literal_what (arena old) j.made p ps l ls;
+          total = omega (arith, j.total, literal_nodes (arena old) j.made p ps l ls);
+        }
+    by_result (Err f) b i = λ list.
+        let rest = literals (arena old) m.what ps ls in
+        let total : all.nodes ≡ (j.nodes + m.nodes) + rest.nodes = omega (arith, j.total, literal_nodes (arena old) j.made p ps l ls) in
+        subst (λ n. StopsWith (part unit n ∷ []) [] [] (record { exprs = old; list = list }) (record { exprs = new; list = list }) f) (sym total)
+        (stops_longer unit [] (j.nodes + m.nodes) rest.nodes (record { exprs = old; list = list }) (record { exprs = new; list = list }) f (built (Err f) b list))
 
 -- no position is left
 left_what : (fs : List Formula) (f : Formula) (ps : List (Option ExprId)) (ls : List (Option Bool)) (i : ℕ) → min (length ps) (length ls) ≤ i → ((literals fs f (drop i ps) (drop i ls)).what ≡ f) × ((literals fs f (drop i ps) (drop i ls)).nodes ≡ 0)
@@ -140,29 +145,14 @@ joined_done old new unit found all ps ls i h j =
 pub in_at : (count : ℕ) (ps : List (Option ExprId)) (i : ℕ) → i < length ps → AreIn count ps → AreIn count (get_or ps i None ∷ [])
 in_at count ps i lt h = in_first count (get_or ps i None) (drop (suc i) ps) (subst (AreIn count) (drop-cons ps i None lt) (in_drop count i ps h))
 
--- the position and the level at i, before those behind them
-at_index : (old mid : List Node) (unit : Place) (found : ExprId) (all : Made Formula) (ps : List (Option ExprId)) (ls : List (Option Bool)) (i : ℕ) → i < min (length ps) (length ls)
-    → IsJoined old mid unit found all (drop i ps) (drop i ls) → IsJoined old mid unit found all (get_or ps i None ∷ drop (suc i) ps) (get_or ls i None ∷ drop (suc i) ls)
-at_index old mid unit found all ps ls i lt j =
-    subst₂ (λ qs ms. IsJoined old mid unit found all qs ms) (drop-cons ps i None (omega (arith, lt))) (drop-cons ls i None (omega (arith, lt))) j
-
-index_in : (count : ℕ) (ps : List (Option ExprId)) (i : ℕ) → i < length ps → AreIn count ps → AreIn count (get_or ps i None ∷ drop (suc i) ps)
-index_in count ps i lt h = subst (AreIn count) (drop-cons ps i None lt) (in_drop count i ps h)
-
-pub joined_index : (old mid new : List Node) (unit : Place) (found id : ExprId) (all : Made Formula) (ps : List (Option ExprId)) (ls : List (Option Bool)) (i : ℕ) → i < min (length ps) (length ls)
-    → AreIn (length (arena old)) ps → IsJoined old mid unit found all (drop i ps) (drop i ls)
-    → BuildsNodes (part unit (position_literal (arena mid) (formula_at (arena mid) found) (get_or ps i None) (get_or ls i None)).nodes ∷ []) mid new (Ok id)
-    → IsBit (arena new) id (position_literal (arena mid) (formula_at (arena mid) found) (get_or ps i None) (get_or ls i None)).what
-    → IsJoined old new unit id all (drop (i + 1) ps) (drop (i + 1) ls)
-joined_index old mid new unit found id all ps ls i lt h j b e =
-    subst (λ n. IsJoined old new unit id all (drop n ps) (drop n ls)) (sym (add-one i))
-    (joined_next old mid new unit found id all (get_or ps i None) (drop (suc i) ps) (get_or ls i None) (drop (suc i) ls)
-    (at_index old mid unit found all ps ls i lt j) (index_in (length (arena old)) ps i (omega (arith, lt)) h) b e)
-
-pub stops_index : (old mid new : List Node) (unit : Place) (found : ExprId) (all : Made Formula) (ps : List (Option ExprId)) (ls : List (Option Bool)) (i : ℕ) (f : SectionFault) → i < min (length ps) (length ls)
-    → AreIn (length (arena old)) ps → IsJoined old mid unit found all (drop i ps) (drop i ls)
-    → BuildsNodes {R = ExprId} (part unit (position_literal (arena mid) (formula_at (arena mid) found) (get_or ps i None) (get_or ls i None)).nodes ∷ []) mid new (Err f)
-    → BuildsNodes {R = ExprId} (part unit all.nodes ∷ []) old new (Err f)
-stops_index old mid new unit found all ps ls i f lt h j b =
-    joined_stops old mid new unit found all (get_or ps i None) (drop (suc i) ps) (get_or ls i None) (drop (suc i) ls) f
-    (at_index old mid unit found all ps ls i lt j) (index_in (length (arena old)) ps i (omega (arith, lt)) h) b
+pub joined_at : (old mid new : List Node) (unit : Place) (found : ExprId) (all : Made Formula) (ps : List (Option ExprId)) (ls : List (Option Bool)) (i : ℕ) (r : Result ExprId SectionFault)
+    → i < min (length ps) (length ls) → AreIn (length (arena old)) ps → IsJoined old mid unit found all (drop i ps) (drop i ls)
+    → BuildsNodes (part unit (position_literal (arena mid) (formula_at (arena mid) found) (get_or ps i None) (get_or ls i None)).nodes ∷ []) mid new r
+    → IfOk r (λ id. IsBit (arena new) id (position_literal (arena mid) (formula_at (arena mid) found) (get_or ps i None) (get_or ls i None)).what)
+    → AfterLiteral old new unit all (drop (i + 1) ps) (drop (i + 1) ls) r
+joined_at old mid new unit found all ps ls i r lt h j b e =
+    let here = drop-cons ps i None (omega (arith, lt)) in
+    subst (λ n. AfterLiteral old new unit all (drop n ps) (drop n ls) r) (sym (add-one i))
+    (joined_step old mid new unit found all (get_or ps i None) (drop (suc i) ps) (get_or ls i None) (drop (suc i) ls) r
+    (subst₂ (λ qs ms. IsJoined old mid unit found all qs ms) here (drop-cons ls i None (omega (arith, lt))) j)
+    (subst (AreIn (length (arena old))) here (in_drop (length (arena old)) i ps h)) b e)

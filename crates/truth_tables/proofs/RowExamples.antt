@@ -1,61 +1,30 @@
 -- What is refused of the entries of a row, by computation; the columns are counted by hand. a, b and e are signals, c is
 -- the constant [a,b], x is .X., k is .C., z is .Z., m is the constant [0,.X.].
-use Prim.Native.String.{String}
-use Rattle.std.specs.Prelude.{◌≡◌, ℕ, true, false, None, List, [], ◌∷◌, codes}
+use Rattle.std.specs.Prelude.{◌≡◌, true, false, List, [], ◌∷◌}
 use Rattle.std.proofs.Common.{refl}
-use Rattle.pld_base.specs.declared.place.Place.{Place}
 use Rattle.pld_device.specs.SampleTable.{sample}
 use Rattle.abel_tree.specs.declared.words.Binary.{Binary}
 use Rattle.abel_tree.specs.declared.words.Binary.TheVariants as binary
 use Rattle.abel_tree.specs.declared.words.Unary.TheVariants as unary
-use Rattle.abel_tree.specs.Entries.{Kind, APin, AConstant, Entry}
-use Rattle.abel_tree.specs.Tree.{Tree, ANumber, ASpecial, AName, ASet, AParen, AUnary, ABinary, SetMember, OneMember, members_of}
-use Rattle.abel_meaning.specs.Declarations.{no_words}
+use Rattle.abel_tree.specs.Entries.{APin, Entry}
+use Rattle.abel_tree.specs.Tree.{Tree, AParen, AUnary, ABinary}
 use Rattle.abel_meaning.specs.Designs.{Context, context_of}
 use Rattle.abel_meaning.specs.Terms.{term_of}
 use Rattle.set_expr.specs.declared.fault.SectionFault.{SectionFault}
 use Rattle.set_expr.specs.declared.fault.SectionFault.TheVariants.{MisplacedSpecial, NotConstant, ZeroDivisor, BadRow}
 use Rattle.truth_tables.specs.RowEntries.{entry_refused}
-
-abbrev at : ℕ → Place
-at c = record { line = 1; column = c }
-
-abbrev number : ℕ → Tree
-number n = ANumber (record { value = n; place = at 1 })
-
-abbrev name : String → Tree
-name text = AName (record { text = codes text; place = at 1 }) None
-
-abbrev ones : List Tree → List SetMember
-ones [] = []
-ones (t ∷ ts) = OneMember t ∷ ones ts
-
-abbrev set : List Tree → Tree
-set ts = ASet (at 1) (members_of (ones ts)) None
-
--- .X., .C. and .Z.
-abbrev unknown : Tree
-unknown = ASpecial 88 (at 2)
-
-abbrev pulse : Tree
-pulse = ASpecial 67 (at 2)
-
-abbrev release : Tree
-release = ASpecial 90 (at 2)
+use Rattle.truth_tables.proofs.ExampleTrees.{at, constant, declared, name, number, pulse, release, set, unknown}
 
 -- operators stand at column 5
 abbrev both : Binary → Tree → Tree → Tree
 both sign t u = ABinary sign (at 5) t u
 
-abbrev declared : String → Kind → Entry
-declared text kind = record { name = codes text; place = at 1; kind = kind; words = no_words; assigned = false }
-
 abbrev names : List Entry
 names =
-    declared "a" (APin 1 false) ∷ declared "b" (APin 2 true) ∷ declared "e" (APin 3 false)
-    ∷ declared "c" (AConstant (set (name "a" ∷ name "b" ∷ []))) ∷ declared "x" (AConstant unknown)
-    ∷ declared "k" (AConstant (AParen (at 1) pulse)) ∷ declared "z" (AConstant release)
-    ∷ declared "m" (AConstant (set (number 0 ∷ unknown ∷ []))) ∷ []
+    declared "a" (APin 1 false) false ∷ declared "b" (APin 2 true) false ∷ declared "e" (APin 3 false) false
+    ∷ constant "c" (set 1 (name 1 "a" ∷ name 1 "b" ∷ [])) ∷ constant "x" unknown
+    ∷ constant "k" (AParen (at 1) pulse) ∷ constant "z" release
+    ∷ constant "m" (set 1 (number 0 ∷ unknown ∷ [])) ∷ []
 
 abbrev design : Context
 design = context_of sample names
@@ -66,7 +35,7 @@ refused h t = entry_refused design (BadRow (at 1)) (term_of design.known h) t
 
 -- the header [e,[a,b]]
 abbrev nested : Tree
-nested = set (name "e" ∷ name "c" ∷ [])
+nested = set 1 (name 1 "e" ∷ name 1 "c" ∷ [])
 
 -- 5 meets the whole header, as do .X., .C. and names of these
 whole_number : refused nested (number 5) ≡ []
@@ -75,41 +44,41 @@ whole_number = refl
 whole_special : refused nested unknown ≡ []
 whole_special = refl
 
-whole_pulse : refused nested (name "k") ≡ []
+whole_pulse : refused nested (name 1 "k") ≡ []
 whole_pulse = refl
 
 -- [1,2]: 2 meets the part [a,b]
-member_number : refused nested (set (number 1 ∷ number 2 ∷ [])) ≡ []
+member_number : refused nested (set 1 (number 1 ∷ number 2 ∷ [])) ≡ []
 member_number = refl
 
 -- [.C.,[0,.Z.]]
-member_set : refused nested (set (pulse ∷ set (number 0 ∷ release ∷ []) ∷ [])) ≡ []
+member_set : refused nested (set 1 (pulse ∷ set 1 (number 0 ∷ release ∷ []) ∷ [])) ≡ []
 member_set = refl
 
 -- [1,m] by the constant [0,.X.]
-by_constant : refused nested (set (number 1 ∷ name "m" ∷ [])) ≡ []
+by_constant : refused nested (set 1 (number 1 ∷ name 1 "m" ∷ [])) ≡ []
 by_constant = refl
 
 -- [1,0,1]: three members for two
-too_many : refused nested (set (number 1 ∷ number 0 ∷ number 1 ∷ [])) ≡ BadRow (at 1) ∷ []
+too_many : refused nested (set 1 (number 1 ∷ number 0 ∷ number 1 ∷ [])) ≡ BadRow (at 1) ∷ []
 too_many = refl
 
 -- [1]
-too_few : refused nested (set (number 1 ∷ [])) ≡ BadRow (at 1) ∷ []
+too_few : refused nested (set 1 (number 1 ∷ [])) ≡ BadRow (at 1) ∷ []
 too_few = refl
 
 -- [[1],2]: a set for one signal
-set_for_one : refused nested (set (set (number 1 ∷ []) ∷ number 2 ∷ [])) ≡ BadRow (at 1) ∷ []
+set_for_one : refused nested (set 1 (set 1 (number 1 ∷ []) ∷ number 2 ∷ [])) ≡ BadRow (at 1) ∷ []
 set_for_one = refl
 
 -- a signal is no constant, nor is a relation, nor a & 0
-signal : refused (name "e") (name "a") ≡ BadRow (at 1) ∷ []
+signal : refused (name 1 "e") (name 1 "a") ≡ BadRow (at 1) ∷ []
 signal = refl
 
-relation : refused (name "e") (both binary.Equal (number 1) (number 1)) ≡ BadRow (at 1) ∷ []
+relation : refused (name 1 "e") (both binary.Equal (number 1) (number 1)) ≡ BadRow (at 1) ∷ []
 relation = refl
 
-read : refused (name "e") (both binary.And (name "a") (number 0)) ≡ BadRow (at 1) ∷ []
+read : refused (name 1 "e") (both binary.And (name 1 "a") (number 0)) ≡ BadRow (at 1) ∷ []
 read = refl
 
 -- 1 + 2 is, and - 1
@@ -120,19 +89,19 @@ negative : refused nested (AUnary unary.Minus (at 1) (number 1)) ≡ []
 negative = refl
 
 -- what is refused inside comes alone: [1 / 0], two members too few or not
-divisor : refused nested (set (both binary.Over (number 1) (number 0) ∷ [])) ≡ ZeroDivisor (at 5) ∷ []
+divisor : refused nested (set 1 (both binary.Over (number 1) (number 0) ∷ [])) ≡ ZeroDivisor (at 5) ∷ []
 divisor = refl
 
 -- a * 2
-no_number : refused (name "e") (both binary.Times (name "a") (number 2)) ≡ NotConstant (at 5) ∷ []
+no_number : refused (name 1 "e") (both binary.Times (name 1 "a") (number 2)) ≡ NotConstant (at 5) ∷ []
 no_number = refl
 
 -- .X. + 1 stands where it may not, .C. + 1 is no constant
-unknown_sum : refused (name "e") (both binary.Plus unknown (number 1)) ≡ MisplacedSpecial (at 2) ∷ []
+unknown_sum : refused (name 1 "e") (both binary.Plus unknown (number 1)) ≡ MisplacedSpecial (at 9) ∷ []
 unknown_sum = refl
 
-pulse_sum : refused (name "e") (both binary.Plus pulse (number 1)) ≡ BadRow (at 1) ∷ []
+pulse_sum : refused (name 1 "e") (both binary.Plus pulse (number 1)) ≡ BadRow (at 1) ∷ []
 pulse_sum = refl
 
-named_pulse_sum : refused (name "e") (both binary.Plus (name "k") (number 1)) ≡ BadRow (at 1) ∷ []
+named_pulse_sum : refused (name 1 "e") (both binary.Plus (name 1 "k") (number 1)) ≡ BadRow (at 1) ∷ []
 named_pulse_sum = refl

@@ -1,5 +1,5 @@
--- What rows make and give, and a whole table.
-use Rattle.std.proofs.Common.{◌≡◌, ℕ, ◌+◌, ◌≤◌, Bool, true, false, Option, None, Some, List, [], ◌∷◌, ◌++◌, Result, length, reverse, refl, sym, ap, ap₂, ◌∙◌, subst, arith}
+-- What rows make and give, and a whole table behind its header.
+use Rattle.std.proofs.Common.{◌≡◌, ℕ, ◌+◌, ◌≤◌, Bool, true, false, Option, None, Some, List, [], ◌∷◌, ◌++◌, Result, length, reverse, refl, sym, ap, ap₂, ◌∙◌, subst, arith, map}
 use Rattle.pld_base.specs.declared.place.Place.{Place}
 use Rattle.bit_expr.specs.declared.node.ExprId.{ExprId}
 use Rattle.bit_expr.specs.Arena.{arena, formula_at}
@@ -8,14 +8,14 @@ use Rattle.bit_expr.specs.Formulas.{Formula, Const}
 use Rattle.abel_tree.specs.declared.tables.Table.{Table}
 use Rattle.abel_tree.proofs.FirstRefusals.{none_refused}
 use Rattle.abel_tree.specs.Tree.{RowTree}
-use Rattle.abel_tree.specs.View.{view}
+use Rattle.abel_tree.specs.View.{view, view_row}
 use Rattle.abel_meaning.specs.Contributions as meant
-use Rattle.abel_meaning.specs.CountedBlocks.{row_literals, rows_units}
+use Rattle.abel_meaning.specs.CountedBlocks.{row_literals, rows_units, table_units}
 use Rattle.abel_meaning.specs.Designs.{Context}
 use Rattle.abel_meaning.specs.FormulaBits.{formulas}
 use Rattle.abel_meaning.specs.Numbers.{width_of}
 use Rattle.abel_meaning.specs.Rows.{entry_levels}
-use Rattle.abel_meaning.specs.Tables.{agrees, outputs_given, rows_give}
+use Rattle.abel_meaning.specs.Tables.{agrees, outputs_given, rows_give, no_matches}
 use Rattle.abel_meaning.specs.Targets.{targets_of}
 use Rattle.abel_meaning.specs.Terms.{Term, term_of}
 use Rattle.abel_meaning.specs.Values.{constant_of}
@@ -27,19 +27,25 @@ use Rattle.set_expr.specs.Given.{view_guard}
 use Rattle.set_expr.specs.SectionOrder.{section_order}
 use Rattle.section_targets.specs.declared.aim.Aim.{Aim}
 use Rattle.section_targets.specs.Building.{IsBuilt, Builds}
-use Rattle.section_targets.specs.Units.{part}
-use Rattle.section_targets.proofs.Built.{builds_then, kept_formula}
+use Rattle.section_targets.specs.Units.{part, CountedUnit}
+use Rattle.section_targets.proofs.Built.{builds_then, kept_formula, left_empty, right_empty}
 use Rattle.section_targets.proofs.OneUnit.{one_unit}
-use Rattle.truth_tables.specs.TableUnits.{row_places, row_refused, row_units, rows_places}
+use Rattle.truth_tables.specs.TableUnits.{row_places, row_refused, row_units, rows_places, header_refused, if_none, outputs_refused, places_of, some_aims, units_behind}
 use Rattle.truth_tables.specs.declared.checked_rows.RowFound.{RowFound}
 use Rattle.truth_tables.specs.RowLevels.{IsRow}
-use Rattle.truth_tables.specs.declared.giving.Assigning.{Assigning}
 use Rattle.truth_tables.specs.Gives.{matched_guard, signals_of}
 use Rattle.truth_tables.specs.Products.{StandForInputs, header_literals, literals}
-use Rattle.truth_tables.specs.Rows.{found_work, product_work, row_work, rows_work, NamesOutputs}
+use Rattle.truth_tables.specs.Rows.{behind, found_work, nodes_behind, row_work, rows_work, NamesOutputs}
 use Rattle.truth_tables.specs.Works.{Work, before}
 use Rattle.truth_tables.proofs.ProductLaws.{in_longer}
 use Rattle.truth_tables.proofs.WorkLaws.{DoesWork, before_none, before_assoc}
+use Rattle.abel_tree.specs.FirstRefusal.{first_refusal}
+use Rattle.abel_meaning.specs.CountedNodes.{term_nodes}
+use Rattle.set_expr.specs.FoundNames.{expression_found}
+use Rattle.section_targets.specs.declared.manner.Manner.{Manner}
+use Rattle.truth_tables.specs.OutputHeaders.{output_header}
+use Rattle.truth_tables.specs.TableWalks.{given_by, places_by, units_of}
+use Rattle.truth_tables.proofs.OutputPositions.{header_signals}
 
 -- ---- products
 
@@ -81,28 +87,30 @@ product_row d g t xs n p is os ss rs =
     row_of d g t xs (n + (header_literals d (term_of d.known (view t.inputs)) is).nodes) p (header_literals d (term_of d.known (view t.inputs)) is).what os ss rs
 
 -- a row of which nothing is refused, by its levels
-pub found_row : (d : Context) (g : meant.Guard Formula) (guard : Guard) (t : Table) (xs : List (Option Aim)) (n : ℕ) (row : RowTree) (f : RowFound) → NamesOutputs d t xs
+pub found_row : (d : Context) (g : meant.Guard Formula) (t : Table) (xs : List (Option Aim)) (n : ℕ) (row : RowTree) (f : RowFound) → NamesOutputs d t xs
     → IsRow d t.clocked (term_of d.known (view t.inputs)) (term_of d.known (view t.outputs)) row f → f.fault ≡ None
-    → product_work d g (record { unit = row.place; guard = guard; clocked = t.clocked }) n (header_literals d (term_of d.known (view t.inputs)) f.inputs) xs f ≡ row_work d g t xs n row
-found_row d g guard t xs n row f names r e =
+    → found_work d g t.clocked (behind n (header_literals d (term_of d.known (view t.inputs)) f.inputs)) xs f ≡ row_work d g t xs n row
+found_row d g t xs n row f names r e =
     let h = term_of d.known (view t.inputs) in
     let is = entry_levels d h (term_of d.known row.inputs) in
     let os = entry_levels d (term_of d.known (view t.outputs)) (term_of d.known row.outputs) in
     let rs = row_refused d t.clocked h (term_of d.known (view t.outputs)) row in
     let clear = none_refused section_order rs (sym e ∙ r.fault) in
-    ap₂ (λ us vs. product_row d g t xs n row.place us vs (signals_of xs) []) (r.inputs_given e) (r.outputs_given e)
+    ap (λ p. product_row d g t xs n p f.inputs f.outputs (signals_of xs) []) r.place
+    ∙ ap₂ (λ us vs. product_row d g t xs n row.place us vs (signals_of xs) []) (r.inputs_given e) (r.outputs_given e)
     ∙ ap₂ (λ ss us. product_row d g t xs n row.place is os ss us) (sym names) (sym clear)
     ∙ ap (λ q. row_of d g t xs (n + (header_literals d h is).nodes) row.place q os (targets_of (term_of d.known (view t.outputs))) rs)
     (sym (agrees_literals d (Const true) (reverse (constant_of d h).unknown) ((formulas d).word (width_of (constant_of d h).shape) h) is))
 
 -- the outputs behind the product of a row
-pub found_built : (d : Context) (g : Guard) (m : Assigning) (made : Made Formula) (id : ExprId) (xs : List (Option Aim)) (f : RowFound) (old mid new : Contributions) (r : Result Unit SectionFault)
-    → IsBuilt (part m.unit made.nodes ∷ []) [] [] old mid → formula_at (arena mid.exprs) id ≡ made.what
-    → Builds [] (outputs_given d (matched_guard (arena mid.exprs) m.guard id) m.clocked (signals_of xs) f.outputs) (row_places xs f.outputs) mid new r
-    → DoesWork (found_work d (view_guard (arena old.exprs) m.guard) m made.nodes made.what xs f) old new r
-found_built d g m made id xs f old mid new r b e c =
-    builds_then (part m.unit made.nodes ∷ []) [] [] (outputs_given d (record { holds = made.what; dontcare = m.guard.dontcare; block = m.guard.block }) m.clocked (signals_of xs) f.outputs) [] (row_places xs f.outputs) old mid new r b
-    (subst (λ w. Builds [] (outputs_given d (record { holds = w; dontcare = m.guard.dontcare; block = m.guard.block }) m.clocked (signals_of xs) f.outputs) (row_places xs f.outputs) mid new r) e c)
+pub found_built : (d : Context) (g : Guard) (k : Bool) (made : Made Formula) (id : ExprId) (xs : List (Option Aim)) (f : RowFound) (old mid new : Contributions) (r : Result Unit SectionFault)
+    → IsBuilt (part f.place made.nodes ∷ []) [] [] old mid → formula_at (arena mid.exprs) id ≡ made.what
+    → Builds [] (outputs_given d (matched_guard (arena mid.exprs) g id) k (signals_of xs) f.outputs) (row_places xs f.outputs) mid new r
+    → DoesWork (found_work d (view_guard (arena old.exprs) g) k made xs f) old new r
+found_built d g k made id xs f old mid new r b e c =
+    let given = λ (w : Formula). outputs_given d (record { holds = w; dontcare = g.dontcare; block = g.block }) k (signals_of xs) f.outputs in
+    builds_then (part f.place made.nodes ∷ []) [] [] (given made.what) [] (row_places xs f.outputs) old mid new r b
+    (subst (λ w. Builds [] (given w) (row_places xs f.outputs) mid new r) e c)
 
 -- a part of a unit that gives something behind a part that gives nothing
 later_part : {R : Type 0} (p : Place) (m k : ℕ) (gs : List (meant.Contribution Formula)) (ps : List Place) (old mid new : Contributions) (r : Result R SectionFault) → IsBuilt (part p m ∷ []) [] [] old mid → Builds (part p k ∷ []) gs ps mid new r → Builds (part p (m + k) ∷ []) gs ps old new r
@@ -110,42 +118,30 @@ later_part p m k gs ps old mid new r b c =
     subst (λ n. Builds (part p n ∷ []) gs ps old new r) (omega arith)
     (one_unit p (part p m ∷ part p k ∷ []) gs ps old new r (refl, (refl, tt)) (builds_then (part p m ∷ []) (part p k ∷ []) [] gs [] ps old mid new r b c))
 
--- the first row behind the bits of the input header
-pub first_built : {R : Type 0} (d : Context) (h : Term) (m : Assigning) (n : ℕ) (ps : List (Option ExprId)) (xs : List (Option Aim)) (f : RowFound) (old mid new : Contributions) (r : Result R SectionFault)
-    → StandForInputs d h (arena mid.exprs) ps → IsBuilt (part m.unit n ∷ []) [] [] old mid
-    → DoesWork (found_work d (view_guard (arena mid.exprs) m.guard) m (literals (arena mid.exprs) (Const true) ps f.inputs).nodes (literals (arena mid.exprs) (Const true) ps f.inputs).what xs f) mid new r
-    → DoesWork (product_work d (view_guard (arena old.exprs) m.guard) m n (header_literals d h f.inputs) xs f) old new r
-first_built d h m n ps xs f old mid new r s b c =
-    subst (λ (made : Made Formula). DoesWork (product_work d (view_guard (arena old.exprs) m.guard) m n made xs f) old new r) (sym (s.same f.inputs))
-    (later_part m.unit n (literals (arena mid.exprs) (Const true) ps f.inputs).nodes _ (row_places xs f.outputs) old mid new r b c)
+-- a row behind the bits of the input header, which took so many nodes
+pub row_built : (d : Context) (h : Term) (g : Guard) (k : Bool) (n : ℕ) (ps : List (Option ExprId)) (xs : List (Option Aim)) (f : RowFound) (old mid new : Contributions) (r : Result Unit SectionFault)
+    → StandForInputs d h (arena mid.exprs) ps → IsBuilt (part f.place n ∷ []) [] [] old mid
+    → DoesWork (found_work d (view_guard (arena mid.exprs) g) k (literals (arena mid.exprs) (Const true) ps f.inputs) xs f) mid new r
+    → DoesWork (found_work d (view_guard (arena old.exprs) g) k (behind n (header_literals d h f.inputs)) xs f) old new r
+row_built d h g k n ps xs f old mid new r s b c =
+    subst (λ (made : Made Formula). DoesWork (found_work d (view_guard (arena old.exprs) g) k (behind n made) xs f) old new r) (sym (s.same f.inputs))
+    (later_part f.place n (literals (arena mid.exprs) (Const true) ps f.inputs).nodes _ (row_places xs f.outputs) old mid new r b c)
 
--- a row behind the first
-pub row_built : (d : Context) (fs : List Formula) (guard : Guard) (t : Table) (xs : List (Option Aim)) (ps : List (Option ExprId)) (row : RowTree) (f : RowFound) (old new : Contributions) (r : Result Unit SectionFault) → NamesOutputs d t xs
-    → IsRow d t.clocked (term_of d.known (view t.inputs)) (term_of d.known (view t.outputs)) row f → f.fault ≡ None → StandForInputs d (term_of d.known (view t.inputs)) fs ps
-    → DoesWork (found_work d (view_guard fs guard) (record { unit = row.place; guard = guard; clocked = t.clocked }) (literals fs (Const true) ps f.inputs).nodes (literals fs (Const true) ps f.inputs).what xs f) old new r
-    → DoesWork (row_work d (view_guard fs guard) t xs 0 row) old new r
-row_built d fs guard t xs ps row f old new r names i e s b =
-    let m : Assigning = record { unit = row.place; guard = guard; clocked = t.clocked } in
-    let made = literals fs (Const true) ps f.inputs in
-    let counted : made.nodes ≡ 0 + made.nodes = omega arith in
-    subst (λ (w : Work). DoesWork w old new r) (found_row d (view_guard fs guard) guard t xs 0 row f names i e)
-    (subst (λ (x : Made Formula). DoesWork (product_work d (view_guard fs guard) m 0 x xs f) old new r) (sym (s.same f.inputs))
-    (subst (λ n. DoesWork (found_work d (view_guard fs guard) m n made.what xs f) old new r) counted b))
-
--- rows give the same over any arena
-pub rows_any : (d : Context) (fs hs : List Formula) (g : Guard) (t : Table) (xs : List (Option Aim)) (n : ℕ) (rows : List RowTree) → rows_work d (view_guard fs g) t xs n rows ≡ rows_work d (view_guard hs g) t xs n rows
-rows_any d fs hs g t xs n [] = refl
-rows_any d fs hs g t xs n (row ∷ rows) = ap (before (row_work d (view_guard fs g) t xs n row)) (rows_any d fs hs g t xs 0 rows)
+-- no row behind others has nodes of the input header
+pub none_behind : (n : ℕ) (rows : List RowTree) (row : RowTree) → nodes_behind n (rows ++ row ∷ []) ≡ 0
+none_behind n [] row = refl
+none_behind n (r ∷ rows) row = refl
 
 -- one row more
-pub rows_more : (d : Context) (g : meant.Guard Formula) (t : Table) (xs : List (Option Aim)) (rows more : List RowTree) (row : RowTree) → more ≡ rows ++ row ∷ [] → rows_work d g t xs 0 more ≡ before (rows_work d g t xs 0 rows) (row_work d g t xs 0 row)
-rows_more d g t xs rows more row e = ap (rows_work d g t xs 0) e ∙ by_rows rows
+pub rows_more : (d : Context) (g : meant.Guard Formula) (t : Table) (xs : List (Option Aim)) (n : ℕ) (rows : List RowTree) (row : RowTree) → rows_work d g t xs n (rows ++ row ∷ []) ≡ before (rows_work d g t xs n rows) (row_work d g t xs (nodes_behind n rows) row)
+rows_more d g t xs n [] row = before_none (row_work d g t xs n row)
+rows_more d g t xs n (r ∷ rows) row =
+    ap (before (row_work d g t xs n r)) (rows_more d g t xs 0 rows row ∙ ap (λ m. before (rows_work d g t xs 0 rows) (row_work d g t xs m row)) (no_nodes rows))
+    ∙ sym (before_assoc (row_work d g t xs n r) (rows_work d g t xs 0 rows) (row_work d g t xs 0 row))
   where
-    by_rows : (rs : List RowTree) → rows_work d g t xs 0 (rs ++ row ∷ []) ≡ before (rows_work d g t xs 0 rs) (row_work d g t xs 0 row)
-    by_rows [] = before_none (row_work d g t xs 0 row)
-    by_rows (r ∷ rs) =
-        ap (before (row_work d g t xs 0 r)) (by_rows rs)
-        ∙ sym (before_assoc (row_work d g t xs 0 r) (rows_work d g t xs 0 rs) (row_work d g t xs 0 row))
+    no_nodes : (rs : List RowTree) → nodes_behind 0 rs ≡ 0
+    no_nodes [] = refl
+    no_nodes (q ∷ rs) = refl
 
 -- ---- all rows
 
@@ -160,3 +156,43 @@ rows_gives_of d g t xs n (row ∷ rows) = ap (λ gs. (row_work d g t xs n row).g
 pub rows_places_of : (d : Context) (g : meant.Guard Formula) (t : Table) (xs : List (Option Aim)) (n : ℕ) (rows : List RowTree) → (rows_work d g t xs n rows).places ≡ rows_places d xs (term_of d.known (view t.outputs)) rows
 rows_places_of d g t xs n [] = refl
 rows_places_of d g t xs n (row ∷ rows) = ap (λ ps. (row_work d g t xs n row).places ++ ps) (rows_places_of d g t xs 0 rows)
+
+-- a header of which nothing is refused
+pub inputs_clear : (d : Context) (before : List Manner) (t : Table) → None ≡ first_refusal section_order (header_refused d before t.clocked (view t.inputs) (view t.outputs)) → (expression_found d.names (view t.inputs)).refusals ≡ []
+inputs_clear d before t e =
+    left_empty (expression_found d.names (view t.inputs)).refusals (outputs_refused d before t.clocked (output_header d (view t.outputs)))
+    (none_refused section_order (header_refused d before t.clocked (view t.inputs) (view t.outputs)) e)
+
+neither : (rs more : List SectionFault) → if_none rs more ≡ [] → rs ≡ []
+neither [] more e = refl
+neither (r ∷ rs) more e = absurd cc
+
+pub outputs_named : (d : Context) (before : List Manner) (t : Table) (xs : List (Option Aim)) → xs ≡ (output_header d (view t.outputs)).outputs → None ≡ first_refusal section_order (header_refused d before t.clocked (view t.inputs) (view t.outputs)) → NamesOutputs d t xs
+outputs_named d before t xs h e =
+    let x = output_header d (view t.outputs) in
+    header_signals d (view t.outputs)
+    (neither x.refusals _ (right_empty (expression_found d.names (view t.inputs)).refusals (outputs_refused d before t.clocked x)
+    (none_refused section_order (header_refused d before t.clocked (view t.inputs) (view t.outputs)) e)))
+    ∙ ap signals_of (sym h)
+
+-- the works of a table are its units, and what it gives
+pub table_works : (P : List CountedUnit → List (meant.Contribution Formula) → List Place → Type 0) (d : Context) (all : List Manner) (fs : List Formula) (g : Guard) (t : Table) (xs : List (Option Aim)) → NamesOutputs d t xs → xs ≡ (output_header d (view t.outputs)).outputs
+    → None ≡ first_refusal section_order (header_refused d all t.clocked (view t.inputs) (view t.outputs))
+    → P (rows_work d (view_guard fs g) t xs (term_nodes d (view t.inputs)) (map view_row t.rows)).units
+    (no_matches (formulas d) d (view_guard fs g) false t.clocked (signals_of xs) ++ (rows_work d (view_guard fs g) t xs (term_nodes d (view t.inputs)) (map view_row t.rows)).gives)
+    (places_of (some_aims xs) ++ (rows_work d (view_guard fs g) t xs (term_nodes d (view t.inputs)) (map view_row t.rows)).places)
+    → P (units_of d all t) (given_by d g t fs) (places_by d t)
+table_works P d all fs g t xs names outputs e b =
+    let n = term_nodes d (view t.inputs) in
+    let i = term_of d.known (view t.inputs) in
+    let o = term_of d.known (view t.outputs) in
+    let rows = map view_row t.rows in
+    let h = view_guard fs g in
+    let us = row_units d t.clocked i o rows (table_units d (view t.inputs) rows) in
+    let free : units_of d all t ≡ us = ap (λ rs. units_behind rs t.place us) (none_refused section_order (header_refused d all t.clocked (view t.inputs) (view t.outputs)) e) in
+    let units : (rows_work d h t xs n rows).units ≡ units_of d all t = rows_units_of d h t xs n rows ∙ sym free in
+    let gives = ap₂ (λ ss gs. no_matches (formulas d) d h false t.clocked ss ++ gs) (sym names) (rows_gives_of d h t xs n rows) in
+    let places : places_of (some_aims xs) ++ (rows_work d h t xs n rows).places ≡ places_by d t = ap (λ ps. places_of (some_aims xs) ++ ps) (rows_places_of d h t xs n rows) ∙ ap (λ ys. places_of (some_aims ys) ++ rows_places d ys o rows) outputs in
+    subst (λ ps. P (units_of d all t) (given_by d g t fs) ps) places
+    (subst (λ gs. P (units_of d all t) gs (places_of (some_aims xs) ++ (rows_work d h t xs n rows).places)) gives
+    (subst (λ vs. P vs (no_matches (formulas d) d h false t.clocked (signals_of xs) ++ (rows_work d h t xs n rows).gives) (places_of (some_aims xs) ++ (rows_work d h t xs n rows).places)) units b))

@@ -1,12 +1,13 @@
 -- Walks over the rows of a table, part by part.
-use Rattle.std.proofs.Common.{◌≡◌, ℕ, ◌+◌, ◌<◌, Bool, true, false, Option, None, Some, List, [], ◌∷◌, ◌++◌, if◌then◌else◌, Result, length, refl, sym, ap, ◌∙◌, subst, arith, append-nil}
+use Rattle.std.proofs.Common.{◌≡◌, ℕ, ◌+◌, Bool, true, false, Option, None, Some, List, [], ◌∷◌, ◌++◌, if◌then◌else◌, Result, Ok, Err, refl, sym, ap, ◌∙◌, subst, append-nil}
 use Rattle.std.specs.Option.{is_some}
+use Rattle.std.specs.Result.{OnOk}
+use Rattle.std.specs.Global.{Vec}
 use Rattle.pld_base.specs.declared.place.Place.{Place}
 use Rattle.pld_device.specs.Table as device
-use Rattle.bit_expr.specs.Arena.{arena}
+use Rattle.bit_expr.specs.declared.node.ExprId.{ExprId}
 use Rattle.bit_expr.specs.Formulas.{Formula}
 use Rattle.abel_tree.specs.declared.names.Names.{Names}
-use Rattle.abel_tree.specs.declared.tables.Row.{Row}
 use Rattle.abel_tree.specs.declared.tables.Table.{Table}
 use Rattle.abel_tree.specs.FirstRefusal.{earlier, first_refusal, is_before}
 use Rattle.abel_tree.proofs.FirstRefusals.{none_refused}
@@ -17,7 +18,6 @@ use Rattle.abel_meaning.specs.Contributions as meant
 use Rattle.abel_meaning.specs.Designs.{Context}
 use Rattle.abel_meaning.specs.Terms.{term_of}
 use Rattle.set_expr.specs.declared.fault.SectionFault.{SectionFault}
-use Rattle.set_expr.specs.Answer.{Keeps}
 use Rattle.set_expr.specs.SectionOrder.{section_order}
 use Rattle.section_targets.specs.declared.aim.Aim.{Aim}
 use Rattle.section_targets.specs.declared.manner.Manner.{Manner}
@@ -26,18 +26,23 @@ use Rattle.set_expr.specs.Contexts.{context_for}
 use Rattle.section_targets.specs.Manners.{AreFirsts}
 use Rattle.section_targets.specs.Units.{CountedUnit, units_refused}
 use Rattle.section_targets.specs.Walking.{AfterMaking, Walks, standing}
-use Rattle.section_targets.proofs.WalksBehind.{both_clear, clear_before, walks_alike, walks_made, walks_none, walks_refused, walks_then}
+use Rattle.section_targets.proofs.WalksBehind.{both_clear, walks_alike, walks_made, walks_none, walks_refused, walks_then}
 use Rattle.equations.proofs.BuiltParts.{whole}
+use Rattle.equations.proofs.WalkedUnits.{limit_kept, unit_refused}
 use Rattle.truth_tables.specs.EntryTerms.{IsOver}
-use Rattle.truth_tables.specs.declared.row_walks.Headed.{Headed}
-use Rattle.truth_tables.specs.RowWalks.{WalksRows, WalksWork}
+use Rattle.truth_tables.specs.declared.rows.Headed.{Headed}
+use Rattle.truth_tables.specs.RowWalks.{WalksWork, nodes_left}
 use Rattle.truth_tables.specs.Rows.{row_work}
 use Rattle.truth_tables.specs.TableUnits.{row_refused, units_behind}
-use Rattle.truth_tables.specs.Works.{Work, before, given_freely, nothing}
+use Rattle.truth_tables.specs.Works.{Work, before, given_freely}
 use Rattle.truth_tables.proofs.WorkLaws.{DoesWork}
 
 pub is_over : (v : device.Table) (n : Names) → IsOver n (context_for v n)
 is_over v n = record { names = refl; known = refl }
+
+-- the names of a scope are those of the scope that was asked for them
+pub over_same : (v : device.Table) (m n : Names) → m ≡ n → IsOver m (context_for v n)
+over_same v m n e = subst (λ k. IsOver m (context_for v k)) e (is_over v m)
 
 pub no_fault : (f : Option SectionFault) → is_some f ≡ false → f ≡ None
 no_fault None e = refl
@@ -58,21 +63,10 @@ some_refused (Some f) x = by_order (is_before section_order x f)
 
 -- ---- works
 
-pub work_none : (out : Walked) → WalksWork nothing out out
-work_none out = λ all a. walks_none all out a
-
 pub work_then : (v w : Work) (old mid new : Walked) → WalksWork v old mid → WalksWork w mid new → WalksWork (before v w) old new
 work_then v w old mid new a b = λ all x.
     let front = a all x in
     walks_then all [] [] v.units w.units v.gives w.gives v.places w.places old mid new front (b (all ++ []) front.manners)
-
--- nothing was refused before a work of which nothing is refused
-pub work_clear : (w : Work) (old new : Walked) → WalksWork w old new → new.fault ≡ None → old.fault ≡ None
-work_clear w old new a e = clear_before old.fault _ w.units (sym e ∙ (a old.before (λ s p. refl)).fault)
-
--- the nodes before it stand
-pub work_keeps : (w : Work) (old new : Walked) → WalksWork w old new → Keeps (arena old.exprs) (arena new.exprs)
-work_keeps w old new a = (a old.before (λ s p. refl)).keeps
 
 -- what is given without nodes counts only where nothing is refused
 pub free_refused : (gs : List (meant.Contribution Formula)) (ps : List Place) (out : Walked) → is_some out.fault ≡ true → WalksWork (given_freely gs ps) out out
@@ -89,6 +83,21 @@ work_made w old made new r o m e b h k = λ all a.
     walks_made all [] w.units w.gives w.places old made new r o m e
     (subst (λ ms. AreFirsts ms (all ++ [])) (sym b) (subst (AreFirsts old.before) (sym (append-nil all)) a)) h k
 
+-- making a unit changes nothing behind it but what is refused
+pub after_exprs : (r : Result Unit SectionFault) (made new : Walked) → AfterMaking r made new → new.exprs ≡ made.exprs
+after_exprs (Ok t) made new k = ap (λ (w : Walked). w.exprs) k
+after_exprs (Err f) made new k = ap (λ (w : Walked). w.exprs) k.1
+
+-- what holds of a unit that was made holds where nothing is refused
+pub after_made : {P : Type 0} (r : Result Unit SectionFault) (made new : Walked) → AfterMaking r made new → new.fault ≡ None → OnOk r P → P
+after_made (Ok t) made new k e p = p
+after_made (Err f) made new k e p = absurd (limit_kept f made new k e)
+
+-- bits that are there aren't left to make
+pub none_left : {D : Type 0} (v : device.Table) (h : Headed D) (made : Option (Vec (Option ExprId))) → is_some made ≡ true → nodes_left v h made ≡ 0
+none_left v h None e = absurd cc
+none_left v h (Some ps) e = refl
+
 -- ---- rows
 
 -- what is left behind the check of a row
@@ -104,12 +113,8 @@ pub row_stands : (d : Context) (g : meant.Guard Formula) (t : Table) (xs : List 
     → IsFound d t row fault → Refused old fault new → is_some new.fault ≡ true → WalksWork (row_work d g t xs n row) old new
 row_stands d g t xs n row fault old new e kept s = λ all a.
     let i = term_of d.known (view t.inputs) in
-    let rs = row_refused d t.clocked i (term_of d.known (view t.outputs)) row in
     let w = row_work d g t xs n row in
-    walks_refused all [] (whole row.place rs (n + row_nodes d i row)) w.gives w.places fault old new
-    (e ∙ ap (first_refusal section_order) (sym (append-nil rs)))
-    (ap (λ (x : Walked). x.fault) kept) s (ap (λ (x : Walked). x.exprs) kept)
-    (subst (λ (x : Walked). AreFirsts x.before (all ++ [])) (sym kept) (subst (AreFirsts old.before) (sym (append-nil all)) a))
+    unit_refused all (whole row.place (row_refused d t.clocked i (term_of d.known (view t.outputs)) row) (n + row_nodes d i row)) w.gives w.places fault old new e kept s a
 
 -- a row of which nothing is refused, nor of what stands before it
 pub row_accepted : (fault : Option SectionFault) (old now : Walked) → Refused old fault now → is_some now.fault ≡ false → (old.fault ≡ None) × (fault ≡ None)
@@ -125,11 +130,6 @@ row_made d g t xs n row fault old now made new r e kept s f b h k =
     (append-nil rs ∙ none_refused section_order rs (sym clear.1 ∙ e))
     (b ∙ ap (λ (x : Walked). x.before) kept)
     (subst (λ c. DoesWork (row_work d g t xs n row) c (standing made) r) (ap standing kept) h) k
-
--- no row at all
-pub no_row : (v : device.Table) (n : Names) (h : Headed) (nodes : ℕ) (rows : List Row) (out : Walked) → length rows < 1 → WalksRows v n h nodes rows out out
-no_row v n h nodes [] out e = work_none out
-no_row v n h nodes (row ∷ rows) out e = absurd (omega (arith, e))
 
 -- ---- a header
 

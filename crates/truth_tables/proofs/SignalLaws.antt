@@ -12,7 +12,7 @@ use Rattle.expr_bits.specs.Members.{list_of, each_extended}
 use Rattle.truth_tables.specs.HeaderSignals.{names_positions, all_name_positions}
 use Rattle.truth_tables.specs.PartTerms.{AreParts, is_operand}
 use Rattle.truth_tables.specs.SignalTerms.{IsListed}
-use Rattle.truth_tables.proofs.Operands.{operand_case}
+use Rattle.truth_tables.proofs.PartLaws.{operand_case}
 use Rattle.expr_bits.proofs.Extensions.{all_extended, set_extended, list_extended}
 use Rattle.truth_tables.proofs.PartSums.{set_fewer, some_parts}
 

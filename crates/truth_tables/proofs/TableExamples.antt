@@ -1,61 +1,28 @@
--- What is refused of truth tables, by computation. a and b are pins, Y and Z outputs, R a registered output, c is the
+-- What is refused of truth tables, by computation. a and b are pins, Y and Z outputs, c is the
 -- constant [Y,Z], x is .X., k is .C.; the header stands on line 2, its outputs in its columns.
-use Prim.Native.String.{String}
-use Rattle.std.specs.Prelude.{◌≡◌, ℕ, Bool, true, false, None, Some, List, [], ◌∷◌, codes}
+use Rattle.std.specs.Prelude.{◌≡◌, ℕ, true, false, None, Some, List, [], ◌∷◌, codes}
 use Rattle.std.proofs.Common.{refl}
 use Rattle.pld_base.specs.declared.place.Place.{Place}
 use Rattle.pld_device.specs.SampleTable.{sample}
 use Rattle.abel_tree.specs.declared.words.Extension.TheVariants as extension
-use Rattle.abel_tree.specs.Entries.{Kind, APin, AConstant, Words, Entry}
-use Rattle.abel_tree.specs.Tree.{Tree, ANumber, ASpecial, AName, ASet, SetMember, OneMember, members_of, RowTree}
+use Rattle.abel_tree.specs.Entries.{APin, Entry}
+use Rattle.abel_tree.specs.Tree.{Tree, AName, RowTree}
 use Rattle.abel_meaning.specs.Designs.{Context, context_of}
 use Rattle.set_expr.specs.declared.fault.SectionFault.{SectionFault}
 use Rattle.set_expr.specs.declared.fault.SectionFault.TheVariants.{MisplacedSpecial, NotAnOutput, MixedAssignment, BadRow}
 use Rattle.section_targets.specs.declared.manner.Manner.{Manner}
 use Rattle.section_targets.specs.Units.{units_refused}
 use Rattle.truth_tables.specs.TableUnits.{units_of_table}
+use Rattle.truth_tables.proofs.ExampleTrees.{at, constant, declared, name, number, pulse, set, unknown}
 
--- a line's first column, and a column of the header
+-- a line's first column
 abbrev row_at : ℕ → Place
 row_at l = record { line = l; column = 1 }
 
-abbrev at : ℕ → Place
-at c = record { line = 2; column = c }
-
-abbrev number : ℕ → Tree
-number n = ANumber (record { value = n; place = at 1 })
-
-abbrev name : ℕ → String → Tree
-name c text = AName (record { text = codes text; place = at c }) None
-
-abbrev ones : List Tree → List SetMember
-ones [] = []
-ones (t ∷ ts) = OneMember t ∷ ones ts
-
-abbrev set : ℕ → List Tree → Tree
-set c ts = ASet (at c) (members_of (ones ts)) None
-
-abbrev unknown : Tree
-unknown = ASpecial 88 (at 9)
-
-abbrev pulse : Tree
-pulse = ASpecial 67 (at 9)
-
-abbrev words : (registered : Bool) → Words
-words true = record { combinational = false; registered = true; buffer = false; invert = true; dc = false }
-words false = record { combinational = true; registered = false; buffer = false; invert = true; dc = false }
-
-abbrev declared : String → Kind → (registered assigned : Bool) → Entry
-declared text kind registered assigned =
-    record { name = codes text; place = at 1; kind = kind; words = words registered; assigned = assigned }
-
-abbrev constant : String → Tree → Entry
-constant text t = declared text (AConstant t) false false
-
 abbrev names : List Entry
 names =
-    declared "a" (APin 1 false) false false ∷ declared "b" (APin 2 false) false false
-    ∷ declared "Y" (APin 8 false) false true ∷ declared "Z" (APin 9 false) false true
+    declared "a" (APin 1 false) false ∷ declared "b" (APin 2 false) false
+    ∷ declared "Y" (APin 8 false) true ∷ declared "Z" (APin 9 false) true
     ∷ constant "c" (set 1 (name 1 "Y" ∷ name 1 "Z" ∷ [])) ∷ constant "x" unknown ∷ constant "k" pulse ∷ []
 
 abbrev design : Context

@@ -1,5 +1,5 @@
 -- Works that are built one after another.
-use Rattle.std.proofs.Common.{◌≡◌, ℕ, List, [], ◌∷◌, Result, Ok, Err, length, refl, sym, ap, ◌∙◌, subst, arith, append_assoc, append-nil}
+use Rattle.std.proofs.Common.{◌≡◌, List, [], ◌∷◌, Result, Ok, Err, length, refl, sym, ap, ◌∙◌, subst, arith, append_assoc, append-nil}
 use Rattle.pld_base.specs.declared.place.Place.{Place}
 use Rattle.bit_expr.specs.Arena.{arena}
 use Rattle.bit_expr.specs.Formulas.{Formula}
@@ -43,6 +43,15 @@ pub begun_stops : (all step rest : Work) (old mid new : Contributions) (f : Sect
 begun_stops all step rest old mid new f b s =
     subst (λ (w : Work). StopsWith w.units w.gives w.places old new f) (sym b.whole)
     (step_then {R = Unit} b.front (before step rest) old mid new (Err f) b.done (step_stops step rest mid new f s))
+
+-- what is left by a step, whether it is made or stops
+abbrev pub AfterStep : {R : Type 0} → (all rest : Work) → (old new : Contributions) → Result R SectionFault → Type 0
+AfterStep all rest old new (Ok t) = IsBegun all rest old new
+AfterStep all rest old new (Err f) = StopsWith all.units all.gives all.places old new f
+
+pub begun_step : {R : Type 0} (all step rest : Work) (old mid new : Contributions) (r : Result R SectionFault) → IsBegun all (before step rest) old mid → DoesWork step mid new r → AfterStep all rest old new r
+begun_step all step rest old mid new (Ok t) b s = begun_next all step rest old mid new b s
+begun_step all step rest old mid new (Err f) b s = begun_stops all step rest old mid new f b s
 
 pub begun_done : (all rest : Work) (old new : Contributions) → rest ≡ nothing → IsBegun all rest old new → IsDone all old new
 begun_done all rest old new e b = subst (λ (w : Work). IsDone w old new) (sym (b.whole ∙ ap (before b.front) e ∙ before_none b.front)) b.done

@@ -10,7 +10,7 @@ use Rattle.set_expr.specs.SectionOrder.{section_order}
 use Rattle.truth_tables.specs.declared.mark.Mark.{Mark}
 use Rattle.truth_tables.specs.EntryMarks.{view_mark}
 use Rattle.truth_tables.specs.TableUnits.{level_refused, row_refused}
-use Rattle.truth_tables.specs.declared.levels.Levels.{Levels}
+use Rattle.truth_tables.specs.declared.checked_rows.Levels.{Levels}
 use Rattle.truth_tables.specs.declared.checked_rows.RowFound.{RowFound}
 
 -- the levels of marks, none at X
@@ -24,6 +24,7 @@ pub record IsLevels (d : Context) (r : SectionFault) (header : Term) (entry : Tr
 
 -- a row under both sides of its header
 pub record IsRow (d : Context) (clocked : Bool) (inputs outputs : Term) (row : RowTree) (f : RowFound) : Type 0 where
+  pub place : f.place ≡ row.place
   pub fault : f.fault ≡ first_refusal section_order (row_refused d clocked inputs outputs row)
   pub inputs_given : f.fault ≡ None → f.inputs ≡ entry_levels d inputs (term_of d.known row.inputs)
   pub outputs_given : f.fault ≡ None → f.outputs ≡ entry_levels d outputs (term_of d.known row.outputs)

@@ -1,74 +1,109 @@
--- Private: what walks over the rows of a table leave (ABEL-HDL Reference Manual, truth tables).
-use Rattle.std.specs.Prelude.{◌≡◌, ℕ, false, Option, None, List, [], length, map}
+-- Private: what making the rows of a table and walks over them leave (ABEL-HDL Reference Manual, truth tables).
+use Rattle.std.specs.Prelude.{◌≡◌, ℕ, false, true, Option, None, Some, List, [], length, map, Result}
+use Rattle.std.specs.Global.{Vec}
 use Rattle.pld_device.specs.Table as device
 use Rattle.bit_expr.specs.declared.node.ExprId.{ExprId}
+use Rattle.bit_expr.specs.declared.node.Node.{Node}
 use Rattle.bit_expr.specs.Arena.{arena}
-use Rattle.abel_tree.specs.declared.names.Names.{Names}
+use Rattle.bit_expr.specs.Formulas.{Const}
 use Rattle.abel_tree.specs.declared.tables.Row.{Row}
 use Rattle.abel_tree.specs.Entries.{entries_of}
+use Rattle.abel_tree.specs.Tree.{RowTree}
 use Rattle.abel_tree.specs.View.{view, view_row}
 use Rattle.abel_meaning.specs.CountedNodes.{term_nodes}
+use Rattle.abel_meaning.specs.Designs.{Context}
 use Rattle.abel_meaning.specs.FormulaBits.{formulas}
 use Rattle.abel_meaning.specs.Tables.{no_matches}
-use Rattle.abel_meaning.specs.Terms.{term_of}
+use Rattle.abel_meaning.specs.Terms.{Term, term_of}
+use Rattle.set_expr.specs.declared.contributions.Contribution.{Contribution}
+use Rattle.set_expr.specs.declared.fault.SectionFault.{SectionFault}
 use Rattle.set_expr.specs.Answer.{refusal_of}
+use Rattle.set_expr.specs.Contexts.{context_for}
 use Rattle.set_expr.specs.Given.{view_guard}
 use Rattle.section_targets.specs.declared.manner.Manner.{Manner}
 use Rattle.section_targets.specs.declared.walked.Walked.{Walked}
-use Rattle.set_expr.specs.Contexts.{context_for}
 use Rattle.section_targets.specs.Given.{AreNamed}
 use Rattle.section_targets.specs.Manners.{AreFirsts}
 use Rattle.section_targets.specs.Walking.{Walks}
-use Rattle.truth_tables.specs.declared.row_walks.Headed.{Headed}
+use Rattle.truth_tables.specs.declared.checked_rows.RowFound.{RowFound}
+use Rattle.truth_tables.specs.declared.rows.Headed.{Headed}
 use Rattle.truth_tables.specs.Gives.{signals_of}
-use Rattle.truth_tables.specs.Products.{StandForInputs}
-use Rattle.truth_tables.specs.Rows.{NamesOutputs, row_work, rows_work}
+use Rattle.truth_tables.specs.Products.{StandForInputs, header_literals, literals}
+use Rattle.truth_tables.specs.Rows.{Does, NamesOutputs, behind, found_work, row_work, rows_work}
 use Rattle.truth_tables.specs.TableUnits.{places_of, some_aims}
 use Rattle.truth_tables.specs.Works.{Work, before, given_freely}
 
+-- the design of a table on a device, and the input header
+abbrev pub design_of : {D : Type 0} → device.Table → Headed D → Context
+design_of v h = context_for v h.scope.now
+
+abbrev pub inputs_term : {D : Type 0} → device.Table → Headed D → Term
+inputs_term v h = term_of (design_of v h).known (view h.table.now.inputs)
+
+abbrev pub inputs_nodes : {D : Type 0} → device.Table → Headed D → ℕ
+inputs_nodes v h = term_nodes (design_of v h) (view h.table.now.inputs)
+
 -- neither side of the header is refused, and these are its outputs
-pub record IsAccepted (v : device.Table) (n : Names) (h : Headed) : Type 0 where
-  pub inputs : refusal_of n (view h.table.now.inputs) ≡ None
-  pub signals : AreNamed (length (entries_of n)) (some_aims h.outputs.now)
-  pub named : NamesOutputs (context_for v n) h.table.now h.outputs.now
+pub record IsAccepted {D : Type 0} (v : device.Table) (h : Headed D) : Type 0 where
+  pub inputs : refusal_of h.scope.now (view h.table.now.inputs) ≡ None
+  pub signals : AreNamed (length (entries_of h.scope.now)) (some_aims h.outputs.now)
+  pub named : NamesOutputs (design_of v h) h.table.now h.outputs.now
 
--- where nothing is refused these are the bits of the input header
-abbrev pub HasInputs : device.Table → Names → Headed → List (Option ExprId) → Walked → Type 0
-HasInputs v n h ps out =
-    out.fault ≡ None
-    → StandForInputs (context_for v n) (term_of (context_for v n).known (view h.table.now.inputs)) (arena out.exprs) ps
+-- bits that were made are those of the input header
+abbrev pub HasInputs : {D : Type 0} → device.Table → Headed D → Option (Vec (Option ExprId)) → List Node → Type 0
+HasInputs v h None ns = Unit {0}
+HasInputs v h (Some ps) ns = StandForInputs (design_of v h) (inputs_term v h) (arena ns) ps.items
 
--- ---- what is left
+-- those that weren't are left to make
+abbrev pub nodes_left : {D : Type 0} → device.Table → Headed D → Option (Vec (Option ExprId)) → ℕ
+nodes_left v h None = inputs_nodes v h
+nodes_left v h (Some ps) = 0
+
+-- ---- what is left by making rows
+
+-- by the bits of the input header, over every design of these names
+abbrev pub GivesFound : {D : Type 0} → Headed D → List (Option ExprId) → RowFound → (old new : List Node)
+    → (list more : List Contribution) → Result Unit SectionFault → Type 0
+GivesFound h ps f old new list more r =
+    (d : Context) → d.names ≡ entries_of h.scope.now
+    → Does (found_work d (view_guard (arena old) h.guard) h.table.now.clocked (literals (arena old) (Const true) ps f.inputs) h.outputs.now f)
+    old new list more r
+
+-- with so many nodes of the input header before its own
+abbrev pub GivesRow : {D : Type 0} → device.Table → Headed D → (nodes : ℕ) → RowFound → (old new : Walked)
+    → Result Unit SectionFault → Type 0
+GivesRow v h n f old new r =
+    Does
+    (found_work (design_of v h) (view_guard (arena old.exprs) h.guard) h.table.now.clocked
+    (behind n (header_literals (design_of v h) (inputs_term v h) f.inputs)) h.outputs.now f)
+    old.exprs new.exprs old.list.items new.list.items r
+
+-- ---- what is left by walks
 
 -- a work that assigns no more signals
 abbrev pub WalksWork : Work → (old new : Walked) → Type 0
 WalksWork w old new = (all : List Manner) → AreFirsts old.before all → Walks all w.units w.gives w.places [] old new
 
 -- no match for each output
-abbrev pub no_matches_work : device.Table → Names → Headed → Walked → Work
-no_matches_work v n h out =
+abbrev pub no_matches_work : {D : Type 0} → device.Table → Headed D → Walked → Work
+no_matches_work v h out =
     given_freely
-    (no_matches (formulas (context_for v n)) (context_for v n) (view_guard (arena out.exprs) h.guard) false h.table.now.clocked (signals_of h.outputs.now))
+    (no_matches (formulas (design_of v h)) (design_of v h) (view_guard (arena out.exprs) h.guard) false h.table.now.clocked (signals_of h.outputs.now))
     (places_of (some_aims h.outputs.now))
 
-abbrev pub WalksNoMatches : device.Table → Names → Headed → (old new : Walked) → Type 0
-WalksNoMatches v n h old new = WalksWork (no_matches_work v n h old) old new
+abbrev pub WalksNoMatches : {D : Type 0} → device.Table → Headed D → (old new : Walked) → Type 0
+WalksNoMatches v h old new = WalksWork (no_matches_work v h old) old new
 
--- a row with the nodes of the input header before its own
-abbrev pub WalksRow : device.Table → Names → Headed → (nodes : ℕ) → Row → (old new : Walked) → Type 0
-WalksRow v n h m row old new =
-    WalksWork (row_work (context_for v n) (view_guard (arena old.exprs) h.guard) h.table.now h.outputs.now m (view_row row)) old new
+-- a row with so many nodes of the input header before its own
+abbrev pub WalksRow : {D : Type 0} → device.Table → Headed D → (nodes : ℕ) → Row → (old new : Walked) → Type 0
+WalksRow v h n row old new =
+    WalksWork (row_work (design_of v h) (view_guard (arena old.exprs) h.guard) h.table.now h.outputs.now n (view_row row)) old new
 
--- rows, the first of which has so many nodes of the input header
-abbrev pub WalksRows : device.Table → Names → Headed → (nodes : ℕ) → List Row → (old new : Walked) → Type 0
-WalksRows v n h m rows old new =
-    WalksWork (rows_work (context_for v n) (view_guard (arena old.exprs) h.guard) h.table.now h.outputs.now m (map view_row rows)) old new
+-- a table behind its header, as far as these rows
+abbrev pub headed_work : {D : Type 0} → device.Table → Headed D → Walked → List RowTree → Work
+headed_work v h out rows =
+    before (no_matches_work v h out)
+    (rows_work (design_of v h) (view_guard (arena out.exprs) h.guard) h.table.now h.outputs.now (inputs_nodes v h) rows)
 
--- a table behind its header
-abbrev pub WalksHeaded : device.Table → Names → Headed → (old new : Walked) → Type 0
-WalksHeaded v n h old new =
-    WalksWork
-    (before (no_matches_work v n h old)
-    (rows_work (context_for v n) (view_guard (arena old.exprs) h.guard) h.table.now h.outputs.now
-    (term_nodes (context_for v n) (view h.table.now.inputs)) (map view_row h.table.now.rows)))
-    old new
+abbrev pub WalksHeaded : {D : Type 0} → device.Table → Headed D → (old new : Walked) → Type 0
+WalksHeaded v h old new = WalksWork (headed_work v h old (map view_row h.table.now.rows)) old new

@@ -1,6 +1,7 @@
 -- The units of a truth table, with what is refused of each and the nodes that it makes (ABEL-HDL Reference Manual, truth
 -- tables; units are this project's rule).
 use Rattle.std.specs.Prelude.{ℕ, Bool, false, Option, None, Some, List, [], ◌∷◌, ◌++◌, map, if◌then◌else◌}
+use Rattle.std.specs.List.{filter_map}
 use Rattle.pld_base.specs.declared.place.Place.{Place}
 use Rattle.abel_tree.specs.Tree.{Tree, RowTree}
 use Rattle.bit_expr.specs.Formulas.{differ}
@@ -20,9 +21,7 @@ use Rattle.truth_tables.specs.OutputHeaders.{HeaderFound, output_header}
 
 -- the outputs alone
 abbrev pub some_aims : List (Option Aim) → List Aim
-some_aims [] = []
-some_aims (None ∷ xs) = some_aims xs
-some_aims (Some a ∷ xs) = a ∷ some_aims xs
+some_aims xs = filter_map (λ (x : Option Aim). x) xs
 
 abbrev pub if_none : List SectionFault → List SectionFault → List SectionFault
 if_none [] more = more

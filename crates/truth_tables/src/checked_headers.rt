@@ -1,6 +1,6 @@
 //! What is refused of both sides of a header.
 
-ghost use Rattle.std.specs.Prelude.{◌≡◌, None, List, [], ◌∷◌, ◌++◌, length, IfOk, OnOk};
+ghost use Rattle.std.specs.Prelude.{◌≡◌, None, List, ◌++◌, length, IfOk, OnOk};
 ghost use Rattle.abel_tree.specs.Entries.{entries_of};
 ghost use Rattle.abel_tree.specs.FirstRefusal.{first_refusal};
 ghost use Rattle.abel_tree.specs.View.{view};
@@ -20,7 +20,7 @@ use pld_base::{ListOf, OutOfMemory};
 use pld_device::Device;
 use section_targets::{Aim, Assigned, Way, check_aims};
 use set_expr::{Scope, SectionFault};
-use std::alloc::Global;
+use std::alloc::{AllocError, Global};
 
 /// What is found of a header: its first refusal, and its outputs position by position from the left, None at X.
 #[derive(Drop)]
@@ -29,28 +29,11 @@ pub(crate) struct Header {
     pub fault: Option<SectionFault>,
 }
 
-/// An output more; X is none.
-fn push_aim(aims: &mut Vec<Aim>, output: Option<Aim>) -> Result<(), OutOfMemory>
-    ensures { OnOk result (aims.new.items ≡ aims.old.items ++ some_aims (output ∷ [])) }
-{
-    match output {
-        None => Ok(()),
-        Some(aim) => {
-            aims.push(aim)?;
-            Ok(())
-        }
-    }
-}
-
 /// The outputs alone.
-fn list_aims(alloc: Global, outputs: &[Option<Aim>]) -> Result<Vec<Aim>, OutOfMemory>
+fn list_aims(alloc: Global, outputs: &[Option<Aim>]) -> Result<Vec<Aim>, AllocError>
     ensures { IfOk result (λ aims. aims.items ≡ some_aims outputs.now) }
 {
-    let mut aims = Vec::new(alloc);
-    for index in 0..outputs.len() {
-        push_aim(&mut aims, outputs[index])?;
-    }
-    Ok(aims)
+    outputs.iter().filter_map(|output| *output).collect(alloc)
 }
 
 /// What is refused of outputs that are assigned on the clock or not, behind what was assigned before.

@@ -1,25 +1,92 @@
-//! The rows of a table.
+//! The rows of a table, and the levels of their entries.
 
-ghost use Rattle.std.specs.Prelude.{◌≡◌, IfOk};
-ghost use Rattle.abel_tree.specs.FirstRefusal.{first_refusal};
+ghost use Rattle.std.specs.Prelude.{◌≡◌, Some, IfOk};
 ghost use Rattle.abel_tree.specs.View.{view, view_row};
 ghost use Rattle.abel_meaning.specs.Designs.{Context};
+ghost use Rattle.abel_meaning.specs.Rows as meant;
 ghost use Rattle.abel_meaning.specs.Terms.{term_of};
-ghost use Rattle.set_expr.specs.SectionOrder.{section_order};
+ghost use Rattle.truth_tables.specs.EntryMarks.{view_mark};
 ghost use Rattle.truth_tables.specs.EntryTerms.{IsOver};
+ghost use Rattle.truth_tables.specs.RowLevels.{IsLevels, levels_of, IsRow};
+ghost use Rattle.abel_tree.specs.FirstRefusal.{first_refusal};
+ghost use Rattle.set_expr.specs.SectionOrder.{section_order};
 ghost use Rattle.truth_tables.specs.TableUnits.{arrow_refused};
-ghost use Rattle.truth_tables.specs.RowLevels.{IsRow};
 
-use crate::levels::read_levels;
-use abel_tree::{Row, Table, earlier};
-use pld_base::{ListOf, OutOfMemory};
+use crate::entries::{Entry, read_entry};
+use crate::mark::Mark;
+use crate::pulses::holds_pulse;
+use abel_tree::{Expr, Row, Table, earlier};
+use pld_base::{ListOf, OutOfMemory, Place};
 use set_expr::{Scope, SectionFault};
-use std::alloc::Global;
+use std::alloc::{AllocError, Global};
 
-/// What is found of a row: its first refusal, and where nothing is refused the levels of its entries at the positions of
+/// What is found of an entry of a table: its first refusal, and where nothing is refused its level at each position of the
+/// header from the left, None at X.
+#[derive(Drop)]
+pub(crate) struct Levels {
+    pub levels: ListOf<Option<bool>>,
+    pub fault: Option<SectionFault>,
+}
+
+/// The level of a mark.
+fn level_of(mark: Mark) -> Option<bool>
+    ensures { result ≡ meant.level_of_mark (view_mark mark) }
+{
+    match mark {
+        Mark::Level(on) => Some(on),
+        Mark::Unknown => None,
+        Mark::Pulsed => None,
+        Mark::Released => None,
+    }
+}
+
+/// The levels of marks.
+fn list_levels(alloc: Global, marks: &[Mark]) -> Result<Vec<Option<bool>>, AllocError>
+    ensures { IfOk result (λ ls. ls.items ≡ levels_of marks.now) }
+{
+    marks.iter().map(|mark| level_of(*mark)).collect(alloc)
+}
+
+/// A refused entry.
+fn refused(alloc: Global, fault: SectionFault) -> Levels
+    ensures { result.fault ≡ Some fault }
+{
+    Levels {
+        levels: ListOf::from_vec(Vec::new(alloc)),
+        fault: Some(fault),
+    }
+}
+
+/// An entry under its header, in a row of a table that is refused so: `.C.` and `.Z.` stand in none.
+fn read_levels(
+    alloc: Global,
+    scope: &Scope<'_>,
+    row: SectionFault,
+    header: &Expr,
+    entry: &Expr,
+) -> Result<Levels, OutOfMemory>
+    ensures { IfOk result (λ r. (d : Context) → IsOver scope.now d → IsLevels d row (term_of d.known (view header.now)) (view entry.now) r) }
+{
+    if holds_pulse(alloc, scope, entry)? {
+        return Ok(refused(alloc, row));
+    }
+    match read_entry(alloc, scope, row, header, entry)? {
+        Entry::Refused(fault) => Ok(refused(alloc, fault)),
+        Entry::Marks(marks) => {
+            let levels = list_levels(alloc, marks.as_slice())?;
+            Ok(Levels {
+                levels: ListOf::from_vec(levels),
+                fault: None,
+            })
+        }
+    }
+}
+
+/// What is found of the row at a place: its first refusal, and where nothing is refused the levels of its entries at the positions of
 /// the header from the left, None at X.
 #[derive(Drop)]
 pub(crate) struct RowFound {
+    pub place: Place,
     pub inputs: ListOf<Option<bool>>,
     pub outputs: ListOf<Option<bool>>,
     pub fault: Option<SectionFault>,
@@ -51,6 +118,7 @@ pub(crate) fn read_row(
     let outputs = read_levels(alloc, scope, bad, &table.outputs, &row.outputs)?;
     let entries = earlier(inputs.fault, outputs.fault);
     Ok(RowFound {
+        place: row.place,
         inputs: inputs.levels,
         outputs: outputs.levels,
         fault: earlier(arrow, entries),

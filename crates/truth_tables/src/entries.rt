@@ -1,19 +1,92 @@
-//! Entries of rows under their headers.
+//! Entries of rows under their headers: parts of both, met one by one from the last on.
 
 ghost use Rattle.std.specs.Prelude.{IfOk};
-ghost use Rattle.abel_tree.specs.View.{view};
 ghost use Rattle.abel_meaning.specs.Designs.{Context};
-ghost use Rattle.abel_meaning.specs.Terms.{term_of};
-ghost use Rattle.truth_tables.specs.EntryMarks.{IsRead};
+ghost use Rattle.abel_meaning.specs.Terms.{Term, term_of};
 ghost use Rattle.truth_tables.specs.EntryTerms.{IsOver};
+ghost use Rattle.truth_tables.specs.PairTerms.{ArePaired, IsMet};
+ghost use Rattle.truth_tables.specs.PartTerms.{IsPart};
+ghost use Rattle.abel_tree.specs.View.{view};
+ghost use Rattle.truth_tables.specs.EntryMarks.{IsMarked, IsRead};
 
 use crate::inside::refuse_inside;
 use crate::mark::Mark;
-use crate::marks::entry_marks;
+use crate::part::{Pair, Part, part_of};
+use crate::parts::parts_of;
+use crate::wholes::put_whole;
 use abel_tree::Expr;
 use pld_base::OutOfMemory;
 use set_expr::{Scope, SectionFault};
 use std::alloc::Global;
+
+/// Puts each part of a header with what stands for it onto the stack; false where they aren't as many.
+fn push_pairs<'a>(
+    headers: &[Part<'a>],
+    entries: &[Part<'a>],
+    stack: &mut Vec<Pair<'a>>,
+) -> Result<bool, OutOfMemory>
+    ensures { IfOk result (λ b. ArePaired headers.now entries.now b stack.old.items stack.new.items) }
+{
+    if headers.len() != entries.len() {
+        return Ok(false);
+    }
+    for index in 0..headers.len() {
+        stack.push(Pair {
+            header: headers[index],
+            given: entries[index],
+        })?;
+    }
+    Ok(true)
+}
+
+/// Meets one pair: puts its marks, or its members onto the stack; false where it doesn't meet.
+fn step<'a>(
+    alloc: Global,
+    scope: &Scope<'a>,
+    pair: Pair<'a>,
+    stack: &mut Vec<Pair<'a>>,
+    marks: &mut Vec<Mark>,
+) -> Result<bool, OutOfMemory>
+    ensures { IfOk result (λ b. (d : Context) (h e : Term) → IsOver scope.now d → IsPart d pair.entry.header h → IsPart d pair.entry.given e → IsMet d h e b stack.old.items stack.new.items marks.old.items marks.new.items) }
+{
+    match pair.header {
+        Part::Set(_, headers, outer) => match pair.given {
+            Part::Set(_, entries, inner) => {
+                let header_parts = parts_of(alloc, scope, headers, outer)?;
+                let entry_parts = parts_of(alloc, scope, entries, inner)?;
+                push_pairs(header_parts.as_slice(), entry_parts.as_slice(), stack)
+            }
+            _ => put_whole(alloc, scope, pair, marks),
+        },
+        _ => put_whole(alloc, scope, pair, marks),
+    }
+}
+
+/// What an entry says of each position of its header, from the left; None where it doesn't meet the header. It is
+/// asked only of headers and entries in which nothing is refused. Sets and names of constants are followed by a
+/// stack, so that no call goes as deep as constants nest.
+fn entry_marks(
+    alloc: Global,
+    scope: &Scope<'_>,
+    header: &Expr,
+    entry: &Expr,
+) -> Result<Option<Vec<Mark>>, OutOfMemory>
+    ensures { IfOk result (λ ms. (d : Context) → IsOver scope.now d → IsMarked d (term_of d.known (view header.now)) (term_of d.known (view entry.now)) ms) }
+{
+    let mut marks = Vec::new(alloc);
+    let mut stack = Vec::new(alloc);
+    stack.push(Pair {
+        header: part_of(scope, header, None),
+        given: part_of(scope, entry, None),
+    })?;
+    while let Some(pair) = stack.pop() {
+        if !step(alloc, scope, pair, &mut stack, &mut marks)? {
+            return Ok(None);
+        }
+    }
+    marks.reverse();
+    Ok(Some(marks))
+}
 
 /// What is found of an entry under its header: its first refusal, or its marks at the header's positions, from the
 /// left.

@@ -1,12 +1,12 @@
-//! What outputs are given.
+//! What outputs are given, position by position.
 
-ghost use Rattle.std.specs.Prelude.{◌<◌, Some, [], ◌∷◌, length};
+ghost use Rattle.std.specs.Prelude.{◌<◌, [], ◌∷◌, length};
 ghost use Rattle.bit_expr.specs.Arena.{arena};
 ghost use Rattle.abel_tree.specs.Entries.{entries_of};
 ghost use Rattle.set_expr.specs.Answer.{Keeps};
 ghost use Rattle.section_targets.specs.Given.{AreNamed};
 ghost use Rattle.truth_tables.specs.TableUnits.{some_aims};
-ghost use Rattle.truth_tables.specs.Gives.{GivesOutput, GivesValue, GivesPosition};
+ghost use Rattle.truth_tables.specs.Gives.{GivesOutput, GivesValue, GivesPosition, GivesPositions, GivesNoMatches};
 
 use bit_expr::{ExprId, Exprs};
 use pld_base::Place;
@@ -87,25 +87,8 @@ fn give_value(
     }
 }
 
-/// An output of a row: what its level gives, and a match.
-fn give_level(
-    matching: &Matching<'_>,
-    aim: Aim,
-    level: Option<bool>,
-    exprs: &mut Exprs,
-    list: &mut Vec<Contribution>,
-) -> Result<(), SectionFault>
-    requires signal { aim.signal < length (entries_of matching.now.scope.now) }
-    requires bit { matching.now.bit.0 < length (arena exprs.old) }
-    ensures keeps { Keeps (arena exprs.old) (arena exprs.new) }
-    ensures gives { GivesPosition matching.now.scope.now matching.now.assigning (Some aim) level matching.now.bit exprs.old exprs.new list.old.items list.new.items result }
-{
-    give_value(matching, aim, level, exprs, list)?;
-    give_output(matching, Gives::Match, aim, exprs, list)
-}
-
-/// A position of a row; X is given nothing.
-pub(crate) fn give_position(
+/// A position of a row: what its level gives, and a match; X is given nothing.
+fn give_position(
     matching: &Matching<'_>,
     output: Option<Aim>,
     level: Option<bool>,
@@ -119,6 +102,52 @@ pub(crate) fn give_position(
 {
     match output {
         None => Ok(()),
-        Some(aim) => give_level(matching, aim, level, exprs, list),
+        Some(aim) => {
+            give_value(matching, aim, level, exprs, list)?;
+            give_output(matching, Gives::Match, aim, exprs, list)
+        }
     }
+}
+
+/// The positions of a row.
+pub(crate) fn give_positions(
+    matching: &Matching<'_>,
+    outputs: &[Option<Aim>],
+    levels: &[Option<bool>],
+    exprs: &mut Exprs,
+    list: &mut Vec<Contribution>,
+) -> Result<(), SectionFault>
+    requires signals { AreNamed (length (entries_of matching.now.scope.now)) (some_aims outputs.now) }
+    requires bit { matching.now.bit.0 < length (arena exprs.old) }
+    ensures keeps { Keeps (arena exprs.old) (arena exprs.new) }
+    ensures gives { GivesPositions matching.now.scope.now matching.now.assigning outputs.now levels.now matching.now.bit exprs.old exprs.new list.old.items list.new.items result }
+{
+    let count = outputs.len().min(levels.len());
+    for index in 0..count {
+        give_position(matching, outputs[index], levels[index], exprs, list)?;
+    }
+    Ok(())
+}
+
+/// Appends no match for each output of a header, so that each has some contribution of the block; makes no node.
+pub fn give_no_matches(
+    scope: &Scope<'_>,
+    assigning: Assigning,
+    outputs: &[Option<Aim>],
+    exprs: &mut Exprs,
+    list: &mut Vec<Contribution>,
+) -> Result<(), SectionFault>
+    requires { AreNamed (length (entries_of scope.now)) (some_aims outputs.now) }
+    ensures keeps { Keeps (arena exprs.old) (arena exprs.new) }
+    ensures gives { GivesNoMatches scope.now assigning outputs.now exprs.old exprs.new list.old.items list.new.items result }
+{
+    let matching = Matching {
+        scope,
+        assigning,
+        bit: ExprId(0),
+    };
+    for index in 0..outputs.len() {
+        give_position(&matching, outputs[index], Some(false), exprs, list)?;
+    }
+    Ok(())
 }

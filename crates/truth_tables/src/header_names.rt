@@ -1,21 +1,22 @@
 //! The outputs that names in headers stand for.
 
-ghost use Rattle.std.specs.Prelude.{◌≡◌, [], ◌∷◌, ◌++◌, IfOk, OnOk};
+ghost use Rattle.std.specs.Prelude.{◌≡◌, IfOk};
+ghost use Rattle.std.specs.Option.{option_map};
 ghost use Rattle.abel_meaning.specs.Designs.{Context};
 ghost use Rattle.truth_tables.specs.EntryTerms.{IsOver};
 ghost use Rattle.truth_tables.specs.OutputHeaders.{header_name, outputs_at};
 ghost use Rattle.truth_tables.specs.Headers.{IsAdded};
 
-use crate::contents::named_part;
+use crate::part::named_part;
 use crate::signals::part_signals;
 use pld_base::{OutOfMemory, Place};
 use section_targets::{Aim, number_of};
 use set_expr::{Scope, SectionFault};
-use std::alloc::Global;
+use std::alloc::{AllocError, Global};
 
 /// A position at a place.
 fn output_at(signal: Option<u32>, place: Place) -> Option<Aim>
-    ensures { result ∷ [] ≡ outputs_at place (signal ∷ []) }
+    ensures { result ≡ option_map (λ k. record { signal = k; place = place }) signal }
 {
     match signal {
         Some(signal) => Some(Aim { signal, place }),
@@ -23,18 +24,18 @@ fn output_at(signal: Option<u32>, place: Place) -> Option<Aim>
     }
 }
 
-/// Appends signals and X, all at one place.
-fn push_signals(
+/// Signals and X, all at one place.
+fn list_outputs(
+    alloc: Global,
     signals: &[Option<u32>],
     place: Place,
-    outputs: &mut Vec<Option<Aim>>,
-) -> Result<(), OutOfMemory>
-    ensures { OnOk result (outputs.new.items ≡ outputs.old.items ++ outputs_at place signals.now) }
+) -> Result<Vec<Option<Aim>>, AllocError>
+    ensures { IfOk result (λ outputs. outputs.items ≡ outputs_at place signals.now) }
 {
-    for index in 0..signals.len() {
-        outputs.push(output_at(signals[index], place))?;
-    }
-    Ok(())
+    signals
+        .iter()
+        .map(|signal| output_at(*signal, place))
+        .collect(alloc)
 }
 
 /// Appends the outputs of the name with this text, used at a place; a name that is refused has none.
@@ -58,7 +59,8 @@ pub(crate) fn push_name(
                     Ok(Some(SectionFault::NotAnOutput(place, number)))
                 }
                 Some(signals) => {
-                    push_signals(signals.as_slice(), place, outputs)?;
+                    let more = list_outputs(alloc, signals.as_slice(), place)?;
+                    outputs.extend_from_slice(&more)?;
                     Ok(None)
                 }
             }

@@ -145,17 +145,8 @@ pub(crate) fn push_outputs(
             Some(_) => Ok(Some(SectionFault::NotAnOutput(*place, None))),
             None => push_set(alloc, scope, members.as_slice(), *place, outputs),
         },
-        Expr::Paren { place: _, inner } => push_outputs(alloc, scope, inner.get(), outputs),
-        Expr::Unary {
-            sign: _,
-            place,
-            inner: _,
-        } => Ok(Some(SectionFault::NotAnOutput(*place, None))),
-        Expr::Binary {
-            sign: _,
-            place: _,
-            left: _,
-            right: _,
-        } => Ok(Some(refuse_operator(scope, expr))),
+        Expr::Paren { inner, .. } => push_outputs(alloc, scope, inner.get(), outputs),
+        Expr::Unary { place, .. } => Ok(Some(SectionFault::NotAnOutput(*place, None))),
+        Expr::Binary { .. } => Ok(Some(refuse_operator(scope, expr))),
     }
 }

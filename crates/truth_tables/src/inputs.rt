@@ -1,6 +1,6 @@
 //! The bits of an input header.
 
-ghost use Rattle.std.specs.Prelude.{◌≡◌, None, Some, List, [], ◌∷◌, map, reverse, IfOk};
+ghost use Rattle.std.specs.Prelude.{◌≡◌, None, Some, List, [], ◌∷◌, map, IfOk};
 ghost use Rattle.bit_expr.specs.declared.node.Node.{Node};
 ghost use Rattle.bit_expr.specs.Arena.{arena};
 ghost use Rattle.abel_tree.specs.View.{view};
@@ -16,7 +16,6 @@ ghost use Rattle.truth_tables.specs.PartTerms.{is_computed};
 ghost use Rattle.truth_tables.specs.Products.{StandForInputs, IsShapedTerm, IsShapedNumber};
 
 use crate::part::{Stand, stand_of};
-use crate::turned::turned;
 use abel_tree::Expr;
 use bit_expr::{ExprId, Exprs};
 use equations::unit_bits;
@@ -24,7 +23,7 @@ use pld_base::{OutOfMemory, Place};
 use pld_device::Device;
 use section_targets::{SectionScope, meet};
 use set_expr::{Scope, SectionFault, Shape, Shaped};
-use std::alloc::Global;
+use std::alloc::{AllocError, Global};
 
 /// Whether an expression is an operator of two operands, behind signs, parentheses and constants' names.
 fn has_operator<'a>(scope: &Scope<'a>, expr: &'a Expr) -> bool
@@ -33,48 +32,27 @@ fn has_operator<'a>(scope: &Scope<'a>, expr: &'a Expr) -> bool
     let mut at = expr;
     loop {
         match at {
-            Expr::Name { word, extension: _ } => {
+            Expr::Name { word, .. } => {
                 match stand_of(scope, word.text.bytes(), None) {
                     Stand::Constant(value) => at = value,
                     Stand::Part(_) => return false,
                 }
             }
-            Expr::Paren { place: _, inner } => at = inner.get(),
-            Expr::Unary {
-                sign: _,
-                place: _,
-                inner,
-            } => at = inner.get(),
-            Expr::Binary {
-                sign: _,
-                place: _,
-                left: _,
-                right: _,
-            } => return true,
+            Expr::Paren { inner, .. } => at = inner.get(),
+            Expr::Unary { inner, .. } => at = inner.get(),
+            Expr::Binary { .. } => return true,
             Expr::Number(_) => return false,
-            Expr::Special {
-                letter: _,
-                place: _,
-            } => return false,
-            Expr::Set {
-                place: _,
-                members: _,
-                extension: _,
-            } => return false,
+            Expr::Special { .. } => return false,
+            Expr::Set { .. } => return false,
         }
     }
 }
 
-/// Bits as positions, in the other order.
-fn list_positions(alloc: Global, bits: &[ExprId]) -> Result<Vec<Option<ExprId>>, OutOfMemory>
-    ensures { IfOk result (λ ps. ps.items ≡ reverse (map Some bits.now)) }
+/// Bits as positions.
+fn list_positions(alloc: Global, bits: &[ExprId]) -> Result<Vec<Option<ExprId>>, AllocError>
+    ensures { IfOk result (λ ps. ps.items ≡ map Some bits.now) }
 {
-    let mut positions = Vec::new(alloc);
-    for index in 0..bits.len() {
-        positions.push(Some(bits[index]))?;
-    }
-    positions.reverse();
-    Ok(positions)
+    bits.iter().map(|bit| Some(*bit)).collect(alloc)
 }
 
 /// The positions of a header that is a number: the 32 bits of what an operator makes, and none otherwise.
@@ -86,12 +64,13 @@ fn number_positions(
 ) -> Result<Vec<Option<ExprId>>, OutOfMemory>
     ensures { IfOk result (λ ps. (d : Context) (ns : List Node) → IsOver scope.now d → IsShapedNumber d (arena ns) (term_of d.known (view header.now)) shaped.now → StandForInputs d (term_of d.known (view header.now)) (arena ns) ps.items) }
 {
-    if has_operator(scope, header) {
-        let bits = meet(alloc, shaped, 32)?;
-        list_positions(alloc, &bits)
-    } else {
-        Ok(Vec::new(alloc))
+    if !has_operator(scope, header) {
+        return Ok(Vec::new(alloc));
     }
+    let bits = meet(alloc, shaped, 32)?;
+    let mut positions = list_positions(alloc, &bits)?;
+    positions.reverse();
+    Ok(positions)
 }
 
 /// The positions of a header from the left.
@@ -105,8 +84,11 @@ fn shaped_positions(
 {
     match shaped.shape {
         Shape::Number(_) => number_positions(alloc, scope, header, &shaped),
-        Shape::Single => Ok(turned(shaped.places.into_vec())),
-        Shape::Set(_) => Ok(turned(shaped.places.into_vec())),
+        _ => {
+            let mut positions = shaped.places.into_vec();
+            positions.reverse();
+            Ok(positions)
+        }
     }
 }
 

@@ -88,16 +88,9 @@ pub(crate) fn refuse_inside(
 {
     match entry {
         Expr::Number(_) => Ok(None),
-        Expr::Special {
-            letter: _,
-            place: _,
-        } => Ok(None),
-        Expr::Name { word, extension: _ } => Ok(refuse_name(scope, word.text.bytes())),
-        Expr::Set {
-            place: _,
-            members,
-            extension: _,
-        } => {
+        Expr::Special { .. } => Ok(None),
+        Expr::Name { word, .. } => Ok(refuse_name(scope, word.text.bytes())),
+        Expr::Set { members, .. } => {
             let mut fault = None;
             for member in members.as_slice() {
                 let found = refuse_member(alloc, scope, row, member)?;
@@ -105,17 +98,8 @@ pub(crate) fn refuse_inside(
             }
             Ok(fault)
         }
-        Expr::Paren { place: _, inner } => refuse_inside(alloc, scope, row, inner.get()),
-        Expr::Unary {
-            sign: _,
-            place: _,
-            inner: _,
-        } => refuse_operator(alloc, scope, row, entry),
-        Expr::Binary {
-            sign: _,
-            place: _,
-            left: _,
-            right: _,
-        } => refuse_operator(alloc, scope, row, entry),
+        Expr::Paren { inner, .. } => refuse_inside(alloc, scope, row, inner.get()),
+        Expr::Unary { .. } => refuse_operator(alloc, scope, row, entry),
+        Expr::Binary { .. } => refuse_operator(alloc, scope, row, entry),
     }
 }

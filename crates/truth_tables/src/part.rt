@@ -101,3 +101,51 @@ pub(crate) fn shape_of(alloc: Global, scope: &Scope<'_>, expr: &Expr) -> Result<
         },
     }
 }
+
+/// The part that an expression is under an extension, if there is one. Parentheses and names of constants are followed in a
+/// loop.
+pub(crate) fn part_of<'a>(scope: &Scope<'a>, expr: &'a Expr, outer: Option<Extension>) -> Part<'a>
+    ensures { (d : Context) → IsOver scope.now d
+        → IsPart d result (extended_if outer (term_of d.known (view expr.now))) }
+{
+    let mut at = expr;
+    let mut extension = outer;
+    loop {
+        match at {
+            Expr::Number(number) => return Part::Number(number.value),
+            Expr::Special { letter, .. } => return special(*letter),
+            Expr::Name {
+                word,
+                extension: own,
+            } => {
+                extension = Extension::innermost(*own, extension);
+                match stand_of(scope, word.text.bytes(), extension) {
+                    Stand::Constant(value) => at = value,
+                    Stand::Part(part) => return part,
+                }
+            }
+            Expr::Set {
+                members,
+                extension: own,
+                ..
+            } => {
+                let extension = Extension::innermost(*own, extension);
+                return Part::Set(at, members.as_slice(), extension);
+            }
+            Expr::Paren { inner, .. } => at = inner.get(),
+            Expr::Unary { .. } => return Part::Operator(at),
+            Expr::Binary { .. } => return Part::Operator(at),
+        }
+    }
+}
+
+/// The part that the name with this text is under an extension, if there is one.
+pub(crate) fn named_part<'a>(scope: &Scope<'a>, text: &[u8], outer: Option<Extension>) -> Part<'a>
+    ensures { (d : Context) → IsOver scope.now d
+        → IsPart d result (extended_if outer (term_named d.known text.now)) }
+{
+    match stand_of(scope, text, outer) {
+        Stand::Constant(expr) => part_of(scope, expr, outer),
+        Stand::Part(part) => part,
+    }
+}

@@ -10,8 +10,7 @@ ghost use Rattle.expr_bits.specs.Members.{list_of, each_extended};
 ghost use Rattle.truth_tables.specs.EntryTerms.{IsOver};
 ghost use Rattle.truth_tables.specs.PartTerms.{AreParts};
 
-use crate::contents::{named_part, part_of};
-use crate::part::Part;
+use crate::part::{Part, named_part, part_of};
 use abel_tree::{Extension, Member, Word};
 use name_uses::range_list;
 use pld_base::OutOfMemory;

@@ -1,6 +1,6 @@
 //! The product of a row: the literals of its inputs.
 
-ghost use Rattle.std.specs.Prelude.{◌<◌, true, Some, [], ◌∷◌, length, IfOk};
+ghost use Rattle.std.specs.Prelude.{◌<◌, true, [], ◌∷◌, length, IfOk};
 ghost use Rattle.bit_expr.specs.Arena.{arena, formula_at};
 ghost use Rattle.bit_expr.specs.Formulas.{Const};
 ghost use Rattle.abel_meaning.specs.CountedBlocks.{row_literals};
@@ -14,32 +14,8 @@ use pld_base::Place;
 use section_targets::{add_node, guard_else};
 use set_expr::SectionFault;
 
-/// What was found before, and a bit at a level; X matches both levels.
-fn with_level(
-    exprs: &mut Exprs,
-    found: ExprId,
-    bit: ExprId,
-    level: Option<bool>,
-    unit: Place,
-) -> Result<ExprId, SectionFault>
-    requires found { found.0 < length (arena exprs.old) }
-    requires bit { bit.0 < length (arena exprs.old) }
-    ensures builds { BuildsNodes (part unit (position_literal (arena exprs.old) (formula_at (arena exprs.old) found) (Some bit) level).nodes ∷ []) exprs.old exprs.new result }
-    ensures bit { IfOk result (λ id. IsBit (arena exprs.new) id (position_literal (arena exprs.old) (formula_at (arena exprs.old) found) (Some bit) level).what) }
-{
-    match level {
-        None => Ok(found),
-        Some(on) => {
-            if on {
-                add_node(exprs, Node::And(found, bit), unit)
-            } else {
-                guard_else(exprs, found, bit, unit)
-            }
-        }
-    }
-}
-
-/// What was found before, and a position of the header at a level; one that is X counts for nothing.
+/// What was found before, and a position of the header at a level; one that is X counts for nothing, and X matches both
+/// levels.
 fn with_position(
     exprs: &mut Exprs,
     found: ExprId,
@@ -54,7 +30,16 @@ fn with_position(
 {
     match position {
         None => Ok(found),
-        Some(bit) => with_level(exprs, found, bit, level, unit),
+        Some(bit) => match level {
+            None => Ok(found),
+            Some(on) => {
+                if on {
+                    add_node(exprs, Node::And(found, bit), unit)
+                } else {
+                    guard_else(exprs, found, bit, unit)
+                }
+            }
+        },
     }
 }
 

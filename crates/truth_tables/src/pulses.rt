@@ -1,10 +1,11 @@
 //! Whether `.C.` or `.Z.` stands in an expression.
 
-ghost use Rattle.std.specs.Prelude.{◌≡◌, ◌||◌, IfOk};
+ghost use Rattle.std.specs.Prelude.{◌≡◌, IfOk};
 ghost use Rattle.std.specs.List.{list_any};
 ghost use Rattle.abel_tree.specs.Entries.{entries_of};
 ghost use Rattle.abel_tree.specs.Ranges.{range_names};
 ghost use Rattle.abel_tree.specs.View.{view, view_member};
+ghost use Rattle.name_uses.specs.RangeParts.{name_items};
 ghost use Rattle.set_expr.specs.FoundNames.{names_found};
 ghost use Rattle.truth_tables.specs.RowEntries.{is_pulse_named, holds_pulse, member_holds_pulse};
 
@@ -24,11 +25,11 @@ fn names_pulse(scope: &Scope<'_>, text: &[u8]) -> bool
     }
 }
 
-/// Whether one of two facts holds.
-fn either(first: bool, second: bool) -> bool
-    ensures { result ≡ (first || second) }
+/// Whether one of these names stands for one of them.
+fn any_names_pulse(scope: &Scope<'_>, names: &[Vec<u8>]) -> bool
+    ensures { result ≡ list_any (λ n. is_pulse_named (names_found (entries_of scope.now)) (name_items n)) names.now }
 {
-    first || second
+    names.iter().any(|name| names_pulse(scope, name.as_slice()))
 }
 
 /// Whether some name of a range stands for one of them.
@@ -41,11 +42,7 @@ fn range_holds_pulse(
     ensures { IfOk result (λ b. b ≡ list_any (is_pulse_named (names_found (entries_of scope.now))) (range_names first.now.text last.now.text)) }
 {
     let names = range_list(alloc, first.text.bytes(), last.text.bytes())?;
-    let mut found = false;
-    for name in &names {
-        found = either(found, names_pulse(scope, name.as_slice()));
-    }
-    Ok(found)
+    Ok(any_names_pulse(scope, names.as_slice()))
 }
 
 /// Whether one of them stands in a member.
@@ -66,32 +63,19 @@ fn level_holds(alloc: Global, scope: &Scope<'_>, expr: &Expr) -> Result<bool, Ou
 {
     match expr {
         Expr::Number(_) => Ok(false),
-        Expr::Special { letter, place: _ } => Ok(*letter != b'X'),
-        Expr::Name { word, extension: _ } => Ok(names_pulse(scope, word.text.bytes())),
-        Expr::Set {
-            place: _,
-            members,
-            extension: _,
-        } => {
+        Expr::Special { letter, .. } => Ok(*letter != b'X'),
+        Expr::Name { word, .. } => Ok(names_pulse(scope, word.text.bytes())),
+        Expr::Set { members, .. } => {
             let mut found = false;
             for member in members.as_slice() {
                 let holds = member_holds(alloc, scope, member)?;
-                found = either(found, holds);
+                found = found | holds;
             }
             Ok(found)
         }
-        Expr::Paren { place: _, inner } => holds_pulse(alloc, scope, inner.get()),
-        Expr::Unary {
-            sign: _,
-            place: _,
-            inner,
-        } => holds_pulse(alloc, scope, inner.get()),
-        Expr::Binary {
-            sign: _,
-            place: _,
-            left,
-            right,
-        } => {
+        Expr::Paren { inner, .. } => holds_pulse(alloc, scope, inner.get()),
+        Expr::Unary { inner, .. } => holds_pulse(alloc, scope, inner.get()),
+        Expr::Binary { left, right, .. } => {
             let left = holds_pulse(alloc, scope, left.get())?;
             let right = holds_pulse(alloc, scope, right.get())?;
             Ok(left || right)
@@ -111,15 +95,9 @@ pub(crate) fn holds_pulse(
 {
     let mut first = expr;
     let mut found = false;
-    'down: while let Expr::Binary {
-        sign: _,
-        place: _,
-        left,
-        right,
-    } = first
-    {
+    'down: while let Expr::Binary { left, right, .. } = first {
         let holds = holds_pulse(alloc, scope, right.get())?;
-        found = either(found, holds);
+        found = found | holds;
         first = left.get();
     }
     let holds = level_holds(alloc, scope, first)?;

@@ -1,77 +1,131 @@
-//! What a row of which nothing is refused makes and gives.
+//! The rows of a table: each is checked, and made where nothing is refused so far.
 
-ghost use Rattle.std.specs.Prelude.{◌≡◌, None, length, IfOk};
+ghost use Rattle.std.specs.Prelude.{◌≡◌, true, None, Some, ℕ, [], ◌∷◌, length, IfOk, OnOk};
+ghost use Rattle.std.specs.Option.{is_some};
 ghost use Rattle.bit_expr.specs.Arena.{arena};
-ghost use Rattle.abel_tree.specs.Entries.{entries_of};
-ghost use Rattle.abel_tree.specs.View.{view};
-ghost use Rattle.abel_meaning.specs.Terms.{term_of};
-ghost use Rattle.set_expr.specs.Answer.{AreIn, Keeps, refusal_of};
-ghost use Rattle.set_expr.specs.Contexts.{context_for};
-ghost use Rattle.section_targets.specs.Given.{AreNamed};
-ghost use Rattle.truth_tables.specs.TableUnits.{some_aims};
-ghost use Rattle.truth_tables.specs.Products.{StandForInputs};
-ghost use Rattle.truth_tables.specs.Rows.{GivesFirst, GivesFound};
+ghost use Rattle.set_expr.specs.Answer.{AreIn, Keeps};
+ghost use Rattle.section_targets.specs.Building.{BuildsNodes};
+ghost use Rattle.section_targets.specs.Units.{part};
+ghost use Rattle.truth_tables.specs.RowWalks.{GivesFound, GivesRow, HasInputs, IsAccepted, WalksRow, nodes_left};
 
-use crate::checked_rows::RowFound;
-use crate::giving::{Assigning, Matching};
+use crate::checked_rows::{RowFound, read_row};
+use crate::giving::{Assigning, Matching, give_positions};
 use crate::inputs::header_bits;
-use crate::positions::give_positions;
 use crate::products::row_product;
-use abel_tree::Expr;
+use abel_tree::{Row, Table};
 use bit_expr::{ExprId, Exprs};
+use pld_base::{OutOfMemory, Place};
 use pld_device::Device;
-use section_targets::{Aim, SectionScope};
-use set_expr::{Contribution, Scope, SectionFault};
+use section_targets::{Aim, SectionScope, Walked};
+use set_expr::{Contribution, Guard, SectionFault};
 use std::alloc::Global;
 
-/// A row of which nothing is refused, with the header of its table.
+/// A table whose header isn't refused, with the outputs that it names, under a guard.
 #[derive(Drop)]
-pub(crate) struct AcceptedRow<'a> {
-    pub assigning: Assigning,
-    pub inputs: &'a Expr,
+pub(crate) struct Headed<'a, D: Device> {
+    pub scope: &'a SectionScope<'a, D>,
+    pub table: &'a Table,
     pub outputs: &'a [Option<Aim>],
-    pub found: &'a RowFound,
+    pub guard: Guard,
 }
 
-/// A row under the bits of the input header.
-pub(crate) fn give_found(
-    scope: &Scope<'_>,
-    row: &AcceptedRow<'_>,
+/// The bits of the input header from the left, None at X: the first row makes them as a part of its unit, and those
+/// behind it take them.
+fn inputs_of<D: Device>(
+    alloc: Global,
+    headed: &Headed<'_, D>,
+    unit: Place,
+    made: Option<Vec<Option<ExprId>>>,
+    exprs: &mut Exprs,
+) -> Result<Vec<Option<ExprId>>, SectionFault>
+    requires accepted { IsAccepted D.table headed.now }
+    requires made { HasInputs D.table headed.now made exprs.old }
+    ensures keeps { Keeps (arena exprs.old) (arena exprs.new) }
+    ensures builds { BuildsNodes (part unit (nodes_left D.table headed.now made) ∷ []) exprs.old exprs.new result }
+    ensures inputs { IfOk result (λ ps. HasInputs D.table headed.now (Some ps) exprs.new) }
+{
+    match made {
+        Some(bits) => Ok(bits),
+        None => header_bits::<D>(alloc, headed.scope, &headed.table.inputs, unit, exprs),
+    }
+}
+
+/// What a row of which nothing is refused makes and gives, under the bits of the input header.
+fn give_found<D: Device>(
+    headed: &Headed<'_, D>,
+    found: &RowFound,
     bits: &[Option<ExprId>],
     exprs: &mut Exprs,
     list: &mut Vec<Contribution>,
 ) -> Result<(), SectionFault>
-    requires signals { AreNamed (length (entries_of scope.now)) (some_aims row.now.outputs.now) }
+    requires accepted { IsAccepted D.table headed.now }
     requires bits { AreIn (length (arena exprs.old)) bits.now }
     ensures keeps { Keeps (arena exprs.old) (arena exprs.new) }
-    ensures gives { GivesFound scope.now row.now.assigning bits.now row.now.outputs.now row.now.found.now exprs.old exprs.new list.old.items list.new.items result }
+    ensures gives { GivesFound headed.now bits.now found.now exprs.old exprs.new list.old.items list.new.items result }
 {
-    let levels = row.found.inputs.as_slice();
-    let bit = row_product(exprs, bits, levels, row.assigning.unit)?;
+    let levels = found.inputs.as_slice();
+    let bit = row_product(exprs, bits, levels, found.place)?;
     let matching = Matching {
-        scope,
-        assigning: row.assigning,
+        scope: headed.scope.scope(),
+        assigning: Assigning {
+            unit: found.place,
+            guard: headed.guard,
+            clocked: headed.table.clocked,
+        },
         bit,
     };
-    let given = row.found.outputs.as_slice();
-    give_positions(&matching, row.outputs, given, exprs, list)
+    let given = found.outputs.as_slice();
+    give_positions(&matching, headed.outputs, given, exprs, list)
 }
 
-/// The input header and the first row, as one unit.
-pub(crate) fn give_first<D: Device>(
+/// A row of which nothing is refused, as one unit; the first one has the bits of the input header in it.
+fn give_row<D: Device>(
     alloc: Global,
-    scope: &SectionScope<'_, D>,
-    row: &AcceptedRow<'_>,
-    exprs: &mut Exprs,
-    list: &mut Vec<Contribution>,
-) -> Result<Vec<Option<ExprId>>, SectionFault>
-    requires accepted { refusal_of scope.now (view row.now.inputs.now) ≡ None }
-    requires signals { AreNamed (length (entries_of scope.now)) (some_aims row.now.outputs.now) }
-    ensures keeps { Keeps (arena exprs.old) (arena exprs.new) }
-    ensures gives { GivesFirst D.table scope.now row.now.assigning (view row.now.inputs.now) row.now.outputs.now row.now.found.now exprs.old exprs.new list.old.items list.new.items result }
-    ensures bits { IfOk result (λ ps. StandForInputs (context_for D.table scope.now) (term_of (context_for D.table scope.now).known (view row.now.inputs.now)) (arena exprs.new) ps.items) }
+    headed: &Headed<'_, D>,
+    found: &RowFound,
+    inputs: &mut Option<Vec<Option<ExprId>>>,
+    out: &mut Walked,
+) -> Result<(), SectionFault>
+    requires accepted { IsAccepted D.table headed.now }
+    requires inputs { HasInputs D.table headed.now inputs.old out.old.exprs }
+    ensures before { out.new.before ≡ out.old.before }
+    ensures fault { out.new.fault ≡ out.old.fault }
+    ensures gives { GivesRow D.table headed.now (nodes_left D.table headed.now inputs.old) found.now out.old out.new result }
+    ensures inputs { HasInputs D.table headed.now inputs.new out.new.exprs }
+    ensures made { OnOk result (is_some inputs.new ≡ true) }
 {
-    let bits = header_bits::<D>(alloc, scope, row.inputs, row.assigning.unit, exprs)?;
-    give_found(scope.scope(), row, bits.as_slice(), exprs, list)?;
-    Ok(bits)
+    let made = inputs.take();
+    let bits = inputs_of::<D>(alloc, headed, found.place, made, &mut out.exprs)?;
+    let given = give_found::<D>(
+        headed,
+        found,
+        bits.as_slice(),
+        &mut out.exprs,
+        &mut out.list,
+    );
+    *inputs = Some(bits);
+    given
+}
+
+/// A row behind those that were walked, which made the bits of the input header unless something is refused.
+pub(crate) fn walk_row<D: Device>(
+    alloc: Global,
+    headed: &Headed<'_, D>,
+    row: &Row,
+    inputs: &mut Option<Vec<Option<ExprId>>>,
+    out: &mut Walked,
+) -> Result<(), OutOfMemory>
+    requires accepted { IsAccepted D.table headed.now }
+    requires inputs { HasInputs D.table headed.now inputs.old out.old.exprs }
+    ensures walks { OnOk result ((n : ℕ) → (out.old.fault ≡ None → n ≡ nodes_left D.table headed.now inputs.old)
+        → WalksRow D.table headed.now n row.now out.old out.new) }
+    ensures inputs { OnOk result (HasInputs D.table headed.now inputs.new out.new.exprs) }
+    ensures made { OnOk result (out.new.fault ≡ None → is_some inputs.new ≡ true) }
+{
+    let found = read_row(alloc, headed.scope.scope(), headed.table, row)?;
+    if out.refuse(found.fault) {
+        return Ok(());
+    }
+    let made = give_row::<D>(alloc, headed, &found, inputs, out);
+    out.keep_limit(made)
 }

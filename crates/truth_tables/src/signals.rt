@@ -11,10 +11,8 @@ ghost use Rattle.truth_tables.specs.HeaderSignals.{AreSignals};
 ghost use Rattle.truth_tables.specs.PartTerms.{HasTerm, IsPart};
 ghost use Rattle.truth_tables.specs.SignalTerms.{IsListed};
 
-use crate::contents::part_of;
-use crate::part::Part;
+use crate::part::{Part, part_of};
 use crate::parts::parts_of;
-use crate::turned::turned;
 use abel_tree::{Expr, Extension};
 use pld_base::OutOfMemory;
 use set_expr::Scope;
@@ -83,7 +81,8 @@ pub(crate) fn part_signals(
             return Ok(None);
         }
     }
-    Ok(Some(turned(signals)))
+    signals.reverse();
+    Ok(Some(signals))
 }
 
 /// The signals of a header from the left, None at X; None where it names something else than signals without

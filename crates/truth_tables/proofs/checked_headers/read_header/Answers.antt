@@ -14,8 +14,7 @@ use Rattle.truth_tables.specs.EntryTerms.{IsOver}
 use Rattle.truth_tables.specs.OutputHeaders.{output_header}
 use Rattle.truth_tables.specs.TableUnits.{outputs_refused, some_aims}
 use Rattle.truth_tables.proofs.HeaderLaws.{added_header}
-use Rattle.truth_tables.proofs.HeaderNames.{outputs_inside}
-use Rattle.truth_tables.proofs.OutputPositions.{header_signals}
+use Rattle.truth_tables.proofs.OutputPositions.{outputs_inside, header_signals}
 use Rattle.truth_tables.proofs.checked_headers.read_header.Goals as goal
 
 pub check_outputs-requires : goal.check_outputs-requires

@@ -1,5 +1,5 @@
 -- A row by its arrow and both entries.
-use Rattle.std.proofs.Common.{◌≡◌, ◌++◌, None, ap, ap₂, sym, ◌∙◌}
+use Rattle.std.proofs.Common.{◌≡◌, ◌++◌, None, refl, ap, ap₂, sym, ◌∙◌}
 use Rattle.std.specs.Option.{is_some}
 use Rattle.abel_tree.specs.FirstRefusal.{earlier}
 use Rattle.abel_tree.proofs.FirstRefusals.{first_append}
@@ -25,6 +25,7 @@ returns c d is =
     both_clear c.in_ok-inputs.inputs.fault c.in_ok-outputs.outputs.fault
     (ap is_some (sym c.earlier-entries.ensures ∙ (both_clear c.refuse_arrow-arrow.result c.earlier-entries.result (ap is_some (sym c.earlier.ensures ∙ e))).1)) in
     record {
+      place = refl;
       fault = c.earlier.ensures
           ∙ ap₂ (earlier section_order) c.refuse_arrow-arrow.ensures
           (c.earlier-entries.ensures ∙ ap₂ (earlier section_order) ins.fault outs.fault ∙ sym (first_append section_order us vs))

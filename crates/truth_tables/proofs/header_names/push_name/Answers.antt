@@ -53,15 +53,15 @@ returns-in-None-signals c d is =
     (subst (λ x. IsAdded x (Some (NotAnOutput p c.number_of-number.result)) xs xs) (sym (named_other p (find d.names w) t s))
     (added_none (refused_header (NotAnOutput p (find d.names w))) _ xs (ap (λ n. Some (NotAnOutput p n)) (found_in w is.names c.number_of-number.ensures)) refl))
 
-pub returns-in_ok-push_signals-in-Some-signals : goal.returns-in_ok-push_signals-in-Some-signals
-returns-in_ok-push_signals-in-Some-signals c d is =
+pub returns-in_ok-extend_from_slice-in-Some-signals : goal.returns-in_ok-extend_from_slice-in-Some-signals
+returns-in_ok-extend_from_slice-in-Some-signals c d is =
     let w = c.args.text.now in
     let p = c.args.place in
     let t = term_named d.known w in
     let old = c.args.outputs.now.items in
-    let now = c.push_signals.new.outputs.items in
+    let now = c.extend_from_slice.new.self.items in
     let ss = c.in-Some-signals.signals.items in
     let s = subst (AreSignals t) c.in-Some-signals.is (c.in_ok-signals-in-None.ensures d t is (c.named_part.ensures d is)) in
     clear d c.check_name-found.result p w None old now (over c.args.scope.now d c.check_name-found.result p w is c.check_name-found.ensures) c.in-None.is
     (subst (λ x. IsAdded x None old now) (sym (named_listed p (find d.names w) t ss s.0 s.1))
-    (record { fault = refl; outputs = c.in_ok-push_signals-in-Some-signals.ensures ∙ ap (λ zs. old ++ outputs_at p zs) c.as_slice.ensures.value }))
+    (record { fault = refl; outputs = c.in_ok-extend_from_slice-in-Some-signals.ensures.items ∙ ap (λ zs. old ++ zs) (c.deref.ensures.value ∙ c.in_ok-more-in-Some-signals.ensures ∙ ap (outputs_at p) c.as_slice.ensures.value) }))

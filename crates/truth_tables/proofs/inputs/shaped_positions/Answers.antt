@@ -1,4 +1,4 @@
--- A number, one bit, and a set.
+-- A number, and what has positions.
 use Rattle.std.proofs.Common.{List, Option, reverse, sym, ap, ◌∙◌, subst}
 use Rattle.std.proofs.lemmas.Result.{IfOk-weaker}
 use Rattle.bit_expr.specs.declared.node.ExprId.{ExprId}
@@ -8,7 +8,7 @@ use Rattle.abel_meaning.specs.Terms.{term_of}
 use Rattle.abel_meaning.specs.Values.{constant_of}
 use Rattle.set_expr.specs.Shapes.{HasShape}
 use Rattle.truth_tables.specs.Products.{StandForInputs}
-use Rattle.truth_tables.proofs.InputLaws.{stand_set, stand_single}
+use Rattle.truth_tables.proofs.InputLaws.{stand_places}
 use Rattle.truth_tables.proofs.inputs.shaped_positions.Goals as goal
 
 pub returns-in-Number : goal.returns-in-Number
@@ -17,12 +17,7 @@ returns-in-Number c =
     (λ ps h d ns is s. h d ns is (s, (subst (λ x. HasShape x (constant_of d (term_of d.known (view c.args.header.now)))) c.in-Number.is s.shape).0))
     c.number_positions.ensures
 
-pub returns-in-Single : goal.returns-in-Single
-returns-in-Single c d ns is s =
-    subst (λ (ps : List (Option ExprId)). StandForInputs d (term_of d.known (view c.args.header.now)) (arena ns) ps) (sym (c.turned.ensures ∙ ap reverse c.into_vec.ensures))
-    (stand_single d (arena ns) (term_of d.known (view c.args.header.now)) c.args.shaped s c.in-Single.is)
-
-pub returns-in-Set : goal.returns-in-Set
-returns-in-Set c d ns is s =
-    subst (λ (ps : List (Option ExprId)). StandForInputs d (term_of d.known (view c.args.header.now)) (arena ns) ps) (sym (c.turned-in-Set.ensures ∙ ap reverse c.into_vec-in-Set.ensures))
-    (stand_set d (arena ns) (term_of d.known (view c.args.header.now)) c.args.shaped c.in-Set.field-0 s c.in-Set.is)
+pub returns-in_default : goal.returns-in_default
+returns-in_default c d ns is s =
+    subst (λ (ps : List (Option ExprId)). StandForInputs d (term_of d.known (view c.args.header.now)) (arena ns) ps) (sym (c.reverse.ensures.items ∙ ap reverse c.into_vec-positions.ensures))
+    (stand_places d (arena ns) (term_of d.known (view c.args.header.now)) c.args.shaped s c.in_default.not-Number)

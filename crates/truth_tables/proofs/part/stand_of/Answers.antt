@@ -3,10 +3,8 @@ use Rattle.std.proofs.Common.{◌≡◌, get_or, refl, sym, ap, ◌∙◌, subst
 use Rattle.abel_tree.specs.Entries.{entries_of, view_declared}
 use Rattle.abel_meaning.specs.Terms.{Number, known_of, term_named, term_meant, extended_if}
 use Rattle.truth_tables.specs.PartTerms.{IsStand, IsNumeral, is_computed}
-use Rattle.truth_tables.proofs.Operands.{number_extended}
-use Rattle.truth_tables.proofs.ConstantSteps.{stand_back}
-use Rattle.truth_tables.proofs.NamesInOrder.{named_meant, unnamed}
-use Rattle.truth_tables.proofs.PartLaws.{entry_at}
+use Rattle.truth_tables.proofs.PartLaws.{number_extended, entry_at}
+use Rattle.truth_tables.proofs.NamesInOrder.{stand_back, named_meant, unnamed}
 use Rattle.truth_tables.proofs.part.stand_of.Goals as goal
 
 pub returns-in-None-clause-stand : goal.returns-in-None-clause-stand

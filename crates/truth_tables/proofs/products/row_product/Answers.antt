@@ -1,9 +1,9 @@
 -- One position more, and all positions.
-use Rattle.std.proofs.Common.{◌<◌, ◌≤◌, [], ◌∷◌, get_or, min, length, None, refl, arith}
+use Rattle.std.proofs.Common.{◌<◌, ◌≤◌, [], ◌∷◌, Ok, Err, get_or, min, length, None, refl, arith}
 use Rattle.std.proofs.lemmas.Result.{err_from_is_err_and}
 use Rattle.bit_expr.specs.Arena.{arena}
 use Rattle.equations.proofs.BuiltParts.{keeps_longer}
-use Rattle.truth_tables.proofs.ProductLaws.{in_at, in_longer, joined_start, joined_index, joined_done, stops_index}
+use Rattle.truth_tables.proofs.ProductLaws.{in_at, in_longer, joined_at, joined_done, joined_start}
 use Rattle.truth_tables.proofs.products.row_product.Goals as goal
 
 pub loop-index-init : goal.loop-index-init
@@ -19,15 +19,15 @@ with_position-requires-clause-position c =
 
 pub loop-index-preserved : goal.loop-index-preserved
 loop-index-preserved c =
-    let lt : c.loop-index.index < min (length c.args.header.now) (length c.args.levels.now) = omega (arith, c.loop-index-test.true, c.min-count.ensures) in
-    joined_index c.args.exprs.now c.loop-index.exprs c.with_position.new.exprs c.args.unit c.loop-index.found c.in_ok-found.found _ c.args.header.now c.args.levels.now c.loop-index.index lt c.requires c.loop-index.invariant c.in_ok-found.ensures.builds c.in_ok-found.ensures.bit
+    joined_at c.args.exprs.now c.loop-index.exprs c.with_position.new.exprs c.args.unit c.loop-index.found _ c.args.header.now c.args.levels.now c.loop-index.index (Ok c.in_ok-found.found)
+    (omega (arith, c.loop-index-test.true, c.min-count.ensures)) c.requires c.loop-index.invariant c.in_ok-found.ensures.builds c.in_ok-found.ensures.bit
 
 pub returns-in_err-found-clause-builds : goal.returns-in_err-found-clause-builds
 returns-in_err-found-clause-builds c = λ list.
     let p = err_from_is_err_and c.from_residual.result c.from_residual.ensures.1 in
-    let lt : c.loop-index.index < min (length c.args.header.now) (length c.args.levels.now) = omega (arith, c.loop-index-test.true, c.min-count.ensures) in
     rw (p.1, p.2)
-    (stops_index c.args.exprs.now c.loop-index.exprs c.with_position.new.exprs c.args.unit c.loop-index.found _ c.args.header.now c.args.levels.now c.loop-index.index c.in_err-found.field-0.0 lt c.requires c.loop-index.invariant c.in_err-found.ensures.builds list)
+    (joined_at c.args.exprs.now c.loop-index.exprs c.with_position.new.exprs c.args.unit c.loop-index.found _ c.args.header.now c.args.levels.now c.loop-index.index (Err c.in_err-found.field-0.0)
+    (omega (arith, c.loop-index-test.true, c.min-count.ensures)) c.requires c.loop-index.invariant c.in_err-found.ensures.builds tt list)
 
 pub returns-clause-builds : goal.returns-clause-builds
 returns-clause-builds c =

@@ -1,7 +1,11 @@
--- A position that is X, and a bit.
-use Rattle.std.proofs.Common.{[], ◌∷◌, Ok, refl, sym, subst, length}
+-- A position or a level that is X, and a literal, plain or complemented.
+use Rattle.std.proofs.Common.{◌≡◌, ℕ, ◌<◌, Bool, [], ◌∷◌, Option, Some, List, Result, Ok, refl, sym, ap, ◌∙◌, subst, subst₂}
 use Rattle.std.specs.Prelude.{IfOk}
+use Rattle.pld_base.specs.declared.place.Place.{Place}
+use Rattle.bit_expr.specs.declared.node.ExprId.{ExprId}
+use Rattle.bit_expr.specs.declared.node.Node.{Node}
 use Rattle.bit_expr.specs.Arena.{arena, formula_at}
+use Rattle.set_expr.specs.declared.fault.SectionFault.{SectionFault}
 use Rattle.set_expr.specs.Answer.{AreIn}
 use Rattle.section_targets.specs.Building.{BuildsNodes, IsBit}
 use Rattle.section_targets.specs.Units.{part}
@@ -9,25 +13,49 @@ use Rattle.truth_tables.specs.Products.{position_literal}
 use Rattle.truth_tables.proofs.ProductLaws.{free_nodes}
 use Rattle.truth_tables.proofs.products.with_position.Goals as goal
 
+abbrev Built : (old new : List Node) → Place → (found : ExprId) → Result ExprId SectionFault → Option ExprId → Option Bool → Type 0
+Built old new unit found r p l = BuildsNodes (part unit (position_literal (arena old) (formula_at (arena old) found) p l).nodes ∷ []) old new r
+
+abbrev Gives : (old new : List Node) → (found : ExprId) → Result ExprId SectionFault → Option ExprId → Option Bool → Type 0
+Gives old new found r p l = IfOk r (λ id. IsBit (arena new) id (position_literal (arena old) (formula_at (arena old) found) p l).what)
+
+inside : (count : ℕ) (p : Option ExprId) (id : ExprId) → p ≡ Some id → AreIn count (p ∷ []) → id.0 < count
+inside count p id e h = (subst (λ q. AreIn count (q ∷ [])) e h).0
+
 pub returns-in-None-clause-builds : goal.returns-in-None-clause-builds
 returns-in-None-clause-builds c =
-    subst (λ p. BuildsNodes (part c.args.unit (position_literal (arena c.args.exprs.now) (formula_at (arena c.args.exprs.now) c.args.found) p c.args.level).nodes ∷ []) c.args.exprs.now c.args.exprs.now (Ok c.args.found))
-    (sym c.in-None.is) (free_nodes c.args.unit c.args.found c.args.exprs.now)
+    subst (λ p. Built c.args.exprs.now c.args.exprs.now c.args.unit c.args.found (Ok c.args.found) p c.args.level) (sym c.in-None.is) (free_nodes c.args.unit c.args.found c.args.exprs.now)
 
 pub returns-in-None-clause-bit : goal.returns-in-None-clause-bit
 returns-in-None-clause-bit c =
-    subst (λ p. IsBit (arena c.args.exprs.now) c.args.found (position_literal (arena c.args.exprs.now) (formula_at (arena c.args.exprs.now) c.args.found) p c.args.level).what)
-    (sym c.in-None.is) (c.requires.found, refl)
+    subst (λ p. Gives c.args.exprs.now c.args.exprs.now c.args.found (Ok c.args.found) p c.args.level) (sym c.in-None.is) (c.requires.found, refl)
 
-pub with_level-requires-clause-bit : goal.with_level-requires-clause-bit
-with_level-requires-clause-bit c = (subst (λ p. AreIn (length (arena c.args.exprs.now)) (p ∷ [])) c.in-Some.is c.requires.position).0
+pub returns-in-None-level-clause-builds : goal.returns-in-None-level-clause-builds
+returns-in-None-level-clause-builds c =
+    subst₂ (Built c.args.exprs.now c.args.exprs.now c.args.unit c.args.found (Ok c.args.found)) (sym c.in-Some.is) (sym c.in-None-level.is) (free_nodes c.args.unit c.args.found c.args.exprs.now)
 
-pub returns-in-Some-clause-builds : goal.returns-in-Some-clause-builds
-returns-in-Some-clause-builds c =
-    subst (λ p. BuildsNodes (part c.args.unit (position_literal (arena c.args.exprs.now) (formula_at (arena c.args.exprs.now) c.args.found) p c.args.level).nodes ∷ []) c.args.exprs.now c.with_level.new.exprs c.with_level.result)
-    (sym c.in-Some.is) c.with_level.ensures.builds
+pub returns-in-None-level-clause-bit : goal.returns-in-None-level-clause-bit
+returns-in-None-level-clause-bit c =
+    subst₂ (Gives c.args.exprs.now c.args.exprs.now c.args.found (Ok c.args.found)) (sym c.in-Some.is) (sym c.in-None-level.is) (c.requires.found, refl)
 
-pub returns-in-Some-clause-bit : goal.returns-in-Some-clause-bit
-returns-in-Some-clause-bit c =
-    subst (λ p. IfOk c.with_level.result (λ id. IsBit (arena c.with_level.new.exprs) id (position_literal (arena c.args.exprs.now) (formula_at (arena c.args.exprs.now) c.args.found) p c.args.level).what))
-    (sym c.in-Some.is) c.with_level.ensures.bit
+pub add_node-requires : goal.add_node-requires
+add_node-requires c = (c.requires.found, inside _ c.args.position c.in-Some.bit c.in-Some.is c.requires.position)
+
+pub returns-then-on-clause-builds : goal.returns-then-on-clause-builds
+returns-then-on-clause-builds c =
+    subst₂ (Built c.args.exprs.now c.add_node.new.exprs c.args.unit c.args.found c.add_node.result) (sym c.in-Some.is) (sym (c.in-Some-level.is ∙ ap Some c.if-on.true)) c.add_node.ensures.builds
+
+pub returns-then-on-clause-bit : goal.returns-then-on-clause-bit
+returns-then-on-clause-bit c =
+    subst₂ (Gives c.args.exprs.now c.add_node.new.exprs c.args.found c.add_node.result) (sym c.in-Some.is) (sym (c.in-Some-level.is ∙ ap Some c.if-on.true)) c.add_node.ensures.bit
+
+pub guard_else-requires-clause-condition : goal.guard_else-requires-clause-condition
+guard_else-requires-clause-condition c = inside _ c.args.position c.in-Some.bit c.in-Some.is c.requires.position
+
+pub returns-else-on-clause-builds : goal.returns-else-on-clause-builds
+returns-else-on-clause-builds c =
+    subst₂ (Built c.args.exprs.now c.guard_else.new.exprs c.args.unit c.args.found c.guard_else.result) (sym c.in-Some.is) (sym (c.in-Some-level.is ∙ ap Some c.if-on.false)) c.guard_else.ensures.builds
+
+pub returns-else-on-clause-bit : goal.returns-else-on-clause-bit
+returns-else-on-clause-bit c =
+    subst₂ (Gives c.args.exprs.now c.guard_else.new.exprs c.args.found c.guard_else.result) (sym c.in-Some.is) (sym (c.in-Some-level.is ∙ ap Some c.if-on.false)) c.guard_else.ensures.bit

@@ -16,8 +16,7 @@ level_holds-loop-member-preserved t c =
     let i = c.loop-member.member-index in
     let m = view_member c.member-item.result in
     let here : map view_member (take (i + 1) ms) ≡ map view_member (take i ms) ++ m ∷ [] = front_more view_member ms i c.member-item.result c.loop-member-test.true c.member-item.is in
-    c.either-found.ensures
-    ∙ ap₂ (λ a b. a || b) (c.loop-member.invariant) (c.in_ok-holds-in-Set.ensures)
+    ap₂ (λ a b. a || b) (c.loop-member.invariant) (c.in_ok-holds-in-Set.ensures)
     ∙ sym (ap (λ xs. any_holds_pulse ns (members_of xs)) here ∙ holds_more ns (map view_member (take i ms)) m)
 
 pub level_holds-returns-after-loop-member : goal.level_holds-returns-after-loop-member

@@ -1,30 +1,18 @@
--- One name more, and all names.
-use Rattle.std.proofs.Common.{◌≡◌, ℕ, ◌+◌, ◌||◌, List, [], ◌∷◌, ◌++◌, map, take, sym, ap, ap₂, ◌∙◌}
-use Rattle.std.specs.Global.{Vec}
+-- The names of the range, as bytes.
+use Rattle.std.proofs.Common.{ap, ap₂, ◌∙◌}
 use Rattle.std.specs.List.{list_any}
 use Rattle.abel_tree.specs.Entries.{entries_of}
 use Rattle.abel_tree.specs.Ranges.{range_names}
+use Rattle.name_uses.specs.RangeParts.{name_items}
 use Rattle.set_expr.specs.FoundNames.{names_found}
-use Rattle.set_expr.proofs.FoundMembers.{front_more, whole_front}
 use Rattle.truth_tables.specs.RowEntries.{is_pulse_named}
-use Rattle.truth_tables.proofs.EntryParts.{any_more}
+use Rattle.truth_tables.proofs.EntryParts.{any_named}
 use Rattle.truth_tables.proofs.pulses.range_holds_pulse.Goals as goal
-
-pub loop-name-preserved : goal.loop-name-preserved
-loop-name-preserved c =
-    let text : Vec ℕ → List ℕ = λ n. n.items in
-    let test = is_pulse_named (names_found (entries_of c.args.scope.now)) in
-    let before = map text (take c.loop-name.name-index c.deref-name-items.result.now) in
-    let n = text c.name-item.result in
-    let here : map text (take (c.loop-name.name-index + 1) c.deref-name-items.result.now) ≡ before ++ n ∷ [] = front_more text c.deref-name-items.result.now c.loop-name.name-index c.name-item.result c.loop-name-test.true c.name-item.is in
-    c.either-found.ensures
-    ∙ ap₂ (λ a b. a || b) (c.loop-name.invariant) (c.names_pulse.ensures ∙ ap test c.as_slice.ensures.value)
-    ∙ sym (ap (list_any test) here ∙ any_more test before n)
 
 pub returns : goal.returns
 returns c =
-    let text : Vec ℕ → List ℕ = λ n. n.items in
-    let all : map text (take c.loop-name.name-index c.deref-name-items.result.now) ≡ range_names c.args.first.now.text c.args.last.now.text =
-    whole_front text c.deref-name-items.result.now c.loop-name.name-index c.loop-name-test.false
-    ∙ (ap (map text) c.deref-name-items.ensures.value ∙ (c.in_ok-names.ensures ∙ ap₂ range_names c.bytes.ensures c.bytes-2.ensures)) in
-    c.loop-name.invariant ∙ ap (list_any (is_pulse_named (names_found (entries_of c.args.scope.now)))) all
+    let test = is_pulse_named (names_found (entries_of c.args.scope.now)) in
+    c.any_names_pulse.ensures
+    ∙ ap (list_any (λ n. test (name_items n))) c.as_slice.ensures.value
+    ∙ any_named test c.in_ok-names.names.items
+    ∙ ap (list_any test) (c.in_ok-names.ensures ∙ ap₂ range_names c.bytes.ensures c.bytes-2.ensures)

@@ -21,7 +21,7 @@ pub returns : goal.returns
 returns c d t is p =
     let empty : c.loop-top.stack.items ≡ [] = grind (arith, common_steps) in
     let w = walk_done (IsPart d) listing t c.loop-top.stack.items (reverse c.loop-top.signals.items) empty (c.loop-top.invariant d t is p) in
-    (w.0, c.turned.ensures ∙ sym w.1)
+    (w.0, c.reverse.ensures.items ∙ sym w.1)
 
 pub returns-then-not-branch : goal.returns-then-not-branch
 returns-then-not-branch c d t is p =

@@ -7,7 +7,7 @@ use Rattle.abel_meaning.specs.Terms.{terms_of}
 use Rattle.truth_tables.specs.HeaderSignals.{names_positions}
 use Rattle.truth_tables.specs.PartTerms.{IsPart}
 use Rattle.truth_tables.specs.SignalTerms.{IsListed}
-use Rattle.truth_tables.proofs.Operands.{operator_operand}
+use Rattle.truth_tables.proofs.PartLaws.{operator_operand}
 use Rattle.truth_tables.proofs.SignalLaws.{put_set, put_unknown, operand_unnamed}
 use Rattle.truth_tables.proofs.signals.put_part.Goals as goal
 

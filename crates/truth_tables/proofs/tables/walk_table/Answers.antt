@@ -15,9 +15,9 @@ use Rattle.equations.proofs.BuiltParts.{is_context, same_context, value_accepted
 use Rattle.truth_tables.specs.OutputHeaders.{output_header}
 use Rattle.truth_tables.specs.TableUnits.{assigned_by, header_refused, row_units}
 use Rattle.truth_tables.specs.TableWalks.{WalksTable, given_by, places_by}
-use Rattle.truth_tables.proofs.HeaderNames.{outputs_inside}
+use Rattle.truth_tables.proofs.OutputPositions.{outputs_inside}
 use Rattle.truth_tables.proofs.RowsWalked.{header_noted, header_stands, some_refused}
-use Rattle.truth_tables.proofs.TableWorks.{inputs_clear, outputs_named, table_works}
+use Rattle.truth_tables.proofs.RowWorks.{inputs_clear, outputs_named, table_works}
 use Rattle.truth_tables.proofs.tables.walk_table.Goals as goal
 
 pub returns-in-Some : goal.returns-in-Some

@@ -1,0 +1,44 @@
+-- Trees and names of the examples. A tree stands at a column of line 2, the header's; specials stand at column 9.
+use Prim.Native.String.{String}
+use Rattle.std.specs.Prelude.{ℕ, Bool, true, false, None, List, [], ◌∷◌, codes}
+use Rattle.pld_base.specs.declared.place.Place.{Place}
+use Rattle.abel_tree.specs.Entries.{Kind, AConstant, Entry}
+use Rattle.abel_tree.specs.Tree.{Tree, ANumber, ASpecial, AName, ASet, SetMember, OneMember, members_of}
+
+abbrev pub at : ℕ → Place
+at c = record { line = 2; column = c }
+
+abbrev pub number : ℕ → Tree
+number n = ANumber (record { value = n; place = at 1 })
+
+abbrev pub name : ℕ → String → Tree
+name c text = AName (record { text = codes text; place = at c }) None
+
+abbrev pub ones : List Tree → List SetMember
+ones [] = []
+ones (t ∷ ts) = OneMember t ∷ ones ts
+
+abbrev pub set : ℕ → List Tree → Tree
+set c ts = ASet (at c) (members_of (ones ts)) None
+
+abbrev pub unknown : Tree
+unknown = ASpecial 88 (at 9)
+
+abbrev pub pulse : Tree
+pulse = ASpecial 67 (at 9)
+
+abbrev pub release : Tree
+release = ASpecial 90 (at 9)
+
+abbrev pub declared : String → Kind → (assigned : Bool) → Entry
+declared text kind assigned =
+    record {
+      name = codes text;
+      place = at 1;
+      kind = kind;
+      words = record { combinational = true; registered = false; buffer = false; invert = true; dc = false };
+      assigned = assigned;
+    }
+
+abbrev pub constant : String → Tree → Entry
+constant text t = declared text (AConstant t) false

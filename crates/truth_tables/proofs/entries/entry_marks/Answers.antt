@@ -1,0 +1,47 @@
+-- No pair is left, a pair that doesn't meet, and one that does.
+use Rattle.std.proofs.Common.{◌≡◌, [], ◌∷◌, ◌++◌, map, sym, ap, ◌∙◌, subst₂, arith}
+use Rattle.std.proofs.lemmas.Grind.{common_steps}
+use Rattle.pld_device.specs.SampleTable.{sample}
+use Rattle.abel_tree.specs.View.{view}
+use Rattle.abel_meaning.specs.Terms.{Term, term_of}
+use Rattle.abel_meaning.proofs.RelationWords.{map_reverse}
+use Rattle.set_expr.specs.Contexts.{context_for}
+use Rattle.truth_tables.specs.declared.part.Pair.{Pair}
+use Rattle.truth_tables.specs.EntryMarks.{view_mark}
+use Rattle.truth_tables.specs.PairTerms.{IsPair, meeting, seen}
+use Rattle.truth_tables.specs.PartCounts.{part_parts}
+use Rattle.truth_tables.specs.Stacks.{Walked}
+use Rattle.truth_tables.proofs.PartSums.{part_counted}
+use Rattle.truth_tables.proofs.RowsWalked.{is_over}
+use Rattle.truth_tables.proofs.StackLaws.{walk_begun, walk_done, walk_fewer, walk_on, walk_stops}
+use Rattle.truth_tables.proofs.entries.entry_marks.Goals as goal
+
+pub loop-pair-init : goal.loop-pair-init
+loop-pair-init c d is =
+    let t : Term × Term = (term_of d.known (view c.args.header.now), term_of d.known (view c.args.entry.now)) in
+    let pair : Pair = record { header = c.part_of.result; given = c.part_of-2.result } in
+    subst₂ (λ st ms. Walked (IsPair d) (meeting d) t st (seen ms)) (sym (c.in_ok-push.ensures.items ∙ ap (λ xs. xs ++ pair ∷ []) c.new-stack.ensures.items)) (sym c.new-marks.ensures.items)
+    (walk_begun (IsPair d) (meeting d) t pair (c.part_of.ensures d is, c.part_of-2.ensures d is))
+
+pub returns : goal.returns
+returns c d is =
+    let t : Term × Term = (term_of d.known (view c.args.header.now), term_of d.known (view c.args.entry.now)) in
+    let out = c.loop-pair.marks.items in
+    let empty : c.loop-pair.stack.items ≡ [] = grind (arith, common_steps) in
+    let w = walk_done (IsPair d) (meeting d) t c.loop-pair.stack.items (seen out) empty (c.loop-pair.invariant d is) in
+    (w.0, ap (map view_mark) c.reverse.ensures.items ∙ map_reverse view_mark out ∙ sym w.1)
+
+pub returns-then-not-branch : goal.returns-then-not-branch
+returns-then-not-branch c d is =
+    walk_stops (IsPair d) (meeting d) _ _ _ _ _ _ _ _ c.in-Some.ensures.items (c.loop-pair.invariant d is) (λ u q. c.in_ok-step.ensures d u.0 u.1 is q.0 q.1) c.if-not-branch.true
+
+pub loop-pair-preserved : goal.loop-pair-preserved
+loop-pair-preserved c d is =
+    walk_on (IsPair d) (meeting d) _ _ _ _ _ _ _ _ c.in-Some.ensures.items (c.loop-pair.invariant d is) (λ u q. c.in_ok-step.ensures d u.0 u.1 is q.0 q.1) c.if-not-branch.false
+
+pub loop-pair-smaller : goal.loop-pair-smaller
+loop-pair-smaller c =
+    let n = c.args.scope.now in
+    let d = context_for sample n in
+    let is = is_over sample n in
+    walk_fewer (IsPair d) (meeting d) _ _ _ _ _ _ _ _ c.in-Some.ensures.items (c.loop-pair.invariant d is) (λ u q. c.in_ok-step.ensures d u.0 u.1 is q.0 q.1) (λ (p : Pair). part_parts d.known p.header) (λ p u q. part_counted d p.header u.0 q.0) c.if-not-branch.false

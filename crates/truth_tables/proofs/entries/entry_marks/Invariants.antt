@@ -1,0 +1,20 @@
+-- The pairs on the stack have their marks before those that were put; each step leaves fewer parts of the header.
+use Rattle.std.specs.List.{sum_by}
+use Rattle.abel_tree.specs.Entries.{entries_of}
+use Rattle.abel_tree.specs.View.{view}
+use Rattle.abel_meaning.specs.Designs.{Context}
+use Rattle.abel_meaning.specs.Terms.{known_of, term_of}
+use Rattle.truth_tables.specs.declared.part.Pair.{Pair}
+use Rattle.truth_tables.specs.EntryTerms.{IsOver}
+use Rattle.truth_tables.specs.PairTerms.{IsPair, meeting, seen}
+use Rattle.truth_tables.specs.PartCounts.{part_parts}
+use Rattle.truth_tables.specs.Stacks.{Walked}
+use Rattle.truth_tables.proofs.entries.entry_marks.Given as goal
+
+abbrev pub invariant-loop-pair : goal.invariant-loop-pair
+invariant-loop-pair l =
+    (d : Context) → IsOver l.scope d
+    → Walked (IsPair d) (meeting d) (term_of d.known (view l.header), term_of d.known (view l.entry)) l.stack.items (seen l.marks.items)
+
+abbrev pub decreases-loop-pair : goal.decreases-loop-pair
+decreases-loop-pair l = sum_by (λ (p : Pair). part_parts (known_of (entries_of l.scope)) p.header) l.stack.items

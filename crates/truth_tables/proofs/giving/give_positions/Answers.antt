@@ -1,0 +1,54 @@
+-- One position more, and all positions.
+use Rattle.std.proofs.Common.{◌<◌, ◌≤◌, Ok, Err, min, length, arith}
+use Rattle.std.proofs.lemmas.Result.{err_from_is_err_and}
+use Rattle.bit_expr.specs.Arena.{arena}
+use Rattle.section_targets.proofs.Built.{kept_formula, kept_inside, keeps_on}
+use Rattle.equations.proofs.BuiltUnits.{at}
+use Rattle.truth_tables.specs.Gives.{matched_guard}
+use Rattle.truth_tables.proofs.GivenLaws.{named_at, positions_left, positions_step_at, positions_work}
+use Rattle.truth_tables.proofs.WorkLaws.{begun_all, begun_done}
+use Rattle.truth_tables.proofs.giving.give_positions.Goals as goal
+
+pub loop-index-init : goal.loop-index-init
+loop-index-init c =
+    let m = c.args.matching.now in
+    (λ i f e. e, λ d e. begun_all (positions_work d (matched_guard (arena c.args.exprs.now) m.assigning.guard m.bit) m.assigning.clocked c.args.outputs.now c.args.levels.now) (at c.args.exprs.now c.args.list.now.items))
+
+pub give_position-requires-clause-signal : goal.give_position-requires-clause-signal
+give_position-requires-clause-signal c = named_at _ c.args.outputs.now c.loop-index.index (omega (arith, c.loop-index-test.true, c.min-count.ensures)) c.requires.signals
+
+pub give_position-requires-clause-bit : goal.give_position-requires-clause-bit
+give_position-requires-clause-bit c = kept_inside _ _ c.args.matching.now.bit c.loop-index.invariant.0 c.requires.bit
+
+pub loop-index-preserved : goal.loop-index-preserved
+loop-index-preserved c =
+    let m = c.args.matching.now in
+    let fs = arena c.args.exprs.now in
+    let lt : c.loop-index.index < min (length c.args.outputs.now) (length c.args.levels.now) = omega (arith, c.loop-index-test.true, c.min-count.ensures) in (
+      keeps_on _ _ _ c.loop-index.invariant.0 c.in_ok-give_position.ensures.keeps,
+      λ d e. positions_step_at d m.assigning.guard m.assigning.clocked m.bit c.loop-index.index c.args.outputs.now c.args.levels.now fs (at c.args.exprs.now c.args.list.now.items) (at c.loop-index.exprs c.loop-index.list.items) (at c.give_position.new.exprs c.give_position.new.list.items) (Ok tt)
+          lt (kept_formula fs (arena c.loop-index.exprs) m.bit c.loop-index.invariant.0 c.requires.bit) (c.loop-index.invariant.1 d e) (c.in_ok-give_position.ensures.gives d e),
+    )
+
+pub returns-in_err-give_position-clause-keeps : goal.returns-in_err-give_position-clause-keeps
+returns-in_err-give_position-clause-keeps c = keeps_on _ _ _ c.loop-index.invariant.0 c.in_err-give_position.ensures.keeps
+
+pub returns-in_err-give_position-clause-gives : goal.returns-in_err-give_position-clause-gives
+returns-in_err-give_position-clause-gives c = λ d e.
+    let p = err_from_is_err_and c.from_residual.result c.from_residual.ensures.1 in
+    let m = c.args.matching.now in
+    let fs = arena c.args.exprs.now in
+    let lt : c.loop-index.index < min (length c.args.outputs.now) (length c.args.levels.now) = omega (arith, c.loop-index-test.true, c.min-count.ensures) in
+    rw (p.1, p.2)
+    (positions_step_at d m.assigning.guard m.assigning.clocked m.bit c.loop-index.index c.args.outputs.now c.args.levels.now fs (at c.args.exprs.now c.args.list.now.items) (at c.loop-index.exprs c.loop-index.list.items) (at c.give_position.new.exprs c.give_position.new.list.items) (Err c.in_err-give_position.field-0.0)
+    lt (kept_formula fs (arena c.loop-index.exprs) m.bit c.loop-index.invariant.0 c.requires.bit) (c.loop-index.invariant.1 d e) (c.in_err-give_position.ensures.gives d e))
+
+pub returns-clause-keeps : goal.returns-clause-keeps
+returns-clause-keeps c = c.loop-index.invariant.0
+
+pub returns-clause-gives : goal.returns-clause-gives
+returns-clause-gives c = λ d e.
+    let m = c.args.matching.now in
+    let h = matched_guard (arena c.args.exprs.now) m.assigning.guard m.bit in
+    let le : min (length c.args.outputs.now) (length c.args.levels.now) ≤ c.loop-index.index = omega (arith, c.loop-index-test.false, c.min-count.ensures) in
+    begun_done _ _ (at c.args.exprs.now c.args.list.now.items) (at c.loop-index.exprs c.loop-index.list.items) (positions_left d h m.assigning.clocked c.loop-index.index c.args.outputs.now c.args.levels.now le) (c.loop-index.invariant.1 d e)

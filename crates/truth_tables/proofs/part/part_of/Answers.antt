@@ -1,0 +1,66 @@
+-- Names, sets and operators, under the extension that counts.
+use Rattle.std.proofs.Common.{◌≡◌, ℕ, Option, List, map, sym, ap, ap₂, ◌∙◌, subst}
+use Rattle.abel_tree.specs.declared.expressions.Expr.{Expr}
+use Rattle.abel_tree.specs.declared.expressions.Expr as expr
+use Rattle.abel_tree.specs.declared.expressions.Member.{Member}
+use Rattle.abel_tree.specs.declared.words.Extension.{Extension}
+use Rattle.abel_tree.specs.declared.words.Word.{Word}
+use Rattle.abel_tree.specs.Extensions.{innermost}
+use Rattle.abel_tree.specs.Tree.{members_of}
+use Rattle.abel_tree.specs.View.{view, view_member}
+use Rattle.abel_meaning.specs.Terms.{Known, Term, Set, term_of, terms_of, term_named, extended_if}
+use Rattle.truth_tables.specs.PartTerms.{IsPart, is_operand}
+use Rattle.expr_bits.proofs.Views.{view_name, view_set, view_unary, view_binary}
+use Rattle.truth_tables.proofs.PartLaws.{inner_extended}
+use Rattle.truth_tables.proofs.part.part_of.Goals as goal
+
+named : (ks : List Known) (x : Expr) (word : Word) (own before now : Option Extension) (text : List ℕ) → x ≡ expr.Name word own → now ≡ innermost own before → text ≡ word.text → extended_if before (term_of ks (view x)) ≡ extended_if now (term_named ks text)
+named ks x word own before now text e i t =
+    ap (λ x. extended_if before (term_of ks (view x))) e
+    ∙ ap (λ y. extended_if before (term_of ks y)) (view_name word own)
+    ∙ inner_extended own before (term_named ks word.text)
+    ∙ ap₂ (λ o w. extended_if o (term_named ks w)) (sym i) (sym t)
+
+pub loop-at-preserved-in-Constant : goal.loop-at-preserved-in-Constant
+loop-at-preserved-in-Constant c d is =
+    c.loop-at.invariant d is
+    ∙ named d.known c.loop-at.at.now c.in-Name.word c.in-Name.own c.loop-at.extension c.innermost-extension.result c.bytes.result.now c.in-Name.is c.innermost-extension.ensures c.bytes.ensures
+    ∙ c.in-Constant.ensures.stand d is
+
+pub returns-in-Part : goal.returns-in-Part
+returns-in-Part c d is =
+    subst (IsPart d c.in-Part.part)
+    (sym (c.loop-at.invariant d is
+    ∙ named d.known c.loop-at.at.now c.in-Name.word c.in-Name.own c.loop-at.extension c.innermost-extension.result c.bytes.result.now c.in-Name.is c.innermost-extension.ensures c.bytes.ensures))
+    (c.in-Part.ensures.stand d is).0
+
+pub returns-in-Set : goal.returns-in-Set
+returns-in-Set c d is =
+    let own = c.in-Set.own in
+    let before = c.loop-at.extension in
+    let set : List Member → Term = λ ms. Set (terms_of d.known (members_of (map view_member ms))) in
+    let here = ap view c.in-Set.is ∙ view_set c.in-Set.place c.in-Set.members own in
+    record {
+      extension = own;
+      whole = ap (term_of d.known) here ∙ ap (λ ms. extended_if own (set ms)) (sym c.as_slice.ensures);
+      is = c.loop-at.invariant d is
+          ∙ ap (λ y. extended_if before (term_of d.known y)) here
+          ∙ inner_extended own before (set c.in-Set.members)
+          ∙ ap₂ (λ o ms. extended_if o (set ms)) (sym c.innermost-extension-in-Set.ensures) (sym c.as_slice.ensures);
+    }
+
+pub returns-in-Unary : goal.returns-in-Unary
+returns-in-Unary c d is =
+    record {
+      extension = c.loop-at.extension;
+      is = c.loop-at.invariant d is;
+      operand = ap (λ e. is_operand (term_of d.known (view e))) c.in-Unary.is ∙ ap (λ t. is_operand (term_of d.known t)) (view_unary c.in-Unary.sign c.in-Unary.place c.in-Unary.inner);
+    }
+
+pub returns-in-Binary : goal.returns-in-Binary
+returns-in-Binary c d is =
+    record {
+      extension = c.loop-at.extension;
+      is = c.loop-at.invariant d is;
+      operand = ap (λ e. is_operand (term_of d.known (view e))) c.in-Binary.is ∙ ap (λ t. is_operand (term_of d.known t)) (view_binary c.in-Binary.sign c.in-Binary.place c.in-Binary.left c.in-Binary.right);
+    }

@@ -1,0 +1,17 @@
+-- What was begun with is what is looked at, under the extension that counts now.
+use Rattle.std.proofs.Common.{◌≡◌}
+use Rattle.abel_tree.specs.Entries.{entries_of}
+use Rattle.abel_tree.specs.View.{view}
+use Rattle.abel_meaning.specs.Designs.{Context}
+use Rattle.abel_meaning.specs.Terms.{term_of, extended_if}
+use Rattle.truth_tables.specs.EntryTerms.{IsOver}
+use Rattle.truth_tables.specs.StepsLeft.{steps_left}
+use Rattle.truth_tables.proofs.part.part_of.Given as goal
+
+abbrev pub invariant-loop-at : goal.invariant-loop-at
+invariant-loop-at l =
+    (d : Context) → IsOver l.scope d
+    → extended_if l.fn.outer (term_of d.known (view l.fn.expr)) ≡ extended_if l.extension (term_of d.known (view l.at))
+
+abbrev pub decreases-loop-at : goal.decreases-loop-at
+decreases-loop-at l = steps_left (entries_of l.scope) (view l.at)

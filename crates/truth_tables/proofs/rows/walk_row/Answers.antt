@@ -1,0 +1,68 @@
+-- A row that is refused or stands behind what is, and one that is made.
+use Rattle.std.proofs.Common.{sym, ◌∙◌, subst}
+use Rattle.std.proofs.lemmas.Result.{on_ok_weaker}
+use Rattle.bit_expr.specs.Arena.{arena}
+use Rattle.abel_tree.specs.View.{view_row}
+use Rattle.set_expr.specs.Given.{view_guard}
+use Rattle.section_targets.specs.declared.walked.Walked.{Walked}
+use Rattle.section_targets.specs.Walking.{standing}
+use Rattle.truth_tables.specs.Rows.{row_work}
+use Rattle.truth_tables.specs.RowWalks.{HasInputs, design_of, nodes_left}
+use Rattle.truth_tables.specs.Works.{Work}
+use Rattle.truth_tables.proofs.RowWorks.{found_row}
+use Rattle.truth_tables.proofs.RowsWalked.{after_exprs, after_made, not_clear, over_same, row_accepted, row_made, row_stands}
+use Rattle.truth_tables.proofs.WorkLaws.{DoesWork}
+use Rattle.truth_tables.proofs.rows.walk_row.Goals as goal
+
+pub returns-then-refuse-clause-walks : goal.returns-then-refuse-clause-walks
+returns-then-refuse-clause-walks g c = λ n e.
+    let v = g.D.Device.table in
+    let h = c.args.headed.now in
+    let is = c.in_ok-found.ensures (design_of v h) (over_same v c.scope.result.now h.scope.now c.scope.ensures) in
+    row_stands (design_of v h) (view_guard (arena c.args.out.now.exprs) h.guard) h.table.now h.outputs.now n (view_row c.args.row.now) c.in_ok-found.found.fault c.args.out.now c.refuse.new.self
+    is.fault c.refuse.ensures.first (sym c.refuse.ensures.refused ∙ c.if-refuse.true)
+
+pub returns-then-refuse-clause-inputs : goal.returns-then-refuse-clause-inputs
+returns-then-refuse-clause-inputs g c = subst (λ (w : Walked). HasInputs g.D.Device.table c.args.headed.now c.args.inputs.now w.exprs) (sym c.refuse.ensures.first) c.requires.inputs
+
+pub returns-then-refuse-clause-made : goal.returns-then-refuse-clause-made
+returns-then-refuse-clause-made g c = λ e. not_clear c.refuse.new.self.fault (sym c.refuse.ensures.refused ∙ c.if-refuse.true) e
+
+pub give_row-made-requires-clause-inputs : goal.give_row-made-requires-clause-inputs
+give_row-made-requires-clause-inputs g c = subst (λ (w : Walked). HasInputs g.D.Device.table c.args.headed.now c.args.inputs.now w.exprs) (sym c.refuse.ensures.first) c.requires.inputs
+
+pub returns-clause-walks : goal.returns-clause-walks
+returns-clause-walks g c =
+    let v = g.D.Device.table in
+    let h = c.args.headed.now in
+    let d = design_of v h in
+    let t = h.table.now in
+    let row = view_row c.args.row.now in
+    let f = c.in_ok-found.found in
+    let old = c.args.out.now in
+    let now = c.refuse.new.self in
+    let made = c.give_row-made.new.out in
+    let r = c.give_row-made.result in
+    let m = nodes_left v h c.args.inputs.now in
+    let guard = view_guard (arena old.exprs) h.guard in
+    let s = sym c.refuse.ensures.refused ∙ c.if-refuse.false in
+    let clear = row_accepted f.fault old now c.refuse.ensures.first s in
+    let is = c.in_ok-found.ensures d (over_same v c.scope.result.now h.scope.now c.scope.ensures) in
+    on_ok_weaker c.keep_limit.result
+    (λ k n e. row_made d guard t h.outputs.now n row f.fault old now made c.keep_limit.new.self r
+    is.fault c.refuse.ensures.first s c.give_row-made.ensures.fault c.give_row-made.ensures.before
+    (subst (λ i. DoesWork (row_work d guard t h.outputs.now i row) (standing now) (standing made) r) (sym (e clear.0))
+    (subst (λ (w : Work). DoesWork w (standing now) (standing made) r) (found_row d guard t h.outputs.now m row f c.requires.accepted.named is clear.1) c.give_row-made.ensures.gives)) k)
+    c.keep_limit.ensures
+
+pub returns-clause-inputs : goal.returns-clause-inputs
+returns-clause-inputs g c =
+    on_ok_weaker c.keep_limit.result
+    (λ k. subst (HasInputs g.D.Device.table c.args.headed.now c.give_row-made.new.inputs) (sym (after_exprs c.give_row-made.result c.give_row-made.new.out c.keep_limit.new.self k)) c.give_row-made.ensures.inputs)
+    c.keep_limit.ensures
+
+pub returns-clause-made : goal.returns-clause-made
+returns-clause-made g c =
+    on_ok_weaker c.keep_limit.result
+    (λ k e. after_made c.give_row-made.result c.give_row-made.new.out c.keep_limit.new.self k e c.give_row-made.ensures.made)
+    c.keep_limit.ensures
