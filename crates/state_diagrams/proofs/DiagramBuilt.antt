@@ -1,10 +1,9 @@
 -- States with the matches of other signals, and a whole diagram behind its registers.
-use Rattle.std.proofs.Common.{◌≡◌, false, true, Option, Some, List, [], ◌∷◌, ◌++◌, Result, length, map, drop, refl, sym, ap, ◌∙◌, subst, append_assoc, append-nil}
+use Rattle.std.proofs.Common.{◌≡◌, false, true, Option, None, Some, List, [], ◌∷◌, ◌++◌, Result, Ok, length, map, drop, refl, sym, ap, ap₂, ◌∙◌, subst, subst₂, arith, append_assoc, append-nil}
 use Rattle.std.proofs.Math.Seq.{drop-append_seam}
 use Rattle.pld_base.specs.declared.place.Place.{Place}
 use Rattle.bit_expr.specs.declared.node.ExprId.{ExprId}
-use Rattle.bit_expr.specs.declared.node.Node.{Node}
-use Rattle.bit_expr.specs.Arena.{arena, formula_at}
+use Rattle.bit_expr.specs.Arena.{arena}
 use Rattle.bit_expr.specs.Formulas.{Formula}
 use Rattle.abel_tree.specs.Tree.{StateTree}
 use Rattle.abel_meaning.specs.Contributions as meant
@@ -18,18 +17,22 @@ use Rattle.set_expr.specs.declared.fault.SectionFault.{SectionFault}
 use Rattle.set_expr.specs.Given.{view_contribution}
 use Rattle.section_targets.specs.declared.aim.Aim.{Aim}
 use Rattle.section_targets.specs.declared.manner.Manner.{Manner}
+use Rattle.section_targets.specs.declared.walked.Walked.{Walked}
 use Rattle.section_targets.specs.Building.{AreBits, IsBuilt, Builds}
+use Rattle.section_targets.specs.Manners.{AreFirsts}
+use Rattle.section_targets.specs.Walking.{Walks, standing}
+use Rattle.section_targets.proofs.WalksBehind.{walks_made, walks_then}
 use Rattle.section_targets.specs.Given.{places_of}
-use Rattle.section_targets.specs.Units.{CountedUnit}
-use Rattle.equations.proofs.BuiltUnits.{at}
 use Rattle.state_diagrams.specs.DiagramUnits.{signals_of, units_of_states}
 use Rattle.truth_tables.specs.TableUnits as tables
 use Rattle.truth_tables.specs.Gives as header
-use Rattle.truth_tables.specs.Works.{Work, before, given_freely}
-use Rattle.truth_tables.proofs.WorkLaws.{DoesWork, step_then}
-use Rattle.state_diagrams.specs.Matches.{GivesMatches, matches_beside, other_firsts, other_places}
+use Rattle.truth_tables.specs.Works.{Work, before}
+use Rattle.truth_tables.proofs.WorkLaws.{DoesWork}
+use Rattle.state_diagrams.specs.Matches.{matches_beside, other_firsts, other_places, pushed_for}
+use Rattle.state_diagrams.proofs.MatchLaws.{pushed_meant}
 use Rattle.state_diagrams.proofs.GuardsOfStates.{others_matched, places_of_any}
 use Rattle.state_diagrams.specs.DiagramPlaces.{no_block, states_places}
+use Rattle.state_diagrams.specs.DiagramWalks.{WalksWork}
 use Rattle.state_diagrams.specs.DiagramWorks.{header_work, others_work, registers_work, state_bits, states_work}
 use Rattle.state_diagrams.proofs.StateBits.{states_counted}
 
@@ -39,43 +42,39 @@ use Rattle.state_diagrams.proofs.StateBits.{states_counted}
 abbrev gives_of : Context → meant.Guard Formula → List Aim → List StateTree → List (meant.Contribution Formula)
 gives_of d h xs ss = states_give (formulas d) d h (signals_of xs) ss
 
--- the matches of other signals, without nodes
-abbrev matches_work : Context → meant.Guard Formula → List Aim → List StateTree → Work
-matches_work d h xs ss =
-    given_freely (other_matches (formulas d) d h (signals_of xs) ss (other_firsts (signals_of xs) (gives_of d h xs ss)))
-    (other_places (signals_of xs) [] (length ss) (gives_of d h xs ss) (states_places d xs ss))
-
-others_split : (d : Context) (h : meant.Guard Formula) (xs : List Aim) (all : List Manner) (ss : List StateTree) → before (states_work d h xs all [] ss) (matches_work d h xs ss) ≡ others_work d h xs all ss
-others_split d h xs all ss =
-    ap (λ (us : List CountedUnit). record (others_work d h xs all ss) { units = us }) (append-nil (units_of_states d (signals_of xs) all [] ss))
-
--- the states are what stands behind the start of the list
-behind_start : (d : Context) (h : meant.Guard Formula) (xs : List Aim) (all : List Manner) (ss : List StateTree) (old mid : Contributions) → IsBuilt (states_work d h xs all [] ss).units (gives_of d h xs ss) (states_places d xs ss) old mid
-    → (map (view_contribution (arena mid.exprs)) (drop (length old.list) mid.list) ≡ gives_of d h xs ss) × (map (λ (c : Contribution). c.place) (drop (length old.list) mid.list) ≡ states_places d xs ss)
-behind_start d h xs all ss old mid b =
-    let more = b.made.more in
-    let whole = b.made.whole in
-    let here : drop (length old.list) mid.list ≡ more = ap (drop (length old.list)) whole.list ∙ drop-append_seam old.list more in (
-      ap (map (view_contribution (arena mid.exprs))) here ∙ sym (whole.gives ∙ append-nil (map (view_contribution (arena mid.exprs)) more)),
-      ap (map (λ (c : Contribution). c.place)) here ∙ sym (whole.stand ∙ append-nil (map (λ (c : Contribution). c.place) more)),
-    )
-
--- the matches behind the states
-pub others_built : (d : Context) (h : meant.Guard Formula) (xs : List Aim) (all : List Manner) (ss : List StateTree) (ids : List ExprId) (ns ms : List Node) (list mids more : List Contribution) (r : Result Unit SectionFault)
-    → IsBuilt (states_work d h xs all [] ss).units (gives_of d h xs ss) (states_places d xs ss) (at ns list) (at ms mids)
-    → AreBits (arena ms) ids (state_bits d xs ss) → GivesMatches xs ids (length list) mids more r
-    → DoesWork (others_work d h xs all ss) (at ns list) (at ms more) r
-others_built d h xs all ss ids ns ms list mids more r b bits g =
+-- matches behind the states
+pub others_walk : (d : Context) (h : meant.Guard Formula) (xs : List Aim) (all ms : List Manner) (ss : List StateTree) (ids : List ExprId) (old mid new : Walked) → mid.fault ≡ None
+    → WalksWork all (states_work d h xs all [] ss) ms old mid → AreBits (arena mid.exprs) ids (state_bits d xs ss)
+    → new.list.items ≡ mid.list.items ++ pushed_for (signals_of xs) ids [] (drop (length old.list.items) mid.list.items)
+    → WalksWork all (others_work d h xs all ss) ms old (record mid { list = new.list })
+others_walk d h xs all ms ss ids old mid new clear walks bits e =
     let sig = signals_of xs in
-    let fs = arena ms in
-    let start = behind_start d h xs all ss (at ns list) (at ms mids) b in
-    let given = subst (λ cs. Builds [] (matches_beside (map (formula_at fs) ids) (other_firsts sig cs)) (other_places sig [] (length ids) cs (map (λ (c : Contribution). c.place) (drop (length list) mids))) (at ms mids) (at ms more) r) start.0 (g ms bits.0) in
-    let placed = subst (λ ps. Builds [] (matches_beside (map (formula_at fs) ids) (other_firsts sig (gives_of d h xs ss))) (other_places sig [] (length ids) (gives_of d h xs ss) ps) (at ms mids) (at ms more) r) start.1 given in
-    let counted = subst (λ n. Builds [] (matches_beside (map (formula_at fs) ids) (other_firsts sig (gives_of d h xs ss))) (other_places sig [] n (gives_of d h xs ss) (states_places d xs ss)) (at ms mids) (at ms more) r) (states_counted d xs fs ids ss bits) placed in
-    let held = subst (λ ws. Builds [] (matches_beside ws (other_firsts sig (gives_of d h xs ss))) (other_places sig [] (length ss) (gives_of d h xs ss) (states_places d xs ss)) (at ms mids) (at ms more) r) bits.1 counted in
-    let matched = subst (λ cs. Builds [] cs (other_places sig [] (length ss) (gives_of d h xs ss) (states_places d xs ss)) (at ms mids) (at ms more) r) (sym (others_matched (formulas d) d h sig ss)) held in
-    subst (λ (w : Work). DoesWork w (at ns list) (at ms more) r) (others_split d h xs all ss)
-    (step_then (states_work d h xs all [] ss) (matches_work d h xs ss) (at ns list) (at ms mids) (at ms more) r b matched)
+    let fs = arena mid.exprs in
+    let v = states_work d h xs all [] ss in
+    let hs = other_matches (formulas d) d h sig ss (other_firsts sig v.gives) in
+    let qs = other_places sig [] (length ss) v.gives v.places in
+    let b = walks.given clear in
+    let cs = drop (length old.list.items) mid.list.items in
+    let here : cs ≡ b.more = ap (drop (length old.list.items)) b.whole.list ∙ drop-append_seam old.list.items b.more in
+    let gives : map (view_contribution fs) cs ≡ v.gives = ap (map (view_contribution fs)) here ∙ sym (b.whole.gives ∙ append-nil (map (view_contribution fs) b.more)) in
+    let stand : map (λ (c : Contribution). c.place) cs ≡ v.places = ap (map (λ (c : Contribution). c.place)) here ∙ sym (b.whole.stand ∙ append-nil (map (λ (c : Contribution). c.place) b.more)) in
+    let p = pushed_meant fs sig ids bits.0 [] [] cs (λ s. refl) in
+    let matched = p.gives ∙ ap₂ (λ ws gs. matches_beside ws (other_firsts sig gs)) bits.1 gives ∙ sym (others_matched (formulas d) d h sig ss) in
+    let placed = p.stand ∙ ap₂ (λ gs ps. other_places sig [] (length ids) gs ps) gives stand ∙ ap (λ n. other_places sig [] n v.gives v.places) (states_counted d xs fs ids ss bits) in
+    let made : Walked = record mid { list = new.list } in
+    let built : IsBuilt [] hs qs (standing mid) (standing made) =
+    record {
+      accepted = refl;
+      within = refl;
+      made = record {
+        grew = record { keeps = λ i f k. k; count = omega arith };
+        more = pushed_for sig ids [] cs;
+        whole = record { list = e; inside = p.inside; gives = sym (append-nil (map (view_contribution fs) (pushed_for sig ids [] cs)) ∙ matched); stand = sym (append-nil (map (λ (c : Contribution). c.place) (pushed_for sig ids [] cs)) ∙ placed) };
+      };
+    } in
+    let later = walks_made (all ++ ms) [] [] hs qs mid made made (Ok tt) clear clear refl (subst (AreFirsts mid.before) (sym (append-nil (all ++ ms))) walks.manners) built refl in
+    subst₂ (λ us ns. Walks all us (v.gives ++ hs) (v.places ++ qs) ns old made) (append-nil v.units) (append-nil ms)
+    (walks_then all ms [] v.units [] v.gives hs v.places qs old mid made walks later)
 
 -- ---- registers
 

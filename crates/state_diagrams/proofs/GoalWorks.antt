@@ -1,12 +1,10 @@
 -- What registers are given, one after another, and the unit of a goal.
-use Rattle.std.proofs.Common.{◌≡◌, ℕ, ◌+◌, ◌<◌, ◌≤◌, false, true, None, List, [], ◌∷◌, Result, Err, length, map, drop, get_or, refl, sym, ap, ap₂, ◌∙◌, subst, arith, add-one}
-use Rattle.std.proofs.lemmas.List.{drop_all, get_or-map}
+use Rattle.std.proofs.Common.{◌≡◌, ℕ, ◌+◌, ◌<◌, ◌≤◌, false, true, None, List, [], ◌∷◌, Result, Err, length, drop, get_or, refl, sym, ap, ap₂, ◌∙◌, subst, arith, add-one}
+use Rattle.std.proofs.lemmas.List.{drop_all}
 use Rattle.std.proofs.Math.Seq.{drop-cons}
 use Rattle.pld_base.specs.declared.place.Place.{Place}
-use Rattle.bit_expr.specs.declared.node.ExprId.{ExprId}
-use Rattle.bit_expr.specs.Arena.{formula_at}
 use Rattle.bit_expr.specs.Folding.{make_and}
-use Rattle.bit_expr.specs.Formulas.{Formula, Const}
+use Rattle.bit_expr.specs.Formulas.{Formula}
 use Rattle.abel_tree.specs.declared.diagrams.Goal.{Goal}
 use Rattle.abel_tree.specs.View.{view}
 use Rattle.abel_meaning.specs.Contributions as meant
@@ -18,17 +16,13 @@ use Rattle.abel_meaning.specs.FormulaBits.{formulas}
 use Rattle.abel_meaning.specs.Tables.{match_of}
 use Rattle.abel_meaning.specs.Terms.{term_of}
 use Rattle.set_expr.specs.declared.contributions.Contributions.{Contributions}
-use Rattle.set_expr.specs.declared.contributions.Guard.{Guard}
-use Rattle.set_expr.specs.Answer.{Keeps}
-use Rattle.set_expr.specs.Given.{view_guard}
 use Rattle.section_targets.proofs.Gives.{stops_nodes}
 use Rattle.equations.proofs.BuiltParts.{stops_longer}
-use Rattle.equations.proofs.BuiltUnits.{guard_kept}
 use Rattle.set_expr.specs.declared.fault.SectionFault.{SectionFault}
 use Rattle.section_targets.specs.declared.aim.Aim.{Aim}
 use Rattle.section_targets.specs.Building.{StopsWith, IsBuilt, Builds}
 use Rattle.section_targets.specs.Units.{part, units_nodes}
-use Rattle.section_targets.proofs.Built.{builds_then, builds_stop, kept_formula}
+use Rattle.section_targets.proofs.Built.{builds_then, builds_stop}
 use Rattle.section_targets.proofs.OneUnit.{AreParts, one_unit}
 use Rattle.state_diagrams.specs.DiagramUnits.{signals_of}
 use Rattle.truth_tables.specs.Works.{before, nothing}
@@ -89,18 +83,6 @@ goal_built d h xs g old mid new r e b c =
     subst (λ n. Builds (part g.place (term_nodes d (view g.value) + n) ∷ []) gs ps old new r) (parts_nodes g.place h.holds xs ws e)
     (one_unit g.place (part g.place (term_nodes d (view g.value)) ∷ goal_parts g.place h.holds xs ws) gs ps old new r (refl, parts_of g.place h.holds xs ws)
     (builds_then (part g.place (term_nodes d (view g.value)) ∷ []) (goal_parts g.place h.holds xs ws) [] gs [] ps old mid new r b c))
-
--- ---- bits in an arena that grows
-
-pub bit_here : (fs : List Formula) (ids : List ExprId) (i : ℕ) → i < length ids → get_or (map (formula_at fs) ids) i (Const false) ≡ formula_at fs (get_or ids i (record { 0 = 0 }))
-bit_here fs ids i lt = get_or-map (formula_at fs) ids i (record { 0 = 0 }) (Const false) lt
-
--- what a register is given in a later arena, it is given in the earlier one
-pub one_kept : (d : Context) (g : Guard) (p : Place) (a : Aim) (id : ExprId) (w : Formula) (fs hs : List Formula) (mid new : Contributions) (r : Result Unit SectionFault) → Keeps fs hs → g.when.0 < length fs → id.0 < length fs → w ≡ formula_at fs id
-    → DoesWork (goal_work d (view_guard hs g) p (a ∷ []) (formula_at hs id ∷ [])) mid new r → DoesWork (goal_work d (view_guard fs g) p (a ∷ []) (w ∷ [])) mid new r
-one_kept d g p a id w fs hs mid new r k lt le e b =
-    subst (λ v. DoesWork (goal_work d (view_guard fs g) p (a ∷ []) (v ∷ [])) mid new r) (kept_formula fs hs id k le ∙ sym e)
-    (subst (λ h. DoesWork (goal_work d h p (a ∷ []) (formula_at hs id ∷ [])) mid new r) (guard_kept fs hs g (kept_formula fs hs g.when k lt)) b)
 
 -- the value stops
 pub value_stops : (d : Context) (h : meant.Guard Formula) (xs : List Aim) (g : Goal) (old new : Contributions) (f : SectionFault) → StopsWith (part g.place (term_nodes d (view g.value)) ∷ []) [] [] old new f → DoesWork {R = Unit} (goal_unit d h xs g []) old new (Err f)

@@ -1,18 +1,18 @@
--- The guards of the arms of CASE, and the unit of their conditions.
-use Rattle.std.proofs.Common.{◌≡◌, ℕ, zero, suc, ◌+◌, ◌<◌, false, true, Bool, Option, None, Some, List, [], ◌∷◌, ◌++◌, All, if◌then◌else◌, Result, Ok, length, map, get_or, refl, sym, ap, ◌∙◌, subst, arith}
+-- The unit of the conditions of CASE with their first refusal, and the guards of its arms.
+use Rattle.std.proofs.Common.{◌≡◌, ℕ, zero, suc, ◌+◌, ◌<◌, false, true, Bool, Option, None, Some, List, [], ◌∷◌, ◌++◌, if◌then◌else◌, Result, Ok, length, map, get_or, refl, sym, ap, ◌∙◌, subst, arith}
 use Rattle.std.specs.Prelude.{◌==◌}
 use Rattle.std.proofs.lemmas.List.{get_or-map, length-map}
 use Rattle.pld_base.specs.declared.place.Place.{Place}
 use Rattle.bit_expr.specs.declared.node.ExprId.{ExprId}
 use Rattle.bit_expr.specs.Arena.{formula_at}
-use Rattle.bit_expr.specs.Formulas.{Formula}
+use Rattle.bit_expr.specs.Formulas.{Formula, Const}
 use Rattle.abel_tree.specs.declared.names.Names.{Names}
 use Rattle.abel_tree.specs.Entries.{entries_of}
-use Rattle.abel_tree.specs.FirstRefusal.{first_refusal}
+use Rattle.abel_tree.specs.FirstRefusal.{first_refusal, earlier}
 use Rattle.abel_tree.specs.declared.diagrams.CaseArm.{CaseArm}
-use Rattle.abel_tree.specs.View.{view, view_arm, view_choice}
+use Rattle.abel_tree.specs.View.{view, view_choice}
 use Rattle.state_diagrams.proofs.ArmViews.{choice_parts}
-use Rattle.abel_tree.specs.Tree.{choices_of}
+use Rattle.abel_tree.specs.Tree.{choices_of, Tree, Branch}
 use Rattle.abel_meaning.specs.Contributions.{guarded}
 use Rattle.abel_meaning.specs.CountedBlocks.{choices_nodes}
 use Rattle.abel_meaning.specs.CountedNodes.{choice_nodes, condition_of, guard_then}
@@ -28,53 +28,29 @@ use Rattle.set_expr.specs.Given.{view_guard}
 use Rattle.set_expr.specs.SectionOrder.{section_order}
 use Rattle.set_expr.specs.FoundNames.{expression_found}
 use Rattle.set_expr.specs.Refusals.{Found}
-use Rattle.section_targets.specs.Building.{IsBit, IsBuilt, StopsWith, Builds}
+use Rattle.section_targets.specs.Building.{AreBits, IsBit, IsBuilt, StopsWith, Builds}
 use Rattle.section_targets.specs.Units.{part}
 use Rattle.section_targets.specs.ValueWidths.{value_refused, value_width, wrong_width}
 use Rattle.section_targets.proofs.Built.{builds_none, both_empty, kept_formula, left_empty, right_empty}
 use Rattle.section_targets.proofs.OneUnit.{one_unit, two_parts}
 use Rattle.equations.specs.StatementUnits.{condition_refused}
-use Rattle.equations.proofs.BuiltParts.{kept_bit, stops_longer}
+use Rattle.equations.proofs.BuiltParts.{bits_length, stops_longer}
 use Rattle.state_diagrams.specs.DiagramUnits.{choices_refused}
-use Rattle.state_diagrams.specs.ArmGuards.{AreGuardsOf}
-use Rattle.state_diagrams.proofs.ArmLaws.{Choice}
+use Rattle.state_diagrams.specs.ArmGuards.{arm_guards}
+use Rattle.abel_tree.proofs.FirstRefusals.{earlier_assoc, first_append}
 
--- ---- guards
+abbrev pub first : List SectionFault → Option SectionFault
+first rs = first_refusal section_order rs
 
-pub guards_kept : (d : Context) (old new : List Formula) (g : Formula) (cs : List Choice) (ids : List ExprId) → Keeps old new → AreGuardsOf d old g (choices_of cs) ids → AreGuardsOf d new g (choices_of cs) ids
-guards_kept d old new g [] [] k h = tt
-guards_kept d old new g [] (id ∷ ids) k h = absurd h
-guards_kept d old new g (c ∷ cs) [] k h = absurd h
-guards_kept d old new g (c ∷ cs) (id ∷ ids) k h = (kept_bit old new id (guard_then g (condition_of d c.0)).what k h.0, guards_kept d old new g cs ids k h.1)
+abbrev pub Choice : Type 0
+Choice = Tree × (Place × Branch)
 
-pub guards_more : (d : Context) (fs : List Formula) (g : Formula) (cs : List Choice) (ids : List ExprId) (c : Choice) (id : ExprId) → AreGuardsOf d fs g (choices_of cs) ids → IsBit fs id (guard_then g (condition_of d c.0)).what → AreGuardsOf d fs g (choices_of (cs ++ c ∷ [])) (ids ++ id ∷ [])
-guards_more d fs g [] [] c id h b = (b, tt)
-guards_more d fs g [] (x ∷ ids) c id h b = absurd h
-guards_more d fs g (y ∷ cs) [] c id h b = absurd h
-guards_more d fs g (y ∷ cs) (x ∷ ids) c id h b = (h.0, guards_more d fs g cs ids c id h.1 b)
-
-pub guard_at : (d : Context) (fs : List Formula) (g : Formula) (cs : List Choice) (ids : List ExprId) (i : ℕ) (c : Choice) (id : ExprId) → AreGuardsOf d fs g (choices_of cs) ids → i < length ids → IsBit fs (get_or ids i id) (guard_then g (condition_of d (get_or cs i c).0)).what
-guard_at d fs g [] [] i c id h lt = absurd (omega (arith, lt))
-guard_at d fs g [] (x ∷ ids) i c id h lt = absurd h
-guard_at d fs g (y ∷ cs) [] i c id h lt = absurd h
-guard_at d fs g (y ∷ cs) (x ∷ ids) zero c id h lt = h.0
-guard_at d fs g (y ∷ cs) (x ∷ ids) (suc i) c id h lt = guard_at d fs g cs ids i c id h.1 (omega (arith, lt))
-
-pub guards_inside : (d : Context) (fs : List Formula) (g : Formula) (cs : List Choice) (ids : List ExprId) → AreGuardsOf d fs g (choices_of cs) ids → All (λ (id : ExprId). id.0 < length fs) ids
-guards_inside d fs g [] [] h = λ k x lt. absurd (omega (arith, lt))
-guards_inside d fs g [] (id ∷ ids) h = absurd h
-guards_inside d fs g (c ∷ cs) [] h = absurd h
-guards_inside d fs g (c ∷ cs) (id ∷ ids) h = by h.0.0 (guards_inside d fs g cs ids h.1)
-  where
-    by : id.0 < length fs → All (λ (y : ExprId). y.0 < length fs) ids → All (λ (y : ExprId). y.0 < length fs) (id ∷ ids)
-    by a b zero x lt = a
-    by a b (suc k) x lt = b k x (omega (arith, lt))
-
-pub guards_each : (d : Context) (fs : List Formula) (g : Formula) (cs : List Choice) (ids : List ExprId) → AreGuardsOf d fs g (choices_of cs) ids → length ids ≡ length cs
-guards_each d fs g [] [] h = refl
-guards_each d fs g [] (id ∷ ids) h = absurd h
-guards_each d fs g (c ∷ cs) [] h = absurd h
-guards_each d fs g (c ∷ cs) (id ∷ ids) h = ap suc (guards_each d fs g cs ids h.1)
+-- a condition before others, behind what was found
+pub conditions_next : (d : Context) (f : Option SectionFault) (c : Choice) (cs : List Choice)
+    → earlier section_order (earlier section_order f (first (condition_refused d c.1.0 c.0))) (first (choices_refused d (choices_of cs))) ≡ earlier section_order f (first (choices_refused d (choices_of (c ∷ cs))))
+conditions_next d f c cs =
+    earlier_assoc section_order f (first (condition_refused d c.1.0 c.0)) (first (choices_refused d (choices_of cs)))
+    ∙ ap (earlier section_order f) (sym (first_append section_order (condition_refused d c.1.0 c.0) (choices_refused d (choices_of cs))))
 
 -- ---- conditions
 
@@ -142,13 +118,12 @@ pub arm_guard : (d : Context) (g : Guard) (fs hs : List Formula) (c : Formula) (
 arm_guard d g fs hs c id k kept b e f w = rw (e, f, w, kept_formula fs hs id kept b.0, b.1) refl
 
 -- the guard of the arm of the code at a place
-pub arm_holds : (d : Context) (g k : Guard) (fs hs : List Formula) (arms : List CaseArm) (ids : List ExprId) (i : ℕ) (x : CaseArm) → Keeps fs hs → AreGuardsOf d fs (formula_at fs g.when) (choices_of (map view_choice arms)) ids → i < length arms → x ≡ get_or arms i x
+pub arm_holds : (d : Context) (g k : Guard) (fs hs : List Formula) (arms : List CaseArm) (ids : List ExprId) (i : ℕ) (x : CaseArm) → Keeps fs hs → AreBits fs ids (arm_guards d (formula_at fs g.when) arms) → i < length arms → x ≡ get_or arms i x
     → k.when ≡ get_or ids i g.when → k.dontcare ≡ g.dontcare → k.block ≡ g.block → view_guard hs k ≡ guarded (formulas d) (view_guard fs g) (condition_of d (view x.condition))
 arm_holds d g k fs hs arms ids i x kept h lt at_x w e b =
-    let f = formula_at fs g.when in
-    let cs = map view_choice arms in
-    let y = view_choice x in
-    let same : get_or cs i y ≡ (view x.condition, (x.colon, view_arm x.result)) = get_or-map view_choice arms i x y lt ∙ ap view_choice (sym at_x) ∙ choice_parts x in
-    let le : i < length ids = omega (arith, lt, guards_each d fs f cs ids h, length-map arms view_choice) in
-    let bit = subst (λ (z : Choice). IsBit fs (get_or ids i g.when) (guard_then f (condition_of d z.0)).what) same (guard_at d fs f cs ids i y g.when h le) in
-    arm_guard d g fs hs (condition_of d (view x.condition)) (get_or ids i g.when) k kept bit w e b
+    let guard_of = λ (y : CaseArm). (guard_then (formula_at fs g.when) (condition_of d (view y.condition))).what in
+    let each : length ids ≡ length arms = bits_length fs ids (arm_guards d (formula_at fs g.when) arms) h ∙ length-map arms guard_of in
+    let le : i < length ids = omega (arith, lt, each) in
+    let bit : formula_at fs (get_or ids i g.when) ≡ guard_of x =
+    sym (get_or-map (formula_at fs) ids i g.when (Const false) le) ∙ ap (λ gs. get_or gs i (Const false)) h.1 ∙ get_or-map guard_of arms i x (Const false) lt ∙ ap guard_of (sym at_x) in
+    arm_guard d g fs hs (condition_of d (view x.condition)) (get_or ids i g.when) k kept (h.0 i g.when le, bit) w e b

@@ -1,5 +1,4 @@
 pub mod AnyGuards
-pub mod ArmLaws
 pub mod ArmViews
 pub mod DiagramBuilt
 mod DiagramExamples
@@ -9,11 +8,8 @@ pub mod GuardsOfStates
 pub mod LiteralLaws
 pub mod MatchLaws
 pub mod NumberLaws
-pub mod PushedLaws
-pub mod RegisterLaws
 pub mod StateBits
 pub mod StateLaws
-pub mod StatesHold
 pub mod WalkedBranches
 pub mod WalkedDiagrams
 pub mod WalkedStates

@@ -1,6 +1,6 @@
 -- A bit that is made in parts, and the literals of registers, one after another.
-use Rattle.std.proofs.Common.{◌≡◌, ℕ, zero, suc, ◌+◌, ◌<◌, ◌≤◌, min, Bool, true, List, [], ◌∷◌, Result, Ok, Err, length, drop, get_or, refl, sym, ap₂, ◌∙◌, subst, arith}
-use Rattle.std.proofs.lemmas.List.{at_drop_more}
+use Rattle.std.proofs.Common.{◌≡◌, ℕ, ◌+◌, ◌<◌, ◌≤◌, Bool, true, List, [], ◌∷◌, Result, Ok, Err, length, drop, get_or, refl, sym, ap, ap₂, ◌∙◌, subst, arith}
+use Rattle.std.proofs.lemmas.List.{at_drop_more, drop_all, length-reverse}
 use Rattle.pld_base.specs.declared.place.Place.{Place}
 use Rattle.bit_expr.specs.declared.node.ExprId.{ExprId}
 use Rattle.bit_expr.specs.declared.node.Node.{Node}
@@ -8,6 +8,8 @@ use Rattle.bit_expr.specs.Arena.{arena, formula_at}
 use Rattle.bit_expr.specs.Folding.{Made, free, ◌>>=◌}
 use Rattle.bit_expr.specs.Formulas.{Formula, Const}
 use Rattle.abel_meaning.specs.Designs.{Context}
+use Rattle.abel_meaning.specs.Numbers.{digits, digits_low_first}
+use Rattle.abel_meaning.proofs.DigitLaws.{length_digits}
 use Rattle.set_expr.specs.declared.fault.SectionFault.{SectionFault}
 use Rattle.set_expr.specs.declared.fault.SectionFault.TheVariants as fault
 use Rattle.set_expr.specs.Answer.{Keeps}
@@ -19,7 +21,7 @@ use Rattle.section_targets.proofs.OneUnit.{two_parts}
 use Rattle.section_targets.specs.Building.{NoMemory}
 use Rattle.section_targets.proofs.Parts.{built_nodes, leaves_nodes, limit_here}
 use Rattle.equations.proofs.BuiltParts.{stops_longer}
-use Rattle.state_diagrams.specs.Literals.{MakesBit, register_literal, literals}
+use Rattle.state_diagrams.specs.StateGuards.{MakesBit, register_literal, literals}
 
 -- ---- a bit, by what making it leaves
 
@@ -58,48 +60,40 @@ pub literals_start : (d : Context) (ns later : List Node) (unit : Place) (found 
     → MakesBit unit (literals d (formula_at (arena ns) found) xs bs) ns later r → MakesBit unit (literals d (Const true) xs bs) ns later r
 literals_start d ns later unit found xs bs r e m = subst (λ (f : Formula). MakesBit unit (literals d f xs bs) ns later r) (high_bit ns found e).1 m
 
-at_index : (d : Context) (f : Formula) (xs : List Aim) (x : Aim) (bs : List Bool) (b : Bool) (i : ℕ) → i < min (length xs) (length bs)
+at_index : (d : Context) (f : Formula) (xs : List Aim) (x : Aim) (bs : List Bool) (b : Bool) (i : ℕ) → i < length xs → i < length bs
     → literals d f (drop i xs) (drop i bs) ≡ (register_literal d f (get_or xs i x).signal (get_or bs i b) >>= λ g. literals d g (drop (i + 1) xs) (drop (i + 1) bs))
-at_index d f xs x bs b i lt =
-    ap₂ (literals d f) (at_drop_more (λ (ys : List Aim). ys) xs i x (omega (arith, lt))) (at_drop_more (λ (cs : List Bool). cs) bs i b (omega (arith, lt)))
+at_index d f xs x bs b i lt le =
+    ap₂ (literals d f) (at_drop_more (λ (ys : List Aim). ys) xs i x lt) (at_drop_more (λ (cs : List Bool). cs) bs i b le)
     ∙ literals_first d f (get_or xs i x) (drop (i + 1) xs) (get_or bs i b) (drop (i + 1) bs)
 
 -- one register more
-pub literals_next : (d : Context) (mid new later : List Node) (unit : Place) (found id : ExprId) (xs : List Aim) (x : Aim) (bs : List Bool) (b : Bool) (i : ℕ) (r : Result ExprId SectionFault) → i < min (length xs) (length bs)
+pub literals_next : (d : Context) (mid new later : List Node) (unit : Place) (found id : ExprId) (xs : List Aim) (x : Aim) (bs : List Bool) (b : Bool) (i : ℕ) (r : Result ExprId SectionFault) → i < length xs → i < length bs
     → MakesBit unit (register_literal d (formula_at (arena mid) found) (get_or xs i x).signal (get_or bs i b)) mid new (Ok id)
     → MakesBit unit (literals d (formula_at (arena new) id) (drop (i + 1) xs) (drop (i + 1) bs)) new later r
     → MakesBit unit (literals d (formula_at (arena mid) found) (drop i xs) (drop i bs)) mid later r
-literals_next d mid new later unit found id xs x bs b i r lt m k =
+literals_next d mid new later unit found id xs x bs b i r lt le m k =
     let f = formula_at (arena mid) found in
     let one = register_literal d f (get_or xs i x).signal (get_or bs i b) in
     let rest = λ (g : Formula). literals d g (drop (i + 1) xs) (drop (i + 1) bs) in
-    subst (λ (w : Made Formula). MakesBit unit w mid later r) (sym (at_index d f xs x bs b i lt))
+    subst (λ (w : Made Formula). MakesBit unit w mid later r) (sym (at_index d f xs x bs b i lt le))
     (bit_then unit mid new later id r one rest m (subst (λ (g : Formula). MakesBit unit (rest g) new later r) m.1.1 k))
 
-pub literals_stop : (d : Context) (mid new : List Node) (unit : Place) (found : ExprId) (xs : List Aim) (x : Aim) (bs : List Bool) (b : Bool) (i : ℕ) (f : SectionFault) → i < min (length xs) (length bs)
+pub literals_stop : (d : Context) (mid new : List Node) (unit : Place) (found : ExprId) (xs : List Aim) (x : Aim) (bs : List Bool) (b : Bool) (i : ℕ) (f : SectionFault) → i < length xs → i < length bs
     → MakesBit unit (register_literal d (formula_at (arena mid) found) (get_or xs i x).signal (get_or bs i b)) mid new (Err f)
     → MakesBit unit (literals d (formula_at (arena mid) found) (drop i xs) (drop i bs)) mid new (Err f)
-literals_stop d mid new unit found xs x bs b i f lt m =
+literals_stop d mid new unit found xs x bs b i f lt le m =
     let g = formula_at (arena mid) found in
-    subst (λ (w : Made Formula). MakesBit unit w mid new (Err f)) (sym (at_index d g xs x bs b i lt))
+    subst (λ (w : Made Formula). MakesBit unit w mid new (Err f)) (sym (at_index d g xs x bs b i lt le))
     (bit_stops unit mid new f (register_literal d g (get_or xs i x).signal (get_or bs i b)) (λ (h : Formula). literals d h (drop (i + 1) xs) (drop (i + 1) bs)) m)
 
--- no register or no digit is left
-none_left : (d : Context) (f : Formula) (xs : List Aim) (bs : List Bool) (i : ℕ) → min (length xs) (length bs) ≤ i → literals d f (drop i xs) (drop i bs) ≡ free f
-none_left d f [] bs zero h = refl
-none_left d f (x ∷ xs) [] zero h = refl
-none_left d f (x ∷ xs) (b ∷ bs) zero h = absurd (omega (arith, h))
-none_left d f [] bs (suc i) h = refl
-none_left d f (x ∷ xs) [] (suc i) h = no_digit (drop i xs)
-  where
-    no_digit : (ys : List Aim) → literals d f ys [] ≡ free f
-    no_digit [] = refl
-    no_digit (y ∷ ys) = refl
-none_left d f (x ∷ xs) (b ∷ bs) (suc i) h = none_left d f xs bs i (omega (arith, h))
+-- there is a digit for each register
+pub digits_each : (xs : List Aim) (n : ℕ) (bs : List Bool) → bs ≡ digits (length xs) n → length bs ≡ length xs
+digits_each xs n bs e = ap length e ∙ length-reverse (digits_low_first (length xs) n) ∙ length_digits (length xs) n
 
-pub literals_done : (d : Context) (ns : List Node) (unit : Place) (found : ExprId) (xs : List Aim) (bs : List Bool) (i : ℕ) → min (length xs) (length bs) ≤ i → found.0 < length (arena ns)
+-- no register is left
+pub literals_done : (d : Context) (ns : List Node) (unit : Place) (found : ExprId) (xs : List Aim) (bs : List Bool) (i : ℕ) → length xs ≤ i → found.0 < length (arena ns)
     → MakesBit unit (literals d (formula_at (arena ns) found) (drop i xs) (drop i bs)) ns ns (Ok found)
 literals_done d ns unit found xs bs i h lt =
     let f = formula_at (arena ns) found in
-    subst (λ (w : Made Formula). MakesBit unit w ns ns (Ok found)) (sym (none_left d f xs bs i h))
+    subst (λ ys. MakesBit unit (literals d f ys (drop i bs)) ns ns (Ok found)) (sym (drop_all i xs h))
     (bit_made unit ns ns found (free f) (record { shows = (lt, refl); grew = grew_none (arena ns); within = λ p. omega (arith, p.0) }))

@@ -1,9 +1,8 @@
 -- What is pushed is what is meant.
 use Rattle.std.proofs.Common.{◌≡◌, ℕ, ◌<◌, ◌==◌, Bool, true, false, not, ◌&&◌, ◌||◌, cond, List, [], ◌∷◌, ◌++◌, All, map, length, refl, sym, ap, ap₂, ◌∙◌, subst, arith}
 use Rattle.std.specs.Prelude.{filter, if◌then◌else◌}
-use Rattle.std.proofs.Math.ListN.{get_or-append}
 use Rattle.std.proofs.lemmas.Bool.{eqb-true}
-use Rattle.std.proofs.lemmas.List.{map-append, length-append}
+use Rattle.std.proofs.lemmas.List.{map-append}
 use Rattle.std.proofs.lemmas.List.Elements.{All-append, All-map}
 use Rattle.std.proofs.lemmas.List.Folds.{list_any-append}
 use Rattle.std.proofs.lemmas.Simd.{map-map}
@@ -12,12 +11,11 @@ use Rattle.bit_expr.specs.declared.node.ExprId.{ExprId}
 use Rattle.bit_expr.specs.Arena.{formula_at}
 use Rattle.bit_expr.specs.Formulas.{Formula}
 use Rattle.abel_meaning.specs.Contributions as meant
-use Rattle.abel_meaning.specs.Diagrams.{first_of_each, once, is_other}
+use Rattle.abel_meaning.specs.Diagrams.{first_of_each, is_other}
 use Rattle.set_expr.specs.declared.contributions.Contribution.{Contribution}
 use Rattle.set_expr.specs.Given.{view_contribution}
 use Rattle.section_targets.specs.Given.{AreIn}
-use Rattle.state_diagrams.specs.Matches.{match_beside, matches_beside, other_places, times}
-use Rattle.state_diagrams.specs.Pushed.{is_among, is_first, pushed_beside, pushed_if, seen_if, pushed_for}
+use Rattle.state_diagrams.specs.Matches.{match_beside, matches_beside, other_places, times, is_among, pushed_beside, pushed_if, seen_if, pushed_for}
 
 -- ---- signals that are seen, in any order
 
@@ -45,91 +43,67 @@ same_again xs ys s h e = λ t. h t ∙ there t (t == s) refl
 
 -- ---- what is pushed, over an arena
 
-module _ (fs : List Formula) (ss : List ℕ) (ids : List ExprId) where
-  abbrev bits : List Formula
-  bits = map (formula_at fs) ids
+-- contributions that give this at these places, by bits of the arena
+pub record ArePushed (fs : List Formula) (gs : List (meant.Contribution Formula)) (ps : List Place) (cs : List Contribution) : Type 0 where
+  pub gives : map (view_contribution fs) cs ≡ gs
+  pub stand : map (λ (c : Contribution). c.place) cs ≡ ps
+  pub inside : All (λ (c : Contribution). c.when.0 < length fs) cs
 
-  abbrev views : List Contribution → List (meant.Contribution Formula)
-  views cs = map (view_contribution fs) cs
+module _ (fs : List Formula) (ss : List ℕ) (ids : List ExprId) (inside : AreIn (length fs) ids) where
+  abbrev view : Contribution → meant.Contribution Formula
+  view c = view_contribution fs c
 
   abbrev others : List Contribution → List (meant.Contribution Formula)
-  others cs = filter (is_other ss) (views cs)
+  others cs = filter (is_other ss) (map view cs)
 
-  beside_meant : (c : Contribution) → views (map (pushed_beside c) ids) ≡ map (match_beside (view_contribution fs c)) bits
-  beside_meant c = map-map (view_contribution fs) (pushed_beside c) ids ∙ sym (map-map (match_beside (view_contribution fs c)) (formula_at fs) ids)
+  -- what is meant by the matches of contributions behind these signals, and where it stands
+  abbrev meant_by : List (meant.Contribution Formula) → List (meant.Contribution Formula)
+  meant_by gs = matches_beside (map (formula_at fs) ids) gs
 
-  once_known : (c : Contribution) (cs : List Contribution) (before : List ℕ) (known : Bool) → is_among before c.target.signal ≡ known
-      → matches_beside bits (once before (view_contribution fs c) ++ first_of_each (c.target.signal ∷ before) (others cs))
-      ≡ matches_beside bits ((if known then [] else view_contribution fs c ∷ []) ++ first_of_each (c.target.signal ∷ before) (others cs))
-  once_known c cs before known e =
-      ap (λ b. matches_beside bits ((if b then [] else view_contribution fs c ∷ []) ++ first_of_each (c.target.signal ∷ before) (others cs))) e
+  abbrev stands : (before : List ℕ) → List Contribution → List Place
+  stands before cs = other_places ss before (length ids) (map view cs) (map (λ (c : Contribution). c.place) cs)
+
+  beside_placed : (c : Contribution) (xs : List ExprId) → map (λ (x : Contribution). x.place) (map (pushed_beside c) xs) ≡ times (length xs) c.place
+  beside_placed c [] = refl
+  beside_placed c (x ∷ xs) = ap (λ ps. c.place ∷ ps) (beside_placed c xs)
+
+  -- the matches of one before others
+  pushed_then : (c : Contribution) (gs : List (meant.Contribution Formula)) (ps : List Place) (cs : List Contribution) → ArePushed fs (meant_by gs) ps cs
+      → ArePushed fs (meant_by (view c ∷ gs)) (times (length ids) c.place ++ ps) (map (pushed_beside c) ids ++ cs)
+  pushed_then c gs ps cs p =
+      record {
+        gives = map-append view (map (pushed_beside c) ids) cs
+            ∙ ap₂ (λ xs ys. xs ++ ys) (map-map view (pushed_beside c) ids ∙ sym (map-map (match_beside (view c)) (formula_at fs) ids)) p.gives;
+        stand = map-append (λ (x : Contribution). x.place) (map (pushed_beside c) ids) cs ∙ ap₂ (λ xs ys. xs ++ ys) (beside_placed c ids) p.stand;
+        inside = All-append (λ (x : Contribution). x.when.0 < length fs) (map (pushed_beside c) ids) cs
+            (All-map (λ (x : Contribution). x.when.0 < length fs) (pushed_beside c) ids inside) p.inside;
+      }
 
   -- one contribution, which is of another signal or not, and seen or not
-  one_meant : (c : Contribution) (cs : List Contribution) (seen before : List ℕ) (other known : Bool)
-      → AreSame seen before → is_among before c.target.signal ≡ known
-      → ((xs ys : List ℕ) → AreSame xs ys → views (pushed_for ss ids xs cs) ≡ matches_beside bits (first_of_each ys (others cs)))
-      → views (pushed_if (other && not known) ids c ++ pushed_for ss ids (seen_if (other && not known) seen c) cs)
-      ≡ matches_beside bits (first_of_each before (cond other (view_contribution fs c ∷ others cs) (others cs)))
-  one_meant c cs seen before false known h e k = k seen before h
-  one_meant c cs seen before true true h e k =
-      k seen (c.target.signal ∷ before) (same_again seen before c.target.signal h e) ∙ sym (once_known c cs before true e)
-  one_meant c cs seen before true false h e k =
-      map-append (view_contribution fs) (map (pushed_beside c) ids) (pushed_for ss ids (seen ++ c.target.signal ∷ []) cs)
-      ∙ ap₂ (λ xs ys. xs ++ ys) (beside_meant c) (k (seen ++ c.target.signal ∷ []) (c.target.signal ∷ before) (same_next seen before c.target.signal h))
-      ∙ sym (once_known c cs before false e)
+  one_pushed : (c : Contribution) (cs : List Contribution) (seen before : List ℕ) (other known : Bool) → AreSame seen before → is_among before c.target.signal ≡ known
+      → ((xs ys : List ℕ) → AreSame xs ys → ArePushed fs (meant_by (first_of_each ys (others cs))) (stands ys cs) (pushed_for ss ids xs cs))
+      → ArePushed fs (meant_by (first_of_each before (cond other (view c ∷ others cs) (others cs))))
+      (if other && not known then times (length ids) c.place ++ stands (c.target.signal ∷ before) cs else stands before cs)
+      (pushed_if (other && not known) ids c ++ pushed_for ss ids (seen_if (other && not known) seen c) cs)
+  one_pushed c cs seen before false known h e k = k seen before h
+  one_pushed c cs seen before true true h e k =
+      let later = first_of_each (c.target.signal ∷ before) (others cs) in
+      subst (λ b. ArePushed fs (meant_by ((if b then [] else view c ∷ []) ++ later)) (stands before cs) (pushed_for ss ids seen cs)) (sym e)
+      (record {
+        gives = (k seen (c.target.signal ∷ before) (same_again seen before c.target.signal h e)).gives;
+        stand = (k seen before h).stand;
+        inside = (k seen before h).inside;
+      })
+  one_pushed c cs seen before true false h e k =
+      let s = c.target.signal in
+      let later = first_of_each (s ∷ before) (others cs) in
+      let rest = pushed_for ss ids (seen ++ s ∷ []) cs in
+      subst (λ b. ArePushed fs (meant_by ((if b then [] else view c ∷ []) ++ later)) (times (length ids) c.place ++ stands (s ∷ before) cs) (map (pushed_beside c) ids ++ rest)) (sym e)
+      (pushed_then c later (stands (s ∷ before) cs) rest (k (seen ++ s ∷ []) (s ∷ before) (same_next seen before s h)))
 
-  pub pushed_meant : (seen before : List ℕ) (cs : List Contribution) → AreSame seen before
-      → views (pushed_for ss ids seen cs) ≡ matches_beside bits (first_of_each before (others cs))
-  pushed_meant seen before [] h = refl
+  pub pushed_meant : (seen before : List ℕ) (cs : List Contribution) → AreSame seen before → ArePushed fs (meant_by (first_of_each before (others cs))) (stands before cs) (pushed_for ss ids seen cs)
+  pushed_meant seen before [] h = record { gives = refl; stand = refl; inside = λ k x lt. absurd (omega (arith, lt)) }
   pushed_meant seen before (c ∷ cs) h =
-      one_meant c cs seen before (is_other ss (view_contribution fs c)) (is_among seen c.target.signal) h (sym (h c.target.signal))
-      (λ xs ys e. pushed_meant xs ys cs e)
-
--- ---- where it stands
-
-abbrev pub places : List Contribution → List Place
-places cs = map (λ (c : Contribution). c.place) cs
-
-places_beside : (c : Contribution) (ids : List ExprId) → places (map (pushed_beside c) ids) ≡ times (length ids) c.place
-places_beside c [] = refl
-places_beside c (id ∷ ids) = ap (λ ps. c.place ∷ ps) (places_beside c ids)
-
-module _ (fs : List Formula) (ss : List ℕ) (ids : List ExprId) where
-  abbrev stands : (seen : List ℕ) → List Contribution → List Place
-  stands seen cs = other_places ss seen (length ids) (views fs ss ids cs) (places cs)
-
-  one_placed : (c : Contribution) (cs : List Contribution) (seen before : List ℕ) (other known : Bool)
-      → AreSame seen before
-      → ((xs ys : List ℕ) → AreSame xs ys → places (pushed_for ss ids xs cs) ≡ stands ys cs)
-      → places (pushed_if (other && not known) ids c ++ pushed_for ss ids (seen_if (other && not known) seen c) cs)
-      ≡ (if other && not known then times (length ids) c.place ++ stands (c.target.signal ∷ before) cs else stands before cs)
-  one_placed c cs seen before false known h k = k seen before h
-  one_placed c cs seen before true true h k = k seen before h
-  one_placed c cs seen before true false h k =
-      map-append (λ (x : Contribution). x.place) (map (pushed_beside c) ids) (pushed_for ss ids (seen ++ c.target.signal ∷ []) cs)
-      ∙ ap₂ (λ ps qs. ps ++ qs) (places_beside c ids) (k (seen ++ c.target.signal ∷ []) (c.target.signal ∷ before) (same_next seen before c.target.signal h))
-
-  pub pushed_placed : (seen before : List ℕ) (cs : List Contribution) → AreSame seen before → places (pushed_for ss ids seen cs) ≡ stands before cs
-  pushed_placed seen before [] h = refl
-  pushed_placed seen before (c ∷ cs) h =
-      one_placed c cs seen before (is_other ss (view_contribution fs c)) (is_among seen c.target.signal) h (λ xs ys e. pushed_placed xs ys cs e)
-      ∙ ap (λ b. if is_other ss (view_contribution fs c) && not b then times (length ids) c.place ++ stands (c.target.signal ∷ before) cs else stands before cs) (h c.target.signal)
-
--- ---- its bits lie in the arena
-
-abbrev pub Inside : ℕ → List Contribution → Type 0
-Inside n cs = All (λ (c : Contribution). c.when.0 < n) cs
-
-module _ (n : ℕ) (ss : List ℕ) (ids : List ExprId) (inside : AreIn n ids) where
-  one_inside : (first : Bool) (c : Contribution) → Inside n (pushed_if first ids c)
-  one_inside true c = All-map (λ (x : Contribution). x.when.0 < n) (pushed_beside c) ids inside
-  one_inside false c = λ k x lt. absurd (omega (arith, lt))
-
-  pub pushed_inside : (seen : List ℕ) (cs : List Contribution) → Inside n (pushed_for ss ids seen cs)
-  pushed_inside seen [] = λ k x lt. absurd (omega (arith, lt))
-  pushed_inside seen (c ∷ cs) =
-      All-append (λ (x : Contribution). x.when.0 < n) (pushed_if (is_first ss seen c) ids c) (pushed_for ss ids (seen_if (is_first ss seen c) seen c) cs)
-      (one_inside (is_first ss seen c) c) (pushed_inside (seen_if (is_first ss seen c) seen c) cs)
-
-pub front_inside : (n : ℕ) (xs ys : List Contribution) → Inside n (xs ++ ys) → Inside n xs
-front_inside n xs ys h = λ k d lt. subst (λ (c : Contribution). c.when.0 < n) (get_or-append xs ys d k lt) (h k d (omega (arith, lt, length-append xs ys)))
+      subst (λ b. ArePushed fs (meant_by (first_of_each before (others (c ∷ cs))))
+      (if is_other ss (view c) && not b then times (length ids) c.place ++ stands (c.target.signal ∷ before) cs else stands before cs) (pushed_for ss ids seen (c ∷ cs))) (h c.target.signal)
+      (one_pushed c cs seen before (is_other ss (view c)) (is_among seen c.target.signal) h (sym (h c.target.signal)) (λ xs ys e. pushed_meant xs ys cs e))

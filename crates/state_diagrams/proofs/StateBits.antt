@@ -1,10 +1,10 @@
--- The bits of states in an arena that grows.
-use Rattle.std.proofs.Common.{◌≡◌, zero, suc, ◌<◌, List, [], ◌∷◌, ◌++◌, All, length, map, get_or, refl, sym, ap, ap₂, ◌∙◌, subst, arith}
+-- The bit of a state is where the present state has the value; bits in an arena that grows.
+use Rattle.std.proofs.Common.{◌≡◌, zero, suc, ◌<◌, List, [], ◌∷◌, ◌++◌, All, length, map, get_or, refl, sym, ap, ap₂, ◌∙◌, subst, arith, ℕ, Bool, true, false}
 use Rattle.std.proofs.lemmas.List.{length-map, map-append}
 use Rattle.std.proofs.lemmas.List.Elements.{All-append}
 use Rattle.bit_expr.specs.declared.node.ExprId.{ExprId}
 use Rattle.bit_expr.specs.Arena.{formula_at}
-use Rattle.bit_expr.specs.Formulas.{Formula}
+use Rattle.bit_expr.specs.Formulas.{Formula, Const}
 use Rattle.abel_tree.specs.Tree.{StateTree}
 use Rattle.abel_meaning.specs.Designs.{Context}
 use Rattle.set_expr.specs.Answer.{Keeps}
@@ -12,6 +12,17 @@ use Rattle.section_targets.specs.declared.aim.Aim.{Aim}
 use Rattle.section_targets.specs.Building.{IsBit, AreBits}
 use Rattle.section_targets.proofs.Built.{kept_formula, kept_inside}
 use Rattle.state_diagrams.specs.DiagramWorks.{state_bit, state_bits}
+use Rattle.std.specs.Prelude.{None}
+use Rattle.bit_expr.specs.Folding.{make_not, make_and}
+use Rattle.abel_meaning.specs.Contributions.{condition}
+use Rattle.abel_meaning.specs.CountedBlocks.{register_literals}
+use Rattle.abel_meaning.specs.Diagrams.{registers_equal, is_state}
+use Rattle.abel_meaning.specs.FormulaBits.{formulas}
+use Rattle.abel_meaning.specs.Numbers.{digits}
+use Rattle.abel_meaning.specs.Terms.{Term}
+use Rattle.abel_meaning.specs.Terms as term
+use Rattle.abel_meaning.specs.Values.{constant_of}
+use Rattle.state_diagrams.specs.StateGuards.{number_guard}
 
 abbrev InArena : List Formula → List ExprId → Type 0
 InArena fs ids = All (λ (id : ExprId). id.0 < length fs) ids
@@ -29,7 +40,7 @@ alone : (fs : List Formula) (id : ExprId) → id.0 < length fs → InArena fs (i
 alone fs id h zero x lt = h
 alone fs id h (suc i) x lt = absurd (omega (arith, lt))
 
-bits_more : (fs : List Formula) (ids : List ExprId) (gs : List Formula) (id : ExprId) (g : Formula) → AreBits fs ids gs → IsBit fs id g → AreBits fs (ids ++ id ∷ []) (gs ++ g ∷ [])
+pub bits_more : (fs : List Formula) (ids : List ExprId) (gs : List Formula) (id : ExprId) (g : Formula) → AreBits fs ids gs → IsBit fs id g → AreBits fs (ids ++ id ∷ []) (gs ++ g ∷ [])
 bits_more fs ids gs id g b o = (
   All-append (λ (x : ExprId). x.0 < length fs) ids (id ∷ []) b.0 (alone fs id o.0),
   map-append (formula_at fs) ids (id ∷ []) ∙ ap₂ (λ xs x. xs ++ x ∷ []) b.1 o.1,
@@ -45,3 +56,14 @@ states_more d xs old new ids id ss ts s e k b o =
 -- there is a bit for each state
 pub states_counted : (d : Context) (xs : List Aim) (fs : List Formula) (ids : List ExprId) (ss : List StateTree) → AreBits fs ids (state_bits d xs ss) → length ids ≡ length ss
 states_counted d xs fs ids ss b = sym (length-map ids (formula_at fs)) ∙ ap length b.1 ∙ length-map ss (λ (s : StateTree). state_bit d xs s)
+
+-- the literals of registers are what it is for them to read these digits, whatever was found before
+pub registers_hold : (d : Context) (found : Formula) (ss : List ℕ) (bs : List Bool) → (register_literals d found ss bs).what ≡ registers_equal (formulas d) found ss bs
+registers_hold d found [] bs = refl
+registers_hold d found (s ∷ ss) [] = refl
+registers_hold d found (s ∷ ss) (true ∷ bs) = registers_hold d (make_and found (condition (formulas d) (term.Read s None))).what ss bs
+registers_hold d found (s ∷ ss) (false ∷ bs) = registers_hold d (make_and found (make_not (condition (formulas d) (term.Read s None))).what).what ss bs
+
+-- so the guard of a value's number is what it is to be in that state
+pub guard_is_state : (d : Context) (ss : List ℕ) (v : Term) → (number_guard d ss (constant_of d v).number).what ≡ is_state (formulas d) d ss v
+guard_is_state d ss v = registers_hold d (Const true) ss (digits (length ss) (constant_of d v).number)

@@ -39,7 +39,7 @@ use Rattle.state_diagrams.specs.DiagramWorks.{branch_work, branches_work, choice
 use Rattle.state_diagrams.specs.Goals.{goal_unit}
 use Rattle.state_diagrams.specs.Places.{goal_places, other_places}
 use Rattle.state_diagrams.proofs.AnyGuards.{chosen_guard, kept_guard, statements_work, still_firsts, under_statements, under_unit, walked_clear, work_alike}
-use Rattle.state_diagrams.proofs.ArmLaws.{Choice}
+use Rattle.state_diagrams.proofs.GuardLaws.{Choice}
 use Rattle.truth_tables.specs.Works.{Work, before, nothing}
 
 -- ---- works one after another

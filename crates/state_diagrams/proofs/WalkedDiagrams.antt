@@ -2,11 +2,9 @@
 use Rattle.std.proofs.Common.{◌≡◌, false, true, Bool, None, Some, List, [], ◌∷◌, ◌++◌, length, map, refl, sym, ap, ◌∙◌, subst, append_assoc, append-nil}
 use Rattle.std.specs.Option.{is_some}
 use Rattle.pld_base.specs.declared.place.Place.{Place}
-use Rattle.bit_expr.specs.Arena.{arena}
 use Rattle.bit_expr.specs.Formulas.{Formula}
 use Rattle.abel_tree.specs.declared.diagrams.Diagram.{Diagram}
 use Rattle.abel_tree.specs.FirstRefusal.{earlier, first_refusal}
-use Rattle.abel_tree.proofs.FirstRefusals.{none_refused}
 use Rattle.abel_tree.specs.Tree.{Tree}
 use Rattle.abel_tree.specs.View.{view, view_state}
 use Rattle.abel_meaning.specs.Contributions as meant
@@ -22,14 +20,12 @@ use Rattle.set_expr.specs.Given.{view_guard}
 use Rattle.section_targets.specs.declared.aim.Aim.{Aim}
 use Rattle.section_targets.specs.declared.manner.Manner.{Manner}
 use Rattle.section_targets.specs.declared.walked.Walked.{Walked}
-use Rattle.section_targets.specs.Building.{IsBuilt}
 use Rattle.section_targets.specs.Manners.{AreFirsts}
 use Rattle.section_targets.specs.TargetSignals.{target_member}
-use Rattle.section_targets.specs.Units.{CountedUnit, all_refused, limit_refused, units_refused}
-use Rattle.section_targets.specs.Walking.{Walks, fault_behind, standing}
-use Rattle.section_targets.proofs.Built.{left_empty, right_empty}
+use Rattle.section_targets.specs.Units.{CountedUnit}
+use Rattle.section_targets.specs.Walking.{Walks}
 use Rattle.section_targets.proofs.SideTerms.{member_positions, positions_of}
-use Rattle.section_targets.proofs.WalksBehind.{clear_before, walks_none, walks_refused}
+use Rattle.section_targets.proofs.WalksBehind.{walks_none, walks_refused}
 use Rattle.state_diagrams.specs.DiagramPlaces.{aims_places}
 use Rattle.state_diagrams.specs.DiagramUnits.{diagram_manners, manners_behind, register_manners, registers_refused, signals_of, states_manners, units_behind, units_of_states}
 use Rattle.state_diagrams.specs.DiagramWalks.{WalksWork, given_by, places_by, units_of}
@@ -49,16 +45,6 @@ walks_refusing all ms us gs hs ps qs old new s w =
   where
     never : ◌≡◌ {A = Bool} true false → ⊥
     never k = cc
-
--- and where nothing is, all units are made
-pub walks_built : (all ms : List Manner) (us : List CountedUnit) (gs : List (meant.Contribution Formula)) (ps : List Place) (old new : Walked) → new.fault ≡ None → Walks all us gs ps ms old new → (old.fault ≡ None) × IsBuilt us gs ps (standing old) (standing new)
-walks_built all ms us gs ps old new e w =
-    let count = length (arena old.exprs) in
-    let clear = clear_before old.fault count us (sym e ∙ w.fault) in
-    let none = none_refused section_order (all_refused count us) (sym e ∙ w.fault ∙ ap (λ f. fault_behind f count us) clear) in (
-      clear,
-      record { accepted = left_empty (units_refused us) (limit_refused count us) none; within = right_empty (units_refused us) (limit_refused count us) none; made = w.given e },
-    )
 
 -- nothing is given behind what is refused
 pub header_refused : (all : List Manner) (gs : List (meant.Contribution Formula)) (ps : List Place) (out : Walked) → is_some out.fault ≡ true → AreFirsts out.before all → Walks all [] gs ps [] out out

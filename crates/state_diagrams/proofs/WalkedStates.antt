@@ -27,7 +27,7 @@ use Rattle.state_diagrams.specs.DiagramWalks.{WalksBranches, WalksStates, WalksU
 use Rattle.state_diagrams.specs.DiagramWorks.{branches_work, state_bit, state_work, states_work, where_holds, within_work}
 use Rattle.state_diagrams.specs.StateValues.{listed_after}
 use Rattle.state_diagrams.proofs.AnyGuards.{kept_guard, still_firsts, under_statements, walked_clear}
-use Rattle.state_diagrams.proofs.StatesHold.{guard_is_state}
+use Rattle.state_diagrams.proofs.StateBits.{guard_is_state}
 use Rattle.state_diagrams.proofs.WalkedBranches.{sized, unit_then}
 use Rattle.truth_tables.specs.Works.{Work}
 
@@ -62,7 +62,7 @@ guard_is fs g h f e p q = rw (e, p, q) refl
 -- a state before others
 pub states_walk : {D : Type 0} (t : Table) (m : Machine D) (g : Guard) (listed : List ℕ) (s : StateTree) (states : List StateTree) (id : ExprId) (old mid far new : Walked)
     → WalksUnit t m listed s old mid → (mid.fault ≡ None → IsBit (arena mid.exprs) id (state_bit (context_of_machine t m) m.registers.now s)) → WalksWithin t m (record g { when = id }) s mid far
-    → WalksStates t m g (listed_after (context_of_machine t m) (length m.registers.now) listed s) states far new → WalksStates t m g listed (s ∷ states) old new
+    → WalksStates t m g (listed_after (context_of_machine t m) (length (signals_of m.registers.now)) listed s) states far new → WalksStates t m g listed (s ∷ states) old new
 states_walk t m g listed s states id old mid far new unit bit within later = λ h p q all a.
     let d = context_of_machine t m in
     let xs = m.registers.now in
@@ -75,7 +75,6 @@ states_walk t m g listed s states id old mid far new unit bit within later = λ 
     let held = subst (λ (x : Formula). WalksWork all (inside_work d h xs all s (length sig) x) (state_manners d s) mid far) (guard_is_state d sig (term_of d.known s.value)) counted in
     let one = unit_then all (state_manners d s) (record { units = state_unit d sig listed s ∷ []; gives = []; places = [] }) (inside_work d h xs all s (length sig) (state_bit d xs s)) old mid far u held in
     let after = listed_after d (length (signals_of xs)) listed s in
-    let rest = subst (λ (n : ℕ). WalksStates t m g (listed_after d n listed s) states far new) (sized xs) later in
     let w = state_work d h xs all listed s in
     let ws = states_work d h xs (all ++ state_manners d s) after states in
-    walks_then all (state_manners d s) (states_manners d states) w.units ws.units w.gives ws.gives w.places ws.places old far new one (rest h p q (all ++ state_manners d s) one.manners)
+    walks_then all (state_manners d s) (states_manners d states) w.units ws.units w.gives ws.gives w.places ws.places old far new one (later h p q (all ++ state_manners d s) one.manners)

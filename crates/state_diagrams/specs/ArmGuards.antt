@@ -1,21 +1,23 @@
 -- The conditions of CASE and the guards of its arms (ABEL-HDL Reference Manual, state diagrams).
-use Rattle.std.specs.Prelude.{◌≡◌, Option, List, [], ◌∷◌, Result}
+use Rattle.std.specs.Prelude.{◌≡◌, Option, List, [], ◌∷◌, map, Result}
 use Rattle.pld_base.specs.declared.place.Place.{Place}
 use Rattle.pld_device.specs.Table.{Table}
 use Rattle.bit_expr.specs.declared.node.ExprId.{ExprId}
 use Rattle.bit_expr.specs.declared.node.Node.{Node}
 use Rattle.bit_expr.specs.Arena.{arena, formula_at}
 use Rattle.bit_expr.specs.Formulas.{Formula}
+use Rattle.abel_tree.specs.declared.diagrams.CaseArm.{CaseArm}
 use Rattle.abel_tree.specs.declared.names.Names.{Names}
 use Rattle.abel_tree.specs.Entries.{entries_of}
 use Rattle.abel_tree.specs.FirstRefusal.{first_refusal}
-use Rattle.abel_tree.specs.Tree.{Choices, NoChoice, MoreChoices}
+use Rattle.abel_tree.specs.Tree.{Choices}
+use Rattle.abel_tree.specs.View.{view}
 use Rattle.abel_meaning.specs.CountedBlocks.{choices_nodes}
 use Rattle.abel_meaning.specs.CountedNodes.{condition_of, guard_then}
 use Rattle.abel_meaning.specs.Designs.{Context}
 use Rattle.set_expr.specs.declared.fault.SectionFault.{SectionFault}
 use Rattle.set_expr.specs.SectionOrder.{section_order}
-use Rattle.section_targets.specs.Building.{BuildsNodes, IsBit}
+use Rattle.section_targets.specs.Building.{BuildsNodes}
 use Rattle.set_expr.specs.Contexts.{context_for}
 use Rattle.section_targets.specs.Units.{CountedUnit, part}
 use Rattle.state_diagrams.specs.DiagramUnits.{choices_refused}
@@ -41,9 +43,6 @@ abbrev pub MakesGuards : {R : Type 0} → Table → Names → (guard : ExprId) �
     → Result R SectionFault → Type 0
 MakesGuards t n g p cs old new r = BuildsConditions (context_for t n) (formula_at (arena old) g) p cs old new r
 
--- the guard of each, in an arena of these formulas
-abbrev pub AreGuardsOf : Context → List Formula → (guard : Formula) → Choices → List ExprId → Type 0
-AreGuardsOf d fs g NoChoice [] = Unit {0}
-AreGuardsOf d fs g (MoreChoices c colon b cs) (id ∷ ids) =
-    IsBit fs id (guard_then g (condition_of d c)).what × AreGuardsOf d fs g cs ids
-AreGuardsOf d fs g _ _ = ⊥
+-- the guard of each arm
+abbrev pub arm_guards : Context → (guard : Formula) → List CaseArm → List Formula
+arm_guards d g arms = map (λ (x : CaseArm). (guard_then g (condition_of d (view x.condition))).what) arms

@@ -26,5 +26,8 @@ view_choices list = choices_of (map view_choice list)
 abbrev pub case_place : Case → Place
 case_place x = (out-Case x).place
 
+abbrev pub case_arms : Case → List CaseArm
+case_arms x = (out-Case x).arms
+
 abbrev pub case_choices : Case → Choices
-case_choices x = view_choices (out-Case x).arms
+case_choices x = view_choices (case_arms x)

@@ -1,5 +1,5 @@
 -- What is left by giving registers a goal (ABEL-HDL Reference Manual, state diagrams).
-use Rattle.std.specs.Prelude.{◌≡◌, List, [], ◌∷◌, length, map, Result}
+use Rattle.std.specs.Prelude.{◌≡◌, List, [], ◌∷◌, length, Result}
 use Rattle.pld_base.specs.declared.place.Place.{Place}
 use Rattle.pld_device.specs.Table.{Table}
 use Rattle.bit_expr.specs.declared.node.ExprId.{ExprId}
@@ -41,14 +41,11 @@ abbrev pub goal_work : Context → meant.Guard Formula → Place → List Aim �
 goal_work d h p aims ws =
     record { units = goal_parts p h.holds aims ws; gives = goal_gives (formulas d) d h (signals_of aims) ws; places = goal_places aims }
 
-abbrev pub GivesRegisters : Names → GoalUnit → List Aim → List ExprId → (old new : Walked) → Result Unit SectionFault → Type 0
-GivesRegisters n u aims ids old new r =
-    (d : Context) → d.names ≡ entries_of n
-    → Does (goal_work d (view_guard (arena old.exprs) u.guard) u.place aims (map (formula_at (arena old.exprs)) ids))
-    old.exprs new.exprs old.list.items new.list.items r
-
 abbrev pub GivesRegister : Names → GoalUnit → Aim → ExprId → (old new : Walked) → Result Unit SectionFault → Type 0
-GivesRegister n u a id old new r = GivesRegisters n u (a ∷ []) (id ∷ []) old new r
+GivesRegister n u a id old new r =
+    (d : Context) → d.names ≡ entries_of n
+    → Does (goal_work d (view_guard (arena old.exprs) u.guard) u.place (a ∷ []) (formula_at (arena old.exprs) id ∷ []))
+    old.exprs new.exprs old.list.items new.list.items r
 
 -- a goal as a unit with these refusals
 abbrev pub goal_unit : Context → meant.Guard Formula → List Aim → Goal → List SectionFault → Work

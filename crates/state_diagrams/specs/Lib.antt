@@ -5,12 +5,9 @@ pub mod DiagramUnits
 pub mod DiagramWalks
 pub mod DiagramWorks
 pub mod Goals
-pub mod Literals
 pub mod Matches
 pub mod Places
-pub mod Pushed
 pub mod Registers
 pub mod StateGuards
 pub mod StateValues
-pub mod States
 pub mod Still

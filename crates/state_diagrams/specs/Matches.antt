@@ -1,22 +1,16 @@
 -- The matches that a diagram gives to signals that are no registers of it (ABEL-HDL Reference Manual, state diagrams; at
 -- which places is this project's rule).
-use Rattle.std.specs.Prelude.{ℕ, zero, suc, ◌==◌, not, ◌&&◌, None, List, [], ◌∷◌, ◌++◌, if◌then◌else◌, map, filter, drop, length, Result}
+use Rattle.std.specs.Prelude.{ℕ, zero, suc, ◌==◌, not, ◌&&◌, None, List, [], ◌∷◌, ◌++◌, if◌then◌else◌, map, filter, Bool, true, false}
 use Rattle.std.specs.List.{list_any}
 use Rattle.pld_base.specs.declared.place.Place.{Place}
-use Rattle.bit_expr.specs.declared.node.ExprId.{ExprId}
-use Rattle.bit_expr.specs.declared.node.Node.{Node}
-use Rattle.bit_expr.specs.Arena.{arena, formula_at}
 use Rattle.abel_meaning.specs.Contributions.{is_dontcare}
 use Rattle.abel_meaning.specs.Contributions as meant
 use Rattle.abel_meaning.specs.Designs.{Context, name_at}
 use Rattle.abel_meaning.specs.Diagrams.{first_of_each, is_other}
+use Rattle.bit_expr.specs.declared.node.ExprId.{ExprId}
+use Rattle.abel_tree.specs.Extensions.{is_data}
 use Rattle.set_expr.specs.declared.contributions.Contribution.{Contribution}
-use Rattle.set_expr.specs.declared.fault.SectionFault.{SectionFault}
-use Rattle.set_expr.specs.Given.{view_contribution}
-use Rattle.section_targets.specs.declared.aim.Aim.{Aim}
-use Rattle.section_targets.specs.Building.{Builds}
-use Rattle.section_targets.specs.Given.{AreIn}
-use Rattle.state_diagrams.specs.DiagramUnits.{signals_of}
+use Rattle.set_expr.specs.declared.contributions.Gives.TheVariants as gives
 
 -- a match beside a contribution, where this holds
 abbrev pub match_beside : {W : Type 0} → meant.Contribution W → W → meant.Contribution W
@@ -50,12 +44,32 @@ other_places ss before n (c ∷ cs) (p ∷ ps) =
     then times n p ++ other_places ss (c.signal ∷ before) n cs ps
     else other_places ss before n cs ps
 
--- what is left by giving the matches of what stands in a list behind its start, where each of these bits is 1
-abbrev pub GivesMatches : (registers : List Aim) → (states : List ExprId) → (start : ℕ) → (list more : List Contribution)
-    → Result Unit SectionFault → Type 0
-GivesMatches xs ids start list more r =
-    (es : List Node) → AreIn (length (arena es)) ids
-    → Builds []
-    (matches_beside (map (formula_at (arena es)) ids) (other_firsts (signals_of xs) (map (view_contribution (arena es)) (drop start list))))
-    (other_places (signals_of xs) [] (length ids) (map (view_contribution (arena es)) (drop start list)) (map (λ (c : Contribution). c.place) (drop start list)))
-    (record { exprs = es; list = list }) (record { exprs = es; list = more }) r
+-- one of these signals
+abbrev pub is_among : List ℕ → (signal : ℕ) → Bool
+is_among ss s = list_any (λ t. s == t) ss
+
+-- the first data to a signal that is no register
+abbrev pub is_first : (registers seen : List ℕ) → Contribution → Bool
+is_first ss seen c =
+    is_data c.target.extension && not (is_among ss c.target.signal) && not (is_among seen c.target.signal)
+
+-- a match beside a contribution, where the bit is 1
+abbrev pub pushed_beside : Contribution → ExprId → Contribution
+pushed_beside c id =
+    record c { target = record { signal = c.target.signal; extension = None }; what = gives.Match; when = id }
+
+-- for a first one, a match at each bit
+abbrev pub pushed_if : (first : Bool) → List ExprId → Contribution → List Contribution
+pushed_if true ids c = map (pushed_beside c) ids
+pushed_if false ids c = []
+
+-- the signals that are seen with it
+abbrev pub seen_if : (first : Bool) → List ℕ → Contribution → List ℕ
+seen_if true seen c = seen ++ c.target.signal ∷ []
+seen_if false seen c = seen
+
+-- what is pushed for several contributions, behind the signals that were seen
+abbrev pub pushed_for : (registers : List ℕ) → List ExprId → (seen : List ℕ) → List Contribution → List Contribution
+pushed_for ss ids seen [] = []
+pushed_for ss ids seen (c ∷ cs) =
+    pushed_if (is_first ss seen c) ids c ++ pushed_for ss ids (seen_if (is_first ss seen c) seen c) cs

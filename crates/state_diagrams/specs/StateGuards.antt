@@ -1,19 +1,41 @@
--- The guard of a state, with its nodes (ABEL-HDL Reference Manual, state diagrams).
-use Rattle.std.specs.Prelude.{ℕ, true, List, length, Result}
+-- The guard of a state, with its nodes: the literals of registers, one after another (ABEL-HDL Reference Manual, state
+-- diagrams).
+use Rattle.std.specs.Prelude.{ℕ, true, List, length, Result, Bool, None, [], ◌∷◌, IfOk}
 use Rattle.pld_base.specs.declared.place.Place.{Place}
 use Rattle.pld_device.specs.Table.{Table}
 use Rattle.bit_expr.specs.declared.node.ExprId.{ExprId}
 use Rattle.bit_expr.specs.declared.node.Node.{Node}
-use Rattle.bit_expr.specs.Folding.{Made}
+use Rattle.bit_expr.specs.Folding.{Made, ◌>>=◌}
 use Rattle.bit_expr.specs.Formulas.{Formula, Const}
-use Rattle.abel_meaning.specs.CountedBlocks.{register_literals}
+use Rattle.abel_meaning.specs.CountedBlocks.{register_literals, make_literal}
 use Rattle.abel_meaning.specs.Designs.{Context}
 use Rattle.abel_meaning.specs.Numbers.{digits}
 use Rattle.set_expr.specs.declared.fault.SectionFault.{SectionFault}
 use Rattle.set_expr.specs.Contexts.{context_for}
 use Rattle.state_diagrams.specs.declared.machine.Machine.{Machine}
 use Rattle.state_diagrams.specs.DiagramUnits.{signals_of}
-use Rattle.state_diagrams.specs.Literals.{MakesBit}
+use Rattle.bit_expr.specs.Arena.{arena}
+use Rattle.abel_meaning.specs.FormulaBits.{make_source}
+use Rattle.abel_meaning.specs.Sources.{source_of}
+use Rattle.section_targets.specs.declared.aim.Aim.{Aim}
+use Rattle.section_targets.specs.Building.{BuildsNodes, IsBit}
+use Rattle.section_targets.specs.Units.{part}
+
+-- a bit is made as a part of the unit at a place
+abbrev pub MakesBit : Place → Made Formula → (old new : List Node) → Result ExprId SectionFault → Type 0
+MakesBit p m old new r = BuildsNodes (part p m.nodes ∷ []) old new r × IfOk r (λ id. IsBit (arena new) id m.what)
+
+-- what the bare name of a signal reads
+abbrev pub bare_read : Context → (signal : ℕ) → Made Formula
+bare_read d s = make_source (source_of d s None)
+
+-- the literal of one register, behind what was found
+abbrev pub register_literal : Context → (found : Formula) → (signal : ℕ) → (digit : Bool) → Made Formula
+register_literal d found s b = bare_read d s >>= λ f. make_literal found b f
+
+-- the literals of several
+abbrev pub literals : Context → (found : Formula) → (registers : List Aim) → (digits : List Bool) → Made Formula
+literals d found xs bs = register_literals d found (signals_of xs) bs
 
 -- the bare name of each register reads its digit of the number, from the left
 abbrev pub number_guard : Context → (registers : List ℕ) → (number : ℕ) → Made Formula

@@ -1,17 +1,24 @@
 -- The value of a state: a constant without X that the registers hold, listed once (ABEL-HDL Reference Manual, state
 -- diagrams; which values are states is this project's rule).
-use Rattle.std.specs.Prelude.{ℕ, ◌^◌, ◌==◌, nat_lt, Bool, true, false, not, ◌&&◌, List, [], ◌∷◌, ◌++◌, if◌then◌else◌}
+use Rattle.std.specs.Prelude.{ℕ, ◌^◌, ◌==◌, nat_lt, Bool, true, false, not, ◌&&◌, List, [], ◌∷◌, ◌++◌, if◌then◌else◌, ◌≡◌, Option, None, Some}
 use Rattle.std.specs.List.{list_any}
 use Rattle.pld_base.specs.declared.place.Place.{Place}
 use Rattle.abel_tree.specs.Tree.{Tree, StateTree}
 use Rattle.abel_meaning.specs.Designs.{Context}
-use Rattle.abel_meaning.specs.Terms.{term_of}
+use Rattle.abel_meaning.specs.Terms.{term_of, known_of}
 use Rattle.abel_meaning.specs.Values.{constant_of}
 use Rattle.expr_bits.specs.Reads.{reads_signal}
 use Rattle.set_expr.specs.declared.fault.SectionFault.{SectionFault}
 use Rattle.set_expr.specs.declared.fault.SectionFault.TheVariants.{BadState}
 use Rattle.set_expr.specs.FoundNames.{expression_found}
 use Rattle.set_expr.specs.Refusals.{Found}
+use Rattle.abel_tree.specs.declared.diagrams.State.{State}
+use Rattle.abel_tree.specs.declared.names.Names.{Names}
+use Rattle.abel_tree.specs.Entries.{entries_of}
+use Rattle.abel_tree.specs.FirstRefusal.{first_refusal}
+use Rattle.abel_tree.specs.View.{view}
+use Rattle.set_expr.specs.SectionOrder.{section_order}
+use Rattle.state_diagrams.specs.declared.values.StateFound.{StateFound}
 
 -- the second refusals where there are none of the first
 abbrev pub if_none : List SectionFault → List SectionFault → List SectionFault
@@ -48,3 +55,19 @@ listed_with (r ∷ rs) listed m = listed
 
 abbrev pub listed_after : Context → (n : ℕ) → (listed : List ℕ) → StateTree → List ℕ
 listed_after d n listed s = listed_with (state_refused d n listed s) listed (state_number d s.value)
+
+-- the refusal of a state's value among n registers, behind those that are listed, and where it isn't refused its number
+pub record IsState (d : Context) (n : ℕ) (listed : List ℕ) (s : StateTree) (f : StateFound) : Type 0 where
+  pub fault : f.fault ≡ first_refusal section_order (state_refused d n listed s)
+  pub number : f.fault ≡ None → f.number ≡ state_number d s.value
+
+-- nothing is refused inside a state's value, it has no X, and it reads no signal
+pub record IsStill (n : Names) (s : State) : Type 0 where
+  pub refusals : (expression_found (entries_of n) (view s.value)).refusals ≡ []
+  pub specials : (expression_found (entries_of n) (view s.value)).specials ≡ []
+  pub still : reads_signal (term_of (known_of (entries_of n)) (view s.value)) ≡ false
+
+-- a state is listed where it isn't refused
+abbrev pub listed_if : Option SectionFault → (listed : List ℕ) → ℕ → List ℕ
+listed_if None listed m = listed ++ m ∷ []
+listed_if (Some f) listed m = listed

@@ -6,9 +6,10 @@ ghost use Rattle.abel_tree.specs.Entries.{entries_of};
 ghost use Rattle.abel_tree.specs.Tree.{ACase};
 ghost use Rattle.abel_tree.specs.View.{view_arm};
 ghost use Rattle.set_expr.specs.Contexts.{context_for};
+ghost use Rattle.section_targets.specs.Building.{AreBits};
 ghost use Rattle.section_targets.specs.Given.{AreNamed, AreIn};
 ghost use Rattle.state_diagrams.specs.Arms.{case_choices, case_place, view_goal, view_if, view_arms, view_choices};
-ghost use Rattle.state_diagrams.specs.ArmGuards.{AreGuardsOf};
+ghost use Rattle.state_diagrams.specs.ArmGuards.{arm_guards};
 ghost use Rattle.state_diagrams.specs.DiagramWalks.{WalksBranch, WalksBranches, WalksChoices};
 
 use crate::choices::{under_arm, walk_conditions};
@@ -97,7 +98,7 @@ fn walk_choices<D: Device>(
     requires signals { AreNamed (length (entries_of machine.now.scope.now)) machine.now.registers.now }
     requires guard { guards.now.outer.when.0 < length (arena out.old.exprs) }
     requires inside { AreIn (length (arena out.old.exprs)) guards.now.bits.now }
-    requires bits { out.old.fault ≡ None → AreGuardsOf (context_for D.table machine.now.scope.now) (arena out.old.exprs) (formula_at (arena out.old.exprs) guards.now.outer.when) (view_choices arms.now) guards.now.bits.now }
+    requires bits { out.old.fault ≡ None → AreBits (arena out.old.exprs) guards.now.bits.now (arm_guards (context_for D.table machine.now.scope.now) (formula_at (arena out.old.exprs) guards.now.outer.when) arms.now) }
     ensures { OnOk result (WalksChoices D.table machine.now guards.now.outer (view_choices arms.now) out.old out.new) }
 {
     for index in 0..arms.len() {

@@ -4,9 +4,10 @@ ghost use Rattle.std.specs.Prelude.{◌≡◌, ◌<◌, ℕ, None, get_or, lengt
 ghost use Rattle.bit_expr.specs.Arena.{arena, formula_at};
 ghost use Rattle.set_expr.specs.Answer.{Keeps};
 ghost use Rattle.set_expr.specs.Contexts.{context_for};
+ghost use Rattle.section_targets.specs.Building.{AreBits};
 ghost use Rattle.section_targets.specs.Given.{AreIn};
-ghost use Rattle.state_diagrams.specs.Arms.{case_choices, case_place, view_choices};
-ghost use Rattle.state_diagrams.specs.ArmGuards.{AreGuardsOf, AreClear, MakesGuards, RefusesConditions};
+ghost use Rattle.state_diagrams.specs.Arms.{case_arms, case_choices, case_place, view_choices};
+ghost use Rattle.state_diagrams.specs.ArmGuards.{arm_guards, AreClear, MakesGuards, RefusesConditions};
 ghost use Rattle.state_diagrams.specs.DiagramWalks.{WalksConditions};
 
 use abel_tree::{Case, CaseArm, earlier};
@@ -46,7 +47,7 @@ fn make_guards<D: Device>(
     requires accepted { AreClear D.table scope.now (case_choices case.now) }
     ensures keeps { Keeps (arena exprs.old) (arena exprs.new) }
     ensures builds { MakesGuards D.table scope.now guard (case_place case.now) (case_choices case.now) exprs.old exprs.new result }
-    ensures guards { IfOk result (λ ids. AreGuardsOf (context_for D.table scope.now) (arena exprs.new) (formula_at (arena exprs.old) guard) (case_choices case.now) ids.items) }
+    ensures guards { IfOk result (λ ids. AreBits (arena exprs.new) ids.items (arm_guards (context_for D.table scope.now) (formula_at (arena exprs.old) guard) (case_arms case.now))) }
 {
     let mut guards = Vec::new(alloc);
     for arm in case.arms.as_slice() {
@@ -72,7 +73,7 @@ pub(crate) fn walk_conditions<D: Device>(
     requires guard { guard.0 < length (arena out.old.exprs) }
     ensures walks { IfOk result (λ ids. WalksConditions D.table scope.now guard (case_place case.now) (case_choices case.now) out.old out.new) }
     ensures inside { IfOk result (λ ids. AreIn (length (arena out.new.exprs)) ids.items) }
-    ensures guards { IfOk result (λ ids. out.new.fault ≡ None → AreGuardsOf (context_for D.table scope.now) (arena out.new.exprs) (formula_at (arena out.old.exprs) guard) (case_choices case.now) ids.items) }
+    ensures guards { IfOk result (λ ids. out.new.fault ≡ None → AreBits (arena out.new.exprs) ids.items (arm_guards (context_for D.table scope.now) (formula_at (arena out.old.exprs) guard) (case_arms case.now))) }
 {
     let fault = check_conditions(alloc, scope.scope(), case.arms.as_slice())?;
     if out.refuse(fault) {

@@ -5,8 +5,8 @@ ghost use Rattle.bit_expr.specs.Arena.{arena};
 ghost use Rattle.abel_tree.specs.Entries.{entries_of};
 ghost use Rattle.abel_tree.specs.View.{view};
 ghost use Rattle.set_expr.specs.Answer.{Keeps, refusal_of};
-ghost use Rattle.section_targets.specs.Given.{AreNamed, AreIn};
-ghost use Rattle.state_diagrams.specs.Goals.{GivesRegister, GivesRegisters, GivesGoal};
+ghost use Rattle.section_targets.specs.Given.{AreNamed};
+ghost use Rattle.state_diagrams.specs.Goals.{GivesRegister, GivesGoal};
 ghost use Rattle.state_diagrams.specs.DiagramWalks.{WalksValue};
 
 use crate::machine::Machine;
@@ -66,30 +66,7 @@ fn give_register(
     give_output(&matching, Gives::Match, aim, &mut out.exprs, &mut out.list)
 }
 
-/// Each register is given its bit of a goal, from the left.
-fn give_registers<D: Device>(
-    machine: &Machine<'_, D>,
-    goal: GoalUnit,
-    bits: &[ExprId],
-    out: &mut Walked,
-) -> Result<(), SectionFault>
-    requires signals { AreNamed (length (entries_of machine.now.scope.now)) machine.now.registers.now }
-    requires guard { goal.guard.when.0 < length (arena out.old.exprs) }
-    requires bits { AreIn (length (arena out.old.exprs)) bits.now }
-    requires each { length bits.now ≡ length machine.now.registers.now }
-    ensures before { out.new.before ≡ out.old.before }
-    ensures fault { out.new.fault ≡ out.old.fault }
-    ensures gives { GivesRegisters machine.now.scope.now goal machine.now.registers.now bits.now out.old out.new result }
-{
-    let names = machine.scope.scope();
-    for index in 0..machine.registers.len() {
-        let aim = machine.registers[index];
-        give_register(names, goal, aim, bits[index], out)?;
-    }
-    Ok(())
-}
-
-/// A goal of which nothing is refused.
+/// A goal of which nothing is refused: each register is given its bit, from the left.
 fn give_goal<D: Device>(
     alloc: Global,
     machine: &Machine<'_, D>,
@@ -104,16 +81,21 @@ fn give_goal<D: Device>(
     ensures fault { out.new.fault ≡ out.old.fault }
     ensures gives { GivesGoal D.table machine.now guard goal.now out.old out.new result }
 {
+    let unit = GoalUnit {
+        place: goal.place,
+        guard,
+    };
     let meets = Meets {
         unit: goal.place,
         signals: machine.registers.len(),
     };
     let bits = value_bits::<D>(alloc, machine.scope, &goal.value, meets, &mut out.exprs)?;
-    let unit = GoalUnit {
-        place: goal.place,
-        guard,
-    };
-    give_registers::<D>(machine, unit, &bits, out)
+    let names = machine.scope.scope();
+    for index in 0..machine.registers.len() {
+        let aim = machine.registers[index];
+        give_register(names, unit, aim, bits[index], out)?;
+    }
+    Ok(())
 }
 
 /// A goal without the statements behind it.

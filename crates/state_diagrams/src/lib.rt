@@ -3,7 +3,6 @@
 
 mod arms;
 mod choices;
-mod digits;
 mod goals;
 mod guards;
 mod literals;

@@ -4,7 +4,7 @@ ghost use Rattle.std.specs.Prelude.{◌<◌, length};
 ghost use Rattle.bit_expr.specs.Arena.{arena, formula_at};
 ghost use Rattle.abel_meaning.specs.CountedBlocks.{make_literal};
 ghost use Rattle.set_expr.specs.Contexts.{context_for};
-ghost use Rattle.state_diagrams.specs.Literals.{MakesBit, bare_read, register_literal};
+ghost use Rattle.state_diagrams.specs.StateGuards.{MakesBit, bare_read, register_literal};
 
 use bit_expr::{ExprFault, ExprId, Exprs, Node};
 use expr_bits::read_signal;

@@ -1,15 +1,14 @@
 //! Matches beside contributions.
 
-ghost use Rattle.std.specs.Prelude.{◌≡◌, ◌≤◌, true, OnOk, length};
+ghost use Rattle.std.specs.Prelude.{◌≡◌, ◌≤◌, ◌++◌, [], true, drop, IfOk, OnOk, length};
 ghost use Rattle.state_diagrams.specs.DiagramUnits.{signals_of};
-ghost use Rattle.state_diagrams.specs.Matches.{GivesMatches};
-ghost use Rattle.state_diagrams.specs.Pushed.{is_among, is_first, pushed_beside, pushed_if, seen_if, Pushes};
+ghost use Rattle.state_diagrams.specs.Matches.{is_among, is_first, pushed_beside, pushed_for, pushed_if, seen_if};
 
 use abel_tree::Extension;
 use bit_expr::ExprId;
 use section_targets::Aim;
-use set_expr::{Contribution, Gives, SectionFault, Target};
-use std::alloc::Global;
+use set_expr::{Contribution, Gives, Target};
+use std::alloc::{AllocError, Global};
 
 /// Whether the signal is a register.
 fn is_register(registers: &[Aim], signal: u32) -> bool
@@ -53,55 +52,54 @@ fn match_beside(given: Contribution, state: ExprId) -> Contribution
 }
 
 /// Appends a match beside a contribution where each of these bits is 1.
-fn give_beside(
+fn push_beside(
     states: &[ExprId],
     given: Contribution,
-    list: &mut Vec<Contribution>,
-) -> Result<(), SectionFault>
-    ensures { Pushes (pushed_if true states.now given) list.old.items list.new.items result }
+    found: &mut Vec<Contribution>,
+) -> Result<(), AllocError>
+    ensures { OnOk result (found.new.items ≡ found.old.items ++ pushed_if true states.now given) }
 {
     for index in 0..states.len() {
-        list.push(match_beside(given, states[index]))?;
+        found.push(match_beside(given, states[index]))?;
     }
     Ok(())
 }
 
 /// Appends the matches for a contribution, if it is the first data to a signal that is no register; that signal then counts
 /// as seen.
-fn give_if_first(
+fn push_if_first(
     registers: &[Aim],
     states: &[ExprId],
     given: Contribution,
     seen: &mut Vec<u32>,
-    list: &mut Vec<Contribution>,
-) -> Result<(), SectionFault>
+    found: &mut Vec<Contribution>,
+) -> Result<(), AllocError>
     ensures seen { OnOk result (seen.new.items ≡ seen_if (is_first (signals_of registers.now) seen.old.items given) seen.old.items given) }
-    ensures pushes { Pushes (pushed_if (is_first (signals_of registers.now) seen.old.items given) states.now given) list.old.items list.new.items result }
+    ensures found { OnOk result (found.new.items ≡ found.old.items ++ pushed_if (is_first (signals_of registers.now) seen.old.items given) states.now given) }
 {
     if is_first(registers, seen.as_slice(), given) {
         seen.push(given.target.signal)?;
-        give_beside(states, given, list)?;
+        push_beside(states, given, found)?;
     }
     Ok(())
 }
 
-/// Appends, for each signal but the registers that some contribution behind `start` gives data to, a match where each of these
-/// bits is 1, from the first contribution to the signal, which says on the clock or not, complement and place.
-pub(crate) fn give_matches(
+/// For each signal but the registers that some contribution behind `start` gives data to, a match where each of these bits
+/// is 1, from the first contribution to the signal, which says on the clock or not, complement and place.
+pub(crate) fn matches_beside(
     alloc: Global,
     registers: &[Aim],
     states: &[ExprId],
+    list: &[Contribution],
     start: usize,
-    list: &mut Vec<Contribution>,
-) -> Result<(), SectionFault>
-    requires start { start ≤ length list.old.items }
-    ensures gives { GivesMatches registers.now states.now start list.old.items list.new.items result }
+) -> Result<Vec<Contribution>, AllocError>
+    requires { start ≤ length list.now }
+    ensures { IfOk result (λ found. found.items ≡ pushed_for (signals_of registers.now) states.now [] (drop start list.now)) }
 {
-    let end = list.len();
     let mut seen = Vec::new(alloc);
-    for index in start..end {
-        let given = list.as_slice()[index];
-        give_if_first(registers, states, given, &mut seen, list)?;
+    let mut found = Vec::new(alloc);
+    for index in start..list.len() {
+        push_if_first(registers, states, list[index], &mut seen, &mut found)?;
     }
-    Ok(())
+    Ok(found)
 }

@@ -1,26 +1,40 @@
 //! The number of an expression that reads no signal.
 
-ghost use Rattle.std.specs.Prelude.{◌≡◌, ◌<◌, ◌≤◌, ◌+◌, ◌*◌, false, None, All, length, map, IfOk};
-ghost use Rattle.bit_expr.specs.declared.node.ExprId.{ExprId};
+ghost use Rattle.std.specs.Prelude.{◌≡◌, ◌<◌, ◌≤◌, ◌+◌, ◌*◌, false, None, [], ◌∷◌, length, map, IfOk};
 ghost use Rattle.bit_expr.specs.Arena.{arena};
 ghost use Rattle.abel_tree.specs.Entries.{entries_of};
 ghost use Rattle.abel_tree.specs.View.{view};
-ghost use Rattle.abel_meaning.specs.BitWords.{Word};
-ghost use Rattle.abel_meaning.specs.Numbers.{Value, number_with, one_bit};
+ghost use Rattle.abel_meaning.specs.Numbers.{number_with, one_bit};
 ghost use Rattle.abel_meaning.specs.Terms.{known_of, term_of};
-ghost use Rattle.set_expr.specs.Answer.{IsShaped, refusal_of};
+ghost use Rattle.set_expr.specs.Answer.{AreIn, refusal_of};
 ghost use Rattle.set_expr.specs.Contexts.{context_for};
 ghost use Rattle.expr_bits.specs.Reads.{reads_signal};
 ghost use Rattle.state_diagrams.specs.StateValues.{state_number};
-ghost use Rattle.state_diagrams.specs.Still.{level_of, met_levels, HasFew, HasDigits, Shows};
+ghost use Rattle.state_diagrams.specs.Still.{level_of};
 
 use abel_tree::Expr;
 use bit_expr::{ExprId, Exprs};
 use pld_base::{OutOfMemory, Point};
 use pld_device::Device;
-use section_targets::{SectionScope, meet};
-use set_expr::{Shape, Shaped};
+use section_targets::SectionScope;
+use set_expr::Shape;
 use std::alloc::Global;
+
+/// The level of a position where all signals are 0; X counts as 0.
+fn level_of(exprs: &Exprs, place: Option<ExprId>) -> bool
+    requires { AreIn (length (arena exprs.now)) (place ∷ []) }
+    ensures { result ≡ level_of (arena exprs.now) place }
+{
+    let nowhere = Point {
+        pins: 0,
+        q: 0,
+        nodes: 0,
+    };
+    match place {
+        None => false,
+        Some(id) => exprs.eval(id, &nowhere),
+    }
+}
 
 /// A digit more on the right of a number.
 fn with_digit(number: u32, on: bool) -> u32
@@ -30,52 +44,19 @@ fn with_digit(number: u32, on: bool) -> u32
     if on { number * 2 + 1 } else { number * 2 }
 }
 
-/// The number of bits, the rightmost first, where all signals are 0.
-fn bits_number(exprs: &Exprs, bits: &[ExprId]) -> u32
-    requires inside { All (λ (id : ExprId). id.0 < length (arena exprs.now)) bits.now }
-    requires few { length bits.now ≤ 32 }
-    ensures { result ≡ number_with (map (level_of (arena exprs.now)) bits.now) }
+/// The number of positions, the rightmost first, where all signals are 0.
+fn places_number(exprs: &Exprs, places: &[Option<ExprId>]) -> u32
+    requires inside { AreIn (length (arena exprs.now)) places.now }
+    requires few { length places.now ≤ 32 }
+    ensures { result ≡ number_with (map (level_of (arena exprs.now)) places.now) }
 {
-    let nowhere = Point {
-        pins: 0,
-        q: 0,
-        nodes: 0,
-    };
     let mut number = 0u32;
-    let mut left = bits.len();
+    let mut left = places.len();
     while left > 0 {
         left -= 1;
-        number = with_digit(number, exprs.eval(bits[left], &nowhere));
+        number = with_digit(number, level_of(exprs, places[left]));
     }
     number
-}
-
-/// The number of a value's bits in so many positions.
-fn met_number(
-    alloc: Global,
-    exprs: &Exprs,
-    shaped: &Shaped,
-    width: usize,
-) -> Result<u32, OutOfMemory>
-    requires few { width ≤ 32 }
-    requires shows { Shows (arena exprs.now) shaped.now }
-    ensures { IfOk result (λ n. (v : Value) (w : Word) → IsShaped (arena exprs.now) shaped.now v w → n ≡ met_levels width v w) }
-{
-    let ids = meet(alloc, shaped, width)?;
-    Ok(bits_number(exprs, &ids))
-}
-
-/// The number of a value, where all signals are 0.
-fn shaped_number(alloc: Global, exprs: &Exprs, shaped: &Shaped) -> Result<u32, OutOfMemory>
-    requires few { HasFew shaped.now.shape }
-    requires shows { Shows (arena exprs.now) shaped.now }
-    ensures { IfOk result (λ n. (v : Value) (w : Word) → IsShaped (arena exprs.now) shaped.now v w → HasDigits v w → n ≡ v.number) }
-{
-    match shaped.shape {
-        Shape::Number(number) => Ok(number),
-        Shape::Single => met_number(alloc, exprs, shaped, 1),
-        Shape::Set(width) => met_number(alloc, exprs, shaped, width as usize),
-    }
 }
 
 /// The number of an expression that reads no signal and of which nothing is refused. Its bits are built in an arena of
@@ -91,7 +72,10 @@ pub(crate) fn state_number<D: Device>(
 {
     let mut exprs = Exprs::new(alloc);
     match scope.bits(alloc, value, &mut exprs) {
-        Ok(shaped) => shaped_number(alloc, &exprs, &shaped),
+        Ok(shaped) => match shaped.shape {
+            Shape::Number(number) => Ok(number),
+            _ => Ok(places_number(&exprs, shaped.places.as_slice())),
+        },
         Err(_) => Err(OutOfMemory),
     }
 }

@@ -7,10 +7,10 @@ ghost use Rattle.abel_tree.specs.View.{view_state};
 ghost use Rattle.section_targets.specs.Building.{AreBits, IsBit};
 ghost use Rattle.set_expr.specs.Contexts.{context_for};
 ghost use Rattle.section_targets.specs.Given.{AreNamed};
+ghost use Rattle.state_diagrams.specs.DiagramUnits.{signals_of};
 ghost use Rattle.state_diagrams.specs.DiagramWalks.{WalksStates, WalksUnit, WalksWithin};
 ghost use Rattle.state_diagrams.specs.DiagramWorks.{state_bit, state_bits};
-ghost use Rattle.state_diagrams.specs.States.{IsState, listed_if};
-ghost use Rattle.state_diagrams.specs.StateValues.{listed_after};
+ghost use Rattle.state_diagrams.specs.StateValues.{IsState, listed_if, listed_after};
 
 use crate::arms::walk_arms;
 use crate::guards::state_guard;
@@ -46,8 +46,8 @@ fn read_state<D: Device>(
     state: &State,
 ) -> Result<StateFound, OutOfMemory>
     requires few { length machine.now.registers.now ≤ 32 }
-    ensures state { IfOk result (λ f. IsState (context_for D.table machine.now.scope.now) (length machine.now.registers.now) listed.old.items (view_state state.now) f) }
-    ensures listed { OnOk result (listed.new.items ≡ listed_after (context_for D.table machine.now.scope.now) (length machine.now.registers.now) listed.old.items (view_state state.now)) }
+    ensures state { IfOk result (λ f. IsState (context_for D.table machine.now.scope.now) (length (signals_of machine.now.registers.now)) listed.old.items (view_state state.now) f) }
+    ensures listed { OnOk result (listed.new.items ≡ listed_after (context_for D.table machine.now.scope.now) (length (signals_of machine.now.registers.now)) listed.old.items (view_state state.now)) }
 {
     let width = machine.registers.len();
     let found = check_value::<D>(alloc, machine.scope, width, listed, state)?;
@@ -63,9 +63,9 @@ fn walk_unit<D: Device>(
     found: StateFound,
     out: &mut Walked,
 ) -> Result<ExprId, OutOfMemory>
-    ensures walks { IfOk result (λ id. (listed : List ℕ) → IsState (context_for D.table machine.now.scope.now) (length machine.now.registers.now) listed (view_state state.now) found → WalksUnit D.table machine.now listed (view_state state.now) out.old out.new) }
+    ensures walks { IfOk result (λ id. (listed : List ℕ) → IsState (context_for D.table machine.now.scope.now) (length (signals_of machine.now.registers.now)) listed (view_state state.now) found → WalksUnit D.table machine.now listed (view_state state.now) out.old out.new) }
     ensures inside { IfOk result (λ id. id.0 < length (arena out.new.exprs)) }
-    ensures bit { IfOk result (λ id. (listed : List ℕ) → IsState (context_for D.table machine.now.scope.now) (length machine.now.registers.now) listed (view_state state.now) found → out.new.fault ≡ None → IsBit (arena out.new.exprs) id (state_bit (context_for D.table machine.now.scope.now) machine.now.registers.now (view_state state.now))) }
+    ensures bit { IfOk result (λ id. (listed : List ℕ) → IsState (context_for D.table machine.now.scope.now) (length (signals_of machine.now.registers.now)) listed (view_state state.now) found → out.new.fault ≡ None → IsBit (arena out.new.exprs) id (state_bit (context_for D.table machine.now.scope.now) machine.now.registers.now (view_state state.now))) }
 {
     if out.refuse(found.fault) {
         return Ok(ExprId(1));

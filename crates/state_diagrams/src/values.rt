@@ -4,7 +4,7 @@ ghost use Rattle.std.specs.Prelude.{◌≡◌, ◌==◌, ◌≤◌, ◌^◌, ℕ
 ghost use Rattle.std.specs.List.{list_any};
 ghost use Rattle.abel_tree.specs.View.{view_state};
 ghost use Rattle.set_expr.specs.Contexts.{context_for};
-ghost use Rattle.state_diagrams.specs.States.{IsState, IsStill};
+ghost use Rattle.state_diagrams.specs.StateValues.{IsState, IsStill};
 
 use crate::numbers::state_number;
 use abel_tree::State;

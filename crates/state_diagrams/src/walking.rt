@@ -7,7 +7,7 @@ ghost use Rattle.section_targets.specs.Given.{AreNamed};
 ghost use Rattle.state_diagrams.specs.DiagramWalks.{WalksDiagram, WalksHeader, WalksOthers};
 
 use crate::machine::Machine;
-use crate::matches::give_matches;
+use crate::matches::matches_beside;
 use crate::registers::check_registers;
 use crate::states::walk_states;
 use abel_tree::{Diagram, State};
@@ -67,8 +67,10 @@ fn walk_others<D: Device>(
     if out.fault.is_some() {
         return Ok(());
     }
-    let made = give_matches(alloc, machine.registers, &bits, start, &mut out.list);
-    out.keep_limit(made)
+    let given = out.list.as_slice();
+    let mut matches = matches_beside(alloc, machine.registers, &bits, given, start)?;
+    out.list.append(&mut matches)?;
+    Ok(())
 }
 
 /// A state diagram behind what was walked before: its registers, which are the one unit where they are refused, and its

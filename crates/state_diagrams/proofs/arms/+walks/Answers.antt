@@ -16,17 +16,17 @@ use Rattle.abel_meaning.specs.CountedNodes.{condition_of}
 use Rattle.abel_meaning.specs.FormulaBits.{formulas}
 use Rattle.set_expr.specs.declared.contributions.Guard.{Guard}
 use Rattle.set_expr.specs.Contexts.{context_for}
+use Rattle.section_targets.specs.Building.{AreBits}
 use Rattle.section_targets.specs.Given.{AreIn}
 use Rattle.section_targets.proofs.Built.{keeps_on, kept_formula, kept_inside}
 use Rattle.section_targets.proofs.WalksBehind.{walks_none}
 use Rattle.equations.specs.StatementWalks.{AreBothGuards, WalksCondition}
 use Rattle.equations.proofs.BuiltUnits.{guard_kept}
-use Rattle.state_diagrams.specs.ArmGuards.{AreGuardsOf}
-use Rattle.state_diagrams.specs.Arms.{case_choices, case_place, view_choices}
+use Rattle.state_diagrams.specs.ArmGuards.{arm_guards}
+use Rattle.state_diagrams.specs.Arms.{case_arms, case_choices, case_place, view_choices}
 use Rattle.state_diagrams.specs.DiagramWalks.{WalksBranch, WalksChoices}
-use Rattle.state_diagrams.proofs.ArmLaws.{Choice}
+use Rattle.state_diagrams.proofs.GuardLaws.{Choice, arm_holds}
 use Rattle.state_diagrams.proofs.ArmViews.{choice_parts, if_alone, if_both, view_goaled, view_iffed, view_cased}
-use Rattle.state_diagrams.proofs.GuardLaws.{arm_holds}
 use Rattle.state_diagrams.proofs.WalkedBranches.{branch_clear, branch_keeps, case_walk, choices_walk, if_walk, rest_at}
 use Rattle.state_diagrams.proofs.arms.+walks.Goals as goal
 
@@ -104,11 +104,11 @@ walk_case-walk_choices-requires g t c κs within =
     let walks = c.in_ok-bits.ensures.walks old.before (λ k p. refl) in
     let there = kept_inside _ _ c.args.guard.when walks.keeps c.requires.guard in
     let inside = subst (λ (ids : List ExprId). AreIn (length (arena mid.exprs)) ids) (sym c.deref.ensures.value) c.in_ok-bits.ensures.inside in
-    let guards : mid.fault ≡ None → AreGuardsOf (context_for tb m.scope.now) (arena mid.exprs) (formula_at (arena mid.exprs) c.args.guard.when) (view_choices c.as_slice.result.now) c.deref.result.now =
+    let guards : mid.fault ≡ None → AreBits (arena mid.exprs) c.deref.result.now (arm_guards (context_for tb m.scope.now) (formula_at (arena mid.exprs) c.args.guard.when) c.as_slice.result.now) =
     λ e.
-    subst (λ (xs : List CaseArm). AreGuardsOf (context_for tb m.scope.now) (arena mid.exprs) (formula_at (arena mid.exprs) c.args.guard.when) (view_choices xs) c.deref.result.now) (sym c.as_slice.ensures)
-    (subst (λ (ids : List ExprId). AreGuardsOf (context_for tb m.scope.now) (arena mid.exprs) (formula_at (arena mid.exprs) c.args.guard.when) (case_choices c.args.case.now) ids) (sym c.deref.ensures.value)
-    (subst (λ f. AreGuardsOf (context_for tb m.scope.now) (arena mid.exprs) f (case_choices c.args.case.now) c.in_ok-bits.bits.items) (sym (kept_formula _ _ c.args.guard.when walks.keeps c.requires.guard))
+    subst (λ (xs : List CaseArm). AreBits (arena mid.exprs) c.deref.result.now (arm_guards (context_for tb m.scope.now) (formula_at (arena mid.exprs) c.args.guard.when) xs)) (sym c.as_slice.ensures)
+    (subst (λ (ids : List ExprId). AreBits (arena mid.exprs) ids (arm_guards (context_for tb m.scope.now) (formula_at (arena mid.exprs) c.args.guard.when) (case_arms c.args.case.now))) (sym c.deref.ensures.value)
+    (subst (λ f. AreBits (arena mid.exprs) c.in_ok-bits.bits.items (arm_guards (context_for tb m.scope.now) f (case_arms c.args.case.now))) (sym (kept_formula _ _ c.args.guard.when walks.keeps c.requires.guard))
     (c.in_ok-bits.ensures.guards e))) in
     (search (rules, the_lemmas), (within, (c.requires.signals, (there, (inside, guards)))))
 

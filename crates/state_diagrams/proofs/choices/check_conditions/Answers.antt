@@ -1,31 +1,34 @@
--- One condition more.
-use Rattle.std.proofs.Common.{◌≡◌, ◌+◌, ◌++◌, List, [], ◌∷◌, map, take, ap, ap₂, sym, ◌∙◌, subst, arith}
-use Rattle.std.proofs.Math.Seq.{take-length}
-use Rattle.abel_tree.specs.declared.diagrams.CaseArm.{CaseArm}
+-- One condition more, and all conditions.
+use Rattle.std.proofs.Common.{◌≡◌, ◌+◌, List, ◌∷◌, map, drop, ap, ap₂, sym, ◌∙◌, arith}
+use Rattle.std.proofs.lemmas.List.{drop_all}
 use Rattle.abel_tree.specs.FirstRefusal.{earlier}
+use Rattle.abel_tree.specs.Tree.{choices_of}
 use Rattle.abel_tree.specs.View.{view_choice}
+use Rattle.abel_tree.proofs.FirstRefusals.{earlier_none}
 use Rattle.set_expr.specs.SectionOrder.{section_order}
-use Rattle.set_expr.proofs.FoundMembers.{front_more}
 use Rattle.equations.specs.StatementUnits.{condition_refused}
 use Rattle.state_diagrams.specs.Arms.{view_choices}
-use Rattle.state_diagrams.specs.ArmGuards.{RefusesConditions}
-use Rattle.state_diagrams.proofs.ArmLaws.{Choice, first, conditions_next}
+use Rattle.state_diagrams.specs.DiagramUnits.{choices_refused}
+use Rattle.state_diagrams.proofs.GuardLaws.{Choice, first, conditions_next}
 use Rattle.state_diagrams.proofs.ArmViews.{choice_parts}
+use Rattle.state_diagrams.proofs.WalkedBranches.{rest_at}
 use Rattle.state_diagrams.proofs.choices.check_conditions.Goals as goal
 
 pub loop-arm-preserved : goal.loop-arm-preserved
 loop-arm-preserved c d e =
     let list = c.args.arms.now in
     let i = c.loop-arm.arm-index in
-    let cs = map view_choice (take i list) in
     let x = c.arm-item.result in
-    let s = view_choice x in
-    let here : map view_choice (take (i + 1) list) ≡ cs ++ s ∷ [] = front_more view_choice list i x c.loop-arm-test.true c.arm-item.is in
-    c.earlier-fault.ensures
-    ∙ ap₂ (earlier section_order) (c.loop-arm.invariant d e) (c.in_ok-found.ensures d e ∙ ap (λ (y : Choice). first (condition_refused d y.1.0 y.0)) (sym (choice_parts x)))
-    ∙ conditions_next d cs (map view_choice (take (i + 1) list)) s here
+    let rest = map view_choice (drop (i + 1) list) in
+    let found = c.earlier-fault.ensures
+    ∙ ap (earlier section_order c.loop-arm.fault) (c.in_ok-found.ensures d e ∙ ap (λ (y : Choice). first (condition_refused d y.1.0 y.0)) (sym (choice_parts x))) in
+    ap (λ f. earlier section_order f (first (choices_refused d (choices_of rest)))) found
+    ∙ conditions_next d c.loop-arm.fault (view_choice x) rest
+    ∙ ap (λ (cs : List Choice). earlier section_order c.loop-arm.fault (first (choices_refused d (choices_of cs)))) (sym (rest_at view_choice list i x c.loop-arm-test.true c.arm-item.is))
+    ∙ c.loop-arm.invariant d e
 
 pub returns : goal.returns
-returns c =
-    subst (λ (xs : List CaseArm). RefusesConditions c.args.scope.now (view_choices xs) c.loop-arm.fault)
-    (ap (λ n. take n c.args.arms.now) (omega (arith, c.loop-arm-test.false, c.loop-arm.auto.arm-index-end)) ∙ take-length c.args.arms.now) c.loop-arm.invariant
+returns c = λ d e.
+    sym (earlier_none section_order c.loop-arm.fault)
+    ∙ ap (λ xs. earlier section_order c.loop-arm.fault (first (choices_refused d (view_choices xs)))) (sym (drop_all c.loop-arm.arm-index c.args.arms.now (omega (arith, c.loop-arm-test.false))))
+    ∙ c.loop-arm.invariant d e

@@ -10,17 +10,16 @@ use Rattle.abel_tree.specs.Tree.{choices_of}
 use Rattle.abel_tree.specs.View.{view, view_choice}
 use Rattle.abel_meaning.specs.CountedNodes.{condition_of, guard_then}
 use Rattle.set_expr.proofs.FoundMembers.{front_more}
-use Rattle.section_targets.specs.Building.{NoMemory, IsBit}
+use Rattle.section_targets.specs.Building.{NoMemory, AreBits, IsBit}
 use Rattle.set_expr.specs.Contexts.{context_for}
 use Rattle.section_targets.proofs.Built.{kept_formula, kept_inside, keeps_on}
 use Rattle.section_targets.proofs.Parts.{leaves_nodes}
 use Rattle.equations.proofs.BuiltUnits.{at}
-use Rattle.state_diagrams.proofs.ArmLaws.{Choice}
-use Rattle.state_diagrams.proofs.ArmViews.{choice_parts}
-use Rattle.state_diagrams.specs.ArmGuards.{AreGuardsOf, BuildsConditions}
+use Rattle.state_diagrams.proofs.GuardLaws.{Choice, arm_clear, conditions_stop, conditions_then, no_nodes}
+use Rattle.state_diagrams.specs.ArmGuards.{arm_guards, BuildsConditions}
 use Rattle.state_diagrams.specs.Arms.{case_place, view_choices}
 use Rattle.state_diagrams.specs.DiagramUnits.{choices_refused}
-use Rattle.state_diagrams.proofs.GuardLaws.{arm_clear, conditions_stop, conditions_then, guards_kept, guards_more, no_nodes}
+use Rattle.state_diagrams.proofs.StateBits.{bits_kept, bits_more}
 use Rattle.state_diagrams.proofs.WalkedBranches.{rest_at}
 use Rattle.state_diagrams.proofs.choices.make_guards.Goals as goal
 
@@ -29,7 +28,7 @@ loop-arm-init g c =
     record {
       keeps = λ i f e. e;
       built = λ later r k. k;
-      guards = subst (λ (ids : List ExprId). AreGuardsOf (context_for g.D.Device.table c.args.scope.now) (arena c.args.exprs.now) (formula_at (arena c.args.exprs.now) c.args.guard) (choices_of []) ids) (sym c.new-guards.ensures.items) tt;
+      guards = subst (λ (ids : List ExprId). AreBits (arena c.args.exprs.now) ids []) (sym c.new-guards.ensures.items) (λ i x lt. absurd (omega (arith, lt)), refl);
     }
 
 pub then_guard-requires : goal.then_guard-requires
@@ -49,15 +48,12 @@ loop-arm-preserved g c =
     let i = c.loop-arm.arm-index in
     let x = c.arm-item.result in
     let v = c.loop-arm.invariant in
-    let cs = map view_choice (take i arms) in
-    let ds = map view_choice (take (i + 1) arms) in
-    let y = view_choice x in
     let fs = arena c.args.exprs.now in
     let hs = arena c.loop-arm.exprs in
     let ns = arena c.then_guard.new.exprs in
     let gf = formula_at fs c.args.guard in
     let same : formula_at hs c.args.guard ≡ gf = kept_formula fs hs c.args.guard v.keeps c.requires.guard in
-    let here : ds ≡ cs ++ y ∷ [] = front_more view_choice arms i x c.loop-arm-test.true c.arm-item.is in
+    let guard_of = λ (y : CaseArm). (guard_then gf (condition_of d (view y.condition))).what in
     record {
       keeps = keeps_on _ _ _ v.keeps c.in_ok-chosen.ensures.keeps;
       built = λ later r k.
@@ -65,11 +61,10 @@ loop-arm-preserved g c =
           (subst (λ (zs : List Choice). BuildsConditions d gf (case_place c.args.case.now) (choices_of zs) c.loop-arm.exprs later r) (sym (rest_at view_choice arms i x c.loop-arm-test.true c.arm-item.is))
           (λ list. conditions_then d gf (formula_at hs c.args.guard) (case_place c.args.case.now) x (map view_choice (drop (i + 1) arms)) (at c.loop-arm.exprs list) (at c.then_guard.new.exprs list) (at later list) r same (c.in_ok-chosen.ensures.builds list) (k list)));
       guards =
-          subst (λ zs. AreGuardsOf d ns gf (choices_of zs) c.push.new.self.items) (sym here)
-          (subst (λ (ids : List ExprId). AreGuardsOf d ns gf (choices_of (cs ++ y ∷ [])) ids) (sym c.in_ok-push.ensures.items)
-          (guards_more d ns gf cs c.loop-arm.guards.items y c.in_ok-chosen.chosen.then (guards_kept d hs ns gf cs c.loop-arm.guards.items c.in_ok-chosen.ensures.keeps v.guards)
-          (subst (λ (z : Choice). IsBit ns c.in_ok-chosen.chosen.then (guard_then gf (condition_of d z.0)).what) (sym (choice_parts x))
-          (subst (λ f. IsBit ns c.in_ok-chosen.chosen.then (guard_then f (condition_of d (view x.condition))).what) same c.in_ok-chosen.ensures.then))));
+          subst (λ zs. AreBits ns c.push.new.self.items zs) (sym (front_more guard_of arms i x c.loop-arm-test.true c.arm-item.is))
+          (subst (λ (ids : List ExprId). AreBits ns ids (map guard_of (take i arms) ++ guard_of x ∷ [])) (sym c.in_ok-push.ensures.items)
+          (bits_more ns c.loop-arm.guards.items (map guard_of (take i arms)) c.in_ok-chosen.chosen.then (guard_of x) (bits_kept hs ns c.loop-arm.guards.items (map guard_of (take i arms)) c.in_ok-chosen.ensures.keeps v.guards)
+          (subst (λ f. IsBit ns c.in_ok-chosen.chosen.then (guard_then f (condition_of d (view x.condition))).what) same c.in_ok-chosen.ensures.then)));
     }
 
 pub returns-in_err-chosen-clause-keeps : goal.returns-in_err-chosen-clause-keeps
@@ -110,7 +105,7 @@ returns-clause-builds g c =
 
 pub returns-clause-guards : goal.returns-clause-guards
 returns-clause-guards g c =
-    subst (λ (xs : List CaseArm). AreGuardsOf (context_for g.D.Device.table c.args.scope.now) (arena c.loop-arm.exprs) (formula_at (arena c.args.exprs.now) c.args.guard) (view_choices xs) c.loop-arm.guards.items)
+    subst (λ (xs : List CaseArm). AreBits (arena c.loop-arm.exprs) c.loop-arm.guards.items (arm_guards (context_for g.D.Device.table c.args.scope.now) (formula_at (arena c.args.exprs.now) c.args.guard) xs))
     (ap (λ n. take n c.as_slice-arm-items.result.now) (omega (arith, c.loop-arm-test.false, c.loop-arm.auto.arm-index-end)) ∙ take-length c.as_slice-arm-items.result.now ∙ c.as_slice-arm-items.ensures) c.loop-arm.invariant.guards
 
 pub returns-in_err-push-clause-builds : goal.returns-in_err-push-clause-builds

@@ -5,7 +5,8 @@ use Rattle.bit_expr.specs.Arena.{arena, formula_at}
 use Rattle.set_expr.specs.declared.fault.SectionFault.{SectionFault}
 use Rattle.set_expr.specs.Answer.{Keeps}
 use Rattle.set_expr.specs.Contexts.{context_for}
-use Rattle.state_diagrams.specs.ArmGuards.{AreGuardsOf, BuildsConditions}
+use Rattle.section_targets.specs.Building.{AreBits}
+use Rattle.state_diagrams.specs.ArmGuards.{arm_guards, BuildsConditions}
 use Rattle.state_diagrams.specs.Arms.{case_place, view_choices}
 use Rattle.state_diagrams.proofs.choices.make_guards.Given as goal
 
@@ -17,5 +18,5 @@ invariant-loop-arm g l =
       keeps : Keeps (arena l.fn.exprs) (arena l.exprs);
       built : (later : List Node) (r : Result Unit SectionFault) → BuildsConditions d f (case_place l.case) (view_choices (drop l.arm-index l.arm-items)) l.exprs later r
           → BuildsConditions d f (case_place l.case) (view_choices l.arm-items) l.fn.exprs later r;
-      guards : AreGuardsOf d (arena l.exprs) f (view_choices (take l.arm-index l.arm-items)) l.guards.items;
+      guards : AreBits (arena l.exprs) l.guards.items (arm_guards d f (take l.arm-index l.arm-items));
     }

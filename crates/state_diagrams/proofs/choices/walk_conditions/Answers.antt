@@ -1,22 +1,19 @@
 -- Conditions that are refused or stand behind what is, and those whose guards are made.
-use Rattle.std.proofs.Common.{◌≡◌, true, false, List, [], ◌∷◌, Ok, Err, map, refl, sym, ap, ◌∙◌, subst}
+use Rattle.std.proofs.Common.{◌≡◌, true, false, List, [], ◌∷◌, Ok, Err, refl, sym, ap, ◌∙◌, subst}
 use Rattle.std.specs.Option.{is_some}
 use Rattle.bit_expr.specs.Arena.{arena, formula_at}
-use Rattle.abel_tree.specs.declared.diagrams.Case.{out-Case}
 use Rattle.abel_tree.specs.declared.diagrams.CaseArm.{CaseArm}
 use Rattle.abel_tree.specs.Entries.{entries_of}
-use Rattle.abel_tree.specs.View.{view_choice}
 use Rattle.abel_meaning.specs.CountedBlocks.{choices_nodes}
 use Rattle.set_expr.specs.Contexts.{context_for}
 use Rattle.section_targets.specs.declared.walked.Walked.{Walked}
-use Rattle.section_targets.specs.Building.{Builds}
+use Rattle.section_targets.specs.Building.{AreBits, Builds}
 use Rattle.section_targets.specs.Units.{part}
 use Rattle.section_targets.specs.Walking.{standing}
 use Rattle.equations.proofs.WalkedUnits.{limit_kept, unit_clear, unit_made, unit_refused}
-use Rattle.state_diagrams.specs.ArmGuards.{AreGuardsOf, RefusesConditions, case_unit}
-use Rattle.state_diagrams.specs.Arms.{case_choices, case_place, view_choices}
+use Rattle.state_diagrams.specs.ArmGuards.{arm_guards, RefusesConditions, case_unit}
+use Rattle.state_diagrams.specs.Arms.{case_arms, case_choices, case_place, view_choices}
 use Rattle.state_diagrams.specs.DiagramUnits.{choices_refused}
-use Rattle.state_diagrams.proofs.GuardLaws.{guards_inside}
 use Rattle.state_diagrams.proofs.choices.walk_conditions.Goals as goal
 
 pub returns-then-refuse-clause-walks : goal.returns-then-refuse-clause-walks
@@ -53,12 +50,11 @@ returns-in-Ok-clause-walks g c = λ all a.
     told c.refuse.ensures.first (sym c.refuse.ensures.refused ∙ c.if-refuse.false) a refl refl here refl
 
 pub returns-in-Ok-clause-inside : goal.returns-in-Ok-clause-inside
-returns-in-Ok-clause-inside g c =
-    guards_inside (context_for g.D.Device.table c.args.scope.now) (arena c.make_guards.new.exprs) (formula_at (arena c.refuse.new.self.exprs) c.args.guard) (map view_choice (out-Case c.args.case.now).arms) c.in-Ok.guards.items c.in-Ok.ensures.guards
+returns-in-Ok-clause-inside g c = c.in-Ok.ensures.guards.0
 
 pub returns-in-Ok-clause-guards : goal.returns-in-Ok-clause-guards
 returns-in-Ok-clause-guards g c = λ e.
-    subst (λ (w : Walked). AreGuardsOf (context_for g.D.Device.table c.args.scope.now) (arena c.make_guards.new.exprs) (formula_at (arena w.exprs) c.args.guard) (case_choices c.args.case.now) c.in-Ok.guards.items) c.refuse.ensures.first c.in-Ok.ensures.guards
+    subst (λ (w : Walked). AreBits (arena c.make_guards.new.exprs) c.in-Ok.guards.items (arm_guards (context_for g.D.Device.table c.args.scope.now) (formula_at (arena w.exprs) c.args.guard) (case_arms c.args.case.now))) c.refuse.ensures.first c.in-Ok.ensures.guards
 
 pub returns-in_ok-keep_limit-in-Err-clause-walks : goal.returns-in_ok-keep_limit-in-Err-clause-walks
 returns-in_ok-keep_limit-in-Err-clause-walks g c = λ all a.

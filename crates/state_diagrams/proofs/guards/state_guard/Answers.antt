@@ -1,26 +1,25 @@
--- The guard of the digits of a number.
-use Rattle.std.proofs.Common.{Bool, List, true, ap, ◌∙◌, sym, subst}
+-- One register more, and all registers.
+use Rattle.std.proofs.Common.{◌≡◌, ℕ, ◌<◌, Result, Bool, List, true, Ok, Err, length, get_or, refl, ap, sym, ◌∙◌, subst, arith}
 use Rattle.std.proofs.lemmas.List.{length-map}
 use Rattle.std.proofs.lemmas.Result.{err_from_is_err_and}
+use Rattle.pld_base.specs.declared.place.Place.{Place}
+use Rattle.bit_expr.specs.declared.node.ExprId.{ExprId}
+use Rattle.bit_expr.specs.declared.node.Node.{Node}
+use Rattle.bit_expr.specs.Arena.{arena, formula_at}
 use Rattle.bit_expr.specs.Formulas.{Const}
+use Rattle.abel_meaning.specs.Designs.{Context}
 use Rattle.abel_meaning.specs.Numbers.{digits}
+use Rattle.set_expr.specs.declared.fault.SectionFault.{SectionFault}
 use Rattle.set_expr.specs.Contexts.{context_for}
 use Rattle.section_targets.specs.declared.aim.Aim.{Aim}
+use Rattle.section_targets.proofs.MetWords.{high_bit}
 use Rattle.state_diagrams.specs.DiagramUnits.{signals_of}
-use Rattle.state_diagrams.specs.Literals.{MakesBit, literals}
-use Rattle.state_diagrams.specs.StateGuards.{number_guard}
-use Rattle.state_diagrams.proofs.LiteralLaws.{bit_keeps, no_memory}
+use Rattle.state_diagrams.specs.StateGuards.{MakesBit, literals, number_guard, register_literal}
+use Rattle.state_diagrams.proofs.LiteralLaws.{bit_keeps, digits_each, literals_done, literals_next, literals_start, literals_stop, no_memory}
 use Rattle.state_diagrams.proofs.guards.state_guard.Goals as goal
 
-pub returns-clause-keeps : goal.returns-clause-keeps
-returns-clause-keeps g c = bit_keeps c.args.unit _ _ c.registers_guard.result _ c.registers_guard.ensures
-
-pub returns-clause-makes : goal.returns-clause-makes
-returns-clause-makes g c =
-    let m = c.args.machine.now in
-    let xs = m.registers.now in
-    let same = c.as_slice.ensures.value ∙ c.in_ok-digits.ensures ∙ ap (λ w. digits w c.args.number) (sym (length-map xs (λ (a : Aim). a.signal))) in
-    subst (λ (bs : List Bool). MakesBit c.args.unit (literals (context_for g.D.Device.table m.scope.now) (Const true) xs bs) c.args.exprs.now c.registers_guard.new.exprs c.registers_guard.result) same c.registers_guard.ensures
+abbrev no_aim : Aim
+no_aim = record { signal = 0; place = record { line = 0; column = 0 } }
 
 pub returns-in_err-digits-clause-makes : goal.returns-in_err-digits-clause-makes
 returns-in_err-digits-clause-makes g c =
@@ -28,3 +27,68 @@ returns-in_err-digits-clause-makes g c =
     let p = err_from_is_err_and c.from_residual.result c.from_residual.ensures.1 in
     rw (p.1, p.2)
     (no_memory c.args.unit c.args.exprs.now c.args.exprs.now (number_guard (context_for g.D.Device.table m.scope.now) (signals_of m.registers.now) c.args.number) (λ i f e. e))
+
+pub loop-index-init : goal.loop-index-init
+loop-index-init g c =
+    let m = c.args.machine.now in
+    record {
+      found = (high_bit c.args.exprs.now (record { 0 = 1 }) refl).0;
+      makes = λ later r k. literals_start (context_for g.D.Device.table m.scope.now) c.args.exprs.now later c.args.unit _ m.registers.now c.in_ok-digits.digits.items r refl k;
+    }
+
+pub index-requires : goal.index-requires
+index-requires g c = omega (arith, c.loop-index-test.true, digits_each c.args.machine.now.registers.now c.args.number c.in_ok-digits.digits.items c.in_ok-digits.ensures)
+
+pub with_register-requires : goal.with_register-requires
+with_register-requires g c = record { found = c.loop-index.invariant.found }
+
+pub loop-index-preserved : goal.loop-index-preserved
+loop-index-preserved g c =
+    let m = c.args.machine.now in
+    let bs = c.in_ok-digits.digits.items in
+    let each = digits_each m.registers.now c.args.number bs c.in_ok-digits.ensures in
+    record {
+      found = c.in_ok-found.ensures.1.0;
+      makes = λ later r k.
+          c.loop-index.invariant.makes later r
+          (literals_next (context_for g.D.Device.table m.scope.now) c.loop-index.exprs c.with_register.new.exprs later c.args.unit c.loop-index.found c.in_ok-found.found m.registers.now no_aim bs c.index.result.now c.loop-index.index r c.loop-index-test.true
+          (omega (arith, each, c.loop-index-test.true))
+          (subst (λ b. MakesBit c.args.unit (register_literal (context_for g.D.Device.table m.scope.now) (formula_at (arena c.loop-index.exprs) c.loop-index.found) (get_or m.registers.now c.loop-index.index no_aim).signal b) c.loop-index.exprs c.with_register.new.exprs (Ok c.in_ok-found.found)) c.index.ensures c.in_ok-found.ensures) k);
+    }
+
+-- the digits are those of the number
+as_meant : (d : Context) (p : Place) (xs : List Aim) (n : ℕ) (bs : List Bool) (old new : List Node) (r : Result ExprId SectionFault) → bs ≡ digits (length xs) n → MakesBit p (literals d (Const true) xs bs) old new r → MakesBit p (number_guard d (signals_of xs) n) old new r
+as_meant d p xs n bs old new r e m =
+    subst (λ cs. MakesBit p (literals d (Const true) xs cs) old new r) (e ∙ ap (λ w. digits w n) (sym (length-map xs (λ (a : Aim). a.signal)))) m
+
+pub returns-in_err-found : goal.returns-in_err-found
+returns-in_err-found g c =
+    let m = c.args.machine.now in
+    let d = context_for g.D.Device.table m.scope.now in
+    let xs = m.registers.now in
+    let bs = c.in_ok-digits.digits.items in
+    let each = digits_each xs c.args.number bs c.in_ok-digits.ensures in
+    let new = c.with_register.new.exprs in
+    let f = c.in_err-found.field-0.0 in
+    let made = c.loop-index.invariant.makes new (Err f)
+    (literals_stop d c.loop-index.exprs new c.args.unit c.loop-index.found xs no_aim bs c.index.result.now c.loop-index.index f c.loop-index-test.true (omega (arith, each, c.loop-index-test.true))
+    (subst (λ b. MakesBit c.args.unit (register_literal d (formula_at (arena c.loop-index.exprs) c.loop-index.found) (get_or xs c.loop-index.index no_aim).signal b) c.loop-index.exprs new (Err f)) c.index.ensures c.in_err-found.ensures)) in
+    let p = err_from_is_err_and c.from_residual-in_err-found.result c.from_residual-in_err-found.ensures.1 in
+    record {
+      keeps = bit_keeps c.args.unit _ _ (Err f) (literals d (Const true) xs bs) made;
+      makes = rw (p.1, p.2) (as_meant d c.args.unit xs c.args.number bs c.args.exprs.now new (Err f) c.in_ok-digits.ensures made);
+    }
+
+pub returns : goal.returns
+returns g c =
+    let m = c.args.machine.now in
+    let d = context_for g.D.Device.table m.scope.now in
+    let xs = m.registers.now in
+    let bs = c.in_ok-digits.digits.items in
+    let out = c.loop-index.exprs in
+    let v = c.loop-index.invariant in
+    let made = v.makes out (Ok c.loop-index.found) (literals_done d out c.args.unit c.loop-index.found xs bs c.loop-index.index (omega (arith, c.loop-index-test.false)) v.found) in
+    record {
+      keeps = bit_keeps c.args.unit _ _ (Ok c.loop-index.found) (literals d (Const true) xs bs) made;
+      makes = as_meant d c.args.unit xs c.args.number bs c.args.exprs.now out (Ok c.loop-index.found) c.in_ok-digits.ensures made;
+    }

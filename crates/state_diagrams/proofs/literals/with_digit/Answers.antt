@@ -2,7 +2,7 @@
 use Rattle.std.proofs.Common.{sym, subst}
 use Rattle.bit_expr.specs.Arena.{arena, formula_at}
 use Rattle.abel_meaning.specs.CountedBlocks.{make_literal}
-use Rattle.state_diagrams.specs.Literals.{MakesBit}
+use Rattle.state_diagrams.specs.StateGuards.{MakesBit}
 use Rattle.state_diagrams.proofs.literals.with_digit.Goals as goal
 
 pub returns-then-digit : goal.returns-then-digit

@@ -5,7 +5,7 @@ use Rattle.bit_expr.specs.Arena.{arena, formula_at}
 use Rattle.abel_meaning.specs.CountedBlocks.{make_literal}
 use Rattle.set_expr.specs.Contexts.{context_for}
 use Rattle.section_targets.proofs.Built.{kept_inside, kept_formula}
-use Rattle.state_diagrams.specs.Literals.{MakesBit, bare_read}
+use Rattle.state_diagrams.specs.StateGuards.{MakesBit, bare_read}
 use Rattle.state_diagrams.proofs.LiteralLaws.{bit_keeps, bit_then, bit_stops}
 use Rattle.state_diagrams.proofs.literals.with_register.Goals as goal
 

@@ -12,7 +12,7 @@ use Rattle.section_targets.specs.Manners.{AreFirsts, aims_refused, manner_of}
 use Rattle.section_targets.specs.TargetSignals.{target_member}
 use Rattle.equations.proofs.BuiltParts.{is_context, same_context}
 use Rattle.equations.proofs.CheckedUnits.{known_by_names}
-use Rattle.state_diagrams.proofs.RegisterLaws.{member_whole, no_manners, no_registers, some_manners, some_registers}
+use Rattle.state_diagrams.proofs.StateLaws.{member_whole, no_manners, no_registers, some_manners, some_registers}
 use Rattle.state_diagrams.proofs.registers.check_registers.Goals as goal
 
 pub returns-in-Some-clause-found : goal.returns-in-Some-clause-found

@@ -4,10 +4,12 @@ use Rattle.bit_expr.specs.declared.node.ExprId.{ExprId}
 use Rattle.bit_expr.specs.declared.node.Node.{Node}
 use Rattle.bit_expr.specs.Arena.{arena, formula_at}
 use Rattle.bit_expr.specs.Formulas.{Const}
+use Rattle.abel_meaning.specs.Numbers.{digits}
 use Rattle.set_expr.specs.declared.fault.SectionFault.{SectionFault}
+use Rattle.set_expr.specs.Answer.{Keeps}
 use Rattle.set_expr.specs.Contexts.{context_for}
-use Rattle.state_diagrams.specs.Literals.{MakesBit, literals}
-use Rattle.state_diagrams.proofs.guards.registers_guard.Given as goal
+use Rattle.state_diagrams.specs.StateGuards.{MakesBit, literals}
+use Rattle.state_diagrams.proofs.guards.state_guard.Given as goal
 
 abbrev pub invariant-loop-index : goal.invariant-loop-index
 invariant-loop-index g l =
@@ -15,6 +17,6 @@ invariant-loop-index g l =
     let xs = l.machine.registers.now in
     record {
       found : l.found.0 < length (arena l.exprs);
-      makes : (later : List Node) (r : Result ExprId SectionFault) → MakesBit l.unit (literals d (formula_at (arena l.exprs) l.found) (drop l.index xs) (drop l.index l.digits)) l.exprs later r
-          → MakesBit l.unit (literals d (Const true) xs l.digits) l.fn.exprs later r;
+      makes : (later : List Node) (r : Result ExprId SectionFault) → MakesBit l.unit (literals d (formula_at (arena l.exprs) l.found) (drop l.index xs) (drop l.index l.digits.items)) l.exprs later r
+          → MakesBit l.unit (literals d (Const true) xs l.digits.items) l.fn.exprs later r;
     }

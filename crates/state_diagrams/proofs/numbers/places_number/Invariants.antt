@@ -3,13 +3,13 @@ use Rattle.std.proofs.Common.{◌≡◌, ◌≤◌, map, drop, length}
 use Rattle.bit_expr.specs.Arena.{arena}
 use Rattle.abel_meaning.specs.Numbers.{number_with}
 use Rattle.state_diagrams.specs.Still.{level_of}
-use Rattle.state_diagrams.proofs.numbers.bits_number.Given as goal
+use Rattle.state_diagrams.proofs.numbers.places_number.Given as goal
 
 abbrev pub invariant-loop-left : goal.invariant-loop-left
 invariant-loop-left l =
     record {
-      number : l.number ≡ number_with (drop l.left (map (level_of (arena l.exprs)) l.bits));
-      left : l.left ≤ length l.bits;
+      number : l.number ≡ number_with (drop l.left (map (level_of (arena l.exprs)) l.places));
+      left : l.left ≤ length l.places;
     }
 
 abbrev pub decreases-loop-left : goal.decreases-loop-left

@@ -2,7 +2,7 @@
 use Rattle.std.proofs.Common.{◌≡◌, ℕ, suc, ◌+◌, ◌-◌, ◌%◌, ◌/◌, ◌<◌, ◌≤◌, [], ◌∷◌, ◌++◌, reverse, ap, sym, ◌∙◌, arith, append_assoc, append-nil}
 use Rattle.std.specs.Prelude.{◌==◌}
 use Rattle.abel_meaning.specs.Numbers.{digits_low_first}
-use Rattle.state_diagrams.proofs.digits.state_digits.Goals as goal
+use Rattle.state_diagrams.proofs.guards.state_digits.Goals as goal
 
 low_first : (w n : ℕ) → digits_low_first (w - 0) n ≡ digits_low_first w n
 low_first w n = let e : w - 0 ≡ w = omega arith in ap (λ k. digits_low_first k n) e

@@ -1,0 +1,10 @@
+-- So many contributions have their matches.
+use Rattle.std.proofs.Common.{◌≡◌, [], ◌++◌, drop}
+use Rattle.state_diagrams.specs.DiagramUnits.{signals_of}
+use Rattle.state_diagrams.specs.Matches.{pushed_for}
+use Rattle.state_diagrams.proofs.matches.matches_beside.Given as goal
+
+abbrev pub invariant-loop-index : goal.invariant-loop-index
+invariant-loop-index l =
+    l.found.items ++ pushed_for (signals_of l.registers) l.states l.seen.items (drop l.index l.list)
+    ≡ pushed_for (signals_of l.registers) l.states [] (drop l.start l.list)
