@@ -24,6 +24,13 @@ use std::alloc::Global;
 /// and one item has fewer names.
 const MANY: usize = 65536;
 
+/// Numbers of a pin declaration, written out for so many of its names.
+#[derive(Drop)]
+struct PinNumbers {
+    list: Vec<u32>,
+    room: usize,
+}
+
 /// What is left of numbers behind the first ones.
 fn numbers_after(numbers: &[u32], count: usize) -> &[u32]
     ensures { result.now ≡ drop count numbers.now }
@@ -53,7 +60,8 @@ impl Pass {
         let count = count_names(names)?;
         let wrong = counts_differ(names, count, numbers);
         self.table.check_new(alloc, wrong, names, attributes)?;
-        self.enter_pins(alloc, names, count, numbers, all_in(attributes))?;
+        let first = self.first_numbers(alloc, count, numbers)?;
+        self.enter_pin_items(alloc, names, &first, all_in(attributes))?;
         self.wait_if(alloc, all_in(attributes).buffer, names)
     }
 
@@ -69,35 +77,32 @@ impl Pass {
         }
     }
 
-    /// Declares the names of a pin declaration with the numbers that there are.
-    fn enter_pins(
-        &mut self,
+    /// The numbers of a declaration of so many names, as many of them as are written out at once.
+    fn first_numbers(
+        &self,
         alloc: Global,
-        names: &[Item],
         count: usize,
         numbers: &[Span],
-        said: Said,
-    ) -> Result<(), OutOfMemory>
-        ensures { OnOk result ((w : Way) (s : Progress) → count ≡ length (given_names names.now) → self.old.skipped ≡ false → Follows w self.old s → Follows w self.new (fold (pin_step w.table (view_said said)) s (with_numbers (given_names names.now) (numbers_of (length (given_names names.now)) numbers.now)))) }
+    ) -> Result<PinNumbers, OutOfMemory>
+        ensures { IfOk result (λ f. HasNumbers self.now.skips f.room f.list.items (numbers_of count numbers.now)) }
     {
         let room = self.room_for(count);
-        let pins = numbers_in(alloc, room, numbers)?;
-        self.enter_pin_items(alloc, names, pins.as_slice(), room, said)
+        let list = numbers_in(alloc, room, numbers)?;
+        Ok(PinNumbers { list, room })
     }
 
-    /// Declares the names of a pin declaration with the first of their numbers, for so many names.
+    /// Declares the names of a pin declaration with the first of their numbers.
     fn enter_pin_items(
         &mut self,
         alloc: Global,
         names: &[Item],
-        numbers: &[u32],
-        room: usize,
+        numbers: &PinNumbers,
         said: Said,
     ) -> Result<(), OutOfMemory>
-        ensures { OnOk result ((w : Way) (s : Progress) (ns : List ℕ) → HasNumbers w.skips room numbers.now ns → self.old.skipped ≡ false → Follows w self.old s → Follows w self.new (fold (pin_step w.table (view_said said)) s (with_numbers (given_names names.now) ns))) }
+        ensures { OnOk result ((w : Way) (s : Progress) (ns : List ℕ) → HasNumbers w.skips numbers.now.room numbers.now.list.items ns → self.old.skipped ≡ false → Follows w self.old s → Follows w self.new (fold (pin_step w.table (view_said said)) s (with_numbers (given_names names.now) ns))) }
     {
-        let mut left = room;
-        let mut rest = numbers;
+        let mut left = numbers.room;
+        let mut rest = numbers.list.as_slice();
         for place in 0..names.len() {
             if self.stops_at_items(&names[place..]) {
                 return Ok(());

@@ -1,17 +1,20 @@
 //! Names that get pins and nodes.
 
-ghost use Rattle.std.specs.Prelude.{◌≡◌, ◌==◌, OnOk, IfOk, Bool, List, ℕ, if◌then◌else◌, min};
+ghost use Rattle.std.specs.Prelude.{◌≡◌, ◌==◌, OnOk, IfOk, Bool, List, Option, ℕ, if◌then◌else◌};
 ghost use Rattle.std.specs.List.{list_any};
 ghost use Rattle.pld_device.specs.Table.{Table};
+ghost use Rattle.abel_tree.specs.Entries.{Kind, view_meaning};
 ghost use Rattle.decls.specs.Refused.{is_signal_pin};
-ghost use Rattle.decls.specs.Steps.{Progress, on_pin, node_counted, pin_entered, node_entered};
-ghost use Rattle.decls.specs.Shown.{Shows, view_said, kept_node, given};
+ghost use Rattle.decls.specs.Shown.{Shows, kept_kind, kept_node, view_given, view_said};
+ghost use Rattle.decls.specs.Steps.{Progress, entered, node_counted, on_pin};
+ghost use Rattle.decls.specs.Walked.{node_step, pin_numbered};
 
 use crate::fault::NameFault;
+use crate::items::Given;
 use crate::said::Said;
 use crate::table::{Known, NameTable};
 use abel_tree::Meaning;
-use pld_base::{NameText, OutOfMemory, Place};
+use pld_base::{NameText, OutOfMemory};
 use std::alloc::Global;
 
 /// How many nodes a source may declare.
@@ -49,54 +52,42 @@ impl NameTable {
     }
 
     /// Gives a name a pin, or refuses it.
-    fn put_on(
-        &mut self,
-        alloc: Global,
-        place: Place,
-        name: &[u8],
-        number: u32,
-    ) -> Result<(), OutOfMemory>
-        ensures { OnOk result ((t : Table) (s : Progress) → Shows t self.old s → Shows t self.new (on_pin t place name.now number s)) }
+    fn put_on(&mut self, alloc: Global, given: &Given, number: u32) -> Result<(), OutOfMemory>
+        ensures { OnOk result ((t : Table) (s : Progress) → Shows t self.old s → Shows t self.new (on_pin t given.now.place given.now.name.items number s)) }
     {
         if !self.has_pin(number) {
-            let text = NameText::new(alloc, name)?;
-            self.refuse(NameFault::BadPin(place, text));
+            let text = NameText::new(alloc, given.name.as_slice())?;
+            self.refuse(NameFault::BadPin(given.place, text));
             return Ok(());
         }
         if self.is_taken(number) {
-            let text = NameText::new(alloc, name)?;
-            self.refuse(NameFault::PinTaken(place, text));
+            let text = NameText::new(alloc, given.name.as_slice())?;
+            self.refuse(NameFault::PinTaken(given.place, text));
             return Ok(());
         }
         self.taken.push(number)?;
         Ok(())
     }
 
-    /// Declares a name of a pin declaration with its number.
-    pub(crate) fn declare_pin(
+    /// Declares a name of a pin declaration; one without a number is on pin 0.
+    pub(crate) fn enter_pin(
         &mut self,
         alloc: Global,
-        place: Place,
-        negated: bool,
-        name: &[u8],
-        number: u32,
+        given: &Given,
+        number: Option<u32>,
         said: Said,
     ) -> Result<(), OutOfMemory>
-        ensures { OnOk result ((t : Table) (s : Progress) → Shows t self.old s → Shows t self.new (pin_entered t (view_said said) (given name.now place negated) number s)) }
+        ensures { OnOk result ((t : Table) (s : Progress) → Shows t self.old s → Shows t self.new (pin_numbered t (view_said said) (view_given given.now) number s)) }
     {
-        self.put_on(alloc, place, name, number)?;
-        let pin = self.kept_pin(number);
-        let meaning = Meaning::Pin { pin, negated };
-        self.enter(
-            alloc,
-            name,
-            Known {
-                place,
-                meaning,
-                said,
-            },
-        )?;
-        Ok(())
+        let negated = given.negated;
+        match number {
+            Some(number) => {
+                self.put_on(alloc, given, number)?;
+                let pin = self.kept_pin(number);
+                self.enter_given(alloc, given, Meaning::Pin { pin, negated }, said)
+            }
+            None => self.enter_given(alloc, given, Meaning::Pin { pin: 0, negated }, said),
+        }
     }
 
     /// The number of the next node as it is kept: 0 where there are too many.
@@ -111,41 +102,51 @@ impl NameTable {
     }
 
     /// Counts one more node, or refuses it.
-    fn count_node(&mut self, alloc: Global, place: Place, name: &[u8]) -> Result<(), OutOfMemory>
-        ensures { OnOk result ((t : Table) (s : Progress) → Shows t self.old s → Shows t self.new (node_counted place name.now s)) }
+    fn count_node(&mut self, alloc: Global, given: &Given) -> Result<(), OutOfMemory>
+        ensures { OnOk result ((t : Table) (s : Progress) → Shows t self.old s → Shows t self.new (node_counted given.now.place given.now.name.items s)) }
     {
         if self.nodes < NODES {
             self.nodes += 1;
             return Ok(());
         }
-        let text = NameText::new(alloc, name)?;
-        self.refuse(NameFault::TooManyNodes(place, text));
+        let text = NameText::new(alloc, given.name.as_slice())?;
+        self.refuse(NameFault::TooManyNodes(given.place, text));
         Ok(())
     }
 
-    /// Declares a node.
-    pub(crate) fn declare_node(
+    /// Declares a name of a node declaration.
+    pub(crate) fn enter_node(
         &mut self,
         alloc: Global,
-        place: Place,
-        negated: bool,
-        name: &[u8],
+        given: &Given,
         said: Said,
     ) -> Result<(), OutOfMemory>
-        ensures { OnOk result ((t : Table) (s : Progress) → Shows t self.old s → Shows t self.new (node_entered (view_said said) (given name.now place negated) s)) }
+        ensures { OnOk result ((t : Table) (s : Progress) → Shows t self.old s → Shows t self.new (node_step (view_said said) s (view_given given.now))) }
     {
         let number = self.kept_node();
-        self.count_node(alloc, place, name)?;
-        let meaning = Meaning::Node(number);
+        self.count_node(alloc, given)?;
+        self.enter_given(alloc, given, Meaning::Node(number), said)
+    }
+
+    /// Enters a name of a declaration, if it is new.
+    fn enter_given(
+        &mut self,
+        alloc: Global,
+        given: &Given,
+        meaning: Meaning,
+        said: Said,
+    ) -> Result<(), OutOfMemory>
+        ensures { OnOk result ((t : Table) (s : Progress) (k : Kind) → view_meaning meaning ≡ kept_kind t k → Shows t self.old s → Shows t self.new (entered given.now.name.items given.now.place k (view_said said) s)) }
+    {
+        let place = given.place;
         self.enter(
             alloc,
-            name,
+            given.name.as_slice(),
             Known {
                 place,
                 meaning,
                 said,
             },
-        )?;
-        Ok(())
+        )
     }
 }

@@ -49,7 +49,7 @@ loop-place-preserved c =
       rest =
           c.numbers_after-rest.ensures
           ∙ (ap₂ (λ n xs. drop n xs) (ap length c.as_slice-in-loop-place-3.ensures.value ∙ size) l.invariant.rest
-          ∙ (drop_twice o (length here) c.args.numbers.now ∙ ap (λ n. drop n c.args.numbers.now) (sym more)));
+          ∙ (drop_twice o (length here) c.args.numbers.now.list.items ∙ ap (λ n. drop n c.args.numbers.now.list.items) (sym more)));
       follows = λ w s ns hn k f.
           let d = c.is_short.new.self in
           let said = view_said c.args.said in
@@ -63,7 +63,7 @@ loop-place-preserved c =
           goes_on w d (record d { table = c.enter_pins.new.self }) m _ refl kd
           (subst (Shows w.table c.enter_pins.new.self)
           (ap₂ (λ xs r. fold step m (with_numbers xs r)) (ap (map view_given) c.as_slice-in-loop-place.ensures.value ∙ c.in_ok-given.ensures) l.invariant.rest
-          ∙ pins_more w.table said names l.place i ns (drop o c.args.numbers.now) s c.loop-place-test.true c.index-names-place.is
-          (numbers_enough w.skips c.args.room c.args.numbers.now ns o l.left here hn l.invariant.left enough))
+          ∙ pins_more w.table said names l.place i ns (drop o c.args.numbers.now.list.items) s c.loop-place-test.true c.index-names-place.is
+          (numbers_enough w.skips c.args.numbers.now.room c.args.numbers.now.list.items ns o l.left here hn l.invariant.left enough))
           (c.in_ok-enter_pins.ensures w.table m (fd.shown kd))) fd;
     }
