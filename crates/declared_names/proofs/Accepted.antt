@@ -1,5 +1,7 @@
 -- Where nothing is refused of a module, its names are sound, and each name that is used is known.
 use Rattle.std.proofs.Common.{◌≡◌, ℕ, true, List, [], ◌∷◌, ◌++◌, map, zip, length, refl, sym, ap, ap₂, subst, ◌∙◌, append_assoc}
+use Rattle.std.specs.List.{All}
+use Rattle.std.proofs.lemmas.List.Elements.{All-nil}
 use Rattle.std.proofs.lemmas.List.{append-nil}
 use Rattle.std.proofs.lemmas.List.Sums.{fold-append}
 use Rattle.pld_device.specs.Table.{Table}
@@ -10,13 +12,14 @@ use Rattle.abel_tree.specs.Tree.{Declaration, ADevice, SomePins, SomeNodes, Some
 use Rattle.abel_tree.specs.Uses.{Use, all_uses, section_uses}
 use Rattle.abel_meaning.specs.Declarations.{given_names, entry, no_words, all_said, pin_entries, node_entries, constant_entries, node_count, with_words, declared, section_declarations}
 use Rattle.decls.specs.AllDeclarations.{all_declarations}
-use Rattle.decls.specs.NameRefusals.{sections_refused, read_refusals}
+use Rattle.decls.specs.NameRefusals.{all_buffered, buffered, sections_refused, read_refusals}
 use Rattle.decls.specs.NamesBefore.{names_behind, added}
 use Rattle.decls.specs.Refused.{names_refused, given_count, parts_refused, declaration_refused, declarations_refused, uses_refused}
 use Rattle.decls.proofs.DeclarationsGo.{added_is}
 use Rattle.decls.proofs.NoRefusals.{none_left, none_right, Sure, RestIsUnnumbered, no_rest, pins_rest, declarations_sure}
 use Rattle.declared_names.proofs.NamesAlike.{Extends, extends_same, extends_then, extends_append, extends_alike, alike_told, named_more}
 use Rattle.declared_names.proofs.Named.{uses_known, named_append}
+use Rattle.declared_names.proofs.SaidBuffers.{IsTold, told_declaration}
 use Rattle.declared_names.proofs.SoundEntries.{AreSound, AreNamedKinds, sound_append, sound_alike, new_sound, pins_named, nodes_named, constants_named}
 
 -- ---- one declaration
@@ -30,7 +33,7 @@ sound_rest t es d given new c e named rest s h =
 sound_all : (t : Table) (es : List Entry) (d : Declaration) (new : List Entry) → given_count es d ≡ length (added es d) → declared es d ≡ es ++ new → AreNamedKinds es new → AreSound t.pins [] es → names_refused t es (given_count es d) (added es d) ≡ [] → AreSound t.pins [] (declared es d)
 sound_all t es d new c e named s h = sound_rest t es d (length new) new (c ∙ ap length (added_is es d new e)) e named (no_rest new) s h
 
-pub sound_declaration : (t : Table) (before : List Declaration) (es : List Entry) (d : Declaration) → AreSound t.pins [] es → parts_refused before es d ≡ [] → names_refused t es (given_count es d) (added es d) ≡ [] → AreSound t.pins [] (declared es d)
+sound_declaration : (t : Table) (before : List Declaration) (es : List Entry) (d : Declaration) → AreSound t.pins [] es → parts_refused before es d ≡ [] → names_refused t es (given_count es d) (added es d) ≡ [] → AreSound t.pins [] (declared es d)
 sound_declaration t before es (ADevice name text) s p h = sound_all t es (ADevice name text) (entry name.text name.place ADeviceName no_words ∷ []) refl refl (tt, tt) s h
 sound_declaration t before es (SomePins names numbers attributes) s p h =
     let ns = numbers_of (length (given_names names)) numbers in
@@ -70,7 +73,7 @@ declaration_known before es (DontCareFor directive) p = refl
 
 -- ---- declarations
 
-pub behind_push : (ds : List Declaration) (d : Declaration) → names_behind (ds ++ d ∷ []) ≡ declared (names_behind ds) d
+behind_push : (ds : List Declaration) (d : Declaration) → names_behind (ds ++ d ∷ []) ≡ declared (names_behind ds) d
 behind_push ds d = fold-append declared [] ds (d ∷ [])
 
 pub extends_behind : (before rest : List Declaration) → Extends (names_behind before) (names_behind (before ++ rest))
@@ -81,23 +84,6 @@ extends_behind before (d ∷ rest) =
     (subst (Extends (names_behind before)) (sym (behind_push before d)) (extends_declaration (names_behind before) d))
     (extends_behind (before ++ d ∷ []) rest))
 
-declarations_sound : (t : Table) (before rest : List Declaration) → AreSound t.pins [] (names_behind before) → declarations_refused t before rest ≡ [] → AreSound t.pins [] (names_behind (before ++ rest))
-declarations_sound t before [] s h = subst (λ l. AreSound t.pins [] (names_behind l)) (sym (append-nil before)) s
-declarations_sound t before (d ∷ rest) s h =
-    let here = none_left (declaration_refused t before d) _ h in
-    let one = sound_declaration t before (names_behind before) d s (none_left (parts_refused before (names_behind before) d) _ here) (none_right (parts_refused before (names_behind before) d) _ here) in
-    subst (λ l. AreSound t.pins [] (names_behind l)) (append_assoc before (d ∷ []) rest)
-    (declarations_sound t (before ++ d ∷ []) rest (subst (AreSound t.pins []) (sym (behind_push before d)) one) (none_right (declaration_refused t before d) _ h))
-
-declarations_known : (t : Table) (before rest : List Declaration) → declarations_refused t before rest ≡ [] → are_named (names_behind (before ++ rest)) (declarations_uses rest) ≡ true
-declarations_known t before [] h = refl
-declarations_known t before (d ∷ rest) h =
-    let here = none_left (declaration_refused t before d) _ h in
-    let whole = names_behind (before ++ d ∷ rest) in
-    named_append whole (declaration_uses d) (declarations_uses rest)
-    (named_more (names_behind before) whole (declaration_uses d) (extends_behind before (d ∷ rest)) (declaration_known before (names_behind before) d (none_left (parts_refused before (names_behind before) d) _ here)))
-    (subst (λ l. are_named (names_behind l) (declarations_uses rest) ≡ true) (append_assoc before (d ∷ []) rest) (declarations_known t (before ++ d ∷ []) rest (none_right (declaration_refused t before d) _ h)))
-
 pub refused_append : (t : Table) (before ds es : List Declaration) → declarations_refused t before (ds ++ es) ≡ declarations_refused t before ds ++ declarations_refused t (before ++ ds) es
 refused_append t before [] es = ap (λ l. declarations_refused t l es) (sym (append-nil before))
 refused_append t before (d ∷ ds) es =
@@ -106,73 +92,81 @@ refused_append t before (d ∷ ds) es =
     ap (λ l. here ++ l) (refused_append t (before ++ d ∷ []) ds es ∙ ap (λ l. rest ++ declarations_refused t l es) (append_assoc before (d ∷ []) ds))
     ∙ sym (append_assoc here rest (declarations_refused t (before ++ d ∷ ds) es))
 
+buffered_push : (before ds : List Declaration) (d : Declaration) → all_buffered before (ds ++ d ∷ []) ≡ all_buffered before ds ++ buffered (names_behind (before ++ ds)) d
+buffered_push before [] d = append-nil (buffered (names_behind before) d) ∙ ap (λ l. buffered (names_behind l) d) (sym (append-nil before))
+buffered_push before (x ∷ ds) d =
+    let here = buffered (names_behind before) x in
+    let rest = all_buffered (before ++ x ∷ []) ds in
+    ap (λ l. here ++ l) (buffered_push (before ++ x ∷ []) ds d ∙ ap (λ l. rest ++ buffered (names_behind l) d) (append_assoc before (x ∷ []) ds))
+    ∙ sym (append_assoc here rest (buffered (names_behind (before ++ x ∷ ds)) d))
+
+-- these declarations are accepted, and these uses behind them
+pub record Accepted (t : Table) (ds : List Declaration) (us : List Use) : Type 0 where
+  pub sure : Sure t (names_behind ds)
+  pub sound : AreSound t.pins [] (names_behind ds)
+  pub told : All (IsTold (all_buffered [] ds)) (names_behind ds)
+  pub known : are_named (names_behind ds) us ≡ true
+  pub unrefused : declarations_refused t [] ds ≡ []
+
+moved : (t : Table) (ds es : List Declaration) (us vs : List Use) → ds ≡ es → us ≡ vs → Accepted t ds us → Accepted t es vs
+moved t ds es us vs e f a = subst (λ l. Accepted t l vs) e (subst (Accepted t ds) f a)
+
+declaration_accepted : (t : Table) (ds : List Declaration) (us : List Use) (d : Declaration) → Accepted t ds us → declaration_refused t ds d ≡ [] → Accepted t (ds ++ d ∷ []) (us ++ declaration_uses d)
+declaration_accepted t ds us d a h =
+    let es = names_behind ds in
+    let parts = none_left (parts_refused ds es d) _ h in
+    let now = sym (behind_push ds d) in
+    let more = λ (vs : List Use). named_more es (declared es d) vs (extends_declaration es d) in
+    record {
+      sure = declarations_sure t ds (d ∷ []) a.sure (append-nil (declaration_refused t ds d) ∙ h);
+      sound = subst (AreSound t.pins []) now (sound_declaration t ds es d a.sound parts (none_right (parts_refused ds es d) _ h));
+      told =
+          subst (λ xs. All (IsTold xs) (names_behind (ds ++ d ∷ []))) (sym (buffered_push [] ds d))
+          (subst (All (IsTold (all_buffered [] ds ++ buffered es d))) now (told_declaration t.pins es d (all_buffered [] ds) a.sound a.told));
+      known =
+          subst (λ l. are_named l (us ++ declaration_uses d) ≡ true) now
+          (named_append (declared es d) us (declaration_uses d) (more us a.known) (more (declaration_uses d) (declaration_known ds es d parts)));
+      unrefused = refused_append t [] ds (d ∷ []) ∙ ap₂ (λ l r. l ++ r) a.unrefused (append-nil (declaration_refused t ds d) ∙ h);
+    }
+
+declarations_accepted : (t : Table) (ds : List Declaration) (us : List Use) (rest : List Declaration) → Accepted t ds us → declarations_refused t ds rest ≡ [] → Accepted t (ds ++ rest) (us ++ declarations_uses rest)
+declarations_accepted t ds us [] a h = moved t ds (ds ++ []) us (us ++ []) (sym (append-nil ds)) (sym (append-nil us)) a
+declarations_accepted t ds us (d ∷ rest) a h =
+    moved t ((ds ++ d ∷ []) ++ rest) (ds ++ d ∷ rest) ((us ++ declaration_uses d) ++ declarations_uses rest) (us ++ declarations_uses (d ∷ rest)) (append_assoc ds (d ∷ []) rest) (append_assoc us (declaration_uses d) (declarations_uses rest))
+    (declarations_accepted t (ds ++ d ∷ []) (us ++ declaration_uses d) rest (declaration_accepted t ds us d a (none_left (declaration_refused t ds d) _ h)) (none_right (declaration_refused t ds d) _ h))
+
 -- ---- sections
 
--- behind these declarations the others and these uses are accepted
-pub record Accepted (t : Table) (before ds : List Declaration) (us : List Use) : Type 0 where
-  pub sure : Sure t (names_behind (before ++ ds))
-  pub sound : AreSound t.pins [] (names_behind (before ++ ds))
-  pub known : are_named (names_behind (before ++ ds)) us ≡ true
-  pub unrefused : declarations_refused t before ds ≡ []
-
-other_accepted : (t : Table) (before ds : List Declaration) (us vs : List Use) → uses_refused (names_behind before) us ≡ [] → Accepted t before ds vs → Accepted t before ds (us ++ vs)
-other_accepted t before ds us vs h a = record {
+uses_accepted : (t : Table) (ds : List Declaration) (us vs : List Use) → Accepted t ds us → uses_refused (names_behind ds) vs ≡ [] → Accepted t ds (us ++ vs)
+uses_accepted t ds us vs a h = record {
   sure = a.sure;
   sound = a.sound;
-  known =
-      named_append (names_behind (before ++ ds)) us vs
-      (named_more (names_behind before) (names_behind (before ++ ds)) us (extends_behind before ds) (uses_known (names_behind before) us h)) a.known;
+  told = a.told;
+  known = named_append (names_behind ds) us vs a.known (uses_known (names_behind ds) vs h);
   unrefused = a.unrefused;
 }
 
-more_accepted : (t : Table) (before ds es : List Declaration) (us : List Use) → declarations_refused t before ds ≡ [] → Accepted t (before ++ ds) es us → Accepted t before (ds ++ es) (declarations_uses ds ++ us)
-more_accepted t before ds es us h a =
-    let whole = append_assoc before ds es in
-    let all = names_behind ((before ++ ds) ++ es) in
-    record {
-      sure = subst (λ l. Sure t (names_behind l)) whole a.sure;
-      sound = subst (λ l. AreSound t.pins [] (names_behind l)) whole a.sound;
-      known =
-          subst (λ l. are_named (names_behind l) (declarations_uses ds ++ us) ≡ true) whole
-          (named_append all (declarations_uses ds) us
-          (named_more (names_behind (before ++ ds)) all (declarations_uses ds) (extends_behind (before ++ ds) es) (declarations_known t before ds h)) a.known);
-      unrefused = refused_append t before ds es ∙ ap₂ (λ l r. l ++ r) h a.unrefused;
-    }
+uses_then : (t : Table) (ds : List Declaration) (us vs : List Use) (xs : List SectionTree) → Accepted t ds us → (Accepted t ds (us ++ vs) → sections_refused t ds xs ≡ [] → Accepted t (ds ++ section_declarations xs) ((us ++ vs) ++ sections_uses xs))
+    → uses_refused (names_behind ds) vs ++ sections_refused t ds xs ≡ [] → Accepted t (ds ++ section_declarations xs) (us ++ (vs ++ sections_uses xs))
+uses_then t ds us vs xs a rest h =
+    subst (Accepted t (ds ++ section_declarations xs)) (append_assoc us vs (sections_uses xs))
+    (rest (uses_accepted t ds us vs a (none_left (uses_refused (names_behind ds) vs) _ h)) (none_right (uses_refused (names_behind ds) vs) _ h))
 
-uses_then : (t : Table) (before : List Declaration) (xs : List SectionTree) (us : List Use) → (sections_refused t before xs ≡ [] → Accepted t before (section_declarations xs) (sections_uses xs)) → uses_refused (names_behind before) us ++ sections_refused t before xs ≡ [] → Accepted t before (section_declarations xs) (us ++ sections_uses xs)
-uses_then t before xs us f h =
-    other_accepted t before (section_declarations xs) us (sections_uses xs) (none_left (uses_refused (names_behind before) us) _ h) (f (none_right (uses_refused (names_behind before) us) _ h))
-
-sections_accepted : (t : Table) (before : List Declaration) (xs : List SectionTree) → Sure t (names_behind before) → AreSound t.pins [] (names_behind before) → sections_refused t before xs ≡ [] → Accepted t before (section_declarations xs) (sections_uses xs)
-sections_accepted t before [] s a h = record {
-  sure = subst (λ l. Sure t (names_behind l)) (sym (append-nil before)) s;
-  sound = subst (λ l. AreSound t.pins [] (names_behind l)) (sym (append-nil before)) a;
-  known = refl;
-  unrefused = refl;
-}
-sections_accepted t before (Declarations ds ∷ xs) s a h =
-    let one = none_left (declarations_refused t before ds) _ h in
-    more_accepted t before ds (section_declarations xs) (sections_uses xs) one
-    (sections_accepted t (before ++ ds) xs (declarations_sure t before ds s one) (declarations_sound t before ds a one) (none_right (declarations_refused t before ds) _ h))
-sections_accepted t before (Equations ss ∷ xs) s a h = uses_then t before xs (section_uses (Equations ss)) (sections_accepted t before xs s a) h
-sections_accepted t before (ATable p inputs clocked outputs rows ∷ xs) s a h = uses_then t before xs (section_uses (ATable p inputs clocked outputs rows)) (sections_accepted t before xs s a) h
-sections_accepted t before (ADiagram p registers states ∷ xs) s a h = uses_then t before xs (section_uses (ADiagram p registers states)) (sections_accepted t before xs s a) h
-sections_accepted t before (SomeVectors text p inputs outputs rows ∷ xs) s a h = uses_then t before xs (section_uses (SomeVectors text p inputs outputs rows)) (sections_accepted t before xs s a) h
-sections_accepted t before (DontCareSection d ∷ xs) s a h = uses_then t before xs (section_uses (DontCareSection d)) (sections_accepted t before xs s a) h
+sections_accepted : (t : Table) (ds : List Declaration) (us : List Use) (xs : List SectionTree) → Accepted t ds us → sections_refused t ds xs ≡ [] → Accepted t (ds ++ section_declarations xs) (us ++ sections_uses xs)
+sections_accepted t ds us [] a h = moved t ds (ds ++ []) us (us ++ []) (sym (append-nil ds)) (sym (append-nil us)) a
+sections_accepted t ds us (Declarations es ∷ xs) a h =
+    moved t ((ds ++ es) ++ section_declarations xs) (ds ++ (es ++ section_declarations xs)) ((us ++ declarations_uses es) ++ sections_uses xs) (us ++ (declarations_uses es ++ sections_uses xs)) (append_assoc ds es (section_declarations xs)) (append_assoc us (declarations_uses es) (sections_uses xs))
+    (sections_accepted t (ds ++ es) (us ++ declarations_uses es) xs (declarations_accepted t ds us es a (none_left (declarations_refused t ds es) _ h)) (none_right (declarations_refused t ds es) _ h))
+sections_accepted t ds us (Equations ss ∷ xs) a h = uses_then t ds us (section_uses (Equations ss)) xs a (sections_accepted t ds (us ++ section_uses (Equations ss)) xs) h
+sections_accepted t ds us (ATable p inputs clocked outputs rows ∷ xs) a h = uses_then t ds us (section_uses (ATable p inputs clocked outputs rows)) xs a (sections_accepted t ds (us ++ section_uses (ATable p inputs clocked outputs rows)) xs) h
+sections_accepted t ds us (ADiagram p registers states ∷ xs) a h = uses_then t ds us (section_uses (ADiagram p registers states)) xs a (sections_accepted t ds (us ++ section_uses (ADiagram p registers states)) xs) h
+sections_accepted t ds us (SomeVectors text p inputs outputs rows ∷ xs) a h = uses_then t ds us (section_uses (SomeVectors text p inputs outputs rows)) xs a (sections_accepted t ds (us ++ section_uses (SomeVectors text p inputs outputs rows)) xs) h
+sections_accepted t ds us (DontCareSection d ∷ xs) a h = uses_then t ds us (section_uses (DontCareSection d)) xs a (sections_accepted t ds (us ++ section_uses (DontCareSection d)) xs) h
 
 -- ---- the module
 
-pub module_accepted : (t : Table) (m : ModuleTree) → read_refusals t m ≡ [] → Accepted t [] (all_declarations m) (module_uses m)
+pub module_accepted : (t : Table) (m : ModuleTree) → read_refusals t m ≡ [] → Accepted t (all_declarations m) (module_uses m)
 module_accepted t m h =
-    let one = none_left (declarations_refused t [] m.decls) _ h in
-    let none : Sure t [] = record { once = refl; same = refl } in
-    let a = sections_accepted t m.decls m.sections (declarations_sure t [] m.decls none one) (declarations_sound t [] m.decls tt one) (none_right (declarations_refused t [] m.decls) _ h) in
-    let all = names_behind (all_declarations m) in
-    record {
-      sure = a.sure;
-      sound = a.sound;
-      known =
-          named_append all (declarations_uses m.decls) (sections_uses m.sections)
-          (named_more (names_behind m.decls) all (declarations_uses m.decls) (extends_behind m.decls (section_declarations m.sections)) (declarations_known t [] m.decls one)) a.known;
-      unrefused = refused_append t [] m.decls (section_declarations m.sections) ∙ ap₂ (λ l r. l ++ r) one a.unrefused;
-    }
+    let none : Accepted t [] [] = record { sure = record { once = refl; same = refl }; sound = tt; told = All-nil (IsTold []); known = refl; unrefused = refl } in
+    sections_accepted t m.decls (declarations_uses m.decls) m.sections
+    (declarations_accepted t [] [] m.decls none (none_left (declarations_refused t [] m.decls) _ h)) (none_right (declarations_refused t [] m.decls) _ h)

@@ -41,10 +41,16 @@ of_among test (x ∷ xs) name all is = by (bytes_eq name x.name) refl (test x.na
     by true same true holds more = ap test (same_bytes name x.name same) ∙ holds
     by false other true holds more = more (sym (ap (λ d. d && rest) holds) ∙ all) (sym (ap (λ d. d || is_among xs name) other) ∙ is)
 
-pub all_kept : (test : GivenName → Bool) (xs : List GivenName) → list_all test xs ≡ true → filter test xs ≡ xs
-all_kept test [] all = refl
-all_kept test (x ∷ xs) all = by (test x) refl (all_kept test xs)
+-- a name that passes stays among them
+pub among_kept : (test : List ℕ → Bool) (xs : List GivenName) (name : List ℕ) → is_among xs name ≡ true → test name ≡ true → is_among (filter (λ (x : GivenName). test x.name) xs) name ≡ true
+among_kept test [] name is holds = absurd cc
+among_kept test (x ∷ xs) name is holds = by (bytes_eq name x.name) refl is (test x.name) refl (among_kept test xs name)
   where
-    by : (b : Bool) → test x ≡ b → (list_all test xs ≡ true → filter test xs ≡ xs) → cond b (x ∷ filter test xs) (filter test xs) ≡ x ∷ xs
-    by true holds more = ap (λ ys. x ∷ ys) (more (sym (ap (λ d. d && list_all test xs) holds) ∙ all))
-    by false fails more = absurd (true≢false (sym all ∙ ap (λ d. d && list_all test xs) fails))
+    kept : List GivenName
+    kept = filter (λ (y : GivenName). test y.name) xs
+
+    by : (b : Bool) → bytes_eq name x.name ≡ b → (b || is_among xs name) ≡ true → (c : Bool) → test x.name ≡ c → (is_among xs name ≡ true → test name ≡ true → is_among kept name ≡ true) → is_among (cond c (x ∷ kept) kept) name ≡ true
+    by true same is true h more = ap (λ b. b || is_among kept name) same
+    by true same is false h more = absurd (true≢false (sym holds ∙ (ap test (same_bytes name x.name same) ∙ h)))
+    by false other is true h more = ap (λ b. b || is_among kept name) other ∙ more is holds
+    by false other is false h more = more is holds

@@ -1,5 +1,5 @@
 -- What sections assign is what their parts give.
-use Rattle.std.proofs.Common.{◌≡◌, ℕ, Bool, true, Option, Some, None, List, [], ◌∷◌, ◌++◌, refl, sym, ap, ap₂, ◌∙◌, append_assoc}
+use Rattle.std.proofs.Common.{◌≡◌, ℕ, Bool, true, ◌||◌, if◌then◌else◌, Option, Some, None, List, [], ◌∷◌, ◌++◌, refl, sym, ap, ap₂, ◌∙◌, append_assoc}
 use Rattle.std.specs.List.{flat_map}
 use Rattle.std.proofs.lemmas.List.{append-nil}
 use Rattle.std.proofs.lemmas.List.Concat.{flat_map-append}
@@ -7,10 +7,11 @@ use Rattle.abel_meaning.specs.Held.{read_names}
 use Rattle.abel_tree.specs.Assigned.{Assigned, Named, assigned_by, assigned_each, branch_assigns, branches_assign, choices_assign, else_assigns, is_clocked, list_assigns, other_assigns, section_assigns, sections_assign, signals_of, signals_of_name, signals_of_names, statement_assigns, statements_assign, states_assign, target_extension, with_assigns, without_extension}
 use Rattle.abel_tree.specs.declared.words.Extension.{Extension}
 use Rattle.abel_tree.specs.declared.words.Extension.TheVariants as ext
+use Rattle.abel_tree.specs.Extensions.{is_data, is_raw}
 use Rattle.abel_tree.specs.Ranges.{range_names}
 use Rattle.abel_tree.specs.Tree.{Tree, Statement, AnAssign, AWhen, AGroup, ADontCare, Otherwise, NoElse, AnElse, Statements, NoStatement, MoreStatements, Branch, AGoal, AnIf, ACase, OtherBranch, NoBranch, ABranch, Choices, NoChoice, MoreChoices, RowTree, StateTree, SectionTree, Declarations, Equations, ATable, ADiagram, SomeVectors, DontCareSection}
 use Rattle.declared_names.specs.declared.following.Follow.TheVariants.{Targets}
-use Rattle.declared_names.specs.Reading.{part_gives, sections_give, side_gives, use_reads, uses_read}
+use Rattle.declared_names.specs.Reading.{part_gives, sections_give, use_reads, uses_read}
 use Rattle.name_uses.specs.Parts.{PartTree, parts_in_branch, parts_in_choices, parts_in_else, parts_in_other, parts_in_row, parts_in_section, parts_in_state, parts_in_statement, parts_in_statements, parts_in_with}
 use Rattle.name_uses.specs.Targets.{targets_in}
 use Rattle.name_uses.proofs.TargetSignals.{targets_give}
@@ -32,7 +33,7 @@ module _ (ks : List Named) where
   targets_assign c t =
       targets_give ks (assigned_each c) refl (each_append c) (use_reads named_by c) (λ w. refl) (λ v w. each_name c (range_names v.text w.text)) t
 
-  side_assigns : (e : Option Extension) (c : Bool) (t : Tree) → side_gives named_by e c (targets_in t) ≡ assigned_by e c (signals_of ks t)
+  side_assigns : (e : Option Extension) (c : Bool) (t : Tree) → uses_read named_by (is_raw e || c) (if is_data e then targets_in t else []) ≡ assigned_by e c (signals_of ks t)
   side_assigns None c t = targets_assign c t
   side_assigns (Some ext.D) c t = targets_assign true t
   side_assigns (Some ext.Clk) c t = refl
@@ -54,7 +55,7 @@ module _ (ks : List Named) where
     in_statement (AnAssign place complement target sign sign_place value) =
         let e = target_extension target in
         let t = without_extension target in
-        append-nil (side_gives named_by e (is_clocked sign) (targets_in t)) ∙ side_assigns e (is_clocked sign) t
+        append-nil (uses_read named_by (is_raw e || is_clocked sign) (if is_data e then targets_in t else [])) ∙ side_assigns e (is_clocked sign) t
     in_statement (AWhen place c s other) = both (parts_in_statement s) (parts_in_else other) (statement_assigns ks s) (else_assigns ks other) (in_statement s) (in_else other)
     in_statement (AGroup ss) = in_statements ss
     in_statement (ADontCare directive) = refl

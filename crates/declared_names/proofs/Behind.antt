@@ -4,7 +4,7 @@ use Rattle.std.specs.Prelude.{slice_get, unwrap_or}
 use Rattle.std.specs.List.{All, list_all}
 use Rattle.std.proofs.lemmas.Bool.{and_parts, true≢false}
 use Rattle.std.proofs.lemmas.Bool.Decides.{nat_tests}
-use Rattle.std.proofs.lemmas.List.Elements.{All-nil, All-get_or}
+use Rattle.std.proofs.lemmas.List.Elements.{All-get_or}
 use Rattle.std.proofs.lemmas.Option.{get_or_from_slice_get, slice_get_within, unwrap_or-slice_get}
 use Rattle.pld_device.specs.declared.flip.Flip.{Flip}
 use Rattle.pld_device.specs.declared.flip.Flip.TheVariants.{Always, AfterRegister, BeforeRegister}
@@ -18,7 +18,11 @@ use Rattle.abel_meaning.specs.Designs.{no_name}
 use Rattle.abel_meaning.specs.Held.{Holds, holds_of, is_held}
 use Rattle.abel_meaning.specs.Kinds.{is_buffer_by_default, is_registered, words_with_kind, with_kind, with_kinds, names_of}
 use Rattle.decls.proofs.NoRefusals.{none_left, none_right}
-use Rattle.declared_names.proofs.AssignedMarks.{is_no_target}
+use Rattle.declared_names.proofs.AssignedMarks.{is_found}
+use Rattle.declared_names.specs.declared.following.Follow.TheVariants.{Targets}
+use Rattle.declared_names.specs.Marking.{is_marked}
+use Rattle.declared_names.specs.Reading.{all_marks}
+use Rattle.declared_names.proofs.Passing.{at}
 use Rattle.decls.specs.declared.fault.NameFault.TheVariants as fault
 use Rattle.decls.specs.AllDeclarations.{all_declarations}
 use Rattle.decls.specs.NameRefusals.{always_inverts, all_buffered, is_register_at, buffers_refused, module_buffers_refused, names_once, read_refusals, name_refusals}
@@ -27,7 +31,7 @@ use Rattle.declared_names.proofs.Accepted.{module_accepted}
 use Rattle.declared_names.proofs.Among.{of_among}
 use Rattle.declared_names.proofs.Buffers.{registered_by, declared_at}
 use Rattle.declared_names.proofs.Placed.{found_at}
-use Rattle.declared_names.proofs.SaidBuffers.{IsTold, declarations_told}
+use Rattle.declared_names.proofs.SaidBuffers.{IsTold}
 use Rattle.declared_names.proofs.SoundEntries.{AreSound}
 
 -- none of these names is a register's
@@ -76,22 +80,17 @@ abbrev AssignsSignals : List Assigned → List Entry → Type 0
 AssignsSignals found es = (s : ℕ) (e : Entry) → slice_get es s ≡ Some e → is_assigned found s ≡ true → is_signal e.kind ≡ true
 
 assigns_signals : (es : List Entry) (sections : List SectionTree) → AssignsSignals (sections_assign (named_of es) sections) es
-assigns_signals es sections s e is target = by (is_signal e.kind) refl
-  where
-    by : (b : Bool) → is_signal e.kind ≡ b → b ≡ true
-    by true signal = refl
-    by false other = absurd (true≢false (sym target ∙ is_no_target es sections s e is other))
+assigns_signals es sections s e is target = (and_parts (is_signal e.kind) (is_marked (at (all_marks Targets es sections) s)) (is_found es sections s e is ∙ target)).0
 
 module _ (t : Table) (held : Holds) (found : List Assigned) (es : List Entry) (xs : List GivenName) (sound : AreSound t.pins [] es) (told : All (IsTold xs) es) (targets : AssignsSignals found es) (none : always_inverts t ≡ true → buffers_refused found es xs ≡ []) where
   told_at : (s : ℕ) (e : Entry) → slice_get es s ≡ Some e → IsTold xs e
   told_at s e is = subst (IsTold xs) (get_or_from_slice_get es s e e is) (All-get_or (IsTold xs) es s e (slice_get_within es s e is) told)
 
   -- a name of which `buffer` is said is no register
-  no_register : always_inverts t ≡ true → (s : ℕ) (e : Entry) → slice_get es s ≡ Some e → e.words.buffer ≡ true → is_registered e.words (is_clocked_target found s) ≡ true → ⊥
-  no_register inverted s e is said registered =
-      let both = told_at s e is said in
-      let quiet = of_among (λ name. not (is_register_at found es (find es name))) xs e.name (none_registered found es xs (none inverted)) both.1 in
-      let here : registered_by found s (Some e) ≡ true = ap₂ (λ a b. a && b) both.0 registered in
+  no_register : always_inverts t ≡ true → (s : ℕ) (e : Entry) → slice_get es s ≡ Some e → is_signal e.kind ≡ true → e.words.buffer ≡ true → is_registered e.words (is_clocked_target found s) ≡ true → ⊥
+  no_register inverted s e is signal said registered =
+      let quiet = of_among (λ name. not (is_register_at found es (find es name))) xs e.name (none_registered found es xs (none inverted)) (told_at s e is signal said) in
+      let here : registered_by found s (Some e) ≡ true = ap₂ (λ a b. a && b) signal registered in
       let at : is_register_at found es (find es e.name) ≡ true =
       ap (is_register_at found es) (found_at t.pins es sound s e is)
       ∙ (sym (declared_at found es s) ∙ (ap (registered_by found s) is ∙ here)) in
@@ -107,7 +106,7 @@ module _ (t : Table) (held : Holds) (found : List Assigned) (es : List Entry) (x
           → ((if b then words_with_kind flip held s e.words registered else e.words).registered && is_assigned found s) ≡ true
           → not (if b then words_with_kind flip held s e.words registered else e.words).invert ≡ true → ⊥
       by true here stored follows =
-          no_register inverted s e is (was_said e.words.buffer (not e.words.invert) (is_buffer_by_default flip) registered (is_held held s) default follows)
+          no_register inverted s e is signal (was_said e.words.buffer (not e.words.invert) (is_buffer_by_default flip) registered (is_held held s) default follows)
           (and_parts registered (is_assigned found s) stored).0
       by false other stored follows = absurd cc
 
@@ -133,10 +132,9 @@ pub module_buffers : (t : Table) (m : ModuleTree) → name_refusals t m ≡ [] �
 module_buffers t m h =
     let xs = all_buffered [] (all_declarations m) in
     let all = module_accepted t m (none_left (read_refusals t m) (module_buffers_refused t m) h) in
-    let told = declarations_told t [] (all_declarations m) [] tt all.unrefused (All-nil (IsTold [])) in
     let refused = λ (es : List Entry). buffers_refused (sections_assign (named_of es) m.sections) es xs in
     allowed t (holds_of (declared_names m) m.sections) (sections_assign (named_of (declared_names m)) m.sections) (declared_names m) xs
     all.sound
-    told
+    all.told
     (assigns_signals (declared_names m) m.sections)
     (λ inverted. subst (λ es. refused es ≡ []) all.sure.once (sym (ap (λ b. if b then refused (names_once m) else []) inverted) ∙ none_right (read_refusals t m) (module_buffers_refused t m) h))

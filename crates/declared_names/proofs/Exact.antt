@@ -86,7 +86,7 @@ module _ (t : Table) (m : ModuleTree) (h : name_refusals t m ≡ []) where
   nothing_read : read_refusals t m ≡ []
   nothing_read = none_left (read_refusals t m) (module_buffers_refused t m) h
 
-  all : Accepted t [] (all_declarations m) (module_uses m)
+  all : Accepted t (all_declarations m) (module_uses m)
   all = module_accepted t m nothing_read
 
   -- the table's names are those that are declared

@@ -1,19 +1,18 @@
 -- Marks find which registers are held.
-use Rattle.std.proofs.Common.{◌≡◌, ℕ, suc, ◌==◌, Bool, true, false, ◌&&◌, if◌then◌else◌, Some, None, List, [], ◌∷◌, ◌++◌, refl, sym, ap, ◌∙◌}
+use Rattle.std.proofs.Common.{◌≡◌, ℕ, suc, ◌==◌, Bool, true, false, ◌||◌, ◌&&◌, if◌then◌else◌, Some, None, List, [], ◌∷◌, ◌++◌, refl, sym, ap, ◌∙◌}
 use Rattle.std.specs.Prelude.{slice_get, bytes_eq}
-use Rattle.std.proofs.Math.Bool.{and-true, or-false}
+use Rattle.std.proofs.Math.Bool.{and-false, and-true}
+use Rattle.std.proofs.Math.Path.{fun_ext}
 use Rattle.abel_tree.specs.Entries.{Kind, APin, ANode, AConstant, ADeviceName, Entry, is_signal}
 use Rattle.abel_tree.specs.Tree.{SectionTree}
 use Rattle.abel_meaning.specs.Held.{Held, held_after, held_by, held_meant, held_of, holds_of}
 use Rattle.declared_names.specs.declared.following.Follow.TheVariants.{Reads}
-use Rattle.declared_names.specs.Marking.{is_strong}
-use Rattle.declared_names.specs.Reading.{all_marks, sections_give}
+use Rattle.declared_names.specs.Numbered.{value_of}
+use Rattle.declared_names.specs.Reading.{all_marks, sections_give, uses_read, value_uses}
 use Rattle.declared_names.proofs.AmongNumbers.{among}
 use Rattle.declared_names.proofs.HeldParts.{sections_read}
-use Rattle.declared_names.proofs.Looked.{after, look}
-use Rattle.declared_names.proofs.Passing.{at}
-use Rattle.declared_names.proofs.Reaching.{kind_reaches, marked_in_the_end}
-use Rattle.declared_names.proofs.ReadsAlike.{sections_alike, uses_alike}
+use Rattle.declared_names.proofs.Looked.{after, look, marked_in_the_end, signal_at}
+use Rattle.declared_names.proofs.Passing.{at, strong_alone, weighs}
 use Rattle.declared_names.proofs.UsedNames.{read_used}
 use Rattle.name_uses.specs.NamesUsed.{names_used}
 
@@ -37,29 +36,26 @@ same_after : (ks : List Held) (s : ℕ) (es : List Entry) → after name_of give
 same_after ks s [] = refl
 same_after ks s (e ∷ es) = same_after (ks ++ make ks s e ∷ []) (suc s) es
 
-abbrev is_it : (s : ℕ) → ℕ → Bool
-is_it s j = j == s
+looked_all : (ks : List Held) → held_by ks ≡ look name_of gives ks
+looked_all ks = fun_ext (λ name. fun_ext (looked ks name))
 
-at_pin : (s k : ℕ) (c : Bool) → among s (if c then k ∷ [] else []) ≡ ((k == s) && c)
-at_pin s k true = or-false (k == s) ∙ sym (and-true (k == s))
-at_pin s k false = never (k == s)
-  where
-    never : (b : Bool) → false ≡ (b && false)
-    never true = refl
-    never false = refl
+module _ (es : List Entry) (xs : List SectionTree) (s : ℕ) (x : Entry) (g : slice_get es s ≡ Some x) where
+  at_pin : (k : ℕ) (c : Bool) → among s (if c then k ∷ [] else []) ≡ (((k == s) && c) || false)
+  at_pin k true = ap (λ b. b || false) (sym (and-true (k == s)))
+  at_pin k false = ap (λ b. b || false) (sym (and-false (k == s)))
 
-of_kind : (s : ℕ) (ks : List Held) (k : ℕ) (c : Bool) (kd : Kind) → among s (held_meant ks k kd c) ≡ kind_reaches Reads (is_it s) false s (look name_of gives ks) k c kd
-of_kind s ks k c (APin pin negated) = at_pin s k c
-of_kind s ks k c (ANode node) = at_pin s k c
-of_kind s ks k c (AConstant value) =
-    ap (among s) (read_used (held_by ks) c None value)
-    ∙ uses_alike (is_it s) (is_it s) (held_by ks) (look name_of gives ks) (λ name as_q. ap (among s) (looked ks name as_q)) c (names_used None value)
-of_kind s ks k c ADeviceName = refl
+  of_kind : (ks : List Held) (k : ℕ) (c : Bool) (kd : Kind)
+      → among s (held_meant ks k kd c) ≡ ((is_signal kd && ((k == s) && (false || c))) || among s (uses_read (look name_of gives ks) c (value_uses Reads (value_of kd))))
+  of_kind ks k c (APin pin negated) = at_pin k c
+  of_kind ks k c (ANode node) = at_pin k c
+  of_kind ks k c (AConstant value) = ap (among s) (read_used (held_by ks) c None value) ∙ ap (λ of. among s (uses_read of c (names_used None value))) (looked_all ks)
+  of_kind ks k c ADeviceName = refl
 
--- the signal is marked strongly in the end where its Q is read, or its raw input is set
-pub is_read : (es : List Entry) (xs : List SectionTree) (s : ℕ) (x : Entry) → slice_get es s ≡ Some x → is_signal x.kind ≡ true → is_strong (at (all_marks Reads es xs) s) ≡ among s (holds_of es xs).signals
-is_read es xs s x g sig =
-    marked_in_the_end name_of gives make named Reads (is_it s) false s (λ ks k e c. of_kind s ks k c e.kind) es x g sig xs
-    ∙ (ap (λ ks. among s (sections_give Reads (look name_of gives ks) xs)) (same_after [] 0 es)
-    ∙ (sym (sections_alike (is_it s) (is_it s) (held_by (held_of es)) (look name_of gives (held_of es)) (λ name as_q. ap (among s) (looked (held_of es) name as_q)) Reads xs)
-    ∙ ap (among s) (sections_read (held_by (held_of es)) xs)))
+  -- the signal is marked strongly in the end where its Q is read, or its raw input is set
+  pub is_read : is_signal x.kind ≡ true → (at (all_marks Reads es xs) s).strong ≡ among s (holds_of es xs).signals
+  is_read sig =
+      strong_alone (is_signal x.kind) (at (all_marks Reads es xs) s) sig
+      ∙ (ap (λ o. weighs (λ c. signal_at o && (false || c)) (at (all_marks Reads es xs) s)) (sym g)
+      ∙ (marked_in_the_end name_of gives make named Reads es s false (λ j. j == s) (λ ks k e c. of_kind ks k c e.kind) xs
+      ∙ (ap (λ of. among s (sections_give Reads of xs)) (ap (look name_of gives) (same_after [] 0 es) ∙ sym (looked_all (held_of es)))
+      ∙ ap (among s) (sections_read (held_by (held_of es)) xs))))

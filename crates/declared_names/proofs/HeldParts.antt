@@ -3,16 +3,17 @@ use Rattle.std.proofs.Common.{◌≡◌, ℕ, Bool, true, false, ◌||◌, if◌
 use Rattle.std.specs.List.{flat_map, list_any}
 use Rattle.std.proofs.lemmas.List.Concat.{flat_map-append}
 use Rattle.std.proofs.lemmas.List.Folds.{list_any-append}
-use Rattle.abel_meaning.specs.Held.{ATarget, AValue, Part, branch_parts, branches_parts, choices_parts, else_parts, list_parts, other_parts, part_reads, part_shares, parts_read, section_parts, sections_parts, statement_parts, statements_parts, states_parts, with_parts as parts_of_with}
+use Rattle.abel_meaning.specs.Held.{read_in, ATarget, AValue, Part, branch_parts, branches_parts, choices_parts, else_parts, list_parts, other_parts, part_reads, part_shares, parts_read, section_parts, sections_parts, statement_parts, statements_parts, states_parts, with_parts as parts_of_with}
 use Rattle.abel_tree.specs.Assigned.{target_extension, without_extension}
 use Rattle.abel_tree.specs.declared.words.Extension.TheVariants.{Q}
 use Rattle.abel_tree.specs.declared.words.Sign.{Sign}
 use Rattle.abel_tree.specs.Extensions.{is_raw}
 use Rattle.abel_tree.specs.Tree.{Tree, Statement, AnAssign, AWhen, AGroup, ADontCare, Otherwise, NoElse, AnElse, Statements, NoStatement, MoreStatements, Branch, AGoal, AnIf, ACase, OtherBranch, NoBranch, ABranch, Choices, NoChoice, MoreChoices, RowTree, StateTree, SectionTree, Declarations, Equations, ATable, ADiagram, SomeVectors, DontCareSection}
 use Rattle.declared_names.specs.declared.following.Follow.TheVariants.{Reads}
-use Rattle.declared_names.specs.Reading.{part_gives, sections_give}
+use Rattle.declared_names.specs.Reading.{part_gives, sections_give, uses_read}
 use Rattle.declared_names.specs.Sharing.{section_shares, shares_all}
 use Rattle.declared_names.proofs.UsedNames.{read_used}
+use Rattle.name_uses.specs.NamesUsed.{names_used}
 use Rattle.name_uses.specs.Parts.{PartTree, Target, Value, Read, Outputs, Registers, Entry, part, parts_in_branch, parts_in_choices, parts_in_else, parts_in_other, parts_in_row, parts_in_section, parts_in_state, parts_in_statement, parts_in_statements, parts_in_with}
 use Rattle.name_uses.specs.Viewed.{PartedSection, with_parts}
 
@@ -125,11 +126,15 @@ module _ {A : Type 0} (of : List ℕ → Bool → List A) where
   each_read [] = refl
   each_read (p ∷ ps) = ap (λ us. part_reads of p ++ us) (each_read ps)
 
+  raw : (t : Tree) (b : Bool) → uses_read of false (if b then names_used (Some Q) (without_extension t) else []) ≡ (if b then read_in of true (without_extension t) else [])
+  raw t true = sym (read_used of false (Some Q) (without_extension t))
+  raw t false = refl
+
   pub sections_read : (xs : List SectionTree) → sections_give Reads of xs ≡ parts_read of (sections_parts xs)
   sections_read xs =
       sections_followed (part_gives Reads of) (part_reads of)
       (record {
-        target = λ sign t. ap (λ us. if is_raw (target_extension t) then us else []) (sym (read_used of false (Some Q) (without_extension t)));
+        target = λ sign t. raw t (is_raw (target_extension t));
         value = λ target t. sym (read_used of false None t);
         read = λ t. sym (read_used of false None t);
         outputs = λ clocked t. refl;

@@ -17,7 +17,6 @@ pub mod Numbering
 pub mod Passes
 pub mod Passing
 pub mod Placed
-pub mod Reaching
 pub mod ReadsAlike
 pub mod SaidBuffers
 pub mod Settling

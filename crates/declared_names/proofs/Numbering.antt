@@ -1,55 +1,69 @@
--- The names' numbers: in a map, and in a list in which each name stands for its own.
-use Rattle.std.proofs.Common.{◌≡◌, ℕ, zero, suc, ◌+◌, ◌<◌, ◌≤◌, Bool, true, false, Option, Some, None, List, [], ◌∷◌, ◌++◌, map, take, length, get_or, if◌then◌else◌, refl, sym, ap, ◌∙◌, arith, cond, zero-add}
+-- The names' numbers: those of the first names, in a map, and with one name more.
+use Rattle.std.proofs.Common.{◌≡◌, ℕ, zero, suc, ◌+◌, ◌<◌, ◌≤◌, Bool, true, false, ◌||◌, Option, Some, None, List, [], ◌∷◌, ◌++◌, map, take, length, get_or, if◌then◌else◌, refl, sym, ap, ◌∙◌, arith, cond, zero-add}
 use Rattle.std.specs.Prelude.{is_some, min, option_copied}
 use Rattle.std.specs.Global.{Vec}
-use Rattle.std.specs.List.{position_from}
+use Rattle.std.specs.List.{list_any, position_from}
 use denote.Ref.{Bor}
 use Rattle.std.specs.Str.{bytes_eq}
 use Rattle.std.proofs.lemmas.Bool.{lt-ltb, le-ltb}
 use Rattle.std.proofs.lemmas.List.{length-map, length-take}
 use Rattle.std.proofs.lemmas.Iterator.Adapters.{position_from-zero}
-use Rattle.abel_tree.specs.Assigned.{assigned_each, signals_of_name}
 use Rattle.abel_tree.specs.declared.names.Declared.{Declared}
 use Rattle.abel_tree.specs.Entries.{Entry, find, view_declared}
 use Rattle.decls.proofs.Rows.{mapped_more}
 use Rattle.declared_names.specs.declared.marks.Mark.{Mark}
 use Rattle.declared_names.specs.Marking.{all_marked, hit}
-use Rattle.declared_names.specs.Reading.{numbers_read}
-use Rattle.declared_names.specs.Numbered.{numbered, numbered_from, below_limit, number_in, earlier_number, number_of_name}
+use Rattle.declared_names.specs.Reading.{number_given, numbers_read}
+use Rattle.declared_names.specs.Numbered.{below, number_in, earlier_number, number_of_name}
 
 abbrev pub is_name : List ℕ → Entry → Bool
 is_name name e = bytes_eq name e.name
 
--- a number that is found is not below the place where the search began
-not_before : (limit : ℕ) (b : Bool) (i : ℕ) (o : Option ℕ) → limit ≤ i → [] ≡ below_limit limit o → [] ≡ below_limit limit (cond b (Some i) o)
-not_before limit true i o h e = rw (le-ltb i limit h) refl
-not_before limit false i o h e = e
+-- ---- the first names
 
-none_before : (name : List ℕ) (limit i : ℕ) (es : List Entry) → limit ≤ i → [] ≡ below_limit limit (position_from (is_name name) i es)
+some_from : (name : List ℕ) (i : ℕ) (es : List Entry) → list_any (is_name name) es ≡ is_some (position_from (is_name name) i es)
+some_from name i [] = refl
+some_from name i (e ∷ es) = by (bytes_eq name e.name) (some_from name (i + 1) es)
+  where
+    by : (b : Bool) → list_any (is_name name) es ≡ is_some (position_from (is_name name) (i + 1) es) → (b || list_any (is_name name) es) ≡ is_some (cond b (Some i) (position_from (is_name name) (i + 1) es))
+    by true h = refl
+    by false h = h
+
+pub some_found : (name : List ℕ) (es : List Entry) → list_any (is_name name) es ≡ is_some (find es name)
+some_found name es = some_from name 0 es ∙ ap is_some (sym (position_from-zero (is_name name) es))
+
+none_before : (name : List ℕ) (limit i : ℕ) (es : List Entry) → limit ≤ i → None ≡ below limit (position_from (is_name name) i es)
 none_before name limit i [] h = refl
-none_before name limit i (e ∷ es) h = not_before limit (bytes_eq name e.name) i _ h (none_before name limit (i + 1) es (omega (arith, h)))
+none_before name limit i (e ∷ es) h = by (bytes_eq name e.name) (none_before name limit (i + 1) es (omega (arith, h)))
+  where
+    by : (b : Bool) → None ≡ below limit (position_from (is_name name) (i + 1) es) → None ≡ below limit (cond b (Some i) (position_from (is_name name) (i + 1) es))
+    by true e = rw (le-ltb i limit h) refl
+    by false e = e
 
-chosen : (b : Bool) (i limit : ℕ) (xs : List ℕ) (o : Option ℕ) → i < limit → xs ≡ below_limit limit o → (if b then i ∷ [] else xs) ≡ below_limit limit (cond b (Some i) o)
-chosen true i limit xs o h e = rw (lt-ltb i limit h) refl
-chosen false i limit xs o h e = e
-
-found_from : (name : List ℕ) (k i limit : ℕ) (es : List Entry) → limit ≡ i + k → signals_of_name (numbered_from i (take k es)) name ≡ below_limit limit (position_from (is_name name) i es)
+found_from : (name : List ℕ) (k i limit : ℕ) (es : List Entry) → limit ≡ i + k → position_from (is_name name) i (take k es) ≡ below limit (position_from (is_name name) i es)
 found_from name zero i limit es h = none_before name limit i es (omega (arith, h))
 found_from name (suc k) i limit [] h = refl
-found_from name (suc k) i limit (e ∷ es) h =
-    let n : suc i ≡ i + 1 = omega arith in
-    chosen (bytes_eq name e.name) i limit (signals_of_name (numbered_from (suc i) (take k es)) name) (position_from (is_name name) (i + 1) es) (omega (arith, h))
-    (ap (λ j. signals_of_name (numbered_from j (take k es)) name) n ∙ found_from name k (i + 1) limit es (omega (arith, h)))
+found_from name (suc k) i limit (e ∷ es) h = by (bytes_eq name e.name) (found_from name k (i + 1) limit es (omega (arith, h)))
+  where
+    less : i < limit
+    less = omega (arith, h)
 
-pub found : (name : List ℕ) (limit : ℕ) (es : List Entry) → signals_of_name (numbered limit es) name ≡ below_limit limit (find es name)
-found name limit es = found_from name limit 0 limit es (omega arith) ∙ ap (below_limit limit) (sym (position_from-zero (is_name name) es))
+    by : (b : Bool) → position_from (is_name name) (i + 1) (take k es) ≡ below limit (position_from (is_name name) (i + 1) es)
+        → cond b (Some i) (position_from (is_name name) (i + 1) (take k es)) ≡ below limit (cond b (Some i) (position_from (is_name name) (i + 1) es))
+    by true e = rw (lt-ltb i limit less) refl
+    by false e = e
+
+found : (name : List ℕ) (limit : ℕ) (es : List Entry) → find (take limit es) name ≡ below limit (find es name)
+found name limit es =
+    position_from-zero (is_name name) (take limit es)
+    ∙ (found_from name limit 0 limit es (omega arith) ∙ ap (below limit) (sym (position_from-zero (is_name name) es)))
 
 -- ---- a name is marked
 
 module _ (strong : Bool) (ms : List Mark) (limit : ℕ) (name : List ℕ) (es : List Entry) where
   -- what a name marks, by its number
-  by_number : (o : Option ℕ) → find es name ≡ o → all_marked ms (numbers_read limit es name strong) ≡ all_marked ms (assigned_each strong (below_limit limit o))
-  by_number o e = ap (λ ss. all_marked ms (assigned_each strong ss)) (found name limit es ∙ ap (below_limit limit) e)
+  by_number : (o : Option ℕ) → find es name ≡ o → all_marked ms (numbers_read limit es name strong) ≡ all_marked ms (number_given (below limit o) strong)
+  by_number o e = ap (λ n. all_marked ms (number_given n strong)) (found name limit es ∙ ap (below limit) e)
 
   pub hit_name : (n : ℕ) → find es name ≡ Some n → n < limit → hit strong ms n ≡ all_marked ms (numbers_read limit es name strong)
   hit_name n e h = sym (by_number (Some n) e ∙ rw (lt-ltb n limit h) refl)

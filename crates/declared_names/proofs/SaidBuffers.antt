@@ -1,12 +1,11 @@
--- Where nothing is refused, each name of which `buffer` is said is a signal, and among those that such a string is for.
-use Rattle.std.proofs.Common.{◌≡◌, ℕ, suc, Bool, true, false, ◌&&◌, ◌||◌, if◌then◌else◌, Some, List, [], ◌∷◌, ◌++◌, map, zip, filter, length, get_or, refl, sym, ap, ap₂, subst, ◌∙◌, append_assoc}
+-- Each name of which `buffer` is said is among those that such a string is for, if it is a signal.
+use Rattle.std.proofs.Common.{◌≡◌, ℕ, suc, Bool, true, false, ◌&&◌, ◌||◌, if◌then◌else◌, Some, List, [], ◌∷◌, ◌++◌, map, zip, filter, length, get_or, refl, sym, ap, ap₂, subst, ◌∙◌}
 use Rattle.std.specs.List.{All, list_all}
 use Rattle.std.proofs.lemmas.Bool.{true≢false}
 use Rattle.std.proofs.lemmas.List.{append-nil}
-use Rattle.std.proofs.lemmas.List.Elements.{All-nil, All-cons, All-append, All-map, All-weaker, All-from_get_or, All-get_or}
 use Rattle.std.proofs.lemmas.List.Folds.{list_all-append, list_all-map}
+use Rattle.std.proofs.lemmas.List.Elements.{All-nil, All-cons, All-append, All-map, All-weaker, All-from_get_or, All-get_or}
 use Rattle.std.proofs.lemmas.Option.{slice_get-get_or}
-use Rattle.pld_device.specs.Table.{Table}
 use Rattle.abel_tree.specs.declared.words.Item.{Item}
 use Rattle.abel_tree.specs.declared.words.Word.{Word}
 use Rattle.abel_tree.specs.Entries.{ADeviceName, Words, Entry, kind_of, passes, is_signal, names_any}
@@ -15,52 +14,46 @@ use Rattle.abel_tree.specs.Tree.{Tree, Declaration, ADevice, SomePins, SomeNodes
 use Rattle.abel_meaning.specs.Declarations.{GivenName, given_names, entry, no_words, all_said, said_by_either, with_words, pin_entries, node_entries, constant_entries, node_count, declared}
 use Rattle.abel_meaning.specs.Designs.{no_name}
 use Rattle.decls.specs.declared.fault.NameFault.TheVariants as fault
-use Rattle.decls.specs.NameRefusals.{buffered, all_buffered}
-use Rattle.decls.specs.NamesBefore.{names_behind}
-use Rattle.decls.specs.Refused.{refused_if, item_refused, items_refused, parts_refused, declaration_refused, declarations_refused}
+use Rattle.decls.specs.NameRefusals.{buffered}
+use Rattle.decls.specs.Refused.{refused_if, item_refused, items_refused}
 use Rattle.decls.proofs.NoRefusals.{none_left, none_right}
-use Rattle.declared_names.proofs.Among.{is_among, among_left, among_right, AreAmong, rest_among, first_among, of_among, all_kept}
-use Rattle.declared_names.proofs.Accepted.{sound_declaration, behind_push}
+use Rattle.declared_names.proofs.Among.{is_among, among_kept, among_left, among_right, AreAmong, rest_among, first_among}
 use Rattle.declared_names.proofs.Named.{names_known}
 use Rattle.declared_names.proofs.Placed.{kind_at}
 use Rattle.declared_names.proofs.SoundEntries.{AreSound}
 
 -- ---- of which names `buffer` is said
 
--- the name is a signal among these, if `buffer` is said of it
+-- the name is among these, if it is a signal and `buffer` is said of it
 abbrev pub IsTold : List GivenName → Entry → Type 0
-IsTold xs e = e.words.buffer ≡ true → (is_signal e.kind ≡ true) × (is_among xs e.name ≡ true)
+IsTold xs e = is_signal e.kind ≡ true → e.words.buffer ≡ true → is_among xs e.name ≡ true
 
 told_left : (xs ys : List GivenName) (es : List Entry) → All (IsTold xs) es → All (IsTold (xs ++ ys)) es
-told_left xs ys es all = All-weaker (IsTold xs) (IsTold (xs ++ ys)) (λ e told said. ((told said).0, among_left xs ys e.name (told said).1)) es all
+told_left xs ys es all = All-weaker (IsTold xs) (IsTold (xs ++ ys)) (λ e told signal said. among_left xs ys e.name (told signal said)) es all
 
 told_right : (xs ys : List GivenName) (es : List Entry) → All (IsTold ys) es → All (IsTold (xs ++ ys)) es
-told_right xs ys es all = All-weaker (IsTold ys) (IsTold (xs ++ ys)) (λ e told said. ((told said).0, among_right xs ys e.name (told said).1)) es all
+told_right xs ys es all = All-weaker (IsTold ys) (IsTold (xs ++ ys)) (λ e told signal said. among_right xs ys e.name (told signal said)) es all
 
--- the same of names with these words
-abbrev IsFrom : Words → List GivenName → Entry → Type 0
-IsFrom w xs e = e.words.buffer ≡ true → (w.buffer ≡ true) × ((is_signal e.kind ≡ true) × (is_among xs e.name ≡ true))
+module _ (w : Words) (all : List GivenName) where
+  -- those that these words are said of, if they say it
+  abbrev buffered_if : List GivenName
+  buffered_if = if w.buffer then all else []
 
-told_if : (w : Words) (xs : List GivenName) (es : List Entry) → All (IsFrom w xs) es → All (IsTold (if w.buffer then xs else [])) es
-told_if w xs es all =
-    All-weaker (IsFrom w xs) (IsTold (if w.buffer then xs else []))
-    (λ e from said. ((from said).1.0, ap (λ b. is_among (if b then xs else []) e.name) (from said).0 ∙ (from said).1.1)) es all
+  said_of : (x : GivenName) (xs : List GivenName) → AreAmong all (x ∷ xs) → w.buffer ≡ true → is_among buffered_if x.name ≡ true
+  said_of x xs are is = ap (λ b. is_among (if b then all else []) x.name) is ∙ first_among all x xs are
 
-pins_from : (w : Words) (all xs : List GivenName) (ns : List ℕ) → AreAmong all xs → All (IsFrom w all) (pin_entries w xs ns)
-pins_from w all [] ns are = All-nil (IsFrom w all)
-pins_from w all (x ∷ xs) [] are =
-    All-cons (IsFrom w all) _ (pin_entries w xs []) (λ said. (said, (refl, first_among all x xs are))) (pins_from w all xs [] (rest_among all x xs are))
-pins_from w all (x ∷ xs) (n ∷ ns) are =
-    All-cons (IsFrom w all) _ (pin_entries w xs ns) (λ said. (said, (refl, first_among all x xs are))) (pins_from w all xs ns (rest_among all x xs are))
+  pins_told : (xs : List GivenName) (ns : List ℕ) → AreAmong all xs → All (IsTold buffered_if) (pin_entries w xs ns)
+  pins_told [] ns are = All-nil (IsTold buffered_if)
+  pins_told (x ∷ xs) [] are = All-cons (IsTold buffered_if) _ (pin_entries w xs []) (λ signal is. said_of x xs are is) (pins_told xs [] (rest_among all x xs are))
+  pins_told (x ∷ xs) (n ∷ ns) are = All-cons (IsTold buffered_if) _ (pin_entries w xs ns) (λ signal is. said_of x xs are is) (pins_told xs ns (rest_among all x xs are))
 
-nodes_from : (w : Words) (all xs : List GivenName) (n : ℕ) → AreAmong all xs → All (IsFrom w all) (node_entries w n xs)
-nodes_from w all [] n are = All-nil (IsFrom w all)
-nodes_from w all (x ∷ xs) n are =
-    All-cons (IsFrom w all) _ (node_entries w (suc n) xs) (λ said. (said, (refl, first_among all x xs are))) (nodes_from w all xs (suc n) (rest_among all x xs are))
+  nodes_told : (xs : List GivenName) (n : ℕ) → AreAmong all xs → All (IsTold buffered_if) (node_entries w n xs)
+  nodes_told [] n are = All-nil (IsTold buffered_if)
+  nodes_told (x ∷ xs) n are = All-cons (IsTold buffered_if) _ (node_entries w (suc n) xs) (λ signal is. said_of x xs are is) (nodes_told xs (suc n) (rest_among all x xs are))
 
 constants_told : (ps : List (Word × Tree)) → All (IsTold []) (constant_entries ps)
 constants_told [] = All-nil (IsTold [])
-constants_told (p ∷ ps) = All-cons (IsTold []) _ (constant_entries ps) (λ said. absurd (true≢false (sym said))) (constants_told ps)
+constants_told (p ∷ ps) = All-cons (IsTold []) _ (constant_entries ps) (λ signal. absurd (true≢false (sym signal))) (constants_told ps)
 
 -- ---- words for names that are declared already
 
@@ -77,31 +70,28 @@ items_signals es (i ∷ is) h =
     (list_all-map test here (item_names i) ∙ item_signals es i (none_left (item_refused es i) _ h))
     (items_signals es is (none_right (item_refused es i) _ h))
 
-module _ (es : List Entry) (xs ys : List GivenName) (w : Words) (signals : list_all (λ (x : GivenName). names_any is_signal es x.name) ys ≡ true) where
+module _ (es : List Entry) (xs ys : List GivenName) (w : Words) where
   -- those that wait for what is assigned
   abbrev waiting : List GivenName
   waiting = if w.buffer then filter (λ (x : GivenName). names_any is_signal es x.name) ys else []
 
-  newly_told : (e : Entry) → kind_of es e.name ≡ Some e.kind → is_among ys e.name ≡ true → w.buffer ≡ true → (is_signal e.kind ≡ true) × (is_among (xs ++ waiting) e.name ≡ true)
-  newly_told e known among said =
-      let kept = all_kept (λ (x : GivenName). names_any is_signal es x.name) ys signals in (
-        sym (ap (passes is_signal) known) ∙ of_among (names_any is_signal es) ys e.name signals among,
-        among_right xs waiting e.name
-            (ap (λ b. is_among (if b then filter (λ (x : GivenName). names_any is_signal es x.name) ys else []) e.name) said
-            ∙ (ap (λ l. is_among l e.name) kept ∙ among)),
-      )
-
   one_told : (e : Entry) → kind_of es e.name ≡ Some e.kind → IsTold xs e → IsTold (xs ++ waiting) (with_words ys w e)
-  one_told e known told = by (is_among ys e.name) refl
+  one_told e known told signal = by (is_among ys e.name) refl
     where
-      before : e.words.buffer ≡ true → (is_signal e.kind ≡ true) × (is_among (xs ++ waiting) e.name ≡ true)
-      before said = ((told said).0, among_left xs waiting e.name (told said).1)
+      before : e.words.buffer ≡ true → is_among (xs ++ waiting) e.name ≡ true
+      before said = among_left xs waiting e.name (told signal said)
 
-      either : (b : Bool) → e.words.buffer ≡ b → is_among ys e.name ≡ true → (b || w.buffer) ≡ true → (is_signal e.kind ≡ true) × (is_among (xs ++ waiting) e.name ≡ true)
+      newly : is_among ys e.name ≡ true → w.buffer ≡ true → is_among (xs ++ waiting) e.name ≡ true
+      newly among said =
+          among_right xs waiting e.name
+          (ap (λ b. is_among (if b then filter (λ (x : GivenName). names_any is_signal es x.name) ys else []) e.name) said
+          ∙ among_kept (names_any is_signal es) ys e.name among (ap (passes is_signal) known ∙ signal))
+
+      either : (b : Bool) → e.words.buffer ≡ b → is_among ys e.name ≡ true → (b || w.buffer) ≡ true → is_among (xs ++ waiting) e.name ≡ true
       either true already among said = before already
-      either false already among said = newly_told e known among said
+      either false already among said = newly among said
 
-      by : (b : Bool) → is_among ys e.name ≡ b → (if b then said_by_either e.words w else e.words).buffer ≡ true → (is_signal e.kind ≡ true) × (is_among (xs ++ waiting) e.name ≡ true)
+      by : (b : Bool) → is_among ys e.name ≡ b → (if b then said_by_either e.words w else e.words).buffer ≡ true → is_among (xs ++ waiting) e.name ≡ true
       by true among said = either e.words.buffer refl among said
       by false among said = before said
 
@@ -122,44 +112,21 @@ told_rest : (es : List Entry) (d : Declaration) (new : List Entry) (xs ys : List
 told_rest es d new xs ys e old told =
     subst (All (IsTold (xs ++ ys))) (sym e) (All-append (IsTold (xs ++ ys)) es new (told_left xs ys es old) (told_right xs ys new told))
 
-told_declaration : (pins : ℕ) (before : List Declaration) (es : List Entry) (d : Declaration) (xs : List GivenName) → AreSound pins [] es → parts_refused before es d ≡ [] → All (IsTold xs) es → All (IsTold (xs ++ buffered es d)) (declared es d)
-told_declaration pins before es (ADevice name text) xs s p told =
+pub told_declaration : (pins : ℕ) (es : List Entry) (d : Declaration) (xs : List GivenName) → AreSound pins [] es → All (IsTold xs) es → All (IsTold (xs ++ buffered es d)) (declared es d)
+told_declaration pins es (ADevice name text) xs s told =
     told_rest es (ADevice name text) (entry name.text name.place ADeviceName no_words ∷ []) xs [] refl told
-    (All-cons (IsTold []) (entry name.text name.place ADeviceName no_words) [] (λ said. absurd (true≢false (sym said))) (All-nil (IsTold [])))
-told_declaration pins before es (SomePins names numbers attributes) xs s p told =
+    (All-cons (IsTold []) (entry name.text name.place ADeviceName no_words) [] (λ signal. absurd (true≢false (sym signal))) (All-nil (IsTold [])))
+told_declaration pins es (SomePins names numbers attributes) xs s told =
     let w = all_said attributes in
     let ys = given_names names in
     let ns = numbers_of (length ys) numbers in
-    told_rest es (SomePins names numbers attributes) (pin_entries w ys ns) xs (if w.buffer then ys else []) refl told
-    (told_if w ys (pin_entries w ys ns) (pins_from w ys ys ns (λ name is. is)))
-told_declaration pins before es (SomeNodes names numbers attributes) xs s p told =
+    told_rest es (SomePins names numbers attributes) (pin_entries w ys ns) xs (if w.buffer then ys else []) refl told (pins_told w ys ys ns (λ name is. is))
+told_declaration pins es (SomeNodes names numbers attributes) xs s told =
     let w = all_said attributes in
     let ys = given_names names in
-    let d = SomeNodes names numbers attributes in
-    told_rest es d (node_entries w (node_count es) ys) xs (if w.buffer then ys else []) refl told
-    (told_if w ys (node_entries w (node_count es) ys) (nodes_from w ys ys (node_count es) (λ name is. is)))
-told_declaration pins before es (SomeAttributes names attributes) xs s p told =
-    let w = all_said attributes in
-    let ys = given_names names in
-    words_told es xs ys w (items_signals es names (none_left (items_refused es names) _ p)) es (all_known pins es s) told
-told_declaration pins before es (SomeConstants names values) xs s p told =
-    let d = SomeConstants names values in
-    told_rest es d (constant_entries (zip names values)) xs [] refl told (constants_told (zip names values))
-told_declaration pins before es (SomeOptions words) xs s p told = told_rest es (SomeOptions words) [] xs [] (sym (append-nil es)) told (All-nil (IsTold []))
-told_declaration pins before es (DontCareFor directive) xs s p told = told_rest es (DontCareFor directive) [] xs [] (sym (append-nil es)) told (All-nil (IsTold []))
-
--- ---- all of them
-
-pub declarations_told : (t : Table) (before rest : List Declaration) (xs : List GivenName) → AreSound t.pins [] (names_behind before) → declarations_refused t before rest ≡ [] → All (IsTold xs) (names_behind before)
-    → All (IsTold (xs ++ all_buffered before rest)) (names_behind (before ++ rest))
-declarations_told t before [] xs s h told =
-    subst (λ l. All (IsTold l) (names_behind (before ++ []))) (sym (append-nil xs)) (subst (λ l. All (IsTold xs) (names_behind l)) (sym (append-nil before)) told)
-declarations_told t before (d ∷ rest) xs s h told =
-    let es = names_behind before in
-    let here = none_left (declaration_refused t before d) _ h in
-    let parts = none_left (parts_refused before es d) _ here in
-    let sound = sound_declaration t before es d s parts (none_right (parts_refused before es d) _ here) in
-    let one = told_declaration t.pins before es d xs s parts told in
-    let more = declarations_told t (before ++ d ∷ []) rest (xs ++ buffered es d) (subst (AreSound t.pins []) (sym (behind_push before d)) sound) (none_right (declaration_refused t before d) _ h) (subst (All (IsTold (xs ++ buffered es d))) (sym (behind_push before d)) one) in
-    subst (λ l. All (IsTold l) (names_behind (before ++ d ∷ rest))) (append_assoc xs (buffered es d) (all_buffered (before ++ d ∷ []) rest))
-    (subst (λ l. All (IsTold ((xs ++ buffered es d) ++ all_buffered (before ++ d ∷ []) rest)) (names_behind l)) (append_assoc before (d ∷ []) rest) more)
+    told_rest es (SomeNodes names numbers attributes) (node_entries w (node_count es) ys) xs (if w.buffer then ys else []) refl told (nodes_told w ys ys (node_count es) (λ name is. is))
+told_declaration pins es (SomeAttributes names attributes) xs s told = words_told es xs (given_names names) (all_said attributes) es (all_known pins es s) told
+told_declaration pins es (SomeConstants names values) xs s told =
+    told_rest es (SomeConstants names values) (constant_entries (zip names values)) xs [] refl told (constants_told (zip names values))
+told_declaration pins es (SomeOptions words) xs s told = told_rest es (SomeOptions words) [] xs [] (sym (append-nil es)) told (All-nil (IsTold []))
+told_declaration pins es (DontCareFor directive) xs s told = told_rest es (DontCareFor directive) [] xs [] (sym (append-nil es)) told (All-nil (IsTold []))

@@ -1,20 +1,19 @@
 -- The names by what is marked and held are the names with their kinds.
-use Rattle.std.proofs.Common.{◌≡◌, ℕ, suc, ◌+◌, Bool, true, false, ◌||◌, Some, List, [], ◌∷◌, refl, sym, ap, ap₂, subst, ◌∙◌, add-zero, suc-add, add-suc, zero-add}
+use Rattle.std.proofs.Common.{◌≡◌, ℕ, suc, ◌+◌, Bool, true, false, ◌||◌, if◌then◌else◌, Some, List, [], ◌∷◌, refl, sym, ap, ap₂, subst, ◌∙◌, add-zero, suc-add, add-suc, zero-add}
 use Rattle.std.specs.Prelude.{slice_get}
 use Rattle.std.specs.List.{list_any}
 use Rattle.pld_device.specs.declared.flip.Flip.{Flip}
 use Rattle.abel_tree.specs.Assigned.{Assigned, is_assigned, is_clocked_target, named_of, sections_assign}
-use Rattle.abel_tree.specs.Entries.{Entry, is_signal}
+use Rattle.abel_tree.specs.Entries.{Words, Entry, is_signal}
 use Rattle.abel_tree.specs.Tree.{SectionTree}
 use Rattle.abel_meaning.specs.Held.{holds_of, is_held, part_shares, sections_parts}
-use Rattle.abel_meaning.specs.Kinds.{is_registered, with_kind, with_kinds, with_assigned}
+use Rattle.abel_meaning.specs.Kinds.{is_registered, with_kind, with_kinds, with_assigned, words_with_kind}
 use Rattle.declared_names.specs.declared.following.Follow.TheVariants.{Reads, Targets}
 use Rattle.declared_names.specs.declared.held.Held.{Held}
 use Rattle.declared_names.specs.declared.marks.Mark.{Mark}
-use Rattle.declared_names.specs.Marking.{is_strong}
 use Rattle.declared_names.specs.Reading.{all_marks}
 use Rattle.declared_names.specs.Settled.{is_held_at, kind_by, kinds_by, words_by}
-use Rattle.declared_names.proofs.AssignedMarks.{is_clocked, is_found, is_no_target}
+use Rattle.declared_names.proofs.AssignedMarks.{is_clocked, is_found}
 use Rattle.declared_names.proofs.HeldMarks.{is_read}
 use Rattle.declared_names.proofs.Passing.{at}
 
@@ -30,15 +29,22 @@ module _ (es : List Entry) (xs : List SectionTree) (flip : Flip) (marks : List M
   kind_of s x = with_kind flip (holds_of es xs) found s x
 
   settled_one : (s : ℕ) (x : Entry) → slice_get es s ≡ Some x → settled_by s x ≡ kind_of s x
-  settled_one s x g = ap (λ ms. kind_by flip (at ms s) (is_held_at held s) x) assigned ∙ by (is_signal x.kind) refl
+  settled_one s x g =
+      ap (λ ms. kind_by flip (at ms s) (is_held_at held s) x) assigned
+      ∙ (ap (λ d. record x { words = if is_signal x.kind then by_marks (at (all_marks Targets es xs) s).strong (is_held_at held s) else x.words; assigned = d }) (is_found es xs s x g)
+      ∙ ap (λ w. record x { words = w; assigned = is_assigned found s }) (by (is_signal x.kind) refl))
     where
-      by : (b : Bool) → is_signal x.kind ≡ b → kind_by flip (at (all_marks Targets es xs) s) (is_held_at held s) x ≡ kind_of s x
-      by true e =
-          let stays : is_held_at held s ≡ is_held (holds_of es xs) s = ap₂ (λ a ms. a || is_strong (at ms s)) all read ∙ ap (λ b. list_any part_shares (sections_parts xs) || b) (is_read es xs s x g e) in
-          rw e
-          (ap₂ (λ c d. record x { words = words_by flip (is_held_at held s) x.words (is_registered x.words c); assigned = d }) (is_clocked es xs s x g e) (is_found es xs s x g e)
-          ∙ ap (λ h. record x { words = words_by flip h x.words (is_registered x.words (is_clocked_target found s)); assigned = is_assigned found s }) stays)
-      by false e = rw e (ap (λ d. record x { words = x.words; assigned = d }) (sym (is_no_target es xs s x g e)))
+      by_marks : (clocked held : Bool) → Words
+      by_marks clocked h = words_by flip h x.words (is_registered x.words clocked)
+
+      stays : is_signal x.kind ≡ true → is_held_at held s ≡ is_held (holds_of es xs) s
+      stays e = ap₂ (λ a ms. a || (at ms s).strong) all read ∙ ap (λ b. list_any part_shares (sections_parts xs) || b) (is_read es xs s x g e)
+
+      by : (b : Bool) → is_signal x.kind ≡ b
+          → (if b then by_marks (at (all_marks Targets es xs) s).strong (is_held_at held s) else x.words)
+          ≡ (if b then words_with_kind flip (holds_of es xs) s x.words (is_registered x.words (is_clocked_target found s)) else x.words)
+      by true e = ap₂ by_marks (is_clocked es xs s x g e) (stays e)
+      by false e = refl
 
   all_settled : (i : ℕ) (l : List Entry) → ((j : ℕ) (e : Entry) → slice_get l j ≡ Some e → settled_by (i + j) e ≡ kind_of (i + j) e) → kinds_by flip marks held i l ≡ with_kinds flip (holds_of es xs) found i l
   all_settled i [] f = refl

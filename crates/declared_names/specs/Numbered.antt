@@ -1,20 +1,10 @@
--- The names with their own numbers, and the values of constants.
-use Rattle.std.specs.Prelude.{◌≡◌, ℕ, suc, Option, None, Some, List, [], ◌∷◌, if◌then◌else◌, nat_lt, take, bytes_eq}
+-- The numbers of names, and the values of constants.
+use Rattle.std.specs.Prelude.{◌≡◌, ℕ, Option, None, Some, List, if◌then◌else◌, nat_lt, bytes_eq}
 use Rattle.std.specs.Global.{Vec}
 use Rattle.std.specs.Map.{lookup}
-use Rattle.abel_tree.specs.Assigned.{Named}
 use Rattle.abel_tree.specs.Entries.{Kind, APin, ANode, AConstant, ADeviceName, Entry, find}
 use Rattle.abel_tree.specs.Tree.{Tree}
 use Rattle.declared_names.specs.declared.numbers.Numbers.{Numbers}
-
--- a name that stands for its own number alone
-abbrev pub numbered_from : ℕ → List Entry → List Named
-numbered_from s [] = []
-numbered_from s (e ∷ es) = record { name = e.name; signals = s ∷ [] } ∷ numbered_from (suc s) es
-
--- the first so many names, each with its own number
-abbrev pub numbered : (limit : ℕ) → List Entry → List Named
-numbered limit es = numbered_from 0 (take limit es)
 
 -- the value of a name, if it is a constant
 abbrev pub value_of : Kind → Option Tree
@@ -28,9 +18,9 @@ value_at None = None
 value_at (Some e) = value_of e.kind
 
 -- the number, if it is below the limit
-abbrev pub below_limit : (limit : ℕ) → Option ℕ → List ℕ
-below_limit limit None = []
-below_limit limit (Some j) = if nat_lt j limit then j ∷ [] else []
+abbrev pub below : (limit : ℕ) → Option ℕ → Option ℕ
+below limit None = None
+below limit (Some j) = if nat_lt j limit then Some j else None
 
 -- the number of a name in a map
 abbrev pub number_in : List (Vec ℕ × ℕ) → List ℕ → Option ℕ

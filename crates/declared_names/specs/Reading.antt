@@ -1,23 +1,21 @@
 -- What sections and constants name, as it is marked: what is read with `.Q` behind it is told as what is assigned on the clock
 -- is, and so marks strongly (ABEL-HDL Reference Manual, equations and dot extensions).
-use Rattle.std.specs.Prelude.{◌≡◌, ℕ, Bool, true, false, ◌||◌, Option, None, Some, List, [], if◌then◌else◌, map, length, replicate, slice_get}
+use Rattle.std.specs.Prelude.{◌≡◌, ℕ, Bool, true, false, ◌||◌, Option, None, Some, List, [], ◌∷◌, ◌++◌, if◌then◌else◌, map, length, replicate, slice_get, take}
 use Rattle.std.specs.List.{flat_map}
 use Rattle.abel_meaning.specs.Held.{asks_q, read_names}
-use Rattle.abel_tree.specs.Assigned.{Assigned, assigned_each, is_clocked, signals_of_name, target_extension, without_extension}
-use Rattle.abel_tree.specs.Entries.{Entry}
+use Rattle.abel_tree.specs.Assigned.{Assigned, is_clocked, target_extension, without_extension}
+use Rattle.abel_tree.specs.Entries.{Entry, find}
 use Rattle.abel_tree.specs.Extensions.{is_data, is_raw}
 use Rattle.abel_tree.specs.Ranges.{range_names}
 use Rattle.abel_tree.specs.Tree.{SectionTree, Tree}
-use Rattle.abel_tree.specs.declared.words.Extension.{Extension}
 use Rattle.abel_tree.specs.declared.words.Extension.TheVariants.{Q}
 use Rattle.abel_tree.specs.declared.words.Word.{Word}
 use Rattle.declared_names.specs.declared.following.Follow.{Follow}
 use Rattle.declared_names.specs.declared.following.Follow.TheVariants as follow
 use Rattle.declared_names.specs.declared.marks.Mark.{Mark}
-use Rattle.declared_names.specs.declared.marks.Mark.TheVariants as mark
 use Rattle.declared_names.specs.declared.numbers.FirstNames.{FirstNames}
-use Rattle.declared_names.specs.Marking.{all_marked, passed}
-use Rattle.declared_names.specs.Numbered.{IsNumbering, numbered, value_at}
+use Rattle.declared_names.specs.Marking.{all_marked, clear, passed}
+use Rattle.declared_names.specs.Numbered.{IsNumbering, value_at}
 use Rattle.name_uses.specs.NamesUsed.{UsedName, names_used}
 use Rattle.name_uses.specs.Parts as role
 use Rattle.name_uses.specs.Parts.{PartRole, PartTree}
@@ -26,9 +24,14 @@ use Rattle.name_uses.specs.Viewed.{PartedSection, with_parts}
 
 -- ---- names
 
--- a name below the limit marks its own number
+-- a name is marked by its number
+abbrev pub number_given : Option ℕ → (strong : Bool) → List Assigned
+number_given None strong = []
+number_given (Some k) strong = record { signal = k; clocked = strong } ∷ []
+
+-- a name of the first so many
 abbrev pub numbers_read : (limit : ℕ) → List Entry → List ℕ → (strong : Bool) → List Assigned
-numbers_read limit es name strong = assigned_each strong (signals_of_name (numbered limit es) name)
+numbers_read limit es name strong = number_given (find (take limit es) name) strong
 
 -- what a name or a range gives
 abbrev pub reads_to : {A : Type 0} → (List ℕ → Bool → List A) → (strong : Bool) → (first : Word) → (last : Option Word) → List A
@@ -54,41 +57,52 @@ abbrev pub value_uses : Follow → Option Tree → List UsedName
 value_uses way None = []
 value_uses way (Some value) = uses_in way value
 
--- what the name of this number gives, if it is a constant: names of earlier numbers
-abbrev pub given_by : Follow → List Entry → ℕ → (strong : Bool) → List Assigned
-given_by way es k strong = uses_read (numbers_read k es) strong (value_uses way (value_at (slice_get es k)))
+-- what these give by a mark, plainly and strongly
+abbrev pub by_mark : {A : Type 0} → (List ℕ → Bool → List A) → List UsedName → Mark → List A
+by_mark of us m = uses_read of false (if m.plain then us else []) ++ uses_read of true (if m.strong then us else [])
+
+-- what the name of this number gives by its mark, if it is a constant: names of earlier numbers
+abbrev pub given_by : Follow → List Entry → ℕ → Mark → List Assigned
+given_by way es k m = by_mark (numbers_read k es) (value_uses way (value_at (slice_get es k))) m
 
 -- ---- parts of sections
 
--- the target of an equation with this extension and sign, if it is data
-abbrev pub side_gives : {A : Type 0} → (List ℕ → Bool → List A) → Option Extension → (clocked : Bool) → List UsedName → List A
-side_gives of e clocked us = if is_data e then uses_read of (is_raw e || clocked) us else []
+-- names that an expression names, plainly or strongly
+pub record Naming : Type 0 where
+  pub strong : Bool
+  pub uses : List UsedName
 
 -- what a part assigns: a target of data, the outputs of a table, the registers of a diagram
-abbrev pub assigned_as : {A : Type 0} → (List ℕ → Bool → List A) → PartRole → Tree → List A
-assigned_as of (role.Target sign) t = side_gives of (target_extension t) (is_clocked sign) (targets_in (without_extension t))
-assigned_as of (role.Value target) t = []
-assigned_as of role.Read t = []
-assigned_as of (role.Outputs clocked) t = uses_read of clocked (targets_in t)
-assigned_as of role.Registers t = uses_read of true (targets_in t)
-assigned_as of role.Entry t = []
+abbrev pub assigned_as : PartRole → Tree → Naming
+assigned_as (role.Target sign) t =
+    record {
+      strong = is_raw (target_extension t) || is_clocked sign;
+      uses = if is_data (target_extension t) then targets_in (without_extension t) else [];
+    }
+assigned_as (role.Outputs clocked) t = record { strong = clocked; uses = targets_in t }
+assigned_as role.Registers t = record { strong = true; uses = targets_in t }
+assigned_as _ t = record { strong = false; uses = [] }
 
--- the target of a raw input gives what it would read as Q
-abbrev pub raw_reads : {A : Type 0} → (List ℕ → Bool → List A) → Tree → List A
-raw_reads of t = if is_raw (target_extension t) then uses_read of false (names_used (Some Q) (without_extension t)) else []
+-- the target of a raw input names what it would read as Q
+abbrev pub raw_names : Tree → List UsedName
+raw_names t = if is_raw (target_extension t) then names_used (Some Q) (without_extension t) else []
 
 -- what a part reads: an expression its names
-abbrev pub read_as : {A : Type 0} → (List ℕ → Bool → List A) → PartRole → Tree → List UsedName → List A
-read_as of (role.Target sign) t us = raw_reads of t
-read_as of (role.Value target) t us = uses_read of false us
-read_as of role.Read t us = uses_read of false us
-read_as of (role.Outputs clocked) t us = []
-read_as of role.Registers t us = []
-read_as of role.Entry t us = []
+abbrev pub read_as : PartRole → Tree → List UsedName → List UsedName
+read_as (role.Target sign) t us = raw_names t
+read_as (role.Value target) t us = us
+read_as role.Read t us = us
+read_as _ t us = []
+
+abbrev pub part_names : Follow → PartTree → Naming
+part_names follow.Targets p = assigned_as p.role p.tree
+part_names follow.Reads p = record { strong = false; uses = read_as p.role p.tree p.uses }
+
+abbrev pub naming_gives : {A : Type 0} → (List ℕ → Bool → List A) → Naming → List A
+naming_gives of n = uses_read of n.strong n.uses
 
 abbrev pub part_gives : {A : Type 0} → Follow → (List ℕ → Bool → List A) → PartTree → List A
-part_gives follow.Targets of p = assigned_as of p.role p.tree
-part_gives follow.Reads of p = read_as of p.role p.tree p.uses
+part_gives way of p = naming_gives of (part_names way p)
 
 abbrev pub section_gives : {A : Type 0} → Follow → (List ℕ → Bool → List A) → PartedSection → List A
 section_gives way of x = flat_map (part_gives way of) x.parts
@@ -106,4 +120,4 @@ AreMarked names old new gives =
 -- what sections give, also through constants
 abbrev pub all_marks : Follow → List Entry → List SectionTree → List Mark
 all_marks way es xs =
-    passed (given_by way es) (length es) (all_marked (replicate (length es) mark.Clear) (sections_give way (numbers_read (length es) es) xs))
+    passed (given_by way es) (length es) (all_marked (replicate (length es) clear) (sections_give way (numbers_read (length es) es) xs))

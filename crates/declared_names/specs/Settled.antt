@@ -5,8 +5,7 @@ use Rattle.abel_tree.specs.Entries.{Words, Entry, is_signal}
 use Rattle.abel_meaning.specs.Kinds.{is_registered, is_buffer, is_open, settled_words}
 use Rattle.declared_names.specs.declared.held.Held.{Held}
 use Rattle.declared_names.specs.declared.marks.Mark.{Mark}
-use Rattle.declared_names.specs.declared.marks.Mark.TheVariants as mark
-use Rattle.declared_names.specs.Marking.{is_marked, is_strong}
+use Rattle.declared_names.specs.Marking.{clear, is_marked}
 
 -- one kind, one polarity or none, and perhaps DC
 abbrev pub attribute_words : (registered buffer free dc : Bool) → Words
@@ -15,7 +14,7 @@ attribute_words registered buffer free dc =
 
 -- the name of this number is held
 abbrev pub is_held_at : Held → ℕ → Bool
-is_held_at held s = held.all || is_strong (get_or held.read.items s mark.Clear)
+is_held_at held s = held.all || (get_or held.read.items s clear).strong
 
 -- a signal's words with its kind
 abbrev pub words_by : Flip → (held : Bool) → Words → (registered : Bool) → Words
@@ -26,7 +25,7 @@ words_by flip held words registered =
 abbrev pub kind_by : Flip → Mark → (held : Bool) → Entry → Entry
 kind_by flip m held e =
     record e {
-      words = if is_signal e.kind then words_by flip held e.words (is_registered e.words (is_strong m)) else e.words;
+      words = if is_signal e.kind then words_by flip held e.words (is_registered e.words m.strong) else e.words;
       assigned = is_signal e.kind && is_marked m;
     }
 
@@ -34,4 +33,4 @@ kind_by flip m held e =
 abbrev pub kinds_by : Flip → List Mark → Held → ℕ → List Entry → List Entry
 kinds_by flip ms held s [] = []
 kinds_by flip ms held s (e ∷ es) =
-    kind_by flip (get_or ms s mark.Clear) (is_held_at held s) e ∷ kinds_by flip ms held (suc s) es
+    kind_by flip (get_or ms s clear) (is_held_at held s) e ∷ kinds_by flip ms held (suc s) es

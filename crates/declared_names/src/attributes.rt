@@ -1,10 +1,9 @@
 //! What is said of a signal, and what its attributes become.
 
 ghost use Rattle.std.specs.Prelude.{◌≡◌};
-ghost use Rattle.abel_meaning.specs.Kinds.{is_buffer, is_buffer_by_default, is_open, is_registered};
+ghost use Rattle.abel_meaning.specs.Kinds.{is_buffer, is_open, is_registered};
 ghost use Rattle.abel_tree.specs.Entries.{view_attributes};
 ghost use Rattle.declared_names.specs.Settled.{attribute_words, words_by};
-ghost use Rattle.declared_names.specs.Marking.{is_strong};
 
 use crate::marks::Mark;
 use abel_tree::Attributes;
@@ -13,19 +12,12 @@ use pld_device::Flip;
 
 /// The attributes of a signal: its kind, its polarity and DC; neither polarity where it is free.
 pub(crate) fn settled_attributes(flip: Flip, said: Attributes, mark: Mark, held: bool) -> Attributes
-    ensures { view_attributes result ≡ words_by flip held (view_attributes said) (is_registered (view_attributes said) (is_strong mark)) }
+    ensures { view_attributes result ≡ words_by flip held (view_attributes said) (is_registered (view_attributes said) mark.strong) }
 {
-    let registered = is_registered(said, mark.is_strong());
+    let registered = is_registered(said, mark.strong);
     let buffer = is_buffer(flip, said);
     let free = registered && is_open(flip, said) && !held;
     attributes_of(registered, buffer, free, said.contains(Attributes::DC))
-}
-
-/// Whether a register's pin equals Q where no word says its polarity.
-fn is_buffer_by_default(flip: Flip) -> bool
-    ensures { result ≡ is_buffer_by_default flip }
-{
-    matches!(flip, Flip::AfterRegister)
 }
 
 /// Whether neither polarity is said, and the device leaves it to the fitter.
@@ -34,7 +26,7 @@ fn is_open(flip: Flip, said: Attributes) -> bool
 {
     !said.contains(Attributes::BUFFER)
         && !said.contains(Attributes::INVERT)
-        && is_buffer_by_default(flip)
+        && matches!(flip, Flip::AfterRegister)
 }
 
 /// Whether a signal is a register.
@@ -48,8 +40,7 @@ fn is_registered(said: Attributes, clocked: bool) -> bool
 fn is_buffer(flip: Flip, said: Attributes) -> bool
     ensures { result ≡ is_buffer flip (view_attributes said) }
 {
-    said.contains(Attributes::BUFFER)
-        || (!said.contains(Attributes::INVERT) && is_buffer_by_default(flip))
+    said.contains(Attributes::BUFFER) || is_open(flip, said)
 }
 
 /// The set of one kind, one polarity or none, and perhaps DC.

@@ -1,12 +1,11 @@
 //! From the last constant to the first: what is in a constant that is marked is marked.
 
-ghost use Rattle.std.specs.Prelude.{◌≡◌, IfOk, OnOk, get_or, length, map};
+ghost use Rattle.std.specs.Prelude.{◌≡◌, [], IfOk, OnOk, get_or, if◌then◌else◌, length, map};
 ghost use Rattle.abel_tree.specs.Entries.{view_declared};
 ghost use Rattle.abel_tree.specs.View.{view, view_module};
-ghost use Rattle.declared_names.specs.Marking.{pass_by, passed};
+ghost use Rattle.declared_names.specs.Marking.{all_marked, clear, passed};
 ghost use Rattle.declared_names.specs.Numbered.{IsNumbering};
 ghost use Rattle.declared_names.specs.Reading.{all_marks, given_by, uses_in};
-ghost use Rattle.declared_names.specs.declared.marks.Mark.TheVariants.{Clear};
 ghost use Rattle.name_uses.specs.Viewed.{view_use};
 
 use crate::constants::constant_at;
@@ -47,7 +46,7 @@ impl Numbers {
         ensures { IfOk result (λ marks. marks.items
             ≡ all_marks follow (map view_declared names.now) (view_module source.now).sections) }
     {
-        let mut marks = vec![in alloc; Mark::Clear; names.len()]?;
+        let mut marks = vec![in alloc; Mark::clear(); names.len()]?;
         let all = FirstNames {
             numbers: self,
             limit: names.len(),
@@ -82,8 +81,15 @@ impl Numbers {
     }
 }
 
+/// These uses, or none.
+fn uses_if<'a, 'b>(asked: bool, uses: &'b [NameUse<'a>]) -> &'b [NameUse<'a>]
+    ensures { result.now ≡ (if asked then uses.now else []) }
+{
+    if asked { uses } else { &[] }
+}
+
 impl FirstNames<'_> {
-    /// Marks what is in the name behind them, if it is a constant that is marked.
+    /// Marks what is in the name behind them by its mark, if it is a constant.
     fn pass_last(
         &self,
         alloc: Global,
@@ -92,17 +98,15 @@ impl FirstNames<'_> {
         follow: Follow,
     ) -> Result<(), OutOfMemory>
         requires { IsNumbering self.now.numbers.now (map view_declared names.now) }
-        ensures { OnOk result (marks.new.items ≡ pass_by (get_or marks.old.items self.now.limit Clear)
-            (given_by follow (map view_declared names.now) self.now.limit) marks.old.items) }
+        ensures { OnOk result (marks.new.items ≡ all_marked marks.old.items
+            (given_by follow (map view_declared names.now) self.now.limit (get_or marks.old.items self.now.limit clear))) }
     {
-        let mark = mark_of(marks.as_slice(), self.limit);
-        let Some(strong) = mark.strength() else {
-            return Ok(());
-        };
         let Some(value) = constant_at(names, self.limit) else {
             return Ok(());
         };
+        let mark = mark_of(marks.as_slice(), self.limit);
         let uses = uses_in(alloc, value, follow)?;
-        self.mark_uses(alloc, marks, strong, uses.as_slice())
+        self.mark_uses(alloc, marks, false, uses_if(mark.plain, uses.as_slice()))?;
+        self.mark_uses(alloc, marks, true, uses_if(mark.strong, uses.as_slice()))
     }
 }

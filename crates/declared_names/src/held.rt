@@ -2,7 +2,7 @@
 
 ghost use Rattle.std.specs.Prelude.{◌≡◌, map};
 ghost use Rattle.std.specs.List.{list_any};
-ghost use Rattle.abel_meaning.specs.Held.{is_shared, part_shares, sections_parts};
+ghost use Rattle.abel_meaning.specs.Held.{part_shares, sections_parts};
 ghost use Rattle.abel_tree.specs.View.{view_module};
 ghost use Rattle.declared_names.specs.Settled.{is_held_at};
 ghost use Rattle.declared_names.specs.Sharing.{shares_all};
@@ -25,7 +25,7 @@ impl Held {
     pub(crate) fn is_held(&self, number: usize) -> bool
         ensures { result ≡ is_held_at self.now number }
     {
-        self.all || mark_of(self.read.as_slice(), number).is_strong()
+        self.all || mark_of(self.read.as_slice(), number).strong
     }
 }
 
@@ -59,14 +59,7 @@ fn is_shared(part: &Part<'_>) -> bool
     ensures { result ≡ shares_all (view_part part.now) }
 {
     match part.role {
-        Role::Target(_) => is_reset(extension_of(part.expr)),
+        Role::Target(_) => matches!(extension_of(part.expr), Some(Extension::Ar | Extension::Sp)),
         _ => false,
     }
-}
-
-/// Whether it is that of a reset or a preset.
-fn is_reset(extension: Option<Extension>) -> bool
-    ensures { result ≡ is_shared extension }
-{
-    matches!(extension, Some(Extension::Ar | Extension::Sp))
 }

@@ -63,31 +63,13 @@ fn settle_all(
 fn settled_by(flip: Flip, declared: Declared, mark: Mark, held: bool) -> Declared
     ensures { view_declared result ≡ kind_by flip mark held (view_declared declared) }
 {
-    let Declared {
-        name,
-        place,
-        meaning,
-        attributes,
-        assigned: _,
-    } = declared;
-    if is_signal(&meaning) {
-        let attributes = settled_attributes(flip, attributes, mark, held);
-        let assigned = mark != Mark::Clear;
-        return Declared {
-            name,
-            place,
-            meaning,
-            attributes,
-            assigned,
-        };
+    let mut settled = declared;
+    settled.assigned = false;
+    if is_signal(&settled.meaning) {
+        settled.attributes = settled_attributes(flip, settled.attributes, mark, held);
+        settled.assigned = mark.is_marked();
     }
-    Declared {
-        name,
-        place,
-        meaning,
-        attributes,
-        assigned: false,
-    }
+    settled
 }
 
 /// Whether a name is a signal.

@@ -1,57 +1,59 @@
 //! The marks of names: what targets name, and what is read.
 
 ghost use Rattle.std.specs.Prelude.{◌≡◌, get_or};
-ghost use Rattle.declared_names.specs.Marking.{hit, is_strong, raised, strength};
-ghost use Rattle.declared_names.specs.declared.marks.Mark.TheVariants.{Clear};
+ghost use Rattle.declared_names.specs.Marking.{clear, hit, is_marked, raised};
 
-/// Whether something names a name, and whether it does so strongly: a target on the clock, or a read of its Q.
-#[derive(Clone, Copy, PartialEq, Eq)]
-pub(crate) enum Mark {
-    Clear,
-    Plain,
-    Strong,
+/// How a name is named: plainly, and strongly, which is as a target on the clock or by a read of its Q.
+#[derive(Clone, Copy)]
+pub(crate) struct Mark {
+    pub(crate) plain: bool,
+    pub(crate) strong: bool,
 }
 
 impl Mark {
+    /// The mark of what nothing names.
+    pub(crate) fn clear() -> Mark
+        ensures { result ≡ clear }
+    {
+        Mark {
+            plain: false,
+            strong: false,
+        }
+    }
+
     /// The mark once it is named once more.
     fn raised(self, strong: bool) -> Mark
         ensures { result ≡ raised strong self }
     {
-        match (self, strong) {
-            (_, true) => Mark::Strong,
-            (Mark::Clear, false) => Mark::Plain,
-            (Mark::Plain, false) => Mark::Plain,
-            (Mark::Strong, false) => Mark::Strong,
+        if strong {
+            Mark {
+                plain: self.plain,
+                strong: true,
+            }
+        } else {
+            Mark {
+                plain: true,
+                strong: self.strong,
+            }
         }
     }
 
-    /// Whether it is strong, if something names it.
-    pub(crate) fn strength(self) -> Option<bool>
-        ensures { result ≡ strength self }
+    /// Whether something names it.
+    pub(crate) fn is_marked(self) -> bool
+        ensures { result ≡ is_marked self }
     {
-        match self {
-            Mark::Clear => None,
-            Mark::Plain => Some(false),
-            Mark::Strong => Some(true),
-        }
-    }
-
-    /// Whether something names it strongly.
-    pub(crate) fn is_strong(self) -> bool
-        ensures { result ≡ is_strong self }
-    {
-        matches!(self, Mark::Strong)
+        self.plain || self.strong
     }
 }
 
 /// The mark of a name.
 pub(crate) fn mark_of(marks: &[Mark], number: usize) -> Mark
-    ensures { result ≡ get_or marks.now number Clear }
+    ensures { result ≡ get_or marks.now number clear }
 {
     if number < marks.len() {
         marks[number]
     } else {
-        Mark::Clear
+        Mark::clear()
     }
 }
 

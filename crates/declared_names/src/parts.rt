@@ -1,13 +1,13 @@
 //! What the parts of sections assign, and what they read.
 
-ghost use Rattle.std.specs.Prelude.{◌≡◌, OnOk, map};
+ghost use Rattle.std.specs.Prelude.{◌≡◌, OnOk, false, map};
 ghost use Rattle.std.specs.List.{flat_map};
 ghost use Rattle.abel_tree.specs.Assigned.{is_clocked, target_extension};
 ghost use Rattle.abel_tree.specs.View.{view, view_module};
-ghost use Rattle.declared_names.specs.Reading.{AreMarked, assigned_as, part_gives, raw_reads, read_as, sections_give, uses_read};
+ghost use Rattle.declared_names.specs.Reading.{AreMarked, assigned_as, naming_gives, part_gives, raw_names, sections_give, uses_read};
 ghost use Rattle.name_uses.specs.Parts.{Target};
 ghost use Rattle.name_uses.specs.Targets.{targets_in};
-ghost use Rattle.name_uses.specs.Viewed.{view_part, view_role};
+ghost use Rattle.name_uses.specs.Viewed.{view_part};
 
 use crate::following::Follow;
 use crate::marks::Mark;
@@ -75,7 +75,8 @@ impl FirstNames<'_> {
         Ok(())
     }
 
-    /// Marks what a part assigns, or what it reads.
+    /// Marks what a part assigns: a target of data, the outputs of a table, the registers of a diagram. Or what it
+    /// reads, strongly that whose Q is read.
     fn mark_part(
         &self,
         alloc: Global,
@@ -87,26 +88,19 @@ impl FirstNames<'_> {
             (λ of. part_gives follow of (view_part part.now))) }
     {
         match follow {
-            Follow::Targets => self.mark_assigned(alloc, marks, part),
-            Follow::Reads => self.mark_read(alloc, marks, part),
-        }
-    }
-
-    /// Marks what a part assigns: a target of data, the outputs of a table, the registers of a diagram.
-    fn mark_assigned(
-        &self,
-        alloc: Global,
-        marks: &mut Vec<Mark>,
-        part: &Part<'_>,
-    ) -> Result<(), OutOfMemory>
-        ensures { OnOk result (AreMarked self.now marks.old.items marks.new.items
-            (λ of. assigned_as of (view_role part.now.role) (view part.now.expr.now))) }
-    {
-        match part.role {
-            Role::Target(sign) => self.mark_target(alloc, marks, sign, part.expr),
-            Role::Outputs(clocked) => self.mark_targets(alloc, marks, clocked, part.expr),
-            Role::Registers => self.mark_targets(alloc, marks, true, part.expr),
-            _ => Ok(()),
+            Follow::Targets => match part.role {
+                Role::Target(sign) => self.mark_target(alloc, marks, sign, part.expr),
+                Role::Outputs(clocked) => self.mark_targets(alloc, marks, clocked, part.expr),
+                Role::Registers => self.mark_targets(alloc, marks, true, part.expr),
+                _ => Ok(()),
+            },
+            Follow::Reads => match part.role {
+                Role::Target(_) => self.mark_raw(alloc, marks, part.expr),
+                Role::Value(_) | Role::Read => {
+                    self.mark_uses(alloc, marks, false, part.uses.as_slice())
+                }
+                _ => Ok(()),
+            },
         }
     }
 
@@ -119,7 +113,7 @@ impl FirstNames<'_> {
         target: &Expr,
     ) -> Result<(), OutOfMemory>
         ensures { OnOk result (AreMarked self.now marks.old.items marks.new.items
-            (λ of. assigned_as of (Target sign) (view target.now))) }
+            (λ of. naming_gives of (assigned_as (Target sign) (view target.now)))) }
     {
         let extension = extension_of(target);
         if !Extension::is_data(extension) {
@@ -145,24 +139,6 @@ impl FirstNames<'_> {
         self.mark_uses(alloc, marks, clocked, uses.as_slice())
     }
 
-    /// Marks what a part reads, strongly that whose Q is read.
-    fn mark_read(
-        &self,
-        alloc: Global,
-        marks: &mut Vec<Mark>,
-        part: &Part<'_>,
-    ) -> Result<(), OutOfMemory>
-        ensures { OnOk result (AreMarked self.now marks.old.items marks.new.items
-            (λ of. read_as of (view_part part.now).role (view part.now.expr.now) (view_part part.now).uses)) }
-    {
-        match part.role {
-            Role::Target(_) => self.mark_raw(alloc, marks, part.expr),
-            Role::Value(_) => self.mark_uses(alloc, marks, false, part.uses.as_slice()),
-            Role::Read => self.mark_uses(alloc, marks, false, part.uses.as_slice()),
-            _ => Ok(()),
-        }
-    }
-
     /// Marks what the target of a raw input would read as Q. Its own extension counts for all of it.
     fn mark_raw(
         &self,
@@ -171,7 +147,7 @@ impl FirstNames<'_> {
         target: &Expr,
     ) -> Result<(), OutOfMemory>
         ensures { OnOk result (AreMarked self.now marks.old.items marks.new.items
-            (λ of. raw_reads of (view target.now))) }
+            (λ of. uses_read of false (raw_names (view target.now)))) }
     {
         if !Extension::is_raw(extension_of(target)) {
             return Ok(());

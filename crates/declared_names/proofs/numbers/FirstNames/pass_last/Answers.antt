@@ -1,14 +1,15 @@
--- A constant that is marked gives what is in its value; other names give nothing.
-use Rattle.std.proofs.Common.{◌≡◌, Some, map, get_or, sym, ap, ◌∙◌}
+-- A constant gives by its mark what is in its value; other names give nothing.
+use Rattle.std.proofs.Common.{◌≡◌, [], Some, false, true, map, get_or, if◌then◌else◌, sym, ap, ap₂, ◌∙◌}
 use Rattle.std.specs.Prelude.{option_map, slice_get}
+use Rattle.std.proofs.lemmas.List.Sums.{fold-append}
 use Rattle.std.proofs.lemmas.Result.{on_ok_weaker}
 use Rattle.abel_tree.specs.Entries.{view_declared}
 use Rattle.abel_tree.specs.View.{view}
-use Rattle.declared_names.specs.declared.marks.Mark.TheVariants.{Clear}
-use Rattle.declared_names.specs.Marking.{all_marked, strength}
+use Rattle.declared_names.specs.declared.marks.Mark.{Mark}
+use Rattle.declared_names.specs.Marking.{all_marked, clear, marked}
 use Rattle.declared_names.specs.Numbered.{value_at}
-use Rattle.declared_names.specs.Reading.{given_by, numbers_read, uses_read, value_uses}
-use Rattle.declared_names.proofs.Passes.{none_passed, nothing_given, nothing_passed, passed_as}
+use Rattle.declared_names.specs.Reading.{numbers_read, uses_read, value_uses}
+use Rattle.declared_names.proofs.Passes.{nothing_given, uses_asked}
 use Rattle.declared_names.proofs.numbers.FirstNames.pass_last.Goals as goal
 use Rattle.name_uses.specs.Viewed.{view_use}
 
@@ -17,25 +18,28 @@ returns c =
     let es = map view_declared c.args.names.now in
     let n = c.args.self.now.limit in
     let ms = c.args.marks.now.items in
-    let value : Some (view c.in-Some-constant_at.value.now) ≡ value_at (slice_get es n) = sym (ap (option_map (λ e. view e.now)) c.in-Some-constant_at.is) ∙ c.constant_at.ensures in
-    let marked : strength (get_or ms n Clear) ≡ Some c.in-Some.strong = ap strength (sym (c.mark_of-mark.ensures ∙ ap (λ xs. get_or xs n Clear) c.as_slice.ensures.value)) ∙ (sym c.strength.ensures ∙ c.in-Some.is) in
-    on_ok_weaker c.mark_uses.result
+    let m = get_or ms n clear in
+    let of = numbers_read n es in
+    let us = value_uses c.args.follow (value_at (slice_get es n)) in
+    let mark : c.mark_of-mark.result ≡ m = c.mark_of-mark.ensures ∙ ap (λ xs. get_or xs n clear) c.as_slice.ensures.value in
+    let value : Some (view c.in-Some.value.now) ≡ value_at (slice_get es n) = sym (ap (option_map (λ e. view e.now)) c.in-Some.is) ∙ c.constant_at.ensures in
+    let uses : map view_use c.in_ok-uses.uses.items ≡ us = c.in_ok-uses.ensures ∙ ap (value_uses c.args.follow) value in
+    let plain : map view_use c.uses_if.result.now ≡ (if m.plain then us else []) =
+    uses_asked c.mark_of-mark.result.plain m.plain c.uses_if.result.now c.as_slice-2.result.now us c.uses_if.ensures (ap (λ (k : Mark). k.plain) mark) (ap (map view_use) c.as_slice-2.ensures.value ∙ uses) in
+    let strong : map view_use c.uses_if-2.result.now ≡ (if m.strong then us else []) =
+    uses_asked c.mark_of-mark.result.strong m.strong c.uses_if-2.result.now c.as_slice-3.result.now us c.uses_if-2.ensures (ap (λ (k : Mark). k.strong) mark) (ap (map view_use) c.as_slice-3.ensures.value ∙ uses) in
+    let first : c.mark_uses.new.marks.items ≡ all_marked ms (uses_read of false (if m.plain then us else [])) =
+    c.in_ok-mark_uses.ensures es c.requires ∙ ap (λ l. all_marked ms (uses_read of false l)) plain in
+    on_ok_weaker c.mark_uses-2.result
     (λ h.
     h es c.requires
-    ∙ (ap (λ us. all_marked ms (uses_read (numbers_read n es) c.in-Some.strong us)) (ap (map view_use) c.as_slice-2.ensures.value ∙ (c.in_ok-uses.ensures ∙ ap (value_uses c.args.follow) value))
-    ∙ passed_as (get_or ms n Clear) c.in-Some.strong (given_by c.args.follow es n) ms marked))
-    c.mark_uses.ensures
+    ∙ (ap₂ (λ xs l. all_marked xs (uses_read of true l)) first strong
+    ∙ sym (fold-append marked ms (uses_read of false (if m.plain then us else [])) (uses_read of true (if m.strong then us else [])))))
+    c.mark_uses-2.ensures
 
 pub returns-in_default : goal.returns-in_default
 returns-in_default c =
     let es = map view_declared c.args.names.now in
     let n = c.args.self.now.limit in
     let ms = c.args.marks.now.items in
-    none_passed (get_or ms n Clear) (given_by c.args.follow es n) ms (ap strength (sym (c.mark_of-mark.ensures ∙ ap (λ xs. get_or xs n Clear) c.as_slice.ensures.value)) ∙ (sym c.strength.ensures ∙ c.in_default.is))
-
-pub returns-in_default-constant_at : goal.returns-in_default-constant_at
-returns-in_default-constant_at c =
-    let es = map view_declared c.args.names.now in
-    let n = c.args.self.now.limit in
-    let ms = c.args.marks.now.items in
-    nothing_passed (get_or ms n Clear) (given_by c.args.follow es n) ms (nothing_given c.args.follow es n (sym c.constant_at.ensures ∙ ap (option_map (λ e. view e.now)) c.in_default-constant_at.is))
+    sym (ap (all_marked ms) (nothing_given c.args.follow es n (get_or ms n clear) (sym c.constant_at.ensures ∙ ap (option_map (λ e. view e.now)) c.in_default.is)))
