@@ -1,8 +1,9 @@
 -- The graph of links is that of a design's signals.
-use Rattle.std.proofs.Common.{◌≡◌, ℕ, ◌<◌, Bool, true, false, not, ◌&&◌, ◌||◌, List, length, get_or, map, Option, Some, None, eqb, refl, sym, ap, ◌∙◌, subst, arith}
-use Rattle.std.specs.Prelude.{All, is_some, IsSome, option_map, if◌then◌else◌}
-use Rattle.std.proofs.lemmas.Bool.{and_parts}
+use Rattle.std.proofs.Common.{◌≡◌, ℕ, ◌<◌, ◌==◌, Bool, true, false, not, ◌&&◌, ◌||◌, List, length, get_or, map, Option, Some, None, eqb, refl, sym, ap, ◌∙◌, subst, arith}
+use Rattle.std.specs.Prelude.{All, is_some, IsSome, option_map, position, unwrap_or, if◌then◌else◌}
+use Rattle.std.proofs.lemmas.Bool.{and_parts, eq-eqb, eqb-true}
 use Rattle.std.proofs.lemmas.List.Folds.{list_any_at}
+use Rattle.std.proofs.lemmas.List.Quantifiers.{position-Some}
 use Rattle.pld_order.specs.Graphs.{has}
 use Rattle.pld_order.proofs.Lists.{eqb_same}
 use Rattle.pld_device.specs.Table.{Table}
@@ -16,6 +17,7 @@ use Rattle.pld_device.specs.Pins.{cell_on}
 use Rattle.abel_meaning.specs.Designs.{Design, name_at, no_name}
 use Rattle.abel_meaning.specs.SignalReads.{given_formulas, leaf_by, leaf_of, settles, settles_by, signal_names, signal_reads, is_one_of, reset_equation_reads, is_stored_signal, IsSignalLoop, HasNoSignalLoop, IsSignalPath, HasNoSignalPath}
 use Rattle.netlist_laws.specs.Gathered.{cell_by}
+use Rattle.netlist_laws.proofs.SoundLeaves.{some_place}
 use Rattle.gathering.specs.declared.link.Link.{Link}
 use Rattle.gathering.specs.Links.{has_leaf, has_if_any, leaf_in, is_read_by, link_reads, is_stored_in, AreLeaves, IsFirstChain, HasNoChain, IsRegisterPath, HasNoRegisterPath}
 use Rattle.gathering.proofs.LinkSets.{leaf_there, stored_there, reads_there}
@@ -117,11 +119,20 @@ module _ (d : Design) (cells : AssignedHaveCells d.context) where
         reads_there ls ls v w no_link v_in
         ∙ read_same (settles (name_at d.context (up v))) (signal_names d.context (given_formulas d) (up v)) (get_or ls v no_link).reads w w_in (link_of v v_in).reads
 
+    -- the place of a signal among the links
+    abbrev down : ℕ → ℕ
+    down s = unwrap_or (position (λ k. k == s) ns) 0
+
     abbrev IsLinked : ℕ → Type 0
-    IsLinked s = (v : ℕ) × (v < length ls) × (up v ≡ s)
+    IsLinked s = (down s < length ls) × (up (down s) ≡ s)
 
     linked_there : (s : ℕ) → is_linked d.context.device (name_at d.context s) ≡ true → IsLinked s
-    linked_there s linked = let at = known.each s linked in (at.0, at.1, omega (arith, at.2))
+    linked_there s linked =
+        let at = known.each s linked in
+        let found = some_place (λ k. k == s) 0 ns at.0 (omega (arith, at.1, known.count)) (eq-eqb (get_or ns at.0 0) s (omega (arith, at.2))) in
+        let here = position-Some (λ k. k == s) ns found.0 0 found.1 in
+        let is : down s ≡ found.0 = ap (λ o. unwrap_or o 0) found.1 in
+        (omega (arith, here.0, known.count, is), ap up is ∙ eqb-true (get_or ns found.0 0) s here.1)
 
     reader : (s r : ℕ) → signal_reads d s r ≡ true → IsLinked s
     reader s r reads = linked_there s (settling_linked s (name_at d.context s).kind refl (and_parts (settles (name_at d.context s)) (is_one_of (signal_names d.context (given_formulas d) s) (leaf_of d.context r)) reads).0)
@@ -130,10 +141,10 @@ module _ (d : Design) (cells : AssignedHaveCells d.context) where
     readee s r reads = linked_there r (one_linked r (signal_names d.context (given_formulas d) s) (leaf_of d.context r) refl (and_parts (settles (name_at d.context s)) (is_one_of (signal_names d.context (given_formulas d) s) (leaf_of d.context r)) reads).1)
 
     pub loop_told : (chain : List ℕ) → IsFirstChain ls chain → IsSignalLoop d (map up chain)
-    loop_told chain is = least_up up (length ls) known.rises (link_reads ls) (signal_reads d) same_reads (length d.context.names) up_in reader readee chain is
+    loop_told chain is = least_up up down (length ls) (length d.context.names) known.rises up_in (link_reads ls) (signal_reads d) same_reads reader readee chain is
 
     pub no_loop_told : HasNoChain ls → HasNoSignalLoop d
-    no_loop_told none = no_loop_up up (length ls) known.rises (link_reads ls) (signal_reads d) same_reads (length d.context.names) up_in reader readee none
+    no_loop_told none = no_loop_up up down (length ls) (length d.context.names) known.rises up_in (link_reads ls) (signal_reads d) same_reads reader readee none
 
     module _ (s : ℕ) (r : Reads) (reset : AreReads (reset_names d s) r) where
       same_starts : (v : ℕ) → v < length ls → is_read_by r ls v ≡ reset_equation_reads d s (up v)
@@ -146,7 +157,7 @@ module _ (d : Design) (cells : AssignedHaveCells d.context) where
       starter n reads = linked_there n (one_linked n (reset_names d s) (leaf_of d.context n) refl reads)
 
       pub path_told : (path : List ℕ) → IsRegisterPath ls r path → IsSignalPath d s (map up path)
-      path_told path is = path_up up (length ls) known.rises (link_reads ls) (signal_reads d) same_reads (length d.context.names) up_in reader readee (is_read_by r ls) (is_stored_in ls) (reset_equation_reads d s) (is_stored_signal d.context) same_starts same_ends starter path is
+      path_told path is = path_up up down (length ls) (length d.context.names) known.rises up_in (link_reads ls) (signal_reads d) same_reads reader readee (is_read_by r ls) (is_stored_in ls) (reset_equation_reads d s) (is_stored_signal d.context) same_starts same_ends starter path is
 
       pub no_path_told : HasNoRegisterPath ls r → HasNoSignalPath d s
-      no_path_told none = no_path_up up (length ls) known.rises (link_reads ls) (signal_reads d) same_reads (length d.context.names) up_in reader readee (is_read_by r ls) (is_stored_in ls) (reset_equation_reads d s) (is_stored_signal d.context) same_starts same_ends starter none
+      no_path_told none = no_path_up up down (length ls) (length d.context.names) known.rises up_in (link_reads ls) (signal_reads d) same_reads reader readee (is_read_by r ls) (is_stored_in ls) (reset_equation_reads d s) (is_stored_signal d.context) same_starts same_ends starter none

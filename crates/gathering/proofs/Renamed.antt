@@ -1,11 +1,11 @@
--- A graph and a larger one, of whose vertices only the images of the first graph's read or are read: the loops and
--- paths of both are each other's.
-use Rattle.std.proofs.Common.{◌≡◌, ◌≢◌, ℕ, ◌<◌, ◌≤◌, Bool, true, false, eqb, List, [], ◌∷◌, ◌++◌, map, get_or, refl, ap, sym, ◌∙◌, subst, arith, eqb-true, ne_eqb, inl, inr}
+-- Vertices by other names: a graph and a larger one, of whose vertices only those of the first graph read or are read, have
+-- the same loops and paths.
+use Rattle.std.proofs.Common.{◌≡◌, ◌≢◌, ℕ, ◌<◌, ◌≤◌, Bool, true, false, eqb, List, [], ◌∷◌, ◌++◌, map, get_or, refl, ap, ap₂, sym, ◌∙◌, subst, arith, eqb-true, ne_eqb, inl, inr}
 use Rattle.std.specs.List.{IsDistinct, AllByRecursion}
 use Rattle.std.proofs.lemmas.Bool.{true≢false, cases_eq, cases_lt, eq-eqb, or_cases, or_left, or_right}
 use Rattle.std.proofs.lemmas.List.{map-append}
 use Rattle.pld_order.specs.Graphs.{has, IsChain, IsLoop, IsLeastLoop, HasNoLoop, IsPath, HasNoPath}
-use Rattle.pld_order.proofs.Lists.{eqb_same, inside_push}
+use Rattle.pld_order.proofs.Lists.{eqb_same, has_push}
 
 first_in : (x : ℕ) (xs : List ℕ) → has (x ∷ xs) x ≡ true
 first_in x xs = or_left (eqb x x) (has xs x) (eqb_same x)
@@ -30,219 +30,168 @@ imaged up (y ∷ ys) x there =
       | inr later ↦ later_in (up y) (map up ys) (up x) (imaged up ys x later)
     ]
 
-module _ (up : ℕ → ℕ) (count : ℕ) (rises : (v w : ℕ) → v < w → w < count → up v < up w) where
-  -- images are equal only where what they are of is
+before_in : (before : List ℕ) (last v : ℕ) → has before v ≡ true → has (before ++ last ∷ []) v ≡ true
+before_in [] last v there = absurd (true≢false (sym there))
+before_in (x ∷ xs) last v there =
+    elim (or_cases (eqb v x) (has xs v) there) [
+      | inl here ↦ or_left (eqb v x) (has (xs ++ last ∷ []) v) here
+      | inr later ↦ later_in x (xs ++ last ∷ []) v (before_in xs last v later)
+    ]
+
+last_in : (before : List ℕ) (last : ℕ) → has (before ++ last ∷ []) last ≡ true
+last_in [] last = first_in last []
+last_in (x ∷ xs) last = later_in x (xs ++ last ∷ []) last (last_in xs last)
+
+begin_in : (before : List ℕ) (last : ℕ) → has (before ++ last ∷ []) (get_or (before ++ last ∷ []) 0 0) ≡ true
+begin_in [] last = first_in last []
+begin_in (x ∷ xs) last = first_in x (xs ++ last ∷ [])
+
+-- ---- other names for some vertices, which stay apart
+
+module _ (D : ℕ → Type 0) (name : ℕ → ℕ) (apart : (v w : ℕ) → D v → D w → name v ≡ name w → v ≡ w) where
+  abbrev pub AllIn : List ℕ → Type 0
+  AllIn xs = (v : ℕ) → has xs v ≡ true → D v
+
+  apart_from : (x : ℕ) (ys : List ℕ) → D x → AllIn ys → AllByRecursion (λ y. eqb x y ≡ false) ys → AllByRecursion (λ y. eqb (name x) y ≡ false) (map name ys)
+  apart_from x [] x_in inside once = once
+  apart_from x (y ∷ ys) x_in inside once = (
+    ne_eqb (name x) (name y) (λ e. true≢false (sym (eq-eqb x y (apart x y x_in (inside y (first_in y ys)) e)) ∙ once.0)),
+    apart_from x ys x_in (λ z there. inside z (later_in y ys z there)) once.1,
+  )
+
+  named_once : (ys : List ℕ) → AllIn ys → IsDistinct eqb ys → IsDistinct eqb (map name ys)
+  unfolding IsDistinct
+  named_once [] inside once = once
+  named_once (y ∷ ys) inside once = (apart_from y ys (inside y (first_in y ys)) (λ z there. inside z (later_in y ys z there)) once.0, named_once ys (λ z there. inside z (later_in y ys z there)) once.1)
+
+  -- which read as those of another graph
+  module _ (g h : ℕ → ℕ → Bool) (same : (v w : ℕ) → D v → D w → g v w ≡ h (name v) (name w)) (m n : ℕ) (within : (v : ℕ) → D v → name v < n) where
+    named_chain : (xs : List ℕ) (end : ℕ) → AllIn xs → D end → IsChain g xs end → IsChain h (map name xs) (name end)
+    named_chain [] end inside end_in chain = tt
+    named_chain (x ∷ []) end inside end_in chain = (sym (same x end (inside x (first_in x [])) end_in) ∙ chain.0, tt)
+    named_chain (x ∷ y ∷ xs) end inside end_in chain = (
+      sym (same x y (inside x (first_in x (y ∷ xs))) (inside y (later_in x (y ∷ xs) y (first_in y xs)))) ∙ chain.0,
+      named_chain (y ∷ xs) end (λ v there. inside v (later_in x (y ∷ xs) v there)) end_in chain.1,
+    )
+
+    named_within : (xs : List ℕ) → AllIn xs → (v : ℕ) → has (map name xs) v ≡ true → v < n
+    named_within xs inside v there = let of = image name xs v there in subst (λ k. k < n) of.2 (within of.0 (inside of.0 of.1))
+
+    pub named_loop : (chain : List ℕ) → AllIn chain → IsLoop m g chain → IsLoop n h (map name chain)
+    named_loop [] inside is = absurd (is.some refl)
+    named_loop (x ∷ xs) inside is = record {
+      some = λ e. absurd cc;
+      inside = named_within (x ∷ xs) inside;
+      once = named_once (x ∷ xs) inside is.once;
+      returns = named_chain (x ∷ xs) x inside (inside x (first_in x xs)) is.returns;
+    }
+
+    module _ (starts ends begins stops : ℕ → Bool) (same_starts : (v : ℕ) → D v → starts v ≡ begins (name v)) (same_ends : (v : ℕ) → D v → ends v ≡ stops (name v)) where
+      first_of : (before : List ℕ) (last : ℕ) → get_or (map name (before ++ last ∷ [])) 0 0 ≡ name (get_or (before ++ last ∷ []) 0 0)
+      first_of [] last = refl
+      first_of (x ∷ xs) last = refl
+
+      pub named_path : (path : List ℕ) → AllIn path → IsPath m g starts ends path → IsPath n h begins stops (map name path)
+      named_path path inside is =
+          let all : AllIn (is.before ++ is.last ∷ []) = (λ v there. inside v (subst (λ p. has p v ≡ true) (sym is.is) there)) in
+          record {
+            before = map name is.before;
+            last = name is.last;
+            is = ap (map name) is.is ∙ map-append name is.before (is.last ∷ []);
+            inside = named_within path inside;
+            begins = ap begins (ap (λ p. get_or (map name p) 0 0) is.is ∙ first_of is.before is.last)
+                ∙ sym (same_starts (get_or (is.before ++ is.last ∷ []) 0 0) (all (get_or (is.before ++ is.last ∷ []) 0 0) (begin_in is.before is.last)))
+                ∙ ap (λ p. starts (get_or p 0 0)) (sym is.is) ∙ is.begins;
+            leads = named_chain is.before is.last (λ v there. all v (before_in is.before is.last v there)) (all is.last (last_in is.before is.last)) is.leads;
+            arrives = sym (same_ends is.last (all is.last (last_in is.before is.last))) ∙ is.arrives;
+          }
+
+-- ---- a graph within a larger one
+
+module _ (up down : ℕ → ℕ) (count n : ℕ) (rises : (v w : ℕ) → v < w → w < count → up v < up w) (up_in : (v : ℕ) → v < count → up v < n)
+    (g h : ℕ → ℕ → Bool) (same : (v w : ℕ) → v < count → w < count → g v w ≡ h (up v) (up w)) where
+  abbrev IsInside : ℕ → Type 0
+  IsInside v = v < count
+
+  -- a vertex of the larger graph that is one of the first
+  abbrev pub IsImage : ℕ → Type 0
+  IsImage s = (down s < count) × (up (down s) ≡ s)
+
   injective : (v w : ℕ) → v < count → w < count → up v ≡ up w → v ≡ w
-  injective v w v_in w_in same =
+  injective v w v_in w_in is =
       elim (cases_eq v w) [
-        | inl is ↦ is
+        | inl e ↦ e
         | inr other ↦ elim (cases_lt v w) [
-          | inl less ↦ absurd (omega (arith, rises v w less w_in, same))
-          | inr high ↦ let less : w < v = omega (arith, high, other) in absurd (omega (arith, rises w v less v_in, same))
+          | inl less ↦ absurd (omega (arith, rises v w less w_in, is))
+          | inr high ↦ let less : w < v = omega (arith, high, other) in absurd (omega (arith, rises w v less v_in, is))
         ]
       ]
 
-  abbrev Inside : List ℕ → Type 0
-  Inside ys = (y : ℕ) → has ys y ≡ true → y < count
+  down_apart : (s r : ℕ) → IsImage s → IsImage r → down s ≡ down r → s ≡ r
+  down_apart s r i j e = sym i.1 ∙ ap up e ∙ j.1
 
-  apart_up : (x : ℕ) (ys : List ℕ) → x < count → Inside ys → AllByRecursion (λ y. eqb x y ≡ false) ys → AllByRecursion (λ y. eqb (up x) y ≡ false) (map up ys)
-  apart_up x [] x_in inside apart = apart
-  apart_up x (y ∷ ys) x_in inside apart = (
-    ne_eqb (up x) (up y) (λ e. true≢false (sym (eq-eqb x y (injective x y x_in (inside y (first_in y ys)) e)) ∙ apart.0)),
-    apart_up x ys x_in (λ z there. inside z (later_in y ys z there)) apart.1,
-  )
+  down_same : (s r : ℕ) → IsImage s → IsImage r → h s r ≡ g (down s) (down r)
+  down_same s r i j = ap₂ h (sym i.1) (sym j.1) ∙ sym (same (down s) (down r) i.0 j.0)
 
-  apart_down : (x : ℕ) (ys : List ℕ) → AllByRecursion (λ y. eqb (up x) y ≡ false) (map up ys) → AllByRecursion (λ y. eqb x y ≡ false) ys
-  apart_down x [] apart = apart
-  apart_down x (y ∷ ys) apart = (
-    ne_eqb x y (λ e. true≢false (sym (eq-eqb (up x) (up y) (ap up e)) ∙ apart.0)),
-    apart_down x ys apart.1,
-  )
+  module _ (reader : (s r : ℕ) → h s r ≡ true → IsImage s) (readee : (s r : ℕ) → h s r ≡ true → IsImage r) where
+    readers : (xs : List ℕ) (end : ℕ) → IsChain h xs end → (s : ℕ) → has xs s ≡ true → IsImage s
+    readers [] end chain s there = absurd (true≢false (sym there))
+    readers (x ∷ xs) end chain s there =
+        elim (or_cases (eqb s x) (has xs s) there) [
+          | inl here ↦ subst IsImage (sym (eqb-true s x here)) (reader x (get_or xs 0 end) chain.0)
+          | inr later ↦ readers xs end chain.1 s later
+        ]
 
-  once_up : (ys : List ℕ) → Inside ys → IsDistinct eqb ys → IsDistinct eqb (map up ys)
-  unfolding IsDistinct
-  once_up [] inside once = once
-  once_up (y ∷ ys) inside once = (apart_up y ys (inside y (first_in y ys)) (λ z there. inside z (later_in y ys z there)) once.0, once_up ys (λ z there. inside z (later_in y ys z there)) once.1)
+    loop_down : (chain : List ℕ) → IsLoop n h chain → IsLoop count g (map down chain)
+    loop_down chain is = named_loop IsImage down down_apart h g down_same n count (λ s i. i.0) chain (readers chain (get_or chain 0 0) is.returns) is
 
-  once_down : (ys : List ℕ) → IsDistinct eqb (map up ys) → IsDistinct eqb ys
-  unfolding IsDistinct
-  once_down [] once = once
-  once_down (y ∷ ys) once = (apart_down y ys once.0, once_down ys once.1)
+    pub no_loop_up : HasNoLoop count g → HasNoLoop n h
+    no_loop_up none chain is = none (map down chain) (loop_down chain is)
 
-  module _ (g h : ℕ → ℕ → Bool) (same : (v w : ℕ) → v < count → w < count → g v w ≡ h (up v) (up w)) where
-    chain_up : (xs : List ℕ) (end : ℕ) → Inside xs → end < count → IsChain g xs end → IsChain h (map up xs) (up end)
-    chain_up [] end inside end_in chain = tt
-    chain_up (x ∷ []) end inside end_in chain = (sym (same x end (inside x (first_in x [])) end_in) ∙ chain.0, tt)
-    chain_up (x ∷ y ∷ xs) end inside end_in chain = (
-      sym (same x y (inside x (first_in x (y ∷ xs))) (inside y (later_in x (y ∷ xs) y (first_in y xs)))) ∙ chain.0,
-      chain_up (y ∷ xs) end (λ v there. inside v (later_in x (y ∷ xs) v there)) end_in chain.1,
-    )
+    rises_weakly : (v w : ℕ) → v ≤ w → w < count → up v ≤ up w
+    rises_weakly v w low w_in =
+        elim (cases_eq v w) [
+          | inl is ↦ omega (arith, ap up is)
+          | inr other ↦ let less : v < w = omega (arith, low, other) in omega (arith, rises v w less w_in)
+        ]
 
-    chain_down : (xs : List ℕ) (end : ℕ) → Inside xs → end < count → IsChain h (map up xs) (up end) → IsChain g xs end
-    chain_down [] end inside end_in chain = tt
-    chain_down (x ∷ []) end inside end_in chain = (same x end (inside x (first_in x [])) end_in ∙ chain.0, tt)
-    chain_down (x ∷ y ∷ xs) end inside end_in chain = (
-      same x y (inside x (first_in x (y ∷ xs))) (inside y (later_in x (y ∷ xs) y (first_in y xs))) ∙ chain.0,
-      chain_down (y ∷ xs) end (λ v there. inside v (later_in x (y ∷ xs) v there)) end_in chain.1,
-    )
+    first_up : (chain : List ℕ) → chain ≢ [] → get_or (map up chain) 0 0 ≡ up (get_or chain 0 0)
+    first_up [] some = absurd (some refl)
+    first_up (x ∷ xs) some = refl
 
-    module _ (n : ℕ) (up_in : (v : ℕ) → v < count → up v < n) where
-      inside_up : (xs : List ℕ) → Inside xs → (v : ℕ) → has (map up xs) v ≡ true → v < n
-      inside_up xs inside v there = let of = image up xs v there in subst (λ k. k < n) of.2 (up_in of.0 (inside of.0 of.1))
+    pub least_up : (chain : List ℕ) → IsLeastLoop count g chain → IsLeastLoop n h (map up chain)
+    least_up chain is = record {
+      is_loop = named_loop IsInside up injective g h same count n up_in chain is.is_loop.inside is.is_loop;
+      least = λ other loop v there.
+          let of = readers other (get_or other 0 0) loop.returns v there in
+          let below = rises_weakly (get_or chain 0 0) (down v) (is.least (map down other) (loop_down other loop) (down v) (imaged down other v there)) of.0 in
+          omega (arith, first_up chain is.is_loop.some, below, of.1);
+    }
 
-      loop_up : (chain : List ℕ) → IsLoop count g chain → IsLoop n h (map up chain)
-      loop_up [] is = absurd (is.some refl)
-      loop_up (x ∷ xs) is = record {
-        some = λ e. absurd cc;
-        inside = inside_up (x ∷ xs) is.inside;
-        once = once_up (x ∷ xs) is.inside is.once;
-        returns = chain_up (x ∷ xs) x is.inside (is.inside x (first_in x xs)) is.returns;
-      }
+    module _ (starts ends begins stops : ℕ → Bool) (same_starts : (v : ℕ) → v < count → starts v ≡ begins (up v)) (same_ends : (v : ℕ) → v < count → ends v ≡ stops (up v))
+        (starter : (s : ℕ) → begins s ≡ true → IsImage s) where
+      pub path_up : (path : List ℕ) → IsPath count g starts ends path → IsPath n h begins stops (map up path)
+      path_up path is = named_path IsInside up injective g h same count n up_in starts ends begins stops same_starts same_ends path is.inside is
 
-      loop_down : (ys : List ℕ) → Inside ys → IsLoop n h (map up ys) → IsLoop count g ys
-      loop_down [] inside is = absurd (is.some refl)
-      loop_down (y ∷ ys) inside is = record {
-        some = λ e. absurd cc;
-        inside = inside;
-        once = once_down (y ∷ ys) is.once;
-        returns = chain_down (y ∷ ys) y inside (inside y (first_in y ys)) is.returns;
-      }
+      -- the last of a chain is read, or it is the first
+      last_image : (before : List ℕ) (last : ℕ) → IsChain h before last → begins (get_or (before ++ last ∷ []) 0 0) ≡ true → IsImage last
+      last_image [] last chain first = starter last first
+      last_image (x ∷ []) last chain first = readee x last chain.0
+      last_image (x ∷ y ∷ xs) last chain first = last_read y xs last chain.1
+        where
+          last_read : (y : ℕ) (xs : List ℕ) (last : ℕ) → IsChain h (y ∷ xs) last → IsImage last
+          last_read y [] last chain = readee y last chain.0
+          last_read y (z ∷ xs) last chain = last_read z xs last chain.1
 
-      -- ---- vertices of the larger graph
-
-      abbrev pub IsImage : ℕ → Type 0
-      IsImage s = (v : ℕ) × (v < count) × (up v ≡ s)
-
-      -- a list of images, as the list that they are of
-      abbrev Lowered : List ℕ → Type 0
-      Lowered xs = (ys : List ℕ) × Inside ys × (map up ys ≡ xs)
-
-      pushed_in : (v : ℕ) (ys : List ℕ) → v < count → Inside ys → Inside (v ∷ ys)
-      pushed_in v ys v_in inside y there =
-          elim (or_cases (eqb y v) (has ys y) there) [
-            | inl here ↦ subst (λ k. k < count) (sym (eqb-true y v here)) v_in
-            | inr later ↦ inside y later
+      path_images : (path : List ℕ) → IsPath n h begins stops path → (s : ℕ) → has path s ≡ true → IsImage s
+      path_images path is s there =
+          elim (has_push is.before is.last s (subst (λ p. has p s ≡ true) is.is there)) [
+            | inl early ↦ readers is.before is.last is.leads s early
+            | inr last ↦ subst IsImage (sym last) (last_image is.before is.last is.leads (ap (λ p. begins (get_or p 0 0)) (sym is.is) ∙ is.begins))
           ]
 
-      lowered : (xs : List ℕ) → ((s : ℕ) → has xs s ≡ true → IsImage s) → Lowered xs
-      lowered [] images = ([], λ y there. absurd (true≢false (sym there)), refl)
-      lowered (x ∷ xs) images =
-          let rest = lowered xs (λ s there. images s (later_in x xs s there)) in
-          let of = images x (first_in x xs) in (
-            of.0 ∷ rest.0,
-            pushed_in of.0 rest.0 of.1 rest.1,
-            ap (λ z. z ∷ map up rest.0) of.2 ∙ ap (λ zs. x ∷ zs) rest.2,
-          )
-
-      module _ (reader : (s r : ℕ) → h s r ≡ true → IsImage s) (readee : (s r : ℕ) → h s r ≡ true → IsImage r) where
-        readers : (xs : List ℕ) (end : ℕ) → IsChain h xs end → (s : ℕ) → has xs s ≡ true → IsImage s
-        readers [] end chain s there = absurd (true≢false (sym there))
-        readers (x ∷ xs) end chain s there =
-            elim (or_cases (eqb s x) (has xs s) there) [
-              | inl here ↦ subst IsImage (sym (eqb-true s x here)) (reader x (get_or xs 0 end) chain.0)
-              | inr later ↦ readers xs end chain.1 s later
-            ]
-
-        lowered_loop : (chain : List ℕ) → IsLoop n h chain → Lowered chain
-        lowered_loop chain is = lowered chain (readers chain (get_or chain 0 0) is.returns)
-
-        loop_below : (chain : List ℕ) (is : IsLoop n h chain) → IsLoop count g (lowered_loop chain is).0
-        loop_below chain is =
-            let low = lowered_loop chain is in
-            loop_down low.0 low.1 (subst (IsLoop n h) (sym low.2) is)
-
-        pub no_loop_up : HasNoLoop count g → HasNoLoop n h
-        no_loop_up none chain is = none (lowered_loop chain is).0 (loop_below chain is)
-
-        rises_weakly : (v w : ℕ) → v ≤ w → w < count → up v ≤ up w
-        rises_weakly v w low w_in =
-            elim (cases_eq v w) [
-              | inl is ↦ omega (arith, ap up is)
-              | inr other ↦ let less : v < w = omega (arith, low, other) in omega (arith, rises v w less w_in)
-            ]
-
-        first_up : (chain : List ℕ) → chain ≢ [] → get_or (map up chain) 0 0 ≡ up (get_or chain 0 0)
-        first_up [] some = absurd (some refl)
-        first_up (x ∷ xs) some = refl
-
-        pub least_up : (chain : List ℕ) → IsLeastLoop count g chain → IsLeastLoop n h (map up chain)
-        least_up chain is = record {
-          is_loop = loop_up chain is.is_loop;
-          least = λ other loop v there.
-              let low = lowered_loop other loop in
-              let of = image up low.0 v (subst (λ xs. has xs v ≡ true) (sym low.2) there) in
-              let below = rises_weakly (get_or chain 0 0) of.0 (is.least low.0 (loop_below other loop) of.0 of.1) (low.1 of.0 of.1) in
-              omega (arith, first_up chain is.is_loop.some, below, of.2);
-        }
-
-        module _ (starts ends begins stops : ℕ → Bool) (same_starts : (v : ℕ) → v < count → starts v ≡ begins (up v)) (same_ends : (v : ℕ) → v < count → ends v ≡ stops (up v))
-            (starter : (s : ℕ) → begins s ≡ true → IsImage s) where
-          in_path : (path before : List ℕ) (last v : ℕ) → path ≡ before ++ last ∷ [] → has (before ++ last ∷ []) v ≡ true → has path v ≡ true
-          in_path path before last v is there = subst (λ p. has p v ≡ true) (sym is) there
-
-          before_in : (before : List ℕ) (last v : ℕ) → has before v ≡ true → has (before ++ last ∷ []) v ≡ true
-          before_in [] last v there = absurd (true≢false (sym there))
-          before_in (x ∷ xs) last v there =
-              elim (or_cases (eqb v x) (has xs v) there) [
-                | inl here ↦ or_left (eqb v x) (has (xs ++ last ∷ []) v) here
-                | inr later ↦ later_in x (xs ++ last ∷ []) v (before_in xs last v later)
-              ]
-
-          last_in : (before : List ℕ) (last : ℕ) → has (before ++ last ∷ []) last ≡ true
-          last_in [] last = first_in last []
-          last_in (x ∷ xs) last = later_in x (xs ++ last ∷ []) last (last_in xs last)
-
-          first_of : (before : List ℕ) (last : ℕ) → get_or (map up (before ++ last ∷ [])) 0 0 ≡ up (get_or (before ++ last ∷ []) 0 0)
-          first_of [] last = refl
-          first_of (x ∷ xs) last = refl
-
-          begin_in : (before : List ℕ) (last : ℕ) → has (before ++ last ∷ []) (get_or (before ++ last ∷ []) 0 0) ≡ true
-          begin_in [] last = first_in last []
-          begin_in (x ∷ xs) last = first_in x (xs ++ last ∷ [])
-
-          pub path_up : (path : List ℕ) → IsPath count g starts ends path → IsPath n h begins stops (map up path)
-          path_up path is =
-              let all : Inside (is.before ++ is.last ∷ []) = (λ v there. is.inside v (in_path path is.before is.last v is.is there)) in
-              record {
-                before = map up is.before;
-                last = up is.last;
-                is = ap (map up) is.is ∙ map-append up is.before (is.last ∷ []);
-                inside = inside_up path is.inside;
-                begins = ap begins (ap (λ p. get_or (map up p) 0 0) is.is ∙ first_of is.before is.last)
-                    ∙ sym (same_starts (get_or (is.before ++ is.last ∷ []) 0 0) (all (get_or (is.before ++ is.last ∷ []) 0 0) (begin_in is.before is.last)))
-                    ∙ ap (λ p. starts (get_or p 0 0)) (sym is.is) ∙ is.begins;
-                leads = chain_up is.before is.last (λ v there. all v (before_in is.before is.last v there)) (all is.last (last_in is.before is.last)) is.leads;
-                arrives = sym (same_ends is.last (all is.last (last_in is.before is.last))) ∙ is.arrives;
-              }
-
-          -- the last of a chain is read, or it is the first
-          last_image : (before : List ℕ) (last : ℕ) → IsChain h before last → begins (get_or (before ++ last ∷ []) 0 0) ≡ true → IsImage last
-          last_image [] last chain first = starter last first
-          last_image (x ∷ []) last chain first = readee x last chain.0
-          last_image (x ∷ y ∷ xs) last chain first = last_read y xs last chain.1
-            where
-              last_read : (y : ℕ) (xs : List ℕ) (last : ℕ) → IsChain h (y ∷ xs) last → IsImage last
-              last_read y [] last chain = readee y last chain.0
-              last_read y (z ∷ xs) last chain = last_read z xs last chain.1
-
-          pub no_path_up : HasNoPath count g starts ends → HasNoPath n h begins stops
-          no_path_up none path is =
-              let first : begins (get_or (is.before ++ is.last ∷ []) 0 0) ≡ true = ap (λ p. begins (get_or p 0 0)) (sym is.is) ∙ is.begins in
-              let low = lowered is.before (readers is.before is.last is.leads) in
-              let end = last_image is.before is.last is.leads first in
-              below low.0 low.1 low.2 end.0 end.1 end.2 first
-            where
-              below : (ys : List ℕ) → Inside ys → map up ys ≡ is.before → (w : ℕ) → w < count → up w ≡ is.last → begins (get_or (is.before ++ is.last ∷ []) 0 0) ≡ true → ⊥
-              below ys inside same_list w w_in same_last first = none (ys ++ w ∷ []) (record {
-                before = ys;
-                last = w;
-                is = refl;
-                inside = all;
-                begins = same_starts (get_or (ys ++ w ∷ []) 0 0) (all (get_or (ys ++ w ∷ []) 0 0) (begin_in ys w))
-                    ∙ ap begins (sym (first_of ys w) ∙ ap (λ p. get_or p 0 0) (map-append up ys (w ∷ []) ∙ ap (λ zs. zs ++ up w ∷ []) same_list ∙ ap (λ z. is.before ++ z ∷ []) same_last)) ∙ first;
-                leads = chain_down ys w inside w_in (subst (λ zs. IsChain h zs (up w)) (sym same_list) (subst (IsChain h is.before) (sym same_last) is.leads));
-                arrives = same_ends w w_in ∙ ap stops same_last ∙ is.arrives;
-              })
-                where
-                  all : Inside (ys ++ w ∷ [])
-                  all = inside_push ys count w inside w_in
+      pub no_path_up : HasNoPath count g starts ends → HasNoPath n h begins stops
+      no_path_up none path is =
+          none (map down path)
+          (named_path IsImage down down_apart h g down_same n count (λ s i. i.0) begins stops starts ends
+          (λ s i. ap begins (sym i.1) ∙ sym (same_starts (down s) i.0)) (λ s i. ap stops (sym i.1) ∙ sym (same_ends (down s) i.0)) path (path_images path is) is)
