@@ -1,5 +1,5 @@
-mod DirectiveLists
-pub mod SectionLists
-pub mod SectionsAnswered
+mod LeftBehind
 mod SectionsWalked
+pub mod SectionsAnswered
+pub mod SectionsLeft
 pub mod SourceAnswers

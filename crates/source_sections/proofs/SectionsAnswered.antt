@@ -1,7 +1,8 @@
 -- The answer for a source from that for its units.
-use Rattle.std.proofs.Common.{◌≡◌, Bool, true, false, if◌then◌else◌, Option, None, Some, List, [], ◌++◌, length, map, refl, sym, ap, ap₂, ◌∙◌, subst, append-nil}
+use Rattle.std.proofs.Common.{◌≡◌, Option, None, Some, List, [], ◌++◌, length, map, sym, ap, ap₂, ◌∙◌, subst, append-nil}
+use Rattle.std.specs.Option.{is_some}
 use Rattle.bit_expr.specs.Arena.{arena}
-use Rattle.abel_tree.specs.FirstRefusal.{earlier, first_refusal, is_before}
+use Rattle.abel_tree.specs.FirstRefusal.{earlier, first_refusal}
 use Rattle.abel_tree.proofs.FirstRefusals.{first_append, none_refused}
 use Rattle.abel_meaning.specs.Designs.{Design}
 use Rattle.abel_meaning.specs.SignalReads.{given_formulas}
@@ -13,6 +14,7 @@ use Rattle.set_expr.specs.Given.{view_contribution}
 use Rattle.set_expr.specs.SectionOrder.{section_order}
 use Rattle.section_targets.specs.Appending.{Contributed}
 use Rattle.section_targets.specs.Units.{units_nodes}
+use Rattle.section_targets.proofs.WalksBehind.{both_clear}
 use Rattle.gathering.specs.Parts.{AllLieIn}
 use Rattle.equations.proofs.BuiltUnits.{at}
 use Rattle.source_sections.specs.SectionAnswers.{AreContributed, IsTold, sections_refused, source_units}
@@ -37,16 +39,7 @@ first_of cs us c u h k = ap₂ (earlier section_order) h k ∙ sym (first_append
 
 -- where nothing is refused of both, nothing is of the units
 pub accepted_right : (c u : Option SectionFault) → earlier section_order c u ≡ None → u ≡ None
-accepted_right c None e = refl
-accepted_right c (Some f) e = absurd (never c e)
-  where
-    never : (x : Option SectionFault) → earlier section_order x (Some f) ≡ None → ⊥
-    never None k = cc
-    never (Some x) k = by_order (is_before section_order f x) k
-      where
-        by_order : (b : Bool) → ◌≡◌ {A = Option SectionFault} (if b then Some f else Some x) None → ⊥
-        by_order true k = cc
-        by_order false k = cc
+accepted_right c u e = (both_clear c u (ap is_some e)).1
 
 -- all units are contributed, from nothing
 pub contributed : (d : Design) (old new : Contributions) → old ≡ at [] [] → None ≡ first_refusal section_order (sections_refused d) → Contributed old new (given_formulas d) (sections_places d.context d.sections) (units_nodes (source_units d)) → AreContributed d new

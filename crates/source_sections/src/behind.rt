@@ -1,6 +1,6 @@
 //! What holds behind a section: whether `@DCSET` is in force, and the number of the next block.
 
-ghost use Rattle.std.specs.Prelude.{◌≡◌, ◌+◌, IfOk};
+ghost use Rattle.std.specs.Prelude.{◌≡◌, IfOk};
 ghost use Rattle.abel_tree.specs.View.{view_section};
 ghost use Rattle.abel_meaning.specs.Directives as directives;
 ghost use Rattle.abel_meaning.specs.Sections.{next_block};
@@ -23,22 +23,16 @@ pub(crate) fn after_section(on: bool, section: &Section) -> bool
     }
 }
 
-/// The number of the block after this one; so many blocks that there is none are more than memory holds.
-fn next(block: u32) -> Result<u32, OutOfMemory>
-    ensures { IfOk result (λ b. b ≡ block + 1) }
-{
-    match block.checked_add(1) {
-        Some(next) => Ok(next),
-        None => Err(OutOfMemory),
-    }
-}
-
-/// The number of the next block behind a section, which may be the block with this number.
+/// The number of the next block behind a section, which may be the block with this number; so many blocks that there is
+/// none are more than memory holds.
 pub(crate) fn block_after(block: u32, section: &Section) -> Result<u32, OutOfMemory>
     ensures { IfOk result (λ b. b ≡ next_block block (view_section section.now)) }
 {
     match section {
-        Section::Table(_) | Section::Diagram(_) => next(block),
+        Section::Table(_) | Section::Diagram(_) => match block.checked_add(1) {
+            Some(next) => Ok(next),
+            None => Err(OutOfMemory),
+        },
         Section::Declarations(_)
         | Section::Equations(_)
         | Section::Vectors(_)

@@ -17,7 +17,7 @@ use std::alloc::Global;
 use truth_tables::walk_table;
 
 /// What a section stands in: whether `@DCSET` is in force, and the number that it has where it is a block.
-#[derive(Clone, Copy, PartialEq, Eq)]
+#[derive(Clone, Copy)]
 struct Setting {
     dontcare: bool,
     block: u32,
@@ -59,9 +59,7 @@ fn walk_section<D: Device>(
             let guard = unguarded(setting.dontcare, Some(setting.block));
             walk_diagram::<D>(alloc, scope, guard, diagram, out)
         }
-        Section::Declarations(_) => Ok(()),
-        Section::DontCare(_) => Ok(()),
-        Section::Vectors(_) => Ok(()),
+        Section::Declarations(_) | Section::DontCare(_) | Section::Vectors(_) => Ok(()),
     }
 }
 

@@ -1,11 +1,15 @@
--- One declaration more.
-use Rattle.std.proofs.Common.{◌∷◌, []}
+-- One declaration, and those that are left.
+use Rattle.std.proofs.Common.{◌+◌, drop, map, sym, ap, ◌∙◌}
 use Rattle.abel_tree.specs.View.{view_decl}
 use Rattle.abel_meaning.specs.Designs.{after_declarations}
-use Rattle.source_sections.proofs.DirectiveLists.{declarations_push, one_more}
+use Rattle.source_sections.proofs.LeftBehind.{declarations_then, left_next}
 use Rattle.source_sections.proofs.directives.after_declarations.Goals as goal
 
 pub loop-decl-preserved : goal.loop-decl-preserved
 loop-decl-preserved c =
-    one_more (after_declarations c.args.on) (λ on d. after_declarations on (d ∷ [])) view_decl c.args.decls.now c.loop-decl.decl-index c.decl-item.result
-    (declarations_push c.args.on) c.loop-decl-test.true c.decl-item.is c.loop-decl.invariant c.after_declaration-on.ensures
+    let list = c.args.decls.now in
+    let l = c.loop-decl in
+    let rest = map view_decl (drop (l.decl-index + 1) list) in
+    ap (λ on. after_declarations on rest) c.after_declaration-on.ensures
+    ∙ (sym (declarations_then l.on (view_decl c.decl-item.result) rest)
+    ∙ (sym (ap (λ ds. after_declarations l.on (map view_decl ds)) (left_next list l.decl-index c.decl-item.result c.loop-decl-test.true c.decl-item.is)) ∙ l.invariant))

@@ -1,8 +1,8 @@
--- The directive behind so many declarations.
-use Rattle.std.proofs.Common.{◌≡◌, map, take}
+-- Behind the declarations that are left it is what it is behind all.
+use Rattle.std.proofs.Common.{◌≡◌, drop, map}
 use Rattle.abel_tree.specs.View.{view_decl}
 use Rattle.abel_meaning.specs.Designs.{after_declarations}
 use Rattle.source_sections.proofs.directives.after_declarations.Given as goal
 
 abbrev pub invariant-loop-decl : goal.invariant-loop-decl
-invariant-loop-decl l = l.on ≡ after_declarations l.fn.on (map view_decl (take l.decl-index l.decls))
+invariant-loop-decl l = after_declarations l.on (map view_decl (drop l.decl-index l.decls)) ≡ after_declarations l.fn.on (map view_decl l.decls)

@@ -1,8 +1,8 @@
--- The directive behind so many arms of CASE.
-use Rattle.std.proofs.Common.{◌≡◌, take}
+-- Behind the arms of CASE that are left it is what it is behind all.
+use Rattle.std.proofs.Common.{◌≡◌, drop}
 use Rattle.abel_meaning.specs.Directives.{after_choices}
 use Rattle.state_diagrams.specs.Arms.{view_choices}
 use Rattle.source_sections.proofs.state_directives.+arms.Given as goal
 
 abbrev pub invariant-after_choices-loop-arm : goal.invariant-after_choices-loop-arm
-invariant-after_choices-loop-arm l = l.on ≡ after_choices l.fn.on (view_choices (take l.arm-index l.arms))
+invariant-after_choices-loop-arm l = after_choices l.on (view_choices (drop l.arm-index l.arms)) ≡ after_choices l.fn.on (view_choices l.arms)

@@ -1,7 +1,7 @@
 -- An EQUATIONS section, a table, a state diagram, and what nothing is walked of.
-use Rattle.std.proofs.Common.{ap, map, subst, sym, ◌∙◌}
+use Rattle.std.proofs.Common.{ap, inl, inr, map, subst, sym, ◌∙◌}
 use Rattle.std.proofs.lemmas.Result.{on_ok_weaker}
-use Rattle.abel_tree.specs.Tree.{Equations}
+use Rattle.abel_tree.specs.Tree.{SectionTree, Equations}
 use Rattle.abel_tree.specs.View.{view_section, view_stmt}
 use Rattle.set_expr.specs.Contexts.{context_for}
 use Rattle.section_targets.proofs.MetWords.{high_bit}
@@ -48,15 +48,11 @@ returns-in-Diagram g c =
 
 pub returns-in-Declarations : goal.returns-in-Declarations
 returns-in-Declarations g c =
-    subst (λ s. WalksSection g.D.Device.table c.args.scope.now c.args.setting.dontcare c.args.setting.block s c.args.out.now c.args.out.now) (sym (ap view_section c.in-Declarations.is))
-    (λ all a. walks_none all c.args.out.now a)
-
-pub returns-in-DontCare : goal.returns-in-DontCare
-returns-in-DontCare g c =
-    subst (λ s. WalksSection g.D.Device.table c.args.scope.now c.args.setting.dontcare c.args.setting.block s c.args.out.now c.args.out.now) (sym (ap view_section c.in-DontCare.is))
-    (λ all a. walks_none all c.args.out.now a)
-
-pub returns-in-Vectors : goal.returns-in-Vectors
-returns-in-Vectors g c =
-    subst (λ s. WalksSection g.D.Device.table c.args.scope.now c.args.setting.dontcare c.args.setting.block s c.args.out.now c.args.out.now) (sym (ap view_section c.in-Vectors.is))
-    (λ all a. walks_none all c.args.out.now a)
+    let Stays = λ (s : SectionTree). WalksSection g.D.Device.table c.args.scope.now c.args.setting.dontcare c.args.setting.block s c.args.out.now c.args.out.now in
+    elim c.in-Declarations.is [
+      | inl x ↦ subst Stays (sym (ap view_section x.1)) (λ all a. walks_none all c.args.out.now a)
+      | inr m ↦ elim m [
+        | inl x ↦ subst Stays (sym (ap view_section x.1)) (λ all a. walks_none all c.args.out.now a)
+        | inr x ↦ subst Stays (sym (ap view_section x.1)) (λ all a. walks_none all c.args.out.now a)
+      ]
+    ]

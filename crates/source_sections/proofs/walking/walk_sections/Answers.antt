@@ -1,43 +1,41 @@
--- One section more, and all sections.
-use Rattle.std.proofs.Common.{◌≡◌, ◌+◌, [], ◌∷◌, ◌++◌, List, map, refl, take, sym, ap, ◌∙◌, subst}
+-- One section, and those that are left.
+use Rattle.std.proofs.Common.{◌≡◌, ◌+◌, [], ◌∷◌, List, drop, refl, sym, ap, subst, arith}
+use Rattle.std.proofs.lemmas.List.{at_drop_all}
 use Rattle.abel_tree.specs.View.{view_section}
 use Rattle.abel_meaning.specs.Directives.{after_section}
-use Rattle.abel_meaning.specs.Sections.{next_block}
-use Rattle.set_expr.proofs.FoundMembers.{front_more, whole_front}
 use Rattle.section_targets.specs.declared.manner.Manner.{Manner}
-use Rattle.set_expr.specs.Contexts.{context_for}
+use Rattle.section_targets.specs.declared.walked.Walked.{Walked}
 use Rattle.section_targets.specs.Manners.{AreFirsts}
-use Rattle.section_targets.proofs.WalksBehind.{walks_none}
-use Rattle.source_sections.specs.SectionUnits.{sections_manners}
-use Rattle.source_sections.proofs.SectionLists.{Under, after_push, after_sections, block_push, blocks_after, sections_next}
+use Rattle.source_sections.specs.Reading.{WalksSections, view_sections}
+use Rattle.source_sections.proofs.LeftBehind.{left_next}
+use Rattle.source_sections.proofs.SectionsLeft.{AreLeft, all_walked, one_walked}
 use Rattle.source_sections.proofs.walking.walk_sections.Goals as goal
 
 pub loop-section-init : goal.loop-section-init
-loop-section-init g c =
-    record {
-      directive = refl;
-      block = refl;
-      walks = walks_none [] c.args.out.now (subst (λ (ms : List Manner). AreFirsts ms []) (sym c.requires) (λ s p. refl));
-    }
+loop-section-init g c = ([], (subst (λ (ms : List Manner). AreFirsts ms []) (sym c.requires) (λ s p. refl), λ new walks. walks))
 
 pub loop-section-preserved : goal.loop-section-preserved
 loop-section-preserved g c =
+    let t = g.D.Device.table in
+    let n = c.args.scope.now in
     let list = c.args.sections.now in
-    let i = c.loop-section.section-index in
-    let ss = map view_section (take i list) in
-    let ts = map view_section (take (i + 1) list) in
-    let s = view_section c.section-item.result in
-    let v = c.loop-section.invariant in
-    let d = context_for g.D.Device.table c.args.scope.now in
-    let here : ts ≡ ss ++ s ∷ [] = front_more view_section list i c.section-item.result c.loop-section-test.true c.section-item.is in
-    record {
-      directive = c.after_section-dontcare.ensures ∙ ap (λ on. after_section on s) v.directive ∙ sym (after_push c.args.starts_dontcare ss s) ∙ ap (after_sections c.args.starts_dontcare) (sym here);
-      block = c.in_ok-block.ensures ∙ ap (λ b. next_block b s) v.block ∙ sym (block_push 0 ss s) ∙ ap (blocks_after 0) (sym here);
-      walks = sections_next d c.args.starts_dontcare c.loop-section.dontcare c.loop-section.block ss ts s c.args.out.now c.loop-section.out c.walk_section.new.out here v.directive v.block v.walks
-          (c.in_ok-walk_section.ensures (sections_manners d [] ss) v.walks.manners);
-    }
+    let l = c.loop-section in
+    let i = l.section-index in
+    let x = c.section-item.result in
+    let rest = view_sections (drop (i + 1) list) in
+    let Done = λ (new : Walked). WalksSections t n c.args.starts_dontcare (view_sections list) c.args.out.now new in
+    let here : view_sections (drop i list) ≡ view_section x ∷ rest = ap view_sections (left_next list i x c.loop-section-test.true c.section-item.is) in
+    subst (λ on. AreLeft t n on c.in_ok-block.block rest c.walk_section.new.out Done) (sym c.after_section-dontcare.ensures)
+    (subst (λ b. AreLeft t n (after_section l.dontcare (view_section x)) b rest c.walk_section.new.out Done) (sym c.in_ok-block.ensures)
+    (one_walked t n l.dontcare l.block l.out Done (view_section x) rest c.walk_section.new.out c.in_ok-walk_section.ensures
+    (subst (λ ss. AreLeft t n l.dontcare l.block ss l.out Done) here l.invariant)))
 
 pub returns : goal.returns
 returns g c =
-    subst (λ ss. Under (context_for g.D.Device.table c.args.scope.now) c.args.starts_dontcare ss c.args.out.now c.loop-section.out)
-    (whole_front view_section c.args.sections.now c.loop-section.section-index c.loop-section-test.false) c.loop-section.invariant.walks
+    let t = g.D.Device.table in
+    let n = c.args.scope.now in
+    let list = c.args.sections.now in
+    let l = c.loop-section in
+    let Done = λ (new : Walked). WalksSections t n c.args.starts_dontcare (view_sections list) c.args.out.now new in
+    all_walked t n l.dontcare l.block l.out Done
+    (subst (λ ss. AreLeft t n l.dontcare l.block ss l.out Done) (at_drop_all view_sections list l.section-index (omega (arith, c.loop-section-test.false))) l.invariant)
