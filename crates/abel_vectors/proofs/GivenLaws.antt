@@ -1,146 +1,84 @@
--- The first character of each pin, and pins that get two that differ, in one list behind another.
-use Rattle.std.proofs.Common.{◌≡◌, ℕ, ◌==◌, Bool, true, false, not, ◌&&◌, ◌||◌, if◌then◌else◌, Option, None, Some, List, [], ◌∷◌, ◌++◌, map, refl, sym, ap, ap₂, ◌∙◌, subst, append_assoc, append-nil, arith}
-use Rattle.std.specs.List.{list_any}
-use Rattle.std.proofs.Math.Bool.{or-false}
-use Rattle.std.proofs.lemmas.Bool.{eqb-true, or_parts}
-use Rattle.std.proofs.lemmas.Bool.Decides.{nat_tests}
-use Rattle.std.proofs.lemmas.List.{map-append}
-use Rattle.std.proofs.lemmas.List.Folds.{list_any-append}
-use Rattle.std.proofs.lemmas.Option.{none-some}
-use Rattle.abel_meaning.specs.Vectors.{first_char}
-use Rattle.abel_vectors.specs.declared.given.Given.{Given}
-use Rattle.abel_vectors.specs.GivenChars.{pair_of, found_at, HasFirsts, Adds}
-use Rattle.abel_vectors.specs.VectorRefusals.{gives_another, disagree}
+-- The characters of the positions of a side, one more, and the first of each pin.
+use Rattle.std.proofs.Common.{◌≡◌, ℕ, zero, suc, ◌+◌, ◌==◌, ◌<◌, ◌≤◌, min, Bool, true, false, ◌||◌, if◌then◌else◌, Option, None, Some, List, [], ◌∷◌, ◌++◌, length, map, get_or, drop, refl, sym, ap, ap₂, ◌∙◌, arith}
+use Rattle.std.proofs.lemmas.List.{at_drop_more, drop_all}
+use Rattle.abel_tree.specs.Entries.{Entry, Kind, APin, ANode, AConstant, ADeviceName}
+use Rattle.abel_meaning.specs.Designs.{Context, name_at}
+use Rattle.abel_meaning.specs.Rows.{Mark}
+use Rattle.abel_meaning.specs.Vectors.{input_char, output_char, given_to, first_char, char_given}
+use Rattle.truth_tables.specs.declared.mark.Mark as code
+use Rattle.truth_tables.specs.EntryMarks.{view_mark}
+use Rattle.abel_vectors.specs.GivenChars.{found_at}
+use Rattle.abel_vectors.specs.VectorRefusals.{all_given, char_if, char_for, chars_for, pin_of, position_gives, position_pulses, tests_pulse}
 
--- ---- the first character
+-- ---- one position more
+
+-- a function of two lists where the shorter one ends
+at_end : {A B Z : Type 0} (f : List A → List B → Z) (z : Z) → ((xs : List A) → f xs [] ≡ z) → ((ys : List B) → f [] ys ≡ z) → (k : ℕ) (xs : List A) (ys : List B) → min (length xs) (length ys) ≤ k → f (drop k xs) (drop k ys) ≡ z
+at_end f z left right k [] ys h = ap (λ (xs : List _). f xs (drop k ys)) (drop_all k [] (omega arith)) ∙ right (drop k ys)
+at_end f z left right k (x ∷ xs) [] h = ap (f (drop k (x ∷ xs))) (drop_all k [] (omega arith)) ∙ left (drop k (x ∷ xs))
+at_end f z left right zero (x ∷ xs) (y ∷ ys) h = absurd (omega (arith, h))
+at_end f z left right (suc k) (x ∷ xs) (y ∷ ys) h = at_end f z left right k xs ys (omega (arith, h))
+
+-- and one step on
+at_next : {A B Z : Type 0} (f : List A → List B → Z) (k : ℕ) (xs : List A) (ys : List B) (x : A) (y : B) → k < length xs → k < length ys → f (drop k xs) (drop k ys) ≡ f (get_or xs k x ∷ drop (k + 1) xs) (get_or ys k y ∷ drop (k + 1) ys)
+at_next f k xs ys x y h i = ap₂ f (at_drop_more (λ (zs : List _). zs) xs k x h) (at_drop_more (λ (zs : List _). zs) ys k y i)
+
+no_chars : (es : List Entry) (char : Bool → Mark → Option ℕ) (ss : List (Option ℕ)) → chars_for es char ss [] ≡ []
+no_chars es char [] = refl
+no_chars es char (s ∷ ss) = refl
+
+pub chars_left : (es : List Entry) (char : Bool → Mark → Option ℕ) (ss : List (Option ℕ)) (ms : List code.Mark) (k : ℕ) → min (length ss) (length ms) ≤ k → chars_for es char (drop k ss) (map view_mark (drop k ms)) ≡ []
+chars_left es char ss ms k h = at_end (λ xs ys. chars_for es char xs (map view_mark ys)) [] (no_chars es char) (λ ys. refl) k ss ms h
+
+pub chars_at : (es : List Entry) (char : Bool → Mark → Option ℕ) (ss : List (Option ℕ)) (ms : List code.Mark) (k : ℕ) (x : Option ℕ) (y : code.Mark) → k < length ss → k < length ms
+    → chars_for es char (drop k ss) (map view_mark (drop k ms)) ≡ position_gives es char (get_or ss k x) (view_mark (get_or ms k y)) ++ chars_for es char (drop (k + 1) ss) (map view_mark (drop (k + 1) ms))
+chars_at es char ss ms k x y h i = at_next (λ xs ys. chars_for es char xs (map view_mark ys)) k ss ms x y h i
+
+no_pulse : (ss : List (Option ℕ)) → tests_pulse ss [] ≡ false
+no_pulse [] = refl
+no_pulse (s ∷ ss) = refl
+
+pub pulses_left : (ss : List (Option ℕ)) (ms : List code.Mark) (k : ℕ) → min (length ss) (length ms) ≤ k → tests_pulse (drop k ss) (map view_mark (drop k ms)) ≡ false
+pulses_left ss ms k h = at_end (λ xs ys. tests_pulse xs (map view_mark ys)) false no_pulse (λ ys. refl) k ss ms h
+
+pub pulses_at : (ss : List (Option ℕ)) (ms : List code.Mark) (k : ℕ) (x : Option ℕ) (y : code.Mark) → k < length ss → k < length ms
+    → tests_pulse (drop k ss) (map view_mark (drop k ms)) ≡ (position_pulses (get_or ss k x) (view_mark (get_or ms k y)) || tests_pulse (drop (k + 1) ss) (map view_mark (drop (k + 1) ms)))
+pulses_at ss ms k x y h i = at_next (λ xs ys. tests_pulse xs (map view_mark ys)) k ss ms x y h i
+
+-- ---- the character of a pin
 
 first_by : (b : Bool) (c : ℕ) (r s o : Option ℕ) → r ≡ first_char s o → (if b then Some c else r) ≡ first_char (if b then Some c else s) o
 first_by true c r s o e = refl
 first_by false c r s o e = e
 
-pub found_append : (xs ys : List (ℕ × ℕ)) (p : ℕ) → found_at (xs ++ ys) p ≡ first_char (found_at xs p) (found_at ys p)
+found_append : (xs ys : List (ℕ × ℕ)) (p : ℕ) → found_at (xs ++ ys) p ≡ first_char (found_at xs p) (found_at ys p)
 found_append [] ys p = refl
 found_append (x ∷ xs) ys p = first_by (x.0 == p) x.1 (found_at (xs ++ ys) p) (found_at xs p) (found_at ys p) (found_append xs ys p)
 
-pushed : (xs : List (ℕ × ℕ)) (gs : List Given) (g : Given) → HasFirsts xs gs → HasFirsts (xs ++ pair_of g ∷ []) (gs ++ g ∷ [])
-pushed xs gs g h p =
-    ap (λ ys. found_at ys p) (map-append pair_of gs (g ∷ []))
-    ∙ found_append (map pair_of gs) (pair_of g ∷ []) p
-    ∙ ap (λ o. first_char o (found_at (pair_of g ∷ []) p)) (h p)
-    ∙ sym (found_append xs (pair_of g ∷ []) p)
-
-kept_by : (b : Bool) (o : Option ℕ) (x c : ℕ) → (b ≡ true → o ≡ Some c) → o ≡ first_char o (if b then Some x else None)
-kept_by true None x c e = absurd (none-some c (e refl))
-kept_by true (Some y) x c e = refl
-kept_by false None x c e = refl
-kept_by false (Some y) x c e = refl
-
-kept : (xs : List (ℕ × ℕ)) (gs : List Given) (g : Given) (c : ℕ) → found_at xs g.pin ≡ Some c → HasFirsts xs gs → HasFirsts (xs ++ pair_of g ∷ []) gs
-kept xs gs g c e h p =
-    h p
-    ∙ kept_by (g.pin == p) (found_at xs p) g.char c (λ q. ap (found_at xs) (sym (eqb-true g.pin p q)) ∙ e)
-    ∙ sym (found_append xs (pair_of g ∷ []) p)
-
--- ---- characters that differ
-
-or_four : (a g d r : Bool) → ((a || (g || false)) || (d || r)) ≡ ((a || d) || (g || r))
-or_four true g d r = refl
-or_four false true true r = refl
-or_four false true false r = refl
-or_four false false d r = refl
-
-disagree_push : (xs : List (ℕ × ℕ)) (x : ℕ × ℕ) → disagree (xs ++ x ∷ []) ≡ (disagree xs || list_any (λ y. gives_another y x) xs)
-disagree_push [] x = refl
-disagree_push (y ∷ xs) x =
-    ap₂ (λ a b. a || b) (list_any-append (gives_another y) xs (x ∷ [])) (disagree_push xs x)
-    ∙ or_four (list_any (gives_another y) xs) (gives_another y x) (disagree xs) (list_any (λ z. gives_another z x) xs)
-
--- none, or this one
-abbrev IsNoneOr : ℕ → Option ℕ → Type 0
-IsNoneOr c None = Unit {0}
-IsNoneOr c (Some x) = x ≡ c
-
-same_char : (p q c x : ℕ) (r : Bool) → (((p == q) && not (c == x)) || r) ≡ false → (q == p) ≡ true → x ≡ c
-same_char p q c x r e h = grind (arith, nat_tests)
-
-none_by : (b : Bool) (c x : ℕ) (o : Option ℕ) → (b ≡ true → x ≡ c) → IsNoneOr c o → IsNoneOr c (if b then Some x else o)
-none_by true c x o e h = e refl
-none_by false c x o e h = h
-
-none_or : (y : ℕ × ℕ) (ys : List (ℕ × ℕ)) → list_any (gives_another y) ys ≡ false → IsNoneOr y.1 (found_at ys y.0)
-none_or y [] e = tt
-none_or y (z ∷ zs) e =
-    none_by (z.0 == y.0) y.1 z.1 (found_at zs y.0) (same_char y.0 z.0 y.1 z.1 (list_any (gives_another y) zs) e)
-    (none_or y zs (or_parts (gives_another y z) (list_any (gives_another y) zs) e).1)
-
--- the first character of a pin is another one
-abbrev differs_from : ℕ → Option ℕ → Bool
-differs_from c None = false
-differs_from c (Some x) = not (x == c)
-
-or_self : (a : Bool) → (a || a) ≡ a
-or_self true = refl
-or_self false = refl
-
-twice : (c x : ℕ) (o : Option ℕ) → IsNoneOr c o → (not (c == x) || differs_from x o) ≡ not (c == x)
-twice c x None h = or-false (not (c == x))
-twice c x (Some z) h = ap (λ w. not (c == x) || not (w == x)) h ∙ or_self (not (c == x))
-
--- where no two differ, one more differs from some only where it differs from the first
-any_other : (xs : List (ℕ × ℕ)) (x : ℕ × ℕ) → disagree xs ≡ false → list_any (λ y. gives_another y x) xs ≡ differs_from x.1 (found_at xs x.0)
-any_other [] x e = refl
-any_other (y ∷ ys) x e =
-    ap (λ b. gives_another y x || b) (any_other ys x parts.1) ∙ by_pin (y.0 == x.0) refl
+given_pin : (p q : ℕ) (o : Option ℕ) → (if p == q then o else None) ≡ found_at (char_if p o) q
+given_pin p q None = none_by (p == q)
   where
-    parts : (list_any (gives_another y) ys ≡ false) × (disagree ys ≡ false)
-    parts = or_parts (list_any (gives_another y) ys) (disagree ys) e
+    none_by : (b : Bool) → ◌≡◌ {A = Option ℕ} (if b then None else None) None
+    none_by true = refl
+    none_by false = refl
+given_pin p q (Some c) = refl
 
-    by_pin : (b : Bool) → (y.0 == x.0) ≡ b → ((b && not (y.1 == x.1)) || differs_from x.1 (found_at ys x.0)) ≡ differs_from x.1 (if b then Some y.1 else found_at ys x.0)
-    by_pin false q = refl
-    by_pin true q = twice y.1 x.1 (found_at ys x.0) (subst (λ p. IsNoneOr y.1 (found_at ys p)) (eqb-true y.0 x.0 q) (none_or y ys parts.0))
+given_one : (pin : ℕ) (char : Bool → Mark → Option ℕ) (k : Kind) (m : Mark) → given_to pin char k m ≡ found_at (char_for (pin_of k) char m) pin
+given_one pin char (APin other negated) m = given_pin other pin (char negated m)
+given_one pin char (ANode n) m = refl
+given_one pin char (AConstant v) m = refl
+given_one pin char ADeviceName m = refl
 
-disagree_one : (xs : List (ℕ × ℕ)) (x : ℕ × ℕ) (o : Option ℕ) → found_at xs x.0 ≡ o → disagree (xs ++ x ∷ []) ≡ (disagree xs || differs_from x.1 o)
-disagree_one xs x o e = disagree_push xs x ∙ by_others (disagree xs) refl
-  where
-    by_others : (b : Bool) → disagree xs ≡ b → (b || list_any (λ y. gives_another y x) xs) ≡ (b || differs_from x.1 o)
-    by_others true q = refl
-    by_others false q = any_other xs x q ∙ ap (differs_from x.1) e
+given_found : (d : Context) (pin : ℕ) (char : Bool → Mark → Option ℕ) (ss : List (Option ℕ)) (ms : List Mark) → char_given d pin char ss ms ≡ found_at (chars_for d.names char ss ms) pin
+given_found d pin char [] ms = refl
+given_found d pin char (None ∷ ss) [] = refl
+given_found d pin char (Some s ∷ ss) [] = refl
+given_found d pin char (None ∷ ss) (m ∷ ms) = given_found d pin char ss ms
+given_found d pin char (Some s ∷ ss) (m ∷ ms) =
+    ap₂ first_char (given_one pin char (name_at d s).kind m) (given_found d pin char ss ms)
+    ∙ sym (found_append (position_gives d.names char (Some s) m) (chars_for d.names char ss ms) pin)
 
--- ---- what is added
-
-pub adds_none : (gs : List Given) → Adds [] gs gs true
-adds_none gs =
-    record {
-      firsts = λ xs h. subst (λ ys. HasFirsts ys gs) (sym (append-nil xs)) h;
-      agree = λ xs h. ap disagree (append-nil xs) ∙ sym (or-false (disagree xs));
-    }
-
-or_not : (d a b : Bool) → ((d || not a) || not b) ≡ (d || not (a && b))
-or_not true a b = refl
-or_not false true b = refl
-or_not false false b = refl
-
-pub adds_both : (ys zs : List (ℕ × ℕ)) (old mid new : List Given) (a b : Bool) → Adds ys old mid a → Adds zs mid new b → Adds (ys ++ zs) old new (a && b)
-adds_both ys zs old mid new a b h k =
-    record {
-      firsts = λ xs f. subst (λ ws. HasFirsts ws new) (append_assoc xs ys zs) (k.firsts (xs ++ ys) (h.firsts xs f));
-      agree = λ xs f.
-          sym (ap disagree (append_assoc xs ys zs))
-          ∙ k.agree (xs ++ ys) (h.firsts xs f)
-          ∙ ap (λ c. c || not b) (h.agree xs f)
-          ∙ or_not (disagree xs) a b;
-    }
-
-pub adds_kept : (gs : List Given) (g : Given) (c : ℕ) → found_at (map pair_of gs) g.pin ≡ Some c → Adds (pair_of g ∷ []) gs gs (c == g.char)
-adds_kept gs g c e =
-    record {
-      firsts = λ xs h. kept xs gs g c (sym (h g.pin) ∙ e) h;
-      agree = λ xs h. disagree_one xs (pair_of g) (Some c) (sym (h g.pin) ∙ e);
-    }
-
-pub adds_pushed : (gs : List Given) (g : Given) → found_at (map pair_of gs) g.pin ≡ None → Adds (pair_of g ∷ []) gs (gs ++ g ∷ []) true
-adds_pushed gs g e =
-    record {
-      firsts = λ xs h. pushed xs gs g h;
-      agree = λ xs h. disagree_one xs (pair_of g) None (sym (h g.pin) ∙ e);
-    }
+pub all_found : (d : Context) (pin : ℕ) (ss : List (Option ℕ)) (given : List Mark) (ts : List (Option ℕ)) (tested : List Mark) → first_char (char_given d pin input_char ss given) (char_given d pin output_char ts tested) ≡ found_at (all_given d.names ss given ts tested) pin
+all_found d pin ss given ts tested =
+    ap₂ first_char (given_found d pin input_char ss given) (given_found d pin output_char ts tested)
+    ∙ sym (found_append (chars_for d.names input_char ss given) (chars_for d.names output_char ts tested) pin)

@@ -1,9 +1,10 @@
--- A row by its entries and their marks.
-use Rattle.std.proofs.Common.{◌≡◌, ℕ, Bool, true, false, if◌then◌else◌, Option, Some, Result, Ok, Err, List, [], ◌∷◌, ◌++◌, map, refl, sym, ap, ap₂, ◌∙◌, subst}
+-- A row by its entries and their marks, and rows.
+use Rattle.std.proofs.Common.{◌≡◌, ℕ, suc, Bool, if◌then◌else◌, Option, None, Some, List, [], ◌∷◌, ◌++◌, map, refl, sym, ap, ap₂, ◌∙◌, subst, subst₂, append-nil}
 use Rattle.std.specs.List.{range_with_len}
+use Rattle.std.specs.Global.{Vec}
+use Rattle.std.proofs.lemmas.List.{map-append}
 use Rattle.pld_base.specs.declared.point.Vector.{Vector}
-use Rattle.pld_device.specs.Table.{Table}
-use Rattle.jedec_file.specs.TestVectors.{chars_of}
+use Rattle.jedec_file.specs.TestVectors.{all_chars, chars_of}
 use Rattle.abel_tree.specs.FirstRefusal.{first_refusal, earlier}
 use Rattle.abel_tree.specs.Tree.{Tree, RowTree}
 use Rattle.abel_tree.proofs.FirstRefusals.{first_append}
@@ -11,92 +12,111 @@ use Rattle.abel_meaning.specs.Designs.{Context}
 use Rattle.abel_meaning.specs.Rows.{Mark, marks_of}
 use Rattle.abel_meaning.specs.Targets.{targets_of}
 use Rattle.abel_meaning.specs.Terms.{Term, term_of}
-use Rattle.abel_meaning.specs.Vectors.{char_or_plain}
+use Rattle.abel_meaning.specs.Vectors.{char_or_plain, row_chars}
 use Rattle.set_expr.specs.declared.fault.SectionFault.{SectionFault}
 use Rattle.set_expr.specs.declared.fault.SectionFault.TheVariants.{BadVector}
 use Rattle.set_expr.specs.SectionOrder.{section_order}
 use Rattle.truth_tables.specs.declared.entries.Entry.{Entry}
 use Rattle.truth_tables.specs.declared.entries.Entry.TheVariants as entry
-use Rattle.truth_tables.specs.EntryMarks.{IsRead}
+use Rattle.truth_tables.specs.declared.mark.Mark as code
+use Rattle.truth_tables.specs.EntryMarks.{IsRead, view_mark}
 use Rattle.truth_tables.specs.RowEntries.{entry_refused}
-use Rattle.abel_vectors.specs.declared.given.Given.{Given}
-use Rattle.abel_vectors.specs.GivenChars.{HasFirsts, all_given, gives_no_vector, pair_of, found_at}
-use Rattle.abel_vectors.specs.ReadRows.{IsMarkedRow, IsReadRow, entry_fault, marked_char, row_fault}
-use Rattle.abel_vectors.specs.VectorRefusals.{entries_refused, if_none, is_no_vector, marks_refused, row_refused}
-use Rattle.abel_vectors.proofs.PositionLaws.{all_found}
-
-map_same : (f g : ℕ → ℕ) (xs : List ℕ) → ((x : ℕ) → f x ≡ g x) → map f xs ≡ map g xs
-map_same f g [] h = refl
-map_same f g (x ∷ xs) h = ap₂ (λ y ys. y ∷ ys) (h x) (map_same f g xs h)
-
--- the vector of the first characters
-marked_chars : (d : Context) (ss : List (Option ℕ)) (given : List Mark) (ts : List (Option ℕ)) (tested : List Mark) (gs : List Given) (xs : List ℕ) → HasFirsts (all_given d ss given ts tested) gs → map (λ (pin : ℕ). char_or_plain d.device pin (found_at (map pair_of gs) pin)) xs ≡ map (marked_char d ss given ts tested) xs
-marked_chars d ss given ts tested gs xs h =
-    map_same (λ (pin : ℕ). char_or_plain d.device pin (found_at (map pair_of gs) pin)) (marked_char d ss given ts tested) xs
-    (λ pin. ap (char_or_plain d.device pin) (h pin ∙ sym (all_found d pin ss given ts tested)))
-
-pub marked_vector : (t : Table) (d : Context) → d.device ≡ t → (ss : List (Option ℕ)) (given : List Mark) (ts : List (Option ℕ)) (tested : List Mark) (gs slice : List Given) (v : Vector) → HasFirsts (all_given d ss given ts tested) gs → slice ≡ gs → chars_of t v ≡ map (λ (pin : ℕ). char_or_plain t pin (found_at (map pair_of slice) pin)) (range_with_len 1 t.pins) → chars_of d.device v ≡ map (marked_char d ss given ts tested) (range_with_len 1 d.device.pins)
-marked_vector t d is ss given ts tested gs slice v firsts same chars =
-    let here : chars_of d.device v ≡ map (λ (pin : ℕ). char_or_plain d.device pin (found_at (map pair_of slice) pin)) (range_with_len 1 d.device.pins) =
-    subst (λ u. chars_of u v ≡ map (λ (pin : ℕ). char_or_plain u pin (found_at (map pair_of slice) pin)) (range_with_len 1 u.pins)) (sym is) chars in
-    here
-    ∙ ap (λ xs. map (λ (pin : ℕ). char_or_plain d.device pin (found_at (map pair_of xs) pin)) (range_with_len 1 d.device.pins)) same
-    ∙ marked_chars d ss given ts tested gs (range_with_len 1 d.device.pins) firsts
+use Rattle.abel_vectors.specs.declared.finding.Found.{Found}
+use Rattle.abel_vectors.specs.declared.rows.Header.{Header}
+use Rattle.abel_vectors.specs.FoundVectors.{Finds}
+use Rattle.abel_vectors.specs.GivenChars.{found_at}
+use Rattle.abel_vectors.specs.ReadRows.{AddsVector, FindsRow, FindsRows, IsRowVector, NamesPins, entry_fault, header_term}
+use Rattle.abel_vectors.specs.VectorRefusals.{all_given, entries_refused, marks_refused, one_too_many, row_refused, rows_refused}
+use Rattle.abel_vectors.proofs.FoundLaws.{finds_alone, finds_behind, finds_refusals, finds_refused, finds_then, left_some, right_some}
+use Rattle.abel_vectors.proofs.GivenLaws.{all_found}
 
 -- ---- what is refused of entries
-
-pub if_none_first : (xs ys : List SectionFault) (f : SectionFault) → first_refusal section_order xs ≡ Some f → first_refusal section_order (if_none xs ys) ≡ Some f
-if_none_first [] ys f e = absurd cc
-if_none_first (x ∷ xs) ys f e = e
-
-pub if_none_nil : (xs ys : List SectionFault) → xs ≡ [] → if_none xs ys ≡ ys
-if_none_nil [] ys e = refl
-if_none_nil (x ∷ xs) ys e = absurd cc
 
 entry_first : (d : Context) (r : SectionFault) (h : Term) (t : Tree) (e : Entry) → IsRead d r h t e → first_refusal section_order (entry_refused d r h t) ≡ entry_fault e
 entry_first d r h t (entry.Refused f) is = is
 entry_first d r h t (entry.Marks ms) is = ap (first_refusal section_order) is.0
 
-pub entries_first : (d : Context) (h k : Term) (r : RowTree) (a b : Entry) (f : SectionFault) → IsRead d (BadVector r.place) h r.inputs a → IsRead d (BadVector r.place) k r.outputs b → earlier section_order (entry_fault a) (entry_fault b) ≡ Some f → first_refusal section_order (row_refused d h k r) ≡ Some f
-entries_first d h k r a b f p q e =
-    if_none_first (entries_refused d h k r) (marks_refused d h k r) f
+entries_first : (d : Context) (h k : Term) (r : RowTree) (a b : Entry) → IsRead d (BadVector r.place) h r.inputs a → IsRead d (BadVector r.place) k r.outputs b → earlier section_order (entry_fault a) (entry_fault b) ≡ first_refusal section_order (entries_refused d h k r)
+entries_first d h k r a b p q =
+    sym
     (first_append section_order (entry_refused d (BadVector r.place) h r.inputs) (entry_refused d (BadVector r.place) k r.outputs)
-    ∙ ap₂ (earlier section_order) (entry_first d (BadVector r.place) h r.inputs a p) (entry_first d (BadVector r.place) k r.outputs b q)
-    ∙ e)
+    ∙ ap₂ (earlier section_order) (entry_first d (BadVector r.place) h r.inputs a p) (entry_first d (BadVector r.place) k r.outputs b q))
 
--- ---- what is refused of marks
+-- the refusals of both, behind what was found before
+pub entries_found : (d : Context) (h k : Term) (r : RowTree) (a b : Entry) (x y f : Option SectionFault) (old new : Found) → IsRead d (BadVector r.place) h r.inputs a → IsRead d (BadVector r.place) k r.outputs b
+    → x ≡ entry_fault a → y ≡ entry_fault b → f ≡ earlier section_order x y → new.fault ≡ earlier section_order old.fault f → new.list.items ≡ old.list.items → Finds d.device (entries_refused d h k r) [] old new
+entries_found d h k r a b x y f old new p q e g first fault list =
+    finds_refusals d.device (entries_refused d h k r) f old new (first ∙ ap₂ (earlier section_order) e g ∙ entries_first d h k r a b p q) fault list
 
--- the marks of a row by those that were found
-record Found (d : Context) (h k : Term) (r : RowTree) (ss : List (Option ℕ)) (ms : List Mark) (ts : List (Option ℕ)) (ns : List Mark) : Type 0 where
-  inputs : ss ≡ targets_of h
-  outputs : ts ≡ targets_of k
-  given : ms ≡ marks_of d h (term_of d.known r.inputs)
-  tested : ns ≡ marks_of d k (term_of d.known r.outputs)
+-- a row of which an entry is refused
+pub left_stands : (d : Context) (h k : Term) (r : RowTree) (a : Entry) (f : SectionFault) (old new : Found) → IsRead d (BadVector r.place) h r.inputs a → a ≡ entry.Refused f
+    → Finds d.device (entries_refused d h k r) [] old new → Finds d.device (row_refused d h k r) (row_chars d h k r ∷ []) old new
+left_stands d h k r a f old new p e noted =
+    finds_alone d.device (entries_refused d h k r) (marks_refused d h k r) (row_chars d h k r ∷ []) old new
+    (left_some (entry_refused d (BadVector r.place) h r.inputs) (entry_refused d (BadVector r.place) k r.outputs) f (subst (IsRead d (BadVector r.place) h r.inputs) e p)) noted
 
-found_by : {X : Type 0} (d : Context) (h k : Term) (r : RowTree) (ss : List (Option ℕ)) (given : List Mark) (ts : List (Option ℕ)) (tested : List Mark) (f : List (Option ℕ) → List Mark → List (Option ℕ) → List Mark → X) → Found d h k r ss given ts tested → f (targets_of h) (marks_of d h (term_of d.known r.inputs)) (targets_of k) (marks_of d k (term_of d.known r.outputs)) ≡ f ss given ts tested
-found_by d h k r ss given ts tested f is =
-    ap₂ (λ a b. f a b (targets_of k) (marks_of d k (term_of d.known r.outputs))) (sym is.inputs) (sym is.given)
-    ∙ ap₂ (λ a b. f ss given a b) (sym is.outputs) (sym is.tested)
+pub right_stands : (d : Context) (h k : Term) (r : RowTree) (b : Entry) (f : SectionFault) (old new : Found) → IsRead d (BadVector r.place) k r.outputs b → b ≡ entry.Refused f
+    → Finds d.device (entries_refused d h k r) [] old new → Finds d.device (row_refused d h k r) (row_chars d h k r ∷ []) old new
+right_stands d h k r b f old new q e noted =
+    finds_alone d.device (entries_refused d h k r) (marks_refused d h k r) (row_chars d h k r ∷ []) old new
+    (right_some (entry_refused d (BadVector r.place) h r.inputs) (entry_refused d (BadVector r.place) k r.outputs) f (subst (IsRead d (BadVector r.place) k r.outputs) e q)) noted
 
-marks_by : (d : Context) (h k : Term) (r : RowTree) (b : Bool) → is_no_vector d h k (marks_of d h (term_of d.known r.inputs)) (marks_of d k (term_of d.known r.outputs)) ≡ b → entries_refused d h k r ≡ [] → row_refused d h k r ≡ (if b then BadVector r.place ∷ [] else [])
-marks_by d h k r b e n =
-    if_none_nil (entries_refused d h k r) (marks_refused d h k r) n
-    ∙ ap (λ (t : Bool). if t then BadVector r.place ∷ [] else []) e
+-- ---- the vector of marks
 
-pub marked_read : (d : Context) (h k : Term) (r : RowTree) (ss : List (Option ℕ)) (given : List Mark) (ts : List (Option ℕ)) (tested : List Mark) (found : Result Vector SectionFault) → ss ≡ targets_of h → ts ≡ targets_of k → given ≡ marks_of d h (term_of d.known r.inputs) → tested ≡ marks_of d k (term_of d.known r.outputs) → entries_refused d h k r ≡ [] → IsMarkedRow d r.place ss given ts tested found → IsReadRow d h k r found
-marked_read d h k r ss given ts tested (Err f) a b m n e is =
-    let same : Found d h k r ss given ts tested = record { inputs = a; outputs = b; given = m; tested = n } in
-    ap (first_refusal section_order) (marks_by d h k r true (found_by d h k r ss given ts tested (gives_no_vector d) same ∙ is.0) e)
-    ∙ ap Some (sym is.1)
-marked_read d h k r ss given ts tested (Ok v) a b m n e is =
-    let same : Found d h k r ss given ts tested = record { inputs = a; outputs = b; given = m; tested = n } in (
-      marks_by d h k r false (found_by d h k r ss given ts tested (gives_no_vector d) same ∙ is.0) e,
-      is.1 ∙ sym (found_by d h k r ss given ts tested (λ w x y z. map (marked_char d w x y z) (range_with_len 1 d.device.pins)) same),
-    )
+map_same : (f g : ℕ → ℕ) (xs : List ℕ) → ((x : ℕ) → f x ≡ g x) → map f xs ≡ map g xs
+map_same f g [] h = refl
+map_same f g (x ∷ xs) h = ap₂ (λ y ys. y ∷ ys) (h x) (map_same f g xs h)
 
-pub both_nil : (xs ys : List SectionFault) → xs ≡ [] → ys ≡ [] → xs ++ ys ≡ []
-both_nil xs ys e f = ap₂ (λ a b. a ++ b) e f
+vector_added : (d : Context) (h k : Term) (r : RowTree) (vector : Option Vector) (old new : Found)
+    → IsRowVector d (targets_of h) (marks_of d h (term_of d.known r.inputs)) (targets_of k) (marks_of d k (term_of d.known r.outputs)) vector → AddsVector r.place vector old new
+    → Finds d.device (marks_refused d h k r) (row_chars d h k r ∷ []) old new
+vector_added d h k r None old new is adds =
+    subst (λ rs. Finds d.device rs (row_chars d h k r ∷ []) old new) (sym (ap (λ (b : Bool). if b then BadVector r.place ∷ [] else []) is))
+    (finds_refused d.device (BadVector r.place ∷ []) [] (row_chars d h k r ∷ []) old new (λ e. cc)
+    (finds_refusals d.device (BadVector r.place ∷ []) (Some (BadVector r.place)) old new refl adds.fault (adds.list ∙ append-nil old.list.items)))
+vector_added d h k r (Some v) old new is adds =
+    subst (λ rs. Finds d.device rs (row_chars d h k r ∷ []) old new) (sym (ap (λ (b : Bool). if b then BadVector r.place ∷ [] else []) is.0))
+    (record {
+      fault = adds.fault;
+      list = λ e. ap (all_chars d.device) adds.list ∙ map-append (chars_of d.device) old.list.items (v ∷ []) ∙ ap (λ cs. all_chars d.device old.list.items ++ cs ∷ []) (is.1 ∙ same);
+    })
+  where
+    chars : List (ℕ × ℕ)
+    chars = all_given d.names (targets_of h) (marks_of d h (term_of d.known r.inputs)) (targets_of k) (marks_of d k (term_of d.known r.outputs))
 
-pub row_first : (d : Context) (h k : Term) (r : RowTree) (found : Result Vector SectionFault) → IsReadRow d h k r found → first_refusal section_order (row_refused d h k r) ≡ row_fault found
-row_first d h k r (Err f) is = is
-row_first d h k r (Ok v) is = ap (first_refusal section_order) is.0
+    same : map (λ (pin : ℕ). char_or_plain d.device pin (found_at chars pin)) (range_with_len 1 d.device.pins) ≡ row_chars d h k r
+    same = map_same _ _ (range_with_len 1 d.device.pins)
+        (λ pin. ap (char_or_plain d.device pin) (sym (all_found d pin (targets_of h) (marks_of d h (term_of d.known r.inputs)) (targets_of k) (marks_of d k (term_of d.known r.outputs)))))
+
+-- a row whose entries meet the header
+pub row_marked : (d : Context) (h : Header) (r : RowTree) (a b : Entry) (given tested : Vec code.Mark) (ms ns : List code.Mark) (vector : Option Vector) (old mid new : Found) → NamesPins d h
+    → IsRead d (BadVector r.place) (header_term d h.section.now.inputs) r.inputs a → IsRead d (BadVector r.place) (header_term d h.section.now.outputs) r.outputs b
+    → a ≡ entry.Marks given → b ≡ entry.Marks tested → ms ≡ given.items → ns ≡ tested.items
+    → IsRowVector d h.driven.now (map view_mark ms) h.tested.now (map view_mark ns) vector
+    → Finds d.device (entries_refused d (header_term d h.section.now.inputs) (header_term d h.section.now.outputs) r) [] old mid → AddsVector r.place vector mid new → FindsRow d h r old new
+row_marked d h r a b given tested ms ns vector old mid new names p q e f l m is noted adds =
+    let i = header_term d h.section.now.inputs in
+    let o = header_term d h.section.now.outputs in
+    let driven = subst (IsRead d (BadVector r.place) i r.inputs) e p in
+    let found = subst (IsRead d (BadVector r.place) o r.outputs) f q in
+    finds_behind d.device (entries_refused d i o r) (marks_refused d i o r) (row_chars d i o r ∷ []) old mid new
+    (ap₂ (λ xs ys. xs ++ ys) driven.0 found.0) noted
+    (vector_added d i o r vector mid new
+    (subst₂ (λ ss xs. IsRowVector d ss xs (targets_of o) (marks_of d o (term_of d.known r.outputs)) vector) names.driven (ap (map view_mark) l ∙ driven.1)
+    (subst₂ (λ ts xs. IsRowVector d h.driven.now (map view_mark ms) ts xs vector) names.tested (ap (map view_mark) m ∙ found.1) is))
+    adds)
+
+-- ---- rows
+
+-- one before others
+pub rows_behind : (d : Context) (h : Header) (n m : ℕ) (x : RowTree) (all rest : List RowTree) (full : Option SectionFault) (old mid new later : Found)
+    → all ≡ x ∷ rest → m ≡ suc n → full ≡ first_refusal section_order (one_too_many n x.place) → mid.fault ≡ earlier section_order old.fault full → mid.list.items ≡ old.list.items
+    → FindsRow d h x mid new → FindsRows d m h rest new later → FindsRows d n h all old later
+rows_behind d h n m x all rest full old mid new later same next room fault list row others =
+    let i = header_term d h.section.now.inputs in
+    let o = header_term d h.section.now.outputs in
+    subst (λ rows. FindsRows d n h rows old later) (sym same)
+    (finds_then d.device (one_too_many n x.place) (row_refused d i o x ++ rows_refused d (suc n) i o rest) [] (row_chars d i o x ∷ map (row_chars d i o) rest) old mid later
+    (finds_refusals d.device (one_too_many n x.place) full old mid room fault list)
+    (finds_then d.device (row_refused d i o x) (rows_refused d (suc n) i o rest) (row_chars d i o x ∷ []) (map (row_chars d i o) rest) mid new later row
+    (subst (λ k. FindsRows d k h rest new later) next others)))

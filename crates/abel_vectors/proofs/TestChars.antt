@@ -1,46 +1,38 @@
 -- The characters of vectors are those that a fuse file may have.
-use Rattle.std.proofs.Common.{◌≡◌, ℕ, ◌==◌, Bool, true, false, ◌&&◌, ◌||◌, if◌then◌else◌, Option, None, Some, List, [], ◌∷◌, map, refl, ap₂}
+use Rattle.std.proofs.Common.{◌≡◌, ℕ, ◌==◌, Bool, true, false, ◌&&◌, ◌||◌, if◌then◌else◌, Option, None, Some, List, [], ◌∷◌, map, refl, sym, ap₂, subst}
 use Rattle.std.specs.Prelude.{All}
 use Rattle.std.specs.List.{list_all, range_with_len}
-use Rattle.std.proofs.lemmas.List.Elements.{All-nil, All-cons, All-head, All-tail}
+use Rattle.std.proofs.lemmas.List.Elements.{All-append, All-nil, All-cons, All-head, All-tail}
 use Rattle.pld_base.specs.declared.point.Vector.{Vector}
 use Rattle.pld_device.specs.Macrocells.{complement_if}
 use Rattle.pld_device.specs.Table.{Table}
 use Rattle.jedec_file.specs.Fields.{is_test_char}
 use Rattle.jedec_file.specs.TestVectors.{IsTestVector, all_chars}
 use Rattle.abel_tree.specs.Entries.{Kind, APin, ANode, AConstant, ADeviceName}
-use Rattle.abel_tree.specs.Tree.{RowTree}
+use Rattle.abel_tree.specs.Tree.{RowTree, SectionTree, Declarations, Equations, ATable, ADiagram, SomeVectors, DontCareSection}
 use Rattle.abel_meaning.specs.Designs.{Context, name_at}
 use Rattle.abel_meaning.specs.Rows.{Mark, Level, Unknown, Pulsed, Released, marks_of}
 use Rattle.abel_meaning.specs.Targets.{targets_of}
 use Rattle.abel_meaning.specs.Terms.{Term, term_of}
-use Rattle.abel_meaning.specs.Vectors.{char_by, input_char, output_char, given_to, first_char, char_given, char_or_plain, pin_char, row_chars}
+use Rattle.abel_meaning.specs.Vectors.{char_by, input_char, output_char, given_to, first_char, char_given, char_or_plain, pin_char, row_chars, section_vectors, sections_vectors}
 
 -- a character that may be there is one of these
 abbrev IsTestIf : Option ℕ → Type 0
 IsTestIf None = Unit {0}
 IsTestIf (Some c) = is_test_char c ≡ true
 
-zero_one : (b : Bool) → is_test_char (char_by b 48 49) ≡ true
-zero_one true = refl
-zero_one false = refl
-
-clock_down : (b : Bool) → is_test_char (char_by b 67 75) ≡ true
-clock_down true = refl
-clock_down false = refl
-
-low_high : (b : Bool) → is_test_char (char_by b 76 72) ≡ true
-low_high true = refl
-low_high false = refl
+by_level : (b : Bool) (low high : ℕ) → is_test_char low ≡ true → is_test_char high ≡ true → is_test_char (char_by b low high) ≡ true
+by_level true low high l h = h
+by_level false low high l h = l
 
 input_tests : (negated : Bool) (m : Mark) → IsTestIf (input_char negated m)
-input_tests negated (Level on) = zero_one (complement_if negated on)
+input_tests negated (Level on) = by_level (complement_if negated on) 48 49 refl refl
 input_tests negated Unknown = tt
-input_tests negated Pulsed = clock_down negated
+input_tests negated Pulsed = by_level negated 67 75 refl refl
 input_tests negated Released = tt
 
 output_tests : (negated : Bool) (m : Mark) → IsTestIf (output_char negated m)
-output_tests negated (Level on) = low_high (complement_if negated on)
+output_tests negated (Level on) = by_level (complement_if negated on) 76 72 refl refl
 output_tests negated Unknown = tt
 output_tests negated Pulsed = tt
 output_tests negated Released = refl
@@ -88,17 +80,38 @@ pins_test : (d : Context) (h k : Term) (r : RowTree) (pins : List ℕ) → list_
 pins_test d h k r [] = refl
 pins_test d h k r (pin ∷ pins) = ap₂ (λ a b. a && b) (pin_tests d h k r pin) (pins_test d h k r pins)
 
--- all of some texts
-abbrev pub AllTest : List (List ℕ) → Type 0
+-- ---- texts
+
+abbrev AllTest : List (List ℕ) → Type 0
 AllTest css = All (λ (cs : List ℕ). list_all is_test_char cs ≡ true) css
 
-pub rows_test : (d : Context) (h k : Term) (rs : List RowTree) → AllTest (map (row_chars d h k) rs)
-rows_test d h k [] = All-nil (λ (cs : List ℕ). list_all is_test_char cs ≡ true)
+none_test : AllTest []
+none_test = All-nil (λ (cs : List ℕ). list_all is_test_char cs ≡ true)
+
+rows_test : (d : Context) (h k : Term) (rs : List RowTree) → AllTest (map (row_chars d h k) rs)
+rows_test d h k [] = none_test
 rows_test d h k (r ∷ rs) =
     All-cons (λ (cs : List ℕ). list_all is_test_char cs ≡ true) (row_chars d h k r) (map (row_chars d h k) rs) (pins_test d h k r (range_with_len 1 d.device.pins)) (rows_test d h k rs)
 
-pub all_test : (t : Table) (vs : List Vector) → AllTest (all_chars t vs) → All (IsTestVector t) vs
-all_test t [] h = All-nil (IsTestVector t)
-all_test t (v ∷ vs) h =
-    let test = λ (cs : List ℕ). list_all is_test_char cs ≡ true in
-    All-cons (IsTestVector t) v vs (All-head test _ (all_chars t vs) h) (all_test t vs (All-tail test _ (all_chars t vs) h))
+pub section_test : (d : Context) (s : SectionTree) → AllTest (section_vectors d s)
+section_test d (SomeVectors _ p a b rs) = rows_test d (term_of d.known a) (term_of d.known b) rs
+section_test d (Declarations ds) = none_test
+section_test d (Equations ss) = none_test
+section_test d (ATable p a c b rs) = none_test
+section_test d (ADiagram p t ss) = none_test
+section_test d (DontCareSection c) = none_test
+
+pub sections_test : (d : Context) (ss : List SectionTree) → AllTest (sections_vectors d ss)
+sections_test d [] = none_test
+sections_test d (s ∷ ss) = All-append (λ (cs : List ℕ). list_all is_test_char cs ≡ true) (section_vectors d s) (sections_vectors d ss) (section_test d s) (sections_test d ss)
+
+-- vectors of such texts
+pub all_test : (t : Table) (vs : List Vector) (css : List (List ℕ)) → all_chars t vs ≡ css → AllTest css → All (IsTestVector t) vs
+all_test t vs css e h = each vs (subst AllTest (sym e) h)
+  where
+    test : List ℕ → Type 0
+    test cs = list_all is_test_char cs ≡ true
+
+    each : (ws : List Vector) → AllTest (all_chars t ws) → All (IsTestVector t) ws
+    each [] k = All-nil (IsTestVector t)
+    each (v ∷ ws) k = All-cons (IsTestVector t) v ws (All-head test _ (all_chars t ws) k) (each ws (All-tail test _ (all_chars t ws) k))

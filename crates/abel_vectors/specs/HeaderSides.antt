@@ -1,21 +1,16 @@
 -- What is found of a side of a header of vectors (ABEL-HDL Reference Manual, test vectors).
-use Rattle.std.specs.Prelude.{◌≡◌, ℕ, Bool, true, Option, None, Some, []}
+use Rattle.std.specs.Prelude.{◌≡◌, Option, None, Some, []}
 use Rattle.pld_base.specs.declared.place.Place.{Place}
 use Rattle.abel_tree.specs.FirstRefusal.{first_refusal}
 use Rattle.abel_tree.specs.Tree.{Tree}
-use Rattle.abel_meaning.specs.Designs.{Context, name_at}
+use Rattle.abel_meaning.specs.Designs.{Context}
 use Rattle.abel_meaning.specs.Targets.{targets_of}
 use Rattle.abel_meaning.specs.Terms.{term_of}
 use Rattle.set_expr.specs.SectionOrder.{section_order}
 use Rattle.set_expr.specs.declared.fault.SectionFault.{SectionFault}
 use Rattle.abel_vectors.specs.declared.headers.Side.{Side}
 use Rattle.abel_vectors.specs.declared.headers.Side.TheVariants as side
-use Rattle.abel_vectors.specs.VectorRefusals.{is_pin, side_refused}
-
--- X, or the name of a pin
-abbrev pub is_pin_or_unknown : Context → Option ℕ → Bool
-is_pin_or_unknown d None = true
-is_pin_or_unknown d (Some s) = is_pin (name_at d s).kind
+use Rattle.abel_vectors.specs.VectorRefusals.{side_refused}
 
 -- the first refusal of a side, or its pins from the left
 abbrev pub IsSide : Context → Place → Tree → Side → Type 0

@@ -1,40 +1,42 @@
 -- What is refused of test vectors (ABEL-HDL Reference Manual, test vectors; JESD3-C, test vector field; one character for
 -- each pin, and the limit, are this project's rules).
-use Rattle.std.specs.Prelude.{ℕ, suc, ◌==◌, nat_lt, Bool, true, false, not, ◌&&◌, ◌||◌, Option, None, Some, List, [], ◌∷◌, ◌++◌, if◌then◌else◌}
-use Rattle.std.specs.List.{list_any}
+use Rattle.std.specs.Prelude.{ℕ, suc, ◌==◌, nat_lt, Bool, true, false, not, ◌&&◌, ◌||◌, Option, None, Some, List, [], ◌∷◌, ◌++◌, get_or, if◌then◌else◌}
+use Rattle.std.specs.List.{list_all, list_any}
+use Rattle.std.specs.Option.{is_none, is_some}
 use Rattle.pld_base.specs.declared.place.Place.{Place}
-use Rattle.abel_tree.specs.Entries.{Kind, APin, ANode, AConstant, ADeviceName}
+use Rattle.abel_tree.specs.Entries.{Entry, Kind, APin, ANode, AConstant, ADeviceName}
 use Rattle.abel_tree.specs.Tree.{Tree, RowTree, SectionTree, SomeVectors}
-use Rattle.abel_meaning.specs.Designs.{Context, name_at}
+use Rattle.abel_meaning.specs.Designs.{Context, no_name}
 use Rattle.abel_meaning.specs.Rows.{Mark, Pulsed, marks_of}
 use Rattle.abel_meaning.specs.Targets.{targets_of}
-use Rattle.abel_meaning.specs.Terms.{Term, Terms, term_of}
-use Rattle.abel_meaning.specs.Terms as term
+use Rattle.abel_meaning.specs.Terms.{Term, term_of}
 use Rattle.abel_meaning.specs.Vectors.{input_char, output_char}
 use Rattle.set_expr.specs.declared.fault.SectionFault.{SectionFault}
 use Rattle.set_expr.specs.declared.fault.SectionFault.TheVariants.{BadVector}
 use Rattle.set_expr.specs.FoundNames.{expression_found}
+use Rattle.truth_tables.specs.HeaderSignals.{names_positions}
 use Rattle.truth_tables.specs.RowEntries.{unless_met, entry_refused}
 
 -- ---- headers
 
-abbrev pub is_pin : Kind → Bool
-is_pin (APin pin negated) = true
-is_pin (ANode number) = false
-is_pin (AConstant value) = false
-is_pin ADeviceName = false
+-- the pin of a name, and whether the name is its complement; none where it is no pin's
+abbrev pub pin_of : Kind → Option (ℕ × Bool)
+pin_of (APin pin negated) = Some (pin, negated)
+pin_of (ANode number) = None
+pin_of (AConstant value) = None
+pin_of ADeviceName = None
+
+-- the same of the name at a position of a header; none at X too
+abbrev pub pin_at : List Entry → Option ℕ → Option (ℕ × Bool)
+pin_at es None = None
+pin_at es (Some s) = pin_of (get_or es s no_name).kind
+
+abbrev pub is_pin_or_unknown : List Entry → Option ℕ → Bool
+is_pin_or_unknown es s = is_none s || is_some (pin_at es s)
 
 -- each position is a pin without extension, or X
-abbrev mutual
-  pub names_pins : Context → Term → Bool
-  names_pins d term.X = true
-  names_pins d (term.Read s None) = is_pin (name_at d s).kind
-  names_pins d (term.Set ts) = all_name_pins d ts
-  names_pins d _ = false
-
-  pub all_name_pins : Context → Terms → Bool
-  all_name_pins d term.NoTerm = true
-  all_name_pins d (term.Before t ts) = names_pins d t && all_name_pins d ts
+abbrev pub names_pins : Context → Term → Bool
+names_pins d t = names_positions t && list_all (is_pin_or_unknown d.names) (targets_of t)
 
 -- a side of the header that stands at this place
 abbrev pub side_refused : Context → Place → Tree → List SectionFault
@@ -52,18 +54,17 @@ char_if pin None = []
 char_if pin (Some c) = (pin, c) ∷ []
 
 -- the characters that a position gives to pins, and those of a side
-abbrev pub char_for : Kind → (Bool → Mark → Option ℕ) → Mark → List (ℕ × ℕ)
-char_for (APin pin negated) char mark = char_if pin (char negated mark)
-char_for _ char mark = []
+abbrev pub char_for : Option (ℕ × Bool) → (Bool → Mark → Option ℕ) → Mark → List (ℕ × ℕ)
+char_for None char mark = []
+char_for (Some x) char mark = char_if x.0 (char x.1 mark)
 
-abbrev pub position_gives : Context → (Bool → Mark → Option ℕ) → Option ℕ → Mark → List (ℕ × ℕ)
-position_gives d char None mark = []
-position_gives d char (Some s) mark = char_for (name_at d s).kind char mark
+abbrev pub position_gives : List Entry → (Bool → Mark → Option ℕ) → Option ℕ → Mark → List (ℕ × ℕ)
+position_gives es char s mark = char_for (pin_at es s) char mark
 
-abbrev pub chars_for : Context → (Bool → Mark → Option ℕ) → List (Option ℕ) → List Mark → List (ℕ × ℕ)
-chars_for d char [] marks = []
-chars_for d char (s ∷ ss) [] = []
-chars_for d char (s ∷ ss) (m ∷ marks) = position_gives d char s m ++ chars_for d char ss marks
+abbrev pub chars_for : List Entry → (Bool → Mark → Option ℕ) → List (Option ℕ) → List Mark → List (ℕ × ℕ)
+chars_for es char [] marks = []
+chars_for es char (s ∷ ss) [] = []
+chars_for es char (s ∷ ss) (m ∷ marks) = position_gives es char s m ++ chars_for es char ss marks
 
 -- some pin has another character than this one
 abbrev pub gives_another : ℕ × ℕ → ℕ × ℕ → Bool
@@ -85,16 +86,20 @@ tests_pulse [] marks = false
 tests_pulse (s ∷ ss) [] = false
 tests_pulse (s ∷ ss) (m ∷ marks) = position_pulses s m || tests_pulse ss marks
 
+-- all characters of a row under a header with these positions
+abbrev pub all_given : List Entry → (inputs : List (Option ℕ)) → List Mark → (outputs : List (Option ℕ)) → List Mark → List (ℕ × ℕ)
+all_given es ss given ts tested = chars_for es input_char ss given ++ chars_for es output_char ts tested
+
 -- the marks of a row are no vector's
-abbrev pub is_no_vector : Context → (inputs outputs : Term) → (given tested : List Mark) → Bool
-is_no_vector d inputs outputs given tested =
-    tests_pulse (targets_of outputs) tested
-    || disagree (chars_for d input_char (targets_of inputs) given ++ chars_for d output_char (targets_of outputs) tested)
+abbrev pub is_no_vector : List Entry → (inputs : List (Option ℕ)) → List Mark → (outputs : List (Option ℕ)) → List Mark → Bool
+is_no_vector es ss given ts tested = tests_pulse ts tested || disagree (all_given es ss given ts tested)
 
 -- what is refused of a row whose entries meet the header
 abbrev pub marks_refused : Context → (inputs outputs : Term) → RowTree → List SectionFault
 marks_refused d inputs outputs row =
-    if is_no_vector d inputs outputs (marks_of d inputs (term_of d.known row.inputs)) (marks_of d outputs (term_of d.known row.outputs))
+    if is_no_vector d.names
+    (targets_of inputs) (marks_of d inputs (term_of d.known row.inputs))
+    (targets_of outputs) (marks_of d outputs (term_of d.known row.outputs))
     then BadVector row.place ∷ [] else []
 
 -- what is refused of a row

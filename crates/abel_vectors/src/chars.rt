@@ -15,36 +15,23 @@ pub(crate) enum Role {
     Tested,
 }
 
-/// One of two characters.
-fn char_by(on: bool, low: u8, high: u8) -> u8
-    ensures { result ≡ meant.char_by on low high }
+/// The character of a level of a name at its pin, which has the other level where the name is its complement.
+fn level_char(negated: bool, on: bool, low: u8, high: u8) -> u8
+    ensures { result ≡ meant.char_by (complement_if negated on) low high }
 {
-    if on { high } else { low }
-}
-
-/// The level of the pin of a name.
-fn pin_level(negated: bool, on: bool) -> bool
-    ensures { result ≡ complement_if negated on }
-{
-    if negated { !on } else { on }
+    let level = if negated { !on } else { on };
+    if level { high } else { low }
 }
 
 /// The character that a mark gives to a pin whose name is its complement or not; None where it gives none.
 pub(crate) fn role_char(role: Role, negated: bool, mark: Mark) -> Option<u8>
     ensures { result ≡ char_in role negated (view_mark mark) }
 {
-    match role {
-        Role::Driven => match mark {
-            Mark::Level(on) => Some(char_by(pin_level(negated, on), b'0', b'1')),
-            Mark::Pulsed => Some(char_by(negated, b'C', b'K')),
-            Mark::Unknown => None,
-            Mark::Released => None,
-        },
-        Role::Tested => match mark {
-            Mark::Level(on) => Some(char_by(pin_level(negated, on), b'L', b'H')),
-            Mark::Released => Some(b'Z'),
-            Mark::Unknown => None,
-            Mark::Pulsed => None,
-        },
+    match (role, mark) {
+        (Role::Driven, Mark::Level(on)) => Some(level_char(negated, on, b'0', b'1')),
+        (Role::Driven, Mark::Pulsed) => Some(if negated { b'K' } else { b'C' }),
+        (Role::Tested, Mark::Level(on)) => Some(level_char(negated, on, b'L', b'H')),
+        (Role::Tested, Mark::Released) => Some(b'Z'),
+        _ => None,
     }
 }

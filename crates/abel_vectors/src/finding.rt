@@ -1,50 +1,50 @@
-//! What is found of sections of vectors, one after another.
+//! What is found of vectors, row after row and section after section.
 
-ghost use Rattle.std.specs.Prelude.{◌≡◌, ◌≢◌, IfOk, OnOk};
-ghost use Rattle.set_expr.specs.declared.fault.SectionFault.TheVariants as faults;
-ghost use Rattle.abel_vectors.specs.FoundVectors.{Adds, answer_of};
+ghost use Rattle.std.specs.Prelude.{◌≡◌, Some};
+ghost use Rattle.abel_tree.specs.FirstRefusal as refusal;
+ghost use Rattle.set_expr.specs.SectionOrder.{section_order};
+ghost use Rattle.abel_vectors.specs.FoundVectors.{answer_of, NothingFound};
 
-use abel_tree::earlier;
-use pld_base::{OutOfMemory, Vector};
+use abel_tree::is_before;
+use pld_base::Vector;
 use set_expr::SectionFault;
+use std::alloc::Global;
 
-/// The first refusal of rows or of sections, and their vectors where there is none.
+/// The first refusal so far, and where there is none the vectors so far.
 #[derive(Drop)]
 pub(crate) struct Found {
     pub fault: Option<SectionFault>,
     pub list: Vec<Vector>,
 }
 
-/// The vectors, or their first refusal.
-pub(crate) fn answer(found: Found) -> Result<Vec<Vector>, SectionFault>
-    ensures { result ≡ answer_of found.fault found.list }
-{
-    match found.fault {
-        Some(fault) => Err(fault),
-        None => Ok(found.list),
+impl Found {
+    /// Nothing yet.
+    pub(crate) fn new(alloc: Global) -> Found
+        ensures { NothingFound result }
+    {
+        Found {
+            fault: None,
+            list: Vec::new(alloc),
+        }
+    }
+
+    /// The vectors, or the first refusal.
+    pub(crate) fn answer(self) -> Result<Vec<Vector>, SectionFault>
+        ensures { result ≡ answer_of self.fault self.list }
+    {
+        match self.fault {
+            Some(fault) => Err(fault),
+            None => Ok(self.list),
+        }
     }
 }
 
-/// A refusal; want of memory is none.
-fn refusal(fault: SectionFault) -> Result<SectionFault, OutOfMemory>
-    ensures { IfOk result (λ f. (f ≡ fault) × (fault ≢ faults.OutOfMemory)) }
+/// The first of two refusals of which one is there.
+pub(crate) fn first_of(first: SectionFault, other: Option<SectionFault>) -> SectionFault
+    ensures { Some result ≡ refusal.earlier section_order (Some first) other }
 {
-    match fault {
-        SectionFault::OutOfMemory => Err(OutOfMemory),
-        _ => Ok(fault),
+    match other {
+        Some(other) if is_before(&other, &first) => other,
+        _ => first,
     }
-}
-
-/// A section more, whose vectors or first refusal this is.
-pub(crate) fn add_section(
-    found: &mut Found,
-    section: Result<Vec<Vector>, SectionFault>,
-) -> Result<(), OutOfMemory>
-    ensures { OnOk result (Adds found.old found.new section) }
-{
-    match section {
-        Ok(list) => found.list.extend_from_slice(list.as_slice())?,
-        Err(fault) => found.fault = earlier(found.fault, Some(refusal(fault)?)),
-    }
-    Ok(())
 }

@@ -2,15 +2,16 @@
 
 ghost use Rattle.std.specs.Prelude.{◌≡◌, [], IfOk};
 ghost use Rattle.std.specs.List.{list_all};
-ghost use Rattle.abel_tree.specs.Entries.{entries_of, view_meaning};
+ghost use Rattle.abel_tree.specs.Entries.{entries_of};
 ghost use Rattle.abel_tree.specs.View.{view};
-ghost use Rattle.abel_meaning.specs.Designs.{Context, name_at};
+ghost use Rattle.abel_meaning.specs.Designs.{Context};
 ghost use Rattle.set_expr.specs.FoundNames.{expression_found};
 ghost use Rattle.truth_tables.specs.EntryTerms.{IsOver};
-ghost use Rattle.abel_vectors.specs.HeaderSides.{IsSide, is_pin_or_unknown};
-ghost use Rattle.abel_vectors.specs.VectorRefusals.{is_pin};
+ghost use Rattle.abel_vectors.specs.HeaderSides.{IsSide};
+ghost use Rattle.abel_vectors.specs.VectorRefusals.{is_pin_or_unknown};
 
-use abel_tree::{Expr, Meaning};
+use crate::pins::pin_at;
+use abel_tree::Expr;
 use pld_base::{OutOfMemory, Place};
 use set_expr::{Scope, SectionFault};
 use std::alloc::Global;
@@ -23,49 +24,20 @@ pub enum Side {
     Pins(Vec<Option<u32>>),
 }
 
-/// Whether a name is that of a pin.
-fn names_pin(meaning: &Meaning) -> bool
-    ensures { result ≡ is_pin (view_meaning meaning.now) }
-{
-    match meaning {
-        Meaning::Pin { pin: _, negated: _ } => true,
-        Meaning::Node(_) => false,
-        Meaning::Constant(_) => false,
-        Meaning::DeviceName => false,
-    }
-}
-
-/// Whether the name with this number is that of a pin.
-fn numbers_pin(scope: &Scope<'_>, number: usize) -> bool
-    ensures { (d : Context) → d.names ≡ entries_of scope.now → result ≡ is_pin (name_at d number).kind }
-{
-    let list = scope.list();
-    if number < list.len() {
-        names_pin(&list[number].meaning)
-    } else {
-        false
-    }
-}
-
 /// Whether a position is X or a pin.
-fn may_stand(scope: &Scope<'_>, signal: Option<u32>) -> bool
-    ensures { (d : Context) → d.names ≡ entries_of scope.now → result ≡ is_pin_or_unknown d signal }
+fn is_pin_or_unknown(scope: &Scope<'_>, signal: Option<u32>) -> bool
+    ensures { result ≡ is_pin_or_unknown (entries_of scope.now) signal }
 {
-    match signal {
-        None => true,
-        Some(number) => numbers_pin(scope, number as usize),
-    }
+    signal.is_none() || pin_at(scope, signal).is_some()
 }
 
 /// Whether all positions are.
-fn all_may_stand(scope: &Scope<'_>, signals: &[Option<u32>]) -> bool
-    ensures { (d : Context) → d.names ≡ entries_of scope.now → result ≡ list_all (is_pin_or_unknown d) signals.now }
+fn are_pins_or_unknown(scope: &Scope<'_>, signals: &[Option<u32>]) -> bool
+    ensures { result ≡ list_all (is_pin_or_unknown (entries_of scope.now)) signals.now }
 {
-    let mut all = true;
-    for index in 0..signals.len() {
-        all = all & may_stand(scope, signals[index]);
-    }
-    all
+    signals
+        .iter()
+        .all(|signal| is_pin_or_unknown(scope, *signal))
 }
 
 /// A side in which nothing is refused as an expression.
@@ -77,14 +49,15 @@ fn named_side(
 ) -> Result<Side, OutOfMemory>
     ensures { IfOk result (λ s. (d : Context) → IsOver scope.now d → (expression_found d.names (view side.now)).refusals ≡ [] → IsSide d place (view side.now) s) }
 {
+    let bad = SectionFault::BadVector(place);
     let found = header_signals(alloc, scope, side)?;
     match found {
-        None => Ok(Side::Refused(SectionFault::BadVector(place))),
+        None => Ok(Side::Refused(bad)),
         Some(signals) => {
-            if all_may_stand(scope, signals.as_slice()) {
+            if are_pins_or_unknown(scope, signals.as_slice()) {
                 Ok(Side::Pins(signals))
             } else {
-                Ok(Side::Refused(SectionFault::BadVector(place)))
+                Ok(Side::Refused(bad))
             }
         }
     }

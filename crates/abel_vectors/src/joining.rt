@@ -10,7 +10,7 @@ ghost use Rattle.source_sections.specs.SectionAnswers.{IsTold, sections_refused}
 ghost use Rattle.abel_vectors.specs.AllSections.{AnswersAll, all_sections_refused};
 ghost use Rattle.abel_vectors.specs.SourceVectors.{AnswersVectors};
 
-use crate::rows::first_of;
+use crate::finding::first_of;
 use crate::sections::all_vectors;
 use abel_tree::Module;
 use pld_base::Vector;

@@ -1,14 +1,47 @@
-//! A vector from the characters that are given to pins.
+//! The pins of names, and their characters in a vector.
 
 ghost use Rattle.std.specs.Prelude.{◌≡◌, ℕ, map};
 ghost use Rattle.std.specs.List.{range_with_len};
 ghost use Rattle.jedec_file.specs.TestVectors.{chars_of};
+ghost use Rattle.abel_tree.specs.Entries.{entries_of, view_meaning};
 ghost use Rattle.abel_meaning.specs.Vectors as meant;
-ghost use Rattle.abel_vectors.specs.GivenChars.{found_at, pair_of};
+ghost use Rattle.abel_vectors.specs.GivenChars.{found_at};
+ghost use Rattle.abel_vectors.specs.VectorRefusals as refused;
 
-use crate::given::{Given, first_at};
+use crate::given::first_at;
+use abel_tree::Meaning;
 use pld_base::Vector;
 use pld_device::Device;
+use set_expr::Scope;
+
+/// The pin of a name that means this, and whether the name is its complement; None where it is no pin's.
+fn pin_of(meaning: &Meaning) -> Option<(u8, bool)>
+    ensures { result ≡ refused.pin_of (view_meaning meaning.now) }
+{
+    match meaning {
+        Meaning::Pin { pin, negated } => Some((*pin, *negated)),
+        Meaning::Node(_) => None,
+        Meaning::Constant(_) => None,
+        Meaning::DeviceName => None,
+    }
+}
+
+/// The same of the name at a position of a header; None at X too.
+pub(crate) fn pin_at(scope: &Scope<'_>, signal: Option<u32>) -> Option<(u8, bool)>
+    ensures { result ≡ refused.pin_at (entries_of scope.now) signal }
+{
+    let list = scope.list();
+    match signal {
+        Some(number) => {
+            if (number as usize) < list.len() {
+                pin_of(&list[number as usize].meaning)
+            } else {
+                None
+            }
+        }
+        None => None,
+    }
+}
 
 /// The character of a pin that no entry speaks of.
 fn plain_char<D: Device>(pin: u8) -> u8
@@ -22,8 +55,8 @@ fn plain_char<D: Device>(pin: u8) -> u8
 }
 
 /// The character of a pin: the first that is given to it, else its plain one.
-fn pin_char<D: Device>(list: &[Given], pin: u8) -> u8
-    ensures { result ≡ meant.char_or_plain D.table pin (found_at (map pair_of list.now) pin) }
+fn pin_char<D: Device>(list: &[(u8, u8)], pin: u8) -> u8
+    ensures { result ≡ meant.char_or_plain D.table pin (found_at list.now pin) }
 {
     match first_at(list, pin) {
         Some(char) => char,
@@ -32,8 +65,8 @@ fn pin_char<D: Device>(list: &[Given], pin: u8) -> u8
 }
 
 /// The vector in which these characters are given; past the device's last pin it has N.
-pub(crate) fn vector_of<D: Device>(list: &[Given]) -> Vector
-    ensures { chars_of D.table result ≡ map (λ (pin : ℕ). meant.char_or_plain D.table pin (found_at (map pair_of list.now) pin)) (range_with_len 1 D.table.pins) }
+pub(crate) fn vector_of<D: Device>(list: &[(u8, u8)]) -> Vector
+    ensures { chars_of D.table result ≡ map (λ (pin : ℕ). meant.char_or_plain D.table pin (found_at list.now pin)) (range_with_len 1 D.table.pins) }
 {
     let mut chars = [b'N'; 24];
     for index in 0..D::PINS {

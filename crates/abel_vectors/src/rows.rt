@@ -1,40 +1,50 @@
 //! Rows of vectors under a header in which nothing is refused.
 
-ghost use Rattle.std.specs.Prelude.{◌≡◌, ◌+◌, Some, IfOk, OnOk, map};
-ghost use Rattle.abel_tree.specs.FirstRefusal as refusal;
+ghost use Rattle.std.specs.Prelude.{◌≡◌, ℕ, ◌+◌, ◌-◌, IfOk, OnOk, map};
+ghost use Rattle.abel_tree.specs.FirstRefusal.{first_refusal};
 ghost use Rattle.abel_tree.specs.View.{view_vector_row};
-ghost use Rattle.abel_meaning.specs.Targets.{targets_of};
 ghost use Rattle.set_expr.specs.Contexts.{context_for};
 ghost use Rattle.set_expr.specs.SectionOrder.{section_order};
 ghost use Rattle.truth_tables.specs.EntryMarks.{view_mark};
-ghost use Rattle.abel_vectors.specs.ReadRows.{AddsRow, AreRead, IsMarkedRow, IsReadRow, entry_fault, header_term, room_fault};
+ghost use Rattle.abel_vectors.specs.ReadRows.{AddsVector, FindsRow, FindsRows, IsRowVector, NamesPins, entry_fault};
+ghost use Rattle.abel_vectors.specs.VectorRefusals.{one_too_many};
 
+use crate::chars::Role;
 use crate::finding::Found;
-use crate::given::{Positions, RowMarks, row_chars};
+use crate::given::{disagree, put_side};
 use crate::pins::vector_of;
-use abel_tree::{VectorRow, Vectors, earlier, is_before};
+use abel_tree::{VectorRow, Vectors, earlier};
 use pld_base::{OutOfMemory, Place, Vector};
 use pld_device::Device;
 use set_expr::{Scope, SectionFault};
 use std::alloc::Global;
-use truth_tables::{Entry, read_entry};
+use truth_tables::{Entry, Mark, read_entry};
 
-/// The most vectors of a source.
-const MOST: u32 = 9_999;
+/// The header of a section, with the names at the positions of its sides from the left, None at X.
+#[derive(Drop)]
+pub(crate) struct Header<'a> {
+    pub section: &'a Vectors,
+    pub driven: &'a [Option<u32>],
+    pub tested: &'a [Option<u32>],
+}
 
-/// The first of two refusals of which one is there.
-pub(crate) fn first_of(first: SectionFault, other: Option<SectionFault>) -> SectionFault
-    ensures { Some result ≡ refusal.earlier section_order (Some first) other }
+/// The vector of a row whose entries meet the header; None where their marks are no vector's.
+fn row_vector<D: Device>(
+    alloc: Global,
+    scope: &Scope<'_>,
+    header: &Header<'_>,
+    driven: &[Mark],
+    tested: &[Mark],
+) -> Result<Option<Vector>, OutOfMemory>
+    ensures { IfOk result (λ vector. IsRowVector (context_for D.table scope.now) header.now.driven.now (map view_mark driven.now) header.now.tested.now (map view_mark tested.now) vector) }
 {
-    match other {
-        None => first,
-        Some(other) => {
-            if is_before(&other, &first) {
-                other
-            } else {
-                first
-            }
-        }
+    let mut list = Vec::new(alloc);
+    put_side(scope, Role::Driven, header.driven, driven, &mut list)?;
+    let pulsed = put_side(scope, Role::Tested, header.tested, tested, &mut list)?;
+    if pulsed || disagree(list.as_slice()) {
+        Ok(None)
+    } else {
+        Ok(Some(vector_of::<D>(list.as_slice())))
     }
 }
 
@@ -48,102 +58,73 @@ fn fault_of(entry: &Entry) -> Option<SectionFault>
     }
 }
 
-/// A row whose entries meet the header: its vector, or its refusal.
-fn marked_row<D: Device>(
-    alloc: Global,
-    scope: &Scope<'_>,
-    place: Place,
-    positions: &Positions<'_>,
-    marks: &RowMarks<'_>,
-) -> Result<Result<Vector, SectionFault>, OutOfMemory>
-    ensures { IfOk result (λ row. IsMarkedRow (context_for D.table scope.now) place positions.now.inputs.now (map view_mark marks.now.inputs.now) positions.now.outputs.now (map view_mark marks.now.outputs.now) row) }
+/// The vector of the row at this place, which is refused where it has none.
+fn add_vector(found: &mut Found, place: Place, vector: Option<Vector>) -> Result<(), OutOfMemory>
+    ensures { OnOk result (AddsVector place vector found.old found.new) }
 {
-    match row_chars(alloc, scope, positions, marks)? {
-        Some(list) => Ok(Ok(vector_of::<D>(list.as_slice()))),
-        None => Ok(Err(SectionFault::BadVector(place))),
+    match vector {
+        Some(vector) => found.list.push(vector)?,
+        None => found.fault = earlier(found.fault, Some(SectionFault::BadVector(place))),
     }
+    Ok(())
 }
 
-/// A row under a header whose sides name these positions: its vector, or its first refusal.
+/// A row: its vector, or its first refusal.
 fn read_row<D: Device>(
     alloc: Global,
     scope: &Scope<'_>,
-    section: &Vectors,
-    positions: &Positions<'_>,
+    header: &Header<'_>,
     row: &VectorRow,
-) -> Result<Result<Vector, SectionFault>, OutOfMemory>
-    ensures { IfOk result (λ found. positions.now.inputs.now ≡ targets_of (header_term (context_for D.table scope.now) section.now.inputs) → positions.now.outputs.now ≡ targets_of (header_term (context_for D.table scope.now) section.now.outputs) → IsReadRow (context_for D.table scope.now) (header_term (context_for D.table scope.now) section.now.inputs) (header_term (context_for D.table scope.now) section.now.outputs) (view_vector_row row.now) found) }
+    found: &mut Found,
+) -> Result<(), OutOfMemory>
+    requires { NamesPins (context_for D.table scope.now) header.now }
+    ensures { OnOk result (FindsRow (context_for D.table scope.now) header.now (view_vector_row row.now) found.old found.new) }
 {
-    let fault = SectionFault::BadVector(row.place);
-    let given = read_entry(alloc, scope, fault, &section.inputs, &row.inputs)?;
-    let tested = read_entry(alloc, scope, fault, &section.outputs, &row.outputs)?;
-    match given {
-        Entry::Refused(first) => Ok(Err(first_of(first, fault_of(&tested)))),
-        Entry::Marks(given) => match tested {
-            Entry::Refused(second) => Ok(Err(second)),
-            Entry::Marks(tested) => {
-                let marks = RowMarks {
-                    inputs: given.as_slice(),
-                    outputs: tested.as_slice(),
-                };
-                marked_row::<D>(alloc, scope, row.place, positions, &marks)
-            }
-        },
+    let bad = SectionFault::BadVector(row.place);
+    let driven = read_entry(alloc, scope, bad, &header.section.inputs, &row.inputs)?;
+    let tested = read_entry(alloc, scope, bad, &header.section.outputs, &row.outputs)?;
+    let refused = earlier(fault_of(&driven), fault_of(&tested));
+    found.fault = earlier(found.fault, refused);
+    match (driven, tested) {
+        (Entry::Marks(driven), Entry::Marks(tested)) => {
+            let (driven, tested) = (driven.as_slice(), tested.as_slice());
+            let vector = row_vector::<D>(alloc, scope, header, driven, tested)?;
+            add_vector(found, row.place, vector)
+        }
+        (Entry::Refused(_), _) => Ok(()),
+        (Entry::Marks(_), Entry::Refused(_)) => Ok(()),
     }
 }
 
-/// What is refused of a row behind so many vectors of the sections before it and of its own.
-fn refuse_room(before: u32, index: usize, place: Place) -> Option<SectionFault>
-    ensures { result ≡ room_fault (before + index) place }
+/// What is refused of a row of which so many stand before it in a section that has room for so many.
+fn refuse_room(room: usize, index: usize, place: Place) -> Option<SectionFault>
+    ensures { (before : ℕ) → room ≡ 9999 - before → result ≡ first_refusal section_order (one_too_many (index + before) place) }
 {
-    if before < MOST && index < (MOST - before) as usize {
+    if index < room {
         None
     } else {
         Some(SectionFault::BadVector(place))
     }
 }
 
-/// A row more.
-fn add_row(
-    rows: &mut Found,
-    room: Option<SectionFault>,
-    row: Result<Vector, SectionFault>,
-) -> Result<(), OutOfMemory>
-    ensures { OnOk result (AddsRow rows.old rows.new room row) }
-{
-    match row {
-        Err(fault) => {
-            rows.fault = earlier(rows.fault, earlier(room, Some(fault)));
-        }
-        Ok(vector) => {
-            rows.fault = earlier(rows.fault, room);
-            rows.list.push(vector)?;
-        }
-    }
-    Ok(())
-}
-
-/// The rows of a section behind so many vectors, under a header whose sides name these positions. All are gone over,
-/// since the first refusal by place may stand in any of them.
+/// The rows of a section that has room for so many. All are gone over, since the first refusal by place may stand in any
+/// of them.
 pub(crate) fn read_rows<D: Device>(
     alloc: Global,
     scope: &Scope<'_>,
-    section: &Vectors,
-    positions: &Positions<'_>,
-    before: u32,
-) -> Result<Found, OutOfMemory>
-    ensures { IfOk result (λ found. positions.now.inputs.now ≡ targets_of (header_term (context_for D.table scope.now) section.now.inputs) → positions.now.outputs.now ≡ targets_of (header_term (context_for D.table scope.now) section.now.outputs) → AreRead (context_for D.table scope.now) before (header_term (context_for D.table scope.now) section.now.inputs) (header_term (context_for D.table scope.now) section.now.outputs) (map view_vector_row section.now.rows) found) }
+    header: &Header<'_>,
+    room: usize,
+    found: &mut Found,
+) -> Result<(), OutOfMemory>
+    requires { NamesPins (context_for D.table scope.now) header.now }
+    ensures { OnOk result ((before : ℕ) → room ≡ 9999 - before → FindsRows (context_for D.table scope.now) before header.now (map view_vector_row header.now.section.now.rows) found.old found.new) }
 {
-    let rows = section.rows.as_slice();
-    let mut found = Found {
-        fault: None,
-        list: Vec::new(alloc),
-    };
+    let rows = header.section.rows.as_slice();
     for index in 0..rows.len() {
         let row = &rows[index];
-        let room = refuse_room(before, index, row.place);
-        let read = read_row::<D>(alloc, scope, section, positions, row)?;
-        add_row(&mut found, room, read)?;
+        let full = refuse_room(room, index, row.place);
+        found.fault = earlier(found.fault, full);
+        read_row::<D>(alloc, scope, header, row, found)?;
     }
-    Ok(found)
+    Ok(())
 }

@@ -1,43 +1,124 @@
-//! The vectors of all sections of a source.
+//! Sections of vectors: one, and all of a source.
 
-ghost use Rattle.std.specs.Prelude.{◌≤◌, All, IfOk, length};
+ghost use Rattle.std.specs.Prelude.{◌≡◌, ℕ, ◌+◌, ◌-◌, ◌≤◌, All, IfOk, OnOk, length};
 ghost use Rattle.jedec_file.specs.TestVectors.{IsTestVector};
 ghost use Rattle.abel_tree.specs.Entries.{entries_of};
-ghost use Rattle.abel_tree.specs.View.{view_module};
+ghost use Rattle.abel_tree.specs.View.{view_module, view_section};
 ghost use Rattle.abel_meaning.specs.Designs.{design_for};
+ghost use Rattle.abel_meaning.specs.Vectors.{section_vectors, sections_vectors};
 ghost use Rattle.set_expr.specs.Contexts.{context_for};
 ghost use Rattle.source_sections.specs.Reading.{view_sections};
-ghost use Rattle.abel_vectors.specs.FoundVectors.{AreFound};
-ghost use Rattle.abel_vectors.specs.SourceVectors.{AnswersVectors};
+ghost use Rattle.abel_vectors.specs.FoundVectors.{Finds, FindsSection, IsFound};
+ghost use Rattle.abel_vectors.specs.HeaderSides.{side_fault};
+ghost use Rattle.abel_vectors.specs.ReadRows.{view_vectors};
+ghost use Rattle.abel_vectors.specs.SourceVectors.{AnswersVectors, refused_behind};
+ghost use Rattle.abel_vectors.specs.VectorAnswers.{Answers};
+ghost use Rattle.abel_vectors.specs.VectorRefusals.{vectors_refused};
 
-use crate::counting::count_after;
-use crate::finding::{Found, add_section, answer};
-use crate::reading::vectors;
-use abel_tree::{Module, Section};
+use crate::finding::Found;
+use crate::headers::{Side, read_side};
+use crate::rows::{Header, read_rows};
+use abel_tree::{Module, Section, Vectors, earlier};
 use pld_base::{OutOfMemory, Vector};
 use pld_device::Device;
 use set_expr::{Scope, SectionFault};
 use std::alloc::Global;
 
+/// The most vectors of a source.
+const MOST: usize = 9_999;
+
+/// The refusal of a side of a header, if there is one.
+fn fault_of(side: &Side) -> Option<SectionFault>
+    ensures { result ≡ side_fault side.now }
+{
+    match side {
+        Side::Refused(fault) => Some(*fault),
+        Side::Pins(_) => None,
+    }
+}
+
+/// A section of vectors that has room for so many: both sides of its header, and then its rows.
+fn read_section<D: Device>(
+    alloc: Global,
+    scope: &Scope<'_>,
+    section: &Vectors,
+    room: usize,
+    found: &mut Found,
+) -> Result<(), OutOfMemory>
+    ensures { OnOk result ((before : ℕ) → room ≡ 9999 - before → Finds D.table (vectors_refused (context_for D.table scope.now) before (view_vectors section.now)) (section_vectors (context_for D.table scope.now) (view_vectors section.now)) found.old found.new) }
+{
+    let inputs = read_side(alloc, scope, section.place, &section.inputs)?;
+    let outputs = read_side(alloc, scope, section.place, &section.outputs)?;
+    let refused = earlier(fault_of(&inputs), fault_of(&outputs));
+    found.fault = earlier(found.fault, refused);
+    match (inputs, outputs) {
+        (Side::Pins(driven), Side::Pins(tested)) => {
+            let (driven, tested) = (driven.as_slice(), tested.as_slice());
+            let header = Header {
+                section,
+                driven,
+                tested,
+            };
+            read_rows::<D>(alloc, scope, &header, room, found)
+        }
+        (Side::Refused(_), _) => Ok(()),
+        (Side::Pins(_), Side::Refused(_)) => Ok(()),
+    }
+}
+
+/// Any section, with room for so many vectors; the room behind it.
+fn add_section<D: Device>(
+    alloc: Global,
+    scope: &Scope<'_>,
+    section: &Section,
+    room: usize,
+    found: &mut Found,
+) -> Result<usize, OutOfMemory>
+    ensures { IfOk result (λ left. (before : ℕ) → room ≡ 9999 - before → FindsSection (context_for D.table scope.now) before (view_section section.now) left found.old found.new) }
+{
+    match section {
+        Section::Vectors(section) => {
+            read_section::<D>(alloc, scope, section, room, found)?;
+            Ok(room.saturating_sub(section.rows.as_slice().len()))
+        }
+        _ => Ok(room),
+    }
+}
+
+/// The vectors of a section, which is one of TEST_VECTORS or has none, as the characters of the device's pins; `before`
+/// counts those of the sections before it, at most 9,999. The answer is else the first refusal by place. Takes the time
+/// of the header and the rows with the sets that constants stand for.
+pub fn vectors<D: Device>(
+    alloc: Global,
+    scope: &Scope<'_>,
+    section: &Section,
+    before: u32,
+) -> Result<Vec<Vector>, SectionFault>
+    requires before { before ≤ 9999 }
+    ensures answers { Answers (context_for D.table scope.now) before (view_section section.now) result }
+    // So many are the vectors of the sections up to this one.
+    ensures few { IfOk result (λ list. before + length list.items ≤ 9999) }
+    // A fuse file may have them.
+    ensures chars { IfOk result (λ list. All (IsTestVector D.table) list.items) }
+{
+    let mut found = Found::new(alloc);
+    add_section::<D>(alloc, scope, section, MOST - before as usize, &mut found)?;
+    found.answer()
+}
+
 /// The first refusal, by place, of the vectors of sections, and the vectors where there is none. All sections are gone
 /// over, since any may have the first refusal.
-fn read_vectors<D: Device>(
+fn read_sections<D: Device>(
     alloc: Global,
     scope: &Scope<'_>,
     sections: &[Section],
 ) -> Result<Found, OutOfMemory>
-    ensures found { IfOk result (λ found. AreFound (context_for D.table scope.now) (view_sections sections.now) found) }
-    ensures chars { IfOk result (λ found. All (IsTestVector D.table) found.list.items) }
+    ensures { IfOk result (λ found. IsFound D.table (refused_behind (context_for D.table scope.now) 0 (view_sections sections.now)) (sections_vectors (context_for D.table scope.now) (view_sections sections.now)) found) }
 {
-    let mut found = Found {
-        fault: None,
-        list: Vec::new(alloc),
-    };
-    let mut before = 0u32;
+    let mut found = Found::new(alloc);
+    let mut room = MOST;
     for section in sections {
-        let read = vectors::<D>(alloc, scope, section, before);
-        add_section(&mut found, read)?;
-        before = count_after(before, section);
+        room = add_section::<D>(alloc, scope, section, room, &mut found)?;
     }
     Ok(found)
 }
@@ -54,5 +135,6 @@ pub(crate) fn all_vectors<D: Device>(
     ensures few { IfOk result (λ list. length list.items ≤ 9999) }
     ensures chars { IfOk result (λ list. All (IsTestVector D.table) list.items) }
 {
-    answer(read_vectors::<D>(alloc, scope, source.sections.as_slice())?)
+    let found = read_sections::<D>(alloc, scope, source.sections.as_slice())?;
+    found.answer()
 }

@@ -1,33 +1,45 @@
 -- One position more, and all.
-use Rattle.std.proofs.Common.{◌+◌, ◌++◌, true, drop, map, sym, ap, ◌∙◌, subst, arith}
-use Rattle.std.proofs.Math.Bool.{and-true}
+use Rattle.std.proofs.Common.{◌+◌, ◌<◌, ◌≤◌, ◌||◌, ◌++◌, length, min, drop, map, sym, ap, ◌∙◌, append_assoc, append-nil, arith}
+use Rattle.std.proofs.Math.Bool.{or-false, or_assoc}
+use Rattle.abel_tree.specs.Entries.{entries_of}
 use Rattle.truth_tables.specs.EntryMarks.{view_mark}
-use Rattle.abel_vectors.specs.GivenChars.{Adds, char_in, pairs_of}
-use Rattle.abel_vectors.specs.VectorRefusals.{chars_for}
-use Rattle.abel_vectors.proofs.GivenLaws.{adds_none}
-use Rattle.abel_vectors.proofs.PositionLaws.{chars_at, chars_left, side_more}
+use Rattle.abel_vectors.specs.GivenChars.{char_in}
+use Rattle.abel_vectors.specs.VectorRefusals.{chars_for, tests_pulse}
+use Rattle.abel_vectors.proofs.GivenLaws.{chars_at, chars_left, pulses_at, pulses_left}
 use Rattle.abel_vectors.proofs.given.put_side.Goals as goal
 
-pub loop-index-init : goal.loop-index-init
-loop-index-init c d e later b k = k
-
 pub loop-index-preserved : goal.loop-index-preserved
-loop-index-preserved c d e later b k =
+loop-index-preserved c =
     let ss = c.args.signals.now in
     let ms = c.args.marks.now in
     let i = c.loop-index.index in
-    let char = char_in c.args.role in
-    let rest = chars_for d char (drop (i + 1) ss) (map view_mark (drop (i + 1) ms)) in
-    let here = chars_at d char ss ms i _ _ (omega (arith, c.loop-index-test.true, c.min-count.ensures)) (omega (arith, c.loop-index-test.true, c.min-count.ensures)) ∙ ap (λ ys. ys ++ rest) (sym (c.given_at-given.ensures d e)) in
-    side_more (pairs_of c.given_at-given.result) rest (chars_for d char ss (map view_mark ms)) _ c.loop-index.list.items _ later c.loop-index.agree c.in_ok-same.same b
-    (λ x one. c.loop-index.invariant d e later x (subst (λ ys. Adds ys c.loop-index.list.items later x) (sym here) one)) c.in_ok-same.ensures k
+    let h : i < length ss = omega (arith, c.loop-index-test.true, c.min-count.ensures) in
+    let k : i < length ms = omega (arith, c.loop-index-test.true, c.min-count.ensures) in
+    let rest = chars_for (entries_of c.args.scope.now) (char_in c.args.role) (drop (i + 1) ss) (map view_mark (drop (i + 1) ms)) in
+    let pulses = tests_pulse (drop (i + 1) ss) (map view_mark (drop (i + 1) ms)) in
+    record {
+      pulses =
+          or_assoc c.loop-index.pulsed c.is_pulsed-pulsed.result pulses
+          ∙ ap (λ b. c.loop-index.pulsed || (b || pulses)) c.is_pulsed-pulsed.ensures
+          ∙ ap (λ b. c.loop-index.pulsed || b) (sym (pulses_at ss ms i _ _ h k))
+          ∙ c.loop-index.invariant.pulses;
+      chars =
+          ap (λ xs. xs ++ rest) c.in_ok-put_mark.ensures
+          ∙ append_assoc c.loop-index.list.items _ rest
+          ∙ ap (λ xs. c.loop-index.list.items ++ xs) (sym (chars_at (entries_of c.args.scope.now) (char_in c.args.role) ss ms i _ _ h k))
+          ∙ c.loop-index.invariant.chars;
+    }
 
 pub returns : goal.returns
-returns c d e =
+returns c =
     let ss = c.args.signals.now in
     let ms = c.args.marks.now in
     let i = c.loop-index.index in
-    let out = c.loop-index.list.items in
-    let left = chars_left d (char_in c.args.role) ss ms i (omega (arith, c.loop-index-test.false, c.min-count.ensures)) in
-    subst (Adds (chars_for d (char_in c.args.role) ss (map view_mark ms)) c.args.list.now.items out) (and-true c.loop-index.agree)
-    (c.loop-index.invariant d e out true (subst (λ ys. Adds ys out out true) (sym left) (adds_none out)))
+    let end : min (length ss) (length ms) ≤ i = omega (arith, c.loop-index-test.false, c.min-count.ensures) in
+    record {
+      pulses = sym (or-false c.loop-index.pulsed) ∙ ap (λ b. c.loop-index.pulsed || b) (sym (pulses_left ss ms i end)) ∙ c.loop-index.invariant.pulses;
+      chars =
+          sym (append-nil c.loop-index.list.items)
+          ∙ ap (λ xs. c.loop-index.list.items ++ xs) (sym (chars_left (entries_of c.args.scope.now) (char_in c.args.role) ss ms i end))
+          ∙ c.loop-index.invariant.chars;
+    }

@@ -1,28 +1,37 @@
 -- Something else, pins, and signals that are no pins.
-use Rattle.std.proofs.Common.{◌≡◌, true, false, sym, ap, ◌∙◌, subst}
+use Rattle.std.proofs.Common.{◌&&◌, true, false, sym, ap, ap₂, ◌∙◌, subst}
 use Rattle.std.specs.List.{list_all}
+use Rattle.abel_tree.specs.FirstRefusal.{first_refusal}
 use Rattle.abel_tree.specs.View.{view}
+use Rattle.abel_meaning.specs.Targets.{targets_of}
 use Rattle.abel_meaning.specs.Terms.{term_of}
+use Rattle.set_expr.specs.declared.fault.SectionFault.TheVariants.{BadVector}
+use Rattle.set_expr.specs.FoundNames.{expression_found}
+use Rattle.set_expr.specs.SectionOrder.{section_order}
 use Rattle.truth_tables.specs.HeaderSignals.{AreSignals}
-use Rattle.abel_vectors.specs.HeaderSides.{is_pin_or_unknown}
-use Rattle.abel_vectors.proofs.SideLaws.{side_unnamed, side_others, side_pins}
+use Rattle.truth_tables.proofs.ReadLaws.{none_met, none_unmet}
+use Rattle.abel_vectors.specs.VectorRefusals.{is_pin_or_unknown, names_pins}
 use Rattle.abel_vectors.proofs.headers.named_side.Goals as goal
 
 pub returns-in-None : goal.returns-in-None
 returns-in-None c d is e =
-    let t = view c.args.side.now in
-    side_unnamed d c.args.place t e (subst (AreSignals (term_of d.known t)) c.in-None.is (c.in_ok-found.ensures d is))
+    let t = term_of d.known (view c.args.side.now) in
+    let none = subst (AreSignals t) c.in-None.is (c.in_ok-found.ensures d is) in
+    ap (first_refusal section_order)
+    (none_unmet (expression_found d.names (view c.args.side.now)).refusals (BadVector c.args.place) (names_pins d t) e
+    (ap (λ b. b && list_all (is_pin_or_unknown d.names) (targets_of t)) none))
 
-pub returns-then-all_may_stand : goal.returns-then-all_may_stand
-returns-then-all_may_stand c d is e =
-    let t = view c.args.side.now in
-    let s = subst (AreSignals (term_of d.known t)) c.in-Some.is (c.in_ok-found.ensures d is) in
-    let all : list_all (is_pin_or_unknown d) c.in-Some.signals.items ≡ true = sym (c.all_may_stand.ensures d is.names ∙ ap (list_all (is_pin_or_unknown d)) c.as_slice.ensures.value) ∙ c.if-all_may_stand.true in
-    (side_pins d c.args.place t c.in-Some.signals.items e s.0 s.1 all, s.1)
+pub returns-then-are_pins_or_unknown : goal.returns-then-are_pins_or_unknown
+returns-then-are_pins_or_unknown c d is e =
+    let t = term_of d.known (view c.args.side.now) in
+    let some = subst (AreSignals t) c.in-Some.is (c.in_ok-found.ensures d is) in
+    let all = sym (c.are_pins_or_unknown.ensures ∙ ap₂ (λ es ss. list_all (is_pin_or_unknown es) ss) (sym is.names) (c.as_slice.ensures.value ∙ some.1)) ∙ c.if-are_pins_or_unknown.true in
+    (none_met (expression_found d.names (view c.args.side.now)).refusals (BadVector c.args.place) (names_pins d t) e (ap₂ (λ a b. a && b) some.0 all), some.1)
 
-pub returns-else-all_may_stand : goal.returns-else-all_may_stand
-returns-else-all_may_stand c d is e =
-    let t = view c.args.side.now in
-    let s = subst (AreSignals (term_of d.known t)) c.in-Some.is (c.in_ok-found.ensures d is) in
-    let all : list_all (is_pin_or_unknown d) c.in-Some.signals.items ≡ false = sym (c.all_may_stand.ensures d is.names ∙ ap (list_all (is_pin_or_unknown d)) c.as_slice.ensures.value) ∙ c.if-all_may_stand.false in
-    side_others d c.args.place t c.in-Some.signals.items e s.0 s.1 all
+pub returns-else-are_pins_or_unknown : goal.returns-else-are_pins_or_unknown
+returns-else-are_pins_or_unknown c d is e =
+    let t = term_of d.known (view c.args.side.now) in
+    let some = subst (AreSignals t) c.in-Some.is (c.in_ok-found.ensures d is) in
+    let all = sym (c.are_pins_or_unknown.ensures ∙ ap₂ (λ es ss. list_all (is_pin_or_unknown es) ss) (sym is.names) (c.as_slice.ensures.value ∙ some.1)) ∙ c.if-are_pins_or_unknown.false in
+    ap (first_refusal section_order)
+    (none_unmet (expression_found d.names (view c.args.side.now)).refusals (BadVector c.args.place) (names_pins d t) e (ap₂ (λ a b. a && b) some.0 all))

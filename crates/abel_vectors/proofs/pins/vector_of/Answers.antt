@@ -1,13 +1,13 @@
 -- All pins.
-use Rattle.std.proofs.Common.{map, arith}
+use Rattle.std.proofs.Common.{arith}
 use Rattle.abel_meaning.specs.Vectors.{char_or_plain}
-use Rattle.abel_vectors.specs.GivenChars.{found_at, pair_of}
+use Rattle.abel_vectors.specs.GivenChars.{found_at}
 use Rattle.abel_vectors.proofs.PinLaws.{all_placed}
 use Rattle.abel_vectors.proofs.pins.vector_of.Goals as goal
 
 pub returns : goal.returns
 returns g c =
     let t = g.D.Device.table in
-    all_placed (λ pin. char_or_plain t pin (found_at (map pair_of c.args.list.now) pin)) c.loop-index.chars t.pins
+    all_placed (λ pin. char_or_plain t pin (found_at c.args.list.now pin)) c.loop-index.chars t.pins
     (omega (arith, g.met.D.Device.sound.sizes.pins_high, c.loop-index.invariant.pins))
     (λ k lt. c.loop-index.invariant.placed k (omega (arith, g.met.D.Device.pins_is, c.PINS-index-end.ensures, c.loop-index-test.false)))

@@ -1,52 +1,48 @@
--- An input that is refused, an output that is, and marks.
-use Rattle.std.proofs.Common.{map, sym, ap, ap₂, ◌∙◌, subst}
-use Rattle.std.proofs.lemmas.Result.{IfOk-weaker}
-use Rattle.abel_tree.specs.FirstRefusal.{earlier}
+-- An entry that is refused, and marks.
+use Rattle.std.proofs.Common.{refl}
+use Rattle.std.proofs.lemmas.Result.{on_ok_weaker}
 use Rattle.abel_tree.specs.View.{view_vector_row}
-use Rattle.set_expr.specs.declared.fault.SectionFault.TheVariants.{BadVector}
 use Rattle.set_expr.specs.Contexts.{context_for}
-use Rattle.set_expr.specs.SectionOrder.{section_order}
-use Rattle.truth_tables.specs.EntryMarks.{IsRead, view_mark}
-use Rattle.truth_tables.specs.RowEntries.{entry_refused}
-use Rattle.truth_tables.proofs.RowsWalked.{is_over}
-use Rattle.abel_vectors.specs.ReadRows.{entry_fault, header_term}
-use Rattle.abel_vectors.proofs.RowLaws.{both_nil, entries_first, marked_read}
+use Rattle.truth_tables.specs.EntryTerms.{IsOver}
+use Rattle.abel_vectors.specs.ReadRows.{header_term}
+use Rattle.abel_vectors.proofs.RowLaws.{entries_found, left_stands, right_stands, row_marked}
 use Rattle.abel_vectors.proofs.rows.read_row.Goals as goal
 
-pub returns-in-Refused : goal.returns-in-Refused
-returns-in-Refused g c a b =
-    let v = g.D.Device.table in
-    let n = c.args.scope.now in
-    let d = context_for v n in
-    let o = is_over v n in
-    entries_first d (header_term d c.args.section.now.inputs) (header_term d c.args.section.now.outputs) (view_vector_row c.args.row.now) c.in_ok-given.given c.in_ok-tested.tested c.first_of.result (c.in_ok-given.ensures d o) (c.in_ok-tested.ensures d o)
-    (ap₂ (earlier section_order) (ap entry_fault c.in-Refused.is) (sym c.fault_of.ensures) ∙ sym c.first_of.ensures)
-
-pub returns-in-Refused-tested : goal.returns-in-Refused-tested
-returns-in-Refused-tested g c a b =
-    let v = g.D.Device.table in
-    let n = c.args.scope.now in
-    let d = context_for v n in
-    let o = is_over v n in
-    entries_first d (header_term d c.args.section.now.inputs) (header_term d c.args.section.now.outputs) (view_vector_row c.args.row.now) c.in_ok-given.given c.in_ok-tested.tested c.in-Refused-tested.second (c.in_ok-given.ensures d o) (c.in_ok-tested.ensures d o)
-    (ap₂ (earlier section_order) (ap entry_fault c.in-Marks.is) (ap entry_fault c.in-Refused-tested.is))
-
-pub returns : goal.returns
-returns g c =
-    let v = g.D.Device.table in
-    let n = c.args.scope.now in
-    let d = context_for v n in
-    IfOk-weaker c.marked_row.result _ _
-    (λ found marked a b.
-    let o = is_over v n in
-    let h = header_term d c.args.section.now.inputs in
-    let k = header_term d c.args.section.now.outputs in
+pub returns-in_ok-vector-in-Marks-Marks : goal.returns-in_ok-vector-in-Marks-Marks
+returns-in_ok-vector-in-Marks-Marks g c =
+    let d = context_for g.D.Device.table c.args.scope.now in
+    let over : IsOver c.args.scope.now d = record { names = refl; known = refl } in
+    let i = header_term d c.args.header.now.section.now.inputs in
+    let o = header_term d c.args.header.now.section.now.outputs in
     let r = view_vector_row c.args.row.now in
-    let given = subst (IsRead d (BadVector r.place) h r.inputs) c.in-Marks.is (c.in_ok-given.ensures d o) in
-    let tested = subst (IsRead d (BadVector r.place) k r.outputs) c.in-Marks-tested.is (c.in_ok-tested.ensures d o) in
-    marked_read d h k r c.args.positions.now.inputs.now (map view_mark c.as_slice.result.now) c.args.positions.now.outputs.now (map view_mark c.as_slice-in-Marks-tested.result.now) found a b
-    (ap (map view_mark) c.as_slice.ensures.value ∙ given.1)
-    (ap (map view_mark) c.as_slice-in-Marks-tested.ensures.value ∙ tested.1)
-    (both_nil (entry_refused d (BadVector r.place) h r.inputs) (entry_refused d (BadVector r.place) k r.outputs) given.0 tested.0)
-    marked)
-    c.marked_row.ensures
+    let a = c.in_ok-driven.ensures d over in
+    let b = c.in_ok-tested.ensures d over in
+    on_ok_weaker c.add_vector.result
+    (row_marked d c.args.header.now r c.in_ok-driven.driven c.in_ok-tested.tested _ _ c.as_slice-driven.result.now c.as_slice-tested.result.now c.in_ok-vector-in-Marks-Marks.vector c.args.found.now _ c.add_vector.new.found
+    c.requires a b c.in-Marks-Marks.is-0 c.in-Marks-Marks.is-1 c.as_slice-driven.ensures.value c.as_slice-tested.ensures.value c.in_ok-vector-in-Marks-Marks.ensures
+    (entries_found d i o r c.in_ok-driven.driven c.in_ok-tested.tested _ _ c.earlier-refused.result c.args.found.now _ a b c.fault_of.ensures c.fault_of-2.ensures c.earlier-refused.ensures c.earlier-found.ensures refl))
+    c.add_vector.ensures
+
+pub returns-in-Refused-default : goal.returns-in-Refused-default
+returns-in-Refused-default g c =
+    let d = context_for g.D.Device.table c.args.scope.now in
+    let over : IsOver c.args.scope.now d = record { names = refl; known = refl } in
+    let i = header_term d c.args.header.now.section.now.inputs in
+    let o = header_term d c.args.header.now.section.now.outputs in
+    let r = view_vector_row c.args.row.now in
+    let a = c.in_ok-driven.ensures d over in
+    let b = c.in_ok-tested.ensures d over in
+    left_stands d i o r c.in_ok-driven.driven c.in-Refused-default.field-0-0 c.args.found.now _ a c.in-Refused-default.is-0
+    (entries_found d i o r c.in_ok-driven.driven c.in_ok-tested.tested _ _ c.earlier-refused.result c.args.found.now _ a b c.fault_of.ensures c.fault_of-2.ensures c.earlier-refused.ensures c.earlier-found.ensures refl)
+
+pub returns-in-Marks-Refused : goal.returns-in-Marks-Refused
+returns-in-Marks-Refused g c =
+    let d = context_for g.D.Device.table c.args.scope.now in
+    let over : IsOver c.args.scope.now d = record { names = refl; known = refl } in
+    let i = header_term d c.args.header.now.section.now.inputs in
+    let o = header_term d c.args.header.now.section.now.outputs in
+    let r = view_vector_row c.args.row.now in
+    let a = c.in_ok-driven.ensures d over in
+    let b = c.in_ok-tested.ensures d over in
+    right_stands d i o r c.in_ok-tested.tested c.in-Marks-Refused.field-0-1 c.args.found.now _ b c.in-Marks-Refused.is-1
+    (entries_found d i o r c.in_ok-driven.driven c.in_ok-tested.tested _ _ c.earlier-refused.result c.args.found.now _ a b c.fault_of.ensures c.fault_of-2.ensures c.earlier-refused.ensures c.earlier-found.ensures refl)

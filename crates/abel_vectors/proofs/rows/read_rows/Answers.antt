@@ -1,11 +1,30 @@
--- One row more.
+-- One row more, and all.
+use Rattle.std.proofs.Common.{◌+◌, ◌∷◌, drop, map, sym, ap, ◌∙◌, subst, refl, arith}
+use Rattle.std.proofs.lemmas.List.{at_drop_more, drop_all}
+use Rattle.abel_tree.specs.View.{view_vector_row}
 use Rattle.set_expr.specs.Contexts.{context_for}
-use Rattle.abel_vectors.specs.ReadRows.{header_term}
-use Rattle.abel_vectors.proofs.RowsLaws.{rows_step}
+use Rattle.abel_vectors.specs.ReadRows.{FindsRows}
+use Rattle.abel_vectors.proofs.FoundLaws.{finds_none}
+use Rattle.abel_vectors.proofs.RowLaws.{rows_behind}
 use Rattle.abel_vectors.proofs.rows.read_rows.Goals as goal
 
 pub loop-index-preserved : goal.loop-index-preserved
-loop-index-preserved g c a b =
+loop-index-preserved g c before e later others =
+    let rows = c.as_slice-rows.result.now in
+    let i = c.loop-index.index in
+    let x = c.index-rows-index.result in
+    c.loop-index.invariant before e later
+    (rows_behind (context_for g.D.Device.table c.args.scope.now) c.args.header.now (i + before) (i + 1 + before) (view_vector_row x) (map view_vector_row (drop i rows)) (map view_vector_row (drop (i + 1) rows))
+    c.refuse_room-full.result c.loop-index.found _ c.read_row.new.found later
+    (at_drop_more (map view_vector_row) rows i x c.loop-index-test.true ∙ ap (λ y. view_vector_row y ∷ map view_vector_row (drop (i + 1) rows)) (sym c.index-rows-index.is))
+    (omega arith) (c.refuse_room-full.ensures before e) c.earlier-found.ensures refl c.in_ok-read_row.ensures others)
+
+pub returns : goal.returns
+returns g c before e =
     let d = context_for g.D.Device.table c.args.scope.now in
-    rows_step d c.args.before (header_term d c.args.section.now.inputs) (header_term d c.args.section.now.outputs) c.as_slice-rows.result.now c.loop-index.index c.index-rows-index.result c.in_ok-read.read c.loop-index.found c.add_row.new.rows c.refuse_room-room.result
-    c.loop-index-test.true c.index-rows-index.is (c.in_ok-read.ensures a b) c.refuse_room-room.ensures c.in_ok-add_row.ensures (c.loop-index.invariant a b)
+    let rows = c.as_slice-rows.result.now in
+    let found = c.loop-index.found in
+    subst (λ xs. FindsRows d before c.args.header.now (map view_vector_row xs) c.args.found.now found) c.as_slice-rows.ensures
+    (c.loop-index.invariant before e found
+    (subst (λ xs. FindsRows d (c.loop-index.index + before) c.args.header.now (map view_vector_row xs) found found) (sym (drop_all c.loop-index.index rows (omega (arith, c.loop-index-test.false))))
+    (finds_none g.D.Device.table found)))

@@ -1,0 +1,70 @@
+-- More that is found, behind what was found before.
+use Rattle.std.proofs.Common.{◌≡◌, ℕ, Option, None, Some, List, [], ◌∷◌, ◌++◌, refl, sym, ap, ◌∙◌, append_assoc, append-nil}
+use Rattle.pld_device.specs.Table.{Table}
+use Rattle.jedec_file.specs.TestVectors.{all_chars}
+use Rattle.abel_tree.specs.FirstRefusal.{first_refusal, earlier}
+use Rattle.abel_tree.proofs.FirstRefusals.{earlier_assoc, earlier_none, first_append, none_refused}
+use Rattle.set_expr.proofs.SummedUp.{left_empty, right_empty}
+use Rattle.set_expr.specs.declared.fault.SectionFault.{SectionFault}
+use Rattle.set_expr.specs.SectionOrder.{section_order}
+use Rattle.abel_vectors.specs.declared.finding.Found.{Found}
+use Rattle.abel_vectors.specs.FoundVectors.{Finds, IsFound, NothingFound}
+use Rattle.abel_vectors.specs.VectorRefusals.{if_none}
+
+-- of two lists there is no first refusal only where both are empty
+parts_clear : (rs qs : List SectionFault) → first_refusal section_order (rs ++ qs) ≡ None → (rs ≡ []) × (qs ≡ [])
+parts_clear rs qs e = let none = none_refused section_order (rs ++ qs) (sym e) in (left_empty rs qs none, right_empty rs qs none)
+
+-- where nothing is refused now, nothing was before
+both_none : (a : Option SectionFault) (rs : List SectionFault) → earlier section_order a (first_refusal section_order rs) ≡ None → (a ≡ None) × (rs ≡ [])
+both_none None rs e = (refl, none_refused section_order rs (sym e))
+both_none (Some f) rs e = absurd (let k = (parts_clear (f ∷ []) rs e).0 in cc)
+
+pub finds_none : (t : Table) (found : Found) → Finds t [] [] found found
+finds_none t found = record { fault = sym (earlier_none section_order found.fault); list = λ e. sym (append-nil (all_chars t found.list.items)) }
+
+pub finds_then : (t : Table) (rs qs : List SectionFault) (cs ds : List (List ℕ)) (old mid new : Found) → Finds t rs cs old mid → Finds t qs ds mid new → Finds t (rs ++ qs) (cs ++ ds) old new
+finds_then t rs qs cs ds old mid new a b =
+    record {
+      fault = b.fault
+          ∙ ap (λ f. earlier section_order f (first_refusal section_order qs)) a.fault
+          ∙ earlier_assoc section_order old.fault (first_refusal section_order rs) (first_refusal section_order qs)
+          ∙ ap (earlier section_order old.fault) (sym (first_append section_order rs qs));
+      list = λ e.
+          b.list e
+          ∙ ap (λ xs. xs ++ ds) (a.list (both_none mid.fault qs (sym b.fault ∙ e)).0)
+          ∙ append_assoc (all_chars t old.list.items) cs ds;
+    }
+
+-- refusals alone
+pub finds_refusals : (t : Table) (rs : List SectionFault) (f : Option SectionFault) (old new : Found) → f ≡ first_refusal section_order rs → new.fault ≡ earlier section_order old.fault f → new.list.items ≡ old.list.items → Finds t rs [] old new
+finds_refusals t rs f old new g e l = record { fault = e ∙ ap (earlier section_order old.fault) g; list = λ k. ap (all_chars t) l ∙ sym (append-nil (all_chars t old.list.items)) }
+
+-- where something is refused it doesn't matter which vectors there would be
+pub finds_refused : (t : Table) (rs : List SectionFault) (cs ds : List (List ℕ)) (old new : Found) → (rs ≡ [] → ⊥) → Finds t rs cs old new → Finds t rs ds old new
+finds_refused t rs cs ds old new some a = record { fault = a.fault; list = λ k. absurd (some (both_none old.fault rs (sym a.fault ∙ k)).1) }
+
+-- refusals that come alone
+pub finds_alone : (t : Table) (xs ys : List SectionFault) (cs : List (List ℕ)) (old new : Found) → (xs ≡ [] → ⊥) → Finds t xs [] old new → Finds t (if_none xs ys) cs old new
+finds_alone t [] ys cs old new some a = absurd (some refl)
+finds_alone t (x ∷ xs) ys cs old new some a = finds_refused t (x ∷ xs) [] cs old new some a
+
+-- and what is found where there is none of them
+pub finds_behind : (t : Table) (xs ys : List SectionFault) (cs : List (List ℕ)) (old mid new : Found) → xs ≡ [] → Finds t xs [] old mid → Finds t ys cs mid new → Finds t (if_none xs ys) cs old new
+finds_behind t [] ys cs old mid new e a b = finds_then t [] ys [] cs old mid new a b
+finds_behind t (x ∷ xs) ys cs old mid new e a b = absurd cc
+
+-- one of two lists has a refusal
+pub left_some : (xs ys : List SectionFault) (f : SectionFault) → first_refusal section_order xs ≡ Some f → xs ++ ys ≡ [] → ⊥
+left_some xs ys f e k = let none : first_refusal section_order xs ≡ None = ap (first_refusal section_order) (left_empty xs ys k) in cc
+
+pub right_some : (xs ys : List SectionFault) (f : SectionFault) → first_refusal section_order ys ≡ Some f → xs ++ ys ≡ [] → ⊥
+right_some xs ys f e k = let none : first_refusal section_order ys ≡ None = ap (first_refusal section_order) (right_empty xs ys k) in cc
+
+-- all that is found, from nothing
+pub all_found : (t : Table) (rs : List SectionFault) (cs : List (List ℕ)) (old new : Found) → NothingFound old → Finds t rs cs old new → IsFound t rs cs new
+all_found t rs cs old new n a =
+    record {
+      fault = a.fault ∙ ap (λ f. earlier section_order f (first_refusal section_order rs)) n.fault;
+      list = λ e. a.list e ∙ ap (λ xs. all_chars t xs ++ cs) n.list;
+    }

@@ -1,0 +1,17 @@
+-- What is found of the sections that are left is found of all.
+use Rattle.std.proofs.Common.{◌≡◌, ℕ, ◌-◌, drop}
+use Rattle.abel_meaning.specs.Vectors.{sections_vectors}
+use Rattle.set_expr.specs.Contexts.{context_for}
+use Rattle.source_sections.specs.Reading.{view_sections}
+use Rattle.abel_vectors.specs.declared.finding.Found.{Found}
+use Rattle.abel_vectors.specs.FoundVectors.{Finds}
+use Rattle.abel_vectors.specs.SourceVectors.{refused_behind}
+use Rattle.abel_vectors.proofs.sections.read_sections.Given as goal
+
+abbrev pub invariant-loop-section : goal.invariant-loop-section
+invariant-loop-section g l =
+    let d = context_for g.D.Device.table l.scope in
+    let left = view_sections (drop l.section-index l.sections) in
+    let all = view_sections l.sections in
+    (before : ℕ) × (l.room ≡ 9999 - before)
+    × ((later : Found) → Finds d.device (refused_behind d before left) (sections_vectors d left) l.found later → Finds d.device (refused_behind d 0 all) (sections_vectors d all) l.initial.found later)
