@@ -13,14 +13,16 @@ use Rattle.pld_device.specs.Pins.{pair_pins, cell_on, carries_cell}
 use Rattle.pld_device.specs.Table.{cell_at, no_cell}
 use Rattle.bit_expr.specs.declared.node.Leaf.{Leaf}
 use Rattle.bit_expr.specs.declared.node.Leaf.TheVariants as leaf
+use Rattle.bit_expr.specs.Formulas.{same_leaf}
 use Rattle.abel_tree.specs.declared.words.Extension.{Extension}
 use Rattle.abel_tree.specs.declared.words.Extension.TheVariants as extension
 use Rattle.abel_tree.specs.Entries.{Kind, APin, ANode, AConstant, ADeviceName, Entry, is_stored, follows_q}
 use Rattle.abel_meaning.specs.Controls.{is_pin, signal_on, cell_stores_for, must_register}
 use Rattle.abel_meaning.specs.Designs.{Context, name_at, no_name}
-use Rattle.abel_meaning.specs.Sources.{Held, pin_source, register_source, node_source, on_pin, source_by}
+use Rattle.abel_meaning.specs.Sources.{pin_source, register_source, node_source, on_pin, source_by}
 use Rattle.netlist_laws.specs.SignalUses.{holds_leaf}
 use Rattle.netlist_laws.specs.Takeable.{PinsApart, HasColumns}
+use Rattle.netlist_laws.proofs.CoverReads.{leaf_is}
 use Rattle.netlist_laws.proofs.SoundLeaves.{inside, some_place}
 use Rattle.design_checks.specs.RefusedUses.{carries_level, carries_q, reads_register, reads_pin, reads_by, has_read_path}
 
@@ -37,6 +39,10 @@ same_cell (carry.Pin p) c is = absurd cc
 same_cell (carry.Cell e) c is = ap (λ n. carry.Cell n) (eqb-true e c is)
 
 module _ (d : Context) (apart : PinsApart d) where
+  -- what is read is the leaf that is held
+  held : (m l : Leaf) → HasColumns d m → same_leaf m l ≡ true → HasColumns d l
+  held m l there is = subst (HasColumns d) (leaf_is m l is) there
+
   -- ---- registers
 
   q_carried : (c : ℕ) → carries_q d.device (Some c) ≡ true → HasColumns d (leaf.Q c)
@@ -45,16 +51,11 @@ module _ (d : Context) (apart : PinsApart d) where
       let is = position-Some (carries_cell c) d.device.pairs at.0 (carry.Pin 0) at.1 in
       (at.0, slice_get-get_or d.device.pairs at.0 (carry.Pin 0) is.0 ∙ ap (λ x. Some x) (same_cell (get_or d.device.pairs at.0 (carry.Pin 0)) c is.1))
 
-  of_q : (c : ℕ) (l : Leaf) → carries_q d.device (Some c) ≡ true → holds_leaf (Held true (leaf.Q c)) l ≡ true → HasColumns d l
-  of_q c (leaf.Pin p) there is = absurd cc
-  of_q c (leaf.Q e) there is = subst (λ n. HasColumns d (leaf.Q n)) (eqb-true c e is) (q_carried c there)
-  of_q c (leaf.Node n) there is = absurd cc
-
   register_read : (pin : ℕ) (negated buffer : Bool) (cell : Option ℕ) (e : Option Extension) (l : Leaf) → cell_on d.device pin ≡ cell → reads_register d.device pin e ≡ true → holds_leaf (register_source negated buffer cell e) l ≡ true → HasColumns d l
   register_read pin negated buffer None e l on there is = absurd cc
-  register_read pin negated buffer (Some c) None l on there is = of_q c l (sym (ap (carries_q d.device) on) ∙ there) is
-  register_read pin negated buffer (Some c) (Some extension.Fb) l on there is = of_q c l (sym (ap (carries_q d.device) on) ∙ there) is
-  register_read pin negated buffer (Some c) (Some extension.Q) l on there is = of_q c l (sym (ap (carries_q d.device) on) ∙ there) is
+  register_read pin negated buffer (Some c) None l on there is = held (leaf.Q c) l (q_carried c (sym (ap (carries_q d.device) on) ∙ there)) is
+  register_read pin negated buffer (Some c) (Some extension.Fb) l on there is = held (leaf.Q c) l (q_carried c (sym (ap (carries_q d.device) on) ∙ there)) is
+  register_read pin negated buffer (Some c) (Some extension.Q) l on there is = held (leaf.Q c) l (q_carried c (sym (ap (carries_q d.device) on) ∙ there)) is
   register_read pin negated buffer (Some c) (Some extension.Pin) l on there is = absurd cc
   register_read pin negated buffer (Some c) (Some extension.Clk) l on there is = absurd cc
   register_read pin negated buffer (Some c) (Some extension.Oe) l on there is = absurd cc
@@ -104,14 +105,9 @@ module _ (d : Context) (apart : PinsApart d) where
           λ c low on. stores c low on (signal_on d c) refl parts.1,
         )
 
-    of_pin : (l : Leaf) → carries_level d.device (name_at d s) pin ≡ true → holds_leaf (Held true (leaf.Pin pin)) l ≡ true → HasColumns d l
-    of_pin (leaf.Pin p) there is = subst (λ n. HasColumns d (leaf.Pin n)) (eqb-true pin p is) (level_carried there)
-    of_pin (leaf.Q c) there is = absurd cc
-    of_pin (leaf.Node n) there is = absurd cc
-
     pin_read : (e : Option Extension) (l : Leaf) → reads_pin d.device (name_at d s) pin e ≡ true → holds_leaf (pin_source pin negated e) l ≡ true → HasColumns d l
-    pin_read None l there is = of_pin l there is
-    pin_read (Some extension.Pin) l there is = of_pin l there is
+    pin_read None l there is = held (leaf.Pin pin) l (level_carried there) is
+    pin_read (Some extension.Pin) l there is = held (leaf.Pin pin) l (level_carried there) is
     pin_read (Some extension.Clk) l there is = absurd cc
     pin_read (Some extension.Oe) l there is = absurd cc
     pin_read (Some extension.Ar) l there is = absurd cc
@@ -122,13 +118,8 @@ module _ (d : Context) (apart : PinsApart d) where
 
   -- ---- by what the name is declared as
 
-  of_node : (n : ℕ) (l : Leaf) → holds_leaf (Held true (leaf.Node n)) l ≡ true → HasColumns d l
-  of_node n (leaf.Pin p) is = absurd cc
-  of_node n (leaf.Q c) is = absurd cc
-  of_node n (leaf.Node m) is = tt
-
   node_read : (n : ℕ) (e : Option Extension) (l : Leaf) → holds_leaf (node_source n e) l ≡ true → HasColumns d l
-  node_read n None l is = of_node n l is
+  node_read n None l is = held (leaf.Node n) l tt is
   node_read n (Some e) l is = absurd cc
 
   by_stored : (s pin : ℕ) (negated stored : Bool) (e : Option Extension) (l : Leaf) → (name_at d s).kind ≡ APin pin negated → is_stored (name_at d s) ≡ stored → reads_by d.device (name_at d s) stored (APin pin negated) e ≡ true → holds_leaf (on_pin d.device (name_at d s) pin negated stored e) l ≡ true → HasColumns d l

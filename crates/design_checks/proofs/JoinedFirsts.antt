@@ -1,5 +1,6 @@
 -- What is refused first of several, one behind another.
-use Rattle.std.proofs.Common.{◌≡◌, ℕ, ◌+◌, ◌<◌, Bool, true, false, cond, if◌then◌else◌, Option, Some, None, List, [], ◌∷◌, ◌++◌, length, map, take, get_or, refl, sym, ap, ap₂, ◌∙◌, arith, append-nil}
+use Rattle.std.proofs.Common.{◌≡◌, ℕ, ◌+◌, ◌<◌, Bool, true, false, cond, if◌then◌else◌, Option, Some, None, List, [], ◌∷◌, ◌++◌, length, map, take, get_or, refl, sym, ap, ◌∙◌, arith, append-nil}
+use Rattle.std.specs.Option.{option_or}
 use Rattle.std.specs.Prelude.{filter}
 use Rattle.std.specs.List.{flat_map}
 use Rattle.std.proofs.lemmas.Bool.Decides.{nat_tests}
@@ -12,40 +13,35 @@ use Rattle.abel_tree.proofs.FirstRefusals.{before_by, first_append}
 use Rattle.abel_meaning.specs.Designs.{Context, name_at}
 use Rattle.netlist_laws.specs.SignalUses.{SignalUse}
 use Rattle.set_expr.proofs.FoundMembers.{front_more}
-use Rattle.design_checks.specs.Firsts.{first_of, firsts, signals_both, use_at, uses_at, uses_both}
-use Rattle.design_checks.specs.Learnt.{first_signal, first_signals, is_missing_of, is_unread_of}
+use Rattle.design_checks.specs.Learnt.{first_read, first_refused, first_signal}
 use Rattle.design_checks.specs.LocatedUses.{PlacedUse, all_at}
-use Rattle.design_checks.specs.RefusedUses.{is_missing, is_unread}
-use Rattle.design_checks.specs.UsesRefused.{first_use, told, use_order}
+use Rattle.design_checks.specs.RefusedUses.{is_refused, refuses_use}
+use Rattle.design_checks.specs.UsesRefused.{first_use, told, use_at, use_order}
 use Rattle.design_checks.specs.declared.refused.RefusedUse.{RefusedUse}
+use Rattle.design_checks.specs.declared.rule.UseRule.{UseRule}
 
 -- ---- signals
 
-signal_append : (test : SignalUse → Bool) (us vs : List SignalUse) → first_signal test (us ++ vs) ≡ first_of (first_signal test us) (first_signal test vs)
+signal_append : (test : SignalUse → Bool) (us vs : List SignalUse) → first_signal test (us ++ vs) ≡ option_or (first_signal test us) (first_signal test vs)
 signal_append test [] vs = refl
 signal_append test (u ∷ us) vs = by (test u) (signal_append test us vs)
   where
-    by : (b : Bool) → first_signal test (us ++ vs) ≡ first_of (first_signal test us) (first_signal test vs)
-        → (if b then Some u.signal else first_signal test (us ++ vs)) ≡ first_of (if b then Some u.signal else first_signal test us) (first_signal test vs)
+    by : (b : Bool) → first_signal test (us ++ vs) ≡ option_or (first_signal test us) (first_signal test vs)
+        → (if b then Some u.signal else first_signal test (us ++ vs)) ≡ option_or (if b then Some u.signal else first_signal test us) (first_signal test vs)
     by true e = refl
     by false e = e
 
-pub signals_append : (d : Context) (us vs : List SignalUse) → first_signals d (us ++ vs) ≡ signals_both (first_signals d us) (first_signals d vs)
-signals_append d us vs =
-    ap₂ (λ (m n : Option ℕ). record { missing = m; unread = n })
-    (signal_append (λ (u : SignalUse). is_missing_of d.device (name_at d u.signal) u.extension) us vs)
-    (signal_append (λ (u : SignalUse). is_unread_of d.device (name_at d u.signal) u.extension) us vs)
+pub read_append : (r : UseRule) (d : Context) (us vs : List SignalUse) → first_read r d (us ++ vs) ≡ option_or (first_read r d us) (first_read r d vs)
+read_append r d us vs = signal_append (λ (u : SignalUse). refuses_use d.device r (name_at d u.signal) u.extension) us vs
 
 -- ---- uses
 
-use_append : (test : PlacedUse → Bool) (us vs : List PlacedUse) → first_use (filter test (us ++ vs)) ≡ earlier use_order (first_use (filter test us)) (first_use (filter test vs))
-use_append test us vs =
+pub uses_append : (r : UseRule) (d : Context) (us vs : List PlacedUse) → first_refused r d (us ++ vs) ≡ earlier use_order (first_refused r d us) (first_refused r d vs)
+uses_append r d us vs =
+    let test = is_refused r d in
     ap first_use (filter-append test us vs)
     ∙ (ap (first_refusal use_order) (map-append told (filter test us) (filter test vs))
     ∙ first_append use_order (map told (filter test us)) (map told (filter test vs)))
-
-pub uses_append : (d : Context) (us vs : List PlacedUse) → firsts d (us ++ vs) ≡ uses_both (firsts d us) (firsts d vs)
-uses_append d us vs = ap₂ (λ (m n : Option RefusedUse). record { missing = m; unread = n }) (use_append (is_missing d) us vs) (use_append (is_unread d) us vs)
 
 -- of two at one place the left one stays
 stays : (p : Place) (s : ℕ) (o : Option ℕ) → earlier use_order (Some (record { place = p; name = s })) (use_at p o) ≡ Some (record { place = p; name = s })
@@ -73,11 +69,8 @@ use_placed p test (u ∷ us) = by (test u) (use_placed p test us)
     by false e = e
 
 -- what is read at one place
-pub uses_placed : (d : Context) (p : Place) (us : List SignalUse) → uses_at p (first_signals d us) ≡ firsts d (all_at p us)
-uses_placed d p us =
-    ap₂ (λ (m n : Option RefusedUse). record { missing = m; unread = n })
-    (use_placed p (λ (u : SignalUse). is_missing_of d.device (name_at d u.signal) u.extension) us)
-    (use_placed p (λ (u : SignalUse). is_unread_of d.device (name_at d u.signal) u.extension) us)
+pub uses_placed : (r : UseRule) (d : Context) (p : Place) (us : List SignalUse) → use_at p (first_read r d us) ≡ first_refused r d (all_at p us)
+uses_placed r d p us = use_placed p (λ (u : SignalUse). refuses_use d.device r (name_at d u.signal) u.extension) us
 
 -- ---- lists
 

@@ -10,36 +10,45 @@ use Rattle.abel_meaning.specs.Designs.{Context, name_at}
 use Rattle.abel_meaning.specs.Terms.{Known, Read, known_of}
 use Rattle.set_expr.specs.Answer.{IsContextOf}
 use Rattle.set_expr.specs.Contexts.{context_for}
-use Rattle.design_checks.specs.declared.firsts.FirstSignals.{FirstSignals}
-use Rattle.design_checks.specs.Learnt.{is_by_pin_of, kept_by, signals_if, uses_of, uses_under}
+use Rattle.netlist_laws.specs.Gathered.{cell_of}
+use Rattle.design_checks.specs.declared.front.Positions.{Positions}
+use Rattle.design_checks.specs.declared.rule.UseRule.{UseRule}
+use Rattle.design_checks.specs.Fronts.{positions_by}
+use Rattle.design_checks.specs.Learnt.{kept_by, signal_kept, signal_used, use_under, uses_of}
+use Rattle.design_checks.specs.SectionUses.{is_cell_by_pin}
+use Rattle.design_checks.specs.Written.{one_written}
 
 -- ---- one name
 
 -- what is kept for an extension
-pub under_is : (reads : Option Extension → FirstSignals) (b : Bool) (e : Option Extension) → uses_under (kept_by reads b) e ≡ reads e
-under_is reads b None = refl
-under_is reads b (Some extension.Q) = refl
-under_is reads b (Some extension.Fb) = refl
-under_is reads b (Some extension.Pin) = refl
-under_is reads b (Some extension.Clk) = refl
-under_is reads b (Some extension.Oe) = refl
-under_is reads b (Some extension.Ar) = refl
-under_is reads b (Some extension.Sp) = refl
-under_is reads b (Some extension.D) = refl
+pub under_is : (reads : Option Extension → Option ℕ) (p : Positions) (e : Option Extension) → use_under (kept_by reads p) e ≡ reads e
+under_is reads p None = refl
+under_is reads p (Some extension.Q) = refl
+under_is reads p (Some extension.Fb) = refl
+under_is reads p (Some extension.Pin) = refl
+under_is reads p (Some extension.Clk) = refl
+under_is reads p (Some extension.Oe) = refl
+under_is reads p (Some extension.Ar) = refl
+under_is reads p (Some extension.Sp) = refl
+under_is reads p (Some extension.D) = refl
 
 -- a signal
-pub signal_kept : (d : Context) (t : Table) (x : Entry) (s : ℕ) → d.device ≡ t → name_at d s ≡ x → kept_by (signals_if t x s) (is_by_pin_of t x) ≡ uses_of d (Read s None)
-signal_kept d t x s device named =
-    ap₂ (λ u y. kept_by (signals_if u y s) (is_by_pin_of u y)) (sym device) (sym named)
-    ∙ ap (λ b. kept_by (signals_if d.device (name_at d s) s) b) (alone (is_by_pin_of d.device (name_at d s)))
+pub signal_is : (r : UseRule) (d : Context) (t : Table) (x : Entry) (s : ℕ) → d.device ≡ t → name_at d s ≡ x → signal_kept t r x s ≡ uses_of r d (Read s None)
+signal_is r d t x s device named =
+    ap₂ (λ u y. signal_kept u r y s) (sym device) (sym named)
+    ∙ ap (λ b. kept_by (signal_used d.device r (name_at d s) s) (positions_by one_written b)) (alone (is_cell_by_pin d.device (cell_of d.device (name_at d s))))
   where
     alone : (b : Bool) → b ≡ b && true
     alone true = refl
     alone false = refl
 
--- reads that are the same with each extension
-pub same_kept : (f g : Option Extension → FirstSignals) (b c : Bool) → ((e : Option Extension) → f e ≡ g e) → b ≡ c → kept_by f b ≡ kept_by g c
-same_kept f g b c same is = rw (same None) (rw (same (Some extension.Q)) (rw (same (Some extension.Fb)) (rw (same (Some extension.Pin)) (rw (same (Some extension.Clk)) (rw (same (Some extension.Oe)) (rw (same (Some extension.Ar)) (rw (same (Some extension.Sp)) (rw (same (Some extension.D)) (rw is refl)))))))))
+-- what is read with each extension
+pub kept_is : (reads : Option Extension → Option ℕ) (bare q fb pin clk oe ar sp d : Option ℕ) (p positions : Positions)
+    → bare ≡ reads None → q ≡ reads (Some extension.Q) → fb ≡ reads (Some extension.Fb) → pin ≡ reads (Some extension.Pin)
+    → clk ≡ reads (Some extension.Clk) → oe ≡ reads (Some extension.Oe) → ar ≡ reads (Some extension.Ar) → sp ≡ reads (Some extension.Sp) → d ≡ reads (Some extension.D)
+    → positions ≡ p
+    → record { bare = bare; q = q; fb = fb; pin = pin; clk = clk; oe = oe; ar = ar; sp = sp; d = d; positions = positions } ≡ kept_by reads p
+kept_is reads bare q fb pin clk oe ar sp d p positions e0 e1 e2 e3 e4 e5 e6 e7 e8 e9 = rw (e0, e1, e2, e3, e4, e5, e6, e7, e8, e9) refl
 
 -- ---- all names
 

@@ -1,4 +1,4 @@
-mod ByPin
+mod PositionTerms
 mod Carried
 mod ColumnLaw
 mod IdleRegisters

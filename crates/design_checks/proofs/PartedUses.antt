@@ -18,9 +18,9 @@ use Rattle.name_uses.specs.Viewed.{PartedSection, with_parts}
 use Rattle.netlist_laws.specs.SignalUses.{SignalUse, term_uses}
 use Rattle.set_expr.specs.Answer.{IsContextOf}
 use Rattle.set_expr.specs.Contexts.{context_for}
-use Rattle.design_checks.specs.Firsts.{firsts}
-use Rattle.design_checks.specs.Learnt.{AreUsesOf}
-use Rattle.design_checks.specs.declared.firsts.FirstUses.{FirstUses}
+use Rattle.design_checks.specs.Learnt.{AreUsesOf, first_refused}
+use Rattle.design_checks.specs.declared.refused.RefusedUse.{RefusedUse}
+use Rattle.design_checks.specs.declared.rule.UseRule.{UseRule}
 use Rattle.design_checks.specs.declared.names.NameUses.{NameUses}
 use Rattle.design_checks.specs.LocatedUses.{PlacedUse, all_at, located, member_located, members_located, range_located}
 use Rattle.design_checks.specs.PartUses.{names_read, part_uses, parted_uses, reads_used, uses_used}
@@ -177,8 +177,9 @@ module _ (d : Context) where
   sections_parted (x ∷ xs) = ap₂ (λ us vs. us ++ vs) (of_section x) (sections_parted xs)
 
 -- all uses of a design, over the parts of its sections
-pub first_of_design : (t : Table) (n : Names) (d : Design) (us : List NameUses) (first : FirstUses) (xs : List PartedSection) → IsContextOf t n d.context → AreUsesOf (context_for t n) n us → ((e : Context) → AreUsesOf e n us → first ≡ firsts e (flat_map (parted_uses e) xs)) → xs ≡ map with_parts d.sections
-    → first ≡ firsts d.context (design_uses d)
-first_of_design t n d us first xs of knows found parted =
-    found d.context (subst (λ e. AreUsesOf e n us) (is_context_for t n d.context of) knows)
-    ∙ ap (firsts d.context) (ap (flat_map (parted_uses d.context)) parted ∙ sym (sections_parted d.context d.sections))
+pub first_of_design : (r : UseRule) (t : Table) (n : Names) (d : Design) (us : List NameUses) (first : Option RefusedUse) (xs : List PartedSection) → IsContextOf t n d.context → AreUsesOf r (context_for t n) n us
+    → ((e : Context) → AreUsesOf r e n us → first ≡ first_refused r e (flat_map (parted_uses e) xs)) → xs ≡ map with_parts d.sections
+    → first ≡ first_refused r d.context (design_uses d)
+first_of_design r t n d us first xs of knows found parted =
+    found d.context (subst (λ e. AreUsesOf r e n us) (is_context_for t n d.context of) knows)
+    ∙ ap (first_refused r d.context) (ap (flat_map (parted_uses d.context)) parted ∙ sym (sections_parted d.context d.sections))

@@ -22,8 +22,8 @@ use Rattle.set_expr.proofs.FoundMembers.{front_more}
 use Rattle.design_checks.specs.declared.refused.RefusedUse.{RefusedUse}
 use Rattle.design_checks.specs.UsesRefused.{told_if, use_order}
 use Rattle.design_checks.specs.Compared.{is_compared_of}
-use Rattle.design_checks.specs.Fronts.{list_refused, may_be_compared, view_when}
-use Rattle.design_checks.specs.Written.{Written, aim_refused, aims_refused, is_written_at, narrow, section_refused, sections_refused, statement_refused}
+use Rattle.design_checks.specs.Fronts.{list_refused, may_be_compared}
+use Rattle.design_checks.specs.Written.{Written, else_refused, aim_refused, aims_refused, is_written_at, narrow, section_refused, sections_refused, statement_refused}
 
 -- ---- signals of a target
 
@@ -72,18 +72,10 @@ none_compared d e w i (a ∷ aims) never =
     not_compared (Some extension.Oe) t x never = absurd cc
 
 pub narrow_all : (aims : List Aim) → length aims ≤ 32 → narrow aims ≡ aims
-narrow_all aims low = by (nat_lt 32 (length aims)) refl
-  where
-    by : (b : Bool) → nat_lt 32 (length aims) ≡ b → narrow aims ≡ aims
-    by false e = rw e refl
-    by true e = absurd (grind (arith, nat_tests, low, e))
+narrow_all aims low = let e : nat_lt 32 (length aims) ≡ false = grind (arith, nat_tests, low) in rw e refl
 
 pub narrow_none : (aims : List Aim) → 32 < length aims → narrow aims ≡ []
-narrow_none aims high = by (nat_lt 32 (length aims)) refl
-  where
-    by : (b : Bool) → nat_lt 32 (length aims) ≡ b → narrow aims ≡ []
-    by true e = rw e refl
-    by false e = absurd (grind (arith, nat_tests, high, e))
+narrow_none aims high = let e : nat_lt 32 (length aims) ≡ true = grind (arith, nat_tests, high) in rw e refl
 
 -- ---- lists
 
@@ -108,8 +100,15 @@ module _ (d : Context) where
 
 -- ---- trees of the code by their parts
 
-pub when_is : (w : When) → view_when w ≡ AWhen w.place (view w.condition) (view_stmt w.then) (otherwise_of (option_map view_stmt w.otherwise))
+when_is : (w : When) → view_stmt (stmt.When w) ≡ AWhen w.place (view w.condition) (view_stmt w.then) (otherwise_of (option_map view_stmt w.otherwise))
 when_is w = search (rules, stmt_lemmas)
+
+-- what is refused of a WHEN
+pub refused_of_when : (d : Context) (guarded : Bool) (x : Stmt) (w : When) (o : Option Stmt) → x ≡ stmt.When w → w.otherwise ≡ o
+    → statement_refused d true (view_stmt w.then) ++ else_refused d (otherwise_of (option_map view_stmt o)) ≡ statement_refused d guarded (view_stmt x)
+refused_of_when d guarded x w o e i =
+    ap (λ y. statement_refused d true (view_stmt w.then) ++ else_refused d (otherwise_of (option_map view_stmt y))) (sym i)
+    ∙ sym (ap (λ y. statement_refused d guarded (view_stmt y)) e ∙ ap (statement_refused d guarded) (when_is w))
 
 view_group : (list : List Stmt) → view_stmt (stmt.Group list) ≡ AGroup (statements_of (map view_stmt list))
 unfolding stmt.roll-Stmt denote.Hole.Carrier.roll

@@ -1,15 +1,12 @@
 -- How terms are written, one part more.
-use Rattle.std.proofs.Common.{◌≡◌, ℕ, ◌+◌, min, Bool, true, false, List, [], ◌∷◌, ◌++◌, if◌then◌else◌, bytes_eq, refl, sym, ap, ap₂, ◌∙◌, arith, add-zero, add_assoc, zero-add}
-use Rattle.std.specs.Prelude.{codes}
+use Rattle.std.proofs.Common.{◌≡◌, ℕ, ◌+◌, Bool, true, false, List, [], ◌∷◌, ◌++◌, refl, sym, ap, ap₂, ◌∙◌, add-zero, add_assoc, zero-add}
 use Rattle.abel_tree.specs.declared.words.Extension.{Extension}
 use Rattle.abel_tree.specs.declared.words.Unary.TheVariants as unary
 use Rattle.abel_tree.specs.Ranges.{range_names}
 use Rattle.abel_tree.specs.Tree.{SetMember, OneMember, SpanMember, members_of}
-use Rattle.abel_meaning.specs.Terms.{Term, Terms, Number, X, Pulse, Release, Read, Set, UnaryOf, BinaryOf, NoTerm, Before, Known, extended, extended_each, extended_if, member_before, named_before, special_term, term_named, term_of, terms_of}
+use Rattle.abel_meaning.specs.Terms.{Term, Terms, Number, X, Pulse, Release, Read, Set, UnaryOf, BinaryOf, NoTerm, Before, Known, extended, extended_each, extended_if, member_before, named_before, term_named, term_of, terms_of}
 use Rattle.std.specs.Prelude.{Option, None, Some}
-use Rattle.design_checks.specs.declared.front.Front.{Front}
-use Rattle.design_checks.specs.Fronts.{counted}
-use Rattle.design_checks.specs.Written.{Written, joined, none_written, not_written, written_of, written_of_all}
+use Rattle.design_checks.specs.Written.{Written, joined, none_written, written_of, written_of_all}
 
 -- ---- joined parts
 
@@ -45,16 +42,6 @@ joined_assoc x y z = by x.whole y.whole refl refl
         ∙ (joined_other (record { count = x.count + y.count; whole = y.whole }) z f
         ∙ (sym (joined_whole x y e) ∙ ap (joined x) (sym (joined_other y z f))))
 
--- what is counted of joined parts
-pub counted_whole : (f g : Front) (n : ℕ) (x y : Written) → f ≡ counted x → g ≡ counted y → f.whole ≡ true → n ≡ min (f.count + g.count) 255 → record { count = n; whole = g.whole } ≡ counted (joined x y)
-counted_whole f g n x y e h w m =
-    let c : n ≡ min (x.count + y.count) 255 = omega (arith, m, ap (λ (k : Front). k.count) e, ap (λ (k : Front). k.count) h) in
-    ap₂ (λ (k : ℕ) (b : Bool). record { count = k; whole = b }) c (ap (λ (k : Front). k.whole) h)
-    ∙ ap counted (sym (joined_whole x y (sym (ap (λ (k : Front). k.whole) e) ∙ w)))
-
-pub counted_other : (f : Front) (x y : Written) → f ≡ counted x → f.whole ≡ false → f ≡ counted (joined x y)
-counted_other f x y e w = e ∙ ap counted (sym (joined_other x y (sym (ap (λ (k : Front). k.whole) e) ∙ w)))
-
 -- ---- members
 
 range_first : (ks : List Known) (names : List (List ℕ)) (ts : Terms) → written_of_all (named_before ks names ts) ≡ joined (written_of_all (named_before ks names NoTerm)) (written_of_all ts)
@@ -68,27 +55,27 @@ member_first ks (OneMember t) ts = ap (λ w. joined w (written_of_all ts)) (sym 
 member_first ks (SpanMember first last) ts = range_first ks (range_names first.text last.text) ts
 
 -- one member more
-pub members_more : (ks : List Known) (ms : List SetMember) (m : SetMember)
+pub members_written : (ks : List Known) (ms : List SetMember) (m : SetMember)
     → written_of_all (terms_of ks (members_of (ms ++ m ∷ []))) ≡ joined (written_of_all (terms_of ks (members_of ms))) (written_of_all (member_before ks m NoTerm))
-members_more ks [] m = sym (none_first (written_of_all (member_before ks m NoTerm)))
-members_more ks (x ∷ ms) m =
+members_written ks [] m = sym (none_first (written_of_all (member_before ks m NoTerm)))
+members_written ks (x ∷ ms) m =
     let here = written_of_all (member_before ks x NoTerm) in
     let before = written_of_all (terms_of ks (members_of ms)) in
     let more = written_of_all (member_before ks m NoTerm) in
     member_first ks x (terms_of ks (members_of (ms ++ m ∷ [])))
-    ∙ (ap (joined here) (members_more ks ms m)
+    ∙ (ap (joined here) (members_written ks ms m)
     ∙ (sym (joined_assoc here before more)
     ∙ ap (λ w. joined w more) (sym (member_first ks x (terms_of ks (members_of ms))))))
 
 -- one name of a range more
-pub range_more : (ks : List Known) (names : List (List ℕ)) (n : List ℕ)
+pub range_written : (ks : List Known) (names : List (List ℕ)) (n : List ℕ)
     → written_of_all (named_before ks (names ++ n ∷ []) NoTerm) ≡ joined (written_of_all (named_before ks names NoTerm)) (written_of (term_named ks n))
-range_more ks [] n = joined_none (written_of (term_named ks n)) ∙ sym (none_first (written_of (term_named ks n)))
-range_more ks (x ∷ names) n =
-    ap (joined (written_of (term_named ks x))) (range_more ks names n)
+range_written ks [] n = joined_none (written_of (term_named ks n)) ∙ sym (none_first (written_of (term_named ks n)))
+range_written ks (x ∷ names) n =
+    ap (joined (written_of (term_named ks x))) (range_written ks names n)
     ∙ sym (joined_assoc (written_of (term_named ks x)) (written_of_all (named_before ks names NoTerm)) (written_of (term_named ks n)))
 
--- ---- extensions and specials
+-- ---- extensions
 
 mutual
   extended_written : (e : Extension) (t : Term) → written_of (extended e t) ≡ written_of t
@@ -110,11 +97,3 @@ mutual
 pub written_extended : (e : Option Extension) (t : Term) → written_of (extended_if e t) ≡ written_of t
 written_extended None t = refl
 written_extended (Some e) t = extended_written e t
-
-pub special_written : (letter : ℕ) → written_of (special_term letter) ≡ not_written
-special_written letter = by_tests (bytes_eq (letter ∷ []) (codes "X")) (bytes_eq (letter ∷ []) (codes "C"))
-  where
-    by_tests : (a b : Bool) → written_of (if a then X else if b then Pulse else Release) ≡ not_written
-    by_tests true b = refl
-    by_tests false true = refl
-    by_tests false false = refl

@@ -1,7 +1,6 @@
 pub mod Compared
 pub mod Correct
 pub mod Example
-pub mod Firsts
 pub mod Fronts
 pub mod Learnt
 pub mod LocatedUses

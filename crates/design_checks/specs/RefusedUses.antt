@@ -10,6 +10,8 @@ use Rattle.abel_tree.specs.declared.words.Extension.TheVariants as extension
 use Rattle.abel_tree.specs.Entries.{Kind, APin, ANode, Entry, is_stored}
 use Rattle.abel_meaning.specs.Controls.{must_register}
 use Rattle.abel_meaning.specs.Designs.{Context, Design, name_at}
+use Rattle.design_checks.specs.declared.rule.UseRule.{UseRule}
+use Rattle.design_checks.specs.declared.rule.UseRule.TheVariants as use_rule
 use Rattle.design_checks.specs.LocatedUses.{PlacedUse}
 use Rattle.design_checks.specs.SectionUses.{design_uses}
 
@@ -78,16 +80,28 @@ has_read_path t x e = reads_by t x (is_stored x) x.kind e
 
 -- ---- uses that are refused
 
+-- a rule refuses that a signal is read with an extension: that it doesn't have it, or that it has it, and no column
+-- carries it
+abbrev pub refuses_use : Table → UseRule → Entry → Option Extension → Bool
+refuses_use t use_rule.Extensions x e = not (has_extension t x e)
+refuses_use t use_rule.Columns x e = not (not (has_extension t x e)) && not (has_read_path t x e)
+
+abbrev pub is_refused : UseRule → Context → PlacedUse → Bool
+is_refused r d u = refuses_use d.device r (name_at d u.read.signal) u.read.extension
+
+abbrev pub refused_uses : UseRule → Design → List PlacedUse
+refused_uses r d = filter (is_refused r d.context) (design_uses d)
+
 -- NoSuchControl: the signal doesn't have the extension
 abbrev pub is_missing : Context → PlacedUse → Bool
-is_missing d u = not (has_extension d.device (name_at d u.read.signal) u.read.extension)
+is_missing d u = is_refused use_rule.Extensions d u
 
 -- NoReadPath: it has it, and no column carries it
 abbrev pub is_unread : Context → PlacedUse → Bool
-is_unread d u = not (is_missing d u) && not (has_read_path d.device (name_at d u.read.signal) u.read.extension)
+is_unread d u = is_refused use_rule.Columns d u
 
 abbrev pub missing_uses : Design → List PlacedUse
-missing_uses d = filter (is_missing d.context) (design_uses d)
+missing_uses d = refused_uses use_rule.Extensions d
 
 abbrev pub unread_uses : Design → List PlacedUse
-unread_uses d = filter (is_unread d.context) (design_uses d)
+unread_uses d = refused_uses use_rule.Columns d

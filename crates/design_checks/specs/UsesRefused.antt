@@ -1,5 +1,6 @@
 -- The order of what is refused, and the first use that is (this project's rule).
-use Rattle.std.specs.Prelude.{Bool, true, false, Option, List, [], ◌∷◌, map}
+use Rattle.std.specs.Prelude.{ℕ, Bool, true, false, Option, None, Some, List, [], ◌∷◌, map}
+use Rattle.pld_base.specs.declared.place.Place.{Place}
 use Rattle.abel_tree.specs.FirstRefusal.{Ranks, first_refusal}
 use Rattle.design_checks.specs.LocatedUses.{PlacedUse}
 use Rattle.design_checks.specs.declared.refused.RefusedUse.{RefusedUse}
@@ -12,6 +13,11 @@ use_order = record { place = λ r. r.place; rank = λ r. 0 }
 abbrev pub told_if : Bool → RefusedUse → List RefusedUse
 told_if true r = r ∷ []
 told_if false r = []
+
+-- the use of a signal at a place, if there is one
+abbrev pub use_at : Place → Option ℕ → Option RefusedUse
+use_at p None = None
+use_at p (Some s) = Some (record { place = p; name = s })
 
 -- a use as it is told
 abbrev pub told : PlacedUse → RefusedUse

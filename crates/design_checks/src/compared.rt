@@ -4,14 +4,47 @@ ghost use Rattle.std.specs.Prelude.{◌≡◌, ◌<◌, length};
 ghost use Rattle.bit_expr.specs.Arena.{arena, formula_at};
 ghost use Rattle.abel_tree.specs.Entries.{view_declared};
 ghost use Rattle.netlist_laws.specs.Gathered.{cell_of};
-ghost use Rattle.design_checks.specs.Compared.{cell_enables_so, says_always, says_so};
+ghost use Rattle.design_checks.specs.Compared.{cell_enables_so, is_level, is_level_if, is_other_level, says_always, says_so};
 
 use crate::by_pin::{cell_of, is_compared};
-use crate::levels::is_level_if;
 use abel_tree::{Declared, Extension};
-use bit_expr::Exprs;
+use bit_expr::{ExprId, Exprs, Leaf, Node};
 use pld_device::{Device, Enable};
 use set_expr::Contribution;
+
+/// Whether the bit is the pin's level.
+fn is_level(exprs: &Exprs, bit: ExprId, pin: u8) -> bool
+    requires { bit.0 < length (arena exprs.now) }
+    ensures { result ≡ is_level pin (formula_at (arena exprs.now) bit) }
+{
+    match exprs.get(bit) {
+        Node::Leaf(Leaf::Pin(other)) => other == pin,
+        _ => false,
+    }
+}
+
+/// Whether the bit is the complement of the pin's level.
+fn is_other_level(exprs: &Exprs, bit: ExprId, pin: u8) -> bool
+    requires { bit.0 < length (arena exprs.now) }
+    ensures { result ≡ is_other_level pin (formula_at (arena exprs.now) bit) }
+{
+    match exprs.get(bit) {
+        Node::Not(inner) => is_level(exprs, inner, pin),
+        _ => false,
+    }
+}
+
+/// Whether the bit is the pin's level, or its complement.
+fn is_level_if(exprs: &Exprs, bit: ExprId, complement: bool, pin: u8) -> bool
+    requires { bit.0 < length (arena exprs.now) }
+    ensures { result ≡ is_level_if complement pin (formula_at (arena exprs.now) bit) }
+{
+    if complement {
+        is_other_level(exprs, bit, pin)
+    } else {
+        is_level(exprs, bit, pin)
+    }
+}
 
 /// Whether one for the enable of a signal says what a pin does that enables.
 fn enables_so<D: Device>(exprs: &Exprs, declared: &Declared, given: &Contribution) -> bool

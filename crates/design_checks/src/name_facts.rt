@@ -48,7 +48,7 @@ pub(crate) fn has_wrong_kind<D: Device>(declared: &Declared) -> bool
     ensures { result ≡ has_wrong_kind D.table (view_declared declared.now) }
 {
     match declared.meaning {
-        Meaning::Pin { pin, negated: _ } => has_wrong_kind_on::<D>(pin, declared.is_stored()),
+        Meaning::Pin { pin, .. } => has_wrong_kind_on::<D>(pin, declared.is_stored()),
         _ => false,
     }
 }

@@ -1,70 +1,69 @@
-//! What names read in vain.
+//! Which signals names read in vain.
 
 ghost use Rattle.std.specs.Prelude.{◌≡◌, IfOk, map};
 ghost use Rattle.std.specs.List.{flat_map};
 ghost use Rattle.abel_meaning.specs.Designs.{Context};
 ghost use Rattle.name_uses.specs.RangeParts.{name_items};
 ghost use Rattle.name_uses.specs.Viewed.{view_use};
-ghost use Rattle.design_checks.specs.Learnt.{Knows, first_signals};
+ghost use Rattle.design_checks.specs.Learnt.{Knows, first_read};
 ghost use Rattle.design_checks.specs.PartUses.{names_read, reads_used};
 
-use crate::firsts::FirstSignals;
 use crate::names::KeptUses;
 use abel_tree::Extension;
 use name_uses::{NameUse, range_list};
 use pld_base::OutOfMemory;
 use std::alloc::Global;
 
-/// The first signals that these names read in vain with this extension.
-fn signals_named(
+/// The first signal that these names read in vain with this extension.
+fn first_named(
     names: &KeptUses<'_, '_>,
     list: &[Vec<u8>],
     extension: Option<Extension>,
-) -> FirstSignals
+) -> Option<u32>
     ensures { (d : Context) → Knows d names.now
-        → result ≡ first_signals d (names_read d.known extension (map name_items list.now)) }
+        → result ≡ first_read names.now.rule d (names_read d.known extension (map name_items list.now)) }
 {
-    let mut signals = FirstSignals::none();
+    let mut first = None;
     for name in list {
-        signals = signals.with(names.signals(name.as_slice(), extension));
+        first = first.or(names.read(name.as_slice(), extension));
     }
-    signals
+    first
 }
 
-/// The first signals that are read in vain where an expression uses names, in a set with this extension.
-pub(crate) fn signals_used(
+/// The first signal that is read in vain where an expression uses names, in a set with this extension.
+pub(crate) fn first_used(
     alloc: Global,
     names: &KeptUses<'_, '_>,
     used: &NameUse<'_>,
     outer: Option<Extension>,
-) -> Result<FirstSignals, OutOfMemory>
+) -> Result<Option<u32>, OutOfMemory>
     ensures { IfOk result (λ s. (d : Context) → Knows d names.now
-        → s ≡ first_signals d (reads_used d.known outer (view_use used.now))) }
+        → s ≡ first_read names.now.rule d (reads_used d.known outer (view_use used.now))) }
 {
     let extension = Extension::innermost(used.extension, outer);
     let first = used.first.text.bytes();
     match used.last {
-        None => Ok(names.signals(first, extension)),
+        None => Ok(names.read(first, extension)),
         Some(last) => {
             let list = range_list(alloc, first, last.text.bytes())?;
-            Ok(signals_named(names, list.as_slice(), extension))
+            Ok(first_named(names, list.as_slice(), extension))
         }
     }
 }
 
-/// The first signals that an expression with these names reads in vain, where it stands with this extension.
+/// The first signal that an expression with these names reads in vain, where it stands with this extension.
 pub(crate) fn first_in(
     alloc: Global,
     names: &KeptUses<'_, '_>,
     uses: &[NameUse<'_>],
     extension: Option<Extension>,
-) -> Result<FirstSignals, OutOfMemory>
+) -> Result<Option<u32>, OutOfMemory>
     ensures { IfOk result (λ s. (d : Context) → Knows d names.now
-        → s ≡ first_signals d (flat_map (reads_used d.known extension) (map view_use uses.now))) }
+        → s ≡ first_read names.now.rule d (flat_map (reads_used d.known extension) (map view_use uses.now))) }
 {
-    let mut signals = FirstSignals::none();
+    let mut first = None;
     for used in uses {
-        signals = signals.with(signals_used(alloc, names, used, extension)?);
+        first = first.or(first_used(alloc, names, used, extension)?);
     }
-    Ok(signals)
+    Ok(first)
 }

@@ -2,7 +2,7 @@
 
 ghost use Rattle.std.specs.Prelude.{◌≡◌};
 ghost use Rattle.abel_tree.specs.FirstRefusal.{first_refusal};
-ghost use Rattle.design_checks.specs.UsesRefused.{told_if, use_order};
+ghost use Rattle.design_checks.specs.UsesRefused.{told_if, use_at, use_order};
 
 use abel_tree::Ranked;
 use pld_base::Place;
@@ -37,5 +37,15 @@ pub(crate) fn told_if(refused: bool, place: Place, name: u32) -> Option<RefusedU
         Some(RefusedUse { place, name })
     } else {
         None
+    }
+}
+
+/// The use of a signal at a place, where there is one.
+pub(crate) fn use_at(place: Place, name: Option<u32>) -> Option<RefusedUse>
+    ensures { result ≡ use_at place name }
+{
+    match name {
+        Some(name) => Some(RefusedUse { place, name }),
+        None => None,
     }
 }

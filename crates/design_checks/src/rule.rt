@@ -6,11 +6,21 @@ ghost use Rattle.pld_device.specs.declared.cell.Cell.{Cell};
 ghost use Rattle.abel_meaning.specs.Controls.{must_register};
 ghost use Rattle.abel_tree.specs.Entries.{view_declared};
 ghost use Rattle.pld_device.specs.Pins.{cell_on};
-ghost use Rattle.design_checks.specs.RefusedUses.{carries_level, carries_q, has_extension, has_read_path, has_read_path_on, pin_has, reads_pin, reads_register, register_has};
+ghost use Rattle.design_checks.specs.RefusedUses.{carries_level, carries_q, has_extension, has_read_path, has_read_path_on, pin_has, refuses_use, register_has};
 
 use crate::name_facts::has_wrong_kind_on;
 use abel_tree::{Declared, Extension, Meaning};
 use pld_device::{Device, cell_on, pair_of_cell, pair_of_pin};
+
+/// What is asked of each use.
+#[derive(Clone, Copy, PartialEq, Eq)]
+pub enum UseRule {
+    /// A signal is read with an extension that it has: a node with none, a combinational signal with none, `.PIN` or `.OE`,
+    /// a register with any but a reset or preset that the device lacks.
+    Extensions,
+    /// Where the signal has the extension, columns carry what is read.
+    Columns,
+}
 
 /// Whether a combinational signal on a pin has what the extension names.
 fn pin_has(extension: Option<Extension>) -> bool
@@ -31,11 +41,11 @@ fn register_has<D: Device>(extension: Option<Extension>) -> bool
 }
 
 /// Whether the signal has what the extension names.
-pub(crate) fn has_extension<D: Device>(declared: &Declared, extension: Option<Extension>) -> bool
+fn has_extension<D: Device>(declared: &Declared, extension: Option<Extension>) -> bool
     ensures { result ≡ has_extension D.table (view_declared declared.now) extension }
 {
     match declared.meaning {
-        Meaning::Pin { pin: _, negated: _ } => if declared.is_stored() {
+        Meaning::Pin { .. } => if declared.is_stored() {
             register_has::<D>(extension)
         } else {
             pin_has(extension)
@@ -70,29 +80,6 @@ fn carries_q<D: Device>(pin: u8) -> bool
     }
 }
 
-/// Whether a register can be read so.
-fn reads_register<D: Device>(pin: u8, extension: Option<Extension>) -> bool
-    ensures { result ≡ reads_register D.table pin extension }
-{
-    match extension {
-        None => carries_q::<D>(pin),
-        Some(Extension::Fb) => carries_q::<D>(pin),
-        Some(Extension::Q) => carries_q::<D>(pin),
-        Some(_) => false,
-    }
-}
-
-/// Whether a combinational signal can be read so.
-fn reads_pin<D: Device>(declared: &Declared, pin: u8, extension: Option<Extension>) -> bool
-    ensures { result ≡ reads_pin D.table (view_declared declared.now) pin extension }
-{
-    match extension {
-        None => carries_level::<D>(declared, pin),
-        Some(Extension::Pin) => carries_level::<D>(declared, pin),
-        Some(_) => false,
-    }
-}
-
 /// Whether columns would carry what the extension names of the signal, if it were on this pin.
 pub fn has_read_path_on<D: Device>(
     declared: &Declared,
@@ -102,18 +89,33 @@ pub fn has_read_path_on<D: Device>(
     ensures { result ≡ has_read_path_on D.table (view_declared declared.now) pin extension }
 {
     if declared.is_stored() {
-        reads_register::<D>(pin, extension)
+        matches!(extension, None | Some(Extension::Fb | Extension::Q)) && carries_q::<D>(pin)
     } else {
-        reads_pin::<D>(declared, pin, extension)
+        matches!(extension, None | Some(Extension::Pin)) && carries_level::<D>(declared, pin)
     }
 }
 
 /// Whether columns carry what the extension names of the signal.
-pub(crate) fn has_read_path<D: Device>(declared: &Declared, extension: Option<Extension>) -> bool
+fn has_read_path<D: Device>(declared: &Declared, extension: Option<Extension>) -> bool
     ensures { result ≡ has_read_path D.table (view_declared declared.now) extension }
 {
     match declared.meaning {
-        Meaning::Pin { pin, negated: _ } => has_read_path_on::<D>(declared, pin, extension),
+        Meaning::Pin { pin, .. } => has_read_path_on::<D>(declared, pin, extension),
         _ => true,
+    }
+}
+
+/// Whether a rule refuses that the signal is read with this extension.
+pub(crate) fn refuses_use<D: Device>(
+    rule: UseRule,
+    declared: &Declared,
+    extension: Option<Extension>,
+) -> bool
+    ensures { result ≡ refuses_use D.table rule (view_declared declared.now) extension }
+{
+    let has = has_extension::<D>(declared, extension);
+    match rule {
+        UseRule::Extensions => !has,
+        UseRule::Columns => has && !has_read_path::<D>(declared, extension),
     }
 }

@@ -51,7 +51,7 @@ fn lacks_control<D: Device>(declared: &Declared, extension: Option<Extension>) -
     ensures { result ≡ lacks_control D.table (view_declared declared.now) extension }
 {
     match declared.meaning {
-        Meaning::Pin { pin: _, negated: _ } => pin_lacks::<D>(declared.is_stored(), extension),
+        Meaning::Pin { .. } => pin_lacks::<D>(declared.is_stored(), extension),
         Meaning::Node(_) => extension.is_some(),
         _ => false,
     }

@@ -1,7 +1,8 @@
 //! The first refusal of a design's kinds, nodes, controls and uses.
 
-ghost use Rattle.std.specs.Prelude.{◌≡◌, ◌<◌, All, length, IfOk, IfErr, map};
+ghost use Rattle.std.specs.Prelude.{◌≡◌, ◌<◌, List, All, length, IfOk, IfErr, map};
 ghost use Rattle.bit_expr.specs.Arena.{arena};
+ghost use Rattle.bit_expr.specs.Formulas.{Formula};
 ghost use Rattle.abel_tree.specs.Entries.{entries_of};
 ghost use Rattle.abel_tree.specs.FirstRefusal.{first_refusal};
 ghost use Rattle.abel_tree.specs.View.{view_section};
@@ -9,17 +10,17 @@ ghost use Rattle.abel_meaning.specs.Designs.{Design};
 ghost use Rattle.set_expr.specs.declared.contributions.Contribution as code;
 ghost use Rattle.set_expr.specs.Answer.{IsContextOf};
 ghost use Rattle.design_checks.specs.Refused.{no_controls};
-ghost use Rattle.design_checks.specs.RefusedUses.{missing_uses};
 ghost use Rattle.design_checks.specs.SignalsRefused.{AreToNames};
-ghost use Rattle.design_checks.specs.UsesRefused.{first_use, use_order};
-ghost use Rattle.design_checks.specs.Verdict.{HasSoundSignals, IsDesignFor, IsSignalRefused};
+ghost use Rattle.design_checks.specs.UsesRefused.{use_order};
+ghost use Rattle.design_checks.specs.Verdict.{AreFirsts, HasSoundSignals, IsDesignFor, IsSignalRefused};
 
 use crate::fault::DesignFault;
 use crate::name_facts::registered_node;
 use crate::refused::RefusedUse;
+use crate::rule::UseRule;
 use crate::rules::{Rule, first_refused};
 use crate::spelling::other_spelling;
-use crate::uses::first_uses;
+use crate::uses::first_use;
 use abel_tree::earlier;
 use name_uses::ModuleParts;
 use pld_base::OutOfMemory;
@@ -28,29 +29,59 @@ use section_targets::SectionScope;
 use set_expr::Contributions;
 use std::alloc::Global;
 
-/// The first extension that a signal does not have, as a target or in a use, of which the first is known, or equation that
-/// says otherwise than the device does, or is written otherwise.
+/// The first extension that a signal does not have, as a target or in a use, or equation that says otherwise than the
+/// device does, or is written otherwise.
 fn no_control<D: Device>(
     alloc: Global,
     source: &ModuleParts<'_>,
     scope: &SectionScope<'_, D>,
     found: &Contributions,
-    missing: Option<RefusedUse>,
 ) -> Result<Option<RefusedUse>, OutOfMemory>
     requires names { AreToNames (length (entries_of scope.now)) found.now.list }
     requires inside { All (λ (c : code.Contribution). c.when.0 < length
         (arena found.now.exprs)) found.now.list }
     ensures { IfOk result (λ r. (d : Design) → IsContextOf D.table scope.now d.context
         → d.sections ≡ map view_section source.now.sections
-        → missing ≡ first_use (missing_uses d)
         → r ≡ first_refusal use_order (no_controls d (arena found.now.exprs) found.now.list)) }
 {
     let lacking = first_refused(Rule::Controls, scope, found);
     let others = first_refused(Rule::Levels, scope, found);
     let targets = earlier(lacking, others);
     let unwritten = other_spelling(alloc, scope, source.module().sections.as_slice())?;
+    let missing = first_use(alloc, UseRule::Extensions, scope, source)?;
     let sources = earlier(unwritten, missing);
     Ok(earlier(targets, sources))
+}
+
+/// The refusal of the first kind that has one: of kinds, nodes, controls, controls by `?=`, and what no column carries.
+fn first_kind(
+    kinds: Option<RefusedUse>,
+    nodes: Option<RefusedUse>,
+    controls: Option<RefusedUse>,
+    any: Option<RefusedUse>,
+    paths: Option<RefusedUse>,
+) -> Result<(), DesignFault>
+    ensures ok { IfOk result (λ _. (d : Design) (fs : List Formula) (cs : List code.Contribution)
+        → AreFirsts d fs cs kinds nodes controls any paths → HasSoundSignals d fs cs) }
+    ensures err { IfErr result (λ f. (d : Design) (fs : List Formula) (cs : List code.Contribution)
+        → AreFirsts d fs cs kinds nodes controls any paths → IsSignalRefused d fs cs f) }
+{
+    if let Some(it) = kinds {
+        return Err(DesignFault::WrongKind(it.place, it.name));
+    }
+    if let Some(it) = nodes {
+        return Err(DesignFault::RegisteredNode(it.place, it.name));
+    }
+    if let Some(it) = controls {
+        return Err(DesignFault::NoSuchControl(it.place, it.name));
+    }
+    if let Some(it) = any {
+        return Err(DesignFault::DontCareControl(it.place, it.name));
+    }
+    match paths {
+        Some(it) => Err(DesignFault::NoReadPath(it.place, it.name)),
+        None => Ok(()),
+    }
 }
 
 /// The first refusal of a design's kinds, nodes, controls and uses, for a device and what the sections contribute.
@@ -70,21 +101,10 @@ pub fn check_signals<D: Device>(
         → IsDesignFor D.table scope.now source.now found.now d
         → IsSignalRefused d (arena found.now.exprs) found.now.list f) }
 {
-    if let Some(it) = first_refused(Rule::Kinds, scope, found) {
-        return Err(DesignFault::WrongKind(it.place, it.name));
-    }
-    if let Some(it) = registered_node(scope.scope())? {
-        return Err(DesignFault::RegisteredNode(it.place, it.name));
-    }
-    let used = first_uses(alloc, scope, source)?;
-    if let Some(it) = no_control(alloc, source, scope, found, used.missing)? {
-        return Err(DesignFault::NoSuchControl(it.place, it.name));
-    }
-    if let Some(it) = first_refused(Rule::DontCares, scope, found) {
-        return Err(DesignFault::DontCareControl(it.place, it.name));
-    }
-    match used.unread {
-        Some(it) => Err(DesignFault::NoReadPath(it.place, it.name)),
-        None => Ok(()),
-    }
+    let kinds = first_refused(Rule::Kinds, scope, found);
+    let nodes = registered_node(scope.scope())?;
+    let controls = no_control(alloc, source, scope, found)?;
+    let any = first_refused(Rule::DontCares, scope, found);
+    let paths = first_use(alloc, UseRule::Columns, scope, source)?;
+    first_kind(kinds, nodes, controls, any, paths)
 }

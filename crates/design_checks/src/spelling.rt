@@ -1,20 +1,22 @@
 //! Equations that are not written as levels are.
 
-ghost use Rattle.std.specs.Prelude.{◌≡◌, Bool, IfOk, map};
+ghost use Rattle.std.specs.Prelude.{◌≡◌, IfOk, map};
 ghost use Rattle.abel_tree.specs.FirstRefusal.{first_refusal};
 ghost use Rattle.abel_tree.specs.View.{view_section, view_stmt};
 ghost use Rattle.abel_meaning.specs.Designs.{Design};
 ghost use Rattle.set_expr.specs.Answer.{IsContextOf};
 ghost use Rattle.set_expr.specs.Contexts.{context_for};
 ghost use Rattle.design_checks.specs.UsesRefused.{use_order};
-ghost use Rattle.design_checks.specs.Fronts.{AreAllFronts, list_refused, view_when};
+ghost use Rattle.design_checks.specs.Fronts.{list_refused};
+ghost use Rattle.design_checks.specs.Learnt.{Knows};
 ghost use Rattle.design_checks.specs.Written.{section_refused, statement_refused, unwritten};
 
-use crate::front::Front;
-use crate::fronts::all_fronts;
+use crate::learning::learn_names;
+use crate::names::KeptUses;
 use crate::refused::RefusedUse;
+use crate::rule::UseRule;
 use crate::written::refused_assign;
-use abel_tree::{Section, Stmt, When, earlier};
+use abel_tree::{Section, Stmt, earlier};
 use pld_base::OutOfMemory;
 use pld_device::Device;
 use section_targets::SectionScope;
@@ -25,39 +27,27 @@ use std::alloc::Global;
 fn refused_stmt<D: Device>(
     alloc: Global,
     scope: &SectionScope<'_, D>,
-    fronts: &[Front],
+    names: &KeptUses<'_, '_>,
     guarded: bool,
     stmt: &Stmt,
 ) -> Result<Option<RefusedUse>, OutOfMemory>
-    ensures { IfOk result (λ r. AreAllFronts scope.now fronts.now
+    ensures { IfOk result (λ r. Knows (context_for D.table scope.now) names.now
         → r ≡ first_refusal use_order (statement_refused (context_for D.table scope.now) guarded (view_stmt stmt.now))) }
 {
     match stmt {
-        Stmt::Assign(assign) => refused_assign::<D>(alloc, scope, fronts, guarded, assign),
-        Stmt::When(when) => refused_when::<D>(alloc, scope, fronts, when),
-        Stmt::Group(list) => refused_list::<D>(alloc, scope, fronts, guarded, list.as_slice()),
-        Stmt::DontCare(_) => Ok(None),
-    }
-}
-
-/// Of WHEN.
-#[cycle(statements)]
-fn refused_when<D: Device>(
-    alloc: Global,
-    scope: &SectionScope<'_, D>,
-    fronts: &[Front],
-    when: &When,
-) -> Result<Option<RefusedUse>, OutOfMemory>
-    ensures { IfOk result (λ r. (guarded : Bool) → AreAllFronts scope.now fronts.now
-        → r ≡ first_refusal use_order (statement_refused (context_for D.table scope.now) guarded (view_when when.now))) }
-{
-    let then = refused_stmt::<D>(alloc, scope, fronts, true, when.then.get())?;
-    match &when.otherwise {
-        None => Ok(then),
-        Some(other) => {
-            let other = refused_stmt::<D>(alloc, scope, fronts, true, other.get())?;
-            Ok(earlier(then, other))
+        Stmt::Assign(assign) => refused_assign::<D>(alloc, scope, names, guarded, assign),
+        Stmt::When(when) => {
+            let then = refused_stmt::<D>(alloc, scope, names, true, when.then.get())?;
+            match &when.otherwise {
+                None => Ok(then),
+                Some(other) => {
+                    let other = refused_stmt::<D>(alloc, scope, names, true, other.get())?;
+                    Ok(earlier(then, other))
+                }
+            }
         }
+        Stmt::Group(list) => refused_list::<D>(alloc, scope, names, guarded, list.as_slice()),
+        Stmt::DontCare(_) => Ok(None),
     }
 }
 
@@ -66,18 +56,18 @@ fn refused_when<D: Device>(
 fn refused_list<D: Device>(
     alloc: Global,
     scope: &SectionScope<'_, D>,
-    fronts: &[Front],
+    names: &KeptUses<'_, '_>,
     guarded: bool,
     list: &[Stmt],
 ) -> Result<Option<RefusedUse>, OutOfMemory>
-    ensures { IfOk result (λ r. AreAllFronts scope.now fronts.now
+    ensures { IfOk result (λ r. Knows (context_for D.table scope.now) names.now
         → r ≡ first_refusal use_order (list_refused (context_for D.table scope.now) guarded (map view_stmt list.now))) }
 {
     let mut first = None;
     for stmt in list {
         first = earlier(
             first,
-            refused_stmt::<D>(alloc, scope, fronts, guarded, stmt)?,
+            refused_stmt::<D>(alloc, scope, names, guarded, stmt)?,
         );
     }
     Ok(first)
@@ -87,21 +77,17 @@ fn refused_list<D: Device>(
 fn refused_section<D: Device>(
     alloc: Global,
     scope: &SectionScope<'_, D>,
-    fronts: &[Front],
+    names: &KeptUses<'_, '_>,
     section: &Section,
 ) -> Result<Option<RefusedUse>, OutOfMemory>
-    ensures { IfOk result (λ r. AreAllFronts scope.now fronts.now
+    ensures { IfOk result (λ r. Knows (context_for D.table scope.now) names.now
         → r ≡ first_refusal use_order (section_refused (context_for D.table scope.now) (view_section section.now))) }
 {
     match section {
         Section::Equations(list) => {
-            refused_list::<D>(alloc, scope, fronts, false, list.as_slice())
+            refused_list::<D>(alloc, scope, names, false, list.as_slice())
         }
-        Section::Declarations(_) => Ok(None),
-        Section::Table(_) => Ok(None),
-        Section::Diagram(_) => Ok(None),
-        Section::Vectors(_) => Ok(None),
-        Section::DontCare(_) => Ok(None),
+        _ => Ok(None),
     }
 }
 
@@ -116,13 +102,17 @@ pub fn other_spelling<D: Device>(
     ensures { IfOk result (λ r. (d : Design) → IsContextOf D.table scope.now d.context → d.sections ≡ map view_section sections.now
         → r ≡ first_refusal use_order (unwritten d)) }
 {
-    let fronts = all_fronts(alloc, scope.scope())?;
+    let rule = UseRule::Extensions;
+    let known = scope.scope();
+    let learnt = learn_names::<D>(alloc, rule, known)?;
+    let names = KeptUses {
+        rule,
+        scope: known,
+        list: learnt.as_slice(),
+    };
     let mut first = None;
     for section in sections {
-        first = earlier(
-            first,
-            refused_section::<D>(alloc, scope, fronts.as_slice(), section)?,
-        );
+        first = earlier(first, refused_section::<D>(alloc, scope, &names, section)?);
     }
     Ok(first)
 }

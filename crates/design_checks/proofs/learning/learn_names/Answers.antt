@@ -15,6 +15,7 @@ use Rattle.design_checks.proofs.learning.learn_names.Goals as goal
 
 pub loop-declared-preserved : goal.loop-declared-preserved
 loop-declared-preserved g c =
+    let r = c.args.rule in
     let d = context_for g.D.Device.table c.args.scope.now in
     let ds = c.list-declared-items.result.now in
     let l = c.loop-declared in
@@ -29,20 +30,21 @@ loop-declared-preserved g c =
     ∙ ap (λ n. get_or (map view_declared ds) n no_name) (l.invariant.number ∙ size)
     ∙ name_here view_declared ds i x no_name c.loop-declared-test.true c.declared-item.is in
     let split : es ++ map view_declared (drop i ds) ≡ entries_of c.args.scope.now = sym (map-append view_declared (take i ds) (drop i ds)) ∙ ap (map view_declared) (take-append-drop i ds) ∙ all in
-    let kept : AreOfNames NameUses (uses_of d) (entries_of c.args.scope.now) l.list.items (known_of es) = subst (λ xs. AreOfNames NameUses (uses_of d) xs l.list.items (known_of es)) split (first_names (uses_of d) es (map view_declared (drop i ds)) l.list.items l.invariant.list) in
-    let one = c.in_ok-uses.ensures (learning d es) refl named (subst (λ us. AreOfNames NameUses (uses_of d) (entries_of c.args.scope.now) us (known_of es)) (sym c.as_slice.ensures.value) kept) in
+    let kept : AreOfNames NameUses (uses_of r d) (entries_of c.args.scope.now) l.list.items (known_of es) = subst (λ xs. AreOfNames NameUses (uses_of r d) xs l.list.items (known_of es)) split (first_names (uses_of r d) es (map view_declared (drop i ds)) l.list.items l.invariant.list) in
+    let one = c.in_ok-uses.ensures (learning d es) refl named (subst (λ us. AreOfNames NameUses (uses_of r d) (entries_of c.args.scope.now) us (known_of es)) (sym c.as_slice.ensures.value) kept) in
     record {
       list =
           c.in_ok-push.ensures.items
-          ∙ ap₂ (λ us u. us ++ u ∷ []) l.invariant.list (one ∙ ap (λ n. uses_of d (term_meant (known_of es) n (view_declared x).kind)) l.invariant.number)
-          ∙ sym (ap (λ xs. values_of (uses_of d) (known_of xs)) here ∙ values_more (uses_of d) es (view_declared x));
+          ∙ ap₂ (λ us u. us ++ u ∷ []) l.invariant.list (one ∙ ap (λ n. uses_of r d (term_meant (known_of es) n (view_declared x).kind)) l.invariant.number)
+          ∙ sym (ap (λ xs. values_of (uses_of r d) (known_of xs)) here ∙ values_more (uses_of r d) es (view_declared x));
       number = omega (arith, c.in_ok-number.ensures, l.invariant.number, ap length here, length-append es (view_declared x ∷ []));
     }
 
 pub returns : goal.returns
 returns g c =
+    let r = c.args.rule in
     let d = context_for g.D.Device.table c.args.scope.now in
     let ds = c.list-declared-items.result.now in
     let l = c.loop-declared in
     let all : map view_declared (take l.declared-index ds) ≡ entries_of c.args.scope.now = whole_front view_declared ds l.declared-index c.loop-declared-test.false ∙ ap (map view_declared) c.list-declared-items.ensures in
-    all_names (uses_of d) (entries_of c.args.scope.now) l.list.items (subst (λ xs. l.list.items ≡ values_of (uses_of d) (known_of xs)) all l.invariant.list)
+    all_names (uses_of r d) (entries_of c.args.scope.now) l.list.items (subst (λ xs. l.list.items ≡ values_of (uses_of r d) (known_of xs)) all l.invariant.list)

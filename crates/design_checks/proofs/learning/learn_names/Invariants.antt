@@ -10,6 +10,6 @@ use Rattle.design_checks.proofs.learning.learn_names.Given as goal
 abbrev pub invariant-loop-declared : goal.invariant-loop-declared
 invariant-loop-declared g l =
     record {
-      list : l.list.items ≡ values_of (uses_of (context_for g.D.Device.table l.scope)) (known_of (map view_declared (take l.declared-index l.declared-items)));
+      list : l.list.items ≡ values_of (uses_of l.rule (context_for g.D.Device.table l.scope)) (known_of (map view_declared (take l.declared-index l.declared-items)));
       number : l.number ≡ length (map view_declared (take l.declared-index l.declared-items));
     }

@@ -1,15 +1,16 @@
 -- One name more.
 use Rattle.std.proofs.Common.{ap₂, ◌∙◌}
+use Rattle.std.specs.Option.{option_or}
 use Rattle.name_uses.specs.Viewed.{view_use}
-use Rattle.design_checks.specs.Firsts.{signals_both}
-use Rattle.design_checks.specs.Learnt.{first_signals}
+use Rattle.design_checks.specs.Learnt.{first_read}
 use Rattle.design_checks.specs.PartUses.{reads_used}
-use Rattle.design_checks.proofs.JoinedFirsts.{joined_more, signals_append}
+use Rattle.design_checks.proofs.JoinedFirsts.{joined_more, read_append}
 use Rattle.design_checks.proofs.reads.first_in.Goals as goal
 
 pub loop-used-preserved : goal.loop-used-preserved
 loop-used-preserved c d knows =
     let l = c.loop-used in
-    c.with-signals.ensures
-    ∙ ap₂ signals_both (l.invariant d knows) (c.in_ok-signals_used.ensures d knows)
-    ∙ joined_more (first_signals d) signals_both (signals_append d) view_use (reads_used d.known c.args.extension) c.args.uses.now l.used-index c.used-item.result c.loop-used-test.true c.used-item.is
+    let r = c.args.names.now.rule in
+    c.or-first.ensures
+    ∙ ap₂ option_or (l.invariant d knows) (c.in_ok-first_used.ensures d knows)
+    ∙ joined_more (first_read r d) option_or (read_append r d) view_use (reads_used d.known c.args.extension) c.args.uses.now l.used-index c.used-item.result c.loop-used-test.true c.used-item.is

@@ -12,7 +12,7 @@ use Rattle.design_checks.specs.Written.{unwritten}
 use Rattle.design_checks.proofs.signals.no_control.Goals as goal
 
 pub returns : goal.returns
-returns g c d of same missing =
+returns g c d of same =
     let t = g.D.Device.table in
     let xs = entries_of c.args.scope.now in
     let fs = arena c.args.found.now.exprs in
@@ -22,6 +22,6 @@ returns g c d of same missing =
     c.earlier.ensures
     ∙ ap₂ (earlier use_order)
     (c.earlier-targets.ensures ∙ ap₂ (earlier use_order) c.first_refused-lacking.ensures c.first_refused-others.ensures ∙ sym (first_append use_order (lacking_controls t xs cs) (other_levels t fs xs cs)))
-    (c.earlier-sources.ensures ∙ ap₂ (earlier use_order) (c.in_ok-unwritten.ensures d of here) missing ∙ sym (first_append use_order (unwritten d) used))
+    (c.earlier-sources.ensures ∙ ap₂ (earlier use_order) (c.in_ok-unwritten.ensures d of here) (c.in_ok-missing.ensures d of same) ∙ sym (first_append use_order (unwritten d) used))
     ∙ sym (first_append use_order (target_controls t fs xs cs) (unwritten d ++ used))
     ∙ ap (λ rs. first_refusal use_order (rs ++ (unwritten d ++ used))) (ap₂ (λ u ys. target_controls u fs ys cs) (sym of.device) (sym of.names))

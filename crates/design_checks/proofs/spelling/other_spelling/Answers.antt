@@ -1,22 +1,27 @@
 -- Sections one after the other.
-use Rattle.std.proofs.Common.{sym, ap₂, subst₂, ◌∙◌}
+use Rattle.std.proofs.Common.{sym, ap₂, subst, ◌∙◌}
+use Rattle.abel_tree.specs.declared.names.Names.{Names}
 use Rattle.abel_tree.specs.FirstRefusal.{earlier, first_refusal}
 use Rattle.abel_tree.specs.View.{view_section}
 use Rattle.set_expr.specs.Contexts.{context_for}
 use Rattle.set_expr.proofs.FoundMembers.{whole_front}
+use Rattle.design_checks.specs.Learnt.{AreUsesOf}
 use Rattle.design_checks.specs.UsesRefused.{use_order}
-use Rattle.design_checks.specs.Fronts.{AreAllFronts}
 use Rattle.design_checks.specs.Written.{section_refused, sections_refused}
-use Rattle.design_checks.proofs.RefusedStatements.{first_more, sections_push}
+use Rattle.design_checks.specs.declared.rule.UseRule.TheVariants as use_rule
 use Rattle.design_checks.proofs.LearntName.{is_context_for}
+use Rattle.design_checks.proofs.RefusedStatements.{first_more, sections_push}
 use Rattle.design_checks.proofs.spelling.other_spelling.Goals as goal
 
 pub loop-section-preserved : goal.loop-section-preserved
 loop-section-preserved g c =
-    let d = context_for g.D.Device.table c.args.scope.now in
-    let fronts = subst₂ AreAllFronts c.scope.ensures (sym c.as_slice.ensures) c.in_ok-fronts.ensures in
+    let t = g.D.Device.table in
+    let d = context_for t c.args.scope.now in
+    let known = c.scope-known.result.now in
+    let learnt = subst (λ us. AreUsesOf use_rule.Extensions (context_for t known) known us) (sym c.as_slice.ensures.value) c.in_ok-learnt.ensures in
+    let knows = subst (λ (m : Names). AreUsesOf use_rule.Extensions (context_for t m) known c.as_slice.result.now) c.scope-known.ensures learnt in
     c.earlier-first.ensures
-    ∙ ap₂ (earlier use_order) c.loop-section.invariant (c.in_ok-refused_section.ensures fronts)
+    ∙ ap₂ (earlier use_order) c.loop-section.invariant (c.in_ok-refused_section.ensures knows)
     ∙ first_more (sections_refused d) (section_refused d) (sections_push d) view_section c.args.sections.now c.loop-section.section-index c.section-item.result c.loop-section-test.true c.section-item.is
 
 pub returns : goal.returns

@@ -1,15 +1,15 @@
 -- Where nothing is compared, nothing is refused; a target that is too wide is refused before; any other has its signals.
-use Rattle.std.proofs.Common.{◌≡◌, ◌<◌, ◌≤◌, length, sym, ap, subst, ◌∙◌, arith}
+use Rattle.std.proofs.Common.{◌<◌, ◌≤◌, length, sym, ap, subst, ◌∙◌, arith}
 use Rattle.abel_tree.specs.declared.names.Names.{Names}
 use Rattle.abel_tree.specs.Assigned.{target_extension}
 use Rattle.abel_tree.specs.Entries.{entries_of}
 use Rattle.abel_tree.specs.FirstRefusal.{first_refusal}
 use Rattle.abel_tree.specs.View.{view}
-use Rattle.abel_meaning.specs.Terms.{known_of, term_of}
+use Rattle.abel_meaning.specs.Terms.{term_of}
 use Rattle.set_expr.specs.Contexts.{context_for}
 use Rattle.section_targets.specs.TargetSignals.{left_side}
 use Rattle.section_targets.proofs.SignalLists.{side_all, side_length}
-use Rattle.design_checks.specs.Fronts.{AreAllFronts, counted, may_be_compared}
+use Rattle.design_checks.specs.Fronts.{may_be_compared}
 use Rattle.design_checks.specs.UsesRefused.{use_order}
 use Rattle.design_checks.specs.Written.{aims_refused, narrow, written_if}
 use Rattle.design_checks.proofs.RefusedStatements.{narrow_all, narrow_none, none_compared}
@@ -41,8 +41,7 @@ returns g c l =
     let s = c.in_ok-side.ensures g.D.Device.table in
     let low : length x.aims ≤ 32 = omega (arith, c.if-aims-gt32.false, ap length c.as_slice-aims.ensures, side_length (length (entries_of c.args.scope.now)) c.in_ok-side.side x s) in
     let aims = c.as_slice-aims.ensures ∙ side_all (length (entries_of c.args.scope.now)) c.in_ok-side.side x s low in
-    let front = subst (λ (n : Names). AreAllFronts n c.args.fronts.now → c.in_ok-front.front ≡ counted (written_if c.args.guarded (term_of (known_of (entries_of n)) (view a.value)))) c.scope-names.ensures c.in_ok-front.ensures l in
-    c.refused_aims.ensures w front (subst (λ xs. length xs ≤ 32) (sym aims) low)
-    ∙ ap (λ (n : Names). first_refusal use_order (aims_refused (context_for g.D.Device.table n) c.target_extension-extension.result w 0 c.as_slice-aims.result.now)) c.scope-names.ensures
+    c.refused_aims.ensures w (c.in_ok-front.ensures d l) (subst (λ xs. length xs ≤ 32) (sym aims) low)
+    ∙ ap (λ (n : Names). first_refusal use_order (aims_refused (context_for g.D.Device.table n) c.target_extension-extension.result w 0 c.as_slice-aims.result.now)) c.scope.ensures
     ∙ ap (λ xs. first_refusal use_order (aims_refused d c.target_extension-extension.result w 0 xs)) (aims ∙ sym (narrow_all x.aims low))
     ∙ ap (λ e. first_refusal use_order (aims_refused d e w 0 (narrow x.aims))) c.target_extension-extension.ensures

@@ -8,12 +8,16 @@ use Rattle.design_checks.proofs.names.KeptUses.get.Goals as goal
 
 pub returns-in-None : goal.returns-in-None
 returns-in-None c d knows =
-    c.no_uses.ensures
-    ∙ subst (λ o. value_in (uses_of d) c.args.self.now.list.now o ≡ uses_of d (term_named d.known c.args.text.now)) c.in-None.ensures.place
-    (placed (uses_of d) (entries_of c.args.self.now.scope.now) c.args.self.now.list.now d.known c.args.text.now knows)
+    let kept = c.args.self.now in
+    let of = uses_of kept.rule d in
+    c.none.ensures
+    ∙ subst (λ o. value_in of kept.list.now o ≡ of (term_named d.known c.args.text.now)) c.in-None.ensures.place
+    (placed of (entries_of kept.scope.now) kept.list.now d.known c.args.text.now knows)
 
 pub returns-in-Some : goal.returns-in-Some
 returns-in-Some c d knows =
+    let kept = c.args.self.now in
+    let of = uses_of kept.rule d in
     c.at.ensures
-    ∙ subst (λ o. value_in (uses_of d) c.args.self.now.list.now o ≡ uses_of d (term_named d.known c.args.text.now)) c.in-Some.ensures.place
-    (placed (uses_of d) (entries_of c.args.self.now.scope.now) c.args.self.now.list.now d.known c.args.text.now knows)
+    ∙ subst (λ o. value_in of kept.list.now o ≡ of (term_named d.known c.args.text.now)) c.in-Some.ensures.place
+    (placed of (entries_of kept.scope.now) kept.list.now d.known c.args.text.now knows)

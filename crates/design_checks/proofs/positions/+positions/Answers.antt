@@ -1,0 +1,79 @@
+-- One member more, and each kind of expression.
+use Rattle.std.proofs.Common.{◌≡◌, ◌+◌, true, [], ◌∷◌, ◌++◌, map, take, sym, ap, ap₂, ◌∙◌}
+use Rattle.std.proofs.lemmas.Result.{IfOk-weaker}
+use Rattle.abel_tree.specs.Tree.{AParen, AUnary, members_of}
+use Rattle.abel_tree.specs.View.{view, view_member}
+use Rattle.abel_meaning.specs.Targets.{all_targets}
+use Rattle.abel_meaning.specs.Terms.{NoTerm, Set, member_before, term_named, term_of, terms_of}
+use Rattle.expr_bits.proofs.Views.{view_name, view_one, view_paren, view_set, view_span, view_special, view_unary}
+use Rattle.set_expr.proofs.FoundMembers.{front_more, whole_front}
+use Rattle.design_checks.specs.Learnt.{all_positions, are_by_pin, positions_of}
+use Rattle.design_checks.specs.Written.{written_of_all}
+use Rattle.design_checks.proofs.PositionTerms.{extended_positions, members_more, one_member, special_positions}
+use Rattle.design_checks.proofs.positions.+positions.Goals as goal
+
+pub positions_of-loop-member-preserved : goal.positions_of-loop-member-preserved
+positions_of-loop-member-preserved t c d knows =
+    let ks = d.known in
+    let ms = c.as_slice-member-items.result.now in
+    let i = c.loop-member.member-index in
+    let m = view_member c.member-item.result in
+    let before = map view_member (take i ms) in
+    let here : map view_member (take (i + 1) ms) ≡ before ++ m ∷ [] = front_more view_member ms i c.member-item.result c.loop-member-test.true c.member-item.is in
+    let ts = terms_of ks (members_of before) in
+    let us = member_before ks m NoTerm in
+    c.with-positions.ensures (written_of_all ts) (written_of_all us) (are_by_pin d (all_targets ts)) (are_by_pin d (all_targets us)) (c.loop-member.invariant d knows) (c.in_ok-next-in-Set.ensures d knows)
+    ∙ sym (ap (λ xs. all_positions d (terms_of ks (members_of xs))) here ∙ members_more d ks before m)
+
+pub positions_of-returns-after-loop-member : goal.positions_of-returns-after-loop-member
+positions_of-returns-after-loop-member t c d knows =
+    let ks = d.known in
+    let ms = c.as_slice-member-items.result.now in
+    let all : map view_member (take c.loop-member.member-index ms) ≡ map view_member c.in-Set.members = whole_front view_member ms c.loop-member.member-index c.loop-member-test.false ∙ ap (map view_member) c.as_slice-member-items.ensures in
+    c.loop-member.invariant d knows
+    ∙ ap (λ xs. all_positions d (terms_of ks (members_of xs))) all
+    ∙ sym (extended_positions d c.in-Set.extension (Set (terms_of ks (members_of (map view_member c.in-Set.members)))))
+    ∙ ap (λ e. positions_of d (term_of ks e)) (sym (ap view c.in-Set.is ∙ view_set c.in-Set.place c.in-Set.members c.in-Set.extension))
+
+pub positions_of-returns-in-Name : goal.positions_of-returns-in-Name
+positions_of-returns-in-Name t c d knows =
+    let ks = d.known in
+    ap (λ n. n.positions) (c.get.ensures d knows)
+    ∙ ap (λ w. positions_of d (term_named ks w)) c.bytes.ensures
+    ∙ sym (extended_positions d c.in-Name.extension (term_named ks c.in-Name.word.text))
+    ∙ ap (λ e. positions_of d (term_of ks e)) (sym (ap view c.in-Name.is ∙ view_name c.in-Name.word c.in-Name.extension))
+
+pub positions_of-returns-in-Special : goal.positions_of-returns-in-Special
+positions_of-returns-in-Special t c d knows =
+    c.other-in-Special.ensures
+    ∙ sym (special_positions d c.in-Special.letter)
+    ∙ ap (λ e. positions_of d (term_of d.known e)) (sym (ap view c.in-Special.is ∙ view_special c.in-Special.letter c.in-Special.place))
+
+pub positions_of-returns-in-Paren : goal.positions_of-returns-in-Paren
+positions_of-returns-in-Paren t c =
+    IfOk-weaker c.positions_of.result _ _
+    (λ p h d knows.
+    h d knows
+    ∙ ap (λ e. positions_of d (term_of d.known e)) (sym (ap view c.in-Paren.is ∙ view_paren c.in-Paren.place c.in-Paren.inner ∙ ap (AParen c.in-Paren.place) (ap view (sym c.get-in-Paren.ensures)))))
+    c.positions_of.ensures
+
+pub positions_of-returns-in_ok-inner-in-Not : goal.positions_of-returns-in_ok-inner-in-Not
+positions_of-returns-in_ok-inner-in-Not t c d knows =
+    ap (λ p. record { front = p.front; by_pin = true }) (c.in_ok-inner-in-Not.ensures d knows)
+    ∙ ap (λ e. positions_of d (term_of d.known e))
+    (sym (ap view c.in-Unary.is ∙ view_unary c.in-Unary.sign c.in-Unary.place c.in-Unary.inner ∙ ap₂ (λ s e. AUnary s c.in-Unary.place e) c.in-Not.is (ap view (sym c.get-in-Not.ensures))))
+
+pub member_positions-returns-in-Span : goal.member_positions-returns-in-Span
+member_positions-returns-in-Span t c =
+    IfOk-weaker c.range_positions.result _ _
+    (λ p h d knows. h d knows ∙ ap (λ m. all_positions d (member_before d.known m NoTerm)) (sym (ap view_member c.in-Span.is ∙ view_span c.in-Span.first c.in-Span.last)))
+    c.range_positions.ensures
+
+pub member_positions-returns-in-One : goal.member_positions-returns-in-One
+member_positions-returns-in-One t c =
+    IfOk-weaker c.positions_of.result _ _
+    (λ p h d knows.
+    h d knows
+    ∙ sym (one_member d (term_of d.known (view c.in-One.expr)))
+    ∙ ap (λ m. all_positions d (member_before d.known m NoTerm)) (sym (ap view_member c.in-One.is ∙ view_one c.in-One.expr)))
+    c.positions_of.ensures
