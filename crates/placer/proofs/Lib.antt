@@ -3,7 +3,6 @@ pub mod Counts
 pub mod DeclarationParts
 pub mod DeclaredAt
 pub mod Entering
-pub mod FirstPlaces
 pub mod FirstSignals
 pub mod FittingPins
 pub mod Free

@@ -5,7 +5,7 @@ use Rattle.std.proofs.lemmas.Option.{get_or_from_slice_get}
 use Rattle.pld_device.specs.declared.cell.Cell.{Cell}
 use Rattle.pld_device.specs.Table.{no_cell}
 use Rattle.placer.specs.Signals.{is_enabled_by}
-use Rattle.placer.proofs.FirstPlaces.{any_here, any_none}
+use Rattle.pld_device.proofs.FirstPlaces.{any_here, any_none}
 use Rattle.placer.proofs.fitting.is_enabling.Goals as goal
 
 pub returns-then-is_enabled_by : goal.returns-then-is_enabled_by

@@ -3,7 +3,7 @@ use Rattle.std.proofs.Common.{◌≡◌, ◌<◌, true, false, length, map, get_
 use Rattle.std.specs.Prelude.{bytes_eq}
 use Rattle.std.proofs.lemmas.List.Elements.{All-get_or}
 use Rattle.abel_tree.specs.Entries.{Entry, view_declared}
-use Rattle.placer.proofs.FirstPlaces.{place_first, place_here, place_later, place_none}
+use Rattle.pld_device.proofs.FirstPlaces.{place_first, place_here, place_later, place_none}
 use Rattle.placer.proofs.DeclaredAt.{seen_at}
 use Rattle.placer.proofs.Pinned.{is_name}
 use Rattle.placer.proofs.pins.place_of.Goals as goal
