@@ -1,5 +1,5 @@
 -- What the names of a module say of its assignments.
-use Rattle.std.proofs.Common.{◌≡◌, ℕ, zero, suc, ◌+◌, Bool, true, false, Some, List, [], ◌∷◌, ◌++◌, get_or, refl, sym, ap, subst, ◌∙◌, arith}
+use Rattle.std.proofs.Common.{◌≡◌, ℕ, zero, suc, ◌+◌, Bool, true, false, Some, List, [], ◌∷◌, ◌++◌, get_or, refl, sym, ap, ◌∙◌, arith}
 use Rattle.std.specs.Prelude.{slice_get}
 use Rattle.pld_device.specs.declared.flip.Flip.{Flip}
 use Rattle.pld_device.specs.Table.{Table}
@@ -9,7 +9,7 @@ use Rattle.abel_tree.specs.Tree.{Tree, ModuleTree}
 use Rattle.abel_meaning.specs.Declarations.{declared_names}
 use Rattle.abel_meaning.specs.Designs.{Design, design_of, name_at, no_name}
 use Rattle.abel_meaning.specs.Held.{Holds, holds_of}
-use Rattle.abel_meaning.specs.Kinds.{with_kinds, names_of}
+use Rattle.abel_meaning.specs.Kinds.{with_kind, with_kinds, names_of}
 use Rattle.abel_meaning.specs.Terms.{term_of}
 use Rattle.declared_names.proofs.AssignedMarks.{is_no_target}
 use Rattle.declared_names.proofs.AmongNumbers.{among}
@@ -21,24 +21,20 @@ named_kept : (flip : Flip) (held : Holds) (found : List Assigned) (ks : List Nam
 named_kept flip held found ks s k [] = refl
 named_kept flip held found ks s k (e ∷ es) = named_kept flip held found (ks ++ record { name = e.name; signals = meant ks s e.kind } ∷ []) (suc s) (suc k) es
 
--- a name that some section assigns
-assigned_told : (flip : Flip) (held : Holds) (found : List Assigned) (k s : ℕ) (es : List Entry) → (get_or (with_kinds flip held found k es) s no_name).assigned ≡ true → is_assigned found (k + s) ≡ true
-assigned_told flip held found k s [] h = absurd cc
-assigned_told flip held found k zero (e ∷ es) h = subst (λ n. is_assigned found n ≡ true) (the_first k) h
+-- an assigned name as it was declared, with its kind
+kinds_there : (flip : Flip) (held : Holds) (found : List Assigned) (k s : ℕ) (es : List Entry) → (get_or (with_kinds flip held found k es) s no_name).assigned ≡ true
+    → (x : Entry) × ((slice_get es s ≡ Some x) × (get_or (with_kinds flip held found k es) s no_name ≡ with_kind flip held found (k + s) x))
+kinds_there flip held found k s [] h = absurd cc
+kinds_there flip held found k zero (e ∷ es) h = (e, (refl, ap (λ n. with_kind flip held found n e) (the_first k)))
   where
     the_first : (n : ℕ) → n ≡ n + 0
     the_first n = omega arith
-assigned_told flip held found k (suc s) (e ∷ es) h = subst (λ n. is_assigned found n ≡ true) (one_more k s) (assigned_told flip held found (suc k) s es h)
+kinds_there flip held found k (suc s) (e ∷ es) h =
+    let there = kinds_there flip held found (suc k) s es h in
+    (there.0, (there.1.0, there.1.1 ∙ ap (λ n. with_kind flip held found n there.0) (one_more k s)))
   where
     one_more : (n m : ℕ) → suc n + m ≡ n + suc m
     one_more n m = omega arith
-
--- the name as it was declared
-declared_there : (flip : Flip) (held : Holds) (found : List Assigned) (k s : ℕ) (es : List Entry) → (get_or (with_kinds flip held found k es) s no_name).assigned ≡ true
-    → (x : Entry) × ((slice_get es s ≡ Some x) × (x.kind ≡ (get_or (with_kinds flip held found k es) s no_name).kind))
-declared_there flip held found k s [] h = absurd cc
-declared_there flip held found k zero (e ∷ es) h = (e, (refl, refl))
-declared_there flip held found k (suc s) (e ∷ es) h = declared_there flip held found (suc k) s es h
 
 module _ (t : Table) (m : ModuleTree) where
   abbrev pub own_names : List Named
@@ -56,17 +52,26 @@ module _ (t : Table) (m : ModuleTree) where
   pub names_within : (s : ℕ) → IsWithin s own_names d.context.known
   names_within s x h = bare_among s (term_of d.context.known x) (sym (ap (among s) (same_targets x)) ∙ h)
 
-  pub by_sections : (s : ℕ) → (name_at d.context s).assigned ≡ true → is_assigned (sections_assign own_names m.sections) s ≡ true
-  by_sections s h = subst (λ n. is_assigned (sections_assign own_names m.sections) n ≡ true) (no_more s) (assigned_told t.flip own_held (sections_assign own_names m.sections) 0 s (declared_names m) h)
+  abbrev pub own_assigned : List Assigned
+  own_assigned = sections_assign own_names m.sections
+
+  -- an assigned name as it was declared, and as it is assigned
+  pub declared_there : (s : ℕ) → (name_at d.context s).assigned ≡ true → (x : Entry) × ((slice_get (declared_names m) s ≡ Some x) × (name_at d.context s ≡ with_kind t.flip own_held own_assigned s x))
+  declared_there s h =
+      let there = kinds_there t.flip own_held own_assigned 0 s (declared_names m) h in
+      (there.0, (there.1.0, there.1.1 ∙ ap (λ n. with_kind t.flip own_held own_assigned n there.0) (no_more s)))
     where
       no_more : (n : ℕ) → 0 + n ≡ n
       no_more n = omega arith
 
+  pub by_sections : (s : ℕ) → (name_at d.context s).assigned ≡ true → is_assigned own_assigned s ≡ true
+  by_sections s h = sym (ap (λ (e : Entry). e.assigned) (declared_there s h).1.1) ∙ h
+
   -- only signals are assigned
   pub signal_there : (s : ℕ) → (name_at d.context s).assigned ≡ true → is_signal (name_at d.context s).kind ≡ true
   signal_there s h =
-      let x = declared_there t.flip own_held (sections_assign own_names m.sections) 0 s (declared_names m) h in
-      ap is_signal (sym x.1.1) ∙ by x.0 x.1.0 (is_signal x.0.kind) refl
+      let x = declared_there s h in
+      ap (λ (e : Entry). is_signal e.kind) x.1.1 ∙ by x.0 x.1.0 (is_signal x.0.kind) refl
     where
       by : (x : Entry) → slice_get (declared_names m) s ≡ Some x → (b : Bool) → is_signal x.kind ≡ b → b ≡ true
       by x g true e = refl

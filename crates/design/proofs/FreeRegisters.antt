@@ -1,8 +1,7 @@
 -- Where nothing is refused of the sections, the polarity of a free register may be chosen.
-use Rattle.std.proofs.Common.{◌≡◌, ℕ, zero, suc, ◌+◌, ◌==◌, Bool, true, false, not, ◌&&◌, ◌||◌, if◌then◌else◌, cond, Option, None, Some, List, [], ◌∷◌, ◌++◌, get_or, inl, inr, refl, sym, ap, ap₂, subst, ◌∙◌, arith}
-use Rattle.std.specs.Prelude.{filter}
-use Rattle.std.specs.List.{list_any}
-use Rattle.std.proofs.lemmas.Bool.{and_parts, cases_Bool, or_left, or_right, or_cases, true≢false}
+use Rattle.std.proofs.Common.{◌≡◌, ℕ, ◌==◌, Bool, true, false, not, ◌&&◌, ◌||◌, if◌then◌else◌, Option, None, Some, List, [], ◌∷◌, inl, inr, refl, sym, ap, ◌∙◌}
+use Rattle.std.specs.List.{AllByRecursion, list_any}
+use Rattle.std.proofs.lemmas.Bool.{and_parts, cases_Bool, true≢false}
 use Rattle.std.proofs.lemmas.List.Folds.{list_any-append}
 use Rattle.bit_expr.specs.Formulas.{Formula}
 use Rattle.pld_device.specs.declared.flip.Flip.{Flip}
@@ -10,7 +9,7 @@ use Rattle.pld_device.specs.declared.flip.Flip.TheVariants.{Always, AfterRegiste
 use Rattle.pld_device.specs.Table.{Table}
 use Rattle.abel_tree.specs.declared.words.Extension.{Extension}
 use Rattle.abel_tree.specs.declared.words.Extension.TheVariants as extension
-use Rattle.abel_tree.specs.Assigned.{Assigned, target_extension, without_extension, sections_assign, is_assigned, is_clocked_target}
+use Rattle.abel_tree.specs.Assigned.{signals_of, target_extension, without_extension, is_assigned, is_clocked_target}
 use Rattle.abel_tree.specs.Entries.{Entry, is_signal, is_stored}
 use Rattle.abel_tree.specs.Tree.{Tree, ModuleTree}
 use Rattle.abel_tree.specs.Extensions.{is_data, is_raw}
@@ -18,43 +17,27 @@ use Rattle.abel_meaning.specs.Choices.{is_free}
 use Rattle.abel_meaning.specs.Contributions.{Contribution}
 use Rattle.abel_meaning.specs.Controls.{is_the_control, is_control, control_by}
 use Rattle.abel_meaning.specs.Declarations.{declared_names}
-use Rattle.abel_meaning.specs.Designs.{Context, Design, design_of, name_at, no_name}
+use Rattle.abel_meaning.specs.Designs.{Design, design_of, name_at}
 use Rattle.abel_meaning.specs.FormulaBits.{formulas}
-use Rattle.abel_meaning.specs.Functions.{is_raw_signal}
-use Rattle.abel_meaning.specs.Held.{Part, ATarget, AValue, sections_parts, read_in, part_reads, parts_read, held_by, held_of, is_shared, part_shares, Holds, is_held}
-use Rattle.abel_meaning.specs.Kinds.{is_buffer_by_default, is_registered, is_buffer, is_open, stays_free, words_with_kind, with_kind, with_kinds}
+use Rattle.abel_meaning.specs.Functions.{is_data_to, is_raw_signal}
+use Rattle.abel_meaning.specs.Held.{Part, ATarget, AValue, sections_parts, read_in, part_reads, parts_read, held_by, held_of, is_shared, part_shares, is_held}
+use Rattle.abel_meaning.specs.Kinds.{is_buffer_by_default, is_registered, is_buffer, is_open, stays_free, words_with_kind, with_kind}
 use Rattle.abel_meaning.specs.SignalReads.{given_formulas}
-use Rattle.abel_meaning.specs.Targets.{targets_of, all_targets, some_signals}
-use Rattle.abel_meaning.specs.Terms.{Term, Terms, Number, X, Pulse, Release, Read, Set, UnaryOf, BinaryOf, NoTerm, Before, term_of}
-use Rattle.section_targets.specs.TargetSignals.{names_signals, all_name_signals}
-use Rattle.section_targets.proofs.SignalLists.{some_append}
+use Rattle.abel_meaning.specs.Terms.{term_of}
 use Rattle.netlist_laws.specs.Takeable.{HasNoEquation}
-use Rattle.design.specs.Accepted.{FreeMayChoose}
 use Rattle.declared_names.proofs.AmongNumbers.{among}
-use Rattle.design.specs.AssignedCorrect.{bare_signals, all_bare_signals}
-use Rattle.design.proofs.AssignedNames.{own_names, own_held, names_within, same_targets, signal_there}
-use Rattle.design.proofs.ClearSections.{IsBare, AreBare}
-use Rattle.design.proofs.GivenSignals.{reset_extension, preset_extension}
-use Rattle.design.proofs.GivenTargets.{is_named_in, is_named, sections_given}
+use Rattle.design_checks.specs.LocatedUses.{PlacedUse}
+use Rattle.design_checks.specs.SectionUses.{design_uses}
+use Rattle.design.specs.Accepted.{FreeMayChoose, HaveBareHeaders}
+use Rattle.design.proofs.AssignedNames.{own_names, own_held, own_assigned, same_targets, declared_there, signal_there}
+use Rattle.design.proofs.BareTargets.{bare_alike}
+use Rattle.design.proofs.Each.{each_always, each_weaker, Misses, any_none, none_any, none_filtered}
+use Rattle.design.proofs.GivenSections.{IsBare, MayGive, sections_part}
+use Rattle.design.proofs.GivenSignals.{EachOwn, own_formulas, reset_extension, preset_extension}
 use Rattle.design.proofs.HeldTargets.{is_read}
 use Rattle.design.proofs.NamedTerms.{signals_in, without_alike}
 
 -- ---- what is free
-
--- the name as it was declared, with its kind
-kinds_there : (flip : Flip) (held : Holds) (found : List Assigned) (k s : ℕ) (es : List Entry) → is_free (get_or (with_kinds flip held found k es) s no_name) ≡ true
-    → (x : Entry) × ((x.kind ≡ (get_or (with_kinds flip held found k es) s no_name).kind) × (is_free (with_kind flip held found (k + s) x) ≡ true))
-kinds_there flip held found k s [] h = absurd cc
-kinds_there flip held found k zero (e ∷ es) h = (e, (refl, subst (λ n. is_free (with_kind flip held found n e) ≡ true) (the_first k) h))
-  where
-    the_first : (n : ℕ) → n ≡ n + 0
-    the_first n = omega arith
-kinds_there flip held found k (suc s) (e ∷ es) h =
-    let there = kinds_there flip held found (suc k) s es h in
-    (there.0, (there.1.0, subst (λ n. is_free (with_kind flip held found n there.0) ≡ true) (one_more k s) there.1.1))
-  where
-    one_more : (n m : ℕ) → suc n + m ≡ n + suc m
-    one_more n m = omega arith
 
 -- the settled words say neither polarity only where the register stays free
 must_be_free : (stored buffer free : Bool) → (stored && (not (buffer && not free) && not (not buffer && not free))) ≡ true → free ≡ true
@@ -90,129 +73,106 @@ and_none : (b : Bool) → (b && false) ≡ false
 and_none true = refl
 and_none false = refl
 
--- no contribution is to the control of a signal
-none_kept : (s : ℕ) (e : Extension) → ((x : Option Extension) → is_shared x ≡ false → is_the_control e x ≡ false) → (cs : List (Contribution Formula))
-    → list_any (λ (c : Contribution Formula). is_shared c.extension) cs ≡ false → filter (is_control s e) cs ≡ []
-none_kept s e other [] h = refl
-none_kept s e other (c ∷ cs) h =
-    let parts = either_false (is_shared c.extension) (list_any (λ (x : Contribution Formula). is_shared x.extension) cs) h in
-    ap (λ b. cond b (c ∷ filter (is_control s e) cs) (filter (is_control s e) cs)) (ap (λ b. (c.signal == s) && b) (other c.extension parts.0) ∙ and_none (c.signal == s))
-    ∙ none_kept s e other cs parts.1
-
--- a part that shares nothing names nothing with a shared control
-module _ (d : Context) where
-  abbrev is_control_to : Option Extension → ℕ → Bool
-  is_control_to e j = is_shared e
-
-  none_of : (b : Bool) (js : List ℕ) → b ≡ false → list_any (λ (j : ℕ). b) js ≡ false
-  none_of b [] h = refl
-  none_of b (j ∷ js) h = ap₂ (λ x y. x || y) h (none_of b js h)
-
-  part_clear : (p : Part) → part_shares p ≡ false → is_named_in d is_control_to (λ j. refl) p ≡ false
-  part_clear (ATarget t) h = none_of (is_shared (target_extension t)) (signals_in (term_of d.known t)) h
-  part_clear (AValue t) h = refl
-
-  parts_clear : (ps : List Part) → list_any part_shares ps ≡ false → is_named d is_control_to (λ j. refl) ps ≡ false
-  parts_clear [] h = refl
-  parts_clear (p ∷ ps) h =
-      let parts = either_false (part_shares p) (list_any part_shares ps) h in
-      ap₂ (λ a b. a || b) (part_clear p parts.0) (parts_clear ps parts.1)
-
--- ---- raw inputs
-
-mutual
-  bare_alone : (t : Term) → names_signals t ≡ true → signals_in t ≡ bare_signals t
-  bare_alone (Number n) h = absurd cc
-  bare_alone X h = absurd cc
-  bare_alone Pulse h = absurd cc
-  bare_alone Release h = absurd cc
-  bare_alone (Read s None) h = refl
-  bare_alone (Read s (Some e)) h = absurd cc
-  bare_alone (Set ts) h = all_alone ts h
-  bare_alone (UnaryOf sign t) h = absurd cc
-  bare_alone (BinaryOf sign t u) h = absurd cc
-
-  all_alone : (ts : Terms) → all_name_signals ts ≡ true → some_signals (all_targets ts) ≡ all_bare_signals ts
-  all_alone NoTerm h = refl
-  all_alone (Before t ts) h =
-      let parts = and_parts (names_signals t) (all_name_signals ts) h in
-      some_append (targets_of t) (all_targets ts) ∙ ap₂ (λ xs ys. xs ++ ys) (bare_alone t parts.0) (all_alone ts parts.1)
-
-abbrev is_raw_to : ℕ → Option Extension → ℕ → Bool
-is_raw_to s e j = ((j == s) && is_data e) && is_raw e
-
-raw_plain : (s j : ℕ) → is_raw_to s None j ≡ false
-raw_plain s j = and_none ((j == s) && true)
-
-raw_among : (s : ℕ) (e : Option Extension) (js : List ℕ) → list_any (is_raw_to s e) js ≡ true → (is_raw e ≡ true) × (among s js ≡ true)
-raw_among s e [] h = absurd cc
-raw_among s e (j ∷ js) h =
-    elim (or_cases (is_raw_to s e j) (list_any (is_raw_to s e) js) h) [
-      | inl here ↦
-          let parts = and_parts ((j == s) && is_data e) (is_raw e) here in
-          (parts.1, or_left (j == s) (among s js) (and_parts (j == s) (is_data e) parts.0).0)
-      | inr there ↦ let found = raw_among s e js there in (found.0, or_right (j == s) (among s js) found.1)
-    ]
-
 -- ---- a module
 
-module _ (t : Table) (m : ModuleTree) (bare : AreBare (design_of t m).context (sections_parts m.sections)) where
+module _ (t : Table) (m : ModuleTree) (bare : AllByRecursion (IsBare (design_of t m).context) (sections_parts m.sections)) (headers : HaveBareHeaders (design_of t m).context m.sections) where
   abbrev d : Design
   d = design_of t m
 
-  -- what the targets of raw inputs name is held
-  target_held : (s : ℕ) (x : Tree) → IsBare d.context (ATarget x) → list_any (is_raw_to s (target_extension x)) (signals_in (term_of d.context.known x)) ≡ true → among s (part_reads (held_by (held_of (declared_names m))) (ATarget x)) ≡ true
-  target_held s x clear h =
-      let found = raw_among s (target_extension x) (signals_in (term_of d.context.known x)) h in
-      let own = without_extension x in
-      let same = without_alike d.context.known x ∙ (bare_alone (term_of d.context.known own) clear ∙ sym (same_targets t m own)) in
-      let read = is_read s (declared_names m) own (sym (ap (among s) same) ∙ found.1) in
-      ap (λ b. among s (if b then read_in (held_by (held_of (declared_names m))) true own else [])) found.0 ∙ read
+  -- what holds of the signals of each target holds of all that is contributed
+  module _ (K : Option Extension → ℕ → Type 0) (plain : (j : ℕ) → K None j) where
+    all_plain : (x : Tree) → AllByRecursion (K None) (signals_in (term_of d.context.known x))
+    all_plain x = each_always (K None) plain (signals_in (term_of d.context.known x))
 
-  parts_held : (s : ℕ) (ps : List Part) → AreBare d.context ps → is_named d.context (is_raw_to s) (raw_plain s) ps ≡ true → among s (parts_read (held_by (held_of (declared_names m))) ps) ≡ true
-  parts_held s [] clear h = absurd cc
-  parts_held s (p ∷ ps) clear h =
-      let own = part_reads (held_by (held_of (declared_names m))) p in
-      let rest = parts_read (held_by (held_of (declared_names m))) ps in
-      list_any-append (λ j. j == s) own rest
-      ∙ elim (or_cases (is_named_in d.context (is_raw_to s) (raw_plain s) p) (is_named d.context (is_raw_to s) (raw_plain s) ps) h) [
-        | inl here ↦ or_left (among s own) (among s rest) (part_held p clear.0 here)
-        | inr there ↦ or_right (among s own) (among s rest) (parts_held s ps clear.1 there)
-      ]
-    where
-      part_held : (q : Part) → IsBare d.context q → is_named_in d.context (is_raw_to s) (raw_plain s) q ≡ true → among s (part_reads (held_by (held_of (declared_names m))) q) ≡ true
-      part_held (ATarget x) apart g = target_held s x apart g
-      part_held (AValue x) apart g = absurd cc
+    abbrev OfPart : Part → Type 0
+    OfPart p = MayGive d.context (λ u. Unit {0}) K (λ e j k. plain j) 0 [] all_plain p
 
-  -- of what isn't held, the data are its name's
-  named : (s : ℕ) → is_held (own_held t m) s ≡ false → is_raw_signal (given_formulas d) s ≡ false
-  named s free =
-      elim (cases_Bool (is_raw_signal (given_formulas d) s)) [
-        | inl raw ↦
-            let given = (sections_given d.context (is_raw_to s) (raw_plain s) s (own_names t m) (names_within t m s) d.starts_dontcare 0 m.sections).0 in
-            let read = parts_held s (sections_parts m.sections) bare (sym given ∙ raw) in
-            absurd (true≢false (sym read ∙ (either_false (own_held t m).all (list_any (λ h. h == s) (own_held t m).signals) free).1))
-        | inr other ↦ other
-      ]
+    each_own : AllByRecursion OfPart (sections_parts m.sections) → EachOwn K (given_formulas d)
+    each_own parts =
+        own_formulas d (λ u. Unit {0}) K (λ e j k. plain j)
+        ((sections_part d.context (λ u. Unit {0}) K (λ e j k. plain j) 0 [] all_plain d.starts_dontcare 0 [] m.sections).good headers (each_always (λ (u : PlacedUse). Unit {0}) (λ u. tt) (design_uses d)) parts)
+
+  -- ---- controls
+
+  abbrev NotShared : Option Extension → ℕ → Type 0
+  NotShared e j = is_shared e ≡ false
+
+  part_unshared : (p : Part) → part_shares p ≡ false → OfPart NotShared (λ j. refl) p
+  part_unshared (ATarget x) e = each_always (NotShared (target_extension x)) (λ j. e) (signals_in (term_of d.context.known x))
+  part_unshared (AValue x) e = tt
 
   none_given : (e : Extension) → ((x : Option Extension) → is_shared x ≡ false → is_the_control e x ≡ false) → (own_held t m).all ≡ false → HasNoEquation d e
   none_given e other none s =
-      let given = (sections_given d.context (is_control_to d.context) (λ j. refl) s (own_names t m) (names_within t m s) d.starts_dontcare 0 m.sections).0 in
-      ap (control_by (formulas d.context)) (none_kept s e other (given_formulas d) (given ∙ parts_clear d.context (sections_parts m.sections) none))
+      let parts = each_weaker (λ p. part_shares p ≡ false) (OfPart NotShared (λ j. refl)) part_unshared (sections_parts m.sections) (any_none part_shares (sections_parts m.sections) none) in
+      ap (control_by (formulas d.context)) (none_filtered (is_control s e) (given_formulas d)
+      (each_weaker (λ (c : Contribution Formula). NotShared c.extension c.signal) (λ c. is_control s e c ≡ false) (λ c is. ap (λ b. (c.signal == s) && b) (other c.extension is) ∙ and_none (c.signal == s)) (given_formulas d)
+      (each_own NotShared (λ j. refl) parts)))
 
-  stays : (s : ℕ) (x : Entry) → is_signal x.kind ≡ true → is_free (with_kind t.flip (own_held t m) (sections_assign (own_names t m) m.sections) s x) ≡ true
+  -- ---- raw inputs
+
+  module _ (s : ℕ) where
+    abbrev NotRaw : Option Extension → ℕ → Type 0
+    NotRaw e j = (((j == s) && is_data e) && is_raw e) ≡ false
+
+    raw_plain : (j : ℕ) → NotRaw None j
+    raw_plain j = and_none ((j == s) && true)
+
+    abbrev held : List ℕ → Bool → List ℕ
+    held = held_by (held_of (declared_names m))
+
+    not_among : (xs ys : List ℕ) → (among s xs ≡ true → among s ys ≡ true) → among s ys ≡ false → among s xs ≡ false
+    not_among xs ys more none =
+        elim (cases_Bool (among s xs)) [
+          | inl there ↦ absurd (true≢false (sym (more there) ∙ none))
+          | inr other ↦ other
+        ]
+
+    -- the target of a raw input names nothing that isn't held
+    target_free : (x : Tree) → IsBare d.context (ATarget x) → (raw : Bool) → is_raw (target_extension x) ≡ raw → among s (if raw then read_in held true (without_extension x) else []) ≡ false
+        → AllByRecursion (NotRaw (target_extension x)) (signals_in (term_of d.context.known x))
+    target_free x clear false plain free =
+        let e = target_extension x in
+        each_always (NotRaw e) (λ j. ap (λ b. ((j == s) && is_data e) && b) plain ∙ and_none ((j == s) && is_data e)) (signals_in (term_of d.context.known x))
+    target_free x clear true raw free =
+        let e = target_extension x in
+        let own = without_extension x in
+        let named = signals_of (own_names t m) own in
+        let same : signals_in (term_of d.context.known x) ≡ named = without_alike d.context.known x ∙ ((bare_alike (term_of d.context.known own) clear).0 ∙ sym (same_targets t m own)) in
+        let none = not_among named (read_in held true own) (is_read s (declared_names m) own) free in
+        each_weaker (Misses (λ j. j == s)) (NotRaw e) (λ j other. ap (λ b. (b && is_data e) && is_raw e) other) (signals_in (term_of d.context.known x))
+        (any_none (λ j. j == s) (signals_in (term_of d.context.known x)) (ap (among s) same ∙ none))
+
+    parts_free : (ps : List Part) → AllByRecursion (IsBare d.context) ps → among s (parts_read held ps) ≡ false → AllByRecursion (OfPart NotRaw raw_plain) ps
+    parts_free [] clear free = tt
+    parts_free (p ∷ ps) clear free =
+        let parts = either_false (among s (part_reads held p)) (among s (parts_read held ps)) (sym (list_any-append (λ j. j == s) (part_reads held p) (parts_read held ps)) ∙ free) in
+        (part_free p clear.0 parts.0, parts_free ps clear.1 parts.1)
+      where
+        part_free : (q : Part) → IsBare d.context q → among s (part_reads held q) ≡ false → OfPart NotRaw raw_plain q
+        part_free (ATarget x) apart g = target_free x apart (is_raw (target_extension x)) refl g
+        part_free (AValue x) apart g = tt
+
+    -- of what isn't held, the data are its name's
+    named : is_held (own_held t m) s ≡ false → is_raw_signal (given_formulas d) s ≡ false
+    named free =
+        none_any (λ (c : Contribution Formula). is_data_to s c && is_raw c.extension) (given_formulas d)
+        (each_own NotRaw raw_plain (parts_free (sections_parts m.sections) bare (either_false (own_held t m).all (list_any (λ h. h == s) (own_held t m).signals) free).1))
+
+  -- ---- what is free
+
+  stays : (s : ℕ) (x : Entry) → is_signal x.kind ≡ true → is_free (with_kind t.flip (own_held t m) (own_assigned t m) s x) ≡ true
       → (t.flip ≡ AfterRegister) × (is_held (own_held t m) s ≡ false)
   stays s x signal h = by (is_signal x.kind) signal h
     where
       registered : Bool
-      registered = is_registered x.words (is_clocked_target (sections_assign (own_names t m) m.sections) s)
+      registered = is_registered x.words (is_clocked_target (own_assigned t m) s)
 
       by : (b : Bool) → b ≡ true
-          → (((if b then words_with_kind t.flip (own_held t m) s x.words registered else x.words).registered && is_assigned (sections_assign (own_names t m) m.sections) s)
+          → (((if b then words_with_kind t.flip (own_held t m) s x.words registered else x.words).registered && is_assigned (own_assigned t m) s)
           && (not (if b then words_with_kind t.flip (own_held t m) s x.words registered else x.words).buffer && not (if b then words_with_kind t.flip (own_held t m) s x.words registered else x.words).invert)) ≡ true
           → (t.flip ≡ AfterRegister) × (is_held (own_held t m) s ≡ false)
       by true here free =
-          let is = must_be_free (registered && is_assigned (sections_assign (own_names t m) m.sections) s) (is_buffer t.flip x.words) (stays_free t.flip (own_held t m) s x.words registered) free in
+          let is = must_be_free (registered && is_assigned (own_assigned t m) s) (is_buffer t.flip x.words) (stays_free t.flip (own_held t m) s x.words registered) free in
           let kept = and_parts (is_open t.flip x.words) (not (is_held (own_held t m) s)) (and_parts registered (is_open t.flip x.words && not (is_held (own_held t m) s)) is).1 in
           let default = (and_parts (not x.words.invert) (is_buffer_by_default t.flip) (and_parts (not x.words.buffer) (not x.words.invert && is_buffer_by_default t.flip) kept.0).1).1 in
           (by_default t.flip default, not_true (is_held (own_held t m) s) kept.1)
@@ -221,10 +181,9 @@ module _ (t : Table) (m : ModuleTree) (bare : AreBare (design_of t m).context (s
   pub free_may_choose : FreeMayChoose d
   free_may_choose s free =
       let stored = (and_parts (is_stored (name_at d.context s)) (not (name_at d.context s).words.buffer && not (name_at d.context s).words.invert) free).0 in
-      let signal = signal_there t m s (and_parts (name_at d.context s).words.registered (name_at d.context s).assigned stored).1 in
-      let there = kinds_there t.flip (own_held t m) (sections_assign (own_names t m) m.sections) 0 s (declared_names m) free in
-      let is = subst (λ n. is_free (with_kind t.flip (own_held t m) (sections_assign (own_names t m) m.sections) n there.0) ≡ true) (no_more s) there.1.1 in
-      let stay = stays s there.0 (ap is_signal there.1.0 ∙ signal) is in
+      let assigned = (and_parts (name_at d.context s).words.registered (name_at d.context s).assigned stored).1 in
+      let there = declared_there t m s assigned in
+      let stay = stays s there.0 (sym (ap (λ (e : Entry). is_signal e.kind) there.1.1) ∙ signal_there t m s assigned) (sym (ap is_free there.1.1) ∙ free) in
       let clear = (either_false (own_held t m).all (list_any (λ h. h == s) (own_held t m).signals) stay.1).0 in
       record {
         named = named s stay.1;
@@ -232,6 +191,3 @@ module _ (t : Table) (m : ModuleTree) (bare : AreBare (design_of t m).context (s
         no_reset = none_given extension.Ar (shared_control extension.Ar refl reset_extension) clear;
         no_preset = none_given extension.Sp (shared_control extension.Sp refl preset_extension) clear;
       }
-    where
-      no_more : (n : ℕ) → 0 + n ≡ n
-      no_more n = omega arith

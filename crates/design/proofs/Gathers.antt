@@ -1,5 +1,5 @@
 -- The netlist of a module, once its signals are checked.
-use Rattle.std.proofs.Common.{◌≡◌, ℕ, ◌<◌, ◌≤◌, List, [], ◌∷◌, map, length, get_or, refl, sym, ap, subst, ◌∙◌}
+use Rattle.std.proofs.Common.{◌≡◌, ℕ, ◌<◌, List, [], ◌∷◌, map, length, get_or, refl, sym, ap, subst, ◌∙◌}
 use Rattle.std.specs.Prelude.{All}
 use Rattle.std.proofs.lemmas.Bool.{true≢false}
 use Rattle.std.proofs.lemmas.List.Elements.{All-cons, All-nil}
@@ -7,9 +7,11 @@ use Rattle.pld_device.specs.Laws.{IsDevice}
 use Rattle.pld_device.specs.Table.{Table}
 use Rattle.bit_expr.specs.declared.netlist.Netlist.{Netlist}
 use Rattle.bit_expr.specs.Arena.{arena}
+use Rattle.bit_expr.specs.Formulas.{Formula}
 use Rattle.abel_tree.specs.declared.names.Names.{Names}
 use Rattle.abel_tree.specs.declared.sections.Module.{Module}
 use Rattle.abel_tree.specs.Entries.{entries_of, is_signal}
+use Rattle.abel_tree.specs.Tree.{ModuleTree}
 use Rattle.abel_tree.specs.View.{view_module}
 use Rattle.abel_meaning.specs.Designs.{Context, Design, design_of}
 use Rattle.abel_meaning.specs.Kinds.{names_of}
@@ -24,7 +26,6 @@ use Rattle.set_expr.specs.declared.contributions.Contributions.{Contributions}
 use Rattle.set_expr.specs.Answer.{IsContextOf}
 use Rattle.set_expr.specs.Given.{given, view_contribution}
 use Rattle.gathering.specs.declared.link.Link.{Link}
-use Rattle.gathering.specs.Links.{AreLeaves}
 use Rattle.netlist_laws.specs.Gathered.{cells_from, gathered_from, netlist_of}
 use Rattle.netlist_laws.proofs.NodeNumbers.{names_numbered}
 use Rattle.netlist_laws.proofs.SoundLeaves.{inside}
@@ -40,11 +41,17 @@ use Rattle.design_checks.specs.declared.fault.DesignFault.TheVariants as fault
 use Rattle.design_checks.specs.Verdict.{IsDesignFor, HasSoundSignals, IsSignalRefused}
 use Rattle.design.specs.Answers.{HasNoRefusal, IsDesignRefused}
 use Rattle.design.specs.DesignCorrect.{UnrefusedIsSound}
-use Rattle.design.specs.Resets.{AllLeadNowhere}
+use Rattle.design.specs.Resets.{AllLeadNowhere, AreSignals}
 use Rattle.design.specs.Told.{IsLinkedDesign, IsChainTold}
 use Rattle.design.proofs.CellResets.{none_leads, first_leads}
-use Rattle.design.proofs.LinkSizes.{as_many, are_leaves, are_few}
+use Rattle.design.proofs.LinkSizes.{are_signals}
 use Rattle.design.proofs.Unrefused.{had, unrefused}
+
+pub record IsAnswer (t : Table) (m : ModuleTree) (fs : List Formula) (cs : List Contribution) (net : Netlist) : Type 0 where
+  pub unrefused : HasNoRefusal (design_of t m) fs cs
+  pub netlist : plain_netlist net ≡ netlist_of t m
+  pub sound : IsSoundNetlist t net
+  pub same : MeansTheSame t m (plain_netlist net)
 
 module _ (t : Table) (laws : IsDevice t) (source : Module) (n : Names) (found : Contributions) (names : entries_of n ≡ names_of t (view_module source))
     (accepted : IsAccepted (design_of t (view_module source))) (gives : given found ≡ given_formulas (design_of t (view_module source))) where
@@ -97,16 +104,10 @@ module _ (t : Table) (laws : IsDevice t) (source : Module) (n : Names) (found : 
     pub is_linked : IsLinkedDesign (entries_of n) ns ls d
     is_linked = record { names = sym names; cells = accepted.names.cells; links = links_here }
 
-    pub links_few : length ls ≤ 256
-    links_few = are_few d laws accepted.names.nodes (names_numbered t (view_module source)) accepted.names.pins ns ls links_here
+    pub signals_are : AreSignals ns ls
+    signals_are = are_signals d laws accepted.names.nodes (names_numbered t (view_module source)) accepted.names.pins ns ls links_here
 
-    pub links_leaves : AreLeaves ls
-    links_leaves = are_leaves d laws accepted.names.nodes (names_numbered t (view_module source)) accepted.names.pins ns ls links_here
-
-    pub links_count : length ns ≡ length ls
-    links_count = as_many d laws accepted.names.nodes (names_numbered t (view_module source)) accepted.names.pins ns ls links_here
-
-    pub netlist_is : plain_netlist net ≡ netlist_of t (view_module source)
+    netlist_is : plain_netlist net ≡ netlist_of t (view_module source)
     netlist_is = plain d.context is_design.design ∙ ap (gathered_from d.context) gives
 
     asked : map (plain_wanted (arena net.exprs)) net.cells ≡ cells_from d.context (given_formulas d) 0 d.context.names
@@ -116,9 +117,6 @@ module _ (t : Table) (laws : IsDevice t) (source : Module) (n : Names) (found : 
       no_paths : AllLeadNowhere (arena net.exprs) ns ls net.cells → (s : ℕ) → HasNoSignalPath d s
       no_paths = none_leads d (arena net.exprs) ns ls found.list net.cells accepted.names.cells links_here asked placed
           (reset_had d accepted.names.known accepted.headers (arena found.exprs) found.list gives (had d (arena found.exprs) found.list sound))
-
-      pub nothing_refused : HasNoSignalLoop d → AllLeadNowhere (arena net.exprs) ns ls net.cells → HasNoRefusal d (arena found.exprs) found.list
-      nothing_refused no_loop nowhere = record { signals = sound; no_loop = no_loop; no_path = no_paths nowhere }
 
       pub by_chains : (f : DesignFault) → IsChainTold d (arena net.exprs) ns ls net.cells f → IsDesignRefused d (arena found.exprs) found.list f
       by_chains (fault.Loop p chain) is = (sound, is)
@@ -135,17 +133,22 @@ module _ (t : Table) (laws : IsDevice t) (source : Module) (n : Names) (found : 
       by_chains (fault.DontCareControl p s) is = absurd is
       by_chains (fault.NoReadPath p s) is = absurd is
 
-    module _ (law : UnrefusedIsSound) (none : HasNoRefusal d (arena found.exprs) found.list) where
-      pub means : MeansTheSame t (view_module source) (plain_netlist net)
-      means =
-          subst (MeansTheSame t (view_module source)) (sym netlist_is)
-          (law t (view_module source) (arena found.exprs) found.list laws accepted gives (unrefused d (arena found.exprs) found.list none)).1
-
-      pub sound_netlist : AreIdsIn net → ((p : ℕ) → p < 25 → get_or net.pair_of_pin p no_pair ≡ pair_of_pin t p) → ((c : ℕ) → c < 25 → get_or net.pair_of_cell c no_pair ≡ pair_of_cell t c) → IsSoundNetlist t net
-      sound_netlist ids pins registers = record {
-        nodes = ids.nodes;
-        cells = ids.cells;
-        pins = pins;
-        registers = registers;
-        sound = subst (IsSound t) (sym netlist_is) (law t (view_module source) (arena found.exprs) found.list laws accepted gives (unrefused d (arena found.exprs) found.list none)).0;
-      }
+      -- all that is said of the netlist, where there are no chains
+      pub answered : HasNoSignalLoop d → AllLeadNowhere (arena net.exprs) ns ls net.cells → UnrefusedIsSound → AreIdsIn net
+          → ((p : ℕ) → p < 25 → get_or net.pair_of_pin p no_pair ≡ pair_of_pin t p) → ((c : ℕ) → c < 25 → get_or net.pair_of_cell c no_pair ≡ pair_of_cell t c)
+          → IsAnswer t (view_module source) (arena found.exprs) found.list net
+      answered no_loop nowhere law ids pins registers =
+          let none : HasNoRefusal d (arena found.exprs) found.list = record { signals = sound; no_loop = no_loop; no_path = no_paths nowhere } in
+          let holds = law t (view_module source) (arena found.exprs) found.list laws accepted gives (unrefused d (arena found.exprs) found.list none) in
+          record {
+            unrefused = none;
+            netlist = netlist_is;
+            sound = record {
+              nodes = ids.nodes;
+              cells = ids.cells;
+              pins = pins;
+              registers = registers;
+              sound = subst (IsSound t) (sym netlist_is) holds.0;
+            };
+            same = subst (MeansTheSame t (view_module source)) (sym netlist_is) holds.1;
+          }

@@ -1,7 +1,7 @@
 -- Each contribution to a design is to a signal, and each control is one that its signal has.
 use Rattle.std.proofs.Common.{◌≡◌, ℕ, ◌==◌, Bool, true, false, ◌||◌, cond, Option, None, Some, List, [], ◌∷◌, map, refl, sym, ap, subst, ◌∙◌}
 use Rattle.std.specs.Prelude.{filter}
-use Rattle.std.specs.List.{list_any}
+use Rattle.std.specs.List.{AllByRecursion, list_any}
 use Rattle.std.proofs.lemmas.Bool.{and_parts, eqb-true}
 use Rattle.bit_expr.specs.Formulas.{Formula}
 use Rattle.abel_tree.specs.declared.words.Extension.{Extension}
@@ -12,8 +12,10 @@ use Rattle.abel_meaning.specs.Controls.{is_control, is_the_control, control_by, 
 use Rattle.abel_meaning.specs.Designs.{Design, name_at}
 use Rattle.abel_meaning.specs.Follows.{seen}
 use Rattle.abel_meaning.specs.FormulaBits.{formulas}
+use Rattle.abel_meaning.specs.Functions.{is_data_to}
+use Rattle.abel_meaning.specs.Held.{Part, ATarget, AValue, sections_parts}
 use Rattle.abel_meaning.specs.SignalReads.{given_formulas}
-use Rattle.abel_meaning.specs.Targets.{targets_of}
+use Rattle.abel_meaning.specs.Targets.{targets_of, some_signals}
 use Rattle.abel_meaning.specs.Terms.{known_of, term_of}
 use Rattle.set_expr.specs.declared.contributions.Contribution as code
 use Rattle.set_expr.specs.Given.{view_contribution}
@@ -24,22 +26,44 @@ use Rattle.netlist_laws.proofs.SourcedFormulas.{Sourced, sourced_contributions, 
 use Rattle.design_checks.specs.LocatedUses.{PlacedUse}
 use Rattle.design_checks.specs.SectionUses.{design_uses}
 use Rattle.design.specs.Accepted.{HaveBareHeaders}
-use Rattle.design.proofs.GivenReads.{EachUse, EachGood, sections_good}
+use Rattle.design.proofs.AssignedData.{has_data}
+use Rattle.design.proofs.Each.{each_always, each_weaker, some_of}
+use Rattle.design.proofs.GivenBlocks.{IsGood, EachGood}
+use Rattle.design.proofs.GivenSections.{MayGive, sections_part}
+use Rattle.design.proofs.NamedTerms.{signals_in}
 use Rattle.section_targets.proofs.KnownTargets.{EachTarget, IsSignalOf, signal_targets}
-use Rattle.design.proofs.Unlisted.{EachOf, HasControl, controls_there, some_of}
+use Rattle.design.proofs.Unlisted.{HasControl, controls_there}
 
-module _ (Q : ℕ → Type 0) where
-  abbrev pub EachSignal : {W : Type 0} → List (Contribution W) → Type 0
-  EachSignal [] = Unit {0}
-  EachSignal (c ∷ cs) = Q c.signal × EachSignal cs
+-- ---- formulas and uses are contributed alike
 
-  same_signals : {U V W : Type 0} (h : U → V) (k : U → W) (cs : List (Contribution U)) → EachSignal (map (seen h) cs) → EachSignal (map (seen k) cs)
-  same_signals h k [] e = tt
-  same_signals h k (c ∷ cs) e = (e.0, same_signals h k cs e.1)
+-- what is said of extensions and signals
+abbrev pub EachOwn : {W : Type 0} → (Option Extension → ℕ → Type 0) → List (Contribution W) → Type 0
+EachOwn {W} K cs = AllByRecursion (λ (c : Contribution W). K c.extension c.signal) cs
 
-  with_signals : (P : Contribution Formula → Type 0) (cs : List (Contribution Formula)) → EachOf P cs → EachSignal cs → EachOf (λ c. P c × Q c.signal) cs
-  with_signals P [] h e = tt
-  with_signals P (c ∷ cs) h e = ((h.0, e.0), with_signals P cs h.1 e.1)
+abbrev pub EachSignal : {W : Type 0} → (ℕ → Type 0) → List (Contribution W) → Type 0
+EachSignal Q cs = EachOwn (λ e s. Q s) cs
+
+own_seen : {U V W : Type 0} (K : Option Extension → ℕ → Type 0) (h : U → V) (k : U → W) (cs : List (Contribution U)) → EachOwn K (map (seen h) cs) → EachOwn K (map (seen k) cs)
+own_seen K h k [] all = tt
+own_seen K h k (c ∷ cs) all = (all.0, own_seen K h k cs all.1)
+
+data_seen : {U V W : Type 0} (s : ℕ) (h : U → V) (k : U → W) (cs : List (Contribution U)) → has_data s (map (seen h) cs) ≡ has_data s (map (seen k) cs)
+data_seen s h k [] = refl
+data_seen s h k (c ∷ cs) = ap (λ b. is_data_to s c || b) (data_seen s h k cs)
+
+module _ (d : Design) where
+  pub own_formulas : (P : SignalUse → Type 0) (K : Option Extension → ℕ → Type 0) (plain : (e : Option Extension) (s : ℕ) → K e s → K None s) → EachGood d.context P K plain (given_uses d) → EachOwn K (given_formulas d)
+  own_formulas P K plain good =
+      subst (EachOwn K) (formulas_are d)
+      (own_seen K (λ (x : Sourced d.context). x.uses) (λ (x : Sourced d.context). x.formula) (sourced_contributions d)
+      (subst (EachOwn K) (sym (uses_are d)) (each_weaker (IsGood d.context P K plain) (λ c. K c.extension c.signal) (λ c is. is.own) (given_uses d) good)))
+
+  pub data_formulas : (s : ℕ) → has_data s (given_formulas d) ≡ has_data s (given_uses d)
+  data_formulas s =
+      sym (ap (has_data s) (formulas_are d))
+      ∙ data_seen s (λ (x : Sourced d.context). x.formula) (λ (x : Sourced d.context). x.uses) (sourced_contributions d) ∙ ap (has_data s) (uses_are d)
+
+-- ---- controls
 
 -- a control that is there is given by some contribution
 control_given : (ev : Evaluator Formula) (test : Contribution Formula → Bool) (cs : List (Contribution Formula)) (f : Formula) → control_by ev (filter test cs) ≡ Some f → list_any test cs ≡ true
@@ -72,54 +96,49 @@ preset_extension (Some extension.Q) is = absurd cc
 preset_extension (Some extension.Fb) is = absurd cc
 preset_extension (Some extension.Pin) is = absurd cc
 
+each_some : (Q : ℕ → Type 0) (ss : List (Option ℕ)) → EachTarget Q ss → AllByRecursion Q (some_signals ss)
+each_some Q [] all = tt
+each_some Q (None ∷ ss) all = each_some Q ss all
+each_some Q (Some s ∷ ss) all = (all.0, each_some Q ss all.1)
+
 module _ (d : Design) (known : d.context.known ≡ known_of d.context.names) (headers : HaveBareHeaders d.context d.sections) where
   abbrev AnyUse : SignalUse → Type 0
   AnyUse u = Unit {0}
 
-  targets : (t : Tree) → EachTarget (IsSignalOf d.context) (targets_of (term_of d.context.known t))
-  targets = signal_targets d.context known
+  abbrev ToSignal : Option Extension → ℕ → Type 0
+  ToSignal e s = IsSignalOf d.context s
 
-  any_uses : (us : List PlacedUse) → EachUse d.context AnyUse (IsSignalOf d.context) targets us
-  any_uses [] = tt
-  any_uses (u ∷ us) = (tt, any_uses us)
+  targets : (t : Tree) → AllByRecursion (IsSignalOf d.context) (signals_in (term_of d.context.known t))
+  targets t = each_some (IsSignalOf d.context) (targets_of (term_of d.context.known t)) (signal_targets d.context known t)
 
-  good_signals : (es : List (Contribution (List SignalUse))) → EachGood d.context AnyUse (IsSignalOf d.context) targets es → EachSignal (IsSignalOf d.context) es
-  good_signals [] h = tt
-  good_signals (c ∷ es) h = (h.0.signal, good_signals es h.1)
-
-  given_good : EachGood d.context AnyUse (IsSignalOf d.context) targets (given_uses d)
-  given_good = sections_good d.context AnyUse (IsSignalOf d.context) targets d.starts_dontcare 0 d.sections headers (any_uses (design_uses d))
+  may_give : (p : Part) → MayGive d.context AnyUse ToSignal (λ e s is. is) 0 [] targets p
+  may_give (ATarget t) = targets t
+  may_give (AValue t) = tt
 
   -- each contribution is to a signal
   pub given_signals : EachSignal (IsSignalOf d.context) (given_formulas d)
   given_signals =
-      subst (EachSignal (IsSignalOf d.context)) (formulas_are d)
-      (same_signals (IsSignalOf d.context) (λ (x : Sourced d.context). x.uses) (λ (x : Sourced d.context). x.formula) (sourced_contributions d)
-      (subst (EachSignal (IsSignalOf d.context)) (sym (uses_are d)) (good_signals (given_uses d) given_good)))
+      own_formulas d AnyUse ToSignal (λ e s is. is)
+      ((sections_part d.context AnyUse ToSignal (λ e s is. is) 0 [] targets d.starts_dontcare 0 [] d.sections).good headers
+      (each_always (λ (u : PlacedUse). AnyUse u.read) (λ u. tt) (design_uses d))
+      (each_always (MayGive d.context AnyUse ToSignal (λ e s is. is) 0 [] targets) may_give (sections_parts d.sections)))
 
   module _ (fs : List Formula) (cs : List code.Contribution) (same : map (view_contribution fs) cs ≡ given_formulas d) (controls : lacking_controls d.context.device d.context.names cs ≡ []) where
-    controls_here : EachOf (λ c. HasControl d.context fs c × IsSignalOf d.context c.signal) (given_formulas d)
-    controls_here =
-        with_signals (IsSignalOf d.context) (HasControl d.context fs) (given_formulas d) (subst (EachOf (HasControl d.context fs)) same (controls_there d.context fs cs controls)) given_signals
-
-    control_had : (e : Extension) (s : ℕ) (f : Formula) → control_of (formulas d.context) (given_formulas d) s e ≡ Some f
-        → (c : Contribution Formula) × (HasControl d.context fs c × IsSignalOf d.context c.signal) × (is_control s e c ≡ true)
-    control_had e s f is =
-        some_of (λ c. HasControl d.context fs c × IsSignalOf d.context c.signal) (is_control s e) (given_formulas d) controls_here
-        (control_given (formulas d.context) (is_control s e) (given_formulas d) f is)
-
     -- a control with an equation is one that its signal has
     abbrev pub HasOwn : Extension → ℕ → Type 0
     HasOwn e s = (lacks_control d.context.device (name_at d.context s) (Some e) ≡ false) × IsSignalOf d.context s
 
     had_by : (e : Extension) (s : ℕ) (f : Formula) → ((o : Option Extension) → is_the_control e o ≡ true → o ≡ Some e) → control_of (formulas d.context) (given_formulas d) s e ≡ Some f → HasOwn e s
     had_by e s f extension_is is =
-        let c = control_had e s f is in
+        let some = control_given (formulas d.context) (is_control s e) (given_formulas d) f is in
+        let there = subst (AllByRecursion (HasControl d.context fs)) same (controls_there d.context fs cs controls) in
+        let c = some_of (HasControl d.context fs) (is_control s e) (given_formulas d) there some in
+        let k = some_of (λ (x : Contribution Formula). IsSignalOf d.context x.signal) (is_control s e) (given_formulas d) given_signals some in
         let parts = and_parts (c.0.signal == s) (is_the_control e c.0.extension) c.2 in
-        let same_signal : c.0.signal ≡ s = eqb-true c.0.signal s parts.0 in (
+        let to_same : c.0.signal ≡ s = eqb-true c.0.signal s parts.0 in (
           sym (ap (λ o. lacks_control d.context.device (name_at d.context s) o) (extension_is c.0.extension parts.1))
-              ∙ sym (ap (λ n. lacks_control d.context.device (name_at d.context n) c.0.extension) same_signal) ∙ c.1.0,
-          subst (IsSignalOf d.context) same_signal c.1.1,
+              ∙ sym (ap (λ n. lacks_control d.context.device (name_at d.context n) c.0.extension) to_same) ∙ c.1,
+          subst (IsSignalOf d.context) (eqb-true k.0.signal s (and_parts (k.0.signal == s) (is_the_control e k.0.extension) k.2).0) k.1,
         )
 
     pub reset_had : (s : ℕ) (f : Formula) → control_of (formulas d.context) (given_formulas d) s extension.Ar ≡ Some f → HasOwn extension.Ar s

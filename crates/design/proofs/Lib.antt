@@ -1,17 +1,17 @@
 pub mod AimedOutputs
 pub mod AssignedData
 pub mod AssignedNames
-pub mod BareRegisters
+pub mod BareTargets
 mod CellPaths
 mod CellResets
-pub mod ClearSections
 pub mod DesignNames
+pub mod Each
 mod Firsts
 pub mod FreeRegisters
 mod Gathers
-mod GivenReads
+pub mod GivenBlocks
+pub mod GivenSections
 pub mod GivenSignals
-pub mod GivenTargets
 pub mod HeldTargets
 mod LinkSizes
 mod LoopPlaces

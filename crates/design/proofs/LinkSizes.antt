@@ -29,6 +29,7 @@ use Rattle.gathering.proofs.LinkSets.{leaf_there}
 use Rattle.gathering.specs.Linked.{is_linked, IsLinkOf, AreLinks}
 use Rattle.gathering.proofs.Graphed.{no_link}
 use Rattle.gathering.proofs.LinkFacts.{Facts, facts}
+use Rattle.design.specs.Resets.{AreSignals}
 
 -- ---- numbers of nodes
 
@@ -142,9 +143,6 @@ module _ (d : Design) (laws : IsDevice d.context.device) (nodes : NodesAreFew d.
       abbrev up : ℕ → ℕ
       up v = get_or ns v 0
 
-      pub as_many : length ns ≡ length ls
-      as_many = known.count
-
       linked_up : (v : ℕ) → v < length ls → is_linked d.context.device (name_at d.context (up v)) ≡ true
       linked_up v low =
           let at = known.here v no_link low in
@@ -160,7 +158,7 @@ module _ (d : Design) (laws : IsDevice d.context.device) (nodes : NodesAreFew d.
           let of : IsLinkOf d.context (given_formulas d) (up v) (name_at d.context (up v)) (get_or ls v no_link) = subst (λ n. IsLinkOf d.context (given_formulas d) (up v) (name_at d.context n) (get_or ls v no_link)) same at.3 in
           leaf_small (up v) (name_at d.context (up v)).kind l refl (linked_up v low) (sym of.leaf ∙ sym (leaf_there ls v no_link low) ∙ is)
 
-      pub are_leaves : AreLeaves ls
+      are_leaves : AreLeaves ls
       are_leaves v l is =
           elim (cases_lt v (length ls)) [
             | inl low ↦ leaf_by_link v l low is
@@ -176,10 +174,10 @@ module _ (d : Design) (laws : IsDevice d.context.device) (nodes : NodesAreFew d.
       numbers = map (λ s. number_of (name_at d.context s).kind) ns
 
       number_at : (v z : ℕ) → v < length ls → get_or numbers v z ≡ number_of (name_at d.context (up v)).kind
-      number_at v z low = get_or-map (λ s. number_of (name_at d.context s).kind) ns v 0 z (omega (arith, as_many, low))
+      number_at v z low = get_or-map (λ s. number_of (name_at d.context s).kind) ns v 0 z (omega (arith, known.count, low))
 
       long : length numbers ≡ length ls
-      long = length-map ns (λ s. number_of (name_at d.context s).kind) ∙ as_many
+      long = length-map ns (λ s. number_of (name_at d.context s).kind) ∙ known.count
 
       once : IsDistinct eqb numbers
       once =
@@ -198,5 +196,5 @@ module _ (d : Design) (laws : IsDevice d.context.device) (nodes : NodesAreFew d.
           let small = number_small (up at.0) (name_at d.context (up at.0)).kind refl (linked_up at.0 low) in
           omega (arith, small, number_at at.0 0 low, at.2)
 
-      pub are_few : length ls ≤ 256
-      are_few = omega (arith, few numbers 256 once inside, long)
+      pub are_signals : AreSignals ns ls
+      are_signals = record { few = omega (arith, few numbers 256 once inside, long); leaves = are_leaves; count = known.count }

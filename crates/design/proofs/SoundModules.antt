@@ -1,31 +1,36 @@
 -- A module is accepted whose declarations and sections are.
-use Rattle.std.proofs.Common.{◌≡◌, ℕ, ◌+◌, ◌==◌, Bool, true, false, ◌||◌, cond, Some, List, [], ◌∷◌, ◌++◌, length, refl, sym, subst}
+use Rattle.std.proofs.Common.{◌≡◌, ℕ, ◌+◌, ◌==◌, Bool, true, false, ◌||◌, cond, Option, None, Some, List, [], ◌∷◌, ◌++◌, length, refl, sym, subst, ◌∙◌}
 use Rattle.std.specs.Prelude.{IsSome}
-use Rattle.std.specs.List.{list_any, position_from}
+use Rattle.std.specs.List.{AllByRecursion, list_any, position_from}
 use Rattle.std.proofs.lemmas.Iterator.Adapters.{position_from-zero}
 use Rattle.pld_device.specs.declared.cell.Cell.{Cell}
 use Rattle.pld_device.specs.Table.{Table}
 use Rattle.bit_expr.specs.Arena.{arena}
-use Rattle.abel_tree.specs.Tree.{SectionTree, Declarations, Equations, ATable, ADiagram, SomeVectors, DontCareSection, ModuleTree}
+use Rattle.abel_tree.specs.declared.words.Extension.{Extension}
+use Rattle.abel_tree.specs.Tree.{Tree, SectionTree, Declarations, Equations, ATable, ADiagram, SomeVectors, DontCareSection, ModuleTree}
 use Rattle.pld_device.specs.Pins.{cell_on}
-use Rattle.abel_tree.specs.Assigned.{sections_assign}
 use Rattle.abel_meaning.specs.Designs.{Context, Design, design_of}
 use Rattle.abel_meaning.specs.Held.{sections_parts}
+use Rattle.abel_meaning.specs.Terms.{term_of}
+use Rattle.netlist_laws.specs.SignalUses.{SignalUse, given_uses}
+use Rattle.design_checks.specs.SectionUses.{design_uses}
 use Rattle.set_expr.specs.FoundNames.{constants_refused}
 use Rattle.section_targets.specs.declared.manner.Manner.{Manner}
 use Rattle.section_targets.specs.Manners.{is_cell_pin, is_output_kind}
 use Rattle.section_targets.specs.Units.{units_refused, all_refused, limit_refused}
-use Rattle.section_targets.proofs.Built.{left_empty, right_empty}
+use Rattle.section_targets.proofs.Built.{right_empty}
 use Rattle.source_sections.specs.SectionAnswers.{source_units}
 use Rattle.source_sections.specs.SectionUnits.{section_manners, units_of_section, units_of_sections}
 use Rattle.design.specs.Accepted.{AssignedAreOnCells, AssignedHaveData, HasBareHeader, HaveBareHeaders, IsAccepted}
 use Rattle.design.specs.AssignedCorrect.{AreGiven, HasSoundSections, HasSoundDeclarations}
-use Rattle.design.proofs.AssignedNames.{own_names, names_within, by_sections, signal_there}
-use Rattle.design.proofs.BareRegisters.{registers_bare}
-use Rattle.design.proofs.ClearSections.{IsClear, sections_clear}
+use Rattle.design.proofs.AssignedNames.{own_names, own_assigned, names_within, by_sections, signal_there}
+use Rattle.design.proofs.BareTargets.{member_bare}
+use Rattle.design.proofs.Each.{each_always}
 use Rattle.design.proofs.FreeRegisters.{free_may_choose}
-use Rattle.design.proofs.GivenTargets.{sections_given}
-use Rattle.design.proofs.UnrefusedParts.{first_units, last_units}
+use Rattle.design.proofs.GivenSections.{IsPart, sections_part}
+use Rattle.design.proofs.GivenSignals.{data_formulas}
+use Rattle.design.proofs.NamedTerms.{signals_in}
+use Rattle.design.proofs.UnrefusedParts.{first_units, last_units, diagram_clear}
 
 -- ---- cells
 
@@ -46,7 +51,7 @@ header_bare : (d : Context) (before : List Manner) (x : SectionTree) → units_r
 header_bare d before (Declarations ds) h = tt
 header_bare d before (Equations xs) h = tt
 header_bare d before (ATable place inputs k outputs rows) h = tt
-header_bare d before (ADiagram place registers states) h = registers_bare d before place registers states h
+header_bare d before (ADiagram place registers states) h = member_bare d registers (diagram_clear d before place registers states h).0.0
 header_bare d before (SomeVectors _ place inputs outputs rows) h = tt
 header_bare d before (DontCareSection directive) h = tt
 
@@ -62,23 +67,30 @@ headers_bare d before (x ∷ ss) h =
 units_clear : (d : Design) → HasSoundSections d → units_refused (source_units d) ≡ []
 units_clear d h =
     let base = length (arena []) in
-    left_empty (units_refused (source_units d)) (limit_refused base (source_units d)) (right_empty (constants_refused d.context.names) (all_refused base (source_units d)) h)
+    right_empty (limit_refused base (source_units d)) (units_refused (source_units d)) (right_empty (constants_refused d.context.names) (all_refused base (source_units d)) h)
 
 module _ (t : Table) (m : ModuleTree) where
   abbrev d : Design
   d = design_of t m
 
-  data_there : AssignedHaveData d
-  data_there s h = (sections_given d.context (λ e j. false) (λ j. refl) s (own_names t m) (names_within t m s) d.starts_dontcare 0 m.sections).1 (by_sections t m s h)
+  abbrev AnyUse : SignalUse → Type 0
+  AnyUse u = Unit {0}
 
-  clear_for : (s : ℕ) → HasSoundSections d → IsClear d.context s (own_names t m) (names_within t m s) (sections_parts m.sections) (sections_assign (own_names t m) m.sections)
-  clear_for s r = sections_clear d.context s (own_names t m) (names_within t m s) [] m.sections (units_clear d r)
+  abbrev AnyOwn : Option Extension → ℕ → Type 0
+  AnyOwn e j = Unit {0}
+
+  named : (x : Tree) → AllByRecursion (AnyOwn None) (signals_in (term_of d.context.known x))
+  named x = each_always (AnyOwn None) (λ j. tt) (signals_in (term_of d.context.known x))
+
+  part : (s : ℕ) → IsPart d.context AnyUse AnyOwn (λ e j k. tt) s (own_names t m) named (HaveBareHeaders d.context m.sections) (source_units d) (design_uses d) (sections_parts m.sections) (own_assigned t m) (given_uses d)
+  part s = sections_part d.context AnyUse AnyOwn (λ e j k. tt) s (own_names t m) named d.starts_dontcare 0 [] m.sections
+
+  data_there : AssignedHaveData d
+  data_there s h = data_formulas d s ∙ (part s).given (names_within t m s) (by_sections t m s h)
 
   on_cells : HasSoundSections d → AssignedAreOnCells d.context
   on_cells r s pin negated kind h =
-      cell_there t pin
-      (subst (λ k. is_output_kind t k ≡ true) kind
-      ((clear_for s r).1 (by_sections t m s h)))
+      cell_there t pin (subst (λ k. is_output_kind t k ≡ true) kind ((part s).output (names_within t m s) (units_clear d r) (by_sections t m s h)))
 
 pub all_given : (t : Table) (m : ModuleTree) → AreGiven (design_of t m)
 all_given t m = record { signals = signal_there t m; data_given = data_there t m }
@@ -88,9 +100,11 @@ all_on_cells t m = on_cells t m
 
 pub all_accepted : (t : Table) (m : ModuleTree) → HasSoundDeclarations (design_of t m).context → HasSoundSections (design_of t m) → IsAccepted (design_of t m)
 all_accepted t m n r =
+    let clear = units_clear (design_of t m) r in
+    let headers = headers_bare (design_of t m).context [] m.sections clear in
     record {
       names = record { known = refl; pins = n.pins; nodes = n.nodes; signals = signal_there t m; buffers = n.buffers; cells = on_cells t m r };
-      free = free_may_choose t m (clear_for t m 0 r).0;
+      free = free_may_choose t m ((part t m 0).are_bare clear) headers;
       data_given = data_there t m;
-      headers = headers_bare (design_of t m).context [] m.sections (units_clear (design_of t m) r);
+      headers = headers;
     }

@@ -1,6 +1,7 @@
 -- A device can take the netlist of a design of which nothing is refused.
 use Rattle.std.proofs.Common.{◌≡◌, ◌≢◌, ℕ, ◌==◌, Bool, true, false, not, ◌&&◌, ◌||◌, Option, None, Some, List, [], ◌∷◌, map, refl, sym, ap, subst, ◌∙◌, if◌then◌else◌, inl, inr}
 use Rattle.std.specs.Prelude.{slice_get, IsSome, is_none}
+use Rattle.std.specs.List.{AllByRecursion}
 use Rattle.std.proofs.lemmas.Bool.{cases_Bool, and_parts, eqb-true, true≢false}
 use Rattle.std.proofs.lemmas.List.Elements.{All-get_or}
 use Rattle.std.proofs.lemmas.List.Folds.{list_any_at}
@@ -13,6 +14,7 @@ use Rattle.pld_device.specs.declared.kinds.Kinds.{Kinds}
 use Rattle.pld_device.specs.declared.kinds.Kinds.TheVariants.{Combinational, Registered, Either}
 use Rattle.pld_device.specs.Laws.{IsCell, IsDevice}
 use Rattle.pld_device.specs.Table.{Table, cell_at, no_cell}
+use Rattle.abel_tree.specs.declared.words.Extension.{Extension}
 use Rattle.abel_tree.specs.declared.words.Extension.TheVariants as extension
 use Rattle.abel_tree.specs.Entries.{Kind, APin, ANode, AConstant, ADeviceName, Entry, is_signal, is_stored}
 use Rattle.abel_tree.specs.Tree.{Tree}
@@ -22,7 +24,7 @@ use Rattle.abel_meaning.specs.Designs.{Design, name_at, no_name}
 use Rattle.abel_meaning.specs.Functions.{is_data_to}
 use Rattle.abel_meaning.specs.SignalReads.{given_formulas}
 use Rattle.abel_meaning.specs.Soundness.{MayRegister}
-use Rattle.abel_meaning.specs.Targets.{targets_of}
+use Rattle.abel_meaning.specs.Held.{Part, ATarget, AValue, sections_parts}
 use Rattle.abel_meaning.specs.Terms.{term_of}
 use Rattle.set_expr.specs.declared.contributions.Contribution as code
 use Rattle.set_expr.specs.Given.{view_contribution}
@@ -37,10 +39,12 @@ use Rattle.design_checks.specs.Correct.{UsesHaveColumns}
 use Rattle.design.specs.Accepted.{IsAccepted}
 use Rattle.design.specs.AcceptedCorrect.{UnrefusedIsTakeable}
 use Rattle.design.specs.Unrefused.{IsUnrefused}
-use Rattle.design.proofs.GivenReads.{Each, EachUse, EachGood, sections_good, good_at}
 use Rattle.design.proofs.GivenSignals.{reset_had, preset_had}
-use Rattle.section_targets.proofs.KnownTargets.{EachTarget, IsSignalOf, signal_targets}
-use Rattle.design.proofs.Unlisted.{EachOf, FitsKind, kinds_fit, some_of, no_registered, AllUses, none_passes}
+use Rattle.design.proofs.Each.{each_always, each_at, filtered_none, some_of}
+use Rattle.design.proofs.GivenBlocks.{IsGood, EachGood}
+use Rattle.design.proofs.GivenSections.{MayGive, sections_part}
+use Rattle.design.proofs.NamedTerms.{signals_in}
+use Rattle.design.proofs.Unlisted.{FitsKind, kinds_fit, no_registered}
 
 -- ---- kinds
 
@@ -99,8 +103,8 @@ module _ (uses_have_columns : UsesHaveColumns) (d : Design) (fs : List Formula) 
 
   -- ---- cells
 
-  kinds_here : EachOf (FitsKind d.context fs) (given_formulas d)
-  kinds_here = subst (EachOf (FitsKind d.context fs)) same (kinds_fit d.context fs cs unrefused.kinds)
+  kinds_here : AllByRecursion (FitsKind d.context fs) (given_formulas d)
+  kinds_here = subst (AllByRecursion (FitsKind d.context fs)) same (kinds_fit d.context fs cs unrefused.kinds)
 
   right_kind : (s : ℕ) → (name_at d.context s).assigned ≡ true → has_wrong_kind d.context.device (name_at d.context s) ≡ false
   right_kind s assigned =
@@ -152,25 +156,28 @@ module _ (uses_have_columns : UsesHaveColumns) (d : Design) (fs : List Formula) 
   abbrev Carried : SignalUse → Type 0
   Carried u = (l : Leaf) → use_reads d.context l u ≡ true → HasColumns d.context l
 
-  targets : (t : Tree) → EachTarget (IsSignalOf d.context) (targets_of (term_of d.context.known t))
-  targets = signal_targets d.context accepted.names.known
+  abbrev AnyOwn : Option Extension → ℕ → Type 0
+  AnyOwn e s = Unit {0}
 
-  carried : (us : List PlacedUse) → AllUses (λ u. is_missing d.context u ≡ false) us → AllUses (λ u. is_unread d.context u ≡ false) us → EachUse d.context Carried (IsSignalOf d.context) targets us
+  all_named : (t : Tree) → AllByRecursion (AnyOwn None) (signals_in (term_of d.context.known t))
+  all_named t = each_always (AnyOwn None) (λ s. tt) (signals_in (term_of d.context.known t))
+
+  may_give : (p : Part) → MayGive d.context Carried AnyOwn (λ e s own. tt) 0 [] all_named p
+  may_give (ATarget t) = all_named t
+  may_give (AValue t) = tt
+
+  carried : (us : List PlacedUse) → AllByRecursion (λ u. is_missing d.context u ≡ false) us → AllByRecursion (λ u. is_unread d.context u ≡ false) us → AllByRecursion (λ (u : PlacedUse). Carried u.read) us
   carried [] missing unread = tt
   carried (u ∷ us) missing unread = (λ l is. uses_have_columns d.context u l accepted.names.pins missing.0 unread.0 is, carried us missing.1 unread.1)
 
-  given_good : EachGood d.context Carried (IsSignalOf d.context) targets (given_uses d)
+  given_good : EachGood d.context Carried AnyOwn (λ e s own. tt) (given_uses d)
   given_good =
-      sections_good d.context Carried (IsSignalOf d.context) targets d.starts_dontcare 0 d.sections accepted.headers
-      (carried (design_uses d) (none_passes (is_missing d.context) (design_uses d) unrefused.missing) (none_passes (is_unread d.context) (design_uses d) unrefused.unread))
+      (sections_part d.context Carried AnyOwn (λ e s own. tt) 0 [] all_named d.starts_dontcare 0 [] d.sections).good accepted.headers
+      (carried (design_uses d) (filtered_none (is_missing d.context) (design_uses d) unrefused.missing) (filtered_none (is_unread d.context) (design_uses d) unrefused.unread))
+      (each_always (MayGive d.context Carried AnyOwn (λ e s own. tt) 0 [] all_named) may_give (sections_parts d.sections))
 
-  some_carried : (us : List SignalUse) (l : Leaf) → Each d.context Carried (IsSignalOf d.context) targets us → uses_read d.context us l ≡ true → HasColumns d.context l
-  some_carried [] l h is = absurd cc
-  some_carried (u ∷ us) l h is = by (use_reads d.context l u) refl (λ g. some_carried us l h.1 g) is
-    where
-      by : (b : Bool) → use_reads d.context l u ≡ b → (uses_read d.context us l ≡ true → HasColumns d.context l) → (b || uses_read d.context us l) ≡ true → HasColumns d.context l
-      by true e more is = h.0 l e
-      by false e more is = more is
+  some_carried : (us : List SignalUse) (l : Leaf) → AllByRecursion Carried us → uses_read d.context us l ≡ true → HasColumns d.context l
+  some_carried us l all is = let u = some_of Carried (use_reads d.context l) us all is in u.1 l u.2
 
   -- ---- controls
 
@@ -194,7 +201,7 @@ module _ (uses_have_columns : UsesHaveColumns) (d : Design) (fs : List Formula) 
         free = accepted.free;
         resets = resets;
         presets = presets;
-        reads = λ k c is kept l read. some_carried c.holds l ((good_at d.context Carried (IsSignalOf d.context) targets (given_uses d) k c given_good is).reads kept) read;
+        reads = λ k c is kept l read. some_carried c.holds l ((each_at (IsGood d.context Carried AnyOwn (λ e s own. tt)) (given_uses d) k c given_good is).reads kept) read;
         no_loop = unrefused.no_loop;
         no_path = unrefused.no_path;
       }

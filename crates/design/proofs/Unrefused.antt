@@ -9,7 +9,7 @@ use Rattle.design_checks.specs.UsesRefused.{told}
 use Rattle.netlist_laws.specs.GatheredCorrect.{GatheredIsSound, GatheredMeansTheSame}
 use Rattle.design.specs.AcceptedCorrect.{UnrefusedIsTakeable}
 use Rattle.design.specs.Unrefused.{IsUnrefused}
-use Rattle.design.proofs.Unlisted.{front_empty, back_empty}
+use Rattle.section_targets.proofs.Built.{left_empty, right_empty}
 use Rattle.design_checks.specs.Refused.{lacking_controls, other_levels, target_controls}
 use Rattle.design_checks.specs.Verdict.{HasSoundSignals}
 use Rattle.design.specs.Answers.{HasNoRefusal}
@@ -21,18 +21,18 @@ mapped_empty f (x ∷ xs) e = absurd cc
 
 module _ (d : Design) (fs : List Formula) (cs : List Contribution) where
   controls_empty : HasSoundSignals d fs cs → target_controls d.context.device fs d.context.names cs ≡ []
-  controls_empty sound = front_empty (target_controls d.context.device fs d.context.names cs) (unwritten d ++ map told (missing_uses d)) sound.uses.controls.controls
+  controls_empty sound = left_empty (target_controls d.context.device fs d.context.names cs) (unwritten d ++ map told (missing_uses d)) sound.uses.controls.controls
 
   -- no target names what its signal doesn't have
   pub had : HasSoundSignals d fs cs → lacking_controls d.context.device d.context.names cs ≡ []
-  had sound = front_empty (lacking_controls d.context.device d.context.names cs) (other_levels d.context.device fs d.context.names cs) (controls_empty sound)
+  had sound = left_empty (lacking_controls d.context.device d.context.names cs) (other_levels d.context.device fs d.context.names cs) (controls_empty sound)
 
   pub unrefused : HasNoRefusal d fs cs → IsUnrefused d cs
   unrefused none = record {
     kinds = none.signals.kinds.kinds;
     nodes = none.signals.kinds.nodes;
     controls = had none.signals;
-    missing = mapped_empty told (missing_uses d) (back_empty (unwritten d) (map told (missing_uses d)) (back_empty (target_controls d.context.device fs d.context.names cs) (unwritten d ++ map told (missing_uses d)) none.signals.uses.controls.controls));
+    missing = mapped_empty told (missing_uses d) (right_empty (unwritten d) (map told (missing_uses d)) (right_empty (target_controls d.context.device fs d.context.names cs) (unwritten d ++ map told (missing_uses d)) none.signals.uses.controls.controls));
     unread = mapped_empty told (unread_uses d) none.signals.uses.paths;
     no_loop = none.no_loop;
     no_path = none.no_path;

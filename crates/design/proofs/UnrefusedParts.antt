@@ -1,11 +1,9 @@
 -- Where nothing is refused of several units, of an assignment or of a diagram, nothing is refused of their parts.
-use Rattle.std.proofs.Common.{◌≡◌, ℕ, ◌==◌, Bool, false, true, None, Option, List, [], ◌∷◌, ◌++◌, length, inl, inr, refl, sym, subst, ◌∙◌}
-use Rattle.std.proofs.lemmas.Bool.{or_cases}
-use Rattle.std.proofs.lemmas.List.Folds.{list_any-append}
+use Rattle.std.proofs.Common.{◌≡◌, Bool, false, true, None, Option, List, [], ◌∷◌, ◌++◌, length, refl, sym, subst, ◌∙◌}
 use Rattle.pld_base.specs.declared.place.Place.{Place}
 use Rattle.abel_tree.specs.declared.words.Extension.{Extension}
 use Rattle.abel_tree.specs.declared.words.Sign.{Sign}
-use Rattle.abel_tree.specs.Assigned.{Assigned, is_clocked, is_assigned}
+use Rattle.abel_tree.specs.Assigned.{is_clocked}
 use Rattle.abel_tree.specs.Tree.{Tree, StateTree}
 use Rattle.abel_meaning.specs.Designs.{Context}
 use Rattle.set_expr.specs.declared.fault.SectionFault.{SectionFault}
@@ -19,24 +17,23 @@ use Rattle.equations.specs.StatementUnits.{unless_any, assigned_aims, taken_refu
 use Rattle.state_diagrams.specs.DiagramUnits.{registers_refused, register_manners, signals_of, units_of_states, units_behind, units_of_diagram}
 use Rattle.state_diagrams.specs.StateValues.{if_none}
 
--- what is refused of an assignment, part by part
-pub unrefused_assign : (d : Context) (before : List Manner) (e : Option Extension) (c : Bool) (sign : Sign) (q : Place) (x : TargetFound) (f : Found) → assign_refused d before e c sign q x f ≡ []
-    → (x.refusals ≡ []) × (aims_refused d before e c (is_clocked sign) x.aims ≡ [])
-unrefused_assign d before e c sign q x f h =
-    let taken = taken_refused x.refusals q (length x.aims) f in
-    let later = aims_refused d before e c (is_clocked sign) (assigned_aims x) in
-    let own = left_empty x.refusals (taken ++ later) h in
-    (own, subst (λ rs. aims_refused d before e c (is_clocked sign) (unless_any rs x.aims) ≡ []) own (right_empty taken later (right_empty x.refusals (taken ++ later) h)))
-
 pub first_units : (us vs : List CountedUnit) → units_refused (us ++ vs) ≡ [] → units_refused us ≡ []
 first_units us vs h = left_empty (units_refused us) (units_refused vs) (sym (refused_append us vs) ∙ h)
 
 pub last_units : (us vs : List CountedUnit) → units_refused (us ++ vs) ≡ [] → units_refused vs ≡ []
 last_units us vs h = right_empty (units_refused us) (units_refused vs) (sym (refused_append us vs) ∙ h)
 
--- what is assigned one after another
-pub one_of_two : (P : Type 0) (s : ℕ) (xs ys : List Assigned) → is_assigned (xs ++ ys) s ≡ true → (is_assigned xs s ≡ true → P) → (is_assigned ys s ≡ true → P) → P
-one_of_two P s xs ys h f g = elim (or_cases (is_assigned xs s) (is_assigned ys s) (sym (list_any-append (λ (a : Assigned). a.signal == s) xs ys) ∙ h)) [ inl e ↦ f e | inr e ↦ g e ]
+-- a target with how its signals are assigned
+abbrev pub IsTargetClear : Context → List Manner → Option Extension → (complement clocked : Bool) → TargetFound → Type 0
+IsTargetClear d before e c k x = (x.refusals ≡ []) × (aims_refused d before e c k x.aims ≡ [])
+
+pub assign_clear : (d : Context) (before : List Manner) (e : Option Extension) (c : Bool) (sign : Sign) (q : Place) (x : TargetFound) (f : Found) → assign_refused d before e c sign q x f ++ [] ≡ [] → IsTargetClear d before e c (is_clocked sign) x
+assign_clear d before e c sign q x f h =
+    let taken = taken_refused x.refusals q (length x.aims) f in
+    let later = aims_refused d before e c (is_clocked sign) (assigned_aims x) in
+    let all = left_empty (assign_refused d before e c sign q x f) [] h in
+    let own = left_empty x.refusals (taken ++ later) all in
+    (own, subst (λ rs. aims_refused d before e c (is_clocked sign) (unless_any rs x.aims) ≡ []) own (right_empty taken later (right_empty x.refusals (taken ++ later) all)))
 
 both_clear : (rs more : List SectionFault) → if_none rs more ≡ [] → (rs ≡ []) × (more ≡ [])
 both_clear [] more h = (refl, h)
@@ -46,12 +43,11 @@ header_clear : (rs : List SectionFault) (p : Place) (us : List CountedUnit) → 
 header_clear [] p us h = (refl, h)
 header_clear (r ∷ rs) p us h = absurd cc
 
--- the registers as targets, how they are assigned, and the states behind them
+-- the registers as targets, and the states behind them
 pub diagram_clear : (d : Context) (before : List Manner) (p : Place) (registers : Tree) (xs : List StateTree) → units_refused (units_of_diagram d before p registers xs) ≡ []
-    → ((target_member d registers).refusals ≡ []) × (aims_refused d before None false true (target_member d registers).aims ≡ [])
+    → IsTargetClear d before None false true (target_member d registers)
     × (units_refused (units_of_states d (signals_of (target_member d registers).aims) (before ++ register_manners (target_member d registers)) [] xs) ≡ [])
 diagram_clear d before p registers xs h =
     let x = target_member d registers in
     let parts = header_clear (registers_refused d before x) p (units_of_states d (signals_of x.aims) (before ++ register_manners x) [] xs) h in
-    let own = both_clear x.refusals (aims_refused d before None false true x.aims) parts.0 in
-    (own.0, own.1, parts.1)
+    (both_clear x.refusals (aims_refused d before None false true x.aims) parts.0, parts.1)

@@ -1,5 +1,5 @@
 -- What the names and the sections of a design are accepted for (this project's rule).
-use Rattle.std.specs.Prelude.{◌≡◌, ◌≢◌, ℕ, Bool, true, false, ◌&&◌, None, Some, IsSome, List, [], ◌∷◌}
+use Rattle.std.specs.Prelude.{◌≡◌, ◌≢◌, ℕ, Bool, true, IsSome, List, [], ◌∷◌}
 use Rattle.std.specs.List.{list_any}
 use Rattle.pld_device.specs.declared.flip.Flip.TheVariants.{AfterRegister}
 use Rattle.abel_tree.specs.Entries.{APin, is_signal, is_stored, follows_q}
@@ -9,8 +9,9 @@ use Rattle.abel_meaning.specs.Choices.{is_free}
 use Rattle.abel_meaning.specs.Designs.{Context, Design, name_at}
 use Rattle.abel_meaning.specs.Functions.{is_data_to}
 use Rattle.abel_meaning.specs.SignalReads.{given_formulas}
-use Rattle.abel_meaning.specs.Terms.{Term, Terms, Read, Set, NoTerm, Before, known_of, term_of}
+use Rattle.abel_meaning.specs.Terms.{known_of, term_of}
 use Rattle.netlist_laws.specs.Takeable.{PinsApart, NodesAreFew, MayChoose}
+use Rattle.section_targets.specs.TargetSignals.{names_signals}
 
 -- ---- names
 
@@ -49,21 +50,9 @@ pub record HasSoundNames (d : Context) : Type 0 where
 abbrev pub AssignedHaveData : Design → Type 0
 AssignedHaveData d = (s : ℕ) → (name_at d.context s).assigned ≡ true → list_any (is_data_to s) (given_formulas d) ≡ true
 
--- the signals of a target are bare names
-abbrev mutual
-  pub is_bare : Term → Bool
-  is_bare (Read s None) = true
-  is_bare (Read s (Some e)) = false
-  is_bare (Set ts) = are_bare ts
-  is_bare _ = true
-
-  pub are_bare : Terms → Bool
-  are_bare NoTerm = true
-  are_bare (Before t ts) = is_bare t && are_bare ts
-
--- the registers of diagrams are bare names
+-- the registers of diagrams are names of signals, without extension
 abbrev pub HasBareHeader : Context → SectionTree → Type 0
-HasBareHeader d (ADiagram place registers states) = is_bare (term_of d.known registers) ≡ true
+HasBareHeader d (ADiagram place registers states) = names_signals (term_of d.known registers) ≡ true
 HasBareHeader d _ = Unit {0}
 
 abbrev pub HaveBareHeaders : Context → List SectionTree → Type 0

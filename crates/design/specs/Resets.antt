@@ -1,5 +1,5 @@
 -- Private: paths from the resets of a netlist's cells to registers (this project's rule).
-use Rattle.std.specs.Prelude.{◌≡◌, ℕ, ◌<◌, true, Option, None, Some, List, All, length, get_or}
+use Rattle.std.specs.Prelude.{◌≡◌, ℕ, ◌<◌, ◌≤◌, true, Option, None, Some, List, All, length, get_or}
 use Rattle.pld_base.specs.declared.place.Place.{Place}
 use Rattle.bit_expr.specs.declared.netlist.CellWanted.{CellWanted}
 use Rattle.bit_expr.specs.declared.netlist.Control.{Control}
@@ -13,6 +13,7 @@ use Rattle.abel_meaning.specs.Netlists.{plain_control}
 use Rattle.abel_meaning.specs.SignalReads.{given_formulas, IsSignalPath, HasNoSignalPath}
 use Rattle.gathering.specs.declared.link.Link.{Link}
 use Rattle.gathering.specs.Linked.{AreLinks}
+use Rattle.gathering.specs.Links.{AreLeaves}
 use Rattle.gathering.specs.Resets.{AssignedHaveCells}
 use Rattle.design_checks.specs.declared.fault.DesignFault.{DesignFault}
 use Rattle.design_checks.specs.declared.fault.DesignFault.TheVariants as fault
@@ -26,6 +27,12 @@ AnyPlace p = Unit {0}
 -- before this place
 abbrev pub Before : Place → Place → Type 0
 Before p q = is_sooner q p ≡ true
+
+-- signals with their links, as chains are looked for among them
+pub record AreSignals (ns : List ℕ) (ls : List Link) : Type 0 where
+  pub few : length ls ≤ 256
+  pub leaves : AreLeaves ls
+  pub count : length ns ≡ length ls
 
 module _ (fs : List Formula) (ns : List ℕ) (ls : List Link) where
   -- a design of these links, in which the signal of the cell has this reset

@@ -1,10 +1,10 @@
 //! Loops of a design's signals, as refusals.
 
-ghost use Rattle.std.specs.Prelude.{◌≡◌, ◌<◌, ◌≤◌, IfOk, IfErr, length, get_or};
+ghost use Rattle.std.specs.Prelude.{◌≡◌, ◌<◌, IfOk, IfErr, length, get_or};
 ghost use Rattle.abel_tree.specs.Entries.{entries_of};
 ghost use Rattle.abel_meaning.specs.Designs.{Design, no_name};
 ghost use Rattle.abel_meaning.specs.SignalReads.{HasNoSignalLoop};
-ghost use Rattle.gathering.specs.Links.{AreLeaves};
+ghost use Rattle.design.specs.Resets.{AreSignals};
 ghost use Rattle.design.specs.Told.{IsLinkedDesign, IsLoopTold};
 
 use abel_tree::Names;
@@ -29,9 +29,7 @@ pub(crate) fn check_loop(
     signals: &[u32],
     links: &[Link],
 ) -> Result<(), DesignFault>
-    requires few { length links.now ≤ 256 }
-    requires leaves { AreLeaves links.now }
-    requires count { length signals.now ≡ length links.now }
+    requires signals { AreSignals signals.now links.now }
     requires linked { (d : Design) × IsLinkedDesign (entries_of names.now) signals.now links.now d }
     ensures ok { IfOk result (λ _. (d : Design)
         → IsLinkedDesign (entries_of names.now) signals.now links.now d → HasNoSignalLoop d) }

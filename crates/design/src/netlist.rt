@@ -1,6 +1,6 @@
 //! The netlist of a module, or the first refusal of its design.
 
-ghost use Rattle.std.specs.Prelude.{◌≡◌, ◌≤◌, All, IfOk, IfErr, length};
+ghost use Rattle.std.specs.Prelude.{◌≡◌, All, IfOk, IfErr, length};
 ghost use Rattle.bit_expr.specs.Arena.{arena};
 ghost use Rattle.abel_tree.specs.Entries.{entries_of};
 ghost use Rattle.abel_tree.specs.View.{view_module};
@@ -12,12 +12,11 @@ ghost use Rattle.abel_meaning.specs.SoundIds.{IsCellIn, IsSoundNetlist};
 ghost use Rattle.netlist_laws.specs.FittedCorrect.{MeansTheSame};
 ghost use Rattle.set_expr.specs.Given.{given};
 ghost use Rattle.netlist_laws.specs.Gathered.{netlist_of};
-ghost use Rattle.gathering.specs.Links.{AreLeaves};
 ghost use Rattle.gathering.specs.Parts.{AllLieIn};
 ghost use Rattle.gathering.specs.Placed.{IsPlaced};
 ghost use Rattle.design.specs.Accepted.{IsAccepted};
 ghost use Rattle.design.specs.Answers.{HasNoRefusal, IsDesignRefused};
-ghost use Rattle.design.specs.Resets.{AllLeadNowhere};
+ghost use Rattle.design.specs.Resets.{AllLeadNowhere, AreSignals};
 ghost use Rattle.design.specs.Told.{IsLinkedDesign, IsChainTold};
 
 use crate::chains::check_loop;
@@ -41,9 +40,7 @@ fn check_chains(
     signals: &[u32],
     links: &[Link],
 ) -> Result<(), DesignFault>
-    requires few { length links.now ≤ 256 }
-    requires leaves { AreLeaves links.now }
-    requires count { length signals.now ≡ length links.now }
+    requires signals { AreSignals signals.now links.now }
     requires linked { (d : Design) × IsLinkedDesign (entries_of names.now) signals.now links.now d }
     requires inside { All (IsCellIn (length (arena net.now.exprs))) net.now.cells }
     ensures no_loop { IfOk result (λ _. (d : Design)

@@ -1,10 +1,9 @@
 //! Paths from a design's resets to its registers, as refusals.
 
-ghost use Rattle.std.specs.Prelude.{◌≡◌, ◌≤◌, All, IfOk, IfErr, length};
+ghost use Rattle.std.specs.Prelude.{All, IfOk, IfErr, length};
 ghost use Rattle.bit_expr.specs.Arena.{arena};
 ghost use Rattle.abel_meaning.specs.SoundIds.{IsCellIn};
-ghost use Rattle.gathering.specs.Links.{AreLeaves};
-ghost use Rattle.design.specs.Resets.{AllLeadNowhere, IsFirstFound, IsFoundOf, IsPathTold};
+ghost use Rattle.design.specs.Resets.{AllLeadNowhere, AreSignals, IsFirstFound, IsFoundOf, IsPathTold};
 
 use abel_tree::{Ranked, earlier};
 use bit_expr::{CellWanted, Exprs};
@@ -42,9 +41,7 @@ fn path_of(
     links: &[Link],
     wanted: &CellWanted,
 ) -> Result<Option<ResetPath>, OutOfMemory>
-    requires few { length links.now ≤ 256 }
-    requires leaves { AreLeaves links.now }
-    requires count { length signals.now ≡ length links.now }
+    requires signals { AreSignals signals.now links.now }
     requires inside { IsCellIn (length (arena exprs.now)) wanted.now }
     ensures { IfOk result (λ r. IsFoundOf (arena exprs.now) signals.now links.now wanted.now r) }
 {
@@ -68,9 +65,7 @@ fn first_path(
     links: &[Link],
     cells: &[CellWanted],
 ) -> Result<Option<ResetPath>, OutOfMemory>
-    requires few { length links.now ≤ 256 }
-    requires leaves { AreLeaves links.now }
-    requires count { length signals.now ≡ length links.now }
+    requires signals { AreSignals signals.now links.now }
     requires inside { All (IsCellIn (length (arena exprs.now))) cells.now }
     ensures { IfOk result (λ r.
         IsFirstFound (arena exprs.now) signals.now links.now cells.now r) }
@@ -91,9 +86,7 @@ pub(crate) fn check_resets(
     links: &[Link],
     cells: &[CellWanted],
 ) -> Result<(), DesignFault>
-    requires few { length links.now ≤ 256 }
-    requires leaves { AreLeaves links.now }
-    requires count { length signals.now ≡ length links.now }
+    requires signals { AreSignals signals.now links.now }
     requires inside { All (IsCellIn (length (arena exprs.now))) cells.now }
     ensures ok { IfOk result (λ _.
         AllLeadNowhere (arena exprs.now) signals.now links.now cells.now) }

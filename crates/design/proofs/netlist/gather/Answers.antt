@@ -2,26 +2,15 @@ use Rattle.std.proofs.Common.{ap, ◌∙◌}
 use Rattle.abel_tree.specs.Entries.{entries_of}
 use Rattle.abel_tree.specs.View.{view_module}
 use Rattle.abel_meaning.specs.Designs.{design_of}
-use Rattle.design.proofs.Gathers.{is_design, to_names, by_signals, is_linked, links_few, links_leaves, links_count, netlist_is, nothing_refused, by_chains, means, sound_netlist}
+use Rattle.design.proofs.Gathers.{is_design, to_names, by_signals, is_linked, signals_are, answered, by_chains}
 use Rattle.design.proofs.netlist.gather.Goals as goal
 
 pub check_signals-requires-clause-names : goal.check_signals-requires-clause-names
-check_signals-requires-clause-names g c =
-    to_names g.D.Device.table g.met.D.Device.sound c.args.source.now c.args.scope.now c.args.found c.requires.names c.requires.accepted c.requires.gives
+check_signals-requires-clause-names g c = to_names g.D.Device.table g.met.D.Device.sound c.args.source.now c.args.scope.now c.args.found c.requires.names c.requires.accepted c.requires.gives
 
-pub check_chains-requires-clause-few : goal.check_chains-requires-clause-few
-check_chains-requires-clause-few g c =
-    links_few g.D.Device.table g.met.D.Device.sound c.args.source.now c.names-names.result.now c.args.found (ap entries_of (c.names-names.ensures ∙ c.scope.ensures) ∙ c.requires.names) c.requires.accepted c.requires.gives
-    c.in_ok-net-in-Ok.field-0 c.as_slice.result.now c.as_slice-in-Ok.result.now c.in_ok-net-in-Ok.ensures.netlist c.in_ok-net-in-Ok.ensures.links (cc) (cc)
-
-pub check_chains-requires-clause-leaves : goal.check_chains-requires-clause-leaves
-check_chains-requires-clause-leaves g c =
-    links_leaves g.D.Device.table g.met.D.Device.sound c.args.source.now c.names-names.result.now c.args.found (ap entries_of (c.names-names.ensures ∙ c.scope.ensures) ∙ c.requires.names) c.requires.accepted c.requires.gives
-    c.in_ok-net-in-Ok.field-0 c.as_slice.result.now c.as_slice-in-Ok.result.now c.in_ok-net-in-Ok.ensures.netlist c.in_ok-net-in-Ok.ensures.links (cc) (cc)
-
-pub check_chains-requires-clause-count : goal.check_chains-requires-clause-count
-check_chains-requires-clause-count g c =
-    links_count g.D.Device.table g.met.D.Device.sound c.args.source.now c.names-names.result.now c.args.found (ap entries_of (c.names-names.ensures ∙ c.scope.ensures) ∙ c.requires.names) c.requires.accepted c.requires.gives
+pub check_chains-requires-clause-signals : goal.check_chains-requires-clause-signals
+check_chains-requires-clause-signals g c =
+    signals_are g.D.Device.table g.met.D.Device.sound c.args.source.now c.names-names.result.now c.args.found (ap entries_of (c.names-names.ensures ∙ c.scope.ensures) ∙ c.requires.names) c.requires.accepted c.requires.gives
     c.in_ok-net-in-Ok.field-0 c.as_slice.result.now c.as_slice-in-Ok.result.now c.in_ok-net-in-Ok.ensures.netlist c.in_ok-net-in-Ok.ensures.links (cc) (cc)
 
 pub check_chains-requires-clause-linked : goal.check_chains-requires-clause-linked
@@ -33,29 +22,30 @@ check_chains-requires-clause-linked g c = (
 
 pub returns-in-Err-clause-refused : goal.returns-in-Err-clause-refused
 returns-in-Err-clause-refused g c =
-    by_signals g.D.Device.table g.met.D.Device.sound c.args.source.now c.args.scope.now c.args.found c.requires.names c.requires.accepted c.requires.gives c.in-Err.fault (c.in-Err.ensures.err (design_of g.D.Device.table (view_module c.args.source.now)) (is_design g.D.Device.table g.met.D.Device.sound c.args.source.now c.args.scope.now c.args.found c.requires.names c.requires.accepted c.requires.gives))
+    let d = design_of g.D.Device.table (view_module c.args.source.now) in
+    by_signals g.D.Device.table g.met.D.Device.sound c.args.source.now c.args.scope.now c.args.found c.requires.names c.requires.accepted c.requires.gives c.in-Err.fault
+    (c.in-Err.ensures.err d (is_design g.D.Device.table g.met.D.Device.sound c.args.source.now c.args.scope.now c.args.found c.requires.names c.requires.accepted c.requires.gives))
 
 pub returns-in-Err-check_chains-clause-refused : goal.returns-in-Err-check_chains-clause-refused
 returns-in-Err-check_chains-clause-refused g c =
+    let d = design_of g.D.Device.table (view_module c.args.source.now) in
     by_chains g.D.Device.table g.met.D.Device.sound c.args.source.now c.names-names.result.now c.args.found (ap entries_of (c.names-names.ensures ∙ c.scope.ensures) ∙ c.requires.names) c.requires.accepted c.requires.gives
-    c.in_ok-net-in-Ok.field-0 c.as_slice.result.now c.as_slice-in-Ok.result.now c.in_ok-net-in-Ok.ensures.netlist c.in_ok-net-in-Ok.ensures.links (cc) (cc) (c.in-Ok.ensures.ok (design_of g.D.Device.table (view_module c.args.source.now)) (is_design g.D.Device.table g.met.D.Device.sound c.args.source.now c.args.scope.now c.args.found c.requires.names c.requires.accepted c.requires.gives)) c.in_ok-net-in-Ok.ensures.places c.in-Err-check_chains.fault (c.in-Err-check_chains.ensures.err (design_of g.D.Device.table (view_module c.args.source.now)) (is_linked g.D.Device.table g.met.D.Device.sound c.args.source.now c.names-names.result.now c.args.found (ap entries_of (c.names-names.ensures ∙ c.scope.ensures) ∙ c.requires.names) c.requires.accepted c.requires.gives c.in_ok-net-in-Ok.field-0 c.as_slice.result.now c.as_slice-in-Ok.result.now c.in_ok-net-in-Ok.ensures.netlist c.in_ok-net-in-Ok.ensures.links (cc) (cc)))
-
-pub returns-in-Ok-check_chains-clause-unrefused : goal.returns-in-Ok-check_chains-clause-unrefused
-returns-in-Ok-check_chains-clause-unrefused g c =
-    nothing_refused g.D.Device.table g.met.D.Device.sound c.args.source.now c.names-names.result.now c.args.found (ap entries_of (c.names-names.ensures ∙ c.scope.ensures) ∙ c.requires.names) c.requires.accepted c.requires.gives c.in_ok-net-in-Ok.field-0 c.as_slice.result.now c.as_slice-in-Ok.result.now c.in_ok-net-in-Ok.ensures.netlist c.in_ok-net-in-Ok.ensures.links (cc) (cc) (c.in-Ok.ensures.ok (design_of g.D.Device.table (view_module c.args.source.now)) (is_design g.D.Device.table g.met.D.Device.sound c.args.source.now c.args.scope.now c.args.found c.requires.names c.requires.accepted c.requires.gives)) c.in_ok-net-in-Ok.ensures.places (c.in-Ok-check_chains.ensures.no_loop (design_of g.D.Device.table (view_module c.args.source.now)) (is_linked g.D.Device.table g.met.D.Device.sound c.args.source.now c.names-names.result.now c.args.found (ap entries_of (c.names-names.ensures ∙ c.scope.ensures) ∙ c.requires.names) c.requires.accepted c.requires.gives c.in_ok-net-in-Ok.field-0 c.as_slice.result.now c.as_slice-in-Ok.result.now c.in_ok-net-in-Ok.ensures.netlist c.in_ok-net-in-Ok.ensures.links (cc) (cc))) c.in-Ok-check_chains.ensures.no_path
-
-pub returns-in-Ok-check_chains-clause-netlist : goal.returns-in-Ok-check_chains-clause-netlist
-returns-in-Ok-check_chains-clause-netlist g c =
-    netlist_is g.D.Device.table g.met.D.Device.sound c.args.source.now c.names-names.result.now c.args.found (ap entries_of (c.names-names.ensures ∙ c.scope.ensures) ∙ c.requires.names) c.requires.accepted c.requires.gives
     c.in_ok-net-in-Ok.field-0 c.as_slice.result.now c.as_slice-in-Ok.result.now c.in_ok-net-in-Ok.ensures.netlist c.in_ok-net-in-Ok.ensures.links (cc) (cc)
+    (c.in-Ok.ensures.ok d (is_design g.D.Device.table g.met.D.Device.sound c.args.source.now c.args.scope.now c.args.found c.requires.names c.requires.accepted c.requires.gives)) c.in_ok-net-in-Ok.ensures.places c.in-Err-check_chains.fault
+    (c.in-Err-check_chains.ensures.err d
+    (is_linked g.D.Device.table g.met.D.Device.sound c.args.source.now c.names-names.result.now c.args.found (ap entries_of (c.names-names.ensures ∙ c.scope.ensures) ∙ c.requires.names) c.requires.accepted c.requires.gives
+    c.in_ok-net-in-Ok.field-0 c.as_slice.result.now c.as_slice-in-Ok.result.now c.in_ok-net-in-Ok.ensures.netlist c.in_ok-net-in-Ok.ensures.links (cc) (cc)))
 
-pub returns-in-Ok-check_chains-clause-sound : goal.returns-in-Ok-check_chains-clause-sound
-returns-in-Ok-check_chains-clause-sound g c =
-    sound_netlist g.D.Device.table g.met.D.Device.sound c.args.source.now c.names-names.result.now c.args.found (ap entries_of (c.names-names.ensures ∙ c.scope.ensures) ∙ c.requires.names) c.requires.accepted c.requires.gives
-    c.in_ok-net-in-Ok.field-0 c.as_slice.result.now c.as_slice-in-Ok.result.now c.in_ok-net-in-Ok.ensures.netlist c.in_ok-net-in-Ok.ensures.links (cc) (cc) c.unrefused_is_sound.ensures (nothing_refused g.D.Device.table g.met.D.Device.sound c.args.source.now c.names-names.result.now c.args.found (ap entries_of (c.names-names.ensures ∙ c.scope.ensures) ∙ c.requires.names) c.requires.accepted c.requires.gives c.in_ok-net-in-Ok.field-0 c.as_slice.result.now c.as_slice-in-Ok.result.now c.in_ok-net-in-Ok.ensures.netlist c.in_ok-net-in-Ok.ensures.links (cc) (cc) (c.in-Ok.ensures.ok (design_of g.D.Device.table (view_module c.args.source.now)) (is_design g.D.Device.table g.met.D.Device.sound c.args.source.now c.args.scope.now c.args.found c.requires.names c.requires.accepted c.requires.gives)) c.in_ok-net-in-Ok.ensures.places (c.in-Ok-check_chains.ensures.no_loop (design_of g.D.Device.table (view_module c.args.source.now)) (is_linked g.D.Device.table g.met.D.Device.sound c.args.source.now c.names-names.result.now c.args.found (ap entries_of (c.names-names.ensures ∙ c.scope.ensures) ∙ c.requires.names) c.requires.accepted c.requires.gives c.in_ok-net-in-Ok.field-0 c.as_slice.result.now c.as_slice-in-Ok.result.now c.in_ok-net-in-Ok.ensures.netlist c.in_ok-net-in-Ok.ensures.links (cc) (cc))) c.in-Ok-check_chains.ensures.no_path)
-    c.in_ok-net-in-Ok.ensures.ids c.in_ok-net-in-Ok.ensures.pins c.in_ok-net-in-Ok.ensures.registers
-
-pub returns-in-Ok-check_chains-clause-same : goal.returns-in-Ok-check_chains-clause-same
-returns-in-Ok-check_chains-clause-same g c =
-    means g.D.Device.table g.met.D.Device.sound c.args.source.now c.names-names.result.now c.args.found (ap entries_of (c.names-names.ensures ∙ c.scope.ensures) ∙ c.requires.names) c.requires.accepted c.requires.gives
-    c.in_ok-net-in-Ok.field-0 c.as_slice.result.now c.as_slice-in-Ok.result.now c.in_ok-net-in-Ok.ensures.netlist c.in_ok-net-in-Ok.ensures.links (cc) (cc) c.unrefused_is_sound.ensures (nothing_refused g.D.Device.table g.met.D.Device.sound c.args.source.now c.names-names.result.now c.args.found (ap entries_of (c.names-names.ensures ∙ c.scope.ensures) ∙ c.requires.names) c.requires.accepted c.requires.gives c.in_ok-net-in-Ok.field-0 c.as_slice.result.now c.as_slice-in-Ok.result.now c.in_ok-net-in-Ok.ensures.netlist c.in_ok-net-in-Ok.ensures.links (cc) (cc) (c.in-Ok.ensures.ok (design_of g.D.Device.table (view_module c.args.source.now)) (is_design g.D.Device.table g.met.D.Device.sound c.args.source.now c.args.scope.now c.args.found c.requires.names c.requires.accepted c.requires.gives)) c.in_ok-net-in-Ok.ensures.places (c.in-Ok-check_chains.ensures.no_loop (design_of g.D.Device.table (view_module c.args.source.now)) (is_linked g.D.Device.table g.met.D.Device.sound c.args.source.now c.names-names.result.now c.args.found (ap entries_of (c.names-names.ensures ∙ c.scope.ensures) ∙ c.requires.names) c.requires.accepted c.requires.gives c.in_ok-net-in-Ok.field-0 c.as_slice.result.now c.as_slice-in-Ok.result.now c.in_ok-net-in-Ok.ensures.netlist c.in_ok-net-in-Ok.ensures.links (cc) (cc))) c.in-Ok-check_chains.ensures.no_path)
+pub returns-in-Ok-check_chains : goal.returns-in-Ok-check_chains
+returns-in-Ok-check_chains g c =
+    let d = design_of g.D.Device.table (view_module c.args.source.now) in
+    let is =
+    answered g.D.Device.table g.met.D.Device.sound c.args.source.now c.names-names.result.now c.args.found (ap entries_of (c.names-names.ensures ∙ c.scope.ensures) ∙ c.requires.names) c.requires.accepted c.requires.gives
+    c.in_ok-net-in-Ok.field-0 c.as_slice.result.now c.as_slice-in-Ok.result.now c.in_ok-net-in-Ok.ensures.netlist c.in_ok-net-in-Ok.ensures.links (cc) (cc)
+    (c.in-Ok.ensures.ok d (is_design g.D.Device.table g.met.D.Device.sound c.args.source.now c.args.scope.now c.args.found c.requires.names c.requires.accepted c.requires.gives)) c.in_ok-net-in-Ok.ensures.places
+    (c.in-Ok-check_chains.ensures.no_loop d
+    (is_linked g.D.Device.table g.met.D.Device.sound c.args.source.now c.names-names.result.now c.args.found (ap entries_of (c.names-names.ensures ∙ c.scope.ensures) ∙ c.requires.names) c.requires.accepted c.requires.gives
+    c.in_ok-net-in-Ok.field-0 c.as_slice.result.now c.as_slice-in-Ok.result.now c.in_ok-net-in-Ok.ensures.netlist c.in_ok-net-in-Ok.ensures.links (cc) (cc)))
+    c.in-Ok-check_chains.ensures.no_path c.unrefused_is_sound.ensures c.in_ok-net-in-Ok.ensures.ids c.in_ok-net-in-Ok.ensures.pins c.in_ok-net-in-Ok.ensures.registers
+    in
+    record { unrefused = is.unrefused; netlist = is.netlist; sound = is.sound; same = is.same; places = c.in_ok-net-in-Ok.ensures.places; refused = tt }

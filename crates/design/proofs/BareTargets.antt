@@ -1,0 +1,102 @@
+-- A target of which nothing is refused is a signal's bare name, or a set of such.
+use Rattle.std.proofs.Common.{◌≡◌, ℕ, Bool, true, false, ◌&&◌, Option, None, Some, List, [], ◌∷◌, ◌++◌, if◌then◌else◌, length, map, refl, sym, ap, ap₂, ◌∙◌}
+use Rattle.std.proofs.lemmas.Bool.{and_parts}
+use Rattle.std.proofs.lemmas.List.{map-append}
+use Rattle.pld_base.specs.declared.place.Place.{Place}
+use Rattle.abel_tree.specs.Assigned.{without_extension}
+use Rattle.abel_tree.specs.Entries.{find}
+use Rattle.abel_tree.specs.Ranges.{range_names}
+use Rattle.abel_tree.specs.Tree.{Tree, ANumber, ASpecial, AName, ASet, AParen, AUnary, ABinary, OneMember, SpanMember, Members, NoMember, MoreMembers}
+use Rattle.abel_meaning.specs.Designs.{Context}
+use Rattle.abel_meaning.specs.Targets.{targets_of, all_targets, some_signals}
+use Rattle.abel_meaning.specs.Terms.{Term, Terms, Number, X, Pulse, Release, Read, Set, UnaryOf, BinaryOf, NoTerm, Before, term_named, term_of, terms_of, named_before}
+use Rattle.netlist_laws.specs.SignalUses.{SignalUse, term_uses, all_term_uses}
+use Rattle.set_expr.specs.declared.fault.SectionFault.TheVariants.{NotAnOutput}
+use Rattle.set_expr.specs.FoundNames.{found_use, name_found, names_found}
+use Rattle.set_expr.specs.Refusals.{too_wide}
+use Rattle.section_targets.specs.TargetSignals.{names_signals, all_name_signals, no_signals, target_name, target_range, target_member, target_members, left_side, start_of}
+use Rattle.section_targets.proofs.Built.{left_empty, right_empty}
+use Rattle.section_targets.proofs.SignalLists.{some_append}
+use Rattle.design.specs.AssignedCorrect.{bare_signals, all_bare_signals}
+use Rattle.design.proofs.GivenBlocks.{bare}
+
+-- ---- of which nothing is refused
+
+module _ (d : Context) where
+  name_bare : (p q : Place) (w : List ℕ) → (target_name d p q w).refusals ≡ [] → names_signals (term_named d.known w) ≡ true
+  name_bare p q w e =
+      let f = found_use p (name_found (names_found d.names) w) in
+      let t = term_named d.known w in
+      alone (names_signals t) (right_empty f.specials (no_signals q (find d.names w) t) (right_empty f.refusals (f.specials ++ no_signals q (find d.names w) t) e))
+    where
+      alone : (b : Bool) → (if b then [] else NotAnOutput q (find d.names w) ∷ []) ≡ [] → b ≡ true
+      alone true e = refl
+      alone false e = absurd cc
+
+  range_bare : (p : Place) (names : List (List ℕ)) (ts : Terms) → all_name_signals ts ≡ true → (target_range d p names).refusals ≡ [] → all_name_signals (named_before d.known names ts) ≡ true
+  range_bare p [] ts h e = h
+  range_bare p (n ∷ names) ts h e =
+      let a = target_name d p p n in
+      let b = target_range d p names in
+      ap₂ (λ x y. x && y) (name_bare p p n (left_empty a.refusals b.refusals e)) (range_bare p names ts h (right_empty a.refusals b.refusals e))
+
+  mutual
+    pub member_bare : (t : Tree) → (target_member d t).refusals ≡ [] → names_signals (term_of d.known t) ≡ true
+    member_bare (ANumber n) e = absurd cc
+    member_bare (ASpecial letter p) e = absurd cc
+    member_bare (AName word None) e = name_bare word.place word.place word.text e
+    member_bare (AName word (Some x)) e = absurd cc
+    member_bare (ASet p ms None) e = members_bare ms (left_empty (target_members d ms).refusals (too_wide p (length (target_members d ms).aims)) e)
+    member_bare (ASet p ms (Some x)) e = absurd cc
+    member_bare (AParen p t) e = member_bare t e
+    member_bare (AUnary sign p t) e = absurd cc
+    member_bare (ABinary sign p t u) e = absurd cc
+
+    members_bare : (ms : Members) → (target_members d ms).refusals ≡ [] → all_name_signals (terms_of d.known ms) ≡ true
+    members_bare NoMember e = refl
+    members_bare (MoreMembers (OneMember t) ms) e =
+        let a = target_member d t in
+        let b = target_members d ms in
+        ap₂ (λ x y. x && y) (member_bare t (left_empty a.refusals b.refusals e)) (members_bare ms (right_empty a.refusals b.refusals e))
+    members_bare (MoreMembers (SpanMember first last) ms) e =
+        let a = target_range d first.place (range_names first.text last.text) in
+        let b = target_members d ms in
+        range_bare first.place (range_names first.text last.text) (terms_of d.known ms) (members_bare ms (right_empty a.refusals b.refusals e)) (left_empty a.refusals b.refusals e)
+
+  pub left_bare : (p : Place) (t : Tree) → (left_side d p t).refusals ≡ [] → names_signals (term_of d.known (without_extension t)) ≡ true
+  left_bare p (AName word x) e = name_bare word.place (start_of d p word) word.text e
+  left_bare p (ASet q ms x) e = members_bare ms (left_empty (target_members d ms).refusals (too_wide q (length (target_members d ms).aims)) e)
+  left_bare p (ANumber n) e = member_bare (ANumber n) e
+  left_bare p (ASpecial letter q) e = member_bare (ASpecial letter q) e
+  left_bare p (AParen q t) e = member_bare (AParen q t) e
+  left_bare p (AUnary sign q t) e = member_bare (AUnary sign q t) e
+  left_bare p (ABinary sign q t u) e = member_bare (ABinary sign q t u) e
+
+-- ---- what it reads and names
+
+-- its reads are its signals' by their names alone, and all of its signals have no extension
+abbrev pub AreAlike : List (Option ℕ) → (bares : List ℕ) → (uses : List SignalUse) → Type 0
+AreAlike ss bares uses = (some_signals ss ≡ bares) × (uses ≡ map bare (some_signals ss))
+
+mutual
+  pub bare_alike : (t : Term) → names_signals t ≡ true → AreAlike (targets_of t) (bare_signals t) (term_uses t)
+  bare_alike (Number n) h = absurd cc
+  bare_alike X h = absurd cc
+  bare_alike Pulse h = absurd cc
+  bare_alike Release h = absurd cc
+  bare_alike (Read s None) h = (refl, refl)
+  bare_alike (Read s (Some e)) h = absurd cc
+  bare_alike (Set ts) h = all_alike ts h
+  bare_alike (UnaryOf sign t) h = absurd cc
+  bare_alike (BinaryOf sign t u) h = absurd cc
+
+  all_alike : (ts : Terms) → all_name_signals ts ≡ true → AreAlike (all_targets ts) (all_bare_signals ts) (all_term_uses ts)
+  all_alike NoTerm h = (refl, refl)
+  all_alike (Before t ts) h =
+      let parts = and_parts (names_signals t) (all_name_signals ts) h in
+      let one = bare_alike t parts.0 in
+      let more = all_alike ts parts.1 in
+      let joined = some_append (targets_of t) (all_targets ts) in (
+        joined ∙ ap₂ (λ xs ys. xs ++ ys) one.0 more.0,
+        ap₂ (λ xs ys. xs ++ ys) one.1 more.1 ∙ sym (ap (map bare) joined ∙ map-append bare (some_signals (targets_of t)) (some_signals (all_targets ts))),
+      )
