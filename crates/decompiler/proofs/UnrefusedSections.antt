@@ -55,8 +55,8 @@ first_arena = refl
 
 units_pass : (us : List CountedUnit) (most : ℕ) → AreUnrefused us most → 2 + most ≤ MOST → all_refused (length (arena [])) us ≡ []
 units_pass us most are low =
-    ap (λ (rs : List SectionFault). rs ++ limit_refused (length (arena [])) us) (none_refused us are.each)
-    ∙ within_limit us (length (arena [])) are.each (omega (arith, first_arena, low, are.nodes))
+    ap (λ (rs : List SectionFault). limit_refused (length (arena [])) us ++ rs) (none_refused us are.each)
+    ∙ ap (λ (ls : List SectionFault). ls ++ []) (within_limit us (length (arena [])) are.each (omega (arith, first_arena, low, are.nodes)))
 
 -- ---- the units of lines
 
