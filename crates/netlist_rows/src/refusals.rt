@@ -10,7 +10,7 @@ use crate::places::{put_refusal, put_word};
 use crate::sources::row_module;
 use abel_tree::{Module, Names};
 use design_checks::{
-    DesignFault, FirstUses, RefusedUse, Rule, check_signals, first_refused, first_uses,
+    DesignFault, RefusedUse, Rule, UseRule, check_signals, first_refused, first_use,
     registered_node,
 };
 use name_uses::ModuleParts;
@@ -59,13 +59,18 @@ pub(crate) fn put_signals(
     put_faults(alloc, &draw::<Sample>(alloc, module)?, found).ok()
 }
 
-/// The first refused uses of a module with these names.
-fn uses_of(alloc: Global, module: &Module, names: &Names) -> Result<FirstUses, OutOfMemory>
+/// The first use of a module with these names that the rule refuses.
+fn use_of(
+    alloc: Global,
+    rule: UseRule,
+    module: &Module,
+    names: &Names,
+) -> Result<Option<RefusedUse>, OutOfMemory>
     requires { AreNamesFor sample (view_module module.now) names.now }
 {
     let scope = scope_of::<Sample>(alloc, names)?;
     let source = ModuleParts::new(alloc, module)?;
-    first_uses(alloc, &scope, &source)
+    first_use(alloc, rule, &scope, &source)
 }
 
 /// The first use of a value that is missing, and the first that can't be read.
@@ -73,10 +78,11 @@ pub(crate) fn put_uses(alloc: Global, names: &Found, text: &str, found: &mut Fou
     let front = "equations n = 1; R := 0; R.OE = !e; Y =";
     let module = row_module(alloc, names, front, text, ";")?;
     let names = names_of::<Sample>(alloc, &module)?;
-    let first = uses_of(alloc, &module, &names).ok()?;
-    put_refused("refused", first.missing, found);
+    let missing = use_of(alloc, UseRule::Extensions, &module, &names).ok()?;
+    put_refused("refused", missing, found);
     found.text(";");
-    put_refused("refused", first.unread, found);
+    let unread = use_of(alloc, UseRule::Columns, &module, &names).ok()?;
+    put_refused("refused", unread, found);
     Some(())
 }
 

@@ -3,7 +3,7 @@ use Rattle.std.proofs.Common.{arith}
 use Rattle.pld_device.specs.SampleTable.{sample}
 use Rattle.truth_tables.proofs.NamesInOrder.{sound_in_order}
 use Rattle.netlist_rows.proofs.PlacedNames.{sound_placed}
-use Rattle.netlist_rows.proofs.refusals.uses_of.Goals as goal
+use Rattle.netlist_rows.proofs.refusals.use_of.Goals as goal
 
 pub scope_of-requires-clause-placed : goal.scope_of-requires-clause-placed
 scope_of-requires-clause-placed c = sound_placed sample.name sample.pins c.args.names.now (omega arith) c.requires.sound
