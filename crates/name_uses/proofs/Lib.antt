@@ -1,4 +1,6 @@
+pub mod AssigningParts
 pub mod Digits
+pub mod HoldingParts
 pub mod Listed
 mod Lists
 mod TargetMembers

@@ -15,5 +15,5 @@ pub use name_use::NameUse;
 pub use part::{Part, Role};
 pub use ranges::{is_bad_item, item_count, item_list, names_of_range, range_list};
 pub use source::{ModuleParts, SectionParts};
-pub use targets::{left_side_targets, targets_in};
+pub use targets::{left_side_targets, target_extension, targets_in};
 pub use uses::{names_used, target_names_used};

@@ -1,16 +1,26 @@
 //! The names that expressions name where they are targets.
 
 ghost use Rattle.std.specs.Prelude.{◌≡◌, ◌++◌, IfOk, OnOk, map};
-ghost use Rattle.abel_tree.specs.Assigned.{without_extension};
+ghost use Rattle.abel_tree.specs.Assigned.{target_extension, without_extension};
 ghost use Rattle.abel_tree.specs.Tree.{members_of};
 ghost use Rattle.abel_tree.specs.View.{view, view_member};
 ghost use Rattle.name_uses.specs.Targets.{targets_in, targets_in_member, targets_in_members};
 ghost use Rattle.name_uses.specs.Viewed.{view_use};
 
 use crate::name_use::NameUse;
-use abel_tree::{Expr, Member};
+use abel_tree::{Expr, Extension, Member};
 use pld_base::OutOfMemory;
 use std::alloc::Global;
+
+/// The extension of a target, which stands outside. Takes no memory.
+pub fn target_extension(target: &Expr) -> Option<Extension>
+    ensures { result ≡ target_extension (view target.now) }
+{
+    match target {
+        Expr::Name { extension, .. } | Expr::Set { extension, .. } => *extension,
+        _ => None,
+    }
+}
 
 /// Appends the names that an expression names itself: none by what has an extension.
 #[cycle(targets)]
