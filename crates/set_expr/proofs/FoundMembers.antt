@@ -4,7 +4,9 @@ use Rattle.std.proofs.lemmas.List.{take_more, take_all, map-append}
 use Rattle.abel_tree.specs.declared.expressions.Expr.{Expr, the_lemmas}
 use Rattle.abel_tree.specs.declared.expressions.Expr as expr
 use Rattle.abel_tree.specs.declared.expressions.Member.{Member}
+use Rattle.abel_tree.specs.declared.expressions.Member as member
 use Rattle.abel_tree.specs.declared.words.Extension.{Extension}
+use Rattle.abel_tree.specs.declared.words.Word.{Word}
 use Rattle.abel_tree.specs.View.{view, view_member}
 use Rattle.std.specs.Prelude.{Option}
 use Rattle.pld_base.specs.declared.place.Place.{Place}
@@ -45,3 +47,7 @@ whole_front f xs k h = ap (map f) (take_all k xs h)
 -- what is found of a set
 pub view_set : (p : Place) (ms : List Member) (e : Option Extension) (ns : List NameFound) → found_of ns (view (expr.Set p ms e)) ≡ found_set p (all_found ns (members_of (map view_member ms)))
 view_set p ms e ns = search (rules, the_lemmas)
+
+-- and of a range
+pub view_span : (first last : Word) (ns : List NameFound) → found_before ns (view_member (member.Span first last)) [] ≡ range_found ns first.place (range_names first.text last.text) []
+view_span first last ns = search (rules, the_lemmas)

@@ -1,5 +1,4 @@
 pub mod FoundMembers
-pub mod Looked
 pub mod NamesMore
 pub mod SetMembers
 pub mod Spine

@@ -1,15 +1,39 @@
--- What is known with one name more.
+-- Look-ups in the table of names, and what is known with one name more.
 use Rattle.std.proofs.Common.{◌≡◌, ℕ, ◌+◌, Bool, true, false, Option, None, Some, List, [], ◌∷◌, ◌++◌, length, refl, sym, ap, ap₂, subst, ◌∙◌, arith, if◌then◌else◌, bytes_eq, cond, append_assoc, append-nil}
+use Rattle.std.specs.Global.{Vec}
 use Rattle.std.specs.List.{position_from}
+use Rattle.std.specs.Map.{lookup}
+use Rattle.std.specs.Option.{option_or}
 use Rattle.std.proofs.lemmas.Iterator.Adapters.{position_from-zero}
+use Rattle.indexmap.specs.IndexMap.{insert_entry}
 use Rattle.abel_tree.specs.Entries.{Entry, find}
 use Rattle.abel_tree.specs.FirstRefusal.{earlier, first_refusal}
 use Rattle.abel_tree.proofs.FirstRefusals.{first_append}
 use Rattle.set_expr.specs.declared.known_name.KnownName.{KnownName}
 use Rattle.set_expr.specs.FoundNames.{NameFound, named, names_found, found_after, found_entry, found_refusals}
-use Rattle.set_expr.specs.Kept.{or_new, with_unknown}
-use Rattle.set_expr.specs.KnownNames.{Table, under, IsKnownIf, IsKnownName, IsPlaced, IsKnown}
+use Rattle.set_expr.specs.KnownNames.{Table, by_bytes, under, IsKnownIf, IsKnownName, IsPlaced, IsKnown}
 use Rattle.set_expr.specs.SectionOrder.{section_order}
+
+pub looked_up : (es : List (Vec ℕ × KnownName)) (w : List ℕ) → lookup (λ k. bytes_eq w k.items) es ≡ under (by_bytes es) w
+looked_up [] w = refl
+looked_up (e ∷ es) w = ap (λ (o : Option KnownName). if bytes_eq w e.0.items then Some e.1 else o) (looked_up es w)
+
+-- a name that isn't there is not the first one
+not_first : (b : Bool) (k : KnownName) (o : Option KnownName) → (if b then Some k else o) ≡ None → (b ≡ false) × (o ≡ None)
+not_first true k o e = absurd cc
+not_first false k o e = (refl, e)
+
+first_or : {A : Type 0} (b : Bool) (x : A) (o more n : Option A) → more ≡ option_or o n → (if b then Some x else more) ≡ option_or (if b then Some x else o) n
+first_or true x o more n e = refl
+first_or false x o more n e = e
+
+-- a new name stands behind the others
+pub inserted : (es : List (Vec ℕ × KnownName)) (key : Vec ℕ) (v : KnownName) (w : List ℕ) → under (by_bytes es) key.items ≡ None
+    → under (by_bytes (insert_entry (λ a b. bytes_eq a.items b.items) es key v)) w ≡ option_or (under (by_bytes es) w) (if bytes_eq w key.items then Some v else None)
+inserted [] key v w e = refl
+inserted (x ∷ es) key v w e =
+    let p = not_first (bytes_eq key.items x.0.items) x.1 (under (by_bytes es) key.items) e in
+    rw p.0 (first_or (bytes_eq w x.0.items) x.1 (under (by_bytes es) w) (under (by_bytes (insert_entry (λ a b. bytes_eq a.items b.items) es key v)) w) (if bytes_eq w key.items then Some v else None) (inserted es key v w p.1))
 
 found_more : (ns : List NameFound) (es : List Entry) (e : Entry) → found_after ns (es ++ e ∷ []) ≡ found_after ns es ++ found_entry (found_after ns es) e ∷ []
 found_more ns [] e = refl
@@ -19,62 +43,53 @@ refusals_more : (ns : List NameFound) (n : NameFound) → found_refusals (ns ++ 
 refusals_more [] n = append-nil n.found.refusals
 refusals_more (x ∷ ns) n = ap (λ rs. x.found.refusals ++ rs) (refusals_more ns n) ∙ sym (append_assoc x.found.refusals (found_refusals ns) n.found.refusals)
 
--- a look-up behind one name more
-looked : (k : Option KnownName) (ns : List NameFound) (n : NameFound) (new : KnownName) (w : List ℕ) → IsKnownIf k (named ns w) → IsKnownName new n → IsKnownIf (or_new k (if bytes_eq w n.name then Some new else None)) (named (ns ++ n ∷ []) w)
-looked k [] n new w i j = last (bytes_eq w n.name) k i
+named_more : (ns : List NameFound) (n : NameFound) (w : List ℕ) → named (ns ++ n ∷ []) w ≡ option_or (named ns w) (if bytes_eq w n.name then Some n else None)
+named_more [] n w = refl
+named_more (x ∷ ns) n w = first_or (bytes_eq w x.name) x (named ns w) (named (ns ++ n ∷ []) w) (if bytes_eq w n.name then Some n else None) (named_more ns n w)
+
+placed_more : (i n : ℕ) (es : List Entry) (e : Entry) (w : List ℕ) → n ≡ i + length es → position_from (λ (x : Entry). bytes_eq w x.name) i (es ++ e ∷ []) ≡ option_or (position_from (λ (x : Entry). bytes_eq w x.name) i es) (cond (bytes_eq w e.name) (Some n) None)
+placed_more i n [] e w h = ap (λ k. cond (bytes_eq w e.name) (Some k) None) (omega (arith, h))
+placed_more i n (x ∷ es) e w h = here (bytes_eq w x.name) _ _ _ (placed_more (i + 1) n es e w (omega (arith, h)))
   where
-    last : (b : Bool) (k : Option KnownName) → IsKnownIf k None → IsKnownIf (or_new k (if b then Some new else None)) (if b then Some n else None)
-    last true None i = j
-    last false None i = tt
-    last b (Some k) i = absurd i
-looked k (x ∷ ns) n new w i j = first (bytes_eq w x.name) (λ h. looked k ns n new w h j) i
-  where
-    there : (k : Option KnownName) → IsKnownIf k (Some x) → IsKnownIf (or_new k (if bytes_eq w n.name then Some new else None)) (Some x)
-    there None i = absurd i
-    there (Some k) i = i
+    here : (b : Bool) (o more m : Option ℕ) → more ≡ option_or o m → cond b (Some i) more ≡ option_or (cond b (Some i) o) m
+    here true o more m k = refl
+    here false o more m k = k
 
-    first : (b : Bool) → (IsKnownIf k (named ns w) → IsKnownIf (or_new k (if bytes_eq w n.name then Some new else None)) (named (ns ++ n ∷ []) w)) → IsKnownIf k (if b then Some x else named ns w) → IsKnownIf (or_new k (if bytes_eq w n.name then Some new else None)) (if b then Some x else named (ns ++ n ∷ []) w)
-    first true more i = there k i
-    first false more i = more i
+find_more : (es : List Entry) (e : Entry) (w : List ℕ) → find (es ++ e ∷ []) w ≡ option_or (find es w) (cond (bytes_eq w e.name) (Some (length es)) None)
+find_more es e w =
+    let test = λ (x : Entry). bytes_eq w x.name in
+    position_from-zero test (es ++ e ∷ [])
+    ∙ (placed_more 0 (length es) es e w (omega arith) ∙ ap (λ o. option_or o (cond (bytes_eq w e.name) (Some (length es)) None)) (sym (position_from-zero test es)))
 
--- the place of a name behind one name more
-placed : (b : Bool) (k : Option KnownName) (i : ℕ) (new : KnownName) → IsPlaced k None → new.number ≡ i → IsPlaced (or_new k (if b then Some new else None)) (cond b (Some i) None)
-placed true None i new p n = ap Some (sym n)
-placed false None i new p n = refl
-placed b (Some k) i new p n = absurd cc
+-- what is known of a name, else of the new one
+known_or : (k : Option KnownName) (n : Option NameFound) (b : Bool) (new : KnownName) (m : NameFound) → IsKnownIf k n → IsKnownName new m → IsKnownIf (option_or k (if b then Some new else None)) (option_or n (if b then Some m else None))
+known_or (Some k) (Some n) b new m i j = i
+known_or (Some k) None b new m i j = absurd i
+known_or None (Some n) b new m i j = absurd i
+known_or None None true new m i j = j
+known_or None None false new m i j = tt
 
-placed_first : (b : Bool) (k other : Option KnownName) (i : ℕ) (o p : Option ℕ) → IsPlaced k (cond b (Some i) o) → (IsPlaced k o → IsPlaced (or_new k other) p) → IsPlaced (or_new k other) (cond b (Some i) p)
-placed_first true None other i o p e f = absurd cc
-placed_first true (Some k) other i o p e f = e
-placed_first false k other i o p e f = f e
-
-placed_from : (k : Option KnownName) (i : ℕ) (es : List Entry) (e : Entry) (new : KnownName) (w : List ℕ) → IsPlaced k (position_from (λ (x : Entry). bytes_eq w x.name) i es) → new.number ≡ i + length es → IsPlaced (or_new k (if bytes_eq w e.name then Some new else None)) (position_from (λ (x : Entry). bytes_eq w x.name) i (es ++ e ∷ []))
-placed_from k i [] e new w p n = placed (bytes_eq w e.name) k i new p (omega arith)
-placed_from k i (x ∷ es) e new w p n =
-    placed_first (bytes_eq w x.name) k (if bytes_eq w e.name then Some new else None) i _ _ p
-    (λ q. placed_from k (i + 1) es e new w q (omega (arith, n)))
-
-placed_more : (k : Option KnownName) (es : List Entry) (e : Entry) (new : KnownName) (w : List ℕ) → IsPlaced k (find es w) → new.number ≡ length es → IsPlaced (or_new k (if bytes_eq w e.name then Some new else None)) (find (es ++ e ∷ []) w)
-placed_more k es e new w p n =
-    subst (λ o. IsPlaced (or_new k (if bytes_eq w e.name then Some new else None)) o) (sym (position_from-zero (λ (x : Entry). bytes_eq w x.name) (es ++ e ∷ [])))
-    (placed_from k 0 es e new w (subst (λ o. IsPlaced k o) (position_from-zero (λ (x : Entry). bytes_eq w x.name) es) p) (omega (arith, n)))
+placed_or : (k : Option KnownName) (p : Option ℕ) (b : Bool) (new : KnownName) (i : ℕ) → IsPlaced k p → new.number ≡ i → IsPlaced (option_or k (if b then Some new else None)) (option_or p (cond b (Some i) None))
+placed_or (Some k) p b new i h e = ap (λ o. option_or o (cond b (Some i) None)) h
+placed_or None p true new i h e = ap (λ o. option_or o (Some i)) h ∙ ap Some (sym e)
+placed_or None p false new i h e = ap (λ o. option_or o None) h
 
 -- a table with one name more knows the names with it
-pub known_more : (es : List Entry) (e : Entry) (t new : Table) (k : KnownName) → IsKnown es t → IsKnownName k (found_entry (names_found es) e) → k.number ≡ length es → ((w : List ℕ) → under new.names w ≡ with_unknown e.name k (under t.names) w) → new.fault ≡ earlier section_order t.fault k.checked.fault → IsKnown (es ++ e ∷ []) new
+pub known_more : (es : List Entry) (e : Entry) (t new : Table) (k : KnownName) → IsKnown es t → IsKnownName k (found_entry (names_found es) e) → k.number ≡ length es → ((w : List ℕ) → under new.names w ≡ option_or (under t.names w) (if bytes_eq w e.name then Some k else None)) → new.fault ≡ earlier section_order t.fault k.checked.fault → IsKnown (es ++ e ∷ []) new
 known_more es e t new k is here number kept fault =
     let ns = names_found es in
+    let n = found_entry ns e in
     let all = found_more [] es e in
     record {
-      names = λ w.
-          subst (λ o. IsKnownIf o (named (names_found (es ++ e ∷ [])) w)) (sym (kept w))
-          (subst (λ ms. IsKnownIf (with_unknown e.name k (under t.names) w) (named ms w)) (sym all) (looked (under t.names w) ns (found_entry ns e) k w (is.names w) here));
-      places = λ w. subst (λ o. IsPlaced o (find (es ++ e ∷ []) w)) (sym (kept w)) (placed_more (under t.names w) es e k w (is.places w) number);
+      names = λ w. subst (λ o. IsKnownIf o (named (names_found (es ++ e ∷ [])) w)) (sym (kept w))
+          (subst (λ o. IsKnownIf (option_or (under t.names w) (if bytes_eq w e.name then Some k else None)) o) (sym (ap (λ ms. named ms w) all ∙ named_more ns n w))
+          (known_or (under t.names w) (named ns w) (bytes_eq w e.name) k n (is.names w) here));
+      places = λ w. subst (λ o. IsPlaced o (find (es ++ e ∷ []) w)) (sym (kept w))
+          (subst (λ o. IsPlaced (option_or (under t.names w) (if bytes_eq w e.name then Some k else None)) o) (sym (find_more es e w))
+          (placed_or (under t.names w) (find es w) (bytes_eq w e.name) k (length es) (is.places w) number));
       fault =
           fault
           ∙ (ap₂ (earlier section_order) is.fault here.checked.fault
-          ∙ (sym (first_append section_order (found_refusals ns) (found_entry ns e).found.refusals)
-          ∙ ap (first_refusal section_order) (sym (refusals_more ns (found_entry ns e)) ∙ ap found_refusals (sym all))));
+          ∙ (sym (first_append section_order (found_refusals ns) n.found.refusals)
+          ∙ ap (first_refusal section_order) (sym (refusals_more ns n) ∙ ap found_refusals (sym all))));
     }
-
-pub known_none : IsKnown [] (record { names = []; fault = None })
-known_none = record { names = λ w. tt; places = λ w. refl; fault = refl }

@@ -1,10 +1,10 @@
 -- One member more, and the set of all.
 use Rattle.std.proofs.Common.{◌≡◌, ℕ, ◌+◌, ◌≤◌, min, nat_lt, Bool, true, false, if◌then◌else◌, List, [], ◌∷◌, ◌++◌, Option, Some, None, refl, sym, ap, ap₂, ◌∙◌, arith, append_assoc, append-nil}
+use Rattle.std.specs.Bool.{then_some}
 use Rattle.std.proofs.lemmas.Bool.{ltb-false}
 use Rattle.std.proofs.lemmas.Bool.Decides.{nat_tests}
 use Rattle.pld_base.specs.declared.place.Place.{Place}
 use Rattle.abel_tree.specs.FirstRefusal.{earlier, first_refusal}
-use Rattle.abel_tree.proofs.FirstRefusals.{first_append}
 use Rattle.abel_meaning.specs.Numbers.{Value}
 use Rattle.abel_meaning.specs.Numbers as number
 use Rattle.set_expr.specs.declared.fault.SectionFault.{SectionFault}
@@ -14,7 +14,7 @@ use Rattle.set_expr.specs.KnownNames.{HasShapeIf}
 use Rattle.set_expr.specs.Members.{AreValued}
 use Rattle.set_expr.specs.Refusals.{Found, members_refused, members_specials, members_width, members_value, large_member, width_with, too_wide, value_or_none}
 use Rattle.set_expr.specs.SectionOrder.{section_order}
-use Rattle.set_expr.proofs.SummedUp.{left_empty, right_empty}
+use Rattle.set_expr.proofs.SummedUp.{first_both, left_empty, right_empty}
 
 specials_more : (fs : List Found) (f : Found) → members_specials (fs ++ f ∷ []) ≡ members_specials fs ++ f.specials
 specials_more [] f = append-nil f.specials
@@ -35,12 +35,12 @@ valued_more [] f v h = (h, tt)
 valued_more (x ∷ fs) f v h = (v.0, valued_more fs f v.1 h)
 
 pub special_step : (a b : Option SectionFault) (fs : List Found) (f : Found) → a ≡ first_refusal section_order (members_specials fs) → b ≡ first_refusal section_order f.specials → earlier section_order a b ≡ first_refusal section_order (members_specials (fs ++ f ∷ []))
-special_step a b fs f e g = ap₂ (earlier section_order) e g ∙ (sym (first_append section_order (members_specials fs) f.specials) ∙ sym (ap (first_refusal section_order) (specials_more fs f)))
+special_step a b fs f e g = first_both a b (members_specials fs) f.specials e g ∙ sym (ap (first_refusal section_order) (specials_more fs f))
 
 pub fault_step : (p : Place) (a b d : Option SectionFault) (fs : List Found) (f : Found) → a ≡ first_refusal section_order (members_refused p fs) → b ≡ first_refusal section_order f.refusals → d ≡ first_refusal section_order (large_member p f.value) → earlier section_order a (earlier section_order b d) ≡ first_refusal section_order (members_refused p (fs ++ f ∷ []))
 fault_step p a b d fs f e g h =
-    ap₂ (earlier section_order) e (ap₂ (earlier section_order) g h ∙ sym (first_append section_order f.refusals (large_member p f.value)))
-    ∙ (sym (first_append section_order (members_refused p fs) (f.refusals ++ large_member p f.value)) ∙ sym (ap (first_refusal section_order) (refused_more p fs f)))
+    first_both a _ (members_refused p fs) _ e (first_both b d f.refusals (large_member p f.value) g h)
+    ∙ sym (ap (first_refusal section_order) (refused_more p fs f))
 
 pub width_step : (v w : ℕ) (fs : List Found) (f : Found) → v ≡ min (members_width fs) 255 → w ≡ width_with f.value → min (v + w) 255 ≡ min (members_width (fs ++ f ∷ [])) 255
 width_step v w fs f e g = omega (arith, width_more fs f)
@@ -50,14 +50,15 @@ width_step v w fs f e g = omega (arith, width_more fs f)
 wide_test : (n : ℕ) → nat_lt 32 (min n 255) ≡ nat_lt 32 n
 wide_test n = grind (arith, nat_tests)
 
--- a width that stops at 255 is too wide just as the whole one
-wide_at_most : (p : Place) (n : ℕ) → too_wide p (min n 255) ≡ too_wide p n
-wide_at_most p n = ap (λ b. if b then BadWidth p ∷ [] else []) (wide_test n)
+one_refused : (b : Bool) (r : SectionFault) → then_some b r ≡ first_refusal section_order (if b then r ∷ [] else [])
+one_refused true r = refl
+one_refused false r = refl
 
-pub all_refused : (p : Place) (a b : Option SectionFault) (w : ℕ) (fs : List Found) → a ≡ first_refusal section_order (members_refused p fs) → b ≡ first_refusal section_order (too_wide p w) → w ≡ min (members_width fs) 255 → earlier section_order a b ≡ first_refusal section_order (members_refused p fs ++ too_wide p (members_width fs))
+-- a width that stops at 255 is too wide just as the whole one
+pub all_refused : (p : Place) (a b : Option SectionFault) (w : ℕ) (fs : List Found) → a ≡ first_refusal section_order (members_refused p fs) → b ≡ then_some (nat_lt 32 w) (BadWidth p) → w ≡ min (members_width fs) 255 → earlier section_order a b ≡ first_refusal section_order (members_refused p fs ++ too_wide p (members_width fs))
 all_refused p a b w fs e f g =
-    ap₂ (earlier section_order) e (f ∙ (ap (λ n. first_refusal section_order (too_wide p n)) g ∙ ap (first_refusal section_order) (wide_at_most p (members_width fs))))
-    ∙ sym (first_append section_order (members_refused p fs) (too_wide p (members_width fs)))
+    first_both a b (members_refused p fs) (too_wide p (members_width fs)) e
+    (f ∙ (ap (λ k. then_some k (BadWidth p)) (ap (nat_lt 32) g ∙ wide_test (members_width fs)) ∙ one_refused (nat_lt 32 (members_width fs)) (BadWidth p)))
 
 not_wide : (p : Place) (b : Bool) → (if b then BadWidth p ∷ [] else []) ≡ [] → b ≡ false
 not_wide p true e = absurd cc

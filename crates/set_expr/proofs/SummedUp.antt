@@ -1,5 +1,9 @@
 -- What sums up the parts of an expression sums up the whole.
-use Rattle.std.proofs.Common.{◌≡◌, List, [], ◌∷◌, ◌++◌, Option, None, Some, refl}
+use Rattle.std.proofs.Common.{◌≡◌, List, [], ◌∷◌, ◌++◌, Option, None, Some, refl, sym, ap₂, ◌∙◌}
+use Rattle.abel_tree.specs.FirstRefusal.{earlier, first_refusal}
+use Rattle.abel_tree.proofs.FirstRefusals.{first_append}
+use Rattle.set_expr.specs.declared.fault.SectionFault.{SectionFault}
+use Rattle.set_expr.specs.SectionOrder.{section_order}
 use Rattle.abel_tree.specs.declared.words.Binary.{Binary}
 use Rattle.abel_tree.specs.declared.words.Unary.{Unary}
 use Rattle.abel_meaning.specs.Numbers.{Value}
@@ -16,6 +20,10 @@ left_empty (x ∷ xs) ys e = absurd cc
 pub right_empty : {A : Type 0} (xs ys : List A) → xs ++ ys ≡ [] → ys ≡ []
 right_empty [] ys e = e
 right_empty (x ∷ xs) ys e = absurd cc
+
+-- the first refusal of two parts
+pub first_both : (a b : Option SectionFault) (xs ys : List SectionFault) → a ≡ first_refusal section_order xs → b ≡ first_refusal section_order ys → earlier section_order a b ≡ first_refusal section_order (xs ++ ys)
+first_both a b xs ys e f = ap₂ (earlier section_order) e f ∙ sym (first_append section_order xs ys)
 
 -- the shape of what an operator gives of operands that have a value
 pub shape_of_values : (sign : Binary) (left right found : Option Shape) (v u : Option Value) → (v ≡ None → ⊥) → (u ≡ None → ⊥) → HasShapeIf left v → HasShapeIf right u → ((x y : Value) → HasShapeIf left (Some x) → HasShapeIf right (Some y) → HasShapeIf found (Some (binary_value sign x y))) → HasShapeIf found (Some (value_of_both sign v u))

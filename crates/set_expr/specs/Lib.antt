@@ -2,7 +2,6 @@ pub mod Answer
 pub mod Contexts
 pub mod FoundNames
 pub mod Given
-pub mod Kept
 pub mod KnownNames
 pub mod Members
 pub mod Refusals

@@ -6,16 +6,15 @@ ghost use Rattle.abel_tree.specs.FirstRefusal.{first_refusal};
 ghost use Rattle.abel_tree.specs.Entries.{Entry, entries_of};
 ghost use Rattle.abel_tree.specs.View.{view, view_member};
 ghost use Rattle.abel_meaning.specs.Numbers.{Value};
-ghost use Rattle.set_expr.specs.FoundNames.{NameFound, found_of, found_use, found_special, name_found, names_found, expression_found};
-ghost use Rattle.set_expr.specs.KnownNames.{IsKnown, IsKnownName, SumsUp, HasShapeIf};
-ghost use Rattle.set_expr.specs.Refusals.{Found, large_member, too_wide, width_with, found_set};
+ghost use Rattle.set_expr.specs.FoundNames.{found_of, found_use, found_special, name_found, names_found, expression_found};
+ghost use Rattle.set_expr.specs.KnownNames.{IsKnown, SumsUp, HasShapeIf};
+ghost use Rattle.set_expr.specs.Refusals.{Found, large_member, width_with, found_set};
 ghost use Rattle.set_expr.specs.Members.{AreSummedUp};
 ghost use Rattle.set_expr.specs.SectionOrder.{section_order};
 
 use crate::checked::Checked;
 use crate::fault::SectionFault;
 use crate::known::KnownNames;
-use crate::known_name::KnownName;
 use crate::rules::settled;
 use crate::shaped::Shape;
 use abel_tree::earlier;
@@ -49,29 +48,11 @@ pub(crate) fn check_special(letter: u8, place: Place) -> Checked
 {
     if letter == b'X' {
         Checked {
-            shape: Some(Shape::Single),
             special: Some(SectionFault::MisplacedSpecial(place)),
-            fault: None,
+            ..plain(Shape::Single)
         }
     } else {
         refused(SectionFault::MisplacedSpecial(place))
-    }
-}
-
-/// A name that is used at this place.
-fn check_use(place: Place, known: KnownName) -> Checked
-    ensures { (n : NameFound) → IsKnownName known n → SumsUp result (found_use place n) }
-{
-    if known.pulse {
-        return refused(SectionFault::MisplacedSpecial(place));
-    }
-    match known.checked.special {
-        None => known.checked,
-        Some(_) => Checked {
-            shape: known.checked.shape,
-            special: Some(SectionFault::MisplacedSpecial(place)),
-            fault: known.checked.fault,
-        },
     }
 }
 
@@ -79,9 +60,18 @@ fn check_use(place: Place, known: KnownName) -> Checked
 pub(crate) fn checked_name(known: &KnownNames, text: &[u8], place: Place) -> Checked
     ensures { (es : List Entry) → IsKnown es known.now → SumsUp result (found_use place (name_found (names_found es) text.now)) }
 {
-    match known.get(text) {
-        Some(name) => check_use(place, name),
-        None => plain(Shape::Number(0)),
+    let Some(name) = known.get(text) else {
+        return plain(Shape::Number(0));
+    };
+    if name.pulse {
+        return refused(SectionFault::MisplacedSpecial(place));
+    }
+    match name.checked.special {
+        None => name.checked,
+        Some(_) => Checked {
+            special: Some(SectionFault::MisplacedSpecial(place)),
+            ..name.checked
+        },
     }
 }
 
@@ -90,13 +80,7 @@ fn large(place: Place, shape: Option<Shape>) -> Option<SectionFault>
     ensures { (v : Option Value) → HasShapeIf shape v → result ≡ first_refusal section_order (large_member place v) }
 {
     match shape {
-        Some(Shape::Number(n)) => {
-            if n < 2 {
-                None
-            } else {
-                Some(SectionFault::BadWidth(place))
-            }
-        }
+        Some(Shape::Number(n)) => (n >= 2).then_some(SectionFault::BadWidth(place)),
         _ => None,
     }
 }
@@ -110,17 +94,6 @@ fn part_width(shape: Option<Shape>) -> u8
         Some(Shape::Number(_)) => 1,
         Some(Shape::Single) => 1,
         Some(Shape::Set(width)) => width,
-    }
-}
-
-/// A set has at most 32 positions.
-fn wide(place: Place, width: u8) -> Option<SectionFault>
-    ensures { result ≡ first_refusal section_order (too_wide place width) }
-{
-    if width > 32 {
-        Some(SectionFault::BadWidth(place))
-    } else {
-        None
     }
 }
 
@@ -156,11 +129,12 @@ impl Members {
         }
     }
 
-    /// The set of these members.
+    /// The set of these members, which has at most 32 positions.
     pub(crate) fn whole(self, place: Place) -> Checked
         ensures { (fs : List Found) → AreSummedUp place self fs → SumsUp result (found_set place fs) }
     {
-        let fault = earlier(self.fault, wide(place, self.width));
+        let wide = (self.width > 32).then_some(SectionFault::BadWidth(place));
+        let fault = earlier(self.fault, wide);
         settled(Some(Shape::Set(self.width)), self.special, fault)
     }
 }

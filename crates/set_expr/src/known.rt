@@ -1,9 +1,9 @@
 //! What is known of the names of a source, made once for all its expressions.
 
-ghost use Rattle.std.specs.Prelude.{◌≡◌, ℕ, List, [], None, OnOk, IfOk};
+ghost use Rattle.std.specs.Prelude.{◌≡◌, ℕ, List, [], Some, None, OnOk, bytes_eq, if◌then◌else◌};
+ghost use Rattle.std.specs.Option.{option_or};
 ghost use Rattle.abel_tree.specs.FirstRefusal as refusal;
 ghost use Rattle.set_expr.specs.KnownNames.{under};
-ghost use Rattle.set_expr.specs.Kept.{with_unknown};
 ghost use Rattle.set_expr.specs.SectionOrder.{section_order};
 
 use crate::fault::SectionFault;
@@ -16,7 +16,7 @@ use std::marker::Model;
 
 /// What is known of all names of a source. A look-up takes no longer where there are many.
 #[derive(Drop)]
-pub struct KnownNames {
+pub(crate) struct KnownNames {
     names: IndexMap<Vec<u8>, KnownName>,
     fault: Option<SectionFault>,
 }
@@ -41,13 +41,10 @@ impl KnownNames {
     }
 
     /// What is known of a name. Takes no memory.
-    pub fn get(&self, name: &[u8]) -> Option<KnownName>
+    pub(crate) fn get(&self, name: &[u8]) -> Option<KnownName>
         ensures { result ≡ under self.now.names name.now }
     {
-        match self.names.get(name) {
-            Some(known) => Some(*known),
-            None => None,
-        }
+        self.names.get(name).copied()
     }
 
     /// The first refusal of all constants.
@@ -60,7 +57,7 @@ impl KnownNames {
     /// Keeps a name that isn't known.
     fn insert(&mut self, name: Vec<u8>, known: KnownName) -> Result<(), OutOfMemory>
         requires { under self.old.names name.items ≡ None }
-        ensures names { OnOk result ((w : List ℕ) → under self.new.names w ≡ with_unknown name.items known (under self.old.names) w) }
+        ensures names { OnOk result ((w : List ℕ) → under self.new.names w ≡ option_or (under self.old.names w) (if bytes_eq w name.items then Some known else None)) }
         ensures fault { self.new.fault ≡ self.old.fault }
     {
         self.names.insert(name, known)?;
@@ -74,7 +71,7 @@ impl KnownNames {
         name: &[u8],
         known: KnownName,
     ) -> Result<(), OutOfMemory>
-        ensures names { OnOk result ((w : List ℕ) → under self.new.names w ≡ with_unknown name.now known (under self.old.names) w) }
+        ensures names { OnOk result ((w : List ℕ) → under self.new.names w ≡ option_or (under self.old.names w) (if bytes_eq w name.now then Some known else None)) }
         ensures fault { OnOk result (self.new.fault ≡ refusal.earlier section_order self.old.fault known.checked.fault) }
     {
         self.fault = earlier(self.fault, known.checked.fault);

@@ -1,85 +1,60 @@
 //! What is known of the names of a source, learnt from their declarations.
 
-ghost use Rattle.std.specs.Prelude.{◌≡◌, ◌+◌, List, Some, None, false, IfOk};
-ghost use Rattle.abel_tree.specs.Entries.{Entry, entries_of, view_declared};
+ghost use Rattle.std.specs.Prelude.{◌≡◌, List, IfOk};
+ghost use Rattle.abel_tree.specs.Entries.{Entry, entries_of, view_meaning};
 ghost use Rattle.abel_tree.specs.View.{view};
-ghost use Rattle.set_expr.specs.FoundNames.{found_entry, found_kind, is_pulse, is_pulse_kind, names_found};
-ghost use Rattle.set_expr.specs.KnownNames.{IsKnown, IsKnownName, SumsUp};
+ghost use Rattle.set_expr.specs.FoundNames.{found_kind, is_pulse, is_pulse_kind, names_found};
+ghost use Rattle.set_expr.specs.KnownNames.{IsKnown, SumsUp};
 
+use crate::checked::Checked;
 use crate::checking::plain;
 use crate::known::KnownNames;
 use crate::known_name::KnownName;
 use crate::shaped::Shape;
 use crate::walking::check_expr;
-use abel_tree::{Declared, Expr, Meaning, Names};
+use abel_tree::{Expr, Meaning, Names};
 use pld_base::OutOfMemory;
 use std::alloc::Global;
 
 /// What is known of all names, once for all expressions of a source. Each constant is checked once.
-pub fn known_names(alloc: Global, names: &Names) -> Result<KnownNames, OutOfMemory>
+pub(crate) fn known_names(alloc: Global, names: &Names) -> Result<KnownNames, OutOfMemory>
     ensures { IfOk result (λ known. IsKnown (entries_of names.now) known) }
 {
     let mut known = KnownNames::new(alloc);
     let mut number = 0u32;
     for declared in names.list.as_slice() {
-        let name = learn(alloc, &known, declared, number)?;
+        let (checked, pulse) = learn(alloc, &known, &declared.meaning)?;
+        let name = KnownName {
+            number,
+            checked,
+            pulse,
+        };
         known.keep(alloc, declared.name.bytes(), name)?;
-        number = next(number)?;
+        // So many names that there is no next number are more than memory holds.
+        number = number.checked_add(1).ok_or(OutOfMemory)?;
     }
     Ok(known)
 }
 
-/// The next number of a name; so many names that there is none are more than memory holds.
-fn next(number: u32) -> Result<u32, OutOfMemory>
-    ensures { IfOk result (λ n. n ≡ number + 1) }
-{
-    match number.checked_add(1) {
-        Some(next) => Ok(next),
-        None => Err(OutOfMemory),
-    }
-}
-
-/// What is known of a declared name by the names before it.
+/// What a declaration comes to by the names before it, and whether the name stands for `.C.` or `.Z.`.
 fn learn(
     alloc: Global,
     known: &KnownNames,
-    declared: &Declared,
-    number: u32,
-) -> Result<KnownName, OutOfMemory>
-    ensures name { IfOk result (λ k. (es : List Entry) → IsKnown es known.now → IsKnownName k (found_entry (names_found es) (view_declared declared.now))) }
-    ensures number { IfOk result (λ k. k.number ≡ number) }
+    meaning: &Meaning,
+) -> Result<(Checked, bool), OutOfMemory>
+    ensures checked { IfOk result (λ r. (es : List Entry) → IsKnown es known.now → SumsUp r.0 (found_kind (names_found es) (view_meaning meaning.now))) }
+    ensures pulse { IfOk result (λ r. r.1 ≡ is_pulse_kind (view_meaning meaning.now)) }
 {
-    match &declared.meaning {
-        Meaning::Pin { pin: _, negated: _ } => Ok(plain_name(number, Shape::Single)),
-        Meaning::Node(_) => Ok(plain_name(number, Shape::Single)),
-        Meaning::DeviceName => Ok(plain_name(number, Shape::Number(0))),
+    match meaning {
+        Meaning::Pin { pin: _, negated: _ } => Ok((plain(Shape::Single), false)),
+        Meaning::Node(_) => Ok((plain(Shape::Single), false)),
+        Meaning::DeviceName => Ok((plain(Shape::Number(0)), false)),
         Meaning::Constant(expr) => {
             if is_pulse(expr) {
-                Ok(KnownName {
-                    number,
-                    checked: plain(Shape::Number(0)),
-                    pulse: true,
-                })
-            } else {
-                let checked = check_expr(alloc, known, expr)?;
-                Ok(KnownName {
-                    number,
-                    checked,
-                    pulse: false,
-                })
+                return Ok((plain(Shape::Number(0)), true));
             }
+            Ok((check_expr(alloc, known, expr)?, false))
         }
-    }
-}
-
-/// A name of this shape, without X positions.
-fn plain_name(number: u32, shape: Shape) -> KnownName
-    ensures { result ≡ record { number = number; checked = record { shape = Some shape; special = None; fault = None }; pulse = false } }
-{
-    KnownName {
-        number,
-        checked: plain(shape),
-        pulse: false,
     }
 }
 

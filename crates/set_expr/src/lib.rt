@@ -12,16 +12,12 @@ mod numbers;
 mod rules;
 mod scope;
 mod shaped;
-mod signs;
 mod walking;
 
 pub use checked::Checked;
 pub use contributions::{Contribution, Contributions, Gives, Guard, Target};
 pub use fault::SectionFault;
-pub use known::KnownNames;
 pub use known_name::KnownName;
-pub use learning::known_names;
-pub use numbers::{number_of, number_under};
+pub use numbers::{is_relation, number_of, number_under};
 pub use scope::Scope;
 pub use shaped::{Shape, Shaped};
-pub use signs::is_relation;

@@ -1,12 +1,13 @@
-//! Numbers of 32 bits without a width.
+//! Operators on numbers of 32 bits without a width.
 
-ghost use Rattle.std.specs.Prelude.{◌≡◌, ◌%◌, ◌^◌};
-ghost use Rattle.abel_tree.specs.declared.words.Binary.TheVariants as binary;
-ghost use Rattle.abel_meaning.specs.Values.{computes_numbers, unary_number};
+ghost use Rattle.std.specs.Prelude.{◌≡◌};
+ghost use Rattle.abel_meaning.specs.Values.{computes_numbers, is_relation, unary_number};
 
 use abel_tree::{Binary, Unary};
 
-/// What an operator gives of two numbers; relations give 0 here.
+/// What an operator gives of two numbers. Where the divisor is 0 the quotient is 0 and the rest the number itself;
+/// relations give 0 here.
+#[tactic(auto, using(crate::proofs::WholeNumbers::and_by_position, crate::proofs::WholeNumbers::or_by_position, crate::proofs::WholeNumbers::xor_by_position, crate::proofs::WholeNumbers::xnor_by_position))]
 pub fn number_of(sign: Binary, left: u32, right: u32) -> u32
     ensures { result ≡ computes_numbers sign left right }
 {
@@ -18,10 +19,10 @@ pub fn number_of(sign: Binary, left: u32, right: u32) -> u32
         Binary::Xor => left ^ right,
         Binary::Xnor => !(left ^ right),
         Binary::Times => left.wrapping_mul(right),
-        Binary::Over => divided(left, right),
-        Binary::Rest => rest_of(left, right),
-        Binary::ShiftLeft => shifted_left(left, right),
-        Binary::ShiftRight => shifted_right(left, right),
+        Binary::Over => if right == 0 { 0 } else { left / right },
+        Binary::Rest => if right == 0 { left } else { left % right },
+        Binary::ShiftLeft => if right < 32 { left << right } else { 0 },
+        Binary::ShiftRight => if right < 32 { left >> right } else { 0 },
         Binary::Equal
         | Binary::Unequal
         | Binary::Less
@@ -31,33 +32,8 @@ pub fn number_of(sign: Binary, left: u32, right: u32) -> u32
     }
 }
 
-/// The quotient, 0 where the divisor is 0.
-fn divided(left: u32, right: u32) -> u32
-    ensures { result ≡ computes_numbers binary.Over left right }
-{
-    if right == 0 { 0 } else { left / right }
-}
-
-/// The rest of a division, the number itself where the divisor is 0.
-fn rest_of(left: u32, right: u32) -> u32
-    ensures { result ≡ computes_numbers binary.Rest left right }
-{
-    if right == 0 { left } else { left % right }
-}
-
-fn shifted_left(left: u32, right: u32) -> u32
-    ensures { result ≡ computes_numbers binary.ShiftLeft left right }
-{
-    if right < 32 { left << right } else { 0 }
-}
-
-fn shifted_right(left: u32, right: u32) -> u32
-    ensures { result ≡ computes_numbers binary.ShiftRight left right }
-{
-    if right < 32 { left >> right } else { 0 }
-}
-
 /// The complement of each of the 32 bits, or two's complement.
+#[tactic(auto, using(crate::proofs::WholeNumbers::not_by_position))]
 pub fn number_under(sign: Unary, number: u32) -> u32
     ensures { result ≡ unary_number sign 32 number }
 {
@@ -65,4 +41,19 @@ pub fn number_under(sign: Unary, number: u32) -> u32
         Unary::Not => !number,
         Unary::Minus => number.wrapping_neg(),
     }
+}
+
+/// Whether the sign is a relation's. Takes no memory.
+pub fn is_relation(sign: Binary) -> bool
+    ensures { result ≡ is_relation sign }
+{
+    matches!(
+        sign,
+        Binary::Equal
+            | Binary::Unequal
+            | Binary::Less
+            | Binary::LessEqual
+            | Binary::Greater
+            | Binary::GreaterEqual
+    )
 }

@@ -6,44 +6,45 @@ ghost use Rattle.abel_meaning.specs.Numbers.{Value};
 ghost use Rattle.abel_meaning.specs.Values.{is_relation, binary_value, unary_value};
 ghost use Rattle.set_expr.specs.declared.fault.SectionFault.{SectionFault as Fault};
 ghost use Rattle.set_expr.specs.KnownNames.{SumsUp, HasShapeIf};
-ghost use Rattle.set_expr.specs.Refusals.{Found, specials_refused, unless_refused, unequal, unequal_unspread, not_numbers, no_divisor, operator_refusals, operands_refused, value_of_both, found_both, found_under, value_or_none};
-ghost use Rattle.set_expr.specs.Shapes.{HasShape, meant, said};
+ghost use Rattle.set_expr.specs.Refusals.{Found, specials_refused, unless_refused, unequal, unequal_unspread, not_numbers, no_divisor, operands_refused, value_of_both, found_both, found_under, value_or_none};
+ghost use Rattle.set_expr.specs.Shapes.{meant, said};
 ghost use Rattle.set_expr.specs.SectionOrder.{section_order};
 
 use crate::checked::Checked;
 use crate::fault::SectionFault;
-use crate::numbers::{number_of, number_under};
+use crate::numbers::{is_relation, number_of, number_under};
 use crate::shaped::Shape;
-use crate::signs::is_relation;
 use abel_tree::{Binary, Unary, earlier};
 use pld_base::Place;
 
-/// The shape of what an operator gives.
-pub(crate) fn shape_of_both(sign: Binary, left: Shape, right: Shape) -> Shape
-    ensures { (v u : Value) → HasShape left v → HasShape right u → HasShape result (binary_value sign v u) }
+/// The shape of what an operator gives, where both operands have one.
+fn shape_of_both(sign: Binary, left: Option<Shape>, right: Option<Shape>) -> Option<Shape>
+    ensures { (v u : Value) → HasShapeIf left (Some v) → HasShapeIf right (Some u) → HasShapeIf result (Some (binary_value sign v u)) }
 {
+    let (Some(left), Some(right)) = (left, right) else {
+        return None;
+    };
     if is_relation(sign) {
-        return Shape::Single;
+        return Some(Shape::Single);
     }
     match (left, right) {
-        (Shape::Number(m), Shape::Number(n)) => Shape::Number(number_of(sign, m, n)),
-        (Shape::Number(_), Shape::Single) => Shape::Single,
-        (Shape::Number(_), Shape::Set(width)) => Shape::Set(width),
-        (Shape::Single, Shape::Number(_)) => Shape::Single,
-        (Shape::Single, Shape::Single) => Shape::Single,
-        (Shape::Single, Shape::Set(width)) => Shape::Set(width),
-        (Shape::Set(width), _) => Shape::Set(width),
+        (Shape::Number(m), Shape::Number(n)) => Some(Shape::Number(number_of(sign, m, n))),
+        (Shape::Number(_), Shape::Single) => Some(Shape::Single),
+        (Shape::Number(_), Shape::Set(width)) => Some(Shape::Set(width)),
+        (Shape::Single, Shape::Number(_)) => Some(Shape::Single),
+        (Shape::Single, Shape::Single) => Some(Shape::Single),
+        (Shape::Single, Shape::Set(width)) => Some(Shape::Set(width)),
+        (Shape::Set(width), _) => Some(Shape::Set(width)),
     }
 }
 
-/// The shape of a complement, or of two's complement.
-fn shape_under(sign: Unary, shape: Shape) -> Shape
-    ensures { (v : Value) → HasShape shape v → HasShape result (unary_value sign v) }
+/// The shape of a complement, or of two's complement, of what has one.
+fn shape_under(sign: Unary, shape: Option<Shape>) -> Option<Shape>
+    ensures { (v : Value) → HasShapeIf shape (Some v) → HasShapeIf result (Some (unary_value sign v)) }
 {
     match shape {
-        Shape::Number(n) => Shape::Number(number_under(sign, n)),
-        Shape::Single => Shape::Single,
-        Shape::Set(width) => Shape::Set(width),
+        Some(Shape::Number(n)) => Some(Shape::Number(number_under(sign, n))),
+        _ => shape,
     }
 }
 
@@ -52,13 +53,7 @@ fn unequal_widths(place: Place, left: Shape, right: Shape) -> Option<SectionFaul
     ensures { result ≡ first_refusal section_order (unequal place (meant left) (meant right)) }
 {
     match (left, right) {
-        (Shape::Set(v), Shape::Set(w)) => {
-            if v == w {
-                None
-            } else {
-                Some(SectionFault::BadWidth(place))
-            }
-        }
+        (Shape::Set(v), Shape::Set(w)) => (v != w).then_some(SectionFault::BadWidth(place)),
         _ => None,
     }
 }
@@ -69,11 +64,7 @@ fn unspread_widths(place: Place, left: Shape, right: Shape) -> Option<SectionFau
 {
     match (left, right) {
         (Shape::Single, Shape::Set(w)) | (Shape::Set(w), Shape::Single) => {
-            if w == 1 {
-                None
-            } else {
-                Some(SectionFault::BadWidth(place))
-            }
+            (w != 1).then_some(SectionFault::BadWidth(place))
         }
         _ => unequal_widths(place, left, right),
     }
@@ -95,27 +86,9 @@ fn bad_division(place: Place, left: Shape, right: Shape) -> Option<SectionFault>
 {
     match (left, right) {
         (Shape::Number(_), Shape::Number(n)) => {
-            if n == 0 {
-                Some(SectionFault::ZeroDivisor(place))
-            } else {
-                None
-            }
+            (n == 0).then_some(SectionFault::ZeroDivisor(place))
         }
         _ => Some(SectionFault::NotConstant(place)),
-    }
-}
-
-/// What an operator refuses of two shapes.
-fn operator_fault(sign: Binary, place: Place, left: Shape, right: Shape) -> Option<SectionFault>
-    ensures { result ≡ first_refusal section_order (operator_refusals sign place (meant left) (meant right) (said right)) }
-{
-    match sign {
-        Binary::And | Binary::Or | Binary::Xor | Binary::Xnor => {
-            unequal_widths(place, left, right)
-        }
-        Binary::Times | Binary::ShiftLeft | Binary::ShiftRight => no_numbers(place, left, right),
-        Binary::Over | Binary::Rest => bad_division(place, left, right),
-        _ => unspread_widths(place, left, right),
     }
 }
 
@@ -128,33 +101,21 @@ fn operands_fault(
 ) -> Option<SectionFault>
     ensures { (v u : Option Value) → HasShapeIf left v → HasShapeIf right u → result ≡ first_refusal section_order (operands_refused sign place v u) }
 {
-    match (left, right) {
-        (Some(left), Some(right)) => operator_fault(sign, place, left, right),
-        _ => None,
-    }
-}
-
-/// The shape of what an operator gives, where both operands have one.
-fn shape_of_operands(sign: Binary, left: Option<Shape>, right: Option<Shape>) -> Option<Shape>
-    ensures { (v u : Value) → HasShapeIf left (Some v) → HasShapeIf right (Some u) → HasShapeIf result (Some (binary_value sign v u)) }
-{
-    match (left, right) {
-        (Some(left), Some(right)) => Some(shape_of_both(sign, left, right)),
-        _ => None,
-    }
-}
-
-/// The shape of what an operator gives of one operand, where it has one.
-fn shape_of_operand(sign: Unary, shape: Option<Shape>) -> Option<Shape>
-    ensures { (v : Value) → HasShapeIf shape (Some v) → HasShapeIf result (Some (unary_value sign v)) }
-{
-    match shape {
-        Some(shape) => Some(shape_under(sign, shape)),
-        None => None,
+    let (Some(left), Some(right)) = (left, right) else {
+        return None;
+    };
+    match sign {
+        Binary::And | Binary::Or | Binary::Xor | Binary::Xnor => {
+            unequal_widths(place, left, right)
+        }
+        Binary::Times | Binary::ShiftLeft | Binary::ShiftRight => no_numbers(place, left, right),
+        Binary::Over | Binary::Rest => bad_division(place, left, right),
+        _ => unspread_widths(place, left, right),
     }
 }
 
 /// The X positions that an operator refuses.
+#[tactic(auto, using(crate::proofs::SummedUp::first_both))]
 fn special_of_both(
     sign: Binary,
     left: Option<SectionFault>,
@@ -201,7 +162,7 @@ pub(crate) fn check_both(sign: Binary, place: Place, left: Checked, right: Check
         special,
         operands_fault(sign, place, left.shape, right.shape),
     );
-    let shape = shape_of_operands(sign, left.shape, right.shape);
+    let shape = shape_of_both(sign, left.shape, right.shape);
     settled(shape, None, earlier(operands, own))
 }
 
@@ -209,6 +170,6 @@ pub(crate) fn check_both(sign: Binary, place: Place, left: Checked, right: Check
 pub(crate) fn check_under(sign: Unary, inner: Checked) -> Checked
     ensures { (f : Found) → SumsUp inner f → SumsUp result (found_under sign f) }
 {
-    let shape = shape_of_operand(sign, inner.shape);
+    let shape = shape_under(sign, inner.shape);
     settled(shape, None, earlier(inner.fault, inner.special))
 }

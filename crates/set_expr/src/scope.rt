@@ -5,7 +5,7 @@ ghost use Rattle.abel_tree.specs.Entries.{entries_of, find};
 ghost use Rattle.abel_tree.specs.FirstRefusal.{first_refusal};
 ghost use Rattle.abel_tree.specs.View.{view};
 ghost use Rattle.set_expr.specs.FoundNames.{constants_refused, expression_found, found_use, name_found, named, names_found};
-ghost use Rattle.set_expr.specs.KnownNames.{IsKnown, IsKnownIf, IsPlaced, SumsUp};
+ghost use Rattle.set_expr.specs.KnownNames.{IsKnownIf, IsPlaced, SumsUp};
 ghost use Rattle.set_expr.specs.Scopes.{AreInOrder, ArePlaced};
 ghost use Rattle.set_expr.specs.SectionOrder.{section_order};
 
@@ -70,13 +70,6 @@ impl<'a> Scope<'a> {
         self.names.list.as_slice()
     }
 
-    /// What is known of them.
-    fn known(&self) -> &KnownNames
-        ensures { IsKnown (entries_of self.now) result.now }
-    {
-        &self.known
-    }
-
     /// Pins are below 32, nodes below 128: this does nothing, and tells it.
     pub fn are_placed(&self)
         ensures { ArePlaced self.now }
@@ -120,7 +113,7 @@ impl<'a> Scope<'a> {
         ensures accepted { OnOk result (constants_refused (entries_of self.now) ≡ []) }
         ensures refused { IfErr result (λ fault. first_refusal section_order (constants_refused (entries_of self.now)) ≡ Some fault) }
     {
-        match self.known().fault() {
+        match self.known.fault() {
             Some(fault) => Err(fault),
             None => Ok(()),
         }

@@ -21,24 +21,6 @@ use name_uses::range_list;
 use pld_base::{OutOfMemory, Place};
 use std::alloc::Global;
 
-/// The names of a range, used at its first end, as members of the set at this place. Takes no memory.
-fn check_names(
-    known: &KnownNames,
-    names: &[Vec<u8>],
-    at: Place,
-    place: Place,
-    before: Members,
-) -> Members
-    ensures { (es : List Entry) (fs : List Found) → IsKnown es known.now → AreSummedUp place before fs
-        → AreSummedUp place result (fs ++ range_found (names_found es) at (map name_items names.now) []) }
-{
-    let mut members = before;
-    for name in names {
-        members = members.with(place, checked_name(known, name.as_slice(), at));
-    }
-    members
-}
-
 /// One member more of the set at this place.
 #[cycle(checking)]
 fn check_member(
@@ -57,7 +39,11 @@ fn check_member(
         }
         Member::Span { first, last } => {
             let names = range_list(alloc, first.text.bytes(), last.text.bytes())?;
-            Ok(check_names(known, names.as_slice(), first.place, place, before))
+            let mut members = before;
+            for name in names.as_slice() {
+                members = members.with(place, checked_name(known, name.as_slice(), first.place));
+            }
+            Ok(members)
         }
     }
 }

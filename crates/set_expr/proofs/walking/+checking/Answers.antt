@@ -1,16 +1,18 @@
 -- One operator down, one back up, and one member more.
-use Rattle.std.proofs.Common.{◌≡◌, ◌<◌, ◌+◌, [], ◌∷◌, ◌++◌, map, take, sym, ap, subst, ◌∙◌, arith}
+use Rattle.std.proofs.Common.{◌≡◌, ◌<◌, ◌+◌, [], ◌∷◌, ◌++◌, map, take, sym, ap, ap₂, subst, ◌∙◌, arith, append_assoc}
 use Rattle.std.proofs.lemmas.List.{map_push}
+use Rattle.abel_tree.specs.Ranges.{range_names}
 use Rattle.abel_tree.specs.Tree.{members_of}
 use Rattle.abel_tree.specs.View.{view, view_member}
 use Rattle.abel_tree.specs.declared.expressions.Expr.{size-Expr}
 use Rattle.abel_tree.specs.declared.expressions.Expr as expr
-use Rattle.set_expr.specs.FoundNames.{names_found, all_found, found_of}
+use Rattle.name_uses.specs.RangeParts.{name_items}
+use Rattle.set_expr.specs.FoundNames.{names_found, name_found, all_found, found_before, found_of, found_use, range_found}
 use Rattle.set_expr.specs.KnownNames.{SumsUp}
 use Rattle.set_expr.specs.Members.{AreSummedUp}
 use Rattle.set_expr.specs.Refusals.{found_set}
-use Rattle.set_expr.proofs.FoundMembers.{front_more, whole_front, members_more, view_set}
-use Rattle.set_expr.proofs.Spine.{seen, Down, Up, up_start, goes_down, goes_up, up_right}
+use Rattle.set_expr.proofs.FoundMembers.{front_more, whole_front, members_more, range_more, view_set, view_span}
+use Rattle.set_expr.proofs.Spine.{seen, Down, Up, goes_down, goes_up, up_right}
 use Rattle.set_expr.proofs.walking.+checking.Goals as goal
 
 pub check_expr-down-preserved : goal.check_expr-down-preserved
@@ -34,7 +36,7 @@ check_expr-up-preserved t c =
     c.check_both-found.ensures
 
 pub check_expr-up-init : goal.check_expr-up-init
-check_expr-up-init t c = up_start c.args.known.now c.in_ok-found.found c.down.first.now (map seen c.down.links.items) c.args.expr.now c.down.invariant c.in_ok-found.ensures
+check_expr-up-init t c = record { first = c.down.first.now; same = c.down.invariant.same; sums = c.in_ok-found.ensures }
 
 pub check_level-loop-member-init : goal.check_level-loop-member-init
 check_level-loop-member-init t c es k = c.new-parts.ensures c.in-Set.place
@@ -57,3 +59,28 @@ check_level-returns-after-loop-member t c es k =
     subst (λ f. SumsUp c.whole.result f)
     (ap (λ xs. found_set c.in-Set.place (all_found ns (members_of xs))) all ∙ (sym (view_set c.in-Set.place c.in-Set.members c.in-Set.extension ns) ∙ ap (λ e. found_of ns (view e)) (sym c.in-Set.is)))
     (c.whole.ensures (all_found ns (members_of (map view_member (take c.loop-member.member-index ms)))) (c.loop-member.invariant es k))
+
+pub check_member-loop-name-preserved : goal.check_member-loop-name-preserved
+check_member-loop-name-preserved t c es fs k s =
+    let ns = names_found es in
+    let p = c.in-Span.first.place in
+    let text = c.name-item.result.items in
+    let all = c.as_slice-name-items.result.now in
+    let before = map name_items (take c.loop-name.name-index all) in
+    let here : map name_items (take (c.loop-name.name-index + 1) all) ≡ before ++ text ∷ [] = front_more name_items all c.loop-name.name-index c.name-item.result c.loop-name-test.true c.name-item.is in
+    let use_found : SumsUp c.checked_name.result (found_use p (name_found ns text)) = subst (λ t. SumsUp c.checked_name.result (found_use p (name_found ns t))) c.as_slice.ensures.value (c.checked_name.ensures es k) in
+    subst (λ gs. AreSummedUp c.args.place c.with-members.result gs)
+    (append_assoc fs (range_found ns p before []) (found_use p (name_found ns text) ∷ [])
+    ∙ ap (λ gs. fs ++ gs) (sym (range_more ns p before text) ∙ ap (λ names. range_found ns p names []) (sym here)))
+    (c.with-members.ensures (fs ++ range_found ns p before []) (found_use p (name_found ns text)) (c.loop-name.invariant es fs k s) use_found)
+
+pub check_member-returns-after-loop-name : goal.check_member-returns-after-loop-name
+check_member-returns-after-loop-name t c es fs k s =
+    let ns = names_found es in
+    let all : map name_items (take c.loop-name.name-index c.as_slice-name-items.result.now) ≡ range_names c.in-Span.first.text c.in-Span.last.text =
+    whole_front name_items c.as_slice-name-items.result.now c.loop-name.name-index c.loop-name-test.false
+    ∙ (ap (map name_items) c.as_slice-name-items.ensures.value ∙ (c.in_ok-names-in-Span.ensures ∙ ap₂ range_names c.bytes.ensures c.bytes-in-Span.ensures)) in
+    subst (λ gs. AreSummedUp c.args.place c.loop-name.members (fs ++ gs))
+    (ap (λ names. range_found ns c.in-Span.first.place names []) all
+    ∙ (sym (view_span c.in-Span.first c.in-Span.last ns) ∙ ap (λ m. found_before ns (view_member m) []) (sym c.in-Span.is)))
+    (c.loop-name.invariant es fs k s)

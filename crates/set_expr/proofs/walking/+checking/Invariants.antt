@@ -1,13 +1,15 @@
 -- What was checked of operators in a row and of a set's members.
-use Rattle.std.proofs.Common.{◌+◌, ◌*◌, List, length, take, map}
+use Rattle.std.proofs.Common.{◌+◌, ◌*◌, List, [], ◌++◌, length, take, map}
 use Rattle.abel_tree.specs.Entries.{Entry}
 use Rattle.abel_tree.specs.Tree.{members_of}
 use Rattle.abel_tree.specs.View.{view_member}
 use Rattle.abel_tree.specs.declared.expressions.Expr.{size-Expr}
 use Rattle.abel_tree.specs.declared.expressions.Member.{size-Member}
-use Rattle.set_expr.specs.FoundNames.{names_found, all_found}
+use Rattle.name_uses.specs.RangeParts.{name_items}
+use Rattle.set_expr.specs.FoundNames.{names_found, all_found, range_found}
 use Rattle.set_expr.specs.KnownNames.{IsKnown}
 use Rattle.set_expr.specs.Members.{AreSummedUp}
+use Rattle.set_expr.specs.Refusals.{Found}
 use Rattle.set_expr.proofs.Spine.{seen, Down, Up}
 use Rattle.set_expr.proofs.walking.+checking.Given as goal
 
@@ -33,3 +35,8 @@ abbrev pub invariant-check_level-loop-member : goal.invariant-check_level-loop-m
 invariant-check_level-loop-member l =
     (es : List Entry) → IsKnown es l.known
     → AreSummedUp l.place l.parts (all_found (names_found es) (members_of (map view_member (take l.member-index l.member-items))))
+
+abbrev pub invariant-check_member-loop-name : goal.invariant-check_member-loop-name
+invariant-check_member-loop-name l =
+    (es : List Entry) (fs : List Found) → IsKnown es l.known → AreSummedUp l.place l.fn.before fs
+    → AreSummedUp l.place l.members (fs ++ range_found (names_found es) l.first.place (map name_items (take l.name-index l.name-items)) [])

@@ -6,6 +6,6 @@ use Rattle.set_expr.proofs.checking.Members.whole.Goals as goal
 pub returns : goal.returns
 returns c fs s =
     c.settled.ensures (members_refused c.args.place fs ++ too_wide c.args.place (members_width fs)) (members_specials fs) (members_value fs)
-    (c.earlier-fault.ensures ∙ all_refused c.args.place c.args.self.fault c.wide.result c.args.self.width fs s.fault c.wide.ensures s.width)
+    (c.earlier-fault.ensures ∙ all_refused c.args.place c.args.self.fault c.then_some-wide.result c.args.self.width fs s.fault c.then_some-wide.ensures s.width)
     s.special
     (λ e. set_shape c.args.place c.args.self.width fs s.valued s.width e)

@@ -1,13 +1,7 @@
-use Rattle.std.proofs.Common.{sym, ap, ◌∙◌}
-use Rattle.std.specs.Option.{option_copied}
+use Rattle.std.proofs.Common.{ap, ◌∙◌}
 use Rattle.set_expr.specs.KnownNames.{Table, under}
-use Rattle.set_expr.proofs.Looked.{looked_up}
+use Rattle.set_expr.proofs.NamesMore.{looked_up}
 use Rattle.set_expr.proofs.known.KnownNames.get.Goals as goal
 
-pub returns-in-Some : goal.returns-in-Some
-returns-in-Some c =
-    sym (ap option_copied c.in-Some.is) ∙ (c.get.ensures.value ∙ looked_up c.self.inside.names.entries c.args.name.now ∙ ap (λ (t : Table). under t.names c.args.name.now) c.self.view_is)
-
-pub returns-in-None : goal.returns-in-None
-returns-in-None c =
-    sym (ap option_copied c.in-None.is) ∙ (c.get.ensures.value ∙ looked_up c.self.inside.names.entries c.args.name.now ∙ ap (λ (t : Table). under t.names c.args.name.now) c.self.view_is)
+pub returns : goal.returns
+returns c = c.copied.ensures ∙ (c.get.ensures.value ∙ looked_up c.self.inside.names.entries c.args.name.now ∙ ap (λ (t : Table). under t.names c.args.name.now) c.self.view_is)

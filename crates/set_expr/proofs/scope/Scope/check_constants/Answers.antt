@@ -1,5 +1,6 @@
-use Rattle.std.proofs.Common.{sym, ◌∙◌}
+use Rattle.std.proofs.Common.{sym, ap, ◌∙◌}
 use Rattle.abel_tree.specs.Entries.{entries_of}
+use Rattle.abel_tree.specs.FirstRefusal.{first_refusal}
 use Rattle.abel_tree.proofs.FirstRefusals.{none_refused}
 use Rattle.set_expr.specs.FoundNames.{constants_refused}
 use Rattle.set_expr.specs.SectionOrder.{section_order}
@@ -7,4 +8,4 @@ use Rattle.set_expr.proofs.scope.Scope.check_constants.Goals as goal
 
 pub returns-in-None-clause-accepted : goal.returns-in-None-clause-accepted
 returns-in-None-clause-accepted c =
-    none_refused section_order (constants_refused (entries_of c.args.self.now)) (sym c.in-None.is ∙ (c.fault.ensures ∙ c.known.ensures.fault))
+    none_refused section_order (constants_refused (entries_of c.args.self.now)) (sym c.in-None.is ∙ (c.fault.ensures ∙ (c.self.invariant.0.fault ∙ ap (λ n. first_refusal section_order (constants_refused (entries_of n))) c.self.view_is)))
