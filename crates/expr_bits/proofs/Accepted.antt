@@ -1,5 +1,5 @@
 -- What an accepted expression comes to.
-use Rattle.std.proofs.Common.{◌≡◌, ℕ, ◌<◌, ◌≤◌, Bool, true, false, Option, None, Some, List, [], ◌∷◌, if◌then◌else◌, length, Ok, refl, sym, subst, arith}
+use Rattle.std.proofs.Common.{◌≡◌, ℕ, ◌<◌, ◌≤◌, Option, None, Some, List, length, Ok, refl, sym, subst, arith}
 use Rattle.bit_expr.specs.declared.node.Node.{Node}
 use Rattle.bit_expr.specs.Arena.{arena}
 use Rattle.abel_tree.specs.declared.names.Names.{Names}
@@ -27,25 +27,21 @@ use Rattle.expr_bits.specs.Shaping.{IsBlank}
 use Rattle.expr_bits.specs.Steps.{term_part}
 use Rattle.expr_bits.proofs.Blank.{blank}
 use Rattle.expr_bits.proofs.Linked.{IsLinkedIf, expression_linked}
-use Rattle.expr_bits.proofs.Links.{SameKind, Sound}
+use Rattle.expr_bits.proofs.Links.{Sound}
 
 -- ---- values
 
-record IsFound (d : Context) (t : Term) : Type 0 where
-  value : Value
-  kind : SameKind value (constant_of d t)
-  sound : Sound d t
-  narrow : width_of value.shape ≤ 32
-
-found_if : (d : Context) (o : Option Value) (xs : List SectionFault) (t : Term) → (o ≡ None → ⊥) → IsLinkedIf d o xs t → IsFound d t
+-- the value of what is found is sound and has few positions
+found_if : (d : Context) (o : Option Value) (xs : List SectionFault) (t : Term) → (o ≡ None → ⊥) → IsLinkedIf d o xs t → Sound d t × (width_of (constant_of d t).shape ≤ 32)
 found_if d None xs t h l = absurd (h refl)
-found_if d (Some v) xs t h l = record { value = v; kind = l.0; sound = l.2; narrow = l.3 }
+found_if d (Some v) xs t h l = (l.2, subst (λ s. width_of s ≤ 32) (sym l.0.shape) l.3)
 
-found : (n : Names) (d : Context) (t : Tree) → refusal_of n t ≡ None → IsFound d (term_of (known_of (entries_of n)) t)
-found n d t e =
+found : (n : Names) (d : Context) (t : Tree) → refusal_of n t ≡ None → d.known ≡ known_of (entries_of n) → Sound d (term_of d.known t) × (width_of (constant_of d (term_of d.known t)).shape ≤ 32)
+found n d t e known =
     let l = expression_linked d (entries_of n) t in
     let f = expression_found (entries_of n) t in
-    found_if d f.value f.specials (term_of (known_of (entries_of n)) t) (l.valued (none_refused section_order f.refusals (sym e))) l.linked
+    subst (λ ks. Sound d (term_of ks t) × (width_of (constant_of d (term_of ks t)).shape ≤ 32)) (sym known)
+    (found_if d f.value f.specials (term_of (known_of (entries_of n)) t) (l.valued (none_refused section_order f.refusals (sym e))) l.linked)
 
 few_by : (f : Form) (v : Value) (k : ℕ) → HasForm f v k → width_of v.shape ≤ 32 → k < 256
 few_by (form.Number n) v k h w = omega (arith, h.1)
@@ -54,13 +50,10 @@ few_by form.Set v k h w = omega (arith, subst (λ s. width_of s ≤ 32) h w)
 
 -- an accepted expression has few positions
 pub few : (n : Names) (d : Context) (t : Tree) (old new : List Node) (b : Bits) → refusal_of n t ≡ None → d.known ≡ known_of (entries_of n) → IsMade IsPart (arena old) (arena new) b (term_part d (term_of d.known t)) → length b.word < 256
-few n d t old new b e known m =
-    let x = subst (λ ks. IsFound d (term_of ks t)) (sym known) (found n d t e) in
-    few_by b.form (constant_of d (term_of d.known t)) (length b.word) m.shows.form (subst (λ s. width_of s ≤ 32) (sym x.kind.shape) x.narrow)
+few n d t old new b e known m = few_by b.form (constant_of d (term_of d.known t)) (length b.word) m.shows.form (found n d t e known).1
 
 pub accepted : (n : Names) (d : Context) (t : Tree) (old new : List Node) (b : Bits) (s : Shaped) → refusal_of n t ≡ None → d.known ≡ known_of (entries_of n) → IsMade IsPart (arena old) (arena new) b (term_part d (term_of d.known t))
     → ((v : Value) → IsBits (arena new) b v (bits_of d (term_of d.known t)).what → IsBlank v.unknown (bits_of d (term_of d.known t)).what → IsShaped (arena new) s v (bits_of d (term_of d.known t)).what)
     → MakesBits d t old new (Ok s)
 accepted n d t old new b s e known m shaped =
-    let x = subst (λ ks. IsFound d (term_of ks t)) (sym known) (found n d t e) in
-    record { shows = shaped (constant_of d (term_of d.known t)) m.shows (blank d (term_of d.known t) x.sound); grew = m.grew; within = m.within }
+    record { shows = shaped (constant_of d (term_of d.known t)) m.shows (blank d (term_of d.known t) (found n d t e known).0); grew = m.grew; within = m.within }

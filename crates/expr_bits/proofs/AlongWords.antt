@@ -13,31 +13,19 @@ use Rattle.expr_bits.specs.declared.steps.Step.TheVariants as step
 use Rattle.expr_bits.specs.Along.{step_by, step_of, along}
 use Rattle.expr_bits.proofs.Making.{made_is}
 
--- a step that carries nothing on
-position_step : (g : Step) (f : Formula → Formula → Made Formula) (c : Formula) → ((last : Bool) (x y : Formula) → step_by g last x y c ≡ record { what = ((f x y).what, c); nodes = (f x y).nodes }) → (xs ys : Word) → along g c xs ys ≡ word_by_position f xs ys
-position_step g f c by [] ys = refl
-position_step g f c by (x ∷ xs) [] = refl
-position_step g f c by (x ∷ xs) (y ∷ ys) =
-    ap (λ m. m >>= λ p. along g p.1 xs ys >>= λ us. free (p.0 ∷ us)) (by _ x y)
-    ∙ ap (λ m. f x y >>= λ z. m >>= λ us. free (z ∷ us)) (position_step g f c by xs ys)
-
 abbrev carried : Formula → Formula → Made (Formula × Formula)
 carried c s = free (s, c)
 
 kept_nodes : (m : Made Formula) (c : Formula) → ◌≡◌ {A = Made (Formula × Formula)} (m >>= carried c) (record { what = (m.what, c); nodes = m.nodes })
 kept_nodes m c = made_is _ _ refl (omega arith)
 
-and_along : (c : Formula) (xs ys : Word) → along step.And c xs ys ≡ word_by_position make_and xs ys
-and_along c xs ys = position_step step.And make_and c (λ last x y. kept_nodes (make_and x y) c) xs ys
-
-or_along : (c : Formula) (xs ys : Word) → along step.Or c xs ys ≡ word_by_position make_or xs ys
-or_along c xs ys = position_step step.Or make_or c (λ last x y. kept_nodes (make_or x y) c) xs ys
-
-xor_along : (c : Formula) (xs ys : Word) → along step.Xor c xs ys ≡ word_by_position make_xor xs ys
-xor_along c xs ys = position_step step.Xor make_xor c (λ last x y. kept_nodes (make_xor x y) c) xs ys
-
-xnor_along : (c : Formula) (xs ys : Word) → along step.Xnor c xs ys ≡ word_by_position (λ x y. make_xor x y >>= make_not) xs ys
-xnor_along c xs ys = position_step step.Xnor (λ x y. make_xor x y >>= make_not) c (λ last x y. kept_nodes (make_xor x y >>= make_not) c) xs ys
+-- a step that carries nothing on
+position_step : (g : Step) (f : Formula → Formula → Made Formula) (c : Formula) → ((last : Bool) (x y : Formula) → step_by g last x y c ≡ (f x y >>= carried c)) → (xs ys : Word) → along g c xs ys ≡ word_by_position f xs ys
+position_step g f c by [] ys = refl
+position_step g f c by (x ∷ xs) [] = refl
+position_step g f c by (x ∷ xs) (y ∷ ys) =
+    ap (λ m. m >>= λ p. along g p.1 xs ys >>= λ us. free (p.0 ∷ us)) (by _ x y ∙ kept_nodes (f x y) c)
+    ∙ ap (λ m. f x y >>= λ z. m >>= λ us. free (z ∷ us)) (position_step g f c by xs ys)
 
 pub not_along : (c : Formula) (xs : Word) → along step.Not c xs xs ≡ each_not xs
 not_along c [] = refl
@@ -87,10 +75,10 @@ no_step _ a o x n p = refl
 
 -- an operator goes along words by its step; what has none and is no difference makes zeros
 pub operator_along : (s : Binary) (g : Step) (xs ys : Word) → Some g ≡ step_of s → along g (Const false) xs ys ≡ operator_bits s xs ys
-operator_along binary.And g xs ys e = let is : g ≡ step.And = cc in ap (λ h. along h (Const false) xs ys) is ∙ and_along (Const false) xs ys
-operator_along binary.Or g xs ys e = let is : g ≡ step.Or = cc in ap (λ h. along h (Const false) xs ys) is ∙ or_along (Const false) xs ys
-operator_along binary.Xor g xs ys e = let is : g ≡ step.Xor = cc in ap (λ h. along h (Const false) xs ys) is ∙ xor_along (Const false) xs ys
-operator_along binary.Xnor g xs ys e = let is : g ≡ step.Xnor = cc in ap (λ h. along h (Const false) xs ys) is ∙ xnor_along (Const false) xs ys
+operator_along binary.And g xs ys e = let is : g ≡ step.And = cc in ap (λ h. along h (Const false) xs ys) is ∙ position_step step.And make_and (Const false) (λ last x y. refl) xs ys
+operator_along binary.Or g xs ys e = let is : g ≡ step.Or = cc in ap (λ h. along h (Const false) xs ys) is ∙ position_step step.Or make_or (Const false) (λ last x y. refl) xs ys
+operator_along binary.Xor g xs ys e = let is : g ≡ step.Xor = cc in ap (λ h. along h (Const false) xs ys) is ∙ position_step step.Xor make_xor (Const false) (λ last x y. refl) xs ys
+operator_along binary.Xnor g xs ys e = let is : g ≡ step.Xnor = cc in ap (λ h. along h (Const false) xs ys) is ∙ position_step step.Xnor (λ x y. make_xor x y >>= make_not) (Const false) (λ last x y. refl) xs ys
 operator_along binary.Plus g xs ys e = let is : g ≡ step.Sum = cc in ap (λ h. along h (Const false) xs ys) is ∙ sum_along (Const false) xs ys
 operator_along _ g xs ys e = absurd cc
 

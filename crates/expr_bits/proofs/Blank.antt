@@ -13,6 +13,7 @@ use Rattle.abel_meaning.specs.Values.{constant_of, set_value, nowhere, is_relati
 use Rattle.abel_meaning.proofs.DigitLaws.{length_digits}
 use Rattle.abel_meaning.proofs.FormulasFollow.{term_agrees}
 use Rattle.expr_bits.specs.Shaping.{IsBlank}
+use Rattle.expr_bits.proofs.OperatedBits.{member_flags}
 use Rattle.expr_bits.proofs.Links.{AllKnown, known_spread, known_binary, Sound, AllSound}
 
 -- ---- words
@@ -63,12 +64,6 @@ flags_by : (relation : Bool) (sign : Binary) (v u : Value) → FlagsLong (binary
 flags_by true sign v u k e = absurd cc
 flags_by false sign v u k e = length-replicate (width_of (meeting v.shape u.shape)) false ∙ ap width_of e
 
-met_flags : (s : Shape) (xs : List Bool) → ((k : ℕ) → s ≡ Set k → length xs ≡ k) → length (met_unknown_by (member_width s) s xs) ≡ member_width s
-met_flags Number xs h = refl
-met_flags Single [] h = refl
-met_flags Single (x ∷ xs) h = refl
-met_flags (Set w) xs h = h w refl
-
 mutual
   term_flags : (d : Context) (t : Term) → FlagsLong (constant_of d t)
   term_flags d (term.Number n) k e = absurd cc
@@ -85,7 +80,7 @@ mutual
   set_flags d (term.Before t ts) =
       let c = constant_of d t in
       let rest = set_flags d ts in
-      let own = met_flags c.shape c.unknown (term_flags d t) in
+      let own = member_flags c.shape c.unknown (term_flags d t) in
       length-append (set_value d nowhere ts).unknown (met_unknown_by (member_width c.shape) c.shape c.unknown) ∙ omega (arith, rest, own)
 
 set_long : (d : Context) (ts : Terms) → length (bits_of_all d ts).what ≡ width_of (set_value d nowhere ts).shape

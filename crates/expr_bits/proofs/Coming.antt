@@ -5,7 +5,6 @@ use Rattle.abel_tree.specs.declared.words.Binary.{Binary}
 use Rattle.abel_tree.specs.declared.words.Extension.{Extension}
 use Rattle.abel_tree.specs.declared.words.Unary.{Unary}
 use Rattle.abel_tree.specs.Entries.{Entry}
-use Rattle.abel_tree.specs.Tree.{SetMember, members_of}
 use Rattle.abel_meaning.specs.Designs.{Context}
 use Rattle.abel_meaning.specs.Terms.{Term, Terms, Known, extended_if, member_before, named_before, special_term, term_named, terms_of}
 use Rattle.abel_meaning.specs.Terms as term
@@ -15,7 +14,8 @@ use Rattle.expr_bits.specs.declared.work.Work.{Work}
 use Rattle.expr_bits.specs.declared.work.Work.TheVariants as work
 use Rattle.expr_bits.specs.Stacks.{ComesTo, Precedes, task_of, tasks_of}
 use Rattle.expr_bits.specs.Steps.{Push, Do, term_part, pushed, after_task, after_all}
-use Rattle.expr_bits.proofs.StepLaws.{unary_steps, binary_steps, set_more, set_none}
+use Rattle.expr_bits.proofs.Extensions.{both_extended, under_extended}
+use Rattle.expr_bits.proofs.StepLaws.{unary_steps, binary_steps, set_more}
 use Rattle.expr_bits.proofs.Turns.{tasks_last}
 
 -- ---- members
@@ -36,26 +36,6 @@ precedes_then es e old mid new ts us vs a b d ps = a d ps ∙ b d ps
 pub names_last : (ks : List Known) (names : List (List ℕ)) (n : List ℕ) (ts : Terms) → named_before ks (names ++ n ∷ []) ts ≡ named_before ks names (term.Before (term_named ks n) ts)
 names_last ks [] n ts = refl
 names_last ks (x ∷ names) n ts = ap (term.Before (term_named ks x)) (names_last ks names n ts)
-
--- members before others, the last of them built first
-abbrev pub members_before : List Known → List SetMember → Terms → Terms
-members_before ks [] ts = ts
-members_before ks (m ∷ ms) ts = member_before ks m (members_before ks ms ts)
-
-pub members_last : (ks : List Known) (ms : List SetMember) (m : SetMember) (ts : Terms) → members_before ks (ms ++ m ∷ []) ts ≡ members_before ks ms (member_before ks m ts)
-members_last ks [] m ts = refl
-members_last ks (x ∷ ms) m ts = ap (member_before ks x) (members_last ks ms m ts)
-
-pub members_all : (ks : List Known) (ms : List SetMember) → members_before ks ms term.NoTerm ≡ terms_of ks (members_of ms)
-members_all ks [] = refl
-members_all ks (m ∷ ms) = ap (member_before ks m) (members_all ks ms)
-
--- and a set without members, built first of all
-pub set_work : (es : List Entry) (old mid new : List Work) (e : Option Extension) (us : Terms) → new ≡ mid ++ work.Do step.Empty ∷ [] → Precedes es e mid old term.NoTerm us
-    → (d : Context) (ps : List Part) → after_all d (tasks_of es new) ps ≡ after_all d (Push (extended_if e (term.Set us)) ∷ tasks_of es old) ps
-set_work es old mid new e us n p d ps =
-    ap (λ ws. after_all d (tasks_of es ws) ps) n ∙ ap (λ xs. after_all d xs ps) (tasks_last es mid (work.Do step.Empty))
-    ∙ ap (λ (m : Made (List Part)). m >>= after_all d (tasks_of es mid)) (set_none d e ps) ∙ p d ps
 
 -- ---- work to be done first
 
@@ -86,14 +66,6 @@ special_by e false false = refl
 pub special_extended : (e : Option Extension) (letter : ℕ) → extended_if e (special_term letter) ≡ special_term letter
 special_extended None letter = refl
 special_extended (Some e) letter = special_by e (bytes_eq (letter ∷ []) (codes "X")) (bytes_eq (letter ∷ []) (codes "C"))
-
-under_extended : (e : Option Extension) (sign : Unary) (t : Term) → term.UnaryOf sign (extended_if e t) ≡ extended_if e (term.UnaryOf sign t)
-under_extended None sign t = refl
-under_extended (Some e) sign t = refl
-
-both_extended : (e : Option Extension) (sign : Binary) (t u : Term) → term.BinaryOf sign (extended_if e t) (extended_if e u) ≡ extended_if e (term.BinaryOf sign t u)
-both_extended None sign t u = refl
-both_extended (Some e) sign t u = refl
 
 pub under_work : (es : List Entry) (e : Option Extension) (sign : Unary) (t : Term) (old mid new : List Work) (w : Work) → mid ≡ old ++ work.Do (step.Under sign) ∷ [] → new ≡ mid ++ w ∷ [] → task_of es w ≡ Push (extended_if e t)
     → (d : Context) (ps : List Part) → after_all d (tasks_of es new) ps ≡ after_all d (Push (extended_if e (term.UnaryOf sign t)) ∷ tasks_of es old) ps

@@ -1,6 +1,8 @@
 -- An inner extension wins over an outer one; an extension of a set is that of each member.
 use Rattle.std.proofs.Common.{◌≡◌, ℕ, Option, None, Some, List, [], ◌∷◌, ◌++◌, refl, sym, ap, ap₂, ◌∙◌, append_assoc}
+use Rattle.abel_tree.specs.declared.words.Binary.{Binary}
 use Rattle.abel_tree.specs.declared.words.Extension.{Extension}
+use Rattle.abel_tree.specs.declared.words.Unary.{Unary}
 use Rattle.abel_tree.specs.Extensions.{innermost}
 use Rattle.abel_tree.specs.Tree.{SetMember, OneMember, SpanMember, members_of}
 use Rattle.abel_tree.specs.Ranges.{range_names}
@@ -32,6 +34,16 @@ pub innermost_wins : (own outer : Option Extension) (t : Term) → extended_if (
 innermost_wins None outer t = refl
 innermost_wins (Some e) outer t = inner_wins e outer t
 
+-- ---- operators
+
+pub under_extended : (e : Option Extension) (sign : Unary) (t : Term) → term.UnaryOf sign (extended_if e t) ≡ extended_if e (term.UnaryOf sign t)
+under_extended None sign t = refl
+under_extended (Some e) sign t = refl
+
+pub both_extended : (e : Option Extension) (sign : Binary) (t u : Term) → term.BinaryOf sign (extended_if e t) (extended_if e u) ≡ extended_if e (term.BinaryOf sign t u)
+both_extended None sign t u = refl
+both_extended (Some e) sign t u = refl
+
 -- ---- sets
 
 -- an extension, if there is one, at each term of a set
@@ -42,6 +54,10 @@ all_extended (Some e) ts = extended_each e ts
 pub set_extended : (e : Option Extension) (ts : Terms) → extended_if e (term.Set ts) ≡ term.Set (all_extended e ts)
 set_extended None ts = refl
 set_extended (Some e) ts = refl
+
+pub first_extended : (e : Option Extension) (t : Term) (ts : Terms) → Before (extended_if e t) (all_extended e ts) ≡ all_extended e (Before t ts)
+first_extended None t ts = refl
+first_extended (Some e) t ts = refl
 
 each_none : (ts : List Term) → each_extended None ts ≡ ts
 each_none [] = refl

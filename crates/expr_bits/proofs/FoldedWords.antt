@@ -1,14 +1,18 @@
 -- Two words gone through position by position, where what was found goes on.
-use Rattle.std.proofs.Common.{◌≡◌, ℕ, ◌+◌, ◌<◌, List, ◌∷◌, length, get_or, drop, Result, Ok, Err, ap, ap₂, ◌∙◌, arith}
+use Rattle.std.proofs.Common.{◌≡◌, ℕ, ◌+◌, ◌<◌, ◌≤◌, List, [], ◌∷◌, length, get_or, drop, Result, Ok, Err, refl, sym, subst, ap, ap₂, ◌∙◌, arith}
 use Rattle.bit_expr.specs.Arena.{arena, formula_at}
-use Rattle.bit_expr.specs.Folding.{Made, ◌>>=◌}
+use Rattle.bit_expr.specs.Folding.{Made, free, ◌>>=◌}
 use Rattle.bit_expr.specs.Formulas.{Formula}
 use Rattle.bit_expr.specs.declared.fault.ExprFault.{ExprFault}
 use Rattle.bit_expr.specs.declared.node.ExprId.{ExprId}
 use Rattle.bit_expr.specs.declared.node.Node.{Node}
 use Rattle.abel_meaning.specs.BitWords.{Word}
 use Rattle.expr_bits.specs.Making.{Makes, ShowsOne, AllIn, word_at}
-use Rattle.expr_bits.proofs.Making.{Going, going_on, going_stop, in_at, word_drop, kept}
+use Rattle.expr_bits.proofs.Making.{Going, going_done, going_on, going_stop, in_at, made_is, word_drop, word_past, kept}
+use Rattle.expr_bits.specs.declared.pieces.Relation.{Relation}
+use Rattle.expr_bits.specs.declared.pieces.Relation.TheVariants as relation
+use Rattle.expr_bits.specs.Pieces.{relation_step, relation_steps, start_id, start_of}
+use Rattle.expr_bits.proofs.AlongWords.{zero_there, one_there, zero_is, one_is}
 
 here : List Node → List ExprId → ℕ → Formula
 here old xs i = formula_at (arena old) (get_or xs i (record { 0 = 0 }))
@@ -24,6 +28,12 @@ module _ (one : (x y f : Formula) → Made Formula) (every : Formula → Word �
   step old xs ys i f h k =
       ap₂ (every f) (word_drop (arena old) xs i (record { 0 = 0 }) h) (word_drop (arena old) ys i (record { 0 = 0 }) k)
       ∙ more (formula_at (arena old) (get_or xs i (record { 0 = 0 }))) (formula_at (arena old) (get_or ys i (record { 0 = 0 }))) f (drop (i + 1) (word_at (arena old) xs)) (drop (i + 1) (word_at (arena old) ys))
+
+  -- the end
+  pub fold_ends : (old now : List Node) (xs ys : List ExprId) (i : ℕ) (l : ExprId) (all : Made Formula) → length xs ≤ i → length ys ≤ i → ((f : Formula) → every f [] [] ≡ free f) → Going ShowsOne old now l (rest old xs ys i) all → Makes ShowsOne old now (Ok l) all
+  fold_ends old now xs ys i l all h k none g =
+      let e = ap₂ (every g.made) (word_past (arena old) xs i h) (word_past (arena old) ys i k) ∙ none g.made in
+      going_done ShowsOne ShowsOne old now l l (rest old xs ys i) all g (ap (λ p. p.nodes) e) (subst (λ (m : Made Formula). ShowsOne (arena now) l m.what) (sym e) g.shows)
 
   module _ (old now new : List Node) (xs ys : List ExprId) (i : ℕ) (l : ExprId) (all : Made Formula) (a : AllIn (length (arena old)) xs) (b : AllIn (length (arena old)) ys) (h : i < length xs) (k : i < length ys) (g : Going ShowsOne old now l (rest old xs ys i) all) where
     -- what the step made, said of the formulas at the start
@@ -46,3 +56,18 @@ module _ (one : (x y f : Formula) → Made Formula) (every : Formula → Word �
     fold_stops e made =
         let n = ap (λ p. p.nodes) (step old xs ys i g.made h k) in
         going_stop ShowsOne ShowsOne ShowsOne old now new l e (rest old xs ys i) all (one (here old xs i) (here old ys i) g.made) g (seen (Err e) made) (omega (arith, n))
+
+-- ---- relations
+
+pub relation_none : (r : Relation) (f : Formula) → relation_steps r f [] [] ≡ free f
+relation_none relation.Less f = refl
+relation_none relation.Equal f = refl
+
+-- a position is made whole before the next
+pub relation_more : (r : Relation) (x y f : Formula) (xs ys : Word) → relation_steps r f (x ∷ xs) (y ∷ ys) ≡ (relation_step r x y f >>= λ g. relation_steps r g xs ys)
+relation_more relation.Less x y f xs ys = refl
+relation_more relation.Equal x y f xs ys = made_is _ _ refl (omega arith)
+
+pub start_shown : (ns : List Node) (r : Relation) → ShowsOne (arena ns) (start_id r) (start_of r)
+start_shown ns relation.Less = (zero_there ns, zero_is ns)
+start_shown ns relation.Equal = (one_there ns, one_is ns)

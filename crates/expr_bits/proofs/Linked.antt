@@ -15,10 +15,10 @@ use Rattle.abel_meaning.specs.Terms as term
 use Rattle.abel_meaning.specs.Values.{constant_of, set_value, nowhere, plain_value, unary_value, binary_value, binary_by, is_relation}
 use Rattle.set_expr.specs.declared.fault.SectionFault.{SectionFault}
 use Rattle.set_expr.specs.declared.fault.SectionFault.TheVariants.{MisplacedSpecial, BadWidth}
-use Rattle.set_expr.specs.FoundNames.{NameFound, found_value, found_use, refused_there, at_name, name_found, named, nothing_found, one_position, range_found, found_of, all_found, found_before, found_constant, found_kind, found_entry, found_after, names_found, expression_found, is_pulse, is_pulse_kind}
+use Rattle.set_expr.specs.FoundNames.{NameFound, found_value, found_use, refused_there, at_name, name_found, named, nothing_found, one_position, range_found, found_of, all_found, found_before, found_constant, found_kind, found_entry, found_after, names_found, expression_found, is_pulse_kind}
 use Rattle.set_expr.specs.Refusals.{Found, unless_refused, found_both, found_under, found_set, members_refused, members_specials, members_value, members_width, too_wide, value_of_both, value_or_none, large_member, width_with}
 use Rattle.set_expr.proofs.SummedUp.{left_empty, right_empty}
-use Rattle.expr_bits.proofs.Links.{SameKind, same_kind, kind_then, unary_kind, binary_kind, AllKnown, known_append, known_met, known_binary, Sound, AllSound, extended_alike, extended_sound}
+use Rattle.expr_bits.proofs.Links.{SameKind, same_kind, kind_then, unary_kind, binary_kind, AllKnown, known_append, known_met, known_binary, Sound, AllSound, extended_alike}
 
 -- what is found of a value and its X positions, and a term
 abbrev pub IsLinkedIf : Context → Option Value → List SectionFault → Term → Type 0
@@ -148,15 +148,12 @@ linked_set d p fs ts l =
 
 -- ---- an extension
 
-extended_known : (d : Context) (e : Extension) (t : Term) → AllKnown (constant_of d t).unknown → AllKnown (constant_of d (term.extended e t)).unknown
-extended_known d e t k = subst AllKnown (sym (extended_alike d e t).unknown) k
-
 linked_extended : (d : Context) (e : Extension) (o : Option Value) (xs : List SectionFault) (t : Term) → IsLinkedIf d o xs t → IsLinkedIf d o xs (term.extended e t)
 linked_extended d e None xs t l = tt
 linked_extended d e (Some v) xs t l = (
   kind_then v (constant_of d t) (constant_of d (term.extended e t)) l.0 (extended_alike d e t).kind,
-  λ x. extended_known d e t (l.1 x),
-  extended_sound d e t l.2,
+  λ x. subst AllKnown (sym (extended_alike d e t).unknown) (l.1 x),
+  (extended_alike d e t).sound l.2,
   l.3,
 )
 

@@ -31,19 +31,12 @@ unary_kind sign v c k =
     unary_by : Shape → ℕ → ℕ
     unary_by s n = unary_number sign (width_of s) n
 
-pub left_number : (s t : Shape) → meeting s t ≡ Number → s ≡ Number
-left_number Number t e = refl
-left_number Single Number e = absurd cc
-left_number Single Single e = absurd cc
-left_number Single (Set w) e = absurd cc
-left_number (Set v) t e = absurd cc
-
-pub right_number : (s t : Shape) → meeting s t ≡ Number → t ≡ Number
-right_number Number t e = e
-right_number Single Number e = absurd cc
-right_number Single Single e = absurd cc
-right_number Single (Set w) e = absurd cc
-right_number (Set v) t e = absurd cc
+both_numbers : (s t : Shape) → meeting s t ≡ Number → (s ≡ Number) × (t ≡ Number)
+both_numbers Number t e = (refl, e)
+both_numbers Single Number e = absurd cc
+both_numbers Single Single e = absurd cc
+both_numbers Single (Set w) e = absurd cc
+both_numbers (Set v) t e = absurd cc
 
 -- the number of an operator on two values, by their shapes
 abbrev number_by : Binary → (s t : Shape) → ℕ → ℕ → ℕ
@@ -60,7 +53,7 @@ by_kind false sign v c u e k l =
       shape = ap₂ meeting k.shape l.shape;
       number = λ p.
           two_numbers sign v.shape u.shape c.shape e.shape v.number u.number c.number e.number k.shape l.shape
-          (k.number (left_number v.shape u.shape p)) (l.number (right_number v.shape u.shape p));
+          (k.number (both_numbers v.shape u.shape p).0) (l.number (both_numbers v.shape u.shape p).1);
     }
 
 pub binary_kind : (sign : Binary) (v c u e : Value) → SameKind v c → SameKind u e → SameKind (binary_value sign v u) (binary_value sign c e)
@@ -116,32 +109,38 @@ flags_by : (relation : Bool) (sign : Binary) (v c u e : Value) → SameKind v c 
 flags_by true sign v c u e k l = refl
 flags_by false sign v c u e k l = ap (λ s. replicate (width_of s) false) (ap₂ meeting k.shape l.shape)
 
-pub record Alike (v c : Value) : Type 0 where
+pub record Alike (v c : Value) (before after : Type 0) : Type 0 where
   pub kind : SameKind v c
   pub unknown : c.unknown ≡ v.unknown
+  pub sound : before → after
 
 mutual
-  pub extended_alike : (d : Context) (e : Extension) (t : Term) → Alike (constant_of d t) (constant_of d (extended e t))
-  extended_alike d e (term.Number n) = record { kind = same_kind _; unknown = refl }
-  extended_alike d e term.X = record { kind = same_kind _; unknown = refl }
-  extended_alike d e term.Pulse = record { kind = same_kind _; unknown = refl }
-  extended_alike d e term.Release = record { kind = same_kind _; unknown = refl }
-  extended_alike d e (term.Read s None) = record { kind = record { shape = refl; number = λ p. absurd cc }; unknown = refl }
-  extended_alike d e (term.Read s (Some f)) = record { kind = same_kind _; unknown = refl }
+  pub extended_alike : (d : Context) (e : Extension) (t : Term) → Alike (constant_of d t) (constant_of d (extended e t)) (Sound d t) (Sound d (extended e t))
+  extended_alike d e (term.Number n) = record { kind = same_kind _; unknown = refl; sound = λ s. tt }
+  extended_alike d e term.X = record { kind = same_kind _; unknown = refl; sound = λ s. tt }
+  extended_alike d e term.Pulse = record { kind = same_kind _; unknown = refl; sound = λ s. tt }
+  extended_alike d e term.Release = record { kind = same_kind _; unknown = refl; sound = λ s. tt }
+  extended_alike d e (term.Read s None) = record { kind = record { shape = refl; number = λ p. absurd cc }; unknown = refl; sound = λ s. tt }
+  extended_alike d e (term.Read s (Some f)) = record { kind = same_kind _; unknown = refl; sound = λ s. tt }
   extended_alike d e (term.Set ts) = set_alike d e ts
   extended_alike d e (term.UnaryOf sign t) =
       let a = extended_alike d e t in
-      record { kind = unary_kind sign (constant_of d t) (constant_of d (extended e t)) a.kind; unknown = a.unknown }
+      record {
+        kind = unary_kind sign (constant_of d t) (constant_of d (extended e t)) a.kind;
+        unknown = a.unknown;
+        sound = λ s. subst AllKnown (sym a.unknown) s;
+      }
   extended_alike d e (term.BinaryOf sign t u) =
       let a = extended_alike d e t in
       let b = extended_alike d e u in
       record {
         kind = binary_kind sign (constant_of d t) (constant_of d (extended e t)) (constant_of d u) (constant_of d (extended e u)) a.kind b.kind;
         unknown = flags_by (is_relation sign) sign (constant_of d t) (constant_of d (extended e t)) (constant_of d u) (constant_of d (extended e u)) a.kind b.kind;
+        sound = λ s. tt;
       }
 
-  set_alike : (d : Context) (e : Extension) (ts : Terms) → Alike (set_value d nowhere ts) (set_value d nowhere (extended_each e ts))
-  set_alike d e term.NoTerm = record { kind = same_kind _; unknown = refl }
+  set_alike : (d : Context) (e : Extension) (ts : Terms) → Alike (set_value d nowhere ts) (set_value d nowhere (extended_each e ts)) (AllSound d ts) (AllSound d (extended_each e ts))
+  set_alike d e term.NoTerm = record { kind = same_kind _; unknown = refl; sound = λ s. tt }
   set_alike d e (term.Before t ts) =
       let a = extended_alike d e t in
       let b = set_alike d e ts in
@@ -151,20 +150,5 @@ mutual
           number = λ p. absurd cc;
         };
         unknown = ap₂ (λ xs ys. xs ++ ys) b.unknown (ap₂ (λ s xs. met_unknown_by (member_width s) s xs) a.kind.shape a.unknown);
+        sound = λ s. (a.sound s.0, b.sound s.1);
       }
-
-mutual
-  pub extended_sound : (d : Context) (e : Extension) (t : Term) → Sound d t → Sound d (extended e t)
-  extended_sound d e (term.Number n) s = tt
-  extended_sound d e term.X s = tt
-  extended_sound d e term.Pulse s = tt
-  extended_sound d e term.Release s = tt
-  extended_sound d e (term.Read s None) h = tt
-  extended_sound d e (term.Read s (Some f)) h = tt
-  extended_sound d e (term.Set ts) s = all_sound d e ts s
-  extended_sound d e (term.UnaryOf sign t) s = subst AllKnown (sym (extended_alike d e t).unknown) s
-  extended_sound d e (term.BinaryOf sign t u) s = tt
-
-  all_sound : (d : Context) (e : Extension) (ts : Terms) → AllSound d ts → AllSound d (extended_each e ts)
-  all_sound d e term.NoTerm s = tt
-  all_sound d e (term.Before t ts) s = (extended_sound d e t s.0, all_sound d e ts s.1)

@@ -3,12 +3,13 @@ use Rattle.std.proofs.Common.{◌≡◌, ◌⊎◌, inl, inr, ℕ, zero, suc, �
 use Rattle.std.proofs.lemmas.List.{reverse-append}
 use Rattle.std.proofs.lemmas.Option.{slice_get_within, slice_get-get_or, get_or_from_slice_get}
 use Rattle.bit_expr.specs.Arena.{MOST, arena, formula_at, Grew, Adds, PassesLimit}
-use Rattle.bit_expr.specs.Folding.{Made, free}
+use Rattle.bit_expr.specs.Folding.{Made, free, ◌>>=◌}
 use Rattle.bit_expr.specs.Formulas.{Formula, Const}
 use Rattle.bit_expr.specs.declared.fault.ExprFault.{ExprFault}
 use Rattle.bit_expr.specs.declared.fault.ExprFault.TheVariants as fault
 use Rattle.bit_expr.specs.declared.node.ExprId.{ExprId}
 use Rattle.bit_expr.specs.declared.node.Node.{Node}
+use Rattle.expr_bits.specs.Pieces.{or_and_of}
 use Rattle.expr_bits.specs.Making.{IsPast, ShowsOne, AllIn, word_at, Makes}
 
 cases_zero : (n : ℕ) → (n ≡ 0) ⊎ (0 < n)
@@ -57,6 +58,17 @@ then_all ShowsA ShowsB old mid new r (Err fault.NodeLimit) m k all a b e f = (
   (omega (arith, b.1.0, f), omega (arith, b.1.1, a.grew.count, f)),
 )
 then_all ShowsA ShowsB old mid new r (Err fault.OutOfMemory) m k all a b e f = λ i t g. b i t (a.grew.keeps i t g)
+
+-- two bits were made, and then `p # q & other` of them
+pub then_or_and : (old mid last new : List Node) (p q other : ExprId) (r : Result ExprId ExprFault) (f g : Made Formula) (h : Formula) → Makes ShowsOne old mid (Ok p) f → Makes ShowsOne mid last (Ok q) g → ShowsOne (arena old) other h
+    → Makes ShowsOne last new r (or_and_of (formula_at (arena last) p) (formula_at (arena last) q) (formula_at (arena last) other)) → Makes ShowsOne old new r (f >>= λ x. g >>= λ y. or_and_of x y h)
+then_or_and old mid last new p q other r f g h one two there made =
+    let x = (one_kept (arena mid) (arena last) g.nodes p f.what two.grew one.shows).1 in
+    let z = (one_kept (arena mid) (arena last) g.nodes other h two.grew (one_kept (arena old) (arena mid) f.nodes other h one.grew there)).1 in
+    let three : Makes ShowsOne last new r (or_and_of f.what g.what h) = rw (x, two.shows.1, z) at made in
+    then_all ShowsOne ShowsOne old mid new p r f (g >>= λ y. or_and_of f.what y h) (f >>= λ x. g >>= λ y. or_and_of x y h) one
+    (then_all ShowsOne ShowsOne mid last new q r g (or_and_of f.what g.what h) (g >>= λ y. or_and_of f.what y h) two three refl refl)
+    refl refl
 
 -- a part was refused
 pub stopped : {A B R S : Type 0} (ShowsA : List Formula → R → A → Type 0) (ShowsB : List Formula → S → B → Type 0) (old new : List Node) (e : ExprFault) (m : Made A) (all : Made B) → Makes ShowsA old new (Err e) m → m.nodes ≤ all.nodes → Makes ShowsB old new (Err e) all
@@ -154,10 +166,10 @@ word_past fs [] (suc i) h = refl
 word_past fs (x ∷ xs) zero h = absurd (omega (arith, h))
 word_past fs (x ∷ xs) (suc i) h = word_past fs xs i (omega (arith, h))
 
+pub in_append : (count : ℕ) (xs ys : List ExprId) → AllIn count xs → AllIn count ys → AllIn count (xs ++ ys)
+in_append count [] ys a b = b
+in_append count (x ∷ xs) ys a b = (a.0, in_append count xs ys a.1 b)
+
 pub in_reverse : (count : ℕ) (ids : List ExprId) → AllIn count ids → AllIn count (reverse ids)
 in_reverse count [] a = tt
-in_reverse count (x ∷ ids) a = rw (reverse-append (x ∷ []) ids) (in_behind count (reverse ids) x (in_reverse count ids a.1) a.0)
-  where
-    in_behind : (count : ℕ) (ids : List ExprId) (id : ExprId) → AllIn count ids → id.0 < count → AllIn count (ids ++ id ∷ [])
-    in_behind count [] id a h = (h, tt)
-    in_behind count (x ∷ xs) id a h = (a.0, in_behind count xs id a.1 h)
+in_reverse count (x ∷ ids) a = rw (reverse-append (x ∷ []) ids) (in_append count (reverse ids) (x ∷ []) (in_reverse count ids a.1) (a.0, tt))

@@ -1,6 +1,6 @@
 -- Values in so many positions.
-use Rattle.std.proofs.Common.{◌≡◌, ℕ, zero, suc, ◌+◌, ◌/◌, ◌<◌, ◌≤◌, max, Bool, true, false, ◌||◌, List, [], ◌∷◌, ◌++◌, length, get_or, drop, replicate, refl, sym, ap, ap₂, ◌∙◌, subst, arith}
-use Rattle.std.proofs.lemmas.List.{drop_all}
+use Rattle.std.proofs.Common.{◌≡◌, ℕ, zero, suc, ◌+◌, ◌/◌, ◌<◌, ◌≤◌, max, Bool, false, ◌||◌, List, [], ◌∷◌, ◌++◌, length, get_or, take, replicate, refl, sym, ap, ap₂, ◌∙◌, subst, arith, add-one}
+use Rattle.std.proofs.lemmas.List.{take_all, take_more}
 use Rattle.std.proofs.Math.Bool.{or-false}
 use Rattle.bit_expr.specs.declared.node.ExprId.{ExprId}
 use Rattle.bit_expr.specs.declared.node.Node.{Node}
@@ -52,32 +52,20 @@ met_set ns b v w k e is =
 
 -- ---- X on either side
 
-either_none : (xs : List Bool) → either_unknown xs [] ≡ xs
-either_none [] = refl
-either_none (x ∷ xs) = refl
+pub either_next : (xs ys : List Bool) (i : ℕ) → i < max (length xs) (length ys) → either_unknown (take (i + 1) xs) (take (i + 1) ys) ≡ either_unknown (take i xs) (take i ys) ++ (get_or xs i false || get_or ys i false) ∷ []
+either_next xs ys i h = ap (λ n. either_unknown (take n xs) (take n ys)) (add-one i) ∙ last xs ys i h
+  where
+    alone : (xs : List Bool) (i : ℕ) → i < length xs → take (suc i) xs ≡ take i xs ++ get_or xs i false ∷ []
+    alone xs i h = ap (λ n. take n xs) (sym (add-one i)) ∙ take_more xs i false h
 
-none_left : (ys : List Bool) (i : ℕ) → i < length ys → drop i ys ≡ get_or ys i false ∷ drop (i + 1) ys
-none_left [] i h = absurd (omega (arith, h))
-none_left (y ∷ ys) zero h = refl
-none_left (y ∷ ys) (suc i) h =
-    let place : suc (i + 1) ≡ suc i + 1 = omega arith in
-    none_left ys i (omega (arith, h)) ∙ ap (λ n. get_or ys i false ∷ drop n (y ∷ ys)) place
+    last : (xs ys : List Bool) (i : ℕ) → i < max (length xs) (length ys) → either_unknown (take (suc i) xs) (take (suc i) ys) ≡ either_unknown (take i xs) (take i ys) ++ (get_or xs i false || get_or ys i false) ∷ []
+    last [] [] i h = absurd (omega (arith, h))
+    last [] (y ∷ ys) zero h = refl
+    last [] (y ∷ ys) (suc i) h = ap (λ zs. y ∷ zs) (alone ys i (omega (arith, h)))
+    last (x ∷ xs) [] zero h = ap (λ b. b ∷ []) (sym (or-false x))
+    last (x ∷ xs) [] (suc i) h = ap (λ zs. x ∷ zs) (alone xs i (omega (arith, h)) ∙ ap (λ b. take i xs ++ b ∷ []) (sym (or-false (get_or xs i false))))
+    last (x ∷ xs) (y ∷ ys) zero h = refl
+    last (x ∷ xs) (y ∷ ys) (suc i) h = ap (λ zs. (x || y) ∷ zs) (last xs ys i (omega (arith, h)))
 
-pub either_next : (xs ys : List Bool) (i : ℕ) → i < max (length xs) (length ys) → either_unknown (drop i xs) (drop i ys) ≡ (get_or xs i false || get_or ys i false) ∷ either_unknown (drop (i + 1) xs) (drop (i + 1) ys)
-either_next [] ys i h =
-    ap (λ zs. either_unknown zs (drop i ys)) (drop_all i [] (omega arith))
-    ∙ none_left ys i (omega (arith, h))
-    ∙ ap (λ zs. get_or ys i false ∷ either_unknown zs (drop (i + 1) ys)) (sym (drop_all (i + 1) [] (omega arith)))
-either_next (x ∷ xs) [] i h =
-    ap (λ zs. either_unknown (drop i (x ∷ xs)) zs) (drop_all i [] (omega arith))
-    ∙ either_none (drop i (x ∷ xs))
-    ∙ none_left (x ∷ xs) i (omega (arith, h))
-    ∙ ap₂ (λ b zs. b ∷ zs) (sym (or-false (get_or (x ∷ xs) i false))) (sym (ap (λ zs. either_unknown (drop (i + 1) (x ∷ xs)) zs) (drop_all (i + 1) [] (omega arith)) ∙ either_none (drop (i + 1) (x ∷ xs))))
-either_next (x ∷ xs) (y ∷ ys) zero h = refl
-either_next (x ∷ xs) (y ∷ ys) (suc i) h =
-    let place : suc (i + 1) ≡ suc i + 1 = omega arith in
-    either_next xs ys i (omega (arith, h))
-    ∙ ap (λ n. (get_or xs i false || get_or ys i false) ∷ either_unknown (drop n (x ∷ xs)) (drop n (y ∷ ys))) place
-
-pub either_past : (xs ys : List Bool) (i : ℕ) → max (length xs) (length ys) ≤ i → either_unknown (drop i xs) (drop i ys) ≡ []
-either_past xs ys i h = ap₂ either_unknown (drop_all i xs (omega (arith, h))) (drop_all i ys (omega (arith, h)))
+pub either_all : (xs ys : List Bool) (i : ℕ) → max (length xs) (length ys) ≤ i → either_unknown (take i xs) (take i ys) ≡ either_unknown xs ys
+either_all xs ys i h = ap₂ either_unknown (take_all i xs (omega (arith, h))) (take_all i ys (omega (arith, h)))

@@ -14,12 +14,13 @@ use Rattle.abel_meaning.specs.FormulaBits.{kept_bits}
 use Rattle.abel_meaning.specs.Numbers.{Shape, Value, member_width, width_of, met_unknown, met_unknown_by, either_unknown}
 use Rattle.abel_meaning.specs.Numbers as number
 use Rattle.abel_meaning.specs.Values.{unary_value}
-use Rattle.expr_bits.specs.Making.{AllIn, word_at, ShowsAll, ShowsItems, ShowsOne, IsMade, Makes}
+use Rattle.expr_bits.specs.Making.{word_at, ShowsAll, ShowsItems, ShowsOne, IsMade, Makes}
 use Rattle.expr_bits.specs.declared.forms.Bits.{Bits}
 use Rattle.expr_bits.specs.declared.forms.Form.{Form}
 use Rattle.expr_bits.specs.declared.forms.Form.TheVariants as form
 use Rattle.expr_bits.specs.Parts.{Part, IsPart, under_part, width_of_two, word_in, relation_of, joined_part}
 use Rattle.expr_bits.specs.Showing.{HasForm, HasUnknown}
+use Rattle.expr_bits.proofs.Making.{in_append}
 use Rattle.expr_bits.proofs.WordLengths.{unary_length}
 
 pub shown_length : (fs : List Formula) (ids : List ExprId) (w : Word) → ShowsAll fs ids w → length ids ≡ length w
@@ -60,7 +61,7 @@ relation_made old new r sign p q width flags first second w f x y m =
 
 -- ---- a member before others
 
-member_flags : (s : Shape) (xs : List Bool) → ((k : ℕ) → s ≡ number.Set k → length xs ≡ k) → length (met_unknown_by (member_width s) s xs) ≡ member_width s
+pub member_flags : (s : Shape) (xs : List Bool) → ((k : ℕ) → s ≡ number.Set k → length xs ≡ k) → length (met_unknown_by (member_width s) s xs) ≡ member_width s
 member_flags number.Number xs h = refl
 member_flags number.Single [] h = refl
 member_flags number.Single (x ∷ xs) h = refl
@@ -73,10 +74,6 @@ set_flags form.Set v k m xs h u l e =
     let same : number.Set k ≡ number.Set m = sym h ∙ e in
     let width : k ≡ m = cc in
     ap length (sym u) ∙ l ∙ width
-
-all_in_append : (count : ℕ) (xs ys : List ExprId) → AllIn count xs → AllIn count ys → AllIn count (xs ++ ys)
-all_in_append count [] ys a b = b
-all_in_append count (x ∷ xs) ys a b = (a.0, all_in_append count xs ys a.1 b)
 
 pub joined_shown : (ns : List Node) (member others whole : Bits) (p q : Part) (width : ℕ) (ids : List ExprId) (flags : List Bool) → others.form ≡ form.Set → whole.form ≡ form.Set → width ≡ member_width p.value.shape
     → ShowsAll (arena ns) ids (word_in width p) → length ids ≡ width → flags ≡ met_unknown width p.value → whole.word ≡ others.word ++ ids → whole.unknown ≡ others.unknown ++ flags
@@ -95,5 +92,5 @@ joined_shown ns member others whole p q width ids flags o f w shows long flagged
       unknown = subst (λ g. HasUnknown g (joined_part p q).value whole.unknown) (sym f) (unknowns ∙ ap₂ (λ xs ys. xs ++ ys) known flags_here);
       positions = ap length unknowns ∙ length-append others.unknown flags ∙ omega (arith, rest.positions, flags_long, longer, long, w);
       word = subst (λ xs. ShowsAll (arena ns) xs (joined_part p q).word) (sym words)
-          (all_in_append (length (arena ns)) others.word ids rest.word.0 word_here.0, map-append (λ id. formula_at (arena ns) id) others.word ids ∙ ap₂ (λ xs ys. xs ++ ys) rest.word.1 word_here.1);
+          (in_append (length (arena ns)) others.word ids rest.word.0 word_here.0, map-append (λ id. formula_at (arena ns) id) others.word ids ∙ ap₂ (λ xs ys. xs ++ ys) rest.word.1 word_here.1);
     }

@@ -1,7 +1,5 @@
 -- Words of the positions of others: their loops, and the formulas of their ids.
-use Rattle.std.proofs.Common.{◌≡◌, ℕ, zero, suc, ◌+◌, ◌-◌, ◌/◌, ◌%◌, ◌<◌, ◌≤◌, ◌==◌, Bool, true, false, List, [], ◌∷◌, ◌++◌, ◌⊎◌, inl, inr, min, length, map, get_or, drop, replicate, Result, Ok, Err, IfOk, IfErr, refl, sym, ap, ap₂, ◌∙◌, subst, arith, append_assoc, append-nil, add-one}
-use Rattle.std.proofs.lemmas.Bool.{cases_lt}
-use Rattle.std.proofs.lemmas.List.{drop_all}
+use Rattle.std.proofs.Common.{◌≡◌, ℕ, zero, suc, ◌+◌, ◌/◌, ◌%◌, ◌<◌, ◌≤◌, ◌==◌, Bool, true, false, List, [], ◌∷◌, ◌++◌, min, length, map, get_or, take, replicate, Ok, refl, sym, ap, ap₂, ◌∙◌, subst, arith, append-nil, add-one}
 use Rattle.bit_expr.specs.declared.node.ExprId.{ExprId}
 use Rattle.bit_expr.specs.declared.node.Node.{Node}
 use Rattle.bit_expr.specs.Arena.{arena, formula_at}
@@ -10,114 +8,75 @@ use Rattle.abel_meaning.specs.FormulaBits.{resized, kept_bits}
 use Rattle.abel_meaning.specs.Numbers.{digits_low_first}
 use Rattle.std.specs.Global.{Vec}
 use Rattle.bit_expr.specs.Folding.{free}
-use Rattle.bit_expr.specs.declared.fault.ExprFault.{ExprFault}
-use Rattle.bit_expr.specs.declared.fault.ExprFault.TheVariants as fault
 use Rattle.expr_bits.specs.Making.{AllIn, word_at, ShowsAll, ShowsItems, Makes}
 use Rattle.expr_bits.proofs.Making.{nothing_made}
 use Rattle.expr_bits.specs.Positions.{bit_id, digit_ids, resized_ids, kept_ids}
 use Rattle.expr_bits.proofs.AlongWords.{zero_there, one_there, zero_is, one_is}
 
--- ---- loops: what is there, and what is left
+-- ---- loops: what is there of the first positions
 
-pub begins : {A : Type 0} (ids left all : List A) → ids ≡ [] → left ≡ all → ids ++ left ≡ all
-begins ids left all e f = ap (λ xs. xs ++ left) e ∙ f
+-- one more
+pub next : {A : Type 0} (ids some more : List A) (id : A) → more ≡ some ++ id ∷ [] → ids ≡ some → ids ++ id ∷ [] ≡ more
+next ids some more id e f = ap (λ xs. xs ++ id ∷ []) f ∙ sym e
 
-pub grows : {A : Type 0} (ids left rest all : List A) (id : A) → left ≡ id ∷ rest → ids ++ left ≡ all → (ids ++ id ∷ []) ++ rest ≡ all
-grows ids left rest all id e f = append_assoc ids (id ∷ []) rest ∙ ap (λ xs. ids ++ xs) (sym e) ∙ f
+-- a number without its last i digits
+abbrev pub halved : ℕ → ℕ → ℕ
+halved zero n = n
+halved (suc i) n = halved i (n / 2)
 
-pub ends : {A : Type 0} (ids left all : List A) → left ≡ [] → ids ++ left ≡ all → ids ≡ all
-ends ids left all e f = sym (append-nil ids) ∙ ap (λ xs. ids ++ xs) (sym e) ∙ f
-
-pub passed : (ids left rest all : List ExprId) → left ≡ rest → ids ++ left ≡ all → ids ++ rest ≡ all
-passed ids left rest all e f = ap (λ xs. ids ++ xs) (sym e) ∙ f
-
--- ---- digits
-
-pub digits_first : (w n : ℕ) → digit_ids (w - 0) n ≡ digit_ids w n
-digits_first w n = let e : w - 0 ≡ w = omega arith in ap (λ k. digit_ids k n) e
-
-pub digits_next : (w i n : ℕ) → i < w → digit_ids (w - i) n ≡ bit_id (n % 2 == 1) ∷ digit_ids (w - (i + 1)) (n / 2)
-digits_next w i n lt = let e : w - i ≡ suc (w - (i + 1)) = omega arith in ap (λ k. digit_ids k n) e
-
-pub digits_end : (w i n : ℕ) → w ≤ i → digit_ids (w - i) n ≡ []
-digits_end w i n h = let e : w - i ≡ 0 = omega arith in ap (λ k. digit_ids k n) e
-
--- ---- filled with zeros
-
-abbrev first_of : List ExprId → ExprId
-first_of [] = record { 0 = 0 }
-first_of (x ∷ xs) = x
-
-abbrev rest_of : List ExprId → List ExprId
-rest_of [] = []
-rest_of (x ∷ xs) = xs
-
-resized_suc : (w : ℕ) (xs : List ExprId) → resized_ids (suc w) xs ≡ first_of xs ∷ resized_ids w (rest_of xs)
-resized_suc w [] = refl
-resized_suc w (x ∷ xs) = refl
-
-drop_first : (i : ℕ) (xs : List ExprId) → first_of (drop i xs) ≡ get_or xs i (record { 0 = 0 })
-drop_first i [] = ap first_of (drop_all i [] (omega arith))
-drop_first zero (x ∷ xs) = refl
-drop_first (suc i) (x ∷ xs) = drop_first i xs
-
-drop_rest : (i : ℕ) (xs : List ExprId) → rest_of (drop i xs) ≡ drop (suc i) xs
-drop_rest i [] = ap rest_of (drop_all i [] (omega arith)) ∙ sym (drop_all (suc i) [] (omega arith))
-drop_rest zero (x ∷ xs) = refl
-drop_rest (suc i) (x ∷ xs) = drop_rest i xs
-
-pub resized_first : (w : ℕ) (xs : List ExprId) → resized_ids (w - 0) (drop 0 xs) ≡ resized_ids w xs
-resized_first w xs = let e : w - 0 ≡ w = omega arith in ap (λ k. resized_ids k (drop 0 xs)) e
-
-pub resized_next : (w i : ℕ) (xs : List ExprId) → i < w → resized_ids (w - i) (drop i xs) ≡ get_or xs i (record { 0 = 0 }) ∷ resized_ids (w - (i + 1)) (drop (i + 1) xs)
-resized_next w i xs lt =
-    let e : w - i ≡ suc (w - (i + 1)) = omega arith in
-    ap (λ k. resized_ids k (drop i xs)) e ∙ resized_suc (w - (i + 1)) (drop i xs)
-    ∙ ap₂ (λ y ys. y ∷ resized_ids (w - (i + 1)) ys) (drop_first i xs) (drop_rest i xs ∙ ap (λ k. drop k xs) (sym (add-one i)))
-
-pub resized_end : (w i : ℕ) (xs : List ExprId) → w ≤ i → resized_ids (w - i) (drop i xs) ≡ []
-resized_end w i xs h = let e : w - i ≡ 0 = omega arith in ap (λ k. resized_ids k (drop i xs)) e
-
--- ---- not dropped
-
-abbrev kept_first : Bool → ExprId → List ExprId → List ExprId
-kept_first true x xs = xs
-kept_first false x xs = x ∷ xs
-
-kept_one : (b : Bool) (bs : List Bool) (x : ExprId) (xs : List ExprId) → kept_ids (b ∷ bs) (x ∷ xs) ≡ kept_first b x (kept_ids bs xs)
-kept_one true bs x xs = refl
-kept_one false bs x xs = refl
-
-kept_next : (bs : List Bool) (xs : List ExprId) (i : ℕ) (b : Bool) (x : ExprId) → i < length bs → i < length xs → kept_ids (drop i bs) (drop i xs) ≡ kept_first (get_or bs i b) (get_or xs i x) (kept_ids (drop (i + 1) bs) (drop (i + 1) xs))
-kept_next [] xs i b x h k = absurd (omega (arith, h))
-kept_next (c ∷ bs) [] i b x h k = absurd (omega (arith, k))
-kept_next (c ∷ bs) (y ∷ xs) zero b x h k = kept_one c bs y xs
-kept_next (c ∷ bs) (y ∷ xs) (suc i) b x h k =
-    let place : suc (i + 1) ≡ suc i + 1 = omega arith in
-    kept_next bs xs i b x (omega (arith, h)) (omega (arith, k))
-    ∙ ap (λ n. kept_first (get_or bs i b) (get_or xs i x) (kept_ids (drop n (c ∷ bs)) (drop n (y ∷ xs)))) place
-
-pub kept_dropped : (bs : List Bool) (xs : List ExprId) (i : ℕ) (b : Bool) (x : ExprId) → i < length bs → i < length xs → get_or bs i b ≡ true → kept_ids (drop i bs) (drop i xs) ≡ kept_ids (drop (i + 1) bs) (drop (i + 1) xs)
-kept_dropped bs xs i b x h k e = kept_next bs xs i b x h k ∙ ap (λ c. kept_first c (get_or xs i x) (kept_ids (drop (i + 1) bs) (drop (i + 1) xs))) e
-
-pub kept_stays : (bs : List Bool) (xs : List ExprId) (i : ℕ) (b : Bool) (x : ExprId) → i < length bs → i < length xs → get_or bs i b ≡ false → kept_ids (drop i bs) (drop i xs) ≡ get_or xs i x ∷ kept_ids (drop (i + 1) bs) (drop (i + 1) xs)
-kept_stays bs xs i b x h k e = kept_next bs xs i b x h k ∙ ap (λ c. kept_first c (get_or xs i x) (kept_ids (drop (i + 1) bs) (drop (i + 1) xs))) e
-
-kept_none : (bs : List Bool) → kept_ids bs [] ≡ []
-kept_none [] = refl
-kept_none (b ∷ bs) = refl
-
-kept_no_flag : (bs : List Bool) (xs : List ExprId) (i : ℕ) → length bs ≤ i → kept_ids (drop i bs) (drop i xs) ≡ []
-kept_no_flag bs xs i h = ap (λ cs. kept_ids cs (drop i xs)) (drop_all i bs h)
-
-kept_no_bit : (bs : List Bool) (xs : List ExprId) (i : ℕ) → length xs ≤ i → kept_ids (drop i bs) (drop i xs) ≡ []
-kept_no_bit bs xs i h = ap (λ ys. kept_ids (drop i bs) ys) (drop_all i xs h) ∙ kept_none (drop i bs)
-
-pub kept_past : (bs : List Bool) (xs : List ExprId) (i : ℕ) → min (length xs) (length bs) ≤ i → kept_ids (drop i bs) (drop i xs) ≡ []
-kept_past bs xs i h = elim (either (length xs) (length bs) i h) [ inl k ↦ kept_no_bit bs xs i k | inr k ↦ kept_no_flag bs xs i k ]
+pub halved_next : (i n rest : ℕ) → rest ≡ halved i n → rest / 2 ≡ halved (i + 1) n
+halved_next i n rest e = ap (λ m. m / 2) e ∙ last i n ∙ ap (λ k. halved k n) (sym (add-one i))
   where
-    either : (m n k : ℕ) → min m n ≤ k → (m ≤ k) ⊎ (n ≤ k)
-    either m n k h = elim (cases_lt k m) [ inl e ↦ inr (omega (arith, h, e)) | inr e ↦ inl e ]
+    last : (i n : ℕ) → halved i n / 2 ≡ halved (suc i) n
+    last zero n = refl
+    last (suc i) n = last i (n / 2)
+
+pub digits_next : (i n rest : ℕ) → rest ≡ halved i n → digit_ids (i + 1) n ≡ digit_ids i n ++ bit_id (rest % 2 == 1) ∷ []
+digits_next i n rest e = ap (λ k. digit_ids k n) (add-one i) ∙ last i n ∙ ap (λ m. digit_ids i n ++ bit_id (m % 2 == 1) ∷ []) (sym e)
+  where
+    last : (i n : ℕ) → digit_ids (suc i) n ≡ digit_ids i n ++ bit_id (halved i n % 2 == 1) ∷ []
+    last zero n = refl
+    last (suc i) n = ap (λ ids. bit_id (n % 2 == 1) ∷ ids) (last i (n / 2))
+
+pub resized_next : (i : ℕ) (xs : List ExprId) → resized_ids (i + 1) xs ≡ resized_ids i xs ++ get_or xs i (record { 0 = 0 }) ∷ []
+resized_next i xs = ap (λ k. resized_ids k xs) (add-one i) ∙ last i xs
+  where
+    last : (i : ℕ) (xs : List ExprId) → resized_ids (suc i) xs ≡ resized_ids i xs ++ get_or xs i (record { 0 = 0 }) ∷ []
+    last zero [] = refl
+    last zero (x ∷ xs) = refl
+    last (suc i) [] = ap (λ ys. bit_id false ∷ ys) (last i [])
+    last (suc i) (x ∷ xs) = ap (λ ys. x ∷ ys) (last i xs)
+
+-- one position, if it is not dropped
+abbrev kept_one : Bool → ExprId → List ExprId
+kept_one true x = []
+kept_one false x = x ∷ []
+
+kept_next : (bs : List Bool) (xs : List ExprId) (i : ℕ) (b : Bool) (x : ExprId) → i < length bs → i < length xs → kept_ids (take (i + 1) bs) (take (i + 1) xs) ≡ kept_ids (take i bs) (take i xs) ++ kept_one (get_or bs i b) (get_or xs i x)
+kept_next bs xs i b x h k = ap (λ n. kept_ids (take n bs) (take n xs)) (add-one i) ∙ last bs xs i h k
+  where
+    last : (bs : List Bool) (xs : List ExprId) (i : ℕ) → i < length bs → i < length xs → kept_ids (take (suc i) bs) (take (suc i) xs) ≡ kept_ids (take i bs) (take i xs) ++ kept_one (get_or bs i b) (get_or xs i x)
+    last [] xs i h k = absurd (omega (arith, h))
+    last (c ∷ bs) [] i h k = absurd (omega (arith, k))
+    last (true ∷ bs) (y ∷ xs) zero h k = refl
+    last (false ∷ bs) (y ∷ xs) zero h k = refl
+    last (true ∷ bs) (y ∷ xs) (suc i) h k = last bs xs i (omega (arith, h)) (omega (arith, k))
+    last (false ∷ bs) (y ∷ xs) (suc i) h k = ap (λ ys. y ∷ ys) (last bs xs i (omega (arith, h)) (omega (arith, k)))
+
+pub kept_dropped : (bs : List Bool) (xs : List ExprId) (i : ℕ) (b : Bool) (x : ExprId) → i < length bs → i < length xs → get_or bs i b ≡ true → kept_ids (take (i + 1) bs) (take (i + 1) xs) ≡ kept_ids (take i bs) (take i xs)
+kept_dropped bs xs i b x h k e = kept_next bs xs i b x h k ∙ ap (λ c. kept_ids (take i bs) (take i xs) ++ kept_one c (get_or xs i x)) e ∙ append-nil (kept_ids (take i bs) (take i xs))
+
+pub kept_stays : (bs : List Bool) (xs : List ExprId) (i : ℕ) (b : Bool) (x : ExprId) → i < length bs → i < length xs → get_or bs i b ≡ false → kept_ids (take (i + 1) bs) (take (i + 1) xs) ≡ kept_ids (take i bs) (take i xs) ++ get_or xs i x ∷ []
+kept_stays bs xs i b x h k e = kept_next bs xs i b x h k ∙ ap (λ c. kept_ids (take i bs) (take i xs) ++ kept_one c (get_or xs i x)) e
+
+pub kept_all : (bs : List Bool) (xs : List ExprId) (i : ℕ) → min (length xs) (length bs) ≤ i → kept_ids (take i bs) (take i xs) ≡ kept_ids bs xs
+kept_all [] xs zero h = refl
+kept_all [] xs (suc i) h = refl
+kept_all (b ∷ bs) [] zero h = refl
+kept_all (b ∷ bs) [] (suc i) h = refl
+kept_all (b ∷ bs) (x ∷ xs) zero h = absurd (omega (arith, h))
+kept_all (true ∷ bs) (x ∷ xs) (suc i) h = kept_all bs xs i (omega (arith, h))
+kept_all (false ∷ bs) (x ∷ xs) (suc i) h = ap (λ ys. x ∷ ys) (kept_all bs xs i (omega (arith, h)))
 
 -- ---- formulas of these ids
 
@@ -183,6 +142,5 @@ zeros_at ns (x ∷ xs) = ap₂ (λ y ys. y ∷ ys) (zero_is ns) (zeros_at ns xs)
 pub zeros_in : (ns : List Node) (w : ℕ) → AllIn (length (arena ns)) (replicate w (record { 0 = 0 }))
 zeros_in ns w = spread_in (length (arena ns)) w (record { 0 = 0 }) (zero_there ns)
 
-pub zeros_made : (old : List Node) (xs : List ExprId) (r : Result (Vec ExprId) ExprFault) → IfErr r (λ e. e ≡ fault.OutOfMemory) → IfOk r (λ ids. ids.items ≡ replicate (length xs) (record { 0 = 0 })) → Makes ShowsItems old old r (free (map (λ x. Const false) (word_at (arena old) xs)))
-zeros_made old xs (Ok ids) e z = nothing_made ShowsItems old ids _ (subst (λ ys. ShowsAll (arena old) ys (map (λ x. Const false) (word_at (arena old) xs))) (sym z) (zeros_in old (length xs), zeros_at old xs))
-zeros_made old xs (Err x) e z = rw e (λ i f g. g)
+pub zeros_made : (old : List Node) (xs : List ExprId) (ids : Vec ExprId) → ids.items ≡ replicate (length xs) (record { 0 = 0 }) → Makes ShowsItems old old (Ok ids) (free (map (λ x. Const false) (word_at (arena old) xs)))
+zeros_made old xs ids z = nothing_made ShowsItems old ids _ (subst (λ ys. ShowsAll (arena old) ys (map (λ x. Const false) (word_at (arena old) xs))) (sym z) (zeros_in old (length xs), zeros_at old xs))

@@ -26,17 +26,10 @@ alike_leaf s l None = refl
 alike_leaf s l (Some extension.Q) = refl
 alike_leaf s l (Some extension.Fb) = refl
 alike_leaf s l (Some extension.Pin) = refl
-alike_leaf s l (Some extension.Clk) = refl
-alike_leaf s l (Some extension.Oe) = refl
-alike_leaf s l (Some extension.Ar) = refl
-alike_leaf s l (Some extension.Sp) = refl
-alike_leaf s l (Some extension.D) = refl
+alike_leaf s l (Some _) = refl
 
 pub nothing_found : Finds no_reads false (λ e. false)
 nothing_found = record { signal = refl; leaf = alike_leaf false false }
-
-pub number_read : (d : Context) (n : ℕ) → IsReads d no_reads (term.Number n)
-number_read d n = nothing_found
 
 -- one more of several
 pub more_found : {A : Type 0} (r s u : Reads) (f : A → Bool) (g : Option Extension → A → Bool) (xs ys : List A) (x : A) → ys ≡ xs ++ x ∷ [] → u.signal ≡ (r.signal || s.signal) → ((e : Option Extension) → leaf_under u e ≡ (leaf_under r e || leaf_under s e))

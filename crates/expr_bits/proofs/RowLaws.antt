@@ -1,5 +1,5 @@
 -- Rows, by the places of their names.
-use Rattle.std.proofs.Common.{◌≡◌, ℕ, zero, suc, ◌+◌, ◌<◌, ◌≤◌, Option, None, Some, List, [], ◌∷◌, ◌++◌, IfSome, get_or, length, slice_get, take, refl, sym, ap, ◌∙◌, subst, arith}
+use Rattle.std.proofs.Common.{◌≡◌, ℕ, zero, suc, ◌+◌, ◌<◌, Option, None, Some, List, [], ◌∷◌, ◌++◌, get_or, length, slice_get, take, refl, sym, ap, ◌∙◌, subst, arith}
 use Rattle.std.proofs.lemmas.Option.{slice_get_within, slice_get-get_or}
 use Rattle.pld_device.specs.Table.{Table}
 use Rattle.abel_tree.specs.declared.names.Names.{Names}
@@ -13,7 +13,7 @@ use Rattle.expr_bits.specs.Reads.{IsReads}
 use Rattle.expr_bits.specs.Stacks.{here_term}
 use Rattle.expr_bits.specs.Still.{AreRows, IsRow, reads_at, reads_of_row}
 use Rattle.expr_bits.proofs.NamesBefore.{here_is, named_past, none_past}
-use Rattle.expr_bits.proofs.ReadLaws.{number_read}
+use Rattle.expr_bits.proofs.ReadLaws.{nothing_found}
 
 -- what the row of a name is that of
 abbrev pub IsRowOf : List Entry → Context → (k : ℕ) → Row → Type 0
@@ -37,7 +37,7 @@ pub named_reads : (es : List Entry) (d : Context) (rs : List Row) (w : List ℕ)
 named_reads es d rs w k h f = by (slice_get rs k) refl
   where
     by : (o : Option Row) → slice_get rs k ≡ o → IsReads d (reads_of_row o) (term_named (known_of (take (length rs) es)) w)
-    by None e = subst (IsReads d (reads_of_row None)) (sym (named_past (length rs) k es w f (none_past rs k e))) (number_read d 0)
+    by None e = subst (IsReads d (reads_of_row None)) (sym (named_past (length rs) k es w f (none_past rs k e))) nothing_found
     by (Some r) e = subst (IsReads d r.reads) (sym (here_is (length rs) k es w f (slice_get_within rs k r e))) (row_got es d rs k r h e).0
 
 -- the row of a signal
@@ -60,7 +60,3 @@ signal_row t n k x r s e meant is reads =
 pub row_more : (es : List Entry) (d : Context) (k : ℕ) (rs : List Row) (r : Row) → AreRows es d k rs → IsRowOf es d (k + length rs) r → AreRows es d k (rs ++ r ∷ [])
 row_more es d k [] r h g = (subst (λ j. IsRowOf es d j r) (omega arith) g, tt)
 row_more es d k (x ∷ rs) r h g = (h.0, row_more es d (suc k) rs r h.1 (subst (λ j. IsRowOf es d j r) (omega arith) g))
-
-pub some_weaker : {A : Type 0} (o : Option A) (P Q : A → Type 0) → ((a : A) → P a → Q a) → IfSome o P → IfSome o Q
-some_weaker None P Q f h = tt
-some_weaker (Some a) P Q f h = f a h

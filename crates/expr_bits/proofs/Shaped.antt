@@ -1,6 +1,5 @@
 -- The positions of bits are those of a value.
-use Rattle.std.proofs.Common.{◌≡◌, ℕ, zero, suc, ◌+◌, ◌<◌, ◌≤◌, Bool, true, false, Option, None, Some, List, [], ◌∷◌, ◌++◌, length, get_or, drop, refl, sym, ap, ap₂, ◌∙◌, subst, arith, append-nil}
-use Rattle.std.proofs.lemmas.List.{drop_all}
+use Rattle.std.proofs.Common.{◌≡◌, ℕ, zero, suc, ◌+◌, ◌<◌, Bool, true, false, Option, None, Some, List, [], ◌∷◌, ◌++◌, length, get_or, take, refl, sym, ap, ap₂, ◌∙◌, subst, arith, add-one}
 use Rattle.bit_expr.specs.declared.node.ExprId.{ExprId}
 use Rattle.bit_expr.specs.Arena.{formula_at}
 use Rattle.bit_expr.specs.Formulas.{Formula}
@@ -17,19 +16,16 @@ use Rattle.expr_bits.specs.declared.forms.Form.TheVariants as form
 use Rattle.expr_bits.specs.Showing.{HasForm, HasUnknown, IsBits}
 use Rattle.expr_bits.specs.Shaping.{IsBlank, place_of, places_of, shape_of}
 
--- ---- loops: what is there, and what is left
+-- ---- the loop: what is there of the first positions
 
-pub places_next : (ids : List ExprId) (xs : List Bool) (i : ℕ) (d : ExprId) (x : Bool) → i < length ids → length xs ≡ length ids → places_of (drop i ids) (drop i xs) ≡ place_of (get_or ids i d) (get_or xs i x) ∷ places_of (drop (i + 1) ids) (drop (i + 1) xs)
-places_next [] xs i d x h e = absurd (omega (arith, h))
-places_next (y ∷ ids) [] i d x h e = absurd (omega (arith, e))
-places_next (y ∷ ids) (z ∷ xs) zero d x h e = refl
-places_next (y ∷ ids) (z ∷ xs) (suc i) d x h e =
-    let place : suc (i + 1) ≡ suc i + 1 = omega arith in
-    places_next ids xs i d x (omega (arith, h)) (omega (arith, e))
-    ∙ ap (λ n. place_of (get_or ids i d) (get_or xs i x) ∷ places_of (drop n (y ∷ ids)) (drop n (z ∷ xs))) place
-
-pub places_end : (ps : List (Option ExprId)) (ids : List ExprId) (xs : List Bool) (i : ℕ) (all : List (Option ExprId)) → length ids ≤ i → ps ++ places_of (drop i ids) (drop i xs) ≡ all → ps ≡ all
-places_end ps ids xs i all h e = sym (append-nil ps) ∙ ap (λ left. ps ++ places_of left (drop i xs)) (sym (drop_all i ids h)) ∙ e
+pub places_next : (ids : List ExprId) (xs : List Bool) (i : ℕ) (d : ExprId) (x : Bool) → i < length ids → length xs ≡ length ids → places_of (take (i + 1) ids) (take (i + 1) xs) ≡ places_of (take i ids) (take i xs) ++ place_of (get_or ids i d) (get_or xs i x) ∷ []
+places_next ids xs i d x h e = ap (λ n. places_of (take n ids) (take n xs)) (add-one i) ∙ last ids xs i h e
+  where
+    last : (ids : List ExprId) (xs : List Bool) (i : ℕ) → i < length ids → length xs ≡ length ids → places_of (take (suc i) ids) (take (suc i) xs) ≡ places_of (take i ids) (take i xs) ++ place_of (get_or ids i d) (get_or xs i x) ∷ []
+    last [] xs i h e = absurd (omega (arith, h))
+    last (y ∷ ids) [] i h e = absurd (omega (arith, e))
+    last (y ∷ ids) (z ∷ xs) zero h e = refl
+    last (y ∷ ids) (z ∷ xs) (suc i) h e = ap (λ ps. place_of y z ∷ ps) (last ids xs i (omega (arith, h)) (omega (arith, e)))
 
 -- ---- positions
 

@@ -1,11 +1,14 @@
 -- A stack of values in the arena: one more, one taken, and all of them while the arena grows.
-use Rattle.std.proofs.Common.{◌≡◌, ℕ, ◌-◌, List, [], ◌∷◌, ◌++◌, length, reverse, refl, sym, ap, ◌∙◌, subst, take, append-nil}
+use Rattle.std.proofs.Common.{◌≡◌, ℕ, ◌-◌, List, [], ◌∷◌, ◌++◌, length, reverse, refl, sym, ap, ◌∙◌, subst, take, append-nil, arith}
+use Rattle.std.proofs.lemmas.List.{reverse-append}
 use Rattle.std.specs.Global.{Vec}
 use Rattle.bit_expr.specs.declared.node.Node.{Node}
 use Rattle.bit_expr.specs.Arena.{arena, Grew}
 use Rattle.bit_expr.specs.Folding.{Made}
 use Rattle.bit_expr.specs.Formulas.{Formula}
+use Rattle.abel_meaning.specs.Designs.{Context}
 use Rattle.abel_meaning.specs.Numbers.{Set}
+use Rattle.abel_meaning.specs.Terms.{Term}
 use Rattle.expr_bits.specs.Making.{IsMade}
 use Rattle.expr_bits.proofs.Making.{in_kept, word_kept}
 use Rattle.expr_bits.specs.declared.forms.Bits.{Bits}
@@ -14,7 +17,8 @@ use Rattle.expr_bits.specs.declared.forms.Form.TheVariants as form
 use Rattle.expr_bits.specs.Parts.{Part, IsPart, no_part}
 use Rattle.expr_bits.specs.Showing.{HasForm}
 use Rattle.expr_bits.specs.Stacks.{AreParts, AreStacked, ShowsStack}
-use Rattle.expr_bits.specs.Steps.{as_set, pushed, set_by}
+use Rattle.expr_bits.specs.Steps.{as_set, pushed, set_by, term_part}
+use Rattle.expr_bits.specs.Still.{IsKept}
 
 pub part_kept : (old new : List Formula) (n : ℕ) (b : Bits) (p : Part) → Grew old new n → IsPart old b p → IsPart new b p
 part_kept old new n b p g is =
@@ -53,16 +57,28 @@ no_set form.Set k p h is = absurd (h refl)
 pub set_empty : (fs : List Formula) (b empty : Bits) (p : Part) → (b.form ≡ form.Set → ⊥) → IsPart fs b p → IsPart fs empty no_part → IsPart fs empty (as_set p)
 set_empty fs b empty p h is none = subst (IsPart fs empty) (sym (no_set b.form (length b.word) p h is.form)) none
 
--- ---- something made, on top
+-- ---- one more, on top
 
--- by what puts it there
-pub put_made : (old new : List Node) (b : Bits) (bs : List Bits) (vs : Vec Bits) (m : Made Part) (ps : List Part) → IsMade IsPart (arena old) (arena new) b m → AreStacked (arena old) bs ps
-    → ((fs : List Formula) (ps : List Part) (p : Part) → AreStacked fs bs ps → IsPart fs b p → ShowsStack fs vs (p ∷ ps)) → IsMade ShowsStack (arena old) (arena new) vs (pushed m ps)
-put_made old new b bs vs m ps made are put =
+stacked_more : (fs : List Formula) (bs new : List Bits) (b : Bits) (ps : List Part) (p : Part) → new ≡ bs ++ b ∷ [] → AreStacked fs bs ps → IsPart fs b p → AreStacked fs new (p ∷ ps)
+stacked_more fs bs new b ps p e are is = subst (λ xs. AreParts fs xs (p ∷ ps)) (sym (ap reverse e ∙ reverse-append bs (b ∷ []))) (is, are)
+
+-- something made
+pub put_made : (old new : List Node) (b : Bits) (bs : List Bits) (vs : Vec Bits) (m : Made Part) (ps : List Part) → vs.items ≡ bs ++ b ∷ [] → IsMade IsPart (arena old) (arena new) b m → AreStacked (arena old) bs ps → IsMade ShowsStack (arena old) (arena new) vs (pushed m ps)
+put_made old new b bs vs m ps e made are =
     record {
-      shows = put (arena new) ps m.what (parts_kept (arena old) (arena new) m.nodes (reverse bs) ps made.grew are) made.shows;
+      shows = stacked_more (arena new) bs vs.items b ps m.what e (parts_kept (arena old) (arena new) m.nodes (reverse bs) ps made.grew are) made.shows;
       grew = made.grew;
       within = made.within;
+    }
+
+-- a copy of bits that are kept, which makes no node
+pub put_kept : (d : Context) (ns : List Node) (kept copy : Bits) (bs : List Bits) (vs : Vec Bits) (t : Term) (ps : List Part) → vs.items ≡ bs ++ copy ∷ [] → IsKept d kept t → ((fs : List Formula) (p : Part) → IsPart fs kept p → IsPart fs copy p) → AreStacked (arena ns) bs ps
+    → IsMade ShowsStack (arena ns) (arena ns) vs (pushed (term_part d t) ps)
+put_kept d ns kept copy bs vs t ps e is same are =
+    record {
+      shows = stacked_more (arena ns) bs vs.items copy ps (term_part d t).what e are (same (arena ns) (term_part d t).what (is.shows ns));
+      grew = record { keeps = λ i f h. h; count = omega (arith, is.free) };
+      within = λ p. omega (arith, p.0, is.free);
     }
 
 pub none_left : {X : Type 0} (old new : List X) (len : ℕ) → old ≡ new ++ [] → new ≡ take (len - 1) old → len ≡ 0 → old ≡ []

@@ -1,19 +1,18 @@
 -- Operators on two values make the bits of values.
-use Rattle.std.proofs.Common.{◌≡◌, ℕ, zero, suc, ◌+◌, Bool, false, List, [], ◌∷◌, length, replicate, Err, refl, sym, ap, ◌∙◌, subst, arith}
-use Rattle.std.proofs.lemmas.List.{length-map, length-replicate}
+use Rattle.std.proofs.Common.{◌≡◌, ℕ, ◌+◌, Bool, false, List, [], ◌∷◌, length, replicate, Err, refl, sym, ap, ◌∙◌, subst, arith}
+use Rattle.std.proofs.lemmas.List.{length-replicate}
 use Rattle.std.specs.Global.{Vec}
 use Rattle.bit_expr.specs.declared.fault.ExprFault.{ExprFault}
 use Rattle.bit_expr.specs.declared.node.ExprId.{ExprId}
 use Rattle.bit_expr.specs.declared.node.Node.{Node}
 use Rattle.bit_expr.specs.Arena.{arena, Grew}
 use Rattle.bit_expr.specs.Folding.{Made, free, ◌>>=◌}
-use Rattle.bit_expr.specs.Formulas.{Formula, Const}
+use Rattle.bit_expr.specs.Formulas.{Formula}
 use Rattle.abel_tree.specs.declared.words.Binary.{Binary}
 use Rattle.abel_meaning.specs.BitWords.{Word, operator_bits}
-use Rattle.abel_meaning.specs.FormulaBits.{met_by, resized, operator_word}
-use Rattle.abel_meaning.specs.Numbers.{Shape, Value, meeting, width_of, digits_low_first}
+use Rattle.abel_meaning.specs.FormulaBits.{operator_word}
+use Rattle.abel_meaning.specs.Numbers.{Shape, Value, meeting, width_of}
 use Rattle.abel_meaning.specs.Numbers as number
-use Rattle.abel_meaning.proofs.DigitLaws.{length_digits}
 use Rattle.expr_bits.specs.Making.{ShowsAll, ShowsItems, ShowsOne, IsMade, Makes}
 use Rattle.expr_bits.proofs.Making.{grew_none, stopped}
 use Rattle.expr_bits.specs.declared.forms.Bits.{Bits}
@@ -24,29 +23,6 @@ use Rattle.expr_bits.specs.Parts.{Part, IsPart, with_value, number_part, width_o
 use Rattle.expr_bits.specs.Showing.{HasForm, HasUnknown, IsBits}
 use Rattle.expr_bits.proofs.OperatedBits.{shown_length}
 use Rattle.expr_bits.proofs.WordLengths.{operator_length}
-
--- ---- how long a word in so many positions is
-
-resized_long : (w : ℕ) (x : Word) → length (resized w x) ≡ w
-resized_long zero x = refl
-resized_long (suc w) [] = ap suc (resized_long w [])
-resized_long (suc w) (x ∷ xs) = ap suc (resized_long w xs)
-
-met_long : (w : ℕ) (s : Shape) (n : ℕ) (x : Word) → (s ≡ number.Single → length x ≡ 1) → length (met_by w s n x) ≡ w
-met_long w number.Number n x h = length-map (digits_low_first w n) Const ∙ length_digits w n
-met_long w number.Single n [] h = let e = h refl in absurd (omega (arith, e))
-met_long w number.Single n (x ∷ xs) h = length-replicate w x
-met_long w (number.Set v) n x h = resized_long w x
-
-one_long : (f : Form) (v : Value) (k : ℕ) → HasForm f v k → v.shape ≡ number.Single → k ≡ 1
-one_long (form.Number n) v k h e = let p = h.0.0 in absurd (cc)
-one_long form.Single v k h e = h.1
-one_long form.Set v k h e = absurd (cc)
-
-pub word_long : (fs : List Formula) (b : Bits) (p : Part) (w : ℕ) → IsPart fs b p → length (word_in w p) ≡ w
-word_long fs b p w is =
-    met_long w p.value.shape p.value.number p.word
-    (λ e. sym (shown_length fs b.word p.word is.word) ∙ one_long b.form p.value (length b.word) is.form e)
 
 -- ---- values that have bits
 
@@ -79,13 +55,11 @@ flags_are (form.Number n) v xs p e = absurd (p n refl)
 flags_are form.Single v xs p e = e
 flags_are form.Set v xs p e = e
 
-pub operated_made : (old new : List Node) (left right made : Bits) (sign : Binary) (ids : Vec ExprId) (p q : Part) → IsPart (arena old) left p → IsPart (arena old) right q
+pub operated_made : (old new : List Node) (made : Bits) (sign : Binary) (ids : Vec ExprId) (p q : Part) → length (word_in (width_of_two p q) p) ≡ width_of_two p q → length (word_in (width_of_two p q) q) ≡ width_of_two p q
     → IsMade ShowsItems (arena old) (arena new) ids (operator_bits sign (word_in (width_of_two p q) p) (word_in (width_of_two p q) q)) → made.word ≡ ids.items → made.unknown ≡ replicate (width_of_two p q) false → MeetsAs made.form (computed_value sign p q) → IsNoNumber made.form
     → IsMade IsPart (arena old) (arena new) made (computed_part sign p q)
-operated_made old new left right made sign ids p q l r n words known meets has =
+operated_made old new made sign ids p q pl ql n words known meets has =
     let wide = width_of_two p q in
-    let pl = word_long (arena old) left p wide l in
-    let ql = word_long (arena old) right q wide r in
     let long : length made.word ≡ wide = ap length words ∙ shown_length (arena new) ids.items (operator_bits sign (word_in wide p) (word_in wide q)).what n.shows ∙ operator_length sign (word_in wide p) (word_in wide q) (pl ∙ sym ql) ∙ pl in
     let at : positions_of (computed_value sign p q).shape ≡ length made.word = sym (width_positions made.form (computed_value sign p q) meets has) ∙ sym long in
     subst (λ m. IsMade IsPart (arena old) (arena new) made (with_value (computed_value sign p q) m)) (operated_word sign made.form p q meets has)

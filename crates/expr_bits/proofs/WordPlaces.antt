@@ -1,8 +1,7 @@
 -- The loop over positions.
-use Rattle.std.proofs.Common.{◌≡◌, ℕ, ◌+◌, ◌<◌, ◌≤◌, nat_eq, Bool, true, false, List, [], ◌∷◌, ◌++◌, length, get_or, drop, Result, Ok, Err, refl, sym, ap, ap₂, ◌∙◌, subst, arith, append_assoc, append-nil, length-drop, ◌-◌, ◌≢◌, ◌⊎◌, inl, inr}
-use Rattle.std.proofs.lemmas.Bool.{cases_eq}
+use Rattle.std.proofs.Common.{◌≡◌, ℕ, ◌+◌, ◌<◌, ◌≤◌, nat_eq, Bool, true, false, List, [], ◌∷◌, ◌++◌, length, get_or, drop, Result, Ok, Err, refl, sym, ap, ap₂, ◌∙◌, subst, arith, append_assoc, append-nil, length-drop, ◌-◌, ◌≢◌}
 use Rattle.std.proofs.lemmas.Bool.Decides.{nat_tests}
-use Rattle.std.proofs.lemmas.List.{length-map}
+use Rattle.std.proofs.lemmas.List.{length-map, map-append}
 use Rattle.std.specs.Global.{Vec}
 use Rattle.bit_expr.specs.Arena.{arena, formula_at}
 use Rattle.bit_expr.specs.Folding.{Made, free, ◌>>=◌}
@@ -15,7 +14,7 @@ use Rattle.abel_meaning.specs.BitWords.{Word}
 use Rattle.expr_bits.specs.declared.steps.Step.{Step}
 use Rattle.expr_bits.specs.Along.{along, step_by, is_last}
 use Rattle.expr_bits.specs.Making.{ShowsOne, ShowsTwo, ShowsItems, AllIn, word_at, Makes}
-use Rattle.expr_bits.proofs.Making.{Going, going_start, going_on, going_stop, going_done, in_at, in_kept, word_kept, word_drop, word_past, kept}
+use Rattle.expr_bits.proofs.Making.{Going, going_start, going_on, going_stop, going_done, in_append, in_at, in_kept, word_kept, word_drop, word_past, kept}
 
 -- the bits so far, and the carry
 abbrev pub Running : List Formula → Vec ExprId × ExprId → Word × Formula → Type 0
@@ -25,22 +24,6 @@ Running fs r a = ShowsItems fs r.0 a.0 × ShowsOne fs r.1 a.1
 abbrev pub left : Step → Word → Word → ℕ → Word × Formula → Made Word
 left g xs ys i a = along g a.1 (drop i xs) (drop i ys) >>= λ us. free (a.0 ++ us)
 
-in_push : (count : ℕ) (ids : List ExprId) (id : ExprId) → AllIn count ids → id.0 < count → AllIn count (ids ++ id ∷ [])
-in_push count [] id a h = (h, tt)
-in_push count (x ∷ xs) id a h = (a.0, in_push count xs id a.1 h)
-
-word_push : (fs : List Formula) (ids : List ExprId) (id : ExprId) → word_at fs (ids ++ id ∷ []) ≡ word_at fs ids ++ formula_at fs id ∷ []
-word_push fs [] id = refl
-word_push fs (x ∷ xs) id = ap (λ us. formula_at fs x ∷ us) (word_push fs xs id)
-
-is_last_none : (w : Word) → length w ≡ 0 → is_last w ≡ true
-is_last_none [] h = refl
-is_last_none (x ∷ w) h = absurd (omega (arith, h))
-
-is_last_some : (w : Word) → 0 < length w → is_last w ≡ false
-is_last_some [] h = absurd (omega (arith, h))
-is_last_some (x ∷ w) h = refl
-
 same : (a b : ℕ) → a ≡ b → nat_eq a b ≡ true
 same a b e = grind (arith, nat_tests)
 
@@ -48,14 +31,12 @@ other : (a b : ℕ) → a ≢ b → nat_eq a b ≡ false
 other a b e = grind (arith, nat_tests)
 
 last_is : (fs : List Formula) (ids : List ExprId) (i : ℕ) → i < length ids → nat_eq (i + 1) (length ids) ≡ is_last (drop (i + 1) (word_at fs ids))
-last_is fs ids i h = by (cases_eq (i + 1) (length ids))
+last_is fs ids i h =
+    by (drop (i + 1) (word_at fs ids)) (length-drop (i + 1) (word_at fs ids) ∙ ap (λ n. n - (i + 1)) (length-map ids (λ id. formula_at fs id)))
   where
-    size : length (drop (i + 1) (word_at fs ids)) ≡ length ids - (i + 1)
-    size = length-drop (i + 1) (word_at fs ids) ∙ ap (λ n. n - (i + 1)) (length-map ids (λ id. formula_at fs id))
-
-    by : ((i + 1) ≡ length ids) ⊎ ((i + 1) ≢ length ids) → nat_eq (i + 1) (length ids) ≡ is_last (drop (i + 1) (word_at fs ids))
-    by (inl e) = same (i + 1) (length ids) e ∙ sym (is_last_none (drop (i + 1) (word_at fs ids)) (omega (arith, size, e)))
-    by (inr e) = other (i + 1) (length ids) e ∙ sym (is_last_some (drop (i + 1) (word_at fs ids)) (omega (arith, size, h, e)))
+    by : (w : Word) → length w ≡ length ids - (i + 1) → nat_eq (i + 1) (length ids) ≡ is_last w
+    by [] e = same (i + 1) (length ids) (omega (arith, h, e))
+    by (x ∷ w) e = other (i + 1) (length ids) (λ f. omega (arith, h, e, f))
 
 -- one place more
 what_more : (g : Step) (x y : Formula) (xs ys : Word) (a : Word × Formula) → (along g a.1 (x ∷ xs) (y ∷ ys) >>= λ us. free (a.0 ++ us)).what ≡ (a.0 ++ (step_by g (is_last xs) x y a.1).what.0 ∷ []) ++ (along g (step_by g (is_last xs) x y a.1).what.1 xs ys).what
@@ -88,8 +69,8 @@ goes_on g old now new xs ys i r found s all h j push k m =
     let dy = word_drop (arena old) ys i (record { 0 = 0 }) j in
     let shows : Running (arena new) (found, s.1) (k.made.0 ++ made.what.0 ∷ [], made.what.1) = (
       (
-        rw push (in_push (length (arena new)) r.0.items s.0 (in_kept (arena now) (arena new) made.nodes r.0.items m.grew k.shows.0.0) m.shows.0.0),
-        ap (word_at (arena new)) push ∙ (word_push (arena new) r.0.items s.0 ∙ ap₂ (λ us u. us ++ u ∷ []) (word_kept (arena now) (arena new) made.nodes r.0.items m.grew k.shows.0.0 ∙ k.shows.0.1) m.shows.0.1),
+        rw push (in_append (length (arena new)) r.0.items (s.0 ∷ []) (in_kept (arena now) (arena new) made.nodes r.0.items m.grew k.shows.0.0) (m.shows.0.0, tt)),
+        ap (word_at (arena new)) push ∙ (map-append (λ id. formula_at (arena new) id) r.0.items (s.0 ∷ []) ∙ ap₂ (λ us u. us ++ u ∷ []) (word_kept (arena now) (arena new) made.nodes r.0.items m.grew k.shows.0.0 ∙ k.shows.0.1) m.shows.0.1),
       ),
       m.shows.1,
     ) in

@@ -76,11 +76,7 @@ leaf_under r None = r.bare
 leaf_under r (Some extension.Q) = r.q
 leaf_under r (Some extension.Fb) = r.fb
 leaf_under r (Some extension.Pin) = r.pin
-leaf_under r (Some extension.Clk) = r.control
-leaf_under r (Some extension.Oe) = r.control
-leaf_under r (Some extension.Ar) = r.control
-leaf_under r (Some extension.Sp) = r.control
-leaf_under r (Some extension.D) = r.control
+leaf_under r (Some _) = r.control
 
 pub record Finds (r : Reads) (s : Bool) (l : Option Extension → Bool) : Type 0 where
   pub signal : r.signal ≡ s

@@ -1,21 +1,19 @@
 -- Private: a stack of values in the arena, and what is left to build (this project's rule).
 use Rattle.std.specs.Prelude.{◌≡◌, ℕ, Option, None, Some, List, [], ◌∷◌, map, reverse, slice_get, take}
 use Rattle.std.specs.Global.{Vec}
-use Rattle.bit_expr.specs.Folding.{Made, free, ◌>>=◌}
 use Rattle.bit_expr.specs.Formulas.{Formula}
 use Rattle.abel_tree.specs.declared.words.Extension.{Extension}
 use Rattle.abel_tree.specs.Entries.{Entry}
-use Rattle.abel_tree.specs.View.{view}
+use Rattle.abel_tree.specs.Tree.{members_of}
+use Rattle.abel_tree.specs.View.{view, view_member}
 use Rattle.abel_meaning.specs.Designs.{Context}
-use Rattle.abel_meaning.specs.Terms.{Term, Terms, known_of, term_of, term_meant, extended_if}
+use Rattle.abel_meaning.specs.Terms.{Term, Terms, known_of, term_of, terms_of, term_meant, extended_if}
 use Rattle.abel_meaning.specs.Terms as term
 use Rattle.expr_bits.specs.declared.forms.Bits.{Bits}
 use Rattle.expr_bits.specs.Parts.{Part, IsPart}
 use Rattle.expr_bits.specs.declared.work.Work.{Work}
 use Rattle.expr_bits.specs.declared.work.Work.TheVariants as work
-use Rattle.expr_bits.specs.declared.turn.Turn.{Turn}
-use Rattle.expr_bits.specs.declared.turn.Turn.TheVariants as turn
-use Rattle.expr_bits.specs.Steps.{Task, Push, Do, pushed, term_part, after_step, after_task, after_all}
+use Rattle.expr_bits.specs.Steps.{Task, Push, Do, after_task, after_all}
 
 -- each of the bits is that of a value
 abbrev pub AreParts : List Formula → List Bits → List Part → Type 0
@@ -47,28 +45,14 @@ named_term es k e = extended_if e (here_term es k (slice_get es k))
 -- what work over these names is
 abbrev pub task_of : List Entry → Work → Task
 task_of es (work.Whole expr o) = Push (extended_if o.extension (term_of (known_of (take o.count es)) (view expr.now)))
+task_of es (work.Members ms o) =
+    Push (extended_if o.extension (term.Set (terms_of (known_of (take o.count es)) (members_of (map view_member ms.now)))))
 task_of es (work.Named k e) = Push (named_term es k e)
 task_of es (work.Do s) = Do s
-
--- and what a turn is
-abbrev pub task_of_turn : List Entry → Turn → Task
-task_of_turn es (turn.Expands expr o) = Push (extended_if o.extension (term_of (known_of (take o.count es)) (view expr.now)))
-task_of_turn es (turn.Does s) = Do s
-task_of_turn es (turn.Keeps b k e) = Push (named_term es k e)
 
 -- a stack of work, the last on top
 abbrev pub tasks_of : List Entry → List Work → List Task
 tasks_of es ws = map (task_of es) (reverse ws)
-
--- the values after a turn: an expression alone adds none
-abbrev pub after_turn : Context → List Entry → Turn → List Part → Made (List Part)
-after_turn d es (turn.Expands expr o) ps = free ps
-after_turn d es (turn.Does s) ps = after_step d s ps
-after_turn d es (turn.Keeps b k e) ps = pushed (term_part d (named_term es k e)) ps
-
--- and then all these tasks
-abbrev pub then_all : Context → Made (List Part) → List Task → Made (List Part)
-then_all d m ts = m >>= after_all d ts
 
 -- ---- work that comes to a term
 

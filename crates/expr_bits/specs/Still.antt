@@ -11,10 +11,8 @@ use Rattle.expr_bits.specs.declared.forms.Bits.{Bits}
 use Rattle.expr_bits.specs.Parts.{IsPart}
 use Rattle.expr_bits.specs.declared.rows.Row.{Row}
 use Rattle.expr_bits.specs.declared.reads.Reads.{Reads}
-use Rattle.expr_bits.specs.declared.turn.Turn.{Turn}
-use Rattle.expr_bits.specs.declared.turn.Turn.TheVariants as turn
 use Rattle.expr_bits.specs.Reads.{IsReads, no_reads, reads_leaf}
-use Rattle.expr_bits.specs.Stacks.{here_term, named_term}
+use Rattle.expr_bits.specs.Stacks.{here_term}
 use Rattle.expr_bits.specs.Steps.{term_part}
 
 -- in every arena, the bits are those of a term, which makes no node
@@ -45,8 +43,3 @@ reads_of_row (Some r) = r.reads
 
 abbrev pub reads_at : List Row → ℕ → Reads
 reads_at rs k = reads_of_row (slice_get rs k)
-
--- what a turn takes from the rows is that of its name
-abbrev pub IsHeld : List Entry → Context → Turn → Type 0
-IsHeld es d (turn.Keeps b k e) = IsKept d b.now (named_term es k e)
-IsHeld es d t = Unit {0}

@@ -1,6 +1,6 @@
 //! Steps over a stack of values.
 
-ghost use Rattle.std.specs.Prelude.{◌≡◌, List, ◌∷◌, IfOk, OnOk};
+ghost use Rattle.std.specs.Prelude.{◌≡◌, List, IfOk, OnOk};
 ghost use Rattle.bit_expr.specs.declared.node.Node.{Node as ANode};
 ghost use Rattle.bit_expr.specs.Arena.{arena};
 ghost use Rattle.bit_expr.specs.Formulas.{Formula};
@@ -8,8 +8,8 @@ ghost use Rattle.expr_bits.specs.Making.{Makes};
 ghost use Rattle.set_expr.specs.Contexts.{context_for};
 ghost use Rattle.expr_bits.specs.declared.forms.Form.TheVariants as form;
 ghost use Rattle.expr_bits.specs.Parts.{Part, IsPart};
-ghost use Rattle.expr_bits.specs.Stacks.{AreStacked, ShowsStack, Standing};
-ghost use Rattle.expr_bits.specs.Steps.{top, below, as_set, made_by, left_by, after_step};
+ghost use Rattle.expr_bits.specs.Stacks.{AreStacked, Standing};
+ghost use Rattle.expr_bits.specs.Steps.{top, below, as_set, made_by, left_by};
 
 use crate::forms::{Bits, Form};
 use crate::leaves::{number_bits, one_bit};
@@ -34,31 +34,17 @@ pub(crate) fn taken(alloc: Global, values: &mut Vec<Bits>) -> Bits
     }
 }
 
-/// One value more, on top.
-fn put(values: Vec<Bits>, value: Bits) -> Result<Vec<Bits>, OutOfMemory>
-    ensures { IfOk result (λ new. (fs : List Formula) (ps : List Part) (p : Part) → AreStacked fs values.items ps → IsPart fs value p → ShowsStack fs new (p ∷ ps)) }
-{
-    let mut values = values;
-    values.push(value)?;
-    Ok(values)
-}
-
-/// The same bits again, on top.
-pub(crate) fn put_copy(
-    alloc: Global,
-    bits: &Bits,
-    values: Vec<Bits>,
-) -> Result<Vec<Bits>, OutOfMemory>
-    ensures { IfOk result (λ new. (fs : List Formula) (ps : List Part) (p : Part) → AreStacked fs values.items ps → IsPart fs bits.now p → ShowsStack fs new (p ∷ ps)) }
+/// The same bits again.
+pub(crate) fn copied(alloc: Global, bits: &Bits) -> Result<Bits, OutOfMemory>
+    ensures { IfOk result (λ copy. (fs : List Formula) (p : Part) → IsPart fs bits.now p → IsPart fs copy p) }
 {
     let word = Vec::from_slice(alloc, bits.word.as_slice())?;
     let unknown = Vec::from_slice(alloc, bits.unknown.as_slice())?;
-    let copy = Bits {
+    Ok(Bits {
         form: bits.form,
         word: ListOf::from_vec(word),
         unknown: ListOf::from_vec(unknown),
-    };
-    put(values, copy)
+    })
 }
 
 /// Takes the set on top; one without members where there is none.
@@ -75,7 +61,7 @@ fn taken_set(alloc: Global, values: &mut Vec<Bits>) -> Bits
 }
 
 /// What a step makes of the values on top, which it takes.
-fn made_by<D: Device>(
+pub(crate) fn build<D: Device>(
     alloc: Global,
     scope: &Scope<'_>,
     exprs: &mut Exprs,
@@ -107,22 +93,4 @@ fn made_by<D: Device>(
             Ok(with_member(alloc, &member, others)?)
         }
     }
-}
-
-/// The values after a step.
-pub(crate) fn build<D: Device>(
-    alloc: Global,
-    scope: &Scope<'_>,
-    exprs: &mut Exprs,
-    step: Step,
-    values: Vec<Bits>,
-) -> Result<Vec<Bits>, ExprFault>
-    requires values { Standing (arena exprs.old) values.items }
-    ensures { (ps : List Part) → AreStacked (arena exprs.old) values.items ps
-        → Makes ShowsStack exprs.old exprs.new result (after_step (context_for D.table scope.now) step ps) }
-{
-    let mut values = values;
-    let bits = made_by::<D>(alloc, scope, exprs, step, &mut values)?;
-    let values = put(values, bits)?;
-    Ok(values)
 }

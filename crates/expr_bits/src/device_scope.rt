@@ -7,10 +7,7 @@ ghost use Rattle.abel_meaning.specs.Terms.{known_of, term_of};
 ghost use Rattle.set_expr.specs.Answer.{refusal_of};
 ghost use Rattle.set_expr.specs.Contexts.{context_for};
 ghost use Rattle.expr_bits.specs.ExpressionBits.{MakesBits};
-ghost use Rattle.expr_bits.specs.Making.{Makes};
-ghost use Rattle.expr_bits.specs.Parts.{IsPart};
 ghost use Rattle.expr_bits.specs.Reads.{reads_signal};
-ghost use Rattle.expr_bits.specs.Steps.{term_part};
 ghost use Rattle.expr_bits.specs.Still.{AreRows};
 
 use crate::forms::Bits;
@@ -91,25 +88,18 @@ impl<'a, D: Device> DeviceScope<'a, D> {
         Ok(reads.signal)
     }
 
-    /// The bits of an expression, in just the counted nodes.
-    fn whole(&self, alloc: Global, expr: &Expr, exprs: &mut Exprs) -> Result<Bits, ExprFault>
-        ensures { Makes IsPart exprs.old exprs.new result (term_part (context_for D.table self.now) (term_of (known_of (entries_of self.now)) (view expr.now))) }
-    {
-        let rows = self.rows();
-        let outer = Outer {
-            extension: None,
-            count: rows.len(),
-        };
-        walk::<D>(alloc, &self.scope, rows, Work::Whole(expr, outer), exprs)
-    }
-
     /// The bits of an expression of which nothing is refused, so that only `NodeLimit` or want of memory can come. Each read
     /// of a signal and each operator makes its nodes anew, also of equal operands.
     pub fn bits(&self, alloc: Global, expr: &Expr, exprs: &mut Exprs) -> Result<Shaped, ExprFault>
         requires accepted { refusal_of self.now (view expr.now) ≡ None }
         ensures { MakesBits (context_for D.table self.now) (view expr.now) exprs.old exprs.new result }
     {
-        let bits = self.whole(alloc, expr, exprs)?;
+        let rows = self.rows();
+        let outer = Outer {
+            extension: None,
+            count: rows.len(),
+        };
+        let bits = walk::<D>(alloc, &self.scope, rows, Work::Whole(expr, outer), exprs)?;
         let shaped = shaped(alloc, &bits)?;
         Ok(shaped)
     }

@@ -77,8 +77,9 @@ fn with_member<'a>(
     }
 }
 
-/// The members of a set, the last one first, behind a set without members, to be done before the others.
-fn expand_set<'a>(
+/// The members of a set as work on the first one and the others, of which the others are built first; a set without members
+/// is a step.
+pub(crate) fn expand_members<'a>(
     alloc: Global,
     scope: &Scope<'a>,
     members: &'a [Member],
@@ -91,16 +92,17 @@ fn expand_set<'a>(
         (terms_of (known_of (take outer.count (entries_of scope.now))) (members_of (map view_member members.now)))))
         ∷ tasks_of (entries_of scope.now) work.entry.items) ps) }
 {
-    let mut more = work;
-    for member in members {
-        more = with_member(alloc, scope, member, outer, more)?;
+    match members.split_first() {
+        Some((member, others)) => {
+            let work = with_member(alloc, scope, member, outer, work)?;
+            first_of(work, Work::Members(others, outer))
+        }
+        None => first_of(work, Work::Do(Step::Empty)),
     }
-    first_of(more, Work::Do(Step::Empty))
 }
 
 /// An expression as work on its parts, to be done before the others.
 pub(crate) fn expand<'a>(
-    alloc: Global,
     scope: &Scope<'a>,
     expr: &'a Expr,
     outer: Outer,
@@ -135,7 +137,7 @@ pub(crate) fn expand<'a>(
                 extension: Extension::innermost(*own, outer.extension),
                 count: outer.count,
             };
-            expand_set(alloc, scope, members.as_slice(), outer, work)
+            first_of(work, Work::Members(members.as_slice(), outer))
         }
         Expr::Paren { place: _, inner } => { first_of(work, Work::Whole(inner.get(), outer)) }
         Expr::Unary {

@@ -22,7 +22,6 @@ mod shaping;
 mod sources;
 mod step;
 mod steps;
-mod turn;
 mod value_operators;
 mod walking;
 mod word_operators;

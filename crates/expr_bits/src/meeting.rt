@@ -11,7 +11,7 @@ ghost use Rattle.expr_bits.specs.Making.{ShowsItems};
 ghost use Rattle.expr_bits.specs.Showing.{HasForm, HasUnknown, IsBits};
 
 use crate::forms::{Bits, Form};
-use crate::positions::{digit_word, resized_word, spread_word};
+use crate::positions::{bit_at, digit_word, resized_word, spread_word};
 use bit_expr::ExprId;
 use pld_base::OutOfMemory;
 use std::alloc::Global;
@@ -35,16 +35,6 @@ pub fn width_of_both(left: &Bits, right: &Bits) -> usize
     }
 }
 
-/// The rightmost bit, 0 where there is none.
-fn first_bit(word: &[ExprId]) -> ExprId
-    ensures { result ≡ get_or word.now 0 (record { 0 = 0 }) }
-{
-    match word.first() {
-        Some(id) => *id,
-        None => ExprId(0),
-    }
-}
-
 /// Whether a position is X; none past the last one is.
 fn flag_at(unknown: &[bool], index: usize) -> bool
     ensures { result ≡ get_or unknown.now index false }
@@ -62,7 +52,7 @@ pub fn meet_word(alloc: Global, value: &Bits, width: usize) -> Result<Vec<ExprId
 {
     match value.form {
         Form::Number(number) => digit_word(alloc, number, width),
-        Form::Single => spread_word(alloc, first_bit(value.word.as_slice()), width),
+        Form::Single => spread_word(alloc, bit_at(value.word.as_slice(), 0), width),
         Form::Set => resized_word(alloc, value.word.as_slice(), width),
     }
 }

@@ -1,12 +1,13 @@
 //! What names are to be built as.
 
-ghost use Rattle.std.specs.Prelude.{take};
-ghost use Rattle.abel_tree.specs.Entries.{entries_of};
-ghost use Rattle.abel_meaning.specs.Terms.{extended_if, known_of, term_named};
-ghost use Rattle.expr_bits.specs.Stacks.{ComesTo};
+ghost use Rattle.std.specs.Prelude.{List, take};
+ghost use Rattle.abel_tree.specs.Entries.{Entry, entries_of, view_meaning};
+ghost use Rattle.abel_meaning.specs.Terms.{extended_if, known_of, term_meant, term_named};
+ghost use Rattle.expr_bits.specs.Stacks.{ComesTo, named_term};
 
 use crate::step::Step;
 use crate::work::{Outer, Work};
+use abel_tree::{Extension, Meaning};
 use set_expr::Scope;
 
 /// What the name with this text is built as; one that isn't among the first names is a number.
@@ -21,5 +22,34 @@ pub(crate) fn name_work<'a>(scope: &Scope<'a>, text: &[u8], outer: Outer) -> Wor
         Work::Do(Step::Number(0))
     } else {
         Work::Named(name.number, outer.extension)
+    }
+}
+
+/// What a meaning is built as, of the name with this number.
+fn meant_work<'a>(meaning: &'a Meaning, number: u32, extension: Option<Extension>) -> Work<'a>
+    ensures { (es : List Entry) → ComesTo es result (extended_if extension (term_meant (known_of (take number es)) number (view_meaning meaning.now))) }
+{
+    match meaning {
+        Meaning::Pin { pin: _, negated: _ } => Work::Do(Step::Read(number, extension)),
+        Meaning::Node(_) => Work::Do(Step::Read(number, extension)),
+        Meaning::Constant(expr) => {
+            let count = number as usize;
+            Work::Whole(expr, Outer { extension, count })
+        }
+        Meaning::DeviceName => Work::Do(Step::Number(0)),
+    }
+}
+
+/// What the name with this number is built as.
+pub(crate) fn declared_work<'a>(
+    scope: &Scope<'a>,
+    number: u32,
+    extension: Option<Extension>,
+) -> Work<'a>
+    ensures { ComesTo (entries_of scope.now) result (named_term (entries_of scope.now) number extension) }
+{
+    match scope.list().get(number as usize) {
+        Some(declared) => meant_work(&declared.meaning, number, extension),
+        None => Work::Do(Step::Number(0)),
     }
 }

@@ -1,11 +1,12 @@
 //! Parts of sums and relations, a few nodes each.
 
-ghost use Rattle.std.specs.Prelude.{◌<◌, length};
+ghost use Rattle.std.specs.Prelude.{◌≡◌, ◌<◌, length};
 ghost use Rattle.bit_expr.specs.Arena.{arena, formula_at};
-ghost use Rattle.abel_meaning.specs.BitWords.{sum_bit, next_carry, less_bit};
+ghost use Rattle.abel_meaning.specs.BitWords.{sum_bit, next_carry};
 ghost use Rattle.expr_bits.specs.Making.{Makes, ShowsOne};
-ghost use Rattle.expr_bits.specs.Pieces.{either_and_of, same_of, under_of, upto_of, or_and_of, same_found_of};
+ghost use Rattle.expr_bits.specs.Pieces.{same_of, under_of, upto_of, or_and_of, relation_step, start_id};
 
+use crate::word_operators::{ONE, ZERO};
 use bit_expr::{ExprFault, ExprId, Exprs, Node};
 
 /// `x $ y $ carry`
@@ -22,22 +23,6 @@ pub(crate) fn sum_bit(
 {
     let differ = exprs.add(Node::Xor(x, y))?;
     exprs.add(Node::Xor(differ, carry))
-}
-
-/// `(x # y) & other`
-pub(crate) fn either_and(
-    exprs: &mut Exprs,
-    x: ExprId,
-    y: ExprId,
-    other: ExprId,
-) -> Result<ExprId, ExprFault>
-    requires x { x.0 < length (arena exprs.old) }
-    requires y { y.0 < length (arena exprs.old) }
-    requires other { other.0 < length (arena exprs.old) }
-    ensures { Makes ShowsOne exprs.old exprs.new result (either_and_of (formula_at (arena exprs.old) x) (formula_at (arena exprs.old) y) (formula_at (arena exprs.old) other)) }
-{
-    let either = exprs.add(Node::Or(x, y))?;
-    exprs.add(Node::And(either, other))
 }
 
 /// `!(x $ y)`
@@ -99,30 +84,33 @@ pub(crate) fn next_carry(
     ensures { Makes ShowsOne exprs.old exprs.new result (next_carry (formula_at (arena exprs.old) x) (formula_at (arena exprs.old) y) (formula_at (arena exprs.old) carry)) }
 {
     let both = exprs.add(Node::And(x, y))?;
-    let more = either_and(exprs, x, y, carry)?;
-    exprs.add(Node::Or(both, more))
+    let either = exprs.add(Node::Or(x, y))?;
+    or_and(exprs, both, either, carry)
 }
 
-/// `!x & y # (!x # y) & less`
-pub(crate) fn less_bit(
-    exprs: &mut Exprs,
-    x: ExprId,
-    y: ExprId,
-    less: ExprId,
-) -> Result<ExprId, ExprFault>
-    requires x { x.0 < length (arena exprs.old) }
-    requires y { y.0 < length (arena exprs.old) }
-    requires less { less.0 < length (arena exprs.old) }
-    ensures { Makes ShowsOne exprs.old exprs.new result (less_bit (formula_at (arena exprs.old) x) (formula_at (arena exprs.old) y) (formula_at (arena exprs.old) less)) }
-{
-    let under = under_bit(exprs, x, y)?;
-    let upto = upto_bit(exprs, x, y)?;
-    or_and(exprs, under, upto, less)
+/// What is found of two words, position by position.
+#[derive(Clone, Copy, PartialEq, Eq)]
+pub(crate) enum Relation {
+    Less,
+    Equal,
 }
 
-/// `found & !(x $ y)`
-pub(crate) fn same_found(
+impl Relation {
+    /// What is found of two words without positions.
+    pub(crate) fn start(self) -> ExprId
+        ensures { result ≡ start_id self }
+    {
+        match self {
+            Relation::Less => ZERO,
+            Relation::Equal => ONE,
+        }
+    }
+}
+
+/// One position more: `!x & y # (!x # y) & found`, or `found & !(x $ y)`.
+pub(crate) fn relation_step(
     exprs: &mut Exprs,
+    relation: Relation,
     x: ExprId,
     y: ExprId,
     found: ExprId,
@@ -130,8 +118,17 @@ pub(crate) fn same_found(
     requires x { x.0 < length (arena exprs.old) }
     requires y { y.0 < length (arena exprs.old) }
     requires found { found.0 < length (arena exprs.old) }
-    ensures { Makes ShowsOne exprs.old exprs.new result (same_found_of (formula_at (arena exprs.old) x) (formula_at (arena exprs.old) y) (formula_at (arena exprs.old) found)) }
+    ensures { Makes ShowsOne exprs.old exprs.new result (relation_step relation (formula_at (arena exprs.old) x) (formula_at (arena exprs.old) y) (formula_at (arena exprs.old) found)) }
 {
-    let same = same_bit(exprs, x, y)?;
-    exprs.add(Node::And(found, same))
+    match relation {
+        Relation::Less => {
+            let under = under_bit(exprs, x, y)?;
+            let upto = upto_bit(exprs, x, y)?;
+            or_and(exprs, under, upto, found)
+        }
+        Relation::Equal => {
+            let same = same_bit(exprs, x, y)?;
+            exprs.add(Node::And(found, same))
+        }
+    }
 }

@@ -16,7 +16,7 @@ fn constant(on: bool) -> ExprId
 }
 
 /// The bit at a position; 0 past the last one.
-fn bit_at(word: &[ExprId], index: usize) -> ExprId
+pub(crate) fn bit_at(word: &[ExprId], index: usize) -> ExprId
     ensures { result ≡ get_or word.now index (record { 0 = 0 }) }
 {
     match word.get(index) {

@@ -1,9 +1,8 @@
 //! The bits of what signals read.
 
 ghost use Rattle.std.specs.Prelude.{◌≡◌};
-ghost use Rattle.bit_expr.specs.Arena.{IsLeaf};
 ghost use Rattle.abel_meaning.specs.Designs.{Context};
-ghost use Rattle.abel_meaning.specs.FormulaBits.{make_held, make_source};
+ghost use Rattle.abel_meaning.specs.FormulaBits.{make_source};
 ghost use Rattle.abel_meaning.specs.Sources.{source_of};
 ghost use Rattle.abel_meaning.specs.Terms as term;
 ghost use Rattle.expr_bits.specs.Making.{Makes, ShowsOne};
@@ -21,26 +20,20 @@ use pld_device::Device;
 use set_expr::Scope;
 use std::alloc::Global;
 
-/// A leaf, with a Not where it reads the complement.
-fn held_bit(exprs: &mut Exprs, reading: Reading) -> Result<ExprId, ExprFault>
-    requires { IsLeaf reading.leaf }
-    ensures { Makes ShowsOne exprs.old exprs.new result (make_held reading.complement reading.leaf) }
-{
-    let leaf = exprs.add(Node::Leaf(reading.leaf))?;
-    if reading.complement {
-        exprs.add(Node::Not(leaf))
-    } else {
-        Ok(leaf)
-    }
-}
-
-/// The bit of what is read; 0 makes nothing.
+/// The bit of what is read: a leaf, with a Not where it reads the complement; 0 makes nothing.
 fn source_bit(exprs: &mut Exprs, reading: Option<Reading>) -> Result<ExprId, ExprFault>
     requires { HasLeaf reading }
     ensures { Makes ShowsOne exprs.old exprs.new result (make_source (view_reading reading)) }
 {
     match reading {
-        Some(reading) => held_bit(exprs, reading),
+        Some(Reading { complement, leaf }) => {
+            let bit = exprs.add(Node::Leaf(leaf))?;
+            if complement {
+                exprs.add(Node::Not(bit))
+            } else {
+                Ok(bit)
+            }
+        }
         None => Ok(ExprId(0)),
     }
 }

@@ -1,6 +1,6 @@
 //! What expressions read, by what their names read.
 
-ghost use Rattle.std.specs.Prelude.{◌≡◌, length, map, take, IfOk};
+ghost use Rattle.std.specs.Prelude.{length, map, take, IfOk};
 ghost use Rattle.std.specs.List.{list_any};
 ghost use Rattle.abel_tree.specs.Entries.{entries_of};
 ghost use Rattle.abel_tree.specs.View.{view};

@@ -3,9 +3,8 @@
 ghost use Rattle.std.specs.Prelude.{◌≡◌, List, None, IfSome};
 ghost use Rattle.abel_tree.specs.Entries.{Entry};
 ghost use Rattle.abel_meaning.specs.Designs.{Context};
-ghost use Rattle.abel_meaning.specs.Terms.{Term};
 ghost use Rattle.expr_bits.specs.Stacks.{named_term};
-ghost use Rattle.expr_bits.specs.Still.{AreRows, IsKept, IsKeptIf, IsKeptUnder, reads_at};
+ghost use Rattle.expr_bits.specs.Still.{AreRows, IsKept, reads_at};
 
 use crate::forms::Bits;
 use crate::reads::Reads;
@@ -37,16 +36,6 @@ pub(crate) fn reads_at(rows: &[Row], number: u32) -> Reads
     }
 }
 
-/// The bits of a row.
-fn bits_of(row: &Row) -> Option<&Bits>
-    ensures { (d : Context) (t : Term) → IsKeptIf d row.now.bits t → IfSome result (λ b. IsKeptUnder d b.now t) }
-{
-    match &row.bits {
-        Some(bits) => Some(bits),
-        None => None,
-    }
-}
-
 /// The bits that are kept of a name under an extension.
 pub(crate) fn bits_at<'a>(
     rows: &'a [Row],
@@ -55,14 +44,14 @@ pub(crate) fn bits_at<'a>(
 ) -> Option<&'a Bits>
     ensures { (es : List Entry) (d : Context) → AreRows es d 0 rows.now → IfSome result (λ b. IsKept d b.now (named_term es number extension)) }
 {
-    match rows.get(number as usize) {
-        Some(row) => {
-            if row.reads.leaf(extension) {
-                None
-            } else {
-                bits_of(row)
-            }
-        }
+    let Some(row) = rows.get(number as usize) else {
+        return None;
+    };
+    if row.reads.leaf(extension) {
+        return None;
+    }
+    match &row.bits {
+        Some(bits) => Some(bits),
         None => None,
     }
 }

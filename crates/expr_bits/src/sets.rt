@@ -1,6 +1,6 @@
 //! Sets of values as bits.
 
-ghost use Rattle.std.specs.Prelude.{◌≡◌, List, ◌++◌, length, IfOk};
+ghost use Rattle.std.specs.Prelude.{◌≡◌, List, length, IfOk};
 ghost use Rattle.bit_expr.specs.declared.node.Node.{Node};
 ghost use Rattle.bit_expr.specs.Arena.{arena};
 ghost use Rattle.bit_expr.specs.Formulas.{Formula};
@@ -11,7 +11,6 @@ ghost use Rattle.expr_bits.specs.declared.forms.Form.TheVariants as form;
 
 use crate::forms::{Bits, Form};
 use crate::meeting::{meet_unknown, meet_word};
-use bit_expr::ExprId;
 use pld_base::{ListOf, OutOfMemory};
 use std::alloc::Global;
 
@@ -37,22 +36,6 @@ fn member_width(member: &Bits) -> usize
     }
 }
 
-fn with_bits(word: ListOf<ExprId>, more: &[ExprId]) -> Result<ListOf<ExprId>, OutOfMemory>
-    ensures { IfOk result (λ ids. ids ≡ word ++ more.now) }
-{
-    let mut ids = word.into_vec();
-    ids.extend_from_slice(more)?;
-    Ok(ListOf::from_vec(ids))
-}
-
-fn with_flags(unknown: ListOf<bool>, more: &[bool]) -> Result<ListOf<bool>, OutOfMemory>
-    ensures { IfOk result (λ flags. flags ≡ unknown ++ more.now) }
-{
-    let mut flags = unknown.into_vec();
-    flags.extend_from_slice(more)?;
-    Ok(ListOf::from_vec(flags))
-}
-
 /// A member before the others of a set.
 pub fn with_member(alloc: Global, member: &Bits, others: Bits) -> Result<Bits, OutOfMemory>
     requires { others.form ≡ form.Set }
@@ -62,11 +45,13 @@ pub fn with_member(alloc: Global, member: &Bits, others: Bits) -> Result<Bits, O
     let width = member_width(member);
     let bits = meet_word(alloc, member, width)?;
     let flags = meet_unknown(alloc, member, width)?;
-    let word = with_bits(others.word, bits.as_slice())?;
-    let unknown = with_flags(others.unknown, flags.as_slice())?;
+    let mut word = others.word.into_vec();
+    word.extend_from_slice(bits.as_slice())?;
+    let mut unknown = others.unknown.into_vec();
+    unknown.extend_from_slice(flags.as_slice())?;
     Ok(Bits {
         form: Form::Set,
-        word,
-        unknown,
+        word: ListOf::from_vec(word),
+        unknown: ListOf::from_vec(unknown),
     })
 }

@@ -1,8 +1,7 @@
 //! What signals read.
 
-ghost use Rattle.std.specs.Prelude.{◌≡◌, ◌<◌, Some, not};
+ghost use Rattle.std.specs.Prelude.{◌≡◌, ◌<◌, Some};
 ghost use Rattle.abel_tree.specs.Entries.{is_stored, view_declared};
-ghost use Rattle.pld_device.specs.Macrocells.{complement_if};
 ghost use Rattle.abel_meaning.specs.Sources.{node_source, on_pin, pin_source, register_source, source_by};
 ghost use Rattle.expr_bits.specs.Held.{HasLeaf, view_reading};
 ghost use Rattle.set_expr.specs.Scopes.{IsPlacedKind};
@@ -32,13 +31,6 @@ fn pin_source(pin: u8, negated: bool, extension: Option<Extension>) -> Option<Re
     }
 }
 
-/// What a register's pin polarity makes of Q, seen from its name.
-fn is_complement(negated: bool, buffer: bool) -> bool
-    ensures { result ≡ complement_if negated (not buffer) }
-{
-    negated == buffer
-}
-
 /// A register in a cell: its pin polarity, or Q itself.
 fn cell_source(
     negated: bool,
@@ -50,7 +42,7 @@ fn cell_source(
     ensures leaf { cell < 32 → HasLeaf result }
 {
     let leaf = Leaf::Q(cell);
-    let complement = is_complement(negated, buffer);
+    let complement = negated == buffer;
     match extension {
         None | Some(Extension::Fb) => Some(Reading { complement, leaf }),
         Some(Extension::Q) => Some(Reading {

@@ -2,7 +2,7 @@
 
 ghost use Rattle.std.specs.Prelude.{◌≡◌, ◌<◌, length};
 ghost use Rattle.bit_expr.specs.Arena.{arena, formula_at};
-ghost use Rattle.expr_bits.specs.Along.{sum_step, step_by, along};
+ghost use Rattle.expr_bits.specs.Along.{step_by, along};
 ghost use Rattle.expr_bits.specs.Making.{Makes, ShowsTwo, ShowsItems, AllIn, word_at};
 
 use crate::pieces::{next_carry, same_bit, sum_bit};
@@ -35,26 +35,7 @@ struct Column {
     carry: ExprId,
 }
 
-/// A sum's bit and the carry that goes on; no carry leaves the last position.
-fn sum_step(exprs: &mut Exprs, last: bool, column: Column) -> Result<(ExprId, ExprId), ExprFault>
-    requires x { column.x.0 < length (arena exprs.old) }
-    requires y { column.y.0 < length (arena exprs.old) }
-    requires carry { column.carry.0 < length (arena exprs.old) }
-    ensures { Makes ShowsTwo exprs.old exprs.new result (sum_step last
-        (formula_at (arena exprs.old) column.x) (formula_at (arena exprs.old) column.y)
-        (formula_at (arena exprs.old) column.carry)) }
-{
-    let Column { x, y, carry } = column;
-    let bit = sum_bit(exprs, x, y, carry)?;
-    if last {
-        Ok((bit, carry))
-    } else {
-        let next = next_carry(exprs, x, y, carry)?;
-        Ok((bit, next))
-    }
-}
-
-/// One position, with what goes on to the next.
+/// One position, with what goes on to the next; no carry leaves the last position of a sum.
 fn step_by(
     exprs: &mut Exprs,
     step: Step,
@@ -90,7 +71,14 @@ fn step_by(
             let bit = same_bit(exprs, x, y)?;
             Ok((bit, carry))
         }
-        Step::Sum => sum_step(exprs, last, column),
+        Step::Sum => {
+            let bit = sum_bit(exprs, x, y, carry)?;
+            if last {
+                return Ok((bit, carry));
+            }
+            let next = next_carry(exprs, x, y, carry)?;
+            Ok((bit, next))
+        }
     }
 }
 

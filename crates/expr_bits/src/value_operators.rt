@@ -2,13 +2,12 @@
 
 ghost use Rattle.std.specs.Prelude.{ℕ, Bool, List, false};
 ghost use Rattle.bit_expr.specs.Arena.{arena};
-ghost use Rattle.abel_meaning.specs.BitWords.{operator_bits};
 ghost use Rattle.abel_meaning.specs.Numbers.{Value};
 ghost use Rattle.abel_meaning.specs.Values.{unary_value};
-ghost use Rattle.expr_bits.specs.Making.{Makes, ShowsItems, ShowsOne};
+ghost use Rattle.expr_bits.specs.Making.{Makes};
 ghost use Rattle.expr_bits.specs.Showing.{HasForm, HasUnknown};
 ghost use Rattle.expr_bits.specs.Operators.{MeetsAs, related_part, computed_part};
-ghost use Rattle.expr_bits.specs.Parts.{Part, IsPart, Stands, under_part, both_part, relation_of, width_of_two, word_in, computed_value};
+ghost use Rattle.expr_bits.specs.Parts.{Part, IsPart, Stands, under_part, both_part, computed_value};
 
 use crate::dropping::{Compared, kept_relation};
 use crate::forms::{Bits, Form};
@@ -16,7 +15,7 @@ use crate::leaves::{number_bits, one_bit};
 use crate::meeting::{dropped, meet_word, spread_flag, width_of_both};
 use crate::word_operators::{operator_word, unary_word};
 use abel_tree::{Binary, Unary};
-use bit_expr::{ExprFault, ExprId, Exprs};
+use bit_expr::{ExprFault, Exprs};
 use pld_base::ListOf;
 use set_expr::{is_relation, number_of, number_under};
 use std::alloc::Global;
@@ -46,30 +45,6 @@ pub fn under(alloc: Global, exprs: &mut Exprs, sign: Unary, inner: Bits) -> Resu
     })
 }
 
-/// How two values compare, as one bit.
-fn related_bit(
-    alloc: Global,
-    exprs: &mut Exprs,
-    sign: Binary,
-    left: &Bits,
-    right: &Bits,
-) -> Result<ExprId, ExprFault>
-    requires left { Stands (arena exprs.old) left.now }
-    requires right { Stands (arena exprs.old) right.now }
-    ensures { (p q : Part) → IsPart (arena exprs.old) left.now p → IsPart (arena exprs.old) right.now q → Makes ShowsOne exprs.old exprs.new result (relation_of sign p q) }
-{
-    let width = width_of_both(left, right);
-    let first = meet_word(alloc, left, width)?;
-    let second = meet_word(alloc, right, width)?;
-    let flags = dropped(alloc, left, right, width)?;
-    let words = Compared {
-        dropped: flags.as_slice(),
-        first: first.as_slice(),
-        second: second.as_slice(),
-    };
-    kept_relation(alloc, exprs, sign, &words)
-}
-
 /// A relation of two values.
 fn related(
     alloc: Global,
@@ -82,29 +57,18 @@ fn related(
     requires right { Stands (arena exprs.old) right.now }
     ensures { (p q : Part) → IsPart (arena exprs.old) left.now p → IsPart (arena exprs.old) right.now q → Makes IsPart exprs.old exprs.new result (related_part sign p q) }
 {
-    let bit = related_bit(alloc, exprs, sign, left, right)?;
-    let bits = one_bit(alloc, bit, false)?;
-    Ok(bits)
-}
-
-/// The word of two values that have bits, in the positions that they meet in.
-fn computed_word(
-    alloc: Global,
-    exprs: &mut Exprs,
-    sign: Binary,
-    left: &Bits,
-    right: &Bits,
-) -> Result<Vec<ExprId>, ExprFault>
-    requires left { Stands (arena exprs.old) left.now }
-    requires right { Stands (arena exprs.old) right.now }
-    ensures { (p q : Part) → IsPart (arena exprs.old) left.now p → IsPart (arena exprs.old) right.now q
-        → Makes ShowsItems exprs.old exprs.new result
-        (operator_bits sign (word_in (width_of_two p q) p) (word_in (width_of_two p q) q)) }
-{
     let width = width_of_both(left, right);
     let first = meet_word(alloc, left, width)?;
     let second = meet_word(alloc, right, width)?;
-    operator_word(alloc, exprs, sign, first.as_slice(), second.as_slice())
+    let flags = dropped(alloc, left, right, width)?;
+    let words = Compared {
+        dropped: flags.as_slice(),
+        first: first.as_slice(),
+        second: second.as_slice(),
+    };
+    let bit = kept_relation(alloc, exprs, sign, &words)?;
+    let bits = one_bit(alloc, bit, false)?;
+    Ok(bits)
 }
 
 /// The form of two operands that meet.
@@ -142,8 +106,11 @@ fn computed(
     match form {
         Form::Number(number) => Ok(number_bits(alloc, number)),
         _ => {
-            let unknown = spread_flag(alloc, false, width_of_both(left, right))?;
-            let word = computed_word(alloc, exprs, sign, left, right)?;
+            let width = width_of_both(left, right);
+            let unknown = spread_flag(alloc, false, width)?;
+            let first = meet_word(alloc, left, width)?;
+            let second = meet_word(alloc, right, width)?;
+            let word = operator_word(alloc, exprs, sign, first.as_slice(), second.as_slice())?;
             Ok(Bits {
                 form,
                 word: ListOf::from_vec(word),

@@ -1,8 +1,7 @@
 //! Operators on words of one width.
 
-ghost use Rattle.std.specs.Prelude.{◌≡◌, length, replicate, IfOk, IfErr};
+ghost use Rattle.std.specs.Prelude.{◌≡◌, length};
 ghost use Rattle.bit_expr.specs.Arena.{arena};
-ghost use Rattle.bit_expr.specs.declared.fault.ExprFault.TheVariants as fault;
 ghost use Rattle.abel_meaning.specs.BitWords.{each_not, difference_bits, operator_bits, unary_word};
 ghost use Rattle.expr_bits.specs.Along.{step_of};
 ghost use Rattle.expr_bits.specs.Making.{Makes, ShowsItems, AllIn, word_at};
@@ -32,15 +31,6 @@ pub fn complement_word(
         carry: ZERO,
     };
     along(alloc, exprs, sweep, word, word)
-}
-
-/// So many zeros.
-fn zeros(alloc: Global, width: usize) -> Result<Vec<ExprId>, ExprFault>
-    ensures unless { IfErr result (λ e. e ≡ fault.OutOfMemory) }
-    ensures zeros { IfOk result (λ ids. ids.items ≡ replicate width (record { 0 = 0 })) }
-{
-    let ids = spread_word(alloc, ZERO, width)?;
-    Ok(ids)
 }
 
 /// The first word less the second, as the first with the second's complement and 1.
@@ -76,7 +66,7 @@ pub fn unary_word(
     match sign {
         Unary::Not => complement_word(alloc, exprs, word),
         Unary::Minus => {
-            let none = zeros(alloc, word.len())?;
+            let none = spread_word(alloc, ZERO, word.len())?;
             difference_word(alloc, exprs, none.as_slice(), word)
         }
     }
@@ -113,7 +103,7 @@ pub fn operator_word(
         Binary::Minus => difference_word(alloc, exprs, first, second),
         _ => match step_of(sign) {
             Some(step) => along(alloc, exprs, Sweep { step, carry: ZERO }, first, second),
-            None => zeros(alloc, first.len()),
+            None => Ok(spread_word(alloc, ZERO, first.len())?),
         },
     }
 }

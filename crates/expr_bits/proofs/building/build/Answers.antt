@@ -1,12 +1,46 @@
--- What is made stands on top of the values that are left.
+-- Numbers, `.X.` and sets make no node.
+use Rattle.std.proofs.Common.{false, refl}
+use Rattle.bit_expr.specs.Arena.{arena}
+use Rattle.bit_expr.specs.Formulas.{Const}
+use Rattle.abel_meaning.specs.Terms as term
+use Rattle.abel_meaning.specs.Values.{constant_of}
 use Rattle.set_expr.specs.Contexts.{context_for}
-use Rattle.expr_bits.specs.Steps.{left_by, made_by}
-use Rattle.expr_bits.proofs.StackLaws.{put_made}
+use Rattle.expr_bits.specs.Parts.{IsPart, joined_part, no_part, number_part}
+use Rattle.expr_bits.specs.Steps.{as_set, below, term_part, top}
+use Rattle.expr_bits.proofs.AlongWords.{zero_there, zero_is}
+use Rattle.expr_bits.proofs.Contexts.{is_context}
+use Rattle.expr_bits.proofs.Making.{nothing_made}
 use Rattle.expr_bits.proofs.building.build.Goals as goal
 
-pub returns : goal.returns
-returns g c ps a =
+pub returns-in-Number-clause-made : goal.returns-in-Number-clause-made
+returns-in-Number-clause-made g c ps a =
+    let old = c.args.exprs.now in
+    rw c.in-Number.is (nothing_made IsPart old c.number_bits.result (number_part c.in-Number.number) (c.number_bits.ensures (arena old)))
+
+pub returns-in_ok-one_bit-in-Unknown-clause-made : goal.returns-in_ok-one_bit-in-Unknown-clause-made
+returns-in_ok-one_bit-in-Unknown-clause-made g c ps a =
     let d = context_for g.D.Device.table c.args.scope.now in
     let old = c.args.exprs.now in
-    put_made old c.made_by.new.exprs c.in_ok-bits.bits c.made_by.new.values.items c.in_ok-values.values (made_by d c.args.step ps) (left_by c.args.step ps)
-    (c.in_ok-bits.ensures.made ps a) (c.in_ok-bits.ensures.left old ps a) c.in_ok-values.ensures
+    rw c.in-Unknown.is
+    (nothing_made IsPart old c.in_ok-one_bit-in-Unknown.field-0 (term_part d term.X).what
+    (c.in_ok-one_bit-in-Unknown.ensures (arena old) (Const false) (constant_of d term.X) refl refl (zero_there old, zero_is old)))
+
+pub returns-in-Read-clause-made : goal.returns-in-Read-clause-made
+returns-in-Read-clause-made g c ps a =
+    let t = g.D.Device.table in
+    let n = c.args.scope.now in
+    rw c.in-Read.is (c.read.ensures (context_for t n) (is_context t n))
+
+pub returns-in-Empty-clause-made : goal.returns-in-Empty-clause-made
+returns-in-Empty-clause-made g c ps a =
+    let old = c.args.exprs.now in
+    rw c.in-Empty.is (nothing_made IsPart old c.empty_set.result no_part (c.empty_set.ensures.bits (arena old)))
+
+pub returns-in_ok-with_member-in-Member-clause-made : goal.returns-in_ok-with_member-in-Member-clause-made
+returns-in_ok-with_member-in-Member-clause-made g c ps a =
+    let old = c.args.exprs.now in
+    let others = as_set (top (below ps)) in
+    rw c.in-Member.is
+    (nothing_made IsPart old c.in_ok-with_member-in-Member.field-0 (joined_part (top ps) others)
+    (c.in_ok-with_member-in-Member.ensures.bits old (top ps) others (c.taken-member.ensures.top (arena old) ps a)
+    (c.taken_set-others.ensures.top (arena old) (below ps) (c.taken-member.ensures.below (arena old) ps a))))

@@ -62,13 +62,13 @@ returns-in-Set c =
     let old = c.args.work.items in
     let own = c.innermost-in-Set.result in
     let ms = c.in-Set.members in
-    IfOk-weaker c.expand_set.result _ _
+    IfOk-weaker c.first_of-in-Set.result _ _
     (λ new has. same_first es new.items old (extended_if own (term.Set (terms_of ks (members_of (map view_member c.as_slice.result.now))))) _
     (ap (λ xs. extended_if own (term.Set (terms_of ks (members_of (map view_member xs))))) c.as_slice.ensures
     ∙ (ap (λ o. extended_if o (term.Set (terms_of ks (members_of (map view_member ms))))) c.innermost-in-Set.ensures ∙ innermost_wins c.in-Set.own e (term.Set (terms_of ks (members_of (map view_member ms)))))
     ∙ ap (λ t. extended_if e (term_of ks t)) (sym (ap view c.in-Set.is ∙ view_set c.in-Set.place ms c.in-Set.own)))
-    has)
-    c.expand_set.ensures
+    (first_comes es old new.items (work.Members c.as_slice.result (record { extension = own; count = c.args.outer.count })) (extended_if own (term.Set (terms_of ks (members_of (map view_member c.as_slice.result.now))))) has (λ d ps. refl)))
+    c.first_of-in-Set.ensures
 
 pub returns-in-Paren : goal.returns-in-Paren
 returns-in-Paren c =

@@ -19,4 +19,4 @@ returns-then-made-eq0 g c e k =
     let x = Some extension.Clk in
     let t = term_of (known_of (take (length c.args.rows.now) (entries_of n))) (view c.args.expr.now) in
     let made = subst (λ old. Makes IsPart old c.walk.new.exprs (Ok c.in-Ok.bits) (term_part d (extended_if x t))) c.new-exprs.ensures (c.in-Ok.ensures (extended_if x t) refl) in
-    kept_under d x e t c.in-Ok.bits c.requires.still (kept_alone d c.walk.new.exprs c.in-Ok.bits (extended_if x t) (sym c.made.ensures ∙ c.if-made-eq0.true) made) k
+    kept_under d extension.Clk e t c.in-Ok.bits c.requires.still (kept_alone d c.walk.new.exprs c.in-Ok.bits (extended_if x t) (sym c.made.ensures ∙ c.if-made-eq0.true) made) k

@@ -16,7 +16,7 @@ returns-in-Number-clause-width c = IfOk-weaker c.digit_word.result _ _ (λ ids e
 
 pub returns-in-Single-clause-shows : goal.returns-in-Single-clause-shows
 returns-in-Single-clause-shows c =
-    let first : c.first_bit.result ≡ get_or c.args.value.now.word 0 (record { 0 = 0 }) = c.first_bit.ensures ∙ ap (λ xs. get_or xs 0 (record { 0 = 0 })) c.as_slice.ensures in
+    let first : c.bit_at.result ≡ get_or c.args.value.now.word 0 (record { 0 = 0 }) = c.bit_at.ensures ∙ ap (λ xs. get_or xs 0 (record { 0 = 0 })) c.as_slice.ensures in
     IfOk-weaker c.spread_word.result _ _ (λ ids e ns v w is. subst (λ xs. ShowsAll (arena ns) xs (met_word c.args.width v w)) (sym (e ∙ ap (replicate c.args.width) first)) (met_single ns c.args.value.now v w c.args.width c.in-Single.is is)) c.spread_word.ensures
 
 pub returns-in-Set-clause-shows : goal.returns-in-Set-clause-shows

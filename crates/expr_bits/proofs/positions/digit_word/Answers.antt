@@ -1,12 +1,15 @@
--- One digit more.
-use Rattle.expr_bits.proofs.PositionWords.{begins, grows, ends, digits_first, digits_next, digits_end}
+-- One digit more, and all digits.
+use Rattle.std.proofs.Common.{ap, arith, ◌∙◌}
+use Rattle.expr_bits.specs.Positions.{digit_ids}
+use Rattle.expr_bits.proofs.PositionWords.{next, digits_next, halved_next}
 use Rattle.expr_bits.proofs.positions.digit_word.Goals as goal
 
-pub loop-index-init : goal.loop-index-init
-loop-index-init c = begins _ _ _ c.new-ids.ensures.items (digits_first c.args.width c.args.number)
-
 pub loop-index-preserved : goal.loop-index-preserved
-loop-index-preserved c = rw (c.in_ok-push.ensures.items, c.constant.ensures) (grows _ _ _ _ _ (digits_next c.args.width c.loop-index.index c.loop-index.rest c.loop-index-test.true) c.loop-index.invariant)
+loop-index-preserved c =
+    record {
+      ids = rw (c.in_ok-push.ensures.items, c.constant.ensures) (next _ _ _ _ (digits_next c.loop-index.index c.args.number c.loop-index.rest c.loop-index.invariant.rest) c.loop-index.invariant.ids);
+      rest = halved_next c.loop-index.index c.args.number c.loop-index.rest c.loop-index.invariant.rest;
+    }
 
 pub returns : goal.returns
-returns c = ends _ _ _ (digits_end c.args.width c.loop-index.index c.loop-index.rest c.loop-index-test.false) c.loop-index.invariant
+returns c = c.loop-index.invariant.ids ∙ ap (λ n. digit_ids n c.args.number) (omega (arith, c.loop-index-test.false, c.loop-index.auto.index-end))

@@ -1,7 +1,7 @@
--- What is kept so far.
-use Rattle.std.proofs.Common.{◌≡◌, ◌++◌, drop}
+-- What is kept of the first positions.
+use Rattle.std.proofs.Common.{◌≡◌, take}
 use Rattle.expr_bits.specs.Positions.{kept_ids}
 use Rattle.expr_bits.proofs.positions.kept_word.Given as goal
 
 abbrev pub invariant-loop-index : goal.invariant-loop-index
-invariant-loop-index l = l.ids.items ++ kept_ids (drop l.index l.dropped) (drop l.index l.word) ≡ kept_ids l.dropped l.word
+invariant-loop-index l = l.ids.items ≡ kept_ids (take l.index l.dropped) (take l.index l.word)

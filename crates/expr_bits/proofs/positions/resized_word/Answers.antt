@@ -1,12 +1,11 @@
--- One position more.
-use Rattle.expr_bits.proofs.PositionWords.{begins, grows, ends, resized_first, resized_next, resized_end}
+-- One position more, and all positions.
+use Rattle.std.proofs.Common.{ap, arith, ◌∙◌}
+use Rattle.expr_bits.specs.Positions.{resized_ids}
+use Rattle.expr_bits.proofs.PositionWords.{next, resized_next}
 use Rattle.expr_bits.proofs.positions.resized_word.Goals as goal
 
-pub loop-index-init : goal.loop-index-init
-loop-index-init c = begins _ _ _ c.new-ids.ensures.items (resized_first c.args.width c.args.word.now)
-
 pub loop-index-preserved : goal.loop-index-preserved
-loop-index-preserved c = rw (c.in_ok-push.ensures.items, c.bit_at.ensures) (grows _ _ _ _ _ (resized_next c.args.width c.loop-index.index c.args.word.now c.loop-index-test.true) c.loop-index.invariant)
+loop-index-preserved c = rw (c.in_ok-push.ensures.items, c.bit_at.ensures) (next _ _ _ _ (resized_next c.loop-index.index c.args.word.now) c.loop-index.invariant)
 
 pub returns : goal.returns
-returns c = ends _ _ _ (resized_end c.args.width c.loop-index.index c.args.word.now c.loop-index-test.false) c.loop-index.invariant
+returns c = c.loop-index.invariant ∙ ap (λ n. resized_ids n c.args.word.now) (omega (arith, c.loop-index-test.false, c.loop-index.auto.index-end))

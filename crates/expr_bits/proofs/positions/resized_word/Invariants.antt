@@ -1,7 +1,7 @@
 -- So many positions are there.
-use Rattle.std.proofs.Common.{◌≡◌, ◌-◌, ◌++◌, drop}
+use Rattle.std.proofs.Common.{◌≡◌}
 use Rattle.expr_bits.specs.Positions.{resized_ids}
 use Rattle.expr_bits.proofs.positions.resized_word.Given as goal
 
 abbrev pub invariant-loop-index : goal.invariant-loop-index
-invariant-loop-index l = l.ids.items ++ resized_ids (l.width - l.index) (drop l.index l.word) ≡ resized_ids l.width l.word
+invariant-loop-index l = l.ids.items ≡ resized_ids l.index l.word

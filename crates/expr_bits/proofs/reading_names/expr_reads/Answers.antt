@@ -1,5 +1,5 @@
 -- One use more, and all uses.
-use Rattle.std.proofs.Common.{None, length, map, take, ap, ◌∙◌, subst}
+use Rattle.std.proofs.Common.{length, map, take, ap, ◌∙◌, subst}
 use Rattle.std.specs.List.{list_any}
 use Rattle.abel_tree.specs.Entries.{entries_of}
 use Rattle.abel_tree.specs.View.{view}

@@ -1,5 +1,5 @@
 -- One name more, and all names.
-use Rattle.std.proofs.Common.{length, map, take, sym, ap, subst}
+use Rattle.std.proofs.Common.{length, take, subst}
 use Rattle.std.specs.List.{list_any}
 use Rattle.abel_tree.specs.Entries.{entries_of}
 use Rattle.abel_meaning.specs.Terms.{known_of, term_named}

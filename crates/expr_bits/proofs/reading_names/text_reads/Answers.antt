@@ -4,7 +4,7 @@ use Rattle.abel_tree.specs.Entries.{entries_of}
 use Rattle.abel_meaning.specs.Terms.{Number, known_of, term_named}
 use Rattle.expr_bits.specs.Reads.{IsReads}
 use Rattle.expr_bits.proofs.NamesBefore.{named_none}
-use Rattle.expr_bits.proofs.ReadLaws.{number_read}
+use Rattle.expr_bits.proofs.ReadLaws.{nothing_found}
 use Rattle.expr_bits.proofs.RowLaws.{named_reads}
 use Rattle.expr_bits.proofs.reading_names.text_reads.Goals as goal
 
@@ -20,4 +20,4 @@ returns-in-None c d h =
     let es = entries_of c.args.scope.now in
     let w = c.args.text.now in
     subst (IsReads d c.none.result) (sym (named_none (length c.args.rows.now) es w c.in-None.ensures.place))
-    (subst (λ r. IsReads d r (Number 0)) (sym c.none.ensures) (number_read d 0))
+    (subst (λ r. IsReads d r (Number 0)) (sym c.none.ensures) nothing_found)

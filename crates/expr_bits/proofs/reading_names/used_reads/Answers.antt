@@ -1,5 +1,5 @@
 -- One name, and the names of a range.
-use Rattle.std.proofs.Common.{◌≡◌, ◌∷◌, [], Option, None, length, map, option_map, take, sym, ap, ap₂, ◌∙◌, subst}
+use Rattle.std.proofs.Common.{◌≡◌, ◌∷◌, [], Option, length, map, option_map, take, sym, ap, ap₂, ◌∙◌, subst}
 use Rattle.std.specs.List.{list_any}
 use Rattle.std.proofs.Math.Bool.{or-false}
 use Rattle.abel_tree.specs.declared.words.Extension.{Extension}
@@ -9,7 +9,7 @@ use Rattle.abel_tree.specs.Ranges.{range_names}
 use Rattle.abel_meaning.specs.Terms.{known_of, term_named}
 use Rattle.name_uses.specs.RangeParts.{name_items}
 use Rattle.name_uses.specs.Viewed.{word_at}
-use Rattle.expr_bits.specs.Reads.{Finds, IsReads, named_leaf, named_signal, names_to}
+use Rattle.expr_bits.specs.Reads.{IsReads, named_leaf, named_signal, names_to}
 use Rattle.expr_bits.proofs.reading_names.used_reads.Goals as goal
 
 pub returns-in-None : goal.returns-in-None

@@ -1,5 +1,5 @@
 -- The member's positions stand behind the others.
-use Rattle.std.proofs.Common.{◌++◌, ap, ◌∙◌, refl}
+use Rattle.std.proofs.Common.{◌++◌, ap₂, ◌∙◌, refl}
 use Rattle.expr_bits.proofs.OperatedBits.{joined_shown}
 use Rattle.expr_bits.proofs.sets.with_member.Goals as goal
 
@@ -9,6 +9,6 @@ returns-clause-bits c ns p q is rest =
     (c.member_width-width.ensures p.value is.form)
     (c.in_ok-bits.ensures.shows ns p.value p.word is) c.in_ok-bits.ensures.width
     (c.in_ok-flags.ensures p.value is.form is.unknown)
-    (c.in_ok-word.ensures ∙ ap (λ ids. c.args.others.word ++ ids) c.as_slice.ensures.value)
-    (c.in_ok-unknown.ensures ∙ ap (λ flags. c.args.others.unknown ++ flags) c.as_slice-2.ensures.value)
+    (c.from_vec.ensures ∙ c.in_ok-extend_from_slice.ensures.items ∙ ap₂ (λ xs ys. xs ++ ys) c.into_vec-word.ensures c.as_slice.ensures.value)
+    (c.from_vec-2.ensures ∙ c.in_ok-extend_from_slice-2.ensures.items ∙ ap₂ (λ xs ys. xs ++ ys) c.into_vec-unknown.ensures c.as_slice-2.ensures.value)
     is rest

@@ -1,7 +1,7 @@
 -- So many positions are there.
-use Rattle.std.proofs.Common.{◌≡◌, ◌++◌, drop}
+use Rattle.std.proofs.Common.{◌≡◌, take}
 use Rattle.expr_bits.specs.Shaping.{places_of}
 use Rattle.expr_bits.proofs.shaping.places_of.Given as goal
 
 abbrev pub invariant-loop-index : goal.invariant-loop-index
-invariant-loop-index l = l.places.items ++ places_of (drop l.index l.word) (drop l.index l.unknown) ≡ places_of l.word l.unknown
+invariant-loop-index l = l.places.items ≡ places_of (take l.index l.word) (take l.index l.unknown)

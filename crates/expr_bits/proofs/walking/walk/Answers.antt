@@ -1,18 +1,26 @@
 -- One turn more, and the end.
-use Rattle.std.proofs.Common.{◌≡◌, [], ◌∷◌, ◌++◌, Result, sym, ap, ◌∙◌, subst}
+use Rattle.std.proofs.Common.{◌≡◌, List, [], ◌∷◌, ◌++◌, Result, Err, sym, ap, ◌∙◌, subst}
 use Rattle.std.proofs.lemmas.Result.{err_from_is_err_and}
+use Rattle.std.specs.Global.{Vec}
 use Rattle.bit_expr.specs.declared.fault.ExprFault.{ExprFault}
+use Rattle.bit_expr.specs.declared.fault.ExprFault.TheVariants as fault
+use Rattle.bit_expr.specs.declared.node.Node.{Node}
 use Rattle.bit_expr.specs.Arena.{arena}
-use Rattle.abel_tree.specs.Entries.{entries_of}
+use Rattle.abel_tree.specs.Entries.{Entry, entries_of}
+use Rattle.abel_meaning.specs.Designs.{Context}
 use Rattle.set_expr.specs.Contexts.{context_for}
 use Rattle.expr_bits.specs.Making.{Makes}
 use Rattle.expr_bits.specs.declared.forms.Bits.{Bits}
+use Rattle.expr_bits.specs.declared.work.Work.{Work}
+use Rattle.expr_bits.specs.declared.work.Work.TheVariants as work
 use Rattle.expr_bits.specs.Parts.{IsPart}
-use Rattle.expr_bits.specs.Stacks.{task_of, task_of_turn, tasks_of}
-use Rattle.expr_bits.specs.Steps.{Push, term_part}
-use Rattle.expr_bits.proofs.StackLaws.{none_left}
+use Rattle.expr_bits.specs.Stacks.{named_term, task_of, tasks_of}
+use Rattle.expr_bits.specs.Steps.{Task, Push, Do, left_by, made_by, term_part}
+use Rattle.expr_bits.proofs.Coming.{first_comes}
+use Rattle.expr_bits.proofs.StackLaws.{none_left, put_kept, put_made}
 use Rattle.expr_bits.proofs.Turns.{Walking, tasks_last, walking_start, walking_standing, walking_as, walking_turn, walking_stops, walking_done}
 use Rattle.expr_bits.proofs.walking.walk.Goals as goal
+use Rattle.expr_bits.proofs.walking.walk.Goals.{in-Whole+in_ok-work-in-Whole, in-Members+in_ok-work-in-Members, in-Named+in-Some-bits_at+in_ok-copied-in-Some-bits_at+in_ok-push-in-Some-bits_at, in-Named+in-None+in_ok-push-in-None, in-Do+in_ok-bits-in-Do+in_ok-push-in-Do}
 
 pub turns-init : goal.turns-init
 turns-init g c =
@@ -23,28 +31,39 @@ turns-init g c =
     let tasks : tasks_of es c.push.new.self.items ≡ task_of es w ∷ [] = ap (tasks_of es) (c.in_ok-push.ensures.items ∙ ap (λ ws. ws ++ w ∷ []) c.new-work.ensures.items) in
     subst (λ ts. Walking d old old c.new-values.result ts (task_of es w)) (sym tasks) (walking_start d old c.new-values.result (task_of es w) c.new-values.ensures.items)
 
-pub done-requires : goal.done-requires
-done-requires g c =
+pub build-requires : goal.build-requires
+build-requires g c =
     let es = entries_of c.args.scope.now in
     let d = context_for g.D.Device.table c.args.scope.now in
     record { values = walking_standing d c.args.exprs.now c.turns.exprs c.turns.values (tasks_of es c.turns.work.items) (task_of es c.args.whole) c.turns.invariant }
 
-pub returns-in_err-values : goal.returns-in_err-values
-returns-in_err-values g c t h =
+-- the work that is done next, and what is left
+taken_first : (d : Context) (es : List Entry) (old now : List Node) (vs : Vec Bits) (ws left : List Work) (w v : Work) (x : Task) → ws ≡ left ++ w ∷ [] → w ≡ v → Walking d old now vs (tasks_of es ws) x → Walking d old now vs (task_of es v ∷ tasks_of es left) x
+taken_first d es old now vs ws left w v x e f g =
+    subst (λ ts. Walking d old now vs ts x) (ap (tasks_of es) e ∙ tasks_last es left w ∙ ap (λ u. task_of es u ∷ tasks_of es left) f) g
+
+pub returns-in_err-bits-in-Do : goal.returns-in_err-bits-in-Do
+returns-in_err-bits-in-Do g c t h =
     let es = entries_of c.args.scope.now in
     let d = context_for g.D.Device.table c.args.scope.now in
     let old = c.args.exprs.now in
     let now = c.turns.exprs in
     let left = c.pop.new.self.items in
-    let next = c.in-Some.next in
-    let turn = c.turn_of-turn.result in
-    let whole : Walking d old now c.turns.values (tasks_of es c.turns.work.items) (Push t) = subst (λ x. Walking d old now c.turns.values (tasks_of es c.turns.work.items) x) h c.turns.invariant in
-    let first : Walking d old now c.turns.values (task_of es next ∷ tasks_of es left) (Push t) = subst (λ ts. Walking d old now c.turns.values ts (Push t)) (ap (tasks_of es) c.in-Some.ensures.items ∙ tasks_last es left next) whole in
-    let here = walking_as d old now c.turns.values (task_of_turn es turn) (task_of es next) (tasks_of es left) (Push t) (c.turn_of-turn.ensures.task d) first in
-    let p = err_from_is_err_and c.from_residual-in_err-values.result c.from_residual-in_err-values.ensures.1 in
-    subst (λ (r : Result Bits ExprFault). Makes IsPart old c.done.new.exprs r (term_part d t)) (sym p.1)
-    (walking_stops d old now c.done.new.exprs c.turns.values p.0 es turn (task_of_turn es turn ∷ tasks_of es left) (tasks_of es c.in_ok-work.work.items) t here (c.in_ok-work.ensures d)
-    (rw p.2 (c.in_err-values.ensures here.made (c.turn_of-turn.ensures.held d c.requires.rows) here.shows)))
+    let step = c.in-Do.step in
+    let first : Walking d old now c.turns.values (Do step ∷ tasks_of es left) (task_of es c.args.whole) = taken_first d es old now c.turns.values c.turns.work.items left c.in-Some.next (work.Do step) (task_of es c.args.whole) c.in-Some.ensures.items c.in-Do.is c.turns.invariant in
+    let here : Walking d old now c.turns.values (Do step ∷ tasks_of es left) (Push t) = subst (λ x. Walking d old now c.turns.values (Do step ∷ tasks_of es left) x) h first in
+    let p = err_from_is_err_and c.from_residual-in_err-bits-in-Do.result c.from_residual-in_err-bits-in-Do.ensures.1 in
+    subst (λ (r : Result Bits ExprFault). Makes IsPart old c.build.new.exprs r (term_part d t)) (sym p.1)
+    (walking_stops d old now c.build.new.exprs c.turns.values p.0 step (tasks_of es left) t here (rw p.2 (c.in_err-bits-in-Do.ensures.made here.made here.shows)))
+
+pub returns-in_err-push-in-Do : goal.returns-in_err-push-in-Do
+returns-in_err-push-in-Do g c t h =
+    let d = context_for g.D.Device.table c.args.scope.now in
+    let made = c.in_ok-bits-in-Do.ensures.made c.turns.invariant.made c.turns.invariant.shows in
+    let p = err_from_is_err_and c.from_residual-in_err-push-in-Do.result c.from_residual-in_err-push-in-Do.ensures.1 in
+    let e : c.from_residual-in_err-push-in-Do.result ≡ Err fault.OutOfMemory = p.1 ∙ ap Err p.2 in
+    subst (λ (r : Result Bits ExprFault). Makes IsPart c.args.exprs.now c.build.new.exprs r (term_part d t)) (sym e)
+    (λ i f k. made.grew.keeps i f (c.turns.invariant.grew.keeps i f k))
 
 pub returns-in_default : goal.returns-in_default
 returns-in_default g c t h =
@@ -63,14 +82,44 @@ turns-preserved g c =
     let d = context_for g.D.Device.table c.args.scope.now in
     let old = c.args.exprs.now in
     let now = c.turns.exprs in
+    let vs = c.turns.values in
     let left = c.pop.new.self.items in
-    let next = c.in-Some.next in
-    let turn = c.turn_of-turn.result in
-    let whole = task_of es c.args.whole in
-    let first : Walking d old now c.turns.values (task_of es next ∷ tasks_of es left) whole = subst (λ ts. Walking d old now c.turns.values ts whole) (ap (tasks_of es) c.in-Some.ensures.items ∙ tasks_last es left next) c.turns.invariant in
-    let here = walking_as d old now c.turns.values (task_of_turn es turn) (task_of es next) (tasks_of es left) whole (c.turn_of-turn.ensures.task d) first in
-    walking_turn d old now c.done.new.exprs c.turns.values c.in_ok-values.values es turn (task_of_turn es turn ∷ tasks_of es left) (tasks_of es c.in_ok-work.work.items) whole here (c.in_ok-work.ensures d)
-    (c.in_ok-values.ensures here.made (c.turn_of-turn.ensures.held d c.requires.rows) here.shows)
+    let x = task_of es c.args.whole in
+    let first = taken_first d es old now vs c.turns.work.items left c.in-Some.next in
+    elim c.match-next.branch [
+      | in-Whole+in_ok-work-in-Whole w ↦
+          let next = work.Whole w.in-Whole.expr w.in-Whole.outer in
+          rw (w.exprs-is, w.work-is, w.values-is)
+          (walking_as d old now vs (task_of es next ∷ tasks_of es left) (tasks_of es w.in_ok-work-in-Whole.work.items) x (w.in_ok-work-in-Whole.ensures d)
+          (first next x c.in-Some.ensures.items w.in-Whole.is c.turns.invariant))
+      | in-Members+in_ok-work-in-Members w ↦
+          let next = work.Members w.in-Members.members w.in-Members.outer in
+          rw (w.exprs-is, w.work-is, w.values-is)
+          (walking_as d old now vs (task_of es next ∷ tasks_of es left) (tasks_of es w.in_ok-work-in-Members.work.items) x (w.in_ok-work-in-Members.ensures d)
+          (first next x c.in-Some.ensures.items w.in-Members.is c.turns.invariant))
+      | in-Named+in-Some-bits_at+in_ok-copied-in-Some-bits_at+in_ok-push-in-Some-bits_at w ↦
+          let next = work.Named w.in-Named.number w.in-Named.extension in
+          let t = named_term es w.in-Named.number w.in-Named.extension in
+          let here : Walking d old now vs (Push t ∷ tasks_of es left) x = first next x c.in-Some.ensures.items w.in-Named.is c.turns.invariant in
+          rw (w.exprs-is, w.work-is, w.values-is)
+          (walking_turn d old now now vs w.push-in-Some-bits_at.new.self (Push t) (tasks_of es left) x here
+          (put_kept d now w.in-Some-bits_at.bits.now w.in_ok-copied-in-Some-bits_at.field-0 vs.items w.push-in-Some-bits_at.new.self t here.made w.in_ok-push-in-Some-bits_at.ensures.items
+          (w.in-Some-bits_at.ensures es d c.requires.rows) w.in_ok-copied-in-Some-bits_at.ensures here.shows))
+      | in-Named+in-None+in_ok-push-in-None w ↦
+          let next = work.Named w.in-Named.number w.in-Named.extension in
+          let t = named_term es w.in-Named.number w.in-Named.extension in
+          rw (w.exprs-is, w.work-is, w.values-is)
+          (walking_as d old now vs (Push t ∷ tasks_of es left) (tasks_of es w.push-in-None.new.self.items) x
+          (first_comes es left w.push-in-None.new.self.items w.declared_work.result t w.in_ok-push-in-None.ensures.items w.declared_work.ensures d)
+          (first next x c.in-Some.ensures.items w.in-Named.is c.turns.invariant))
+      | in-Do+in_ok-bits-in-Do+in_ok-push-in-Do w ↦
+          let step = w.in-Do.step in
+          let here : Walking d old now vs (Do step ∷ tasks_of es left) x = first (work.Do step) x c.in-Some.ensures.items w.in-Do.is c.turns.invariant in
+          rw (w.exprs-is, w.work-is, w.values-is)
+          (walking_turn d old now w.build.new.exprs vs w.push-in-Do.new.self (Do step) (tasks_of es left) x here
+          (put_made now w.build.new.exprs w.in_ok-bits-in-Do.bits w.build.new.values.items w.push-in-Do.new.self (made_by d step here.made) (left_by step here.made) w.in_ok-push-in-Do.ensures.items
+          (w.in_ok-bits-in-Do.ensures.made here.made here.shows) (w.in_ok-bits-in-Do.ensures.left now here.made here.shows)))
+    ]
 
 pub returns : goal.returns
 returns g c t h i f e = c.turns.invariant.grew.keeps i f e

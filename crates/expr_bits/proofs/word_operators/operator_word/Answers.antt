@@ -1,5 +1,5 @@
 -- Each operator that has a step goes along both words.
-use Rattle.std.proofs.Common.{sym, subst, ◌∙◌}
+use Rattle.std.proofs.Common.{Ok, sym, subst, ◌∙◌}
 use Rattle.bit_expr.specs.Arena.{arena}
 use Rattle.expr_bits.specs.Making.{Makes, ShowsItems, word_at}
 use Rattle.expr_bits.proofs.AlongWords.{zero_there, zero_is, no_operator, operator_along}
@@ -16,9 +16,9 @@ returns-in-Some c =
     (operator_along c.args.sign c.in-Some.step (word_at (arena old) c.args.first.now) (word_at (arena old) c.args.second.now) (sym c.in-Some.is ∙ c.step_of.ensures))
     (rw (zero_is old) at c.along.ensures)
 
-pub returns-in-None : goal.returns-in-None
-returns-in-None c =
+pub returns-in_ok-spread_word-in-None : goal.returns-in_ok-spread_word-in-None
+returns-in_ok-spread_word-in-None c =
     let old = c.args.exprs.now in
-    subst (λ m. Makes ShowsItems old old c.zeros.result m)
+    subst (λ m. Makes ShowsItems old old (Ok c.in_ok-spread_word-in-None.field-0) m)
     (sym (no_operator c.args.sign (word_at (arena old) c.args.first.now) (word_at (arena old) c.args.second.now) (sym c.in-None.is ∙ c.step_of.ensures) c.in_default.not-Minus))
-    (zeros_made old c.args.first.now c.zeros.result c.zeros.ensures.unless c.zeros.ensures.zeros)
+    (zeros_made old c.args.first.now c.in_ok-spread_word-in-None.field-0 c.in_ok-spread_word-in-None.ensures)

@@ -1,13 +1,13 @@
 -- What was found before, and what is left to compare.
 use Rattle.std.proofs.Common.{drop}
-use Rattle.bit_expr.specs.Arena.{arena, formula_at}
-use Rattle.abel_meaning.specs.BitWords.{equal_bits}
+use Rattle.bit_expr.specs.Arena.{arena}
 use Rattle.expr_bits.specs.Making.{ShowsOne, word_at}
+use Rattle.expr_bits.specs.Pieces.{relation_steps, start_of}
 use Rattle.expr_bits.proofs.Making.{Going}
-use Rattle.expr_bits.proofs.compare.equal_bits.Given as goal
+use Rattle.expr_bits.proofs.compare.compared.Given as goal
 
 abbrev pub invariant-loop-i : goal.invariant-loop-i
 invariant-loop-i l =
     let xs = word_at (arena l.fn.exprs) l.first in
     let ys = word_at (arena l.fn.exprs) l.second in
-    Going ShowsOne l.fn.exprs l.exprs l.found (λ f. equal_bits f (drop l.i xs) (drop l.i ys)) (equal_bits (formula_at (arena l.fn.exprs) l.fn.before) xs ys)
+    Going ShowsOne l.fn.exprs l.exprs l.found (λ f. relation_steps l.relation f (drop l.i xs) (drop l.i ys)) (relation_steps l.relation (start_of l.relation) xs ys)

@@ -4,29 +4,24 @@ use Rattle.std.proofs.lemmas.Bool.{ltb-false}
 use Rattle.std.proofs.lemmas.Option.{slice_get_past}
 use Rattle.abel_tree.specs.Entries.{entries_of}
 use Rattle.abel_meaning.specs.Terms.{extended_if}
-use Rattle.expr_bits.specs.Stacks.{here_term, task_of_turn}
-use Rattle.expr_bits.specs.Steps.{Push, after_task}
+use Rattle.expr_bits.specs.Stacks.{ComesTo, here_term}
 use Rattle.expr_bits.proofs.Coming.{zero_comes}
 use Rattle.expr_bits.proofs.NamesBefore.{entry_at, entries_long}
-use Rattle.expr_bits.proofs.turn.named_turn.Goals as goal
+use Rattle.expr_bits.proofs.naming.declared_work.Goals as goal
 
-pub returns-in-Some-clause-task : goal.returns-in-Some-clause-task
-returns-in-Some-clause-task c d ps =
+pub returns-in-Some : goal.returns-in-Some
+returns-in-Some c =
     let es = entries_of c.args.scope.now in
     let n = c.args.number in
     let lookup = c.in-Some.ensures.lookup in
     let here = entry_at c.args.scope.now c.list.result.now n c.in-Some.declared.now c.list.ensures lookup.3.0 lookup.1 in
-    subst (λ o. after_task d (task_of_turn es c.declared_turn.result) ps ≡ after_task d (Push (extended_if c.args.extension (here_term es n o))) ps) (sym here)
-    (c.declared_turn.ensures.task es d ps)
+    subst (λ o. ComesTo es c.meant_work.result (extended_if c.args.extension (here_term es n o))) (sym here) (c.meant_work.ensures es)
 
-pub returns-in-None-clause-task : goal.returns-in-None-clause-task
-returns-in-None-clause-task c d ps =
+pub returns-in-None : goal.returns-in-None
+returns-in-None c d ps =
     let es = entries_of c.args.scope.now in
     let n = c.args.number in
     let list = c.list.result.now in
     let past : length list ≤ n = ltb-false n (length list) (sym c.in-None.ensures.lookup.0) in
     let none : slice_get es n ≡ None = slice_get_past es n (omega (arith, past, entries_long c.args.scope.now list c.list.ensures)) in
     zero_comes d c.args.extension _ ps (ap (here_term es n) none)
-
-pub returns-in-Some-clause-held : goal.returns-in-Some-clause-held
-returns-in-Some-clause-held c d = c.declared_turn.ensures.held (entries_of c.args.scope.now) d
