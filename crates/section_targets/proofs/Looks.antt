@@ -1,7 +1,7 @@
 -- Look-ups from the front.
-use Rattle.std.proofs.Common.{◌≡◌, ℕ, zero, suc, ◌+◌, ◌<◌, ◌≤◌, Bool, true, false, ◌||◌, List, [], ◌∷◌, ◌++◌, Option, None, Some, cond, length, get_or, drop, if◌then◌else◌, refl, sym, ap, ap₂, ◌∙◌, subst, arith, add-one}
+use Rattle.std.proofs.Common.{◌≡◌, ℕ, zero, suc, ◌+◌, ◌-◌, ◌<◌, ◌≤◌, Bool, true, false, ◌||◌, List, [], ◌∷◌, ◌++◌, Option, None, Some, cond, length, map, get_or, drop, if◌then◌else◌, refl, sym, ap, ap₂, ◌∙◌, subst, arith, add-one}
 use Rattle.std.specs.List.{list_any, position_from}
-use Rattle.std.specs.Option.{is_some}
+use Rattle.std.specs.Option.{is_some, option_or}
 use Rattle.std.specs.Prelude.{position}
 use Rattle.std.proofs.lemmas.Iterator.Adapters.{position_from-zero}
 use Rattle.std.proofs.Math.Seq.{drop-cons}
@@ -15,6 +15,15 @@ use Rattle.section_targets.specs.Manners.{first_manner, is_same_part, part_of, A
 -- what is left from k on
 pub next_of : {X : Type 0} (xs : List X) (k : ℕ) (d : X) → k < length xs → drop k xs ≡ get_or xs k d ∷ drop (k + 1) xs
 next_of xs k d lt = drop-cons xs k d lt ∙ ap (λ n. get_or xs k d ∷ drop n xs) (sym (add-one k))
+
+-- from the last back to the one before k
+pub back_more : {A B : Type 0} (f : A → B) (xs : List A) (k : ℕ) (x : A) → 0 < k → k ≤ length xs → x ≡ get_or xs (k - 1) x → map f (drop (k - 1) xs) ≡ f x ∷ map f (drop k xs)
+back_more f xs k x some h i =
+    let next : k - 1 + 1 ≡ k = omega (arith, some) in
+    ap (map f) (next_of xs (k - 1) x (omega (arith, some, h))) ∙ ap₂ (λ y n. f y ∷ map f (drop n xs)) (sym i) next
+
+pub back_none : {A B : Type 0} (f : A → B) (xs : List A) → map f (drop (length xs) xs) ≡ []
+back_none f xs = ap (map f) (drop_all (length xs) xs (omega arith))
 
 first_from : (ms : List Manner) (k : ℕ) (d : Manner) (s part : ℕ) → k < length ms → first_manner (drop k ms) s part ≡ (if is_same_part (get_or ms k d) s part then Some (get_or ms k d) else first_manner (drop (k + 1) ms) s part)
 first_from ms k d s part lt = ap (λ xs. first_manner xs s part) (next_of ms k d lt)
@@ -46,40 +55,36 @@ placed_any {X = X} t xs = ap is_some (position_from-zero t xs) ∙ from 0 xs
 
 -- ---- the first of each part
 
-abbrev or_last : Option Manner → (same : Bool) → Manner → Option Manner
-or_last (Some f) same m = Some f
-or_last None same m = if same then Some m else None
-
-pushed : (b : Bool) (x : Manner) (rest more o : Option Manner) (same : Bool) (m : Manner) → (if b then Some x else rest) ≡ o → more ≡ or_last rest same m → (if b then Some x else more) ≡ or_last o same m
-pushed true x rest more o same m e h = subst (λ (y : Option Manner). Some x ≡ or_last y same m) e refl
-pushed false x rest more o same m e h = h ∙ ap (λ (y : Option Manner). or_last y same m) e
-
--- the same part is the same signal's
-missing : (m : Manner) (s part : ℕ) (firsts : List Manner) (f : Manner) → is_same_part m s part ≡ true → Some f ≡ first_manner firsts m.signal (part_of m.extension) → first_manner firsts s part ≡ None → ⊥
-missing m s part firsts f q e p =
-    let i : m.signal ≡ s = grind (arith, nat_tests, q) in
-    let j : part_of m.extension ≡ part = grind (arith, nat_tests, q) in
-    let k : Some f ≡ None = e ∙ ap₂ (λ a b. first_manner firsts a b) i j ∙ p in
-    cc
-
 -- one more at the end is the first where none was
-first_push : (ms : List Manner) (m : Manner) (s part : ℕ) (o : Option Manner) → first_manner ms s part ≡ o → first_manner (ms ++ m ∷ []) s part ≡ or_last o (is_same_part m s part) m
-first_push [] m s part o e = subst (λ (x : Option Manner). (if is_same_part m s part then Some m else None) ≡ or_last x (is_same_part m s part) m) e refl
-first_push (x ∷ ms) m s part o e = pushed (is_same_part x s part) x (first_manner ms s part) (first_manner (ms ++ m ∷ []) s part) o (is_same_part m s part) m e (first_push ms m s part (first_manner ms s part) refl)
+first_push : (ms : List Manner) (m : Manner) (s part : ℕ) → first_manner (ms ++ m ∷ []) s part ≡ option_or (first_manner ms s part) (first_manner (m ∷ []) s part)
+first_push [] m s part = refl
+first_push (x ∷ ms) m s part = by_test (is_same_part x s part) (first_push ms m s part)
+  where
+    by_test : (b : Bool) → first_manner (ms ++ m ∷ []) s part ≡ option_or (first_manner ms s part) (first_manner (m ∷ []) s part)
+        → (if b then Some x else first_manner (ms ++ m ∷ []) s part) ≡ option_or (if b then Some x else first_manner ms s part) (first_manner (m ∷ []) s part)
+    by_test true e = refl
+    by_test false e = e
 
 -- what is kept and what all are agree with one more at the end of both
 pub firsts_push : (firsts all : List Manner) (m : Manner) → AreFirsts firsts all → AreFirsts (firsts ++ m ∷ []) (all ++ m ∷ [])
-firsts_push firsts all m h s part = first_push firsts m s part (first_manner firsts s part) refl ∙ sym (first_push all m s part (first_manner firsts s part) (sym (h s part)))
+firsts_push firsts all m h s part =
+    first_push firsts m s part ∙ ap (λ o. option_or o (first_manner (m ∷ []) s part)) (h s part) ∙ sym (first_push all m s part)
 
 -- nothing need be kept where the part is assigned before
 pub firsts_stay : (firsts all : List Manner) (m f : Manner) → AreFirsts firsts all → Some f ≡ first_manner firsts m.signal (part_of m.extension) → AreFirsts firsts (all ++ m ∷ [])
 firsts_stay firsts all m f h e s part =
-    sym (first_push all m s part (first_manner firsts s part) (sym (h s part)) ∙ stays (first_manner firsts s part) (is_same_part m s part) m refl refl)
+    sym (first_push all m s part ∙ ap (λ o. option_or o (first_manner (m ∷ []) s part)) (sym (h s part)) ∙ stays (is_same_part m s part) refl)
   where
-    stays : (o : Option Manner) (b : Bool) (x : Manner) → first_manner firsts s part ≡ o → is_same_part m s part ≡ b → or_last o b x ≡ o
-    stays (Some y) b x p q = refl
-    stays None false x p q = refl
-    stays None true x p q = absurd (missing m s part firsts f q e p)
+    last : (o : Option Manner) → option_or o None ≡ o
+    last None = refl
+    last (Some x) = refl
+
+    stays : (b : Bool) → is_same_part m s part ≡ b → option_or (first_manner firsts s part) (if b then Some m else None) ≡ first_manner firsts s part
+    stays false q = last (first_manner firsts s part)
+    stays true q =
+        let i : m.signal ≡ s = grind (arith, nat_tests, q) in
+        let j : part_of m.extension ≡ part = grind (arith, nat_tests, q) in
+        subst (λ o. option_or o (Some m) ≡ o) (e ∙ ap₂ (λ a b. first_manner firsts a b) i j) refl
 
 pub named_one : (n : ℕ) (a : Aim) → a.signal < n → AreNamed n (a ∷ [])
 named_one n a h zero d lt = h

@@ -1,9 +1,10 @@
 -- What is refused of the signals of a target, one more.
-use Rattle.std.proofs.Common.{◌≡◌, ℕ, zero, suc, Bool, true, false, List, [], ◌∷◌, ◌++◌, Option, Some, ◌≤◌, ◌||◌, if◌then◌else◌, length, map, take, get_or, refl, sym, ap, ap₂, ◌∙◌, subst, append_assoc, append-nil, add-one, ◌<◌, ◌+◌, arith}
+use Rattle.std.proofs.Common.{◌≡◌, ℕ, Bool, true, false, List, [], ◌∷◌, ◌++◌, Option, Some, ◌≤◌, ◌||◌, if◌then◌else◌, length, map, take, get_or, refl, sym, ap, ap₂, ◌∙◌, subst, append_assoc, append-nil, add-one, ◌<◌, ◌+◌, arith}
 use Rattle.std.proofs.lemmas.Bool.Decides.{nat_tests}
 use Rattle.pld_base.specs.declared.place.Place.{Place}
 use Rattle.std.proofs.Math.Seq.{take-suc}
-use Rattle.std.proofs.lemmas.List.{map-append, length-map}
+use Rattle.std.proofs.lemmas.List.{map-append}
+use Rattle.std.proofs.lemmas.Option.{get_or_from_slice_get}
 use Rattle.abel_tree.specs.declared.words.Extension.{Extension}
 use Rattle.abel_tree.specs.FirstRefusal.{sooner, is_before, earlier, first_refusal}
 use Rattle.abel_tree.proofs.FirstRefusals.{before_by, first_append}
@@ -15,6 +16,7 @@ use Rattle.set_expr.specs.Answer.{IsContextOf}
 use Rattle.abel_meaning.specs.Designs.{Context, name_at, no_name}
 use Rattle.set_expr.specs.declared.fault.SectionFault.{SectionFault}
 use Rattle.set_expr.specs.SectionOrder.{section_order}
+use Rattle.expr_bits.proofs.NamesBefore.{entry_at, entries_long}
 use Rattle.section_targets.specs.declared.aim.Aim.{Aim}
 use Rattle.section_targets.specs.declared.manner.Manner.{Manner}
 use Rattle.set_expr.specs.declared.fault.SectionFault.TheVariants.{NotAnOutput, MixedAssignment}
@@ -82,18 +84,13 @@ pub noted_none : (before now : List Manner) (e : Option Extension) (c k : Bool) 
 noted_none before now e c k xs h = subst (AreFirsts now) (sym (append-nil before)) h
 
 -- a declared name as an entry of the design
-at_view : (xs : List Declared) (k : ℕ) (x : Declared) (y : Entry) → k < length xs → get_or (map view_declared xs) k y ≡ view_declared (get_or xs k x)
-at_view [] k x y lt = absurd (omega (arith, lt))
-at_view (z ∷ xs) zero x y lt = refl
-at_view (z ∷ xs) (suc k) x y lt = at_view xs k x y (omega (arith, lt))
-
-named_entry : (n : Names) (d : Context) (k : ℕ) (x y : Declared) → d.names ≡ entries_of n → k < length (entries_of n) → y ≡ get_or n.list k x → name_at d k ≡ view_declared y
-named_entry n d k x y e lt h =
-    ap (λ es. get_or es k no_name) e ∙ at_view n.list k x no_name (omega (arith, lt, length-map n.list view_declared)) ∙ ap view_declared (sym h)
+named_entry : (n : Names) (d : Context) (ds : List Declared) (k : ℕ) (x : Declared) → d.names ≡ entries_of n → k < length (entries_of n) → ds ≡ n.list → x ≡ get_or ds k x → name_at d k ≡ view_declared x
+named_entry n d ds k x e lt l h =
+    ap (λ es. get_or es k no_name) e ∙ get_or_from_slice_get (entries_of n) k (view_declared x) no_name (entry_at n ds k x l (omega (arith, lt, entries_long n ds l)) h)
 
 -- what is refused of a signal that is declared so
-pub aim_refused_as : (n : Names) (t : Table) (d : Context) (ds : List Declared) (x y : Declared) (before : List Manner) (e : Option Extension) (c k : Bool) (a : Aim) → IsContextOf t n d → a.signal < length (entries_of n) → ds ≡ n.list → y ≡ get_or ds a.signal x
-    → first_refusal section_order (no_output t (view_declared y) a.place (manner_of e c k a) ++ mixed before (view_declared y) a.place (manner_of e c k a))
+pub aim_refused_as : (n : Names) (t : Table) (d : Context) (ds : List Declared) (x : Declared) (before : List Manner) (e : Option Extension) (c k : Bool) (a : Aim) → IsContextOf t n d → a.signal < length (entries_of n) → ds ≡ n.list → x ≡ get_or ds a.signal x
+    → first_refusal section_order (no_output t (view_declared x) a.place (manner_of e c k a) ++ mixed before (view_declared x) a.place (manner_of e c k a))
     ≡ first_refusal section_order (aim_refused d before e c k a)
-aim_refused_as n t d ds x y before e c k a is lt l h =
-    ap₂ (λ u z. first_refusal section_order (no_output u z a.place (manner_of e c k a) ++ mixed before z a.place (manner_of e c k a))) (sym is.device) (sym (named_entry n d a.signal x y is.names lt (h ∙ ap (λ zs. get_or zs a.signal x) l)))
+aim_refused_as n t d ds x before e c k a is lt l h =
+    ap₂ (λ u z. first_refusal section_order (no_output u z a.place (manner_of e c k a) ++ mixed before z a.place (manner_of e c k a))) (sym is.device) (sym (named_entry n d ds a.signal x is.names lt l h))

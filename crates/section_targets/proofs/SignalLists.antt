@@ -1,20 +1,20 @@
 -- The signals of several names, one after another.
-use Rattle.std.proofs.Common.{◌≡◌, ℕ, zero, suc, ◌+◌, ◌<◌, ◌≤◌, ◌==◌, min, Bool, true, false, ◌&&◌, Option, None, Some, List, [], ◌∷◌, ◌++◌, All, length, take, get_or, refl, sym, ap, ap₂, ◌∙◌, subst, arith, if◌then◌else◌, bytes_eq}
+use Rattle.std.proofs.Common.{◌≡◌, ℕ, zero, suc, ◌<◌, ◌≤◌, ◌==◌, min, Bool, true, false, ◌&&◌, Option, None, Some, List, [], ◌∷◌, ◌++◌, All, length, take, get_or, refl, sym, ap, ap₂, ◌∙◌, subst, arith, append_assoc, if◌then◌else◌, bytes_eq}
 use Rattle.std.specs.Prelude.{codes}
-use Rattle.std.proofs.lemmas.List.{take-take, take_all, length-take}
-use Rattle.std.proofs.lemmas.List.Elements.{All-append, All-take}
+use Rattle.std.proofs.lemmas.List.{take-map, take-take, take_all, length-take}
+use Rattle.std.proofs.lemmas.List.Elements.{All-append, All-map, All-take}
 use Rattle.std.proofs.lemmas.Bool.Decides.{nat_tests}
 use Rattle.pld_base.specs.declared.place.Place.{Place}
 use Rattle.abel_tree.specs.declared.words.Extension.{Extension}
 use Rattle.abel_tree.specs.FirstRefusal.{earlier, first_refusal}
 use Rattle.abel_tree.proofs.FirstRefusals.{first_append}
-use Rattle.abel_tree.specs.Entries.{Entry}
+use Rattle.abel_tree.specs.Entries.{Entry, find}
 use Rattle.abel_tree.specs.Tree.{Tree}
 use Rattle.abel_meaning.specs.Designs.{Context}
 use Rattle.set_expr.specs.Answer.{first_place}
 use Rattle.set_expr.specs.declared.fault.SectionFault.TheVariants.{NotAnOutput}
 use Rattle.abel_meaning.specs.Targets.{targets_of, all_targets, some_signals}
-use Rattle.abel_meaning.specs.Terms.{Term, Terms, Number, X, Pulse, Release, Read, Set, UnaryOf, BinaryOf, NoTerm, Before, extended, extended_each, special_term}
+use Rattle.abel_meaning.specs.Terms.{Term, Terms, Number, X, Pulse, Release, Read, Set, UnaryOf, BinaryOf, NoTerm, Before, extended, extended_each, special_term, term_named}
 use Rattle.set_expr.specs.declared.fault.SectionFault.{SectionFault}
 use Rattle.set_expr.specs.SectionOrder.{section_order}
 use Rattle.set_expr.specs.Refusals.{too_wide}
@@ -22,8 +22,8 @@ use Rattle.section_targets.specs.declared.aim.Aim.{Aim}
 use Rattle.section_targets.specs.declared.named.NamedSignals.{NamedSignals}
 use Rattle.section_targets.specs.declared.sides.Side.{Side}
 use Rattle.section_targets.specs.Given.{AreNamed}
-use Rattle.section_targets.specs.NamedTargets.{AreSignals, IsOfTerm, IsSide}
-use Rattle.section_targets.specs.TargetSignals.{TargetFound, aims_at, names_signals, all_name_signals, is_only, first_name, no_target, targets_both, target_set, target_member}
+use Rattle.section_targets.specs.NamedTargets.{AreSignals, IsOfTerm, IsOfMembers, IsSide}
+use Rattle.section_targets.specs.TargetSignals.{TargetFound, aim_at, aims_at, names_signals, all_name_signals, is_only, is_itself, start_at, first_name, no_target, targets_both, target_set, target_member}
 
 -- ---- signals
 
@@ -68,6 +68,10 @@ pub signals_joined : (count : ℕ) (a b n : NamedSignals) (xs ys : List ℕ) (p 
 signals_joined count a b n xs ys p q h k alone list =
     let l = joined (λ (s : ℕ). s < count) n.signals a.signals b.signals xs ys list h.signals k.signals h.inside k.inside in
     record { alone = alone ∙ ap₂ (λ x y. x && y) h.alone k.alone; signals = l.0; inside = l.1 }
+
+-- those of a term before those of others
+pub signals_before : (count : ℕ) (n : NamedSignals) (t : Term) (ts : Terms) → AreSignals count n (some_signals (targets_of t) ++ some_signals (all_targets ts)) (names_signals t && all_name_signals ts) → IsOfMembers count n (Before t ts)
+signals_before count n t ts h = subst (λ xs. AreSignals count n xs (names_signals t && all_name_signals ts)) (sym (some_append (targets_of t) (all_targets ts))) h
 
 -- ---- extensions
 
@@ -147,34 +151,25 @@ special_none count n letter h = by_tests (bytes_eq (letter ∷ []) (codes "X")) 
 
 -- ---- sides
 
-pub aims_push : (p : Place) (ss : List ℕ) (s : ℕ) → aims_at p (ss ++ s ∷ []) ≡ aims_at p ss ++ record { signal = s; place = p } ∷ []
-aims_push p [] s = refl
-aims_push p (x ∷ ss) s = ap (λ zs. record { signal = x; place = p } ∷ zs) (aims_push p ss s)
+pub both_assoc : (x y z : TargetFound) → targets_both (targets_both x y) z ≡ targets_both x (targets_both y z)
+both_assoc x y z = rw (append_assoc x.refusals y.refusals z.refusals, append_assoc x.aims y.aims z.aims) refl
 
-pub aims_length : (p : Place) (ss : List ℕ) → length (aims_at p ss) ≡ length ss
-aims_length p [] = refl
-aims_length p (s ∷ ss) = omega (arith, aims_length p ss)
-
-aims_inside : (count : ℕ) (p : Place) (ss : List ℕ) → All (λ (s : ℕ). s < count) ss → AreNamed count (aims_at p ss)
-aims_inside count p [] h = λ k d lt. absurd (omega (arith, lt))
-aims_inside count p (s ∷ ss) h = first (h zero s (omega arith)) (aims_inside count p ss (λ i e le. h (suc i) e (omega (arith, le))))
+-- a side that begins at the name
+pub start_same : (d : Context) (p : Place) (w : List ℕ) → start_at d p p w ≡ p
+start_same d p w = by_test (is_itself (find d.names w) (term_named d.known w))
   where
-    first : s < count → AreNamed count (aims_at p ss) → AreNamed count (aims_at p (s ∷ ss))
-    first lt more zero d le = lt
-    first lt more (suc k) d le = more k d (omega (arith, le))
+    by_test : (b : Bool) → (if b then p else p) ≡ p
+    by_test true = refl
+    by_test false = refl
 
-aims_listed : (n : ℕ) (p : Place) (ss : List ℕ) → aims_at p (take n ss) ≡ take n (aims_at p ss)
-aims_listed zero p ss = refl
-aims_listed (suc n) p [] = refl
-aims_listed (suc n) p (s ∷ ss) = ap (λ zs. record { signal = s; place = p } ∷ zs) (aims_listed n p ss)
-
+-- those of a name, which all stand at one place
 pub side_named : (count : ℕ) (n : NamedSignals) (s : Side) (x : TargetFound) (p : Place) (xs : List ℕ) (b : Bool) → s.fault ≡ first_refusal section_order x.refusals → x.aims ≡ aims_at p xs → AreSignals count n xs b
     → s.aims ≡ aims_at p n.signals → IsSide count s x
 side_named count n s x p xs b f e h list =
     record {
       fault = f;
-      aims = list ∙ ap (aims_at p) h.signals ∙ aims_listed 33 p xs ∙ ap (take 33) (sym e);
-      inside = subst (AreNamed count) (sym list) (aims_inside count p n.signals h.inside);
+      aims = list ∙ ap (aims_at p) h.signals ∙ sym (take-map (aim_at p) 33 xs) ∙ ap (take 33) (sym e);
+      inside = subst (AreNamed count) (sym list) (All-map (λ (a : Aim). a.signal < count) (aim_at p) n.signals h.inside);
     }
 
 pub side_joined : (count : ℕ) (a b n : Side) (x y : TargetFound) → IsSide count a x → IsSide count b y

@@ -44,13 +44,19 @@ accepted_front count us vs e =
     ap₂ (λ ls rs. ls ++ rs) (sym (limit_append count us vs a l)) (sym (refused_append us vs ∙ ap (λ rs. rs ++ units_refused vs) a))
 
 -- what is refused stays refused
-never_clear : (x : SectionFault) (g : Option SectionFault) → None ≡ earlier section_order (Some x) g → ⊥
-never_clear x None k = cc
-never_clear x (Some g) k = chosen (is_before section_order g x) k
+stays_refused : (x : SectionFault) (g : Option SectionFault) → is_some (earlier section_order (Some x) g) ≡ true
+stays_refused x None = refl
+stays_refused x (Some g) = chosen (is_before section_order g x)
   where
-    chosen : (b : Bool) → ◌≡◌ {A = Option SectionFault} None (if b then Some g else Some x) → ⊥
-    chosen true i = cc
-    chosen false i = cc
+    chosen : (b : Bool) → is_some (if b then Some g else Some x) ≡ true
+    chosen true = refl
+    chosen false = refl
+
+never : ◌≡◌ {A = Bool} true false → ⊥
+never k = cc
+
+never_clear : (x : SectionFault) (g : Option SectionFault) → None ≡ earlier section_order (Some x) g → ⊥
+never_clear x g k = never (sym (stays_refused x g) ∙ ap is_some (sym k))
 
 pub clear_before : (f : Option SectionFault) (count : ℕ) (us : List CountedUnit) → None ≡ fault_behind f count us → f ≡ None
 clear_before None count us e = refl
@@ -122,9 +128,6 @@ unit_fault None count u h = by_refusals u.refusals refl
   where
     by_refusals : (rs : List SectionFault) → u.refusals ≡ rs → first_refusal section_order (units_refused (u ∷ [])) ≡ first_refusal section_order (all_refused count (u ∷ []))
     by_refusals [] e = absurd (never (sym h ∙ ap (λ rs. is_some (first_refusal section_order (rs ++ []))) e))
-      where
-        never : ◌≡◌ {A = Bool} true false → ⊥
-        never k = cc
     by_refusals (r ∷ rs) e =
         ap (λ ls. first_refusal section_order (ls ++ units_refused (u ∷ []))) (sym (ap (λ xs. limit_at xs u.place (is_past count u.nodes) []) e))
 
@@ -142,19 +145,11 @@ walks_refused all ms u gs ps fault old new e h s x a =
     told : new.fault ≡ earlier section_order old.fault (first_refusal section_order (units_refused (u ∷ [])))
     told = h ∙ ap (earlier section_order old.fault) e
 
-    never : ◌≡◌ {A = Bool} true false → ⊥
-    never k = cc
-
 -- where nothing is refused so far, and nothing of a unit, neither was before
 pub both_clear : (f g : Option SectionFault) → is_some (earlier section_order f g) ≡ false → (f ≡ None) × (g ≡ None)
 both_clear None None h = (refl, refl)
 both_clear None (Some y) h = absurd cc
-both_clear (Some x) None h = absurd cc
-both_clear (Some x) (Some y) h = absurd (chosen (is_before section_order y x) h)
-  where
-    chosen : (b : Bool) → is_some (if b then Some y else Some x) ≡ false → ⊥
-    chosen true k = cc
-    chosen false k = cc
+both_clear (Some x) g h = absurd (never (sym (stays_refused x g) ∙ h))
 
 -- units of which nothing is refused are made, or the first that passes the limit is refused
 pub walks_made : (all ms : List Manner) (us : List CountedUnit) (gs : List (meant.Contribution Formula)) (ps : List Place) (old made new : Walked) (r : Result Unit SectionFault)

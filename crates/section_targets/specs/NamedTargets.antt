@@ -1,17 +1,17 @@
 -- The signals that names stand for as targets, and those of a target (ABEL-HDL Reference Manual, equations, sets and
 -- constants).
-use Rattle.std.specs.Prelude.{◌≡◌, ℕ, ◌<◌, Bool, Option, None, Some, List, [], ◌∷◌, ◌++◌, All, length, map, take}
+use Rattle.std.specs.Prelude.{◌≡◌, ℕ, ◌<◌, Bool, List, [], ◌∷◌, ◌++◌, All, length, map, take}
 use Rattle.abel_tree.specs.declared.names.Names.{Names}
 use Rattle.abel_tree.specs.Entries.{Entry, entries_of}
 use Rattle.abel_tree.specs.FirstRefusal.{first_refusal}
 use Rattle.abel_meaning.specs.Designs.{Context}
-use Rattle.abel_meaning.specs.Targets.{targets_of, some_signals}
-use Rattle.abel_meaning.specs.Terms.{Term, Number, Known, known_of}
+use Rattle.abel_meaning.specs.Targets.{targets_of, all_targets, some_signals}
+use Rattle.abel_meaning.specs.Terms.{Term, Terms, Known, known_of}
 use Rattle.set_expr.specs.SectionOrder.{section_order}
 use Rattle.section_targets.specs.declared.named.NamedSignals.{NamedSignals}
 use Rattle.section_targets.specs.declared.sides.Side.{Side}
 use Rattle.section_targets.specs.Given.{AreNamed}
-use Rattle.section_targets.specs.TargetSignals.{TargetFound, names_signals}
+use Rattle.section_targets.specs.TargetSignals.{TargetFound, names_signals, all_name_signals}
 
 -- these signals, of so many names; a set has at most 32 positions, and one more is listed where there are more
 pub record AreSignals (count : ℕ) (n : NamedSignals) (xs : List ℕ) (b : Bool) : Type 0 where
@@ -23,10 +23,9 @@ pub record AreSignals (count : ℕ) (n : NamedSignals) (xs : List ℕ) (b : Bool
 abbrev pub IsOfTerm : (count : ℕ) → NamedSignals → Term → Type 0
 IsOfTerm count n t = AreSignals count n (some_signals (targets_of t)) (names_signals t)
 
--- what is at a place of the names, or a number where there is none
-abbrev pub IsAt : (count : ℕ) → Option NamedSignals → Term → Type 0
-IsAt count None t = t ≡ Number 0
-IsAt count (Some n) t = IsOfTerm count n t
+-- those of the members of a set
+abbrev pub IsOfMembers : (count : ℕ) → NamedSignals → Terms → Type 0
+IsOfMembers count n ts = AreSignals count n (some_signals (all_targets ts)) (all_name_signals ts)
 
 -- each of what the names stand for, in order
 abbrev pub AreOfTerms : (count : ℕ) → List NamedSignals → List Known → Type 0

@@ -1,10 +1,10 @@
 -- The signals of a target with their places, and what is no target (ABEL-HDL Reference Manual, equations and sets).
-use Rattle.std.specs.Prelude.{ℕ, ◌==◌, Bool, true, false, ◌&&◌, Option, None, Some, List, [], ◌∷◌, ◌++◌, length, if◌then◌else◌}
+use Rattle.std.specs.Prelude.{ℕ, ◌==◌, Bool, true, false, ◌&&◌, Option, None, Some, List, [], ◌∷◌, ◌++◌, length, map, if◌then◌else◌}
 use Rattle.pld_base.specs.declared.place.Place.{Place}
 use Rattle.abel_tree.specs.declared.words.Word.{Word}
 use Rattle.abel_tree.specs.Entries.{Entry, find}
 use Rattle.abel_tree.specs.Ranges.{range_names}
-use Rattle.abel_tree.specs.Tree.{Tree, ANumber, ASpecial, AName, ASet, AParen, AUnary, ABinary, SetMember, OneMember, SpanMember, Members, NoMember, MoreMembers}
+use Rattle.abel_tree.specs.Tree.{Tree, ASpecial, AName, ASet, AParen, ABinary, SetMember, OneMember, SpanMember, Members, NoMember, MoreMembers}
 use Rattle.abel_meaning.specs.Designs.{Context}
 use Rattle.abel_meaning.specs.Targets.{targets_of, some_signals}
 use Rattle.abel_meaning.specs.Terms.{Term, Terms, term_named}
@@ -21,9 +21,12 @@ pub record TargetFound : Type 0 where
   pub refusals : List SectionFault
   pub aims : List Aim
 
+-- signals that all stand at one place
+abbrev pub aim_at : Place → (signal : ℕ) → Aim
+aim_at p s = record { signal = s; place = p }
+
 abbrev pub aims_at : Place → List ℕ → List Aim
-aims_at p [] = []
-aims_at p (s ∷ ss) = record { signal = s; place = p } ∷ aims_at p ss
+aims_at p ss = map (aim_at p) ss
 
 -- a term is a signal, or a set of such, with no extension
 abbrev mutual
@@ -73,18 +76,14 @@ abbrev pub target_range : Context → Place → List (List ℕ) → TargetFound
 target_range d p [] = record { refusals = []; aims = [] }
 target_range d p (name ∷ names) = targets_both (target_name d p p name) (target_range d p names)
 
--- what is found of a member of a target
+-- what is found of a member of a target; what is no name alone is refused where it begins
 abbrev mutual
   pub target_member : Context → Tree → TargetFound
-  target_member d (ANumber n) = no_target (NotAnOutput n.place None)
   target_member d (ASpecial letter p) = no_target (MisplacedSpecial p)
   target_member d (AName word None) = target_name d word.place word.place word.text
-  target_member d (AName word (Some e)) = no_target (NotAnOutput word.place (find d.names word.text))
   target_member d (ASet p ms None) = target_set p (target_members d ms)
-  target_member d (ASet p ms (Some e)) = no_target (NotAnOutput p None)
   target_member d (AParen p t) = target_member d t
-  target_member d (AUnary sign p t) = no_target (NotAnOutput p None)
-  target_member d (ABinary sign p t u) = no_target (NotAnOutput (first_place t) (first_name d.names t))
+  target_member d t = no_target (NotAnOutput (first_place t) (first_name d.names t))
 
   pub target_members : Context → Members → TargetFound
   target_members d NoMember = record { refusals = []; aims = [] }
@@ -106,8 +105,11 @@ is_itself (Some n) t = is_only n (some_signals (targets_of t))
 
 -- where the signals of a side stand that is a name, with or without `!`: a signal where the side begins, and what a
 -- constant brings at the constant's name
+abbrev pub start_at : Context → (begin used : Place) → List ℕ → Place
+start_at d p q text = if is_itself (find d.names text) (term_named d.known text) then p else q
+
 abbrev pub start_of : Context → (begin : Place) → Word → Place
-start_of d p word = if is_itself (find d.names word.text) (term_named d.known word.text) then p else word.place
+start_of d p word = start_at d p word.place word.text
 
 -- what is found of the left side of an assignment, which begins at this place and has its extension outside
 abbrev pub left_side : Context → Place → Tree → TargetFound

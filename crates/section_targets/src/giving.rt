@@ -3,7 +3,7 @@
 ghost use Rattle.std.specs.Prelude.{◌≡◌, ◌<◌, List, length};
 ghost use Rattle.bit_expr.specs.Arena.{arena};
 ghost use Rattle.bit_expr.specs.Formulas.{Formula};
-ghost use Rattle.abel_tree.specs.Entries.{entries_of, has};
+ghost use Rattle.abel_tree.specs.Entries.{entries_of};
 ghost use Rattle.abel_meaning.specs.Contributions.{is_dontcare};
 ghost use Rattle.abel_meaning.specs.Designs.{Context, name_at};
 ghost use Rattle.set_expr.specs.Answer.{Keeps};
@@ -38,13 +38,6 @@ pub struct Giver<'a> {
     pub giving: Giving,
 }
 
-/// Whether the signal has `dc`.
-fn has_dc(attributes: Attributes) -> bool
-    ensures { result ≡ has 16 attributes }
-{
-    attributes.contains(Attributes::DC)
-}
-
 /// Whether the block that the guard stands in is don't-care for the signal.
 fn is_free(scope: &Scope<'_>, guard: Guard, signal: u32) -> bool
     requires { signal < length (entries_of scope.now) }
@@ -52,7 +45,10 @@ fn is_free(scope: &Scope<'_>, guard: Guard, signal: u32) -> bool
 {
     match guard.block {
         None => false,
-        Some(_) => { guard.dontcare || has_dc(scope.list()[signal as usize].attributes) }
+        Some(_) => {
+            let attributes = scope.list()[signal as usize].attributes;
+            guard.dontcare || attributes.contains(Attributes::DC)
+        }
     }
 }
 

@@ -1,6 +1,6 @@
 //! How signals are assigned.
 
-ghost use Rattle.std.specs.Prelude.{◌≡◌, Some};
+ghost use Rattle.std.specs.Prelude.{◌≡◌};
 ghost use Rattle.section_targets.specs.Manners as said;
 
 use abel_tree::Extension;
@@ -38,16 +38,6 @@ fn part(extension: Option<Extension>) -> u8
     }
 }
 
-/// `.Q`, `.FB` and `.PIN` are no targets.
-pub(crate) fn takes_values(extension: Option<Extension>) -> bool
-    ensures { result ≡ said.may_be_assigned extension }
-{
-    !matches!(
-        extension,
-        Some(Extension::Q | Extension::Fb | Extension::Pin)
-    )
-}
-
 impl Manner {
     /// On the clock: by its sign, or as the raw input of a register.
     pub(crate) fn is_clocked(&self) -> bool
@@ -63,16 +53,21 @@ impl Manner {
         self.signal == other.signal && part(self.extension) == part(other.extension)
     }
 
-    /// Whether a later target differs from this first one. Data may be of either polarity, but on the clock and not, or
-    /// to the name and to the raw input, they differ.
-    pub(crate) fn differs(&self, later: &Manner) -> bool
-        ensures { result ≡ said.differs_from (Some self.now) later.now }
+    /// Whether it differs from how the same part is assigned first. Data may be of either polarity, but on the clock and
+    /// not, or to the name and to the raw input, they differ.
+    pub(crate) fn differs_from(&self, first: Option<Manner>) -> bool
+        ensures { result ≡ said.differs_from first self.now }
     {
-        if Extension::is_data(later.extension) {
-            self.is_clocked() != later.is_clocked()
-                || Extension::is_raw(self.extension) != Extension::is_raw(later.extension)
-        } else {
-            self.complement != later.complement
+        match first {
+            None => false,
+            Some(first) => {
+                if Extension::is_data(self.extension) {
+                    first.is_clocked() != self.is_clocked()
+                        || Extension::is_raw(first.extension) != Extension::is_raw(self.extension)
+                } else {
+                    first.complement != self.complement
+                }
+            }
         }
     }
 }

@@ -1,14 +1,14 @@
 //! The signals that names stand for as targets.
 
-ghost use Rattle.std.specs.Prelude.{◌≡◌, ◌==◌, ◌<◌, ℕ, Bool, List, [], ◌∷◌, ◌++◌, ◌&&◌, true, false, IfOk, length, slice_get};
+ghost use Rattle.std.specs.Prelude.{◌≡◌, ◌==◌, ◌<◌, ℕ, Bool, List, [], ◌∷◌, ◌++◌, ◌&&◌, true, if◌then◌else◌, IfOk, length};
 ghost use Rattle.abel_tree.specs.Entries.{entries_of};
 ghost use Rattle.abel_meaning.specs.Targets.{targets_of, some_signals};
 ghost use Rattle.abel_meaning.specs.Terms.{Term, Known, term_named, extended_if};
-ghost use Rattle.section_targets.specs.NamedTargets.{AreSignals, IsOfTerm, IsAt, StandFor};
-ghost use Rattle.section_targets.specs.TargetSignals.{is_only, names_signals};
+ghost use Rattle.section_targets.specs.NamedTargets.{AreSignals, IsOfTerm, StandFor};
+ghost use Rattle.section_targets.specs.TargetSignals.{is_itself, is_only};
 
 use abel_tree::Extension;
-use pld_base::{ListOf, OutOfMemory};
+use pld_base::{ListOf, OutOfMemory, Place};
 use set_expr::Scope;
 use std::alloc::Global;
 
@@ -36,18 +36,6 @@ fn holds_only(signals: &[u32], number: u32) -> bool
     signals.len() == 1 && signals[0] == number
 }
 
-/// Whether the name with this number stands for itself alone, of these names.
-pub(crate) fn is_itself(named: &[NamedSignals], number: u32) -> bool
-    ensures { (count : ℕ) (t : Term) → IsAt count (slice_get named.now number) t → result ≡ is_only number (some_signals (targets_of t)) }
-{
-    let index = number as usize;
-    if index < named.len() {
-        holds_only(named[index].signals.as_slice(), number)
-    } else {
-        false
-    }
-}
-
 impl NamedSignals {
     /// No signal.
     pub(crate) fn none(alloc: Global, alone: bool) -> NamedSignals
@@ -71,23 +59,13 @@ impl NamedSignals {
         })
     }
 
-    /// With what is no signal.
-    fn mixed(self) -> NamedSignals
-        ensures { (count : ℕ) (xs : List ℕ) (alone : Bool) → AreSignals count self xs alone → AreSignals count result xs false }
+    /// With others behind them.
+    pub(crate) fn with(self, rest: &NamedSignals) -> Result<NamedSignals, OutOfMemory>
+        ensures { IfOk result (λ n. (count : ℕ) (xs ys : List ℕ) (b c : Bool) → AreSignals count self xs b → AreSignals count rest.now ys c → AreSignals count n (xs ++ ys) (b && c)) }
     {
-        NamedSignals {
-            alone: false,
-            ..self
-        }
-    }
-
-    /// With those of another name behind them.
-    pub(crate) fn with(self, other: &NamedSignals) -> Result<NamedSignals, OutOfMemory>
-        ensures { IfOk result (λ n. (count : ℕ) (xs ys : List ℕ) (b c : Bool) → AreSignals count self xs b → AreSignals count other.now ys c → AreSignals count n (xs ++ ys) (b && c)) }
-    {
-        let alone = self.alone && other.alone;
+        let alone = self.alone && rest.alone;
         let mut signals = self.signals.into_vec();
-        signals.extend_from_slice(other.signals.as_slice())?;
+        signals.extend_from_slice(rest.signals.as_slice())?;
         signals.truncate(33);
         Ok(NamedSignals {
             signals: ListOf::from_vec(signals),
@@ -95,32 +73,19 @@ impl NamedSignals {
         })
     }
 
-    /// With those of the name with this text; what isn't one of the names is a number.
-    pub(crate) fn with_name(
-        self,
-        targets: &Targets<'_>,
-        text: &[u8],
-    ) -> Result<NamedSignals, OutOfMemory>
-        ensures { IfOk result (λ n. (count : ℕ) (ks : List Known) (xs : List ℕ) (b : Bool)
-            → StandFor count (entries_of targets.now.scope.now) targets.now.named.now ks → AreSignals count self xs b
-            → AreSignals count n (xs ++ some_signals (targets_of (term_named ks text.now)))
-            (b && names_signals (term_named ks text.now))) }
+    /// Those of the name with this text; what isn't one of the names is a number.
+    pub(crate) fn of_name(targets: &Targets<'_>, text: &[u8]) -> Result<NamedSignals, OutOfMemory>
+        ensures { IfOk result (λ n. (count : ℕ) (ks : List Known)
+            → StandFor count (entries_of targets.now.scope.now) targets.now.named.now ks
+            → IsOfTerm count n (term_named ks text.now)) }
     {
-        match targets.scope.get(text) {
-            None => Ok(self.mixed()),
-            Some(name) => self.with_number(targets.named, name.number as usize),
-        }
-    }
-
-    /// With those of the name of this number, where it is one of these.
-    fn with_number(self, named: &[NamedSignals], number: usize) -> Result<NamedSignals, OutOfMemory>
-        ensures { IfOk result (λ n. (count : ℕ) (t : Term) (xs : List ℕ) (b : Bool) → IsAt count (slice_get named.now number) t → AreSignals count self xs b → AreSignals count n (xs ++ some_signals (targets_of t)) (b && names_signals t)) }
-    {
-        if number < named.len() {
-            self.with(&named[number])
-        } else {
-            Ok(self.mixed())
-        }
+        let Some(name) = targets.scope.get(text) else {
+            return Ok(NamedSignals::none(targets.alloc, false));
+        };
+        let Some(named) = targets.named.get(name.number as usize) else {
+            return Ok(NamedSignals::none(targets.alloc, false));
+        };
+        NamedSignals::none(targets.alloc, true).with(named)
     }
 
     /// With an extension at each, if there is one: a name stands for no signal then.
@@ -141,5 +106,22 @@ impl NamedSignals {
         ensures { result ≡ self.now.alone && (length self.now.signals == 0) }
     {
         self.alone && self.signals.as_slice().len() == 0
+    }
+
+    /// Where the signals of the name with this number stand: where the side begins if it names itself, as a signal does,
+    /// and else where it is used.
+    pub(crate) fn start(&self, number: Option<u32>, used: Place, begin: Place) -> Place
+        ensures { (count : ℕ) (t : Term) → IsOfTerm count self.now t → result ≡ (if is_itself number t then begin else used) }
+    {
+        match number {
+            None => used,
+            Some(number) => {
+                if holds_only(self.signals.as_slice(), number) {
+                    begin
+                } else {
+                    used
+                }
+            }
+        }
     }
 }

@@ -1,14 +1,10 @@
 //! The signals of all names of a source, made once for all its targets.
 
-ghost use Rattle.std.specs.Prelude.{◌≡◌, ◌+◌, ◌<◌, ℕ, Bool, List, ◌++◌, ◌&&◌, IfOk, length, map};
+ghost use Rattle.std.specs.Prelude.{◌≡◌, ◌+◌, ◌<◌, ℕ, List, IfOk, length};
 ghost use Rattle.abel_tree.specs.Entries.{entries_of, view_meaning};
 ghost use Rattle.abel_tree.specs.View.{view, view_member};
-ghost use Rattle.abel_meaning.specs.Targets.{some_signals, all_targets};
-ghost use Rattle.abel_meaning.specs.Terms.{Known, term_of, term_meant, known_of, named_before, member_before};
-ghost use Rattle.abel_meaning.specs.Terms as term;
-ghost use Rattle.name_uses.specs.RangeParts.{name_items};
-ghost use Rattle.section_targets.specs.NamedTargets.{AreSignals, IsOfTerm, StandFor};
-ghost use Rattle.section_targets.specs.TargetSignals.{all_name_signals};
+ghost use Rattle.abel_meaning.specs.Terms.{Terms, Known, term_of, term_meant, known_of, member_before};
+ghost use Rattle.section_targets.specs.NamedTargets.{IsOfTerm, IsOfMembers, StandFor};
 
 use crate::named::{NamedSignals, Targets};
 use abel_tree::{Expr, Meaning, Member};
@@ -69,8 +65,7 @@ fn named_expr(targets: &Targets<'_>, expr: &Expr) -> Result<NamedSignals, OutOfM
 {
     match expr {
         Expr::Name { word, extension } => {
-            let none = NamedSignals::none(targets.alloc, true);
-            let signals = none.with_name(targets, word.text.bytes())?;
+            let signals = NamedSignals::of_name(targets, word.text.bytes())?;
             Ok(signals.extended(*extension))
         }
         Expr::Set {
@@ -78,56 +73,43 @@ fn named_expr(targets: &Targets<'_>, expr: &Expr) -> Result<NamedSignals, OutOfM
             extension,
             ..
         } => {
+            let list = members.as_slice();
             let mut signals = NamedSignals::none(targets.alloc, true);
-            for member in members.as_slice() {
-                signals = named_member(targets, member, signals)?;
+            for index in (0..list.len()).rev() {
+                signals = named_member(targets, &list[index], signals)?;
             }
             Ok(signals.extended(*extension))
         }
         Expr::Paren { inner, .. } => named_expr(targets, inner.get()),
-        Expr::Special { .. } => Ok(NamedSignals::none(targets.alloc, false)),
-        Expr::Number(_) | Expr::Unary { .. } | Expr::Binary { .. } => {
+        Expr::Special { .. } | Expr::Number(_) | Expr::Unary { .. } | Expr::Binary { .. } => {
             Ok(NamedSignals::none(targets.alloc, false))
         }
     }
 }
 
-/// One member more.
+/// One member before others.
 #[cycle(naming)]
 fn named_member(
     targets: &Targets<'_>,
     member: &Member,
-    before: NamedSignals,
+    rest: NamedSignals,
 ) -> Result<NamedSignals, OutOfMemory>
-    ensures { IfOk result (λ n. (count : ℕ) (ks : List Known) (xs : List ℕ) (b : Bool) → StandFor count (entries_of targets.now.scope.now) targets.now.named.now ks → AreSignals count before xs b → AreSignals count n (xs ++ some_signals (all_targets (member_before ks (view_member member.now) term.NoTerm))) (b && all_name_signals (member_before ks (view_member member.now) term.NoTerm))) }
+    ensures { IfOk result (λ n. (count : ℕ) (ks : List Known) (ts : Terms) → StandFor count (entries_of targets.now.scope.now) targets.now.named.now ks → IsOfMembers count rest ts → IsOfMembers count n (member_before ks (view_member member.now) ts)) }
 {
     match member {
         Member::One(expr) => {
             let signals = named_expr(targets, expr)?;
-            before.with(&signals)
+            signals.with(&rest)
         }
         Member::Span { first, last } => {
-            let names = range_list(targets.alloc, first.text.bytes(), last.text.bytes())?;
-            with_names(targets, names.as_slice(), before)
+            let list = range_list(targets.alloc, first.text.bytes(), last.text.bytes())?;
+            let names = list.as_slice();
+            let mut signals = rest;
+            for index in (0..names.len()).rev() {
+                let name = NamedSignals::of_name(targets, names[index].as_slice())?;
+                signals = name.with(&signals)?;
+            }
+            Ok(signals)
         }
     }
-}
-
-/// These names more.
-fn with_names(
-    targets: &Targets<'_>,
-    names: &[Vec<u8>],
-    before: NamedSignals,
-) -> Result<NamedSignals, OutOfMemory>
-    ensures { IfOk result (λ n. (count : ℕ) (ks : List Known) (xs : List ℕ) (b : Bool)
-        → StandFor count (entries_of targets.now.scope.now) targets.now.named.now ks → AreSignals count before xs b
-        → AreSignals count n
-        (xs ++ some_signals (all_targets (named_before ks (map name_items names.now) term.NoTerm)))
-        (b && all_name_signals (named_before ks (map name_items names.now) term.NoTerm))) }
-{
-    let mut signals = before;
-    for name in names {
-        signals = signals.with_name(targets, name.as_slice())?;
-    }
-    Ok(signals)
 }

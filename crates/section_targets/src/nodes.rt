@@ -1,7 +1,8 @@
-//! Nodes that the units of a source add.
+//! Nodes that the units of a source add, and guards with one condition more.
 
-ghost use Rattle.std.specs.Prelude.{◌≡◌, [], ◌∷◌, length, IfOk};
-ghost use Rattle.bit_expr.specs.Arena.{arena, folded, LiesIn};
+ghost use Rattle.std.specs.Prelude.{◌≡◌, ◌<◌, [], ◌∷◌, length, IfOk};
+ghost use Rattle.bit_expr.specs.Arena.{arena, folded, formula_at, LiesIn};
+ghost use Rattle.abel_meaning.specs.CountedNodes as counted;
 ghost use Rattle.section_targets.specs.Building.{BuildsNodes, IsBit};
 ghost use Rattle.section_targets.specs.Units.{part};
 
@@ -20,4 +21,20 @@ pub fn add_node(exprs: &mut Exprs, node: Node, unit: Place) -> Result<ExprId, Se
         Err(ExprFault::NodeLimit) => Err(SectionFault::NodeLimit(unit)),
         Err(ExprFault::OutOfMemory) => Err(SectionFault::OutOfMemory),
     }
+}
+
+/// The guard of what counts where the condition is 0, as nodes of the unit at this place.
+pub fn guard_else(
+    exprs: &mut Exprs,
+    guard: ExprId,
+    condition: ExprId,
+    unit: Place,
+) -> Result<ExprId, SectionFault>
+    requires guard { guard.0 < length (arena exprs.old) }
+    requires condition { condition.0 < length (arena exprs.old) }
+    ensures builds { BuildsNodes (part unit (counted.guard_else (formula_at (arena exprs.old) guard) (formula_at (arena exprs.old) condition)).nodes ∷ []) exprs.old exprs.new result }
+    ensures bit { IfOk result (λ id. IsBit (arena exprs.new) id (counted.guard_else (formula_at (arena exprs.old) guard) (formula_at (arena exprs.old) condition)).what) }
+{
+    let otherwise = add_node(exprs, Node::Not(condition), unit)?;
+    add_node(exprs, Node::And(guard, otherwise), unit)
 }

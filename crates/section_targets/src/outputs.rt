@@ -6,13 +6,13 @@ ghost use Rattle.abel_tree.specs.FirstRefusal.{first_refusal};
 ghost use Rattle.abel_meaning.specs.Designs.{Context};
 ghost use Rattle.set_expr.specs.Answer.{IsContextOf};
 ghost use Rattle.set_expr.specs.SectionOrder.{section_order};
-ghost use Rattle.section_targets.specs.Manners.{is_output_kind, is_output, no_output, mixed, is_against_kind, differs_from, manner_of, aims_refused, AreFirsts};
+ghost use Rattle.section_targets.specs.Manners.{is_output_kind, is_output, no_output, mixed, is_against_kind, manner_of, aims_refused, AreFirsts};
 ghost use Rattle.section_targets.specs.declared.manner.Manner.{Manner};
 ghost use Rattle.section_targets.specs.Given.{AreNamed};
 
 use crate::aim::Aim;
 use crate::assigned::Assigned;
-use crate::manner::{Manner, Way, takes_values};
+use crate::manner::{Manner, Way};
 use abel_tree::{Declared, Extension, Meaning, earlier};
 use pld_base::{OutOfMemory, Place};
 use pld_device::{Device, cell_on};
@@ -30,12 +30,15 @@ fn is_assignable<D: Device>(meaning: &Meaning) -> bool
     }
 }
 
-/// Whether the signal, or what the extension names of it, is an output.
+/// Whether the signal, or what the extension names of it, is an output; `.Q`, `.FB` and `.PIN` are no targets.
 fn may_take<D: Device>(declared: &Declared, extension: Option<Extension>) -> bool
     ensures { result ≡ is_output D.table (view_declared declared.now) extension }
 {
     is_assignable::<D>(&declared.meaning)
-        && takes_values(extension)
+        && !matches!(
+            extension,
+            Some(Extension::Q | Extension::Fb | Extension::Pin)
+        )
         && (Extension::is_data(extension) || declared.assigned)
 }
 
@@ -47,16 +50,6 @@ fn opposes_kind(declared: &Declared, manner: Manner) -> bool
         declared.is_registered() != manner.is_clocked()
     } else {
         manner.clocked
-    }
-}
-
-/// Whether an assignment differs from the first of the same part.
-fn differs_from_first(first: Option<Manner>, manner: Manner) -> bool
-    ensures { result ≡ differs_from first manner }
-{
-    match first {
-        None => false,
-        Some(first) => first.differs(&manner),
     }
 }
 
@@ -72,7 +65,7 @@ fn refuse_aim<D: Device>(
     if !may_take::<D>(declared, manner.extension) {
         return Some(SectionFault::NotAnOutput(place, Some(manner.signal)));
     }
-    if differs_from_first(before.first(manner), manner) || opposes_kind(declared, manner) {
+    if manner.differs_from(before.first(manner)) || opposes_kind(declared, manner) {
         return Some(SectionFault::MixedAssignment(place, manner.signal));
     }
     None

@@ -8,7 +8,7 @@ ghost use Rattle.set_expr.specs.declared.fault.SectionFault.TheVariants.{NotAnOu
 ghost use Rattle.set_expr.specs.Refusals.{too_wide};
 ghost use Rattle.set_expr.specs.SectionOrder.{section_order};
 ghost use Rattle.section_targets.specs.NamedTargets.{AreSignals, IsSide, AreTargets};
-ghost use Rattle.section_targets.specs.TargetSignals.{TargetFound, aims_at, no_target, targets_both, target_set, target_name};
+ghost use Rattle.section_targets.specs.TargetSignals.{TargetFound, aims_at, no_target, targets_both, target_name, start_at};
 
 use crate::aim::Aim;
 use crate::named::{NamedSignals, Targets};
@@ -40,9 +40,11 @@ fn list_aims(alloc: Global, signals: &[u32], place: Place) -> Result<Vec<Aim>, O
     ensures { IfOk result (λ aims. aims.items ≡ aims_at place signals.now) }
 {
     let mut aims = Vec::new(alloc);
-    for index in 0..signals.len() {
-        let signal = signals[index];
-        aims.push(Aim { signal, place })?;
+    for signal in signals {
+        aims.push(Aim {
+            signal: *signal,
+            place,
+        })?;
     }
     Ok(aims)
 }
@@ -59,7 +61,7 @@ fn refuse_mixed(alone: bool, place: Place, name: Option<u32>) -> Option<SectionF
 }
 
 /// Refused where a set has more than 32 positions.
-fn refuse_wide(place: Place, width: usize) -> Option<SectionFault>
+pub(crate) fn refuse_wide(place: Place, width: usize) -> Option<SectionFault>
     ensures { (n : ℕ) → width ≡ min 33 n → result ≡ first_refusal section_order (too_wide place n) }
 {
     if width > 32 {
@@ -67,13 +69,6 @@ fn refuse_wide(place: Place, width: usize) -> Option<SectionFault>
     } else {
         None
     }
-}
-
-/// Where a name is used, and where its signals stand.
-#[derive(Clone, Copy)]
-pub(crate) struct NamePlace {
-    pub(crate) used: Place,
-    pub(crate) signals: Place,
 }
 
 impl Side {
@@ -97,21 +92,23 @@ impl Side {
         }
     }
 
-    /// The name with this text, used at this place.
+    /// The name with this text, used at this place. A signal that it names itself stands where the side begins, and what a
+    /// constant brings at the name.
     pub(crate) fn of_name(
         targets: &Targets<'_>,
         text: &[u8],
-        place: NamePlace,
+        used: Place,
+        begin: Place,
     ) -> Result<Side, OutOfMemory>
         ensures { IfOk result (λ s. (d : Context) → d.names ≡ entries_of targets.now.scope.now → AreTargets d targets.now.named.now
-            → IsSide (length d.names) s (target_name d place.used place.signals text.now)) }
+            → IsSide (length d.names) s (target_name d used (start_at d begin used text.now) text.now)) }
     {
-        let found = targets.scope.check_name(text, place.used);
-        let none = NamedSignals::none(targets.alloc, true);
-        let signals = none.with_name(targets, text)?;
+        let found = targets.scope.check_name(text, used);
         let number = number_of(targets.scope, text);
-        let mixed = refuse_mixed(signals.alone, place.signals, number);
-        let aims = list_aims(targets.alloc, signals.signals.as_slice(), place.signals)?;
+        let signals = NamedSignals::of_name(targets, text)?;
+        let start = signals.start(number, used, begin);
+        let mixed = refuse_mixed(signals.alone, start, number);
+        let aims = list_aims(targets.alloc, signals.signals.as_slice(), start)?;
         Ok(Side {
             aims: ListOf::from_vec(aims),
             fault: earlier(found.fault, earlier(found.special, mixed)),
@@ -130,13 +127,5 @@ impl Side {
             aims: ListOf::from_vec(aims),
             fault: earlier(self.fault, other.fault),
         })
-    }
-
-    /// The set at this bracket of what is found of its members.
-    pub(crate) fn as_set(self, place: Place) -> Side
-        ensures { (count : ℕ) (x : TargetFound) → IsSide count self x → IsSide count result (target_set place x) }
-    {
-        let fault = earlier(self.fault, refuse_wide(place, self.aims.as_slice().len()));
-        Side { fault, ..self }
     }
 }

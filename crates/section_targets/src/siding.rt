@@ -1,56 +1,21 @@
 //! The walk of a target.
 
 ghost use Rattle.std.specs.Prelude.{◌≡◌, IfOk, length, map};
-ghost use Rattle.abel_tree.specs.Assigned.{target_extension};
-ghost use Rattle.abel_tree.specs.Entries.{entries_of, find};
-ghost use Rattle.abel_meaning.specs.Terms.{term_named};
+ghost use Rattle.abel_tree.specs.Entries.{entries_of};
 ghost use Rattle.abel_tree.specs.Tree.{members_of};
 ghost use Rattle.abel_tree.specs.View.{view, view_member};
 ghost use Rattle.abel_meaning.specs.Designs.{Context};
 ghost use Rattle.set_expr.specs.declared.fault.SectionFault.TheVariants.{NotAnOutput};
 ghost use Rattle.set_expr.specs.Answer.{first_place};
-ghost use Rattle.name_uses.specs.RangeParts.{name_items};
 ghost use Rattle.section_targets.specs.NamedTargets.{IsSide, AreTargets};
-ghost use Rattle.section_targets.specs.TargetSignals.{TargetFound, targets_both, target_range, target_one, target_member, target_members, target_set, left_side, first_name, is_itself, start_of};
+ghost use Rattle.section_targets.specs.TargetSignals.{TargetFound, targets_both, target_one, target_member, target_members, target_set, left_side, first_name};
 
-use crate::named::{Targets, is_itself};
-use crate::sides::{NamePlace, Side, number_of};
-use abel_tree::{Expr, Extension, Member, Word};
+use crate::named::Targets;
+use crate::sides::{Side, number_of, refuse_wide};
+use abel_tree::{Expr, Member, earlier};
 use name_uses::range_list;
 use pld_base::{OutOfMemory, Place};
 use set_expr::{Scope, SectionFault};
-
-/// The extension of a target, which stands outside. Takes no memory.
-pub fn target_extension(target: &Expr) -> Option<Extension>
-    ensures { result ≡ target_extension (view target.now) }
-{
-    match target {
-        Expr::Name { extension, .. } | Expr::Set { extension, .. } => *extension,
-        _ => None,
-    }
-}
-
-/// Whether the name with this text stands for itself, as a signal's does, and no constant's.
-fn names_itself(targets: &Targets<'_>, text: &[u8]) -> bool
-    ensures { (d : Context) → d.names ≡ entries_of targets.now.scope.now → AreTargets d targets.now.named.now → result ≡ is_itself (find d.names text.now) (term_named d.known text.now) }
-{
-    match number_of(targets.scope, text) {
-        None => false,
-        Some(number) => is_itself(targets.named, number),
-    }
-}
-
-/// Where the signals of a side stand that is a name, with or without `!` before it: a signal where the side begins, and
-/// what a constant brings at the constant's name.
-fn start_of(targets: &Targets<'_>, word: &Word, begin: Place) -> Place
-    ensures { (d : Context) → d.names ≡ entries_of targets.now.scope.now → AreTargets d targets.now.named.now → result ≡ start_of d begin word.now }
-{
-    if names_itself(targets, word.text.bytes()) {
-        begin
-    } else {
-        word.place
-    }
-}
 
 /// The left side of an assignment that begins at this place, whose extension counts outside: its signals, or its first
 /// refusal. Calls go as deep as the nestings of sets and parentheses.
@@ -63,11 +28,7 @@ pub(crate) fn left_side(
 {
     match target {
         Expr::Name { word, extension: _ } => {
-            let place = NamePlace {
-                used: word.place,
-                signals: start_of(targets, word, place),
-            };
-            Side::of_name(targets, word.text.bytes(), place)
+            Side::of_name(targets, word.text.bytes(), word.place, place)
         }
         Expr::Set {
             place: bracket,
@@ -104,45 +65,35 @@ fn set_side(targets: &Targets<'_>, members: &[Member], place: Place) -> Result<S
     ensures { IfOk result (λ s. (d : Context) → d.names ≡ entries_of targets.now.scope.now → AreTargets d targets.now.named.now → IsSide (length d.names) s (target_set place (target_members d (members_of (map view_member members.now))))) }
 {
     let mut side = Side::none(targets.alloc);
-    for member in members {
-        side = with_member(targets, member, side)?;
+    for index in (0..members.len()).rev() {
+        side = with_member(targets, &members[index], side)?;
     }
-    Ok(side.as_set(place))
+    let fault = earlier(side.fault, refuse_wide(place, side.aims.as_slice().len()));
+    Ok(Side { fault, ..side })
 }
 
-/// One member more.
+/// One member before others.
 #[cycle(siding)]
-fn with_member(targets: &Targets<'_>, member: &Member, before: Side) -> Result<Side, OutOfMemory>
-    ensures { IfOk result (λ s. (d : Context) (x : TargetFound) → d.names ≡ entries_of targets.now.scope.now → AreTargets d targets.now.named.now → IsSide (length d.names) before x → IsSide (length d.names) s (targets_both x (target_one d (view_member member.now)))) }
+fn with_member(targets: &Targets<'_>, member: &Member, rest: Side) -> Result<Side, OutOfMemory>
+    ensures { IfOk result (λ s. (d : Context) (x : TargetFound) → d.names ≡ entries_of targets.now.scope.now → AreTargets d targets.now.named.now → IsSide (length d.names) rest x → IsSide (length d.names) s (targets_both (target_one d (view_member member.now)) x)) }
 {
     match member {
         Member::One(expr) => {
             let side = member_side(targets, expr)?;
-            before.with(&side)
+            side.with(&rest)
         }
         Member::Span { first, last } => {
-            let names = range_list(targets.alloc, first.text.bytes(), last.text.bytes())?;
-            let side = names_side(targets, names.as_slice(), first.place)?;
-            before.with(&side)
+            let place = first.place;
+            let list = range_list(targets.alloc, first.text.bytes(), last.text.bytes())?;
+            let names = list.as_slice();
+            let mut side = rest;
+            for index in (0..names.len()).rev() {
+                let name = Side::of_name(targets, names[index].as_slice(), place, place)?;
+                side = name.with(&side)?;
+            }
+            Ok(side)
         }
     }
-}
-
-/// Names that are all used at one place, where their signals stand.
-fn names_side(targets: &Targets<'_>, names: &[Vec<u8>], place: Place) -> Result<Side, OutOfMemory>
-    ensures { IfOk result (λ s. (d : Context) → d.names ≡ entries_of targets.now.scope.now → AreTargets d targets.now.named.now
-        → IsSide (length d.names) s (target_range d place (map name_items names.now))) }
-{
-    let place = NamePlace {
-        used: place,
-        signals: place,
-    };
-    let mut side = Side::none(targets.alloc);
-    for name in names {
-        let one = Side::of_name(targets, name.as_slice(), place)?;
-        side = side.with(&one)?;
-    }
-    Ok(side)
 }
 
 /// A member of a target, or a header of registers, which takes no extension. Calls go as deep as the nestings of sets and
@@ -154,13 +105,7 @@ pub(crate) fn member_side(targets: &Targets<'_>, expr: &Expr) -> Result<Side, Ou
     match expr {
         Expr::Name { word, extension } => match extension {
             Some(_) => Ok(Side::refused(targets.alloc, refuse_operator(targets.scope, expr))),
-            None => {
-                let place = NamePlace {
-                    used: word.place,
-                    signals: word.place,
-                };
-                Side::of_name(targets, word.text.bytes(), place)
-            }
+            None => Side::of_name(targets, word.text.bytes(), word.place, word.place),
         },
         Expr::Set {
             place,

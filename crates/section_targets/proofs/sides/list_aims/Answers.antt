@@ -1,16 +1,16 @@
-use Rattle.std.proofs.Common.{◌++◌, [], ◌∷◌, ap, sym, ◌∙◌, take, get_or}
-use Rattle.std.proofs.lemmas.List.{take_more}
-use Rattle.section_targets.specs.TargetSignals.{aims_at}
-use Rattle.section_targets.proofs.SignalLists.{aims_push}
+use Rattle.std.proofs.Common.{sym, ap, ◌++◌, ◌∷◌, [], ◌∙◌, get_or, take}
+use Rattle.std.proofs.lemmas.List.{map-append, take_more}
+use Rattle.set_expr.proofs.FoundMembers.{whole_front}
+use Rattle.section_targets.specs.TargetSignals.{aim_at, aims_at}
 use Rattle.section_targets.proofs.sides.list_aims.Goals as goal
 
-pub loop-index-preserved : goal.loop-index-preserved
-loop-index-preserved c =
+pub loop-signal-preserved : goal.loop-signal-preserved
+loop-signal-preserved c =
     let ss = c.args.signals.now in
-    let i = c.loop-index.index in
+    let i = c.loop-signal.signal-index in
     let p = c.args.place in
-    let s = get_or ss i 0 in
-    c.in_ok-push.ensures.items
-    ∙ ap (λ zs. zs ++ record { signal = s; place = p } ∷ []) c.loop-index.invariant
-    ∙ sym (aims_push p (take i ss) s)
-    ∙ ap (aims_at p) (sym (take_more ss i 0 c.loop-index-test.true))
+    c.in_ok-push.ensures.items ∙ ap (λ zs. zs ++ aim_at p (get_or ss i 0) ∷ []) c.loop-signal.invariant
+    ∙ sym (ap (aims_at p) (take_more ss i 0 c.loop-signal-test.true) ∙ map-append (aim_at p) (take i ss) (get_or ss i 0 ∷ []))
+
+pub returns : goal.returns
+returns c = c.loop-signal.invariant ∙ whole_front (aim_at c.args.place) c.args.signals.now c.loop-signal.signal-index c.loop-signal-test.false

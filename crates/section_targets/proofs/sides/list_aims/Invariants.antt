@@ -3,5 +3,5 @@ use Rattle.std.proofs.Common.{◌≡◌, take}
 use Rattle.section_targets.specs.TargetSignals.{aims_at}
 use Rattle.section_targets.proofs.sides.list_aims.Given as goal
 
-abbrev pub invariant-loop-index : goal.invariant-loop-index
-invariant-loop-index l = l.aims.items ≡ aims_at l.place (take l.index l.signals)
+abbrev pub invariant-loop-signal : goal.invariant-loop-signal
+invariant-loop-signal l = l.aims.items ≡ aims_at l.place (take l.signal-index l.signals)

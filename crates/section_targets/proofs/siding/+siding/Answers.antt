@@ -1,5 +1,5 @@
 -- What each variant is refused as, and one member more.
-use Rattle.std.proofs.Common.{◌≡◌, ◌+◌, ◌++◌, [], ◌∷◌, inl, inr, refl, ap, ap₂, sym, ◌∙◌, subst, length, take, map}
+use Rattle.std.proofs.Common.{◌≡◌, ◌-◌, ◌∷◌, inl, inr, refl, ap, ap₂, sym, ◌∙◌, subst, length, drop, map, arith}
 use Rattle.std.proofs.lemmas.Result.{IfOk-weaker}
 use Rattle.abel_tree.specs.Ranges.{range_names}
 use Rattle.abel_tree.specs.Tree.{Tree, AName, ASet, members_of}
@@ -7,11 +7,10 @@ use Rattle.abel_tree.specs.View.{view, view_member}
 use Rattle.name_uses.specs.RangeParts.{name_items}
 use Rattle.set_expr.specs.declared.fault.SectionFault.TheVariants.{NotAnOutput}
 use Rattle.set_expr.specs.Answer.{first_place}
-use Rattle.set_expr.proofs.FoundMembers.{front_more, whole_front}
+use Rattle.section_targets.proofs.Looks.{back_more, back_none}
 use Rattle.section_targets.specs.NamedTargets.{IsSide}
-use Rattle.section_targets.specs.TargetSignals.{target_member, target_members, target_one, target_set, target_range, targets_both, no_target, first_name}
-use Rattle.section_targets.proofs.NameTerms.{members_more}
-use Rattle.section_targets.proofs.SignalLists.{side_refused}
+use Rattle.section_targets.specs.TargetSignals.{target_member, target_members, target_name, target_one, target_range, start_at, targets_both, no_target, first_name}
+use Rattle.section_targets.proofs.SignalLists.{both_assoc, side_length, side_refused, side_set, start_same}
 use Rattle.expr_bits.proofs.Views.{view_number, view_special, view_name, view_set, view_unary, view_binary, view_one, view_span}
 use Rattle.section_targets.proofs.siding.+siding.Goals as goal
 
@@ -40,39 +39,66 @@ member_side-returns-in-Number t c d k h =
       ]
     ]
 
+pub member_side-returns-in-None : goal.member_side-returns-in-None
+member_side-returns-in-None t c =
+    IfOk-weaker c.of_name.result _ _
+    (λ s f d k h.
+    let x = c.in-Name.word in
+    let named = subst (λ w. IsSide (length d.names) s (target_name d x.place (start_at d x.place x.place w) w)) c.bytes.ensures (f d k h) in
+    subst (λ e. IsSide (length d.names) s (target_member d e)) (sym (ap view c.in-Name.is ∙ view_name x c.in-Name.extension ∙ ap (AName x) c.in-None.is))
+    (subst (λ q. IsSide (length d.names) s (target_name d x.place q x.text)) (start_same d x.place x.text) named))
+    c.of_name.ensures
+
 pub with_member-returns-in_ok-side-in-One : goal.with_member-returns-in_ok-side-in-One
 with_member-returns-in_ok-side-in-One t c =
     IfOk-weaker c.with.result _ _
     (λ s f d x k h g.
-    subst (λ m. IsSide (length d.names) s (targets_both x (target_one d m))) (sym (ap view_member c.in-One.is ∙ view_one c.in-One.expr))
-    (f (length d.names) x (target_member d (view c.in-One.expr)) g (c.in_ok-side-in-One.ensures d k h)))
+    subst (λ m. IsSide (length d.names) s (targets_both (target_one d m) x)) (sym (ap view_member c.in-One.is ∙ view_one c.in-One.expr))
+    (f (length d.names) (target_member d (view c.in-One.expr)) x (c.in_ok-side-in-One.ensures d k h) g))
     c.with.ensures
 
-pub with_member-returns-in_ok-side-in-Span : goal.with_member-returns-in_ok-side-in-Span
-with_member-returns-in_ok-side-in-Span t c =
-    let whole = ap (map name_items) c.as_slice.ensures.value ∙ (c.in_ok-names-in-Span.ensures ∙ ap₂ range_names c.bytes.ensures c.bytes-in-Span.ensures) in
-    IfOk-weaker c.with-in-Span.result _ _
-    (λ s f d x k h g.
-    subst (λ m. IsSide (length d.names) s (targets_both x (target_one d m))) (sym (ap view_member c.in-Span.is ∙ view_span c.in-Span.first c.in-Span.last))
-    (f (length d.names) x (target_range d c.in-Span.first.place (range_names c.in-Span.first.text c.in-Span.last.text)) g
-    (subst (λ names. IsSide (length d.names) c.in_ok-side-in-Span.side (target_range d c.in-Span.first.place names)) whole (c.in_ok-side-in-Span.ensures d k h))))
-    c.with-in-Span.ensures
+pub with_member-loop-index-init : goal.with_member-loop-index-init
+with_member-loop-index-init t c d x k h g =
+    subst (λ xs. IsSide (length d.names) c.args.rest (targets_both (target_range d c.in-Span.first.place xs) x)) (sym (back_none name_items c.as_slice-names.result.now)) g
 
-pub set_side-loop-member-init : goal.set_side-loop-member-init
-set_side-loop-member-init t c d k h = c.none-side.ensures (length d.names)
+pub with_member-loop-index-preserved : goal.with_member-loop-index-preserved
+with_member-loop-index-preserved t c d x k h g =
+    let names = c.as_slice-names.result.now in
+    let i = c.loop-index.index in
+    let p = c.in-Span.first.place in
+    let n = c.index-names-index.result.items in
+    let here : map name_items (drop (i - 1) names) ≡ n ∷ map name_items (drop i names) = back_more name_items names i c.index-names-index.result c.loop-index-test.true c.loop-index.auto.index c.index-names-index.is in
+    let rest = target_range d p (map name_items (drop i names)) in
+    let named = subst (λ w. IsSide (length d.names) c.in_ok-name-in-Span.name (target_name d p (start_at d p p w) w)) c.as_slice.ensures.value (c.in_ok-name-in-Span.ensures d k h) in
+    let name = subst (λ q. IsSide (length d.names) c.in_ok-name-in-Span.name (target_name d p q n)) (start_same d p n) named in
+    subst (λ xs. IsSide (length d.names) c.in_ok-side-in-Span.side (targets_both (target_range d p xs) x)) (sym here)
+    (subst (IsSide (length d.names) c.in_ok-side-in-Span.side) (sym (both_assoc (target_name d p p n) rest x))
+    (c.in_ok-side-in-Span.ensures (length d.names) (target_name d p p n) (targets_both rest x) name (c.loop-index.invariant d x k h g)))
 
-pub set_side-loop-member-preserved : goal.set_side-loop-member-preserved
-set_side-loop-member-preserved t c d k h =
+pub with_member-returns-after-loop-index : goal.with_member-returns-after-loop-index
+with_member-returns-after-loop-index t c d x k h g =
+    let all : c.loop-index.index ≡ 0 = omega (arith, c.loop-index-test.false) in
+    let whole = ap (λ i. map name_items (drop i c.as_slice-names.result.now)) all ∙ ap (map name_items) c.as_slice-names.ensures.value ∙ (c.in_ok-list-in-Span.ensures ∙ ap₂ range_names c.bytes.ensures c.bytes-in-Span.ensures) in
+    subst (λ m. IsSide (length d.names) c.loop-index.side (targets_both (target_one d m) x)) (sym (ap view_member c.in-Span.is ∙ view_span c.in-Span.first c.in-Span.last))
+    (subst (λ xs. IsSide (length d.names) c.loop-index.side (targets_both (target_range d c.in-Span.first.place xs) x)) whole (c.loop-index.invariant d x k h g))
+
+pub set_side-loop-index-init : goal.set_side-loop-index-init
+set_side-loop-index-init t c d k h =
+    subst (λ xs. IsSide (length d.names) c.none-side.result (target_members d (members_of xs))) (sym (back_none view_member c.args.members.now)) (c.none-side.ensures (length d.names))
+
+pub set_side-loop-index-preserved : goal.set_side-loop-index-preserved
+set_side-loop-index-preserved t c d k h =
     let ms = c.args.members.now in
-    let i = c.loop-member.member-index in
-    let here : map view_member (take (i + 1) ms) ≡ map view_member (take i ms) ++ view_member c.member-item.result ∷ [] = front_more view_member ms i c.member-item.result c.loop-member-test.true c.member-item.is in
-    subst (IsSide (length d.names) c.in_ok-side.side)
-    (sym (members_more d (map view_member (take i ms)) (view_member c.member-item.result)) ∙ ap (λ xs. target_members d (members_of xs)) (sym here))
-    (c.in_ok-side.ensures d (target_members d (members_of (map view_member (take i ms)))) k h (c.loop-member.invariant d k h))
+    let i = c.loop-index.index in
+    let m = c.index-members-index.result in
+    let here : map view_member (drop (i - 1) ms) ≡ view_member m ∷ map view_member (drop i ms) = back_more view_member ms i m c.loop-index-test.true c.loop-index.auto.index c.index-members-index.is in
+    subst (λ xs. IsSide (length d.names) c.in_ok-side.side (target_members d (members_of xs))) (sym here)
+    (c.in_ok-side.ensures d (target_members d (members_of (map view_member (drop i ms)))) k h (c.loop-index.invariant d k h))
 
 pub set_side-returns : goal.set_side-returns
 set_side-returns t c d k h =
-    let ms = c.args.members.now in
-    let all : map view_member (take c.loop-member.member-index ms) ≡ map view_member ms = whole_front view_member ms c.loop-member.member-index c.loop-member-test.false in
-    subst (λ xs. IsSide (length d.names) c.as_set.result (target_set c.args.place (target_members d (members_of xs)))) all
-    (c.as_set.ensures (length d.names) (target_members d (members_of (map view_member (take c.loop-member.member-index ms)))) (c.loop-member.invariant d k h))
+    let all : c.loop-index.index ≡ 0 = omega (arith, c.loop-index-test.false) in
+    let count = length d.names in
+    let x = target_members d (members_of (map view_member c.args.members.now)) in
+    let side = subst (λ j. IsSide count c.loop-index.side (target_members d (members_of (map view_member (drop j c.args.members.now))))) all (c.loop-index.invariant d k h) in
+    side_set count c.args.place c.loop-index.side _ x c.refuse_wide.result side (c.refuse_wide.ensures (length x.aims) (ap length c.as_slice.ensures ∙ side_length count c.loop-index.side x side)) c.earlier-fault.ensures refl

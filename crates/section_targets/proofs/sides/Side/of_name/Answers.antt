@@ -1,5 +1,5 @@
 -- What is found of a name, and its signals.
-use Rattle.std.proofs.Common.{true, if◌then◌else◌, refl, ap, ap₂, sym, subst, ◌∙◌, [], ◌∷◌, ◌++◌, length}
+use Rattle.std.proofs.Common.{if◌then◌else◌, refl, ap, ap₂, sym, subst, ◌∙◌, [], ◌∷◌, ◌++◌, length}
 use Rattle.abel_tree.specs.Entries.{find}
 use Rattle.abel_tree.specs.FirstRefusal.{earlier, first_refusal}
 use Rattle.abel_tree.proofs.FirstRefusals.{first_append}
@@ -10,7 +10,7 @@ use Rattle.set_expr.specs.FoundNames.{found_use, name_found, names_found}
 use Rattle.set_expr.specs.KnownNames.{SumsUp}
 use Rattle.set_expr.specs.SectionOrder.{section_order}
 use Rattle.section_targets.specs.NamedTargets.{StandFor}
-use Rattle.section_targets.specs.TargetSignals.{aims_at, no_signals, names_signals, target_name}
+use Rattle.section_targets.specs.TargetSignals.{aims_at, is_itself, no_signals, names_signals, start_at, target_name}
 use Rattle.section_targets.proofs.OverNames.{found_in}
 use Rattle.section_targets.proofs.SignalLists.{side_named}
 use Rattle.section_targets.proofs.sides.Side.of_name.Goals as goal
@@ -18,13 +18,15 @@ use Rattle.section_targets.proofs.sides.Side.of_name.Goals as goal
 pub returns : goal.returns
 returns c d k h =
     let w = c.args.text.now in
-    let q = c.args.place.signals in
     let t = term_named d.known w in
-    let x = found_use c.args.place.used (name_found (names_found d.names) w) in
-    let n = c.in_ok-signals.ensures (length d.names) d.known [] true (subst (λ es. StandFor (length d.names) es c.args.targets.now.named.now d.known) k h) (c.none-none.ensures (length d.names)) in
-    let found = subst (λ es. SumsUp c.check_name-found.result (found_use c.args.place.used (name_found (names_found es) w))) (sym k) c.check_name-found.ensures in
-    let mixed = c.refuse_mixed-mixed.ensures ∙ ap₂ (λ b i. first_refusal section_order (if b then [] else NotAnOutput q i ∷ [])) n.alone (found_in w k c.number_of-number.ensures) in
+    let q = start_at d c.args.begin c.args.used w in
+    let x = found_use c.args.used (name_found (names_found d.names) w) in
+    let n = c.in_ok-signals.ensures (length d.names) d.known (subst (λ es. StandFor (length d.names) es c.args.targets.now.named.now d.known) k h) in
+    let number = found_in w k c.number_of-number.ensures in
+    let place = c.start-start.ensures (length d.names) t n ∙ ap (λ o. if is_itself o t then c.args.begin else c.args.used) number in
+    let found = subst (λ es. SumsUp c.check_name-found.result (found_use c.args.used (name_found (names_found es) w))) (sym k) c.check_name-found.ensures in
+    let mixed = c.refuse_mixed-mixed.ensures ∙ ap₂ (λ b i. first_refusal section_order (if b then [] else NotAnOutput c.start-start.result i ∷ [])) n.alone number ∙ ap (λ p. first_refusal section_order (no_signals p (find d.names w) t)) place in
     let inner = c.earlier.ensures ∙ ap₂ (earlier section_order) found.special mixed ∙ sym (first_append section_order x.specials (no_signals q (find d.names w) t)) in
-    side_named (length d.names) c.in_ok-signals.signals _ (target_name d c.args.place.used q w) q (some_signals (targets_of t)) (names_signals t)
+    side_named (length d.names) c.in_ok-signals.signals _ (target_name d c.args.used q w) q (some_signals (targets_of t)) (names_signals t)
     (c.earlier-2.ensures ∙ ap₂ (earlier section_order) found.fault inner ∙ sym (first_append section_order x.refusals (x.specials ++ no_signals q (find d.names w) t)))
-    refl n (c.from_vec.ensures ∙ c.in_ok-aims.ensures ∙ ap (aims_at q) c.as_slice.ensures)
+    refl n (c.from_vec.ensures ∙ c.in_ok-aims.ensures ∙ ap₂ aims_at place c.as_slice.ensures)

@@ -6,7 +6,7 @@ use Rattle.section_targets.specs.Building.{Builds}
 use Rattle.section_targets.specs.Units.{part}
 use Rattle.section_targets.proofs.Built.{kept_formula, kept_inside}
 use Rattle.section_targets.proofs.OneUnit.{two_parts}
-use Rattle.section_targets.proofs.guards.guard_else.Goals as goal
+use Rattle.section_targets.proofs.nodes.guard_else.Goals as goal
 
 pub add_node-requires-2 : goal.add_node-requires-2
 add_node-requires-2 c = (
