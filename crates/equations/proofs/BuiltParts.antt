@@ -20,7 +20,8 @@ use Rattle.abel_meaning.specs.Contributions as meant
 use Rattle.abel_meaning.specs.CountedNodes.{term_nodes, choice_nodes, condition_of, guard_else}
 use Rattle.abel_meaning.specs.Designs.{Context}
 use Rattle.abel_meaning.specs.BitWords.{Word}
-use Rattle.abel_meaning.specs.FormulaBits.{resized, met_by, met_word}
+use Rattle.abel_meaning.specs.FormulaBits.{formulas, resized, met_by, met_word}
+use Rattle.abel_meaning.specs.Terms.{term_of}
 use Rattle.abel_meaning.specs.Numbers.{Value, Single, digits_low_first}
 use Rattle.abel_meaning.proofs.DigitLaws.{length_digits}
 use Rattle.abel_meaning.proofs.RelationWords.{map_reverse}
@@ -132,10 +133,13 @@ choice_else p d g c other g1 f1 old mid new r o e h a b =
     subst (λ x. Builds (part p (choice_nodes d g c x) ∷ []) [] [] old new r) (sym o)
     (guard_behind p (choice_nodes d g c false) guard_else g (condition_of d c) g1 f1 old mid new r e h a b)
 
--- the first bit of a word
-pub first_bit : (fs : List Formula) (ids : List ExprId) (id : ExprId) (gs : List Formula) → 0 < length ids → AreBits fs ids gs → IsBit fs (get_or ids 0 id) (get_or gs 0 (Const false))
+-- the first bit of a word, and the one of a condition
+first_bit : (fs : List Formula) (ids : List ExprId) (id : ExprId) (gs : List Formula) → 0 < length ids → AreBits fs ids gs → IsBit fs (get_or ids 0 id) (get_or gs 0 (Const false))
 first_bit fs [] id gs lt h = absurd (omega (arith, lt))
 first_bit fs (x ∷ ids) id gs lt h = (h.0 0 x (omega arith), ap (λ xs. get_or xs 0 (Const false)) h.1)
+
+pub condition_made : (d : Context) (c : Tree) (fs : List Formula) (ids : List ExprId) (bit x : ExprId) → length ids ≡ 1 → bit ≡ get_or ids 0 x → AreBits fs ids ((formulas d).word 1 (term_of d.known c)) → IsBit fs bit (condition_of d c)
+condition_made d c fs ids bit x n e h = subst (λ id. IsBit fs id (condition_of d c)) (sym e) (first_bit fs ids x ((formulas d).word 1 (term_of d.known c)) (omega (arith, n)) h)
 
 -- a bit stays where its node stands
 pub kept_bit : (old new : List Formula) (id : ExprId) (f : Formula) → Keeps old new → IsBit old id f → IsBit new id f

@@ -1,53 +1,27 @@
 //! What is refused of assignments.
 
-ghost use Rattle.std.specs.Prelude.{◌≡◌, List, ◌++◌, length, IfOk, OnOk};
+ghost use Rattle.std.specs.Prelude.{◌≡◌, List, ◌++◌, IfOk, OnOk};
 ghost use Rattle.abel_tree.specs.Assigned as assigned;
 ghost use Rattle.abel_tree.specs.Entries.{entries_of};
 ghost use Rattle.abel_tree.specs.FirstRefusal.{first_refusal};
 ghost use Rattle.abel_tree.specs.View.{view};
-ghost use Rattle.set_expr.specs.KnownNames.{SumsUp};
-ghost use Rattle.set_expr.specs.Refusals.{Found};
 ghost use Rattle.set_expr.specs.SectionOrder.{section_order};
 ghost use Rattle.section_targets.specs.declared.manner.Manner.{Manner};
-ghost use Rattle.section_targets.specs.Given.{AreNamed};
-ghost use Rattle.section_targets.specs.Manners.{AreFirsts, aims_refused};
-ghost use Rattle.section_targets.specs.ValueWidths.{value_refused};
+ghost use Rattle.section_targets.specs.Manners.{AreFirsts};
 ghost use Rattle.set_expr.specs.Contexts.{context_for};
 ghost use Rattle.section_targets.specs.TargetSignals.{left_side};
 ghost use Rattle.set_expr.specs.FoundNames.{expression_found};
 ghost use Rattle.equations.specs.Checks.{view_assign};
-ghost use Rattle.equations.specs.StatementUnits.{assign_refused, assigned_manners, statement_manners};
+ghost use Rattle.equations.specs.StatementUnits.{assign_refused, statement_manners};
 
 use crate::conditions::{is_clocked, refuse_value};
 use abel_tree::{Assign, earlier};
+use name_uses::target_extension;
 use pld_base::OutOfMemory;
 use pld_device::Device;
-use section_targets::{Assigned, SectionScope, Side, Way, check_aims, target_extension};
-use set_expr::{Checked, SectionFault};
+use section_targets::{Assigned, SectionScope, Way, check_aims};
+use set_expr::SectionFault;
 use std::alloc::Global;
-
-/// An assignment to a target that isn't refused.
-fn check_side<D: Device>(
-    scope: &SectionScope<'_, D>,
-    assign: &Assign,
-    side: &Side,
-    value: Checked,
-    before: &mut Assigned,
-) -> Result<Option<SectionFault>, OutOfMemory>
-    requires { AreNamed (length (entries_of scope.now)) side.now.aims }
-    ensures fault { IfOk result (λ f. (all : List Manner) (x : Found) → AreFirsts before.old all → SumsUp value x → f ≡ first_refusal section_order (value_refused assign.now.sign_place (length side.now.aims) x ++ aims_refused (context_for D.table scope.now) all (assigned.target_extension (view assign.now.target)) assign.now.complement (assigned.is_clocked assign.now.sign) side.now.aims)) }
-    ensures before { OnOk result ((all : List Manner) → AreFirsts before.old all → AreFirsts before.new (all ++ assigned_manners (assigned.target_extension (view assign.now.target)) assign.now.complement assign.now.sign side.now.aims)) }
-{
-    let aims = side.aims.as_slice();
-    let refused = refuse_value(assign.sign_place, aims.len(), value);
-    let way = Way {
-        extension: target_extension(&assign.target),
-        complement: assign.complement,
-        clocked: is_clocked(assign.sign),
-    };
-    let mixed = check_aims::<D>(scope.scope(), way, aims, before)?;
-    Ok(earlier(refused, mixed))
-}
 
 /// The first refusal, by place, of an assignment behind what was assigned before; how it assigns signals is noted.
 pub(crate) fn check_assign<D: Device>(
@@ -59,10 +33,21 @@ pub(crate) fn check_assign<D: Device>(
     ensures fault { IfOk result (λ f. (all : List Manner) → AreFirsts before.old all → f ≡ first_refusal section_order (assign_refused (context_for D.table scope.now) all (assigned.target_extension (view assign.now.target)) assign.now.complement assign.now.sign assign.now.sign_place (left_side (context_for D.table scope.now) assign.now.place (view assign.now.target)) (expression_found (entries_of scope.now) (view assign.now.value)))) }
     ensures before { OnOk result ((all : List Manner) → AreFirsts before.old all → AreFirsts before.new (all ++ statement_manners (context_for D.table scope.now) (view_assign assign.now))) }
 {
+    let names = scope.scope();
     let side = scope.target(alloc, assign.place, &assign.target)?;
-    let value = scope.scope().check(alloc, &assign.value)?;
+    let value = names.check(alloc, &assign.value)?;
     match side.fault {
         Some(fault) => Ok(earlier(Some(fault), earlier(value.fault, value.special))),
-        None => check_side::<D>(scope, assign, &side, value, before),
+        None => {
+            let aims = side.aims.as_slice();
+            let refused = refuse_value(assign.sign_place, aims.len(), value);
+            let way = Way {
+                extension: target_extension(&assign.target),
+                complement: assign.complement,
+                clocked: is_clocked(assign.sign),
+            };
+            let mixed = check_aims::<D>(names, way, aims, before)?;
+            Ok(earlier(refused, mixed))
+        }
     }
 }

@@ -12,7 +12,7 @@ ghost use Rattle.section_targets.specs.Units.{part};
 ghost use Rattle.equations.specs.StatementWalks.{WalksCondition, AreBothGuards};
 
 use crate::conditions::check_condition;
-use crate::values::condition_bit;
+use crate::values::{Meets, value_bits};
 use abel_tree::Expr;
 use bit_expr::{ExprId, Exprs, Node};
 use pld_base::{OutOfMemory, Place};
@@ -52,9 +52,13 @@ pub fn then_guard<D: Device>(
     ensures condition { IfOk result (λ g. IsBit (arena exprs.new) g.condition (condition_of (context_for D.table scope.now) (view condition.now.expr.now))) }
     ensures then { IfOk result (λ g. IsBit (arena exprs.new) g.then (counted.guard_then (formula_at (arena exprs.old) guard) (condition_of (context_for D.table scope.now) (view condition.now.expr.now))).what) }
 {
-    let unit = condition.unit;
-    let bit = condition_bit::<D>(alloc, scope, condition.expr, unit, exprs)?;
-    let then = add_node(exprs, Node::And(guard, bit), unit)?;
+    let meets = Meets {
+        unit: condition.unit,
+        signals: 1,
+    };
+    let ids = value_bits::<D>(alloc, scope, condition.expr, meets, exprs)?;
+    let bit = ids[0];
+    let then = add_node(exprs, Node::And(guard, bit), condition.unit)?;
     Ok(Chosen {
         condition: bit,
         then,
@@ -78,7 +82,6 @@ fn both_guards<D: Device>(
 ) -> Result<BothGuards, SectionFault>
     requires guard { guard.0 < length (arena exprs.old) }
     requires accepted { refusal_of scope.now (view condition.now.expr.now) ≡ None }
-    ensures keeps { Keeps (arena exprs.old) (arena exprs.new) }
     ensures builds { BuildsNodes (part condition.now.unit (choice_nodes (context_for D.table scope.now) (formula_at (arena exprs.old) guard) (view condition.now.expr.now) condition.now.otherwise) ∷ []) exprs.old exprs.new result }
     ensures then { IfOk result (λ g. IsBit (arena exprs.new) g.then (counted.guard_then (formula_at (arena exprs.old) guard) (condition_of (context_for D.table scope.now) (view condition.now.expr.now))).what) }
     ensures inside { IfOk result (λ g. g.otherwise.0 < length (arena exprs.new)) }

@@ -9,5 +9,5 @@ mod walking;
 
 pub use choices::{BothGuards, Chosen, Condition, then_guard, walk_condition};
 pub use conditions::{check_condition, refuse_value};
-pub use values::{Meets, condition_bit, unit_bits, value_bits};
+pub use values::{Meets, unit_bits, value_bits};
 pub use walking::walk_statements;

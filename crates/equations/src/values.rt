@@ -1,15 +1,15 @@
-//! The bits of values and conditions, as nodes of a unit.
+//! The bits of values, as nodes of a unit.
 
 ghost use Rattle.std.specs.Prelude.{◌≡◌, None, [], ◌∷◌, length, IfOk};
 ghost use Rattle.bit_expr.specs.Arena.{arena};
 ghost use Rattle.abel_tree.specs.View.{view};
-ghost use Rattle.abel_meaning.specs.CountedNodes.{term_nodes, condition_of};
+ghost use Rattle.abel_meaning.specs.CountedNodes.{term_nodes};
 ghost use Rattle.abel_meaning.specs.FormulaBits.{formulas, bits_of};
 ghost use Rattle.abel_meaning.specs.Terms.{term_of};
 ghost use Rattle.abel_meaning.specs.Values.{constant_of};
 ghost use Rattle.set_expr.specs.Answer.{IsShaped, Keeps, refusal_of};
 ghost use Rattle.set_expr.specs.Contexts.{context_for};
-ghost use Rattle.section_targets.specs.Building.{BuildsNodes, AreBits, IsBit};
+ghost use Rattle.section_targets.specs.Building.{BuildsNodes, AreBits};
 ghost use Rattle.section_targets.specs.Units.{part};
 ghost use Rattle.equations.specs.Builds.{at_unit};
 
@@ -75,22 +75,4 @@ pub fn value_bits<D: Device>(
     let mut ids = meet(alloc, &shaped, meets.signals)?;
     ids.reverse();
     Ok(ids)
-}
-
-/// The one bit of a condition.
-pub fn condition_bit<D: Device>(
-    alloc: Global,
-    scope: &SectionScope<'_, D>,
-    condition: &Expr,
-    unit: Place,
-    exprs: &mut Exprs,
-) -> Result<ExprId, SectionFault>
-    requires accepted { refusal_of scope.now (view condition.now) ≡ None }
-    ensures keeps { Keeps (arena exprs.old) (arena exprs.new) }
-    ensures builds { BuildsNodes (part unit (term_nodes (context_for D.table scope.now) (view condition.now)) ∷ []) exprs.old exprs.new result }
-    ensures bit { IfOk result (λ id. IsBit (arena exprs.new) id (condition_of (context_for D.table scope.now) (view condition.now))) }
-{
-    let meets = Meets { unit, signals: 1 };
-    let ids = value_bits::<D>(alloc, scope, condition, meets, exprs)?;
-    Ok(ids[0])
 }

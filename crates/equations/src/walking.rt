@@ -12,9 +12,10 @@ use crate::choices::{Condition, walk_condition};
 use crate::conditions::{is_clocked, sign_gives};
 use crate::values::{Meets, value_bits};
 use abel_tree::{Assign, Stmt, When};
+use name_uses::target_extension;
 use pld_base::OutOfMemory;
 use pld_device::Device;
-use section_targets::{Giver, Giving, SectionScope, Walked, give_all, target_extension};
+use section_targets::{Giver, Giving, SectionScope, Walked, give_all};
 use set_expr::{Guard, SectionFault};
 use std::alloc::Global;
 

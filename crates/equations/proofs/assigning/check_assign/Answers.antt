@@ -1,19 +1,22 @@
 -- An assignment whose target is refused, and one whose target isn't.
-use Rattle.std.proofs.Common.{◌++◌, Some, ap, sym, ◌∙◌, subst, length}
-use Rattle.std.proofs.lemmas.Result.{IfOk-weaker}
+use Rattle.std.proofs.Common.{◌++◌, List, Some, ap, ap₂, map, sym, ◌∙◌, subst, length}
 use Rattle.abel_tree.specs.declared.names.Names.{Names}
 use Rattle.abel_tree.specs.Assigned as assigned
 use Rattle.abel_tree.specs.Entries.{entries_of}
-use Rattle.abel_tree.specs.FirstRefusal.{earlier}
+use Rattle.abel_tree.specs.FirstRefusal.{earlier, first_refusal}
+use Rattle.abel_tree.proofs.FirstRefusals.{first_append}
 use Rattle.abel_tree.specs.View.{view}
 use Rattle.set_expr.specs.SectionOrder.{section_order}
 use Rattle.set_expr.specs.FoundNames.{expression_found}
 use Rattle.set_expr.specs.KnownNames.{SumsUp}
 use Rattle.set_expr.specs.Contexts.{context_for}
-use Rattle.section_targets.specs.Manners.{AreFirsts}
+use Rattle.section_targets.specs.declared.aim.Aim.{Aim}
+use Rattle.section_targets.specs.Given.{AreNamed}
+use Rattle.section_targets.specs.Manners.{AreFirsts, aims_refused, manner_of}
 use Rattle.section_targets.specs.TargetSignals.{left_side}
+use Rattle.section_targets.specs.ValueWidths.{value_refused}
 use Rattle.section_targets.proofs.SmallTargets.{side_whole}
-use Rattle.equations.proofs.BuiltParts.{is_context}
+use Rattle.equations.proofs.BuiltParts.{is_context, same_context}
 use Rattle.equations.proofs.CheckedUnits.{known_by_names, behind_refused, accepted_refused, accepted_manners}
 use Rattle.equations.proofs.assigning.check_assign.Goals as goal
 
@@ -25,34 +28,40 @@ returns-in-Some-clause-fault g c = λ all a.
     let x = c.args.assign.now in
     c.earlier-in-Some.ensures ∙ ap (earlier section_order (Some c.in-Some.fault)) c.earlier.ensures
     ∙ behind_refused d all (assigned.target_extension (view x.target)) x.complement x.sign x.sign_place (left_side d x.place (view x.target)) (expression_found (entries_of n) (view x.value)) c.in-Some.fault c.in_ok-value.value
-    (sym c.in-Some.is ∙ (c.in_ok-side.ensures t).fault) (subst (λ (m : Names). SumsUp c.in_ok-value.value (expression_found (entries_of m) (view x.value))) c.scope.ensures c.in_ok-value.ensures)
+    (sym c.in-Some.is ∙ (c.in_ok-side.ensures t).fault) (subst (λ (m : Names). SumsUp c.in_ok-value.value (expression_found (entries_of m) (view x.value))) c.scope-names.ensures c.in_ok-value.ensures)
 
-pub check_side-requires : goal.check_side-requires
-check_side-requires g c = (c.in_ok-side.ensures g.D.Device.table).inside
+pub check_aims-requires : goal.check_aims-requires
+check_aims-requires g c =
+    subst (λ (n : Names). AreNamed (length (entries_of n)) c.as_slice-aims.result.now) (sym c.scope-names.ensures)
+    (subst (λ (xs : List Aim). AreNamed (length (entries_of c.args.scope.now)) xs) (sym c.as_slice-aims.ensures) (c.in_ok-side.ensures g.D.Device.table).inside)
 
 pub returns-clause-fault : goal.returns-clause-fault
-returns-clause-fault g c =
-    IfOk-weaker c.check_side.result _ _
-    (λ r h all a.
+returns-clause-fault g c = λ all a.
     let n = c.args.scope.now in
     let t = g.D.Device.table in
     let d = context_for t n in
     let x = c.args.assign.now in
+    let target = left_side d x.place (view x.target) in
+    let f = expression_found (entries_of n) (view x.value) in
+    let e = assigned.target_extension (view x.target) in
+    let aims = c.as_slice-aims.result.now in
     let whole = side_whole d (length d.names) c.in_ok-side.side x.place (view x.target) (known_by_names t n d (is_context t n)) (c.in_ok-side.ensures t) (sym c.in-None.is) in
-    h all (expression_found (entries_of n) (view x.value)) a (subst (λ (m : Names). SumsUp c.in_ok-value.value (expression_found (entries_of m) (view x.value))) c.scope.ensures c.in_ok-value.ensures)
-    ∙ accepted_refused d all (assigned.target_extension (view x.target)) x.complement x.sign x.sign_place (left_side d x.place (view x.target)) (expression_found (entries_of n) (view x.value)) c.in_ok-side.side.aims whole.0 whole.1)
-    c.check_side.ensures.fault
+    let value = subst (λ (m : Names). SumsUp c.in_ok-value.value (expression_found (entries_of m) (view x.value))) c.scope-names.ensures c.in_ok-value.ensures in
+    let mixed = c.in_ok-mixed-in-None.ensures.fault d all (same_context t c.scope-names.result.now n c.scope-names.ensures) a
+    ∙ ap₂ (λ y z. first_refusal section_order (aims_refused d all y x.complement z aims)) c.target_extension.ensures c.is_clocked.ensures in
+    c.earlier-in-None.ensures ∙ ap₂ (earlier section_order) (c.refuse_value-refused.ensures f value) mixed
+    ∙ sym (first_append section_order (value_refused x.sign_place (length aims) f) (aims_refused d all e x.complement (assigned.is_clocked x.sign) aims))
+    ∙ accepted_refused d all e x.complement x.sign x.sign_place target f aims whole.0 (c.as_slice-aims.ensures ∙ whole.1)
 
 pub returns-clause-before : goal.returns-clause-before
-returns-clause-before g c =
-    IfOk-weaker c.check_side.result _ _
-    (λ r h all a.
+returns-clause-before g c = λ all a.
     let n = c.args.scope.now in
     let t = g.D.Device.table in
     let d = context_for t n in
     let x = c.args.assign.now in
+    let aims = c.as_slice-aims.result.now in
     let whole = side_whole d (length d.names) c.in_ok-side.side x.place (view x.target) (known_by_names t n d (is_context t n)) (c.in_ok-side.ensures t) (sym c.in-None.is) in
-    subst (λ ms. AreFirsts c.check_side.new.before (all ++ ms))
-    (accepted_manners (assigned.target_extension (view x.target)) x.complement x.sign (left_side d x.place (view x.target)) c.in_ok-side.side.aims whole.0 whole.1)
-    (h all a))
-    c.check_side.ensures.before
+    subst (λ ms. AreFirsts c.check_aims.new.before (all ++ ms))
+    (ap₂ (λ y z. map (manner_of y x.complement z) aims) c.target_extension.ensures c.is_clocked.ensures
+    ∙ accepted_manners (assigned.target_extension (view x.target)) x.complement x.sign (left_side d x.place (view x.target)) aims whole.0 (c.as_slice-aims.ensures ∙ whole.1))
+    (c.in_ok-mixed-in-None.ensures.before all a)

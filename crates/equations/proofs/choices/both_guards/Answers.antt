@@ -8,7 +8,7 @@ use Rattle.abel_meaning.specs.CountedNodes.{choice_nodes}
 use Rattle.section_targets.specs.Building.{IsBuilt}
 use Rattle.set_expr.specs.Contexts.{context_for}
 use Rattle.section_targets.specs.Units.{part}
-use Rattle.section_targets.proofs.Built.{kept_formula, kept_inside, keeps_on}
+use Rattle.section_targets.proofs.Built.{kept_formula, kept_inside}
 use Rattle.equations.proofs.BuiltParts.{kept_bit, choice_else, choice_stops}
 use Rattle.equations.proofs.choices.both_guards.Goals as goal
 
@@ -26,18 +26,12 @@ pub guard_else-requires-clause-condition : goal.guard_else-requires-clause-condi
 guard_else-requires-clause-condition g c = c.in_ok-chosen.ensures.inside.0
 
 -- the unit with its ELSE
-pub returns-in_err-otherwise-clause-keeps : goal.returns-in_err-otherwise-clause-keeps
-returns-in_err-otherwise-clause-keeps g c = keeps_on _ _ _ c.in_ok-chosen.ensures.keeps (c.in_err-otherwise.ensures.builds []).1.keeps
-
 pub returns-in_err-otherwise-clause-builds : goal.returns-in_err-otherwise-clause-builds
 returns-in_err-otherwise-clause-builds g c = λ list.
     let p = err_from_is_err_and c.from_residual-in_err-otherwise.result c.from_residual-in_err-otherwise.ensures.1 in
     let x = c.args.condition.now in
     rw (p.1, p.2)
     (choice_else x.unit (context_for g.D.Device.table c.args.scope.now) _ (view x.expr.now) x.otherwise _ _ _ _ _ (Err c.in_err-otherwise.field-0.0) c.if-condition.true (kept_formula _ _ c.args.guard c.in_ok-chosen.ensures.keeps c.requires.guard) c.in_ok-chosen.ensures.condition.1 (c.in_ok-chosen.ensures.builds list) (c.in_err-otherwise.ensures.builds list))
-
-pub returns-in_ok-otherwise-clause-keeps : goal.returns-in_ok-otherwise-clause-keeps
-returns-in_ok-otherwise-clause-keeps g c = keeps_on _ _ _ c.in_ok-chosen.ensures.keeps (c.in_ok-otherwise.ensures.builds []).made.grew.keeps
 
 pub returns-in_ok-otherwise-clause-builds : goal.returns-in_ok-otherwise-clause-builds
 returns-in_ok-otherwise-clause-builds g c = λ list.
