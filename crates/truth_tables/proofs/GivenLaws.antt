@@ -29,8 +29,8 @@ use Rattle.section_targets.proofs.MetWords.{low_bit, high_bit}
 use Rattle.truth_tables.specs.TableUnits.{some_aims, places_for, places_of, row_places}
 use Rattle.truth_tables.specs.declared.giving.Assigning.{Assigning}
 use Rattle.truth_tables.specs.Gives.{signals_of, matched_guard, value_places, GivesOutput}
-use Rattle.truth_tables.specs.Works.{IsBegun, Work, before, given_freely, nothing}
-use Rattle.truth_tables.proofs.WorkLaws.{AfterStep, DoesWork, begun_step, free_part}
+use Rattle.truth_tables.specs.Works.{Work, before, given_freely, nothing}
+use Rattle.truth_tables.proofs.WorkLaws.{AfterStep, DoesWork, IsLeft, free_part, left_step}
 
 -- ---- one output
 
@@ -108,7 +108,7 @@ positions_step d h k (Some a) xs l ls =
 -- one position more, over any arena in which the bit is the same
 pub positions_step_at : (d : Context) (g : Guard) (k : Bool) (id : ExprId) (i : ℕ) (xs : List (Option Aim)) (ls : List (Option Bool)) (fs : List Formula) (old mid new : Contributions) (r : Result Unit SectionFault)
     → i < min (length xs) (length ls) → formula_at (arena mid.exprs) id ≡ formula_at fs id
-    → IsBegun (positions_work d (matched_guard fs g id) k xs ls) (positions_work d (matched_guard fs g id) k (drop i xs) (drop i ls)) old mid
+    → IsLeft (positions_work d (matched_guard fs g id) k xs ls) (positions_work d (matched_guard fs g id) k (drop i xs) (drop i ls)) old mid
     → DoesWork (positions_work d (matched_guard (arena mid.exprs) g id) k (get_or xs i None ∷ []) (get_or ls i None ∷ [])) mid new r
     → AfterStep (positions_work d (matched_guard fs g id) k xs ls) (positions_work d (matched_guard fs g id) k (drop (i + 1) xs) (drop (i + 1) ls)) old new r
 positions_step_at d g k id i xs ls fs old mid new r lt kept b s =
@@ -117,8 +117,8 @@ positions_step_at d g k id i xs ls fs old mid new r lt kept b s =
     let l = get_or ls i None in
     let next = ap₂ (positions_work d h k) (drop-cons xs i None (omega (arith, lt)) ∙ ap (λ n. x ∷ drop n xs) (sym (add-one i))) (drop-cons ls i None (omega (arith, lt)) ∙ ap (λ n. l ∷ drop n ls) (sym (add-one i)))
     ∙ positions_step d h k x (drop (i + 1) xs) l (drop (i + 1) ls) in
-    begun_step (positions_work d h k xs ls) (positions_work d h k (x ∷ []) (l ∷ [])) (positions_work d h k (drop (i + 1) xs) (drop (i + 1) ls)) old mid new r
-    (subst (λ w. IsBegun (positions_work d h k xs ls) w old mid) next b)
+    left_step (positions_work d h k xs ls) (positions_work d h k (x ∷ []) (l ∷ [])) (positions_work d h k (drop (i + 1) xs) (drop (i + 1) ls)) old mid new r
+    (subst (λ w. IsLeft (positions_work d h k xs ls) w old mid) next b)
     (subst (λ f. DoesWork (positions_work d (record { holds = f; dontcare = g.dontcare; block = g.block }) k (x ∷ []) (l ∷ [])) mid new r) kept s)
 
 pub positions_left : (d : Context) (h : meant.Guard Formula) (k : Bool) (i : ℕ) (xs : List (Option Aim)) (ls : List (Option Bool)) → min (length xs) (length ls) ≤ i → positions_work d h k (drop i xs) (drop i ls) ≡ nothing
@@ -146,15 +146,15 @@ no_step d g k (Some a) xs = refl
 
 -- one output more, by the constant 0 over any arena
 pub no_step_at : (d : Context) (g : Guard) (k : Bool) (id : ExprId) (i : ℕ) (xs : List (Option Aim)) (fs : List Formula) (old mid new : Contributions) (r : Result Unit SectionFault)
-    → i < length xs → id.0 ≡ 0 → IsBegun (no_work d (view_guard fs g) k xs) (no_work d (view_guard fs g) k (drop i xs)) old mid
+    → i < length xs → id.0 ≡ 0 → IsLeft (no_work d (view_guard fs g) k xs) (no_work d (view_guard fs g) k (drop i xs)) old mid
     → DoesWork (positions_work d (matched_guard (arena mid.exprs) g id) k (get_or xs i None ∷ []) (Some false ∷ [])) mid new r
     → AfterStep (no_work d (view_guard fs g) k xs) (no_work d (view_guard fs g) k (drop (i + 1) xs)) old new r
 no_step_at d g k id i xs fs old mid new r lt e b s =
     let h = view_guard fs g in
     let x = get_or xs i None in
     let next = ap (no_work d h k) (drop-cons xs i None lt ∙ ap (λ n. x ∷ drop n xs) (sym (add-one i))) ∙ no_step d h k x (drop (i + 1) xs) in
-    begun_step (no_work d h k xs) (no_work d h k (x ∷ [])) (no_work d h k (drop (i + 1) xs)) old mid new r
-    (subst (λ w. IsBegun (no_work d h k xs) w old mid) next b) (by_output x s)
+    left_step (no_work d h k xs) (no_work d h k (x ∷ [])) (no_work d h k (drop (i + 1) xs)) old mid new r
+    (subst (λ w. IsLeft (no_work d h k xs) w old mid) next b) (by_output x s)
   where
     by_output : (x : Option Aim) → DoesWork (positions_work d (matched_guard (arena mid.exprs) g id) k (x ∷ []) (Some false ∷ [])) mid new r → DoesWork (no_work d (view_guard fs g) k (x ∷ [])) mid new r
     by_output None s = s

@@ -1,22 +1,25 @@
 -- What is found of a header, part by part.
-use Rattle.std.proofs.Common.{◌≡◌, ℕ, true, false, Option, Some, List, [], ◌∷◌, ◌++◌, ◌-◌, length, refl, sym, ap, ap₂, ◌∙◌, append_assoc, append-nil, arith}
+use Rattle.std.proofs.Common.{◌≡◌, ℕ, Bool, true, false, Option, Some, List, [], ◌∷◌, ◌++◌, ◌-◌, if◌then◌else◌, length, nat_lt, refl, sym, ap, ap₂, ◌∙◌, subst, append_assoc, append-nil, arith}
+use Rattle.std.specs.Bool.{then_some}
+use Rattle.std.specs.Option.{is_some}
 use Rattle.std.proofs.lemmas.List.{length-append}
 use Rattle.pld_base.specs.declared.place.Place.{Place}
 use Rattle.abel_tree.specs.FirstRefusal.{earlier, first_refusal}
-use Rattle.abel_tree.proofs.FirstRefusals.{first_append}
-use Rattle.abel_tree.specs.Tree.{SetMember, members_of}
+use Rattle.abel_tree.proofs.FirstRefusals.{first_append, none_refused}
+use Rattle.abel_tree.specs.Tree.{Tree, SetMember, members_of}
 use Rattle.abel_meaning.specs.Designs.{Context}
 use Rattle.abel_meaning.specs.Targets.{targets_of}
 use Rattle.abel_meaning.specs.Terms.{Term}
 use Rattle.set_expr.specs.declared.fault.SectionFault.{SectionFault}
-use Rattle.set_expr.specs.declared.fault.SectionFault.TheVariants.{NotAnOutput}
+use Rattle.set_expr.specs.declared.fault.SectionFault.TheVariants.{BadWidth, NotAnOutput}
 use Rattle.set_expr.specs.Refusals.{too_wide}
 use Rattle.set_expr.specs.SectionOrder.{section_order}
 use Rattle.section_targets.specs.declared.aim.Aim.{Aim}
 use Rattle.truth_tables.specs.HeaderSignals.{names_positions}
-use Rattle.truth_tables.specs.OutputHeaders.{HeaderFound, header_of, refused_header, outputs_at, named_outputs, header_name, both_headers, header_set, header_range, output_member, output_members}
-use Rattle.truth_tables.specs.declared.checked_headers.Header.{Header}
-use Rattle.truth_tables.specs.Headers.{IsAdded, IsHeader}
+use Rattle.truth_tables.specs.OutputHeaders.{HeaderFound, header_of, refused_header, outputs_at, named_outputs, header_name, both_headers, header_set, header_range, output_header, output_member, output_members}
+use Rattle.truth_tables.specs.TableUnits.{if_none, unless_refused}
+use Rattle.truth_tables.specs.Headers.{IsAdded}
+use Rattle.truth_tables.proofs.RowsWalked.{no_fault}
 
 abbrev pub first : List SectionFault → Option SectionFault
 first rs = first_refusal section_order rs
@@ -30,13 +33,17 @@ added_more x y f g h old mid new a b e =
       outputs = b.outputs ∙ ap (λ zs. zs ++ y.outputs) a.outputs ∙ append_assoc old x.outputs y.outputs;
     }
 
+wide_first : (b : Bool) (p : Place) → then_some b (BadWidth p) ≡ first (if b then BadWidth p ∷ [] else [])
+wide_first true p = refl
+wide_first false p = refl
+
 -- a set, whose positions are counted
-pub added_whole : (p : Place) (x : HeaderFound) (f g h : Option SectionFault) (old new : List (Option Aim)) (w : ℕ) → IsAdded x f old new → w ≡ length new - length old → g ≡ first (too_wide p w) → h ≡ earlier section_order f g → IsAdded (header_set p x) h old new
+pub added_whole : (p : Place) (x : HeaderFound) (f g h : Option SectionFault) (old new : List (Option Aim)) (w : ℕ) → IsAdded x f old new → w ≡ length new - length old → g ≡ then_some (nat_lt 32 w) (BadWidth p) → h ≡ earlier section_order f g → IsAdded (header_set p x) h old new
 added_whole p x f g h old new w a e t q =
     let more : w ≡ length x.outputs = omega (arith, e, ap length a.outputs, length-append old x.outputs) in
     record {
       fault = q
-          ∙ ap₂ (earlier section_order) a.fault (t ∙ ap (λ n. first (too_wide p n)) more)
+          ∙ ap₂ (earlier section_order) a.fault (t ∙ wide_first (nat_lt 32 w) p ∙ ap (λ n. first (too_wide p n)) more)
           ∙ sym (first_append section_order x.refusals (too_wide p (length x.outputs)));
       outputs = a.outputs;
     }
@@ -45,9 +52,25 @@ added_whole p x f g h old new w a e t q =
 pub added_none : (x : HeaderFound) (f : Option SectionFault) (xs : List (Option Aim)) → f ≡ first x.refusals → x.outputs ≡ [] → IsAdded x f xs xs
 added_none x f xs e o = record { fault = e; outputs = sym (ap (λ ys. xs ++ ys) o ∙ append-nil xs) }
 
+-- an expression that is refused for its form
+pub added_refused : (d : Context) (e u : Tree) (r f : SectionFault) (xs : List (Option Aim)) → e ≡ u → output_header d u ≡ refused_header r → f ≡ r → IsAdded (output_header d e) (Some f) xs xs
+added_refused d e u r f xs v h k = subst (λ x. IsAdded x (Some f) xs xs) (sym (ap (output_header d) v ∙ h)) (added_none (refused_header r) (Some f) xs (ap Some k) refl)
+
 -- all of a header
-pub added_header : (x : HeaderFound) (f : Option SectionFault) (old new : List (Option Aim)) (h : Header) → IsAdded x f old new → old ≡ [] → h.fault ≡ f → h.outputs ≡ new → IsHeader h x
-added_header x f old new h a o e p = record { fault = e ∙ a.fault; outputs = p ∙ a.outputs ∙ ap (λ xs. xs ++ x.outputs) o }
+pub added_outputs : {x : HeaderFound} {f : Option SectionFault} {old new : List (Option Aim)} → IsAdded x f old new → old ≡ [] → new ≡ x.outputs
+added_outputs {x} a o = a.outputs ∙ ap (λ xs. xs ++ x.outputs) o
+
+pub added_clear : {x : HeaderFound} {f : Option SectionFault} {old new : List (Option Aim)} → IsAdded x f old new → is_some f ≡ false → x.refusals ≡ []
+added_clear {x} {f} a e = none_refused section_order x.refusals (sym (no_fault f e) ∙ a.fault)
+
+-- of outputs that are refused nothing more is refused, and they assign nothing
+pub refused_alone : (rs more : List SectionFault) (f : Option SectionFault) → is_some f ≡ true → f ≡ first rs → f ≡ first (if_none rs more)
+refused_alone [] more f s e = let none : is_some f ≡ false = ap is_some e in absurd cc
+refused_alone (r ∷ rs) more f s e = e
+
+pub refused_nothing : (rs : List SectionFault) (aims : List Aim) (f : Option SectionFault) → is_some f ≡ true → f ≡ first rs → unless_refused rs aims ≡ []
+refused_nothing [] aims f s e = let none : is_some f ≡ false = ap is_some e in absurd cc
+refused_nothing (r ∷ rs) aims f s e = refl
 
 both_assoc : (x y z : HeaderFound) → both_headers (both_headers x y) z ≡ both_headers x (both_headers y z)
 both_assoc x y z = rw (append_assoc x.refusals y.refusals z.refusals, append_assoc x.outputs y.outputs z.outputs) refl

@@ -23,7 +23,7 @@ use Rattle.set_expr.specs.Shapes.{HasShape}
 use Rattle.section_targets.specs.Building.{AreBits}
 use Rattle.equations.proofs.BuiltParts.{met_length, bits_length}
 use Rattle.truth_tables.specs.PartTerms.{is_computed}
-use Rattle.truth_tables.specs.Products.{IsShapedTerm, IsShapedNumber, StandForInputs}
+use Rattle.truth_tables.specs.Products.{IsShapedTerm, StandForInputs}
 
 -- ---- positions in the other order
 
@@ -147,9 +147,9 @@ computed_extended (Some e) t = each t
     each (term.BinaryOf sign t u) = refl
 
 -- a number that no operator makes has no position
-pub stand_none : (d : Context) (fs : List Formula) (h : Term) (s : Shaped) → IsShapedNumber d fs h s → is_computed h ≡ false → StandForInputs d h fs []
-stand_none d fs h s k e =
-    let none : (constant_of d h).unknown ≡ [] = number_unknown d h k.1 ∙ ap (λ b. if b then replicate 32 false else []) e in
+pub stand_none : (d : Context) (fs : List Formula) (h : Term) → (constant_of d h).shape ≡ Number → is_computed h ≡ false → StandForInputs d h fs []
+stand_none d fs h n e =
+    let none : (constant_of d h).unknown ≡ [] = number_unknown d h n ∙ ap (λ b. if b then replicate 32 false else []) e in
     record {
       inside = tt;
       same = λ ls. ap (λ (bs : List Bool). row_literals (Const true) (reverse bs) ((formulas d).word (width_of (constant_of d h).shape) h) ls) none;
@@ -168,12 +168,12 @@ given_in count [] h = tt
 given_in count (id ∷ ids) h = (h zero id (omega arith), given_in count ids (λ k d lt. h (suc k) d (omega (arith, lt))))
 
 -- one that an operator makes has 32
-pub stand_all : (d : Context) (fs : List Formula) (h : Term) (s : Shaped) (ids : List ExprId) → IsShapedNumber d fs h s → is_computed h ≡ true → AreBits fs ids (met_word 32 (constant_of d h) (bits_of d h).what) → StandForInputs d h fs (reverse (map Some ids))
-stand_all d fs h s ids k e b =
+pub stand_all : (d : Context) (fs : List Formula) (h : Term) (s : Shaped) (ids : List ExprId) → IsShapedTerm d fs h s → (constant_of d h).shape ≡ Number → is_computed h ≡ true → AreBits fs ids (met_word 32 (constant_of d h) (bits_of d h).what) → StandForInputs d h fs (reverse (map Some ids))
+stand_all d fs h s ids k n e b =
     let v = constant_of d h in
     let w = (bits_of d h).what in
-    let many : length ids ≡ 32 = bits_length fs ids (met_word 32 v w) b ∙ met_length 32 fs s v w k.0 in
-    let flags : v.unknown ≡ replicate 32 false = number_unknown d h k.1 ∙ ap (λ b. if b then replicate 32 false else []) e in
+    let many : length ids ≡ 32 = bits_length fs ids (met_word 32 v w) b ∙ met_length 32 fs s v w k in
+    let flags : v.unknown ≡ replicate 32 false = number_unknown d h n ∙ ap (λ b. if b then replicate 32 false else []) e in
     stand_reversed d h fs (map Some ids) (given_in (length fs) ids b.0)
     (flags ∙ sym (given_unknown ids ∙ ap (λ n. replicate n false) many))
-    (ap (λ y. met_word (width_of y) v w) k.1 ∙ sym b.1 ∙ sym (given_bits fs ids))
+    (ap (λ y. met_word (width_of y) v w) n ∙ sym b.1 ∙ sym (given_bits fs ids))

@@ -1,6 +1,6 @@
 -- Headers and entries met pair by pair.
 use Rattle.std.proofs.Common.{◌≡◌, ℕ, zero, suc, ◌+◌, ◌-◌, ◌/◌, ◌%◌, ◌==◌, ◌<◌, ◌≤◌, Bool, true, false, ◌&&◌, Option, List, [], ◌∷◌, ◌++◌, length, map, reverse, replicate, refl, sym, ap, ap₂, ◌∙◌, subst, arith, append-nil, Bor}
-use Rattle.std.specs.List.{flat_map, list_all, sum_by}
+use Rattle.std.specs.List.{AllZip, flat_map, list_all, sum_by, zip}
 use Rattle.std.proofs.Math.Bool.{and-false}
 use Rattle.std.proofs.lemmas.List.{map-append, reverse-append, replicate-append-replicate}
 use Rattle.std.proofs.lemmas.List.Sums.{sum_by-cons}
@@ -13,9 +13,10 @@ use Rattle.abel_meaning.specs.Designs.{Context}
 use Rattle.abel_meaning.specs.Numbers.{digits, digits_low_first}
 use Rattle.abel_meaning.specs.Rows.{part_marks, part_width, marks_of, all_marks}
 use Rattle.abel_meaning.specs.Rows as meant
-use Rattle.abel_meaning.specs.Terms.{Term, Terms, extended_if, term_of}
+use Rattle.abel_meaning.specs.Terms.{Term, Terms, extended_if, special_term, term_of}
 use Rattle.abel_meaning.specs.Terms as term
 use Rattle.abel_meaning.specs.Values.{constant_of}
+use Rattle.set_expr.specs.declared.shaped.Shape.{Shape}
 use Rattle.set_expr.specs.declared.shaped.Shape.TheVariants as shape
 use Rattle.set_expr.specs.Shapes.{HasShape}
 use Rattle.truth_tables.specs.declared.mark.Mark.{Mark}
@@ -27,12 +28,11 @@ use Rattle.expr_bits.specs.Members.{list_of, each_extended}
 use Rattle.truth_tables.specs.PairTerms.{seen, is_set, both_sets, meeting, paired, ArePaired, IsPair, IsPut, IsMet}
 use Rattle.truth_tables.specs.PartCounts.{term_parts}
 use Rattle.truth_tables.specs.PartTerms.{IsNumeral, IsOperator, IsPart, AreParts, is_operand}
-use Rattle.truth_tables.specs.Stacks.{Each}
 use Rattle.truth_tables.specs.RowEntries.{is_number, meets, all_meet, meets_whole}
-use Rattle.truth_tables.proofs.PartLaws.{operand_case, operator_operand, operator_shape}
+use Rattle.truth_tables.proofs.PartLaws.{operand_case, operator_operand, operator_shape, special_case}
 use Rattle.expr_bits.proofs.Extensions.{all_extended, set_extended, list_extended}
 use Rattle.truth_tables.proofs.PartSums.{set_fewer, some_parts}
-use Rattle.truth_tables.proofs.StackLaws.{each_length}
+use Rattle.std.proofs.lemmas.Slice.Zip.{AllZip-long}
 
 -- ---- marks
 
@@ -98,28 +98,22 @@ put_number d h e w n old new i k p s =
     (ap (λ xs. xs ++ seen old) (operand_marks d w e i.operand ∙ ap (λ m. map meant.Level (digits w m)) i.number ∙ map_reverse meant.Level lows)
     ∙ sym (ap reverse s ∙ reverse-append (map view_mark old) (map meant.Level lows)))
 
-pub put_same : (d : Context) (h e : Term) (w : ℕ) (m : Mark) (old new : List Mark) → meets_whole d e ≡ true → part_marks d w e ≡ replicate w (view_mark m) → both_sets h e ≡ false → w ≡ part_width d h → new ≡ old ++ replicate w m → IsPut d h e true old new
-put_same d h e w m old new t q k p s =
-    put_marks d h e w old new k p t
-    (ap (λ xs. xs ++ seen old) (q ∙ sym (reverse_same w (view_mark m)) ∙ ap reverse (sym (map_same view_mark w m)))
+pub put_same : (d : Context) (h e : Term) (letter w : ℕ) (m : Mark) (old new : List Mark) → e ≡ special_term letter → part_marks d w (special_term letter) ≡ replicate w (view_mark m) → both_sets h e ≡ false → w ≡ part_width d h → new ≡ old ++ replicate w m → IsPut d h e true old new
+put_same d h e letter w m old new t q k p s =
+    put_marks d h e w old new k p (ap (meets_whole d) t ∙ special_case (λ u. meets_whole d u ≡ true) refl refl refl letter)
+    (ap (λ xs. xs ++ seen old) (ap (part_marks d w) t ∙ q ∙ sym (reverse_same w (view_mark m)) ∙ ap reverse (sym (map_same view_mark w m)))
     ∙ sym (ap seen s ∙ seen_append old (replicate w m)))
 
 -- an operator that has bits meets nothing as a whole
 bits_unmet : (d : Context) (h : Term) (x : Expr) (e : Term) → IsOperator d x e → both_sets h e ≡ false → is_number (constant_of d (term_of d.known (view x))).shape ≡ false → meets d h e ≡ false
 bits_unmet d h x e o k n = (as_whole d h e k).0 ∙ operand_whole d e (operator_operand d x e o) ∙ ap is_number (operator_shape d x e o) ∙ n
 
-pub single_unmet : (d : Context) (h : Term) (x : Expr) (e : Term) → IsOperator d x e → both_sets h e ≡ false → HasShape shape.Single (constant_of d (term_of d.known (view x))) → meets d h e ≡ false
-single_unmet d h x e o k s = bits_unmet d h x e o k (ap is_number s)
-
-pub set_unmet : (d : Context) (h : Term) (x : Expr) (e : Term) (w : ℕ) → IsOperator d x e → both_sets h e ≡ false → HasShape (shape.Set w) (constant_of d (term_of d.known (view x))) → meets d h e ≡ false
-set_unmet d h x e w o k s = bits_unmet d h x e o k (ap is_number s)
+pub shape_unmet : (d : Context) (h : Term) (x : Expr) (e : Term) (s : Shape) → IsOperator d x e → both_sets h e ≡ false → ((n : ℕ) → s ≡ shape.Number n → ⊥) → HasShape s (constant_of d (term_of d.known (view x))) → meets d h e ≡ false
+shape_unmet d h x e (shape.Number n) o k other s = absurd (other n refl)
+shape_unmet d h x e shape.Single o k other s = bits_unmet d h x e o k (ap is_number s)
+shape_unmet d h x e (shape.Set w) o k other s = bits_unmet d h x e o k (ap is_number s)
 
 -- ---- a set beside a set
-
-abbrev zipped : List Term → List Term → List (Term × Term)
-zipped [] us = []
-zipped (t ∷ ts) [] = []
-zipped (t ∷ ts) (u ∷ us) = (t, u) ∷ zipped ts us
 
 pub paired_more : (xs ys : List Part) (x y : Part) → length xs ≡ length ys → paired (xs ++ x ∷ []) (ys ++ y ∷ []) ≡ paired xs ys ++ record { header = x; given = y } ∷ []
 paired_more [] [] x y e = refl
@@ -127,7 +121,7 @@ paired_more [] (b ∷ ys) x y e = absurd cc
 paired_more (a ∷ xs) [] x y e = absurd cc
 paired_more (a ∷ xs) (b ∷ ys) x y e = ap (λ ps. record { header = a; given = b } ∷ ps) (paired_more xs ys x y (omega (arith, e)))
 
-paired_stand : (d : Context) (hs es : List Part) (ts us : List Term) → AreParts d hs ts → AreParts d es us → Each (IsPair d) (paired hs es) (zipped ts us)
+paired_stand : (d : Context) (hs es : List Part) (ts us : List Term) → AreParts d hs ts → AreParts d es us → AllZip (IsPair d) (paired hs es) (zip ts us)
 paired_stand d [] es [] us h k = tt
 paired_stand d [] es (t ∷ ts) us h k = absurd h
 paired_stand d (x ∷ hs) es [] us h k = absurd h
@@ -136,7 +130,7 @@ paired_stand d (x ∷ hs) [] (t ∷ ts) (u ∷ us) h k = absurd k
 paired_stand d (x ∷ hs) (y ∷ es) (t ∷ ts) [] h k = absurd k
 paired_stand d (x ∷ hs) (y ∷ es) (t ∷ ts) (u ∷ us) h k = ((h.0, k.0), paired_stand d hs es ts us h.1 k.1)
 
-sets_meet : (d : Context) (us vs : Terms) → length (list_of us) ≡ length (list_of vs) → all_meet d us vs ≡ list_all (meeting d).passes (zipped (list_of us) (list_of vs))
+sets_meet : (d : Context) (us vs : Terms) → length (list_of us) ≡ length (list_of vs) → all_meet d us vs ≡ list_all (meeting d).passes (zip (list_of us) (list_of vs))
 sets_meet d term.NoTerm term.NoTerm e = refl
 sets_meet d term.NoTerm (term.Before v vs) e = absurd cc
 sets_meet d (term.Before u us) term.NoTerm e = absurd cc
@@ -148,15 +142,15 @@ sets_differ d term.NoTerm (term.Before v vs) e = refl
 sets_differ d (term.Before u us) term.NoTerm e = refl
 sets_differ d (term.Before u us) (term.Before v vs) e = ap (λ b. meets d u v && b) (sets_differ d us vs (λ h. e (ap suc h))) ∙ and-false (meets d u v)
 
-sets_marks : (d : Context) (us vs : Terms) → all_marks d us vs ≡ flat_map (meeting d).gives (zipped (list_of us) (list_of vs))
+sets_marks : (d : Context) (us vs : Terms) → all_marks d us vs ≡ flat_map (meeting d).gives (zip (list_of us) (list_of vs))
 sets_marks d term.NoTerm vs = refl
 sets_marks d (term.Before u us) term.NoTerm = refl
 sets_marks d (term.Before u us) (term.Before v vs) = ap (λ xs. marks_of d u v ++ xs) (sets_marks d us vs)
 
-zipped_parts : (d : Context) (ts us : List Term) → sum_by (meeting d).size (zipped ts us) ≤ sum_by term_parts ts
+zipped_parts : (d : Context) (ts us : List Term) → sum_by (meeting d).size (zip ts us) ≤ sum_by term_parts ts
 zipped_parts d [] us = omega arith
 zipped_parts d (t ∷ ts) [] = omega arith
-zipped_parts d (t ∷ ts) (u ∷ us) = omega (arith, zipped_parts d ts us, sum_by-cons (meeting d).size (t, u) (zipped ts us), sum_by-cons term_parts t ts)
+zipped_parts d (t ∷ ts) (u ∷ us) = omega (arith, zipped_parts d ts us, sum_by-cons (meeting d).size (t, u) (zip ts us), sum_by-cons term_parts t ts)
 
 pub sets_met : (d : Context) (h e : Term) (o i : Option Extension) (ts us : Terms) (hs es : List Part) (b : Bool) (stack later : List Pair) (ms : List Mark) → h ≡ extended_if o (term.Set ts) → e ≡ extended_if i (term.Set us)
     → AreParts d hs (each_extended o (list_of ts)) → AreParts d es (each_extended i (list_of us)) → ArePaired hs es b stack later → IsMet d h e b stack later ms ms
@@ -177,12 +171,12 @@ sets_met d h e o i ts us hs es b stack later ms ih ie sh se p = by b p
     by : (b : Bool) → ArePaired hs es b stack later → IsMet d h e b stack later ms ms
     by false p =
         ap₂ (meets d) (ih ∙ set_extended o ts) (ie ∙ set_extended i us)
-        ∙ sets_differ d xs ys (λ l. p (each_length (IsPart d) hs (list_of xs) headers ∙ l ∙ sym (each_length (IsPart d) es (list_of ys) entries)))
+        ∙ sets_differ d xs ys (λ l. p (sym (AllZip-long (IsPart d) hs (list_of xs) headers) ∙ l ∙ AllZip-long (IsPart d) es (list_of ys) entries))
     by true p =
-        let lengths : length (list_of xs) ≡ length (list_of ys) = sym (each_length (IsPart d) hs (list_of xs) headers) ∙ p.0 ∙ each_length (IsPart d) es (list_of ys) entries in
+        let lengths : length (list_of xs) ≡ length (list_of ys) = AllZip-long (IsPart d) hs (list_of xs) headers ∙ p.0 ∙ sym (AllZip-long (IsPart d) es (list_of ys) entries) in
         record {
           more = paired hs es;
-          terms = zipped (list_of xs) (list_of ys);
+          terms = zip (list_of xs) (list_of ys);
           pushed = p.1;
           stand = paired_stand d hs es (list_of xs) (list_of ys) headers entries;
           opened = record {
@@ -205,9 +199,7 @@ part_not : (d : Context) (x : Part) (t : Term) → ((e : Bor Expr) (ms : Bor (Li
 part_not d (part.Set e ms o) t n i = absurd (n e ms o refl)
 part_not d (part.Signal s e) t n i = ap is_set i
 part_not d (part.Number m) t n i = operand_not t i.operand
-part_not d part.Unknown t n i = ap is_set i
-part_not d part.Pulsed t n i = ap is_set i
-part_not d part.Released t n i = ap is_set i
+part_not d (part.Special letter) t n i = ap is_set i ∙ special_case (λ u. is_set u ≡ false) refl refl refl letter
 part_not d (part.Operator y) t n i = operand_not t (operator_operand d y.now t i)
 
 pub header_not : (d : Context) (x : Part) (h e : Term) → ((a : Bor Expr) (ms : Bor (List Member)) (o : Option Extension) → x ≡ part.Set a ms o → ⊥) → IsPart d x h → both_sets h e ≡ false

@@ -1,5 +1,6 @@
--- Numbers and operators under extensions, and what was checked of a part, as the value of its term.
-use Rattle.std.proofs.Common.{◌≡◌, ℕ, Option, None, Some, List, [], map, get_or, refl, sym, ap, ◌∙◌, subst, true}
+-- Numbers, operators and specials, and what was checked of a part, as the value of its term.
+use Rattle.std.proofs.Common.{◌≡◌, ℕ, Bool, true, false, Option, None, Some, List, [], ◌∷◌, if◌then◌else◌, bytes_eq, map, get_or, refl, sym, ap, ◌∙◌, subst}
+use Rattle.std.specs.Prelude.{codes}
 use Rattle.std.proofs.Math.ListN.{get_or-map}
 use Rattle.abel_tree.specs.declared.expressions.Expr.{Expr}
 use Rattle.abel_tree.specs.declared.names.Declared.{Declared}
@@ -11,7 +12,7 @@ use Rattle.abel_tree.specs.View.{view}
 use Rattle.abel_meaning.specs.Designs.{Context}
 use Rattle.abel_meaning.specs.Numbers.{Value, member_width}
 use Rattle.abel_meaning.specs.Rows.{part_width}
-use Rattle.abel_meaning.specs.Terms.{Term, Terms, Set, term_of, extended_if, extended}
+use Rattle.abel_meaning.specs.Terms.{Term, Terms, Set, term_of, extended_if, extended, special_term}
 use Rattle.abel_meaning.specs.Values.{constant_of}
 use Rattle.set_expr.specs.declared.fault.SectionFault.{SectionFault}
 use Rattle.set_expr.specs.declared.shaped.Shape.{Shape}
@@ -26,9 +27,7 @@ use Rattle.truth_tables.specs.EntryTerms.{IsOver}
 use Rattle.truth_tables.specs.PartTerms.{IsNumeral, IsOperator, IsSet, is_operand}
 use Rattle.abel_tree.specs.declared.words.Binary.{Binary}
 use Rattle.abel_tree.specs.declared.words.Unary.{Unary}
-use Rattle.abel_tree.specs.Extensions.{innermost}
 use Rattle.abel_meaning.specs.Terms as term
-use Rattle.expr_bits.proofs.Extensions.{inner_wins}
 
 -- what holds of numbers and operators holds of operands
 pub operand_case : (P : Term → Type 0) → ((n : ℕ) → P (term.Number n)) → ((sign : Unary) (t : Term) → P (term.UnaryOf sign t)) → ((sign : Binary) (t u : Term) → P (term.BinaryOf sign t u)) → (t : Term) → is_operand t ≡ true → P t
@@ -41,6 +40,15 @@ operand_case P n u b term.Release h = absurd cc
 operand_case P n u b (term.Read s f) h = absurd cc
 operand_case P n u b (term.Set ts) h = absurd cc
 
+-- what holds of .X., .C. and .Z. holds of specials
+pub special_case : (P : Term → Type 0) → P term.X → P term.Pulse → P term.Release → (letter : ℕ) → P (special_term letter)
+special_case P x p r letter = by_letter (bytes_eq (letter ∷ []) (codes "X")) (bytes_eq (letter ∷ []) (codes "C"))
+  where
+    by_letter : (a b : Bool) → P (if a then term.X else if b then term.Pulse else term.Release)
+    by_letter true b = x
+    by_letter false true = p
+    by_letter false false = r
+
 pub operand_extended : (e : Option Extension) (t : Term) → is_operand t ≡ true → is_operand (extended_if e t) ≡ true
 operand_extended None t h = h
 operand_extended (Some e) t h = operand_case (λ u. is_operand (extended e u) ≡ true) (λ n. refl) (λ sign u. refl) (λ sign u v. refl) t h
@@ -51,11 +59,6 @@ operator_operand d x t o = ap is_operand o.is ∙ operand_extended o.extension (
 pub number_extended : (d : Context) (e : Option Extension) (n : ℕ) → extended_if e (term.Number n) ≡ term.Number n
 number_extended d None n = refl
 number_extended d (Some e) n = refl
-
--- an inner extension counts
-pub inner_extended : (own outer : Option Extension) (t : Term) → extended_if outer (extended_if own t) ≡ extended_if (innermost own outer) t
-inner_extended None outer t = refl
-inner_extended (Some e) outer t = sym (inner_wins e outer t)
 
 kind_shape : (s : Shape) (v u : Value) → SameKind v u → HasShape s v → HasShape s u
 kind_shape (shape.Number n) v u h k = (h.shape ∙ k.0, h.number k.0 ∙ k.1)

@@ -13,7 +13,7 @@ use Rattle.truth_tables.specs.declared.part.Part.TheVariants as part
 use Rattle.expr_bits.specs.Members.{list_of, each_extended}
 use Rattle.truth_tables.specs.PartCounts.{term_parts, terms_parts, part_parts}
 use Rattle.truth_tables.specs.PartTerms.{IsPart, is_operand}
-use Rattle.truth_tables.proofs.PartLaws.{operand_case, operator_operand}
+use Rattle.truth_tables.proofs.PartLaws.{operand_case, operator_operand, special_case}
 use Rattle.expr_bits.proofs.Extensions.{all_extended, set_extended, list_extended}
 
 -- an extension changes none
@@ -55,9 +55,7 @@ pub part_counted : (d : Context) (x : Part) (t : Term) → IsPart d x t → part
 part_counted d (part.Set x ms e) t i = sym (ap term_parts i.is ∙ parts_if e (term.Set (terms_of d.known (members_of (map view_member ms.now)))))
 part_counted d (part.Signal s e) t i = sym (ap term_parts i)
 part_counted d (part.Number n) t i = sym (operand_parts t i.operand)
-part_counted d part.Unknown t i = sym (ap term_parts i)
-part_counted d part.Pulsed t i = sym (ap term_parts i)
-part_counted d part.Released t i = sym (ap term_parts i)
+part_counted d (part.Special letter) t i = sym (ap term_parts i ∙ special_case (λ u. term_parts u ≡ 1) refl refl refl letter)
 part_counted d (part.Operator x) t i = sym (operand_parts t (operator_operand d x.now t i))
 
 listed_parts : (ts : Terms) → sum_by term_parts (list_of ts) ≡ terms_parts ts

@@ -44,7 +44,7 @@ is_over v n = record { names = refl; known = refl }
 pub over_same : (v : device.Table) (m n : Names) → m ≡ n → IsOver m (context_for v n)
 over_same v m n e = subst (λ k. IsOver m (context_for v k)) e (is_over v m)
 
-pub no_fault : (f : Option SectionFault) → is_some f ≡ false → f ≡ None
+pub no_fault : {A : Type 0} (f : Option A) → is_some f ≡ false → f ≡ None
 no_fault None e = refl
 no_fault (Some f) e = absurd cc
 

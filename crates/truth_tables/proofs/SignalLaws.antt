@@ -1,11 +1,14 @@
 -- The signals of headers, part by part.
-use Rattle.std.proofs.Common.{◌≡◌, ℕ, true, false, ◌&&◌, Option, None, Some, List, [], ◌∷◌, ◌++◌, reverse, refl, sym, ap, ◌∙◌, append-nil}
+use Rattle.std.proofs.Common.{◌≡◌, ℕ, Bool, true, false, ◌&&◌, Option, None, Some, List, [], ◌∷◌, ◌++◌, if◌then◌else◌, bytes_eq, reverse, refl, sym, ap, ◌∙◌, append-nil}
+use Rattle.std.specs.Prelude.{codes}
+use Rattle.std.specs.Option.{is_some}
+use Rattle.std.proofs.lemmas.Slice.Eq.{bytes_eq-Decides}
 use Rattle.std.specs.List.{flat_map, list_all}
 use Rattle.std.proofs.lemmas.List.{reverse-append}
 use Rattle.abel_tree.specs.declared.words.Extension.{Extension}
 use Rattle.abel_meaning.specs.Designs.{Context}
 use Rattle.abel_meaning.specs.Targets.{targets_of, all_targets}
-use Rattle.abel_meaning.specs.Terms.{Term, Terms, extended_if}
+use Rattle.abel_meaning.specs.Terms.{Term, Terms, extended_if, special_term}
 use Rattle.abel_meaning.specs.Terms as term
 use Rattle.truth_tables.specs.declared.part.Part.{Part}
 use Rattle.expr_bits.specs.Members.{list_of, each_extended}
@@ -65,3 +68,17 @@ put_read d t s stack old new h p = put_one d t (Some s) stack old new (ap names_
 
 pub operand_unnamed : (t : Term) → is_operand t ≡ true → names_positions t ≡ false
 operand_unnamed t k = operand_case (λ u. names_positions u ≡ false) (λ n. refl) (λ sign u. refl) (λ sign u v. refl) t k
+
+pub extended_unnamed : (s : ℕ) (e : Option Extension) → is_some e ≡ true → names_positions (term.Read s e) ≡ false
+extended_unnamed s None h = absurd cc
+extended_unnamed s (Some e) h = refl
+
+pub other_unnamed : (letter : ℕ) → (letter ≡ 88 → ⊥) → names_positions (special_term letter) ≡ false
+other_unnamed letter h = by_letter (bytes_eq (letter ∷ []) (codes "X")) (bytes_eq (letter ∷ []) (codes "C")) refl
+  where
+    by_letter : (a b : Bool) → bytes_eq (letter ∷ []) (codes "X") ≡ a → names_positions (if a then term.X else if b then term.Pulse else term.Release) ≡ false
+    by_letter true b e =
+        let same : letter ∷ [] ≡ codes "X" = (bytes_eq-Decides (letter ∷ []) (codes "X")).0 e in
+        absurd (h cc)
+    by_letter false true e = refl
+    by_letter false false e = refl

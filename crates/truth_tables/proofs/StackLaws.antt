@@ -1,29 +1,23 @@
 -- A walk over a stack, step by step.
-use Rattle.std.proofs.Common.{◌≡◌, ℕ, suc, ◌<◌, Bool, true, false, ◌&&◌, List, [], ◌∷◌, ◌++◌, length, refl, sym, ap, ◌∙◌, subst, arith, append_assoc, append-nil}
-use Rattle.std.specs.List.{flat_map, list_all, sum_by}
+use Rattle.std.proofs.Common.{◌≡◌, ℕ, ◌<◌, Bool, true, false, ◌&&◌, List, [], ◌∷◌, ◌++◌, refl, sym, ap, ◌∙◌, subst, arith, append_assoc, append-nil}
+use Rattle.std.specs.List.{AllZip, flat_map, list_all, sum_by}
 use Rattle.std.proofs.Math.Bool.{and-false, and-true}
 use Rattle.std.proofs.lemmas.Grind.{flat_map-append}
 use Rattle.std.proofs.lemmas.List.Folds.{list_all-append}
 use Rattle.std.proofs.lemmas.List.Sums.{sum_by-append}
-use Rattle.truth_tables.specs.Stacks.{Each, Walking, Opened, Taken, IsStep, Walked}
+use Rattle.truth_tables.specs.Stacks.{Walking, Opened, Taken, IsStep, Walked}
 use Rattle.truth_tables.proofs.NamesInOrder.{right_true}
 
 -- ---- what lies on stacks
 
 module _ {A T : Type 0} (S : A → T → Type 0) where
-  pub each_append : (xs ys : List A) (ts us : List T) → Each S xs ts → Each S ys us → Each S (xs ++ ys) (ts ++ us)
+  pub each_append : (xs ys : List A) (ts us : List T) → AllZip S xs ts → AllZip S ys us → AllZip S (xs ++ ys) (ts ++ us)
   each_append [] ys [] us h k = k
   each_append [] ys (t ∷ ts) us h k = absurd h
   each_append (x ∷ xs) ys [] us h k = absurd h
   each_append (x ∷ xs) ys (t ∷ ts) us h k = (h.0, each_append xs ys ts us h.1 k)
 
-  pub each_length : (xs : List A) (ts : List T) → Each S xs ts → length xs ≡ length ts
-  each_length [] [] h = refl
-  each_length (x ∷ xs) (t ∷ ts) h = ap suc (each_length xs ts h.1)
-  each_length [] (t ∷ ts) h = absurd h
-  each_length (x ∷ xs) [] h = absurd h
-
-  pub each_sum : (m : A → ℕ) (n : T → ℕ) → ((x : A) (t : T) → S x t → m x ≡ n t) → (xs : List A) (ts : List T) → Each S xs ts → sum_by m xs ≡ sum_by n ts
+  pub each_sum : (m : A → ℕ) (n : T → ℕ) → ((x : A) (t : T) → S x t → m x ≡ n t) → (xs : List A) (ts : List T) → AllZip S xs ts → sum_by m xs ≡ sum_by n ts
   each_sum m n same [] [] h = refl
   each_sum m n same [] (t ∷ ts) h = absurd h
   each_sum m n same (x ∷ xs) [] h = absurd h
@@ -33,10 +27,10 @@ module _ {A T : Type 0} (S : A → T → Type 0) where
     pub front : List T
     pub last : T
     pub is : ts ≡ front ++ last ∷ []
-    pub stand : Each S xs front
+    pub stand : AllZip S xs front
     pub one : S x last
 
-  each_last : (xs : List A) (x : A) (ts : List T) → Each S (xs ++ x ∷ []) ts → Last xs x ts
+  each_last : (xs : List A) (x : A) (ts : List T) → AllZip S (xs ++ x ∷ []) ts → Last xs x ts
   each_last [] x [] h = absurd h
   each_last [] x (t ∷ []) h = record { front = []; last = t; is = refl; stand = tt; one = h.0 }
   each_last [] x (t ∷ (u ∷ ts)) h = absurd h.1
@@ -77,7 +71,7 @@ module _ {A T M : Type 0} (S : A → T → Type 0) (w : Walking T M) where
   module _ (t : T) (stack rest later : List A) (x : A) (b : Bool) (old new : List M)
       (top : stack ≡ rest ++ x ∷ []) (walked : Walked S w t stack old) (step : (u : T) → S x u → IsStep S w u b rest later old new) where
     here : Last S rest x walked.terms
-    here = each_last S rest x walked.terms (subst (λ xs. Each S xs walked.terms) top walked.stand)
+    here = each_last S rest x walked.terms (subst (λ xs. AllZip S xs walked.terms) top walked.stand)
 
     pub walk_on : b ≡ true → Walked S w t later new
     walk_on e =
@@ -85,7 +79,7 @@ module _ {A T M : Type 0} (S : A → T → Type 0) (w : Walking T M) where
         let s = taken l.last b rest later old new e (step l.last l.one) in
         record {
           terms = l.front ++ s.terms;
-          stand = subst (λ xs. Each S xs (l.front ++ s.terms)) (sym s.pushed) (each_append S rest s.more l.front s.terms l.stand s.stand);
+          stand = subst (λ xs. AllZip S xs (l.front ++ s.terms)) (sym s.pushed) (each_append S rest s.more l.front s.terms l.stand s.stand);
           opened = opened_behind t l.front s.terms l.last old new (subst (λ ts. Opened w t ts [] old) l.is walked.opened) s.opened;
         }
 
@@ -116,8 +110,8 @@ module _ {A T M : Type 0} (S : A → T → Type 0) (w : Walking T M) where
       }
 
   pub walk_done : (t : T) (stack : List A) (put : List M) → stack ≡ [] → Walked S w t stack put → (w.passes t ≡ true) × (w.gives t ≡ put)
-  walk_done t stack put e h = by_terms h.terms (subst (λ xs. Each S xs h.terms) e h.stand) h.opened
+  walk_done t stack put e h = by_terms h.terms (subst (λ xs. AllZip S xs h.terms) e h.stand) h.opened
     where
-      by_terms : (ts : List T) → Each S [] ts → Opened w t ts [] put → (w.passes t ≡ true) × (w.gives t ≡ put)
+      by_terms : (ts : List T) → AllZip S [] ts → Opened w t ts [] put → (w.passes t ≡ true) × (w.gives t ≡ put)
       by_terms [] s o = (o.passes, sym (append-nil (w.gives t)) ∙ o.gives refl)
       by_terms (u ∷ ts) s o = absurd s

@@ -1,6 +1,5 @@
 -- The marks of an entry, or that it doesn't meet its header (ABEL-HDL Reference Manual, truth tables and test vectors).
-use Rattle.std.specs.Prelude.{◌≡◌, true, false, Option, None, Some, [], map}
-use Rattle.std.specs.Global.{Vec}
+use Rattle.std.specs.Prelude.{◌≡◌, Some, [], map}
 use Rattle.abel_tree.specs.FirstRefusal.{first_refusal}
 use Rattle.abel_tree.specs.Tree.{Tree}
 use Rattle.abel_meaning.specs.Designs.{Context}
@@ -13,18 +12,13 @@ use Rattle.truth_tables.specs.declared.entries.Entry.{Entry}
 use Rattle.truth_tables.specs.declared.entries.Entry.TheVariants as entry
 use Rattle.truth_tables.specs.declared.mark.Mark.{Mark}
 use Rattle.truth_tables.specs.declared.mark.Mark.TheVariants as mark
-use Rattle.truth_tables.specs.RowEntries.{meets, entry_refused}
+use Rattle.truth_tables.specs.RowEntries.{entry_refused}
 
 abbrev pub view_mark : Mark → meant.Mark
 view_mark (mark.Level on) = meant.Level on
 view_mark mark.Unknown = meant.Unknown
 view_mark mark.Pulsed = meant.Pulsed
 view_mark mark.Released = meant.Released
-
--- what an entry says of each position of a header that it meets, from the left
-abbrev pub IsMarked : Context → (header entry : Term) → Option (Vec Mark) → Type 0
-IsMarked d h e None = meets d h e ≡ false
-IsMarked d h e (Some ms) = (meets d h e ≡ true) × (map view_mark ms.items ≡ marks_of d h e)
 
 -- what is found of an entry under its header, in a row that is refused so
 abbrev pub IsRead : Context → (row : SectionFault) → (header : Term) → (entry : Tree) → Entry → Type 0

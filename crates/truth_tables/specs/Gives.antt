@@ -12,7 +12,7 @@ use Rattle.abel_meaning.specs.Contributions.{contribution}
 use Rattle.abel_meaning.specs.Contributions as meant
 use Rattle.abel_meaning.specs.Designs.{Context}
 use Rattle.abel_meaning.specs.FormulaBits.{formulas}
-use Rattle.abel_meaning.specs.Tables.{level_gives, no_matches, outputs_given}
+use Rattle.abel_meaning.specs.Tables.{no_matches, outputs_given}
 use Rattle.set_expr.specs.declared.contributions.Contribution.{Contribution}
 use Rattle.set_expr.specs.declared.contributions.Gives.{Gives}
 use Rattle.set_expr.specs.declared.contributions.Guard.{Guard}
@@ -50,12 +50,6 @@ GivesOutput n m what a id old new list more r =
     GivesFreely n
     (λ d. contribution d (matched_guard (arena old) m.guard id) None false m.clocked (view_gives what) a.signal (formula_at (arena old) id) ∷ [])
     (a.place ∷ []) old new list more r
-
-abbrev pub GivesValue : Names → Assigning → Aim → Option Bool → ExprId → (old new : List Node)
-    → (list more : List Contribution) → Result Unit SectionFault → Type 0
-GivesValue n m a level id old new list more r =
-    GivesFreely n (λ d. level_gives d (matched_guard (arena old) m.guard id) m.clocked a.signal level) (value_places a level)
-    old new list more r
 
 abbrev pub GivesPositions : Names → Assigning → List (Option Aim) → List (Option Bool) → ExprId → (old new : List Node)
     → (list more : List Contribution) → Result Unit SectionFault → Type 0

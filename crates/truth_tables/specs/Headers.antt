@@ -17,11 +17,6 @@ pub record IsAdded (x : HeaderFound) (f : Option SectionFault) (old new : List (
   pub fault : f ≡ first_refusal section_order x.refusals
   pub outputs : new ≡ old ++ x.outputs
 
--- what is found of an output header
-pub record IsHeader (h : Header) (x : HeaderFound) : Type 0 where
-  pub fault : h.fault ≡ first_refusal section_order x.refusals
-  pub outputs : h.outputs ≡ x.outputs
-
 -- what is found of both sides of a table's header behind what was assigned before
 pub record IsWholeHeader (d : Context) (before : List Manner) (t : Table) (h : Header) : Type 0 where
   pub fault : h.fault ≡ first_refusal section_order (header_refused d before t.clocked (view t.inputs) (view t.outputs))

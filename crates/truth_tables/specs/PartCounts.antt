@@ -29,7 +29,5 @@ abbrev pub part_parts : List Known → Part → ℕ
 part_parts ks (part.Set x ms e) = suc (terms_parts (terms_of ks (members_of (map view_member ms.now))))
 part_parts ks (part.Signal s e) = 1
 part_parts ks (part.Number n) = 1
-part_parts ks part.Unknown = 1
-part_parts ks part.Pulsed = 1
-part_parts ks part.Released = 1
+part_parts ks (part.Special letter) = 1
 part_parts ks (part.Operator x) = 1

@@ -1,15 +1,15 @@
 -- Private: the terms that the parts of headers and entries stand for.
 use Rattle.std.specs.Prelude.{◌≡◌, ℕ, Bool, true, false, Option, List, map}
+use Rattle.std.specs.List.{AllZip}
 use Rattle.abel_tree.specs.declared.expressions.Expr.{Expr}
 use Rattle.abel_tree.specs.declared.words.Extension.{Extension}
 use Rattle.abel_tree.specs.Tree.{members_of}
 use Rattle.abel_tree.specs.View.{view, view_member}
 use Rattle.abel_meaning.specs.Designs.{Context}
 use Rattle.abel_meaning.specs.Numbers as number
-use Rattle.abel_meaning.specs.Terms.{Term, Terms, term_of, terms_of, extended_if}
+use Rattle.abel_meaning.specs.Terms.{Term, Terms, term_of, terms_of, extended_if, special_term}
 use Rattle.abel_meaning.specs.Terms as term
 use Rattle.abel_meaning.specs.Values.{constant_of}
-use Rattle.truth_tables.specs.Stacks.{Each}
 use Rattle.truth_tables.specs.declared.part.Part.{Part}
 use Rattle.truth_tables.specs.declared.part.Part.TheVariants as part
 use Rattle.truth_tables.specs.declared.part.Stand.{Stand}
@@ -45,9 +45,7 @@ abbrev pub IsPart : Context → Part → Term → Type 0
 IsPart d (part.Set x ms e) t = IsSet d x.now (terms_of d.known (members_of (map view_member ms.now))) e t
 IsPart d (part.Signal s e) t = t ≡ term.Read s e
 IsPart d (part.Number n) t = IsNumeral d t n
-IsPart d part.Unknown t = t ≡ term.X
-IsPart d part.Pulsed t = t ≡ term.Pulse
-IsPart d part.Released t = t ≡ term.Release
+IsPart d (part.Special letter) t = t ≡ special_term letter
 IsPart d (part.Operator x) t = IsOperator d x.now t
 
 -- a part stands for some term
@@ -56,7 +54,7 @@ pub record HasTerm (d : Context) (p : Part) : Type 0 where
   pub is : IsPart d p term
 
 abbrev pub AreParts : Context → List Part → List Term → Type 0
-AreParts d ps ts = Each (IsPart d) ps ts
+AreParts d ps ts = AllZip (IsPart d) ps ts
 
 -- an operator of two operands, behind signs
 abbrev pub is_computed : Term → Bool

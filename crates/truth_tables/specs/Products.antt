@@ -9,7 +9,7 @@ use Rattle.bit_expr.specs.Formulas.{Formula, Const}
 use Rattle.abel_meaning.specs.CountedBlocks.{make_literal, row_literals}
 use Rattle.abel_meaning.specs.Designs.{Context}
 use Rattle.abel_meaning.specs.FormulaBits.{bits_of, formulas}
-use Rattle.abel_meaning.specs.Numbers.{Number, width_of}
+use Rattle.abel_meaning.specs.Numbers.{width_of}
 use Rattle.abel_meaning.specs.Terms.{Term}
 use Rattle.abel_meaning.specs.Values.{constant_of}
 use Rattle.set_expr.specs.declared.contributions.Contribution.{Contribution}
@@ -55,7 +55,3 @@ pub record StandForInputs (d : Context) (h : Term) (fs : List Formula) (ps : Lis
 -- the bits of a term in an arena
 abbrev pub IsShapedTerm : Context → List Formula → Term → Shaped → Type 0
 IsShapedTerm d fs t s = IsShaped fs s (constant_of d t) (bits_of d t).what
-
--- those of a number
-abbrev pub IsShapedNumber : Context → List Formula → Term → Shaped → Type 0
-IsShapedNumber d fs t s = IsShapedTerm d fs t s × ((constant_of d t).shape ≡ Number)

@@ -1,11 +1,10 @@
 -- Private: what making the rows of a table and walks over them leave (ABEL-HDL Reference Manual, truth tables).
-use Rattle.std.specs.Prelude.{◌≡◌, ℕ, false, true, Option, None, Some, List, [], length, map, Result}
+use Rattle.std.specs.Prelude.{◌≡◌, ℕ, false, Option, None, Some, List, [], length, map, Result}
 use Rattle.std.specs.Global.{Vec}
 use Rattle.pld_device.specs.Table as device
 use Rattle.bit_expr.specs.declared.node.ExprId.{ExprId}
 use Rattle.bit_expr.specs.declared.node.Node.{Node}
 use Rattle.bit_expr.specs.Arena.{arena}
-use Rattle.bit_expr.specs.Formulas.{Const}
 use Rattle.abel_tree.specs.declared.tables.Row.{Row}
 use Rattle.abel_tree.specs.Entries.{entries_of}
 use Rattle.abel_tree.specs.Tree.{RowTree}
@@ -15,7 +14,6 @@ use Rattle.abel_meaning.specs.Designs.{Context}
 use Rattle.abel_meaning.specs.FormulaBits.{formulas}
 use Rattle.abel_meaning.specs.Tables.{no_matches}
 use Rattle.abel_meaning.specs.Terms.{Term, term_of}
-use Rattle.set_expr.specs.declared.contributions.Contribution.{Contribution}
 use Rattle.set_expr.specs.declared.fault.SectionFault.{SectionFault}
 use Rattle.set_expr.specs.Answer.{refusal_of}
 use Rattle.set_expr.specs.Contexts.{context_for}
@@ -28,7 +26,7 @@ use Rattle.section_targets.specs.Walking.{Walks}
 use Rattle.truth_tables.specs.declared.checked_rows.RowFound.{RowFound}
 use Rattle.truth_tables.specs.declared.rows.Headed.{Headed}
 use Rattle.truth_tables.specs.Gives.{signals_of}
-use Rattle.truth_tables.specs.Products.{StandForInputs, header_literals, literals}
+use Rattle.truth_tables.specs.Products.{StandForInputs, header_literals}
 use Rattle.truth_tables.specs.Rows.{Does, NamesOutputs, behind, found_work, row_work, rows_work}
 use Rattle.truth_tables.specs.TableUnits.{places_of, some_aims}
 use Rattle.truth_tables.specs.Works.{Work, before, given_freely}
@@ -60,14 +58,6 @@ nodes_left v h None = inputs_nodes v h
 nodes_left v h (Some ps) = 0
 
 -- ---- what is left by making rows
-
--- by the bits of the input header, over every design of these names
-abbrev pub GivesFound : {D : Type 0} → Headed D → List (Option ExprId) → RowFound → (old new : List Node)
-    → (list more : List Contribution) → Result Unit SectionFault → Type 0
-GivesFound h ps f old new list more r =
-    (d : Context) → d.names ≡ entries_of h.scope.now
-    → Does (found_work d (view_guard (arena old) h.guard) h.table.now.clocked (literals (arena old) (Const true) ps f.inputs) h.outputs.now f)
-    old new list more r
 
 -- with so many nodes of the input header before its own
 abbrev pub GivesRow : {D : Type 0} → device.Table → Headed D → (nodes : ℕ) → RowFound → (old new : Walked)

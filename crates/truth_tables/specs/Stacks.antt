@@ -1,13 +1,7 @@
 -- Private: walks over what lies on a stack, from its top: each element stands for a term, and what the terms of those below
 -- give comes before what was put (this project's rule).
-use Rattle.std.specs.Prelude.{◌≡◌, ◌<◌, ℕ, Bool, true, false, List, [], ◌∷◌, ◌++◌}
-use Rattle.std.specs.List.{flat_map, list_all, sum_by}
-
--- each element of a list stands for the term at its place
-abbrev pub Each : {A T : Type 0} → (A → T → Type 0) → List A → List T → Type 0
-Each S [] [] = Unit {0}
-Each S (a ∷ xs) (t ∷ ts) = S a t × Each S xs ts
-Each S _ _ = ⊥
+use Rattle.std.specs.Prelude.{◌≡◌, ◌<◌, ℕ, Bool, true, false, List, [], ◌++◌}
+use Rattle.std.specs.List.{AllZip, flat_map, list_all, sum_by}
 
 -- what a walk asks of each term: whether it passes, what it gives, and how many steps it takes
 pub record Walking (T M : Type 0) : Type 0 where
@@ -25,7 +19,7 @@ pub record Taken {A T M : Type 0} (S : A → T → Type 0) (w : Walking T M) (t 
   pub more : List A
   pub terms : List T
   pub pushed : later ≡ stack ++ more
-  pub stand : Each S more terms
+  pub stand : AllZip S more terms
   pub opened : Opened w t terms old new
   pub fewer : sum_by w.size terms < w.size t
 
@@ -37,5 +31,5 @@ IsStep S w t true stack later old new = Taken S w t stack later old new
 -- how far a walk is
 pub record Walked {A T M : Type 0} (S : A → T → Type 0) (w : Walking T M) (t : T) (stack : List A) (put : List M) : Type 0 where
   pub terms : List T
-  pub stand : Each S stack terms
+  pub stand : AllZip S stack terms
   pub opened : Opened w t terms [] put

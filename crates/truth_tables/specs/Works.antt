@@ -1,5 +1,5 @@
--- Private: units with what they give, and how far their building is (this project's rule).
-use Rattle.std.specs.Prelude.{◌≡◌, List, [], ◌++◌}
+-- Private: units with what they give, and what is left by building them (this project's rule).
+use Rattle.std.specs.Prelude.{List, [], ◌++◌}
 use Rattle.pld_base.specs.declared.place.Place.{Place}
 use Rattle.bit_expr.specs.Formulas.{Formula}
 use Rattle.abel_meaning.specs.Contributions as meant
@@ -26,9 +26,3 @@ given_freely gs ps = record { units = []; gives = gs; places = ps }
 
 abbrev pub IsDone : Work → (old new : Contributions) → Type 0
 IsDone w old new = IsBuilt w.units w.gives w.places old new
-
--- all but the rest is built
-pub record IsBegun (all rest : Work) (old now : Contributions) : Type 0 where
-  pub front : Work
-  pub whole : all ≡ before front rest
-  pub done : IsDone front old now

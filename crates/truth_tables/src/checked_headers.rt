@@ -1,18 +1,14 @@
 //! What is refused of both sides of a header.
 
-ghost use Rattle.std.specs.Prelude.{◌≡◌, None, List, ◌++◌, length, IfOk, OnOk};
-ghost use Rattle.abel_tree.specs.Entries.{entries_of};
-ghost use Rattle.abel_tree.specs.FirstRefusal.{first_refusal};
+ghost use Rattle.std.specs.Prelude.{◌≡◌, List, ◌++◌, IfOk, OnOk};
 ghost use Rattle.abel_tree.specs.View.{view};
 ghost use Rattle.abel_meaning.specs.Designs.{Context};
 ghost use Rattle.set_expr.specs.Answer.{IsContextOf};
-ghost use Rattle.set_expr.specs.SectionOrder.{section_order};
 ghost use Rattle.section_targets.specs.declared.manner.Manner.{Manner};
-ghost use Rattle.section_targets.specs.Given.{AreNamed};
 ghost use Rattle.section_targets.specs.Manners.{AreFirsts};
-ghost use Rattle.truth_tables.specs.OutputHeaders.{HeaderFound, output_header};
-ghost use Rattle.truth_tables.specs.TableUnits.{assigned_by, outputs_refused, some_aims};
-ghost use Rattle.truth_tables.specs.Headers.{IsHeader, IsWholeHeader};
+ghost use Rattle.truth_tables.specs.OutputHeaders.{output_header};
+ghost use Rattle.truth_tables.specs.TableUnits.{assigned_by, some_aims};
+ghost use Rattle.truth_tables.specs.Headers.{IsWholeHeader};
 
 use crate::headings::push_outputs;
 use abel_tree::{Table, earlier};
@@ -36,32 +32,6 @@ fn list_aims(alloc: Global, outputs: &[Option<Aim>]) -> Result<Vec<Aim>, AllocEr
     outputs.iter().filter_map(|output| *output).collect(alloc)
 }
 
-/// What is refused of outputs that are assigned on the clock or not, behind what was assigned before.
-fn check_outputs<D: Device>(
-    alloc: Global,
-    scope: &Scope<'_>,
-    clocked: bool,
-    header: &Header,
-    before: &mut Assigned,
-) -> Result<Option<SectionFault>, OutOfMemory>
-    requires { header.now.fault ≡ None → AreNamed (length (entries_of scope.now)) (some_aims header.now.outputs) }
-    ensures fault { IfOk result (λ f. (d : Context) (all : List Manner) (x : HeaderFound) → IsContextOf D.table scope.now d → AreFirsts before.old all → IsHeader header.now x → f ≡ first_refusal section_order (outputs_refused d all clocked x)) }
-    ensures before { OnOk result ((all : List Manner) (x : HeaderFound) → AreFirsts before.old all → IsHeader header.now x → AreFirsts before.new (all ++ assigned_by clocked x)) }
-{
-    match header.fault {
-        Some(fault) => Ok(Some(fault)),
-        None => {
-            let aims = list_aims(alloc, header.outputs.as_slice())?;
-            let way = Way {
-                extension: None,
-                complement: false,
-                clocked,
-            };
-            check_aims::<D>(scope, way, aims.as_slice(), before)
-        }
-    }
-}
-
 /// Both sides of a table's header, whose outputs are assigned behind what was assigned before: the first refusal, and
 /// the outputs. How they are assigned is noted. Calls go as deep as the nestings of sets and parentheses.
 pub(crate) fn read_header<D: Device>(
@@ -75,14 +45,22 @@ pub(crate) fn read_header<D: Device>(
 {
     let inputs = scope.check(alloc, &table.inputs)?;
     let mut outputs = Vec::new(alloc);
-    let fault = push_outputs(alloc, scope, &table.outputs, &mut outputs)?;
-    let header = Header {
-        outputs: ListOf::from_vec(outputs),
-        fault,
+    let refused = push_outputs(alloc, scope, &table.outputs, &mut outputs)?;
+    if refused.is_some() {
+        return Ok(Header {
+            outputs: ListOf::from_vec(outputs),
+            fault: earlier(inputs.fault, refused),
+        });
+    }
+    let aims = list_aims(alloc, outputs.as_slice())?;
+    let way = Way {
+        extension: None,
+        complement: false,
+        clocked: table.clocked,
     };
-    let mixed = check_outputs::<D>(alloc, scope, table.clocked, &header, before)?;
+    let mixed = check_aims::<D>(scope, way, aims.as_slice(), before)?;
     Ok(Header {
-        outputs: header.outputs,
+        outputs: ListOf::from_vec(outputs),
         fault: earlier(inputs.fault, mixed),
     })
 }

@@ -92,17 +92,6 @@ pub(crate) struct RowFound {
     pub fault: Option<SectionFault>,
 }
 
-/// Refused where a row's arrow isn't that of its header.
-fn refuse_arrow(row: SectionFault, clocked: bool, row_clocked: bool) -> Option<SectionFault>
-    ensures { result ≡ first_refusal section_order (arrow_refused row clocked row_clocked) }
-{
-    if clocked == row_clocked {
-        None
-    } else {
-        Some(row)
-    }
-}
-
 /// A row of a table whose header isn't refused: its first refusal, or the levels of its entries.
 pub(crate) fn read_row(
     alloc: Global,
@@ -113,7 +102,7 @@ pub(crate) fn read_row(
     ensures { IfOk result (λ r. (d : Context) → IsOver scope.now d → IsRow d table.now.clocked (term_of d.known (view table.now.inputs)) (term_of d.known (view table.now.outputs)) (view_row row.now) r) }
 {
     let bad = SectionFault::BadRow(row.place);
-    let arrow = refuse_arrow(bad, table.clocked, row.clocked);
+    let arrow = (row.clocked != table.clocked).then_some(bad);
     let inputs = read_levels(alloc, scope, bad, &table.inputs, &row.inputs)?;
     let outputs = read_levels(alloc, scope, bad, &table.outputs, &row.outputs)?;
     let entries = earlier(inputs.fault, outputs.fault);

@@ -7,7 +7,7 @@ ghost use Rattle.truth_tables.specs.EntryTerms.{IsOver};
 ghost use Rattle.truth_tables.specs.PairTerms.{ArePaired, IsMet};
 ghost use Rattle.truth_tables.specs.PartTerms.{IsPart};
 ghost use Rattle.abel_tree.specs.View.{view};
-ghost use Rattle.truth_tables.specs.EntryMarks.{IsMarked, IsRead};
+ghost use Rattle.truth_tables.specs.EntryMarks.{IsRead};
 
 use crate::inside::refuse_inside;
 use crate::mark::Mark;
@@ -62,32 +62,6 @@ fn step<'a>(
     }
 }
 
-/// What an entry says of each position of its header, from the left; None where it doesn't meet the header. It is
-/// asked only of headers and entries in which nothing is refused. Sets and names of constants are followed by a
-/// stack, so that no call goes as deep as constants nest.
-fn entry_marks(
-    alloc: Global,
-    scope: &Scope<'_>,
-    header: &Expr,
-    entry: &Expr,
-) -> Result<Option<Vec<Mark>>, OutOfMemory>
-    ensures { IfOk result (λ ms. (d : Context) → IsOver scope.now d → IsMarked d (term_of d.known (view header.now)) (term_of d.known (view entry.now)) ms) }
-{
-    let mut marks = Vec::new(alloc);
-    let mut stack = Vec::new(alloc);
-    stack.push(Pair {
-        header: part_of(scope, header, None),
-        given: part_of(scope, entry, None),
-    })?;
-    while let Some(pair) = stack.pop() {
-        if !step(alloc, scope, pair, &mut stack, &mut marks)? {
-            return Ok(None);
-        }
-    }
-    marks.reverse();
-    Ok(Some(marks))
-}
-
 /// What is found of an entry under its header: its first refusal, or its marks at the header's positions, from the
 /// left.
 #[derive(Drop)]
@@ -98,7 +72,8 @@ pub enum Entry {
 
 /// Reads an entry of a row that is refused so, under a header in which nothing is refused: what is refused inside comes
 /// alone, and else `row` where it doesn't meet the header. Takes the time of the entry and the header with the sets
-/// that constants stand for.
+/// that constants stand for. Sets and names of constants are followed by a stack, so that no call goes as deep as
+/// constants nest.
 pub fn read_entry(
     alloc: Global,
     scope: &Scope<'_>,
@@ -109,14 +84,20 @@ pub fn read_entry(
     ensures { IfOk result (λ r. (d : Context) → IsOver scope.now d → IsRead d row (term_of d.known (view header.now)) (view entry.now) r) }
 {
     let inside = refuse_inside(alloc, scope, row, entry)?;
-    match inside {
-        Some(fault) => Ok(Entry::Refused(fault)),
-        None => {
-            let found = entry_marks(alloc, scope, header, entry)?;
-            match found {
-                Some(marks) => Ok(Entry::Marks(marks)),
-                None => Ok(Entry::Refused(row)),
-            }
+    if let Some(fault) = inside {
+        return Ok(Entry::Refused(fault));
+    }
+    let mut marks = Vec::new(alloc);
+    let mut stack = Vec::new(alloc);
+    stack.push(Pair {
+        header: part_of(scope, header, None),
+        given: part_of(scope, entry, None),
+    })?;
+    while let Some(pair) = stack.pop() {
+        if !step(alloc, scope, pair, &mut stack, &mut marks)? {
+            return Ok(Entry::Refused(row));
         }
     }
+    marks.reverse();
+    Ok(Entry::Marks(marks))
 }

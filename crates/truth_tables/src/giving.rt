@@ -6,7 +6,7 @@ ghost use Rattle.abel_tree.specs.Entries.{entries_of};
 ghost use Rattle.set_expr.specs.Answer.{Keeps};
 ghost use Rattle.section_targets.specs.Given.{AreNamed};
 ghost use Rattle.truth_tables.specs.TableUnits.{some_aims};
-ghost use Rattle.truth_tables.specs.Gives.{GivesOutput, GivesValue, GivesPosition, GivesPositions, GivesNoMatches};
+ghost use Rattle.truth_tables.specs.Gives.{GivesOutput, GivesPosition, GivesPositions, GivesNoMatches};
 
 use bit_expr::{ExprId, Exprs};
 use pld_base::Place;
@@ -62,32 +62,7 @@ pub fn give_output(
     give(&giver, aim, matching.bit, exprs, list)
 }
 
-/// What a level gives: one for 1, any for X and nothing for 0.
-fn give_value(
-    matching: &Matching<'_>,
-    aim: Aim,
-    level: Option<bool>,
-    exprs: &mut Exprs,
-    list: &mut Vec<Contribution>,
-) -> Result<(), SectionFault>
-    requires signal { aim.signal < length (entries_of matching.now.scope.now) }
-    requires bit { matching.now.bit.0 < length (arena exprs.old) }
-    ensures keeps { Keeps (arena exprs.old) (arena exprs.new) }
-    ensures gives { GivesValue matching.now.scope.now matching.now.assigning aim level matching.now.bit exprs.old exprs.new list.old.items list.new.items result }
-{
-    match level {
-        None => give_output(matching, Gives::Any, aim, exprs, list),
-        Some(on) => {
-            if on {
-                give_output(matching, Gives::One, aim, exprs, list)
-            } else {
-                Ok(())
-            }
-        }
-    }
-}
-
-/// A position of a row: what its level gives, and a match; X is given nothing.
+/// A position of a row: one for 1, any for X and nothing for 0, and then a match; an output that is X is given nothing.
 fn give_position(
     matching: &Matching<'_>,
     output: Option<Aim>,
@@ -103,7 +78,11 @@ fn give_position(
     match output {
         None => Ok(()),
         Some(aim) => {
-            give_value(matching, aim, level, exprs, list)?;
+            match level {
+                None => give_output(matching, Gives::Any, aim, exprs, list)?,
+                Some(true) => give_output(matching, Gives::One, aim, exprs, list)?,
+                Some(false) => {}
+            }
             give_output(matching, Gives::Match, aim, exprs, list)
         }
     }

@@ -14,16 +14,6 @@ use section_targets::{Aim, number_of};
 use set_expr::{Scope, SectionFault};
 use std::alloc::{AllocError, Global};
 
-/// A position at a place.
-fn output_at(signal: Option<u32>, place: Place) -> Option<Aim>
-    ensures { result ≡ option_map (λ k. record { signal = k; place = place }) signal }
-{
-    match signal {
-        Some(signal) => Some(Aim { signal, place }),
-        None => None,
-    }
-}
-
 /// Signals and X, all at one place.
 fn list_outputs(
     alloc: Global,
@@ -34,7 +24,7 @@ fn list_outputs(
 {
     signals
         .iter()
-        .map(|signal| output_at(*signal, place))
+        .map(|signal| signal.map(|signal| Aim { signal, place }))
         .collect(alloc)
 }
 

@@ -1,19 +1,15 @@
 //! The walk of an output header: its outputs position by position from the left, None at X, and its first refusal.
 
-ghost use Rattle.std.specs.Prelude.{◌≡◌, IfOk, map};
-ghost use Rattle.abel_tree.specs.FirstRefusal.{first_refusal};
-ghost use Rattle.abel_tree.specs.Ranges.{range_names};
-ghost use Rattle.abel_tree.specs.Tree.{AName, members_of};
+ghost use Rattle.std.specs.Prelude.{IfOk, map};
+ghost use Rattle.abel_tree.specs.Tree.{members_of};
 ghost use Rattle.abel_tree.specs.View.{view, view_member};
 ghost use Rattle.abel_meaning.specs.Designs.{Context};
-ghost use Rattle.set_expr.specs.Refusals.{too_wide};
-ghost use Rattle.set_expr.specs.SectionOrder.{section_order};
 ghost use Rattle.truth_tables.specs.EntryTerms.{IsOver};
-ghost use Rattle.truth_tables.specs.OutputHeaders.{header_set, header_range, header_special, output_header, output_member, output_members};
+ghost use Rattle.truth_tables.specs.OutputHeaders.{header_set, header_special, output_header, output_member, output_members};
 ghost use Rattle.truth_tables.specs.Headers.{IsAdded};
 
 use crate::header_names::push_name;
-use abel_tree::{Expr, Extension, Member, Word, earlier};
+use abel_tree::{Expr, Member, earlier};
 use name_uses::range_list;
 use pld_base::{OutOfMemory, Place};
 use section_targets::{Aim, number_of, refuse_operator};
@@ -36,46 +32,7 @@ fn push_special(
     }
 }
 
-/// A name, which has no extension.
-fn push_word(
-    alloc: Global,
-    scope: &Scope<'_>,
-    word: &Word,
-    extension: Option<Extension>,
-    outputs: &mut Vec<Option<Aim>>,
-) -> Result<Option<SectionFault>, OutOfMemory>
-    ensures { IfOk result (λ f. (d : Context) → IsOver scope.now d → IsAdded (output_header d (AName word.now extension)) f outputs.old.items outputs.new.items) }
-{
-    let text = word.text.bytes();
-    match extension {
-        None => push_name(alloc, scope, text, word.place, outputs),
-        Some(_) => {
-            let number = number_of(scope, text);
-            Ok(Some(SectionFault::NotAnOutput(word.place, number)))
-        }
-    }
-}
-
-/// The names of a range, which all stand at its first end.
-fn push_range(
-    alloc: Global,
-    scope: &Scope<'_>,
-    first: &Word,
-    last: &Word,
-    outputs: &mut Vec<Option<Aim>>,
-) -> Result<Option<SectionFault>, OutOfMemory>
-    ensures { IfOk result (λ f. (d : Context) → IsOver scope.now d → IsAdded (header_range d first.now.place (range_names first.now.text last.now.text)) f outputs.old.items outputs.new.items) }
-{
-    let texts = range_list(alloc, first.text.bytes(), last.text.bytes())?;
-    let mut fault = None;
-    for text in &texts {
-        let found = push_name(alloc, scope, text.as_slice(), first.place, outputs)?;
-        fault = earlier(fault, found);
-    }
-    Ok(fault)
-}
-
-/// A member of a header.
+/// A member of a header; the names of a range all stand at its first end.
 #[cycle(headings)]
 fn push_member(
     alloc: Global,
@@ -87,22 +44,19 @@ fn push_member(
 {
     match member {
         Member::One(expr) => push_outputs(alloc, scope, expr, outputs),
-        Member::Span { first, last } => push_range(alloc, scope, first, last, outputs),
+        Member::Span { first, last } => {
+            let texts = range_list(alloc, first.text.bytes(), last.text.bytes())?;
+            let mut fault = None;
+            for text in &texts {
+                let found = push_name(alloc, scope, text.as_slice(), first.place, outputs)?;
+                fault = earlier(fault, found);
+            }
+            Ok(fault)
+        }
     }
 }
 
-/// Refused where a set has more than 32 positions.
-fn refuse_wide(place: Place, width: usize) -> Option<SectionFault>
-    ensures { result ≡ first_refusal section_order (too_wide place width) }
-{
-    if width > 32 {
-        Some(SectionFault::BadWidth(place))
-    } else {
-        None
-    }
-}
-
-/// The set of these members at this bracket.
+/// The set of these members at this bracket, which is refused where it has more than 32 positions.
 #[cycle(headings)]
 fn push_set(
     alloc: Global,
@@ -119,7 +73,8 @@ fn push_set(
         let found = push_member(alloc, scope, member, outputs)?;
         fault = earlier(fault, found);
     }
-    let wide = refuse_wide(place, outputs.len() - before);
+    let width = outputs.len() - before;
+    let wide = (width > 32).then_some(SectionFault::BadWidth(place));
     Ok(earlier(fault, wide))
 }
 
@@ -136,7 +91,13 @@ pub(crate) fn push_outputs(
     match expr {
         Expr::Number(number) => Ok(Some(SectionFault::NotAnOutput(number.place, None))),
         Expr::Special { letter, place } => push_special(*letter, *place, outputs),
-        Expr::Name { word, extension } => push_word(alloc, scope, word, *extension, outputs),
+        Expr::Name { word, extension } => match extension {
+            Some(_) => {
+                let number = number_of(scope, word.text.bytes());
+                Ok(Some(SectionFault::NotAnOutput(word.place, number)))
+            }
+            None => push_name(alloc, scope, word.text.bytes(), word.place, outputs),
+        },
         Expr::Set {
             place,
             members,

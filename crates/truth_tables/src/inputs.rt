@@ -13,7 +13,7 @@ ghost use Rattle.truth_tables.specs.EntryTerms.{IsOver};
 ghost use Rattle.section_targets.specs.Building.{BuildsNodes};
 ghost use Rattle.section_targets.specs.Units.{part};
 ghost use Rattle.truth_tables.specs.PartTerms.{is_computed};
-ghost use Rattle.truth_tables.specs.Products.{StandForInputs, IsShapedTerm, IsShapedNumber};
+ghost use Rattle.truth_tables.specs.Products.{StandForInputs, IsShapedTerm};
 
 use crate::part::{Stand, stand_of};
 use abel_tree::Expr;
@@ -55,25 +55,8 @@ fn list_positions(alloc: Global, bits: &[ExprId]) -> Result<Vec<Option<ExprId>>,
     bits.iter().map(|bit| Some(*bit)).collect(alloc)
 }
 
-/// The positions of a header that is a number: the 32 bits of what an operator makes, and none otherwise.
-fn number_positions(
-    alloc: Global,
-    scope: &Scope<'_>,
-    header: &Expr,
-    shaped: &Shaped,
-) -> Result<Vec<Option<ExprId>>, OutOfMemory>
-    ensures { IfOk result (λ ps. (d : Context) (ns : List Node) → IsOver scope.now d → IsShapedNumber d (arena ns) (term_of d.known (view header.now)) shaped.now → StandForInputs d (term_of d.known (view header.now)) (arena ns) ps.items) }
-{
-    if !has_operator(scope, header) {
-        return Ok(Vec::new(alloc));
-    }
-    let bits = meet(alloc, shaped, 32)?;
-    let mut positions = list_positions(alloc, &bits)?;
-    positions.reverse();
-    Ok(positions)
-}
-
-/// The positions of a header from the left.
+/// The positions of a header from the left; those of a number are the 32 bits of what an operator makes, and none
+/// otherwise.
 fn shaped_positions(
     alloc: Global,
     scope: &Scope<'_>,
@@ -83,7 +66,15 @@ fn shaped_positions(
     ensures { IfOk result (λ ps. (d : Context) (ns : List Node) → IsOver scope.now d → IsShapedTerm d (arena ns) (term_of d.known (view header.now)) shaped → StandForInputs d (term_of d.known (view header.now)) (arena ns) ps.items) }
 {
     match shaped.shape {
-        Shape::Number(_) => number_positions(alloc, scope, header, &shaped),
+        Shape::Number(_) => {
+            if !has_operator(scope, header) {
+                return Ok(Vec::new(alloc));
+            }
+            let bits = meet(alloc, &shaped, 32)?;
+            let mut positions = list_positions(alloc, &bits)?;
+            positions.reverse();
+            Ok(positions)
+        }
         _ => {
             let mut positions = shaped.places.into_vec();
             positions.reverse();

@@ -3,14 +3,13 @@
 ghost use Rattle.std.specs.Prelude.{◌≡◌, IfOk};
 ghost use Rattle.abel_tree.specs.Entries.{entries_of};
 ghost use Rattle.abel_tree.specs.FirstRefusal.{first_refusal};
-ghost use Rattle.abel_tree.specs.Ranges.{range_names};
 ghost use Rattle.abel_tree.specs.View.{view, view_member};
 ghost use Rattle.set_expr.specs.FoundNames.{name_found, names_found};
 ghost use Rattle.set_expr.specs.SectionOrder.{section_order};
-ghost use Rattle.truth_tables.specs.RowEntries.{operator_refused, names_refused, refused_inside, member_refused_inside};
+ghost use Rattle.truth_tables.specs.RowEntries.{operator_refused, refused_inside, member_refused_inside};
 
 use crate::pulses::holds_pulse;
-use abel_tree::{Expr, Member, Word, earlier};
+use abel_tree::{Expr, Member, earlier};
 use name_uses::range_list;
 use pld_base::OutOfMemory;
 use set_expr::{Scope, SectionFault};
@@ -24,23 +23,6 @@ fn refuse_name(scope: &Scope<'_>, text: &[u8]) -> Option<SectionFault>
         Some(name) => name.checked.fault,
         None => None,
     }
-}
-
-/// What is refused of the names of a range.
-fn refuse_range(
-    alloc: Global,
-    scope: &Scope<'_>,
-    first: &Word,
-    last: &Word,
-) -> Result<Option<SectionFault>, OutOfMemory>
-    ensures { IfOk result (λ f. f ≡ first_refusal section_order (names_refused (names_found (entries_of scope.now)) (range_names first.now.text last.now.text))) }
-{
-    let names = range_list(alloc, first.text.bytes(), last.text.bytes())?;
-    let mut fault = None;
-    for name in &names {
-        fault = earlier(fault, refuse_name(scope, name.as_slice()));
-    }
-    Ok(fault)
 }
 
 /// What is refused of an operator in a row that is refused so.
@@ -71,7 +53,14 @@ fn refuse_member(
 {
     match member {
         Member::One(expr) => refuse_inside(alloc, scope, row, expr),
-        Member::Span { first, last } => refuse_range(alloc, scope, first, last),
+        Member::Span { first, last } => {
+            let names = range_list(alloc, first.text.bytes(), last.text.bytes())?;
+            let mut fault = None;
+            for name in &names {
+                fault = earlier(fault, refuse_name(scope, name.as_slice()));
+            }
+            Ok(fault)
+        }
     }
 }
 

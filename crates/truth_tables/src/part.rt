@@ -4,7 +4,7 @@ ghost use Rattle.std.specs.Prelude.{IfOk};
 ghost use Rattle.abel_tree.specs.Entries.{view_meaning};
 ghost use Rattle.abel_tree.specs.View.{view};
 ghost use Rattle.abel_meaning.specs.Designs.{Context};
-ghost use Rattle.abel_meaning.specs.Terms.{term_of, term_named, term_meant, special_term, extended_if};
+ghost use Rattle.abel_meaning.specs.Terms.{term_of, term_named, term_meant, extended_if};
 ghost use Rattle.abel_meaning.specs.Values.{constant_of};
 ghost use Rattle.set_expr.specs.Shapes.{HasShape};
 ghost use Rattle.truth_tables.specs.EntryTerms.{IsOver};
@@ -16,16 +16,14 @@ use pld_base::OutOfMemory;
 use set_expr::{Scope, Shape};
 use std::alloc::Global;
 
-/// A set with what extends its members, a signal, a number, a special, or an operator. A set and an operator stand with
+/// A set with what extends its members, a signal, a number, a special by its letter, or an operator. A set and an operator stand with
 /// their expression, of which the shape is asked.
 #[derive(Clone, Copy)]
 pub(crate) enum Part<'a> {
     Set(&'a Expr, &'a [Member], Option<Extension>),
     Signal(u32, Option<Extension>),
     Number(u32),
-    Unknown,
-    Pulsed,
-    Released,
+    Special(u8),
     Operator(&'a Expr),
 }
 
@@ -77,28 +75,14 @@ pub(crate) fn stand_of<'a>(
     }
 }
 
-/// A special.
-pub(crate) fn special<'a>(letter: u8) -> Part<'a>
-    ensures { (d : Context) → IsPart d result (special_term letter) }
-{
-    match letter {
-        b'X' => Part::Unknown,
-        b'C' => Part::Pulsed,
-        _ => Part::Released,
-    }
-}
-
 /// The shape of an expression of which nothing is refused.
 pub(crate) fn shape_of(alloc: Global, scope: &Scope<'_>, expr: &Expr) -> Result<Shape, OutOfMemory>
     ensures { IfOk result (λ s. (d : Context) → IsOver scope.now d → HasShape s (constant_of d (term_of d.known (view expr.now)))) }
 {
     let found = scope.check(alloc, expr)?;
-    match found.fault {
-        Some(_) => Err(OutOfMemory),
-        None => match found.shape {
-            Some(shape) => Ok(shape),
-            None => Err(OutOfMemory),
-        },
+    match (found.fault, found.shape) {
+        (None, Some(shape)) => Ok(shape),
+        _ => Err(OutOfMemory),
     }
 }
 
@@ -113,7 +97,7 @@ pub(crate) fn part_of<'a>(scope: &Scope<'a>, expr: &'a Expr, outer: Option<Exten
     loop {
         match at {
             Expr::Number(number) => return Part::Number(number.value),
-            Expr::Special { letter, .. } => return special(*letter),
+            Expr::Special { letter, .. } => return Part::Special(*letter),
             Expr::Name {
                 word,
                 extension: own,

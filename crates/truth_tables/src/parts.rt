@@ -1,39 +1,20 @@
 //! The parts of the members of sets.
 
 ghost use Rattle.std.specs.Prelude.{map, IfOk};
-ghost use Rattle.abel_tree.specs.Ranges.{range_names};
 ghost use Rattle.abel_tree.specs.Tree.{members_of};
 ghost use Rattle.abel_tree.specs.View.{view_member};
 ghost use Rattle.abel_meaning.specs.Designs.{Context};
-ghost use Rattle.abel_meaning.specs.Terms.{NoTerm, terms_of, named_before, member_before};
+ghost use Rattle.abel_meaning.specs.Terms.{NoTerm, terms_of, member_before};
 ghost use Rattle.expr_bits.specs.Members.{list_of, each_extended};
 ghost use Rattle.truth_tables.specs.EntryTerms.{IsOver};
 ghost use Rattle.truth_tables.specs.PartTerms.{AreParts};
 
 use crate::part::{Part, named_part, part_of};
-use abel_tree::{Extension, Member, Word};
+use abel_tree::{Extension, Member};
 use name_uses::range_list;
 use pld_base::OutOfMemory;
 use set_expr::Scope;
 use std::alloc::Global;
-
-/// The part of each name of a range under an extension.
-fn range_parts<'a>(
-    alloc: Global,
-    scope: &Scope<'a>,
-    first: &Word,
-    last: &Word,
-    outer: Option<Extension>,
-) -> Result<Vec<Part<'a>>, OutOfMemory>
-    ensures { IfOk result (λ ps. (d : Context) → IsOver scope.now d → AreParts d ps.items (each_extended outer (list_of (named_before d.known (range_names first.now.text last.now.text) NoTerm)))) }
-{
-    let names = range_list(alloc, first.text.bytes(), last.text.bytes())?;
-    let mut parts = Vec::new(alloc);
-    for name in &names {
-        parts.push(named_part(scope, name.as_slice(), outer))?;
-    }
-    Ok(parts)
-}
 
 /// The parts of a member under an extension.
 fn member_parts<'a>(
@@ -44,13 +25,19 @@ fn member_parts<'a>(
 ) -> Result<Vec<Part<'a>>, OutOfMemory>
     ensures { IfOk result (λ ps. (d : Context) → IsOver scope.now d → AreParts d ps.items (each_extended outer (list_of (member_before d.known (view_member member.now) NoTerm)))) }
 {
+    let mut parts = Vec::new(alloc);
     match member {
         Member::One(expr) => {
-            let mut parts = Vec::new(alloc);
             parts.push(part_of(scope, expr, outer))?;
             Ok(parts)
         }
-        Member::Span { first, last } => range_parts(alloc, scope, first, last, outer),
+        Member::Span { first, last } => {
+            let names = range_list(alloc, first.text.bytes(), last.text.bytes())?;
+            for name in &names {
+                parts.push(named_part(scope, name.as_slice(), outer))?;
+            }
+            Ok(parts)
+        }
     }
 }
 

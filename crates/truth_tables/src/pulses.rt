@@ -3,13 +3,12 @@
 ghost use Rattle.std.specs.Prelude.{◌≡◌, IfOk};
 ghost use Rattle.std.specs.List.{list_any};
 ghost use Rattle.abel_tree.specs.Entries.{entries_of};
-ghost use Rattle.abel_tree.specs.Ranges.{range_names};
 ghost use Rattle.abel_tree.specs.View.{view, view_member};
 ghost use Rattle.name_uses.specs.RangeParts.{name_items};
 ghost use Rattle.set_expr.specs.FoundNames.{names_found};
 ghost use Rattle.truth_tables.specs.RowEntries.{is_pulse_named, holds_pulse, member_holds_pulse};
 
-use abel_tree::{Expr, Member, Word};
+use abel_tree::{Expr, Member};
 use name_uses::range_list;
 use pld_base::OutOfMemory;
 use set_expr::Scope;
@@ -32,19 +31,6 @@ fn any_names_pulse(scope: &Scope<'_>, names: &[Vec<u8>]) -> bool
     names.iter().any(|name| names_pulse(scope, name.as_slice()))
 }
 
-/// Whether some name of a range stands for one of them.
-fn range_holds_pulse(
-    alloc: Global,
-    scope: &Scope<'_>,
-    first: &Word,
-    last: &Word,
-) -> Result<bool, OutOfMemory>
-    ensures { IfOk result (λ b. b ≡ list_any (is_pulse_named (names_found (entries_of scope.now))) (range_names first.now.text last.now.text)) }
-{
-    let names = range_list(alloc, first.text.bytes(), last.text.bytes())?;
-    Ok(any_names_pulse(scope, names.as_slice()))
-}
-
 /// Whether one of them stands in a member.
 #[cycle(pulses)]
 fn member_holds(alloc: Global, scope: &Scope<'_>, member: &Member) -> Result<bool, OutOfMemory>
@@ -52,7 +38,10 @@ fn member_holds(alloc: Global, scope: &Scope<'_>, member: &Member) -> Result<boo
 {
     match member {
         Member::One(expr) => holds_pulse(alloc, scope, expr),
-        Member::Span { first, last } => range_holds_pulse(alloc, scope, first, last),
+        Member::Span { first, last } => {
+            let names = range_list(alloc, first.text.bytes(), last.text.bytes())?;
+            Ok(any_names_pulse(scope, names.as_slice()))
+        }
     }
 }
 

@@ -6,7 +6,7 @@ ghost use Rattle.bit_expr.specs.Arena.{arena};
 ghost use Rattle.set_expr.specs.Answer.{AreIn, Keeps};
 ghost use Rattle.section_targets.specs.Building.{BuildsNodes};
 ghost use Rattle.section_targets.specs.Units.{part};
-ghost use Rattle.truth_tables.specs.RowWalks.{GivesFound, GivesRow, HasInputs, IsAccepted, WalksRow, nodes_left};
+ghost use Rattle.truth_tables.specs.RowWalks.{GivesRow, HasInputs, IsAccepted, WalksRow, nodes_left};
 
 use crate::checked_rows::{RowFound, read_row};
 use crate::giving::{Assigning, Matching, give_positions};
@@ -50,34 +50,6 @@ fn inputs_of<D: Device>(
     }
 }
 
-/// What a row of which nothing is refused makes and gives, under the bits of the input header.
-fn give_found<D: Device>(
-    headed: &Headed<'_, D>,
-    found: &RowFound,
-    bits: &[Option<ExprId>],
-    exprs: &mut Exprs,
-    list: &mut Vec<Contribution>,
-) -> Result<(), SectionFault>
-    requires accepted { IsAccepted D.table headed.now }
-    requires bits { AreIn (length (arena exprs.old)) bits.now }
-    ensures keeps { Keeps (arena exprs.old) (arena exprs.new) }
-    ensures gives { GivesFound headed.now bits.now found.now exprs.old exprs.new list.old.items list.new.items result }
-{
-    let levels = found.inputs.as_slice();
-    let bit = row_product(exprs, bits, levels, found.place)?;
-    let matching = Matching {
-        scope: headed.scope.scope(),
-        assigning: Assigning {
-            unit: found.place,
-            guard: headed.guard,
-            clocked: headed.table.clocked,
-        },
-        bit,
-    };
-    let given = found.outputs.as_slice();
-    give_positions(&matching, headed.outputs, given, exprs, list)
-}
-
 /// A row of which nothing is refused, as one unit; the first one has the bits of the input header in it.
 fn give_row<D: Device>(
     alloc: Global,
@@ -96,15 +68,26 @@ fn give_row<D: Device>(
 {
     let made = inputs.take();
     let bits = inputs_of::<D>(alloc, headed, found.place, made, &mut out.exprs)?;
-    let given = give_found::<D>(
-        headed,
-        found,
-        bits.as_slice(),
+    let levels = found.inputs.as_slice();
+    let bit = row_product(&mut out.exprs, bits.as_slice(), levels, found.place)?;
+    *inputs = Some(bits);
+    let matching = Matching {
+        scope: headed.scope.scope(),
+        assigning: Assigning {
+            unit: found.place,
+            guard: headed.guard,
+            clocked: headed.table.clocked,
+        },
+        bit,
+    };
+    let given = found.outputs.as_slice();
+    give_positions(
+        &matching,
+        headed.outputs,
+        given,
         &mut out.exprs,
         &mut out.list,
-    );
-    *inputs = Some(bits);
-    given
+    )
 }
 
 /// A row behind those that were walked, which made the bits of the input header unless something is refused.

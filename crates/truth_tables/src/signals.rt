@@ -1,11 +1,9 @@
 //! The signals that a header names.
 
-ghost use Rattle.std.specs.Prelude.{List, IfOk};
+ghost use Rattle.std.specs.Prelude.{IfOk};
 ghost use Rattle.abel_tree.specs.View.{view};
 ghost use Rattle.abel_meaning.specs.Designs.{Context};
 ghost use Rattle.abel_meaning.specs.Terms.{Term, term_of};
-ghost use Rattle.abel_meaning.specs.Terms as term;
-ghost use Rattle.truth_tables.specs.declared.part.Part.{Part as OnePart};
 ghost use Rattle.truth_tables.specs.EntryTerms.{IsOver};
 ghost use Rattle.truth_tables.specs.HeaderSignals.{AreSignals};
 ghost use Rattle.truth_tables.specs.PartTerms.{HasTerm, IsPart};
@@ -13,27 +11,10 @@ ghost use Rattle.truth_tables.specs.SignalTerms.{IsListed};
 
 use crate::part::{Part, part_of};
 use crate::parts::parts_of;
-use abel_tree::{Expr, Extension};
+use abel_tree::Expr;
 use pld_base::OutOfMemory;
 use set_expr::Scope;
 use std::alloc::Global;
-
-/// A signal: its number, or false where it has an extension.
-fn put_signal(
-    signals: &mut Vec<Option<u32>>,
-    signal: u32,
-    extension: Option<Extension>,
-) -> Result<bool, OutOfMemory>
-    ensures { IfOk result (λ b. (d : Context) (stack : List OnePart) → IsListed d (term.Read signal extension) b stack stack signals.old.items signals.new.items) }
-{
-    match extension {
-        None => {
-            signals.push(Some(signal))?;
-            Ok(true)
-        }
-        Some(_) => Ok(false),
-    }
-}
 
 /// One part: its signal or X, or its members onto the stack; false where it is something else.
 fn put_part<'a>(
@@ -51,14 +32,21 @@ fn put_part<'a>(
             stack.extend_from_slice(parts.as_slice())?;
             Ok(true)
         }
-        Part::Signal(signal, extension) => put_signal(signals, signal, extension),
-        Part::Unknown => {
+        Part::Signal(signal, extension) => {
+            if extension.is_some() {
+                return Ok(false);
+            }
+            signals.push(Some(signal))?;
+            Ok(true)
+        }
+        Part::Special(letter) => {
+            if letter != b'X' {
+                return Ok(false);
+            }
             signals.push(None)?;
             Ok(true)
         }
         Part::Number(_) => Ok(false),
-        Part::Pulsed => Ok(false),
-        Part::Released => Ok(false),
         Part::Operator(_) => Ok(false),
     }
 }

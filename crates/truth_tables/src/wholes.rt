@@ -1,16 +1,16 @@
 //! Entries that meet a part of a header as a whole.
 
-ghost use Rattle.std.specs.Prelude.{◌≡◌, ◌++◌, false, map, replicate, IfOk, OnOk};
+ghost use Rattle.std.specs.Prelude.{◌≡◌, ◌++◌, ℕ, false, map, replicate, IfOk, OnOk};
 ghost use Rattle.abel_tree.specs.View.{view};
 ghost use Rattle.abel_meaning.specs.Designs.{Context};
 ghost use Rattle.abel_meaning.specs.Numbers.{digits_low_first};
-ghost use Rattle.abel_meaning.specs.Rows.{part_width};
+ghost use Rattle.abel_meaning.specs.Rows.{part_marks, part_width};
 ghost use Rattle.abel_meaning.specs.Rows as meant;
-ghost use Rattle.abel_meaning.specs.Terms.{Term, term_of};
+ghost use Rattle.abel_meaning.specs.Terms.{Term, special_term, term_of};
 ghost use Rattle.truth_tables.specs.EntryMarks.{view_mark};
 ghost use Rattle.truth_tables.specs.EntryTerms.{IsOver};
 ghost use Rattle.truth_tables.specs.PairTerms.{both_sets, IsPut};
-ghost use Rattle.truth_tables.specs.PartTerms.{IsPart, IsOperator};
+ghost use Rattle.truth_tables.specs.PartTerms.{IsPart};
 
 use crate::mark::Mark;
 use crate::part::{Pair, Part, shape_of};
@@ -39,9 +39,7 @@ fn width_of(alloc: Global, scope: &Scope<'_>, part: Part<'_>) -> Result<u8, OutO
         Part::Operator(expr) => expr_width(alloc, scope, expr),
         Part::Signal(_, _) => Ok(1),
         Part::Number(_) => Ok(1),
-        Part::Unknown => Ok(1),
-        Part::Pulsed => Ok(1),
-        Part::Released => Ok(1),
+        Part::Special(_) => Ok(1),
     }
 }
 
@@ -67,25 +65,14 @@ fn push_levels(marks: &mut Vec<Mark>, width: u8, number: u32) -> Result<(), OutO
     Ok(())
 }
 
-/// The marks of an operator that is a number, in so many positions; false for one that has bits.
-fn put_operator(
-    alloc: Global,
-    scope: &Scope<'_>,
-    marks: &mut Vec<Mark>,
-    width: u8,
-    expr: &Expr,
-) -> Result<bool, OutOfMemory>
-    ensures { IfOk result (λ b. (d : Context) (h e : Term) → IsOver scope.now d
-        → IsOperator d expr.now e → both_sets h e ≡ false → width ≡ part_width d h
-        → IsPut d h e b marks.old.items marks.new.items) }
+/// The mark of a special.
+fn special_mark(letter: u8) -> Mark
+    ensures { (d : Context) (w : ℕ) → part_marks d w (special_term letter) ≡ replicate w (view_mark result) }
 {
-    match shape_of(alloc, scope, expr)? {
-        Shape::Number(number) => {
-            push_levels(marks, width, number)?;
-            Ok(true)
-        }
-        Shape::Single => Ok(false),
-        Shape::Set(_) => Ok(false),
+    match letter {
+        b'X' => Mark::Unknown,
+        b'C' => Mark::Pulsed,
+        _ => Mark::Released,
     }
 }
 
@@ -107,20 +94,18 @@ pub(crate) fn put_whole(
             push_levels(marks, width, number)?;
             Ok(true)
         }
-        Part::Unknown => {
-            push_same(marks, width, Mark::Unknown)?;
+        Part::Special(letter) => {
+            push_same(marks, width, special_mark(letter))?;
             Ok(true)
         }
-        Part::Pulsed => {
-            push_same(marks, width, Mark::Pulsed)?;
-            Ok(true)
-        }
-        Part::Released => {
-            push_same(marks, width, Mark::Released)?;
-            Ok(true)
-        }
+        Part::Operator(expr) => match shape_of(alloc, scope, expr)? {
+            Shape::Number(number) => {
+                push_levels(marks, width, number)?;
+                Ok(true)
+            }
+            _ => Ok(false),
+        },
         Part::Set(_, _, _) => Ok(false),
         Part::Signal(_, _) => Ok(false),
-        Part::Operator(expr) => put_operator(alloc, scope, marks, width, expr),
     }
 }

@@ -1,15 +1,25 @@
 -- A row by its arrow and both entries.
-use Rattle.std.proofs.Common.{◌≡◌, ◌++◌, None, refl, ap, ap₂, sym, ◌∙◌}
+use Rattle.std.proofs.Common.{◌≡◌, ◌++◌, Bool, true, false, not, None, refl, ap, ap₂, sym, ◌∙◌}
+use Rattle.std.proofs.Math.Bool.{beq}
+use Rattle.std.specs.Bool.{then_some}
 use Rattle.std.specs.Option.{is_some}
 use Rattle.abel_tree.specs.FirstRefusal.{earlier}
 use Rattle.abel_tree.proofs.FirstRefusals.{first_append}
 use Rattle.abel_tree.specs.View.{view}
 use Rattle.abel_meaning.specs.Terms.{term_of}
+use Rattle.set_expr.specs.declared.fault.SectionFault.{SectionFault}
 use Rattle.set_expr.specs.declared.fault.SectionFault.TheVariants.{BadRow}
+use Rattle.truth_tables.proofs.HeaderLaws.{first}
 use Rattle.set_expr.specs.SectionOrder.{section_order}
 use Rattle.section_targets.proofs.WalksBehind.{both_clear}
 use Rattle.truth_tables.specs.TableUnits.{arrow_refused, level_refused}
 use Rattle.truth_tables.proofs.checked_rows.read_row.Goals as goal
+
+arrow_first : (a b : Bool) (r : SectionFault) → then_some (not (beq b a)) r ≡ first (arrow_refused r a b)
+arrow_first true true r = refl
+arrow_first true false r = refl
+arrow_first false true r = refl
+arrow_first false false r = refl
 
 pub returns : goal.returns
 returns c d is =
@@ -23,11 +33,11 @@ returns c d is =
     let vs = level_refused d (BadRow row.place) o (view row.outputs) in
     let entries = λ (e : c.earlier.result ≡ None).
     both_clear c.in_ok-inputs.inputs.fault c.in_ok-outputs.outputs.fault
-    (ap is_some (sym c.earlier-entries.ensures ∙ (both_clear c.refuse_arrow-arrow.result c.earlier-entries.result (ap is_some (sym c.earlier.ensures ∙ e))).1)) in
+    (ap is_some (sym c.earlier-entries.ensures ∙ (both_clear c.then_some-arrow.result c.earlier-entries.result (ap is_some (sym c.earlier.ensures ∙ e))).1)) in
     record {
       place = refl;
       fault = c.earlier.ensures
-          ∙ ap₂ (earlier section_order) c.refuse_arrow-arrow.ensures
+          ∙ ap₂ (earlier section_order) (c.then_some-arrow.ensures ∙ arrow_first t.clocked row.clocked (BadRow row.place))
           (c.earlier-entries.ensures ∙ ap₂ (earlier section_order) ins.fault outs.fault ∙ sym (first_append section_order us vs))
           ∙ sym (first_append section_order (arrow_refused (BadRow row.place) t.clocked row.clocked) (us ++ vs));
       inputs_given = λ e. ins.given (entries e).0;

@@ -1,25 +1,63 @@
--- Refused inside, marked, and refused as a whole.
-use Rattle.std.proofs.Common.{subst}
+-- Refused inside, no pair left, a pair that doesn't meet, and one that does.
+use Rattle.std.proofs.Common.{◌≡◌, Option, None, Some, [], ◌∷◌, ◌++◌, map, refl, sym, ap, ◌∙◌, subst₂, arith}
+use Rattle.std.proofs.lemmas.Grind.{common_steps}
+use Rattle.pld_device.specs.SampleTable.{sample}
 use Rattle.abel_tree.specs.View.{view}
-use Rattle.abel_meaning.specs.Terms.{term_of}
-use Rattle.truth_tables.specs.EntryMarks.{IsMarked}
-use Rattle.truth_tables.proofs.ReadLaws.{read_refused, read_unmet, read_met}
+use Rattle.abel_meaning.specs.Terms.{Term, term_of}
+use Rattle.abel_meaning.proofs.RelationWords.{map_reverse}
+use Rattle.set_expr.specs.declared.fault.SectionFault.{SectionFault}
+use Rattle.set_expr.specs.Contexts.{context_for}
+use Rattle.truth_tables.specs.declared.part.Pair.{Pair}
+use Rattle.truth_tables.specs.EntryMarks.{view_mark}
+use Rattle.truth_tables.specs.PairTerms.{IsPair, meeting, seen}
+use Rattle.truth_tables.specs.PartCounts.{part_parts}
+use Rattle.truth_tables.specs.Stacks.{Walked}
+use Rattle.truth_tables.proofs.PartSums.{part_counted}
+use Rattle.truth_tables.proofs.ReadLaws.{read_met, read_refused, read_unmet}
+use Rattle.truth_tables.proofs.RowsWalked.{is_over}
+use Rattle.truth_tables.proofs.StackLaws.{walk_begun, walk_done, walk_fewer, walk_on, walk_stops}
 use Rattle.truth_tables.proofs.entries.read_entry.Goals as goal
+
+-- nothing is refused inside
+clear : (f : Option SectionFault) → ((x : SectionFault) → f ≡ Some x → ⊥) → f ≡ None
+clear None h = refl
+clear (Some x) h = absurd (h x refl)
 
 pub returns-in-Some : goal.returns-in-Some
 returns-in-Some c d is =
     read_refused c.args.scope.now d is c.args.row c.in-Some.fault (term_of d.known (view c.args.header.now)) (view c.args.entry.now) c.in_ok-inside.inside c.in_ok-inside.ensures c.in-Some.is
 
-pub returns-in-Some-found : goal.returns-in-Some-found
-returns-in-Some-found c d is =
-    let h = term_of d.known (view c.args.header.now) in
-    let t = view c.args.entry.now in
-    let m = subst (IsMarked d h (term_of d.known t)) c.in-Some-found.is (c.in_ok-found-in-None.ensures d is) in
-    (read_met c.args.scope.now d is c.args.row h t c.in_ok-inside.inside c.in_ok-inside.ensures c.in-None.is m.0, m.1)
+pub loop-pair-init : goal.loop-pair-init
+loop-pair-init c d is =
+    let t : Term × Term = (term_of d.known (view c.args.header.now), term_of d.known (view c.args.entry.now)) in
+    let pair : Pair = record { header = c.part_of.result; given = c.part_of-2.result } in
+    subst₂ (λ st ms. Walked (IsPair d) (meeting d) t st (seen ms)) (sym (c.in_ok-push.ensures.items ∙ ap (λ xs. xs ++ pair ∷ []) c.new-stack.ensures.items)) (sym c.new-marks.ensures.items)
+    (walk_begun (IsPair d) (meeting d) t pair (c.part_of.ensures d is, c.part_of-2.ensures d is))
 
-pub returns-in-None-found : goal.returns-in-None-found
-returns-in-None-found c d is =
+pub returns : goal.returns
+returns c d is =
+    let t : Term × Term = (term_of d.known (view c.args.header.now), term_of d.known (view c.args.entry.now)) in
+    let out = c.loop-pair.marks.items in
+    let empty : c.loop-pair.stack.items ≡ [] = grind (arith, common_steps) in
+    let w = walk_done (IsPair d) (meeting d) t c.loop-pair.stack.items (seen out) empty (c.loop-pair.invariant d is) in
+    let none = clear c.in_ok-inside.inside c.in_default.not-Some in (
+      read_met c.args.scope.now d is c.args.row t.0 (view c.args.entry.now) c.in_ok-inside.inside c.in_ok-inside.ensures none w.0,
+      ap (map view_mark) c.reverse.ensures.items ∙ map_reverse view_mark out ∙ sym w.1,
+    )
+
+pub returns-then-not-branch : goal.returns-then-not-branch
+returns-then-not-branch c d is =
     let h = term_of d.known (view c.args.header.now) in
-    let t = view c.args.entry.now in
-    let m = subst (IsMarked d h (term_of d.known t)) c.in-None-found.is (c.in_ok-found-in-None.ensures d is) in
-    read_unmet c.args.scope.now d is c.args.row h t c.in_ok-inside.inside c.in_ok-inside.ensures c.in-None.is m
+    read_unmet c.args.scope.now d is c.args.row h (view c.args.entry.now) c.in_ok-inside.inside c.in_ok-inside.ensures (clear c.in_ok-inside.inside c.in_default.not-Some)
+    (walk_stops (IsPair d) (meeting d) _ _ _ _ _ _ _ _ c.in-Some-pop.ensures.items (c.loop-pair.invariant d is) (λ u q. c.in_ok-step.ensures d u.0 u.1 is q.0 q.1) c.if-not-branch.true)
+
+pub loop-pair-preserved : goal.loop-pair-preserved
+loop-pair-preserved c d is =
+    walk_on (IsPair d) (meeting d) _ _ _ _ _ _ _ _ c.in-Some-pop.ensures.items (c.loop-pair.invariant d is) (λ u q. c.in_ok-step.ensures d u.0 u.1 is q.0 q.1) c.if-not-branch.false
+
+pub loop-pair-smaller : goal.loop-pair-smaller
+loop-pair-smaller c =
+    let n = c.args.scope.now in
+    let d = context_for sample n in
+    let is = is_over sample n in
+    walk_fewer (IsPair d) (meeting d) _ _ _ _ _ _ _ _ c.in-Some-pop.ensures.items (c.loop-pair.invariant d is) (λ u q. c.in_ok-step.ensures d u.0 u.1 is q.0 q.1) (λ (p : Pair). part_parts d.known p.header) (λ p u q. part_counted d p.header u.0 q.0) c.if-not-branch.false

@@ -6,15 +6,12 @@ use Rattle.section_targets.proofs.Built.{keeps_on}
 use Rattle.section_targets.proofs.MetWords.{low_bit}
 use Rattle.equations.proofs.BuiltUnits.{at}
 use Rattle.set_expr.specs.Given.{view_guard}
-use Rattle.truth_tables.proofs.GivenLaws.{named_at, no_left, no_step_at, no_work}
-use Rattle.truth_tables.proofs.WorkLaws.{begun_all, begun_done}
+use Rattle.truth_tables.proofs.GivenLaws.{named_at, no_left, no_step_at}
+use Rattle.truth_tables.proofs.WorkLaws.{left_done}
 use Rattle.truth_tables.proofs.giving.give_no_matches.Goals as goal
 
 pub loop-index-init : goal.loop-index-init
-loop-index-init c = (
-  λ i f e. e,
-  λ d e. begun_all (no_work d (view_guard (arena c.args.exprs.now) c.args.assigning.guard) c.args.assigning.clocked c.args.outputs.now) (at c.args.exprs.now c.args.list.now.items),
-)
+loop-index-init c = (λ i f e. e, λ d e later r k. k)
 
 pub give_position-requires-clause-signal : goal.give_position-requires-clause-signal
 give_position-requires-clause-signal c = named_at _ c.args.outputs.now c.loop-index.index c.loop-index-test.true c.requires
@@ -44,5 +41,5 @@ returns-clause-keeps c = c.loop-index.invariant.0
 
 pub returns-clause-gives : goal.returns-clause-gives
 returns-clause-gives c = λ d e.
-    begun_done _ _ (at c.args.exprs.now c.args.list.now.items) (at c.loop-index.exprs c.loop-index.list.items)
+    left_done _ _ (at c.args.exprs.now c.args.list.now.items) (at c.loop-index.exprs c.loop-index.list.items)
     (no_left d (view_guard (arena c.args.exprs.now) c.args.assigning.guard) c.args.assigning.clocked c.loop-index.index c.args.outputs.now (omega (arith, c.loop-index-test.false))) (c.loop-index.invariant.1 d e)

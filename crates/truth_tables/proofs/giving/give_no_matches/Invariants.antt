@@ -5,7 +5,7 @@ use Rattle.abel_tree.specs.Entries.{entries_of}
 use Rattle.abel_meaning.specs.Designs.{Context}
 use Rattle.set_expr.specs.Answer.{Keeps}
 use Rattle.set_expr.specs.Given.{view_guard}
-use Rattle.truth_tables.specs.Works.{IsBegun}
+use Rattle.truth_tables.proofs.WorkLaws.{IsLeft}
 use Rattle.truth_tables.proofs.GivenLaws.{no_work}
 use Rattle.truth_tables.proofs.giving.give_no_matches.Given as goal
 
@@ -13,6 +13,6 @@ abbrev pub invariant-loop-index : goal.invariant-loop-index
 invariant-loop-index l =
     Keeps (arena l.fn.exprs) (arena l.exprs)
     × ((d : Context) → d.names ≡ entries_of l.fn.scope
-    → IsBegun (no_work d (view_guard (arena l.fn.exprs) l.fn.assigning.guard) l.fn.assigning.clocked l.outputs)
+    → IsLeft (no_work d (view_guard (arena l.fn.exprs) l.fn.assigning.guard) l.fn.assigning.clocked l.outputs)
     (no_work d (view_guard (arena l.fn.exprs) l.fn.assigning.guard) l.fn.assigning.clocked (drop l.index l.outputs))
     (record { exprs = l.fn.exprs; list = l.fn.list.items }) (record { exprs = l.exprs; list = l.list.items }))

@@ -1,40 +1,85 @@
 -- What a level gives, and a match behind it.
-use Rattle.std.proofs.Common.{[], ◌∷◌, Err, length, sym, subst}
+use Rattle.std.proofs.Common.{◌≡◌, ◌<◌, Bool, Option, Some, List, [], ◌∷◌, Err, length, sym, ap, ap₂, ◌∙◌, subst, subst₂}
+use Rattle.std.specs.Global.{Vec}
 use Rattle.std.proofs.lemmas.Result.{err_from_is_err_and}
+use Rattle.bit_expr.specs.declared.node.ExprId.{ExprId}
+use Rattle.bit_expr.specs.declared.node.Node.{Node}
 use Rattle.bit_expr.specs.Arena.{arena}
 use Rattle.abel_tree.specs.Entries.{entries_of}
+use Rattle.abel_meaning.specs.Designs.{Context}
+use Rattle.abel_meaning.specs.Tables.{level_gives}
+use Rattle.set_expr.specs.declared.contributions.Contribution.{Contribution}
+use Rattle.set_expr.specs.declared.contributions.Contributions.{Contributions}
+use Rattle.set_expr.specs.declared.contributions.Guard.{Guard}
+use Rattle.section_targets.specs.declared.aim.Aim.{Aim}
+use Rattle.section_targets.specs.Building.{IsBuilt, StopsWith}
 use Rattle.section_targets.specs.Given.{AreNamed}
-use Rattle.section_targets.proofs.Built.{kept_formula, kept_inside, keeps_on}
+use Rattle.section_targets.proofs.Built.{builds_none, kept_formula, kept_inside}
 use Rattle.equations.proofs.BuiltUnits.{at}
-use Rattle.truth_tables.specs.Gives.{GivesPosition}
+use Rattle.truth_tables.specs.Gives.{GivesPosition, matched_guard, value_places}
 use Rattle.truth_tables.specs.TableUnits.{some_aims}
 use Rattle.truth_tables.proofs.GivenLaws.{level_given, level_stops, named_one}
+use Rattle.truth_tables.proofs.giving.give_position.Goals.{in-None-level+in_ok-give_output-in-None-level, in-Some-true+in_ok-give_output-in-Some-true, in-Some-false}
 use Rattle.truth_tables.proofs.giving.give_position.Goals as goal
-
-pub give_value-requires-clause-signal : goal.give_value-requires-clause-signal
-give_value-requires-clause-signal c = named_one _ c.in-Some.aim (subst (λ x. AreNamed (length (entries_of c.args.matching.now.scope.now)) (some_aims (x ∷ []))) c.in-Some.is c.requires.signal)
-
-pub returns-in_err-give_value-in-Some-clause-gives : goal.returns-in_err-give_value-in-Some-clause-gives
-returns-in_err-give_value-in-Some-clause-gives c =
-    let p = err_from_is_err_and c.from_residual.result c.from_residual.ensures.1 in
-    let m = c.args.matching.now in
-    let f = c.in_err-give_value-in-Some.field-0.0 in
-    rw (p.1, p.2)
-    (subst (λ x. GivesPosition m.scope.now m.assigning x c.args.level m.bit c.args.exprs.now c.give_value.new.exprs c.args.list.now.items c.give_value.new.list.items (Err f)) (sym c.in-Some.is)
-    (λ d e. level_stops d m.assigning.guard m.assigning.clocked c.in-Some.aim c.args.level m.bit (at c.args.exprs.now c.args.list.now.items) (at c.give_value.new.exprs c.give_value.new.list.items) f (c.in_err-give_value-in-Some.ensures.gives d e)))
 
 pub give_output-requires-clause-signal : goal.give_output-requires-clause-signal
 give_output-requires-clause-signal c = named_one _ c.in-Some.aim (subst (λ x. AreNamed (length (entries_of c.args.matching.now.scope.now)) (some_aims (x ∷ []))) c.in-Some.is c.requires.signal)
 
-pub give_output-requires-clause-bit : goal.give_output-requires-clause-bit
-give_output-requires-clause-bit c = kept_inside _ _ c.args.matching.now.bit c.in_ok-give_value-in-Some.ensures.keeps c.requires.bit
-
-pub returns-in_ok-give_value-in-Some-clause-keeps : goal.returns-in_ok-give_value-in-Some-clause-keeps
-returns-in_ok-give_value-in-Some-clause-keeps c = keeps_on _ _ _ c.in_ok-give_value-in-Some.ensures.keeps c.give_output.ensures.keeps
-
-pub returns-in_ok-give_value-in-Some-clause-gives : goal.returns-in_ok-give_value-in-Some-clause-gives
-returns-in_ok-give_value-in-Some-clause-gives c =
+pub returns-in_err-give_output-in-None-level-clause-gives : goal.returns-in_err-give_output-in-None-level-clause-gives
+returns-in_err-give_output-in-None-level-clause-gives c =
+    let p = err_from_is_err_and c.from_residual.result c.from_residual.ensures.1 in
     let m = c.args.matching.now in
-    let k = kept_formula (arena c.args.exprs.now) (arena c.give_value.new.exprs) m.bit c.in_ok-give_value-in-Some.ensures.keeps c.requires.bit in
-    subst (λ x. GivesPosition m.scope.now m.assigning x c.args.level m.bit c.args.exprs.now c.give_output.new.exprs c.args.list.now.items c.give_output.new.list.items c.give_output.result) (sym c.in-Some.is)
-    (λ d e. level_given d m.assigning.guard m.assigning.clocked c.in-Some.aim c.args.level m.bit (at c.args.exprs.now c.args.list.now.items) (at c.give_value.new.exprs c.give_value.new.list.items) (at c.give_output.new.exprs c.give_output.new.list.items) c.give_output.result k (c.in_ok-give_value-in-Some.ensures.gives d e) (c.give_output.ensures.gives d e))
+    let a = c.in-Some.aim in
+    let f = c.in_err-give_output-in-None-level.field-0.0 in
+    let old = at c.args.exprs.now c.args.list.now.items in
+    let new = at c.give_output.new.exprs c.give_output.new.list.items in
+    rw (p.1, p.2)
+    (subst (λ x. GivesPosition m.scope.now m.assigning x c.args.level m.bit old.exprs new.exprs old.list new.list (Err f)) (sym c.in-Some.is)
+    (λ d e. level_stops d m.assigning.guard m.assigning.clocked a c.args.level m.bit old new f
+    (subst (λ l. StopsWith [] (level_gives d (matched_guard (arena old.exprs) m.assigning.guard m.bit) m.assigning.clocked a.signal l) (value_places a l) old new f) (sym c.in-None-level.is) (c.in_err-give_output-in-None-level.ensures.gives d e))))
+
+pub returns-in_err-give_output-in-Some-true-clause-gives : goal.returns-in_err-give_output-in-Some-true-clause-gives
+returns-in_err-give_output-in-Some-true-clause-gives c =
+    let r = c.from_residual-in_err-give_output-in-Some-true in
+    let p = err_from_is_err_and r.result r.ensures.1 in
+    let m = c.args.matching.now in
+    let a = c.in-Some.aim in
+    let f = c.in_err-give_output-in-Some-true.field-0.0 in
+    let old = at c.args.exprs.now c.args.list.now.items in
+    let new = at c.give_output-in-Some-true.new.exprs c.give_output-in-Some-true.new.list.items in
+    rw (p.1, p.2)
+    (subst (λ x. GivesPosition m.scope.now m.assigning x c.args.level m.bit old.exprs new.exprs old.list new.list (Err f)) (sym c.in-Some.is)
+    (λ d e. level_stops d m.assigning.guard m.assigning.clocked a c.args.level m.bit old new f
+    (subst (λ l. StopsWith [] (level_gives d (matched_guard (arena old.exprs) m.assigning.guard m.bit) m.assigning.clocked a.signal l) (value_places a l) old new f) (sym (c.in-Some-true.is ∙ ap Some c.in-Some-true.field-0-test)) (c.in_err-give_output-in-Some-true.ensures.gives d e))))
+
+pub give_output-requires-in-Some-clause-bit : goal.give_output-requires-in-Some-clause-bit
+give_output-requires-in-Some-clause-bit c =
+    let id = c.args.matching.now.bit in
+    elim c.match-level.branch [
+      | in-None-level+in_ok-give_output-in-None-level w ↦ subst (λ (ns : List Node). id.0 < length (arena ns)) (sym w.exprs-is) (kept_inside _ _ id w.in_ok-give_output-in-None-level.ensures.keeps c.requires.bit)
+      | in-Some-true+in_ok-give_output-in-Some-true w ↦ subst (λ (ns : List Node). id.0 < length (arena ns)) (sym w.exprs-is) (kept_inside _ _ id w.in_ok-give_output-in-Some-true.ensures.keeps c.requires.bit)
+      | in-Some-false w ↦ subst (λ (ns : List Node). id.0 < length (arena ns)) (sym w.exprs-is) c.requires.bit
+    ]
+
+-- what a level gives is there
+abbrev ValueBuilt : Context → Guard → Bool → Aim → ExprId → (old : Contributions) → Option Bool → Contributions → Type 0
+ValueBuilt d g k a id old l now = IsBuilt [] (level_gives d (matched_guard (arena old.exprs) g id) k a.signal l) (value_places a l) old now
+
+same_at : {ns os : List Node} {l m : Vec Contribution} → ns ≡ os → l ≡ m → at os m.items ≡ at ns l.items
+same_at e f = sym (ap₂ (λ (x : List Node) (y : Vec Contribution). at x y.items) e f)
+
+pub returns-after-level-clause-gives : goal.returns-after-level-clause-gives
+returns-after-level-clause-gives c =
+    let m = c.args.matching.now in
+    let a = c.in-Some.aim in
+    let old = at c.args.exprs.now c.args.list.now.items in
+    let mid = at c.match-level.exprs c.match-level.list.items in
+    let new = at c.give_output-in-Some.new.exprs c.give_output-in-Some.new.list.items in
+    subst (λ x. GivesPosition m.scope.now m.assigning x c.args.level m.bit old.exprs new.exprs old.list new.list c.give_output-in-Some.result) (sym c.in-Some.is)
+    (λ d e.
+    let value : ValueBuilt d m.assigning.guard m.assigning.clocked a m.bit old c.args.level mid = elim c.match-level.branch [
+      | in-None-level+in_ok-give_output-in-None-level w ↦ subst₂ (ValueBuilt d m.assigning.guard m.assigning.clocked a m.bit old) (sym w.in-None-level.is) (same_at w.exprs-is w.list-is) (w.in_ok-give_output-in-None-level.ensures.gives d e)
+      | in-Some-true+in_ok-give_output-in-Some-true w ↦ subst₂ (ValueBuilt d m.assigning.guard m.assigning.clocked a m.bit old) (sym (w.in-Some-true.is ∙ ap Some w.in-Some-true.field-0-test)) (same_at w.exprs-is w.list-is) (w.in_ok-give_output-in-Some-true.ensures.gives d e)
+      | in-Some-false w ↦ subst₂ (ValueBuilt d m.assigning.guard m.assigning.clocked a m.bit old) (sym (w.in-Some-false.is ∙ ap Some w.in-Some-false.field-0-test)) (same_at w.exprs-is w.list-is) (builds_none old)
+    ] in
+    level_given d m.assigning.guard m.assigning.clocked a c.args.level m.bit old mid new c.give_output-in-Some.result (kept_formula _ _ m.bit value.made.grew.keeps c.requires.bit) value (c.give_output-in-Some.ensures.gives d e))

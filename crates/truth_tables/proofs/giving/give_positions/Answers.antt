@@ -5,14 +5,12 @@ use Rattle.bit_expr.specs.Arena.{arena}
 use Rattle.section_targets.proofs.Built.{kept_formula, kept_inside, keeps_on}
 use Rattle.equations.proofs.BuiltUnits.{at}
 use Rattle.truth_tables.specs.Gives.{matched_guard}
-use Rattle.truth_tables.proofs.GivenLaws.{named_at, positions_left, positions_step_at, positions_work}
-use Rattle.truth_tables.proofs.WorkLaws.{begun_all, begun_done}
+use Rattle.truth_tables.proofs.GivenLaws.{named_at, positions_left, positions_step_at}
+use Rattle.truth_tables.proofs.WorkLaws.{left_done}
 use Rattle.truth_tables.proofs.giving.give_positions.Goals as goal
 
 pub loop-index-init : goal.loop-index-init
-loop-index-init c =
-    let m = c.args.matching.now in
-    (λ i f e. e, λ d e. begun_all (positions_work d (matched_guard (arena c.args.exprs.now) m.assigning.guard m.bit) m.assigning.clocked c.args.outputs.now c.args.levels.now) (at c.args.exprs.now c.args.list.now.items))
+loop-index-init c = (λ i f e. e, λ d e later r k. k)
 
 pub give_position-requires-clause-signal : goal.give_position-requires-clause-signal
 give_position-requires-clause-signal c = named_at _ c.args.outputs.now c.loop-index.index (omega (arith, c.loop-index-test.true, c.min-count.ensures)) c.requires.signals
@@ -51,4 +49,4 @@ returns-clause-gives c = λ d e.
     let m = c.args.matching.now in
     let h = matched_guard (arena c.args.exprs.now) m.assigning.guard m.bit in
     let le : min (length c.args.outputs.now) (length c.args.levels.now) ≤ c.loop-index.index = omega (arith, c.loop-index-test.false, c.min-count.ensures) in
-    begun_done _ _ (at c.args.exprs.now c.args.list.now.items) (at c.loop-index.exprs c.loop-index.list.items) (positions_left d h m.assigning.clocked c.loop-index.index c.args.outputs.now c.args.levels.now le) (c.loop-index.invariant.1 d e)
+    left_done _ _ (at c.args.exprs.now c.args.list.now.items) (at c.loop-index.exprs c.loop-index.list.items) (positions_left d h m.assigning.clocked c.loop-index.index c.args.outputs.now c.args.levels.now le) (c.loop-index.invariant.1 d e)

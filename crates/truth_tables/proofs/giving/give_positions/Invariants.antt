@@ -5,7 +5,7 @@ use Rattle.abel_tree.specs.Entries.{entries_of}
 use Rattle.abel_meaning.specs.Designs.{Context}
 use Rattle.set_expr.specs.Answer.{Keeps}
 use Rattle.truth_tables.specs.Gives.{matched_guard}
-use Rattle.truth_tables.specs.Works.{IsBegun}
+use Rattle.truth_tables.proofs.WorkLaws.{IsLeft}
 use Rattle.truth_tables.proofs.GivenLaws.{positions_work}
 use Rattle.truth_tables.proofs.giving.give_positions.Given as goal
 
@@ -13,6 +13,6 @@ abbrev pub invariant-loop-index : goal.invariant-loop-index
 invariant-loop-index l =
     Keeps (arena l.fn.exprs) (arena l.exprs)
     × ((d : Context) → d.names ≡ entries_of l.matching.scope.now
-    → IsBegun (positions_work d (matched_guard (arena l.fn.exprs) l.matching.assigning.guard l.matching.bit) l.matching.assigning.clocked l.outputs l.levels)
+    → IsLeft (positions_work d (matched_guard (arena l.fn.exprs) l.matching.assigning.guard l.matching.bit) l.matching.assigning.clocked l.outputs l.levels)
     (positions_work d (matched_guard (arena l.fn.exprs) l.matching.assigning.guard l.matching.bit) l.matching.assigning.clocked (drop l.index l.outputs) (drop l.index l.levels))
     (record { exprs = l.fn.exprs; list = l.fn.list.items }) (record { exprs = l.exprs; list = l.list.items }))

@@ -1,59 +1,98 @@
--- What each variant is refused as, and one member more.
-use Rattle.std.proofs.Common.{◌≡◌, ◌+◌, ◌-◌, ◌++◌, None, Some, [], ◌∷◌, length, refl, ap, ap₂, sym, ◌∙◌, subst, take, map, arith}
+-- What each variant is refused as, and one member or name more.
+use Rattle.std.proofs.Common.{◌≡◌, ◌+◌, ◌-◌, ◌++◌, Some, [], ◌∷◌, length, refl, ap, ap₂, sym, ◌∙◌, subst, take, map, arith}
 use Rattle.std.proofs.lemmas.List.{length-append}
 use Rattle.std.proofs.lemmas.Result.{IfOk-weaker}
 use Rattle.pld_device.specs.SampleTable.{sample}
-use Rattle.abel_tree.specs.Tree.{ASet, members_of}
+use Rattle.abel_tree.specs.Tree.{AName, ASet, members_of}
 use Rattle.abel_tree.specs.View.{view, view_member}
 use Rattle.set_expr.specs.declared.fault.SectionFault.TheVariants.{NotAnOutput}
 use Rattle.set_expr.specs.Answer.{first_place}
 use Rattle.set_expr.specs.Contexts.{context_for}
 use Rattle.set_expr.proofs.FoundMembers.{front_more, whole_front}
+use Rattle.abel_tree.specs.Entries.{find}
+use Rattle.abel_tree.specs.Ranges.{range_names}
+use Rattle.name_uses.specs.RangeParts.{name_items}
+use Rattle.section_targets.proofs.OverNames.{found_in}
 use Rattle.section_targets.specs.TargetSignals.{first_name}
-use Rattle.expr_bits.proofs.Views.{view_number, view_set, view_unary, view_binary}
-use Rattle.truth_tables.specs.OutputHeaders.{header_of, refused_header, header_set, output_header, output_member, output_members}
+use Rattle.expr_bits.proofs.Views.{view_name, view_number, view_set, view_span, view_unary, view_binary}
+use Rattle.truth_tables.specs.OutputHeaders.{header_of, header_name, header_range, header_set, output_header, output_member, output_members}
 use Rattle.truth_tables.specs.Headers.{IsAdded}
-use Rattle.truth_tables.proofs.HeaderLaws.{added_more, added_none, added_whole, members_more}
+use Rattle.truth_tables.proofs.HeaderLaws.{added_more, added_none, added_refused, added_whole, members_more, range_more}
 use Rattle.truth_tables.proofs.RowsWalked.{is_over}
 use Rattle.truth_tables.proofs.headings.+headings.Goals as goal
 
 pub push_outputs-returns-in-Number : goal.push_outputs-returns-in-Number
-push_outputs-returns-in-Number t c d is =
-    let xs = c.args.outputs.now.items in
-    subst (λ e. IsAdded (output_header d e) (Some (NotAnOutput c.in-Number.number.place None)) xs xs) (sym (ap view c.in-Number.is ∙ view_number c.in-Number.number))
-    (added_none (refused_header (NotAnOutput c.in-Number.number.place None)) _ xs refl refl)
+push_outputs-returns-in-Number t c d is = added_refused d _ _ _ _ c.args.outputs.now.items (ap view c.in-Number.is ∙ view_number c.in-Number.number) refl refl
 
 pub push_outputs-returns-in-Some : goal.push_outputs-returns-in-Some
 push_outputs-returns-in-Some t c d is =
-    let xs = c.args.outputs.now.items in
-    subst (λ e. IsAdded (output_header d e) (Some (NotAnOutput c.in-Set.place None)) xs xs)
-    (sym (ap view c.in-Set.is ∙ view_set c.in-Set.place c.in-Set.members c.in-Set.extension ∙ ap (λ e. ASet c.in-Set.place (members_of (map view_member c.in-Set.members)) e) c.in-Some.is))
-    (added_none (refused_header (NotAnOutput c.in-Set.place None)) _ xs refl refl)
+    let w = c.in-Name.word in
+    added_refused d _ (AName w (Some c.in-Some.field-0)) _ _ c.args.outputs.now.items
+    (ap view c.in-Name.is ∙ view_name w c.in-Name.extension ∙ ap (AName w) c.in-Some.is) refl
+    (ap (NotAnOutput w.place) (found_in _ is.names c.number_of-number.ensures ∙ ap (find d.names) c.bytes.ensures))
 
 pub push_outputs-returns-in-None : goal.push_outputs-returns-in-None
 push_outputs-returns-in-None t c =
+    IfOk-weaker c.push_name.result _ _
+    (λ f k d is.
+    let w = c.in-Name.word in
+    let old = c.args.outputs.now.items in
+    let now = c.push_name.new.outputs.items in
+    subst (λ e. IsAdded (output_header d e) f old now) (sym (ap view c.in-Name.is ∙ view_name w c.in-Name.extension ∙ ap (AName w) c.in-None.is))
+    (subst (λ text. IsAdded (header_name d w.place text) f old now) c.bytes-in-None.ensures (k d is)))
+    c.push_name.ensures
+
+pub push_outputs-returns-in-Some-extension : goal.push_outputs-returns-in-Some-extension
+push_outputs-returns-in-Some-extension t c d is =
+    let ms = members_of (map view_member c.in-Set.members) in
+    added_refused d _ (ASet c.in-Set.place ms (Some c.in-Some-extension.field-0)) _ _ c.args.outputs.now.items
+    (ap view c.in-Set.is ∙ view_set c.in-Set.place c.in-Set.members c.in-Set.extension ∙ ap (ASet c.in-Set.place ms) c.in-Some-extension.is) refl refl
+
+pub push_outputs-returns-in-None-extension : goal.push_outputs-returns-in-None-extension
+push_outputs-returns-in-None-extension t c =
     IfOk-weaker c.push_set.result _ _
     (λ f k d is.
     let old = c.args.outputs.now.items in
     let now = c.push_set.new.outputs.items in
     subst (λ e. IsAdded (output_header d e) f old now)
-    (sym (ap view c.in-Set.is ∙ view_set c.in-Set.place c.in-Set.members c.in-Set.extension ∙ ap (λ e. ASet c.in-Set.place (members_of (map view_member c.in-Set.members)) e) c.in-None.is))
+    (sym (ap view c.in-Set.is ∙ view_set c.in-Set.place c.in-Set.members c.in-Set.extension ∙ ap (λ e. ASet c.in-Set.place (members_of (map view_member c.in-Set.members)) e) c.in-None-extension.is))
     (subst (λ ms. IsAdded (header_set c.in-Set.place (output_members d (members_of (map view_member ms)))) f old now) c.as_slice.ensures (k d is)))
     c.push_set.ensures
 
 pub push_outputs-returns-in-Unary : goal.push_outputs-returns-in-Unary
-push_outputs-returns-in-Unary t c d is =
-    let xs = c.args.outputs.now.items in
-    subst (λ e. IsAdded (output_header d e) (Some (NotAnOutput c.in-Unary.place None)) xs xs) (sym (ap view c.in-Unary.is ∙ view_unary c.in-Unary.sign c.in-Unary.place c.in-Unary.inner))
-    (added_none (refused_header (NotAnOutput c.in-Unary.place None)) _ xs refl refl)
+push_outputs-returns-in-Unary t c d is = added_refused d _ _ _ _ c.args.outputs.now.items (ap view c.in-Unary.is ∙ view_unary c.in-Unary.sign c.in-Unary.place c.in-Unary.inner) refl refl
 
 pub push_outputs-returns-in-Binary : goal.push_outputs-returns-in-Binary
 push_outputs-returns-in-Binary t c d is =
-    let xs = c.args.outputs.now.items in
     let v = ap view c.in-Binary.is ∙ view_binary c.in-Binary.sign c.in-Binary.place c.in-Binary.left c.in-Binary.right in
-    subst (λ e. IsAdded (output_header d e) (Some c.refuse_operator.result) xs xs) (sym v)
-    (added_none _ _ xs
-    (ap Some (c.refuse_operator.ensures ∙ ap (λ es. NotAnOutput (first_place (view c.args.expr.now)) (first_name es (view c.args.expr.now))) (sym is.names) ∙ ap (λ e. NotAnOutput (first_place e) (first_name d.names e)) v)) refl)
+    added_refused d _ _ _ _ c.args.outputs.now.items v refl
+    (c.refuse_operator.ensures ∙ ap (λ es. NotAnOutput (first_place (view c.args.expr.now)) (first_name es (view c.args.expr.now))) (sym is.names) ∙ ap (λ e. NotAnOutput (first_place e) (first_name d.names e)) v)
+
+pub push_member-loop-text-init : goal.push_member-loop-text-init
+push_member-loop-text-init t c d is = added_none (header_of []) _ c.args.outputs.now.items refl refl
+
+pub push_member-loop-text-preserved : goal.push_member-loop-text-preserved
+push_member-loop-text-preserved t c d is =
+    let p = c.in-Span.first.place in
+    let items = c.deref-text-items.result.now in
+    let before = map name_items (take c.loop-text.text-index items) in
+    let n = name_items c.text-item.result in
+    let here : map name_items (take (c.loop-text.text-index + 1) items) ≡ before ++ n ∷ [] = front_more name_items items c.loop-text.text-index c.text-item.result c.loop-text-test.true c.text-item.is in
+    let old = c.args.outputs.now.items in
+    let now = c.push_name.new.outputs.items in
+    subst (λ x. IsAdded x c.earlier-fault.result old now) (range_more d p before n ∙ ap (header_range d p) (sym here))
+    (added_more (header_range d p before) (header_name d p n) c.loop-text.fault c.in_ok-found-in-Span.found c.earlier-fault.result old c.loop-text.outputs.items now (c.loop-text.invariant d is)
+    (subst (λ w. IsAdded (header_name d p w) c.in_ok-found-in-Span.found c.loop-text.outputs.items now) c.as_slice.ensures.value (c.in_ok-found-in-Span.ensures d is)) c.earlier-fault.ensures)
+
+pub push_member-returns-after-loop-text : goal.push_member-returns-after-loop-text
+push_member-returns-after-loop-text t c d is =
+    let old = c.args.outputs.now.items in
+    let now = c.loop-text.outputs.items in
+    let all : map name_items (take c.loop-text.text-index c.deref-text-items.result.now) ≡ range_names c.in-Span.first.text c.in-Span.last.text =
+    whole_front name_items c.deref-text-items.result.now c.loop-text.text-index c.loop-text-test.false
+    ∙ (ap (map name_items) c.deref-text-items.ensures.value ∙ (c.in_ok-texts-in-Span.ensures ∙ ap₂ range_names c.bytes.ensures c.bytes-in-Span.ensures)) in
+    subst (λ m. IsAdded (output_member d m) c.loop-text.fault old now) (sym (ap view_member c.in-Span.is ∙ view_span c.in-Span.first c.in-Span.last))
+    (subst (λ names. IsAdded (header_range d c.in-Span.first.place names) c.loop-text.fault old now) all (c.loop-text.invariant d is))
 
 pub push_set-loop-member-init : goal.push_set-loop-member-init
 push_set-loop-member-init t c d is = added_none (header_of []) _ c.args.outputs.now.items refl refl
@@ -71,8 +110,8 @@ push_set-loop-member-preserved t c d is =
     (added_more (output_members d (members_of (map view_member (take i ms)))) (output_member d m) c.loop-member.fault c.in_ok-found.found c.earlier-fault.result old c.loop-member.outputs.items now (c.loop-member.invariant d is) (c.in_ok-found.ensures d is) c.earlier-fault.ensures)
 
 -- the positions before the set stay
-pub push_set-overflow_sub-len : goal.push_set-overflow_sub-len
-push_set-overflow_sub-len t c =
+pub push_set-overflow_sub-width : goal.push_set-overflow_sub-width
+push_set-overflow_sub-width t c =
     let n = c.args.scope.now in
     let x = output_members (context_for sample n) (members_of (map view_member (take c.loop-member.member-index c.args.members.now))) in
     let old : c.len-before.result ≡ length c.args.outputs.now.items = c.len-before.ensures ∙ c.args.outputs.now.ok.0 in
@@ -86,5 +125,5 @@ push_set-returns t c d is =
     let all = whole_front view_member ms c.loop-member.member-index c.loop-member-test.false in
     let old = c.args.outputs.now.items in
     let now = c.loop-member.outputs.items in
-    added_whole c.args.place (output_members d (members_of (map view_member ms))) c.loop-member.fault c.refuse_wide-wide.result c.earlier.result old now _
-    (subst (λ xs. IsAdded (output_members d (members_of xs)) c.loop-member.fault old now) all (c.loop-member.invariant d is)) (ap₂ (λ m n. m - n) (c.len.ensures ∙ c.loop-member.outputs.ok.0) (c.len-before.ensures ∙ c.args.outputs.now.ok.0)) c.refuse_wide-wide.ensures c.earlier.ensures
+    added_whole c.args.place (output_members d (members_of (map view_member ms))) c.loop-member.fault c.then_some-wide.result c.earlier.result old now _
+    (subst (λ xs. IsAdded (output_members d (members_of xs)) c.loop-member.fault old now) all (c.loop-member.invariant d is)) (ap₂ (λ m n. m - n) (c.len.ensures ∙ c.loop-member.outputs.ok.0) (c.len-before.ensures ∙ c.args.outputs.now.ok.0)) c.then_some-wide.ensures c.earlier.ensures

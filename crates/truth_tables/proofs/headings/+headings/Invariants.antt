@@ -1,10 +1,11 @@
--- So many members are added.
+-- So many members or names are added.
 use Rattle.std.proofs.Common.{take, map}
 use Rattle.abel_tree.specs.Tree.{members_of}
 use Rattle.abel_tree.specs.View.{view_member}
 use Rattle.abel_meaning.specs.Designs.{Context}
+use Rattle.name_uses.specs.RangeParts.{name_items}
 use Rattle.truth_tables.specs.EntryTerms.{IsOver}
-use Rattle.truth_tables.specs.OutputHeaders.{output_members}
+use Rattle.truth_tables.specs.OutputHeaders.{header_range, output_members}
 use Rattle.truth_tables.specs.Headers.{IsAdded}
 use Rattle.truth_tables.proofs.headings.+headings.Given as goal
 
@@ -12,3 +13,8 @@ abbrev pub invariant-push_set-loop-member : goal.invariant-push_set-loop-member
 invariant-push_set-loop-member l =
     (d : Context) → IsOver l.scope d
     → IsAdded (output_members d (members_of (map view_member (take l.member-index l.members)))) l.fault l.fn.outputs.items l.outputs.items
+
+abbrev pub invariant-push_member-loop-text : goal.invariant-push_member-loop-text
+invariant-push_member-loop-text l =
+    (d : Context) → IsOver l.scope d
+    → IsAdded (header_range d l.first.place (map name_items (take l.text-index l.text-items))) l.fault l.fn.outputs.items l.outputs.items

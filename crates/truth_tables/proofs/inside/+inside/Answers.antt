@@ -1,15 +1,18 @@
--- One member more, and all members.
+-- One member or name more, and all of them.
 use Rattle.std.proofs.Common.{◌≡◌, ◌+◌, [], ◌∷◌, ◌++◌, map, take, sym, ap, ap₂, ◌∙◌}
 use Rattle.abel_tree.specs.Entries.{entries_of}
 use Rattle.abel_tree.specs.FirstRefusal.{earlier, first_refusal}
 use Rattle.abel_tree.proofs.FirstRefusals.{first_append}
+use Rattle.abel_tree.specs.Ranges.{range_names}
 use Rattle.abel_tree.specs.Tree.{members_of}
 use Rattle.abel_tree.specs.View.{view, view_member}
-use Rattle.set_expr.specs.FoundNames.{names_found}
+use Rattle.set_expr.specs.FoundNames.{name_found, names_found}
+use Rattle.name_uses.specs.RangeParts.{name_items}
 use Rattle.set_expr.specs.SectionOrder.{section_order}
 use Rattle.set_expr.proofs.FoundMembers.{front_more, whole_front}
-use Rattle.truth_tables.specs.RowEntries.{refused_inside, all_refused_inside, member_refused_inside}
-use Rattle.truth_tables.proofs.EntryParts.{inside_more, inside_set}
+use Rattle.truth_tables.specs.RowEntries.{refused_inside, all_refused_inside, member_refused_inside, names_refused}
+use Rattle.expr_bits.proofs.Views.{view_span}
+use Rattle.truth_tables.proofs.EntryParts.{inside_more, inside_set, names_more}
 use Rattle.truth_tables.proofs.inside.+inside.Goals as goal
 
 pub refuse_inside-loop-member-preserved : goal.refuse_inside-loop-member-preserved
@@ -34,3 +37,24 @@ refuse_inside-returns-after-loop-member t c =
     c.loop-member.invariant
     ∙ ap (λ xs. first_refusal section_order (all_refused_inside ns r (members_of xs))) all
     ∙ sym (ap (λ e. first_refusal section_order (refused_inside ns r (view e))) c.in-Set.is ∙ ap (first_refusal section_order) (inside_set c.in-Set.place c.in-Set.members c.in-Set.extension ns r))
+
+pub refuse_member-loop-name-preserved : goal.refuse_member-loop-name-preserved
+refuse_member-loop-name-preserved t c =
+    let ns = names_found (entries_of c.args.scope.now) in
+    let items = c.deref-name-items.result.now in
+    let before = map name_items (take c.loop-name.name-index items) in
+    let n = name_items c.name-item.result in
+    let here : map name_items (take (c.loop-name.name-index + 1) items) ≡ before ++ n ∷ [] = front_more name_items items c.loop-name.name-index c.name-item.result c.loop-name-test.true c.name-item.is in
+    c.earlier-fault.ensures
+    ∙ ap₂ (earlier section_order) (c.loop-name.invariant) (c.refuse_name.ensures ∙ ap (λ w. first_refusal section_order (name_found ns w).found.refusals) c.as_slice.ensures.value)
+    ∙ sym (ap (λ names. first_refusal section_order (names_refused ns names)) here ∙ ap (first_refusal section_order) (names_more ns before n) ∙ first_append section_order (names_refused ns before) (name_found ns n).found.refusals)
+
+pub refuse_member-returns-after-loop-name : goal.refuse_member-returns-after-loop-name
+refuse_member-returns-after-loop-name t c =
+    let ns = names_found (entries_of c.args.scope.now) in
+    let all : map name_items (take c.loop-name.name-index c.deref-name-items.result.now) ≡ range_names c.in-Span.first.text c.in-Span.last.text =
+    whole_front name_items c.deref-name-items.result.now c.loop-name.name-index c.loop-name-test.false
+    ∙ (ap (map name_items) c.deref-name-items.ensures.value ∙ (c.in_ok-names-in-Span.ensures ∙ ap₂ range_names c.bytes.ensures c.bytes-in-Span.ensures)) in
+    c.loop-name.invariant
+    ∙ ap (λ names. first_refusal section_order (names_refused ns names)) all
+    ∙ ap (λ m. first_refusal section_order (member_refused_inside ns c.args.row m)) (sym (ap view_member c.in-Span.is ∙ view_span c.in-Span.first c.in-Span.last))

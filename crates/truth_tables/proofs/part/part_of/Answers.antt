@@ -1,4 +1,4 @@
--- Names, sets and operators, under the extension that counts.
+-- Names, sets, specials and operators, under the extension that counts.
 use Rattle.std.proofs.Common.{◌≡◌, ℕ, Option, List, map, sym, ap, ap₂, ◌∙◌, subst}
 use Rattle.abel_tree.specs.declared.expressions.Expr.{Expr}
 use Rattle.abel_tree.specs.declared.expressions.Expr as expr
@@ -10,15 +10,16 @@ use Rattle.abel_tree.specs.Tree.{members_of}
 use Rattle.abel_tree.specs.View.{view, view_member}
 use Rattle.abel_meaning.specs.Terms.{Known, Term, Set, term_of, terms_of, term_named, extended_if}
 use Rattle.truth_tables.specs.PartTerms.{IsPart, is_operand}
-use Rattle.expr_bits.proofs.Views.{view_name, view_set, view_unary, view_binary}
-use Rattle.truth_tables.proofs.PartLaws.{inner_extended}
+use Rattle.expr_bits.proofs.Views.{view_name, view_set, view_special, view_unary, view_binary}
+use Rattle.expr_bits.proofs.Coming.{special_extended}
+use Rattle.expr_bits.proofs.Extensions.{innermost_wins}
 use Rattle.truth_tables.proofs.part.part_of.Goals as goal
 
 named : (ks : List Known) (x : Expr) (word : Word) (own before now : Option Extension) (text : List ℕ) → x ≡ expr.Name word own → now ≡ innermost own before → text ≡ word.text → extended_if before (term_of ks (view x)) ≡ extended_if now (term_named ks text)
 named ks x word own before now text e i t =
     ap (λ x. extended_if before (term_of ks (view x))) e
     ∙ ap (λ y. extended_if before (term_of ks y)) (view_name word own)
-    ∙ inner_extended own before (term_named ks word.text)
+    ∙ sym (innermost_wins own before (term_named ks word.text))
     ∙ ap₂ (λ o w. extended_if o (term_named ks w)) (sym i) (sym t)
 
 pub loop-at-preserved-in-Constant : goal.loop-at-preserved-in-Constant
@@ -34,6 +35,13 @@ returns-in-Part c d is =
     ∙ named d.known c.loop-at.at.now c.in-Name.word c.in-Name.own c.loop-at.extension c.innermost-extension.result c.bytes.result.now c.in-Name.is c.innermost-extension.ensures c.bytes.ensures))
     (c.in-Part.ensures.stand d is).0
 
+pub returns-in-Special : goal.returns-in-Special
+returns-in-Special c d is =
+    let e = c.loop-at.extension in
+    c.loop-at.invariant d is
+    ∙ ap (λ y. extended_if e (term_of d.known y)) (ap view c.in-Special.is ∙ view_special c.in-Special.letter c.in-Special.place)
+    ∙ special_extended e c.in-Special.letter
+
 pub returns-in-Set : goal.returns-in-Set
 returns-in-Set c d is =
     let own = c.in-Set.own in
@@ -45,7 +53,7 @@ returns-in-Set c d is =
       whole = ap (term_of d.known) here ∙ ap (λ ms. extended_if own (set ms)) (sym c.as_slice.ensures);
       is = c.loop-at.invariant d is
           ∙ ap (λ y. extended_if before (term_of d.known y)) here
-          ∙ inner_extended own before (set c.in-Set.members)
+          ∙ sym (innermost_wins own before (set c.in-Set.members))
           ∙ ap₂ (λ o ms. extended_if o (set ms)) (sym c.innermost-extension-in-Set.ensures) (sym c.as_slice.ensures);
     }
 

@@ -8,9 +8,9 @@ use Rattle.set_expr.specs.SectionOrder.{section_order}
 use Rattle.truth_tables.proofs.PartLaws.{over_shape}
 use Rattle.truth_tables.proofs.part.shape_of.Goals as goal
 
-pub returns-in-Some-shape : goal.returns-in-Some-shape
-returns-in-Some-shape c d is =
+pub returns-in-None-Some : goal.returns-in-None-Some
+returns-in-None-Some c d is =
     let t = view c.args.expr.now in
     let f = expression_found (entries_of c.args.scope.now) t in
     let s = c.in_ok-found.ensures in
-    over_shape c.args.scope.now d is t c.in-Some-shape.shape (none_refused section_order f.refusals (sym c.in-None.is ∙ s.fault)) (subst (λ o. HasShapeIf o f.value) c.in-Some-shape.is s.shape)
+    over_shape c.args.scope.now d is t c.in-None-Some.shape (none_refused section_order f.refusals (sym c.in-None-Some.is-0 ∙ s.fault)) (subst (λ o. HasShapeIf o f.value) c.in-None-Some.is-1 s.shape)

@@ -1,13 +1,27 @@
--- One member more, and all members.
+-- The names of a range, one member more, and all members.
 use Rattle.std.proofs.Common.{◌≡◌, ◌+◌, ◌||◌, [], ◌∷◌, ◌++◌, map, take, sym, ap, ap₂, ◌∙◌}
+use Rattle.std.specs.List.{list_any}
 use Rattle.abel_tree.specs.Entries.{entries_of}
+use Rattle.abel_tree.specs.Ranges.{range_names}
 use Rattle.abel_tree.specs.Tree.{members_of}
 use Rattle.abel_tree.specs.View.{view, view_member}
+use Rattle.name_uses.specs.RangeParts.{name_items}
 use Rattle.set_expr.specs.FoundNames.{names_found}
+use Rattle.expr_bits.proofs.Views.{view_span}
 use Rattle.set_expr.proofs.FoundMembers.{front_more, whole_front}
-use Rattle.truth_tables.specs.RowEntries.{holds_pulse, any_holds_pulse}
-use Rattle.truth_tables.proofs.EntryParts.{holds_more, holds_set}
+use Rattle.truth_tables.specs.RowEntries.{is_pulse_named, holds_pulse, any_holds_pulse, member_holds_pulse}
+use Rattle.truth_tables.proofs.EntryParts.{any_named, holds_more, holds_set}
 use Rattle.truth_tables.proofs.pulses.+pulses.Goals as goal
+
+pub member_holds-returns-in_ok-names-in-Span : goal.member_holds-returns-in_ok-names-in-Span
+member_holds-returns-in_ok-names-in-Span t c =
+    let ns = names_found (entries_of c.args.scope.now) in
+    let test = is_pulse_named ns in
+    c.any_names_pulse.ensures
+    ∙ ap (list_any (λ n. test (name_items n))) c.as_slice.ensures.value
+    ∙ any_named test c.in_ok-names-in-Span.names.items
+    ∙ ap (list_any test) (c.in_ok-names-in-Span.ensures ∙ ap₂ range_names c.bytes.ensures c.bytes-in-Span.ensures)
+    ∙ ap (member_holds_pulse ns) (sym (ap view_member c.in-Span.is ∙ view_span c.in-Span.first c.in-Span.last))
 
 pub level_holds-loop-member-preserved : goal.level_holds-loop-member-preserved
 level_holds-loop-member-preserved t c =

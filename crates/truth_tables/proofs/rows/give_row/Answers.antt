@@ -1,22 +1,30 @@
--- The bits of the input header, and the row behind them.
-use Rattle.std.proofs.Common.{[], ◌∷◌, List, Option, Result, Ok, Err, length, refl, sym, subst}
+-- The bits of the input header, the product behind them, and the outputs.
+use Rattle.std.proofs.Common.{[], ◌∷◌, List, Option, Bool, true, Result, Ok, Err, length, refl, sym, ap, subst, subst₂}
 use Rattle.std.specs.Global.{Vec}
 use Rattle.std.specs.Result.{OnOk}
 use Rattle.std.proofs.lemmas.Result.{err_from_is_err_and}
 use Rattle.bit_expr.specs.declared.node.ExprId.{ExprId}
 use Rattle.bit_expr.specs.Arena.{arena}
+use Rattle.bit_expr.specs.Formulas.{Const}
+use Rattle.abel_tree.specs.declared.names.Names.{Names}
+use Rattle.abel_tree.specs.Entries.{entries_of}
 use Rattle.set_expr.specs.declared.fault.SectionFault.{SectionFault}
 use Rattle.set_expr.specs.Answer.{AreIn}
 use Rattle.set_expr.specs.Given.{view_guard}
-use Rattle.section_targets.specs.Building.{BuildsNodes}
+use Rattle.section_targets.specs.Building.{BuildsNodes, IsBit}
+use Rattle.section_targets.specs.Given.{AreNamed}
 use Rattle.section_targets.specs.Units.{part}
+use Rattle.section_targets.proofs.Built.{keeps_on}
 use Rattle.section_targets.proofs.Gives.{stops_nodes}
 use Rattle.equations.proofs.BuiltParts.{keeps_longer, stops_longer}
 use Rattle.equations.proofs.BuiltUnits.{at}
-use Rattle.truth_tables.specs.Products.{header_literals}
+use Rattle.truth_tables.specs.declared.giving.Assigning.{Assigning}
+use Rattle.truth_tables.specs.Gives.{GivesPositions}
+use Rattle.truth_tables.specs.Products.{header_literals, literals}
 use Rattle.truth_tables.specs.Rows.{behind, found_work}
-use Rattle.truth_tables.specs.RowWalks.{GivesFound, HasInputs, design_of, inputs_term, nodes_left}
-use Rattle.truth_tables.proofs.RowWorks.{inputs_kept, row_built}
+use Rattle.truth_tables.specs.RowWalks.{HasInputs, design_of, inputs_term, nodes_left}
+use Rattle.truth_tables.specs.TableUnits.{some_aims}
+use Rattle.truth_tables.proofs.RowWorks.{found_built, inputs_kept, row_built}
 use Rattle.truth_tables.proofs.rows.give_row.Goals as goal
 
 always : {P : Type 0} (r : Result Unit SectionFault) → P → OnOk r P
@@ -45,28 +53,72 @@ returns-in_err-bits-clause-gives g c =
 pub returns-in_err-bits-clause-inputs : goal.returns-in_err-bits-clause-inputs
 returns-in_err-bits-clause-inputs g c = subst (λ m. HasInputs g.D.Device.table c.args.headed.now m c.inputs_of.new.exprs) (sym c.take-made.ensures.after) tt
 
-pub give_found-given-requires-clause-bits : goal.give_found-given-requires-clause-bits
-give_found-given-requires-clause-bits g c =
+pub row_product-requires : goal.row_product-requires
+row_product-requires g c =
     subst (λ (ps : List (Option ExprId)). AreIn (length (arena c.inputs_of.new.exprs)) ps) (sym c.as_slice.ensures.value) c.in_ok-bits.ensures.inputs.inside
+
+pub returns-in_err-bit-clause-gives : goal.returns-in_err-bit-clause-gives
+returns-in_err-bit-clause-gives g c =
+    let p = err_from_is_err_and c.from_residual-in_err-bit.result c.from_residual-in_err-bit.ensures.1 in
+    let v = g.D.Device.table in
+    let h = c.args.headed.now in
+    let f = c.args.found.now in
+    let d = design_of v h in
+    let ps = c.in_ok-bits.bits.items in
+    let fs = arena c.inputs_of.new.exprs in
+    let cs = c.args.out.now.list.items in
+    let mid = at c.inputs_of.new.exprs cs in
+    let new = at c.row_product.new.exprs cs in
+    let made = λ (qs : List (Option ExprId)) (ls : List (Option Bool)). literals fs (Const true) qs ls in
+    let built = subst (λ m. BuildsNodes (part f.place (nodes_left v h m) ∷ []) c.args.out.now.exprs c.inputs_of.new.exprs (Ok c.in_ok-bits.bits)) c.take-made.ensures.value c.in_ok-bits.ensures.builds in
+    let told = subst₂ (λ (qs : List (Option ExprId)) (ls : List (Option Bool)). BuildsNodes {R = ExprId} (part f.place (made qs ls).nodes ∷ []) c.inputs_of.new.exprs c.row_product.new.exprs (Err c.in_err-bit.field-0.0)) c.as_slice.ensures.value c.as_slice-levels.ensures c.in_err-bit.ensures.builds in
+    let w = found_work d (view_guard fs h.guard) h.table.now.clocked (made ps f.inputs) h.outputs.now f in
+    rw (p.1, p.2)
+    (row_built d (inputs_term v h) h.guard h.table.now.clocked (nodes_left v h c.args.inputs.now) ps h.outputs.now f (at c.args.out.now.exprs cs) mid new (Err c.in_err-bit.field-0.0) c.in_ok-bits.ensures.inputs (built cs)
+    (stops_nodes w.units w.gives w.places mid new c.in_err-bit.field-0.0 (told cs)))
+
+pub returns-in_err-bit-clause-inputs : goal.returns-in_err-bit-clause-inputs
+returns-in_err-bit-clause-inputs g c = subst (λ m. HasInputs g.D.Device.table c.args.headed.now m c.row_product.new.exprs) (sym c.take-made.ensures.after) tt
+
+pub give_positions-requires-clause-signals : goal.give_positions-requires-clause-signals
+give_positions-requires-clause-signals g c =
+    subst (λ (n : Names). AreNamed (length (entries_of n)) (some_aims c.args.headed.now.outputs.now)) (sym c.scope.ensures) c.requires.accepted.signals
+
+pub give_positions-requires-clause-bit : goal.give_positions-requires-clause-bit
+give_positions-requires-clause-bit g c = c.in_ok-bit.ensures.bit.0
 
 pub returns-clause-gives : goal.returns-clause-gives
 returns-clause-gives g c =
     let v = g.D.Device.table in
     let h = c.args.headed.now in
     let f = c.args.found.now in
-    let n = nodes_left v h c.args.inputs.now in
+    let d = design_of v h in
+    let k = h.table.now.clocked in
+    let xs = h.outputs.now in
+    let ps = c.in_ok-bits.bits.items in
+    let id = c.in_ok-bit.bit in
     let cs = c.args.out.now.list.items in
-    let r = c.give_found-given.result in
-    let built = subst (λ m. BuildsNodes (part f.place (nodes_left v h m) ∷ []) c.args.out.now.exprs c.inputs_of.new.exprs (Ok c.in_ok-bits.bits)) c.take-made.ensures.value c.in_ok-bits.ensures.builds in
-    let given = subst (λ (ps : List (Option ExprId)). GivesFound h ps f c.inputs_of.new.exprs c.give_found-given.new.exprs cs c.give_found-given.new.list.items r) c.as_slice.ensures.value c.give_found-given.ensures.gives in
-    row_built (design_of v h) (inputs_term v h) h.guard h.table.now.clocked n c.in_ok-bits.bits.items h.outputs.now f (at c.args.out.now.exprs cs) (at c.inputs_of.new.exprs cs) (at c.give_found-given.new.exprs c.give_found-given.new.list.items) r c.in_ok-bits.ensures.inputs (built cs) (given (design_of v h) refl)
+    let mid = c.inputs_of.new.exprs in
+    let next = c.row_product.new.exprs in
+    let new = at c.give_positions.new.exprs c.give_positions.new.list.items in
+    let r = c.give_positions.result in
+    let made = λ (qs : List (Option ExprId)) (ls : List (Option Bool)). literals (arena mid) (Const true) qs ls in
+    let m : Assigning = record { unit = f.place; guard = h.guard; clocked = k } in
+    let built = subst (λ m. BuildsNodes (part f.place (nodes_left v h m) ∷ []) c.args.out.now.exprs mid (Ok c.in_ok-bits.bits)) c.take-made.ensures.value c.in_ok-bits.ensures.builds in
+    let product = subst₂ (λ (qs : List (Option ExprId)) (ls : List (Option Bool)). BuildsNodes (part f.place (made qs ls).nodes ∷ []) mid next (Ok id)) c.as_slice.ensures.value c.as_slice-levels.ensures c.in_ok-bit.ensures.builds in
+    let bit = subst₂ (λ (qs : List (Option ExprId)) (ls : List (Option Bool)). IsBit (arena next) id (made qs ls).what) c.as_slice.ensures.value c.as_slice-levels.ensures c.in_ok-bit.ensures.bit in
+    let outs = subst (λ (ls : List (Option Bool)). GivesPositions c.scope.result.now m xs ls id next c.give_positions.new.exprs cs c.give_positions.new.list.items r) c.as_slice-given.ensures c.give_positions.ensures.gives in
+    row_built d (inputs_term v h) h.guard k (nodes_left v h c.args.inputs.now) ps xs f (at c.args.out.now.exprs cs) (at mid cs) new r c.in_ok-bits.ensures.inputs (built cs)
+    (found_built d h.guard k (made ps f.inputs) id xs f (at mid cs) (at next cs) new r (product cs) bit.1 (outs d (ap entries_of (sym c.scope.ensures))))
 
 pub returns-clause-inputs : goal.returns-clause-inputs
 returns-clause-inputs g c =
     let v = g.D.Device.table in
     let h = c.args.headed.now in
-    let k = c.give_found-given.ensures.keeps in
-    inputs_kept (design_of v h) (inputs_term v h) (arena c.inputs_of.new.exprs) (arena c.give_found-given.new.exprs) c.in_ok-bits.bits.items k (keeps_longer _ _ k) c.in_ok-bits.ensures.inputs
+    let fs = arena c.inputs_of.new.exprs in
+    let gs = arena c.give_positions.new.exprs in
+    let k = keeps_on fs (arena c.row_product.new.exprs) gs (c.in_ok-bit.ensures.builds []).made.grew.keeps c.give_positions.ensures.keeps in
+    inputs_kept (design_of v h) (inputs_term v h) fs gs c.in_ok-bits.bits.items k (keeps_longer _ _ k) c.in_ok-bits.ensures.inputs
 
 pub returns-clause-made : goal.returns-clause-made
-returns-clause-made g c = always c.give_found-given.result refl
+returns-clause-made g c = always c.give_positions.result refl

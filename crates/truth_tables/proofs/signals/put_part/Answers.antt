@@ -1,27 +1,31 @@
 -- What a part is, one by one.
 use Rattle.std.proofs.Common.{◌++◌, sym, ap, ◌∙◌, subst, map}
-use Rattle.std.proofs.lemmas.Result.{IfOk-weaker}
 use Rattle.abel_tree.specs.Tree.{members_of}
 use Rattle.abel_tree.specs.View.{view_member}
-use Rattle.abel_meaning.specs.Terms.{terms_of}
+use Rattle.abel_meaning.specs.Terms.{special_term, terms_of}
+use Rattle.abel_meaning.specs.Terms as term
 use Rattle.truth_tables.specs.HeaderSignals.{names_positions}
 use Rattle.truth_tables.specs.PartTerms.{IsPart}
-use Rattle.truth_tables.specs.SignalTerms.{IsListed}
 use Rattle.truth_tables.proofs.PartLaws.{operator_operand}
-use Rattle.truth_tables.proofs.SignalLaws.{put_set, put_unknown, operand_unnamed}
+use Rattle.truth_tables.proofs.RowsWalked.{no_fault}
+use Rattle.truth_tables.proofs.SignalLaws.{extended_unnamed, operand_unnamed, other_unnamed, put_read, put_set, put_unknown}
 use Rattle.truth_tables.proofs.signals.put_part.Goals as goal
 
-pub returns-in-Signal : goal.returns-in-Signal
-returns-in-Signal c =
-    IfOk-weaker c.put_signal.result _ _
-    (λ b p d t is x.
-    let k = subst (λ z. IsPart d z t) c.in-Signal.is x in
-    subst (λ u. IsListed d u b c.args.stack.now.items c.args.stack.now.items c.args.signals.now.items c.put_signal.new.signals.items) (sym k) (p d c.args.stack.now.items))
-    c.put_signal.ensures
+pub returns-in_ok-push-in-Signal : goal.returns-in_ok-push-in-Signal
+returns-in_ok-push-in-Signal c d t is x =
+    let s = c.in-Signal.signal in
+    put_read d t s c.args.stack.now.items c.args.signals.now.items c.push.new.self.items (subst (λ z. IsPart d z t) c.in-Signal.is x ∙ ap (term.Read s) (no_fault c.in-Signal.extension (sym c.is_some.ensures ∙ c.if-is_some.false))) c.in_ok-push-in-Signal.ensures.items
 
-pub returns-in_ok-push-in-Unknown : goal.returns-in_ok-push-in-Unknown
-returns-in_ok-push-in-Unknown c d t is x =
-    put_unknown d t c.args.stack.now.items c.args.signals.now.items c.push.new.self.items (subst (λ z. IsPart d z t) c.in-Unknown.is x) c.in_ok-push-in-Unknown.ensures.items
+pub returns-then-is_some : goal.returns-then-is_some
+returns-then-is_some c d t is x =
+    ap names_positions (subst (λ z. IsPart d z t) c.in-Signal.is x) ∙ extended_unnamed c.in-Signal.signal c.in-Signal.extension (sym c.is_some.ensures ∙ c.if-is_some.true)
+
+pub returns-in_ok-push-in-Special : goal.returns-in_ok-push-in-Special
+returns-in_ok-push-in-Special c d t is x =
+    put_unknown d t c.args.stack.now.items c.args.signals.now.items c.push-in-Special.new.self.items (subst (λ z. IsPart d z t) c.in-Special.is x ∙ ap special_term c.if-letter-ne88.false) c.in_ok-push-in-Special.ensures.items
+
+pub returns-then-letter-ne88 : goal.returns-then-letter-ne88
+returns-then-letter-ne88 c d t is x = ap names_positions (subst (λ z. IsPart d z t) c.in-Special.is x) ∙ other_unnamed c.in-Special.letter c.if-letter-ne88.true
 
 pub returns-in_ok-extend_from_slice-in-Set : goal.returns-in_ok-extend_from_slice-in-Set
 returns-in_ok-extend_from_slice-in-Set c d t is x =
@@ -39,9 +43,3 @@ pub returns-in-Operator : goal.returns-in-Operator
 returns-in-Operator c d t is x =
     let k = subst (λ z. IsPart d z t) c.in-Operator.is x in
     operand_unnamed t (operator_operand d _ t k)
-
-pub returns-in-Pulsed : goal.returns-in-Pulsed
-returns-in-Pulsed c d t is x = ap names_positions (subst (λ z. IsPart d z t) c.in-Pulsed.is x)
-
-pub returns-in-Released : goal.returns-in-Released
-returns-in-Released c d t is x = ap names_positions (subst (λ z. IsPart d z t) c.in-Released.is x)

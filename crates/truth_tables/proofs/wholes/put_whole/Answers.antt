@@ -1,34 +1,32 @@
--- A number, each special, and an operator.
-use Rattle.std.proofs.Common.{ap, subst}
-use Rattle.std.proofs.lemmas.Result.{IfOk-weaker}
-use Rattle.abel_meaning.specs.Rows.{part_marks}
-use Rattle.truth_tables.specs.declared.mark.Mark.TheVariants as mark
+-- A number, a special, and an operator by its shape.
+use Rattle.std.proofs.Common.{subst}
+use Rattle.abel_tree.specs.View.{view}
+use Rattle.abel_meaning.specs.Terms.{term_of}
+use Rattle.abel_meaning.specs.Values.{constant_of}
+use Rattle.set_expr.specs.Shapes.{HasShape}
 use Rattle.truth_tables.specs.PartTerms.{IsPart}
-use Rattle.truth_tables.specs.RowEntries.{meets_whole}
-use Rattle.truth_tables.proofs.PairLaws.{put_number, put_same}
+use Rattle.truth_tables.proofs.PairLaws.{put_number, put_same, shape_unmet}
+use Rattle.truth_tables.proofs.PartLaws.{operator_numeral}
 use Rattle.truth_tables.proofs.wholes.put_whole.Goals as goal
 
 pub returns-in_ok-push_levels-in-Number : goal.returns-in_ok-push_levels-in-Number
 returns-in_ok-push_levels-in-Number c d h e is x i k =
     put_number d h e c.in_ok-width.width c.in-Number.number c.args.marks.now.items c.push_levels.new.marks.items (subst (λ z. IsPart d z e) c.in-Number.is i) k (c.in_ok-width.ensures d h is x) c.in_ok-push_levels-in-Number.ensures
 
-pub returns-in_ok-push_same-in-Unknown : goal.returns-in_ok-push_same-in-Unknown
-returns-in_ok-push_same-in-Unknown c d h e is x i k =
-    let t = subst (λ z. IsPart d z e) c.in-Unknown.is i in
-    put_same d h e c.in_ok-width.width mark.Unknown c.args.marks.now.items c.push_same.new.marks.items (ap (meets_whole d) t) (ap (part_marks d c.in_ok-width.width) t) k (c.in_ok-width.ensures d h is x) c.in_ok-push_same-in-Unknown.ensures
+pub returns-in_ok-push_same-in-Special : goal.returns-in_ok-push_same-in-Special
+returns-in_ok-push_same-in-Special c d h e is x i k =
+    let w = c.in_ok-width.width in
+    put_same d h e c.in-Special.letter w c.special_mark.result c.args.marks.now.items c.push_same.new.marks.items (subst (λ z. IsPart d z e) c.in-Special.is i) (c.special_mark.ensures d w) k (c.in_ok-width.ensures d h is x) c.in_ok-push_same-in-Special.ensures
 
-pub returns-in_ok-push_same-in-Pulsed : goal.returns-in_ok-push_same-in-Pulsed
-returns-in_ok-push_same-in-Pulsed c d h e is x i k =
-    let t = subst (λ z. IsPart d z e) c.in-Pulsed.is i in
-    put_same d h e c.in_ok-width.width mark.Pulsed c.args.marks.now.items c.push_same-in-Pulsed.new.marks.items (ap (meets_whole d) t) (ap (part_marks d c.in_ok-width.width) t) k (c.in_ok-width.ensures d h is x) c.in_ok-push_same-in-Pulsed.ensures
+pub returns-in_ok-push_levels-in-Number-2 : goal.returns-in_ok-push_levels-in-Number-2
+returns-in_ok-push_levels-in-Number-2 c d h e is x i k =
+    let w = c.in_ok-width.width in
+    let y = c.in-Operator.expr.now in
+    let o = subst (λ z. IsPart d z e) c.in-Operator.is i in
+    let shape = subst (λ s. HasShape s (constant_of d (term_of d.known (view y)))) c.in-Number-2.is (c.in_ok-number-in-Operator.ensures d is) in
+    put_number d h e w c.in-Number-2.number c.args.marks.now.items c.push_levels-in-Number-2.new.marks.items (operator_numeral d y e c.in-Number-2.number o shape) k (c.in_ok-width.ensures d h is x) c.in_ok-push_levels-in-Number-2.ensures
 
-pub returns-in_ok-push_same-in-Released : goal.returns-in_ok-push_same-in-Released
-returns-in_ok-push_same-in-Released c d h e is x i k =
-    let t = subst (λ z. IsPart d z e) c.in-Released.is i in
-    put_same d h e c.in_ok-width.width mark.Released c.args.marks.now.items c.push_same-in-Released.new.marks.items (ap (meets_whole d) t) (ap (part_marks d c.in_ok-width.width) t) k (c.in_ok-width.ensures d h is x) c.in_ok-push_same-in-Released.ensures
-
-pub returns-in-Operator : goal.returns-in-Operator
-returns-in-Operator c =
-    IfOk-weaker c.put_operator.result _ _
-    (λ b w d h e is x i k. w d h e is (subst (λ z. IsPart d z e) c.in-Operator.is i) k (c.in_ok-width.ensures d h is x))
-    c.put_operator.ensures
+pub returns-in_default : goal.returns-in_default
+returns-in_default c d h e is x i k =
+    let o = subst (λ z. IsPart d z e) c.in-Operator.is i in
+    shape_unmet d h c.in-Operator.expr.now e _ o k c.in_default.not-Number (c.in_ok-number-in-Operator.ensures d is)

@@ -1,10 +1,10 @@
 -- Sets and operators by their expressions, and what has one position.
-use Rattle.std.proofs.Common.{sym, ap, ◌∙◌, subst}
+use Rattle.std.proofs.Common.{◌≡◌, refl, sym, ap, ◌∙◌, subst}
 use Rattle.std.proofs.lemmas.Result.{IfOk-weaker}
 use Rattle.abel_meaning.specs.Numbers.{member_width}
 use Rattle.abel_meaning.specs.Rows.{part_width}
 use Rattle.truth_tables.specs.PartTerms.{IsPart}
-use Rattle.truth_tables.proofs.PartLaws.{operator_width, set_width}
+use Rattle.truth_tables.proofs.PartLaws.{operator_width, set_width, special_case}
 use Rattle.truth_tables.proofs.wholes.width_of.Goals as goal
 
 pub returns-in-Set : goal.returns-in-Set
@@ -27,11 +27,5 @@ returns-in-Number c d t is i =
     let k = subst (λ z. IsPart d z t) c.in-Number.is i in
     sym (ap member_width k.shape)
 
-pub returns-in-Unknown : goal.returns-in-Unknown
-returns-in-Unknown c d t is i = sym (ap (part_width d) (subst (λ z. IsPart d z t) c.in-Unknown.is i))
-
-pub returns-in-Pulsed : goal.returns-in-Pulsed
-returns-in-Pulsed c d t is i = sym (ap (part_width d) (subst (λ z. IsPart d z t) c.in-Pulsed.is i))
-
-pub returns-in-Released : goal.returns-in-Released
-returns-in-Released c d t is i = sym (ap (part_width d) (subst (λ z. IsPart d z t) c.in-Released.is i))
+pub returns-in-Special : goal.returns-in-Special
+returns-in-Special c d t is i = sym (ap (part_width d) (subst (λ z. IsPart d z t) c.in-Special.is i) ∙ special_case (λ u. part_width d u ≡ 1) refl refl refl c.in-Special.field-0)

@@ -9,7 +9,7 @@ use Rattle.truth_tables.specs.EntryTerms.{IsOver}
 use Rattle.truth_tables.specs.PairTerms.{IsPair, meeting, seen}
 use Rattle.truth_tables.specs.PartCounts.{part_parts}
 use Rattle.truth_tables.specs.Stacks.{Walked}
-use Rattle.truth_tables.proofs.entries.entry_marks.Given as goal
+use Rattle.truth_tables.proofs.entries.read_entry.Given as goal
 
 abbrev pub invariant-loop-pair : goal.invariant-loop-pair
 invariant-loop-pair l =
