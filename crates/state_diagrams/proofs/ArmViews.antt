@@ -1,15 +1,14 @@
 -- Transitions of the code at each kind.
-use Rattle.std.proofs.Common.{◌≡◌, Option, None, Some, List, map, ap, ◌∙◌, rules}
+use Rattle.std.proofs.Common.{◌≡◌, rules}
 use Rattle.std.specs.Prelude.{option_map}
-use Rattle.abel_tree.specs.declared.diagrams.Arm.{Arm, the_lemmas}
+use Rattle.abel_tree.specs.declared.diagrams.Arm.{the_lemmas}
 use Rattle.abel_tree.specs.declared.diagrams.Arm.TheVariants as arm
 use Rattle.abel_tree.specs.declared.diagrams.Case.{Case}
 use Rattle.abel_tree.specs.declared.diagrams.CaseArm.{CaseArm}
 use Rattle.abel_tree.specs.declared.diagrams.Goal.{Goal}
 use Rattle.abel_tree.specs.declared.diagrams.If.{If}
-use Rattle.abel_tree.specs.declared.statements.Stmt.{Stmt}
-use Rattle.abel_tree.specs.Tree.{AGoal, AnIf, ACase, NoBranch, ABranch, other_of}
-use Rattle.abel_tree.specs.View.{view, view_stmt, view_arm, view_choice}
+use Rattle.abel_tree.specs.Tree.{AnIf, ACase, other_of}
+use Rattle.abel_tree.specs.View.{view, view_arm, view_choice}
 use Rattle.state_diagrams.specs.Arms.{case_choices, case_place, view_goal, view_if}
 
 pub view_goaled : (g : Goal) → view_arm (arm.Goal g) ≡ view_goal g
@@ -21,20 +20,8 @@ view_iffed i = search (rules, the_lemmas)
 pub if_parts : (i : If) → view_if i ≡ AnIf i.place (view i.condition) (view_arm i.then) (other_of (option_map view_arm i.otherwise))
 if_parts i = search (rules, the_lemmas)
 
-pub if_alone : (i : If) → i.otherwise ≡ None → view_if i ≡ AnIf i.place (view i.condition) (view_arm i.then) NoBranch
-if_alone i e = if_parts i ∙ ap (λ o. AnIf i.place (view i.condition) (view_arm i.then) (other_of (option_map view_arm o))) e
-
-pub if_both : (i : If) (a : Arm) → i.otherwise ≡ Some a → view_if i ≡ AnIf i.place (view i.condition) (view_arm i.then) (ABranch (view_arm a))
-if_both i a e = if_parts i ∙ ap (λ o. AnIf i.place (view i.condition) (view_arm i.then) (other_of (option_map view_arm o))) e
-
 pub choice_parts : (c : CaseArm) → view_choice c ≡ (view c.condition, (c.colon, view_arm c.result))
 choice_parts c = search (rules, the_lemmas)
-
-pub goal_alone : (g : Goal) → g.with ≡ None → view_goal g ≡ AGoal g.place (view g.value) None
-goal_alone g e = ap (λ (o : Option (List Stmt)). AGoal g.place (view g.value) (option_map (λ l. map view_stmt l) o)) e
-
-pub goal_with : (g : Goal) (list : List Stmt) → g.with ≡ Some list → view_goal g ≡ AGoal g.place (view g.value) (Some (map view_stmt list))
-goal_with g list e = ap (λ (o : Option (List Stmt)). AGoal g.place (view g.value) (option_map (λ l. map view_stmt l) o)) e
 
 pub view_cased : (x : Case) → view_arm (arm.Case x) ≡ ACase (case_place x) (case_choices x)
 view_cased x = search (rules, the_lemmas)

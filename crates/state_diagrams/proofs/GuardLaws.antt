@@ -1,5 +1,5 @@
 -- The unit of the conditions of CASE with their first refusal, and the guards of its arms.
-use Rattle.std.proofs.Common.{◌≡◌, ℕ, zero, suc, ◌+◌, ◌<◌, false, true, Bool, Option, None, Some, List, [], ◌∷◌, ◌++◌, if◌then◌else◌, Result, Ok, length, map, get_or, refl, sym, ap, ◌∙◌, subst, arith}
+use Rattle.std.proofs.Common.{◌≡◌, ℕ, zero, suc, ◌<◌, false, true, Bool, Option, None, Some, List, [], ◌∷◌, ◌++◌, if◌then◌else◌, Result, Ok, length, map, get_or, refl, sym, ap, ◌∙◌, subst, arith}
 use Rattle.std.specs.Prelude.{◌==◌}
 use Rattle.std.proofs.lemmas.List.{get_or-map, length-map}
 use Rattle.pld_base.specs.declared.place.Place.{Place}
@@ -23,20 +23,30 @@ use Rattle.set_expr.specs.declared.contributions.Contributions.{Contributions}
 use Rattle.set_expr.specs.declared.fault.SectionFault.{SectionFault}
 use Rattle.set_expr.specs.declared.fault.SectionFault.TheVariants.{BadWidth}
 use Rattle.set_expr.specs.declared.contributions.Guard.{Guard}
-use Rattle.set_expr.specs.Answer.{Keeps, refusal_of}
+use Rattle.set_expr.specs.Answer.{refusal_of}
 use Rattle.set_expr.specs.Given.{view_guard}
 use Rattle.set_expr.specs.SectionOrder.{section_order}
 use Rattle.set_expr.specs.FoundNames.{expression_found}
 use Rattle.set_expr.specs.Refusals.{Found}
-use Rattle.section_targets.specs.Building.{AreBits, IsBit, IsBuilt, StopsWith, Builds}
+use Rattle.section_targets.specs.Building.{AreBits, IsBuilt, StopsWith, Builds}
 use Rattle.section_targets.specs.Units.{part}
 use Rattle.section_targets.specs.ValueWidths.{value_refused, value_width, wrong_width}
-use Rattle.section_targets.proofs.Built.{builds_none, both_empty, kept_formula, left_empty, right_empty}
+use Rattle.section_targets.proofs.Built.{builds_none, both_empty, left_empty, right_empty}
 use Rattle.section_targets.proofs.OneUnit.{one_unit, two_parts}
 use Rattle.equations.specs.StatementUnits.{condition_refused}
 use Rattle.equations.proofs.BuiltParts.{bits_length, stops_longer}
 use Rattle.state_diagrams.specs.DiagramUnits.{choices_refused}
-use Rattle.state_diagrams.specs.ArmGuards.{arm_guards}
+use Rattle.state_diagrams.specs.ArmGuards.{BuildsConditions, arm_guards, case_unit}
+use Rattle.std.specs.Option.{is_some}
+use Rattle.abel_tree.specs.Tree.{Choices}
+use Rattle.bit_expr.specs.Arena.{arena}
+use Rattle.bit_expr.specs.declared.node.Node.{Node}
+use Rattle.section_targets.specs.declared.manner.Manner.{Manner}
+use Rattle.section_targets.specs.declared.walked.Walked.{Walked}
+use Rattle.section_targets.specs.Manners.{AreFirsts}
+use Rattle.section_targets.specs.Walking.{AfterMaking, Walks}
+use Rattle.state_diagrams.proofs.AnyGuards.{nodes_made}
+use Rattle.state_diagrams.proofs.StateBits.{bit_at}
 use Rattle.abel_tree.proofs.FirstRefusals.{earlier_assoc, first_append}
 
 abbrev pub first : List SectionFault → Option SectionFault
@@ -103,6 +113,13 @@ conditions_stop d g h p x cs old new f same s =
     (stops_longer p [] (choice_nodes d g (view x.condition) false) (choices_nodes d g (choices_of cs)) old new f
     (subst (λ (k : Formula). StopsWith (part p (choice_nodes d k (view x.condition) false) ∷ []) [] [] old new f) same s))
 
+-- the unit of conditions, made or stopped where nothing is refused so far
+pub conditions_made : (d : Context) (g : ExprId) (p : Place) (cs : Choices) (f : Option SectionFault) (old now new : Walked) (ns : List Node) (r : Result Unit SectionFault)
+    → f ≡ first (choices_refused d cs) → now ≡ record old { fault = earlier section_order old.fault f } → is_some now.fault ≡ false → BuildsConditions d (formula_at (arena now.exprs) g) p cs now.exprs ns r → AfterMaking r (record now { exprs = ns }) new
+    → (all : List Manner) → AreFirsts old.before all → Walks all (case_unit d (formula_at (arena old.exprs) g) p cs ∷ []) [] [] [] old new
+conditions_made d g p cs f old now new ns r e k s b m =
+    nodes_made p (choices_refused d cs) (choices_nodes d (formula_at (arena old.exprs) g) cs) f old now new ns r e k s (subst (λ (w : Walked). BuildsConditions d (formula_at (arena w.exprs) g) p cs w.exprs ns r) k b) m
+
 -- the condition of an arm of which nothing is refused is an expression of which nothing is refused
 pub arm_clear : (d : Context) (n : Names) (arms : List CaseArm) (i : ℕ) (x : CaseArm) → d.names ≡ entries_of n → choices_refused d (choices_of (map view_choice arms)) ≡ [] → i < length arms → x ≡ get_or arms i x → refusal_of n (view x.condition) ≡ None
 arm_clear d n arms i x k e lt at_x =
@@ -113,17 +130,12 @@ arm_clear d n arms i x k e lt at_x =
     ap (λ es. first_refusal section_order (expression_found es (view x.condition)).refusals) (sym k)
     ∙ ap (first_refusal section_order) (left_empty f.refusals (f.specials ++ value_width x.colon 1 f.value) clear)
 
--- the guard of an arm
-pub arm_guard : (d : Context) (g : Guard) (fs hs : List Formula) (c : Formula) (id : ExprId) (k : Guard) → Keeps fs hs → IsBit fs id (guard_then (formula_at fs g.when) c).what → k.when ≡ id → k.dontcare ≡ g.dontcare → k.block ≡ g.block → view_guard hs k ≡ guarded (formulas d) (view_guard fs g) c
-arm_guard d g fs hs c id k kept b e f w = rw (e, f, w, kept_formula fs hs id kept b.0, b.1) refl
-
 -- the guard of the arm of the code at a place
-pub arm_holds : (d : Context) (g k : Guard) (fs hs : List Formula) (arms : List CaseArm) (ids : List ExprId) (i : ℕ) (x : CaseArm) → Keeps fs hs → AreBits fs ids (arm_guards d (formula_at fs g.when) arms) → i < length arms → x ≡ get_or arms i x
-    → k.when ≡ get_or ids i g.when → k.dontcare ≡ g.dontcare → k.block ≡ g.block → view_guard hs k ≡ guarded (formulas d) (view_guard fs g) (condition_of d (view x.condition))
-arm_holds d g k fs hs arms ids i x kept h lt at_x w e b =
+pub arm_holds : (d : Context) (g k : Guard) (fs : List Formula) (arms : List CaseArm) (ids : List ExprId) (i : ℕ) (x : CaseArm) → AreBits fs ids (arm_guards d (formula_at fs g.when) arms) → i < length arms → x ≡ get_or arms i x
+    → k.when ≡ get_or ids i g.when → k.dontcare ≡ g.dontcare → k.block ≡ g.block → view_guard fs k ≡ guarded (formulas d) (view_guard fs g) (condition_of d (view x.condition))
+arm_holds d g k fs arms ids i x h lt at_x w e b =
     let guard_of = λ (y : CaseArm). (guard_then (formula_at fs g.when) (condition_of d (view y.condition))).what in
-    let each : length ids ≡ length arms = bits_length fs ids (arm_guards d (formula_at fs g.when) arms) h ∙ length-map arms guard_of in
-    let le : i < length ids = omega (arith, lt, each) in
+    let le : i < length ids = omega (arith, lt, bits_length fs ids (arm_guards d (formula_at fs g.when) arms) h, length-map arms guard_of) in
     let bit : formula_at fs (get_or ids i g.when) ≡ guard_of x =
-    sym (get_or-map (formula_at fs) ids i g.when (Const false) le) ∙ ap (λ gs. get_or gs i (Const false)) h.1 ∙ get_or-map guard_of arms i x (Const false) lt ∙ ap guard_of (sym at_x) in
-    arm_guard d g fs hs (condition_of d (view x.condition)) (get_or ids i g.when) k kept (h.0 i g.when le, bit) w e b
+    (bit_at fs ids (arm_guards d (formula_at fs g.when) arms) i g.when h le).1 ∙ get_or-map guard_of arms i x (Const false) lt ∙ ap guard_of (sym at_x) in
+    rw (w, e, b, bit) refl

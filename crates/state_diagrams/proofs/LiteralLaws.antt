@@ -1,5 +1,5 @@
 -- A bit that is made in parts, and the literals of registers, one after another.
-use Rattle.std.proofs.Common.{◌≡◌, ℕ, ◌+◌, ◌<◌, ◌≤◌, Bool, true, List, [], ◌∷◌, Result, Ok, Err, length, drop, get_or, refl, sym, ap, ap₂, ◌∙◌, subst, arith}
+use Rattle.std.proofs.Common.{◌≡◌, ℕ, ◌+◌, ◌<◌, ◌≤◌, Bool, true, List, [], ◌∷◌, Result, Ok, Err, length, drop, get_or, refl, sym, ap, ap₂, ◌∙◌, subst, subst₂, arith}
 use Rattle.std.proofs.lemmas.List.{at_drop_more, drop_all, length-reverse}
 use Rattle.pld_base.specs.declared.place.Place.{Place}
 use Rattle.bit_expr.specs.declared.node.ExprId.{ExprId}
@@ -21,7 +21,9 @@ use Rattle.section_targets.proofs.OneUnit.{two_parts}
 use Rattle.section_targets.specs.Building.{NoMemory}
 use Rattle.section_targets.proofs.Parts.{built_nodes, leaves_nodes, limit_here}
 use Rattle.equations.proofs.BuiltParts.{stops_longer}
-use Rattle.state_diagrams.specs.StateGuards.{MakesBit, register_literal, literals}
+use Rattle.state_diagrams.specs.StateGuards.{MakesBit, bare_read, register_literal, literals}
+use Rattle.abel_meaning.specs.CountedBlocks.{make_literal}
+use Rattle.section_targets.proofs.Built.{kept_formula}
 
 -- ---- a bit, by what making it leaves
 
@@ -50,6 +52,13 @@ bit_stops p old new f m k a =
     (λ list. stops_longer p [] m.nodes (k m.what).nodes (record { exprs = old; list = list }) (record { exprs = new; list = list }) f (a.0 list), tt)
 
 -- ---- registers
+
+-- a literal over what its register reads
+pub literal_then : (d : Context) (p : Place) (old mid new : List Node) (found bit : ExprId) (s : ℕ) (b : Bool) (r : Result ExprId SectionFault) → found.0 < length (arena old) → MakesBit p (bare_read d s) old mid (Ok bit)
+    → MakesBit p (make_literal (formula_at (arena mid) found) b (formula_at (arena mid) bit)) mid new r → MakesBit p (register_literal d (formula_at (arena old) found) s b) old new r
+literal_then d p old mid new found bit s b r lt a m =
+    let same = kept_formula (arena old) (arena mid) found (bit_keeps p old mid (Ok bit) (bare_read d s) a) lt in
+    bit_then p old mid new bit r (bare_read d s) (λ f. make_literal (formula_at (arena old) found) b f) a (subst₂ (λ f h. MakesBit p (make_literal f b h) mid new r) same a.1.1 m)
 
 -- one register before others
 literals_first : (d : Context) (f : Formula) (x : Aim) (xs : List Aim) (b : Bool) (bs : List Bool) → literals d f (x ∷ xs) (b ∷ bs) ≡ (register_literal d f x.signal b >>= λ g. literals d g xs bs)

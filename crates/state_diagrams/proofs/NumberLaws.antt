@@ -1,5 +1,5 @@
 -- The number of a value that reads no signal, by its bits where all signals are 0.
-use Rattle.std.proofs.Common.{◌≡◌, ℕ, zero, suc, ◌+◌, ◌*◌, ◌^◌, ◌<◌, ◌≤◌, Bool, true, false, ◌||◌, Option, None, Some, List, [], ◌∷◌, length, map, get_or, drop, refl, sym, ap, ap₂, ◌∙◌, subst, arith, length-drop, drop-cons, add-one}
+use Rattle.std.proofs.Common.{◌≡◌, ℕ, zero, suc, ◌+◌, ◌*◌, ◌<◌, ◌≤◌, Bool, true, false, ◌||◌, Option, None, Some, List, [], ◌∷◌, length, map, get_or, drop, refl, sym, ap, ap₂, ◌∙◌, subst, arith, length-drop, drop-cons, add-one}
 use Rattle.std.proofs.Math.Pow.{pow_mono}
 use Rattle.pld_base.specs.Points.{Levels}
 use Rattle.bit_expr.specs.declared.node.ExprId.{ExprId}

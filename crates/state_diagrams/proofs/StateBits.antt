@@ -1,6 +1,6 @@
 -- The bit of a state is where the present state has the value; bits in an arena that grows.
-use Rattle.std.proofs.Common.{◌≡◌, zero, suc, ◌<◌, List, [], ◌∷◌, ◌++◌, All, length, map, get_or, refl, sym, ap, ap₂, ◌∙◌, subst, arith, ℕ, Bool, true, false}
-use Rattle.std.proofs.lemmas.List.{length-map, map-append}
+use Rattle.std.proofs.Common.{◌≡◌, zero, suc, ◌<◌, false, List, [], ◌∷◌, ◌++◌, All, length, map, get_or, refl, sym, ap, ap₂, ◌∙◌, subst, arith, ℕ, Bool, true}
+use Rattle.std.proofs.lemmas.List.{get_or-map, length-map, map-append}
 use Rattle.std.proofs.lemmas.List.Elements.{All-append}
 use Rattle.bit_expr.specs.declared.node.ExprId.{ExprId}
 use Rattle.bit_expr.specs.Arena.{formula_at}
@@ -35,6 +35,10 @@ kept_bits old new (id ∷ ids) k h =
 -- what was added changes no bit
 pub bits_kept : (old new : List Formula) (ids : List ExprId) (fs : List Formula) → Keeps old new → AreBits old ids fs → AreBits new ids fs
 bits_kept old new ids fs k b = (λ i x lt. kept_inside old new (get_or ids i x) k (b.0 i x lt), kept_bits old new ids k b.0 ∙ b.1)
+
+-- a bit among several
+pub bit_at : (fs : List Formula) (ids : List ExprId) (gs : List Formula) (i : ℕ) (id : ExprId) → AreBits fs ids gs → i < length ids → IsBit fs (get_or ids i id) (get_or gs i (Const false))
+bit_at fs ids gs i id b lt = (b.0 i id lt, sym (get_or-map (formula_at fs) ids i id (Const false) lt) ∙ ap (λ hs. get_or hs i (Const false)) b.1)
 
 alone : (fs : List Formula) (id : ExprId) → id.0 < length fs → InArena fs (id ∷ [])
 alone fs id h zero x lt = h

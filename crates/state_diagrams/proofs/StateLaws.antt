@@ -16,7 +16,6 @@ use Rattle.section_targets.specs.declared.manner.Manner.{Manner}
 use Rattle.state_diagrams.specs.DiagramUnits.{manners_behind, register_manners}
 use Rattle.state_diagrams.specs.StateValues.{if_none, is_empty, is_state_of, listed_after, listed_with, state_number, state_refused, state_value_refused, listed_if}
 use Rattle.state_diagrams.proofs.GuardLaws.{first}
-use Rattle.abel_tree.specs.FirstRefusal.{first_refusal}
 use Rattle.section_targets.specs.declared.aim.Aim.{Aim}
 use Rattle.section_targets.specs.declared.sides.Side.{Side}
 use Rattle.section_targets.specs.Given.{AreNamed}

@@ -1,5 +1,5 @@
 -- The walk over a whole diagram, part by part.
-use Rattle.std.proofs.Common.{◌≡◌, false, true, Bool, None, Some, List, [], ◌∷◌, ◌++◌, length, map, refl, sym, ap, ◌∙◌, subst, append_assoc, append-nil}
+use Rattle.std.proofs.Common.{◌≡◌, false, true, Bool, Some, List, [], ◌∷◌, ◌++◌, map, refl, sym, ap, ◌∙◌, subst, append_assoc, append-nil}
 use Rattle.std.specs.Option.{is_some}
 use Rattle.pld_base.specs.declared.place.Place.{Place}
 use Rattle.bit_expr.specs.Formulas.{Formula}
@@ -33,7 +33,7 @@ use Rattle.state_diagrams.specs.DiagramWorks.{header_work, others_work, register
 use Rattle.state_diagrams.specs.StateValues.{if_none}
 use Rattle.state_diagrams.proofs.DiagramBuilt.{registers_split}
 use Rattle.state_diagrams.proofs.StateLaws.{manners_accepted}
-use Rattle.state_diagrams.proofs.WalkedBranches.{unit_then}
+use Rattle.state_diagrams.proofs.AnyGuards.{unit_then}
 use Rattle.truth_tables.specs.Works.{Work}
 use Rattle.truth_tables.proofs.RowsWalked.{some_refused}
 

@@ -1,5 +1,5 @@
 -- Walks over states, part by part.
-use Rattle.std.proofs.Common.{◌≡◌, ℕ, ◌<◌, None, List, [], ◌∷◌, ◌++◌, length, refl, sym, ◌∙◌, subst}
+use Rattle.std.proofs.Common.{◌≡◌, ℕ, ◌<◌, None, List, [], ◌∷◌, ◌++◌, length, refl, sym, ◌∙◌, subst₂}
 use Rattle.pld_device.specs.Table.{Table}
 use Rattle.bit_expr.specs.declared.node.ExprId.{ExprId}
 use Rattle.bit_expr.specs.Arena.{arena, formula_at}
@@ -9,7 +9,6 @@ use Rattle.abel_meaning.specs.Contributions as meant
 use Rattle.abel_meaning.specs.Designs.{Context}
 use Rattle.abel_meaning.specs.Diagrams.{state_gives}
 use Rattle.abel_meaning.specs.FormulaBits.{formulas}
-use Rattle.abel_meaning.specs.Statements.{statements_give}
 use Rattle.abel_meaning.specs.Terms.{term_of}
 use Rattle.set_expr.specs.declared.contributions.Guard.{Guard}
 use Rattle.set_expr.specs.Given.{view_guard}
@@ -18,7 +17,7 @@ use Rattle.section_targets.specs.declared.manner.Manner.{Manner}
 use Rattle.section_targets.specs.declared.walked.Walked.{Walked}
 use Rattle.section_targets.specs.Building.{IsBit}
 use Rattle.section_targets.proofs.WalksBehind.{walks_then}
-use Rattle.equations.specs.StatementUnits.{statements_manners, statements_places, units_of_statements}
+use Rattle.equations.specs.StatementUnits.{statements_manners}
 use Rattle.equations.specs.StatementWalks.{WalksStatements}
 use Rattle.state_diagrams.specs.declared.machine.Machine.{Machine}
 use Rattle.state_diagrams.specs.DiagramPlaces.{state_places}
@@ -26,21 +25,19 @@ use Rattle.state_diagrams.specs.DiagramUnits.{branches_manners, signals_of, stat
 use Rattle.state_diagrams.specs.DiagramWalks.{WalksBranches, WalksStates, WalksUnit, WalksWithin, WalksWork, context_of_machine, state_unit}
 use Rattle.state_diagrams.specs.DiagramWorks.{branches_work, state_bit, state_work, states_work, where_holds, within_work}
 use Rattle.state_diagrams.specs.StateValues.{listed_after}
-use Rattle.state_diagrams.proofs.AnyGuards.{kept_guard, still_firsts, under_statements, walked_clear}
+use Rattle.state_diagrams.proofs.AnyGuards.{statements_under, statements_work, still_firsts, under_then, unit_then}
 use Rattle.state_diagrams.proofs.StateBits.{guard_is_state}
-use Rattle.state_diagrams.proofs.WalkedBranches.{sized, unit_then}
+use Rattle.state_diagrams.proofs.GoalWorks.{sized}
 use Rattle.truth_tables.specs.Works.{Work}
 
 -- the statements of a state, and its transitions
 pub within_walk : {D : Type 0} (t : Table) (m : Machine D) (g : Guard) (s : StateTree) (old mid new : Walked) → g.when.0 < length (arena old.exprs)
     → WalksStatements t m.scope.now g (statements_of s.statements) old mid → WalksBranches t m g s.transitions mid new → WalksWithin t m g s old new
-within_walk t m g s old mid new lt a b = λ h e all f.
+within_walk t m g s old mid new lt a b =
     let d = context_of_machine t m in
     let ss = statements_of s.statements in
-    let v = under_statements d all ss (view_guard (arena old.exprs) g) h old mid e (a all f) in
-    let w = branches_work d h m.registers.now (all ++ statements_manners d ss) s.transitions in
-    walks_then all (statements_manners d ss) (branches_manners d s.transitions) (units_of_statements d h.holds all ss) w.units (statements_give (formulas d) d h ss) w.gives (statements_places d ss) w.places old mid new v
-    (b h (kept_guard g h old mid v.keeps lt (walked_clear old mid v) e) (all ++ statements_manners d ss) v.manners)
+    under_then g (λ h all. statements_work d all ss h) (λ h all. branches_work d h m.registers.now all s.transitions) (statements_manners d ss) (branches_manners d s.transitions) old mid new lt
+    (statements_under t m.scope.now g ss old mid a) b
 
 -- what stands in a state, under its own guard
 pub within_plain : {D : Type 0} (t : Table) (m : Machine D) (g : Guard) (s : StateTree) (old new : Walked) → WalksWithin t m g s old new
@@ -71,8 +68,7 @@ states_walk t m g listed s states id old mid far new unit bit within later = λ 
     let u = unit all a in
     let v = within (where_holds h f) (λ o. guard_is (arena mid.exprs) inside h f ((bit o).1 ∙ sym (guard_is_state d (signals_of xs) (term_of d.known s.value))) p q) all (still_firsts all mid u.manners) in
     let sig = signals_of xs in
-    let counted = subst (λ n. WalksWork all (inside_work d h xs all s n f) (state_manners d s) mid far) (sized xs) v in
-    let held = subst (λ (x : Formula). WalksWork all (inside_work d h xs all s (length sig) x) (state_manners d s) mid far) (guard_is_state d sig (term_of d.known s.value)) counted in
+    let held = subst₂ (λ (n : ℕ) (x : Formula). WalksWork all (inside_work d h xs all s n x) (state_manners d s) mid far) (sized xs) (guard_is_state d sig (term_of d.known s.value)) v in
     let one = unit_then all (state_manners d s) (record { units = state_unit d sig listed s ∷ []; gives = []; places = [] }) (inside_work d h xs all s (length sig) (state_bit d xs s)) old mid far u held in
     let after = listed_after d (length (signals_of xs)) listed s in
     let w = state_work d h xs all listed s in

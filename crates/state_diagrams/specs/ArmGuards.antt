@@ -1,5 +1,5 @@
 -- The conditions of CASE and the guards of its arms (ABEL-HDL Reference Manual, state diagrams).
-use Rattle.std.specs.Prelude.{◌≡◌, Option, List, [], ◌∷◌, map, Result}
+use Rattle.std.specs.Prelude.{◌≡◌, List, [], ◌∷◌, map, Result}
 use Rattle.pld_base.specs.declared.place.Place.{Place}
 use Rattle.pld_device.specs.Table.{Table}
 use Rattle.bit_expr.specs.declared.node.ExprId.{ExprId}
@@ -8,23 +8,16 @@ use Rattle.bit_expr.specs.Arena.{arena, formula_at}
 use Rattle.bit_expr.specs.Formulas.{Formula}
 use Rattle.abel_tree.specs.declared.diagrams.CaseArm.{CaseArm}
 use Rattle.abel_tree.specs.declared.names.Names.{Names}
-use Rattle.abel_tree.specs.Entries.{entries_of}
-use Rattle.abel_tree.specs.FirstRefusal.{first_refusal}
 use Rattle.abel_tree.specs.Tree.{Choices}
 use Rattle.abel_tree.specs.View.{view}
 use Rattle.abel_meaning.specs.CountedBlocks.{choices_nodes}
 use Rattle.abel_meaning.specs.CountedNodes.{condition_of, guard_then}
 use Rattle.abel_meaning.specs.Designs.{Context}
 use Rattle.set_expr.specs.declared.fault.SectionFault.{SectionFault}
-use Rattle.set_expr.specs.SectionOrder.{section_order}
 use Rattle.section_targets.specs.Building.{BuildsNodes}
 use Rattle.set_expr.specs.Contexts.{context_for}
 use Rattle.section_targets.specs.Units.{CountedUnit, part}
 use Rattle.state_diagrams.specs.DiagramUnits.{choices_refused}
-
--- the first refusal of conditions
-abbrev pub RefusesConditions : Names → Choices → Option SectionFault → Type 0
-RefusesConditions n cs f = (d : Context) → d.names ≡ entries_of n → f ≡ first_refusal section_order (choices_refused d cs)
 
 -- nothing is refused of conditions
 abbrev pub AreClear : Table → Names → Choices → Type 0

@@ -52,7 +52,7 @@ abbrev pub goal_unit : Context → meant.Guard Formula → List Aim → Goal →
 goal_unit d h aims g rs =
     record {
       units = record { place = g.place; refusals = rs; nodes = value_nodes d h.holds (length aims) (view g.value) } ∷ [];
-      gives = goal_gives (formulas d) d h (signals_of aims) ((formulas d).word (length aims) (term_of d.known (view g.value)));
+      gives = goal_gives (formulas d) d h (signals_of aims) ((formulas d).word (length (signals_of aims)) (term_of d.known (view g.value)));
       places = goal_places aims;
     }
 

@@ -16,12 +16,12 @@ goal_places (a ∷ aims) = a.place ∷ a.place ∷ goal_places aims
 abbrev mutual
   pub branch_places : Context → List Aim → Branch → List Place
   branch_places d xs (AGoal p value ss) = goal_places xs ++ statements_places d (with_statements ss)
-  branch_places d xs (AnIf p c b other) = branch_places d xs b ++ other_places d xs other
+  branch_places d xs (AnIf p c b other) = branch_places d xs b ++ other_branch_places d xs other
   branch_places d xs (ACase p cs) = choices_places d xs cs
 
-  pub other_places : Context → List Aim → OtherBranch → List Place
-  other_places d xs NoBranch = []
-  other_places d xs (ABranch b) = branch_places d xs b
+  pub other_branch_places : Context → List Aim → OtherBranch → List Place
+  other_branch_places d xs NoBranch = []
+  other_branch_places d xs (ABranch b) = branch_places d xs b
 
   pub choices_places : Context → List Aim → Choices → List Place
   choices_places d xs NoChoice = []

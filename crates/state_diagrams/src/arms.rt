@@ -1,35 +1,24 @@
 //! The walk over transitions: each unit is checked, and made where nothing is refused so far.
 
-ghost use Rattle.std.specs.Prelude.{◌≡◌, ◌<◌, None, length, OnOk};
-ghost use Rattle.bit_expr.specs.Arena.{arena, formula_at};
+ghost use Rattle.std.specs.Prelude.{◌<◌, length, OnOk};
+ghost use Rattle.bit_expr.specs.Arena.{arena};
 ghost use Rattle.abel_tree.specs.Entries.{entries_of};
 ghost use Rattle.abel_tree.specs.Tree.{ACase};
 ghost use Rattle.abel_tree.specs.View.{view_arm};
-ghost use Rattle.set_expr.specs.Contexts.{context_for};
-ghost use Rattle.section_targets.specs.Building.{AreBits};
-ghost use Rattle.section_targets.specs.Given.{AreNamed, AreIn};
-ghost use Rattle.state_diagrams.specs.Arms.{case_choices, case_place, view_goal, view_if, view_arms, view_choices};
-ghost use Rattle.state_diagrams.specs.ArmGuards.{arm_guards};
-ghost use Rattle.state_diagrams.specs.DiagramWalks.{WalksBranch, WalksBranches, WalksChoices};
+ghost use Rattle.section_targets.specs.Given.{AreNamed};
+ghost use Rattle.state_diagrams.specs.Arms.{case_choices, case_place, view_goal, view_if, view_arms};
+ghost use Rattle.state_diagrams.specs.DiagramWalks.{WalksBranch, WalksBranches};
 
 use crate::choices::{under_arm, walk_conditions};
 use crate::goals::walk_value;
 use crate::machine::Machine;
-use abel_tree::{Arm, Case, CaseArm, Goal, If};
-use bit_expr::ExprId;
+use abel_tree::{Arm, Case, Goal, If};
 use equations::{Condition, walk_condition, walk_statements};
 use pld_base::OutOfMemory;
 use pld_device::Device;
 use section_targets::Walked;
 use set_expr::Guard;
 use std::alloc::Global;
-
-/// The guard of a CASE, with the bits of those of its arms.
-#[derive(Drop)]
-struct Guards<'a> {
-    outer: Guard,
-    bits: &'a [ExprId],
-}
 
 /// A goal with the statements behind it.
 fn walk_goal<D: Device>(
@@ -86,30 +75,7 @@ fn walk_if<D: Device>(
     }
 }
 
-/// The arms of CASE, each under its guard.
-#[cycle(walks)]
-fn walk_choices<D: Device>(
-    alloc: Global,
-    machine: &Machine<'_, D>,
-    guards: &Guards<'_>,
-    arms: &[CaseArm],
-    out: &mut Walked,
-) -> Result<(), OutOfMemory>
-    requires signals { AreNamed (length (entries_of machine.now.scope.now)) machine.now.registers.now }
-    requires guard { guards.now.outer.when.0 < length (arena out.old.exprs) }
-    requires inside { AreIn (length (arena out.old.exprs)) guards.now.bits.now }
-    requires bits { out.old.fault ≡ None → AreBits (arena out.old.exprs) guards.now.bits.now (arm_guards (context_for D.table machine.now.scope.now) (formula_at (arena out.old.exprs) guards.now.outer.when) arms.now) }
-    ensures { OnOk result (WalksChoices D.table machine.now guards.now.outer (view_choices arms.now) out.old out.new) }
-{
-    for index in 0..arms.len() {
-        let then = under_arm(guards.outer, guards.bits, index);
-        let inner = &arms[index].result;
-        walk_arm::<D>(alloc, machine, then, inner, out)?;
-    }
-    Ok(())
-}
-
-/// CASE: the unit of all its conditions, and its arms.
+/// CASE: the unit of all its conditions, and its arms, each under its guard.
 #[cycle(walks)]
 fn walk_case<D: Device>(
     alloc: Global,
@@ -123,11 +89,12 @@ fn walk_case<D: Device>(
     ensures { OnOk result (WalksBranch D.table machine.now guard (ACase (case_place case.now) (case_choices case.now)) out.old out.new) }
 {
     let bits = walk_conditions::<D>(alloc, machine.scope, guard.when, case, out)?;
-    let guards = Guards {
-        outer: guard,
-        bits: &bits,
-    };
-    walk_choices::<D>(alloc, machine, &guards, case.arms.as_slice(), out)
+    let arms = case.arms.as_slice();
+    for index in 0..arms.len() {
+        let then = under_arm(guard, &bits, index);
+        walk_arm::<D>(alloc, machine, then, &arms[index].result, out)?;
+    }
+    Ok(())
 }
 
 /// A transition under a guard, behind what was walked before. Calls go as deep as the nestings of transitions and

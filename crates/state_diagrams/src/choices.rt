@@ -2,34 +2,36 @@
 
 ghost use Rattle.std.specs.Prelude.{◌≡◌, ◌<◌, ℕ, None, get_or, length, IfOk};
 ghost use Rattle.bit_expr.specs.Arena.{arena, formula_at};
-ghost use Rattle.set_expr.specs.Answer.{Keeps};
+ghost use Rattle.abel_tree.specs.FirstRefusal.{first_refusal};
+ghost use Rattle.set_expr.specs.SectionOrder.{section_order};
 ghost use Rattle.set_expr.specs.Contexts.{context_for};
 ghost use Rattle.section_targets.specs.Building.{AreBits};
 ghost use Rattle.section_targets.specs.Given.{AreIn};
-ghost use Rattle.state_diagrams.specs.Arms.{case_arms, case_choices, case_place, view_choices};
-ghost use Rattle.state_diagrams.specs.ArmGuards.{arm_guards, AreClear, MakesGuards, RefusesConditions};
+ghost use Rattle.state_diagrams.specs.Arms.{case_arms, case_choices, case_place};
+ghost use Rattle.state_diagrams.specs.ArmGuards.{arm_guards, AreClear, MakesGuards};
+ghost use Rattle.state_diagrams.specs.DiagramUnits.{choices_refused};
 ghost use Rattle.state_diagrams.specs.DiagramWalks.{WalksConditions};
 
-use abel_tree::{Case, CaseArm, earlier};
+use abel_tree::{Case, earlier};
 use bit_expr::{ExprId, Exprs};
 use equations::{Condition, check_condition, then_guard};
 use pld_base::OutOfMemory;
 use pld_device::Device;
 use section_targets::{SectionScope, Walked};
-use set_expr::{Guard, Scope, SectionFault};
+use set_expr::{Guard, SectionFault};
 use std::alloc::Global;
 
 /// The first refusal of the conditions of CASE, each at its colon.
-fn check_conditions(
+fn check_conditions<D: Device>(
     alloc: Global,
-    scope: &Scope<'_>,
-    arms: &[CaseArm],
+    scope: &SectionScope<'_, D>,
+    case: &Case,
 ) -> Result<Option<SectionFault>, OutOfMemory>
-    ensures { IfOk result (λ f. RefusesConditions scope.now (view_choices arms.now) f) }
+    ensures { IfOk result (λ f. f ≡ first_refusal section_order (choices_refused (context_for D.table scope.now) (case_choices case.now))) }
 {
     let mut fault = None;
-    for arm in arms {
-        let found = check_condition(alloc, scope, arm.colon, &arm.condition)?;
+    for arm in case.arms.as_slice() {
+        let found = check_condition(alloc, scope.scope(), arm.colon, &arm.condition)?;
         fault = earlier(fault, found);
     }
     Ok(fault)
@@ -45,7 +47,6 @@ fn make_guards<D: Device>(
 ) -> Result<Vec<ExprId>, SectionFault>
     requires guard { guard.0 < length (arena exprs.old) }
     requires accepted { AreClear D.table scope.now (case_choices case.now) }
-    ensures keeps { Keeps (arena exprs.old) (arena exprs.new) }
     ensures builds { MakesGuards D.table scope.now guard (case_place case.now) (case_choices case.now) exprs.old exprs.new result }
     ensures guards { IfOk result (λ ids. AreBits (arena exprs.new) ids.items (arm_guards (context_for D.table scope.now) (formula_at (arena exprs.old) guard) (case_arms case.now))) }
 {
@@ -75,7 +76,7 @@ pub(crate) fn walk_conditions<D: Device>(
     ensures inside { IfOk result (λ ids. AreIn (length (arena out.new.exprs)) ids.items) }
     ensures guards { IfOk result (λ ids. out.new.fault ≡ None → AreBits (arena out.new.exprs) ids.items (arm_guards (context_for D.table scope.now) (formula_at (arena out.old.exprs) guard) (case_arms case.now))) }
 {
-    let fault = check_conditions(alloc, scope.scope(), case.arms.as_slice())?;
+    let fault = check_conditions::<D>(alloc, scope, case)?;
     if out.refuse(fault) {
         return Ok(Vec::new(alloc));
     }

@@ -1,18 +1,61 @@
-//! The bit of a state.
+//! The bit of a state: a literal for each register, its bare name plain or complemented.
 
-ghost use Rattle.std.specs.Prelude.{◌≡◌, IfOk};
-ghost use Rattle.bit_expr.specs.Arena.{arena};
+ghost use Rattle.std.specs.Prelude.{◌≡◌, ◌<◌, length, IfOk};
+ghost use Rattle.bit_expr.specs.Arena.{arena, formula_at};
 ghost use Rattle.abel_meaning.specs.Numbers.{digits};
-ghost use Rattle.set_expr.specs.Answer.{Keeps};
-ghost use Rattle.state_diagrams.specs.StateGuards.{MakesGuard};
+ghost use Rattle.set_expr.specs.Contexts.{context_for};
+ghost use Rattle.state_diagrams.specs.StateGuards.{MakesBit, MakesGuard, bare_read, register_literal};
 
-use crate::literals::{Literal, with_register};
 use crate::machine::Machine;
-use bit_expr::{ExprId, Exprs};
+use bit_expr::{ExprFault, ExprId, Exprs, Node};
+use expr_bits::read_signal;
 use pld_base::{OutOfMemory, Place};
 use pld_device::Device;
+use section_targets::{SectionScope, add_node, guard_else};
 use set_expr::SectionFault;
 use std::alloc::Global;
+
+/// A register that is to read a digit.
+#[derive(Clone, Copy, PartialEq, Eq)]
+struct Literal {
+    signal: u32,
+    digit: bool,
+}
+
+/// The bit that the bare name of a signal reads, as a part of the unit at a place.
+fn bare_bit<D: Device>(
+    scope: &SectionScope<'_, D>,
+    signal: u32,
+    unit: Place,
+    exprs: &mut Exprs,
+) -> Result<ExprId, SectionFault>
+    ensures { MakesBit unit (bare_read (context_for D.table scope.now) signal) exprs.old exprs.new result }
+{
+    match read_signal::<D>(scope.scope(), exprs, signal, None) {
+        Ok(id) => Ok(id),
+        Err(ExprFault::NodeLimit) => Err(SectionFault::NodeLimit(unit)),
+        Err(ExprFault::OutOfMemory) => Err(SectionFault::OutOfMemory),
+    }
+}
+
+/// What was found before, and the literal of a register.
+fn with_register<D: Device>(
+    scope: &SectionScope<'_, D>,
+    found: ExprId,
+    literal: Literal,
+    unit: Place,
+    exprs: &mut Exprs,
+) -> Result<ExprId, SectionFault>
+    requires found { found.0 < length (arena exprs.old) }
+    ensures { MakesBit unit (register_literal (context_for D.table scope.now) (formula_at (arena exprs.old) found) literal.signal literal.digit) exprs.old exprs.new result }
+{
+    let bit = bare_bit::<D>(scope, literal.signal, unit, exprs)?;
+    if literal.digit {
+        add_node(exprs, Node::And(found, bit), unit)
+    } else {
+        guard_else(exprs, found, bit, unit)
+    }
+}
 
 /// The digits of a number in so many positions, from the left.
 fn state_digits(alloc: Global, number: u32, width: usize) -> Result<Vec<bool>, OutOfMemory>
@@ -40,8 +83,7 @@ pub(crate) fn state_guard<D: Device>(
     unit: Place,
     exprs: &mut Exprs,
 ) -> Result<ExprId, SectionFault>
-    ensures keeps { Keeps (arena exprs.old) (arena exprs.new) }
-    ensures makes { MakesGuard D.table machine.now number unit exprs.old exprs.new result }
+    ensures { MakesGuard D.table machine.now number unit exprs.old exprs.new result }
 {
     let digits = state_digits(alloc, number, machine.registers.len())?;
     let mut found = ExprId(1);

@@ -5,7 +5,6 @@ mod arms;
 mod choices;
 mod goals;
 mod guards;
-mod literals;
 mod machine;
 mod matches;
 mod numbers;

@@ -8,7 +8,7 @@ ghost use Rattle.section_targets.specs.Building.{AreBits, IsBit};
 ghost use Rattle.set_expr.specs.Contexts.{context_for};
 ghost use Rattle.section_targets.specs.Given.{AreNamed};
 ghost use Rattle.state_diagrams.specs.DiagramUnits.{signals_of};
-ghost use Rattle.state_diagrams.specs.DiagramWalks.{WalksStates, WalksUnit, WalksWithin};
+ghost use Rattle.state_diagrams.specs.DiagramWalks.{WalksStates, WalksUnit};
 ghost use Rattle.state_diagrams.specs.DiagramWorks.{state_bit, state_bits};
 ghost use Rattle.state_diagrams.specs.StateValues.{IsState, listed_if, listed_after};
 
@@ -79,24 +79,7 @@ fn walk_unit<D: Device>(
     }
 }
 
-/// What stands in a state, under its guard.
-fn walk_within<D: Device>(
-    alloc: Global,
-    machine: &Machine<'_, D>,
-    guard: Guard,
-    state: &State,
-    out: &mut Walked,
-) -> Result<(), OutOfMemory>
-    requires signals { AreNamed (length (entries_of machine.now.scope.now)) machine.now.registers.now }
-    requires guard { guard.when.0 < length (arena out.old.exprs) }
-    ensures { OnOk result (WalksWithin D.table machine.now guard (view_state state.now) out.old out.new) }
-{
-    let stmts = state.statements.as_slice();
-    walk_statements::<D>(alloc, machine.scope, guard, stmts, out)?;
-    walk_arms::<D>(alloc, machine, guard, state.transitions.as_slice(), out)
-}
-
-/// The states one after another, each as its unit and what stands in it: their bits.
+/// The states one after another, each as its unit and what stands in it, under its bit: their bits.
 pub(crate) fn walk_states<D: Device>(
     alloc: Global,
     machine: &Machine<'_, D>,
@@ -114,7 +97,11 @@ pub(crate) fn walk_states<D: Device>(
     for state in states {
         let found = read_state::<D>(alloc, machine, &mut listed, state)?;
         let when = walk_unit::<D>(alloc, machine, state, found, out)?;
-        walk_within::<D>(alloc, machine, Guard { when, ..guard }, state, out)?;
+        let inside = Guard { when, ..guard };
+        let stmts = state.statements.as_slice();
+        walk_statements::<D>(alloc, machine.scope, inside, stmts, out)?;
+        let arms = state.transitions.as_slice();
+        walk_arms::<D>(alloc, machine, inside, arms, out)?;
         bits.push(when)?;
     }
     Ok(bits)

@@ -1,20 +1,24 @@
--- What the other arms leave, all leave; and the guards lie in the arena.
+-- What the other arms leave, the whole CASE leaves; and the guards of the arms are there.
 use Rattle.std.proofs.Common.{◌≡◌, ◌<◌, None, drop, length}
-use Rattle.bit_expr.specs.Arena.{arena}
-use Rattle.set_expr.specs.Answer.{Keeps}
+use Rattle.bit_expr.specs.Arena.{arena, formula_at}
+use Rattle.abel_tree.specs.Tree.{ACase}
+use Rattle.set_expr.specs.Contexts.{context_for}
 use Rattle.section_targets.specs.declared.walked.Walked.{Walked}
+use Rattle.section_targets.specs.Building.{AreBits}
 use Rattle.section_targets.specs.Given.{AreIn}
-use Rattle.state_diagrams.specs.Arms.{view_choices}
-use Rattle.state_diagrams.specs.DiagramWalks.{WalksChoices}
+use Rattle.state_diagrams.specs.ArmGuards.{arm_guards}
+use Rattle.state_diagrams.specs.Arms.{case_choices, case_place, view_choices}
+use Rattle.state_diagrams.specs.DiagramWalks.{WalksBranch, WalksChoices}
 use Rattle.state_diagrams.proofs.arms.+walks.Given as goal
 
-abbrev pub invariant-walk_choices-loop-index : goal.invariant-walk_choices-loop-index
-invariant-walk_choices-loop-index g l =
+abbrev pub invariant-walk_case-loop-index : goal.invariant-walk_case-loop-index
+invariant-walk_case-loop-index g l =
+    let t = g.D.Device.table in
+    let fs = arena l.out.exprs in
     record {
-      walks : (later : Walked) → WalksChoices g.D.Device.table l.machine l.guards.outer (view_choices (drop l.index l.arms)) l.out later
-          → WalksChoices g.D.Device.table l.machine l.guards.outer (view_choices l.arms) l.fn.out later;
-      keeps : Keeps (arena l.fn.out.exprs) (arena l.out.exprs);
-      clear : l.out.fault ≡ None → l.fn.out.fault ≡ None;
-      guard : l.guards.outer.when.0 < length (arena l.out.exprs);
-      inside : AreIn (length (arena l.out.exprs)) l.guards.bits.now;
+      walks : (later : Walked) → WalksChoices t l.machine l.guard (view_choices (drop l.index l.arms)) l.out later
+          → WalksBranch t l.machine l.guard (ACase (case_place l.case) (case_choices l.case)) l.fn.out later;
+      guard : l.guard.when.0 < length fs;
+      inside : AreIn (length fs) l.bits.items;
+      bits : l.out.fault ≡ None → AreBits fs l.bits.items (arm_guards (context_for t l.machine.scope.now) (formula_at fs l.guard.when) l.arms);
     }

@@ -67,9 +67,6 @@ loop-arm-preserved g c =
           (subst (λ f. IsBit ns c.in_ok-chosen.chosen.then (guard_then f (condition_of d (view x.condition))).what) same c.in_ok-chosen.ensures.then)));
     }
 
-pub returns-in_err-chosen-clause-keeps : goal.returns-in_err-chosen-clause-keeps
-returns-in_err-chosen-clause-keeps g c = keeps_on _ _ _ c.loop-arm.invariant.keeps c.in_err-chosen.ensures.keeps
-
 pub returns-in_err-chosen-clause-builds : goal.returns-in_err-chosen-clause-builds
 returns-in_err-chosen-clause-builds g c =
     let p = err_from_is_err_and c.from_residual.result c.from_residual.ensures.1 in
@@ -89,9 +86,6 @@ returns-in_err-chosen-clause-builds g c =
     (v.built new (Err f)
     (subst (λ (zs : List Choice). BuildsConditions {R = Unit} d gf (case_place c.args.case.now) (choices_of zs) c.loop-arm.exprs new (Err f)) (sym (rest_at view_choice arms i x c.loop-arm-test.true c.arm-item.is))
     (λ list. conditions_stop d gf (formula_at hs c.args.guard) (case_place c.args.case.now) x (map view_choice (drop (i + 1) arms)) (at c.loop-arm.exprs list) (at new list) f same (c.in_err-chosen.ensures.builds list)))))
-
-pub returns-clause-keeps : goal.returns-clause-keeps
-returns-clause-keeps g c = c.loop-arm.invariant.keeps
 
 pub returns-clause-builds : goal.returns-clause-builds
 returns-clause-builds g c =

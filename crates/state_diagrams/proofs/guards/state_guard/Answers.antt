@@ -1,5 +1,5 @@
 -- One register more, and all registers.
-use Rattle.std.proofs.Common.{◌≡◌, ℕ, ◌<◌, Result, Bool, List, true, Ok, Err, length, get_or, refl, ap, sym, ◌∙◌, subst, arith}
+use Rattle.std.proofs.Common.{◌≡◌, ℕ, Result, Bool, List, true, Ok, Err, length, get_or, refl, ap, sym, ◌∙◌, subst, arith}
 use Rattle.std.proofs.lemmas.List.{length-map}
 use Rattle.std.proofs.lemmas.Result.{err_from_is_err_and}
 use Rattle.pld_base.specs.declared.place.Place.{Place}
@@ -15,14 +15,14 @@ use Rattle.section_targets.specs.declared.aim.Aim.{Aim}
 use Rattle.section_targets.proofs.MetWords.{high_bit}
 use Rattle.state_diagrams.specs.DiagramUnits.{signals_of}
 use Rattle.state_diagrams.specs.StateGuards.{MakesBit, literals, number_guard, register_literal}
-use Rattle.state_diagrams.proofs.LiteralLaws.{bit_keeps, digits_each, literals_done, literals_next, literals_start, literals_stop, no_memory}
+use Rattle.state_diagrams.proofs.LiteralLaws.{digits_each, literals_done, literals_next, literals_start, literals_stop, no_memory}
 use Rattle.state_diagrams.proofs.guards.state_guard.Goals as goal
 
 abbrev no_aim : Aim
 no_aim = record { signal = 0; place = record { line = 0; column = 0 } }
 
-pub returns-in_err-digits-clause-makes : goal.returns-in_err-digits-clause-makes
-returns-in_err-digits-clause-makes g c =
+pub returns-in_err-digits : goal.returns-in_err-digits
+returns-in_err-digits g c =
     let m = c.args.machine.now in
     let p = err_from_is_err_and c.from_residual.result c.from_residual.ensures.1 in
     rw (p.1, p.2)
@@ -74,10 +74,7 @@ returns-in_err-found g c =
     (literals_stop d c.loop-index.exprs new c.args.unit c.loop-index.found xs no_aim bs c.index.result.now c.loop-index.index f c.loop-index-test.true (omega (arith, each, c.loop-index-test.true))
     (subst (λ b. MakesBit c.args.unit (register_literal d (formula_at (arena c.loop-index.exprs) c.loop-index.found) (get_or xs c.loop-index.index no_aim).signal b) c.loop-index.exprs new (Err f)) c.index.ensures c.in_err-found.ensures)) in
     let p = err_from_is_err_and c.from_residual-in_err-found.result c.from_residual-in_err-found.ensures.1 in
-    record {
-      keeps = bit_keeps c.args.unit _ _ (Err f) (literals d (Const true) xs bs) made;
-      makes = rw (p.1, p.2) (as_meant d c.args.unit xs c.args.number bs c.args.exprs.now new (Err f) c.in_ok-digits.ensures made);
-    }
+    rw (p.1, p.2) (as_meant d c.args.unit xs c.args.number bs c.args.exprs.now new (Err f) c.in_ok-digits.ensures made)
 
 pub returns : goal.returns
 returns g c =
@@ -88,7 +85,4 @@ returns g c =
     let out = c.loop-index.exprs in
     let v = c.loop-index.invariant in
     let made = v.makes out (Ok c.loop-index.found) (literals_done d out c.args.unit c.loop-index.found xs bs c.loop-index.index (omega (arith, c.loop-index-test.false)) v.found) in
-    record {
-      keeps = bit_keeps c.args.unit _ _ (Ok c.loop-index.found) (literals d (Const true) xs bs) made;
-      makes = as_meant d c.args.unit xs c.args.number bs c.args.exprs.now out (Ok c.loop-index.found) c.in_ok-digits.ensures made;
-    }
+    as_meant d c.args.unit xs c.args.number bs c.args.exprs.now out (Ok c.loop-index.found) c.in_ok-digits.ensures made

@@ -4,9 +4,7 @@ use Rattle.bit_expr.specs.declared.node.ExprId.{ExprId}
 use Rattle.bit_expr.specs.declared.node.Node.{Node}
 use Rattle.bit_expr.specs.Arena.{arena, formula_at}
 use Rattle.bit_expr.specs.Formulas.{Const}
-use Rattle.abel_meaning.specs.Numbers.{digits}
 use Rattle.set_expr.specs.declared.fault.SectionFault.{SectionFault}
-use Rattle.set_expr.specs.Answer.{Keeps}
 use Rattle.set_expr.specs.Contexts.{context_for}
 use Rattle.state_diagrams.specs.StateGuards.{MakesBit, literals}
 use Rattle.state_diagrams.proofs.guards.state_guard.Given as goal

@@ -1,5 +1,5 @@
 -- One digit more from the top.
-use Rattle.std.proofs.Common.{◌+◌, ◌-◌, ◌*◌, ◌<◌, Option, map, drop, sym, ap, ◌∙◌, subst, arith}
+use Rattle.std.proofs.Common.{◌+◌, ◌-◌, ◌*◌, ◌<◌, map, drop, sym, ap, ◌∙◌, subst, arith}
 use Rattle.std.proofs.lemmas.List.{get_or-map, length-map}
 use Rattle.bit_expr.specs.Arena.{arena}
 use Rattle.abel_meaning.specs.Numbers.{number_with, one_bit}

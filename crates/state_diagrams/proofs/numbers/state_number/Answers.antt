@@ -1,5 +1,5 @@
 -- A number of its own, and the number of positions.
-use Rattle.std.proofs.Common.{◌≡◌, ◌≤◌, Option, List, length, map, refl, sym, ap, ◌∙◌, subst}
+use Rattle.std.proofs.Common.{◌≤◌, Option, List, length, map, refl, sym, ap, ◌∙◌, subst}
 use Rattle.bit_expr.specs.declared.node.ExprId.{ExprId}
 use Rattle.bit_expr.specs.Arena.{arena}
 use Rattle.abel_tree.specs.View.{view}

@@ -13,12 +13,18 @@ use Rattle.set_expr.proofs.FoundMembers.{front_more}
 use Rattle.section_targets.specs.Building.{AreBits}
 use Rattle.section_targets.proofs.WalksBehind.{walks_none}
 use Rattle.equations.proofs.BuiltParts.{kept_bit}
-use Rattle.state_diagrams.specs.DiagramWalks.{WalksStates}
+use Rattle.state_diagrams.specs.DiagramWalks.{WalksBranches, WalksStates}
+use Rattle.abel_tree.specs.declared.diagrams.Arm.{Arm}
+use Rattle.abel_tree.specs.declared.statements.Stmt.{Stmt}
+use Rattle.section_targets.proofs.Built.{kept_inside}
+use Rattle.equations.specs.Checks.{view_list}
+use Rattle.equations.specs.StatementWalks.{WalksStatements}
+use Rattle.state_diagrams.specs.Arms.{view_arms}
 use Rattle.state_diagrams.specs.DiagramWorks.{state_bit, state_bits}
 use Rattle.state_diagrams.proofs.AnyGuards.{walked_clear}
 use Rattle.state_diagrams.proofs.StateBits.{bits_kept, states_more}
 use Rattle.state_diagrams.proofs.WalkedBranches.{rest_at}
-use Rattle.state_diagrams.proofs.WalkedStates.{states_walk, within_plain}
+use Rattle.state_diagrams.proofs.WalkedStates.{states_walk, within_plain, within_walk}
 use Rattle.state_diagrams.proofs.states.walk_states.Goals as goal
 
 pub loop-state-init : goal.loop-state-init
@@ -29,8 +35,12 @@ loop-state-init g c =
       bits = λ e. subst (λ (ids : List ExprId). AreBits (arena c.args.out.now.exprs) ids []) (sym c.new-bits.ensures.items) (λ i x lt. absurd (omega (arith, lt)), refl);
     }
 
-pub walk_within-requires-clause-guard : goal.walk_within-requires-clause-guard
-walk_within-requires-clause-guard g c = c.in_ok-when.ensures.inside
+pub walk_statements-requires : goal.walk_statements-requires
+walk_statements-requires g c = record { guard = c.in_ok-when.ensures.inside }
+
+pub walk_arms-requires-clause-guard : goal.walk_arms-requires-clause-guard
+walk_arms-requires-clause-guard g c =
+    kept_inside _ _ c.in_ok-when.when (c.in_ok-walk_statements.ensures c.walk_unit.new.out.before (λ s p. refl)).keeps c.in_ok-when.ensures.inside
 
 pub loop-state-preserved : goal.loop-state-preserved
 loop-state-preserved g c =
@@ -46,12 +56,15 @@ loop-state-preserved g c =
     let inside : Guard = record c.args.guard { when = id } in
     let mid = c.loop-state.out in
     let far = c.walk_unit.new.out in
-    let new = c.walk_within.new.out in
+    let then = c.walk_statements.new.out in
+    let new = c.walk_arms.new.out in
     let listed : List ℕ = c.loop-state.listed.items in
     let value = c.in_ok-found.ensures.state in
     let unit = c.in_ok-when.ensures.walks listed value in
     let bit = c.in_ok-when.ensures.bit listed value in
-    let within = c.in_ok-walk_within.ensures in
+    let within = within_walk t m inside s far then new c.in_ok-when.ensures.inside
+    (subst (λ (zs : List Stmt). WalksStatements t m.scope.now inside (view_list zs) far then) c.as_slice-stmts.ensures c.in_ok-walk_statements.ensures)
+    (subst (λ (zs : List Arm). WalksBranches t m inside (view_arms zs) then new) c.as_slice-arms.ensures c.in_ok-walk_arms.ensures) in
     let v = c.loop-state.invariant in
     record {
       walks = λ later k.

@@ -1,5 +1,5 @@
 -- A state that is refused or stands behind what is, and one whose bit is made.
-use Rattle.std.proofs.Common.{◌≡◌, ℕ, true, false, Option, Some, List, [], ◌∷◌, Result, Ok, Err, length, refl, sym, ap, ◌∙◌, subst}
+use Rattle.std.proofs.Common.{◌≡◌, ℕ, false, List, [], ◌∷◌, Result, Ok, Err, length, refl, sym, ap, ◌∙◌, subst, subst₂}
 use Rattle.std.specs.Option.{is_some}
 use Rattle.bit_expr.specs.Arena.{arena}
 use Rattle.bit_expr.specs.declared.node.Node.{Node}
@@ -10,16 +10,15 @@ use Rattle.abel_meaning.specs.Designs.{Context}
 use Rattle.abel_meaning.specs.Terms.{term_of}
 use Rattle.set_expr.specs.declared.fault.SectionFault.{SectionFault}
 use Rattle.set_expr.specs.SectionOrder.{section_order}
-use Rattle.section_targets.specs.declared.aim.Aim.{Aim}
 use Rattle.section_targets.specs.declared.manner.Manner.{Manner}
 use Rattle.section_targets.specs.declared.walked.Walked.{Walked}
-use Rattle.section_targets.specs.Building.{BuildsNodes, Builds, IsBit}
+use Rattle.section_targets.specs.Building.{BuildsNodes, IsBit}
 use Rattle.section_targets.specs.Manners.{AreFirsts}
 use Rattle.set_expr.specs.Contexts.{context_for}
 use Rattle.section_targets.specs.Units.{part}
-use Rattle.section_targets.specs.Walking.{AfterMaking, Walks, standing}
+use Rattle.section_targets.specs.Walking.{AfterMaking, Walks}
 use Rattle.section_targets.proofs.MetWords.{high_bit}
-use Rattle.equations.proofs.WalkedUnits.{limit_kept, unit_clear, unit_made, unit_refused}
+use Rattle.equations.proofs.WalkedUnits.{limit_kept, unit_clear, unit_refused}
 use Rattle.truth_tables.proofs.RowsWalked.{not_clear}
 use Rattle.state_diagrams.specs.DiagramUnits.{signals_of, state_guard}
 use Rattle.state_diagrams.specs.DiagramWalks.{state_unit}
@@ -27,6 +26,9 @@ use Rattle.state_diagrams.specs.StateGuards.{number_guard}
 use Rattle.state_diagrams.specs.StateValues.{IsState, state_refused}
 use Rattle.state_diagrams.specs.declared.values.StateFound.{StateFound}
 use Rattle.state_diagrams.proofs.StateBits.{guard_is_state}
+use Rattle.state_diagrams.proofs.AnyGuards.{nodes_made}
+use Rattle.bit_expr.specs.Folding.{Made}
+use Rattle.bit_expr.specs.Formulas.{Formula}
 use Rattle.state_diagrams.proofs.states.walk_unit.Goals as goal
 
 pub returns-then-refuse-clause-walks : goal.returns-then-refuse-clause-walks
@@ -48,11 +50,9 @@ its_number d ss s listed f old now value kept off =
 unit_walk : (d : Context) (ss : List ℕ) (s : StateTree) (listed : List ℕ) (f : StateFound) (old now new : Walked) (ns : List Node) (r : Result Unit SectionFault) → IsState d (length ss) listed s f → now ≡ record old { fault = earlier section_order old.fault f.fault } → is_some now.fault ≡ false
     → BuildsNodes (part s.place (number_guard d ss f.number).nodes ∷ []) now.exprs ns r → AfterMaking r (record now { exprs = ns }) new
     → (all : List Manner) → AreFirsts old.before all → Walks all (state_unit d ss listed s ∷ []) [] [] [] old new
-unit_walk d ss s listed f old now new ns r value kept off b k all a =
-    let made : Walked = record now { exprs = ns } in
-    let here = subst (λ w. Builds (part s.place w.nodes ∷ []) [] [] (standing now) (standing made) r) (its_number d ss s listed f old now value kept off) (b now.list.items) in
-    unit_made all s.place (state_refused d (length ss) listed s) (state_guard d ss s.value).nodes [] [] f.fault old now made new r value.fault kept off a refl refl
-    (subst (λ (w : Walked). Builds (part s.place (state_guard d ss s.value).nodes ∷ []) [] [] (standing w) (standing made) r) kept here) k
+unit_walk d ss s listed f old now new ns r value kept off b k =
+    nodes_made s.place (state_refused d (length ss) listed s) (state_guard d ss s.value).nodes f.fault old now new ns r value.fault kept off
+    (subst₂ (λ (w : Walked) (m : Made Formula). BuildsNodes (part s.place m.nodes ∷ []) w.exprs ns r) kept (its_number d ss s listed f old now value kept off) b) k
 
 pub returns-in-Ok-clause-walks : goal.returns-in-Ok-clause-walks
 returns-in-Ok-clause-walks g c = λ listed value.
@@ -60,10 +60,10 @@ returns-in-Ok-clause-walks g c = λ listed value.
     let now = c.refuse.new.self in
     let made : Walked = record now { exprs = c.state_guard.new.exprs } in
     unit_walk (context_for g.D.Device.table m.scope.now) (signals_of m.registers.now) (view_state c.args.state.now) listed c.args.found c.args.out.now now made c.state_guard.new.exprs (Ok tt)
-    value c.refuse.ensures.first (sym c.refuse.ensures.refused ∙ c.if-refuse.false) c.in-Ok.ensures.makes.0 refl
+    value c.refuse.ensures.first (sym c.refuse.ensures.refused ∙ c.if-refuse.false) c.in-Ok.ensures.0 refl
 
 pub returns-in-Ok-clause-inside : goal.returns-in-Ok-clause-inside
-returns-in-Ok-clause-inside g c = c.in-Ok.ensures.makes.1.0
+returns-in-Ok-clause-inside g c = c.in-Ok.ensures.1.0
 
 pub returns-in-Ok-clause-bit : goal.returns-in-Ok-clause-bit
 returns-in-Ok-clause-bit g c = λ listed value e.
@@ -72,13 +72,13 @@ returns-in-Ok-clause-bit g c = λ listed value e.
     let ss = signals_of m.registers.now in
     let s = view_state c.args.state.now in
     let same = its_number d ss s listed c.args.found c.args.out.now c.refuse.new.self value c.refuse.ensures.first (sym c.refuse.ensures.refused ∙ c.if-refuse.false) in
-    subst (IsBit (arena c.state_guard.new.exprs) c.in-Ok.bit) (ap (λ w. w.what) same ∙ guard_is_state d ss (term_of d.known s.value)) c.in-Ok.ensures.makes.1
+    subst (IsBit (arena c.state_guard.new.exprs) c.in-Ok.bit) (ap (λ w. w.what) same ∙ guard_is_state d ss (term_of d.known s.value)) c.in-Ok.ensures.1
 
 pub returns-in_ok-keep_limit-in-Err-clause-walks : goal.returns-in_ok-keep_limit-in-Err-clause-walks
 returns-in_ok-keep_limit-in-Err-clause-walks g c = λ listed value.
     let m = c.args.machine.now in
     unit_walk (context_for g.D.Device.table m.scope.now) (signals_of m.registers.now) (view_state c.args.state.now) listed c.args.found c.args.out.now c.refuse.new.self c.keep_limit.new.self c.state_guard.new.exprs (Err c.in-Err.fault)
-    value c.refuse.ensures.first (sym c.refuse.ensures.refused ∙ c.if-refuse.false) c.in-Err.ensures.makes.0 c.in_ok-keep_limit-in-Err.ensures
+    value c.refuse.ensures.first (sym c.refuse.ensures.refused ∙ c.if-refuse.false) c.in-Err.ensures.0 c.in_ok-keep_limit-in-Err.ensures
 
 pub returns-in_ok-keep_limit-in-Err-clause-bit : goal.returns-in_ok-keep_limit-in-Err-clause-bit
 returns-in_ok-keep_limit-in-Err-clause-bit g c = λ listed value e. absurd (limit_kept c.in-Err.fault (record c.refuse.new.self { exprs = c.state_guard.new.exprs }) c.keep_limit.new.self c.in_ok-keep_limit-in-Err.ensures e)

@@ -1,5 +1,5 @@
 -- The states, and the matches behind them where nothing is refused.
-use Rattle.std.proofs.Common.{◌≡◌, ℕ, List, [], ◌++◌, length, drop, map, refl, sym, ap, ap₂, ◌∙◌, arith, length-append}
+use Rattle.std.proofs.Common.{◌≡◌, [], ◌++◌, length, drop, map, refl, sym, ap, ap₂, ◌∙◌, arith, length-append}
 use Rattle.bit_expr.specs.Arena.{arena}
 use Rattle.abel_tree.specs.View.{view_state}
 use Rattle.set_expr.specs.Given.{view_guard}

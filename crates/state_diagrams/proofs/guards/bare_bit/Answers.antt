@@ -3,7 +3,7 @@ use Rattle.set_expr.specs.Contexts.{context_for}
 use Rattle.equations.proofs.BuiltParts.{same_context}
 use Rattle.state_diagrams.specs.StateGuards.{bare_read}
 use Rattle.state_diagrams.proofs.LiteralLaws.{bit_made, bit_past, no_memory}
-use Rattle.state_diagrams.proofs.literals.bare_bit.Goals as goal
+use Rattle.state_diagrams.proofs.guards.bare_bit.Goals as goal
 
 pub returns-in-Ok : goal.returns-in-Ok
 returns-in-Ok g c =
