@@ -41,7 +41,7 @@ pub record Moves (t : Table) (ds : List Declaration) (d : Declaration) (s n : Pr
   pub device : n.device ≡ (list_any is_device ds || is_device d)
   pub waiting : n.waiting ≡ s.waiting ++ buffered (names_behind ds) d
 
-behind_push : (ds : List Declaration) (d : Declaration) → names_behind (ds ++ d ∷ []) ≡ declared (names_behind ds) d
+pub behind_push : (ds : List Declaration) (d : Declaration) → names_behind (ds ++ d ∷ []) ≡ declared (names_behind ds) d
 behind_push ds d = fold-append declared [] ds (d ∷ [])
 
 -- the names that a declaration adds
@@ -220,7 +220,7 @@ module _ (t : Table) (ds : List Declaration) (s : Progress) (b : Behind t ds s) 
 
 -- ---- all declarations
 
-buffered_push : (before ds : List Declaration) (d : Declaration) → all_buffered before (ds ++ d ∷ []) ≡ all_buffered before ds ++ buffered (names_behind (before ++ ds)) d
+pub buffered_push : (before ds : List Declaration) (d : Declaration) → all_buffered before (ds ++ d ∷ []) ≡ all_buffered before ds ++ buffered (names_behind (before ++ ds)) d
 buffered_push before [] d = append-nil (buffered (names_behind before) d) ∙ ap (λ l. buffered (names_behind l) d) (sym (append-nil before))
 buffered_push before (x ∷ ds) d =
     ap (λ l. buffered (names_behind before) x ++ l) (buffered_push (before ++ x ∷ []) ds d ∙ ap (λ l. all_buffered (before ++ x ∷ []) ds ++ buffered (names_behind l) d) (append_assoc before (x ∷ []) ds))

@@ -15,7 +15,7 @@ use Rattle.decls.specs.declared.table.Known.{Known}
 use Rattle.decls.specs.Shown.{kept, view_known, view_said}
 use Rattle.decls.specs.Walked.{said_of}
 
-abbrev is_name : List ℕ → Entry → Bool
+abbrev pub is_name : List ℕ → Entry → Bool
 is_name name e = bytes_eq name e.name
 
 head_of : (x y : Entry) (xs ys : List Entry) → x ∷ xs ≡ y ∷ ys → x ≡ y
