@@ -27,12 +27,12 @@ use Rattle.decls.specs.declared.fault.NameFault.TheVariants as fault
 use Rattle.decls.specs.AllDeclarations.{all_declarations}
 use Rattle.decls.specs.NameRefusals.{always_inverts, all_buffered, is_register_at, buffers_refused, module_buffers_refused, names_once, read_refusals, name_refusals}
 use Rattle.declared_names.specs.AcceptedNames.{BuffersAreAllowed}
-use Rattle.declared_names.proofs.Accepted.{module_accepted}
-use Rattle.declared_names.proofs.Among.{of_among}
+use Rattle.decls.proofs.Accepted.{module_accepted}
+use Rattle.decls.proofs.Among.{of_among}
 use Rattle.declared_names.proofs.Buffers.{registered_by, declared_at}
-use Rattle.declared_names.proofs.Placed.{found_at}
-use Rattle.declared_names.proofs.SaidBuffers.{IsTold}
-use Rattle.declared_names.proofs.SoundEntries.{AreSound}
+use Rattle.decls.proofs.Placed.{found_at}
+use Rattle.decls.proofs.SaidBuffers.{IsTold}
+use Rattle.decls.proofs.SoundEntries.{AreSound}
 
 -- none of these names is a register's
 none_registered : (found : List Assigned) (es : List Entry) (xs : List GivenName) → buffers_refused found es xs ≡ [] → list_all (λ (x : GivenName). not (is_register_at found es (find es x.name))) xs ≡ true
@@ -134,7 +134,7 @@ module_buffers t m h =
     let all = module_accepted t m (none_left (read_refusals t m) (module_buffers_refused t m) h) in
     let refused = λ (es : List Entry). buffers_refused (sections_assign (named_of es) m.sections) es xs in
     allowed t (holds_of (declared_names m) m.sections) (sections_assign (named_of (declared_names m)) m.sections) (declared_names m) xs
-    all.sound
+    all.sure.sound
     all.told
     (assigns_signals (declared_names m) m.sections)
     (λ inverted. subst (λ es. refused es ≡ []) all.sure.once (sym (ap (λ b. if b then refused (names_once m) else []) inverted) ∙ none_right (read_refusals t m) (module_buffers_refused t m) h))

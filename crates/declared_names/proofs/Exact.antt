@@ -28,11 +28,11 @@ use Rattle.decls.proofs.NoRefusals.{none_left}
 use Rattle.declared_names.specs.AcceptedNames.{AreDeclaredFor, NumbersAreApart, BuffersAreAllowed}
 use Rattle.declared_names.specs.Registers.{refused_for}
 use Rattle.declared_names.proofs.Buffers.{refused_same}
-use Rattle.declared_names.proofs.Accepted.{Accepted, module_accepted}
-use Rattle.declared_names.proofs.NamesAlike.{alike_settled, extends_alike, named_more}
+use Rattle.decls.proofs.Accepted.{Accepted, module_accepted}
+use Rattle.decls.proofs.NamesAlike.{alike_settled, extends_alike, named_more}
 use Rattle.declared_names.proofs.Behind.{module_buffers}
-use Rattle.declared_names.proofs.Placed.{numbers_apart}
-use Rattle.declared_names.proofs.SoundEntries.{AreSound, sound_alike, sound_at}
+use Rattle.declared_names.proofs.Apart.{numbers_apart}
+use Rattle.decls.proofs.SoundEntries.{AreSound, sound_alike, sound_at}
 
 -- the first refusal of all, by what was read, settled and refused of registers
 pub first_same : (t : Table) (m : ModuleTree) (flip : Flip) (read settled : List Entry) (bs : List Buffered) (f r : Option NameFault) → flip ≡ t.flip → read ≡ map (kept t) (names_once m) → settled ≡ with_assigned flip m.sections read → bs ≡ buffered_names m → f ≡ first_refusal name_order (read_refusals t m)
@@ -100,7 +100,7 @@ module _ (t : Table) (m : ModuleTree) (h : name_refusals t m ≡ []) where
   entries_sound =
       sound_alike t.pins [] [] (declared_names m) (names_of t m) tt
       (alike_settled t.flip (holds_of (declared_names m) m.sections) (sections_assign (named_of (declared_names m)) m.sections) 0 (declared_names m))
-      all.sound
+      all.sure.sound
 
   entries_known : are_named (names_of t m) (module_uses m) ≡ true
   entries_known =

@@ -1,6 +1,5 @@
-pub mod Accepted
-pub mod Among
 pub mod AmongNumbers
+pub mod Apart
 pub mod AssignedMarks
 pub mod AssignedParts
 pub mod Behind
@@ -10,15 +9,10 @@ pub mod HeldMarks
 pub mod HeldParts
 pub mod Hits
 pub mod Looked
-pub mod Named
-pub mod NamesAlike
 pub mod NumberedNames
 pub mod Numbering
 pub mod Passes
 pub mod Passing
-pub mod Placed
 pub mod ReadsAlike
-pub mod SaidBuffers
 pub mod Settling
-pub mod SoundEntries
 pub mod UsedNames

@@ -17,7 +17,8 @@ use Rattle.declared_names.specs.declared.following.Follow.{Follow}
 use Rattle.declared_names.specs.declared.marks.Mark.{Mark}
 use Rattle.declared_names.specs.Numbered.{earlier_number, number_of_name, value_at, value_of}
 use Rattle.declared_names.specs.Reading.{all_marks, given_by, number_given, numbers_read, sections_give, uses_read, value_uses}
-use Rattle.declared_names.proofs.Numbering.{find_more, is_name, some_found}
+use Rattle.decls.proofs.Told.{is_name}
+use Rattle.declared_names.proofs.Numbering.{find_more, some_found}
 use Rattle.declared_names.proofs.Passing.{at, carried_at, counted, found_in_the_end, higher, lower, reach, reach_beyond, weighs}
 use Rattle.declared_names.proofs.ReadsAlike.{ReadsAlike, marked_alike, sections_alike, uses_alike}
 

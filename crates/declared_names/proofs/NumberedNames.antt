@@ -11,7 +11,7 @@ use Rattle.abel_meaning.specs.Controls.{is_pin}
 use Rattle.abel_meaning.specs.Declarations.{are_numbered, is_unnumbered}
 use Rattle.abel_meaning.specs.Designs.{no_name}
 use Rattle.declared_names.specs.AcceptedNames.{AreDeclaredFor, NumbersAreApart, PinsAreApart}
-use Rattle.declared_names.proofs.Placed.{within}
+use Rattle.declared_names.proofs.Apart.{within}
 
 -- a name of the list has a number, if it is a pin
 numbered_at : (es : List Entry) (k : ℕ) → k < length es → are_numbered es ≡ true → is_unnumbered (get_or es k no_name).kind ≡ false

@@ -5,19 +5,18 @@ use Rattle.std.specs.Global.{Vec}
 use Rattle.std.specs.List.{list_any, position_from}
 use denote.Ref.{Bor}
 use Rattle.std.specs.Str.{bytes_eq}
-use Rattle.std.proofs.lemmas.Bool.{lt-ltb, le-ltb}
+use Rattle.std.proofs.lemmas.Bool.{lt-ltb, le-ltb, true≢false}
 use Rattle.std.proofs.lemmas.List.{length-map, length-take}
 use Rattle.std.proofs.lemmas.Iterator.Adapters.{position_from-zero}
 use Rattle.abel_tree.specs.declared.names.Declared.{Declared}
 use Rattle.abel_tree.specs.Entries.{Entry, find, view_declared}
+use Rattle.decls.proofs.FirstNames.{same_bytes}
 use Rattle.decls.proofs.Rows.{mapped_more}
 use Rattle.declared_names.specs.declared.marks.Mark.{Mark}
 use Rattle.declared_names.specs.Marking.{all_marked, hit}
 use Rattle.declared_names.specs.Reading.{number_given, numbers_read}
 use Rattle.declared_names.specs.Numbered.{below, number_in, earlier_number, number_of_name}
-
-abbrev pub is_name : List ℕ → Entry → Bool
-is_name name e = bytes_eq name e.name
+use Rattle.decls.proofs.Told.{is_name}
 
 -- ---- the first names
 
@@ -110,6 +109,19 @@ find_more name es e =
 pub none_found : (r : Option (Bor ℕ)) → is_some r ≡ false → option_copied r ≡ None
 none_found None e = refl
 none_found (Some x) e = absurd cc
+
+pub some_copied : (r : Option (Bor ℕ)) → is_some (option_copied r) ≡ is_some r
+some_copied None = refl
+some_copied (Some x) = refl
+
+-- a name that has a number already keeps it
+pub known_again : (numbers : List ℕ → Option ℕ) (name w : List ℕ) (n : ℕ) → is_some (numbers w) ≡ true → numbers name ≡ earlier_number (numbers name) (number_of_name w n name)
+known_again numbers name w n known = by (bytes_eq name w) refl (numbers name) refl
+  where
+    by : (b : Bool) → bytes_eq name w ≡ b → (o : Option ℕ) → numbers name ≡ o → o ≡ earlier_number o (if b then Some n else None)
+    by b same (Some j) found = refl
+    by true same None found = absurd (true≢false (sym known ∙ ap is_some (ap numbers (sym (same_bytes name w same)) ∙ found)))
+    by false same None found = refl
 
 pub names_more : (name : List ℕ) (ds : List Declared) (k : ℕ) (d : Declared) → k < length ds → d ≡ get_or ds k d → find (map view_declared (take (k + 1) ds)) name ≡ earlier_number (find (map view_declared (take k ds)) name) (number_of_name d.name k name)
 names_more name ds k d h i =

@@ -72,13 +72,14 @@ pub record Naming : Type 0 where
   pub strong : Bool
   pub uses : List UsedName
 
+-- the target of an equation names what it assigns, if it is data
+abbrev pub assigned_names : Tree → List UsedName
+assigned_names t = if is_data (target_extension t) then targets_in (without_extension t) else []
+
 -- what a part assigns: a target of data, the outputs of a table, the registers of a diagram
 abbrev pub assigned_as : PartRole → Tree → Naming
 assigned_as (role.Target sign) t =
-    record {
-      strong = is_raw (target_extension t) || is_clocked sign;
-      uses = if is_data (target_extension t) then targets_in (without_extension t) else [];
-    }
+    record { strong = is_raw (target_extension t) || is_clocked sign; uses = assigned_names t }
 assigned_as (role.Outputs clocked) t = record { strong = clocked; uses = targets_in t }
 assigned_as role.Registers t = record { strong = true; uses = targets_in t }
 assigned_as _ t = record { strong = false; uses = [] }

@@ -1,17 +1,16 @@
 //! From the last constant to the first: what is in a constant that is marked is marked.
 
-ghost use Rattle.std.specs.Prelude.{◌≡◌, [], IfOk, OnOk, get_or, if◌then◌else◌, length, map};
+ghost use Rattle.std.specs.Prelude.{◌≡◌, [], IfOk, OnOk, get_or, if◌then◌else◌, map, option_map, slice_get};
 ghost use Rattle.abel_tree.specs.Entries.{view_declared};
 ghost use Rattle.abel_tree.specs.View.{view, view_module};
-ghost use Rattle.declared_names.specs.Marking.{all_marked, clear, passed};
-ghost use Rattle.declared_names.specs.Numbered.{IsNumbering};
+ghost use Rattle.declared_names.specs.Marking.{all_marked, clear};
+ghost use Rattle.declared_names.specs.Numbered.{IsNumbering, value_at};
 ghost use Rattle.declared_names.specs.Reading.{all_marks, given_by, uses_in};
 ghost use Rattle.name_uses.specs.Viewed.{view_use};
 
-use crate::constants::constant_at;
-use crate::marks::{Mark, mark_of};
+use crate::marks::{CLEAR, Mark, mark_of};
 use crate::numbers::{FirstNames, Numbers};
-use abel_tree::{Declared, Expr};
+use abel_tree::{Declared, Expr, Meaning};
 use name_uses::{ModuleParts, NameUse, names_used, targets_in};
 use pld_base::OutOfMemory;
 use std::alloc::Global;
@@ -33,8 +32,19 @@ fn uses_in(alloc: Global, expr: &Expr, follow: Follow) -> Result<Vec<NameUse<'_>
     }
 }
 
+/// The value of the name of this number, if it is a constant.
+fn constant_at(names: &[Declared], number: usize) -> Option<&Expr>
+    ensures { option_map (λ e. view e.now) result ≡ value_at (slice_get (map view_declared names.now) number) }
+{
+    match &names.get(number)?.meaning {
+        Meaning::Constant(value) => Some(value),
+        _ => None,
+    }
+}
+
 impl Numbers {
-    /// The marks of the names by what the sections assign, or by what they read, also through constants.
+    /// The marks of the names by what the sections assign, or by what they read, also through constants: from the last
+    /// name to the first, what is in a constant that is marked is marked.
     pub(crate) fn marks_by(
         &self,
         alloc: Global,
@@ -46,28 +56,15 @@ impl Numbers {
         ensures { IfOk result (λ marks. marks.items
             ≡ all_marks follow (map view_declared names.now) (view_module source.now).sections) }
     {
-        let mut marks = vec![in alloc; Mark::clear(); names.len()]?;
+        let mut marks = vec![in alloc; CLEAR; names.len()]?;
         let all = FirstNames {
             numbers: self,
             limit: names.len(),
         };
-        all.mark_sections(alloc, &mut marks, source, follow)?;
-        self.pass_on(alloc, &mut marks, names, follow)?;
-        Ok(marks)
-    }
-
-    /// Marks what is in all constants that are marked, from the last one to the first.
-    fn pass_on(
-        &self,
-        alloc: Global,
-        marks: &mut Vec<Mark>,
-        names: &[Declared],
-        follow: Follow,
-    ) -> Result<(), OutOfMemory>
-        requires { IsNumbering self.now (map view_declared names.now) }
-        ensures { OnOk result (marks.new.items
-            ≡ passed (given_by follow (map view_declared names.now)) (length names.now) marks.old.items) }
-    {
+        let sections = source.sections();
+        for section in sections {
+            all.mark_parts(alloc, &mut marks, section.parts.as_slice(), follow)?;
+        }
         let mut number = names.len();
         while 0 < number {
             number -= 1;
@@ -75,9 +72,9 @@ impl Numbers {
                 numbers: self,
                 limit: number,
             };
-            earlier.pass_last(alloc, marks, names, follow)?;
+            earlier.pass_last(alloc, &mut marks, names, follow)?;
         }
-        Ok(())
+        Ok(marks)
     }
 }
 

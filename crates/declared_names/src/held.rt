@@ -9,9 +9,8 @@ ghost use Rattle.declared_names.specs.Sharing.{shares_all};
 ghost use Rattle.name_uses.specs.Viewed.{view_part};
 
 use crate::marks::{Mark, mark_of};
-use crate::parts::extension_of;
 use abel_tree::Extension;
-use name_uses::{ModuleParts, Part, Role};
+use name_uses::{ModuleParts, Part, Role, target_extension};
 
 /// What holds registers: whether a reset or a preset holds them all, and the marks of what is read.
 #[derive(Drop)]
@@ -59,7 +58,10 @@ fn is_shared(part: &Part<'_>) -> bool
     ensures { result ≡ shares_all (view_part part.now) }
 {
     match part.role {
-        Role::Target(_) => matches!(extension_of(part.expr), Some(Extension::Ar | Extension::Sp)),
+        Role::Target(_) => matches!(
+            target_extension(part.expr),
+            Some(Extension::Ar | Extension::Sp)
+        ),
         _ => false,
     }
 }

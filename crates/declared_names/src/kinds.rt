@@ -67,7 +67,7 @@ fn settled_by(flip: Flip, declared: Declared, mark: Mark, held: bool) -> Declare
     settled.assigned = false;
     if is_signal(&settled.meaning) {
         settled.attributes = settled_attributes(flip, settled.attributes, mark, held);
-        settled.assigned = mark.is_marked();
+        settled.assigned = mark.plain || mark.strong;
     }
     settled
 }

@@ -2,7 +2,6 @@
 #![tactic(auto)]
 
 mod attributes;
-mod constants;
 mod declaring;
 mod following;
 mod held;

@@ -1,7 +1,7 @@
 //! The marks of names: what targets name, and what is read.
 
 ghost use Rattle.std.specs.Prelude.{◌≡◌, get_or};
-ghost use Rattle.declared_names.specs.Marking.{clear, hit, is_marked, raised};
+ghost use Rattle.declared_names.specs.Marking.{clear, hit};
 
 /// How a name is named: plainly, and strongly, which is as a target on the clock or by a read of its Q.
 #[derive(Clone, Copy)]
@@ -10,51 +10,17 @@ pub(crate) struct Mark {
     pub(crate) strong: bool,
 }
 
-impl Mark {
-    /// The mark of what nothing names.
-    pub(crate) fn clear() -> Mark
-        ensures { result ≡ clear }
-    {
-        Mark {
-            plain: false,
-            strong: false,
-        }
-    }
-
-    /// The mark once it is named once more.
-    fn raised(self, strong: bool) -> Mark
-        ensures { result ≡ raised strong self }
-    {
-        if strong {
-            Mark {
-                plain: self.plain,
-                strong: true,
-            }
-        } else {
-            Mark {
-                plain: true,
-                strong: self.strong,
-            }
-        }
-    }
-
-    /// Whether something names it.
-    pub(crate) fn is_marked(self) -> bool
-        ensures { result ≡ is_marked self }
-    {
-        self.plain || self.strong
-    }
-}
+/// The mark of what nothing names.
+pub(crate) const CLEAR: Mark = Mark {
+    plain: false,
+    strong: false,
+};
 
 /// The mark of a name.
 pub(crate) fn mark_of(marks: &[Mark], number: usize) -> Mark
     ensures { result ≡ get_or marks.now number clear }
 {
-    if number < marks.len() {
-        marks[number]
-    } else {
-        Mark::clear()
-    }
+    *marks.get(number).unwrap_or(&CLEAR)
 }
 
 /// The name of this number is named once more.
@@ -62,6 +28,17 @@ pub(crate) fn mark_number(marks: &mut Vec<Mark>, number: usize, strong: bool)
     ensures { marks.new.items ≡ hit strong marks.old.items number }
 {
     if number < marks.len() {
-        marks[number] = marks[number].raised(strong);
+        let mark = marks[number];
+        marks[number] = if strong {
+            Mark {
+                strong: true,
+                ..mark
+            }
+        } else {
+            Mark {
+                plain: true,
+                ..mark
+            }
+        };
     }
 }

@@ -10,10 +10,7 @@ use abel_tree::{Meaning, Names};
 pub fn is_unnumbered(meaning: &Meaning) -> bool
     ensures { result ≡ is_unnumbered (view_meaning meaning.now) }
 {
-    match meaning {
-        Meaning::Pin { pin, negated: _ } => *pin == 0,
-        _ => false,
-    }
+    matches!(meaning, Meaning::Pin { pin: 0, negated: _ })
 }
 
 /// Whether each pin has a number.

@@ -1,8 +1,8 @@
 //! The numbers of names.
 
-ghost use Rattle.std.specs.Prelude.{◌≡◌, IfOk, OnOk, List, ℕ, map};
+ghost use Rattle.std.specs.Prelude.{◌≡◌, IfOk, List, ℕ, map};
 ghost use Rattle.abel_tree.specs.Entries.{find, view_declared};
-ghost use Rattle.declared_names.specs.Numbered.{number_in, earlier_number, number_of_name};
+ghost use Rattle.declared_names.specs.Numbered.{number_in};
 
 use abel_tree::Declared;
 use indexmap::IndexMap;
@@ -22,7 +22,7 @@ pub(crate) struct FirstNames<'a> {
     pub(crate) limit: usize,
 }
 
-/// Numbers the names.
+/// Numbers the names, each by its first declaration.
 pub(crate) fn numbers_of(alloc: Global, names: &[Declared]) -> Result<Numbers, OutOfMemory>
     ensures { IfOk result (λ ns. (name : List ℕ) → number_in ns.map.entries name ≡ find (map view_declared names.now) name) }
 {
@@ -30,24 +30,12 @@ pub(crate) fn numbers_of(alloc: Global, names: &[Declared]) -> Result<Numbers, O
         map: IndexMap::new(alloc),
     };
     for (number, declared) in names.iter().enumerate() {
-        add_number(alloc, &mut numbers, declared.name.bytes(), number)?;
+        let name = declared.name.bytes();
+        if numbers.map.get(name).is_some() {
+            continue;
+        }
+        let key = Vec::from_slice(alloc, name)?;
+        numbers.map.insert(key, number)?;
     }
     Ok(numbers)
-}
-
-/// Adds a name's number, unless it has one.
-fn add_number(
-    alloc: Global,
-    numbers: &mut Numbers,
-    name: &[u8],
-    number: usize,
-) -> Result<(), OutOfMemory>
-    ensures { OnOk result ((other : List ℕ) → number_in numbers.new.map.entries other ≡ earlier_number (number_in numbers.old.map.entries other) (number_of_name name.now number other)) }
-{
-    if numbers.map.get(name).is_some() {
-        return Ok(());
-    }
-    let key = Vec::from_slice(alloc, name)?;
-    numbers.map.insert(key, number)?;
-    Ok(())
 }

@@ -1,9 +1,8 @@
 //! The names that are used, marked by their numbers.
 
 ghost use Rattle.std.specs.Prelude.{◌≡◌, OnOk, map};
-ghost use Rattle.abel_meaning.specs.Held.{asks_q, read_names};
+ghost use Rattle.abel_meaning.specs.Held.{asks_q};
 ghost use Rattle.declared_names.specs.Reading.{AreMarked, use_reads, uses_read};
-ghost use Rattle.name_uses.specs.RangeParts.{name_items};
 ghost use Rattle.name_uses.specs.Viewed.{view_use};
 
 use crate::marks::{Mark, mark_number};
@@ -53,29 +52,18 @@ impl FirstNames<'_> {
         ensures { OnOk result (AreMarked self.now marks.old.items marks.new.items
             (λ of. use_reads of strong (view_use used.now))) }
     {
-        let strong = asks_q(strong, used.extension);
+        let asked = asks_q(strong, used.extension);
         let first = used.first.text.bytes();
-        match used.last {
-            Some(last) => {
-                let names = range_list(alloc, first, last.text.bytes())?;
-                self.mark_names(marks, strong, names.as_slice());
-                Ok(())
-            }
-            None => {
-                self.mark_name(marks, strong, first);
-                Ok(())
-            }
-        }
-    }
-
-    /// Marks names.
-    fn mark_names(&self, marks: &mut Vec<Mark>, strong: bool, names: &[Vec<u8>])
-        ensures { AreMarked self.now marks.old.items marks.new.items
-            (λ of. read_names of strong (map name_items names.now)) }
-    {
+        let Some(last) = used.last else {
+            self.mark_name(marks, asked, first);
+            return Ok(());
+        };
+        let range = range_list(alloc, first, last.text.bytes())?;
+        let names = range.as_slice();
         for name in names {
-            self.mark_name(marks, strong, name.as_slice());
+            self.mark_name(marks, asked, name.as_slice());
         }
+        Ok(())
     }
 
     /// Marks a name, if its number is below the limit.

@@ -6,7 +6,7 @@ ghost use Rattle.abel_tree.specs.FirstRefusal.{first_refusal};
 ghost use Rattle.decls.specs.declared.fault.NameFault.{NameFault};
 ghost use Rattle.decls.specs.FaultOrder.{name_order};
 ghost use Rattle.decls.specs.Passed.{wants_names};
-ghost use Rattle.declared_names.specs.Registers.{is_register, register_refused, registers_refused, refused_for};
+ghost use Rattle.declared_names.specs.Registers.{is_register, refused_for};
 
 use crate::kinds::is_signal;
 use abel_tree::{Attributes, Declared};
@@ -24,31 +24,6 @@ fn is_register(list: &[Declared], number: usize) -> bool
         }
         None => false,
     }
-}
-
-/// The first refusal, this name counted too.
-fn with_register(fault: Option<NameFault>, list: &[Declared], name: Buffered) -> Option<NameFault>
-    ensures { (fs : List NameFault) → fault ≡ first_refusal name_order fs → result ≡ first_refusal name_order (fs ++ register_refused (map view_declared list.now) name) }
-{
-    if is_register(list, name.number) {
-        return first_of(fault, NameFault::BadAttribute(name.place));
-    }
-    fault
-}
-
-/// The first refusal, these names counted too.
-fn with_registers(
-    fault: Option<NameFault>,
-    list: &[Declared],
-    names: &[Buffered],
-) -> Option<NameFault>
-    ensures { (fs : List NameFault) → fault ≡ first_refusal name_order fs → result ≡ first_refusal name_order (fs ++ registers_refused (map view_declared list.now) names.now) }
-{
-    let mut first = fault;
-    for name in names {
-        first = with_register(first, list, *name);
-    }
-    first
 }
 
 /// The first refusal so far, if registers wait that may be refused before it. Else it is the answer.
@@ -77,7 +52,13 @@ pub(crate) fn first_refused<D: Device>(
     ensures { (fs : List NameFault) → fault ≡ first_refusal name_order fs → result ≡ first_refusal name_order (fs ++ refused_for D.table (map view_declared list.now) names.now) }
 {
     if always_inverts::<D>() {
-        return with_registers(fault, list, names);
+        let mut first = fault;
+        for name in names {
+            if is_register(list, name.number) {
+                first = first_of(first, NameFault::BadAttribute(name.place));
+            }
+        }
+        return first;
     }
     fault
 }
