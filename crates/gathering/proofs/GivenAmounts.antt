@@ -30,11 +30,11 @@ use Rattle.gathering.specs.declared.parts.Part.TheVariants as part
 use Rattle.gathering.specs.declared.signal.Totals.{Totals}
 use Rattle.gathering.specs.declared.sums.Step.{Step}
 use Rattle.gathering.specs.declared.sums.Step.TheVariants as step
-use Rattle.gathering.specs.Amounts.{contributions_in, first_target, target_place, IsControlGiven, AreGiven}
-use Rattle.gathering.specs.Parts.{is_for, is_to, is_data_of, is_data_of_polarity, is_free_one, AllLieIn, Stands, part_sum, bit_of, control_steps}
-use Rattle.gathering.specs.Totals.{IsFunctionGiven}
+use Rattle.gathering.specs.Amounts.{contributions_in, first_target, target_place, IsFunctionGiven, IsControlGiven, AreGiven}
+use Rattle.gathering.specs.Parts.{is_for, is_to, is_data_of, is_data_of_polarity, is_free_one, Stands, part_sum, bit_of}
+use Rattle.abel_meaning.specs.SoundIds.{IsFunctionIn}
 use Rattle.gathering.proofs.SeenLists.{any_map, all_map, filter_own, any_own, all_own, find_own}
-use Rattle.gathering.proofs.Standing.{same_formula, same_seen, same_contributions}
+use Rattle.gathering.proofs.Standing.{same_seen}
 
 -- ---- sums
 
@@ -74,8 +74,12 @@ pub first_step : (s : ℕ) (cs : List (meant.Contribution Formula)) (steps : Lis
 first_step s cs [] x y some is = absurd (omega (arith, some))
 first_step s cs (z ∷ steps) x y some is = ap₂ (λ v vs. bit_of (v ∷ vs) s cs) (sym is) (take_all (length (z ∷ steps) - 1) steps (omega arith))
 
--- where don't-care tables and diagrams alone assign the signal, no table or diagram matches
 module _ (fs : List Formula) (s : ℕ) (cs : List Contribution) (steps : List Step) where
+  pub not_if : (complement b : Bool) → complement ≡ b
+      → (if b then (make_not (bit_of steps s (contributions_in fs cs))).what else bit_of steps s (contributions_in fs cs)) ≡ bit_of (step.NotIf complement ∷ steps) s (contributions_in fs cs)
+  not_if complement b is = ap (λ (x : Bool). if x then (make_not (bit_of steps s (contributions_in fs cs))).what else bit_of steps s (contributions_in fs cs)) (sym is)
+
+  -- where don't-care tables and diagrams alone assign the signal, no table or diagram matches
   free_seen : is_free_elsewhere (contributions_in fs cs) s ≡ (list_any (is_data_of s) cs && list_all (is_free_one s) cs)
   free_seen =
       ap₂ (λ a b. a && b) (any_map (view_contribution fs) (is_data_to s) cs)
@@ -93,10 +97,10 @@ module _ (fs : List Formula) (s : ℕ) (cs : List Contribution) (steps : List St
 -- ---- functions
 
 abbrev pub both_one : List Step
-both_one = step.Or (part.DataIn false gives.One) ∷ step.Not ∷ step.Or (part.DataIn true gives.One) ∷ step.Or (part.DataIn true gives.Any) ∷ step.Unmatched ∷ []
+both_one = step.Or (part.DataIn false gives.One) ∷ step.NotIf true ∷ step.Or (part.DataIn true gives.One) ∷ step.Or (part.DataIn true gives.Any) ∷ step.Unmatched ∷ []
 
 abbrev pub both_any : List Step
-both_any = step.Or (part.DataIn false gives.Any) ∷ step.Not ∷ step.Or (part.DataIn true gives.One) ∷ []
+both_any = step.Or (part.DataIn false gives.Any) ∷ step.NotIf true ∷ step.Or (part.DataIn true gives.One) ∷ []
 
 abbrev pub single_one : List Step
 single_one = step.Or (part.Data gives.One) ∷ []
@@ -143,19 +147,19 @@ complement_seen fs s cs = sym (any_map (view_contribution fs) (λ c. is_data_to 
 pub raw_seen : (fs : List Formula) (s : ℕ) (cs : List Contribution) → list_any (λ (c : Contribution). is_data_of s c && is_raw c.target.extension) cs ≡ is_raw_signal (contributions_in fs cs) s
 raw_seen fs s cs = sym (any_map (view_contribution fs) (λ c. is_data_to s c && is_raw c.extension) cs)
 
--- a function of two bits, of which the second is made in an arena that the first has grown
-pub function_made : (old mid new : List Formula) (cs : List Contribution) (s : ℕ) (one any : List Step) (complement : Bool) (a b : ExprId) → Stands old mid → Stands mid new → AllLieIn (length old) cs
-    → formula_at mid a ≡ bit_of one s (contributions_in old cs) → a.0 < length mid → formula_at new b ≡ bit_of any s (contributions_in mid cs) → b.0 < length new
-    → IsMade (contributions_in old cs) s one any complement → IsFunctionGiven old new cs s (record { one = a; any = b; complement = complement })
-function_made old mid new cs s one any complement a b first then_ inside is_one a_in is_any b_in made = record {
-  is = λ d. ap₂ (λ x y. with_parts x y complement) (same_formula mid new then_ a a_in ∙ is_one) (is_any ∙ ap (bit_of any s) (same_contributions old mid first cs inside)) ∙ made d;
-  inside = (let longer = then_.longer in omega (arith, a_in, longer), b_in);
-}
+-- a function of two bits
+pub function_made : (first last : List Formula) (cs : List Contribution) (s : ℕ) (one any : List Step) (complement : Bool) (a b : ExprId)
+    → formula_at last a ≡ bit_of one s (contributions_in first cs) → formula_at last b ≡ bit_of any s (contributions_in first cs) → IsFunctionIn (length last) (record { one = a; any = b; complement = complement })
+    → IsMade (contributions_in first cs) s one any complement → IsFunctionGiven first last cs s (record { one = a; any = b; complement = complement })
+function_made first last cs s one any complement a b is_one is_any inside made = record { is = λ d. ap₂ (λ x y. with_parts x y complement) is_one is_any ∙ made d; inside = inside }
 
 -- ---- controls
 
 module _ (d : Context) (fs : List Formula) (s : ℕ) (e : Extension) where
-  signed : (complement : Bool) (cs : List (meant.Contribution Formula)) → bit_of (control_steps e complement) s cs ≡ (if complement then (make_not (part_sum (part.Control e) s cs)).what else part_sum (part.Control e) s cs)
+  abbrev pub control_steps : (complement : Bool) → List Step
+  control_steps complement = step.NotIf complement ∷ step.Or (part.Control e) ∷ []
+
+  signed : (complement : Bool) (cs : List (meant.Contribution Formula)) → bit_of (control_steps complement) s cs ≡ (if complement then (make_not (part_sum (part.Control e) s cs)).what else part_sum (part.Control e) s cs)
   signed true cs = ap (λ f. (make_not f).what) (or_nothing (part_sum (part.Control e) s cs))
   signed false cs = or_nothing (part_sum (part.Control e) s cs)
 
@@ -177,7 +181,7 @@ module _ (d : Context) (fs : List Formula) (s : ℕ) (e : Extension) where
       ]
 
   pub some_control : (cs : List Contribution) (first : Contribution) → first_target s e cs ≡ Some first
-      → Some (bit_of (control_steps e first.complement) s (contributions_in fs cs)) ≡ control_of (formulas d) (contributions_in fs cs) s e
+      → Some (bit_of (control_steps first.complement) s (contributions_in fs cs)) ≡ control_of (formulas d) (contributions_in fs cs) s e
   some_control cs first is = ap (λ f. Some f) (signed first.complement (contributions_in fs cs)) ∙ signed_control cs first is
 
 -- ---- the signal's own contributions
@@ -224,8 +228,7 @@ module _ (fs : List Formula) (s : ℕ) (cs : List Contribution) where
 
   pub totals_own : (new : List Formula) (totals : Totals) → AreGiven fs new (filter (is_to s) cs) s totals → AreGiven fs new cs s totals
   totals_own new totals given = record {
-    function = λ d. given.function d ∙ function_own d;
-    inside = given.inside;
+    function = record { is = λ d. given.function.is d ∙ function_own d; inside = given.function.inside };
     raw = given.raw ∙ any_same (λ c. is_data_to s c && is_raw c.extension) (λ c miss. rw miss refl);
     enable = control_own new extension.Oe totals.controls.enable given.enable;
     reset = control_own new extension.Ar totals.controls.reset given.reset;

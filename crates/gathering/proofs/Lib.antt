@@ -2,7 +2,6 @@ pub mod GivenAmounts
 pub mod Graphed
 pub mod LinkFacts
 pub mod LinkSets
-mod LinkedEnds
 pub mod SeenLists
 mod Pushed
 mod Renamed

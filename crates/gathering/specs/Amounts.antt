@@ -3,6 +3,7 @@ use Rattle.std.specs.Prelude.{◌≡◌, ℕ, ◌&&◌, Option, List, length, fi
 use Rattle.std.specs.Option.{option_map}
 use Rattle.pld_base.specs.declared.place.Place.{Place}
 use Rattle.bit_expr.specs.declared.netlist.Control.{Control}
+use Rattle.bit_expr.specs.declared.netlist.Function.{Function}
 use Rattle.bit_expr.specs.Formulas.{Formula}
 use Rattle.abel_tree.specs.declared.words.Extension.{Extension}
 use Rattle.abel_tree.specs.declared.words.Extension.TheVariants as extension
@@ -38,6 +39,11 @@ control_place control = option_map (λ (c : Control). c.place) control
 abbrev pub target_place : Option Contribution → Option Place
 target_place first = option_map (λ (c : Contribution). c.place) first
 
+-- a function in the second arena is the signal's by contributions in the first
+pub record IsFunctionGiven (old new : List Formula) (cs : List Contribution) (s : ℕ) (f : Function) : Type 0 where
+  pub is : (d : Context) → plain_function new f ≡ function_of (formulas d) (contributions_in old cs) s
+  pub inside : IsFunctionIn (length new) f
+
 -- a control in the second arena is the signal's by contributions in the first, with the place of the first of them
 pub record IsControlGiven (old new : List Formula) (cs : List Contribution) (s : ℕ) (e : Extension) (control : Option Control) : Type 0 where
   pub is : (d : Context) → plain_control new control ≡ control_of (formulas d) (contributions_in old cs) s e
@@ -47,8 +53,7 @@ pub record IsControlGiven (old new : List Formula) (cs : List Contribution) (s :
 -- function and controls in the second arena are the signal's by contributions in the first, with the place of the first
 -- data
 pub record AreGiven (old new : List Formula) (cs : List Contribution) (s : ℕ) (totals : Totals) : Type 0 where
-  pub function : (d : Context) → plain_function new totals.function ≡ function_of (formulas d) (contributions_in old cs) s
-  pub inside : IsFunctionIn (length new) totals.function
+  pub function : IsFunctionGiven old new cs s totals.function
   pub raw : totals.raw ≡ is_raw_signal (contributions_in old cs) s
   pub enable : IsControlGiven old new cs s extension.Oe totals.controls.enable
   pub reset : IsControlGiven old new cs s extension.Ar totals.controls.reset

@@ -1,5 +1,5 @@
 -- Private: what names ask of nodes and cells, as ids of an arena that grows (this project's rule).
-use Rattle.std.specs.Prelude.{◌≡◌, ℕ, Bool, true, false, ◌&&◌, Option, None, List, All, length, map, unwrap_or}
+use Rattle.std.specs.Prelude.{◌≡◌, ℕ, Bool, true, false, ◌&&◌, Option, None, List, ◌++◌, All, length, map, unwrap_or}
 use Rattle.pld_device.specs.declared.enable.Enable.{Enable}
 use Rattle.pld_device.specs.declared.enable.Enable.TheVariants.{Row, PinLow}
 use Rattle.pld_device.specs.Table.{Table, cell_at}
@@ -17,6 +17,7 @@ use Rattle.gathering.specs.declared.signal.Totals.{Totals}
 use Rattle.gathering.specs.Amounts.{contributions_in}
 use Rattle.netlist_laws.specs.Gathered.{cells_from, nodes_from}
 use Rattle.gathering.specs.declared.asked.Asked.{Asked}
+use Rattle.gathering.specs.declared.link.Link.{Link}
 use Rattle.gathering.specs.Linked.{AreLinksFrom}
 use Rattle.gathering.specs.Placed.{IsPlaced}
 
@@ -56,3 +57,15 @@ pub record Asks (t : Table) (first now : List Formula) (cs : List Contribution) 
   pub cells_in : All (IsCellIn (length now)) asked.cells.items
   pub places : All (IsPlaced cs) asked.cells.items
   pub links : (d : Context) → d.device ≡ t → AreLinksFrom d (contributions_in first cs) 0 xs asked.signals.items asked.links.items
+
+-- it becomes that netlist by what the names ask that are left, of which the first has this number
+pub record AsksBefore (t : Table) (first now : List Formula) (cs : List Contribution) (xs : List Entry) (s : ℕ) (left : List Entry) (asked : Asked) : Type 0 where
+  pub nodes : (d : Context)
+      → map (plain_function now) asked.nodes.items ++ nodes_from d (contributions_in first cs) s left ≡ nodes_from d (contributions_in first cs) 0 xs
+  pub cells : (d : Context) → d.device ≡ t
+      → map (plain_wanted now) asked.cells.items ++ cells_from d (contributions_in first cs) s left ≡ cells_from d (contributions_in first cs) 0 xs
+  pub nodes_in : All (IsFunctionIn (length now)) asked.nodes.items
+  pub cells_in : All (IsCellIn (length now)) asked.cells.items
+  pub places : All (IsPlaced cs) asked.cells.items
+  pub links : (d : Context) → d.device ≡ t → (ns : List ℕ) (ls : List Link) → AreLinksFrom d (contributions_in first cs) s left ns ls
+      → AreLinksFrom d (contributions_in first cs) 0 xs (asked.signals.items ++ ns) (asked.links.items ++ ls)

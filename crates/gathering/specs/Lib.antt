@@ -6,4 +6,3 @@ pub mod Links
 pub mod Parts
 pub mod Placed
 pub mod Resets
-pub mod Totals

@@ -1,10 +1,9 @@
 -- The contributions to a signal, sorted by what they are for, and the bits that are made of them (ABEL-HDL Reference
 -- Manual, equations).
-use Rattle.std.specs.Prelude.{◌≡◌, ℕ, ◌<◌, ◌≤◌, Bool, true, false, not, if◌then◌else◌, ◌&&◌, ◌||◌, ◌==◌, Some, is_some, List, [], ◌∷◌, fold, filter, length, All, slice_get}
+use Rattle.std.specs.Prelude.{◌≡◌, ℕ, ◌<◌, ◌≤◌, Bool, false, not, if◌then◌else◌, ◌&&◌, ◌||◌, ◌==◌, Some, is_some, List, [], ◌∷◌, fold, filter, length, All, slice_get}
 use Rattle.pld_base.specs.Bits.{same_level}
 use Rattle.bit_expr.specs.Folding.{make_not, make_or}
 use Rattle.bit_expr.specs.Formulas.{Formula, Const}
-use Rattle.abel_tree.specs.declared.words.Extension.{Extension}
 use Rattle.abel_tree.specs.Extensions.{is_data}
 use Rattle.abel_meaning.specs.Contributions as meant
 use Rattle.abel_meaning.specs.Controls.{is_control}
@@ -32,6 +31,11 @@ pub record Stands (old new : List Formula) : Type 0 where
   pub keeps : (i : ℕ) (f : Formula) → slice_get old i ≡ Some f → slice_get new i ≡ Some f
   pub longer : length old ≤ length new
 
+-- it holds of every arena that the first has grown from, where the contributions lie, and every one that the second grows to
+abbrev pub Throughout : (old new : List Formula) → List Contribution → (List Formula → List Formula → Type 0) → Type 0
+Throughout old new cs P =
+    (first last : List Formula) → Stands first old → AllLieIn (length first) cs → Stands new last → P first last
+
 -- the contribution is to the signal
 abbrev pub is_to : ℕ → Contribution → Bool
 is_to s c = c.target.signal == s
@@ -55,11 +59,6 @@ part_sum part s cs = fold (λ f (c : meant.Contribution Formula). (make_or f c.h
 abbrev pub bit_of : List Step → ℕ → List (meant.Contribution Formula) → Formula
 bit_of [] s cs = Const false
 bit_of (step.Or part ∷ steps) s cs = (make_or (part_sum part s cs) (bit_of steps s cs)).what
-bit_of (step.Not ∷ steps) s cs = (make_not (bit_of steps s cs)).what
+bit_of (step.NotIf complement ∷ steps) s cs = if complement then (make_not (bit_of steps s cs)).what else bit_of steps s cs
 bit_of (step.Unmatched ∷ steps) s cs =
     if is_free_elsewhere cs s then (make_not (part_sum (part.Data gives.Match) s cs)).what else bit_of steps s cs
-
--- the sum of all equations for a control, or its complement
-abbrev pub control_steps : Extension → (complement : Bool) → List Step
-control_steps e true = step.Not ∷ step.Or (part.Control e) ∷ []
-control_steps e false = step.Or (part.Control e) ∷ []

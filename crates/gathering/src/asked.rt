@@ -1,17 +1,17 @@
 //! What signals ask of nodes and cells.
 
-ghost use Rattle.std.specs.Prelude.{◌≡◌, ◌<◌, ◌++◌, ◌∷◌, [], List, length, OnOk, None};
+ghost use Rattle.std.specs.Prelude.{◌≡◌, ◌<◌, ◌∷◌, suc, List, length, OnOk, None};
 ghost use Rattle.bit_expr.specs.Arena.{arena};
 ghost use Rattle.bit_expr.specs.Formulas.{Formula};
 ghost use Rattle.abel_tree.specs.Entries.{Entry, view_declared};
-ghost use Rattle.gathering.specs.Parts.{AllLieIn, Stands};
-ghost use Rattle.gathering.specs.Asking.{Asks, asked_cell, control_by_row, control_if};
+ghost use Rattle.gathering.specs.Parts.{AllLieIn, Stands, Throughout};
+ghost use Rattle.gathering.specs.Asking.{AsksBefore, asked_cell, control_by_row, control_if};
 
 use crate::link::Link;
-use crate::links::{cell_link, node_link};
-use crate::names::{cell_of, is_free, is_negated, is_node};
+use crate::links::link_of;
+use crate::names::{cell_of, is_free, is_node};
 use crate::signal::{Totals, sum_up};
-use abel_tree::Declared;
+use abel_tree::{Declared, Meaning};
 use bit_expr::{CellWanted, Control, Exprs, Function};
 use pld_base::OutOfMemory;
 use pld_device::{Device, Enable};
@@ -65,7 +65,7 @@ fn asked_cell<D: Device>(cell: u8, name: u32, declared: &Declared, totals: &Tota
         registered: stored,
         buffer: declared.follows_q(),
         free: is_free(declared),
-        negated: is_negated(&declared.meaning),
+        negated: matches!(declared.meaning, Meaning::Pin { negated: true, .. }),
         raw: stored && totals.raw,
         function: totals.function,
         enable: by_row(D::cell(cell).enable, totals.controls.enable),
@@ -83,26 +83,26 @@ pub(crate) fn ask<D: Device>(
     asked: &mut Asked,
 ) -> Result<(), OutOfMemory>
     requires { AllLieIn (length (arena exprs.old)) list.now }
-    ensures asks { OnOk result ((first : List Formula) (xs : List Entry) → Stands first (arena exprs.old)
-        → AllLieIn (length first) list.now → named.now.number ≡ length xs
-        → Asks D.table first (arena exprs.old) list.now xs asked.old
-        → Asks D.table first (arena exprs.new) list.now (xs ++ view_declared named.now.declared.now ∷ []) asked.new) }
+    ensures asks { OnOk result (Throughout (arena exprs.old) (arena exprs.new) list.now (λ first last.
+        (xs left : List Entry)
+        → AsksBefore D.table first last list.now xs named.now.number (view_declared named.now.declared.now ∷ left) asked.old
+        → AsksBefore D.table first last list.now xs (suc named.now.number) left asked.new)) }
     ensures stands { OnOk result (Stands (arena exprs.old) (arena exprs.new)) }
 {
     let name = named.number;
     let declared = named.declared;
-    if is_node(&declared.meaning) {
-        let totals = sum_up(alloc, exprs, list, name)?;
-        asked.links.push(node_link(exprs, declared, &totals))?;
-        asked.signals.push(name)?;
-        asked.nodes.push(totals.function)?;
-    } else if let Some(cell) = cell_of::<D>(declared) {
-        let totals = sum_up(alloc, exprs, list, name)?;
-        asked.links.push(cell_link(exprs, cell, declared, &totals))?;
-        asked.signals.push(name)?;
-        asked
+    let cell = cell_of::<D>(declared);
+    if cell.is_none() && !is_node(&declared.meaning) {
+        return Ok(());
+    }
+    let totals = sum_up(alloc, exprs, list, name)?;
+    asked.links.push(link_of::<D>(exprs, declared, &totals))?;
+    asked.signals.push(name)?;
+    match cell {
+        Some(cell) => asked
             .cells
-            .push(asked_cell::<D>(cell, name, declared, &totals))?;
+            .push(asked_cell::<D>(cell, name, declared, &totals))?,
+        None => asked.nodes.push(totals.function)?,
     }
     Ok(())
 }

@@ -3,7 +3,7 @@
 ghost use Rattle.std.specs.Prelude.{◌≡◌, ◌<◌, IfSome};
 ghost use Rattle.pld_base.specs.Bits.{bits, is_on};
 ghost use Rattle.bit_expr.specs.Arena.{IsLeaf};
-ghost use Rattle.gathering.specs.Links.{has_leaf, has_if_any};
+ghost use Rattle.gathering.specs.Links.{has_if_any};
 
 use bit_expr::{Leaf, Reads};
 use pld_base::level_at;
@@ -25,25 +25,15 @@ fn has_node(nodes: u128, node: u8) -> bool
     nodes >> node & 1 == 1
 }
 
-/// Whether the leaf is one of those that are read.
-fn has_leaf(reads: &Reads, leaf: Leaf) -> bool
-    requires { IsLeaf leaf }
-    ensures { result ≡ has_leaf reads.now leaf }
-{
-    match leaf {
-        Leaf::Pin(pin) => level_at(reads.pins, pin),
-        Leaf::Q(cell) => level_at(reads.q, cell),
-        Leaf::Node(node) => has_node(reads.nodes, node),
-    }
-}
-
-/// Whether there is a leaf, and it is one of those.
+/// Whether there is a leaf, and it is one of those that are read.
 pub(crate) fn has_if_any(reads: &Reads, leaf: Option<Leaf>) -> bool
     requires { IfSome leaf IsLeaf }
     ensures { result ≡ has_if_any reads.now leaf }
 {
     match leaf {
         None => false,
-        Some(leaf) => has_leaf(reads, leaf),
+        Some(Leaf::Pin(pin)) => level_at(reads.pins, pin),
+        Some(Leaf::Q(cell)) => level_at(reads.q, cell),
+        Some(Leaf::Node(node)) => has_node(reads.nodes, node),
     }
 }

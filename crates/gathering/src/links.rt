@@ -1,78 +1,69 @@
 //! Signals as others read them, and what they read.
 
-ghost use Rattle.std.specs.Prelude.{◌≡◌, ◌<◌, Some, length};
+ghost use Rattle.std.specs.Prelude.{◌≡◌, ℕ, List, length};
 ghost use Rattle.bit_expr.specs.Arena.{arena};
-ghost use Rattle.bit_expr.specs.Reading.{AreReads};
+ghost use Rattle.bit_expr.specs.Formulas.{Formula};
 ghost use Rattle.abel_tree.specs.Entries.{view_declared, view_meaning};
-ghost use Rattle.gathering.specs.declared.signal.Totals.{Totals};
-ghost use Rattle.gathering.specs.Linking.{IsCellLink, IsNodeLink, node_leaf, cell_leaf, totals_name, AreTotalsIn};
+ghost use Rattle.abel_meaning.specs.Designs.{Context};
+ghost use Rattle.abel_meaning.specs.SignalReads.{leaf_by, settles};
+ghost use Rattle.set_expr.specs.declared.contributions.Contribution.{Contribution};
+ghost use Rattle.gathering.specs.Amounts.{AreGiven, contributions_in};
+ghost use Rattle.gathering.specs.Linked.{IsLinkOf};
+ghost use Rattle.gathering.specs.Linking.{AreTotalsIn};
 
 use crate::link::Link;
 use crate::reads::{both, control_reads, function_reads, nothing};
 use crate::signal::Totals;
 use abel_tree::{Declared, Meaning};
-use bit_expr::{Exprs, Leaf, Reads};
+use bit_expr::{Exprs, Leaf};
+use pld_device::{Device, cell_on};
 
-/// What a signal reads in its function and its enable.
-fn totals_read(exprs: &Exprs, totals: &Totals) -> Reads
-    requires { AreTotalsIn (length (arena exprs.now)) totals.now }
-    ensures { AreReads (λ leaf. totals_name (arena exprs.now) totals.now leaf) result }
+/// Whether it is a node or a combinational signal with data, which comes to rest by what it reads.
+fn settles(declared: &Declared) -> bool
+    ensures { result ≡ settles (view_declared declared.now) }
 {
-    both(
-        function_reads(exprs, totals.function),
-        control_reads(exprs, totals.controls.enable),
-    )
-}
-
-/// The leaf of a node.
-fn node_leaf(meaning: &Meaning) -> Option<Leaf>
-    ensures { result ≡ node_leaf (view_meaning meaning.now) }
-{
-    match meaning {
-        Meaning::Node(number) => Some(Leaf::Node(*number)),
-        _ => None,
+    match declared.meaning {
+        Meaning::Pin { .. } => declared.assigned && !declared.is_registered(),
+        Meaning::Node(_) => true,
+        _ => false,
     }
 }
 
-/// The leaf of a signal that is assigned on a cell.
-fn cell_leaf(cell: u8, stored: bool, meaning: &Meaning) -> Option<Leaf>
-    ensures { result ≡ cell_leaf cell stored (view_meaning meaning.now) }
+/// The leaf by which a signal is read: the Q of a register, the pin of a combinational signal, the value of a node.
+fn leaf_of<D: Device>(declared: &Declared) -> Option<Leaf>
+    ensures { (d : Context) → d.device ≡ D.table
+        → result ≡ leaf_by d (view_declared declared.now) (view_meaning declared.now.meaning) }
 {
-    match meaning {
-        Meaning::Pin { pin, negated: _ } => if stored {
-            Some(Leaf::Q(cell))
+    match declared.meaning {
+        Meaning::Pin { pin, negated: _ } => if declared.is_stored() {
+            cell_on::<D>(pin).map(|cell| Leaf::Q(cell))
+        } else if settles(declared) {
+            Some(Leaf::Pin(pin))
         } else {
-            Some(Leaf::Pin(*pin))
+            None
         },
+        Meaning::Node(number) => Some(Leaf::Node(number)),
         _ => None,
     }
 }
 
-/// A node.
-pub(crate) fn node_link(exprs: &Exprs, declared: &Declared, totals: &Totals) -> Link
+/// A signal by all that is given to it: it reads what its function and its enable name, and nothing where it is a register.
+pub(crate) fn link_of<D: Device>(exprs: &Exprs, declared: &Declared, totals: &Totals) -> Link
     requires { AreTotalsIn (length (arena exprs.now)) totals.now }
-    ensures { IsNodeLink (arena exprs.now) (view_declared declared.now) totals.now result }
+    ensures { (d : Context) (first : List Formula) (list : List Contribution) (signal : ℕ) → d.device ≡ D.table
+        → AreGiven first (arena exprs.now) list signal totals.now
+        → IsLinkOf d (contributions_in first list) signal (view_declared declared.now) result }
 {
     Link {
-        leaf: node_leaf(&declared.meaning),
-        reads: totals_read(exprs, totals),
-        stored: declared.is_stored(),
-    }
-}
-
-/// A signal that is assigned on a cell; a register reads nothing.
-pub(crate) fn cell_link(exprs: &Exprs, cell: u8, declared: &Declared, totals: &Totals) -> Link
-    requires { AreTotalsIn (length (arena exprs.now)) totals.now }
-    ensures { IsCellLink (arena exprs.now) cell (view_declared declared.now) totals.now result }
-{
-    let stored = declared.is_stored();
-    Link {
-        leaf: cell_leaf(cell, stored, &declared.meaning),
-        reads: if stored {
+        leaf: leaf_of::<D>(declared),
+        reads: if settles(declared) {
+            both(
+                function_reads(exprs, totals.function),
+                control_reads(exprs, totals.controls.enable),
+            )
+        } else {
             nothing()
-        } else {
-            totals_read(exprs, totals)
         },
-        stored,
+        stored: declared.is_stored(),
     }
 }

@@ -3,7 +3,6 @@
 ghost use Rattle.std.specs.Prelude.{◌≡◌, ◌<◌, IfSome, length};
 ghost use Rattle.abel_tree.specs.Entries.{view_declared, view_meaning};
 ghost use Rattle.abel_meaning.specs.Choices.{is_free};
-ghost use Rattle.abel_meaning.specs.SourceLogic.{is_negated};
 ghost use Rattle.netlist_laws.specs.Gathered.{cell_of};
 ghost use Rattle.gathering.specs.Linked.{is_node_kind};
 
@@ -16,16 +15,6 @@ pub(crate) fn is_node(meaning: &Meaning) -> bool
     ensures { result ≡ is_node_kind (view_meaning meaning.now) }
 {
     matches!(meaning, Meaning::Node(_))
-}
-
-/// Whether the name is the complement of its pin.
-pub(crate) fn is_negated(meaning: &Meaning) -> bool
-    ensures { result ≡ is_negated (view_meaning meaning.now) }
-{
-    match meaning {
-        Meaning::Pin { pin: _, negated } => *negated,
-        _ => false,
-    }
 }
 
 /// Whether the signal is a register whose polarity is left to the fitter.

@@ -5,7 +5,7 @@ ghost use Rattle.bit_expr.specs.Arena.{arena, formula_at};
 ghost use Rattle.bit_expr.specs.Folding.{make_or};
 ghost use Rattle.set_expr.specs.Given.{view_contribution};
 ghost use Rattle.gathering.specs.Amounts.{contributions_in};
-ghost use Rattle.gathering.specs.Parts.{is_for, AllLieIn, Stands, part_sum, bit_of};
+ghost use Rattle.gathering.specs.Parts.{is_for, AllLieIn, Stands, Throughout, part_sum, bit_of};
 
 use crate::given::is_free;
 use crate::parts::{Part, is_for};
@@ -45,8 +45,8 @@ fn part_sum(
     part: Part,
 ) -> Result<ExprId, OutOfMemory>
     requires { AllLieIn (length (arena exprs.old)) list.now }
-    ensures sum { IfOk result (λ id. formula_at (arena exprs.new) id
-        ≡ part_sum part signal (contributions_in (arena exprs.old) list.now)) }
+    ensures sum { IfOk result (λ id. Throughout (arena exprs.old) (arena exprs.new) list.now (λ first last.
+        formula_at last id ≡ part_sum part signal (contributions_in first list.now))) }
     ensures inside { IfOk result (λ id. id.0 < length (arena exprs.new)) }
     ensures stands { OnOk result (Stands (arena exprs.old) (arena exprs.new)) }
 {
@@ -62,8 +62,8 @@ fn part_sum(
 pub enum Step {
     /// It holds where a contribution for the part does, and where what comes behind does.
     Or(Part),
-    /// It holds where what comes behind doesn't.
-    Not,
+    /// The complement of what comes behind where that is asked for, else what comes behind.
+    NotIf(bool),
     /// Where don't-care tables and diagrams alone assign the signal, it holds where none of them matches; else it is
     /// what comes behind.
     Unmatched,
@@ -77,8 +77,8 @@ pub(crate) fn bit_of(
     steps: &[Step],
 ) -> Result<ExprId, OutOfMemory>
     requires { AllLieIn (length (arena exprs.old)) list.now }
-    ensures bit { IfOk result (λ id. formula_at (arena exprs.new) id
-        ≡ bit_of steps.now signal (contributions_in (arena exprs.old) list.now)) }
+    ensures bit { IfOk result (λ id. Throughout (arena exprs.old) (arena exprs.new) list.now (λ first last.
+        formula_at last id ≡ bit_of steps.now signal (contributions_in first list.now))) }
     ensures inside { IfOk result (λ id. id.0 < length (arena exprs.new)) }
     ensures stands { OnOk result (Stands (arena exprs.old) (arena exprs.new)) }
 {
@@ -90,9 +90,13 @@ pub(crate) fn bit_of(
                 let behind = bit_of(exprs, list, signal, rest)?;
                 exprs.add_more(Node::Or(sum, behind))
             }
-            Step::Not => {
+            Step::NotIf(complement) => {
                 let behind = bit_of(exprs, list, signal, rest)?;
-                exprs.add_more(Node::Not(behind))
+                if complement {
+                    exprs.add_more(Node::Not(behind))
+                } else {
+                    Ok(behind)
+                }
             }
             Step::Unmatched => {
                 if is_free(list, signal) {

@@ -1,27 +1,43 @@
-use Rattle.std.proofs.Common.{◌++◌, ◌∷◌, [], refl, ap, sym, ◌∙◌}
+use Rattle.std.proofs.Common.{◌≡◌, true, ◌++◌, ◌∷◌, [], refl, ap, sym, ◌∙◌}
+use Rattle.std.specs.Prelude.{is_some, not}
+use Rattle.std.proofs.lemmas.Bool.{true≢false}
 use Rattle.bit_expr.specs.Arena.{arena}
 use Rattle.abel_tree.specs.Entries.{view_declared}
-use Rattle.gathering.proofs.Pushed.{asks_nothing, asks_node, asks_cell}
+use Rattle.gathering.specs.Linked.{is_node_kind}
+use Rattle.gathering.proofs.Pushed.{asks_node, asks_cell}
+use Rattle.gathering.proofs.Standing.{stands_same}
+use Rattle.gathering.proofs.asked.ask.Goals.{else-is_none-via-then-is_none+else-not-is_node, else-is_none-via-else-is_none}
 use Rattle.gathering.proofs.asked.ask.Goals as goal
 
-pub returns-in_ok-push-3-clause-asks : goal.returns-in_ok-push-3-clause-asks
-returns-in_ok-push-3-clause-asks g c = λ first xs standing inside is asks.
-    asks_node g.D.Device.table first (arena c.args.exprs.now) c.args.list.now xs (view_declared c.args.named.now.declared.now) c.args.asked.now c.args.named.now.number asks is
-    (arena c.sum_up.new.exprs) c.in_ok-totals.totals standing inside c.in_ok-totals.ensures.stands c.in_ok-totals.ensures.given
-    (record { nodes = c.push-then-is_node-2.new.self; cells = c.args.asked.now.cells; signals = c.push-then-is_node.new.self; links = c.push.new.self })
-    c.node_link.result c.in_ok-push-2.ensures.items c.in_ok-push.ensures.items c.node_link.ensures
-    c.in_ok-push-3.ensures.items refl (sym c.is_node.ensures ∙ c.if-is_node.true)
+pub link_of-requires : goal.link_of-requires
+link_of-requires g c =
+    let new = arena c.sum_up.new.exprs in
+    let given = c.in_ok-totals.ensures.given (arena c.args.exprs.now) new (stands_same (arena c.args.exprs.now)) c.requires (stands_same new) in
+    record { function = given.function.inside; enable = given.enable.inside }
 
-pub returns-in_ok-push-6-clause-asks : goal.returns-in_ok-push-6-clause-asks
-returns-in_ok-push-6-clause-asks g c = λ first xs standing inside is asks.
-    asks_cell g.D.Device.table first (arena c.args.exprs.now) c.args.list.now xs (view_declared c.args.named.now.declared.now) c.args.asked.now c.args.named.now.number asks is
-    (arena c.sum_up-in-Some.new.exprs) c.in_ok-totals-2.totals standing inside c.in_ok-totals-2.ensures.stands c.in_ok-totals-2.ensures.given
-    (record { nodes = c.args.asked.now.nodes; cells = c.push-in-Some-3.new.self; signals = c.push-in-Some-2.new.self; links = c.push-in-Some.new.self }) c.in-Some.cell
-    c.cell_link.result c.in_ok-push-5.ensures.items c.in_ok-push-4.ensures.items c.cell_link.ensures refl
-    (c.in_ok-push-6.ensures.items ∙ ap (λ w. c.args.asked.now.cells.items ++ w ∷ []) c.asked_cell.ensures)
-    (sym c.is_node.ensures ∙ c.if-is_node.false) (sym c.cell_of.ensures.cell ∙ c.in-Some.is)
+pub returns-in_ok-push-in-Some-clause-asks : goal.returns-in_ok-push-in-Some-clause-asks
+returns-in_ok-push-in-Some-clause-asks g c = λ first last before lie behind xs left asks.
+    let new = arena c.sum_up.new.exprs in
+    let list = c.args.list.now in
+    let s = c.args.named.now.number in
+    let given = c.in_ok-totals.ensures.given first in
+    asks_cell g.D.Device.table first last list xs left (view_declared c.args.named.now.declared.now) c.args.asked.now s asks
+    c.in_ok-totals.totals (given last before lie behind) c.link_of.result (λ d on. c.link_of.ensures d first list s on (given new before lie (stands_same new)))
+    (record { nodes = c.args.asked.now.nodes; cells = c.push-in-Some.new.self; signals = c.push-2.new.self; links = c.push.new.self }) c.in_ok-push-2.ensures.items c.in_ok-push.ensures.items
+    c.in-Some.cell refl (c.in_ok-push-in-Some.ensures.items ∙ ap (λ w. c.args.asked.now.cells.items ++ w ∷ []) c.asked_cell.ensures) (sym c.cell_of-cell.ensures.cell ∙ c.in-Some.is)
 
-pub returns-in_default-clause-asks : goal.returns-in_default-clause-asks
-returns-in_default-clause-asks g c = λ first xs standing inside is asks.
-    asks_nothing g.D.Device.table first (arena c.args.exprs.now) c.args.list.now xs (view_declared c.args.named.now.declared.now) c.args.asked.now c.args.named.now.number asks is
-    (sym c.is_node.ensures ∙ c.if-is_node.false) (sym c.cell_of.ensures.cell ∙ c.in_default.is)
+pub returns-in_ok-push-in-None-clause-asks : goal.returns-in_ok-push-in-None-clause-asks
+returns-in_ok-push-in-None-clause-asks g c = λ first last before lie behind xs left asks.
+    let new = arena c.sum_up.new.exprs in
+    let list = c.args.list.now in
+    let s = c.args.named.now.number in
+    let x = view_declared c.args.named.now.declared.now in
+    let given = c.in_ok-totals.ensures.given first in
+    let node : is_node_kind x.kind ≡ true = elim c.else-is_none.branch [
+      | else-is_none-via-then-is_none+else-not-is_node w ↦ sym w.is_node.ensures ∙ w.if-not-is_node.false
+      | else-is_none-via-else-is_none w ↦ absurd (true≢false (sym (ap not w.if-is_none.false) ∙ sym c.is_none.ensures ∙ ap is_some c.in-None.is))
+    ] in
+    asks_node g.D.Device.table first last list xs left x c.args.asked.now s asks
+    c.in_ok-totals.totals (given last before lie behind) c.link_of.result (λ d on. c.link_of.ensures d first list s on (given new before lie (stands_same new)))
+    (record { nodes = c.push-in-None.new.self; cells = c.args.asked.now.cells; signals = c.push-2.new.self; links = c.push.new.self }) c.in_ok-push-2.ensures.items c.in_ok-push.ensures.items
+    c.in_ok-push-in-None.ensures.items refl node

@@ -1,14 +1,15 @@
--- What the names so far ask is there.
-use Rattle.std.proofs.Common.{◌≡◌, map, take}
+-- With what the names ask that are left, all of them ask what they ask.
+use Rattle.std.proofs.Common.{List, map, drop}
 use Rattle.bit_expr.specs.Arena.{arena}
+use Rattle.bit_expr.specs.Formulas.{Formula}
 use Rattle.abel_tree.specs.Entries.{view_declared}
 use Rattle.gathering.specs.Parts.{Stands}
-use Rattle.gathering.specs.Asking.{Asks}
+use Rattle.gathering.specs.Asking.{AsksBefore}
 use Rattle.gathering.proofs.netlist.ask_all.Given as goal
 
 abbrev pub invariant-loop-declared : goal.invariant-loop-declared
 invariant-loop-declared g l = record {
-  asks : Asks g.D.Device.table (arena l.initial.exprs) (arena l.exprs) l.list (map view_declared (take l.declared-index l.declared-items)) l.asked;
-  number : l.number ≡ l.declared-index;
+  asks : (last : List Formula) → Stands (arena l.exprs) last
+      → AsksBefore g.D.Device.table (arena l.initial.exprs) last l.list (map view_declared l.declared-items) l.number (map view_declared (drop l.declared-index l.declared-items)) l.asked;
   stands : Stands (arena l.initial.exprs) (arena l.exprs);
 }

@@ -1,11 +1,11 @@
 use Rattle.std.proofs.Common.{◌<◌, take, length, ap, sym, ◌∙◌, arith}
-use Rattle.std.proofs.lemmas.List.{take_more}
+use Rattle.std.proofs.lemmas.List.{take_more, take_all}
 use Rattle.bit_expr.specs.Arena.{arena, formula_at}
 use Rattle.bit_expr.proofs.ArenaLists.{arena_count, first_formula}
 use Rattle.gathering.specs.Amounts.{contributions_in}
 use Rattle.gathering.specs.Parts.{part_sum}
 use Rattle.gathering.proofs.GivenAmounts.{sum_on}
-use Rattle.gathering.proofs.Standing.{stands_same, stands_on}
+use Rattle.gathering.proofs.Standing.{same_contributions, same_formula, stands_same, stands_on}
 use Rattle.gathering.proofs.sums.part_sum.Goals as goal
 
 pub loop-given-init : goal.loop-given-init
@@ -27,3 +27,12 @@ loop-given-preserved c =
       inside = c.in_ok-sum.ensures.inside;
       stands = stands_on old (arena c.loop-given.exprs) (arena c.with_one.new.exprs) c.loop-given.invariant.stands c.in_ok-sum.ensures.stands;
     }
+
+pub returns-clause-sum : goal.returns-clause-sum
+returns-clause-sum c = λ first last before lie behind.
+    let old = arena c.args.exprs.now in
+    let list = c.args.list.now in
+    same_formula (arena c.loop-given.exprs) last behind c.loop-given.sum.0 c.loop-given.invariant.inside
+    ∙ c.loop-given.invariant.sum
+    ∙ ap (λ cs. part_sum c.args.part c.args.signal (contributions_in old cs)) (take_all c.loop-given.given-index list (omega (arith, c.loop-given-test.false)))
+    ∙ ap (part_sum c.args.part c.args.signal) (same_contributions first old before list lie)
