@@ -4,9 +4,9 @@ ghost use Rattle.std.specs.Prelude.{◌≡◌, [], ◌∷◌, map};
 ghost use Rattle.abel_tree.specs.View.{view_decl, view_stmt};
 ghost use Rattle.abel_meaning.specs.Designs as designs;
 ghost use Rattle.abel_meaning.specs.Directives as directives;
-ghost use Rattle.equations.specs.Checks.{view_list, view_when};
+ghost use Rattle.equations.specs.Checks.{view_list};
 
-use abel_tree::{Decl, Stmt, When};
+use abel_tree::{Decl, Stmt};
 
 /// After a declaration.
 fn after_declaration(on: bool, decl: &Decl) -> bool
@@ -33,28 +33,22 @@ pub(crate) fn after_declarations(mut on: bool, decls: &[Decl]) -> bool
     on
 }
 
-/// After a statement.
+/// After a statement, with both statements of WHEN.
 #[cycle(directives)]
 fn after_statement(on: bool, stmt: &Stmt) -> bool
     ensures { result ≡ directives.after_statement on (view_stmt stmt.now) }
 {
     match stmt {
         Stmt::Assign(_) => on,
-        Stmt::When(when) => after_when(on, when),
+        Stmt::When(when) => {
+            let then = after_statement(on, when.then.get());
+            match &when.otherwise {
+                Some(other) => after_statement(then, other.get()),
+                None => then,
+            }
+        }
         Stmt::Group(group) => after_statements(on, group.as_slice()),
         Stmt::DontCare(directive) => directive.on,
-    }
-}
-
-/// After both statements of WHEN.
-#[cycle(directives)]
-fn after_when(on: bool, when: &When) -> bool
-    ensures { result ≡ directives.after_statement on (view_when when.now) }
-{
-    let then = after_statement(on, when.then.get());
-    match &when.otherwise {
-        Some(other) => after_statement(then, other.get()),
-        None => then,
     }
 }
 

@@ -1,7 +1,6 @@
 //! What the sections of a source contribute, in their order, and the first of all that is refused of them.
 #![tactic(auto)]
 
-mod behind;
 mod directives;
 mod joining;
 mod state_directives;

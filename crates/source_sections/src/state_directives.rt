@@ -3,32 +3,10 @@
 ghost use Rattle.std.specs.Prelude.{◌≡◌, [], ◌∷◌, map};
 ghost use Rattle.abel_tree.specs.View.{view_arm, view_state};
 ghost use Rattle.abel_meaning.specs.Directives as directives;
-ghost use Rattle.state_diagrams.specs.Arms.{view_goal, view_if, view_arms, view_choices};
+ghost use Rattle.state_diagrams.specs.Arms.{view_arms, view_choices};
 
 use crate::directives::after_statements;
-use abel_tree::{Arm, CaseArm, Goal, If, State};
-
-/// After a goal with the statements behind it.
-fn after_goal(on: bool, goal: &Goal) -> bool
-    ensures { result ≡ directives.after_branch on (view_goal goal.now) }
-{
-    match &goal.with {
-        None => on,
-        Some(list) => after_statements(on, list.as_slice()),
-    }
-}
-
-/// After both branches of IF.
-#[cycle(arms)]
-fn after_if(on: bool, choice: &If) -> bool
-    ensures { result ≡ directives.after_branch on (view_if choice.now) }
-{
-    let then = after_arm(on, choice.then.get());
-    match &choice.otherwise {
-        None => then,
-        Some(other) => after_arm(then, other.get()),
-    }
-}
+use abel_tree::{Arm, CaseArm, State};
 
 /// After the arms of CASE.
 #[cycle(arms)]
@@ -41,14 +19,23 @@ fn after_choices(mut on: bool, arms: &[CaseArm]) -> bool
     on
 }
 
-/// After a transition. Calls go as deep as the nestings of transitions.
+/// After a transition: the statements behind a goal, both branches of IF. Calls go as deep as the nestings of transitions.
 #[cycle(arms)]
 fn after_arm(on: bool, arm: &Arm) -> bool
     ensures { result ≡ directives.after_branch on (view_arm arm.now) }
 {
     match arm {
-        Arm::Goal(goal) => after_goal(on, goal),
-        Arm::If(choice) => after_if(on, choice),
+        Arm::Goal(goal) => match &goal.with {
+            None => on,
+            Some(list) => after_statements(on, list.as_slice()),
+        },
+        Arm::If(choice) => {
+            let then = after_arm(on, choice.then.get());
+            match &choice.otherwise {
+                None => then,
+                Some(other) => after_arm(then, other.get()),
+            }
+        }
         Arm::Case(case) => after_choices(on, case.arms.as_slice()),
     }
 }

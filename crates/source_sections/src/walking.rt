@@ -1,10 +1,13 @@
 //! The walk over sections, one after another: each unit is checked, and made where nothing is refused so far.
 
-ghost use Rattle.std.specs.Prelude.{◌≡◌, [], OnOk};
+ghost use Rattle.std.specs.Prelude.{◌≡◌, ℕ, [], Some, IfOk, OnOk};
 ghost use Rattle.abel_tree.specs.View.{view_section};
+ghost use Rattle.abel_meaning.specs.Directives as directives;
+ghost use Rattle.abel_meaning.specs.Sections.{next_block};
 ghost use Rattle.source_sections.specs.Reading.{WalksSection, WalksSections, view_sections};
 
-use crate::behind::{after_section, block_after};
+use crate::directives::{after_declarations, after_statements};
+use crate::state_directives::after_states;
 use abel_tree::Section;
 use bit_expr::ExprId;
 use equations::walk_statements;
@@ -16,49 +19,55 @@ use state_diagrams::walk_diagram;
 use std::alloc::Global;
 use truth_tables::walk_table;
 
-/// What a section stands in: whether `@DCSET` is in force, and the number that it has where it is a block.
-#[derive(Clone, Copy)]
-struct Setting {
-    dontcare: bool,
-    block: u32,
-}
-
-/// What stands round a table, a diagram or the statements of a section: no condition.
-fn unguarded(dontcare: bool, block: Option<u32>) -> Guard
-    ensures when { result.when.0 ≡ 1 }
-    ensures dontcare { result.dontcare ≡ dontcare }
-    ensures block { result.block ≡ block }
+/// Whether `@DCSET` is in force after a section, where it is `on` before it. Takes no memory.
+fn after_section(on: bool, section: &Section) -> bool
+    ensures { result ≡ directives.after_section on (view_section section.now) }
 {
-    Guard {
-        when: ExprId(1),
-        dontcare,
-        block,
+    match section {
+        Section::Declarations(decls) => after_declarations(on, decls.as_slice()),
+        Section::Equations(stmts) => after_statements(on, stmts.as_slice()),
+        Section::DontCare(directive) => directive.on,
+        Section::Diagram(diagram) => after_states(on, diagram.states.as_slice()),
+        Section::Table(_) | Section::Vectors(_) => on,
     }
 }
 
-/// A section behind what was walked before.
+/// The number of the next block behind a section, which may be the block with this number; so many blocks that there is
+/// none are more than memory holds.
+fn block_after(block: u32, section: &Section) -> Result<u32, OutOfMemory>
+    ensures { IfOk result (λ b. b ≡ next_block block (view_section section.now)) }
+{
+    match section {
+        Section::Table(_) | Section::Diagram(_) => block.checked_add(1).ok_or(OutOfMemory),
+        Section::Declarations(_)
+        | Section::Equations(_)
+        | Section::Vectors(_)
+        | Section::DontCare(_) => Ok(block),
+    }
+}
+
+/// A section behind what was walked before. The guard round it has no condition, and the number of the section where it is
+/// a block; statements stand in no block.
 fn walk_section<D: Device>(
     alloc: Global,
     scope: &SectionScope<'_, D>,
-    setting: Setting,
+    guard: Guard,
     section: &Section,
     out: &mut Walked,
 ) -> Result<(), OutOfMemory>
-    ensures { OnOk result (WalksSection D.table scope.now setting.dontcare setting.block (view_section section.now) out.old out.new) }
+    requires { guard.when.0 ≡ 1 }
+    ensures { OnOk result ((block : ℕ) → guard.block ≡ Some block → WalksSection D.table scope.now guard.dontcare block (view_section section.now) out.old out.new) }
 {
     match section {
         Section::Equations(stmts) => {
-            let guard = unguarded(setting.dontcare, None);
+            let guard = Guard {
+                block: None,
+                ..guard
+            };
             walk_statements::<D>(alloc, scope, guard, stmts.as_slice(), out)
         }
-        Section::Table(table) => {
-            let guard = unguarded(setting.dontcare, Some(setting.block));
-            walk_table::<D>(alloc, scope, guard, table, out)
-        }
-        Section::Diagram(diagram) => {
-            let guard = unguarded(setting.dontcare, Some(setting.block));
-            walk_diagram::<D>(alloc, scope, guard, diagram, out)
-        }
+        Section::Table(table) => walk_table::<D>(alloc, scope, guard, table, out),
+        Section::Diagram(diagram) => walk_diagram::<D>(alloc, scope, guard, diagram, out),
         Section::Declarations(_) | Section::DontCare(_) | Section::Vectors(_) => Ok(()),
     }
 }
@@ -77,8 +86,12 @@ pub(crate) fn walk_sections<D: Device>(
     let mut dontcare = starts_dontcare;
     let mut block = 0u32;
     for section in sections {
-        let setting = Setting { dontcare, block };
-        walk_section::<D>(alloc, scope, setting, section, out)?;
+        let guard = Guard {
+            when: ExprId(1),
+            dontcare,
+            block: Some(block),
+        };
+        walk_section::<D>(alloc, scope, guard, section, out)?;
         dontcare = after_section(dontcare, section);
         block = block_after(block, section)?;
     }

@@ -27,7 +27,7 @@ loop-section-preserved g c =
     let here : view_sections (drop i list) ≡ view_section x ∷ rest = ap view_sections (left_next list i x c.loop-section-test.true c.section-item.is) in
     subst (λ on. AreLeft t n on c.in_ok-block.block rest c.walk_section.new.out Done) (sym c.after_section-dontcare.ensures)
     (subst (λ b. AreLeft t n (after_section l.dontcare (view_section x)) b rest c.walk_section.new.out Done) (sym c.in_ok-block.ensures)
-    (one_walked t n l.dontcare l.block l.out Done (view_section x) rest c.walk_section.new.out c.in_ok-walk_section.ensures
+    (one_walked t n l.dontcare l.block l.out Done (view_section x) rest c.walk_section.new.out (c.in_ok-walk_section.ensures l.block refl)
     (subst (λ ss. AreLeft t n l.dontcare l.block ss l.out Done) here l.invariant)))
 
 pub returns : goal.returns
