@@ -1,5 +1,7 @@
 -- More that is found, behind what was found before.
-use Rattle.std.proofs.Common.{◌≡◌, ℕ, Option, None, Some, List, [], ◌∷◌, ◌++◌, refl, sym, ap, ◌∙◌, append_assoc, append-nil}
+use Rattle.std.proofs.Common.{◌≡◌, ℕ, true, ◌||◌, Option, None, Some, List, [], ◌∷◌, ◌++◌, Result, Ok, Err, refl, sym, ap, ap₂, ◌∙◌, subst, append_assoc, append-nil}
+use Rattle.std.specs.Prelude.{is_some}
+use Rattle.std.proofs.lemmas.Bool.{true≢false}
 use Rattle.pld_device.specs.Table.{Table}
 use Rattle.jedec_file.specs.TestVectors.{all_chars}
 use Rattle.abel_tree.specs.FirstRefusal.{first_refusal, earlier}
@@ -8,7 +10,7 @@ use Rattle.set_expr.proofs.SummedUp.{left_empty, right_empty}
 use Rattle.set_expr.specs.declared.fault.SectionFault.{SectionFault}
 use Rattle.set_expr.specs.SectionOrder.{section_order}
 use Rattle.abel_vectors.specs.declared.finding.Found.{Found}
-use Rattle.abel_vectors.specs.FoundVectors.{Finds, IsFound, NothingFound}
+use Rattle.abel_vectors.specs.FoundVectors.{fault_in, Finds, IsFound, IsReadAs, NothingFound}
 use Rattle.abel_vectors.specs.VectorRefusals.{if_none}
 
 -- of two lists there is no first refusal only where both are empty
@@ -54,12 +56,27 @@ pub finds_behind : (t : Table) (xs ys : List SectionFault) (cs : List (List ℕ)
 finds_behind t [] ys cs old mid new e a b = finds_then t [] ys [] cs old mid new a b
 finds_behind t (x ∷ xs) ys cs old mid new e a b = absurd cc
 
--- one of two lists has a refusal
-pub left_some : (xs ys : List SectionFault) (f : SectionFault) → first_refusal section_order xs ≡ Some f → xs ++ ys ≡ [] → ⊥
-left_some xs ys f e k = let none : first_refusal section_order xs ≡ None = ap (first_refusal section_order) (left_empty xs ys k) in cc
+-- what is refused of a thing that was read, and how it is
+module _ {A : Type 0} (rs : List SectionFault) (so : A → Type 0) where
+  pub read_first : (r : Result A SectionFault) → IsReadAs rs so r → fault_in r ≡ first_refusal section_order rs
+  read_first (Ok x) is = sym (ap (first_refusal section_order) is.0)
+  read_first (Err f) is = sym is
 
-pub right_some : (xs ys : List SectionFault) (f : SectionFault) → first_refusal section_order ys ≡ Some f → xs ++ ys ≡ [] → ⊥
-right_some xs ys f e k = let none : first_refusal section_order ys ≡ None = ap (first_refusal section_order) (right_empty xs ys k) in cc
+  pub read_so : (r : Result A SectionFault) (x : A) → r ≡ Ok x → IsReadAs rs so r → (rs ≡ []) × so x
+  read_so r x e is = subst (IsReadAs rs so) e is
+
+-- the refusals of two, behind what was found before
+module _ (t : Table) (rs ss : List SectionFault) (x y : Option SectionFault) (old new : Found) (left : x ≡ first_refusal section_order rs) (right : y ≡ first_refusal section_order ss) where
+  pub both_found : new.fault ≡ earlier section_order old.fault (earlier section_order x y) → new.list.items ≡ old.list.items → Finds t (rs ++ ss) [] old new
+  both_found fault list =
+      finds_refusals t (rs ++ ss) (earlier section_order x y) old new (ap₂ (earlier section_order) left right ∙ sym (first_append section_order rs ss)) fault list
+
+  -- where one is refused, what would come behind doesn't matter
+  pub found_alone : (ys : List SectionFault) (cs : List (List ℕ)) → (is_some x || is_some y) ≡ true → Finds t (rs ++ ss) [] old new → Finds t (if_none (rs ++ ss) ys) cs old new
+  found_alone ys cs refused found =
+      finds_alone t (rs ++ ss) ys cs old new
+      (λ none. true≢false (sym refused ∙ ap₂ (λ a b. is_some a || is_some b) (left ∙ ap (first_refusal section_order) (left_empty rs ss none)) (right ∙ ap (first_refusal section_order) (right_empty rs ss none))))
+      found
 
 -- all that is found, from nothing
 pub all_found : (t : Table) (rs : List SectionFault) (cs : List (List ℕ)) (old new : Found) → NothingFound old → Finds t rs cs old new → IsFound t rs cs new

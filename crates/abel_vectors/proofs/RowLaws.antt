@@ -1,13 +1,11 @@
 -- A row by its entries and their marks, and rows.
 use Rattle.std.proofs.Common.{◌≡◌, ℕ, suc, Bool, if◌then◌else◌, Option, None, Some, List, [], ◌∷◌, ◌++◌, map, refl, sym, ap, ap₂, ◌∙◌, subst, subst₂, append-nil}
 use Rattle.std.specs.List.{range_with_len}
-use Rattle.std.specs.Global.{Vec}
 use Rattle.std.proofs.lemmas.List.{map-append}
 use Rattle.pld_base.specs.declared.point.Vector.{Vector}
 use Rattle.jedec_file.specs.TestVectors.{all_chars, chars_of}
 use Rattle.abel_tree.specs.FirstRefusal.{first_refusal, earlier}
-use Rattle.abel_tree.specs.Tree.{Tree, RowTree}
-use Rattle.abel_tree.proofs.FirstRefusals.{first_append}
+use Rattle.abel_tree.specs.Tree.{RowTree}
 use Rattle.abel_meaning.specs.Designs.{Context}
 use Rattle.abel_meaning.specs.Rows.{Mark, marks_of}
 use Rattle.abel_meaning.specs.Targets.{targets_of}
@@ -16,50 +14,15 @@ use Rattle.abel_meaning.specs.Vectors.{char_or_plain, row_chars}
 use Rattle.set_expr.specs.declared.fault.SectionFault.{SectionFault}
 use Rattle.set_expr.specs.declared.fault.SectionFault.TheVariants.{BadVector}
 use Rattle.set_expr.specs.SectionOrder.{section_order}
-use Rattle.truth_tables.specs.declared.entries.Entry.{Entry}
-use Rattle.truth_tables.specs.declared.entries.Entry.TheVariants as entry
-use Rattle.truth_tables.specs.declared.mark.Mark as code
-use Rattle.truth_tables.specs.EntryMarks.{IsRead, view_mark}
 use Rattle.truth_tables.specs.RowEntries.{entry_refused}
 use Rattle.abel_vectors.specs.declared.finding.Found.{Found}
 use Rattle.abel_vectors.specs.declared.rows.Header.{Header}
 use Rattle.abel_vectors.specs.FoundVectors.{Finds}
 use Rattle.abel_vectors.specs.GivenChars.{found_at}
-use Rattle.abel_vectors.specs.ReadRows.{AddsVector, FindsRow, FindsRows, IsRowVector, NamesPins, entry_fault, header_term}
+use Rattle.abel_vectors.specs.ReadRows.{AddsVector, FindsRow, FindsRows, IsRowVector, NamesPins, header_term}
 use Rattle.abel_vectors.specs.VectorRefusals.{all_given, entries_refused, marks_refused, one_too_many, row_refused, rows_refused}
-use Rattle.abel_vectors.proofs.FoundLaws.{finds_alone, finds_behind, finds_refusals, finds_refused, finds_then, left_some, right_some}
+use Rattle.abel_vectors.proofs.FoundLaws.{finds_behind, finds_refusals, finds_refused, finds_then}
 use Rattle.abel_vectors.proofs.GivenLaws.{all_found}
-
--- ---- what is refused of entries
-
-entry_first : (d : Context) (r : SectionFault) (h : Term) (t : Tree) (e : Entry) → IsRead d r h t e → first_refusal section_order (entry_refused d r h t) ≡ entry_fault e
-entry_first d r h t (entry.Refused f) is = is
-entry_first d r h t (entry.Marks ms) is = ap (first_refusal section_order) is.0
-
-entries_first : (d : Context) (h k : Term) (r : RowTree) (a b : Entry) → IsRead d (BadVector r.place) h r.inputs a → IsRead d (BadVector r.place) k r.outputs b → earlier section_order (entry_fault a) (entry_fault b) ≡ first_refusal section_order (entries_refused d h k r)
-entries_first d h k r a b p q =
-    sym
-    (first_append section_order (entry_refused d (BadVector r.place) h r.inputs) (entry_refused d (BadVector r.place) k r.outputs)
-    ∙ ap₂ (earlier section_order) (entry_first d (BadVector r.place) h r.inputs a p) (entry_first d (BadVector r.place) k r.outputs b q))
-
--- the refusals of both, behind what was found before
-pub entries_found : (d : Context) (h k : Term) (r : RowTree) (a b : Entry) (x y f : Option SectionFault) (old new : Found) → IsRead d (BadVector r.place) h r.inputs a → IsRead d (BadVector r.place) k r.outputs b
-    → x ≡ entry_fault a → y ≡ entry_fault b → f ≡ earlier section_order x y → new.fault ≡ earlier section_order old.fault f → new.list.items ≡ old.list.items → Finds d.device (entries_refused d h k r) [] old new
-entries_found d h k r a b x y f old new p q e g first fault list =
-    finds_refusals d.device (entries_refused d h k r) f old new (first ∙ ap₂ (earlier section_order) e g ∙ entries_first d h k r a b p q) fault list
-
--- a row of which an entry is refused
-pub left_stands : (d : Context) (h k : Term) (r : RowTree) (a : Entry) (f : SectionFault) (old new : Found) → IsRead d (BadVector r.place) h r.inputs a → a ≡ entry.Refused f
-    → Finds d.device (entries_refused d h k r) [] old new → Finds d.device (row_refused d h k r) (row_chars d h k r ∷ []) old new
-left_stands d h k r a f old new p e noted =
-    finds_alone d.device (entries_refused d h k r) (marks_refused d h k r) (row_chars d h k r ∷ []) old new
-    (left_some (entry_refused d (BadVector r.place) h r.inputs) (entry_refused d (BadVector r.place) k r.outputs) f (subst (IsRead d (BadVector r.place) h r.inputs) e p)) noted
-
-pub right_stands : (d : Context) (h k : Term) (r : RowTree) (b : Entry) (f : SectionFault) (old new : Found) → IsRead d (BadVector r.place) k r.outputs b → b ≡ entry.Refused f
-    → Finds d.device (entries_refused d h k r) [] old new → Finds d.device (row_refused d h k r) (row_chars d h k r ∷ []) old new
-right_stands d h k r b f old new q e noted =
-    finds_alone d.device (entries_refused d h k r) (marks_refused d h k r) (row_chars d h k r ∷ []) old new
-    (right_some (entry_refused d (BadVector r.place) h r.inputs) (entry_refused d (BadVector r.place) k r.outputs) f (subst (IsRead d (BadVector r.place) k r.outputs) e q)) noted
 
 -- ---- the vector of marks
 
@@ -89,21 +52,18 @@ vector_added d h k r (Some v) old new is adds =
         (λ pin. ap (char_or_plain d.device pin) (sym (all_found d pin (targets_of h) (marks_of d h (term_of d.known r.inputs)) (targets_of k) (marks_of d k (term_of d.known r.outputs)))))
 
 -- a row whose entries meet the header
-pub row_marked : (d : Context) (h : Header) (r : RowTree) (a b : Entry) (given tested : Vec code.Mark) (ms ns : List code.Mark) (vector : Option Vector) (old mid new : Found) → NamesPins d h
-    → IsRead d (BadVector r.place) (header_term d h.section.now.inputs) r.inputs a → IsRead d (BadVector r.place) (header_term d h.section.now.outputs) r.outputs b
-    → a ≡ entry.Marks given → b ≡ entry.Marks tested → ms ≡ given.items → ns ≡ tested.items
-    → IsRowVector d h.driven.now (map view_mark ms) h.tested.now (map view_mark ns) vector
+pub row_marked : (d : Context) (h : Header) (r : RowTree) (given tested : List Mark) (vector : Option Vector) (old mid new : Found) → NamesPins d h
+    → (entry_refused d (BadVector r.place) (header_term d h.section.now.inputs) r.inputs ≡ []) × (given ≡ marks_of d (header_term d h.section.now.inputs) (term_of d.known r.inputs))
+    → (entry_refused d (BadVector r.place) (header_term d h.section.now.outputs) r.outputs ≡ []) × (tested ≡ marks_of d (header_term d h.section.now.outputs) (term_of d.known r.outputs))
+    → IsRowVector d h.driven.now given h.tested.now tested vector
     → Finds d.device (entries_refused d (header_term d h.section.now.inputs) (header_term d h.section.now.outputs) r) [] old mid → AddsVector r.place vector mid new → FindsRow d h r old new
-row_marked d h r a b given tested ms ns vector old mid new names p q e f l m is noted adds =
+row_marked d h r given tested vector old mid new names first second is noted adds =
     let i = header_term d h.section.now.inputs in
     let o = header_term d h.section.now.outputs in
-    let driven = subst (IsRead d (BadVector r.place) i r.inputs) e p in
-    let found = subst (IsRead d (BadVector r.place) o r.outputs) f q in
-    finds_behind d.device (entries_refused d i o r) (marks_refused d i o r) (row_chars d i o r ∷ []) old mid new
-    (ap₂ (λ xs ys. xs ++ ys) driven.0 found.0) noted
+    finds_behind d.device (entries_refused d i o r) (marks_refused d i o r) (row_chars d i o r ∷ []) old mid new (ap₂ (λ xs ys. xs ++ ys) first.0 second.0) noted
     (vector_added d i o r vector mid new
-    (subst₂ (λ ss xs. IsRowVector d ss xs (targets_of o) (marks_of d o (term_of d.known r.outputs)) vector) names.driven (ap (map view_mark) l ∙ driven.1)
-    (subst₂ (λ ts xs. IsRowVector d h.driven.now (map view_mark ms) ts xs vector) names.tested (ap (map view_mark) m ∙ found.1) is))
+    (subst₂ (λ ss xs. IsRowVector d ss xs (targets_of o) (marks_of d o (term_of d.known r.outputs)) vector) names.driven first.1
+    (subst₂ (λ ts xs. IsRowVector d h.driven.now given ts xs vector) names.tested second.1 is))
     adds)
 
 -- ---- rows

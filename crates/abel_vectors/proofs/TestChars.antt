@@ -82,7 +82,7 @@ pins_test d h k r (pin ∷ pins) = ap₂ (λ a b. a && b) (pin_tests d h k r pin
 
 -- ---- texts
 
-abbrev AllTest : List (List ℕ) → Type 0
+abbrev pub AllTest : List (List ℕ) → Type 0
 AllTest css = All (λ (cs : List ℕ). list_all is_test_char cs ≡ true) css
 
 none_test : AllTest []

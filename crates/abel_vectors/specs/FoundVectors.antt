@@ -1,7 +1,5 @@
 -- Private: what is found of vectors, row after row and section after section (this project's rule).
 use Rattle.std.specs.Prelude.{◌≡◌, ℕ, ◌+◌, ◌-◌, Option, None, Some, List, [], ◌++◌, length, Result, Ok, Err}
-use Rattle.std.specs.Global.{Vec}
-use Rattle.pld_base.specs.declared.point.Vector.{Vector}
 use Rattle.pld_device.specs.Table.{Table}
 use Rattle.jedec_file.specs.TestVectors.{all_chars}
 use Rattle.abel_tree.specs.FirstRefusal.{first_refusal, earlier}
@@ -12,11 +10,6 @@ use Rattle.set_expr.specs.declared.fault.SectionFault.{SectionFault}
 use Rattle.set_expr.specs.SectionOrder.{section_order}
 use Rattle.abel_vectors.specs.declared.finding.Found.{Found}
 use Rattle.abel_vectors.specs.VectorRefusals.{vectors_refused}
-
--- the vectors, or their first refusal
-abbrev pub answer_of : Option SectionFault → Vec Vector → Result (Vec Vector) SectionFault
-answer_of (Some f) list = Err f
-answer_of None list = Ok list
 
 -- nothing yet
 pub record NothingFound (found : Found) : Type 0 where
@@ -32,6 +25,20 @@ pub record IsFound (t : Table) (rs : List SectionFault) (chars : List (List ℕ)
 pub record Finds (t : Table) (rs : List SectionFault) (chars : List (List ℕ)) (old new : Found) : Type 0 where
   pub fault : new.fault ≡ earlier section_order old.fault (first_refusal section_order rs)
   pub list : new.fault ≡ None → all_chars t new.list.items ≡ all_chars t old.list.items ++ chars
+
+-- ---- what is read before it
+
+-- the refusal of what was read, if there is one
+abbrev pub fault_in : {A : Type 0} → Result A SectionFault → Option SectionFault
+fault_in (Ok x) = None
+fault_in (Err f) = Some f
+
+-- nothing is refused of it and it is so, or it is refused first
+abbrev pub IsReadAs : {A : Type 0} → List SectionFault → (A → Type 0) → Result A SectionFault → Type 0
+IsReadAs rs so (Ok x) = (rs ≡ []) × so x
+IsReadAs rs so (Err f) = first_refusal section_order rs ≡ Some f
+
+-- ---- sections
 
 -- a section more, behind so many vectors; the room that is left
 pub record FindsSection (d : Context) (before : ℕ) (s : SectionTree) (left : ℕ) (old new : Found) : Type 0 where

@@ -1,5 +1,5 @@
 -- What is found of a side of a header of vectors (ABEL-HDL Reference Manual, test vectors).
-use Rattle.std.specs.Prelude.{◌≡◌, Option, None, Some, []}
+use Rattle.std.specs.Prelude.{◌≡◌, Some, []}
 use Rattle.pld_base.specs.declared.place.Place.{Place}
 use Rattle.abel_tree.specs.FirstRefusal.{first_refusal}
 use Rattle.abel_tree.specs.Tree.{Tree}
@@ -7,7 +7,6 @@ use Rattle.abel_meaning.specs.Designs.{Context}
 use Rattle.abel_meaning.specs.Targets.{targets_of}
 use Rattle.abel_meaning.specs.Terms.{term_of}
 use Rattle.set_expr.specs.SectionOrder.{section_order}
-use Rattle.set_expr.specs.declared.fault.SectionFault.{SectionFault}
 use Rattle.abel_vectors.specs.declared.headers.Side.{Side}
 use Rattle.abel_vectors.specs.declared.headers.Side.TheVariants as side
 use Rattle.abel_vectors.specs.VectorRefusals.{side_refused}
@@ -16,8 +15,3 @@ use Rattle.abel_vectors.specs.VectorRefusals.{side_refused}
 abbrev pub IsSide : Context → Place → Tree → Side → Type 0
 IsSide d p t (side.Refused f) = first_refusal section_order (side_refused d p t) ≡ Some f
 IsSide d p t (side.Pins ss) = (side_refused d p t ≡ []) × (ss.items ≡ targets_of (term_of d.known t))
-
--- the refusal of a side, if there is one
-abbrev pub side_fault : Side → Option SectionFault
-side_fault (side.Refused f) = Some f
-side_fault (side.Pins ss) = None

@@ -17,8 +17,6 @@ use Rattle.abel_meaning.specs.Vectors.{char_or_plain, row_chars}
 use Rattle.set_expr.specs.declared.fault.SectionFault.{SectionFault}
 use Rattle.set_expr.specs.declared.fault.SectionFault.TheVariants.{BadVector}
 use Rattle.set_expr.specs.SectionOrder.{section_order}
-use Rattle.truth_tables.specs.declared.entries.Entry.{Entry}
-use Rattle.truth_tables.specs.declared.entries.Entry.TheVariants as entry
 use Rattle.abel_vectors.specs.declared.finding.Found.{Found}
 use Rattle.abel_vectors.specs.declared.rows.Header.{Header}
 use Rattle.abel_vectors.specs.FoundVectors.{Finds}
@@ -40,10 +38,6 @@ abbrev pub view_vectors : Vectors → SectionTree
 view_vectors v = SomeVectors v.note v.place (view v.inputs) (view v.outputs) (map view_vector_row v.rows)
 
 -- ---- a row
-
-abbrev pub entry_fault : Entry → Option SectionFault
-entry_fault (entry.Refused f) = Some f
-entry_fault (entry.Marks marks) = None
 
 -- a row with these marks at the positions of its header: its vector, or that it has none
 abbrev pub IsRowVector : Context → (inputs : List (Option ℕ)) → List Mark → (outputs : List (Option ℕ)) → List Mark → Option Vector → Type 0

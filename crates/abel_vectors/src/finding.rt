@@ -1,11 +1,15 @@
 //! What is found of vectors, row after row and section after section.
 
-ghost use Rattle.std.specs.Prelude.{◌≡◌, Some};
+ghost use Rattle.std.specs.Prelude.{◌≡◌, ℕ, true, ◌||◌, ◌++◌, [], Some, is_some, IfSome, IfNone, List, Ok};
+ghost use Rattle.pld_device.specs.Table.{Table};
 ghost use Rattle.abel_tree.specs.FirstRefusal as refusal;
+ghost use Rattle.abel_tree.specs.FirstRefusal.{first_refusal};
 ghost use Rattle.set_expr.specs.SectionOrder.{section_order};
-ghost use Rattle.abel_vectors.specs.FoundVectors.{answer_of, NothingFound};
+ghost use Rattle.set_expr.specs.declared.fault.SectionFault.{SectionFault};
+ghost use Rattle.abel_vectors.specs.FoundVectors.{fault_in, Finds, IsFound, NothingFound};
+ghost use Rattle.abel_vectors.specs.VectorAnswers.{IsAnswer};
 
-use abel_tree::is_before;
+use abel_tree::{earlier, is_before};
 use pld_base::Vector;
 use set_expr::SectionFault;
 use std::alloc::Global;
@@ -15,6 +19,16 @@ use std::alloc::Global;
 pub(crate) struct Found {
     pub fault: Option<SectionFault>,
     pub list: Vec<Vector>,
+}
+
+/// The refusal of what was read, if there is one.
+fn fault_in<A>(read: &Result<A, SectionFault>) -> Option<SectionFault>
+    ensures { result ≡ fault_in read.now }
+{
+    match read {
+        Ok(_) => None,
+        Err(fault) => Some(*fault),
+    }
 }
 
 impl Found {
@@ -28,9 +42,30 @@ impl Found {
         }
     }
 
+    /// Both of two things that were read in this order, unless one is refused.
+    pub(crate) fn both<A: Drop, B: Drop>(
+        &mut self,
+        left: Result<A, SectionFault>,
+        right: Result<B, SectionFault>,
+    ) -> Option<(A, B)>
+        ensures found { (t : Table) (rs ss : List SectionFault) → fault_in left ≡ first_refusal section_order rs
+            → fault_in right ≡ first_refusal section_order ss → Finds t (rs ++ ss) [] self.old self.new }
+        ensures both { IfSome result (λ x. (left ≡ Ok x.0) × (right ≡ Ok x.1)) }
+        ensures refused { IfNone result ((is_some (fault_in left) || is_some (fault_in right)) ≡ true) }
+    {
+        let refused = earlier(fault_in(&left), fault_in(&right));
+        self.fault = earlier(self.fault, refused);
+        match (left, right) {
+            (Ok(left), Ok(right)) => Some((left, right)),
+            (Err(_), _) => None,
+            (Ok(_), Err(_)) => None,
+        }
+    }
+
     /// The vectors, or the first refusal.
     pub(crate) fn answer(self) -> Result<Vec<Vector>, SectionFault>
-        ensures { result ≡ answer_of self.fault self.list }
+        ensures { (t : Table) (rs : List SectionFault) (texts : List (List ℕ)) → IsFound t rs texts self
+            → IsAnswer t rs texts result }
     {
         match self.fault {
             Some(fault) => Err(fault),

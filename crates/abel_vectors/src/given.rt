@@ -58,7 +58,7 @@ pub(crate) fn put_side(
     let count = signals.len().min(marks.len());
     for index in 0..count {
         put_mark(scope, role, signals[index], marks[index], list)?;
-        pulsed = pulsed | is_pulsed(signals[index], marks[index]);
+        pulsed |= is_pulsed(signals[index], marks[index]);
     }
     Ok(pulsed)
 }

@@ -5,8 +5,15 @@ ghost use Rattle.abel_tree.specs.FirstRefusal.{first_refusal};
 ghost use Rattle.abel_tree.specs.View.{view_vector_row};
 ghost use Rattle.set_expr.specs.Contexts.{context_for};
 ghost use Rattle.set_expr.specs.SectionOrder.{section_order};
-ghost use Rattle.truth_tables.specs.EntryMarks.{view_mark};
-ghost use Rattle.abel_vectors.specs.ReadRows.{AddsVector, FindsRow, FindsRows, IsRowVector, NamesPins, entry_fault};
+ghost use Rattle.abel_tree.specs.Tree.{Tree};
+ghost use Rattle.abel_meaning.specs.Designs.{Context};
+ghost use Rattle.abel_meaning.specs.Rows.{marks_of};
+ghost use Rattle.abel_meaning.specs.Terms.{Term, term_of};
+ghost use Rattle.set_expr.specs.declared.fault.SectionFault.{SectionFault};
+ghost use Rattle.truth_tables.specs.EntryMarks.{IsRead, view_mark};
+ghost use Rattle.truth_tables.specs.RowEntries.{entry_refused};
+ghost use Rattle.abel_vectors.specs.FoundVectors.{IsReadAs};
+ghost use Rattle.abel_vectors.specs.ReadRows.{AddsVector, FindsRow, FindsRows, IsRowVector, NamesPins};
 ghost use Rattle.abel_vectors.specs.VectorRefusals.{one_too_many};
 
 use crate::chars::Role;
@@ -48,13 +55,14 @@ fn row_vector<D: Device>(
     }
 }
 
-/// The refusal of an entry, if there is one.
-fn fault_of(entry: &Entry) -> Option<SectionFault>
-    ensures { result ≡ entry_fault entry.now }
+/// The marks of an entry, or its refusal.
+fn marks_in(entry: Entry) -> Result<Vec<Mark>, SectionFault>
+    ensures { (d : Context) (r : SectionFault) (h : Term) (t : Tree) → IsRead d r h t entry
+        → IsReadAs (entry_refused d r h t) (λ ms. map view_mark ms.items ≡ marks_of d h (term_of d.known t)) result }
 {
     match entry {
-        Entry::Refused(fault) => Some(*fault),
-        Entry::Marks(_) => None,
+        Entry::Marks(marks) => Ok(marks),
+        Entry::Refused(fault) => Err(fault),
     }
 }
 
@@ -83,16 +91,18 @@ fn read_row<D: Device>(
     let bad = SectionFault::BadVector(row.place);
     let driven = read_entry(alloc, scope, bad, &header.section.inputs, &row.inputs)?;
     let tested = read_entry(alloc, scope, bad, &header.section.outputs, &row.outputs)?;
-    let refused = earlier(fault_of(&driven), fault_of(&tested));
-    found.fault = earlier(found.fault, refused);
-    match (driven, tested) {
-        (Entry::Marks(driven), Entry::Marks(tested)) => {
-            let (driven, tested) = (driven.as_slice(), tested.as_slice());
-            let vector = row_vector::<D>(alloc, scope, header, driven, tested)?;
+    match found.both(marks_in(driven), marks_in(tested)) {
+        Some((driven, tested)) => {
+            let vector = row_vector::<D>(
+                alloc,
+                scope,
+                header,
+                driven.as_slice(),
+                tested.as_slice(),
+            )?;
             add_vector(found, row.place, vector)
         }
-        (Entry::Refused(_), _) => Ok(()),
-        (Entry::Marks(_), Entry::Refused(_)) => Ok(()),
+        None => Ok(()),
     }
 }
 

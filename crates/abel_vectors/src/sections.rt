@@ -4,21 +4,25 @@ ghost use Rattle.std.specs.Prelude.{◌≡◌, ℕ, ◌+◌, ◌-◌, ◌≤◌,
 ghost use Rattle.jedec_file.specs.TestVectors.{IsTestVector};
 ghost use Rattle.abel_tree.specs.Entries.{entries_of};
 ghost use Rattle.abel_tree.specs.View.{view_module, view_section};
-ghost use Rattle.abel_meaning.specs.Designs.{design_for};
+ghost use Rattle.pld_base.specs.declared.place.Place.{Place};
+ghost use Rattle.abel_tree.specs.Tree.{Tree};
+ghost use Rattle.abel_meaning.specs.Designs.{Context, design_for};
+ghost use Rattle.abel_meaning.specs.Targets.{targets_of};
+ghost use Rattle.abel_meaning.specs.Terms.{term_of};
 ghost use Rattle.abel_meaning.specs.Vectors.{section_vectors, sections_vectors};
 ghost use Rattle.set_expr.specs.Contexts.{context_for};
 ghost use Rattle.source_sections.specs.Reading.{view_sections};
-ghost use Rattle.abel_vectors.specs.FoundVectors.{Finds, FindsSection, IsFound};
-ghost use Rattle.abel_vectors.specs.HeaderSides.{side_fault};
+ghost use Rattle.abel_vectors.specs.FoundVectors.{Finds, FindsSection, IsFound, IsReadAs};
+ghost use Rattle.abel_vectors.specs.HeaderSides.{IsSide};
 ghost use Rattle.abel_vectors.specs.ReadRows.{view_vectors};
 ghost use Rattle.abel_vectors.specs.SourceVectors.{AnswersVectors, refused_behind};
 ghost use Rattle.abel_vectors.specs.VectorAnswers.{Answers};
-ghost use Rattle.abel_vectors.specs.VectorRefusals.{vectors_refused};
+ghost use Rattle.abel_vectors.specs.VectorRefusals.{side_refused, vectors_refused};
 
 use crate::finding::Found;
 use crate::headers::{Side, read_side};
 use crate::rows::{Header, read_rows};
-use abel_tree::{Module, Section, Vectors, earlier};
+use abel_tree::{Module, Section, Vectors};
 use pld_base::{OutOfMemory, Vector};
 use pld_device::Device;
 use set_expr::{Scope, SectionFault};
@@ -27,13 +31,14 @@ use std::alloc::Global;
 /// The most vectors of a source.
 const MOST: usize = 9_999;
 
-/// The refusal of a side of a header, if there is one.
-fn fault_of(side: &Side) -> Option<SectionFault>
-    ensures { result ≡ side_fault side.now }
+/// The pins of a side of a header, or its refusal.
+fn pins_in(side: Side) -> Result<Vec<Option<u32>>, SectionFault>
+    ensures { (d : Context) (p : Place) (t : Tree) → IsSide d p t side
+        → IsReadAs (side_refused d p t) (λ ss. ss.items ≡ targets_of (term_of d.known t)) result }
 {
     match side {
-        Side::Refused(fault) => Some(*fault),
-        Side::Pins(_) => None,
+        Side::Pins(pins) => Ok(pins),
+        Side::Refused(fault) => Err(fault),
     }
 }
 
@@ -49,20 +54,16 @@ fn read_section<D: Device>(
 {
     let inputs = read_side(alloc, scope, section.place, &section.inputs)?;
     let outputs = read_side(alloc, scope, section.place, &section.outputs)?;
-    let refused = earlier(fault_of(&inputs), fault_of(&outputs));
-    found.fault = earlier(found.fault, refused);
-    match (inputs, outputs) {
-        (Side::Pins(driven), Side::Pins(tested)) => {
-            let (driven, tested) = (driven.as_slice(), tested.as_slice());
+    match found.both(pins_in(inputs), pins_in(outputs)) {
+        Some((driven, tested)) => {
             let header = Header {
                 section,
-                driven,
-                tested,
+                driven: driven.as_slice(),
+                tested: tested.as_slice(),
             };
             read_rows::<D>(alloc, scope, &header, room, found)
         }
-        (Side::Refused(_), _) => Ok(()),
-        (Side::Pins(_), Side::Refused(_)) => Ok(()),
+        None => Ok(()),
     }
 }
 

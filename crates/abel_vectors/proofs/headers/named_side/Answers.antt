@@ -1,5 +1,5 @@
 -- Something else, pins, and signals that are no pins.
-use Rattle.std.proofs.Common.{◌&&◌, true, false, sym, ap, ap₂, ◌∙◌, subst}
+use Rattle.std.proofs.Common.{◌&&◌, sym, ap, ap₂, ◌∙◌, subst}
 use Rattle.std.specs.List.{list_all}
 use Rattle.abel_tree.specs.FirstRefusal.{first_refusal}
 use Rattle.abel_tree.specs.View.{view}

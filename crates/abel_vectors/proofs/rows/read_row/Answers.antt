@@ -1,48 +1,46 @@
 -- An entry that is refused, and marks.
-use Rattle.std.proofs.Common.{refl}
+use Rattle.std.proofs.Common.{◌∷◌, [], map, ap, refl, ◌∙◌}
 use Rattle.std.proofs.lemmas.Result.{on_ok_weaker}
 use Rattle.abel_tree.specs.View.{view_vector_row}
+use Rattle.abel_meaning.specs.Vectors.{row_chars}
 use Rattle.set_expr.specs.Contexts.{context_for}
+use Rattle.set_expr.specs.declared.fault.SectionFault.TheVariants.{BadVector}
+use Rattle.truth_tables.specs.EntryMarks.{view_mark}
 use Rattle.truth_tables.specs.EntryTerms.{IsOver}
+use Rattle.truth_tables.specs.RowEntries.{entry_refused}
 use Rattle.abel_vectors.specs.ReadRows.{header_term}
-use Rattle.abel_vectors.proofs.RowLaws.{entries_found, left_stands, right_stands, row_marked}
+use Rattle.abel_vectors.specs.VectorRefusals.{marks_refused}
+use Rattle.abel_vectors.proofs.FoundLaws.{found_alone, read_first, read_so}
+use Rattle.abel_vectors.proofs.RowLaws.{row_marked}
 use Rattle.abel_vectors.proofs.rows.read_row.Goals as goal
 
-pub returns-in_ok-vector-in-Marks-Marks : goal.returns-in_ok-vector-in-Marks-Marks
-returns-in_ok-vector-in-Marks-Marks g c =
+pub returns-in_ok-vector-in-Some : goal.returns-in_ok-vector-in-Some
+returns-in_ok-vector-in-Some g c =
     let d = context_for g.D.Device.table c.args.scope.now in
     let over : IsOver c.args.scope.now d = record { names = refl; known = refl } in
-    let i = header_term d c.args.header.now.section.now.inputs in
-    let o = header_term d c.args.header.now.section.now.outputs in
+    let h = c.args.header.now in
     let r = view_vector_row c.args.row.now in
-    let a = c.in_ok-driven.ensures d over in
-    let b = c.in_ok-tested.ensures d over in
+    let ins = entry_refused d (BadVector r.place) (header_term d h.section.now.inputs) r.inputs in
+    let outs = entry_refused d (BadVector r.place) (header_term d h.section.now.outputs) r.outputs in
+    let a = c.marks_in.ensures d (BadVector r.place) (header_term d h.section.now.inputs) r.inputs (c.in_ok-driven.ensures d over) in
+    let b = c.marks_in-2.ensures d (BadVector r.place) (header_term d h.section.now.outputs) r.outputs (c.in_ok-tested.ensures d over) in
+    let first = read_so ins _ c.marks_in.result c.in-Some.driven c.in-Some.ensures.both.0 a in
+    let second = read_so outs _ c.marks_in-2.result c.in-Some.tested c.in-Some.ensures.both.1 b in
     on_ok_weaker c.add_vector.result
-    (row_marked d c.args.header.now r c.in_ok-driven.driven c.in_ok-tested.tested _ _ c.as_slice-driven.result.now c.as_slice-tested.result.now c.in_ok-vector-in-Marks-Marks.vector c.args.found.now _ c.add_vector.new.found
-    c.requires a b c.in-Marks-Marks.is-0 c.in-Marks-Marks.is-1 c.as_slice-driven.ensures.value c.as_slice-tested.ensures.value c.in_ok-vector-in-Marks-Marks.ensures
-    (entries_found d i o r c.in_ok-driven.driven c.in_ok-tested.tested _ _ c.earlier-refused.result c.args.found.now _ a b c.fault_of.ensures c.fault_of-2.ensures c.earlier-refused.ensures c.earlier-found.ensures refl))
+    (row_marked d h r _ _ c.in_ok-vector-in-Some.vector c.args.found.now _ c.add_vector.new.found c.requires
+    (first.0, ap (map view_mark) c.as_slice.ensures.value ∙ first.1) (second.0, ap (map view_mark) c.as_slice-in-Some.ensures.value ∙ second.1) c.in_ok-vector-in-Some.ensures
+    (c.both.ensures.found d.device ins outs (read_first ins _ c.marks_in.result a) (read_first outs _ c.marks_in-2.result b)))
     c.add_vector.ensures
 
-pub returns-in-Refused-default : goal.returns-in-Refused-default
-returns-in-Refused-default g c =
+pub returns-in-None : goal.returns-in-None
+returns-in-None g c =
     let d = context_for g.D.Device.table c.args.scope.now in
     let over : IsOver c.args.scope.now d = record { names = refl; known = refl } in
     let i = header_term d c.args.header.now.section.now.inputs in
     let o = header_term d c.args.header.now.section.now.outputs in
     let r = view_vector_row c.args.row.now in
-    let a = c.in_ok-driven.ensures d over in
-    let b = c.in_ok-tested.ensures d over in
-    left_stands d i o r c.in_ok-driven.driven c.in-Refused-default.field-0-0 c.args.found.now _ a c.in-Refused-default.is-0
-    (entries_found d i o r c.in_ok-driven.driven c.in_ok-tested.tested _ _ c.earlier-refused.result c.args.found.now _ a b c.fault_of.ensures c.fault_of-2.ensures c.earlier-refused.ensures c.earlier-found.ensures refl)
-
-pub returns-in-Marks-Refused : goal.returns-in-Marks-Refused
-returns-in-Marks-Refused g c =
-    let d = context_for g.D.Device.table c.args.scope.now in
-    let over : IsOver c.args.scope.now d = record { names = refl; known = refl } in
-    let i = header_term d c.args.header.now.section.now.inputs in
-    let o = header_term d c.args.header.now.section.now.outputs in
-    let r = view_vector_row c.args.row.now in
-    let a = c.in_ok-driven.ensures d over in
-    let b = c.in_ok-tested.ensures d over in
-    right_stands d i o r c.in_ok-tested.tested c.in-Marks-Refused.field-0-1 c.args.found.now _ b c.in-Marks-Refused.is-1
-    (entries_found d i o r c.in_ok-driven.driven c.in_ok-tested.tested _ _ c.earlier-refused.result c.args.found.now _ a b c.fault_of.ensures c.fault_of-2.ensures c.earlier-refused.ensures c.earlier-found.ensures refl)
+    let ins = entry_refused d (BadVector r.place) i r.inputs in
+    let outs = entry_refused d (BadVector r.place) o r.outputs in
+    let a = read_first ins _ c.marks_in.result (c.marks_in.ensures d (BadVector r.place) i r.inputs (c.in_ok-driven.ensures d over)) in
+    let b = read_first outs _ c.marks_in-2.result (c.marks_in-2.ensures d (BadVector r.place) o r.outputs (c.in_ok-tested.ensures d over)) in
+    found_alone d.device ins outs _ _ c.args.found.now c.both.new.self a b (marks_refused d i o r) (row_chars d i o r ∷ []) c.in-None.ensures.refused (c.both.ensures.found d.device ins outs a b)
