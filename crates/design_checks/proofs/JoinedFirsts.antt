@@ -74,9 +74,16 @@ uses_placed r d p us = use_placed p (λ (u : SignalUse). refuses_use d.device r 
 
 -- ---- lists
 
--- one item of a list more
+-- the first of what the items of a list give, one item more
+pub one_more : {Y A R : Type 0} (first : List A → R) (join : R → R → R) → ((us vs : List A) → first (us ++ vs) ≡ join (first us) (first vs)) → (g : List Y → List A) (ys zs : List Y) (y : Y) (us : List A)
+    → zs ≡ ys ++ y ∷ [] → g (ys ++ y ∷ []) ≡ g ys ++ us → join (first (g ys)) (first us) ≡ first (g zs)
+one_more first join append g ys zs y us more push = sym (append (g ys) us) ∙ ap first (sym (ap g more ∙ push))
+
+pub flat_push : {Y A : Type 0} (uses : Y → List A) (ys : List Y) (y : Y) → flat_map uses (ys ++ y ∷ []) ≡ flat_map uses ys ++ uses y
+flat_push uses ys y = flat_map-append uses ys (y ∷ []) ∙ ap (λ us. flat_map uses ys ++ us) (append-nil (uses y))
+
+-- so where each item gives its own
 pub joined_more : {X Y A R : Type 0} (first : List A → R) (join : R → R → R) → ((us vs : List A) → first (us ++ vs) ≡ join (first us) (first vs)) → (v : X → Y) (uses : Y → List A) (xs : List X) (k : ℕ) (x : X) → k < length xs → x ≡ get_or xs k x
     → join (first (flat_map uses (map v (take k xs)))) (first (uses (v x))) ≡ first (flat_map uses (map v (take (k + 1) xs)))
 joined_more first join append v uses xs k x low is =
-    sym (append (flat_map uses (map v (take k xs))) (uses (v x)))
-    ∙ ap first (sym (ap (flat_map uses) (front_more v xs k x low is) ∙ (flat_map-append uses (map v (take k xs)) (v x ∷ []) ∙ ap (λ us. flat_map uses (map v (take k xs)) ++ us) (append-nil (uses (v x))))))
+    one_more first join append (flat_map uses) (map v (take k xs)) (map v (take (k + 1) xs)) (v x) (uses (v x)) (front_more v xs k x low is) (flat_push uses (map v (take k xs)) (v x))

@@ -1,5 +1,6 @@
 -- What is kept of a name, and of the names of a source.
-use Rattle.std.proofs.Common.{◌≡◌, ℕ, ◌<◌, Bool, true, false, ◌&&◌, List, map, length, get_or, Option, None, Some, refl, ap, ap₂, sym, ◌∙◌}
+use Rattle.std.proofs.Common.{◌≡◌, ℕ, ◌<◌, List, map, length, get_or, Option, None, Some, refl, ap, ap₂, sym, ◌∙◌}
+use Rattle.std.proofs.Math.Bool.{and-true}
 use Rattle.std.proofs.lemmas.List.{get_or-map}
 use Rattle.abel_tree.specs.declared.words.Extension.{Extension}
 use Rattle.abel_tree.specs.declared.words.Extension.TheVariants as extension
@@ -31,16 +32,6 @@ under_is reads p (Some extension.Oe) = refl
 under_is reads p (Some extension.Ar) = refl
 under_is reads p (Some extension.Sp) = refl
 under_is reads p (Some extension.D) = refl
-
--- a signal
-pub signal_is : (r : UseRule) (d : Context) (t : Table) (x : Entry) (s : ℕ) → d.device ≡ t → name_at d s ≡ x → signal_kept t r x s ≡ uses_of r d (Read s None)
-signal_is r d t x s device named =
-    ap₂ (λ u y. signal_kept u r y s) (sym device) (sym named)
-    ∙ ap (λ b. kept_by (signal_used d.device r (name_at d s) s) (positions_by one_written b)) (alone (is_cell_by_pin d.device (cell_of d.device (name_at d s))))
-  where
-    alone : (b : Bool) → b ≡ b && true
-    alone true = refl
-    alone false = refl
 
 -- what is read with each extension
 pub kept_is : (reads : Option Extension → Option ℕ) (bare q fb pin clk oe ar sp d : Option ℕ) (p positions : Positions)

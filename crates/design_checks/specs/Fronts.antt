@@ -4,18 +4,13 @@ use Rattle.abel_tree.specs.declared.words.Extension.{Extension}
 use Rattle.abel_tree.specs.declared.words.Extension.TheVariants as extension
 use Rattle.abel_tree.specs.Tree.{Statement, statements_of}
 use Rattle.abel_meaning.specs.Designs.{Context}
-use Rattle.design_checks.specs.declared.front.Front.{Front}
 use Rattle.design_checks.specs.declared.front.Positions.{Positions}
 use Rattle.design_checks.specs.Written.{Written, statements_refused}
 use Rattle.design_checks.specs.declared.refused.RefusedUse.{RefusedUse}
 
--- 255 stands for more
-abbrev pub counted : Written → Front
-counted w = record { count = min w.count 255; whole = w.whole }
-
--- of a value that is written so, and whether a pin enables each of its signals
+-- of a value that is written so, and whether a pin enables each of its signals; 255 stands for more
 abbrev pub positions_by : Written → (by_pin : Bool) → Positions
-positions_by w b = record { front = counted w; by_pin = b }
+positions_by w b = record { count = min w.count 255; whole = w.whole; by_pin = b }
 
 -- an equation for such a part may be compared with what the device does
 abbrev pub may_be_compared : Option Extension → Bool

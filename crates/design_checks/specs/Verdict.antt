@@ -1,5 +1,5 @@
 -- When a design is refused for its signals, and for what (this project's rule).
-use Rattle.std.specs.Prelude.{◌≡◌, ℕ, Option, Some, List, [], map}
+use Rattle.std.specs.Prelude.{◌≡◌, ℕ, Some, List, [], map}
 use Rattle.pld_base.specs.declared.place.Place.{Place}
 use Rattle.pld_device.specs.Table.{Table}
 use Rattle.bit_expr.specs.Formulas.{Formula}
@@ -31,15 +31,7 @@ pub record IsDesignFor (t : Table) (n : Names) (m : Module) (found : Contributio
 abbrev pub IsFirst : List RefusedUse → Place → ℕ → Type 0
 IsFirst rs p s = first_refusal use_order rs ≡ Some (record { place = p; name = s })
 
--- these are the first refusals of each kind
-pub record AreFirsts (d : Design) (fs : List Formula) (cs : List Contribution) (kind node control either path : Option RefusedUse) : Type 0 where
-  pub kinds : kind ≡ first_refusal use_order (wrong_kinds d.context.device d.context.names cs)
-  pub nodes : node ≡ first_refusal use_order (registered_nodes 0 d.context.names)
-  pub controls : control ≡ first_refusal use_order (no_controls d fs cs)
-  pub any : either ≡ first_refusal use_order (any_controls d.context.names cs)
-  pub paths : path ≡ first_refusal use_order (no_paths d)
-
--- the first two of these, the next two, and the last three
+-- no signal is on a cell of a wrong kind, and no node is registered
 pub record KindsPass (t : Table) (xs : List Entry) (cs : List Contribution) : Type 0 where
   pub kinds : wrong_kinds t xs cs ≡ []
   pub nodes : registered_nodes 0 xs ≡ []

@@ -3,6 +3,7 @@
 -- passed over, and a constant's name stands for its expression. A level's folded bit then tells the pin, as nothing but
 -- pairs of complements is folded.
 use Rattle.std.specs.Prelude.{ℕ, suc, ◌+◌, ◌==◌, nat_lt, Bool, true, false, not, ◌&&◌, ◌||◌, Option, List, [], ◌∷◌, ◌++◌, length, if◌then◌else◌}
+use Rattle.std.specs.List.{flat_map}
 use Rattle.pld_base.specs.declared.place.Place.{Place}
 use Rattle.abel_tree.specs.declared.words.Extension.{Extension}
 use Rattle.abel_tree.specs.declared.words.Unary.TheVariants as unary
@@ -110,8 +111,7 @@ section_refused d (SomeVectors text place inputs outputs rows) = []
 section_refused d (DontCareSection directive) = []
 
 abbrev pub sections_refused : Context → List SectionTree → List RefusedUse
-sections_refused d [] = []
-sections_refused d (s ∷ ss) = section_refused d s ++ sections_refused d ss
+sections_refused d ss = flat_map (section_refused d) ss
 
 -- the signals of a design's targets whose equation is compared and not written as levels, in order of the source
 abbrev pub unwritten : Design → List RefusedUse

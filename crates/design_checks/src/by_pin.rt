@@ -1,21 +1,13 @@
 //! The cell of a signal, and which equations are compared with what the device does.
 
-ghost use Rattle.std.specs.Prelude.{◌≡◌, ◌<◌, IfOk, IfSome, length};
-ghost use Rattle.abel_tree.specs.Assigned.{target_extension};
+ghost use Rattle.std.specs.Prelude.{◌≡◌, ◌<◌, IfSome, length};
 ghost use Rattle.abel_tree.specs.Entries.{view_declared};
-ghost use Rattle.abel_tree.specs.View.{view};
-ghost use Rattle.abel_meaning.specs.Designs.{Context};
 ghost use Rattle.netlist_laws.specs.Gathered.{cell_of};
 ghost use Rattle.design_checks.specs.Compared.{is_compared_of};
-ghost use Rattle.design_checks.specs.Learnt.{Knows};
-ghost use Rattle.design_checks.specs.SectionUses.{is_cell_by_pin, is_compared};
+ghost use Rattle.design_checks.specs.SectionUses.{is_cell_by_pin};
 
-use crate::names::KeptUses;
-use crate::positions::positions_of;
-use abel_tree::{Declared, Expr, Extension, Meaning};
-use pld_base::OutOfMemory;
+use abel_tree::{Declared, Extension, Meaning};
 use pld_device::{Device, Enable, cell_on};
-use std::alloc::Global;
 
 /// The cell that the signal is assigned on.
 pub(crate) fn cell_of<D: Device>(declared: &Declared) -> Option<u8>
@@ -50,32 +42,5 @@ pub(crate) fn is_compared<D: Device>(declared: &Declared, extension: Option<Exte
         Some(Extension::Clk) => true,
         Some(Extension::Oe) => is_enabled_by_pin::<D>(declared),
         _ => false,
-    }
-}
-
-/// The extension of a target.
-pub(crate) fn target_extension(target: &Expr) -> Option<Extension>
-    ensures { result ≡ target_extension (view target.now) }
-{
-    match target {
-        Expr::Name { extension, .. } | Expr::Set { extension, .. } => *extension,
-        _ => None,
-    }
-}
-
-/// Whether an assignment to this target only says what the device does anyway: a clock, or the enable of signals each of
-/// which a pin enables. An ordinary target isn't gone through.
-pub(crate) fn is_target_compared(
-    alloc: Global,
-    names: &KeptUses<'_, '_>,
-    target: &Expr,
-) -> Result<bool, OutOfMemory>
-    ensures { IfOk result (λ b. (d : Context) → Knows d names.now
-        → b ≡ is_compared d (view target.now)) }
-{
-    match target_extension(target) {
-        Some(Extension::Clk) => Ok(true),
-        Some(Extension::Oe) => Ok(positions_of(alloc, names, target)?.by_pin),
-        _ => Ok(false),
     }
 }

@@ -3,8 +3,7 @@
 ghost use Rattle.std.specs.Prelude.{◌≡◌, ◌<◌, length};
 ghost use Rattle.bit_expr.specs.Arena.{arena, formula_at};
 ghost use Rattle.abel_tree.specs.Entries.{view_declared};
-ghost use Rattle.netlist_laws.specs.Gathered.{cell_of};
-ghost use Rattle.design_checks.specs.Compared.{cell_enables_so, is_level, is_level_if, is_other_level, says_always, says_so};
+ghost use Rattle.design_checks.specs.Compared.{is_level, is_level_if, says_always, says_so};
 
 use crate::by_pin::{cell_of, is_compared};
 use abel_tree::{Declared, Extension};
@@ -23,42 +22,17 @@ fn is_level(exprs: &Exprs, bit: ExprId, pin: u8) -> bool
     }
 }
 
-/// Whether the bit is the complement of the pin's level.
-fn is_other_level(exprs: &Exprs, bit: ExprId, pin: u8) -> bool
-    requires { bit.0 < length (arena exprs.now) }
-    ensures { result ≡ is_other_level pin (formula_at (arena exprs.now) bit) }
-{
-    match exprs.get(bit) {
-        Node::Not(inner) => is_level(exprs, inner, pin),
-        _ => false,
-    }
-}
-
 /// Whether the bit is the pin's level, or its complement.
 fn is_level_if(exprs: &Exprs, bit: ExprId, complement: bool, pin: u8) -> bool
     requires { bit.0 < length (arena exprs.now) }
     ensures { result ≡ is_level_if complement pin (formula_at (arena exprs.now) bit) }
 {
-    if complement {
-        is_other_level(exprs, bit, pin)
-    } else {
-        is_level(exprs, bit, pin)
+    if !complement {
+        return is_level(exprs, bit, pin);
     }
-}
-
-/// Whether one for the enable of a signal says what a pin does that enables.
-fn enables_so<D: Device>(exprs: &Exprs, declared: &Declared, given: &Contribution) -> bool
-    requires { given.now.when.0 < length (arena exprs.now) }
-    ensures { result ≡ cell_enables_so D.table (cell_of D.table
-        (view_declared declared.now)) given.now.complement (formula_at
-        (arena exprs.now) given.now.when) }
-{
-    match cell_of::<D>(declared) {
-        None => true,
-        Some(cell) => match D::cell(cell).enable {
-            Enable::Row(_) => true,
-            Enable::PinLow(pin) => is_level_if(exprs, given.when, !given.complement, pin),
-        },
+    match exprs.get(bit) {
+        Node::Not(inner) => is_level(exprs, inner, pin),
+        _ => false,
     }
 }
 
@@ -71,7 +45,13 @@ fn says_so<D: Device>(exprs: &Exprs, declared: &Declared, given: &Contribution) 
 {
     match given.target.extension {
         Some(Extension::Clk) => is_level_if(exprs, given.when, given.complement, D::CLOCK),
-        Some(Extension::Oe) => enables_so::<D>(exprs, declared, given),
+        Some(Extension::Oe) => match cell_of::<D>(declared) {
+            None => true,
+            Some(cell) => match D::cell(cell).enable {
+                Enable::Row(_) => true,
+                Enable::PinLow(pin) => is_level_if(exprs, given.when, !given.complement, pin),
+            },
+        },
         _ => true,
     }
 }

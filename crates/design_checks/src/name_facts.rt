@@ -3,7 +3,7 @@
 ghost use Rattle.std.specs.Prelude.{◌≡◌, IfOk};
 ghost use Rattle.abel_tree.specs.Entries.{entries_of, view_declared};
 ghost use Rattle.abel_tree.specs.FirstRefusal.{first_refusal};
-ghost use Rattle.design_checks.specs.SignalsRefused.{has_wrong_kind, has_wrong_kind_on, is_registered_node, is_wrong_cell, is_wrong_kind, registered_nodes};
+ghost use Rattle.design_checks.specs.SignalsRefused.{has_wrong_kind, has_wrong_kind_on, is_registered_node, is_wrong_cell, registered_nodes};
 ghost use Rattle.design_checks.specs.UsesRefused.{use_order};
 
 use crate::names::next_number;
@@ -13,22 +13,16 @@ use pld_base::OutOfMemory;
 use pld_device::{Cell, Device, Kinds};
 use set_expr::Scope;
 
-/// Whether a cell can't be what the signal is.
-fn is_wrong_kind(kinds: Kinds, stored: bool) -> bool
-    ensures { result ≡ is_wrong_kind kinds stored }
-{
-    match kinds {
-        Kinds::Combinational => stored,
-        Kinds::Registered => !stored,
-        Kinds::Either => false,
-    }
-}
-
 /// Whether it is the cell of this pin, and can't be what the signal is.
 fn is_wrong_cell(cell: Cell, pin: u8, stored: bool) -> bool
     ensures { result ≡ is_wrong_cell pin stored cell }
 {
-    cell.pin == pin && is_wrong_kind(cell.kinds, stored)
+    cell.pin == pin
+        && match cell.kinds {
+            Kinds::Combinational => stored,
+            Kinds::Registered => !stored,
+            Kinds::Either => false,
+        }
 }
 
 /// Whether the cell of this pin can't be what the signal is.

@@ -74,7 +74,8 @@ pub(crate) fn positions_of(
             Unary::Not => {
                 let inner = positions_of(alloc, names, inner.get())?;
                 Ok(Positions {
-                    front: inner.front,
+                    count: inner.count,
+                    whole: inner.whole,
                     by_pin: true,
                 })
             }

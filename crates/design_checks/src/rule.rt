@@ -5,8 +5,7 @@ ghost use Rattle.std.specs.List.{list_any};
 ghost use Rattle.pld_device.specs.declared.cell.Cell.{Cell};
 ghost use Rattle.abel_meaning.specs.Controls.{must_register};
 ghost use Rattle.abel_tree.specs.Entries.{view_declared};
-ghost use Rattle.pld_device.specs.Pins.{cell_on};
-ghost use Rattle.design_checks.specs.RefusedUses.{carries_level, carries_q, has_extension, has_read_path, has_read_path_on, pin_has, refuses_use, register_has};
+ghost use Rattle.design_checks.specs.RefusedUses.{carries_level, has_extension, has_read_path_on, refuses_use};
 
 use crate::name_facts::has_wrong_kind_on;
 use abel_tree::{Declared, Extension, Meaning};
@@ -22,62 +21,31 @@ pub enum UseRule {
     Columns,
 }
 
-/// Whether a combinational signal on a pin has what the extension names.
-fn pin_has(extension: Option<Extension>) -> bool
-    ensures { result ≡ pin_has extension }
-{
-    matches!(extension, None | Some(Extension::Pin | Extension::Oe))
-}
-
-/// Whether a register has what the extension names.
-fn register_has<D: Device>(extension: Option<Extension>) -> bool
-    ensures { result ≡ register_has D.table extension }
-{
-    match extension {
-        Some(Extension::Ar) => D::RESET.is_some(),
-        Some(Extension::Sp) => D::PRESET.is_some(),
-        _ => true,
-    }
-}
-
-/// Whether the signal has what the extension names.
+/// Whether the signal has what the extension names: a register, a combinational signal on a pin, or a node.
 fn has_extension<D: Device>(declared: &Declared, extension: Option<Extension>) -> bool
     ensures { result ≡ has_extension D.table (view_declared declared.now) extension }
 {
     match declared.meaning {
         Meaning::Pin { .. } => if declared.is_stored() {
-            register_has::<D>(extension)
+            match extension {
+                Some(Extension::Ar) => D::RESET.is_some(),
+                Some(Extension::Sp) => D::PRESET.is_some(),
+                _ => true,
+            }
         } else {
-            pin_has(extension)
+            matches!(extension, None | Some(Extension::Pin | Extension::Oe))
         },
         Meaning::Node(_) => extension.is_none(),
         _ => true,
     }
 }
 
-/// Whether the cell on the pin must be a register: a combinational signal can't be on it.
-fn has_register_on<D: Device>(pin: u8) -> bool
-    ensures { result ≡ list_any (λ (c : Cell).
-        (c.pin == pin) && must_register c.kinds) D.table.cells }
-{
-    has_wrong_kind_on::<D>(pin, false)
-}
-
-/// Whether columns carry the level of the pin: not so where nothing is assigned to a register on it.
+/// Whether columns carry the level of the pin: not so where nothing is assigned to a cell on it that must be a register, as
+/// a combinational signal can't be on it.
 fn carries_level<D: Device>(declared: &Declared, pin: u8) -> bool
     ensures { result ≡ carries_level D.table (view_declared declared.now) pin }
 {
-    pair_of_pin::<D>(pin).is_some() && (declared.assigned || !has_register_on::<D>(pin))
-}
-
-/// Whether columns carry the Q of the cell on the pin.
-fn carries_q<D: Device>(pin: u8) -> bool
-    ensures { result ≡ carries_q D.table (cell_on D.table pin) }
-{
-    match cell_on::<D>(pin) {
-        Some(cell) => pair_of_cell::<D>(cell).is_some(),
-        None => false,
-    }
+    pair_of_pin::<D>(pin).is_some() && (declared.assigned || !has_wrong_kind_on::<D>(pin, false))
 }
 
 /// Whether columns would carry what the extension names of the signal, if it were on this pin.
@@ -89,19 +57,13 @@ pub fn has_read_path_on<D: Device>(
     ensures { result ≡ has_read_path_on D.table (view_declared declared.now) pin extension }
 {
     if declared.is_stored() {
-        matches!(extension, None | Some(Extension::Fb | Extension::Q)) && carries_q::<D>(pin)
+        matches!(extension, None | Some(Extension::Fb | Extension::Q))
+            && match cell_on::<D>(pin) {
+                Some(cell) => pair_of_cell::<D>(cell).is_some(),
+                None => false,
+            }
     } else {
         matches!(extension, None | Some(Extension::Pin)) && carries_level::<D>(declared, pin)
-    }
-}
-
-/// Whether columns carry what the extension names of the signal.
-fn has_read_path<D: Device>(declared: &Declared, extension: Option<Extension>) -> bool
-    ensures { result ≡ has_read_path D.table (view_declared declared.now) extension }
-{
-    match declared.meaning {
-        Meaning::Pin { pin, .. } => has_read_path_on::<D>(declared, pin, extension),
-        _ => true,
     }
 }
 
@@ -116,6 +78,10 @@ pub(crate) fn refuses_use<D: Device>(
     let has = has_extension::<D>(declared, extension);
     match rule {
         UseRule::Extensions => !has,
-        UseRule::Columns => has && !has_read_path::<D>(declared, extension),
+        UseRule::Columns => has
+            && match declared.meaning {
+                Meaning::Pin { pin, .. } => !has_read_path_on::<D>(declared, pin, extension),
+                _ => false,
+            },
     }
 }

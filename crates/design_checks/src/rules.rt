@@ -5,7 +5,7 @@ ghost use Rattle.bit_expr.specs.Arena.{arena};
 ghost use Rattle.abel_tree.specs.Entries.{entries_of, view_declared};
 ghost use Rattle.abel_tree.specs.FirstRefusal.{first_refusal};
 ghost use Rattle.set_expr.specs.declared.contributions.Contribution as code;
-ghost use Rattle.design_checks.specs.SignalsRefused.{AreToNames, lacks_control, pin_lacks};
+ghost use Rattle.design_checks.specs.SignalsRefused.{AreToNames, lacks_control};
 ghost use Rattle.design_checks.specs.UsesRefused.{use_order};
 ghost use Rattle.design_checks.specs.Refused.{refuses, targets_refused};
 
@@ -33,25 +33,18 @@ pub enum Rule {
     DontCares,
 }
 
-/// Whether a pin's signal lacks what the extension names.
-fn pin_lacks<D: Device>(stored: bool, extension: Option<Extension>) -> bool
-    ensures { result ≡ pin_lacks D.table stored extension }
-{
-    match extension {
-        Some(Extension::Ar) => !stored || D::RESET.is_none(),
-        Some(Extension::Sp) => !stored || D::PRESET.is_none(),
-        Some(Extension::Clk) => !stored,
-        Some(Extension::D) => !stored,
-        _ => false,
-    }
-}
-
 /// Whether a signal lacks what the extension names; a node has nothing but its value.
 fn lacks_control<D: Device>(declared: &Declared, extension: Option<Extension>) -> bool
     ensures { result ≡ lacks_control D.table (view_declared declared.now) extension }
 {
     match declared.meaning {
-        Meaning::Pin { .. } => pin_lacks::<D>(declared.is_stored(), extension),
+        Meaning::Pin { .. } => match extension {
+            Some(Extension::Ar) => !declared.is_stored() || D::RESET.is_none(),
+            Some(Extension::Sp) => !declared.is_stored() || D::PRESET.is_none(),
+            Some(Extension::Clk) => !declared.is_stored(),
+            Some(Extension::D) => !declared.is_stored(),
+            _ => false,
+        },
         Meaning::Node(_) => extension.is_some(),
         _ => false,
     }

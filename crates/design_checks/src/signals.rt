@@ -1,8 +1,7 @@
 //! The first refusal of a design's kinds, nodes, controls and uses.
 
-ghost use Rattle.std.specs.Prelude.{◌≡◌, ◌<◌, List, All, length, IfOk, IfErr, map};
+ghost use Rattle.std.specs.Prelude.{◌≡◌, ◌<◌, All, length, IfOk, IfErr, map};
 ghost use Rattle.bit_expr.specs.Arena.{arena};
-ghost use Rattle.bit_expr.specs.Formulas.{Formula};
 ghost use Rattle.abel_tree.specs.Entries.{entries_of};
 ghost use Rattle.abel_tree.specs.FirstRefusal.{first_refusal};
 ghost use Rattle.abel_tree.specs.View.{view_section};
@@ -12,7 +11,7 @@ ghost use Rattle.set_expr.specs.Answer.{IsContextOf};
 ghost use Rattle.design_checks.specs.Refused.{no_controls};
 ghost use Rattle.design_checks.specs.SignalsRefused.{AreToNames};
 ghost use Rattle.design_checks.specs.UsesRefused.{use_order};
-ghost use Rattle.design_checks.specs.Verdict.{AreFirsts, HasSoundSignals, IsDesignFor, IsSignalRefused};
+ghost use Rattle.design_checks.specs.Verdict.{HasSoundSignals, IsDesignFor, IsSignalRefused};
 
 use crate::fault::DesignFault;
 use crate::name_facts::registered_node;
@@ -53,38 +52,8 @@ fn no_control<D: Device>(
     Ok(earlier(targets, sources))
 }
 
-/// The refusal of the first kind that has one: of kinds, nodes, controls, controls by `?=`, and what no column carries.
-fn first_kind(
-    kinds: Option<RefusedUse>,
-    nodes: Option<RefusedUse>,
-    controls: Option<RefusedUse>,
-    any: Option<RefusedUse>,
-    paths: Option<RefusedUse>,
-) -> Result<(), DesignFault>
-    ensures ok { IfOk result (λ _. (d : Design) (fs : List Formula) (cs : List code.Contribution)
-        → AreFirsts d fs cs kinds nodes controls any paths → HasSoundSignals d fs cs) }
-    ensures err { IfErr result (λ f. (d : Design) (fs : List Formula) (cs : List code.Contribution)
-        → AreFirsts d fs cs kinds nodes controls any paths → IsSignalRefused d fs cs f) }
-{
-    if let Some(it) = kinds {
-        return Err(DesignFault::WrongKind(it.place, it.name));
-    }
-    if let Some(it) = nodes {
-        return Err(DesignFault::RegisteredNode(it.place, it.name));
-    }
-    if let Some(it) = controls {
-        return Err(DesignFault::NoSuchControl(it.place, it.name));
-    }
-    if let Some(it) = any {
-        return Err(DesignFault::DontCareControl(it.place, it.name));
-    }
-    match paths {
-        Some(it) => Err(DesignFault::NoReadPath(it.place, it.name)),
-        None => Ok(()),
-    }
-}
-
-/// The first refusal of a design's kinds, nodes, controls and uses, for a device and what the sections contribute.
+/// The first refusal of a design's kinds, nodes, controls and uses, for a device and what the sections contribute. A kind
+/// is asked only where nothing of the kinds before it is refused.
 pub fn check_signals<D: Device>(
     alloc: Global,
     source: &ModuleParts<'_>,
@@ -102,9 +71,24 @@ pub fn check_signals<D: Device>(
         → IsSignalRefused d (arena found.now.exprs) found.now.list f) }
 {
     let kinds = first_refused(Rule::Kinds, scope, found);
+    if let Some(it) = kinds {
+        return Err(DesignFault::WrongKind(it.place, it.name));
+    }
     let nodes = registered_node(scope.scope())?;
+    if let Some(it) = nodes {
+        return Err(DesignFault::RegisteredNode(it.place, it.name));
+    }
     let controls = no_control(alloc, source, scope, found)?;
+    if let Some(it) = controls {
+        return Err(DesignFault::NoSuchControl(it.place, it.name));
+    }
     let any = first_refused(Rule::DontCares, scope, found);
+    if let Some(it) = any {
+        return Err(DesignFault::DontCareControl(it.place, it.name));
+    }
     let paths = first_use(alloc, UseRule::Columns, scope, source)?;
-    first_kind(kinds, nodes, controls, any, paths)
+    match paths {
+        Some(it) => Err(DesignFault::NoReadPath(it.place, it.name)),
+        None => Ok(()),
+    }
 }

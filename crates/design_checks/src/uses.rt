@@ -11,14 +11,14 @@ ghost use Rattle.design_checks.specs.PartUses.{is_read, part_uses, parted_uses, 
 ghost use Rattle.design_checks.specs.RefusedUses.{refused_uses};
 ghost use Rattle.design_checks.specs.UsesRefused.{first_use};
 
-use crate::by_pin::is_target_compared;
 use crate::learning::learn_names;
 use crate::names::KeptUses;
+use crate::positions::positions_of;
 use crate::reads::first_used;
 use crate::refused::{RefusedUse, use_at};
 use crate::rule::UseRule;
-use abel_tree::earlier;
-use name_uses::{ModuleParts, NameUse, Part, Role, SectionParts};
+use abel_tree::{Extension, earlier};
+use name_uses::{ModuleParts, NameUse, Part, Role, SectionParts, target_extension};
 use pld_base::OutOfMemory;
 use pld_device::Device;
 use section_targets::SectionScope;
@@ -41,14 +41,19 @@ fn first_of_uses(
     Ok(first)
 }
 
-/// Whether what stands in a section in this role reads signals: a value that isn't compared, what is read, and the
-/// registers of a diagram.
+/// Whether what stands in a section in this role reads signals: a value, what is read, and the registers of a diagram. The
+/// value of a clock is compared with what the device does anyway, and that of the enable of signals each of which a pin
+/// enables; an ordinary target isn't gone through.
 fn is_read(alloc: Global, names: &KeptUses<'_, '_>, role: Role<'_>) -> Result<bool, OutOfMemory>
     ensures { IfOk result (λ b. (d : Context) → Knows d names.now
         → b ≡ is_read d (view_role role.entry)) }
 {
     match role {
-        Role::Value(target) => Ok(!is_target_compared(alloc, names, target)?),
+        Role::Value(target) => match target_extension(target) {
+            Some(Extension::Clk) => Ok(false),
+            Some(Extension::Oe) => Ok(!positions_of(alloc, names, target)?.by_pin),
+            _ => Ok(true),
+        },
         Role::Read | Role::Registers => Ok(true),
         Role::Target(_) | Role::Outputs(_) | Role::Entry => Ok(false),
     }

@@ -1,6 +1,6 @@
 //! An equation that is not written as a level is.
 
-ghost use Rattle.std.specs.Prelude.{◌≡◌, ◌≤◌, IfOk, length};
+ghost use Rattle.std.specs.Prelude.{◌≡◌, ◌≤◌, Bool, IfOk, length};
 ghost use Rattle.abel_tree.specs.FirstRefusal.{first_refusal};
 ghost use Rattle.abel_tree.specs.View.{view};
 ghost use Rattle.abel_meaning.specs.Designs.{Context, name_at};
@@ -8,16 +8,17 @@ ghost use Rattle.abel_meaning.specs.Terms.{term_of};
 ghost use Rattle.set_expr.specs.Contexts.{context_for};
 ghost use Rattle.design_checks.specs.UsesRefused.{use_order};
 ghost use Rattle.design_checks.specs.Compared.{is_compared_of};
-ghost use Rattle.design_checks.specs.Fronts.{counted, may_be_compared};
+ghost use Rattle.design_checks.specs.Fronts.{may_be_compared, positions_by};
 ghost use Rattle.design_checks.specs.Learnt.{Knows};
 ghost use Rattle.design_checks.specs.Written.{Written, aim_refused, aims_refused, assign_refused, written_if};
 
-use crate::by_pin::{is_compared, target_extension};
-use crate::front::Front;
+use crate::by_pin::is_compared;
+use crate::front::Positions;
 use crate::names::KeptUses;
 use crate::positions::positions_of;
 use crate::refused::{RefusedUse, told_if};
 use abel_tree::{Assign, Expr, Extension, earlier};
+use name_uses::target_extension;
 use pld_base::OutOfMemory;
 use pld_device::Device;
 use section_targets::{Aim, SectionScope};
@@ -60,15 +61,15 @@ fn refused_aim<D: Device>(
 fn refused_aims<D: Device>(
     scope: &Scope<'_>,
     extension: Option<Extension>,
-    front: Front,
+    value: Positions,
     aims: &[Aim],
 ) -> Option<RefusedUse>
-    ensures { (w : Written) → front ≡ counted w → length aims.now ≤ 32
+    ensures { (w : Written) (b : Bool) → value ≡ positions_by w b → length aims.now ≤ 32
         → result ≡ first_refusal use_order (aims_refused (context_for D.table scope.now) extension w 0 aims.now) }
 {
     let mut first = None;
     for position in 0..aims.len() {
-        let written = front.is_written_at(position);
+        let written = value.is_written_at(position);
         first = earlier(
             first,
             refused_aim::<D>(scope, extension, written, aims[position]),
@@ -78,19 +79,19 @@ fn refused_aims<D: Device>(
 }
 
 /// How a value is written, which is not as a level under a guard.
-fn front_if(
+fn positions_if(
     alloc: Global,
     names: &KeptUses<'_, '_>,
     guarded: bool,
     value: &Expr,
-) -> Result<Front, OutOfMemory>
-    ensures { IfOk result (λ f. (d : Context) → Knows d names.now
-        → f ≡ counted (written_if guarded (term_of d.known (view value.now)))) }
+) -> Result<Positions, OutOfMemory>
+    ensures { IfOk result (λ p. (d : Context) → Knows d names.now
+        → p ≡ positions_by (written_if guarded (term_of d.known (view value.now))) p.by_pin) }
 {
     if guarded {
-        Ok(Front::other())
+        Ok(Positions::other())
     } else {
-        Ok(positions_of(alloc, names, value)?.front)
+        positions_of(alloc, names, value)
     }
 }
 
@@ -114,6 +115,6 @@ pub(crate) fn refused_assign<D: Device>(
     if aims.len() > 32 {
         return Ok(None);
     }
-    let front = front_if(alloc, names, guarded, &assign.value)?;
-    Ok(refused_aims::<D>(scope.scope(), extension, front, aims))
+    let value = positions_if(alloc, names, guarded, &assign.value)?;
+    Ok(refused_aims::<D>(scope.scope(), extension, value, aims))
 }

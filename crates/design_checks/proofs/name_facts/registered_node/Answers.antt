@@ -1,12 +1,20 @@
-use Rattle.std.proofs.Common.{◌≡◌, ◌∷◌, [], ◌++◌, ◌+◌, length, map, take, sym, ap, ap₂, ◌∙◌, arith}
+use Rattle.std.proofs.Common.{◌≡◌, ℕ, suc, List, ◌∷◌, [], ◌++◌, ◌+◌, length, map, take, sym, ap, ap₂, ◌∙◌, arith, append_assoc, append-nil}
 use Rattle.std.proofs.lemmas.List.{length-map, length-take-le}
-use Rattle.abel_tree.specs.Entries.{view_declared}
+use Rattle.abel_tree.specs.Entries.{Entry, view_declared}
 use Rattle.abel_tree.specs.FirstRefusal.{earlier, first_refusal}
+use Rattle.abel_tree.proofs.FirstRefusals.{first_append}
 use Rattle.set_expr.proofs.FoundMembers.{front_more}
-use Rattle.design_checks.specs.SignalsRefused.{registered_nodes}
+use Rattle.design_checks.specs.SignalsRefused.{node_refused, registered_nodes}
 use Rattle.design_checks.specs.UsesRefused.{told_if, use_order}
-use Rattle.design_checks.proofs.RefusedPlaces.{nodes_more}
+use Rattle.design_checks.proofs.JoinedFirsts.{one_more}
 use Rattle.design_checks.proofs.name_facts.registered_node.Goals as goal
+
+-- one name more
+nodes_push : (s i : ℕ) (xs : List Entry) (x : Entry) → i ≡ s + length xs → registered_nodes s (xs ++ x ∷ []) ≡ registered_nodes s xs ++ node_refused i x
+nodes_push s i [] x e = append-nil (node_refused s x) ∙ ap (λ n. node_refused n x) (let same : s ≡ i = omega (arith, e) in same)
+nodes_push s i (y ∷ ys) x e =
+    ap (λ rs. node_refused s y ++ rs) (nodes_push (suc s) i ys x (omega (arith, e)))
+    ∙ sym (append_assoc (node_refused s y) (registered_nodes (suc s) ys) (node_refused i x))
 
 pub loop-declared-preserved : goal.loop-declared-preserved
 loop-declared-preserved c =
@@ -19,7 +27,6 @@ loop-declared-preserved c =
     record {
       first = c.earlier-first.ensures
           ∙ ap₂ (earlier use_order) l.invariant.first (c.told_if.ensures ∙ ap (λ b. first_refusal use_order (told_if b (record { place = x.place; name = l.number }))) c.is_registered_node-refused.ensures)
-          ∙ nodes_more l.number xs x (l.invariant.number ∙ sym long)
-          ∙ sym (ap (λ ys. first_refusal use_order (registered_nodes 0 ys)) here);
+          ∙ one_more (first_refusal use_order) (earlier use_order) (first_append use_order) (registered_nodes 0) xs (map view_declared (take (l.declared-index + 1) ds)) x (node_refused l.number x) here (nodes_push 0 l.number xs x (omega (arith, l.invariant.number, long)));
       number = omega (arith, c.in_ok-number.ensures, l.invariant.number);
     }

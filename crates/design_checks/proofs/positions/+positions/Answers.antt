@@ -59,7 +59,7 @@ positions_of-returns-in-Paren t c =
 
 pub positions_of-returns-in_ok-inner-in-Not : goal.positions_of-returns-in_ok-inner-in-Not
 positions_of-returns-in_ok-inner-in-Not t c d knows =
-    ap (λ p. record { front = p.front; by_pin = true }) (c.in_ok-inner-in-Not.ensures d knows)
+    ap (λ p. record { count = p.count; whole = p.whole; by_pin = true }) (c.in_ok-inner-in-Not.ensures d knows)
     ∙ ap (λ e. positions_of d (term_of d.known e))
     (sym (ap view c.in-Unary.is ∙ view_unary c.in-Unary.sign c.in-Unary.place c.in-Unary.inner ∙ ap₂ (λ s e. AUnary s c.in-Unary.place e) c.in-Not.is (ap view (sym c.get-in-Not.ensures))))
 

@@ -1,17 +1,19 @@
-use Rattle.std.proofs.Common.{◌≡◌, ◌<◌, List, length, get_or, map, sym, ap, ap₂, subst, ◌∙◌}
-use Rattle.std.proofs.lemmas.List.{length-map}
+use Rattle.std.proofs.Common.{◌≡◌, ◌<◌, ◌+◌, List, take, length, get_or, map, sym, ap, ap₂, subst, ◌∙◌}
+use Rattle.std.specs.List.{flat_map}
+use Rattle.std.proofs.lemmas.List.{length-map, take_more}
 use Rattle.bit_expr.specs.Arena.{arena}
 use Rattle.abel_tree.specs.declared.names.Names.{Names}
 use Rattle.abel_tree.specs.Entries.{entries_of, view_declared}
 use Rattle.abel_tree.specs.FirstRefusal.{earlier, first_refusal}
+use Rattle.abel_tree.proofs.FirstRefusals.{first_append}
 use Rattle.abel_meaning.specs.Designs.{no_name}
 use Rattle.set_expr.specs.declared.contributions.Contribution.{Contribution}
 use Rattle.design_checks.specs.declared.refused.RefusedUse.{RefusedUse}
 use Rattle.design_checks.specs.Refused.{refuses}
 use Rattle.design_checks.specs.SignalsRefused.{AreToNames}
 use Rattle.design_checks.specs.UsesRefused.{told_if, use_order}
+use Rattle.design_checks.proofs.JoinedFirsts.{flat_push, one_more}
 use Rattle.design_checks.proofs.LearntName.{name_here}
-use Rattle.design_checks.proofs.RefusedPlaces.{targets_more}
 use Rattle.design_checks.proofs.rules.first_refused.Goals as goal
 
 pub loop-given-preserved : goal.loop-given-preserved
@@ -32,4 +34,4 @@ loop-given-preserved g c =
     c.earlier-first.ensures
     ∙ ap₂ (earlier use_order) l.invariant
     (c.told_if.ensures ∙ ap (λ b. first_refusal use_order (told_if b (record { place = given.place; name = given.target.signal }))) (c.refuses-refused.ensures ∙ ap (λ e. test e given) (sym entry)))
-    ∙ targets_more told cs l.given-index _ c.loop-given-test.true
+    ∙ one_more (first_refusal use_order) (earlier use_order) (first_append use_order) (flat_map told) (take l.given-index cs) (take (l.given-index + 1) cs) given (told given) (take_more cs l.given-index _ c.loop-given-test.true) (flat_push told (take l.given-index cs) given)

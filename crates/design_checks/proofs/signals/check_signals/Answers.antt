@@ -1,31 +1,56 @@
--- All kinds are asked.
-use Rattle.std.proofs.Common.{ap, ◌∙◌}
-use Rattle.std.proofs.lemmas.Result.{IfErr-weaker, IfOk-weaker}
+-- The kinds before the first one that is refused have no refusal.
+use Rattle.std.proofs.Common.{refl, sym, ◌∙◌}
 use Rattle.bit_expr.specs.Arena.{arena}
-use Rattle.abel_tree.specs.declared.names.Names.{Names}
-use Rattle.abel_tree.specs.Entries.{entries_of}
-use Rattle.abel_tree.specs.FirstRefusal.{first_refusal}
-use Rattle.design_checks.specs.SignalsRefused.{registered_nodes}
-use Rattle.design_checks.specs.UsesRefused.{use_order}
-use Rattle.design_checks.proofs.Verdicts.{are_firsts}
+use Rattle.design_checks.proofs.Verdicts.{controls_pass, first_any, first_kind, first_node, kinds_pass, passed}
 use Rattle.design_checks.proofs.signals.check_signals.Goals as goal
 
-pub returns-clause-ok : goal.returns-clause-ok
-returns-clause-ok g c =
-    let found = c.args.found.now in
-    let nodes = c.in_ok-nodes.ensures ∙ ap (λ (n : Names). first_refusal use_order (registered_nodes 0 (entries_of n))) c.scope.ensures in
-    IfOk-weaker c.first_kind.result _ _
-    (λ r sound d of.
-    sound d (arena found.exprs) found.list
-    (are_firsts g.D.Device.table c.args.scope.now found d _ _ _ _ _ of.design c.first_refused-kinds.ensures nodes (c.in_ok-controls.ensures d of.design of.sections) c.first_refused-any.ensures (c.in_ok-paths.ensures d of.design of.sections)))
-    c.first_kind.ensures.ok
+pub returns-in-Some-clause-err : goal.returns-in-Some-clause-err
+returns-in-Some-clause-err g c d of = sym (first_kind g.D.Device.table c.args.scope.now _ refl d of.design c.args.found.now.list c.first_refused-kinds.ensures) ∙ c.in-Some.is
 
-pub returns-clause-err : goal.returns-clause-err
-returns-clause-err g c =
-    let found = c.args.found.now in
-    let nodes = c.in_ok-nodes.ensures ∙ ap (λ (n : Names). first_refusal use_order (registered_nodes 0 (entries_of n))) c.scope.ensures in
-    IfErr-weaker c.first_kind.result _ _
-    (λ f refused d of.
-    refused d (arena found.exprs) found.list
-    (are_firsts g.D.Device.table c.args.scope.now found d _ _ _ _ _ of.design c.first_refused-kinds.ensures nodes (c.in_ok-controls.ensures d of.design of.sections) c.first_refused-any.ensures (c.in_ok-paths.ensures d of.design of.sections)))
-    c.first_kind.ensures.err
+pub returns-in-Some-nodes-clause-err : goal.returns-in-Some-nodes-clause-err
+returns-in-Some-nodes-clause-err g c d of =
+    let t = g.D.Device.table in
+    let n = c.args.scope.now in
+    let cs = c.args.found.now.list in (
+      passed (first_kind t n _ c.scope.ensures d of.design cs c.first_refused-kinds.ensures) c.in_default.is,
+      sym (first_node t n _ c.scope.ensures d of.design cs c.in_ok-nodes.ensures) ∙ c.in-Some-nodes.is,
+    )
+
+pub returns-in-Some-controls-clause-err : goal.returns-in-Some-controls-clause-err
+returns-in-Some-controls-clause-err g c d of = (
+  kinds_pass g.D.Device.table c.args.scope.now _ c.scope.ensures d of.design c.args.found.now.list c.first_refused-kinds.ensures c.in_default.is c.in_ok-nodes.ensures c.in_default-nodes.is,
+  sym (c.in_ok-controls.ensures d of.design of.sections) ∙ c.in-Some-controls.is,
+)
+
+pub returns-in-Some-any-clause-err : goal.returns-in-Some-any-clause-err
+returns-in-Some-any-clause-err g c d of =
+    let t = g.D.Device.table in
+    let n = c.args.scope.now in
+    let cs = c.args.found.now.list in (
+      kinds_pass t n _ c.scope.ensures d of.design cs c.first_refused-kinds.ensures c.in_default.is c.in_ok-nodes.ensures c.in_default-nodes.is,
+      passed (c.in_ok-controls.ensures d of.design of.sections) c.in_default-controls.is,
+      sym (first_any t n _ c.scope.ensures d of.design cs c.first_refused-any.ensures) ∙ c.in-Some-any.is,
+    )
+
+pub returns-in-Some-paths-clause-err : goal.returns-in-Some-paths-clause-err
+returns-in-Some-paths-clause-err g c d of =
+    let t = g.D.Device.table in
+    let n = c.args.scope.now in
+    let cs = c.args.found.now.list in (
+      kinds_pass t n _ c.scope.ensures d of.design cs c.first_refused-kinds.ensures c.in_default.is c.in_ok-nodes.ensures c.in_default-nodes.is,
+      controls_pass t n _ c.scope.ensures d of.design cs (arena c.args.found.now.exprs) (c.in_ok-controls.ensures d of.design of.sections) c.in_default-controls.is c.first_refused-any.ensures c.in_default-any.is,
+      sym (c.in_ok-paths.ensures d of.design of.sections) ∙ c.in-Some-paths.is,
+    )
+
+pub returns-in-None-clause-ok : goal.returns-in-None-clause-ok
+returns-in-None-clause-ok g c d of =
+    let t = g.D.Device.table in
+    let n = c.args.scope.now in
+    let cs = c.args.found.now.list in
+    record {
+      kinds = kinds_pass t n _ c.scope.ensures d of.design cs c.first_refused-kinds.ensures c.in_default.is c.in_ok-nodes.ensures c.in_default-nodes.is;
+      uses = record {
+        controls = controls_pass t n _ c.scope.ensures d of.design cs (arena c.args.found.now.exprs) (c.in_ok-controls.ensures d of.design of.sections) c.in_default-controls.is c.first_refused-any.ensures c.in_default-any.is;
+        paths = passed (c.in_ok-paths.ensures d of.design of.sections) c.in-None.is;
+      };
+    }

@@ -1,23 +1,29 @@
 -- Statements one after the other.
-use Rattle.std.proofs.Common.{true, None, Some, map, sym, ap, ap₂, ◌∙◌, ◌++◌, append-nil}
+use Rattle.std.proofs.Common.{true, None, Some, ◌+◌, map, take, sym, ap, ap₂, ◌∙◌, ◌++◌, append-nil}
 use Rattle.std.proofs.lemmas.Result.{IfOk-weaker}
 use Rattle.abel_tree.specs.FirstRefusal.{earlier, first_refusal}
 use Rattle.abel_tree.specs.View.{view_stmt}
 use Rattle.abel_tree.proofs.FirstRefusals.{first_append}
 use Rattle.set_expr.specs.Contexts.{context_for}
+use Rattle.set_expr.proofs.FoundMembers.{front_more}
 use Rattle.design_checks.specs.UsesRefused.{use_order}
 use Rattle.design_checks.specs.Fronts.{list_refused}
 use Rattle.design_checks.specs.Written.{statement_refused}
-use Rattle.design_checks.proofs.RefusedStatements.{first_more, list_push, refused_of_group, refused_of_when}
+use Rattle.design_checks.proofs.JoinedFirsts.{one_more}
+use Rattle.design_checks.proofs.RefusedStatements.{list_push, refused_of_group, refused_of_when}
 use Rattle.design_checks.proofs.spelling.+statements.Goals as goal
 
 pub refused_list-loop-stmt-preserved : goal.refused_list-loop-stmt-preserved
 refused_list-loop-stmt-preserved g t c l =
     let d = context_for g.D.Device.table c.args.scope.now in
     let b = c.args.guarded in
+    let xs = c.args.list.now in
+    let i = c.loop-stmt.stmt-index in
+    let x = c.stmt-item.result in
     c.earlier-first.ensures
     ∙ ap₂ (earlier use_order) (c.loop-stmt.invariant l) (c.in_ok-refused_stmt.ensures l)
-    ∙ first_more (list_refused d b) (statement_refused d b) (list_push d b) view_stmt c.args.list.now c.loop-stmt.stmt-index c.stmt-item.result c.loop-stmt-test.true c.stmt-item.is
+    ∙ one_more (first_refusal use_order) (earlier use_order) (first_append use_order) (list_refused d b) (map view_stmt (take i xs)) (map view_stmt (take (i + 1) xs)) (view_stmt x) (statement_refused d b (view_stmt x))
+    (front_more view_stmt xs i x c.loop-stmt-test.true c.stmt-item.is) (list_push d b (map view_stmt (take i xs)) (view_stmt x))
 
 pub refused_stmt-returns-in-Group : goal.refused_stmt-returns-in-Group
 refused_stmt-returns-in-Group g t c =

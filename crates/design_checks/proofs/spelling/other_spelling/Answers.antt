@@ -3,14 +3,15 @@ use Rattle.std.proofs.Common.{sym, ap₂, subst, ◌∙◌}
 use Rattle.abel_tree.specs.declared.names.Names.{Names}
 use Rattle.abel_tree.specs.FirstRefusal.{earlier, first_refusal}
 use Rattle.abel_tree.specs.View.{view_section}
+use Rattle.abel_tree.proofs.FirstRefusals.{first_append}
 use Rattle.set_expr.specs.Contexts.{context_for}
 use Rattle.set_expr.proofs.FoundMembers.{whole_front}
 use Rattle.design_checks.specs.Learnt.{AreUsesOf}
 use Rattle.design_checks.specs.UsesRefused.{use_order}
 use Rattle.design_checks.specs.Written.{section_refused, sections_refused}
 use Rattle.design_checks.specs.declared.rule.UseRule.TheVariants as use_rule
+use Rattle.design_checks.proofs.JoinedFirsts.{joined_more}
 use Rattle.design_checks.proofs.LearntName.{is_context_for}
-use Rattle.design_checks.proofs.RefusedStatements.{first_more, sections_push}
 use Rattle.design_checks.proofs.spelling.other_spelling.Goals as goal
 
 pub loop-section-preserved : goal.loop-section-preserved
@@ -22,7 +23,7 @@ loop-section-preserved g c =
     let knows = subst (λ (m : Names). AreUsesOf use_rule.Extensions (context_for t m) known c.as_slice.result.now) c.scope-known.ensures learnt in
     c.earlier-first.ensures
     ∙ ap₂ (earlier use_order) c.loop-section.invariant (c.in_ok-refused_section.ensures knows)
-    ∙ first_more (sections_refused d) (section_refused d) (sections_push d) view_section c.args.sections.now c.loop-section.section-index c.section-item.result c.loop-section-test.true c.section-item.is
+    ∙ joined_more (first_refusal use_order) (earlier use_order) (first_append use_order) view_section (section_refused d) c.args.sections.now c.loop-section.section-index c.section-item.result c.loop-section-test.true c.section-item.is
 
 pub returns : goal.returns
 returns g c d of same =

@@ -41,7 +41,7 @@ returns g c l =
     let s = c.in_ok-side.ensures g.D.Device.table in
     let low : length x.aims ≤ 32 = omega (arith, c.if-aims-gt32.false, ap length c.as_slice-aims.ensures, side_length (length (entries_of c.args.scope.now)) c.in_ok-side.side x s) in
     let aims = c.as_slice-aims.ensures ∙ side_all (length (entries_of c.args.scope.now)) c.in_ok-side.side x s low in
-    c.refused_aims.ensures w (c.in_ok-front.ensures d l) (subst (λ xs. length xs ≤ 32) (sym aims) low)
+    c.refused_aims.ensures w c.in_ok-value.value.by_pin (c.in_ok-value.ensures d l) (subst (λ xs. length xs ≤ 32) (sym aims) low)
     ∙ ap (λ (n : Names). first_refusal use_order (aims_refused (context_for g.D.Device.table n) c.target_extension-extension.result w 0 c.as_slice-aims.result.now)) c.scope.ensures
     ∙ ap (λ xs. first_refusal use_order (aims_refused d c.target_extension-extension.result w 0 xs)) (aims ∙ sym (narrow_all x.aims low))
     ∙ ap (λ e. first_refusal use_order (aims_refused d e w 0 (narrow x.aims))) c.target_extension-extension.ensures
