@@ -16,8 +16,8 @@ use Rattle.decls.specs.Refused.{refused_if, is_signal_pin, node_limit, number_re
 use Rattle.decls.proofs.FirstNames.{kind_append, or_else}
 use Rattle.decls.proofs.Folded.{any_append}
 use Rattle.decls.proofs.NoRefusals.{none_left, none_right, not_refused}
-use Rattle.declared_names.proofs.NamesAlike.{Extends}
-use Rattle.declared_names.proofs.Placed.{same_name}
+use Rattle.decls.proofs.NamesAlike.{Extends}
+use Rattle.decls.proofs.Placed.{same_name}
 use Rattle.placer.specs.PlacedModule.{Pinned}
 use Rattle.placer.specs.Placements.{is_node}
 use Rattle.placer.proofs.PlacedNames.{IsPlacedKind, placed_words, IsPlacedName, ArePlaced, IsGiven, placed_push, same_known, taken_from}

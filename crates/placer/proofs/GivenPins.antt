@@ -23,10 +23,10 @@ use Rattle.decls.specs.NameRefusals.{always_inverts, name_refusals}
 use Rattle.decls.specs.NamesBefore.{is_taken}
 use Rattle.decls.specs.Refused.{is_signal_pin, uses_refused}
 use Rattle.decls.proofs.FirstNames.{same_bytes}
-use Rattle.declared_names.proofs.NamesAlike.{Alike, alike_kinds, alike_settled}
+use Rattle.decls.proofs.NamesAlike.{Alike, alike_kinds, alike_settled}
 use Rattle.declared_names.proofs.Exact.{entries_sound}
-use Rattle.declared_names.proofs.Placed.{found_at, kind_at, same_name}
-use Rattle.declared_names.proofs.SoundEntries.{AreSound, taken_alike}
+use Rattle.decls.proofs.Placed.{found_at, kind_at, same_name}
+use Rattle.decls.proofs.SoundEntries.{AreSound, taken_alike}
 use Rattle.design_checks.specs.SignalsRefused.{is_registered_node}
 use Rattle.pin_matching.specs.Assignments.{IsAssignment}
 use Rattle.pin_matching.proofs.Lists.{same_place}

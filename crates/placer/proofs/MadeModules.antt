@@ -15,7 +15,7 @@ use Rattle.abel_meaning.specs.Designs.{no_name}
 use Rattle.abel_meaning.specs.Kinds.{names_of}
 use Rattle.decls.specs.NameRefusals.{name_refusals}
 use Rattle.declared_names.proofs.Exact.{entries_sound}
-use Rattle.declared_names.proofs.Placed.{kind_at}
+use Rattle.decls.proofs.Placed.{kind_at}
 use Rattle.pin_matching.specs.Assignments.{IsKept, IsTaken}
 use Rattle.placer.specs.Reads.{has_enable, is_read}
 use Rattle.placer.specs.declared.fault.PlaceFault.{PlaceFault}

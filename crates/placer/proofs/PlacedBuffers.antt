@@ -17,9 +17,9 @@ use Rattle.decls.specs.NameRefusals.{always_inverts, buffered, all_buffered, is_
 use Rattle.decls.specs.NamesBefore.{names_behind}
 use Rattle.decls.specs.Refused.{items_refused, parts_refused, declaration_refused, declarations_refused}
 use Rattle.decls.proofs.NoRefusals.{none_left, none_right}
-use Rattle.declared_names.proofs.Accepted.{module_accepted}
+use Rattle.decls.proofs.Accepted.{module_accepted}
 use Rattle.declared_names.proofs.Buffers.{registered_by, declared_at}
-use Rattle.declared_names.proofs.SaidBuffers.{items_signals}
+use Rattle.decls.proofs.SaidBuffers.{items_signals}
 use Rattle.placer.specs.PlacedModule.{Pinned, node_declaration, unpinned, unpinned_items, placed_declaration, placed_declarations, placed_section, placed_module, with_equations}
 use Rattle.placer.proofs.DeclarationParts.{given_single}
 use Rattle.placer.proofs.PlacedNames.{IsPlacedKind, placed_words, ArePlaced, kind_signal}

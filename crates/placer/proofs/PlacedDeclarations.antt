@@ -22,8 +22,8 @@ use Rattle.decls.proofs.FirstNames.{same_bytes}
 use Rattle.decls.proofs.Folded.{any_append}
 use Rattle.decls.proofs.Goes.{count_append}
 use Rattle.decls.proofs.NoRefusals.{none_left, none_right}
-use Rattle.declared_names.proofs.Accepted.{refused_append}
-use Rattle.declared_names.proofs.SaidBuffers.{items_signals}
+use Rattle.decls.proofs.Accepted.{refused_append}
+use Rattle.decls.proofs.SaidBuffers.{items_signals}
 use Rattle.placer.specs.PlacedModule.{Pinned, register_string, item_at, span_at, spans_for, node_declaration, unpinned, unpinned_items, placed_declaration}
 use Rattle.placer.proofs.Counts.{as_many}
 use Rattle.placer.proofs.DeclarationParts.{single_numbers, counts_agree, counts_none, length_pins, strings_fewer, fewer_words, register_accepted, register_said, given_single, signals_accepted, all_kept}

@@ -16,7 +16,7 @@ use Rattle.decls.specs.Refused.{is_device, declaration_refused, declarations_ref
 use Rattle.decls.proofs.Folded.{any_append}
 use Rattle.decls.proofs.NoRefusals.{none_left, none_right}
 use Rattle.decls.proofs.Telling.{taken_told}
-use Rattle.declared_names.proofs.Accepted.{extends_behind}
+use Rattle.decls.proofs.Accepted.{extends_behind}
 use Rattle.placer.specs.PlacedModule.{Pinned, placed_declaration, placed_declarations, placed_section, placed_module, with_equations}
 use Rattle.placer.proofs.Entering.{IsWithin, HasPins}
 use Rattle.placer.proofs.PlacedDeclarations.{IsAlong, placed_step}
