@@ -22,19 +22,11 @@ named_kept flip held found ks s k [] = refl
 named_kept flip held found ks s k (e ∷ es) = named_kept flip held found (ks ++ record { name = e.name; signals = meant ks s e.kind } ∷ []) (suc s) (suc k) es
 
 -- an assigned name as it was declared, with its kind
-kinds_there : (flip : Flip) (held : Holds) (found : List Assigned) (k s : ℕ) (es : List Entry) → (get_or (with_kinds flip held found k es) s no_name).assigned ≡ true
-    → (x : Entry) × ((slice_get es s ≡ Some x) × (get_or (with_kinds flip held found k es) s no_name ≡ with_kind flip held found (k + s) x))
-kinds_there flip held found k s [] h = absurd cc
-kinds_there flip held found k zero (e ∷ es) h = (e, (refl, ap (λ n. with_kind flip held found n e) (the_first k)))
-  where
-    the_first : (n : ℕ) → n ≡ n + 0
-    the_first n = omega arith
-kinds_there flip held found k (suc s) (e ∷ es) h =
-    let there = kinds_there flip held found (suc k) s es h in
-    (there.0, (there.1.0, there.1.1 ∙ ap (λ n. with_kind flip held found n there.0) (one_more k s)))
-  where
-    one_more : (n m : ℕ) → suc n + m ≡ n + suc m
-    one_more n m = omega arith
+kinds_there : (flip : Flip) (held : Holds) (found : List Assigned) (k s n : ℕ) (es : List Entry) → n ≡ k + s → (get_or (with_kinds flip held found k es) s no_name).assigned ≡ true
+    → (x : Entry) × ((slice_get es s ≡ Some x) × (get_or (with_kinds flip held found k es) s no_name ≡ with_kind flip held found n x))
+kinds_there flip held found k s n [] place h = absurd cc
+kinds_there flip held found k zero n (e ∷ es) place h = (e, (refl, ap (λ j. with_kind flip held found j e) (let same : k ≡ n = omega (arith, place) in same)))
+kinds_there flip held found k (suc s) n (e ∷ es) place h = kinds_there flip held found (suc k) s n es (omega (arith, place)) h
 
 module _ (t : Table) (m : ModuleTree) where
   abbrev pub own_names : List Named
@@ -57,12 +49,7 @@ module _ (t : Table) (m : ModuleTree) where
 
   -- an assigned name as it was declared, and as it is assigned
   pub declared_there : (s : ℕ) → (name_at d.context s).assigned ≡ true → (x : Entry) × ((slice_get (declared_names m) s ≡ Some x) × (name_at d.context s ≡ with_kind t.flip own_held own_assigned s x))
-  declared_there s h =
-      let there = kinds_there t.flip own_held own_assigned 0 s (declared_names m) h in
-      (there.0, (there.1.0, there.1.1 ∙ ap (λ n. with_kind t.flip own_held own_assigned n there.0) (no_more s)))
-    where
-      no_more : (n : ℕ) → 0 + n ≡ n
-      no_more n = omega arith
+  declared_there s h = kinds_there t.flip own_held own_assigned 0 s s (declared_names m) (omega arith) h
 
   pub by_sections : (s : ℕ) → (name_at d.context s).assigned ≡ true → is_assigned own_assigned s ≡ true
   by_sections s h = sym (ap (λ (e : Entry). e.assigned) (declared_there s h).1.1) ∙ h

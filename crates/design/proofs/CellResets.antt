@@ -5,6 +5,7 @@ use Rattle.std.specs.Option.{option_map}
 use Rattle.std.proofs.lemmas.Bool.{cases_Bool, and_parts}
 use Rattle.std.proofs.lemmas.List.{get_or-map, length-map}
 use Rattle.std.proofs.lemmas.List.Elements.{All-map}
+use Rattle.std.proofs.lemmas.Option.{same_Some}
 use Rattle.pld_base.specs.declared.place.Place.{Place}
 use Rattle.pld_device.specs.Table.{Table}
 use Rattle.bit_expr.specs.declared.netlist.CellWanted.{CellWanted}
@@ -27,49 +28,29 @@ use Rattle.netlist_laws.proofs.SoundCells.{IsFor, each_for}
 use Rattle.netlist_laws.proofs.SoundLeaves.{inside}
 use Rattle.gathering.specs.Linked.{AreLinks}
 use Rattle.gathering.specs.Placed.{IsPlaced}
-use Rattle.design_checks.specs.SignalsRefused.{lacks_by, lacks_control}
 use Rattle.gathering.specs.Resets.{AssignedHaveCells}
-use Rattle.section_targets.proofs.KnownTargets.{IsSignalOf}
 use Rattle.design.specs.Answers.{is_sooner, IsResetAt, IsFirstPath}
+use Rattle.design.proofs.GivenSignals.{IsRowed}
 use Rattle.design.specs.Resets.{IsResetOf, LeadsNowhereAt, AnyPlace, Before, IsFirstOf, AllLeadNowhere}
 
 -- ---- what is asked of each cell
 
 module _ (d : Context) (cs : List (meant.Contribution Formula)) where
   -- what holds of all that is asked holds of what a signal asks
-  asked_by : (P : Wanted → Type 0) (s i c : ℕ) (xs : List Entry) → All P (cells_from d cs s xs) → i < length xs → cell_of d.device (get_or xs i no_name) ≡ Some c → P (wanted_for d cs c (s + i) (get_or xs i no_name))
-  asked_by P s i c [] all within on = absurd (omega (arith, within))
-  asked_by P s zero c (x ∷ xs) all within on =
-      let e : s ≡ s + 0 = omega arith in
-      let all_here : All P (wanted_for d cs c s x ∷ cells_from d cs (suc s) xs) = rw on at all in
-      subst (λ n. P (wanted_for d cs c n x)) e (all_here 0 (wanted_for d cs c s x) (omega arith))
-  asked_by P s (suc i) c (x ∷ xs) all within on =
-      let e : suc s + i ≡ s + suc i = omega arith in
-      subst (λ n. P (wanted_for d cs c n (get_or xs i no_name))) e
-      (asked_by P (suc s) i c xs (rest (option_map (λ k. wanted_for d cs k s x) (cell_of d.device x)) (cells_from d cs (suc s) xs) all) (omega (arith, within)) on)
+  asked_by : (P : Wanted → Type 0) (s i n c : ℕ) (xs : List Entry) → n ≡ s + i → All P (cells_from d cs s xs) → i < length xs → cell_of d.device (get_or xs i no_name) ≡ Some c → P (wanted_for d cs c n (get_or xs i no_name))
+  asked_by P s i n c [] place all within on = absurd (omega (arith, within))
+  asked_by P s zero n c (x ∷ xs) place all within on =
+      let here : All P (wanted_for d cs c s x ∷ cells_from d cs (suc s) xs) = rw on at all in
+      let e : s ≡ n = omega (arith, place) in
+      subst (λ k. P (wanted_for d cs c k x)) e (here 0 (wanted_for d cs c s x) (omega arith))
+  asked_by P s (suc i) n c (x ∷ xs) place all within on =
+      asked_by P (suc s) i n c xs (omega (arith, place)) (rest (option_map (λ k. wanted_for d cs k s x) (cell_of d.device x)) (cells_from d cs (suc s) xs) all) (omega (arith, within)) on
     where
       rest : (o : Option Wanted) (ws : List Wanted) → All P (and_cell o ws) → All P ws
       rest None ws all = all
       rest (Some w) ws all = λ k v less. all (suc k) v (omega (arith, less))
 
--- ---- stored signals
-
-stored_row : (stored : Bool) (row : Option ℕ) → (not stored || is_none row) ≡ false → stored ≡ true
-stored_row true row is = refl
-stored_row false row is = absurd cc
-
--- a register on a pin
-pub record IsStoredPin (x : Entry) : Type 0 where
-  pub pin : ℕ
-  pub negated : Bool
-  pub kind : x.kind ≡ APin pin negated
-  pub stored : is_stored x ≡ true
-
-stored_by : (t : Table) (x : Entry) (kind : Kind) → x.kind ≡ kind → is_signal kind ≡ true → lacks_by t (is_stored x) kind (Some extension.Ar) ≡ false → IsStoredPin x
-stored_by t x (APin pin negated) is signal has = record { pin = pin; negated = negated; kind = is; stored = stored_row (is_stored x) t.reset has }
-stored_by t x (ANode n) is signal has = absurd cc
-stored_by t x (AConstant value) is signal has = absurd cc
-stored_by t x ADeviceName is signal has = absurd cc
+-- ---- controls
 
 -- no reset without an equation reads anything
 no_equation : (d : Design) (s : ℕ) → control_of (formulas d.context) (given_formulas d) s extension.Ar ≡ None → HasNoSignalPath d s
@@ -84,7 +65,7 @@ no_equation d s none path is =
 
 module _ (d : Design) (fs : List Formula) (ns : List ℕ) (ls : List Link) (cs : List Contribution) (ws : List CellWanted) (cells : AssignedHaveCells d.context) (links : AreLinks d.context (given_formulas d) ns ls)
     (asked : map (plain_wanted fs) ws ≡ cells_from d.context (given_formulas d) 0 d.context.names) (placed : All (IsPlaced cs) ws)
-    (had : (s : ℕ) (f : Formula) → control_of (formulas d.context) (given_formulas d) s extension.Ar ≡ Some f → (lacks_control d.context.device (name_at d.context s) (Some extension.Ar) ≡ false) × IsSignalOf d.context s) where
+    (had : (s : ℕ) (f : Formula) → control_of (formulas d.context) (given_formulas d) s extension.Ar ≡ Some f → IsRowed (name_at d.context s) d.context.device.reset) where
   for_cell : (k : ℕ) (w : CellWanted) → k < length ws → IsFor d 0 (plain_wanted fs (get_or ws k w))
   for_cell k w less =
       subst (IsFor d 0) (get_or-map (plain_wanted fs) ws k w (plain_wanted fs w) less)
@@ -132,13 +113,11 @@ module _ (d : Design) (fs : List Formula) (ns : List ℕ) (ls : List Link) (cs :
         some_cell None some = absurd cc
         some_cell (Some c) some = (c, refl)
 
-    stored_goes : (s : ℕ) (f : Formula) → control_of (formulas d.context) (given_formulas d) s extension.Ar ≡ Some f → IsStoredPin (name_at d.context s) → StandsAt s → HasNoSignalPath d s
+    stored_goes : (s : ℕ) (f : Formula) → control_of (formulas d.context) (given_formulas d) s extension.Ar ≡ Some f → IsRowed (name_at d.context s) d.context.device.reset → StandsAt s → HasNoSignalPath d s
     stored_goes s f is at stands =
         let on = on_cell s at.pin at.negated at.kind (and_parts (name_at d.context s).words.registered (name_at d.context s).assigned at.stored).1 in
         let within = inside d.context s (λ e. absurd (pin_name at.pin at.negated (sym at.kind ∙ e))) in
-        let e : 0 + s ≡ s = omega arith in
-        let goes : Goes (wanted_for d.context (given_formulas d) on.0 s (name_at d.context s)) = subst (λ n. Goes (wanted_for d.context (given_formulas d) on.0 n (name_at d.context s))) e (asked_by d.context (given_formulas d) Goes 0 s on.0 d.context.names goes_asked within on.1) in
-        goes f (rw at.stored is) stands
+        asked_by d.context (given_formulas d) Goes 0 s s on.0 d.context.names (omega arith) goes_asked within on.1 f (rw at.stored is) stands
       where
         pin_name : (pin : ℕ) (negated : Bool) → APin pin negated ≡ ADeviceName → ⊥
         pin_name pin negated e = absurd cc
@@ -148,7 +127,7 @@ module _ (d : Design) (fs : List Formula) (ns : List ℕ) (ls : List Link) (cs :
       where
         by : (o : Option Formula) → control_of (formulas d.context) (given_formulas d) s extension.Ar ≡ o → HasNoSignalPath d s
         by None e = no_equation d s e
-        by (Some f) e = let has = had s f e in stored_goes s f e (stored_by d.context.device (name_at d.context s) (name_at d.context s).kind refl has.1 has.0) stands
+        by (Some f) e = stored_goes s f e (had s f e) stands
 
   -- where no reset of a cell leads to a register, none of a signal does
   pub none_leads : AllLeadNowhere fs ns ls ws → (s : ℕ) → HasNoSignalPath d s
@@ -163,8 +142,5 @@ module _ (d : Design) (fs : List Formula) (ns : List ℕ) (ls : List Link) (cs :
         reset = is.cell.name;
         stands = place.reset is.path.reset is.path.is ∙ ap (λ q. Some q) (sym is.path.place);
         leads = is.path.path d (reset_of is.cell is.path.reset for is.path.is);
-        first = λ r q at sooner. no_path (Before p) is.first r (λ k here. subst (λ x. is_sooner x p ≡ true) (same q k (sym at ∙ here)) sooner);
+        first = λ r q at sooner. no_path (Before p) is.first r (λ k here. subst (λ x. is_sooner x p ≡ true) (same_Some q k (sym at ∙ here)) sooner);
       }
-    where
-      same : (q k : Place) → Some q ≡ Some k → q ≡ k
-      same q k e = cc

@@ -1,7 +1,9 @@
 -- What holds of each element of a list, and what an empty list or a test of all says of each.
-use Rattle.std.proofs.Common.{◌≡◌, ℕ, zero, suc, Bool, true, false, ◌||◌, cond, Some, List, [], ◌∷◌, ◌++◌, map, refl, subst}
+use Rattle.std.proofs.Common.{◌≡◌, ℕ, zero, suc, Bool, true, false, cond, Some, List, [], ◌∷◌, ◌++◌, map, inl, inr, refl, subst}
 use Rattle.std.specs.Prelude.{filter, slice_get}
 use Rattle.std.specs.List.{AllByRecursion, list_any}
+use Rattle.std.proofs.lemmas.Bool.{or_cases, or_parts}
+use Rattle.std.proofs.lemmas.Option.{same_Some}
 
 module _ {A : Type 0} (P : A → Type 0) where
   pub each_always : ((x : A) → P x) → (xs : List A) → AllByRecursion P xs
@@ -34,20 +36,13 @@ module _ {A : Type 0} (P : A → Type 0) where
 
   pub each_at : (xs : List A) (k : ℕ) (x : A) → AllByRecursion P xs → slice_get xs k ≡ Some x → P x
   each_at [] k x all is = absurd cc
-  each_at (y ∷ xs) zero x all is = subst P (some_same is) all.0
-    where
-      some_same : Some y ≡ Some x → y ≡ x
-      some_same e = cc
+  each_at (y ∷ xs) zero x all is = subst P (same_Some y x is) all.0
   each_at (y ∷ xs) (suc k) x all is = each_at xs k x all.1 is
 
   -- one of several that passes
   pub some_of : (test : A → Bool) (xs : List A) → AllByRecursion P xs → list_any test xs ≡ true → (x : A) × P x × (test x ≡ true)
   some_of test [] all e = absurd cc
-  some_of test (x ∷ xs) all e = by (test x) refl (λ g. some_of test xs all.1 g) e
-    where
-      by : (b : Bool) → test x ≡ b → (list_any test xs ≡ true → (y : A) × P y × (test y ≡ true)) → (b || list_any test xs) ≡ true → (y : A) × P y × (test y ≡ true)
-      by true is more e = (x, all.0, is)
-      by false is more e = more e
+  some_of test (x ∷ xs) all e = elim (or_cases (test x) (list_any test xs) e) [ inl is ↦ (x, all.0, is) | inr more ↦ some_of test xs all.1 more ]
 
 pub each_weaker : {A : Type 0} (P Q : A → Type 0) → ((x : A) → P x → Q x) → (xs : List A) → AllByRecursion P xs → AllByRecursion Q xs
 each_weaker P Q so [] all = tt
@@ -64,11 +59,7 @@ module _ {A : Type 0} (test : A → Bool) where
 
   pub any_none : (xs : List A) → list_any test xs ≡ false → AllByRecursion Misses xs
   any_none [] e = tt
-  any_none (x ∷ xs) e = by (test x) refl (λ g. any_none xs g) e
-    where
-      by : (b : Bool) → test x ≡ b → (list_any test xs ≡ false → AllByRecursion Misses xs) → (b || list_any test xs) ≡ false → (test x ≡ false) × AllByRecursion Misses xs
-      by true is more e = absurd cc
-      by false is more e = (is, more e)
+  any_none (x ∷ xs) e = let parts = or_parts (test x) (list_any test xs) e in (parts.0, any_none xs parts.1)
 
   pub none_filtered : (xs : List A) → AllByRecursion Misses xs → filter test xs ≡ []
   none_filtered [] all = refl

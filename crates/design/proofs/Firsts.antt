@@ -6,6 +6,7 @@ use Rattle.std.proofs.lemmas.Bool.{true≢false}
 use Rattle.std.proofs.lemmas.Bool.Decides.{nat_tests}
 use Rattle.std.proofs.lemmas.List.{take_more, get_or_append_left}
 use Rattle.std.proofs.lemmas.List.Elements.{All-append, All-cons, All-nil, All-weaker}
+use Rattle.std.proofs.lemmas.Option.{same_Some}
 use Rattle.pld_base.specs.declared.place.Place.{Place}
 use Rattle.bit_expr.specs.declared.netlist.CellWanted.{CellWanted}
 use Rattle.bit_expr.specs.declared.netlist.Control.{Control}
@@ -33,10 +34,7 @@ module _ (fs : List Formula) (ns : List ℕ) (ls : List Link) where
 
   -- the reset of a cell with a path stands where the path does
   same_place : (w : CellWanted) (p : ResetPath) (c : Control) → IsPathOf fs ns ls w p → w.reset ≡ Some c → c.place ≡ p.place
-  same_place w p c path is = ap (λ (k : Control). k.place) (some_same (sym is ∙ path.is)) ∙ sym path.place
-    where
-      some_same : Some c ≡ Some path.reset → c ≡ path.reset
-      some_same e = cc
+  same_place w p c path is = ap (λ (k : Control). k.place) (same_Some c path.reset (sym is ∙ path.is)) ∙ sym path.place
 
   one : (P : CellWanted → Type 0) (ws : List CellWanted) (w : CellWanted) → All P ws → P w → All P (ws ++ w ∷ [])
   one P ws w h p = All-append P ws (w ∷ []) h (All-cons P w [] p (All-nil P))

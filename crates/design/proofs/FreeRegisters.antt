@@ -1,7 +1,8 @@
 -- Where nothing is refused of the sections, the polarity of a free register may be chosen.
 use Rattle.std.proofs.Common.{◌≡◌, ℕ, ◌==◌, Bool, true, false, not, ◌&&◌, ◌||◌, if◌then◌else◌, Option, None, Some, List, [], ◌∷◌, inl, inr, refl, sym, ap, ◌∙◌}
 use Rattle.std.specs.List.{AllByRecursion, list_any}
-use Rattle.std.proofs.lemmas.Bool.{and_parts, cases_Bool, true≢false}
+use Rattle.std.proofs.lemmas.Bool.{and_parts, cases_Bool, not-true, or_parts, true≢false}
+use Rattle.std.proofs.Math.Bool.{and-false}
 use Rattle.std.proofs.lemmas.List.Folds.{list_any-append}
 use Rattle.bit_expr.specs.Formulas.{Formula}
 use Rattle.pld_device.specs.declared.flip.Flip.{Flip}
@@ -52,10 +53,6 @@ by_default Always h = absurd cc
 by_default AfterRegister h = refl
 by_default BeforeRegister h = absurd cc
 
-not_true : (b : Bool) → not b ≡ true → b ≡ false
-not_true true h = absurd cc
-not_true false h = refl
-
 -- ---- controls
 
 shared_control : (e : Extension) → is_shared (Some e) ≡ true → ((o : Option Extension) → is_the_control e o ≡ true → o ≡ Some e) → (o : Option Extension) → is_shared o ≡ false → is_the_control e o ≡ false
@@ -64,14 +61,6 @@ shared_control e shared same o other =
       | inl is ↦ absurd (true≢false (sym shared ∙ ap is_shared (sym (same o is)) ∙ other))
       | inr differs ↦ differs
     ]
-
-either_false : (a b : Bool) → (a || b) ≡ false → (a ≡ false) × (b ≡ false)
-either_false true b h = absurd cc
-either_false false b h = (refl, h)
-
-and_none : (b : Bool) → (b && false) ≡ false
-and_none true = refl
-and_none false = refl
 
 -- ---- a module
 
@@ -105,7 +94,7 @@ module _ (t : Table) (m : ModuleTree) (bare : AllByRecursion (IsBare (design_of 
   none_given e other none s =
       let parts = each_weaker (λ p. part_shares p ≡ false) (OfPart NotShared (λ j. refl)) part_unshared (sections_parts m.sections) (any_none part_shares (sections_parts m.sections) none) in
       ap (control_by (formulas d.context)) (none_filtered (is_control s e) (given_formulas d)
-      (each_weaker (λ (c : Contribution Formula). NotShared c.extension c.signal) (λ c. is_control s e c ≡ false) (λ c is. ap (λ b. (c.signal == s) && b) (other c.extension is) ∙ and_none (c.signal == s)) (given_formulas d)
+      (each_weaker (λ (c : Contribution Formula). NotShared c.extension c.signal) (λ c. is_control s e c ≡ false) (λ c is. ap (λ b. (c.signal == s) && b) (other c.extension is) ∙ and-false (c.signal == s)) (given_formulas d)
       (each_own NotShared (λ j. refl) parts)))
 
   -- ---- raw inputs
@@ -115,7 +104,7 @@ module _ (t : Table) (m : ModuleTree) (bare : AllByRecursion (IsBare (design_of 
     NotRaw e j = (((j == s) && is_data e) && is_raw e) ≡ false
 
     raw_plain : (j : ℕ) → NotRaw None j
-    raw_plain j = and_none ((j == s) && true)
+    raw_plain j = and-false ((j == s) && true)
 
     abbrev held : List ℕ → Bool → List ℕ
     held = held_by (held_of (declared_names m))
@@ -132,7 +121,7 @@ module _ (t : Table) (m : ModuleTree) (bare : AllByRecursion (IsBare (design_of 
         → AllByRecursion (NotRaw (target_extension x)) (signals_in (term_of d.context.known x))
     target_free x clear false plain free =
         let e = target_extension x in
-        each_always (NotRaw e) (λ j. ap (λ b. ((j == s) && is_data e) && b) plain ∙ and_none ((j == s) && is_data e)) (signals_in (term_of d.context.known x))
+        each_always (NotRaw e) (λ j. ap (λ b. ((j == s) && is_data e) && b) plain ∙ and-false ((j == s) && is_data e)) (signals_in (term_of d.context.known x))
     target_free x clear true raw free =
         let e = target_extension x in
         let own = without_extension x in
@@ -145,7 +134,7 @@ module _ (t : Table) (m : ModuleTree) (bare : AllByRecursion (IsBare (design_of 
     parts_free : (ps : List Part) → AllByRecursion (IsBare d.context) ps → among s (parts_read held ps) ≡ false → AllByRecursion (OfPart NotRaw raw_plain) ps
     parts_free [] clear free = tt
     parts_free (p ∷ ps) clear free =
-        let parts = either_false (among s (part_reads held p)) (among s (parts_read held ps)) (sym (list_any-append (λ j. j == s) (part_reads held p) (parts_read held ps)) ∙ free) in
+        let parts = or_parts (among s (part_reads held p)) (among s (parts_read held ps)) (sym (list_any-append (λ j. j == s) (part_reads held p) (parts_read held ps)) ∙ free) in
         (part_free p clear.0 parts.0, parts_free ps clear.1 parts.1)
       where
         part_free : (q : Part) → IsBare d.context q → among s (part_reads held q) ≡ false → OfPart NotRaw raw_plain q
@@ -156,7 +145,7 @@ module _ (t : Table) (m : ModuleTree) (bare : AllByRecursion (IsBare (design_of 
     named : is_held (own_held t m) s ≡ false → is_raw_signal (given_formulas d) s ≡ false
     named free =
         none_any (λ (c : Contribution Formula). is_data_to s c && is_raw c.extension) (given_formulas d)
-        (each_own NotRaw raw_plain (parts_free (sections_parts m.sections) bare (either_false (own_held t m).all (list_any (λ h. h == s) (own_held t m).signals) free).1))
+        (each_own NotRaw raw_plain (parts_free (sections_parts m.sections) bare (or_parts (own_held t m).all (list_any (λ h. h == s) (own_held t m).signals) free).1))
 
   -- ---- what is free
 
@@ -175,7 +164,7 @@ module _ (t : Table) (m : ModuleTree) (bare : AllByRecursion (IsBare (design_of 
           let is = must_be_free (registered && is_assigned (own_assigned t m) s) (is_buffer t.flip x.words) (stays_free t.flip (own_held t m) s x.words registered) free in
           let kept = and_parts (is_open t.flip x.words) (not (is_held (own_held t m) s)) (and_parts registered (is_open t.flip x.words && not (is_held (own_held t m) s)) is).1 in
           let default = (and_parts (not x.words.invert) (is_buffer_by_default t.flip) (and_parts (not x.words.buffer) (not x.words.invert && is_buffer_by_default t.flip) kept.0).1).1 in
-          (by_default t.flip default, not_true (is_held (own_held t m) s) kept.1)
+          (by_default t.flip default, not-true (is_held (own_held t m) s) kept.1)
       by false here free = absurd cc
 
   pub free_may_choose : FreeMayChoose d
@@ -184,7 +173,7 @@ module _ (t : Table) (m : ModuleTree) (bare : AllByRecursion (IsBare (design_of 
       let assigned = (and_parts (name_at d.context s).words.registered (name_at d.context s).assigned stored).1 in
       let there = declared_there t m s assigned in
       let stay = stays s there.0 (sym (ap (λ (e : Entry). is_signal e.kind) there.1.1) ∙ signal_there t m s assigned) (sym (ap is_free there.1.1) ∙ free) in
-      let clear = (either_false (own_held t m).all (list_any (λ h. h == s) (own_held t m).signals) stay.1).0 in
+      let clear = (or_parts (own_held t m).all (list_any (λ h. h == s) (own_held t m).signals) stay.1).0 in
       record {
         named = named s stay.1;
         behind = stay.0;

@@ -1,11 +1,13 @@
 -- Each contribution to a design is to a signal, and each control is one that its signal has.
-use Rattle.std.proofs.Common.{◌≡◌, ℕ, ◌==◌, Bool, true, false, ◌||◌, cond, Option, None, Some, List, [], ◌∷◌, map, refl, sym, ap, subst, ◌∙◌}
-use Rattle.std.specs.Prelude.{filter}
+use Rattle.std.proofs.Common.{◌≡◌, ℕ, ◌==◌, Bool, true, false, not, ◌||◌, cond, Option, None, Some, List, [], ◌∷◌, map, refl, sym, ap, subst, ◌∙◌}
+use Rattle.std.specs.Prelude.{IsSome, filter, is_none}
 use Rattle.std.specs.List.{AllByRecursion, list_any}
 use Rattle.std.proofs.lemmas.Bool.{and_parts, eqb-true}
+use Rattle.pld_device.specs.Table.{Table}
 use Rattle.bit_expr.specs.Formulas.{Formula}
 use Rattle.abel_tree.specs.declared.words.Extension.{Extension}
 use Rattle.abel_tree.specs.declared.words.Extension.TheVariants as extension
+use Rattle.abel_tree.specs.Entries.{Kind, APin, ANode, AConstant, ADeviceName, Entry, is_signal, is_stored}
 use Rattle.abel_tree.specs.Tree.{Tree}
 use Rattle.abel_meaning.specs.Contributions.{Contribution, Evaluator}
 use Rattle.abel_meaning.specs.Controls.{is_control, is_the_control, control_by, control_of}
@@ -20,7 +22,7 @@ use Rattle.abel_meaning.specs.Terms.{known_of, term_of}
 use Rattle.set_expr.specs.declared.contributions.Contribution as code
 use Rattle.set_expr.specs.Given.{view_contribution}
 use Rattle.design_checks.specs.Refused.{lacking_controls}
-use Rattle.design_checks.specs.SignalsRefused.{lacks_control}
+use Rattle.design_checks.specs.SignalsRefused.{lacks_by, lacks_control, pin_lacks}
 use Rattle.netlist_laws.specs.SignalUses.{SignalUse, given_uses}
 use Rattle.netlist_laws.proofs.SourcedFormulas.{Sourced, sourced_contributions, formulas_are, uses_are}
 use Rattle.design_checks.specs.LocatedUses.{PlacedUse}
@@ -101,6 +103,28 @@ each_some Q [] all = tt
 each_some Q (None ∷ ss) all = each_some Q ss all
 each_some Q (Some s ∷ ss) all = (all.0, each_some Q ss all.1)
 
+-- a register on a pin, and a row of the device for one of its controls
+pub record IsRowed (x : Entry) (row : Option ℕ) : Type 0 where
+  pub pin : ℕ
+  pub negated : Bool
+  pub kind : x.kind ≡ APin pin negated
+  pub stored : is_stored x ≡ true
+  pub there : IsSome row
+
+stored_row : (stored : Bool) (row : Option ℕ) → (not stored || is_none row) ≡ false → (stored ≡ true) × IsSome row
+stored_row true None has = absurd cc
+stored_row true (Some r) has = (refl, refl)
+stored_row false row has = absurd cc
+
+-- so is a signal that has the control
+rowed : (t : Table) (x : Entry) (e : Extension) (row : Option ℕ) → ((stored : Bool) → pin_lacks t stored (Some e) ≡ (not stored || is_none row)) → (kind : Kind) → x.kind ≡ kind → is_signal kind ≡ true → lacks_by t (is_stored x) kind (Some e) ≡ false → IsRowed x row
+rowed t x e row own (APin pin negated) is signal has =
+    let at = stored_row (is_stored x) row (sym (own (is_stored x)) ∙ has) in
+    record { pin = pin; negated = negated; kind = is; stored = at.0; there = at.1 }
+rowed t x e row own (ANode n) is signal has = absurd cc
+rowed t x e row own (AConstant value) is signal has = absurd cc
+rowed t x e row own ADeviceName is signal has = absurd cc
+
 module _ (d : Design) (known : d.context.known ≡ known_of d.context.names) (headers : HaveBareHeaders d.context d.sections) where
   abbrev AnyUse : SignalUse → Type 0
   AnyUse u = Unit {0}
@@ -125,10 +149,8 @@ module _ (d : Design) (known : d.context.known ≡ known_of d.context.names) (he
 
   module _ (fs : List Formula) (cs : List code.Contribution) (same : map (view_contribution fs) cs ≡ given_formulas d) (controls : lacking_controls d.context.device d.context.names cs ≡ []) where
     -- a control with an equation is one that its signal has
-    abbrev pub HasOwn : Extension → ℕ → Type 0
-    HasOwn e s = (lacks_control d.context.device (name_at d.context s) (Some e) ≡ false) × IsSignalOf d.context s
-
-    had_by : (e : Extension) (s : ℕ) (f : Formula) → ((o : Option Extension) → is_the_control e o ≡ true → o ≡ Some e) → control_of (formulas d.context) (given_formulas d) s e ≡ Some f → HasOwn e s
+    had_by : (e : Extension) (s : ℕ) (f : Formula) → ((o : Option Extension) → is_the_control e o ≡ true → o ≡ Some e) → control_of (formulas d.context) (given_formulas d) s e ≡ Some f
+        → (lacks_control d.context.device (name_at d.context s) (Some e) ≡ false) × IsSignalOf d.context s
     had_by e s f extension_is is =
         let some = control_given (formulas d.context) (is_control s e) (given_formulas d) f is in
         let there = subst (AllByRecursion (HasControl d.context fs)) same (controls_there d.context fs cs controls) in
@@ -141,8 +163,12 @@ module _ (d : Design) (known : d.context.known ≡ known_of d.context.names) (he
           subst (IsSignalOf d.context) (eqb-true k.0.signal s (and_parts (k.0.signal == s) (is_the_control e k.0.extension) k.2).0) k.1,
         )
 
-    pub reset_had : (s : ℕ) (f : Formula) → control_of (formulas d.context) (given_formulas d) s extension.Ar ≡ Some f → HasOwn extension.Ar s
-    reset_had s f is = had_by extension.Ar s f reset_extension is
+    pub reset_had : (s : ℕ) (f : Formula) → control_of (formulas d.context) (given_formulas d) s extension.Ar ≡ Some f → IsRowed (name_at d.context s) d.context.device.reset
+    reset_had s f is =
+        let own = had_by extension.Ar s f reset_extension is in
+        rowed d.context.device (name_at d.context s) extension.Ar d.context.device.reset (λ stored. refl) (name_at d.context s).kind refl own.1 own.0
 
-    pub preset_had : (s : ℕ) (f : Formula) → control_of (formulas d.context) (given_formulas d) s extension.Sp ≡ Some f → HasOwn extension.Sp s
-    preset_had s f is = had_by extension.Sp s f preset_extension is
+    pub preset_had : (s : ℕ) (f : Formula) → control_of (formulas d.context) (given_formulas d) s extension.Sp ≡ Some f → IsRowed (name_at d.context s) d.context.device.preset
+    preset_had s f is =
+        let own = had_by extension.Sp s f preset_extension is in
+        rowed d.context.device (name_at d.context s) extension.Sp d.context.device.preset (λ stored. refl) (name_at d.context s).kind refl own.1 own.0

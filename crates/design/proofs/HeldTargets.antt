@@ -1,20 +1,12 @@
 -- What a target names by its names alone is among what its names would read as Q.
-use Rattle.std.proofs.Common.{◌≡◌, ℕ, suc, ◌==◌, Bool, true, false, if◌then◌else◌, None, Some, List, [], ◌∷◌, ◌++◌, bytes_eq, inl, inr, refl, sym, ap, ◌∙◌}
-use Rattle.std.proofs.lemmas.Bool.{or_left, or_right, or_cases}
-use Rattle.std.proofs.lemmas.List.Folds.{list_any-append}
+use Rattle.std.proofs.Common.{◌≡◌, ℕ, suc, ◌==◌, Bool, true, false, if◌then◌else◌, None, Some, List, [], ◌∷◌, ◌++◌, bytes_eq, refl, sym, ap, ◌∙◌}
 use Rattle.abel_tree.specs.Assigned.{Named, signals_of_name, signals_of_names, signals_of, signals_of_members, signals_of_member, meant, named_after, named_of}
 use Rattle.abel_tree.specs.Entries.{Kind, APin, ANode, AConstant, ADeviceName, Entry}
 use Rattle.abel_tree.specs.Ranges.{range_names}
 use Rattle.abel_tree.specs.Tree.{Tree, ANumber, ASpecial, AName, ASet, AParen, AUnary, ABinary, SetMember, OneMember, SpanMember, Members, NoMember, MoreMembers}
 use Rattle.abel_meaning.specs.Held.{Held, held_by, held_meant, held_after, held_of, read_names, read_in, read_in_members, read_in_member}
 use Rattle.declared_names.proofs.AmongNumbers.{among}
-
--- what is among the first of two lists, or the second, stays so
-both_among : (s : ℕ) (xs ys zs ws : List ℕ) → (among s xs ≡ true → among s zs ≡ true) → (among s ys ≡ true → among s ws ≡ true) → among s (xs ++ ys) ≡ true → among s (zs ++ ws) ≡ true
-both_among s xs ys zs ws f g h =
-    list_any-append (λ j. j == s) zs ws
-    ∙ elim (or_cases (among s xs) (among s ys) (sym (list_any-append (λ j. j == s) xs ys) ∙ h))
-    [ inl e ↦ or_left (among s zs) (among s ws) (f e) | inr e ↦ or_right (among s zs) (among s ws) (g e) ]
+use Rattle.design.proofs.NamedTerms.{both_among}
 
 module _ (s : ℕ) where
   -- names one by one: what the one names, the other reads as Q

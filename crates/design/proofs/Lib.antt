@@ -2,7 +2,6 @@ pub mod AimedOutputs
 pub mod AssignedData
 pub mod AssignedNames
 pub mod BareTargets
-mod CellPaths
 mod CellResets
 pub mod DesignNames
 pub mod Each
@@ -14,7 +13,6 @@ pub mod GivenSections
 pub mod GivenSignals
 pub mod HeldTargets
 mod LinkSizes
-mod LoopPlaces
 pub mod NamedTerms
 pub mod SoundModules
 pub mod TableOutputs

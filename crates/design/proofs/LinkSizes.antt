@@ -7,6 +7,7 @@ use Rattle.std.proofs.lemmas.Bool.{true≢false, cases_lt, eqb-true, eq-eqb, ne_
 use Rattle.std.proofs.lemmas.List.{get_or-map, length-map}
 use Rattle.std.proofs.lemmas.List.Quantifiers.{position-Some}
 use Rattle.std.proofs.lemmas.Map.Keys.{IsDistinct-from_apart}
+use Rattle.std.proofs.lemmas.Option.{none-some, same_Some}
 use Rattle.pld_order.specs.Graphs.{has}
 use Rattle.pld_order.proofs.Lists.{few, place_of}
 use Rattle.pld_device.specs.Laws.{IsDevice}
@@ -85,27 +86,15 @@ module _ (d : Design) (laws : IsDevice d.context.device) (nodes : NodesAreFew d.
       by false o on is = absurd cc
 
   leaf_of_pin : (x : Entry) (pin : ℕ) (l : Leaf) (stored settled : Bool) (o : Option ℕ) → cell_on d.context.device pin ≡ o → pin < 32 → (if stored then option_map leaf.Q o else if settled then Some (leaf.Pin pin) else None) ≡ Some l → IsLeaf l
-  leaf_of_pin x pin l true settled (Some c) on low is = subst IsLeaf (some_same is) (cell_small pin c on).0
-    where
-      some_same : Some (leaf.Q c) ≡ Some l → leaf.Q c ≡ l
-      some_same e = cc
+  leaf_of_pin x pin l true settled (Some c) on low is = subst IsLeaf (same_Some (leaf.Q c) l is) (cell_small pin c on).0
   leaf_of_pin x pin l true settled None on low is = absurd cc
-  leaf_of_pin x pin l false true o on low is = subst IsLeaf (some_same is) low
-    where
-      some_same : Some (leaf.Pin pin) ≡ Some l → leaf.Pin pin ≡ l
-      some_same e = cc
+  leaf_of_pin x pin l false true o on low is = subst IsLeaf (same_Some (leaf.Pin pin) l is) low
   leaf_of_pin x pin l false false o on low is = absurd cc
-
-  node_leaf : (n : ℕ) (l : Leaf) → n < 128 → Some (leaf.Node n) ≡ Some l → IsLeaf l
-  node_leaf n l low is = subst IsLeaf (some_same is) low
-    where
-      some_same : Some (leaf.Node n) ≡ Some l → leaf.Node n ≡ l
-      some_same e = cc
 
   leaf_small : (s : ℕ) (kind : Kind) (l : Leaf) → (name_at d.context s).kind ≡ kind → is_linked d.context.device (name_at d.context s) ≡ true → leaf_by d.context (name_at d.context s) kind ≡ Some l → IsLeaf l
   leaf_small s (APin pin negated) l kind linked is =
       leaf_of_pin (name_at d.context s) pin l (is_stored (name_at d.context s)) (settles (name_at d.context s)) (cell_on d.context.device pin) refl (pin_small (name_at d.context s) pin negated kind linked) is
-  leaf_small s (ANode n) l kind linked is = node_leaf n l (nodes s n kind) is
+  leaf_small s (ANode n) l kind linked is = subst IsLeaf (same_Some (leaf.Node n) l is) (nodes s n kind)
   leaf_small s (AConstant value) l kind linked is = absurd cc
   leaf_small s ADeviceName l kind linked is = absurd cc
 
@@ -162,11 +151,8 @@ module _ (d : Design) (laws : IsDevice d.context.device) (nodes : NodesAreFew d.
       are_leaves v l is =
           elim (cases_lt v (length ls)) [
             | inl low ↦ leaf_by_link v l low is
-            | inr far ↦ absurd (none_there (sym (leaf_past ls v far) ∙ is))
+            | inr far ↦ absurd (none-some l (sym (leaf_past ls v far) ∙ is))
           ]
-        where
-          none_there : None ≡ Some l → ⊥
-          none_there e = absurd cc
 
       -- ---- how many
 

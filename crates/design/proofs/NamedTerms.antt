@@ -115,6 +115,13 @@ signals_in t = some_signals (targets_of t)
 abbrev signals_in_all : Terms → List ℕ
 signals_in_all ts = some_signals (all_targets ts)
 
+-- what is among the first of two lists, or the second, stays so
+pub both_among : (s : ℕ) (xs ys zs ws : List ℕ) → (among s xs ≡ true → among s zs ≡ true) → (among s ys ≡ true → among s ws ≡ true) → among s (xs ++ ys) ≡ true → among s (zs ++ ws) ≡ true
+both_among s xs ys zs ws f g h =
+    list_any-append (λ j. j == s) zs ws
+    ∙ elim (or_cases (among s xs) (among s ys) (sym (list_any-append (λ j. j == s) xs ys) ∙ h))
+    [ inl e ↦ or_left (among s zs) (among s ws) (f e) | inr e ↦ or_right (among s zs) (among s ws) (g e) ]
+
 mutual
   pub bare_among : (s : ℕ) (t : Term) → among s (bare_signals t) ≡ true → among s (signals_in t) ≡ true
   bare_among s (Number n) h = absurd cc
@@ -130,12 +137,8 @@ mutual
   all_among : (s : ℕ) (ts : Terms) → among s (all_bare_signals ts) ≡ true → among s (signals_in_all ts) ≡ true
   all_among s NoTerm h = absurd cc
   all_among s (Before t ts) h =
-      let first = among s (signals_in t) in
-      let later = among s (signals_in_all ts) in
       ap (among s) (some_append (targets_of t) (all_targets ts))
-      ∙ list_any-append (λ j. j == s) (signals_in t) (signals_in_all ts)
-      ∙ elim (or_cases (among s (bare_signals t)) (among s (all_bare_signals ts)) (sym (list_any-append (λ j. j == s) (bare_signals t) (all_bare_signals ts)) ∙ h))
-      [ inl e ↦ or_left first later (bare_among s t e) | inr e ↦ or_right first later (all_among s ts e) ]
+      ∙ both_among s (bare_signals t) (all_bare_signals ts) (signals_in t) (signals_in_all ts) (bare_among s t) (all_among s ts) h
 
 -- where these names name the signal, their terms have it
 abbrev pub IsWithin : ℕ → List Named → List Known → Type 0

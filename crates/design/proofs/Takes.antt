@@ -2,7 +2,7 @@
 use Rattle.std.proofs.Common.{◌≡◌, ◌≢◌, ℕ, ◌==◌, Bool, true, false, not, ◌&&◌, ◌||◌, Option, None, Some, List, [], ◌∷◌, map, refl, sym, ap, subst, ◌∙◌, if◌then◌else◌, inl, inr}
 use Rattle.std.specs.Prelude.{slice_get, IsSome, is_none}
 use Rattle.std.specs.List.{AllByRecursion}
-use Rattle.std.proofs.lemmas.Bool.{cases_Bool, and_parts, eqb-true, true≢false}
+use Rattle.std.proofs.lemmas.Bool.{cases_Bool, and_from, and_parts, eqb-true, true≢false}
 use Rattle.std.proofs.lemmas.List.Elements.{All-get_or}
 use Rattle.std.proofs.lemmas.List.Folds.{list_any_at}
 use Rattle.std.proofs.lemmas.List.Quantifiers.{position-Some}
@@ -59,25 +59,6 @@ may_register Combinational stored is may same = true≢false (sym is ∙ may)
 may_register Registered stored is may same = absurd cc
 may_register Either stored is may same = absurd cc
 
--- ---- rows of the device
-
-row_there : (stored : Bool) (row : Option ℕ) → (not stored || is_none row) ≡ false → IsSome row
-row_there true None is = absurd cc
-row_there true (Some r) is = refl
-row_there false row is = absurd cc
-
-reset_there : (t : Table) (x : Entry) (kind : Kind) → is_signal kind ≡ true → lacks_by t (is_stored x) kind (Some extension.Ar) ≡ false → IsSome t.reset
-reset_there t x (APin pin negated) signal has = row_there (is_stored x) t.reset has
-reset_there t x (ANode n) signal has = absurd cc
-reset_there t x (AConstant value) signal has = absurd cc
-reset_there t x ADeviceName signal has = absurd cc
-
-preset_there : (t : Table) (x : Entry) (kind : Kind) → is_signal kind ≡ true → lacks_by t (is_stored x) kind (Some extension.Sp) ≡ false → IsSome t.preset
-preset_there t x (APin pin negated) signal has = row_there (is_stored x) t.preset has
-preset_there t x (ANode n) signal has = absurd cc
-preset_there t x (AConstant value) signal has = absurd cc
-preset_there t x ADeviceName signal has = absurd cc
-
 module _ (uses_have_columns : UsesHaveColumns) (d : Design) (fs : List Formula) (cs : List code.Contribution) (laws : IsDevice d.context.device) (accepted : IsAccepted d) (same : map (view_contribution fs) cs ≡ given_formulas d) (unrefused : IsUnrefused d cs) where
   -- ---- names
 
@@ -110,24 +91,17 @@ module _ (uses_have_columns : UsesHaveColumns) (d : Design) (fs : List Formula) 
   right_kind s assigned =
       let some = some_of (FitsKind d.context fs) (is_data_to s) (given_formulas d) kinds_here (accepted.data_given s assigned) in
       let parts = and_parts (some.0.signal == s) (is_data some.0.extension) some.2 in
-      let fits : has_wrong_kind d.context.device (name_at d.context some.0.signal) ≡ false = and_right (is_data some.0.extension) (has_wrong_kind d.context.device (name_at d.context some.0.signal)) parts.1 some.1 in
+      let either : (is_data some.0.extension && has_wrong_kind d.context.device (name_at d.context some.0.signal)) ≡ false = some.1 in
+      let fits : has_wrong_kind d.context.device (name_at d.context some.0.signal) ≡ false = rw parts.1 at either in
       sym (ap (λ n. has_wrong_kind d.context.device (name_at d.context n)) (eqb-true some.0.signal s parts.0)) ∙ fits
-    where
-      and_right : (a b : Bool) → a ≡ true → (a && b) ≡ false → b ≡ false
-      and_right true b e f = f
-      and_right false b e f = absurd cc
 
   cell_kind : (pin c : ℕ) (stored : Bool) → cell_on d.context.device pin ≡ Some c → has_wrong_kind_on d.context.device pin stored ≡ false → is_wrong_kind (cell_at d.context.device c).kinds stored ≡ false
   cell_kind pin c stored on right =
       let at = position-Some (λ (x : Cell). x.pin == pin) d.context.device.cells c no_cell on in
       elim (cases_Bool (is_wrong_kind (cell_at d.context.device c).kinds stored)) [
-        | inl wrong ↦ absurd (true≢false (sym (list_any_at (is_wrong_cell pin stored) d.context.device.cells c no_cell at.0 (both ((cell_at d.context.device c).pin == pin) (is_wrong_kind (cell_at d.context.device c).kinds stored) at.1 wrong)) ∙ right))
+        | inl wrong ↦ absurd (true≢false (sym (list_any_at (is_wrong_cell pin stored) d.context.device.cells c no_cell at.0 (and_from ((cell_at d.context.device c).pin == pin) (is_wrong_kind (cell_at d.context.device c).kinds stored) at.1 wrong)) ∙ right))
         | inr fits ↦ fits
       ]
-    where
-      both : (a b : Bool) → a ≡ true → b ≡ true → (a && b) ≡ true
-      both true b e f = f
-      both false b e f = absurd cc
 
   -- a device on which a cell may be a register has a clock
   clocked : (pin c : ℕ) → cell_on d.context.device pin ≡ Some c → (cell_at d.context.device c).kinds ≢ Combinational → d.context.device.clock ≢ 0
@@ -182,14 +156,10 @@ module _ (uses_have_columns : UsesHaveColumns) (d : Design) (fs : List Formula) 
   -- ---- controls
 
   resets : ControlIsThere d extension.Ar d.context.device.reset
-  resets s f is =
-      let has = reset_had d accepted.names.known accepted.headers fs cs same unrefused.controls s f is in
-      reset_there d.context.device (name_at d.context s) (name_at d.context s).kind has.1 has.0
+  resets s f is = (reset_had d accepted.names.known accepted.headers fs cs same unrefused.controls s f is).there
 
   presets : ControlIsThere d extension.Sp d.context.device.preset
-  presets s f is =
-      let has = preset_had d accepted.names.known accepted.headers fs cs same unrefused.controls s f is in
-      preset_there d.context.device (name_at d.context s) (name_at d.context s).kind has.1 has.0
+  presets s f is = (preset_had d accepted.names.known accepted.headers fs cs same unrefused.controls s f is).there
 
   takes : IsTakeable d
   takes =

@@ -2,6 +2,7 @@
 use Rattle.std.proofs.Common.{◌≡◌, ℕ, zero, suc, Bool, true, false, ◌&&◌, Some, List, [], ◌∷◌, map, refl, subst}
 use Rattle.std.specs.Prelude.{slice_get}
 use Rattle.std.specs.List.{AllByRecursion}
+use Rattle.std.proofs.lemmas.Option.{same_Some}
 use Rattle.bit_expr.specs.Formulas.{Formula}
 use Rattle.abel_tree.specs.Entries.{Entry}
 use Rattle.abel_tree.specs.Extensions.{is_data}
@@ -48,9 +49,6 @@ module _ (d : Context) (fs : List Formula) where
 pub no_registered : (s : ℕ) (xs : List Entry) → registered_nodes s xs ≡ [] → (k : ℕ) (x : Entry) → slice_get xs k ≡ Some x → is_registered_node x ≡ false
 no_registered s [] e k x is = absurd cc
 no_registered s (y ∷ xs) e zero x is =
-    subst (λ z. is_registered_node z ≡ false) (some_same is) (not_refused (is_registered_node y) (record { place = y.place; name = s }) (left_empty (node_refused s y) (registered_nodes (suc s) xs) e))
-  where
-    some_same : Some y ≡ Some x → y ≡ x
-    some_same e = cc
+    subst (λ z. is_registered_node z ≡ false) (same_Some y x is) (not_refused (is_registered_node y) (record { place = y.place; name = s }) (left_empty (node_refused s y) (registered_nodes (suc s) xs) e))
 no_registered s (y ∷ xs) e (suc k) x is =
     no_registered (suc s) xs (right_empty (node_refused s y) (registered_nodes (suc s) xs) e) k x is

@@ -20,7 +20,7 @@ ghost use Rattle.design.specs.Resets.{AllLeadNowhere, AreSignals};
 ghost use Rattle.design.specs.Told.{IsLinkedDesign, IsChainTold};
 
 use crate::chains::check_loop;
-use crate::design_laws::unrefused_is_sound;
+use crate::laws::unrefused_is_sound;
 use crate::resets::check_resets;
 use abel_tree::Names;
 use bit_expr::Netlist;

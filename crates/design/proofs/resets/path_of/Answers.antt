@@ -1,12 +1,12 @@
-use Rattle.std.proofs.Common.{ℕ, Some, length}
+use Rattle.std.proofs.Common.{ℕ, Some, length, sym, ap, subst, ◌∙◌}
 use Rattle.bit_expr.specs.Arena.{arena}
 use Rattle.bit_expr.specs.Reading.{AreReads}
 use Rattle.abel_meaning.specs.Designs.{Design}
-use Rattle.abel_meaning.specs.SignalReads.{given_formulas, HasNoSignalPath}
+use Rattle.abel_meaning.specs.Netlists.{plain_control}
+use Rattle.abel_meaning.specs.SignalReads.{given_formulas, names_if_any, HasNoSignalPath}
 use Rattle.abel_meaning.specs.SoundIds.{IsControlIn}
 use Rattle.gathering.specs.Linked.{AreLinks}
 use Rattle.gathering.specs.Resets.{AssignedHaveCells, reset_names}
-use Rattle.design.proofs.CellPaths.{leads_nowhere}
 use Rattle.design.proofs.resets.path_of.Goals as goal
 
 pub reads-requires : goal.reads-requires
@@ -15,8 +15,8 @@ reads-requires c =
     within
 
 pub returns-in-None-2 : goal.returns-in-None-2
-returns-in-None-2 c =
+returns-in-None-2 c k is any d of =
     let ns = c.args.signals.now in
     let ls = c.args.links.now in
     let none : (d : Design) (s : ℕ) → AssignedHaveCells d.context → AreLinks d.context (given_formulas d) ns ls → AreReads (reset_names d s) c.reads.result → HasNoSignalPath d s = rw c.in-None-2.is at c.in_ok-reset_path-in-Some.ensures.none in
-    leads_nowhere (arena c.args.exprs.now) ns ls c.args.wanted.now c.in-Some.reset c.in-Some.is c.reads.result c.reads.ensures none
+    none d c.args.wanted.now.name of.cells of.links (subst (λ o. AreReads (names_if_any o) c.reads.result) (ap (plain_control (arena c.args.exprs.now)) (sym c.in-Some.is) ∙ of.reset) c.reads.ensures)

@@ -1,5 +1,5 @@
 use Rattle.design.proofs.DesignNames.{accepted}
-use Rattle.design.proofs.name_laws.names_are_accepted.Goals as goal
+use Rattle.design.proofs.laws.names_are_accepted.Goals as goal
 
 pub returns : goal.returns
 returns c = accepted

@@ -1,5 +1,5 @@
 use Rattle.design.proofs.SoundModules.{all_given}
-use Rattle.design.proofs.assignment_laws.assigned_are_given.Goals as goal
+use Rattle.design.proofs.laws.assigned_are_given.Goals as goal
 
 pub returns : goal.returns
 returns c = all_given

@@ -1,0 +1,55 @@
+//! Laws of designs, as the contracts of calls that do nothing.
+
+ghost use Rattle.design.specs.AcceptedCorrect.{UnrefusedIsTakeable};
+ghost use Rattle.design.specs.AssignedCorrect.{TargetsNameAlike, AssignedAreGiven, AssignedHaveCells, SoundModulesAreAccepted};
+ghost use Rattle.design.specs.DesignCorrect.{UnrefusedIsSound};
+ghost use Rattle.design.specs.NamedCorrect.{NamesAreAccepted};
+
+use design_checks::uses_have_columns;
+use netlist_laws::{netlist_is_sound, netlist_means_the_same};
+
+/// The names that are declared of a module are accepted as those of its design. Does nothing.
+pub fn names_are_accepted()
+    ensures { NamesAreAccepted }
+{}
+
+/// The signals that a target names by its names alone are those of its term that have no extension. Does nothing.
+pub fn targets_name_alike()
+    ensures { TargetsNameAlike }
+{}
+
+/// What a module assigns is a signal, and some contribution of the module is data to it, for every module and whatever
+/// is refused of it. Does nothing.
+pub fn assigned_are_given()
+    ensures { AssignedAreGiven }
+{}
+
+/// Where nothing is refused of the sections, each pin that is assigned is that of a cell. Does nothing.
+pub fn assigned_have_cells()
+    ensures { AssignedHaveCells }
+{}
+
+/// A module is accepted for a device where nothing is refused of its sections, and its declarations are sound: no two
+/// names are one pin, nodes are few, and no register follows Q, or may, where the device can't complement behind it. Does
+/// nothing.
+pub fn sound_modules_are_accepted()
+    ensures { SoundModulesAreAccepted }
+{}
+
+/// Where nothing is refused of a design whose names and sections are accepted, the device can take its netlist. Does
+/// nothing.
+pub fn unrefused_is_takeable()
+    ensures { UnrefusedIsTakeable }
+{
+    uses_have_columns();
+}
+
+/// Where nothing is refused of an accepted design, its netlist is sound for the device, and means the same as the
+/// module. Does nothing.
+pub(crate) fn unrefused_is_sound()
+    ensures { UnrefusedIsSound }
+{
+    unrefused_is_takeable();
+    netlist_is_sound();
+    netlist_means_the_same();
+}
