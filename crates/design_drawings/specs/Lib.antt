@@ -1,0 +1,6 @@
+pub mod Disagreements
+pub mod Equations
+pub mod Escaped
+pub mod Pieces
+pub mod PinNames
+pub mod Unescaped

@@ -1,0 +1,49 @@
+//! The control fuses of a cell, beside its rows.
+
+ghost use Rattle.std.specs.Prelude.{◌<◌, length};
+
+use crate::drawn_design::Design;
+use crate::page::{Page, Piece};
+use pld_base::OutOfMemory;
+use pld_device::{Device, FuseBit};
+
+/// Writes a control fuse that is there: its number, its level, and what this says.
+fn put_fuse(
+    page: &mut Page,
+    design: Design,
+    bit: Option<FuseBit>,
+    yes: &'static str,
+    no: &'static str,
+) -> Result<(), OutOfMemory> {
+    let Some(bit) = bit else {
+        return Ok(());
+    };
+    let level = match design.levels().get(usize::from(bit.fuse)) {
+        Some(level) => *level,
+        None => false,
+    };
+    page.put(&[
+        Piece::Markup(" · fuse "),
+        Piece::Number(usize::from(bit.fuse)),
+        Piece::Markup(if level { " is 1: " } else { " is 0: " }),
+        Piece::Markup(if level == bit.level { yes } else { no }),
+    ])
+}
+
+/// Writes the control fuses of a cell.
+pub fn put_control_fuses<D: Device>(
+    page: &mut Page,
+    design: Design,
+    cell: u8,
+) -> Result<(), OutOfMemory>
+    requires { cell < length D.table.cells }
+{
+    put_fuse(page, design, D::inverted_at(cell), "inverted", "direct")?;
+    put_fuse(
+        page,
+        design,
+        D::registered_at(cell),
+        "registered",
+        "combinational",
+    )
+}

@@ -1,0 +1,69 @@
+//! What the rows of an array are for, and what they read.
+
+ghost use Rattle.std.specs.Prelude.{◌<◌, IfSome, length};
+
+use crate::drawn_design::Design;
+use fuse_listing::{cell_of, count_in_use, is_in_use, is_opened};
+use pld_device::{Device, Enable};
+
+/// Whether a row is one of a cell's data rows, or enables it.
+fn is_row_of<D: Device>(cell: u8, row: u16) -> bool
+    requires { cell < length D.table.cells }
+{
+    let found = cell_of::<D>(cell);
+    found.enable == Enable::Row(row)
+        || (found.first <= row && row - found.first < u16::from(found.room))
+}
+
+/// The cell that a row belongs to, none where all registers share the row. Takes no memory.
+pub fn cell_of_row<D: Device>(row: u16) -> Option<u8>
+    ensures { IfSome result (λ cell. cell < length D.table.cells) }
+{
+    for cell in 0..D::CELLS {
+        if is_row_of::<D>(cell, row) {
+            return Some(cell);
+        }
+    }
+    None
+}
+
+/// Whether a row enables some cell. Takes no memory.
+pub fn is_enable<D: Device>(row: u16) -> bool {
+    for cell in 0..D::CELLS {
+        if cell_of::<D>(cell).enable == Enable::Row(row) {
+            return true;
+        }
+    }
+    false
+}
+
+/// Whether no connection of a row stands. Takes no memory.
+pub fn is_open<D: Device>(design: Design, row: u16) -> bool {
+    let levels = design.levels();
+    (0..D::COLUMNS).all(|column| is_opened::<D>(levels, row, column))
+}
+
+/// Whether each connection of a row stands. Takes no memory.
+pub fn is_whole<D: Device>(design: Design, row: u16) -> bool {
+    let levels = design.levels();
+    (0..D::COLUMNS).all(|column| !is_opened::<D>(levels, row, column))
+}
+
+/// Whether some row in use is connected to a column. Takes no memory.
+pub fn is_column_read<D: Device>(design: Design, column: u16) -> bool {
+    let levels = design.levels();
+    for row in 0..D::ROWS {
+        if is_in_use::<D>(levels, row) && !is_opened::<D>(levels, row, column) {
+            return true;
+        }
+    }
+    false
+}
+
+/// How many of a cell's data rows are in use. Takes no memory.
+pub fn rows_in_use<D: Device>(design: Design, cell: u8) -> usize
+    requires { cell < length D.table.cells }
+{
+    let found = cell_of::<D>(cell);
+    count_in_use::<D>(design.levels(), found.first, found.room)
+}
