@@ -1,7 +1,1 @@
 pub mod Costly
-pub mod Disagreements
-pub mod Equations
-pub mod Escaped
-pub mod Pieces
-pub mod PinNames
-pub mod Unescaped

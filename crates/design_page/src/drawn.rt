@@ -1,18 +1,13 @@
 //! The page of a design.
 
-use crate::array::put_array;
-use crate::cells::put_cells;
-use crate::chip::put_chip;
-use crate::disagreements::put_disagreements;
-use crate::drawn_design::Design;
-use crate::drawn_equations::{has_equations, put_equations};
 use crate::frame::{put_end, put_front, put_heading};
 use crate::made::without_end;
 use crate::outcome::Outcome;
-use crate::page::{Page, Piece};
 use crate::source::put_text;
-use crate::strips::Run;
-use crate::waves::put_waves;
+use design_drawings::{
+    Design, Page, Piece, Run, has_equations, put_array, put_cells, put_chip, put_disagreements,
+    put_equations, put_waves,
+};
 use jedec_file::{byte_sum, fuse_sum};
 use pld_base::{OutOfMemory, put_hex};
 use pld_device::Device;

@@ -1,7 +1,7 @@
 //! The frame of a page.
 
-use crate::page::{Page, Piece};
 use crate::style::STYLE;
+use design_drawings::{Page, Piece};
 use pld_base::OutOfMemory;
 
 /// Writes all up to the page's first heading, which is its name.

@@ -4,12 +4,12 @@ ghost use Rattle.std.specs.Prelude.{◌≡◌, ◌≤◌, ◌<◌, ◌^◌, leng
 ghost use Rattle.abel_commands.specs.Limit.{limit};
 
 use crate::drawn::{Parts, drawn_page};
-use crate::drawn_design::Design;
 use crate::made::{Input, Made, without_end};
 use crate::outcome::outcome_of;
 use crate::pin_names::pin_names;
 use abel_commands::checked_line::checked_line;
 use abel_commands::{Taken, read_files_have_few_vectors, take_file};
+use design_drawings::Design;
 use devices::on_device;
 use jedec_reader::FuseFile;
 use pld_base::{DeviceName, OutOfMemory};

@@ -5,7 +5,6 @@ ghost use Rattle.abel_commands.specs.Limit.{limit};
 
 use crate::costly::put_costly_outputs;
 use crate::drawn::{Parts, drawn_page};
-use crate::drawn_design::Design;
 use crate::made::{Input, Made, joined, without_end};
 use crate::outcome::outcome_of;
 use crate::placed::placed_module;
@@ -17,6 +16,7 @@ use abel_commands::{LIMIT, Taken, read_files_have_few_vectors, take_file};
 use abel_compile::{CompileFault, Compiled, compile};
 use abel_tree::{Module, Names};
 use compile_phases::{module_of, names_of, parts_of};
+use design_drawings::Design;
 use devices::on_device;
 use jedec_reader::FuseFile;
 use pld_base::OutOfMemory;

@@ -2,9 +2,9 @@
 
 ghost use Rattle.std.specs.Prelude.{◌≡◌, ◌<◌, ◌^◌, length};
 
-use crate::strips::DRAWN;
 use abel_commands::run_lines::run_lines;
 use abel_commands::sim_fault_line::sim_fault_line;
+use design_drawings::DRAWN;
 use device_sim::{Report, simulate, traces};
 use jedec_reader::FuseFile;
 use pld_base::{ListOf, OutOfMemory, Trace};

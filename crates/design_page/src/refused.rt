@@ -4,11 +4,11 @@ ghost use Rattle.std.specs.Prelude.{◌≤◌, length};
 
 use crate::frame::{put_end, put_front, put_heading};
 use crate::made::{Input, Made, without_end};
-use crate::page::{Page, Piece};
 use crate::places::{Found, expanded_text, origins_of};
 use crate::source::put_text;
 use crate::telling::put_refusal;
 use crate::told_places::told_place;
+use design_drawings::{Page, Piece};
 use pld_base::{OutOfMemory, Place};
 use std::alloc::Global;
 

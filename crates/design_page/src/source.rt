@@ -1,7 +1,7 @@
 //! A text with line numbers, and a place in it.
 
 use crate::lines::first_line;
-use crate::page::{Page, Piece};
+use design_drawings::{Page, Piece};
 use pld_base::{OutOfMemory, Place};
 
 /// Writes a line with the byte at a column marked.

@@ -2,12 +2,11 @@
 
 ghost use Rattle.std.specs.Prelude.{◌≤◌, length};
 
-use crate::drawn_design::Design;
 use crate::made::Input;
-use crate::pins::{Flow, flow_of, is_low_register};
 use crate::places::{Origins, origins_of};
 use crate::telling::put_place;
 use abel_tree::{Declared, Meaning, Module};
+use design_drawings::{Design, Flow, flow_of, is_low_register};
 use name_uses::ModuleParts;
 use placer::seen_in;
 use pld_base::{NameText, OutOfMemory, level_at};

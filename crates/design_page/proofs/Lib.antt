@@ -1,3 +1,0 @@
-pub mod Forms
-pub mod Ranges
-pub mod ReadBack

@@ -1,5 +1,0 @@
-use Rattle.std.proofs.Common.{length}
-use Rattle.design_page.proofs.array_rows.put_lines.Given as goal
-
-abbrev pub decreases-lines : goal.decreases-lines
-decreases-lines l = length l.rest

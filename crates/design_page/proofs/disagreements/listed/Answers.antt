@@ -1,6 +1,0 @@
-use Rattle.std.proofs.Common.{sym, arith}
-use Rattle.std.proofs.lemmas.List.{take_all}
-use Rattle.design_page.proofs.disagreements.listed.Goals as goal
-
-pub returns-then-list-le-LISTED : goal.returns-then-list-le-LISTED
-returns-then-list-le-LISTED c = sym (take_all 256 c.args.list.now (omega arith))

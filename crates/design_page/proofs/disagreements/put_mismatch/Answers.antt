@@ -1,7 +1,0 @@
--- The pieces are those of the line.
-use Rattle.design_page.specs.Disagreements.{mismatch_item}
-use Rattle.design_page.proofs.disagreements.put_mismatch.Goals as goal
-
-pub returns : goal.returns
-unfolding mismatch_item
-returns c = rw (c.from.ensures, c.name_bytes.ensures, c.level_word.ensures, c.level_word-2.ensures) at c.put.ensures
