@@ -1,7 +1,6 @@
 -- What holds of each element of a list, of lists that are made of others.
 use Rattle.std.proofs.Common.{◌≡◌, ℕ, zero, suc, ◌+◌, ◌<◌, Bool, true, false, Some, None, List, [], ◌∷◌, ◌++◌, length, filter, flat_map, map, get_or, refl, arith}
-use Rattle.std.proofs.lemmas.Bool.{or_right}
-use Rattle.std.specs.List.{AllByRecursion, find, list_any, range_with_len}
+use Rattle.decompiled.proofs.Common.{or_right, AllByRecursion, find, list_any, range_with_len}
 
 module _ {A : Type 0} (P : A → Type 0) where
   pub each_at : (xs : List A) → ((i : ℕ) (d : A) → i < length xs → P (get_or xs i d)) → AllByRecursion P xs

@@ -1,25 +1,12 @@
 -- Literals, products and sums are spelled.
 use Rattle.std.proofs.Common.{◌≡◌, ℕ, zero, suc, inl, inr, Bool, true, false, Option, None, Some, List, [], ◌∷◌, refl, sym, ap, subst, codes}
-use Rattle.abel_grammar.specs.Form.{Form, SpellsList, ◌then◌, token, grouped}
-use Rattle.pld_base.specs.declared.place.Place.{Place}
-use Rattle.abel_lexer.specs.declared.token.Token.{Token}
-use Rattle.abel_lexer.specs.Numbers.{number_value}
-use Rattle.abel_tree.specs.declared.words.Extension.{Extension}
+use Rattle.decompiled.proofs.Common.{Form, SpellsList, ◌then◌, token, grouped, Place, Token, number_value, Extension, Number, Tree, ANumber, AName, AUnary, ABinary, among, terminal_of, name, a_number, numeral_of, extension_of, Piece, token_at, place_in, place_behind, tokens_from, PinLiteral, q_if, name_text, extension_text, none, space, sign, identifier, number, extension_piece, name_pieces, extension_pieces, literal_pieces, further, product_pieces, sum_pieces, IsNumber, IsNamed, IsSigned, IsLiteral, IsJoined, IsProduct, IsSum, word}
 use Rattle.abel_tree.specs.declared.words.Extension.TheVariants as extension
-use Rattle.abel_tree.specs.declared.words.Number.{Number}
 use Rattle.abel_tree.specs.declared.words.Unary.TheVariants as unary
 use Rattle.abel_tree.specs.declared.words.Binary.{Binary}
 use Rattle.abel_tree.specs.declared.words.Binary.TheVariants as binary
-use Rattle.abel_tree.specs.Tree.{Tree, ANumber, AName, AUnary, ABinary}
 use Rattle.abel_grammar.specs.declared.terminal.Terminal.{Terminal}
-use Rattle.abel_grammar.specs.Terminals.{among, terminal_of}
-use Rattle.abel_grammar.specs.Words.{name, number as a_number, numeral_of, extension_of}
 use Rattle.abel_grammar.specs.Expressions.{name_tree, number_tree, operand, negated, expr, expr_over, joined, level, products, sums, relations, binary_of}
-use Rattle.decompiled.specs.Pieces.{Piece, token_at, place_in, place_behind, tokens_from}
-use Rattle.decompiled.specs.declared.literal.PinLiteral.{PinLiteral}
-use Rattle.decompiled.specs.SourceText.{q_if, name_text, extension_text}
-use Rattle.decompiled.specs.SourcePieces.{none, space, sign, identifier, number, extension as extension_piece, name_pieces, extension_pieces, literal_pieces, further, product_pieces, sum_pieces}
-use Rattle.decompiled.specs.SourceTrees.{IsNumber, IsNamed, IsSigned, IsLiteral, IsJoined, IsProduct, IsSum, word}
 
 -- a form spells the tokens up to those of the pieces behind, as a tree of which this holds
 abbrev pub Spelled : Form Token Tree → (Tree → Type 0) → Place → (pieces more : List Piece) → Type 0

@@ -1,27 +1,11 @@
 -- The whole source is spelled.
 use Rattle.std.proofs.Common.{◌≡◌, ℕ, suc, inl, inr, Bool, false, Option, None, Some, List, [], ◌∷◌, ◌++◌, refl, ap, codes}
 use Rattle.std.specs.Prelude.{if◌then◌else◌}
-use Rattle.std.specs.Fmt.{decimal}
-use Rattle.abel_grammar.specs.Form.{SpellsList}
-use Rattle.pld_base.specs.declared.place.Place.{Place}
-use Rattle.pld_base.specs.DeviceNames.{device_text}
-use Rattle.abel_lexer.specs.declared.token.Token.{Token}
-use Rattle.abel_lexer.specs.Numbers.{number_value}
-use Rattle.abel_lexer.specs.Scans.{first_place}
+use Rattle.decompiled.proofs.Common.{decimal, SpellsList, Place, device_text, Token, number_value, first_place, Number, Statement, Declaration, ADevice, SomePins, Equations, ModuleTree, terminal_of, name, text, numeral_of, Piece, token_at, place_in, place_behind, tokens_from, PinLine, SumLine, PinSource, name_text, none, space, feed, sign, keyword, identifier, number_piece, string, pin_pieces, pins_pieces, lines_pieces, source_pieces, word, IsPinLine, ArePins, AreLines, IsSourceTree}
 use Rattle.abel_tree.specs.declared.words.Word.{Word}
-use Rattle.abel_tree.specs.declared.words.Number.{Number}
-use Rattle.abel_tree.specs.Tree.{Statement, Declaration, ADevice, SomePins, Equations, ModuleTree}
-use Rattle.abel_grammar.specs.Terminals.{terminal_of}
-use Rattle.abel_grammar.specs.Words.{name, number, text, numeral_of}
+use Rattle.abel_grammar.specs.Words.{number}
 use Rattle.abel_grammar.specs.Declarations.{item, names, num, nums, texts, istype, device, pins, naming, decl, other_decl}
 use Rattle.abel_grammar.specs.Modules.{equations, proper, sections, options, first_decls, source}
-use Rattle.decompiled.specs.Pieces.{Piece, token_at, place_in, place_behind, tokens_from}
-use Rattle.decompiled.specs.declared.pin_line.PinLine.{PinLine}
-use Rattle.decompiled.specs.declared.sum_line.SumLine.{SumLine}
-use Rattle.decompiled.specs.declared.source.PinSource.{PinSource}
-use Rattle.decompiled.specs.SourceText.{name_text}
-use Rattle.decompiled.specs.SourcePieces.{none, space, feed, sign, keyword, identifier, number as number_piece, string, pin_pieces, pins_pieces, lines_pieces, source_pieces}
-use Rattle.decompiled.specs.SourceTrees.{word, IsPinLine, ArePins, AreLines, IsSourceTree}
 use Rattle.decompiled.proofs.Statements.{lines_spelled}
 
 abbrev semicolon : Piece

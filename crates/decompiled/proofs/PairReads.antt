@@ -1,12 +1,7 @@
 -- A row reads the pairs of its literals.
 use Rattle.std.proofs.Common.{◌≡◌, ℕ, suc, ◌*◌, Bool, true, false, not, List, [], ◌∷◌, ◌++◌, length, refl, sym, ap, ◌∙◌, arith}
 use Rattle.std.specs.Prelude.{◌&&◌, ◌||◌}
-use Rattle.std.specs.List.{list_any}
-use Rattle.pld_base.specs.Bits.{is_on}
-use Rattle.pld_device.specs.declared.carry.Carry.{Carry}
-use Rattle.pld_device.specs.Reads.{connected_pairs, row_reads}
-use Rattle.pld_device.specs.Rows.{row_fuses}
-use Rattle.decompiled.specs.RowLiterals.{ColumnLiteral, literal, if_intact, literals_of, some_read, RowsReadLiterals}
+use Rattle.decompiled.proofs.Common.{list_any, is_on, Carry, connected_pairs, row_reads, row_fuses, ColumnLiteral, literal, if_intact, literals_of, some_read, RowsReadLiterals}
 
 module _ (test : Carry → Bool) where
   abbrev asked : ColumnLiteral → Bool

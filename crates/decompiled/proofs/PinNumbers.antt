@@ -1,14 +1,7 @@
 -- The numbers of pins in words: below 32, each by computing.
 use Rattle.std.proofs.Common.{◌≡◌, ℕ, zero, suc, ◌<◌, inl, inr, Bool, true, false, not, List, [], ◌∷◌, length, refl, subst, arith, eqb-true}
 use Rattle.std.specs.Prelude.{◌==◌, ◌&&◌, nat_lt}
-use Rattle.std.specs.List.{list_all}
-use Rattle.std.specs.Fmt.{decimal, digits}
-use Rattle.std.specs.Char.{is_ascii_digit, is_ascii_alphanumeric}
-use Rattle.std.proofs.lemmas.Bool.{and_parts, not-true, cases_lt}
-use Rattle.abel_lexer.specs.Bytes.{is_name_later}
-use Rattle.abel_lexer.specs.Keywords.{is_keyword}
-use Rattle.abel_lexer.specs.Numbers.{is_good_number, number_value}
-use Rattle.decompiled.specs.SourceText.{name_text}
+use Rattle.decompiled.proofs.Common.{list_all, decimal, digits, is_ascii_digit, is_ascii_alphanumeric, and_parts, not-true, cases_lt, is_name_later, is_keyword, is_good_number, number_value, name_text}
 
 -- a digit and further ones
 abbrev pub is_number_word : List ℕ → Bool

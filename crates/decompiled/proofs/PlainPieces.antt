@@ -1,27 +1,9 @@
 -- The pieces of such a source are plain and apart from one another.
 use Rattle.std.proofs.Common.{◌≡◌, ℕ, ◌+◌, ◌<◌, Bool, true, false, Option, None, Some, List, [], ◌∷◌, ◌++◌, refl, sym, ap, subst, arith, ◌-◌}
 use Rattle.std.specs.Prelude.{◌==◌, codes}
-use Rattle.std.specs.List.{AllByRecursion, list_all}
-use Rattle.std.specs.Fmt.{decimal}
-use Rattle.std.specs.Char.{is_ascii_digit, is_ascii_alphanumeric}
-use Rattle.std.specs.Str.{str_eq_ignore_ascii_case}
-use Rattle.std.proofs.lemmas.Bool.{and_parts, true≢false}
-use Rattle.pld_base.specs.DeviceNames.{device_text}
+use Rattle.decompiled.proofs.Common.{AllByRecursion, list_all, decimal, is_ascii_digit, is_ascii_alphanumeric, str_eq_ignore_ascii_case, and_parts, true≢false, device_text, quote, is_blank, is_name_first, is_name_later, starts, longest_at, is_good_number, in_range, Extension, Piece, text_of, is_marked, IsPlainPiece, IsApart, ArePlain, PinLiteral, PinLine, SumLine, PinSource, q_if, name_text, extension_text, literal_text, product_text, sum_text, none, space, feed, sign, keyword, identifier, number, name_pieces, extension_pieces, literal_pieces, further, product_pieces, sum_pieces, line_pieces, lines_pieces, attribute_pieces, pin_pieces, pins_pieces, source_pieces}
 use Rattle.abel_lexer.specs.declared.token.TokenKind.TheVariants as kind
-use Rattle.abel_lexer.specs.Bytes.{quote, is_blank, is_name_first, is_name_later, starts}
-use Rattle.abel_lexer.specs.Lengths.{longest_at}
-use Rattle.abel_lexer.specs.Numbers.{is_good_number}
-use Rattle.abel_lexer.proofs.FirstBytes.{in_range}
-use Rattle.abel_tree.specs.declared.words.Extension.{Extension}
 use Rattle.abel_tree.specs.declared.words.Extension.TheVariants as an_extension
-use Rattle.decompiled.specs.Pieces.{Piece, text_of}
-use Rattle.decompiled.specs.Plain.{is_marked, IsPlainPiece, IsApart, ArePlain}
-use Rattle.decompiled.specs.declared.literal.PinLiteral.{PinLiteral}
-use Rattle.decompiled.specs.declared.pin_line.PinLine.{PinLine}
-use Rattle.decompiled.specs.declared.sum_line.SumLine.{SumLine}
-use Rattle.decompiled.specs.declared.source.PinSource.{PinSource}
-use Rattle.decompiled.specs.SourceText.{q_if, name_text, extension_text, literal_text, product_text, sum_text}
-use Rattle.decompiled.specs.SourcePieces.{none, space, feed, sign, keyword, identifier, number, name_pieces, extension_pieces, literal_pieces, further, product_pieces, sum_pieces, line_pieces, lines_pieces, attribute_pieces, pin_pieces, pins_pieces, source_pieces}
 use Rattle.decompiled.proofs.Apart.{name_apart, number_apart, digit_is}
 use Rattle.decompiled.proofs.PinNumbers.{IsPinNumber, is_number_word}
 use Rattle.decompiled.proofs.PieceTexts.{IsWritten, literal_is, product_is, sum_is}

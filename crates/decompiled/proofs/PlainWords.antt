@@ -1,20 +1,11 @@
 -- The words and signs of such a source are plain, and apart from what stands behind them.
 use Rattle.std.proofs.Common.{◌≡◌, ℕ, inl, inr, Bool, true, Some, List, [], ◌∷◌, ◌++◌, length, refl, sym, subst, eqb-true}
 use Rattle.std.specs.Prelude.{◌==◌, ◌||◌, codes}
-use Rattle.std.specs.List.{list_all}
-use Rattle.std.proofs.lemmas.Bool.{or_cases, true≢false}
+use Rattle.decompiled.proofs.Common.{list_all, or_cases, true≢false, device_text, is_blank, starts, is_keyword, is_left_out, longest_at, longest_word, Extension, IsPlainPiece, extension_text, none, space, feed, sign, keyword, identifier, number, string, extension}
 use Rattle.pld_base.specs.declared.device_name.DeviceName.{DeviceName}
 use Rattle.pld_base.specs.declared.device_name.DeviceName.TheVariants.{P16L8, P16R4, P16R6, P16R8, GAL22V10, GAL16V8C, GAL16V8R4, GAL16V8R6, GAL16V8R8}
-use Rattle.pld_base.specs.DeviceNames.{device_text}
 use Rattle.abel_lexer.specs.declared.token.TokenKind.TheVariants as kind
-use Rattle.abel_lexer.specs.Bytes.{is_blank, starts}
-use Rattle.abel_lexer.specs.Keywords.{is_keyword, is_left_out}
-use Rattle.abel_lexer.specs.Lengths.{longest_at, longest_word}
-use Rattle.abel_tree.specs.declared.words.Extension.{Extension}
 use Rattle.abel_tree.specs.declared.words.Extension.TheVariants as an_extension
-use Rattle.decompiled.specs.Plain.{IsPlainPiece}
-use Rattle.decompiled.specs.SourceText.{extension_text}
-use Rattle.decompiled.specs.SourcePieces.{none, space, feed, sign, keyword, identifier, number, string, extension}
 
 -- ---- what ends a token
 

@@ -1,16 +1,8 @@
 -- The text of a source is read as its module.
 use Rattle.std.proofs.Common.{ℕ, List, [], ◌∷◌, refl, subst}
-use Rattle.std.specs.List.{AllByRecursion}
-use Rattle.abel_lexer.specs.Scans.{IsTokensOf, first_place}
-use Rattle.abel_expand.specs.Runs.{IsExpanded}
-use Rattle.decompiled.specs.Pieces.{tokens_from}
+use Rattle.decompiled.proofs.Common.{AllByRecursion, IsTokensOf, first_place, IsExpanded, tokens_from, PinLiteral, PinLine, SumLine, source_text, source_pieces, feed}
 use Rattle.decompiled.proofs.Expands.{expands}
 use Rattle.decompiled.proofs.Scans.{scans}
-use Rattle.decompiled.specs.declared.literal.PinLiteral.{PinLiteral}
-use Rattle.decompiled.specs.declared.pin_line.PinLine.{PinLine}
-use Rattle.decompiled.specs.declared.sum_line.SumLine.{SumLine}
-use Rattle.decompiled.specs.SourceText.{source_text}
-use Rattle.decompiled.specs.SourcePieces.{source_pieces, feed}
 use Rattle.decompiled.specs.Reading.{IsLow, IsLowProduct, IsLowLine, SourceTextsAreRead}
 use Rattle.decompiled.proofs.PinNumbers.{IsPinNumber, pin_number}
 use Rattle.decompiled.proofs.PlainPieces.{GoodProduct, GoodLine, IsNamed, source_plain}

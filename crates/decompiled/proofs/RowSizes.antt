@@ -1,10 +1,7 @@
 -- A row of the array has two fuses for each pair.
 use Rattle.std.proofs.Common.{◌≡◌, ℕ, suc, ◌+◌, ◌*◌, ◌-◌, ◌<◌, ◌≤◌, Bool, List, length, drop, arith, length-drop}
+use Rattle.decompiled.proofs.Common.{length-take, IsDevice, row_fuses, Table}
 use Rattle.std.proofs.Math.Nat.{mul-le-mul_left}
-use Rattle.std.proofs.lemmas.List.{length-take}
-use Rattle.pld_device.specs.Laws.{IsDevice}
-use Rattle.pld_device.specs.Rows.{row_fuses}
-use Rattle.pld_device.specs.Table.{Table}
 
 pub row_size : (t : Table) (fuses : List Bool) (row : ℕ) → IsDevice t → length fuses ≡ t.fuses → row < t.rows → length (row_fuses t fuses row) ≡ 2 * length t.pairs
 row_size t fuses row laws long within =

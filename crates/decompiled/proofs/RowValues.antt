@@ -1,14 +1,7 @@
 -- A row has the value of its product.
 use Rattle.std.proofs.Common.{◌≡◌, ◌*◌, Bool, true, false, not, List, [], ◌∷◌, ◌++◌, length, map, refl, sym, ap, ◌∙◌, arith}
 use Rattle.std.specs.Prelude.{◌&&◌, ◌||◌}
-use Rattle.std.specs.List.{list_all}
-use Rattle.std.proofs.lemmas.Bool.{true≢false}
-use Rattle.pld_base.specs.Points.{Levels}
-use Rattle.pld_device.specs.declared.carry.Carry.{Carry}
-use Rattle.pld_device.specs.Reads.{has_whole_pair}
-use Rattle.pld_device.specs.Rows.{carried, columns_of, pair_values, row_fuses, row_is_true, is_switched_on}
-use Rattle.pld_device.specs.Table.{Table}
-use Rattle.decompiled.specs.RowLiterals.{ColumnLiteral, literal, if_intact, literals_of, row_literals, literal_value, RowsAreProducts}
+use Rattle.decompiled.proofs.Common.{list_all, true≢false, Levels, Carry, has_whole_pair, carried, columns_of, pair_values, row_fuses, row_is_true, is_switched_on, Table, ColumnLiteral, literal, if_intact, literals_of, row_literals, literal_value, RowsAreProducts}
 
 module _ (t : Table) (fuses : List Bool) (at : Levels) where
   abbrev value : ColumnLiteral → Bool

@@ -1,13 +1,6 @@
 -- The tokens of a plain text are those of its pieces.
 use Rattle.std.proofs.Common.{◌≡◌, ℕ, true, List, [], ◌∷◌, ◌++◌, map, refl, sym, ap, append-nil}
-use Rattle.std.specs.List.{list_all}
-use Rattle.pld_base.specs.declared.place.Place.{Place}
-use Rattle.abel_lexer.specs.declared.token.Token.{Token}
-use Rattle.abel_lexer.specs.Bytes.{is_blank}
-use Rattle.abel_lexer.specs.Scans.{Remainder, Shown, Leads, place_past, first_place, tokens_among}
-use Rattle.abel_lexer.proofs.FirstBytes.{begins_dark}
-use Rattle.decompiled.specs.Pieces.{Piece, text_of, place_in, place_behind, tokens_from}
-use Rattle.decompiled.specs.Plain.{ArePlain, PlainTextsHaveTheirTokens}
+use Rattle.decompiled.proofs.Common.{list_all, Place, Token, is_blank, Remainder, Shown, Leads, place_past, first_place, tokens_among, begins_dark, Piece, text_of, place_in, place_behind, tokens_from, ArePlain, PlainTextsHaveTheirTokens}
 use Rattle.decompiled.proofs.Tokens.{some_bytes, is_token, is_longest}
 
 abbrev left : Place → List ℕ → Remainder

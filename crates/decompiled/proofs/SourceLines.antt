@@ -1,20 +1,7 @@
 -- Each line of a device's source is on a cell's pin, and its literals are those of pairs.
 use Rattle.std.proofs.Common.{◌≡◌, ℕ, ◌<◌, Bool, true, false, if◌then◌else◌, Option, Some, None, List, [], ◌∷◌, ◌++◌, length, flat_map, map, refl, arith}
-use Rattle.std.specs.List.{AllByRecursion, range_with_len}
-use Rattle.pld_device.specs.declared.carry.Carry.{Carry}
-use Rattle.pld_device.specs.declared.enable.Enable.{Enable}
-use Rattle.pld_device.specs.declared.enable.Enable.TheVariants.{Row, PinLow}
-use Rattle.pld_device.specs.Laws.{IsPair, IsDevice}
-use Rattle.pld_device.specs.Reads.{is_never_true}
-use Rattle.pld_device.specs.Registers.{stores}
-use Rattle.pld_device.specs.Rows.{row_fuses}
-use Rattle.pld_device.specs.Table.{Table, cell_at}
-use Rattle.abel_tree.specs.declared.words.Extension.{Extension}
+use Rattle.decompiled.proofs.Common.{AllByRecursion, range_with_len, Carry, Enable, Row, PinLow, IsPair, IsDevice, is_never_true, stores, row_fuses, Table, cell_at, Extension, PinLiteral, SumLine, ColumnLiteral, if_intact, literal, literals_of, row_literals, named, named_by, product_of, live_rows, control_products, has_lines, data_line, control_line, enable_lines, cell_lines, shared_lines, first_register, lines_of}
 use Rattle.abel_tree.specs.declared.words.Extension.TheVariants as extension
-use Rattle.decompiled.specs.declared.literal.PinLiteral.{PinLiteral}
-use Rattle.decompiled.specs.declared.sum_line.SumLine.{SumLine}
-use Rattle.decompiled.specs.RowLiterals.{ColumnLiteral, if_intact, literal, literals_of, row_literals}
-use Rattle.decompiled.specs.Sources.{named, named_by, product_of, live_rows, control_products, has_lines, data_line, control_line, enable_lines, cell_lines, shared_lines, first_register, lines_of}
 use Rattle.decompiled.proofs.Each.{each_at, each_append, each_map, each_flat_map, each_always, each_in_range, found_below}
 
 module _ (t : Table) (fuses : List Bool) where

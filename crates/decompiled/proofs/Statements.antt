@@ -1,17 +1,8 @@
 -- Equations are spelled.
 use Rattle.std.proofs.Common.{ℕ, suc, inl, inr, Bool, true, false, List, [], ◌∷◌, refl, codes}
-use Rattle.abel_grammar.specs.Form.{SpellsList}
-use Rattle.pld_base.specs.declared.place.Place.{Place}
-use Rattle.abel_lexer.specs.declared.token.Token.{Token}
+use Rattle.decompiled.proofs.Common.{SpellsList, Place, Token, Statement, AnAssign, terminal_of, Piece, token_at, place_in, place_behind, tokens_from, SumLine, name_text, none, space, feed, sign, identifier, extension_pieces, sum_pieces, line_pieces, lines_pieces, IsLine, AreLines}
 use Rattle.abel_tree.specs.declared.words.Sign.TheVariants as a_sign
-use Rattle.abel_tree.specs.Tree.{Statement, AnAssign}
-use Rattle.abel_grammar.specs.Terminals.{terminal_of}
 use Rattle.abel_grammar.specs.Statements.{target, complemented_at, assign, stmt}
-use Rattle.decompiled.specs.Pieces.{Piece, token_at, place_in, place_behind, tokens_from}
-use Rattle.decompiled.specs.declared.sum_line.SumLine.{SumLine}
-use Rattle.decompiled.specs.SourceText.{name_text}
-use Rattle.decompiled.specs.SourcePieces.{none, space, feed, sign, identifier, extension_pieces, sum_pieces, line_pieces, lines_pieces}
-use Rattle.decompiled.specs.SourceTrees.{IsLine, AreLines}
 use Rattle.decompiled.proofs.Expressions.{name_spelled, sum_spelled}
 
 abbrev equal : Piece

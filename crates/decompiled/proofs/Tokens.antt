@@ -1,18 +1,9 @@
 -- The token at the front of a text is told by the longest length there.
 use Rattle.std.proofs.Common.{◌≡◌, ℕ, ◌≤◌, ◌<◌, true, false, inl, inr, List, [], ◌∷◌, ◌++◌, length, take, drop, refl, sym, ap, subst, arith, take-append-drop}
-use Rattle.std.proofs.lemmas.List.{take_at, length-take-le}
-use Rattle.std.proofs.lemmas.Bool.{cases_Bool, true≢false}
-use Rattle.abel_lexer.specs.declared.token.TokenKind.{TokenKind}
+use Rattle.decompiled.proofs.Common.{take_at, length-take-le, cases_Bool, true≢false, TokenKind, is_name_first, is_name_later, starts, is_keyword, IsToken, IsWord, word_head, longest_at, quoted_len, shaped_len, IsLongest, Munches, shaped_munches, is_word_kind, is_text_kind}
 use Rattle.abel_lexer.specs.declared.token.TokenKind.TheVariants as kind
-use Rattle.abel_lexer.specs.Bytes.{is_name_first, is_name_later, starts}
-use Rattle.abel_lexer.specs.Keywords.{is_keyword}
-use Rattle.abel_lexer.specs.Kinds.{IsToken, IsWord, word_head}
-use Rattle.abel_lexer.specs.Lengths.{longest_at, quoted_len, shaped_len}
-use Rattle.abel_lexer.specs.Scans.{IsLongest}
 use Rattle.abel_lexer.proofs.Longest.{longest_token, longest_longest}
-use Rattle.abel_lexer.proofs.Munches.{Munches, shaped_munches}
 use Rattle.abel_lexer.proofs.Quotes.{quoted_munches}
-use Rattle.decompiled.specs.Plain.{is_word_kind, is_text_kind}
 
 pub some_bytes : (w : List ℕ) → starts (λ b. true) w ≡ true → 0 < length w
 some_bytes [] e = absurd (true≢false (sym e))

@@ -1,18 +1,10 @@
 -- What a turn makes of a plain piece, and of a blank.
 use Rattle.std.proofs.Common.{◌≡◌, ℕ, ◌-◌, ◌<◌, inl, inr, Bool, true, false, List, [], ◌∷◌, ◌++◌, length, take, drop, Option, Some, None, refl, sym, ap, subst, ◌∙◌, arith, length-append, lt-ltb, ltb-false}
 use Rattle.std.specs.Prelude.{◌==◌, ◌&&◌, ◌||◌, nat_lt, codes, if◌then◌else◌}
-use Rattle.std.specs.List.{list_all}
-use Rattle.std.proofs.lemmas.List.{take_at, drop_at}
-use Rattle.std.proofs.lemmas.Bool.{cases_Bool, eqb-true, or_cases, true≢false}
-use Rattle.abel_lexer.specs.declared.token.TokenKind.{TokenKind}
-use Rattle.abel_lexer.specs.Bytes.{note_mark, slash, quote, is_blank, is_name_first, is_name_later}
-use Rattle.abel_lexer.specs.Kinds.{word_head}
-use Rattle.abel_lexer.specs.Lengths.{larger, longest_at, longest_word, quoted_len, shaped_len}
+use Rattle.decompiled.proofs.Common.{list_all, take_at, drop_at, cases_Bool, eqb-true, or_cases, true≢false, TokenKind, note_mark, slash, quote, is_blank, is_name_first, is_name_later, word_head, larger, longest_at, longest_word, quoted_len, shaped_len, given, starts_byte, before, comment, gap, string_len, behind_some, Move, Done, move, directed, directive_of, behind_directive, token_len, macro_word, nothing_defined, is_marked, is_word_kind, is_text_kind}
 use Rattle.abel_lexer.proofs.Booleans.{neither}
-use Rattle.abel_macros.specs.Gaps.{given, starts_byte, before, comment, gap, string_len, word, behind_some}
-use Rattle.abel_macros.specs.Rules.{Move, Done, move, named, directed, directive_of, behind_directive, token_len, macro_word}
-use Rattle.abel_macros.specs.Turns.{nothing_defined}
-use Rattle.decompiled.specs.Plain.{is_marked, is_word_kind, is_text_kind}
+use Rattle.abel_macros.specs.Gaps.{word}
+use Rattle.abel_macros.specs.Rules.{named}
 use Rattle.decompiled.proofs.Tokens.{is_token, text_length, word_length, word_of_kind, text_of_kind, no_word}
 
 -- ---- parts

@@ -1,15 +1,11 @@
 -- Plain texts: of names, keywords, numbers, strings, signs and extensions, with blanks between them, where no token could
 -- be longer, and with no comment, directive or macro (this project's rule).
 use Rattle.std.specs.Prelude.{◌≡◌, ℕ, ◌==◌, ◌||◌, Bool, true, false, List, [], ◌∷◌, ◌++◌, length, None, codes}
-use Rattle.std.specs.List.{list_all}
+use Rattle.decompiled.specs.Prelude.{list_all, Place, TokenKind, fault_of, IsTokensOf, first_place}
 use Rattle.std.specs.Str.{str_eq_ignore_ascii_case}
-use Rattle.pld_base.specs.declared.place.Place.{Place}
-use Rattle.abel_lexer.specs.declared.token.TokenKind.{TokenKind}
 use Rattle.abel_lexer.specs.declared.token.TokenKind.TheVariants as kind
 use Rattle.abel_lexer.specs.Bytes.{note_mark, quote, slash, is_blank, is_name_first, starts}
-use Rattle.abel_lexer.specs.Kinds.{fault_of}
 use Rattle.abel_lexer.specs.Lengths.{longest_at}
-use Rattle.abel_lexer.specs.Scans.{IsTokensOf, first_place}
 use Rattle.abel_expand.specs.Runs.{IsExpanded}
 use Rattle.decompiled.specs.Pieces.{Piece, text_of, tokens_from}
 

@@ -1,7 +1,6 @@
 -- What the text of a pin source is read as (this project's rule).
 use Rattle.std.specs.Prelude.{ℕ, ◌<◌, List}
-use Rattle.std.specs.List.{AllByRecursion}
-use Rattle.abel_tree.specs.Tree.{ModuleTree}
+use Rattle.decompiled.specs.Prelude.{AllByRecursion, ModuleTree}
 use Rattle.module_reader.specs.Texts.{IsRead}
 use Rattle.decompiled.specs.declared.literal.PinLiteral.{PinLiteral}
 use Rattle.decompiled.specs.declared.pin_line.PinLine.{PinLine}

@@ -1,13 +1,6 @@
 -- A row as a product: the literals of its columns whose fuses are intact (the devices' datasheets, logic diagrams).
 use Rattle.std.specs.Prelude.{◌≡◌, ℕ, suc, Bool, true, false, ◌&&◌, ◌||◌, List, [], ◌∷◌, ◌++◌, length}
-use Rattle.std.specs.List.{list_all, list_any}
-use Rattle.pld_base.specs.Points.{Levels}
-use Rattle.pld_device.specs.declared.carry.Carry.{Carry}
-use Rattle.pld_device.specs.Laws.{IsDevice}
-use Rattle.pld_device.specs.Macrocells.{complement_if}
-use Rattle.pld_device.specs.Reads.{is_never_true, row_reads}
-use Rattle.pld_device.specs.Rows.{carried, row_fuses, row_value}
-use Rattle.pld_device.specs.Table.{Table}
+use Rattle.decompiled.specs.Prelude.{list_all, list_any, Levels, Carry, IsDevice, complement_if, is_never_true, row_reads, carried, row_fuses, row_value, Table}
 
 -- ---- literals
 

@@ -1,9 +1,7 @@
 -- A pin source, token by token (this project's rule). Each part is written before the pieces that stand behind it.
 use Rattle.std.specs.Prelude.{ℕ, Bool, true, false, Option, None, Some, List, [], ◌∷◌, ◌++◌, if◌then◌else◌, codes}
-use Rattle.std.specs.Fmt.{decimal}
-use Rattle.pld_base.specs.DeviceNames.{device_text}
+use Rattle.decompiled.specs.Prelude.{decimal, device_text, Extension}
 use Rattle.abel_lexer.specs.declared.token.TokenKind.TheVariants as kind
-use Rattle.abel_tree.specs.declared.words.Extension.{Extension}
 use Rattle.decompiled.specs.Pieces.{Piece}
 use Rattle.decompiled.specs.declared.literal.PinLiteral.{PinLiteral}
 use Rattle.decompiled.specs.declared.pin_line.PinLine.{PinLine}

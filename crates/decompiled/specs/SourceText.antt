@@ -1,10 +1,8 @@
 -- The text of a source of pins and sums of products (ABEL-HDL Reference Manual, source file structure; the names are this
 -- project's rule).
 use Rattle.std.specs.Prelude.{ℕ, Bool, Option, None, Some, List, [], ◌∷◌, ◌++◌, if◌then◌else◌, flat_map, codes}
-use Rattle.std.specs.Fmt.{decimal}
+use Rattle.decompiled.specs.Prelude.{decimal, device_text, Extension}
 use Rattle.pld_base.specs.declared.device_name.DeviceName.{DeviceName}
-use Rattle.pld_base.specs.DeviceNames.{device_text}
-use Rattle.abel_tree.specs.declared.words.Extension.{Extension}
 use Rattle.abel_tree.specs.declared.words.Extension.TheVariants as extension
 use Rattle.decompiled.specs.declared.literal.PinLiteral.{PinLiteral}
 use Rattle.decompiled.specs.declared.pin_line.PinLine.{PinLine}

@@ -1,14 +1,11 @@
 -- The tree of a pin source, wherever its tokens stand (ABEL-HDL Reference Manual, source file structure).
 use Rattle.std.specs.Prelude.{◌≡◌, ℕ, Bool, true, false, Option, None, Some, List, [], ◌∷◌, ◌++◌, if◌then◌else◌, codes}
-use Rattle.pld_base.specs.declared.place.Place.{Place}
-use Rattle.pld_base.specs.DeviceNames.{device_text}
+use Rattle.decompiled.specs.Prelude.{Place, device_text, Extension, Tree, ANumber, AName, AUnary, ABinary, Statement, AnAssign, Declaration, ADevice, SomePins, Equations, ModuleTree}
 use Rattle.abel_tree.specs.declared.words.Word.{Word}
-use Rattle.abel_tree.specs.declared.words.Extension.{Extension}
 use Rattle.abel_tree.specs.declared.words.Unary.TheVariants as unary
 use Rattle.abel_tree.specs.declared.words.Binary.{Binary}
 use Rattle.abel_tree.specs.declared.words.Binary.TheVariants as binary
 use Rattle.abel_tree.specs.declared.words.Sign.TheVariants as sign
-use Rattle.abel_tree.specs.Tree.{Tree, ANumber, AName, AUnary, ABinary, Statement, AnAssign, Declaration, ADevice, SomePins, Equations, ModuleTree}
 use Rattle.decompiled.specs.declared.literal.PinLiteral.{PinLiteral}
 use Rattle.decompiled.specs.declared.pin_line.PinLine.{PinLine}
 use Rattle.decompiled.specs.declared.sum_line.SumLine.{SumLine}

@@ -1,17 +1,9 @@
 -- The source of a device's fuses (the devices' datasheets, macrocell diagrams; what stands in which line is this project's
 -- rule).
 use Rattle.std.specs.Prelude.{ℕ, ◌==◌, Bool, true, false, not, ◌&&◌, ◌||◌, if◌then◌else◌, Option, None, Some, List, [], ◌∷◌, ◌++◌, length, filter, find, flat_map, map}
-use Rattle.std.specs.List.{list_any, range_with_len}
-use Rattle.pld_device.specs.declared.carry.Carry.{Carry}
+use Rattle.decompiled.specs.Prelude.{list_any, range_with_len, Carry, Enable, Row, PinLow, complement_if, data_complements, data_rows, pin_complements, is_never_true, is_inverted, stores, Table, cell_at, Extension}
 use Rattle.pld_device.specs.declared.carry.Carry.TheVariants as carry
-use Rattle.pld_device.specs.declared.enable.Enable.{Enable}
-use Rattle.pld_device.specs.declared.enable.Enable.TheVariants.{Row, PinLow}
 use Rattle.pld_device.specs.Given.{never_drives}
-use Rattle.pld_device.specs.Macrocells.{complement_if, data_complements, data_rows, pin_complements}
-use Rattle.pld_device.specs.Reads.{is_never_true}
-use Rattle.pld_device.specs.Registers.{is_inverted, stores}
-use Rattle.pld_device.specs.Table.{Table, cell_at}
-use Rattle.abel_tree.specs.declared.words.Extension.{Extension}
 use Rattle.abel_tree.specs.declared.words.Extension.TheVariants as extension
 use Rattle.decompiled.specs.declared.literal.PinLiteral.{PinLiteral}
 use Rattle.decompiled.specs.declared.pin_line.PinLine.{PinLine}

@@ -1,7 +1,7 @@
 //! Declarations of pins.
 
 ghost use Rattle.std.specs.Prelude.{◌≡◌, ◌++◌, OnOk, codes};
-ghost use Rattle.std.specs.Fmt.{decimal};
+ghost use Rattle.decompiled.specs.Prelude.{decimal};
 ghost use Rattle.decompiled.specs.SourceText.{attributes_text, name_text, pin_text};
 
 use crate::literal::put_name;

@@ -1,8 +1,7 @@
 //! Sums of products, and the lines that assign them.
 
 ghost use Rattle.std.specs.Prelude.{◌≡◌, ◌++◌, OnOk, codes};
-ghost use Rattle.decompiled.specs.SourceText.{line_text, literal_text, product_text};
-ghost use Rattle.decompiled.specs.SourceText.{sum_text, target_text};
+ghost use Rattle.decompiled.specs.SourceText.{line_text, literal_text, product_text, sum_text, target_text};
 
 use crate::literal::{PinLiteral, put_extension, put_name, put_sign};
 use abel_tree::Extension;

@@ -1,7 +1,7 @@
 -- Three pieces were appended, one behind the other.
 use Rattle.std.proofs.Common.{◌≡◌, ℕ, List, ◌++◌, ◌∙◌, ap, append_assoc}
 use Rattle.std.specs.Prelude.{codes}
-use Rattle.pld_base.specs.DeviceNames.{device_text}
+use Rattle.decompiled.proofs.Common.{device_text}
 use Rattle.decompiled.proofs.source.put_head.Goals as goal
 
 three : (old a b c one two new name : List ℕ) → one ≡ old ++ a → two ≡ one ++ name → name ≡ b → new ≡ two ++ c → new ≡ old ++ (a ++ (b ++ c))

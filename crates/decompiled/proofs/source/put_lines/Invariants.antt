@@ -1,5 +1,5 @@
 use Rattle.std.proofs.Common.{◌≡◌, ◌++◌, take, flat_map}
-use Rattle.decompiled.specs.SourceText.{line_text}
+use Rattle.decompiled.proofs.Common.{line_text}
 use Rattle.decompiled.proofs.source.put_lines.Given as goal
 
 abbrev pub invariant-loop-line : goal.invariant-loop-line

@@ -1,5 +1,5 @@
 use Rattle.std.proofs.Common.{◌≡◌, ◌++◌, take, flat_map}
-use Rattle.decompiled.specs.SourceText.{pin_text}
+use Rattle.decompiled.proofs.Common.{pin_text}
 use Rattle.decompiled.proofs.source.put_pins.Given as goal
 
 abbrev pub invariant-loop-pin : goal.invariant-loop-pin

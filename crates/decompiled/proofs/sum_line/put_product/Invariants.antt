@@ -1,6 +1,6 @@
 use Rattle.std.proofs.Common.{◌≡◌, ◌++◌, take, flat_map}
 use Rattle.std.specs.Prelude.{codes}
-use Rattle.decompiled.specs.SourceText.{literal_text}
+use Rattle.decompiled.proofs.Common.{literal_text}
 use Rattle.decompiled.proofs.sum_line.put_product.Given as goal
 
 abbrev pub invariant-loop-literal : goal.invariant-loop-literal

@@ -1,6 +1,6 @@
 use Rattle.std.proofs.Common.{◌≡◌, ◌++◌, take, flat_map}
 use Rattle.std.specs.Prelude.{codes}
-use Rattle.decompiled.specs.SourceText.{product_text}
+use Rattle.decompiled.proofs.Common.{product_text}
 use Rattle.decompiled.proofs.sum_line.put_sum.Given as goal
 
 abbrev pub invariant-loop-product : goal.invariant-loop-product
