@@ -1,5 +1,0 @@
-use Rattle.decompiled_logic.proofs.SaidRuns.{say_what_they_do}
-use Rattle.decompiled_logic.proofs.run_laws.runs.Goals as goal
-
-pub returns : goal.returns
-returns c = say_what_they_do

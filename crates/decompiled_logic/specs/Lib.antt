@@ -1,9 +1,0 @@
-pub mod Alike
-pub mod LineGives
-pub mod Netlists
-pub mod OwnLines
-pub mod PinNames
-pub mod RowSums
-pub mod Runs
-pub mod Signals
-pub mod SumFormulas
