@@ -1,21 +1,11 @@
 -- A decompiled source is accepted: nothing is refused of its names, its equations and its design, there is a netlist, and no
 -- function is too wide.
 use Rattle.std.proofs.Common.{◌≡◌, Bool, List, length}
-use Rattle.pld_order.specs.Graphs.{HasNoLoop}
-use Rattle.pld_device.specs.Laws.{IsDevice}
-use Rattle.pld_device.specs.Table.{Table}
-use Rattle.bit_expr.specs.declared.netlist.Netlist.{Netlist}
-use Rattle.device_logic.specs.CellReads.{cell_reads}
-use Rattle.device_logic.specs.ResetPaths.{HasNoResetPath}
-use Rattle.abel_tree.specs.Tree.{ModuleTree}
-use Rattle.decompiled.specs.SourceTrees.{IsSourceTree}
+use Rattle.decompiler.proofs.Common.{HasNoLoop, IsDevice, Table, Netlist, cell_reads, HasNoResetPath, ModuleTree, IsSourceTree, HasDesign, IsNetlistOf, source_of, DesignsAreTakeable}
 use Rattle.decompiler.proofs.BuiltNetlists.{netlists_there}
-use Rattle.compile_phases.specs.SourceRefusals.{HasDesign, IsNetlistOf}
-use Rattle.decompiled.specs.Sources.{source_of}
 use Rattle.decompiler.proofs.UnrefusedNames.{names_unrefused}
 use Rattle.decompiler.proofs.UnrefusedSections.{sections_unrefused}
 use Rattle.decompiler.proofs.ContributionsThere.{contributions_there}
-use Rattle.decompiler.specs.Designs.{DesignsAreTakeable}
 use Rattle.decompiler.proofs.UnrefusedDesigns.{designs_unrefused}
 use Rattle.decompiler.proofs.Fitting.{sources_are_narrow, sources_fit}
 use Rattle.decompiler.specs.Accepted.{SourcesAreAccepted, SourcesFitAsWritten}

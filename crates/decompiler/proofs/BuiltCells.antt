@@ -1,22 +1,9 @@
 -- Cells and nodes over an arena, of ids that hold their formulas.
 use Rattle.std.proofs.Common.{◌≡◌, ℕ, zero, suc, false, List, [], ◌∷◌, ◌++◌, length, map, Option, Some, None, refl, sym, ap, ◌∙◌, arith}
 use Rattle.std.specs.Prelude.{flat_map, unwrap_or}
-use Rattle.std.specs.List.{All, AllByRecursion}
-use Rattle.pld_base.specs.declared.place.Place.{Place}
-use Rattle.bit_expr.specs.declared.netlist.CellWanted.{CellWanted}
-use Rattle.bit_expr.specs.declared.netlist.Control.{Control}
+use Rattle.decompiler.proofs.Common.{All, AllByRecursion, Place, CellWanted, Control, ExprId, formula_at, Formula, Const, Extension, Function, Wanted, plain_control, plain_function, plain_wanted, IsCellIn, IsControlIn, IsFunctionIn, IsIn, IsControlPlaced, IsPlaced, Contribution, first_data, first_target, target_place}
 use Rattle.bit_expr.specs.declared.netlist.Function.{Function as IdFunction}
-use Rattle.bit_expr.specs.declared.node.ExprId.{ExprId}
-use Rattle.bit_expr.specs.Arena.{formula_at}
-use Rattle.bit_expr.specs.Formulas.{Formula, Const}
-use Rattle.abel_tree.specs.declared.words.Extension.{Extension}
 use Rattle.abel_tree.specs.declared.words.Extension.TheVariants as extension
-use Rattle.abel_meaning.specs.Functions.{Function}
-use Rattle.abel_meaning.specs.Netlists.{Wanted, plain_control, plain_function, plain_wanted}
-use Rattle.abel_meaning.specs.SoundIds.{IsCellIn, IsControlIn, IsFunctionIn, IsIn}
-use Rattle.gathering.specs.Placed.{IsControlPlaced, IsPlaced}
-use Rattle.set_expr.specs.declared.contributions.Contribution.{Contribution}
-use Rattle.gathering.specs.Amounts.{first_data, first_target, target_place}
 use Rattle.decompiler.proofs.ControlTargets.{AreTargeted, IsTargeted}
 
 -- what holds of each in turn holds at each place

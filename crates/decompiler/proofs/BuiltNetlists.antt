@@ -1,28 +1,10 @@
 -- The netlist of a module, over an arena that holds the formulas of its nodes and cells.
 use Rattle.std.proofs.Common.{◌≡◌, List, ◌++◌, length, map, sym, ap, subst, ◌∙◌, arith}
 use Rattle.std.specs.Prelude.{flat_map}
-use Rattle.std.specs.List.{range_with_len}
-use Rattle.std.proofs.lemmas.List.FromFn.{get_or-map-range_with_len}
-use Rattle.pld_device.specs.Laws.{IsDevice}
-use Rattle.pld_device.specs.Table.{Table}
-use Rattle.bit_expr.specs.declared.netlist.Netlist.{Netlist}
-use Rattle.bit_expr.specs.Arena.{arena}
-use Rattle.bit_expr.specs.Formulas.{Formula}
-use Rattle.abel_tree.specs.Tree.{ModuleTree}
-use Rattle.abel_meaning.specs.Designs.{Design, design_of}
-use Rattle.abel_meaning.specs.Functions.{Function}
-use Rattle.abel_meaning.specs.Netlists.{PlainNetlist, Wanted, plain_netlist}
-use Rattle.abel_meaning.specs.SoundIds.{IsCellIn, IsFunctionIn, no_pair, pair_of_cell, pair_of_pin}
+use Rattle.decompiler.proofs.Common.{range_with_len, get_or-map-range_with_len, IsDevice, Table, Netlist, arena, Formula, ModuleTree, Design, design_of, Function, PlainNetlist, Wanted, plain_netlist, IsCellIn, IsFunctionIn, no_pair, pair_of_cell, pair_of_pin, Contributions, netlist_of, IsTakeable, IsPlaced, AreContributed, IsHeld, all_nodes_of, IsNetlistOf}
 use Rattle.abel_meaning.specs.Soundness.{IsSound}
-use Rattle.set_expr.specs.declared.contributions.Contributions.{Contributions}
-use Rattle.netlist_laws.specs.Gathered.{netlist_of}
-use Rattle.netlist_laws.specs.Takeable.{IsTakeable}
 use Rattle.netlist_laws.proofs.Sound.{is_sound}
-use Rattle.gathering.specs.Placed.{IsPlaced}
-use Rattle.source_sections.specs.SectionAnswers.{AreContributed}
-use Rattle.decompiler.specs.Held.{IsHeld, all_nodes_of}
 use Rattle.decompiler.proofs.Holding.{arenas_there}
-use Rattle.compile_phases.specs.SourceRefusals.{IsNetlistOf}
 use Rattle.decompiler.specs.Netlists.{NetlistsAreThere}
 use Rattle.decompiler.proofs.BuiltCells.{HoldsCells, HoldsNodes, cell_formulas, cells_held, each_place, node_formulas, nodes_held}
 use Rattle.decompiler.proofs.ControlTargets.{cells_targeted}

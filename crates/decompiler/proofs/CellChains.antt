@@ -2,46 +2,16 @@
 -- cell does.
 use Rattle.std.proofs.Common.{◌≡◌, ℕ, ◌<◌, inl, inr, Bool, true, false, not, if◌then◌else◌, Option, Some, None, List, [], ◌∷◌, length, filter, map, refl, sym, ap, subst, ◌∙◌, arith, eqb-true}
 use Rattle.std.specs.Prelude.{◌==◌, ◌||◌}
-use Rattle.std.specs.List.{AllByRecursion, list_any}
-use Rattle.std.proofs.lemmas.Bool.{and_from, and_parts, and_right, cases_Bool, or_cases, or_left, or_right, true≢false}
-use Rattle.pld_order.specs.Graphs.{HasNoLoop}
-use Rattle.pld_device.specs.declared.enable.Enable.{Enable}
-use Rattle.pld_device.specs.declared.enable.Enable.TheVariants.{Row, PinLow}
+use Rattle.decompiler.proofs.Common.{AllByRecursion, list_any, and_from, and_parts, and_right, cases_Bool, or_cases, or_left, or_right, true≢false, HasNoLoop, Enable, Row, PinLow, IsDevice, data_rows, stores, Table, cell_at, no_cell, reset_in, Leaf, Formula, Const, names, cell_reads, data_reads, enable_reads, rest_reads, row_reads_cell, HasNoResetPath, plain_reads, reset_reads, row_reads_if_any, ModuleTree, control_of, is_the_control, Design, design_of, name_at, formulas, Function, function_of, HasNoSignalLoop, HasNoSignalPath, function_names, given_formulas, is_one_of, is_stored_signal, names_if_any, reset_equation_reads, settles, signal_names, signal_reads, leaf_of_signal, SumLine, IsSourceTree, is_control_line, line_gives, sum_formula, control_line, control_products, data_line, enable_lines, first_register, lines_of, source_of, shared_formula, HasRowSizes, leaf_of, signal_of, none_passes, given_is}
 use Rattle.pld_device.specs.Given.{never_drives}
-use Rattle.pld_device.specs.Laws.{IsDevice}
-use Rattle.pld_device.specs.Macrocells.{data_rows}
-use Rattle.pld_device.specs.Registers.{stores}
-use Rattle.pld_device.specs.Table.{Table, cell_at, no_cell}
-use Rattle.device_logic.proofs.Ranges.{reset_in}
-use Rattle.bit_expr.specs.declared.node.Leaf.{Leaf}
-use Rattle.bit_expr.specs.Formulas.{Formula, Const, names}
-use Rattle.device_logic.specs.CellReads.{cell_reads, data_reads, enable_reads, rest_reads, row_reads_cell}
-use Rattle.device_logic.specs.ResetPaths.{HasNoResetPath, plain_reads, reset_reads, row_reads_if_any}
 use Rattle.abel_tree.specs.declared.words.Extension.TheVariants as extension
-use Rattle.abel_tree.specs.Tree.{ModuleTree}
 use Rattle.abel_meaning.specs.Contributions.{Contribution}
-use Rattle.abel_meaning.specs.Controls.{control_of, is_the_control}
-use Rattle.abel_meaning.specs.Designs.{Design, design_of, name_at}
-use Rattle.abel_meaning.specs.FormulaBits.{formulas}
-use Rattle.abel_meaning.specs.Functions.{Function, function_of}
-use Rattle.abel_meaning.specs.SignalReads.{HasNoSignalLoop, HasNoSignalPath, function_names, given_formulas, is_one_of, is_stored_signal, names_if_any, reset_equation_reads, settles, signal_names, signal_reads}
-use Rattle.abel_meaning.specs.SignalReads.{leaf_of as leaf_of_signal}
-use Rattle.decompiled.specs.declared.sum_line.SumLine.{SumLine}
-use Rattle.decompiled.specs.SourceTrees.{IsSourceTree}
-use Rattle.decompiled_logic.specs.LineGives.{is_control_line, line_gives}
-use Rattle.decompiled_logic.specs.SumFormulas.{sum_formula}
-use Rattle.decompiled_logic.proofs.OneLine.{says}
-use Rattle.decompiled.specs.Sources.{control_line, control_products, data_line, enable_lines, first_register, lines_of, source_of}
+use Rattle.decompiled.proofs.OneLine.{says}
 use Rattle.decompiled.proofs.RowSizes.{row_size}
-use Rattle.decompiled_logic.specs.Alike.{shared_formula}
-use Rattle.decompiled_logic.specs.OwnLines.{HasOwnLines}
-use Rattle.decompiled_logic.specs.RowSums.{HasRowSizes}
-use Rattle.decompiled_logic.proofs.CellLines.{have}
-use Rattle.decompiled_logic.specs.Signals.{leaf_of, signal_of}
-use Rattle.decompiled_logic.proofs.AssignedPins.{own}
-use Rattle.decompiled_logic.proofs.PinWords.{none_passes}
-use Rattle.decompiled_logic.proofs.SharedRows.{HasOne, Resets, controls}
-use Rattle.decompiled_logic.proofs.SourceReads.{given_is}
+use Rattle.decompiled.specs.OwnLines.{HasOwnLines}
+use Rattle.decompiled.proofs.CellLines.{have}
+use Rattle.decompiled.proofs.AssignedPins.{own}
+use Rattle.decompiled.proofs.SharedRows.{HasOne, Resets, controls}
 use Rattle.decompiler.proofs.OwnLines.{IsForm, IsOwnLine, LineForm, DataForm, EnableForm, ResetForm, PresetForm, own_lines}
 use Rattle.decompiler.proofs.Mapped.{no_loop, no_path}
 use Rattle.decompiler.proofs.NamedColumns.{control_reads_it, data_read_it, sum_named}

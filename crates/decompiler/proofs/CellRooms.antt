@@ -1,44 +1,11 @@
 -- Each assigned cell has room for its written lists, and its enable is one product.
 use Rattle.std.proofs.Common.{◌≡◌, ℕ, ◌<◌, ◌≤◌, Bool, true, false, not, List, [], ◌∷◌, length, filter, map, Option, Some, None, refl, sym, ap, subst, ◌∙◌, arith, inl, inr}
 use Rattle.std.specs.Prelude.{if◌then◌else◌, unwrap_or}
-use Rattle.std.specs.Option.{option_map}
-use Rattle.std.proofs.lemmas.Bool.{cases_Bool}
-use Rattle.std.proofs.lemmas.List.{length-map}
-use Rattle.std.proofs.lemmas.List.FromFn.{length-range_with_len}
-use Rattle.std.proofs.lemmas.Option.{same_Some}
-use Rattle.pld_device.specs.declared.enable.Enable.{Enable}
-use Rattle.pld_device.specs.declared.enable.Enable.TheVariants.{Row, PinLow}
-use Rattle.pld_device.specs.Laws.{IsDevice}
-use Rattle.pld_device.specs.Macrocells.{data_rows}
-use Rattle.pld_device.specs.Reads.{is_never_true}
-use Rattle.pld_device.specs.Registers.{is_inverted, stores}
-use Rattle.pld_device.specs.Table.{Table, cell_at, no_cell}
-use Rattle.bit_expr.specs.declared.netlist.CellWanted.{CellWanted}
-use Rattle.bit_expr.specs.declared.netlist.Netlist.{Netlist}
-use Rattle.bit_expr.specs.declared.node.ExprId.{ExprId}
-use Rattle.bit_expr.specs.declared.node.Leaf.{Leaf}
-use Rattle.bit_expr.specs.Arena.{arena, formula_at}
-use Rattle.bit_expr.specs.Formulas.{Formula, Const, Or}
-use Rattle.abel_meaning.specs.Functions.{Function}
-use Rattle.abel_meaning.specs.Netlists.{Wanted, plain_netlist, plain_wanted, wanted_at}
-use Rattle.abel_meaning.specs.SoundIds.{IsSoundNetlist}
-use Rattle.covers.specs.declared.cube.Cube.{Cube}
-use Rattle.sop_lowering.specs.Products.{Products, sum_of}
-use Rattle.sop_lowering.specs.Written.{bit_list, written}
+use Rattle.decompiler.proofs.Common.{option_map, cases_Bool, length-map, length-range_with_len, same_Some, Enable, Row, PinLow, IsDevice, data_rows, is_never_true, is_inverted, stores, Table, cell_at, no_cell, CellWanted, Netlist, ExprId, Leaf, arena, formula_at, Formula, Const, Or, Function, Wanted, plain_netlist, plain_wanted, wanted_at, IsSoundNetlist, Cube, Products, sum_of, bit_list, written, cell_wanted, enable_bit, enable_is, sound_id_at, wanted_is, rows_are_positive, IsFunctionTooWide, IsShort, PinLiteral, sum_formula, control_products, has_lines, live_rows, product_of, IsCellAsked, IsFusesNetlist, enable_formula, ReadNoNode}
 use Rattle.fit_plans.specs.Tries.{allowed_of, needed_of, one_of}
-use Rattle.fitter.specs.Plans.{cell_wanted, enable_bit}
-use Rattle.fitter.proofs.WantedIds.{enable_is, sound_id_at, wanted_is}
-use Rattle.fit_plans.specs.Forms.{rows_are_positive}
-use Rattle.fitter.specs.Width.{IsFunctionTooWide}
 use Rattle.fitter.proofs.Widths.{cell_low}
 use Rattle.fitter.specs.Products.{IsProduct}
 use Rattle.compile_phases.specs.Fits.{HasRoom}
-use Rattle.decompiler.specs.Bounds.{IsShort}
-use Rattle.decompiled.specs.declared.literal.PinLiteral.{PinLiteral}
-use Rattle.decompiled_logic.specs.SumFormulas.{sum_formula}
-use Rattle.decompiled.specs.Sources.{control_products, has_lines, live_rows, product_of}
-use Rattle.decompiled_logic.specs.Alike.{IsCellAsked, IsFusesNetlist, enable_formula}
-use Rattle.decompiler.specs.ShortSums.{ReadNoNode}
 use Rattle.decompiler.proofs.FormsRead.{IsAskedAs, form_said, may_be, positive}
 use Rattle.decompiler.proofs.ShortSums.{short_sums}
 

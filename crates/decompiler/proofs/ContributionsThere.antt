@@ -1,36 +1,9 @@
 -- There is what a decompiled source contributes: its lines, each at its target, over an arena of their formulas.
 use Rattle.std.proofs.Common.{◌≡◌, ℕ, ◌<◌, Bool, false, None, List, [], ◌∷◌, length, map, refl, sym, ap, ap₂, ◌∙◌, arith, append-nil}
-use Rattle.std.specs.List.{AllByRecursion}
-use Rattle.std.proofs.lemmas.List.Elements.{All-from_recursion}
-use Rattle.pld_base.specs.declared.place.Place.{Place}
-use Rattle.pld_device.specs.Laws.{IsDevice}
-use Rattle.pld_device.specs.Table.{Table}
-use Rattle.bit_expr.specs.declared.node.ExprId.{ExprId}
-use Rattle.bit_expr.specs.declared.node.Leaf.{Leaf}
-use Rattle.bit_expr.specs.Arena.{arena, formula_at}
-use Rattle.bit_expr.specs.Formulas.{Formula}
-use Rattle.decompiler.specs.Held.{IsHeld}
+use Rattle.decompiler.proofs.Common.{AllByRecursion, All-from_recursion, Place, IsDevice, Table, ExprId, Leaf, arena, formula_at, Formula, IsHeld, ModuleTree, Design, design_of, Contribution, Contributions, view_contribution, units_nodes, AreContributed, source_units, sections_places, statements_places, statements_of, PinLiteral, SumLine, IsSourceTree, line_gives, sum_formula, lines_of, source_of, leaf_of, signal_of, given_is}
 use Rattle.decompiler.proofs.Holding.{arenas_there}
-use Rattle.abel_tree.specs.Tree.{ModuleTree}
 use Rattle.abel_meaning.specs.Contributions as meant
-use Rattle.abel_meaning.specs.Designs.{Design, design_of}
-use Rattle.set_expr.specs.declared.contributions.Contribution.{Contribution}
-use Rattle.set_expr.specs.declared.contributions.Contributions.{Contributions}
 use Rattle.set_expr.specs.declared.contributions.Gives.TheVariants as gives
-use Rattle.set_expr.specs.Given.{view_contribution}
-use Rattle.section_targets.specs.Units.{units_nodes}
-use Rattle.source_sections.specs.SectionAnswers.{AreContributed, source_units}
-use Rattle.source_sections.specs.SectionUnits.{sections_places}
-use Rattle.equations.specs.StatementUnits.{statements_places}
-use Rattle.abel_tree.specs.Tree.{statements_of}
-use Rattle.decompiled.specs.declared.literal.PinLiteral.{PinLiteral}
-use Rattle.decompiled.specs.declared.sum_line.SumLine.{SumLine}
-use Rattle.decompiled.specs.SourceTrees.{IsSourceTree}
-use Rattle.decompiled_logic.specs.LineGives.{line_gives}
-use Rattle.decompiled_logic.specs.SumFormulas.{sum_formula}
-use Rattle.decompiled.specs.Sources.{lines_of, source_of}
-use Rattle.decompiled_logic.specs.Signals.{leaf_of, signal_of}
-use Rattle.decompiled_logic.proofs.SourceReads.{given_is}
 use Rattle.decompiler.proofs.UnrefusedSections.{good_lines, sections_are, sections_pass, units_are}
 use Rattle.decompiler.specs.Contributions.{ContributionsAreThere}
 use Rattle.decompiler.proofs.PaidLines.{HavePlaces, lines_paid, lines_placed}

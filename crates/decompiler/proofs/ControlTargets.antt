@@ -1,28 +1,9 @@
 -- A control of a cell that is there has a first target among the contributions.
 use Rattle.std.proofs.Common.{◌≡◌, ℕ, suc, ◌&&◌, List, [], ◌∷◌, filter, map, Option, Some, None, refl, sym, subst, inl, inr}
-use Rattle.std.specs.List.{AllByRecursion}
-use Rattle.std.specs.Option.{option_map}
-use Rattle.std.proofs.lemmas.Bool.{cases_Bool}
-use Rattle.pld_base.specs.declared.place.Place.{Place}
-use Rattle.pld_device.specs.declared.enable.Enable.{Enable}
-use Rattle.pld_device.specs.declared.enable.Enable.TheVariants.{Row, PinLow}
-use Rattle.pld_device.specs.Table.{cell_at}
-use Rattle.bit_expr.specs.Formulas.{Formula}
-use Rattle.abel_tree.specs.declared.words.Extension.{Extension}
+use Rattle.decompiler.proofs.Common.{AllByRecursion, option_map, cases_Bool, Place, Enable, Row, PinLow, cell_at, Formula, Extension, Entry, is_stored, control_by, control_if_stored, control_of, is_control, is_the_control, Design, formulas, Wanted, given_formulas, Contribution, Contributions, given, view_contribution, first_target, target_place, and_cell, by_row, cell_of, cells_from, wanted_for}
 use Rattle.abel_tree.specs.declared.words.Extension.TheVariants as extension
-use Rattle.abel_tree.specs.Entries.{Entry, is_stored}
 use Rattle.abel_meaning.specs.Contributions as meant
-use Rattle.abel_meaning.specs.Controls.{control_by, control_if_stored, control_of, is_control, is_the_control}
-use Rattle.abel_meaning.specs.Designs.{Design}
-use Rattle.abel_meaning.specs.FormulaBits.{formulas}
-use Rattle.abel_meaning.specs.Netlists.{Wanted}
-use Rattle.abel_meaning.specs.SignalReads.{given_formulas}
-use Rattle.set_expr.specs.declared.contributions.Contribution.{Contribution}
-use Rattle.set_expr.specs.declared.contributions.Contributions.{Contributions}
-use Rattle.set_expr.specs.Given.{given, view_contribution}
-use Rattle.gathering.specs.Amounts.{first_target, target_place}
 use Rattle.gathering.specs.Parts.{is_to}
-use Rattle.netlist_laws.specs.Gathered.{and_cell, by_row, cell_of, cells_from, wanted_for}
 
 -- there is a first target, at some place
 abbrev pub IsTargeted : List Contribution → ℕ → Extension → Type 0

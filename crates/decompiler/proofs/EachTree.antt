@@ -1,13 +1,8 @@
 -- What holds of the tree of each sum, where it holds of numbers and names, and of what is made of them.
 use Rattle.std.proofs.Common.{ℕ, ◌<◌, Bool, true, false, List, [], ◌∷◌, sym, subst, arith}
-use Rattle.std.specs.List.{AllByRecursion}
-use Rattle.pld_base.specs.declared.place.Place.{Place}
+use Rattle.decompiler.proofs.Common.{AllByRecursion, Place, Tree, ANumber, AName, AUnary, ABinary, PinLiteral, q_if, name_text, word, IsLiteral, IsNumber, IsProduct, IsSigned, IsSum, IsJoined}
 use Rattle.abel_tree.specs.declared.words.Unary.TheVariants as unary
 use Rattle.abel_tree.specs.declared.words.Binary.TheVariants as binary
-use Rattle.abel_tree.specs.Tree.{Tree, ANumber, AName, AUnary, ABinary}
-use Rattle.decompiled.specs.declared.literal.PinLiteral.{PinLiteral}
-use Rattle.decompiled.specs.SourceText.{q_if, name_text}
-use Rattle.decompiled.specs.SourceTrees.{word, IsLiteral, IsNumber, IsProduct, IsSigned, IsSum, IsJoined}
 
 -- where K holds of each literal
 pub record HoldsBySteps (K : PinLiteral → Type 0) (P : Tree → Type 0) : Type 0 where

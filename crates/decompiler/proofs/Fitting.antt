@@ -1,29 +1,9 @@
 -- A netlist of a decompiled source fits as it is written.
 use Rattle.std.proofs.Common.{◌≡◌, Bool, true, false, List, Option, Some, None, refl, sym, subst, ◌∙◌, inl, inr}
 use Rattle.std.specs.Prelude.{if◌then◌else◌, unwrap_or}
-use Rattle.pld_device.specs.Laws.{IsDevice}
-use Rattle.pld_device.specs.Table.{Table}
-use Rattle.bit_expr.specs.declared.netlist.Control.{Control}
-use Rattle.bit_expr.specs.declared.netlist.Netlist.{Netlist}
-use Rattle.bit_expr.specs.declared.node.Leaf.{Leaf}
+use Rattle.decompiler.proofs.Common.{IsDevice, Table, Control, Netlist, Leaf, ModuleTree, cell_on, plain_netlist, IsSoundNetlist, Preset, Reset, IsControlTooWide, NoneWide, bit_list, IsNetlistOf, IsNoNode, PinLiteral, IsSourceTree, source_of, IsFusesNetlist, leaf_of, netlists_of_fuses, ReadNoNode}
 use Rattle.bit_expr.specs.declared.node.Leaf.TheVariants as leaf
-use Rattle.abel_tree.specs.Tree.{ModuleTree}
-use Rattle.pld_device.specs.Pins.{cell_on}
-use Rattle.abel_meaning.specs.Netlists.{plain_netlist}
-use Rattle.abel_meaning.specs.SoundIds.{IsSoundNetlist}
-use Rattle.fitter.specs.declared.shared.SharedControl.TheVariants.{Preset, Reset}
-use Rattle.fitter.specs.Width.{IsControlTooWide, NoneWide}
-use Rattle.sop_lowering.specs.Written.{bit_list}
-use Rattle.compile_phases.specs.SourceRefusals.{IsNetlistOf}
-use Rattle.decompiler.specs.Bounds.{IsNoNode}
-use Rattle.decompiled.specs.declared.literal.PinLiteral.{PinLiteral}
-use Rattle.decompiled.specs.SourceTrees.{IsSourceTree}
-use Rattle.decompiled.specs.Sources.{source_of}
-use Rattle.decompiled_logic.specs.Alike.{IsFusesNetlist}
-use Rattle.decompiled_logic.specs.Signals.{leaf_of}
-use Rattle.decompiled_logic.proofs.FusesNetlists.{netlists_of_fuses}
 use Rattle.decompiler.specs.Fit.{FusesNetlistsFit, NetlistFits, SourcesAreNarrow, SourcesFit}
-use Rattle.decompiler.specs.ShortSums.{ReadNoNode}
 use Rattle.decompiler.proofs.CellRooms.{enable_one, room, room_narrow, some_is_none}
 use Rattle.decompiler.proofs.SharedRows.{is_shared, own_narrow}
 

@@ -1,11 +1,6 @@
 -- In the form that the fuses say, the rows of a cell have what its line assigns.
 use Rattle.std.proofs.Common.{◌≡◌, Bool, true, false, not, ◌||◌, refl, ap, ◌∙◌}
-use Rattle.pld_base.specs.Bits.{same_level}
-use Rattle.pld_device.specs.declared.flip.Flip.{Flip}
-use Rattle.pld_device.specs.declared.flip.Flip.TheVariants.{Always, AfterRegister, BeforeRegister}
-use Rattle.pld_device.specs.Macrocells.{complement_if, pin_complements}
-use Rattle.bit_expr.specs.declared.netlist.CellWanted.{CellWanted}
-use Rattle.fit_plans.specs.Forms.{may_be_inverted_as, names_or, or_is_complement, rows_are_positive}
+use Rattle.decompiler.proofs.Common.{same_level, Flip, Always, AfterRegister, BeforeRegister, complement_if, pin_complements, CellWanted, may_be_inverted_as, names_or, or_is_complement, rows_are_positive}
 
 -- the form of a cell whose fuse says inverted, or doesn't; a device that always complements has no such fuse
 abbrev pub form_said : Flip → (inverted : Bool) → Bool

@@ -1,18 +1,10 @@
 -- Nothing is refused of sums over signals, and each is a number or one bit.
 use Rattle.std.proofs.Common.{◌≡◌, false, Option, Some, List, [], ◌++◌, refl, ap, ◌∙◌}
-use Rattle.pld_base.specs.declared.place.Place.{Place}
+use Rattle.decompiler.proofs.Common.{Place, Tree, Shape, Number, Single, Set, Value, meeting, binary_value, plain_value, unary_value, SectionFault, NameFound, found_of, found_value, name_found, one_position, Found, found_both, found_under, operands_refused, specials_refused, unequal, unless_refused, value_of_both, value_or_none, PinLiteral, name_text}
 use Rattle.abel_tree.specs.declared.words.Unary.TheVariants as unary
 use Rattle.abel_tree.specs.declared.words.Binary.{Binary}
 use Rattle.abel_tree.specs.declared.words.Binary.TheVariants as binary
-use Rattle.abel_tree.specs.Tree.{Tree}
-use Rattle.abel_meaning.specs.Numbers.{Shape, Number, Single, Set, Value, meeting}
-use Rattle.abel_meaning.specs.Values.{binary_value, plain_value, unary_value}
-use Rattle.set_expr.specs.declared.fault.SectionFault.{SectionFault}
-use Rattle.set_expr.specs.FoundNames.{NameFound, found_of, found_value, name_found, one_position}
-use Rattle.set_expr.specs.Refusals.{Found, found_both, found_under, operands_refused, specials_refused, unequal, unless_refused, value_of_both, value_or_none}
 use Rattle.section_targets.specs.ValueWidths.{value_refused, value_width, wrong_width}
-use Rattle.decompiled.specs.declared.literal.PinLiteral.{PinLiteral}
-use Rattle.decompiled.specs.SourceText.{name_text}
 use Rattle.decompiler.proofs.EachTree.{HoldsBySteps}
 use Rattle.decompiler.proofs.PlainNames.{IsSignalFound, use_found}
 

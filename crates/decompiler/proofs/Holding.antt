@@ -1,13 +1,9 @@
 -- Each formula is written behind the others, node by node.
 use Rattle.std.proofs.Common.{◌≡◌, ℕ, zero, suc, ◌+◌, ◌-◌, ◌<◌, ◌≤◌, true, false, List, [], ◌∷◌, ◌++◌, length, map, get_or, refl, sym, ap, subst, ◌∙◌, arith, length-append}
-use Rattle.std.specs.List.{AllByRecursion}
-use Rattle.bit_expr.specs.declared.node.ExprId.{ExprId}
+use Rattle.decompiler.proofs.Common.{AllByRecursion, ExprId, arena, constants, formula_at, formula_of, formulas_from, Formula, Const, Read, Not, And, Or, Xor, nodes_of, all_nodes_of, ArenasAreThere}
 use Rattle.bit_expr.specs.declared.node.Leaf.TheVariants as leaf
 use Rattle.bit_expr.specs.declared.node.Node.{Node}
 use Rattle.bit_expr.specs.declared.node.Node.TheVariants as node
-use Rattle.bit_expr.specs.Arena.{arena, constants, formula_at, formula_of, formulas_from}
-use Rattle.bit_expr.specs.Formulas.{Formula, Const, Read, Not, And, Or, Xor}
-use Rattle.decompiler.specs.Held.{nodes_of, all_nodes_of, ArenasAreThere}
 
 -- ---- lists
 

@@ -1,21 +1,7 @@
 -- Where a device always inverts, no register of a decompiled source is declared `buffer`.
 use Rattle.std.proofs.Common.{◌≡◌, ℕ, suc, Bool, true, false, not, Option, None, Some, List, [], ◌∷◌, ◌++◌, slice_get, refl, sym, ap, ◌∙◌}
 use Rattle.std.specs.Prelude.{◌==◌}
-use Rattle.std.proofs.lemmas.Bool.{and_parts}
-use Rattle.pld_device.specs.declared.flip.Flip.{Flip}
-use Rattle.pld_device.specs.declared.flip.Flip.TheVariants.{Always, AfterRegister, BeforeRegister}
-use Rattle.pld_device.specs.Macrocells.{pin_complements}
-use Rattle.pld_device.specs.Registers.{is_inverted}
-use Rattle.pld_device.specs.Table.{Table}
-use Rattle.pld_base.specs.declared.place.Place.{Place}
-use Rattle.abel_tree.specs.Entries.{Entry}
-use Rattle.abel_tree.specs.Tree.{Declaration}
-use Rattle.abel_meaning.specs.Declarations.{GivenName, all_said}
-use Rattle.decls.specs.NameRefusals.{all_buffered, always_inverts, buffered}
-use Rattle.decls.specs.NamesBefore.{names_behind}
-use Rattle.decompiled.specs.declared.pin_line.PinLine.{PinLine}
-use Rattle.decompiled.specs.SourceTrees.{attributes_in, IsPinLine, ArePins}
-use Rattle.decompiled.specs.Sources.{follows_by, pin_line, register_on}
+use Rattle.decompiler.proofs.Common.{and_parts, Flip, Always, AfterRegister, BeforeRegister, pin_complements, is_inverted, Table, Place, Entry, Declaration, GivenName, all_said, all_buffered, always_inverts, buffered, names_behind, PinLine, attributes_in, IsPinLine, ArePins, follows_by, pin_line, register_on}
 
 complements_always : (flip : Flip) (inverted : Bool) → pin_complements flip true false ≡ true → pin_complements flip true inverted ≡ true
 complements_always Always inverted is = refl

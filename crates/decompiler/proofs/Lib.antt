@@ -3,6 +3,7 @@ pub mod BuiltCells
 pub mod BuiltNetlists
 pub mod CellChains
 pub mod CellRooms
+pub mod Common
 pub mod ContributionsThere
 pub mod ControlTargets
 pub mod EachTree
@@ -29,7 +30,6 @@ pub mod PairLiterals
 pub mod PinTargets
 pub mod PlainNames
 pub mod Ranges
-pub mod ReadLeaves
 pub mod ReadTexts
 pub mod ReadUses
 pub mod RightSources

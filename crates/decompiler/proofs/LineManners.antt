@@ -1,36 +1,10 @@
 -- How a line of a decompiled source assigns its signal: as its cell asks, and in one way alone.
 use Rattle.std.proofs.Common.{◌≡◌, ℕ, zero, suc, ◌<◌, inl, inr, Bool, true, false, if◌then◌else◌, Option, Some, None, List, [], ◌∷◌, length, get_or, refl, sym, ap, subst, ◌∙◌, arith, eq-eqb, eqb-true}
 use Rattle.std.specs.Prelude.{◌==◌, ◌&&◌, ◌||◌}
-use Rattle.std.specs.List.{AllByRecursion, list_any}
-use Rattle.std.proofs.lemmas.Bool.{and_parts, cases_Bool, or_left, or_right}
-use Rattle.pld_base.specs.declared.place.Place.{Place}
-use Rattle.pld_device.specs.declared.cell.Cell.{Cell}
-use Rattle.pld_device.specs.Laws.{IsDevice}
-use Rattle.pld_device.specs.Registers.{stores}
-use Rattle.pld_device.specs.Table.{Table, cell_at, no_cell}
-use Rattle.pld_device.proofs.OwnPins.{own_pins}
-use Rattle.bit_expr.specs.Formulas.{differ}
-use Rattle.abel_tree.specs.declared.words.Extension.{Extension}
+use Rattle.decompiler.proofs.Common.{AllByRecursion, list_any, and_parts, cases_Bool, or_left, or_right, Place, Cell, IsDevice, stores, Table, cell_at, no_cell, own_pins, differ, Extension, Kind, APin, Entry, is_stored, Tree, ModuleTree, is_data, is_raw, Design, design_of, targets_of, Term, extended_if, term_named, term_of, name_found, names_found, found_value, one_position, Found, Manner, differs_from, first_manner, is_against_kind, is_cell_pin, is_output, is_output_kind, is_same_part, may_be_assigned, part_of, TargetFound, left_side, start_of, target_use, SumLine, name_text, word, IsNamed, IsSourceTree, source_of, signal_of, IsDeclared, IsDeclaredLine, own_signal, known_is, cell_name, name}
 use Rattle.abel_tree.specs.declared.words.Extension.TheVariants as extension
-use Rattle.abel_tree.specs.Entries.{Kind, APin, Entry, find, is_stored}
-use Rattle.abel_tree.specs.Tree.{Tree, ModuleTree}
-use Rattle.abel_tree.specs.Extensions.{is_data, is_raw}
-use Rattle.abel_meaning.specs.Designs.{Design, design_of}
-use Rattle.abel_meaning.specs.Targets.{targets_of}
-use Rattle.abel_meaning.specs.Terms.{Term, Read, extended_if, term_named, term_of}
-use Rattle.set_expr.specs.FoundNames.{name_found, names_found, found_value, one_position}
-use Rattle.set_expr.specs.Refusals.{Found}
-use Rattle.section_targets.specs.declared.manner.Manner.{Manner}
-use Rattle.section_targets.specs.Manners.{differs_from, first_manner, is_against_kind, is_cell_pin, is_output, is_output_kind, is_same_part, may_be_assigned, part_of}
-use Rattle.section_targets.specs.TargetSignals.{TargetFound, left_side, start_of, target_use}
-use Rattle.decompiled.specs.declared.sum_line.SumLine.{SumLine}
-use Rattle.decompiled.specs.SourceText.{name_text}
-use Rattle.decompiled.specs.SourceTrees.{word, IsNamed, IsSourceTree}
-use Rattle.decompiled.specs.Sources.{source_of}
-use Rattle.decompiled_logic.specs.Signals.{signal_of}
-use Rattle.decompiled_logic.proofs.SourcePins.{IsDeclared, IsDeclaredLine, own_signal}
-use Rattle.decompiled_logic.proofs.SourceNames.{known_is}
-use Rattle.decompiled_logic.proofs.PinWords.{cell_name, name}
+use Rattle.abel_tree.specs.Entries.{find}
+use Rattle.abel_meaning.specs.Terms.{Read}
 use Rattle.decompiler.proofs.OwnLines.{IsOwnLine}
 use Rattle.decompiler.proofs.PlainNames.{pin_found, use_found}
 

@@ -1,13 +1,6 @@
 -- What the contributions of a decompiled source are: each is one of its lines.
 use Rattle.std.proofs.Common.{◌≡◌, ℕ, List, [], ◌∷◌, map}
-use Rattle.std.specs.List.{AllByRecursion}
-use Rattle.bit_expr.specs.declared.node.Leaf.{Leaf}
-use Rattle.bit_expr.specs.Formulas.{Formula}
-use Rattle.set_expr.specs.declared.contributions.Contribution.{Contribution}
-use Rattle.set_expr.specs.Given.{view_contribution}
-use Rattle.decompiled.specs.declared.literal.PinLiteral.{PinLiteral}
-use Rattle.decompiled.specs.declared.sum_line.SumLine.{SumLine}
-use Rattle.decompiled_logic.specs.LineGives.{line_gives}
+use Rattle.decompiler.proofs.Common.{AllByRecursion, Leaf, Formula, Contribution, view_contribution, PinLiteral, SumLine, line_gives}
 
 module _ (signal_of : ℕ → ℕ) (leaf_of : PinLiteral → Leaf) (Good : SumLine → Type 0) (fs : List Formula) where
   -- it is that of a good line

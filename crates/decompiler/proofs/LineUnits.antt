@@ -1,36 +1,10 @@
 -- Nothing is refused of a line of a decompiled source: neither of its target nor of its sum.
 use Rattle.std.proofs.Common.{◌≡◌, ℕ, ◌≤◌, Bool, true, false, if◌then◌else◌, List, [], ◌∷◌, ◌++◌, length, map, refl, sym, ap, ◌∙◌, arith, append-nil}
 use Rattle.std.specs.Prelude.{◌||◌}
-use Rattle.std.specs.List.{AllByRecursion}
-use Rattle.pld_base.specs.declared.place.Place.{Place}
-use Rattle.pld_device.specs.Laws.{IsDevice}
-use Rattle.pld_device.specs.Table.{Table}
-use Rattle.bit_expr.specs.Formulas.{Const}
+use Rattle.decompiler.proofs.Common.{AllByRecursion, Place, IsDevice, Table, Const, Tree, AName, Statement, AnAssign, ModuleTree, guard_nodes, value_nodes, Design, design_of, bits_of, formulas, targets_of, term_of, SectionFault, MixedAssignment, expression_found, names_found, Manner, is_against_kind, mixed, no_output, TargetFound, left_side, CountedUnit, assign_refused, assigned_aims, assigned_manners, statement_manners, statement_places, units_of_statement, PinLiteral, SumLine, name_text, word, IsLine, IsSourceTree, source_of, each_weaker, signal_of, IsDeclaredLiteral, known_is}
 use Rattle.abel_tree.specs.declared.words.Sign.TheVariants as sign
-use Rattle.abel_tree.specs.Tree.{Tree, AName, Statement, AnAssign, ModuleTree}
-use Rattle.abel_meaning.specs.CountedNodes.{guard_nodes, value_nodes}
-use Rattle.abel_meaning.specs.Designs.{Design, design_of}
-use Rattle.abel_meaning.specs.FormulaBits.{bits_of, formulas}
-use Rattle.abel_meaning.specs.Targets.{targets_of}
-use Rattle.abel_meaning.specs.Terms.{term_of}
-use Rattle.set_expr.specs.declared.fault.SectionFault.{SectionFault}
-use Rattle.set_expr.specs.declared.fault.SectionFault.TheVariants.{MixedAssignment}
-use Rattle.set_expr.specs.FoundNames.{expression_found, names_found}
 use Rattle.section_targets.specs.declared.aim.Aim.{Aim}
-use Rattle.section_targets.specs.declared.manner.Manner.{Manner}
-use Rattle.section_targets.specs.Manners.{aims_refused, is_against_kind, mixed, no_output}
-use Rattle.section_targets.specs.TargetSignals.{TargetFound, left_side}
-use Rattle.section_targets.specs.Units.{CountedUnit}
-use Rattle.equations.specs.StatementUnits.{assign_refused, assigned_aims, assigned_manners, statement_manners, statement_places, units_of_statement}
-use Rattle.decompiled.specs.declared.literal.PinLiteral.{PinLiteral}
-use Rattle.decompiled.specs.declared.sum_line.SumLine.{SumLine}
-use Rattle.decompiled.specs.SourceText.{name_text}
-use Rattle.decompiled.specs.SourceTrees.{word, IsLine, IsSourceTree}
-use Rattle.decompiled.specs.Sources.{source_of}
-use Rattle.decompiled.proofs.Each.{each_weaker}
-use Rattle.decompiled_logic.specs.Signals.{signal_of}
-use Rattle.decompiled_logic.proofs.SourcePins.{IsDeclaredLiteral}
-use Rattle.decompiled_logic.proofs.SourceNames.{known_is}
+use Rattle.section_targets.specs.Manners.{aims_refused}
 use Rattle.decompiler.proofs.EachTree.{sum_holds}
 use Rattle.decompiler.proofs.FoundBits.{IsFoundBit, IsFoundPin, IsFoundTree, found_steps, value_passes}
 use Rattle.decompiler.proofs.PlainNames.{pin_found}

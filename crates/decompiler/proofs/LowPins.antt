@@ -1,17 +1,7 @@
 -- Each pin of a device's source is below 32.
 use Rattle.std.proofs.Common.{ℕ, ◌<◌, Bool, List, length, sym, subst, arith}
-use Rattle.std.specs.List.{AllByRecursion, list_any, range_with_len}
-use Rattle.pld_device.specs.declared.carry.Carry.{Carry}
+use Rattle.decompiler.proofs.Common.{AllByRecursion, list_any, range_with_len, Carry, IsPair, IsDevice, Table, cell_at, no_cell, PinLiteral, PinLine, SumLine, IsLow, IsLowProduct, IsLowLine, HasLowPins, named_by, lines_of, names_pin, pin_line, source_of, each_filter, each_map, each_in_range, each_weaker, IsPairLiteral, IsCellLine, lines_on}
 use Rattle.pld_device.specs.declared.carry.Carry.TheVariants as carry
-use Rattle.pld_device.specs.Laws.{IsPair, IsDevice}
-use Rattle.pld_device.specs.Table.{Table, cell_at, no_cell}
-use Rattle.decompiled.specs.declared.literal.PinLiteral.{PinLiteral}
-use Rattle.decompiled.specs.declared.pin_line.PinLine.{PinLine}
-use Rattle.decompiled.specs.declared.sum_line.SumLine.{SumLine}
-use Rattle.decompiled.specs.Reading.{IsLow, IsLowProduct, IsLowLine, HasLowPins}
-use Rattle.decompiled.specs.Sources.{named_by, lines_of, names_pin, pin_line, source_of}
-use Rattle.decompiled.proofs.Each.{each_filter, each_map, each_in_range, each_weaker}
-use Rattle.decompiled.proofs.SourceLines.{IsPairLiteral, IsCellLine, lines_on}
 
 module _ (t : Table) (fuses : List Bool) (laws : IsDevice t) where
   cell_low : (c : ℕ) → c < length t.cells → IsLow (cell_at t c).pin

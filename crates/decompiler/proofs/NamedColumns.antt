@@ -1,30 +1,10 @@
 -- A row reads the cell of each leaf that the formula of its product names.
 use Rattle.std.proofs.Common.{◌≡◌, ℕ, zero, suc, ◌+◌, ◌<◌, ◌≤◌, ◌⊎◌, inl, inr, Bool, true, false, not, if◌then◌else◌, List, [], ◌∷◌, length, filter, fold, map, refl, sym, ap, ◌∙◌, arith, eqb-true, eq-eqb}
 use Rattle.std.specs.Prelude.{◌==◌, ◌&&◌, ◌||◌}
-use Rattle.std.specs.List.{AllByRecursion, list_any, range_with_len}
-use Rattle.std.proofs.lemmas.Bool.{not-true, or_cases, or_left, or_right, true≢false}
-use Rattle.pld_device.specs.declared.carry.Carry.{Carry}
+use Rattle.decompiler.proofs.Common.{AllByRecursion, list_any, range_with_len, not-true, or_cases, or_left, or_right, true≢false, Carry, IsPair, IsDevice, data_rows, is_never_true, row_reads, stores, Table, cell_at, no_cell, own_pins, Leaf, Made, make_and, make_or, Formula, Read, Not, names, same_leaf, carries_cell, pairs_read, row_reads_cell, PinLiteral, literal_formula, product_formula, sum_formula, ColumnLiteral, row_literals, some_read, control_products, live_rows, named, product_of, HasRowSizes, pair_leaf, leaf_of, reads_pairs}
 use Rattle.pld_device.specs.declared.carry.Carry.TheVariants as carry
-use Rattle.pld_device.specs.Laws.{IsPair, IsDevice}
-use Rattle.pld_device.specs.Macrocells.{data_rows}
-use Rattle.pld_device.specs.Reads.{is_never_true, row_reads}
-use Rattle.pld_device.specs.Registers.{stores}
-use Rattle.pld_device.specs.Table.{Table, cell_at, no_cell}
-use Rattle.pld_device.proofs.OwnPins.{own_pins}
-use Rattle.bit_expr.specs.declared.node.Leaf.{Leaf}
 use Rattle.bit_expr.specs.declared.node.Leaf.TheVariants as leaf
-use Rattle.bit_expr.specs.Folding.{Made, make_and, make_or}
-use Rattle.bit_expr.specs.Formulas.{Formula, Read, Not, names, same_leaf}
-use Rattle.pld_device.specs.Pins.{carries_cell}
-use Rattle.device_logic.specs.CellReads.{pairs_read, row_reads_cell}
-use Rattle.decompiled.specs.declared.literal.PinLiteral.{PinLiteral}
-use Rattle.decompiled_logic.specs.SumFormulas.{literal_formula, product_formula, sum_formula}
-use Rattle.decompiled.specs.RowLiterals.{ColumnLiteral, row_literals, some_read}
-use Rattle.decompiled.specs.Sources.{control_products, live_rows, named, product_of}
 use Rattle.decompiled.proofs.PairReads.{reads}
-use Rattle.decompiled_logic.specs.RowSums.{HasRowSizes, pair_leaf}
-use Rattle.decompiled_logic.specs.Signals.{leaf_of}
-use Rattle.decompiled_logic.proofs.SourceReads.{reads_pairs}
 use Rattle.decompiler.proofs.SmallBits.{and_gives, or_gives}
 use Rattle.decompiler.proofs.PairColumns.{IsDevicePair, row_pairs}
 

@@ -1,18 +1,10 @@
 -- Nothing is refused of the text of a device's fuses.
 use Rattle.std.proofs.Common.{◌≡◌, ◌≢◌, Some, Result, Ok, Err, refl, ap, ◌∙◌}
-use Rattle.pld_base.specs.declared.device_name.DeviceName.{DeviceName}
-use Rattle.pld_base.specs.declared.device_name.DeviceName.TheVariants.{P16L8, P16R4, P16R6, P16R8, GAL22V10, GAL16V8C, GAL16V8R4, GAL16V8R6, GAL16V8R8}
-use Rattle.pld_device.specs.Table.{Table}
-use Rattle.devices.specs.DeviceLaws.{table_sound}
-use Rattle.devices.specs.Devices.{table_of}
+use Rattle.decompiler.proofs.Common.{DeviceName, P16L8, P16R4, P16R6, P16R8, GAL22V10, GAL16V8C, GAL16V8R4, GAL16V8R6, GAL16V8R8, Table, table_sound, table_of, decompiled_text, SourcesAreRight, IsDecompiled, DecompiledTextsAreAccepted, DecompiledTextsAreShort, DecompiledTextsCompile, IsAnswered}
 use Rattle.compile_phases.specs.declared.fault.CompileFault.{CompileFault}
 use Rattle.compile_phases.specs.declared.fault.CompileFault.TheVariants.{Source, Place, Fit, OutOfMemory}
 use Rattle.abel_compile.specs.declared.compiled.Compiled.{Compiled}
-use Rattle.decompiled.specs.Sources.{decompiled_text}
-use Rattle.decompiler.specs.Right.{SourcesAreRight}
-use Rattle.decompiler.specs.Reading.{IsDecompiled}
 use Rattle.decompiler.proofs.ReadTexts.{is_decompiled}
-use Rattle.decompiler.specs.Compiling.{DecompiledTextsAreAccepted, DecompiledTextsAreShort, DecompiledTextsCompile, IsAnswered}
 use Rattle.decompiler.proofs.TextSizes.{text_short}
 
 -- a device's table has its name

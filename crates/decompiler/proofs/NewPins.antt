@@ -1,26 +1,12 @@
 -- Nothing is refused of the declarations of a source whose pins are apart and are signal pins.
 use Rattle.std.proofs.Common.{◌≡◌, ℕ, suc, ◌<◌, inl, inr, Bool, true, false, Option, None, Some, List, [], ◌∷◌, ◌++◌, length, slice_get, refl, sym, ap, subst, ◌∙◌, arith, append-nil, append_assoc}
 use Rattle.std.specs.Prelude.{◌==◌, ◌||◌, bytes_eq, drop, fold}
-use Rattle.std.proofs.lemmas.Bool.{cases_Bool, lt-ltb, ne_eqb, or_from}
+use Rattle.decompiler.proofs.Common.{cases_Bool, lt-ltb, ne_eqb, or_from, bytes_eq-Decides, Place, IsSignalPin, Table, APin, Entry, Words, kind_of, Declaration, SomePins, all_said, declared, entry, no_words, NameFault, added, is_on_pin, is_taken, names_behind, declaration_refused, declarations_refused, given_count, is_signal_pin, name_refused, names_refused, parts_refused, PinLine, name_text, attributes_in, word, IsPinLine, ArePins, said, ArePinEntries, ArePinsApart}
 use Rattle.std.proofs.lemmas.List.Folds.{list_any-append}
 use Rattle.std.proofs.lemmas.List.Sums.{fold-append}
 use Rattle.std.proofs.lemmas.Fmt.{decimal_injective}
-use Rattle.std.proofs.lemmas.Slice.Eq.{bytes_eq-Decides}
 use Rattle.std.proofs.Math.Seq.{drop-append_seam}
-use Rattle.pld_base.specs.declared.place.Place.{Place}
-use Rattle.pld_device.specs.Laws.{IsSignalPin}
-use Rattle.pld_device.specs.Table.{Table}
-use Rattle.abel_tree.specs.Entries.{APin, Entry, Words, kind_of}
-use Rattle.abel_tree.specs.Tree.{Declaration, SomePins}
-use Rattle.abel_meaning.specs.Declarations.{all_said, declared, entry, no_words}
-use Rattle.decls.specs.declared.fault.NameFault.{NameFault}
 use Rattle.decls.specs.Attributes.{strings_refused}
-use Rattle.decls.specs.NamesBefore.{added, is_on_pin, is_taken, names_behind}
-use Rattle.decls.specs.Refused.{declaration_refused, declarations_refused, given_count, is_signal_pin, name_refused, names_refused, parts_refused}
-use Rattle.decompiled.specs.declared.pin_line.PinLine.{PinLine}
-use Rattle.decompiled.specs.SourceText.{name_text}
-use Rattle.decompiled.specs.SourceTrees.{attributes_in, word, IsPinLine, ArePins}
-use Rattle.decompiled_logic.specs.PinNames.{said, ArePinEntries, ArePinsApart}
 
 pub signal_pin_passes : (t : Table) (pin : ℕ) → IsSignalPin t pin → is_signal_pin t pin ≡ true
 signal_pin_passes t pin is =

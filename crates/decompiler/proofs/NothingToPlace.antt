@@ -1,26 +1,11 @@
 -- A decompiled source gives each pin its number and declares no node, so it has nothing to place.
 use Rattle.std.proofs.Common.{◌≡◌, ℕ, suc, ◌≤◌, Bool, false, Some, List, [], ◌∷◌, slice_get, take, refl, ap, ◌∙◌, arith, codes}
 use Rattle.std.specs.Prelude.{◌&&◌, if◌then◌else◌}
-use Rattle.std.proofs.lemmas.Bool.{and_right, ne_eqb, or_from}
-use Rattle.pld_base.specs.declared.place.Place.{Place}
-use Rattle.pld_device.specs.Laws.{IsDevice}
-use Rattle.pld_device.specs.Table.{Table}
-use Rattle.abel_tree.specs.Assigned.{Assigned}
-use Rattle.abel_tree.specs.Entries.{APin, ADeviceName, Entry}
-use Rattle.abel_tree.specs.Tree.{ModuleTree}
-use Rattle.abel_meaning.specs.Declarations.{entry, no_words, is_unnumbered}
+use Rattle.decompiler.proofs.Common.{and_right, ne_eqb, or_from, Place, IsDevice, Table, Assigned, APin, ADeviceName, Entry, ModuleTree, entry, no_words, is_unnumbered, is_buffer_by_default, names_of, with_kind, with_kinds, is_registered_node, PinLine, name_text, IsSourceTree, said, IsPinEntry, ArePinEntries, source_of, found, held}
 use Rattle.abel_meaning.specs.Held.{Holds}
-use Rattle.abel_meaning.specs.Kinds.{is_buffer_by_default, names_of, with_kind, with_kinds}
-use Rattle.design_checks.specs.SignalsRefused.{is_registered_node}
 use Rattle.placer.specs.Signals.{is_buried_register, needs_pin, to_place, to_place_from}
 use Rattle.placer.proofs.MadeModules.{itself}
-use Rattle.decompiled.specs.declared.pin_line.PinLine.{PinLine}
-use Rattle.decompiled.specs.SourceText.{name_text}
-use Rattle.decompiled.specs.SourceTrees.{IsSourceTree}
-use Rattle.decompiled_logic.specs.PinNames.{said, IsPinEntry, ArePinEntries}
-use Rattle.decompiled_logic.proofs.Declared.{declares}
-use Rattle.decompiled.specs.Sources.{source_of}
-use Rattle.decompiled_logic.proofs.SourceNames.{found, held}
+use Rattle.decompiled.proofs.Declared.{declares}
 use Rattle.decompiler.specs.Placed.{SourcesArePlaced}
 use Rattle.decompiler.proofs.SignalPins.{pins_signal}
 use Rattle.decompiler.proofs.UnrefusedNames.{names_unrefused}

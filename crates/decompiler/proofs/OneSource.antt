@@ -1,8 +1,6 @@
 -- Two devices that do what one source says run alike, where the source has no nodes and no don't-care.
 use Rattle.std.proofs.Common.{◌≡◌, ◌≢◌, ◌<◌, Bool, List, [], ◌∷◌, sym, subst, ◌∙◌}
-use Rattle.pld_base.specs.Logic.{Logic}
-use Rattle.pld_base.specs.Points.{Levels}
-use Rattle.pld_machine.specs.Comparison.{DoesTheSame, HasNoDontCare, HasNoNodes, IsShownAs, NodeValues}
+use Rattle.decompiler.proofs.Common.{Logic, Levels, DoesTheSame, HasNoDontCare, HasNoNodes, IsShownAs, NodeValues}
 use Rattle.pld_machine.specs.Steps.{Run}
 use Rattle.pld_machine.specs.Through.{AreSeen}
 use Rattle.pld_machine.proofs.WithoutNodes.{plain_runs}

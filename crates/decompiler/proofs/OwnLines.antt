@@ -1,26 +1,7 @@
 -- What each line of a decompiled source assigns, and how large the source is.
 use Rattle.std.proofs.Common.{◌≡◌, ℕ, zero, suc, ◌+◌, ◌*◌, ◌<◌, ◌≤◌, inl, inr, Bool, true, false, not, if◌then◌else◌, Option, Some, None, List, [], ◌∷◌, ◌++◌, length, filter, flat_map, map, refl, sym, ap, ◌∙◌, arith, length-append}
-use Rattle.std.specs.List.{AllByRecursion, range_with_len}
-use Rattle.std.proofs.lemmas.Bool.{cases_Bool, true≢false}
-use Rattle.pld_device.specs.declared.carry.Carry.{Carry}
-use Rattle.pld_device.specs.declared.enable.Enable.{Enable}
-use Rattle.pld_device.specs.declared.enable.Enable.TheVariants.{Row, PinLow}
-use Rattle.pld_device.specs.Laws.{IsDevice}
-use Rattle.pld_device.specs.Macrocells.{data_rows}
-use Rattle.pld_device.specs.Reads.{is_never_true}
-use Rattle.pld_device.specs.Registers.{stores}
-use Rattle.pld_device.specs.Rows.{row_fuses}
-use Rattle.pld_device.specs.Table.{Table, cell_at, no_cell}
-use Rattle.abel_tree.specs.declared.words.Extension.{Extension}
+use Rattle.decompiler.proofs.Common.{AllByRecursion, range_with_len, cases_Bool, true≢false, Carry, Enable, Row, PinLow, IsDevice, data_rows, is_never_true, stores, row_fuses, Table, cell_at, no_cell, Extension, is_data, may_be_assigned, PinLiteral, SumLine, ColumnLiteral, if_intact, literal, literals_of, row_literals, cell_lines, control_line, control_products, data_line, enable_lines, first_register, has_lines, lines_of, live_rows, named, product_of, shared_lines, each_always, each_append, each_flat_map, each_in_range, each_map, found_passes}
 use Rattle.abel_tree.specs.declared.words.Extension.TheVariants as extension
-use Rattle.abel_tree.specs.Extensions.{is_data}
-use Rattle.section_targets.specs.Manners.{may_be_assigned}
-use Rattle.decompiled.specs.declared.literal.PinLiteral.{PinLiteral}
-use Rattle.decompiled.specs.declared.sum_line.SumLine.{SumLine}
-use Rattle.decompiled.specs.RowLiterals.{ColumnLiteral, if_intact, literal, literals_of, row_literals}
-use Rattle.decompiled.specs.Sources.{cell_lines, control_line, control_products, data_line, enable_lines, first_register, has_lines, lines_of, live_rows, named, product_of, shared_lines}
-use Rattle.decompiled.proofs.Each.{each_always, each_append, each_flat_map, each_in_range, each_map}
-use Rattle.decompiled_logic.proofs.PinWords.{found_passes}
 
 -- ---- lengths
 

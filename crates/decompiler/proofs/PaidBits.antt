@@ -1,21 +1,9 @@
 -- The bits of a sum over signals have no more nodes than were counted for it.
 use Rattle.std.proofs.Common.{◌≡◌, ℕ, ◌+◌, ◌≤◌, Bool, true, false, Option, Some, None, [], ◌∷◌, length, reverse, refl, sym, ap, subst, ◌∙◌, arith}
-use Rattle.bit_expr.specs.declared.node.Leaf.{Leaf}
-use Rattle.bit_expr.specs.Folding.{Made, make_not, make_and, make_or}
-use Rattle.bit_expr.specs.Formulas.{Formula, Read, Not}
-use Rattle.decompiler.specs.Held.{all_nodes_of, nodes_of}
-use Rattle.abel_tree.specs.declared.words.Extension.{Extension}
+use Rattle.decompiler.proofs.Common.{Leaf, Made, make_not, make_and, make_or, Formula, Read, Not, all_nodes_of, nodes_of, Extension, Tree, Word, each_not, word_by_position, Context, bits_of, formulas, make_held, make_source, met_by, met_word, operator_word, Shape, Number, Single, Set, meeting, width_of, Source, Zero, Held, Term, ReadTerm, UnaryOf, BinaryOf, extended_if, term_of, constant_of, q_if}
 use Rattle.abel_tree.specs.declared.words.Unary.TheVariants as unary
 use Rattle.abel_tree.specs.declared.words.Binary.TheVariants as binary
-use Rattle.abel_tree.specs.Tree.{Tree}
-use Rattle.abel_meaning.specs.BitWords.{Word, each_not, word_by_position}
-use Rattle.abel_meaning.specs.Designs.{Context}
-use Rattle.abel_meaning.specs.FormulaBits.{bits_of, formulas, make_held, make_source, met_by, met_word, operator_word}
-use Rattle.abel_meaning.specs.Numbers.{Shape, Number, Single, Set, meeting, width_of}
-use Rattle.abel_meaning.specs.Sources.{Source, Zero, Held, source_of}
-use Rattle.abel_meaning.specs.Terms.{Term, Read as ReadTerm, UnaryOf, BinaryOf, extended_if, term_of}
-use Rattle.abel_meaning.specs.Values.{constant_of}
-use Rattle.decompiled.specs.SourceText.{q_if}
+use Rattle.abel_meaning.specs.Sources.{source_of}
 use Rattle.decompiler.proofs.EachTree.{HoldsBySteps}
 use Rattle.decompiler.proofs.FoundBits.{IsNarrow, narrow_met}
 use Rattle.decompiler.proofs.SmallBits.{IsKnownPin, IsSmall, and_gives, and_small, met_few, not_gives, not_small, or_gives, or_small, read_small, weight}

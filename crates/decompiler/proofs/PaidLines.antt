@@ -1,32 +1,12 @@
 -- The formulas of a source's lines have no more nodes than its units were counted for; and where its lines stand.
 use Rattle.std.proofs.Common.{◌≡◌, ◌+◌, ◌≤◌, Bool, true, List, [], ◌∷◌, ◌++◌, length, map, refl, ap, ◌∙◌, arith}
-use Rattle.std.specs.List.{AllByRecursion}
-use Rattle.pld_base.specs.declared.place.Place.{Place}
-use Rattle.pld_device.specs.Laws.{IsDevice}
-use Rattle.pld_device.specs.Table.{Table}
-use Rattle.bit_expr.specs.Formulas.{Formula, Const}
-use Rattle.decompiler.specs.Held.{all_nodes_of, nodes_of}
-use Rattle.abel_tree.specs.Tree.{Statement, ModuleTree, statements_of}
-use Rattle.abel_meaning.specs.Designs.{Design, design_of}
-use Rattle.abel_meaning.specs.FormulaBits.{bits_of}
-use Rattle.abel_meaning.specs.Terms.{term_of}
-use Rattle.section_targets.specs.declared.manner.Manner.{Manner}
-use Rattle.section_targets.specs.Units.{CountedUnit, units_nodes}
-use Rattle.equations.specs.StatementUnits.{statement_manners, statements_places, units_of_statements}
-use Rattle.decompiled.specs.declared.sum_line.SumLine.{SumLine}
-use Rattle.decompiled.specs.SourceTrees.{AreLines, IsLine, IsSourceTree}
-use Rattle.decompiled_logic.specs.SumFormulas.{sum_formula}
-use Rattle.decompiled_logic.proofs.SumBits.{sums}
-use Rattle.decompiled.specs.Sources.{source_of}
-use Rattle.decompiled.proofs.Each.{each_append, each_weaker}
-use Rattle.decompiled_logic.specs.Signals.{leaf_of}
-use Rattle.decompiled_logic.proofs.SourcePins.{IsDeclaredLiteral}
+use Rattle.decompiler.proofs.Common.{AllByRecursion, Place, IsDevice, Table, Formula, Const, all_nodes_of, nodes_of, Statement, ModuleTree, statements_of, Design, design_of, bits_of, term_of, Manner, CountedUnit, units_nodes, statement_manners, statements_places, units_of_statements, SumLine, AreLines, IsLine, IsSourceTree, sum_formula, source_of, each_append, each_weaker, leaf_of, IsDeclaredLiteral, literals_read}
+use Rattle.decompiled.proofs.SumBits.{sums}
 use Rattle.decompiler.proofs.EachTree.{sum_holds}
 use Rattle.decompiler.proofs.LineManners.{IsGoodLine, IsLineManner, line_manner}
 use Rattle.decompiler.proofs.LineUnits.{known_pin, manner_is, place_is, unit_is}
 use Rattle.decompiler.proofs.SmallBits.{IsKnownPin, weight}
 use Rattle.decompiler.proofs.PaidBits.{IsPaidTree, bit_paid, paid_steps}
-use Rattle.decompiler.proofs.ReadLeaves.{literals_read}
 
 module _ (t : Table) (fuses : List Bool) (laws : IsDevice t) (m : ModuleTree) (is : IsSourceTree (source_of t fuses) m) where
   abbrev d : Design

@@ -1,16 +1,6 @@
 -- The literals of a decompiled source: each is the column of a pair that the device has.
 use Rattle.std.proofs.Common.{◌≡◌, ℕ, Bool, true, false, if◌then◌else◌, List, [], ◌∷◌, ◌++◌, map, refl, sym, subst}
-use Rattle.std.specs.List.{AllByRecursion, list_any}
-use Rattle.pld_device.specs.declared.carry.Carry.{Carry}
-use Rattle.pld_device.specs.Laws.{IsPair, IsDevice}
-use Rattle.pld_device.specs.Reads.{is_never_true}
-use Rattle.pld_device.specs.Rows.{row_fuses}
-use Rattle.pld_device.specs.Table.{Table}
-use Rattle.decompiled.specs.declared.literal.PinLiteral.{PinLiteral}
-use Rattle.decompiled.specs.declared.sum_line.SumLine.{SumLine}
-use Rattle.decompiled.specs.RowLiterals.{ColumnLiteral, if_intact, literal, literals_of, row_literals}
-use Rattle.decompiled.specs.Sources.{control_products, live_rows, named, named_by, product_of}
-use Rattle.decompiled.proofs.Each.{each_always, each_append, each_at, each_map, each_member, each_weaker}
+use Rattle.decompiler.proofs.Common.{AllByRecursion, list_any, Carry, IsPair, IsDevice, is_never_true, row_fuses, Table, PinLiteral, SumLine, ColumnLiteral, if_intact, literal, literals_of, row_literals, control_products, live_rows, named, named_by, product_of, each_always, each_append, each_at, each_map, each_member, each_weaker}
 use Rattle.decompiler.proofs.OwnLines.{IsForm, IsOwnLine, LineForm, DataForm, EnableForm, ResetForm, PresetForm}
 
 -- what passes it, some pair passes

@@ -1,12 +1,7 @@
 -- A row's literals, pair by pair.
 use Rattle.std.proofs.Common.{◌≡◌, ℕ, zero, suc, ◌+◌, ◌*◌, ◌<◌, ◌≤◌, Bool, true, false, Some, None, List, [], ◌∷◌, ◌++◌, length, drop, map, slice_get, get_or, add-one, refl, ap, sym, ◌∙◌, arith, append_assoc, append-nil}
-use Rattle.std.proofs.lemmas.List.{map-append}
-use Rattle.std.proofs.lemmas.Option.{slice_get-get_or}
-use Rattle.pld_base.specs.Bits.{is_on}
-use Rattle.pld_device.specs.declared.carry.Carry.{Carry}
+use Rattle.decompiler.proofs.Common.{map-append, slice_get-get_or, is_on, Carry, ColumnLiteral, if_intact, literal, literals_of, literals_at}
 use Rattle.pld_device.specs.declared.carry.Carry.TheVariants as carry
-use Rattle.decompiled.specs.RowLiterals.{ColumnLiteral, if_intact, literal, literals_of}
-use Rattle.decompiler.specs.Steps.{literals_at}
 
 -- the literals from a pair on are its own, and those of the pairs behind it
 walk : (fs : List Bool) (xs : List Carry) (p k : ℕ) (x : Carry) → k ≡ 2 * p → length fs ≡ 2 * length xs → slice_get xs p ≡ Some x

@@ -2,45 +2,12 @@
 -- controls that are assigned.
 use Rattle.std.proofs.Common.{◌≡◌, ℕ, suc, ◌<◌, inl, inr, Bool, true, false, not, is_none, if◌then◌else◌, Option, Some, None, List, [], ◌∷◌, ◌++◌, length, get_or, refl, sym, ap, subst, ◌∙◌, arith, eqb-true}
 use Rattle.std.specs.Prelude.{◌==◌, ◌||◌}
-use Rattle.std.specs.List.{AllByRecursion, list_any}
-use Rattle.std.proofs.lemmas.Bool.{and_right, cases_Bool, or_from}
-use Rattle.pld_device.specs.declared.enable.Enable.{Enable}
-use Rattle.pld_device.specs.declared.kinds.Kinds.{Kinds}
-use Rattle.pld_device.specs.declared.kinds.Kinds.TheVariants.{Combinational, Registered, Either}
-use Rattle.pld_device.specs.Laws.{IsDevice}
-use Rattle.pld_device.specs.Registers.{says, stores, stores_by}
-use Rattle.pld_device.specs.Table.{Table, cell_at, no_cell, registered_at}
-use Rattle.pld_device.proofs.OwnPins.{own_pins}
-use Rattle.bit_expr.specs.Arena.{formula_at}
-use Rattle.bit_expr.specs.Formulas.{Formula}
-use Rattle.abel_tree.specs.declared.words.Extension.{Extension}
+use Rattle.decompiler.proofs.Common.{AllByRecursion, list_any, and_right, cases_Bool, or_from, Enable, Kinds, Combinational, Registered, Either, IsDevice, says, stores, stores_by, Table, cell_at, no_cell, registered_at, own_pins, formula_at, Formula, Extension, Kind, APin, ANode, AConstant, ADeviceName, Entry, is_stored, ModuleTree, cell_on, is_data, Design, design_of, no_name, cell_by, cell_of, Contribution, view_gives, cell_enables_so, enables_so, is_compared_of, says_always, says_so, is_by_pin, is_cell_by_pin, Rule, refuses, targets_refused, has_wrong_kind, has_wrong_kind_by, has_wrong_kind_on, is_any, is_wrong_cell, is_wrong_kind, lacks_by, lacks_control, node_refused, pin_lacks, registered_nodes, told_if, RefusedUse, SumLine, IsSourceTree, source_of, leaf_of, signal_of, cell_name, name, IsDeclared, cell_here}
 use Rattle.abel_tree.specs.declared.words.Extension.TheVariants as extension
-use Rattle.abel_tree.specs.Entries.{Kind, APin, ANode, AConstant, ADeviceName, Entry, is_stored}
-use Rattle.abel_tree.specs.Tree.{ModuleTree}
-use Rattle.pld_device.specs.Pins.{cell_on}
-use Rattle.abel_tree.specs.Extensions.{is_data}
 use Rattle.abel_meaning.specs.Contributions as meant
-use Rattle.abel_meaning.specs.Designs.{Design, design_of, no_name}
-use Rattle.netlist_laws.specs.Gathered.{cell_by, cell_of}
-use Rattle.set_expr.specs.declared.contributions.Contribution.{Contribution}
 use Rattle.set_expr.specs.declared.contributions.Gives.{Gives}
 use Rattle.set_expr.specs.declared.contributions.Gives.TheVariants as gives
-use Rattle.set_expr.specs.Given.{view_gives}
-use Rattle.design_checks.specs.Compared.{cell_enables_so, enables_so, is_compared_of, says_always, says_so}
-use Rattle.design_checks.specs.SectionUses.{is_by_pin, is_cell_by_pin}
-use Rattle.design_checks.specs.declared.rules.Rule.{Rule}
 use Rattle.design_checks.specs.declared.rules.Rule.TheVariants as rule
-use Rattle.design_checks.specs.Refused.{refuses, targets_refused}
-use Rattle.design_checks.specs.SignalsRefused.{has_wrong_kind, has_wrong_kind_by, has_wrong_kind_on, is_any, is_wrong_cell, is_wrong_kind, lacks_by, lacks_control, node_refused, pin_lacks, registered_nodes}
-use Rattle.design_checks.specs.UsesRefused.{told_if}
-use Rattle.design_checks.specs.declared.refused.RefusedUse.{RefusedUse}
-use Rattle.decompiled.specs.declared.sum_line.SumLine.{SumLine}
-use Rattle.decompiled.specs.SourceTrees.{IsSourceTree}
-use Rattle.decompiled.specs.Sources.{source_of}
-use Rattle.decompiled_logic.specs.Signals.{leaf_of, signal_of}
-use Rattle.decompiled_logic.proofs.PinWords.{cell_name, name}
-use Rattle.decompiled_logic.proofs.SourcePins.{IsDeclared}
-use Rattle.decompiled_logic.proofs.SourceReads.{cell_here}
 use Rattle.decompiler.proofs.LineManners.{IsGoodLine}
 use Rattle.decompiler.proofs.OwnLines.{IsForm, LineForm, DataForm, EnableForm, ResetForm, PresetForm}
 use Rattle.decompiler.proofs.PlainNames.{ArePlain, IsPlain, IsPlainKind}

@@ -1,25 +1,9 @@
 -- The names of a decompiled source: none is a constant, and a pin's name is found as a signal.
 use Rattle.std.proofs.Common.{◌≡◌, ℕ, suc, inl, inr, Bool, true, false, if◌then◌else◌, Some, None, List, [], ◌∷◌, ◌++◌, map, get_or, unwrap_or, refl, sym, ap, subst, ◌∙◌, append-nil, append_assoc}
 use Rattle.std.specs.Prelude.{bytes_eq}
-use Rattle.std.specs.List.{AllByRecursion}
-use Rattle.pld_base.specs.declared.place.Place.{Place}
-use Rattle.pld_device.specs.Laws.{IsDevice}
-use Rattle.pld_device.specs.Table.{Table}
-use Rattle.abel_tree.specs.Entries.{Kind, APin, ANode, AConstant, ADeviceName, Entry}
-use Rattle.abel_tree.specs.Tree.{ModuleTree}
-use Rattle.abel_meaning.specs.Designs.{no_name}
-use Rattle.abel_meaning.specs.Kinds.{names_of}
-use Rattle.abel_meaning.specs.Terms.{Term, Known, Number, Read, known_after, term_meant, term_named}
-use Rattle.set_expr.specs.declared.fault.SectionFault.{SectionFault}
-use Rattle.set_expr.specs.FoundNames.{NameFound, constants_refused, found_after, found_entry, found_kind, found_refusals, found_use, found_value, at_name, is_pulse_kind, name_found, named, names_found, nothing_found, one_position, refused_there}
-use Rattle.set_expr.specs.declared.fault.SectionFault.TheVariants.{MisplacedSpecial}
-use Rattle.set_expr.specs.Refusals.{Found}
-use Rattle.decompiled.specs.SourceText.{name_text}
-use Rattle.decompiled.specs.SourceTrees.{IsSourceTree}
-use Rattle.decompiled.specs.Sources.{source_of}
-use Rattle.decompiled_logic.specs.Signals.{signal_of}
-use Rattle.decompiled_logic.proofs.SourcePins.{IsDeclared}
-use Rattle.decompiled_logic.proofs.SourceNames.{IsNameAt, known_is, names_at}
+use Rattle.decompiler.proofs.Common.{AllByRecursion, Place, IsDevice, Table, Kind, APin, ANode, AConstant, ADeviceName, Entry, ModuleTree, no_name, names_of, Term, Known, known_after, term_meant, term_named, SectionFault, NameFound, constants_refused, found_after, found_entry, found_kind, found_refusals, found_use, found_value, at_name, is_pulse_kind, name_found, names_found, nothing_found, one_position, refused_there, MisplacedSpecial, Found, name_text, IsSourceTree, source_of, signal_of, IsDeclared, IsNameAt, known_is, names_at}
+use Rattle.abel_meaning.specs.Terms.{Number, Read}
+use Rattle.set_expr.specs.FoundNames.{named}
 
 -- a pin or the device's name
 abbrev pub IsPlainKind : Kind → Type 0

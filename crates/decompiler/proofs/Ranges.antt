@@ -1,8 +1,7 @@
 -- Lists that are made over a range, number by number.
 use Rattle.std.proofs.Common.{◌≡◌, ℕ, suc, ◌+◌, ◌-◌, ◌<◌, ◌≤◌, Bool, true, false, if◌then◌else◌, Some, None, List, [], ◌∷◌, ◌++◌, filter, flat_map, map, refl, ap, sym, ◌∙◌, arith, append-nil, map-id}
-use Rattle.std.specs.List.{find, range_with_len}
+use Rattle.decompiler.proofs.Common.{find, range_with_len, map-range_with_len_more}
 use Rattle.std.proofs.lemmas.Grind.{flat_map-append}
-use Rattle.std.proofs.lemmas.List.FromFn.{map-range_with_len_more}
 
 -- ---- one number more
 

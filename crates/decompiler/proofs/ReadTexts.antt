@@ -1,15 +1,7 @@
 -- The text of a device's fuses is read as the module of their source, which is right.
 use Rattle.std.proofs.Common.{◌≡◌, ℕ, Bool, List, length, sym, subst}
-use Rattle.module_reader.specs.Texts.{IsRead}
-use Rattle.pld_order.specs.Graphs.{HasNoLoop}
-use Rattle.pld_device.specs.Laws.{IsDevice}
-use Rattle.pld_device.specs.Table.{Table}
-use Rattle.device_logic.specs.CellReads.{cell_reads}
-use Rattle.device_logic.specs.ResetPaths.{HasNoResetPath}
+use Rattle.decompiler.proofs.Common.{IsRead, HasNoLoop, IsDevice, Table, cell_reads, HasNoResetPath, decompiled_text, source_of, SourcesAreRight, IsDecompiled, IsReadAsSource}
 use Rattle.decompiled.proofs.ReadTexts.{read}
-use Rattle.decompiled.specs.Sources.{decompiled_text, source_of}
-use Rattle.decompiler.specs.Right.{SourcesAreRight}
-use Rattle.decompiler.specs.Reading.{IsDecompiled, IsReadAsSource}
 use Rattle.decompiler.proofs.LowPins.{source_low}
 
 pub read_as_source : (t : Table) (fuses : List Bool) → IsDevice t → (text : List ℕ) → text ≡ decompiled_text t fuses → IsReadAsSource t fuses text

@@ -2,46 +2,15 @@
 -- columns carries it.
 use Rattle.std.proofs.Common.{◌≡◌, ℕ, ◌+◌, ◌<◌, inl, inr, Bool, true, false, not, is_some, if◌then◌else◌, Option, Some, None, List, [], ◌∷◌, ◌++◌, length, filter, map, refl, sym, ap, subst, ◌∙◌, append-nil, eq-eqb, eqb-true}
 use Rattle.std.specs.Prelude.{◌==◌, ◌&&◌, ◌||◌, position}
-use Rattle.std.specs.List.{AllByRecursion, list_any, position_from}
-use Rattle.std.proofs.lemmas.Bool.{and_from, and_right, cases_Bool, or_right, true≢false}
-use Rattle.std.proofs.lemmas.List.Elements.{filter-append}
-use Rattle.pld_device.specs.declared.carry.Carry.{Carry}
+use Rattle.decompiler.proofs.Common.{AllByRecursion, list_any, position_from, and_from, and_right, cases_Bool, or_right, true≢false, filter-append, Carry, Cell, Kinds, Combinational, Registered, Either, IsDevice, pair_pins, pin_carried, cell_on, carries_cell, says, stores, stores_by, Table, cell_at, no_cell, registered_at, own_pins, Extension, target_extension, Kind, APin, Entry, is_stored, Tree, Statement, ModuleTree, Equations, statements_of, must_register, Design, design_of, name_at, Term, extended_if, term_named, term_of, carries_level, carries_q, has_by, has_extension, has_read_path, is_missing, is_unread, missing_uses, reads_by, unread_uses, design_uses, expression_uses, is_compared, sections_uses, statements_uses, TargetFound, left_side, is_compared_of, Written, aims_refused, is_written_at, narrow, statement_refused, statements_refused, unwritten, written_if, RefusedUse, PinLiteral, SumLine, name_text, q_if, AreLines, IsLine, IsSourceTree, lines_of, named_by, source_of, signal_of, HasNoCell, cell_name, free_plain, kind_is, name, known_is, IsDeclared, IsDeclaredLiteral, cell_here}
 use Rattle.pld_device.specs.declared.carry.Carry.TheVariants as carry
-use Rattle.pld_device.specs.declared.cell.Cell.{Cell}
-use Rattle.pld_device.specs.declared.kinds.Kinds.{Kinds}
-use Rattle.pld_device.specs.declared.kinds.Kinds.TheVariants.{Combinational, Registered, Either}
-use Rattle.pld_device.specs.Laws.{IsDevice}
-use Rattle.pld_device.specs.Pins.{pair_pins, pin_carried, cell_on, carries_cell}
-use Rattle.pld_device.specs.Registers.{says, stores, stores_by}
-use Rattle.pld_device.specs.Table.{Table, cell_at, no_cell, registered_at}
-use Rattle.pld_device.proofs.OwnPins.{own_pins}
-use Rattle.abel_tree.specs.declared.words.Extension.{Extension}
 use Rattle.abel_tree.specs.declared.words.Extension.TheVariants as extension
-use Rattle.abel_tree.specs.Assigned.{target_extension}
-use Rattle.abel_tree.specs.Entries.{Kind, APin, Entry, is_stored}
-use Rattle.abel_tree.specs.Tree.{Tree, Statement, ModuleTree, Equations, statements_of}
-use Rattle.abel_meaning.specs.Controls.{must_register}
-use Rattle.abel_meaning.specs.Designs.{Design, design_of, name_at}
-use Rattle.abel_meaning.specs.Terms.{Term, Read, extended_if, term_named, term_of}
+use Rattle.abel_meaning.specs.Terms.{Read}
 use Rattle.netlist_laws.specs.SignalUses.{term_uses}
 use Rattle.netlist_laws.proofs.CellsFound.{first_place}
 use Rattle.design_checks.specs.LocatedUses.{PlacedUse, all_at, located}
-use Rattle.design_checks.specs.RefusedUses.{carries_level, carries_q, has_by, has_extension, has_read_path, is_missing, is_unread, missing_uses, reads_by, unread_uses}
-use Rattle.design_checks.specs.SectionUses.{design_uses, expression_uses, is_compared, sections_uses, statement_uses, statements_uses}
-use Rattle.section_targets.specs.TargetSignals.{TargetFound, left_side}
-use Rattle.design_checks.specs.Compared.{is_compared_of}
-use Rattle.design_checks.specs.Written.{Written, aims_refused, is_written_at, narrow, sections_refused, statement_refused, statements_refused, unwritten, written_if}
-use Rattle.design_checks.specs.declared.refused.RefusedUse.{RefusedUse}
-use Rattle.decompiled.specs.declared.literal.PinLiteral.{PinLiteral}
-use Rattle.decompiled.specs.declared.sum_line.SumLine.{SumLine}
-use Rattle.decompiled.specs.SourceText.{name_text, q_if}
-use Rattle.decompiled.specs.SourceTrees.{AreLines, IsLine, IsSourceTree}
-use Rattle.decompiled.specs.Sources.{lines_of, named_by, source_of}
-use Rattle.decompiled_logic.specs.Signals.{signal_of}
-use Rattle.decompiled_logic.proofs.PinWords.{HasNoCell, cell_name, free_plain, kind_is, name}
-use Rattle.decompiled_logic.proofs.SourceNames.{known_is}
-use Rattle.decompiled_logic.proofs.SourcePins.{IsDeclared, IsDeclaredLiteral}
-use Rattle.decompiled_logic.proofs.SourceReads.{cell_here}
+use Rattle.design_checks.specs.SectionUses.{statement_uses}
+use Rattle.design_checks.specs.Written.{sections_refused}
 use Rattle.decompiler.proofs.EachTree.{HoldsBySteps, sum_holds}
 use Rattle.decompiler.proofs.LineManners.{IsGoodLine, aimed}
 use Rattle.decompiler.proofs.PairColumns.{IsAmong, IsColumn, IsDevicePair, line_columns}

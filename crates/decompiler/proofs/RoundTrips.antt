@@ -1,40 +1,17 @@
 -- Fuses that are decompiled and compiled again run as before.
 use Rattle.std.proofs.Common.{◌≡◌, ℕ, ◌≤◌, Bool, true, false, ◌&&◌, Option, None, Some, List, length, refl, sym, ap, subst, ◌∙◌, inl, inr, arith}
-use Rattle.std.proofs.lemmas.Bool.{cases_Bool, cases_lt, le-ltb}
-use Rattle.std.proofs.lemmas.List.{get_or_past}
-use Rattle.pld_base.specs.declared.device_name.DeviceName.{DeviceName}
-use Rattle.pld_machine.specs.Comparison.{DoesTheSame, HasNoNodes}
-use Rattle.pld_device.specs.Laws.{IsDevice}
-use Rattle.pld_device.specs.Macrocells.{device_logic}
-use Rattle.pld_device.specs.Registers.{is_inverted, says}
-use Rattle.pld_device.specs.Table.{Table}
-use Rattle.abel_tree.specs.Tree.{ModuleTree}
+use Rattle.decompiler.proofs.Common.{cases_Bool, cases_lt, le-ltb, get_or_past, DeviceName, DoesTheSame, HasNoNodes, IsDevice, device_logic, is_inverted, says, Table, ModuleTree, signal_on, design_of, device_named, netlist_of, IsRead, SpellsModule, table_sound, table_of, IsSourceTree, decompiled_text, has_lines, source_of, is_of_fuses, cell_name, say_what_they_do, SourcesAreRight, IsDecompiled, AreLoadable}
 use Rattle.abel_meaning.specs.Choices.{inverting, is_free_signal, source_values_under}
-use Rattle.abel_meaning.specs.Controls.{signal_on}
-use Rattle.abel_meaning.specs.Designs.{design_of}
-use Rattle.abel_meaning.specs.DeviceStrings.{device_named}
 use Rattle.abel_meaning.specs.NetlistLogic.{netlist_logic}
 use Rattle.abel_meaning.specs.SourceLogic.{source_logic, source_values}
 use Rattle.netlist_laws.specs.FittedCorrect.{DoesWhatItSays, MeansTheSame}
-use Rattle.netlist_laws.specs.Gathered.{netlist_of}
 use Rattle.netlist_laws.proofs.Meaning.{gathered_means_the_same}
-use Rattle.module_reader.specs.Texts.{IsRead, SpellsModule}
-use Rattle.devices.specs.DeviceLaws.{table_sound}
-use Rattle.devices.specs.Devices.{table_of}
 use Rattle.abel_compile.specs.Statement.{IsRightFile}
 use Rattle.abel_compile.proofs.NeverRefused.{spelled}
 use Rattle.placer.specs.Placements.{IsPlacedModule}
 use Rattle.compile_phases.proofs.PlacedRefusals.{one_placed}
-use Rattle.decompiled.specs.SourceTrees.{IsSourceTree}
-use Rattle.decompiled.specs.Sources.{decompiled_text, has_lines, source_of}
-use Rattle.decompiled_logic.proofs.FusesNetlists.{is_of_fuses}
-use Rattle.decompiled_logic.proofs.PinWords.{cell_name}
-use Rattle.decompiled_logic.proofs.SignalsOn.{lines_declare, on_it, on_none, registers_have_cells}
-use Rattle.decompiled_logic.proofs.SaidRuns.{say_what_they_do}
-use Rattle.decompiler.specs.Right.{SourcesAreRight}
-use Rattle.decompiler.specs.Reading.{IsDecompiled}
+use Rattle.decompiled.proofs.SignalsOn.{lines_declare, on_it, on_none, registers_have_cells}
 use Rattle.decompiler.proofs.ReadTexts.{is_decompiled, read_as_source}
-use Rattle.decompiler.specs.Compiling.{AreLoadable}
 use Rattle.decompiler.proofs.NeverRefused.{device_is}
 use Rattle.decompiler.specs.Recompiled.{RecompiledFusesRunAlike, RunAsBefore}
 use Rattle.decompiler.proofs.OneSource.{one_source}

@@ -1,34 +1,13 @@
 -- All registers share one reset and one preset, each one product or 0.
 use Rattle.std.proofs.Common.{◌≡◌, ◌⊎◌, ℕ, suc, ◌<◌, nat_lt, Bool, true, false, List, [], ◌∷◌, length, map, Option, Some, None, refl, sym, ap, subst, ◌∙◌, arith, inl, inr}
 use Rattle.std.specs.Prelude.{Contains, unwrap_or}
-use Rattle.std.specs.Option.{option_map}
-use Rattle.std.proofs.lemmas.Bool.{cases_Bool}
-use Rattle.std.proofs.lemmas.Option.{same_Some}
-use Rattle.pld_device.specs.Laws.{IsDevice}
-use Rattle.pld_device.specs.Registers.{stores}
-use Rattle.pld_device.specs.Table.{Table}
-use Rattle.bit_expr.specs.declared.netlist.CellWanted.{CellWanted}
-use Rattle.bit_expr.specs.declared.netlist.Control.{Control}
-use Rattle.bit_expr.specs.declared.netlist.Netlist.{Netlist}
-use Rattle.bit_expr.specs.declared.node.ExprId.{ExprId}
-use Rattle.bit_expr.specs.declared.node.Leaf.{Leaf}
-use Rattle.bit_expr.specs.Arena.{arena, formula_at}
-use Rattle.bit_expr.specs.Formulas.{Formula, Const, formula_value}
-use Rattle.abel_meaning.specs.Netlists.{Wanted, first_with, own_of, own_or_shared, plain_control, plain_netlist, plain_wanted, shared_function}
-use Rattle.abel_meaning.specs.SoundIds.{IsSoundNetlist}
+use Rattle.decompiler.proofs.Common.{option_map, cases_Bool, same_Some, IsDevice, stores, Table, CellWanted, Control, Netlist, ExprId, Leaf, arena, formula_at, Formula, Const, formula_value, Wanted, first_with, own_of, own_or_shared, plain_control, plain_netlist, plain_wanted, shared_function, IsSoundNetlist, bit_list, cell_wanted, found_id, sound_id_at, wanted_is, zero_is, zero_sound, Preset, Reset, IsSharedProduct, PinLiteral, IsFusesNetlist, shared_formula, ReadNoNode}
 use Rattle.netlist_laws.specs.Fitting.{AreShared}
-use Rattle.sop_lowering.specs.Written.{bit_list}
-use Rattle.fitter.specs.Plans.{cell_wanted}
-use Rattle.fitter.proofs.WantedIds.{found_id, sound_id_at, wanted_is, zero_is, zero_sound}
 use Rattle.fitter.specs.declared.shared.SharedControl.{SharedControl}
-use Rattle.fitter.specs.declared.shared.SharedControl.TheVariants.{Preset, Reset}
 use Rattle.fitter.specs.Sharing.{IsSharedBit, own_control, own_formula}
 use Rattle.fitter.proofs.Alike.{first_wanted, own_id}
 use Rattle.fitter.proofs.FirstNames.{none_first, own_is}
-use Rattle.fitter.specs.Products.{IsProduct, IsSharedProduct}
-use Rattle.decompiled.specs.declared.literal.PinLiteral.{PinLiteral}
-use Rattle.decompiled_logic.specs.Alike.{IsFusesNetlist, shared_formula}
-use Rattle.decompiler.specs.ShortSums.{ReadNoNode}
+use Rattle.fitter.specs.Products.{IsProduct}
 use Rattle.decompiler.proofs.CellRooms.{IsOneOrNone, asked, bit_product, control_few, plain_is, some_is_none, within}
 
 -- ---- the first cell that has such an equation

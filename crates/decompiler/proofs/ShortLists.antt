@@ -1,18 +1,10 @@
 -- Written lists are short: each product that is inserted adds at most one to a list.
 use Rattle.std.proofs.Common.{◌≡◌, ℕ, ◌+◌, ◌*◌, ◌<◌, ◌≤◌, inl, inr, Bool, true, false, not, List, [], ◌∷◌, ◌++◌, length, filter, Some, None, refl, ap, ◌∙◌, arith, length-append, lt-ltb, mul-le-mul, suc-mul}
 use Rattle.std.specs.Prelude.{nat_lt, if◌then◌else◌}
-use Rattle.std.proofs.lemmas.Bool.{cases_Bool}
-use Rattle.pld_base.specs.Bits.{same_level}
-use Rattle.bit_expr.specs.declared.netlist.Netlist.{Netlist}
-use Rattle.bit_expr.specs.declared.node.Leaf.{Leaf}
+use Rattle.decompiler.proofs.Common.{cases_Bool, same_level, Netlist, Leaf, Formula, Const, Read, Not, And, Or, Xor, Cube, Products, adds_nothing, others, appended, insert_one, insert_all, insert_unions, insert_products, sum_of, EachLeaf, leaf_list, list_of, node_list, constant_list, pair_of, bound, IsShort, IsNoNode, StaysBelow, WrittenListsAreShort}
 use Rattle.bit_expr.specs.declared.node.Leaf.TheVariants as leaf
-use Rattle.bit_expr.specs.Formulas.{Formula, Const, Read, Not, And, Or, Xor}
-use Rattle.covers.specs.declared.cube.Cube.{Cube}
 use Rattle.covers.specs.Cubes.{lies_in, union, full_cube, literal_cube}
-use Rattle.sop_lowering.specs.Products.{Products, adds_nothing, others, appended, insert_one, insert_all, insert_unions, insert_products, sum_of, product_of}
-use Rattle.sop_lowering.specs.Through.{EachLeaf}
-use Rattle.sop_lowering.specs.Written.{leaf_list, list_of, node_list, constant_list, pair_of}
-use Rattle.decompiler.specs.Bounds.{bound, IsShort, IsNoNode, StaysBelow, WrittenListsAreShort}
+use Rattle.sop_lowering.specs.Products.{product_of}
 
 fewer : (test : Cube → Bool) (rows : List Cube) → length (filter test rows) ≤ length rows
 fewer test [] = omega arith

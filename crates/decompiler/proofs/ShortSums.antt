@@ -1,15 +1,8 @@
 -- A sum of products over pins and Qs has no more written products than it was written of.
 use Rattle.std.proofs.Common.{ℕ, ◌+◌, ◌*◌, ◌≤◌, Bool, true, false, List, [], ◌∷◌, length, arith, mul-le-mul}
 use Rattle.std.specs.Prelude.{fold, if◌then◌else◌}
-use Rattle.bit_expr.specs.declared.node.Leaf.{Leaf}
-use Rattle.bit_expr.specs.Folding.{make_and, make_or}
-use Rattle.bit_expr.specs.Formulas.{Formula, Const, Read, Not, And, Or}
-use Rattle.sop_lowering.specs.Through.{EachLeaf}
-use Rattle.decompiler.specs.Bounds.{IsNoNode, StaysBelow, bound}
+use Rattle.decompiler.proofs.Common.{Leaf, make_and, make_or, Formula, Const, Read, Not, And, Or, EachLeaf, IsNoNode, StaysBelow, bound, PinLiteral, literal_formula, product_formula, sum_formula, ReadNoNode, SumsAreShort}
 use Rattle.decompiler.proofs.ShortLists.{all_short}
-use Rattle.decompiled.specs.declared.literal.PinLiteral.{PinLiteral}
-use Rattle.decompiled_logic.specs.SumFormulas.{literal_formula, product_formula, sum_formula}
-use Rattle.decompiler.specs.ShortSums.{ReadNoNode, SumsAreShort}
 
 -- a formula of pins and Qs that stays below the limit, with at most so many products
 pub record HasFew (f : Formula) (n : ℕ) : Type 0 where

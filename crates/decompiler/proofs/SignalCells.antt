@@ -1,26 +1,9 @@
 -- The cells of the signals of a decompiled source that are read, or come to rest.
 use Rattle.std.proofs.Common.{◌≡◌, ℕ, suc, ◌<◌, ◌⊎◌, inl, inr, Bool, true, false, not, if◌then◌else◌, Option, Some, None, List, length, unwrap_or, refl, sym, ap, subst, ◌∙◌}
 use Rattle.std.specs.Prelude.{◌&&◌}
-use Rattle.std.specs.Option.{option_map}
-use Rattle.std.proofs.lemmas.Bool.{and_parts, true≢false}
-use Rattle.pld_device.specs.Laws.{IsDevice}
-use Rattle.pld_device.specs.Registers.{stores}
-use Rattle.pld_device.specs.Table.{Table, cell_at}
-use Rattle.bit_expr.specs.declared.node.Leaf.{Leaf}
+use Rattle.decompiler.proofs.Common.{option_map, and_parts, true≢false, IsDevice, stores, Table, cell_at, Leaf, Kind, APin, ANode, AConstant, ADeviceName, is_stored, ModuleTree, cell_on, Design, design_of, name_at, is_one_of, leaf_by, settles, settles_by, IsSourceTree, has_lines, pins_of, source_of, place_of, signal_of, taken_once, HasNoCell, cell_name, free_plain, free_unassigned_name, kind_is, on_cell, IsNameAt, names_at, IsDeclared, declared_there, is_named, cell_here}
 use Rattle.bit_expr.specs.declared.node.Leaf.TheVariants as leaf
-use Rattle.abel_tree.specs.Entries.{Kind, APin, ANode, AConstant, ADeviceName, is_stored}
-use Rattle.abel_tree.specs.Tree.{ModuleTree}
-use Rattle.pld_device.specs.Pins.{cell_on}
-use Rattle.abel_meaning.specs.Designs.{Design, design_of, name_at}
-use Rattle.abel_meaning.specs.SignalReads.{is_one_of, leaf_by, leaf_of, settles, settles_by}
-use Rattle.decompiled.specs.SourceTrees.{IsSourceTree}
-use Rattle.decompiled.specs.Sources.{has_lines, pins_of, source_of}
-use Rattle.decompiled_logic.specs.Signals.{place_of, signal_of}
-use Rattle.decompiled_logic.proofs.PinPlaces.{taken_once}
-use Rattle.decompiled_logic.proofs.PinWords.{HasNoCell, cell_name, free_plain, free_unassigned_name, kind_is, on_cell}
-use Rattle.decompiled_logic.proofs.SourceNames.{IsNameAt, names_at}
-use Rattle.decompiled_logic.proofs.SourcePins.{IsDeclared, declared_there, is_named}
-use Rattle.decompiled_logic.proofs.SourceReads.{cell_here}
+use Rattle.abel_meaning.specs.SignalReads.{leaf_of}
 
 -- the pin of a name, 0 where it has none
 abbrev pub pin_of : Kind → ℕ

@@ -1,19 +1,8 @@
 -- The pins that a decompiled source declares are signal pins.
 use Rattle.std.proofs.Common.{◌≡◌, ℕ, inl, inr, Bool, true, Some, List, [], ◌∷◌, slice_get, sym, ap, subst, ◌∙◌, eqb-true}
 use Rattle.std.specs.Prelude.{◌==◌}
-use Rattle.std.specs.List.{AllByRecursion, list_any}
-use Rattle.std.proofs.lemmas.Bool.{or_cases, true≢false}
-use Rattle.pld_device.specs.declared.carry.Carry.{Carry}
+use Rattle.decompiler.proofs.Common.{AllByRecursion, list_any, or_cases, true≢false, Carry, IsSignalPin, IsPair, IsDevice, Table, PinLiteral, PinLine, SumLine, lines_of, named_by, names_pin, product_names, source_of, IsPairLiteral, IsCellLine, lines_on, IsTaken, was_taken, cell_pin, declared_at, is_named}
 use Rattle.pld_device.specs.declared.carry.Carry.TheVariants as carry
-use Rattle.pld_device.specs.Laws.{IsSignalPin, IsPair, IsDevice}
-use Rattle.pld_device.specs.Table.{Table}
-use Rattle.decompiled.specs.declared.literal.PinLiteral.{PinLiteral}
-use Rattle.decompiled.specs.declared.pin_line.PinLine.{PinLine}
-use Rattle.decompiled.specs.declared.sum_line.SumLine.{SumLine}
-use Rattle.decompiled.specs.Sources.{lines_of, named_by, names_pin, product_names, source_of}
-use Rattle.decompiled.proofs.SourceLines.{IsPairLiteral, IsCellLine, lines_on}
-use Rattle.decompiled_logic.proofs.PinPlaces.{IsTaken, was_taken}
-use Rattle.decompiled_logic.proofs.SourcePins.{cell_pin, declared_at, is_named}
 
 -- what follows from each element that passes, where some does
 some_gives : {A : Type 0} (P : A → Type 0) (test : A → Bool) (G : Type 0) → ((x : A) → P x → test x ≡ true → G) → (xs : List A) → AllByRecursion P xs → list_any test xs ≡ true → G

@@ -1,23 +1,10 @@
 -- A sum over signals makes few nodes.
 use Rattle.std.proofs.Common.{◌≡◌, ℕ, ◌+◌, ◌≤◌, Bool, true, false, Option, Some, None, List, [], ◌∷◌, length, refl, sym, ap, subst, ◌∙◌, arith}
-use Rattle.bit_expr.specs.Folding.{Made, free, fresh, make_not, make_and, make_or}
-use Rattle.bit_expr.specs.Formulas.{Formula, Const, Read, Not, And, Or, Xor}
-use Rattle.bit_expr.specs.Folding.{constant_level}
+use Rattle.decompiler.proofs.Common.{Made, free, fresh, make_not, make_and, make_or, Formula, Const, Read, Not, And, Or, Xor, constant_level, Extension, Tree, AName, AUnary, ABinary, Word, each_not, word_by_position, guard_nodes, Context, bits_of, make_source, met_by, met_word, operator_word, Shape, Number, Single, Set, meeting, width_of, Source, Zero, Held, Term, ReadTerm, UnaryOf, BinaryOf, extended_if, term_named, term_of, constant_of, PinLiteral, name_text, q_if}
 use Rattle.bit_expr.proofs.FoldingCases.{and_makes, and_one_left, and_one_right, and_zero_left, and_zero_right, or_makes, or_one_left, or_one_right, or_zero_left, or_zero_right}
-use Rattle.abel_tree.specs.declared.words.Extension.{Extension}
 use Rattle.abel_tree.specs.declared.words.Unary.TheVariants as unary
 use Rattle.abel_tree.specs.declared.words.Binary.TheVariants as binary
-use Rattle.abel_tree.specs.Tree.{Tree, AName, AUnary, ABinary}
-use Rattle.abel_meaning.specs.BitWords.{Word, each_not, word_by_position}
-use Rattle.abel_meaning.specs.CountedNodes.{guard_nodes}
-use Rattle.abel_meaning.specs.Designs.{Context}
-use Rattle.abel_meaning.specs.FormulaBits.{bits_of, make_source, met_by, met_word, operator_word}
-use Rattle.abel_meaning.specs.Numbers.{Shape, Number, Single, Set, meeting, width_of}
-use Rattle.abel_meaning.specs.Sources.{Source, Zero, Held, source_of}
-use Rattle.abel_meaning.specs.Terms.{Term, Read as ReadTerm, UnaryOf, BinaryOf, extended_if, term_named, term_of}
-use Rattle.abel_meaning.specs.Values.{constant_of}
-use Rattle.decompiled.specs.declared.literal.PinLiteral.{PinLiteral}
-use Rattle.decompiled.specs.SourceText.{name_text, q_if}
+use Rattle.abel_meaning.specs.Sources.{source_of}
 use Rattle.decompiler.proofs.EachTree.{HoldsBySteps}
 use Rattle.decompiler.proofs.FoundBits.{IsNarrow, narrow_met}
 

@@ -1,36 +1,14 @@
 -- A device can take the netlist of a decompiled source.
 use Rattle.std.proofs.Common.{◌≡◌, ℕ, suc, ◌<◌, inl, inr, Bool, true, false, not, Some, List, slice_get, refl, sym, ap, ◌∙◌, eqb-true}
-use Rattle.std.proofs.lemmas.Bool.{true≢false}
-use Rattle.pld_device.specs.declared.flip.Flip.{Flip}
-use Rattle.pld_device.specs.declared.flip.Flip.TheVariants.{Always, AfterRegister, BeforeRegister}
-use Rattle.pld_device.specs.Laws.{IsDevice}
-use Rattle.pld_device.specs.Macrocells.{pin_complements}
-use Rattle.pld_device.specs.Registers.{is_inverted}
-use Rattle.pld_device.specs.Table.{Table}
-use Rattle.bit_expr.specs.Arena.{arena}
-use Rattle.abel_tree.specs.Entries.{Kind, ANode, follows_q}
-use Rattle.abel_tree.specs.Tree.{ModuleTree}
-use Rattle.abel_meaning.specs.Controls.{is_pin}
-use Rattle.abel_meaning.specs.Designs.{Design, design_of, name_at}
-use Rattle.abel_meaning.specs.SignalReads.{HasNoSignalLoop, HasNoSignalPath}
-use Rattle.netlist_laws.specs.Takeable.{NodesAreFew, PinsApart}
+use Rattle.decompiler.proofs.Common.{true≢false, Flip, Always, AfterRegister, BeforeRegister, IsDevice, pin_complements, is_inverted, Table, arena, Kind, ANode, follows_q, ModuleTree, is_pin, Design, design_of, name_at, HasNoSignalLoop, HasNoSignalPath, NodesAreFew, PinsApart, Contributions, AreContributed, IsSourceTree, pins_of, source_of, taken_once, cell_name, IsNameAt, names_at, is_named, DesignsAreTakeable}
 use Rattle.design.specs.Accepted.{BuffersAreBehind}
 use Rattle.design.specs.Unrefused.{IsUnrefused}
 use Rattle.design.specs.AcceptedCorrect.{UnrefusedIsTakeable}
 use Rattle.design.specs.AssignedCorrect.{HasSoundDeclarations}
 use Rattle.design.proofs.SoundModules.{all_accepted}
-use Rattle.set_expr.specs.declared.contributions.Contributions.{Contributions}
-use Rattle.source_sections.specs.SectionAnswers.{AreContributed}
 use Rattle.design_checks.specs.declared.rules.Rule.TheVariants as rule
-use Rattle.decompiled.specs.SourceTrees.{IsSourceTree}
-use Rattle.decompiled.specs.Sources.{pins_of, source_of}
-use Rattle.decompiled_logic.proofs.PinPlaces.{taken_once}
-use Rattle.decompiled_logic.proofs.PinWords.{cell_name}
-use Rattle.decompiled_logic.proofs.SourceNames.{IsNameAt, names_at}
-use Rattle.decompiled_logic.proofs.SourcePins.{is_named}
 use Rattle.decompiler.proofs.PlainNames.{names_plain}
 use Rattle.decompiler.proofs.UnrefusedSections.{good_lines, sections_pass}
-use Rattle.decompiler.specs.Designs.{DesignsAreTakeable}
 use Rattle.decompiler.proofs.CellChains.{no_signal_loop, no_signal_path}
 use Rattle.decompiler.proofs.PinTargets.{no_nodes, targets_pass}
 use Rattle.decompiler.proofs.ReadUses.{none_missing, none_unread}

@@ -1,9 +1,7 @@
 -- A logic in which no cell is exchanged is the logic itself.
 use Rattle.std.proofs.Common.{◌≡◌, ℕ, suc, Bool, false, List, [], ◌∷◌, refl, ap, ap₂}
+use Rattle.decompiler.proofs.Common.{Logic, Levels, NodeValues}
 use Rattle.std.proofs.Math.Path.{fun_ext}
-use Rattle.pld_base.specs.Logic.{Logic}
-use Rattle.pld_base.specs.Points.{Levels}
-use Rattle.pld_machine.specs.Comparison.{NodeValues}
 use Rattle.pld_machine.specs.Exchanged.{exchanged, exchanged_at, exchanged_from, exchanged_values, in_sense}
 
 module _ (x : ℕ → Bool) (none : (c : ℕ) → x c ≡ false) where

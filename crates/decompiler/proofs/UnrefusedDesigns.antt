@@ -1,31 +1,11 @@
 -- Nothing is refused of the design of a decompiled source.
 use Rattle.std.proofs.Common.{◌≡◌, Bool, List, [], ◌++◌, map, ap, ◌∙◌}
-use Rattle.std.specs.List.{AllByRecursion}
-use Rattle.pld_device.specs.Laws.{IsDevice}
-use Rattle.pld_device.specs.Table.{Table}
-use Rattle.bit_expr.specs.Arena.{arena}
-use Rattle.bit_expr.specs.Formulas.{Formula}
-use Rattle.abel_tree.specs.Tree.{ModuleTree}
-use Rattle.abel_meaning.specs.Designs.{Design, design_of}
-use Rattle.set_expr.specs.declared.contributions.Contribution.{Contribution}
-use Rattle.set_expr.specs.declared.contributions.Contributions.{Contributions}
-use Rattle.source_sections.specs.SectionAnswers.{AreContributed}
-use Rattle.design_checks.specs.Refused.{no_controls, other_levels, refuses, targets_refused}
+use Rattle.decompiler.proofs.Common.{AllByRecursion, IsDevice, Table, arena, Formula, ModuleTree, Design, design_of, Contribution, Contributions, AreContributed, no_controls, other_levels, refuses, targets_refused, Rule, missing_uses, RefusedUse, told, unwritten, IsSourceTree, lines_of, source_of, leaf_of, signal_of, given_is, DesignsAreUnrefused}
 use Rattle.design_checks.specs.Verdict.{HasSoundSignals}
-use Rattle.design_checks.specs.declared.rules.Rule.{Rule}
 use Rattle.design_checks.specs.declared.rules.Rule.TheVariants as rule
-use Rattle.design_checks.specs.RefusedUses.{missing_uses}
-use Rattle.design_checks.specs.declared.refused.RefusedUse.{RefusedUse}
-use Rattle.design_checks.specs.UsesRefused.{told}
-use Rattle.design_checks.specs.Written.{unwritten}
-use Rattle.decompiled.specs.SourceTrees.{IsSourceTree}
-use Rattle.decompiled.specs.Sources.{lines_of, source_of}
-use Rattle.decompiled_logic.specs.Signals.{leaf_of, signal_of}
-use Rattle.decompiled_logic.proofs.SourceReads.{given_is}
 use Rattle.decompiler.proofs.LineManners.{IsGoodLine}
 use Rattle.decompiler.proofs.PlainNames.{names_plain}
 use Rattle.decompiler.proofs.UnrefusedSections.{good_lines}
-use Rattle.decompiler.specs.Designs.{DesignsAreUnrefused}
 use Rattle.decompiler.proofs.CellChains.{no_signal_loop, no_signal_path}
 use Rattle.decompiler.proofs.LineTargets.{each_of_line}
 use Rattle.decompiler.proofs.PinTargets.{IsOf, no_nodes, targets_pass}

@@ -1,27 +1,6 @@
 -- Nothing is refused of the names of a decompiled source.
 use Rattle.std.proofs.Common.{◌≡◌, ℕ, inl, inr, Bool, true, None, Some, List, [], ◌∷◌, ◌++◌, slice_get, refl, sym, ap, ◌∙◌, append-nil, codes}
-use Rattle.std.specs.List.{AllByRecursion}
-use Rattle.std.proofs.lemmas.Bool.{cases_Bool}
-use Rattle.pld_device.specs.Laws.{IsDevice}
-use Rattle.pld_device.specs.Table.{Table}
-use Rattle.pld_base.specs.DeviceNames.{device_text}
-use Rattle.abel_tree.specs.Assigned.{Assigned, named_of, sections_assign}
-use Rattle.abel_tree.specs.Entries.{ADeviceName, Entry, is_value, names_any}
-use Rattle.abel_tree.specs.Tree.{Declaration, ADevice, Equations, ModuleTree}
-use Rattle.abel_tree.specs.Uses.{list_uses}
-use Rattle.abel_meaning.specs.Declarations.{entry, no_words}
-use Rattle.decls.specs.declared.fault.NameFault.{NameFault}
-use Rattle.decls.specs.NameRefusals.{all_buffered, always_inverts, buffers_refused, module_buffers_refused, name_refusals, names_once, read_refusals, sections_refused}
-use Rattle.decls.specs.NamesBefore.{names_behind}
-use Rattle.decls.specs.Refused.{declarations_refused, uses_refused}
-use Rattle.decompiled.specs.declared.literal.PinLiteral.{PinLiteral}
-use Rattle.decompiled.specs.declared.pin_line.PinLine.{PinLine}
-use Rattle.decompiled.specs.declared.sum_line.SumLine.{SumLine}
-use Rattle.decompiled.specs.SourceText.{name_text}
-use Rattle.decompiled.specs.SourceTrees.{word, IsSourceTree}
-use Rattle.decompiled.specs.Sources.{lines_of, pin_line, source_of}
-use Rattle.decompiled.proofs.Each.{each_weaker}
-use Rattle.decompiled_logic.proofs.SourcePins.{IsDeclared, IsDeclaredLine, IsDeclaredLiteral, declared_at, line_there, lines_declared, pins_apart, pins_low}
+use Rattle.decompiler.proofs.Common.{AllByRecursion, cases_Bool, IsDevice, Table, device_text, Assigned, named_of, sections_assign, ADeviceName, Entry, is_value, names_any, Declaration, ADevice, Equations, ModuleTree, list_uses, entry, no_words, NameFault, all_buffered, always_inverts, buffers_refused, module_buffers_refused, name_refusals, names_once, read_refusals, sections_refused, names_behind, declarations_refused, uses_refused, PinLiteral, PinLine, SumLine, name_text, word, IsSourceTree, lines_of, pin_line, source_of, each_weaker, IsDeclared, IsDeclaredLine, IsDeclaredLiteral, declared_at, line_there, lines_declared, pins_apart, pins_low}
 use Rattle.decompiler.proofs.SignalPins.{pins_signal}
 use Rattle.decompiler.specs.Names.{NamesAreUnrefused}
 use Rattle.decompiler.proofs.NewPins.{IsGoodPin, IsNew, behind_pins, declarations_pass}

@@ -1,27 +1,10 @@
 -- Nothing is refused of the equations of a decompiled source.
 use Rattle.std.proofs.Common.{◌≡◌, ℕ, ◌+◌, ◌*◌, ◌≤◌, Bool, true, false, List, [], ◌∷◌, ◌++◌, length, refl, sym, ap, subst, ◌∙◌, arith, append-nil}
 use Rattle.std.specs.Prelude.{nat_lt}
-use Rattle.std.specs.List.{AllByRecursion}
-use Rattle.std.proofs.lemmas.Bool.{and_right, le-ltb}
-use Rattle.pld_device.specs.Laws.{IsDevice}
-use Rattle.pld_device.specs.Table.{Table}
-use Rattle.bit_expr.specs.Arena.{MOST, arena}
-use Rattle.bit_expr.specs.Formulas.{Const}
-use Rattle.abel_tree.specs.Tree.{Statement, Equations, ModuleTree, statements_of}
-use Rattle.abel_meaning.specs.Designs.{Design, design_of}
-use Rattle.set_expr.specs.declared.fault.SectionFault.{SectionFault}
-use Rattle.section_targets.specs.declared.manner.Manner.{Manner}
-use Rattle.section_targets.specs.Units.{CountedUnit, all_refused, is_past, limit_at, limit_refused, units_nodes, units_refused}
-use Rattle.equations.specs.StatementUnits.{statement_manners, units_of_statements}
-use Rattle.source_sections.specs.SectionAnswers.{sections_refused, source_units}
-use Rattle.source_sections.specs.SectionUnits.{units_of_sections}
+use Rattle.decompiler.proofs.Common.{AllByRecursion, and_right, le-ltb, IsDevice, Table, MOST, arena, Const, Statement, Equations, ModuleTree, statements_of, Design, design_of, SectionFault, Manner, CountedUnit, all_refused, is_past, limit_at, limit_refused, units_nodes, units_refused, statement_manners, units_of_statements, source_units, units_of_sections, SumLine, AreLines, IsSourceTree, lines_of, source_of, each_append, IsDeclaredLine, lines_declared}
+use Rattle.source_sections.specs.SectionAnswers.{sections_refused}
 use Rattle.abel_vectors.specs.AllSections.{all_sections_refused}
 use Rattle.abel_vectors.specs.SourceVectors.{refused_behind}
-use Rattle.decompiled.specs.declared.sum_line.SumLine.{SumLine}
-use Rattle.decompiled.specs.SourceTrees.{AreLines, IsSourceTree}
-use Rattle.decompiled.specs.Sources.{lines_of, source_of}
-use Rattle.decompiled.proofs.Each.{each_append}
-use Rattle.decompiled_logic.proofs.SourcePins.{IsDeclaredLine, lines_declared}
 use Rattle.decompiler.specs.Sections.{SectionsAreUnrefused}
 use Rattle.decompiler.proofs.LineManners.{IsGoodLine, IsLineManner, line_manner}
 use Rattle.decompiler.proofs.LineUnits.{manner_is, unit_is}

@@ -1,24 +1,7 @@
 -- Nothing is refused of the uses of names in equations whose pins are declared.
 use Rattle.std.proofs.Common.{◌≡◌, ℕ, zero, suc, Bool, true, false, Option, Some, List, [], ◌∷◌, ◌++◌, slice_get, refl, sym, ap, ◌∙◌, append_assoc}
 use Rattle.std.specs.Prelude.{bytes_eq}
-use Rattle.std.specs.List.{AllByRecursion}
-use Rattle.std.proofs.lemmas.Bool.{true≢false}
-use Rattle.std.proofs.lemmas.Slice.Eq.{bytes_eq-Decides}
-use Rattle.pld_base.specs.declared.place.Place.{Place}
-use Rattle.abel_tree.specs.declared.words.Extension.{Extension}
-use Rattle.abel_tree.specs.Entries.{APin, Entry, is_value, names_any}
-use Rattle.abel_tree.specs.Tree.{Tree, AName, Statement}
-use Rattle.abel_tree.specs.Uses.{Use, list_uses, statement_uses, uses}
-use Rattle.abel_meaning.specs.Declarations.{entry}
-use Rattle.decls.specs.declared.fault.NameFault.{NameFault}
-use Rattle.decls.specs.Refused.{use_refused, uses_refused}
-use Rattle.decompiled.specs.declared.literal.PinLiteral.{PinLiteral}
-use Rattle.decompiled.specs.declared.pin_line.PinLine.{PinLine}
-use Rattle.decompiled.specs.declared.sum_line.SumLine.{SumLine}
-use Rattle.decompiled.specs.SourceText.{name_text, q_if}
-use Rattle.decompiled.specs.SourceTrees.{word, IsLine, AreLines}
-use Rattle.decompiled_logic.specs.PinNames.{said, ArePinEntries}
-use Rattle.decompiled_logic.proofs.PinPlaces.{same_some}
+use Rattle.decompiler.proofs.Common.{AllByRecursion, true≢false, bytes_eq-Decides, Place, Extension, APin, Entry, is_value, names_any, Tree, AName, Statement, Use, list_uses, statement_uses, uses, entry, NameFault, use_refused, uses_refused, PinLiteral, PinLine, SumLine, name_text, q_if, word, IsLine, AreLines, said, ArePinEntries, same_some}
 use Rattle.decompiler.proofs.EachTree.{HoldsBySteps, sum_holds}
 
 -- the name of a pin that is declared is a value's

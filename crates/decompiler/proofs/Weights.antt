@@ -1,12 +1,7 @@
 -- How much the tree of a sum weighs.
 use Rattle.std.proofs.Common.{◌≡◌, ℕ, ◌+◌, ◌*◌, ◌≤◌, Bool, true, false, Option, List, [], ◌∷◌, length, ap, arith}
-use Rattle.std.specs.List.{AllByRecursion}
-use Rattle.abel_tree.specs.declared.words.Extension.{Extension}
+use Rattle.decompiler.proofs.Common.{AllByRecursion, Extension, Tree, ABinary, PinLiteral, q_if, IsJoined, IsLiteral, IsNamed, IsNumber, IsProduct, IsSigned, IsSum}
 use Rattle.abel_tree.specs.declared.words.Binary.TheVariants as binary
-use Rattle.abel_tree.specs.Tree.{Tree, ABinary}
-use Rattle.decompiled.specs.declared.literal.PinLiteral.{PinLiteral}
-use Rattle.decompiled.specs.SourceText.{q_if}
-use Rattle.decompiled.specs.SourceTrees.{IsJoined, IsLiteral, IsNamed, IsNumber, IsProduct, IsSigned, IsSum}
 use Rattle.decompiler.proofs.OwnLines.{IsShortProduct}
 use Rattle.decompiler.proofs.SmallBits.{weight}
 

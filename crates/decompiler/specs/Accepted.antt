@@ -1,15 +1,6 @@
 -- That a decompiled source is accepted, and fits as it is written (this project's rule).
 use Rattle.std.specs.Prelude.{◌≡◌, Bool, List, length}
-use Rattle.pld_order.specs.Graphs.{HasNoLoop}
-use Rattle.pld_device.specs.Laws.{IsDevice}
-use Rattle.pld_device.specs.Table.{Table}
-use Rattle.device_logic.specs.CellReads.{cell_reads}
-use Rattle.device_logic.specs.ResetPaths.{HasNoResetPath}
-use Rattle.abel_tree.specs.Tree.{ModuleTree}
-use Rattle.decompiled.specs.SourceTrees.{IsSourceTree}
-use Rattle.decompiled.specs.Sources.{source_of}
-use Rattle.compile_phases.specs.Fits.{FitsAsWritten}
-use Rattle.compile_phases.specs.SourceRefusals.{IsAcceptedFor}
+use Rattle.decompiler.specs.Prelude.{HasNoLoop, IsDevice, Table, cell_reads, HasNoResetPath, ModuleTree, IsSourceTree, source_of, FitsAsWritten, IsAcceptedFor}
 
 -- nothing at all is refused of a module that is the fuses' source, where these have no loop and no reset path
 abbrev pub SourcesAreAccepted : Type 0

@@ -1,15 +1,11 @@
 -- How many products the written list of a formula has at most (this project's rule; that a sum has the products of both, and
 -- a product each of one with each of the other, is the distributive law of switching algebra).
 use Rattle.std.specs.Prelude.{◌≡◌, ℕ, ◌+◌, ◌*◌, ◌≤◌, Bool, true, false, not, if◌then◌else◌, List, length, Some}
-use Rattle.pld_base.specs.Bits.{same_level}
-use Rattle.bit_expr.specs.declared.netlist.Netlist.{Netlist}
-use Rattle.bit_expr.specs.declared.node.Leaf.{Leaf}
+use Rattle.decompiler.specs.Prelude.{same_level, Netlist, Leaf, Formula, Const, Read, Not, And, Or, Xor, written}
 use Rattle.bit_expr.specs.declared.node.Leaf.TheVariants as leaf
-use Rattle.bit_expr.specs.Formulas.{Formula, Const, Read, Not, And, Or, Xor}
 use Rattle.covers.specs.declared.cube.Cube.{Cube}
 use Rattle.sop_lowering.specs.Products.{Products}
 use Rattle.sop_lowering.specs.Through.{EachLeaf}
-use Rattle.sop_lowering.specs.Written.{written}
 
 -- the most products that a formula has in a polarity: a constant that has the level is one product, and else none
 abbrev pub bound : Formula → (positive : Bool) → ℕ

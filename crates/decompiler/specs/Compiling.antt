@@ -1,19 +1,10 @@
 -- That the text of a device's fuses is compiled (this project's rule).
 use Rattle.std.specs.Prelude.{◌≡◌, ◌≤◌, Bool, List, length, Result, Ok, Err}
-use Rattle.pld_base.specs.declared.device_name.DeviceName.{DeviceName}
-use Rattle.pld_order.specs.Graphs.{HasNoLoop}
-use Rattle.pld_device.specs.Table.{Table}
-use Rattle.device_logic.specs.CellReads.{cell_reads}
-use Rattle.device_logic.specs.ResetPaths.{HasNoResetPath}
-use Rattle.devices.specs.Devices.{table_of}
+use Rattle.decompiler.specs.Prelude.{DeviceName, HasNoLoop, Table, cell_reads, HasNoResetPath, table_of, FitsAsWritten, IsAcceptedFor, IsReadFor, IsPlacedModule, decompiled_text}
 use Rattle.compile_phases.specs.declared.fault.CompileFault.{CompileFault}
 use Rattle.compile_phases.specs.declared.fault.CompileFault.TheVariants.{OutOfMemory}
-use Rattle.compile_phases.specs.Fits.{FitsAsWritten}
-use Rattle.compile_phases.specs.SourceRefusals.{IsAcceptedFor, IsReadFor}
 use Rattle.abel_compile.specs.declared.compiled.Compiled.{Compiled}
 use Rattle.abel_compile.specs.Answers.{IsNeverRefused}
-use Rattle.placer.specs.Placements.{IsPlacedModule}
-use Rattle.decompiled.specs.Sources.{decompiled_text}
 
 -- the fuses of a device that is loaded: no chain of reads returns or leads from the reset to a register
 pub record AreLoadable (t : Table) (fuses : List Bool) : Type 0 where

@@ -1,22 +1,13 @@
 -- That the netlist of a decompiled source fits as it is written (this project's rule).
 use Rattle.std.specs.Prelude.{◌≡◌, ℕ, Some, List, Bool}
-use Rattle.pld_device.specs.Laws.{IsDevice}
-use Rattle.pld_device.specs.Table.{Table}
+use Rattle.decompiler.specs.Prelude.{IsDevice, Table, Netlist, Leaf, ModuleTree, FitsAsWritten, HasRoom, IsNetlistOf, PinLiteral, IsSourceTree, source_of}
 use Rattle.bit_expr.specs.declared.netlist.CellWanted.{CellWanted}
-use Rattle.bit_expr.specs.declared.netlist.Netlist.{Netlist}
-use Rattle.bit_expr.specs.declared.node.Leaf.{Leaf}
-use Rattle.abel_tree.specs.Tree.{ModuleTree}
 use Rattle.abel_meaning.specs.Netlists.{plain_netlist}
 use Rattle.abel_meaning.specs.SoundIds.{IsSoundNetlist}
 use Rattle.fitter.specs.Plans.{cell_wanted}
 use Rattle.fitter.specs.Width.{NoneWide}
 use Rattle.fitter.specs.Answers.{HasControls}
-use Rattle.compile_phases.specs.Fits.{FitsAsWritten, HasRoom}
-use Rattle.compile_phases.specs.SourceRefusals.{IsNetlistOf}
-use Rattle.decompiled.specs.declared.literal.PinLiteral.{PinLiteral}
-use Rattle.decompiled.specs.SourceTrees.{IsSourceTree}
-use Rattle.decompiled.specs.Sources.{source_of}
-use Rattle.decompiled_logic.specs.Alike.{IsFusesNetlist}
+use Rattle.decompiled.specs.Alike.{IsFusesNetlist}
 use Rattle.decompiler.specs.ShortSums.{ReadNoNode}
 
 -- the controls of the netlist are shared and one product each, and each assigned cell has room

@@ -8,6 +8,7 @@ pub mod Held
 pub mod Names
 pub mod Netlists
 pub mod Placed
+pub mod Prelude
 pub mod Reading
 pub mod Recompiled
 pub mod Right

@@ -1,11 +1,7 @@
 -- What is refused of the names of a decompiled source: nothing (this project's rule).
 use Rattle.std.specs.Prelude.{◌≡◌, Bool, List, []}
-use Rattle.pld_device.specs.Laws.{IsDevice}
-use Rattle.pld_device.specs.Table.{Table}
-use Rattle.abel_tree.specs.Tree.{ModuleTree}
+use Rattle.decompiler.specs.Prelude.{IsDevice, Table, ModuleTree, IsSourceTree, source_of}
 use Rattle.decls.specs.NameRefusals.{name_refusals}
-use Rattle.decompiled.specs.SourceTrees.{IsSourceTree}
-use Rattle.decompiled.specs.Sources.{source_of}
 
 -- nothing is refused of the names of a module that is the fuses' source
 abbrev pub NamesAreUnrefused : Type 0

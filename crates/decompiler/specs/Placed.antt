@@ -1,11 +1,6 @@
 -- That a decompiled source has nothing to place (this project's rule).
 use Rattle.std.specs.Prelude.{Bool, List}
-use Rattle.pld_device.specs.Laws.{IsDevice}
-use Rattle.pld_device.specs.Table.{Table}
-use Rattle.abel_tree.specs.Tree.{ModuleTree}
-use Rattle.placer.specs.Placements.{IsPlacedModule}
-use Rattle.decompiled.specs.SourceTrees.{IsSourceTree}
-use Rattle.decompiled.specs.Sources.{source_of}
+use Rattle.decompiler.specs.Prelude.{IsDevice, Table, ModuleTree, IsPlacedModule, IsSourceTree, source_of}
 
 -- a module that is the fuses' source is its own placed module
 abbrev pub SourcesArePlaced : Type 0

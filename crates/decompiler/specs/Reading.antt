@@ -1,10 +1,6 @@
 -- What the text of a device's fuses is read as (this project's rule).
 use Rattle.std.specs.Prelude.{ℕ, Bool, List}
-use Rattle.pld_device.specs.Table.{Table}
-use Rattle.abel_tree.specs.Tree.{ModuleTree}
-use Rattle.module_reader.specs.Texts.{IsRead}
-use Rattle.decompiled.specs.SourceTrees.{IsSourceTree}
-use Rattle.decompiled.specs.Sources.{source_of}
+use Rattle.decompiler.specs.Prelude.{Table, ModuleTree, IsRead, IsSourceTree, source_of}
 use Rattle.decompiler.specs.Right.{IsRightSource}
 
 -- the text is read as the module of the fuses' source

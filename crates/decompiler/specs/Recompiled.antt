@@ -1,12 +1,8 @@
 -- What a file is to fuses whose decompiled text is compiled to it (this project's rule).
 use Rattle.std.specs.Prelude.{◌≡◌, ℕ, Bool, List}
-use Rattle.pld_base.specs.declared.device_name.DeviceName.{DeviceName}
-use Rattle.pld_device.specs.Macrocells.{device_logic}
+use Rattle.decompiler.specs.Prelude.{DeviceName, device_logic, SpellsModule, table_of, decompiled_text}
 use Rattle.fuse_compare.specs.Alike.{RunsAlike}
-use Rattle.module_reader.specs.Texts.{SpellsModule}
-use Rattle.devices.specs.Devices.{table_of}
 use Rattle.abel_compile.specs.Statement.{IsRightFile}
-use Rattle.decompiled.specs.Sources.{decompiled_text}
 use Rattle.decompiler.specs.Compiling.{AreLoadable}
 
 -- the file is for this device; and each run of the device with the fuses of the file is one with the first fuses, and the other

@@ -1,18 +1,8 @@
 -- What the source of a device's fuses is (this project's rule).
 use Rattle.std.specs.Prelude.{◌≡◌, Bool, List, Some, length}
-use Rattle.pld_order.specs.Graphs.{HasNoLoop}
-use Rattle.pld_device.specs.Laws.{IsDevice}
-use Rattle.pld_device.specs.Table.{Table}
-use Rattle.device_logic.specs.CellReads.{cell_reads}
-use Rattle.device_logic.specs.ResetPaths.{HasNoResetPath}
-use Rattle.abel_tree.specs.Tree.{ModuleTree}
+use Rattle.decompiler.specs.Prelude.{HasNoLoop, IsDevice, Table, cell_reads, HasNoResetPath, ModuleTree, IsPlacedModule, IsSourceTree, FitsAsWritten, IsAcceptedFor, source_of}
 use Rattle.abel_meaning.specs.DeviceStrings.{device_named}
-use Rattle.placer.specs.Placements.{IsPlacedModule}
-use Rattle.decompiled.specs.SourceTrees.{IsSourceTree}
-use Rattle.compile_phases.specs.Fits.{FitsAsWritten}
-use Rattle.compile_phases.specs.SourceRefusals.{IsAcceptedFor}
-use Rattle.decompiled.specs.Sources.{source_of}
-use Rattle.decompiled_logic.specs.Runs.{SaysWhatItDoes}
+use Rattle.decompiled.specs.Runs.{SaysWhatItDoes}
 
 -- it names the device and has nothing to place, nothing is refused of it and it fits as it is written, so it is compiled; and
 -- it says what the device with the fuses does

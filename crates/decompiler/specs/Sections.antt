@@ -1,11 +1,6 @@
 -- What is refused of the equations of a decompiled source: nothing (this project's rule).
 use Rattle.std.specs.Prelude.{◌≡◌, Bool, List, []}
-use Rattle.pld_device.specs.Laws.{IsDevice}
-use Rattle.pld_device.specs.Table.{Table}
-use Rattle.abel_tree.specs.Tree.{ModuleTree}
-use Rattle.abel_meaning.specs.Designs.{design_of}
-use Rattle.decompiled.specs.SourceTrees.{IsSourceTree}
-use Rattle.decompiled.specs.Sources.{source_of}
+use Rattle.decompiler.specs.Prelude.{IsDevice, Table, ModuleTree, design_of, IsSourceTree, source_of}
 use Rattle.abel_vectors.specs.AllSections.{all_sections_refused}
 
 -- nothing is refused of the constants, sections and vectors of a module that is the fuses' source

@@ -1,11 +1,8 @@
 -- The written list of a sum of products over pins and Qs (this project's rule).
 use Rattle.std.specs.Prelude.{◌≤◌, true, List, length}
-use Rattle.bit_expr.specs.declared.netlist.Netlist.{Netlist}
-use Rattle.bit_expr.specs.declared.node.Leaf.{Leaf}
-use Rattle.sop_lowering.specs.Written.{written}
+use Rattle.decompiler.specs.Prelude.{Netlist, Leaf, written, PinLiteral}
 use Rattle.decompiler.specs.Bounds.{IsNoNode, IsShort}
-use Rattle.decompiled.specs.declared.literal.PinLiteral.{PinLiteral}
-use Rattle.decompiled_logic.specs.SumFormulas.{sum_formula}
+use Rattle.decompiled.specs.SumFormulas.{sum_formula}
 
 -- no literal reads a node
 abbrev pub ReadNoNode : (PinLiteral → Leaf) → Type 0

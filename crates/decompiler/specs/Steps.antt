@@ -1,14 +1,10 @@
 -- Steps of the decompiler. These are private helpers: no public clause cites them.
 use Rattle.std.specs.Prelude.{◌≡◌, ℕ, ◌+◌, ◌*◌, Bool, true, false, Option, None, Some, List, [], ◌∷◌, ◌++◌, length, map, slice_get, if◌then◌else◌}
-use Rattle.std.specs.List.{list_any}
-use Rattle.pld_base.specs.Bits.{is_on}
+use Rattle.decompiler.specs.Prelude.{list_any, is_on, Table, PinLiteral, named, names_pin, pin_line}
 use Rattle.pld_device.specs.declared.carry.Carry.{Carry}
-use Rattle.pld_device.specs.Table.{Table}
-use Rattle.decompiled.specs.declared.literal.PinLiteral.{PinLiteral}
 use Rattle.decompiled.specs.declared.pin_line.PinLine.{PinLine}
 use Rattle.decompiled.specs.declared.sum_line.SumLine.{SumLine}
 use Rattle.decompiled.specs.RowLiterals.{ColumnLiteral, if_intact, literal}
-use Rattle.decompiled.specs.Sources.{named, names_pin, pin_line}
 
 -- the levels of a device's fuses, of which this is the array
 pub record AreFuses (t : Table) (levels array : List Bool) : Type 0 where

@@ -1,11 +1,8 @@
 //! From a device's fuses to the text of a source.
 
 ghost use Rattle.std.specs.Prelude.{◌≡◌, IfErr, IfOk, length};
-ghost use Rattle.pld_order.specs.Graphs.{HasNoLoop};
-ghost use Rattle.device_logic.specs.CellReads.{cell_reads};
+ghost use Rattle.decompiler.specs.Prelude.{HasNoLoop, cell_reads, HasNoResetPath, decompiled_text, source_of};
 ghost use Rattle.device_logic.specs.LoadFaults.{IsLoadFault};
-ghost use Rattle.device_logic.specs.ResetPaths.{HasNoResetPath};
-ghost use Rattle.decompiled.specs.Sources.{decompiled_text, source_of};
 ghost use Rattle.decompiler.specs.Reading.{IsDecompiled, IsReadAsSource};
 
 use crate::device_fuses::DeviceFuses;

@@ -1,11 +1,10 @@
 //! A device's fuses, one by one and by what they say of rows and cells.
 
 ghost use Rattle.std.specs.Prelude.{◌≡◌, ◌<◌, IfOk, IfSome, length};
+ghost use Rattle.decompiler.specs.Prelude.{is_live, first_register, has_lines};
 ghost use Rattle.pld_device.specs.Given.{never_drives};
 ghost use Rattle.pld_device.specs.Registers.{is_inverted, stores};
 ghost use Rattle.pld_device.specs.Rows.{row_fuses};
-ghost use Rattle.device_logic.specs.Array.{is_live};
-ghost use Rattle.decompiled.specs.Sources.{first_register, has_lines};
 
 use device_logic::{FuseArray, cell_of};
 use pld_base::OutOfMemory;

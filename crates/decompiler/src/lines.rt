@@ -1,9 +1,7 @@
 //! The lines of cells.
 
 ghost use Rattle.std.specs.Prelude.{◌≡◌, ◌<◌, ◌++◌, IfOk, IfSome, OnOk, length};
-ghost use Rattle.pld_device.specs.Macrocells.{data_complements, pin_complements};
-ghost use Rattle.pld_device.specs.Table.{cell_at};
-ghost use Rattle.decompiled.specs.Sources.{cell_lines, data_line, enable_lines, first_register, is_complement, lines_of, shared_lines};
+ghost use Rattle.decompiler.specs.Prelude.{data_complements, pin_complements, cell_at, cell_lines, data_line, enable_lines, first_register, is_complement, lines_of, shared_lines};
 
 use crate::device_fuses::DeviceFuses;
 use abel_tree::Extension;

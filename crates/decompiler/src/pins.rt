@@ -1,8 +1,7 @@
 //! The pins that lines name.
 
 ghost use Rattle.std.specs.Prelude.{◌≡◌, ◌<◌, ◌++◌, IfOk, IfSome, OnOk, length, map, filter};
-ghost use Rattle.std.specs.List.{list_any, range_with_len};
-ghost use Rattle.decompiled.specs.Sources.{is_register_on, names_pin, pin_line, product_names, register_on};
+ghost use Rattle.decompiler.specs.Prelude.{list_any, range_with_len, is_register_on, names_pin, pin_line, product_names, register_on};
 ghost use Rattle.decompiler.specs.Steps.{pin_if_named};
 
 use crate::device_fuses::DeviceFuses;

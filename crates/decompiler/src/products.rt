@@ -1,9 +1,7 @@
 //! Rows as products of literals.
 
 ghost use Rattle.std.specs.Prelude.{◌≡◌, ◌+◌, ◌<◌, ◌≤◌, ◌++◌, IfOk, OnOk, length, map, filter};
-ghost use Rattle.std.specs.List.{range_with_len};
-ghost use Rattle.device_logic.specs.Array.{CarryInRange, is_live};
-ghost use Rattle.decompiled.specs.Sources.{control_products, named_by, product_of};
+ghost use Rattle.decompiler.specs.Prelude.{range_with_len, CarryInRange, is_live, control_products, named_by, product_of};
 ghost use Rattle.decompiler.specs.Steps.{pair_literals};
 
 use crate::device_fuses::DeviceFuses;

@@ -1,6 +1,5 @@
 use Rattle.std.proofs.Common.{ap, ◌∙◌}
-use Rattle.decompiled.specs.SourceText.{source_text}
-use Rattle.decompiled.specs.Sources.{source_of}
+use Rattle.decompiler.proofs.Common.{source_text, source_of}
 use Rattle.decompiler.proofs.ReadTexts.{is_decompiled, read_as_source}
 use Rattle.decompiler.proofs.decompiling.decompile.Goals as goal
 

@@ -1,10 +1,7 @@
 use Rattle.std.proofs.Common.{◌≡◌, ◌+◌, Bool, true, false, List, [], ◌∷◌, ℕ, refl, ap, ◌∙◌, arith}
 use Rattle.std.specs.Prelude.{flat_map, map, filter}
-use Rattle.std.specs.List.{range_with_len}
-use Rattle.pld_device.specs.Table.{Table}
-use Rattle.pld_device.specs.Reads.{is_never_true}
+use Rattle.decompiler.proofs.Common.{range_with_len, Table, is_never_true, control_products, product_of}
 use Rattle.device_logic.specs.Array.{is_live}
-use Rattle.decompiled.specs.Sources.{control_products, product_of}
 use Rattle.decompiler.proofs.Ranges.{more_given}
 use Rattle.decompiler.proofs.device_fuses.DeviceFuses.data_sum.Goals as goal
 

@@ -1,6 +1,5 @@
 use Rattle.std.proofs.Common.{◌≡◌, flat_map}
-use Rattle.std.specs.List.{range_with_len}
-use Rattle.decompiled.specs.Sources.{control_products}
+use Rattle.decompiler.proofs.Common.{range_with_len, control_products}
 use Rattle.decompiler.proofs.device_fuses.DeviceFuses.data_sum.Given as goal
 
 abbrev pub invariant-loop-offset : goal.invariant-loop-offset

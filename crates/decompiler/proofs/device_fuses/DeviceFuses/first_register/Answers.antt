@@ -1,5 +1,5 @@
 use Rattle.std.proofs.Common.{◌<◌, ◌≤◌, length, sym, ◌∙◌, arith}
-use Rattle.pld_device.specs.Registers.{stores}
+use Rattle.decompiler.proofs.Common.{stores}
 use Rattle.decompiler.proofs.Ranges.{next_left, found_here, none_left}
 use Rattle.decompiler.proofs.device_fuses.DeviceFuses.first_register.Goals as goal
 

@@ -1,6 +1,5 @@
 use Rattle.std.proofs.Common.{◌≡◌, ◌-◌, length}
-use Rattle.std.specs.List.{find, range_with_len}
-use Rattle.pld_device.specs.Registers.{stores}
+use Rattle.decompiler.proofs.Common.{find, range_with_len, stores}
 use Rattle.decompiler.proofs.device_fuses.DeviceFuses.first_register.Given as goal
 
 abbrev pub invariant-loop-cell : goal.invariant-loop-cell

@@ -1,7 +1,6 @@
 use Rattle.std.proofs.Common.{sym, ◌∙◌}
+use Rattle.decompiler.proofs.Common.{reset_if_any, preset_if_any, cell_lines}
 use Rattle.std.proofs.Math.Nat.{zero-add}
-use Rattle.device_logic.proofs.Ranges.{reset_if_any, preset_if_any}
-use Rattle.decompiled.specs.Sources.{cell_lines}
 use Rattle.decompiler.proofs.Ranges.{more_given}
 use Rattle.decompiler.proofs.device_fuses.DeviceFuses.lines.Goals as goal
 

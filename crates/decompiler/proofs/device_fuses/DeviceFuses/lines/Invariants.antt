@@ -1,6 +1,5 @@
 use Rattle.std.proofs.Common.{◌≡◌, flat_map}
-use Rattle.std.specs.List.{range_with_len}
-use Rattle.decompiled.specs.Sources.{cell_lines}
+use Rattle.decompiler.proofs.Common.{range_with_len, cell_lines}
 use Rattle.decompiler.proofs.device_fuses.DeviceFuses.lines.Given as goal
 
 abbrev pub invariant-loop-cell : goal.invariant-loop-cell

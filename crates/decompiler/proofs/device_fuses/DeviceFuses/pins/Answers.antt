@@ -1,7 +1,5 @@
 use Rattle.std.proofs.Common.{◌≡◌, ◌+◌, ◌∙◌, arith}
-use Rattle.std.specs.List.{list_any, range_with_len}
-use Rattle.decompiled.specs.Sources.{names_pin, pin_line}
-use Rattle.decompiler.specs.Steps.{pin_if_named}
+use Rattle.decompiler.proofs.Common.{list_any, range_with_len, names_pin, pin_line, pin_if_named}
 use Rattle.decompiler.proofs.Ranges.{more_given, given_chosen}
 use Rattle.decompiler.proofs.device_fuses.DeviceFuses.pins.Goals as goal
 

@@ -1,6 +1,5 @@
 use Rattle.std.proofs.Common.{◌≡◌, flat_map}
-use Rattle.std.specs.List.{range_with_len}
-use Rattle.decompiler.specs.Steps.{pin_if_named}
+use Rattle.decompiler.proofs.Common.{range_with_len, pin_if_named}
 use Rattle.decompiler.proofs.device_fuses.DeviceFuses.pins.Given as goal
 
 abbrev pub invariant-loop-before : goal.invariant-loop-before

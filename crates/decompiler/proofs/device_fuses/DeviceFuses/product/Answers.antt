@@ -1,5 +1,5 @@
 use Rattle.std.proofs.Common.{◌<◌, ◌≤◌, ◌≡◌, ◌*◌, length, refl, sym, ◌∙◌, arith}
-use Rattle.decompiled.specs.Sources.{named, product_of}
+use Rattle.decompiler.proofs.Common.{named, product_of}
 use Rattle.decompiler.proofs.PairLiterals.{shown_more, shown_all}
 use Rattle.decompiler.proofs.device_fuses.DeviceFuses.product.Goals as goal
 

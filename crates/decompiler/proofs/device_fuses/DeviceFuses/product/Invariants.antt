@@ -1,6 +1,5 @@
 use Rattle.std.proofs.Common.{◌≡◌, ◌*◌, ◌++◌, drop, map}
-use Rattle.decompiled.specs.RowLiterals.{literals_of}
-use Rattle.decompiled.specs.Sources.{named, product_of}
+use Rattle.decompiler.proofs.Common.{literals_of, named, product_of}
 use Rattle.decompiler.proofs.device_fuses.DeviceFuses.product.Given as goal
 
 -- the whole product is what is written, and what the pairs from this one on have

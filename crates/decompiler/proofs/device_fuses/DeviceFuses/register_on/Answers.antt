@@ -1,5 +1,5 @@
 use Rattle.std.proofs.Common.{◌<◌, ◌≤◌, length, sym, ◌∙◌, arith}
-use Rattle.decompiled.specs.Sources.{is_register_on}
+use Rattle.decompiler.proofs.Common.{is_register_on}
 use Rattle.decompiler.proofs.Ranges.{next_left, found_here, none_left}
 use Rattle.decompiler.proofs.device_fuses.DeviceFuses.register_on.Goals as goal
 

@@ -1,6 +1,5 @@
 use Rattle.std.proofs.Common.{◌≡◌, ◌-◌, length}
-use Rattle.std.specs.List.{find, range_with_len}
-use Rattle.decompiled.specs.Sources.{is_register_on}
+use Rattle.decompiler.proofs.Common.{find, range_with_len, is_register_on}
 use Rattle.decompiler.proofs.device_fuses.DeviceFuses.register_on.Given as goal
 
 abbrev pub invariant-loop-cell : goal.invariant-loop-cell
