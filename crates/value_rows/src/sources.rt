@@ -25,6 +25,14 @@ pub(crate) struct Source {
     pub(crate) names: Names,
 }
 
+/// The module that a text says, if it says one.
+fn read(alloc: Global, text: &[u8]) -> Option<Module> {
+    if text.len() > LONGEST {
+        return None;
+    }
+    read_module(alloc, text).ok()
+}
+
 /// The module that declares these names, and goes on with the row's text between two others.
 fn module_of(alloc: Global, names: &Found, front: &str, text: &str, back: &str) -> Option<Module> {
     let mut source = Found::new(alloc);
@@ -36,11 +44,7 @@ fn module_of(alloc: Global, names: &Found, front: &str, text: &str, back: &str) 
     source.text(text);
     source.text(back);
     source.text("\nend\n");
-    let bytes = source.bytes();
-    if bytes.len() > LONGEST {
-        return None;
-    }
-    read_module(alloc, bytes).ok()
+    read(alloc, source.bytes())
 }
 
 /// The names of a module for a device, if each pin has a number.
