@@ -1,18 +1,14 @@
 -- What is contributed is to names of the source.
 use Rattle.std.proofs.Common.{ℕ, ◌<◌, List, [], ◌∷◌, map, length, sym, ap, subst, ◌∙◌}
+use Rattle.netlist_rows.proofs.Common.{All-cons, All-nil, arena, entries_of, is_signal, view_module, AreToNames}
 use Rattle.std.proofs.lemmas.Bool.{true≢false}
-use Rattle.std.proofs.lemmas.List.Elements.{All-cons, All-nil}
 use Rattle.pld_device.specs.Table.{Table}
-use Rattle.bit_expr.specs.Arena.{arena}
-use Rattle.abel_tree.specs.Entries.{entries_of, is_signal}
-use Rattle.abel_tree.specs.View.{view_module}
 use Rattle.abel_meaning.specs.Designs.{Design, design_of}
 use Rattle.set_expr.specs.declared.contributions.Contribution.{Contribution}
 use Rattle.set_expr.specs.Given.{view_contribution}
 use Rattle.section_targets.proofs.KnownTargets.{IsSignalOf}
 use Rattle.netlist_laws.proofs.SoundLeaves.{inside}
 use Rattle.design.proofs.GivenSignals.{EachSignal, given_signals}
-use Rattle.design_checks.specs.SignalsRefused.{AreToNames}
 use Rattle.netlist_rows.specs.declared.drawing.Drawn.{Drawn}
 use Rattle.netlist_rows.specs.Drawn.{IsDrawn}
 

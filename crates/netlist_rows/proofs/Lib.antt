@@ -1,3 +1,4 @@
+pub mod Common
 mod DrawnNames
 mod LinkLeaves
 mod PlacedNames

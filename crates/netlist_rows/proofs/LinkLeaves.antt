@@ -1,11 +1,8 @@
 -- Links that each have a leaf that may be there.
 use Rattle.std.proofs.Common.{zero, suc, List, [], ◌∷◌, subst}
 use Rattle.std.specs.Prelude.{All, IfSome}
-use Rattle.std.proofs.lemmas.List.Elements.{All-head, All-tail}
-use Rattle.bit_expr.specs.Arena.{IsLeaf}
+use Rattle.netlist_rows.proofs.Common.{All-head, All-tail, IsLeaf, AreLeaves, HasLeaf}
 use Rattle.gathering.specs.declared.link.Link.{Link}
-use Rattle.gathering.specs.Links.{AreLeaves}
-use Rattle.netlist_rows.specs.Leaves.{HasLeaf}
 
 pub are_leaves : (rs : List Link) → All HasLeaf rs → AreLeaves rs
 are_leaves [] all v l is = absurd cc

@@ -1,13 +1,7 @@
 -- What is known of a source whose sections are read (this project's rule).
 use Rattle.std.specs.Prelude.{◌≡◌, length}
-use Rattle.pld_device.specs.Table.{Table}
-use Rattle.bit_expr.specs.Arena.{arena}
-use Rattle.abel_tree.specs.Entries.{entries_of}
-use Rattle.abel_tree.specs.SoundNames.{SoundNames}
-use Rattle.abel_tree.specs.View.{view_module}
+use Rattle.netlist_rows.specs.Prelude.{Table, arena, entries_of, SoundNames, view_module, design_of, names_of}
 use Rattle.design.specs.Accepted.{IsAccepted}
-use Rattle.abel_meaning.specs.Designs.{design_of}
-use Rattle.abel_meaning.specs.Kinds.{names_of}
 use Rattle.abel_meaning.specs.SignalReads.{given_formulas}
 use Rattle.set_expr.specs.Given.{given}
 use Rattle.gathering.specs.Parts.{AllLieIn}

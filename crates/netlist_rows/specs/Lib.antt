@@ -2,3 +2,4 @@ pub mod Drawn
 pub mod Leaves
 pub mod MixedTable
 pub mod Named
+pub mod Prelude

@@ -2,6 +2,7 @@
 -- without, and fixed fuses of both levels (this project's example).
 use Rattle.std.specs.Prelude.{ℕ, Bool, true, false, Some, List, [], ◌∷◌}
 use Rattle.std.proofs.Common.{refl}
+use Rattle.netlist_rows.specs.Prelude.{Table}
 use Rattle.pld_base.specs.declared.device_name.DeviceName.TheVariants.{GAL22V10}
 use Rattle.pld_device.specs.declared.carry.Carry.{Carry}
 use Rattle.pld_device.specs.declared.carry.Carry.TheVariants as carry
@@ -10,7 +11,6 @@ use Rattle.pld_device.specs.declared.enable.Enable.TheVariants.{Row, PinLow}
 use Rattle.pld_device.specs.declared.flip.Flip.TheVariants.{BeforeRegister}
 use Rattle.pld_device.specs.declared.fuse_bit.FuseBit.{FuseBit}
 use Rattle.pld_device.specs.declared.kinds.Kinds.TheVariants.{Combinational, Registered, Either}
-use Rattle.pld_device.specs.Table.{Table}
 use Rattle.pld_device.specs.Laws.{IsDevice}
 use Rattle.pld_device.specs.LawTests.{device_by_computation}
 

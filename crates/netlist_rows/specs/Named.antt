@@ -1,11 +1,7 @@
 -- What is known of the names of a source (this project's rule).
 use Rattle.std.specs.Prelude.{◌≡◌}
-use Rattle.pld_device.specs.Table.{Table}
+use Rattle.netlist_rows.specs.Prelude.{Table, entries_of, SoundNames, ModuleTree, names_of}
 use Rattle.abel_tree.specs.declared.names.Names.{Names}
-use Rattle.abel_tree.specs.Entries.{entries_of}
-use Rattle.abel_tree.specs.SoundNames.{SoundNames}
-use Rattle.abel_tree.specs.Tree.{ModuleTree}
-use Rattle.abel_meaning.specs.Kinds.{names_of}
 use Rattle.declared_names.specs.AcceptedNames.{PinsAreApart, BuffersAreAllowed}
 
 -- they are those of the module, sound and accepted

@@ -1,12 +1,8 @@
 //! Whether a device with its fuses does what its module says.
 
 ghost use Rattle.std.specs.Prelude.{◌≡◌, length};
+ghost use Rattle.netlist_rows.specs.Prelude.{ModuleTree, plain_netlist, IsSoundNetlist, MeansTheSame, netlist_of};
 ghost use Rattle.pld_machine.specs.Order.{IsOrdered};
-ghost use Rattle.abel_tree.specs.Tree.{ModuleTree};
-ghost use Rattle.abel_meaning.specs.Netlists.{plain_netlist};
-ghost use Rattle.abel_meaning.specs.SoundIds.{IsSoundNetlist};
-ghost use Rattle.netlist_laws.specs.FittedCorrect.{MeansTheSame};
-ghost use Rattle.netlist_laws.specs.Gathered.{netlist_of};
 
 use crate::drawing::ModuleNet;
 use device_sim::load;

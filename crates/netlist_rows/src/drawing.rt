@@ -1,14 +1,8 @@
 //! From a module to its netlist for a device.
 
 ghost use Rattle.std.specs.Prelude.{◌≡◌, ◌≤◌, IfOk, IfSome, length};
-ghost use Rattle.abel_tree.specs.Entries.{entries_of};
-ghost use Rattle.abel_tree.specs.View.{view_module};
-ghost use Rattle.abel_meaning.specs.Designs.{design_of};
-ghost use Rattle.abel_meaning.specs.Netlists.{plain_netlist};
-ghost use Rattle.abel_meaning.specs.SoundIds.{IsSoundNetlist};
+ghost use Rattle.netlist_rows.specs.Prelude.{entries_of, view_module, design_of, plain_netlist, IsSoundNetlist, MeansTheSame, netlist_of};
 ghost use Rattle.set_expr.specs.Scopes.{AreInOrder, ArePlaced};
-ghost use Rattle.netlist_laws.specs.FittedCorrect.{MeansTheSame};
-ghost use Rattle.netlist_laws.specs.Gathered.{netlist_of};
 ghost use Rattle.abel_vectors.specs.AllSections.{AreSections};
 ghost use Rattle.netlist_rows.specs.Drawn.{IsDrawn};
 ghost use Rattle.netlist_rows.specs.Named.{AreNamesFor};

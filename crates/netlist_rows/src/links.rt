@@ -1,7 +1,7 @@
 //! Links of a row: signals with the leaves that they read.
 
 ghost use Rattle.std.specs.Prelude.{◌<◌, ◌≤◌, All, IfSome, length};
-ghost use Rattle.bit_expr.specs.Arena.{IsLeaf};
+ghost use Rattle.netlist_rows.specs.Prelude.{IsLeaf};
 ghost use Rattle.netlist_rows.specs.Leaves.{HasLeaf};
 
 use bit_expr::{Leaf, Reads};

@@ -1,6 +1,6 @@
 //! Netlists of a few names of the sample device.
 
-ghost use Rattle.pld_device.specs.SampleTable.{sample};
+ghost use Rattle.netlist_rows.specs.Prelude.{sample};
 ghost use Rattle.netlist_rows.specs.Drawn.{IsDrawn};
 
 use crate::drawing::{Drawn, draw};

@@ -1,7 +1,6 @@
 //! What is refused of a few names of the sample device.
 
-ghost use Rattle.pld_device.specs.SampleTable.{sample};
-ghost use Rattle.abel_tree.specs.View.{view_module};
+ghost use Rattle.netlist_rows.specs.Prelude.{sample, view_module};
 ghost use Rattle.netlist_rows.specs.Named.{AreNamesFor};
 ghost use Rattle.netlist_rows.specs.Drawn.{IsDrawn};
 

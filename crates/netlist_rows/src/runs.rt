@@ -1,12 +1,7 @@
 //! How a module of the sample device comes to rest and steps, with any as 0.
 
 ghost use Rattle.std.specs.Prelude.{◌≡◌};
-ghost use Rattle.pld_device.specs.SampleTable.{sample};
-ghost use Rattle.abel_tree.specs.Tree.{ModuleTree};
-ghost use Rattle.abel_meaning.specs.Netlists.{plain_netlist};
-ghost use Rattle.abel_meaning.specs.SoundIds.{IsSoundNetlist};
-ghost use Rattle.netlist_laws.specs.FittedCorrect.{MeansTheSame};
-ghost use Rattle.netlist_laws.specs.Gathered.{netlist_of};
+ghost use Rattle.netlist_rows.specs.Prelude.{sample, ModuleTree, plain_netlist, IsSoundNetlist, MeansTheSame, netlist_of};
 
 use crate::drawing::{ModuleNet, draw, gathered};
 use crate::places::{put_number, put_word};

@@ -11,17 +11,21 @@ pub(crate) const ROW: u32 = 4;
 /// More bytes than any source of a row has.
 const LONGEST: usize = 100_000;
 
+/// The module that a text says, if it says one.
+fn read(alloc: Global, text: &[u8]) -> Option<Module> {
+    if text.len() > LONGEST {
+        return None;
+    }
+    read_module(alloc, text).ok()
+}
+
 /// The module that these bytes spell behind MODULE and before END.
 pub(crate) fn module_of(alloc: Global, inner: &[u8]) -> Option<Module> {
     let mut source = Found::new(alloc);
     source.text("module m\n");
     source.put(inner);
     source.text("\nend\n");
-    let bytes = source.bytes();
-    if bytes.len() > LONGEST {
-        return None;
-    }
-    read_module(alloc, bytes).ok()
+    read(alloc, source.bytes())
 }
 
 /// The module that declares these names, and goes on with the row's text between two others.

@@ -1,5 +1,5 @@
 use Rattle.std.proofs.Common.{sym, subst}
-use Rattle.gathering.specs.Links.{AreLeaves}
+use Rattle.netlist_rows.proofs.Common.{AreLeaves}
 use Rattle.netlist_rows.proofs.LinkLeaves.{are_leaves}
 use Rattle.netlist_rows.proofs.chains.put_signal_loop.Goals as goal
 

@@ -1,5 +1,5 @@
 -- The design of sound names and accepted sections is accepted.
-use Rattle.abel_tree.specs.View.{view_module}
+use Rattle.netlist_rows.proofs.Common.{view_module}
 use Rattle.netlist_rows.proofs.drawing.draw.Goals as goal
 
 pub returns-clause-drawn : goal.returns-clause-drawn

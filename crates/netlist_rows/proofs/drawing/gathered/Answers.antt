@@ -1,5 +1,5 @@
 -- What a scope asks for: names in order that have leaves.
-use Rattle.truth_tables.proofs.NamesInOrder.{sound_in_order}
+use Rattle.netlist_rows.proofs.Common.{sound_in_order}
 use Rattle.netlist_rows.proofs.PlacedNames.{sound_placed}
 use Rattle.netlist_rows.proofs.drawing.gathered.Goals as goal
 

@@ -1,7 +1,6 @@
 -- Names in which each pin has a number are sound, and no two are one pin.
 use Rattle.std.proofs.Common.{◌≡◌, true, sym, ap, ◌∙◌}
-use Rattle.abel_tree.specs.Entries.{entries_of}
-use Rattle.abel_tree.specs.View.{view_module}
+use Rattle.netlist_rows.proofs.Common.{entries_of, view_module}
 use Rattle.abel_meaning.specs.Declarations.{are_numbered}
 use Rattle.abel_meaning.specs.Kinds.{names_of}
 use Rattle.netlist_rows.proofs.drawing.names_of.Goals as goal

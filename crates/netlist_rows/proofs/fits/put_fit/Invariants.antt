@@ -1,4 +1,4 @@
-use Rattle.abel_tree.specs.View.{view_module}
+use Rattle.netlist_rows.proofs.Common.{view_module}
 use Rattle.netlist_rows.proofs.fits.put_fit.Given as goal
 
 abbrev pub ghost-runs_alike : goal.ghost-runs_alike

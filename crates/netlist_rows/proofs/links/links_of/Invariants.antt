@@ -1,5 +1,5 @@
 use Rattle.std.specs.Prelude.{All}
-use Rattle.netlist_rows.specs.Leaves.{HasLeaf}
+use Rattle.netlist_rows.proofs.Common.{HasLeaf}
 use Rattle.netlist_rows.proofs.links.links_of.Given as goal
 
 abbrev pub invariant-loop-word : goal.invariant-loop-word

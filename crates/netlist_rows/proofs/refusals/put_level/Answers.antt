@@ -1,10 +1,6 @@
 -- What a scope asks for, and names of which the contributions are.
 use Rattle.std.proofs.Common.{length, sym, subst, arith}
-use Rattle.pld_device.specs.SampleTable.{sample}
-use Rattle.abel_tree.specs.declared.names.Names.{Names}
-use Rattle.abel_tree.specs.Entries.{entries_of}
-use Rattle.truth_tables.proofs.NamesInOrder.{sound_in_order}
-use Rattle.design_checks.specs.SignalsRefused.{AreToNames}
+use Rattle.netlist_rows.proofs.Common.{sample, Names, entries_of, sound_in_order, AreToNames}
 use Rattle.netlist_rows.proofs.DrawnNames.{drawn_to_names}
 use Rattle.netlist_rows.proofs.PlacedNames.{sound_placed}
 use Rattle.netlist_rows.proofs.refusals.put_level.Goals as goal

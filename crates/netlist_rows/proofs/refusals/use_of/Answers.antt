@@ -1,7 +1,6 @@
 -- What a scope asks for: names in order that have leaves.
 use Rattle.std.proofs.Common.{arith}
-use Rattle.pld_device.specs.SampleTable.{sample}
-use Rattle.truth_tables.proofs.NamesInOrder.{sound_in_order}
+use Rattle.netlist_rows.proofs.Common.{sample, sound_in_order}
 use Rattle.netlist_rows.proofs.PlacedNames.{sound_placed}
 use Rattle.netlist_rows.proofs.refusals.use_of.Goals as goal
 

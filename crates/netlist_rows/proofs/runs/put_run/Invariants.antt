@@ -1,4 +1,4 @@
-use Rattle.abel_tree.specs.View.{view_module}
+use Rattle.netlist_rows.proofs.Common.{view_module}
 use Rattle.netlist_rows.proofs.runs.put_run.Given as goal
 
 abbrev pub ghost-put_steps : goal.ghost-put_steps
