@@ -1,20 +1,11 @@
 -- From what a command's own sources come to, to what words and files call for.
 use Rattle.std.proofs.Common.{◌≡◌, ℕ, suc, ◌<◌, ◌≤◌, Bool, true, false, List, [], length, Option, Some, get_or, refl, sym, subst, inl, inr, arith}
 use Rattle.std.specs.Prelude.{nat_lt, replicate, Contains}
+use Rattle.abel_cli.proofs.Common.{length-replicate, get_or-map, get_or-replicate, Rose, Map, SameFiles, SameBut, bytes_at, Asked, HasRisen, HasStayed, Ending, file_fault, Puts, Comes, CallsFor, Ends, EndsOn, source_at, Command, command_of, source_count}
 use Rattle.std.proofs.lemmas.Bool.{ltb-true, ltb-false}
-use Rattle.std.proofs.lemmas.List.{length-replicate, get_or-map, get_or-replicate}
-use Rattle.outside.specs.Causes.{Rose}
-use Rattle.outside.specs.Outside.{Map, SameFiles, SameBut, bytes_at}
-use Rattle.abel_cli.specs.Call.{Asked}
-use Rattle.abel_commands.specs.Counts.{HasRisen, HasStayed}
-use Rattle.abel_commands.specs.Ending.{Ending, file_fault}
-use Rattle.abel_cli.specs.Telling.{Puts}
 use Rattle.abel_commands.specs.Limit.{limit}
 use Rattle.abel_commands.specs.Reading.{HasLongName}
-use Rattle.abel_cli.specs.Run.{Comes, CallsFor, Ends, EndsOn}
 use Rattle.abel_cli.specs.Sources.{HasLongSource, sources_of}
-use Rattle.abel_commands.specs.Sources.{source_at}
-use Rattle.abel_commands.specs.Words.{Command, command_of, source_count}
 
 -- ---- some sources are too long, and they are a command's own where the files tell them
 

@@ -1,18 +1,8 @@
 -- Facts of single statuses and commands, drawn from what a run promises.
 use Rattle.std.proofs.Common.{◌≡◌, ℕ, ◌≤◌, ◌⊎◌, List, Option, Some, None, refl, sym, ◌∙◌, ap, subst, inl, inr, arith}
-use Rattle.std.proofs.lemmas.Option.{none-some}
-use Rattle.outside.specs.Outside.{bytes_at, SameFiles}
+use Rattle.abel_cli.proofs.Common.{none-some, bytes_at, SameFiles, Asked, Heard, HasStayed, table_of, Ending, MeansOn, Promises, Means, IsRefused, source_at, Command, Task, Compile, ListSource, Simulate, Check, Demo, Decompile, Compare, IsCompile, IsNoCommand, command_of, on_file}
 use Rattle.pld_base.specs.declared.device_name.DeviceName.{DeviceName}
-use Rattle.abel_cli.specs.Call.{Asked, Heard}
-use Rattle.abel_commands.specs.Counts.{HasStayed}
-use Rattle.devices.specs.Devices.{table_of}
-use Rattle.abel_commands.specs.Ending.{Ending}
-use Rattle.abel_cli.specs.Promises.{MeansOn, Promises}
-use Rattle.abel_cli.specs.Run.{Means}
 use Rattle.abel_commands.specs.Simulating.{Disagrees}
-use Rattle.abel_commands.specs.SourceCommands.{IsRefused}
-use Rattle.abel_commands.specs.Sources.{source_at}
-use Rattle.abel_commands.specs.Words.{Command, Task, Compile, ListSource, Simulate, Check, Demo, Decompile, Compare, IsCompile, IsNoCommand, command_of, on_file}
 
 module _ (a : Asked) (h : Heard) (p : Promises a h) where
   abbrev On : (e : Ending) → Option Command → Type 0

@@ -1,22 +1,9 @@
 -- A run keeps its promises.
 use Rattle.std.proofs.Common.{◌≡◌, ℕ, ◌≤◌, ◌⊎◌, List, [], ◌∷◌, ◌++◌, get_or, map, Option, Some, None, refl, sym, ◌∙◌, ap, subst, inl, inr, arith}
 use Rattle.std.specs.Prelude.{unwrap_or}
-use Rattle.std.proofs.lemmas.Option.{none-some}
-use Rattle.outside.specs.Outside.{Map, bytes_at}
+use Rattle.abel_cli.proofs.Common.{none-some, Map, bytes_at, Asked, Heard, HasRisen, HasStayed, table_of, Ending, Output, memory_line, file_fault, Puts, TakesFront, TakesFrontAndMemory, MeansOn, IsMeant, EndsAsCalled, EndsInFileFault, LeavesFiles, Promises, HasCompiled, IsRightOrOld, IsRight, Ends, Means, CallsFor, IsCalledFor, Comes, Runs, written, listed, source_at, Command, Task, Compile, ListSource, Simulate, Check, Demo, Decompile, Compare, IsCompile, command_of}
 use Rattle.abel_compile.specs.declared.compiled.Compiled.{Compiled}
 use Rattle.abel_compile.specs.Correct.{IsCompiled}
-use Rattle.abel_cli.specs.Call.{Asked, Heard}
-use Rattle.abel_commands.specs.Counts.{HasRisen, HasStayed}
-use Rattle.devices.specs.Devices.{table_of}
-use Rattle.abel_commands.specs.Ending.{Ending, Output, memory_line, file_fault}
-use Rattle.abel_cli.specs.Telling.{Puts, TakesFront, TakesFrontAndMemory}
-use Rattle.abel_cli.specs.Promises.{MeansOn, IsMeant, EndsAsCalled, EndsInFileFault, LeavesFiles, Promises}
-use Rattle.abel_cli.specs.Further.{HasCompiled, IsRightOrOld}
-use Rattle.abel_cli.specs.Right.{IsRight}
-use Rattle.abel_cli.specs.Run.{Ends, Means, CallsFor, IsCalledFor, Comes, Runs}
-use Rattle.abel_commands.specs.SourceCommands.{written, listed}
-use Rattle.abel_commands.specs.Sources.{source_at}
-use Rattle.abel_commands.specs.Words.{Command, Task, Compile, ListSource, Simulate, Check, Demo, Decompile, Compare, IsCompile, command_of}
 use Rattle.abel_commands.proofs.CheckMeaning.{check_means}
 use Rattle.abel_commands.proofs.Commands.{inputs_counted, one_only}
 use Rattle.abel_commands.proofs.CompareMeaning.{compare_means}

@@ -1,4 +1,5 @@
 pub mod Called
+pub mod Common
 pub mod Facts
 pub mod Kept
 pub mod Report

@@ -1,7 +1,6 @@
 -- A call of the program: what every clause of it speaks of.
 use Rattle.std.specs.Prelude.{ℕ, List}
-use Rattle.outside.specs.Outside.{Map}
-use Rattle.abel_commands.specs.Counts.{Count}
+use Rattle.abel_cli.specs.Prelude.{Map, Count}
 
 -- the words; whether the files tell what they hold, what they held before the call and after it, and their
 -- counts of faults and of failed writes

@@ -1,12 +1,9 @@
 -- What a command comes to with its own sources, before anything is written (used inside this crate alone).
 use Rattle.std.specs.Prelude.{Contains}
-use Rattle.outside.specs.Outside.{Map}
+use Rattle.abel_cli.specs.Prelude.{Map, Count, HasRisen, HasStayed, ending_seen, Command}
 use Rattle.abel_commands.specs.declared.ending.Outcome.{Outcome}
 use Rattle.abel_commands.specs.declared.ending.Outcome.TheVariants as outcome
-use Rattle.abel_commands.specs.Counts.{Count, HasRisen, HasStayed}
 use Rattle.abel_cli.specs.Run.{EndsOn}
-use Rattle.abel_commands.specs.View.{ending_seen}
-use Rattle.abel_commands.specs.Words.{Command}
 
 -- with its own sources a command came to this: to an ending, or to a file that was not read
 abbrev pub IsFound : (told : Type 0) → Map → Command → (faults : Count) → Outcome → Type 0

@@ -1,9 +1,8 @@
 -- What else the top call says of `compile`: all that holds of a compiled source, and of OUT under every status.
 use Rattle.std.specs.Prelude.{◌≡◌, ℕ, ◌⊎◌, List, ◌++◌, Some}
-use Rattle.outside.specs.Outside.{Map, bytes_at, SameFiles}
+use Rattle.abel_cli.specs.Prelude.{Map, bytes_at, SameFiles, IsCompile}
 use Rattle.abel_compile.specs.declared.compiled.Compiled.{Compiled}
 use Rattle.abel_compile.specs.Correct.{IsCompiled}
-use Rattle.abel_commands.specs.Words.{IsCompile}
 
 -- with `compile`, OUT holds the file of the source that the bytes under IN spelled before the call, compiled, and the
 -- report took the summary of that file's fuses

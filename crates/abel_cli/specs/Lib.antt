@@ -1,6 +1,7 @@
 pub mod Call
 pub mod Found
 pub mod Further
+pub mod Prelude
 pub mod Promises
 pub mod Right
 pub mod Run

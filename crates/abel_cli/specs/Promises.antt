@@ -1,13 +1,10 @@
 -- What a run promises, whatever the command (this project's rule).
 use Rattle.std.specs.Prelude.{◌≡◌, ℕ, ◌≤◌, ◌⊎◌, List, ◌++◌, Option, Some, None}
-use Rattle.outside.specs.Outside.{Map, SameFiles, SameBut}
+use Rattle.abel_cli.specs.Prelude.{Map, SameFiles, SameBut, HasRisen, HasStayed, Ending, Output, memory_line, usage_ending, file_fault, Command, command_of, IsInput}
 use Rattle.abel_cli.specs.Call.{Asked, Heard}
-use Rattle.abel_commands.specs.Counts.{HasRisen, HasStayed}
-use Rattle.abel_commands.specs.Ending.{Ending, Output, memory_line, usage_ending, file_fault}
 use Rattle.abel_cli.specs.Telling.{Puts, TakesFront, TakesFrontAndMemory}
 use Rattle.abel_cli.specs.Run.{Comes, IsCalledFor, Means}
 use Rattle.abel_cli.specs.Sources.{sources_of}
-use Rattle.abel_commands.specs.Words.{Command, command_of, IsInput}
 
 -- what a command, or none, means by an ending: it is one of some sources, which are its own where the files
 -- tell them

@@ -1,11 +1,9 @@
 -- The main theorem at the top call: what stands under OUT is right for the source under IN.
 use Rattle.std.specs.Prelude.{◌≡◌, ℕ, List, Some}
-use Rattle.outside.specs.Outside.{Map, bytes_at}
+use Rattle.abel_cli.specs.Prelude.{Map, bytes_at, table_of, IsCompile}
 use Rattle.pld_base.specs.declared.device_name.DeviceName.{DeviceName}
 use Rattle.module_reader.specs.Texts.{SpellsModule}
-use Rattle.devices.specs.Devices.{table_of}
 use Rattle.abel_compile.specs.Statement.{IsRightFile}
-use Rattle.abel_commands.specs.Words.{IsCompile}
 
 -- with `compile`, OUT holds a file that is right for the text under IN before the call, in the device that the text names
 abbrev pub IsRight : List (List ℕ) → Map → Map → Type 0

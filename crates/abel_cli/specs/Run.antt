@@ -1,20 +1,15 @@
 -- A run of the program as a whole (this project's rule).
 use Rattle.std.specs.Prelude.{◌≡◌, ℕ, ◌⊎◌, List, Option, Some, None}
-use Rattle.outside.specs.Outside.{Map, SameFiles, SameBut}
+use Rattle.abel_cli.specs.Prelude.{Map, SameFiles, SameBut, HasRisen, HasStayed, table_of, Ending, memory_line, usage_ending, file_fault, source_at, Command, Task, Compile, ListSource, Simulate, Check, Demo, Decompile, Compare, command_of, IsInput, IsNoCommand}
 use Rattle.abel_cli.specs.Call.{Asked, Heard}
-use Rattle.abel_commands.specs.Counts.{HasRisen, HasStayed}
 use Rattle.abel_commands.specs.CheckCommand.{CheckEnds, CheckMeans}
 use Rattle.abel_commands.specs.CompareCommand.{CompareEnds, CompareMeans}
 use Rattle.abel_commands.specs.DecompileCommand.{DecompileEnds, DecompileMeans}
 use Rattle.abel_commands.specs.DemoCommand.{DemoEnds, DemoMeans}
-use Rattle.devices.specs.Devices.{table_of}
-use Rattle.abel_commands.specs.Ending.{Ending, memory_line, usage_ending, file_fault}
 use Rattle.abel_cli.specs.Telling.{Puts, Tells, TakesFront}
 use Rattle.abel_commands.specs.SimulateCommand.{SimulateEnds, SimulateMeans}
 use Rattle.abel_commands.specs.SourceCommands.{SourceEnds, SourceMeans, written, listed}
 use Rattle.abel_cli.specs.Sources.{sources_of}
-use Rattle.abel_commands.specs.Sources.{source_at}
-use Rattle.abel_commands.specs.Words.{Command, Task, Compile, ListSource, Simulate, Check, Demo, Decompile, Compare, command_of, IsInput, IsNoCommand}
 
 -- ---- by task: the only definitions of a run that name tasks
 

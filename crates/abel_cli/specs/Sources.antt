@@ -1,9 +1,6 @@
 -- The sources of a command, and of a task those that are too long (this project's rule).
 use Rattle.std.specs.Prelude.{ℕ, ◌<◌, List, map}
-use Rattle.outside.specs.Outside.{Map, bytes_at}
-use Rattle.abel_commands.specs.Limit.{IsTooLong}
-use Rattle.abel_commands.specs.Sources.{source_at}
-use Rattle.abel_commands.specs.Words.{Command, Task, source_count}
+use Rattle.abel_cli.specs.Prelude.{Map, bytes_at, IsTooLong, source_at, Command, Task, source_count}
 
 -- the sources of a command, in order
 abbrev pub sources_of : Map → Command → List (List ℕ)

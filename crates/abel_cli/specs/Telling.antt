@@ -1,10 +1,7 @@
 -- What an ending puts, and how it is told (this project's rule).
 use Rattle.std.specs.Prelude.{◌≡◌, ℕ, ◌⊎◌, List, ◌++◌, Option, Some, None}
-use Rattle.outside.specs.Causes.{Begins}
-use Rattle.outside.specs.Outside.{Map, SameFiles, SameBut}
+use Rattle.abel_cli.specs.Prelude.{Begins, Map, SameFiles, SameBut, HasRisen, HasStayed, Ending, Output, memory_line}
 use Rattle.abel_cli.specs.Call.{Heard}
-use Rattle.abel_commands.specs.Counts.{HasRisen, HasStayed}
-use Rattle.abel_commands.specs.Ending.{Ending, Output, memory_line}
 
 -- all files are as they were, but for the output, which has its bytes
 abbrev pub Puts : Option Output → Map → Map → Type 0

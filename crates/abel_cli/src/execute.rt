@@ -1,16 +1,11 @@
 //! What the words ask for, up to the report.
 
 ghost use Rattle.std.specs.Prelude.{◌≡◌, ◌≤◌, ℕ, All, List, IfOk, OnErr, length};
-ghost use Rattle.outside.specs.Outside.{SameFiles};
+ghost use Rattle.abel_cli.specs.Prelude.{SameFiles, limit, count, command_seen, ending_seen, task_seen, view, sources_seen, texts, command_of, source_count, IsNoCommand};
 ghost use Rattle.abel_cli.specs.Call.{asked};
-ghost use Rattle.abel_commands.specs.Limit.{limit};
 ghost use Rattle.abel_cli.specs.Found.{IsFound};
-ghost use Rattle.abel_commands.specs.Counts.{count};
 ghost use Rattle.abel_cli.specs.Run.{Comes, Ends};
 ghost use Rattle.abel_cli.specs.Sources.{HasLongSource};
-ghost use Rattle.abel_commands.specs.View.{command_seen, ending_seen, task_seen, view};
-ghost use Rattle.abel_commands.specs.Sources.{sources_seen, texts};
-ghost use Rattle.abel_commands.specs.Words.{command_of, source_count, IsNoCommand};
 
 use abel_commands::ending::{Ending, Outcome, line};
 use abel_commands::{

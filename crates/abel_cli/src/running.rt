@@ -1,16 +1,13 @@
 //! The top call.
 
 ghost use Rattle.std.specs.Prelude.{◌≡◌};
-ghost use Rattle.outside.specs.Causes.{Rose};
+ghost use Rattle.abel_cli.specs.Prelude.{Rose, memory_line, view, texts};
 ghost use Rattle.abel_cli.specs.Call.{asked, heard};
 ghost use Rattle.abel_cli.specs.Telling.{Tells, TakesFront};
-ghost use Rattle.abel_commands.specs.Ending.{memory_line};
 ghost use Rattle.abel_cli.specs.Further.{HasCompiled, IsRightOrOld};
 ghost use Rattle.abel_cli.specs.Promises.{Promises};
 ghost use Rattle.abel_cli.specs.Right.{IsRight};
 ghost use Rattle.abel_cli.specs.Run.{Runs};
-ghost use Rattle.abel_commands.specs.View.{view};
-ghost use Rattle.abel_commands.specs.Sources.{texts};
 
 use crate::execute::execute;
 use abel_commands::ending::{Outcome, status, text};

@@ -1,7 +1,7 @@
 //! What the program does once it knows its words.
 
 ghost use Rattle.std.specs.Prelude.{◌≡◌, ℕ, List, Option, Some, None};
-ghost use Rattle.outside.specs.Outside.{SameFiles};
+ghost use Rattle.abel_cli.specs.Prelude.{SameFiles};
 ghost use Rattle.abel_cli.specs.Call.{asked, heard};
 ghost use Rattle.abel_cli.specs.Further.{HasCompiled};
 ghost use Rattle.abel_cli.specs.Promises.{Promises};

@@ -1,9 +1,7 @@
 -- The source of a task is the first of its list; of two files they are the first and the second.
 use Rattle.std.proofs.Common.{ℕ, List, IfOk, subst}
-use Rattle.devices.specs.Devices.{table_of}
-use Rattle.abel_commands.specs.Sources.{source_at, sources_seen}
+use Rattle.abel_cli.proofs.Common.{table_of, source_at, sources_seen, ending_seen}
 use Rattle.abel_commands.specs.CompareCommand.{CompareEnds}
-use Rattle.abel_commands.specs.View.{ending_seen}
 use Rattle.abel_cli.proofs.execute.ending.Goals as goal
 
 pub returns-in-Compile : goal.returns-in-Compile

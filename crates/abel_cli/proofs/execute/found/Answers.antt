@@ -1,8 +1,7 @@
 -- A source over the limit is one where the files tell it.
 use Rattle.std.proofs.Common.{◌∙◌}
 use Rattle.std.specs.Prelude.{string_bytes}
-use Rattle.std.proofs.lemmas.List.{length-map}
-use Rattle.abel_commands.specs.View.{command_seen, ending_seen}
+use Rattle.abel_cli.proofs.Common.{length-map, command_seen, ending_seen}
 use Rattle.abel_cli.proofs.Called.{ends_long}
 use Rattle.abel_cli.proofs.execute.found.Goals as goal
 

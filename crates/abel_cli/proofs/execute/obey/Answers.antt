@@ -1,12 +1,9 @@
 -- The endings of a command are called for by its words.
 use Rattle.std.proofs.Common.{ℕ, List, Option, Some, Err, ap, subst, sym, ◌∙◌}
 use Rattle.std.specs.Prelude.{option_map}
-use Rattle.outside.specs.Causes.{Rose}
+use Rattle.abel_cli.proofs.Common.{Rose, asked, Puts, command_seen, ending_seen, output_seen}
 use Rattle.outside.specs.declared.files.WriteFault.{WriteFault}
 use Rattle.abel_commands.specs.declared.ending.Output as put
-use Rattle.abel_cli.specs.Call.{asked}
-use Rattle.abel_cli.specs.Telling.{Puts}
-use Rattle.abel_commands.specs.View.{command_seen, ending_seen, output_seen}
 use Rattle.abel_cli.proofs.Called.{ended, unwritten, rose_later}
 use Rattle.abel_commands.proofs.Settled.{settled}
 use Rattle.abel_cli.proofs.execute.obey.Goals as goal

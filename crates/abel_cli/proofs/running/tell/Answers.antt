@@ -1,6 +1,5 @@
 -- Where memory runs out before the text is put, an empty front of it was taken.
-use Rattle.abel_cli.specs.Call.{heard}
-use Rattle.abel_commands.specs.View.{view}
+use Rattle.abel_cli.proofs.Common.{heard, view}
 use Rattle.abel_cli.proofs.Report.{memory_first}
 use Rattle.abel_cli.proofs.running.tell.Goals as goal
 

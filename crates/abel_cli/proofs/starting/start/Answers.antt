@@ -1,10 +1,8 @@
 -- The words that were given are those of the run.
 use Rattle.std.proofs.Common.{◌≡◌, ℕ, List, [], Option, Some, sym, ◌∙◌, ap, subst}
 use Rattle.std.specs.Prelude.{unwrap_or}
-use Rattle.abel_cli.specs.Further.{HasCompiled}
-use Rattle.abel_cli.specs.Right.{IsRight}
+use Rattle.abel_cli.proofs.Common.{HasCompiled, IsRight, texts}
 use Rattle.abel_cli.specs.Start.{words_of}
-use Rattle.abel_commands.specs.Sources.{texts}
 use Rattle.abel_cli.proofs.starting.start.Goals as goal
 
 pub returns-in-Words-clause-right : goal.returns-in-Words-clause-right
