@@ -1,10 +1,8 @@
 -- What the endings of `check` mean.
 use Rattle.std.proofs.Common.{ℕ, List, refl, sym, subst, inl, inr, arith}
-use Rattle.pld_device.specs.Table.{Table}
+use Rattle.abel_commands.proofs.Common.{Table, Ending, ends, IsBadFile}
 use Rattle.abel_commands.specs.CheckCommand.{CheckEnds, CheckMeans}
 use Rattle.abel_commands.specs.Checking.{IsChecked}
-use Rattle.abel_commands.specs.Ending.{Ending, ends}
-use Rattle.abel_commands.specs.FuseFiles.{IsBadFile}
 use Rattle.abel_commands.proofs.GoodFiles.{good_not_bad}
 
 module _ (t : Table) (bytes : List ℕ) where

@@ -1,18 +1,8 @@
 -- What the endings of `compare` mean.
 use Rattle.std.proofs.Common.{ℕ, ◌⊎◌, Bool, true, false, List, refl, sym, subst, inl, inr, arith}
-use Rattle.jedec_file.specs.FuseFile.{FuseFile}
+use Rattle.abel_commands.proofs.Common.{FuseFile, bits, device_logic, Table, AreAlike, DifferAs, IsDifference, Difference, CompareEnds, CompareMeans, IsRefusedPair, LongFile, FirstFile, SecondFile, FirstLoad, SecondLoad, AreDifferent, AreSame, IsPlain, Ending, ends, TooLong, CanLoad, IsBadToLoad}
 use Rattle.pld_base.proofs.BitLemmas.{length-bits}
-use Rattle.pld_base.specs.Bits.{bits}
 use Rattle.pld_base.specs.Logic.{Logic}
-use Rattle.pld_device.specs.Macrocells.{device_logic}
-use Rattle.pld_device.specs.Table.{Table}
-use Rattle.fuse_compare.specs.Alike.{AreAlike, DifferAs, IsDifference}
-use Rattle.fuse_compare.specs.declared.difference.Difference.{Difference}
-use Rattle.abel_commands.specs.CompareCommand.{CompareEnds, CompareMeans, IsRefusedPair, LongFile, FirstFile, SecondFile, FirstLoad, SecondLoad}
-use Rattle.abel_commands.specs.Comparing.{AreDifferent, AreSame, IsPlain}
-use Rattle.abel_commands.specs.Ending.{Ending, ends}
-use Rattle.abel_commands.specs.FuseFiles.{TooLong}
-use Rattle.abel_commands.specs.Loading.{CanLoad, IsBadToLoad}
 use Rattle.abel_commands.proofs.GoodFiles.{same_file}
 use Rattle.abel_commands.proofs.LoadedFiles.{can_not_bad, refused_is_bad}
 

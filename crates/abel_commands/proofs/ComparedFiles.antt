@@ -1,18 +1,7 @@
 -- What comparing two fuse files comes to, by the library's answer.
 use Rattle.std.proofs.Common.{◌≡◌, ◌≢◌, ℕ, List, inl, inr}
-use Rattle.jedec_file.specs.FuseFile.{FuseFile}
-use Rattle.pld_device.specs.Macrocells.{device_logic}
-use Rattle.pld_device.specs.Table.{Table}
-use Rattle.device_logic.specs.declared.fault.SimFault.{SimFault}
-use Rattle.device_logic.specs.declared.fault.SimFault.TheVariants.{OutOfMemory}
-use Rattle.fuse_compare.specs.Alike.{AreAlike, IsDifference, RunsAlike}
+use Rattle.abel_commands.proofs.Common.{FuseFile, device_logic, Table, SimFault, OutOfMemory, AreAlike, IsDifference, RunsAlike, Difference, IsRefusedPair, FirstLoad, SecondLoad, AreDifferent, AreSame, differ_line, same_line, IsFileOf, CanLoad, sim_fault_line}
 use Rattle.fuse_compare.specs.Compared.{CanBeCompared, CanBeLoaded, IsCompareFault}
-use Rattle.fuse_compare.specs.declared.difference.Difference.{Difference}
-use Rattle.abel_commands.specs.CompareCommand.{IsRefusedPair, FirstLoad, SecondLoad}
-use Rattle.abel_commands.specs.Comparing.{AreDifferent, AreSame, differ_line, same_line}
-use Rattle.abel_commands.specs.FuseFiles.{IsFileOf}
-use Rattle.abel_commands.specs.Loading.{CanLoad}
-use Rattle.abel_commands.specs.Simulating.{sim_fault_line}
 
 abbrev can_load : (t : Table) (bytes : List ℕ) (file : FuseFile) → IsFileOf t bytes file → CanBeLoaded t file.fuses → CanLoad t bytes
 can_load t bytes file of loaded = record { file = file; of = of; no_loop = loaded.no_loop; no_path = loaded.no_path }

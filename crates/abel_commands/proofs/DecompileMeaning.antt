@@ -1,9 +1,6 @@
 -- What the endings of `decompile` mean.
 use Rattle.std.proofs.Common.{ℕ, List, refl, sym, subst, inl, inr, arith}
-use Rattle.pld_device.specs.Table.{Table}
-use Rattle.abel_commands.specs.DecompileCommand.{DecompileEnds, DecompileMeans, IsDecompiledFile}
-use Rattle.abel_commands.specs.Ending.{Ending, ends}
-use Rattle.abel_commands.specs.Loading.{IsBadToLoad}
+use Rattle.abel_commands.proofs.Common.{Table, DecompileEnds, DecompileMeans, IsDecompiledFile, Ending, ends, IsBadToLoad}
 use Rattle.abel_commands.proofs.LoadedFiles.{can_not_bad, refused_is_bad}
 
 module _ (t : Table) (bytes : List ℕ) where

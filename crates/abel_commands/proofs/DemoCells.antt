@@ -1,26 +1,15 @@
 -- The number of cells in a summary.
 use Rattle.std.proofs.Common.{◌≡◌, ℕ, ◌+◌, ◌^◌, ◌<◌, Bool, true, List, [], ◌∷◌, ◌++◌, length, take, drop, refl, ap, ◌∙◌, append_assoc, arith}
 use Rattle.std.specs.Prelude.{codes, is_some}
-use Rattle.std.specs.Char.{is_ascii_digit}
-use Rattle.std.specs.Fmt.{decimal}
-use Rattle.std.specs.List.{list_all, prefix_len, range_with_len}
+use Rattle.abel_commands.proofs.Common.{is_ascii_digit, decimal, list_all, prefix_len, range_with_len, length-append, length-range_with_len, DeviceName, device_text, Table, four_hex, fuse_sum_of, design_cells, products_used, summary_of, table_of}
 use Rattle.std.proofs.lemmas.Fmt.{digits_decimal}
-use Rattle.std.proofs.lemmas.List.{length-append}
-use Rattle.std.proofs.lemmas.List.FromFn.{length-range_with_len}
 use Rattle.std.proofs.lemmas.List.Sums.{count_by-le-length}
 use Rattle.std.proofs.Math.Seq.{drop-append_seam, take-append_seam}
-use Rattle.pld_base.specs.declared.device_name.DeviceName.{DeviceName}
-use Rattle.pld_base.specs.DeviceNames.{device_text}
 use Rattle.pld_device.specs.OpenedFuses.{opened_of}
-use Rattle.pld_device.specs.Table.{Table}
-use Rattle.jedec_file.specs.FileText.{four_hex}
-use Rattle.jedec_file.specs.FuseSums.{fuse_sum_of}
 use Rattle.abel_tree.specs.Tree.{ModuleTree}
 use Rattle.abel_meaning.specs.Controls.{signal_on}
 use Rattle.abel_meaning.specs.Designs.{design_of}
-use Rattle.reports.specs.Summary.{design_cells, products_used, summary_of}
 use Rattle.devices.specs.DeviceLaws.{table_sound}
-use Rattle.devices.specs.Devices.{table_of}
 use Rattle.abel_commands.proofs.Seeds.{digits_are}
 
 -- ---- digits behind a front, and then a blank

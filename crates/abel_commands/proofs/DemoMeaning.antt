@@ -1,14 +1,7 @@
 -- What the endings of `demo` mean.
 use Rattle.std.proofs.Common.{◌≡◌, ◌≢◌, ℕ, ◌≤◌, List, [], length, refl, sym, subst, inl, inr, arith}
-use Rattle.device_sim.specs.declared.report.Mismatch.{Mismatch}
+use Rattle.abel_commands.proofs.Common.{Mismatch, Compiled, IsCompiled, table_of, DemoEnds, DemoMeans, IsFileRun, cells_of, Ending, ends, limit, IsRefused, IsUnfit}
 use Rattle.demo_source.specs.SourceText.{IsDemoSource}
-use Rattle.abel_compile.specs.declared.compiled.Compiled.{Compiled}
-use Rattle.abel_compile.specs.Correct.{IsCompiled}
-use Rattle.devices.specs.Devices.{table_of}
-use Rattle.abel_commands.specs.DemoCommand.{DemoEnds, DemoMeans, IsFileRun, cells_of}
-use Rattle.abel_commands.specs.Ending.{Ending, ends}
-use Rattle.abel_commands.specs.Limit.{limit}
-use Rattle.abel_commands.specs.SourceCommands.{IsRefused, IsUnfit}
 use Rattle.abel_commands.proofs.SourceMeaning.{compiled_not_refused, unfit_not_refused, fits_not_refused, fits_not_unfit}
 
 module _ (seed : ℕ) (text : List ℕ) (source : IsDemoSource seed text) where

@@ -1,12 +1,6 @@
 -- What a demo tells of a run.
 use Rattle.std.proofs.Common.{◌≡◌, ℕ, List, length, Ok, ◌∙◌, ap}
-use Rattle.std.specs.Fmt.{decimal}
-use Rattle.jedec_file.specs.FuseFile.{FuseFile, file_of}
-use Rattle.jedec_file.specs.FuseSums.{fuse_sum_of}
-use Rattle.pld_device.specs.Table.{Table}
-use Rattle.device_sim.specs.declared.report.Report.{Report}
-use Rattle.device_sim.specs.Simulated.{IsSimulated, IsTheOnlyList}
-use Rattle.abel_commands.specs.DemoCommand.{IsFileRun, demo_line, demo_told}
+use Rattle.abel_commands.proofs.Common.{decimal, FuseFile, file_of, fuse_sum_of, Table, Report, IsSimulated, IsTheOnlyList, IsFileRun, demo_line, demo_told}
 
 pub file_run : (seed cells sum : ℕ) (t : Table) (bytes : List ℕ) (file : FuseFile) (report : Report) (digits line : List ℕ)
     → file_of t bytes ≡ Ok file → IsSimulated t file report → IsTheOnlyList t file report.list → sum ≡ fuse_sum_of file.fuses

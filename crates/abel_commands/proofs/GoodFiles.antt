@@ -1,11 +1,8 @@
 -- Bytes are a fuse file of a device, or are refused, and never both.
 use Rattle.std.proofs.Common.{◌≡◌, ℕ, List, Ok, Err, sym, ◌∙◌, subst, arith}
-use Rattle.std.proofs.lemmas.Option.{none-some}
-use Rattle.jedec_file.specs.FuseFile.{FuseFile, file_of}
+use Rattle.abel_commands.proofs.Common.{none-some, FuseFile, file_of, Table, IsBadFile, IsGoodFile, TooLong, Unread, WrongMode}
 use Rattle.pld_device.specs.FixedFuses.{HasFixedLevels}
-use Rattle.pld_device.specs.Table.{Table}
 use Rattle.pld_device.proofs.FixedLevels.{none_where_all}
-use Rattle.abel_commands.specs.FuseFiles.{IsBadFile, IsGoodFile, TooLong, Unread, WrongMode}
 
 module _ (t : Table) (bytes : List ℕ) where
   pub same_file : (f g : FuseFile) → file_of t bytes ≡ Ok f → file_of t bytes ≡ Ok g → f ≡ g

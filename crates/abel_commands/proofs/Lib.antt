@@ -1,5 +1,6 @@
 pub mod CheckMeaning
 pub mod Commands
+pub mod Common
 pub mod CompareMeaning
 pub mod ComparedFiles
 pub mod DecompileMeaning

@@ -1,11 +1,7 @@
 -- A fuse file of a device is loaded, or refused, and never both.
 use Rattle.std.proofs.Common.{◌≡◌, ◌≢◌, ℕ, List, Ok, refl, subst, inl, inr}
-use Rattle.jedec_file.specs.FuseFile.{FuseFile, file_of}
-use Rattle.pld_device.specs.Table.{Table}
-use Rattle.device_logic.specs.declared.fault.SimFault.{SimFault}
-use Rattle.device_logic.specs.declared.fault.SimFault.TheVariants.{UnsupportedCondition, DeviceLoop, DeviceResetReadsRegister, OutOfMemory}
+use Rattle.abel_commands.proofs.Common.{FuseFile, file_of, Table, SimFault, UnsupportedCondition, DeviceLoop, DeviceResetReadsRegister, OutOfMemory, CanLoad, HasLoopOrPath, IsBadToLoad, IsNotLoaded, IsRefusedLoad}
 use Rattle.device_logic.specs.LoadFaults.{IsLoadFault}
-use Rattle.abel_commands.specs.Loading.{CanLoad, HasLoopOrPath, IsBadToLoad, IsNotLoaded, IsRefusedLoad}
 use Rattle.abel_commands.proofs.GoodFiles.{good_not_bad, same_file}
 
 module _ (t : Table) (bytes : List ℕ) where

@@ -1,8 +1,6 @@
 -- The digits of pins, one pin more.
 use Rattle.std.proofs.Common.{◌≡◌, ℕ, ◌+◌, Bool, List, [], ◌∷◌, ◌++◌, map, sym, ap, ◌∙◌, append_assoc, arith}
-use Rattle.std.specs.List.{range_with_len}
-use Rattle.std.proofs.lemmas.List.FromFn.{map-range_with_len_more}
-use Rattle.jedec_file.specs.FileText.{level_char}
+use Rattle.abel_commands.proofs.Common.{range_with_len, map-range_with_len_more, level_char}
 
 module _ (level : ℕ → Bool) where
   abbrev digit : ℕ → ℕ

@@ -1,13 +1,10 @@
 -- The number that a word of digits is, as `parse` reads it.
 use Rattle.std.proofs.Common.{◌≡◌, ℕ, ◌^◌, ◌<◌, Bool, true, false, ◌&&◌, nat_lt, List, length, Some, Ok, Err, refl, ap, rules}
 use Rattle.std.specs.Prelude.{Result}
-use Rattle.std.specs.Char.{is_ascii_digit}
-use Rattle.std.specs.List.{list_all}
+use Rattle.abel_commands.proofs.Common.{is_ascii_digit, list_all, lt-ltb, ltb-true, are_few_digits, is_seed, seed_of}
 use Rattle.std.specs.Result.{OkIff, result_ok}
 use Rattle.std.specs.Str.Parse.{ParsesUnsigned, digits_value}
-use Rattle.std.proofs.lemmas.Bool.{lt-ltb, ltb-true}
 use Rattle.std.proofs.lemmas.Str.Parse.{IsNumeralModel, numerals_by_value, parse_digits}
-use Rattle.abel_commands.specs.Words.{are_few_digits, is_seed, seed_of}
 
 and_second : (a b : Bool) → (a && b) ≡ true → b ≡ true
 and_second true b is = is

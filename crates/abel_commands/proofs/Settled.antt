@@ -1,7 +1,7 @@
 -- What holds where a call is not refused so.
 use Rattle.std.proofs.Common.{◌≡◌, Ok, Err, inl, inr}
 use Rattle.std.specs.Prelude.{IsErrOf, Result, ◌⊎◌}
-use Rattle.outside.specs.declared.files.ReadFault.{ReadFault}
+use Rattle.abel_commands.proofs.Common.{ReadFault}
 use Rattle.outside.specs.declared.files.ReadFault.TheVariants as read
 
 -- where a call is not refused so, the other side holds

@@ -1,19 +1,12 @@
 -- What the endings of `simulate` mean.
 use Rattle.std.proofs.Common.{◌≡◌, ◌≢◌, ℕ, true, false, None, List, [], length, Ok, sym, ◌∙◌, subst, ap, refl, inl, inr, arith}
 use Rattle.std.specs.Prelude.{Option, is_some}
-use Rattle.jedec_file.specs.FuseFile.{FuseFile, file_of}
-use Rattle.pld_device.specs.Table.{Table}
+use Rattle.abel_commands.proofs.Common.{FuseFile, file_of, Table, SimFault, UnsupportedCondition, DeviceLoop, DeviceResetReadsRegister, OutOfMemory, Mismatch, IsSimFault, first_unsupported, Ending, ends, Agrees, Disagrees, CanRun, RunHas, HasNoRun, IsReportedRun}
 use Rattle.pld_order.specs.Graphs.{IsLoop}
 use Rattle.device_logic.specs.CellReads.{cell_reads}
 use Rattle.device_logic.specs.ResetPaths.{IsResetPath}
-use Rattle.device_logic.specs.declared.fault.SimFault.{SimFault}
-use Rattle.device_logic.specs.declared.fault.SimFault.TheVariants.{UnsupportedCondition, DeviceLoop, DeviceResetReadsRegister, OutOfMemory}
-use Rattle.device_sim.specs.declared.report.Mismatch.{Mismatch}
-use Rattle.device_sim.specs.Simulated.{IsSimFault, first_unsupported}
-use Rattle.abel_commands.specs.Ending.{Ending, ends}
 use Rattle.abel_commands.specs.SimulateCommand.{SimulateEnds, SimulateMeans, IsBadRun}
 use Rattle.abel_commands.proofs.GoodFiles.{good_not_bad, same_file}
-use Rattle.abel_commands.specs.Simulating.{Agrees, Disagrees, CanRun, RunHas, HasNoRun, IsReportedRun}
 
 module _ (t : Table) (bytes : List ℕ) where
   -- what holds of the file that the bytes are read as holds of it, however it is come by

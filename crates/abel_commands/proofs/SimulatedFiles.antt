@@ -1,14 +1,6 @@
 -- What is told of a file that was simulated, or wasn't.
 use Rattle.std.proofs.Common.{◌≡◌, ◌≢◌, ℕ, ◌==◌, Bool, true, false, List, [], sym, ◌∙◌, ap, length}
-use Rattle.std.proofs.lemmas.Bool.{eqb-true, true≢false}
-use Rattle.std.proofs.lemmas.List.{nil_from_length}
-use Rattle.jedec_file.specs.FuseFile.{FuseFile}
-use Rattle.pld_device.specs.Table.{Table}
-use Rattle.device_sim.specs.declared.report.Mismatch.{Mismatch}
-use Rattle.device_sim.specs.declared.report.Report.{Report}
-use Rattle.device_sim.specs.Simulated.{IsSimulated, IsTheOnlyList}
-use Rattle.abel_commands.specs.FuseFiles.{IsFileOf}
-use Rattle.abel_commands.specs.Simulating.{IsReportedRun, run_lines}
+use Rattle.abel_commands.proofs.Common.{eqb-true, true≢false, nil_from_length, FuseFile, Table, Mismatch, Report, IsSimulated, IsTheOnlyList, IsFileOf, IsReportedRun, run_lines}
 
 pub told_run : (t : Table) (bytes : List ℕ) (file : FuseFile) (report : Report) (lines : List ℕ)
     → IsFileOf t bytes file → IsSimulated t file report → IsTheOnlyList t file report.list

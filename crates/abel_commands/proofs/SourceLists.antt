@@ -1,14 +1,9 @@
 -- Lists of sources, each within the limit, and the loop that reads them.
 use Rattle.std.proofs.Common.{◌≡◌, ℕ, ◌+◌, ◌<◌, ◌≤◌, List, [], ◌∷◌, ◌++◌, length, get_or, map, take, All, Some, Option, refl, sym, ap, ◌∙◌, subst, arith}
 use Rattle.std.specs.Prelude.{option_map, slice_get, string_bytes, String, unwrap_or}
-use Rattle.std.specs.Global.{Vec}
+use Rattle.abel_commands.proofs.Common.{Vec, get_or-map, map-append, map_more, slice_get-map, slice_get_within, get_or_from_slice_get, Map, SameFiles, bytes_at, limit, sources_seen, texts}
 use Rattle.std.specs.declared.alloc.Global.{Global}
-use Rattle.std.proofs.lemmas.List.{get_or-map, map-append, map_more}
 use Rattle.std.proofs.lemmas.List.Elements.{All-append, All-cons, All-nil}
-use Rattle.std.proofs.lemmas.Option.{slice_get-map, slice_get_within, get_or_from_slice_get}
-use Rattle.outside.specs.Outside.{Map, SameFiles, bytes_at}
-use Rattle.abel_commands.specs.Limit.{limit}
-use Rattle.abel_commands.specs.Sources.{sources_seen, texts}
 
 abbrev AllWithin : List (List ℕ) → Type 0
 AllWithin sources = All (λ source. length source ≤ limit) sources

@@ -1,11 +1,7 @@
 -- What the endings of `compile` and `list` mean.
 use Rattle.std.proofs.Common.{◌≡◌, ℕ, ◌≤◌, List, length, refl, sym, subst, inl, inr, arith}
-use Rattle.abel_compile.specs.declared.compiled.Compiled.{Compiled}
-use Rattle.abel_compile.specs.Correct.{IsCompiled}
+use Rattle.abel_commands.proofs.Common.{Compiled, IsCompiled, SourceEnds, SourceMeans, Fits, IsRefused, IsUnfit, Ending, ends, limit}
 use Rattle.abel_compile.proofs.Exclusive as one
-use Rattle.abel_commands.specs.SourceCommands.{SourceEnds, SourceMeans, Fits, IsRefused, IsUnfit}
-use Rattle.abel_commands.specs.Ending.{Ending, ends}
-use Rattle.abel_commands.specs.Limit.{limit}
 
 module _ (text : List ℕ) where
   -- ---- a text has one fate

@@ -1,12 +1,7 @@
 -- What checking a fuse file tells: its numbers (this project's rule).
 use Rattle.std.specs.Prelude.{◌≡◌, ℕ, List, ◌++◌, length, codes}
-use Rattle.std.specs.Fmt.{decimal}
-use Rattle.pld_base.specs.DeviceNames.{device_text}
-use Rattle.jedec_file.specs.FileText.{four_hex}
-use Rattle.jedec_file.specs.FuseFile.{FuseFile}
-use Rattle.jedec_file.specs.FuseSums.{fuse_sum_of}
+use Rattle.abel_commands.specs.Prelude.{decimal, device_text, four_hex, FuseFile, fuse_sum_of, Table}
 use Rattle.pld_device.specs.OpenedFuses.{opened_of}
-use Rattle.pld_device.specs.Table.{Table}
 use Rattle.abel_commands.specs.FuseFiles.{IsFileOf}
 
 -- the line on a fuse file: the number of fuses that it names, how many are opened, their sum, and the number of vectors

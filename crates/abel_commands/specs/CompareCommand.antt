@@ -1,6 +1,6 @@
 -- `compare DEVICE A B`: how it ends, and what that means (this project's rule).
 use Rattle.std.specs.Prelude.{◌≡◌, ℕ, ◌≤◌, ◌⊎◌, List, length, None}
-use Rattle.pld_device.specs.Table.{Table}
+use Rattle.abel_commands.specs.Prelude.{Table}
 use Rattle.abel_commands.specs.Limit.{limit, IsTooLong}
 use Rattle.abel_commands.specs.Comparing.{AreDifferent, AreSame, BehaveAlike, BehaveOtherwise, IsPlain}
 use Rattle.abel_commands.specs.Ending.{Ending, ends, too_long_line}

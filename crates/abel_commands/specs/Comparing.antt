@@ -1,12 +1,7 @@
 -- What comparing two fuse files tells: that they behave alike, or a state at which they don't (this project's rule).
 use Rattle.std.specs.Prelude.{◌≡◌, ℕ, ◌==◌, ◌&&◌, Bool, List, ◌∷◌, ◌++◌, map, length, codes}
-use Rattle.std.specs.List.{list_any, range_with_len}
-use Rattle.pld_base.specs.Bits.{bits, is_on}
-use Rattle.pld_base.specs.DeviceNames.{device_text}
+use Rattle.abel_commands.specs.Prelude.{list_any, range_with_len, bits, is_on, device_text, level_char, device_logic, Table, cell_at}
 use Rattle.pld_base.specs.Logic.{Logic}
-use Rattle.jedec_file.specs.FileText.{level_char}
-use Rattle.pld_device.specs.Macrocells.{device_logic}
-use Rattle.pld_device.specs.Table.{Table, cell_at}
 use Rattle.fuse_compare.specs.declared.difference.Difference.{Difference}
 use Rattle.fuse_compare.specs.Alike.{AreAlike, IsDifference, RunsAlike}
 use Rattle.fuse_compare.specs.Compared.{IsPlainState}

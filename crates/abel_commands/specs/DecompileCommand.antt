@@ -1,6 +1,6 @@
 -- `decompile DEVICE IN`: how it ends, and what that means (this project's rule).
 use Rattle.std.specs.Prelude.{◌≡◌, ℕ, ◌⊎◌, List, None}
-use Rattle.pld_device.specs.Table.{Table}
+use Rattle.abel_commands.specs.Prelude.{Table}
 use Rattle.decompiled.specs.Sources.{decompiled_text}
 use Rattle.decompiler.specs.Reading.{IsDecompiled, IsReadAsSource}
 use Rattle.abel_commands.specs.Ending.{Ending, ends}

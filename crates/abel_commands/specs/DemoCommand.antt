@@ -1,18 +1,8 @@
 -- `demo N`: how it ends, and what that means (this project's rule).
 use Rattle.std.specs.Prelude.{◌≡◌, ◌≢◌, ℕ, ◌≤◌, ◌⊎◌, List, [], ◌++◌, length, codes, Ok, None}
-use Rattle.std.specs.Fmt.{decimal}
-use Rattle.pld_device.specs.Table.{Table}
-use Rattle.jedec_file.specs.FileText.{four_hex}
-use Rattle.jedec_file.specs.FuseFile.{FuseFile, file_of}
-use Rattle.jedec_file.specs.FuseSums.{fuse_sum_of}
+use Rattle.abel_commands.specs.Prelude.{decimal, Table, four_hex, FuseFile, file_of, fuse_sum_of, design_cells, Mismatch, CanBeSimulated, IsTheOnlyList, Compiled, IsCompiled, table_of}
 use Rattle.abel_meaning.specs.Designs.{design_of}
-use Rattle.reports.specs.Summary.{design_cells}
-use Rattle.device_sim.specs.declared.report.Mismatch.{Mismatch}
-use Rattle.device_sim.specs.Simulated.{CanBeSimulated, IsTheOnlyList}
 use Rattle.demo_source.specs.SourceText.{IsDemoSource}
-use Rattle.abel_compile.specs.declared.compiled.Compiled.{Compiled}
-use Rattle.abel_compile.specs.Correct.{IsCompiled}
-use Rattle.devices.specs.Devices.{table_of}
 use Rattle.abel_commands.specs.Ending.{Ending, ends, too_long_line}
 use Rattle.abel_commands.specs.Limit.{limit, IsTooLong}
 use Rattle.abel_commands.specs.Simulating.{RunHas}

@@ -1,9 +1,7 @@
 -- What is told of bytes that are not read as a fuse file (this project's rule).
 use Rattle.std.specs.Prelude.{ℕ, List, [], ◌∷◌, ◌++◌, get_or, codes}
-use Rattle.std.specs.Fmt.{decimal}
-use Rattle.jedec_file.specs.declared.jedec_fault.JedecFault.{JedecFault}
+use Rattle.abel_commands.specs.Prelude.{decimal, JedecFault, four_hex}
 use Rattle.jedec_file.specs.declared.jedec_fault.JedecFault.TheVariants as fault
-use Rattle.jedec_file.specs.FileText.{four_hex}
 
 -- the two sums that differ: the one that the file says, and the one that was found
 abbrev pub two_sums : (read found : ℕ) → List ℕ

@@ -1,13 +1,9 @@
 -- The fuse file that bytes are, and the three refusals of bytes that are none, for each command on fuse files (this project's
 -- rule).
 use Rattle.std.specs.Prelude.{◌≡◌, ◌≢◌, ℕ, ◌≤◌, List, ◌++◌, length, Ok, Err, Some, codes}
-use Rattle.std.specs.Fmt.{decimal}
+use Rattle.abel_commands.specs.Prelude.{decimal, Table, JedecFault, FuseFile, file_of, contents}
 use Rattle.pld_device.specs.FixedFuses.{HasFixedLevels, wrong_fixed}
-use Rattle.pld_device.specs.Table.{Table}
-use Rattle.jedec_file.specs.declared.jedec_fault.JedecFault.{JedecFault}
 use Rattle.jedec_file.specs.declared.jedec_fault.JedecFault.TheVariants as fault
-use Rattle.jedec_file.specs.FuseFile.{FuseFile, file_of}
-use Rattle.jedec_reader.specs.Contents.{contents}
 use Rattle.abel_commands.specs.Limit.{limit, IsTooLong}
 use Rattle.abel_commands.specs.declared.taken.Taken.{Taken}
 use Rattle.abel_commands.specs.declared.taken.Taken.TheVariants as taken

@@ -11,6 +11,7 @@ pub mod FewVectors
 pub mod FuseFiles
 pub mod Limit
 pub mod Loading
+pub mod Prelude
 pub mod Reading
 pub mod SimulateCommand
 pub mod Simulating

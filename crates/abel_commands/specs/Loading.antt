@@ -1,14 +1,9 @@
 -- When a fuse file of a device is loaded, and what is told of one that is not, for each command that looks into the device (this
 -- project's rule).
 use Rattle.std.specs.Prelude.{◌≡◌, ◌≢◌, ℕ, ◌⊎◌, Bool, List, length, Ok}
-use Rattle.jedec_file.specs.FuseFile.{FuseFile, file_of}
-use Rattle.pld_device.specs.Table.{Table}
-use Rattle.pld_order.specs.Graphs.{HasLoop, HasNoLoop}
-use Rattle.device_logic.specs.declared.fault.SimFault.{SimFault}
+use Rattle.abel_commands.specs.Prelude.{FuseFile, file_of, Table, HasLoop, HasNoLoop, SimFault, cell_reads, HasNoResetPath, IsResetPath}
 use Rattle.device_logic.specs.declared.fault.SimFault.TheVariants as refusal
-use Rattle.device_logic.specs.CellReads.{cell_reads}
 use Rattle.device_logic.specs.LoadFaults.{IsLoadFault}
-use Rattle.device_logic.specs.ResetPaths.{HasNoResetPath, IsResetPath}
 use Rattle.abel_commands.specs.FuseFiles.{IsBadFile, IsFileOf}
 use Rattle.abel_commands.specs.Simulating.{sim_fault_line}
 

@@ -1,6 +1,6 @@
 -- What reading the sources of a command comes to (this project's rule).
 use Rattle.std.specs.Prelude.{◌≡◌, ℕ, ◌<◌, ◌≤◌, List, [], map, length, get_or, All, Contains}
-use Rattle.outside.specs.Outside.{Map, bytes_at}
+use Rattle.abel_commands.specs.Prelude.{Map, bytes_at}
 use Rattle.abel_commands.specs.declared.sources.SourceFault.{SourceFault}
 use Rattle.abel_commands.specs.declared.sources.SourceFault.TheVariants.{Unread, TooLong, OutOfMemory}
 use Rattle.abel_commands.specs.Counts.{Count, HasRisen, HasStayed}

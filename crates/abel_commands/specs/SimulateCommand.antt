@@ -1,6 +1,6 @@
 -- `simulate DEVICE IN`: how it ends, and what that means (this project's rule).
 use Rattle.std.specs.Prelude.{◌≡◌, ℕ, ◌⊎◌, List, None}
-use Rattle.pld_device.specs.Table.{Table}
+use Rattle.abel_commands.specs.Prelude.{Table}
 use Rattle.abel_commands.specs.Ending.{Ending, ends}
 use Rattle.abel_commands.specs.FuseFiles.{IsBadFile, IsRefusedFile}
 use Rattle.abel_commands.specs.Simulating.{Agrees, Disagrees, CanRun, HasMismatch, HasNoMismatch, HasNoRun, IsRefusedRun}

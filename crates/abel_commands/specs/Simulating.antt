@@ -1,18 +1,8 @@
 -- What simulating a fuse file tells: where its vectors' run disagrees with them, or why there is no run (this
 -- project's rule).
 use Rattle.std.specs.Prelude.{◌≡◌, ◌≢◌, ℕ, ◌⊎◌, IsSome, List, [], ◌∷◌, ◌++◌, length, flat_map, codes, Ok}
-use Rattle.std.specs.Fmt.{decimal}
-use Rattle.pld_base.specs.DeviceNames.{device_text}
-use Rattle.jedec_file.specs.FuseFile.{FuseFile, file_of}
-use Rattle.pld_device.specs.Macrocells.{device_logic}
-use Rattle.pld_device.specs.Table.{Table}
-use Rattle.pld_order.specs.Graphs.{HasLoop}
-use Rattle.device_logic.specs.declared.fault.SimFault.{SimFault}
+use Rattle.abel_commands.specs.Prelude.{decimal, device_text, FuseFile, file_of, device_logic, Table, HasLoop, SimFault, cell_reads, IsResetPath, Mismatch, CanBeSimulated, IsSimFault, IsTheOnlyList, first_unsupported}
 use Rattle.device_logic.specs.declared.fault.SimFault.TheVariants as refusal
-use Rattle.device_logic.specs.CellReads.{cell_reads}
-use Rattle.device_logic.specs.ResetPaths.{IsResetPath}
-use Rattle.device_sim.specs.declared.report.Mismatch.{Mismatch}
-use Rattle.device_sim.specs.Simulated.{CanBeSimulated, IsSimFault, IsTheOnlyList, first_unsupported}
 use Rattle.device_sim.specs.VectorRun.{IsVectorRun}
 use Rattle.abel_commands.specs.FuseFiles.{IsFileOf}
 

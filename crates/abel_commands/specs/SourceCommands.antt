@@ -1,11 +1,10 @@
 -- `compile IN OUT` and `list IN`: how they end, and what that means (this project's rule).
 use Rattle.std.specs.Prelude.{◌≡◌, ℕ, ◌≤◌, ◌⊎◌, List, length, Some, None}
+use Rattle.abel_commands.specs.Prelude.{Compiled, IsCompiled}
 use Rattle.fitter.specs.declared.fault.FitFault.{FitFault}
-use Rattle.abel_compile.specs.declared.compiled.Compiled.{Compiled}
 use Rattle.compile_phases.specs.declared.fault.SourceFault.{SourceFault}
 use Rattle.compile_phases.specs.Fits.{FitsAsWritten, IsOfFit, IsUnfitFor}
 use Rattle.placer.specs.declared.fault.PlaceFault.{PlaceFault}
-use Rattle.abel_compile.specs.Correct.{IsCompiled}
 use Rattle.compile_phases.specs.Placings.{IsPlacedFor, IsUnplacedFor}
 use Rattle.compile_phases.specs.SourceRefusals.{IsAcceptedFor, IsReadFor, IsSourceRefused}
 use Rattle.abel_commands.specs.Ending.{Ending, ends, too_long_line}

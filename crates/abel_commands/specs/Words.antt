@@ -1,11 +1,9 @@
 -- The words of the command line (this project's rule).
 use Rattle.std.specs.Prelude.{◌≡◌, ℕ, nat_lt, Bool, ◌&&◌, List, [], ◌∷◌, length, Option, Some, None, option_map, option_and_then, if◌then◌else◌, codes, Contains}
-use Rattle.std.specs.Char.{is_ascii_digit}
-use Rattle.std.specs.List.{list_all}
+use Rattle.abel_commands.specs.Prelude.{is_ascii_digit, list_all, named_device}
 use Rattle.std.specs.Str.{bytes_eq}
 use Rattle.std.specs.Str.Parse.{digits_value}
 use Rattle.pld_base.specs.declared.device_name.DeviceName.{DeviceName}
-use Rattle.pld_base.specs.DeviceNames.{named_device}
 
 -- what is done with the sources of a command
 pub data Task : Type 0 where

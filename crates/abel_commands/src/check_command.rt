@@ -1,8 +1,8 @@
 //! `check DEVICE IN`.
 
 ghost use Rattle.std.specs.Prelude.{◌≤◌, IfOk, length};
+ghost use Rattle.abel_commands.specs.Prelude.{table_of};
 ghost use Rattle.abel_commands.specs.CheckCommand.{CheckEnds};
-ghost use Rattle.devices.specs.Devices.{table_of};
 ghost use Rattle.abel_commands.specs.Limit.{limit};
 ghost use Rattle.abel_commands.specs.View.{ending_seen};
 

@@ -1,8 +1,8 @@
 //! The line of the report on a fuse file that was checked.
 
 ghost use Rattle.std.specs.Prelude.{◌≡◌, IfOk};
+ghost use Rattle.abel_commands.specs.Prelude.{contents};
 ghost use Rattle.abel_commands.specs.Checking.{checked_line};
-ghost use Rattle.jedec_reader.specs.Contents.{contents};
 
 use crate::numbered::put_numbered;
 use jedec_file::fuse_sum;

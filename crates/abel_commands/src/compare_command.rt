@@ -1,8 +1,7 @@
 //! `compare DEVICE A B`.
 
 ghost use Rattle.std.specs.Prelude.{◌≡◌, ◌≤◌, ℕ, IfOk, List, length};
-ghost use Rattle.devices.specs.Devices.{table_of};
-ghost use Rattle.jedec_reader.specs.Contents.{contents};
+ghost use Rattle.abel_commands.specs.Prelude.{table_of, contents};
 ghost use Rattle.abel_commands.specs.Limit.{limit};
 ghost use Rattle.abel_commands.specs.CompareCommand.{CompareEnds};
 ghost use Rattle.abel_commands.specs.FuseFiles.{IsFileOf};

@@ -1,10 +1,7 @@
 //! The lines of the report on two fuse files that were compared.
 
 ghost use Rattle.std.specs.Prelude.{◌≡◌, ◌<◌, ◌≤◌, ◌++◌, ◌==◌, ◌&&◌, IfOk, OnOk, length, codes};
-ghost use Rattle.pld_base.specs.Bits.{bits, is_on};
-ghost use Rattle.pld_base.specs.DeviceNames.{device_text};
-ghost use Rattle.jedec_file.specs.FileText.{level_char};
-ghost use Rattle.pld_device.specs.Table.{cell_at};
+ghost use Rattle.abel_commands.specs.Prelude.{bits, is_on, device_text, level_char, cell_at};
 ghost use Rattle.abel_commands.specs.Comparing.{differ_line, pin_digits, q_on, same_line};
 
 use device_logic::cell_of;

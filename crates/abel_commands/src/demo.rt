@@ -1,11 +1,7 @@
 //! `demo N`.
 
 ghost use Rattle.std.specs.Prelude.{◌≡◌, ◌<◌, ◌≤◌, ◌^◌, ℕ, Bool, List, IfOk, Ok, length};
-ghost use Rattle.device_sim.specs.Simulated.{IsSimulated, IsTheOnlyList};
-ghost use Rattle.jedec_file.specs.FuseFile.{file_of};
-ghost use Rattle.jedec_reader.specs.Contents.{contents};
-ghost use Rattle.reports.specs.Summary.{summary_of};
-ghost use Rattle.devices.specs.Devices.{table_of};
+ghost use Rattle.abel_commands.specs.Prelude.{IsSimulated, IsTheOnlyList, file_of, contents, summary_of, table_of};
 ghost use Rattle.abel_commands.specs.DemoCommand.{DemoEnds, DemoEndsWithin, FileEnds};
 ghost use Rattle.abel_commands.specs.Limit.{limit};
 ghost use Rattle.abel_commands.specs.View.{ending_seen};

@@ -1,8 +1,7 @@
 //! The line of the report on a demo.
 
 ghost use Rattle.std.specs.Prelude.{◌≡◌, ◌<◌, ◌^◌, ℕ, Bool, List, IfOk, drop, length};
-ghost use Rattle.std.specs.Fmt.{decimal};
-ghost use Rattle.reports.specs.Summary.{summary_of};
+ghost use Rattle.abel_commands.specs.Prelude.{decimal, summary_of};
 ghost use Rattle.abel_commands.specs.DemoCommand.{demo_told};
 
 use crate::leading_digits::first_digits;

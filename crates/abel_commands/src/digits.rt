@@ -1,8 +1,7 @@
 //! Decimal digits.
 
 ghost use Rattle.std.specs.Prelude.{◌≡◌};
-ghost use Rattle.std.specs.Char.{is_ascii_digit};
-ghost use Rattle.std.specs.List.{list_all};
+ghost use Rattle.abel_commands.specs.Prelude.{is_ascii_digit, list_all};
 ghost use Rattle.abel_commands.specs.Words.{are_few_digits};
 
 /// Whether each byte is a digit.

@@ -2,7 +2,7 @@
 
 ghost use Rattle.std.specs.Prelude.{◌≡◌, ◌++◌, IsErr, IfOk, OnOk, get_or};
 ghost use Rattle.jedec_file.specs.declared.jedec_fault.JedecFault.TheVariants as refusal;
-ghost use Rattle.jedec_file.specs.FileText.{four_hex};
+ghost use Rattle.abel_commands.specs.Prelude.{four_hex};
 ghost use Rattle.abel_commands.specs.FaultText.{fault_line, fault_text, two_sums};
 ghost use Rattle.abel_commands.specs.FuseFiles.{wrong_mode_line};
 

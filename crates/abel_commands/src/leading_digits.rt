@@ -1,8 +1,7 @@
 //! Decimal digits.
 
 ghost use Rattle.std.specs.Prelude.{◌≡◌, ◌≤◌, length, take};
-ghost use Rattle.std.specs.Char.{is_ascii_digit};
-ghost use Rattle.std.specs.List.{prefix_len};
+ghost use Rattle.abel_commands.specs.Prelude.{is_ascii_digit, prefix_len};
 
 /// How many digits a text begins with.
 fn digits_len(text: &[u8]) -> usize

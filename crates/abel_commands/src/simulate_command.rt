@@ -1,11 +1,10 @@
 //! `simulate DEVICE IN`.
 
 ghost use Rattle.std.specs.Prelude.{◌≡◌, ◌≤◌, IfOk, length};
-ghost use Rattle.devices.specs.Devices.{table_of};
+ghost use Rattle.abel_commands.specs.Prelude.{table_of, contents};
 ghost use Rattle.abel_commands.specs.Limit.{limit};
 ghost use Rattle.abel_commands.specs.SimulateCommand.{SimulateEnds};
 ghost use Rattle.abel_commands.specs.View.{ending_seen};
-ghost use Rattle.jedec_reader.specs.Contents.{contents};
 ghost use Rattle.abel_commands.specs.FuseFiles.{IsFileOf};
 
 use crate::ending::Ending;

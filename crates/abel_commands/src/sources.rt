@@ -1,7 +1,7 @@
 //! The sources of a command: the bytes of the files that it names.
 
 ghost use Rattle.std.specs.Prelude.{◌≡◌, ◌≤◌, IfOk, IfErr, All, length};
-ghost use Rattle.outside.specs.Outside.{SameFiles};
+ghost use Rattle.abel_commands.specs.Prelude.{SameFiles};
 ghost use Rattle.abel_commands.specs.Limit.{limit};
 ghost use Rattle.abel_commands.specs.Reading.{AreSources, IsWhyUnread};
 ghost use Rattle.abel_commands.specs.Counts.{count};

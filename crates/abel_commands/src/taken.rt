@@ -1,9 +1,8 @@
 //! What bytes come to as a fuse file of a device: where each command on fuse files begins.
 
 ghost use Rattle.std.specs.Prelude.{◌≡◌, ◌≤◌, IfOk, Ok, length};
+ghost use Rattle.abel_commands.specs.Prelude.{file_of, contents};
 ghost use Rattle.abel_commands.specs.FuseFiles.{IsTaken};
-ghost use Rattle.jedec_file.specs.FuseFile.{file_of};
-ghost use Rattle.jedec_reader.specs.Contents.{contents};
 ghost use Rattle.abel_commands.specs.Limit.{limit};
 
 use crate::fault_line::{fault_line, wrong_mode_line};

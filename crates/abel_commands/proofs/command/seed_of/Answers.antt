@@ -1,6 +1,6 @@
 -- `parse` reads the number of a word of digits.
 use Rattle.std.proofs.Common.{◌≡◌, ℕ, true, List, sym, ◌∙◌, subst}
-use Rattle.abel_commands.specs.Words.{are_few_digits}
+use Rattle.abel_commands.proofs.Common.{are_few_digits}
 use Rattle.abel_commands.proofs.Seeds.{seed_parsed}
 use Rattle.abel_commands.proofs.command.seed_of.Goals as goal
 

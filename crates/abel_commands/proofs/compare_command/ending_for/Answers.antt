@@ -1,7 +1,6 @@
 -- The second file is refused, and the first is a good one.
 use Rattle.std.proofs.Common.{inr}
-use Rattle.jedec_reader.specs.Contents.{contents}
-use Rattle.abel_commands.specs.CompareCommand.{SecondFile}
+use Rattle.abel_commands.proofs.Common.{contents, SecondFile}
 use Rattle.abel_commands.proofs.compare_command.ending_for.Goals as goal
 
 pub returns-in-Refused-2 : goal.returns-in-Refused-2

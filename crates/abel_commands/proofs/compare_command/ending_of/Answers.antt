@@ -1,8 +1,6 @@
 -- The library's answer is told.
 use Rattle.std.proofs.Common.{◌≢◌, Ok, ap, sym, inl, inr}
-use Rattle.std.proofs.lemmas.Bool.{true≢false}
-use Rattle.device_logic.specs.declared.fault.SimFault.TheVariants.{OutOfMemory}
-use Rattle.jedec_reader.specs.Contents.{contents}
+use Rattle.abel_commands.proofs.Common.{true≢false, OutOfMemory, contents}
 use Rattle.abel_commands.proofs.ComparedFiles.{told_different, told_refused, told_same}
 use Rattle.abel_commands.proofs.compare_command.ending_of.Goals as goal
 

@@ -1,7 +1,6 @@
 -- One pin more; each pin is below 32, and the last is that of the device.
 use Rattle.std.proofs.Common.{◌≡◌, ap, ◌∙◌, arith}
-use Rattle.pld_base.specs.Bits.{bits, is_on}
-use Rattle.jedec_file.specs.FileText.{level_char}
+use Rattle.abel_commands.proofs.Common.{bits, is_on, level_char}
 use Rattle.abel_commands.proofs.PinDigits.{one_more}
 use Rattle.abel_commands.proofs.compared_line.put_levels.Goals as goal
 

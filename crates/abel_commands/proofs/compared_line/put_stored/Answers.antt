@@ -1,8 +1,6 @@
 -- One pin more; the last is that of the device.
 use Rattle.std.proofs.Common.{◌≡◌, ap, ◌∙◌, arith}
-use Rattle.pld_base.specs.Bits.{bits}
-use Rattle.jedec_file.specs.FileText.{level_char}
-use Rattle.abel_commands.specs.Comparing.{q_on}
+use Rattle.abel_commands.proofs.Common.{bits, level_char, q_on}
 use Rattle.abel_commands.proofs.PinDigits.{one_more}
 use Rattle.abel_commands.proofs.compared_line.put_stored.Goals as goal
 

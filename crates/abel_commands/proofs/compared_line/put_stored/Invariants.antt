@@ -1,9 +1,6 @@
 -- The digits of the pins so far.
 use Rattle.std.proofs.Common.{◌≡◌, ◌++◌, map}
-use Rattle.std.specs.List.{range_with_len}
-use Rattle.jedec_file.specs.FileText.{level_char}
-use Rattle.pld_base.specs.Bits.{bits}
-use Rattle.abel_commands.specs.Comparing.{q_on}
+use Rattle.abel_commands.proofs.Common.{range_with_len, level_char, bits, q_on}
 use Rattle.abel_commands.proofs.compared_line.put_stored.Given as goal
 
 abbrev pub invariant-loop-before : goal.invariant-loop-before

@@ -1,7 +1,6 @@
 -- A cell was found, or none is there.
 use Rattle.std.proofs.Common.{◌==◌, ◌&&◌, length, sym, ◌∙◌, arith}
-use Rattle.pld_base.specs.Bits.{bits, is_on}
-use Rattle.pld_device.specs.Table.{cell_at}
+use Rattle.abel_commands.proofs.Common.{bits, is_on, cell_at}
 use Rattle.device_logic.proofs.Runs.{any_at, any_none}
 use Rattle.abel_commands.proofs.compared_line.q_on.Goals as goal
 

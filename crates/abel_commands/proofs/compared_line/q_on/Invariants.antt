@@ -1,7 +1,6 @@
 -- None of the cells so far is on the pin with a Q of 1.
 use Rattle.std.proofs.Common.{◌≡◌, ℕ, ◌<◌, ◌==◌, ◌&&◌, false}
-use Rattle.pld_base.specs.Bits.{bits, is_on}
-use Rattle.pld_device.specs.Table.{cell_at}
+use Rattle.abel_commands.proofs.Common.{bits, is_on, cell_at}
 use Rattle.abel_commands.proofs.compared_line.q_on.Given as goal
 
 abbrev pub invariant-loop-cell : goal.invariant-loop-cell

@@ -1,11 +1,8 @@
 -- The table of a device's name is the device's.
 use Rattle.std.proofs.Common.{ℕ, List, sym, subst}
 use Rattle.std.specs.Prelude.{IfOk, Result}
-use Rattle.pld_base.specs.declared.device_name.DeviceName.{DeviceName}
-use Rattle.devices.specs.Devices.{table_of}
+use Rattle.abel_commands.proofs.Common.{DeviceName, table_of, DecompileEnds, ending_seen}
 use Rattle.abel_commands.specs.declared.ending.Ending as kept
-use Rattle.abel_commands.specs.DecompileCommand.{DecompileEnds}
-use Rattle.abel_commands.specs.View.{ending_seen}
 use Rattle.abel_commands.proofs.decompile_command.decompile_ending.Goals as goal
 
 abbrev Tells : {E : Type 0} → (bytes : List ℕ) → Result (kept.Ending) E → DeviceName → Type 0

@@ -1,6 +1,6 @@
 -- What has a text is loaded.
 use Rattle.std.proofs.Common.{inl}
-use Rattle.jedec_reader.specs.Contents.{contents}
+use Rattle.abel_commands.proofs.Common.{contents}
 use Rattle.abel_commands.proofs.decompile_command.ending_of.Goals as goal
 
 pub returns-in-Ok : goal.returns-in-Ok

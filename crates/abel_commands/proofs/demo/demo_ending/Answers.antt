@@ -1,8 +1,6 @@
 -- The demo source of the number is the one that ends so.
 use Rattle.std.proofs.Common.{ℕ, List, subst, arith, inr}
-use Rattle.std.proofs.lemmas.Result.{IfOk-weaker}
-use Rattle.abel_commands.specs.DemoCommand.{DemoEndsWithin}
-use Rattle.abel_commands.specs.View.{ending_seen}
+use Rattle.abel_commands.proofs.Common.{IfOk-weaker, DemoEndsWithin, ending_seen}
 use Rattle.abel_commands.proofs.demo.demo_ending.Goals as goal
 
 pub returns : goal.returns

@@ -1,11 +1,6 @@
 -- The run's mismatches are none, or some, as the list says.
 use Rattle.std.proofs.Common.{List, ◌∙◌, ap, subst, arith, inl, inr}
-use Rattle.std.proofs.lemmas.List.{length-map}
-use Rattle.device_sim.specs.declared.report.Mismatch.{Mismatch}
-use Rattle.jedec_file.specs.FuseSums.{fuse_sum_of}
-use Rattle.jedec_file.specs.TestVectors.{chars_of}
-use Rattle.jedec_reader.specs.Contents.{contents}
-use Rattle.abel_commands.specs.DemoCommand.{IsFileRun}
+use Rattle.abel_commands.proofs.Common.{length-map, Mismatch, fuse_sum_of, chars_of, contents, IsFileRun}
 use Rattle.abel_commands.proofs.DemoRuns.{file_run}
 use Rattle.abel_commands.proofs.FewVectors.{few_vectors}
 use Rattle.abel_commands.proofs.SimulatedFiles.{none_where_empty, some_where_not}

@@ -1,12 +1,8 @@
 -- The table of a device's name is the device's.
 use Rattle.std.proofs.Common.{◌≡◌, ℕ, ◌^◌, ◌<◌, Bool, List, sym, subst}
 use Rattle.std.specs.Prelude.{IfOk, Result}
-use Rattle.pld_base.specs.declared.device_name.DeviceName.{DeviceName}
-use Rattle.reports.specs.Summary.{summary_of}
-use Rattle.devices.specs.Devices.{table_of}
+use Rattle.abel_commands.proofs.Common.{DeviceName, summary_of, table_of, FileEnds, ending_seen}
 use Rattle.abel_commands.specs.declared.ending.Ending as kept
-use Rattle.abel_commands.specs.DemoCommand.{FileEnds}
-use Rattle.abel_commands.specs.View.{ending_seen}
 use Rattle.abel_commands.proofs.demo.file_ending.Goals as goal
 
 abbrev Tells : {E : Type 0} → (seed : ℕ) → (bytes summary : List ℕ) → Result (kept.Ending) E → DeviceName → Type 0

@@ -1,9 +1,6 @@
 -- A compiled source is run, and refusals are told.
 use Rattle.std.proofs.Common.{ℕ, List, ◌∙◌, subst, inl, inr}
-use Rattle.std.proofs.lemmas.Result.{IfOk-weaker}
-use Rattle.devices.specs.Devices.{table_of}
-use Rattle.abel_commands.specs.DemoCommand.{FileEnds, cells_of}
-use Rattle.abel_commands.specs.View.{ending_seen}
+use Rattle.abel_commands.proofs.Common.{IfOk-weaker, table_of, FileEnds, cells_of, ending_seen}
 use Rattle.abel_commands.proofs.DemoCells.{few_cells}
 use Rattle.abel_commands.proofs.demo.source_ending.Goals as goal
 

@@ -1,6 +1,6 @@
 -- The digits behind a known front.
 use Rattle.std.proofs.Common.{ℕ, ◌+◌, List, length, ◌∙◌, ap}
-use Rattle.pld_base.specs.DeviceNames.{device_text}
+use Rattle.abel_commands.proofs.Common.{device_text}
 use Rattle.abel_commands.proofs.DemoCells.{cells_behind}
 use Rattle.abel_commands.proofs.demo_line.cells_told.Goals as goal
 

@@ -1,6 +1,6 @@
 -- The text is that of the variant that the fault is.
 use Rattle.std.proofs.Common.{◌≡◌, ℕ, List, ◌++◌, ◌∙◌, sym, ap}
-use Rattle.jedec_file.specs.declared.jedec_fault.JedecFault.{JedecFault}
+use Rattle.abel_commands.proofs.Common.{JedecFault}
 use Rattle.abel_commands.specs.FaultText.{fault_text}
 use Rattle.abel_commands.proofs.fault_line.put_fault.Goals as goal
 

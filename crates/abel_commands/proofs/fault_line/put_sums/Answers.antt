@@ -1,7 +1,7 @@
 -- Three pieces were appended, one behind the other.
 use Rattle.std.proofs.Common.{◌≡◌, ℕ, List, ◌++◌, ◌∙◌, ap, append_assoc}
 use Rattle.std.specs.Prelude.{codes}
-use Rattle.jedec_file.specs.FileText.{four_hex}
+use Rattle.abel_commands.proofs.Common.{four_hex}
 use Rattle.abel_commands.proofs.fault_line.put_sums.Goals as goal
 
 three_pieces : (old name one two first second new : List ℕ) → first ≡ old ++ name → second ≡ first ++ one → new ≡ second ++ two

@@ -1,6 +1,6 @@
 use Rattle.std.proofs.Common.{◌≡◌, ◌++◌, take}
 use Rattle.std.specs.Prelude.{flat_map}
-use Rattle.abel_commands.specs.Simulating.{mismatch_line}
+use Rattle.abel_commands.proofs.Common.{mismatch_line}
 use Rattle.abel_commands.proofs.run_lines.put_mismatches.Given as goal
 
 abbrev pub invariant-loop-it : goal.invariant-loop-it

@@ -1,7 +1,7 @@
 -- A piece and a number were appended, and behind them another piece and number.
 use Rattle.std.proofs.Common.{◌≡◌, ℕ, List, ◌++◌, ◌∙◌, ap, sym, append_assoc}
 use Rattle.std.specs.Prelude.{codes}
-use Rattle.std.specs.Fmt.{decimal}
+use Rattle.abel_commands.proofs.Common.{decimal}
 use Rattle.abel_commands.proofs.sim_fault_line.put_condition.Goals as goal
 
 two_pieces : (old one piece number middle new : List ℕ) → middle ≡ old ++ one → new ≡ middle ++ (piece ++ number)

@@ -1,5 +1,5 @@
 use Rattle.std.proofs.Common.{◌≡◌, ◌++◌, take}
-use Rattle.abel_commands.specs.Simulating.{pins_text}
+use Rattle.abel_commands.proofs.Common.{pins_text}
 use Rattle.abel_commands.proofs.sim_fault_line.put_pins.Given as goal
 
 abbrev pub invariant-loop-pin : goal.invariant-loop-pin

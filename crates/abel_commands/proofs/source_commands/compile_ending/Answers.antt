@@ -1,6 +1,6 @@
 -- What is compiled goes under OUT, and refusals are told.
 use Rattle.std.proofs.Common.{refl, inl, inr}
-use Rattle.std.proofs.lemmas.Result.{IfOk-weaker}
+use Rattle.abel_commands.proofs.Common.{IfOk-weaker}
 use Rattle.abel_commands.proofs.source_commands.compile_ending.Goals as goal
 
 pub returns-in-Ok : goal.returns-in-Ok

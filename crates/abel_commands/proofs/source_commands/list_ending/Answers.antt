@@ -1,6 +1,6 @@
 -- What is compiled is listed, and refusals are told.
 use Rattle.std.proofs.Common.{inl, inr}
-use Rattle.std.proofs.lemmas.Result.{IfOk-weaker}
+use Rattle.abel_commands.proofs.Common.{IfOk-weaker}
 use Rattle.abel_commands.proofs.source_commands.list_ending.Goals as goal
 
 pub returns-in-Ok : goal.returns-in-Ok

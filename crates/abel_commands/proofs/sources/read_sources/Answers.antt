@@ -1,11 +1,7 @@
 -- One source is read after the other, and the first fault is told.
 use Rattle.std.proofs.Common.{◌∙◌, ℕ, ◌<◌, List, length, Err, ap, sym, subst, arith}
-use Rattle.std.specs.Global.{Vec}
+use Rattle.abel_commands.proofs.Common.{Vec, length-map, ReadFault, bytes_at, limit}
 use Rattle.std.specs.Prelude.{string_bytes}
-use Rattle.std.proofs.lemmas.List.{length-map}
-use Rattle.outside.specs.declared.files.ReadFault.{ReadFault}
-use Rattle.outside.specs.Outside.{bytes_at}
-use Rattle.abel_commands.specs.Limit.{limit}
 use Rattle.abel_commands.proofs.Settled.{settled, too_long_settled}
 use Rattle.abel_commands.proofs.SourceLists.{at_name, bytes_same, own_more, within_more}
 use Rattle.abel_commands.proofs.sources.read_sources.Goals as goal

@@ -1,7 +1,5 @@
 use Rattle.std.proofs.Common.{◌≡◌, ◌≤◌, All, length, map, take}
-use Rattle.outside.specs.Outside.{SameFiles, bytes_at}
-use Rattle.abel_commands.specs.Limit.{limit}
-use Rattle.abel_commands.specs.Sources.{sources_seen, texts}
+use Rattle.abel_commands.proofs.Common.{SameFiles, bytes_at, limit, sources_seen, texts}
 use Rattle.abel_commands.proofs.sources.read_sources.Given as goal
 
 -- the sources so far are the bytes under the names so far, and no call failed

@@ -1,6 +1,6 @@
 -- Each source of a list is within the limit.
 use Rattle.std.proofs.Common.{length, ltb-true, refl, sym}
-use Rattle.std.proofs.lemmas.Option.{slice_get_read}
+use Rattle.abel_commands.proofs.Common.{slice_get_read}
 use Rattle.abel_commands.proofs.SourceLists.{within_item}
 use Rattle.abel_commands.proofs.sources.source_at.Goals as goal
 

@@ -1,7 +1,6 @@
 -- The first fuse with another level is told.
 use Rattle.std.proofs.Common.{sym, ◌∙◌}
-use Rattle.jedec_reader.specs.Contents.{contents}
-use Rattle.abel_commands.specs.FuseFiles.{WrongMode}
+use Rattle.abel_commands.proofs.Common.{contents, WrongMode}
 use Rattle.abel_commands.proofs.taken.in_mode.Goals as goal
 
 pub returns-in_ok-wrong_mode_line-in-Some : goal.returns-in_ok-wrong_mode_line-in-Some

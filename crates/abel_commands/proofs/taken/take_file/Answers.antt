@@ -1,11 +1,7 @@
 -- The refusal that reading has first is told; want of memory is answered as such.
 use Rattle.std.proofs.Common.{◌≡◌, ◌≢◌, Err, refl, sym}
-use Rattle.std.proofs.lemmas.Bool.{true≢false}
-use Rattle.jedec_file.specs.declared.jedec_fault.JedecFault.{JedecFault}
+use Rattle.abel_commands.proofs.Common.{true≢false, JedecFault, FuseFile, Read, Refuses, Unread}
 use Rattle.jedec_file.specs.declared.jedec_fault.JedecFault.TheVariants as fault
-use Rattle.jedec_file.specs.FuseFile.{FuseFile}
-use Rattle.jedec_file.specs.Refusals.{Read, Refuses}
-use Rattle.abel_commands.specs.FuseFiles.{Unread}
 use Rattle.abel_commands.proofs.taken.take_file.Goals as goal
 
 refused : (e : JedecFault) (read : Read FuseFile) → Refuses e read → e ≢ fault.OutOfMemory → read ≡ Err e
