@@ -1,28 +1,7 @@
 -- What the phases answer for the module of a text, as an answer for the text.
 use Rattle.std.proofs.Common.{◌≡◌, ℕ, Some, List, Result, Ok, Err, sym, ap, ◌∙◌, subst, inl, inr}
 use Rattle.std.specs.Prelude.{IfOk, IfErr}
-use Rattle.pld_base.specs.declared.device_name.DeviceName.{DeviceName}
-use Rattle.jedec_file.specs.CanonicalFile.{canonical_file}
-use Rattle.abel_tree.specs.declared.words.Word.{Word}
-use Rattle.abel_tree.specs.Tree.{ModuleTree}
-use Rattle.abel_meaning.specs.DeviceStrings.{device_named}
-use Rattle.abel_meaning.specs.Kinds.{names_of}
-use Rattle.abel_meaning.specs.Vectors.{source_vectors}
-use Rattle.module_reader.specs.Texts.{SpellsModule, IsRead}
-use Rattle.placer.specs.Placements.{IsPlacedModule}
-use Rattle.abel_compile.specs.declared.compiled.Compiled.{Compiled}
-use Rattle.compile_phases.specs.declared.fault.CompileFault.{CompileFault}
-use Rattle.compile_phases.specs.declared.fault.CompileFault.TheVariants.{Source, Place, Fit, OutOfMemory}
-use Rattle.compile_phases.specs.declared.fault.SourceFault.{SourceFault}
-use Rattle.compile_phases.specs.declared.fault.SourceFault.TheVariants.{Expand, Scan, Parse, Names, Sections, Design, Width}
-use Rattle.abel_compile.specs.Answers.{CompileAnswers}
-use Rattle.abel_compile.specs.Statement.{IsRightFile}
-use Rattle.devices.specs.Devices.{table_of}
-use Rattle.compile_phases.specs.Phases.{IsOfSource, IsTextFault, IsNameFault, IsUnnamed, IsReadAlone, IsRefusedBy}
-use Rattle.compile_phases.specs.Placings.{IsPlacedFor}
-use Rattle.abel_compile.specs.Compiling.{IsCompiledFor, IsCompiledOn}
-use Rattle.compile_phases.specs.SourceRefusals.{IsSourceRefused}
-use Rattle.compile_phases.proofs.PlacedRefusals.{placed_name}
+use Rattle.abel_compile.proofs.Common.{DeviceName, canonical_file, Word, ModuleTree, device_named, names_of, source_vectors, SpellsModule, IsRead, IsPlacedModule, Compiled, CompileFault, Source, Place, Fit, OutOfMemory, SourceFault, Expand, Scan, Parse, Names, Sections, Design, Width, CompileAnswers, IsRightFile, table_of, IsOfSource, IsTextFault, IsNameFault, IsUnnamed, IsReadAlone, IsRefusedBy, IsPlacedFor, IsCompiledFor, IsCompiledOn, IsSourceRefused, placed_name}
 use Rattle.abel_compile.proofs.NeverRefused.{spelled}
 
 -- ---- the text

@@ -1,26 +1,11 @@
 -- A text has one fate: it is compiled, or refused, or it does not fit; and what fits as it is written is neither.
 use Rattle.std.proofs.Common.{◌≡◌, ℕ, Some, None, List, sym, ap, ◌∙◌, subst, inl, inr}
-use Rattle.pld_base.specs.declared.device_name.DeviceName.{DeviceName}
-use Rattle.pld_device.specs.Table.{Table}
-use Rattle.abel_tree.specs.Tree.{ModuleTree}
-use Rattle.abel_meaning.specs.DeviceStrings.{device_named}
-use Rattle.decls.specs.FaultOrder.{name_order}
-use Rattle.decls.specs.NameRefusals.{name_refusals}
+use Rattle.abel_compile.proofs.Common.{DeviceName, Table, ModuleTree, device_named, name_order, name_refusals, read_or_not, one_module, Compiled, SourceFault, Expand, Scan, Parse, Names, Sections, Design, Width, FitsAsWritten, IsOfFit, IsUnfitFor, table_of, IsAcceptedFor, IsReadFor, IsSourceRefused, IsPlacedFor, IsUnplacedFor, no_first, not_source, not_fit, one_placed, placed_not_unplaced, unplaced_names}
 use Rattle.fitter.specs.declared.fault.FitFault.{FitFault}
 use Rattle.module_reader.specs.declared.fault.ReadFault.TheVariants as reading
 use Rattle.placer.specs.declared.fault.PlaceFault.{PlaceFault}
-use Rattle.module_reader.proofs.Fates.{read_or_not, one_module}
-use Rattle.abel_compile.specs.declared.compiled.Compiled.{Compiled}
-use Rattle.compile_phases.specs.declared.fault.SourceFault.{SourceFault}
-use Rattle.compile_phases.specs.declared.fault.SourceFault.TheVariants.{Expand, Scan, Parse, Names, Sections, Design, Width}
-use Rattle.compile_phases.specs.Fits.{FitsAsWritten, IsOfFit, IsUnfitFor}
 use Rattle.abel_compile.specs.Correct.{IsCompiled}
 use Rattle.devices.specs.DeviceLaws.{table_sound}
-use Rattle.devices.specs.Devices.{table_of}
-use Rattle.compile_phases.specs.SourceRefusals.{IsAcceptedFor, IsReadFor, IsSourceRefused}
-use Rattle.compile_phases.specs.Placings.{IsPlacedFor, IsUnplacedFor}
-use Rattle.compile_phases.proofs.NotRefused.{no_first, not_source, not_fit}
-use Rattle.compile_phases.proofs.PlacedRefusals.{one_placed, placed_not_unplaced, unplaced_names}
 use Rattle.abel_compile.proofs.NeverRefused.{spelled}
 
 same_device : (a b : DeviceName) → Some a ≡ Some b → a ≡ b

@@ -1,3 +1,4 @@
+pub mod Common
 pub mod CompiledModules
 pub mod Compiles
 pub mod Exclusive

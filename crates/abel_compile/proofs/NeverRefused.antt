@@ -1,29 +1,8 @@
 -- A source that is accepted and fits as it is written is refused for nothing but want of memory.
 use Rattle.std.proofs.Common.{◌≡◌, ◌≢◌, ℕ, Some, None, List, Result, Ok, Err, refl, sym, ap, ◌∙◌, subst}
 use Rattle.std.specs.Prelude.{IfErr}
-use Rattle.pld_base.specs.declared.device_name.DeviceName.{DeviceName}
-use Rattle.pld_device.specs.Laws.{IsDevice}
-use Rattle.pld_device.specs.Table.{Table}
-use Rattle.abel_tree.specs.Tree.{ModuleTree}
-use Rattle.abel_meaning.specs.DeviceStrings.{device_named}
-use Rattle.decls.specs.FaultOrder.{name_order}
-use Rattle.decls.specs.NameRefusals.{name_refusals}
+use Rattle.abel_compile.proofs.Common.{DeviceName, IsDevice, Table, ModuleTree, device_named, name_order, name_refusals, SpellsModule, IsRead, read_or_not, Compiled, CompileFault, Source, Place, Fit, OutOfMemory, SourceFault, Expand, Scan, Parse, Names, Sections, Design, Width, FitsAsWritten, IsUnfitFor, IsNeverRefused, table_of, IsOfSource, IsTextFault, IsNameFault, IsUnnamed, IsReadAlone, IsRefusedBy, IsPlacedFor, IsAcceptedFor, IsRefusedSo, no_first, not_fit, not_source, one_placed, placed_not_unplaced}
 use Rattle.module_reader.specs.declared.fault.ReadFault.TheVariants as reading
-use Rattle.module_reader.specs.Texts.{SpellsModule, IsRead}
-use Rattle.module_reader.proofs.Fates.{read_or_not}
-use Rattle.abel_compile.specs.declared.compiled.Compiled.{Compiled}
-use Rattle.compile_phases.specs.declared.fault.CompileFault.{CompileFault}
-use Rattle.compile_phases.specs.declared.fault.CompileFault.TheVariants.{Source, Place, Fit, OutOfMemory}
-use Rattle.compile_phases.specs.declared.fault.SourceFault.{SourceFault}
-use Rattle.compile_phases.specs.declared.fault.SourceFault.TheVariants.{Expand, Scan, Parse, Names, Sections, Design, Width}
-use Rattle.compile_phases.specs.Fits.{FitsAsWritten, IsUnfitFor}
-use Rattle.abel_compile.specs.Answers.{IsNeverRefused}
-use Rattle.devices.specs.Devices.{table_of}
-use Rattle.compile_phases.specs.Phases.{IsOfSource, IsTextFault, IsNameFault, IsUnnamed, IsReadAlone, IsRefusedBy}
-use Rattle.compile_phases.specs.Placings.{IsPlacedFor}
-use Rattle.compile_phases.specs.SourceRefusals.{IsAcceptedFor, IsRefusedSo}
-use Rattle.compile_phases.proofs.NotRefused.{no_first, not_fit, not_source}
-use Rattle.compile_phases.proofs.PlacedRefusals.{one_placed, placed_not_unplaced}
 
 -- ---- of the text
 

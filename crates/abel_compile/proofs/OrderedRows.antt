@@ -1,19 +1,12 @@
 -- The rows of a cell on which a module assigns something are in order.
 use Rattle.std.proofs.Common.{◌≡◌, ℕ, ◌<◌, Option, Some, None, length, refl, sym, ap, ◌∙◌}
+use Rattle.abel_compile.proofs.Common.{IsDevice, Table, Netlist, ModuleTree, design_of, name_at, Wanted, plain_netlist, plain_wanted, wanted_at, Fitted, IsFitOf}
 use Rattle.std.specs.Option.{option_map}
-use Rattle.pld_device.specs.Laws.{IsDevice}
-use Rattle.pld_device.specs.Table.{Table}
 use Rattle.bit_expr.specs.declared.netlist.CellWanted.{CellWanted}
-use Rattle.bit_expr.specs.declared.netlist.Netlist.{Netlist}
 use Rattle.bit_expr.specs.Arena.{arena}
-use Rattle.abel_tree.specs.Tree.{ModuleTree}
-use Rattle.abel_meaning.specs.Designs.{design_of, name_at}
-use Rattle.abel_meaning.specs.Netlists.{Wanted, plain_netlist, plain_wanted, wanted_at}
 use Rattle.abel_meaning.specs.SignalReads.{given_formulas}
 use Rattle.fitter.specs.Plans.{cell_wanted}
 use Rattle.fitter.proofs.WantedIds.{wanted_is}
-use Rattle.fitter.specs.declared.answer.Fitted.{Fitted}
-use Rattle.fitter.specs.Answers.{IsFitOf}
 use Rattle.fitter.specs.Order.{AreRowsInOrder}
 use Rattle.netlist_laws.specs.Gathered.{netlist_of, wanted_for}
 use Rattle.netlist_laws.proofs.CellsFound.{wanted_found}

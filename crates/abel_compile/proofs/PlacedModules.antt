@@ -1,18 +1,7 @@
 -- Either answer for a placed module, as one for its source.
 use Rattle.std.proofs.Common.{Result, Ok, Err}
 use Rattle.std.specs.Prelude.{IfErr, IfOk}
-use Rattle.pld_base.specs.declared.device_name.DeviceName.{DeviceName}
-use Rattle.pld_device.specs.Table.{Table}
-use Rattle.abel_tree.specs.Tree.{ModuleTree}
-use Rattle.abel_meaning.specs.Kinds.{names_of}
-use Rattle.placer.specs.Following.{HasNumberedNames}
-use Rattle.placer.specs.Placements.{IsPlacedModule}
-use Rattle.compile_phases.specs.declared.fault.CompileFault.{CompileFault}
-use Rattle.compile_phases.specs.Phases.{IsRefusedBy, IsRefusedFor}
-use Rattle.compile_phases.specs.Placings.{IsPlacedFor}
-use Rattle.compile_phases.proofs.PlacedRefusals.{of_placed}
-use Rattle.abel_compile.specs.declared.compiled.Compiled.{Compiled}
-use Rattle.abel_compile.specs.Compiling.{IsCompiledOn}
+use Rattle.abel_compile.proofs.Common.{DeviceName, Table, ModuleTree, names_of, HasNumberedNames, IsPlacedModule, CompileFault, IsRefusedBy, IsRefusedFor, IsPlacedFor, of_placed, Compiled, IsCompiledOn}
 
 pub compiled_placed : (t : Table) (device : DeviceName) (m placed : ModuleTree) (r : Result Compiled CompileFault) → IsPlacedModule t m placed
     → IfOk r (λ c. IsCompiledOn t (names_of t m) device placed c) → IfOk r (λ c. IsPlacedFor (λ t p. IsCompiledOn t (names_of t m) device p c) t m)

@@ -1,18 +1,8 @@
 -- What is told of the fuses of a module with its test vectors.
 use Rattle.std.proofs.Common.{◌≡◌, ℕ, Bool, List, [], Ok, sym, ap, ◌∙◌, subst}
-use Rattle.pld_device.specs.Table.{Table}
-use Rattle.jedec_file.specs.CanonicalFile.{canonical_file}
+use Rattle.abel_compile.proofs.Common.{Table, canonical_file, Entry, ModuleTree, design_of, names_of, source_vectors, design_cells, summary_of, Compiled, IsToldOf, fuses_and_vectors}
 use Rattle.jedec_file.specs.FuseFile.{file_of}
-use Rattle.abel_tree.specs.Entries.{Entry}
-use Rattle.abel_tree.specs.Tree.{ModuleTree}
-use Rattle.abel_meaning.specs.Designs.{design_of}
-use Rattle.abel_meaning.specs.Kinds.{names_of}
-use Rattle.abel_meaning.specs.Vectors.{source_vectors}
 use Rattle.fuse_listing.specs.Listing.{listing_text}
-use Rattle.reports.specs.Summary.{design_cells, summary_of}
-use Rattle.abel_compile.specs.declared.compiled.Compiled.{Compiled}
-use Rattle.abel_compile.specs.Compiling.{IsToldOf}
-use Rattle.abel_compile.specs.Statement.{fuses_and_vectors}
 
 pub told_of : (t : Table) (declared : List Entry) (m : ModuleTree) (fuses : List Bool) (name : List ℕ) (es : List Entry) (count : ℕ) (vectors : List (List ℕ)) (c : Compiled) → vectors ≡ source_vectors t m
     → name ≡ m.name.text → es ≡ names_of t m → count ≡ design_cells (design_of t m).context

@@ -1,12 +1,11 @@
 -- What compiling answers, and when (this project's rule).
 use Rattle.std.specs.Prelude.{◌≡◌, ◌≢◌, ℕ, List, Result, Ok, Err}
+use Rattle.abel_compile.specs.Prelude.{IsPlacedFor, IsUnplacedFor, IsReadFor, IsAcceptedFor, IsSourceRefused}
 use Rattle.abel_compile.specs.declared.compiled.Compiled.{Compiled}
 use Rattle.compile_phases.specs.declared.fault.CompileFault.{CompileFault}
 use Rattle.compile_phases.specs.declared.fault.CompileFault.TheVariants.{Source, Place, Fit, OutOfMemory}
 use Rattle.abel_compile.specs.Correct.{IsCompiled}
 use Rattle.compile_phases.specs.Fits.{FitsAsWritten, IsOfFit, IsUnfitFor}
-use Rattle.compile_phases.specs.Placings.{IsPlacedFor, IsUnplacedFor}
-use Rattle.compile_phases.specs.SourceRefusals.{IsReadFor, IsAcceptedFor, IsSourceRefused}
 
 -- each answer with its cause and its line; want of memory tells nothing
 abbrev pub CompileAnswers : List ℕ → Result Compiled CompileFault → Type 0

@@ -1,27 +1,12 @@
 -- Private: what compiling a module answers, and the law of its fuses (this project's rule).
 use Rattle.std.specs.Prelude.{◌≡◌, Bool, List, length, Ok}
-use Rattle.pld_base.specs.declared.device_name.DeviceName.{DeviceName}
-use Rattle.pld_device.specs.Laws.{IsDevice}
-use Rattle.pld_device.specs.Table.{Table}
-use Rattle.jedec_file.specs.CanonicalFile.{canonical_file}
-use Rattle.jedec_file.specs.FuseFile.{file_of}
+use Rattle.abel_compile.specs.Prelude.{DeviceName, IsDevice, Table, canonical_file, file_of, Entry, ModuleTree, design_of, names_of, source_vectors, listing_text, design_cells, summary_of, IsFitOf, IsTakeable, IsNetlistFor, IsAcceptedFor}
 use Rattle.bit_expr.specs.declared.netlist.Netlist.{Netlist}
-use Rattle.abel_tree.specs.Entries.{Entry}
-use Rattle.abel_tree.specs.Tree.{ModuleTree}
-use Rattle.abel_meaning.specs.Designs.{design_of}
-use Rattle.abel_meaning.specs.Kinds.{names_of}
-use Rattle.abel_meaning.specs.Vectors.{source_vectors}
 use Rattle.netlist_laws.specs.FittedCorrect.{DoesWhatItSays}
-use Rattle.fuse_listing.specs.Listing.{listing_text}
-use Rattle.reports.specs.Summary.{design_cells, summary_of}
 use Rattle.fitter.specs.declared.answer.Fitted.{Fitted}
-use Rattle.fitter.specs.Answers.{IsFitOf}
-use Rattle.netlist_laws.specs.Takeable.{IsTakeable}
 use Rattle.abel_compile.specs.declared.compiled.Compiled.{Compiled}
 use Rattle.abel_compile.specs.Correct.{AreFusesOf}
 use Rattle.abel_compile.specs.Statement.{fuses_and_vectors}
-use Rattle.compile_phases.specs.Phases.{IsNetlistFor}
-use Rattle.compile_phases.specs.SourceRefusals.{IsAcceptedFor}
 
 -- the fuses of a module that a device can take: as many as it has, with which it does what the module says, and the rest
 pub record AreRightFuses (t : Table) (m : ModuleTree) (fuses : List Bool) : Type 0 where

@@ -1,31 +1,18 @@
 -- What holds of a compiled source beside the main statement: what is accepted, chains of reads, rows, test vectors, the
 -- listing and the summary (this project's rule).
 use Rattle.std.specs.Prelude.{◌≡◌, ℕ, ◌<◌, Bool, List, length}
-use Rattle.pld_device.specs.Macrocells.{device_logic}
-use Rattle.pld_device.specs.Registers.{is_inverted}
-use Rattle.pld_device.specs.Table.{Table}
+use Rattle.abel_compile.specs.Prelude.{device_logic, is_inverted, Table, ModuleTree, source_logic_under, design_of, names_of, source_vectors, SpellsModule, IsRead, IsTakeable, listing_text, design_cells, summary_of, table_of, IsAcceptedFor}
 use Rattle.pld_order.specs.Graphs.{HasNoLoop}
 use Rattle.device_logic.specs.CellReads.{cell_reads}
 use Rattle.device_logic.specs.ResetPaths.{HasNoResetPath}
 use Rattle.device_sim.specs.Compared.{DisagreeAlike}
-use Rattle.abel_tree.specs.Tree.{ModuleTree}
-use Rattle.abel_meaning.specs.Choices.{source_logic_under}
-use Rattle.abel_meaning.specs.Designs.{design_of}
-use Rattle.abel_meaning.specs.Kinds.{names_of}
-use Rattle.abel_meaning.specs.Vectors.{source_vectors}
-use Rattle.module_reader.specs.Texts.{SpellsModule, IsRead}
-use Rattle.netlist_laws.specs.Takeable.{IsTakeable}
 use Rattle.netlist_laws.specs.Fitting.{IsSpareCell}
 use Rattle.fitter.specs.Order.{AreRowsInOrder}
-use Rattle.fuse_listing.specs.Listing.{listing_text}
 use Rattle.netlist_laws.specs.Controls.{HasControlRows}
 use Rattle.netlist_laws.specs.PrimeCorrect.{IsAssignedCell, IsUnassignedCell}
 use Rattle.netlist_laws.specs.ModuleCovers.{HasPrimeRows}
-use Rattle.reports.specs.Summary.{design_cells, summary_of}
 use Rattle.abel_compile.specs.declared.compiled.Compiled.{Compiled}
 use Rattle.abel_compile.specs.Statement.{IsRightFile}
-use Rattle.devices.specs.Devices.{table_of}
-use Rattle.compile_phases.specs.SourceRefusals.{IsAcceptedFor}
 
 -- of a module's fuses in a device: no chain of reads returns or leads from the reset to a register; the rows of each
 -- assigned cell are prime and irredundant, and stand in order; a cell that nothing assigns has no row; each enable, reset and

@@ -1,4 +1,5 @@
 pub mod Answers
 pub mod Compiling
 pub mod Correct
+pub mod Prelude
 pub mod Statement

@@ -1,18 +1,10 @@
 -- The main theorem's statement: what a fuse file is to the text of its source, a field a sentence (this project's rule, over
 -- JESD3-C and the devices' datasheets).
 use Rattle.std.specs.Prelude.{◌≡◌, ℕ, Bool, false, List, length, Some, Ok}
-use Rattle.pld_base.specs.declared.device_name.DeviceName.{DeviceName}
+use Rattle.abel_compile.specs.Prelude.{DeviceName, device_logic, is_inverted, Table, canonical_file, FuseFile, file_of, ModuleTree, source_logic_under, source_values_under, source_vectors}
 use Rattle.pld_machine.specs.Comparison.{DoesTheSame}
 use Rattle.pld_machine.specs.Steps.{RestsOnce}
-use Rattle.pld_device.specs.Macrocells.{device_logic}
-use Rattle.pld_device.specs.Registers.{is_inverted}
-use Rattle.pld_device.specs.Table.{Table}
-use Rattle.jedec_file.specs.CanonicalFile.{canonical_file}
-use Rattle.jedec_file.specs.FuseFile.{FuseFile, file_of}
-use Rattle.abel_tree.specs.Tree.{ModuleTree}
-use Rattle.abel_meaning.specs.Choices.{source_logic_under, source_values_under}
 use Rattle.abel_meaning.specs.DeviceStrings.{device_named}
-use Rattle.abel_meaning.specs.Vectors.{source_vectors}
 use Rattle.placer.specs.Placements.{IsPlacedModule}
 
 -- what a file of these fuses and vectors says: it lists all fuses, and its default level is 0

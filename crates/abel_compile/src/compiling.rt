@@ -1,21 +1,11 @@
 //! From the bytes of a source to its fuse file.
 
 ghost use Rattle.std.specs.Prelude.{◌≡◌, ◌≤◌, Some, IfOk, IfErr, length, All};
-ghost use Rattle.pld_device.specs.Laws.{IsDevice};
-ghost use Rattle.jedec_file.specs.CanonicalFile.{IsPlainName};
-ghost use Rattle.jedec_file.specs.TestVectors.{IsTestVector};
-ghost use Rattle.abel_tree.specs.Entries.{entries_of};
-ghost use Rattle.abel_tree.specs.View.{view_module};
-ghost use Rattle.abel_meaning.specs.Designs.{design_of};
-ghost use Rattle.abel_meaning.specs.Kinds.{names_of};
-ghost use Rattle.module_reader.specs.Texts.{SpellsModule};
+ghost use Rattle.abel_compile.specs.Prelude.{IsDevice, IsPlainName, IsTestVector, entries_of, view_module, design_of, names_of, SpellsModule, table_of, AreDeclaredBy, AreNamesFor, IsNameFault, IsNetlistFor, IsOfSource, IsRefusedBy, IsRefusedFor, IsPlacedFor};
 ghost use Rattle.abel_vectors.specs.AllSections.{AreSections};
 ghost use Rattle.abel_compile.specs.Answers.{CompileAnswers, IsNeverRefused};
 ghost use Rattle.abel_compile.specs.Statement.{IsRightFile};
-ghost use Rattle.devices.specs.Devices.{table_of};
 ghost use Rattle.decls.specs.NameRefusals.{first_name_refusal};
-ghost use Rattle.compile_phases.specs.Phases.{AreDeclaredBy, AreNamesFor, IsNameFault, IsNetlistFor, IsOfSource, IsRefusedBy, IsRefusedFor};
-ghost use Rattle.compile_phases.specs.Placings.{IsPlacedFor};
 ghost use Rattle.abel_compile.specs.Compiling.{IsCompiledOn};
 
 use crate::compiled::Compiled;

@@ -1,14 +1,8 @@
 //! What is answered of the fuses of a source.
 
 ghost use Rattle.std.specs.Prelude.{◌≡◌, ◌≤◌, All, IfOk, length};
-ghost use Rattle.jedec_file.specs.CanonicalFile.{IsPlainName};
-ghost use Rattle.jedec_file.specs.TestVectors.{IsTestVector, all_chars};
-ghost use Rattle.abel_tree.specs.Entries.{entries_of};
-ghost use Rattle.abel_tree.specs.View.{view_module};
-ghost use Rattle.abel_meaning.specs.Vectors.{source_vectors};
-ghost use Rattle.fitter.specs.Answers.{IsFitOf};
+ghost use Rattle.abel_compile.specs.Prelude.{IsPlainName, IsTestVector, all_chars, entries_of, view_module, source_vectors, IsFitOf, AreNamesFor, IsNetlistFor};
 ghost use Rattle.abel_compile.specs.Compiling.{IsToldOf};
-ghost use Rattle.compile_phases.specs.Phases.{AreNamesFor, IsNetlistFor};
 
 use crate::compiled::Compiled;
 use crate::placed::PlacedModule;

@@ -1,7 +1,5 @@
 -- The answer for the module is one for its text, and so is it where the text, or its device, is refused.
-use Rattle.std.proofs.lemmas.Result.{err_from_is_err_and}
-use Rattle.abel_tree.specs.View.{view_module}
-use Rattle.abel_compile.specs.Answers.{CompileAnswers, IsNeverRefused}
+use Rattle.abel_compile.proofs.Common.{err_from_is_err_and, view_module, CompileAnswers, IsNeverRefused}
 use Rattle.abel_compile.proofs.Compiles.{HasRightFile, of_text, of_device, answers_of, file_is_right}
 use Rattle.abel_compile.proofs.NeverRefused.{never_text, never_device, never_on}
 use Rattle.abel_compile.proofs.Refusals.{handed}

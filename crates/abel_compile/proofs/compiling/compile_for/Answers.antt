@@ -1,16 +1,8 @@
 -- What is said of the placed module is said of its source.
 use Rattle.std.proofs.Common.{sym, subst}
 use Rattle.std.specs.Prelude.{IfErr, IfOk}
-use Rattle.std.proofs.lemmas.Result.{err_from_is_err_and}
-use Rattle.jedec_file.specs.CanonicalFile.{IsPlainName}
+use Rattle.abel_compile.proofs.Common.{err_from_is_err_and, IsPlainName, Word, view_module, HasNumberedNames, IsPlacedModule, IsRefusedBy, by_declared, by_placing, placed_name, IsCompiledOn}
 use Rattle.abel_tree.specs.declared.sections.Module.{Module}
-use Rattle.abel_tree.specs.declared.words.Word.{Word}
-use Rattle.abel_tree.specs.View.{view_module}
-use Rattle.placer.specs.Following.{HasNumberedNames}
-use Rattle.placer.specs.Placements.{IsPlacedModule}
-use Rattle.compile_phases.specs.Phases.{IsRefusedBy}
-use Rattle.compile_phases.proofs.PlacedRefusals.{by_declared, by_placing, placed_name}
-use Rattle.abel_compile.specs.Compiling.{IsCompiledOn}
 use Rattle.abel_compile.proofs.Refusals.{handed}
 use Rattle.abel_compile.proofs.PlacedModules.{compiled_placed, refused_placed}
 use Rattle.abel_compile.proofs.compiling.compile_for.Goals as goal

@@ -1,10 +1,6 @@
 -- A refusal of the fit is handed on; a fit is that of the module.
 use Rattle.std.specs.Prelude.{IfErr}
-use Rattle.std.proofs.lemmas.Result.{err_from_is_err_and}
-use Rattle.abel_tree.specs.Entries.{entries_of}
-use Rattle.abel_tree.specs.View.{view_module}
-use Rattle.compile_phases.specs.Phases.{IsRefusedFor}
-use Rattle.compile_phases.proofs.PhaseFaults.{by_fit}
+use Rattle.abel_compile.proofs.Common.{err_from_is_err_and, entries_of, view_module, IsRefusedFor, by_fit}
 use Rattle.abel_compile.proofs.CompiledModules.{compiled_on}
 use Rattle.abel_compile.proofs.Refusals.{handed}
 use Rattle.abel_compile.proofs.compiling.compile_placed.Goals as goal

@@ -1,9 +1,8 @@
 -- What is known of fitted netlists, put together.
+use Rattle.abel_compile.proofs.Common.{plain_netlist, source_vectors}
 use Rattle.pld_device.specs.Macrocells.{device_logic}
 use Rattle.pld_device.specs.Registers.{is_inverted}
 use Rattle.abel_meaning.specs.Choices.{source_logic_under, source_values_under}
-use Rattle.abel_meaning.specs.Netlists.{plain_netlist}
-use Rattle.abel_meaning.specs.Vectors.{source_vectors}
 use Rattle.netlist_laws.specs.ExchangedNets.{netlist_shown}
 use Rattle.netlist_laws.proofs.FreeCells.{shown_is_sound}
 use Rattle.compile_phases.proofs.NarrowVectors.{vectors_narrow}

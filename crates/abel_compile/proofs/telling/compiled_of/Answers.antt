@@ -1,10 +1,7 @@
 -- The file, the listing and the summary are those of the fuses.
 use Rattle.std.proofs.Common.{ap, ◌∙◌}
+use Rattle.abel_compile.proofs.Common.{entries_of, view_module, plain_netlist, assigned_cells}
 use Rattle.jedec_file.specs.TestVectors.{all_chars}
-use Rattle.abel_tree.specs.Entries.{entries_of}
-use Rattle.abel_tree.specs.View.{view_module}
-use Rattle.abel_meaning.specs.Netlists.{plain_netlist}
-use Rattle.reports.specs.Summary.{assigned_cells}
 use Rattle.abel_compile.proofs.ToldFuses.{told_of}
 use Rattle.abel_compile.proofs.telling.compiled_of.Goals as goal
 
