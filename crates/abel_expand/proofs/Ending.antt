@@ -1,16 +1,7 @@
 -- What is known of the source's own end, where bytes are taken from the rest and put before it.
 use Rattle.std.proofs.Common.{◌≡◌, ◌-◌, ◌+◌, ◌<◌, ◌≤◌, ℕ, List, ◌∷◌, ◌++◌, length, take, drop, refl, sym, ap, ◌∙◌, arith, add-one, length-drop, length-append}
-use Rattle.std.proofs.Math.Seq.{drop-append-add}
-use Rattle.std.proofs.lemmas.List.{append_assoc, drop-drop, take-append-drop}
-use Rattle.pld_base.specs.declared.place.Place.{Place}
-use Rattle.abel_macros.specs.Kept.{Kept}
-use Rattle.abel_macros.specs.Rules.{Tables, Done, Rewritten, move}
-use Rattle.text_rewriting.specs.Marks.{last}
-use Rattle.abel_macros.specs.Turns.{limit}
+use Rattle.abel_expand.proofs.Common.{drop-append-add, append_assoc, drop-drop, take-append-drop, Place, Kept, Tables, Done, Rewritten, move, last, limit, after, Reading, lesser, own_behind, own_left, to_come, StandsThere, IsOwnEnd, Stands}
 use Rattle.abel_expand.specs.declared.standing.Origin.TheVariants as origin
-use Rattle.abel_expand.specs.Runs.{after, Reading}
-use Rattle.abel_expand.specs.Origins.{lesser, own_behind, own_left, to_come, StandsThere}
-use Rattle.abel_expand.specs.Stands.{IsOwnEnd, Stands}
 
 -- the last bytes stay where bytes are taken
 last_behind : (n k : ℕ) (old new : List ℕ) → new ≡ drop k old → k ≤ length old → n ≤ length new → last n new ≡ last n old

@@ -1,11 +1,6 @@
 -- What a byte that is given makes of the parts of a reader.
 use Rattle.std.proofs.Common.{◌≡◌, ◌-◌, ◌+◌, ◌<◌, ◌≤◌, ℕ, zero, suc, List, [], ◌∷◌, ◌++◌, length, take, drop, get_or, refl, sym, ap, ◌∙◌, arith, add-one, length-drop}
-use Rattle.pld_base.specs.declared.place.Place.{Place}
-use Rattle.abel_lexer.specs.Scans.{place_past, first_place}
-use Rattle.abel_macros.specs.Kept.{Kept}
-use Rattle.abel_expand.specs.Runs.{after}
-use Rattle.abel_expand.specs.Stands.{Stands}
-use Rattle.text_rewriting.proofs.Replaces.{take_next}
+use Rattle.abel_expand.proofs.Common.{Place, place_past, first_place, Kept, after, Stands, take_next}
 use Rattle.abel_expand.proofs.Turning.{all_given}
 
 drop_next : (w : List ℕ) (p x : ℕ) (xs : List ℕ) → drop p w ≡ x ∷ xs → drop (suc p) w ≡ xs

@@ -1,12 +1,7 @@
 -- What is done stays done.
 use Rattle.std.proofs.Common.{◌≡◌, ◌<◌, ◌+◌, ℕ, Bool, true, false, List, [], ◌∷◌, ◌++◌, Result, Ok, Err, length, take, refl, sym, ap, ◌∙◌, arith, add-one, append-nil}
 use Rattle.std.specs.Prelude.{◌==◌, nat_lt}
-use Rattle.std.proofs.Math.Seq.{take-length, take-append_seam}
-use Rattle.std.proofs.lemmas.List.{length-take}
-use Rattle.abel_macros.specs.Rules.{Cause, Move, Done, Rewritten, Refused, move}
-use Rattle.abel_macros.specs.Turns.{Config, turn, moved, within_limits, limit, most_rewritings}
-use Rattle.text_rewriting.proofs.Replaces.{take_next}
-use Rattle.abel_expand.specs.Runs.{after, turned, Reading, bytes_given, bytes_waiting}
+use Rattle.abel_expand.proofs.Common.{take-length, take-append_seam, length-take, Cause, Move, Done, Rewritten, Refused, move, Config, turn, moved, within_limits, limit, most_rewritings, take_next, after, turned, Reading, bytes_given, bytes_waiting}
 
 abbrev After : Config → Config → Type 0
 After c d = (v : List ℕ) × (d.done ≡ c.done ++ v)

@@ -1,4 +1,5 @@
-pub mod Turning
-pub mod Growth
-pub mod Giving
+pub mod Common
 pub mod Ending
+pub mod Giving
+pub mod Growth
+pub mod Turning

@@ -1,20 +1,11 @@
 -- What a turn makes of the parts of a reader.
 use Rattle.std.proofs.Common.{◌≡◌, ◌-◌, ◌+◌, ◌*◌, ◌<◌, ◌≤◌, ℕ, Bool, true, false, List, [], ◌∷◌, ◌++◌, Result, Ok, Err, length, take, drop, refl, sym, ap, ◌∙◌, subst, arith, add-one, append-nil, length-drop, length-append}
 use Rattle.std.specs.Prelude.{◌==◌, nat_lt}
+use Rattle.abel_expand.proofs.Common.{take-length, take-append_seam, drop-append_seam, take-append-drop, length-take-le, Place, place_past, first_place, Kept, tables_of, Tables, Cause, TooLong, ExpansionLimit, Done, Rewritten, Refused, move, Config, turn, moved, within_limits, limit, most_rewritings, changed, IsFront, after, turned, IsRefused, Stands, left_to_do}
 use Rattle.std.specs.Global.{Vec}
-use Rattle.std.proofs.Math.Seq.{take-length, take-append_seam, drop-append_seam}
-use Rattle.std.proofs.lemmas.List.{take-append-drop, length-take-le}
 use Rattle.std.proofs.lemmas.Bool.{eqb-true, eq-eqb, lt-ltb, le-ltb}
-use Rattle.pld_base.specs.declared.place.Place.{Place}
-use Rattle.abel_lexer.specs.Scans.{place_past, first_place}
-use Rattle.abel_macros.specs.Kept.{Kept, tables_of}
-use Rattle.abel_macros.specs.Rules.{Tables, Cause, TooLong, ExpansionLimit, Done, Rewritten, Refused, move}
-use Rattle.abel_macros.specs.Turns.{Config, turn, moved, within_limits, limit, most_rewritings}
 use Rattle.text_rewriting.specs.declared.front.Change.{Change}
 use Rattle.text_rewriting.specs.declared.front.Front.TheVariants as front
-use Rattle.text_rewriting.specs.Fronts.{changed, IsFront}
-use Rattle.abel_expand.specs.Runs.{after, turned, IsRefused}
-use Rattle.abel_expand.specs.Stands.{Stands, left_to_do}
 
 not_true : (b : Bool) → (b ≡ true → ⊥) → b ≡ false
 not_true true h = absurd (h refl)

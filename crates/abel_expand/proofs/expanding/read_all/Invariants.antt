@@ -1,6 +1,6 @@
 -- The bytes so far are those that were given, and so many there may be.
 use Rattle.std.proofs.Common.{◌≡◌, ◌≤◌, ◌-◌, None, length}
-use Rattle.abel_expand.specs.Runs.{bytes_given}
+use Rattle.abel_expand.proofs.Common.{bytes_given}
 use Rattle.abel_expand.proofs.expanding.read_all.Given as goal
 
 abbrev pub invariant-bytes : goal.invariant-bytes

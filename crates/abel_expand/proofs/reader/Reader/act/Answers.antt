@@ -1,15 +1,9 @@
 -- What each front makes of the parts of a reader, and which refusal it is.
 use Rattle.std.proofs.Common.{◌≡◌, ◌-◌, ◌+◌, ◌<◌, ◌++◌, ◌∙◌, ap, sym, subst, ℕ, List, [], None, false, length, take, drop, refl, arith}
-use Rattle.abel_macros.specs.Kept.{Kept, tables_of}
-use Rattle.abel_macros.specs.Rules.{move, BadDirective, Unsupported, TooLong, ExpansionLimit}
+use Rattle.abel_expand.proofs.Common.{Kept, tables_of, move, BadDirective, Unsupported, TooLong, ExpansionLimit, changed, IsFront, DefinesNone, Reading, bytes_given, bytes_waiting, after, IsRefusal, lesser, IsOwnEnd, Stands, left_to_do}
 use Rattle.abel_expand.specs.declared.fault.ExpandFault.TheVariants as fault
 use Rattle.text_rewriting.specs.declared.front.Front.{Front}
-use Rattle.text_rewriting.specs.Fronts.{changed, IsFront}
 use Rattle.text_rewriting.specs.Gathering.{Gathering}
-use Rattle.text_rewriting.specs.Marks.{DefinesNone}
-use Rattle.abel_expand.specs.Runs.{Reading, bytes_given, bytes_waiting, after, IsRefusal}
-use Rattle.abel_expand.specs.Origins.{lesser}
-use Rattle.abel_expand.specs.Stands.{IsOwnEnd, Stands, left_to_do}
 use Rattle.abel_expand.proofs.Ending.{own_done, own_rewritten}
 use Rattle.abel_expand.proofs.Turning.{rest_is, move_is, copy_turn, said_turn, rewriting_turn, limit_refused, too_long, refused_as, is_refused, room}
 use Rattle.abel_expand.proofs.reader.Reader.act.Goals as goal

@@ -1,6 +1,6 @@
 -- One byte more is given: a byte that waits, or one of the rest.
 use Rattle.std.proofs.Common.{◌≡◌, ◌-◌, ◌+◌, ◌++◌, ◌∙◌, ap, sym, refl, ℕ, List, ◌∷◌, None, length, take, drop, arith, length-drop}
-use Rattle.abel_expand.specs.Runs.{Reading, bytes_waiting}
+use Rattle.abel_expand.proofs.Common.{Reading, bytes_waiting}
 use Rattle.abel_expand.proofs.Giving.{stands_given, said_next, said_out, copied_next, behind_copied}
 use Rattle.abel_expand.proofs.Ending.{own_next, to_come_is, length_to_come, said_there, copied_there}
 use Rattle.abel_expand.proofs.reader.Reader.give.Goals as goal

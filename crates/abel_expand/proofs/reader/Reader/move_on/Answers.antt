@@ -1,7 +1,6 @@
 -- What is known of the front of the rest is known of the configuration's.
 use Rattle.std.proofs.Common.{◌≡◌, ◌∙◌, ap, sym, subst, [], None, drop}
-use Rattle.text_rewriting.specs.Marks.{DefinesNone}
-use Rattle.abel_expand.specs.Runs.{Reading, bytes_waiting, after}
+use Rattle.abel_expand.proofs.Common.{DefinesNone, Reading, bytes_waiting, after}
 use Rattle.abel_expand.proofs.Turning.{rest_is}
 use Rattle.abel_expand.proofs.reader.Reader.move_on.Goals as goal
 

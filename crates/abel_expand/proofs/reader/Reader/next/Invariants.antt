@@ -1,7 +1,6 @@
 -- Each turn leaves less to do, and gives nothing.
 use Rattle.std.proofs.Common.{◌≡◌, None}
-use Rattle.abel_expand.specs.Runs.{after, bytes_given, HasEnded}
-use Rattle.abel_expand.specs.Stands.{left_to_do}
+use Rattle.abel_expand.proofs.Common.{after, bytes_given, HasEnded, left_to_do}
 use Rattle.abel_expand.proofs.reader.Reader.next.Given as goal
 
 abbrev pub invariant-turns : goal.invariant-turns
