@@ -1,10 +1,6 @@
 -- Places along tokens: none, one behind the other, and with the first token's place before them.
 use Rattle.std.proofs.Common.{◌≡◌, List, [], ◌∷◌, ◌++◌, refl, sym, ap, subst, ◌∙◌}
-use Rattle.std.proofs.lemmas.List.{append_assoc}
-use Rattle.std.proofs.lemmas.List.Elements.{All-nil, All-cons}
-use Rattle.pld_base.specs.declared.place.Place.{Place}
-use Rattle.abel_lexer.specs.declared.token.Token.{Token}
-use Rattle.abel_grammar.specs.Order.{Along}
+use Rattle.abel_grammar.proofs.Common.{append_assoc, All-nil, All-cons, Place, Token, Along}
 
 pub along_none : (ts : List Token) → Along ts []
 along_none [] = refl

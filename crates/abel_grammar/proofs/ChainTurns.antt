@@ -1,7 +1,6 @@
 -- A loop that joins one part a turn from the left reads what chain reads.
 use Rattle.std.proofs.Common.{◌≡◌, ◌<◌, Bool, true, false, List, [], ◌∷◌, length, Result, Ok, Err, refl, sym, ap, ◌∙◌}
-use Rattle.abel_grammar.specs.Form.{grouped}
-use Rattle.abel_grammar.specs.Reading.{Stop, Reader, ◌>>=◌, starts, read_repeated, read_chain}
+use Rattle.abel_grammar.proofs.Common.{grouped, Stop, Reader, ◌>>=◌, starts, read_repeated, read_chain}
 use Rattle.abel_grammar.proofs.RepeatedTurns.{repeated_turn, repeated_fails, repeated_ends}
 
 -- what was joined before, and the parts that are still read

@@ -1,18 +1,9 @@
 -- What declares names, written as it is read: the names first, and then what may come behind them.
 use Rattle.std.proofs.Common.{◌≡◌, ℕ, ◌⊎◌, inl, inr, false, List, [], ◌∷◌, Option, Some, None, refl, sym, ap, subst, ◌∙◌, map}
 use Rattle.std.specs.Prelude.{option_map}
+use Rattle.abel_grammar.proofs.Common.{Form, ◌then◌, followed, either, made, nothing, SpellsList, Token, Word, Item, Tree, Declaration, Device, Pin, Node, Equal, Comma, Semicolon, one, each_apart_by, name, text, expr, item, names, istype, device_of, device, kept, pins_of, pins, nodes_of, nodes, attributes_of, attributes, constants_of, values_for, constants, naming, bare_item, only_name, bare_names, declared_in}
 use Rattle.std.specs.Option.{option_and_then}
-use Rattle.abel_grammar.specs.Form.{Form, ◌then◌, followed, either, made, nothing, SpellsList}
 use Rattle.abel_grammar.proofs.SameForms.{Same}
-use Rattle.abel_lexer.specs.declared.token.Token.{Token}
-use Rattle.abel_tree.specs.declared.words.Word.{Word}
-use Rattle.abel_tree.specs.declared.words.Item.{Item}
-use Rattle.abel_tree.specs.Tree.{Tree, Declaration}
-use Rattle.abel_grammar.specs.declared.terminal.Terminal.TheVariants.{Device, Pin, Node, Equal, Comma, Semicolon}
-use Rattle.abel_grammar.specs.Words.{one, each_apart_by, name, text}
-use Rattle.abel_grammar.specs.Expressions.{expr}
-use Rattle.abel_grammar.specs.Declarations.{item, names, istype, device_of, device, kept, pins_of, pins, nodes_of, nodes, attributes_of, attributes, constants_of, values_for, constants, naming}
-use Rattle.abel_grammar.specs.DeclarationReaders.{bare_item, only_name, bare_names, declared_in}
 
 -- ---- what may come behind names
 

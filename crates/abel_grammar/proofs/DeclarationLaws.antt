@@ -1,21 +1,9 @@
 -- The laws of declarations.
 use Rattle.std.proofs.Common.{ℕ, suc, true, false, List, [], ◌∷◌, ◌++◌, length, Option, Some, None, refl}
-use Rattle.abel_grammar.specs.Form.{Form, ◌then◌, repeated, made}
-use Rattle.abel_grammar.specs.Reading.{Reader, ◌then_read◌, read_repeated, read_made}
+use Rattle.abel_grammar.proofs.Common.{Form, ◌then◌, repeated, made, Reader, ◌then_read◌, read_repeated, read_made, Token, Word, Item, Tree, SomeOptions, DontCareFor, Terminal, Identifier, Number, Text, Not, Range, Comma, Semicolon, Equal, Device, Pin, Node, Istype, Flag, Options, DontCare, number_of, terminal_of, among, one, read_one, item_of, item, names, span_of, num, nums, texts, attributes_in, istype, option_words, options_in, option, device_of, kept, pins_of, nodes_of, attributes_of, constants_of, value_of, values_for, naming, option_decl, dont_care_decl, decl, other_decl, read_item, read_names, read_num, read_nums, read_texts, read_istype, read_option, read_kept, only_name, bare_names, read_device, read_values_for, read_constants, read_declared, declared_in, read_naming, naming_starts, read_option_decl, read_dont_care_decl, read_decl, read_other_decl, decl_starts, other_starts}
 use Rattle.abel_grammar.proofs.SameForms.{same_laws}
 use Rattle.abel_grammar.proofs.FurtherLaws.{nothing_laws, times_laws}
 use Rattle.abel_grammar.proofs.ClassLaws as laws
-use Rattle.abel_lexer.specs.declared.token.Token.{Token}
-use Rattle.abel_tree.specs.declared.words.Word.{Word}
-use Rattle.abel_tree.specs.declared.words.Item.{Item}
-use Rattle.abel_tree.specs.Tree.{Tree, SomeOptions, DontCareFor}
-use Rattle.abel_grammar.specs.declared.terminal.Terminal.{Terminal}
-use Rattle.abel_grammar.specs.declared.terminal.Terminal.TheVariants.{Identifier, Number, Text, Not, Range, Comma, Semicolon, Equal, Device, Pin, Node, Istype, Flag, Options, DontCare}
-use Rattle.abel_grammar.specs.Terminals.{number_of, terminal_of, among}
-use Rattle.abel_grammar.specs.Words.{one}
-use Rattle.abel_grammar.specs.WordReaders.{read_one}
-use Rattle.abel_grammar.specs.Declarations.{item_of, item, names, span_of, num, nums, texts, attributes_in, istype, option_words, options_in, option, device_of, kept, pins_of, nodes_of, attributes_of, constants_of, value_of, values_for, naming, option_decl, dont_care_decl, decl, other_decl}
-use Rattle.abel_grammar.specs.DeclarationReaders.{read_item, read_names, read_num, read_nums, read_texts, read_istype, read_option, read_kept, only_name, bare_names, read_device, read_values_for, read_constants, read_declared, declared_in, read_naming, naming_starts, read_option_decl, read_dont_care_decl, read_decl, read_other_decl, decl_starts, other_starts}
 use Rattle.abel_grammar.proofs.Sets.{Obeys, Keeps, one_laws, some_laws, then_laws, or_laws, perhaps, any_number, turned, apart_laws, widened}
 use Rattle.abel_grammar.proofs.ExpressionLaws.{exprs, behind_expr, name_laws, number_laws, text_laws, end_laws, dont_care_laws, expr_laws}
 use Rattle.abel_grammar.proofs.DeclarationForms.{device_behind, constants_behind, declared, naming_read, naming_same}

@@ -1,7 +1,6 @@
 -- What opens one nesting too many keeps the laws: at the next depth its first token begins the form.
 use Rattle.std.proofs.Common.{◌≡◌, ◌<◌, ◌⊎◌, inl, inr, Bool, true, false, cond, List, [], ◌∷◌, ◌++◌, length, Option, Some, None, Result, Ok, Err, refl, sym, ap, subst, arith}
-use Rattle.abel_grammar.specs.Form.{Form, nothing}
-use Rattle.abel_grammar.specs.Reading.{Stop, Syntax, TooDeep, left_of, Reader, starts, read_deep}
+use Rattle.abel_grammar.proofs.Common.{Form, nothing, Stop, Syntax, TooDeep, left_of, Reader, starts, read_deep}
 use Rattle.abel_grammar.proofs.Laws.{Within, Lawful, chosen}
 
 module _ {X T : Type 0} (a : Form X T) (ra : Reader X T) (fa : X → Bool) (goes : T → X → Bool) (one : (x : X) → fa x ≡ true → a.begins (x ∷ [])) (nil : a.begins []) where

@@ -1,9 +1,7 @@
 -- The laws of state diagrams, as they are read: an arm with the `;` behind it.
 use Rattle.std.proofs.Common.{◌≡◌, ℕ, zero, suc, Bool, true, false, List, [], ◌∷◌, ◌++◌, Option, Some, None, refl}
 use Rattle.std.specs.Prelude.{◌||◌, ◌&&◌, not, is_some}
-use Rattle.abel_grammar.specs.Form.{Form, ◌then◌, followed, either, optional, repeated, nothing}
-use Rattle.abel_grammar.specs.Reading.{Reader, ◌then_read◌, read_followed, read_either, read_optional, read_deep}
-use Rattle.abel_grammar.specs.Further.{unless, read_unless}
+use Rattle.abel_grammar.proofs.Common.{Form, ◌then◌, followed, either, optional, repeated, nothing, Reader, ◌then_read◌, read_followed, read_either, read_optional, read_deep, unless, read_unless, Place, Token, Tree, Statement, Branch, Terminal, Semicolon, Colon, Then, Else, BraceOpen, BraceClose, With, Endwith, Goto, If, Case, Endcase, number_of, terminal_of, among, one, end, read_one, read_end, expr, read_expr, stmt, plain_stmt, plain_starts, stmt_starts, read_stmts, read_stmt, read_plain_stmt, braced_of, braced, listed_of, listed, with_of, with_part, goal_of, goal, behind_goto, behind_word, is_open_arm, is_closed, read_braced, read_listed, read_with_part, read_goal, Ended, if_ended_of, choice_ended_of, case_ended_of, read_allowed, read_if, read_choice, read_choices, read_case, read_goal_arm, goal_starts, read_arm, read_goto, read_leading, branch_in, read_trans, trans_starts}
 use Rattle.abel_grammar.proofs.Laws.{Lawful}
 use Rattle.abel_grammar.proofs.TokenLaws.{given_laws}
 use Rattle.abel_grammar.proofs.MadeLaws.{made_laws, relaxed_laws}
@@ -12,20 +10,6 @@ use Rattle.abel_grammar.proofs.FurtherLaws.{opening_laws, nothing_laws}
 use Rattle.abel_grammar.proofs.OptionalLaws.{behind_option}
 use Rattle.abel_grammar.proofs.SharpLaws.{option_sharp, unless_sharp, spelled_sharp}
 use Rattle.abel_grammar.proofs.ClassLaws as laws
-use Rattle.pld_base.specs.declared.place.Place.{Place}
-use Rattle.abel_lexer.specs.declared.token.Token.{Token}
-use Rattle.abel_tree.specs.Tree.{Tree, Statement, Branch}
-use Rattle.abel_grammar.specs.declared.terminal.Terminal.{Terminal}
-use Rattle.abel_grammar.specs.declared.terminal.Terminal.TheVariants.{Semicolon, Colon, Then, Else, BraceOpen, BraceClose, With, Endwith, Goto, If, Case, Endcase}
-use Rattle.abel_grammar.specs.Terminals.{number_of, terminal_of, among}
-use Rattle.abel_grammar.specs.Words.{one, end}
-use Rattle.abel_grammar.specs.WordReaders.{read_one, read_end}
-use Rattle.abel_grammar.specs.Expressions.{expr}
-use Rattle.abel_grammar.specs.ExpressionReaders.{read_expr}
-use Rattle.abel_grammar.specs.Statements.{stmt, plain_stmt}
-use Rattle.abel_grammar.specs.StatementReaders.{plain_starts, stmt_starts, read_stmts, read_stmt, read_plain_stmt}
-use Rattle.abel_grammar.specs.Diagrams.{braced_of, braced, listed_of, listed, with_of, with_part, goal_of, goal, behind_goto, behind_word, is_open_arm, is_closed}
-use Rattle.abel_grammar.specs.DiagramReaders.{read_braced, read_listed, read_with_part, read_goal, Ended, if_ended_of, choice_ended_of, case_ended_of, read_allowed, read_if, read_choice, read_choices, read_case, read_goal_arm, goal_starts, read_arm, read_goto, read_leading, branch_in, read_trans, trans_starts}
 use Rattle.abel_grammar.proofs.EndedForms.{allowed, if_ended, choice_ended, case_ended, goal_ended, arm_ended, goto_ended, leading_ended, trans_ended}
 use Rattle.abel_grammar.proofs.Sets.{Obeys, disjoint, subset, one_laws, then_laws, or_laws, perhaps, any_number, turned, too_deep, placed_obeys, led_by, led_by_some, or_trails, all_behind}
 use Rattle.abel_grammar.proofs.ExpressionLaws.{exprs, behind_expr, expr_laws}

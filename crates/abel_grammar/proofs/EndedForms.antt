@@ -1,15 +1,7 @@
 -- State diagrams with each arm and the `;` behind it: a form that the next token decides.
 use Rattle.std.specs.Prelude.{ℕ, zero, suc, Bool, true, false, ◌||◌, None, is_some}
-use Rattle.abel_grammar.specs.Form.{Form, ◌then◌, followed, either, optional, repeated, made, nothing, given}
-use Rattle.abel_grammar.specs.Further.{unless}
-use Rattle.pld_base.specs.declared.place.Place.{Place}
-use Rattle.abel_lexer.specs.declared.token.Token.{Token}
-use Rattle.abel_tree.specs.Tree.{Tree, Branch}
+use Rattle.abel_grammar.proofs.Common.{Form, ◌then◌, followed, either, optional, repeated, made, nothing, given, unless, Place, Token, Tree, Branch, one, end, expr, goal, behind_goto, behind_word, is_open_arm, is_closed, Ended, if_ended_of, choice_ended_of, case_ended_of, branch_in}
 use Rattle.abel_grammar.specs.declared.terminal.Terminal.TheVariants as terminal
-use Rattle.abel_grammar.specs.Words.{one, end}
-use Rattle.abel_grammar.specs.Expressions.{expr}
-use Rattle.abel_grammar.specs.Diagrams.{goal, behind_goto, behind_word, is_open_arm, is_closed}
-use Rattle.abel_grammar.specs.DiagramReaders.{Ended, if_ended_of, choice_ended_of, case_ended_of, branch_in}
 
 -- nothing more, if that is allowed
 abbrev pub allowed : Bool → Form Token (Unit {0})

@@ -1,15 +1,9 @@
 -- Small trees with their places, and places that go along tokens or do not, computed.
 use Rattle.std.proofs.Common.{◌≡◌, ℕ, inl, inr, false, true, List, [], ◌∷◌, map, None, Some, refl, arith}
-use Rattle.std.proofs.lemmas.List.Elements.{All-nil, All-cons, All-head}
-use Rattle.std.specs.List.{All}
-use Rattle.pld_base.specs.declared.place.Place.{Place}
-use Rattle.abel_lexer.specs.declared.token.Token.{Token}
+use Rattle.abel_grammar.proofs.Common.{All-nil, All-cons, All-head, All, Place, Token, Tree, AName, ABinary, Statement, AnAssign, Branch, AGoal, AnIf, ABranch, SectionTree, SomeVectors, DontCareSection, places_of_stmt, places_of_branch, places_of_section, Along, IsBefore, SectionsRise}
 use Rattle.abel_lexer.specs.declared.token.TokenKind.TheVariants as kind
 use Rattle.abel_tree.specs.declared.words.Sign.TheVariants as sign
 use Rattle.abel_tree.specs.declared.words.Binary.TheVariants as binary
-use Rattle.abel_tree.specs.Tree.{Tree, AName, ABinary, Statement, AnAssign, Branch, AGoal, AnIf, ABranch, SectionTree, SomeVectors, DontCareSection}
-use Rattle.abel_grammar.specs.Places.{places_of_stmt, places_of_branch, places_of_section}
-use Rattle.abel_grammar.specs.Order.{Along, IsBefore, SectionsRise}
 
 -- a place in the first line, a name there, and a token
 abbrev at : ℕ → Place

@@ -1,16 +1,7 @@
 -- The places of words and expressions lie along their tokens, at each depth of nesting.
 use Rattle.std.proofs.Common.{◌≡◌, ℕ, zero, suc, inl, inr, List, [], ◌∷◌, ◌++◌, refl, ap}
-use Rattle.std.specs.List.{flat_map}
-use Rattle.abel_grammar.specs.Form.{Form}
-use Rattle.pld_base.specs.declared.place.Place.{Place}
-use Rattle.abel_lexer.specs.declared.token.Token.{Token}
-use Rattle.abel_tree.specs.Tree.{Tree, SetMember, members_of}
-use Rattle.abel_grammar.specs.declared.terminal.Terminal.{Terminal}
-use Rattle.abel_grammar.specs.declared.terminal.Terminal.TheVariants.{Identifier, Number, Special, Extension, Open, Close, Left, Right, Range, Semicolon, DontCare, Text}
-use Rattle.abel_grammar.specs.Words.{one, name, number, text, ext, end, dont_care}
-use Rattle.abel_grammar.specs.Expressions.{name_tree, number_tree, special, simple, joined, level, relations, sums, products, expr_over, paren, span_member, member, set, negated, operand, expr, set_at}
+use Rattle.abel_grammar.proofs.Common.{flat_map, Form, Place, Token, Tree, SetMember, members_of, Terminal, Identifier, Number, Special, Extension, Open, Close, Left, Right, Range, Semicolon, DontCare, Text, one, name, number, text, ext, end, dont_care, name_tree, number_tree, special, simple, joined, level, relations, sums, products, expr_over, paren, span_member, member, set, negated, operand, expr, set_at, places_of_word, places_of_number, places_of_dont_care, places_of_expr, places_of_member, places_of_members}
 use Rattle.abel_grammar.proofs.ExpressionLaws.{expr_laws}
-use Rattle.abel_grammar.specs.Places.{places_of_word, places_of_number, places_of_dont_care, places_of_expr, places_of_member, places_of_members}
 use Rattle.abel_grammar.proofs.Forms.{Lies, Takes, token_lies, dropped, both, behind, before, turned, or_lies, nothing_lies, some_lies, apart_lies, chain_lies}
 
 -- ---- words

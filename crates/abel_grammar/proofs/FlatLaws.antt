@@ -1,8 +1,6 @@
 -- From the laws of a form in which nothing is nested to the verdict on all tokens.
 use Rattle.std.proofs.Common.{◌≡◌, Bool, List, [], ◌∷◌, length, Result, Ok, Err, refl, sym, ap, ◌∙◌}
-use Rattle.abel_grammar.specs.Form.{Form}
-use Rattle.abel_grammar.specs.Reading.{Stop, Reader}
-use Rattle.abel_grammar.specs.Verdict.{SpellsWhole}
+use Rattle.abel_grammar.proofs.Common.{Form, Stop, Reader, SpellsWhole}
 use Rattle.abel_grammar.proofs.Laws.{Lawful}
 
 abbrev read_as : (X : Type 0) {T : Type 0} → T × List X → Result (T × List X) (Stop X)

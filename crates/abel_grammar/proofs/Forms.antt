@@ -1,15 +1,7 @@
 -- What lies along the tokens of a form lies along those of a form that is made of it.
 use Rattle.std.proofs.Common.{◌≡◌, ℕ, zero, suc, ◌<◌, inl, inr, Bool, true, false, List, [], ◌∷◌, ◌++◌, length, Option, Some, None, refl, sym, ap, subst, ◌∙◌, arith, length-append}
-use Rattle.std.specs.List.{All, flat_map}
-use Rattle.std.proofs.lemmas.List.{append_assoc, append-nil}
-use Rattle.std.proofs.lemmas.List.Elements.{All-nil, All-cons}
+use Rattle.abel_grammar.proofs.Common.{All, flat_map, append_assoc, append-nil, All-nil, All-cons, Form, token, followed, ◌then◌, either, SpellsOption, optional, SpellsList, repeated, made, separated, grouped, chain, nothing, given, placed, times, unless, Place, Token, places_of_some, Along}
 use Rattle.std.proofs.lemmas.List.Folds.{flat_map-map}
-use Rattle.abel_grammar.specs.Form.{Form, token, followed, ◌then◌, either, SpellsOption, optional, SpellsList, repeated, made, separated, grouped, chain, nothing, given}
-use Rattle.abel_grammar.specs.Further.{placed, times, unless}
-use Rattle.pld_base.specs.declared.place.Place.{Place}
-use Rattle.abel_lexer.specs.declared.token.Token.{Token}
-use Rattle.abel_grammar.specs.Places.{places_of_some}
-use Rattle.abel_grammar.specs.Order.{Along}
 use Rattle.abel_grammar.proofs.Along.{along_none, along_append, along_first}
 
 -- the places of what the form spells lie along the tokens that it takes

@@ -1,8 +1,6 @@
 -- A loop that joins one list a turn to what it has reads what repeated reads, with the lists one behind the other.
 use Rattle.std.proofs.Common.{◌≡◌, ◌<◌, Bool, true, false, List, [], ◌∷◌, ◌++◌, length, Result, Ok, Err, refl, sym, ap, ◌∙◌, append_assoc}
-use Rattle.std.proofs.lemmas.List.{append-nil}
-use Rattle.abel_grammar.specs.Reading.{Stop, Reader, ◌>>=◌, starts, read_repeated, read_made}
-use Rattle.abel_grammar.specs.Further.{flatten}
+use Rattle.abel_grammar.proofs.Common.{append-nil, Stop, Reader, ◌>>=◌, starts, read_repeated, read_made, flatten}
 use Rattle.abel_grammar.proofs.RepeatedTurns.{repeated_turn, repeated_fails, repeated_ends}
 
 -- what was read before, and the lists that are still read

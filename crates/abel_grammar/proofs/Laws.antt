@@ -6,8 +6,7 @@
 -- front of one, t and u trees, s what is spelled or why reading stopped, and e, d, h, k equations.
 use Rattle.std.proofs.Common.{◌≡◌, ◌≤◌, ◌<◌, ◌⊎◌, inl, inr, Bool, true, false, cond, List, [], ◌∷◌, ◌++◌, length, Result, Ok, Err, refl, sym, ap, subst, arith, length-append}
 use Rattle.std.specs.Prelude.{◌||◌}
-use Rattle.abel_grammar.specs.Form.{Form}
-use Rattle.abel_grammar.specs.Reading.{Stop, Syntax, TooDeep, left_of, Reader, ◌>>=◌, starts}
+use Rattle.abel_grammar.proofs.Common.{Form, Stop, Syntax, TooDeep, left_of, Reader, ◌>>=◌, starts}
 
 -- no further than the tokens that come after
 abbrev pub Within : {X T : Type 0} → List X → Result (T × List X) (Stop X) → Type 0

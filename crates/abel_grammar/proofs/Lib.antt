@@ -1,6 +1,7 @@
 pub mod Along
 pub mod ChainTurns
 pub mod ClassLaws
+pub mod Common
 pub mod DeclarationForms
 pub mod DeclarationLaws
 pub mod Declarations

@@ -1,7 +1,6 @@
 -- A loop that pushes one item a turn reads what repeated reads.
 use Rattle.std.proofs.Common.{◌≡◌, ◌<◌, Bool, true, false, List, [], ◌∷◌, ◌++◌, length, Result, Ok, Err, refl, sym, ap, ◌∙◌, append_assoc}
-use Rattle.std.proofs.lemmas.List.{append-nil}
-use Rattle.abel_grammar.specs.Reading.{Stop, Reader, ◌>>=◌, starts, read_repeated}
+use Rattle.abel_grammar.proofs.Common.{append-nil, Stop, Reader, ◌>>=◌, starts, read_repeated}
 use Rattle.abel_grammar.proofs.RepeatedTurns.{repeated_turn, repeated_fails, repeated_ends}
 
 -- what was read before, and what is still read

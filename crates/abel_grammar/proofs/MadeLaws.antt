@@ -1,7 +1,6 @@
 -- What is made of a form keeps its laws; and the laws hold with more that may start it or go on behind it.
 use Rattle.std.proofs.Common.{◌≡◌, ◌<◌, ◌⊎◌, inl, inr, Bool, true, false, cond, List, [], ◌∷◌, ◌++◌, length, Option, Some, None, Result, Ok, Err, refl, sym, ap, subst, arith}
-use Rattle.abel_grammar.specs.Form.{Form, made}
-use Rattle.abel_grammar.specs.Reading.{Stop, Syntax, TooDeep, left_of, Reader, ◌>>=◌, starts, read_made}
+use Rattle.abel_grammar.proofs.Common.{Form, made, Stop, Syntax, TooDeep, left_of, Reader, ◌>>=◌, starts, read_made}
 use Rattle.abel_grammar.proofs.Laws.{Within, Lawful, bind_ok, bind_err, starts_wider}
 
 made_within : {X A B : Type 0} (f : A → B) (more : List X) (r : Result (A × List X) (Stop X)) → Within more r → Within {T = B} more (r >>= λ x. Ok (f x.0, x.1))

@@ -1,28 +1,13 @@
 -- The laws of states, sections and modules.
 use Rattle.std.proofs.Common.{◌≡◌, ℕ, suc, inl, inr, Bool, true, false, List, [], ◌∷◌, ◌++◌, length, refl, ap, arith, length-append}
 use Rattle.std.specs.Prelude.{◌||◌, ◌&&◌, not}
-use Rattle.abel_grammar.specs.Form.{◌then◌, followed, repeated, SpellsList}
-use Rattle.abel_grammar.specs.Reading.{◌then_read◌, read_followed, read_repeated}
-use Rattle.abel_grammar.specs.Further.{flatten, unless, read_unless}
+use Rattle.abel_grammar.proofs.Common.{◌then◌, followed, repeated, SpellsList, ◌then_read◌, read_followed, read_repeated, flatten, unless, read_unless, Token, Tree, Statement, Branch, Declaration, StateTree, SectionTree, DontCareSection, Terminal, Identifier, Text, Module, Title, End, Semicolon, Comma, Colon, DontCare, State, StateDiagram, Declarations, Equations, TruthTable, TestVectors, Not, Left, When, BraceOpen, Else, number_of, terminal_of, among, stmt, stmt_starts, read_stmts, read_stmt, option_words, decl_starts, other_starts, trans, state_of, state, diagram_of, diagram, trans_starts, read_trans, read_state, read_diagram, options, declarations_of, declarations, equations_of, equations, proper, dont_care_section, is_empty, last_is_bare, takes_dont_care, section_group_of, sections, decls_of, first_decls, title_of, title, module_of, source, read_options, read_declarations, read_equations, read_proper, read_dont_care_section, proper_starts, read_sections, read_first_decls, read_title, read_source}
 use Rattle.abel_grammar.proofs.Laws.{Lawful}
 use Rattle.abel_grammar.proofs.SameForms.{same_laws}
 use Rattle.abel_grammar.proofs.MadeLaws.{made_laws, relaxed_laws}
 use Rattle.abel_grammar.proofs.FurtherLaws.{unless_laws}
 use Rattle.abel_grammar.proofs.SharpLaws.{followed_sharp, repeated_sharp, last_goes}
 use Rattle.abel_grammar.proofs.ClassLaws as laws
-use Rattle.abel_lexer.specs.declared.token.Token.{Token}
-use Rattle.abel_tree.specs.Tree.{Tree, Statement, Branch, Declaration, StateTree, SectionTree, DontCareSection}
-use Rattle.abel_grammar.specs.declared.terminal.Terminal.{Terminal}
-use Rattle.abel_grammar.specs.declared.terminal.Terminal.TheVariants.{Identifier, Text, Module, Title, End, Semicolon, Comma, Colon, DontCare, State, StateDiagram, Declarations, Equations, TruthTable, TestVectors, Not, Left, When, BraceOpen, Else}
-use Rattle.abel_grammar.specs.Terminals.{number_of, terminal_of, among}
-use Rattle.abel_grammar.specs.Statements.{stmt}
-use Rattle.abel_grammar.specs.StatementReaders.{stmt_starts, read_stmts, read_stmt}
-use Rattle.abel_grammar.specs.Declarations.{option_words}
-use Rattle.abel_grammar.specs.DeclarationReaders.{decl_starts, other_starts}
-use Rattle.abel_grammar.specs.Diagrams.{trans, state_of, state, diagram_of, diagram}
-use Rattle.abel_grammar.specs.DiagramReaders.{trans_starts, read_trans, read_state, read_diagram}
-use Rattle.abel_grammar.specs.Modules.{options, declarations_of, declarations, equations_of, equations, proper, dont_care_section, is_empty, last_is_bare, takes_dont_care, section_group_of, sections, decls_of, first_decls, title_of, title, module_of, source}
-use Rattle.abel_grammar.specs.ModuleReaders.{read_options, read_declarations, read_equations, read_proper, read_dont_care_section, proper_starts, read_sections, read_first_decls, read_title, read_source}
 use Rattle.abel_grammar.proofs.Sets.{Obeys, Keeps, one_laws, then_laws, perhaps, any_number, turned, led_by, led_by_less, or_trails, trails}
 use Rattle.abel_grammar.proofs.ExpressionLaws.{exprs, behind_expr, name_laws, text_laws, end_laws, dont_care_laws, expr_laws}
 use Rattle.abel_grammar.proofs.StatementLaws.{any_behind, stmt_laws, stmts_laws}

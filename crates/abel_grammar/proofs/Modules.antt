@@ -1,17 +1,7 @@
 -- The places of sections and modules lie along their tokens, at each depth of nesting.
 use Rattle.std.proofs.Common.{◌≡◌, ℕ, List, [], ◌∷◌, ◌++◌, Option, Some, None, refl, sym, ap, subst, ◌∙◌}
-use Rattle.std.specs.List.{flat_map}
-use Rattle.std.proofs.lemmas.List.{append-nil}
+use Rattle.abel_grammar.proofs.Common.{flat_map, append-nil, flatten, Spells, Place, Token, Declaration, ModuleTree, Declarations, Equations, Module, End, Title, Identifier, declarations, equations, proper, dont_care_section, takes_dont_care, sections, options, decls_of, first_decls, title, source, places_of_some, places_of_word, places_of_decl, places_of_section, places_of_module, Along}
 use Rattle.std.proofs.lemmas.Grind.{flat_map-append}
-use Rattle.abel_grammar.specs.Further.{flatten}
-use Rattle.abel_grammar.specs.Verdict.{Spells}
-use Rattle.pld_base.specs.declared.place.Place.{Place}
-use Rattle.abel_lexer.specs.declared.token.Token.{Token}
-use Rattle.abel_tree.specs.Tree.{Declaration, ModuleTree}
-use Rattle.abel_grammar.specs.declared.terminal.Terminal.TheVariants.{Declarations, Equations, Module, End, Title, Identifier}
-use Rattle.abel_grammar.specs.Modules.{declarations, equations, proper, dont_care_section, takes_dont_care, sections, options, decls_of, first_decls, title, source}
-use Rattle.abel_grammar.specs.Places.{places_of_some, places_of_word, places_of_decl, places_of_section, places_of_module}
-use Rattle.abel_grammar.specs.Order.{Along}
 use Rattle.abel_grammar.proofs.Forms.{Lies, followed_lies, both, behind, before, turned, or_lies, some_lies, many_lies, unless_lies}
 use Rattle.abel_grammar.proofs.Expressions.{one_lies, end_lies, name_lies, text_lies, dont_care_lies}
 use Rattle.abel_grammar.proofs.Statements.{stmt_lies}

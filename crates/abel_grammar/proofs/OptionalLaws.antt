@@ -1,7 +1,6 @@
 -- An option keeps the laws.
 use Rattle.std.proofs.Common.{◌≡◌, ◌<◌, ◌⊎◌, inl, inr, Bool, true, false, cond, List, [], ◌∷◌, ◌++◌, length, Option, Some, None, Result, Ok, Err, refl, sym, ap, subst, arith}
-use Rattle.abel_grammar.specs.Form.{Form, optional}
-use Rattle.abel_grammar.specs.Reading.{Stop, Syntax, TooDeep, left_of, Reader, ◌>>=◌, starts, read_optional}
+use Rattle.abel_grammar.proofs.Common.{Form, optional, Stop, Syntax, TooDeep, left_of, Reader, ◌>>=◌, starts, read_optional}
 use Rattle.abel_grammar.proofs.Laws.{Within, Lawful, bind_ok, bind_err, chosen, never_grows}
 
 abbrev pub behind_option : {X T : Type 0} → (X → Bool) → (T → X → Bool) → Option T → X → Bool

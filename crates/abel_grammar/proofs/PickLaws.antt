@@ -1,8 +1,6 @@
 -- A choice by a longer look keeps the laws where what was picked is right, or both begin.
 use Rattle.std.proofs.Common.{◌≡◌, ◌<◌, ◌⊎◌, inl, inr, Bool, true, false, cond, List, [], ◌∷◌, ◌++◌, length, Option, Some, None, Result, Ok, Err, refl, sym, ap, subst, arith}
-use Rattle.abel_grammar.specs.Form.{Form, either}
-use Rattle.abel_grammar.specs.Reading.{Stop, Syntax, TooDeep, left_of, Reader, ◌>>=◌, starts}
-use Rattle.abel_grammar.specs.Further.{read_picked}
+use Rattle.abel_grammar.proofs.Common.{Form, either, Stop, Syntax, TooDeep, left_of, Reader, ◌>>=◌, starts, read_picked}
 use Rattle.abel_grammar.proofs.Laws.{Within, Lawful, chosen}
 
 module _ {X T : Type 0} (a a' b b' : Form X T) (ra ra' rb rb' : Reader X T) (pick : List X → Bool) (first : X → Bool) (goes : T → X → Bool)

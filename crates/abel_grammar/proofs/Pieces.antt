@@ -1,14 +1,6 @@
 -- Sections lie one behind the other, each along tokens of its own.
 use Rattle.std.proofs.Common.{◌≡◌, Bool, true, false, List, [], ◌∷◌, ◌++◌, sym, ap, subst, ◌∙◌}
-use Rattle.std.specs.List.{flat_map}
-use Rattle.std.proofs.lemmas.List.{append_assoc, append-nil}
-use Rattle.abel_grammar.specs.Form.{Form, followed, ◌then◌, SpellsList, repeated, made}
-use Rattle.abel_grammar.specs.Further.{unless}
-use Rattle.pld_base.specs.declared.place.Place.{Place}
-use Rattle.abel_lexer.specs.declared.token.Token.{Token}
-use Rattle.abel_tree.specs.Tree.{SectionTree}
-use Rattle.abel_grammar.specs.Places.{places_of_section}
-use Rattle.abel_grammar.specs.Order.{Along}
+use Rattle.abel_grammar.proofs.Common.{flat_map, append_assoc, append-nil, Form, followed, ◌then◌, SpellsList, repeated, made, unless, Place, Token, SectionTree, places_of_section, Along}
 use Rattle.abel_grammar.proofs.Forms.{Lies}
 
 -- each section has tokens of its own, behind those of the section before it

@@ -1,6 +1,6 @@
 -- Any number of a form is read item by item, as a loop does.
 use Rattle.std.proofs.Common.{◌≡◌, ℕ, zero, suc, ◌≤◌, ◌<◌, ◌⊎◌, inl, inr, Bool, true, false, List, [], ◌∷◌, length, Result, Ok, Err, refl, arith}
-use Rattle.abel_grammar.specs.Reading.{Stop, Reader, ◌>>=◌, starts, read_many, read_repeated}
+use Rattle.abel_grammar.proofs.Common.{Stop, Reader, ◌>>=◌, starts, read_many, read_repeated}
 use Rattle.abel_grammar.proofs.Laws.{result_cases}
 
 bool_cases : (b : Bool) → (b ≡ true) ⊎ (b ≡ false)

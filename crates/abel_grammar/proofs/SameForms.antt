@@ -1,7 +1,6 @@
 -- Two ways to write one form: what spells or begins the one spells or begins the other.
 use Rattle.std.proofs.Common.{◌≡◌, ◌<◌, ◌⊎◌, inl, inr, Bool, true, false, List, [], ◌∷◌, ◌++◌, length, Option, Some, None, Result, Ok, Err, refl, sym, ap, subst, ◌∙◌}
-use Rattle.abel_grammar.specs.Form.{Form, ◌then◌, followed, either, optional, repeated, made, nothing, SpellsList}
-use Rattle.abel_grammar.specs.Reading.{Stop, Syntax, TooDeep, left_of, Reader, starts}
+use Rattle.abel_grammar.proofs.Common.{Form, ◌then◌, followed, either, optional, repeated, made, nothing, SpellsList, Stop, Syntax, TooDeep, left_of, Reader, starts}
 use Rattle.abel_grammar.proofs.Laws.{Lawful}
 
 pub record Same {X T : Type 0} (f g : Form X T) : Type 0 where

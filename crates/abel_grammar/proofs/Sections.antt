@@ -1,18 +1,6 @@
 -- The places of sections rise from section to section, where the tokens' places rise.
 use Rattle.std.proofs.Common.{◌≡◌, ℕ, List, [], ◌∷◌, ◌++◌, refl, sym, ap, subst, ◌∙◌}
-use Rattle.std.specs.List.{All, flat_map}
-use Rattle.std.proofs.lemmas.List.{append-nil}
-use Rattle.std.proofs.lemmas.List.Elements.{All-nil, All-cons, All-head, All-tail, All-append, All-weaker}
-use Rattle.abel_grammar.specs.Form.{repeated}
-use Rattle.abel_grammar.specs.Further.{flatten}
-use Rattle.abel_grammar.specs.Verdict.{Spells}
-use Rattle.pld_base.specs.declared.place.Place.{Place}
-use Rattle.abel_lexer.specs.declared.token.Token.{Token}
-use Rattle.abel_tree.specs.Tree.{SectionTree, ModuleTree}
-use Rattle.abel_grammar.specs.declared.terminal.Terminal.TheVariants.{Module, End, Identifier}
-use Rattle.abel_grammar.specs.Modules.{takes_dont_care, dont_care_section, sections, source}
-use Rattle.abel_grammar.specs.Places.{places_of_section}
-use Rattle.abel_grammar.specs.Order.{Along, IsBefore, TokensRise, SectionsRise}
+use Rattle.abel_grammar.proofs.Common.{All, flat_map, append-nil, All-nil, All-cons, All-head, All-tail, All-append, All-weaker, repeated, flatten, Spells, Place, Token, SectionTree, ModuleTree, Module, End, Identifier, takes_dont_care, dont_care_section, sections, source, places_of_section, Along, IsBefore, TokensRise, SectionsRise}
 use Rattle.abel_grammar.proofs.Forms.{some_lies}
 use Rattle.abel_grammar.proofs.Expressions.{one_lies, end_lies, name_lies}
 use Rattle.abel_grammar.proofs.Modules.{proper_lies, dont_care_section_lies, options_lies, first_decls_lies, title_lies}

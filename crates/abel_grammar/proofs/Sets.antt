@@ -2,9 +2,7 @@
 -- depend on this grammar, but for the terminals.
 use Rattle.std.proofs.Common.{◌≡◌, ◌<◌, inl, inr, Bool, true, false, List, [], ◌∷◌, ◌++◌, length, Option, None, Ok, refl}
 use Rattle.std.specs.Prelude.{◌||◌, ◌&&◌, not, ◌==◌}
-use Rattle.abel_grammar.specs.Form.{Form, token, ◌then◌, followed, either, optional, repeated, made, nothing}
-use Rattle.abel_grammar.specs.Reading.{Reader, read_token, ◌then_read◌, read_followed, read_either, read_optional, read_repeated, read_made, read_deep}
-use Rattle.abel_grammar.specs.Further.{placed, unless, read_placed, read_unless}
+use Rattle.abel_grammar.proofs.Common.{Form, token, ◌then◌, followed, either, optional, repeated, made, nothing, Reader, read_token, ◌then_read◌, read_followed, read_either, read_optional, read_repeated, read_made, read_deep, placed, unless, read_placed, read_unless, Token, Terminal, number_of, terminal_of, among, one, each_apart_by, read_one, read_apart_by}
 use Rattle.abel_grammar.proofs.Laws.{Lawful}
 use Rattle.abel_grammar.proofs.FollowedLaws.{followed_laws}
 use Rattle.abel_grammar.proofs.EitherLaws.{either_laws}
@@ -13,11 +11,6 @@ use Rattle.abel_grammar.proofs.RepeatedLaws.{repeated_laws}
 use Rattle.abel_grammar.proofs.MadeLaws.{relaxed_laws}
 use Rattle.abel_grammar.proofs.FurtherLaws.{placed_laws, opening_laws, unless_laws}
 use Rattle.abel_grammar.proofs.ClassLaws as laws
-use Rattle.abel_lexer.specs.declared.token.Token.{Token}
-use Rattle.abel_grammar.specs.declared.terminal.Terminal.{Terminal}
-use Rattle.abel_grammar.specs.Terminals.{number_of, terminal_of, among}
-use Rattle.abel_grammar.specs.Words.{one, each_apart_by}
-use Rattle.abel_grammar.specs.WordReaders.{read_one, read_apart_by}
 
 abbrev pub disjoint : List Terminal → List Terminal → Bool
 disjoint ks js = laws.disjoint number_of terminal_of ks js

@@ -1,20 +1,6 @@
 -- Each entry of a loop takes a token.
 use Rattle.std.proofs.Common.{◌≡◌, ℕ, ◌<◌, false, List, length, Ok}
-use Rattle.pld_base.specs.declared.place.Place.{Place}
-use Rattle.abel_lexer.specs.declared.token.Token.{Token}
-use Rattle.abel_tree.specs.declared.words.Word.{Word}
-use Rattle.abel_tree.specs.declared.words.Item.{Item}
-use Rattle.abel_tree.specs.declared.words.Span.{Span}
-use Rattle.abel_tree.specs.Tree.{Tree, SetMember, Statement, Branch, Declaration, RowTree, StateTree, SectionTree}
-use Rattle.abel_grammar.specs.Expressions.{products, sums, relations}
-use Rattle.abel_grammar.specs.WordReaders.{read_text}
-use Rattle.abel_grammar.specs.ExpressionReaders.{read_link, read_level, read_operand, read_expr, read_member}
-use Rattle.abel_grammar.specs.StatementReaders.{read_stmt}
-use Rattle.abel_grammar.specs.DeclarationReaders.{read_item, read_num, read_option, read_decl}
-use Rattle.abel_grammar.specs.DiagramReaders.{read_arm, read_choice, read_trans, read_state}
-use Rattle.abel_grammar.specs.TableReaders.{read_row, read_vector_row}
-use Rattle.abel_grammar.specs.Modules.{section_group_of}
-use Rattle.abel_grammar.specs.ModuleReaders.{read_dont_care_section, read_section_group, proper_starts}
+use Rattle.abel_grammar.proofs.Common.{Place, Token, Word, Item, Span, Tree, SetMember, Statement, Branch, Declaration, RowTree, StateTree, SectionTree, products, sums, relations, read_text, read_link, read_level, read_operand, read_expr, read_member, read_stmt, read_item, read_num, read_option, read_decl, read_arm, read_choice, read_trans, read_state, read_row, read_vector_row, section_group_of, read_dont_care_section, read_section_group, proper_starts}
 use Rattle.abel_grammar.proofs.Sets.{shorter_by, turned}
 use Rattle.abel_grammar.proofs.TableLaws.{table_row_laws, vector_row_laws}
 use Rattle.abel_grammar.proofs.ExpressionLaws.{product_laws, sum_laws, relation_laws, member_laws, operand_laws, expr_laws, expr_begun, expr_alone, text_laws}

@@ -1,24 +1,11 @@
 -- The laws of statements, at each depth of nesting.
 use Rattle.std.proofs.Common.{◌≡◌, ℕ, zero, suc, Bool, true, false, List, [], ◌∷◌, ◌++◌, Option, Some, None, refl}
 use Rattle.std.specs.Prelude.{◌||◌, ◌&&◌, not}
-use Rattle.abel_grammar.specs.Form.{Form, ◌then◌, followed, either, optional, repeated, nothing}
-use Rattle.abel_grammar.specs.Reading.{Reader, ◌then_read◌, read_followed, read_either, read_optional, read_deep}
-use Rattle.abel_grammar.specs.Further.{unless, read_unless}
+use Rattle.abel_grammar.proofs.Common.{Form, ◌then◌, followed, either, optional, repeated, nothing, Reader, ◌then_read◌, read_followed, read_either, read_optional, read_deep, unless, read_unless, Token, Tree, Statement, ADontCare, Terminal, Identifier, Left, Not, Extension, Semicolon, DontCare, When, Then, Else, BraceOpen, BraceClose, among, one, end, read_one, read_end, expr, read_expr, assigns, bare_target, plain_of, complemented_of, complemented_at, target, assign_of, assign, dont_care_stmt, is_open, when_of, when, group_of, group, stmt, plain_stmt, read_bare_target, read_complemented_at, read_target, read_assign, read_dont_care_stmt, read_when, assign_starts, plain_starts, stmt_starts, read_stmts, read_group, read_stmt, read_plain_stmt}
 use Rattle.abel_grammar.proofs.Laws.{Lawful}
 use Rattle.abel_grammar.proofs.MadeLaws.{made_laws}
 use Rattle.abel_grammar.proofs.FurtherLaws.{opening_laws}
 use Rattle.abel_grammar.proofs.OptionalLaws.{behind_option}
-use Rattle.abel_lexer.specs.declared.token.Token.{Token}
-use Rattle.abel_tree.specs.Tree.{Tree, Statement, ADontCare}
-use Rattle.abel_grammar.specs.declared.terminal.Terminal.{Terminal}
-use Rattle.abel_grammar.specs.declared.terminal.Terminal.TheVariants.{Identifier, Left, Not, Extension, Semicolon, DontCare, When, Then, Else, BraceOpen, BraceClose}
-use Rattle.abel_grammar.specs.Terminals.{among}
-use Rattle.abel_grammar.specs.Words.{one, end}
-use Rattle.abel_grammar.specs.WordReaders.{read_one, read_end}
-use Rattle.abel_grammar.specs.Expressions.{expr}
-use Rattle.abel_grammar.specs.ExpressionReaders.{read_expr}
-use Rattle.abel_grammar.specs.Statements.{assigns, bare_target, plain_of, complemented_of, complemented_at, target, assign_of, assign, dont_care_stmt, is_open, when_of, when, group_of, group, stmt, plain_stmt}
-use Rattle.abel_grammar.specs.StatementReaders.{read_bare_target, read_complemented_at, read_target, read_assign, read_dont_care_stmt, read_when, assign_starts, plain_starts, stmt_starts, read_stmts, read_group, read_stmt, read_plain_stmt}
 use Rattle.abel_grammar.proofs.Sets.{Obeys, one_laws, some_laws, then_laws, or_laws, turned, too_deep, placed_obeys, led_by, or_trails, trails, behind_open, many_open, part_laws}
 use Rattle.abel_grammar.proofs.ExpressionLaws.{exprs, behind_expr, end_laws, dont_care_laws, name_tree_laws, set_at_laws, expr_laws}
 

@@ -1,15 +1,6 @@
 -- The laws of truth tables and test vectors.
 use Rattle.std.proofs.Common.{ℕ, zero, suc, true, false, [], ◌∷◌, refl}
-use Rattle.abel_grammar.specs.Form.{token, ◌then◌, repeated}
-use Rattle.abel_grammar.specs.Reading.{read_token, ◌then_read◌}
-use Rattle.abel_grammar.specs.declared.terminal.Terminal.TheVariants.{Text, Open, Close, Semicolon, TruthTable, TestVectors}
-use Rattle.abel_grammar.specs.Terminals.{among}
-use Rattle.abel_grammar.specs.Words.{one}
-use Rattle.abel_grammar.specs.WordReaders.{read_one}
-use Rattle.abel_grammar.specs.Expressions.{expr}
-use Rattle.abel_grammar.specs.ExpressionReaders.{read_expr}
-use Rattle.abel_grammar.specs.Tables.{arrows, plain_arrow, row_of, row_as, row, header_as, header, table_of, table, vector_row_of, vector_row, vector_header, vectors_of, vectors}
-use Rattle.abel_grammar.specs.TableReaders.{read_row_as, read_row, read_header_as, read_header, read_rows, read_table, read_vector_row, read_vector_header, read_vector_rows, read_vectors}
+use Rattle.abel_grammar.proofs.Common.{token, ◌then◌, repeated, read_token, ◌then_read◌, Text, Open, Close, Semicolon, TruthTable, TestVectors, among, one, read_one, expr, read_expr, arrows, plain_arrow, row_of, row_as, row, header_as, header, table_of, table, vector_row_of, vector_row, vector_header, vectors_of, vectors, read_row_as, read_row, read_header_as, read_header, read_rows, read_table, read_vector_row, read_vector_header, read_vector_rows, read_vectors}
 use Rattle.abel_grammar.proofs.Sets.{Obeys, one_laws, some_laws, then_laws, perhaps, any_number, turned, placed_obeys, too_deep}
 use Rattle.abel_grammar.proofs.ExpressionLaws.{exprs, behind_expr, text_laws, expr_laws}
 

@@ -1,12 +1,6 @@
 -- The places of truth tables and test vectors lie along their tokens, at each depth of nesting.
 use Rattle.std.proofs.Common.{ℕ, zero, suc, List, ◌∷◌, ◌++◌, refl, sym, ap}
-use Rattle.std.specs.List.{flat_map}
-use Rattle.std.proofs.lemmas.List.{append_assoc}
-use Rattle.pld_base.specs.declared.place.Place.{Place}
-use Rattle.abel_tree.specs.Tree.{RowTree}
-use Rattle.abel_grammar.specs.declared.terminal.Terminal.TheVariants.{Open, Close, Semicolon, TruthTable, TestVectors}
-use Rattle.abel_grammar.specs.Tables.{row_as, header_as, row, header, table, vector_row, vector_header, vectors}
-use Rattle.abel_grammar.specs.Places.{places_of_some, places_of_word, places_of_expr, places_of_row, places_of_section}
+use Rattle.abel_grammar.proofs.Common.{flat_map, append_assoc, Place, RowTree, Open, Close, Semicolon, TruthTable, TestVectors, row_as, header_as, row, header, table, vector_row, vector_header, vectors, places_of_some, places_of_word, places_of_expr, places_of_row, places_of_section}
 use Rattle.abel_grammar.proofs.Forms.{Lies, token_lies, both, behind, before, turned, nothing_lies, some_lies, many_lies, takes_token, takes_behind, placed_lies}
 use Rattle.abel_grammar.proofs.Expressions.{one_lies, text_lies, expr_lies}
 

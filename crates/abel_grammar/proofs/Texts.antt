@@ -1,13 +1,9 @@
 -- The places of a text's tokens rise.
 use Rattle.std.proofs.Common.{◌≡◌, ℕ, ◌+◌, ◌<◌, ◌⊎◌, inl, inr, Bool, true, false, cond, ◌==◌, List, [], ◌∷◌, length, refl, sym, subst, ◌∙◌, arith}
-use Rattle.std.specs.List.{All}
-use Rattle.std.proofs.lemmas.List.Elements.{All-nil, All-cons, All-weaker}
-use Rattle.pld_base.specs.declared.place.Place.{Place}
-use Rattle.abel_lexer.specs.declared.token.Token.{Token}
+use Rattle.abel_grammar.proofs.Common.{All, All-nil, All-cons, All-weaker, Place, Token, IsBefore, TokensRise}
 use Rattle.abel_lexer.specs.Bytes.{line_feed}
 use Rattle.abel_lexer.specs.Scans.{past, place_past, Remainder, whole, Lexeme, Shown, Radix, tokens_among, IsFront, Passes, Leads, IsTokensOf}
 use Rattle.abel_lexer.proofs.Longest.{token_some}
-use Rattle.abel_grammar.specs.Order.{IsBefore, TokensRise}
 
 -- a place stands at another or before it
 abbrev NotBehind : Place → Place → Type 0

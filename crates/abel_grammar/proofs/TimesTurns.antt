@@ -1,8 +1,6 @@
 -- A loop that reads an entry each turn, so many times, gives what times gives.
 use Rattle.std.proofs.Common.{◌≡◌, ℕ, zero, suc, List, [], ◌∷◌, ◌++◌, Result, Ok, Err, refl, sym, ap, ◌∙◌}
-use Rattle.std.proofs.lemmas.List.{append-nil}
-use Rattle.abel_grammar.specs.Reading.{Stop, Reader, ◌>>=◌}
-use Rattle.abel_grammar.specs.Further.{read_times}
+use Rattle.abel_grammar.proofs.Common.{append-nil, Stop, Reader, ◌>>=◌, read_times}
 use Rattle.abel_grammar.proofs.ListTurns.{with_front, front_first}
 
 -- an entry before those that are read

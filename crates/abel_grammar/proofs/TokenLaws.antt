@@ -1,7 +1,6 @@
 -- A single token keeps the laws, and so does what takes no token.
 use Rattle.std.proofs.Common.{◌≡◌, ◌<◌, ◌⊎◌, inl, inr, Bool, true, false, cond, List, [], ◌∷◌, ◌++◌, length, Option, Some, None, Result, Ok, Err, refl, sym, ap, subst, arith}
-use Rattle.abel_grammar.specs.Form.{Form, token, BeginsToken, given}
-use Rattle.abel_grammar.specs.Reading.{Stop, Syntax, TooDeep, left_of, Reader, ◌>>=◌, starts, read_token, read_given}
+use Rattle.abel_grammar.proofs.Common.{Form, token, BeginsToken, given, Stop, Syntax, TooDeep, left_of, Reader, ◌>>=◌, starts, read_token, read_given}
 use Rattle.abel_grammar.proofs.Laws.{Within, Lawful, chosen}
 
 abbrev pub none : {X : Type 0} → X → Bool

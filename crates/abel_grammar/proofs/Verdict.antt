@@ -1,14 +1,7 @@
 -- The verdict on the tokens of a source: the only tree, and the exact places of Syntax and TooDeep.
 use Rattle.std.proofs.Common.{◌≡◌, ◌-◌, Bool, false, List, [], ◌∷◌, ◌++◌, length, Ok, Err}
-use Rattle.abel_grammar.specs.Reading.{Stop, Syntax, TooDeep, left_of}
-use Rattle.abel_grammar.specs.Verdict.{Spells, SyntaxAt, TooDeepAt}
+use Rattle.abel_grammar.proofs.Common.{Stop, Syntax, TooDeep, left_of, Spells, SyntaxAt, TooDeepAt, Token, ModuleTree, Module, among, source, read_source}
 use Rattle.abel_grammar.proofs.VerdictLaws.{tree_spelled, tree_only, stopped, left_over, too_deep_at}
-use Rattle.abel_lexer.specs.declared.token.Token.{Token}
-use Rattle.abel_tree.specs.Tree.{ModuleTree}
-use Rattle.abel_grammar.specs.declared.terminal.Terminal.TheVariants.{Module}
-use Rattle.abel_grammar.specs.Terminals.{among}
-use Rattle.abel_grammar.specs.Modules.{source}
-use Rattle.abel_grammar.specs.ModuleReaders.{read_source}
 use Rattle.abel_grammar.proofs.ModuleLaws.{source_laws, behind_end}
 
 abbrev first : Token → Bool

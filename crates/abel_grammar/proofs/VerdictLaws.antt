@@ -1,9 +1,6 @@
 -- From the laws at each depth to the verdict on all tokens.
 use Rattle.std.proofs.Common.{◌≡◌, ℕ, zero, suc, ◌+◌, ◌-◌, ◌≤◌, Bool, List, [], ◌∷◌, ◌++◌, length, take, Result, Ok, Err, refl, sym, ap, subst, ◌∙◌, append_assoc, add-one, arith, length-append}
-use Rattle.std.proofs.lemmas.List.{append-nil, take_at}
-use Rattle.abel_grammar.specs.Form.{Form}
-use Rattle.abel_grammar.specs.Reading.{Stop, Syntax, TooDeep, Reader}
-use Rattle.abel_grammar.specs.Verdict.{Spells, Begins, SyntaxAt, TooDeepAt}
+use Rattle.abel_grammar.proofs.Common.{append-nil, take_at, Form, Stop, Syntax, TooDeep, Reader, Spells, Begins, SyntaxAt, TooDeepAt}
 use Rattle.abel_grammar.proofs.Laws.{Within, Lawful}
 
 abbrev deeper : ℕ → ℕ → ℕ

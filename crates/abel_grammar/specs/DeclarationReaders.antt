@@ -1,14 +1,10 @@
 -- Declarations, read from left to right: the names first, and then what they are declared as (a helper of
 -- the parser's own contracts).
 use Rattle.std.specs.Prelude.{ℕ, Bool, true, false, List, [], ◌∷◌, length, Option, None, Some, option_map}
+use Rattle.abel_grammar.specs.Prelude.{Token, Word, Item, Span, Tree, Declaration, SomeOptions, DontCareFor}
 use Rattle.std.specs.Option.{option_and_then}
 use Rattle.abel_grammar.specs.Reading.{Reader, read_token, read_followed, ◌then_read◌, read_either, read_optional, read_made}
 use Rattle.abel_grammar.specs.Further.{read_times, read_nothing}
-use Rattle.abel_lexer.specs.declared.token.Token.{Token}
-use Rattle.abel_tree.specs.declared.words.Word.{Word}
-use Rattle.abel_tree.specs.declared.words.Item.{Item}
-use Rattle.abel_tree.specs.declared.words.Span.{Span}
-use Rattle.abel_tree.specs.Tree.{Tree, Declaration, SomeOptions, DontCareFor}
 use Rattle.abel_grammar.specs.declared.terminal.Terminal.{Terminal}
 use Rattle.abel_grammar.specs.declared.terminal.Terminal.TheVariants as terminal
 use Rattle.abel_grammar.specs.Terminals.{among}

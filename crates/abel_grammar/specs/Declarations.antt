@@ -1,13 +1,8 @@
 -- Declarations (ABEL-HDL Reference Manual, declarations).
 use Rattle.std.specs.Prelude.{ℕ, List, [], ◌∷◌, length, Option, is_some, unwrap_or, option_map}
+use Rattle.abel_grammar.specs.Prelude.{Token, Word, Number, Item, Span, Tree, Declaration, ADevice, SomePins, SomeNodes, SomeAttributes, SomeConstants, SomeOptions, DontCareFor}
 use Rattle.abel_grammar.specs.Form.{Form, token, ◌then◌, followed, either, optional, made, nothing}
 use Rattle.abel_grammar.specs.Further.{times}
-use Rattle.abel_lexer.specs.declared.token.Token.{Token}
-use Rattle.abel_tree.specs.declared.words.Word.{Word}
-use Rattle.abel_tree.specs.declared.words.Number.{Number}
-use Rattle.abel_tree.specs.declared.words.Item.{Item}
-use Rattle.abel_tree.specs.declared.words.Span.{Span}
-use Rattle.abel_tree.specs.Tree.{Tree, Declaration, ADevice, SomePins, SomeNodes, SomeAttributes, SomeConstants, SomeOptions, DontCareFor}
 use Rattle.abel_grammar.specs.declared.terminal.Terminal.{Terminal}
 use Rattle.abel_grammar.specs.declared.terminal.Terminal.TheVariants as terminal
 use Rattle.abel_grammar.specs.Terminals.{among}

@@ -1,11 +1,9 @@
 -- State diagrams, read from left to right: an arm is read with the `;` behind it, so that no look past the
 -- next token is needed (a helper of the parser's own contracts).
 use Rattle.std.specs.Prelude.{ℕ, zero, suc, Bool, true, false, ◌||◌, List, [], ◌∷◌, Option, None, Some, is_some}
+use Rattle.abel_grammar.specs.Prelude.{Place, Token, Tree, Statement, Branch, StateTree, SectionTree}
 use Rattle.abel_grammar.specs.Reading.{Reader, read_followed, ◌then_read◌, read_either, read_optional, read_repeated, read_made, read_deep, read_given}
 use Rattle.abel_grammar.specs.Further.{read_placed, read_unless, read_nothing}
-use Rattle.pld_base.specs.declared.place.Place.{Place}
-use Rattle.abel_lexer.specs.declared.token.Token.{Token}
-use Rattle.abel_tree.specs.Tree.{Tree, Statement, Branch, StateTree, SectionTree}
 use Rattle.abel_grammar.specs.declared.terminal.Terminal.{Terminal}
 use Rattle.abel_grammar.specs.declared.terminal.Terminal.TheVariants as terminal
 use Rattle.abel_grammar.specs.Terminals.{among}

@@ -1,10 +1,8 @@
 -- State diagrams (ABEL-HDL Reference Manual, state diagrams, IF, CASE, GOTO and WITH).
 use Rattle.std.specs.Prelude.{ℕ, zero, suc, Bool, true, false, ◌||◌, List, [], ◌∷◌, Option, None, Some, is_some, option_map}
+use Rattle.abel_grammar.specs.Prelude.{Place, Token, Tree, Statement, Branch, AGoal, AnIf, ACase, OtherBranch, NoBranch, ABranch, other_of, choices_of, StateTree, SectionTree, ADiagram}
 use Rattle.abel_grammar.specs.Form.{Form, ◌then◌, followed, either, optional, repeated, made, nothing}
 use Rattle.abel_grammar.specs.Further.{placed, unless}
-use Rattle.pld_base.specs.declared.place.Place.{Place}
-use Rattle.abel_lexer.specs.declared.token.Token.{Token}
-use Rattle.abel_tree.specs.Tree.{Tree, Statement, Branch, AGoal, AnIf, ACase, OtherBranch, NoBranch, ABranch, other_of, choices_of, StateTree, SectionTree, ADiagram}
 use Rattle.abel_grammar.specs.declared.terminal.Terminal.TheVariants as terminal
 use Rattle.abel_grammar.specs.Words.{one, end}
 use Rattle.abel_grammar.specs.Expressions.{expr}

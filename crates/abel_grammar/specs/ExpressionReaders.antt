@@ -1,9 +1,8 @@
 -- Expressions, read from left to right (a helper of the parser's own contracts).
 use Rattle.std.specs.Prelude.{ℕ, zero, suc, List, [], ◌∷◌}
+use Rattle.abel_grammar.specs.Prelude.{Token, Tree, ANumber, SetMember, OneMember}
 use Rattle.abel_grammar.specs.Reading.{Reader, read_token, ◌then_read◌, read_either, read_chain, read_made, read_deep}
 use Rattle.abel_grammar.specs.Further.{read_picked, starts_two}
-use Rattle.abel_lexer.specs.declared.token.Token.{Token}
-use Rattle.abel_tree.specs.Tree.{Tree, ANumber, SetMember, OneMember}
 use Rattle.abel_grammar.specs.declared.terminal.Terminal.{Terminal}
 use Rattle.abel_grammar.specs.declared.terminal.Terminal.TheVariants as terminal
 use Rattle.abel_grammar.specs.Terminals.{among}

@@ -1,15 +1,13 @@
 -- Expressions (ABEL-HDL Reference Manual, expressions and sets). The number n of a form is how many
 -- constructs may be open round a token of it (this project's rule).
 use Rattle.std.specs.Prelude.{ℕ, zero, suc, List, [], ◌∷◌, Option}
+use Rattle.abel_grammar.specs.Prelude.{Token, Word, Tree, ANumber, ASpecial, AName, ASet, AParen, AUnary, ABinary, SetMember, OneMember, SpanMember, members_of}
 use Rattle.std.specs.Char.{to_ascii_uppercase}
 use Rattle.abel_grammar.specs.Form.{Form, token, ◌then◌, either, chain, made, nothing}
-use Rattle.abel_lexer.specs.declared.token.Token.{Token}
-use Rattle.abel_tree.specs.declared.words.Word.{Word}
 use Rattle.abel_tree.specs.declared.words.Unary.{Unary}
 use Rattle.abel_tree.specs.declared.words.Unary.TheVariants as unary
 use Rattle.abel_tree.specs.declared.words.Binary.{Binary}
 use Rattle.abel_tree.specs.declared.words.Binary.TheVariants as binary
-use Rattle.abel_tree.specs.Tree.{Tree, ANumber, ASpecial, AName, ASet, AParen, AUnary, ABinary, SetMember, OneMember, SpanMember, members_of}
 use Rattle.abel_grammar.specs.declared.terminal.Terminal.{Terminal}
 use Rattle.abel_grammar.specs.declared.terminal.Terminal.TheVariants as terminal
 use Rattle.abel_grammar.specs.Terminals.{among, terminal_of}

@@ -1,8 +1,8 @@
 -- What a parsing function returned is what reading gives, unless memory ran out (a helper of the
 -- parser's own contracts).
 use Rattle.std.specs.Prelude.{◌≡◌, Result, Ok, Err}
+use Rattle.abel_grammar.specs.Prelude.{Token}
 use Rattle.abel_grammar.specs.Reading.{Stop, Syntax, TooDeep}
-use Rattle.abel_lexer.specs.declared.token.Token.{Token}
 use Rattle.abel_grammar.specs.declared.halt.Halt.{Halt}
 use Rattle.abel_grammar.specs.declared.halt.Halt.TheVariants as halt
 

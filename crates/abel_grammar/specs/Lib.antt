@@ -12,6 +12,7 @@ pub mod ModuleReaders
 pub mod Modules
 pub mod Order
 pub mod Places
+pub mod Prelude
 pub mod Reading
 pub mod StatementReaders
 pub mod Statements

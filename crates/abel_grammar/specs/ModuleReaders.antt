@@ -1,10 +1,8 @@
 -- Sections and modules, read from left to right (a helper of the parser's own contracts).
 use Rattle.std.specs.Prelude.{ℕ, Bool, List, [], ◌∷◌, Option}
+use Rattle.abel_grammar.specs.Prelude.{Token, Word, Declaration, SectionTree, DontCareSection, ModuleTree}
 use Rattle.abel_grammar.specs.Reading.{Reader, read_followed, ◌then_read◌, read_either, read_optional, read_repeated, read_made}
 use Rattle.abel_grammar.specs.Further.{flatten, read_unless}
-use Rattle.abel_lexer.specs.declared.token.Token.{Token}
-use Rattle.abel_tree.specs.declared.words.Word.{Word}
-use Rattle.abel_tree.specs.Tree.{Declaration, SectionTree, DontCareSection, ModuleTree}
 use Rattle.abel_grammar.specs.declared.terminal.Terminal.{Terminal}
 use Rattle.abel_grammar.specs.declared.terminal.Terminal.TheVariants as terminal
 use Rattle.abel_grammar.specs.Terminals.{among}

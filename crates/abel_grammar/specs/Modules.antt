@@ -1,10 +1,8 @@
 -- Sections and modules (ABEL-HDL Reference Manual, source file structure).
 use Rattle.std.specs.Prelude.{ℕ, Bool, true, false, List, [], ◌∷◌, Option, None, Some}
+use Rattle.abel_grammar.specs.Prelude.{Token, Word, Statement, Declaration, StateTree, SectionTree, Declarations, Equations, ATable, ADiagram, SomeVectors, DontCareSection, ModuleTree}
 use Rattle.abel_grammar.specs.Form.{Form, ◌then◌, followed, either, optional, repeated, made}
 use Rattle.abel_grammar.specs.Further.{flatten, unless}
-use Rattle.abel_lexer.specs.declared.token.Token.{Token}
-use Rattle.abel_tree.specs.declared.words.Word.{Word}
-use Rattle.abel_tree.specs.Tree.{Statement, Declaration, StateTree, SectionTree, Declarations, Equations, ATable, ADiagram, SomeVectors, DontCareSection, ModuleTree}
 use Rattle.abel_grammar.specs.declared.terminal.Terminal.TheVariants as terminal
 use Rattle.abel_grammar.specs.Words.{one, name, text, end, dont_care}
 use Rattle.abel_grammar.specs.Statements.{stmt}

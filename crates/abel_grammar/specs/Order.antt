@@ -1,9 +1,6 @@
 -- Places in the order of tokens, and sections whose places rise (this project's words).
 use Rattle.std.specs.Prelude.{◌≡◌, ◌<◌, ◌⊎◌, List, [], ◌∷◌, ◌++◌}
-use Rattle.std.specs.List.{All, flat_map}
-use Rattle.pld_base.specs.declared.place.Place.{Place}
-use Rattle.abel_lexer.specs.declared.token.Token.{Token}
-use Rattle.abel_tree.specs.Tree.{SectionTree}
+use Rattle.abel_grammar.specs.Prelude.{All, flat_map, Place, Token, SectionTree}
 use Rattle.abel_grammar.specs.Places.{places_of_section}
 
 -- The places are tokens', in the order of the tokens: from left to right each token has some of them, often none.

@@ -1,13 +1,6 @@
 -- The places in a tree, in the order of the source (ABEL-HDL Reference Manual, source file structure).
 use Rattle.std.specs.Prelude.{List, [], ◌∷◌, ◌++◌, Option, Some, None}
-use Rattle.std.specs.List.{flat_map}
-use Rattle.pld_base.specs.declared.place.Place.{Place}
-use Rattle.abel_tree.specs.declared.words.Word.{Word}
-use Rattle.abel_tree.specs.declared.words.Number.{Number}
-use Rattle.abel_tree.specs.declared.words.Item.{Item}
-use Rattle.abel_tree.specs.declared.words.Span.{Span}
-use Rattle.abel_tree.specs.declared.words.DontCare.{DontCare}
-use Rattle.abel_tree.specs.Tree.{Tree, ANumber, ASpecial, AName, ASet, AParen, AUnary, ABinary, SetMember, OneMember, SpanMember, Members, NoMember, MoreMembers, Statement, AnAssign, AWhen, AGroup, ADontCare, Otherwise, NoElse, AnElse, Statements, NoStatement, MoreStatements, Branch, AGoal, AnIf, ACase, OtherBranch, NoBranch, ABranch, Choices, NoChoice, MoreChoices, Declaration, ADevice, SomePins, SomeNodes, SomeAttributes, SomeConstants, SomeOptions, DontCareFor, RowTree, StateTree, SectionTree, Declarations, Equations, ATable, ADiagram, SomeVectors, DontCareSection, ModuleTree}
+use Rattle.abel_grammar.specs.Prelude.{flat_map, Place, Word, Number, Item, Span, DontCare, Tree, ANumber, ASpecial, AName, ASet, AParen, AUnary, ABinary, SetMember, OneMember, SpanMember, Members, NoMember, MoreMembers, Statement, AnAssign, AWhen, AGroup, ADontCare, Otherwise, NoElse, AnElse, Statements, NoStatement, MoreStatements, Branch, AGoal, AnIf, ACase, OtherBranch, NoBranch, ABranch, Choices, NoChoice, MoreChoices, Declaration, ADevice, SomePins, SomeNodes, SomeAttributes, SomeConstants, SomeOptions, DontCareFor, RowTree, StateTree, SectionTree, Declarations, Equations, ATable, ADiagram, SomeVectors, DontCareSection, ModuleTree}
 
 -- ---- words and lists of them
 

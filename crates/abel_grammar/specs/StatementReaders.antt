@@ -1,9 +1,8 @@
 -- Statements, read from left to right (a helper of the parser's own contracts).
 use Rattle.std.specs.Prelude.{ℕ, zero, suc, Bool, List, [], ◌∷◌, None}
+use Rattle.abel_grammar.specs.Prelude.{Token, Tree, Statement, ADontCare}
 use Rattle.abel_grammar.specs.Reading.{Reader, read_token, read_followed, ◌then_read◌, read_either, read_optional, read_repeated, read_made, read_deep}
 use Rattle.abel_grammar.specs.Further.{read_placed, read_unless}
-use Rattle.abel_lexer.specs.declared.token.Token.{Token}
-use Rattle.abel_tree.specs.Tree.{Tree, Statement, ADontCare}
 use Rattle.abel_grammar.specs.declared.terminal.Terminal.{Terminal}
 use Rattle.abel_grammar.specs.declared.terminal.Terminal.TheVariants as terminal
 use Rattle.abel_grammar.specs.Terminals.{among}

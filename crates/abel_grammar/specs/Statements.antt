@@ -1,11 +1,10 @@
 -- Statements (ABEL-HDL Reference Manual, equations and WHEN).
 use Rattle.std.specs.Prelude.{ℕ, zero, suc, Bool, true, false, ◌||◌, List, [], ◌∷◌, Option, None, option_map}
+use Rattle.abel_grammar.specs.Prelude.{Token, Tree, Statement, AnAssign, AWhen, AGroup, ADontCare, statements_of, Otherwise, NoElse, AnElse, otherwise_of}
 use Rattle.abel_grammar.specs.Form.{Form, token, ◌then◌, followed, either, optional, repeated, made, nothing}
 use Rattle.abel_grammar.specs.Further.{placed, unless}
-use Rattle.abel_lexer.specs.declared.token.Token.{Token}
 use Rattle.abel_tree.specs.declared.words.Sign.{Sign}
 use Rattle.abel_tree.specs.declared.words.Sign.TheVariants as sign
-use Rattle.abel_tree.specs.Tree.{Tree, Statement, AnAssign, AWhen, AGroup, ADontCare, statements_of, Otherwise, NoElse, AnElse, otherwise_of}
 use Rattle.abel_grammar.specs.declared.terminal.Terminal.{Terminal}
 use Rattle.abel_grammar.specs.declared.terminal.Terminal.TheVariants as terminal
 use Rattle.abel_grammar.specs.Terminals.{among, terminal_of}

@@ -1,9 +1,8 @@
 -- Truth tables and test vectors, read from left to right (a helper of the parser's own contracts).
 use Rattle.std.specs.Prelude.{ℕ, zero, suc, List, [], ◌∷◌}
+use Rattle.abel_grammar.specs.Prelude.{Token, RowTree, SectionTree}
 use Rattle.abel_grammar.specs.Reading.{Reader, read_token, ◌then_read◌, read_optional, read_repeated, read_made, read_deep}
 use Rattle.abel_grammar.specs.Further.{read_placed}
-use Rattle.abel_lexer.specs.declared.token.Token.{Token}
-use Rattle.abel_tree.specs.Tree.{RowTree, SectionTree}
 use Rattle.abel_grammar.specs.declared.terminal.Terminal.{Terminal}
 use Rattle.abel_grammar.specs.declared.terminal.Terminal.TheVariants as terminal
 use Rattle.abel_grammar.specs.Terminals.{among}

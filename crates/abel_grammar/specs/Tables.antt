@@ -1,11 +1,9 @@
 -- Truth tables and test vectors (ABEL-HDL Reference Manual, truth tables and test vectors), and how they are
 -- read.
 use Rattle.std.specs.Prelude.{ℕ, zero, suc, Bool, true, false, List, [], ◌∷◌, Option}
+use Rattle.abel_grammar.specs.Prelude.{Token, Word, Tree, RowTree, SectionTree, ATable, SomeVectors}
 use Rattle.abel_grammar.specs.Form.{Form, token, ◌then◌, optional, repeated, made, nothing}
 use Rattle.abel_grammar.specs.Further.{placed}
-use Rattle.abel_lexer.specs.declared.token.Token.{Token}
-use Rattle.abel_tree.specs.declared.words.Word.{Word}
-use Rattle.abel_tree.specs.Tree.{Tree, RowTree, SectionTree, ATable, SomeVectors}
 use Rattle.abel_grammar.specs.declared.terminal.Terminal.{Terminal}
 use Rattle.abel_grammar.specs.declared.terminal.Terminal.TheVariants as terminal
 use Rattle.abel_grammar.specs.Terminals.{among, terminal_of}

@@ -1,7 +1,6 @@
 -- The terminals of the grammar (ABEL-HDL Reference Manual, language elements).
 use Rattle.std.specs.Prelude.{ℕ, Bool, List, [], ◌∷◌, codes, if◌then◌else◌}
-use Rattle.std.specs.Str.{bytes_eq, str_eq_ignore_ascii_case}
-use Rattle.abel_lexer.specs.declared.token.Token.{Token}
+use Rattle.abel_grammar.specs.Prelude.{bytes_eq, str_eq_ignore_ascii_case, Token}
 use Rattle.abel_lexer.specs.declared.token.TokenKind.{TokenKind}
 use Rattle.abel_lexer.specs.declared.token.TokenKind.TheVariants as kind
 use Rattle.abel_grammar.specs.declared.terminal.Terminal.{Terminal}

@@ -1,10 +1,7 @@
 -- Names, numbers, strings and lists of them, read from left to right (a helper of the parser's own contracts).
 use Rattle.std.specs.Prelude.{List, [], ◌∷◌, Option}
+use Rattle.abel_grammar.specs.Prelude.{Token, Word, Number, DontCare}
 use Rattle.abel_grammar.specs.Reading.{Reader, read_token, ◌then_read◌, read_optional, read_separated, read_made}
-use Rattle.abel_lexer.specs.declared.token.Token.{Token}
-use Rattle.abel_tree.specs.declared.words.Word.{Word}
-use Rattle.abel_tree.specs.declared.words.Number.{Number}
-use Rattle.abel_tree.specs.declared.words.DontCare.{DontCare}
 use Rattle.abel_grammar.specs.declared.terminal.Terminal.{Terminal}
 use Rattle.abel_grammar.specs.declared.terminal.Terminal.TheVariants as terminal
 use Rattle.abel_grammar.specs.Terminals.{among}

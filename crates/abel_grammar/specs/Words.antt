@@ -1,11 +1,7 @@
 -- Names, numbers, strings and lists of them (ABEL-HDL Reference Manual, language elements).
 use Rattle.std.specs.Prelude.{ℕ, List, [], ◌∷◌, Option, option_map, codes, if◌then◌else◌}
-use Rattle.std.specs.Str.{str_eq_ignore_ascii_case}
+use Rattle.abel_grammar.specs.Prelude.{str_eq_ignore_ascii_case, Token, Word, Number, DontCare}
 use Rattle.abel_grammar.specs.Form.{Form, token, ◌then◌, optional, separated, made}
-use Rattle.abel_lexer.specs.declared.token.Token.{Token}
-use Rattle.abel_tree.specs.declared.words.Word.{Word}
-use Rattle.abel_tree.specs.declared.words.Number.{Number}
-use Rattle.abel_tree.specs.declared.words.DontCare.{DontCare}
 use Rattle.abel_tree.specs.declared.words.Extension.{Extension}
 use Rattle.abel_tree.specs.declared.words.Extension.TheVariants as extension
 use Rattle.abel_grammar.specs.declared.terminal.Terminal.{Terminal}

@@ -1,7 +1,7 @@
 //! The terminals of the grammar, and tests of tokens by them.
 
 ghost use Rattle.std.specs.Prelude.{◌≡◌, [], ◌∷◌, map, option_map};
-ghost use Rattle.std.specs.Str.{str_eq_ignore_ascii_case};
+ghost use Rattle.abel_grammar.specs.Prelude.{str_eq_ignore_ascii_case};
 ghost use Rattle.abel_grammar.specs.Terminals.{number_of, look_up, keyword_of, sign_of, terminal_of, among};
 ghost use Rattle.abel_grammar.specs.Reading.{starts, behind};
 

@@ -1,7 +1,7 @@
 -- None of the entries before this one has the word.
 use Rattle.std.proofs.Common.{◌≡◌, map, drop}
+use Rattle.abel_grammar.proofs.Common.{look_up}
 use Rattle.std.specs.Str.{str_eq_ignore_ascii_case}
-use Rattle.abel_grammar.specs.Terminals.{look_up}
 use Rattle.abel_grammar.proofs.terminal.listed.Given as goal
 
 abbrev pub invariant-loop-text : goal.invariant-loop-text
