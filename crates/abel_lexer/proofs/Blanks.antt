@@ -1,8 +1,6 @@
 -- Blanks at the front, and what stands behind them.
 use Rattle.std.proofs.Common.{◌≡◌, ℕ, suc, ◌+◌, inl, inr, Bool, true, false, cond, List, [], ◌∷◌, ◌++◌, length, take, drop, refl, sym, ap, subst, ◌∙◌, arith}
-use Rattle.std.specs.List.{list_all, prefix_len}
-use Rattle.std.proofs.lemmas.List.{take_at, drop_at}
-use Rattle.abel_lexer.specs.Bytes.{is_blank, starts}
+use Rattle.abel_lexer.proofs.Common.{list_all, prefix_len, take_at, drop_at, is_blank, starts}
 use Rattle.abel_lexer.proofs.Booleans.{bool_cases, and_parts}
 
 -- the blanks at the front

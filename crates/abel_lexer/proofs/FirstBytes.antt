@@ -1,18 +1,8 @@
 -- The first bytes of a token tell its kind, and the first is no blank.
 use Rattle.std.proofs.Common.{◌≡◌, ℕ, ◌+◌, ◌≤◌, ◌<◌, ◌⊎◌, inl, inr, Bool, true, false, not, cond, List, [], ◌∷◌, ◌++◌, refl, sym, ap, subst, ◌∙◌, arith}
 use Rattle.std.specs.Prelude.{◌==◌, ◌&&◌, ◌||◌, nat_le, nat_lt, codes, if◌then◌else◌}
-use Rattle.std.specs.List.{list_all, list_any}
-use Rattle.std.specs.Int.{is_in_range}
-use Rattle.std.specs.Char.{is_ascii_digit, is_ascii_alphabetic, is_ascii_alphanumeric, to_ascii_lowercase}
-use Rattle.std.specs.Str.{bytes_eq, str_eq_ignore_ascii_case, str_to_ascii_lowercase}
-use Rattle.std.proofs.lemmas.Bool.{leb-true, ltb-false, eqb-true}
-use Rattle.abel_lexer.specs.declared.token.TokenKind.{TokenKind}
+use Rattle.abel_lexer.proofs.Common.{list_all, list_any, is_in_range, is_ascii_digit, is_ascii_alphabetic, is_ascii_alphanumeric, to_ascii_lowercase, bytes_eq, str_eq_ignore_ascii_case, str_to_ascii_lowercase, leb-true, ltb-false, eqb-true, TokenKind, quote, dot, caret, is_blank, is_letter, is_name_first, is_name_later, starts, is_listed, signs, is_sign, IsWord, IsShaped, IsToken, no_byte, letter_special, voltage_special, directives, word_kind}
 use Rattle.abel_lexer.specs.declared.token.TokenKind.TheVariants as kind
-use Rattle.abel_lexer.specs.Bytes.{quote, dot, caret, is_blank, is_letter, is_name_first, is_name_later, starts}
-use Rattle.abel_lexer.specs.Keywords.{is_listed}
-use Rattle.abel_lexer.specs.Signs.{signs, is_sign}
-use Rattle.abel_lexer.specs.Kinds.{IsWord, IsShaped, IsToken, no_byte, letter_special, voltage_special, directives}
-use Rattle.abel_lexer.specs.Lengths.{word_kind}
 use Rattle.abel_lexer.proofs.Munches.{same_bytes}
 use Rattle.abel_lexer.proofs.Booleans.{bool_cases, and_parts, or_cases}
 

@@ -1,17 +1,7 @@
 -- What the scanner finds at the front, and the two ends of a scan.
 use Rattle.std.proofs.Common.{◌≡◌, ℕ, ◌+◌, ◌≤◌, ◌<◌, ◌⊎◌, inl, inr, true, false, List, [], ◌∷◌, ◌++◌, length, take, drop, Option, None, Some, refl, sym, ap, subst, ◌∙◌, arith, ◌-◌, length-append}
-use Rattle.std.specs.List.{list_all, prefix_len}
-use Rattle.std.proofs.lemmas.List.{take_at, take-append-drop, length-take}
-use Rattle.pld_base.specs.declared.place.Place.{Place}
-use Rattle.abel_lexer.specs.declared.token.Token.{Token}
-use Rattle.abel_lexer.specs.declared.token.TokenKind.{TokenKind}
-use Rattle.abel_lexer.specs.declared.fault.ScanFault.{ScanFault}
+use Rattle.abel_lexer.proofs.Common.{list_all, prefix_len, take_at, take-append-drop, length-take, Place, Token, TokenKind, ScanFault, is_blank, starts, IsToken, value_of, fault_of, longest_at, radix_at, behind_blanks, remainder, IsTokenAt, IsFaultAt, Remainder, Lexeme, Shown, Radix, whole, place_past, IsRadixForm, IsLongest, IsFront, Passes, Leads, Faults, tokens_among, IsTokensOf, IsFirstFault, AreOnlyTokens, IsOnlyFault}
 use Rattle.abel_lexer.specs.declared.fault.ScanFault.TheVariants as fault
-use Rattle.abel_lexer.specs.Bytes.{is_blank, starts}
-use Rattle.abel_lexer.specs.Kinds.{IsToken, value_of, fault_of}
-use Rattle.abel_lexer.specs.Lengths.{longest_at, radix_at, behind_blanks}
-use Rattle.abel_lexer.specs.Remainders.{remainder, IsTokenAt, IsFaultAt}
-use Rattle.abel_lexer.specs.Scans.{Remainder, Lexeme, Shown, Radix, whole, place_past, IsRadixForm, IsLongest, IsFront, Passes, Leads, Faults, tokens_among, IsTokensOf, IsFirstFault, AreOnlyTokens, IsOnlyFault}
 use Rattle.abel_lexer.proofs.Blanks.{dark_behind}
 use Rattle.abel_lexer.proofs.Longest.{fits, longest_token, longest_longest, token_some}
 use Rattle.abel_lexer.proofs.Munches.{prefix_passes}

@@ -1,10 +1,11 @@
+pub mod Blanks
 pub mod Booleans
+pub mod Common
+pub mod FirstBytes
+pub mod Found
+pub mod Longest
 pub mod Munches
 pub mod Quotes
-pub mod Blanks
-pub mod Longest
-pub mod FirstBytes
-pub mod Values
 pub mod RadixForms
 pub mod Scanned
-pub mod Found
+pub mod Values

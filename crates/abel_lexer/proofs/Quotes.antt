@@ -1,13 +1,8 @@
 -- The length of a text in quotes at the front is that of the only one there.
 use Rattle.std.proofs.Common.{◌≡◌, ℕ, ◌+◌, ◌≤◌, ◌<◌, inl, inr, Bool, false, not, List, [], ◌∷◌, ◌++◌, length, take, refl, sym, ap, subst, ◌∙◌, arith, append_assoc, length-append}
 use Rattle.std.specs.Prelude.{◌==◌, ◌&&◌, ◌||◌}
-use Rattle.std.specs.List.{AllByRecursion, concat}
-use Rattle.std.proofs.lemmas.List.{take_at}
+use Rattle.abel_lexer.proofs.Common.{AllByRecursion, concat, take_at, eqb-true, quote, backslash, IsPiece, IsQuoted, quote_end, quoted_len}
 use Rattle.std.proofs.lemmas.List.Elements.{All-from_recursion, recursion_from_All}
-use Rattle.std.proofs.lemmas.Bool.{eqb-true}
-use Rattle.abel_lexer.specs.Bytes.{quote, backslash}
-use Rattle.abel_lexer.specs.Kinds.{IsPiece, IsQuoted}
-use Rattle.abel_lexer.specs.Lengths.{quote_end, quoted_len}
 use Rattle.abel_lexer.proofs.Munches.{Munches}
 use Rattle.abel_lexer.proofs.Booleans.{bool_cases, neither}
 

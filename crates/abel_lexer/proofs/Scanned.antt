@@ -2,19 +2,9 @@
 -- first fault.
 use Rattle.std.proofs.Common.{◌≡◌, ℕ, ◌+◌, ◌-◌, ◌≤◌, ◌<◌, ◌⊎◌, inl, inr, Bool, true, false, List, [], ◌∷◌, ◌++◌, length, take, drop, Option, None, Some, refl, sym, ap, subst, ◌∙◌, arith, length-append}
 use Rattle.std.specs.Prelude.{◌==◌, codes}
-use Rattle.std.specs.Str.{str_eq_ignore_ascii_case, str_to_ascii_lowercase}
-use Rattle.std.proofs.lemmas.List.{take_at, drop_at}
-use Rattle.pld_base.specs.declared.place.Place.{Place}
-use Rattle.abel_lexer.specs.declared.token.Token.{Token}
-use Rattle.abel_lexer.specs.declared.token.TokenKind.{TokenKind}
+use Rattle.abel_lexer.proofs.Common.{str_eq_ignore_ascii_case, str_to_ascii_lowercase, take_at, drop_at, Place, Token, TokenKind, ScanFault, is_blank, starts, is_listed, IsToken, directives, value_of, fault_of, radix_at, Remainder, Lexeme, Shown, Radix, place_past, IsRadixForm, IsLongest, IsFront, Passes, Leads, Faults, tokens_among}
 use Rattle.abel_lexer.specs.declared.token.TokenKind.TheVariants as kind
-use Rattle.abel_lexer.specs.declared.fault.ScanFault.{ScanFault}
 use Rattle.abel_lexer.specs.declared.fault.ScanFault.TheVariants as fault
-use Rattle.abel_lexer.specs.Bytes.{is_blank, starts}
-use Rattle.abel_lexer.specs.Keywords.{is_listed}
-use Rattle.abel_lexer.specs.Kinds.{IsToken, directives, value_of, fault_of}
-use Rattle.abel_lexer.specs.Lengths.{radix_at}
-use Rattle.abel_lexer.specs.Scans.{Remainder, Lexeme, Shown, Radix, place_past, IsRadixForm, IsLongest, IsFront, Passes, Leads, Faults, tokens_among}
 use Rattle.abel_lexer.proofs.Booleans.{or_cases}
 use Rattle.abel_lexer.proofs.Blanks.{gap_of, behind_gap, gap_is}
 use Rattle.abel_lexer.proofs.FirstBytes.{one_kind, at_directive, at_begins}

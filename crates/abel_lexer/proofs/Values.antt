@@ -1,12 +1,8 @@
 -- Digits are good where each is one of the radix and the value stays small.
 use Rattle.std.proofs.Common.{◌≡◌, ℕ, zero, suc, ◌+◌, ◌*◌, ◌^◌, ◌<◌, ◌≤◌, ◌⊎◌, inl, inr, Bool, true, false, List, [], ◌∷◌, length, drop, drop-cons, get_or, refl, sym, ap, subst, ◌∙◌, arith}
 use Rattle.std.specs.Prelude.{◌&&◌, nat_lt}
-use Rattle.std.specs.List.{list_all}
-use Rattle.std.specs.Char.{digit_value, is_digit}
-use Rattle.std.specs.Str.Parse.{digits_value, digits_value_after}
+use Rattle.abel_lexer.proofs.Common.{list_all, digit_value, is_digit, digits_value, digits_value_after, ltb-true, ltb-false, are_good_digits}
 use Rattle.std.proofs.Math.Nat.{le-mul_of_pos_right}
-use Rattle.std.proofs.lemmas.Bool.{ltb-true, ltb-false}
-use Rattle.abel_lexer.specs.Numbers.{are_good_digits}
 use Rattle.abel_lexer.proofs.Booleans.{bool_cases, and_both}
 
 -- a value is no less with more digits behind it

@@ -1,6 +1,6 @@
 -- None of the words before this one stands at the front.
 use Rattle.std.proofs.Common.{◌≡◌, map, drop}
-use Rattle.abel_lexer.specs.Lengths.{listed_len}
+use Rattle.abel_lexer.proofs.Common.{listed_len}
 use Rattle.abel_lexer.proofs.length.listed_len.Given as goal
 
 abbrev pub invariant-loop-word : goal.invariant-loop-word

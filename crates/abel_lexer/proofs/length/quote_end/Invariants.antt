@@ -1,6 +1,6 @@
 -- The end is looked for behind the bytes read so far.
 use Rattle.std.proofs.Common.{◌≡◌, ◌+◌, false, drop}
-use Rattle.abel_lexer.specs.Lengths.{quote_end}
+use Rattle.abel_lexer.proofs.Common.{quote_end}
 use Rattle.abel_lexer.proofs.length.quote_end.Given as goal
 
 abbrev pub invariant-loop-byte : goal.invariant-loop-byte

@@ -1,8 +1,6 @@
 -- The digits read so far, with those that follow, are all of them.
 use Rattle.std.proofs.Common.{◌≡◌, ◌<◌, ◌^◌, drop}
-use Rattle.std.specs.List.{list_all}
-use Rattle.std.specs.Char.{is_digit}
-use Rattle.std.specs.Str.Parse.{digits_value, digits_value_after}
+use Rattle.abel_lexer.proofs.Common.{list_all, is_digit, digits_value, digits_value_after}
 use Rattle.abel_lexer.proofs.number.digits_value.Given as goal
 
 abbrev pub invariant-loop-byte : goal.invariant-loop-byte

@@ -1,6 +1,6 @@
 -- The place behind the bytes read so far leads to the place behind all.
 use Rattle.std.proofs.Common.{◌≡◌, ◌≤◌, ◌+◌, drop}
-use Rattle.abel_lexer.specs.Scans.{place_past}
+use Rattle.abel_lexer.proofs.Common.{place_past}
 use Rattle.abel_lexer.proofs.scanning.place_past.Given as goal
 
 abbrev pub invariant-loop-byte : goal.invariant-loop-byte

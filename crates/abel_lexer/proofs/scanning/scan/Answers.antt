@@ -1,11 +1,6 @@
 -- The scanner's ends and its turns, by what its calls found.
 use Rattle.std.proofs.Common.{rules, ◌≡◌, ◌+◌, ◌-◌, ◌⊎◌, length, length-append, take, drop, sym, ap, ◌∙◌, arith}
-use Rattle.std.proofs.lemmas.Bool.{eqb-true}
-use Rattle.std.proofs.lemmas.List.{length-take}
-use Rattle.abel_lexer.specs.declared.fault.ScanFault.{ScanFault}
-use Rattle.abel_lexer.specs.declared.fault.ScanFault.TheVariants.{OutOfMemory}
-use Rattle.abel_lexer.specs.Remainders.{IsFaultAt}
-use Rattle.abel_lexer.specs.Scans.{place_past, IsFirstFault, IsOnlyFault, IsTokensOf}
+use Rattle.abel_lexer.proofs.Common.{eqb-true, length-take, ScanFault, OutOfMemory, IsFaultAt, place_past, IsFirstFault, IsOnlyFault, IsTokensOf}
 use Rattle.abel_lexer.proofs.Found.{all_found, only_tokens, radix_shorter, radix_found, token_found, stops, stops_alone}
 use Rattle.abel_lexer.proofs.scanning.scan.Goals as goal
 

@@ -1,9 +1,6 @@
 -- What is found at the front is what stands there.
 use Rattle.std.proofs.Common.{rules, ◌≡◌, ◌⊎◌, Some, refl}
-use Rattle.abel_lexer.specs.declared.fault.ScanFault.{ScanFault}
-use Rattle.abel_lexer.specs.declared.fault.ScanFault.TheVariants.{OutOfMemory}
-use Rattle.abel_lexer.specs.Kinds.{fault_of}
-use Rattle.abel_lexer.specs.Remainders.{IsFaultAt}
+use Rattle.abel_lexer.proofs.Common.{ScanFault, OutOfMemory, fault_of, IsFaultAt}
 use Rattle.abel_lexer.proofs.Found.{nothing_found, fault_found, token_sound, not_zero}
 use Rattle.abel_lexer.proofs.scanning.token_at.Goals as goal
 
