@@ -1,15 +1,7 @@
 -- Texts in pieces against bytes, and the result of a call that was kept.
 use Rattle.std.proofs.Common.{◌≡◌, ◌+◌, ◌<◌, ◌≤◌, ℕ, zero, suc, List, [], ◌∷◌, ◌++◌, length, take, drop, get_or, refl, sym, ap, ◌∙◌, subst, arith, add-one, append-nil, append_assoc}
 use Rattle.std.specs.Prelude.{Option, true, bytes_eq}
-use Rattle.std.proofs.lemmas.Slice.Eq.{bytes_eq-Decides}
-use Rattle.std.specs.Global.{Vec}
-use Rattle.std.proofs.Math.Seq.{take-suc}
-use Rattle.std.proofs.lemmas.List.{map_more, take-append-drop}
-use Rattle.text_pieces.specs.Stacks.{joined}
-use Rattle.text_pieces.proofs.Pieces.{joined-push}
-use Rattle.abel_macros.specs.Pieces.{names, texts}
-use Rattle.abel_macros.specs.Rules.{Macro}
-use Rattle.abel_macros.specs.Kept.{IsResult}
+use Rattle.abel_macros.proofs.Common.{bytes_eq-Decides, Vec, take-suc, map_more, take-append-drop, joined, joined-push, names, texts, Macro, IsResult}
 use Rattle.abel_macros.proofs.Lists.{names_push}
 
 pub all_taken : {A : Type 0} (ws : List A) (i : ℕ) → length ws ≤ i → take i ws ≡ ws

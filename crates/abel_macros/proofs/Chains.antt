@@ -1,9 +1,6 @@
 -- Operators of one priority, one after another.
 use Rattle.std.proofs.Common.{◌≡◌, ℕ, suc, ◌-◌, ◌<◌, List, Option, None, Some, refl, sym, ap, ◌∙◌, arith}
-use Rattle.abel_macros.specs.declared.operator.Operator.{Operator}
-use Rattle.abel_macros.specs.declared.operator.Priority.{Priority}
-use Rattle.abel_macros.specs.Gaps.{◌>>=◌, sign, gap, behind_sign}
-use Rattle.abel_macros.specs.Values.{Read, applied, operator_of, chain_on}
+use Rattle.abel_macros.proofs.Common.{Operator, Priority, ◌>>=◌, sign, gap, behind_sign, Read, applied, operator_of, chain_on}
 
 module _ (p : Priority) (item : List ℕ → Read) (more value : ℕ) (text : List ℕ) (r : Read) (read : chain_on p item more value text ≡ r) where
   pub chain_out : more ≡ 0 → r ≡ Some (value, text)

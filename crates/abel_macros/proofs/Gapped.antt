@@ -1,8 +1,7 @@
 -- A gap, from a place in it that stands in the plain text.
 use Rattle.std.proofs.Common.{◌≡◌, ℕ, true, List, ◌∷◌, refl, ◌∙◌}
-use Rattle.text_pieces.specs.declared.mode.Mode.{Mode}
+use Rattle.abel_macros.proofs.Common.{Mode, is_plain, ends_gap, gap_in, gap}
 use Rattle.text_pieces.specs.declared.mode.Mode.TheVariants as mode
-use Rattle.abel_macros.specs.Gaps.{is_plain, ends_gap, gap_in, gap}
 
 same_gap : (m : Mode) (w : List ℕ) → is_plain m ≡ true → gap w ≡ gap_in m w
 same_gap mode.Plain w h = refl

@@ -1,6 +1,6 @@
 -- How long a text in pieces is.
 use Rattle.std.proofs.Common.{◌≡◌, ◌+◌, ◌-◌, ◌<◌, ◌≤◌, ℕ, List, length, take, get_or, ap, arith, length-append}
-use Rattle.text_pieces.specs.Stacks.{joined}
+use Rattle.abel_macros.proofs.Common.{joined}
 use Rattle.abel_macros.proofs.Calls.{taken_more, all_taken}
 
 pub length_next : (ps : List (List ℕ)) (i : ℕ) (d : List ℕ) (left most : ℕ) → i < length ps → length (get_or ps i d) ≤ left → length (joined (take i ps)) + left ≡ most

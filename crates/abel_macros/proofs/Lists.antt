@@ -1,13 +1,8 @@
 -- Arguments and parameters, one after another.
 use Rattle.std.proofs.Common.{◌≡◌, ℕ, suc, ◌-◌, ◌<◌, Bool, true, false, List, [], ◌∷◌, ◌++◌, Option, None, Some, refl, sym, ap, ◌∙◌, arith, append_assoc}
 use Rattle.std.specs.Prelude.{if◌then◌else◌}
-use Rattle.std.specs.Global.{Vec}
-use Rattle.std.proofs.lemmas.List.{map-append}
-use Rattle.text_pieces.specs.Stacks.{joined}
+use Rattle.abel_macros.proofs.Common.{Vec, map-append, joined, ◌>>=◌, given, starts_byte, rest_of, gap, name, argument, arguments_in, parameters_in, texts, names}
 use Rattle.abel_lexer.proofs.RadixForms.{unwrapped}
-use Rattle.abel_macros.specs.Gaps.{◌>>=◌, given, starts_byte, rest_of, gap, name}
-use Rattle.abel_macros.specs.Forms.{argument, arguments_in, parameters_in}
-use Rattle.abel_macros.specs.Pieces.{texts, names}
 use Rattle.abel_macros.proofs.Behind.{behind_all}
 
 abbrev Found : Type 0

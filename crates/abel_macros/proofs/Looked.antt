@@ -1,17 +1,10 @@
 -- Look-ups in the tables, and one name more.
 use Rattle.std.proofs.Common.{◌≡◌, ℕ, Bool, true, false, List, [], ◌∷◌, Option, None, Some, refl, sym, ap, ◌∙◌, inl, inr, if◌then◌else◌}
-use Rattle.std.specs.Global.{Vec}
+use Rattle.abel_macros.proofs.Common.{Vec, bytes_eq, option_copied, bytes_eq-Decides, bool_cases, same_bytes, with_name, under, by_bytes}
 use Rattle.std.specs.Map.{lookup}
-use Rattle.std.specs.Str.{bytes_eq}
 use Rattle.std.specs.Borrow.{Bor}
 use Rattle.std.specs.Prelude.{IfSome, IfNone}
-use Rattle.std.specs.Option.{option_copied}
-use Rattle.std.proofs.lemmas.Slice.Eq.{bytes_eq-Decides}
 use Rattle.indexmap.specs.IndexMap.{insert_entry}
-use Rattle.abel_lexer.proofs.Booleans.{bool_cases}
-use Rattle.abel_lexer.proofs.Munches.{same_bytes}
-use Rattle.abel_macros.specs.Rules.{with_name}
-use Rattle.abel_macros.specs.Kept.{under, by_bytes}
 
 pub looked_up : {X : Type 0} (es : List (Vec ℕ × X)) (w : List ℕ) → lookup (λ k. bytes_eq w k.items) es ≡ under (by_bytes es) w
 looked_up [] w = refl

@@ -2,9 +2,7 @@
 -- first number is 0 before the bytes of an expanded text, 3 before the line and column of a BadDirective
 -- and 4 before those of an Unsupported.
 use Rattle.std.proofs.Common.{◌≡◌, [], ◌∷◌, refl}
-use Rattle.abel_lexer.specs.Lengths.{longest_at, longest_word, known_radix}
-use Rattle.abel_macros.specs.Words.{directive_of, further_directive, plain_directive}
-use Rattle.abel_macros.specs.Turns.{start}
+use Rattle.abel_macros.proofs.Common.{longest_at, longest_word, known_radix, directive_of, further_directive, plain_directive, start}
 use Rattle.abel_macros.proofs.Told.{outcome, told}
 
 -- a"note"b

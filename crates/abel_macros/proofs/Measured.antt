@@ -1,21 +1,12 @@
 -- The length of a token that is no name, string or directive, from the lengths of its kinds.
 use Rattle.std.proofs.Common.{◌≡◌, ◌≤◌, ℕ, suc, ◌+◌, inl, inr, Bool, true, false, ltb, List, [], ◌∷◌, length, take, drop, None, Some, refl, sym, ap, ◌∙◌, arith}
 use Rattle.std.specs.Prelude.{◌==◌, codes, nat_lt, if◌then◌else◌}
-use Rattle.std.specs.Char.{is_ascii_alphabetic, is_ascii_digit}
-use Rattle.std.specs.Str.{str_eq_ignore_ascii_case}
-use Rattle.std.proofs.lemmas.Bool.{ltb-true, ltb-false}
+use Rattle.abel_macros.proofs.Common.{is_ascii_alphabetic, is_ascii_digit, str_eq_ignore_ascii_case, ltb-true, ltb-false, dot, is_letter, is_name_later, starts, shaped_len, larger, longer, number_len, special_len, quoted_len, listed_len, directive_len, word_at, longest_word, longest_at, bool_cases, or_cases, at_begins, none_passes, listed_munches, starts_byte, word, behind_some, given, token_len}
 use Rattle.abel_lexer.specs.declared.token.TokenKind.{TokenKind}
 use Rattle.abel_lexer.specs.declared.token.TokenKind.TheVariants as kind
-use Rattle.abel_lexer.specs.Bytes.{dot, is_letter, is_name_later, starts}
 use Rattle.abel_lexer.specs.Keywords.{is_listed}
 use Rattle.abel_lexer.specs.Signs.{signs}
 use Rattle.abel_lexer.specs.Kinds.{no_byte, word_head, extension_head, letter_special, voltage_special, directives}
-use Rattle.abel_lexer.specs.Lengths.{shaped_len, larger, longer, number_len, special_len, quoted_len, listed_len, directive_len, word_at, longest_word, longest_at}
-use Rattle.abel_lexer.proofs.Booleans.{bool_cases, or_cases}
-use Rattle.abel_lexer.proofs.FirstBytes.{at_begins}
-use Rattle.abel_lexer.proofs.Munches.{none_passes, listed_munches}
-use Rattle.abel_macros.specs.Gaps.{starts_byte, word, behind_some, given}
-use Rattle.abel_macros.specs.Rules.{token_len}
 
 -- ---- specials
 

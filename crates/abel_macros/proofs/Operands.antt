@@ -1,12 +1,8 @@
 -- An operand, by what it begins with.
 use Rattle.std.proofs.Common.{◌≡◌, ℕ, zero, suc, ◌-◌, ◌<◌, Bool, true, false, List, Option, None, Some, refl, sym, ap, ◌∙◌, arith}
 use Rattle.std.specs.Prelude.{codes, option_map}
-use Rattle.std.specs.Str.{bytes_eq}
-use Rattle.abel_macros.specs.declared.operator.Prefix.{Prefix}
+use Rattle.abel_macros.proofs.Common.{bytes_eq, Prefix, given, sign, gap, behind_sign, past_sign, prefix_of, past_prefix, begun, closed, primary, operand, prefixed}
 use Rattle.abel_macros.specs.declared.operator.Prefix.TheVariants as prefix
-use Rattle.abel_macros.specs.Gaps.{given, sign, gap, behind_sign}
-use Rattle.abel_macros.specs.Rules.{past_sign}
-use Rattle.abel_macros.specs.Values.{prefix_of, past_prefix, begun, closed, primary, operand, prefixed}
 
 pub sign_taken : (p : Prefix) (text at : List ℕ) → (p ≡ prefix.Plain → ⊥) → at ≡ behind_sign text → at ≡ past_prefix p text
 sign_taken prefix.Plain text at f e = absurd (f refl)

@@ -1,17 +1,10 @@
 -- Stretches of plain text in which nothing ends, by what is counted in them.
 use Rattle.std.proofs.Common.{◌≡◌, ℕ, zero, suc, ◌+◌, ◌-◌, ◌<◌, ◌≤◌, inl, inr, Bool, true, false, List, [], ◌∷◌, ◌++◌, Option, Some, length, take, drop, get_or, refl, sym, ap, ◌∙◌, arith, length-take}
 use Rattle.std.specs.Prelude.{◌==◌, ◌&&◌, ◌||◌, if◌then◌else◌}
-use Rattle.std.specs.List.{count_by}
+use Rattle.abel_macros.proofs.Common.{count_by, take-append-drop, drop-drop, take-add, eqb-true, bool_cases, Mode, is_plain, passing, quoting, nested, closes_block, closing, ends_argument, argument_end}
 use Rattle.std.proofs.lemmas.List.Sums.{sum_by-cons, sum_by-append, count_by_more_yes, count_by_more_no, count_by-le-length}
-use Rattle.std.proofs.lemmas.List.{take-append-drop, drop-drop}
-use Rattle.std.proofs.Math.Seq.{take-add}
-use Rattle.std.proofs.lemmas.Bool.{eqb-true}
 use mir.Val.{bool_byte}
-use Rattle.abel_lexer.proofs.Booleans.{bool_cases}
-use Rattle.text_pieces.specs.declared.mode.Mode.{Mode}
 use Rattle.text_pieces.specs.declared.mode.Mode.TheVariants as mode
-use Rattle.abel_macros.specs.Gaps.{is_plain, passing, quoting}
-use Rattle.abel_macros.specs.Forms.{nested, closes_block, closing, ends_argument, argument_end}
 
 abbrev pub count : ℕ → List ℕ → ℕ
 count k w = count_by (λ b. b == k) w

@@ -1,8 +1,6 @@
 -- What a text has defined, and what a turn does.
 use Rattle.std.specs.Prelude.{ℕ, Bool, ◌==◌, ◌||◌, List, [], ◌∷◌, Option, Some, None, if◌then◌else◌}
-use Rattle.std.specs.Option.{is_some}
-use Rattle.std.specs.Str.{bytes_eq}
-use Rattle.abel_lexer.specs.Bytes.{line_feed}
+use Rattle.abel_macros.specs.Prelude.{is_some, bytes_eq, line_feed}
 
 -- ---- what a text has defined
 

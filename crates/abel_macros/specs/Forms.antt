@@ -1,11 +1,7 @@
 -- Blocks, arguments, and what stands for a parameter (ABEL-HDL Reference Manual, macros, and the
 -- @IRP directive; how braces, strings and comments are passed is this project's rule).
 use Rattle.std.specs.Prelude.{ℕ, zero, suc, true, false, ◌==◌, List, [], ◌∷◌, ◌++◌, length, take, drop, Option, Some, None, if◌then◌else◌}
-use Rattle.std.specs.List.{list_all, prefix_len}
-use Rattle.std.specs.Str.{bytes_eq}
-use Rattle.abel_lexer.specs.Bytes.{is_blank, is_name_later}
-use Rattle.abel_lexer.specs.Kinds.{word_head}
-use Rattle.abel_lexer.specs.Lengths.{shaped_len}
+use Rattle.abel_macros.specs.Prelude.{list_all, prefix_len, bytes_eq, is_blank, is_name_later, word_head, shaped_len}
 use Rattle.text_pieces.specs.declared.mode.Mode.TheVariants as mode
 use Rattle.abel_macros.specs.Gaps.{◌>>=◌, given, starts_byte, rest_of, before, gap, name}
 pub use Rattle.text_pieces.specs.Brackets.{nested, braces, closes_block, closing, open_in, ends_argument, argument_end}

@@ -1,12 +1,7 @@
 -- What stands at the front of a text, and what stands behind it (ABEL-HDL Reference Manual, comments,
 -- identifiers and numbers).
 use Rattle.std.specs.Prelude.{ℕ, ◌-◌, Bool, true, false, not, ◌==◌, ◌&&◌, ◌||◌, nat_lt, List, [], ◌∷◌, length, take, drop, Option, Some, None, if◌then◌else◌}
-use Rattle.std.specs.Option.{option_and_then}
-use Rattle.abel_lexer.specs.Bytes.{line_feed, note_mark, quote, slash, is_blank, is_name_later}
-use Rattle.abel_lexer.specs.Kinds.{word_head}
-use Rattle.abel_lexer.specs.Lengths.{shaped_len, number_len, quoted_len, listed_len}
-use Rattle.abel_lexer.specs.Signs.{signs}
-use Rattle.text_pieces.specs.declared.mode.Mode.{Mode}
+use Rattle.abel_macros.specs.Prelude.{option_and_then, line_feed, note_mark, quote, slash, is_blank, is_name_later, word_head, shaped_len, number_len, quoted_len, listed_len, signs, Mode}
 use Rattle.text_pieces.specs.declared.mode.Mode.TheVariants as mode
 pub use Rattle.text_pieces.specs.Modes.{starts_byte, is_plain, quoting, passing}
 

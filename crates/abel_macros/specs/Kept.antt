@@ -1,7 +1,6 @@
 -- The tables as the code keeps them: lists of names with what they stand for.
 use Rattle.std.specs.Prelude.{◌≡◌, ℕ, List, [], ◌∷◌, Option, None, Some, map, if◌then◌else◌}
-use Rattle.std.specs.Str.{bytes_eq}
-use Rattle.std.specs.Global.{Vec}
+use Rattle.abel_macros.specs.Prelude.{bytes_eq, Vec}
 use Rattle.abel_macros.specs.Forms.{replaced, standing_for}
 use Rattle.abel_macros.specs.Rules.{Macro, Tables}
 

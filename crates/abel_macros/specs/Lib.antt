@@ -1,10 +1,11 @@
-pub mod Gaps
-pub mod Forms
-pub mod Pieces
-pub mod Values
 pub mod Defined
-pub mod Words
+pub mod Forms
+pub mod Gaps
+pub mod Kept
+pub mod Pieces
+pub mod Prelude
 pub mod Readings
 pub mod Rules
-pub mod Kept
 pub mod Turns
+pub mod Values
+pub mod Words

@@ -1,7 +1,6 @@
 -- Texts that stand in pieces, and names, as the code keeps them.
 use Rattle.std.specs.Prelude.{ℕ, List, map}
-use Rattle.std.specs.Global.{Vec}
-use Rattle.text_pieces.specs.Stacks.{joined}
+use Rattle.abel_macros.specs.Prelude.{Vec, joined}
 
 -- the texts that stand in these pieces
 abbrev pub texts : List (Vec (List ℕ)) → List (List ℕ)

@@ -1,11 +1,7 @@
 -- The forms of definitions and directives, behind their words (ABEL-HDL Reference Manual, macros and
 -- directives; what is broken is this project's rule).
 use Rattle.std.specs.Prelude.{ℕ, Bool, ◌==◌, List, [], ◌∷◌, ◌++◌, length, map, Option, Some, None, codes, if◌then◌else◌}
-use Rattle.std.specs.List.{concat}
-use Rattle.std.specs.Str.{bytes_eq, str_eq_ignore_ascii_case}
-use Rattle.abel_lexer.specs.Bytes.{line_feed}
-use Rattle.abel_lexer.specs.Lengths.{known_radix}
-use Rattle.text_pieces.specs.declared.mode.Mode.{Mode}
+use Rattle.abel_macros.specs.Prelude.{concat, bytes_eq, str_eq_ignore_ascii_case, line_feed, known_radix, Mode}
 use Rattle.text_pieces.specs.declared.mode.Mode.TheVariants as mode
 use Rattle.abel_macros.specs.Gaps.{◌>>=◌, given, starts_byte, rest_of, before, passing, gap, name, number, sign, behind_sign}
 use Rattle.abel_macros.specs.Forms.{block, arguments, parameters_in, standing_for, replaced}

@@ -1,9 +1,7 @@
 -- The rules of expansion: what a turn makes of the front of a text (ABEL-HDL Reference Manual, comments,
 -- macros and directives; what is refused is this project's rule).
 use Rattle.std.specs.Prelude.{ℕ, true, false, ◌==◌, List, [], length, take, drop, replicate, Option, Some, None, codes, if◌then◌else◌}
-use Rattle.std.specs.List.{concat}
-use Rattle.abel_lexer.specs.Bytes.{quote}
-use Rattle.abel_lexer.specs.Lengths.{larger, longest_at}
+use Rattle.abel_macros.specs.Prelude.{concat, quote, larger, longest_at}
 use Rattle.abel_macros.specs.declared.directive.Directive.{Directive}
 use Rattle.abel_macros.specs.declared.directive.Directive.TheVariants as directive
 use Rattle.text_pieces.specs.declared.mode.Mode.TheVariants as mode

@@ -1,7 +1,7 @@
 -- The expressions of directives: numbers of 32 bits, and names that have a value (ABEL-HDL Reference
 -- Manual, operators and directives; a relation gives 1 or 0, by this project's rule).
 use Rattle.std.specs.Prelude.{ℕ, zero, suc, ◌+◌, ◌-◌, ◌*◌, ◌/◌, ◌%◌, ◌^◌, Bool, true, false, not, ◌==◌, nat_lt, nat_le, bit_and, bit_or, bit_xor, List, [], ◌∷◌, ◌++◌, length, slice_index, Option, Some, None, codes, if◌then◌else◌}
-use Rattle.std.specs.Str.{bytes_eq}
+use Rattle.abel_macros.specs.Prelude.{bytes_eq}
 use Rattle.abel_lexer.specs.Numbers.{number_value, is_good_number}
 use Rattle.abel_macros.specs.declared.operator.Operator.{Operator}
 use Rattle.abel_macros.specs.declared.operator.Operator.TheVariants as operator

@@ -1,10 +1,7 @@
 -- The words of directives (ABEL-HDL Reference Manual, directives; which are left out is this project's
 -- rule).
 use Rattle.std.specs.Prelude.{ℕ, Bool, ◌||◌, List, [], ◌∷◌, codes, drop, if◌then◌else◌}
-use Rattle.std.specs.List.{prefix_len}
-use Rattle.std.specs.Str.{str_eq_ignore_ascii_case}
-use Rattle.abel_lexer.specs.Bytes.{is_name_later}
-use Rattle.abel_lexer.specs.Keywords.{is_listed}
+use Rattle.abel_macros.specs.Prelude.{prefix_len, str_eq_ignore_ascii_case, is_name_later, is_listed}
 use Rattle.abel_macros.specs.declared.directive.Directive.{Directive}
 use Rattle.abel_macros.specs.declared.directive.Directive.TheVariants as directive
 use Rattle.abel_macros.specs.Gaps.{rest_of}

@@ -1,7 +1,7 @@
 //! Blocks ahead.
 
 ghost use Rattle.std.specs.Prelude.{◌≡◌, ◌+◌, ◌<◌, ◌≤◌, ◌^◌, length, IfOk, true, false, Some, None, IfSome, IfNone};
-ghost use Rattle.text_pieces.specs.Stacks.{ahead, joined};
+ghost use Rattle.abel_macros.specs.Prelude.{ahead, joined};
 ghost use Rattle.abel_macros.specs.Forms as spec;
 ghost use Rattle.text_pieces.specs.declared.mode.Mode.TheVariants as mode;
 

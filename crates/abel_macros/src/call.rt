@@ -1,7 +1,7 @@
 //! Calls of macros with parameters, and the one that is kept with its result.
 
 ghost use Rattle.std.specs.Prelude.{◌≡◌, true, IfOk};
-ghost use Rattle.text_pieces.specs.Stacks.{joined};
+ghost use Rattle.abel_macros.specs.Prelude.{joined};
 ghost use Rattle.abel_macros.specs.Pieces.{names, texts};
 
 use std::alloc::{AllocError, Global};

@@ -1,7 +1,7 @@
 //! Definitions of macros ahead, behind their names.
 
 ghost use Rattle.std.specs.Prelude.{◌≡◌, ◌≤◌, option_map, true, false, Some, None, IfOk, IfSome, IfNone};
-ghost use Rattle.text_pieces.specs.Stacks.{ahead};
+ghost use Rattle.abel_macros.specs.Prelude.{ahead};
 ghost use Rattle.abel_macros.specs.Pieces.{names};
 ghost use Rattle.abel_macros.specs.Rules as spec;
 ghost use Rattle.abel_macros.specs.Forms as forms;

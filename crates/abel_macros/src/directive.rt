@@ -1,10 +1,8 @@
 //! The words of directives.
 
 ghost use Rattle.std.specs.Prelude.{◌≡◌};
-ghost use Rattle.std.specs.List.{list_any};
-ghost use Rattle.std.specs.Str.{str_eq_ignore_ascii_case};
+ghost use Rattle.abel_macros.specs.Prelude.{list_any, str_eq_ignore_ascii_case, is_listed};
 ghost use Rattle.abel_macros.specs.Rules as spec;
-ghost use Rattle.abel_lexer.specs.Keywords.{is_listed};
 
 /// A directive.
 #[derive(Clone, Copy)]

@@ -1,7 +1,7 @@
 //! Comments and blanks ahead: each function passes what stands there.
 
 ghost use Rattle.std.specs.Prelude.{◌≡◌, ℕ, ◌<◌, ◌≤◌, List, ◌∷◌, length, true, false, Some, None};
-ghost use Rattle.text_pieces.specs.Stacks.{ahead};
+ghost use Rattle.abel_macros.specs.Prelude.{ahead};
 ghost use Rattle.abel_macros.specs.Gaps as spec;
 
 use abel_lexer::is_blank;

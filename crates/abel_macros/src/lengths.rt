@@ -1,12 +1,8 @@
 //! How long the names, numbers and extensions ahead are.
 
 ghost use Rattle.std.specs.Prelude.{◌≡◌, ◌≤◌, length};
-ghost use Rattle.std.specs.List.{prefix_len};
+ghost use Rattle.abel_macros.specs.Prelude.{prefix_len, ahead, is_name_later, word_head, number_head, marked_head, extension_head, shaped_len, number_len, larger};
 ghost use Rattle.std.specs.Char.{is_ascii_alphanumeric};
-ghost use Rattle.text_pieces.specs.Stacks.{ahead};
-ghost use Rattle.abel_lexer.specs.Bytes.{is_name_later};
-ghost use Rattle.abel_lexer.specs.Kinds.{word_head, number_head, marked_head, extension_head};
-ghost use Rattle.abel_lexer.specs.Lengths.{shaped_len, number_len, larger};
 
 use crate::gaps::skip_byte;
 use abel_lexer::{begins_marked, is_name_first, is_name_later};

@@ -1,7 +1,7 @@
 //! The forms of directives, behind their words.
 
 ghost use Rattle.std.specs.Prelude.{◌≡◌, ◌<◌, ◌≤◌, ◌^◌, length, Some, None, IfOk, IfSome, IfNone};
-ghost use Rattle.text_pieces.specs.Stacks.{ahead, joined};
+ghost use Rattle.abel_macros.specs.Prelude.{ahead, joined};
 ghost use Rattle.abel_macros.specs.Kept.{tables_of};
 ghost use Rattle.abel_macros.specs.Pieces.{texts};
 ghost use Rattle.abel_macros.specs.Rules as spec;

@@ -1,8 +1,7 @@
 //! Stretches of text, passed whole where no block and no argument ends in them, or a byte isn't there.
 
 ghost use Rattle.std.specs.Prelude.{◌≡◌, ℕ, ◌+◌, ◌-◌, ◌<◌, ◌≤◌, ◌^◌, ◌==◌, length, take, drop, true, IfSome};
-ghost use Rattle.std.specs.List.{count_by};
-ghost use Rattle.text_pieces.specs.Stacks.{ahead};
+ghost use Rattle.abel_macros.specs.Prelude.{count_by, ahead};
 ghost use Rattle.abel_macros.specs.Forms as spec;
 ghost use Rattle.text_pieces.specs.declared.mode.Mode.TheVariants as mode;
 

@@ -1,7 +1,7 @@
 //! What a text has defined so far.
 
 ghost use Rattle.std.specs.Prelude.{◌≡◌, ◌<◌, ◌≤◌, ◌^◌, length, Some, None, IfOk, IfSome, IfNone, OnOk, option_map};
-ghost use Rattle.text_pieces.specs.Stacks.{joined};
+ghost use Rattle.abel_macros.specs.Prelude.{joined};
 ghost use Rattle.abel_macros.specs.Pieces.{names, texts};
 ghost use Rattle.abel_macros.specs.Turns.{nothing_defined};
 ghost use Rattle.abel_macros.specs.Kept.{tables_of, IsResult};

@@ -1,9 +1,8 @@
 //! What stands behind `@EXPR` and `@RADIX`.
 
 ghost use Rattle.std.specs.Prelude.{◌≡◌, ◌≤◌, ◌++◌, Some, None, IfOk, IfSome, IfNone};
-ghost use Rattle.text_pieces.specs.Stacks.{ahead, joined};
+ghost use Rattle.abel_macros.specs.Prelude.{ahead, joined, known_radix};
 ghost use Rattle.abel_macros.specs.Kept.{tables_of};
-ghost use Rattle.abel_lexer.specs.Lengths.{known_radix};
 ghost use Rattle.abel_macros.specs.Values.{digits_in};
 ghost use Rattle.abel_macros.specs.Rules as spec;
 

@@ -1,10 +1,7 @@
 //! How long the other tokens ahead are.
 
 ghost use Rattle.std.specs.Prelude.{◌≡◌, ◌<◌, ◌≤◌, length, false, None};
-ghost use Rattle.text_pieces.specs.Stacks.{ahead};
-ghost use Rattle.abel_lexer.specs.Kinds.{no_byte, letter_special, voltage_special};
-ghost use Rattle.abel_lexer.specs.Lengths.{shaped_len, quoted_len, special_len, listed_len};
-ghost use Rattle.abel_lexer.specs.Signs.{signs};
+ghost use Rattle.abel_macros.specs.Prelude.{ahead, no_byte, letter_special, voltage_special, shaped_len, quoted_len, special_len, listed_len, signs};
 ghost use Rattle.abel_macros.specs.Gaps as spec;
 ghost use Rattle.abel_macros.specs.Rules as rules;
 

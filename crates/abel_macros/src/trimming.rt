@@ -1,9 +1,7 @@
 //! Bytes ahead without the blanks at their ends.
 
 ghost use Rattle.std.specs.Prelude.{◌≡◌, ◌≤◌, length, take, IfOk, OnOk};
-ghost use Rattle.std.specs.List.{prefix_len};
-ghost use Rattle.text_pieces.specs.Stacks.{ahead, joined};
-ghost use Rattle.abel_lexer.specs.Bytes.{is_blank};
+ghost use Rattle.abel_macros.specs.Prelude.{prefix_len, ahead, joined, is_blank};
 ghost use Rattle.abel_macros.specs.Forms as spec;
 
 use abel_lexer::is_blank;

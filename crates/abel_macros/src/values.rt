@@ -1,7 +1,7 @@
 //! The expressions of directives: items with operators between them, read by priority.
 
 ghost use Rattle.std.specs.Prelude.{◌≡◌, ◌+◌, ◌*◌, ◌<◌, ◌≤◌, length, Some, None, IfOk, OnOk, IfSome, IfNone};
-ghost use Rattle.text_pieces.specs.Stacks.{ahead};
+ghost use Rattle.abel_macros.specs.Prelude.{ahead};
 ghost use Rattle.abel_macros.specs.Gaps as gaps;
 ghost use Rattle.abel_macros.specs.Values as spec;
 ghost use Rattle.abel_macros.specs.declared.operator.Prefix.TheVariants as prefix;

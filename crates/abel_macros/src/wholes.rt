@@ -1,7 +1,7 @@
 //! Texts in pieces, made one piece.
 
 ghost use Rattle.std.specs.Prelude.{◌≡◌, ◌<◌, ◌≤◌, ◌^◌, length, IfOk, IfSome};
-ghost use Rattle.text_pieces.specs.Stacks.{joined};
+ghost use Rattle.abel_macros.specs.Prelude.{joined};
 
 use std::alloc::{AllocError, Global};
 use text_pieces::Piece;

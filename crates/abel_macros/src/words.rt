@@ -1,7 +1,7 @@
 //! Names, numbers and signs ahead, read.
 
 ghost use Rattle.std.specs.Prelude.{◌≡◌, ◌+◌, ◌<◌, ◌≤◌, length, take, drop, OnOk, IfOk, true, false, Some, None, IfSome, IfNone};
-ghost use Rattle.text_pieces.specs.Stacks.{ahead};
+ghost use Rattle.abel_macros.specs.Prelude.{ahead};
 ghost use Rattle.abel_macros.specs.Gaps as spec;
 ghost use Rattle.abel_macros.specs.Rules as rules;
 

@@ -1,8 +1,6 @@
 -- The last argument, and one before others.
 use Rattle.std.proofs.Common.{rules, ◌≡◌, Some, sym, ap, ◌∙◌, arith}
-use Rattle.text_pieces.specs.Stacks.{ahead, joined}
-use Rattle.abel_macros.specs.Forms.{argument, arguments_in}
-use Rattle.abel_macros.specs.Pieces.{texts}
+use Rattle.abel_macros.proofs.Common.{ahead, joined, argument, arguments_in, texts}
 use Rattle.abel_macros.proofs.Lists.{argument_last, argument_next, texts_push}
 use Rattle.abel_macros.proofs.arguments.read_arguments_in.Goals as goal
 

@@ -1,6 +1,6 @@
 -- The arguments so far have their bytes.
 use Rattle.std.proofs.Common.{◌≡◌, ◌-◌, length, take}
-use Rattle.abel_macros.specs.Pieces.{names, texts}
+use Rattle.abel_macros.proofs.Common.{names, texts}
 use Rattle.abel_macros.proofs.call.are_texts.Given as goal
 
 abbrev pub invariant-arguments : goal.invariant-arguments

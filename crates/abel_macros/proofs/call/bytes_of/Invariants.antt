@@ -1,6 +1,6 @@
 -- The bytes so far are those of the pieces so far.
 use Rattle.std.proofs.Common.{◌≡◌, take}
-use Rattle.text_pieces.specs.Stacks.{joined}
+use Rattle.abel_macros.proofs.Common.{joined}
 use Rattle.abel_macros.proofs.call.bytes_of.Given as goal
 
 abbrev pub invariant-loop-piece : goal.invariant-loop-piece

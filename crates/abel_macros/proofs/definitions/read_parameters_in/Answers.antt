@@ -1,9 +1,6 @@
 -- The last parameter, and one before others.
 use Rattle.std.proofs.Common.{rules, ◌≡◌, ℕ, List, Some, false, ap, subst, ◌∙◌, arith}
-use Rattle.text_pieces.specs.Stacks.{ahead}
-use Rattle.abel_macros.specs.Forms.{parameters_in}
-use Rattle.abel_macros.specs.Gaps.{starts_byte, rest_of, given, gap, name}
-use Rattle.abel_macros.specs.Pieces.{names}
+use Rattle.abel_macros.proofs.Common.{ahead, parameters_in, starts_byte, rest_of, given, gap, name, names}
 use Rattle.abel_macros.proofs.Lists.{parameter_last, parameter_broken, parameter_next, names_push}
 use Rattle.abel_macros.proofs.definitions.read_parameters_in.Goals as goal
 

@@ -1,8 +1,7 @@
 -- What was read so far stands before what follows.
 use Rattle.std.proofs.Common.{◌≡◌, ◌≤◌}
-use Rattle.text_pieces.specs.Stacks.{ahead}
+use Rattle.abel_macros.proofs.Common.{ahead, names}
 use Rattle.abel_macros.specs.Forms as forms
-use Rattle.abel_macros.specs.Pieces.{names}
 use Rattle.abel_macros.proofs.Behind.{behind_all}
 use Rattle.abel_macros.proofs.definitions.read_parameters_in.Given as goal
 

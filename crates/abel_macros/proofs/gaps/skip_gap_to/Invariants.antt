@@ -1,6 +1,6 @@
 -- What is ahead leads to where all leads.
 use Rattle.std.proofs.Common.{◌≡◌, ◌≤◌, length}
-use Rattle.text_pieces.specs.Stacks.{ahead}
+use Rattle.abel_macros.proofs.Common.{ahead}
 use Rattle.abel_macros.specs.Gaps as gaps
 use Rattle.abel_macros.proofs.gaps.skip_gap_to.Given as goal
 

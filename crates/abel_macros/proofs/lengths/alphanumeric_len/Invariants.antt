@@ -1,8 +1,6 @@
 -- What is ahead leads to where all leads.
 use Rattle.std.proofs.Common.{◌≡◌, ◌≤◌, ◌<◌, ◌+◌, ◌^◌, length}
-use Rattle.std.specs.List.{prefix_len}
-use Rattle.std.specs.Char.{is_ascii_alphanumeric}
-use Rattle.text_pieces.specs.Stacks.{ahead}
+use Rattle.abel_macros.proofs.Common.{prefix_len, is_ascii_alphanumeric, ahead}
 use Rattle.abel_macros.proofs.lengths.alphanumeric_len.Given as goal
 
 abbrev pub invariant-bytes : goal.invariant-bytes

@@ -1,7 +1,7 @@
 -- The sum is that of the bytes so far.
 use Rattle.std.proofs.Common.{◌≡◌, take}
 use Rattle.std.specs.Prelude.{◌==◌}
-use Rattle.std.specs.List.{count_by}
+use Rattle.abel_macros.proofs.Common.{count_by}
 use Rattle.abel_macros.proofs.stretches.count.Given as goal
 
 abbrev pub invariant-loop-next : goal.invariant-loop-next

@@ -1,6 +1,6 @@
 -- A stretch is passed.
 use Rattle.std.proofs.Common.{length, refl, ap, ◌∙◌, arith, length-drop}
-use Rattle.text_pieces.specs.Stacks.{ahead}
+use Rattle.abel_macros.proofs.Common.{ahead}
 use Rattle.abel_macros.proofs.Passed.{block_goes_on}
 use Rattle.abel_macros.proofs.stretches.skip_braced.Goals as goal
 

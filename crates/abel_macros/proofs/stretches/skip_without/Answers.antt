@@ -1,6 +1,6 @@
 -- A stretch more has none.
 use Rattle.std.proofs.Common.{length, ap, ◌∙◌, arith, length-drop}
-use Rattle.text_pieces.specs.Stacks.{ahead}
+use Rattle.abel_macros.proofs.Common.{ahead}
 use Rattle.abel_macros.proofs.Passed.{none_more, beyond}
 use Rattle.abel_macros.proofs.stretches.skip_without.Goals as goal
 

@@ -1,8 +1,7 @@
 -- What was passed hasn't the byte.
 use Rattle.std.proofs.Common.{◌≡◌, ◌<◌, ◌+◌, ◌^◌, length, take, drop}
 use Rattle.std.specs.Prelude.{◌==◌}
-use Rattle.std.specs.List.{count_by}
-use Rattle.text_pieces.specs.Stacks.{ahead}
+use Rattle.abel_macros.proofs.Common.{count_by, ahead}
 use Rattle.abel_macros.proofs.stretches.skip_without.Given as goal
 
 abbrev pub invariant-stretches : goal.invariant-stretches

@@ -1,6 +1,6 @@
 -- The front of the piece is the front of the text.
 use Rattle.std.proofs.Common.{arith}
-use Rattle.text_pieces.specs.Stacks.{ahead}
+use Rattle.abel_macros.proofs.Common.{ahead}
 use Rattle.abel_macros.proofs.Passed.{front_begins}
 use Rattle.abel_macros.proofs.stretches.stretch_ahead.Goals as goal
 

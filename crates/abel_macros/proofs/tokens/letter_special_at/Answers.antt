@@ -1,6 +1,6 @@
 -- The bytes read are the first ones ahead.
 use Rattle.std.proofs.Common.{sym, ap, ◌∙◌}
-use Rattle.text_pieces.specs.Stacks.{ahead}
+use Rattle.abel_macros.proofs.Common.{ahead}
 use Rattle.abel_macros.proofs.Measured.{letter_seen}
 use Rattle.abel_macros.proofs.tokens.letter_special_at.Goals as goal
 

@@ -1,7 +1,6 @@
 -- What is ahead leads to where all leads.
 use Rattle.std.proofs.Common.{◌≡◌, ◌≤◌, ◌<◌, ◌+◌, ◌^◌, length}
-use Rattle.text_pieces.specs.Stacks.{ahead}
-use Rattle.abel_lexer.specs.Lengths.{quote_end, quoted_len}
+use Rattle.abel_macros.proofs.Common.{ahead, quote_end, quoted_len}
 use Rattle.abel_macros.proofs.tokens.quoted_rest.Given as goal
 
 abbrev pub invariant-bytes : goal.invariant-bytes

@@ -1,6 +1,6 @@
 -- The bytes read are the first ones ahead.
 use Rattle.std.proofs.Common.{◌≤◌, ◌∙◌, ℕ, length, sym, ap, subst}
-use Rattle.text_pieces.specs.Stacks.{ahead}
+use Rattle.abel_macros.proofs.Common.{ahead}
 use Rattle.abel_macros.proofs.Measured.{sign_fits, one_seen, two_seen, three_seen}
 use Rattle.abel_macros.proofs.tokens.sign_at.Goals as goal
 

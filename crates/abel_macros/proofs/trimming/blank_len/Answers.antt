@@ -1,8 +1,6 @@
 -- One blank more.
 use Rattle.std.proofs.Common.{rules, ◌≡◌, ◌+◌, ◌-◌, ℕ, true, ◌∷◌, length, take, refl, ap, ◌∙◌, arith}
-use Rattle.std.specs.List.{prefix_len}
-use Rattle.text_pieces.specs.Stacks.{ahead}
-use Rattle.abel_lexer.specs.Bytes.{is_blank}
+use Rattle.abel_macros.proofs.Common.{prefix_len, ahead, is_blank}
 use Rattle.abel_macros.proofs.Trims.{take_some}
 use Rattle.abel_macros.proofs.trimming.blank_len.Goals as goal
 

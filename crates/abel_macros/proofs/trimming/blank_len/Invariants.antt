@@ -1,8 +1,6 @@
 -- What is ahead leads to where all leads.
 use Rattle.std.proofs.Common.{◌≡◌, ◌≤◌, ◌+◌, ◌-◌, length, take}
-use Rattle.std.specs.List.{prefix_len}
-use Rattle.text_pieces.specs.Stacks.{ahead}
-use Rattle.abel_lexer.specs.Bytes.{is_blank}
+use Rattle.abel_macros.proofs.Common.{prefix_len, ahead, is_blank}
 use Rattle.abel_macros.proofs.trimming.blank_len.Given as goal
 
 abbrev pub invariant-bytes : goal.invariant-bytes

@@ -1,6 +1,6 @@
 -- A piece of blanks is left out; of another one its front is kept.
 use Rattle.std.proofs.Common.{◌≡◌, ◌≤◌, ℕ, List, length, take, subst, arith}
-use Rattle.abel_macros.specs.Forms.{trimmed_end}
+use Rattle.abel_macros.proofs.Common.{trimmed_end}
 use Rattle.abel_macros.proofs.Trims.{piece_gone, piece_kept}
 use Rattle.abel_macros.proofs.trimming.trim_end.Goals as goal
 

@@ -1,6 +1,6 @@
 -- The pieces that are left are the same without blanks at their end.
 use Rattle.std.proofs.Common.{◌≡◌, length}
-use Rattle.text_pieces.specs.Stacks.{joined}
+use Rattle.abel_macros.proofs.Common.{joined}
 use Rattle.abel_macros.specs.Forms as forms
 use Rattle.abel_macros.proofs.trimming.trim_end.Given as goal
 

@@ -1,11 +1,6 @@
 -- The turns and the ends of a chain, and an operand by what it begins with.
 use Rattle.std.proofs.Common.{◌≡◌, ℕ, List, Option, None, Some, IfOk, IfSome, IfNone, sym, ap, subst, ◌∙◌, arith}
-use Rattle.text_pieces.specs.Stacks.{Look, ahead}
-use Rattle.abel_macros.specs.declared.operator.Operator.{Operator}
-use Rattle.abel_macros.specs.declared.operator.Prefix.{Prefix}
-use Rattle.abel_macros.specs.Gaps.{sign, gap, behind_sign}
-use Rattle.abel_macros.specs.Kept.{under}
-use Rattle.abel_macros.specs.Values.{Read, applied, operator_of, item, level, operand, past_prefix}
+use Rattle.abel_macros.proofs.Common.{Look, ahead, Operator, Prefix, sign, gap, behind_sign, under, Read, applied, operator_of, item, level, operand, past_prefix}
 use Rattle.abel_macros.proofs.Chains.{chain_ends, chain_broken, chain_undefined, chain_goes_on}
 use Rattle.abel_macros.proofs.Operands.{operand_plain, operand_nested}
 use Rattle.abel_macros.proofs.values.+expression.Goals as goal

@@ -1,10 +1,7 @@
 -- Each call reads what stands nearer to the operands, or is nested deeper.
 use Rattle.std.proofs.Common.{◌≡◌, ◌≤◌, ◌+◌, ◌*◌, ℕ}
-use Rattle.abel_macros.specs.declared.operator.Priority.{Priority}
+use Rattle.abel_macros.proofs.Common.{Priority, ahead, tables_of, item, level, chain_on, operand}
 use Rattle.abel_macros.specs.declared.operator.Priority.TheVariants as priority
-use Rattle.text_pieces.specs.Stacks.{ahead}
-use Rattle.abel_macros.specs.Kept.{tables_of}
-use Rattle.abel_macros.specs.Values.{item, level, chain_on, operand}
 use Rattle.abel_macros.proofs.values.+expression.Given as goal
 
 abbrev rank : Priority → ℕ

@@ -1,6 +1,6 @@
 -- The value stands before what stands behind the parenthesis.
 use Rattle.std.proofs.Common.{None, Some}
-use Rattle.text_pieces.specs.Stacks.{ahead}
+use Rattle.abel_macros.proofs.Common.{ahead}
 use Rattle.abel_macros.proofs.Operands.{closed_by}
 use Rattle.abel_macros.proofs.values.closed.Goals as goal
 

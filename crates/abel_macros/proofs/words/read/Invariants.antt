@@ -1,6 +1,6 @@
 -- What is ahead leads to where all leads.
 use Rattle.std.proofs.Common.{◌≡◌, ◌≤◌, ◌+◌, ◌++◌, length, take, drop}
-use Rattle.text_pieces.specs.Stacks.{ahead}
+use Rattle.abel_macros.proofs.Common.{ahead}
 use Rattle.abel_macros.proofs.words.read.Given as goal
 
 abbrev pub invariant-bytes : goal.invariant-bytes

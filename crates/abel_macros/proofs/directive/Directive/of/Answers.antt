@@ -1,7 +1,7 @@
 -- A word that is none of the first four is a further one.
 use Rattle.std.proofs.Common.{rules, ◌≡◌, false}
 use Rattle.std.specs.Prelude.{codes}
-use Rattle.abel_macros.specs.Words.{is_word, directive_of}
+use Rattle.abel_macros.proofs.Common.{is_word, directive_of}
 use Rattle.abel_macros.proofs.directive.Directive.of.Goals as goal
 
 pub returns-else-eq_ignore_ascii_case-4 : goal.returns-else-eq_ignore_ascii_case-4

@@ -1,7 +1,6 @@
 -- One name more.
 use Rattle.std.proofs.Common.{◌≡◌, ap, ◌∙◌, ℕ, List, Option}
-use Rattle.abel_macros.specs.Kept.{Kept, under, by_bytes}
-use Rattle.abel_macros.specs.Rules.{Tables, with_name}
+use Rattle.abel_macros.proofs.Common.{Kept, under, by_bytes, Tables, with_name}
 use Rattle.abel_macros.proofs.Looked.{inserted_table}
 use Rattle.abel_macros.proofs.tables.Tables.keep.Goals as goal
 

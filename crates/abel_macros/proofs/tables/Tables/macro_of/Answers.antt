@@ -1,6 +1,6 @@
 -- The entry of the name is what the tables say.
 use Rattle.std.proofs.Common.{ap, ◌∙◌}
-use Rattle.abel_macros.specs.Kept.{Kept, under}
+use Rattle.abel_macros.proofs.Common.{Kept, under}
 use Rattle.abel_macros.proofs.Looked.{looked_up, copied_some, copied_none}
 use Rattle.abel_macros.proofs.tables.Tables.macro_of.Goals as goal
 

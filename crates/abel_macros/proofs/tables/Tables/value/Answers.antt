@@ -1,7 +1,6 @@
 -- The entry of the name is what the tables say.
 use Rattle.std.proofs.Common.{sym, ap, ◌∙◌}
-use Rattle.std.specs.Option.{option_copied}
-use Rattle.abel_macros.specs.Kept.{Kept, under}
+use Rattle.abel_macros.proofs.Common.{option_copied, Kept, under}
 use Rattle.abel_macros.proofs.Looked.{looked_up}
 use Rattle.abel_macros.proofs.tables.Tables.value.Goals as goal
 
