@@ -1,12 +1,7 @@
 -- The first of what is refused of sections and of vectors.
 use Rattle.std.proofs.Common.{◌≡◌, ◌≢◌, Some, List, [], ◌++◌, refl, sym, ap, ap₂, ◌∙◌, subst, append-nil}
-use Rattle.abel_tree.specs.FirstRefusal.{earlier, first_refusal}
-use Rattle.abel_tree.proofs.FirstRefusals.{first_append}
-use Rattle.set_expr.specs.declared.fault.SectionFault.{SectionFault}
+use Rattle.abel_vectors.proofs.Common.{earlier, first_refusal, first_append, SectionFault, section_order, IsTold, told_of}
 use Rattle.set_expr.specs.declared.fault.SectionFault.TheVariants as fault
-use Rattle.set_expr.specs.SectionOrder.{section_order}
-use Rattle.source_sections.specs.SectionAnswers.{IsTold}
-use Rattle.source_sections.proofs.SectionsAnswered.{told_of}
 
 -- what is told of other than want of memory is the first refusal
 pub told_first : (rs : List SectionFault) (f : SectionFault) → f ≢ fault.OutOfMemory → IsTold rs f → first_refusal section_order rs ≡ Some f

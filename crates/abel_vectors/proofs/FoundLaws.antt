@@ -1,17 +1,8 @@
 -- More that is found, behind what was found before.
 use Rattle.std.proofs.Common.{◌≡◌, ℕ, true, ◌||◌, Option, None, Some, List, [], ◌∷◌, ◌++◌, Result, Ok, Err, refl, sym, ap, ap₂, ◌∙◌, subst, append_assoc, append-nil}
 use Rattle.std.specs.Prelude.{is_some}
+use Rattle.abel_vectors.proofs.Common.{Table, all_chars, first_refusal, earlier, earlier_assoc, earlier_none, first_append, none_refused, left_empty, right_empty, SectionFault, section_order, Found, fault_in, Finds, IsFound, IsReadAs, NothingFound, if_none}
 use Rattle.std.proofs.lemmas.Bool.{true≢false}
-use Rattle.pld_device.specs.Table.{Table}
-use Rattle.jedec_file.specs.TestVectors.{all_chars}
-use Rattle.abel_tree.specs.FirstRefusal.{first_refusal, earlier}
-use Rattle.abel_tree.proofs.FirstRefusals.{earlier_assoc, earlier_none, first_append, none_refused}
-use Rattle.set_expr.proofs.SummedUp.{left_empty, right_empty}
-use Rattle.set_expr.specs.declared.fault.SectionFault.{SectionFault}
-use Rattle.set_expr.specs.SectionOrder.{section_order}
-use Rattle.abel_vectors.specs.declared.finding.Found.{Found}
-use Rattle.abel_vectors.specs.FoundVectors.{fault_in, Finds, IsFound, IsReadAs, NothingFound}
-use Rattle.abel_vectors.specs.VectorRefusals.{if_none}
 
 -- of two lists there is no first refusal only where both are empty
 parts_clear : (rs qs : List SectionFault) → first_refusal section_order (rs ++ qs) ≡ None → (rs ≡ []) × (qs ≡ [])

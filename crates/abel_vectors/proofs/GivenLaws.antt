@@ -1,14 +1,7 @@
 -- The characters of the positions of a side, one more, and the first of each pin.
 use Rattle.std.proofs.Common.{◌≡◌, ℕ, zero, suc, ◌+◌, ◌==◌, ◌<◌, ◌≤◌, min, Bool, true, false, ◌||◌, if◌then◌else◌, Option, None, Some, List, [], ◌∷◌, ◌++◌, length, map, get_or, drop, refl, sym, ap, ap₂, ◌∙◌, arith}
-use Rattle.std.proofs.lemmas.List.{at_drop_more, drop_all}
-use Rattle.abel_tree.specs.Entries.{Entry, Kind, APin, ANode, AConstant, ADeviceName}
-use Rattle.abel_meaning.specs.Designs.{Context, name_at}
-use Rattle.abel_meaning.specs.Rows.{Mark}
-use Rattle.abel_meaning.specs.Vectors.{input_char, output_char, given_to, first_char, char_given}
+use Rattle.abel_vectors.proofs.Common.{at_drop_more, drop_all, Entry, Kind, APin, ANode, AConstant, ADeviceName, Context, name_at, Mark, input_char, output_char, given_to, first_char, char_given, view_mark, found_at, all_given, char_if, char_for, chars_for, pin_of, position_gives, position_pulses, tests_pulse}
 use Rattle.truth_tables.specs.declared.mark.Mark as code
-use Rattle.truth_tables.specs.EntryMarks.{view_mark}
-use Rattle.abel_vectors.specs.GivenChars.{found_at}
-use Rattle.abel_vectors.specs.VectorRefusals.{all_given, char_if, char_for, chars_for, pin_of, position_gives, position_pulses, tests_pulse}
 
 -- ---- one position more
 

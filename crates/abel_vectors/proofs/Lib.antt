@@ -1,4 +1,5 @@
 pub mod AllAnswers
+pub mod Common
 pub mod FoundLaws
 pub mod GivenLaws
 pub mod PinLaws

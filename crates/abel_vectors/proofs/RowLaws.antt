@@ -1,26 +1,7 @@
 -- A row by its entries and their marks, and rows.
 use Rattle.std.proofs.Common.{◌≡◌, ℕ, suc, Bool, if◌then◌else◌, Option, None, Some, List, [], ◌∷◌, ◌++◌, map, refl, sym, ap, ap₂, ◌∙◌, subst, subst₂, append-nil}
-use Rattle.std.specs.List.{range_with_len}
-use Rattle.std.proofs.lemmas.List.{map-append}
-use Rattle.pld_base.specs.declared.point.Vector.{Vector}
-use Rattle.jedec_file.specs.TestVectors.{all_chars, chars_of}
-use Rattle.abel_tree.specs.FirstRefusal.{first_refusal, earlier}
-use Rattle.abel_tree.specs.Tree.{RowTree}
-use Rattle.abel_meaning.specs.Designs.{Context}
-use Rattle.abel_meaning.specs.Rows.{Mark, marks_of}
-use Rattle.abel_meaning.specs.Targets.{targets_of}
-use Rattle.abel_meaning.specs.Terms.{Term, term_of}
-use Rattle.abel_meaning.specs.Vectors.{char_or_plain, row_chars}
-use Rattle.set_expr.specs.declared.fault.SectionFault.{SectionFault}
-use Rattle.set_expr.specs.declared.fault.SectionFault.TheVariants.{BadVector}
-use Rattle.set_expr.specs.SectionOrder.{section_order}
-use Rattle.truth_tables.specs.RowEntries.{entry_refused}
-use Rattle.abel_vectors.specs.declared.finding.Found.{Found}
+use Rattle.abel_vectors.proofs.Common.{range_with_len, map-append, Vector, all_chars, chars_of, first_refusal, earlier, RowTree, Context, Mark, marks_of, targets_of, Term, term_of, char_or_plain, row_chars, SectionFault, BadVector, section_order, entry_refused, Found, Finds, found_at, AddsVector, FindsRow, FindsRows, IsRowVector, NamesPins, header_term, all_given, entries_refused, marks_refused, one_too_many, row_refused, rows_refused}
 use Rattle.abel_vectors.specs.declared.rows.Header.{Header}
-use Rattle.abel_vectors.specs.FoundVectors.{Finds}
-use Rattle.abel_vectors.specs.GivenChars.{found_at}
-use Rattle.abel_vectors.specs.ReadRows.{AddsVector, FindsRow, FindsRows, IsRowVector, NamesPins, header_term}
-use Rattle.abel_vectors.specs.VectorRefusals.{all_given, entries_refused, marks_refused, one_too_many, row_refused, rows_refused}
 use Rattle.abel_vectors.proofs.FoundLaws.{finds_behind, finds_refusals, finds_refused, finds_then}
 use Rattle.abel_vectors.proofs.GivenLaws.{all_found}
 

@@ -1,30 +1,11 @@
 -- A section by its header and its rows, sections one behind another, and how many vectors they have.
 use Rattle.std.proofs.Common.{◌≡◌, ℕ, suc, ◌+◌, ◌-◌, ◌<◌, ◌≤◌, nat_lt, Bool, true, false, if◌then◌else◌, List, [], ◌∷◌, ◌++◌, length, map, Result, Ok, Err, IfOk, refl, sym, ap, ◌∙◌, subst, length-append, arith}
 use Rattle.std.specs.Prelude.{All}
+use Rattle.abel_vectors.proofs.Common.{length-map, Place, Vector, Table, IsTestVector, all_chars, chars_of, Section, RowTree, SectionTree, Declarations, Equations, ATable, ADiagram, SomeVectors, DontCareSection, view, view_section, view_vector_row, Context, Term, term_of, row_chars, section_vectors, sections_vectors, left_empty, right_empty, SectionFault, BadVector, Found, Finds, FindsSection, view_vectors, refused_behind, IsAnswer, header_refused, if_none, one_too_many, row_refused, rows_refused, vectors_refused}
 use Rattle.std.specs.Global.{Vec}
 use Rattle.std.proofs.lemmas.Bool.Decides.{nat_tests}
-use Rattle.std.proofs.lemmas.List.{length-map}
-use Rattle.pld_base.specs.declared.place.Place.{Place}
-use Rattle.pld_base.specs.declared.point.Vector.{Vector}
-use Rattle.pld_device.specs.Table.{Table}
-use Rattle.jedec_file.specs.TestVectors.{IsTestVector, all_chars, chars_of}
-use Rattle.abel_tree.specs.declared.sections.Section.{Section}
 use Rattle.abel_tree.specs.declared.sections.Section.TheVariants as section
 use Rattle.abel_tree.specs.declared.tables.Vectors.{Vectors}
-use Rattle.abel_tree.specs.Tree.{RowTree, SectionTree, Declarations, Equations, ATable, ADiagram, SomeVectors, DontCareSection}
-use Rattle.abel_tree.specs.View.{view, view_section, view_vector_row}
-use Rattle.abel_meaning.specs.Designs.{Context}
-use Rattle.abel_meaning.specs.Terms.{Term, term_of}
-use Rattle.abel_meaning.specs.Vectors.{row_chars, section_vectors, sections_vectors}
-use Rattle.set_expr.proofs.SummedUp.{left_empty, right_empty}
-use Rattle.set_expr.specs.declared.fault.SectionFault.{SectionFault}
-use Rattle.set_expr.specs.declared.fault.SectionFault.TheVariants.{BadVector}
-use Rattle.abel_vectors.specs.declared.finding.Found.{Found}
-use Rattle.abel_vectors.specs.FoundVectors.{Finds, FindsSection}
-use Rattle.abel_vectors.specs.ReadRows.{view_vectors}
-use Rattle.abel_vectors.specs.SourceVectors.{refused_behind}
-use Rattle.abel_vectors.specs.VectorAnswers.{IsAnswer}
-use Rattle.abel_vectors.specs.VectorRefusals.{header_refused, if_none, one_too_many, row_refused, rows_refused, vectors_refused}
 use Rattle.abel_vectors.proofs.FoundLaws.{finds_none, finds_then}
 use Rattle.abel_vectors.proofs.TestChars.{AllTest, all_test}
 

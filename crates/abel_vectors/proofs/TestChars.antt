@@ -1,20 +1,10 @@
 -- The characters of vectors are those that a fuse file may have.
 use Rattle.std.proofs.Common.{◌≡◌, ℕ, ◌==◌, Bool, true, false, ◌&&◌, ◌||◌, if◌then◌else◌, Option, None, Some, List, [], ◌∷◌, map, refl, sym, ap₂, subst}
 use Rattle.std.specs.Prelude.{All}
-use Rattle.std.specs.List.{list_all, range_with_len}
+use Rattle.abel_vectors.proofs.Common.{list_all, range_with_len, Vector, Table, IsTestVector, all_chars, Kind, APin, ANode, AConstant, ADeviceName, RowTree, SectionTree, Declarations, Equations, ATable, ADiagram, SomeVectors, DontCareSection, Context, name_at, Mark, Level, Unknown, Pulsed, Released, marks_of, targets_of, Term, term_of, char_by, input_char, output_char, given_to, first_char, char_given, char_or_plain, pin_char, row_chars, section_vectors, sections_vectors}
 use Rattle.std.proofs.lemmas.List.Elements.{All-append, All-nil, All-cons, All-head, All-tail}
-use Rattle.pld_base.specs.declared.point.Vector.{Vector}
 use Rattle.pld_device.specs.Macrocells.{complement_if}
-use Rattle.pld_device.specs.Table.{Table}
 use Rattle.jedec_file.specs.Fields.{is_test_char}
-use Rattle.jedec_file.specs.TestVectors.{IsTestVector, all_chars}
-use Rattle.abel_tree.specs.Entries.{Kind, APin, ANode, AConstant, ADeviceName}
-use Rattle.abel_tree.specs.Tree.{RowTree, SectionTree, Declarations, Equations, ATable, ADiagram, SomeVectors, DontCareSection}
-use Rattle.abel_meaning.specs.Designs.{Context, name_at}
-use Rattle.abel_meaning.specs.Rows.{Mark, Level, Unknown, Pulsed, Released, marks_of}
-use Rattle.abel_meaning.specs.Targets.{targets_of}
-use Rattle.abel_meaning.specs.Terms.{Term, term_of}
-use Rattle.abel_meaning.specs.Vectors.{char_by, input_char, output_char, given_to, first_char, char_given, char_or_plain, pin_char, row_chars, section_vectors, sections_vectors}
 
 -- a character that may be there is one of these
 abbrev IsTestIf : Option ℕ → Type 0

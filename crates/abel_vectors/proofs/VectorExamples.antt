@@ -1,18 +1,12 @@
 -- What is refused of test vectors, by computation. a is pin 1, b is !pin 2, e pin 3, n a node, k is .C., z is .Z.
+use Rattle.abel_vectors.proofs.Common.{Place, Kind, APin, ANode, AConstant, Entry, Tree, ANumber, ASpecial, AName, ASet, AParen, SetMember, OneMember, members_of, RowTree, SomeVectors, Context, context_of, SectionFault, MisplacedSpecial, BadVector, vectors_refused}
 use Prim.Native.String.{String}
 use Rattle.std.specs.Prelude.{◌≡◌, ℕ, true, false, None, Some, List, [], ◌∷◌, codes}
 use Rattle.std.proofs.Common.{refl}
-use Rattle.pld_base.specs.declared.place.Place.{Place}
 use Rattle.pld_device.specs.SampleTable.{sample}
 use Rattle.abel_tree.specs.declared.words.Extension.TheVariants as extension
 use Rattle.abel_tree.specs.declared.words.Word.{Word}
-use Rattle.abel_tree.specs.Entries.{Kind, APin, ANode, AConstant, Entry}
-use Rattle.abel_tree.specs.Tree.{Tree, ANumber, ASpecial, AName, ASet, AParen, SetMember, OneMember, members_of, RowTree, SomeVectors}
 use Rattle.abel_meaning.specs.Declarations.{no_words}
-use Rattle.abel_meaning.specs.Designs.{Context, context_of}
-use Rattle.set_expr.specs.declared.fault.SectionFault.{SectionFault}
-use Rattle.set_expr.specs.declared.fault.SectionFault.TheVariants.{MisplacedSpecial, BadVector}
-use Rattle.abel_vectors.specs.VectorRefusals.{vectors_refused}
 
 abbrev at : ℕ → Place
 at l = record { line = l; column = 1 }

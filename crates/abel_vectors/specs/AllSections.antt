@@ -1,9 +1,7 @@
 -- What all sections of a source say, and when which answer comes (ABEL-HDL Reference Manual, sections of a module; the
 -- first refusal by place is this project's rule).
 use Rattle.std.specs.Prelude.{List, ◌++◌, Result, Ok, Err}
-use Rattle.abel_meaning.specs.Designs.{Design}
-use Rattle.set_expr.specs.declared.fault.SectionFault.{SectionFault}
-use Rattle.source_sections.specs.SectionAnswers.{AreContributed, IsTold, sections_refused}
+use Rattle.abel_vectors.specs.Prelude.{Design, SectionFault, AreContributed, IsTold, sections_refused}
 use Rattle.abel_vectors.specs.declared.joining.SourceSections.{SourceSections}
 use Rattle.abel_vectors.specs.SourceVectors.{AreVectors, all_vectors_refused}
 

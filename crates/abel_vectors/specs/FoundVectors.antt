@@ -1,13 +1,6 @@
 -- Private: what is found of vectors, row after row and section after section (this project's rule).
 use Rattle.std.specs.Prelude.{◌≡◌, ℕ, ◌+◌, ◌-◌, Option, None, Some, List, [], ◌++◌, length, Result, Ok, Err}
-use Rattle.pld_device.specs.Table.{Table}
-use Rattle.jedec_file.specs.TestVectors.{all_chars}
-use Rattle.abel_tree.specs.FirstRefusal.{first_refusal, earlier}
-use Rattle.abel_tree.specs.Tree.{SectionTree}
-use Rattle.abel_meaning.specs.Designs.{Context}
-use Rattle.abel_meaning.specs.Vectors.{section_vectors}
-use Rattle.set_expr.specs.declared.fault.SectionFault.{SectionFault}
-use Rattle.set_expr.specs.SectionOrder.{section_order}
+use Rattle.abel_vectors.specs.Prelude.{Table, all_chars, first_refusal, earlier, SectionTree, Context, section_vectors, SectionFault, section_order}
 use Rattle.abel_vectors.specs.declared.finding.Found.{Found}
 use Rattle.abel_vectors.specs.VectorRefusals.{vectors_refused}
 

@@ -1,7 +1,6 @@
 -- Private: the characters that the positions of a row give to pins, each with its pin.
 use Rattle.std.specs.Prelude.{ℕ, ◌==◌, Bool, if◌then◌else◌, Option, None, Some, List, [], ◌∷◌}
-use Rattle.abel_meaning.specs.Rows.{Mark}
-use Rattle.abel_meaning.specs.Vectors.{input_char, output_char}
+use Rattle.abel_vectors.specs.Prelude.{Mark, input_char, output_char}
 use Rattle.abel_vectors.specs.declared.chars.Role.{Role}
 use Rattle.abel_vectors.specs.declared.chars.Role.TheVariants as role
 

@@ -1,22 +1,8 @@
 -- Private: what is found of rows and of a header.
 use Rattle.std.specs.Prelude.{◌≡◌, ℕ, true, false, Option, None, Some, List, [], ◌∷◌, ◌++◌, map}
-use Rattle.std.specs.List.{range_with_len}
-use Rattle.pld_base.specs.declared.place.Place.{Place}
-use Rattle.pld_base.specs.declared.point.Vector.{Vector}
-use Rattle.jedec_file.specs.TestVectors.{chars_of}
+use Rattle.abel_vectors.specs.Prelude.{range_with_len, Place, Vector, chars_of, earlier, RowTree, SectionTree, SomeVectors, view, view_vector_row, Context, Mark, targets_of, Term, term_of, char_or_plain, row_chars, SectionFault, BadVector, section_order}
 use Rattle.abel_tree.specs.declared.expressions.Expr.{Expr}
 use Rattle.abel_tree.specs.declared.tables.Vectors.{Vectors}
-use Rattle.abel_tree.specs.FirstRefusal.{earlier}
-use Rattle.abel_tree.specs.Tree.{RowTree, SectionTree, SomeVectors}
-use Rattle.abel_tree.specs.View.{view, view_vector_row}
-use Rattle.abel_meaning.specs.Designs.{Context}
-use Rattle.abel_meaning.specs.Rows.{Mark}
-use Rattle.abel_meaning.specs.Targets.{targets_of}
-use Rattle.abel_meaning.specs.Terms.{Term, term_of}
-use Rattle.abel_meaning.specs.Vectors.{char_or_plain, row_chars}
-use Rattle.set_expr.specs.declared.fault.SectionFault.{SectionFault}
-use Rattle.set_expr.specs.declared.fault.SectionFault.TheVariants.{BadVector}
-use Rattle.set_expr.specs.SectionOrder.{section_order}
 use Rattle.abel_vectors.specs.declared.finding.Found.{Found}
 use Rattle.abel_vectors.specs.declared.rows.Header.{Header}
 use Rattle.abel_vectors.specs.FoundVectors.{Finds}

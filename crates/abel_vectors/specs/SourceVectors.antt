@@ -1,12 +1,7 @@
 -- The test vectors of a source, and what is refused of them (ABEL-HDL Reference Manual, test vectors; one limit for all
 -- vectors of a source is this project's rule).
 use Rattle.std.specs.Prelude.{ℕ, ◌+◌, List, [], ◌∷◌, ◌++◌, length, Result}
-use Rattle.std.specs.Global.{Vec}
-use Rattle.pld_base.specs.declared.point.Vector.{Vector}
-use Rattle.abel_tree.specs.Tree.{SectionTree}
-use Rattle.abel_meaning.specs.Designs.{Context, Design}
-use Rattle.abel_meaning.specs.Vectors.{design_vectors, section_vectors}
-use Rattle.set_expr.specs.declared.fault.SectionFault.{SectionFault}
+use Rattle.abel_vectors.specs.Prelude.{Vec, Vector, SectionTree, Context, Design, design_vectors, section_vectors, SectionFault}
 use Rattle.abel_vectors.specs.VectorRefusals.{vectors_refused}
 use Rattle.abel_vectors.specs.VectorAnswers.{AreAccepted, IsAnswer}
 

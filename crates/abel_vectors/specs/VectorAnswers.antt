@@ -1,14 +1,6 @@
 -- The vectors of a section, and when which answer comes (ABEL-HDL Reference Manual, test vectors).
 use Rattle.std.specs.Prelude.{◌≡◌, ℕ, List, [], Result, Ok, Err}
-use Rattle.std.specs.Global.{Vec}
-use Rattle.pld_base.specs.declared.point.Vector.{Vector}
-use Rattle.pld_device.specs.Table.{Table}
-use Rattle.jedec_file.specs.TestVectors.{all_chars}
-use Rattle.abel_tree.specs.Tree.{SectionTree}
-use Rattle.abel_meaning.specs.Designs.{Context}
-use Rattle.abel_meaning.specs.Vectors.{section_vectors}
-use Rattle.set_expr.specs.declared.fault.SectionFault.{SectionFault}
-use Rattle.source_sections.specs.SectionAnswers.{IsTold}
+use Rattle.abel_vectors.specs.Prelude.{Vec, Vector, Table, all_chars, SectionTree, Context, section_vectors, SectionFault, IsTold}
 use Rattle.abel_vectors.specs.VectorRefusals.{vectors_refused}
 
 -- nothing is refused, and these are the vectors by their characters

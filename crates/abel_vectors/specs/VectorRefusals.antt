@@ -1,21 +1,9 @@
 -- What is refused of test vectors (ABEL-HDL Reference Manual, test vectors; JESD3-C, test vector field; one character for
 -- each pin, and the limit, are this project's rules).
 use Rattle.std.specs.Prelude.{ℕ, suc, ◌==◌, nat_lt, Bool, true, false, not, ◌&&◌, ◌||◌, Option, None, Some, List, [], ◌∷◌, ◌++◌, get_or, if◌then◌else◌}
-use Rattle.std.specs.List.{list_all, list_any}
+use Rattle.abel_vectors.specs.Prelude.{list_all, list_any, Place, Entry, Kind, APin, ANode, AConstant, ADeviceName, Tree, RowTree, SectionTree, SomeVectors, Context, no_name, Mark, Pulsed, marks_of, targets_of, Term, term_of, input_char, output_char, SectionFault, BadVector, expression_found, unless_met, entry_refused}
 use Rattle.std.specs.Option.{is_none, is_some}
-use Rattle.pld_base.specs.declared.place.Place.{Place}
-use Rattle.abel_tree.specs.Entries.{Entry, Kind, APin, ANode, AConstant, ADeviceName}
-use Rattle.abel_tree.specs.Tree.{Tree, RowTree, SectionTree, SomeVectors}
-use Rattle.abel_meaning.specs.Designs.{Context, no_name}
-use Rattle.abel_meaning.specs.Rows.{Mark, Pulsed, marks_of}
-use Rattle.abel_meaning.specs.Targets.{targets_of}
-use Rattle.abel_meaning.specs.Terms.{Term, term_of}
-use Rattle.abel_meaning.specs.Vectors.{input_char, output_char}
-use Rattle.set_expr.specs.declared.fault.SectionFault.{SectionFault}
-use Rattle.set_expr.specs.declared.fault.SectionFault.TheVariants.{BadVector}
-use Rattle.set_expr.specs.FoundNames.{expression_found}
 use Rattle.truth_tables.specs.HeaderSignals.{names_positions}
-use Rattle.truth_tables.specs.RowEntries.{unless_met, entry_refused}
 
 -- ---- headers
 

@@ -1,10 +1,10 @@
 //! The characters that marks give.
 
 ghost use Rattle.std.specs.Prelude.{◌≡◌};
+ghost use Rattle.abel_vectors.specs.Prelude.{view_mark};
 ghost use Rattle.pld_device.specs.Macrocells.{complement_if};
 ghost use Rattle.abel_meaning.specs.Vectors as meant;
-ghost use Rattle.truth_tables.specs.EntryMarks.{view_mark};
-ghost use Rattle.abel_vectors.specs.GivenChars.{char_in};
+ghost use Rattle.abel_vectors.specs.{char_in};
 
 use truth_tables::Mark;
 

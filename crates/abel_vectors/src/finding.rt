@@ -1,13 +1,9 @@
 //! What is found of vectors, row after row and section after section.
 
 ghost use Rattle.std.specs.Prelude.{◌≡◌, ℕ, true, ◌||◌, ◌++◌, [], Some, is_some, IfSome, IfNone, List, Ok};
-ghost use Rattle.pld_device.specs.Table.{Table};
+ghost use Rattle.abel_vectors.specs.Prelude.{Table, first_refusal, section_order, SectionFault};
 ghost use Rattle.abel_tree.specs.FirstRefusal as refusal;
-ghost use Rattle.abel_tree.specs.FirstRefusal.{first_refusal};
-ghost use Rattle.set_expr.specs.SectionOrder.{section_order};
-ghost use Rattle.set_expr.specs.declared.fault.SectionFault.{SectionFault};
-ghost use Rattle.abel_vectors.specs.FoundVectors.{fault_in, Finds, IsFound, NothingFound};
-ghost use Rattle.abel_vectors.specs.VectorAnswers.{IsAnswer};
+ghost use Rattle.abel_vectors.specs.{fault_in, Finds, IsFound, NothingFound, IsAnswer};
 
 use abel_tree::{earlier, is_before};
 use pld_base::Vector;

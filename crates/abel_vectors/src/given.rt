@@ -1,11 +1,8 @@
 //! The characters that the entries of a row give to pins.
 
 ghost use Rattle.std.specs.Prelude.{◌≡◌, ◌++◌, IfOk, OnOk, map};
-ghost use Rattle.std.specs.List.{list_any};
-ghost use Rattle.abel_tree.specs.Entries.{entries_of};
-ghost use Rattle.truth_tables.specs.EntryMarks.{view_mark};
-ghost use Rattle.abel_vectors.specs.GivenChars.{char_in, found_at};
-ghost use Rattle.abel_vectors.specs.VectorRefusals.{chars_for, disagree, gives_another, position_gives, position_pulses, tests_pulse};
+ghost use Rattle.abel_vectors.specs.Prelude.{list_any, entries_of, view_mark};
+ghost use Rattle.abel_vectors.specs.{char_in, found_at, chars_for, disagree, gives_another, position_gives, position_pulses, tests_pulse};
 
 use crate::chars::{Role, role_char};
 use crate::pins::pin_at;

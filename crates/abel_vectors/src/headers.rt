@@ -1,14 +1,9 @@
 //! The sides of headers of vectors.
 
 ghost use Rattle.std.specs.Prelude.{◌≡◌, [], IfOk};
-ghost use Rattle.std.specs.List.{list_all};
-ghost use Rattle.abel_tree.specs.Entries.{entries_of};
-ghost use Rattle.abel_tree.specs.View.{view};
-ghost use Rattle.abel_meaning.specs.Designs.{Context};
-ghost use Rattle.set_expr.specs.FoundNames.{expression_found};
+ghost use Rattle.abel_vectors.specs.Prelude.{list_all, entries_of, view, Context, expression_found};
 ghost use Rattle.truth_tables.specs.EntryTerms.{IsOver};
-ghost use Rattle.abel_vectors.specs.HeaderSides.{IsSide};
-ghost use Rattle.abel_vectors.specs.VectorRefusals.{is_pin_or_unknown};
+ghost use Rattle.abel_vectors.specs.{IsSide, is_pin_or_unknown};
 
 use crate::pins::pin_at;
 use abel_tree::Expr;

@@ -1,14 +1,8 @@
 //! All that the sections of a source say.
 
 ghost use Rattle.std.specs.Prelude.{◌≤◌, ◌++◌, All, IfOk, List, length};
-ghost use Rattle.jedec_file.specs.TestVectors.{IsTestVector};
-ghost use Rattle.abel_tree.specs.Entries.{entries_of};
-ghost use Rattle.abel_tree.specs.View.{view_module};
-ghost use Rattle.abel_meaning.specs.Designs.{Design, design_for};
-ghost use Rattle.set_expr.specs.declared.fault.SectionFault.{SectionFault};
-ghost use Rattle.source_sections.specs.SectionAnswers.{IsTold, sections_refused};
-ghost use Rattle.abel_vectors.specs.AllSections.{AnswersAll, all_sections_refused};
-ghost use Rattle.abel_vectors.specs.SourceVectors.{AnswersVectors};
+ghost use Rattle.abel_vectors.specs.Prelude.{IsTestVector, entries_of, view_module, Design, design_for, SectionFault, IsTold, sections_refused};
+ghost use Rattle.abel_vectors.specs.{AnswersAll, all_sections_refused, AnswersVectors};
 
 use crate::finding::first_of;
 use crate::sections::all_vectors;

@@ -1,11 +1,9 @@
 //! The pins of names, and their characters in a vector.
 
 ghost use Rattle.std.specs.Prelude.{◌≡◌, ℕ, map};
-ghost use Rattle.std.specs.List.{range_with_len};
-ghost use Rattle.jedec_file.specs.TestVectors.{chars_of};
-ghost use Rattle.abel_tree.specs.Entries.{entries_of, view_meaning};
+ghost use Rattle.abel_vectors.specs.Prelude.{range_with_len, chars_of, entries_of, view_meaning};
 ghost use Rattle.abel_meaning.specs.Vectors as meant;
-ghost use Rattle.abel_vectors.specs.GivenChars.{found_at};
+ghost use Rattle.abel_vectors.specs.{found_at};
 ghost use Rattle.abel_vectors.specs.VectorRefusals as refused;
 
 use crate::given::first_at;

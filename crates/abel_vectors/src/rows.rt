@@ -1,20 +1,8 @@
 //! Rows of vectors under a header in which nothing is refused.
 
 ghost use Rattle.std.specs.Prelude.{◌≡◌, ℕ, ◌+◌, ◌-◌, IfOk, OnOk, map};
-ghost use Rattle.abel_tree.specs.FirstRefusal.{first_refusal};
-ghost use Rattle.abel_tree.specs.View.{view_vector_row};
-ghost use Rattle.set_expr.specs.Contexts.{context_for};
-ghost use Rattle.set_expr.specs.SectionOrder.{section_order};
-ghost use Rattle.abel_tree.specs.Tree.{Tree};
-ghost use Rattle.abel_meaning.specs.Designs.{Context};
-ghost use Rattle.abel_meaning.specs.Rows.{marks_of};
-ghost use Rattle.abel_meaning.specs.Terms.{Term, term_of};
-ghost use Rattle.set_expr.specs.declared.fault.SectionFault.{SectionFault};
-ghost use Rattle.truth_tables.specs.EntryMarks.{IsRead, view_mark};
-ghost use Rattle.truth_tables.specs.RowEntries.{entry_refused};
-ghost use Rattle.abel_vectors.specs.FoundVectors.{IsReadAs};
-ghost use Rattle.abel_vectors.specs.ReadRows.{AddsVector, FindsRow, FindsRows, IsRowVector, NamesPins};
-ghost use Rattle.abel_vectors.specs.VectorRefusals.{one_too_many};
+ghost use Rattle.abel_vectors.specs.Prelude.{first_refusal, view_vector_row, context_for, section_order, Tree, Context, marks_of, Term, term_of, SectionFault, IsRead, view_mark, entry_refused};
+ghost use Rattle.abel_vectors.specs.{IsReadAs, AddsVector, FindsRow, FindsRows, IsRowVector, NamesPins, one_too_many};
 
 use crate::chars::Role;
 use crate::finding::Found;

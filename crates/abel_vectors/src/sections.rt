@@ -1,23 +1,9 @@
 //! Sections of vectors: one, and all of a source.
 
 ghost use Rattle.std.specs.Prelude.{◌≡◌, ℕ, ◌+◌, ◌-◌, ◌≤◌, All, IfOk, OnOk, length};
-ghost use Rattle.jedec_file.specs.TestVectors.{IsTestVector};
-ghost use Rattle.abel_tree.specs.Entries.{entries_of};
-ghost use Rattle.abel_tree.specs.View.{view_module, view_section};
-ghost use Rattle.pld_base.specs.declared.place.Place.{Place};
-ghost use Rattle.abel_tree.specs.Tree.{Tree};
-ghost use Rattle.abel_meaning.specs.Designs.{Context, design_for};
-ghost use Rattle.abel_meaning.specs.Targets.{targets_of};
-ghost use Rattle.abel_meaning.specs.Terms.{term_of};
-ghost use Rattle.abel_meaning.specs.Vectors.{section_vectors, sections_vectors};
-ghost use Rattle.set_expr.specs.Contexts.{context_for};
+ghost use Rattle.abel_vectors.specs.Prelude.{IsTestVector, entries_of, view_module, view_section, Place, Tree, Context, design_for, targets_of, term_of, section_vectors, sections_vectors, context_for};
 ghost use Rattle.source_sections.specs.Reading.{view_sections};
-ghost use Rattle.abel_vectors.specs.FoundVectors.{Finds, FindsSection, IsFound, IsReadAs};
-ghost use Rattle.abel_vectors.specs.HeaderSides.{IsSide};
-ghost use Rattle.abel_vectors.specs.ReadRows.{view_vectors};
-ghost use Rattle.abel_vectors.specs.SourceVectors.{AnswersVectors, refused_behind};
-ghost use Rattle.abel_vectors.specs.VectorAnswers.{Answers};
-ghost use Rattle.abel_vectors.specs.VectorRefusals.{side_refused, vectors_refused};
+ghost use Rattle.abel_vectors.specs.{Finds, FindsSection, IsFound, IsReadAs, IsSide, view_vectors, AnswersVectors, refused_behind, Answers, side_refused, vectors_refused};
 
 use crate::finding::Found;
 use crate::headers::{Side, read_side};

@@ -1,8 +1,6 @@
 -- One character more.
 use Rattle.std.proofs.Common.{◌≡◌, ◌+◌, ◌-◌, ◌||◌, List, ℕ, length, get_or, take, drop, sym, ap, ◌∙◌, arith, length-drop}
-use Rattle.std.specs.List.{list_any}
-use Rattle.std.proofs.lemmas.List.{at_drop_more, take_all}
-use Rattle.abel_vectors.specs.VectorRefusals.{disagree, gives_another}
+use Rattle.abel_vectors.proofs.Common.{list_any, at_drop_more, take_all, disagree, gives_another}
 use Rattle.abel_vectors.proofs.given.disagree.Goals as goal
 
 -- the slice behind a place is the whole rest

@@ -1,6 +1,6 @@
 -- No character so far has another one behind it.
 use Rattle.std.proofs.Common.{◌≡◌, drop}
-use Rattle.abel_vectors.specs.VectorRefusals.{disagree}
+use Rattle.abel_vectors.proofs.Common.{disagree}
 use Rattle.abel_vectors.proofs.given.disagree.Given as goal
 
 abbrev pub invariant-loop-index : goal.invariant-loop-index

@@ -1,6 +1,6 @@
 -- The pin isn't among those so far.
 use Rattle.std.proofs.Common.{◌≡◌, drop}
-use Rattle.abel_vectors.specs.GivenChars.{found_at}
+use Rattle.abel_vectors.proofs.Common.{found_at}
 use Rattle.abel_vectors.proofs.given.first_at.Given as goal
 
 abbrev pub invariant-loop-given : goal.invariant-loop-given

@@ -1,10 +1,7 @@
 -- One position more, and all.
 use Rattle.std.proofs.Common.{◌+◌, ◌<◌, ◌≤◌, ◌||◌, ◌++◌, length, min, drop, map, sym, ap, ◌∙◌, append_assoc, append-nil, arith}
+use Rattle.abel_vectors.proofs.Common.{entries_of, view_mark, char_in, chars_for, tests_pulse}
 use Rattle.std.proofs.Math.Bool.{or-false, or_assoc}
-use Rattle.abel_tree.specs.Entries.{entries_of}
-use Rattle.truth_tables.specs.EntryMarks.{view_mark}
-use Rattle.abel_vectors.specs.GivenChars.{char_in}
-use Rattle.abel_vectors.specs.VectorRefusals.{chars_for, tests_pulse}
 use Rattle.abel_vectors.proofs.GivenLaws.{chars_at, chars_left, pulses_at, pulses_left}
 use Rattle.abel_vectors.proofs.given.put_side.Goals as goal
 

@@ -1,9 +1,6 @@
 -- So far, with the positions that are left.
 use Rattle.std.proofs.Common.{◌≡◌, ◌||◌, ◌++◌, drop, map}
-use Rattle.abel_tree.specs.Entries.{entries_of}
-use Rattle.truth_tables.specs.EntryMarks.{view_mark}
-use Rattle.abel_vectors.specs.GivenChars.{char_in}
-use Rattle.abel_vectors.specs.VectorRefusals.{chars_for, tests_pulse}
+use Rattle.abel_vectors.proofs.Common.{entries_of, view_mark, char_in, chars_for, tests_pulse}
 use Rattle.abel_vectors.proofs.given.put_side.Given as goal
 
 abbrev pub invariant-loop-index : goal.invariant-loop-index

@@ -1,16 +1,7 @@
 -- Something else, pins, and signals that are no pins.
 use Rattle.std.proofs.Common.{◌&&◌, sym, ap, ap₂, ◌∙◌, subst}
-use Rattle.std.specs.List.{list_all}
-use Rattle.abel_tree.specs.FirstRefusal.{first_refusal}
-use Rattle.abel_tree.specs.View.{view}
-use Rattle.abel_meaning.specs.Targets.{targets_of}
-use Rattle.abel_meaning.specs.Terms.{term_of}
-use Rattle.set_expr.specs.declared.fault.SectionFault.TheVariants.{BadVector}
-use Rattle.set_expr.specs.FoundNames.{expression_found}
-use Rattle.set_expr.specs.SectionOrder.{section_order}
+use Rattle.abel_vectors.proofs.Common.{list_all, first_refusal, view, targets_of, term_of, BadVector, expression_found, section_order, none_met, none_unmet, is_pin_or_unknown, names_pins}
 use Rattle.truth_tables.specs.HeaderSignals.{AreSignals}
-use Rattle.truth_tables.proofs.ReadLaws.{none_met, none_unmet}
-use Rattle.abel_vectors.specs.VectorRefusals.{is_pin_or_unknown, names_pins}
 use Rattle.abel_vectors.proofs.headers.named_side.Goals as goal
 
 pub returns-in-None : goal.returns-in-None

@@ -1,15 +1,7 @@
 -- An expression that is refused, and one that isn't.
 use Rattle.std.proofs.Common.{sym, ◌∙◌, subst}
-use Rattle.std.proofs.lemmas.Result.{IfOk-weaker}
-use Rattle.abel_tree.proofs.FirstRefusals.{none_refused}
-use Rattle.abel_tree.specs.View.{view}
-use Rattle.abel_meaning.specs.Terms.{term_of}
-use Rattle.set_expr.specs.declared.fault.SectionFault.TheVariants.{BadVector}
-use Rattle.set_expr.specs.FoundNames.{expression_found}
+use Rattle.abel_vectors.proofs.Common.{IfOk-weaker, none_refused, view, term_of, BadVector, expression_found, section_order, inside_first, names_pins}
 use Rattle.set_expr.specs.KnownNames.{SumsUp}
-use Rattle.set_expr.specs.SectionOrder.{section_order}
-use Rattle.truth_tables.proofs.ReadLaws.{inside_first}
-use Rattle.abel_vectors.specs.VectorRefusals.{names_pins}
 use Rattle.abel_vectors.proofs.headers.read_side.Goals as goal
 
 pub returns-in-Some : goal.returns-in-Some

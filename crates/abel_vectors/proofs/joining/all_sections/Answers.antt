@@ -1,9 +1,7 @@
 -- The sections are refused.
 use Rattle.std.proofs.Common.{subst}
+use Rattle.abel_vectors.proofs.Common.{AnswersSections, designed, AnswersVectors}
 use Rattle.abel_tree.specs.declared.names.Names.{Names}
-use Rattle.source_sections.specs.SectionAnswers.{AnswersSections}
-use Rattle.source_sections.proofs.SourceAnswers.{designed}
-use Rattle.abel_vectors.specs.SourceVectors.{AnswersVectors}
 use Rattle.abel_vectors.proofs.joining.all_sections.Goals as goal
 
 pub returns-in-Err-clause-answers : goal.returns-in-Err-clause-answers

@@ -1,7 +1,6 @@
 -- Vectors of which nothing is refused, and those of which something is.
 use Rattle.std.proofs.Common.{subst}
-use Rattle.source_sections.specs.SectionAnswers.{sections_refused}
-use Rattle.abel_vectors.specs.SourceVectors.{AnswersVectors, all_vectors_refused}
+use Rattle.abel_vectors.proofs.Common.{sections_refused, AnswersVectors, all_vectors_refused}
 use Rattle.abel_vectors.proofs.AllAnswers.{told_alone}
 use Rattle.abel_vectors.proofs.joining.first_with.Goals as goal
 

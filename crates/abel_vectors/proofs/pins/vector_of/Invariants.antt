@@ -1,7 +1,6 @@
 -- The pins so far.
 use Rattle.std.proofs.Common.{◌≡◌, ℕ, ◌+◌, ◌<◌, length, get_or}
-use Rattle.abel_meaning.specs.Vectors.{char_or_plain}
-use Rattle.abel_vectors.specs.GivenChars.{found_at}
+use Rattle.abel_vectors.proofs.Common.{char_or_plain, found_at}
 use Rattle.abel_vectors.proofs.pins.vector_of.Given as goal
 
 abbrev pub invariant-loop-index : goal.invariant-loop-index

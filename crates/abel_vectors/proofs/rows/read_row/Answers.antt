@@ -1,15 +1,6 @@
 -- An entry that is refused, and marks.
 use Rattle.std.proofs.Common.{◌∷◌, [], map, ap, refl, ◌∙◌}
-use Rattle.std.proofs.lemmas.Result.{on_ok_weaker}
-use Rattle.abel_tree.specs.View.{view_vector_row}
-use Rattle.abel_meaning.specs.Vectors.{row_chars}
-use Rattle.set_expr.specs.Contexts.{context_for}
-use Rattle.set_expr.specs.declared.fault.SectionFault.TheVariants.{BadVector}
-use Rattle.truth_tables.specs.EntryMarks.{view_mark}
-use Rattle.truth_tables.specs.EntryTerms.{IsOver}
-use Rattle.truth_tables.specs.RowEntries.{entry_refused}
-use Rattle.abel_vectors.specs.ReadRows.{header_term}
-use Rattle.abel_vectors.specs.VectorRefusals.{marks_refused}
+use Rattle.abel_vectors.proofs.Common.{on_ok_weaker, view_vector_row, row_chars, context_for, BadVector, view_mark, IsOver, entry_refused, header_term, marks_refused}
 use Rattle.abel_vectors.proofs.FoundLaws.{found_alone, read_first, read_so}
 use Rattle.abel_vectors.proofs.RowLaws.{row_marked}
 use Rattle.abel_vectors.proofs.rows.read_row.Goals as goal

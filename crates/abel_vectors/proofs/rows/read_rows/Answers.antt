@@ -1,9 +1,6 @@
 -- One row more, and all.
 use Rattle.std.proofs.Common.{◌+◌, ◌∷◌, drop, map, sym, ap, ◌∙◌, subst, refl, arith}
-use Rattle.std.proofs.lemmas.List.{at_drop_more, drop_all}
-use Rattle.abel_tree.specs.View.{view_vector_row}
-use Rattle.set_expr.specs.Contexts.{context_for}
-use Rattle.abel_vectors.specs.ReadRows.{FindsRows}
+use Rattle.abel_vectors.proofs.Common.{at_drop_more, drop_all, view_vector_row, context_for, FindsRows}
 use Rattle.abel_vectors.proofs.FoundLaws.{finds_none}
 use Rattle.abel_vectors.proofs.RowLaws.{rows_behind}
 use Rattle.abel_vectors.proofs.rows.read_rows.Goals as goal

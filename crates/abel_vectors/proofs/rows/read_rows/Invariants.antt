@@ -1,9 +1,6 @@
 -- What is found of the rows that are left is found of all.
 use Rattle.std.proofs.Common.{◌≡◌, ℕ, ◌+◌, ◌-◌, drop, map}
-use Rattle.abel_tree.specs.View.{view_vector_row}
-use Rattle.set_expr.specs.Contexts.{context_for}
-use Rattle.abel_vectors.specs.declared.finding.Found.{Found}
-use Rattle.abel_vectors.specs.ReadRows.{FindsRows}
+use Rattle.abel_vectors.proofs.Common.{view_vector_row, context_for, Found, FindsRows}
 use Rattle.abel_vectors.proofs.rows.read_rows.Given as goal
 
 abbrev pub invariant-loop-index : goal.invariant-loop-index

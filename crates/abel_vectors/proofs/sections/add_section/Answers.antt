@@ -1,8 +1,6 @@
 -- A section of vectors, and another one.
 use Rattle.std.proofs.Common.{subst, sym, ap, length}
-use Rattle.abel_tree.specs.View.{view_section}
-use Rattle.set_expr.specs.Contexts.{context_for}
-use Rattle.abel_vectors.specs.FoundVectors.{FindsSection}
+use Rattle.abel_vectors.proofs.Common.{view_section, context_for, FindsSection}
 use Rattle.abel_vectors.proofs.SectionLaws.{other_found, section_found}
 use Rattle.abel_vectors.proofs.sections.add_section.Goals as goal
 

@@ -1,12 +1,6 @@
 -- The answer for what is found of all sections.
 use Rattle.std.proofs.Common.{List, subst, arith}
-use Rattle.std.proofs.lemmas.Result.{IfOk-weaker}
-use Rattle.abel_tree.specs.declared.sections.Section.{Section}
-use Rattle.abel_meaning.specs.Vectors.{design_vectors, sections_vectors}
-use Rattle.source_sections.specs.Reading.{view_sections}
-use Rattle.source_sections.proofs.SourceAnswers.{designed}
-use Rattle.abel_vectors.specs.FoundVectors.{IsFound}
-use Rattle.abel_vectors.specs.SourceVectors.{all_vectors_refused, refused_behind}
+use Rattle.abel_vectors.proofs.Common.{IfOk-weaker, Section, design_vectors, sections_vectors, view_sections, designed, IsFound, all_vectors_refused, refused_behind}
 use Rattle.abel_vectors.proofs.SectionLaws.{all_few, answer_few, answer_test}
 use Rattle.abel_vectors.proofs.TestChars.{sections_test}
 use Rattle.abel_vectors.proofs.sections.all_vectors.Goals as goal

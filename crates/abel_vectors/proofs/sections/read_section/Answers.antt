@@ -1,12 +1,6 @@
 -- A side that is refused, and rows.
 use Rattle.std.proofs.Common.{◌++◌, map, refl, ap₂, ◌∙◌}
-use Rattle.std.proofs.lemmas.Result.{on_ok_weaker}
-use Rattle.abel_tree.specs.View.{view, view_vector_row}
-use Rattle.abel_meaning.specs.Vectors.{section_vectors}
-use Rattle.set_expr.specs.Contexts.{context_for}
-use Rattle.truth_tables.specs.EntryTerms.{IsOver}
-use Rattle.abel_vectors.specs.ReadRows.{header_term, view_vectors}
-use Rattle.abel_vectors.specs.VectorRefusals.{header_refused, rows_refused, side_refused}
+use Rattle.abel_vectors.proofs.Common.{on_ok_weaker, view, view_vector_row, section_vectors, context_for, IsOver, header_term, view_vectors, header_refused, rows_refused, side_refused}
 use Rattle.abel_vectors.proofs.FoundLaws.{finds_behind, found_alone, read_first, read_so}
 use Rattle.abel_vectors.proofs.sections.read_section.Goals as goal
 

@@ -1,12 +1,6 @@
 -- No section, one more, and all.
 use Rattle.std.proofs.Common.{◌+◌, ◌∷◌, drop, length, sym, refl, ap, ◌∙◌, subst, arith}
-use Rattle.std.proofs.lemmas.List.{at_drop_more, drop_all}
-use Rattle.abel_tree.specs.View.{view_section}
-use Rattle.abel_meaning.specs.Vectors.{section_vectors, sections_vectors}
-use Rattle.set_expr.specs.Contexts.{context_for}
-use Rattle.source_sections.specs.Reading.{view_sections}
-use Rattle.abel_vectors.specs.FoundVectors.{Finds}
-use Rattle.abel_vectors.specs.SourceVectors.{refused_behind}
+use Rattle.abel_vectors.proofs.Common.{at_drop_more, drop_all, view_section, section_vectors, sections_vectors, context_for, view_sections, Finds, refused_behind}
 use Rattle.abel_vectors.proofs.FoundLaws.{all_found, finds_none}
 use Rattle.abel_vectors.proofs.SectionLaws.{sections_behind}
 use Rattle.abel_vectors.proofs.sections.read_sections.Goals as goal

@@ -1,11 +1,6 @@
 -- What is found of the sections that are left is found of all.
 use Rattle.std.proofs.Common.{◌≡◌, ℕ, ◌-◌, drop}
-use Rattle.abel_meaning.specs.Vectors.{sections_vectors}
-use Rattle.set_expr.specs.Contexts.{context_for}
-use Rattle.source_sections.specs.Reading.{view_sections}
-use Rattle.abel_vectors.specs.declared.finding.Found.{Found}
-use Rattle.abel_vectors.specs.FoundVectors.{Finds}
-use Rattle.abel_vectors.specs.SourceVectors.{refused_behind}
+use Rattle.abel_vectors.proofs.Common.{sections_vectors, context_for, view_sections, Found, Finds, refused_behind}
 use Rattle.abel_vectors.proofs.sections.read_sections.Given as goal
 
 abbrev pub invariant-loop-section : goal.invariant-loop-section

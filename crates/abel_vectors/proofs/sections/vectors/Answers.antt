@@ -1,9 +1,6 @@
 -- The answer for one section.
 use Rattle.std.proofs.Common.{rules}
-use Rattle.abel_tree.specs.View.{view_section}
-use Rattle.abel_meaning.specs.Vectors.{section_vectors}
-use Rattle.set_expr.specs.Contexts.{context_for}
-use Rattle.abel_vectors.specs.VectorRefusals.{vectors_refused}
+use Rattle.abel_vectors.proofs.Common.{view_section, section_vectors, context_for, vectors_refused}
 use Rattle.abel_vectors.proofs.FoundLaws.{all_found}
 use Rattle.abel_vectors.proofs.SectionLaws.{answer_few, answer_test, section_few}
 use Rattle.abel_vectors.proofs.TestChars.{section_test}

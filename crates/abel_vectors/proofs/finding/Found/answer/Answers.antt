@@ -1,8 +1,6 @@
 -- A refusal, and vectors of which nothing is refused.
 use Rattle.std.proofs.Common.{sym, ◌∙◌}
-use Rattle.abel_tree.proofs.FirstRefusals.{none_refused}
-use Rattle.set_expr.specs.SectionOrder.{section_order}
-use Rattle.source_sections.proofs.SectionsAnswered.{told_of}
+use Rattle.abel_vectors.proofs.Common.{none_refused, section_order, told_of}
 use Rattle.abel_vectors.proofs.finding.Found.answer.Goals as goal
 
 pub returns-in-Some : goal.returns-in-Some

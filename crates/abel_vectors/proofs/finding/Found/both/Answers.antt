@@ -1,7 +1,6 @@
 -- The refusals of both, whether there are any or not.
 use Rattle.std.proofs.Common.{ap, ap₂, refl, ◌∙◌}
-use Rattle.abel_tree.specs.FirstRefusal.{earlier}
-use Rattle.set_expr.specs.SectionOrder.{section_order}
+use Rattle.abel_vectors.proofs.Common.{earlier, section_order}
 use Rattle.abel_vectors.proofs.FoundLaws.{both_found}
 use Rattle.abel_vectors.proofs.finding.Found.both.Goals as goal
 
