@@ -1,3 +1,4 @@
+pub mod Common
 pub mod NarrowVectors
 pub mod NotRefused
 pub mod PhaseFaults

@@ -1,13 +1,10 @@
 -- A vector of a module has a character for each pin of the device, at most 31.
 use Rattle.std.proofs.Common.{◌≡◌, ℕ, ◌≤◌, List, [], ◌∷◌, ◌++◌, get_or, length, map, arith}
+use Rattle.compile_phases.proofs.Common.{IsDevice, Table, ModuleTree, SectionTree, RowTree, Declarations, Equations, ATable, ADiagram, SomeVectors, DontCareSection, Context, design_of}
 use Rattle.std.specs.List.{All, range_with_len}
 use Rattle.std.proofs.lemmas.List.{length-map}
 use Rattle.std.proofs.lemmas.List.Elements.{All-append, All-map, All-nil}
 use Rattle.std.proofs.lemmas.List.FromFn.{length-range_with_len}
-use Rattle.pld_device.specs.Laws.{IsDevice}
-use Rattle.pld_device.specs.Table.{Table}
-use Rattle.abel_tree.specs.Tree.{ModuleTree, SectionTree, RowTree, Declarations, Equations, ATable, ADiagram, SomeVectors, DontCareSection}
-use Rattle.abel_meaning.specs.Designs.{Context, design_of}
 use Rattle.abel_meaning.specs.Terms.{Term, term_of}
 use Rattle.abel_meaning.specs.Vectors.{pin_char, row_chars, section_vectors, sections_vectors, source_vectors}
 

@@ -1,26 +1,10 @@
 -- A module that is accepted and fits as it is written is refused for nothing but want of memory.
 use Rattle.std.proofs.Common.{◌≡◌, ◌≢◌, ℕ, Some, None, List, [], refl, sym, ap, ◌∙◌}
-use Rattle.pld_device.specs.Laws.{IsDevice}
-use Rattle.pld_device.specs.Table.{Table}
-use Rattle.bit_expr.specs.Arena.{arena}
-use Rattle.abel_tree.specs.FirstRefusal.{Ranks, first_refusal}
-use Rattle.abel_tree.specs.Tree.{ModuleTree}
-use Rattle.abel_meaning.specs.Designs.{design_of}
-use Rattle.abel_meaning.specs.Kinds.{names_of}
-use Rattle.decls.specs.FaultOrder.{name_order}
-use Rattle.design_checks.specs.declared.fault.DesignFault.{DesignFault}
+use Rattle.compile_phases.proofs.Common.{IsDevice, Table, arena, Ranks, first_refusal, ModuleTree, design_of, names_of, name_order, DesignFault, FitFault, CompileFault, Source, Place, Fit, OutOfMemory, SourceFault, Expand, Scan, Parse, Names, Sections, Design, Width, FitsAsWritten, IsOfFit, IsUnfitFor, IsRefusedFor, HasDesign, IsAcceptedFor, IsDesignRefusedFor, IsRefusedSo}
 use Rattle.design_checks.specs.declared.fault.DesignFault.TheVariants as designing
 use Rattle.reports.specs.Designs.{design_text}
 use Rattle.set_expr.specs.SectionOrder.{section_order}
-use Rattle.fitter.specs.declared.fault.FitFault.{FitFault}
 use Rattle.fitter.specs.declared.fault.FitFault.TheVariants as fit
-use Rattle.compile_phases.specs.declared.fault.CompileFault.{CompileFault}
-use Rattle.compile_phases.specs.declared.fault.CompileFault.TheVariants.{Source, Place, Fit, OutOfMemory}
-use Rattle.compile_phases.specs.declared.fault.SourceFault.{SourceFault}
-use Rattle.compile_phases.specs.declared.fault.SourceFault.TheVariants.{Expand, Scan, Parse, Names, Sections, Design, Width}
-use Rattle.compile_phases.specs.Fits.{FitsAsWritten, IsOfFit, IsUnfitFor}
-use Rattle.compile_phases.specs.Phases.{IsRefusedFor}
-use Rattle.compile_phases.specs.SourceRefusals.{HasDesign, IsAcceptedFor, IsDesignRefusedFor, IsRefusedSo}
 use Rattle.compile_phases.proofs.SameCells.{not_wide, not_unfit}
 use Rattle.compile_phases.proofs.SameContributions.{not_refused}
 

@@ -1,22 +1,7 @@
 -- What each phase refuses, as a refusal of the module for a device, and what a compiled module is.
 use Rattle.std.proofs.Common.{◌≡◌, ℕ, Some, List, Err, subst}
-use Rattle.pld_device.specs.Table.{Table}
-use Rattle.bit_expr.specs.declared.netlist.Netlist.{Netlist}
-use Rattle.abel_tree.specs.Entries.{Entry}
-use Rattle.abel_tree.specs.Tree.{ModuleTree}
-use Rattle.abel_meaning.specs.Kinds.{names_of}
-use Rattle.reports.specs.Fits.{fit_text}
-use Rattle.fitter.specs.Width.{NoneWide}
-use Rattle.fitter.specs.declared.fault.FitFault.{FitFault}
+use Rattle.compile_phases.proofs.Common.{Table, Netlist, Entry, ModuleTree, names_of, fit_text, NoneWide, FitFault, FitAnswers, CompileFault, Source, Place, Fit, OutOfMemory, SourceFault, Expand, Scan, Parse, Names, Sections, Design, Width, IsOfFit, IsWidthFault, IsFitRefused, IsNetlistFor, IsRefusedFor, IsAcceptedFor, IsRefusedSo}
 use Rattle.fitter.specs.declared.fault.FitFault.TheVariants as fit
-use Rattle.fitter.specs.Answers.{FitAnswers}
-use Rattle.compile_phases.specs.declared.fault.CompileFault.{CompileFault}
-use Rattle.compile_phases.specs.declared.fault.CompileFault.TheVariants.{Source, Place, Fit, OutOfMemory}
-use Rattle.compile_phases.specs.declared.fault.SourceFault.{SourceFault}
-use Rattle.compile_phases.specs.declared.fault.SourceFault.TheVariants.{Expand, Scan, Parse, Names, Sections, Design, Width}
-use Rattle.compile_phases.specs.Fits.{IsOfFit}
-use Rattle.compile_phases.specs.Phases.{IsWidthFault, IsFitRefused, IsNetlistFor, IsRefusedFor}
-use Rattle.compile_phases.specs.SourceRefusals.{IsAcceptedFor, IsRefusedSo}
 
 -- ---- the fit
 

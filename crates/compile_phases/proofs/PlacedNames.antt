@@ -1,8 +1,8 @@
 -- Sound names have pins below 32 and nodes below 128.
 use Rattle.std.proofs.Common.{ℕ, ◌≤◌, List, arith}
+use Rattle.compile_phases.proofs.Common.{Kind, APin, ANode, AConstant, ADeviceName, Entry}
 use Rattle.pld_base.specs.declared.device_name.DeviceName.{DeviceName}
 use Rattle.abel_tree.specs.declared.names.Names.{Names}
-use Rattle.abel_tree.specs.Entries.{Kind, APin, ANode, AConstant, ADeviceName, Entry}
 use Rattle.abel_tree.specs.SoundNames.{IsSoundKind, SoundNames}
 use Rattle.set_expr.specs.Scopes.{IsPlacedKind, ArePlaced}
 

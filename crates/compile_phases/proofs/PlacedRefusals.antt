@@ -1,21 +1,11 @@
 -- What is refused of a placed module is refused of its source, and there is one placed module.
 use Rattle.std.proofs.Common.{◌≡◌, ℕ, Some, List, [], ◌∷◌, refl, sym, ap, ◌∙◌}
-use Rattle.pld_device.specs.Table.{Table}
-use Rattle.abel_tree.specs.Entries.{Entry}
-use Rattle.abel_tree.specs.Tree.{ModuleTree}
-use Rattle.abel_meaning.specs.Kinds.{names_of}
-use Rattle.decls.specs.FaultOrder.{name_order}
-use Rattle.decls.specs.NameRefusals.{first_name_refusal, name_refusals}
+use Rattle.compile_phases.proofs.Common.{Table, Entry, ModuleTree, names_of, name_order, first_name_refusal, name_refusals, IsPlacedModule, Pins, module_wishes, placed_with, with_pins, CompileFault, Source, Place, Fit, OutOfMemory, Expand, Scan, Parse, Names, Sections, Design, Width, IsNameFault, IsOfPlacing, IsOfSource, IsRefusedBy, IsRefusedFor}
 use Rattle.pin_matching.proofs.One.{kept_cannot, one_taken}
 use Rattle.placer.specs.declared.fault.PlaceFault.{PlaceFault}
 use Rattle.placer.specs.declared.fault.PlaceFault.TheVariants as placing
 use Rattle.placer.specs.Following.{HasNumberedNames}
-use Rattle.placer.specs.Placements.{IsPlacedModule, Pins, module_wishes, placed_with, with_pins}
 use Rattle.placer.specs.Signals.{to_place}
-use Rattle.compile_phases.specs.declared.fault.CompileFault.{CompileFault}
-use Rattle.compile_phases.specs.declared.fault.CompileFault.TheVariants.{Source, Place, Fit, OutOfMemory}
-use Rattle.compile_phases.specs.declared.fault.SourceFault.TheVariants.{Expand, Scan, Parse, Names, Sections, Design, Width}
-use Rattle.compile_phases.specs.Phases.{IsNameFault, IsOfPlacing, IsOfSource, IsRefusedBy, IsRefusedFor}
 use Rattle.compile_phases.specs.Placings.{IsUnplacedFor}
 use Rattle.compile_phases.proofs.NotRefused.{no_first}
 

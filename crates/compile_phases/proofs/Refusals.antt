@@ -1,17 +1,9 @@
 -- Refusals by what they are told as.
 use Rattle.std.proofs.Common.{◌≡◌, ℕ, Some, List, Err, sym, subst}
+use Rattle.compile_phases.proofs.Common.{Table, Netlist, Entry, fit_text, FitFault, FitAnswers, CompileFault, OutOfMemory, IsFitRefused}
 use Rattle.std.specs.Global.{Vec}
-use Rattle.pld_device.specs.Table.{Table}
-use Rattle.bit_expr.specs.declared.netlist.Netlist.{Netlist}
-use Rattle.abel_tree.specs.Entries.{Entry}
 use Rattle.source_sections.specs.SectionAnswers.{IsTold}
-use Rattle.reports.specs.Fits.{fit_text}
-use Rattle.fitter.specs.declared.fault.FitFault.{FitFault}
 use Rattle.fitter.specs.declared.fault.FitFault.TheVariants as fit
-use Rattle.fitter.specs.Answers.{FitAnswers}
-use Rattle.compile_phases.specs.declared.fault.CompileFault.{CompileFault}
-use Rattle.compile_phases.specs.declared.fault.CompileFault.TheVariants.{OutOfMemory}
-use Rattle.compile_phases.specs.Phases.{IsFitRefused}
 use Rattle.compile_phases.specs.Phases as phases
 
 -- a fault of the fit that is told

@@ -1,29 +1,18 @@
 -- Two netlists over arenas that stand for one netlist over formulas fit alike, as they are written.
 use Rattle.std.proofs.Common.{◌≡◌, ◌⊎◌, inl, inr, ℕ, ◌<◌, ◌≤◌, Bool, true, false, not, ◌&&◌, ◌||◌, if◌then◌else◌, List, length, Option, Some, None, Err, refl, sym, ap, ◌∙◌, subst}
 use Rattle.std.specs.Prelude.{unwrap_or}
+use Rattle.compile_phases.proofs.Common.{IsDevice, complement_if, Table, cell_at, Netlist, ExprId, arena, formula_at, Formula, Const, Or, PlainNetlist, Wanted, plain_control, plain_netlist, plain_wanted, shared_function, wanted_at, IsSoundNetlist, Products, written, bit_list, IsSoundId, IsControlTooWide, IsTooWide, NoneWide, IsFirstWide, FitFault, FitAnswers, HasControls, IsOfFit, HasRoom}
 use Rattle.std.specs.Option.{option_map}
 use Rattle.pld_base.specs.Bits.{same_level}
 use Rattle.pld_base.specs.declared.point.Point.{Point}
 use Rattle.pld_base.specs.Points.{levels_of}
 use Rattle.pld_device.specs.declared.flip.Flip.{Flip}
 use Rattle.pld_device.specs.declared.flip.Flip.TheVariants.{Always, AfterRegister, BeforeRegister}
-use Rattle.pld_device.specs.Laws.{IsDevice}
-use Rattle.pld_device.specs.Macrocells.{complement_if}
-use Rattle.pld_device.specs.Table.{Table, cell_at}
 use Rattle.bit_expr.specs.declared.netlist.CellWanted.{CellWanted}
 use Rattle.bit_expr.specs.declared.netlist.Control.{Control}
-use Rattle.bit_expr.specs.declared.netlist.Netlist.{Netlist}
-use Rattle.bit_expr.specs.declared.node.ExprId.{ExprId}
-use Rattle.bit_expr.specs.Arena.{arena, formula_at}
-use Rattle.bit_expr.specs.Formulas.{Formula, Const, Or}
-use Rattle.abel_meaning.specs.Netlists.{PlainNetlist, Wanted, plain_control, plain_netlist, plain_wanted, shared_function, wanted_at}
-use Rattle.abel_meaning.specs.SoundIds.{IsSoundNetlist}
 use Rattle.covers.specs.declared.cube.Cube.{Cube}
-use Rattle.sop_lowering.specs.Products.{Products}
-use Rattle.sop_lowering.specs.Written.{written, bit_list}
 use Rattle.netlist_laws.specs.Fitting.{AreShared}
 use Rattle.fit_plans.specs.Tries.{needed_of, allowed_of, one_or_any}
-use Rattle.fitter.specs.Coverable.{IsSoundId}
 use Rattle.fitter.specs.Plans.{bit_or, cell_wanted, enable_bit}
 use Rattle.fitter.proofs.Coverable.{either_sound}
 use Rattle.fitter.proofs.WantedIds.{wanted_is, one_is, IsSoundIdCell, sound_id_at, function_ids, enable_id, reset_id, preset_id}
@@ -31,12 +20,8 @@ use Rattle.fit_plans.specs.Forms.{may_be_inverted_as, or_is_complement, rows_are
 use Rattle.fitter.specs.declared.shared.SharedControl.{SharedControl}
 use Rattle.fitter.specs.declared.shared.SharedControl.TheVariants.{Preset, Reset}
 use Rattle.fitter.specs.Sharing.{AreNotShared, own_formula}
-use Rattle.fitter.specs.Width.{IsControlTooWide, IsTooWide, NoneWide, IsFirstWide}
-use Rattle.fitter.specs.declared.fault.FitFault.{FitFault}
 use Rattle.fitter.specs.declared.fault.FitFault.TheVariants as fit
-use Rattle.fitter.specs.Answers.{FitAnswers, HasControls}
 use Rattle.fitter.specs.Products.{IsProduct, IsNoProduct, IsOneProduct, IsSharedProduct, IsSharedSum}
-use Rattle.compile_phases.specs.Fits.{IsOfFit, HasRoom}
 use Rattle.compile_phases.proofs.SameNetlists.{written_same, bit_same}
 
 -- ---- the forms of a cell, by its plain one

@@ -1,12 +1,10 @@
 -- Contributions that are given alike at the same places are refused alike.
 use Rattle.std.proofs.Common.{◌≡◌, ◌≢◌, ℕ, Bool, true, false, not, ◌&&◌, List, [], ◌∷◌, ◌++◌, get_or, map, refl, sym, ap, ap₂, ◌∙◌, subst}
+use Rattle.compile_phases.proofs.Common.{Table, Formula, Entry, no_name, DesignFault}
 use Rattle.pld_base.specs.declared.place.Place.{Place}
-use Rattle.pld_device.specs.Table.{Table}
-use Rattle.bit_expr.specs.Formulas.{Formula}
-use Rattle.abel_tree.specs.Entries.{Entry}
 use Rattle.abel_tree.specs.Extensions.{is_data}
 use Rattle.abel_meaning.specs.Contributions as meant
-use Rattle.abel_meaning.specs.Designs.{Design, no_name}
+use Rattle.abel_meaning.specs.Designs.{Design}
 use Rattle.set_expr.specs.declared.contributions.Contribution.{Contribution}
 use Rattle.set_expr.specs.declared.contributions.Gives.{Gives}
 use Rattle.set_expr.specs.declared.contributions.Gives.TheVariants as gives
@@ -14,7 +12,6 @@ use Rattle.set_expr.specs.Given.{view_contribution, view_gives}
 use Rattle.design_checks.specs.Compared.{says_always}
 use Rattle.design_checks.specs.Written.{unwritten}
 use Rattle.design.specs.Answers.{HasNoRefusal, IsDesignRefused}
-use Rattle.design_checks.specs.declared.fault.DesignFault.{DesignFault}
 use Rattle.design_checks.specs.declared.fault.DesignFault.TheVariants as designing
 use Rattle.design_checks.specs.Refused.{wrong_kinds, no_controls, any_controls, refuses, targets_refused}
 use Rattle.design_checks.specs.Verdict.{IsFirst}

@@ -1,24 +1,13 @@
 -- Two netlists over arenas that stand for one netlist over formulas have the same written lists.
 use Rattle.std.proofs.Common.{◌≡◌, ℕ, zero, suc, ◌<◌, Bool, true, false, not, [], ◌∷◌, length, Some, refl, sym, ap, ◌∙◌, subst}
+use Rattle.compile_phases.proofs.Common.{IsDevice, complement_if, Table, Netlist, ExprId, arena, formula_at, Formula, Const, Read, Not, And, Or, Xor, names, PlainNetlist, plain_netlist, plain_function, node_at, IsSoundNetlist, Products, function_of_node, node_formula, leaf_list, list_of, node_list, written, bit_list, IsSoundId}
 use Rattle.std.proofs.lemmas.Bool.{or_left, or_right}
-use Rattle.pld_device.specs.Laws.{IsDevice}
-use Rattle.pld_device.specs.Macrocells.{complement_if}
-use Rattle.pld_device.specs.Table.{Table}
-use Rattle.bit_expr.specs.declared.netlist.Netlist.{Netlist}
-use Rattle.bit_expr.specs.declared.node.ExprId.{ExprId}
 use Rattle.bit_expr.specs.declared.node.Leaf.{Leaf}
 use Rattle.bit_expr.specs.declared.node.Leaf.TheVariants as leaf
-use Rattle.bit_expr.specs.Arena.{arena, formula_at}
-use Rattle.bit_expr.specs.Formulas.{Formula, Const, Read, Not, And, Or, Xor, names}
 use Rattle.abel_meaning.specs.Functions.{Function}
-use Rattle.abel_meaning.specs.Netlists.{PlainNetlist, plain_netlist, plain_function, node_at}
-use Rattle.abel_meaning.specs.SoundIds.{IsSoundNetlist}
 use Rattle.abel_meaning.specs.Soundness.{IsReadable, IsSoundFormula}
 use Rattle.covers.specs.Cubes.{literal_cube}
-use Rattle.sop_lowering.specs.Products.{Products}
-use Rattle.sop_lowering.specs.Written.{function_of_node, node_formula, leaf_list, list_of, node_list, written, bit_list}
 use Rattle.netlist_laws.proofs.FormulaLeaves.{same_leaf-refl}
-use Rattle.fitter.specs.Coverable.{IsSoundId}
 use Rattle.fitter.proofs.LeafPairs.{pin_pair, cell_pair}
 use Rattle.fitter.proofs.Reached.{nodes_count, node_is, one_sound}
 

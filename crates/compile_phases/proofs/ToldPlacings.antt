@@ -1,14 +1,8 @@
 -- The first of the signals that can't be placed is declared somewhere.
 use Rattle.std.proofs.Common.{◌≡◌, ℕ, ◌<◌, List, ◌∷◌, length, IsSome, refl}
+use Rattle.compile_phases.proofs.Common.{Table, Entry, ModuleTree, no_name, names_of, HasNoPlacement, first_place}
 use Rattle.std.proofs.lemmas.Option.{slice_get-get_or}
-use Rattle.pld_device.specs.Table.{Table}
-use Rattle.abel_tree.specs.Entries.{Entry}
-use Rattle.abel_tree.specs.Tree.{ModuleTree}
-use Rattle.abel_meaning.specs.Designs.{no_name}
-use Rattle.abel_meaning.specs.Kinds.{names_of}
-use Rattle.placer.specs.Placements.{HasNoPlacement}
 use Rattle.placer.proofs.ToldSignals.{tells_first}
-use Rattle.reports.specs.Placings.{first_place}
 
 first_inside : (es : List Entry) (s : ℕ) (ss : List ℕ) → s < length es → IsSome (first_place es (s ∷ ss))
 first_inside es s ss low = rw (slice_get-get_or es s no_name low) refl

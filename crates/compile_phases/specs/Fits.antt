@@ -1,18 +1,12 @@
 -- When an accepted module does not fit its device, and when it always does (this project's rule).
 use Rattle.std.specs.Prelude.{◌≡◌, ℕ, ◌≤◌, Bool, true, Some, List, length, Err}
-use Rattle.pld_device.specs.Table.{Table, cell_at}
+use Rattle.compile_phases.specs.Prelude.{Table, cell_at, Netlist, ModuleTree, names_of, fit_text, FitFault, FitAnswers, HasControls}
 use Rattle.bit_expr.specs.declared.netlist.CellWanted.{CellWanted}
-use Rattle.bit_expr.specs.declared.netlist.Netlist.{Netlist}
-use Rattle.abel_tree.specs.Tree.{ModuleTree}
-use Rattle.abel_meaning.specs.Kinds.{names_of}
 use Rattle.covers.specs.declared.cube.Cube.{Cube}
-use Rattle.reports.specs.Fits.{fit_text}
 use Rattle.fit_plans.specs.Tries.{allowed_of, needed_of}
 use Rattle.fitter.specs.Plans.{cell_wanted}
 use Rattle.fit_plans.specs.Forms.{may_be_inverted_as, rows_are_positive}
-use Rattle.fitter.specs.declared.fault.FitFault.{FitFault}
 use Rattle.fitter.specs.declared.fault.FitFault.TheVariants as fit
-use Rattle.fitter.specs.Answers.{FitAnswers, HasControls}
 use Rattle.compile_phases.specs.SourceRefusals.{IsNetlistOf, IsAcceptedFor}
 
 -- the netlist of an accepted module does not fit, and so it is told

@@ -1,9 +1,7 @@
 -- The line of the report on a source that is refused (this project's report).
 use Rattle.std.specs.Prelude.{ℕ, Option, List}
+use Rattle.compile_phases.specs.Prelude.{Entry, NameFault, SectionFault}
 use Rattle.std.specs.Option.{option_map}
-use Rattle.abel_tree.specs.Entries.{Entry}
-use Rattle.decls.specs.declared.fault.NameFault.{NameFault}
-use Rattle.set_expr.specs.declared.fault.SectionFault.{SectionFault}
 use Rattle.module_reader.specs.declared.fault.ReadFault.{ReadFault}
 use Rattle.reports.specs.SourceLines.{read_telling, name_telling, section_telling}
 use Rattle.reports.specs.RefusalTold.{told_line}

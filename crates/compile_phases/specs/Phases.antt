@@ -1,40 +1,20 @@
 -- What each phase of compiling answers, and the laws that join them (this project's rule).
 use Rattle.std.specs.Prelude.{◌≡◌, ℕ, None, Some, List, [], Result, Ok, Err}
+use Rattle.compile_phases.specs.Prelude.{Table, Netlist, Entry, entries_of, ModuleTree, design_of, device_named, names_of, plain_netlist, NameFault, device_place, name_refusals, SectionFault, sections_refused, DesignFault, design_text, fit_text, IsFirstWide, FitFault, FitAnswers, IsFitOf, PlaceFault, SpellsModule, IsRead, IsUnread}
 use Rattle.std.specs.Global.{Vec}
 use Rattle.pld_base.specs.declared.out_of_memory.OutOfMemory.{OutOfMemory as NoMemory}
 use Rattle.pld_device.specs.Laws.{IsDevice}
-use Rattle.pld_device.specs.Table.{Table}
 use Rattle.jedec_file.specs.CanonicalFile.{IsPlainName}
 use Rattle.jedec_file.specs.ControlLines.{IsIntactPastLines}
-use Rattle.bit_expr.specs.declared.netlist.Netlist.{Netlist}
 use Rattle.abel_tree.specs.declared.names.Names.{Names}
-use Rattle.abel_tree.specs.Entries.{Entry, entries_of}
 use Rattle.abel_tree.specs.SoundNames.{SoundNames}
-use Rattle.abel_tree.specs.Tree.{ModuleTree}
-use Rattle.abel_meaning.specs.Designs.{design_of}
-use Rattle.abel_meaning.specs.DeviceStrings.{device_named}
-use Rattle.abel_meaning.specs.Kinds.{names_of}
-use Rattle.abel_meaning.specs.Netlists.{plain_netlist}
-use Rattle.decls.specs.declared.fault.NameFault.{NameFault}
 use Rattle.decls.specs.declared.fault.NameFault.TheVariants as naming
-use Rattle.decls.specs.Devices.{device_place}
-use Rattle.decls.specs.NameRefusals.{name_refusals}
 use Rattle.declared_names.specs.AcceptedNames.{PinsAreApart, BuffersAreAllowed}
-use Rattle.set_expr.specs.declared.fault.SectionFault.{SectionFault}
-use Rattle.source_sections.specs.SectionAnswers.{sections_refused}
 use Rattle.design.specs.Accepted.{IsAccepted}
-use Rattle.design_checks.specs.declared.fault.DesignFault.{DesignFault}
-use Rattle.reports.specs.Designs.{design_text}
-use Rattle.reports.specs.Fits.{fit_text}
 use Rattle.netlist_laws.specs.FittedCorrect.{MeansTheSame}
-use Rattle.fitter.specs.Width.{IsFirstWide}
 use Rattle.fitter.specs.declared.answer.Fitted.{Fitted}
-use Rattle.fitter.specs.declared.fault.FitFault.{FitFault}
 use Rattle.fitter.specs.declared.fault.FitFault.TheVariants as fit
-use Rattle.fitter.specs.Answers.{FitAnswers, IsFitOf}
 use Rattle.module_reader.specs.declared.fault.ReadFault.TheVariants as reading
-use Rattle.placer.specs.declared.fault.PlaceFault.{PlaceFault}
-use Rattle.module_reader.specs.Texts.{SpellsModule, IsRead, IsUnread}
 use Rattle.reports.specs.Summary.{assigned_cells, design_cells}
 use Rattle.compile_phases.specs.declared.fault.CompileFault.{CompileFault}
 use Rattle.compile_phases.specs.declared.fault.CompileFault.TheVariants.{Source, Place, Fit, OutOfMemory}

@@ -1,12 +1,8 @@
 -- A module is placed before its sections are read: what is said of it then is said of the placed module (this project's rule).
 use Rattle.std.specs.Prelude.{◌≡◌, ℕ, Some, List}
-use Rattle.pld_device.specs.Table.{Table}
-use Rattle.abel_tree.specs.Tree.{ModuleTree}
-use Rattle.abel_meaning.specs.Kinds.{names_of}
+use Rattle.compile_phases.specs.Prelude.{Table, ModuleTree, names_of, PlaceFault, HasNoPlacement, IsPlacedModule}
 use Rattle.reports.specs.Placings.{placing_text}
-use Rattle.placer.specs.declared.fault.PlaceFault.{PlaceFault}
 use Rattle.placer.specs.declared.fault.PlaceFault.TheVariants as placing
-use Rattle.placer.specs.Placements.{HasNoPlacement, IsPlacedModule}
 
 -- some placed module of this one, of which this holds
 pub record IsPlacedFor (holds : Table → ModuleTree → Type 0) (t : Table) (m : ModuleTree) : Type 0 where

@@ -1,34 +1,15 @@
 -- When a source is refused, for what, and with which line of the report, phase by phase; each kind comes only where none
 -- before it does (this project's rule).
 use Rattle.std.specs.Prelude.{◌≡◌, ◌⊎◌, ℕ, None, Some, List, [], All}
+use Rattle.compile_phases.specs.Prelude.{Table, Netlist, first_refusal, ModuleTree, design_of, device_named, names_of, plain_netlist, IsSoundNetlist, NameFault, device_place, name_refusals, first_name_refusal, section_order, IsRead, IsUnread, DesignFault, design_text, fit_text, AreContributed, all_sections_refused, IsFirstWide, NoneWide}
 use Rattle.pld_base.specs.declared.device_name.DeviceName.{DeviceName}
-use Rattle.pld_device.specs.Table.{Table}
-use Rattle.bit_expr.specs.declared.netlist.Netlist.{Netlist}
 use Rattle.bit_expr.specs.Arena.{arena}
-use Rattle.abel_tree.specs.FirstRefusal.{first_refusal}
-use Rattle.abel_tree.specs.Tree.{ModuleTree}
-use Rattle.abel_meaning.specs.Designs.{design_of}
-use Rattle.abel_meaning.specs.DeviceStrings.{device_named}
-use Rattle.abel_meaning.specs.Kinds.{names_of}
-use Rattle.abel_meaning.specs.Netlists.{plain_netlist}
-use Rattle.abel_meaning.specs.SoundIds.{IsSoundNetlist}
-use Rattle.decls.specs.declared.fault.NameFault.{NameFault}
 use Rattle.decls.specs.declared.fault.NameFault.TheVariants as naming
-use Rattle.decls.specs.Devices.{device_place}
-use Rattle.decls.specs.NameRefusals.{name_refusals, first_name_refusal}
 use Rattle.set_expr.specs.declared.contributions.Contributions.{Contributions}
-use Rattle.set_expr.specs.SectionOrder.{section_order}
 use Rattle.module_reader.specs.declared.fault.ReadFault.TheVariants as reading
-use Rattle.module_reader.specs.Texts.{IsRead, IsUnread}
 use Rattle.netlist_laws.specs.Gathered.{netlist_of}
 use Rattle.gathering.specs.Placed.{IsPlaced}
-use Rattle.design_checks.specs.declared.fault.DesignFault.{DesignFault}
 use Rattle.design.specs.Answers.{HasNoRefusal, IsDesignRefused}
-use Rattle.reports.specs.Designs.{design_text}
-use Rattle.reports.specs.Fits.{fit_text}
-use Rattle.source_sections.specs.SectionAnswers.{AreContributed}
-use Rattle.abel_vectors.specs.AllSections.{all_sections_refused}
-use Rattle.fitter.specs.Width.{IsFirstWide, NoneWide}
 use Rattle.fitter.specs.declared.fault.FitFault.TheVariants as fit
 use Rattle.compile_phases.specs.declared.fault.SourceFault.{SourceFault}
 use Rattle.compile_phases.specs.declared.fault.SourceFault.TheVariants.{Expand, Scan, Parse, Names, Sections, Design, Width}

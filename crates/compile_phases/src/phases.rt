@@ -1,22 +1,12 @@
 //! The phases of compiling, each with what it is refused for.
 
 ghost use Rattle.std.specs.Prelude.{◌≡◌, ◌≤◌, [], Some, IfOk, IfErr, length, All};
+ghost use Rattle.compile_phases.specs.Prelude.{entries_of, first_refusal, ModuleTree, design_of, IsSoundNetlist, first_name_refusal, section_order, AreContributed, AreSections, all_sections_refused, IsFitOf, IsPlacedModule};
 ghost use Rattle.jedec_file.specs.TestVectors.{IsTestVector};
-ghost use Rattle.abel_tree.specs.Entries.{entries_of};
-ghost use Rattle.abel_tree.specs.FirstRefusal.{first_refusal};
-ghost use Rattle.abel_tree.specs.Tree.{ModuleTree};
 ghost use Rattle.abel_tree.specs.View.{view_module};
-ghost use Rattle.abel_meaning.specs.Designs.{design_of};
 ghost use Rattle.abel_meaning.specs.DeviceStrings as strings;
-ghost use Rattle.abel_meaning.specs.SoundIds.{IsSoundNetlist};
-ghost use Rattle.decls.specs.NameRefusals.{first_name_refusal};
-ghost use Rattle.set_expr.specs.SectionOrder.{section_order};
-ghost use Rattle.source_sections.specs.SectionAnswers.{AreContributed};
-ghost use Rattle.abel_vectors.specs.AllSections.{AreSections, all_sections_refused};
 ghost use Rattle.netlist_laws.specs.Takeable.{IsTakeable};
-ghost use Rattle.fitter.specs.Answers.{IsFitOf};
 ghost use Rattle.placer.specs.Following.{HasNumberedNames};
-ghost use Rattle.placer.specs.Placements.{IsPlacedModule};
 ghost use Rattle.compile_phases.specs.declared.fault.CompileFault.TheVariants.{OutOfMemory};
 ghost use Rattle.compile_phases.specs.Phases.{AreDeclaredBy, AreNamesFor, IsDesignFault, IsFitRefused, IsNameFault, IsNetlistFor, IsOfPlacing, IsOfSource, IsReadAlone, IsSectionFault, IsTextFault, IsUnnamed};
 ghost use Rattle.compile_phases.specs.Placings.{IsUnplacedFor};

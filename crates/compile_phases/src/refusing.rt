@@ -1,19 +1,11 @@
 //! Refusals with their lines.
 
 ghost use Rattle.std.specs.Prelude.{◌≡◌, ℕ, List, Some, Err};
-ghost use Rattle.abel_tree.specs.Entries.{entries_of};
-ghost use Rattle.abel_tree.specs.Tree.{ModuleTree};
-ghost use Rattle.abel_meaning.specs.Kinds.{names_of};
-ghost use Rattle.abel_meaning.specs.SoundIds.{IsSoundNetlist};
-ghost use Rattle.reports.specs.Designs.{design_text};
-ghost use Rattle.reports.specs.Fits.{fit_text};
-ghost use Rattle.fitter.specs.Answers.{FitAnswers};
+ghost use Rattle.compile_phases.specs.Prelude.{entries_of, ModuleTree, names_of, IsSoundNetlist, design_text, fit_text, FitAnswers, IsUnread, Table};
 ghost use Rattle.decls.specs.declared.fault.NameFault.TheVariants as naming;
-ghost use Rattle.module_reader.specs.Texts.{IsUnread};
 ghost use Rattle.compile_phases.specs.declared.fault.CompileFault.TheVariants as compiling;
 ghost use Rattle.compile_phases.specs.declared.fault.SourceFault.TheVariants as source;
 ghost use Rattle.compile_phases.specs.Lines.{name_text, section_text};
-ghost use Rattle.pld_device.specs.Table.{Table};
 ghost use Rattle.placer.specs.Faults.{IsUnplaced};
 ghost use Rattle.compile_phases.specs.Phases.{IsFitRefused, IsMade, IsOfPlacing, IsOfSource, IsTextFault, IsTold};
 ghost use Rattle.compile_phases.specs.Placings.{IsUnplacedFor};

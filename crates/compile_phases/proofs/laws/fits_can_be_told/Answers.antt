@@ -1,5 +1,5 @@
 -- What is known of fitted netlists, put together.
-use Rattle.abel_meaning.specs.Netlists.{plain_netlist}
+use Rattle.compile_phases.proofs.Common.{plain_netlist}
 use Rattle.netlist_laws.specs.ExchangedNets.{netlist_shown}
 use Rattle.compile_phases.proofs.laws.fits_can_be_told.Goals as goal
 

@@ -1,8 +1,7 @@
 -- Names in which each pin has a number are sound, and no two are one pin; nothing is refused of them.
 use Rattle.std.proofs.Common.{◌≡◌, true, ap, ◌∙◌}
-use Rattle.abel_tree.specs.Entries.{entries_of}
+use Rattle.compile_phases.proofs.Common.{entries_of, view_module}
 use Rattle.abel_meaning.specs.Declarations.{are_numbered}
-use Rattle.abel_tree.specs.View.{view_module}
 use Rattle.compile_phases.proofs.UnrefusedNames.{memory_alone}
 use Rattle.compile_phases.proofs.phases.names_of.Goals as goal
 

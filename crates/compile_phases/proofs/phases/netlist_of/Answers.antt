@@ -1,7 +1,5 @@
 -- The design of accepted names and sections is accepted.
-use Rattle.bit_expr.specs.Arena.{arena}
-use Rattle.abel_tree.specs.View.{view_module}
-use Rattle.abel_meaning.specs.Designs.{design_of}
+use Rattle.compile_phases.proofs.Common.{arena, view_module, design_of}
 use Rattle.design.proofs.Unrefused.{unrefused}
 use Rattle.compile_phases.proofs.phases.netlist_of.Goals as goal
 

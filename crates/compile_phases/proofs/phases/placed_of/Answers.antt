@@ -1,5 +1,5 @@
 -- What is refused is refused of this module.
-use Rattle.abel_tree.specs.View.{view_module}
+use Rattle.compile_phases.proofs.Common.{view_module}
 use Rattle.compile_phases.proofs.phases.placed_of.Goals as goal
 
 pub unplaced-requires : goal.unplaced-requires

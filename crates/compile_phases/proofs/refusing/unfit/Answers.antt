@@ -1,5 +1,5 @@
 -- The fault is told with its line.
-use Rattle.abel_tree.specs.Entries.{entries_of}
+use Rattle.compile_phases.proofs.Common.{entries_of}
 use Rattle.compile_phases.proofs.Refusals.{told_fit}
 use Rattle.compile_phases.proofs.refusing.unfit.Goals as goal
 

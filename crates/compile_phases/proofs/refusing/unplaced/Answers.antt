@@ -1,7 +1,6 @@
 -- The line is told at the first signal.
 use Rattle.std.proofs.Common.{ℕ, List, IsSome, sym, subst}
-use Rattle.abel_tree.specs.Entries.{entries_of}
-use Rattle.reports.specs.Placings.{first_place}
+use Rattle.compile_phases.proofs.Common.{entries_of, first_place}
 use Rattle.placer.specs.Faults.{IsUnplaced}
 use Rattle.compile_phases.proofs.ToldPlacings.{first_told}
 use Rattle.compile_phases.proofs.refusing.unplaced.Goals as goal
