@@ -1,6 +1,6 @@
 -- Numbers among others.
 use Rattle.std.proofs.Common.{ℕ, ◌==◌, Bool, List}
-use Rattle.std.specs.List.{list_any}
+use Rattle.declared_names.proofs.Common.{list_any}
 
 -- s is among the numbers
 abbrev pub among : ℕ → List ℕ → Bool

@@ -1,15 +1,6 @@
 -- No two names have one number.
 use Rattle.std.proofs.Common.{◌≡◌, ℕ, ◌<◌, true, false, take, length, get_or, sym, ap, ◌∙◌, inl, inr, arith, ◌==◌, List, []}
-use Rattle.std.proofs.lemmas.Bool.{cases_lt, eqb-true, true≢false}
-use Rattle.std.proofs.lemmas.List.{get_or-take, get_or_past, length-take}
-use Rattle.std.proofs.lemmas.List.Folds.{list_any_at}
-use Rattle.std.proofs.lemmas.Option.{slice_get-get_or}
-use Rattle.abel_tree.specs.Entries.{Kind, APin, ANode, AConstant, ADeviceName, Entry}
-use Rattle.abel_meaning.specs.Controls.{is_pin}
-use Rattle.abel_meaning.specs.Designs.{no_name}
-use Rattle.decls.specs.NamesBefore.{is_on_pin, is_taken}
-use Rattle.decls.proofs.SoundEntries.{IsNewPin, AreSound, sound_at}
-use Rattle.declared_names.specs.AcceptedNames.{NumbersAreApart}
+use Rattle.declared_names.proofs.Common.{cases_lt, eqb-true, true≢false, get_or-take, get_or_past, length-take, list_any_at, slice_get-get_or, Kind, APin, ANode, AConstant, ADeviceName, Entry, is_pin, no_name, is_on_pin, is_taken, IsNewPin, AreSound, sound_at, NumbersAreApart}
 
 -- ---- pins
 

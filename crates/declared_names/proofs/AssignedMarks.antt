@@ -1,21 +1,10 @@
 -- Marks find what the sections assign, and whether on the clock.
 use Rattle.std.proofs.Common.{◌≡◌, ℕ, suc, ◌==◌, Bool, true, false, ◌||◌, ◌&&◌, if◌then◌else◌, Some, List, [], ◌∷◌, ◌++◌, refl, sym, ap, ap₂, ◌∙◌}
 use Rattle.std.specs.Prelude.{slice_get, bytes_eq}
-use Rattle.std.specs.List.{list_any}
-use Rattle.std.proofs.Math.Bool.{and-false, and-true}
-use Rattle.std.proofs.Math.Path.{fun_ext}
-use Rattle.abel_tree.specs.Assigned.{Assigned, Named, assigned_each, is_assigned, is_clocked_target, meant, named_after, named_of, sections_assign, signals_of_name}
-use Rattle.abel_tree.specs.Entries.{Kind, APin, ANode, AConstant, ADeviceName, Entry, is_signal}
-use Rattle.abel_tree.specs.Tree.{SectionTree}
-use Rattle.declared_names.specs.declared.following.Follow.TheVariants.{Targets}
-use Rattle.declared_names.specs.declared.marks.Mark.{Mark}
-use Rattle.declared_names.specs.Marking.{is_marked}
-use Rattle.declared_names.specs.Numbered.{value_of}
-use Rattle.declared_names.specs.Reading.{all_marks, sections_give, uses_read, value_uses}
+use Rattle.declared_names.proofs.Common.{list_any, and-false, and-true, fun_ext, Assigned, Named, assigned_each, is_assigned, is_clocked_target, meant, named_after, named_of, sections_assign, signals_of_name, Kind, APin, ANode, AConstant, ADeviceName, Entry, is_signal, SectionTree, Targets, Mark, is_marked, value_of, all_marks, sections_give, uses_read, value_uses, targets_in}
 use Rattle.declared_names.proofs.AssignedParts.{named_by, sections_assigned, targets_assign}
 use Rattle.declared_names.proofs.Looked.{after, look, marked_in_the_end, signal_at}
 use Rattle.declared_names.proofs.Passing.{at, strong_alone, weighs}
-use Rattle.name_uses.specs.Targets.{targets_in}
 
 abbrev name_of : Named → List ℕ
 name_of k = k.name

@@ -1,15 +1,7 @@
 -- What sections assign is what their parts give.
 use Rattle.std.proofs.Common.{◌≡◌, ℕ, Bool, true, ◌||◌, if◌then◌else◌, Option, Some, None, List, [], ◌∷◌, ◌++◌, refl, sym, ap, ◌∙◌}
-use Rattle.abel_meaning.specs.Held.{read_names}
-use Rattle.abel_tree.specs.Assigned.{Assigned, Named, assigned_by, assigned_each, is_clocked, sections_assign, signals_of, signals_of_name, signals_of_names, target_extension, without_extension}
-use Rattle.abel_tree.specs.declared.words.Extension.{Extension}
+use Rattle.declared_names.proofs.Common.{read_names, Assigned, Named, assigned_by, assigned_each, is_clocked, sections_assign, signals_of, signals_of_name, signals_of_names, target_extension, without_extension, Extension, is_data, is_raw, range_names, Tree, SectionTree, Targets, part_gives, sections_give, use_reads, uses_read, targets_in}
 use Rattle.abel_tree.specs.declared.words.Extension.TheVariants as ext
-use Rattle.abel_tree.specs.Extensions.{is_data, is_raw}
-use Rattle.abel_tree.specs.Ranges.{range_names}
-use Rattle.abel_tree.specs.Tree.{Tree, SectionTree}
-use Rattle.declared_names.specs.declared.following.Follow.TheVariants.{Targets}
-use Rattle.declared_names.specs.Reading.{part_gives, sections_give, use_reads, uses_read}
-use Rattle.name_uses.specs.Targets.{targets_in}
 use Rattle.name_uses.proofs.AssigningParts.{sections_assigned as parts_assign}
 use Rattle.name_uses.proofs.TargetSignals.{targets_give}
 

@@ -1,38 +1,17 @@
 -- Where nothing is refused, a register follows Q, or may, only where the device complements behind it.
 use Rattle.std.proofs.Common.{◌≡◌, ◌≢◌, ℕ, zero, suc, ◌+◌, ◌==◌, Bool, true, false, not, ◌&&◌, ◌||◌, if◌then◌else◌, Option, Some, None, List, [], ◌∷◌, ◌++◌, get_or, option_map, refl, sym, ap, ap₂, subst, ◌∙◌, arith, add-zero, suc-add, add-suc, zero-add}
 use Rattle.std.specs.Prelude.{slice_get, unwrap_or}
-use Rattle.std.specs.List.{All, list_all}
-use Rattle.std.proofs.lemmas.Bool.{and_parts, true≢false}
-use Rattle.std.proofs.lemmas.Bool.Decides.{nat_tests}
+use Rattle.declared_names.proofs.Common.{All, list_all, and_parts, true≢false, nat_tests, get_or_from_slice_get, slice_get_within, unwrap_or-slice_get, Flip, Table, Assigned, named_of, sections_assign, is_assigned, is_clocked_target, Entry, find, is_signal, is_stored, follows_q, SectionTree, ModuleTree, GivenName, declared_names, no_name, Holds, holds_of, is_held, is_buffer_by_default, is_registered, words_with_kind, with_kind, with_kinds, names_of, none_left, none_right, Targets, is_marked, all_marks, all_declarations, always_inverts, all_buffered, is_register_at, buffers_refused, module_buffers_refused, names_once, read_refusals, name_refusals, BuffersAreAllowed, module_accepted, AreSound}
 use Rattle.std.proofs.lemmas.List.Elements.{All-get_or}
-use Rattle.std.proofs.lemmas.Option.{get_or_from_slice_get, slice_get_within, unwrap_or-slice_get}
-use Rattle.pld_device.specs.declared.flip.Flip.{Flip}
 use Rattle.pld_device.specs.declared.flip.Flip.TheVariants.{Always, AfterRegister, BeforeRegister}
 use Rattle.pld_device.specs.Macrocells.{pin_complements}
-use Rattle.pld_device.specs.Table.{Table}
-use Rattle.abel_tree.specs.Assigned.{Assigned, named_of, sections_assign, is_assigned, is_clocked_target}
-use Rattle.abel_tree.specs.Entries.{Entry, find, is_signal, is_stored, follows_q}
-use Rattle.abel_tree.specs.Tree.{SectionTree, ModuleTree}
-use Rattle.abel_meaning.specs.Declarations.{GivenName, declared_names}
-use Rattle.abel_meaning.specs.Designs.{no_name}
-use Rattle.abel_meaning.specs.Held.{Holds, holds_of, is_held}
-use Rattle.abel_meaning.specs.Kinds.{is_buffer_by_default, is_registered, words_with_kind, with_kind, with_kinds, names_of}
-use Rattle.decls.proofs.NoRefusals.{none_left, none_right}
 use Rattle.declared_names.proofs.AssignedMarks.{is_found}
-use Rattle.declared_names.specs.declared.following.Follow.TheVariants.{Targets}
-use Rattle.declared_names.specs.Marking.{is_marked}
-use Rattle.declared_names.specs.Reading.{all_marks}
 use Rattle.declared_names.proofs.Passing.{at}
 use Rattle.decls.specs.declared.fault.NameFault.TheVariants as fault
-use Rattle.decls.specs.AllDeclarations.{all_declarations}
-use Rattle.decls.specs.NameRefusals.{always_inverts, all_buffered, is_register_at, buffers_refused, module_buffers_refused, names_once, read_refusals, name_refusals}
-use Rattle.declared_names.specs.AcceptedNames.{BuffersAreAllowed}
-use Rattle.decls.proofs.Accepted.{module_accepted}
 use Rattle.decls.proofs.Among.{of_among}
 use Rattle.declared_names.proofs.Buffers.{registered_by, declared_at}
 use Rattle.decls.proofs.Placed.{found_at}
 use Rattle.decls.proofs.SaidBuffers.{IsTold}
-use Rattle.decls.proofs.SoundEntries.{AreSound}
 
 -- none of these names is a register's
 none_registered : (found : List Assigned) (es : List Entry) (xs : List GivenName) → buffers_refused found es xs ≡ [] → list_all (λ (x : GivenName). not (is_register_at found es (find es x.name))) xs ≡ true

@@ -1,24 +1,9 @@
 -- The registers of the names as the table keeps them are those of the names as they are declared.
 use Rattle.std.proofs.Common.{◌≡◌, ℕ, zero, suc, ◌+◌, Bool, false, ◌&&◌, if◌then◌else◌, Option, Some, None, List, [], ◌∷◌, ◌++◌, ◌<◌, map, take, length, get_or, refl, sym, ap, ap₂, ◌∙◌, append_assoc, add-zero, suc-add, add-suc, zero-add}
 use Rattle.std.specs.Prelude.{slice_get}
-use Rattle.std.proofs.lemmas.List.{append-nil, get_or_default, take_more}
+use Rattle.declared_names.proofs.Common.{append-nil, get_or_default, take_more, Flip, Table, Assigned, Named, meant, named_after, named_of, sections_assign, is_clocked_target, Kind, APin, ANode, AConstant, ADeviceName, Words, Entry, find, is_signal, ModuleTree, GivenName, Holds, holds_of, is_registered, is_buffer, settled_words, stays_free, with_kinds, with_assigned, NameFault, Buffered, all_declarations, always_inverts, all_buffered, is_register_at, buffers_refused, names_once, module_buffers_refused, buffered_names, number_if, numbered, kept, kept_kind, is_register, register_refused, registers_refused, refused_for}
 use Rattle.pld_base.specs.declared.place.Place.{Place}
-use Rattle.pld_device.specs.declared.flip.Flip.{Flip}
-use Rattle.pld_device.specs.Table.{Table}
-use Rattle.abel_tree.specs.Assigned.{Assigned, Named, meant, named_after, named_of, sections_assign, is_clocked_target}
-use Rattle.abel_tree.specs.Entries.{Kind, APin, ANode, AConstant, ADeviceName, Words, Entry, find, is_signal}
-use Rattle.abel_tree.specs.Tree.{ModuleTree}
-use Rattle.abel_meaning.specs.Declarations.{GivenName}
-use Rattle.abel_meaning.specs.Held.{Holds, holds_of}
-use Rattle.abel_meaning.specs.Kinds.{is_registered, is_buffer, settled_words, stays_free, with_kinds, with_assigned}
-use Rattle.decls.specs.declared.fault.NameFault.{NameFault}
 use Rattle.decls.specs.declared.fault.NameFault.TheVariants as fault
-use Rattle.decls.specs.declared.reading.Buffered.{Buffered}
-use Rattle.decls.specs.AllDeclarations.{all_declarations}
-use Rattle.decls.specs.NameRefusals.{always_inverts, all_buffered, is_register_at, buffers_refused, names_once, module_buffers_refused}
-use Rattle.decls.specs.Numbers.{buffered_names, number_if, numbered}
-use Rattle.decls.specs.Shown.{kept, kept_kind}
-use Rattle.declared_names.specs.Registers.{is_register, register_refused, registers_refused, refused_for}
 
 -- ---- what targets name does not depend on the numbers of pins and nodes
 

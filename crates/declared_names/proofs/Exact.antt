@@ -1,38 +1,11 @@
 -- What is answered where nothing is refused.
 use Rattle.std.proofs.Common.{◌≡◌, Bool, true, false, ◌&&◌, if◌then◌else◌, Option, None, List, [], ◌∷◌, ◌++◌, map, refl, sym, ap, ap₂, subst, ◌∙◌}
-use Rattle.std.specs.List.{list_any}
-use Rattle.std.proofs.lemmas.List.{append-nil}
-use Rattle.std.proofs.lemmas.Bool.{or_parts}
-use Rattle.pld_device.specs.declared.flip.Flip.{Flip}
-use Rattle.pld_device.specs.Table.{Table}
-use Rattle.abel_tree.specs.declared.names.Names.{Names}
-use Rattle.abel_tree.specs.Assigned.{named_of, sections_assign}
-use Rattle.abel_tree.specs.Entries.{Entry, entries_of}
-use Rattle.abel_tree.specs.FirstRefusal.{first_refusal}
-use Rattle.abel_tree.specs.SoundNames.{IsNamed, are_named, module_uses}
-use Rattle.abel_tree.specs.Tree.{Declaration, ADevice, SomePins, SomeNodes, SomeAttributes, SomeConstants, SomeOptions, DontCareFor, ModuleTree}
-use Rattle.abel_tree.proofs.FirstRefusals.{none_refused}
-use Rattle.abel_meaning.specs.Declarations.{GivenName, all_said, declared_names}
-use Rattle.abel_meaning.specs.Held.{holds_of}
-use Rattle.abel_meaning.specs.Kinds.{names_of, with_assigned}
-use Rattle.decls.specs.declared.fault.NameFault.{NameFault}
-use Rattle.decls.specs.declared.reading.Buffered.{Buffered}
-use Rattle.decls.specs.AllDeclarations.{all_declarations}
+use Rattle.declared_names.proofs.Common.{list_any, append-nil, or_parts, Flip, Table, Names, named_of, sections_assign, Entry, entries_of, first_refusal, IsNamed, are_named, module_uses, Declaration, ADevice, SomePins, SomeNodes, SomeAttributes, SomeConstants, SomeOptions, DontCareFor, ModuleTree, none_refused, GivenName, all_said, declared_names, holds_of, names_of, with_assigned, NameFault, Buffered, all_declarations, name_order, always_inverts, all_buffered, buffered, buffers_refused, first_name_refusal, name_refusals, module_buffers_refused, names_once, read_refusals, names_behind, buffered_names, kept, none_left, AreDeclaredFor, NumbersAreApart, BuffersAreAllowed, refused_for, Accepted, module_accepted, AreSound, sound_alike, sound_at}
 use Rattle.decls.specs.Buffers.{says_buffer, registers_wait}
-use Rattle.decls.specs.FaultOrder.{name_order}
-use Rattle.decls.specs.NameRefusals.{always_inverts, all_buffered, buffered, buffers_refused, first_name_refusal, name_refusals, module_buffers_refused, names_once, read_refusals}
-use Rattle.decls.specs.NamesBefore.{names_behind}
-use Rattle.decls.specs.Numbers.{buffered_names}
-use Rattle.decls.specs.Shown.{kept}
-use Rattle.decls.proofs.NoRefusals.{none_left}
-use Rattle.declared_names.specs.AcceptedNames.{AreDeclaredFor, NumbersAreApart, BuffersAreAllowed}
-use Rattle.declared_names.specs.Registers.{refused_for}
 use Rattle.declared_names.proofs.Buffers.{refused_same}
-use Rattle.decls.proofs.Accepted.{Accepted, module_accepted}
 use Rattle.decls.proofs.NamesAlike.{alike_settled, extends_alike, named_more}
 use Rattle.declared_names.proofs.Behind.{module_buffers}
 use Rattle.declared_names.proofs.Apart.{numbers_apart}
-use Rattle.decls.proofs.SoundEntries.{AreSound, sound_alike, sound_at}
 
 -- the first refusal of all, by what was read, settled and refused of registers
 pub first_same : (t : Table) (m : ModuleTree) (flip : Flip) (read settled : List Entry) (bs : List Buffered) (f r : Option NameFault) → flip ≡ t.flip → read ≡ map (kept t) (names_once m) → settled ≡ with_assigned flip m.sections read → bs ≡ buffered_names m → f ≡ first_refusal name_order (read_refusals t m)

@@ -1,20 +1,13 @@
 -- Marks find which registers are held.
 use Rattle.std.proofs.Common.{◌≡◌, ℕ, suc, ◌==◌, Bool, true, false, ◌||◌, ◌&&◌, if◌then◌else◌, Some, None, List, [], ◌∷◌, ◌++◌, refl, sym, ap, ◌∙◌}
 use Rattle.std.specs.Prelude.{slice_get, bytes_eq}
-use Rattle.std.proofs.Math.Bool.{and-false, and-true}
-use Rattle.std.proofs.Math.Path.{fun_ext}
-use Rattle.abel_tree.specs.Entries.{Kind, APin, ANode, AConstant, ADeviceName, Entry, is_signal}
-use Rattle.abel_tree.specs.Tree.{SectionTree}
-use Rattle.abel_meaning.specs.Held.{Held, held_after, held_by, held_meant, held_of, holds_of}
-use Rattle.declared_names.specs.declared.following.Follow.TheVariants.{Reads}
-use Rattle.declared_names.specs.Numbered.{value_of}
-use Rattle.declared_names.specs.Reading.{all_marks, sections_give, uses_read, value_uses}
+use Rattle.declared_names.proofs.Common.{and-false, and-true, fun_ext, Kind, APin, ANode, AConstant, ADeviceName, Entry, is_signal, SectionTree, held_after, held_by, held_meant, held_of, holds_of, Reads, value_of, all_marks, sections_give, uses_read, value_uses, names_used}
+use Rattle.abel_meaning.specs.Held.{Held}
 use Rattle.declared_names.proofs.AmongNumbers.{among}
 use Rattle.declared_names.proofs.HeldParts.{sections_read}
 use Rattle.declared_names.proofs.Looked.{after, look, marked_in_the_end, signal_at}
 use Rattle.declared_names.proofs.Passing.{at, strong_alone, weighs}
 use Rattle.declared_names.proofs.UsedNames.{read_used}
-use Rattle.name_uses.specs.NamesUsed.{names_used}
 
 abbrev name_of : Held → List ℕ
 name_of k = k.name

@@ -1,18 +1,8 @@
 -- What sections hold is what their parts give.
 use Rattle.std.proofs.Common.{◌≡◌, ℕ, Bool, true, false, ◌||◌, if◌then◌else◌, Some, None, List, [], ◌∷◌, ◌++◌, map, refl, sym, ap, ap₂, ◌∙◌}
-use Rattle.std.specs.List.{flat_map, list_any}
-use Rattle.std.proofs.lemmas.List.Folds.{list_any-append}
-use Rattle.abel_meaning.specs.Held.{read_in, Part, part_reads, part_shares, parts_read, sections_parts}
-use Rattle.abel_tree.specs.Assigned.{target_extension, without_extension}
+use Rattle.declared_names.proofs.Common.{flat_map, list_any, list_any-append, read_in, Part, part_reads, part_shares, parts_read, sections_parts, target_extension, without_extension, is_raw, Tree, SectionTree, Reads, part_gives, sections_give, uses_read, section_shares, shares_all, names_used, PartedSection, with_parts}
 use Rattle.abel_tree.specs.declared.words.Extension.TheVariants.{Q}
-use Rattle.abel_tree.specs.Extensions.{is_raw}
-use Rattle.abel_tree.specs.Tree.{Tree, SectionTree}
-use Rattle.declared_names.specs.declared.following.Follow.TheVariants.{Reads}
-use Rattle.declared_names.specs.Reading.{part_gives, sections_give, uses_read}
-use Rattle.declared_names.specs.Sharing.{section_shares, shares_all}
 use Rattle.declared_names.proofs.UsedNames.{read_used}
-use Rattle.name_uses.specs.NamesUsed.{names_used}
-use Rattle.name_uses.specs.Viewed.{PartedSection, with_parts}
 use Rattle.name_uses.proofs.HoldingParts.{sections_followed}
 
 -- ---- what is read

@@ -1,11 +1,6 @@
 -- One more item of a list.
 use Rattle.std.proofs.Common.{◌≡◌, ℕ, ◌+◌, ◌<◌, Bool, List, [], ◌∷◌, ◌++◌, fold, map, take, length, get_or, sym, ap, ◌∙◌, append_assoc}
-use Rattle.std.specs.List.{flat_map}
-use Rattle.std.proofs.lemmas.List.{append-nil}
-use Rattle.std.proofs.lemmas.List.Concat.{flat_map-append}
-use Rattle.std.proofs.lemmas.List.Sums.{fold-append}
-use Rattle.abel_meaning.specs.Held.{read_names}
-use Rattle.decls.proofs.Rows.{mapped_more}
+use Rattle.declared_names.proofs.Common.{flat_map, append-nil, flat_map-append, fold-append, read_names, mapped_more}
 
 -- what the items of a list give is folded in, and one item more
 pub folded_next : {S X A B : Type 0} (step : S → X → S) (f : List B → List X) (g : B → List X) → ((xs : List B) (x : B) → f (xs ++ x ∷ []) ≡ f xs ++ g x) → (v : A → B) (old now new : S) (es : List A) (k : ℕ) (e : A)

@@ -4,6 +4,7 @@ pub mod AssignedMarks
 pub mod AssignedParts
 pub mod Behind
 pub mod Buffers
+pub mod Common
 pub mod Exact
 pub mod HeldMarks
 pub mod HeldParts

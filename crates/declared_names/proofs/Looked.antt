@@ -1,23 +1,9 @@
 -- Names that stand for what those before them do: marks find what they stand for.
 use Rattle.std.proofs.Common.{◌≡◌, ℕ, zero, suc, ◌+◌, ◌==◌, ◌<◌, ◌≤◌, Bool, true, false, ◌||◌, ◌&&◌, if◌then◌else◌, Option, Some, None, List, [], ◌∷◌, ◌++◌, take, length, get_or, refl, sym, ap, ap₂, subst, ◌∙◌, arith, eqb-true, add-zero, suc-add, add-suc, zero-add}
 use Rattle.std.specs.Prelude.{is_some, slice_get, bytes_eq}
-use Rattle.std.specs.List.{list_any}
-use Rattle.std.proofs.lemmas.Bool.{eq-eqb}
-use Rattle.std.proofs.lemmas.List.{length-take}
-use Rattle.std.proofs.lemmas.List.Folds.{list_any-append}
+use Rattle.declared_names.proofs.Common.{list_any, eq-eqb, length-take, list_any-append, slice_get-get_or, slice_get_within, and-false, or-false, or_assoc, Assigned, Entry, find, is_signal, SectionTree, no_name, Follow, Mark, earlier_number, number_of_name, value_at, value_of, all_marks, given_by, number_given, numbers_read, sections_give, uses_read, value_uses, is_name}
 use Rattle.std.proofs.lemmas.List.Quantifiers.{position-Some}
-use Rattle.std.proofs.lemmas.Option.{slice_get-get_or, slice_get_within}
-use Rattle.std.proofs.Math.Bool.{and-false, or-false, or_assoc}
 use Rattle.std.proofs.Math.Seq.{take-length, take-suc}
-use Rattle.abel_tree.specs.Assigned.{Assigned}
-use Rattle.abel_tree.specs.Entries.{Entry, find, is_signal}
-use Rattle.abel_tree.specs.Tree.{SectionTree}
-use Rattle.abel_meaning.specs.Designs.{no_name}
-use Rattle.declared_names.specs.declared.following.Follow.{Follow}
-use Rattle.declared_names.specs.declared.marks.Mark.{Mark}
-use Rattle.declared_names.specs.Numbered.{earlier_number, number_of_name, value_at, value_of}
-use Rattle.declared_names.specs.Reading.{all_marks, given_by, number_given, numbers_read, sections_give, uses_read, value_uses}
-use Rattle.decls.proofs.Told.{is_name}
 use Rattle.declared_names.proofs.Numbering.{find_more, some_found}
 use Rattle.declared_names.proofs.Passing.{at, carried_at, counted, found_in_the_end, higher, lower, reach, reach_beyond, weighs}
 use Rattle.declared_names.proofs.ReadsAlike.{ReadsAlike, marked_alike, sections_alike, uses_alike}

@@ -1,16 +1,7 @@
 -- Where each pin has a number, names are sound, and no two are one pin.
 use Rattle.std.proofs.Common.{◌≡◌, ℕ, ◌<◌, ◌==◌, true, false, not, List, length, get_or, sym, ap, ◌∙◌, inl, inr, eqb-true}
-use Rattle.std.proofs.lemmas.Bool.{true≢false, cases_Bool}
-use Rattle.std.proofs.lemmas.List.Folds.{list_any_at}
-use Rattle.std.proofs.lemmas.Option.{get_or_from_slice_get, slice_get_within}
+use Rattle.declared_names.proofs.Common.{true≢false, cases_Bool, list_any_at, get_or_from_slice_get, slice_get_within, Names, Kind, APin, ANode, AConstant, ADeviceName, Entry, entries_of, SoundNames, is_pin, are_numbered, is_unnumbered, no_name, AreDeclaredFor, NumbersAreApart, PinsAreApart}
 use Rattle.pld_base.specs.declared.device_name.DeviceName.{DeviceName}
-use Rattle.abel_tree.specs.declared.names.Names.{Names}
-use Rattle.abel_tree.specs.Entries.{Kind, APin, ANode, AConstant, ADeviceName, Entry, entries_of}
-use Rattle.abel_tree.specs.SoundNames.{SoundNames}
-use Rattle.abel_meaning.specs.Controls.{is_pin}
-use Rattle.abel_meaning.specs.Declarations.{are_numbered, is_unnumbered}
-use Rattle.abel_meaning.specs.Designs.{no_name}
-use Rattle.declared_names.specs.AcceptedNames.{AreDeclaredFor, NumbersAreApart, PinsAreApart}
 use Rattle.declared_names.proofs.Apart.{within}
 
 -- a name of the list has a number, if it is a pin

@@ -1,22 +1,10 @@
 -- The names' numbers: those of the first names, in a map, and with one name more.
 use Rattle.std.proofs.Common.{◌≡◌, ℕ, zero, suc, ◌+◌, ◌<◌, ◌≤◌, Bool, true, false, ◌||◌, Option, Some, None, List, [], ◌∷◌, ◌++◌, map, take, length, get_or, if◌then◌else◌, refl, sym, ap, ◌∙◌, arith, cond, zero-add}
 use Rattle.std.specs.Prelude.{is_some, min, option_copied}
+use Rattle.declared_names.proofs.Common.{list_any, position_from, bytes_eq, lt-ltb, le-ltb, true≢false, length-map, length-take, position_from-zero, Declared, Entry, find, view_declared, mapped_more, Mark, all_marked, hit, number_given, numbers_read, below, number_in, earlier_number, number_of_name, is_name}
 use Rattle.std.specs.Global.{Vec}
-use Rattle.std.specs.List.{list_any, position_from}
 use denote.Ref.{Bor}
-use Rattle.std.specs.Str.{bytes_eq}
-use Rattle.std.proofs.lemmas.Bool.{lt-ltb, le-ltb, true≢false}
-use Rattle.std.proofs.lemmas.List.{length-map, length-take}
-use Rattle.std.proofs.lemmas.Iterator.Adapters.{position_from-zero}
-use Rattle.abel_tree.specs.declared.names.Declared.{Declared}
-use Rattle.abel_tree.specs.Entries.{Entry, find, view_declared}
 use Rattle.decls.proofs.FirstNames.{same_bytes}
-use Rattle.decls.proofs.Rows.{mapped_more}
-use Rattle.declared_names.specs.declared.marks.Mark.{Mark}
-use Rattle.declared_names.specs.Marking.{all_marked, hit}
-use Rattle.declared_names.specs.Reading.{number_given, numbers_read}
-use Rattle.declared_names.specs.Numbered.{below, number_in, earlier_number, number_of_name}
-use Rattle.decls.proofs.Told.{is_name}
 
 -- ---- the first names
 

@@ -1,20 +1,8 @@
 -- The names by their marks, and what one name passes on.
 use Rattle.std.proofs.Common.{◌≡◌, ℕ, suc, ◌+◌, Bool, true, false, None, List, [], ◌∷◌, ◌++◌, arith, map, length, get_or, if◌then◌else◌, refl, ap, ap₂, ◌∙◌, sym, subst, add-zero, suc-add, add-suc}
 use Rattle.std.specs.Prelude.{slice_get}
-use Rattle.std.proofs.lemmas.List.{length-map, map-append}
-use Rattle.abel_tree.specs.declared.names.Declared.{Declared}
-use Rattle.abel_tree.specs.Entries.{Entry, view_declared}
-use Rattle.declared_names.specs.declared.following.Follow.{Follow}
-use Rattle.declared_names.specs.declared.held.Held.{Held}
-use Rattle.declared_names.specs.Marking.{clear}
-use Rattle.declared_names.specs.Numbered.{value_at}
-use Rattle.declared_names.specs.Reading.{by_mark, given_by, numbers_read, uses_read, value_uses}
-use Rattle.declared_names.specs.Settled.{is_held_at, kind_by, kinds_by}
-use Rattle.declared_names.specs.declared.marks.Mark.{Mark}
+use Rattle.declared_names.proofs.Common.{length-map, map-append, Declared, Entry, view_declared, Follow, Held, clear, value_at, by_mark, given_by, numbers_read, uses_read, value_uses, is_held_at, kind_by, kinds_by, Mark, UsedName, view_use, Flip}
 use Rattle.name_uses.specs.declared.name_use.NameUse.{NameUse}
-use Rattle.name_uses.specs.NamesUsed.{UsedName}
-use Rattle.name_uses.specs.Viewed.{view_use}
-use Rattle.pld_device.specs.declared.flip.Flip.{Flip}
 
 -- ---- one name more with its kind
 

@@ -2,15 +2,7 @@
 -- marked at the beginning, or that names gave to which that comes.
 use Rattle.std.proofs.Common.{◌≡◌, ℕ, zero, suc, ◌==◌, ◌<◌, ◌≤◌, Bool, true, false, ◌||◌, ◌&&◌, List, [], ◌∷◌, length, get_or, refl, sym, ap, ap₂, ◌∙◌, arith}
 use Rattle.std.specs.Prelude.{replicate}
-use Rattle.std.specs.List.{list_any}
-use Rattle.std.proofs.lemmas.Bool.{eq-eqb, eqb-true, ne_eqb, true≢false}
-use Rattle.std.proofs.lemmas.Bool.Decides.{nat_tests}
-use Rattle.std.proofs.lemmas.List.{length-replicate, length-set}
-use Rattle.std.proofs.Math.Bool.{and-false, and-true, or-true, or-false, or_assoc, or_self}
-use Rattle.std.proofs.Math.Path.{fun_ext}
-use Rattle.abel_tree.specs.Assigned.{Assigned}
-use Rattle.declared_names.specs.declared.marks.Mark.{Mark}
-use Rattle.declared_names.specs.Marking.{all_marked, clear, hit, passed, raised}
+use Rattle.declared_names.proofs.Common.{list_any, eq-eqb, eqb-true, ne_eqb, true≢false, nat_tests, length-replicate, length-set, and-false, and-true, or-true, or-false, or_assoc, or_self, fun_ext, Assigned, Mark, all_marked, clear, hit, passed, raised}
 
 abbrev pub at : List Mark → ℕ → Mark
 at ms k = get_or ms k clear

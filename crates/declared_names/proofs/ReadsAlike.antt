@@ -1,16 +1,8 @@
 -- What two readings of names say of what is named, where they say the same of each name.
 use Rattle.std.proofs.Common.{◌≡◌, ℕ, Bool, true, false, ◌||◌, ◌&&◌, if◌then◌else◌, Option, Some, None, List, [], ◌∷◌, ◌++◌, refl, sym, ap₂, ◌∙◌}
-use Rattle.std.specs.List.{flat_map, list_any}
-use Rattle.std.proofs.lemmas.List.Folds.{list_any-append}
+use Rattle.declared_names.proofs.Common.{flat_map, list_any, list_any-append, range_names, SectionTree, asks_q, read_names, Follow, Mark, by_mark, part_gives, part_names, reads_to, sections_give, use_reads, uses_read, UsedName}
 use Rattle.abel_tree.specs.declared.words.Word.{Word}
-use Rattle.abel_tree.specs.Ranges.{range_names}
-use Rattle.abel_tree.specs.Tree.{SectionTree}
-use Rattle.abel_meaning.specs.Held.{asks_q, read_names}
-use Rattle.declared_names.specs.declared.following.Follow.{Follow}
-use Rattle.declared_names.specs.declared.marks.Mark.{Mark}
-use Rattle.declared_names.specs.Reading.{by_mark, part_gives, part_names, reads_to, sections_give, use_reads, uses_read}
 use Rattle.declared_names.proofs.Passing.{weighs}
-use Rattle.name_uses.specs.NamesUsed.{UsedName}
 use Rattle.name_uses.specs.Parts.{PartTree, parts_in_section}
 
 pub joined : {A B : Type 0} (p : A → Bool) (q : B → Bool) (xs xt : List A) (ys yt : List B) → list_any p xs ≡ list_any q ys → list_any p xt ≡ list_any q yt → list_any p (xs ++ xt) ≡ list_any q (ys ++ yt)

@@ -1,18 +1,7 @@
 -- The names by what is marked and held are the names with their kinds.
 use Rattle.std.proofs.Common.{◌≡◌, ℕ, suc, ◌+◌, Bool, true, false, ◌||◌, if◌then◌else◌, Some, List, [], ◌∷◌, refl, sym, ap, ap₂, subst, ◌∙◌, add-zero, suc-add, add-suc, zero-add}
 use Rattle.std.specs.Prelude.{slice_get}
-use Rattle.std.specs.List.{list_any}
-use Rattle.pld_device.specs.declared.flip.Flip.{Flip}
-use Rattle.abel_tree.specs.Assigned.{Assigned, is_assigned, is_clocked_target, named_of, sections_assign}
-use Rattle.abel_tree.specs.Entries.{Words, Entry, is_signal}
-use Rattle.abel_tree.specs.Tree.{SectionTree}
-use Rattle.abel_meaning.specs.Held.{holds_of, is_held, part_shares, sections_parts}
-use Rattle.abel_meaning.specs.Kinds.{is_registered, with_kind, with_kinds, with_assigned, words_with_kind}
-use Rattle.declared_names.specs.declared.following.Follow.TheVariants.{Reads, Targets}
-use Rattle.declared_names.specs.declared.held.Held.{Held}
-use Rattle.declared_names.specs.declared.marks.Mark.{Mark}
-use Rattle.declared_names.specs.Reading.{all_marks}
-use Rattle.declared_names.specs.Settled.{is_held_at, kind_by, kinds_by, words_by}
+use Rattle.declared_names.proofs.Common.{list_any, Flip, Assigned, is_assigned, is_clocked_target, named_of, sections_assign, Words, Entry, is_signal, SectionTree, holds_of, is_held, part_shares, sections_parts, is_registered, with_kind, with_kinds, with_assigned, words_with_kind, Reads, Targets, Held, Mark, all_marks, is_held_at, kind_by, kinds_by, words_by}
 use Rattle.declared_names.proofs.AssignedMarks.{is_clocked, is_found}
 use Rattle.declared_names.proofs.HeldMarks.{is_read}
 use Rattle.declared_names.proofs.Passing.{at}

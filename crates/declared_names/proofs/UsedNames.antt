@@ -1,15 +1,7 @@
 -- What an expression reads is what the names that it uses give.
 use Rattle.std.proofs.Common.{◌≡◌, ℕ, Bool, Option, Some, None, List, ◌++◌, refl, sym, ap, ap₂, ◌∙◌}
-use Rattle.std.proofs.lemmas.List.{append-nil}
-use Rattle.std.proofs.lemmas.List.Concat.{flat_map-append}
-use Rattle.abel_meaning.specs.Held.{asks_q, read_in, read_in_member, read_in_members, read_names}
-use Rattle.abel_tree.specs.Ranges.{range_names}
-use Rattle.abel_tree.specs.Tree.{Tree, ANumber, ASpecial, AName, ASet, AParen, AUnary, ABinary, SetMember, OneMember, SpanMember, Members, NoMember, MoreMembers}
-use Rattle.abel_tree.specs.declared.words.Extension.{Extension}
+use Rattle.declared_names.proofs.Common.{append-nil, flat_map-append, asks_q, read_in, read_in_member, read_in_members, read_names, range_names, Tree, ANumber, ASpecial, AName, ASet, AParen, AUnary, ABinary, SetMember, OneMember, SpanMember, Members, NoMember, MoreMembers, Extension, use_reads, uses_read, innermost, UsedName, member_used, members_used, names_used}
 use Rattle.abel_tree.specs.declared.words.Extension.TheVariants as ext
-use Rattle.declared_names.specs.Reading.{use_reads, uses_read}
-use Rattle.abel_tree.specs.Extensions.{innermost}
-use Rattle.name_uses.specs.NamesUsed.{UsedName, member_used, members_used, names_used}
 
 -- an extension counts before that around it
 nearest : (as_q : Bool) (own outer : Option Extension) → asks_q (asks_q as_q outer) own ≡ asks_q as_q (innermost own outer)

@@ -1,13 +1,10 @@
 -- What holds of the names of a module of which nothing is refused (this project's rule).
 use Rattle.std.specs.Prelude.{◌≡◌, ◌≢◌, ℕ, ◌==◌, true, false, Some, List, get_or, slice_get, take}
+use Rattle.declared_names.specs.Prelude.{Table, Entry, entries_of, is_stored, follows_q, IsSoundKind, SoundNames, are_numbered, is_unnumbered}
 use Rattle.pld_base.specs.declared.device_name.DeviceName.{DeviceName}
 use Rattle.pld_device.specs.declared.flip.Flip.TheVariants.{AfterRegister}
-use Rattle.pld_device.specs.Table.{Table}
 use Rattle.abel_tree.specs.declared.names.Names.{Names}
-use Rattle.abel_tree.specs.Entries.{Entry, entries_of, is_stored, follows_q}
-use Rattle.abel_tree.specs.SoundNames.{IsSoundKind, SoundNames}
 use Rattle.abel_meaning.specs.Controls.{is_pin}
-use Rattle.abel_meaning.specs.Declarations.{are_numbered, is_unnumbered}
 use Rattle.abel_meaning.specs.Designs.{no_name}
 
 -- the names are those of a device with so many pins: each pin that has a number is one of them, nodes are below 128, and

@@ -1,7 +1,7 @@
 -- Marks of names: a target on the clock and a read of Q mark strongly, any other plainly (ABEL-HDL Reference Manual, equations
 -- and dot extensions).
 use Rattle.std.specs.Prelude.{ℕ, zero, suc, Bool, true, false, ◌||◌, List, fold, set, get_or}
-use Rattle.abel_tree.specs.Assigned.{Assigned}
+use Rattle.declared_names.specs.Prelude.{Assigned}
 use Rattle.declared_names.specs.declared.marks.Mark.{Mark}
 
 -- nothing names it

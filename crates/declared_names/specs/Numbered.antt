@@ -1,9 +1,8 @@
 -- The numbers of names, and the values of constants.
 use Rattle.std.specs.Prelude.{◌≡◌, ℕ, Option, None, Some, List, if◌then◌else◌, nat_lt, bytes_eq}
+use Rattle.declared_names.specs.Prelude.{Kind, APin, ANode, AConstant, ADeviceName, Entry, find, Tree}
 use Rattle.std.specs.Global.{Vec}
 use Rattle.std.specs.Map.{lookup}
-use Rattle.abel_tree.specs.Entries.{Kind, APin, ANode, AConstant, ADeviceName, Entry, find}
-use Rattle.abel_tree.specs.Tree.{Tree}
 use Rattle.declared_names.specs.declared.numbers.Numbers.{Numbers}
 
 -- the value of a name, if it is a constant

@@ -1,13 +1,9 @@
 -- What sections and constants name, as it is marked: what is read with `.Q` behind it is told as what is assigned on the clock
 -- is, and so marks strongly (ABEL-HDL Reference Manual, equations and dot extensions).
 use Rattle.std.specs.Prelude.{◌≡◌, ℕ, Bool, true, false, ◌||◌, Option, None, Some, List, [], ◌∷◌, ◌++◌, if◌then◌else◌, map, length, replicate, slice_get, take}
-use Rattle.std.specs.List.{flat_map}
-use Rattle.abel_meaning.specs.Held.{asks_q, read_names}
-use Rattle.abel_tree.specs.Assigned.{Assigned, is_clocked, target_extension, without_extension}
-use Rattle.abel_tree.specs.Entries.{Entry, find}
+use Rattle.declared_names.specs.Prelude.{flat_map, asks_q, read_names, Assigned, is_clocked, target_extension, without_extension, Entry, find, SectionTree, Tree, PartRole, PartTree, PartedSection, with_parts}
 use Rattle.abel_tree.specs.Extensions.{is_data, is_raw}
 use Rattle.abel_tree.specs.Ranges.{range_names}
-use Rattle.abel_tree.specs.Tree.{SectionTree, Tree}
 use Rattle.abel_tree.specs.declared.words.Extension.TheVariants.{Q}
 use Rattle.abel_tree.specs.declared.words.Word.{Word}
 use Rattle.declared_names.specs.declared.following.Follow.{Follow}
@@ -18,9 +14,7 @@ use Rattle.declared_names.specs.Marking.{all_marked, clear, passed}
 use Rattle.declared_names.specs.Numbered.{IsNumbering, value_at}
 use Rattle.name_uses.specs.NamesUsed.{UsedName, names_used}
 use Rattle.name_uses.specs.Parts as role
-use Rattle.name_uses.specs.Parts.{PartRole, PartTree}
 use Rattle.name_uses.specs.Targets.{targets_in}
-use Rattle.name_uses.specs.Viewed.{PartedSection, with_parts}
 
 -- ---- names
 

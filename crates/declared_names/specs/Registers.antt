@@ -1,11 +1,8 @@
 -- Registers that are declared `buffer`, among names whose kinds are known (this project's rule).
 use Rattle.std.specs.Prelude.{Bool, false, ◌&&◌, Option, None, Some, List, [], ◌∷◌, ◌++◌, if◌then◌else◌, slice_get}
-use Rattle.pld_device.specs.Table.{Table}
-use Rattle.abel_tree.specs.Entries.{Entry, is_signal}
-use Rattle.decls.specs.declared.fault.NameFault.{NameFault}
+use Rattle.declared_names.specs.Prelude.{Table, Entry, is_signal, NameFault, always_inverts}
 use Rattle.decls.specs.declared.fault.NameFault.TheVariants as fault
 use Rattle.decls.specs.declared.reading.Buffered.{Buffered}
-use Rattle.decls.specs.NameRefusals.{always_inverts}
 
 -- a signal that is registered
 abbrev pub is_register : Option Entry → Bool

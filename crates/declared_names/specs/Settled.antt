@@ -1,8 +1,7 @@
 -- Names with their kinds, by the marks of what is assigned and what is held.
 use Rattle.std.specs.Prelude.{ℕ, suc, Bool, not, ◌&&◌, ◌||◌, List, [], ◌∷◌, if◌then◌else◌, get_or}
+use Rattle.declared_names.specs.Prelude.{Words, Entry, is_signal, is_registered, is_buffer, is_open, settled_words}
 use Rattle.pld_device.specs.declared.flip.Flip.{Flip}
-use Rattle.abel_tree.specs.Entries.{Words, Entry, is_signal}
-use Rattle.abel_meaning.specs.Kinds.{is_registered, is_buffer, is_open, settled_words}
 use Rattle.declared_names.specs.declared.held.Held.{Held}
 use Rattle.declared_names.specs.declared.marks.Mark.{Mark}
 use Rattle.declared_names.specs.Marking.{clear, is_marked}

@@ -1,12 +1,7 @@
 -- Parts that hold all registers: the targets of resets and presets (this project's rule).
 use Rattle.std.specs.Prelude.{Bool, false}
-use Rattle.std.specs.List.{list_any}
-use Rattle.abel_meaning.specs.Held.{is_shared}
-use Rattle.abel_tree.specs.Assigned.{target_extension}
-use Rattle.abel_tree.specs.Tree.{Tree}
+use Rattle.declared_names.specs.Prelude.{list_any, is_shared, target_extension, Tree, PartRole, PartTree, PartedSection}
 use Rattle.name_uses.specs.Parts as role
-use Rattle.name_uses.specs.Parts.{PartRole, PartTree}
-use Rattle.name_uses.specs.Viewed.{PartedSection}
 
 abbrev pub shares_as : PartRole → Tree → Bool
 shares_as (role.Target sign) t = is_shared (target_extension t)

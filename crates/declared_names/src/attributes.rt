@@ -1,9 +1,8 @@
 //! What is said of a signal, and what its attributes become.
 
 ghost use Rattle.std.specs.Prelude.{◌≡◌};
-ghost use Rattle.abel_meaning.specs.Kinds.{is_buffer, is_open, is_registered};
-ghost use Rattle.abel_tree.specs.Entries.{view_attributes};
-ghost use Rattle.declared_names.specs.Settled.{attribute_words, words_by};
+ghost use Rattle.declared_names.specs.Prelude.{is_buffer, is_open, is_registered, view_attributes};
+ghost use Rattle.declared_names.specs.{attribute_words, words_by};
 
 use crate::marks::Mark;
 use abel_tree::Attributes;

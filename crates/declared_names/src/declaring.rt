@@ -1,13 +1,9 @@
 //! The call that declares a module's names.
 
 ghost use Rattle.std.specs.Prelude.{◌≡◌, ◌⊎◌, [], Some, IfOk, IfErr};
-ghost use Rattle.abel_tree.specs.Entries.{entries_of};
-ghost use Rattle.abel_tree.specs.SoundNames.{IsNamed};
-ghost use Rattle.abel_tree.specs.View.{view_module};
-ghost use Rattle.abel_meaning.specs.Kinds.{names_of};
+ghost use Rattle.declared_names.specs.Prelude.{entries_of, IsNamed, view_module, names_of, first_name_refusal, name_refusals};
 ghost use Rattle.decls.specs.declared.fault.NameFault.TheVariants.{OutOfMemory};
-ghost use Rattle.decls.specs.NameRefusals.{first_name_refusal, name_refusals};
-ghost use Rattle.declared_names.specs.AcceptedNames.{AreDeclaredFor, BuffersAreAllowed, NumbersAreApart};
+ghost use Rattle.declared_names.specs.{AreDeclaredFor, BuffersAreAllowed, NumbersAreApart};
 
 use crate::kinds::settle;
 use crate::registers::{first_refused, open_fault};

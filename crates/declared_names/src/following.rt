@@ -1,12 +1,8 @@
 //! From the last constant to the first: what is in a constant that is marked is marked.
 
 ghost use Rattle.std.specs.Prelude.{◌≡◌, [], IfOk, OnOk, get_or, if◌then◌else◌, map, option_map, slice_get};
-ghost use Rattle.abel_tree.specs.Entries.{view_declared};
-ghost use Rattle.abel_tree.specs.View.{view, view_module};
-ghost use Rattle.declared_names.specs.Marking.{all_marked, clear};
-ghost use Rattle.declared_names.specs.Numbered.{IsNumbering, value_at};
-ghost use Rattle.declared_names.specs.Reading.{all_marks, given_by, uses_in};
-ghost use Rattle.name_uses.specs.Viewed.{view_use};
+ghost use Rattle.declared_names.specs.Prelude.{view_declared, view, view_module, view_use};
+ghost use Rattle.declared_names.specs.{all_marked, clear, IsNumbering, value_at, all_marks, given_by, uses_in};
 
 use crate::marks::{CLEAR, Mark, mark_of};
 use crate::numbers::{FirstNames, Numbers};

@@ -1,12 +1,8 @@
 //! Which registers the sections hold.
 
 ghost use Rattle.std.specs.Prelude.{◌≡◌, map};
-ghost use Rattle.std.specs.List.{list_any};
-ghost use Rattle.abel_meaning.specs.Held.{part_shares, sections_parts};
-ghost use Rattle.abel_tree.specs.View.{view_module};
-ghost use Rattle.declared_names.specs.Settled.{is_held_at};
-ghost use Rattle.declared_names.specs.Sharing.{shares_all};
-ghost use Rattle.name_uses.specs.Viewed.{view_part};
+ghost use Rattle.declared_names.specs.Prelude.{list_any, part_shares, sections_parts, view_module, view_part};
+ghost use Rattle.declared_names.specs.{is_held_at, shares_all};
 
 use crate::marks::{Mark, mark_of};
 use abel_tree::Extension;

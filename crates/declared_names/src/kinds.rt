@@ -1,10 +1,8 @@
 //! Names with their kinds.
 
 ghost use Rattle.std.specs.Prelude.{◌≡◌, IfOk, map};
-ghost use Rattle.abel_meaning.specs.Kinds.{with_assigned};
-ghost use Rattle.abel_tree.specs.Entries.{is_signal, view_declared, view_meaning};
-ghost use Rattle.abel_tree.specs.View.{view_module};
-ghost use Rattle.declared_names.specs.Settled.{kind_by, kinds_by};
+ghost use Rattle.declared_names.specs.Prelude.{with_assigned, is_signal, view_declared, view_meaning, view_module};
+ghost use Rattle.declared_names.specs.{kind_by, kinds_by};
 
 use crate::attributes::settled_attributes;
 use crate::following::Follow;

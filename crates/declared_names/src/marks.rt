@@ -1,7 +1,7 @@
 //! The marks of names: what targets name, and what is read.
 
 ghost use Rattle.std.specs.Prelude.{◌≡◌, get_or};
-ghost use Rattle.declared_names.specs.Marking.{clear, hit};
+ghost use Rattle.declared_names.specs.{clear, hit};
 
 /// How a name is named: plainly, and strongly, which is as a target on the clock or by a read of its Q.
 #[derive(Clone, Copy)]

@@ -1,8 +1,7 @@
 //! Pins that have no numbers.
 
 ghost use Rattle.std.specs.Prelude.{◌≡◌};
-ghost use Rattle.abel_tree.specs.Entries.{entries_of, view_meaning};
-ghost use Rattle.abel_meaning.specs.Declarations.{are_numbered, is_unnumbered};
+ghost use Rattle.declared_names.specs.Prelude.{entries_of, view_meaning, are_numbered, is_unnumbered};
 
 use abel_tree::{Meaning, Names};
 

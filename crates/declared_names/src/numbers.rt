@@ -1,8 +1,8 @@
 //! The numbers of names.
 
 ghost use Rattle.std.specs.Prelude.{◌≡◌, IfOk, List, ℕ, map};
-ghost use Rattle.abel_tree.specs.Entries.{find, view_declared};
-ghost use Rattle.declared_names.specs.Numbered.{number_in};
+ghost use Rattle.declared_names.specs.Prelude.{find, view_declared};
+ghost use Rattle.declared_names.specs.{number_in};
 
 use abel_tree::Declared;
 use indexmap::IndexMap;

@@ -1,10 +1,8 @@
 //! What the parts of sections assign, and what they read.
 
 ghost use Rattle.std.specs.Prelude.{◌≡◌, IfOk, OnOk, map};
-ghost use Rattle.std.specs.List.{flat_map};
-ghost use Rattle.abel_tree.specs.View.{view};
-ghost use Rattle.declared_names.specs.Reading.{AreMarked, assigned_names, part_gives, part_names, raw_names};
-ghost use Rattle.name_uses.specs.Viewed.{view_part, view_use};
+ghost use Rattle.declared_names.specs.Prelude.{flat_map, view, view_part, view_use};
+ghost use Rattle.declared_names.specs.{AreMarked, assigned_names, part_gives, part_names, raw_names};
 
 use crate::following::Follow;
 use crate::marks::Mark;

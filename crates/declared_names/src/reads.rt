@@ -1,9 +1,8 @@
 //! The names that are used, marked by their numbers.
 
 ghost use Rattle.std.specs.Prelude.{◌≡◌, OnOk, map};
-ghost use Rattle.abel_meaning.specs.Held.{asks_q};
-ghost use Rattle.declared_names.specs.Reading.{AreMarked, use_reads, uses_read};
-ghost use Rattle.name_uses.specs.Viewed.{view_use};
+ghost use Rattle.declared_names.specs.Prelude.{asks_q, view_use};
+ghost use Rattle.declared_names.specs.{AreMarked, use_reads, uses_read};
 
 use crate::marks::{Mark, mark_number};
 use crate::numbers::FirstNames;

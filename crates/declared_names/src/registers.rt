@@ -1,12 +1,11 @@
 //! Registers that a device can't buffer.
 
 ghost use Rattle.std.specs.Prelude.{◌≡◌, ◌++◌, IfErr, IfOk, List, Some, false, map, slice_get, true};
-ghost use Rattle.abel_tree.specs.Entries.{view_declared};
+ghost use Rattle.declared_names.specs.Prelude.{view_declared, NameFault};
 ghost use Rattle.abel_tree.specs.FirstRefusal.{first_refusal};
-ghost use Rattle.decls.specs.declared.fault.NameFault.{NameFault};
 ghost use Rattle.decls.specs.FaultOrder.{name_order};
 ghost use Rattle.decls.specs.Passed.{wants_names};
-ghost use Rattle.declared_names.specs.Registers.{is_register, refused_for};
+ghost use Rattle.declared_names.specs.{is_register, refused_for};
 
 use crate::kinds::is_signal;
 use abel_tree::{Attributes, Declared};

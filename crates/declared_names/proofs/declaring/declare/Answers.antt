@@ -1,13 +1,7 @@
 -- What is read, settled and refused comes to what the module declares.
 use Rattle.std.proofs.Common.{◌≡◌, ◌++◌, map, inr, sym, ap, ◌∙◌}
-use Rattle.abel_tree.specs.Entries.{view_declared}
-use Rattle.abel_tree.specs.FirstRefusal.{first_refusal}
-use Rattle.abel_tree.specs.View.{view_module}
-use Rattle.abel_meaning.specs.Kinds.{with_assigned}
-use Rattle.decls.specs.FaultOrder.{name_order}
-use Rattle.decls.specs.NameRefusals.{first_name_refusal}
+use Rattle.declared_names.proofs.Common.{view_declared, first_refusal, view_module, with_assigned, name_order, first_name_refusal, refused_for}
 use Rattle.decls.specs.Passed.{wants_names}
-use Rattle.declared_names.specs.Registers.{refused_for}
 use Rattle.declared_names.proofs.Exact.{final_fault, first_same, nothing_refused, settled_same, names_sound, names_apart, names_allowed, names_known}
 use Rattle.declared_names.proofs.declaring.declare.Goals as goal
 

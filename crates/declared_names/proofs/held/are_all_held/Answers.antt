@@ -1,12 +1,8 @@
 -- The sections behind a turn are those that are left; what their parts hold is what the sections do.
 use Rattle.std.proofs.Common.{◌≡◌, ◌||◌, suc, true, ◌∷◌, map, drop, drop-cons, sym, ap, ◌∙◌, arith}
-use Rattle.std.specs.List.{list_any}
-use Rattle.std.proofs.lemmas.List.{at_drop_all}
-use Rattle.abel_tree.specs.View.{view_module}
-use Rattle.declared_names.specs.Sharing.{section_shares, shares_all}
+use Rattle.declared_names.proofs.Common.{list_any, at_drop_all, view_module, section_shares, shares_all, view_part, view_section_parts}
 use Rattle.declared_names.proofs.HeldParts.{sections_share}
 use Rattle.declared_names.proofs.held.are_all_held.Goals as goal
-use Rattle.name_uses.specs.Viewed.{view_part, view_section_parts}
 
 pub returns-then-has_shared : goal.returns-then-has_shared
 returns-then-has_shared c =

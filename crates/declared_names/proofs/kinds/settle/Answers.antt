@@ -1,13 +1,6 @@
 -- Both passes, and then the names by their marks.
 use Rattle.std.proofs.Common.{◌≡◌, map, ap, ◌∙◌}
-use Rattle.std.proofs.lemmas.Result.{IfOk-weaker}
-use Rattle.abel_tree.specs.Entries.{view_declared}
-use Rattle.abel_tree.specs.View.{view_module}
-use Rattle.abel_meaning.specs.Kinds.{with_assigned}
-use Rattle.declared_names.specs.declared.following.Follow.TheVariants.{Reads, Targets}
-use Rattle.declared_names.specs.declared.held.Held.{Held}
-use Rattle.declared_names.specs.Reading.{all_marks}
-use Rattle.declared_names.specs.Settled.{kinds_by}
+use Rattle.declared_names.proofs.Common.{IfOk-weaker, view_declared, view_module, with_assigned, Reads, Targets, Held, all_marks, kinds_by}
 use Rattle.declared_names.proofs.Settling.{settled}
 use Rattle.declared_names.proofs.kinds.settle.Goals as goal
 

@@ -1,10 +1,7 @@
 -- One name more.
 use Rattle.std.proofs.Common.{[], ◌∷◌, ◌++◌, map, sym, ap, ap₂, ◌∙◌, arith, rules}
-use Rattle.std.proofs.lemmas.List.{map-append, map-id, length-append}
+use Rattle.declared_names.proofs.Common.{map-append, map-id, length-append, YieldsList-from_vec, view_declared, kind_by, kinds_by}
 use Rattle.std.proofs.lemmas.Iterator.Consumers.{YieldsList-end}
-use Rattle.std.proofs.lemmas.Iterator.Adapters.{YieldsList-from_vec}
-use Rattle.abel_tree.specs.Entries.{view_declared}
-use Rattle.declared_names.specs.Settled.{kind_by, kinds_by}
 use Rattle.declared_names.proofs.Passes.{kinds_more}
 use Rattle.declared_names.proofs.kinds.settle_all.Goals as goal
 

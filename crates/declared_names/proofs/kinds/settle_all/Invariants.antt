@@ -1,8 +1,7 @@
 -- The names so far.
 use Rattle.std.proofs.Common.{◌≡◌, map, length}
+use Rattle.declared_names.proofs.Common.{view_declared, kinds_by}
 use Rattle.std.specs.Vec.{vec_len}
-use Rattle.abel_tree.specs.Entries.{view_declared}
-use Rattle.declared_names.specs.Settled.{kinds_by}
 use Rattle.declared_names.proofs.kinds.settle_all.Given as goal
 
 abbrev pub invariant-loop-declared : goal.invariant-loop-declared

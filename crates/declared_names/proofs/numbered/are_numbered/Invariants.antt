@@ -1,8 +1,6 @@
 -- Each pin so far has a number.
 use Rattle.std.proofs.Common.{◌≡◌, drop, map}
-use Rattle.std.specs.List.{list_any}
-use Rattle.abel_tree.specs.Entries.{Entry, view_declared}
-use Rattle.abel_meaning.specs.Declarations.{is_unnumbered}
+use Rattle.declared_names.proofs.Common.{list_any, Entry, view_declared, is_unnumbered}
 use Rattle.declared_names.proofs.numbered.are_numbered.Given as goal
 
 abbrev pub invariant-loop-declared : goal.invariant-loop-declared

@@ -1,10 +1,9 @@
 -- One name more: a new name's number stands behind the others.
 use Rattle.std.proofs.Common.{◌≡◌, None, true, sym, ap, ap₂, ◌∙◌}
 use Rattle.std.specs.Prelude.{is_some}
-use Rattle.std.specs.Str.{bytes_eq}
+use Rattle.declared_names.proofs.Common.{bytes_eq, earlier_number, number_in, number_of_name}
 use Rattle.std.specs.Map.{lookup}
 use Rattle.indexmap.proofs.CallerLemmas.{insert_entry-new}
-use Rattle.declared_names.specs.Numbered.{earlier_number, number_in, number_of_name}
 use Rattle.declared_names.proofs.Numbering.{known_again, names_more, none_found, number_behind, some_copied}
 use Rattle.declared_names.proofs.numbers.numbers_of.Goals as goal
 

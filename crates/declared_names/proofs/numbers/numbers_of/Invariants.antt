@@ -1,7 +1,6 @@
 -- The numbers of the names so far.
 use Rattle.std.proofs.Common.{◌≡◌, ℕ, List, map, take}
-use Rattle.abel_tree.specs.Entries.{find, view_declared}
-use Rattle.declared_names.specs.Numbered.{number_in}
+use Rattle.declared_names.proofs.Common.{find, view_declared, number_in}
 use Rattle.declared_names.proofs.numbers.numbers_of.Given as goal
 
 abbrev pub invariant-loop-number : goal.invariant-loop-number

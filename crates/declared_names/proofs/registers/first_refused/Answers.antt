@@ -1,13 +1,8 @@
 -- The running first, one name more: one refusal more where it is a register.
 use Rattle.std.proofs.Common.{◌≤◌, Bool, [], ◌∷◌, ◌++◌, map, take, length, get_or, if◌then◌else◌, sym, ap, ◌∙◌, arith}
 use Rattle.std.specs.Prelude.{Some}
-use Rattle.std.proofs.lemmas.List.{append-nil, take_all}
-use Rattle.abel_tree.specs.Entries.{view_declared}
-use Rattle.abel_tree.specs.FirstRefusal.{earlier, first_refusal}
-use Rattle.abel_tree.proofs.FirstRefusals.{first_push}
+use Rattle.declared_names.proofs.Common.{append-nil, take_all, view_declared, earlier, first_refusal, first_push, name_order, registers_refused}
 use Rattle.decls.specs.declared.fault.NameFault.TheVariants as fault
-use Rattle.decls.specs.FaultOrder.{name_order}
-use Rattle.declared_names.specs.Registers.{registers_refused}
 use Rattle.declared_names.proofs.Buffers.{no_name, one_more}
 use Rattle.declared_names.proofs.registers.first_refused.Goals as goal
 use Rattle.declared_names.proofs.registers.first_refused.Goals.{then-is_register, else-is_register}

@@ -1,10 +1,8 @@
 -- One part more.
 use Rattle.std.proofs.Common.{map, ap, ap₂, ◌∙◌}
-use Rattle.declared_names.specs.Marking.{all_marked, marked}
-use Rattle.declared_names.specs.Reading.{numbers_read, part_gives, uses_read}
+use Rattle.declared_names.proofs.Common.{all_marked, marked, numbers_read, part_gives, uses_read, view_part, view_use}
 use Rattle.declared_names.proofs.Hits.{flat_next}
 use Rattle.declared_names.proofs.numbers.FirstNames.mark_parts.Goals as goal
-use Rattle.name_uses.specs.Viewed.{view_part, view_use}
 
 pub loop-part-preserved : goal.loop-part-preserved
 loop-part-preserved c = λ es num.

@@ -1,15 +1,9 @@
 -- A name, or each name of a range.
 use Rattle.std.proofs.Common.{◌≡◌, ◌≤◌, map, length, sym, ap, ap₂, ◌∙◌, arith}
 use Rattle.std.specs.Prelude.{option_map}
-use Rattle.std.proofs.lemmas.List.{take_all}
-use Rattle.abel_meaning.specs.Held.{asks_q, read_names}
-use Rattle.abel_tree.specs.Ranges.{range_names}
-use Rattle.declared_names.specs.Marking.{all_marked, marked}
-use Rattle.declared_names.specs.Reading.{numbers_read, reads_to}
+use Rattle.declared_names.proofs.Common.{take_all, asks_q, read_names, range_names, all_marked, marked, numbers_read, reads_to, name_items, word_at}
 use Rattle.declared_names.proofs.Hits.{folded_next, names_push}
 use Rattle.declared_names.proofs.numbers.FirstNames.mark_use.Goals as goal
-use Rattle.name_uses.specs.RangeParts.{name_items}
-use Rattle.name_uses.specs.Viewed.{word_at}
 
 pub returns-in_default : goal.returns-in_default
 returns-in_default c = λ es num.

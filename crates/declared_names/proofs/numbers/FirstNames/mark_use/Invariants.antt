@@ -1,8 +1,6 @@
 -- The names of the range so far are marked.
 use Rattle.std.proofs.Common.{map, take}
-use Rattle.abel_meaning.specs.Held.{read_names}
-use Rattle.name_uses.specs.RangeParts.{name_items}
-use Rattle.declared_names.specs.Reading.{AreMarked}
+use Rattle.declared_names.proofs.Common.{read_names, name_items, AreMarked}
 use Rattle.declared_names.proofs.numbers.FirstNames.mark_use.Given as goal
 
 abbrev pub invariant-loop-name : goal.invariant-loop-name

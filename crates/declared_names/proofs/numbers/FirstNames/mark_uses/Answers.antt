@@ -1,9 +1,7 @@
 -- One name more.
-use Rattle.declared_names.specs.Marking.{marked}
-use Rattle.declared_names.specs.Reading.{numbers_read, use_reads}
+use Rattle.declared_names.proofs.Common.{marked, numbers_read, use_reads, view_use}
 use Rattle.declared_names.proofs.Hits.{flat_next}
 use Rattle.declared_names.proofs.numbers.FirstNames.mark_uses.Goals as goal
-use Rattle.name_uses.specs.Viewed.{view_use}
 
 pub loop-used-preserved : goal.loop-used-preserved
 loop-used-preserved c = λ es num.

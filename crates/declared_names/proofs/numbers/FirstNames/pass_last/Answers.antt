@@ -1,17 +1,9 @@
 -- A constant gives by its mark what is in its value; other names give nothing.
 use Rattle.std.proofs.Common.{◌≡◌, [], Some, false, true, map, get_or, if◌then◌else◌, sym, ap, ap₂, ◌∙◌}
 use Rattle.std.specs.Prelude.{option_map, slice_get}
-use Rattle.std.proofs.lemmas.List.Sums.{fold-append}
-use Rattle.std.proofs.lemmas.Result.{on_ok_weaker}
-use Rattle.abel_tree.specs.Entries.{view_declared}
-use Rattle.abel_tree.specs.View.{view}
-use Rattle.declared_names.specs.declared.marks.Mark.{Mark}
-use Rattle.declared_names.specs.Marking.{all_marked, clear, marked}
-use Rattle.declared_names.specs.Numbered.{value_at}
-use Rattle.declared_names.specs.Reading.{numbers_read, uses_read, value_uses}
+use Rattle.declared_names.proofs.Common.{fold-append, on_ok_weaker, view_declared, view, Mark, all_marked, clear, marked, value_at, numbers_read, uses_read, value_uses, view_use}
 use Rattle.declared_names.proofs.Passes.{nothing_given, uses_asked}
 use Rattle.declared_names.proofs.numbers.FirstNames.pass_last.Goals as goal
-use Rattle.name_uses.specs.Viewed.{view_use}
 
 pub returns : goal.returns
 returns c =

@@ -1,13 +1,7 @@
 -- Of all names, none of which was marked: what the sections give, and then what constants pass on, one name less each turn.
 use Rattle.std.proofs.Common.{◌≡◌, ◌≤◌, suc, ◌-◌, map, length, sym, ap, ap₂, ◌∙◌, arith}
 use Rattle.std.specs.Prelude.{replicate}
-use Rattle.std.specs.List.{flat_map}
-use Rattle.std.proofs.lemmas.List.{length-map, take_all}
-use Rattle.abel_tree.specs.Entries.{view_declared}
-use Rattle.abel_tree.specs.View.{view_module}
-use Rattle.name_uses.specs.Viewed.{view_part, view_section_parts}
-use Rattle.declared_names.specs.Marking.{all_marked, clear, marked, passed}
-use Rattle.declared_names.specs.Reading.{given_by, numbers_read, part_gives, section_gives, sections_give}
+use Rattle.declared_names.proofs.Common.{flat_map, length-map, take_all, view_declared, view_module, view_part, view_section_parts, all_marked, clear, marked, passed, given_by, numbers_read, part_gives, section_gives, sections_give}
 use Rattle.declared_names.proofs.Hits.{flat_next}
 use Rattle.declared_names.proofs.numbers.Numbers.marks_by.Goals as goal
 

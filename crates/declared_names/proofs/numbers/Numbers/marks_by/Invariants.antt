@@ -1,12 +1,7 @@
 -- What the sections so far give; then what is left to be passed on.
 use Rattle.std.proofs.Common.{◌≡◌, ◌≤◌, map, length, take}
 use Rattle.std.specs.Prelude.{replicate}
-use Rattle.std.specs.List.{flat_map}
-use Rattle.abel_tree.specs.Entries.{view_declared}
-use Rattle.abel_tree.specs.View.{view_module}
-use Rattle.name_uses.specs.Viewed.{view_section_parts}
-use Rattle.declared_names.specs.Marking.{all_marked, clear, passed}
-use Rattle.declared_names.specs.Reading.{all_marks, given_by, numbers_read, section_gives}
+use Rattle.declared_names.proofs.Common.{flat_map, view_declared, view_module, view_section_parts, all_marked, clear, passed, all_marks, given_by, numbers_read, section_gives}
 use Rattle.declared_names.proofs.numbers.Numbers.marks_by.Given as goal
 
 abbrev pub invariant-loop-section : goal.invariant-loop-section
