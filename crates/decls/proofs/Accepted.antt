@@ -1,19 +1,6 @@
 -- Where nothing is refused of a module, its names are sound, and each name that is used is known.
 use Rattle.std.proofs.Common.{◌≡◌, true, List, [], ◌∷◌, ◌++◌, map, zip, length, refl, sym, ap, ap₂, subst, ◌∙◌, append_assoc}
-use Rattle.std.specs.List.{All}
-use Rattle.std.proofs.lemmas.List.Elements.{All-nil}
-use Rattle.std.proofs.lemmas.List.{append-nil}
-use Rattle.pld_device.specs.Table.{Table}
-use Rattle.abel_tree.specs.Entries.{ADeviceName, Entry}
-use Rattle.abel_tree.specs.Ranges.{numbers_of}
-use Rattle.abel_tree.specs.SoundNames.{are_named, declaration_uses, declarations_uses, sections_uses, module_uses}
-use Rattle.abel_tree.specs.Tree.{Declaration, ADevice, SomePins, SomeNodes, SomeAttributes, SomeConstants, SomeOptions, DontCareFor, SectionTree, Declarations, Equations, ATable, ADiagram, SomeVectors, DontCareSection, ModuleTree}
-use Rattle.abel_tree.specs.Uses.{Use, all_uses, section_uses}
-use Rattle.abel_meaning.specs.Declarations.{given_names, entry, no_words, all_said, pin_entries, node_entries, constant_entries, node_count, with_words, declared, section_declarations}
-use Rattle.decls.specs.AllDeclarations.{all_declarations}
-use Rattle.decls.specs.NameRefusals.{all_buffered, buffered, sections_refused, read_refusals}
-use Rattle.decls.specs.NamesBefore.{names_behind}
-use Rattle.decls.specs.Refused.{parts_refused, declaration_refused, declarations_refused, uses_refused}
+use Rattle.decls.proofs.Common.{All, All-nil, append-nil, Table, ADeviceName, Entry, numbers_of, are_named, declaration_uses, declarations_uses, sections_uses, module_uses, Declaration, ADevice, SomePins, SomeNodes, SomeAttributes, SomeConstants, SomeOptions, DontCareFor, SectionTree, Declarations, Equations, ATable, ADiagram, SomeVectors, DontCareSection, ModuleTree, Use, all_uses, section_uses, given_names, entry, no_words, all_said, pin_entries, node_entries, constant_entries, node_count, with_words, declared, section_declarations, all_declarations, all_buffered, buffered, sections_refused, read_refusals, names_behind, parts_refused, declaration_refused, declarations_refused, uses_refused}
 use Rattle.decls.proofs.DeclarationsGo.{behind_push, buffered_push}
 use Rattle.decls.proofs.NoRefusals.{none_left, none_right}
 use Rattle.decls.proofs.NamesAlike.{Extends, extends_same, extends_then, extends_append, extends_alike, alike_told, named_more}

@@ -1,25 +1,8 @@
 -- What stands behind the first refusal adds refusals behind it alone.
 use Rattle.std.proofs.Common.{◌≡◌, ℕ, suc, ◌==◌, nat_le, Bool, true, false, List, [], ◌∷◌, ◌++◌, Option, Some, None, map, fold, refl, sym, ap, ◌∙◌, append_assoc}
 use Rattle.std.specs.Prelude.{is_some}
-use Rattle.std.specs.List.{list_any}
-use Rattle.std.proofs.lemmas.List.{append-nil}
-use Rattle.pld_base.specs.declared.place.Place.{Place}
-use Rattle.pld_device.specs.Table.{Table}
-use Rattle.abel_tree.specs.declared.words.Item.{Item}
-use Rattle.abel_tree.specs.declared.words.Word.{Word}
-use Rattle.abel_tree.specs.Entries.{Kind, APin, ANode, AConstant, ADeviceName, Words, kind_of}
-use Rattle.abel_tree.specs.Ranges.{item_names}
-use Rattle.abel_tree.specs.Tree.{Tree}
-use Rattle.abel_meaning.specs.Declarations.{GivenName, entry, given_names, no_words, all_said}
-use Rattle.decls.specs.declared.fault.NameFault.{NameFault}
+use Rattle.decls.proofs.Common.{list_any, append-nil, Place, Table, Item, Word, Kind, APin, ANode, AConstant, ADeviceName, Words, kind_of, item_names, Tree, GivenName, entry, given_names, no_words, all_said, NameFault, strings_refused, place_of, words_of_names, is_behind, items_behind, words_behind, AreBehind, Adds, items_told, ranges_refused, counts_refused, items_refused, is_signal_pin, Progress, refuse, refuse_all, refuse_if, entered_if, entered, pin_taken, on_pin, node_counted, constant_entered, device_counted, device_entered, with_numbers, pin_step, node_step, new_checked, waits_if, say_step, all_told}
 use Rattle.decls.specs.declared.fault.NameFault.TheVariants as fault
-use Rattle.decls.specs.Attributes.{strings_refused}
-use Rattle.decls.specs.FaultOrder.{place_of}
-use Rattle.decls.specs.NamesBefore.{words_of_names}
-use Rattle.decls.specs.Passed.{is_behind, items_behind, words_behind, AreBehind, Adds, items_told}
-use Rattle.decls.specs.Refused.{ranges_refused, counts_refused, items_refused, is_signal_pin}
-use Rattle.decls.specs.Steps.{Progress, refuse, refuse_all, refuse_if, entered_if, entered, pin_taken, on_pin, node_counted, constant_entered, device_counted, device_entered}
-use Rattle.decls.specs.Walked.{with_numbers, pin_step, node_step, new_checked, waits_if, say_step, all_told}
 use Rattle.decls.proofs.FirstStays.{both_behind, counts_behind, head_all, ranges_behind, strings_behind, tail_all, used_items_behind}
 
 module _ (o : Option NameFault) where

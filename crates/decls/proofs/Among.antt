@@ -1,10 +1,6 @@
 -- Names that are among those of declarations.
 use Rattle.std.proofs.Common.{◌≡◌, ℕ, Bool, true, false, ◌&&◌, ◌||◌, List, [], ◌∷◌, ◌++◌, filter, cond, refl, sym, ap, ◌∙◌}
-use Rattle.std.specs.List.{list_all, list_any}
-use Rattle.std.specs.Str.{bytes_eq}
-use Rattle.std.proofs.lemmas.Bool.{or_left, or_right, true≢false}
-use Rattle.std.proofs.lemmas.List.Folds.{list_any-append}
-use Rattle.abel_meaning.specs.Declarations.{GivenName}
+use Rattle.decls.proofs.Common.{list_all, list_any, bytes_eq, or_left, or_right, true≢false, list_any-append, GivenName}
 use Rattle.decls.proofs.FirstNames.{same_bytes}
 use Rattle.decls.proofs.Placed.{same_name}
 

@@ -1,7 +1,6 @@
 -- Each attribute has a bit of its own.
 use Rattle.std.proofs.Common.{◌≡◌, ℕ, ◌==◌, Bool, true, false, if◌then◌else◌, refl}
-use Rattle.std.specs.Int.RustNames.{bit_and, bit_or}
-use Rattle.abel_tree.specs.Entries.{Words}
+use Rattle.decls.proofs.Common.{bit_and, bit_or, Words}
 
 abbrev pub words_in : ℕ → Words
 words_in n = record { combinational = bit_and n 1 == 1; registered = bit_and n 2 == 2; buffer = bit_and n 4 == 4; invert = bit_and n 8 == 8; dc = bit_and n 16 == 16 }

@@ -1,11 +1,8 @@
 -- Strings that are refused: sources as trees, and what a second implementation of the language answers.
 use Rattle.std.proofs.Common.{◌≡◌, Some, [], ◌∷◌, refl}
-use Rattle.std.specs.Fmt.{digits}
+use Rattle.decls.proofs.Common.{digits, is_before, ADevice, SomePins, SomeNodes, SomeAttributes, SomeConstants, Equations, ADiagram, first_name_refusal}
 use Rattle.abel_tree.specs.declared.words.Extension.TheVariants as extension
-use Rattle.abel_tree.specs.FirstRefusal.{is_before}
-use Rattle.abel_tree.specs.Tree.{ADevice, SomePins, SomeNodes, SomeAttributes, SomeConstants, Equations, ADiagram}
 use Rattle.decls.specs.declared.fault.NameFault.TheVariants as fault
-use Rattle.decls.specs.NameRefusals.{first_name_refusal}
 use Rattle.decls.proofs.WrittenModules.{at, no_place, word, number, name, dotted, one, set, paren, assign, clocked, clocked_any, goto, state, item, pin, module_of, pal16l8, pal16r4, pal16r6}
 
 -- d device 'P16L8'; a pin 19 istype 'xor';

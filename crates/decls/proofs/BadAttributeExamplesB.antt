@@ -1,11 +1,8 @@
 -- Strings that are refused: sources as trees, and what a second implementation of the language answers.
 use Rattle.std.proofs.Common.{◌≡◌, Some, [], ◌∷◌, true, refl}
-use Rattle.std.specs.Fmt.{digits}
+use Rattle.decls.proofs.Common.{digits, is_before, ADevice, SomePins, SomeAttributes, SomeConstants, Equations, ATable, ADiagram, first_name_refusal}
 use Rattle.abel_tree.specs.declared.words.Extension.TheVariants as extension
-use Rattle.abel_tree.specs.FirstRefusal.{is_before}
-use Rattle.abel_tree.specs.Tree.{ADevice, SomePins, SomeAttributes, SomeConstants, Equations, ATable, ADiagram}
 use Rattle.decls.specs.declared.fault.NameFault.TheVariants as fault
-use Rattle.decls.specs.NameRefusals.{first_name_refusal}
 use Rattle.decls.proofs.WrittenModules.{at, no_place, word, number, name, dotted, one, set, dotted_set, paren, assign, clocked, when_then, group, goto, row, state, item, items, pin, pins_to, module_of, pal16r6, pal16r8}
 
 -- d device 'P16R6'; x,q pin 1,17 istype 'buffer'; STATE_DIAGRAM x STATE 0: q := 1; GOTO 1;

@@ -1,11 +1,8 @@
 -- Pins that no name may have, and counts that differ: sources as trees, and what a second implementation of the language answers.
 use Rattle.std.proofs.Common.{◌≡◌, Some, None, [], ◌∷◌, refl}
 use Rattle.std.specs.Prelude.{codes}
-use Rattle.std.specs.Fmt.{digits}
-use Rattle.abel_tree.specs.FirstRefusal.{is_before}
-use Rattle.abel_tree.specs.Tree.{ADevice, SomePins, SomeNodes}
+use Rattle.decls.proofs.Common.{digits, is_before, ADevice, SomePins, SomeNodes, first_name_refusal}
 use Rattle.decls.specs.declared.fault.NameFault.TheVariants as fault
-use Rattle.decls.specs.NameRefusals.{first_name_refusal}
 use Rattle.decls.proofs.WrittenModules.{at, word, item, items, pin, pins_to, module_of, pal16l8, pal16r4, pal16r6, pal16r8, gal22v10}
 
 -- d device 'P16L8'; b,a pin 1,0;

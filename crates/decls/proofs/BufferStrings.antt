@@ -1,13 +1,6 @@
 -- Whether a string of a module says `buffer`: one of its declarations, or of its sections.
 use Rattle.std.proofs.Common.{◌≡◌, Bool, true, false, ◌||◌, List, [], ◌∷◌, ◌++◌, map, refl, sym, ap, ap₂, ◌∙◌}
-use Rattle.std.specs.List.{list_any}
-use Rattle.std.proofs.lemmas.List.{append-nil}
-use Rattle.std.proofs.lemmas.List.Folds.{list_any-append}
-use Rattle.abel_tree.specs.declared.declarations.Decl.{Decl}
-use Rattle.abel_tree.specs.declared.sections.Section.{Section}
-use Rattle.abel_tree.specs.View.{view_decl, view_section}
-use Rattle.abel_meaning.specs.Declarations.{section_declarations}
-use Rattle.decls.specs.Buffers.{says_buffer}
+use Rattle.decls.proofs.Common.{list_any, append-nil, list_any-append, Decl, Section, view_decl, view_section, section_declarations, says_buffer}
 use Rattle.decls.proofs.FirstStrings.{sections_append}
 
 abbrev pub some_say : List Decl → Bool

@@ -1,27 +1,7 @@
 -- The steps of declarations are what is refused of them, and what they declare.
 use Rattle.std.proofs.Common.{◌≡◌, ℕ, cond, Bool, true, false, ◌||◌, List, [], ◌∷◌, ◌++◌, fold, map, zip, filter, drop, length, if◌then◌else◌, refl, sym, ap, ap₂, subst, ◌∙◌, append_assoc}
-use Rattle.std.specs.List.{list_any}
-use Rattle.std.proofs.lemmas.List.{append-nil, length-map}
-use Rattle.std.proofs.lemmas.List.Sums.{fold-append}
-use Rattle.std.proofs.Math.Seq.{drop-append_seam}
-use Rattle.pld_device.specs.Table.{Table}
-use Rattle.abel_tree.specs.declared.words.Item.{Item}
-use Rattle.abel_tree.specs.declared.words.Span.{Span}
-use Rattle.abel_tree.specs.declared.words.Word.{Word}
-use Rattle.abel_tree.specs.Entries.{ADeviceName, Entry, is_signal, names_any, passes}
-use Rattle.abel_tree.specs.Ranges.{numbers_of}
-use Rattle.abel_tree.specs.Tree.{Tree, Declaration, ADevice, SomePins, SomeNodes, SomeAttributes, SomeConstants, SomeOptions, DontCareFor, SectionTree, Declarations, Equations, ATable, ADiagram, SomeVectors, DontCareSection, ModuleTree}
-use Rattle.abel_tree.specs.Uses.{Use, all_uses, section_uses}
-use Rattle.abel_meaning.specs.Declarations.{GivenName, given_names, entry, no_words, all_said, pin_entries, node_entries, constant_entries, node_count, with_words, declared, section_declarations}
-use Rattle.decls.specs.declared.fault.NameFault.{NameFault}
+use Rattle.decls.proofs.Common.{list_any, append-nil, length-map, fold-append, drop-append_seam, Table, Item, Span, Word, ADeviceName, Entry, is_signal, names_any, passes, numbers_of, Tree, Declaration, ADevice, SomePins, SomeNodes, SomeAttributes, SomeConstants, SomeOptions, DontCareFor, SectionTree, Declarations, Equations, ATable, ADiagram, SomeVectors, DontCareSection, ModuleTree, Use, all_uses, section_uses, GivenName, given_names, entry, no_words, all_said, pin_entries, node_entries, constant_entries, node_count, with_words, declared, section_declarations, NameFault, all_declarations, strings_refused, names_behind, added, words_of_names, sections_refused, buffered, all_buffered, refused_if, name_refused, names_refused, ranges_refused, counts_refused, counts_differ, has_numbers, items_refused, is_device, given_count, parts_refused, declaration_refused, declarations_refused, uses_refused, Progress, nothing, refuse_if, refuse_all, used, entered, device_entered, pin_step, node_step, with_numbers, new_checked, signals_among, signals_wait, items_checked, declaration_step, section_step, module_steps}
 use Rattle.decls.specs.declared.fault.NameFault.TheVariants as fault
-use Rattle.decls.specs.AllDeclarations.{all_declarations}
-use Rattle.decls.specs.Attributes.{strings_refused}
-use Rattle.decls.specs.NamesBefore.{names_behind, added, words_of_names}
-use Rattle.decls.specs.NameRefusals.{sections_refused, buffered, all_buffered}
-use Rattle.decls.specs.Refused.{refused_if, name_refused, names_refused, ranges_refused, counts_refused, counts_differ, has_numbers, items_refused, is_device, given_count, parts_refused, declaration_refused, declarations_refused, uses_refused}
-use Rattle.decls.specs.Steps.{Progress, nothing, refuse_if, refuse_all, used, entered, device_entered}
-use Rattle.decls.specs.Walked.{pin_step, node_step, with_numbers, new_checked, signals_among, signals_wait, items_checked, declaration_step, section_step, module_steps}
 use Rattle.decls.proofs.Folded.{any_append}
 use Rattle.decls.proofs.FirstNames.{names_first, items_first, words_first}
 use Rattle.decls.proofs.Goes.{Reached, Goes, followed, stays, refuses, plain_goes, uses_go}

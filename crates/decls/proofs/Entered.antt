@@ -1,21 +1,8 @@
 -- One more name in the table.
 use Rattle.std.proofs.Common.{◌≡◌, ℕ, true, false, List, [], ◌∷◌, ◌++◌, Option, Some, map, refl, sym, ap, ap₂, ◌∙◌}
 use Rattle.std.specs.Prelude.{is_some}
-use Rattle.std.specs.Global.{Vec}
-use Rattle.std.proofs.lemmas.List.{map-append}
-use Rattle.pld_base.specs.declared.place.Place.{Place}
-use Rattle.pld_device.specs.Table.{Table}
-use Rattle.abel_tree.specs.Entries.{Kind, Words, Entry, kind_of, view_meaning}
-use Rattle.abel_tree.specs.FirstRefusal.{earlier, first_refusal}
-use Rattle.abel_tree.proofs.FirstRefusals.{first_push}
-use Rattle.abel_meaning.specs.Declarations.{entry}
-use Rattle.decls.specs.declared.fault.NameFault.{NameFault}
+use Rattle.decls.proofs.Common.{Vec, map-append, Place, Table, Kind, Words, Entry, kind_of, view_meaning, earlier, first_refusal, first_push, entry, NameFault, Known, NameTable, name_order, Progress, refuse, entered, Shows, kept_kind, kept, view_known, view_said, view_given}
 use Rattle.decls.specs.declared.fault.NameFault.TheVariants.{Redeclared}
-use Rattle.decls.specs.declared.table.Known.{Known}
-use Rattle.decls.specs.declared.table.NameTable.{NameTable}
-use Rattle.decls.specs.FaultOrder.{name_order}
-use Rattle.decls.specs.Steps.{Progress, refuse, entered}
-use Rattle.decls.specs.Shown.{Shows, kept_kind, kept, view_known, view_said, view_given}
 
 -- the running first refusal
 pub refused_first : (fs : List NameFault) (f : NameFault) (before next : Option NameFault) → before ≡ first_refusal name_order fs → next ≡ earlier name_order before (Some f) → next ≡ first_refusal name_order (fs ++ f ∷ [])

@@ -1,19 +1,8 @@
 -- Each name as it is declared first.
 use Rattle.std.proofs.Common.{◌≡◌, ℕ, Bool, true, false, Option, Some, None, List, [], ◌∷◌, ◌++◌, fold, if◌then◌else◌, refl, sym, ap, ap₂, ◌∙◌, append_assoc}
 use Rattle.std.specs.Prelude.{is_some}
-use Rattle.std.specs.Str.{bytes_eq}
-use Rattle.std.proofs.lemmas.List.{append-nil}
-use Rattle.std.proofs.lemmas.List.Sums.{fold-append}
-use Rattle.std.proofs.lemmas.Slice.Eq.{bytes_eq-Decides}
-use Rattle.pld_base.specs.declared.place.Place.{Place}
-use Rattle.abel_tree.specs.Entries.{Kind, Entry, kind_of, passes, names_any, is_signal, is_value}
-use Rattle.abel_tree.specs.Uses.{Use, OneName, Range}
-use Rattle.abel_tree.specs.Ranges.{ends_agree, names_between, item_names, is_bad}
-use Rattle.abel_tree.specs.declared.words.Item.{Item}
-use Rattle.abel_meaning.specs.Declarations.{GivenName}
+use Rattle.decls.proofs.Common.{bytes_eq, append-nil, fold-append, bytes_eq-Decides, Place, Kind, Entry, kind_of, passes, names_any, is_signal, is_value, Use, OneName, Range, ends_agree, names_between, item_names, is_bad, Item, GivenName, enter, first_entries, words_named, words_of_names, refused_if, first_undeclared, use_refused, uses_refused, items_refused}
 use Rattle.decls.specs.declared.fault.NameFault.TheVariants as fault
-use Rattle.decls.specs.NamesBefore.{enter, first_entries, words_named, words_of_names}
-use Rattle.decls.specs.Refused.{refused_if, first_undeclared, use_refused, uses_refused, items_refused}
 
 pub same_bytes : (xs ys : List ℕ) → bytes_eq xs ys ≡ true → xs ≡ ys
 same_bytes xs ys e = (bytes_eq-Decides xs ys).0 e

@@ -1,26 +1,9 @@
 -- The first numbers of a declaration are the same however many are written out.
 use Rattle.std.proofs.Common.{◌≡◌, ◌⊎◌, inl, inr, ℕ, zero, suc, ◌+◌, ◌-◌, ◌<◌, ◌≤◌, Bool, true, false, List, [], ◌∷◌, ◌++◌, Option, Some, None, map, fold, take, drop, length, get_or, refl, sym, ap, ap₂, ◌∙◌, append_assoc, arith}
 use Rattle.std.specs.Prelude.{min}
-use Rattle.std.specs.List.{range_with_len}
+use Rattle.decls.proofs.Common.{range_with_len, take-append-add, leb_tells, take-append-drop, take-append-le, drop-take, length-append, length-map, length-range_with_len, take-map-range_with_len, fold-append, Table, Item, Number, Span, Words, span_count, span_numbers, numbers_of, item_names, GivenName, given_names, number_at, HasNumbers, given_by, Progress, node_step, pin_step, with_numbers}
 use Rattle.std.proofs.Math.Dec.{leb}
 use Rattle.std.proofs.Math.Nat.{min-eq_left, min_comm}
-use Rattle.std.proofs.Math.Seq.{take-append-add}
-use Rattle.std.proofs.lemmas.Bool.Decides.{leb_tells}
-use Rattle.std.proofs.lemmas.List.{take-append-drop, take-append-le, drop-take, length-append, length-map}
-use Rattle.std.proofs.lemmas.List.FromFn.{length-range_with_len, take-map-range_with_len}
-use Rattle.std.proofs.lemmas.List.Sums.{fold-append}
-use Rattle.pld_device.specs.Table.{Table}
-use Rattle.abel_tree.specs.declared.words.Item.{Item}
-use Rattle.abel_tree.specs.declared.words.Number.{Number}
-use Rattle.abel_tree.specs.declared.words.Span.{Span}
-use Rattle.abel_tree.specs.Entries.{Words}
-use Rattle.abel_tree.specs.Ranges.{span_count, span_numbers, numbers_of, item_names}
-use Rattle.abel_meaning.specs.Declarations.{GivenName, given_names}
-use Rattle.name_uses.specs.RangeParts.{number_at}
-use Rattle.decls.specs.Passed.{HasNumbers}
-use Rattle.decls.specs.Shown.{given_by}
-use Rattle.decls.specs.Steps.{Progress}
-use Rattle.decls.specs.Walked.{node_step, pin_step, with_numbers}
 use Rattle.decls.proofs.Folded.{given_more, ranged}
 
 -- ---- the first numbers of spans

@@ -1,22 +1,7 @@
 -- The first refusal stays where others stand behind it.
 use Rattle.std.proofs.Common.{◌≡◌, ℕ, Bool, true, false, not, ◌&&◌, List, [], ◌∷◌, ◌++◌, Option, Some, None, if◌then◌else◌, refl, sym, ap, ◌∙◌, append_assoc, arith}
-use Rattle.std.proofs.lemmas.Bool.Decides.{nat_tests}
-use Rattle.std.proofs.lemmas.List.{append-nil}
-use Rattle.pld_base.specs.declared.place.Place.{Place}
-use Rattle.abel_tree.specs.declared.words.Item.{Item}
-use Rattle.abel_tree.specs.declared.words.Word.{Word}
-use Rattle.abel_tree.specs.Entries.{Kind, Words, Entry, is_signal, is_value, names_any}
-use Rattle.abel_tree.specs.FirstRefusal.{sooner, is_before, earlier, first_refusal}
-use Rattle.abel_tree.specs.Ranges.{is_bad, item_names, names_between}
-use Rattle.abel_tree.proofs.FirstRefusals.{first_push}
-use Rattle.abel_meaning.specs.Declarations.{said_by_either, said_words, words_of}
-use Rattle.decls.specs.declared.fault.NameFault.{NameFault}
+use Rattle.decls.proofs.Common.{nat_tests, append-nil, Place, Item, Word, Kind, Words, Entry, is_signal, is_value, names_any, sooner, is_before, earlier, first_refusal, is_bad, item_names, names_between, first_push, said_by_either, said_words, words_of, NameFault, is_refused_string, string_refused, strings_refused, place_of, rank_of, name_order, stands_before, is_behind, items_behind, words_behind, AreBehind, AreAt, Adds, refused_if, first_undeclared, ranges_refused, first_name, counts_refused, item_refused, items_refused, Progress, refuse_all, refuse_if, undeclared, range_used}
 use Rattle.decls.specs.declared.fault.NameFault.TheVariants as fault
-use Rattle.decls.specs.Attributes.{is_refused_string, string_refused, strings_refused}
-use Rattle.decls.specs.FaultOrder.{place_of, rank_of, name_order}
-use Rattle.decls.specs.Passed.{stands_before, is_behind, items_behind, words_behind, AreBehind, AreAt, Adds}
-use Rattle.decls.specs.Refused.{refused_if, first_undeclared, ranges_refused, first_name, counts_refused, item_refused, items_refused}
-use Rattle.decls.specs.Steps.{Progress, refuse_all, refuse_if, undeclared, range_used}
 use Rattle.decls.proofs.Unknown.{known_all}
 
 later_place : (a b c x y z : ℕ) → sooner x y 0 a b 0 ≡ true → sooner a b c x y z ≡ false

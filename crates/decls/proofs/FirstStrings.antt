@@ -1,16 +1,6 @@
 -- The first DEVICE declaration of a list that is made of parts.
 use Rattle.std.proofs.Common.{◌≡◌, Option, Some, None, List, [], ◌∷◌, ◌++◌, refl, sym, ap, ap₂, ◌∙◌, append_assoc, ℕ, ◌+◌, ◌<◌, length, take, drop, map, get_or}
-use Rattle.std.proofs.lemmas.List.{take_more, map-append, take-append-drop}
-use Rattle.abel_tree.specs.declared.declarations.Decl.{Decl}
-use Rattle.abel_tree.specs.declared.sections.Section.{Section}
-use Rattle.abel_tree.specs.View.{view_decl, view_section}
-use Rattle.pld_base.specs.declared.device_name.DeviceName.{DeviceName}
-use Rattle.abel_tree.specs.declared.words.Word.{Word}
-use Rattle.abel_tree.specs.Tree.{Declaration, ADevice, SomePins, SomeNodes, SomeAttributes, SomeConstants, SomeOptions, DontCareFor, SectionTree, Declarations, Equations, ATable, ADiagram, SomeVectors, DontCareSection}
-use Rattle.abel_meaning.specs.Declarations.{section_declarations}
-use Rattle.abel_meaning.specs.DeviceStrings.{first_device, unquoted}
-use Rattle.pld_base.specs.DeviceNames.{named_device}
-use Rattle.decls.specs.Devices.{first_string}
+use Rattle.decls.proofs.Common.{take_more, map-append, take-append-drop, Decl, Section, view_decl, view_section, DeviceName, Word, Declaration, ADevice, SomePins, SomeNodes, SomeAttributes, SomeConstants, SomeOptions, DontCareFor, SectionTree, Declarations, Equations, ATable, ADiagram, SomeVectors, DontCareSection, section_declarations, first_device, unquoted, named_device, first_string}
 
 abbrev pub or_string : Option Word → Option Word → Option Word
 or_string None o = o

@@ -1,25 +1,9 @@
 -- One item more of a list that is gone through.
 use Rattle.std.proofs.Common.{◌≡◌, ℕ, zero, suc, ◌+◌, ◌-◌, ◌<◌, ◌≤◌, ◌==◌, nat_le, Bool, true, false, ◌||◌, List, [], ◌∷◌, ◌++◌, map, fold, take, drop, length, get_or, if◌then◌else◌, Some, None, refl, sym, ap, ◌∙◌, append_assoc, arith}
 use Rattle.std.specs.Prelude.{slice_get, min}
-use Rattle.std.specs.List.{list_any, range_with_len}
-use Rattle.std.proofs.lemmas.Bool.Decides.{nat_tests}
-use Rattle.std.proofs.lemmas.List.{append-nil, get_or_default, take_more, length-map, length-take-le, take-append-drop}
-use Rattle.std.proofs.lemmas.List.Sums.{fold-append}
-use Rattle.abel_tree.specs.declared.words.Item.{Item}
-use Rattle.abel_tree.specs.declared.words.Number.{Number}
-use Rattle.abel_tree.specs.declared.words.Span.{Span}
-use Rattle.abel_tree.specs.Entries.{Words, Entry}
-use Rattle.abel_tree.specs.Ranges.{is_bad, item_names, span_count, count_numbers, span_numbers, numbers_of}
-use Rattle.abel_meaning.specs.Declarations.{GivenName, given_names}
-use Rattle.decls.specs.declared.fault.NameFault.{NameFault}
+use Rattle.decls.proofs.Common.{list_any, range_with_len, nat_tests, append-nil, get_or_default, take_more, length-map, length-take-le, take-append-drop, fold-append, Item, Number, Span, Words, Entry, is_bad, item_names, span_count, count_numbers, span_numbers, numbers_of, GivenName, given_names, NameFault, words_named, words_of_names, refused_if, ranges_refused, item_refused, items_refused, given_by, number_at, Progress, refuse_all, with_numbers}
 use Rattle.decls.specs.declared.fault.NameFault.TheVariants as fault
-use Rattle.decls.specs.NamesBefore.{words_named, words_of_names}
-use Rattle.decls.specs.Refused.{refused_if, ranges_refused, item_refused, items_refused}
-use Rattle.decls.specs.Shown.{given_by}
-use Rattle.name_uses.specs.RangeParts.{number_at}
 use Rattle.decls.specs.Spans.{range_length}
-use Rattle.decls.specs.Steps.{Progress, refuse_all}
-use Rattle.decls.specs.Walked.{with_numbers}
 use Rattle.decls.proofs.Rows.{mapped_more}
 
 pub folded_more : {S A B : Type 0} (f : S → B → S) (v : A → B) (s : S) (es : List A) (k : ℕ) (e : A) → k < length es → e ≡ get_or es k e

@@ -1,16 +1,8 @@
 -- Looking a name up in the table.
 use Rattle.std.proofs.Common.{◌≡◌, ℕ, ◌+◌, Bool, true, false, List, [], ◌∷◌, ◌++◌, Option, Some, None, map, refl, sym, ap, ◌∙◌, if◌then◌else◌, cond}
 use Rattle.std.specs.Prelude.{is_some, option_map, option_copied}
-use Rattle.std.specs.Global.{Vec}
-use Rattle.std.specs.List.{position, position_from}
-use Rattle.std.proofs.lemmas.Iterator.Adapters.{position_from-zero}
-use Rattle.std.specs.Str.{bytes_eq}
-use Rattle.std.specs.Map.{lookup, keys_of}
+use Rattle.decls.proofs.Common.{Vec, position, position_from, position_from-zero, bytes_eq, lookup, keys_of, Table, Kind, APin, ANode, AConstant, ADeviceName, Entry, kind_of, find, passes, view_meaning, Known, kept_kind, kept, view_known, wanted}
 use denote.Ref.{Bor}
-use Rattle.pld_device.specs.Table.{Table}
-use Rattle.abel_tree.specs.Entries.{Kind, APin, ANode, AConstant, ADeviceName, Entry, kind_of, find, passes, view_meaning}
-use Rattle.decls.specs.declared.table.Known.{Known}
-use Rattle.decls.specs.Shown.{kept_kind, kept, view_known, wanted}
 
 abbrev pub known_kind : Option Known → Option Kind
 known_kind o = option_map (λ x. view_meaning x.meaning) o

@@ -1,22 +1,8 @@
 -- Steps by the names that stand before them: what each step adds, and what it refuses.
 use Rattle.std.proofs.Common.{◌≡◌, ℕ, suc, ◌+◌, ◌==◌, nat_le, Bool, true, false, not, ◌||◌, List, [], ◌∷◌, ◌++◌, fold, length, if◌then◌else◌, refl, sym, ap, subst, ◌∙◌, append_assoc, arith}
 use Rattle.std.specs.Prelude.{is_some}
-use Rattle.std.specs.List.{list_any}
-use Rattle.std.proofs.lemmas.Bool.Decides.{nat_tests}
-use Rattle.std.proofs.lemmas.List.{append-nil, length-append}
-use Rattle.std.proofs.lemmas.List.Elements.{filter-append}
-use Rattle.pld_base.specs.declared.place.Place.{Place}
-use Rattle.pld_device.specs.Table.{Table}
-use Rattle.abel_tree.specs.Entries.{Kind, APin, ANode, AConstant, ADeviceName, Words, Entry, kind_of, is_value, names_any}
-use Rattle.abel_tree.specs.Ranges.{ends_agree, names_between}
-use Rattle.abel_tree.specs.Tree.{Tree}
-use Rattle.abel_tree.specs.Uses.{Use, OneName, Range}
-use Rattle.abel_meaning.specs.Declarations.{GivenName, entry, node_count}
-use Rattle.decls.specs.declared.fault.NameFault.{NameFault}
+use Rattle.decls.proofs.Common.{list_any, nat_tests, append-nil, length-append, filter-append, Place, Table, Kind, APin, ANode, AConstant, ADeviceName, Words, Entry, kind_of, is_value, names_any, ends_agree, names_between, Tree, Use, OneName, Range, GivenName, entry, node_count, NameFault, first_entries, is_on_pin, is_taken, refused_if, is_signal_pin, name_refused, first_undeclared, use_refused, uses_refused, Progress, refuse_if, refuse_all, entered_if, entered, pin_taken, on_pin, pin_entered, node_counted, node_entered, used, range_used}
 use Rattle.decls.specs.declared.fault.NameFault.TheVariants as fault
-use Rattle.decls.specs.NamesBefore.{first_entries, is_on_pin, is_taken}
-use Rattle.decls.specs.Refused.{refused_if, is_signal_pin, name_refused, first_undeclared, use_refused, uses_refused}
-use Rattle.decls.specs.Steps.{Progress, refuse_if, refuse_all, entered_if, entered, pin_taken, on_pin, pin_entered, node_counted, node_entered, used, range_used}
 use Rattle.decls.proofs.FirstNames.{kind_first, first_push, uses_first}
 use Rattle.decls.proofs.Folded.{any_append}
 use Rattle.decls.proofs.Unknown.{known_all}

@@ -1,16 +1,7 @@
 -- A pass that leaves names out keeps the first refusal.
 use Rattle.std.proofs.Common.{◌≡◌, Bool, true, false, not, List, Option, Some, None, refl, sym, ap, ◌∙◌}
 use Rattle.std.specs.Prelude.{is_some}
-use Rattle.pld_base.specs.declared.place.Place.{Place}
-use Rattle.pld_device.specs.Table.{Table}
-use Rattle.abel_tree.specs.FirstRefusal.{first_refusal}
-use Rattle.decls.specs.declared.fault.NameFault.{NameFault}
-use Rattle.decls.specs.declared.pass.Pass.{Pass}
-use Rattle.decls.specs.declared.table.NameTable.{NameTable}
-use Rattle.decls.specs.FaultOrder.{name_order}
-use Rattle.decls.specs.Passed.{is_behind, AreBehind, MayLeave, Way, way, Follows, wants_names}
-use Rattle.decls.specs.Shown.{Shows}
-use Rattle.decls.specs.Steps.{Progress, nothing, refuse_all}
+use Rattle.decls.proofs.Common.{Place, Table, first_refusal, NameFault, Pass, NameTable, name_order, is_behind, AreBehind, MayLeave, Way, way, Follows, wants_names, Shows, Progress, nothing, refuse_all}
 use Rattle.decls.proofs.FirstStays.{adds_first, first_stays}
 
 -- the table goes on while no name is left out

@@ -7,6 +7,7 @@ pub mod BadAttributeExamplesB
 pub mod BadPinExamples
 pub mod BadRangeExamples
 pub mod BufferStrings
+pub mod Common
 pub mod DeclarationsGo
 pub mod Entered
 pub mod FirstNames

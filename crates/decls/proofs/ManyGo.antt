@@ -1,14 +1,6 @@
 -- Names one after the other.
 use Rattle.std.proofs.Common.{◌≡◌, ℕ, suc, ◌+◌, Bool, true, false, Some, None, List, [], ◌∷◌, ◌++◌, fold, length, sym, ap, subst, ◌∙◌, append_assoc, arith}
-use Rattle.std.proofs.lemmas.List.{append-nil}
-use Rattle.pld_device.specs.Table.{Table}
-use Rattle.abel_tree.specs.declared.words.Word.{Word}
-use Rattle.abel_tree.specs.Entries.{APin, ANode, AConstant, Words, Entry}
-use Rattle.abel_tree.specs.Tree.{Tree}
-use Rattle.abel_meaning.specs.Declarations.{GivenName, entry, pin_entries, node_entries, constant_entries, no_words, node_count}
-use Rattle.decls.specs.Refused.{name_refused, names_refused}
-use Rattle.decls.specs.Steps.{Progress}
-use Rattle.decls.specs.Walked.{pin_step, node_step, constant_step, with_numbers}
+use Rattle.decls.proofs.Common.{append-nil, Table, Word, APin, ANode, AConstant, Words, Entry, Tree, GivenName, entry, pin_entries, node_entries, constant_entries, no_words, node_count, name_refused, names_refused, Progress, pin_step, node_step, constant_step, with_numbers}
 use Rattle.decls.proofs.Goes.{Reached, Goes, followed, stays, count_append, pin_goes, unnumbered_goes, node_goes, constant_goes}
 
 -- one name and then the others

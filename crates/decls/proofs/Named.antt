@@ -1,14 +1,7 @@
 -- Where no use is refused, each name that is used is known.
 use Rattle.std.proofs.Common.{◌≡◌, ℕ, Bool, true, false, ◌&&◌, if◌then◌else◌, List, [], ◌∷◌, ◌++◌, refl, ap₂, ◌∙◌}
-use Rattle.std.specs.List.{list_all}
-use Rattle.std.proofs.lemmas.List.Folds.{list_all-append}
-use Rattle.pld_base.specs.declared.place.Place.{Place}
-use Rattle.abel_tree.specs.Entries.{Kind, Entry, is_value, names_any}
-use Rattle.abel_tree.specs.Ranges.{ends_agree, names_between}
-use Rattle.abel_tree.specs.SoundNames.{is_named, are_named}
-use Rattle.abel_tree.specs.Uses.{Use, OneName, Range}
+use Rattle.decls.proofs.Common.{list_all, list_all-append, Place, Kind, Entry, is_value, names_any, ends_agree, names_between, is_named, are_named, Use, OneName, Range, first_undeclared, use_refused, uses_refused}
 use Rattle.decls.specs.declared.fault.NameFault.TheVariants as fault
-use Rattle.decls.specs.Refused.{first_undeclared, use_refused, uses_refused}
 use Rattle.decls.proofs.NoRefusals.{none_left, none_right}
 
 pub names_known : (test : Kind → Bool) (es : List Entry) (p : Place) (names : List (List ℕ)) → first_undeclared test es p names ≡ [] → list_all (names_any test es) names ≡ true

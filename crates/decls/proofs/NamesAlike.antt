@@ -1,16 +1,8 @@
 -- Names that stand for the same, and lists with more names.
 use Rattle.std.proofs.Common.{◌≡◌, ℕ, suc, Bool, true, ◌&&◌, if◌then◌else◌, Option, Some, None, List, [], ◌∷◌, ◌++◌, map, refl, sym, ap, ap₂, ◌∙◌}
-use Rattle.std.specs.List.{list_all}
-use Rattle.std.specs.Str.{bytes_eq}
-use Rattle.std.proofs.lemmas.Bool.{and_parts}
-use Rattle.pld_device.specs.declared.flip.Flip.{Flip}
+use Rattle.decls.proofs.Common.{list_all, bytes_eq, and_parts, Flip, Kind, Words, Entry, kind_of, passes, is_value, names_any, used_names, is_named, are_named, Use, GivenName, with_words, with_kinds}
 use Rattle.abel_tree.specs.Assigned.{Assigned}
-use Rattle.abel_tree.specs.Entries.{Kind, Words, Entry, kind_of, passes, is_value, names_any}
-use Rattle.abel_tree.specs.SoundNames.{used_names, is_named, are_named}
-use Rattle.abel_tree.specs.Uses.{Use}
-use Rattle.abel_meaning.specs.Declarations.{GivenName, with_words}
 use Rattle.abel_meaning.specs.Held.{Holds}
-use Rattle.abel_meaning.specs.Kinds.{with_kinds}
 use Rattle.decls.proofs.FirstNames.{kind_append, or_else}
 
 -- ---- the same names of the same kinds

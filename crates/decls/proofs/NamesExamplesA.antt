@@ -1,9 +1,7 @@
 -- Accepted names: sources as trees, and what a second implementation of the language answers.
 use Rattle.std.proofs.Common.{◌≡◌, [], ◌∷◌, false, refl}
-use Rattle.std.specs.Fmt.{digits}
+use Rattle.decls.proofs.Common.{digits, is_before, ADevice, SomePins, SomeAttributes, Equations, ATable}
 use Rattle.abel_tree.specs.declared.words.Extension.TheVariants as extension
-use Rattle.abel_tree.specs.FirstRefusal.{is_before}
-use Rattle.abel_tree.specs.Tree.{ADevice, SomePins, SomeAttributes, Equations, ATable}
 use Rattle.decls.proofs.WrittenModules.{no_place, word, number, name, dotted, assign, row, item, pin, module_of, pal16l8, pal16r4, pal16r6, gal22v10, name_codes}
 
 -- d device 'P16L8'; A pin 1; a pin 2;

@@ -1,10 +1,8 @@
 -- Accepted names: sources as trees, and what a second implementation of the language answers.
 use Rattle.std.proofs.Common.{◌≡◌, [], ◌∷◌, false, refl}
-use Rattle.std.specs.Fmt.{digits}
+use Rattle.decls.proofs.Common.{digits, is_before, ADevice, SomePins, SomeNodes, SomeConstants, Equations, ATable}
 use Rattle.abel_tree.specs.declared.words.Extension.TheVariants as extension
 use Rattle.abel_tree.specs.declared.words.Binary.TheVariants as binary
-use Rattle.abel_tree.specs.FirstRefusal.{is_before}
-use Rattle.abel_tree.specs.Tree.{ADevice, SomePins, SomeNodes, SomeConstants, Equations, ATable}
 use Rattle.decls.proofs.WrittenModules.{no_place, word, number, special, name, dotted, one, span, set, paren, complement, operator, assign, clocked, row, item, items, pin, pins_to, module_of, pal16l8, pal16r6, pal16r8, gal22v10, name_codes}
 
 -- d device 'P16R6'; q pin 17 istype 'buffer';

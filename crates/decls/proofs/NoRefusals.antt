@@ -1,14 +1,7 @@
 -- Where nothing is refused of a name, the table keeps it as it is.
 use Rattle.std.proofs.Common.{◌≡◌, ℕ, zero, suc, nat_le, nat_lt, Bool, true, false, List, [], ◌∷◌, ◌++◌, length, if◌then◌else◌, refl, sym, ap, subst, ◌∙◌, arith, eqb-true}
-use Rattle.std.proofs.lemmas.Bool.Decides.{nat_tests}
-use Rattle.pld_device.specs.Table.{Table}
-use Rattle.abel_tree.specs.Entries.{Kind, APin, ANode, AConstant, ADeviceName, Words, Entry}
-use Rattle.abel_meaning.specs.Declarations.{GivenName, is_unnumbered, pin_entries}
-use Rattle.decls.specs.declared.fault.NameFault.{NameFault}
+use Rattle.decls.proofs.Common.{nat_tests, Table, Kind, APin, ANode, AConstant, ADeviceName, Words, Entry, GivenName, is_unnumbered, pin_entries, NameFault, is_taken, refused_if, is_signal_pin, number_refused, kept_kind}
 use Rattle.decls.specs.declared.fault.NameFault.TheVariants as fault
-use Rattle.decls.specs.NamesBefore.{is_taken}
-use Rattle.decls.specs.Refused.{refused_if, is_signal_pin, number_refused}
-use Rattle.decls.specs.Shown.{kept_kind}
 
 -- ---- empty lists
 

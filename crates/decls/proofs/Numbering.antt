@@ -1,11 +1,7 @@
 -- Names by their numbers, one more.
 use Rattle.std.proofs.Common.{◌≡◌, ℕ, ◌+◌, ◌<◌, List, [], ◌∷◌, ◌++◌, map, take, length, get_or, sym, ap, ◌∙◌, append_assoc}
-use Rattle.std.proofs.lemmas.List.{append-nil}
-use Rattle.abel_tree.specs.Entries.{Entry, find}
-use Rattle.abel_meaning.specs.Declarations.{GivenName}
+use Rattle.decls.proofs.Common.{append-nil, Entry, find, GivenName, number_if, numbered, view_given}
 use Rattle.decls.specs.declared.items.Given.{Given}
-use Rattle.decls.specs.Numbers.{number_if, numbered}
-use Rattle.decls.specs.Shown.{view_given}
 use Rattle.decls.proofs.Rows.{mapped_more}
 
 numbered_push : (es : List Entry) (xs : List GivenName) (x : GivenName) → numbered es (xs ++ x ∷ []) ≡ numbered es xs ++ number_if x.place (find es x.name)

@@ -1,20 +1,10 @@
 -- What the parts of sections use is what the sections use.
 use Rattle.std.proofs.Common.{◌≡◌, List, [], ◌∷◌, ◌++◌, Option, Some, None, fold, map, refl, sym, ap, ap₂, ◌∙◌, append_assoc}
-use Rattle.std.specs.List.{flat_map}
-use Rattle.std.proofs.lemmas.List.{append-nil, map-append}
-use Rattle.std.proofs.lemmas.List.Sums.{fold-append}
+use Rattle.decls.proofs.Common.{flat_map, append-nil, map-append, fold-append, Table, Extension, Tree, ANumber, ASpecial, AName, ASet, AParen, AUnary, ABinary, SetMember, OneMember, SpanMember, Members, NoMember, MoreMembers, Statement, AnAssign, AWhen, AGroup, ADontCare, Otherwise, NoElse, AnElse, Statements, NoStatement, MoreStatements, Branch, AGoal, AnIf, ACase, OtherBranch, NoBranch, ABranch, Choices, NoChoice, MoreChoices, RowTree, StateTree, SectionTree, Declarations, Equations, ATable, ADiagram, SomeVectors, DontCareSection, Use, uses, member_uses, one_member_uses, all_uses, statement_uses, else_uses, statements_uses, list_uses, with_uses, branch_uses, other_uses, choices_uses, branches_uses, rows_uses, states_uses, section_uses, with_parts, name_step, part_step, parted_step, use_of, value_step, Progress, used, section_step}
 use Rattle.std.proofs.lemmas.Grind.{flat_map-append}
-use Rattle.pld_device.specs.Table.{Table}
-use Rattle.abel_tree.specs.declared.words.Extension.{Extension}
-use Rattle.abel_tree.specs.Tree.{Tree, ANumber, ASpecial, AName, ASet, AParen, AUnary, ABinary, SetMember, OneMember, SpanMember, Members, NoMember, MoreMembers, Statement, AnAssign, AWhen, AGroup, ADontCare, Otherwise, NoElse, AnElse, Statements, NoStatement, MoreStatements, Branch, AGoal, AnIf, ACase, OtherBranch, NoBranch, ABranch, Choices, NoChoice, MoreChoices, RowTree, StateTree, SectionTree, Declarations, Equations, ATable, ADiagram, SomeVectors, DontCareSection}
-use Rattle.abel_tree.specs.Uses.{Use, uses, member_uses, one_member_uses, all_uses, statement_uses, else_uses, statements_uses, list_uses, with_uses, branch_uses, other_uses, choices_uses, branches_uses, rows_uses, states_uses, section_uses}
 use Rattle.abel_tree.specs.Extensions.{innermost}
 use Rattle.name_uses.specs.NamesUsed.{UsedName, names_used, members_used, member_used}
 use Rattle.name_uses.specs.Parts.{PartTree, parts_in_statement, parts_in_else, parts_in_statements, parts_in_with, parts_in_branch, parts_in_other, parts_in_choices, parts_in_state, parts_in_row, parts_in_section}
-use Rattle.name_uses.specs.Viewed.{with_parts}
-use Rattle.decls.specs.PartUses.{name_step, part_step, parted_step, use_of, value_step}
-use Rattle.decls.specs.Steps.{Progress, used}
-use Rattle.decls.specs.Walked.{section_step}
 
 names_folded : (s : Progress) (us : List UsedName) → fold name_step s us ≡ fold used s (map use_of us)
 names_folded s [] = refl

@@ -1,11 +1,8 @@
 -- Pins with two names: sources as trees, and what a second implementation of the language answers.
 use Rattle.std.proofs.Common.{◌≡◌, Some, [], ◌∷◌, refl}
 use Rattle.std.specs.Prelude.{codes}
-use Rattle.std.specs.Fmt.{digits}
-use Rattle.abel_tree.specs.FirstRefusal.{is_before}
-use Rattle.abel_tree.specs.Tree.{ADevice, SomePins}
+use Rattle.decls.proofs.Common.{digits, is_before, ADevice, SomePins, first_name_refusal}
 use Rattle.decls.specs.declared.fault.NameFault.TheVariants as fault
-use Rattle.decls.specs.NameRefusals.{first_name_refusal}
 use Rattle.decls.proofs.WrittenModules.{at, word, item, low_item, items, pin, pins_to, module_of, pal16l8}
 
 -- d device 'P16L8'; a pin 1; b pin 1;

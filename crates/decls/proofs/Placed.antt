@@ -1,12 +1,7 @@
 -- A name that is sound is found where it stands.
 use Rattle.std.proofs.Common.{◌≡◌, ℕ, zero, suc, ◌+◌, Bool, true, false, Some, List, [], ◌∷◌, take, cond, refl, sym, ap, ◌∙◌, arith, zero-add}
 use Rattle.std.specs.Prelude.{is_some, slice_get}
-use Rattle.std.specs.List.{position_from}
-use Rattle.std.specs.Str.{bytes_eq}
-use Rattle.std.proofs.lemmas.Bool.{true≢false}
-use Rattle.std.proofs.lemmas.Iterator.Adapters.{position_from-zero}
-use Rattle.std.proofs.lemmas.Slice.Eq.{bytes_eq-Decides}
-use Rattle.abel_tree.specs.Entries.{Entry, find, kind_of}
+use Rattle.decls.proofs.Common.{position_from, bytes_eq, true≢false, position_from-zero, bytes_eq-Decides, Entry, find, kind_of}
 use Rattle.decls.proofs.SoundEntries.{AreSound, sound_at}
 use Rattle.decls.proofs.Told.{is_name}
 

@@ -1,14 +1,7 @@
 -- Names that must all be known.
 use Rattle.std.proofs.Common.{◌≡◌, ℕ, ◌+◌, ◌<◌, Bool, true, false, List, map, drop, length, get_or, Some, None, if◌then◌else◌, refl, sym, ap, ◌∙◌}
-use Rattle.std.proofs.lemmas.List.{at_drop_more}
-use Rattle.std.specs.Global.{Vec}
-use Rattle.pld_base.specs.declared.place.Place.{Place}
-use Rattle.abel_tree.specs.declared.words.Word.{Word}
-use Rattle.abel_tree.specs.Entries.{Kind, is_value, names_any}
-use Rattle.abel_tree.specs.Ranges.{ends_agree, names_between}
+use Rattle.decls.proofs.Common.{at_drop_more, Vec, Place, Word, Kind, is_value, names_any, ends_agree, names_between, name_items, names_if_agree, Progress, refuse, all_known, range_used}
 use Rattle.decls.specs.declared.fault.NameFault.TheVariants as fault
-use Rattle.name_uses.specs.RangeParts.{name_items, names_if_agree}
-use Rattle.decls.specs.Steps.{Progress, refuse, all_known, range_used}
 
 abbrev pub known_from : (Kind → Bool) → Place → List (Vec ℕ) → Progress → Progress
 known_from test p names s = all_known test p (map name_items names) s

@@ -1,21 +1,9 @@
 -- Each name of which `buffer` is said is among those that such a string is for, if it is a signal.
 use Rattle.std.proofs.Common.{◌≡◌, ℕ, suc, Bool, true, false, ◌&&◌, ◌||◌, if◌then◌else◌, Some, List, [], ◌∷◌, ◌++◌, map, zip, filter, length, get_or, refl, sym, ap, ap₂, subst, ◌∙◌}
-use Rattle.std.specs.List.{All, list_all}
-use Rattle.std.proofs.lemmas.Bool.{true≢false}
-use Rattle.std.proofs.lemmas.List.{append-nil}
-use Rattle.std.proofs.lemmas.List.Folds.{list_all-append, list_all-map}
-use Rattle.std.proofs.lemmas.List.Elements.{All-nil, All-cons, All-append, All-map, All-weaker, All-from_get_or, All-get_or}
+use Rattle.decls.proofs.Common.{All, list_all, true≢false, append-nil, list_all-append, list_all-map, All-nil, All-cons, All-append, All-map, All-weaker, All-from_get_or, All-get_or, Item, Word, ADeviceName, Words, Entry, kind_of, passes, is_signal, names_any, is_bad, item_names, numbers_of, Tree, Declaration, ADevice, SomePins, SomeNodes, SomeAttributes, SomeConstants, SomeOptions, DontCareFor, GivenName, given_names, entry, no_words, all_said, said_by_either, with_words, pin_entries, node_entries, constant_entries, node_count, declared, buffered, refused_if, item_refused, items_refused}
 use Rattle.std.proofs.lemmas.Option.{slice_get-get_or}
-use Rattle.abel_tree.specs.declared.words.Item.{Item}
-use Rattle.abel_tree.specs.declared.words.Word.{Word}
-use Rattle.abel_tree.specs.Entries.{ADeviceName, Words, Entry, kind_of, passes, is_signal, names_any}
-use Rattle.abel_tree.specs.Ranges.{is_bad, item_names, numbers_of}
-use Rattle.abel_tree.specs.Tree.{Tree, Declaration, ADevice, SomePins, SomeNodes, SomeAttributes, SomeConstants, SomeOptions, DontCareFor}
-use Rattle.abel_meaning.specs.Declarations.{GivenName, given_names, entry, no_words, all_said, said_by_either, with_words, pin_entries, node_entries, constant_entries, node_count, declared}
 use Rattle.abel_meaning.specs.Designs.{no_name}
 use Rattle.decls.specs.declared.fault.NameFault.TheVariants as fault
-use Rattle.decls.specs.NameRefusals.{buffered}
-use Rattle.decls.specs.Refused.{refused_if, item_refused, items_refused}
 use Rattle.decls.proofs.NoRefusals.{none_left, none_right}
 use Rattle.decls.proofs.Among.{is_among, among_kept, among_left, among_right, AreAmong, rest_among, first_among}
 use Rattle.decls.proofs.Named.{names_known}

@@ -1,17 +1,8 @@
 -- What was said of a name, in the table and in the entries.
 use Rattle.std.proofs.Common.{◌≡◌, ℕ, zero, suc, ◌<◌, length, get_or, arith, ◌&&◌, Bool, true, false, ◌||◌, List, [], ◌∷◌, Option, Some, None, map, refl, sym, ap, ◌∙◌, if◌then◌else◌, cond}
 use Rattle.std.specs.Prelude.{option_map}
+use Rattle.decls.proofs.Common.{list_any, Vec, lookup, bytes_eq, Table, Words, Entry, Said, Known, words_named, kept, view_known, view_said, said_before}
 use Rattle.std.proofs.Math.Bool.{beq}
-use Rattle.std.specs.List.{list_any}
-use Rattle.std.specs.Global.{Vec}
-use Rattle.std.specs.Map.{lookup}
-use Rattle.std.specs.Str.{bytes_eq}
-use Rattle.pld_device.specs.Table.{Table}
-use Rattle.abel_tree.specs.Entries.{Words, Entry}
-use Rattle.decls.specs.declared.said.Said.{Said}
-use Rattle.decls.specs.declared.table.Known.{Known}
-use Rattle.decls.specs.NamesBefore.{words_named}
-use Rattle.decls.specs.Shown.{kept, view_known, view_said, said_before}
 
 abbrev pub known_said : Option Known → Option Words
 known_said o = option_map (λ (x : Known). view_said x.said) o

@@ -1,18 +1,7 @@
 -- Strings one after the other.
 use Rattle.std.proofs.Common.{◌≡◌, ℕ, ◌+◌, ◌<◌, Bool, true, false, ◌||◌, List, [], ◌∷◌, ◌++◌, map, fold, take, length, get_or, if◌then◌else◌, refl, sym, ap, ap₂, ◌∙◌, append_assoc}
-use Rattle.std.proofs.lemmas.List.{take_more, append-nil}
-use Rattle.std.proofs.lemmas.List.Sums.{fold-append}
-use Rattle.std.specs.List.{list_any}
-use Rattle.abel_tree.specs.declared.words.Word.{Word}
-use Rattle.abel_tree.specs.Entries.{Words}
-use Rattle.abel_meaning.specs.Declarations.{said_by_either, no_words, all_said, words_of, said_words}
+use Rattle.decls.proofs.Common.{take_more, append-nil, fold-append, list_any, Word, Words, said_by_either, no_words, all_said, words_of, said_words, Said, StringWords, Tells, view_said, brings_clash, is_refused_string, string_refused, strings_refused, Progress, refuse, refuse_all}
 use Rattle.decls.specs.declared.fault.NameFault.TheVariants as fault
-use Rattle.decls.specs.declared.said.Said.{Said}
-use Rattle.decls.specs.declared.strings.StringWords.{StringWords}
-use Rattle.decls.specs.Pieces.{Tells}
-use Rattle.decls.specs.Shown.{view_said}
-use Rattle.decls.specs.Attributes.{brings_clash, is_refused_string, string_refused, strings_refused}
-use Rattle.decls.specs.Steps.{Progress, refuse, refuse_all}
 
 abbrev pub said_behind : Words → List Word → Words
 said_behind e xs = fold (λ (said : Words) (w : Word). said_by_either said (said_words (words_of w.text))) e xs

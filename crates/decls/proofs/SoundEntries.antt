@@ -1,20 +1,8 @@
 -- Names that are sound by the names before them.
 use Rattle.std.proofs.Common.{◌≡◌, ℕ, zero, suc, ◌<◌, ◌≤◌, ◌==◌, nat_le, nat_lt, Bool, true, false, not, ◌&&◌, ◌||◌, if◌then◌else◌, Some, List, [], ◌∷◌, ◌++◌, zip, take, refl, sym, ap, ap₂, subst, ◌∙◌, append_assoc, arith}
 use Rattle.std.specs.Prelude.{is_some, slice_get}
-use Rattle.std.proofs.lemmas.Bool.{true≢false, and_parts}
-use Rattle.std.proofs.lemmas.Bool.Decides.{nat_tests}
-use Rattle.std.proofs.lemmas.List.{append-nil}
-use Rattle.std.proofs.lemmas.List.Folds.{list_all-append}
-use Rattle.pld_device.specs.Table.{Table}
-use Rattle.abel_tree.specs.declared.words.Word.{Word}
-use Rattle.abel_tree.specs.Entries.{Kind, APin, ANode, AConstant, ADeviceName, Words, Entry, kind_of}
-use Rattle.abel_tree.specs.SoundNames.{IsSoundKind, is_named, are_named}
-use Rattle.abel_tree.specs.Tree.{Tree}
-use Rattle.abel_tree.specs.Uses.{uses, all_uses}
-use Rattle.abel_meaning.specs.Declarations.{GivenName, is_unnumbered, pin_entries, node_entries, constant_entries}
+use Rattle.decls.proofs.Common.{true≢false, and_parts, nat_tests, append-nil, list_all-append, Table, Word, Kind, APin, ANode, AConstant, ADeviceName, Words, Entry, kind_of, IsSoundKind, is_named, are_named, Tree, uses, all_uses, GivenName, is_unnumbered, pin_entries, node_entries, constant_entries, is_on_pin, is_taken, refused_if, is_signal_pin, number_refused}
 use Rattle.decls.specs.declared.fault.NameFault.TheVariants as fault
-use Rattle.decls.specs.NamesBefore.{is_on_pin, is_taken}
-use Rattle.decls.specs.Refused.{refused_if, is_signal_pin, number_refused}
 use Rattle.decls.proofs.NoRefusals.{not_refused}
 use Rattle.decls.proofs.NamesAlike.{Alike, alike_kinds, alike_push, Extends, extends_alike, named_more}
 

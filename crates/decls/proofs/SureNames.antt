@@ -1,19 +1,8 @@
 -- Where nothing is refused, each name is declared once, the table keeps it as it is, and it is sound.
 use Rattle.std.proofs.Common.{◌≡◌, ℕ, zero, suc, Bool, true, false, List, [], ◌∷◌, ◌++◌, map, zip, length, if◌then◌else◌, refl, sym, ap, ap₂, subst, ◌∙◌, append_assoc}
 use Rattle.std.specs.Prelude.{is_some}
-use Rattle.std.proofs.lemmas.Bool.{true≢false}
-use Rattle.std.proofs.lemmas.List.{append-nil, map-append}
-use Rattle.pld_device.specs.Table.{Table}
-use Rattle.abel_tree.specs.Entries.{ADeviceName, Words, Entry, kind_of}
-use Rattle.abel_tree.specs.Ranges.{numbers_of}
-use Rattle.abel_tree.specs.SoundNames.{IsSoundKind}
-use Rattle.abel_tree.specs.Tree.{Declaration, ADevice, SomePins, SomeNodes, SomeAttributes, SomeConstants, SomeOptions, DontCareFor}
-use Rattle.abel_tree.specs.Uses.{all_uses}
-use Rattle.abel_meaning.specs.Declarations.{GivenName, given_names, entry, no_words, all_said, is_unnumbered, pin_entries, node_entries, constant_entries, node_count, with_words, declared}
+use Rattle.decls.proofs.Common.{true≢false, append-nil, map-append, Table, ADeviceName, Words, Entry, kind_of, numbers_of, IsSoundKind, Declaration, ADevice, SomePins, SomeNodes, SomeAttributes, SomeConstants, SomeOptions, DontCareFor, all_uses, GivenName, given_names, entry, no_words, all_said, is_unnumbered, pin_entries, node_entries, constant_entries, node_count, with_words, declared, first_entries, added, number_refused, name_refused, names_refused, given_count, parts_refused, kept, kept_kind}
 use Rattle.decls.specs.declared.fault.NameFault.TheVariants as fault
-use Rattle.decls.specs.NamesBefore.{first_entries, added}
-use Rattle.decls.specs.Refused.{number_refused, name_refused, names_refused, given_count, parts_refused}
-use Rattle.decls.specs.Shown.{kept, kept_kind}
 use Rattle.decls.proofs.DeclarationsGo.{added_is}
 use Rattle.decls.proofs.FirstNames.{first_push, kind_first}
 use Rattle.decls.proofs.Named.{uses_known}

@@ -1,19 +1,8 @@
 -- More words for a name in the table.
 use Rattle.std.proofs.Common.{◌≡◌, ℕ, zero, suc, ◌+◌, ◌-◌, ◌≤◌, Bool, true, false, List, [], ◌∷◌, Option, Some, None, map, if◌then◌else◌, refl, sym, ap, ap₂, ◌∙◌, cond, arith}
 use Rattle.std.specs.Prelude.{slice_get}
-use Rattle.std.specs.Global.{Vec}
-use Rattle.std.specs.List.{position_from}
-use Rattle.std.specs.Map.{values_of}
-use Rattle.std.specs.Str.{bytes_eq}
-use Rattle.std.proofs.lemmas.Iterator.Adapters.{position_from-zero}
+use Rattle.decls.proofs.Common.{Vec, position_from, values_of, bytes_eq, position_from-zero, Table, Words, Entry, find, said_by_either, Said, Known, kept, view_known, view_said, said_of}
 use Rattle.indexmap.specs.IndexMap.{set_value_at}
-use Rattle.pld_device.specs.Table.{Table}
-use Rattle.abel_tree.specs.Entries.{Words, Entry, find}
-use Rattle.abel_meaning.specs.Declarations.{said_by_either}
-use Rattle.decls.specs.declared.said.Said.{Said}
-use Rattle.decls.specs.declared.table.Known.{Known}
-use Rattle.decls.specs.Shown.{kept, view_known, view_said}
-use Rattle.decls.specs.Walked.{said_of}
 
 abbrev pub is_name : List ℕ → Entry → Bool
 is_name name e = bytes_eq name e.name

@@ -1,11 +1,8 @@
 -- The 129th node: sources as trees, and what a second implementation of the language answers.
 use Rattle.std.proofs.Common.{◌≡◌, Some, [], ◌∷◌, refl}
 use Rattle.std.specs.Prelude.{codes}
-use Rattle.std.specs.Fmt.{digits}
-use Rattle.abel_tree.specs.FirstRefusal.{is_before}
-use Rattle.abel_tree.specs.Tree.{ADevice, SomeNodes}
+use Rattle.decls.proofs.Common.{digits, is_before, ADevice, SomeNodes, first_name_refusal}
 use Rattle.decls.specs.declared.fault.NameFault.TheVariants as fault
-use Rattle.decls.specs.NameRefusals.{first_name_refusal}
 use Rattle.decls.proofs.WrittenModules.{at, word, item, items, module_of, pal16l8}
 
 -- d device 'P16L8'; n0..n128 node;

@@ -1,13 +1,10 @@
 -- Names that are not declared before: sources as trees, and what a second implementation of the language answers.
 use Rattle.std.proofs.Common.{◌≡◌, Some, None, [], ◌∷◌, false, refl}
 use Rattle.std.specs.Prelude.{codes}
-use Rattle.std.specs.Fmt.{digits}
+use Rattle.decls.proofs.Common.{digits, is_before, ADevice, SomePins, SomeAttributes, SomeConstants, Equations, ATable, ADiagram, SomeVectors, first_name_refusal}
 use Rattle.abel_tree.specs.declared.words.Extension.TheVariants as extension
 use Rattle.abel_tree.specs.declared.words.Binary.TheVariants as binary
-use Rattle.abel_tree.specs.FirstRefusal.{is_before}
-use Rattle.abel_tree.specs.Tree.{ADevice, SomePins, SomeAttributes, SomeConstants, Equations, ATable, ADiagram, SomeVectors}
 use Rattle.decls.specs.declared.fault.NameFault.TheVariants as fault
-use Rattle.decls.specs.NameRefusals.{first_name_refusal}
 use Rattle.decls.proofs.WrittenModules.{at, no_place, word, number, special, name, dotted, one, span, set, paren, complement, negative, operator, assign, not_assign, clocked, when_then, goto, goto_with, if_else, choice, case_of, row, state, item, pin, module_of, pal16l8}
 
 -- d device 'P16L8'; a pin 1; zz istype 'foo';

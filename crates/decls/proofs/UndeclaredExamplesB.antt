@@ -1,11 +1,8 @@
 -- Names that are not declared before: sources as trees, and what a second implementation of the language answers.
 use Rattle.std.proofs.Common.{◌≡◌, Some, [], ◌∷◌, refl}
 use Rattle.std.specs.Prelude.{codes}
-use Rattle.std.specs.Fmt.{digits}
-use Rattle.abel_tree.specs.FirstRefusal.{is_before}
-use Rattle.abel_tree.specs.Tree.{ADevice, SomePins, SomeAttributes, SomeConstants, Declarations, Equations}
+use Rattle.decls.proofs.Common.{digits, is_before, ADevice, SomePins, SomeAttributes, SomeConstants, Declarations, Equations, first_name_refusal}
 use Rattle.decls.specs.declared.fault.NameFault.TheVariants as fault
-use Rattle.decls.specs.NameRefusals.{first_name_refusal}
 use Rattle.decls.proofs.WrittenModules.{at, word, number, name, one, set, assign, clocked, item, items, pin, module_of, pal16l8, pal16r4}
 
 -- d device 'P16R4'; b = [a]; a = [b]; EQUATIONS b := 1;

@@ -1,13 +1,7 @@
 -- Names that must all be known, as refusals.
 use Rattle.std.proofs.Common.{◌≡◌, Bool, true, false, ℕ, List, [], ◌∷◌, if◌then◌else◌, refl, sym, ap, ◌∙◌, append_assoc}
-use Rattle.std.proofs.lemmas.List.{append-nil}
-use Rattle.pld_base.specs.declared.place.Place.{Place}
-use Rattle.abel_tree.specs.declared.words.Item.{Item}
-use Rattle.abel_tree.specs.Entries.{Kind, is_signal, names_any}
-use Rattle.abel_tree.specs.Ranges.{is_bad, item_names}
+use Rattle.decls.proofs.Common.{append-nil, Place, Item, Kind, is_signal, names_any, is_bad, item_names, refused_if, first_undeclared, item_refused, Progress, refuse, refuse_all, all_known}
 use Rattle.decls.specs.declared.fault.NameFault.TheVariants as fault
-use Rattle.decls.specs.Refused.{refused_if, first_undeclared, item_refused}
-use Rattle.decls.specs.Steps.{Progress, refuse, refuse_all, all_known}
 
 pub known_all : (test : Kind → Bool) (p : Place) (names : List (List ℕ)) (s : Progress) → all_known test p names s ≡ refuse_all (first_undeclared test s.entries p names) s
 known_all test p [] s = ap (λ fs. record s { faults = fs }) (sym (append-nil s.faults))

@@ -1,12 +1,7 @@
 -- Constants one after the other.
 use Rattle.std.proofs.Common.{◌≡◌, ℕ, ◌+◌, ◌<◌, Option, Some, None, List, [], ◌∷◌, ◌++◌, fold, take, length, zip, get_or, refl, sym, ap, ◌∙◌, arith}
 use Rattle.std.specs.Prelude.{slice_get}
-use Rattle.std.proofs.lemmas.List.{take_more, length-take-le}
-use Rattle.std.proofs.lemmas.List.Sums.{fold-append}
-use Rattle.abel_tree.specs.declared.words.Word.{Word}
-use Rattle.abel_tree.specs.Tree.{Tree}
-use Rattle.decls.specs.Steps.{Progress}
-use Rattle.decls.specs.Walked.{constant_at, constant_step}
+use Rattle.decls.proofs.Common.{take_more, length-take-le, fold-append, Word, Tree, Progress, constant_at, constant_step}
 
 -- a pair, if there is a value
 abbrev pair_at : Word → Option Tree → List (Word × Tree)

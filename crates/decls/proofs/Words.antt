@@ -1,16 +1,8 @@
 -- The words of a string, one more, and the pieces that a text is split into.
 use Rattle.std.proofs.Common.{◌≡◌, ℕ, ◌+◌, ◌-◌, ◌==◌, nat_lt, Bool, true, false, not, ◌||◌, List, [], ◌∷◌, ◌++◌, map, filter, length, take, drop, refl, sym, ap, ap₂, ◌∙◌, arith, cond}
-use Rattle.std.proofs.lemmas.Bool.Decides.{nat_tests}
-use Rattle.std.proofs.lemmas.List.Folds.{list_any-append}
+use Rattle.decls.proofs.Common.{nat_tests, list_any-append, slice_split, onto_first, str_to_ascii_lowercase, bytes_eq, said_by_either, parts_words, words_of, has_word, said_words, StringWords, has_unknown, known_words, view_said, lower_words, Tells}
 use Rattle.std.specs.Prelude.{codes}
 use Rattle.std.specs.Char.{to_ascii_lowercase}
-use Rattle.std.specs.List.{slice_split, onto_first}
-use Rattle.std.specs.Str.{str_to_ascii_lowercase, bytes_eq}
-use Rattle.abel_meaning.specs.Declarations.{said_by_either, parts_words, words_of, has_word, said_words}
-use Rattle.decls.specs.declared.strings.StringWords.{StringWords}
-use Rattle.decls.specs.Attributes.{has_unknown, known_words}
-use Rattle.decls.specs.Shown.{view_said}
-use Rattle.decls.specs.Pieces.{lower_words, Tells}
 
 or_mixed : (a b c d : Bool) → ((a || c) || (b || d)) ≡ ((a || b) || (c || d))
 or_mixed true b c d = refl

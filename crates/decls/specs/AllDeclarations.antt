@@ -1,7 +1,6 @@
 -- The declarations of a module, also those of its sections.
 use Rattle.std.specs.Prelude.{List, ◌++◌}
-use Rattle.abel_tree.specs.Tree.{Declaration, ModuleTree}
-use Rattle.abel_meaning.specs.Declarations.{section_declarations}
+use Rattle.decls.specs.Prelude.{Declaration, ModuleTree, section_declarations}
 
 -- all declarations in their order
 abbrev pub all_declarations : ModuleTree → List Declaration

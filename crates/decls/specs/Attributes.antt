@@ -1,10 +1,7 @@
 -- What is refused of the strings of a declaration (ABEL-HDL Reference Manual, ISTYPE; which words contradict each other
 -- is this project's rule).
 use Rattle.std.specs.Prelude.{ℕ, Bool, not, ◌&&◌, ◌||◌, List, [], ◌∷◌, ◌++◌, if◌then◌else◌, codes}
-use Rattle.std.specs.List.{list_any}
-use Rattle.abel_tree.specs.declared.words.Word.{Word}
-use Rattle.abel_tree.specs.Entries.{Words}
-use Rattle.abel_meaning.specs.Declarations.{said_by_either, words_of, has_word, said_words}
+use Rattle.decls.specs.Prelude.{list_any, Word, Words, said_by_either, words_of, has_word, said_words}
 use Rattle.decls.specs.declared.fault.NameFault.{NameFault}
 use Rattle.decls.specs.declared.fault.NameFault.TheVariants as fault
 

@@ -1,9 +1,6 @@
 -- Whether registers wait for what is assigned: there may be one that is refused for `buffer` (this project's rule).
 use Rattle.std.specs.Prelude.{Bool, false, ◌&&◌}
-use Rattle.std.specs.List.{list_any}
-use Rattle.pld_device.specs.Table.{Table}
-use Rattle.abel_tree.specs.Tree.{Declaration, SomePins, SomeNodes, SomeAttributes, ModuleTree}
-use Rattle.abel_meaning.specs.Declarations.{all_said}
+use Rattle.decls.specs.Prelude.{list_any, Table, Declaration, SomePins, SomeNodes, SomeAttributes, ModuleTree, all_said}
 use Rattle.decls.specs.AllDeclarations.{all_declarations}
 use Rattle.decls.specs.NameRefusals.{always_inverts}
 

@@ -1,9 +1,7 @@
 -- Where a device that the project doesn't know is refused (ABEL-HDL Reference Manual, DEVICE; the place is this
 -- project's rule).
 use Rattle.std.specs.Prelude.{Option, None, Some, List, [], ◌∷◌}
-use Rattle.pld_base.specs.declared.place.Place.{Place}
-use Rattle.abel_tree.specs.declared.words.Word.{Word}
-use Rattle.abel_tree.specs.Tree.{Declaration, ADevice, ModuleTree}
+use Rattle.decls.specs.Prelude.{Place, Word, Declaration, ADevice, ModuleTree}
 use Rattle.decls.specs.AllDeclarations.{all_declarations}
 
 -- the string of the first DEVICE declaration

@@ -1,7 +1,6 @@
 -- The order of the refusals of names: by place, and at one place by kind (this project's rule).
 use Rattle.std.specs.Prelude.{ℕ}
-use Rattle.pld_base.specs.declared.place.Place.{Place}
-use Rattle.abel_tree.specs.FirstRefusal.{Ranks}
+use Rattle.decls.specs.Prelude.{Place, Ranks}
 use Rattle.decls.specs.declared.fault.NameFault.{NameFault}
 use Rattle.decls.specs.declared.fault.NameFault.TheVariants as fault
 

@@ -9,6 +9,7 @@ pub mod Numbers
 pub mod PartUses
 pub mod Passed
 pub mod Pieces
+pub mod Prelude
 pub mod Refused
 pub mod Shown
 pub mod Spans

@@ -1,13 +1,8 @@
 -- All that is refused of the names of a module, and the first of it (this project's rule).
 use Rattle.std.specs.Prelude.{ℕ, Bool, true, false, not, ◌&&◌, ◌==◌, Option, None, Some, List, [], ◌∷◌, ◌++◌, if◌then◌else◌, filter, slice_get}
+use Rattle.decls.specs.Prelude.{Table, Entry, find, is_signal, names_any, first_refusal, Declaration, SomePins, SomeNodes, SomeAttributes, SectionTree, Declarations, ModuleTree, section_uses, GivenName, given_names, all_said}
 use Rattle.pld_device.specs.Macrocells.{pin_complements}
-use Rattle.pld_device.specs.Table.{Table}
 use Rattle.abel_tree.specs.Assigned.{Assigned, named_of, sections_assign, is_clocked_target}
-use Rattle.abel_tree.specs.Entries.{Entry, find, is_signal, names_any}
-use Rattle.abel_tree.specs.FirstRefusal.{first_refusal}
-use Rattle.abel_tree.specs.Tree.{Declaration, SomePins, SomeNodes, SomeAttributes, SectionTree, Declarations, ModuleTree}
-use Rattle.abel_tree.specs.Uses.{section_uses}
-use Rattle.abel_meaning.specs.Declarations.{GivenName, given_names, all_said}
 use Rattle.abel_meaning.specs.Kinds.{is_registered}
 use Rattle.decls.specs.declared.fault.NameFault.{NameFault}
 use Rattle.decls.specs.declared.fault.NameFault.TheVariants as fault

@@ -1,9 +1,6 @@
 -- The names that stand before a declaration or a use (ABEL-HDL Reference Manual, declarations).
 use Rattle.std.specs.Prelude.{ℕ, ◌==◌, Bool, false, List, [], ◌∷◌, ◌++◌, if◌then◌else◌, is_some, fold, drop, length, bytes_eq}
-use Rattle.std.specs.List.{list_any}
-use Rattle.abel_tree.specs.Entries.{Kind, APin, Words, Entry, kind_of}
-use Rattle.abel_tree.specs.Tree.{Declaration}
-use Rattle.abel_meaning.specs.Declarations.{GivenName, declared}
+use Rattle.decls.specs.Prelude.{list_any, Kind, APin, Words, Entry, kind_of, Declaration, GivenName, declared}
 
 -- the names behind these declarations; a name that is declared twice stands twice
 abbrev pub names_behind : List Declaration → List Entry

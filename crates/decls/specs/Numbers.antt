@@ -1,9 +1,6 @@
 -- The numbers of names in the order of their first declarations.
 use Rattle.std.specs.Prelude.{ℕ, Option, None, Some, List, [], ◌∷◌, ◌++◌}
-use Rattle.pld_base.specs.declared.place.Place.{Place}
-use Rattle.abel_tree.specs.Entries.{Entry, find}
-use Rattle.abel_tree.specs.Tree.{ModuleTree}
-use Rattle.abel_meaning.specs.Declarations.{GivenName}
+use Rattle.decls.specs.Prelude.{Place, Entry, find, ModuleTree, GivenName}
 use Rattle.decls.specs.declared.reading.Buffered.{Buffered}
 use Rattle.decls.specs.AllDeclarations.{all_declarations}
 use Rattle.decls.specs.NameRefusals.{all_buffered, names_once}

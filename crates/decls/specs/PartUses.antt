@@ -1,12 +1,8 @@
 -- The uses of the parts of a section, one after the other.
 use Rattle.std.specs.Prelude.{Option, None, Some, List, fold}
-use Rattle.pld_device.specs.Table.{Table}
-use Rattle.abel_tree.specs.declared.words.Word.{Word}
-use Rattle.abel_tree.specs.Tree.{Tree, SectionTree, Declarations}
-use Rattle.abel_tree.specs.Uses.{Use, OneName, Range}
+use Rattle.decls.specs.Prelude.{Table, Word, Tree, SectionTree, Declarations, Use, OneName, Range, PartedSection}
 use Rattle.name_uses.specs.NamesUsed.{UsedName, names_used}
 use Rattle.name_uses.specs.Parts.{PartTree}
-use Rattle.name_uses.specs.Viewed.{PartedSection}
 use Rattle.decls.specs.Steps.{Progress, used}
 use Rattle.decls.specs.Walked.{declaration_step}
 

@@ -1,13 +1,7 @@
 -- What a pass over a module knows: once something is refused, names that stand behind it may be left out, since no
 -- refusal of theirs can be the first.
 use Rattle.std.specs.Prelude.{◌≡◌, ◌≤◌, ℕ, Bool, true, false, not, ◌||◌, Option, None, Some, is_some, List, [], ◌∷◌, ◌++◌, take}
-use Rattle.std.specs.List.{list_all}
-use Rattle.pld_base.specs.declared.place.Place.{Place}
-use Rattle.pld_device.specs.Table.{Table}
-use Rattle.abel_tree.specs.declared.words.Item.{Item}
-use Rattle.abel_tree.specs.declared.words.Word.{Word}
-use Rattle.abel_tree.specs.FirstRefusal.{sooner, first_refusal}
-use Rattle.abel_meaning.specs.Declarations.{given_names, all_said, no_words}
+use Rattle.decls.specs.Prelude.{list_all, Place, Table, Item, Word, sooner, first_refusal, given_names, all_said, no_words}
 use Rattle.decls.specs.declared.fault.NameFault.{NameFault}
 use Rattle.decls.specs.declared.pass.Pass.{Pass}
 use Rattle.decls.specs.Attributes.{strings_refused}

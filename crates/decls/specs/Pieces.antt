@@ -1,7 +1,6 @@
 -- What the code knows of the words of a string.
 use Rattle.std.specs.Prelude.{◌≡◌, ℕ, ◌==◌, not, List, map, filter, length}
-use Rattle.std.specs.Str.{str_to_ascii_lowercase}
-use Rattle.abel_meaning.specs.Declarations.{said_words}
+use Rattle.decls.specs.Prelude.{str_to_ascii_lowercase, said_words}
 use Rattle.decls.specs.declared.strings.StringWords.{StringWords}
 use Rattle.decls.specs.Attributes.{has_unknown}
 use Rattle.decls.specs.Shown.{view_said}

@@ -1,17 +1,8 @@
 -- What is refused of declarations and uses, by the names before them (ABEL-HDL Reference Manual, declarations; which
 -- refusals there are, and their places, are this project's rules).
 use Rattle.std.specs.Prelude.{ℕ, zero, suc, ◌==◌, Bool, true, false, not, ◌&&◌, List, [], ◌∷◌, ◌++◌, if◌then◌else◌, is_some, nat_lt, nat_le, length}
-use Rattle.std.specs.List.{list_any}
-use Rattle.pld_base.specs.declared.place.Place.{Place}
-use Rattle.pld_device.specs.Table.{Table}
-use Rattle.abel_tree.specs.declared.words.Item.{Item}
+use Rattle.decls.specs.Prelude.{list_any, Place, Table, Item, Word, Kind, APin, ANode, Entry, kind_of, is_signal, is_value, names_any, is_bad, item_names, ends_agree, names_between, count_numbers, numbers_of, Declaration, ADevice, SomePins, SomeNodes, SomeAttributes, SomeConstants, SomeOptions, DontCareFor, Use, OneName, Range, all_uses, given_names, no_words}
 use Rattle.abel_tree.specs.declared.words.Span.{Span}
-use Rattle.abel_tree.specs.declared.words.Word.{Word}
-use Rattle.abel_tree.specs.Entries.{Kind, APin, ANode, Entry, kind_of, is_signal, is_value, names_any}
-use Rattle.abel_tree.specs.Ranges.{is_bad, item_names, ends_agree, names_between, count_numbers, numbers_of}
-use Rattle.abel_tree.specs.Tree.{Declaration, ADevice, SomePins, SomeNodes, SomeAttributes, SomeConstants, SomeOptions, DontCareFor}
-use Rattle.abel_tree.specs.Uses.{Use, OneName, Range, all_uses}
-use Rattle.abel_meaning.specs.Declarations.{given_names, no_words}
 use Rattle.decls.specs.declared.fault.NameFault.{NameFault}
 use Rattle.decls.specs.declared.fault.NameFault.TheVariants as fault
 use Rattle.decls.specs.NamesBefore.{names_behind, added, words_of_names, is_taken}

@@ -1,12 +1,7 @@
 -- What the table of the code shows of the declarations so far.
 use Rattle.std.specs.Prelude.{◌≡◌, ℕ, Bool, true, false, Option, None, Some, List, [], ◌∷◌, if◌then◌else◌, bytes_eq, map, nat_lt, min}
+use Rattle.decls.specs.Prelude.{Place, Table, Kind, APin, ANode, Words, Entry, view_meaning, is_signal, is_value, Item, first_refusal, GivenName, entry}
 use Rattle.std.specs.Global.{Vec}
-use Rattle.pld_base.specs.declared.place.Place.{Place}
-use Rattle.pld_device.specs.Table.{Table}
-use Rattle.abel_tree.specs.Entries.{Kind, APin, ANode, Words, Entry, view_meaning, is_signal, is_value}
-use Rattle.abel_tree.specs.declared.words.Item.{Item}
-use Rattle.abel_tree.specs.FirstRefusal.{first_refusal}
-use Rattle.abel_meaning.specs.Declarations.{GivenName, entry}
 use Rattle.decls.specs.declared.items.Given.{Given}
 use Rattle.decls.specs.declared.said.Said.{Said}
 use Rattle.decls.specs.declared.table.Known.{Known}

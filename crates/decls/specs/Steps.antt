@@ -1,14 +1,6 @@
 -- How far the declarations of a module were read, and the single steps: the lists of what is refused, step by step.
 use Rattle.std.specs.Prelude.{ℕ, suc, ◌==◌, Bool, true, false, not, is_some, List, [], ◌∷◌, ◌++◌, if◌then◌else◌, nat_le}
-use Rattle.std.specs.List.{list_any}
-use Rattle.pld_base.specs.declared.place.Place.{Place}
-use Rattle.pld_device.specs.Table.{Table}
-use Rattle.abel_tree.specs.declared.words.Word.{Word}
-use Rattle.abel_tree.specs.Entries.{Kind, APin, ANode, AConstant, ADeviceName, Words, Entry, kind_of, is_value, names_any}
-use Rattle.abel_tree.specs.Ranges.{ends_agree, names_between}
-use Rattle.abel_tree.specs.Tree.{Tree}
-use Rattle.abel_tree.specs.Uses.{Use, OneName, Range}
-use Rattle.abel_meaning.specs.Declarations.{GivenName, entry, no_words}
+use Rattle.decls.specs.Prelude.{list_any, Place, Table, Word, Kind, APin, ANode, AConstant, ADeviceName, Words, Entry, kind_of, is_value, names_any, ends_agree, names_between, Tree, Use, OneName, Range, GivenName, entry, no_words}
 use Rattle.decls.specs.declared.fault.NameFault.{NameFault}
 use Rattle.decls.specs.declared.fault.NameFault.TheVariants as fault
 use Rattle.decls.specs.Refused.{is_signal_pin}

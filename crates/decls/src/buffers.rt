@@ -1,11 +1,9 @@
 //! Whether registers may be refused for `buffer`: by the device, and by the strings of a module.
 
 ghost use Rattle.std.specs.Prelude.{◌≡◌, [], ◌∷◌};
-ghost use Rattle.std.specs.List.{list_any};
-ghost use Rattle.abel_tree.specs.View.{view_decl, view_module, view_section};
+ghost use Rattle.decls.specs.Prelude.{list_any, view_decl, view_module, view_section, section_declarations};
 ghost use Rattle.abel_tree.specs.declared.declarations.Decl.{Decl};
 ghost use Rattle.abel_tree.specs.declared.sections.Section.{Section};
-ghost use Rattle.abel_meaning.specs.Declarations.{section_declarations};
 ghost use Rattle.decls.specs.AllDeclarations.{all_declarations};
 ghost use Rattle.decls.specs.Buffers.{registers_wait, says_buffer};
 ghost use Rattle.decls.specs.NameRefusals.{always_inverts};

@@ -1,11 +1,7 @@
 //! What is refused of the items and strings of a declaration.
 
 ghost use Rattle.std.specs.Prelude.{◌≡◌, ◌||◌, IfOk, OnOk, Bool, true, List, ℕ, [], ◌∷◌, length, map, option_map};
-ghost use Rattle.std.specs.List.{list_any};
-ghost use Rattle.pld_device.specs.Table.{Table};
-ghost use Rattle.abel_tree.specs.Entries.{Words};
-ghost use Rattle.abel_tree.specs.Ranges.{is_bad, item_names};
-ghost use Rattle.abel_meaning.specs.Declarations.{given_names, no_words};
+ghost use Rattle.decls.specs.Prelude.{list_any, Table, Words, is_bad, item_names, given_names, no_words};
 ghost use Rattle.decls.specs.declared.fault.NameFault.TheVariants.{BadRange};
 ghost use Rattle.decls.specs.Attributes.{strings_refused};
 ghost use Rattle.decls.specs.NamesBefore.{words_named, words_of_names};

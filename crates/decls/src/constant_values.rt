@@ -1,7 +1,7 @@
 //! The names of constants, which get their values.
 
 ghost use Rattle.std.specs.Prelude.{◌≡◌, OnOk, Option, List, ℕ, fold, map, zip, slice_get};
-ghost use Rattle.abel_tree.specs.View.{view};
+ghost use Rattle.decls.specs.Prelude.{view};
 ghost use Rattle.decls.specs.Passed.{Follows, Way};
 ghost use Rattle.decls.specs.Steps.{Progress};
 ghost use Rattle.decls.specs.Walked.{constant_at, constant_step};

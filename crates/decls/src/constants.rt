@@ -1,8 +1,7 @@
 //! Names of constants and of the device.
 
 ghost use Rattle.std.specs.Prelude.{◌≡◌, OnOk};
-ghost use Rattle.pld_device.specs.Table.{Table};
-ghost use Rattle.abel_tree.specs.View.{view};
+ghost use Rattle.decls.specs.Prelude.{Table, view};
 ghost use Rattle.decls.specs.Steps.{Progress, constant_entered, device_counted, device_entered};
 ghost use Rattle.decls.specs.Shown.{Shows};
 

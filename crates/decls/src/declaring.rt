@@ -1,10 +1,7 @@
 //! Declarations of pins, nodes and attributes.
 
 ghost use Rattle.std.specs.Prelude.{◌≡◌, ◌≤◌, ◌⊎◌, OnOk, IfOk, List, ℕ, true, false, drop, fold, length};
-ghost use Rattle.pld_device.specs.Table.{Table};
-ghost use Rattle.abel_tree.specs.Ranges.{numbers_of};
-ghost use Rattle.abel_tree.specs.Tree.{SomeAttributes, SomeNodes, SomePins};
-ghost use Rattle.abel_meaning.specs.Declarations.{given_names};
+ghost use Rattle.decls.specs.Prelude.{Table, numbers_of, SomeAttributes, SomeNodes, SomePins, given_names};
 ghost use Rattle.decls.specs.Passed.{Follows, HasNumbers, Way};
 ghost use Rattle.decls.specs.Shown.{view_said};
 ghost use Rattle.decls.specs.Steps.{Progress};

@@ -1,11 +1,8 @@
 //! The names and numbers of a declaration.
 
 ghost use Rattle.std.specs.Prelude.{◌≡◌, IfOk, OnOk, List, ℕ, map, ◌++◌, ◌+◌, length};
-ghost use Rattle.std.specs.List.{list_any};
-ghost use Rattle.abel_tree.specs.Ranges.{is_bad, item_names};
-ghost use Rattle.abel_meaning.specs.Declarations.{given_names};
+ghost use Rattle.decls.specs.Prelude.{list_any, is_bad, item_names, given_names, name_items};
 ghost use Rattle.decls.specs.Shown.{view_given, given_by};
-ghost use Rattle.name_uses.specs.RangeParts.{name_items};
 
 use abel_tree::Item;
 use name_uses::{is_bad_item, item_count, item_list};

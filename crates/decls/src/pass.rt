@@ -1,9 +1,7 @@
 //! A pass over the declarations and sections of a module.
 
 ghost use Rattle.std.specs.Prelude.{◌≡◌, OnOk, true, false, List};
-ghost use Rattle.abel_tree.specs.Entries.{is_value};
-ghost use Rattle.abel_tree.specs.Ranges.{ends_agree};
-ghost use Rattle.abel_tree.specs.View.{view};
+ghost use Rattle.decls.specs.Prelude.{is_value, ends_agree, view};
 ghost use Rattle.decls.specs.declared.fault.NameFault.{NameFault};
 ghost use Rattle.decls.specs.Passed.{Adds, AreAt, Follows, MayLeave, Way, is_behind, items_behind, words_behind};
 ghost use Rattle.decls.specs.Steps.{Progress, constant_entered, device_entered, range_used, refuse_all, undeclared};

@@ -1,10 +1,7 @@
 //! The names of a module as its declarations say them, before their kinds are known.
 
 ghost use Rattle.std.specs.Prelude.{◌≡◌, ◌++◌, IfOk, OnOk, true, if◌then◌else◌, map};
-ghost use Rattle.pld_device.specs.Table.{Table};
-ghost use Rattle.abel_tree.specs.Entries.{view_attributes, view_declared};
-ghost use Rattle.abel_tree.specs.FirstRefusal.{first_refusal};
-ghost use Rattle.abel_tree.specs.View.{view_module};
+ghost use Rattle.decls.specs.Prelude.{Table, view_attributes, view_declared, first_refusal, view_module};
 ghost use Rattle.decls.specs.Buffers.{registers_wait};
 ghost use Rattle.decls.specs.FaultOrder.{name_order};
 ghost use Rattle.decls.specs.NameRefusals.{names_once, read_refusals};

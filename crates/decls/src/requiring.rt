@@ -1,11 +1,9 @@
 //! Names of ranges that must be known.
 
 ghost use Rattle.std.specs.Prelude.{◌≡◌, OnOk, map};
-ghost use Rattle.pld_device.specs.Table.{Table};
-ghost use Rattle.abel_tree.specs.Ranges.{ends_agree};
+ghost use Rattle.decls.specs.Prelude.{Table, ends_agree, name_items};
 ghost use Rattle.decls.specs.Shown.{Shows, wanted};
 ghost use Rattle.decls.specs.Steps.{Progress, range_used, all_known};
-ghost use Rattle.name_uses.specs.RangeParts.{name_items};
 
 use crate::fault::NameFault;
 use crate::table::NameTable;

@@ -1,9 +1,7 @@
 //! What the strings of a declaration say, and which of them are refused.
 
 ghost use Rattle.std.specs.Prelude.{◌≡◌, ◌||◌, ℕ, List, Bool, map};
-ghost use Rattle.std.specs.List.{list_any};
-ghost use Rattle.pld_device.specs.Table.{Table};
-ghost use Rattle.abel_meaning.specs.Declarations.{said_by_either, no_words, all_said, words_of};
+ghost use Rattle.decls.specs.Prelude.{list_any, Table, said_by_either, no_words, all_said, words_of};
 ghost use Rattle.decls.specs.Attributes.{clash, brings_clash, is_refused_string, string_refused, strings_refused};
 ghost use Rattle.decls.specs.Pieces.{Tells};
 ghost use Rattle.decls.specs.Shown.{Shows, view_said};

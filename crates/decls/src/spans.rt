@@ -1,10 +1,8 @@
 //! The numbers of a pin declaration.
 
 ghost use Rattle.std.specs.Prelude.{◌≡◌, ◌≤◌, ◌+◌, ◌-◌, ◌<◌, IfOk, OnOk, Bool, List, ℕ, ◌++◌, map, min, not, ◌&&◌, ◌==◌, length, if◌then◌else◌, nat_le};
-ghost use Rattle.std.specs.List.{list_any, range_with_len};
-ghost use Rattle.abel_tree.specs.Ranges.{count_numbers, numbers_of, span_count, span_numbers};
+ghost use Rattle.decls.specs.Prelude.{list_any, range_with_len, count_numbers, numbers_of, span_count, span_numbers, number_at};
 ghost use Rattle.decls.specs.Spans.{range_length};
-ghost use Rattle.name_uses.specs.RangeParts.{number_at};
 
 use abel_tree::Span;
 use pld_base::OutOfMemory;

@@ -1,8 +1,7 @@
 //! What the strings of ISTYPE say.
 
 ghost use Rattle.std.specs.Prelude.{◌≡◌, ◌-◌, ℕ, List, [], ◌∷◌, ◌++◌, drop, take, length, map, filter, not, ◌==◌, bytes_eq, codes};
-ghost use Rattle.std.specs.Str.{str_to_ascii_lowercase};
-ghost use Rattle.abel_meaning.specs.Declarations.{parts_words, words_of, has_word, said_words, said_by_either};
+ghost use Rattle.decls.specs.Prelude.{str_to_ascii_lowercase, parts_words, words_of, has_word, said_words, said_by_either};
 ghost use Rattle.decls.specs.Attributes.{known_words, idle_words};
 ghost use Rattle.decls.specs.Shown.{view_said};
 ghost use Rattle.decls.specs.Pieces.{Tells, lower_words};

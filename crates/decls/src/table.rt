@@ -1,8 +1,7 @@
 //! The names of a source while its declarations are read.
 
 ghost use Rattle.std.specs.Prelude.{◌≡◌, OnOk, Bool, List, ℕ};
-ghost use Rattle.pld_device.specs.Table.{Table};
-ghost use Rattle.abel_tree.specs.Entries.{Kind, find, names_any, view_meaning};
+ghost use Rattle.decls.specs.Prelude.{Table, Kind, find, names_any, view_meaning};
 ghost use Rattle.decls.specs.Steps.{Progress, refuse, entered, undeclared};
 ghost use Rattle.decls.specs.Shown.{Shows, kept_kind, view_said, wanted};
 

@@ -1,9 +1,7 @@
 //! Names that expressions and sections use.
 
 ghost use Rattle.std.specs.Prelude.{◌≡◌, OnOk, fold, map};
-ghost use Rattle.abel_tree.specs.Uses.{all_uses};
-ghost use Rattle.abel_tree.specs.View.{view};
-ghost use Rattle.name_uses.specs.Viewed.{view_part, view_use};
+ghost use Rattle.decls.specs.Prelude.{all_uses, view, view_part, view_use};
 ghost use Rattle.decls.specs.PartUses.{name_step, part_step, value_step};
 ghost use Rattle.decls.specs.Passed.{Follows, Way};
 ghost use Rattle.decls.specs.Steps.{Progress, used};

@@ -1,10 +1,7 @@
 //! Declarations and sections one after the other.
 
 ghost use Rattle.std.specs.Prelude.{◌≡◌, IfOk, OnOk, true, fold, map};
-ghost use Rattle.pld_device.specs.Table.{Table};
-ghost use Rattle.abel_tree.specs.FirstRefusal.{first_refusal};
-ghost use Rattle.abel_tree.specs.View.{view_decl, view_module};
-ghost use Rattle.name_uses.specs.Viewed.{view_section_parts};
+ghost use Rattle.decls.specs.Prelude.{Table, first_refusal, view_decl, view_module, view_section_parts};
 ghost use Rattle.decls.specs.FaultOrder.{name_order};
 ghost use Rattle.decls.specs.NameRefusals.{read_refusals};
 ghost use Rattle.decls.specs.PartUses.{parted_step};

@@ -1,9 +1,6 @@
 -- The declarations of the section.
 use Rattle.std.proofs.Common.{[], ◌∷◌, sym, ap, ◌∙◌}
-use Rattle.std.specs.List.{list_any}
-use Rattle.abel_tree.specs.View.{view_section}
-use Rattle.abel_meaning.specs.Declarations.{section_declarations}
-use Rattle.decls.specs.Buffers.{says_buffer}
+use Rattle.decls.proofs.Common.{list_any, view_section, section_declarations, says_buffer}
 use Rattle.decls.proofs.BufferStrings.{one_same, some_say}
 use Rattle.decls.proofs.buffers.section_says_buffer.Goals as goal
 

@@ -1,10 +1,6 @@
 -- None so far.
 use Rattle.std.proofs.Common.{◌≡◌, false, [], ◌∷◌, take}
-use Rattle.std.specs.List.{list_any}
-use Rattle.abel_tree.specs.declared.sections.Section.{Section}
-use Rattle.abel_tree.specs.View.{view_section}
-use Rattle.abel_meaning.specs.Declarations.{section_declarations}
-use Rattle.decls.specs.Buffers.{says_buffer}
+use Rattle.decls.proofs.Common.{list_any, Section, view_section, section_declarations, says_buffer}
 use Rattle.decls.proofs.buffers.sections_say_buffer.Given as goal
 
 abbrev pub invariant-loop-section : goal.invariant-loop-section

@@ -1,10 +1,7 @@
 -- What the first string says, or that there is none.
 use Rattle.std.proofs.Common.{sym, ap, ◌∙◌}
 use Rattle.std.specs.Prelude.{option_copied}
-use Rattle.abel_tree.specs.View.{view_module}
-use Rattle.pld_base.specs.DeviceNames.{named_device}
-use Rattle.abel_meaning.specs.DeviceStrings.{unquoted}
-use Rattle.decls.specs.AllDeclarations.{all_declarations}
+use Rattle.decls.proofs.Common.{view_module, named_device, unquoted, all_declarations}
 use Rattle.decls.proofs.FirstStrings.{known, unknown, unsaid}
 use Rattle.decls.proofs.device.device_of.Goals as goal
 

@@ -1,8 +1,6 @@
 -- No declaration of the sections so far names a device.
 use Rattle.std.proofs.Common.{◌≡◌, None, map, take}
-use Rattle.abel_tree.specs.View.{view_section}
-use Rattle.abel_meaning.specs.Declarations.{section_declarations}
-use Rattle.decls.specs.Devices.{first_string}
+use Rattle.decls.proofs.Common.{view_section, section_declarations, first_string}
 use Rattle.decls.proofs.device.string_in_sections.Given as goal
 
 abbrev pub invariant-loop-section : goal.invariant-loop-section

@@ -1,10 +1,6 @@
 -- One name more.
 use Rattle.std.proofs.Common.{[], ◌∷◌, ◌++◌, map, sym, ap, ◌∙◌, append_assoc, rules}
-use Rattle.std.proofs.lemmas.List.{map-append, map-id}
-use Rattle.std.proofs.lemmas.Iterator.Consumers.{YieldsList-end}
-use Rattle.std.proofs.lemmas.Iterator.Adapters.{YieldsList-from_vec}
-use Rattle.decls.specs.Shown.{view_given, given_by}
-use Rattle.name_uses.specs.RangeParts.{name_items}
+use Rattle.decls.proofs.Common.{map-append, map-id, YieldsList-end, YieldsList-from_vec, view_given, given_by, name_items}
 use Rattle.decls.proofs.items.add_names.Goals as goal
 
 pub loop-name-preserved : goal.loop-name-preserved

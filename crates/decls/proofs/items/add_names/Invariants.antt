@@ -1,7 +1,6 @@
 -- The names so far.
 use Rattle.std.proofs.Common.{◌≡◌, ◌++◌, map}
-use Rattle.decls.specs.Shown.{view_given, given_by}
-use Rattle.name_uses.specs.RangeParts.{name_items}
+use Rattle.decls.proofs.Common.{view_given, given_by, name_items}
 use Rattle.decls.proofs.items.add_names.Given as goal
 
 abbrev pub invariant-loop-name : goal.invariant-loop-name

@@ -1,8 +1,6 @@
 -- One item more.
 use Rattle.std.proofs.Common.{◌+◌, length, map, sym, ap, ap₂, ◌∙◌}
-use Rattle.std.proofs.lemmas.List.{length-append, length-map}
-use Rattle.abel_tree.specs.Ranges.{item_names}
-use Rattle.decls.specs.Shown.{given_by}
+use Rattle.decls.proofs.Common.{length-append, length-map, item_names, given_by}
 use Rattle.decls.proofs.Folded.{given_more}
 use Rattle.decls.proofs.items.count_names.Goals as goal
 

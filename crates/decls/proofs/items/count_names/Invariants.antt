@@ -1,6 +1,6 @@
 -- The names so far.
 use Rattle.std.proofs.Common.{◌≡◌, length, take}
-use Rattle.abel_meaning.specs.Declarations.{given_names}
+use Rattle.decls.proofs.Common.{given_names}
 use Rattle.decls.proofs.items.count_names.Given as goal
 
 abbrev pub invariant-loop-item : goal.invariant-loop-item

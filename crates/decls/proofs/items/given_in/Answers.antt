@@ -1,7 +1,6 @@
 -- One item more.
 use Rattle.std.proofs.Common.{◌++◌, map, sym, ap, ◌∙◌}
-use Rattle.abel_tree.specs.Ranges.{item_names}
-use Rattle.decls.specs.Shown.{given_by}
+use Rattle.decls.proofs.Common.{item_names, given_by}
 use Rattle.decls.proofs.Folded.{given_more}
 use Rattle.decls.proofs.items.given_in.Goals as goal
 

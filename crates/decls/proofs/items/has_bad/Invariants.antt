@@ -1,7 +1,6 @@
 -- No item so far.
 use Rattle.std.proofs.Common.{◌≡◌, false, take}
-use Rattle.std.specs.List.{list_any}
-use Rattle.abel_tree.specs.Ranges.{is_bad}
+use Rattle.decls.proofs.Common.{list_any, is_bad}
 use Rattle.decls.proofs.items.has_bad.Given as goal
 
 abbrev pub invariant-loop-item : goal.invariant-loop-item

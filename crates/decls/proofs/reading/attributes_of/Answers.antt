@@ -1,6 +1,6 @@
 -- The bits of the words that are said.
 use Rattle.std.proofs.Common.{ap, ap₂, ◌∙◌}
-use Rattle.std.specs.Int.RustNames.{bit_or}
+use Rattle.decls.proofs.Common.{bit_or}
 use Rattle.decls.proofs.Attributed.{words_in, words_said}
 use Rattle.decls.proofs.reading.attributes_of.Goals as goal
 

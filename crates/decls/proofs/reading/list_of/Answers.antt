@@ -1,8 +1,6 @@
 -- One name more.
 use Rattle.std.proofs.Common.{[], ◌∷◌, ◌++◌, map, sym, ap, ◌∙◌, append_assoc}
-use Rattle.std.proofs.lemmas.List.{map-append, append-nil}
-use Rattle.abel_tree.specs.Entries.{view_declared}
-use Rattle.decls.specs.Shown.{view_known}
+use Rattle.decls.proofs.Common.{map-append, append-nil, view_declared, view_known}
 use Rattle.decls.proofs.reading.list_of.Goals as goal
 
 pub loop-row-preserved : goal.loop-row-preserved

@@ -1,7 +1,6 @@
 -- The names so far and those that are left.
 use Rattle.std.proofs.Common.{◌≡◌, ◌++◌, map}
-use Rattle.abel_tree.specs.Entries.{view_declared}
-use Rattle.decls.specs.Shown.{view_known}
+use Rattle.decls.proofs.Common.{view_declared, view_known}
 use Rattle.decls.proofs.reading.list_of.Given as goal
 
 abbrev pub invariant-loop-row : goal.invariant-loop-row

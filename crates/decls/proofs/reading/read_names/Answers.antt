@@ -1,11 +1,6 @@
 -- The table's names, and what its clauses say of them.
 use Rattle.std.proofs.Common.{map, ap, ap₂, ◌∙◌}
-use Rattle.abel_tree.specs.View.{view_module}
-use Rattle.decls.specs.Buffers.{registers_wait}
-use Rattle.decls.specs.Numbers.{numbered}
-use Rattle.decls.specs.Passed.{wants_names}
-use Rattle.decls.specs.Shown.{kept, view_given}
-use Rattle.decls.specs.Walked.{module_steps}
+use Rattle.decls.proofs.Common.{view_module, registers_wait, numbered, wants_names, kept, view_given, module_steps}
 use Rattle.decls.proofs.DeclarationsGo.{module_go}
 use Rattle.decls.proofs.reading.read_names.Goals as goal
 

@@ -1,6 +1,6 @@
 -- One string more.
 use Rattle.std.proofs.Common.{sym, ap, ap₂, ◌∙◌}
-use Rattle.abel_meaning.specs.Declarations.{said_by_either, said_words, words_of}
+use Rattle.decls.proofs.Common.{said_by_either, said_words, words_of}
 use Rattle.decls.proofs.Sayings.{said_more}
 use Rattle.decls.proofs.saying.all_in.Goals as goal
 

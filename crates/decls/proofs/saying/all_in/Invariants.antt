@@ -1,7 +1,6 @@
 -- What the strings so far say.
 use Rattle.std.proofs.Common.{◌≡◌, take}
-use Rattle.abel_meaning.specs.Declarations.{all_said}
-use Rattle.decls.specs.Shown.{view_said}
+use Rattle.decls.proofs.Common.{all_said, view_said}
 use Rattle.decls.proofs.saying.all_in.Given as goal
 
 abbrev pub invariant-loop-string : goal.invariant-loop-string

@@ -1,9 +1,6 @@
 -- No name so far.
 use Rattle.std.proofs.Common.{◌≡◌, false, take}
-use Rattle.std.specs.List.{list_any}
-use Rattle.abel_meaning.specs.Declarations.{said_by_either}
-use Rattle.decls.specs.Attributes.{brings_clash}
-use Rattle.decls.specs.Shown.{view_said}
+use Rattle.decls.proofs.Common.{list_any, said_by_either, brings_clash, view_said}
 use Rattle.decls.proofs.saying.is_clash_for.Given as goal
 
 abbrev pub invariant-loop-before : goal.invariant-loop-before

@@ -1,6 +1,6 @@
 -- What is left of the count.
 use Rattle.std.proofs.Common.{◌≡◌, ◌+◌, take}
-use Rattle.abel_tree.specs.Ranges.{count_numbers}
+use Rattle.decls.proofs.Common.{count_numbers}
 use Rattle.decls.proofs.spans.is_count.Given as goal
 
 abbrev pub invariant-loop-span : goal.invariant-loop-span

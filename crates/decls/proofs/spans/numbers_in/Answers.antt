@@ -1,6 +1,6 @@
 -- One span more.
 use Rattle.std.proofs.Common.{◌++◌, sym, ap₂, ◌∙◌, arith}
-use Rattle.abel_tree.specs.Ranges.{span_numbers}
+use Rattle.decls.proofs.Common.{span_numbers}
 use Rattle.decls.proofs.Folded.{counts_at, numbers_at, span_at}
 use Rattle.decls.proofs.spans.numbers_in.Goals as goal
 

@@ -1,6 +1,6 @@
 -- The numbers so far, and the room that is left.
 use Rattle.std.proofs.Common.{◌≡◌, ◌-◌, take}
-use Rattle.abel_tree.specs.Ranges.{count_numbers, numbers_of}
+use Rattle.decls.proofs.Common.{count_numbers, numbers_of}
 use Rattle.decls.proofs.spans.numbers_in.Given as goal
 
 abbrev pub invariant-loop-span : goal.invariant-loop-span

@@ -1,8 +1,6 @@
 -- One number more.
 use Rattle.std.proofs.Common.{[], ◌∷◌, ◌++◌, map, sym, ap, ap₂, ◌∙◌, append_assoc, arith}
-use Rattle.std.specs.List.{range_with_len}
-use Rattle.std.proofs.lemmas.List.FromFn.{map-range_with_len_more}
-use Rattle.name_uses.specs.RangeParts.{number_at}
+use Rattle.decls.proofs.Common.{range_with_len, map-range_with_len_more, number_at}
 use Rattle.decls.proofs.spans.put_range.Goals as goal
 
 pub loop-step-preserved : goal.loop-step-preserved

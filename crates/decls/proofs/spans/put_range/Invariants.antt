@@ -1,7 +1,6 @@
 -- The numbers so far.
 use Rattle.std.proofs.Common.{◌≡◌, ◌++◌, map}
-use Rattle.std.specs.List.{range_with_len}
-use Rattle.name_uses.specs.RangeParts.{number_at}
+use Rattle.decls.proofs.Common.{range_with_len, number_at}
 use Rattle.decls.proofs.spans.put_range.Given as goal
 
 abbrev pub invariant-loop-step : goal.invariant-loop-step

@@ -1,7 +1,6 @@
 -- A span of two ends.
 use Rattle.std.proofs.Common.{◌++◌, ap, sym, ◌∙◌}
-use Rattle.std.proofs.lemmas.Result.{on_ok_weaker}
-use Rattle.abel_tree.specs.Ranges.{span_numbers}
+use Rattle.decls.proofs.Common.{on_ok_weaker, span_numbers}
 use Rattle.decls.proofs.Folded.{ranged}
 use Rattle.decls.proofs.spans.put_span.Goals as goal
 

@@ -1,9 +1,6 @@
 -- One word more, where none was unknown.
 use Rattle.std.proofs.Common.{not, ◌||◌, sym, ap, ◌∙◌}
-use Rattle.std.specs.Str.{str_to_ascii_lowercase}
-use Rattle.abel_meaning.specs.Declarations.{said_by_either}
-use Rattle.decls.specs.Pieces.{lower_words}
-use Rattle.decls.specs.Shown.{view_said}
+use Rattle.decls.proofs.Common.{str_to_ascii_lowercase, said_by_either, lower_words, view_said}
 use Rattle.decls.proofs.Words.{tells_more}
 use Rattle.decls.proofs.strings.with_word.Goals as goal
 

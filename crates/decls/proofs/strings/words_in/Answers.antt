@@ -1,9 +1,7 @@
 -- The pieces are all that the text is split into.
 use Rattle.std.proofs.Common.{subst, ap, ◌∙◌, rules, tests}
-use Rattle.std.proofs.lemmas.Iterator.Consumers.{YieldsList-end}
+use Rattle.decls.proofs.Common.{YieldsList-end, parts_words, Tells, lower_words}
 use Rattle.std.proofs.lemmas.Iterator.Splits.{YieldsList-from_slice_split}
-use Rattle.abel_meaning.specs.Declarations.{parts_words}
-use Rattle.decls.specs.Pieces.{Tells, lower_words}
 use Rattle.decls.proofs.Words.{pieces_are_words}
 use Rattle.decls.proofs.strings.words_in.Goals as goal
 

@@ -1,6 +1,6 @@
 -- The words of the pieces so far.
 use Rattle.std.proofs.Common.{map}
-use Rattle.decls.specs.Pieces.{Tells, lower_words}
+use Rattle.decls.proofs.Common.{Tells, lower_words}
 use Rattle.decls.proofs.strings.words_in.Given as goal
 
 abbrev pub invariant-loop-piece : goal.invariant-loop-piece

@@ -1,9 +1,6 @@
 -- The steps of the module, from no name on, and what they are.
 use Rattle.std.proofs.Common.{◌≡◌, Bool, true, false, not, refl, ap, ◌∙◌}
-use Rattle.abel_tree.specs.FirstRefusal.{first_refusal}
-use Rattle.abel_tree.specs.View.{view_module}
-use Rattle.decls.specs.FaultOrder.{name_order}
-use Rattle.decls.specs.Walked.{module_steps}
+use Rattle.decls.proofs.Common.{first_refusal, view_module, name_order, module_steps}
 use Rattle.decls.proofs.DeclarationsGo.{module_go}
 use Rattle.decls.proofs.LeftOut.{all_names, whole_names}
 use Rattle.decls.proofs.walk.names_read.Goals as goal

@@ -1,6 +1,6 @@
 -- From no name on.
 use Rattle.std.proofs.Common.{◌∙◌}
-use Rattle.decls.specs.Passed.{way}
+use Rattle.decls.proofs.Common.{way}
 use Rattle.decls.proofs.LeftOut.{starts}
 use Rattle.decls.proofs.walk.pass_over.Goals as goal
 

@@ -1,9 +1,7 @@
 -- One item more.
 use Rattle.std.proofs.Common.{subst}
-use Rattle.decls.specs.Walked.{declaration_step}
+use Rattle.decls.proofs.Common.{declaration_step, view_decl, Follows}
 use Rattle.decls.proofs.Folded.{folded_more}
-use Rattle.abel_tree.specs.View.{view_decl}
-use Rattle.decls.specs.Passed.{Follows}
 use Rattle.decls.proofs.pass.Pass.declare_all.Goals as goal
 
 pub loop-decl-preserved : goal.loop-decl-preserved

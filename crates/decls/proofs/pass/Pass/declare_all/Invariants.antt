@@ -1,9 +1,6 @@
 -- The items so far.
 use Rattle.std.proofs.Common.{fold, map, take}
-use Rattle.decls.specs.Walked.{declaration_step}
-use Rattle.abel_tree.specs.View.{view_decl}
-use Rattle.decls.specs.Passed.{Follows, Way}
-use Rattle.decls.specs.Steps.{Progress}
+use Rattle.decls.proofs.Common.{declaration_step, view_decl, Follows, Way, Progress}
 use Rattle.decls.proofs.pass.Pass.declare_all.Given as goal
 
 abbrev pub invariant-loop-decl : goal.invariant-loop-decl

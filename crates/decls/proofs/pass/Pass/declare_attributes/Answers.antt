@@ -1,10 +1,6 @@
 -- Items, and then strings and their words.
 use Rattle.std.proofs.Common.{◌≡◌, false, refl, subst, sym, ap, ◌∙◌}
-use Rattle.std.proofs.lemmas.Result.{on_ok_weaker}
-use Rattle.decls.specs.declared.pass.Pass.{Pass}
-use Rattle.decls.specs.Passed.{Follows, items_told}
-use Rattle.decls.specs.Refused.{items_refused}
-use Rattle.decls.specs.Steps.{refuse_all}
+use Rattle.decls.proofs.Common.{on_ok_weaker, Pass, Follows, items_told, items_refused, refuse_all}
 use Rattle.decls.proofs.Added.{adds_attributes, adds_items_told}
 use Rattle.decls.proofs.LeftOut.{goes_on}
 use Rattle.decls.proofs.pass.Pass.declare_attributes.Goals as goal

@@ -1,10 +1,6 @@
 -- Checks, and then the names.
 use Rattle.std.proofs.Common.{fold, refl, subst, ap, ap₂, ◌∙◌}
-use Rattle.std.proofs.lemmas.Result.{on_ok_weaker}
-use Rattle.abel_meaning.specs.Declarations.{all_said, given_names}
-use Rattle.decls.specs.Passed.{Follows}
-use Rattle.decls.specs.Refused.{has_numbers}
-use Rattle.decls.specs.Walked.{new_checked, node_step, waits_if}
+use Rattle.decls.proofs.Common.{on_ok_weaker, all_said, given_names, Follows, has_numbers, new_checked, node_step, waits_if}
 use Rattle.decls.proofs.Added.{adds_new_nodes}
 use Rattle.decls.proofs.LeftOut.{goes_on}
 use Rattle.decls.proofs.pass.Pass.declare_nodes.Goals as goal

@@ -1,11 +1,6 @@
 -- Checks, and then the names with their numbers.
 use Rattle.std.proofs.Common.{fold, length, refl, subst, ap, ap₂, ◌∙◌}
-use Rattle.std.proofs.lemmas.Result.{on_ok_weaker}
-use Rattle.abel_tree.specs.Ranges.{numbers_of}
-use Rattle.abel_meaning.specs.Declarations.{all_said, given_names}
-use Rattle.decls.specs.Passed.{Follows, HasNumbers}
-use Rattle.decls.specs.Refused.{counts_differ}
-use Rattle.decls.specs.Walked.{new_checked, pin_step, waits_if, with_numbers}
+use Rattle.decls.proofs.Common.{on_ok_weaker, numbers_of, all_said, given_names, Follows, HasNumbers, counts_differ, new_checked, pin_step, waits_if, with_numbers}
 use Rattle.decls.proofs.Added.{adds_new_pins}
 use Rattle.decls.proofs.LeftOut.{goes_on}
 use Rattle.decls.proofs.pass.Pass.declare_pins.Goals as goal

@@ -1,7 +1,6 @@
 -- One name more.
 use Rattle.std.proofs.Common.{map, subst}
-use Rattle.abel_tree.specs.View.{view}
-use Rattle.decls.specs.Passed.{Follows}
+use Rattle.decls.proofs.Common.{view, Follows}
 use Rattle.decls.proofs.Values.{values_more}
 use Rattle.decls.proofs.pass.Pass.declare_values.Goals as goal
 

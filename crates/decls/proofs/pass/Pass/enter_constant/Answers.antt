@@ -1,5 +1,5 @@
 -- A constant behind names that were left out.
-use Rattle.abel_tree.specs.View.{view}
+use Rattle.decls.proofs.Common.{view}
 use Rattle.decls.proofs.Added.{adds_constant}
 use Rattle.decls.proofs.pass.Pass.enter_constant.Goals as goal
 

@@ -1,11 +1,6 @@
 -- One item more, or the rest is left out.
 use Rattle.std.proofs.Common.{◌≡◌, true, false, fold, take, drop, map, refl, subst, sym, ap, ◌∙◌}
-use Rattle.std.proofs.lemmas.List.{take_rest}
-use Rattle.abel_meaning.specs.Declarations.{given_names}
-use Rattle.decls.specs.declared.pass.Pass.{Pass}
-use Rattle.decls.specs.Passed.{Adds, Follows, items_behind}
-use Rattle.decls.specs.Shown.{Shows, view_given, view_said}
-use Rattle.decls.specs.Walked.{node_step}
+use Rattle.decls.proofs.Common.{take_rest, given_names, Pass, Adds, Follows, items_behind, Shows, view_given, view_said, node_step}
 use Rattle.decls.proofs.FirstNumbers.{nodes_more, nodes_rest}
 use Rattle.decls.proofs.Added.{adds_nodes}
 use Rattle.decls.proofs.LeftOut.{goes_on}

@@ -1,10 +1,6 @@
 -- The items so far, of which none was left out.
 use Rattle.std.proofs.Common.{◌≡◌, false, fold, take}
-use Rattle.abel_meaning.specs.Declarations.{given_names}
-use Rattle.decls.specs.Passed.{Follows, Way}
-use Rattle.decls.specs.Shown.{view_said}
-use Rattle.decls.specs.Steps.{Progress}
-use Rattle.decls.specs.Walked.{node_step}
+use Rattle.decls.proofs.Common.{given_names, Follows, Way, view_said, Progress, node_step}
 use Rattle.decls.proofs.pass.Pass.enter_node_items.Given as goal
 
 abbrev pub invariant-loop-place : goal.invariant-loop-place

@@ -1,12 +1,6 @@
 -- One item more, or the rest is left out.
 use Rattle.std.proofs.Common.{◌≡◌, true, false, fold, take, drop, length, map, refl, subst, sym, ap, ap₂, ◌∙◌, arith}
-use Rattle.std.proofs.lemmas.List.{take_rest, length-map}
-use Rattle.abel_tree.specs.Ranges.{item_names}
-use Rattle.abel_meaning.specs.Declarations.{given_names}
-use Rattle.decls.specs.declared.pass.Pass.{Pass}
-use Rattle.decls.specs.Passed.{Adds, Follows, items_behind}
-use Rattle.decls.specs.Shown.{Shows, given_by, view_given, view_said}
-use Rattle.decls.specs.Walked.{pin_step, with_numbers}
+use Rattle.decls.proofs.Common.{take_rest, length-map, item_names, given_names, Pass, Adds, Follows, items_behind, Shows, given_by, view_given, view_said, pin_step, with_numbers}
 use Rattle.decls.proofs.FirstNumbers.{drop_twice, enough_for, longer_by, numbers_enough, pins_more, pins_rest}
 use Rattle.decls.proofs.Added.{adds_pins}
 use Rattle.decls.proofs.LeftOut.{goes_on}

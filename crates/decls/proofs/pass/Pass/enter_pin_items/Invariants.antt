@@ -1,10 +1,6 @@
 -- The items so far, of which none was left out, and what is left of the numbers.
 use Rattle.std.proofs.Common.{◌≡◌, ◌-◌, ℕ, List, false, fold, take, drop, length}
-use Rattle.abel_meaning.specs.Declarations.{given_names}
-use Rattle.decls.specs.Passed.{Follows, HasNumbers, Way}
-use Rattle.decls.specs.Shown.{view_said}
-use Rattle.decls.specs.Steps.{Progress}
-use Rattle.decls.specs.Walked.{pin_step, with_numbers}
+use Rattle.decls.proofs.Common.{given_names, Follows, HasNumbers, Way, view_said, Progress, pin_step, with_numbers}
 use Rattle.decls.proofs.pass.Pass.enter_pin_items.Given as goal
 
 abbrev pub invariant-loop-place : goal.invariant-loop-place

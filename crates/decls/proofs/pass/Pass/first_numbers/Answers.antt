@@ -1,7 +1,6 @@
 -- The numbers that are written out are the first of all.
 use Rattle.std.proofs.Common.{subst, sym}
-use Rattle.abel_tree.specs.Ranges.{numbers_of}
-use Rattle.decls.specs.Passed.{HasNumbers}
+use Rattle.decls.proofs.Common.{numbers_of, HasNumbers}
 use Rattle.decls.proofs.FirstNumbers.{has_numbers}
 use Rattle.decls.proofs.pass.Pass.first_numbers.Goals as goal
 

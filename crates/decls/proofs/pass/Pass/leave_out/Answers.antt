@@ -1,6 +1,6 @@
 -- A declaration behind names that were left out.
 use Rattle.std.proofs.Common.{sym, ◌∙◌}
-use Rattle.decls.specs.Passed.{items_behind, words_behind}
+use Rattle.decls.proofs.Common.{items_behind, words_behind}
 use Rattle.decls.proofs.FirstStays.{head_all, tail_all}
 use Rattle.decls.proofs.pass.Pass.leave_out.Goals as goal
 

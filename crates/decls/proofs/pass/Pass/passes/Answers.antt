@@ -1,6 +1,6 @@
 -- A use is passed over behind names that were left out, and behind the first refusal.
 use Rattle.std.proofs.Common.{sym, ◌∙◌}
-use Rattle.decls.specs.Steps.{refuse_all}
+use Rattle.decls.proofs.Common.{refuse_all}
 use Rattle.decls.proofs.Added.{adds_all}
 use Rattle.decls.proofs.FirstStays.{at_behind}
 use Rattle.decls.proofs.LeftOut.{passes_by}

@@ -1,11 +1,6 @@
 -- Declarations, and then sections, by their parts.
 use Rattle.std.proofs.Common.{fold, map, subst, ap, ap₂, ◌∙◌}
-use Rattle.std.proofs.lemmas.Result.{on_ok_weaker}
-use Rattle.abel_tree.specs.View.{view_decl, view_module}
-use Rattle.decls.specs.PartUses.{parted_step}
-use Rattle.decls.specs.Passed.{Follows}
-use Rattle.decls.specs.Steps.{nothing}
-use Rattle.decls.specs.Walked.{declaration_step}
+use Rattle.decls.proofs.Common.{on_ok_weaker, view_decl, view_module, parted_step, Follows, nothing, declaration_step}
 use Rattle.decls.proofs.PartsUsed.{sections_are_used}
 use Rattle.decls.proofs.pass.Pass.read_module.Goals as goal
 

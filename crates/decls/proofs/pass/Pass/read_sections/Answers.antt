@@ -1,9 +1,7 @@
 -- One item more.
 use Rattle.std.proofs.Common.{subst}
-use Rattle.decls.specs.PartUses.{parted_step}
+use Rattle.decls.proofs.Common.{parted_step, view_section_parts, Follows}
 use Rattle.decls.proofs.Folded.{folded_more}
-use Rattle.name_uses.specs.Viewed.{view_section_parts}
-use Rattle.decls.specs.Passed.{Follows}
 use Rattle.decls.proofs.pass.Pass.read_sections.Goals as goal
 
 pub loop-section-preserved : goal.loop-section-preserved

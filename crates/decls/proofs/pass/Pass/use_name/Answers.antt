@@ -1,6 +1,6 @@
 -- A name that is passed over.
 use Rattle.std.proofs.Common.{subst}
-use Rattle.decls.specs.Passed.{Follows}
+use Rattle.decls.proofs.Common.{Follows}
 use Rattle.decls.proofs.FirstStays.{name_refusals, name_used, at_name}
 use Rattle.decls.proofs.pass.Pass.use_name.Goals as goal
 

@@ -1,8 +1,6 @@
 -- One item more.
 use Rattle.std.proofs.Common.{subst}
-use Rattle.name_uses.specs.Viewed.{view_use}
-use Rattle.decls.specs.PartUses.{name_step}
-use Rattle.decls.specs.Passed.{Follows}
+use Rattle.decls.proofs.Common.{view_use, name_step, Follows}
 use Rattle.decls.proofs.Folded.{folded_more}
 use Rattle.decls.proofs.pass.Pass.use_names.Goals as goal
 

@@ -1,9 +1,6 @@
 -- The items so far.
 use Rattle.std.proofs.Common.{fold, map, take}
-use Rattle.name_uses.specs.Viewed.{view_use}
-use Rattle.decls.specs.PartUses.{name_step}
-use Rattle.decls.specs.Passed.{Follows, Way}
-use Rattle.decls.specs.Steps.{Progress}
+use Rattle.decls.proofs.Common.{view_use, name_step, Follows, Way, Progress}
 use Rattle.decls.proofs.pass.Pass.use_names.Given as goal
 
 abbrev pub invariant-loop-name : goal.invariant-loop-name

@@ -1,8 +1,6 @@
 -- One item more.
 use Rattle.std.proofs.Common.{subst}
-use Rattle.name_uses.specs.Viewed.{view_part}
-use Rattle.decls.specs.PartUses.{part_step}
-use Rattle.decls.specs.Passed.{Follows}
+use Rattle.decls.proofs.Common.{view_part, part_step, Follows}
 use Rattle.decls.proofs.Folded.{folded_more}
 use Rattle.decls.proofs.pass.Pass.use_parts.Goals as goal
 

@@ -1,9 +1,6 @@
 -- The items so far.
 use Rattle.std.proofs.Common.{fold, map, take}
-use Rattle.name_uses.specs.Viewed.{view_part}
-use Rattle.decls.specs.PartUses.{part_step}
-use Rattle.decls.specs.Passed.{Follows, Way}
-use Rattle.decls.specs.Steps.{Progress}
+use Rattle.decls.proofs.Common.{view_part, part_step, Follows, Way, Progress}
 use Rattle.decls.proofs.pass.Pass.use_parts.Given as goal
 
 abbrev pub invariant-loop-part : goal.invariant-loop-part

@@ -1,7 +1,6 @@
 -- A range that is passed over.
 use Rattle.std.proofs.Common.{subst}
-use Rattle.abel_tree.specs.Ranges.{ends_agree}
-use Rattle.decls.specs.Passed.{Follows}
+use Rattle.decls.proofs.Common.{ends_agree, Follows}
 use Rattle.decls.proofs.FirstStays.{range_refusals, range_over, at_range}
 use Rattle.decls.proofs.pass.Pass.use_range.Goals as goal
 

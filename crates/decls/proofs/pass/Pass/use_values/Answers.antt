@@ -1,9 +1,6 @@
 -- One item more, and all of them.
 use Rattle.std.proofs.Common.{◌≤◌, length, fold, map, subst, ap, ◌∙◌, arith}
-use Rattle.std.proofs.lemmas.List.{take_all}
-use Rattle.abel_tree.specs.View.{view}
-use Rattle.decls.specs.PartUses.{value_step}
-use Rattle.decls.specs.Passed.{Follows}
+use Rattle.decls.proofs.Common.{take_all, view, value_step, Follows}
 use Rattle.decls.proofs.Folded.{folded_more}
 use Rattle.decls.proofs.PartsUsed.{values_are_used}
 use Rattle.decls.proofs.pass.Pass.use_values.Goals as goal

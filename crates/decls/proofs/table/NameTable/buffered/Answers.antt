@@ -1,7 +1,6 @@
 -- One name more.
 use Rattle.std.proofs.Common.{◌++◌, sym, ap, ap₂, ◌∙◌}
-use Rattle.abel_tree.specs.Entries.{find}
-use Rattle.decls.specs.Numbers.{number_if}
+use Rattle.decls.proofs.Common.{find, number_if}
 use Rattle.decls.proofs.Numbering.{numbered_more}
 use Rattle.decls.proofs.table.NameTable.buffered.Goals as goal
 

@@ -1,9 +1,6 @@
 -- The names so far.
 use Rattle.std.proofs.Common.{◌≡◌, map, take}
-use Rattle.pld_device.specs.Table.{Table}
-use Rattle.decls.specs.Numbers.{numbered}
-use Rattle.decls.specs.Shown.{Shows, view_given}
-use Rattle.decls.specs.Steps.{Progress}
+use Rattle.decls.proofs.Common.{Table, numbered, Shows, view_given, Progress}
 use Rattle.decls.proofs.table.NameTable.buffered.Given as goal
 
 abbrev pub invariant-loop-given : goal.invariant-loop-given

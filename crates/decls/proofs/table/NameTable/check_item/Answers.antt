@@ -1,13 +1,7 @@
 -- A bad range, and then the first name that is no signal.
 use Rattle.std.proofs.Common.{map, subst, sym, ap, ◌∙◌}
-use Rattle.std.proofs.lemmas.Result.{on_ok_weaker}
-use Rattle.abel_tree.specs.Entries.{is_signal}
-use Rattle.decls.specs.Shown.{Shows}
-use Rattle.decls.specs.Steps.{all_known, refuse_all}
-use Rattle.decls.specs.Refused.{refused_if, item_refused}
+use Rattle.decls.proofs.Common.{on_ok_weaker, is_signal, Shows, all_known, refuse_all, refused_if, item_refused, is_bad, name_items}
 use Rattle.decls.specs.declared.fault.NameFault.TheVariants as fault
-use Rattle.abel_tree.specs.Ranges.{is_bad}
-use Rattle.name_uses.specs.RangeParts.{name_items}
 use Rattle.decls.proofs.FirstStays.{at_behind, at_item}
 use Rattle.decls.proofs.LeftOut.{shows_behind}
 use Rattle.decls.proofs.Unknown.{item_known}

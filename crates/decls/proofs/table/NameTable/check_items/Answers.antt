@@ -1,8 +1,7 @@
 -- One item more.
 use Rattle.std.proofs.Common.{subst}
+use Rattle.decls.proofs.Common.{item_refused, items_refused, Shows}
 use Rattle.decls.proofs.Folded.{refused_more, items_push}
-use Rattle.decls.specs.Refused.{item_refused, items_refused}
-use Rattle.decls.specs.Shown.{Shows}
 use Rattle.decls.proofs.table.NameTable.check_items.Goals as goal
 
 pub loop-item-preserved : goal.loop-item-preserved

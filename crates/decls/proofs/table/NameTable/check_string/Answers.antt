@@ -1,7 +1,6 @@
 -- The string is refused, or nothing is.
 use Rattle.std.proofs.Common.{true, false, map, subst, sym, ◌∙◌}
-use Rattle.abel_meaning.specs.Declarations.{words_of}
-use Rattle.decls.specs.Shown.{Shows, view_said}
+use Rattle.decls.proofs.Common.{words_of, Shows, view_said}
 use Rattle.decls.proofs.Sayings.{refused_one}
 use Rattle.decls.proofs.table.NameTable.check_string.Goals as goal
 

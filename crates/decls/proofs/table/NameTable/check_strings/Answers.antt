@@ -1,7 +1,6 @@
 -- One string more.
 use Rattle.std.proofs.Common.{map, subst, sym, ap, ap₂, ◌∙◌}
-use Rattle.abel_meaning.specs.Declarations.{said_by_either, said_words, words_of}
-use Rattle.decls.specs.Shown.{Shows, view_said}
+use Rattle.decls.proofs.Common.{said_by_either, said_words, words_of, Shows, view_said}
 use Rattle.decls.proofs.Sayings.{said_more, refused_more}
 use Rattle.decls.proofs.table.NameTable.check_strings.Goals as goal
 

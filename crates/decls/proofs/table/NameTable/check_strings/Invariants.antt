@@ -1,10 +1,6 @@
 -- The strings so far, with what they say.
 use Rattle.std.proofs.Common.{◌≡◌, map, take}
-use Rattle.pld_device.specs.Table.{Table}
-use Rattle.abel_meaning.specs.Declarations.{no_words, all_said}
-use Rattle.decls.specs.Attributes.{strings_refused}
-use Rattle.decls.specs.Steps.{Progress, refuse_all}
-use Rattle.decls.specs.Shown.{Shows, view_said}
+use Rattle.decls.proofs.Common.{Table, no_words, all_said, strings_refused, Progress, refuse_all, Shows, view_said}
 use Rattle.decls.proofs.table.NameTable.check_strings.Given as goal
 
 abbrev pub invariant-loop-string : goal.invariant-loop-string

@@ -1,10 +1,6 @@
 -- The table keeps an equal expression.
 use Rattle.std.proofs.Common.{subst, ap}
-use Rattle.abel_tree.specs.Entries.{AConstant}
-use Rattle.abel_tree.specs.View.{view}
-use Rattle.abel_meaning.specs.Declarations.{no_words}
-use Rattle.decls.specs.Steps.{entered}
-use Rattle.decls.specs.Shown.{Shows}
+use Rattle.decls.proofs.Common.{AConstant, view, no_words, entered, Shows}
 use Rattle.decls.proofs.table.NameTable.declare_constant.Goals as goal
 
 pub returns : goal.returns

@@ -1,9 +1,6 @@
 -- A device is counted, and its name entered.
 use Rattle.std.proofs.Common.{subst, refl}
-use Rattle.abel_tree.specs.Entries.{ADeviceName}
-use Rattle.abel_meaning.specs.Declarations.{no_words}
-use Rattle.decls.specs.Steps.{entered, device_counted}
-use Rattle.decls.specs.Shown.{Shows}
+use Rattle.decls.proofs.Common.{ADeviceName, no_words, entered, device_counted, Shows}
 use Rattle.decls.proofs.table.NameTable.declare_device.Goals as goal
 
 pub returns : goal.returns

@@ -1,10 +1,7 @@
 -- A name that is found is refused, another is a row behind the others.
 use Rattle.std.proofs.Common.{refl, sym, ap, ◌∙◌}
-use Rattle.std.specs.Str.{bytes_eq}
-use Rattle.std.specs.Map.{lookup}
+use Rattle.decls.proofs.Common.{bytes_eq, lookup, kind_of, view_said}
 use Rattle.indexmap.proofs.CallerLemmas.{insert_entry-new}
-use Rattle.abel_tree.specs.Entries.{kind_of}
-use Rattle.decls.specs.Shown.{view_said}
 use Rattle.decls.proofs.Found.{known_kind, found, is_found, none_found}
 use Rattle.decls.proofs.Entered.{again, newly}
 use Rattle.decls.proofs.table.NameTable.enter.Goals as goal

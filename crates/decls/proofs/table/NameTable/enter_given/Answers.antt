@@ -1,8 +1,6 @@
 -- Its name is the given one's.
 use Rattle.std.proofs.Common.{subst}
-use Rattle.std.proofs.lemmas.Result.{on_ok_weaker}
-use Rattle.decls.specs.Shown.{Shows, view_said}
-use Rattle.decls.specs.Steps.{entered}
+use Rattle.decls.proofs.Common.{on_ok_weaker, Shows, view_said, entered}
 use Rattle.decls.proofs.table.NameTable.enter_given.Goals as goal
 
 pub returns : goal.returns

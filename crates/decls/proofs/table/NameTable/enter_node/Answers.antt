@@ -1,7 +1,6 @@
 -- The number is kept as the table keeps it.
 use Rattle.std.proofs.Common.{ap}
-use Rattle.std.proofs.lemmas.Result.{on_ok_weaker}
-use Rattle.abel_tree.specs.Entries.{ANode}
+use Rattle.decls.proofs.Common.{on_ok_weaker, ANode}
 use Rattle.decls.proofs.table.NameTable.enter_node.Goals as goal
 
 pub returns : goal.returns

@@ -1,9 +1,7 @@
 -- One item more.
 use Rattle.std.proofs.Common.{subst}
-use Rattle.decls.specs.Walked.{node_step}
-use Rattle.decls.specs.Shown.{view_given, view_said}
+use Rattle.decls.proofs.Common.{node_step, view_given, view_said, Shows}
 use Rattle.decls.proofs.Folded.{folded_more}
-use Rattle.decls.specs.Shown.{Shows}
 use Rattle.decls.proofs.table.NameTable.enter_nodes.Goals as goal
 
 pub loop-given-preserved : goal.loop-given-preserved

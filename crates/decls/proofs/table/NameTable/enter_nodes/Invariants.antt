@@ -1,10 +1,6 @@
 -- The items so far.
 use Rattle.std.proofs.Common.{fold, map, take}
-use Rattle.pld_device.specs.Table.{Table}
-use Rattle.decls.specs.Walked.{node_step}
-use Rattle.decls.specs.Shown.{view_given, view_said}
-use Rattle.decls.specs.Shown.{Shows}
-use Rattle.decls.specs.Steps.{Progress}
+use Rattle.decls.proofs.Common.{Table, node_step, view_given, view_said, Shows, Progress}
 use Rattle.decls.proofs.table.NameTable.enter_nodes.Given as goal
 
 abbrev pub invariant-loop-given : goal.invariant-loop-given

@@ -1,9 +1,6 @@
 -- The pin is kept as the table keeps it; a name without a number is on pin 0.
 use Rattle.std.proofs.Common.{refl, sym, subst, ap}
-use Rattle.std.proofs.lemmas.Result.{on_ok_weaker}
-use Rattle.abel_tree.specs.Entries.{APin}
-use Rattle.decls.specs.Shown.{Shows, view_given, view_said}
-use Rattle.decls.specs.Walked.{pin_numbered}
+use Rattle.decls.proofs.Common.{on_ok_weaker, APin, Shows, view_given, view_said, pin_numbered}
 use Rattle.decls.proofs.table.NameTable.enter_pin.Goals as goal
 
 pub returns-in_ok-put_on-in-Some : goal.returns-in_ok-put_on-in-Some

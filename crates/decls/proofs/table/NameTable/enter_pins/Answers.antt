@@ -1,8 +1,6 @@
 -- One name more.
 use Rattle.std.proofs.Common.{map, fold, take, sym, subst, ap, ◌∙◌}
-use Rattle.std.proofs.lemmas.List.Sums.{fold-append}
-use Rattle.decls.specs.Walked.{pin_numbered, pin_step, with_numbers}
-use Rattle.decls.specs.Shown.{Shows, view_given, view_said}
+use Rattle.decls.proofs.Common.{fold-append, pin_numbered, pin_step, with_numbers, Shows, view_given, view_said}
 use Rattle.decls.proofs.Folded.{numbered_more}
 use Rattle.decls.proofs.table.NameTable.enter_pins.Goals as goal
 

@@ -1,6 +1,6 @@
 -- No pin so far is this one.
 use Rattle.std.proofs.Common.{◌≡◌, ◌==◌, false, take}
-use Rattle.std.specs.List.{list_any}
+use Rattle.decls.proofs.Common.{list_any}
 use Rattle.decls.proofs.table.NameTable.is_taken.Given as goal
 
 abbrev pub invariant-loop-taken : goal.invariant-loop-taken

@@ -1,6 +1,6 @@
 -- All so far are behind the first refusal.
 use Rattle.std.proofs.Common.{◌≡◌, true, take}
-use Rattle.decls.specs.Passed.{items_behind}
+use Rattle.decls.proofs.Common.{items_behind}
 use Rattle.decls.proofs.table.NameTable.items_behind.Given as goal
 
 abbrev pub invariant-loop-item : goal.invariant-loop-item

@@ -1,11 +1,8 @@
 -- One item more.
 use Rattle.std.proofs.Common.{subst}
+use Rattle.decls.proofs.Common.{Item, is_bad, refused_if, ranges_refused, Shows}
 use Rattle.decls.proofs.Folded.{refused_more, ranges_push}
-use Rattle.abel_tree.specs.declared.words.Item.{Item}
-use Rattle.abel_tree.specs.Ranges.{is_bad}
 use Rattle.decls.specs.declared.fault.NameFault.TheVariants as fault
-use Rattle.decls.specs.Refused.{refused_if, ranges_refused}
-use Rattle.decls.specs.Shown.{Shows}
 use Rattle.decls.proofs.table.NameTable.refuse_ranges.Goals as goal
 
 pub loop-item-preserved : goal.loop-item-preserved

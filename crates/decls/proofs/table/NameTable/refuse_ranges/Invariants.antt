@@ -1,10 +1,6 @@
 -- The items so far.
 use Rattle.std.proofs.Common.{take}
-use Rattle.pld_device.specs.Table.{Table}
-use Rattle.decls.specs.Refused.{ranges_refused}
-use Rattle.decls.specs.Steps.{refuse_all}
-use Rattle.decls.specs.Shown.{Shows}
-use Rattle.decls.specs.Steps.{Progress}
+use Rattle.decls.proofs.Common.{Table, ranges_refused, refuse_all, Shows, Progress}
 use Rattle.decls.proofs.table.NameTable.refuse_ranges.Given as goal
 
 abbrev pub invariant-loop-item : goal.invariant-loop-item

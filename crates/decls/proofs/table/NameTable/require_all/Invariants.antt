@@ -1,8 +1,6 @@
 -- The names so far are known: nothing is refused.
 use Rattle.std.proofs.Common.{◌≡◌, drop}
-use Rattle.pld_device.specs.Table.{Table}
-use Rattle.decls.specs.Steps.{Progress}
-use Rattle.decls.specs.Shown.{Shows, wanted}
+use Rattle.decls.proofs.Common.{Table, Progress, Shows, wanted}
 use Rattle.decls.proofs.Required.{known_from}
 use Rattle.decls.proofs.table.NameTable.require_all.Given as goal
 

@@ -1,10 +1,7 @@
 -- The names of a range whose ends agree must be known; other ends are refused.
 use Rattle.std.proofs.Common.{map, subst, sym, ap, ap₂, ◌∙◌}
 use Rattle.std.specs.Prelude.{option_map}
-use Rattle.abel_tree.specs.Entries.{is_value}
-use Rattle.name_uses.specs.RangeParts.{name_items, names_if_agree}
-use Rattle.decls.specs.Steps.{all_known}
-use Rattle.decls.specs.Shown.{Shows}
+use Rattle.decls.proofs.Common.{is_value, name_items, names_if_agree, all_known, Shows}
 use Rattle.decls.proofs.Required.{range_known, range_bad}
 use Rattle.decls.proofs.table.NameTable.require_range.Goals as goal
 

@@ -1,7 +1,6 @@
 -- One name more.
 use Rattle.std.proofs.Common.{map, fold, take, subst, ap, ◌∙◌}
-use Rattle.decls.specs.Walked.{said_of, say_step}
-use Rattle.decls.specs.Shown.{Shows, view_given, view_said}
+use Rattle.decls.proofs.Common.{said_of, say_step, Shows, view_given, view_said}
 use Rattle.decls.proofs.Folded.{folded_more}
 use Rattle.decls.proofs.table.NameTable.say.Goals as goal
 

@@ -1,7 +1,7 @@
 -- The first entry of the name has more words.
 use Rattle.std.proofs.Common.{map, sym, ap, ◌∙◌}
+use Rattle.decls.proofs.Common.{kept, view_said}
 use Rattle.std.specs.Option.{option_copied_mut}
-use Rattle.decls.specs.Shown.{kept, view_said}
 use Rattle.decls.proofs.Found.{number_found}
 use Rattle.decls.proofs.Told.{rows_told, none_told}
 use Rattle.decls.proofs.table.NameTable.say_one.Goals as goal

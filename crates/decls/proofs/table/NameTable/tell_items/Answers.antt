@@ -1,12 +1,6 @@
 -- The strings, and then their words.
 use Rattle.std.proofs.Common.{map, subst, ap, ap₂, ◌∙◌}
-use Rattle.std.proofs.lemmas.Result.{on_ok_weaker}
-use Rattle.abel_meaning.specs.Declarations.{all_said, no_words}
-use Rattle.decls.specs.Attributes.{strings_refused}
-use Rattle.decls.specs.NamesBefore.{words_of_names}
-use Rattle.decls.specs.Shown.{Shows, view_given}
-use Rattle.decls.specs.Steps.{refuse_all}
-use Rattle.decls.specs.Walked.{all_told}
+use Rattle.decls.proofs.Common.{on_ok_weaker, all_said, no_words, strings_refused, words_of_names, Shows, view_given, refuse_all, all_told}
 use Rattle.decls.proofs.table.NameTable.tell_items.Goals as goal
 
 pub returns : goal.returns

@@ -1,9 +1,6 @@
 -- One name more.
 use Rattle.std.proofs.Common.{[], ◌∷◌, ◌++◌, map, sym, ap, subst, ◌∙◌, append_assoc, rules}
-use Rattle.std.proofs.lemmas.List.{map-append, map-id}
-use Rattle.std.proofs.lemmas.Iterator.Consumers.{YieldsList-end}
-use Rattle.std.proofs.lemmas.Iterator.Adapters.{YieldsList-from_vec}
-use Rattle.decls.specs.Shown.{Shows, view_given}
+use Rattle.decls.proofs.Common.{map-append, map-id, YieldsList-end, YieldsList-from_vec, Shows, view_given}
 use Rattle.decls.proofs.table.NameTable.wait_for.Goals as goal
 
 pub loop-given-preserved : goal.loop-given-preserved

@@ -1,7 +1,6 @@
 -- One item more.
 use Rattle.std.proofs.Common.{◌++◌, take, subst, sym, ap, ◌∙◌, append_assoc}
-use Rattle.abel_meaning.specs.Declarations.{given_names}
-use Rattle.decls.specs.Shown.{Shows}
+use Rattle.decls.proofs.Common.{given_names, Shows}
 use Rattle.decls.proofs.Folded.{given_more}
 use Rattle.decls.proofs.table.NameTable.wait_for_items.Goals as goal
 

@@ -1,9 +1,6 @@
 -- The items so far.
 use Rattle.std.proofs.Common.{◌++◌, take}
-use Rattle.pld_device.specs.Table.{Table}
-use Rattle.abel_meaning.specs.Declarations.{given_names}
-use Rattle.decls.specs.Shown.{Shows}
-use Rattle.decls.specs.Steps.{Progress}
+use Rattle.decls.proofs.Common.{Table, given_names, Shows, Progress}
 use Rattle.decls.proofs.table.NameTable.wait_for_items.Given as goal
 
 abbrev pub invariant-loop-item : goal.invariant-loop-item

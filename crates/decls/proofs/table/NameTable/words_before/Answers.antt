@@ -1,8 +1,6 @@
 -- One name more.
 use Rattle.std.proofs.Common.{◌||◌, sym, ap, ◌∙◌}
-use Rattle.std.specs.List.{list_any}
-use Rattle.decls.specs.NamesBefore.{words_named}
-use Rattle.decls.specs.Shown.{view_given}
+use Rattle.decls.proofs.Common.{list_any, words_named, view_given}
 use Rattle.decls.proofs.Folded.{words_more}
 use Rattle.decls.proofs.table.NameTable.words_before.Goals as goal
 

@@ -1,11 +1,6 @@
 -- The words of the names so far.
 use Rattle.std.proofs.Common.{◌≡◌, Bool, map, take}
-use Rattle.std.specs.List.{list_any}
-use Rattle.pld_device.specs.Table.{Table}
-use Rattle.abel_tree.specs.Entries.{Words}
-use Rattle.decls.specs.NamesBefore.{words_of_names}
-use Rattle.decls.specs.Shown.{Shows, view_given, view_said}
-use Rattle.decls.specs.Steps.{Progress}
+use Rattle.decls.proofs.Common.{list_any, Table, Words, words_of_names, Shows, view_given, view_said, Progress}
 use Rattle.decls.proofs.table.NameTable.words_before.Given as goal
 
 abbrev pub invariant-loop-given : goal.invariant-loop-given

@@ -1,6 +1,6 @@
 -- All so far are behind the first refusal.
 use Rattle.std.proofs.Common.{◌≡◌, true, take}
-use Rattle.decls.specs.Passed.{words_behind}
+use Rattle.decls.proofs.Common.{words_behind}
 use Rattle.decls.proofs.table.NameTable.words_behind.Given as goal
 
 abbrev pub invariant-loop-word : goal.invariant-loop-word
