@@ -1,7 +1,6 @@
 -- Things that are drawn one after another in a loop.
 use Rattle.std.proofs.Common.{◌≡◌, ℕ, zero, suc, ◌+◌, ◌-◌, ◌*◌, ◌<◌, ◌≤◌, List, [], ◌∷◌, ◌++◌, refl, ap, sym, ◌∙◌, arith, append_assoc, append-nil}
-use Rattle.std.proofs.Math.Nat.{mul-suc, mul-zero, zero-add}
-use Rattle.demo_source.specs.Drawing.{state_after, many}
+use Rattle.demo_source.proofs.Common.{mul-suc, mul-zero, zero-add, state_after, many}
 
 -- the state after some draws and some more
 pub state_after-more : (a b x : ℕ) → state_after b (state_after a x) ≡ state_after (a + b) x

@@ -1,3 +1,4 @@
+pub mod Common
 pub mod Drawn
 pub mod Lines
 pub mod Ordered

@@ -1,14 +1,11 @@
 -- The machine of any equations is a logic in order: its levels read its own Qs alone, and nothing resets it.
 use Rattle.std.proofs.Common.{◌≡◌, ℕ, zero, suc, ◌+◌, ◌-◌, ◌<◌, true, List, map, slice_get, Some, None, refl, ap, sym, ◌∙◌, arith}
+use Rattle.demo_source.proofs.Common.{zero-add, is_on, sets_pin, register_slots, machine}
 use Rattle.std.specs.List.{range_with_len}
-use Rattle.std.proofs.Math.Nat.{zero-add}
-use Rattle.pld_base.specs.Bits.{is_on}
 use Rattle.pld_machine.specs.declared.logic.Slot.{Slot}
 use Rattle.pld_machine.specs.declared.logic.Slot.TheVariants.{Cell}
-use Rattle.pld_machine.specs.Lookups.{sets_pin}
 use Rattle.pld_machine.specs.Order.{InRange, HasPins, ReadsEarlier, ResetsWithoutQ, IsOrdered}
 use Rattle.demo_source.specs.declared.equations.Equation.{Equation}
-use Rattle.demo_source.specs.Machine.{register_slots, machine}
 
 -- the slots of cells in a row are these cells
 slot_at : (a n i : ℕ) (slot : Slot) → slice_get (map Cell (range_with_len a n)) i ≡ Some slot → (i < n) × (slot ≡ Cell (a + i))

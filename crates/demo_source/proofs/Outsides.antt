@@ -1,8 +1,7 @@
 -- The outside levels of inputs, set one after another.
 use Rattle.std.proofs.Common.{◌≡◌, ℕ, suc, ◌+◌, ◌-◌, ◌<◌, ◌≤◌, Bool, false, List, [], ◌∷◌, ◌++◌, length, take, set, get_or, replicate, refl, ap, sym, ◌∙◌, arith, length-append, append_assoc, length-take-le}
+use Rattle.demo_source.proofs.Common.{bits, outside}
 use Rattle.std.proofs.lemmas.List.{take_more, set_at}
-use Rattle.pld_base.specs.Bits.{bits}
-use Rattle.demo_source.specs.Machine.{outside}
 
 -- no input has a level yet
 pub no_inputs : (clock : Bool) → set (bits 32 0) 1 clock ≡ outside clock []

@@ -1,5 +1,5 @@
 use Rattle.std.proofs.Common.{◌≡◌, ◌∙◌, refl}
-use Rattle.demo_source.specs.Drawing.{equations_drawn}
+use Rattle.demo_source.proofs.Common.{equations_drawn}
 use Rattle.demo_source.proofs.Lines.{is_demo_source}
 use Rattle.demo_source.proofs.text.demo_text.Goals as goal
 

@@ -1,5 +1,5 @@
 use Rattle.std.proofs.Common.{arith}
-use Rattle.demo_source.specs.Drawing.{state_after, equation_drawn}
+use Rattle.demo_source.proofs.Common.{state_after, equation_drawn}
 use Rattle.demo_source.proofs.Drawn.{none_drawn, next_drawn, all_drawn}
 use Rattle.demo_source.proofs.text.draw_equations.Goals as goal
 

@@ -1,4 +1,4 @@
-use Rattle.demo_source.specs.Drawing.{equation_drawn}
+use Rattle.demo_source.proofs.Common.{equation_drawn}
 use Rattle.demo_source.proofs.Drawn.{HasDrawn}
 use Rattle.demo_source.proofs.text.draw_equations.Given as goal
 

@@ -1,5 +1,5 @@
 use Rattle.std.proofs.Common.{◌≡◌, ◌++◌, drop}
-use Rattle.demo_source.specs.SourceText.{equations_text}
+use Rattle.demo_source.proofs.Common.{equations_text}
 use Rattle.demo_source.proofs.text.put_equations.Given as goal
 
 abbrev pub invariant-loop-register : goal.invariant-loop-register

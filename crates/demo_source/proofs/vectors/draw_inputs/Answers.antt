@@ -1,5 +1,5 @@
 use Rattle.std.proofs.Common.{arith}
-use Rattle.demo_source.specs.Drawing.{state_after, level_drawn}
+use Rattle.demo_source.proofs.Common.{state_after, level_drawn}
 use Rattle.demo_source.proofs.Drawn.{none_drawn, next_drawn, all_drawn}
 use Rattle.demo_source.proofs.vectors.draw_inputs.Goals as goal
 

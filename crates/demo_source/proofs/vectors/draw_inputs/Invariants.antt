@@ -1,4 +1,4 @@
-use Rattle.demo_source.specs.Drawing.{level_drawn}
+use Rattle.demo_source.proofs.Common.{level_drawn}
 use Rattle.demo_source.proofs.Drawn.{HasDrawn}
 use Rattle.demo_source.proofs.vectors.draw_inputs.Given as goal
 

@@ -1,6 +1,5 @@
 use Rattle.std.proofs.Common.{◌≡◌, take}
-use Rattle.pld_base.specs.Bits.{bits}
-use Rattle.demo_source.specs.Machine.{outside}
+use Rattle.demo_source.proofs.Common.{bits, outside}
 use Rattle.demo_source.proofs.vectors.outside_of.Given as goal
 
 abbrev pub invariant-loop-index : goal.invariant-loop-index

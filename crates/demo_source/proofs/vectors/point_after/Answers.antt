@@ -1,4 +1,4 @@
-use Rattle.pld_base.specs.Bits.{bits}
+use Rattle.demo_source.proofs.Common.{bits}
 use Rattle.demo_source.proofs.Ordered.{machine_ordered}
 use Rattle.demo_source.proofs.vectors.point_after.Goals as goal
 

@@ -1,4 +1,4 @@
-use Rattle.pld_base.specs.Points.{levels_of}
+use Rattle.demo_source.proofs.Common.{levels_of}
 use Rattle.demo_source.proofs.vectors.pulsed.Goals as goal
 
 pub returns : goal.returns

@@ -1,8 +1,6 @@
 use Rattle.std.proofs.Common.{◌≡◌, ◌-◌, ◌∙◌, ◌++◌, append_assoc, arith}
 use Rattle.std.specs.Prelude.{codes}
-use Rattle.pld_base.specs.Bits.{is_on}
-use Rattle.pld_base.specs.Points.{levels_of}
-use Rattle.demo_source.specs.SourceText.{levels_text, further_text}
+use Rattle.demo_source.proofs.Common.{is_on, levels_of, levels_text, further_text}
 use Rattle.demo_source.proofs.Lines.{levels_more}
 use Rattle.demo_source.proofs.vectors.put_shown.Goals as goal
 

@@ -1,7 +1,6 @@
 use Rattle.std.proofs.Common.{◌≡◌, ◌-◌, ◌++◌}
 use Rattle.std.specs.Prelude.{codes}
-use Rattle.pld_base.specs.Points.{levels_of}
-use Rattle.demo_source.specs.SourceText.{levels_text}
+use Rattle.demo_source.proofs.Common.{levels_of, levels_text}
 use Rattle.demo_source.proofs.vectors.put_shown.Given as goal
 
 abbrev pub invariant-loop-register : goal.invariant-loop-register

@@ -1,5 +1,5 @@
 use Rattle.std.proofs.Common.{◌≡◌, ◌++◌, take, flat_map}
-use Rattle.demo_source.specs.SourceText.{further_text}
+use Rattle.demo_source.proofs.Common.{further_text}
 use Rattle.demo_source.proofs.vectors.put_stimulus.Given as goal
 
 abbrev pub invariant-loop-input : goal.invariant-loop-input

@@ -1,8 +1,5 @@
 use Rattle.std.proofs.Common.{◌≡◌, option_map, length, arith}
-use Rattle.pld_base.specs.Points.{levels_of}
-use Rattle.pld_machine.specs.Lookups.{logic_of}
-use Rattle.demo_source.specs.Drawing.{level_drawn}
-use Rattle.demo_source.specs.Machine.{machine}
+use Rattle.demo_source.proofs.Common.{levels_of, logic_of, level_drawn, machine}
 use Rattle.demo_source.proofs.Lines.{length-many, one_more, all_lines}
 use Rattle.demo_source.proofs.vectors.put_vectors.Goals as goal
 

@@ -1,7 +1,5 @@
 use Rattle.std.proofs.Common.{option_map}
-use Rattle.pld_base.specs.Points.{levels_of}
-use Rattle.pld_machine.specs.Lookups.{logic_of}
-use Rattle.demo_source.specs.Machine.{machine}
+use Rattle.demo_source.proofs.Common.{levels_of, logic_of, machine}
 use Rattle.demo_source.proofs.Lines.{HasLines}
 use Rattle.demo_source.proofs.vectors.put_vectors.Given as goal
 

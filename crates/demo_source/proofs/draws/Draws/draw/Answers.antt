@@ -1,4 +1,4 @@
-use Rattle.demo_source.specs.Drawing.{next_state, drawn}
+use Rattle.demo_source.proofs.Common.{next_state, drawn}
 use Rattle.demo_source.proofs.draws.Draws.draw.Goals as goal
 
 pub returns-clause-value : goal.returns-clause-value

@@ -1,5 +1,5 @@
 use Rattle.std.proofs.Common.{refl, arith}
-use Rattle.demo_source.specs.Drawing.{state_after, product_drawn}
+use Rattle.demo_source.proofs.Common.{state_after, product_drawn}
 use Rattle.demo_source.proofs.Drawn.{none_drawn, next_drawn, all_drawn}
 use Rattle.demo_source.proofs.equations.Equation.draw.Goals as goal
 

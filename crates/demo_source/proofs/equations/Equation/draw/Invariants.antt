@@ -1,4 +1,4 @@
-use Rattle.demo_source.specs.Drawing.{product_drawn}
+use Rattle.demo_source.proofs.Common.{product_drawn}
 use Rattle.demo_source.proofs.Drawn.{HasDrawn}
 use Rattle.demo_source.proofs.equations.Equation.draw.Given as goal
 

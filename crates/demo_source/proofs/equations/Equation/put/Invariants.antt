@@ -1,6 +1,6 @@
 use Rattle.std.proofs.Common.{◌≡◌, ◌++◌, take, flat_map}
 use Rattle.std.specs.Prelude.{codes}
-use Rattle.demo_source.specs.SourceText.{product_text}
+use Rattle.demo_source.proofs.Common.{product_text}
 use Rattle.demo_source.proofs.equations.Equation.put.Given as goal
 
 abbrev pub invariant-loop-product : goal.invariant-loop-product

@@ -1,4 +1,4 @@
-use Rattle.demo_source.specs.Drawing.{literal_drawn}
+use Rattle.demo_source.proofs.Common.{literal_drawn}
 use Rattle.demo_source.proofs.Drawn.{HasDrawn}
 use Rattle.demo_source.proofs.equations.Product.draw.Given as goal
 

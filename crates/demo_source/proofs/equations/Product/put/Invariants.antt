@@ -1,6 +1,6 @@
 use Rattle.std.proofs.Common.{◌≡◌, ◌++◌, take, flat_map}
 use Rattle.std.specs.Prelude.{codes}
-use Rattle.demo_source.specs.SourceText.{literal_text}
+use Rattle.demo_source.proofs.Common.{literal_text}
 use Rattle.demo_source.proofs.equations.Product.put.Given as goal
 
 abbrev pub invariant-loop-literal : goal.invariant-loop-literal
